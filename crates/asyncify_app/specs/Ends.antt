@@ -51,6 +51,7 @@ pub record Call : Type 0 where
   pub devices : List Counted
   pub devices' : List Counted
 
+-- the call as one of `transform`
 abbrev pub transform_call : Call → Settings → (input output : List ℕ) → T.Call
 transform_call c s from to = record {
   settings = s;
@@ -66,6 +67,7 @@ transform_call c s from to = record {
   sink_faults' = c.sink_faults';
 }
 
+-- the call as one that plays a script
 abbrev pub script_call : Call → Way → (script : List ℕ) → P.Call
 script_call c way script = P.call way script c.files c.fetch_faults c.fetch_faults' c.sink_faults c.sink_faults' c.taken c.taken' c.devices c.devices'
 
@@ -88,5 +90,6 @@ EndsBy c (Some (hosts script)) status = A.HasOneEnd (script_call c Host script) 
 EndsBy c (Some (runs script)) status = A.HasOneEnd (script_call c Run script) status
 EndsBy c (Some (generates n output)) status = GeneratesOnce c n output status
 
+-- The call has one end, by what its words spell.
 abbrev pub HasOneEnd : Call → ℕ → Type 0
 HasOneEnd c status = EndsBy c c.spelled status

@@ -1,4 +1,5 @@
-// A command from its words to its status.
+//! A command from its words to its status.
+
 ghost use Rattle.std.specs.Prelude.{◌≡◌, ◌≢◌, ◌⊎◌, ◌≤◌, map, None, IsSome};
 ghost use Rattle.std.specs.String.{string_bytes};
 ghost use Rattle.vault_port.specs.Counts.{HasRisen};

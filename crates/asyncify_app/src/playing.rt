@@ -1,4 +1,5 @@
-// A script, played with a list of boxed devices.
+//! A script, played with a list of boxed devices.
+
 ghost use Rattle.std.specs.Prelude.{◌≡◌, ◌≢◌, ◌≤◌};
 ghost use Rattle.host_turns.specs.Supplies.{IsLent};
 ghost use Rattle.asyncify_app.specs.Devices.{counted_boxes};

@@ -7,7 +7,8 @@ use Rattle.std.specs.List.{filter_map, list_any}
 use Rattle.wa_types.specs.declared.syntax.Limits.{Limits}
 use Rattle.wa_types.specs.Base.{added_memories, one_page}
 
-step : {X Y : Type 0} → (f : X → Option Y) → (x : X) (xs : List X) (o : Option Y) → f x ≡ o → length (filter_map f (x ∷ xs)) ≡ cond (is_some (f x)) (1 + length (filter_map f xs)) (length (filter_map f xs))
+step : {X Y : Type 0} → (f : X → Option Y) → (x : X) (xs : List X) (o : Option Y) → f x ≡ o
+    → length (filter_map f (x ∷ xs)) ≡ cond (is_some (f x)) (1 + length (filter_map f xs)) (length (filter_map f xs))
 step f x xs None e = rw e refl
 step f x xs (Some y) e = rw e (omega arith)
 
@@ -15,7 +16,8 @@ step f x xs (Some y) e = rw e (omega arith)
 pub length-filter_map : {X Y : Type 0} → (f : X → Option Y) → (xs : List X) → length (filter_map f xs) ≡ count_by (λ z. is_some (f z)) xs
 length-filter_map f xs = is_count_by (λ ys. length (filter_map f ys)) (λ z. is_some (f z)) refl (λ x ys. step f x ys (f x) refl) xs
 
-none_step : {X Y : Type 0} → (f : X → Option Y) → (x : X) (xs : List X) (o : Option Y) → f x ≡ o → (list_any (λ z. is_some (f z)) xs ≡ false → filter_map f xs ≡ []) → list_any (λ z. is_some (f z)) (x ∷ xs) ≡ false → filter_map f (x ∷ xs) ≡ []
+none_step : {X Y : Type 0} → (f : X → Option Y) → (x : X) (xs : List X) (o : Option Y) → f x ≡ o → (list_any (λ z. is_some (f z)) xs ≡ false → filter_map f xs ≡ [])
+    → list_any (λ z. is_some (f z)) (x ∷ xs) ≡ false → filter_map f (x ∷ xs) ≡ []
 none_step f x xs None e h k = rw e (h (rw e at k))
 none_step f x xs (Some y) e h k = absurd (let w = rw e at k in cc)
 
@@ -24,7 +26,9 @@ pub filter_map-none : {X Y : Type 0} → (f : X → Option Y) → (xs : List X) 
 filter_map-none f [] h = refl
 filter_map-none f (x ∷ xs) h = none_step f x xs (f x) refl (filter_map-none f xs) h
 
-some_step : {X Y : Type 0} → (f : X → Option Y) → (x : X) (xs : List X) (o : Option Y) → f x ≡ o → (list_any (λ z. is_some (f z)) xs ≡ true → (y : Y) × (ys : List Y) × (filter_map f xs ≡ y ∷ ys)) → list_any (λ z. is_some (f z)) (x ∷ xs) ≡ true → (y : Y) × (ys : List Y) × (filter_map f (x ∷ xs) ≡ y ∷ ys)
+some_step : {X Y : Type 0} → (f : X → Option Y) → (x : X) (xs : List X) (o : Option Y) → f x ≡ o
+    → (list_any (λ z. is_some (f z)) xs ≡ true → (y : Y) × (ys : List Y) × (filter_map f xs ≡ y ∷ ys)) → list_any (λ z. is_some (f z)) (x ∷ xs) ≡ true
+    → (y : Y) × (ys : List Y) × (filter_map f (x ∷ xs) ≡ y ∷ ys)
 some_step f x xs None e h k = let r = h (rw e at k) in (r.0, r.1, rw e r.2)
 some_step f x xs (Some y) e h k = (y, filter_map f xs, rw e refl)
 
@@ -47,7 +51,8 @@ pub kept_imported : {X : Type 0} → (f : X → Option Limits) → (is : List X)
 kept_imported f is ys h = let w = filter_map-some f is h in rw w.2 (sym (append-nil ys))
 
 -- else one is
-pub got_one : {X : Type 0} → (f : X → Option Limits) → (is : List X) (ys : List Limits) → list_any (λ z. is_some (f z)) is ≡ false → length ys ≡ 0 → ys ++ added_memories (filter_map f is ++ ys) ≡ ys ++ one_page ∷ []
+pub got_one : {X : Type 0} → (f : X → Option Limits) → (is : List X) (ys : List Limits) → list_any (λ z. is_some (f z)) is ≡ false → length ys ≡ 0
+    → ys ++ added_memories (filter_map f is ++ ys) ≡ ys ++ one_page ∷ []
 got_one f is [] h e = rw (filter_map-none f is h) refl
 got_one f is (y ∷ ys) h e = absurd (omega arith)
 

@@ -16,9 +16,23 @@ pub grown : (m : Module) (types : List FuncType) (funcs : List Func) (memories :
     → memories ≡ m.memories ++ added_memories (all_memories m)
     → globals ≡ m.globals ++ runtime_globals
     → exports ≡ m.exports ++ runtime_exports ids.first
-    → (let new : Module = record { types = types; imports = m.imports; funcs = funcs; tables = m.tables; memories = memories; globals = globals; exports = exports; start = m.start; elems = m.elems; segments = m.segments; customs = m.customs } in new) ≡ with_runtime m
+    → (let new : Module = record {
+      types = types;
+      imports = m.imports;
+      funcs = funcs;
+      tables = m.tables;
+      memories = memories;
+      globals = globals;
+      exports = exports;
+      start = m.start;
+      elems =
+          m.elems;
+      segments = m.segments;
+      customs = m.customs;
+    } in new) ≡ with_runtime m
 unfolding with_runtime
 grown m types funcs memories globals exports ids first_type i f a b c d e =
-    let here : funcs ≡ m.funcs ++ runtime_funcs (length m.types) (ids_behind m).state (ids_behind m).address = b ∙ ap (λ (n : ℕ). m.funcs ++ runtime_funcs n ids.state ids.address) f ∙ ap (λ (n : RuntimeIds). m.funcs ++ runtime_funcs (length m.types) n.state n.address) i in
+    let here : funcs ≡ m.funcs ++ runtime_funcs (length m.types) (ids_behind m).state (ids_behind m).address = b ∙ ap (λ (n : ℕ). m.funcs ++ runtime_funcs n ids.state ids.address) f
+    ∙ ap (λ (n : RuntimeIds). m.funcs ++ runtime_funcs (length m.types) n.state n.address) i in
     let there : exports ≡ m.exports ++ runtime_exports (ids_behind m).first = e ∙ ap (λ (n : RuntimeIds). m.exports ++ runtime_exports n.first) i in
     rw (a, here, c, d, there) refl

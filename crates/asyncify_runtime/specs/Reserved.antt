@@ -21,6 +21,7 @@ reserved_import imports = position (λ (i : Import). bytes_eq i.module (codes "a
 abbrev pub reserved_export : List Export → Option ℕ
 reserved_export exports = position (λ (e : Export). is_runtime_name e.name) exports
 
+-- an import, else an export, where there is one
 abbrev pub first_reserved : Option ℕ → Option ℕ → Option ReservedAt
 first_reserved (Some import) export = Some (at_import import)
 first_reserved None (Some export) = Some (at_export export)

@@ -1,3 +1,5 @@
+//! Reserved names: imports from the module `asyncify`, and exports under the names of the runtime's functions.
+
 ghost use Rattle.std.specs.Prelude.{◌≡◌, ◌<◌, ◌^◌, length};
 ghost use Rattle.wa_types.specs.View.{module_of};
 ghost use Rattle.asyncify_runtime.specs.Reserved.{is_runtime_name, reserved_at, reserved_export, reserved_import};

@@ -1,5 +1,6 @@
 -- Classes found by their sets, set by set.
-use Rattle.std.proofs.Common.{◌≡◌, ℕ, zero, suc, ◌+◌, ◌<◌, ◌≤◌, List, [], ◌∷◌, ◌++◌, length, take, get_or, Bool, true, false, cond, Option, Some, None, refl, sym, ap, ◌∙◌, subst, arith, eqb-true, ◌==◌}
+use Rattle.std.proofs.Common.{◌≡◌, ℕ, zero, suc, ◌+◌, ◌<◌, ◌≤◌, List, [], ◌∷◌, ◌++◌, length, take, get_or, Bool, true, false, cond, Option, Some, None, refl, sym, ap, ◌∙◌, subst, arith}
+use Rattle.std.proofs.Common.{eqb-true, ◌==◌}
 use Rattle.std.specs.Prelude.{if◌then◌else◌, slice_set, Vec}
 use Rattle.std.specs.declared.alloc.Global.{Global}
 use Rattle.std.specs.Borrow.{Bor}
@@ -152,7 +153,8 @@ sets_next types sets i d set old new lt e h more =
     (ap (λ s. sets_of (take i sets) ++ s ∷ []) e ∙ sym (map_more (λ (s : Vec Bool Global). s.items) sets i d lt))
     (more (sets_of (take i sets)) n h)
 
-pub sets_end : (types : List ValType) (sets : List (Vec Bool Global)) (i : ℕ) (ps : List SavedPart) → length sets ≤ i → KeepByClasses types (sets_of (take i sets)) ps → KeepByClasses types (sets_of sets) ps
+pub sets_end : (types : List ValType) (sets : List (Vec Bool Global)) (i : ℕ) (ps : List SavedPart) → length sets ≤ i → KeepByClasses types (sets_of (take i sets)) ps
+    → KeepByClasses types (sets_of sets) ps
 sets_end types sets i ps le h = subst (λ ss. KeepByClasses types (sets_of ss) ps) (take_all i sets le) h
 
 pub sets_none : (types : List ValType) → KeepByClasses types [] []

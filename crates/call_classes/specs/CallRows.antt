@@ -4,6 +4,7 @@ use Rattle.call_frames.specs.CallTests.{CallRow}
 use Rattle.call_frames.specs.PlainFrames.{rows_of}
 use Rattle.call_classes.specs.declared.rows.RowAt.{RowAt}
 
+-- calls in a row
 abbrev pub row_view : RowAt → CallRow
 row_view r = record { first = r.first; more = r.more }
 

@@ -43,6 +43,7 @@ pub record SetsFramed (types : List ValType) (sets : List (List Bool)) (base add
   pub small : PlainSmall (told_frames (length sets) base address p)
   pub typed : (c : Around) → HasPlaces c types base address → PlainTyped c (told_frames (length sets) base address p)
 
+-- The parts that are answered for sets are such.
 abbrev pub SetsAreFramed : Type 0
 SetsAreFramed =
     (types : List ValType) (sets : List (List Bool)) (base address : ℕ) (p : FrameParts) → KeepCheaply types sets (parts_view p) → 1 ≤ length sets → length types ≤ 50000 → base ≤ 50000

@@ -10,25 +10,32 @@ use Rattle.call_classes.specs.declared.frames.KeptLocal.{KeptLocal}
 use Rattle.call_classes.specs.declared.frames.KeptPart.{KeptPart}
 use Rattle.call_classes.specs.declared.frames.KeptPart.TheVariants as P
 
+-- a local that is kept
 abbrev pub kept_field : KeptLocal → FrameField
 kept_field k = kept k.local k.ty
 
+-- locals that are kept
 abbrev pub fields_of : List KeptLocal → List FrameField
 fields_of ks = map kept_field ks
 
+-- a class of calls, as a part
 abbrev pub class_part : CallClass → SavedPart
 class_part c = at_these c.calls.items (fields_of c.fields.items)
 
+-- classes of calls, as parts
 abbrev pub class_parts : List CallClass → List SavedPart
 class_parts cs = map class_part cs
 
+-- a part
 abbrev pub part_view : KeptPart → SavedPart
 part_view (P.Every fields) = at_every (fields_of fields.items)
 part_view (P.These c) = class_part c
 
+-- parts
 abbrev pub part_views : List KeptPart → List SavedPart
 part_views ps = map part_view ps
 
+-- the parts of a frame
 abbrev pub parts_view : FrameParts → List SavedPart
 parts_view p = part_views p.parts.items
 
@@ -38,6 +45,7 @@ told_frames count base address p = record { count = count; address = address; in
 
 -- ---- sets
 
+-- a local in front of others, where it is kept
 abbrev pub kept_where : Bool → ℕ → ValType → List FrameField → List FrameField
 kept_where true x t rest = kept x t ∷ rest
 kept_where false x t rest = rest
@@ -48,6 +56,7 @@ fields_in x [] ts = []
 fields_in x (b ∷ bs) [] = []
 fields_in x (b ∷ bs) (t ∷ ts) = kept_where b x t (fields_in (suc x) bs ts)
 
+-- sets of locals, one a call
 abbrev pub sets_of : List (Vec Bool Global) → List (List Bool)
 sets_of sets = map (λ (set : Vec Bool Global). set.items) sets
 

@@ -33,6 +33,7 @@ SizingTells f =
     → k < f.count → value_at ls f.index ≡ V.I32 k
     → KeptWithin g area p (running s fn under ls [] (f.sizing next) labels) f.sizing_cost (running s fn under ls (V.I32 (frame_size (layout_at f k)) ∷ []) next labels)
 
+-- Sizes and tests tell their calls, and the index isn't the scratch local.
 pub record FramesTell (f : CallFrames) : Type 0 where
   pub sizing : SizingTells f
   pub parts : PartsTell f.count f.index f.parts
@@ -48,6 +49,7 @@ pub record SavesAt (g : ℕ) (area : Area) (p : Module) (fn : ℕ) (under : List
   pub same : (x : ℕ) → x ≢ f.scratch → value_at locals x ≡ value_at ls x
   pub goes : KeptWithin g area p (running s fn under ls [] (saving_by_call f next) labels) (save_bound_at f k) (running (with_memory s after) fn under locals [] next labels)
 
+-- Where the frame of the call fits, the code that saves does so.
 abbrev pub SavesByCall : Type 0
 SavesByCall =
     (g : ℕ) (area : Area) (p : Module) (fn : ℕ) (under : List Activation) (labels : List Label) (f : CallFrames) (s : Store) (ls : List Value) (loc k : ℕ) (next : Code)
@@ -72,6 +74,7 @@ pub record RestoresAt (g : ℕ) (area : Area) (p : Module) (fn : ℕ) (under : L
   pub lowered : Lowered area loc s.memory after
   pub goes : KeptWithin g area p (running s fn under ls [] (restoring_by_call f next) labels) (restore_bound_at f k) (running (with_memory s after) fn under locals [] next labels)
 
+-- Where the frame of call k stands below the location, the code that restores does so.
 abbrev pub RestoresByCall : Type 0
 RestoresByCall =
     (g : ℕ) (area : Area) (p : Module) (fn : ℕ) (under : List Activation) (labels : List Label) (f : CallFrames) (s : Store) (old ls : List Value) (loc k : ℕ) (next : Code)

@@ -5,7 +5,8 @@ use Rattle.std.specs.declared.vec.Vec.{Vec}
 use Rattle.std.specs.declared.alloc.Global.{Global}
 use Rattle.wa_types.specs.declared.values.ValType.{ValType}
 use Rattle.wa_types.specs.declared.instrs.Instr.{Instr}
-use Rattle.wa_types.specs.declared.instrs.Instr.TheVariants.{Unreachable, Nop, Drop, Select, Return, MemorySize, MemoryGrow, Const, Num, Br, BrIf, BrTable, Call, CallIndirect, LocalGet, LocalSet, LocalTee, GlobalGet, GlobalSet, Load, Store, Block, Loop, If, Block', Loop', If'}
+use Rattle.wa_types.specs.declared.instrs.Instr.TheVariants.{Unreachable, Nop, Drop, Select, Return, MemorySize, MemoryGrow, Const, Num, Br, BrIf, BrTable, Call, CallIndirect, LocalGet}
+use Rattle.wa_types.specs.declared.instrs.Instr.TheVariants.{LocalSet, LocalTee, GlobalGet, GlobalSet, Load, Store, Block, Loop, If, Block', Loop', If'}
 use Rattle.wa_types.specs.Syntax.{Plain, Code, done, plain, nest, branch}
 use Rattle.wa_types.specs.View.{code, in_front}
 use Rattle.wa_types.specs.Pruned.{is_last_instr, pruned}
@@ -43,20 +44,23 @@ calls_front (Block' r s k) rest = rw append-nil refl
 calls_front (Loop' r s k) rest = rw append-nil refl
 calls_front (If' r s k t l) rest = rw append-nil refl
 
-calls_at : (xs : List Instr) (i : ℕ) (x : Instr) (b : Bool) → i < length xs → x ≡ get_or xs i x → is_last_instr x ≡ b → calls_of (pruned (code (drop i xs))) ≡ calls_of (pruned (in_front x done)) ++ calls_of (if b then done else pruned (code (drop (i + 1) xs)))
+calls_at : (xs : List Instr) (i : ℕ) (x : Instr) (b : Bool) → i < length xs → x ≡ get_or xs i x → is_last_instr x ≡ b
+    → calls_of (pruned (code (drop i xs))) ≡ calls_of (pruned (in_front x done)) ++ calls_of (if b then done else pruned (code (drop (i + 1) xs)))
 calls_at xs i x b h e last =
     ap (λ k. calls_of (pruned k)) (code_step xs i x h e)
     ∙ calls_front x (code (drop (i + 1) xs))
     ∙ ap (λ c. calls_of (pruned (in_front x done)) ++ calls_of (if c then done else pruned (code (drop (i + 1) xs)))) last
 
 -- one more instruction's calls are put
-pub calls_step : (put new all : List PlainCallee) (xs : List Instr) (i : ℕ) (x : Instr) → i < length xs → x ≡ get_or xs i x → is_last_instr x ≡ false → new ≡ put ++ calls_of (pruned (in_front x done)) → put ++ calls_of (pruned (code (drop i xs))) ≡ all → new ++ calls_of (pruned (code (drop (i + 1) xs))) ≡ all
+pub calls_step : (put new all : List PlainCallee) (xs : List Instr) (i : ℕ) (x : Instr) → i < length xs → x ≡ get_or xs i x → is_last_instr x ≡ false
+    → new ≡ put ++ calls_of (pruned (in_front x done)) → put ++ calls_of (pruned (code (drop i xs))) ≡ all → new ++ calls_of (pruned (code (drop (i + 1) xs))) ≡ all
 calls_step put new all xs i x h e last n before =
     ap (λ z. z ++ calls_of (pruned (code (drop (i + 1) xs)))) n
     ∙ append_assoc put (calls_of (pruned (in_front x done))) (calls_of (pruned (code (drop (i + 1) xs))))
     ∙ ap (λ z. put ++ z) (sym (calls_at xs i x false h e last)) ∙ before
 
-pub calls_last : (put new all : List PlainCallee) (xs : List Instr) (i : ℕ) (x : Instr) → i < length xs → x ≡ get_or xs i x → is_last_instr x ≡ true → new ≡ put ++ calls_of (pruned (in_front x done)) → put ++ calls_of (pruned (code (drop i xs))) ≡ all → new ≡ all
+pub calls_last : (put new all : List PlainCallee) (xs : List Instr) (i : ℕ) (x : Instr) → i < length xs → x ≡ get_or xs i x → is_last_instr x ≡ true
+    → new ≡ put ++ calls_of (pruned (in_front x done)) → put ++ calls_of (pruned (code (drop i xs))) ≡ all → new ≡ all
 unfolding calls_of
 calls_last put new all xs i x h e last n before =
     n ∙ ap (λ z. put ++ z) (sym (append-nil (calls_of (pruned (in_front x done)))) ∙ sym (calls_at xs i x true h e last)) ∙ before
@@ -100,7 +104,8 @@ unfolding is_construct
 plain_not p e = cc
 
 -- what stands in front of code as a construct is one
-no_construct : (x : Instr) → ((r : Option ValType) (v : Vec Instr Global) → x ≡ Block r v → ⊥) → ((r : Option ValType) (v : Vec Instr Global) → x ≡ Loop r v → ⊥) → ((r : Option ValType) (v w : Vec Instr Global) → x ≡ If r v w → ⊥) → is_construct (in_front x done) ≡ true → ⊥
+no_construct : (x : Instr) → ((r : Option ValType) (v : Vec Instr Global) → x ≡ Block r v → ⊥) → ((r : Option ValType) (v : Vec Instr Global) → x ≡ Loop r v → ⊥)
+    → ((r : Option ValType) (v w : Vec Instr Global) → x ≡ If r v w → ⊥) → is_construct (in_front x done) ≡ true → ⊥
 no_construct x not_block not_loop not_if h = elim (kind x) [
   | is_block r v e ↦ not_block r v e
   | is_loop r v e ↦ not_loop r v e
@@ -108,7 +113,8 @@ no_construct x not_block not_loop not_if h = elim (kind x) [
   | is_plain p e ↦ plain_not p (sym (ap is_construct (e done)) ∙ h)
 ]
 
-none_in : (x : Instr) → ((f : ℕ) → x ≡ Call f → ⊥) → ((t : ℕ) → x ≡ CallIndirect t → ⊥) → ((r : Option ValType) (v : Vec Instr Global) → x ≡ Block r v → ⊥) → ((r : Option ValType) (v : Vec Instr Global) → x ≡ Loop r v → ⊥) → ((r : Option ValType) (v w : Vec Instr Global) → x ≡ If r v w → ⊥) → calls_of (pruned (in_front x done)) ≡ []
+none_in : (x : Instr) → ((f : ℕ) → x ≡ Call f → ⊥) → ((t : ℕ) → x ≡ CallIndirect t → ⊥) → ((r : Option ValType) (v : Vec Instr Global) → x ≡ Block r v → ⊥)
+    → ((r : Option ValType) (v : Vec Instr Global) → x ≡ Loop r v → ⊥) → ((r : Option ValType) (v w : Vec Instr Global) → x ≡ If r v w → ⊥) → calls_of (pruned (in_front x done)) ≡ []
 unfolding calls_of pruned in_front is_construct
 none_in (Call f) no_call no_indirect not_block not_loop not_if = absurd (no_call f refl)
 none_in (CallIndirect t) no_call no_indirect not_block not_loop not_if = absurd (no_indirect t refl)
@@ -118,7 +124,8 @@ none_in (If' r s k t l) no_call no_indirect not_block not_loop not_if = absurd (
 none_in _ no_call no_indirect not_block not_loop not_if = refl
 
 -- one that is no call and no construct puts none
-pub calls_other : (put : List PlainCallee) (x : Instr) → ((f : ℕ) → x ≡ Call f → ⊥) → ((t : ℕ) → x ≡ CallIndirect t → ⊥) → ((r : Option ValType) (v : Vec Instr Global) → x ≡ Block r v → ⊥) → ((r : Option ValType) (v : Vec Instr Global) → x ≡ Loop r v → ⊥) → ((r : Option ValType) (v w : Vec Instr Global) → x ≡ If r v w → ⊥) → put ≡ put ++ calls_of (pruned (in_front x done))
+pub calls_other : (put : List PlainCallee) (x : Instr) → ((f : ℕ) → x ≡ Call f → ⊥) → ((t : ℕ) → x ≡ CallIndirect t → ⊥) → ((r : Option ValType) (v : Vec Instr Global) → x ≡ Block r v → ⊥)
+    → ((r : Option ValType) (v : Vec Instr Global) → x ≡ Loop r v → ⊥) → ((r : Option ValType) (v w : Vec Instr Global) → x ≡ If r v w → ⊥) → put ≡ put ++ calls_of (pruned (in_front x done))
 calls_other put x no_call no_indirect not_block not_loop not_if =
     sym (append-nil put) ∙ ap (λ z. put ++ z) (sym (none_in x no_call no_indirect not_block not_loop not_if))
 

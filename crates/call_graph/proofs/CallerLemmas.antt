@@ -18,9 +18,11 @@ use Rattle.call_graph.proofs.GraphLemmas.{calls_there, has, gather_more}
 use Rattle.call_graph.proofs.ListLemmas.{any_of_map}
 
 -- the calls of a function are there
-pub all_there : (m : Module) (i n : ℕ) (f : Func) (callers : List (Vec ℕ Global)) (calls : List Callee) → Valid m → slice_get m.funcs i ≡ Some f → GatheredBelow m n callers → map callee_of calls ≡ calls_in f → All (λ (call : Callee). IsThere (length callers) (callee_of call)) calls
+pub all_there : (m : Module) (i n : ℕ) (f : Func) (callers : List (Vec ℕ Global)) (calls : List Callee) → Valid m → slice_get m.funcs i ≡ Some f → GatheredBelow m n callers
+    → map callee_of calls ≡ calls_in f → All (λ (call : Callee). IsThere (length callers) (callee_of call)) calls
 all_there m i n f callers calls v is g e = λ k d lt.
-    let c : Contains (map callee_of calls) (callee_of (get_or calls k d)) = has (map callee_of calls) k (callee_of (get_or calls k d)) (slice_get-map callee_of calls k ∙ ap (option_map callee_of) (slice_get-get_or calls k d lt)) in
+    let c : Contains (map callee_of calls) (callee_of (get_or calls k d)) = has (map callee_of calls) k (callee_of (get_or calls k d)) (slice_get-map callee_of calls k
+    ∙ ap (option_map callee_of) (slice_get-get_or calls k d lt)) in
     subst (λ len. IsThere len (callee_of (get_or calls k d))) (sym g.len) (calls_there m i f v is (callee_of (get_or calls k d)) (subst (λ l. Contains l (callee_of (get_or calls k d))) e c))
 
 -- one call more
@@ -29,11 +31,13 @@ taken_at calls i d x lt e =
     ap (map callee_of) (take_more calls i d lt) ∙ map-append callee_of (take i calls) (get_or calls i d ∷ []) ∙ ap (λ (y : Callee). map callee_of (take i calls) ++ callee_of y ∷ []) e
 
 -- one function more
-pub callers_more : (m : Module) (i : ℕ) (f : Func) (calls : List Callee) (caller : ℕ) (callers new : List (Vec ℕ Global)) → slice_get m.funcs i ≡ Some f → map callee_of calls ≡ calls_in f → caller ≡ func_imports m + i → GatheredBelow m (func_imports m + i) callers → Puts (map callee_of calls) caller callers new → GatheredBelow m (func_imports m + (i + 1)) new
+pub callers_more : (m : Module) (i : ℕ) (f : Func) (calls : List Callee) (caller : ℕ) (callers new : List (Vec ℕ Global)) → slice_get m.funcs i ≡ Some f → map callee_of calls ≡ calls_in f
+    → caller ≡ func_imports m + i → GatheredBelow m (func_imports m + i) callers → Puts (map callee_of calls) caller callers new → GatheredBelow m (func_imports m + (i + 1)) new
 callers_more m i f calls caller callers new is e at g p =
     gather_more m i f callers new is g (subst (λ c. Puts (calls_in f) c callers new) at (subst (λ (l : List PlainCallee). Puts l caller callers new) e p))
 
-pub own_is : (listed : List Bool) (ignore : Bool) (f : Func) (calls : List Callee) (b : Bool) → map callee_of calls ≡ calls_in f → b ≡ list_any (λ (call : Callee). pauses_alone listed ignore (callee_of call)) calls → b ≡ pauses listed ignore f
+pub own_is : (listed : List Bool) (ignore : Bool) (f : Func) (calls : List Callee) (b : Bool) → map callee_of calls ≡ calls_in f
+    → b ≡ list_any (λ (call : Callee). pauses_alone listed ignore (callee_of call)) calls → b ≡ pauses listed ignore f
 own_is listed ignore f calls b e is =
     is ∙ sym (any_of_map (pauses_alone listed ignore) callee_of calls) ∙ ap (list_any (pauses_alone listed ignore)) e
 

@@ -12,7 +12,8 @@ any_listed entries l name e =
     sym (any_of_map (λ (x : PlainEntry). names x name) entry_of entries) ∙ ap (λ (es : List PlainEntry). list_any (λ (x : PlainEntry). names x name) es) e
 
 -- one entry more
-pub named_more : (entries : List Entry) (i : ℕ) (e : Entry) (name : List ℕ) (a b : Bool) → i < length entries → e ≡ get_or entries i e → a ≡ any_names (take i entries) name → b ≡ (a || names (entry_of e) name) → b ≡ any_names (take (i + 1) entries) name
+pub named_more : (entries : List Entry) (i : ℕ) (e : Entry) (name : List ℕ) (a b : Bool) → i < length entries → e ≡ get_or entries i e → a ≡ any_names (take i entries) name
+    → b ≡ (a || names (entry_of e) name) → b ≡ any_names (take (i + 1) entries) name
 named_more entries i e name a b lt at before is =
     is ∙ ap (λ c. c || names (entry_of e) name) before ∙ ap (λ (x : Entry). any_names (take i entries) name || names (entry_of x) name) at
     ∙ sym (list_any_more (λ (x : Entry). names (entry_of x) name) entries i e lt)

@@ -1,5 +1,6 @@
 -- Who calls each function of a module, which of them pause by a call of their own, and which may pause then.
-use Rattle.std.proofs.Common.{arith, ◌≡◌, ℕ, zero, suc, ◌+◌, ◌-◌, ◌<◌, ◌≤◌, List, [], ◌∷◌, ◌++◌, map, replicate, length, get_or, set, Option, Some, None, Bool, true, false, not, slice_get, refl, sym, ap, ◌∙◌, subst, length-set, length-append, ⊎_elim, inl, inr, if◌then◌else◌, nat_lt}
+use Rattle.std.proofs.Common.{arith, ◌≡◌, ℕ, zero, suc, ◌+◌, ◌-◌, ◌<◌, ◌≤◌, List, [], ◌∷◌, ◌++◌, map, replicate, length, get_or, set, Option, Some, None, Bool, true, false, not, slice_get}
+use Rattle.std.proofs.Common.{refl, sym, ap, ◌∙◌, subst, length-set, length-append, ⊎_elim, inl, inr, if◌then◌else◌, nat_lt}
 use Rattle.std.specs.Prelude.{◌↔◌, ◌⊎◌, Contains}
 use Rattle.std.specs.List.{filter_map, cons_option}
 use Rattle.std.specs.Option.{option_map}
@@ -17,7 +18,8 @@ use Rattle.wa_types.specs.Typing.{Around, Takes, calls, sig, label, listed as li
 use Rattle.wa_types.specs.Modules.{imported_func, imported, func_imports, func_sorts, func_types, type_at, around, defined_at}
 use Rattle.wa_types.specs.Pruned.{pruned}
 use Rattle.wa_types.specs.Validity.{Valid}
-use Rattle.wa_types.specs.Pausing.{Settings, Choice, Callee, direct, indirect, callee, callee_onto, calls_of, calls_in, is_told, listed_import, Listed, MayPause, calls_listed, calls_indirectly, calls_pausing, TellsMayPause}
+use Rattle.wa_types.specs.Pausing.{Settings, Choice, Callee, direct, indirect, callee, callee_onto, calls_of, calls_in, is_told, listed_import, Listed, MayPause, calls_listed}
+use Rattle.wa_types.specs.Pausing.{calls_indirectly, calls_pausing, TellsMayPause}
 use Rattle.wa_types.proofs.TypingLemmas.{pruned_types}
 use Rattle.call_graph.specs.Calls.{pauses_alone, pauses, calls_or_none, calls_at, IsThere}
 use Rattle.call_graph.specs.Graph.{items_or_none, callers_at, Reached, at_start, by_caller}
@@ -41,7 +43,8 @@ called_there c x (Some f) ins outs e t = slice_get_within c.funcs x f e
 abbrev AllThere : ℕ → List Callee → Type 0
 AllThere count cs = (k : Callee) → Contains cs k → IsThere count k
 
-onto_there : (c : Around) (ls : List (Option ValType)) (p : Plain) (ins outs : List ValType) (cs : List Callee) → Takes (sig c ls p) ins outs → AllThere (length c.funcs) cs → AllThere (length c.funcs) (callee_onto (callee p) cs)
+onto_there : (c : Around) (ls : List (Option ValType)) (p : Plain) (ins outs : List ValType) (cs : List Callee) → Takes (sig c ls p) ins outs → AllThere (length c.funcs) cs
+    → AllThere (length c.funcs) (callee_onto (callee p) cs)
 onto_there c ls (basic b) ins outs cs t h = h
 onto_there c ls (local_get x) ins outs cs t h = h
 onto_there c ls (local_set x) ins outs cs t h = h
@@ -80,7 +83,8 @@ typed_there c ls (plain p rest) outs ins h = onto_there c ls p ins h.0 (calls_of
 typed_there c ls (nest s r body rest) outs ins h =
     both_there (length c.funcs) (calls_of body) (calls_of rest) (typed_there c (label s r ∷ ls) body (listed_type r) [] h.0) (typed_there c ls rest outs (listed_type r ++ ins) h.1)
 typed_there c ls (branch r a b rest) outs ins h =
-    both_there (length c.funcs) (calls_of a ++ calls_of b) (calls_of rest) (both_there (length c.funcs) (calls_of a) (calls_of b) (typed_there c (r ∷ ls) a (listed_type r) [] h.2) (typed_there c (r ∷ ls) b (listed_type r) [] h.3)) (typed_there c ls rest outs (listed_type r ++ h.0) h.4)
+    both_there (length c.funcs) (calls_of a ++ calls_of b) (calls_of rest) (both_there (length c.funcs) (calls_of a) (calls_of b) (typed_there c (r ∷ ls) a (listed_type r) [] h.2)
+    (typed_there c (r ∷ ls) b (listed_type r) [] h.3)) (typed_there c ls rest outs (listed_type r ++ h.0) h.4)
 
 types_count : (m : Module) → length (func_types m) ≡ length (func_sorts m)
 types_count m = length-map (func_sorts m) (type_at m)
@@ -89,7 +93,8 @@ types_count m = length-map (func_sorts m) (type_at m)
 pub calls_there : (m : Module) (i : ℕ) (f : Func) → Valid m → slice_get m.funcs i ≡ Some f → (k : Callee) → Contains (calls_in f) k → IsThere (length (func_sorts m)) k
 calls_there m i f v e k c =
     subst (λ n. IsThere n k) (types_count m)
-    (typed_there (around m f) ((around m f).result ∷ []) (pruned f.body) (listed_type (around m f).result) [] (pruned_types (around m f) ((around m f).result ∷ []) f.body (listed_type (around m f).result) [] (v.bodies i f e)) k c)
+    (typed_there (around m f) ((around m f).result ∷ []) (pruned f.body) (listed_type (around m f).result) []
+    (pruned_types (around m f) ((around m f).result ∷ []) f.body (listed_type (around m f).result) [] (v.bodies i f e)) k c)
 
 -- ---- a caller is put
 
@@ -139,7 +144,9 @@ module _ (calls : List Callee) (caller : ℕ) (old mid : List (Vec ℕ Global)) 
       at_other y x ne =
           let e : callers_at (set mid func w) y ≡ callers_at mid y = ap items_or_none (set_other mid func y w ne) in (
             λ c. ⊎_elim inl (λ p. inr (p.0, Contains-append_left calls (direct func ∷ []) (direct y) p.1)) ((before.each y x).0 (subst (λ l. Contains l x) e c)),
-            λ s. subst (λ l. Contains l x) (sym e) ((before.each y x).1 (⊎_elim inl (λ p. inr (p.0, ⊎_elim (λ d. d) (λ f. absurd (ne (sym (same_direct func y f)))) (Contains-push_cases calls (direct func) (direct y) p.1))) s)),
+            λ s. subst (λ l. Contains l x) (sym e)
+                ((before.each y x).1 (⊎_elim inl (λ p. inr (p.0, ⊎_elim (λ d. d) (λ f. absurd (ne (sym (same_direct func y f)))) (Contains-push_cases calls (direct func) (direct y) p.1)))
+                s)),
           )
 
       at_func : (y x : ℕ) → y ≡ func → Contains (callers_at (set mid func w) y) x ↔ (Contains (callers_at old y) x ⊎ ((x ≡ caller) × Contains (calls ++ direct func ∷ []) (direct y)))
@@ -147,8 +154,10 @@ module _ (calls : List Callee) (caller : ℕ) (old mid : List (Vec ℕ Global)) 
           let here : callers_at (set mid func w) y ≡ v ++ caller ∷ [] = ap (callers_at (set mid func w)) same ∙ ap items_or_none (set_same mid func w within) ∙ more in
           let there : callers_at mid y ≡ v = ap (callers_at mid) same ∙ is in
           let ours : Contains (calls ++ direct func ∷ []) (direct y) = subst (λ z. Contains (calls ++ direct func ∷ []) (direct z)) (sym same) (Contains-push calls (direct func)) in (
-            λ c. ⊎_elim (λ d. ⊎_elim inl (λ p. inr (p.0, ours)) ((before.each y x).0 (subst (λ l. Contains l x) (sym there) d))) (λ e. inr (sym e, ours)) (Contains-push_cases v caller x (subst (λ l. Contains l x) here c)),
-            λ s. subst (λ l. Contains l x) (sym here) (⊎_elim (λ c. Contains-append_left v (caller ∷ []) x (subst (λ l. Contains l x) there ((before.each y x).1 (inl c)))) (λ p. subst (Contains (v ++ caller ∷ [])) (sym p.0) (Contains-push v caller)) s),
+            λ c. ⊎_elim (λ d. ⊎_elim inl (λ p. inr (p.0, ours)) ((before.each y x).0 (subst (λ l. Contains l x) (sym there) d))) (λ e. inr (sym e, ours))
+                (Contains-push_cases v caller x (subst (λ l. Contains l x) here c)),
+            λ s. subst (λ l. Contains l x) (sym here) (⊎_elim (λ c. Contains-append_left v (caller ∷ []) x (subst (λ l. Contains l x) there ((before.each y x).1 (inl c))))
+                (λ p. subst (Contains (v ++ caller ∷ [])) (sym p.0) (Contains-push v caller)) s),
           )
 
 -- ---- a module's calls are gathered
@@ -168,7 +177,8 @@ defined_below : (m : Module) (x : ℕ) → x < func_imports m → defined_at m x
 defined_below m x lt = ap (λ b. if b then None else slice_get m.funcs (x - func_imports m)) (lt-ltb x (func_imports m) lt)
 
 defined_within : (m : Module) (x : ℕ) (f : Func) → defined_at m x ≡ Some f → (func_imports m ≤ x) × (slice_get m.funcs (x - func_imports m) ≡ Some f)
-defined_within m x f e = ⊎_elim (λ lt. let bad : None ≡ Some f = sym (defined_below m x lt) ∙ e in absurd (cc)) (λ ge. (ge, sym (ap (λ b. if b then None else slice_get m.funcs (x - func_imports m)) (le-ltb x (func_imports m) ge)) ∙ e)) (cases_lt x (func_imports m))
+defined_within m x f e = ⊎_elim (λ lt. let bad : None ≡ Some f = sym (defined_below m x lt) ∙ e in absurd (cc))
+    (λ ge. (ge, sym (ap (λ b. if b then None else slice_get m.funcs (x - func_imports m)) (le-ltb x (func_imports m) ge)) ∙ e)) (cases_lt x (func_imports m))
 
 pub gather_first : (m : Module) (callers : List (Vec ℕ Global)) → length callers ≡ func_imports m + length m.funcs → ((y : ℕ) → callers_at callers y ≡ []) → GatheredBelow m (func_imports m) callers
 gather_first m callers len none = record {
@@ -179,12 +189,14 @@ gather_first m callers len none = record {
   );
 }
 
-pub gather_more : (m : Module) (i : ℕ) (f : Func) (callers new : List (Vec ℕ Global)) → slice_get m.funcs i ≡ Some f → GatheredBelow m (func_imports m + i) callers → Puts (calls_in f) (func_imports m + i) callers new → GatheredBelow m (func_imports m + (i + 1)) new
+pub gather_more : (m : Module) (i : ℕ) (f : Func) (callers new : List (Vec ℕ Global)) → slice_get m.funcs i ≡ Some f → GatheredBelow m (func_imports m + i) callers
+    → Puts (calls_in f) (func_imports m + i) callers new → GatheredBelow m (func_imports m + (i + 1)) new
 gather_more m i f callers new is g p = record {
   len = p.len ∙ g.len;
   each = λ y x. (
     λ c. ⊎_elim (λ d. let q = (g.each y x).0 d in (omega (arith, q.0), q.1)) (λ q. (omega (arith, q.0), subst (λ l. Contains l (direct y)) (sym (ap (calls_at m) q.0 ∙ ours)) q.1)) ((p.each y x).0 c),
-    λ q. (p.each y x).1 (⊎_elim (λ lt. inl ((g.each y x).1 (lt, q.1))) (λ ge. let e : x ≡ func_imports m + i = omega (arith, ge, q.0) in inr (e, subst (λ l. Contains l (direct y)) (ap (calls_at m) e ∙ ours) q.1)) (cases_lt x (func_imports m + i))),
+    λ q. (p.each y x).1 (⊎_elim (λ lt. inl ((g.each y x).1 (lt, q.1))) (λ ge. let e : x ≡ func_imports m
+        + i = omega (arith, ge, q.0) in inr (e, subst (λ l. Contains l (direct y)) (ap (calls_at m) e ∙ ours) q.1)) (cases_lt x (func_imports m + i))),
   );
 }
   where
@@ -196,14 +208,17 @@ gather_last m n callers e g = subst (λ k. GatheredBelow m k callers) (ap (λ j.
 
 -- ---- which functions may pause
 
-marks_count : (choice : Choice) (i : Import) (o : Option ℕ) (marks : List Bool) (sorts : List ℕ) → length marks ≡ length sorts → length (cons_option (listed_import choice i o) marks) ≡ length (cons_option o sorts)
+marks_count : (choice : Choice) (i : Import) (o : Option ℕ) (marks : List Bool) (sorts : List ℕ) → length marks ≡ length sorts
+    → length (cons_option (listed_import choice i o) marks) ≡ length (cons_option o sorts)
 marks_count choice i None marks sorts h = h
 marks_count choice i (Some sort) marks sorts h = ap suc h
 
-listed_each : (choice : Choice) (is : List Import) → length (filter_map (λ (i : Import). listed_import choice i (imported_func i.kind)) is) ≡ length (filter_map (λ (i : Import). imported_func i.kind) is)
+listed_each : (choice : Choice) (is : List Import) → length (filter_map (λ (i : Import). listed_import choice i (imported_func i.kind)) is)
+    ≡ length (filter_map (λ (i : Import). imported_func i.kind) is)
 listed_each choice [] = refl
 listed_each choice (i ∷ is) =
-    marks_count choice i (imported_func i.kind) (filter_map (λ (i : Import). listed_import choice i (imported_func i.kind)) is) (filter_map (λ (i : Import). imported_func i.kind) is) (listed_each choice is)
+    marks_count choice i (imported_func i.kind) (filter_map (λ (i : Import). listed_import choice i (imported_func i.kind)) is) (filter_map (λ (i : Import). imported_func i.kind) is)
+    (listed_each choice is)
 
 pub listed_count : (m : Module) (s : Settings) → length (Listed m s) ≡ func_imports m
 listed_count m s = listed_each s.choice m.imports
@@ -297,12 +312,21 @@ module _ (m : Module) (s : Settings) (callers : List (Vec ℕ Global)) (gathered
 
   tells : (result : List Bool) → length result ≡ length starts → ((x : ℕ) → (slice_get result x ≡ Some true) ↔ Reached callers starts x) → TellsMayPause m s result
   tells result len each = record {
-    len = omega (arith, len, sorts_count m, length-append (replicate (func_imports m) false) (map (pauses (Listed m s) s.ignore_indirect) m.funcs), length-replicate (func_imports m) false, length-map m.funcs (pauses (Listed m s) s.ignore_indirect));
+    len = omega (
+      arith,
+      len,
+      sorts_count m,
+      length-append (replicate (func_imports m) false) (map (pauses (Listed m s) s.ignore_indirect) m.funcs),
+      length-replicate (func_imports m) false,
+      length-map m.funcs (pauses (Listed m s) s.ignore_indirect),
+    );
     each = λ x. (λ t. may x ((each x).0 t), λ p. (each x).1 (reached x p));
   }
 
 -- What is reached from the functions that pause by themselves is what may pause.
-pub reached_may_pause : (m : Module) (s : Settings) (listed : List Bool) (callers : List (Vec ℕ Global)) (start result : List Bool) → listed ≡ Listed m s → CallsGathered m listed s.ignore_indirect callers start → length result ≡ length start → ((x : ℕ) → (slice_get result x ≡ Some true) ↔ Reached callers start x) → TellsMayPause m s result
+pub reached_may_pause : (m : Module) (s : Settings) (listed : List Bool) (callers : List (Vec ℕ Global)) (start result : List Bool) → listed ≡ Listed m s
+    → CallsGathered m listed s.ignore_indirect callers start → length result ≡ length start → ((x : ℕ) → (slice_get result x ≡ Some true) ↔ Reached callers start x)
+    → TellsMayPause m s result
 reached_may_pause m s listed callers start result e g len each =
     let is : start ≡ starts m s callers g.calls = g.own ∙ ap (λ l. replicate (func_imports m) false ++ map (pauses l s.ignore_indirect) m.funcs) e in
     tells m s callers g.calls result (len ∙ ap length is) (subst (λ st. (x : ℕ) → (slice_get result x ≡ Some true) ↔ Reached callers st x) is each)
@@ -314,4 +338,12 @@ caller_within m callers g y x c = omega (arith, ((g.each y x).0 c).0, g.len)
 -- each function has its place in both lists
 pub graph_len : (m : Module) (listed : List Bool) (ignore : Bool) (callers : List (Vec ℕ Global)) (start : List Bool) → CallsGathered m listed ignore callers start → length start ≡ length callers
 graph_len m listed ignore callers start g =
-    omega (arith, ap length g.own, (g.calls).len, sorts_count m, length-append (replicate (func_imports m) false) (map (pauses listed ignore) m.funcs), length-replicate (func_imports m) false, length-map m.funcs (pauses listed ignore))
+    omega (
+      arith,
+      ap length g.own,
+      (g.calls).len,
+      sorts_count m,
+      length-append (replicate (func_imports m) false) (map (pauses listed ignore) m.funcs),
+      length-replicate (func_imports m) false,
+      length-map m.funcs (pauses listed ignore),
+    )

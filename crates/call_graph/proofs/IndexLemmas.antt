@@ -33,16 +33,20 @@ or_swap false false c = or_false c
 
 same_exact : (text name : List ℕ) → pointwise nat_eq name text ≡ names (exactly text) name
 same_exact text name =
-    same_from_decides {P = text ≡ name} (pointwise nat_eq name text) (names (exactly text) name) (λ h. sym ((bytes_decides name text).0 h), λ e. (bytes_decides name text).1 (sym e)) (names_exact text name)
+    same_from_decides {P = text ≡ name} (pointwise nat_eq name text) (names (exactly text) name) (λ h. sym ((bytes_decides name text).0 h), λ e. (bytes_decides name text).1 (sym e))
+    (names_exact text name)
 
 -- one beginning more
-pub one_beginning : (keys texts new : List (Bor (List ℕ))) (t : Bor (List ℕ)) (text name : List ℕ) → new ≡ texts ++ t ∷ [] → t.now ≡ text → (any_named name keys || any_begins new name) ≡ ((any_named name keys || any_begins texts name) || names (beginning text) name)
+pub one_beginning : (keys texts new : List (Bor (List ℕ))) (t : Bor (List ℕ)) (text name : List ℕ) → new ≡ texts ++ t ∷ [] → t.now ≡ text
+    → (any_named name keys || any_begins new name) ≡ ((any_named name keys || any_begins texts name) || names (beginning text) name)
 one_beginning keys texts new t text name e is =
-    ap (λ b. any_named name keys || b) (ap (λ l. any_begins l name) e ∙ list_any-append (λ (b : Bor (List ℕ)). starts_with nat_eq name b.now) texts (t ∷ []) ∙ ap (λ b. any_begins texts name || b) (or_false (starts_with nat_eq name t.now) ∙ ap (starts_with nat_eq name) is))
+    ap (λ b. any_named name keys || b) (ap (λ l. any_begins l name) e ∙ list_any-append (λ (b : Bor (List ℕ)). starts_with nat_eq name b.now) texts (t ∷ [])
+    ∙ ap (λ b. any_begins texts name || b) (or_false (starts_with nat_eq name t.now) ∙ ap (starts_with nat_eq name) is))
     ∙ sym (or_assoc (any_named name keys) (any_begins texts name) (names (beginning text) name))
 
 -- one name more
-pub one_name : (keys new texts : List (Bor (List ℕ))) (t : Bor (List ℕ)) (text name : List ℕ) → new ≡ insert_key by_name keys t → t.now ≡ text → (any_named name new || any_begins texts name) ≡ ((any_named name keys || any_begins texts name) || names (exactly text) name)
+pub one_name : (keys new texts : List (Bor (List ℕ))) (t : Bor (List ℕ)) (text name : List ℕ) → new ≡ insert_key by_name keys t → t.now ≡ text
+    → (any_named name new || any_begins texts name) ≡ ((any_named name keys || any_begins texts name) || names (exactly text) name)
 one_name keys new texts t text name e is =
     ap (λ b. b || any_begins texts name) (ap (any_named name) e ∙ one_more name t keys ∙ ap (λ b. any_named name keys || b) (ap (pointwise nat_eq name) is ∙ same_exact text name))
     ∙ or_swap (any_named name keys) (any_begins texts name) (names (exactly text) name)

@@ -1,5 +1,6 @@
 -- What a text spells as a list of imports, and what an entry names.
-use Rattle.std.proofs.Common.{arith, ◌≡◌, ◌≢◌, ℕ, zero, suc, ◌+◌, ◌-◌, ◌<◌, ◌≤◌, List, [], ◌∷◌, ◌++◌, map, length, take, drop, get_or, Bool, true, false, ◌||◌, cond, if◌then◌else◌, nat_eq, eqb, Option, Some, None, Result, Ok, Err, refl, sym, ap, ◌∙◌, append_assoc}
+use Rattle.std.proofs.Common.{arith, ◌≡◌, ◌≢◌, ℕ, zero, suc, ◌+◌, ◌-◌, ◌<◌, ◌≤◌, List, [], ◌∷◌, ◌++◌, map, length, take, drop, get_or, Bool, true, false, ◌||◌, cond, if◌then◌else◌, nat_eq}
+use Rattle.std.proofs.Common.{eqb, Option, Some, None, Result, Ok, Err, refl, sym, ap, ◌∙◌, append_assoc}
 use Rattle.std.specs.Prelude.{◌==◌, MatchBool, MatchOption}
 use Rattle.std.specs.Borrow.{Bor}
 use Rattle.call_graph.specs.Lists.{IsBehind}
@@ -13,7 +14,8 @@ use Rattle.std.proofs.lemmas.Slice.Eq.{starts_is}
 use Rattle.std.proofs.lemmas.List.{take_more, take_all, length-append, take-append-le, append_cancel_left, append-nil}
 use Rattle.std.proofs.lemmas.List.Folds.{list_any-append, list_any_at, Any-from_list_any}
 use Rattle.std.proofs.lemmas.Str.Pattern.{contains_char}
-use Rattle.wa_types.specs.Pausing.{Entry, beginning, exactly, ListError, star_inside, no_dot, onto_first, pieces, has_byte, all_but_last, entry_without_star, entry_of, onto_entries, entry_onto, entries_of, names}
+use Rattle.wa_types.specs.Pausing.{Entry, beginning, exactly, ListError, star_inside, no_dot, onto_first, pieces, has_byte, all_but_last, entry_without_star, entry_of, onto_entries}
+use Rattle.wa_types.specs.Pausing.{entry_onto, entries_of, names}
 
 -- ---- bytes of a text
 
@@ -117,7 +119,8 @@ pub entries_push : (xs : List (List ℕ)) (x : List ℕ) (es : List Entry) (e : 
 entries_push [] x es e all is = let z : [] ≡ es = cc in ap (λ r. entry_onto r (Ok [])) is ∙ ap (λ (z : List Entry). Ok (z ++ e ∷ [])) z
 entries_push (y ∷ ys) x es e all is = by_first (entry_of y) (entries_of ys) refl refl all (λ fs there. entries_push ys x fs e there is)
   where
-    by_first : (r : Result Entry ListError) (rs : Result (List Entry) ListError) → entry_of y ≡ r → entries_of ys ≡ rs → entry_onto r rs ≡ Ok es → ((fs : List Entry) → entries_of ys ≡ Ok fs → entries_of (ys ++ x ∷ []) ≡ Ok (fs ++ e ∷ [])) → entries_of (y ∷ (ys ++ x ∷ [])) ≡ Ok (es ++ e ∷ [])
+    by_first : (r : Result Entry ListError) (rs : Result (List Entry) ListError) → entry_of y ≡ r → entries_of ys ≡ rs → entry_onto r rs ≡ Ok es
+        → ((fs : List Entry) → entries_of ys ≡ Ok fs → entries_of (ys ++ x ∷ []) ≡ Ok (fs ++ e ∷ [])) → entries_of (y ∷ (ys ++ x ∷ [])) ≡ Ok (es ++ e ∷ [])
     by_first (Ok f) (Ok fs) here there eq more =
         let z : f ∷ fs ≡ es = cc in
         ap (λ r. entry_onto r (entries_of (ys ++ x ∷ []))) here ∙ ap (λ rs. onto_entries f rs) (more fs there)
@@ -129,7 +132,8 @@ pub entries_fail : (xs : List (List ℕ)) (x : List ℕ) (ys : List (List ℕ)) 
 entries_fail [] x ys es f all is = ap (λ r. entry_onto r (entries_of ys)) is
 entries_fail (y ∷ more) x ys es f all is = by_first (entry_of y) (entries_of more) refl refl all (λ fs there. entries_fail more x ys fs f there is)
   where
-    by_first : (r : Result Entry ListError) (rs : Result (List Entry) ListError) → entry_of y ≡ r → entries_of more ≡ rs → entry_onto r rs ≡ Ok es → ((fs : List Entry) → entries_of more ≡ Ok fs → entries_of (more ++ x ∷ ys) ≡ Err f) → entries_of (y ∷ (more ++ x ∷ ys)) ≡ Err f
+    by_first : (r : Result Entry ListError) (rs : Result (List Entry) ListError) → entry_of y ≡ r → entries_of more ≡ rs → entry_onto r rs ≡ Ok es
+        → ((fs : List Entry) → entries_of more ≡ Ok fs → entries_of (more ++ x ∷ ys) ≡ Err f) → entries_of (y ∷ (more ++ x ∷ ys)) ≡ Err f
     by_first (Ok e) (Ok fs) here there eq fails = ap (λ r. entry_onto r (entries_of (more ++ x ∷ ys))) here ∙ ap (λ rs. onto_entries e rs) (fails fs there)
     by_first (Ok e) (Err g) here there eq fails = absurd (cc)
     by_first (Err g) rs here there eq fails = absurd (cc)

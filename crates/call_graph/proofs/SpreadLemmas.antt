@@ -1,5 +1,6 @@
 -- Telling functions, their callers, and so on.
-use Rattle.std.proofs.Common.{arith, ◌≡◌, ℕ, zero, suc, ◌+◌, ◌<◌, ◌≤◌, List, [], ◌∷◌, ◌++◌, length, take, drop, get_or, set, Some, Bool, true, false, slice_get, refl, sym, ap, ◌∙◌, subst, length-set, length-append, ⊎_elim, inl, inr}
+use Rattle.std.proofs.Common.{arith, ◌≡◌, ℕ, zero, suc, ◌+◌, ◌<◌, ◌≤◌, List, [], ◌∷◌, ◌++◌, length, take, drop, get_or, set, Some, Bool, true, false, slice_get, refl, sym, ap, ◌∙◌, subst}
+use Rattle.std.proofs.Common.{length-set, length-append, ⊎_elim, inl, inr}
 use Rattle.std.proofs.lemmas.Bool.{cases_lt}
 use Rattle.std.proofs.lemmas.List.{take_more, take_all, drop_all, append-nil}
 use Rattle.std.specs.Prelude.{◌↔◌, ◌⊎◌, Contains, All}
@@ -85,8 +86,10 @@ module _ (funcs : List ℕ) (told new : List Bool) (pending after : List ℕ) (b
         kept = λ y h. set_keeps new x y (before.kept y h);
         these = these_too (set new x true) (set_keeps new x) (set_here new x within);
         still = λ y c. Contains-append_left after (x ∷ []) y (before.still y c);
-        fresh = λ y h. ⊎_elim (λ t. ⊎_elim inl (λ p. inr (Contains-append_left funcs (x ∷ []) y p.0, Contains-append_left after (x ∷ []) y p.1)) (before.fresh y t)) (λ e. inr (subst (Contains (funcs ++ x ∷ [])) e (Contains-push funcs x), subst (Contains (after ++ x ∷ [])) e (Contains-push after x))) (set_alone new x y h);
-        later = λ y c. ⊎_elim (λ d. ⊎_elim inl (λ t. inr (set_keeps new x y t)) (before.later y d)) (λ e. inr (subst (Told (set new x true)) e (set_here new x within))) (Contains-push_cases after x y c);
+        fresh = λ y h. ⊎_elim (λ t. ⊎_elim inl (λ p. inr (Contains-append_left funcs (x ∷ []) y p.0, Contains-append_left after (x ∷ []) y p.1)) (before.fresh y t))
+            (λ e. inr (subst (Contains (funcs ++ x ∷ [])) e (Contains-push funcs x), subst (Contains (after ++ x ∷ [])) e (Contains-push after x))) (set_alone new x y h);
+        later = λ y c. ⊎_elim (λ d. ⊎_elim inl (λ t. inr (set_keeps new x y t)) (before.later y d)) (λ e. inr (subst (Told (set new x true)) e (set_here new x within)))
+            (Contains-push_cases after x y c);
         fewer = omega (arith, set_fewer new x is, before.fewer, length-append after (x ∷ []));
       }
 
@@ -110,7 +113,8 @@ module _ (callers : List (Vec ℕ Global)) (starts : List Bool) where
     closed = λ y x t c. inr ((h y).1 t);
   }
 
-  pub spreads_on : (told new : List Bool) (pending rest after : List ℕ) (func : ℕ) → Spreading callers starts told pending → pending ≡ rest ++ func ∷ [] → Tells (callers_at callers func) told new rest after → Spreading callers starts new after
+  pub spreads_on : (told new : List Bool) (pending rest after : List ℕ) (func : ℕ) → Spreading callers starts told pending → pending ≡ rest ++ func ∷ []
+      → Tells (callers_at callers func) told new rest after → Spreading callers starts new after
   spreads_on told new pending rest after func s e t =
       let popped : Contains pending func = subst (λ p. Contains p func) (sym e) (Contains-push rest func) in
       let in_rest : (x : ℕ) → Contains rest x → Contains pending x = λ x c. subst (λ p. Contains p x) (sym e) (Contains-append_left rest (func ∷ []) x c) in
@@ -119,7 +123,9 @@ module _ (callers : List (Vec ℕ Global)) (starts : List Bool) where
         started = λ x h. t.kept x (s.started x h);
         sound = λ x h. ⊎_elim (s.sound x) (λ p. by_caller x func p.0 (s.sound func (s.there func popped))) (t.fresh x h);
         there = λ x c. ⊎_elim (λ d. t.kept x (s.there x (in_rest x d))) (λ h. h) (t.later x c);
-        closed = λ y x h c. ⊎_elim (λ k. ⊎_elim (λ d. inl (t.kept x d)) (λ p. ⊎_elim (λ d. inr (t.still y d)) (λ f. inl (t.these x (subst (λ z. Contains (callers_at callers z) x) (sym f) c))) (Contains-push_cases rest func y (subst (λ l. Contains l y) e p))) (s.closed y x k c)) (λ p. inr p.1) (t.fresh y h);
+        closed = λ y x h c. ⊎_elim (λ k. ⊎_elim (λ d. inl (t.kept x d)) (λ p. ⊎_elim (λ d. inr (t.still y d))
+            (λ f. inl (t.these x (subst (λ z. Contains (callers_at callers z) x) (sym f) c))) (Contains-push_cases rest func y (subst (λ l. Contains l y) e p))) (s.closed y x k c))
+            (λ p. inr p.1) (t.fresh y h);
       }
 
   reached_told : (told : List Bool) (x : ℕ) → Spreading callers starts told [] → Reached callers starts x → Told told x
@@ -134,25 +140,30 @@ module _ (callers : List (Vec ℕ Global)) (starts : List Bool) where
 
 -- ---- the list of those that are told at the start
 
-pub places_known : (told : List Bool) (places : List ℕ) (n : ℕ) → slice_get told n ≡ Some false → ((x : ℕ) → Contains places x ↔ ((x < n) × Told told x)) → (x : ℕ) → Contains places x ↔ ((x < n + 1) × Told told x)
+pub places_known : (told : List Bool) (places : List ℕ) (n : ℕ) → slice_get told n ≡ Some false → ((x : ℕ) → Contains places x ↔ ((x < n) × Told told x)) → (x : ℕ)
+    → Contains places x ↔ ((x < n + 1) × Told told x)
 places_known told places n is h x = (
   λ c. let p = (h x).0 c in (omega (arith, p.0), p.1),
   λ p. ⊎_elim (λ lt. (h x).1 (lt, p.1)) (λ ge. let e : x ≡ n = omega (arith, p.0) in let bad : Some true ≡ Some false = sym p.1 ∙ ap (slice_get told) e ∙ is in absurd (cc)) (cases_lt x n),
 )
 
-places_longer : (told : List Bool) (places : List ℕ) (n : ℕ) → Told told n → ((x : ℕ) → Contains places x ↔ ((x < n) × Told told x)) → (x : ℕ) → Contains (places ++ n ∷ []) x ↔ ((x < n + 1) × Told told x)
+places_longer : (told : List Bool) (places : List ℕ) (n : ℕ) → Told told n → ((x : ℕ) → Contains places x ↔ ((x < n) × Told told x)) → (x : ℕ)
+    → Contains (places ++ n ∷ []) x ↔ ((x < n + 1) × Told told x)
 places_longer told places n is h x = (
   λ c. ⊎_elim (λ d. let p = (h x).0 d in (omega (arith, p.0), p.1)) (λ e. (omega (arith, e), subst (Told told) e is)) (Contains-push_cases places n x c),
-  λ p. ⊎_elim (λ lt. Contains-append_left places (n ∷ []) x ((h x).1 (lt, p.1))) (λ ge. let e : n ≡ x = omega (arith, p.0) in subst (Contains (places ++ n ∷ [])) e (Contains-push places n)) (cases_lt x n),
+  λ p. ⊎_elim (λ lt. Contains-append_left places (n ∷ []) x ((h x).1 (lt, p.1))) (λ ge. let e : n ≡ x = omega (arith, p.0) in subst (Contains (places ++ n ∷ [])) e (Contains-push places n))
+      (cases_lt x n),
 )
 
 -- the callers of a function are within
-pub all_within : (callers : List (Vec ℕ Global)) (told : List Bool) (y : ℕ) (v : Vec ℕ Global) → slice_get callers y ≡ Some v → length told ≡ length callers → ((y x : ℕ) → Contains (callers_at callers y) x → x < length callers) → All (λ x. x < length told) v.items
+pub all_within : (callers : List (Vec ℕ Global)) (told : List Bool) (y : ℕ) (v : Vec ℕ Global) → slice_get callers y ≡ Some v → length told ≡ length callers
+    → ((y x : ℕ) → Contains (callers_at callers y) x → x < length callers) → All (λ x. x < length told) v.items
 all_within callers told y v is len within = λ k d lt.
     let c : Contains (callers_at callers y) (get_or v.items k d) = subst (λ o. Contains (items_or_none o) (get_or v.items k d)) (sym is) (Contains-get_or v.items k d lt) in
     omega (arith, len, within y (get_or v.items k d) c)
 
-pub places_more : (told : List Bool) (places new : List ℕ) (n : ℕ) → Told told n → new ≡ places ++ n ∷ [] → ((x : ℕ) → Contains places x ↔ ((x < n) × Told told x)) → (x : ℕ) → Contains new x ↔ ((x < n + 1) × Told told x)
+pub places_more : (told : List Bool) (places new : List ℕ) (n : ℕ) → Told told n → new ≡ places ++ n ∷ [] → ((x : ℕ) → Contains places x ↔ ((x < n) × Told told x)) → (x : ℕ)
+    → Contains new x ↔ ((x < n + 1) × Told told x)
 places_more told places new n is e h = subst (λ l. (x : ℕ) → Contains l x ↔ ((x < n + 1) × Told told x)) (sym e) (places_longer told places n is h)
 
 pub places_last : (told : List Bool) (places : List ℕ) (n : ℕ) → length told ≤ n → ((x : ℕ) → Contains places x ↔ ((x < n) × Told told x)) → (x : ℕ) → Contains places x ↔ Told told x
@@ -161,7 +172,8 @@ places_last told places n le h x = (
   λ t. (h x).1 (let lt = slice_get_within told x true t in omega (arith, lt, le), t),
 )
 
-module _ (funcs : List ℕ) (told new : List Bool) (pending after : List ℕ) (i : ℕ) (lt : i < length funcs) (before : Tells (take i funcs) told new pending after) (within : All (λ x. x < length told) funcs) (d : Bool) where
+module _ (funcs : List ℕ) (told new : List Bool) (pending after : List ℕ) (i : ℕ) (lt : i < length funcs) (before : Tells (take i funcs) told new pending after)
+    (within : All (λ x. x < length told) funcs) (d : Bool) where
   here_within : get_or funcs i 0 < length new
   here_within = omega (arith, within i 0 lt, before.len)
 
@@ -173,10 +185,12 @@ module _ (funcs : List ℕ) (told new : List Bool) (pending after : List ℕ) (i
   pub tell_new : (more : List ℕ) → get_or new (get_or funcs i 0) d ≡ false → more ≡ after ++ get_or funcs i 0 ∷ [] → Tells (take (i + 1) funcs) told (set new (get_or funcs i 0) true) pending more
   tell_new more is e =
       subst (λ l. Tells l told (set new (get_or funcs i 0) true) pending more) (sym (take_more funcs i 0 lt))
-      (subst (Tells (take i funcs ++ get_or funcs i 0 ∷ []) told (set new (get_or funcs i 0) true) pending) (sym e) (tells_new (take i funcs) told new pending after before (get_or funcs i 0) (got_is new (get_or funcs i 0) d false here_within is)))
+      (subst (Tells (take i funcs ++ get_or funcs i 0 ∷ []) told (set new (get_or funcs i 0) true) pending) (sym e)
+      (tells_new (take i funcs) told new pending after before (get_or funcs i 0) (got_is new (get_or funcs i 0) d false here_within is)))
 
 -- a function that is pending is there
-pub pending_within : (callers : List (Vec ℕ Global)) (starts told : List Bool) (pending rest : List ℕ) (func : ℕ) → Spreading callers starts told pending → pending ≡ rest ++ func ∷ [] → length starts ≡ length callers → func < length callers
+pub pending_within : (callers : List (Vec ℕ Global)) (starts told : List Bool) (pending rest : List ℕ) (func : ℕ) → Spreading callers starts told pending → pending ≡ rest ++ func ∷ []
+    → length starts ≡ length callers → func < length callers
 pending_within callers starts told pending rest func s e len =
     let c : Contains pending func = subst (λ p. Contains p func) (sym e) (Contains-push rest func) in
     omega (arith, slice_get_within told func true (s.there func c), s.len, len)

@@ -7,6 +7,7 @@ use Rattle.wa_types.specs.Pausing.{Callee as PlainCallee, direct, indirect, call
 use Rattle.call_graph.specs.declared.calls.Callee.{Callee}
 use Rattle.call_graph.specs.declared.calls.Callee.TheVariants.{Direct, Indirect}
 
+-- what a call goes to
 abbrev pub callee_of : Callee → PlainCallee
 callee_of (Direct x) = direct x
 callee_of (Indirect sort) = indirect sort
@@ -20,6 +21,7 @@ pauses_alone listed ignore (indirect sort) = not ignore
 abbrev pub pauses : List Bool → Bool → Func → Bool
 pauses listed ignore f = list_any (pauses_alone listed ignore) (calls_in f)
 
+-- the calls of a function that is there
 abbrev pub calls_or_none : Option Func → List PlainCallee
 calls_or_none None = []
 calls_or_none (Some f) = calls_in f

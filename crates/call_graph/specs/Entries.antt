@@ -5,6 +5,7 @@ use Rattle.wa_types.specs.Pausing.{Entry as PlainEntry, beginning, exactly, name
 use Rattle.call_graph.specs.declared.lists.Entry.{Entry}
 use Rattle.call_graph.specs.declared.lists.Entry.TheVariants.{Beginning, Exactly}
 
+-- an entry
 abbrev pub entry_of : Entry → PlainEntry
 entry_of (Beginning text) = beginning text
 entry_of (Exactly text) = exactly text

@@ -3,6 +3,7 @@ use Rattle.std.specs.Prelude.{◌≡◌, ℕ, ◌+◌, List, [], ◌∷◌, leng
 use Rattle.std.specs.declared.vec.Vec.{Vec}
 use Rattle.std.specs.declared.alloc.Global.{Global}
 
+-- the items of a list that is there
 abbrev pub items_or_none : Option (Vec ℕ Global) → List ℕ
 items_or_none None = []
 items_or_none (Some v) = v.items

@@ -19,6 +19,7 @@ abbrev pub Parses : Result (List PlainEntry) ListFault → Result (List PlainEnt
 Parses (Ok entries) r = r ≡ Ok entries
 Parses (Err fault) r = Blames fault r
 
+-- an entry that was read is the one that is spelled, and a fault is one of it
 abbrev pub Reads : Result Entry ListFault → Result PlainEntry ListError → Type 0
 Reads (Ok e) r = r ≡ Ok (entry_of e)
 Reads (Err fault) r = Blames fault r

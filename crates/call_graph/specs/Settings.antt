@@ -6,14 +6,17 @@ use Rattle.call_graph.specs.declared.settings.Policy.{Policy}
 use Rattle.call_graph.specs.declared.settings.Policy.TheVariants.{All, Live}
 use Rattle.call_graph.specs.declared.settings.Settings.{Settings}
 
+-- which imports are listed
 abbrev pub choice_of : Choice → PlainChoice
 choice_of Every = every
 choice_of Nobody = nobody
 choice_of (Listed entries) = of_list entries
 
+-- which locals frames save
 abbrev pub policy_of : Policy → PlainPolicy
 policy_of All = save_all
 policy_of Live = save_live
 
+-- settings
 abbrev pub settings_of : Settings → PlainSettings
 settings_of s = record { choice = choice_of s.choice; ignore_indirect = s.ignore_indirect; policy = policy_of s.policy }

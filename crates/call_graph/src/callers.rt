@@ -1,3 +1,5 @@
+//! The call graph turned round: the callers of each function, and which functions pause by a call of their own.
+
 ghost use Rattle.std.specs.Prelude.{◌≡◌, ◌<◌, ◌+◌, ◌↔◌, ℕ, ◌++◌, ◌∷◌, [], All, Contains, IfOk, OnOk, length, map, replicate, false};
 ghost use Rattle.std.specs.List.{list_any};
 ghost use Rattle.call_graph.specs.Calls.{IsThere, callee_of, pauses_alone};

@@ -1,3 +1,5 @@
+//! The calls of a body that can be reached: `call` with its function, `call_indirect` with its type.
+
 ghost use Rattle.std.specs.Prelude.{◌≡◌, ◌++◌, map, IfOk, OnOk};
 ghost use Rattle.call_graph.specs.Calls.{callee_of};
 ghost use Rattle.wa_types.specs.Pausing.{calls_of};

@@ -1,3 +1,5 @@
+//! Which function imports of a module are listed, by their joined names.
+
 ghost use Rattle.std.specs.Prelude.{◌≡◌, ◌||◌, ℕ, List, IfOk, OnOk, false, is_some, nat_eq, true};
 ghost use Rattle.std.specs.List.{list_any, starts_with};
 ghost use Rattle.std.specs.String.{string_bytes};

@@ -1,3 +1,5 @@
+//! Lists of function imports: a text of entries, read into an `ImportList` and asked for a name.
+
 ghost use Rattle.std.specs.Prelude.{◌≡◌, ◌<◌, ℕ, List, [], ◌∷◌, ◌++◌, OnOk, length, map};
 ghost use Rattle.call_graph.specs.Lists.{IsBehind, Parses, Reads};
 ghost use Rattle.call_graph.specs.Entries.{any_names, entry_of};

@@ -1,3 +1,5 @@
+//! Which functions of a module may pause.
+
 ghost use Rattle.std.specs.Prelude.{IfOk};
 ghost use Rattle.call_graph.specs.Settings.{settings_of};
 ghost use Rattle.wa_types.specs.Pausing.{TellsMayPause};

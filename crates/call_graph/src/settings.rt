@@ -1,3 +1,5 @@
+//! The settings of rewriting: which imports are listed, whether calls through the table count, which locals frames save.
+
 use crate::lists::ImportList;
 
 /// Which function imports are listed: every one, none, or those that a list names.

@@ -1,3 +1,5 @@
+//! What is told of functions, spread from each to all its callers.
+
 ghost use Rattle.std.specs.Prelude.{◌≡◌, ◌<◌, ◌↔◌, ℕ, All, Contains, IfOk, OnOk, Some, true, length, slice_get};
 ghost use Rattle.call_graph.specs.Graph.{Reached, Tells, callers_at};
 

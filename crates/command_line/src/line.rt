@@ -1,4 +1,5 @@
-// The command line as one command of `clap` with one level of subcommands.
+//! The command line as one command of `clap` with one level of subcommands.
+
 ghost use Rattle.std.specs.Prelude.{◌≡◌, ◌||◌, IfErr, IfOk, None, false, map};
 ghost use Rattle.std.specs.String.{string_bytes};
 ghost use Rattle.clap.specs.Words.{app_of, kind_of, rule_of, shape_of, subcommand_rows_of, with_rule, with_subcommand};

@@ -10,6 +10,7 @@ use Rattle.command_words.specs.declared.words.Command.TheVariants.{Transform, Ho
 use Rattle.command_words.specs.declared.words.WordsFault.{WordsFault}
 use Rattle.command_words.specs.declared.words.WordsFault.TheVariants.{Memory, Usage}
 
+-- a command
 abbrev pub spelled_of : CommandValue → Spelled
 spelled_of (Transform settings input output) = rewrites (transform (settings_of settings) input.now output.now)
 spelled_of (Host script) = hosts script.now
@@ -27,5 +28,6 @@ Reads view (Ok x) spelled = spelled ≡ Some (view x)
 Reads view (Err Memory) spelled = Unit {0}
 Reads view (Err Usage) spelled = spelled ≡ None
 
+-- a text that is told
 abbrev pub text_of : Option (Bor (List ℕ)) → Option (List ℕ)
 text_of text = option_map (λ (t : Bor (List ℕ)). t.now) text

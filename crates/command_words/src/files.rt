@@ -1,4 +1,5 @@
-// Commands whose words name a script, or a number and a file.
+//! Commands whose words name a script, or a number and a file.
+
 ghost use Rattle.std.specs.Prelude.{◌≡◌, Some, IfOk};
 ghost use Rattle.clap.specs.Words.{found_of, rows_of};
 ghost use Rattle.wa_model.specs.Spelled.{hosts, number_and_file, runs};

@@ -1,4 +1,5 @@
-// A `transform`: its settings and its two files.
+//! A `transform`: its settings and its two files.
+
 ghost use Rattle.std.specs.Prelude.{◌≡◌, None, Some, false, IfOk};
 ghost use Rattle.std.specs.Option.{option_map};
 ghost use Rattle.clap.specs.Words.{found_of, rows_of};
@@ -104,7 +105,8 @@ fn with_policy<'w>(
     input: Option<&'w str>,
     output: Option<&'w str>,
 ) -> Result<Command<'w>, WordsFault>
-    ensures command { Reads spelled_of result (option_map rewrites (with_files (Some (choice_of choice)) ignore_indirect (policy_said (text_of save.entry)) (text_of input.entry) (text_of output.entry))) }
+    ensures command { Reads spelled_of result (option_map rewrites (with_files (Some (choice_of choice)) ignore_indirect (policy_said (text_of save.entry)) (text_of input.entry)
+        (text_of output.entry))) }
     ensures number { IfOk result HasFewFunctions }
 {
     match policy_said(save) {

@@ -1,4 +1,5 @@
-// The words of the command line.
+//! The words of the command line, as a command or none.
+
 ghost use Rattle.std.specs.Prelude.{◌≡◌, Option, map, IfOk};
 ghost use Rattle.std.specs.String.{string_bytes};
 ghost use Rattle.clap.specs.Words.{subcommand_rows_of};

@@ -1,5 +1,6 @@
 -- What is computed of a file's beginnings is so.
-use Rattle.std.proofs.Common.{◌≡◌, ℕ, zero, suc, ◌+◌, ◌<◌, ◌≤◌, ◌⊎◌, inl, inr, List, [], ◌∷◌, ◌++◌, ◌&&◌, map, Option, Some, None, Result, Ok, Err, Bool, true, false, cond, nat_lt, nat_eq, refl, ap, sym, ◌∙◌, subst, arith, eqb-true, length, length-append, length-take-le, take, drop, get_or, IsUtf8}
+use Rattle.std.proofs.Common.{◌≡◌, ℕ, zero, suc, ◌+◌, ◌<◌, ◌≤◌, ◌⊎◌, inl, inr, List, [], ◌∷◌, ◌++◌, ◌&&◌, map, Option, Some, None, Result, Ok, Err, Bool, true, false, cond, nat_lt, nat_eq}
+use Rattle.std.proofs.Common.{refl, ap, sym, ◌∙◌, subst, arith, eqb-true, length, length-append, length-take-le, take, drop, get_or, IsUtf8}
 use Rattle.std.proofs.lemmas.Bool.{lt-ltb, le-ltb, ltb-true, ltb-false, ne_eqb}
 use Rattle.std.proofs.lemmas.List.{take-append-drop}
 use Rattle.std.proofs.lemmas.Str.{IsUtf8-from_is_utf8, is_utf8-from_IsUtf8}
@@ -7,12 +8,15 @@ use Rattle.std.specs.Str.{is_utf8}
 use Rattle.wa_types.specs.declared.leb.LebFault.{LebFault}
 use Rattle.wa_types.specs.declared.leb.LebFault.TheVariants.{Short, Long, Bits}
 use Rattle.wa_types.specs.Leb.{unsigned_at, signed_at}
-use Rattle.wa_types.specs.Begun.{Goal, Item, a_byte, an_unsigned, a_signed, a_name, a_constant_of, IsItem, IsPart, size, head, until, rest, entries, count, exact, number, name, value_type, block_type, mutable, import_kind, space, limits, signed, name_bytes, float_bytes, code, wants, next, settled, end_of, IsBefore, Inside, Steps, Leads, arrived, item, BegunFrom, ends, part, then, sections, start, Begun, IsWhole}
+use Rattle.wa_types.specs.Begun.{Goal, Item, a_byte, an_unsigned, a_signed, a_name, a_constant_of, IsItem, IsPart, size, head, until, rest, entries, count, exact, number, name, value_type}
+use Rattle.wa_types.specs.Begun.{block_type, mutable, import_kind, space, limits, signed, name_bytes, float_bytes, code, wants, next, settled, end_of, IsBefore, Inside, Steps, Leads}
+use Rattle.wa_types.specs.Begun.{arrived, item, BegunFrom, ends, part, then, sections, start, Begun, IsWhole}
 use Rattle.wa_types.proofs.UnsignedReads.{again, takes}
 use Rattle.wa_types.proofs.SignedReads.{again as signed_again, takes as signed_takes}
 use Rattle.file_laws.proofs.Items.{item_some}
 use Rattle.wa_types.proofs.TypingLemmas.{less_on}
-use Rattle.definition_check.specs.Beginnings.{Front, a_part, wrong, whole, of_number, of_bytes, of_byte, front_of, on_front, on_goals, is_before, is_inside, walks, is_none, part_left, owes_none, is_end, nothing_left, is_begun, is_whole, or_else, search, at_the_end, fault_place, FaultFound}
+use Rattle.definition_check.specs.Beginnings.{Front, a_part, wrong, whole, of_number, of_bytes, of_byte, front_of, on_front, on_goals, is_before, is_inside, walks, is_none, part_left}
+use Rattle.definition_check.specs.Beginnings.{owes_none, is_end, nothing_left, is_begun, is_whole, or_else, search, at_the_end, fault_place, FaultFound}
 use Rattle.definition_check.specs.Files.{File, AllFound}
 use Rattle.std.specs.List.{list_all}
 
@@ -220,11 +224,13 @@ module _ (test : ℕ → List Goal → List ℕ → Bool) (n at : ℕ) (g : Goal
   unfolding walks
   step_sound fits h = by_front (front_of (wants g) bytes) (front_says (wants g) bytes fits) h
 
-step_part : (test : ℕ → List Goal → List ℕ → Bool) (n at : ℕ) (g : Goal) (gs : List Goal) (bytes : List ℕ) → IsPart (wants g) bytes → test at (g ∷ gs) bytes ≡ true → walks test (suc n) at (g ∷ gs) bytes ≡ true
+step_part : (test : ℕ → List Goal → List ℕ → Bool) (n at : ℕ) (g : Goal) (gs : List Goal) (bytes : List ℕ) → IsPart (wants g) bytes → test at (g ∷ gs) bytes ≡ true
+    → walks test (suc n) at (g ∷ gs) bytes ≡ true
 unfolding walks
 step_part test n at g gs bytes p h = ap (λ f. on_front f (test at (g ∷ gs) bytes) (Taken test n at g gs bytes)) (front_part (wants g) bytes p) ∙ h
 
-step_item : (test : ℕ → List Goal → List ℕ → Bool) (n at : ℕ) (g : Goal) (gs : List Goal) (bytes a b : List ℕ) (v : ℕ) (ks : List Goal) → bytes ≡ a ++ b → IsItem (wants g) a v → Steps g gs v (at + length a) ks → walks test n (at + length a) ks b ≡ true → walks test (suc n) at (g ∷ gs) bytes ≡ true
+step_item : (test : ℕ → List Goal → List ℕ → Bool) (n at : ℕ) (g : Goal) (gs : List Goal) (bytes a b : List ℕ) (v : ℕ) (ks : List Goal) → bytes ≡ a ++ b → IsItem (wants g) a v
+    → Steps g gs v (at + length a) ks → walks test n (at + length a) ks b ≡ true → walks test (suc n) at (g ∷ gs) bytes ≡ true
 unfolding walks
 step_item test n at g gs bytes a b v ks e i s h =
     let used = length a in
@@ -338,7 +344,8 @@ search_says zero k bytes fits e before = λ j l. before j (omega (arith, e, l))
 search_says (suc n) k bytes fits e before =
     by_test (search_says n (suc k) bytes fits (omega (arith, e))) (is_begun (take k bytes)) refl
   where
-    by_test : (((j : ℕ) → j < suc k → Begun (take j bytes)) → SearchSays bytes (search n (suc k) bytes)) → (t : Bool) → is_begun (take k bytes) ≡ t → SearchSays bytes (or_else t (search n (suc k) bytes) k)
+    by_test : (((j : ℕ) → j < suc k → Begun (take j bytes)) → SearchSays bytes (search n (suc k) bytes)) → (t : Bool) → is_begun (take k bytes) ≡ t
+        → SearchSays bytes (or_else t (search n (suc k) bytes) k)
     by_test on false f = (omega (arith, e), before, begun_not (take k bytes) f)
     by_test on true f = on (λ j l. elim (less_on j k) [
       | inl less ↦ before j less

@@ -6,9 +6,11 @@ use Rattle.wa_types.specs.Syntax.{local_get, call, done, Func, Module}
 use Rattle.wa_types.specs.Pausing.{beginning, of_list, save_all, Settings, TellsMayPause}
 use Rattle.definition_check.specs.Rows.{then, of_funcs}
 
+-- a function import of this name from `env`, of the first type
 abbrev pub import_of : List ℕ → Import
 import_of name = record { «module» = codes "env"; base = name; kind = a_func_import 0 }
 
+-- a function that calls another with its parameter
 abbrev pub calling : ℕ → Func
 calling x = record { sort = 0; locals = []; body = then (local_get 0 ∷ call x ∷ []) done }
 

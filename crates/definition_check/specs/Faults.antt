@@ -11,10 +11,12 @@ use Rattle.wa_types.specs.declared.syntax.ImportKind.TheVariants.{Func as a_func
 use Rattle.wa_types.specs.declared.syntax.Export.{Export}
 use Rattle.wa_types.specs.declared.syntax.Space.{Space}
 use Rattle.wa_types.specs.declared.syntax.Space.TheVariants.{Func as a_func, Table as a_table, Global as a_global}
-use Rattle.wa_types.specs.Syntax.{drop, select, const, num, global_get, global_set, load, store, memory_size, basic, local_get, br, br_if, br_table, unreachable, call, call_indirect, a_block, a_loop, Code, done, plain, nest, branch, FuncType, GlobalDef, Elem, Segment, Module}
+use Rattle.wa_types.specs.Syntax.{drop, select, const, num, global_get, global_set, load, store, memory_size, basic, local_get, br, br_if, br_table, unreachable, call, call_indirect}
+use Rattle.wa_types.specs.Syntax.{a_block, a_loop, Code, done, plain, nest, branch, FuncType, GlobalDef, Elem, Segment, Module}
 use Rattle.wasm_validate.specs.Running.{Answer, valid, invalid}
 use Rattle.wasm_validate.specs.Laws.{Says}
 
+-- a function type
 abbrev pub type_of : List ValType → List ValType → FuncType
 type_of params results = record { params = params; results = results }
 
@@ -46,27 +48,35 @@ a_number = type_of [] (I32 ∷ []) ∷ []
 abbrev pub two_numbers : List FuncType
 two_numbers = type_of (I32 ∷ I64 ∷ []) [] ∷ []
 
+-- a module with one function of this body
 abbrev pub body : Code → Module
 body code = one_func nothing code
 
+-- an i32 in front of code
 abbrev pub one : Code → Code
 one rest = plain (basic (const (value_32 1))) rest
 
+-- an i64 in front of code
 abbrev pub long : Code → Code
 long rest = plain (basic (const (value_64 1))) rest
 
+-- a `drop` in front of code
 abbrev pub gone : Code → Code
 gone rest = plain (basic drop) rest
 
+-- limits of one page or entry at least
 abbrev pub a_page : Limits
 a_page = record { min = 1; max = None }
 
+-- a constant global
 abbrev pub constant : GlobalDef
 constant = record { ty = I32; mutable = false; init = one done }
 
+-- an export of the first of a space
 abbrev pub exporting : Space → Export
 exporting space = record { name = 97 ∷ []; space = space; index = 0 }
 
+-- an import
 abbrev pub importing : ImportKind → Import
 importing kind = record { «module» = []; base = []; kind = kind }
 
@@ -74,9 +84,11 @@ importing kind = record { «module» = []; base = []; kind = kind }
 abbrev pub with_elem : Elem → Module
 with_elem elem = record (body done) { tables = a_page ∷ []; elems = elem ∷ [] }
 
+-- an element segment without functions at this offset
 abbrev pub elem_at : Code → Elem
 elem_at offset = record { table = 0; offset = offset; funcs = [] }
 
+-- a data segment without bytes at this offset
 abbrev pub segment_at : Code → Segment
 segment_at offset = record { memory = 0; offset = offset; bytes = [] }
 
@@ -85,6 +97,7 @@ pub record Case : Type 0 where
   pub of : Module
   pub says : Answer
 
+-- a module and what is to be said of it
 abbrev pub case : Module → Answer → Case
 case m a = record { of = m; says = a }
 
@@ -175,6 +188,7 @@ valid_cases =
     ∷ case (record (body done) { memories = a_page ∷ []; globals = constant ∷ []; segments = segment_at (plain (basic (global_get 0)) done) ∷ [] }) valid
     ∷ []
 
+-- All of these say so.
 abbrev pub AllSay : List Case → Type 0
 AllSay [] = Unit {0}
 AllSay (c ∷ cs) = Says c.of c.says × AllSay cs

@@ -11,10 +11,12 @@ pub record File : Type 0 where
   pub bytes : List ℕ
   pub fault : Option ℕ
 
+-- Each file fails where it should.
 abbrev pub AllFound : List File → Type 0
 AllFound [] = Unit {0}
 AllFound (f ∷ fs) = FaultFound f.bytes f.fault × AllFound fs
 
+-- a file of these sections
 abbrev pub of_sections : List ℕ → Option ℕ → File
 of_sections bytes fault = record { bytes = preamble ++ bytes; fault = fault }
 
@@ -22,13 +24,15 @@ of_sections bytes fault = record { bytes = preamble ++ bytes; fault = fault }
 abbrev pub a_type : List ℕ
 a_type = 0x01 ∷ 0x04 ∷ 0x01 ∷ 0x60 ∷ 0x00 ∷ 0x00 ∷ []
 
--- a function of that type, and its body
+-- a function of that type
 abbrev pub a_function : List ℕ
 a_function = 0x03 ∷ 0x02 ∷ 0x01 ∷ 0x00 ∷ []
 
+-- the body of that function
 abbrev pub a_body : List ℕ
 a_body = 0x0A ∷ 0x04 ∷ 0x01 ∷ 0x02 ∷ 0x00 ∷ 0x0B ∷ []
 
+-- Files, whole ones and others.
 abbrev pub files : List File
 files =
     record { bytes = []; fault = Some 0 }
@@ -95,6 +99,7 @@ abbrev pub below : ℕ → List ℕ
 below zero = []
 below (suc n) = below n ++ n ∷ []
 
+-- each beginning of that file
 abbrev pub beginnings : List File
 beginnings = map beginning (below 55)
 
@@ -103,9 +108,11 @@ abbrev pub float_file : List ℕ
 float_file = preamble ++ a_type ++ a_function ++
     0x0A ∷ 0x0C ∷ 0x01 ∷ 0x0A ∷ 0x00 ∷ 0x00 ∷ 0x43 ∷ 0x00 ∷ 0x00 ∷ 0x00 ∷ 0x00 ∷ 0x10 ∷ 0x07 ∷ 0x0B ∷ []
 
+-- a byte at its offset
 abbrev pub at_place : (place byte : ℕ) → Placed
 at_place k b = record { place = k; byte = b }
 
+-- its code
 abbrev pub float_code : RawCode
 float_code =
     instr (at_place 23 0x00) nothing
@@ -113,15 +120,19 @@ float_code =
     (instr (at_place 29 0x10) (index 7)
     (ended 31)))
 
+-- its body
 abbrev pub float_body : RawBody
 float_body = record { size = 10; locals = []; code = float_code }
 
+-- its type section
 abbrev pub float_types : Section
 float_types = types (record { params = []; results = [] } ∷ [])
 
+-- its code section
 abbrev pub float_bodies : Section
 float_bodies = bodies (float_body ∷ [])
 
+-- its sections
 abbrev pub float_sections : List Section
 float_sections = float_types ∷ functions (0 ∷ []) ∷ float_bodies ∷ []
 

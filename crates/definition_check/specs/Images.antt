@@ -7,6 +7,7 @@ use Rattle.wa_types.specs.Pausing.{Policy, save_all, save_live, Settings, every}
 use Rattle.wa_types.specs.Frames.{Suspended, Image}
 use Rattle.definition_check.specs.Rows.{one_call, countdown, two_widths}
 
+-- settings that list every import
 abbrev pub all_imports : Policy → Settings
 all_imports policy = record { choice = every; ignore_indirect = false; policy = policy }
 
@@ -26,6 +27,7 @@ waiting = at_call 0 (value_32 7) (value_32 7 ∷ []) ∷ []
 abbrev pub waiting_bytes : (slot : ℕ) → List ℕ
 waiting_bytes slot = 0x14 ∷ 4 ∷ 0 ∷ 0 ∷ 0x40 ∷ 4 ∷ 0 ∷ 0 ∷ 7 ∷ 0 ∷ 0 ∷ 0 ∷ slot ∷ 0 ∷ 0 ∷ 0 ∷ 0 ∷ 0 ∷ 0 ∷ 0 ∷ []
 
+-- The image of a stack of one call.
 abbrev pub OneCallImage : Type 0
 OneCallImage = StandsIn one_call save_all waiting (waiting_bytes 7)
 
@@ -63,6 +65,7 @@ counting_bytes any =
     ∷ 9 ∷ 0 ∷ 0 ∷ 0 ∷ 8 ∷ 0 ∷ 0 ∷ 0 ∷ any ∷ 0 ∷ 0 ∷ any ∷ 0 ∷ 0 ∷ 0 ∷ 0
     ∷ 7 ∷ 0 ∷ 0 ∷ 0 ∷ 6 ∷ 0 ∷ 0 ∷ 0 ∷ any ∷ 0 ∷ 0 ∷ any ∷ 1 ∷ 0 ∷ 0 ∷ 0 ∷ []
 
+-- Images of other stacks.
 pub record Images : Type 0 where
   pub of_wide_values : (any : ℕ) → StandsIn two_widths save_all dividing_at_call (dividing_bytes any)
   pub of_live_values : StandsIn two_widths save_live dividing_at_call dividing_live_bytes

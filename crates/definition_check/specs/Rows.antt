@@ -7,7 +7,8 @@ use Rattle.wa_types.specs.declared.operators.NumOp.TheVariants.{I32Add, I32Sub, 
 use Rattle.wa_types.specs.declared.syntax.Run.{Run}
 use Rattle.wa_types.specs.declared.syntax.Import.{Import}
 use Rattle.wa_types.specs.declared.syntax.ImportKind.TheVariants.{Func as a_func_import}
-use Rattle.wa_types.specs.Syntax.{drop, const, num, load, store, memory_grow, Plain, basic, local_get, local_set, local_tee, br_if, br_table, call, call_indirect, a_block, a_loop, Code, done, plain, nest, branch, FuncType, Func, Module}
+use Rattle.wa_types.specs.Syntax.{drop, const, num, load, store, memory_grow, Plain, basic, local_get, local_set, local_tee, br_if, br_table, call, call_indirect, a_block, a_loop, Code}
+use Rattle.wa_types.specs.Syntax.{done, plain, nest, branch, FuncType, Func, Module}
 use Rattle.wa_types.specs.Pausing.{save_all, save_live, every, Numbered}
 use Rattle.wa_types.specs.Frames.{Place, Saved, Suspended, Room, Fit, Count}
 use Rattle.wa_types.specs.Bounds.{Weight}
@@ -17,9 +18,11 @@ abbrev pub then : List Plain → Code → Code
 then [] rest = rest
 then (p ∷ ps) rest = plain p (then ps rest)
 
+-- an i32 constant
 abbrev pub i32 : ℕ → Plain
 i32 n = basic (const (value_32 n))
 
+-- the sum of two i32
 abbrev pub op32_add : Plain
 op32_add = basic (num I32Add)
 
@@ -27,9 +30,11 @@ op32_add = basic (num I32Add)
 abbrev pub number_to_number : FuncType
 number_to_number = record { params = I32 ∷ []; results = I32 ∷ [] }
 
+-- the import that pauses
 abbrev pub pauses : Import
 pauses = record { «module» = []; base = []; kind = a_func_import 0 }
 
+-- a module with that import and these functions
 abbrev pub of_funcs : List Func → Module
 of_funcs funcs = record {
   types = number_to_number ∷ [];
@@ -45,6 +50,7 @@ of_funcs funcs = record {
   customs = [];
 }
 
+-- so many locals of a type
 abbrev pub locals : ℕ → ValType → List Run
 locals n t = record { count = n; ty = t } ∷ []
 
@@ -64,6 +70,7 @@ summing = record {
       (then (local_get 1 ∷ []) done);
 }
 
+-- a module of that function
 abbrev pub sum_loop : Module
 sum_loop = of_funcs (summing ∷ [])
 
@@ -78,6 +85,7 @@ choosing = record {
       (then (call 0 ∷ []) done);
 }
 
+-- a module of that function
 abbrev pub two_labels : Module
 two_labels = of_funcs (choosing ∷ [])
 
@@ -98,6 +106,7 @@ dividing = record {
   body = then (i32 1 ∷ basic memory_grow ∷ basic drop ∷ basic (const (value_64 5000000000)) ∷ local_set 0 ∷ local_get 0 ∷ i32 2 ∷ call 0 ∷ basic (num I64ExtendI32U) ∷ basic (num I64DivU) ∷ []) done;
 }
 
+-- a module of that function
 abbrev pub two_widths : Module
 two_widths = record (of_funcs (dividing ∷ [])) {
   types = number_to_number ∷ record { params = []; results = I64 ∷ [] } ∷ [];
@@ -123,6 +132,7 @@ working = record {
   body = then (i32 16 ∷ call 1 ∷ local_tee 1 ∷ local_get 0 ∷ call 0 ∷ basic (store 0x36 2 0) ∷ local_get 1 ∷ basic (load 0x28 2 0) ∷ []) done;
 }
 
+-- a loop that calls through the table
 abbrev pub running : Func
 running = record {
   sort = 0;
@@ -132,9 +142,11 @@ running = record {
       (then (local_get 2 ∷ []) done);
 }
 
+-- a function that answers its parameter
 abbrev pub allocating : Func
 allocating = record { sort = 0; locals = []; body = then (local_get 0 ∷ []) done }
 
+-- a module of these
 abbrev pub through_table : Module
 through_table = record (of_funcs (allocating ∷ working ∷ running ∷ [])) {
   tables = record { min = 2; max = Some 2 } ∷ [];
@@ -162,6 +174,7 @@ going_back = record {
   body = nest a_loop None (then (local_get 1 ∷ basic drop ∷ local_get 0 ∷ call 0 ∷ local_tee 0 ∷ br_if 0 ∷ []) done) (then (local_get 0 ∷ []) done);
 }
 
+-- a module of that function
 abbrev pub back_edge : Module
 back_edge = of_funcs (going_back ∷ [])
 
@@ -185,6 +198,7 @@ pub record Rooms : Type 0 where
   pub through_table_live_takes : Room through_table save_live (standing 2 1 ∷ standing 3 0 ∷ []) ≡ 48
   pub back_edge_live_takes : Room back_edge save_live (standing 1 0 ∷ []) ≡ 20
 
+-- a saved local
 abbrev pub place_of : ℕ → ValType → Place
 place_of x t = record { local = x; ty = t }
 

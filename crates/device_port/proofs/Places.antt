@@ -1,5 +1,6 @@
 -- What stands at a place of a list, and the first device of a name.
-use Rattle.std.proofs.Common.{Result, Ok, Err, IsErrOf, OnErr, arith, ◌≡◌, ◌^◌, inl, inr, ℕ, suc, zero, ◌+◌, ◌<◌, Bool, true, false, cond, ◌&&◌, ◌||◌, nat_eq, List, [], ◌∷◌, ◌++◌, length, get_or, take, drop, set, map, slice_get, slice_set, Some, refl, sym, ap, ◌∙◌}
+use Rattle.std.proofs.Common.{Result, Ok, Err, IsErrOf, OnErr, arith, ◌≡◌, ◌^◌, inl, inr, ℕ, suc, zero, ◌+◌, ◌<◌, Bool, true, false, cond, ◌&&◌, ◌||◌, nat_eq, List, [], ◌∷◌, ◌++◌, length}
+use Rattle.std.proofs.Common.{get_or, take, drop, set, map, slice_get, slice_set, Some, refl, sym, ap, ◌∙◌}
 use Rattle.std.specs.List.{list_any, remove}
 use Rattle.std.specs.Option.{option_map}
 use Rattle.std.specs.Str.{bytes_eq}
@@ -42,7 +43,8 @@ module _ {X Y : Type 0} (f : X → Y) where
   any-map p (x ∷ xs) = ap (λ b. p (f x) || b) (any-map p xs)
 
   -- one more that fails the test
-  pub none_more : (p : Y → Bool) (xs : List X) (i : ℕ) (x : X) → i < length xs → x ≡ get_or xs i x → p (f x) ≡ false → list_any p (map f (take i xs)) ≡ false → list_any p (map f (take (i + 1) xs)) ≡ false
+  pub none_more : (p : Y → Bool) (xs : List X) (i : ℕ) (x : X) → i < length xs → x ≡ get_or xs i x → p (f x) ≡ false → list_any p (map f (take i xs)) ≡ false
+      → list_any p (map f (take (i + 1) xs)) ≡ false
   none_more p xs i x within is fails none =
       any-map p (take (i + 1) xs)
       ∙ list_any_more (λ y. p (f y)) xs i x within
@@ -89,11 +91,13 @@ some_is x y e = cc
 -- ---- the first of a name
 
 module _ (name : List ℕ) where
-  pub found : {X : Type 0} (f : X → Device) (xs : List X) (i : ℕ) (x : X) → i < length xs → x ≡ get_or xs i x → is_named name (f x) ≡ true → list_any (is_named name) (map f (take i xs)) ≡ false → IsFirstOf (map f xs) name i
+  pub found : {X : Type 0} (f : X → Device) (xs : List X) (i : ℕ) (x : X) → i < length xs → x ≡ get_or xs i x → is_named name (f x) ≡ true
+      → list_any (is_named name) (map f (take i xs)) ≡ false → IsFirstOf (map f xs) name i
   found f xs i x within is named none =
       record { device = f x; there = there f xs i x within is; named = named; first = ap (list_any (is_named name)) (take-map f i xs) ∙ none }
 
-  pub journaled_first : (call : Asked) (ds : List Device) (i : ℕ) (d e : Device) → slice_get ds i ≡ Some d → is_named name d ≡ true → list_any (is_named name) (take i ds) ≡ false → e ≡ with_entry call d → slice_set ds i e ≡ journaled name call ds
+  pub journaled_first : (call : Asked) (ds : List Device) (i : ℕ) (d e : Device) → slice_get ds i ≡ Some d → is_named name d ≡ true → list_any (is_named name) (take i ds) ≡ false
+      → e ≡ with_entry call d → slice_set ds i e ≡ journaled name call ds
   journaled_first call [] i d e is named none so = refl
   journaled_first call (x ∷ ds) zero d e is named none so =
       let same : x ≡ d = some_is x d is in
@@ -124,11 +128,13 @@ module _ (name : List ℕ) where
 pub is_there : (name : List ℕ) (ds : List Device) (i : ℕ) → IsFirstOf ds name i → list_any (is_named name) ds ≡ true
 is_there name ds i first = any_passes_from_place (is_named name) ds i first.device first.there first.named
 
-pub meets_reply : (import : ℕ) (base name : List ℕ) (args : List Value) (reply : Reply) (ds ds' : List Device) (i : ℕ) → IsFirstOf ds name i → ValueFits reply.value → reply.ticks < 2 ^ 32 → ds' ≡ journaled name (entry base args reply) ds → MeetsDevice import base name args ds (replied reply) ds'
+pub meets_reply : (import : ℕ) (base name : List ℕ) (args : List Value) (reply : Reply) (ds ds' : List Device) (i : ℕ) → IsFirstOf ds name i → ValueFits reply.value → reply.ticks < 2 ^ 32
+    → ds' ≡ journaled name (entry base args reply) ds → MeetsDevice import base name args ds (replied reply) ds'
 meets_reply import base name args reply ds ds' i first fits small is =
     rw (is_there name ds i first) (inl (record { value = reply.value; ticks = reply.ticks }, fits, small, refl, is))
 
-pub meets_fault : (import : ℕ) (base name : List ℕ) (args : List Value) (ds ds' : List Device) (i : ℕ) → IsFirstOf ds name i → ds' ≡ ds → MeetsDevice import base name args ds (refused (DeviceFault import)) ds'
+pub meets_fault : (import : ℕ) (base name : List ℕ) (args : List Value) (ds ds' : List Device) (i : ℕ) → IsFirstOf ds name i → ds' ≡ ds
+    → MeetsDevice import base name args ds (refused (DeviceFault import)) ds'
 meets_fault import base name args ds ds' i first is = rw (is_there name ds i first) (inr (refl, is))
 
 pub meets_none : (import : ℕ) (base name : List ℕ) (args : List Value) (ds : List Device) → list_any (is_named name) ds ≡ false → MeetsDevice import base name args ds (refused (NoDevice import)) ds

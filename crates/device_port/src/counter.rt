@@ -1,3 +1,5 @@
+//! `Counter`: a device in memory whose answers count up from 0.
+
 ghost use Rattle.std.specs.Prelude.{◌≡◌, ◌≢◌, [], map, IfOk, OnErr};
 ghost use Rattle.device_port.specs.Journals.{entry, with_entry};
 ghost use Rattle.device_port.specs.Answers.{counted};

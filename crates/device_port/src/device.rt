@@ -1,3 +1,5 @@
+//! The trait `Device`: what answers imports, with its replies and failures.
+
 ghost use Rattle.std.specs.Prelude.{◌≡◌, ◌≤◌, ℕ, IfOk, OnErr, IsErrOf};
 ghost use Rattle.vault_port.specs.Counts.{HasRisen};
 ghost use Rattle.device_port.specs.declared.device.DeviceFail.TheVariants.{Memory};

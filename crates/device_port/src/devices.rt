@@ -1,3 +1,5 @@
+//! A lent list of boxed devices: found by name, asked, taken out.
+
 ghost use Rattle.std.specs.Prelude.{◌≡◌, ◌≤◌, ◌<◌, ◌^◌, ℕ, List, length, map, false, IfOk, OnErr, IsErrOf, MatchOption};
 ghost use Rattle.std.specs.List.{list_any, remove};
 ghost use Rattle.wa_model.specs.declared.events.End.TheVariants.{DeviceFault};

@@ -1,3 +1,5 @@
+//! `Echo`: a device in memory that answers its first argument.
+
 ghost use Rattle.std.specs.Prelude.{◌≡◌, ◌≢◌, [], map, option_map, IfOk, OnErr};
 ghost use Rattle.device_port.specs.Journals.{entry, with_entry};
 ghost use Rattle.device_port.specs.Answers.{ticks_named, echoed};

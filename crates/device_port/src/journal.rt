@@ -1,3 +1,5 @@
+//! Journals of devices: the calls that were answered, in order.
+
 ghost use Rattle.std.specs.Prelude.{◌≡◌, [], ◌∷◌, ◌++◌, map, length, OnOk, OnErr};
 ghost use Rattle.device_port.specs.Journals.{entry};
 

@@ -4,7 +4,8 @@ use Rattle.std.specs.List.{flat_map}
 use Rattle.wa_types.specs.declared.syntax.Limits.{Limits}
 use Rattle.wa_types.specs.Leb.{shortest}
 use Rattle.wa_types.specs.Syntax.{Func, Custom, Module}
-use Rattle.wa_types.specs.Encoding.{Enc, sections, with_customs, customs_behind, section, start_section, func_type_bytes, import_bytes, table_bytes, limits_bytes, global_bytes, export_bytes, elem_bytes, segment_bytes, sized, body_bytes, code_bytes, preamble}
+use Rattle.wa_types.specs.Encoding.{Enc, sections, with_customs, customs_behind, section, start_section, func_type_bytes, import_bytes, table_bytes, limits_bytes, global_bytes, export_bytes}
+use Rattle.wa_types.specs.Encoding.{elem_bytes, segment_bytes, sized, body_bytes, code_bytes, preamble}
 use Rattle.wa_types.specs.Base.{added_memories}
 use Rattle.wa_types.specs.Modules.{all_memories}
 use Rattle.wa_types.specs.Runtime.{with_runtime, runtime_types, runtime_globals, runtime_funcs, runtime_exports, runtime_func, func_space, global_space, start_code, stop_code, state_code, test_code}
@@ -25,7 +26,17 @@ sorts_bytes : (first state address : ℕ) → length (flat_map (λ (f : Func). s
 sorts_bytes first state address = simp length-append (omega (arith, shortest_length first, shortest_length (first + 1), shortest_length (first + 2)))
 
 exports_bytes : (first : ℕ) → length (flat_map export_bytes (runtime_exports first)) ≤ 300
-exports_bytes first = simp length-append (omega (arith, shortest_length first, shortest_length (first + 1), shortest_length (first + 2), shortest_length (first + 3), shortest_length (first + 4), shortest_length 20, shortest_length 21, shortest_length 18))
+exports_bytes first = simp length-append (omega (
+  arith,
+  shortest_length first,
+  shortest_length (first + 1),
+  shortest_length (first + 2),
+  shortest_length (first + 3),
+  shortest_length (first + 4),
+  shortest_length 20,
+  shortest_length 21,
+  shortest_length 18,
+))
 
 test_bytes : (address : ℕ) → length (code_bytes (test_code address)) ≤ 100
 unfolding code_bytes
@@ -35,14 +46,16 @@ start_bytes : (sort number state address : ℕ) → length (sized (body_bytes (r
 unfolding code_bytes
 start_bytes sort number state address =
     let most = sized_length (body_bytes (runtime_func sort (start_code number state address))) in
-    let body : length (body_bytes (runtime_func sort (start_code number state address))) ≤ 190 = simp length-append (omega (arith, shortest_signed_length 32 number, shortest_length state, shortest_length address, shortest_length 0, shortest_length 2, shortest_length 4)) in
+    let body : length (body_bytes (runtime_func sort (start_code number state address))) ≤ 190 =
+    simp length-append (omega (arith, shortest_signed_length 32 number, shortest_length state, shortest_length address, shortest_length 0, shortest_length 2, shortest_length 4)) in
     omega (arith, most, body)
 
 stop_bytes : (sort state address : ℕ) → length (sized (body_bytes (runtime_func sort (stop_code state address)))) ≤ 200
 unfolding code_bytes
 stop_bytes sort state address =
     let most = sized_length (body_bytes (runtime_func sort (stop_code state address))) in
-    let body : length (body_bytes (runtime_func sort (stop_code state address))) ≤ 190 = simp length-append (omega (arith, shortest_signed_length 32 0, shortest_length state, shortest_length address, shortest_length 0, shortest_length 2, shortest_length 4)) in
+    let body : length (body_bytes (runtime_func sort (stop_code state address))) ≤ 190 =
+    simp length-append (omega (arith, shortest_signed_length 32 0, shortest_length state, shortest_length address, shortest_length 0, shortest_length 2, shortest_length 4)) in
     omega (arith, most, body)
 
 state_bytes : (sort state : ℕ) → length (sized (body_bytes (runtime_func sort (state_code state)))) ≤ 200

@@ -16,7 +16,8 @@ use Rattle.wa_types.specs.Modules.{defined_at, func_imports, locals_of}
 use Rattle.wa_types.specs.Pausing.{Numbered, Settings, is_told}
 use Rattle.wa_types.specs.Pruned.{pruned}
 use Rattle.wa_types.specs.Sizes.{label_count, FuncSizes, StrictSizeRule}
-use Rattle.wa_types.specs.Syntax.{Basic, nop, drop, select, const, num, global_get, global_set, load, store, memory_size, memory_grow, basic, local_get, local_set, local_tee, br, br_if, br_table, return, unreachable, call, call_indirect, Plain, Code, done, plain, nest, branch, Func, Module}
+use Rattle.wa_types.specs.Syntax.{Basic, nop, drop, select, const, num, global_get, global_set, load, store, memory_size, memory_grow, basic, local_get, local_set, local_tee, br, br_if}
+use Rattle.wa_types.specs.Syntax.{br_table, return, unreachable, call, call_indirect, Plain, Code, done, plain, nest, branch, Func, Module}
 use Rattle.wa_types.proofs.SizeBounds.{weight_fits}
 use Rattle.wa_model.specs.FlatFits.{one_run}
 use Rattle.wa_model.specs.Rewrites.{instructions_and_labels}
@@ -106,7 +107,8 @@ merged_length : (rs : List Run) → length (merged rs) ≤ length rs
 merged_length [] = omega arith
 merged_length (r ∷ rest) = by (r.count == 0) (merged_length rest) (onto_length r (merged rest))
   where
-    by : (b : Bool) → length (merged rest) ≤ length rest → length (run_onto r (merged rest)) ≤ 1 + length (merged rest) → length (if b then merged rest else run_onto r (merged rest)) ≤ length (r ∷ rest)
+    by : (b : Bool) → length (merged rest) ≤ length rest → length (run_onto r (merged rest)) ≤ 1 + length (merged rest)
+        → length (if b then merged rest else run_onto r (merged rest)) ≤ length (r ∷ rest)
     by true h k = omega (arith, h)
     by false h k = omega (arith, h, k)
 
@@ -216,9 +218,18 @@ module _ (m : Module) (s : Settings) (which : List Bool) (codes : (index : ℕ) 
     entries_few y [] h = omega arith
     entries_few y (f ∷ fs) h =
         let z : y + 0 ≡ y = omega arith in
-        let first : length (entry (func_by m s which codes y f)) ≤ length (entry f) + most + 25 * more f = subst (λ j. length (entry (func_by m s which codes j f)) ≤ length (entry f) + most + 25 * more f) z (h 0 f refl) in
-        let ih = entries_few (suc y) fs (λ i g e. let k : y + suc i ≡ suc y + i = omega arith in subst (λ j. length (entry (func_by m s which codes j g)) ≤ length (entry g) + most + 25 * more g) k (h (suc i) g e)) in
-        omega (arith, first, ih, sum_by-cons more f fs, length-append (entry (func_by m s which codes y f)) (flat_map entry (funcs_by m s which codes (suc y) fs)), length-append (entry f) (flat_map entry fs))
+        let first : length (entry (func_by m s which codes y f)) ≤ length (entry f) + most
+        + 25 * more f = subst (λ j. length (entry (func_by m s which codes j f)) ≤ length (entry f) + most + 25 * more f) z (h 0 f refl) in
+        let ih = entries_few (suc y) fs (λ i g e. let k : y + suc i ≡ suc y + i = omega arith
+        in subst (λ j. length (entry (func_by m s which codes j g)) ≤ length (entry g) + most + 25 * more g) k (h (suc i) g e)) in
+        omega (
+          arith,
+          first,
+          ih,
+          sum_by-cons more f fs,
+          length-append (entry (func_by m s which codes y f)) (flat_map entry (funcs_by m s which codes (suc y) fs)),
+          length-append (entry f) (flat_map entry fs),
+        )
 
     inner_length : length m.funcs ≤ 100000 → length (Enc (inner m s which codes)) ≤ length (Enc m) + 2 ^ 60 + 25 * sum_by more m.funcs
     inner_length n =

@@ -1,5 +1,6 @@
 -- How long what is written is.
-use Rattle.std.proofs.Common.{ℕ, zero, suc, ◌+◌, ◌-◌, ◌*◌, ◌/◌, ◌%◌, ◌≤◌, ◌^◌, min, List, [], ◌∷◌, ◌++◌, Bool, true, false, cond, ap, sym, subst, length, length-append, arith, nat_lt, nat_le, inl, inr}
+use Rattle.std.proofs.Common.{ℕ, zero, suc, ◌+◌, ◌-◌, ◌*◌, ◌/◌, ◌%◌, ◌≤◌, ◌^◌, min, List, [], ◌∷◌, ◌++◌, Bool, true, false, cond, ap, sym, subst, length, length-append, arith, nat_lt}
+use Rattle.std.proofs.Common.{nat_le, inl, inr}
 use Rattle.std.specs.List.{All, flat_map}
 use Rattle.std.proofs.lemmas.Bool.{cases_lt}
 use Rattle.std.proofs.lemmas.List.Concat.{flat_map-append}
@@ -45,7 +46,13 @@ pub section_grows : {X : Type 0} → (id : ℕ) (entry : X → List ℕ) (xs ys 
 section_grows id entry [] [] = omega arith
 section_grows id entry [] (y ∷ ys) =
     let content : List ℕ = vector entry (y ∷ ys) in
-    omega (arith, length-append (shortest (length content)) content, length-append (shortest (length (y ∷ ys))) (flat_map entry (y ∷ ys)), shortest_length (length content), shortest_length (length (y ∷ ys)))
+    omega (
+      arith,
+      length-append (shortest (length content)) content,
+      length-append (shortest (length (y ∷ ys))) (flat_map entry (y ∷ ys)),
+      shortest_length (length content),
+      shortest_length (length (y ∷ ys)),
+    )
 section_grows id entry (x ∷ xs) ys =
     let old : List ℕ = vector entry (x ∷ xs) in
     let new : List ℕ = vector entry (x ∷ xs ++ ys) in

@@ -47,7 +47,8 @@ module _ (c : Around) (few : AroundFew c) (ls : List (Option ValType)) (shallow 
       let k = ltb-true l (length ls) p.0 in
       All-cons (λ l. l < 2 ^ 32) l labels (omega (arith, k, shallow)) (labels_there labels p.1)
 
-  table_there : (labels : List ℕ) (l : ℕ) (o : Option (Option ValType)) → slice_get ls l ≡ o → (ins outs : List ValType) → Takes (jumps ls labels o) ins outs → All (λ l. l < 2 ^ 32) labels × (l < 2 ^ 32)
+  table_there : (labels : List ℕ) (l : ℕ) (o : Option (Option ValType)) → slice_get ls l ≡ o → (ins outs : List ValType) → Takes (jumps ls labels o) ins outs
+      → All (λ l. l < 2 ^ 32) labels × (l < 2 ^ 32)
   table_there labels l None e ins outs h = absurd h
   table_there labels l (Some r) e ins outs h = by (all_there ls labels) refl h
     where
@@ -79,7 +80,8 @@ module _ (c : Around) (few : AroundFew c) (ls : List (Option ValType)) (shallow 
   plain_fits (call_indirect x) ins outs h k = sort_there x c.table (slice_get c.types x) refl ins outs h
 
 -- code that isn't too deep under these labels
-pub typed_fits : (c : Around) → AroundFew c → (ls : List (Option ValType)) (code : Code) (outs ins : List ValType) → Types c ls code outs ins → BasicsFit code → length ls + depth_of code ≤ 2 ^ 32 → CodeFits code
+pub typed_fits : (c : Around) → AroundFew c → (ls : List (Option ValType)) (code : Code) (outs ins : List ValType) → Types c ls code outs ins → BasicsFit code
+    → length ls + depth_of code ≤ 2 ^ 32 → CodeFits code
 unfolding Types depth_of
 typed_fits c few ls done outs ins h b d = tt
 typed_fits c few ls (plain p rest) outs ins h b d =

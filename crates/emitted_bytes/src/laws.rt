@@ -1,4 +1,5 @@
-// The laws, each the contract of a function that does nothing.
+//! Laws of what is written of an emitted module. Each is the contract of a function that does nothing.
+
 ghost use Rattle.emitted_bytes.specs.Written.{EmittedHasFewLocals, EmittedIsShort, EmittedIsSpelled, EmittedIsWellFormed};
 
 /// The emitted module of a valid one within the bounds of a source has few locals and not too many bytes.

@@ -10,13 +10,15 @@ use Rattle.event_order.specs.Left.{Counted, without, without_if, left_before}
 
 -- ---- one detach more
 
-pub detached_more : (number : ℕ) (xs : List Detach) (i : ℕ) (x : Detach) (ds new all : List Device) → i < length xs → x ≡ get_or xs i x → new ≡ detached_if (nat_eq x.before number) x.device ds → detached number (drop i xs) ds ≡ all → detached number (drop (i + 1) xs) new ≡ all
+pub detached_more : (number : ℕ) (xs : List Detach) (i : ℕ) (x : Detach) (ds new all : List Device) → i < length xs → x ≡ get_or xs i x
+    → new ≡ detached_if (nat_eq x.before number) x.device ds → detached number (drop i xs) ds ≡ all → detached number (drop (i + 1) xs) new ≡ all
 detached_more number xs i x ds new all within is out before =
     ap (detached number (drop (i + 1) xs)) (out ∙ ap (λ (y : Detach). detached_if (nat_eq y.before number) y.device ds) is)
     ∙ ap (λ l. detached number l ds) (sym (drop_more xs i x within))
     ∙ before
 
-pub left_more : (number : ℕ) (xs : List Detach) (i : ℕ) (x : Detach) (cs new all : List Counted) → i < length xs → x ≡ get_or xs i x → new ≡ without_if (nat_eq x.before number) x.device cs → left_before number (drop i xs) cs ≡ all → left_before number (drop (i + 1) xs) new ≡ all
+pub left_more : (number : ℕ) (xs : List Detach) (i : ℕ) (x : Detach) (cs new all : List Counted) → i < length xs → x ≡ get_or xs i x → new ≡ without_if (nat_eq x.before number) x.device cs
+    → left_before number (drop i xs) cs ≡ all → left_before number (drop (i + 1) xs) new ≡ all
 left_more number xs i x cs new all within is out before =
     ap (left_before number (drop (i + 1) xs)) (out ∙ ap (λ (y : Detach). without_if (nat_eq y.before number) y.device cs) is)
     ∙ ap (λ l. left_before number l cs) (sym (drop_more xs i x within))
@@ -38,7 +40,8 @@ module _ (name : List ℕ) where
         ap (λ l. f x ∷ l) (without_none xs (or_right (is_named name (f x).device) _ none))
         ∙ sym (pick_false (is_named name (f x).device) _ _ (or_left (is_named name (f x).device) _ none))
 
-    without_at : (xs : List X) (i : ℕ) (d : Device) → slice_get (map (λ x. (f x).device) xs) i ≡ Some d → is_named name d ≡ true → list_any (is_named name) (take i (map (λ x. (f x).device) xs)) ≡ false → remove (map f xs) i ≡ without name (map f xs)
+    without_at : (xs : List X) (i : ℕ) (d : Device) → slice_get (map (λ x. (f x).device) xs) i ≡ Some d → is_named name d ≡ true
+        → list_any (is_named name) (take i (map (λ x. (f x).device) xs)) ≡ false → remove (map f xs) i ≡ without name (map f xs)
     without_at [] i d is named none = absurd cc
     without_at (x ∷ xs) zero d is named none =
         sym (pick_true (is_named name (f x).device) _ _ (ap (is_named name) (some_is (f x).device d is) ∙ named))

@@ -14,7 +14,8 @@ told false x is = absurd cc
 found : (program : ℕ) (s : Show) (shows : List Show) → look_at program s ≡ Some (look_of s) → looks_of program (s ∷ shows) ≡ look_of s ∷ looks_of program shows
 found program s shows is = rw is refl
 
-pub next_here : (program : ℕ) (shows : List Show) (from i : ℕ) (d : Show) → i < length shows → from ≤ i → (get_or shows i d).program ≡ program → looks_of program (drop i shows) ≡ looks_of program (drop from shows) → IsNextShow program shows from i
+pub next_here : (program : ℕ) (shows : List Show) (from i : ℕ) (d : Show) → i < length shows → from ≤ i → (get_or shows i d).program ≡ program
+    → looks_of program (drop i shows) ≡ looks_of program (drop from shows) → IsNextShow program shows from i
 next_here program shows from i d within behind same before =
     let s = get_or shows i d in
     let test : nat_eq s.program program ≡ true = grind (arith, nat_tests) in

@@ -17,5 +17,6 @@ abbrev pub unless_ended : (due : ℕ) → List Note → Option ℕ
 unless_ended due [] = None
 unless_ended due (x ∷ xs) = Some due
 
+-- the same of an actor
 abbrev pub due_of : Actor → Option ℕ
 due_of a = unless_ended a.due a.notes

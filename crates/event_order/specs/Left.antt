@@ -13,6 +13,7 @@ abbrev pub without : List ℕ → List Counted → List Counted
 without name [] = []
 without name (x ∷ xs) = if is_named name x.device then xs else x ∷ without name xs
 
+-- the devices without the first of a name, where told
 abbrev pub without_if : Bool → List ℕ → List Counted → List Counted
 without_if true name xs = without name xs
 without_if false name xs = xs

@@ -8,6 +8,7 @@ use Rattle.event_order.specs.declared.shows.Show.{Show}
 abbrev pub look_of : Show → Look
 look_of s = record { at = s.at; len = s.len }
 
+-- the same where it is of this program
 abbrev pub look_at : (program : ℕ) → Show → Option Look
 look_at program s = if nat_eq s.program program then Some (look_of s) else None
 

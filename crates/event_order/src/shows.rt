@@ -1,3 +1,5 @@
+//! The parts of a program's memory that are shown after its end, and their events.
+
 ghost use Rattle.std.specs.Prelude.{◌≡◌, [], drop, option_map, IfOk, MatchOption};
 ghost use Rattle.wa_model.specs.Outside.{shown};
 ghost use Rattle.wa_model.specs.View.{event_of};

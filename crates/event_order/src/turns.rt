@@ -1,3 +1,5 @@
+//! The next program: the unfinished one that is due first.
+
 ghost use Rattle.std.specs.Prelude.{◌≡◌, ℕ, List, [], ◌∷◌, ◌++◌, Option, length};
 ghost use Rattle.event_order.specs.Turns.{IsTurn};
 

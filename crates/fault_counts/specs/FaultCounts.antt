@@ -14,10 +14,12 @@ use Rattle.world_hosting.specs.Worlds.{AreTold, Part, world_programs}
 
 -- ---- the device that a line tells of
 
+-- the device to which an import of a program that is there is bound
 abbrev pub bound_in : Option Program → (import : ℕ) → Option (List ℕ)
 bound_in None import = None
 bound_in (Some w) import = bound_to w import
 
+-- the device that has failed, where the end tells that one has
 abbrev pub failed_as : Option Program → End → Option (List ℕ)
 failed_as w (DeviceFault import) = bound_in w import
 failed_as w _ = None
@@ -27,6 +29,7 @@ abbrev pub failed_in : Option Program → Event → Option (List ℕ)
 failed_in w (ended how) = failed_as w how
 failed_in w _ = None
 
+-- the same of a line
 abbrev pub failed_by : List Program → Line → Option (List ℕ)
 failed_by programs l = failed_in (slice_get programs l.program) l.event
 
@@ -37,6 +40,7 @@ abbrev pub one_more : List ℕ → List Counted → List Counted
 one_more name [] = []
 one_more name (c ∷ cs) = if is_named name c.device then record { device = c.device; faults = suc c.faults } ∷ cs else c ∷ one_more name cs
 
+-- the same where a name is told
 abbrev pub one_more_if : Option (List ℕ) → List Counted → List Counted
 one_more_if None cs = cs
 one_more_if (Some name) cs = one_more name cs

@@ -1,11 +1,12 @@
 -- Goals of code.
-use Rattle.std.proofs.Common.{◌≡◌, ℕ, suc, zero, ◌+◌, ◌<◌, ◌≤◌, ◌⊎◌, List, [], ◌∷◌, ◌++◌, Option, Some, None, refl, ap, sym, ◌∙◌, subst, arith, append_assoc, length, length-append, Bool, true, false, inl, inr, cond, nat_eq, nat_le, eqb-true, IsTrue}
+use Rattle.std.proofs.Common.{◌≡◌, ℕ, suc, zero, ◌+◌, ◌<◌, ◌≤◌, ◌⊎◌, List, [], ◌∷◌, ◌++◌, Option, Some, None, refl, ap, sym, ◌∙◌, subst, arith, append_assoc, length, length-append, Bool}
+use Rattle.std.proofs.Common.{true, false, inl, inr, cond, nat_eq, nat_le, eqb-true, IsTrue}
 use Rattle.wa_types.specs.Opcodes.{Follows, no_operand, a_zero, an_index, an_index_and_zero, an_access, some_labels, a_constant, a_float, follows, shape, within, is_nest}
 use Rattle.wa_types.specs.Binary.{Placed, Operands, nothing, zero_byte, index, index_and_zero, access, labels, constant, float, RawCode, ended, otherwise, instr, nested, branched}
 use Rattle.wa_types.specs.Begun.{Goal, code, exact, number, count, block_type, entries, some_indices, next, where_true, operands, operands_of, behind_opcode, an_unsigned}
 use Rattle.wa_types.specs.Spells.{◌▸◌, Exactly, Number, SignedNumber, Vector, Byte, BlockType, OperandsOf, CodeOf}
 use Rattle.file_laws.proofs.Runs.{some_same, not_none}
-use Rattle.file_laws.proofs.Going.{Any, Reads, reads_none, reads_then, reads_as, Begins, reads_first, Goes, takes_one, gives_one, to_right, on_right}
+use Rattle.file_laws.proofs.GoalReads.{Any, Reads, reads_none, reads_then, reads_as, Begins, reads_first, Goes, takes_one, gives_one, to_right, on_right}
 use Rattle.file_laws.proofs.Leaves.{reads_number, reads_signed, reads_exact, reads_float, reads_block_type, tested, alone, with_nothing}
 use Rattle.file_laws.proofs.Vectors.{reads_count}
 
@@ -132,18 +133,21 @@ opcode first_arm op new e =
     elim (by_test (nat_eq op 0x0B)) [
       | inl a ↦ is_end (eqb-true op 0x0B a) (some_same new [] _ (let p : Some [] ≡ Some new = rw a at e in p) refl)
       | inr a ↦
-          let e1 : cond (nat_eq op 0x05) (where_true first_arm (code false ∷ [])) (cond (is_nest op) (Some (block_type ∷ code false ∷ code first_arm ∷ [])) (cond (nat_eq op 0x04) (Some (block_type ∷ code true ∷ code first_arm ∷ [])) (operands_of (follows op) (code first_arm ∷ [])))) ≡ Some new = rw a at e in
+          let e1 : cond (nat_eq op 0x05) (where_true first_arm (code false ∷ [])) (cond (is_nest op) (Some (block_type ∷ code false ∷ code first_arm ∷ []))
+          (cond (nat_eq op 0x04) (Some (block_type ∷ code true ∷ code first_arm ∷ [])) (operands_of (follows op) (code first_arm ∷ [])))) ≡ Some new = rw a at e in
           elim (by_test (nat_eq op 0x05)) [
             | inl b ↦ let w = where_some first_arm (code false ∷ []) new (let p : where_true first_arm (code false ∷ []) ≡ Some new = rw b at e1 in p) in is_else (eqb-true op 0x05 b) w.0 w.1
             | inr b ↦
-                let e2 : cond (is_nest op) (Some (block_type ∷ code false ∷ code first_arm ∷ [])) (cond (nat_eq op 0x04) (Some (block_type ∷ code true ∷ code first_arm ∷ [])) (operands_of (follows op) (code first_arm ∷ []))) ≡ Some new = rw b at e1 in
+                let e2 : cond (is_nest op) (Some (block_type ∷ code false ∷ code first_arm ∷ []))
+                (cond (nat_eq op 0x04) (Some (block_type ∷ code true ∷ code first_arm ∷ [])) (operands_of (follows op) (code first_arm ∷ []))) ≡ Some new = rw b at e1 in
                 elim (by_test (is_nest op)) [
                   | inl c ↦ is_nested c (some_same new _ _ (let p : Some (block_type ∷ code false ∷ code first_arm ∷ []) ≡ Some new = rw c at e2 in p) refl)
                   | inr c ↦
                       let e3 : cond (nat_eq op 0x04) (Some (block_type ∷ code true ∷ code first_arm ∷ [])) (operands_of (follows op) (code first_arm ∷ [])) ≡ Some new = rw c at e2 in
                       elim (by_test (nat_eq op 0x04)) [
                         | inl d ↦ is_if (eqb-true op 0x04 d) (some_same new _ _ (let p : Some (block_type ∷ code true ∷ code first_arm ∷ []) ≡ Some new = rw d at e3 in p) refl)
-                        | inr d ↦ let o = operands_some (follows op) (code first_arm ∷ []) new (let p : operands_of (follows op) (code first_arm ∷ []) ≡ Some new = rw d at e3 in p) in is_instr o.0 o.1 o.2
+                        | inr d ↦ let o = operands_some (follows op) (code first_arm ∷ []) new (let p : operands_of (follows op) (code first_arm ∷ []) ≡ Some new = rw d at e3 in p)
+                            in is_instr o.0 o.1 o.2
                       ]
                 ]
           ]
@@ -174,7 +178,8 @@ take_op first_arm more last at bytes h =
       goes = subst (λ z. Goes (f.new ++ more) last (at + length z) f.back) f.is_item f.goes;
     }
 
-give_op : (first_arm : Bool) (more : List Goal) (last at : ℕ) (bytes : List ℕ) (op : Placed) (new : List Goal) → behind_opcode first_arm op.byte ≡ Some new → (Byte op ▸ Goes (new ++ more) last) at bytes → Goes (code first_arm ∷ more) last at bytes
+give_op : (first_arm : Bool) (more : List Goal) (last at : ℕ) (bytes : List ℕ) (op : Placed) (new : List Goal) → behind_opcode first_arm op.byte ≡ Some new
+    → (Byte op ▸ Goes (new ++ more) last) at bytes → Goes (code first_arm ∷ more) last at bytes
 give_op first_arm more last at bytes op new e h =
     gives_one (code first_arm) more last at bytes refl (record {
       front = h.0;
@@ -190,7 +195,8 @@ give_op first_arm more last at bytes op new e h =
 abbrev Shorter : ℕ → Type 0
 Shorter n = (first_arm : Bool) (more : List Goal) (last at : ℕ) (bytes : List ℕ) → length bytes ≤ n → Goes (code first_arm ∷ more) last at bytes → (Any (CodeOf first_arm) ▸ Goes more last) at bytes
 
-by_opcode : (n : ℕ) (first_arm : Bool) (more : List Goal) (last at op : ℕ) (new : List Goal) (b : List ℕ) → Shorter n → length b ≤ n → Opcode first_arm op new → Goes (new ++ more) last (at + 1) b → (Any (CodeOf first_arm) ▸ Goes more last) at (op ∷ b)
+by_opcode : (n : ℕ) (first_arm : Bool) (more : List Goal) (last at op : ℕ) (new : List Goal) (b : List ℕ) → Shorter n → length b ≤ n → Opcode first_arm op new
+    → Goes (new ++ more) last (at + 1) b → (Any (CodeOf first_arm) ▸ Goes more last) at (op ∷ b)
 by_opcode n first_arm more last at op new b less short (is_end e f) g =
     (op ∷ [], b, refl, (ended at, (refl, ap (λ z. z ∷ []) e)), subst (λ z. Goes (z ++ more) last (at + 1) b) f g)
 by_opcode n first_arm more last at op new b less short (is_else e t f) g =
@@ -257,7 +263,8 @@ nest_range zero h = let e : false ≡ true = h in absurd (cc)
 nest_range (suc zero) h = let e : false ≡ true = h in absurd (cc)
 nest_range (suc (suc zero)) h = inl refl
 nest_range (suc (suc (suc zero))) h = inr refl
-nest_range (suc (suc (suc (suc n)))) h = absurd (let e : nat_le (suc (suc (suc (suc n)))) 3 ≡ false = grind (arith) in let f : nat_le 2 (suc (suc (suc (suc n)))) ≡ true = grind (arith) in let p : false ≡ true = sym (rw (f, e) refl) ∙ h in cc)
+nest_range (suc (suc (suc (suc n)))) h = absurd (let e : nat_le (suc (suc (suc (suc n)))) 3 ≡ false = grind (arith) in let f : nat_le 2 (suc (suc (suc (suc n))))
+    ≡ true = grind (arith) in let p : false ≡ true = sym (rw (f, e) refl) ∙ h in cc)
 
 nest_next : (first_arm : Bool) (op : ℕ) → IsTrue (is_nest op) → behind_opcode first_arm op ≡ Some (block_type ∷ code false ∷ code first_arm ∷ [])
 nest_next first_arm op h = elim (nest_range op h) [

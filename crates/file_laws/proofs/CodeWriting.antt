@@ -1,5 +1,6 @@
 -- The bytes that code is written as spell it.
-use Rattle.std.proofs.Common.{◌≡◌, ℕ, suc, ◌+◌, ◌<◌, ◌≤◌, ◌^◌, ◌⊎◌, List, [], ◌∷◌, ◌++◌, Option, Some, None, Bool, true, false, refl, ap, sym, ◌∙◌, subst, arith, append_assoc, length, length-append, IsTrue, nat_eq, nat_lt, nat_le, ◌%◌, ◌/◌, cond, inl, inr, All, flat_map, ◌&&◌, ◌||◌}
+use Rattle.std.proofs.Common.{◌≡◌, ℕ, suc, ◌+◌, ◌<◌, ◌≤◌, ◌^◌, ◌⊎◌, List, [], ◌∷◌, ◌++◌, Option, Some, None, Bool, true, false, refl, ap, sym, ◌∙◌, subst, arith, append_assoc, length}
+use Rattle.std.proofs.Common.{length-append, IsTrue, nat_eq, nat_lt, nat_le, ◌%◌, ◌/◌, cond, inl, inr, All, flat_map, ◌&&◌, ◌||◌}
 use Rattle.std.proofs.lemmas.List.Elements.{All-head, All-tail}
 use Rattle.std.proofs.lemmas.Bool.{leb-true, le-leb, lt-leb}
 use Rattle.wa_types.specs.declared.values.ValType.{ValType}
@@ -10,7 +11,8 @@ use Rattle.wa_types.specs.Encoding.{vector, type_byte, block_type_byte, basic_by
 use Rattle.wa_types.specs.Opcodes.{an_access, follows, shape, within, is_nest, is_load_op, is_store_op}
 use Rattle.wa_types.specs.Binary.{Placed, RawCode, ended, otherwise, instr, nested, branched}
 use Rattle.wa_types.specs.Spells.{Number, Items, Vector, ValueType, BlockType, OperandsOf, CodeOf}
-use Rattle.wa_types.specs.Syntax.{Basic, nop, drop, select, const, num, global_get, global_set, load, store, memory_size, memory_grow, Plain, basic, local_get, local_set, local_tee, br, br_if, br_table, return, unreachable, call, call_indirect, Shape, a_block, a_loop, Code, done, plain, nest, branch}
+use Rattle.wa_types.specs.Syntax.{Basic, nop, drop, select, const, num, global_get, global_set, load, store, memory_size, memory_grow, Plain, basic, local_get, local_set, local_tee, br}
+use Rattle.wa_types.specs.Syntax.{br_if, br_table, return, unreachable, call, call_indirect, Shape, a_block, a_loop, Code, done, plain, nest, branch}
 use Rattle.wa_types.specs.Reading.{plain_opcode, plain_operands, HasKind, IsCode, Each}
 use Rattle.wa_types.specs.Sizes.{PlainFits, CodeFits}
 use Rattle.file_laws.proofs.NumOpcodes.{num_follows}
@@ -23,7 +25,9 @@ pub record Written {X Y : Type 0} (f : X → ℕ → List ℕ → Type 0) (R : X
   pub means : R raw y
 
 -- items one behind another
-pub write_items : {X Y : Type 0} (f : X → ℕ → List ℕ → Type 0) (R : X → Y → Type 0) (Fits : Y → Type 0) (enc : Y → List ℕ) → ((y : Y) → Fits y → length (enc y) < 2 ^ 32 → (at : ℕ) → Written f R y at (enc y)) → (ys : List Y) → All Fits ys → length (flat_map enc ys) < 2 ^ 32 → (at : ℕ) → Written (Items f) (Each R) ys at (flat_map enc ys)
+pub write_items : {X Y : Type 0} (f : X → ℕ → List ℕ → Type 0) (R : X → Y → Type 0) (Fits : Y → Type 0) (enc : Y → List ℕ)
+    → ((y : Y) → Fits y → length (enc y) < 2 ^ 32 → (at : ℕ) → Written f R y at (enc y)) → (ys : List Y) → All Fits ys → length (flat_map enc ys) < 2 ^ 32 → (at : ℕ)
+    → Written (Items f) (Each R) ys at (flat_map enc ys)
 write_items f R Fits enc w [] a h at = record { raw = []; spelled = refl; means = tt }
 write_items f R Fits enc w (y ∷ ys) a h at =
     let s = w y (All-head Fits y ys a) (omega (arith, h, length-append (enc y) (flat_map enc ys))) at in
@@ -41,7 +45,9 @@ pub fewer : {Y : Type 0} (enc : Y → List ℕ) → ((y : Y) → 0 < length (enc
 fewer enc some [] = omega arith
 fewer enc some (y ∷ ys) = omega (arith, some y, fewer enc some ys, length-append (enc y) (flat_map enc ys))
 
-pub write_vector : {X Y : Type 0} (f : X → ℕ → List ℕ → Type 0) (R : X → Y → Type 0) (Fits : Y → Type 0) (enc : Y → List ℕ) → ((y : Y) → Fits y → length (enc y) < 2 ^ 32 → (at : ℕ) → Written f R y at (enc y)) → ((y : Y) → 0 < length (enc y)) → (ys : List Y) → All Fits ys → length (vector enc ys) < 2 ^ 32 → (at : ℕ) → Written (Vector f) (Each R) ys at (vector enc ys)
+pub write_vector : {X Y : Type 0} (f : X → ℕ → List ℕ → Type 0) (R : X → Y → Type 0) (Fits : Y → Type 0) (enc : Y → List ℕ)
+    → ((y : Y) → Fits y → length (enc y) < 2 ^ 32 → (at : ℕ) → Written f R y at (enc y)) → ((y : Y) → 0 < length (enc y)) → (ys : List Y) → All Fits ys → length (vector enc ys) < 2 ^ 32
+    → (at : ℕ) → Written (Vector f) (Each R) ys at (vector enc ys)
 write_vector f R Fits enc w some ys a h at =
     let head = shortest (length ys) in
     let s = write_items f R Fits enc w ys a (omega (arith, h, length-append head (flat_map enc ys))) (at + length head) in
@@ -150,10 +156,24 @@ write_basic (global_get x) h at = record { back = shortest x; whole = refl; spel
 write_basic (global_set x) h at = record { back = shortest x; whole = refl; spelled = shortest_spells x h; follows = refl; kind = tt }
 write_basic (load op align offset) h at =
     let r = load_range op h.0 in
-    record { back = shortest align ++ shortest offset; whole = refl; spelled = (shortest align, shortest offset, refl, shortest_spells align h.1, shortest_spells offset h.2); follows = access_follows op r.0 (omega (arith, r.1)); kind = h.0 }
+    record {
+      back = shortest align ++ shortest offset;
+      whole = refl;
+      spelled = (shortest align, shortest offset, refl, shortest_spells align h.1, shortest_spells offset h.2);
+      follows =
+          access_follows op r.0 (omega (arith, r.1));
+      kind = h.0;
+    }
 write_basic (store op align offset) h at =
     let r = store_range op h.0 in
-    record { back = shortest align ++ shortest offset; whole = refl; spelled = (shortest align, shortest offset, refl, shortest_spells align h.1, shortest_spells offset h.2); follows = access_follows op (omega (arith, r.0)) r.1; kind = h.0 }
+    record {
+      back = shortest align ++ shortest offset;
+      whole = refl;
+      spelled = (shortest align, shortest offset, refl, shortest_spells align h.1, shortest_spells offset h.2);
+      follows =
+          access_follows op (omega (arith, r.0)) r.1;
+      kind = h.0;
+    }
 write_basic memory_size h at = record { back = 0x00 ∷ []; whole = refl; spelled = refl; follows = refl; kind = tt }
 write_basic memory_grow h at = record { back = 0x00 ∷ []; whole = refl; spelled = refl; follows = refl; kind = tt }
 
@@ -169,7 +189,13 @@ write_plain (br_table targets last) h l at =
     record {
       back = vector shortest targets ++ shortest last;
       whole = refl;
-      spelled = (vector shortest targets, shortest last, refl, write_numbers targets h.0 (omega (arith, l, length-append (vector shortest targets) (shortest last))) (at + 1), shortest_spells last h.1);
+      spelled = (
+        vector shortest targets,
+        shortest last,
+        refl,
+        write_numbers targets h.0 (omega (arith, l, length-append (vector shortest targets) (shortest last))) (at + 1),
+        shortest_spells last h.1,
+      );
       follows = refl;
       kind = tt;
     }
@@ -204,11 +230,13 @@ shape_nest : (s : Shape) → IsTrue (is_nest (shape_byte s))
 shape_nest a_block = refl
 shape_nest a_loop = refl
 
-write_seq : (c : Code) → CodeFits c → (first_arm : Bool) (e : Code) (tail : List ℕ) → Tail first_arm e tail → length (code_bytes c ++ tail) < 2 ^ 32 → (at : ℕ) → (x : RawCode) × CodeOf first_arm x at (code_bytes c ++ tail) × IsCode x c e
+write_seq : (c : Code) → CodeFits c → (first_arm : Bool) (e : Code) (tail : List ℕ) → Tail first_arm e tail → length (code_bytes c ++ tail) < 2 ^ 32 → (at : ℕ)
+    → (x : RawCode) × CodeOf first_arm x at (code_bytes c ++ tail) × IsCode x c e
 unfolding code_bytes
 write_seq done h first_arm e tail t l at = t at
 write_seq (plain p rest) h first_arm e tail t l at =
-    let len : length (plain_bytes p) + (length (code_bytes rest) + length tail) < 2 ^ 32 = omega (arith, l, length-append (plain_bytes p ++ code_bytes rest) tail, length-append (plain_bytes p) (code_bytes rest)) in
+    let len : length (plain_bytes p) + (length (code_bytes rest) + length tail) < 2 ^ 32 =
+    omega (arith, l, length-append (plain_bytes p ++ code_bytes rest) tail, length-append (plain_bytes p) (code_bytes rest)) in
     let w = write_plain p h.0 (omega (arith, len)) at in
     let x = write_seq rest h.1 first_arm e tail t (omega (arith, len, length-append (code_bytes rest) tail)) (at + 1 + length w.back) in
     let op : Placed = record { place = at; byte = plain_opcode p } in (
@@ -228,7 +256,8 @@ write_seq (plain p rest) h first_arm e tail t l at =
 write_seq (nest s r body rest) h first_arm e tail t l at =
     let inner = code_bytes body ++ 0x0B ∷ [] in
     let outer = code_bytes rest ++ tail in
-    let cut : (code_bytes body ++ 0x0B ∷ code_bytes rest) ++ tail ≡ inner ++ outer = append_assoc (code_bytes body) (0x0B ∷ code_bytes rest) tail ∙ sym (append_assoc (code_bytes body) (0x0B ∷ []) outer) in
+    let cut : (code_bytes body ++ 0x0B ∷ code_bytes rest) ++ tail ≡ inner ++ outer = append_assoc (code_bytes body) (0x0B ∷ code_bytes rest) tail
+    ∙ sym (append_assoc (code_bytes body) (0x0B ∷ []) outer) in
     let len : 2 + (length inner + length outer) < 2 ^ 32 = omega (arith, l, ap length cut, length-append inner outer) in
     let b = block_type r (at + 1) in
     let x = write_seq body h.0 false done (0x0B ∷ []) (end_tail false) (omega (arith, len)) (at + 1 + 1) in

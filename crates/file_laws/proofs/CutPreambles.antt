@@ -21,6 +21,7 @@ cut_fails k h =
     record {
       within = omega (arith, len);
       before = λ j lt. spelled_begun preamble [] empty_spelled (take j (take k preamble)) (drop j (take k preamble) ++ drop k preamble)
-          (sym (take-append-drop k preamble) ∙ ap (λ z. z ++ drop k preamble) (sym (take-append-drop j (take k preamble))) ∙ append_assoc (take j (take k preamble)) (drop j (take k preamble)) (drop k preamble));
+          (sym (take-append-drop k preamble) ∙ ap (λ z. z ++ drop k preamble) (sym (take-append-drop j (take k preamble)))
+          ∙ append_assoc (take j (take k preamble)) (drop j (take k preamble)) (drop k preamble));
       stops = inr (sym len, λ w. omega (arith, whole_long (take k preamble) w, len, h));
     }

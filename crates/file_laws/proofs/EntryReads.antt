@@ -2,10 +2,14 @@
 use Rattle.std.proofs.Common.{◌≡◌, ℕ, ◌+◌, List, [], ◌∷◌, ◌++◌, Option, Some, None, refl, ap, sym, ◌∙◌, subst, arith, append_assoc, append-nil, length, length-append, false, nat_eq, eqb-true, IsTrue}
 use Rattle.wa_types.specs.Opcodes.{is_value_type}
 use Rattle.wa_types.specs.Binary.{RawGlobal}
-use Rattle.wa_types.specs.Begun.{Goal, code, number, name, value_type, mutable, import_kind, space, limits, count, entries, until, name_of, some_types, some_imports, some_functions, some_tables, some_memories, some_globals, some_exports, some_elements, some_bodies, some_segments, some_value_types, some_runs, some_indices, some_bytes, a_byte, an_unsigned, next, and_then, where_true, behind_flag}
-use Rattle.wa_types.specs.Spells.{◌▸◌, Exactly, Number, Items, Vector, Text, ValueType, FunctionType, LimitsOf, TableType, CodeOf, ImportKindOf, ImportOf, GlobalOf, ExportOf, ElementOf, RunOf, BodyOf, SegmentOf}
-use Rattle.file_laws.proofs.Going.{Any, Reads, ReadsNext, reads_none, reads_then, reads_as, Begins, reads_first, next_where, Ends, reads_until, to_left, to_right}
-use Rattle.file_laws.proofs.Leaves.{reads_number, reads_value_type, reads_mutable, Mutability, SpaceOf, reads_space, reads_limits, reads_name, reads_import_kind, alone, with_nothing, NameOf, reads_name_of, text_from, text_to, Flagged, next_flag, limits_from, limits_to}
+use Rattle.wa_types.specs.Begun.{Goal, code, number, name, value_type, mutable, import_kind, space, limits, count, entries, until, name_of, some_types, some_imports, some_functions}
+use Rattle.wa_types.specs.Begun.{some_tables, some_memories, some_globals, some_exports, some_elements, some_bodies, some_segments, some_value_types, some_runs, some_indices, some_bytes}
+use Rattle.wa_types.specs.Begun.{a_byte, an_unsigned, next, and_then, where_true, behind_flag}
+use Rattle.wa_types.specs.Spells.{◌▸◌, Exactly, Number, Items, Vector, Text, ValueType, FunctionType, LimitsOf, TableType, CodeOf, ImportKindOf, ImportOf, GlobalOf, ExportOf, ElementOf}
+use Rattle.wa_types.specs.Spells.{RunOf, BodyOf, SegmentOf}
+use Rattle.file_laws.proofs.GoalReads.{Any, Reads, ReadsNext, reads_none, reads_then, reads_as, Begins, reads_first, next_where, Ends, reads_until, to_left, to_right}
+use Rattle.file_laws.proofs.Leaves.{reads_number, reads_value_type, reads_mutable, Mutability, SpaceOf, reads_space, reads_limits, reads_name, reads_import_kind, alone, with_nothing, NameOf}
+use Rattle.file_laws.proofs.Leaves.{reads_name_of, text_from, text_to, Flagged, next_flag, limits_from, limits_to}
 use Rattle.file_laws.proofs.Vectors.{reads_count, reads_append, reads_alone}
 use Rattle.file_laws.proofs.CodeReads.{reads_code, reads_index}
 
@@ -63,7 +67,8 @@ reads_type =
     let V : Reads (count some_value_types ∷ []) (Any (Vector ValueType)) = reads_count ValueType some_value_types reads_type_entry in
     reads_as _ (Begins a_byte TypeTail) (Any FunctionType) type_from type_to
     (reads_first (entries some_types 1) TypeTail refl refl (λ v k. then_next (where_true (nat_eq v 0x60) (count some_value_types ∷ count some_value_types ∷ [])) (TypeTail v k)
-    (next_where (nat_eq v 0x60) (count some_value_types ∷ count some_value_types ∷ []) (Any (Vector ValueType) ▸ Any (Vector ValueType)) (reads_then (count some_value_types) (count some_value_types ∷ []) (Any (Vector ValueType)) (Any (Vector ValueType)) V V))))
+    (next_where (nat_eq v 0x60) (count some_value_types ∷ count some_value_types ∷ []) (Any (Vector ValueType) ▸ Any (Vector ValueType))
+    (reads_then (count some_value_types) (count some_value_types ∷ []) (Any (Vector ValueType)) (Any (Vector ValueType)) V V))))
 
 TableTail : (v at : ℕ) → ℕ → List ℕ → Type 0
 TableTail v k at bytes = IsTrue (nat_eq v 0x70) × Any LimitsOf at bytes
@@ -79,7 +84,8 @@ table_to at a h = record { front = h.1.0; back = h.1.1; value = 0x70; whole = h.
 pub reads_table : Reads (entries some_tables 1 ∷ []) (Any TableType)
 unfolding next TableTail
 reads_table = reads_as _ (Begins a_byte TableTail) (Any TableType) table_from table_to
-    (reads_first (entries some_tables 1) TableTail refl refl (λ v k. then_next (where_true (nat_eq v 0x70) (limits ∷ [])) (TableTail v k) (next_where (nat_eq v 0x70) (limits ∷ []) (Any LimitsOf) reads_limits)))
+    (reads_first (entries some_tables 1) TableTail refl refl (λ v k. then_next (where_true (nat_eq v 0x70) (limits ∷ [])) (TableTail v k)
+    (next_where (nat_eq v 0x70) (limits ∷ []) (Any LimitsOf) reads_limits)))
 
 pub reads_memory : Reads (entries some_memories 1 ∷ []) (Any LimitsOf)
 unfolding next
@@ -110,7 +116,8 @@ pub reads_global : Reads (entries some_globals 1 ∷ []) (Any GlobalOf)
 unfolding next GlobalTail
 reads_global = reads_as _ (Begins a_byte GlobalTail) (Any GlobalOf) global_from global_to
     (reads_first (entries some_globals 1) GlobalTail refl refl (λ v k. then_next (where_true (is_value_type v) (mutable ∷ code false ∷ [])) (GlobalTail v k)
-    (next_where (is_value_type v) (mutable ∷ code false ∷ []) (Any Mutability ▸ Any (CodeOf false)) (reads_then mutable (code false ∷ []) (Any Mutability) (Any (CodeOf false)) reads_mutable (reads_code false)))))
+    (next_where (is_value_type v) (mutable ∷ code false ∷ []) (Any Mutability ▸ Any (CodeOf false))
+    (reads_then mutable (code false ∷ []) (Any Mutability) (Any (CodeOf false)) reads_mutable (reads_code false)))))
 
 -- a name, and what stands behind it
 named_from : (F : ℕ → List ℕ → Type 0) (at : ℕ) (a : List ℕ) → Begins an_unsigned (λ v k. NameOf v ▸ F) at a → (Any Text ▸ F) at a
@@ -147,7 +154,8 @@ reads_import =
     let T : ℕ → List ℕ → Type 0 = Any Text ▸ Any ImportKindOf in
     reads_as _ (Begins an_unsigned (λ v k. NameOf v ▸ T)) (Any ImportOf) (λ at a h. import_from at a (named_from T at a h)) (λ at a h. named_to T at a (import_to at a h))
     (reads_first (entries some_imports 1) (λ v k. NameOf v ▸ T) refl refl
-    (λ v k. then_next (Some (name_of v ++ name ∷ import_kind ∷ [])) (NameOf v ▸ T) (reads_append (name_of v) (name ∷ import_kind ∷ []) (NameOf v) T (reads_name_of v) (reads_then name (import_kind ∷ []) (Any Text) (Any ImportKindOf) reads_name reads_import_kind))))
+    (λ v k. then_next (Some (name_of v ++ name ∷ import_kind ∷ [])) (NameOf v ▸ T) (reads_append (name_of v) (name ∷ import_kind ∷ []) (NameOf v) T (reads_name_of v)
+    (reads_then name (import_kind ∷ []) (Any Text) (Any ImportKindOf) reads_name reads_import_kind))))
 
 export_from : (at : ℕ) (a : List ℕ) → (Any Text ▸ (Any SpaceOf ▸ Any Number)) at a → Any ExportOf at a
 export_from at a h = let t = h.4 in (record { name = h.3.0; space = t.3.0; index = t.4.0 }, (h.0, h.1, h.2, h.3.1, (t.0, t.1, t.2, t.3.1, t.4.1)))
@@ -161,7 +169,8 @@ reads_export =
     let T : ℕ → List ℕ → Type 0 = Any SpaceOf ▸ Any Number in
     reads_as _ (Begins an_unsigned (λ v k. NameOf v ▸ T)) (Any ExportOf) (λ at a h. export_from at a (named_from T at a h)) (λ at a h. named_to T at a (export_to at a h))
     (reads_first (entries some_exports 1) (λ v k. NameOf v ▸ T) refl refl
-    (λ v k. then_next (Some (name_of v ++ space ∷ number ∷ [])) (NameOf v ▸ T) (reads_append (name_of v) (space ∷ number ∷ []) (NameOf v) T (reads_name_of v) (reads_then space (number ∷ []) (Any SpaceOf) (Any Number) reads_space reads_number))))
+    (λ v k. then_next (Some (name_of v ++ space ∷ number ∷ [])) (NameOf v ▸ T) (reads_append (name_of v) (space ∷ number ∷ []) (NameOf v) T (reads_name_of v)
+    (reads_then space (number ∷ []) (Any SpaceOf) (Any Number) reads_space reads_number))))
 
 -- an entry that begins with a number
 abbrev NumberThen : (ℕ → List ℕ → Type 0) → (v at : ℕ) → ℕ → List ℕ → Type 0
@@ -179,7 +188,8 @@ reads_element =
     let T : ℕ → List ℕ → Type 0 = Any (CodeOf false) ▸ Any (Vector Number) in
     reads_as _ (Begins an_unsigned (NumberThen T)) (Any ElementOf) element_from element_to
     (reads_first (entries some_elements 1) (NumberThen T) refl refl
-    (λ v k. then_next (Some (code false ∷ count some_indices ∷ [])) T (reads_then (code false) (count some_indices ∷ []) (Any (CodeOf false)) (Any (Vector Number)) (reads_code false) (reads_count Number some_indices reads_index))))
+    (λ v k. then_next (Some (code false ∷ count some_indices ∷ [])) T (reads_then (code false) (count some_indices ∷ []) (Any (CodeOf false)) (Any (Vector Number)) (reads_code false)
+    (reads_count Number some_indices reads_index))))
 
 bytes_of : (xs : List ℕ) (at : ℕ) (a : List ℕ) → Items ByteIs xs at a → a ≡ xs
 bytes_of [] at a h = h
@@ -215,7 +225,8 @@ reads_segment =
     let T : ℕ → List ℕ → Type 0 = Any (CodeOf false) ▸ Any (Vector ByteIs) in
     reads_as _ (Begins an_unsigned (NumberThen T)) (Any SegmentOf) segment_from segment_to
     (reads_first (entries some_segments 1) (NumberThen T) refl refl
-    (λ v k. then_next (Some (code false ∷ count some_bytes ∷ [])) T (reads_then (code false) (count some_bytes ∷ []) (Any (CodeOf false)) (Any (Vector ByteIs)) (reads_code false) (reads_count ByteIs some_bytes reads_any_byte))))
+    (λ v k. then_next (Some (code false ∷ count some_bytes ∷ [])) T (reads_then (code false) (count some_bytes ∷ []) (Any (CodeOf false)) (Any (Vector ByteIs)) (reads_code false)
+    (reads_count ByteIs some_bytes reads_any_byte))))
 
 run_from : (at : ℕ) (a : List ℕ) → Begins an_unsigned (NumberThen (Any ValueType)) at a → Any RunOf at a
 run_from at a b = (record { count = b.value; ty = b.follows.0 }, (b.front, b.back, b.whole, b.is_item, b.follows.1))

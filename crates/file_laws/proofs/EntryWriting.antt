@@ -8,7 +8,8 @@ use Rattle.wa_types.specs.declared.syntax.ImportKind.TheVariants.{Func as a_func
 use Rattle.wa_types.specs.declared.syntax.Import.{Import}
 use Rattle.wa_types.specs.declared.syntax.Export.{Export}
 use Rattle.wa_types.specs.Leb.{shortest}
-use Rattle.wa_types.specs.Encoding.{vector, sized, name_bytes, type_byte, func_type_bytes, max_bytes, limits_bytes, table_bytes, mutable_byte, global_type_bytes, expression_bytes, import_kind_bytes, import_bytes, global_bytes, space_byte, export_bytes, elem_bytes, segment_bytes, run_bytes, merged, body_bytes}
+use Rattle.wa_types.specs.Encoding.{vector, sized, name_bytes, type_byte, func_type_bytes, max_bytes, limits_bytes, table_bytes, mutable_byte, global_type_bytes, expression_bytes}
+use Rattle.wa_types.specs.Encoding.{import_kind_bytes, import_bytes, global_bytes, space_byte, export_bytes, elem_bytes, segment_bytes, run_bytes, merged, body_bytes}
 use Rattle.wa_types.specs.Syntax.{FuncType, Func, GlobalDef, Elem, Segment}
 use Rattle.wa_types.specs.Binary.{raw_func, raw_table, raw_memory, raw_global}
 use Rattle.wa_types.specs.Spells.{Vector, Text, ValueType, FunctionType, Maximum, LimitsOf, TableType, ImportKindOf, ImportOf, GlobalOf, ExportOf, ElementOf, RunOf, BodyOf, SegmentOf}
@@ -120,7 +121,19 @@ write_segment s h l at =
     let w = write_expression s.offset h.offset (omega (arith, len)) (at + length t) in
     record {
       raw = record { memory = s.memory; offset = w.raw; bytes = s.bytes };
-      spelled = (t, o ++ f, append_assoc t o f, shortest_spells s.memory h.memory, (o, f, refl, w.spelled, (shortest (length s.bytes), s.bytes, refl, shortest_spells (length s.bytes) (omega (arith, len, length-append (shortest (length s.bytes)) s.bytes)), refl)));
+      spelled = (
+        t,
+        o ++ f,
+        append_assoc t o f,
+        shortest_spells s.memory h.memory,
+        (
+          o,
+          f,
+          refl,
+          w.spelled,
+          (shortest (length s.bytes), s.bytes, refl, shortest_spells (length s.bytes) (omega (arith, len, length-append (shortest (length s.bytes)) s.bytes)), refl),
+        ),
+      );
       means = record { memory = refl; offset = w.means; bytes = refl };
     }
 

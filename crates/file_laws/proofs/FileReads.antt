@@ -1,13 +1,17 @@
 -- Sections that are spelled lead to the end of a file; and what a whole file is.
-use Rattle.std.proofs.Common.{◌≡◌, ℕ, suc, zero, ◌+◌, ◌<◌, ◌≤◌, List, [], ◌∷◌, ◌++◌, map, flat_map, Some, refl, ap, sym, ◌∙◌, subst, arith, add-zero, append_assoc, append-nil, length, length-append, true, ◌&&◌, nat_eq, nat_lt}
+use Rattle.std.proofs.Common.{◌≡◌, ℕ, suc, zero, ◌+◌, ◌<◌, ◌≤◌, List, [], ◌∷◌, ◌++◌, map, flat_map, Some, refl, ap, sym, ◌∙◌, subst, arith, add-zero, append_assoc, append-nil, length}
+use Rattle.std.proofs.Common.{length-append, true, ◌&&◌, nat_eq, nat_lt}
 use Rattle.std.proofs.lemmas.Bool.{lt-ltb}
 use Rattle.wa_types.specs.Leb.{IsUnsigned}
 use Rattle.wa_types.specs.Encoding.{preamble}
 use Rattle.wa_types.specs.Binary.{Section, custom, types, imports, functions, tables, memories, globals, exports, start, elements, bodies, segments}
-use Rattle.wa_types.specs.Begun.{Goal, exact, sections, size, head, until, rest, entries, Kind, some_types, some_imports, some_functions, some_tables, some_memories, some_globals, some_exports, some_elements, some_bodies, some_segments, next, Inside, settled, where_true, some_of, name_of, may_follow, content, Leads, arrived, IsWhole, Begun, part, start as start_goals}
-use Rattle.wa_types.specs.Spells.{◌▸◌, Exactly, Number, Items, Vector, Sized, Text, FunctionType, LimitsOf, TableType, ImportOf, GlobalOf, ExportOf, ElementOf, BodyOf, SegmentOf, SectionOf, Rising, Spells, sorts_in, bodies_in}
+use Rattle.wa_types.specs.Begun.{Goal, exact, sections, size, head, until, rest, entries, Kind, some_types, some_imports, some_functions, some_tables, some_memories, some_globals}
+use Rattle.wa_types.specs.Begun.{some_exports, some_elements, some_bodies, some_segments, next, Inside, settled, where_true, some_of, name_of, may_follow, content, Leads, arrived, IsWhole}
+use Rattle.wa_types.specs.Begun.{Begun, part, start as start_goals}
+use Rattle.wa_types.specs.Spells.{◌▸◌, Exactly, Number, Items, Vector, Sized, Text, FunctionType, LimitsOf, TableType, ImportOf, GlobalOf, ExportOf, ElementOf, BodyOf, SegmentOf, SectionOf}
+use Rattle.wa_types.specs.Spells.{Rising, Spells, sorts_in, bodies_in}
 use Rattle.file_laws.proofs.Runs.{some_same, leads_on, begun_front}
-use Rattle.file_laws.proofs.Going.{Any, Reads, Goes, gives_one, reads_until, reads_none, reads_then, reads_as}
+use Rattle.file_laws.proofs.GoalReads.{Any, Reads, Goes, gives_one, reads_until, reads_none, reads_then, reads_as}
 use Rattle.file_laws.proofs.Leaves.{reads_name_of, text_to, reads_exact}
 use Rattle.file_laws.proofs.Vectors.{reads_some}
 use Rattle.file_laws.proofs.EntryReads.{reads_type, reads_import, reads_function, reads_table, reads_memory, reads_global, reads_export, reads_element, reads_body, reads_segment}
@@ -81,7 +85,9 @@ at_end : (end : ℕ) (more : List Goal) (fin at : ℕ) (bytes : List ℕ) → at
 at_end end more fin at bytes e g = (reads_until end).complete more fin at bytes ([], bytes, refl, (e, refl), subst (λ z. Goes more fin z bytes) (sym (add-zero at)) g)
 
 -- a section of entries
-give_entries : {X : Type 0} (f : X → ℕ → List ℕ → Type 0) (k : Kind) (id last owed next_owed fin at : ℕ) (xs : List X) (bytes : List ℕ) → Reads (entries k 1 ∷ []) (Any f) → may_follow id last owed ≡ true → ((end : ℕ) → content id end last owed (length xs) ≡ Some (some_of k (length xs) ++ until end ∷ sections id next_owed ∷ [])) → ((Exactly (id ∷ []) ▸ Sized (Vector f xs)) ▸ Goes (sections id next_owed ∷ []) fin) at bytes → Goes (sections last owed ∷ []) fin at bytes
+give_entries : {X : Type 0} (f : X → ℕ → List ℕ → Type 0) (k : Kind) (id last owed next_owed fin at : ℕ) (xs : List X) (bytes : List ℕ) → Reads (entries k 1 ∷ []) (Any f)
+    → may_follow id last owed ≡ true → ((end : ℕ) → content id end last owed (length xs) ≡ Some (some_of k (length xs) ++ until end ∷ sections id next_owed ∷ []))
+    → ((Exactly (id ∷ []) ▸ Sized (Vector f xs)) ▸ Goes (sections id next_owed ∷ []) fin) at bytes → Goes (sections last owed ∷ []) fin at bytes
 give_entries f k id last owed next_owed fin at xs bytes r follows pushed h =
     let s = h.3 in
     let z = s.4 in
@@ -111,7 +117,8 @@ give_entries f k id last owed next_owed fin at xs bytes r follows pushed h =
           (v.1, h.1, refl, record { items = xs; number = refl; spelled = spelled }, at_end end (sections id next_owed ∷ []) fin (start_at + length v.1) h.1 here g);
     })
 
-give_start : (last owed fin at x : ℕ) (bytes : List ℕ) → may_follow 8 last owed ≡ true → ((Exactly (8 ∷ []) ▸ Sized (Number x)) ▸ Goes (sections 8 owed ∷ []) fin) at bytes → Goes (sections last owed ∷ []) fin at bytes
+give_start : (last owed fin at x : ℕ) (bytes : List ℕ) → may_follow 8 last owed ≡ true → ((Exactly (8 ∷ []) ▸ Sized (Number x)) ▸ Goes (sections 8 owed ∷ []) fin) at bytes
+    → Goes (sections last owed ∷ []) fin at bytes
 give_start last owed fin at x bytes follows h =
     let s = h.3 in
     let z = s.4 in
@@ -136,7 +143,8 @@ give_start last owed fin at x bytes follows h =
       goes = at_end end (sections 8 owed ∷ []) fin place h.1 here g;
     })
 
-give_custom : (last owed fin at : ℕ) (name text : List ℕ) (bytes : List ℕ) → ((Exactly (0 ∷ []) ▸ Sized (Text name ▸ Exactly text)) ▸ Goes (sections last owed ∷ []) fin) at bytes → Goes (sections last owed ∷ []) fin at bytes
+give_custom : (last owed fin at : ℕ) (name text : List ℕ) (bytes : List ℕ) → ((Exactly (0 ∷ []) ▸ Sized (Text name ▸ Exactly text)) ▸ Goes (sections last owed ∷ []) fin) at bytes
+    → Goes (sections last owed ∷ []) fin at bytes
 give_custom last owed fin at name text bytes h =
     let s = h.3 in
     let z = s.4 in
@@ -148,7 +156,13 @@ give_custom last owed fin at name text bytes h =
     let place = at + 1 + length z.1.0 + length t.front in
     let here : place + length t.back + length c.1 ≡ end = omega (arith, z.1.4.0, ap length c.2, length-append c.0 c.1, ap length t.whole, length-append t.front t.back) in
     let g : Goes (sections last owed ∷ []) fin (place + length t.back + length c.1) h.1 =
-    subst (λ w. Goes (sections last owed ∷ []) fin w h.1) (omega (arith, ap length front, length-append z.1.0 ((t.front ++ t.back) ++ c.1), length-append (t.front ++ t.back) c.1, length-append t.front t.back)) h.4 in
+    subst (λ w. Goes (sections last owed ∷ []) fin w h.1) (omega (
+      arith,
+      ap length front,
+      length-append z.1.0 ((t.front ++ t.back) ++ c.1),
+      length-append (t.front ++ t.back) c.1,
+      length-append t.front t.back,
+    )) h.4 in
     give_section 0 last owed fin at bytes (record {
       size_bytes = z.1.0;
       head_bytes = t.front;
@@ -180,7 +194,9 @@ none_owed zero h = refl
 none_owed (suc n) h = absurd (h (omega arith))
 
 -- each section leads on to those behind it
-give : (s : Section) (ss : List Section) (last owed at : ℕ) (bytes : List ℕ) → SectionOf s at bytes → Rising last (s ∷ ss) → Balanced owed (s ∷ ss) → (b : List ℕ) → ((next_last next_owed : ℕ) → Rising next_last ss → Balanced next_owed ss → (fin : ℕ) × Goes (sections next_last next_owed ∷ []) fin (at + length bytes) b) → (fin : ℕ) × Goes (sections last owed ∷ []) fin at (bytes ++ b)
+give : (s : Section) (ss : List Section) (last owed at : ℕ) (bytes : List ℕ) → SectionOf s at bytes → Rising last (s ∷ ss) → Balanced owed (s ∷ ss) → (b : List ℕ)
+    → ((next_last next_owed : ℕ) → Rising next_last ss → Balanced next_owed ss → (fin : ℕ) × Goes (sections next_last next_owed ∷ []) fin (at + length bytes) b)
+    → (fin : ℕ) × Goes (sections last owed ∷ []) fin at (bytes ++ b)
 give (types ts) ss last owed at bytes h r c b more =
     let g = more 1 owed r.1 c in
     (g.0, give_entries FunctionType some_types 1 last owed owed g.0 at ts (bytes ++ b) reads_type (rises last 1 r.0) (λ end. refl) (bytes, b, refl, h, g.1))
@@ -226,7 +242,8 @@ unfolding settled Inside
 file_end last at bytes e = record { left = sections last 0 ∷ []; settles = refl; inside = (tt, tt); leads = subst (λ z. Leads at (sections last 0 ∷ []) z (sections last 0 ∷ [])) (sym e) arrived }
 
 -- Sections in order lead to the end of a file.
-pub sections_complete : (ss : List Section) (last owed at : ℕ) (bytes : List ℕ) → Items SectionOf ss at bytes → Rising last ss → Balanced owed ss → (fin : ℕ) × Goes (sections last owed ∷ []) fin at bytes
+pub sections_complete : (ss : List Section) (last owed at : ℕ) (bytes : List ℕ) → Items SectionOf ss at bytes → Rising last ss → Balanced owed ss
+    → (fin : ℕ) × Goes (sections last owed ∷ []) fin at bytes
 sections_complete [] last owed at bytes h r c = (last, subst (λ z. Goes (sections last z ∷ []) last at bytes) (sym c) (file_end last at bytes h))
 sections_complete (s ∷ ss) last owed at bytes h r c =
     let g = give s ss last owed at h.0 h.3 r c h.1 (λ k o u v. sections_complete ss k o (at + length h.0) h.1 h.4 u v) in

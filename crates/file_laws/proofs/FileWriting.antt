@@ -1,5 +1,6 @@
 -- The bytes that a module is written as spell it.
-use Rattle.std.proofs.Common.{◌≡◌, ℕ, suc, ◌+◌, ◌<◌, ◌^◌, ◌⊎◌, List, [], ◌∷◌, ◌++◌, map, Option, Some, None, Bool, true, false, refl, ap, sym, ◌∙◌, subst, arith, add-zero, append_assoc, append-nil, length, length-append, All, flat_map, cond, nat_eq, eqb-true, inl, inr, min, option_to_list, sum_by}
+use Rattle.std.proofs.Common.{◌≡◌, ℕ, suc, ◌+◌, ◌<◌, ◌^◌, ◌⊎◌, List, [], ◌∷◌, ◌++◌, map, Option, Some, None, Bool, true, false, refl, ap, sym, ◌∙◌, subst, arith, add-zero, append_assoc}
+use Rattle.std.proofs.Common.{append-nil, length, length-append, All, flat_map, cond, nat_eq, eqb-true, inl, inr, min, option_to_list, sum_by}
 use Rattle.std.proofs.lemmas.List.Elements.{All-head, All-tail, All-cons, All-filter}
 use Rattle.std.proofs.lemmas.List.Concat.{flat_map-append}
 use Rattle.std.proofs.lemmas.List.Sums.{sum_by-cons}
@@ -7,16 +8,21 @@ use Rattle.wa_types.specs.declared.syntax.Run.{Run}
 use Rattle.wa_types.specs.declared.syntax.Limits.{Limits}
 use Rattle.wa_types.specs.declared.syntax.Export.{Export}
 use Rattle.wa_types.specs.Leb.{shortest}
-use Rattle.wa_types.specs.Encoding.{vector, sized, name_bytes, func_type_bytes, limits_bytes, table_bytes, import_bytes, global_bytes, export_bytes, elem_bytes, segment_bytes, run_onto, same_type, merged, body_bytes, section, start_section, custom_bytes, customs_behind, preamble, sections, with_customs, Enc}
+use Rattle.wa_types.specs.Encoding.{vector, sized, name_bytes, func_type_bytes, limits_bytes, table_bytes, import_bytes, global_bytes, export_bytes, elem_bytes, segment_bytes, run_onto}
+use Rattle.wa_types.specs.Encoding.{same_type, merged, body_bytes, section, start_section, custom_bytes, customs_behind, preamble, sections, with_customs, Enc}
 use Rattle.wa_types.specs.Norm.{has_some, has_start, written_flags, placed_at, placed_behind, lowered, Norm}
 use Rattle.wa_types.specs.Sizes.{CodeFits, LimitsFit, ImportFits, FuncFits, ExportFits, ElemFits, SegmentFits, CustomFits, StartFits, WellFormed}
 use Rattle.wa_types.specs.Syntax.{Func, GlobalDef, Custom, Module}
-use Rattle.wa_types.specs.Binary.{RawType, RawImport, RawGlobal, RawElem, RawBody, RawSegment, Section, custom, types, imports, functions, tables, memories, globals, exports, start, elements, bodies, segments, section_id}
-use Rattle.wa_types.specs.Spells.{◌▸◌, Exactly, Number, Items, Vector, Sized, FunctionType, LimitsOf, TableType, ImportOf, GlobalOf, ExportOf, ElementOf, BodyOf, SegmentOf, SectionOf, Rising, sorts_in, bodies_in}
-use Rattle.wa_types.specs.Reading.{Each, IsFuncType, IsImport, IsGlobal, IsElem, IsBody, IsSegment, types_in, imports_in, tables_in, memories_in, globals_in, exports_in, starts_in, elements_in, segments_in, customs_of, IsModule, SpellsModule}
+use Rattle.wa_types.specs.Binary.{RawType, RawImport, RawGlobal, RawElem, RawBody, RawSegment, Section, custom, types, imports, functions, tables, memories, globals, exports, start}
+use Rattle.wa_types.specs.Binary.{elements, bodies, segments, section_id}
+use Rattle.wa_types.specs.Spells.{◌▸◌, Exactly, Number, Items, Vector, Sized, FunctionType, LimitsOf, TableType, ImportOf, GlobalOf, ExportOf, ElementOf, BodyOf, SegmentOf, SectionOf}
+use Rattle.wa_types.specs.Spells.{Rising, sorts_in, bodies_in}
+use Rattle.wa_types.specs.Reading.{Each, IsFuncType, IsImport, IsGlobal, IsElem, IsBody, IsSegment, types_in, imports_in, tables_in, memories_in, globals_in, exports_in, starts_in}
+use Rattle.wa_types.specs.Reading.{elements_in, segments_in, customs_of, IsModule, SpellsModule}
 use Rattle.file_laws.proofs.NumberWriting.{shortest_spells}
 use Rattle.file_laws.proofs.CodeWriting.{Written, write_vector, number_some, Itself, each_itself, each_length}
-use Rattle.file_laws.proofs.EntryWriting.{write_func_type, write_limits, write_table, write_import, write_global, write_export, write_elem, write_segment, BodyFits, merged_func, write_body, name_spelled, func_type_some, limits_some, table_some, import_some, global_some, export_some, elem_some, segment_some, body_some}
+use Rattle.file_laws.proofs.EntryWriting.{write_func_type, write_limits, write_table, write_import, write_global, write_export, write_elem, write_segment, BodyFits, merged_func, write_body}
+use Rattle.file_laws.proofs.EntryWriting.{name_spelled, func_type_some, limits_some, table_some, import_some, global_some, export_some, elem_some, segment_some, body_some}
 
 -- a section of entries, where there are some
 abbrev pub of_entries : {X : Type 0} → (List X → Section) → List X → List Section
@@ -62,20 +68,35 @@ custom_spelled c h l at =
       size ++ content,
       refl,
       refl,
-      (length content, (size, content, refl, shortest_spells (length content) (omega (arith, len, length-append n c.bytes)), (refl, (n, c.bytes, refl, name_spelled c.name h.name (omega (arith, len)) (at + 1 + length size), refl)))),
+      (
+        length content,
+        (
+          size,
+          content,
+          refl,
+          shortest_spells (length content) (omega (arith, len, length-append n c.bytes)),
+          (refl, (n, c.bytes, refl, name_spelled c.name h.name (omega (arith, len)) (at + 1 + length size), refl)),
+        ),
+      ),
     )
 
 customs_spelled : (cs : List Custom) → All CustomFits cs → length (flat_map custom_bytes cs) < 2 ^ 32 → (at : ℕ) → Items SectionOf (as_customs cs) at (flat_map custom_bytes cs)
 customs_spelled [] a l at = refl
 customs_spelled (c ∷ cs) a l at =
     let b = custom_bytes c in
-    let r = flat_map custom_bytes cs in
-    (b, r, refl, custom_spelled c (All-head CustomFits c cs a) (omega (arith, l, length-append b r)) at, customs_spelled cs (All-tail CustomFits c cs a) (omega (arith, l, length-append b r)) (at + length b))
+    let r = flat_map custom_bytes cs in (
+      b,
+      r,
+      refl,
+      custom_spelled c (All-head CustomFits c cs a) (omega (arith, l, length-append b r)) at,
+      customs_spelled cs (All-tail CustomFits c cs a) (omega (arith, l, length-append b r)) (at + length b),
+    )
 
 behind_spelled : (id : ℕ) (cs : List Custom) → All CustomFits cs → length (customs_behind id cs) < 2 ^ 32 → (at : ℕ) → Items SectionOf (as_customs (placed_behind id cs)) at (customs_behind id cs)
 behind_spelled id cs a l at = customs_spelled (placed_behind id cs) (All-filter (λ (c : Custom). nat_eq (min c.after 11) id) CustomFits cs a) l at
 
-spelled_from : (id : ℕ) (ss : List (List Section)) (bs : List (List ℕ)) (cs : List Custom) → All CustomFits cs → length (with_customs id bs cs) < 2 ^ 32 → (at : ℕ) → SpelledFrom at id ss bs cs → Items SectionOf (file_from id ss cs) at (with_customs id bs cs)
+spelled_from : (id : ℕ) (ss : List (List Section)) (bs : List (List ℕ)) (cs : List Custom) → All CustomFits cs → length (with_customs id bs cs) < 2 ^ 32 → (at : ℕ)
+    → SpelledFrom at id ss bs cs → Items SectionOf (file_from id ss cs) at (with_customs id bs cs)
 spelled_from id [] [] cs a l at h = refl
 spelled_from id [] (b ∷ bs) cs a l at h = absurd h
 spelled_from id (s ∷ ss) [] cs a l at h = absurd h
@@ -171,7 +192,8 @@ start_held None = refl
 start_held (Some x) = refl
 
 -- what a section's place holds
-slot_of : {X Y : Type 0} (R : X → Y → Type 0) (id : ℕ) (mk : List X → Section) → ((xs : List X) → section_id (mk xs) ≡ id) → (xs : List X) (ys : List Y) → Each R xs ys → Slot id (has_some ys) (of_entries mk xs)
+slot_of : {X Y : Type 0} (R : X → Y → Type 0) (id : ℕ) (mk : List X → Section) → ((xs : List X) → section_id (mk xs) ≡ id) → (xs : List X) (ys : List Y) → Each R xs ys
+    → Slot id (has_some ys) (of_entries mk xs)
 slot_of R id mk h [] [] e = vacant
 slot_of R id mk h [] (y ∷ ys) e = absurd e
 slot_of R id mk h (x ∷ xs) [] e = absurd e
@@ -187,11 +209,15 @@ record SectionWritten {X Y : Type 0} (f : X → ℕ → List ℕ → Type 0) (R 
   spelled : Items SectionOf (of_entries mk raws) at bytes
   means : Each R raws ys
 
-same_length : {X Y : Type 0} (R : X → Y → Type 0) (xs : List X) (y : Y) (ys : List Y) (at : ℕ) (mk : List X → Section) (bytes : List ℕ) → Each R xs (y ∷ ys) → SectionOf (mk xs) at bytes → Items SectionOf (of_entries mk xs) at bytes
+same_length : {X Y : Type 0} (R : X → Y → Type 0) (xs : List X) (y : Y) (ys : List Y) (at : ℕ) (mk : List X → Section) (bytes : List ℕ) → Each R xs (y ∷ ys) → SectionOf (mk xs) at bytes
+    → Items SectionOf (of_entries mk xs) at bytes
 same_length R [] y ys at mk bytes e h = absurd e
 same_length R (x ∷ xs) y ys at mk bytes e h = (bytes, [], sym (append-nil bytes), h, refl)
 
-write_section : {X Y : Type 0} (f : X → ℕ → List ℕ → Type 0) (R : X → Y → Type 0) (Fits : Y → Type 0) (enc : Y → List ℕ) (mk : List X → Section) (id : ℕ) → ((y : Y) → Fits y → length (enc y) < 2 ^ 32 → (at : ℕ) → Written f R y at (enc y)) → ((y : Y) → 0 < length (enc y)) → ((xs : List X) (at : ℕ) (bytes : List ℕ) → (Exactly (id ∷ []) ▸ Sized (Vector f xs)) at bytes → SectionOf (mk xs) at bytes) → (ys : List Y) → All Fits ys → length (section id enc ys) < 2 ^ 32 → (at : ℕ) → SectionWritten f R mk ys at (section id enc ys)
+write_section : {X Y : Type 0} (f : X → ℕ → List ℕ → Type 0) (R : X → Y → Type 0) (Fits : Y → Type 0) (enc : Y → List ℕ) (mk : List X → Section) (id : ℕ)
+    → ((y : Y) → Fits y → length (enc y) < 2 ^ 32 → (at : ℕ) → Written f R y at (enc y)) → ((y : Y) → 0 < length (enc y))
+    → ((xs : List X) (at : ℕ) (bytes : List ℕ) → (Exactly (id ∷ []) ▸ Sized (Vector f xs)) at bytes → SectionOf (mk xs) at bytes) → (ys : List Y) → All Fits ys
+    → length (section id enc ys) < 2 ^ 32 → (at : ℕ) → SectionWritten f R mk ys at (section id enc ys)
 write_section f R Fits enc mk id w some wrap [] a l at = record { raws = []; spelled = refl; means = tt }
 write_section f R Fits enc mk id w some wrap (y ∷ ys) a l at =
     let v = vector enc (y ∷ ys) in
@@ -210,8 +236,19 @@ write_start None h l at = refl
 write_start (Some x) h l at =
     let v = shortest x in
     let n = shortest (length v) in
-    let len : length n + length v < 2 ^ 32 = omega (arith, l, length-append n v) in
-    (start_section (Some x), [], sym (append-nil (start_section (Some x))), (0x08 ∷ [], n ++ v, refl, refl, (length v, (n, v, refl, shortest_spells (length v) (omega (arith, len)), (refl, shortest_spells x h)))), refl)
+    let len : length n + length v < 2 ^ 32 = omega (arith, l, length-append n v) in (
+      start_section (Some x),
+      [],
+      sym (append-nil (start_section (Some x))),
+      (
+        0x08 ∷ [],
+        n ++ v,
+        refl,
+        refl,
+        (length v, (n, v, refl, shortest_spells (length v) (omega (arith, len)), (refl, shortest_spells x h))),
+      ),
+      refl,
+    )
 
 -- merged runs have the sum of the runs
 run_onto_sum : (r : Run) (rs : List Run) → sum_by (λ (r : Run). r.count) (run_onto r rs) ≡ r.count + sum_by (λ (r : Run). r.count) rs
@@ -299,7 +336,9 @@ record Known (m : Module) (at : ℕ) : Type 0 where
   raw_elements : List RawElem
   raw_bodies : List RawBody
   raw_segments : List RawSegment
-  spelled : SpelledFrom at 1 (of_entries types raw_types ∷ of_entries imports raw_imports ∷ of_entries functions raw_functions ∷ of_entries tables raw_tables ∷ of_entries memories raw_memories ∷ of_entries globals raw_globals ∷ of_entries exports raw_exports ∷ of_start m.start ∷ of_entries elements raw_elements ∷ of_entries bodies raw_bodies ∷ of_entries segments raw_segments ∷ []) (sections m) m.customs
+  spelled : SpelledFrom at 1 (of_entries types raw_types ∷ of_entries imports raw_imports ∷ of_entries functions raw_functions ∷ of_entries tables raw_tables
+      ∷ of_entries memories raw_memories ∷ of_entries globals raw_globals ∷ of_entries exports raw_exports ∷ of_start m.start ∷ of_entries elements raw_elements
+      ∷ of_entries bodies raw_bodies ∷ of_entries segments raw_segments ∷ []) (sections m) m.customs
   is_types : Each IsFuncType raw_types m.types
   is_imports : Each IsImport raw_imports m.imports
   is_functions : Each HasSort raw_functions m.funcs
@@ -318,7 +357,8 @@ known m at w few l =
     let p2 : ℕ = p1 + length (section 1 func_type_bytes m.types) + length (customs_behind 1 m.customs) in
     let s2 = write_section ImportOf IsImport ImportFits import_bytes imports 2 write_import import_some (λ xs k bytes h. h) m.imports w.imports l.1.0 p2 in
     let p3 : ℕ = p2 + length (section 2 import_bytes m.imports) + length (customs_behind 2 m.customs) in
-    let s3 = write_section Number HasSort (λ (f : Func). f.sort < 2 ^ 32) (λ (f : Func). shortest f.sort) functions 3 write_sort (λ f. number_some f.sort) (λ xs k bytes h. h) m.funcs (sorts_fit m.funcs w.funcs) l.1.1.0 p3 in
+    let s3 = write_section Number HasSort (λ (f : Func). f.sort < 2 ^ 32) (λ (f : Func). shortest f.sort) functions 3 write_sort (λ f. number_some f.sort) (λ xs k bytes h. h) m.funcs
+    (sorts_fit m.funcs w.funcs) l.1.1.0 p3 in
     let p4 : ℕ = p3 + length (section 3 (λ (f : Func). shortest f.sort) m.funcs) + length (customs_behind 3 m.customs) in
     let s4 = write_section TableType Itself LimitsFit table_bytes tables 4 write_table table_some (λ xs k bytes h. h) m.tables w.tables l.1.1.1.0 p4 in
     let p5 : ℕ = p4 + length (section 4 table_bytes m.tables) + length (customs_behind 4 m.customs) in
@@ -332,7 +372,8 @@ known m at w few l =
     let p9 : ℕ = p8 + length (start_section m.start) + length (customs_behind 8 m.customs) in
     let s9 = write_section ElementOf IsElem ElemFits elem_bytes elements 9 write_elem elem_some (λ xs k bytes h. h) m.elems w.elems l.1.1.1.1.1.1.1.1.0 p9 in
     let p10 : ℕ = p9 + length (section 9 elem_bytes m.elems) + length (customs_behind 9 m.customs) in
-    let s10 = write_section BodyOf (λ raw f. IsBody raw (merged_func f)) BodyFits (λ f. sized (body_bytes f)) bodies 10 write_body body_some (λ xs k bytes h. h) m.funcs (bodies_fit m.funcs w.funcs few) l.1.1.1.1.1.1.1.1.1.0 p10 in
+    let s10 = write_section BodyOf (λ raw f. IsBody raw (merged_func f)) BodyFits (λ f. sized (body_bytes f)) bodies 10 write_body body_some (λ xs k bytes h. h) m.funcs
+    (bodies_fit m.funcs w.funcs few) l.1.1.1.1.1.1.1.1.1.0 p10 in
     let p11 : ℕ = p10 + length (section 10 (λ f. sized (body_bytes f)) m.funcs) + length (customs_behind 10 m.customs) in
     let s11 = write_section SegmentOf IsSegment SegmentFits segment_bytes segments 11 write_segment segment_some (λ xs k bytes h. h) m.segments w.segments l.1.1.1.1.1.1.1.1.1.1.0 p11 in
     record {
@@ -361,58 +402,235 @@ known m at w few l =
 
 module _ (m : Module) (at : ℕ) (k : Known m at) where
   all_slots : List (List Section)
-  all_slots = of_entries types k.raw_types ∷ of_entries imports k.raw_imports ∷ of_entries functions k.raw_functions ∷ of_entries tables k.raw_tables ∷ of_entries memories k.raw_memories ∷ of_entries globals k.raw_globals ∷ of_entries exports k.raw_exports ∷ of_start m.start ∷ of_entries elements k.raw_elements ∷ of_entries bodies k.raw_bodies ∷ of_entries segments k.raw_segments ∷ []
+  all_slots = of_entries types k.raw_types ∷ of_entries imports k.raw_imports ∷ of_entries functions k.raw_functions ∷ of_entries tables k.raw_tables ∷ of_entries memories k.raw_memories
+      ∷ of_entries globals k.raw_globals ∷ of_entries exports k.raw_exports ∷ of_start m.start ∷ of_entries elements k.raw_elements ∷ of_entries bodies k.raw_bodies
+      ∷ of_entries segments k.raw_segments ∷ []
 
   all_sections : List Section
   all_sections = as_customs (placed_behind 0 m.customs) ++ file_from 1 all_slots m.customs
 
   slots_right : Slots 1 (written_flags m) all_slots
   unfolding all_slots
-  slots_right = (slot_of IsFuncType 1 types (λ xs. refl) k.raw_types m.types k.is_types, (slot_of IsImport 2 imports (λ xs. refl) k.raw_imports m.imports k.is_imports, (slot_of HasSort 3 functions (λ xs. refl) k.raw_functions m.funcs k.is_functions, (slot_of Itself 4 tables (λ xs. refl) k.raw_tables m.tables k.is_tables, (slot_of Itself 5 memories (λ xs. refl) k.raw_memories m.memories k.is_memories, (slot_of IsGlobal 6 globals (λ xs. refl) k.raw_globals m.globals k.is_globals, (slot_of Itself 7 exports (λ xs. refl) k.raw_exports m.exports k.is_exports, (slot_start m.start, (slot_of IsElem 9 elements (λ xs. refl) k.raw_elements m.elems k.is_elements, (slot_of (λ raw f. IsBody raw (merged_func f)) 10 bodies (λ xs. refl) k.raw_bodies m.funcs k.is_bodies, (slot_of IsSegment 11 segments (λ xs. refl) k.raw_segments m.segments k.is_segments, tt)))))))))))
+  slots_right = (
+    slot_of IsFuncType 1 types (λ xs. refl) k.raw_types m.types k.is_types,
+    (
+      slot_of IsImport 2 imports (λ xs. refl) k.raw_imports m.imports k.is_imports,
+      (
+        slot_of HasSort 3 functions (λ xs. refl) k.raw_functions m.funcs k.is_functions,
+        (
+          slot_of Itself 4 tables (λ xs. refl) k.raw_tables m.tables k.is_tables,
+          (
+            slot_of Itself 5 memories (λ xs. refl) k.raw_memories m.memories k.is_memories,
+            (
+              slot_of IsGlobal 6 globals (λ xs. refl) k.raw_globals m.globals k.is_globals,
+              (
+                slot_of Itself 7 exports (λ xs. refl) k.raw_exports m.exports k.is_exports,
+                (
+                  slot_start m.start,
+                  (
+                    slot_of IsElem 9 elements (λ xs. refl) k.raw_elements m.elems k.is_elements,
+                    (
+                      slot_of (λ raw f. IsBody raw (merged_func f)) 10 bodies (λ xs. refl) k.raw_bodies m.funcs k.is_bodies,
+                      (slot_of IsSegment 11 segments (λ xs. refl) k.raw_segments m.segments k.is_segments, tt),
+                    ),
+                  ),
+                ),
+              ),
+            ),
+          ),
+        ),
+      ),
+    ),
+  )
 
   has_types : flat_map types_in all_sections ≡ k.raw_types
   unfolding all_sections all_slots
-  has_types = held types_in (λ n b. refl) (placed_behind 0 m.customs) all_slots m.customs ∙ rw (entries_held types_in types (λ xs. refl) k.raw_types, others_held types_in imports (λ ys. refl) k.raw_imports, others_held types_in functions (λ ys. refl) k.raw_functions, others_held types_in tables (λ ys. refl) k.raw_tables, others_held types_in memories (λ ys. refl) k.raw_memories, others_held types_in globals (λ ys. refl) k.raw_globals, others_held types_in exports (λ ys. refl) k.raw_exports, start_other types_in (λ x. refl) m.start, others_held types_in elements (λ ys. refl) k.raw_elements, others_held types_in bodies (λ ys. refl) k.raw_bodies, others_held types_in segments (λ ys. refl) k.raw_segments) (append-nil k.raw_types)
+  has_types = held types_in (λ n b. refl) (placed_behind 0 m.customs) all_slots m.customs
+      ∙ rw (
+        entries_held types_in types (λ xs. refl) k.raw_types,
+        others_held types_in imports (λ ys. refl) k.raw_imports,
+        others_held types_in functions (λ ys. refl) k.raw_functions,
+        others_held types_in tables (λ ys. refl) k.raw_tables,
+        others_held types_in memories (λ ys. refl) k.raw_memories,
+        others_held types_in globals (λ ys. refl) k.raw_globals,
+        others_held types_in exports (λ ys. refl) k.raw_exports,
+        start_other types_in (λ x. refl) m.start,
+        others_held types_in elements (λ ys. refl) k.raw_elements,
+        others_held types_in bodies (λ ys. refl) k.raw_bodies,
+        others_held types_in segments (λ ys. refl) k.raw_segments,
+      ) (append-nil k.raw_types)
 
   has_imports : flat_map imports_in all_sections ≡ k.raw_imports
   unfolding all_sections all_slots
-  has_imports = held imports_in (λ n b. refl) (placed_behind 0 m.customs) all_slots m.customs ∙ rw (others_held imports_in types (λ ys. refl) k.raw_types, entries_held imports_in imports (λ xs. refl) k.raw_imports, others_held imports_in functions (λ ys. refl) k.raw_functions, others_held imports_in tables (λ ys. refl) k.raw_tables, others_held imports_in memories (λ ys. refl) k.raw_memories, others_held imports_in globals (λ ys. refl) k.raw_globals, others_held imports_in exports (λ ys. refl) k.raw_exports, start_other imports_in (λ x. refl) m.start, others_held imports_in elements (λ ys. refl) k.raw_elements, others_held imports_in bodies (λ ys. refl) k.raw_bodies, others_held imports_in segments (λ ys. refl) k.raw_segments) (append-nil k.raw_imports)
+  has_imports = held imports_in (λ n b. refl) (placed_behind 0 m.customs) all_slots m.customs
+      ∙ rw (
+        others_held imports_in types (λ ys. refl) k.raw_types,
+        entries_held imports_in imports (λ xs. refl) k.raw_imports,
+        others_held imports_in functions (λ ys. refl) k.raw_functions,
+        others_held imports_in tables (λ ys. refl) k.raw_tables,
+        others_held imports_in memories (λ ys. refl) k.raw_memories,
+        others_held imports_in globals (λ ys. refl) k.raw_globals,
+        others_held imports_in exports (λ ys. refl) k.raw_exports,
+        start_other imports_in (λ x. refl) m.start,
+        others_held imports_in elements (λ ys. refl) k.raw_elements,
+        others_held imports_in bodies (λ ys. refl) k.raw_bodies,
+        others_held imports_in segments (λ ys. refl) k.raw_segments,
+      ) (append-nil k.raw_imports)
 
   has_functions : flat_map sorts_in all_sections ≡ k.raw_functions
   unfolding all_sections all_slots
-  has_functions = held sorts_in (λ n b. refl) (placed_behind 0 m.customs) all_slots m.customs ∙ rw (others_held sorts_in types (λ ys. refl) k.raw_types, others_held sorts_in imports (λ ys. refl) k.raw_imports, entries_held sorts_in functions (λ xs. refl) k.raw_functions, others_held sorts_in tables (λ ys. refl) k.raw_tables, others_held sorts_in memories (λ ys. refl) k.raw_memories, others_held sorts_in globals (λ ys. refl) k.raw_globals, others_held sorts_in exports (λ ys. refl) k.raw_exports, start_other sorts_in (λ x. refl) m.start, others_held sorts_in elements (λ ys. refl) k.raw_elements, others_held sorts_in bodies (λ ys. refl) k.raw_bodies, others_held sorts_in segments (λ ys. refl) k.raw_segments) (append-nil k.raw_functions)
+  has_functions = held sorts_in (λ n b. refl) (placed_behind 0 m.customs) all_slots m.customs
+      ∙ rw (
+        others_held sorts_in types (λ ys. refl) k.raw_types,
+        others_held sorts_in imports (λ ys. refl) k.raw_imports,
+        entries_held sorts_in functions (λ xs. refl) k.raw_functions,
+        others_held sorts_in tables (λ ys. refl) k.raw_tables,
+        others_held sorts_in memories (λ ys. refl) k.raw_memories,
+        others_held sorts_in globals (λ ys. refl) k.raw_globals,
+        others_held sorts_in exports (λ ys. refl) k.raw_exports,
+        start_other sorts_in (λ x. refl) m.start,
+        others_held sorts_in elements (λ ys. refl) k.raw_elements,
+        others_held sorts_in bodies (λ ys. refl) k.raw_bodies,
+        others_held sorts_in segments (λ ys. refl) k.raw_segments,
+      ) (append-nil k.raw_functions)
 
   has_tables : flat_map tables_in all_sections ≡ k.raw_tables
   unfolding all_sections all_slots
-  has_tables = held tables_in (λ n b. refl) (placed_behind 0 m.customs) all_slots m.customs ∙ rw (others_held tables_in types (λ ys. refl) k.raw_types, others_held tables_in imports (λ ys. refl) k.raw_imports, others_held tables_in functions (λ ys. refl) k.raw_functions, entries_held tables_in tables (λ xs. refl) k.raw_tables, others_held tables_in memories (λ ys. refl) k.raw_memories, others_held tables_in globals (λ ys. refl) k.raw_globals, others_held tables_in exports (λ ys. refl) k.raw_exports, start_other tables_in (λ x. refl) m.start, others_held tables_in elements (λ ys. refl) k.raw_elements, others_held tables_in bodies (λ ys. refl) k.raw_bodies, others_held tables_in segments (λ ys. refl) k.raw_segments) (append-nil k.raw_tables)
+  has_tables = held tables_in (λ n b. refl) (placed_behind 0 m.customs) all_slots m.customs
+      ∙ rw (
+        others_held tables_in types (λ ys. refl) k.raw_types,
+        others_held tables_in imports (λ ys. refl) k.raw_imports,
+        others_held tables_in functions (λ ys. refl) k.raw_functions,
+        entries_held tables_in tables (λ xs. refl) k.raw_tables,
+        others_held tables_in memories (λ ys. refl) k.raw_memories,
+        others_held tables_in globals (λ ys. refl) k.raw_globals,
+        others_held tables_in exports (λ ys. refl) k.raw_exports,
+        start_other tables_in (λ x. refl) m.start,
+        others_held tables_in elements (λ ys. refl) k.raw_elements,
+        others_held tables_in bodies (λ ys. refl) k.raw_bodies,
+        others_held tables_in segments (λ ys. refl) k.raw_segments,
+      ) (append-nil k.raw_tables)
 
   has_memories : flat_map memories_in all_sections ≡ k.raw_memories
   unfolding all_sections all_slots
-  has_memories = held memories_in (λ n b. refl) (placed_behind 0 m.customs) all_slots m.customs ∙ rw (others_held memories_in types (λ ys. refl) k.raw_types, others_held memories_in imports (λ ys. refl) k.raw_imports, others_held memories_in functions (λ ys. refl) k.raw_functions, others_held memories_in tables (λ ys. refl) k.raw_tables, entries_held memories_in memories (λ xs. refl) k.raw_memories, others_held memories_in globals (λ ys. refl) k.raw_globals, others_held memories_in exports (λ ys. refl) k.raw_exports, start_other memories_in (λ x. refl) m.start, others_held memories_in elements (λ ys. refl) k.raw_elements, others_held memories_in bodies (λ ys. refl) k.raw_bodies, others_held memories_in segments (λ ys. refl) k.raw_segments) (append-nil k.raw_memories)
+  has_memories = held memories_in (λ n b. refl) (placed_behind 0 m.customs) all_slots m.customs
+      ∙ rw (
+        others_held memories_in types (λ ys. refl) k.raw_types,
+        others_held memories_in imports (λ ys. refl) k.raw_imports,
+        others_held memories_in functions (λ ys. refl) k.raw_functions,
+        others_held memories_in tables (λ ys. refl) k.raw_tables,
+        entries_held memories_in memories (λ xs. refl) k.raw_memories,
+        others_held memories_in globals (λ ys. refl) k.raw_globals,
+        others_held memories_in exports (λ ys. refl) k.raw_exports,
+        start_other memories_in (λ x. refl) m.start,
+        others_held memories_in elements (λ ys. refl) k.raw_elements,
+        others_held memories_in bodies (λ ys. refl) k.raw_bodies,
+        others_held memories_in segments (λ ys. refl) k.raw_segments,
+      ) (append-nil k.raw_memories)
 
   has_globals : flat_map globals_in all_sections ≡ k.raw_globals
   unfolding all_sections all_slots
-  has_globals = held globals_in (λ n b. refl) (placed_behind 0 m.customs) all_slots m.customs ∙ rw (others_held globals_in types (λ ys. refl) k.raw_types, others_held globals_in imports (λ ys. refl) k.raw_imports, others_held globals_in functions (λ ys. refl) k.raw_functions, others_held globals_in tables (λ ys. refl) k.raw_tables, others_held globals_in memories (λ ys. refl) k.raw_memories, entries_held globals_in globals (λ xs. refl) k.raw_globals, others_held globals_in exports (λ ys. refl) k.raw_exports, start_other globals_in (λ x. refl) m.start, others_held globals_in elements (λ ys. refl) k.raw_elements, others_held globals_in bodies (λ ys. refl) k.raw_bodies, others_held globals_in segments (λ ys. refl) k.raw_segments) (append-nil k.raw_globals)
+  has_globals = held globals_in (λ n b. refl) (placed_behind 0 m.customs) all_slots m.customs
+      ∙ rw (
+        others_held globals_in types (λ ys. refl) k.raw_types,
+        others_held globals_in imports (λ ys. refl) k.raw_imports,
+        others_held globals_in functions (λ ys. refl) k.raw_functions,
+        others_held globals_in tables (λ ys. refl) k.raw_tables,
+        others_held globals_in memories (λ ys. refl) k.raw_memories,
+        entries_held globals_in globals (λ xs. refl) k.raw_globals,
+        others_held globals_in exports (λ ys. refl) k.raw_exports,
+        start_other globals_in (λ x. refl) m.start,
+        others_held globals_in elements (λ ys. refl) k.raw_elements,
+        others_held globals_in bodies (λ ys. refl) k.raw_bodies,
+        others_held globals_in segments (λ ys. refl) k.raw_segments,
+      ) (append-nil k.raw_globals)
 
   has_exports : flat_map exports_in all_sections ≡ k.raw_exports
   unfolding all_sections all_slots
-  has_exports = held exports_in (λ n b. refl) (placed_behind 0 m.customs) all_slots m.customs ∙ rw (others_held exports_in types (λ ys. refl) k.raw_types, others_held exports_in imports (λ ys. refl) k.raw_imports, others_held exports_in functions (λ ys. refl) k.raw_functions, others_held exports_in tables (λ ys. refl) k.raw_tables, others_held exports_in memories (λ ys. refl) k.raw_memories, others_held exports_in globals (λ ys. refl) k.raw_globals, entries_held exports_in exports (λ xs. refl) k.raw_exports, start_other exports_in (λ x. refl) m.start, others_held exports_in elements (λ ys. refl) k.raw_elements, others_held exports_in bodies (λ ys. refl) k.raw_bodies, others_held exports_in segments (λ ys. refl) k.raw_segments) (append-nil k.raw_exports)
+  has_exports = held exports_in (λ n b. refl) (placed_behind 0 m.customs) all_slots m.customs
+      ∙ rw (
+        others_held exports_in types (λ ys. refl) k.raw_types,
+        others_held exports_in imports (λ ys. refl) k.raw_imports,
+        others_held exports_in functions (λ ys. refl) k.raw_functions,
+        others_held exports_in tables (λ ys. refl) k.raw_tables,
+        others_held exports_in memories (λ ys. refl) k.raw_memories,
+        others_held exports_in globals (λ ys. refl) k.raw_globals,
+        entries_held exports_in exports (λ xs. refl) k.raw_exports,
+        start_other exports_in (λ x. refl) m.start,
+        others_held exports_in elements (λ ys. refl) k.raw_elements,
+        others_held exports_in bodies (λ ys. refl) k.raw_bodies,
+        others_held exports_in segments (λ ys. refl) k.raw_segments,
+      ) (append-nil k.raw_exports)
 
   has_elements : flat_map elements_in all_sections ≡ k.raw_elements
   unfolding all_sections all_slots
-  has_elements = held elements_in (λ n b. refl) (placed_behind 0 m.customs) all_slots m.customs ∙ rw (others_held elements_in types (λ ys. refl) k.raw_types, others_held elements_in imports (λ ys. refl) k.raw_imports, others_held elements_in functions (λ ys. refl) k.raw_functions, others_held elements_in tables (λ ys. refl) k.raw_tables, others_held elements_in memories (λ ys. refl) k.raw_memories, others_held elements_in globals (λ ys. refl) k.raw_globals, others_held elements_in exports (λ ys. refl) k.raw_exports, start_other elements_in (λ x. refl) m.start, entries_held elements_in elements (λ xs. refl) k.raw_elements, others_held elements_in bodies (λ ys. refl) k.raw_bodies, others_held elements_in segments (λ ys. refl) k.raw_segments) (append-nil k.raw_elements)
+  has_elements = held elements_in (λ n b. refl) (placed_behind 0 m.customs) all_slots m.customs
+      ∙ rw (
+        others_held elements_in types (λ ys. refl) k.raw_types,
+        others_held elements_in imports (λ ys. refl) k.raw_imports,
+        others_held elements_in functions (λ ys. refl) k.raw_functions,
+        others_held elements_in tables (λ ys. refl) k.raw_tables,
+        others_held elements_in memories (λ ys. refl) k.raw_memories,
+        others_held elements_in globals (λ ys. refl) k.raw_globals,
+        others_held elements_in exports (λ ys. refl) k.raw_exports,
+        start_other elements_in (λ x. refl) m.start,
+        entries_held elements_in elements (λ xs. refl) k.raw_elements,
+        others_held elements_in bodies (λ ys. refl) k.raw_bodies,
+        others_held elements_in segments (λ ys. refl) k.raw_segments,
+      )
+      (append-nil k.raw_elements)
 
   has_bodies : flat_map bodies_in all_sections ≡ k.raw_bodies
   unfolding all_sections all_slots
-  has_bodies = held bodies_in (λ n b. refl) (placed_behind 0 m.customs) all_slots m.customs ∙ rw (others_held bodies_in types (λ ys. refl) k.raw_types, others_held bodies_in imports (λ ys. refl) k.raw_imports, others_held bodies_in functions (λ ys. refl) k.raw_functions, others_held bodies_in tables (λ ys. refl) k.raw_tables, others_held bodies_in memories (λ ys. refl) k.raw_memories, others_held bodies_in globals (λ ys. refl) k.raw_globals, others_held bodies_in exports (λ ys. refl) k.raw_exports, start_other bodies_in (λ x. refl) m.start, others_held bodies_in elements (λ ys. refl) k.raw_elements, entries_held bodies_in bodies (λ xs. refl) k.raw_bodies, others_held bodies_in segments (λ ys. refl) k.raw_segments) (append-nil k.raw_bodies)
+  has_bodies = held bodies_in (λ n b. refl) (placed_behind 0 m.customs) all_slots m.customs
+      ∙ rw (
+        others_held bodies_in types (λ ys. refl) k.raw_types,
+        others_held bodies_in imports (λ ys. refl) k.raw_imports,
+        others_held bodies_in functions (λ ys. refl) k.raw_functions,
+        others_held bodies_in tables (λ ys. refl) k.raw_tables,
+        others_held bodies_in memories (λ ys. refl) k.raw_memories,
+        others_held bodies_in globals (λ ys. refl) k.raw_globals,
+        others_held bodies_in exports (λ ys. refl) k.raw_exports,
+        start_other bodies_in (λ x. refl) m.start,
+        others_held bodies_in elements (λ ys. refl) k.raw_elements,
+        entries_held bodies_in bodies (λ xs. refl) k.raw_bodies,
+        others_held bodies_in segments (λ ys. refl) k.raw_segments,
+      ) (append-nil k.raw_bodies)
 
   has_segments : flat_map segments_in all_sections ≡ k.raw_segments
   unfolding all_sections all_slots
-  has_segments = held segments_in (λ n b. refl) (placed_behind 0 m.customs) all_slots m.customs ∙ rw (others_held segments_in types (λ ys. refl) k.raw_types, others_held segments_in imports (λ ys. refl) k.raw_imports, others_held segments_in functions (λ ys. refl) k.raw_functions, others_held segments_in tables (λ ys. refl) k.raw_tables, others_held segments_in memories (λ ys. refl) k.raw_memories, others_held segments_in globals (λ ys. refl) k.raw_globals, others_held segments_in exports (λ ys. refl) k.raw_exports, start_other segments_in (λ x. refl) m.start, others_held segments_in elements (λ ys. refl) k.raw_elements, others_held segments_in bodies (λ ys. refl) k.raw_bodies, entries_held segments_in segments (λ xs. refl) k.raw_segments) (append-nil k.raw_segments)
+  has_segments = held segments_in (λ n b. refl) (placed_behind 0 m.customs) all_slots m.customs
+      ∙ rw (
+        others_held segments_in types (λ ys. refl) k.raw_types,
+        others_held segments_in imports (λ ys. refl) k.raw_imports,
+        others_held segments_in functions (λ ys. refl) k.raw_functions,
+        others_held segments_in tables (λ ys. refl) k.raw_tables,
+        others_held segments_in memories (λ ys. refl) k.raw_memories,
+        others_held segments_in globals (λ ys. refl) k.raw_globals,
+        others_held segments_in exports (λ ys. refl) k.raw_exports,
+        start_other segments_in (λ x. refl) m.start,
+        others_held segments_in elements (λ ys. refl) k.raw_elements,
+        others_held segments_in bodies (λ ys. refl) k.raw_bodies,
+        entries_held segments_in segments (λ xs. refl) k.raw_segments,
+      )
+      (append-nil k.raw_segments)
 
   has_start_x : flat_map starts_in all_sections ≡ option_to_list m.start
   unfolding all_sections all_slots
-  has_start_x = held starts_in (λ n b. refl) (placed_behind 0 m.customs) all_slots m.customs ∙ rw (others_held starts_in types (λ ys. refl) k.raw_types, others_held starts_in imports (λ ys. refl) k.raw_imports, others_held starts_in functions (λ ys. refl) k.raw_functions, others_held starts_in tables (λ ys. refl) k.raw_tables, others_held starts_in memories (λ ys. refl) k.raw_memories, others_held starts_in globals (λ ys. refl) k.raw_globals, others_held starts_in exports (λ ys. refl) k.raw_exports, start_held m.start, others_held starts_in elements (λ ys. refl) k.raw_elements, others_held starts_in bodies (λ ys. refl) k.raw_bodies, others_held starts_in segments (λ ys. refl) k.raw_segments) (append-nil (option_to_list m.start))
+  has_start_x = held starts_in (λ n b. refl) (placed_behind 0 m.customs) all_slots m.customs
+      ∙ rw (
+        others_held starts_in types (λ ys. refl) k.raw_types,
+        others_held starts_in imports (λ ys. refl) k.raw_imports,
+        others_held starts_in functions (λ ys. refl) k.raw_functions,
+        others_held starts_in tables (λ ys. refl) k.raw_tables,
+        others_held starts_in memories (λ ys. refl) k.raw_memories,
+        others_held starts_in globals (λ ys. refl) k.raw_globals,
+        others_held starts_in exports (λ ys. refl) k.raw_exports,
+        start_held m.start,
+        others_held starts_in elements (λ ys. refl) k.raw_elements,
+        others_held starts_in bodies (λ ys. refl) k.raw_bodies,
+        others_held starts_in segments (λ ys. refl) k.raw_segments,
+      ) (append-nil (option_to_list m.start))
 
   has_customs : customs_of 0 all_sections ≡ map (placed_at 0) (placed_behind 0 m.customs) ++ lowered 1 0 (written_flags m) m.customs
   unfolding all_sections
@@ -446,7 +664,8 @@ module _ (m : Module) (at : ℕ) (k : Known m at) where
       ap length has_functions ∙ each_length HasSort k.raw_functions m.funcs k.is_functions
       ∙ sym (each_length (λ raw f. IsBody raw (merged_func f)) k.raw_bodies m.funcs k.is_bodies) ∙ ap length (sym has_bodies)
 
-  all_spelled : All CustomFits m.customs → length (customs_behind 0 m.customs) < 2 ^ 32 → length (with_customs 1 (sections m) m.customs) < 2 ^ 32 → at ≡ 8 + length (customs_behind 0 m.customs) → Items SectionOf all_sections 8 (customs_behind 0 m.customs ++ with_customs 1 (sections m) m.customs)
+  all_spelled : All CustomFits m.customs → length (customs_behind 0 m.customs) < 2 ^ 32 → length (with_customs 1 (sections m) m.customs) < 2 ^ 32
+      → at ≡ 8 + length (customs_behind 0 m.customs) → Items SectionOf all_sections 8 (customs_behind 0 m.customs ++ with_customs 1 (sections m) m.customs)
   unfolding all_sections all_slots
   all_spelled a c l e =
       items_append (as_customs (placed_behind 0 m.customs)) (file_from 1 all_slots m.customs) 8 (customs_behind 0 m.customs) (with_customs 1 (sections m) m.customs)

@@ -1,5 +1,6 @@
 -- Goals of one item, and of few.
-use Rattle.std.proofs.Common.{◌≡◌, ℕ, suc, zero, ◌+◌, ◌<◌, ◌≤◌, ◌⊎◌, List, [], ◌∷◌, ◌++◌, Option, Some, None, refl, ap, sym, ◌∙◌, subst, arith, append-nil, length, Bool, true, false, inl, inr, nat_eq, nat_le, eqb-true, IsTrue, IsUtf8}
+use Rattle.std.proofs.Common.{◌≡◌, ℕ, suc, zero, ◌+◌, ◌<◌, ◌≤◌, ◌⊎◌, List, [], ◌∷◌, ◌++◌, Option, Some, None, refl, ap, sym, ◌∙◌, subst, arith, append-nil, length, Bool, true, false, inl}
+use Rattle.std.proofs.Common.{inr, nat_eq, nat_le, eqb-true, IsTrue, IsUtf8}
 use Rattle.std.proofs.lemmas.Bool.{leb-true}
 use Rattle.wa_types.specs.declared.syntax.Space.{Space}
 use Rattle.wa_types.specs.declared.syntax.Space.TheVariants.{Func as a_func, Table as a_table, Memory as a_memory, Global as a_global}
@@ -7,9 +8,10 @@ use Rattle.wa_types.specs.Leb.{IsUnsigned}
 use Rattle.wa_types.specs.Encoding.{space_byte, mutable_byte}
 use Rattle.wa_types.specs.Opcodes.{is_value_type, is_block_type}
 use Rattle.wa_types.specs.Binary.{RawKind, raw_func, raw_table, raw_memory, raw_global}
-use Rattle.wa_types.specs.Begun.{Goal, exact, number, name, value_type, block_type, mutable, import_kind, space, limits, signed, name_bytes, float_bytes, Item, a_byte, an_unsigned, a_signed, a_name, a_constant_of, IsItem, wants, next, behind_flag, behind_kind, name_of}
+use Rattle.wa_types.specs.Begun.{Goal, exact, number, name, value_type, block_type, mutable, import_kind, space, limits, signed, name_bytes, float_bytes, Item, a_byte, an_unsigned, a_signed}
+use Rattle.wa_types.specs.Begun.{a_name, a_constant_of, IsItem, wants, next, behind_flag, behind_kind, name_of}
 use Rattle.wa_types.specs.Spells.{◌▸◌, Exactly, Number, SignedNumber, Text, ValueType, BlockType, Maximum, LimitsOf, TableType, GlobalType, ImportKindOf}
-use Rattle.file_laws.proofs.Going.{Any, Reads, ReadsNext, reads_none, reads_then, reads_as, Begins, reads_first, next_where}
+use Rattle.file_laws.proofs.GoalReads.{Any, Reads, ReadsNext, reads_none, reads_then, reads_as, Begins, reads_first, next_where}
 
 -- an item and nothing behind it
 pub alone : (i : Item) (at : ℕ) (bytes : List ℕ) → Begins i (λ v k. Exactly []) at bytes → (v : ℕ) × IsItem i bytes v
@@ -132,7 +134,8 @@ pub next_flag : (v : ℕ) → ReadsNext (behind_flag v) (Flagged v)
 next_flag v = elim (tested v 0) [
   | inl e ↦ subst (λ z. ReadsNext (behind_flag z) (Flagged z)) (sym e) (reads_as _ (Any Number) (Flagged 0) (λ at a h. without refl h) flag_low reads_number)
   | inr a ↦ elim (tested v 1) [
-    | inl e ↦ subst (λ z. ReadsNext (behind_flag z) (Flagged z)) (sym e) (reads_as _ (Any Number ▸ Any Number) (Flagged 1) (λ at a h. with_high refl h) flag_high (reads_then number (number ∷ []) (Any Number) (Any Number) reads_number reads_number))
+    | inl e ↦ subst (λ z. ReadsNext (behind_flag z) (Flagged z)) (sym e) (reads_as _ (Any Number ▸ Any Number) (Flagged 1) (λ at a h. with_high refl h) flag_high
+        (reads_then number (number ∷ []) (Any Number) (Any Number) reads_number reads_number))
     | inr b ↦ rw (a, b) (flag_none v a b)
   ]
 ]
@@ -145,7 +148,15 @@ limits_from at bytes b = by_flag b.value (subst (λ z. bytes ≡ z ++ b.back) b.
   by_flag v e (with_high f h) = (record { min = h.3.0; max = Some h.4.0 }, (0x01 ∷ [], b.back, e ∙ ap (λ z. z ∷ b.back) f, refl, (h.0, h.1, h.2, h.3.1, h.4.1)))
 
 limits_to_max : (at low : ℕ) (high : Option ℕ) (bytes : List ℕ) → Maximum low high at bytes → Begins a_byte (λ v k. Flagged v) at bytes
-limits_to_max at low None bytes h = record { front = 0x00 ∷ []; back = h.1; value = 0x00; whole = h.2 ∙ ap (λ z. z ++ h.1) h.3; is_item = refl; follows = without refl (low, subst (λ z. Number low (at + length z) h.1) h.3 h.4) }
+limits_to_max at low None bytes h = record {
+  front = 0x00 ∷ [];
+  back = h.1;
+  value = 0x00;
+  whole = h.2
+      ∙ ap (λ z. z ++ h.1) h.3;
+  is_item = refl;
+  follows = without refl (low, subst (λ z. Number low (at + length z) h.1) h.3 h.4);
+}
 limits_to_max at low (Some high) bytes h =
     let t = subst (λ z. (Number low ▸ Number high) (at + length z) h.1) h.3 h.4 in
     record { front = 0x01 ∷ []; back = h.1; value = 0x01; whole = h.2 ∙ ap (λ z. z ++ h.1) h.3; is_item = refl; follows = with_high refl (t.0, t.1, t.2, (low, t.3), (high, t.4)) }
@@ -242,11 +253,13 @@ next_kind v =
     elim (tested v 0) [
       | inl e ↦ subst P (sym e) (reads_as _ (Any Number) (Kinded 0) (λ at a h. kind_func refl h) of_func reads_number)
       | inr a ↦ elim (tested v 1) [
-        | inl e ↦ subst P (sym e) (reads_as _ (Exactly (0x70 ∷ []) ▸ Any LimitsOf) (Kinded 1) (λ at a h. kind_table refl h) of_table (reads_then (exact 0x70) (limits ∷ []) (Exactly (0x70 ∷ [])) (Any LimitsOf) (reads_exact 0x70) reads_limits))
+        | inl e ↦ subst P (sym e) (reads_as _ (Exactly (0x70 ∷ []) ▸ Any LimitsOf) (Kinded 1) (λ at a h. kind_table refl h) of_table
+            (reads_then (exact 0x70) (limits ∷ []) (Exactly (0x70 ∷ [])) (Any LimitsOf) (reads_exact 0x70) reads_limits))
         | inr b ↦ elim (tested v 2) [
           | inl e ↦ subst P (sym e) (reads_as _ (Any LimitsOf) (Kinded 2) (λ at a h. kind_memory refl h) of_memory reads_limits)
           | inr c ↦ elim (tested v 3) [
-            | inl e ↦ subst P (sym e) (reads_as _ (Any ValueType ▸ Any Mutability) (Kinded 3) (λ at a h. kind_global refl h) of_global (reads_then value_type (mutable ∷ []) (Any ValueType) (Any Mutability) reads_value_type reads_mutable))
+            | inl e ↦ subst P (sym e) (reads_as _ (Any ValueType ▸ Any Mutability) (Kinded 3) (λ at a h. kind_global refl h) of_global
+                (reads_then value_type (mutable ∷ []) (Any ValueType) (Any Mutability) reads_value_type reads_mutable))
             | inr d ↦ rw (a, b, c, d) (kind_none v a b c d)
           ]
         ]
@@ -262,15 +275,32 @@ kind_from at bytes b = by_kind b.value (subst (λ z. bytes ≡ z ++ b.back) b.is
   by_kind v e (kind_global f h) = (raw_global h.3.0 h.4.0, (0x03 ∷ [], b.back, e ∙ ap (λ z. z ∷ b.back) f, refl, (h.0, h.1, h.2, h.3.1, h.4.1)))
 
 kind_to_raw : (at : ℕ) (k : RawKind) (bytes : List ℕ) → ImportKindOf k at bytes → Begins a_byte (λ v k. Kinded v) at bytes
-kind_to_raw at (raw_func sort) bytes h = record { front = 0x00 ∷ []; back = h.1; value = 0x00; whole = h.2 ∙ ap (λ z. z ++ h.1) h.3; is_item = refl; follows = kind_func refl (sort, subst (λ z. Number sort (at + length z) h.1) h.3 h.4) }
+kind_to_raw at (raw_func sort) bytes h = record {
+  front = 0x00 ∷ [];
+  back = h.1;
+  value = 0x00;
+  whole = h.2
+      ∙ ap (λ z. z ++ h.1) h.3;
+  is_item = refl;
+  follows = kind_func refl (sort, subst (λ z. Number sort (at + length z) h.1) h.3 h.4);
+}
 kind_to_raw at (raw_table l) bytes h =
     let t = subst (λ z. TableType l (at + length z) h.1) h.3 h.4 in
     record { front = 0x01 ∷ []; back = h.1; value = 0x01; whole = h.2 ∙ ap (λ z. z ++ h.1) h.3; is_item = refl; follows = kind_table refl (t.0, t.1, t.2, t.3, (l, t.4)) }
-kind_to_raw at (raw_memory l) bytes h = record { front = 0x02 ∷ []; back = h.1; value = 0x02; whole = h.2 ∙ ap (λ z. z ++ h.1) h.3; is_item = refl; follows = kind_memory refl (l, subst (λ z. LimitsOf l (at + length z) h.1) h.3 h.4) }
+kind_to_raw at (raw_memory l) bytes h = record {
+  front = 0x02 ∷ [];
+  back = h.1;
+  value = 0x02;
+  whole = h.2
+      ∙ ap (λ z. z ++ h.1) h.3;
+  is_item = refl;
+  follows = kind_memory refl (l, subst (λ z. LimitsOf l (at + length z) h.1) h.3 h.4);
+}
 kind_to_raw at (raw_global ty m) bytes h =
     let t = subst (λ z. GlobalType ty m (at + length z) h.1) h.3 h.4 in
     record { front = 0x03 ∷ []; back = h.1; value = 0x03; whole = h.2 ∙ ap (λ z. z ++ h.1) h.3; is_item = refl; follows = kind_global refl (t.0, t.1, t.2, (ty, t.3), (m, t.4)) }
 
 pub reads_import_kind : Reads (import_kind ∷ []) (Any ImportKindOf)
 unfolding next
-reads_import_kind = reads_as _ (Begins a_byte (λ v k. Kinded v)) (Any ImportKindOf) kind_from (λ at a h. kind_to_raw at h.0 a h.1) (reads_first import_kind (λ v k. Kinded v) refl refl (λ v k. next_kind v))
+reads_import_kind = reads_as _ (Begins a_byte (λ v k. Kinded v)) (Any ImportKindOf) kind_from (λ at a h. kind_to_raw at h.0 a h.1)
+    (reads_first import_kind (λ v k. Kinded v) refl refl (λ v k. next_kind v))

@@ -5,7 +5,7 @@ pub mod EntryReads
 pub mod EntryWriting
 pub mod FileReads
 pub mod FileWriting
-pub mod Going
+pub mod GoalReads
 pub mod Items
 pub mod Leaves
 pub mod NumOpcodes

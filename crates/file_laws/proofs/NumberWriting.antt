@@ -69,7 +69,8 @@ many_bits bits n some h t = elim (cases_lt 7 bits) [
       absurd (omega (arith, half, low, h, t))
 ]
 
-signed_step : (k bits n : ℕ) → 1 ≤ bits → n < 2 ^ bits → (7 < bits → n / 128 < 2 ^ (bits - 7) → IsSigned (bits - 7) (signed_spelled k (bits - 7) (n / 128)) (n / 128)) → IsSigned bits (signed_spelled (suc k) bits n) n
+signed_step : (k bits n : ℕ) → 1 ≤ bits → n < 2 ^ bits → (7 < bits → n / 128 < 2 ^ (bits - 7) → IsSigned (bits - 7) (signed_spelled k (bits - 7) (n / 128)) (n / 128))
+    → IsSigned bits (signed_spelled (suc k) bits n) n
 signed_step k bits n some small more =
     let half : 2 ^ bits ≡ 2 * 2 ^ (bits - 1) = pow_half bits some in
     elim (cases_lt n (min 64 (2 ^ (bits - 1)))) [

@@ -1,6 +1,9 @@
 -- Items one after another, whatever the grammar.
-use Rattle.std.proofs.Common.{◌≡◌, ℕ, ◌+◌, ◌<◌, ◌≤◌, ◌⊎◌, List, [], ◌∷◌, ◌++◌, Option, Some, None, refl, ap, sym, ◌∙◌, subst, arith, add-zero, append_assoc, append-nil, length, length-append, Bool, true, false, inl, inr, cond, nat_eq, eqb-true}
-use Rattle.wa_types.specs.Begun.{Goal, until, IsItem, IsPart, wants, Steps, Leads, arrived, item, BegunFrom, ends, part, then, Inside, IsBefore, end_of, open_ended, must, must_not_before, closing, passed, settled, next, head, rest, content, where_true, name_of, some_of, some_types, some_imports, some_functions, some_tables, some_memories, some_globals, some_exports, some_elements, some_bodies, some_segments}
+use Rattle.std.proofs.Common.{◌≡◌, ℕ, ◌+◌, ◌<◌, ◌≤◌, ◌⊎◌, List, [], ◌∷◌, ◌++◌, Option, Some, None, refl, ap, sym, ◌∙◌, subst, arith, add-zero, append_assoc, append-nil, length}
+use Rattle.std.proofs.Common.{length-append, Bool, true, false, inl, inr, cond, nat_eq, eqb-true}
+use Rattle.wa_types.specs.Begun.{Goal, until, IsItem, IsPart, wants, Steps, Leads, arrived, item, BegunFrom, ends, part, then, Inside, IsBefore, end_of, open_ended, must, must_not_before}
+use Rattle.wa_types.specs.Begun.{closing, passed, settled, next, head, rest, content, where_true, name_of, some_of, some_types, some_imports, some_functions, some_tables, some_memories}
+use Rattle.wa_types.specs.Begun.{some_globals, some_exports, some_elements, some_bodies, some_segments}
 use Rattle.file_laws.proofs.Items.{item_front, part_front, item_some, item_whole, one_item, meet, same_cut, place_of, some_left}
 
 chosen : {A : Type 0} → (b : Bool) (x y z : A) → cond b x y ≡ z → ((b ≡ true) × (x ≡ z)) ⊎ ((b ≡ false) × (y ≡ z))
@@ -42,7 +45,8 @@ leads_only at (g ∷ gs) a hs (item p q v ks e i s l) b c (then x y w js ee j t 
     subst (λ n. BegunFrom n hs b) (sym (place_of at a p q e)) (leads_only (at + length p) ks q hs l b (q ++ b) there refl)
 
 -- one more item
-pub leads_more : (at : ℕ) (gs : List Goal) (a : List ℕ) (g : Goal) (hs ks : List Goal) → Leads at gs a (g ∷ hs) → (b : List ℕ) (v : ℕ) → IsItem (wants g) b v → Steps g hs v (at + length a + length b) ks → Leads at gs (a ++ b) ks
+pub leads_more : (at : ℕ) (gs : List Goal) (a : List ℕ) (g : Goal) (hs ks : List Goal) → Leads at gs a (g ∷ hs) → (b : List ℕ) (v : ℕ) → IsItem (wants g) b v
+    → Steps g hs v (at + length a + length b) ks → Leads at gs (a ++ b) ks
 leads_more at gs [] g hs ks arrived b v h s =
     item b [] v ks (sym (append-nil b)) h (subst (λ n. Steps g hs v (n + length b) ks) (add-zero at) s) arrived
 leads_more at (f ∷ gs) a g hs ks (item p q w js e i t l) b v h s =
@@ -189,7 +193,8 @@ begun_front at (g ∷ gs) bytes (then c d v ks e i s k) a b f =
     elim (meet a b c d (sym f ∙ e)) [
       | inl m ↦ elim (some_left m.0) [
         | inl empty ↦ then c [] v ks (sym (m.1 ∙ ap (λ t. a ++ t) empty ∙ append-nil a) ∙ sym (append-nil c)) i s (begun_front (at + length c) ks d k [] d refl)
-        | inr some ↦ part (item_front (wants g) a m.0 v (subst (λ t. IsItem (wants g) t v) m.1 i) some) (steps_inside g gs v (at + length c) (at + length a) ks s (omega (arith, ap length m.1, length-append a m.0)))
+        | inr some ↦ part (item_front (wants g) a m.0 v (subst (λ t. IsItem (wants g) t v) m.1 i) some)
+            (steps_inside g gs v (at + length c) (at + length a) ks s (omega (arith, ap length m.1, length-append a m.0)))
       ]
       | inr m ↦ then c m.0 v ks m.2 i s (begun_front (at + length c) ks d k m.0 b m.3)
     ]

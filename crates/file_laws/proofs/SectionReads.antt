@@ -1,12 +1,14 @@
 -- Sections, and whole files.
-use Rattle.std.proofs.Common.{◌≡◌, ℕ, suc, zero, ◌+◌, ◌-◌, ◌<◌, ◌≤◌, ◌⊎◌, List, [], ◌∷◌, ◌++◌, Some, refl, ap, sym, ◌∙◌, subst, arith, add-zero, append_assoc, append-nil, length, length-append, Bool, true, false, not, ◌&&◌, inl, inr, nat_eq, nat_le, nat_lt, eqb-true}
+use Rattle.std.proofs.Common.{◌≡◌, ℕ, suc, zero, ◌+◌, ◌-◌, ◌<◌, ◌≤◌, ◌⊎◌, List, [], ◌∷◌, ◌++◌, Some, refl, ap, sym, ◌∙◌, subst, arith, add-zero, append_assoc, append-nil, length}
+use Rattle.std.proofs.Common.{length-append, Bool, true, false, not, ◌&&◌, inl, inr, nat_eq, nat_le, nat_lt, eqb-true}
 use Rattle.std.proofs.lemmas.Bool.{ltb-true, ltb-false, lt-ltb}
 use Rattle.wa_types.specs.Leb.{IsUnsigned}
 use Rattle.wa_types.specs.Binary.{Section, custom, types, imports, functions, tables, memories, globals, exports, start, elements, bodies, segments}
-use Rattle.wa_types.specs.Begun.{Goal, sections, size, head, until, rest, entries, Kind, some_types, some_imports, some_functions, some_tables, some_memories, some_globals, some_exports, some_elements, some_bodies, some_segments, next, settled, where_true, some_of, name_of, may_follow, content, Leads, arrived, item}
+use Rattle.wa_types.specs.Begun.{Goal, sections, size, head, until, rest, entries, Kind, some_types, some_imports, some_functions, some_tables, some_memories, some_globals, some_exports}
+use Rattle.wa_types.specs.Begun.{some_elements, some_bodies, some_segments, next, settled, where_true, some_of, name_of, may_follow, content, Leads, arrived, item}
 use Rattle.wa_types.specs.Spells.{◌▸◌, Exactly, Number, Items, Vector, Sized, FunctionType, LimitsOf, TableType, ImportOf, GlobalOf, ExportOf, ElementOf, BodyOf, SegmentOf, SectionOf, Rising}
 use Rattle.file_laws.proofs.Runs.{some_same, not_none}
-use Rattle.file_laws.proofs.Going.{Any, Reads, Goes, First, takes_one, leads_one, reads_until, first_item}
+use Rattle.file_laws.proofs.GoalReads.{Any, Reads, Goes, First, takes_one, leads_one, reads_until, first_item}
 use Rattle.file_laws.proofs.Leaves.{reads_name_of, text_from}
 use Rattle.file_laws.proofs.Vectors.{reads_some}
 use Rattle.file_laws.proofs.EntryReads.{reads_type, reads_import, reads_function, reads_table, reads_memory, reads_global, reads_export, reads_element, reads_body, reads_segment}
@@ -32,7 +34,8 @@ unfolding next
 rest_next end v at = refl
 
 -- here is the end, or one more byte
-rest_head : (end : ℕ) (more : List Goal) (last at : ℕ) (bytes : List ℕ) → Goes (rest end ∷ more) last at bytes → ((at ≡ end) × Goes more last at bytes) ⊎ ((v : ℕ) × (b : List ℕ) × (bytes ≡ v ∷ b) × Goes (rest end ∷ more) last (at + 1) b)
+rest_head : (end : ℕ) (more : List Goal) (last at : ℕ) (bytes : List ℕ) → Goes (rest end ∷ more) last at bytes
+    → ((at ≡ end) × Goes more last at bytes) ⊎ ((v : ℕ) × (b : List ℕ) × (bytes ≡ v ∷ b) × Goes (rest end ∷ more) last (at + 1) b)
 rest_head end more last at bytes h = elim (by_test (nat_eq at end)) [
   | inl e ↦ inl (eqb-true at end e, record { left = h.left; settles = sym (settled_here at end more e) ∙ h.settles; inside = h.inside; leads = h.leads })
   | inr e ↦
@@ -78,7 +81,17 @@ rest_complete [] end more last at b e g =
 rest_complete (x ∷ a) end more last at b e g =
     let place : at + 1 + length a ≡ at + length (x ∷ a) = omega arith in
     let h = rest_complete a end more last (at + 1) b (place ∙ e) (subst (λ z. Goes more last z b) (sym place) g) in
-    let l = leads_one (rest end) more last at (x ∷ (a ++ b)) (record { front = x ∷ []; back = a ++ b; value = x; new = rest end ∷ []; whole = refl; is_item = refl; pushed = rest_next end x _; goes = h }) in
+    let l = leads_one (rest end) more last at (x ∷ (a ++ b)) (record {
+      front = x ∷ [];
+      back = a ++ b;
+      value = x;
+      new = rest end
+          ∷ [];
+      whole = refl;
+      is_item = refl;
+      pushed = rest_next end x _;
+      goes = h;
+    }) in
     record { left = rest end ∷ more; settles = settled_there at end more (not_same at end (omega (arith, e))); inside = l.1; leads = l.0 }
 
 pub reads_rest : (end : ℕ) → Reads (rest end ∷ []) (UpTo end)
@@ -138,7 +151,8 @@ owed_of _ = 0
 open_section : (last owed fin at : ℕ) (bytes : List ℕ) → First (sections last owed) [] fin at bytes → Turn last owed fin at bytes
 open_section last owed fin at bytes f =
     let w = where_some (may_follow f.value last owed) (size f.value last owed ∷ []) f.new (sym (sections_next last owed f.value _) ∙ f.pushed) in
-    let g : Goes (size f.value last owed ∷ []) fin (at + 1) f.back = subst (λ z. Goes (z ++ []) fin (at + 1) f.back) w.1 (subst (λ z. Goes (f.new ++ []) fin (at + length z) f.back) f.is_item f.goes) in
+    let g : Goes (size f.value last owed ∷ []) fin (at + 1) f.back = subst (λ z. Goes (z ++ []) fin (at + 1) f.back) w.1
+    (subst (λ z. Goes (f.new ++ []) fin (at + length z) f.back) f.is_item f.goes) in
     let s = takes_one (size f.value last owed) [] fin (at + 1) f.back refl refl g in
     let n : s.new ≡ head f.value (at + 1 + length s.front + s.value) last owed ∷ [] = some_same s.new _ _ s.pushed (size_next f.value last owed s.value _) in
     let k : Goes (head f.value (at + 1 + length s.front + s.value) last owed ∷ []) fin (at + 1 + length s.front) s.back = subst (λ z. Goes (z ++ []) fin (at + 1 + length s.front) s.back) n s.goes in
@@ -216,7 +230,9 @@ behind_end end more fin at bytes h =
     let none : at + length u.0 ≡ at = omega (arith, ap length u.3.1) in
     (u.3.0, subst (Goes more fin at) (sym (u.2 ∙ ap (λ z. z ++ u.1) u.3.1)) (subst (λ z. Goes more fin z u.1) none u.4))
 
-entries_step : {X : Type 0} (f : X → ℕ → List ℕ → Type 0) (k : Kind) (id last owed next_owed fin at : ℕ) (bytes : List ℕ) → Reads (entries k 1 ∷ []) (Any f) → (o : Opened id last owed fin at bytes) → o.new ≡ some_of k o.value ++ until (at + 1 + length o.size_bytes + o.bytes_size) ∷ sections id next_owed ∷ [] → Entries f id o.value next_owed fin at bytes
+entries_step : {X : Type 0} (f : X → ℕ → List ℕ → Type 0) (k : Kind) (id last owed next_owed fin at : ℕ) (bytes : List ℕ) → Reads (entries k 1 ∷ []) (Any f)
+    → (o : Opened id last owed fin at bytes) → o.new ≡ some_of k o.value ++ until (at + 1 + length o.size_bytes + o.bytes_size) ∷ sections id next_owed ∷ []
+    → Entries f id o.value next_owed fin at bytes
 entries_step f k id last owed next_owed fin at bytes r o e =
     let end = at + 1 + length o.size_bytes + o.bytes_size in
     let m = (reads_some f k r o.value).sound (until end ∷ sections id next_owed ∷ []) fin (at + 1 + length o.size_bytes + length o.head_bytes) o.back
@@ -227,7 +243,8 @@ entries_step f k id last owed next_owed fin at bytes r o e =
       front = id ∷ (o.size_bytes ++ (o.head_bytes ++ m.0));
       back = m.1;
       number = m.3.number;
-      whole = o.whole ∙ ap (λ z. id ∷ z) (ap (λ z. o.size_bytes ++ z) (ap (λ z. o.head_bytes ++ z) m.2 ∙ sym (append_assoc o.head_bytes m.0 m.1)) ∙ sym (append_assoc o.size_bytes (o.head_bytes ++ m.0) m.1));
+      whole = o.whole ∙ ap (λ z. id ∷ z) (ap (λ z. o.size_bytes ++ z) (ap (λ z. o.head_bytes ++ z) m.2 ∙ sym (append_assoc o.head_bytes m.0 m.1))
+          ∙ sym (append_assoc o.size_bytes (o.head_bytes ++ m.0) m.1));
       spelled = (
         id ∷ [],
         o.size_bytes ++ (o.head_bytes ++ m.0),
@@ -261,48 +278,156 @@ above_of last id b c e = ltb-true last id (and_left (nat_lt last id) b (and_left
 step_types : (last owed fin at : ℕ) (bytes : List ℕ) (o : Opened 1 last owed fin at bytes) → Step last owed fin at bytes
 step_types last owed fin at bytes o =
     let s = entries_step FunctionType some_types 1 last owed owed fin at bytes reads_type o (some_same o.new _ _ o.pushed refl) in
-    record { section = types s.items; front = s.front; back = s.back; next_last = 1; next_owed = owed; whole = s.whole; spelled = s.spelled; goes = s.goes; rises = λ ss r. (above_of last 1 true true o.follows, r); balances = λ ss b. b }
+    record {
+      section = types s.items;
+      front = s.front;
+      back = s.back;
+      next_last = 1;
+      next_owed = owed;
+      whole = s.whole;
+      spelled = s.spelled;
+      goes = s.goes;
+      rises = λ ss r.
+          (above_of last 1 true true o.follows, r);
+      balances = λ ss b. b;
+    }
 
 step_imports : (last owed fin at : ℕ) (bytes : List ℕ) (o : Opened 2 last owed fin at bytes) → Step last owed fin at bytes
 step_imports last owed fin at bytes o =
     let s = entries_step ImportOf some_imports 2 last owed owed fin at bytes reads_import o (some_same o.new _ _ o.pushed refl) in
-    record { section = imports s.items; front = s.front; back = s.back; next_last = 2; next_owed = owed; whole = s.whole; spelled = s.spelled; goes = s.goes; rises = λ ss r. (above_of last 2 true true o.follows, r); balances = λ ss b. b }
+    record {
+      section = imports s.items;
+      front = s.front;
+      back = s.back;
+      next_last = 2;
+      next_owed = owed;
+      whole = s.whole;
+      spelled = s.spelled;
+      goes = s.goes;
+      rises = λ ss r.
+          (above_of last 2 true true o.follows, r);
+      balances = λ ss b. b;
+    }
 
 step_functions : (last owed fin at : ℕ) (bytes : List ℕ) (o : Opened 3 last owed fin at bytes) → Step last owed fin at bytes
 step_functions last owed fin at bytes o =
     let s = entries_step Number some_functions 3 last owed o.value fin at bytes reads_function o (some_same o.new _ _ o.pushed refl) in
-    record { section = functions s.items; front = s.front; back = s.back; next_last = 3; next_owed = o.value; whole = s.whole; spelled = s.spelled; goes = s.goes; rises = λ ss r. (above_of last 3 true true o.follows, r); balances = λ ss b. subst (λ z. Balanced z ss) (sym s.number) b }
+    record {
+      section = functions s.items;
+      front = s.front;
+      back = s.back;
+      next_last = 3;
+      next_owed = o.value;
+      whole = s.whole;
+      spelled = s.spelled;
+      goes = s.goes;
+      rises = λ ss r.
+          (above_of last 3 true true o.follows, r);
+      balances = λ ss b. subst (λ z. Balanced z ss) (sym s.number) b;
+    }
 
 step_tables : (last owed fin at : ℕ) (bytes : List ℕ) (o : Opened 4 last owed fin at bytes) → Step last owed fin at bytes
 step_tables last owed fin at bytes o =
     let s = entries_step TableType some_tables 4 last owed owed fin at bytes reads_table o (some_same o.new _ _ o.pushed refl) in
-    record { section = tables s.items; front = s.front; back = s.back; next_last = 4; next_owed = owed; whole = s.whole; spelled = s.spelled; goes = s.goes; rises = λ ss r. (above_of last 4 true true o.follows, r); balances = λ ss b. b }
+    record {
+      section = tables s.items;
+      front = s.front;
+      back = s.back;
+      next_last = 4;
+      next_owed = owed;
+      whole = s.whole;
+      spelled = s.spelled;
+      goes = s.goes;
+      rises = λ ss r.
+          (above_of last 4 true true o.follows, r);
+      balances = λ ss b. b;
+    }
 
 step_memories : (last owed fin at : ℕ) (bytes : List ℕ) (o : Opened 5 last owed fin at bytes) → Step last owed fin at bytes
 step_memories last owed fin at bytes o =
     let s = entries_step LimitsOf some_memories 5 last owed owed fin at bytes reads_memory o (some_same o.new _ _ o.pushed refl) in
-    record { section = memories s.items; front = s.front; back = s.back; next_last = 5; next_owed = owed; whole = s.whole; spelled = s.spelled; goes = s.goes; rises = λ ss r. (above_of last 5 true true o.follows, r); balances = λ ss b. b }
+    record {
+      section = memories s.items;
+      front = s.front;
+      back = s.back;
+      next_last = 5;
+      next_owed = owed;
+      whole = s.whole;
+      spelled = s.spelled;
+      goes = s.goes;
+      rises = λ ss r.
+          (above_of last 5 true true o.follows, r);
+      balances = λ ss b. b;
+    }
 
 step_globals : (last owed fin at : ℕ) (bytes : List ℕ) (o : Opened 6 last owed fin at bytes) → Step last owed fin at bytes
 step_globals last owed fin at bytes o =
     let s = entries_step GlobalOf some_globals 6 last owed owed fin at bytes reads_global o (some_same o.new _ _ o.pushed refl) in
-    record { section = globals s.items; front = s.front; back = s.back; next_last = 6; next_owed = owed; whole = s.whole; spelled = s.spelled; goes = s.goes; rises = λ ss r. (above_of last 6 true true o.follows, r); balances = λ ss b. b }
+    record {
+      section = globals s.items;
+      front = s.front;
+      back = s.back;
+      next_last = 6;
+      next_owed = owed;
+      whole = s.whole;
+      spelled = s.spelled;
+      goes = s.goes;
+      rises = λ ss r.
+          (above_of last 6 true true o.follows, r);
+      balances = λ ss b. b;
+    }
 
 step_exports : (last owed fin at : ℕ) (bytes : List ℕ) (o : Opened 7 last owed fin at bytes) → Step last owed fin at bytes
 step_exports last owed fin at bytes o =
     let s = entries_step ExportOf some_exports 7 last owed owed fin at bytes reads_export o (some_same o.new _ _ o.pushed refl) in
-    record { section = exports s.items; front = s.front; back = s.back; next_last = 7; next_owed = owed; whole = s.whole; spelled = s.spelled; goes = s.goes; rises = λ ss r. (above_of last 7 true true o.follows, r); balances = λ ss b. b }
+    record {
+      section = exports s.items;
+      front = s.front;
+      back = s.back;
+      next_last = 7;
+      next_owed = owed;
+      whole = s.whole;
+      spelled = s.spelled;
+      goes = s.goes;
+      rises = λ ss r.
+          (above_of last 7 true true o.follows, r);
+      balances = λ ss b. b;
+    }
 
 step_elements : (last owed fin at : ℕ) (bytes : List ℕ) (o : Opened 9 last owed fin at bytes) → Step last owed fin at bytes
 step_elements last owed fin at bytes o =
     let s = entries_step ElementOf some_elements 9 last owed owed fin at bytes reads_element o (some_same o.new _ _ o.pushed refl) in
-    record { section = elements s.items; front = s.front; back = s.back; next_last = 9; next_owed = owed; whole = s.whole; spelled = s.spelled; goes = s.goes; rises = λ ss r. (above_of last 9 true true o.follows, r); balances = λ ss b. b }
+    record {
+      section = elements s.items;
+      front = s.front;
+      back = s.back;
+      next_last = 9;
+      next_owed = owed;
+      whole = s.whole;
+      spelled = s.spelled;
+      goes = s.goes;
+      rises = λ ss r.
+          (above_of last 9 true true o.follows, r);
+      balances = λ ss b. b;
+    }
 
 step_bodies : (last owed fin at : ℕ) (bytes : List ℕ) (o : Opened 10 last owed fin at bytes) → Step last owed fin at bytes
 step_bodies last owed fin at bytes o =
     let w = where_some (nat_eq o.value owed) (some_of some_bodies o.value ++ until (at + 1 + length o.size_bytes + o.bytes_size) ∷ sections 10 0 ∷ []) o.new o.pushed in
     let s = entries_step BodyOf some_bodies 10 last owed 0 fin at bytes reads_body o w.1 in
-    record { section = bodies s.items; front = s.front; back = s.back; next_last = 10; next_owed = 0; whole = s.whole; spelled = s.spelled; goes = s.goes; rises = λ ss r. (above_of last 10 true true o.follows, r); balances = λ ss b. (s.number ∙ eqb-true o.value owed w.0, b) }
+    record {
+      section = bodies s.items;
+      front = s.front;
+      back = s.back;
+      next_last = 10;
+      next_owed = 0;
+      whole = s.whole;
+      spelled = s.spelled;
+      goes = s.goes;
+      rises = λ ss r.
+          (above_of last 10 true true o.follows, r);
+      balances = λ ss b. (s.number ∙ eqb-true o.value owed w.0, b);
+    }
 
 owes_none : (owed : ℕ) → not (true && nat_lt 0 owed) ≡ true → owed ≡ 0
 owes_none zero e = refl
@@ -312,7 +437,19 @@ step_segments : (last owed fin at : ℕ) (bytes : List ℕ) (o : Opened 11 last 
 step_segments last owed fin at bytes o =
     let s = entries_step SegmentOf some_segments 11 last owed owed fin at bytes reads_segment o (some_same o.new _ _ o.pushed refl) in
     let free : owed ≡ 0 = owes_none owed (and_right (nat_lt last 11 && true) (not (true && nat_lt 0 owed)) o.follows) in
-    record { section = segments s.items; front = s.front; back = s.back; next_last = 11; next_owed = owed; whole = s.whole; spelled = s.spelled; goes = s.goes; rises = λ ss r. (above_of last 11 true _ o.follows, r); balances = λ ss b. (free, b) }
+    record {
+      section = segments s.items;
+      front = s.front;
+      back = s.back;
+      next_last = 11;
+      next_owed = owed;
+      whole = s.whole;
+      spelled = s.spelled;
+      goes = s.goes;
+      rises = λ ss r.
+          (above_of last 11 true _ o.follows, r);
+      balances = λ ss b. (free, b);
+    }
 
 step_start : (last owed fin at : ℕ) (bytes : List ℕ) (o : Opened 8 last owed fin at bytes) → Step last owed fin at bytes
 step_start last owed fin at bytes o =
@@ -347,7 +484,8 @@ step_custom last owed fin at bytes o =
       back = u.1;
       next_last = last;
       next_owed = owed;
-      whole = o.whole ∙ ap (λ z. 0 ∷ z) (ap (λ z. o.size_bytes ++ z) (ap (λ z. o.head_bytes ++ z) (m.2 ∙ ap (λ z. m.0 ++ z) u.2) ∙ sym (append_assoc o.head_bytes m.0 (u.0 ++ u.1)) ∙ sym (append_assoc (o.head_bytes ++ m.0) u.0 u.1)) ∙ sym (append_assoc o.size_bytes ((o.head_bytes ++ m.0) ++ u.0) u.1));
+      whole = o.whole ∙ ap (λ z. 0 ∷ z) (ap (λ z. o.size_bytes ++ z) (ap (λ z. o.head_bytes ++ z) (m.2 ∙ ap (λ z. m.0 ++ z) u.2) ∙ sym (append_assoc o.head_bytes m.0 (u.0 ++ u.1))
+          ∙ sym (append_assoc (o.head_bytes ++ m.0) u.0 u.1)) ∙ sym (append_assoc o.size_bytes ((o.head_bytes ++ m.0) ++ u.0) u.1));
       spelled = (
         0 ∷ [],
         o.size_bytes ++ ((o.head_bytes ++ m.0) ++ u.0),
@@ -364,17 +502,24 @@ step_custom last owed fin at bytes o =
           ),
         ),
       );
-      goes = subst (λ z. Goes (sections last owed ∷ []) fin z u.1) (omega (arith, length-append o.size_bytes ((o.head_bytes ++ m.0) ++ u.0), length-append (o.head_bytes ++ m.0) u.0, length-append o.head_bytes m.0)) u.4;
+      goes = subst (λ z. Goes (sections last owed ∷ []) fin z u.1) (omega (
+        arith,
+        length-append o.size_bytes ((o.head_bytes ++ m.0) ++ u.0),
+        length-append (o.head_bytes ++ m.0) u.0,
+        length-append o.head_bytes m.0,
+      )) u.4;
       rises = λ ss r. r;
       balances = λ ss b. b;
     }
 
 past_all : (n : ℕ) (a b c : Bool) → (a && nat_le (12 + n) 11 && c) ≡ true → ⊥
-past_all n a b c e = let f : nat_le (12 + n) 11 ≡ false = grind (arith) in let g : nat_le (12 + n) 11 ≡ true = and_right a (nat_le (12 + n) 11) (and_left (a && nat_le (12 + n) 11) c e) in let p : false ≡ true = sym f ∙ g in cc
+past_all n a b c e = let f : nat_le (12 + n) 11 ≡ false = grind (arith) in let g : nat_le (12 + n) 11
+    ≡ true = and_right a (nat_le (12 + n) 11) (and_left (a && nat_le (12 + n) 11) c e) in let p : false ≡ true = sym f ∙ g in cc
 
 step_unknown : (n last owed fin at : ℕ) (bytes : List ℕ) → (o : Opened (12 + n) last owed fin at bytes) → nat_eq (12 + n) 0 ≡ false → Step last owed fin at bytes
 step_unknown n last owed fin at bytes o e =
-    absurd (past_all n (nat_lt last (12 + n)) true (not (nat_eq (12 + n) 11 && nat_lt 0 owed)) (let p : ((nat_lt last (12 + n) && nat_le (12 + n) 11) && not (nat_eq (12 + n) 11 && nat_lt 0 owed)) ≡ true = rw e at o.follows in p))
+    absurd (past_all n (nat_lt last (12 + n)) true (not (nat_eq (12 + n) 11 && nat_lt 0 owed))
+    (let p : ((nat_lt last (12 + n) && nat_le (12 + n) 11) && not (nat_eq (12 + n) 11 && nat_lt 0 owed)) ≡ true = rw e at o.follows in p))
 
 -- which id
 IdCase : ℕ → Type 0
@@ -423,7 +568,13 @@ none_filed : (last owed at : ℕ) (bytes : List ℕ) → bytes ≡ [] → owed �
 none_filed last owed at bytes e z = record { all = []; spelled = e; rising = tt; balanced = z }
 
 one_filed : (last owed fin at : ℕ) (bytes : List ℕ) (s : Step last owed fin at bytes) → Filed s.next_last s.next_owed (at + length s.front) s.back → Filed last owed at bytes
-one_filed last owed fin at bytes s f = record { all = s.section ∷ f.all; spelled = (s.front, s.back, s.whole, s.spelled, f.spelled); rising = s.rises f.all f.rising; balanced = s.balances f.all f.balanced }
+one_filed last owed fin at bytes s f = record {
+  all = s.section ∷ f.all;
+  spelled = (s.front, s.back, s.whole, s.spelled, f.spelled);
+  rising = s.rises f.all f.rising;
+  balanced =
+      s.balances f.all f.balanced;
+}
 
 step_less : (last owed fin at : ℕ) (bytes : List ℕ) (s : Step last owed fin at bytes) → length s.back < length bytes
 step_less last owed fin at bytes s = omega (arith, section_some s.section at s.front s.spelled, ap length s.whole, length-append s.front s.back)

@@ -1,5 +1,6 @@
 -- What is spelled is well formed.
-use Rattle.std.proofs.Common.{◌≡◌, ℕ, ◌+◌, ◌-◌, ◌*◌, ◌<◌, ◌^◌, ◌⊎◌, inl, inr, List, [], ◌∷◌, ◌++◌, map, flat_map, length, Option, Some, None, Bool, true, false, Result, Ok, Err, refl, ap, sym, ◌∙◌, subst, arith, nat_lt, cond, IsUtf8, All, option_to_list}
+use Rattle.std.proofs.Common.{◌≡◌, ℕ, ◌+◌, ◌-◌, ◌*◌, ◌<◌, ◌^◌, ◌⊎◌, inl, inr, List, [], ◌∷◌, ◌++◌, map, flat_map, length, Option, Some, None, Bool, true, false, Result, Ok, Err, refl, ap}
+use Rattle.std.proofs.Common.{sym, ◌∙◌, subst, arith, nat_lt, cond, IsUtf8, All, option_to_list}
 use Rattle.std.proofs.lemmas.Bool.{ltb-true, ltb-false}
 use Rattle.std.proofs.lemmas.Nat.{pow-add}
 use Rattle.std.proofs.Math.Pow.{pow_mono}
@@ -13,10 +14,14 @@ use Rattle.wa_types.specs.declared.syntax.Import.{Import}
 use Rattle.wa_types.specs.declared.syntax.Export.{Export}
 use Rattle.wa_types.specs.declared.syntax.Run.{Run}
 use Rattle.wa_types.specs.Leb.{IsUnsigned, IsSigned, last_signed}
-use Rattle.wa_types.specs.Syntax.{nop, drop, select, const, num, global_get, global_set, load, store, memory_size, memory_grow, Plain, basic, local_get, local_set, local_tee, br, br_if, br_table, return, unreachable, call, call_indirect, Code, done, plain, nest, branch, Func, GlobalDef, Elem, Segment, Module}
-use Rattle.wa_types.specs.Binary.{Placed, Operands, RawCode, ended, otherwise, instr, nested, branched, RawKind, raw_func, raw_table, raw_memory, raw_global, RawImport, RawGlobal, RawElem, RawRun, RawBody, RawSegment, Section, custom, types, imports, functions, tables, memories, globals, exports, start, elements, bodies, segments, section_id}
-use Rattle.wa_types.specs.Spells.{◌▸◌, Exactly, Number, Items, Vector, Sized, Text, Maximum, LimitsOf, TableType, OperandsOf, CodeOf, ImportKindOf, ImportOf, GlobalOf, ExportOf, ElementOf, RunOf, BodyOf, SegmentOf, SectionOf, sorts_in, bodies_in}
-use Rattle.wa_types.specs.Reading.{plain_operands, HasKind, IsPlain, IsCode, Each, IsKind, IsImport, IsGlobal, IsElem, IsRun, IsBody, IsSegment, imports_in, tables_in, memories_in, globals_in, exports_in, starts_in, elements_in, segments_in, customs_of, SpellsModule}
+use Rattle.wa_types.specs.Syntax.{nop, drop, select, const, num, global_get, global_set, load, store, memory_size, memory_grow, Plain, basic, local_get, local_set, local_tee, br, br_if}
+use Rattle.wa_types.specs.Syntax.{br_table, return, unreachable, call, call_indirect, Code, done, plain, nest, branch, Func, GlobalDef, Elem, Segment, Module}
+use Rattle.wa_types.specs.Binary.{Placed, Operands, RawCode, ended, otherwise, instr, nested, branched, RawKind, raw_func, raw_table, raw_memory, raw_global, RawImport, RawGlobal, RawElem}
+use Rattle.wa_types.specs.Binary.{RawRun, RawBody, RawSegment, Section, custom, types, imports, functions, tables, memories, globals, exports, start, elements, bodies, segments, section_id}
+use Rattle.wa_types.specs.Spells.{◌▸◌, Exactly, Number, Items, Vector, Sized, Text, Maximum, LimitsOf, TableType, OperandsOf, CodeOf, ImportKindOf, ImportOf, GlobalOf, ExportOf, ElementOf}
+use Rattle.wa_types.specs.Spells.{RunOf, BodyOf, SegmentOf, SectionOf, sorts_in, bodies_in}
+use Rattle.wa_types.specs.Reading.{plain_operands, HasKind, IsPlain, IsCode, Each, IsKind, IsImport, IsGlobal, IsElem, IsRun, IsBody, IsSegment, imports_in, tables_in, memories_in}
+use Rattle.wa_types.specs.Reading.{globals_in, exports_in, starts_in, elements_in, segments_in, customs_of, SpellsModule}
 use Rattle.wa_types.specs.Sizes.{PlainFits, CodeFits, MaxFits, LimitsFit, KindFits, ImportFits, FuncFits, ExportFits, ElemFits, SegmentFits, CustomFits, StartFits, WellFormed}
 
 pow_split : (bits : ℕ) → 7 < bits → 2 ^ bits ≡ 128 * 2 ^ (bits - 7)
@@ -91,7 +96,8 @@ seen_vector : {X : Type 0} (f : X → ℕ → List ℕ → Type 0) (xs : List X)
 seen_vector f xs at a h b = seen_items f xs (at + length h.0) h.1 h.4 (right_bytes h.0 h.1 (subst AreBytes h.2 b))
 
 -- each of what is spelled fits, as what it is
-each_fits : {X Y : Type 0} (f : X → ℕ → List ℕ → Type 0) (R : X → Y → Type 0) (Fits : Y → Type 0) → ((x : X) (y : Y) → Seen f x → R x y → Fits y) → (xs : List X) (ys : List Y) → All (Seen f) xs → Each R xs ys → All Fits ys
+each_fits : {X Y : Type 0} (f : X → ℕ → List ℕ → Type 0) (R : X → Y → Type 0) (Fits : Y → Type 0) → ((x : X) (y : Y) → Seen f x → R x y → Fits y) → (xs : List X) (ys : List Y)
+    → All (Seen f) xs → Each R xs ys → All Fits ys
 each_fits f R Fits h [] [] s e = none_seen Fits
 each_fits f R Fits h [] (y ∷ ys) s e = absurd e
 each_fits f R Fits h (x ∷ xs) [] s e = absurd e
@@ -279,7 +285,8 @@ section_seen f xs id at a h b =
     seen_vector f xs (at + length h.0 + length z.0) z.1 z.4.1 c2
 
 -- what all sections hold
-held_seen : {X : Type 0} (f : X → ℕ → List ℕ → Type 0) (g : Section → List X) → ((s : Section) (at : ℕ) (a : List ℕ) → SectionOf s at a → AreBytes a → All (Seen f) (g s)) → (ss : List Section) (at : ℕ) (a : List ℕ) → Items SectionOf ss at a → AreBytes a → All (Seen f) (flat_map g ss)
+held_seen : {X : Type 0} (f : X → ℕ → List ℕ → Type 0) (g : Section → List X) → ((s : Section) (at : ℕ) (a : List ℕ) → SectionOf s at a → AreBytes a → All (Seen f) (g s))
+    → (ss : List Section) (at : ℕ) (a : List ℕ) → Items SectionOf ss at a → AreBytes a → All (Seen f) (flat_map g ss)
 held_seen f g w [] at a h b = none_seen (Seen f)
 held_seen f g w (s ∷ ss) at a h b =
     let c = subst AreBytes h.2 b in

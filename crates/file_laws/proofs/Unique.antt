@@ -4,7 +4,8 @@ use Rattle.wa_types.specs.declared.syntax.Space.{Space}
 use Rattle.wa_types.specs.declared.syntax.Space.TheVariants.{Func as a_func, Table as a_table, Memory as a_memory, Global as a_global}
 use Rattle.wa_types.specs.Encoding.{space_byte, mutable_byte}
 use Rattle.wa_types.specs.Binary.{Placed, RawKind, raw_func, raw_table, raw_memory, raw_global}
-use Rattle.wa_types.specs.Spells.{◌▸◌, Exactly, Number, SignedNumber, Items, Vector, Text, Byte, ValueType, BlockType, FunctionType, Maximum, LimitsOf, TableType, GlobalType, ImportKindOf, ImportOf, ExportOf}
+use Rattle.wa_types.specs.Spells.{◌▸◌, Exactly, Number, SignedNumber, Items, Vector, Text, Byte, ValueType, BlockType, FunctionType, Maximum, LimitsOf, TableType, GlobalType, ImportKindOf}
+use Rattle.wa_types.specs.Spells.{ImportOf, ExportOf}
 use Rattle.wa_types.specs.Begun.{an_unsigned, a_signed}
 use Rattle.file_laws.proofs.Items.{one_item, same_cut}
 
@@ -30,7 +31,8 @@ one_pair f g u v x y at a b c d h k e =
     record { value = λ i. (s.value i, t.value i); front = h.2 ∙ ap (λ z. z ++ h.1) s.front ∙ ap (λ z. k.0 ++ z) t.front ∙ sym k.2 }
 
 -- by a view of what is spelled
-pub one_view : {X Y : Type 0} (f : X → ℕ → List ℕ → Type 0) (g : Y → ℕ → List ℕ → Type 0) (to : X → Y) (from : Y → X) → ((x : X) → from (to x) ≡ x) → ((x : X) (at : ℕ) (a : List ℕ) → f x at a → g (to x) at a) → One g → One f
+pub one_view : {X Y : Type 0} (f : X → ℕ → List ℕ → Type 0) (g : Y → ℕ → List ℕ → Type 0) (to : X → Y) (from : Y → X) → ((x : X) → from (to x) ≡ x)
+    → ((x : X) (at : ℕ) (a : List ℕ) → f x at a → g (to x) at a) → One g → One f
 one_view f g to from back view u x y at a b c d h k e =
     let s = u (to x) (to y) at a b c d (view x at a h) (view y at c k) e in
     record { value = sym (back x) ∙ ap from s.value ∙ back y; front = s.front }
@@ -44,7 +46,8 @@ one_number x y at a b c d h k e = let o = one_item an_unsigned a b c d x y h k e
 pub one_signed : (bits : ℕ) → One (SignedNumber bits)
 one_signed bits x y at a b c d h k e = let o = one_item (a_signed bits) a b c d x y h k e in record { value = o.0; front = (same_cut a b c d e o.1).0 }
 
-pub one_items : {X : Type 0} (f : X → ℕ → List ℕ → Type 0) → One f → (xs ys : List X) (at : ℕ) (a b c d : List ℕ) → length xs ≡ length ys → Items f xs at a → Items f ys at c → a ++ b ≡ c ++ d → Same xs ys a c
+pub one_items : {X : Type 0} (f : X → ℕ → List ℕ → Type 0) → One f → (xs ys : List X) (at : ℕ) (a b c d : List ℕ) → length xs ≡ length ys → Items f xs at a → Items f ys at c
+    → a ++ b ≡ c ++ d → Same xs ys a c
 one_items f u [] [] at a b c d n h k e = record { value = refl; front = h ∙ sym k }
 one_items f u [] (y ∷ ys) at a b c d n h k e = absurd (omega (arith, n))
 one_items f u (x ∷ xs) [] at a b c d n h k e = absurd (omega (arith, n))
@@ -119,7 +122,8 @@ one_space = one_of_bytes space_byte space_number
 pub one_function_type : One FunctionType
 one_function_type =
     let V = one_vector ValueType one_value_type in
-    one_view FunctionType (Pair (λ (u : Unit {0}). Exactly (0x60 ∷ [])) (Pair (Vector ValueType) (Vector ValueType))) (λ t. (tt, (t.params, t.results))) (λ p. record { params = p.1.0; results = p.1.1 }) (λ t. refl) (λ t at a h. h)
+    one_view FunctionType (Pair (λ (u : Unit {0}). Exactly (0x60 ∷ [])) (Pair (Vector ValueType) (Vector ValueType))) (λ t. (tt, (t.params, t.results)))
+    (λ p. record { params = p.1.0; results = p.1.1 }) (λ t. refl) (λ t at a h. h)
     (one_pair _ _ (one_exact (0x60 ∷ [])) (one_pair _ _ V V))
 
 -- the bytes behind a first one
@@ -202,5 +206,6 @@ one_import = one_view ImportOf (Pair Text (Pair Text ImportKindOf)) (λ i. (i.mo
     (one_pair _ _ one_text (one_pair _ _ one_text one_kind))
 
 pub one_export : One ExportOf
-one_export = one_view ExportOf (Pair Text (Pair (λ s. Exactly (space_byte s ∷ [])) Number)) (λ x. (x.name, (x.space, x.index))) (λ p. record { name = p.0; space = p.1.0; index = p.1.1 }) (λ x. refl) (λ x at a h. h)
+one_export = one_view ExportOf (Pair Text (Pair (λ s. Exactly (space_byte s ∷ [])) Number)) (λ x. (x.name, (x.space, x.index))) (λ p. record { name = p.0; space = p.1.0; index = p.1.1 })
+    (λ x. refl) (λ x at a h. h)
     (one_pair _ _ one_text (one_pair _ _ one_space one_number))

@@ -2,11 +2,14 @@
 use Rattle.std.proofs.Common.{◌≡◌, ℕ, ◌+◌, List, [], ◌∷◌, ◌++◌, Some, Bool, true, false, refl, ap, sym, ◌∙◌, subst, arith, append_assoc, length, length-append, IsTrue, nat_eq, cond, inl, inr}
 use Rattle.wa_types.specs.Encoding.{preamble}
 use Rattle.wa_types.specs.Opcodes.{Follows, follows, shape, is_nest}
-use Rattle.wa_types.specs.Binary.{Placed, Operands, nothing, zero_byte, index, index_and_zero, access, labels, constant, float, RawCode, ended, otherwise, instr, nested, branched, Section, custom, types, imports, functions, tables, memories, globals, exports, start, elements, bodies, segments, section_id}
-use Rattle.wa_types.specs.Spells.{◌▸◌, Exactly, Number, SignedNumber, Items, Vector, Filling, Sized, Text, Byte, ValueType, BlockType, FunctionType, LimitsOf, TableType, GlobalType, OperandsOf, CodeOf, ImportOf, GlobalOf, ExportOf, ElementOf, RunOf, BodyOf, SegmentOf, ContentOf, SectionOf, Spells}
+use Rattle.wa_types.specs.Binary.{Placed, Operands, nothing, zero_byte, index, index_and_zero, access, labels, constant, float, RawCode, ended, otherwise, instr, nested, branched, Section}
+use Rattle.wa_types.specs.Binary.{custom, types, imports, functions, tables, memories, globals, exports, start, elements, bodies, segments, section_id}
+use Rattle.wa_types.specs.Spells.{◌▸◌, Exactly, Number, SignedNumber, Items, Vector, Filling, Sized, Text, Byte, ValueType, BlockType, FunctionType, LimitsOf, TableType, GlobalType}
+use Rattle.wa_types.specs.Spells.{OperandsOf, CodeOf, ImportOf, GlobalOf, ExportOf, ElementOf, RunOf, BodyOf, SegmentOf, ContentOf, SectionOf, Spells}
 use Rattle.file_laws.proofs.Items.{same_cut}
 use Rattle.file_laws.proofs.CodeReads.{nest_range, refuted, none_nest}
-use Rattle.file_laws.proofs.Unique.{Same, One, Pair, one_pair, one_view, one_exact, one_number, one_signed, one_vector, one_text, one_byte, one_value_type, one_block_type, one_global_type, one_function_type, one_limits, one_table, one_import, one_export, heads, one_head}
+use Rattle.file_laws.proofs.Unique.{Same, One, Pair, one_pair, one_view, one_exact, one_number, one_signed, one_vector, one_text, one_byte, one_value_type, one_block_type, one_global_type}
+use Rattle.file_laws.proofs.Unique.{one_function_type, one_limits, one_table, one_import, one_export, heads, one_head}
 
 -- what follows an opcode, of one shape
 one_operands : (x y : Operands) (at : ℕ) (a b c d : List ℕ) → shape x ≡ shape y → OperandsOf x at a → OperandsOf y at c → a ++ b ≡ c ++ d → Same x y a c
@@ -98,7 +101,8 @@ record Behind (G H : ℕ → List ℕ → Type 0) (at : ℕ) (a b c d : List ℕ
   cut : p ++ b ≡ q ++ d
   whole : p ≡ q → a ≡ c
 
-behind : {X : Type 0} (f : X → ℕ → List ℕ → Type 0) (G H : ℕ → List ℕ → Type 0) → One f → (x y : X) (at : ℕ) (a b c d : List ℕ) → (f x ▸ G) at a → (f y ▸ H) at c → a ++ b ≡ c ++ d → (x ≡ y) × Behind G H at a b c d
+behind : {X : Type 0} (f : X → ℕ → List ℕ → Type 0) (G H : ℕ → List ℕ → Type 0) → One f → (x y : X) (at : ℕ) (a b c d : List ℕ) → (f x ▸ G) at a → (f y ▸ H) at c → a ++ b ≡ c ++ d
+    → (x ≡ y) × Behind G H at a b c d
 behind f G H u x y at a b c d h k e =
     let cut : h.0 ++ (h.1 ++ b) ≡ k.0 ++ (k.1 ++ d) = sym (append_assoc h.0 h.1 b) ∙ ap (λ z. z ++ b) (sym h.2) ∙ e ∙ ap (λ z. z ++ d) k.2 ∙ append_assoc k.0 k.1 d in
     let s = u x y at h.0 (h.1 ++ b) k.0 (k.1 ++ d) h.3 k.3 cut in (
@@ -167,18 +171,21 @@ one_expression : One (CodeOf false)
 one_expression x y at a b c d h k e = one_code x y false at a b c d (code_class x y false at a b c d h k e) h k e
 
 one_global : One GlobalOf
-one_global = one_view GlobalOf (Pair (λ (t : Placed × Bool). GlobalType t.0 t.1) (CodeOf false)) (λ g. ((g.ty, g.mutable), g.init)) (λ p. record { ty = p.0.0; mutable = p.0.1; init = p.1 }) (λ g. refl) (λ g at a h. h)
+one_global = one_view GlobalOf (Pair (λ (t : Placed × Bool). GlobalType t.0 t.1) (CodeOf false)) (λ g. ((g.ty, g.mutable), g.init)) (λ p. record { ty = p.0.0; mutable = p.0.1; init = p.1 })
+    (λ g. refl) (λ g at a h. h)
     (one_pair (λ (t : Placed × Bool). GlobalType t.0 t.1) (CodeOf false) one_global_type one_expression)
 
 one_element : One ElementOf
-one_element = one_view ElementOf (Pair Number (Pair (CodeOf false) (Vector Number))) (λ g. (g.table, (g.offset, g.funcs))) (λ p. record { table = p.0; offset = p.1.0; funcs = p.1.1 }) (λ g. refl) (λ g at a h. h)
+one_element = one_view ElementOf (Pair Number (Pair (CodeOf false) (Vector Number))) (λ g. (g.table, (g.offset, g.funcs))) (λ p. record { table = p.0; offset = p.1.0; funcs = p.1.1 })
+    (λ g. refl) (λ g at a h. h)
     (one_pair Number (Pair (CodeOf false) (Vector Number)) one_number (one_pair (CodeOf false) (Vector Number) one_expression (one_vector Number one_number)))
 
 one_run : One RunOf
 one_run = one_view RunOf (Pair Number ValueType) (λ g. (g.count, g.ty)) (λ p. record { count = p.0; ty = p.1 }) (λ g. refl) (λ g at a h. h) (one_pair Number ValueType one_number one_value_type)
 
 one_body : One BodyOf
-one_body = one_view BodyOf (Pair Number (Pair (Vector RunOf) (CodeOf false))) (λ g. (g.size, (g.locals, g.code))) (λ p. record { size = p.0; locals = p.1.0; code = p.1.1 }) (λ g. refl) (λ g at a h. (h.0, h.1, h.2, h.3, h.4.1))
+one_body = one_view BodyOf (Pair Number (Pair (Vector RunOf) (CodeOf false))) (λ g. (g.size, (g.locals, g.code))) (λ p. record { size = p.0; locals = p.1.0; code = p.1.1 }) (λ g. refl)
+    (λ g at a h. (h.0, h.1, h.2, h.3, h.4.1))
     (one_pair Number (Pair (Vector RunOf) (CodeOf false)) one_number (one_pair (Vector RunOf) (CodeOf false) (one_vector RunOf one_run) one_expression))
 
 -- bytes behind their number
@@ -194,7 +201,8 @@ one_counted x y at a b c d h k e =
 
 one_segment : One SegmentOf
 unfolding Counted
-one_segment = one_view SegmentOf (Pair Number (Pair (CodeOf false) Counted)) (λ g. (g.memory, (g.offset, g.bytes))) (λ p. record { memory = p.0; offset = p.1.0; bytes = p.1.1 }) (λ g. refl) (λ g at a h. h)
+one_segment = one_view SegmentOf (Pair Number (Pair (CodeOf false) Counted)) (λ g. (g.memory, (g.offset, g.bytes))) (λ p. record { memory = p.0; offset = p.1.0; bytes = p.1.1 }) (λ g. refl)
+    (λ g at a h. h)
     (one_pair Number (Pair (CodeOf false) Counted) one_number (one_pair (CodeOf false) Counted one_expression one_counted))
 
 whole_cut : (a c : List ℕ) → a ≡ c → a ++ [] ≡ c ++ []

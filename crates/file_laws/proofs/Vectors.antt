@@ -4,7 +4,7 @@ use Rattle.wa_types.specs.Leb.{IsUnsigned}
 use Rattle.wa_types.specs.Begun.{Goal, count, entries, Kind, an_unsigned, next, entry, others, and_then, some_of}
 use Rattle.wa_types.specs.Spells.{◌▸◌, Exactly, Items, Vector}
 use Rattle.file_laws.proofs.Runs.{some_same, not_none}
-use Rattle.file_laws.proofs.Going.{Any, Reads, reads_none, reads_then, reads_as, Begins, reads_first, Goes, takes_one, gives_one, to_left, to_right, on_right}
+use Rattle.file_laws.proofs.GoalReads.{Any, Reads, reads_none, reads_then, reads_as, Begins, reads_first, Goes, takes_one, gives_one, to_left, to_right, on_right}
 
 pub reads_append : (gs hs : List Goal) (F G : ℕ → List ℕ → Type 0) → Reads gs F → Reads hs G → Reads (gs ++ hs) (F ▸ G)
 reads_append gs hs F G r s = record {
@@ -44,7 +44,8 @@ entry_next : (k : Kind) (n v at : ℕ) → next (entries k n) v at ≡ and_then 
 unfolding next
 entry_next k n v at = refl
 
-pushed_one : (k : Kind) (n v at : ℕ) (new : List Goal) → next (entries k (suc (suc n))) v at ≡ Some new → (e : List Goal) × (next (entries k 1) v at ≡ Some (e ++ [])) × (new ≡ e ++ entries k (suc n) ∷ [])
+pushed_one : (k : Kind) (n v at : ℕ) (new : List Goal) → next (entries k (suc (suc n))) v at ≡ Some new
+    → (e : List Goal) × (next (entries k 1) v at ≡ Some (e ++ [])) × (new ≡ e ++ entries k (suc n) ∷ [])
 pushed_one k n v at new p =
     let t = and_then_some (entry k v at) (others k (suc (suc n))) new (sym (entry_next k (suc (suc n)) v at) ∙ p) in
     (t.0, entry_next k 1 v at ∙ ap (λ o. and_then o []) t.1, t.2 ∙ ap (λ z. t.0 ++ z) (others_more k n))

@@ -1,3 +1,5 @@
+//! Laws of the binary format (standard, chapter 5). Each is the contract of a function that does nothing.
+
 ghost use Rattle.std.specs.Prelude.{◌≡◌, List, [], ℕ, ◌++◌, ◌<◌, ◌^◌, All, length, take, sum_by};
 ghost use Rattle.wa_types.specs.Binary.{Section};
 ghost use Rattle.wa_types.specs.Spells.{Spells};

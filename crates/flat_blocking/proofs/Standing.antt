@@ -16,7 +16,9 @@ use Rattle.wa_model.specs.Store.{Store}
 use Rattle.wa_model.specs.Configuration.{Configuration}
 use Rattle.wa_model.specs.Step.{Next, steps, asks, returns, traps, stuck, entered, step}
 use Rattle.wa_model.specs.Plan.{Entry, Plan, Outcome, given, refused}
-use Rattle.wa_model.specs.Blocking.{Note, note, answers, fault_of, poked, resumed, Task, the_start, an_entry, Left, with_outcomes, Asker, inside, outermost, store_at, in_start, State, between, begins, runs, halts, events_of, call_note, pause_of, stack_at, on_to, next_entry, task_back, tested, asked, by_step, enters, enter_next, start_called, blocking, store_of}
+use Rattle.wa_model.specs.Blocking.{Note, note, answers, fault_of, poked, resumed, Task, the_start, an_entry, Left, with_outcomes, Asker, inside, outermost, store_at, in_start, State}
+use Rattle.wa_model.specs.Blocking.{between, begins, runs, halts, events_of, call_note, pause_of, stack_at, on_to, next_entry, task_back, tested, asked, by_step, enters, enter_next}
+use Rattle.wa_model.specs.Blocking.{start_called, blocking, store_of}
 use Rattle.wa_model.specs.Touches.{touched, seen_at}
 use Rattle.wa_model.specs.Fitting.{types_of, results_of, StoreFits, CallersFit, Fits, WaitingFits, NextFits}
 use Rattle.wa_model.proofs.FittingNames.{results_are}

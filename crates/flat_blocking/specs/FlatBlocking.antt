@@ -23,14 +23,17 @@ is_loud first (plain (local_get x) rest) = nat_lt x first
 is_loud first (plain (local_set x) rest) = nat_lt x first
 is_loud first _ = true
 
+-- the next move counts in the lean cost
 abbrev pub counts : (first : ℕ → ℕ) → State → Bool
 counts first (runs task c l) = is_loud (first c.here.func) c.here.code
 counts first _ = true
 
+-- the cost of a move
 abbrev pub turn_cost : Turn State Note → ℕ
 turn_cost stops = 0
 turn_cost (goes k es t) = suc k
 
+-- a cost, where told
 abbrev pub cost_if : Bool → ℕ → List ℕ
 cost_if true k = k ∷ []
 cost_if false k = []

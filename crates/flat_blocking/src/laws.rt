@@ -1,3 +1,5 @@
+//! The law of whole runs, flat and original. It is the contract of a function that does nothing.
+
 ghost use Rattle.flat_blocking.specs.FlatBlocking.{FlatFollows, FlatReaches, FlatWeighs, LeanIsLess};
 
 /// At each cost of the flat run the original's stands alike, at a cost that is at most the lean cost; and where the original's

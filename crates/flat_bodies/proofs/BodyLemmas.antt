@@ -53,7 +53,8 @@ walked_first n a all out r t e = record {
   fewer = omega arith;
 }
 
-module _ (n : Names) (a p : Position) (body : List Instr) (j : ℕ) (x : Instr) (out : List Stmt) (w : Walked n a p (code body) (code (drop j body)) out) (lt : j < length body) (at : x ≡ get_or body j x) where
+module _ (n : Names) (a p : Position) (body : List Instr) (j : ℕ) (x : Instr) (out : List Stmt) (w : Walked n a p (code body) (code (drop j body)) out) (lt : j < length body)
+    (at : x ≡ get_or body j x) where
   front : code (drop j body) ≡ in_front x (code (drop (j + 1) body))
   front = code_step body j x lt at
 
@@ -93,27 +94,40 @@ module _ (n : Names) (a p : Position) (body : List Instr) (j : ℕ) (x : Instr) 
         fewer = omega (arith, w.fewer, ap code_items front ∙ items_front x (code (drop (j + 1) body)));
       }
     where
-      moved_typed : (q : Position) → Stays p.typing q.typing → TypedAt (record { around = p.typing.around; labels = p.typing.labels; own = q.typing.own; under = p.typing.under }) (code (drop (j + 1) body)) → TypedAt q.typing (code (drop (j + 1) body))
+      moved_typed : (q : Position) → Stays p.typing q.typing → TypedAt (record { around = p.typing.around; labels = p.typing.labels; own = q.typing.own; under = p.typing.under })
+          (code (drop (j + 1) body)) → TypedAt q.typing (code (drop (j + 1) body))
       moved_typed q s h =
           subst (λ c. TypedAt (record { around = c; labels = q.typing.labels; own = q.typing.own; under = q.typing.under }) (code (drop (j + 1) body))) (sym s.around)
           (subst (λ ls. TypedAt (record { around = p.typing.around; labels = ls; own = q.typing.own; under = q.typing.under }) (code (drop (j + 1) body))) (sym s.labels) h)
 
 -- the end
-pub end_stmts : (n : Names) (a p : Position) (body : List Instr) (j from : ℕ) (locals : List (Option ℕ)) (out new : List Stmt) → Walked n a p (code body) (code (drop j body)) out → length body ≤ j → locals ≡ label_locals n p.typing.labels → from ≡ top n (all_of p.typing)
+pub end_stmts : (n : Names) (a p : Position) (body : List Instr) (j from : ℕ) (locals : List (Option ℕ)) (out new : List Stmt) → Walked n a p (code body) (code (drop j body)) out
+    → length body ≤ j → locals ≡ label_locals n p.typing.labels → from ≡ top n (all_of p.typing)
     → ((rest : Stmts) → onto_stmts new rest ≡ onto_stmts out (carried_to (slice_get locals 0) from rest)) → stmts new ≡ flat_at n a.typing (code body)
 unfolding flat
 end_stmts n a p body j from locals out new w le el ef h =
-    sym (onto_all new) ∙ h no_more ∙ ap (λ f. onto_stmts out (carried_to (slice_get locals 0) f no_more)) ef ∙ ap (λ ls. onto_stmts out (carried_to (slice_get ls 0) (top n (all_of p.typing)) no_more)) el
+    sym (onto_all new) ∙ h no_more ∙ ap (λ f. onto_stmts out (carried_to (slice_get locals 0) f no_more)) ef
+    ∙ ap (λ ls. onto_stmts out (carried_to (slice_get ls 0) (top n (all_of p.typing)) no_more)) el
     ∙ ap (onto_stmts out) (carry_is n p.typing.labels (all_of p.typing) 0 no_more) ∙ ap (λ k. onto_stmts out (flat_at n p.typing k)) (sym (code_empty body j le)) ∙ w.same
 
 -- ---- arms
 
-pub arm_ready : (n : Names) (a q r : Position) (height : ℕ) → Ready n a → Ready n q → Stays a.typing q.typing → a.typing.own ≡ [] → height ≡ length a.slots.items → r.typing ≡ a.typing → r.labels.items ≡ q.labels.items → r.slots.items ≡ take height q.slots.items → Ready n r
+pub arm_ready : (n : Names) (a q r : Position) (height : ℕ) → Ready n a → Ready n q → Stays a.typing q.typing → a.typing.own ≡ [] → height ≡ length a.slots.items → r.typing ≡ a.typing
+    → r.labels.items ≡ q.labels.items → r.slots.items ≡ take height q.slots.items → Ready n r
 arm_ready n a q r height ra rq st none eh et el es =
     let k : ℕ = length q.typing.own in
     let under : q.typing.under ≡ a.typing.under = st.under in
     let count : length a.slots.items ≡ length a.typing.under = sym (length-reverse a.slots.items) ∙ ap length ra.held ∙ slots_long n (all_of a.typing) ∙ ap (λ z. length (z ++ a.typing.under)) none in
-    let long : height + k ≡ length q.slots.items = omega (arith, eh, count, length-reverse q.slots.items, ap length rq.held, slots_long n (all_of q.typing), length-append q.typing.own q.typing.under, ap length under) in
+    let long : height + k ≡ length q.slots.items = omega (
+      arith,
+      eh,
+      count,
+      length-reverse q.slots.items,
+      ap length rq.held,
+      slots_long n (all_of q.typing),
+      length-append q.typing.own q.typing.under,
+      ap length under,
+    ) in
     record {
       held = ap reverse es ∙ kept_reversed height k q.slots.items long ∙ ap (drop k) rq.held ∙ slots_drop n k (all_of q.typing) ∙ ap (slots n) (drop-append_seam q.typing.own q.typing.under)
           ∙ ap (slots n) under ∙ ap (λ z. slots n (z ++ a.typing.under)) (sym none) ∙ ap (λ (w : Walk). slots n (all_of w)) (sym et);

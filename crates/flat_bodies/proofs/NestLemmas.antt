@@ -37,13 +37,15 @@ module _ (n : Names) (v : Walk) (lab given : Option ValType) (own0 : List ValTyp
   pub left_outer : (base : ℕ) → base ≡ length v.under → left_at given base inner ≡ outer
   left_outer base e =
       let k : length (own0 ++ v.under) - base ≡ length own0 = omega (arith, length-append own0 v.under) in
-      let own : listed given ++ take (length (own0 ++ v.under) - base) (own0 ++ v.under) ≡ listed given ++ own0 = ap (λ z. listed given ++ z) (ap (λ j. take j (own0 ++ v.under)) k ∙ take-append_seam own0 v.under) in
+      let own : listed given ++ take (length (own0 ++ v.under) - base) (own0 ++ v.under) ≡ listed given
+      ++ own0 = ap (λ z. listed given ++ z) (ap (λ j. take j (own0 ++ v.under)) k ∙ take-append_seam own0 v.under) in
       let under : drop (length (own0 ++ v.under) - base) (own0 ++ v.under) ≡ v.under = ap (λ j. drop j (own0 ++ v.under)) k ∙ drop-append_seam own0 v.under in
       (λ j. record { around = v.around; labels = v.labels; own = own j; under = under j })
 
   pub left_same : (q : Walk) (base : ℕ) → Stays inner q → left_at given base q ≡ left_at given base inner
   left_same q base st =
-      let own : listed given ++ take (length q.under - base) q.under ≡ listed given ++ take (length (own0 ++ v.under) - base) (own0 ++ v.under) = ap (λ z. listed given ++ take (length z - base) z) st.under in
+      let own : listed given ++ take (length q.under - base) q.under ≡ listed given ++ take (length (own0 ++ v.under) - base) (own0 ++ v.under) =
+      ap (λ z. listed given ++ take (length z - base) z) st.under in
       let under : drop (length q.under - base) q.under ≡ drop (length (own0 ++ v.under) - base) (own0 ++ v.under) = ap (λ z. drop (length z - base) z) st.under in
       (λ j. record { around = st.around j; labels = drop 1 (st.labels j); own = own j; under = under j })
 
@@ -54,7 +56,8 @@ module _ (n : Names) (v : Walk) (lab given : Option ValType) (own0 : List ValTyp
     pub opened : (p : Position) → p.typing ≡ inner → p.slots.items ≡ ss → p.labels.items ≡ ls ++ result_at n (length ls) lab ∷ [] → Ready n p
     opened p e es el = record {
       held = ap reverse es ∙ held ∙ ap (λ (w : Walk). slots n (all_of w)) (sym e);
-      labels = ap reverse el ∙ reverse-append ls (result_at n (length ls) lab ∷ []) ∙ ap (λ z. result_at n (length ls) lab ∷ z) labels ∙ ap (λ d. result_at n d lab ∷ label_locals n v.labels) labels_count ∙ ap (λ (w : Walk). label_locals n w.labels) (sym e);
+      labels = ap reverse el ∙ reverse-append ls (result_at n (length ls) lab ∷ []) ∙ ap (λ z. result_at n (length ls) lab ∷ z) labels
+          ∙ ap (λ d. result_at n d lab ∷ label_locals n v.labels) labels_count ∙ ap (λ (w : Walk). label_locals n w.labels) (sym e);
     }
 
     pub record ClosedAt (r : Position) : Type 0 where
@@ -63,13 +66,21 @@ module _ (n : Names) (v : Walk) (lab given : Option ValType) (own0 : List ValTyp
       pub arrives : ArrivesAt n given r
       pub arrives_all : all_of r.typing ≡ listed given ++ (own0 ++ v.under)
 
-    pub closed : (q r : Position) (base height : ℕ) → Ready n q → Stays inner q.typing → base ≡ length v.under → height ≡ length ss → r.typing ≡ left_at given base q.typing → r.slots.items ≡ take height q.slots.items → reverse r.labels.items ≡ drop 1 (reverse q.labels.items) → ClosedAt r
+    pub closed : (q r : Position) (base height : ℕ) → Ready n q → Stays inner q.typing → base ≡ length v.under → height ≡ length ss → r.typing ≡ left_at given base q.typing
+        → r.slots.items ≡ take height q.slots.items → reverse r.labels.items ≡ drop 1 (reverse q.labels.items) → ClosedAt r
     closed q r base height rd st eb eh et es el =
         let k : ℕ = length q.typing.own in
         let under : q.typing.under ≡ own0 ++ v.under = st.under in
         let ty : r.typing ≡ outer = et ∙ left_same q.typing base st ∙ left_outer base eb in
         let count : height ≡ length q.typing.under = omega (arith, eh, length-reverse ss, ap length held, slots_long n (own0 ++ v.under), ap length under) in
-        let long : height + k ≡ length q.slots.items = omega (arith, count, length-reverse q.slots.items, ap length rd.held, slots_long n (all_of q.typing), length-append q.typing.own q.typing.under) in
+        let long : height + k ≡ length q.slots.items = omega (
+          arith,
+          count,
+          length-reverse q.slots.items,
+          ap length rd.held,
+          slots_long n (all_of q.typing),
+          length-append q.typing.own q.typing.under,
+        ) in
         let kept : reverse r.slots.items ≡ slots n (own0 ++ v.under) =
         ap reverse es ∙ kept_reversed height k q.slots.items long ∙ ap (drop k) rd.held ∙ slots_drop n k (all_of q.typing) ∙ ap (slots n) (drop-append_seam q.typing.own q.typing.under ∙ under) in
         record {
@@ -103,7 +114,8 @@ module _ (n : Names) (v : Walk) (lab given : Option ValType) (own0 : List ValTyp
 
 -- ---- blocks and loops
 
-module _ (n : Names) (a : Position) (i : Instr) (s : Shape) (given : Option ValType) (body : Code) (is : (rest : Code) → in_front i rest ≡ nest s given body rest) (ready : Ready n a) (typed : TypedAt a.typing (in_front i done)) where
+module _ (n : Names) (a : Position) (i : Instr) (s : Shape) (given : Option ValType) (body : Code) (is : (rest : Code) → in_front i rest ≡ nest s given body rest) (ready : Ready n a)
+    (typed : TypedAt a.typing (in_front i done)) where
   pub nest_inside : (w : Walk) → Inside a.typing (in_front i done) w → w ≡ inner n a.typing (label s given) given a.typing.own
   nest_inside w h = subst (λ (k : Code). Inside a.typing k w) (is done) h
 
@@ -127,7 +139,8 @@ module _ (n : Names) (a : Position) (i : Instr) (s : Shape) (given : Option ValT
   nest_behind w e =
       subst (λ (k : Code). Types a.typing.around a.typing.labels k w.own a.typing.own) (sym (is done)) (nest_typed.0, sym (ap (λ (z : Walk). z.own) e))
 
-  pub nest_put : (r t : Position) (old new inside : List Stmt) → ClosedAt n a.typing (label s given) given a.typing.own a.slots.items a.labels.items ready.held ready.labels r → HeldToo n r t → stmts inside ≡ flat_at n (inner n a.typing (label s given) given a.typing.own) body
+  pub nest_put : (r t : Position) (old new inside : List Stmt) → ClosedAt n a.typing (label s given) given a.typing.own a.slots.items a.labels.items ready.held ready.labels r
+      → HeldToo n r t → stmts inside ≡ flat_at n (inner n a.typing (label s given) given a.typing.own) body
       → ((k : Stmts) → onto_stmts new k ≡ onto_stmts old (nests s (stmts inside) (arrive n (length a.typing.labels) (label s given) (all_of a.typing) k))) → Put n a t i old new
   unfolding flat
   nest_put r t old new inside c h ei puts =
@@ -145,7 +158,8 @@ module _ (n : Names) (a : Position) (i : Instr) (s : Shape) (given : Option ValT
 
 -- ---- ifs
 
-module _ (n : Names) (a : Position) (i : Instr) (given : Option ValType) (one two : Code) (is : (rest : Code) → in_front i rest ≡ branch given one two rest) (ready : Ready n a) (typed : TypedAt a.typing (in_front i done)) where
+module _ (n : Names) (a : Position) (i : Instr) (given : Option ValType) (one two : Code) (is : (rest : Code) → in_front i rest ≡ branch given one two rest) (ready : Ready n a)
+    (typed : TypedAt a.typing (in_front i done)) where
   pub low : List ValType
   low = drop 1 a.typing.own
 
@@ -193,7 +207,8 @@ module _ (n : Names) (a : Position) (i : Instr) (given : Option ValType) (one tw
   pub if_put : (ss : List ℕ) (popped : reverse ss ≡ drop 1 (reverse a.slots.items)) (r t : Position) (old new first second : List Stmt) (condition : ℕ) → condition ≡ top n (all_of a.typing)
       → ClosedAt n a.typing given given (drop 1 a.typing.own) ss a.labels.items (if_held ss popped) ready.labels r → HeldToo n r t
       → stmts first ≡ flat_at n (inner n a.typing given given (drop 1 a.typing.own)) one → stmts second ≡ flat_at n (inner n a.typing given given (drop 1 a.typing.own)) two
-      → ((k : Stmts) → onto_stmts new k ≡ onto_stmts old (decides (Local condition) (stmts first) (stmts second) (arrive n (length a.typing.labels) given (drop 1 a.typing.own ++ a.typing.under) k))) → Put n a t i old new
+      → ((k : Stmts) → onto_stmts new k ≡ onto_stmts old (decides (Local condition) (stmts first) (stmts second)
+      (arrive n (length a.typing.labels) given (drop 1 a.typing.own ++ a.typing.under) k))) → Put n a t i old new
   unfolding flat
   if_put ss popped r t old new first second condition ec c h e1 e2 puts =
       let v : Walk = a.typing in
@@ -208,9 +223,12 @@ module _ (n : Names) (a : Position) (i : Instr) (given : Option ValType) (one tw
             ap (onto_stmts new) (behind_is n v given given (drop 1 v.own) ss a.labels.items held ready.labels r t rest c h)
             ∙ puts (flat n v.around v.labels rest (listed given ++ below))
             ∙ ap (λ z. onto_stmts old (decides (Local condition) z (stmts second) (arrive n (length v.labels) given below (flat n v.around v.labels rest (listed given ++ below))))) e1
-            ∙ ap (λ z. onto_stmts old (decides (Local condition) (flat n v.around (given ∷ v.labels) one below) z (arrive n (length v.labels) given below (flat n v.around v.labels rest (listed given ++ below))))) e2
-            ∙ ap (λ z. onto_stmts old (decides (Local z) (flat n v.around (given ∷ v.labels) one below) (flat n v.around (given ∷ v.labels) two below) (arrive n (length v.labels) given below (flat n v.around v.labels rest (listed given ++ below))))) ec
-            ∙ ap (λ ops. onto_stmts old (decides (Local (top n (all_of v))) (flat n v.around (given ∷ v.labels) one ops) (flat n v.around (given ∷ v.labels) two ops) (arrive n (length v.labels) given ops (flat n v.around v.labels rest (listed given ++ ops))))) same
+            ∙ ap (λ z. onto_stmts old (decides (Local condition) (flat n v.around (given ∷ v.labels) one below) z
+            (arrive n (length v.labels) given below (flat n v.around v.labels rest (listed given ++ below))))) e2
+            ∙ ap (λ z. onto_stmts old (decides (Local z) (flat n v.around (given ∷ v.labels) one below) (flat n v.around (given ∷ v.labels) two below)
+            (arrive n (length v.labels) given below (flat n v.around v.labels rest (listed given ++ below))))) ec
+            ∙ ap (λ ops. onto_stmts old (decides (Local (top n (all_of v))) (flat n v.around (given ∷ v.labels) one ops) (flat n v.around (given ∷ v.labels) two ops)
+            (arrive n (length v.labels) given ops (flat n v.around v.labels rest (listed given ++ ops))))) same
             ∙ sym (ap (λ k. onto_stmts old (flat n v.around v.labels k (all_of v))) (is rest));
       }
 
@@ -239,30 +257,40 @@ if_opens i r b d e = ap is_leaf e
 
 -- ---- the kinds
 
-module _ (n : Names) (a p q r t : Position) (i : Instr) (given : Option ValType) (body : Code) (old new : List Stmt) (inside : List Stmt) (ready : Ready n a) (typed : TypedAt a.typing (in_front i done)) where
-  pub block_done : (is : (rest : Code) → in_front i rest ≡ nest a_block given body rest) → ClosedAt n a.typing given given a.typing.own a.slots.items a.labels.items ready.held ready.labels r → p.typing ≡ inner n a.typing given given a.typing.own
+module _ (n : Names) (a p q r t : Position) (i : Instr) (given : Option ValType) (body : Code) (old new : List Stmt) (inside : List Stmt) (ready : Ready n a)
+    (typed : TypedAt a.typing (in_front i done)) where
+  pub block_done : (is : (rest : Code) → in_front i rest ≡ nest a_block given body rest)
+      → ClosedAt n a.typing given given a.typing.own a.slots.items a.labels.items ready.held ready.labels r → p.typing ≡ inner n a.typing given given a.typing.own
       → stmts inside ≡ flat_at n p.typing body → PutBlock n given inside r t old new → Put n a t i old new
   block_done is c e ei pb =
       nest_put n a i a_block given body is ready typed r t old new inside c pb.now (ei ∙ ap (λ (w : Walk). flat_at n w body) e)
-      (λ k. pb.puts (all_of a.typing) k (c.arrives_all) ∙ ap (λ d. onto_stmts old (nests a_block (stmts inside) (arrive n d given (all_of a.typing) k))) (depth_is n a.typing given given a.typing.own a.slots.items a.labels.items ready.held ready.labels r c))
+      (λ k. pb.puts (all_of a.typing) k (c.arrives_all) ∙ ap (λ d. onto_stmts old (nests a_block (stmts inside) (arrive n d given (all_of a.typing) k)))
+      (depth_is n a.typing given given a.typing.own a.slots.items a.labels.items ready.held ready.labels r c))
 
-  pub loop_done : (is : (rest : Code) → in_front i rest ≡ nest a_loop given body rest) → ClosedAt n a.typing None given a.typing.own a.slots.items a.labels.items ready.held ready.labels r → p.typing ≡ inner n a.typing None given a.typing.own
+  pub loop_done : (is : (rest : Code) → in_front i rest ≡ nest a_loop given body rest) → ClosedAt n a.typing None given a.typing.own a.slots.items a.labels.items ready.held ready.labels r
+      → p.typing ≡ inner n a.typing None given a.typing.own
       → stmts inside ≡ flat_at n p.typing body → PutLoop n inside r t old new → Put n a t i old new
   loop_done is c e ei pl =
       nest_put n a i a_loop given body is ready typed r t old new inside c pl.now (ei ∙ ap (λ (w : Walk). flat_at n w body) e) (λ k. pl.puts k)
 
-module _ (n : Names) (a p q r t : Position) (i : Instr) (given : Option ValType) (one two : Code) (old new : List Stmt) (first second : List Stmt) (ss : List ℕ) (condition : ℕ) (ready : Ready n a) (typed : TypedAt a.typing (in_front i done)) (popped : reverse ss ≡ drop 1 (reverse a.slots.items)) (is : (rest : Code) → in_front i rest ≡ branch given one two rest) where
+module _ (n : Names) (a p q r t : Position) (i : Instr) (given : Option ValType) (one two : Code) (old new : List Stmt) (first second : List Stmt) (ss : List ℕ) (condition : ℕ)
+    (ready : Ready n a) (typed : TypedAt a.typing (in_front i done)) (popped : reverse ss ≡ drop 1 (reverse a.slots.items)) (is : (rest : Code)
+    → in_front i rest ≡ branch given one two rest) where
   abbrev low_own : List ValType
   low_own = drop 1 a.typing.own
 
-  pub if_done : ClosedAt n a.typing given given (drop 1 a.typing.own) ss a.labels.items (if_held n a i given one two is ready typed ss popped) ready.labels r → condition ≡ top n (all_of a.typing) → p.typing ≡ inner n a.typing given given (drop 1 a.typing.own) → q.typing ≡ inner n a.typing given given (drop 1 a.typing.own)
+  pub if_done : ClosedAt n a.typing given given (drop 1 a.typing.own) ss a.labels.items (if_held n a i given one two is ready typed ss popped) ready.labels r
+      → condition ≡ top n (all_of a.typing) → p.typing ≡ inner n a.typing given given (drop 1 a.typing.own) → q.typing ≡ inner n a.typing given given (drop 1 a.typing.own)
       → stmts first ≡ flat_at n p.typing one → stmts second ≡ flat_at n q.typing two → PutIf n given condition first second r t old new → Put n a t i old new
   if_done c ec e1 e2 s1 s2 pi =
       if_put n a i given one two is ready typed ss popped r t old new first second condition ec c pi.now (s1 ∙ ap (λ (w : Walk). flat_at n w one) e1) (s2 ∙ ap (λ (w : Walk). flat_at n w two) e2)
-      (λ k. pi.puts (low_own ++ a.typing.under) k c.arrives_all ∙ ap (λ d. onto_stmts old (decides (Local condition) (stmts first) (stmts second) (arrive n d given (low_own ++ a.typing.under) k))) (depth_is n a.typing given given (drop 1 a.typing.own) ss a.labels.items (if_held n a i given one two is ready typed ss popped) ready.labels r c))
+      (λ k. pi.puts (low_own ++ a.typing.under) k c.arrives_all ∙ ap (λ d. onto_stmts old
+      (decides (Local condition) (stmts first) (stmts second) (arrive n d given (low_own ++ a.typing.under) k)))
+      (depth_is n a.typing given given (drop 1 a.typing.own) ss a.labels.items (if_held n a i given one two is ready typed ss popped) ready.labels r c))
 
 -- what a body's statements ask for
-pub asks_of : (n : Names) (a p : Position) (k : Code) (xs : List Instr) → code xs ≡ k → TypedAt p.typing k → Ready n p → SmallTypes a.typing.around → p.typing.around ≡ a.typing.around → length p.labels.items ≡ suc (length a.labels.items) → suc (length a.labels.items) + code_items k < 2 ^ 32
+pub asks_of : (n : Names) (a p : Position) (k : Code) (xs : List Instr) → code xs ≡ k → TypedAt p.typing k → Ready n p → SmallTypes a.typing.around → p.typing.around ≡ a.typing.around
+    → length p.labels.items ≡ suc (length a.labels.items) → suc (length a.labels.items) + code_items k < 2 ^ 32
     → TypedAt p.typing (code xs) × (Ready n p × (SmallTypes p.typing.around × ((length p.labels.items + code_items (code xs) < 2 ^ 32) × (0 < length p.labels.items))))
 asks_of n a p k xs e t r s around size room =
     (subst (TypedAt p.typing) (sym e) t, (r, (subst SmallTypes (sym around) s, (omega (arith, room, size, ap code_items e), omega (arith, size)))))

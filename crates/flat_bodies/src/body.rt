@@ -1,3 +1,5 @@
+//! The statements of a body or an arm, instruction by instruction and construct by construct.
+
 ghost use Rattle.std.specs.Prelude.{◌≡◌, ◌+◌, ◌<◌, ◌^◌, [], length, false, true, IfOk, OnOk};
 ghost use Rattle.wa_types.specs.Pruned.{is_last_instr};
 ghost use Rattle.wa_types.specs.Sizes.{code_items};

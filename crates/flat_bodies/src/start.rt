@@ -1,3 +1,5 @@
+//! The statements of a whole function body, from where the walk of its types begins.
+
 ghost use Rattle.std.specs.Prelude.{◌≡◌, ◌+◌, ◌<◌, ◌^◌, ◌∷◌, [], length, IfOk};
 ghost use Rattle.wa_types.specs.Sizes.{code_items};
 ghost use Rattle.wa_types.specs.View.{code};

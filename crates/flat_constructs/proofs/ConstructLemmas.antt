@@ -46,7 +46,8 @@ arrives_below n t p a = (t, a.0, a.1, a.2)
 pub nothing_arrives : (n : Names) (p : Position) (old : List Stmt) → ArrivesAt n None p → Closed n None p p old old
 nothing_arrives n p old a = record { now = record { typing = refl; labels = refl; held = a.2 ∙ ap (slots n) (sym a.1) }; puts = λ rest k e. refl }
 
-pub one_arrives : (n : Names) (t : ValType) (p q : Position) (old new : List Stmt) (to from : ℕ) → ArrivesAt n (Some t) p → q.typing ≡ p.typing → q.labels.items ≡ p.labels.items → q.slots.items ≡ p.slots.items ++ top n (all_of p.typing) ∷ [] → to ≡ top n (all_of p.typing)
+pub one_arrives : (n : Names) (t : ValType) (p q : Position) (old new : List Stmt) (to from : ℕ) → ArrivesAt n (Some t) p → q.typing ≡ p.typing → q.labels.items ≡ p.labels.items
+    → q.slots.items ≡ p.slots.items ++ top n (all_of p.typing) ∷ [] → to ≡ top n (all_of p.typing)
     → from ≡ result_local n (length p.labels.items) t → new ≡ old ++ Move to (Local from) ∷ [] → Closed n (Some t) p q old new
 unfolding stmt_in_front
 one_arrives n t p q old new to from a et el es eto ef e = record {
@@ -56,16 +57,20 @@ one_arrives n t p q old new to from a et el es eto ef e = record {
       ∙ ap (λ z. onto_stmts old (copies (slot n (length rest) t) (Local z) k)) ef;
 }
 
-pub block_put : (n : Names) (given : Option ValType) (v : Vec Stmt Global) (p q : Position) (old mid new : List Stmt) → mid ≡ old ++ Block v ∷ [] → Closed n given p q mid new → PutBlock n given v.items p q old new
+pub block_put : (n : Names) (given : Option ValType) (v : Vec Stmt Global) (p q : Position) (old mid new : List Stmt) → mid ≡ old ++ Block v ∷ [] → Closed n given p q mid new
+    → PutBlock n given v.items p q old new
 block_put n given v p q old mid new e c = record {
   now = c.now;
-  puts = λ rest k er. let behind : Stmts = arrive n (length p.labels.items) given rest k in c.puts rest k er ∙ ap (λ z. onto_stmts z behind) e ∙ onto_more old (Block v) behind ∙ ap (onto_stmts old) (block_is v behind);
+  puts = λ rest k er. let behind : Stmts = arrive n (length p.labels.items) given rest k in c.puts rest k er ∙ ap (λ z. onto_stmts z behind) e ∙ onto_more old (Block v) behind
+      ∙ ap (onto_stmts old) (block_is v behind);
 }
 
-pub if_put : (n : Names) (given : Option ValType) (x : ℕ) (v w : Vec Stmt Global) (p q : Position) (old mid new : List Stmt) → mid ≡ old ++ If (Local x) v w ∷ [] → Closed n given p q mid new → PutIf n given x v.items w.items p q old new
+pub if_put : (n : Names) (given : Option ValType) (x : ℕ) (v w : Vec Stmt Global) (p q : Position) (old mid new : List Stmt) → mid ≡ old ++ If (Local x) v w ∷ []
+    → Closed n given p q mid new → PutIf n given x v.items w.items p q old new
 if_put n given x v w p q old mid new e c = record {
   now = c.now;
-  puts = λ rest k er. let behind : Stmts = arrive n (length p.labels.items) given rest k in c.puts rest k er ∙ ap (λ z. onto_stmts z behind) e ∙ onto_more old (If (Local x) v w) behind ∙ ap (onto_stmts old) (if_is x v w behind);
+  puts = λ rest k er. let behind : Stmts = arrive n (length p.labels.items) given rest k in c.puts rest k er ∙ ap (λ z. onto_stmts z behind) e ∙ onto_more old (If (Local x) v w) behind
+      ∙ ap (onto_stmts old) (if_is x v w behind);
 }
 
 looped : (v : Vec Stmt Global) (old new : List Stmt) (k : Stmts) → new ≡ old ++ Loop v ∷ [] → onto_stmts new k ≡ onto_stmts old (nests a_loop (stmts v.items) k)
@@ -74,7 +79,8 @@ looped v old new k e = ap (λ z. onto_stmts z k) e ∙ onto_more old (Loop v) k 
 pub loop_none : (n : Names) (v : Vec Stmt Global) (p : Position) (old new : List Stmt) → ArrivesAt n None p → new ≡ old ++ Loop v ∷ [] → PutLoop n v.items p p old new
 loop_none n v p old new a e = record { now = record { typing = refl; labels = refl; held = a.2 ∙ ap (slots n) (sym a.1) }; puts = λ k. looped v old new k e }
 
-pub loop_one : (n : Names) (t : ValType) (v : Vec Stmt Global) (p q : Position) (old new : List Stmt) → ArrivesAt n (Some t) p → q.typing ≡ p.typing → q.labels.items ≡ p.labels.items → q.slots.items ≡ p.slots.items ++ top n (all_of p.typing) ∷ [] → new ≡ old ++ Loop v ∷ [] → PutLoop n v.items p q old new
+pub loop_one : (n : Names) (t : ValType) (v : Vec Stmt Global) (p q : Position) (old new : List Stmt) → ArrivesAt n (Some t) p → q.typing ≡ p.typing → q.labels.items ≡ p.labels.items
+    → q.slots.items ≡ p.slots.items ++ top n (all_of p.typing) ∷ [] → new ≡ old ++ Loop v ∷ [] → PutLoop n v.items p q old new
 loop_one n t v p q old new a et el es e = record {
   now = record { typing = et; labels = el; held = slot_more n p.slots.items q.slots.items t a.0 (all_of p.typing) a.2 a.1 es };
   puts = λ k. looped v old new k e;

@@ -1,3 +1,5 @@
+//! Blocks, loops and ifs in flat form: entered, left, and put with the moves of their results.
+
 ghost use Rattle.std.specs.Prelude.{◌≡◌, ◌≤◌, ◌++◌, ◌∷◌, [], drop, false, length, reverse, take, IfOk, OnOk};
 ghost use Rattle.wa_types.specs.Syntax.{done};
 ghost use Rattle.wa_types.specs.View.{in_front};

@@ -65,13 +65,16 @@ module _ (n : Names) (c : Around) where
   calls_plain ls ops behind (br l) rest more e = calls_carry n (length ls - suc l) (slice_get ls l) ops (leaps l no_more)
   calls_plain ls ops behind (br_if l) rest more e = calls_carry n (length ls - suc l) (slice_get ls l) (drop 1 ops) (leaps_if (Local (top n ops)) l rest) ∙ e
   calls_plain ls ops behind (br_table ts l) rest more e =
-      calls_carries n ls (drop 1 ops) ts (carry n ls (drop 1 ops) l (leaps_by (Local (top n ops)) ts l no_more)) ∙ calls_carry n (length ls - suc l) (slice_get ls l) (drop 1 ops) (leaps_by (Local (top n ops)) ts l no_more)
+      calls_carries n ls (drop 1 ops) ts (carry n ls (drop 1 ops) l (leaps_by (Local (top n ops)) ts l no_more))
+      ∙ calls_carry n (length ls - suc l) (slice_get ls l) (drop 1 ops) (leaps_by (Local (top n ops)) ts l no_more)
   calls_plain ls ops behind return rest more e = calls_carry n (length ls - suc (length ls - 1)) (slice_get ls (length ls - 1)) ops (leaps (length ls - 1) no_more)
   calls_plain ls ops behind unreachable rest more e = refl
   calls_plain ls ops behind (call x) rest more e =
-      let t : FuncType = or_empty (slice_get c.funcs x) in calls_calls (call x) (reverse (slots n ops)) (length t.params) (top_of n (length t.results) behind) rest ∙ ap (callee_onto (callee (call x))) e
+      let t : FuncType = or_empty (slice_get c.funcs x) in calls_calls (call x) (reverse (slots n ops)) (length t.params) (top_of n (length t.results) behind) rest
+      ∙ ap (callee_onto (callee (call x))) e
   calls_plain ls ops behind (call_indirect t) rest more e =
-      let u : FuncType = or_empty (slice_get c.types t) in calls_calls (call_indirect t) (reverse (slots n ops)) (suc (length u.params)) (top_of n (length u.results) behind) rest ∙ ap (callee_onto (callee (call_indirect t))) e
+      let u : FuncType = or_empty (slice_get c.types t) in calls_calls (call_indirect t) (reverse (slots n ops)) (suc (length u.params)) (top_of n (length u.results) behind) rest
+      ∙ ap (callee_onto (callee (call_indirect t))) e
 
   pub calls_flat : (ls : List (Option ValType)) (code : Code) (ops : List ValType) → calls_of (code_of (flat n c ls code ops)) ≡ calls_of (pruned code)
   unfolding flat code_of calls_of pruned

@@ -48,7 +48,8 @@ places_rise : (n h k : ℕ) (t u : ValType) (ps : List Pair) → Rise n ps → h
 places_rise n h k t u [] r lt a b = absurd (omega arith)
 places_rise n h k t u (p ∷ ps) r lt a b = by (λ i j. places_rise p.number h k t u ps r.1 lt i j) (same_pair h t p) (same_pair k u p) refl refl a b
   where
-    by : (place h t ps < length ps → place k u ps < length ps → place h t ps < place k u ps) → (x y : Bool) → same_pair h t p ≡ x → same_pair k u p ≡ y → past x (place h t ps) < suc (length ps) → past y (place k u ps) < suc (length ps) → past x (place h t ps) < past y (place k u ps)
+    by : (place h t ps < length ps → place k u ps < length ps → place h t ps < place k u ps) → (x y : Bool) → same_pair h t p ≡ x → same_pair k u p ≡ y
+        → past x (place h t ps) < suc (length ps) → past y (place k u ps) < suc (length ps) → past x (place h t ps) < past y (place k u ps)
     by ih true true ex ey a b = let i = number_is h t p ex in let j = number_is k u p ey in absurd (omega arith)
     by ih true false ex ey a b = omega arith
     by ih false true ex ey a b = let j = number_is k u p ey in let i = at_least p.number h t ps r.1 (omega arith) in absurd (omega arith)

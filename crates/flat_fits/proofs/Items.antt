@@ -121,7 +121,8 @@ module _ (most : ℕ) where
   unfolding code_of followed_by
   lists_computes i xs to rest p h = lists_all xs (plain i (set_to to (code_of rest))) (p, lists_set to (code_of rest) h)
 
-  lists_plain : (n : Names) (c : Around) (ls : List (Option ValType)) (ops behind : List ValType) (i : Plain) (rest : Stmts) → plain_lists most i → L (code_of rest) → L (code_of (flat_plain n c ls ops behind i rest))
+  lists_plain : (n : Names) (c : Around) (ls : List (Option ValType)) (ops behind : List ValType) (i : Plain) (rest : Stmts) → plain_lists most i → L (code_of rest)
+      → L (code_of (flat_plain n c ls ops behind i rest))
   unfolding code_of
   lists_plain n c ls ops behind (basic b) rest p h = lists_computes (basic b) (map Local (reverse (take (takes b) (slots n ops)))) (top_of n (gives b) behind) rest tt h
   lists_plain n c ls ops behind (local_get x) rest p h = (tt, (tt, h))
@@ -130,11 +131,14 @@ module _ (most : ℕ) where
   lists_plain n c ls ops behind (br l) rest p h = lists_carry n (length ls - suc l) (slice_get ls l) ops (leaps l no_more) (tt, tt)
   lists_plain n c ls ops behind (br_if l) rest p h = lists_carry n (length ls - suc l) (slice_get ls l) (drop 1 ops) (leaps_if (Local (top n ops)) l rest) (tt, (tt, h))
   lists_plain n c ls ops behind (br_table ts l) rest p h =
-      lists_carries n ls (drop 1 ops) ts (carry n ls (drop 1 ops) l (leaps_by (Local (top n ops)) ts l no_more)) (lists_carry n (length ls - suc l) (slice_get ls l) (drop 1 ops) (leaps_by (Local (top n ops)) ts l no_more) (tt, (p, tt)))
+      lists_carries n ls (drop 1 ops) ts (carry n ls (drop 1 ops) l (leaps_by (Local (top n ops)) ts l no_more))
+      (lists_carry n (length ls - suc l) (slice_get ls l) (drop 1 ops) (leaps_by (Local (top n ops)) ts l no_more) (tt, (p, tt)))
   lists_plain n c ls ops behind return rest p h = lists_carry n (length ls - suc (length ls - 1)) (slice_get ls (length ls - 1)) ops (leaps (length ls - 1) no_more) (tt, tt)
   lists_plain n c ls ops behind unreachable rest p h = (tt, tt)
-  lists_plain n c ls ops behind (call x) rest p h = let t : FuncType = or_empty (slice_get c.funcs x) in lists_calls (call x) (reverse (slots n ops)) (length t.params) (top_of n (length t.results) behind) rest tt h
-  lists_plain n c ls ops behind (call_indirect t) rest p h = let u : FuncType = or_empty (slice_get c.types t) in lists_calls (call_indirect t) (reverse (slots n ops)) (suc (length u.params)) (top_of n (length u.results) behind) rest tt h
+  lists_plain n c ls ops behind (call x) rest p h = let t : FuncType = or_empty (slice_get c.funcs x)
+      in lists_calls (call x) (reverse (slots n ops)) (length t.params) (top_of n (length t.results) behind) rest tt h
+  lists_plain n c ls ops behind (call_indirect t) rest p h = let u : FuncType = or_empty (slice_get c.types t)
+      in lists_calls (call_indirect t) (reverse (slots n ops)) (suc (length u.params)) (top_of n (length u.results) behind) rest tt h
 
   pub lists_flat : (n : Names) (c : Around) (ls : List (Option ValType)) (code : Code) (ops : List ValType) → L code → L (code_of (flat n c ls code ops))
   unfolding flat code_of
@@ -142,8 +146,14 @@ module _ (most : ℕ) where
   lists_flat n c ls (plain i rest) ops h = lists_plain n c ls ops (after (sig c ls i) ops) i (flat n c ls rest (after (sig c ls i) ops)) h.0 (lists_flat n c ls rest (after (sig c ls i) ops) h.1)
   lists_flat n c ls (nest s r body rest) ops h =
       (lists_flat n c (label s r ∷ ls) body ops h.0, lists_arrive n (length ls) (label s r) ops (flat n c ls rest (listed r ++ ops)) (lists_flat n c ls rest (listed r ++ ops) h.1))
-  lists_flat n c ls (branch r a b rest) ops h =
-      (tt, (lists_flat n c (r ∷ ls) a (drop 1 ops) h.0, lists_flat n c (r ∷ ls) b (drop 1 ops) h.1, lists_arrive n (length ls) r (drop 1 ops) (flat n c ls rest (listed r ++ drop 1 ops)) (lists_flat n c ls rest (listed r ++ drop 1 ops) h.2)))
+  lists_flat n c ls (branch r a b rest) ops h = (
+    tt,
+    (
+      lists_flat n c (r ∷ ls) a (drop 1 ops) h.0,
+      lists_flat n c (r ∷ ls) b (drop 1 ops) h.1,
+      lists_arrive n (length ls) r (drop 1 ops) (flat n c ls rest (listed r ++ drop 1 ops)) (lists_flat n c ls rest (listed r ++ drop 1 ops) h.2),
+    ),
+  )
 
   result_lists : (to : Option ℕ) → L (result_got to)
   result_lists None = tt

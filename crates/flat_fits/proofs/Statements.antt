@@ -1,5 +1,6 @@
 -- The statements of good code are in range.
-use Rattle.std.proofs.Common.{◌≡◌, ◌∙◌, ℕ, zero, suc, ◌+◌, ◌-◌, ◌≤◌, ◌<◌, List, [], ◌∷◌, ◌++◌, length, map, take, drop, reverse, Option, Some, None, Bool, true, false, refl, sym, ap, subst, arith, length-append}
+use Rattle.std.proofs.Common.{◌≡◌, ◌∙◌, ℕ, zero, suc, ◌+◌, ◌-◌, ◌≤◌, ◌<◌, List, [], ◌∷◌, ◌++◌, length, map, take, drop, reverse, Option, Some, None, Bool, true, false, refl, sym, ap, subst}
+use Rattle.std.proofs.Common.{arith, length-append}
 use Rattle.std.specs.Prelude.{slice_get, All}
 use Rattle.std.proofs.lemmas.List.{length-reverse, length-map, append_assoc}
 use Rattle.std.proofs.lemmas.Option.{slice_get_within}
@@ -7,7 +8,8 @@ use Rattle.std.proofs.lemmas.List.Elements.{All-append, All-take, All-nil, All-c
 use Rattle.std.proofs.lemmas.List.{reverse-append}
 use Rattle.wa_types.specs.declared.values.ValType.{ValType}
 use Rattle.wa_types.specs.declared.values.ValType.TheVariants.{I32}
-use Rattle.wa_types.specs.Syntax.{Basic, Plain, basic, local_get, local_set, local_tee, br, br_if, br_table, return, unreachable, call, call_indirect, Shape, a_block, a_loop, Code, done, plain, nest, branch, FuncType, Func, Module}
+use Rattle.wa_types.specs.Syntax.{Basic, Plain, basic, local_get, local_set, local_tee, br, br_if, br_table, return, unreachable, call, call_indirect, Shape, a_block, a_loop, Code, done}
+use Rattle.wa_types.specs.Syntax.{plain, nest, branch, FuncType, Func, Module}
 use Rattle.wa_types.specs.Pruned.{is_last}
 use Rattle.wa_types.specs.Typing.{Around, listed, sig, basic_sig, label, jump as jump_sig, may_jump, jumps as jumps_sig, calls as calls_sig, calls_at, gets, sets, tees, Takes}
 use Rattle.wa_types.specs.Points.{after}
@@ -93,7 +95,8 @@ module _ (m : Module) (f : Func) (few : length (locals_of m f) + (length (SlotPa
 
   -- ---- what is added
 
-  carry_fits : (k d : ℕ) (o : Option (Option ValType)) (ops : List ValType) (rest : Stmts) → ((r : Option ValType) → o ≡ Some r → HasResult n d r) → AllIn n ops → F k rest → F k (carry_to n d o ops rest)
+  carry_fits : (k d : ℕ) (o : Option (Option ValType)) (ops : List ValType) (rest : Stmts) → ((r : Option ValType) → o ≡ Some r → HasResult n d r) → AllIn n ops → F k rest
+      → F k (carry_to n d o ops rest)
   carry_fits k d None ops rest has a h = h
   carry_fits k d (Some None) ops rest has a h = h
   carry_fits k d (Some (Some t)) ops rest has a h = let r = result_in d t (has (Some t) refl) in ((r, top_in ops a (omega arith), h.0), h.1, h.2)
@@ -118,14 +121,16 @@ module _ (m : Module) (f : Func) (few : length (locals_of m f) + (length (SlotPa
     basic_fits : (b : Basic) (rest : Stmts) → Takes (basic_sig c b) own mids → AllIn n (mids ++ low) → F (length ls) rest → F (length ls) (flat_plain n c ls (own ++ low) (mids ++ low) (basic b) rest)
     basic_fits b rest t ab h =
         let xs : List ℕ = reverse (take (takes b) (slots n (own ++ low))) in
-        let all : All (OperandFits most) (map Local xs) = all_operands xs (all_reversed (λ x. x < most) (take (takes b) (slots n (own ++ low))) (All-take (λ x. x < most) (takes b) (slots n (own ++ low)) (all_slots (own ++ low) a))) in
+        let all : All (OperandFits most) (map Local xs) = all_operands xs (all_reversed (λ x. x < most) (take (takes b) (slots n (own ++ low)))
+        (All-take (λ x. x < most) (takes b) (slots n (own ++ low)) (all_slots (own ++ low) a))) in
         let l : length (map Local xs) ≡ length (take (takes b) (slots n (own ++ low))) = length-map xs Local ∙ length-reverse (take (takes b) (slots n (own ++ low))) in
         let k = take_few (takes b) (slots n (own ++ low)) in
         let three = takes_few b in
         let hb = basic_height c b own mids low t in
         ((tells_top n (gives b) (mids ++ low), all, omega arith, top_of_in (gives b) (mids ++ low) ab (omega arith), h.0), h.1, h.2)
 
-    get_fits : (y : ℕ) (rest : Stmts) → Takes (gets (slice_get c.locals y)) own mids → AllIn n (mids ++ low) → F (length ls) rest → F (length ls) (flat_plain n c ls (own ++ low) (mids ++ low) (local_get y) rest)
+    get_fits : (y : ℕ) (rest : Stmts) → Takes (gets (slice_get c.locals y)) own mids → AllIn n (mids ++ low) → F (length ls) rest
+        → F (length ls) (flat_plain n c ls (own ++ low) (mids ++ low) (local_get y) rest)
     get_fits y rest t ab h = by (slice_get (locals_of m f) y) refl t
       where
         by : (o : Option ValType) → slice_get (locals_of m f) y ≡ o → Takes (gets o) own mids → F (length ls) (flat_plain n c ls (own ++ low) (mids ++ low) (local_get y) rest)
@@ -164,7 +169,8 @@ module _ (m : Module) (f : Func) (few : length (locals_of m f) + (length (SlotPa
         by None e t = absurd t
         by (Some r) e t = leap_fits j (slice_get_within ls j r e)
 
-    if_fits : (j : ℕ) (rest : Stmts) → Takes (may_jump (slice_get ls j)) own mids → F (length ls) rest → F (length ls) (carry n ls (drop 1 (own ++ low)) j (leaps_if (Local (top n (own ++ low))) j rest))
+    if_fits : (j : ℕ) (rest : Stmts) → Takes (may_jump (slice_get ls j)) own mids → F (length ls) rest
+        → F (length ls) (carry n ls (drop 1 (own ++ low)) j (leaps_if (Local (top n (own ++ low))) j rest))
     if_fits j rest t h = by (slice_get ls j) refl t
       where
         by : (o : Option (Option ValType)) → slice_get ls j ≡ o → Takes (may_jump o) own mids → F (length ls) (carry n ls (drop 1 (own ++ low)) j (leaps_if (Local (top n (own ++ low))) j rest))
@@ -173,10 +179,12 @@ module _ (m : Module) (f : Func) (few : length (locals_of m f) + (length (SlotPa
             carry_at ls j (drop 1 (own ++ low)) (leaps_if (Local (top n (own ++ low))) j rest) ha (drop_one (own ++ low) a)
             ((top_there I32 (listed r ++ t.0) t.1, slice_get_within ls j r e, h.0), h.1, h.2)
 
-    table_fits : (ts : List ℕ) (j : ℕ) → Takes (jumps_sig ls ts (slice_get ls j)) own mids → F (length ls) (carry_all n ls (drop 1 (own ++ low)) ts (carry n ls (drop 1 (own ++ low)) j (leaps_by (Local (top n (own ++ low))) ts j no_more)))
+    table_fits : (ts : List ℕ) (j : ℕ) → Takes (jumps_sig ls ts (slice_get ls j)) own mids
+        → F (length ls) (carry_all n ls (drop 1 (own ++ low)) ts (carry n ls (drop 1 (own ++ low)) j (leaps_by (Local (top n (own ++ low))) ts j no_more)))
     table_fits ts j t = by (slice_get ls j) refl t
       where
-        by : (o : Option (Option ValType)) → slice_get ls j ≡ o → Takes (jumps_sig ls ts o) own mids → F (length ls) (carry_all n ls (drop 1 (own ++ low)) ts (carry n ls (drop 1 (own ++ low)) j (leaps_by (Local (top n (own ++ low))) ts j no_more)))
+        by : (o : Option (Option ValType)) → slice_get ls j ≡ o → Takes (jumps_sig ls ts o) own mids
+            → F (length ls) (carry_all n ls (drop 1 (own ++ low)) ts (carry n ls (drop 1 (own ++ low)) j (leaps_by (Local (top n (own ++ low))) ts j no_more)))
         by None e t = absurd t
         by (Some r) e t =
             let q = table_typed ls ts r own mids t in
@@ -191,7 +199,8 @@ module _ (m : Module) (f : Func) (few : length (locals_of m f) + (length (SlotPa
     stack_long : length (reverse (slots n (own ++ low))) ≡ length (own ++ low)
     stack_long = length-reverse (slots n (own ++ low)) ∙ slots_long n (own ++ low)
 
-    call_fits : (y : ℕ) (rest : Stmts) → Takes (calls_sig (slice_get c.funcs y)) own mids → AllIn n (mids ++ low) → F (length ls) rest → F (length ls) (flat_plain n c ls (own ++ low) (mids ++ low) (call y) rest)
+    call_fits : (y : ℕ) (rest : Stmts) → Takes (calls_sig (slice_get c.funcs y)) own mids → AllIn n (mids ++ low) → F (length ls) rest
+        → F (length ls) (flat_plain n c ls (own ++ low) (mids ++ low) (call y) rest)
     call_fits y rest t ab h = by (slice_get (func_types m) y) refl t
       where
         by : (o : Option FuncType) → slice_get (func_types m) y ≡ o → Takes (calls_sig o) own mids → F (length ls) (flat_plain n c ls (own ++ low) (mids ++ low) (call y) rest)
@@ -205,10 +214,14 @@ module _ (m : Module) (f : Func) (few : length (locals_of m f) + (length (SlotPa
             let rp : length (reverse u.params) ≡ length (func_type_at m y).params = length-reverse u.params ∙ ap (λ (q : FuncType). length q.params) eu in
             let rr : length (reverse u.results) ≡ length (func_type_at m y).results = length-reverse u.results ∙ ap (λ (q : FuncType). length q.results) eu in
             let few_ops = operands_few m f (own ++ low) a in
-            let sl = stack_long in
-            ((tt, stack_in, omega arith, omega arith, top_of_in (length (func_type_at m y).results) (mids ++ low) ab (omega arith), h.0), ((func_found m y u e).0, h.1), (tells_top n (length (func_type_at m y).results) (mids ++ low), h.2))
+            let sl = stack_long in (
+              (tt, stack_in, omega arith, omega arith, top_of_in (length (func_type_at m y).results) (mids ++ low) ab (omega arith), h.0),
+              ((func_found m y u e).0, h.1),
+              (tells_top n (length (func_type_at m y).results) (mids ++ low), h.2),
+            )
 
-    indirect_fits : (sort : ℕ) (rest : Stmts) → Takes (calls_at c.table (slice_get m.types sort)) own mids → AllIn n (mids ++ low) → F (length ls) rest → F (length ls) (flat_plain n c ls (own ++ low) (mids ++ low) (call_indirect sort) rest)
+    indirect_fits : (sort : ℕ) (rest : Stmts) → Takes (calls_at c.table (slice_get m.types sort)) own mids → AllIn n (mids ++ low) → F (length ls) rest
+        → F (length ls) (flat_plain n c ls (own ++ low) (mids ++ low) (call_indirect sort) rest)
     indirect_fits sort rest t ab h = by c.table (slice_get m.types sort) refl t
       where
         by : (b : Bool) (o : Option FuncType) → slice_get m.types sort ≡ o → Takes (calls_at b o) own mids → F (length ls) (flat_plain n c ls (own ++ low) (mids ++ low) (call_indirect sort) rest)
@@ -223,10 +236,14 @@ module _ (m : Module) (f : Func) (few : length (locals_of m f) + (length (SlotPa
             let rp : length (reverse u.params) ≡ length (type_at m sort).params = length-reverse u.params ∙ ap (λ (q : FuncType). length q.params) eu in
             let rr : length (reverse u.results) ≡ length (type_at m sort).results = length-reverse u.results ∙ ap (λ (q : FuncType). length q.results) eu in
             let few_ops = operands_few m f (own ++ low) a in
-            let sl = stack_long in
-            ((tt, stack_in, omega arith, omega arith, top_of_in (length (type_at m sort).results) (mids ++ low) ab (omega arith), h.0), (tt, h.1), (tells_top n (length (type_at m sort).results) (mids ++ low), h.2))
+            let sl = stack_long in (
+              (tt, stack_in, omega arith, omega arith, top_of_in (length (type_at m sort).results) (mids ++ low) ab (omega arith), h.0),
+              (tt, h.1),
+              (tells_top n (length (type_at m sort).results) (mids ++ low), h.2),
+            )
 
-    on_fits : (i : Plain) (rest : Stmts) → is_last i ≡ false → Takes (sig c ls i) own mids → AllIn n (mids ++ low) → F (length ls) rest → F (length ls) (flat_plain n c ls (own ++ low) (mids ++ low) i rest)
+    on_fits : (i : Plain) (rest : Stmts) → is_last i ≡ false → Takes (sig c ls i) own mids → AllIn n (mids ++ low) → F (length ls) rest
+        → F (length ls) (flat_plain n c ls (own ++ low) (mids ++ low) i rest)
     on_fits (basic b) rest z t ab h = basic_fits b rest t ab h
     on_fits (local_get y) rest z t ab h = get_fits y rest t ab h
     on_fits (local_set y) rest z t ab h = set_fits y rest t h
@@ -275,7 +292,8 @@ module _ (m : Module) (f : Func) (few : length (locals_of m f) + (length (SlotPa
       let assoc : (listed r ++ own) ++ low ≡ listed r ++ (own ++ low) = append_assoc (listed r) own low in
       let inner = code_fits (label s r ∷ ls) body (listed r) [] (own ++ low) (omega arith) (g.1, ha) g.2 in
       let rest_it = subst (λ ts. F (length ls) (flat n c ls rest ts)) assoc (code_fits ls rest outs (listed r ++ own) low one ha g.3) in
-      let behind_it = arrive_fits (length ls) (length ls) (label s r) (own ++ low) (flat n c ls rest (listed r ++ (own ++ low))) g.1 (shape_in s r (own ++ low) (subst (AllIn n) assoc (good_in n c ls rest outs (listed r ++ own) low g.3))) rest_it in
+      let behind_it = arrive_fits (length ls) (length ls) (label s r) (own ++ low) (flat n c ls rest (listed r ++ (own ++ low))) g.1
+      (shape_in s r (own ++ low) (subst (AllIn n) assoc (good_in n c ls rest outs (listed r ++ own) low g.3))) rest_it in
       ((inner.0, behind_it.0), (inner.1, behind_it.1), (inner.2, behind_it.2))
   code_fits ls (branch r x y rest) outs own low one ha g =
       let below : List ValType = g.2 in
@@ -284,7 +302,8 @@ module _ (m : Module) (f : Func) (few : length (locals_of m f) + (length (SlotPa
       let fa = code_fits (r ∷ ls) x (listed r) [] (below ++ low) (omega arith) (g.1, ha) g.4 in
       let fb = code_fits (r ∷ ls) y (listed r) [] (below ++ low) (omega arith) (g.1, ha) g.5 in
       let rest_it = subst (λ ts. F (length ls) (flat n c ls rest ts)) assoc (code_fits ls rest outs (listed r ++ below) low one ha g.6) in
-      let behind_it = arrive_fits (length ls) (length ls) r (below ++ low) (flat n c ls rest (listed r ++ (below ++ low))) g.1 (subst (AllIn n) assoc (good_in n c ls rest outs (listed r ++ below) low g.6)) rest_it in
+      let behind_it = arrive_fits (length ls) (length ls) r (below ++ low) (flat n c ls rest (listed r ++ (below ++ low))) g.1
+      (subst (AllIn n) assoc (good_in n c ls rest outs (listed r ++ below) low g.6)) rest_it in
       let cond = top_there ls own own low ha g.0 I32 below g.3 in
       subst (λ ds. F (length ls) (decides (Local (top n (own ++ low))) (flat n c (r ∷ ls) x ds) (flat n c (r ∷ ls) y ds) (arrive n (length ls) r ds (flat n c ls rest (listed r ++ ds))))) (sym eo)
       ((cond, fa.0, fb.0, behind_it.0), (fa.1, fb.1, behind_it.1), (fa.2, fb.2, behind_it.2))

@@ -1,3 +1,5 @@
+//! The law of flat functions. It is the contract of a function that does nothing.
+
 ghost use Rattle.flat_fits.specs.FlatMeets.{CallsStay, FlatMeets, LocalsCounted};
 
 /// A flat function of a valid module can be rewritten, and its calls are those of its pruned body.

@@ -130,7 +130,15 @@ module _ (m : Module) (s : Settings) (which : List Bool) (frames : (index : ℕ)
       funcs = space_is m;
       least = (plan_fits.area).least;
     };
-    instance = record { imports = em.imports ∙ sym (same_imports m); tables = em.tables ∙ sym (same_tables m); memories = em.memories; globals = em.globals; elems = em.elems ∙ sym (same_elems m); segments = em.segments ∙ sym (same_segments m) };
+    instance = record {
+      imports = em.imports ∙ sym (same_imports m);
+      tables = em.tables ∙ sym (same_tables m);
+      memories = em.memories;
+      globals = em.globals;
+      elems = em.elems
+          ∙ sym (same_elems m);
+      segments = em.segments ∙ sym (same_segments m);
+    };
     start = em.start;
     lawful = lawful;
   }
@@ -168,10 +176,12 @@ module _ (m : Module) (s : Settings) (which : List Bool) (frames : (index : ℕ)
       → PausesNumbered m s which (Blocking m plan os n).events → BehavesOn m s p plan os n which (expected_notes m s plan os n)
   says_with Live lives stands os n cmp pauses =
       headline (world_of k) whole (Known p written_valid plan written_fits area typed written_codes) (written_law (world_of k) written_valid written_fits area typed written_codes) (GoodStore k) first
-      (Links k B A) (WaitLinks k B A) Live lives (flat_law k fit Live B A (law (flat_core m s which frames plan p) (flat_fits m s which frames plan p valid tells em plan_fits base_in) (slim_of m s which frames) (terms_of m s which frames)
+      (Links k B A) (WaitLinks k B A) Live lives (flat_law k fit Live B A (law (flat_core m s which frames plan p) (flat_fits m s which frames plan p valid tells em plan_fits base_in)
+      (slim_of m s which frames) (terms_of m s which frames)
       (slim_beside m s which frames plan p valid tells em plan_fits base_in))
       (paired m s which frames plan p valid tells em plan_fits base_in) stands) os n cmp pauses
 
   -- with nothing in between
-  pub says : StandsLaw k B A (λ c d. c ≡ d) → (os : List Outcome) (n : ℕ) → Compared m s plan os n → PausesNumbered m s which (Blocking m plan os n).events → BehavesOn m s p plan os n which (expected_notes m s plan os n)
+  pub says : StandsLaw k B A (λ c d. c ≡ d) → (os : List Outcome) (n : ℕ) → Compared m s plan os n → PausesNumbered m s which (Blocking m plan os n).events
+      → BehavesOn m s p plan os n which (expected_notes m s plan os n)
   says stands os n cmp pauses = says_with (λ c d. c ≡ d) (equal_lives (world_of k) (WaitLinks k B A)) stands os n cmp pauses

@@ -35,23 +35,34 @@ at_place Q st f _ _ _ h (in_then {k = k} {c = c} {fa = fa} {a = a} {fb = fb} {b 
 at_place Q st f _ _ _ h (in_else {k = k} {c = c} {fa = fa} {a = a} {fb = fb} {b = b} {behind = behind} {rest = rest} {xs = xs} hh pl) = (at_place Q st f k (if_unit c fa a fb b behind rest) xs h pl).1
 
 -- and of slim units
-pub each_slim : (Q : ℕ → List ℕ → Type 0) (t : Terms) (n : ℕ) (ts : List Free) (out f : Free) (sh : Shape) (first first' : Code) (us us' : Units) (k : ℕ) → SlimUnits t n ts out f sh first us first' us' → EachUnit Q k us → EachUnit Q k us'
+pub each_slim : (Q : ℕ → List ℕ → Type 0) (t : Terms) (n : ℕ) (ts : List Free) (out f : Free) (sh : Shape) (first first' : Code) (us us' : Units) (k : ℕ)
+    → SlimUnits t n ts out f sh first us first' us' → EachUnit Q k us → EachUnit Q k us'
 each_slim Q t n ts out _ _ first _ us _ k untouched h = h
 each_slim Q t n ts out f sh first first' _ _ k (alone sl) h = h
 each_slim Q t n ts out f sh first first' _ _ k (before_call {sh2 = sh2} {behind = behind} {behind' = behind'} {rest = rest} {rest' = rest'} slots x g h2 go sl hs hf re sg on) h =
     (h.0, each_slim Q t n ts out h2 sh2 behind behind' rest rest' (suc k) on h.1)
-each_slim Q t n ts out f sh first first' _ _ k (before_block {inner = inner} {inner' = inner'} {behind = behind} {behind' = behind'} {body = body} {body' = body'} {rest = rest} {rest' = rest'} g h2 go sl ib on) h =
-    let e = (units_alike t _ (h2 ∷ ts) h2 g [] inner inner' body body' ib).numbers in
-    (each_slim Q t _ (h2 ∷ ts) h2 g [] inner inner' body body' k ib h.0, subst (λ i. EachUnit Q (k + i) rest') (sym e) (each_slim Q t n ts out h2 [] behind behind' rest rest' (k + numbers_in body) on h.1))
-each_slim Q t n ts out f sh first first' _ _ k (before_loop {inner = inner} {inner' = inner'} {behind = behind} {behind' = behind'} {body = body} {body' = body'} {rest = rest} {rest' = rest'} g head h2 go sl co ib on) h =
-    let e = (units_alike t _ (head ∷ ts) h2 head [] inner inner' body body' ib).numbers in
-    (each_slim Q t _ (head ∷ ts) h2 head [] inner inner' body body' k ib h.0, subst (λ i. EachUnit Q (k + i) rest') (sym e) (each_slim Q t n ts out h2 [] behind behind' rest rest' (k + numbers_in body) on h.1))
-each_slim Q t n ts out f sh first first' _ _ k (before_if {fa = fa} {fa' = fa'} {fb = fb} {fb' = fb'} {behind = behind} {behind' = behind'} {a = a} {a' = a'} {b = b} {b' = b'} {rest = rest} {rest' = rest'} o g l h2 go sl hc co ia ib on) h =
+each_slim Q t n ts out f sh first first' _ _ k (before_block {inner = inner} {inner' = inner'} {behind = behind} {behind' = behind'} {body = body} {body' = body'} {rest = rest} {rest' =
+    rest'} g h2 go sl ib on) h =
+    let e = (units_alike t _ (h2 ∷ ts) h2 g [] inner inner' body body' ib).numbers in (
+      each_slim Q t _ (h2 ∷ ts) h2 g [] inner inner' body body' k ib h.0,
+      subst (λ i. EachUnit Q (k + i) rest') (sym e)
+          (each_slim Q t n ts out h2 [] behind behind' rest rest' (k + numbers_in body) on h.1),
+    )
+each_slim Q t n ts out f sh first first' _ _ k (before_loop {inner = inner} {inner' = inner'} {behind = behind} {behind' = behind'} {body = body} {body' = body'} {rest = rest} {rest' =
+    rest'} g head h2 go sl co ib on) h =
+    let e = (units_alike t _ (head ∷ ts) h2 head [] inner inner' body body' ib).numbers in (
+      each_slim Q t _ (head ∷ ts) h2 head [] inner inner' body body' k ib h.0,
+      subst (λ i. EachUnit Q (k + i) rest') (sym e)
+          (each_slim Q t n ts out h2 [] behind behind' rest rest' (k + numbers_in body) on h.1),
+    )
+each_slim Q t n ts out f sh first first' _ _ k (before_if {fa = fa} {fa' = fa'} {fb = fb} {fb' = fb'} {behind = behind} {behind' = behind'} {a = a} {a' = a'} {b = b} {b' = b'} {rest =
+    rest} {rest' = rest'} o g l h2 go sl hc co ia ib on) h =
     let e = (units_alike t _ (h2 ∷ ts) h2 l [] fa fa' a a' ia).numbers in
     let e2 = (units_alike t _ (h2 ∷ ts) h2 l [] fb fb' b b' ib).numbers in (
       each_slim Q t _ (h2 ∷ ts) h2 l [] fa fa' a a' k ia h.0,
       subst (λ i. EachUnit Q (k + i) b') (sym e) (each_slim Q t _ (h2 ∷ ts) h2 l [] fb fb' b b' (k + numbers_in a) ib h.1),
-      subst (λ i. EachUnit Q (k + numbers_in a' + i) rest') (sym e2) (subst (λ i. EachUnit Q (k + i + numbers_in b) rest') (sym e) (each_slim Q t n ts out h2 [] behind behind' rest rest' (k + numbers_in a + numbers_in b) on h.2)),
+      subst (λ i. EachUnit Q (k + numbers_in a' + i) rest') (sym e2) (subst (λ i. EachUnit Q (k + i + numbers_in b) rest') (sym e)
+          (each_slim Q t n ts out h2 [] behind behind' rest rest' (k + numbers_in a + numbers_in b) on h.2)),
     )
 each_slim Q t n ts out f sh first first' _ _ k (before_kept_if {fa = fa} {fa' = fa'} {fb = fb} {fb' = fb'} {behind = behind} {behind' = behind'} {a = a} {a' = a'} {b = b} {b' = b'}
     {rest = rest} {rest' = rest'} o g h2 go sl ia ib on) h =
@@ -94,13 +105,16 @@ no_numbers ps n (leaps_by index labels last rest) h = no_numbers ps n rest h
 no_numbers ps n (nests s body rest) h = by (holds_call ps n body) h (λ g. no_numbers ps (n + call_total body) rest g)
   where
     by : (b : Bool) → (b || holds_call ps (n + call_total body) rest) ≡ false → (holds_call ps (n + call_total body) rest ≡ false → numbers_in (units ps (n + call_total body) rest) ≡ 0)
-        → numbers_in (if b then nest_unit s (first_piece ps n body) (units ps n body) (first_piece ps (n + call_total body) rest) (units ps (n + call_total body) rest) else units ps (n + call_total body) rest) ≡ 0
+        → numbers_in (if b then nest_unit s (first_piece ps n body) (units ps n body) (first_piece ps (n + call_total body) rest) (units ps (n + call_total body) rest)
+        else units ps (n + call_total body) rest) ≡ 0
     by true h on = cc
     by false h on = on h
 no_numbers ps n (decides c a b rest) h = by (holds_call ps n a || holds_call ps (n + call_total a) b) h (λ g. no_numbers ps (n + call_total a + call_total b) rest g)
   where
-    by : (z : Bool) → (z || holds_call ps (n + call_total a + call_total b) rest) ≡ false → (holds_call ps (n + call_total a + call_total b) rest ≡ false → numbers_in (units ps (n + call_total a + call_total b) rest) ≡ 0)
-        → numbers_in (if z then if_unit (Some c) (first_piece ps n a) (units ps n a) (first_piece ps (n + call_total a) b) (units ps (n + call_total a) b) (first_piece ps (n + call_total a + call_total b) rest) (units ps (n + call_total a + call_total b) rest) else units ps (n + call_total a + call_total b) rest) ≡ 0
+    by : (z : Bool) → (z || holds_call ps (n + call_total a + call_total b) rest) ≡ false
+        → (holds_call ps (n + call_total a + call_total b) rest ≡ false → numbers_in (units ps (n + call_total a + call_total b) rest) ≡ 0)
+        → numbers_in (if z then if_unit (Some c) (first_piece ps n a) (units ps n a) (first_piece ps (n + call_total a) b) (units ps (n + call_total a) b)
+        (first_piece ps (n + call_total a + call_total b) rest) (units ps (n + call_total a + call_total b) rest) else units ps (n + call_total a + call_total b) rest) ≡ 0
     by true h on = cc
     by false h on = on h
 no_numbers ps n (halts rest) h = no_numbers ps n rest h
@@ -180,22 +194,28 @@ module _ (ps : List ℕ) (rank : ℕ → ℕ) (next : (n : ℕ) → rank (suc n)
   ranks n (leaps_by index labels last rest) k = ranks n rest k
   ranks n (nests s body rest) k = by (holds_call ps n body) refl (ranks n body k.0) (ranks (n + call_total body) rest k.1)
     where
-      by : (b : Bool) → holds_call ps n body ≡ b → rank n + numbers_in (units ps n body) ≡ rank (n + call_total body) → rank (n + call_total body) + numbers_in (units ps (n + call_total body) rest) ≡ rank (n + call_total body + call_total rest)
-          → rank n + numbers_in (if b then nest_unit s (first_piece ps n body) (units ps n body) (first_piece ps (n + call_total body) rest) (units ps (n + call_total body) rest) else units ps (n + call_total body) rest) ≡ rank (n + (call_total body + call_total rest))
+      by : (b : Bool) → holds_call ps n body ≡ b → rank n + numbers_in (units ps n body) ≡ rank (n + call_total body)
+          → rank (n + call_total body) + numbers_in (units ps (n + call_total body) rest) ≡ rank (n + call_total body + call_total rest)
+          → rank n + numbers_in (if b then nest_unit s (first_piece ps n body) (units ps n body) (first_piece ps (n + call_total body) rest) (units ps (n + call_total body) rest)
+          else units ps (n + call_total body) rest) ≡ rank (n + (call_total body + call_total rest))
       by true e ib ih = let z = ap rank (three n (call_total body) (call_total rest)) in omega arith
       by false e ib ih = let z = ap rank (three n (call_total body) (call_total rest)) in let y = no_numbers ps n body e in omega arith
-  ranks n (decides c a b rest) k = by (holds_call ps n a) refl (holds_call ps (n + call_total a) b) refl (ranks n a k.0) (ranks (n + call_total a) b k.1) (ranks (n + call_total a + call_total b) rest k.2)
+  ranks n (decides c a b rest) k = by (holds_call ps n a) refl (holds_call ps (n + call_total a) b) refl (ranks n a k.0) (ranks (n + call_total a) b k.1)
+      (ranks (n + call_total a + call_total b) rest k.2)
     where
       four : (n a b c : ℕ) → n + (a + b + c) ≡ n + a + b + c
       four n a b c = omega arith
 
-      by : (x : Bool) → holds_call ps n a ≡ x → (y : Bool) → holds_call ps (n + call_total a) b ≡ y → rank n + numbers_in (units ps n a) ≡ rank (n + call_total a) → rank (n + call_total a) + numbers_in (units ps (n + call_total a) b) ≡ rank (n + call_total a + call_total b)
+      by : (x : Bool) → holds_call ps n a ≡ x → (y : Bool) → holds_call ps (n + call_total a) b ≡ y → rank n + numbers_in (units ps n a) ≡ rank (n + call_total a)
+          → rank (n + call_total a) + numbers_in (units ps (n + call_total a) b) ≡ rank (n + call_total a + call_total b)
           → rank (n + call_total a + call_total b) + numbers_in (units ps (n + call_total a + call_total b) rest) ≡ rank (n + call_total a + call_total b + call_total rest)
-          → rank n + numbers_in (if x || y then if_unit (Some c) (first_piece ps n a) (units ps n a) (first_piece ps (n + call_total a) b) (units ps (n + call_total a) b) (first_piece ps (n + call_total a + call_total b) rest) (units ps (n + call_total a + call_total b) rest) else units ps (n + call_total a + call_total b) rest)
+          → rank n + numbers_in (if x || y then if_unit (Some c) (first_piece ps n a) (units ps n a) (first_piece ps (n + call_total a) b) (units ps (n + call_total a) b)
+          (first_piece ps (n + call_total a + call_total b) rest) (units ps (n + call_total a + call_total b) rest) else units ps (n + call_total a + call_total b) rest)
           ≡ rank (n + (call_total a + call_total b + call_total rest))
       by true e y f ia ib ih = let z = ap rank (four n (call_total a) (call_total b) (call_total rest)) in omega arith
       by false e true f ia ib ih = let z = ap rank (four n (call_total a) (call_total b) (call_total rest)) in omega arith
-      by false e false f ia ib ih = let z = ap rank (four n (call_total a) (call_total b) (call_total rest)) in let u = no_numbers ps n a e in let w = no_numbers ps (n + call_total a) b f in omega arith
+      by false e false f ia ib ih = let z = ap rank (four n (call_total a) (call_total b) (call_total rest)) in let u = no_numbers ps n a e in let w = no_numbers ps (n + call_total a) b f
+          in omega arith
   ranks n (halts rest) k = ranks n rest k
 
   module _ (P : ℕ → List ℕ → Type 0) (Q : ℕ → List ℕ → Type 0) (counts : (n : ℕ) (slots : List ℕ) → is_place ps n ≡ true → P n slots → Q (rank n) slots) where
@@ -208,7 +228,8 @@ module _ (ps : List ℕ) (rank : ℕ → ℕ) (next : (n : ℕ) → rank (suc n)
     each_unit n (copies to from rest) k h = each_unit n rest k h
     each_unit n (calls op stack args to rest) k h = by (is_place ps n) refl (each_unit (suc n) rest k.1 h.1)
       where
-        by : (b : Bool) → is_place ps n ≡ b → EachUnit Q (rank (suc n)) (units ps (suc n) rest) → EachUnit Q (rank n) (unit_call (numbered ps n op) (last_of args stack) to (first_piece ps (suc n) rest) (units ps (suc n) rest))
+        by : (b : Bool) → is_place ps n ≡ b → EachUnit Q (rank (suc n)) (units ps (suc n) rest)
+            → EachUnit Q (rank n) (unit_call (numbered ps n op) (last_of args stack) to (first_piece ps (suc n) rest) (units ps (suc n) rest))
         by true e ih =
             let t = told_true n op k.0 e in
             let r : rank (suc n) ≡ suc (rank n) = next n ∙ ap (λ b. if b then suc (rank n) else rank n) e in
@@ -224,23 +245,35 @@ module _ (ps : List ℕ) (rank : ℕ → ℕ) (next : (n : ℕ) → rank (suc n)
     each_unit n (nests s body rest) k h = by (holds_call ps n body) refl (each_unit n body k.0 h.0) (each_unit (n + call_total body) rest k.1 h.1)
       where
         by : (b : Bool) → holds_call ps n body ≡ b → EachUnit Q (rank n) (units ps n body) → EachUnit Q (rank (n + call_total body)) (units ps (n + call_total body) rest)
-            → EachUnit Q (rank n) (if b then nest_unit s (first_piece ps n body) (units ps n body) (first_piece ps (n + call_total body) rest) (units ps (n + call_total body) rest) else units ps (n + call_total body) rest)
+            → EachUnit Q (rank n) (if b then nest_unit s (first_piece ps n body) (units ps n body) (first_piece ps (n + call_total body) rest) (units ps (n + call_total body) rest)
+            else units ps (n + call_total body) rest)
         by true e ib ih = (ib, moved (units ps (n + call_total body) rest) (ranks n body k.0) ih)
         by false e ib ih =
             let r = ranks n body k.0 in let z = no_numbers ps n body e in
             moved (units ps (n + call_total body) rest) (let w : rank n ≡ rank (n + call_total body) = omega arith in w) ih
     each_unit n (decides c a b rest) k h =
-        by (holds_call ps n a) refl (holds_call ps (n + call_total a) b) refl (each_unit n a k.0 h.0) (each_unit (n + call_total a) b k.1 h.1) (each_unit (n + call_total a + call_total b) rest k.2 h.2)
+        by (holds_call ps n a) refl (holds_call ps (n + call_total a) b) refl (each_unit n a k.0 h.0) (each_unit (n + call_total a) b k.1 h.1)
+        (each_unit (n + call_total a + call_total b) rest k.2 h.2)
       where
-        by : (x : Bool) → holds_call ps n a ≡ x → (y : Bool) → holds_call ps (n + call_total a) b ≡ y → EachUnit Q (rank n) (units ps n a) → EachUnit Q (rank (n + call_total a)) (units ps (n + call_total a) b)
+        by : (x : Bool) → holds_call ps n a ≡ x → (y : Bool) → holds_call ps (n + call_total a) b ≡ y → EachUnit Q (rank n) (units ps n a)
+            → EachUnit Q (rank (n + call_total a)) (units ps (n + call_total a) b)
             → EachUnit Q (rank (n + call_total a + call_total b)) (units ps (n + call_total a + call_total b) rest)
-            → EachUnit Q (rank n) (if x || y then if_unit (Some c) (first_piece ps n a) (units ps n a) (first_piece ps (n + call_total a) b) (units ps (n + call_total a) b) (first_piece ps (n + call_total a + call_total b) rest) (units ps (n + call_total a + call_total b) rest) else units ps (n + call_total a + call_total b) rest)
+            → EachUnit Q (rank n) (if x || y then if_unit (Some c) (first_piece ps n a) (units ps n a) (first_piece ps (n + call_total a) b) (units ps (n + call_total a) b)
+            (first_piece ps (n + call_total a + call_total b) rest) (units ps (n + call_total a + call_total b) rest) else units ps (n + call_total a + call_total b) rest)
         by true e y f ia ib ih =
-            let ra = ranks n a k.0 in let rb = ranks (n + call_total a) b k.1 in
-            (ia, moved (units ps (n + call_total a) b) ra ib, moved (units ps (n + call_total a + call_total b) rest) (let w : rank n + numbers_in (units ps n a) + numbers_in (units ps (n + call_total a) b) ≡ rank (n + call_total a + call_total b) = omega arith in w) ih)
+            let ra = ranks n a k.0 in let rb = ranks (n + call_total a) b k.1 in (
+              ia,
+              moved (units ps (n + call_total a) b) ra ib,
+              moved (units ps (n + call_total a + call_total b) rest)
+                  (let w : rank n + numbers_in (units ps n a) + numbers_in (units ps (n + call_total a) b) ≡ rank (n + call_total a + call_total b) = omega arith in w) ih,
+            )
         by false e true f ia ib ih =
-            let ra = ranks n a k.0 in let rb = ranks (n + call_total a) b k.1 in
-            (ia, moved (units ps (n + call_total a) b) ra ib, moved (units ps (n + call_total a + call_total b) rest) (let w : rank n + numbers_in (units ps n a) + numbers_in (units ps (n + call_total a) b) ≡ rank (n + call_total a + call_total b) = omega arith in w) ih)
+            let ra = ranks n a k.0 in let rb = ranks (n + call_total a) b k.1 in (
+              ia,
+              moved (units ps (n + call_total a) b) ra ib,
+              moved (units ps (n + call_total a + call_total b) rest)
+                  (let w : rank n + numbers_in (units ps n a) + numbers_in (units ps (n + call_total a) b) ≡ rank (n + call_total a + call_total b) = omega arith in w) ih,
+            )
         by false e false f ia ib ih =
             let ra = ranks n a k.0 in let rb = ranks (n + call_total a) b k.1 in let za = no_numbers ps n a e in let zb = no_numbers ps (n + call_total a) b f in
             moved (units ps (n + call_total a + call_total b) rest) (let w : rank n ≡ rank (n + call_total a + call_total b) = omega arith in w) ih
@@ -269,7 +302,8 @@ module _ (test : Callee → Bool) where
       z = omega arith
 
       by : (b : Bool) → is_place (if b then k ∷ places (suc k) cs else places (suc k) cs) (k + suc n) ≡ is_place (places (suc k) cs) (suc k + n)
-      by true = let ne : nat_eq k (k + suc n) ≡ false = ne_eqb k (k + suc n) (λ e. absurd (omega arith)) in ap (λ b. b || is_place (places (suc k) cs) (k + suc n)) ne ∙ ap (is_place (places (suc k) cs)) z
+      by true = let ne : nat_eq k (k + suc n) ≡ false = ne_eqb k (k + suc n) (λ e. absurd (omega arith)) in ap (λ b. b || is_place (places (suc k) cs) (k + suc n)) ne
+          ∙ ap (is_place (places (suc k) cs)) z
       by false = ap (is_place (places (suc k) cs)) z
 
   pub next_told : (k : ℕ) (cs : List Callee) (n : ℕ) → told_before cs (suc n) ≡ (if is_place (places k cs) (k + n) then suc (told_before cs n) else told_before cs n)
@@ -280,7 +314,8 @@ module _ (test : Callee → Bool) where
       ∙ ap (λ b. if b then suc (told_before (c ∷ cs) (suc n)) else told_before (c ∷ cs) (suc n)) (sym (later_place k c cs n))
     where
       by : (b p : Bool) → told_before cs (suc n) ≡ (if p then suc (told_before cs n) else told_before cs n)
-          → (if b then suc (told_before cs (suc n)) else told_before cs (suc n)) ≡ (if p then suc (if b then suc (told_before cs n) else told_before cs n) else (if b then suc (told_before cs n) else told_before cs n))
+          → (if b then suc (told_before cs (suc n)) else told_before cs (suc n)) ≡ (if p then suc (if b then suc (told_before cs n) else told_before cs n)
+          else (if b then suc (told_before cs n) else told_before cs n))
       by true true ih = ap suc ih
       by true false ih = ap suc ih
       by false true ih = ih
@@ -297,7 +332,8 @@ module _ (test : Callee → Bool) where
       z : suc k + n ≡ k + suc n
       z = omega arith
 
-      by : (b : Bool) → slice_get (places (suc k) cs) (told_before cs n) ≡ Some (suc k + n) → slice_get (if b then k ∷ places (suc k) cs else places (suc k) cs) (if b then suc (told_before cs n) else told_before cs n) ≡ Some (k + suc n)
+      by : (b : Bool) → slice_get (places (suc k) cs) (told_before cs n) ≡ Some (suc k + n)
+          → slice_get (if b then k ∷ places (suc k) cs else places (suc k) cs) (if b then suc (told_before cs n) else told_before cs n) ≡ Some (k + suc n)
       by true ih = ih ∙ ap (λ i. Some i) z
       by false ih = ih ∙ ap (λ i. Some i) z
 
@@ -347,7 +383,8 @@ same_count (calls op stack args to rest) = ap suc (same_count rest)
 same_count (leaps l rest) = same_count rest
 same_count (leaps_if c l rest) = same_count rest
 same_count (leaps_by index labels last rest) = same_count rest
-same_count (nests s body rest) = length-append (args_in body) (args_in rest) ∙ ap (λ i. i + length (args_in rest)) (same_count body) ∙ ap (λ i. length (stacks_in body) + i) (same_count rest) ∙ sym (length-append (stacks_in body) (stacks_in rest))
+same_count (nests s body rest) = length-append (args_in body) (args_in rest) ∙ ap (λ i. i + length (args_in rest)) (same_count body)
+    ∙ ap (λ i. length (stacks_in body) + i) (same_count rest) ∙ sym (length-append (stacks_in body) (stacks_in rest))
 same_count (decides c a b rest) =
     let x = same_count a in let y = same_count b in let z = same_count rest in
     let l1 = length-append (args_in a) (args_in b ++ args_in rest) in let l2 = length-append (args_in b) (args_in rest) in
@@ -364,9 +401,11 @@ zipped (calls op stack args to rest) = ap (λ z. last_of args stack ∷ z) (zipp
 zipped (leaps l rest) = zipped rest
 zipped (leaps_if c l rest) = zipped rest
 zipped (leaps_by index labels last rest) = zipped rest
-zipped (nests s body rest) = ap (λ z. z ++ call_slots rest) (zipped body) ∙ ap (λ z. zip_last (args_in body) (stacks_in body) ++ z) (zipped rest) ∙ sym (zip_on (args_in body) (args_in rest) (stacks_in body) (stacks_in rest) (same_count body))
+zipped (nests s body rest) = ap (λ z. z ++ call_slots rest) (zipped body) ∙ ap (λ z. zip_last (args_in body) (stacks_in body) ++ z) (zipped rest)
+    ∙ sym (zip_on (args_in body) (args_in rest) (stacks_in body) (stacks_in rest) (same_count body))
 zipped (decides c a b rest) =
-    ap (λ z. z ++ (call_slots b ++ call_slots rest)) (zipped a) ∙ ap (λ z. zip_last (args_in a) (stacks_in a) ++ (z ++ call_slots rest)) (zipped b) ∙ ap (λ z. zip_last (args_in a) (stacks_in a) ++ (zip_last (args_in b) (stacks_in b) ++ z)) (zipped rest)
+    ap (λ z. z ++ (call_slots b ++ call_slots rest)) (zipped a) ∙ ap (λ z. zip_last (args_in a) (stacks_in a) ++ (z ++ call_slots rest)) (zipped b)
+    ∙ ap (λ z. zip_last (args_in a) (stacks_in a) ++ (zip_last (args_in b) (stacks_in b) ++ z)) (zipped rest)
     ∙ ap (λ z. zip_last (args_in a) (stacks_in a) ++ z) (sym (zip_on (args_in b) (args_in rest) (stacks_in b) (stacks_in rest) (same_count b)))
     ∙ sym (zip_on (args_in a) (args_in b ++ args_in rest) (stacks_in a) (stacks_in b ++ stacks_in rest) (same_count a))
 zipped (halts rest) = zipped rest
@@ -426,8 +465,11 @@ module _ (whole : List (List ℕ)) where
   each_call n (leaps l rest) h = each_call n rest h
   each_call n (leaps_if c l rest) h = each_call n rest h
   each_call n (leaps_by index labels last rest) h = each_call n rest h
-  each_call n (nests s body rest) h =
-      (each_call n body (left_stands n (call_slots body) (call_slots rest) h), each_call (n + call_total body) rest (right_stands n (call_total body) (call_slots body) (call_slots rest) (slots_count body) h))
+  each_call n (nests s body rest) h = (
+    each_call n body (left_stands n (call_slots body) (call_slots rest) h),
+    each_call (n + call_total body) rest
+        (right_stands n (call_total body) (call_slots body) (call_slots rest) (slots_count body) h),
+  )
   each_call n (decides c a b rest) h =
       let r = right_stands n (call_total a) (call_slots a) (call_slots b ++ call_slots rest) (slots_count a) h in (
         each_call n a (left_stands n (call_slots a) (call_slots b ++ call_slots rest) h),

@@ -78,12 +78,15 @@ module _ (m : Module) (s : Settings) (which : List Bool) (valid : Valid m) where
       let same_f : fn.0 ≡ w.func = the_func fn.0 w.func (sym fn.1 ∙ sym (base_defined m a.func) ∙ w.func_is) in
       let chain_f : chain.0 ≡ w.func = the_func chain.0 w.func (sym chain.2 ∙ w.func_is) in
       let place : place_of (defined_at b a.func) a.code a.labels ≡ place_of (Some w.func) a.code a.labels = ap (λ o. place_of o a.code a.labels) w.func_is in
-      let chain_at : slice_get (calls_in w.func) (place_of (Some w.func) a.code a.labels) ≡ Some chain.1 = ap (slice_get (calls_in w.func)) (sym place) ∙ ap (λ (f : Func). slice_get (calls_in f) (place_of (defined_at b a.func) a.code a.labels)) (sym chain_f) ∙ chain.3 in
+      let chain_at : slice_get (calls_in w.func) (place_of (Some w.func) a.code a.labels) ≡ Some chain.1 = ap (slice_get (calls_in w.func)) (sym place)
+      ∙ ap (λ (f : Func). slice_get (calls_in f) (place_of (defined_at b a.func) a.code a.labels)) (sym chain_f) ∙ chain.3 in
       let same_c : chain.1 ≡ w.callee = the_callee chain.1 w.callee (sym chain_at ∙ k.callee) in
       let leads : LeadsTo b table w.callee (a.taken ++ a.operands) g = subst (λ c. LeadsTo b table c (a.taken ++ a.operands) g) same_c chain.4 in
-      let listed : Contains (Numbered m s which w.func) (place_of (Some w.func) a.code a.labels) = subst (λ (f : Func). Contains (Numbered m s which f) (place_of (Some w.func) a.code a.labels)) same_f (subst (Contains (Numbered m s which fn.0)) place fn.2) in
+      let listed : Contains (Numbered m s which w.func) (place_of (Some w.func) a.code a.labels) =
+      subst (λ (f : Func). Contains (Numbered m s which f) (place_of (Some w.func) a.code a.labels)) same_f (subst (Contains (Numbered m s which fn.0)) place fn.2) in
       let passed = listed_passes (has_number m s which) 0 (calls_in w.func) (place_of (Some w.func) a.code a.labels) listed in
-      let spot_at : slice_get (calls_in w.func) passed.0 ≡ Some w.callee = let z : passed.0 ≡ place_of (Some w.func) a.code a.labels = let e = passed.2 in omega arith in ap (slice_get (calls_in w.func)) z ∙ k.callee in
+      let spot_at : slice_get (calls_in w.func) passed.0 ≡ Some w.callee = let z : passed.0
+      ≡ place_of (Some w.func) a.code a.labels = let e = passed.2 in omega arith in ap (slice_get (calls_in w.func)) z ∙ k.callee in
       let same_p : passed.1 ≡ w.callee = the_callee passed.1 w.callee (sym passed.3 ∙ spot_at) in (
         record {
           func = w.func;

@@ -1,11 +1,13 @@
 -- The flat module and the emitted one are paired.
-use Rattle.std.proofs.Common.{◌≡◌, ℕ, zero, suc, ◌+◌, ◌-◌, ◌<◌, List, [], ◌∷◌, ◌++◌, drop, map, length, Option, Some, None, Bool, true, false, refl, sym, ap, ◌∙◌, subst, arith, append-nil, length-append}
+use Rattle.std.proofs.Common.{◌≡◌, ℕ, zero, suc, ◌+◌, ◌-◌, ◌<◌, List, [], ◌∷◌, ◌++◌, drop, map, length, Option, Some, None, Bool, true, false, refl, sym, ap, ◌∙◌, subst, arith, append-nil}
+use Rattle.std.proofs.Common.{length-append}
 use Rattle.std.specs.Prelude.{slice_get, ◌||◌, nat_lt, if◌then◌else◌}
 use Rattle.std.proofs.lemmas.List.{length-map, map-append}
 use Rattle.wa_types.specs.Base.{Base}
 use Rattle.wa_types.specs.Frames.{Pair, SlotPairs, ResultPairs}
 use Rattle.wa_types.specs.Modules.{declared_locals, defined_at, func_imports, func_sorts, func_type_at, imported, imported_func, imported_global, locals_of, type_at}
-use Rattle.wa_types.specs.Pausing.{Callee, Listed, MayPause, Settings, TellsMayPause, calls_in, calls_indirectly, calls_listed, calls_of, calls_pausing, callee, callee_onto, direct, has_number, indirect, is_told}
+use Rattle.wa_types.specs.Pausing.{Callee, Listed, MayPause, Settings, TellsMayPause, calls_in, calls_indirectly, calls_listed, calls_of, calls_pausing, callee, callee_onto, direct}
+use Rattle.wa_types.specs.Pausing.{has_number, indirect, is_told}
 use Rattle.wa_types.specs.Pruned.{pruned}
 use Rattle.wa_types.specs.Runtime.{func_space, global_space, runtime_funcs, runtime_types, with_runtime}
 use Rattle.wa_types.specs.Syntax.{Code, a_block, branch, done, nest, plain, Func, Module}
@@ -119,10 +121,14 @@ unfolding calls_of
 calls_each P done h = tt
 calls_each P (plain p rest) h = by (callee p) h (λ g. calls_each P rest g)
   where
-    by : (o : Option Callee) → ((i : ℕ) (x : Callee) → slice_get (callee_onto o (calls_of rest)) i ≡ Some x → P x) → (((i : ℕ) (x : Callee) → slice_get (calls_of rest) i ≡ Some x → P x) → Calls P rest) → MayCall P o × Calls P rest
+    by : (o : Option Callee) → ((i : ℕ) (x : Callee) → slice_get (callee_onto o (calls_of rest)) i ≡ Some x → P x)
+        → (((i : ℕ) (x : Callee) → slice_get (calls_of rest) i ≡ Some x → P x) → Calls P rest) → MayCall P o × Calls P rest
     by None h on = (tt, on h)
     by (Some y) h on = (h 0 y refl, on (λ i x e. h (suc i) x e))
-calls_each P (nest s r body rest) h = (calls_each P body (λ i x e. h i x (got_first (calls_of body) (calls_of rest) i x e)), calls_each P rest (λ i x e. h (length (calls_of body) + i) x (got_second (calls_of body) (calls_of rest) i ∙ e)))
+calls_each P (nest s r body rest) h = (
+  calls_each P body (λ i x e. h i x (got_first (calls_of body) (calls_of rest) i x e)),
+  calls_each P rest (λ i x e. h (length (calls_of body) + i) x (got_second (calls_of body) (calls_of rest) i ∙ e)),
+)
 calls_each P (branch r a b rest) h =
     let ca = calls_of a in let cb = calls_of b in let cr = calls_of rest in (
       calls_each P a (λ i x e. h i x (got_first (ca ++ cb) cr i x (got_first ca cb i x e))),
@@ -228,7 +234,8 @@ module _ (m : Module) (s : Settings) (which : List Bool) (frames : (index : ℕ)
     type_there : (x : ℕ) (f : Func) → defined_at b x ≡ Some f → x < length (func_sorts b) → func_type_at core x ≡ type_at b f.sort
     type_there x f e lt = (slim_fits.together).func_type x ∙ flattened_so.func_type x lt ∙ defined_type b x f e
 
-    guarded_same : (x : ℕ) (f g g' : Func) → (g.body ≡ body_with (pieces_in m s which frames x) (flattened b x f).result) × (declared_locals g.locals ≡ declared_locals f.locals ++ extra_types b f) → func_type_at v.flat x ≡ type_at b f.sort
+    guarded_same : (x : ℕ) (f g g' : Func) → (g.body ≡ body_with (pieces_in m s which frames x) (flattened b x f).result)
+        × (declared_locals g.locals ≡ declared_locals f.locals ++ extra_types b f) → func_type_at v.flat x ≡ type_at b f.sort
         → Guarded m s which frames x f g' → v.role x ≡ with_guards (guarded_of m s which frames x f) → SameFunction v x g g'
     guarded_same x f g g' h ty wr role =
         let ff = flattened b x f in
@@ -270,8 +277,11 @@ module _ (m : Module) (s : Settings) (which : List Bool) (frames : (index : ℕ)
         → WrittenAs m s which frames told x f g' → v.role x ≡ role_at m s which frames told x (Some f)
         → SameFunction v x g g'
     same_func true x f g0 g g' h eg db ty wr role =
-        guarded_same x f g g'
-        (ap (λ (z : Func). z.body) (sym eg) ∙ ap (body_of_func (Base m) which (places_in m s which) (pieces_in m s which frames) x) db, ap (λ (z : Func). declared_locals z.locals) (sym eg) ∙ h.1) ty wr role
+        guarded_same x f g g' (
+          ap (λ (z : Func). z.body) (sym eg) ∙ ap (body_of_func (Base m) which (places_in m s which) (pieces_in m s which frames) x) db,
+          ap (λ (z : Func). declared_locals z.locals) (sym eg)
+              ∙ h.1,
+        ) ty wr role
     same_func false x f g0 g g' h eg db ty wr role = stays_same x f g g' (sym eg ∙ the_same g0 f h) ty wr role
       where
         the_same : (g f : Func) → Some g ≡ Some f → g ≡ f
@@ -308,7 +318,8 @@ module _ (m : Module) (s : Settings) (which : List Bool) (frames : (index : ℕ)
         let body = (flattened b x f).body in
         let free = free_law test ps 0 body (flat_numbered b x f test) in
         let sp = em.slim x f (base_defined m x ∙ q) e in
-        pieces_call (flat_terms b ps x f) (λ c. test c ≡ false) 0 (sp.out ∷ []) sp.out sp.here [] (first_piece ps 0 body) (frames x).pieces.first (units ps 0 body) (frames x).pieces.units sp.slim free.0 free.1
+        pieces_call (flat_terms b ps x f) (λ c. test c ≡ false) 0 (sp.out ∷ []) sp.out sp.here [] (first_piece ps 0 body) (frames x).pieces.first (units ps 0 body)
+        (frames x).pieces.units sp.slim free.0 free.1
     role_calls x false e (Some f) q = calls_each (λ c. test c ≡ false) (pruned f.body) (λ i c at. not_numbered m s which x f i c tells q e at)
 
     -- what stands in the table is a function

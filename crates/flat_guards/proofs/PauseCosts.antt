@@ -51,7 +51,8 @@ slot_count : (x : ℕ) (ps : List Pair) → length (slot_places (λ p. true) x p
 slot_count x [] = refl
 slot_count x (p ∷ ps) = ap suc (slot_count (suc x) ps)
 
-module _ (m : Module) (s : Settings) (which : List Bool) (pieces : (index : ℕ) → Pieces) (keep : (func local : ℕ) → Bool) (valid : Valid m) (slim : AllSlimPieces (Base m) which (places_in m s which) pieces) where
+module _ (m : Module) (s : Settings) (which : List Bool) (pieces : (index : ℕ) → Pieces) (keep : (func local : ℕ) → Bool) (valid : Valid m)
+    (slim : AllSlimPieces (Base m) which (places_in m s which) pieces) where
   abbrev frames : (index : ℕ) → Framing
   frames = kept_frames m s which pieces keep
 
@@ -65,13 +66,15 @@ module _ (m : Module) (s : Settings) (which : List Bool) (pieces : (index : ℕ)
       let q = ap length (base_slots m valid x f is) in
       omega arith
 
-  costs : (x : ℕ) (f : Func) → defined_at m x ≡ Some f → is_told (slice_get which x) ≡ true → pause_cost (global_space m) (guarded_of m s which frames x f) (one_frame (layout_of m s which keep x f)) ≤ 112 * (Weight m f + 4)
+  costs : (x : ℕ) (f : Func) → defined_at m x ≡ Some f → is_told (slice_get which x) ≡ true
+      → pause_cost (global_space m) (guarded_of m s which frames x f) (one_frame (layout_of m s which keep x f)) ≤ 112 * (Weight m f + 4)
   costs x f is told =
       let q = index_of m x f is in
       let ps = Numbered m s which f in
       let small = small_law m q.0 x f (global_space m) ps (layout_of m s which keep x f) valid q.2 (keeps_few x f is) in
       let cost = small.cost in
-      let same : passing (first_piece ps 0 (flattened (Base m) x f).body) (units ps 0 (flattened (Base m) x f).body) ≡ passing (first_piece ps 0 (flattened m x f).body) (units ps 0 (flattened m x f).body) =
+      let same : passing (first_piece ps 0 (flattened (Base m) x f).body) (units ps 0 (flattened (Base m) x f).body)
+      ≡ passing (first_piece ps 0 (flattened m x f).body) (units ps 0 (flattened m x f).body) =
       ap (λ (z : FlatFunc). passing (first_piece ps 0 z.body) (units ps 0 z.body)) (base_flattened m valid x f is) in
       let body = (flattened (Base m) x f).body in
       let sp = slim x f (base_defined m x ∙ is) told in

@@ -87,7 +87,8 @@ module _ (m : Module) (s : Settings) (which : List Bool) (pieces : (index : ℕ)
       kept : (y : ℕ) → IsKept y (fields_of (keep a.func) (Saved (Base m) save_all num.func 0)) → value_at c.locals y ≡ value_at (a.locals ++ pr.extra) y
       kept y h = sm.kept_same y (subst (λ z. IsKept y z.fields) lay_is h) ∙ ap (λ zs. value_at zs y) pr.locals
 
-  all_again : (table : List (Option ℕ)) (g : ℕ) (us vs cs : List Activation) → AllPairs (Base m) which us vs → AllAtNumbers m s which valid table g us → AllSameFlat k.lay vs cs → AllAgain (Base m) which us cs
+  all_again : (table : List (Option ℕ)) (g : ℕ) (us vs cs : List Activation) → AllPairs (Base m) which us vs → AllAtNumbers m s which valid table g us → AllSameFlat k.lay vs cs
+      → AllAgain (Base m) which us cs
   all_again table g [] [] [] ps nums same = tt
   all_again table g [] [] (c ∷ cs) ps nums same = absurd same
   all_again table g [] (v ∷ vs) cs ps nums same = absurd ps
@@ -95,7 +96,8 @@ module _ (m : Module) (s : Settings) (which : List Bool) (pieces : (index : ℕ)
   all_again table g (a ∷ us) (v ∷ vs) [] ps nums same = absurd same
   all_again table g (a ∷ us) (v ∷ vs) (c ∷ cs) ps nums same = (again_at a v c table g ps.0 nums.0 same.0, all_again table a.func us vs cs ps.1 nums.1 same.1)
 
-  again : (top i : ℕ) (d f : Configuration) (a : Activation) (us : List Activation) → LinkedWaits k B A i d f → All (StandsNumbered m s which) (stack_of (Base m) d) → AllSameFlat k.lay (f.here ∷ f.under) (a ∷ us)
+  again : (top i : ℕ) (d f : Configuration) (a : Activation) (us : List Activation) → LinkedWaits k B A i d f → All (StandsNumbered m s which) (stack_of (Base m) d)
+      → AllSameFlat k.lay (f.here ∷ f.under) (a ∷ us)
       → (us' : List Activation) → Stopped (setting (world_of k) top) i (a ∷ us) us' → AllLocalsFit p us' → FlatAgain (world_of k) (λ c d. c ≡ d) (N.L k B A) (N.W k B A) (GoodStore k) top i d f a us
   again top i d f a us l nums same us' st fit =
       let be = l.beside in
@@ -111,10 +113,23 @@ module _ (m : Module) (s : Settings) (which : List Bool) (pieces : (index : ℕ)
         waits = record {
           beside = record {
             between = record { store = v.store; here = moved v.here a.locals; under = moved_all v.under us };
-            asked = record { same_store = (be.asked).same_store; store = (be.asked).store; waits = callers_moved (Base m) which i (d.here ∷ d.under) (v.here ∷ v.under) (a ∷ us) (be.asked).waits told back };
+            asked = record {
+              same_store = (be.asked).same_store;
+              store = (be.asked).store;
+              waits =
+                  callers_moved (Base m) which i (d.here ∷ d.under) (v.here ∷ v.under) (a ∷ us) (be.asked).waits told back;
+            };
             outs = be.outs;
-            fits = record { store = (be.fits).store; waits = fits_moved m s which frames plan p k.lay be.outs (results_of (flat_module (Base m) which) i) l.flat_outs (results_of k.flat i) (v.here ∷ v.under) (f.here ∷ f.under) (a ∷ us) (be.slim_asked).stack same (be.fits).waits (fl.0).waits };
-            slim_asked = record { store = (be.slim_asked).store; stack = unders_moved m s which frames plan p k.lay (d.here ∷ d.under) (v.here ∷ v.under) (f.here ∷ f.under) (a ∷ us) (be.slim_asked).stack ps same };
+            fits = record {
+              store = (be.fits).store;
+              waits = fits_moved m s which frames plan p k.lay be.outs (results_of (flat_module (Base m) which) i) l.flat_outs (results_of k.flat i)
+                  (v.here ∷ v.under) (f.here ∷ f.under) (a ∷ us) (be.slim_asked).stack same (be.fits).waits (fl.0).waits;
+            };
+            slim_asked = record {
+              store = (be.slim_asked).store;
+              stack = unders_moved m s which frames plan p k.lay (d.here ∷ d.under) (v.here ∷ v.under) (f.here ∷ f.under) (a ∷ us)
+                  (be.slim_asked).stack ps same;
+            };
           };
           known = l.known;
           outs = l.outs;
@@ -130,7 +145,8 @@ module _ (m : Module) (s : Settings) (which : List Bool) (pieces : (index : ℕ)
       }
 
   -- STACKS STAND AS FRAMES, and come back
-  pub stacks_stand : StandsLaw (core_of m s which (kept_frames m s which pieces keep) plan p) (RunsBeside m s which (kept_frames m s which pieces keep) plan p) (WaitsBeside m s which (kept_frames m s which pieces keep) plan p) (λ c d. c ≡ d)
+  pub stacks_stand : StandsLaw (core_of m s which (kept_frames m s which pieces keep) plan p) (RunsBeside m s which (kept_frames m s which pieces keep) plan p)
+      (WaitsBeside m s which (kept_frames m s which pieces keep) plan p) (λ c d. c ≡ d)
   stacks_stand = record {
     numbers = λ top i d f l nums. numbers m s which frames plan p valid tells em plan_fits codes top i d f l nums;
     stands = λ top i d f us' st l nums fit. stands m s which frames plan p valid tells em plan_fits codes (λ c d. c ≡ d) framed top i d f us' st l nums fit;

@@ -114,8 +114,10 @@ module _ (m : Module) (s : Settings) (which : List Bool) (frames : (index : ℕ)
       is_defined = sym (base_defined m a.func) ∙ num.is
 
       -- in the names of the original
-      level_here : (more : List Value) (fit : LocalsFit p a.func ((a.locals ++ pr.extra) ++ more)) (n : ℕ) (slots : List ℕ) (x : Callee) (to : Option ℕ) (behind : Code) (rest : Units) (xs : List Enclosing)
-          → BodyPlace st gf n (call_unit slots x to behind rest) xs → length (calls_of (set_to to (followed_by behind (flat_units rest)))) + calls_behind (flat_labels gf xs) ≡ call_count a.code + calls_outside a.labels
+      level_here : (more : List Value) (fit : LocalsFit p a.func ((a.locals ++ pr.extra) ++ more)) (n : ℕ) (slots : List ℕ) (x : Callee) (to : Option ℕ) (behind : Code) (rest : Units)
+          (xs : List Enclosing)
+          → BodyPlace st gf n (call_unit slots x to behind rest) xs → length (calls_of (set_to to (followed_by behind (flat_units rest)))) + calls_behind (flat_labels gf xs)
+          ≡ call_count a.code + calls_outside a.labels
           → NoneBelow xs → LevelStands a num.func gf (frame a.func call_at) n slots xs (a.locals ++ pr.extra) more a.taken
       level_here more fit n slots x to behind rest xs pl left none =
           let number = F.number m s which frames p valid em a a' pr table g num more fit st n slots x to behind rest xs pl left in
@@ -137,7 +139,8 @@ module _ (m : Module) (s : Settings) (which : List Bool) (frames : (index : ℕ)
                 let ps = Numbered m s which num.func in
                 let body = (flat_of m s which frames a.func num.func).body in
                 let sp = em.slim a.func num.func num.is pr.told in
-                (units_alike (flat_terms (Base m) ps a.func num.func) 0 (sp.out ∷ []) sp.out sp.here [] (first_piece ps 0 body) (frames a.func).pieces.first (units ps 0 body) (frames a.func).pieces.units sp.slim).arms
+                (units_alike (flat_terms (Base m) ps a.func num.func) 0 (sp.out ∷ []) sp.out sp.here [] (first_piece ps 0 body) (frames a.func).pieces.first (units ps 0 body)
+                (frames a.func).pieces.units sp.slim).arms
                 (arms_law ps 0 body);
             fields = subst (FlatFieldsFit (a.locals ++ pr.extra)) (sym fr.fields) (F.fields m s which frames p valid em a a' pr table g num more fit fr.keep);
             small = omega arith;
@@ -151,7 +154,8 @@ module _ (m : Module) (s : Settings) (which : List Bool) (frames : (index : ℕ)
           }
 
     abbrev Stands : {g : ℕ} {vs ws : List Activation} → List Activation → Stopped v g vs ws → Type 0
-    Stands us d = MayStand v k.lay d × AllStandFor m s which (levels_of v k.lay d) (map (suspended (Base m)) us) × AllWeigh m (param_count (func_type_at v.flat top)) (levels_of v k.lay d) (map (suspended (Base m)) us)
+    Stands us d = MayStand v k.lay d × AllStandFor m s which (levels_of v k.lay d) (map (suspended (Base m)) us)
+        × AllWeigh m (param_count (func_type_at v.flat top)) (levels_of v k.lay d) (map (suspended (Base m)) us)
 
     abbrev cost_of : Level → ℕ
     cost_of w = unwinding w.fn w.out + 1 + (2 * length w.site.slots + 1) + rewinding w.fn w.seek
@@ -166,18 +170,21 @@ module _ (m : Module) (s : Settings) (which : List Bool) (frames : (index : ℕ)
     no_rest n (w ∷ x ∷ ws) some h = h
 
     -- the outermost function's arguments beside
-    weigh_on : (fn : ℕ) (under under' : List Activation) (below : Stopped v fn under under') (w : Level) (act : Suspended) (rest : List Suspended) → param_count (func_type_at v.flat fn) + cost_of w ≤ activation_bound m act
+    weigh_on : (fn : ℕ) (under under' : List Activation) (below : Stopped v fn under under') (w : Level) (act : Suspended) (rest : List Suspended)
+        → param_count (func_type_at v.flat fn) + cost_of w ≤ activation_bound m act
         → AllWeigh m (param_count (func_type_at v.flat top)) (levels_of v k.lay below) rest → AllWeigh m (param_count (func_type_at v.flat top)) (w ∷ levels_of v k.lay below) (act ∷ rest)
     weigh_on fn _ _ (host e) w act [] le ih = let z = ap (λ x. param_count (func_type_at v.flat x)) e in omega arith
     weigh_on fn _ _ (host e) w act (x ∷ rest) le ih = absurd ih
-    weigh_on fn _ _ (above fn2 here is ls extra ops taken both h pl gt deep below) w act [] le ih = absurd (no_rest (param_count (func_type_at v.flat top)) (levels_of v k.lay (above fn2 here is ls extra ops taken both h pl gt deep below)) tt ih)
+    weigh_on fn _ _ (above fn2 here is ls extra ops taken both h pl gt deep below) w act [] le ih =
+        absurd (no_rest (param_count (func_type_at v.flat top)) (levels_of v k.lay (above fn2 here is ls extra ops taken both h pl gt deep below)) tt ih)
     weigh_on fn _ _ (above fn2 here is ls extra ops taken both h pl gt deep below) w act (x ∷ rest) le ih = (omega arith, ih)
 
     params_same : (x : ℕ) (f : Func) → defined_at b x ≡ Some f → param_count (func_type_at v.flat x) ≡ param_count (func_type_at (Base m) x)
     params_same x f e =
         ap param_count (grown_func_type k fits x (subst (λ i. x < i) (sym (funcs_are k fits)) (space_below m valid x f e)) ∙ func_type_same k fits x)
 
-    module _ (a : Activation) (table : List (Option ℕ)) (g : ℕ) (num : AtNumber m s which valid table g a) (f : GuardedFunc) (n : ℕ) (slots : List ℕ) (x : Callee) (to : Option ℕ) (behind : Code) (rest : Units) (xs : List Enclosing)
+    module _ (a : Activation) (table : List (Option ℕ)) (g : ℕ) (num : AtNumber m s which valid table g a) (f : GuardedFunc) (n : ℕ) (slots : List ℕ) (x : Callee) (to : Option ℕ)
+        (behind : Code) (rest : Units) (xs : List Enclosing)
         (fn : ℕ) (ls extra ops taken : List Value) (is : v.role fn ≡ with_guards f) (pl : BodyPlace st f n (call_unit slots x to behind rest) xs)
         (pr : PairAt (Base m) which a (waiting fn ls ops taken (set_to to (followed_by behind (flat_units rest))) (flat_labels f xs))) (fit : LocalsFit p fn (ls ++ extra)) where
       defined : defined_at m a.func ≡ Some num.func
@@ -247,11 +254,13 @@ module _ (m : Module) (s : Settings) (which : List Bool) (frames : (index : ℕ)
       seek = passing f.first f.body;
     }
 
-    pub stands_so : (table : List (Option ℕ)) (g c : ℕ) (us vs ws : List Activation) (d : Stopped v c vs ws) → AllPairs (Base m) which us vs → AllAtNumbers m s which valid table g us → AllLocalsFit p ws → Stands us d
+    pub stands_so : (table : List (Option ℕ)) (g c : ℕ) (us vs ws : List Activation) (d : Stopped v c vs ws) → AllPairs (Base m) which us vs → AllAtNumbers m s which valid table g us
+        → AllLocalsFit p ws → Stands us d
     stands_so table g c [] _ _ (host e) ps nums fit = (tt, tt, tt)
     stands_so table g c (a ∷ us) _ _ (host e) ps nums fit = absurd ps
     stands_so table g c [] _ _ (above fn here is ls extra ops taken both h pl gt deep below) ps nums fit = absurd ps
-    stands_so table g c (a ∷ us) _ _ (above {f = f} {k = n} {slots = slots} {x = x} {to = to} {behind = behind} {rest = rest} {xs = xs} {under = under} {under' = under'} fn here is ls extra ops taken both h pl gt deep below) ps nums fit =
+    stands_so table g c (a ∷ us) _ _ (above {f = f} {k = n} {slots = slots} {x = x} {to = to} {behind = behind} {rest = rest} {xs = xs} {under = under} {under' = under'} fn here is ls extra
+        ops taken both h pl gt deep below) ps nums fit =
         let ih = stands_so table a.func fn us under under' below ps.1 nums.1 fit.1 in
         let lv = level a table g nums.0 f n slots x to behind rest xs fn ls extra ops taken is pl ps.0 fit.0 in
         let enough = weighs_enough a table g nums.0 f n slots x to behind rest xs fn ls extra ops taken is pl ps.0 fit.0 in

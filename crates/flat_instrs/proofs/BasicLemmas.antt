@@ -1,8 +1,10 @@
 -- Which instructions take no part in control and access no local.
 use Rattle.std.proofs.Common.{◌≡◌, ℕ, Some, None, true, false, refl, ap}
 use Rattle.wa_types.specs.declared.instrs.Instr.{Instr}
-use Rattle.wa_types.specs.declared.instrs.Instr.TheVariants.{Unreachable, Nop, Drop, Select, Return, MemorySize, MemoryGrow, Const, Num, Br, BrIf, BrTable, Call, CallIndirect, LocalGet, LocalSet, LocalTee, GlobalGet, GlobalSet, Load, Store, Block', Loop', If'}
-use Rattle.wa_types.specs.Syntax.{Basic, nop, drop, select, const, num, global_get, global_set, load, store, memory_size, memory_grow, basic, Plain, local_get, local_set, local_tee, br, br_if, br_table, return, unreachable, call, call_indirect, Code, plain}
+use Rattle.wa_types.specs.declared.instrs.Instr.TheVariants.{Unreachable, Nop, Drop, Select, Return, MemorySize, MemoryGrow, Const, Num, Br, BrIf, BrTable, Call, CallIndirect, LocalGet}
+use Rattle.wa_types.specs.declared.instrs.Instr.TheVariants.{LocalSet, LocalTee, GlobalGet, GlobalSet, Load, Store, Block', Loop', If'}
+use Rattle.wa_types.specs.Syntax.{Basic, nop, drop, select, const, num, global_get, global_set, load, store, memory_size, memory_grow, basic, Plain, local_get, local_set, local_tee, br}
+use Rattle.wa_types.specs.Syntax.{br_if, br_table, return, unreachable, call, call_indirect, Code, plain}
 use Rattle.wa_types.specs.View.{in_front}
 use Rattle.wa_types.specs.Pruned.{is_last, is_last_instr}
 use Rattle.std.specs.declared.vec.Vec.{Vec}

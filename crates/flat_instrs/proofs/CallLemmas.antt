@@ -22,7 +22,8 @@ use Rattle.flat_instrs.proofs.OntoLemmas.{onto_more}
 use Rattle.flat_instrs.proofs.TakenLemmas.{call_changed, table_changed}
 use Rattle.flat_instrs.proofs.LeafLemmas.{taken}
 
-pub called_is : (n : Names) (p : Plain) (old new : List Stmt) (op : Instr) (stack : Vec ℕ Global) (count : ℕ) (to : Option ℕ) (g : Bool) (ops behind : List ValType) (k : Stmts) → ((rest : Code) → in_front op rest ≡ plain p rest) → new ≡ old ++ Calls op stack count to ∷ []
+pub called_is : (n : Names) (p : Plain) (old new : List Stmt) (op : Instr) (stack : Vec ℕ Global) (count : ℕ) (to : Option ℕ) (g : Bool) (ops behind : List ValType) (k : Stmts)
+    → ((rest : Code) → in_front op rest ≡ plain p rest) → new ≡ old ++ Calls op stack count to ∷ []
     → stack.items ≡ reverse (slots n ops) → to ≡ top_of n (bit g) behind → onto_stmts new k ≡ onto_stmts old (calls (plain p done) (reverse (slots n ops)) count (top_of n (bit g) behind) k)
 unfolding stmt_in_front
 called_is n p old new op stack count to g ops behind k eo e es et =
@@ -60,14 +61,18 @@ module _ (v : Walk) (i : Instr) (x : ℕ) (typed : TypedAt v (in_front i done)) 
   pub sort_there : i ≡ CallIndirect x → slice_get v.around.types x ≡ None → ⊥
   sort_there e none = let t = taken v i (call_indirect x) (is_call_indirect i x e) typed in no_sort v.around.table (slice_get v.around.types x) v.own t.0 none t.1
 
-  pub call_at : (n : Names) (t : FuncType) (k : ℕ) (g : Bool) → i ≡ Call x → slice_get v.around.funcs x ≡ Some t → SmallTypes v.around → k ≡ length t.params → bit g ≡ length t.results → CallAt n v i k g
+  pub call_at : (n : Names) (t : FuncType) (k : ℕ) (g : Bool) → i ≡ Call x → slice_get v.around.funcs x ≡ Some t → SmallTypes v.around → k ≡ length t.params → bit g ≡ length t.results
+      → CallAt n v i k g
   call_at n t k g e et small ek eg =
       let is = is_call i x e in
       let u : or_empty (slice_get v.around.funcs x) ≡ t = ap or_empty et in
       let kp : k ≡ length (or_empty (slice_get v.around.funcs x)).params = ek ∙ sym (ap (λ (z : FuncType). length z.params) u) in
       let kr : bit g ≡ length (or_empty (slice_get v.around.funcs x)).results = eg ∙ sym (ap (λ (z : FuncType). length z.results) u) in
       let few = (small.funcs x).results in
-      let ch : (mids : List ValType) → Takes (sig v.around v.labels (call x)) v.own mids → Changed k (bit g) (all_of v) (mids ++ v.under) = (λ mids h. subst (λ z. Changed z (bit g) (all_of v) (mids ++ v.under)) (sym kp) (subst (λ z. Changed (length (or_empty (slice_get v.around.funcs x)).params) z (all_of v) (mids ++ v.under)) (sym kr) (call_changed (slice_get v.around.funcs x) v.own mids v.under few h))) in
+      let ch : (mids : List ValType) → Takes (sig v.around v.labels (call x)) v.own mids
+      → Changed k (bit g) (all_of v) (mids ++ v.under) = (λ mids h. subst (λ z. Changed z (bit g) (all_of v) (mids ++ v.under)) (sym kp)
+      (subst (λ z. Changed (length (or_empty (slice_get v.around.funcs x)).params) z (all_of v) (mids ++ v.under)) (sym kr)
+      (call_changed (slice_get v.around.funcs x) v.own mids v.under few h))) in
       let can = taken v i (call x) is typed in
       record {
         call = call x;
@@ -75,17 +80,22 @@ module _ (v : Walk) (i : Instr) (x : ℕ) (typed : TypedAt v (in_front i done)) 
         goes_on = refl;
         there = (ch can.0 can.1).there;
         changed = ch;
-        flat_is = λ behind rest. ap (λ z. calls (plain (call x) done) (reverse (slots n (all_of v))) z (top_of n (length (or_empty (slice_get v.around.funcs x)).results) behind) rest) (sym kp) ∙ ap (λ z. calls (plain (call x) done) (reverse (slots n (all_of v))) k (top_of n z behind) rest) (sym kr);
+        flat_is = λ behind rest. ap (λ z. calls (plain (call x) done) (reverse (slots n (all_of v))) z (top_of n (length (or_empty (slice_get v.around.funcs x)).results) behind) rest)
+            (sym kp) ∙ ap (λ z. calls (plain (call x) done) (reverse (slots n (all_of v))) k (top_of n z behind) rest) (sym kr);
       }
 
-  pub indirect_at : (n : Names) (t : FuncType) (k : ℕ) (g : Bool) → i ≡ CallIndirect x → slice_get v.around.types x ≡ Some t → SmallTypes v.around → k ≡ suc (length t.params) → bit g ≡ length t.results → CallAt n v i k g
+  pub indirect_at : (n : Names) (t : FuncType) (k : ℕ) (g : Bool) → i ≡ CallIndirect x → slice_get v.around.types x ≡ Some t → SmallTypes v.around → k ≡ suc (length t.params)
+      → bit g ≡ length t.results → CallAt n v i k g
   indirect_at n t k g e et small ek eg =
       let is = is_call_indirect i x e in
       let u : or_empty (slice_get v.around.types x) ≡ t = ap or_empty et in
       let kp : k ≡ suc (length (or_empty (slice_get v.around.types x)).params) = ek ∙ sym (ap (λ (z : FuncType). suc (length z.params)) u) in
       let kr : bit g ≡ length (or_empty (slice_get v.around.types x)).results = eg ∙ sym (ap (λ (z : FuncType). length z.results) u) in
       let few = (small.sorts x).results in
-      let ch : (mids : List ValType) → Takes (sig v.around v.labels (call_indirect x)) v.own mids → Changed k (bit g) (all_of v) (mids ++ v.under) = (λ mids h. subst (λ z. Changed z (bit g) (all_of v) (mids ++ v.under)) (sym kp) (subst (λ z. Changed (suc (length (or_empty (slice_get v.around.types x)).params)) z (all_of v) (mids ++ v.under)) (sym kr) (table_changed v.around.table (slice_get v.around.types x) v.own mids v.under few h))) in
+      let ch : (mids : List ValType) → Takes (sig v.around v.labels (call_indirect x)) v.own mids
+      → Changed k (bit g) (all_of v) (mids ++ v.under) = (λ mids h. subst (λ z. Changed z (bit g) (all_of v) (mids ++ v.under)) (sym kp)
+      (subst (λ z. Changed (suc (length (or_empty (slice_get v.around.types x)).params)) z (all_of v) (mids ++ v.under)) (sym kr)
+      (table_changed v.around.table (slice_get v.around.types x) v.own mids v.under few h))) in
       let can = taken v i (call_indirect x) is typed in
       record {
         call = call_indirect x;
@@ -93,7 +103,9 @@ module _ (v : Walk) (i : Instr) (x : ℕ) (typed : TypedAt v (in_front i done)) 
         goes_on = refl;
         there = (ch can.0 can.1).there;
         changed = ch;
-        flat_is = λ behind rest. ap (λ z. calls (plain (call_indirect x) done) (reverse (slots n (all_of v))) z (top_of n (length (or_empty (slice_get v.around.types x)).results) behind) rest) (sym kp) ∙ ap (λ z. calls (plain (call_indirect x) done) (reverse (slots n (all_of v))) k (top_of n z behind) rest) (sym kr);
+        flat_is = λ behind rest. ap (λ z. calls (plain (call_indirect x) done) (reverse (slots n (all_of v))) z
+            (top_of n (length (or_empty (slice_get v.around.types x)).results) behind) rest) (sym kp)
+            ∙ ap (λ z. calls (plain (call_indirect x) done) (reverse (slots n (all_of v))) k (top_of n z behind) rest) (sym kr);
       }
 
 -- whether a type has a result

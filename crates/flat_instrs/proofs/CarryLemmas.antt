@@ -16,10 +16,12 @@ use Rattle.flat_instrs.proofs.OntoLemmas.{onto_more}
 pub from_end : (xs : List (Option ℕ)) (l : ℕ) (d : Option ℕ) → l < length xs → slice_get (reverse xs) l ≡ Some (get_or xs (length xs - 1 - l) d)
 from_end xs l d lt = (let m : l < length (reverse xs) = omega (arith, length-reverse xs) in slice_get-get_or (reverse xs) l d m) ∙ ap Some (get_or-reverse xs l d lt)
 
-pub carry_none : (old : List Stmt) (xs : List (Option ℕ)) (l from : ℕ) (d : Option ℕ) (rest : Stmts) → l < length xs → get_or xs (length xs - 1 - l) d ≡ None → onto_stmts old rest ≡ onto_stmts old (carried_to (slice_get (reverse xs) l) from rest)
+pub carry_none : (old : List Stmt) (xs : List (Option ℕ)) (l from : ℕ) (d : Option ℕ) (rest : Stmts) → l < length xs → get_or xs (length xs - 1 - l) d ≡ None
+    → onto_stmts old rest ≡ onto_stmts old (carried_to (slice_get (reverse xs) l) from rest)
 carry_none old xs l from d rest lt e = ap (λ o. onto_stmts old (carried_to o from rest)) (sym (from_end xs l d lt ∙ ap (λ o. Some o) e))
 
-pub carry_some : (old new : List Stmt) (xs : List (Option ℕ)) (l from to : ℕ) (d : Option ℕ) (rest : Stmts) → l < length xs → get_or xs (length xs - 1 - l) d ≡ Some to → new ≡ old ++ Move to (Local from) ∷ [] → onto_stmts new rest ≡ onto_stmts old (carried_to (slice_get (reverse xs) l) from rest)
+pub carry_some : (old new : List Stmt) (xs : List (Option ℕ)) (l from to : ℕ) (d : Option ℕ) (rest : Stmts) → l < length xs → get_or xs (length xs - 1 - l) d ≡ Some to
+    → new ≡ old ++ Move to (Local from) ∷ [] → onto_stmts new rest ≡ onto_stmts old (carried_to (slice_get (reverse xs) l) from rest)
 unfolding stmt_in_front
 carry_some old new xs l from to d rest lt e f =
     ap (λ z. onto_stmts z rest) f ∙ onto_more old (Move to (Local from)) rest ∙ ap (λ o. onto_stmts old (carried_to o from rest)) (sym (from_end xs l d lt ∙ ap (λ o. Some o) e))
@@ -47,7 +49,8 @@ locals_long n (r ∷ ls) = ap suc (locals_long n ls)
 
 module _ (locals : List (Option ℕ)) (from : ℕ) (old : List Stmt) (all : List ℕ) where
   pub carries_step : (now new : List Stmt) (i j : ℕ) (k : Stmts) → i < length all → j ≡ get_or all i j → ((k : Stmts) → onto_stmts new k ≡ onto_stmts now (carried_to (slice_get locals j) from k))
-      → ((k : Stmts) → onto_stmts now (all_carried locals (drop i all) from k) ≡ onto_stmts old (all_carried locals all from k)) → onto_stmts new (all_carried locals (drop (i + 1) all) from k) ≡ onto_stmts old (all_carried locals all from k)
+      → ((k : Stmts) → onto_stmts now (all_carried locals (drop i all) from k) ≡ onto_stmts old (all_carried locals all from k))
+      → onto_stmts new (all_carried locals (drop (i + 1) all) from k) ≡ onto_stmts old (all_carried locals all from k)
   carries_step now new i j k lt e h before =
       h (all_carried locals (drop (i + 1) all) from k)
       ∙ ap (λ z. onto_stmts now (carried_to (slice_get locals z) from (all_carried locals (drop (i + 1) all) from k))) e
@@ -55,5 +58,6 @@ module _ (locals : List (Option ℕ)) (from : ℕ) (old : List Stmt) (all : List
       ∙ ap (λ z. onto_stmts now (all_carried locals z from k)) (sym (drop-cons all i j lt))
       ∙ before k
 
-  pub carries_end : (now : List Stmt) (i : ℕ) (k : Stmts) → length all ≤ i → ((k : Stmts) → onto_stmts now (all_carried locals (drop i all) from k) ≡ onto_stmts old (all_carried locals all from k)) → onto_stmts now k ≡ onto_stmts old (all_carried locals all from k)
+  pub carries_end : (now : List Stmt) (i : ℕ) (k : Stmts) → length all ≤ i → ((k : Stmts)
+      → onto_stmts now (all_carried locals (drop i all) from k) ≡ onto_stmts old (all_carried locals all from k)) → onto_stmts now k ≡ onto_stmts old (all_carried locals all from k)
   carries_end now i k le before = sym (ap (λ z. onto_stmts now (all_carried locals z from k)) (drop_all i all le)) ∙ before k

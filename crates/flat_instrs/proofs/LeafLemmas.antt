@@ -37,12 +37,14 @@ module _ (n : Names) (v w : Walk) (i : Instr) (p : Plain) (is : (rest : Code) �
   behind e = after_all v.around v.labels p v.own w.own v.under (all_of v) e moved refl ∙ ap (λ z. w.own ++ z) (sym st.under)
 
   -- what is put for one instruction, before the rest
-  pub emits : is_last p ≡ false → (old new : List Stmt) → ((k : Stmts) → onto_stmts new k ≡ onto_stmts old (flat_plain n v.around v.labels (all_of v) (all_of w) p k)) → (rest : Code) → onto_stmts new (flat_at n w rest) ≡ onto_stmts old (flat_at n v (in_front i rest))
+  pub emits : is_last p ≡ false → (old new : List Stmt) → ((k : Stmts) → onto_stmts new k ≡ onto_stmts old (flat_plain n v.around v.labels (all_of v) (all_of w) p k)) → (rest : Code)
+      → onto_stmts new (flat_at n w rest) ≡ onto_stmts old (flat_at n v (in_front i rest))
   unfolding flat
   emits e old new h rest =
       ap (λ c. onto_stmts new (flat n c w.labels rest (all_of w))) st.around ∙ ap (λ ls. onto_stmts new (flat n v.around ls rest (all_of w))) st.labels
       ∙ h (flat n v.around v.labels rest (all_of w))
-      ∙ sym (ap (λ k. onto_stmts old (flat n v.around v.labels k (all_of v))) (is rest) ∙ ap (λ b. onto_stmts old (flat_plain n v.around v.labels (all_of v) b p (flat n v.around v.labels rest b))) (behind e))
+      ∙ sym (ap (λ k. onto_stmts old (flat n v.around v.labels k (all_of v))) (is rest)
+      ∙ ap (λ b. onto_stmts old (flat_plain n v.around v.labels (all_of v) b p (flat n v.around v.labels rest b))) (behind e))
 
 pub is_get : (i : Instr) (x : ℕ) → i ≡ LocalGet x → (rest : Code) → in_front i rest ≡ plain (local_get x) rest
 unfolding in_front
@@ -67,15 +69,21 @@ get_below n v w ss None t u h = absurd t
 get_below n v w ss (Some k) t u h =
     (k, t.0 ++ v.under, ap (λ z. z ++ w.under) t.2 ∙ ap (λ z. k ∷ (t.0 ++ z)) u, h ∙ ap (λ z. slots n (z ++ v.under)) t.1)
 
-pub copied : (n : Names) (old new : List Stmt) (to x : ℕ) (ops : List ValType) (k : Stmts) → new ≡ old ++ Move to (Local x) ∷ [] → to ≡ top n ops → onto_stmts new k ≡ onto_stmts old (copies (top n ops) (Local x) k)
+pub copied : (n : Names) (old new : List Stmt) (to x : ℕ) (ops : List ValType) (k : Stmts) → new ≡ old ++ Move to (Local x) ∷ [] → to ≡ top n ops
+    → onto_stmts new k ≡ onto_stmts old (copies (top n ops) (Local x) k)
 unfolding stmt_in_front
 copied n old new to x ops k e f = ap (λ z. onto_stmts z k) e ∙ onto_more old (Move to (Local x)) k ∙ ap (λ y. onto_stmts old (copies y (Local x) k)) f
 
 -- what is known behind an instruction
 pub put_is : (n : Names) (a b : Position) (i : Instr) (old new : List Stmt) (w : Walk) → Ready n a → Stays a.typing w → Types a.typing.around a.typing.labels (in_front i done) w.own a.typing.own
-    → ((rest : Code) → onto_stmts new (flat_at n w rest) ≡ onto_stmts old (flat_at n a.typing (in_front i rest))) → b.typing ≡ w → b.labels.items ≡ a.labels.items → reverse b.slots.items ≡ slots n (all_of w) → Put n a b i old new
+    → ((rest : Code) → onto_stmts new (flat_at n w rest) ≡ onto_stmts old (flat_at n a.typing (in_front i rest))) → b.typing ≡ w → b.labels.items ≡ a.labels.items
+    → reverse b.slots.items ≡ slots n (all_of w) → Put n a b i old new
 put_is n a b i old new w r st ty em e l h = record {
-  ready = record { held = h ∙ ap (λ (v : Walk). slots n (all_of v)) (sym e); labels = ap reverse l ∙ r.labels ∙ ap (label_locals n) (sym st.labels) ∙ ap (λ (v : Walk). label_locals n v.labels) (sym e) };
+  ready = record {
+    held = h ∙ ap (λ (v : Walk). slots n (all_of v)) (sym e);
+    labels = ap reverse l ∙ r.labels ∙ ap (label_locals n) (sym st.labels)
+        ∙ ap (λ (v : Walk). label_locals n v.labels) (sym e);
+  };
   stays = subst (Stays a.typing) (sym e) st;
   typed = subst (λ (v : Walk). Types a.typing.around a.typing.labels (in_front i done) v.own a.typing.own) (sym e) ty;
   emits = λ rest. subst (λ (v : Walk). onto_stmts new (flat_at n v rest) ≡ onto_stmts old (flat_at n a.typing (in_front i rest))) (sym e) (em rest);
@@ -83,7 +91,8 @@ put_is n a b i old new w r st ty em e l h = record {
 
 -- ---- operands that are taken
 
-pub copied_from : (n : Names) (old new : List Stmt) (x from : ℕ) (ops : List ValType) (k : Stmts) → new ≡ old ++ Move x (Local from) ∷ [] → from ≡ top n ops → onto_stmts new k ≡ onto_stmts old (copies x (Local (top n ops)) k)
+pub copied_from : (n : Names) (old new : List Stmt) (x from : ℕ) (ops : List ValType) (k : Stmts) → new ≡ old ++ Move x (Local from) ∷ [] → from ≡ top n ops
+    → onto_stmts new k ≡ onto_stmts old (copies x (Local (top n ops)) k)
 unfolding stmt_in_front
 copied_from n old new x from ops k e f = ap (λ z. onto_stmts z k) e ∙ onto_more old (Move x (Local from)) k ∙ ap (λ y. onto_stmts old (copies x (Local y) k)) f
 
@@ -127,16 +136,21 @@ unfolding in_front
 is_br_if i l e rest = ap (λ j. in_front j rest) e
 
 pub branched_if : (n : Names) (ls : List (Option ValType)) (locals : List (Option ℕ)) (old mid new : List Stmt) (condition l from : ℕ) (ops : List ValType) (k : Stmts) → locals ≡ label_locals n ls
-    → ((rest : Stmts) → onto_stmts mid rest ≡ onto_stmts old (carried_to (slice_get locals l) from rest)) → new ≡ mid ++ JumpIf (Local condition) l ∷ [] → condition ≡ top n ops → from ≡ top n (drop 1 ops)
+    → ((rest : Stmts) → onto_stmts mid rest ≡ onto_stmts old (carried_to (slice_get locals l) from rest)) → new ≡ mid ++ JumpIf (Local condition) l ∷ [] → condition ≡ top n ops
+    → from ≡ top n (drop 1 ops)
     → onto_stmts new k ≡ onto_stmts old (carry n ls (drop 1 ops) l (leaps_if (Local (top n ops)) l k))
 unfolding stmt_in_front
 branched_if n ls locals old mid new condition l from ops k el h e ec ef =
-    ap (λ z. onto_stmts z k) e ∙ onto_more mid (JumpIf (Local condition) l) k ∙ h (leaps_if (Local condition) l k) ∙ ap (λ y. onto_stmts old (carried_to (slice_get locals l) from (leaps_if (Local y) l k))) ec
-    ∙ ap (λ y. onto_stmts old (carried_to (slice_get locals l) y (leaps_if (Local (top n ops)) l k))) ef ∙ ap (λ xs. onto_stmts old (carried_to (slice_get xs l) (top n (drop 1 ops)) (leaps_if (Local (top n ops)) l k))) el
+    ap (λ z. onto_stmts z k) e ∙ onto_more mid (JumpIf (Local condition) l) k ∙ h (leaps_if (Local condition) l k)
+    ∙ ap (λ y. onto_stmts old (carried_to (slice_get locals l) from (leaps_if (Local y) l k))) ec
+    ∙ ap (λ y. onto_stmts old (carried_to (slice_get locals l) y (leaps_if (Local (top n ops)) l k))) ef
+    ∙ ap (λ xs. onto_stmts old (carried_to (slice_get xs l) (top n (drop 1 ops)) (leaps_if (Local (top n ops)) l k))) el
     ∙ ap (onto_stmts old) (carry_is n ls (drop 1 ops) l (leaps_if (Local (top n ops)) l k))
 
-pub computed_is : (n : Names) (b : Basic) (old new : List Stmt) (op : Instr) (args : Vec Operand Global) (to : Option ℕ) (ops behind : List ValType) (k : Stmts) → ((rest : Code) → in_front op rest ≡ plain (basic b) rest) → new ≡ old ++ Computes op args to ∷ []
-    → args.items ≡ map Local (reverse (take (takes b) (slots n ops))) → to ≡ top_of n (gives b) behind → onto_stmts new k ≡ onto_stmts old (computes (plain (basic b) done) (map Local (reverse (take (takes b) (slots n ops)))) (top_of n (gives b) behind) k)
+pub computed_is : (n : Names) (b : Basic) (old new : List Stmt) (op : Instr) (args : Vec Operand Global) (to : Option ℕ) (ops behind : List ValType) (k : Stmts)
+    → ((rest : Code) → in_front op rest ≡ plain (basic b) rest) → new ≡ old ++ Computes op args to ∷ []
+    → args.items ≡ map Local (reverse (take (takes b) (slots n ops))) → to ≡ top_of n (gives b) behind
+    → onto_stmts new k ≡ onto_stmts old (computes (plain (basic b) done) (map Local (reverse (take (takes b) (slots n ops)))) (top_of n (gives b) behind) k)
 unfolding stmt_in_front
 computed_is n b old new op args to ops behind k eo e ea et =
     ap (λ z. onto_stmts z k) e ∙ onto_more old (Computes op args to) k ∙ ap (λ z. onto_stmts old (computes z args.items to k)) (eo done)

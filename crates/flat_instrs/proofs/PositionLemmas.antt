@@ -13,7 +13,8 @@ last_of types rest t d e =
     let all : types ≡ front ++ t ∷ [] = sym (reverse-reverse types) ∙ ap reverse e ∙ reverse-append (t ∷ []) rest in
     let at : length types - 1 ≡ length front = omega (arith, ap length e, length-reverse types, length-reverse rest) in
     let zero : length front - length front ≡ 0 = omega arith in
-    ap (λ k. get_or types k d) at ∙ ap (λ ts. get_or ts (length front) d) all ∙ get_or-append_right front (t ∷ []) (length front) (length front) d refl (omega arith) ∙ ap (λ k. get_or (t ∷ []) k d) zero
+    ap (λ k. get_or types k d) at ∙ ap (λ ts. get_or ts (length front) d) all ∙ get_or-append_right front (t ∷ []) (length front) (length front) d refl (omega arith)
+    ∙ ap (λ k. get_or (t ∷ []) k d) zero
 
 pub last_type : (types rest : List ValType) (t d : ValType) → reverse types ≡ t ∷ rest → get_or types (length types - 1) d ≡ t
 last_type types rest t d e = last_of types rest t d e

@@ -1,5 +1,6 @@
 -- What instructions take of all operands, and what they give.
-use Rattle.std.proofs.Common.{◌≡◌, ℕ, zero, suc, ◌+◌, ◌-◌, ◌≤◌, ◌++◌, List, [], ◌∷◌, length, reverse, take, drop, slice_get, Option, Some, None, Bool, true, false, refl, subst, arith, ap, sym, ◌∙◌, length-append, length-drop}
+use Rattle.std.proofs.Common.{◌≡◌, ℕ, zero, suc, ◌+◌, ◌-◌, ◌≤◌, ◌++◌, List, [], ◌∷◌, length, reverse, take, drop, slice_get, Option, Some, None, Bool, true, false, refl, subst, arith, ap}
+use Rattle.std.proofs.Common.{sym, ◌∙◌, length-append, length-drop}
 use Rattle.std.proofs.lemmas.List.{append_assoc, length-reverse, reverse-append, reverse-reverse, take-append-drop}
 use Rattle.std.proofs.Math.Seq.{drop-append_seam}
 use Rattle.wa_types.specs.declared.values.ValType.{ValType}
@@ -53,12 +54,14 @@ by_results ps own mids under [] le h = moved ps own mids under h
 by_results ps own mids under (r ∷ []) le h = moved_one ps own mids under r h
 by_results ps own mids under (r ∷ s ∷ rs) le h = absurd (omega arith)
 
-pub call_changed : (o : Option FuncType) (own mids under : List ValType) → length (or_empty o).results ≤ 1 → Takes (calls o) own mids → Changed (length (or_empty o).params) (length (or_empty o).results) (own ++ under) (mids ++ under)
+pub call_changed : (o : Option FuncType) (own mids under : List ValType) → length (or_empty o).results ≤ 1 → Takes (calls o) own mids
+    → Changed (length (or_empty o).params) (length (or_empty o).results) (own ++ under) (mids ++ under)
 call_changed None own mids under le h = absurd h
 call_changed (Some t) own mids under le h =
     subst (λ k. Changed k (length t.results) (own ++ under) (mids ++ under)) (length-reverse t.params) (by_results (reverse t.params) own mids under t.results le h)
 
-pub table_changed : (table : Bool) (o : Option FuncType) (own mids under : List ValType) → length (or_empty o).results ≤ 1 → Takes (calls_at table o) own mids → Changed (suc (length (or_empty o).params)) (length (or_empty o).results) (own ++ under) (mids ++ under)
+pub table_changed : (table : Bool) (o : Option FuncType) (own mids under : List ValType) → length (or_empty o).results ≤ 1 → Takes (calls_at table o) own mids
+    → Changed (suc (length (or_empty o).params)) (length (or_empty o).results) (own ++ under) (mids ++ under)
 table_changed table None own mids under le h = absurd h
 table_changed false (Some t) own mids under le h = absurd h
 table_changed true (Some t) own mids under le h =

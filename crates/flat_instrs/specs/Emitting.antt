@@ -26,6 +26,7 @@ onto_stmts (i ∷ is) rest = stmt_in_front i (onto_stmts is rest)
 abbrev pub all_of : Walk → List ValType
 all_of w = w.own ++ w.under
 
+-- the result local of a construct at a depth, where it has a result
 abbrev pub result_at : Names → (depth : ℕ) → Option ValType → Option ℕ
 result_at n d None = None
 result_at n d (Some t) = Some (result_local n d t)
@@ -70,6 +71,7 @@ pub record SmallType (t : FuncType) : Type 0 where
   pub params : length t.params < 2 ^ 31
   pub results : length t.results ≤ 1
 
+-- All function types around are such.
 pub record SmallTypes (c : Around) : Type 0 where
   pub funcs : (x : ℕ) → SmallType (or_empty (slice_get c.funcs x))
   pub sorts : (x : ℕ) → SmallType (or_empty (slice_get c.types x))
@@ -79,6 +81,7 @@ abbrev pub all_carried : List (Option ℕ) → (targets : List ℕ) → (from : 
 all_carried locals [] from rest = rest
 all_carried locals (l ∷ targets) from rest = carried_to (slice_get locals l) from (all_carried locals targets from rest)
 
+-- the first of a list, else 0
 abbrev pub first_or : List ℕ → ℕ
 first_or [] = 0
 first_or (x ∷ xs) = x
@@ -120,7 +123,8 @@ pub record CallAt (n : Names) (v : Walk) (i : Instr) (taken : ℕ) (given : Bool
   pub goes_on : is_last call ≡ false
   pub there : taken ≤ length (all_of v)
   pub changed : (mids : List ValType) → Takes (sig v.around v.labels call) v.own mids → Changed taken (bit given) (all_of v) (mids ++ v.under)
-  pub flat_is : (behind : List ValType) (rest : Stmts) → flat_plain n v.around v.labels (all_of v) behind call rest ≡ calls (plain call done) (reverse (slots n (all_of v))) taken (top_of n (bit given) behind) rest
+  pub flat_is : (behind : List ValType) (rest : Stmts) → flat_plain n v.around v.labels (all_of v) behind call rest
+      ≡ calls (plain call done) (reverse (slots n (all_of v))) taken (top_of n (bit given) behind) rest
 
 -- ---- constructs
 
@@ -139,14 +143,19 @@ pub record Closed (n : Names) (given : Option ValType) (p q : Position) (old new
   pub now : HeldToo n p q
   pub puts : (rest : List ValType) (k : Stmts) → all_of p.typing ≡ listed given ++ rest → onto_stmts new k ≡ onto_stmts old (arrive n (length p.labels.items) given rest k)
 
+-- a block is put, and what goes behind it
 pub record PutBlock (n : Names) (given : Option ValType) (inner : List Stmt) (p q : Position) (old new : List Stmt) : Type 0 where
   pub now : HeldToo n p q
-  pub puts : (rest : List ValType) (k : Stmts) → all_of p.typing ≡ listed given ++ rest → onto_stmts new k ≡ onto_stmts old (nests a_block (stmts inner) (arrive n (length p.labels.items) given rest k))
+  pub puts : (rest : List ValType) (k : Stmts) → all_of p.typing ≡ listed given ++ rest
+      → onto_stmts new k ≡ onto_stmts old (nests a_block (stmts inner) (arrive n (length p.labels.items) given rest k))
 
+-- a loop is put
 pub record PutLoop (n : Names) (inner : List Stmt) (p q : Position) (old new : List Stmt) : Type 0 where
   pub now : HeldToo n p q
   pub puts : (k : Stmts) → onto_stmts new k ≡ onto_stmts old (nests a_loop (stmts inner) k)
 
+-- an if is put, and what goes behind it
 pub record PutIf (n : Names) (given : Option ValType) (condition : ℕ) (then_arm else_arm : List Stmt) (p q : Position) (old new : List Stmt) : Type 0 where
   pub now : HeldToo n p q
-  pub puts : (rest : List ValType) (k : Stmts) → all_of p.typing ≡ listed given ++ rest → onto_stmts new k ≡ onto_stmts old (decides (Local condition) (stmts then_arm) (stmts else_arm) (arrive n (length p.labels.items) given rest k))
+  pub puts : (rest : List ValType) (k : Stmts) → all_of p.typing ≡ listed given ++ rest
+      → onto_stmts new k ≡ onto_stmts old (decides (Local condition) (stmts then_arm) (stmts else_arm) (arrive n (length p.labels.items) given rest k))

@@ -1,3 +1,5 @@
+//! Accesses of locals, `br_if`, and the instructions that touch neither control nor locals, in flat form.
+
 ghost use Rattle.std.specs.Prelude.{◌≡◌, ◌≤◌, drop, length, map, reverse, take, None, Some, IfOk, MatchOption, OnOk};
 ghost use Rattle.wa_types.specs.Syntax.{done, Basic};
 ghost use Rattle.wa_types.specs.View.{in_front};

@@ -1,3 +1,5 @@
+//! Where flattening stands in a body: the slots of the operands, and the result locals of the labels.
+
 ghost use Rattle.std.specs.Prelude.{◌≡◌, ◌<◌, ◌++◌, ◌∷◌, [], drop, length, reverse, slice_get, IfOk, OnOk};
 ghost use Rattle.flat_laws.specs.Flatten.{top};
 ghost use Rattle.flat_instrs.specs.Emitting.{all_of, carried_to, first_or, onto_stmts, HoldsBelow};

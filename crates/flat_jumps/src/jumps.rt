@@ -1,3 +1,5 @@
+//! `br`, `br_table`, `return` and `unreachable` in flat form.
+
 ghost use Rattle.std.specs.Prelude.{◌≡◌, ◌<◌, ◌^◌, All, length, reverse, true, OnOk};
 ghost use Rattle.wa_types.specs.Pruned.{is_last_instr};
 ghost use Rattle.wa_types.specs.Syntax.{done};

@@ -64,18 +64,23 @@ module _ (n : Names) (c : Around) where
   deep_plain ls ops behind (br l) rest = let e = deep_carry n (length ls - suc l) (slice_get ls l) ops (leaps l no_more) in omega arith
   deep_plain ls ops behind (br_if l) rest = let e = deep_carry n (length ls - suc l) (slice_get ls l) (drop 1 ops) (leaps_if (Local (top n ops)) l rest) in omega arith
   deep_plain ls ops behind (br_table ts l) rest =
-      let e = deep_carries n ls (drop 1 ops) ts (carry n ls (drop 1 ops) l (leaps_by (Local (top n ops)) ts l no_more)) in let e2 = deep_carry n (length ls - suc l) (slice_get ls l) (drop 1 ops) (leaps_by (Local (top n ops)) ts l no_more) in omega arith
+      let e = deep_carries n ls (drop 1 ops) ts (carry n ls (drop 1 ops) l (leaps_by (Local (top n ops)) ts l no_more)) in let e2 =
+      deep_carry n (length ls - suc l) (slice_get ls l) (drop 1 ops) (leaps_by (Local (top n ops)) ts l no_more) in omega arith
   deep_plain ls ops behind return rest = let e = deep_carry n (length ls - suc (length ls - 1)) (slice_get ls (length ls - 1)) ops (leaps (length ls - 1) no_more) in omega arith
   deep_plain ls ops behind unreachable rest = omega arith
-  deep_plain ls ops behind (call x) rest = let t : FuncType = or_empty (slice_get c.funcs x) in let e = deep_calls (call x) (reverse (slots n ops)) (length t.params) (top_of n (length t.results) behind) rest in omega arith
-  deep_plain ls ops behind (call_indirect t) rest = let u : FuncType = or_empty (slice_get c.types t) in let e = deep_calls (call_indirect t) (reverse (slots n ops)) (suc (length u.params)) (top_of n (length u.results) behind) rest in omega arith
+  deep_plain ls ops behind (call x) rest = let t : FuncType = or_empty (slice_get c.funcs x) in let e =
+      deep_calls (call x) (reverse (slots n ops)) (length t.params) (top_of n (length t.results) behind) rest in omega arith
+  deep_plain ls ops behind (call_indirect t) rest = let u : FuncType = or_empty (slice_get c.types t) in let e =
+      deep_calls (call_indirect t) (reverse (slots n ops)) (suc (length u.params)) (top_of n (length u.results) behind) rest in omega arith
 
   pub deep_flat : (ls : List (Option ValType)) (code : Code) (ops : List ValType) → depth_of (code_of (flat n c ls code ops)) ≤ depth_of code
   unfolding flat code_of depth_of
   deep_flat ls done ops = let e = deep_carry n (length ls - 1) (slice_get ls 0) ops no_more in omega arith
-  deep_flat ls (plain i rest) ops = let a = deep_plain ls ops (after (sig c ls i) ops) i (flat n c ls rest (after (sig c ls i) ops)) in let b = deep_flat ls rest (after (sig c ls i) ops) in omega arith
+  deep_flat ls (plain i rest) ops = let a = deep_plain ls ops (after (sig c ls i) ops) i (flat n c ls rest (after (sig c ls i) ops)) in let b = deep_flat ls rest (after (sig c ls i) ops)
+      in omega arith
   deep_flat ls (nest s r body rest) ops =
-      let a = deep_flat (label s r ∷ ls) body ops in let b = deep_flat ls rest (listed r ++ ops) in let d = deep_arrive n (length ls) (label s r) ops (flat n c ls rest (listed r ++ ops)) in omega arith
+      let a = deep_flat (label s r ∷ ls) body ops in let b = deep_flat ls rest (listed r ++ ops) in let d = deep_arrive n (length ls) (label s r) ops (flat n c ls rest (listed r ++ ops))
+      in omega arith
   deep_flat ls (branch r a b rest) ops =
       let da = deep_flat (r ∷ ls) a (drop 1 ops) in let db = deep_flat (r ∷ ls) b (drop 1 ops) in let dr = deep_flat ls rest (listed r ++ drop 1 ops) in
       let d = deep_arrive n (length ls) r (drop 1 ops) (flat n c ls rest (listed r ++ drop 1 ops)) in omega arith

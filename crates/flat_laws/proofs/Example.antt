@@ -55,18 +55,22 @@ m = record {
 one_is : (flattened m 0 one).body ≡
     computes (plain (basic (const (V.I32 5))) done) [] (Some 1)
     (nests a_block
-    (copies 2 (Local 0) (copies 3 (Local 0) (copies 5 (Local 2) (leaps_if (Local 3) 0 (computes (plain (basic drop) done) (Local 2 ∷ []) None (computes (plain (basic (const (V.I32 1))) done) [] (Some 2) (copies 5 (Local 2) no_more)))))))
+    (copies 2 (Local 0) (copies 3 (Local 0)
+    (copies 5 (Local 2) (leaps_if (Local 3) 0 (computes (plain (basic drop) done) (Local 2 ∷ []) None
+    (computes (plain (basic (const (V.I32 1))) done) [] (Some 2) (copies 5 (Local 2) no_more)))))))
     (copies 2 (Local 5) (computes (plain (basic (num I32Add)) done) (Local 1 ∷ Local 2 ∷ []) (Some 1) (copies 4 (Local 1) no_more))))
 unfolding flat points pruned results_in depth_of
 one_is = refl
 
 two_is : (flattened m 1 two).body ≡
     copies 1 (Local 0)
-    (decides (Local 1) (copies 1 (Local 0) (copies 4 (Local 1) no_more)) (computes (plain (basic (const (V.I32 2))) done) [] (Some 1) (calls (plain (call 0) done) (1 ∷ []) 1 (Some 1) (copies 4 (Local 1) no_more)))
+    (decides (Local 1) (copies 1 (Local 0) (copies 4 (Local 1) no_more)) (computes (plain (basic (const (V.I32 2))) done) [] (Some 1)
+    (calls (plain (call 0) done) (1 ∷ []) 1 (Some 1) (copies 4 (Local 1) no_more)))
     (copies 1 (Local 4)
     (decides (Local 1)
     (computes (plain (basic (const (V.I32 9))) done) [] (Some 1) (copies 2 (Local 0) (copies 4 (Local 1) (copies 3 (Local 1) (leaps_by (Local 2) (0 ∷ []) 1 no_more)))))
-    (computes (plain (basic (const (V.I32 3))) done) [] (Some 1) (copies 2 (Local 0) (calls (plain (call 0) done) (1 ∷ 2 ∷ []) 1 (Some 2) (computes (plain (basic (num I32Add)) done) (Local 1 ∷ Local 2 ∷ []) (Some 1) (copies 4 (Local 1) no_more)))))
+    (computes (plain (basic (const (V.I32 3))) done) [] (Some 1) (copies 2 (Local 0) (calls (plain (call 0) done) (1 ∷ 2 ∷ []) 1 (Some 2)
+    (computes (plain (basic (num I32Add)) done) (Local 1 ∷ Local 2 ∷ []) (Some 1) (copies 4 (Local 1) no_more)))))
     (copies 1 (Local 4) (copies 3 (Local 1) no_more)))))
 unfolding flat points pruned results_in depth_of
 two_is = refl

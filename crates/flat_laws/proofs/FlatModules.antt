@@ -108,7 +108,8 @@ module _ (m : Module) where
     pub found : (x : ℕ) → defined_at (flat_module m which) x ≡ option_map (told_as (is_told (slice_get which x)) x) (defined_at m x)
     found x = by (nat_lt x n) refl
       where
-        by : (b : Bool) → nat_lt x n ≡ b → (if b then None else slice_get (flat_module m which).funcs (x - n)) ≡ option_map (told_as (is_told (slice_get which x)) x) (if b then None else slice_get m.funcs (x - n))
+        by : (b : Bool) → nat_lt x n ≡ b → (if b then None else slice_get (flat_module m which).funcs (x - n))
+            ≡ option_map (told_as (is_told (slice_get which x)) x) (if b then None else slice_get m.funcs (x - n))
         by true e = refl
         by false e = let le = ltb-false x n e in func_there (x - n) x (omega arith)
 
@@ -143,7 +144,8 @@ module _ (m : Module) where
   pub valid_is_flattened : (which : List Bool) → Valid m → Flattened m (flat_module m which) which
   valid_is_flattened which v = record {
     valid = v;
-    placed = λ x f e. subst (IsPlaced (is_told (slice_get which x)) m x f) (sym (found which x ∙ ap (option_map (told_as (is_told (slice_get which x)) x)) e)) (is_placed (is_told (slice_get which x)) x f);
+    placed = λ x f e. subst (IsPlaced (is_told (slice_get which x)) m x f) (sym (found which x ∙ ap (option_map (told_as (is_told (slice_get which x)) x)) e))
+        (is_placed (is_told (slice_get which x)) x f);
     none = λ x lt e. found which x ∙ ap (option_map (told_as (is_told (slice_get which x)) x)) e;
     func_type = λ x lt. ap (λ ts. or_empty (slice_get ts x)) (types_stay which);
     sort = λ t lt. refl;
@@ -175,7 +177,8 @@ module _ (m : Module) where
 
     pub flat_stmts_typed : (x : ℕ) (f : Func) → Valid m → defined_at m x ≡ Some f → StmtsTyped (around (flat_module m which) (flat_func m x f)) (None ∷ (around m f).result ∷ []) (flattened m x f).body
     flat_stmts_typed x f v e =
-        subst (λ c. StmtsTyped c (None ∷ (around m f).result ∷ []) (flattened m x f).body) (contexts x f) (body_stmts m f (func_type_small m v) (type_small m v) x (good_func m f v x e) (own_result m f))
+        subst (λ c. StmtsTyped c (None ∷ (around m f).result ∷ []) (flattened m x f).body) (contexts x f)
+        (body_stmts m f (func_type_small m v) (type_small m v) x (good_func m f v x e) (own_result m f))
 
     -- each body of the module
     body_at : (b : Bool) (x i : ℕ) (f g : Func) → Valid m → slice_get m.funcs i ≡ Some f → told_as b x f ≡ g → Typed (around (flat_module m which) g) g.body

@@ -4,12 +4,18 @@ use Rattle.std.proofs.Math.Seq.{drop-append_seam}
 use Rattle.wa_types.specs.declared.values.ValType.{ValType}
 use Rattle.wa_types.specs.declared.values.ValType.TheVariants.{I32}
 use Rattle.wa_types.specs.Accesses.{AccessRow, load_row, store_row}
-use Rattle.wa_types.specs.Syntax.{Basic, nop, drop as drop_operand, select, const, num, global_get, global_set, load, store, memory_size, memory_grow, Plain, basic, local_get, local_set, local_tee, br, br_if, br_table, return, unreachable, call, call_indirect, Code, done, plain, nest, branch, FuncType}
+use Rattle.wa_types.specs.Syntax.{Basic, nop, drop as drop_operand, select, const, num, global_get, global_set, load, store, memory_size, memory_grow, Plain, basic, local_get, local_set}
+use Rattle.wa_types.specs.Syntax.{local_tee, br, br_if, br_table, return, unreachable, call, call_indirect, Code, done, plain, nest, branch, FuncType}
 use Rattle.wa_types.specs.Pruned.{is_last}
-use Rattle.wa_types.specs.Typing.{GlobalType, Around, Sig, moves, leaves, drops, selects, lacks, late, sig, basic_sig, may_jump, calls, calls_at, gets, sets, tees, gets_global, sets_global, accesses, loads, stores, with_memory, Takes}
+use Rattle.wa_types.specs.Typing.{GlobalType, Around, Sig, moves, leaves, drops, selects, lacks, late, sig, basic_sig, may_jump, calls, calls_at, gets, sets, tees, gets_global, sets_global}
+use Rattle.wa_types.specs.Typing.{accesses, loads, stores, with_memory, Takes}
 use Rattle.wa_types.specs.Points.{after}
 use Rattle.wa_types.specs.declared.operators.NumOp.{NumOp}
-use Rattle.wa_types.specs.declared.operators.NumOp.TheVariants.{I32Eqz, I32Eq, I32Ne, I32LtS, I32LtU, I32GtS, I32GtU, I32LeS, I32LeU, I32GeS, I32GeU, I64Eqz, I64Eq, I64Ne, I64LtS, I64LtU, I64GtS, I64GtU, I64LeS, I64LeU, I64GeS, I64GeU, I32Clz, I32Ctz, I32Popcnt, I32Add, I32Sub, I32Mul, I32DivS, I32DivU, I32RemS, I32RemU, I32And, I32Or, I32Xor, I32Shl, I32ShrS, I32ShrU, I32Rotl, I32Rotr, I64Clz, I64Ctz, I64Popcnt, I64Add, I64Sub, I64Mul, I64DivS, I64DivU, I64RemS, I64RemU, I64And, I64Or, I64Xor, I64Shl, I64ShrS, I64ShrU, I64Rotl, I64Rotr, I32WrapI64, I64ExtendI32S, I64ExtendI32U}
+use Rattle.wa_types.specs.declared.operators.NumOp.TheVariants.{I32Eqz, I32Eq, I32Ne, I32LtS, I32LtU, I32GtS, I32GtU, I32LeS, I32LeU, I32GeS, I32GeU, I64Eqz, I64Eq, I64Ne, I64LtS, I64LtU}
+use Rattle.wa_types.specs.declared.operators.NumOp.TheVariants.{I64GtS, I64GtU, I64LeS, I64LeU, I64GeS, I64GeU, I32Clz, I32Ctz, I32Popcnt, I32Add, I32Sub, I32Mul, I32DivS, I32DivU, I32RemS}
+use Rattle.wa_types.specs.declared.operators.NumOp.TheVariants.{I32RemU, I32And, I32Or, I32Xor, I32Shl, I32ShrS, I32ShrU, I32Rotl, I32Rotr, I64Clz, I64Ctz, I64Popcnt, I64Add, I64Sub, I64Mul}
+use Rattle.wa_types.specs.declared.operators.NumOp.TheVariants.{I64DivS, I64DivU, I64RemS, I64RemU, I64And, I64Or, I64Xor, I64Shl, I64ShrS, I64ShrU, I64Rotl, I64Rotr, I32WrapI64}
+use Rattle.wa_types.specs.declared.operators.NumOp.TheVariants.{I64ExtendI32S, I64ExtendI32U}
 use Rattle.wa_types.specs.Operators.{operand_types}
 use Rattle.wa_model.specs.Store.{takes}
 use Rattle.wa_model.proofs.FittingSteps.{takes_above}
@@ -187,7 +193,8 @@ takes_few memory_size = omega arith
 takes_few memory_grow = omega arith
 
 -- what stands behind an instruction, over all operands
-pub after_all : (c : Around) (ls : List (Option ValType)) (p : Plain) (own mids low types : List ValType) → is_last p ≡ false → Takes (sig c ls p) own mids → types ≡ own ++ low → after (sig c ls p) types ≡ mids ++ low
+pub after_all : (c : Around) (ls : List (Option ValType)) (p : Plain) (own mids low types : List ValType) → is_last p ≡ false → Takes (sig c ls p) own mids → types ≡ own ++ low
+    → after (sig c ls p) types ≡ mids ++ low
 after_all c ls p own mids low types e t is = ap (after (sig c ls p)) is ∙ sym (takes_after (sig c ls p) (own ++ low) (mids ++ low) (passes c ls p e) (takes_above (sig c ls p) own mids low t))
 
 pub good_in : (n : Names) (c : Around) (ls : List (Option ValType)) (code : Code) (outs own low : List ValType) → Good n c ls code outs own low → AllIn n (own ++ low)

@@ -69,7 +69,8 @@ module _ (m : Module) (v : Valid m) (x : ℕ) (f : Func) (is : defined_at m x �
       ∙ ap (with_body (SlotPairs m f)) (flat_wider (around m f) (around (Base m) f) (base_wider m f) refl refl (names m f) ((around m f).result ∷ []) f.body (listed (around m f).result) [] [] body_is)
 
   base_extra : extra_types (Base m) f ≡ extra_types m f
-  base_extra = ap (λ ps. map (λ (p : Pair). p.ty) ps ++ map (λ (p : Pair). p.ty) (ResultPairs (Base m) f)) base_slots ∙ ap (λ ps. map (λ (p : Pair). p.ty) (SlotPairs m f) ++ map (λ (p : Pair). p.ty) ps) base_results
+  base_extra = ap (λ ps. map (λ (p : Pair). p.ty) ps ++ map (λ (p : Pair). p.ty) (ResultPairs (Base m) f)) base_slots
+      ∙ ap (λ ps. map (λ (p : Pair). p.ty) (SlotPairs m f) ++ map (λ (p : Pair). p.ty) ps) base_results
 
   base_placed : (b : Bool) (o : Option Func) → IsPlaced b m x f o → IsPlaced b (Base m) x f o
   base_placed false o h = h
@@ -139,7 +140,8 @@ module _ (m : Module) (which : List Bool) (v : Valid m) where
   unfolding Base with_runtime
   runtime_is_flattened = record {
     valid = base_valid m v;
-    placed = λ x f e. subst (IsPlaced (is_told (slice_get which x)) (Base m) x f) (sym (there x (defined_in m x f e))) (base_placed m v x f e (is_told (slice_get which x)) (defined_at p x) (with_flat_there.placed x f e));
+    placed = λ x f e. subst (IsPlaced (is_told (slice_get which x)) (Base m) x f) (sym (there x (defined_in m x f e)))
+        (base_placed m v x f e (is_told (slice_get which x)) (defined_at p x) (with_flat_there.placed x f e));
     none = λ x lt e. there x lt ∙ with_flat_there.none x lt e;
     func_type = func_type_there;
     sort = type_there;

@@ -84,7 +84,8 @@ module _ (m : Module) where
     unfolding code_of followed_by code_weight
     weight_calls i xs k to rest = let a = weight_slots (last_of k xs) (plain i (set_to to (code_of rest))) in let s = weight_set to (code_of rest) in let l = few_last k xs in omega arith
 
-    weight_plain : (ls : List (Option ValType)) (ops behind : List ValType) (i : Plain) (rest : Stmts) (w : ℕ) → wt (code_of rest) ≤ 8 * w + 2 → wt (code_of (flat_plain n c ls ops behind i rest)) ≤ 8 * (plain_weight m i + w) + 2
+    weight_plain : (ls : List (Option ValType)) (ops behind : List ValType) (i : Plain) (rest : Stmts) (w : ℕ) → wt (code_of rest) ≤ 8 * w + 2
+        → wt (code_of (flat_plain n c ls ops behind i rest)) ≤ 8 * (plain_weight m i + w) + 2
     unfolding code_of code_weight
     weight_plain ls ops behind (basic b) rest w le =
         let args : List Operand = map Local (reverse (take (takes b) (slots n ops))) in
@@ -97,18 +98,22 @@ module _ (m : Module) where
     weight_plain ls ops behind (br l) rest w le = let a = weight_carry n ls ops l (leaps l no_more) in omega arith
     weight_plain ls ops behind (br_if l) rest w le = let a = weight_carry n ls (drop 1 ops) l (leaps_if (Local (top n ops)) l rest) in omega arith
     weight_plain ls ops behind (br_table ts l) rest w le =
-        let a = weight_carries n ls (drop 1 ops) ts (carry n ls (drop 1 ops) l (leaps_by (Local (top n ops)) ts l no_more)) in let b = weight_carry n ls (drop 1 ops) l (leaps_by (Local (top n ops)) ts l no_more) in omega arith
+        let a = weight_carries n ls (drop 1 ops) ts (carry n ls (drop 1 ops) l (leaps_by (Local (top n ops)) ts l no_more)) in let b =
+        weight_carry n ls (drop 1 ops) l (leaps_by (Local (top n ops)) ts l no_more) in omega arith
     weight_plain ls ops behind return rest w le = let a = weight_carry n ls ops (length ls - 1) (leaps (length ls - 1) no_more) in omega arith
     weight_plain ls ops behind unreachable rest w le = omega arith
-    weight_plain ls ops behind (call x) rest w le = let a = weight_calls (call x) (reverse (slots n ops)) (length (func_type_at m x).params) (top_of n (length (func_type_at m x).results) behind) rest in omega arith
-    weight_plain ls ops behind (call_indirect t) rest w le = let a = weight_calls (call_indirect t) (reverse (slots n ops)) (suc (length (type_at m t).params)) (top_of n (length (type_at m t).results) behind) rest in omega arith
+    weight_plain ls ops behind (call x) rest w le = let a = weight_calls (call x) (reverse (slots n ops)) (length (func_type_at m x).params)
+        (top_of n (length (func_type_at m x).results) behind) rest in omega arith
+    weight_plain ls ops behind (call_indirect t) rest w le = let a = weight_calls (call_indirect t) (reverse (slots n ops)) (suc (length (type_at m t).params))
+        (top_of n (length (type_at m t).results) behind) rest in omega arith
 
     pub weight_flat : (ls : List (Option ValType)) (code : Code) (ops : List ValType) → wt (code_of (flat n c ls code ops)) ≤ 8 * wt code + 2
     unfolding flat code_of code_weight
     weight_flat ls done ops = weight_carry n ls ops 0 no_more
     weight_flat ls (plain i rest) ops = weight_plain ls ops (after (sig c ls i) ops) i (flat n c ls rest (after (sig c ls i) ops)) (wt rest) (weight_flat ls rest (after (sig c ls i) ops))
     weight_flat ls (nest s r body rest) ops =
-        let a = weight_flat (label s r ∷ ls) body ops in let b = weight_flat ls rest (listed r ++ ops) in let d = weight_arrive n (length ls) (label s r) ops (flat n c ls rest (listed r ++ ops)) in omega arith
+        let a = weight_flat (label s r ∷ ls) body ops in let b = weight_flat ls rest (listed r ++ ops) in let d =
+        weight_arrive n (length ls) (label s r) ops (flat n c ls rest (listed r ++ ops)) in omega arith
     weight_flat ls (branch r a b rest) ops =
         let wa = weight_flat (r ∷ ls) a (drop 1 ops) in let wb = weight_flat (r ∷ ls) b (drop 1 ops) in let wr = weight_flat ls rest (listed r ++ drop 1 ops) in
         let d = weight_arrive n (length ls) r (drop 1 ops) (flat n c ls rest (listed r ++ drop 1 ops)) in omega arith
@@ -152,21 +157,25 @@ module _ (n : Names) (c : Around) where
   stacks_plain ls all behind (br l) rest more ih = stacks_carry n (length ls - suc l) (slice_get ls l) all (leaps l no_more)
   stacks_plain ls all behind (br_if l) rest more ih = stacks_carry n (length ls - suc l) (slice_get ls l) (drop 1 all) (leaps_if (Local (top n all)) l rest) ∙ ih refl
   stacks_plain ls all behind (br_table ts l) rest more ih =
-      stacks_carries n ls (drop 1 all) ts (carry n ls (drop 1 all) l (leaps_by (Local (top n all)) ts l no_more)) ∙ stacks_carry n (length ls - suc l) (slice_get ls l) (drop 1 all) (leaps_by (Local (top n all)) ts l no_more)
+      stacks_carries n ls (drop 1 all) ts (carry n ls (drop 1 all) l (leaps_by (Local (top n all)) ts l no_more))
+      ∙ stacks_carry n (length ls - suc l) (slice_get ls l) (drop 1 all) (leaps_by (Local (top n all)) ts l no_more)
   stacks_plain ls all behind return rest more ih = stacks_carry n (length ls - suc (length ls - 1)) (slice_get ls (length ls - 1)) all (leaps (length ls - 1) no_more)
   stacks_plain ls all behind unreachable rest more ih = refl
   stacks_plain ls all behind (call x) rest more ih = ap (λ z. reverse (slots n all) ∷ z) (ih refl)
   stacks_plain ls all behind (call_indirect t) rest more ih = ap (λ z. reverse (slots n all) ∷ z) (ih refl)
 
-  pub stacks_flat : (ls : List (Option ValType)) (code : Code) (outs own low : List ValType) → Types c ls code outs own → stacks_in (flat n c ls code (own ++ low)) ≡ rows (call_points c ls code low own)
+  pub stacks_flat : (ls : List (Option ValType)) (code : Code) (outs own low : List ValType) → Types c ls code outs own
+      → stacks_in (flat n c ls code (own ++ low)) ≡ rows (call_points c ls code low own)
   unfolding flat stacks_in Types call_points
   stacks_flat ls done outs own low t = stacks_carry n (length ls - 1) (slice_get ls 0) (own ++ low) no_more
   stacks_flat ls (plain i rest) outs own low t =
       stacks_plain ls (own ++ low) (after (sig c ls i) (own ++ low)) i (flat n c ls rest (after (sig c ls i) (own ++ low))) (call_points c ls rest low (after (sig c ls i) own))
-      (λ e. ap (λ ts. stacks_in (flat n c ls rest ts)) (after_all c ls i own t.0 low (own ++ low) e t.1 refl) ∙ stacks_flat ls rest outs t.0 low t.2 ∙ ap (λ ts. rows (call_points c ls rest low ts)) (takes_after (sig c ls i) own t.0 (passes c ls i e) t.1))
+      (λ e. ap (λ ts. stacks_in (flat n c ls rest ts)) (after_all c ls i own t.0 low (own ++ low) e t.1 refl) ∙ stacks_flat ls rest outs t.0 low t.2
+      ∙ ap (λ ts. rows (call_points c ls rest low ts)) (takes_after (sig c ls i) own t.0 (passes c ls i e) t.1))
   stacks_flat ls (nest s r body rest) outs own low t =
       ap (λ z. z ++ stacks_in (arrive n (length ls) (label s r) (own ++ low) (flat n c ls rest (listed r ++ (own ++ low))))) (stacks_flat (label s r ∷ ls) body (listed r) [] (own ++ low) t.0)
-      ∙ ap (λ z. rows (call_points c (label s r ∷ ls) body (own ++ low) []) ++ z) (stacks_arrive n (length ls) (label s r) (own ++ low) (flat n c ls rest (listed r ++ (own ++ low))) ∙ ap (λ ts. stacks_in (flat n c ls rest ts)) (sym (append_assoc (listed r) own low)) ∙ stacks_flat ls rest outs (listed r ++ own) low t.1)
+      ∙ ap (λ z. rows (call_points c (label s r ∷ ls) body (own ++ low) []) ++ z) (stacks_arrive n (length ls) (label s r) (own ++ low) (flat n c ls rest (listed r ++ (own ++ low)))
+      ∙ ap (λ ts. stacks_in (flat n c ls rest ts)) (sym (append_assoc (listed r) own low)) ∙ stacks_flat ls rest outs (listed r ++ own) low t.1)
       ∙ sym (map-append (λ (ops : List ValType). reverse (slots n ops)) (call_points c (label s r ∷ ls) body (own ++ low) []) (call_points c ls rest low (listed r ++ own)))
   stacks_flat ls (branch r a b rest) outs own low t =
       let d1 : drop 1 own ≡ t.0 = ap (drop 1) t.1 in
@@ -176,15 +185,21 @@ module _ (n : Names) (c : Around) where
       let pr : List (List ValType) = call_points c ls rest low (listed r ++ t.0) in
       let ea = stacks_flat (r ∷ ls) a (listed r) [] (t.0 ++ low) t.2 in
       let eb = stacks_flat (r ∷ ls) b (listed r) [] (t.0 ++ low) t.3 in
-      let er = stacks_arrive n (length ls) r (t.0 ++ low) (flat n c ls rest (listed r ++ (t.0 ++ low))) ∙ ap (λ ts. stacks_in (flat n c ls rest ts)) (sym (append_assoc (listed r) t.0 low)) ∙ stacks_flat ls rest outs (listed r ++ t.0) low t.4 in
-      let both : rows (pa ++ (pb ++ pr)) ≡ rows pa ++ (rows pb ++ rows pr) = map-append (λ (ops : List ValType). reverse (slots n ops)) pa (pb ++ pr) ∙ ap (λ z. rows pa ++ z) (map-append (λ (ops : List ValType). reverse (slots n ops)) pb pr) in
-      subst (λ ds. stacks_in (decides (Local (top n (own ++ low))) (flat n c (r ∷ ls) a ds) (flat n c (r ∷ ls) b ds) (arrive n (length ls) r ds (flat n c ls rest (listed r ++ ds)))) ≡ rows (call_points c (r ∷ ls) a (drop 1 own ++ low) [] ++ (call_points c (r ∷ ls) b (drop 1 own ++ low) [] ++ call_points c ls rest low (listed r ++ drop 1 own)))) (sym d2)
-      (subst (λ ds. stacks_in (flat n c (r ∷ ls) a (t.0 ++ low)) ++ (stacks_in (flat n c (r ∷ ls) b (t.0 ++ low)) ++ stacks_in (arrive n (length ls) r (t.0 ++ low) (flat n c ls rest (listed r ++ (t.0 ++ low))))) ≡ rows (call_points c (r ∷ ls) a (ds ++ low) [] ++ (call_points c (r ∷ ls) b (ds ++ low) [] ++ call_points c ls rest low (listed r ++ ds)))) (sym d1)
+      let er = stacks_arrive n (length ls) r (t.0 ++ low) (flat n c ls rest (listed r ++ (t.0 ++ low))) ∙ ap (λ ts. stacks_in (flat n c ls rest ts)) (sym (append_assoc (listed r) t.0 low))
+      ∙ stacks_flat ls rest outs (listed r ++ t.0) low t.4 in
+      let both : rows (pa ++ (pb ++ pr)) ≡ rows pa ++ (rows pb ++ rows pr) = map-append (λ (ops : List ValType). reverse (slots n ops)) pa (pb ++ pr)
+      ∙ ap (λ z. rows pa ++ z) (map-append (λ (ops : List ValType). reverse (slots n ops)) pb pr) in
+      subst (λ ds. stacks_in (decides (Local (top n (own ++ low))) (flat n c (r ∷ ls) a ds) (flat n c (r ∷ ls) b ds) (arrive n (length ls) r ds (flat n c ls rest (listed r ++ ds))))
+      ≡ rows (call_points c (r ∷ ls) a (drop 1 own ++ low) [] ++ (call_points c (r ∷ ls) b (drop 1 own ++ low) [] ++ call_points c ls rest low (listed r ++ drop 1 own)))) (sym d2)
+      (subst (λ ds. stacks_in (flat n c (r ∷ ls) a (t.0 ++ low)) ++ (stacks_in (flat n c (r ∷ ls) b (t.0 ++ low))
+      ++ stacks_in (arrive n (length ls) r (t.0 ++ low) (flat n c ls rest (listed r ++ (t.0 ++ low)))))
+      ≡ rows (call_points c (r ∷ ls) a (ds ++ low) [] ++ (call_points c (r ∷ ls) b (ds ++ low) [] ++ call_points c ls rest low (listed r ++ ds)))) (sym d1)
       (ap (λ z. z ++ (stacks_in (flat n c (r ∷ ls) b (t.0 ++ low)) ++ stacks_in (arrive n (length ls) r (t.0 ++ low) (flat n c ls rest (listed r ++ (t.0 ++ low)))))) ea
       ∙ ap (λ z. rows pa ++ (z ++ stacks_in (arrive n (length ls) r (t.0 ++ low) (flat n c ls rest (listed r ++ (t.0 ++ low)))))) eb
       ∙ ap (λ z. rows pa ++ (rows pb ++ z)) er ∙ sym both))
 
-pub stacks_are_slots : (m : Module) (x : ℕ) (f : Func) → Typed (around m f) f.body → stacks_in (flattened m x f).body ≡ map (λ (ops : List ValType). reverse (slots (names m f) ops)) (func_call_points m f)
+pub stacks_are_slots : (m : Module) (x : ℕ) (f : Func) → Typed (around m f) f.body → stacks_in (flattened m x f).body
+    ≡ map (λ (ops : List ValType). reverse (slots (names m f) ops)) (func_call_points m f)
 stacks_are_slots m x f t =
     let c : Around = around m f in
     ap stacks_in (sym (flat_pruned (names m f) c (c.result ∷ []) f.body []))

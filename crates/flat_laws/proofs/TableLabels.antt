@@ -27,10 +27,12 @@ all_labels lt r [] e = tt
 all_labels lt r (j ∷ js) e = let b = and_parts (agrees_with r (slice_get lt j)) (all_alike lt r js) e in (agrees_true r (slice_get lt j) b.0, all_labels lt r js b.1)
 
 -- what a typed br_table says
-pub table_typed : (lt : List (Option ValType)) (targets : List ℕ) (r : Option ValType) (own mids : List ValType) → Takes (jumps_sig lt targets (Some r)) own mids → AllLabels lt r targets × (below : List ValType) × (own ≡ I32 ∷ (listed r ++ below))
+pub table_typed : (lt : List (Option ValType)) (targets : List ℕ) (r : Option ValType) (own mids : List ValType) → Takes (jumps_sig lt targets (Some r)) own mids
+    → AllLabels lt r targets × (below : List ValType) × (own ≡ I32 ∷ (listed r ++ below))
 table_typed lt targets r own mids t = by (all_there lt targets) (all_alike lt r targets) refl t
   where
-    by : (a b : Bool) → all_alike lt r targets ≡ b → Takes (if a then (if b then leaves_sig (I32 ∷ listed r) else lacks_sig 8) else lacks_sig 7) own mids → AllLabels lt r targets × (below : List ValType) × (own ≡ I32 ∷ (listed r ++ below))
+    by : (a b : Bool) → all_alike lt r targets ≡ b → Takes (if a then (if b then leaves_sig (I32 ∷ listed r) else lacks_sig 8) else lacks_sig 7) own mids
+        → AllLabels lt r targets × (below : List ValType) × (own ≡ I32 ∷ (listed r ++ below))
     by false b e t = absurd t
     by true false e t = absurd t
     by true true e t = (all_labels lt r targets e, t.0, t.1)

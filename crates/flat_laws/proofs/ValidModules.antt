@@ -8,7 +8,8 @@ use Rattle.std.proofs.lemmas.List.Folds.{list_any-append}
 use Rattle.wa_types.specs.declared.values.ValType.{ValType}
 use Rattle.wa_types.specs.declared.values.ValType.TheVariants.{I32, I64}
 use Rattle.wa_types.specs.Encoding.{same_type}
-use Rattle.wa_types.specs.Syntax.{Plain, basic, local_get, local_set, local_tee, br, br_if, br_table, return, unreachable, call, call_indirect, Shape, a_block, a_loop, Code, done, plain, nest, branch, Func, Module}
+use Rattle.wa_types.specs.Syntax.{Plain, basic, local_get, local_set, local_tee, br, br_if, br_table, return, unreachable, call, call_indirect, Shape, a_block, a_loop, Code, done, plain}
+use Rattle.wa_types.specs.Syntax.{nest, branch, Func, Module}
 use Rattle.wa_types.specs.Pruned.{is_last, pruned}
 use Rattle.wa_types.specs.Typing.{Around, listed, sig, label, Types}
 use Rattle.wa_types.specs.Points.{Unless, AtPoint, after}
@@ -31,7 +32,8 @@ flat_pruned n c ls done ops = refl
 flat_pruned n c ls (plain p rest) ops = by p rest (λ os. flat_pruned n c ls rest os)
   where
     by : (p : Plain) (rest : Code) → ((os : List ValType) → flat n c ls (pruned rest) os ≡ flat n c ls rest os)
-        → flat_plain n c ls ops (after (sig c ls p) ops) p (flat n c ls (if is_last p then done else pruned rest) (after (sig c ls p) ops)) ≡ flat_plain n c ls ops (after (sig c ls p) ops) p (flat n c ls rest (after (sig c ls p) ops))
+        → flat_plain n c ls ops (after (sig c ls p) ops) p (flat n c ls (if is_last p then done else pruned rest) (after (sig c ls p) ops))
+        ≡ flat_plain n c ls ops (after (sig c ls p) ops) p (flat n c ls rest (after (sig c ls p) ops))
     by (basic b) rest ih = ap (flat_plain n c ls ops (after (sig c ls (basic b)) ops) (basic b)) (ih _)
     by (local_get x) rest ih = ap (flat_plain n c ls ops (after (sig c ls (local_get x)) ops) (local_get x)) (ih _)
     by (local_set x) rest ih = ap (flat_plain n c ls ops (after (sig c ls (local_set x)) ops) (local_set x)) (ih _)
@@ -44,14 +46,16 @@ flat_pruned n c ls (plain p rest) ops = by p rest (λ os. flat_pruned n c ls res
     by (call x) rest ih = ap (flat_plain n c ls ops (after (sig c ls (call x)) ops) (call x)) (ih _)
     by (call_indirect x) rest ih = ap (flat_plain n c ls ops (after (sig c ls (call_indirect x)) ops) (call_indirect x)) (ih _)
 flat_pruned n c ls (nest s r body rest) ops = let a = flat_pruned n c (label s r ∷ ls) body ops in let b = flat_pruned n c ls rest (listed r ++ ops) in cc
-flat_pruned n c ls (branch r a b rest) ops = let ea = flat_pruned n c (r ∷ ls) a (drop 1 ops) in let eb = flat_pruned n c (r ∷ ls) b (drop 1 ops) in let er = flat_pruned n c ls rest (listed r ++ drop 1 ops) in cc
+flat_pruned n c ls (branch r a b rest) ops = let ea = flat_pruned n c (r ∷ ls) a (drop 1 ops) in let eb = flat_pruned n c (r ∷ ls) b (drop 1 ops) in let er =
+    flat_pruned n c ls rest (listed r ++ drop 1 ops) in cc
 
 pub good_pruned : (n : Names) (c : Around) (ls : List (Option ValType)) (code : Code) (outs own low : List ValType) → Good n c ls (pruned code) outs own low → Good n c ls code outs own low
 unfolding Good pruned
 good_pruned n c ls done outs own low g = g
 good_pruned n c ls (plain p rest) outs own low g = (g.0, g.1, g.2, by (is_last p) (λ h. good_pruned n c ls rest outs g.1 low h) g.3)
   where
-    by : (b : Bool) → (Good n c ls (pruned rest) outs g.1 low → Good n c ls rest outs g.1 low) → GoesOn b (Good n c ls (if b then done else pruned rest) outs g.1 low) → GoesOn b (Good n c ls rest outs g.1 low)
+    by : (b : Bool) → (Good n c ls (pruned rest) outs g.1 low → Good n c ls rest outs g.1 low) → GoesOn b (Good n c ls (if b then done else pruned rest) outs g.1 low)
+        → GoesOn b (Good n c ls rest outs g.1 low)
     by true ih h = tt
     by false ih h = ih h
 good_pruned n c ls (nest s r body rest) outs own low g = (g.0, g.1, good_pruned n c (label s r ∷ ls) body (listed r) [] (own ++ low) g.2, good_pruned n c ls rest outs (listed r ++ own) low g.3)
@@ -111,7 +115,8 @@ module _ (n : Names) (c : Around) where
   starts ls (nest s r body rest) own low = inl refl
   starts ls (branch r a b rest) own low = inl refl
 
-  pub good_code : (ls : List (Option ValType)) (code : Code) (outs own low : List ValType) (to : ℕ) → Types c ls code outs own → Pts ls code own low → length ls + depth_of code ≤ to → Within n (length ls) to (results_in (length ls) code) → Good n c ls code outs own low
+  pub good_code : (ls : List (Option ValType)) (code : Code) (outs own low : List ValType) (to : ℕ) → Types c ls code outs own → Pts ls code own low → length ls + depth_of code ≤ to
+      → Within n (length ls) to (results_in (length ls) code) → Good n c ls code outs own low
   unfolding Good Types AtPoint results_in depth_of
   good_code ls done outs own low to t h le wi = (h (own ++ low) refl, t)
   good_code ls (plain p rest) outs own low to t h le wi = (h (own ++ low) (inl refl), t.0, t.1, by (is_last p) refl (λ g. good_code ls rest outs t.0 low to t.2 g le wi))
@@ -126,7 +131,8 @@ module _ (n : Names) (c : Around) where
       let behind : List Pair = results_in d rest in (
         h (own ++ low) (inl refl),
         result_in n s d to r (omega arith) (λ k u e lt. wi k u (in_front_of k u (here ++ inner) behind (in_front_of k u here inner e)) lt),
-        good_code (label s r ∷ ls) body (listed r) [] (own ++ low) to t.0 (λ all at. h all (inr (inl at))) (omega arith) (λ k u e lt. wi k u (in_front_of k u (here ++ inner) behind (in_back_of k u here inner e)) lt),
+        good_code (label s r ∷ ls) body (listed r) [] (own ++ low) to t.0 (λ all at. h all (inr (inl at))) (omega arith)
+            (λ k u e lt. wi k u (in_front_of k u (here ++ inner) behind (in_back_of k u here inner e)) lt),
         good_code ls rest outs (listed r ++ own) low to t.1 (λ all at. h all (inr (inr at))) (omega arith) (λ k u e lt. wi k u (in_back_of k u (here ++ inner) behind e) lt),
       )
   good_code ls (branch r a b rest) outs own low to t h le wi =
@@ -139,8 +145,10 @@ module _ (n : Names) (c : Around) where
         result_in n a_block d to r (omega arith) (λ k u e lt. wi k u (in_front_of k u (here ++ one ++ two) behind (in_front_of k u (here ++ one) two (in_front_of k u here one e))) lt),
         t.0,
         t.1,
-        good_code (r ∷ ls) a (listed r) [] (t.0 ++ low) to t.2 (λ all at. h all (inr (t.0, t.1, inl at))) (omega arith) (λ k u e lt. wi k u (in_front_of k u (here ++ one ++ two) behind (in_front_of k u (here ++ one) two (in_back_of k u here one e))) lt),
-        good_code (r ∷ ls) b (listed r) [] (t.0 ++ low) to t.3 (λ all at. h all (inr (t.0, t.1, inr (inl at)))) (omega arith) (λ k u e lt. wi k u (in_front_of k u (here ++ one ++ two) behind (in_back_of k u (here ++ one) two e)) lt),
+        good_code (r ∷ ls) a (listed r) [] (t.0 ++ low) to t.2 (λ all at. h all (inr (t.0, t.1, inl at))) (omega arith)
+            (λ k u e lt. wi k u (in_front_of k u (here ++ one ++ two) behind (in_front_of k u (here ++ one) two (in_back_of k u here one e))) lt),
+        good_code (r ∷ ls) b (listed r) [] (t.0 ++ low) to t.3 (λ all at. h all (inr (t.0, t.1, inr (inl at)))) (omega arith)
+            (λ k u e lt. wi k u (in_front_of k u (here ++ one ++ two) behind (in_back_of k u (here ++ one) two e)) lt),
         good_code ls rest outs (listed r ++ t.0) low to t.4 (λ all at. h all (inr (t.0, t.1, inr (inr at)))) (omega arith) (λ k u e lt. wi k u (in_back_of k u (here ++ one ++ two) behind e) lt),
       )
 
@@ -150,8 +158,10 @@ module _ (m : Module) (f : Func) where
   -- the operands of a point have slots
   all_in : (all above rest : List ValType) → AtPoint (around m f) ((around m f).result ∷ []) (pruned f.body) [] [] all → all ≡ above ++ rest → AllIn (names m f) rest
   all_in all above [] at e = tt
-  all_in all above (t ∷ lower) at e =
-      (any_place (length lower) t (SlotPairs m f) (pairs_are_slots m f (length lower) t (all, above, lower, at, e, refl)), all_in all (above ++ t ∷ []) lower at (e ∙ sym (append_assoc above (t ∷ []) lower)))
+  all_in all above (t ∷ lower) at e = (
+    any_place (length lower) t (SlotPairs m f) (pairs_are_slots m f (length lower) t (all, above, lower, at, e, refl)),
+    all_in all (above ++ t ∷ []) lower at (e ∙ sym (append_assoc above (t ∷ []) lower)),
+  )
 
   abbrev test : ℕ → ValType → Bool
   test d t = list_any (same_pair d t) (all_results m f)
@@ -162,10 +172,12 @@ module _ (m : Module) (f : Func) where
   result_place : (h : ℕ) (t : ValType) → h < 1 + deep → test h t ≡ true → place h t (ResultPairs m f) < length (ResultPairs m f)
   result_place h t lt e = any_place h t (ResultPairs m f) (pass_pairs test 0 (suc deep) h t (omega arith) (omega arith) e)
 
-  pub good_body : Types (around m f) ((around m f).result ∷ []) f.body (listed (around m f).result) [] → Good (names m f) (around m f) ((around m f).result ∷ []) f.body (listed (around m f).result) [] []
+  pub good_body : Types (around m f) ((around m f).result ∷ []) f.body (listed (around m f).result) []
+      → Good (names m f) (around m f) ((around m f).result ∷ []) f.body (listed (around m f).result) [] []
   good_body t =
       good_pruned (names m f) (around m f) ((around m f).result ∷ []) f.body (listed (around m f).result) [] []
-      (good_code (names m f) (around m f) ((around m f).result ∷ []) (pruned f.body) (listed (around m f).result) [] [] (1 + deep) (pruned_types (around m f) ((around m f).result ∷ []) f.body (listed (around m f).result) [] t)
+      (good_code (names m f) (around m f) ((around m f).result ∷ []) (pruned f.body) (listed (around m f).result) [] [] (1 + deep)
+      (pruned_types (around m f) ((around m f).result ∷ []) f.body (listed (around m f).result) [] t)
       (λ all at. all_in all [] all at refl) (omega arith) (λ h u e lt. result_place h u lt (in_back_of h u (pair_of 0 (around m f).result) (results_in 1 (pruned f.body)) e)))
 
   pub own_result : HasResult (names m f) 0 (around m f).result
@@ -181,7 +193,8 @@ module _ (m : Module) (f : Func) where
 
 -- what validity gives of functions and their types
 pub record Facts (m : Module) : Type 0 where
-  pub good : (x : ℕ) (f : Func) → defined_at m x ≡ Some f → Good (names m f) (around m f) ((around m f).result ∷ []) f.body (listed (around m f).result) [] [] × HasResult (names m f) 0 (around m f).result
+  pub good : (x : ℕ) (f : Func) → defined_at m x ≡ Some f → Good (names m f) (around m f) ((around m f).result ∷ []) f.body (listed (around m f).result) [] []
+      × HasResult (names m f) 0 (around m f).result
   pub small : (x : ℕ) → length (func_type_at m x).results ≤ 1
   pub small_sort : (t : ℕ) → length (type_at m t).results ≤ 1
   pub own_type : (x : ℕ) (f : Func) → defined_at m x ≡ Some f → func_type_at m x ≡ type_at m f.sort

@@ -87,7 +87,8 @@ module _ (c d : Around) (w : Wider c d) where
         by : (b : Bool) → is_last p ≡ b → flat n d ls rest (t.0 ++ low) ≡ flat n c ls rest (t.0 ++ low)
             → flat_plain n d ls (own ++ low) (after (sig d ls p) (own ++ low)) p (flat n d ls rest (after (sig d ls p) (own ++ low)))
             ≡ flat_plain n c ls (own ++ low) (after (sig c ls p) (own ++ low)) p (flat n c ls rest (after (sig c ls p) (own ++ low)))
-        by true e ih = last_wider ls (own ++ low) (after (sig d ls p) (own ++ low)) (after (sig c ls p) (own ++ low)) p (flat n d ls rest (after (sig d ls p) (own ++ low))) (flat n c ls rest (after (sig c ls p) (own ++ low))) e
+        by true e ih = last_wider ls (own ++ low) (after (sig d ls p) (own ++ low)) (after (sig c ls p) (own ++ low)) p (flat n d ls rest (after (sig d ls p) (own ++ low)))
+            (flat n c ls rest (after (sig c ls p) (own ++ low))) e
         by false e ih =
             ap (λ behind. flat_plain n d ls (own ++ low) behind p (flat n d ls rest behind)) (after_all d ls p own t.0 low (own ++ low) e (takes_wider c d w own t.0 ls p t.1) refl)
             ∙ ap (flat_plain n d ls (own ++ low) (t.0 ++ low) p) ih

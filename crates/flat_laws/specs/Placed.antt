@@ -17,6 +17,7 @@ abbrev pub HasResult : Names → (depth : ℕ) → Option ValType → Type 0
 HasResult n d None = Unit {0}
 HasResult n d (Some t) = place d t n.results < length n.results
 
+-- where control goes on behind an instruction, this holds there
 abbrev pub GoesOn : Bool → Type 0 → Type 0
 GoesOn true P = Unit {0}
 GoesOn false P = P

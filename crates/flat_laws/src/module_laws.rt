@@ -1,3 +1,5 @@
+//! Laws of flat functions and of the flat module. Each is the contract of a function that does nothing.
+
 ghost use Rattle.flat_laws.specs.FlatModule.{FlatIsShallow, FlatIsSmall, FlatIsTyped, FlatOfPruned, FlatStmtsTyped, RuntimeIsFlattened, SameWithMemory, StacksAreSlots, ValidIsFlattened, ValidStays};
 
 /// A valid module and the one in which some functions are flat meet all that the laws of runs ask for, with the runtime's

@@ -84,7 +84,8 @@ module _ (p : Module) (v : Valid p) (plan : Plan) (plan_fits : L.Fits p plan) (a
   begins_fit os =
       let globals : types_of plan.globals ≡ global_types (imported imported_global p) = listed_typed _ plan.globals plan_fits.globals.typed in
       (begun_fits p v plan ex (all_left plan os) (opening p plan.globals) p.start 0
-      (All-weaker (EntryFits p) (λ (y : Entry). ((f : Func) × (defined_at p y.func ≡ Some f)) × (types_of y.args ≡ (func_type_at p y.func).params)) (λ y h. entry_typed y h) plan.entries plan_fits.entries)
+      (All-weaker (EntryFits p) (λ (y : Entry). ((f : Func) × (defined_at p y.func ≡ Some f)) × (types_of y.args ≡ (func_type_at p y.func).params))
+      (λ y h. entry_typed y h) plan.entries plan_fits.entries)
       (λ s o. openings_fit p plan.globals s v globals o) (λ f o. (start_takes_none p f v o, start_there p f p.start (valid_instance p v).start o))).1
 
   begins_in : (os : List Outcome) → All OutcomeFits os → InRange low (held_start_of p plan os).last
@@ -112,7 +113,8 @@ module _ (p : Module) (v : Valid p) (plan : Plan) (plan_fits : L.Fits p plan) (a
       let here = fit.here in
       (record { found = here.func; is = here.func_is; typed = here.locals_fit; ranges = ranges.here.locals }, callers_known (h.fits).0 (results_of p c.here.func) c.under fit.under ranges.under)
 
-  waits_known : (e : Entry) (i : ℕ) (a : Answer) (s : Store) (x : ℕ) (args : List Value) (c : Configuration) (l : Left) → Known (calling (unwinds e i a) s x args (give_zero c) l) → AllLocalsFit p (c.here ∷ c.under)
+  waits_known : (e : Entry) (i : ℕ) (a : Answer) (s : Store) (x : ℕ) (args : List Value) (c : Configuration) (l : Left) → Known (calling (unwinds e i a) s x args (give_zero c) l)
+      → AllLocalsFit p (c.here ∷ c.under)
   waits_known e i a s x args c l h =
       let waits = (h.fits).3 in
       let ranges = (h.ranges).2.3 in

@@ -35,10 +35,12 @@ based k = Base k.original
 abbrev pub with_runtime_funcs : (original flat : Module) → Module
 with_runtime_funcs m flat = grown_module flat runtime_types (runtime_funcs (length m.types) (global_space m) (global_space m + 1)) [] []
 
+-- the table of an instance, where there is one
 abbrev pub table_in : Opening → List (Option ℕ)
 table_in (fails_as e) = []
 table_in (opens s) = s.table
 
+-- the three modules as the headline has them
 abbrev pub world_of : Core → World
 world_of k = record {
   original = k.original;

@@ -11,9 +11,11 @@ use Rattle.flat_names.specs.Numbers.{pair_of}
 
 pub runs_step : (xs : List Run) (j : ℕ) (x : Run) → j < length xs → x ≡ get_or xs j x → declared_locals (drop j xs) ≡ replicate x.count x.ty ++ declared_locals (drop (j + 1) xs)
 runs_step xs j x lt e =
-    ap declared_locals (drop-cons xs j x lt) ∙ ap (λ (z : Run). replicate z.count z.ty ++ declared_locals (drop (suc j) xs)) (sym e) ∙ ap (λ k. replicate x.count x.ty ++ declared_locals (drop k xs)) (sym (add-one j))
+    ap declared_locals (drop-cons xs j x lt) ∙ ap (λ (z : Run). replicate z.count z.ty ++ declared_locals (drop (suc j) xs)) (sym e)
+    ∙ ap (λ k. replicate x.count x.ty ++ declared_locals (drop k xs)) (sym (add-one j))
 
-pub runs_on : (xs : List Run) (j : ℕ) (x : Run) (old new all : List ValType) → j < length xs → x ≡ get_or xs j x → new ≡ old ++ replicate x.count x.ty → old ++ declared_locals (drop j xs) ≡ all → new ++ declared_locals (drop (j + 1) xs) ≡ all
+pub runs_on : (xs : List Run) (j : ℕ) (x : Run) (old new all : List ValType) → j < length xs → x ≡ get_or xs j x → new ≡ old ++ replicate x.count x.ty
+    → old ++ declared_locals (drop j xs) ≡ all → new ++ declared_locals (drop (j + 1) xs) ≡ all
 runs_on xs j x old new all lt e en before =
     ap (λ z. z ++ declared_locals (drop (j + 1) xs)) en ∙ append_assoc old (replicate x.count x.ty) (declared_locals (drop (j + 1) xs)) ∙ ap (λ z. old ++ z) (sym (runs_step xs j x lt e)) ∙ before
 

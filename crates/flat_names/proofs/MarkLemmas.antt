@@ -1,5 +1,6 @@
 -- What was found, and its locals.
-use Rattle.std.proofs.Common.{◌≡◌, ◌≢◌, ℕ, zero, suc, ◌+◌, ◌<◌, ◌≤◌, ◌||◌, ◌&&◌, ◌++◌, List, [], ◌∷◌, length, drop, slice_set, get_or, nat_eq, Some, Bool, true, false, add-one, drop-cons, refl, arith, ap, sym, ◌∙◌}
+use Rattle.std.proofs.Common.{◌≡◌, ◌≢◌, ℕ, zero, suc, ◌+◌, ◌<◌, ◌≤◌, ◌||◌, ◌&&◌, ◌++◌, List, [], ◌∷◌, length, drop, slice_set, get_or, nat_eq, Some, Bool, true, false, add-one, drop-cons}
+use Rattle.std.proofs.Common.{refl, arith, ap, sym, ◌∙◌}
 use Rattle.std.proofs.lemmas.Bool.{eq-eqb, eqb-true, eqb-false, ne_eqb}
 use Rattle.std.proofs.lemmas.List.{append-nil, append_assoc, drop_all}
 use Rattle.wa_types.specs.declared.values.ValType.{ValType}
@@ -22,7 +23,8 @@ up_same n m = by (nat_eq n m) refl
     by false e = e ∙ sym (ne_eqb (suc n) (suc m) (λ f. eqb-false n m e (omega (arith, f))))
 
 -- one type more at a number
-pub set_marked : (seen : List Seen) (number : ℕ) (ty : ValType) (d : Seen) → number < length seen → (n : ℕ) (t : ValType) → is_marked (slice_set seen number (with_one (get_or seen number d) ty)) n t ≡ (same_at n t number ty || is_marked seen n t)
+pub set_marked : (seen : List Seen) (number : ℕ) (ty : ValType) (d : Seen) → number < length seen → (n : ℕ) (t : ValType)
+    → is_marked (slice_set seen number (with_one (get_or seen number d) ty)) n t ≡ (same_at n t number ty || is_marked seen n t)
 set_marked [] number ty d lt n t = absurd (omega arith)
 set_marked (s ∷ seen) zero ty d lt zero t = here s t ty
   where
@@ -54,11 +56,17 @@ with_few s I64 = by s.narrow s.wide
 both_count : (s : Seen) (n : ℕ) (ps : List Pair) → length (pair_onto s.narrow n I32 (pair_onto s.wide n I64 ps)) ≡ bit s.narrow + bit s.wide + length ps
 both_count s n ps = omega (arith, onto_count s.narrow n I32 (pair_onto s.wide n I64 ps), onto_count s.wide n I64 ps)
 
-pub set_few : (seen : List Seen) (number : ℕ) (ty : ValType) (d : Seen) (n : ℕ) → number < length seen → length (pairs_in n (slice_set seen number (with_one (get_or seen number d) ty))) ≤ length (pairs_in n seen) + 1
+pub set_few : (seen : List Seen) (number : ℕ) (ty : ValType) (d : Seen) (n : ℕ) → number < length seen
+    → length (pairs_in n (slice_set seen number (with_one (get_or seen number d) ty))) ≤ length (pairs_in n seen) + 1
 set_few [] number ty d n lt = absurd (omega arith)
 set_few (s ∷ seen) zero ty d n lt = omega (arith, both_count s n (pairs_in (suc n) seen), both_count (with_one s ty) n (pairs_in (suc n) seen), with_few s ty)
 set_few (s ∷ seen) (suc number) ty d n lt =
-    omega (arith, both_count s n (pairs_in (suc n) seen), both_count s n (pairs_in (suc n) (slice_set seen number (with_one (get_or seen number d) ty))), set_few seen number ty d (suc n) (omega arith))
+    omega (
+      arith,
+      both_count s n (pairs_in (suc n) seen),
+      both_count s n (pairs_in (suc n) (slice_set seen number (with_one (get_or seen number d) ty))),
+      set_few seen number ty d (suc n) (omega arith),
+    )
 
 -- nothing found at one number more
 pub more_marked : (seen : List Seen) (n : ℕ) (t : ValType) → is_marked (seen ++ record { narrow = false; wide = false } ∷ []) n t ≡ is_marked seen n t
@@ -78,7 +86,8 @@ pub ruleset growing = (more_marked, more_pairs)
 
 -- ---- one number after the other
 
-pub pairs_step : (seen : List Seen) (j : ℕ) (s : Seen) → j < length seen → s ≡ get_or seen j s → pairs_in j (drop j seen) ≡ pair_onto s.narrow j I32 (pair_onto s.wide j I64 (pairs_in (j + 1) (drop (j + 1) seen)))
+pub pairs_step : (seen : List Seen) (j : ℕ) (s : Seen) → j < length seen → s ≡ get_or seen j s
+    → pairs_in j (drop j seen) ≡ pair_onto s.narrow j I32 (pair_onto s.wide j I64 (pairs_in (j + 1) (drop (j + 1) seen)))
 pairs_step seen j s lt e =
     ap (pairs_in j) (drop-cons seen j s lt)
     ∙ ap (λ (z : Seen). pair_onto z.narrow j I32 (pair_onto z.wide j I64 (pairs_in (suc j) (drop (suc j) seen)))) (sym e)
@@ -91,7 +100,8 @@ onto_front : (b : Bool) (n : ℕ) (t : ValType) (xs ps : List Pair) → (xs ++ p
 onto_front true n t xs ps = append_assoc xs (record { number = n; ty = t } ∷ []) ps
 onto_front false n t xs ps = ap (λ z. z ++ ps) (append-nil xs)
 
-pub pairs_on : (seen : List Seen) (j : ℕ) (s : Seen) (xs ys zs all : List Pair) → j < length seen → s ≡ get_or seen j s → ys ≡ xs ++ pair_onto s.narrow j I32 [] → zs ≡ ys ++ pair_onto s.wide j I64 [] → xs ++ pairs_in j (drop j seen) ≡ all → zs ++ pairs_in (j + 1) (drop (j + 1) seen) ≡ all
+pub pairs_on : (seen : List Seen) (j : ℕ) (s : Seen) (xs ys zs all : List Pair) → j < length seen → s ≡ get_or seen j s → ys ≡ xs ++ pair_onto s.narrow j I32 []
+    → zs ≡ ys ++ pair_onto s.wide j I64 [] → xs ++ pairs_in j (drop j seen) ≡ all → zs ++ pairs_in (j + 1) (drop (j + 1) seen) ≡ all
 pairs_on seen j s xs ys zs all lt e ey ez before =
     let rest : List Pair = pairs_in (j + 1) (drop (j + 1) seen) in
     ap (λ z. z ++ rest) ez ∙ onto_front s.wide j I64 ys rest ∙ ap (λ z. z ++ pair_onto s.wide j I64 rest) ey ∙ onto_front s.narrow j I32 xs (pair_onto s.wide j I64 rest)
@@ -107,14 +117,17 @@ spots_step seen end next j s lt e =
     ∙ ap (λ (z : Seen). record { narrow = pick z.narrow next end; wide = pick z.wide (next + bit z.narrow) end } ∷ spots_in end (next + bit z.narrow + bit z.wide) (drop (suc j) seen)) (sym e)
     ∙ ap (λ k. record { narrow = pick s.narrow next end; wide = pick s.wide (next + bit s.narrow) end } ∷ spots_in end (next + bit s.narrow + bit s.wide) (drop k seen)) (sym (add-one j))
 
-pub room_step : (seen : List Seen) (end next j : ℕ) (s : Seen) → j < length seen → s ≡ get_or seen j s → next + length (pairs_in j (drop j seen)) ≡ end → next + bit s.narrow + bit s.wide + length (pairs_in (j + 1) (drop (j + 1) seen)) ≡ end
+pub room_step : (seen : List Seen) (end next j : ℕ) (s : Seen) → j < length seen → s ≡ get_or seen j s → next + length (pairs_in j (drop j seen)) ≡ end
+    → next + bit s.narrow + bit s.wide + length (pairs_in (j + 1) (drop (j + 1) seen)) ≡ end
 room_step seen end next j s lt e h = omega (arith, h, ap length (pairs_step seen j s lt e), both_count s j (pairs_in (j + 1) (drop (j + 1) seen)))
 
-pub spots_on : (seen : List Seen) (end next j narrow wide : ℕ) (s : Seen) (xs ys all : List Spot) → j < length seen → s ≡ get_or seen j s → narrow ≡ pick s.narrow next end → wide ≡ pick s.wide (next + bit s.narrow) end → ys ≡ xs ++ record { narrow = narrow; wide = wide } ∷ []
+pub spots_on : (seen : List Seen) (end next j narrow wide : ℕ) (s : Seen) (xs ys all : List Spot) → j < length seen → s ≡ get_or seen j s → narrow ≡ pick s.narrow next end
+    → wide ≡ pick s.wide (next + bit s.narrow) end → ys ≡ xs ++ record { narrow = narrow; wide = wide } ∷ []
     → xs ++ spots_in end next (drop j seen) ≡ all → ys ++ spots_in end (next + bit s.narrow + bit s.wide) (drop (j + 1) seen) ≡ all
 spots_on seen end next j narrow wide s xs ys all lt e en ew ey before =
     let rest : List Spot = spots_in end (next + bit s.narrow + bit s.wide) (drop (j + 1) seen) in
-    ap (λ z. z ++ rest) ey ∙ append_assoc xs (record { narrow = narrow; wide = wide } ∷ []) rest ∙ ap (λ z. xs ++ record { narrow = z; wide = wide } ∷ rest) en ∙ ap (λ z. xs ++ record { narrow = pick s.narrow next end; wide = z } ∷ rest) ew
+    ap (λ z. z ++ rest) ey ∙ append_assoc xs (record { narrow = narrow; wide = wide } ∷ []) rest ∙ ap (λ z. xs ++ record { narrow = z; wide = wide } ∷ rest) en
+    ∙ ap (λ z. xs ++ record { narrow = pick s.narrow next end; wide = z } ∷ rest) ew
     ∙ ap (λ z. xs ++ z) (sym (spots_step seen end next j s lt e)) ∙ before
 
 pub spots_done : (seen : List Seen) (end next j : ℕ) (xs all : List Spot) → length seen ≤ j → xs ++ spots_in end next (drop j seen) ≡ all → xs ≡ all
@@ -148,11 +161,13 @@ aside m n t ty false ps e = omega arith
 first_place : (m n : ℕ) (t : ValType) (ps : List Pair) → n ≡ m → same_type t t ≡ true → place n t (pair_onto true m t ps) ≡ 0
 first_place m n t ps e same = ap (λ b. past b (place n t ps)) (ap (λ b. b && same_type t t) (eq-eqb n m e) ∙ same)
 
-narrow_spot : (b w : Bool) (next end m n : ℕ) (seen : List Seen) → n ≡ m → next + (bit b + bit w + length (pairs_in (suc m) seen)) ≡ end → pick b next end ≡ next + place n I32 (pair_onto b m I32 (pair_onto w m I64 (pairs_in (suc m) seen)))
+narrow_spot : (b w : Bool) (next end m n : ℕ) (seen : List Seen) → n ≡ m → next + (bit b + bit w + length (pairs_in (suc m) seen)) ≡ end
+    → pick b next end ≡ next + place n I32 (pair_onto b m I32 (pair_onto w m I64 (pairs_in (suc m) seen)))
 narrow_spot true w next end m n seen e h = omega (arith, first_place m n I32 (pair_onto w m I64 (pairs_in (suc m) seen)) e refl)
 narrow_spot false w next end m n seen e h = omega (arith, h, aside m n I32 I64 w (pairs_in (suc m) seen) refl, absent seen (suc m) n I32 (omega (arith, e)))
 
-wide_spot : (b w : Bool) (next end m n : ℕ) (seen : List Seen) → n ≡ m → next + (bit b + bit w + length (pairs_in (suc m) seen)) ≡ end → pick w (next + bit b) end ≡ next + place n I64 (pair_onto b m I32 (pair_onto w m I64 (pairs_in (suc m) seen)))
+wide_spot : (b w : Bool) (next end m n : ℕ) (seen : List Seen) → n ≡ m → next + (bit b + bit w + length (pairs_in (suc m) seen)) ≡ end
+    → pick w (next + bit b) end ≡ next + place n I64 (pair_onto b m I32 (pair_onto w m I64 (pairs_in (suc m) seen)))
 wide_spot b true next end m n seen e h = omega (arith, aside m n I64 I32 b (pair_onto true m I64 (pairs_in (suc m) seen)) refl, first_place m n I64 (pairs_in (suc m) seen) e refl)
 wide_spot b false next end m n seen e h = omega (arith, h, aside m n I64 I32 b (pairs_in (suc m) seen) refl, absent seen (suc m) n I64 (omega (arith, e)))
 
@@ -168,12 +183,18 @@ spots_are (s ∷ seen) end next m (suc j) t e =
     let rest : List Pair = pairs_in (suc m) seen in
     let ih = spots_are seen end (next + bit s.narrow + bit s.wide) (suc m) j t (omega (arith, e, both_count s m rest)) in
     let same : suc m + j ≡ m + suc j = omega arith in
-    ih ∙ ap (λ k. next + bit s.narrow + bit s.wide + place k t rest) same ∙ omega (arith, place_past m (m + suc j) t I32 s.narrow (pair_onto s.wide m I64 rest) ne, place_past m (m + suc j) t I64 s.wide rest ne)
+    ih ∙ ap (λ k. next + bit s.narrow + bit s.wide + place k t rest) same ∙ omega (
+      arith,
+      place_past m (m + suc j) t I32 s.narrow (pair_onto s.wide m I64 rest) ne,
+      place_past m (m + suc j) t I64 s.wide rest ne,
+    )
 
-pub table_is : (seen : List Seen) (end first : ℕ) (spots : List Spot) (pairs : List Pair) → first + length pairs ≡ end → spots ≡ spots_in end first seen → pairs ≡ pairs_in 0 seen → (number : ℕ) (t : ValType) → spot_at spots end number t ≡ first + place number t pairs
+pub table_is : (seen : List Seen) (end first : ℕ) (spots : List Spot) (pairs : List Pair) → first + length pairs ≡ end → spots ≡ spots_in end first seen → pairs ≡ pairs_in 0 seen
+    → (number : ℕ) (t : ValType) → spot_at spots end number t ≡ first + place number t pairs
 table_is seen end first spots pairs e es ep number t =
     let same : 0 + number ≡ number = omega arith in
-    ap (λ z. spot_at z end number t) es ∙ spots_are seen end first 0 number t (omega (arith, e, ap length ep)) ∙ ap (λ k. first + place k t (pairs_in 0 seen)) same ∙ ap (λ ps. first + place number t ps) (sym ep)
+    ap (λ z. spot_at z end number t) es ∙ spots_are seen end first 0 number t (omega (arith, e, ap length ep)) ∙ ap (λ k. first + place k t (pairs_in 0 seen)) same
+    ∙ ap (λ ps. first + place number t ps) (sym ep)
 
 pub get_either : (seen : List Seen) (j : ℕ) (d e : Seen) → j < length seen → get_or seen j d ≡ get_or seen j e
 get_either [] j d e lt = absurd (omega arith)

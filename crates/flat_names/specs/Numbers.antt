@@ -14,6 +14,7 @@ pub record Locals : Type 0 where
   pub first : ℕ
   pub pairs : List Pair
 
+-- a type at a number
 abbrev pub pair_of : TypeAt → Pair
 pair_of p = record { number = p.number; ty = p.ty }
 
@@ -21,6 +22,7 @@ pair_of p = record { number = p.number; ty = p.ty }
 abbrev pub local_of : Locals → ℕ → ValType → ℕ
 local_of l number t = l.first + place number t l.pairs
 
+-- the local of a type in an entry of the table, and `end` where there is none
 abbrev pub of_spot : ℕ → ValType → Option Spot → ℕ
 of_spot end t None = end
 of_spot end I32 (Some s) = s.narrow
@@ -32,9 +34,11 @@ spot_at spots end number t = of_spot end t (slice_get spots number)
 
 -- ---- what was found
 
+-- a type at a number is this one
 abbrev pub same_at : ℕ → ValType → ℕ → ValType → Bool
 same_at n t number ty = nat_eq n number && same_type t ty
 
+-- a type was found in an entry that is there
 abbrev pub of_seen : ValType → Option Seen → Bool
 of_seen t None = false
 of_seen I32 (Some s) = s.narrow
@@ -44,6 +48,7 @@ of_seen I64 (Some s) = s.wide
 abbrev pub is_marked : List Seen → ℕ → ValType → Bool
 is_marked seen n t = of_seen t (slice_get seen n)
 
+-- an entry with one type more
 abbrev pub with_one : Seen → ValType → Seen
 with_one s I32 = record { narrow = true; wide = s.wide }
 with_one s I64 = record { narrow = s.narrow; wide = true }
@@ -53,10 +58,12 @@ abbrev pub pairs_in : ℕ → List Seen → List Pair
 pairs_in n [] = []
 pairs_in n (s ∷ seen) = pair_onto s.narrow n I32 (pair_onto s.wide n I64 (pairs_in (suc n) seen))
 
+-- 1 where told
 abbrev pub bit : Bool → ℕ
 bit true = 1
 bit false = 0
 
+-- one of two
 abbrev pub pick : {X : Type 0} → Bool → X → X → X
 pick true x y = x
 pick false x y = y

@@ -1,3 +1,5 @@
+//! The types of a flat function's locals: parameters, declared locals, slots and result locals.
+
 ghost use Rattle.std.specs.Prelude.{◌≡◌, ◌+◌, ◌<◌, ◌^◌, ◌++◌, length, map, replicate, IfOk, OnOk};
 ghost use Rattle.wa_types.specs.Frames.{Pair};
 ghost use Rattle.wa_types.specs.Modules.{declared_locals};

@@ -1,3 +1,5 @@
+//! Which types were found at which numbers, and the locals that they get.
+
 ghost use Rattle.std.specs.Prelude.{◌≡◌, ◌+◌, ◌<◌, ◌≤◌, ◌^◌, ◌||◌, ◌++◌, [], ℕ, length, map, IfOk, OnOk};
 ghost use Rattle.wa_types.specs.declared.values.ValType.{ValType as AType};
 ghost use Rattle.flat_names.specs.Numbers.{bit, is_marked, pair_of, pairs_in, pick, same_at, spots_in, with_one};

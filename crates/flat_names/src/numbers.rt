@@ -1,3 +1,5 @@
+//! Slots and result locals as names: the local of each type at each height or depth.
+
 ghost use Rattle.std.specs.Prelude.{◌≡◌, ◌+◌, length};
 ghost use Rattle.flat_laws.specs.Flatten.{result_local, slot};
 ghost use Rattle.flat_names.specs.Numbers.{local_of};

@@ -12,7 +12,8 @@ use Rattle.wasm_tree.specs.Kinds.{is_leaf}
 use Rattle.wa_model.specs.declared.flat.Operand.{Operand}
 use Rattle.wa_model.specs.declared.flat.Stmt.{Stmt, Row_of-Stmt, end_of-Stmt, more_of-Stmt, items-the_row-Stmt, items_hidden-the_row-Stmt-0}
 use Rattle.wa_model.specs.declared.flat.Stmt.TheBlock.{hidden-the_row-Stmt-0}
-use Rattle.wa_model.specs.declared.flat.Stmt.TheVariants.{Plain as PlainStmt, Move, Call, Br as BrStmt, BrIf as BrIfStmt, BrTable as BrTableStmt, Block, Loop, If, Unreachable as UnreachableStmt, Block', Loop', If'}
+use Rattle.wa_model.specs.declared.flat.Stmt.TheVariants.{Plain as PlainStmt, Move, Call, Br as BrStmt, BrIf as BrIfStmt, BrTable as BrTableStmt, Block, Loop, If}
+use Rattle.wa_model.specs.declared.flat.Stmt.TheVariants.{Unreachable as UnreachableStmt, Block', Loop', If'}
 use Rattle.wa_model.specs.Flat.{Stmts, no_more, computes, copies, calls, leaps, leaps_if, leaps_by, nests, decides, halts, followed_by, got, set_to, slots_got, last_of, code_of}
 use Rattle.wa_model.specs.FlatView.{stmt_in_front, row_stmts, stmts}
 use Rattle.wa_model.specs.FlatFits.{StmtsFit, ComputesFit}

@@ -3,6 +3,7 @@ use Rattle.std.specs.Prelude.{◌≤◌, ◌<◌, ◌^◌, ◌+◌, ℕ, All}
 use Rattle.wa_types.specs.Syntax.{br, br_if, br_table, Plain, Code, done, plain, nest, branch}
 use Rattle.wa_types.specs.Counts.{depth_of}
 
+-- each label of an instruction is below this
 abbrev pub PlainBelow : ℕ → Plain → Type 0
 PlainBelow m (br l) = l < m
 PlainBelow m (br_if l) = l < m

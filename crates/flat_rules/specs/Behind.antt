@@ -7,6 +7,7 @@ use Rattle.wa_types.specs.Modules.{defined_at, locals_of}
 use Rattle.flat_laws.specs.Flatten.{flattened}
 use Rattle.flat_laws.specs.FlatModule.{flat_func, stacks_in}
 
+-- a local is one of these
 abbrev pub Among : ℕ → List ℕ → Type 0
 Among y [] = ⊥
 Among y (x ∷ xs) = (y ≡ x) ⊎ Among y xs

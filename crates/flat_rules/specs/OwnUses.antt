@@ -7,6 +7,7 @@ use Rattle.wa_types.specs.Modules.{defined_at, locals_of}
 use Rattle.wa_model.specs.Flat.{code_of}
 use Rattle.flat_laws.specs.Flatten.{flattened}
 
+-- an instruction in front of code, where told
 abbrev pub keep_if : Bool → Plain → Code → Code
 keep_if true p rest = plain p rest
 keep_if false p rest = rest

@@ -1,3 +1,5 @@
+//! Laws of the locals that flat code accesses. Each is the contract of a function that does nothing.
+
 ghost use Rattle.flat_rules.specs.Behind.{StackAloneIsRead};
 ghost use Rattle.flat_rules.specs.OwnUses.{OwnUsesStay};
 

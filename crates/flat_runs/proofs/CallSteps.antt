@@ -46,8 +46,10 @@ pub data Met (m p : Module) (which : List Bool) (k : ℕ) : Next → Next → Ty
   met_traps : {t : Trap} {s : Store} → Met m p which k (traps k t s) (traps k t s)
   met_stuck : {o' : Next} → Met m p which k stuck o'
 
-pub by_met : (m p : Module) (which : List Bool) (k j : ℕ) (c' at : Configuration) (o o' : Next) → Met m p which k o o' → Still p (first_of m) c' j 0 at → step p at ≡ o' → IsQuiet at.here.code → Loud (first_of m at.here.func) at.here.code → j ≤ suc k → Quietly m p which c' o
-by_met m p which k j c' at _ _ (met_steps {d1 = d1} n l to go few be) st e q lo le = it_steps (j + (suc k + n)) (0 + (suc k + l)) to (on p (first_of m) j 0 (suc k + n) (suc k + l) _ _ _ st (on p (first_of m) (suc k) (suc k) n l _ _ _ (loud p (first_of m) k at d1 e q lo) go)) (omega arith) (omega arith) be
+pub by_met : (m p : Module) (which : List Bool) (k j : ℕ) (c' at : Configuration) (o o' : Next) → Met m p which k o o' → Still p (first_of m) c' j 0 at → step p at ≡ o'
+    → IsQuiet at.here.code → Loud (first_of m at.here.func) at.here.code → j ≤ suc k → Quietly m p which c' o
+by_met m p which k j c' at _ _ (met_steps {d1 = d1} n l to go few be) st e q lo le = it_steps (j + (suc k + n)) (0 + (suc k + l)) to
+    (on p (first_of m) j 0 (suc k + n) (suc k + l) _ _ _ st (on p (first_of m) (suc k) (suc k) n l _ _ _ (loud p (first_of m) k at d1 e q lo) go)) (omega arith) (omega arith) be
 by_met m p which k j c' at _ _ met_returns st e q lo le = it_returns j 0 k at st q e (omega arith) (omega arith)
 by_met m p which k j c' at _ _ (met_asks {to = to} ask) st e q lo le = it_asks j 0 k at to st q e (omega arith) (omega arith) ask
 by_met m p which k j c' at _ _ met_traps st e q lo le = it_traps j 0 k at st q e (omega arith) (omega arith)
@@ -70,7 +72,8 @@ module _ (m p : Module) (which : List Bool) (w : Flattened m p which) where
     pub few : cost ≤ 1
     pub both : Beside m which (entered s under args g h) to
 
-  pub begins : (s : Store) → StoreFits m s → (g : ℕ) (h h' : Func) (under under' : List Activation) (args : List Value) → defined_at m g ≡ Some h → IsPlaced (is_told (slice_get which g)) m g h (Some h') → Callers m which g under under' → types_of args ≡ (func_type_at m g).params → Begun s under under' args g h h'
+  pub begins : (s : Store) → StoreFits m s → (g : ℕ) (h h' : Func) (under under' : List Activation) (args : List Value) → defined_at m g ≡ Some h
+      → IsPlaced (is_told (slice_get which g)) m g h (Some h') → Callers m which g under under' → types_of args ≡ (func_type_at m g).params → Begun s under under' args g h h'
   begins s fits g h h' under under' args is pl us et = by (is_told (slice_get which g)) refl pl
     where
       by : (b : Bool) → is_told (slice_get which g) ≡ b → IsPlaced b m g h (Some h') → Begun s under under' args g h h'
@@ -80,9 +83,11 @@ module _ (m p : Module) (which : List Bool) (w : Flattened m p which) where
           let ls : List Value = args ++ map zero_of (declared_locals h.locals) in
           let extra : List Value = map zero_of (extra_types m h) in
           let le : args ++ map zero_of (declared_locals h'.locals) ≡ ls ++ extra =
-          ap (λ ts. args ++ map zero_of ts) fl.1 ∙ ap (λ vs. args ++ vs) (map-append zero_of (declared_locals h.locals) (extra_types m h)) ∙ sym (append_assoc args (map zero_of (declared_locals h.locals)) extra) in
+          ap (λ ts. args ++ map zero_of ts) fl.1 ∙ ap (λ vs. args ++ vs) (map-append zero_of (declared_locals h.locals) (extra_types m h))
+          ∙ sym (append_assoc args (map zero_of (declared_locals h.locals)) extra) in
           let typed : types_of ls ≡ locals_of m h =
-          map-append type_of args (map zero_of (declared_locals h.locals)) ∙ ap (λ ts. ts ++ types_of (map zero_of (declared_locals h.locals))) (et ∙ ap (λ (t : FuncType). t.params) ((facts m w.valid).own_type g h is))
+          map-append type_of args (map zero_of (declared_locals h.locals)) ∙ ap (λ ts. ts ++ types_of (map zero_of (declared_locals h.locals))) (et
+          ∙ ap (λ (t : FuncType). t.params) ((facts m w.valid).own_type g h is))
           ∙ ap (λ ts. (type_at m h.sort).params ++ ts) (zeros_typed (declared_locals h.locals)) in
           let good = (facts m w.valid).good g h is in
           let l : Locals m h ls extra [] = record { typed = typed; size = zero_row m h; holds = tt } in
@@ -93,7 +98,8 @@ module _ (m p : Module) (which : List Bool) (w : Flattened m p which) where
             cost = 1;
             lean = 1;
             to = to;
-            goes = subst (λ vs. Still p (first_of m) (running s g under' vs [] h'.body []) 1 1 to) (sym le) (subst (λ k. Still p (first_of m) (running s g under' (ls ++ extra) [] k []) 1 1 to) (sym fl.0) st);
+            goes = subst (λ vs. Still p (first_of m) (running s g under' vs [] h'.body []) 1 1 to) (sym le)
+                (subst (λ k. Still p (first_of m) (running s g under' (ls ++ extra) [] k []) 1 1 to) (sym fl.0) st);
             few = omega arith;
             both = beside fits told is us l (record { ls = c.result ∷ []; outs = listed c.result; own = []; low = []; are = refl; good = good.0; labelled = outermost good.1; stands = refl });
           }
@@ -120,7 +126,8 @@ module _ (m p : Module) (which : List Bool) (w : Flattened m p which) where
   rest_typed : (ps more : List ValType) (os : List Value) → types_of os ≡ reverse ps ++ more → types_of (drop (length ps) os) ≡ more
   rest_typed ps more os e = ap (λ k. types_of (drop k os)) (sym (length-reverse ps)) ∙ (split_types (reverse ps) more os e).1
 
-  module _ (x : Ctx m which true) (ls extra os own : List Value) (typed : types_of ls ≡ locals_of m x.f) (size : length extra ≡ length (SlotPairs m x.f) + length (ResultPairs m x.f)) (holds : Holds (names m x.f) extra (own ++ os))
+  module _ (x : Ctx m which true) (ls extra os own : List Value) (typed : types_of ls ≡ locals_of m x.f) (size : length extra ≡ length (SlotPairs m x.f) + length (ResultPairs m x.f))
+      (holds : Holds (names m x.f) extra (own ++ os))
       (lt : List (Option ValType)) (outs b low : List ValType) (rest : Code) (labels labels' : List Label) (la : Labels (names m x.f) (around m x.f) lt outs low labels labels') where
     abbrev set_code : ℕ → Code
     set_code g = set_to (top_of (names m x.f) (result_count m g) ((results_of m g ++ b) ++ low)) (code_of (flat (names m x.f) (around m x.f) lt rest ((results_of m g ++ b) ++ low)))
@@ -138,10 +145,14 @@ module _ (m p : Module) (which : List Bool) (w : Flattened m p which) where
 
         -- all operands just before the call
         all_held : Holds (names m x.f) extra ((own ++ take (param_count (func_type_at m g)) os) ++ drop (param_count (func_type_at m g)) os)
-        all_held = subst (Holds (names m x.f) extra) (sym (append_assoc own (take (param_count (func_type_at m g)) os) (drop (param_count (func_type_at m g)) os) ∙ ap (λ z. own ++ z) (take-append-drop (param_count (func_type_at m g)) os))) holds
+        all_held = subst (Holds (names m x.f) extra) (sym (append_assoc own (take (param_count (func_type_at m g)) os) (drop (param_count (func_type_at m g)) os)
+            ∙ ap (λ z. own ++ z) (take-append-drop (param_count (func_type_at m g)) os))) holds
 
-        waits : Callers m which g (waiting x.fn ls (drop (param_count (func_type_at m g)) os) (own ++ take (param_count (func_type_at m g)) os) rest labels ∷ x.under) (waiting x.fn (ls ++ extra) [] (own ++ take (param_count (func_type_at m g)) os) (set_code g) labels' ∷ x.under')
-        waits = subst (λ ts. Callers m which g (waiting x.fn ls (drop (param_count (func_type_at m g)) os) (own ++ take (param_count (func_type_at m g)) os) rest labels ∷ x.under) (waiting x.fn (ls ++ extra) [] (own ++ take (param_count (func_type_at m g)) os) (set_to (top_of (names m x.f) (result_count m g) ts) (code_of (flat (names m x.f) (around m x.f) lt rest ((results_of m g ++ b) ++ low)))) labels' ∷ x.under')) (sym e2)
+        waits : Callers m which g (waiting x.fn ls (drop (param_count (func_type_at m g)) os) (own ++ take (param_count (func_type_at m g)) os) rest labels ∷ x.under)
+            (waiting x.fn (ls ++ extra) [] (own ++ take (param_count (func_type_at m g)) os) (set_code g) labels' ∷ x.under')
+        waits = subst (λ ts. Callers m which g (waiting x.fn ls (drop (param_count (func_type_at m g)) os) (own ++ take (param_count (func_type_at m g)) os) rest labels ∷ x.under)
+            (waiting x.fn (ls ++ extra) [] (own ++ take (param_count (func_type_at m g)) os)
+            (set_to (top_of (names m x.f) (result_count m g) ts) (code_of (flat (names m x.f) (around m x.f) lt rest ((results_of m g ++ b) ++ low)))) labels' ∷ x.under')) (sym e2)
             (above x.told x.is x.us (record { typed = typed; size = size; holds = all_held }) spot)
 
         -- what the flat side comes to, where so many activations wait, and these operands are left and taken
@@ -157,7 +168,8 @@ module _ (m p : Module) (which : List Bool) (w : Flattened m p which) where
             then asks (param_count (func_type_at m g)) g (reverse taken) (record { store = x.s; here = waiting x.fn (ls ++ extra) left (own ++ taken) (set_code g) labels'; under = x.under' })
             else stuck
 
-        by_flat : (h : Func) → defined_at m g ≡ Some h → (h' : Func) → IsPlaced (is_told (slice_get which g)) m g h (Some h') → Met m p which (param_count (func_type_at m g)) (invoke m x.s x.fn x.under ls own os rest labels (param_count (func_type_at m g)) g (Some h))
+        by_flat : (h : Func) → defined_at m g ≡ Some h → (h' : Func) → IsPlaced (is_told (slice_get which g)) m g h (Some h')
+            → Met m p which (param_count (func_type_at m g)) (invoke m x.s x.fn x.under ls own os rest labels (param_count (func_type_at m g)) g (Some h))
             (invoke p x.s x.fn x.under' (ls ++ extra) own (take (param_count (func_type_at m g)) os) (set_code g) labels' (param_count (func_type_at m g)) g (Some h'))
         by_flat h e h' fl =
             let k : ℕ = param_count (func_type_at m g) in
@@ -167,16 +179,23 @@ module _ (m p : Module) (which : List Bool) (w : Flattened m p which) where
             (subst (λ j. Met m p which k orig (flat_defined j [] (take k os) h')) (sym (callers_long m which x.fn x.under x.under' x.us))
             (by_room (nat_lt (length x.under + 1) 4096) (begins x.s x.fits g h h' _ _ (reverse (take k os)) e fl waits (args_typed (func_type_at m g).params (b ++ low) os et)))))
           where
-            by_room : (c : Bool) → Begun x.s (waiting x.fn ls (drop (param_count (func_type_at m g)) os) (own ++ take (param_count (func_type_at m g)) os) rest labels ∷ x.under) (waiting x.fn (ls ++ extra) [] (own ++ take (param_count (func_type_at m g)) os) (set_code g) labels' ∷ x.under') (reverse (take (param_count (func_type_at m g)) os)) g h h'
+            by_room : (c : Bool) → Begun x.s (waiting x.fn ls (drop (param_count (func_type_at m g)) os) (own ++ take (param_count (func_type_at m g)) os) rest labels ∷ x.under)
+                (waiting x.fn (ls ++ extra) [] (own ++ take (param_count (func_type_at m g)) os) (set_code g) labels' ∷ x.under') (reverse (take (param_count (func_type_at m g)) os)) g h h'
                 → Met m p which (param_count (func_type_at m g))
-                (if c then steps (param_count (func_type_at m g)) (entered x.s (waiting x.fn ls (drop (param_count (func_type_at m g)) os) (own ++ take (param_count (func_type_at m g)) os) rest labels ∷ x.under) (reverse (take (param_count (func_type_at m g)) os)) g h) else traps (param_count (func_type_at m g)) StackExhausted x.s)
-                (if c then steps (param_count (func_type_at m g)) (entered x.s (waiting x.fn (ls ++ extra) [] (own ++ take (param_count (func_type_at m g)) os) (set_code g) labels' ∷ x.under') (reverse (take (param_count (func_type_at m g)) os)) g h') else traps (param_count (func_type_at m g)) StackExhausted x.s)
+                (if c then steps (param_count (func_type_at m g)) (entered x.s (waiting x.fn ls (drop (param_count (func_type_at m g)) os)
+                (own ++ take (param_count (func_type_at m g)) os) rest labels ∷ x.under) (reverse (take (param_count (func_type_at m g)) os)) g h)
+                else traps (param_count (func_type_at m g)) StackExhausted x.s)
+                (if c then steps (param_count (func_type_at m g)) (entered x.s (waiting x.fn (ls ++ extra) [] (own ++ take (param_count (func_type_at m g)) os) (set_code g) labels'
+                ∷ x.under') (reverse (take (param_count (func_type_at m g)) os)) g h') else traps (param_count (func_type_at m g)) StackExhausted x.s)
             by_room true be = met_steps be.cost be.lean be.to be.goes be.few be.both
             by_room false be = met_traps
 
         by_import : (c : Bool) → Met m p which (param_count (func_type_at m g))
-            (if c then asks (param_count (func_type_at m g)) g (reverse (take (param_count (func_type_at m g)) os)) (record { store = x.s; here = waiting x.fn ls (drop (param_count (func_type_at m g)) os) (own ++ take (param_count (func_type_at m g)) os) rest labels; under = x.under }) else stuck)
-            (if c then asks (param_count (func_type_at m g)) g (reverse (take (param_count (func_type_at m g)) os)) (record { store = x.s; here = waiting x.fn (ls ++ extra) [] (own ++ take (param_count (func_type_at m g)) os) (set_code g) labels'; under = x.under' }) else stuck)
+            (if c then asks (param_count (func_type_at m g)) g (reverse (take (param_count (func_type_at m g)) os))
+            (record { store = x.s; here = waiting x.fn ls (drop (param_count (func_type_at m g)) os) (own ++ take (param_count (func_type_at m g)) os) rest labels; under = x.under })
+            else stuck)
+            (if c then asks (param_count (func_type_at m g)) g (reverse (take (param_count (func_type_at m g)) os))
+            (record { store = x.s; here = waiting x.fn (ls ++ extra) [] (own ++ take (param_count (func_type_at m g)) os) (set_code g) labels'; under = x.under' }) else stuck)
         by_import true = met_asks (record { same_store = refl; store = x.fits; waits = waits })
         by_import false = met_stuck
 
@@ -185,7 +204,8 @@ module _ (m p : Module) (which : List Bool) (w : Flattened m p which) where
         by_callee (Some h) e =
             let k : ℕ = param_count (func_type_at m g) in
             let t = is_there m g h (is_told (slice_get which g)) (defined_at p g) (w.placed g h e) in
-            subst (λ o'. Met m p which k (invoke m x.s x.fn x.under ls own os rest labels k g (Some h)) (invoke p x.s x.fn x.under' (ls ++ extra) own (take k os) (set_code g) labels' k g o')) (sym t.1)
+            subst (λ o'. Met m p which k (invoke m x.s x.fn x.under ls own os rest labels k g (Some h))
+            (invoke p x.s x.fn x.under' (ls ++ extra) own (take k os) (set_code g) labels' k g o')) (sym t.1)
             (by_flat h e t.0 (subst (IsPlaced (is_told (slice_get which g)) m g h) t.1 (w.placed g h e)))
         by_callee None e =
             let k : ℕ = param_count (func_type_at m g) in
@@ -197,12 +217,14 @@ module _ (m p : Module) (which : List Bool) (w : Flattened m p which) where
 
   -- ---- by the instruction
 
-  module _ (x : Ctx m which true) (ls extra ops : List Value) (l : Locals m x.f ls extra ops) (lt : List (Option ValType)) (outs own low : List ValType) (rest : Code) (labels labels' : List Label) (e : types_of ops ≡ own ++ low) (la : Labels (names m x.f) (around m x.f) lt outs low labels labels') where
+  module _ (x : Ctx m which true) (ls extra ops : List Value) (l : Locals m x.f ls extra ops) (lt : List (Option ValType)) (outs own low : List ValType) (rest : Code)
+      (labels labels' : List Label) (e : types_of ops ≡ own ++ low) (la : Labels (names m x.f) (around m x.f) lt outs low labels labels') where
     abbrev to_rest : Option ℕ → List ValType → Code
     to_rest to behind = set_to to (code_of (flat (names m x.f) (around m x.f) lt rest behind))
 
     -- so many operands are read
-    args_read : (k : ℕ) (code : Code) → k ≤ length ops → Still p (first_of m) (cp x ls extra [] (slots_got (last_of k (reverse (slots (names m x.f) (types_of ops)))) code) labels') k 0 (cp x ls extra (take k ops) code labels')
+    args_read : (k : ℕ) (code : Code) → k ≤ length ops → Still p (first_of m) (cp x ls extra [] (slots_got (last_of k (reverse (slots (names m x.f) (types_of ops)))) code) labels') k 0
+        (cp x ls extra (take k ops) code labels')
     args_read k code le =
         let n : Names = names m x.f in
         let xs : List ℕ = slots n (types_of ops) in
@@ -211,43 +233,52 @@ module _ (m p : Module) (which : List Bool) (w : Flattened m p which) where
         let lk : length (take k xs) ≡ k = length-take-le k xs (omega arith) in
         subst (λ c. Still p (first_of m) (cp x ls extra [] c labels') k 0 (cp x ls extra (take k ops) code labels')) (sym (args_got k xs code (omega arith)))
         (subst (λ vs. Still p (first_of m) (cp x ls extra [] (all_got (map Local (reverse (take k xs))) code) labels') k 0 (cp x ls extra vs code labels')) (append-nil (take k ops))
-        (with_costs p (first_of m) (length (take k xs)) 0 k 0 _ _ (push p (first_of m) x.s x.fn x.under' (ls ++ extra) labels' (take k xs) (take k ops) [] code (gets_take k (ls ++ extra) xs ops hold)) lk refl))
+        (with_costs p (first_of m) (length (take k xs)) 0 k 0 _ _ (push p (first_of m) x.s x.fn x.under' (ls ++ extra) labels' (take k xs) (take k ops) [] code
+        (gets_take k (ls ++ extra) xs ops hold)) lk refl))
 
     -- the results of a function, behind its call
     results_listed : (g : ℕ) → reverse (func_type_at m g).results ≡ results_of m g
     results_listed g = one_reversed (func_type_at m g).results ((facts m w.valid).small g) ∙ sym (one_listed (func_type_at m g).results ((facts m w.valid).small g))
 
     pub call_step : (g : ℕ) (mids : List ValType) → Takes (calls_sig (slice_get (func_types m) g)) own mids → Good (names m x.f) (around m x.f) lt rest outs mids low
-        → Quietly m p which (cp x ls extra [] (code_of (calls (plain (call g) done) (reverse (slots (names m x.f) (types_of ops))) (length (func_type_at m g).params) (top_of (names m x.f) (result_count m g) (mids ++ low)) (flat (names m x.f) (around m x.f) lt rest (mids ++ low)))) labels')
+        → Quietly m p which (cp x ls extra [] (code_of (calls (plain (call g) done) (reverse (slots (names m x.f) (types_of ops))) (length (func_type_at m g).params)
+        (top_of (names m x.f) (result_count m g) (mids ++ low)) (flat (names m x.f) (around m x.f) lt rest (mids ++ low)))) labels')
         (invoke m x.s x.fn x.under ls [] ops rest labels (param_count (func_type_at m g)) g (defined_at m g))
     unfolding code_of followed_by
     call_step g mids t gd = by (slice_get (func_types m) g) refl t
       where
         by : (o : Option FuncType) → slice_get (func_types m) g ≡ o → Takes (calls_sig o) own mids
-            → Quietly m p which (cp x ls extra [] (code_of (calls (plain (call g) done) (reverse (slots (names m x.f) (types_of ops))) (length (func_type_at m g).params) (top_of (names m x.f) (result_count m g) (mids ++ low)) (flat (names m x.f) (around m x.f) lt rest (mids ++ low)))) labels')
+            → Quietly m p which (cp x ls extra [] (code_of (calls (plain (call g) done) (reverse (slots (names m x.f) (types_of ops))) (length (func_type_at m g).params)
+            (top_of (names m x.f) (result_count m g) (mids ++ low)) (flat (names m x.f) (around m x.f) lt rest (mids ++ low)))) labels')
             (invoke m x.s x.fn x.under ls [] ops rest labels (param_count (func_type_at m g)) g (defined_at m g))
         by None ef t = absurd t
         by (Some u) ef t =
             let k : ℕ = param_count (func_type_at m g) in
             let eu : u ≡ func_type_at m g = sym (ap or_empty ef) in
-            let et : types_of ops ≡ reverse (func_type_at m g).params ++ (t.0 ++ low) = e ∙ ap (λ z. z ++ low) t.1 ∙ append_assoc (reverse u.params) t.0 low ∙ ap (λ (q : FuncType). reverse q.params ++ (t.0 ++ low)) eu in
+            let et : types_of ops ≡ reverse (func_type_at m g).params ++ (t.0 ++ low) = e ∙ ap (λ z. z ++ low) t.1 ∙ append_assoc (reverse u.params) t.0 low
+            ∙ ap (λ (q : FuncType). reverse q.params ++ (t.0 ++ low)) eu in
             let em : mids ≡ results_of m g ++ t.0 = t.2 ∙ ap (λ (q : FuncType). reverse q.results ++ t.0) eu ∙ ap (λ z. z ++ t.0) (results_listed g) in
             let gd2 = subst (λ ms. Good (names m x.f) (around m x.f) lt rest outs ms low) em gd in
-            let le : k ≤ length ops = let a : length ops ≡ length (reverse (func_type_at m g).params) + length (t.0 ++ low) = sym (types_long ops) ∙ ap length et ∙ length-append (reverse (func_type_at m g).params) (t.0 ++ low) in let r = length-reverse (func_type_at m g).params in omega arith in
+            let le : k ≤ length ops = let a : length ops ≡ length (reverse (func_type_at m g).params) + length (t.0 ++ low) = sym (types_long ops) ∙ ap length et
+            ∙ length-append (reverse (func_type_at m g).params) (t.0 ++ low) in let r = length-reverse (func_type_at m g).params in omega arith in
             let code : Code = to_rest (top_of (names m x.f) (result_count m g) (mids ++ low)) (mids ++ low) in
-            let met = subst (λ ms. Met m p which k (invoke m x.s x.fn x.under ls [] ops rest labels k g (defined_at m g)) (invoke p x.s x.fn x.under' (ls ++ extra) [] (take k ops) (to_rest (top_of (names m x.f) (result_count m g) (ms ++ low)) (ms ++ low)) labels' k g (defined_at p g))) (sym em)
+            let met = subst (λ ms. Met m p which k (invoke m x.s x.fn x.under ls [] ops rest labels k g (defined_at m g))
+            (invoke p x.s x.fn x.under' (ls ++ extra) [] (take k ops) (to_rest (top_of (names m x.f) (result_count m g) (ms ++ low)) (ms ++ low)) labels' k g (defined_at p g))) (sym em)
             (invokes x ls extra ops [] l.typed l.size l.holds lt outs t.0 low rest labels labels' la g (func_found m g u ef).0 et gd2) in
             by_met m p which k k _ (cp x ls extra (take k ops) (plain (call g) code) labels') _ _ met (args_read k (plain (call g) code) le)
-            (ap (λ (q : FuncType). invoke p x.s x.fn x.under' (ls ++ extra) [] (take k ops) code labels' (param_count q) g (defined_at p g)) (w.func_type g (func_found m g u ef).0)) tt tt (omega arith)
+            (ap (λ (q : FuncType). invoke p x.s x.fn x.under' (ls ++ extra) [] (take k ops) code labels' (param_count q) g (defined_at p g)) (w.func_type g (func_found m g u ef).0)) tt tt
+            (omega arith)
 
     pub indirect_step : (sort : ℕ) (mids : List ValType) → Takes (calls_at (around m x.f).table (slice_get m.types sort)) own mids → Good (names m x.f) (around m x.f) lt rest outs mids low
-        → Quietly m p which (cp x ls extra [] (code_of (calls (plain (call_indirect sort) done) (reverse (slots (names m x.f) (types_of ops))) (suc (length (type_at m sort).params)) (top_of (names m x.f) (length (type_at m sort).results) (mids ++ low)) (flat (names m x.f) (around m x.f) lt rest (mids ++ low)))) labels')
+        → Quietly m p which (cp x ls extra [] (code_of (calls (plain (call_indirect sort) done) (reverse (slots (names m x.f) (types_of ops))) (suc (length (type_at m sort).params))
+        (top_of (names m x.f) (length (type_at m sort).results) (mids ++ low)) (flat (names m x.f) (around m x.f) lt rest (mids ++ low)))) labels')
         (with_number ops (λ v below. through m x.s x.fn x.under ls (V.I32 v ∷ []) below rest labels sort (slice_get x.s.table v)))
     unfolding code_of followed_by
     indirect_step sort mids t gd = by (around m x.f).table (slice_get m.types sort) refl t
       where
         by : (table : Bool) (o : Option FuncType) → slice_get m.types sort ≡ o → Takes (calls_at table o) own mids
-            → Quietly m p which (cp x ls extra [] (code_of (calls (plain (call_indirect sort) done) (reverse (slots (names m x.f) (types_of ops))) (suc (length (type_at m sort).params)) (top_of (names m x.f) (length (type_at m sort).results) (mids ++ low)) (flat (names m x.f) (around m x.f) lt rest (mids ++ low)))) labels')
+            → Quietly m p which (cp x ls extra [] (code_of (calls (plain (call_indirect sort) done) (reverse (slots (names m x.f) (types_of ops))) (suc (length (type_at m sort).params))
+            (top_of (names m x.f) (length (type_at m sort).results) (mids ++ low)) (flat (names m x.f) (around m x.f) lt rest (mids ++ low)))) labels')
             (with_number ops (λ v below. through m x.s x.fn x.under ls (V.I32 v ∷ []) below rest labels sort (slice_get x.s.table v)))
         by table None ef t = absurd t
         by false (Some u) ef t = absurd t
@@ -266,44 +297,63 @@ module _ (m p : Module) (which : List Bool) (w : Flattened m p which) where
             code = set_to (top_of (names m x.f) (length (type_at m sort).results) (mids ++ low)) (code_of (flat (names m x.f) (around m x.f) lt rest (mids ++ low)))
 
             by_ops : (all : List Value) → ops ≡ all
-                → Quietly m p which (cp x ls extra [] (slots_got (last_of (suc (length (type_at m sort).params)) (reverse (slots (names m x.f) (types_of ops)))) (plain (call_indirect sort) code)) labels')
+                → Quietly m p which (cp x ls extra [] (slots_got (last_of (suc (length (type_at m sort).params)) (reverse (slots (names m x.f) (types_of ops))))
+                (plain (call_indirect sort) code)) labels')
                 (with_number all (λ v below. through m x.s x.fn x.under ls (V.I32 v ∷ []) below rest labels sort (slice_get x.s.table v)))
             by_ops [] eo = it_is_stuck
             by_ops (V.I64 v ∷ os) eo = it_is_stuck
             by_ops (V.I32 v ∷ os) eo =
                 let k : ℕ = length (type_at m sort).params in
-                let eos : types_of os ≡ reverse (type_at m sort).params ++ (t.0 ++ low) = tail_types I32 I32 (types_of os) (reverse (type_at m sort).params ++ (t.0 ++ low)) (sym (ap types_of eo) ∙ et) in
+                let eos : types_of os ≡ reverse (type_at m sort).params ++ (t.0 ++ low) =
+                tail_types I32 I32 (types_of os) (reverse (type_at m sort).params ++ (t.0 ++ low)) (sym (ap types_of eo) ∙ et) in
                 let le : suc k ≤ length ops =
-                let a : length os ≡ length (reverse (type_at m sort).params) + length (t.0 ++ low) = sym (types_long os) ∙ ap length eos ∙ length-append (reverse (type_at m sort).params) (t.0 ++ low) in
+                let a : length os ≡ length (reverse (type_at m sort).params) + length (t.0 ++ low) = sym (types_long os) ∙ ap length eos
+                ∙ length-append (reverse (type_at m sort).params) (t.0 ++ low) in
                 let r = length-reverse (type_at m sort).params in let c : length ops ≡ suc (length os) = ap length eo in omega arith in
                 let read = args_read (suc k) (plain (call_indirect sort) code) le in
                 let at : Configuration = cp x ls extra (V.I32 v ∷ take k os) (plain (call_indirect sort) code) labels' in
-                let read2 = subst (λ all. Still p (first_of m) (cp x ls extra [] (slots_got (last_of (suc k) (reverse (slots (names m x.f) (types_of ops)))) (plain (call_indirect sort) code)) labels') (suc k) 0 (cp x ls extra (take (suc k) all) (plain (call_indirect sort) code) labels')) eo read in
+                let read2 = subst (λ all. Still p (first_of m) (cp x ls extra [] (slots_got (last_of (suc k) (reverse (slots (names m x.f) (types_of ops))))
+                (plain (call_indirect sort) code)) labels') (suc k) 0 (cp x ls extra (take (suc k) all) (plain (call_indirect sort) code) labels')) eo read in
                 by_met m p which k (suc k) _ at _ _ (by_entry os eos v (subst (Holds (names m x.f) extra) eo l.holds) (slice_get x.s.table v) refl) read2 refl tt tt (omega arith)
               where
-                by_type : (os : List Value) → types_of os ≡ reverse (type_at m sort).params ++ (t.0 ++ low) → (v g : ℕ) → g < length (func_sorts m) → Holds (names m x.f) extra (V.I32 v ∷ os) → (c : Bool) → same_func_type (func_type_at m g) (type_at m sort) ≡ c
-                    → Met m p which (length (type_at m sort).params) (if c then invoke m x.s x.fn x.under ls (V.I32 v ∷ []) os rest labels (param_count (type_at m sort)) g (defined_at m g) else traps (param_count (type_at m sort)) TypeMismatch x.s)
-                    (if c then invoke p x.s x.fn x.under' (ls ++ extra) (V.I32 v ∷ []) (take (length (type_at m sort).params) os) code labels' (param_count (type_at m sort)) g (defined_at p g) else traps (param_count (type_at m sort)) TypeMismatch x.s)
+                by_type : (os : List Value) → types_of os ≡ reverse (type_at m sort).params ++ (t.0 ++ low) → (v g : ℕ) → g < length (func_sorts m)
+                    → Holds (names m x.f) extra (V.I32 v ∷ os) → (c : Bool) → same_func_type (func_type_at m g) (type_at m sort) ≡ c
+                    → Met m p which (length (type_at m sort).params) (if c then invoke m x.s x.fn x.under ls (V.I32 v ∷ []) os rest labels (param_count (type_at m sort)) g (defined_at m g)
+                    else traps (param_count (type_at m sort)) TypeMismatch x.s)
+                    (if c then invoke p x.s x.fn x.under' (ls ++ extra) (V.I32 v ∷ []) (take (length (type_at m sort).params) os) code labels' (param_count (type_at m sort)) g
+                    (defined_at p g) else traps (param_count (type_at m sort)) TypeMismatch x.s)
                 by_type os eos v g gin h false q = met_traps
                 by_type os eos v g gin h true q =
                     let eg : func_type_at m g ≡ type_at m sort = func_types_true (func_type_at m g) (type_at m sort) q in
                     let em : mids ≡ results_of m g ++ t.0 = t.2 ∙ ap (λ (q : FuncType). reverse q.results ++ t.0) (eu ∙ sym eg) ∙ ap (λ z. z ++ t.0) (results_listed g) in
                     let gd2 = subst (λ ms. Good (names m x.f) (around m x.f) lt rest outs ms low) em gd in
-                    let go = invokes x ls extra os (V.I32 v ∷ []) l.typed l.size h lt outs t.0 low rest labels labels' la g gin (subst (λ (q : FuncType). types_of os ≡ reverse q.params ++ (t.0 ++ low)) (sym eg) eos) gd2 in
-                    let go2 = subst (λ ms. Met m p which (param_count (func_type_at m g)) (invoke m x.s x.fn x.under ls (V.I32 v ∷ []) os rest labels (param_count (func_type_at m g)) g (defined_at m g))
-                    (invoke p x.s x.fn x.under' (ls ++ extra) (V.I32 v ∷ []) (take (param_count (func_type_at m g)) os) (to_rest (top_of (names m x.f) (length (func_type_at m g).results) (ms ++ low)) (ms ++ low)) labels' (param_count (func_type_at m g)) g (defined_at p g))) (sym em) go in
+                    let go = invokes x ls extra os (V.I32 v ∷ []) l.typed l.size h lt outs t.0 low rest labels labels' la g gin
+                    (subst (λ (q : FuncType). types_of os ≡ reverse q.params ++ (t.0 ++ low)) (sym eg) eos) gd2 in
+                    let go2 = subst (λ ms. Met m p which (param_count (func_type_at m g))
+                    (invoke m x.s x.fn x.under ls (V.I32 v ∷ []) os rest labels (param_count (func_type_at m g)) g (defined_at m g))
+                    (invoke p x.s x.fn x.under' (ls ++ extra) (V.I32 v ∷ []) (take (param_count (func_type_at m g)) os)
+                    (to_rest (top_of (names m x.f) (length (func_type_at m g).results) (ms ++ low)) (ms ++ low)) labels' (param_count (func_type_at m g)) g (defined_at p g)))
+                    (sym em) go in
                     subst (λ (u : FuncType). Met m p which (param_count u) (invoke m x.s x.fn x.under ls (V.I32 v ∷ []) os rest labels (param_count u) g (defined_at m g))
-                    (invoke p x.s x.fn x.under' (ls ++ extra) (V.I32 v ∷ []) (take (param_count u) os) (to_rest (top_of (names m x.f) (length u.results) (mids ++ low)) (mids ++ low)) labels' (param_count u) g (defined_at p g))) eg go2
+                    (invoke p x.s x.fn x.under' (ls ++ extra) (V.I32 v ∷ []) (take (param_count u) os)
+                    (to_rest (top_of (names m x.f) (length u.results) (mids ++ low)) (mids ++ low)) labels' (param_count u) g (defined_at p g))) eg go2
 
-                by_entry : (os : List Value) → types_of os ≡ reverse (type_at m sort).params ++ (t.0 ++ low) → (v : ℕ) → Holds (names m x.f) extra (V.I32 v ∷ os) → (o : Option (Option ℕ)) → slice_get x.s.table v ≡ o
-                    → Met m p which (length (type_at m sort).params) (through m x.s x.fn x.under ls (V.I32 v ∷ []) os rest labels sort o) (through p x.s x.fn x.under' (ls ++ extra) (V.I32 v ∷ []) (take (length (type_at m sort).params) os) code labels' sort o)
-                by_entry os eos v h None ez = subst (λ (u : FuncType). Met m p which (length (type_at m sort).params) (traps (param_count (type_at m sort)) UndefinedElement x.s) (traps (param_count u) UndefinedElement x.s)) (sym (w.sort sort sin)) met_traps
-                by_entry os eos v h (Some None) ez = subst (λ (u : FuncType). Met m p which (length (type_at m sort).params) (traps (param_count (type_at m sort)) UninitializedElement x.s) (traps (param_count u) UninitializedElement x.s)) (sym (w.sort sort sin)) met_traps
+                by_entry : (os : List Value) → types_of os ≡ reverse (type_at m sort).params ++ (t.0 ++ low) → (v : ℕ) → Holds (names m x.f) extra (V.I32 v ∷ os) → (o : Option (Option ℕ))
+                    → slice_get x.s.table v ≡ o
+                    → Met m p which (length (type_at m sort).params) (through m x.s x.fn x.under ls (V.I32 v ∷ []) os rest labels sort o)
+                    (through p x.s x.fn x.under' (ls ++ extra) (V.I32 v ∷ []) (take (length (type_at m sort).params) os) code labels' sort o)
+                by_entry os eos v h None ez = subst (λ (u : FuncType). Met m p which (length (type_at m sort).params) (traps (param_count (type_at m sort)) UndefinedElement x.s)
+                    (traps (param_count u) UndefinedElement x.s)) (sym (w.sort sort sin)) met_traps
+                by_entry os eos v h (Some None) ez = subst (λ (u : FuncType). Met m p which (length (type_at m sort).params) (traps (param_count (type_at m sort)) UninitializedElement x.s)
+                    (traps (param_count u) UninitializedElement x.s)) (sym (w.sort sort sin)) met_traps
                 by_entry os eos v h (Some (Some g)) ez =
                     let gin = each_got (EntryNamed (length (func_sorts m))) x.s.table v (Some g) x.fits.table ez in
-                    subst (λ (u : FuncType). Met m p which (length (type_at m sort).params) (test m x.under ls os rest labels (func_type_at m g) (type_at m sort)) (test p x.under' (ls ++ extra) (take (length (type_at m sort).params) os) code labels' (func_type_at p g) u)) (sym (w.sort sort sin))
-                    (subst (λ (u : FuncType). Met m p which (length (type_at m sort).params) (test m x.under ls os rest labels (func_type_at m g) (type_at m sort)) (test p x.under' (ls ++ extra) (take (length (type_at m sort).params) os) code labels' u (type_at m sort))) (sym (w.func_type g gin))
+                    subst (λ (u : FuncType). Met m p which (length (type_at m sort).params) (test m x.under ls os rest labels (func_type_at m g) (type_at m sort))
+                    (test p x.under' (ls ++ extra) (take (length (type_at m sort).params) os) code labels' (func_type_at p g) u)) (sym (w.sort sort sin))
+                    (subst (λ (u : FuncType). Met m p which (length (type_at m sort).params) (test m x.under ls os rest labels (func_type_at m g) (type_at m sort))
+                    (test p x.under' (ls ++ extra) (take (length (type_at m sort).params) os) code labels' u (type_at m sort))) (sym (w.func_type g gin))
                     (by_type os eos v g gin h (same_func_type (func_type_at m g) (type_at m sort)) refl))
                   where
                     test : (q : Module) → List Activation → (ls1 os1 : List Value) → Code → List Label → FuncType → FuncType → Next
-                    test q u ls1 os1 c lb ft st = if same_func_type ft st then invoke q x.s x.fn u ls1 (V.I32 v ∷ []) os1 c lb (param_count st) g (defined_at q g) else traps (param_count st) TypeMismatch x.s
+                    test q u ls1 os1 c lb ft st = if same_func_type ft st then invoke q x.s x.fn u ls1 (V.I32 v ∷ []) os1 c lb (param_count st) g (defined_at q g)
+                        else traps (param_count st) TypeMismatch x.s

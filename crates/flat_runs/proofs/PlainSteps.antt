@@ -1,5 +1,6 @@
 -- Instructions that hold no other and go on behind themselves.
-use Rattle.std.proofs.Common.{◌≡◌, ◌∙◌, ℕ, zero, suc, ◌+◌, ◌-◌, ◌≤◌, ◌<◌, List, [], ◌∷◌, ◌++◌, length, map, take, drop, reverse, Option, Some, None, refl, sym, ap, subst, arith, length-append, length-drop, length-set, Bool, true}
+use Rattle.std.proofs.Common.{◌≡◌, ◌∙◌, ℕ, zero, suc, ◌+◌, ◌-◌, ◌≤◌, ◌<◌, List, [], ◌∷◌, ◌++◌, length, map, take, drop, reverse, Option, Some, None, refl, sym, ap, subst, arith}
+use Rattle.std.proofs.Common.{length-append, length-drop, length-set, Bool, true}
 use Rattle.std.specs.Prelude.{slice_get, slice_set}
 use Rattle.std.proofs.lemmas.List.{append-nil, length-map, get_or_append_left, set-append_left}
 use Rattle.std.proofs.lemmas.Option.{slice_get_within}
@@ -9,7 +10,8 @@ use Rattle.wa_types.specs.declared.values.Value.TheVariants as V
 use Rattle.wa_types.specs.declared.values.ValType.TheVariants.{I32}
 use Rattle.wa_types.specs.Operators.{operand_types}
 use Rattle.wa_types.specs.Accesses.{load_row, store_row}
-use Rattle.wa_types.specs.Syntax.{Basic, nop, drop as a_drop, select, const, num, global_get, global_set, load, store, memory_size, memory_grow, Plain, basic, local_get, local_set, local_tee, Code, plain, Func, Module}
+use Rattle.wa_types.specs.Syntax.{Basic, nop, drop as a_drop, select, const, num, global_get, global_set, load, store, memory_size, memory_grow, Plain, basic, local_get, local_set}
+use Rattle.wa_types.specs.Syntax.{local_tee, Code, plain, Func, Module}
 use Rattle.wa_types.specs.Typing.{Around, basic_sig, Takes, type_of, gets, sets as sets_sig, tees}
 use Rattle.wa_types.specs.Modules.{defined_at, locals_of, around}
 use Rattle.wa_types.specs.Pausing.{is_told}
@@ -70,7 +72,8 @@ module _ (m p : Module) (which : List Bool) (w : Flattened m p which) where
   long_ls f ls extra ops l = sym (length-map ls type_of) ∙ ap length l.typed
 
   -- a configuration of code that is good
-  pub again : (x : Ctx m which true) (ls extra ops : List Value) (lt : List (Option ValType)) (outs own low types : List ValType) (code : Code) (labels labels' : List Label) → Locals m x.f ls extra ops → types_of ops ≡ own ++ low → types_of ops ≡ types
+  pub again : (x : Ctx m which true) (ls extra ops : List Value) (lt : List (Option ValType)) (outs own low types : List ValType) (code : Code) (labels labels' : List Label)
+      → Locals m x.f ls extra ops → types_of ops ≡ own ++ low → types_of ops ≡ types
       → Good (names m x.f) (around m x.f) lt code outs own low → Labels (names m x.f) (around m x.f) lt outs low labels labels'
       → Beside m which (cq x ls ops code labels) (cp x ls extra [] (code_of (flat (names m x.f) (around m x.f) lt code types)) labels')
   again x ls extra ops lt outs own low types code labels labels' l e et g la =
@@ -78,7 +81,8 @@ module _ (m p : Module) (which : List Bool) (w : Flattened m p which) where
       (beside x.fits x.told x.is x.us l (record { ls = lt; outs = outs; own = own; low = low; are = e; good = g; labelled = la; stands = refl }))
 
   -- an instruction that touches only its own operands and the store
-  module _ (x : Ctx m which true) (ls extra ops : List Value) (l : Locals m x.f ls extra ops) (lt : List (Option ValType)) (outs own mids low : List ValType) (b : Basic) (rest : Code) (labels labels' : List Label) where
+  module _ (x : Ctx m which true) (ls extra ops : List Value) (l : Locals m x.f ls extra ops) (lt : List (Option ValType)) (outs own mids low : List ValType) (b : Basic) (rest : Code)
+      (labels labels' : List Label) where
     abbrev n : Names
     n = names m x.f
 
@@ -91,7 +95,8 @@ module _ (m p : Module) (which : List Bool) (w : Flattened m p which) where
     abbrev args : List Value
     args = take (takes b) ops
 
-    long_results : (vs : List Value) → types_of ops ≡ own ++ low → Takes (basic_sig (around m x.f) b) own mids → takes b ≤ length ops → types_of (vs ++ drop (takes b) ops) ≡ mids ++ low → length vs ≡ gives b
+    long_results : (vs : List Value) → types_of ops ≡ own ++ low → Takes (basic_sig (around m x.f) b) own mids → takes b ≤ length ops → types_of (vs ++ drop (takes b) ops) ≡ mids ++ low
+        → length vs ≡ gives b
     long_results vs e t le ev =
         let a : length (own ++ low) - takes b + gives b ≡ length (mids ++ low) = basic_height (around m x.f) b own mids low t in
         let c : length ops ≡ length (own ++ low) = sym (types_long ops) ∙ ap length e in
@@ -100,10 +105,12 @@ module _ (m p : Module) (which : List Bool) (w : Flattened m p which) where
         omega arith
 
     -- the operands are read
-    reads : Still p (first_of m) (cp x ls extra [] (all_got (map Local (reverse (take (takes b) (slots n (types_of ops))))) (plain (basic b) set_code)) labels') (length (take (takes b) (slots n (types_of ops)))) 0 (cp x ls extra args (plain (basic b) set_code) labels')
+    reads : Still p (first_of m) (cp x ls extra [] (all_got (map Local (reverse (take (takes b) (slots n (types_of ops))))) (plain (basic b) set_code)) labels')
+        (length (take (takes b) (slots n (types_of ops)))) 0 (cp x ls extra args (plain (basic b) set_code) labels')
     reads =
         let g = gets_take (takes b) (ls ++ extra) (slots n (types_of ops)) ops (slots_got n ls (long_ls x.f ls extra ops l) extra ops l.holds) in
-        subst (λ vs. Still p (first_of m) (cp x ls extra [] (all_got (map Local (reverse (take (takes b) (slots n (types_of ops))))) (plain (basic b) set_code)) labels') (length (take (takes b) (slots n (types_of ops)))) 0 (cp x ls extra vs (plain (basic b) set_code) labels')) (append-nil args)
+        subst (λ vs. Still p (first_of m) (cp x ls extra [] (all_got (map Local (reverse (take (takes b) (slots n (types_of ops))))) (plain (basic b) set_code)) labels')
+        (length (take (takes b) (slots n (types_of ops)))) 0 (cp x ls extra vs (plain (basic b) set_code) labels')) (append-nil args)
         (push p (first_of m) x.s x.fn x.under' (ls ++ extra) labels' (take (takes b) (slots n (types_of ops))) args [] (plain (basic b) set_code) g)
 
     there : (o : Did) → act (memory_max m) b x.s args ≡ o → step p (cp x ls extra args (plain (basic b) set_code) labels') ≡ did x.fn x.under' (ls ++ extra) labels' set_code x.s [] o
@@ -116,23 +123,28 @@ module _ (m p : Module) (which : List Bool) (w : Flattened m p which) where
     same_act : SameAct (cq x ls ops (plain (basic b) rest) labels) (cp x ls extra args (plain (basic b) set_code) labels')
     same_act = record { instruction = b; rest = rest; rest' = set_code; original = refl; flat_one = refl; operands = take_same (takes b) ops; same_store = refl }
 
-    by_act : types_of ops ≡ own ++ low → Takes (basic_sig (around m x.f) b) own mids → Good n (around m x.f) lt rest outs mids low → Labels n (around m x.f) lt outs low labels labels' → takes b ≤ length ops
+    by_act : types_of ops ≡ own ++ low → Takes (basic_sig (around m x.f) b) own mids → Good n (around m x.f) lt rest outs mids low → Labels n (around m x.f) lt outs low labels labels'
+        → takes b ≤ length ops
         → (o : Did) → act (memory_max m) b x.s args ≡ o → DidFits m (mids ++ low) (drop (takes b) ops) o
-        → Follows m p which (cq x ls ops (plain (basic b) rest) labels) (cp x ls extra [] (all_got (map Local (reverse (take (takes b) (slots n (types_of ops))))) (plain (basic b) set_code)) labels') (did x.fn x.under ls labels rest x.s (drop (takes b) ops) o)
+        → Follows m p which (cq x ls ops (plain (basic b) rest) labels) (cp x ls extra []
+        (all_got (map Local (reverse (take (takes b) (slots n (types_of ops))))) (plain (basic b) set_code)) labels') (did x.fn x.under ls labels rest x.s (drop (takes b) ops) o)
     by_act e t g la le (works s' vs) ea fits =
         let few : length (take (takes b) (slots n (types_of ops))) ≤ takes b = take_few (takes b) (slots n (types_of ops)) in
         let three : takes b ≤ 3 = takes_few b in
         let lv : length vs ≡ gives b = long_results vs e t le fits.1 in
         let one : gives b ≤ 1 = gives_few b in
         let y : Ctx m which true = with_store x s' fits.0 in
-        let set_it = sets n ls (long_ls x.f ls extra ops l) p (first_of m) s' x.fn x.under' labels' vs (drop (takes b) ops) extra (mids ++ low) after_code (omega arith) (sym fits.1) (good_in n (around m x.f) lt rest outs mids low g)
+        let set_it = sets n ls (long_ls x.f ls extra ops l) p (first_of m) s' x.fn x.under' labels' vs (drop (takes b) ops) extra (mids ++ low) after_code (omega arith) (sym fits.1)
+        (good_in n (around m x.f) lt rest outs mids low g)
         (let z = l.size in omega arith) (holds_drop n (takes b) extra ops l.holds) in
         let after : Configuration = cp y ls extra vs (set_to (top_of n (length vs) (mids ++ low)) after_code) labels' in
         let works_it : step p (cp x ls extra args (plain (basic b) set_code) labels') ≡ steps 0 after =
-        there (works s' vs) ea ∙ ap (λ us. steps 0 (cp y ls extra us set_code labels')) (append-nil vs) ∙ ap (λ k. steps 0 (cp y ls extra vs (set_to (top_of n k (mids ++ low)) after_code) labels')) (sym lv) in
+        there (works s' vs) ea ∙ ap (λ us. steps 0 (cp y ls extra us set_code labels')) (append-nil vs)
+        ∙ ap (λ k. steps 0 (cp y ls extra vs (set_to (top_of n k (mids ++ low)) after_code) labels')) (sym lv) in
         let l' : Locals m x.f ls set_it.new (vs ++ drop (takes b) ops) = record { typed = l.typed; size = set_it.long ∙ l.size; holds = set_it.then_good } in
         let fc = set_it.few in
-        works_too _ 0 _ reads same_act 0 after works_it set_it.cost 0 _ set_it.goes (omega arith) (omega arith) (again y ls set_it.new (vs ++ drop (takes b) ops) lt outs mids low (mids ++ low) rest labels labels' l' fits.1 fits.1 g la)
+        works_too _ 0 _ reads same_act 0 after works_it set_it.cost 0 _ set_it.goes (omega arith) (omega arith)
+        (again y ls set_it.new (vs ++ drop (takes b) ops) lt outs mids low (mids ++ low) rest labels labels' l' fits.1 fits.1 g la)
       where
         gives_few : (b : Basic) → gives b ≤ 1
         gives_few b = grind arith
@@ -157,7 +169,8 @@ module _ (m p : Module) (which : List Bool) (w : Flattened m p which) where
   takes_long c memory_size own mids h = omega arith
   takes_long c memory_grow own mids h = let r = memory_moves c.memory (I32 ∷ []) (I32 ∷ []) own mids h in let i : length own ≡ suc (length r.0) = ap length r.1 in omega arith
 
-  module _ (x : Ctx m which true) (ls extra ops : List Value) (l : Locals m x.f ls extra ops) (lt : List (Option ValType)) (outs own mids low : List ValType) (rest : Code) (labels labels' : List Label) (e : types_of ops ≡ own ++ low)
+  module _ (x : Ctx m which true) (ls extra ops : List Value) (l : Locals m x.f ls extra ops) (lt : List (Option ValType)) (outs own mids low : List ValType) (rest : Code)
+      (labels labels' : List Label) (e : types_of ops ≡ own ++ low)
       (g : Good (names m x.f) (around m x.f) lt rest outs mids low) (la : Labels (names m x.f) (around m x.f) lt outs low labels labels') where
     abbrev nn : Names
     nn = names m x.f
@@ -171,12 +184,15 @@ module _ (m p : Module) (which : List Bool) (w : Flattened m p which) where
     abbrev F : Plain → Type 0
     F i = Quietly m p which (cp x ls extra [] (flat_code i) labels') (step_plain m x.s x.fn x.under ls ops labels rest i)
 
-    pub basic_step : (b : Basic) → Takes (basic_sig (around m x.f) b) own mids → Follows m p which (cq x ls ops (plain (basic b) rest) labels) (cp x ls extra [] (flat_code (basic b)) labels') (step_plain m x.s x.fn x.under ls ops labels rest (basic b))
+    pub basic_step : (b : Basic) → Takes (basic_sig (around m x.f) b) own mids → Follows m p which (cq x ls ops (plain (basic b) rest) labels)
+        (cp x ls extra [] (flat_code (basic b)) labels') (step_plain m x.s x.fn x.under ls ops labels rest (basic b))
     unfolding code_of followed_by
     basic_step b t =
-        let le : takes b ≤ length ops = let k = takes_long (around m x.f) b own mids t in let c : length ops ≡ length own + length low = sym (types_long ops) ∙ ap length e ∙ length-append own low in omega arith in
+        let le : takes b ≤ length ops = let k = takes_long (around m x.f) b own mids t in let c : length ops ≡ length own + length low = sym (types_long ops) ∙ ap length e
+        ∙ length-append own low in omega arith in
         by_act x ls extra ops l lt outs own mids low b rest labels labels' e t g la le (act (memory_max m) b x.s (take (takes b) ops)) refl
-        (act_fits m (around m x.f) (memory_max m) b x.s ops (mids ++ low) refl x.fits (subst (λ xs. Takes (basic_sig (around m x.f) b) xs (mids ++ low)) (sym e) (takes_above (basic_sig (around m x.f) b) own mids low t)))
+        (act_fits m (around m x.f) (memory_max m) b x.s ops (mids ++ low) refl x.fits (subst (λ xs. Takes (basic_sig (around m x.f) b) xs (mids ++ low)) (sym e)
+        (takes_above (basic_sig (around m x.f) b) own mids low t)))
 
     first_is : first_of m x.fn ≡ length ls
     first_is = ap (first_in m) x.is ∙ sym (long_ls x.f ls extra ops l)
@@ -189,7 +205,8 @@ module _ (m p : Module) (which : List Bool) (w : Flattened m p which) where
     get_step y t = by (slice_get (locals_of m x.f) y) refl t
       where
         by : (o : Option ValType) → slice_get (locals_of m x.f) y ≡ o → Takes (gets o) own mids
-            → Quietly m p which (cp x ls extra [] (code_of (flat_plain (names m x.f) (around m x.f) lt (types_of ops) (mids ++ low) (local_get y) (flat (names m x.f) (around m x.f) lt rest (mids ++ low)))) labels') (step_plain m x.s x.fn x.under ls ops labels rest (local_get y))
+            → Quietly m p which (cp x ls extra [] (code_of (flat_plain (names m x.f) (around m x.f) lt (types_of ops) (mids ++ low) (local_get y)
+            (flat (names m x.f) (around m x.f) lt rest (mids ++ low)))) labels') (step_plain m x.s x.fn x.under ls ops labels rest (local_get y))
         by None ey t = absurd t
         by (Some u) ey t =
             let v : Value = value_at ls y in
@@ -203,20 +220,30 @@ module _ (m p : Module) (which : List Bool) (w : Flattened m p which) where
             let code : Code = code_of (flat (names m x.f) (around m x.f) lt rest (mids ++ low)) in
             let set_code : Code = plain (local_set (top (names m x.f) (mids ++ low))) code in
             let one : Still p (first_of m) (cp x ls extra [] (plain (local_get y) set_code) labels') 1 1 (cp x ls extra (v ∷ []) set_code labels') =
-            subst (λ z. Still p (first_of m) (cp x ls extra [] (plain (local_get y) set_code) labels') 1 1 (cp x ls extra (z ∷ []) set_code labels')) (get_or_append_left ls extra (V.I32 0) y lt_y) (loud p (first_of m) 0 _ _ refl tt first_lt) in
+            subst (λ z. Still p (first_of m) (cp x ls extra [] (plain (local_get y) set_code) labels') 1 1 (cp x ls extra (z ∷ []) set_code labels'))
+            (get_or_append_left ls extra (V.I32 0) y lt_y) (loud p (first_of m) 0 _ _ refl tt first_lt) in
             let two = put_top (names m x.f) ls (long_ls x.f ls extra ops l) p (first_of m) x.s x.fn x.under' labels' extra ops v (mids ++ low) code ms slot_lt long l.holds in
             let k : ℕ = place (length ops) (type_of v) (SlotPairs m x.f) in
-            let l' : Locals m x.f ls (slice_set extra k v) (v ∷ ops) = record { typed = l.typed; size = length-set extra k v ∙ l.size; holds = holds_top (names m x.f) extra ops v slot_lt long l.holds } in
-            it_steps 2 1 _ (on p (first_of m) 1 1 1 0 _ _ _ one two) (omega arith) (omega arith) (again x ls (slice_set extra k v) (v ∷ ops) lt outs mids low (mids ++ low) rest labels labels' l' (sym ms) (sym ms) g la)
+            let l' : Locals m x.f ls (slice_set extra k v) (v ∷ ops) = record {
+              typed = l.typed;
+              size = length-set extra k v
+                  ∙ l.size;
+              holds = holds_top (names m x.f) extra ops v slot_lt long l.holds;
+            } in
+            it_steps 2 1 _ (on p (first_of m) 1 1 1 0 _ _ _ one two) (omega arith) (omega arith)
+            (again x ls (slice_set extra k v) (v ∷ ops) lt outs mids low (mids ++ low) rest labels labels' l' (sym ms) (sym ms) g la)
 
     -- a local is set
-    put_in : (y : ℕ) (u : ValType) (v : Value) (ops1 : List Value) → ops ≡ v ∷ ops1 → slice_get (locals_of m x.f) y ≡ Some u → type_of v ≡ u → Still p (first_of m) (cp x ls extra [] (plain (local_get (top nn (types_of ops))) (plain (local_set y) rest_code)) labels') 2 1 (cp x (slice_set ls y v) extra [] rest_code labels')
+    put_in : (y : ℕ) (u : ValType) (v : Value) (ops1 : List Value) → ops ≡ v ∷ ops1 → slice_get (locals_of m x.f) y ≡ Some u → type_of v ≡ u
+        → Still p (first_of m) (cp x ls extra [] (plain (local_get (top nn (types_of ops))) (plain (local_set y) rest_code)) labels') 2 1 (cp x (slice_set ls y v) extra [] rest_code labels')
     put_in y u v ops1 eo ey tv =
         let lt_y : y < length ls = named y u ey in
         let first_lt : y < first_of m x.fn = let k = first_is in omega arith in
-        let one = get_top nn ls (long_ls x.f ls extra ops l) p (first_of m) x.s x.fn x.under' labels' extra ops1 [] v (types_of ops) (plain (local_set y) rest_code) (ap types_of eo) (subst (Holds nn extra) eo l.holds) in
+        let one = get_top nn ls (long_ls x.f ls extra ops l) p (first_of m) x.s x.fn x.under' labels' extra ops1 [] v (types_of ops) (plain (local_set y) rest_code) (ap types_of eo)
+        (subst (Holds nn extra) eo l.holds) in
         let two : Still p (first_of m) (cp x ls extra (v ∷ []) (plain (local_set y) rest_code) labels') 1 1 (cp x (slice_set ls y v) extra [] rest_code labels') =
-        subst (λ zs. Still p (first_of m) (cp x ls extra (v ∷ []) (plain (local_set y) rest_code) labels') 1 1 (running x.s x.fn x.under' zs [] rest_code labels')) (set-append_left ls extra y v lt_y) (loud p (first_of m) 0 _ _ refl tt first_lt) in
+        subst (λ zs. Still p (first_of m) (cp x ls extra (v ∷ []) (plain (local_set y) rest_code) labels') 1 1 (running x.s x.fn x.under' zs [] rest_code labels'))
+        (set-append_left ls extra y v lt_y) (loud p (first_of m) 0 _ _ refl tt first_lt) in
         on p (first_of m) 1 0 1 1 _ _ _ one two
 
     set_locals : (y : ℕ) (u : ValType) (v : Value) (ops2 : List Value) → slice_get (locals_of m x.f) y ≡ Some u → type_of v ≡ u → Holds nn extra ops2 → Locals m x.f (slice_set ls y v) extra ops2
@@ -227,7 +254,8 @@ module _ (m p : Module) (which : List Bool) (w : Flattened m p which) where
     set_step y t = by (slice_get (locals_of m x.f) y) refl t ops refl
       where
         by : (o : Option ValType) → slice_get (locals_of m x.f) y ≡ o → Takes (sets_sig o) own mids → (os : List Value) → ops ≡ os
-            → Quietly m p which (cp x ls extra [] (plain (local_get (top (names m x.f) (types_of ops))) (plain (local_set y) (code_of (flat (names m x.f) (around m x.f) lt rest (mids ++ low))))) labels') (step_plain m x.s x.fn x.under ls os labels rest (local_set y))
+            → Quietly m p which (cp x ls extra [] (plain (local_get (top (names m x.f) (types_of ops)))
+            (plain (local_set y) (code_of (flat (names m x.f) (around m x.f) lt rest (mids ++ low))))) labels') (step_plain m x.s x.fn x.under ls os labels rest (local_set y))
         by None ey t os eo = absurd t
         by (Some u) ey t [] eo = it_is_stuck
         by (Some u) ey t (v ∷ os) eo =
@@ -235,14 +263,16 @@ module _ (m p : Module) (which : List Bool) (w : Flattened m p which) where
             let tv : type_of v ≡ u = head_type (type_of v) u (types_of os) (t.0 ++ low) et in
             let tos : types_of os ≡ mids ++ low = tail_types (type_of v) u (types_of os) (t.0 ++ low) et ∙ ap (λ z. z ++ low) (sym t.2) in
             let h = subst (Holds (names m x.f) extra) eo l.holds in
-            it_steps 2 1 _ (put_in y u v os eo ey tv) (omega arith) (omega arith) (again x (slice_set ls y v) extra os lt outs mids low (mids ++ low) rest labels labels' (set_locals y u v os ey tv h.2) tos tos g la)
+            it_steps 2 1 _ (put_in y u v os eo ey tv) (omega arith) (omega arith) (again x (slice_set ls y v) extra os lt outs mids low (mids ++ low) rest labels labels'
+            (set_locals y u v os ey tv h.2) tos tos g la)
 
     pub tee_step : (y : ℕ) → Takes (tees (slice_get (locals_of m x.f) y)) own mids → F (local_tee y)
     unfolding code_of
     tee_step y t = by (slice_get (locals_of m x.f) y) refl t ops refl
       where
         by : (o : Option ValType) → slice_get (locals_of m x.f) y ≡ o → Takes (tees o) own mids → (os : List Value) → ops ≡ os
-            → Quietly m p which (cp x ls extra [] (plain (local_get (top (names m x.f) (types_of ops))) (plain (local_set y) (code_of (flat (names m x.f) (around m x.f) lt rest (mids ++ low))))) labels') (step_plain m x.s x.fn x.under ls os labels rest (local_tee y))
+            → Quietly m p which (cp x ls extra [] (plain (local_get (top (names m x.f) (types_of ops)))
+            (plain (local_set y) (code_of (flat (names m x.f) (around m x.f) lt rest (mids ++ low))))) labels') (step_plain m x.s x.fn x.under ls os labels rest (local_tee y))
         by None ey t os eo = absurd t
         by (Some u) ey t [] eo = it_is_stuck
         by (Some u) ey t (v ∷ os) eo =
@@ -250,4 +280,5 @@ module _ (m p : Module) (which : List Bool) (w : Flattened m p which) where
             let tv : type_of v ≡ u = head_type (type_of v) u (types_of os) (t.0 ++ low) et in
             let tos : types_of (v ∷ os) ≡ mids ++ low = et ∙ ap (λ z. z ++ low) (sym t.2) in
             let h = subst (Holds (names m x.f) extra) eo l.holds in
-            it_steps 2 1 _ (put_in y u v os eo ey tv) (omega arith) (omega arith) (again x (slice_set ls y v) extra (v ∷ os) lt outs mids low (mids ++ low) rest labels labels' (set_locals y u v (v ∷ os) ey tv h) tos tos g la)
+            it_steps 2 1 _ (put_in y u v os eo ey tv) (omega arith) (omega arith) (again x (slice_set ls y v) extra (v ∷ os) lt outs mids low (mids ++ low) rest labels labels'
+            (set_locals y u v (v ∷ os) ey tv h) tos tos g la)

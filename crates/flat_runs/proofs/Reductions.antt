@@ -39,7 +39,8 @@ still_goes p first c d _ _ (loudly {d = d1} {n = n} {l = l} s q lo x ec el) = co
 still_goes p first c d _ _ (softly {d = d1} {n = n} {l = l} s q x ec) = skips s (still_goes p first d1 d n l x) ec
 
 far : (p : Module) (first : ℕ → ℕ) (j a k b : ℕ) (c d e : Configuration) → Stretch p first c j a d → Stretch p first d k b e → Stretch p first c (j + k) (a + b) e
-far p first _ _ k b c d e stays y = let z : 0 + k ≡ k = omega arith in let z2 : 0 + b ≡ b = omega arith in subst (λ i. Stretch p first c i (0 + b) e) (sym z) (subst (λ i. Stretch p first c k i e) (sym z2) y)
+far p first _ _ k b c d e stays y = let z : 0 + k ≡ k = omega arith in let z2 : 0 + b ≡ b = omega arith
+    in subst (λ i. Stretch p first c i (0 + b) e) (sym z) (subst (λ i. Stretch p first c k i e) (sym z2) y)
 far p first j a k b c d e (counts {d = d1} {k = k1} {n = n} {l = l} s lo x ec el) y = counts s lo (far p first n l k b d1 d e x y) (omega arith) (omega arith)
 far p first j a k b c d e (skips {d = d1} {k = k1} {n = n} {l = l} s x ec) y = skips s (far p first n l k b d1 d e x y) (omega arith)
 
@@ -55,7 +56,8 @@ module _ (m p : Module) (which : List Bool) (w : Flattened m p which) where
       by _ e (it_steps {k = k1} {d = d1} cost lean to go le mo be) =
           let ek : k1 ≡ k = cc in
           let ed : d1 ≡ d = cc in
-          subst (λ z. FollowsFar m p which c' (suc z) d) ek (subst (λ z. FollowsFar m p which c' (suc k1) z) ed (record { cost = cost; lean = lean; to = to; goes = still_goes p (first_of m) c' to cost lean go; least = le; most = mo; both = be }))
+          subst (λ z. FollowsFar m p which c' (suc z) d) ek (subst (λ z. FollowsFar m p which c' (suc k1) z) ed
+          (record { cost = cost; lean = lean; to = to; goes = still_goes p (first_of m) c' to cost lean go; least = le; most = mo; both = be }))
       by _ e (it_asks cost lean j at to st q a l c ask) = cc
       by _ e (it_returns cost lean j at st q a l c) = cc
       by _ e (it_traps cost lean j at st q a l c) = cc
@@ -72,7 +74,8 @@ module _ (m p : Module) (which : List Bool) (w : Flattened m p which) where
         least = omega arith;
         most = omega arith;
         both = be;
-        goes = far p (first_of m) n1 l1 (suc j + n2) (suc j + l2) c' at to (still_goes p (first_of m) c' at n1 l1 st) (far p (first_of m) (suc j) (suc j) n2 l2 at after to acts (still_goes p (first_of m) after to n2 l2 go));
+        goes = far p (first_of m) n1 l1 (suc j + n2) (suc j + l2) c' at to (still_goes p (first_of m) c' at n1 l1 st)
+            (far p (first_of m) (suc j) (suc j) n2 l2 at after to acts (still_goes p (first_of m) after to n2 l2 go));
       }))
   stepped c c' k d _ e (fails_too n1 l1 j at st sa a l mo) = cc
 
@@ -82,12 +85,23 @@ module _ (m p : Module) (which : List Bool) (w : Flattened m p which) where
       let one = stepped c c' k t (step m c) (A.moved_alone (λ c. true) m c k es t e) (each_step m p which w c c' be) in
       let ih = each_stretch t one.to d n fs one.both rest in
       let l1 = one.least in let l2 = ih.least in let m1 = one.most in let m2 = ih.most in
-      record { cost = one.cost + ih.cost; lean = one.lean + ih.lean; to = ih.to; goes = far p (first_of m) one.cost one.lean ih.cost ih.lean _ _ _ one.goes ih.goes; least = omega arith; most = omega arith; both = ih.both }
+      record {
+        cost = one.cost + ih.cost;
+        lean = one.lean + ih.lean;
+        to = ih.to;
+        goes = far p (first_of m) one.cost one.lean ih.cost ih.lean _ _ _ one.goes ih.goes;
+        least =
+            omega arith;
+        most = omega arith;
+        both = ih.both;
+      }
 
-  pub calls_begin : (s : Store) (args : List Value) (g : ℕ) (h h' : Func) → StoreFits m s → defined_at m g ≡ Some h → defined_at p g ≡ Some h' → types_of args ≡ (func_type_at m g).params → Comes m p which (entered s [] args g h) (entered s [] args g h') 1
+  pub calls_begin : (s : Store) (args : List Value) (g : ℕ) (h h' : Func) → StoreFits m s → defined_at m g ≡ Some h → defined_at p g ≡ Some h' → types_of args ≡ (func_type_at m g).params
+      → Comes m p which (entered s [] args g h) (entered s [] args g h') 1
   calls_begin s args g h h' fits e e' et =
       let b = begins m p which w s fits g h h' [] [] args e (subst (IsPlaced (is_told (slice_get which g)) m g h) e' (w.placed g h e)) host et in
       record { cost = b.cost; lean = b.lean; to = b.to; goes = b.goes; few = b.few; both = b.both }
 
-  pub answers_go_on : (s : Store) (g : ℕ) (d to : Configuration) (values : List Value) → StoreFits m s → Asked m which g d to → types_of values ≡ results_of m g → Comes m p which (resumed d s values) (resumed to s values) 1
+  pub answers_go_on : (s : Store) (g : ℕ) (d to : Configuration) (values : List Value) → StoreFits m s → Asked m which g d to → types_of values ≡ results_of m g
+      → Comes m p which (resumed d s values) (resumed to s values) 1
   answers_go_on s g d to values fits ask et = answered m p which w s g values fits et d.here to.here d.under to.under ask.waits

@@ -1,5 +1,6 @@
 -- Results go to their slot, to the result local of a label, and from there to their slot.
-use Rattle.std.proofs.Common.{◌≡◌, ◌∙◌, ℕ, ◌+◌, ◌≤◌, ◌<◌, List, [], ◌∷◌, ◌++◌, length, Option, Some, None, refl, sym, ap, subst, arith, length-set, get_or-set_same, get_or-set_other, ◌≢◌, ◌⊎◌, inl, inr}
+use Rattle.std.proofs.Common.{◌≡◌, ◌∙◌, ℕ, ◌+◌, ◌≤◌, ◌<◌, List, [], ◌∷◌, ◌++◌, length, Option, Some, None, refl, sym, ap, subst, arith, length-set, get_or-set_same, get_or-set_other, ◌≢◌}
+use Rattle.std.proofs.Common.{◌⊎◌, inl, inr}
 use Rattle.std.specs.Prelude.{slice_set}
 use Rattle.wa_types.specs.declared.values.ValType.{ValType}
 use Rattle.wa_types.specs.declared.values.Value.{Value}
@@ -64,8 +65,10 @@ module _ (n : Names) (ls : List Value) (e : length ls ≡ n.first) (p : Module) 
   sets (v ∷ w ∷ vs) below extra types code le et a long h = absurd (omega arith)
 
   -- a branch carries the result to the local of its label
-  pub carries : (r : Option ValType) (d : ℕ) (vs below all extra : List Value) (types : List ValType) (rest : Stmts) → types_of vs ≡ listed r → types ≡ types_of (vs ++ below) → HasResult n d r → length extra ≡ length n.slots + length n.results
-      → Holds n extra (vs ++ below) → Holds n extra all → P extra [] (code_of (carry_to n d (Some r) types rest)) 2 (λ new. Holds n new all × Carried n new d r vs × ((d2 : ℕ) → Carried n extra d2 r vs → Carried n new d2 r vs)) (code_of rest)
+  pub carries : (r : Option ValType) (d : ℕ) (vs below all extra : List Value) (types : List ValType) (rest : Stmts) → types_of vs ≡ listed r → types ≡ types_of (vs ++ below)
+      → HasResult n d r → length extra ≡ length n.slots + length n.results
+      → Holds n extra (vs ++ below) → Holds n extra all → P extra [] (code_of (carry_to n d (Some r) types rest)) 2
+      (λ new. Holds n new all × Carried n new d r vs × ((d2 : ℕ) → Carried n extra d2 r vs → Carried n new d2 r vs)) (code_of rest)
   unfolding code_of
   carries None d vs below all extra types rest ev et has long h ha = record { new = extra; long = refl; cost = 0; few = omega arith; goes = stands; then_good = (ha, tt, λ d2 c. c) }
   carries (Some t) d [] below all extra types rest ev et has long h ha = cc
@@ -73,19 +76,26 @@ module _ (n : Names) (ls : List Value) (e : length ls ≡ n.first) (p : Module) 
       let none : types_of vs ≡ [] = tail_types (type_of v) t (types_of vs) [] ev in
       let k : ℕ = length n.slots + place d t n.results in
       let got_it = get_top n ls e p first s fn under labels extra (vs ++ below) [] v types (plain (local_set (n.first + k)) (code_of rest)) et h in
-      let set_it : Still p first (running s fn under (ls ++ extra) (v ∷ []) (plain (local_set (n.first + k)) (code_of rest)) labels) 1 0 (running s fn under (ls ++ slice_set extra k v) [] (code_of rest) labels) =
-      subst (λ xs. Still p first (running s fn under (ls ++ extra) (v ∷ []) (plain (local_set (n.first + k)) (code_of rest)) labels) 1 0 (running s fn under xs [] (code_of rest) labels)) (extra_put ls extra n.first k v e) (soft p first 0 _ _ refl tt) in
+      let set_it : Still p first (running s fn under (ls ++ extra) (v ∷ []) (plain (local_set (n.first + k)) (code_of rest)) labels) 1 0
+      (running s fn under (ls ++ slice_set extra k v) [] (code_of rest) labels) =
+      subst (λ xs. Still p first (running s fn under (ls ++ extra) (v ∷ []) (plain (local_set (n.first + k)) (code_of rest)) labels) 1 0 (running s fn under xs [] (code_of rest) labels))
+      (extra_put ls extra n.first k v e) (soft p first 0 _ _ refl tt) in
       record {
         new = slice_set extra k v;
         long = length-set extra k v;
         cost = 2;
         few = omega arith;
         goes = on p first 1 0 1 0 _ _ _ got_it set_it;
-        then_good = (holds_result n extra all k v (omega arith) ha, get_or-set_same extra k v (V.I32 0) (omega arith), λ d2 c. stays_put extra k (length n.slots + place d2 t n.results) v (omega arith) c);
+        then_good = (
+          holds_result n extra all k v (omega arith) ha,
+          get_or-set_same extra k v (V.I32 0) (omega arith),
+          λ d2 c. stays_put extra k (length n.slots + place d2 t n.results) v (omega arith) c,
+        );
       }
 
   -- behind the label it goes to its slot
-  pub arrives : (r : Option ValType) (d : ℕ) (vs below extra : List Value) (types : List ValType) (rest : Stmts) → types_of vs ≡ listed r → types ≡ types_of below → AllIn n (listed r ++ types) → length n.slots ≤ length extra
+  pub arrives : (r : Option ValType) (d : ℕ) (vs below extra : List Value) (types : List ValType) (rest : Stmts) → types_of vs ≡ listed r → types ≡ types_of below
+      → AllIn n (listed r ++ types) → length n.slots ≤ length extra
       → Holds n extra below → Carried n extra d r vs → P extra [] (code_of (arrive n d r types rest)) 2 (λ new. Holds n new (vs ++ below)) (code_of rest)
   unfolding code_of
   arrives None d [] below extra types rest ev et a long h ca = record { new = extra; long = refl; cost = 0; few = omega arith; goes = stands; then_good = h }
@@ -100,7 +110,8 @@ module _ (n : Names) (ls : List Value) (e : length ls ≡ n.first) (p : Module) 
       let code : Code = plain (local_set (slot n (length types) t)) (code_of rest) in
       let val : value_at (ls ++ extra) (n.first + k) ≡ v = extra_got ls extra n.first k e ∙ ca in
       let got_it : Still p first (running s fn under (ls ++ extra) [] (plain (local_get (n.first + k)) code) labels) 1 0 (running s fn under (ls ++ extra) (v ∷ []) code labels) =
-      subst (λ w. Still p first (running s fn under (ls ++ extra) [] (plain (local_get (n.first + k)) code) labels) 1 0 (running s fn under (ls ++ extra) (w ∷ []) code labels)) val (soft p first 0 _ _ refl tt) in
+      subst (λ w. Still p first (running s fn under (ls ++ extra) [] (plain (local_get (n.first + k)) code) labels) 1 0 (running s fn under (ls ++ extra) (w ∷ []) code labels)) val
+      (soft p first 0 _ _ refl tt) in
       record {
         new = slice_set extra (place (length below) (type_of v) n.slots) v;
         long = length-set extra (place (length below) (type_of v) n.slots) v;

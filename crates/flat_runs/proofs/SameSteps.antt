@@ -1,5 +1,6 @@
 -- A function that stays makes each reduction of the original by the same reduction.
-use Rattle.std.proofs.Common.{◌≡◌, ◌∙◌, ℕ, zero, suc, ◌+◌, ◌<◌, List, [], ◌∷◌, ◌++◌, length, map, take, drop, reverse, Option, Some, None, Bool, true, false, refl, sym, ap, subst, arith, length-append}
+use Rattle.std.proofs.Common.{◌≡◌, ◌∙◌, ℕ, zero, suc, ◌+◌, ◌<◌, List, [], ◌∷◌, ◌++◌, length, map, take, drop, reverse, Option, Some, None, Bool, true, false, refl, sym, ap, subst, arith}
+use Rattle.std.proofs.Common.{length-append}
 use Rattle.std.specs.Prelude.{slice_get, slice_set, if◌then◌else◌, nat_lt, unwrap_or}
 use Rattle.std.proofs.lemmas.List.{map-append}
 use Rattle.std.proofs.lemmas.Option.{slice_get_within}
@@ -8,13 +9,15 @@ use Rattle.wa_types.specs.declared.values.Value.{Value}
 use Rattle.wa_types.specs.declared.values.Value.TheVariants as V
 use Rattle.wa_types.specs.declared.values.Trap.TheVariants.{UndefinedElement, UninitializedElement, TypeMismatch, StackExhausted}
 use Rattle.wa_types.specs.Counts.{depth_of}
-use Rattle.wa_types.specs.Syntax.{Basic, Plain, basic, local_get, local_set, local_tee, br, br_if, br_table, return, unreachable, call, call_indirect, a_block, a_loop, Code, done, plain, nest, branch, FuncType, Func, Module}
+use Rattle.wa_types.specs.Syntax.{Basic, Plain, basic, local_get, local_set, local_tee, br, br_if, br_table, return, unreachable, call, call_indirect, a_block, a_loop, Code, done, plain}
+use Rattle.wa_types.specs.Syntax.{nest, branch, FuncType, Func, Module}
 use Rattle.wa_types.specs.Typing.{type_of, sig, gets, sets, calls as calls_sig, calls_at, Takes, Types}
 use Rattle.wa_types.specs.Modules.{func_imports, func_sorts, func_types, func_type_at, type_at, declared_locals, defined_at, locals_of, around}
 use Rattle.wa_types.specs.Pausing.{is_told}
 use Rattle.wa_model.specs.Store.{value_at, Did, works, fails, lacks, takes, act}
 use Rattle.wa_model.specs.Configuration.{Label, block_label, loop_label, Activation, Configuration, running, waiting}
-use Rattle.wa_model.specs.Step.{Next, steps, asks, traps, stuck, keep, result_count, leave, jump, finish, did, with_top, with_number, choose, arity_of, zero_of, entered, invoke, through, param_count, same_func_type, memory_max, step_plain, step_at, step}
+use Rattle.wa_model.specs.Step.{Next, steps, asks, traps, stuck, keep, result_count, leave, jump, finish, did, with_top, with_number, choose, arity_of, zero_of, entered, invoke, through}
+use Rattle.wa_model.specs.Step.{param_count, same_func_type, memory_max, step_plain, step_at, step}
 use Rattle.wa_model.specs.Growth.{EntryNamed}
 use Rattle.wa_model.specs.Heights.{most_operands}
 use Rattle.wa_model.specs.Fitting.{types_of, ActFits, results_of, NextFits}
@@ -72,7 +75,8 @@ module _ (m p : Module) (which : List Bool) (w : Flattened m p which) (x : Ctx m
   counts_too : result_count p x.fn ≡ result_count m x.fn
   counts_too = ap (λ (t : FuncType). length t.results) (w.func_type x.fn (defined_in m x.fn x.f x.is))
 
-  meet_leave : (k : ℕ) (ops : List Value) → Fit (leave k x.s ops (result_count m x.fn) []) → Met m p which k (leave k x.s ops (result_count m x.fn) x.under) (leave k x.s ops (result_count p x.fn) x.under')
+  meet_leave : (k : ℕ) (ops : List Value) → Fit (leave k x.s ops (result_count m x.fn) [])
+      → Met m p which k (leave k x.s ops (result_count m x.fn) x.under) (leave k x.s ops (result_count p x.fn) x.under')
   meet_leave k ops h = subst (λ n. Met m p which k (leave k x.s ops (result_count m x.fn) x.under) (leave k x.s ops n x.under')) (sym counts_too) (by x.under x.under' x.us)
     where
       by : (under under' : List Activation) → Callers m which x.fn under under' → Met m p which k (leave k x.s ops (result_count m x.fn) under) (leave k x.s ops (result_count m x.fn) under')
@@ -96,17 +100,20 @@ module _ (m p : Module) (which : List Bool) (w : Flattened m p which) (x : Ctx m
   meet_jump k ls ops (block_label ht arity rest skipped ∷ labels) (suc l) h = meet_jump k ls ops labels l h
   meet_jump k ls ops (loop_label ht body rest ∷ labels) (suc l) h = meet_jump k ls ops labels l h
 
-  meet_finish : (ls ops : List Value) (labels : List Label) → Fit (finish m x.s x.fn [] ls ops labels) → Met m p which 0 (finish m x.s x.fn x.under ls ops labels) (finish p x.s x.fn x.under' ls ops labels)
+  meet_finish : (ls ops : List Value) (labels : List Label) → Fit (finish m x.s x.fn [] ls ops labels)
+      → Met m p which 0 (finish m x.s x.fn x.under ls ops labels) (finish p x.s x.fn x.under' ls ops labels)
   meet_finish ls ops [] h = meet_leave 0 ops h
   meet_finish ls ops (block_label ht arity rest skipped ∷ labels) h = inside 0 ls ops rest labels h
   meet_finish ls ops (loop_label ht body rest ∷ labels) h = inside 0 ls ops rest labels h
 
-  meet_top : (k : ℕ) (ops : List Value) (first on on' : Value → List Value → Next) → ((v : Value) (below : List Value) → Fit (first v below) → Met m p which k (on v below) (on' v below)) → Fit (with_top ops first)
+  meet_top : (k : ℕ) (ops : List Value) (first on on' : Value → List Value → Next) → ((v : Value) (below : List Value) → Fit (first v below) → Met m p which k (on v below) (on' v below))
+      → Fit (with_top ops first)
       → Met m p which k (with_top ops on) (with_top ops on')
   meet_top k [] first on on' each h = absurd h
   meet_top k (v ∷ ops) first on on' each h = each v ops h
 
-  meet_number : (k : ℕ) (ops : List Value) (first on on' : ℕ → List Value → Next) → ((n : ℕ) (below : List Value) → Fit (first n below) → Met m p which k (on n below) (on' n below)) → Fit (with_number ops first)
+  meet_number : (k : ℕ) (ops : List Value) (first on on' : ℕ → List Value → Next) → ((n : ℕ) (below : List Value) → Fit (first n below) → Met m p which k (on n below) (on' n below))
+      → Fit (with_number ops first)
       → Met m p which k (with_number ops on) (with_number ops on')
   meet_number k [] first on on' each h = absurd h
   meet_number k (V.I32 n ∷ ops) first on on' each h = each n ops h
@@ -145,12 +152,14 @@ module _ (m p : Module) (which : List Bool) (w : Flattened m p which) (x : Ctx m
         by_room h h' b be = tt
 
         entering : (h h' : Func) (b : Bool) → Met m p which params (steps params (entered x.s (waits ∷ x.under) args g h)) (steps params (entered x.s (waits ∷ x.under') args g h'))
-            → Met m p which params (if b then steps params (entered x.s (waits ∷ x.under) args g h) else traps params StackExhausted x.s) (if b then steps params (entered x.s (waits ∷ x.under') args g h') else traps params StackExhausted x.s)
+            → Met m p which params (if b then steps params (entered x.s (waits ∷ x.under) args g h) else traps params StackExhausted x.s)
+            (if b then steps params (entered x.s (waits ∷ x.under') args g h') else traps params StackExhausted x.s)
         entering h h' true me = me
         entering h h' false me = met_traps
 
         by_import : (b : Bool) → Fit (if b then asks params g args (record { store = x.s; here = waits; under = [] }) else stuck)
-            → Met m p which params (if b then asks params g args (record { store = x.s; here = waits; under = x.under }) else stuck) (if b then asks params g args (record { store = x.s; here = waits; under = x.under' }) else stuck)
+            → Met m p which params (if b then asks params g args (record { store = x.s; here = waits; under = x.under }) else stuck)
+            (if b then asks params g args (record { store = x.s; here = waits; under = x.under' }) else stuck)
         by_import true h = met_asks (record { same_store = refl; store = x.fits; waits = above_same x.told x.is x.us h.2.waits.0 })
         by_import false h = absurd h
 
@@ -163,21 +172,25 @@ module _ (m p : Module) (which : List Bool) (w : Flattened m p which) (x : Ctx m
             let us : Callers m which g (waits ∷ x.under) (waits ∷ x.under') = above_same x.told x.is x.us fit.under.0 in
             let b = begins m p which w x.s x.fits g h t.0 (waits ∷ x.under) (waits ∷ x.under') args e pl us (args_typed h e fit.here) in
             subst (λ o'. Met m p which params orig (invoke p x.s x.fn x.under' ls own ops rest labels params g o')) (sym t.1)
-            (subst (λ j. Met m p which params orig (if nat_lt (j + 1) 4096 then steps params (entered x.s (waits ∷ x.under') args g t.0) else traps params StackExhausted x.s)) (sym (callers_long m which x.fn x.under x.under' x.us))
+            (subst (λ j. Met m p which params orig (if nat_lt (j + 1) 4096 then steps params (entered x.s (waits ∷ x.under') args g t.0) else traps params StackExhausted x.s))
+            (sym (callers_long m which x.fn x.under x.under' x.us))
             (entering h t.0 (nat_lt (length x.under + 1) 4096) (met_steps b.cost b.lean b.to b.goes b.few b.both)))
         by_callee None e fit =
             let orig : Next = invoke m x.s x.fn x.under ls own ops rest labels params g None in
             subst (λ o'. Met m p which params orig (invoke p x.s x.fn x.under' ls own ops rest labels params g o')) (sym (w.none g gin e))
-            (subst (λ n. Met m p which params orig (if nat_lt g n then asks params g args (record { store = x.s; here = waits; under = x.under' }) else stuck)) (sym w.imports) (by_import (nat_lt g (func_imports m)) fit))
+            (subst (λ n. Met m p which params orig (if nat_lt g n then asks params g args (record { store = x.s; here = waits; under = x.under' }) else stuck)) (sym w.imports)
+            (by_import (nat_lt g (func_imports m)) fit))
 
   -- a call through the table
   meet_through : (ls own ops : List Value) (rest : Code) (labels : List Label) (sort : ℕ) → sort < length m.types → (o : Option (Option ℕ)) → ((g : ℕ) → o ≡ Some (Some g) → g < length (func_sorts m))
       → Fit (through m x.s x.fn [] ls own ops rest labels sort o)
       → Met m p which (param_count (type_at m sort)) (through m x.s x.fn x.under ls own ops rest labels sort o) (through p x.s x.fn x.under' ls own ops rest labels sort o)
   meet_through ls own ops rest labels sort sin None named fit =
-      subst (λ (u : FuncType). Met m p which (param_count (type_at m sort)) (traps (param_count (type_at m sort)) UndefinedElement x.s) (traps (param_count u) UndefinedElement x.s)) (sym (w.sort sort sin)) met_traps
+      subst (λ (u : FuncType). Met m p which (param_count (type_at m sort)) (traps (param_count (type_at m sort)) UndefinedElement x.s) (traps (param_count u) UndefinedElement x.s))
+      (sym (w.sort sort sin)) met_traps
   meet_through ls own ops rest labels sort sin (Some None) named fit =
-      subst (λ (u : FuncType). Met m p which (param_count (type_at m sort)) (traps (param_count (type_at m sort)) UninitializedElement x.s) (traps (param_count u) UninitializedElement x.s)) (sym (w.sort sort sin)) met_traps
+      subst (λ (u : FuncType). Met m p which (param_count (type_at m sort)) (traps (param_count (type_at m sort)) UninitializedElement x.s) (traps (param_count u) UninitializedElement x.s))
+      (sym (w.sort sort sin)) met_traps
   meet_through ls own ops rest labels sort sin (Some (Some g)) named fit =
       let gin = named g refl in
       subst (λ (u : FuncType). Met m p which (param_count (type_at m sort)) (test m x.under (func_type_at m g) (type_at m sort)) (test p x.under' (func_type_at p g) u)) (sym (w.sort sort sin))
@@ -188,7 +201,8 @@ module _ (m p : Module) (which : List Bool) (w : Flattened m p which) (x : Ctx m
       test q u ft st = if same_func_type ft st then invoke q x.s x.fn u ls own ops rest labels (param_count st) g (defined_at q g) else traps (param_count st) TypeMismatch x.s
 
       by : (b : Bool) → Fit (if b then invoke m x.s x.fn [] ls own ops rest labels (param_count (type_at m sort)) g (defined_at m g) else traps (param_count (type_at m sort)) TypeMismatch x.s)
-          → Met m p which (param_count (type_at m sort)) (if b then invoke m x.s x.fn x.under ls own ops rest labels (param_count (type_at m sort)) g (defined_at m g) else traps (param_count (type_at m sort)) TypeMismatch x.s)
+          → Met m p which (param_count (type_at m sort)) (if b then invoke m x.s x.fn x.under ls own ops rest labels (param_count (type_at m sort)) g (defined_at m g)
+          else traps (param_count (type_at m sort)) TypeMismatch x.s)
           (if b then invoke p x.s x.fn x.under' ls own ops rest labels (param_count (type_at m sort)) g (defined_at p g) else traps (param_count (type_at m sort)) TypeMismatch x.s)
       by true fit = meet_invoke ls own ops rest labels (param_count (type_at m sort)) g (named g refl) fit
       by false fit = met_traps
@@ -238,7 +252,8 @@ module _ (m p : Module) (which : List Bool) (w : Flattened m p which) (x : Ctx m
     -- the same numeric, memory or global instruction
     both_act : (b : Basic) (rest : Code) (o : Did) → act (memory_max m) b x.s (take (takes b) ops) ≡ o → Fit (did x.fn [] ls labels rest x.s (drop (takes b) ops) o)
         → Follows m p which (running x.s x.fn x.under ls ops (plain (basic b) rest) labels) (flat_side (plain (basic b) rest)) (did x.fn x.under ls labels rest x.s (drop (takes b) ops) o)
-    both_act b rest o e = by o (ap (λ mm. did x.fn x.under' ls labels rest x.s (drop (takes b) ops) (act mm b x.s (take (takes b) ops))) w.most ∙ ap (did x.fn x.under' ls labels rest x.s (drop (takes b) ops)) e)
+    both_act b rest o e = by o (ap (λ mm. did x.fn x.under' ls labels rest x.s (drop (takes b) ops) (act mm b x.s (take (takes b) ops))) w.most
+        ∙ ap (did x.fn x.under' ls labels rest x.s (drop (takes b) ops)) e)
       where
         alike : SameAct (running x.s x.fn x.under ls ops (plain (basic b) rest) labels) (flat_side (plain (basic b) rest))
         alike = record { instruction = b; rest = rest; rest' = rest; original = refl; flat_one = refl; operands = refl; same_store = refl }
@@ -254,7 +269,8 @@ module _ (m p : Module) (which : List Bool) (w : Flattened m p which) (x : Ctx m
         → Follows m p which (running x.s x.fn x.under ls ops (plain i rest) labels) (flat_side (plain i rest)) (step_plain m x.s x.fn x.under ls ops labels rest i)
     plain_step (basic b) rest t fit = both_act b rest (act (memory_max m) b x.s (take (takes b) ops)) refl fit
     plain_step (local_get y) rest t fit = quietly tt (both_go 0 (plain (local_get y) rest) _ (inside 0 ls (value_at ls y ∷ ops) rest labels fit) tt (got_local y t))
-    plain_step (local_set y) rest t fit = quietly tt (both_go 0 (plain (local_set y) rest) _ (meet_top 0 ops _ _ _ (λ v below h. inside 0 (slice_set ls y v) below rest labels h) fit) tt (set_local y t))
+    plain_step (local_set y) rest t fit = quietly tt (both_go 0 (plain (local_set y) rest) _ (meet_top 0 ops _ _ _ (λ v below h. inside 0 (slice_set ls y v) below rest labels h) fit) tt
+        (set_local y t))
     plain_step (local_tee y) rest t fit = quietly tt (both_go 0 (plain (local_tee y) rest) _ (meet_top 0 ops _ _ _ (λ v below h. inside 0 (slice_set ls y v) (v ∷ below) rest labels h) fit) tt tt)
     plain_step (br l) rest t fit = quietly tt (both_go 0 (plain (br l) rest) _ (meet_jump 0 ls ops labels l fit) tt tt)
     plain_step (br_if l) rest t fit =
@@ -267,12 +283,14 @@ module _ (m p : Module) (which : List Bool) (w : Flattened m p which) (x : Ctx m
     plain_step (call g) rest t fit =
         let gin = called g t in
         quietly tt (both_go (param_count (func_type_at m g)) (plain (call g) rest) _
-        (subst (λ (u : FuncType). Met m p which (param_count (func_type_at m g)) (invoke m x.s x.fn x.under ls [] ops rest labels (param_count (func_type_at m g)) g (defined_at m g)) (invoke p x.s x.fn x.under' ls [] ops rest labels (param_count u) g (defined_at p g))) (sym (w.func_type g gin))
+        (subst (λ (u : FuncType). Met m p which (param_count (func_type_at m g)) (invoke m x.s x.fn x.under ls [] ops rest labels (param_count (func_type_at m g)) g (defined_at m g))
+        (invoke p x.s x.fn x.under' ls [] ops rest labels (param_count u) g (defined_at p g))) (sym (w.func_type g gin))
         (meet_invoke ls [] ops rest labels (param_count (func_type_at m g)) g gin fit)) tt tt)
     plain_step (call_indirect sort) rest t fit =
         quietly tt (both_go (param_count (type_at m sort)) (plain (call_indirect sort) rest) _
         (meet_number (param_count (type_at m sort)) ops _ _ _
-        (λ n below h. meet_through ls (V.I32 n ∷ []) below rest labels sort (called_sort sort t) (slice_get x.s.table n) (λ g z. each_got (EntryNamed (length (func_sorts m))) x.s.table n (Some g) x.fits.table z) h) fit) tt tt)
+        (λ n below h. meet_through ls (V.I32 n ∷ []) below rest labels sort (called_sort sort t) (slice_get x.s.table n)
+        (λ g z. each_got (EntryNamed (length (func_sorts m))) x.s.table n (Some g) x.fits.table z) h) fit) tt tt)
 
     code_step : (code : Code) → ActFits m x.fn ls code labels (types_of ops) → Fit (step_at m x.s x.fn [] ls ops labels code)
         → Follows m p which (running x.s x.fn x.under ls ops code labels) (flat_side code) (step_at m x.s x.fn x.under ls ops labels code)
@@ -283,9 +301,12 @@ module _ (m p : Module) (which : List Bool) (w : Flattened m p which) (x : Ctx m
     code_step (branch r one two rest) a fit = quietly tt (both_go 0 (branch r one two rest) _ (meet_number 0 ops _ _ _ by fit) tt tt)
       where
         by : (n : ℕ) (below : List Value)
-            → Fit (steps 0 (choose n (running x.s x.fn [] ls below one (block_label (length below) (arity_of r) rest two ∷ labels)) (running x.s x.fn [] ls below two (block_label (length below) (arity_of r) rest done ∷ labels))))
-            → Met m p which 0 (steps 0 (choose n (running x.s x.fn x.under ls below one (block_label (length below) (arity_of r) rest two ∷ labels)) (running x.s x.fn x.under ls below two (block_label (length below) (arity_of r) rest done ∷ labels))))
-            (steps 0 (choose n (running x.s x.fn x.under' ls below one (block_label (length below) (arity_of r) rest two ∷ labels)) (running x.s x.fn x.under' ls below two (block_label (length below) (arity_of r) rest done ∷ labels))))
+            → Fit (steps 0 (choose n (running x.s x.fn [] ls below one (block_label (length below) (arity_of r) rest two ∷ labels))
+            (running x.s x.fn [] ls below two (block_label (length below) (arity_of r) rest done ∷ labels))))
+            → Met m p which 0 (steps 0 (choose n (running x.s x.fn x.under ls below one (block_label (length below) (arity_of r) rest two ∷ labels))
+            (running x.s x.fn x.under ls below two (block_label (length below) (arity_of r) rest done ∷ labels))))
+            (steps 0 (choose n (running x.s x.fn x.under' ls below one (block_label (length below) (arity_of r) rest two ∷ labels))
+            (running x.s x.fn x.under' ls below two (block_label (length below) (arity_of r) rest done ∷ labels))))
         by zero below h = inside 0 ls below two (block_label (length below) (arity_of r) rest done ∷ labels) h
         by (suc n) below h = inside 0 ls below one (block_label (length below) (arity_of r) rest two ∷ labels) h
 

@@ -5,7 +5,8 @@ use Rattle.wa_types.specs.declared.values.Value.{Value}
 use Rattle.wa_types.specs.declared.values.Value.TheVariants as V
 use Rattle.wa_types.specs.declared.values.Trap.TheVariants.{TypeMismatch}
 use Rattle.wa_types.specs.Modules.{defined_at, func_type_at, type_at}
-use Rattle.wa_types.specs.Syntax.{Basic, nop, drop, select, const, num, global_get, global_set, load, store, memory_size, memory_grow, Plain, basic, local_get, local_set, local_tee, br, br_if, br_table, return, unreachable, call, call_indirect, a_block, a_loop, Code, done, plain, nest, branch, Func, Module}
+use Rattle.wa_types.specs.Syntax.{Basic, nop, drop, select, const, num, global_get, global_set, load, store, memory_size, memory_grow, Plain, basic, local_get, local_set, local_tee, br}
+use Rattle.wa_types.specs.Syntax.{br_if, br_table, return, unreachable, call, call_indirect, a_block, a_loop, Code, done, plain, nest, branch, Func, Module}
 use Rattle.wa_model.specs.Store.{Store, takes, accessed}
 use Rattle.wa_model.specs.Configuration.{Label, block_label, loop_label, Activation, Configuration}
 use Rattle.wa_model.specs.Step.{Next, steps, traps, leave, jump, finish, choose, with_top, with_number, invoke, through, param_count, same_func_type, step_plain, step_at, step}
@@ -65,7 +66,8 @@ module _ (m : Module) (s : Store) (fn : ℕ) (under : List Activation) (ls : Lis
   keeps_through own ops rest labels sort None = tt
   keeps_through own ops rest labels sort (Some None) = tt
   keeps_through own ops rest labels sort (Some (Some x)) =
-      keeps_if (same_func_type (func_type_at m x) (type_at m sort)) (invoke m s fn under ls own ops rest labels (param_count (type_at m sort)) x (defined_at m x)) (traps (param_count (type_at m sort)) TypeMismatch s)
+      keeps_if (same_func_type (func_type_at m x) (type_at m sort)) (invoke m s fn under ls own ops rest labels (param_count (type_at m sort)) x (defined_at m x))
+      (traps (param_count (type_at m sort)) TypeMismatch s)
       (keeps_invoke own ops rest labels (param_count (type_at m sort)) x (defined_at m x)) tt
 
   keeps_plain : (ops : List Value) (labels : List Label) (rest : Code) (p : Plain) → IsQuiet (plain p rest) → Keeps s (step_plain m s fn under ls ops labels rest p)
@@ -165,22 +167,74 @@ module _ (p : Module) (first : ℕ → ℕ) where
       by (inl z) =
           let a = z.all in
           let b = z.all_lean in
-          inl (record { n = suc k + z.n; l = suc k + z.l; mid = z.mid; before = loudly s q lo z.before refl refl; j = z.j; acts = z.acts; quiet = z.quiet; here = z.here; counted = z.counted; all = omega arith; all_lean = omega arith })
+          inl (record {
+            n = suc k + z.n;
+            l = suc k + z.l;
+            mid = z.mid;
+            before = loudly s q lo z.before refl refl;
+            j = z.j;
+            acts = z.acts;
+            quiet = z.quiet;
+            here = z.here;
+            counted =
+                z.counted;
+            all = omega arith;
+            all_lean = omega arith;
+          })
       by (inr z) =
           let a = z.none in
           let b = z.none_lean in
-          inl (record { n = 0; l = 0; mid = c; before = stands; j = k; acts = subst (λ t. step p c ≡ steps k t) z.same s; quiet = q; here = suc k; counted = whole lo; all = omega arith; all_lean = omega arith })
+          inl (record {
+            n = 0;
+            l = 0;
+            mid = c;
+            before = stands;
+            j = k;
+            acts = subst (λ t. step p c ≡ steps k t) z.same s;
+            quiet = q;
+            here = suc k;
+            counted = whole lo;
+            all =
+                omega arith;
+            all_lean = omega arith;
+          })
   last_is c e cost lean (softly {d = d1} {k = k} {n = n} {l = l} s q x ec) = by (last_is d1 e n l x)
     where
       by : Last p first d1 n l e ⊎ NoneLeft d1 n l e → Last p first c cost l e ⊎ NoneLeft c cost l e
       by (inl z) =
           let a = z.all in
           let b = z.all_lean in
-          inl (record { n = suc k + z.n; l = z.l; mid = z.mid; before = softly s q z.before refl; j = z.j; acts = z.acts; quiet = z.quiet; here = z.here; counted = z.counted; all = omega arith; all_lean = omega arith })
+          inl (record {
+            n = suc k + z.n;
+            l = z.l;
+            mid = z.mid;
+            before = softly s q z.before refl;
+            j = z.j;
+            acts = z.acts;
+            quiet = z.quiet;
+            here = z.here;
+            counted = z.counted;
+            all =
+                omega arith;
+            all_lean = omega arith;
+          })
       by (inr z) =
           let a = z.none in
           let b = z.none_lean in
-          inl (record { n = 0; l = 0; mid = c; before = stands; j = k; acts = subst (λ t. step p c ≡ steps k t) z.same s; quiet = q; here = 0; counted = nothing; all = omega arith; all_lean = omega arith })
+          inl (record {
+            n = 0;
+            l = 0;
+            mid = c;
+            before = stands;
+            j = k;
+            acts = subst (λ t. step p c ≡ steps k t) z.same s;
+            quiet = q;
+            here = 0;
+            counted = nothing;
+            all =
+                omega arith;
+            all_lean = omega arith;
+          })
 
   -- quiet reductions in a row leave the store
   pub still_store : (c e : Configuration) (cost lean : ℕ) → Still p first c cost lean e → e.store ≡ c.store
@@ -203,7 +257,8 @@ same_stores m which d to be = by d to be
     by _ _ (beside_same fits told is us act) = refl
 
 module _ (m p : Module) (which : List Bool) (w : Flattened m p which) where
-  by_last : (c f : Configuration) → IsQuiet c.here.code → (k : ℕ) (d : Configuration) (cost lean : ℕ) (to : Configuration) → suc k ≤ lean → cost ≤ 16 * suc k → Beside m which d to → Last p (first_of m) f cost lean to ⊎ NoneLeft f cost lean to → FlatSteps m p which c f k d
+  by_last : (c f : Configuration) → IsQuiet c.here.code → (k : ℕ) (d : Configuration) (cost lean : ℕ) (to : Configuration) → suc k ≤ lean → cost ≤ 16 * suc k → Beside m which d to
+      → Last p (first_of m) f cost lean to ⊎ NoneLeft f cost lean to → FlatSteps m p which c f k d
   by_last c f qc k d cost lean to le mo be (inl z) =
       let a = z.all in
       let b = z.all_lean in

@@ -1,5 +1,6 @@
 -- Operands in slots: a slot is written, a result local is written, results go to and fro.
-use Rattle.std.proofs.Common.{◌≡◌, ◌≢◌, ◌∙◌, ℕ, zero, suc, ◌+◌, ◌-◌, ◌≤◌, ◌<◌, List, [], ◌∷◌, ◌++◌, length, drop, Bool, true, false, ◌&&◌, refl, sym, ap, subst, arith, get_or-set_other, get_or-set_same}
+use Rattle.std.proofs.Common.{◌≡◌, ◌≢◌, ◌∙◌, ℕ, zero, suc, ◌+◌, ◌-◌, ◌≤◌, ◌<◌, List, [], ◌∷◌, ◌++◌, length, drop, Bool, true, false, ◌&&◌, refl, sym, ap, subst, arith, get_or-set_other}
+use Rattle.std.proofs.Common.{get_or-set_same}
 use Rattle.std.specs.Prelude.{slice_set, nat_eq}
 use Rattle.std.proofs.lemmas.Bool.{eqb-true}
 use Rattle.std.proofs.lemmas.List.{length-map, set-append_right, get_or-append_right}
@@ -27,7 +28,8 @@ pub one_height : (h h' : ℕ) (t t' : ValType) (ps : List Pair) → place h t ps
 one_height h h' t t' [] lt e = absurd (omega arith)
 one_height h h' t t' (p ∷ ps) lt e = by (λ a b. one_height h h' t t' ps a b) (same_pair h t p) (same_pair h' t' p) refl refl lt e
   where
-    by : (place h t ps < length ps → place h t ps ≡ place h' t' ps → h ≡ h') → (a b : Bool) → same_pair h t p ≡ a → same_pair h' t' p ≡ b → past a (place h t ps) < suc (length ps) → past a (place h t ps) ≡ past b (place h' t' ps) → h ≡ h'
+    by : (place h t ps < length ps → place h t ps ≡ place h' t' ps → h ≡ h') → (a b : Bool) → same_pair h t p ≡ a → same_pair h' t' p ≡ b → past a (place h t ps) < suc (length ps)
+        → past a (place h t ps) ≡ past b (place h' t' ps) → h ≡ h'
     by ih true true ea eb lt e = eqb-true h p.number (both (nat_eq h p.number) (same_type t p.ty) ea) ∙ sym (eqb-true h' p.number (both (nat_eq h' p.number) (same_type t' p.ty) eb))
     by ih true false ea eb lt e = absurd (omega arith)
     by ih false true ea eb lt e = absurd (omega arith)
@@ -99,13 +101,15 @@ module _ (n : Names) (ls : List Value) (e : length ls ≡ n.first) where
     here extra ops code = running s fn under (ls ++ extra) ops code labels
 
     -- the topmost operand goes to its slot
-    pub put_top : (extra ops : List Value) (v : Value) (types : List ValType) (code : Code) → types ≡ type_of v ∷ types_of ops → place (length ops) (type_of v) n.slots < length n.slots → length n.slots ≤ length extra → Holds n extra ops
+    pub put_top : (extra ops : List Value) (v : Value) (types : List ValType) (code : Code) → types ≡ type_of v ∷ types_of ops → place (length ops) (type_of v) n.slots < length n.slots
+        → length n.slots ≤ length extra → Holds n extra ops
         → Still p first (here extra (v ∷ []) (plain (local_set (top n types)) code)) 1 0 (here (slice_set extra (place (length ops) (type_of v) n.slots) v) [] code)
     put_top extra ops v types code et lt le h =
         let k : ℕ = place (length ops) (type_of v) n.slots in
         let to : top n types ≡ n.first + k = ap (top n) et ∙ ap (λ i. n.first + place i (type_of v) n.slots) (types_long ops) in
         subst (λ x. Still p first (here extra (v ∷ []) (plain (local_set x) code)) 1 0 (here (slice_set extra k v) [] code)) (sym to)
-        (subst (λ xs. Still p first (here extra (v ∷ []) (plain (local_set (n.first + k)) code)) 1 0 (running s fn under xs [] code labels)) (extra_put ls extra n.first k v e) (soft p first 0 _ _ refl tt))
+        (subst (λ xs. Still p first (here extra (v ∷ []) (plain (local_set (n.first + k)) code)) 1 0 (running s fn under xs [] code labels)) (extra_put ls extra n.first k v e)
+        (soft p first 0 _ _ refl tt))
 
     -- one is read
     pub get_top : (extra ops on_stack : List Value) (v : Value) (types : List ValType) (code : Code) → types ≡ type_of v ∷ types_of ops → Holds n extra (v ∷ ops)

@@ -48,13 +48,15 @@ module _ (p : Module) (first : ℕ → ℕ) where
 
   module _ (s : Store) (fn : ℕ) (under : List Activation) (ls : List Value) (labels : List Label) where
     -- slots are read
-    pub push : (xs : List ℕ) (vs ops : List Value) (code : Code) → Gets ls xs vs → Still p first (running s fn under ls ops (all_got (map Local (reverse xs)) code) labels) (length xs) 0 (running s fn under ls (vs ++ ops) code labels)
+    pub push : (xs : List ℕ) (vs ops : List Value) (code : Code) → Gets ls xs vs → Still p first (running s fn under ls ops (all_got (map Local (reverse xs)) code) labels) (length xs) 0
+        (running s fn under ls (vs ++ ops) code labels)
     push [] [] ops code g = stands
     push [] (v ∷ vs) ops code g = absurd g
     push (x ∷ xs) [] ops code g = absurd g
     push (x ∷ xs) (v ∷ vs) ops code g =
         let e : all_got (map Local (reverse (x ∷ xs))) code ≡ all_got (map Local (reverse xs)) (plain (local_get x) code) =
-        ap (λ ys. all_got (map Local ys) code) (reverse-append (x ∷ []) xs) ∙ ap (λ ys. all_got ys code) (map-append Local (reverse xs) (x ∷ [])) ∙ all_got_on (map Local (reverse xs)) (Local x ∷ []) code in
+        ap (λ ys. all_got (map Local ys) code) (reverse-append (x ∷ []) xs) ∙ ap (λ ys. all_got ys code) (map-append Local (reverse xs) (x ∷ []))
+        ∙ all_got_on (map Local (reverse xs)) (Local x ∷ []) code in
         let last : Still p first (running s fn under ls (vs ++ ops) (plain (local_get x) code) labels) 1 0 (running s fn under ls (v ∷ (vs ++ ops)) code labels) =
         subst (λ u. Still p first (running s fn under ls (vs ++ ops) (plain (local_get x) code) labels) 1 0 (running s fn under ls (u ∷ (vs ++ ops)) code labels)) g.0 (soft 0 _ _ refl tt) in
         subst (λ c. Still p first (running s fn under ls ops c labels) (suc (length xs)) 0 (running s fn under ls (v ∷ (vs ++ ops)) code labels)) (sym e)

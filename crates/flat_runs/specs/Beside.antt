@@ -23,6 +23,7 @@ Loud first (plain (local_get x) rest) = x < first
 Loud first (plain (local_set x) rest) = x < first
 Loud first _ = Unit {0}
 
+-- how many parameters and declared locals a function has that is there
 abbrev pub first_in : Module → Option Func → ℕ
 first_in m None = 0
 first_in m (Some f) = length (locals_of m f)
@@ -39,13 +40,15 @@ IsQuiet _ = Unit {0}
 -- Reductions in a row of this total cost, and of this lean cost at least.
 pub data Stretch (p : Module) (first : ℕ → ℕ) : Configuration → (cost lean : ℕ) → Configuration → Type 0 where
   stays : {c : Configuration} → Stretch p first c 0 0 c
-  counts : {c d e : Configuration} {k n l cost lean : ℕ} → step p c ≡ steps k d → Loud (first c.here.func) c.here.code → Stretch p first d n l e → cost ≡ suc k + n → lean ≡ suc k + l → Stretch p first c cost lean e
+  counts : {c d e : Configuration} {k n l cost lean : ℕ} → step p c ≡ steps k d → Loud (first c.here.func) c.here.code → Stretch p first d n l e → cost ≡ suc k + n → lean ≡ suc k + l
+      → Stretch p first c cost lean e
   skips : {c d e : Configuration} {k n l cost : ℕ} → step p c ≡ steps k d → Stretch p first d n l e → cost ≡ suc k + n → Stretch p first c cost l e
 
 -- Quiet reductions in a row: each leaves the store, and none is a load, a store or a growth.
 pub data Still (p : Module) (first : ℕ → ℕ) : Configuration → (cost lean : ℕ) → Configuration → Type 0 where
   stands : {c : Configuration} → Still p first c 0 0 c
-  loudly : {c d e : Configuration} {k n l cost lean : ℕ} → step p c ≡ steps k d → IsQuiet c.here.code → Loud (first c.here.func) c.here.code → Still p first d n l e → cost ≡ suc k + n → lean ≡ suc k + l → Still p first c cost lean e
+  loudly : {c d e : Configuration} {k n l cost lean : ℕ} → step p c ≡ steps k d → IsQuiet c.here.code → Loud (first c.here.func) c.here.code → Still p first d n l e → cost ≡ suc k + n
+      → lean ≡ suc k + l → Still p first c cost lean e
   softly : {c d e : Configuration} {k n l cost : ℕ} → step p c ≡ steps k d → IsQuiet c.here.code → Still p first d n l e → cost ≡ suc k + n → Still p first c cost l e
 
 -- ---- the relation
@@ -61,11 +64,14 @@ Holds n extra (v ∷ ops) =
 pub data Labels (n : Names) (c : Around) : (ls : List (Option ValType)) → (outs low : List ValType) → (labels labels' : List Label) → Type 0 where
   outermost : HasResult n 0 c.result → Labels n c (c.result ∷ []) (listed c.result) [] [] (block_label 0 0 (result_got (result_of n c.result)) done ∷ [])
   in_block : {ls : List (Option ValType)} {all : List ValType} {labels labels' : List Label} {r : Option ValType} {rest skipped skipped' : Code} (outs own low : List ValType)
-      → Labels n c ls outs low labels labels' → HasResult n (length ls) r → AllIn n all → all ≡ own ++ low → Good n c ls rest outs (listed r ++ own) low → length (calls_of skipped') ≡ call_count skipped
-      → Labels n c (r ∷ ls) (listed r) all (block_label (length all) (arity_of r) rest skipped ∷ labels) (block_label 0 0 (code_of (arrive n (length ls) r all (flat n c ls rest (listed r ++ all)))) skipped' ∷ labels')
+      → Labels n c ls outs low labels labels' → HasResult n (length ls) r → AllIn n all → all ≡ own ++ low → Good n c ls rest outs (listed r ++ own) low
+      → length (calls_of skipped') ≡ call_count skipped
+      → Labels n c (r ∷ ls) (listed r) all (block_label (length all) (arity_of r) rest skipped ∷ labels)
+      (block_label 0 0 (code_of (arrive n (length ls) r all (flat n c ls rest (listed r ++ all)))) skipped' ∷ labels')
   in_loop : {ls : List (Option ValType)} {all : List ValType} {labels labels' : List Label} {body rest : Code} (r : Option ValType) (outs own low : List ValType)
       → Labels n c ls outs low labels labels' → AllIn n all → all ≡ own ++ low → Good n c (None ∷ ls) body (listed r) [] all → Good n c ls rest outs (listed r ++ own) low
-      → Labels n c (None ∷ ls) (listed r) all (loop_label (length all) body rest ∷ labels) (loop_label 0 (code_of (flat n c (None ∷ ls) body all)) (code_of (flat n c ls rest (listed r ++ all))) ∷ labels')
+      → Labels n c (None ∷ ls) (listed r) all (loop_label (length all) body rest ∷ labels)
+      (loop_label 0 (code_of (flat n c (None ∷ ls) body all)) (code_of (flat n c ls rest (listed r ++ all))) ∷ labels')
 
 -- Code of the original over operands of these types, and the statements that stand for it.
 pub record Spot (m : Module) (f : Func) (types : List ValType) (code : Code) (labels : List Label) (stmts : Stmts) (labels' : List Label) : Type 0 where
@@ -90,8 +96,10 @@ pub record Locals (m : Module) (f : Func) (ls extra ops : List Value) : Type 0 w
 pub data Callers (m : Module) (which : List Bool) : (g : ℕ) → (under under' : List Activation) → Type 0 where
   host : {g : ℕ} → Callers m which g [] []
   above : {g fn : ℕ} {f : Func} {under under' : List Activation} {ls extra ops taken : List Value} {code : Code} {labels labels' : List Label} {stmts : Stmts}
-      → is_told (slice_get which fn) ≡ true → defined_at m fn ≡ Some f → Callers m which fn under under' → Locals m f ls extra (taken ++ ops) → Spot m f (results_of m g ++ types_of ops) code labels stmts labels'
-      → Callers m which g (waiting fn ls ops taken code labels ∷ under) (waiting fn (ls ++ extra) [] taken (set_to (top_of (names m f) (result_count m g) (results_of m g ++ types_of ops)) (code_of stmts)) labels' ∷ under')
+      → is_told (slice_get which fn) ≡ true → defined_at m fn ≡ Some f → Callers m which fn under under' → Locals m f ls extra (taken ++ ops)
+      → Spot m f (results_of m g ++ types_of ops) code labels stmts labels'
+      → Callers m which g (waiting fn ls ops taken code labels ∷ under) (waiting fn (ls ++ extra) [] taken
+      (set_to (top_of (names m f) (result_count m g) (results_of m g ++ types_of ops)) (code_of stmts)) labels' ∷ under')
   above_same : {g fn : ℕ} {f : Func} {under under' : List Activation} {ls ops taken : List Value} {code : Code} {labels : List Label}
       → is_told (slice_get which fn) ≡ false → defined_at m fn ≡ Some f → Callers m which fn under under' → ActFits m fn ls code labels (results_of m g ++ types_of ops)
       → Callers m which g (waiting fn ls ops taken code labels ∷ under) (waiting fn ls ops taken code labels ∷ under')
@@ -148,10 +156,12 @@ abbrev pub AtCallOrSame : Bool → Module → (a a' : Activation) → Type 0
 AtCallOrSame true m a a' = AtCall m a a'
 AtCallOrSame false m a a' = a' ≡ a
 
+-- So is each that waits.
 abbrev pub AllAtCalls : Module → List Bool → (under under' : List Activation) → Type 0
 AllAtCalls m which [] [] = Unit {0}
 AllAtCalls m which (a ∷ under) (a' ∷ under') = AtCallOrSame (is_told (slice_get which a.func)) m a a' × AllAtCalls m which under under'
 AllAtCalls m which _ _ = ⊥
 
+-- So are all callers.
 abbrev pub CallersAreAtCalls : Type 0
 CallersAreAtCalls = (m : Module) (which : List Bool) (g : ℕ) (under under' : List Activation) → Callers m which g under under' → AllAtCalls m which under under'

@@ -42,9 +42,11 @@ pub record Comes (m p : Module) (which : List Bool) (d c' : Configuration) (most
 -- A call of the host begins on both sides.
 abbrev pub CallsBegin : Type 0
 CallsBegin =
-    (m p : Module) (which : List Bool) (s : Store) (args : List Value) (g : ℕ) (h h' : Func) → Flattened m p which → StoreFits m s → defined_at m g ≡ Some h → defined_at p g ≡ Some h' → types_of args ≡ (func_type_at m g).params
+    (m p : Module) (which : List Bool) (s : Store) (args : List Value) (g : ℕ) (h h' : Func) → Flattened m p which → StoreFits m s → defined_at m g ≡ Some h → defined_at p g ≡ Some h'
+    → types_of args ≡ (func_type_at m g).params
     → Comes m p which (entered s [] args g h) (entered s [] args g h') 1
 
 -- Behind an import's answer both sides go on.
 abbrev pub AnswersGoOn : Type 0
-AnswersGoOn = (m p : Module) (which : List Bool) (s : Store) (g : ℕ) (d to : Configuration) (values : List Value) → Flattened m p which → StoreFits m s → Asked m which g d to → types_of values ≡ results_of m g → Comes m p which (resumed d s values) (resumed to s values) 1
+AnswersGoOn = (m p : Module) (which : List Bool) (s : Store) (g : ℕ) (d to : Configuration) (values : List Value) → Flattened m p which → StoreFits m s → Asked m which g d to
+    → types_of values ≡ results_of m g → Comes m p which (resumed d s values) (resumed to s values) 1

@@ -1,5 +1,6 @@
 -- What a survey finds is what the definition numbers.
-use Rattle.std.proofs.Common.{◌≡◌, ℕ, zero, suc, ◌+◌, ◌<◌, ◌||◌, ◌&&◌, ◌++◌, max, List, [], ◌∷◌, length, drop, nat_eq, Option, Some, None, Bool, true, false, if◌then◌else◌, refl, arith, ap, sym, ◌∙◌, ◌⊎◌, inl, inr, length-append}
+use Rattle.std.proofs.Common.{◌≡◌, ℕ, zero, suc, ◌+◌, ◌<◌, ◌||◌, ◌&&◌, ◌++◌, max, List, [], ◌∷◌, length, drop, nat_eq, Option, Some, None, Bool, true, false, if◌then◌else◌, refl, arith, ap}
+use Rattle.std.proofs.Common.{sym, ◌∙◌, ◌⊎◌, inl, inr, length-append}
 use Rattle.std.specs.List.{list_any}
 use Rattle.std.proofs.lemmas.Bool.{eqb-true}
 use Rattle.std.proofs.lemmas.List.Folds.{list_any-append}
@@ -23,7 +24,8 @@ use Rattle.flat_survey.specs.Surveying.{points_at, results_at}
 
 -- ---- the same pairs
 
-pairs_same : (n k : ℕ) (seen : List Seen) (test : ℕ → ValType → Bool) → ((j : ℕ) (t : ValType) → is_marked seen j t ≡ test (n + j) t) → ((j : ℕ) (t : ValType) → test (n + j) t ≡ true → j < k) → pairs_from test n k ≡ pairs_in n seen
+pairs_same : (n k : ℕ) (seen : List Seen) (test : ℕ → ValType → Bool) → ((j : ℕ) (t : ValType) → is_marked seen j t ≡ test (n + j) t)
+    → ((j : ℕ) (t : ValType) → test (n + j) t ≡ true → j < k) → pairs_from test n k ≡ pairs_in n seen
 pairs_same n zero [] test e lt = refl
 pairs_same n (suc k) [] test e lt =
     let zero_is : n + 0 ≡ n = omega arith in
@@ -51,13 +53,15 @@ pairs_same n (suc k) (s ∷ seen) test e lt =
     let a : test n I32 ≡ s.narrow = ap (λ m. test m I32) (sym zero_is) ∙ sym (e 0 I32) in
     let b : test n I64 ≡ s.wide = ap (λ m. test m I64) (sym zero_is) ∙ sym (e 0 I64) in
     ap (λ c. pair_onto c n I32 (pair_onto (test n I64) n I64 (pairs_from test (suc n) k))) a ∙ ap (λ c. pair_onto s.narrow n I32 (pair_onto c n I64 (pairs_from test (suc n) k))) b
-    ∙ ap (λ ps. pair_onto s.narrow n I32 (pair_onto s.wide n I64 ps)) (pairs_same (suc n) k seen test (λ j t. e (suc j) t ∙ ap (λ m. test m t) (up n j)) (λ j t f. let w = lt (suc j) t (ap (λ m. test m t) (up n j) ∙ f) in omega (arith, w)))
+    ∙ ap (λ ps. pair_onto s.narrow n I32 (pair_onto s.wide n I64 ps)) (pairs_same (suc n) k seen test (λ j t. e (suc j) t ∙ ap (λ m. test m t) (up n j))
+    (λ j t f. let w = lt (suc j) t (ap (λ m. test m t) (up n j) ∙ f) in omega (arith, w)))
   where
     up : (n j : ℕ) → n + suc j ≡ suc n + j
     up n j = omega arith
 
 -- from number 0 on
-same_pairs : (k : ℕ) (seen : List Seen) (test : ℕ → ValType → Bool) → ((j : ℕ) (t : ValType) → is_marked seen j t ≡ test j t) → ((j : ℕ) (t : ValType) → test j t ≡ true → j < k) → pairs_from test 0 k ≡ pairs_in 0 seen
+same_pairs : (k : ℕ) (seen : List Seen) (test : ℕ → ValType → Bool) → ((j : ℕ) (t : ValType) → is_marked seen j t ≡ test j t) → ((j : ℕ) (t : ValType) → test j t ≡ true → j < k)
+    → pairs_from test 0 k ≡ pairs_in 0 seen
 same_pairs k seen test e lt =
     pairs_same 0 k seen test (λ j t. e j t ∙ ap (λ m. test m t) (none j)) (λ j t f. lt j t (ap (λ m. test m t) (none j) ∙ f))
   where
@@ -110,12 +114,14 @@ module _ (d : ℕ) (t : ValType) where
   result_low n (plain p rest) e = result_low n rest e
   result_low n (nest s r body rest) e =
       any_two (shape_pair s n r ++ results_in (suc n) body) (results_in n rest) (n + max (1 + depth_of body) (depth_of rest))
-      (λ f. any_two (shape_pair s n r) (results_in (suc n) body) (n + max (1 + depth_of body) (depth_of rest)) (λ q. omega (arith, shape_low s n r q)) (λ q. let w = result_low (suc n) body q in omega (arith, w)) f)
+      (λ f. any_two (shape_pair s n r) (results_in (suc n) body) (n + max (1 + depth_of body) (depth_of rest)) (λ q. omega (arith, shape_low s n r q))
+      (λ q. let w = result_low (suc n) body q in omega (arith, w)) f)
       (λ f. let w = result_low n rest f in omega (arith, w)) e
   result_low n (branch r a b rest) e =
       any_two (pair_of n r ++ results_in (suc n) a ++ results_in (suc n) b) (results_in n rest) (n + max (1 + max (depth_of a) (depth_of b)) (depth_of rest))
       (λ f. any_two (pair_of n r ++ results_in (suc n) a) (results_in (suc n) b) (n + max (1 + max (depth_of a) (depth_of b)) (depth_of rest))
-      (λ q. any_two (pair_of n r) (results_in (suc n) a) (n + max (1 + max (depth_of a) (depth_of b)) (depth_of rest)) (λ z. omega (arith, one_pair d n t r z)) (λ z. let w = result_low (suc n) a z in omega (arith, w)) q)
+      (λ q. any_two (pair_of n r) (results_in (suc n) a) (n + max (1 + max (depth_of a) (depth_of b)) (depth_of rest)) (λ z. omega (arith, one_pair d n t r z))
+      (λ z. let w = result_low (suc n) a z in omega (arith, w)) q)
       (λ q. let w = result_low (suc n) b q in omega (arith, w)) f)
       (λ f. let w = result_low n rest f in omega (arith, w)) e
 
@@ -126,7 +132,9 @@ unfolding points pruned
 points_pruned c ls done under ops = refl
 points_pruned c ls (plain p rest) under ops = by (is_last p) (points_pruned c ls rest under (after (sig c ls p) ops))
   where
-    by : (b : Bool) → points c ls (pruned rest) under (after (sig c ls p) ops) ≡ points c ls rest under (after (sig c ls p) ops) → (ops ++ under) ∷ unless_last b (points c ls (if b then done else pruned rest) under (after (sig c ls p) ops)) ≡ (ops ++ under) ∷ unless_last b (points c ls rest under (after (sig c ls p) ops))
+    by : (b : Bool) → points c ls (pruned rest) under (after (sig c ls p) ops) ≡ points c ls rest under (after (sig c ls p) ops)
+        → (ops ++ under) ∷ unless_last b (points c ls (if b then done else pruned rest) under (after (sig c ls p) ops)) ≡ (ops ++ under)
+        ∷ unless_last b (points c ls rest under (after (sig c ls p) ops))
     by true ih = refl
     by false ih = ap (λ z. (ops ++ under) ∷ z) ih
 points_pruned c ls (nest s r body rest) under ops =
@@ -141,7 +149,9 @@ points_pruned c ls (branch r a b rest) under ops =
 
 -- ---- all of a body
 
-module _ (w u : Walk) (given : Option ValType) (k : Code) (a b : Found) (none_slots : a.slots.items ≡ []) (marked : (d : ℕ) (t : ValType) → is_marked a.results.items d t ≡ (list_any (same_pair d t) (pair_of 0 given) || false)) (s : Surveyed w u k a b) (own : w.own ≡ []) (under : w.under ≡ []) (labels : w.labels ≡ given ∷ []) where
+module _ (w u : Walk) (given : Option ValType) (k : Code) (a b : Found) (none_slots : a.slots.items ≡ []) (marked : (d : ℕ) (t : ValType)
+    → is_marked a.results.items d t ≡ (list_any (same_pair d t) (pair_of 0 given) || false)) (s : Surveyed w u k a b) (own : w.own ≡ []) (under : w.under ≡ [])
+    (labels : w.labels ≡ given ∷ []) where
   nothing : (h : ℕ) (t : ValType) → is_marked a.slots.items h t ≡ false
   nothing h t = ap (λ z. is_marked z h t) none_slots ∙ empty h t
     where
@@ -164,7 +174,8 @@ module _ (w u : Walk) (given : Option ValType) (k : Code) (a b : Found) (none_sl
   pub results_are : pairs_in 0 b.results.items ≡ pairs_from (λ d t. list_any (same_pair d t) (results_at given k)) 0 (suc (depth_of (pruned k)))
   results_are =
       sym (same_pairs (suc (depth_of (pruned k))) b.results.items (λ d t. list_any (same_pair d t) (results_at given k))
-      (λ d t. s.results d t ∙ ap (λ z. z || any_result d t w k) (marked d t ∙ or_false (list_any (same_pair d t) (pair_of 0 given))) ∙ ap (λ ls. list_any (same_pair d t) (pair_of 0 given) || list_any (same_pair d t) (results_in (length ls) (pruned k))) labels
+      (λ d t. s.results d t ∙ ap (λ z. z || any_result d t w k) (marked d t ∙ or_false (list_any (same_pair d t) (pair_of 0 given)))
+      ∙ ap (λ ls. list_any (same_pair d t) (pair_of 0 given) || list_any (same_pair d t) (results_in (length ls) (pruned k))) labels
       ∙ sym (list_any-append (same_pair d t) (pair_of 0 given) (results_in 1 (pruned k))))
       (λ d t e. low d t (either _ _ (sym (list_any-append (same_pair d t) (pair_of 0 given) (results_in 1 (pruned k))) ∙ e))))
     where

@@ -23,7 +23,8 @@ top_none types all h t e n = by all (ap length e)
     by [] f = refl
     by (x ∷ xs) f = absurd (omega (arith, f, n, length-reverse types))
 
-pub top_some : (types all : List ValType) (d : ValType) (h : ℕ) (t : ValType) → reverse types ≡ all → 0 < length types → same_at h t (length types - 1) (get_or types (length types - 1) d) ≡ is_top h t all
+pub top_some : (types all : List ValType) (d : ValType) (h : ℕ) (t : ValType) → reverse types ≡ all → 0 < length types
+    → same_at h t (length types - 1) (get_or types (length types - 1) d) ≡ is_top h t all
 top_some types all d h t e lt = by all refl
   where
     by : (xs : List ValType) → all ≡ xs → same_at h t (length types - 1) (get_or types (length types - 1) d) ≡ is_top h t xs
@@ -76,7 +77,8 @@ stands_top h t (x ∷ rest) e = by (stands_splits h t (x ∷ rest) e)
 
 -- ---- marks that cover
 
-pub covers_next : (a b : List Seen) (all new : List ValType) (k : ℕ) → Covers a all → drop 1 new ≡ drop k all → ((h : ℕ) (t : ValType) → is_marked b h t ≡ (is_top h t new || is_marked a h t)) → Covers b new
+pub covers_next : (a b : List Seen) (all new : List ValType) (k : ℕ) → Covers a all → drop 1 new ≡ drop k all
+    → ((h : ℕ) (t : ValType) → is_marked b h t ≡ (is_top h t new || is_marked a h t)) → Covers b new
 covers_next a b all new k ca e m h t s = by (stands_top h t new s)
   where
     or_left : (x y : Bool) → x ≡ true → (x || y) ≡ true

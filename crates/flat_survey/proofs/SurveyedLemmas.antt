@@ -1,5 +1,6 @@
 -- A survey, instruction by instruction.
-use Rattle.std.proofs.Common.{◌≡◌, ℕ, zero, suc, ◌+◌, ◌<◌, ◌≤◌, ◌||◌, ◌++◌, List, [], ◌∷◌, length, drop, get_or, slice_get, Option, Some, None, Bool, true, false, if◌then◌else◌, refl, subst, arith, ap, sym, ◌∙◌, length-append, Result, Ok, Err, OnOk}
+use Rattle.std.proofs.Common.{◌≡◌, ℕ, zero, suc, ◌+◌, ◌<◌, ◌≤◌, ◌||◌, ◌++◌, List, [], ◌∷◌, length, drop, get_or, slice_get, Option, Some, None, Bool, true, false, if◌then◌else◌, refl, subst}
+use Rattle.std.proofs.Common.{arith, ap, sym, ◌∙◌, length-append, Result, Ok, Err, OnOk}
 use Rattle.std.specs.List.{list_any}
 use Rattle.std.proofs.lemmas.List.{append-nil, append_assoc}
 use Rattle.std.proofs.lemmas.List.Folds.{list_any-append}
@@ -83,16 +84,19 @@ plain_more v (br_table ts l) mids e s t = cc
 plain_more v return mids e s t = cc
 plain_more v unreachable mids e s t = cc
 plain_more v (call x) mids e s t = from_given _ _ (all_of v) (mids ++ v.under) (s.funcs x).results (call_changed (slice_get v.around.funcs x) v.own mids v.under (s.funcs x).results t)
-plain_more v (call_indirect x) mids e s t = from_given _ _ (all_of v) (mids ++ v.under) (s.sorts x).results (table_changed v.around.table (slice_get v.around.types x) v.own mids v.under (s.sorts x).results t)
+plain_more v (call_indirect x) mids e s t = from_given _ _ (all_of v) (mids ++ v.under) (s.sorts x).results
+    (table_changed v.around.table (slice_get v.around.types x) v.own mids v.under (s.sorts x).results t)
 
 -- ---- the top is visited
 
-module _ (a b : List Seen) (v w : Walk) (more : OneMore (all_of v) (all_of w)) (ca : Covers a (all_of v)) (m : (h : ℕ) (t : ValType) → is_marked b h t ≡ (is_top h t (all_of w) || is_marked a h t)) where
+module _ (a b : List Seen) (v w : Walk) (more : OneMore (all_of v) (all_of w)) (ca : Covers a (all_of v)) (m : (h : ℕ) (t : ValType)
+    → is_marked b h t ≡ (is_top h t (all_of w) || is_marked a h t)) where
   pub visited_covers : Covers b (all_of w)
   visited_covers = covers_next a b (all_of v) (all_of w) more.0 ca more.1 m
 
   pub visited_slots : (rest : Code) (h : ℕ) (t : ValType) → (is_marked b h t || any_point h t w rest) ≡ (is_marked a h t || any_point h t w rest)
-  visited_slots rest h t = ap (λ z. z || any_point h t w rest) (m h t) ∙ seen_on (is_top h t (all_of w)) (is_marked a h t) (any_point h t w rest) (λ e. point_head h t w rest (top_stands h t (all_of w) e))
+  visited_slots rest h t = ap (λ z. z || any_point h t w rest) (m h t) ∙ seen_on (is_top h t (all_of w)) (is_marked a h t) (any_point h t w rest)
+      (λ e. point_head h t w rest (top_stands h t (all_of w) e))
 
 -- ---- bodies
 
@@ -132,7 +136,8 @@ went_first v all a t = record {
 }
 
 -- what nothing is found in is found
-went_through : (v w : Walk) (all left : Code) (a b : Found) → Went v w all left a b → ((h : ℕ) (t : ValType) → any_point h t w left ≡ (stands_at h t (all_of w) || false)) → ((d : ℕ) (t : ValType) → any_result d t w left ≡ false) → Surveyed v w all a b
+went_through : (v w : Walk) (all left : Code) (a b : Found) → Went v w all left a b → ((h : ℕ) (t : ValType) → any_point h t w left ≡ (stands_at h t (all_of w) || false))
+    → ((d : ℕ) (t : ValType) → any_result d t w left ≡ false) → Surveyed v w all a b
 went_through v w all left a b g ps rs = record {
   stays = g.stays;
   slots = λ c h t. sym (or_none (is_marked b.slots.items h t) (stands_at h t (all_of w)) (g.covers c h t)) ∙ ap (λ z. is_marked b.slots.items h t || z) (sym (ps h t)) ∙ g.slots c h t;
@@ -157,7 +162,8 @@ module _ (v w : Walk) (body : List Instr) (j : ℕ) (a b : Found) (g : Went v w 
     went_last e =
         let p = last_plain x e in
         let k : code (drop j body) ≡ plain p.0 (code (drop (j + 1) body)) = front ∙ p.1 (code (drop (j + 1) body)) in
-        went_through v w (code body) (code (drop j body)) a b g (λ h t. ap (any_point h t w) k ∙ last_points h t w p.0 (code (drop (j + 1) body)) p.2) (λ d t. ap (any_result d t w) k ∙ last_results d t w p.0 (code (drop (j + 1) body)) p.2)
+        went_through v w (code body) (code (drop j body)) a b g (λ h t. ap (any_point h t w) k ∙ last_points h t w p.0 (code (drop (j + 1) body)) p.2) (λ d t. ap (any_result d t w) k
+        ∙ last_results d t w p.0 (code (drop (j + 1) body)) p.2)
 
     pub next_typed : TypedAt w (in_front x done)
     next_typed = alone w.around w.labels x (code (drop (j + 1) body)) w.own front_typed
@@ -179,14 +185,17 @@ module _ (v w : Walk) (body : List Instr) (j : ℕ) (a b : Found) (g : Went v w 
       where
         moved_typed : (w u : Walk) (k : Code) → Stays w u → TypedAt (record { around = w.around; labels = w.labels; own = u.own; under = w.under }) k → TypedAt u k
         moved_typed w u k s h =
-            subst (λ c. TypedAt (record { around = c; labels = u.labels; own = u.own; under = u.under }) k) (sym s.around) (subst (λ ls. TypedAt (record { around = w.around; labels = ls; own = u.own; under = u.under }) k) (sym s.labels) h)
+            subst (λ c. TypedAt (record { around = c; labels = u.labels; own = u.own; under = u.under }) k) (sym s.around)
+            (subst (λ ls. TypedAt (record { around = w.around; labels = ls; own = u.own; under = u.under }) k) (sym s.labels) h)
 
 -- ---- one instruction
 
-module _ (v w : Walk) (i : Instr) (p : Plain) (is : (rest : Code) → in_front i rest ≡ plain p rest) (on : is_last p ≡ false) (st : Stays v w) (ty : Types v.around v.labels (in_front i done) w.own v.own) where
+module _ (v w : Walk) (i : Instr) (p : Plain) (is : (rest : Code) → in_front i rest ≡ plain p rest) (on : is_last p ≡ false) (st : Stays v w)
+    (ty : Types v.around v.labels (in_front i done) w.own v.own) where
   plain_moved : Takes (sig v.around v.labels p) v.own w.own
   unfolding Types
-  plain_moved = let t : Types v.around v.labels (plain p done) w.own v.own = subst (λ (k : Code). Types v.around v.labels k w.own v.own) (is done) ty in subst (Takes (sig v.around v.labels p) v.own) t.2 t.1
+  plain_moved = let t : Types v.around v.labels (plain p done) w.own v.own = subst (λ (k : Code). Types v.around v.labels k w.own v.own) (is done) ty
+      in subst (Takes (sig v.around v.labels p) v.own) t.2 t.1
 
   plain_behind : after (sig v.around v.labels p) v.own ≡ w.own
   plain_behind = after_all v.around v.labels p v.own w.own [] v.own on plain_moved (sym (append-nil v.own)) ∙ append-nil w.own
@@ -203,13 +212,15 @@ module _ (v w : Walk) (i : Instr) (p : Plain) (is : (rest : Code) → in_front i
   plain_results : (rest : Code) (d : ℕ) (t : ValType) → any_result d t v (in_front i rest) ≡ any_result d t w rest
   unfolding results_in pruned
   plain_results rest d t =
-      ap (any_result d t v) (is rest) ∙ ap (λ b. list_any (same_pair d t) (results_in (length v.labels) (if b then done else pruned rest))) on ∙ ap (λ ls. list_any (same_pair d t) (results_in (length ls) (pruned rest))) (sym st.labels)
+      ap (any_result d t v) (is rest) ∙ ap (λ b. list_any (same_pair d t) (results_in (length v.labels) (if b then done else pruned rest))) on
+      ∙ ap (λ ls. list_any (same_pair d t) (results_in (length ls) (pruned rest))) (sym st.labels)
 
   plain_counts : 1 ≤ code_items (in_front i done)
   unfolding code_items
   plain_counts = omega (arith, ap code_items (is done))
 
-  pub plain_one : (a b : Found) → SmallTypes v.around → ((h : ℕ) (t : ValType) → is_marked b.slots.items h t ≡ (is_top h t (all_of w) || is_marked a.slots.items h t)) → length (pairs_in 0 b.slots.items) ≤ length (pairs_in 0 a.slots.items) + 1 → b.results.items ≡ a.results.items → SurveyedOne v w i a b
+  pub plain_one : (a b : Found) → SmallTypes v.around → ((h : ℕ) (t : ValType) → is_marked b.slots.items h t ≡ (is_top h t (all_of w) || is_marked a.slots.items h t))
+      → length (pairs_in 0 b.slots.items) ≤ length (pairs_in 0 a.slots.items) + 1 → b.results.items ≡ a.results.items → SurveyedOne v w i a b
   plain_one a b small m few er =
       let more : OneMore (all_of v) (all_of w) = subst (λ u. OneMore (all_of v) (w.own ++ u)) (sym st.under) (plain_more v p w.own on small plain_moved) in
       record {
@@ -283,10 +294,12 @@ module _ (v w u : Walk) (i : Instr) (s : Shape) (given : Option ValType) (body :
   unfolding code_items
   nest_items = ap code_items (is done) ∙ omega arith
 
-  nest_points : (rest : Code) (h : ℕ) (t : ValType) → w ≡ behind_of v given v.own → any_point h t v (in_front i rest) ≡ (stands_at h t (all_of v) || (any_point h t (inside_of v (label s given) v.own) body || any_point h t w rest))
+  nest_points : (rest : Code) (h : ℕ) (t : ValType) → w ≡ behind_of v given v.own → any_point h t v (in_front i rest)
+      ≡ (stands_at h t (all_of v) || (any_point h t (inside_of v (label s given) v.own) body || any_point h t w rest))
   unfolding points
   nest_points rest h t e =
-      ap (any_point h t v) (is rest) ∙ ap (λ z. stands_at h t (all_of v) || z) (list_any-append (stands_at h t) (points v.around (label s given ∷ v.labels) body (v.own ++ v.under) []) (points v.around v.labels rest v.under (listed given ++ v.own)))
+      ap (any_point h t v) (is rest) ∙ ap (λ z. stands_at h t (all_of v) || z) (list_any-append (stands_at h t) (points v.around (label s given ∷ v.labels) body (v.own ++ v.under) [])
+      (points v.around v.labels rest v.under (listed given ++ v.own)))
       ∙ ap (λ (z : Walk). stands_at h t (all_of v) || (any_point h t (inside_of v (label s given) v.own) body || any_point h t z rest)) (sym e)
 
   nest_results : (rest : Code) (d : ℕ) (t : ValType) → w ≡ behind_of v given v.own
@@ -300,14 +313,18 @@ module _ (v w u : Walk) (i : Instr) (s : Shape) (given : Option ValType) (body :
       ∙ ap (λ (z : Walk). (list_any (same_pair d t) here || list_any (same_pair d t) inner) || any_result d t z rest) (sym e)
 
   pub nest_one : (e : Walk) (a a1 m b : Found) → e ≡ inside_of v (label s given) v.own → w ≡ behind_of v given v.own → a1.slots.items ≡ a.slots.items
-      → ((d : ℕ) (t : ValType) → is_marked a1.results.items d t ≡ (list_any (same_pair d t) (shape_pair s (length v.labels) given) || is_marked a.results.items d t)) → length (pairs_in 0 a1.results.items) ≤ length (pairs_in 0 a.results.items) + 1
-      → Surveyed e u body a1 m → ((h : ℕ) (t : ValType) → is_marked b.slots.items h t ≡ (is_top h t (all_of w) || is_marked m.slots.items h t)) → length (pairs_in 0 b.slots.items) ≤ length (pairs_in 0 m.slots.items) + 1 → b.results.items ≡ m.results.items → SurveyedOne v w i a b
+      → ((d : ℕ) (t : ValType) → is_marked a1.results.items d t ≡ (list_any (same_pair d t) (shape_pair s (length v.labels) given) || is_marked a.results.items d t))
+      → length (pairs_in 0 a1.results.items) ≤ length (pairs_in 0 a.results.items) + 1
+      → Surveyed e u body a1 m → ((h : ℕ) (t : ValType) → is_marked b.slots.items h t ≡ (is_top h t (all_of w) || is_marked m.slots.items h t))
+      → length (pairs_in 0 b.slots.items) ≤ length (pairs_in 0 m.slots.items) + 1 → b.results.items ≡ m.results.items → SurveyedOne v w i a b
   nest_one e a a1 m b ee ew ea ra fa g mb fb er =
       let more : OneMore (all_of v) (all_of w) = subst (OneMore (all_of v)) (sym (behind_all v w given v.own ew)) (more_below given (all_of v) (all_of v) 0 refl) in
-      let first : Covers a.slots.items (all_of v) → Covers a1.slots.items (all_of e) = (λ c. subst (λ (z : Walk). Covers a1.slots.items (all_of z)) (sym ee) (subst (λ z. Covers z (all_of v)) (sym ea) c)) in
+      let first : Covers a.slots.items (all_of v) → Covers a1.slots.items (all_of e) =
+      (λ c. subst (λ (z : Walk). Covers a1.slots.items (all_of z)) (sym ee) (subst (λ z. Covers z (all_of v)) (sym ea) c)) in
       let grew : (c : Covers a.slots.items (all_of v)) (h : ℕ) (t : ValType) → is_marked m.slots.items h t ≡ (is_marked a.slots.items h t || any_point h t (inside_of v (label s given) v.own) body) =
       (λ c h t. g.slots (first c) h t ∙ ap (λ z. is_marked z h t || any_point h t e body) ea ∙ ap (λ (z : Walk). is_marked a.slots.items h t || any_point h t z body) ee) in
-      let covered : Covers a.slots.items (all_of v) → Covers m.slots.items (all_of v) = (λ c. covers_on a.slots.items m.slots.items (all_of v) (λ h t. any_point h t (inside_of v (label s given) v.own) body) c (grew c)) in
+      let covered : Covers a.slots.items (all_of v) → Covers m.slots.items (all_of v) =
+      (λ c. covers_on a.slots.items m.slots.items (all_of v) (λ h t. any_point h t (inside_of v (label s given) v.own) body) c (grew c)) in
       record {
         stays = behind_stays v w given v.own ew;
         typed = nest_typed ew;
@@ -318,8 +335,10 @@ module _ (v w u : Walk) (i : Instr) (s : Shape) (given : Option ValType) (body :
             ∙ absorbed (is_marked a.slots.items h t) (stands_at h t (all_of v)) (any_point h t (inside_of v (label s given) v.own) body || any_point h t w rest) (c h t)
             ∙ ap (λ z. is_marked a.slots.items h t || z) (sym (nest_points rest h t ew));
         results = λ rest d t.
-            ap (λ z. is_marked z d t || any_result d t w rest) er ∙ ap (λ z. z || any_result d t w rest) (g.results d t ∙ ap (λ (z : Walk). is_marked a1.results.items d t || any_result d t z body) ee ∙ ap (λ z. z || any_result d t (inside_of v (label s given) v.own) body) (ra d t))
-            ∙ or_turned (list_any (same_pair d t) (shape_pair s (length v.labels) given)) (is_marked a.results.items d t) (any_result d t (inside_of v (label s given) v.own) body) (any_result d t w rest)
+            ap (λ z. is_marked z d t || any_result d t w rest) er ∙ ap (λ z. z || any_result d t w rest) (g.results d t
+            ∙ ap (λ (z : Walk). is_marked a1.results.items d t || any_result d t z body) ee ∙ ap (λ z. z || any_result d t (inside_of v (label s given) v.own) body) (ra d t))
+            ∙ or_turned (list_any (same_pair d t) (shape_pair s (length v.labels) given)) (is_marked a.results.items d t) (any_result d t (inside_of v (label s given) v.own) body)
+            (any_result d t w rest)
             ∙ ap (λ z. is_marked a.results.items d t || z) (sym (nest_results rest d t ew));
         few = let f = g.few in omega (arith, f, fa, fb, nest_items, ap (λ z. length (pairs_in 0 z)) er, ap (λ z. length (pairs_in 0 z)) ea);
       }
@@ -354,29 +373,36 @@ module _ (v w u u2 : Walk) (i : Instr) (given : Option ValType) (one two : Code)
   branch_items = omega (arith, ap code_items (is done))
 
   branch_points : (rest : Code) (h : ℕ) (t : ValType) → w ≡ behind_of v given (drop 1 v.own)
-      → any_point h t v (in_front i rest) ≡ (stands_at h t (all_of v) || (any_point h t (inside_of v given (drop 1 v.own)) one || (any_point h t (inside_of v given (drop 1 v.own)) two || any_point h t w rest)))
+      → any_point h t v (in_front i rest) ≡ (stands_at h t (all_of v) || (any_point h t (inside_of v given (drop 1 v.own)) one
+      || (any_point h t (inside_of v given (drop 1 v.own)) two || any_point h t w rest)))
   unfolding points
   branch_points rest h t e =
       let p : List (List ValType) = points v.around (given ∷ v.labels) one (drop 1 v.own ++ v.under) [] in
       let q : List (List ValType) = points v.around (given ∷ v.labels) two (drop 1 v.own ++ v.under) [] in
       let r : List (List ValType) = points v.around v.labels rest v.under (listed given ++ drop 1 v.own) in
-      ap (any_point h t v) (is rest) ∙ ap (λ z. stands_at h t (all_of v) || z) (list_any-append (stands_at h t) p (q ++ r) ∙ ap (λ z. list_any (stands_at h t) p || z) (list_any-append (stands_at h t) q r))
+      ap (any_point h t v) (is rest) ∙ ap (λ z. stands_at h t (all_of v) || z) (list_any-append (stands_at h t) p (q ++ r)
+      ∙ ap (λ z. list_any (stands_at h t) p || z) (list_any-append (stands_at h t) q r))
       ∙ ap (λ (z : Walk). stands_at h t (all_of v) || (list_any (stands_at h t) p || (list_any (stands_at h t) q || any_point h t z rest))) (sym e)
 
   branch_results : (rest : Code) (d : ℕ) (t : ValType) → w ≡ behind_of v given (drop 1 v.own)
-      → any_result d t v (in_front i rest) ≡ (((list_any (same_pair d t) (pair_of (length v.labels) given) || any_result d t (inside_of v given (drop 1 v.own)) one) || any_result d t (inside_of v given (drop 1 v.own)) two) || any_result d t w rest)
+      → any_result d t v (in_front i rest) ≡ (((list_any (same_pair d t) (pair_of (length v.labels) given) || any_result d t (inside_of v given (drop 1 v.own)) one)
+      || any_result d t (inside_of v given (drop 1 v.own)) two) || any_result d t w rest)
   unfolding results_in pruned
   branch_results rest d t e =
       let here : List Pair = pair_of (length v.labels) given in
       let p : List Pair = results_in (suc (length v.labels)) (pruned one) in
       let q : List Pair = results_in (suc (length v.labels)) (pruned two) in
       let r : List Pair = results_in (length v.labels) (pruned rest) in
-      ap (any_result d t v) (is rest) ∙ list_any-append (same_pair d t) (here ++ p ++ q) r ∙ ap (λ z. z || list_any (same_pair d t) r) (list_any-append (same_pair d t) (here ++ p) q ∙ ap (λ z. z || list_any (same_pair d t) q) (list_any-append (same_pair d t) here p))
+      ap (any_result d t v) (is rest) ∙ list_any-append (same_pair d t) (here ++ p ++ q) r
+      ∙ ap (λ z. z || list_any (same_pair d t) r) (list_any-append (same_pair d t) (here ++ p) q ∙ ap (λ z. z || list_any (same_pair d t) q) (list_any-append (same_pair d t) here p))
       ∙ ap (λ (z : Walk). ((list_any (same_pair d t) here || list_any (same_pair d t) p) || list_any (same_pair d t) q) || any_result d t z rest) (sym e)
 
-  pub branch_one : (e e2 : Walk) (a a1 m1 m b : Found) → e ≡ inside_of v given (drop 1 v.own) → e2 ≡ inside_of v given (drop 1 v.own) → w ≡ behind_of v given (drop 1 v.own) → a1.slots.items ≡ a.slots.items
-      → ((d : ℕ) (t : ValType) → is_marked a1.results.items d t ≡ (list_any (same_pair d t) (pair_of (length v.labels) given) || is_marked a.results.items d t)) → length (pairs_in 0 a1.results.items) ≤ length (pairs_in 0 a.results.items) + 1
-      → Surveyed e u one a1 m1 → Surveyed e2 u2 two m1 m → ((h : ℕ) (t : ValType) → is_marked b.slots.items h t ≡ (is_top h t (all_of w) || is_marked m.slots.items h t)) → length (pairs_in 0 b.slots.items) ≤ length (pairs_in 0 m.slots.items) + 1 → b.results.items ≡ m.results.items → SurveyedOne v w i a b
+  pub branch_one : (e e2 : Walk) (a a1 m1 m b : Found) → e ≡ inside_of v given (drop 1 v.own) → e2 ≡ inside_of v given (drop 1 v.own) → w ≡ behind_of v given (drop 1 v.own)
+      → a1.slots.items ≡ a.slots.items
+      → ((d : ℕ) (t : ValType) → is_marked a1.results.items d t ≡ (list_any (same_pair d t) (pair_of (length v.labels) given) || is_marked a.results.items d t))
+      → length (pairs_in 0 a1.results.items) ≤ length (pairs_in 0 a.results.items) + 1
+      → Surveyed e u one a1 m1 → Surveyed e2 u2 two m1 m → ((h : ℕ) (t : ValType) → is_marked b.slots.items h t ≡ (is_top h t (all_of w) || is_marked m.slots.items h t))
+      → length (pairs_in 0 b.slots.items) ≤ length (pairs_in 0 m.slots.items) + 1 → b.results.items ≡ m.results.items → SurveyedOne v w i a b
   branch_one e e2 a a1 m1 m b ee ee2 ew ea ra fa g1 g2 mb fb er =
       let low : List ValType = drop 1 v.own ++ v.under in
       let x : ℕ → ValType → Bool = (λ h t. any_point h t (inside_of v given (drop 1 v.own)) one) in
@@ -384,10 +410,13 @@ module _ (v w u u2 : Walk) (i : Instr) (given : Option ValType) (one two : Code)
       let more : OneMore (all_of v) (all_of w) = subst (OneMore (all_of v)) (sym (behind_all v w given (drop 1 v.own) ew)) (more_below given (all_of v) low 1 below_is) in
       let lower : Covers a.slots.items (all_of v) → Covers a.slots.items low = (λ c h t z. c h t (stands_drop 1 h t (all_of v) (ap (stands_at h t) (sym below_is) ∙ z))) in
       let grew1 : (c : Covers a.slots.items (all_of v)) (h : ℕ) (t : ValType) → is_marked m1.slots.items h t ≡ (is_marked a.slots.items h t || x h t) =
-      (λ c h t. g1.slots (subst (λ (z : Walk). Covers a1.slots.items (all_of z)) (sym ee) (subst (λ z. Covers z low) (sym ea) (lower c))) h t ∙ ap (λ z. is_marked z h t || any_point h t e one) ea ∙ ap (λ (z : Walk). is_marked a.slots.items h t || any_point h t z one) ee) in
+      (λ c h t. g1.slots (subst (λ (z : Walk). Covers a1.slots.items (all_of z)) (sym ee) (subst (λ z. Covers z low) (sym ea) (lower c))) h t
+      ∙ ap (λ z. is_marked z h t || any_point h t e one) ea ∙ ap (λ (z : Walk). is_marked a.slots.items h t || any_point h t z one) ee) in
       let grew2 : (c : Covers a.slots.items (all_of v)) (h : ℕ) (t : ValType) → is_marked m.slots.items h t ≡ ((is_marked a.slots.items h t || x h t) || y h t) =
-      (λ c h t. g2.slots (subst (λ (z : Walk). Covers m1.slots.items (all_of z)) (sym ee2) (covers_on a.slots.items m1.slots.items low x (lower c) (grew1 c))) h t ∙ ap (λ z. z || any_point h t e2 two) (grew1 c h t) ∙ ap (λ (z : Walk). (is_marked a.slots.items h t || x h t) || any_point h t z two) ee2) in
-      let covered : Covers a.slots.items (all_of v) → Covers m.slots.items (all_of v) = (λ c. covers_on a.slots.items m.slots.items (all_of v) (λ h t. x h t || y h t) c (λ h t. grew2 c h t ∙ or_same (is_marked a.slots.items h t) (x h t) (y h t))) in
+      (λ c h t. g2.slots (subst (λ (z : Walk). Covers m1.slots.items (all_of z)) (sym ee2) (covers_on a.slots.items m1.slots.items low x (lower c) (grew1 c))) h t
+      ∙ ap (λ z. z || any_point h t e2 two) (grew1 c h t) ∙ ap (λ (z : Walk). (is_marked a.slots.items h t || x h t) || any_point h t z two) ee2) in
+      let covered : Covers a.slots.items (all_of v) → Covers m.slots.items (all_of v) =
+      (λ c. covers_on a.slots.items m.slots.items (all_of v) (λ h t. x h t || y h t) c (λ h t. grew2 c h t ∙ or_same (is_marked a.slots.items h t) (x h t) (y h t))) in
       record {
         stays = behind_stays v w given (drop 1 v.own) ew;
         typed = branch_typed ew;
@@ -399,8 +428,11 @@ module _ (v w u u2 : Walk) (i : Instr) (given : Option ValType) (one two : Code)
             ∙ ap (λ z. is_marked a.slots.items h t || z) (sym (branch_points rest h t ew));
         results = λ rest d t.
             ap (λ z. is_marked z d t || any_result d t w rest) er
-            ∙ ap (λ z. z || any_result d t w rest) (g2.results d t ∙ ap (λ (z : Walk). is_marked m1.results.items d t || any_result d t z two) ee2 ∙ ap (λ z. z || any_result d t (inside_of v given (drop 1 v.own)) two) (g1.results d t ∙ ap (λ (z : Walk). is_marked a1.results.items d t || any_result d t z one) ee ∙ ap (λ z. z || any_result d t (inside_of v given (drop 1 v.own)) one) (ra d t)))
-            ∙ or_turned_twice (list_any (same_pair d t) (pair_of (length v.labels) given)) (is_marked a.results.items d t) (any_result d t (inside_of v given (drop 1 v.own)) one) (any_result d t (inside_of v given (drop 1 v.own)) two) (any_result d t w rest)
+            ∙ ap (λ z. z || any_result d t w rest) (g2.results d t ∙ ap (λ (z : Walk). is_marked m1.results.items d t || any_result d t z two) ee2
+            ∙ ap (λ z. z || any_result d t (inside_of v given (drop 1 v.own)) two) (g1.results d t ∙ ap (λ (z : Walk). is_marked a1.results.items d t || any_result d t z one) ee
+            ∙ ap (λ z. z || any_result d t (inside_of v given (drop 1 v.own)) one) (ra d t)))
+            ∙ or_turned_twice (list_any (same_pair d t) (pair_of (length v.labels) given)) (is_marked a.results.items d t) (any_result d t (inside_of v given (drop 1 v.own)) one)
+            (any_result d t (inside_of v given (drop 1 v.own)) two) (any_result d t w rest)
             ∙ ap (λ z. is_marked a.results.items d t || z) (sym (branch_results rest d t ew));
         few = let f1 = g1.few in let f2 = g2.few in omega (arith, f1, f2, fa, fb, branch_items, ap (λ z. length (pairs_in 0 z)) er, ap (λ z. length (pairs_in 0 z)) ea);
       }

@@ -27,12 +27,15 @@ is_top h t (ty ∷ rest) = same_at h t (length rest) ty
 abbrev pub Covers : List Seen → List ValType → Type 0
 Covers seen ops = (h : ℕ) (t : ValType) → stands_at h t ops ≡ true → is_marked seen h t ≡ true
 
+-- an operand of this type stands at this height at some point
 abbrev pub any_point : ℕ → ValType → Walk → Code → Bool
 any_point h t w k = list_any (stands_at h t) (points w.around w.labels k w.under w.own)
 
+-- a result of this type stands at this depth
 abbrev pub any_result : ℕ → ValType → Walk → Code → Bool
 any_result d t w k = list_any (same_pair d t) (results_in (length w.labels) (pruned k))
 
+-- how many pairs were found
 abbrev pub found_count : Found → ℕ
 found_count f = length (pairs_in 0 f.slots.items) + length (pairs_in 0 f.results.items)
 
@@ -48,7 +51,8 @@ pub record SurveyedOne (v w : Walk) (i : Instr) (a b : Found) : Type 0 where
   pub stays : Stays v w
   pub typed : Types v.around v.labels (in_front i done) w.own v.own
   pub covers : Covers a.slots.items (all_of v) → Covers b.slots.items (all_of w)
-  pub slots : Covers a.slots.items (all_of v) → (rest : Code) (h : ℕ) (t : ValType) → (is_marked b.slots.items h t || any_point h t w rest) ≡ (is_marked a.slots.items h t || any_point h t v (in_front i rest))
+  pub slots : Covers a.slots.items (all_of v) → (rest : Code) (h : ℕ) (t : ValType) → (is_marked b.slots.items h t || any_point h t w rest)
+      ≡ (is_marked a.slots.items h t || any_point h t v (in_front i rest))
   pub results : (rest : Code) (d : ℕ) (t : ValType) → (is_marked b.results.items d t || any_result d t w rest) ≡ (is_marked a.results.items d t || any_result d t v (in_front i rest))
   pub few : found_count b ≤ found_count a + code_items (in_front i done)
 
@@ -58,6 +62,7 @@ pub record SurveyedOne (v w : Walk) (i : Instr) (a b : Found) : Type 0 where
 abbrev pub points_at : Walk → Code → List (List ValType)
 points_at w k = points w.around w.labels (pruned k) w.under w.own
 
+-- the results of a body, its own in front
 abbrev pub results_at : Option ValType → Code → List Pair
 results_at given k = pair_of 0 given ++ results_in 1 (pruned k)
 

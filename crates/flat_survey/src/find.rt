@@ -1,3 +1,5 @@
+//! The slots and result locals of a body, found and numbered.
+
 ghost use Rattle.std.specs.Prelude.{◌≡◌, ◌+◌, ◌<◌, ◌≤◌, ◌^◌, ◌∷◌, [], length, IfOk};
 ghost use Rattle.wa_types.specs.Sizes.{code_items};
 ghost use Rattle.wa_types.specs.View.{code};

@@ -1,3 +1,5 @@
+//! One pass over a body that marks the operands at each height and the results at each depth.
+
 ghost use Rattle.std.specs.Prelude.{◌≡◌, ◌+◌, ◌<◌, ◌≤◌, ◌^◌, ◌||◌, ℕ, length, false, true, OnOk};
 ghost use Rattle.wa_types.specs.Pruned.{is_last_instr};
 ghost use Rattle.std.specs.List.{list_any};

@@ -1,5 +1,6 @@
 -- Functions of valid modules, flattened.
-use Rattle.std.proofs.Common.{◌≡◌, ℕ, ◌++◌, List, [], ◌∷◌, map, length, Option, None, Some, slice_get, refl, ap, sym, ◌∙◌, subst, get_or, nat_lt, if◌then◌else◌, Bool, true, false, replicate, length-append, ◌<◌, ◌≤◌, ◌-◌, ◌+◌, ◌^◌, zero, suc, arith}
+use Rattle.std.proofs.Common.{◌≡◌, ℕ, ◌++◌, List, [], ◌∷◌, map, length, Option, None, Some, slice_get, refl, ap, sym, ◌∙◌, subst, get_or, nat_lt, if◌then◌else◌, Bool, true, false, replicate}
+use Rattle.std.proofs.Common.{length-append, ◌<◌, ◌≤◌, ◌-◌, ◌+◌, ◌^◌, zero, suc, arith}
 use Rattle.std.specs.Option.{option_map}
 use Rattle.std.specs.List.{sum_by}
 use Rattle.std.proofs.lemmas.List.Sums.{sum_by-cons}
@@ -71,7 +72,8 @@ module _ (v : ModuleValue) (i : ℕ) (f : FuncValue) (lt : i < length v.funcs.it
   pub defined : defined_at (module_of v) (func_imports (module_of v) + i) ≡ Some (func_of f)
   defined = by (nat_lt (func_imports (module_of v) + i) (func_imports (module_of v))) refl
     where
-      by : (b : Bool) → nat_lt (func_imports (module_of v) + i) (func_imports (module_of v)) ≡ b → (if b then None else slice_get (module_of v).funcs (func_imports (module_of v) + i - func_imports (module_of v))) ≡ Some (func_of f)
+      by : (b : Bool) → nat_lt (func_imports (module_of v) + i) (func_imports (module_of v)) ≡ b
+          → (if b then None else slice_get (module_of v).funcs (func_imports (module_of v) + i - func_imports (module_of v))) ≡ Some (func_of f)
       by true e = let z = ltb-true (func_imports (module_of v) + i) (func_imports (module_of v)) e in absurd (omega (arith, z))
       by false e = let same : func_imports (module_of v) + i - func_imports (module_of v) ≡ i = omega arith in ap (slice_get (module_of v).funcs) same ∙ func_at v.funcs.items i f lt at
 
@@ -100,7 +102,8 @@ mk_flat x s ls r b = record { func = x; sort = s; locals = ls; result = r; body 
 pub same_one : (f g : Func) (o : Option Func) → o ≡ Some f → o ≡ Some g → f ≡ g
 same_one f g o e h = cc
 
-pub same_names : (m : Module) (f : Func) (n : Names) (w : Walk) (given : Option ValType) (first : ℕ) (k : Code) → n ≡ names_at first w given k → w ≡ outset (around m f) → given ≡ (around m f).result → first ≡ length (locals_of m f) → k ≡ f.body → n ≡ names m f
+pub same_names : (m : Module) (f : Func) (n : Names) (w : Walk) (given : Option ValType) (first : ℕ) (k : Code) → n ≡ names_at first w given k → w ≡ outset (around m f)
+    → given ≡ (around m f).result → first ≡ length (locals_of m f) → k ≡ f.body → n ≡ names m f
 same_names m f n w given first k e ew eg ei ek =
     e ∙ ap (λ z. names_at z w given k) ei ∙ ap (λ z. names_at (length (locals_of m f)) z given k) ew ∙ ap (λ z. names_at (length (locals_of m f)) (outset (around m f)) z k) eg
     ∙ ap (λ z. names_at (length (locals_of m f)) (outset (around m f)) (around m f).result z) ek
@@ -116,7 +119,8 @@ pub same_result : (m : Module) (f : Func) (n : Names) (given : Option ValType) (
 same_result m f n given r e en eg = e ∙ ap (λ z. result_at z 0 given) en ∙ ap (result_at (names m f) 0) eg ∙ result_same (names m f) (around m f).result
 
 pub same_locals : (m : Module) (f : Func) (n : Names) (ps : List ValType) (rs : List Run) (ls : List ValType)
-    → ls ≡ ((ps ++ declared_locals rs) ++ map (λ (p : Pair). p.ty) n.slots) ++ map (λ (p : Pair). p.ty) n.results → ps ≡ (type_at m f.sort).params → rs ≡ f.locals → n ≡ names m f → ls ≡ (flattened m 0 f).locals
+    → ls ≡ ((ps ++ declared_locals rs) ++ map (λ (p : Pair). p.ty) n.slots) ++ map (λ (p : Pair). p.ty) n.results → ps ≡ (type_at m f.sort).params → rs ≡ f.locals → n ≡ names m f
+    → ls ≡ (flattened m 0 f).locals
 same_locals m f n ps rs ls e ep er en =
     e ∙ ap (λ z. ((z ++ declared_locals rs) ++ map (λ (p : Pair). p.ty) n.slots) ++ map (λ (p : Pair). p.ty) n.results) ep
     ∙ ap (λ z. (((type_at m f.sort).params ++ declared_locals z) ++ map (λ (p : Pair). p.ty) n.slots) ++ map (λ (p : Pair). p.ty) n.results) er
@@ -126,8 +130,11 @@ pub answered : (m : Module) (x s : ℕ) (f g : Func) (o : Option Func) (ls : Lis
     → o ≡ Some f → o ≡ Some g → s ≡ f.sort → ls ≡ (flattened m 0 f).locals → r ≡ (flattened m 0 f).result → b ≡ (flattened m 0 f).body → Count m f ≤ 50000
     → (mk_flat x s ls r b ≡ flattened m x g) × (Count m g ≤ 50000)
 answered m x s f g o ls r b ef eg es el er eb few =
-    subst (λ (z : Func). (mk_flat x s ls r b ≡ flattened m x z) × (Count m z ≤ 50000)) (same_one f g o ef eg)
-    (ap (λ z. mk_flat x z ls r b) es ∙ ap (λ z. mk_flat x f.sort z r b) el ∙ ap (λ z. mk_flat x f.sort (flattened m 0 f).locals z b) er ∙ ap (mk_flat x f.sort (flattened m 0 f).locals (flattened m 0 f).result) eb, few)
+    subst (λ (z : Func). (mk_flat x s ls r b ≡ flattened m x z) × (Count m z ≤ 50000)) (same_one f g o ef eg) (
+      ap (λ z. mk_flat x z ls r b) es ∙ ap (λ z. mk_flat x f.sort z r b) el ∙ ap (λ z. mk_flat x f.sort (flattened m 0 f).locals z b) er
+          ∙ ap (mk_flat x f.sort (flattened m 0 f).locals (flattened m 0 f).result) eb,
+      few,
+    )
 
 -- so many locals, where the names end here
 pub counted : (m : Module) (f : Func) (n : Names) (end at : ℕ) → n ≡ names m f → end ≡ at + length n.results → at ≡ n.first + length n.slots → end + 3 ≡ Count m f

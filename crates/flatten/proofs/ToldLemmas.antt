@@ -1,5 +1,6 @@
 -- The functions that are told, one after the other.
-use Rattle.std.proofs.Common.{◌≡◌, inl, inr, ℕ, zero, suc, ◌+◌, ◌<◌, ◌≤◌, ◌++◌, List, [], ◌∷◌, length, drop, get_or, Bool, true, false, add-one, drop-cons, Err, Some, slice_get, length-drop, get_or-drop, refl, subst, arith, ap, sym, ◌∙◌}
+use Rattle.std.proofs.Common.{◌≡◌, inl, inr, ℕ, zero, suc, ◌+◌, ◌<◌, ◌≤◌, ◌++◌, List, [], ◌∷◌, length, drop, get_or, Bool, true, false, add-one, drop-cons, Err, Some, slice_get, length-drop}
+use Rattle.std.proofs.Common.{get_or-drop, refl, subst, arith, ap, sym, ◌∙◌}
 use Rattle.std.proofs.lemmas.List.{append-nil, append_assoc, drop_all, get_or_default}
 use Rattle.std.proofs.lemmas.Option.{slice_get-get_or}
 use Rattle.wa_types.specs.Syntax.{Func, Module}
@@ -27,7 +28,8 @@ sofar_first m ws fs x out e =
       first = λ func count h. subst (λ y. FirstPasses m func count y ws fs) z h;
     }
 
-module _ (m : Module) (ws : List Bool) (fs : List Func) (x i : ℕ) (out : List FlatFunc) (s : Sofar m ws fs x i out) (w : Bool) (f : Func) (lw : i < length ws) (lf : i < length fs) (ew : w ≡ get_or ws i w) (ef : f ≡ get_or fs i f) where
+module _ (m : Module) (ws : List Bool) (fs : List Func) (x i : ℕ) (out : List FlatFunc) (s : Sofar m ws fs x i out) (w : Bool) (f : Func) (lw : i < length ws) (lf : i < length fs)
+    (ew : w ≡ get_or ws i w) (ef : f ≡ get_or fs i f) where
   here_w : drop i ws ≡ w ∷ drop (i + 1) ws
   here_w = drop-cons ws i w lw ∙ ap (λ z. z ∷ drop (suc i) ws) (sym ew) ∙ ap (λ k. w ∷ drop k ws) (sym (add-one i))
 
@@ -41,21 +43,27 @@ module _ (m : Module) (ws : List Bool) (fs : List Func) (x i : ℕ) (out : List 
   sofar_skip e = record {
     puts = ap (λ y. out ++ flat_told m y (drop (i + 1) ws) (drop (i + 1) fs)) (sym next_x) ∙ ap (λ b. out ++ flat_told m (x + i) (b ∷ drop (i + 1) ws) (f ∷ drop (i + 1) fs)) (sym e)
         ∙ ap (λ z. out ++ flat_told m (x + i) z (f ∷ drop (i + 1) fs)) (sym here_w) ∙ ap (λ z. out ++ flat_told m (x + i) (drop i ws) z) (sym here_f) ∙ s.puts;
-    none = λ h. s.none (subst (λ z. NonePasses m z (drop i fs)) (sym here_w) (subst (NonePasses m (w ∷ drop (i + 1) ws)) (sym here_f) (subst (λ b. NonePasses m (b ∷ drop (i + 1) ws) (f ∷ drop (i + 1) fs)) (sym e) h)));
+    none = λ h. s.none (subst (λ z. NonePasses m z (drop i fs)) (sym here_w) (subst (NonePasses m (w ∷ drop (i + 1) ws)) (sym here_f)
+        (subst (λ b. NonePasses m (b ∷ drop (i + 1) ws) (f ∷ drop (i + 1) fs)) (sym e) h)));
     first = λ func count h. s.first func count
         (subst (λ z. FirstPasses m func count (x + i) z (drop i fs)) (sym here_w) (subst (FirstPasses m func count (x + i) (w ∷ drop (i + 1) ws)) (sym here_f)
-        (subst (λ b. FirstPasses m func count (x + i) (b ∷ drop (i + 1) ws) (f ∷ drop (i + 1) fs)) (sym e) (subst (λ y. FirstPasses m func count y (drop (i + 1) ws) (drop (i + 1) fs)) (sym next_x) h))));
+        (subst (λ b. FirstPasses m func count (x + i) (b ∷ drop (i + 1) ws) (f ∷ drop (i + 1) fs)) (sym e)
+        (subst (λ y. FirstPasses m func count y (drop (i + 1) ws) (drop (i + 1) fs)) (sym next_x) h))));
   }
 
   pub sofar_put : (new : List FlatFunc) → w ≡ true → Count m f ≤ 50000 → new ≡ out ++ flattened m (x + i) f ∷ [] → Sofar m ws fs x (i + 1) new
   sofar_put new e few en = record {
-    puts = ap (λ o. o ++ flat_told m (x + (i + 1)) (drop (i + 1) ws) (drop (i + 1) fs)) en ∙ append_assoc out (flattened m (x + i) f ∷ []) (flat_told m (x + (i + 1)) (drop (i + 1) ws) (drop (i + 1) fs))
-        ∙ ap (λ y. out ++ flattened m (x + i) f ∷ flat_told m y (drop (i + 1) ws) (drop (i + 1) fs)) (sym next_x) ∙ ap (λ b. out ++ flat_told m (x + i) (b ∷ drop (i + 1) ws) (f ∷ drop (i + 1) fs)) (sym e)
+    puts = ap (λ o. o ++ flat_told m (x + (i + 1)) (drop (i + 1) ws) (drop (i + 1) fs)) en
+        ∙ append_assoc out (flattened m (x + i) f ∷ []) (flat_told m (x + (i + 1)) (drop (i + 1) ws) (drop (i + 1) fs))
+        ∙ ap (λ y. out ++ flattened m (x + i) f ∷ flat_told m y (drop (i + 1) ws) (drop (i + 1) fs)) (sym next_x)
+        ∙ ap (λ b. out ++ flat_told m (x + i) (b ∷ drop (i + 1) ws) (f ∷ drop (i + 1) fs)) (sym e)
         ∙ ap (λ z. out ++ flat_told m (x + i) z (f ∷ drop (i + 1) fs)) (sym here_w) ∙ ap (λ z. out ++ flat_told m (x + i) (drop i ws) z) (sym here_f) ∙ s.puts;
-    none = λ h. s.none (subst (λ z. NonePasses m z (drop i fs)) (sym here_w) (subst (NonePasses m (w ∷ drop (i + 1) ws)) (sym here_f) (subst (λ b. NonePasses m (b ∷ drop (i + 1) ws) (f ∷ drop (i + 1) fs)) (sym e) (few, h))));
+    none = λ h. s.none (subst (λ z. NonePasses m z (drop i fs)) (sym here_w) (subst (NonePasses m (w ∷ drop (i + 1) ws)) (sym here_f)
+        (subst (λ b. NonePasses m (b ∷ drop (i + 1) ws) (f ∷ drop (i + 1) fs)) (sym e) (few, h))));
     first = λ func count h. s.first func count
         (subst (λ z. FirstPasses m func count (x + i) z (drop i fs)) (sym here_w) (subst (FirstPasses m func count (x + i) (w ∷ drop (i + 1) ws)) (sym here_f)
-        (subst (λ b. FirstPasses m func count (x + i) (b ∷ drop (i + 1) ws) (f ∷ drop (i + 1) fs)) (sym e) (inr (few, subst (λ y. FirstPasses m func count y (drop (i + 1) ws) (drop (i + 1) fs)) (sym next_x) h)))));
+        (subst (λ b. FirstPasses m func count (x + i) (b ∷ drop (i + 1) ws) (f ∷ drop (i + 1) fs)) (sym e)
+        (inr (few, subst (λ y. FirstPasses m func count y (drop (i + 1) ws) (drop (i + 1) fs)) (sym next_x) h)))));
   }
 
   pub sofar_stop : (func count : ℕ) → w ≡ true → func ≡ x + i → count ≡ Count m f → 50000 < Count m f → FirstPasses m func count x ws fs
@@ -86,7 +94,8 @@ some_at [] i lt = absurd (omega arith)
 some_at (f ∷ fs) zero lt = (f, refl)
 some_at (f ∷ fs) (suc i) lt = some_at fs i (omega arith)
 
-module _ (m : Module) (which : List Bool) (x i at : ℕ) (out : List FlatFunc) (s : Sofar m (drop x which) m.funcs x i out) (many : length which ≡ x + length m.funcs) (lt : i < length m.funcs) (ea : at ≡ x + i) where
+module _ (m : Module) (which : List Bool) (x i at : ℕ) (out : List FlatFunc) (s : Sofar m (drop x which) m.funcs x i out) (many : length which ≡ x + length m.funcs)
+    (lt : i < length m.funcs) (ea : at ≡ x + i) where
   long : i < length (drop x which)
   long = omega (arith, length-drop x which, many, lt)
 
@@ -110,7 +119,8 @@ module _ (m : Module) (which : List Bool) (x i at : ℕ) (out : List FlatFunc) (
       let given = h f.0 (slice_get-get_or m.funcs i f.0 lt ∙ ap (λ z. Some z) (sym f.1)) in
       sofar_stop m (drop x which) m.funcs x i out s true f.0 long lt (told true e) f.1 func count refl (given.0 ∙ ey) given.1 given.2
 
-pub stops : (m : Module) (which : List Bool) (i at y : ℕ) (out : List FlatFunc) → Sofar m (drop (func_imports m) which) m.funcs (func_imports m) i out → length which ≡ func_imports m + length m.funcs → i < length m.funcs → at ≡ func_imports m + i
+pub stops : (m : Module) (which : List Bool) (i at y : ℕ) (out : List FlatFunc) → Sofar m (drop (func_imports m) which) m.funcs (func_imports m) i out
+    → length which ≡ func_imports m + length m.funcs → i < length m.funcs → at ≡ func_imports m + i
     → get_or which at false ≡ true → y ≡ func_imports m + i → (fault : FlatFault) → ((f : Func) → slice_get m.funcs i ≡ Some f → FlatAnswer m y f (Err fault)) → Flattens m which (Err fault)
 stops m which i at y out s many lt ea e ey Memory h = tt
 stops m which i at y out s many lt ea e ey (Locals func count) h = go_stop m which (func_imports m) i at out s many lt ea func count y e ey h

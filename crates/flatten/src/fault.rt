@@ -1,3 +1,5 @@
+//! Why a module wasn't flattened.
+
 use std::alloc::AllocError;
 use thiserror::Error;
 

@@ -110,12 +110,14 @@ module _ (i : GuardIndices) (ps : List ℕ) (d : ℕ) (a b : Sequence) (v : Vec 
       let fa : first_of ps a s ≡ code a.piece.items = ap (onto a.piece.items) nothing ∙ onto_done a.piece.items in
       let fb : first_of ps b s ≡ done = (λ j. onto (piece j) (first_piece ps (place j) s)) ∙ onto_none (first_piece ps a.place s) ∙ nothing in
       let one : written_with i ps d a s ≡ onto a.out.items (nest a_block None (onto a.call.items (raised 0 1 (code a.piece.items))) (front i each_end d b.number done (units ps b.place s))) =
-      (λ j. onto a.out.items (if open_ j then nest a_block None (onto a.call.items (raised 0 1 (fa j))) (front i each_end d (sym number j) done (us j)) else front i each_end d a.number (first_of ps a s)
+      (λ j. onto a.out.items (if open_ j then nest a_block None (onto a.call.items (raised 0 1 (fa j))) (front i each_end d (sym number j) done (us j))
+      else front i each_end d a.number (first_of ps a s)
       (units ps a.place s))) in
       let two : written_with i ps d b s ≡ onto a.out.items (nest a_block None (code v.items) (front i each_end d b.number done (units ps b.place s))) =
       (λ j. onto (out j) (if closed j then nest a_block None (onto b.call.items (raised 0 1 (first_of ps b s))) (front i each_end d b.number done (units ps b.place s)) else front i each_end d b.number
       (fb j) (units ps b.place s)))
-      ∙ onto_append a.out.items (Block None v) (front i each_end d b.number done (units ps b.place s)) ∙ ap (onto a.out.items) (in_block None v (front i each_end d b.number done (units ps b.place s))) in
+      ∙ onto_append a.out.items (Block None v) (front i each_end d b.number done (units ps b.place s))
+      ∙ ap (onto a.out.items) (in_block None v (front i each_end d b.number done (units ps b.place s))) in
       record {
         written = one ∙ ap (λ z. onto a.out.items (nest a_block None z (front i each_end d b.number done (units ps b.place s)))) (sym block) ∙ sym two;
         held = (λ j. sym held j || holds_call ps (sym place j) s);

@@ -130,7 +130,8 @@ module _ (g : Guards) (d : ℕ) (a0 a b : Sequence) (y : Shape) (body : Stmts) (
       (λ j. onto a.out.items (if st.closed j then nest a_block None (onto a.call.items (raised 0 1 (first_of ps a (nests y body s))))
       (front i each_end d a.number done (units ps a.place (nests y body s))) else front i each_end d (st.number j) (fa j) (ua j))) in
       let two : written_with i ps d b s ≡ onto b.out.items behind_code =
-      (λ j. onto b.out.items (if behind j then nest a_block None (onto b.call.items (raised 0 1 (first_of ps b s))) (front i each_end d b.number done (units ps b.place s)) else front i each_end d (nu j)
+      (λ j. onto b.out.items (if behind j then nest a_block None (onto b.call.items (raised 0 1 (first_of ps b s))) (front i each_end d b.number done (units ps b.place s))
+      else front i each_end d (nu j)
       (fb j) (units ps (pl j) s))) in
       record {
         written = sm.written ∙ one ∙ sym (two ∙ puts behind_code ∙ ap (λ z. onto a.out.items (guarded i (code a.piece.items) (nest y None z behind_code)))

@@ -96,7 +96,8 @@ module _ (g : Guards) (d : ℕ) (a0 a b : Sequence) (o : Operand) (sa sb : Stmts
       (λ j. onto a.out.items (if st.closed j then nest a_block None (onto a.call.items (raised 0 1 (first_of ps a u))) (front i each_end d a.number done (units ps a.place u)) else front i each_end d
       (st.number j) (fa j) (us j))) in
       let two : written_with i ps d b s ≡ onto b.out.items behind_code =
-      (λ j. onto b.out.items (if closed j then nest a_block None (onto b.call.items (raised 0 1 (first_of ps b s))) (front i each_end d b.number done (units ps b.place s)) else front i each_end d (nu j)
+      (λ j. onto b.out.items (if closed j then nest a_block None (onto b.call.items (raised 0 1 (first_of ps b s))) (front i each_end d b.number done (units ps b.place s))
+      else front i each_end d (nu j)
       (fb j) (units ps (pl j) s))) in
       let three : onto b.out.items behind_code
       ≡ onto a.out.items (plain (basic (global_get g.state)) (branch (Some I32) (code chosen) (code piece) (branch None (code p.code.items) (code q.code.items) behind_code))) =

@@ -1,5 +1,6 @@
 -- Along the statements of a sequence.
-use Rattle.std.proofs.Common.{◌≡◌, ℕ, suc, ◌+◌, ◌<◌, ◌≤◌, ◌^◌, ◌∷◌, List, [], length, get_or, drop, Option, Some, None, Bool, true, false, Result, Ok, Err, OnOk, IfOk, max, refl, sym, ap, ◌∙◌, subst, arith}
+use Rattle.std.proofs.Common.{◌≡◌, ℕ, suc, ◌+◌, ◌<◌, ◌≤◌, ◌^◌, ◌∷◌, List, [], length, get_or, drop, Option, Some, None, Bool, true, false, Result, Ok, Err, OnOk, IfOk, max, refl, sym, ap}
+use Rattle.std.proofs.Common.{◌∙◌, subst, arith}
 use Rattle.std.specs.Prelude.{◌||◌, if◌then◌else◌}
 use Rattle.std.specs.declared.vec.Vec.{Vec}
 use Rattle.std.specs.declared.alloc.Global.{Global}
@@ -11,7 +12,8 @@ use Rattle.wa_types.proofs.ViewLemmas.{onto_done, onto_none}
 use Rattle.wa_model.specs.declared.flat.Operand.{Operand}
 use Rattle.wa_model.specs.declared.flat.Operand.TheVariants.{Local, Const}
 use Rattle.wa_model.specs.declared.flat.Stmt.{Stmt, roll-Stmt, roll-out-Stmt}
-use Rattle.wa_model.specs.declared.flat.Stmt.TheVariants.{Plain as PlainStmt, Move, Call, Br as BrStmt, BrIf as BrIfStmt, BrTable as BrTableStmt, Block, Loop, If, Unreachable as UnreachableStmt, Block', Loop', If', rolls-Block, rolls-Loop, rolls-If, outs-Block', outs-Loop', outs-If'}
+use Rattle.wa_model.specs.declared.flat.Stmt.TheVariants.{Plain as PlainStmt, Move, Call, Br as BrStmt, BrIf as BrIfStmt, BrTable as BrTableStmt, Block, Loop, If}
+use Rattle.wa_model.specs.declared.flat.Stmt.TheVariants.{Unreachable as UnreachableStmt, Block', Loop', If', rolls-Block, rolls-Loop, rolls-If, outs-Block', outs-Loop', outs-If'}
 use Rattle.wa_model.specs.Flat.{Stmts, no_more, computes, copies, calls, leaps, leaps_if, leaps_by, nests, decides, halts, followed_by, got, all_got, set_to, slots_got, last_of, code_of}
 use Rattle.wa_model.specs.FlatView.{stmt_in_front, stmts}
 use Rattle.wa_model.specs.FlatFits.{StmtsFit}
@@ -265,7 +267,8 @@ walked_start g d n k s at rd out behind piece held place number =
       good = record { behind_held = λ e. absurd (false_true at.behind behind e); piece = raisable_none at.piece.items piece; few = omega (arith, place, number, fw) };
       fits = rd.fits;
       written = sym ((λ j. onto (out j) (if behind j then nest a_block None (onto at.call.items (raised 0 1 (first_of ps at s)))
-          (front i each_end d at.number done (units ps at.place s)) else front i each_end d (number j) (fi j) (units ps (place j) s))) ∙ onto_none (front i each_end d k (first_piece ps n s) (units ps n s)));
+          (front i each_end d at.number done (units ps at.place s)) else front i each_end d (number j) (fi j) (units ps (place j) s)))
+          ∙ onto_none (front i each_end d k (first_piece ps n s) (units ps n s)));
       held = sym (λ j. held j || holds_call ps (place j) s);
       plainly = λ e. sym fi;
       numbers = sym (λ j. number j + numbers_in (units ps (place j) s));

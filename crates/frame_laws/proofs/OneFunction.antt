@@ -12,7 +12,8 @@ use Rattle.wa_model.specs.Step.{step, leave, result_count}
 use Rattle.wa_model.specs.Flat.{result_got}
 use Rattle.wa_model.proofs.Alone.{Comes, none, on}
 use Rattle.frame_laws.specs.FrameMemory.{AreaAt, FieldsFit, HoldsFrameOf}
-use Rattle.frame_laws.specs.Function.{WrittenFunc, epilogue, function_code, function_labels, CallSite, site_code, KeptWithin, BodyLaw, LocalsFit, unwinding, UnwindsTo, UnwindsOne, StopsOne, rewinding, RewindsTo, RewindsOne, FrameCodes, by_layout, LayoutCodes}
+use Rattle.frame_laws.specs.Function.{WrittenFunc, epilogue, function_code, function_labels, CallSite, site_code, KeptWithin, BodyLaw, LocalsFit, unwinding, UnwindsTo, UnwindsOne, StopsOne}
+use Rattle.frame_laws.specs.Function.{rewinding, RewindsTo, RewindsOne, FrameCodes, by_layout, LayoutCodes}
 use Rattle.frame_laws.specs.Layout.{FrameField, kept, gap, Layout, frame_size, save_code, restore_code, save_cost, restore_cost}
 use Rattle.frame_laws.specs.Saving.{Savable, TrapsAt}
 use Rattle.guard_form.specs.Guarded.{by_state}

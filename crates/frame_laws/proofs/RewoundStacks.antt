@@ -1,5 +1,6 @@
 -- A whole stack comes back.
-use Rattle.std.proofs.Common.{◌≡◌, ◌≢◌, ℕ, suc, ◌+◌, ◌*◌, ◌<◌, ◌≤◌, inr, List, [], ◌∷◌, ◌++◌, length, take, drop, map, reverse, Some, None, true, refl, sym, ap, ◌∙◌, subst, arith, ⊎_elim, length-append}
+use Rattle.std.proofs.Common.{◌≡◌, ◌≢◌, ℕ, suc, ◌+◌, ◌*◌, ◌<◌, ◌≤◌, inr, List, [], ◌∷◌, ◌++◌, length, take, drop, map, reverse, Some, None, true, refl, sym, ap, ◌∙◌, subst, arith, ⊎_elim}
+use Rattle.std.proofs.Common.{length-append}
 use Rattle.std.specs.Prelude.{nat_lt, if◌then◌else◌}
 use Rattle.std.proofs.lemmas.List.{take_all, drop_all, length-reverse, length-map}
 use Rattle.wa_types.specs.declared.values.Value.{Value}
@@ -16,7 +17,8 @@ use Rattle.wa_model.proofs.Alone.{Comes, none, one, on}
 use Rattle.frame_laws.specs.FrameMemory.{AreaAt, FieldsFit, Lowered, IsKept}
 use Rattle.frame_laws.specs.Function.{function_code, site_code, KeptWithin, rewinding}
 use Rattle.frame_laws.specs.Layout.{FrameField, kept, gap, frame_size}
-use Rattle.frame_laws.specs.Stack.{Level, slot_values, AllKept, LevelFits, AllFit, level_size, total_size, HoldsStack, outer_of, CallsTo, directly, through_table, Chain, SameKept, AllCameBack, rewinding_all, RewindsAll, RewindAll, AsksAgain, AskAgain}
+use Rattle.frame_laws.specs.Stack.{Level, slot_values, AllKept, LevelFits, AllFit, level_size, total_size, HoldsStack, outer_of, CallsTo, directly, through_table, Chain, SameKept}
+use Rattle.frame_laws.specs.Stack.{AllCameBack, rewinding_all, RewindsAll, RewindAll, AsksAgain, AskAgain}
 use Rattle.wa_model.specs.Keeping.{keeps, keeps_code}
 use Rattle.frame_laws.proofs.OneFunction.{within_on, within_of, rewinds_one_law}
 use Rattle.frame_laws.proofs.UnwoundStacks.{still_frame}

@@ -106,6 +106,7 @@ by_layout l body result = record {
   restore_most = restore_cost l;
 }
 
+-- The codes of one layout are such, where its index and its scratch local are two.
 abbrev pub LayoutCodes : Type 0
 LayoutCodes = (l : Layout) (body : Code) (result : Option ℕ) (k : ℕ) → l.index ≢ l.scratch → FrameCodes (by_layout l body result) k
 
@@ -134,6 +135,7 @@ pub record UnwindsTo (g : ℕ) (area : Area) (p : Module) (st : ℕ) (f : Writte
   pub results : List Value
   pub ends : step p end ≡ leave 0 (with_memory s after) results (result_count p fn) under
 
+-- Where the frame fits the area, a function that keeps its promise unwinds so.
 abbrev pub UnwindsOne : Type 0
 UnwindsOne =
     (g : ℕ) (area : Area) (p : Module) (st n : ℕ) (f : WrittenFunc) (c : CallSite) (out seek : ℕ) (s : Store) (fn : ℕ) (under : List Activation) (ls ops : List Value) (loc : ℕ)
@@ -164,6 +166,7 @@ pub record RewindsTo (g : ℕ) (area : Area) (p : Module) (st : ℕ) (f : Writte
   pub lowered : Lowered area loc s.memory after
   pub goes : KeptWithin g area p (running s fn under ls [] (function_code st f) []) (rewinding f seek) (running (with_memory s after) fn under locals [] (site_code c) c.again)
 
+-- Where its frame stands below the location, it rewinds so.
 abbrev pub RewindsOne : Type 0
 RewindsOne =
     (g : ℕ) (area : Area) (p : Module) (st n : ℕ) (f : WrittenFunc) (c : CallSite) (out seek : ℕ) (s : Store) (fn : ℕ) (under : List Activation) (old ls : List Value) (loc : ℕ)

@@ -26,6 +26,7 @@ pub record Level : Type 0 where
   pub out : ℕ
   pub seek : ℕ
 
+-- the activation as it waits
 abbrev pub activation_of : Level → Activation
 activation_of v = waiting v.func v.locals v.ops v.taken v.site.behind v.site.labels
 
@@ -34,6 +35,7 @@ abbrev pub slot_values : List Value → List ℕ → List Value → List Value
 slot_values ls [] onto = onto
 slot_values ls (x ∷ xs) onto = slot_values ls xs (value_at ls x ∷ onto)
 
+-- each of these locals is kept
 abbrev pub AllKept : List ℕ → List FrameField → Type 0
 AllKept [] ps = Unit {0}
 AllKept (x ∷ xs) ps = IsKept x ps × AllKept xs ps
@@ -48,13 +50,16 @@ pub record LevelFits (g : ℕ) (area : Area) (p : Module) (st address : ℕ) (v 
   pub slots : AllKept v.site.slots v.fn.layout.fields
   pub took : v.taken ≡ slot_values v.locals v.site.slots []
 
+-- so does each level of a stack
 abbrev pub AllFit : ℕ → Area → Module → (st address : ℕ) → List Level → Type 0
 AllFit g area p st adr [] = Unit {0}
 AllFit g area p st adr (v ∷ vs) = LevelFits g area p st adr v × AllFit g area p st adr vs
 
+-- the bytes of a level's frame
 abbrev pub level_size : Level → ℕ
 level_size v = frame_size v.fn.layout
 
+-- the bytes of all frames
 abbrev pub total_size : List Level → ℕ
 total_size [] = 0
 total_size (v ∷ vs) = level_size v + total_size vs
@@ -68,6 +73,7 @@ HoldsStack memory at (v ∷ vs) = HoldsFrameOf v.fn.layout memory at v.locals v.
 abbrev pub behind_call : Store → Level → (ops : List Value) → List Level → Configuration
 behind_call s v ops vs = running s v.func (map activation_of vs) v.locals ops v.site.behind v.site.labels
 
+-- what unwinding all may cost
 abbrev pub unwinding_all : Level → List Level → ℕ
 unwinding_all v [] = unwinding v.fn v.out
 unwinding_all v (w ∷ vs) = unwinding v.fn v.out + 1 + unwinding_all w vs
@@ -91,6 +97,7 @@ pub record UnwindsAll (g : ℕ) (area : Area) (p : Module) (from : Configuration
   pub results : List Value
   pub ends : step p end ≡ leave 0 (with_memory s after) results (result_count p outer) []
 
+-- Where all frames fit the area, a stack unwinds so.
 abbrev pub UnwindAll : Type 0
 UnwindAll =
     (g : ℕ) (area : Area) (p : Module) (st n address : ℕ) (v : Level) (vs : List Level) (s : Store) (ops : List Value) (loc : ℕ)
@@ -115,6 +122,7 @@ pub record StopsAll (g : ℕ) (area : Area) (p : Module) (from : Configuration) 
   pub others : SameBut area.at 4 (area.at + used) (fit_of area.len used stack - used) s.memory after
   pub traps_at : TrapsAt g area p from bound (with_memory s after)
 
+-- Where they don't, it stops so.
 abbrev pub StopAll : Type 0
 StopAll =
     (g : ℕ) (area : Area) (p : Module) (st n address : ℕ) (v : Level) (vs : List Level) (s : Store) (ops : List Value) (used : ℕ)
@@ -139,6 +147,7 @@ pub record Enters (p : Module) (st : ℕ) (table : List (Option ℕ)) (v to : Le
   pub body : func.body ≡ function_code st to.fn
   pub size : params + length (declared_locals func.locals) ≡ length to.locals
 
+-- Each level's call enters the function of the next.
 abbrev pub Chain : Module → (st : ℕ) → List (Option ℕ) → Level → List Level → Type 0
 Chain p st table v [] = Unit {0}
 Chain p st table v (w ∷ vs) = Enters p st table w v × Chain p st table w vs
@@ -149,16 +158,19 @@ pub record SameKept (v : Level) (locals : List Value) : Type 0 where
   pub index : value_at locals v.fn.layout.index ≡ V.I32 v.site.number
   pub same : (x : ℕ) → IsKept x v.fn.layout.fields → value_at locals x ≡ value_at v.locals x
 
+-- An activation that came back, at the call again.
 pub record CameBack (v : Level) (a : Activation) : Type 0 where
   pub locals : List Value
   pub kept_same : SameKept v locals
   pub is : a ≡ waiting v.func locals [] v.taken v.site.behind v.site.again
 
+-- So did each of a stack.
 abbrev pub AllCameBack : List Level → List Activation → Type 0
 AllCameBack [] [] = Unit {0}
 AllCameBack (v ∷ vs) (a ∷ under) = CameBack v a × AllCameBack vs under
 AllCameBack _ _ = ⊥
 
+-- what rewinding all may cost
 abbrev pub rewinding_all : Level → List Level → ℕ
 rewinding_all v [] = rewinding v.fn v.seek
 rewinding_all v (w ∷ vs) = rewinding_all w vs + (2 * length w.site.slots + 1) + rewinding v.fn v.seek
@@ -174,6 +186,7 @@ pub record RewindsAll (g : ℕ) (area : Area) (p : Module) (from : Configuration
   pub lowered : Lowered area loc s.memory after
   pub goes : KeptWithin g area p from bound (running (with_memory s after) v.func under locals [] (site_code v.site) v.site.again)
 
+-- A stack whose frames stand in the area rewinds so.
 abbrev pub RewindAll : Type 0
 RewindAll =
     (g : ℕ) (area : Area) (p : Module) (st n address : ℕ) (v : Level) (vs : List Level) (s : Store) (ls : List Value) (loc : ℕ)
@@ -191,6 +204,7 @@ pub record AsksAgain (g : ℕ) (area : Area) (p : Module) (s : Store) (under : L
   pub args : List Value
   pub asks_there : step p at ≡ asks count x args (record { store = s; here = waiting v.func locals [] v.taken v.site.behind v.site.again; under = under })
 
+-- An import is asked so.
 abbrev pub AskAgain : Type 0
 AskAgain =
     (g : ℕ) (area : Area) (p : Module) (st address : ℕ) (s : Store) (under : List Activation) (locals : List Value) (v : Level) (params x : ℕ)

@@ -8,9 +8,11 @@ use Rattle.live_behind.specs.Lives.{lives}
 use Rattle.frame_sizes.specs.declared.frames.Place.{Place as PlaceValue}
 use Rattle.frame_sizes.specs.declared.frames.Suspended.{Suspended as SuspendedValue}
 
+-- a local that is saved
 abbrev pub place_of : PlaceValue → Place
 place_of p = record { local = p.local; ty = p.ty }
 
+-- locals that are saved
 abbrev pub places_of : List PlaceValue → List Place
 places_of ps = map place_of ps
 

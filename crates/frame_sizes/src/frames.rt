@@ -1,3 +1,5 @@
+//! The locals that the frame of a call saves, and the bytes of a suspended stack.
+
 ghost use Rattle.std.specs.Prelude.{◌≡◌, ◌++◌, ◌+◌, ◌*◌, ◌<◌, ◌≤◌, ◌^◌, [], ℕ, Some, None, MatchOption, IfOk, OnOk, length, map, slice_get};
 ghost use Rattle.std.specs.List.{sum_by};
 ghost use Rattle.wa_types.specs.Frames.{frame_of, named_places, place_onto, slot_places, width, FrameSize, Place as PlainPlace, Room, Saved};
@@ -258,7 +260,8 @@ pub fn room(
     policy: Policy,
     stack: &[Suspended],
 ) -> Result<Option<u64>, AllocError>
-    ensures { IfOk result (λ o. MatchOption o (2 ^ 64 ≤ Room (module_of valid.now) (policy_of policy) (map suspended_of stack.now)) (λ n. n ≡ Room (module_of valid.now) (policy_of policy) (map suspended_of stack.now))) }
+    ensures { IfOk result (λ o. MatchOption o (2 ^ 64 ≤ Room (module_of valid.now) (policy_of policy) (map suspended_of stack.now))
+        (λ n. n ≡ Room (module_of valid.now) (policy_of policy) (map suspended_of stack.now))) }
 {
     let mut size = 8;
     for activation in stack {

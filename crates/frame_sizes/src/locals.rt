@@ -1,3 +1,5 @@
+//! The types of a function's parameters and declared locals.
+
 ghost use Rattle.std.specs.Prelude.{◌≡◌, IfOk};
 ghost use Rattle.wa_types.specs.Modules.{declared_locals, locals_of, type_at};
 ghost use Rattle.wa_types.specs.View.{func_of, module_of};

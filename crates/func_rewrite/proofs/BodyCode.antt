@@ -50,7 +50,8 @@ runs_step old out new types i d lt e before =
 pub runs_end : (old out : List Run) (types : List ValType) (i : ℕ) → length types ≤ i → out ≡ old ++ map one_run (take i types) → out ≡ old ++ map one_run types
 runs_end old out types i le before = before ∙ ap (λ ts. old ++ map one_run ts) (take_all i types le)
 
-pub runs_are : (runs out mid new : List Run) (locals part three : List ValType) (own len : ℕ) → out ≡ runs → len ≡ length locals → own ≤ length locals → part ≡ take (len - own) (drop own locals) → mid ≡ out ++ map one_run part
+pub runs_are : (runs out mid new : List Run) (locals part three : List ValType) (own len : ℕ) → out ≡ runs → len ≡ length locals → own ≤ length locals
+    → part ≡ take (len - own) (drop own locals) → mid ≡ out ++ map one_run part
     → new ≡ mid ++ map one_run three → new ≡ runs ++ map one_run (drop own locals ++ three)
 runs_are runs out mid new locals part three own len eo el le ep em en =
     let all : take (len - own) (drop own locals) ≡ drop own locals = take_all (len - own) (drop own locals) (let l = length-drop own locals in omega arith) in

@@ -146,7 +146,8 @@ stacks_fit locals labels (calls op stack args to rest) h = (h.1, stacks_fit loca
 stacks_fit locals labels (leaps l rest) h = stacks_fit locals labels rest h.1
 stacks_fit locals labels (leaps_if o l rest) h = stacks_fit locals labels rest h.2
 stacks_fit locals labels (leaps_by o ls l rest) h = stacks_fit locals labels rest h.3
-stacks_fit locals labels (nests y body rest) h = each_both (λ stack. All (λ x. x < locals) stack) (stacks_in body) (stacks_in rest) (stacks_fit locals (suc labels) body h.0) (stacks_fit locals labels rest h.1)
+stacks_fit locals labels (nests y body rest) h = each_both (λ stack. All (λ x. x < locals) stack) (stacks_in body) (stacks_in rest) (stacks_fit locals (suc labels) body h.0)
+    (stacks_fit locals labels rest h.1)
 stacks_fit locals labels (decides o a b rest) h =
     each_both (λ stack. All (λ x. x < locals) stack) (stacks_in a) (stacks_in b ++ stacks_in rest) (stacks_fit locals (suc labels) a h.1)
     (each_both (λ stack. All (λ x. x < locals) stack) (stacks_in b) (stacks_in rest) (stacks_fit locals (suc labels) b h.2) (stacks_fit locals labels rest h.3))

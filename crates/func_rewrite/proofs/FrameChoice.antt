@@ -70,7 +70,8 @@ numbered_below x n (t ∷ ts) le off (p ∷ ps) e =
     let here : saved_local p ≡ record { local = x; ty = t } = cc in
     let rest : map saved_local ps ≡ numbered_places (suc x) ts = cc in
     let z : p.local ≡ x = ap (λ (q : SavedLocal). q.local) here in
-    All-cons (λ (p : Place). p.local < n) (record { local = p.local; ty = p.ty; offset = off }) (in_a_row (off + width p.ty) ps) (omega arith) (numbered_below (suc x) n ts (omega arith) (off + width p.ty) ps rest)
+    All-cons (λ (p : Place). p.local < n) (record { local = p.local; ty = p.ty; offset = off }) (in_a_row (off + width p.ty) ps) (omega arith)
+    (numbered_below (suc x) n ts (omega arith) (off + width p.ty) ps rest)
 
 pub row_below : (n : ℕ) (ts : List ValType) → length ts ≤ n → (ps : List Place) → map saved_local ps ≡ numbered_places 0 ts → All (λ (p : Place). p.local < n) (in_a_row 0 ps)
 row_below n ts le ps e = numbered_below 0 n ts (omega arith) 0 ps e
@@ -93,7 +94,8 @@ frame_of m f saved e k place l h = record {
   size = h.sized m save_all f place e;
 }
 
-pub frames_at : (m : Module) (f : Func) (saved : List Place) → map saved_local saved ≡ Saved m save_all f 0 → (k : ℕ) (places : List ℕ) (ls : List LayoutValue) → length ls ≡ length places → FramesFrom saved k ls → FramesAt m save_all f k places ls
+pub frames_at : (m : Module) (f : Func) (saved : List Place) → map saved_local saved ≡ Saved m save_all f 0 → (k : ℕ) (places : List ℕ) (ls : List LayoutValue) → length ls ≡ length places
+    → FramesFrom saved k ls → FramesAt m save_all f k places ls
 frames_at m f saved e k [] [] n h = tt
 frames_at m f saved e k [] (l ∷ ls) n h = absurd (omega arith)
 frames_at m f saved e k (p ∷ ps) [] n h = absurd (omega arith)

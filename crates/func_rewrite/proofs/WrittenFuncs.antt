@@ -115,7 +115,8 @@ module _ (m : Module) (s : Settings) (which : List Bool) (f : Func) (v : Flatten
   pub runs_same : (own : ℕ) → own ≡ v.first_slot → f.locals ++ map one_run (drop own v.func.locals.items ++ I32 ∷ I32 ∷ I64 ∷ []) ≡ f.locals ++ map one_run (extra_types m f ++ I32 ∷ I32 ∷ I64 ∷ [])
   runs_same own e =
       let rest : drop own v.func.locals.items ≡ extra_types m f =
-      ap (λ n. drop n v.func.locals.items) (e ∙ h.first_slot) ∙ ap (drop (length (locals_of m f))) (same_locals ∙ append_assoc (locals_of m f) slots results) ∙ drop-append_seam (locals_of m f) (slots ++ results) in
+      ap (λ n. drop n v.func.locals.items) (e ∙ h.first_slot) ∙ ap (drop (length (locals_of m f))) (same_locals ∙ append_assoc (locals_of m f) slots results)
+      ∙ drop-append_seam (locals_of m f) (slots ++ results) in
       ap (λ ts. f.locals ++ map one_run (ts ++ I32 ∷ I32 ∷ I64 ∷ [])) rest
 
   module _ (places : List Place) (ep : map saved_local places ≡ numbered_places 0 (take v.first_result v.func.locals.items)) where

@@ -1,3 +1,5 @@
+//! The body of a written function: the code that restores its frame, its guarded pieces, the code that saves its frame.
+
 ghost use Rattle.std.specs.Prelude.{◌≡◌, ◌≤◌, ◌<◌, ◌^◌, ◌-◌, length, IfOk, OnOk};
 ghost use Rattle.wa_types.specs.Syntax.{Code, Func as PlainFunc, Module as PlainModule, done};
 ghost use Rattle.wa_types.specs.View.{code, onto};
@@ -54,7 +56,8 @@ pub fn body_around(
     requires rises { Rises numbers.now }
     requires few { call_total (flat_func_of flat.now.func).body < 2 ^ 32 }
     requires slots { flat.now.first_slot ≤ flat.now.first_result }
-    ensures { IfOk result (λ v. (m : PlainModule) (f : PlainFunc) (r s : Code) → IsFlattened m f flat.now → ((rest : Code) → onto start.items rest ≡ unless_normal state r rest) → ((rest : Code) → onto end.items rest ≡ unless_normal state s rest) → IsSlimBody m numbers.now state flat.now.func.func f r s (code v.items)) }
+    ensures { IfOk result (λ v. (m : PlainModule) (f : PlainFunc) (r s : Code) → IsFlattened m f flat.now → ((rest : Code) → onto start.items rest ≡ unless_normal state r rest)
+        → ((rest : Code) → onto end.items rest ≡ unless_normal state s rest) → IsSlimBody m numbers.now state flat.now.func.func f r s (code v.items)) }
 {
     let mut body = start;
     let mut behind = end;
@@ -82,7 +85,9 @@ pub(crate) fn written_body(
     requires few { call_total (flat_func_of flat.now.func).body < 2 ^ 32 }
     requires slots { flat.now.first_slot ≤ flat.now.first_result }
     requires size { 4 ≤ frame.size }
-    ensures { IfOk result (λ v. (m : PlainModule) (f : PlainFunc) → IsFlattened m f flat.now → IsSlimBody m numbers.now ids.now.state flat.now.func.func f (restoring (spill_indices (length flat.now.func.locals.items) ids.now) (frame.size - 4) frame.places.items done) (saving (spill_indices (length flat.now.func.locals.items) ids.now) (frame.size - 4) frame.places.items done) (code v.items)) }
+    ensures { IfOk result (λ v. (m : PlainModule) (f : PlainFunc) → IsFlattened m f flat.now
+        → IsSlimBody m numbers.now ids.now.state flat.now.func.func f (restoring (spill_indices (length flat.now.func.locals.items) ids.now) (frame.size - 4) frame.places.items done)
+        (saving (spill_indices (length flat.now.func.locals.items) ids.now) (frame.size - 4) frame.places.items done) (code v.items)) }
 {
     let base = flat.func.locals.len() as u32;
     let mut frames = Vec::new(alloc);

@@ -1,3 +1,5 @@
+//! A function as it is written under the policy `all`, with the frames of its numbered calls.
+
 ghost use Rattle.std.specs.Prelude.{◌≡◌, IfOk};
 ghost use Rattle.wa_types.specs.Pausing.{Listed, save_all};
 ghost use Rattle.wa_types.specs.Sizes.{StrictSizeRule};

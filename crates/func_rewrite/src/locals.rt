@@ -1,3 +1,5 @@
+//! The declared locals of a written function.
+
 ghost use Rattle.std.specs.Prelude.{◌≡◌, ◌≤◌, ◌++◌, ◌∷◌, [], drop, length, map, IfOk, OnOk};
 ghost use Rattle.wa_types.specs.declared.values.ValType.TheVariants.{I32, I64};
 ghost use Rattle.wa_model.specs.FlatFits.{one_run};

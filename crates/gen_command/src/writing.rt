@@ -1,4 +1,5 @@
-// A module written into a file.
+//! A generated module, written into a file.
+
 ghost use Rattle.std.specs.Prelude.{◌≡◌, ◌≤◌, length, IfOk, IsErrOf, OnErr, OnOk};
 ghost use Rattle.vault_port.specs.Counts.{HasRisen};
 ghost use Rattle.vault_port.specs.Files.{ChangesOnly, HoldsFrontAtMost};

@@ -60,9 +60,19 @@ params_few (s ∷ ss) (suc x) = params_few ss x
 
 by_small : (n i r : ℕ) → FuncSizes (2 ^ 31) (2 ^ 31) (generated n) (func_by i r)
 unfolding generated code_items code_params
-by_small n i zero = let few = params_few (all_sorts (generated n)) i in record { runs = omega arith; labels = ((tt {0}, (tt {0}, (tt {0}, (tt {0}, (tt {0}, tt {0}))))), (tt {0}, tt {0})); total = omega arith }
+by_small n i zero = let few = params_few (all_sorts (generated n)) i in record {
+  runs = omega arith;
+  labels =
+      ((tt {0}, (tt {0}, (tt {0}, (tt {0}, (tt {0}, tt {0}))))), (tt {0}, tt {0}));
+  total = omega arith;
+}
 by_small n i (suc zero) = let few = params_few (all_sorts (generated n)) i in record { runs = omega arith; labels = (tt {0}, (tt {0}, (tt {0}, (tt {0}, tt {0})))); total = omega arith }
-by_small n i (suc (suc k)) = let few = params_few (all_sorts (generated n)) i in record { runs = omega arith; labels = (tt {0}, ((tt {0}, (tt {0}, tt {0})), (tt {0}, tt {0}), (tt {0}, (tt {0}, tt {0})))); total = omega arith }
+by_small n i (suc (suc k)) = let few = params_few (all_sorts (generated n)) i in record {
+  runs = omega arith;
+  labels =
+      (tt {0}, ((tt {0}, (tt {0}, tt {0})), (tt {0}, tt {0}), (tt {0}, (tt {0}, tt {0}))));
+  total = omega arith;
+}
 
 func_small : (n i : ℕ) → FuncSizes (2 ^ 31) (2 ^ 31) (generated n) (generated_func i)
 unfolding generated code_items code_params
@@ -71,7 +81,8 @@ func_small n (suc i) = by_small n (suc i) (suc i % 3)
 
 all_small : (n k : ℕ) → All (FuncSizes (2 ^ 31) (2 ^ 31) (generated n)) (generated_funcs k)
 all_small n zero = All-nil (FuncSizes (2 ^ 31) (2 ^ 31) (generated n))
-all_small n (suc k) = All-append (FuncSizes (2 ^ 31) (2 ^ 31) (generated n)) (generated_funcs k) (generated_func k ∷ []) (all_small n k) (All-cons (FuncSizes (2 ^ 31) (2 ^ 31) (generated n)) (generated_func k) [] (func_small n k) (All-nil (FuncSizes (2 ^ 31) (2 ^ 31) (generated n))))
+all_small n (suc k) = All-append (FuncSizes (2 ^ 31) (2 ^ 31) (generated n)) (generated_funcs k) (generated_func k ∷ []) (all_small n k)
+    (All-cons (FuncSizes (2 ^ 31) (2 ^ 31) (generated n)) (generated_func k) [] (func_small n k) (All-nil (FuncSizes (2 ^ 31) (2 ^ 31) (generated n))))
 
 pub is_small : (n : ℕ) → n ≤ 4000 → StrictSizeRule (generated n)
 unfolding generated

@@ -25,7 +25,8 @@ sorts_of fs = map (λ (f : Func). f.sort) fs
 
 sorts : (n : ℕ) → sorts_of (generated_funcs n) ≡ replicate n 0
 sorts zero = refl
-sorts (suc n) = rw (map-append (λ (f : Func). f.sort) (generated_funcs n) (generated_func n ∷ []), func_sort n, sorts n) (replicate-append-replicate {A = ℕ} n 1 0 ∙ ap (λ (k : ℕ). replicate {A = ℕ} k 0) (add-one n))
+sorts (suc n) = rw (map-append (λ (f : Func). f.sort) (generated_funcs n) (generated_func n ∷ []), func_sort n, sorts n) (replicate-append-replicate {A = ℕ} n 1 0
+    ∙ ap (λ (k : ℕ). replicate {A = ℕ} k 0) (add-one n))
 
 zeros : (n x : ℕ) → x < n → slice_get {X = ℕ} (replicate n 0) x ≡ Some 0
 zeros zero x h = absurd (omega arith)
@@ -39,7 +40,8 @@ all_sorts n = ap (λ (ss : List ℕ). 0 ∷ ss) (sorts n)
 -- each function up to n has the one type
 type_there : (n x : ℕ) → x ≤ n → slice_get (func_types (generated n)) x ≡ Some one_to_one
 unfolding generated
-type_there n x h = slice_get-map (type_at (generated n)) (func_sorts (generated n)) x ∙ ap (λ (ss : List ℕ). option_map (type_at (generated n)) (slice_get ss x)) (all_sorts n) ∙ ap (option_map (type_at (generated n))) (zeros (suc n) x (omega arith))
+type_there n x h = slice_get-map (type_at (generated n)) (func_sorts (generated n)) x ∙ ap (λ (ss : List ℕ). option_map (type_at (generated n)) (slice_get ss x)) (all_sorts n)
+    ∙ ap (option_map (type_at (generated n))) (zeros (suc n) x (omega arith))
 
 pub next_funcs : (i : ℕ) → generated_funcs (i + 1) ≡ generated_funcs i ++ generated_func i ∷ []
 next_funcs i = ap generated_funcs (add-one i)
@@ -81,4 +83,5 @@ func_typed n (suc i) h = by_typed n (suc i) (suc i % 3) h
 
 pub all_typed : (n k : ℕ) → k ≤ n → All (IsTyped n) (generated_funcs k)
 all_typed n zero h = All-nil (IsTyped n)
-all_typed n (suc k) h = All-append (IsTyped n) (generated_funcs k) (generated_func k ∷ []) (all_typed n k (omega arith)) (All-cons (IsTyped n) (generated_func k) [] (func_typed n k (omega arith)) (All-nil (IsTyped n)))
+all_typed n (suc k) h = All-append (IsTyped n) (generated_funcs k) (generated_func k ∷ []) (all_typed n k (omega arith))
+    (All-cons (IsTyped n) (generated_func k) [] (func_typed n k (omega arith)) (All-nil (IsTyped n)))

@@ -14,6 +14,7 @@ use Rattle.wa_types.specs.Syntax.{const, num, basic, local_get, local_set, br_if
 abbrev pub one_to_one : FuncType
 one_to_one = record { params = I32 ∷ []; results = I32 ∷ [] }
 
+-- an i32 in front of code
 abbrev pub constant : ℕ → Code → Code
 constant n rest = plain (basic (const (V.I32 n))) rest
 
@@ -37,9 +38,11 @@ deciding i = plain (local_get 0) (branch (Some I32) (called i done) (constant 0 
 abbrev pub looping : ℕ → Code
 looping i = nest a_loop None (called i (plain (local_set 1) (constant 0 (plain (br_if 0) done)))) (plain (local_get 1) done)
 
+-- a function of that type
 abbrev pub func_with : List Run → Code → Func
 func_with locals body = record { sort = 0; locals = locals; body = body }
 
+-- one local
 abbrev pub one_local : Run
 one_local = record { count = 1; ty = I32 }
 
@@ -54,10 +57,12 @@ abbrev pub generated_func : ℕ → Func
 generated_func zero = func_with [] first_code
 generated_func (suc i) = func_by (suc i) (suc i % 3)
 
+-- the first n functions
 abbrev pub generated_funcs : ℕ → List Func
 generated_funcs zero = []
 generated_funcs (suc n) = generated_funcs n ++ generated_func n ∷ []
 
+-- the import `env.sleep`
 abbrev pub sleep : Import
 sleep = record { «module» = codes "env"; base = codes "sleep"; kind = a_func_import 0 }
 

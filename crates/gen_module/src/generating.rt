@@ -1,3 +1,5 @@
+//! The generated module, function by function.
+
 ghost use Rattle.std.specs.Prelude.{◌≡◌, ◌<◌, ◌≤◌, IfOk, map, Some};
 ghost use Rattle.wa_types.specs.View.{code, func_of, func_type_of, module_of};
 ghost use Rattle.gen_module.specs.Generated.{adding, deciding, first_code, func_by, generated, generated_func, generated_funcs, looping, one_to_one, run_export, sleep};

@@ -1,3 +1,5 @@
+//! Laws of generated modules. Each is the contract of a function that does nothing.
+
 ghost use Rattle.gen_module.specs.GeneratedLaws.{GeneratedIsSmall, GeneratedIsValid};
 
 /// Generated modules are valid (standard, section 3.4).

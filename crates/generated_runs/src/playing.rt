@@ -1,4 +1,5 @@
-// A run of a generated module, rewritten, event by event.
+//! A run of a generated module, rewritten, event by event.
+
 ghost use Rattle.std.specs.Prelude.{◌≡◌, ◌≤◌, ◌∷◌, [], ℕ, IfOk, List, None, OnOk, Option, Some};
 ghost use Rattle.wa_model.specs.Blocking.{Note};
 ghost use Rattle.wa_model.specs.Outside.{Call, answered, called, ended, paused, returned};

@@ -1,4 +1,5 @@
-// A generated module, rewritten, and the program over it.
+//! A generated module, rewritten, and the program over it.
+
 ghost use Rattle.std.specs.Prelude.{All, ◌≤◌, ◌≡◌, ◌∷◌, [], ℕ, IfOk, None};
 ghost use Rattle.host_setup.specs.Views.{entry_of};
 ghost use Rattle.wa_model.specs.Rewrites.{Rewrites};

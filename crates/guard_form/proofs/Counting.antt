@@ -10,7 +10,8 @@ use Rattle.wa_model.specs.Flat.{Stmts, no_more, computes, copies, calls, leaps, 
 use Rattle.guard_form.specs.Functions.{GuardedFunc, MayCall, Calls, PiecesCall}
 use Rattle.guard_form.specs.Grouping.{is_place, StmtsNumbered}
 use Rattle.guard_form.specs.Numbers.{UnitsNumbered, UnitsAreNumbered, calls_behind, NumberedAt, NumbersArePlaces}
-use Rattle.guard_form.specs.Pieces.{Units, no_unit, call_unit, nest_unit, if_unit, numbers_in, call_to, call_total, got_any, flat_units, sole_callee, numbered, holds_call, first_piece, unit_call, units}
+use Rattle.guard_form.specs.Pieces.{Units, no_unit, call_unit, nest_unit, if_unit, numbers_in, call_to, call_total, got_any, flat_units, sole_callee, numbered, holds_call, first_piece}
+use Rattle.guard_form.specs.Pieces.{unit_call, units}
 use Rattle.guard_form.specs.Places.{Enclosing, in_a_block, in_a_loop, flat_labels, BodyPlace, at_start, past_call, past_block, past_loop, past_if, in_block, in_loop, in_then, in_else}
 
 -- ---- calls of codes in a row

@@ -4,12 +4,14 @@ use Rattle.std.specs.Prelude.{slice_get, nat_lt, ◌&&◌}
 use Rattle.wa_types.specs.declared.values.ValType.{ValType}
 use Rattle.wa_types.specs.declared.values.ValType.TheVariants.{I32}
 use Rattle.wa_types.specs.declared.operators.NumOp.TheVariants.{I32Ne}
-use Rattle.wa_types.specs.Syntax.{Plain, Shape, num, global_get, basic, local_get, local_set, local_tee, br, br_if, br_table, return, unreachable, call, call_indirect, a_block, a_loop, Code, done, plain, nest, branch}
+use Rattle.wa_types.specs.Syntax.{Plain, Shape, num, global_get, basic, local_get, local_set, local_tee, br, br_if, br_table, return, unreachable, call, call_indirect, a_block, a_loop, Code}
+use Rattle.wa_types.specs.Syntax.{done, plain, nest, branch}
 use Rattle.wa_types.specs.Pausing.{Callee, direct, indirect}
 use Rattle.wa_types.specs.Typing.{Around, gets, sets, gets_global, jump, may_jump, jumps, all_there, all_alike, agrees_with, sig, Takes, label, listed, Types}
 use Rattle.wa_model.specs.declared.flat.Operand.{Operand}
 use Rattle.wa_model.specs.Flat.{followed_by, got, set_to, slots_got, result_got}
-use Rattle.guard_form.specs.Guarded.{raise, raised_plain, raised, GuardIndices, by_state, index_with, guarded, sought, index_noted, noted, call_guarded, choice, arm, Exit, each_end, its_end, by_label, nowhere, exit_behind, exit_inside, last_piece, call_front, body_exit, front}
+use Rattle.guard_form.specs.Guarded.{raise, raised_plain, raised, GuardIndices, by_state, index_with, guarded, sought, index_noted, noted, call_guarded, choice, arm, Exit, each_end, its_end}
+use Rattle.guard_form.specs.Guarded.{by_label, nowhere, exit_behind, exit_inside, last_piece, call_front, body_exit, front}
 use Rattle.guard_form.specs.Pieces.{Units, no_unit, call_unit, nest_unit, if_unit, any_unit, numbers_in, call_to, got_any, StartsGot}
 use Rattle.guard_form.specs.Typed.{UnitsTyped, ConditionTyped, UnitsTypedFrom, ExitTyped, an_i32, FrontTyped, FrontTypedFrom, BodyTyped, BodyTypedFrom}
 use Rattle.guard_form.proofs.PieceTypes.{types_then}

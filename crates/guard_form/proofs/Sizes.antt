@@ -11,7 +11,8 @@ use Rattle.wa_model.specs.declared.flat.Operand.TheVariants.{Local, Const}
 use Rattle.wa_model.specs.Rewrites.{instructions_and_labels}
 use Rattle.wa_model.specs.Flat.{followed_by, got, set_to, slots_got}
 use Rattle.guard_form.specs.Bounds.{over, unit_count, SizeBound, DepthBound, PassingBound, plain_reads, reads, ReadsBound}
-use Rattle.guard_form.specs.Guarded.{raise, raised_plain, raised, GuardIndices, guarded, sought, one_more, index_noted, noted, call_guarded, choice, arm, Exit, each_end, its_end, by_label, nowhere, exit_inside, last_piece, call_front, front}
+use Rattle.guard_form.specs.Guarded.{raise, raised_plain, raised, GuardIndices, guarded, sought, one_more, index_noted, noted, call_guarded, choice, arm, Exit, each_end, its_end, by_label}
+use Rattle.guard_form.specs.Guarded.{nowhere, exit_inside, last_piece, call_front, front}
 use Rattle.guard_form.specs.Pieces.{Units, no_unit, call_unit, nest_unit, if_unit, any_unit, numbers_in, call_to, got_any, flat_units}
 
 abbrev size : Code → ℕ

@@ -17,6 +17,7 @@ unit_count (call_unit slots x to behind rest) = 1 + unit_count rest
 unit_count (nest_unit s first body behind rest) = 1 + unit_count body + unit_count rest
 unit_count (if_unit c fa a fb b behind rest) = 1 + unit_count a + unit_count b + unit_count rest
 
+-- 1 where told
 abbrev pub one_if : Bool → ℕ
 one_if true = 1
 one_if false = 0
@@ -49,6 +50,7 @@ holding_constructs ps n (decides c a b rest) =
     (n + call_total a + call_total b) rest
 holding_constructs ps n (halts rest) = holding_constructs ps n rest
 
+-- 1 where the instruction reads this global
 abbrev pub plain_reads : ℕ → Plain → ℕ
 plain_reads st (basic (global_get x)) = if nat_eq x st then 1 else 0
 plain_reads st _ = 0
@@ -104,13 +106,15 @@ pub record CountedUnits (places : List ℕ) (n : ℕ) (s : Stmts) : Type 0 where
   pub count : unit_count (units places n s) ≡ numbered_calls places n s + holding_constructs places n s
   pub few : unit_count (units places n s) ≤ instructions_and_labels (code_of s)
 
+-- So it is of all statements.
 abbrev pub UnitsCounted : Type 0
 UnitsCounted = (places : List ℕ) (n : ℕ) (s : Stmts) → CountedUnits places n s
 
--- where statements don't read the state, their guarded code reads it at most so often
+-- how often guarded code may read the state
 abbrev pub reads_bound : (places : List ℕ) → Stmts → ℕ
 reads_bound places s = 8 * (numbered_calls places 0 s + holding_constructs places 0 s + 1)
 
+-- Where statements don't read the state, their guarded code reads it at most so often.
 abbrev pub GuardedReadsFew : Type 0
 GuardedReadsFew = (state : ℕ) (places : List ℕ) (f : FlatFunc) → reads state (code_of f.body) ≡ 0 → reads state (guarded_code state places f) ≤ reads_bound places f.body
 

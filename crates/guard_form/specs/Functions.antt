@@ -51,6 +51,7 @@ written_code st (with_guards f) = written_body (indices_of st f) f.exits f.resto
 
 -- ---- what code calls
 
+-- what an instruction calls, where it is a call, is one of these
 abbrev pub MayCall : (Callee → Type 0) → Option Callee → Type 0
 MayCall P None = Unit {0}
 MayCall P (Some x) = P x

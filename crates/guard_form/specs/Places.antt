@@ -32,7 +32,8 @@ abbrev pub written_labels : (state : ℕ) → GuardedFunc → List Enclosing →
 written_labels st f [] = block_label 0 0 (by_state st f.saving done (result_got f.result)) done ∷ []
 written_labels st f (in_a_block h k skipped skipped' behind rest ∷ xs) = block_label h 0 (front (indices_of st f) (exit_at f xs) (length xs) k behind rest) skipped' ∷ written_labels st f xs
 written_labels st f (in_a_loop h k0 first body k behind rest ∷ xs) =
-    loop_label h (front (indices_of st f) (exit_inside (exit_at f xs) a_loop (any_unit rest)) (suc (length xs)) k0 first body) (front (indices_of st f) (exit_at f xs) (length xs) k behind rest) ∷ written_labels st f xs
+    loop_label h (front (indices_of st f) (exit_inside (exit_at f xs) a_loop (any_unit rest)) (suc (length xs)) k0 first body)
+    (front (indices_of st f) (exit_at f xs) (length xs) k behind rest) ∷ written_labels st f xs
 
 -- The places of a body between two units: the number of the next call, what stands behind, and the constructs around.
 pub data BodyPlace (st : ℕ) (f : GuardedFunc) : ℕ → Units → List Enclosing → Type 0 where

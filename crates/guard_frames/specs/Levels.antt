@@ -67,6 +67,7 @@ pub record AreLevels (g : ℕ) (area : Area) (v : Setting) (us' : List Activatio
   pub fit : AllFit g area v.written v.globals (suc v.globals) ws
   pub chain : ChainOf v ws
 
+-- So it is of each stack that has stopped.
 abbrev pub StoppedAreLevels : Type 0
 StoppedAreLevels =
     (g : ℕ) (area : Area) (v : Setting) (lay : Activation → CallFrame) (callee : ℕ) (us us' : List Activation) (d : Stopped v callee us us') → Paired v → MayStand v lay d

@@ -5,7 +5,8 @@ use Rattle.std.proofs.lemmas.List.{length-map, length-take-le}
 use Rattle.wa_types.specs.declared.values.Value.{Value}
 use Rattle.wa_types.specs.declared.values.Value.TheVariants as V
 use Rattle.wa_types.specs.declared.values.Trap.TheVariants.{TypeMismatch, UndefinedElement, UninitializedElement}
-use Rattle.wa_types.specs.Syntax.{Plain, basic, local_get, local_set, local_tee, br, br_if, br_table, return, unreachable, call, call_indirect, a_block, a_loop, Code, done, plain, nest, branch, FuncType, Module}
+use Rattle.wa_types.specs.Syntax.{Plain, basic, local_get, local_set, local_tee, br, br_if, br_table, return, unreachable, call, call_indirect, a_block, a_loop, Code, done, plain, nest}
+use Rattle.wa_types.specs.Syntax.{branch, FuncType, Module}
 use Rattle.wa_types.specs.Modules.{func_type_at, type_at, defined_at}
 use Rattle.wa_types.specs.Pausing.{Callee, direct, indirect, callee}
 use Rattle.wa_types.specs.Pruned.{is_last, pruned}
@@ -18,7 +19,9 @@ use Rattle.guard_form.specs.Functions.{GuardedFunc, Role, with_guards, indices_o
 use Rattle.guard_form.specs.Guarded.{raise, raised_plain, raised, GuardIndices, arm, exit_inside, front}
 use Rattle.guard_form.specs.Pieces.{Units, no_unit, call_unit, nest_unit, if_unit, any_unit, numbers_in, call_to, flat_units}
 use Rattle.guard_form.specs.Places.{Enclosing, in_a_block, in_a_loop, flat_labels, exit_at, written_labels, BodyPlace, at_start, in_block, in_loop, in_then, in_else, call_code, call_labels}
-use Rattle.guard_runs.specs.Beside.{Sides, DidToo, Together, BehindPiece, sequence_end, tail_at, InPiece, outside, block_in, loop_in, GoesOn, SamePoint, in_piece, at_args, at_block, at_loop, at_choice, at_end, at_body, at_return, GoesTo, directly, by_table, BothWait, in_a_piece, at_number, Aligned, aligned, Near, Matched, both_step, both_trap, flat_stuck, ProperPlain, ProperCode, Proper}
+use Rattle.guard_runs.specs.Beside.{Sides, DidToo, Together, BehindPiece, sequence_end, tail_at, InPiece, outside, block_in, loop_in, GoesOn, SamePoint, in_piece, at_args, at_block, at_loop}
+use Rattle.guard_runs.specs.Beside.{at_choice, at_end, at_body, at_return, GoesTo, directly, by_table, BothWait, in_a_piece, at_number, Aligned, aligned, Near, Matched, both_step, both_trap}
+use Rattle.guard_runs.specs.Beside.{flat_stuck, ProperPlain, ProperCode, Proper}
 use Rattle.guard_form.proofs.CodeLemmas.{calls_pruned, then_done, raised_none, picked, got_left, set_left}
 use Rattle.guard_runs.proofs.Settling.{Ctx, cq, cp, no_lag, wider, Arounds, calls_at, arounds, settle, settle_piece}
 use Rattle.guard_runs.proofs.Moving.{same_params, with_stores, resume}
@@ -225,7 +228,8 @@ module _ (w : Sides) (ok : Together w) where
         → BodyPlace w.state f k (if_unit c fa a fb b behind rest) xs
         → M (step_at q x.s x.fn x.under x.ls ops (flat_labels f xs) (branch None (followed_by fa (flat_units a)) (followed_by fb (flat_units b)) (followed_by behind (flat_units rest))))
         (step_at p x.s' x.fn x.under' (x.ls ++ x.extra) ops (written_labels w.state f xs)
-        (branch None (arm a fa (front i (exit_inside (exit_at f xs) a_block (any_unit rest)) (suc (length xs)) k fa a)) (arm b fb (front i (exit_inside (exit_at f xs) a_block (any_unit rest)) (suc (length xs)) (k + numbers_in a) fb b))
+        (branch None (arm a fa (front i (exit_inside (exit_at f xs) a_block (any_unit rest)) (suc (length xs)) k fa a))
+        (arm b fb (front i (exit_inside (exit_at f xs) a_block (any_unit rest)) (suc (length xs)) (k + numbers_in a) fb b))
         (front i (exit_at f xs) (length xs) (k + numbers_in a + numbers_in b) behind rest)))
     choice_step ops k c fa a fb b behind rest xs pl = N.number_too w ops _ _ (λ v below e. by_arm v below (calls_at w f pcs k (if_unit c fa a fb b behind rest) xs pl))
       where
@@ -244,7 +248,8 @@ module _ (w : Sides) (ok : Together w) where
         by_arm zero below ca = both_step (arm_near below (k + numbers_in a) b (in_a_block (length below) (k + numbers_in a + numbers_in b) done done behind rest ∷ xs) fb
             (in_else (length below) pl) ca.2)
         by_arm (suc v) below ca = both_step (arm_near below k a (in_a_block (length below) (k + numbers_in a + numbers_in b) (followed_by fb (flat_units b))
-            (arm b fb (front (indices_of w.state f) (exit_inside (exit_at f xs) a_block (any_unit rest)) (suc (length xs)) (k + numbers_in a) fb b)) behind rest ∷ xs) fa (in_then (length below) pl) ca.0)
+            (arm b fb (front (indices_of w.state f) (exit_inside (exit_at f xs) a_block (any_unit rest)) (suc (length xs)) (k + numbers_in a) fb b)) behind rest ∷ xs) fa
+            (in_then (length below) pl) ca.0)
 
     end_step : (ops : List Value) (k : ℕ) (xs : List Enclosing) → Arounds w f xs
         → M (step_at q x.s x.fn x.under x.ls ops (flat_labels f xs) done) (step_at p x.s' x.fn x.under' (x.ls ++ x.extra) ops (written_labels w.state f xs) done)

@@ -1,5 +1,6 @@
 -- With the state 0 the guarded code makes each reduction of the flat code.
-use Rattle.std.proofs.Common.{◌≡◌, ℕ, zero, suc, ◌+◌, ◌≤◌, ◌<◌, List, [], ◌∷◌, ◌++◌, length, map, take, drop, reverse, Option, Some, None, Bool, true, false, refl, sym, ap, ◌∙◌, subst, arith, append_assoc, length-append, length-set, get_or-set_same}
+use Rattle.std.proofs.Common.{◌≡◌, ℕ, zero, suc, ◌+◌, ◌≤◌, ◌<◌, List, [], ◌∷◌, ◌++◌, length, map, take, drop, reverse, Option, Some, None, Bool, true, false, refl, sym, ap, ◌∙◌, subst}
+use Rattle.std.proofs.Common.{arith, append_assoc, length-append, length-set, get_or-set_same}
 use Rattle.std.specs.Prelude.{nat_lt, if◌then◌else◌, slice_set, ◌&&◌}
 use Rattle.std.proofs.lemmas.List.{length-map, map-append, length-reverse, length-take-le}
 use Rattle.wa_types.specs.declared.values.ValType.{ValType}
@@ -20,7 +21,9 @@ use Rattle.guard_form.specs.Guarded.{raise, raised, by_state, one_more, arm, Exi
 use Rattle.guard_form.specs.Pieces.{Units, no_unit, call_unit, nest_unit, if_unit, any_unit, flat_units, numbers_in}
 use Rattle.guard_form.specs.Places.{Enclosing, in_a_block, in_a_loop, flat_labels, exit_at, written_labels, has_block, label_more, BodyPlace, past_call, call_code, noted_code, call_labels}
 use Rattle.guard_form.proofs.PlacesBelow.{alone_number}
-use Rattle.guard_runs.specs.Beside.{Sides, Twin, both_import, both_defined, Together, BehindPiece, guard_end, before_call, before_if, sequence_end, func_end, tail_at, InPiece, outside, block_in, loop_in, at_body, IndexHeld, Locals, BothWait, in_a_piece, at_number, Callers, host, above, Near, Matched, both_step, both_ask, both_return, both_trap, flat_stuck}
+use Rattle.guard_runs.specs.Beside.{Sides, Twin, both_import, both_defined, Together, BehindPiece, guard_end, before_call, before_if, sequence_end, func_end, tail_at, InPiece, outside}
+use Rattle.guard_runs.specs.Beside.{block_in, loop_in, at_body, IndexHeld, Locals, BothWait, in_a_piece, at_number, Callers, host, above, Near, Matched, both_step, both_ask, both_return}
+use Rattle.guard_runs.specs.Beside.{both_trap, flat_stuck}
 use Rattle.guard_runs.proofs.SilentStretches.{Comes, on, walks}
 use Rattle.guard_form.proofs.CodeLemmas.{calls_pruned, then_done, raised_none, raise_out, raise_in, raise_on, set_behind}
 use Rattle.guard_runs.proofs.Settling.{Ctx, cq, cp, no_lag, later, wider, Arounds, calls_at, arounds, reads, to_else, settle, settle_piece}
@@ -329,7 +332,8 @@ module _ (w : Sides) where
     jumps_cont x (before_if {f = f} {k = k} {c = c} {fa = fa} {a = a} {fb = fb} {b = b} {behind = behind} {rest = rest} {xs = xs} h pl) j ops l =
         let z : suc l ≡ l + 1 = omega arith in
         let lb : Label = block_label h 1 (branch None (arm a fa (front (indices_of w.state f) (exit_inside (exit_at f xs) a_block (any_unit rest)) (suc (length xs)) k fa a))
-        (arm b fb (front (indices_of w.state f) (exit_inside (exit_at f xs) a_block (any_unit rest)) (suc (length xs)) (k + numbers_in a) fb b)) (front (indices_of w.state f) (exit_at f xs) (length xs) (k + numbers_in a + numbers_in b) behind rest)) done in
+        (arm b fb (front (indices_of w.state f) (exit_inside (exit_at f xs) a_block (any_unit rest)) (suc (length xs)) (k + numbers_in a) fb b))
+        (front (indices_of w.state f) (exit_at f xs) (length xs) (k + numbers_in a + numbers_in b) behind rest)) done in
         subst (λ n. M (jump j q x.s x.fn x.under x.ls ops (flat_labels f xs) l) (jump j p x.s' x.fn x.under' (x.ls ++ x.extra) ops (lb ∷ written_labels w.state f xs) n)) z
         (jumps_out f x j ops xs l (arounds w f (pieces x f refl) k _ xs pl))
     jumps_cont x (sequence_end {f = f} {k = k} {xs = xs} pl) j ops l =

@@ -13,7 +13,8 @@ use Rattle.wa_model.specs.Configuration.{Label, block_label, loop_label, Activat
 use Rattle.wa_model.specs.Flat.{followed_by}
 use Rattle.guard_form.specs.Bounds.{over, passing}
 use Rattle.guard_form.specs.Functions.{GuardedFunc, indices_of, HasUnit, ArmsHold}
-use Rattle.guard_form.specs.Guarded.{raised, GuardIndices, by_state, index_with, guarded, sought, choice, arm, Exit, each_end, its_end, by_label, nowhere, exit_inside, own_block, call_guarded, call_front, front}
+use Rattle.guard_form.specs.Guarded.{raised, GuardIndices, by_state, index_with, guarded, sought, choice, arm, Exit, each_end, its_end, by_label, nowhere, exit_inside, own_block}
+use Rattle.guard_form.specs.Guarded.{call_guarded, call_front, front}
 use Rattle.guard_form.specs.Pieces.{Units, no_unit, call_unit, nest_unit, if_unit, any_unit, numbers_in, got_any}
 use Rattle.guard_form.specs.Places.{label_more}
 use Rattle.guard_runs.specs.Rewinding.{Within, ExitsTo, CanExit, Passes}

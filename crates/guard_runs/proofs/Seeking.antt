@@ -14,7 +14,8 @@ use Rattle.guard_form.specs.Bounds.{over, passing}
 use Rattle.guard_form.specs.Functions.{GuardedFunc, indices_of, ArmsHold}
 use Rattle.guard_form.specs.Guarded.{raised, GuardIndices, by_state, one_more, arm, exit_inside, call_guarded, index_noted, is_alone, guarded_body, front}
 use Rattle.guard_form.specs.Pieces.{Units, call_unit, nest_unit, if_unit, any_unit, numbers_in}
-use Rattle.guard_form.specs.Places.{Enclosing, in_a_block, in_a_loop, exit_at, written_labels, has_block, label_more, BodyPlace, at_start, past_call, past_block, past_loop, past_if, in_block, in_loop, in_then, in_else, call_code, call_labels}
+use Rattle.guard_form.specs.Places.{Enclosing, in_a_block, in_a_loop, exit_at, written_labels, has_block, label_more, BodyPlace, at_start, past_call, past_block, past_loop, past_if}
+use Rattle.guard_form.specs.Places.{in_block, in_loop, in_then, in_else, call_code, call_labels}
 use Rattle.guard_form.proofs.PlacesBelow.{alone_number}
 use Rattle.guard_runs.specs.Rewinding.{Within, NoneBelow, Seeks, Unwinds}
 use Rattle.guard_runs.proofs.SilentStretches.{Comes, none, one, on, walks}

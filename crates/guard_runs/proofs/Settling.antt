@@ -12,10 +12,13 @@ use Rattle.wa_model.specs.Configuration.{Label, block_label, Activation, Configu
 use Rattle.wa_model.specs.declared.flat.Operand.{Operand}
 use Rattle.wa_model.specs.Flat.{followed_by}
 use Rattle.guard_form.specs.Functions.{GuardedFunc, Role, with_guards, indices_of, Calls, PiecesCall}
-use Rattle.guard_form.specs.Guarded.{raised, GuardIndices, by_state, guarded, sought, one_more, choice, arm, Exit, each_end, its_end, by_label, nowhere, exit_inside, own_block, last_piece, call_guarded, call_front, front}
+use Rattle.guard_form.specs.Guarded.{raised, GuardIndices, by_state, guarded, sought, one_more, choice, arm, Exit, each_end, its_end, by_label, nowhere, exit_inside, own_block, last_piece}
+use Rattle.guard_form.specs.Guarded.{call_guarded, call_front, front}
 use Rattle.guard_form.specs.Pieces.{Units, no_unit, call_unit, nest_unit, if_unit, any_unit, numbers_in, got_any, flat_units}
-use Rattle.guard_form.specs.Places.{Enclosing, in_a_block, in_a_loop, flat_labels, exit_at, written_labels, label_more, BodyPlace, at_start, past_call, past_block, past_loop, past_if, in_block, in_loop, in_then, in_else}
-use Rattle.guard_runs.specs.Beside.{Sides, Together, BehindPiece, guard_end, before_call, before_if, sequence_end, func_end, tail_at, InPiece, outside, GoesOn, SamePoint, in_piece, at_args, at_block, at_loop, at_choice, at_end, at_return, Locals, Callers, Aligned, aligned, Near}
+use Rattle.guard_form.specs.Places.{Enclosing, in_a_block, in_a_loop, flat_labels, exit_at, written_labels, label_more, BodyPlace, at_start, past_call, past_block, past_loop, past_if}
+use Rattle.guard_form.specs.Places.{in_block, in_loop, in_then, in_else}
+use Rattle.guard_runs.specs.Beside.{Sides, Together, BehindPiece, guard_end, before_call, before_if, sequence_end, func_end, tail_at, InPiece, outside, GoesOn, SamePoint, in_piece, at_args}
+use Rattle.guard_runs.specs.Beside.{at_block, at_loop, at_choice, at_end, at_return, Locals, Callers, Aligned, aligned, Near}
 use Rattle.guard_form.proofs.CodeLemmas.{calls_pruned, raised_none}
 use Rattle.guard_form.proofs.UnitLemmas.{last_none}
 use Rattle.guard_form.proofs.Grouped.{then_then, then_any, calls_then, calls_any}
@@ -228,7 +231,8 @@ module _ (w : Sides) where
           → Near w 4 (cq x ops (followed_by first (flat_units (if_unit c fa a fb b behind rest))) (flat_labels f xs))
           (cp x ops (front i (exit_at f xs) (length xs) k first (if_unit c fa a fb b behind rest)) (written_labels w.state f xs))
       begins_if ops k c fa a fb b behind rest xs first pl ca =
-          let next : Code = branch None (arm a fa (front i (exit_inside (exit_at f xs) a_block (any_unit rest)) (suc (length xs)) k fa a)) (arm b fb (front i (exit_inside (exit_at f xs) a_block (any_unit rest)) (suc (length xs)) (k + numbers_in a) fb b))
+          let next : Code = branch None (arm a fa (front i (exit_inside (exit_at f xs) a_block (any_unit rest)) (suc (length xs)) k fa a))
+          (arm b fb (front i (exit_inside (exit_at f xs) a_block (any_unit rest)) (suc (length xs)) (k + numbers_in a) fb b))
           (front i (exit_at f xs) (length xs) (k + numbers_in a + numbers_in b) behind rest) in
           let piece : Code = followed_by first (got_any c done) in
           let from = cp x ops (front i (exit_at f xs) (length xs) k first (if_unit c fa a fb b behind rest)) (written_labels w.state f xs) in

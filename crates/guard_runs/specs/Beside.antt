@@ -78,12 +78,14 @@ pub data BehindPiece (w : Sides) : Role → (by : ℕ) → (tail : Code) → (ou
       → BodyPlace w.state f k (if_unit c fa a fb b behind rest) xs
       → BehindPiece w (with_guards f) 1 (branch None (followed_by fa (flat_units a)) (followed_by fb (flat_units b)) (followed_by behind (flat_units rest))) (flat_labels f xs)
       (block_label h 1 (branch None (arm a fa (front (indices_of w.state f) (exit_inside (exit_at f xs) a_block (any_unit rest)) (suc (length xs)) k fa a))
-      (arm b fb (front (indices_of w.state f) (exit_inside (exit_at f xs) a_block (any_unit rest)) (suc (length xs)) (k + numbers_in a) fb b)) (front (indices_of w.state f) (exit_at f xs) (length xs) (k + numbers_in a + numbers_in b) behind rest))
+      (arm b fb (front (indices_of w.state f) (exit_inside (exit_at f xs) a_block (any_unit rest)) (suc (length xs)) (k + numbers_in a) fb b))
+      (front (indices_of w.state f) (exit_at f xs) (length xs) (k + numbers_in a + numbers_in b) behind rest))
       done ∷ written_labels w.state f xs)
   sequence_end : {f : GuardedFunc} {k : ℕ} {xs : List Enclosing} → BodyPlace w.state f k no_unit xs
       → BehindPiece w (with_guards f) 0 done (flat_labels f xs) (written_labels w.state f xs)
   func_end : {r : Role} → BehindPiece w r 0 done [] []
 
+-- what stands behind code inside so many constructs of a piece: behind the piece itself its tail
 abbrev pub tail_at : (depth : ℕ) → Code → Code
 tail_at zero tail = tail
 tail_at (suc d) tail = done
@@ -121,7 +123,8 @@ pub data SamePoint (w : Sides) : Role → (ops : List Value) → (code : Code) �
   at_choice : {ops : List Value} {f : GuardedFunc} {k : ℕ} {c : Option Operand} {fa : Code} {a : Units} {fb : Code} {b : Units} {behind : Code} {rest : Units} {xs : List Enclosing}
       → BodyPlace w.state f k (if_unit c fa a fb b behind rest) xs
       → SamePoint w (with_guards f) ops (branch None (followed_by fa (flat_units a)) (followed_by fb (flat_units b)) (followed_by behind (flat_units rest))) (flat_labels f xs)
-      (branch None (arm a fa (front (indices_of w.state f) (exit_inside (exit_at f xs) a_block (any_unit rest)) (suc (length xs)) k fa a)) (arm b fb (front (indices_of w.state f) (exit_inside (exit_at f xs) a_block (any_unit rest)) (suc (length xs)) (k + numbers_in a) fb b))
+      (branch None (arm a fa (front (indices_of w.state f) (exit_inside (exit_at f xs) a_block (any_unit rest)) (suc (length xs)) k fa a))
+      (arm b fb (front (indices_of w.state f) (exit_inside (exit_at f xs) a_block (any_unit rest)) (suc (length xs)) (k + numbers_in a) fb b))
       (front (indices_of w.state f) (exit_at f xs) (length xs) (k + numbers_in a + numbers_in b) behind rest)) (written_labels w.state f xs)
   at_end : {ops : List Value} {f : GuardedFunc} {k : ℕ} {xs : List Enclosing} → BodyPlace w.state f k no_unit xs
       → SamePoint w (with_guards f) ops done (flat_labels f xs) done (written_labels w.state f xs)
@@ -205,9 +208,11 @@ ProperPlain w s ls ops (call x) = (x < w.funcs) × (param_count (func_type_at w.
 ProperPlain w s ls ops (call_indirect t) = (t < w.sorts) × (suc (param_count (type_at w.flat t)) ≤ length ops)
 ProperPlain w s ls ops _ = Unit {0}
 
+-- so does the instruction that stands next
 abbrev pub ProperCode : Sides → (s : Store) → (ls ops : List Value) → Code → Type 0
 ProperCode w s ls ops (plain p rest) = ProperPlain w s ls ops p
 ProperCode w s ls ops _ = Unit {0}
 
+-- so does a configuration
 abbrev pub Proper : Sides → Configuration → Type 0
 Proper w c = ProperCode w c.store c.here.locals c.here.operands c.here.code

@@ -36,6 +36,7 @@ pub record IsSmall (m : Module) (x : ℕ) (f : Func) (st : ℕ) (places : List �
 
 -- ---- laws
 
+-- A function whose frame keeps few locals is so small, rewritten.
 abbrev pub RewrittenIsSmall : Type 0
 RewrittenIsSmall =
     (m : Module) (i x : ℕ) (f : Func) (st : ℕ) (places : List ℕ) (l : Layout) → Valid m → slice_get m.funcs i ≡ Some f → KeepsFew m f l → IsSmall m x f st places l

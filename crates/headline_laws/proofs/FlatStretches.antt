@@ -59,7 +59,8 @@ module _ (v : Setting) where
   then_steps _ _ k e (both_trap a) q = cc
   then_steps _ _ k e flat_stuck q = cc
 
-  pub then_asks : (o o' : Next) (k i : ℕ) (args : List Value) (e : Configuration) → Matched (sides_of v) o o' → o ≡ asks k i args e → (d : Configuration) × (o' ≡ asks k i args d) × Asked (sides_of v) i e d
+  pub then_asks : (o o' : Next) (k i : ℕ) (args : List Value) (e : Configuration) → Matched (sides_of v) o o' → o ≡ asks k i args e
+      → (d : Configuration) × (o' ≡ asks k i args d) × Asked (sides_of v) i e d
   then_asks _ _ k i args e (both_step a) q = cc
   then_asks _ _ k i args e (both_ask {k = j} {g = g} {args = bs} {d = d} {d' = d'} a) q =
       let x1 : j ≡ k = cc in let x2 : g ≡ i = cc in let x3 : bs ≡ args = cc in let x4 : d ≡ e = cc in
@@ -126,7 +127,8 @@ module _ (w : World) where
   Sil = Silent w.original w.settings w.which w.written xp w.plan
 
   -- a lag changes no store
-  pub lag : (task : Task) (l : Left) (seen : Store) (c d : Configuration) (n : ℕ) (es : List Note) → Leads (alone silent w.written) c n es d → Sm seen c.store → Sil seen (busy (is_running task) c l) n (busy (is_running task) d l) × Sm seen d.store
+  pub lag : (task : Task) (l : Left) (seen : Store) (c d : Configuration) (n : ℕ) (es : List Note) → Leads (alone silent w.written) c n es d → Sm seen c.store
+      → Sil seen (busy (is_running task) c l) n (busy (is_running task) d l) × Sm seen d.store
   lag task l seen c d _ _ Leads.stays h = (silent_none w.original w.settings w.which w.written xp w.plan seen (busy (is_running task) c l) h, h)
   lag task l seen c d n _ (Leads.moves {t = t} {k = k} {n = n1} {es = es1} {fs = fs} e rest em eg) h =
       let q = quiet_moved gl w.plan.area (silent c) (step w.written c) k es1 t e in
@@ -134,7 +136,8 @@ module _ (w : World) where
       let nk : NextKeeps gl w.plan.area c.store (step w.written c) = step_keeps gl w.plan.area w.written c.store c.here.func c.under c.here.locals c.here.operands c.here.labels c.here.code kp in
       let same : Sm c.store t.store = subst (NextKeeps gl w.plan.area c.store) q.1 nk in
       let h2 = same_on gl w.plan.area seen c.store t.store h same in
-      let first = silent_one w.original w.settings w.which w.written xp w.plan seen (busy (is_running task) c l) (busy (is_running task) t l) k (ap (busy_step w.written xp w.plan (is_running task) l) q.1) h h2 in
+      let first = silent_one w.original w.settings w.which w.written xp w.plan seen (busy (is_running task) c l) (busy (is_running task) t l) k
+      (ap (busy_step w.written xp w.plan (is_running task) l) q.1) h h2 in
       let ih = lag task l seen t d n1 fs rest h2 in
       (subst (λ i. Sil seen (busy (is_running task) c l) i (busy (is_running task) d l)) (sym em) (silent_on w.original w.settings w.which w.written xp w.plan seen _ _ _ (suc k) n1 first ih.0), ih.1)
 
@@ -180,19 +183,30 @@ module _ (w : World) where
 
     pub along : (seen : Store) (f e b : Configuration) (n : ℕ) → Still (setting w top) f n e → Near (sides top) 9 f b → Sm seen f.store → Along seen n e b
     along seen f e b _ F.stays nr h =
-        record { cost = 0; to = b; silent = silent_none w.original w.settings w.which w.written xp w.plan seen (busy (is_running task) b l) (same_on gl w.plan.area seen f.store b.store h (near_same sl top f b nr)); least = omega arith; most = omega arith; near = nr; flat_store = h }
+        record {
+          cost = 0;
+          to = b;
+          silent = silent_none w.original w.settings w.which w.written xp w.plan seen (busy (is_running task) b l)
+              (same_on gl w.plan.area seen f.store b.store h (near_same sl top f b nr));
+          least = omega arith;
+          most = omega arith;
+          near = nr;
+          flat_store = h;
+        }
     along seen f e b m (F.moves {d = d} {k = k} {n = n} proper is keep rest em) nr h =
         let u = up_to seen f b nr proper h in
         let t = then_steps (setting w top) (step w.flat f) (step w.written u.mid) k d u.same is in
         let hd : Sm seen d.store = subst (λ z. Sm seen z) (sym keep) h in
         let ht = same_on gl w.plan.area seen d.store (t.0).store hd (near_same sl top d t.0 t.2) in
-        let one = silent_one w.original w.settings w.which w.written xp w.plan seen (busy (is_running task) u.mid l) (busy (is_running task) t.0 l) k (ap (busy_step w.written xp w.plan (is_running task) l) t.1) u.store ht in
+        let one = silent_one w.original w.settings w.which w.written xp w.plan seen (busy (is_running task) u.mid l) (busy (is_running task) t.0 l) k
+        (ap (busy_step w.written xp w.plan (is_running task) l) t.1) u.store ht in
         let ih = along seen d e t.0 n rest t.2 hd in
         let a1 = u.short in let a2 = ih.least in let a3 = ih.most in
         record {
           cost = u.cost + suc k + ih.cost;
           to = ih.to;
-          silent = silent_on w.original w.settings w.which w.written xp w.plan seen _ _ _ (u.cost + suc k) ih.cost (silent_on w.original w.settings w.which w.written xp w.plan seen _ _ _ u.cost (suc k) u.silent one) ih.silent;
+          silent = silent_on w.original w.settings w.which w.written xp w.plan seen _ _ _ (u.cost + suc k) ih.cost
+              (silent_on w.original w.settings w.which w.written xp w.plan seen _ _ _ u.cost (suc k) u.silent one) ih.silent;
           least = omega arith;
           most = omega arith;
           near = ih.near;

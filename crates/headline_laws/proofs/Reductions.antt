@@ -13,7 +13,8 @@ use Rattle.wa_model.proofs.Follow.{Alike as AllAlike}
 use Rattle.wa_model.proofs.Runs.{leads_run}
 use Rattle.wa_model.proofs.ShownRuns.{shown_move}
 use Rattle.wa_model.specs.Behaves.{SameNote, AtPaused, PausesNumbered}
-use Rattle.wa_model.specs.Blocking.{Left, Note, State, Task, an_entry, begins, between, blocking, by_step, done_notes, halts, next_entry, note, on_to, runs, store_of, task_back, the_start, value_of_results}
+use Rattle.wa_model.specs.Blocking.{Left, Note, State, Task, an_entry, begins, between, blocking, by_step, done_notes, halts, next_entry, note, on_to, runs, store_of, task_back, the_start}
+use Rattle.wa_model.specs.Blocking.{value_of_results}
 use Rattle.wa_model.specs.Configuration.{Configuration}
 use Rattle.wa_model.specs.Machine.{Leads, Ran, Turn, goes, moves, run, stops}
 use Rattle.wa_model.specs.Outside.{ended, returned}
@@ -31,7 +32,8 @@ use Rattle.headline_laws.proofs.ToldMoves as T
 
 module _ (w : World) where
   -- a note of each side
-  pub same_note : (y z : Note) → y.event ≡ z.event → Sm w y.store z.store → AtPaused z.event (Image w.original w.settings w.which y.stack w.plan.area.at w.plan.area.len z.store.memory) → z.since ≡ None
+  pub same_note : (y z : Note) → y.event ≡ z.event → Sm w y.store z.store → AtPaused z.event (Image w.original w.settings w.which y.stack w.plan.area.at w.plan.area.len z.store.memory)
+      → z.since ≡ None
       → SameNote w.original w.settings w.which w.plan.area y z
   same_note y z ev st im none = record { event = ev; ends = st; image = im; kept = λ at e. let q : None ≡ Some at = sym none ∙ e in cc }
 
@@ -85,7 +87,8 @@ module _ (w : World) where
       subst (Rests seen) (sym r) (silent_before w.original w.settings w.which w.written (xp w) w.plan seen b1 to k gs e seen1 (j - c) (omega arith)))
       (cases_lt j c)
 
-  module _ (ft : WorldFits w) (sl : StoreLaws w) (L : (top spare : ℕ) → Configuration → Configuration → Type 0) (W : ℕ → ℕ → Configuration → Configuration → Type 0) (G : Store → Type 0) (law : FlatLaw w (λ c d. c ≡ d) L W G) where
+  module _ (ft : WorldFits w) (sl : StoreLaws w) (L : (top spare : ℕ) → Configuration → Configuration → Type 0) (W : ℕ → ℕ → Configuration → Configuration → Type 0) (G : Store → Type 0)
+      (law : FlatLaw w (λ c d. c ≡ d) L W G) where
     -- THE RELATION: a flat configuration stands between, with so much to spare
     pub record Link (top spare : ℕ) (c b : Configuration) : Type 0 where
       pub flat_at : Configuration
@@ -95,8 +98,10 @@ module _ (w : World) where
     -- what the flat side may spend the written one may ten times
     pub data R (n spare : ℕ) : State → Held → Type 0 where
       r_between : {s s' : Store} {l : Left} → G s → Alike (setting w 0) s s' → LeftFits l → Allowed n (between s l) → R n spare (between s l) (free s' l)
-      r_begins : {s s' : Store} {l : Left} {x : ℕ} → G s → Alike (setting w 0) s s' → LeftFits l → AreLawful (func_type_at (base w) x).params [] × (x < w.funcs) → Allowed n (begins x s l) → R n spare (begins x s l) (starting x s' l)
-      r_runs : {c b : Configuration} {l : Left} {task : Task} → (top x : ℕ) → 10 * x ≤ spare → TopOf task top → Link top x c b → LeftFits l → Allowed n (runs task c l) → R n spare (runs task c l) (busy (is_running task) b l)
+      r_begins : {s s' : Store} {l : Left} {x : ℕ} → G s → Alike (setting w 0) s s' → LeftFits l → AreLawful (func_type_at (base w) x).params [] × (x < w.funcs) → Allowed n (begins x s l)
+          → R n spare (begins x s l) (starting x s' l)
+      r_runs : {c b : Configuration} {l : Left} {task : Task} → (top x : ℕ) → 10 * x ≤ spare → TopOf task top → Link top x c b → LeftFits l → Allowed n (runs task c l)
+          → R n spare (runs task c l) (busy (is_running task) b l)
       r_halts : {s s' : Store} → Sm w s s' → R n spare (halts s) (over s')
 
     abbrev pub M : (n spare k : ℕ) (es : List Note) (a a' : State) (b : Held) → Type 0
@@ -108,23 +113,27 @@ module _ (w : World) where
     Owes n spare a b (goes k es t) = ((j : ℕ) → j ≤ k → Rests (store_of a) (run (pr w) j b)) × (suc k ≤ n → M n spare k es a t b)
 
     -- a stretch, one move that tells notes, and a stretch behind it
-    pub tell_move : (n spare k j c c2 left : ℕ) (a a' : State) (b b1 b2 to : Held) (es1 gs : List Note) (y : Note) → Sil w (store_of a) b c b1 → pr w b1 ≡ goes j gs b2 → AllAlike (SameNote w.original w.settings w.which w.plan.area) (es1 ++ y ∷ []) gs
+    pub tell_move : (n spare k j c c2 left : ℕ) (a a' : State) (b b1 b2 to : Held) (es1 gs : List Note) (y : Note) → Sil w (store_of a) b c b1 → pr w b1 ≡ goes j gs b2
+        → AllAlike (SameNote w.original w.settings w.which w.plan.area) (es1 ++ y ∷ []) gs
         → Sil w y.store b2 c2 to → suc k ≤ c + suc j → c + suc j + c2 + left ≤ 256 * suc k + spare → (suc k ≤ n → R (n - suc k) left a' to) → Owes n spare a b (goes k (es1 ++ y ∷ []) a')
     tell_move n spare k j c c2 left a a' b b1 b2 to es1 gs y q e al q2 least most r =
         let t : Told w.original w.settings w.which w.written (xp w) w.plan (store_of a) (es1 ++ y ∷ []) b (c + suc j + c2) gs to = told es1 y q e al (no_more q2) refl refl (sym (append-nil gs)) in (
           λ i le. rests_before (store_of a) b b1 b2 c j gs q e i (omega arith),
-          λ enough. by_told w.original w.settings w.which w.written (xp w) w.plan nn R n spare k (c + suc j + c2) left (es1 ++ y ∷ []) gs a a' b to t (omega arith) (omega arith) (omega arith) (r enough),
+          λ enough. by_told w.original w.settings w.which w.written (xp w) w.plan nn R n spare k (c + suc j + c2) left (es1 ++ y ∷ []) gs a a' b to t (omega arith) (omega arith)
+              (omega arith) (r enough),
         )
 
     -- the same with nothing behind
-    pub last_move : (n spare k j c : ℕ) (a a' : State) (b b1 to : Held) (es1 gs : List Note) (y : Note) → Sil w (store_of a) b c b1 → pr w b1 ≡ goes j gs to → AllAlike (SameNote w.original w.settings w.which w.plan.area) (es1 ++ y ∷ []) gs
+    pub last_move : (n spare k j c : ℕ) (a a' : State) (b b1 to : Held) (es1 gs : List Note) (y : Note) → Sil w (store_of a) b c b1 → pr w b1 ≡ goes j gs to
+        → AllAlike (SameNote w.original w.settings w.which w.plan.area) (es1 ++ y ∷ []) gs
         → Sm w y.store (store_held to) → (suc k ≤ c + suc j) × (c + suc j ≤ 256 * suc k + spare) → (suc k ≤ n → R (n - suc k) 0 a' to) → Owes n spare a b (goes k (es1 ++ y ∷ []) a')
     last_move n spare k j c a a' b b1 to es1 gs y q e al h most r =
         tell_move n spare k j c 0 0 a a' b b1 to to es1 gs y q e al (silent_none w.original w.settings w.which w.written (xp w) w.plan y.store to h) most.0 (let two = most.1 in omega arith) r
 
     -- ---- code that runs
 
-    module _ (n spare top x : ℕ) (within : 10 * x ≤ spare) (task : Task) (c b : Configuration) (l : Left) (is_top : TopOf task top) (lk : Link top x c b) (lf : LeftFits l) (al : Allowed n (runs task c l)) where
+    module _ (n spare top x : ℕ) (within : 10 * x ≤ spare) (task : Task) (c b : Configuration) (l : Left) (is_top : TopOf task top) (lk : Link top x c b) (lf : LeftFits l)
+        (al : Allowed n (runs task c l)) where
       abbrev a0 : State
       a0 = runs task c l
 
@@ -146,8 +155,10 @@ module _ (w : World) where
           let a1 = u1.least in let a2 = u1.most in let a3 = u2.short in let a4 = u3.least in let a5 = u3.most in let a6 = fs.least in let a7 = fs.most in let a8 = within in (
             λ j le. rests_before c.store b0 (busy (is_running task) u2.mid l) (busy (is_running task) t.0 l) (u1.cost + u2.cost) fs.j [] q1 mv j (omega arith),
             λ enough.
-                by_silence w.original w.settings w.which w.written (xp w) w.plan nn R n spare k (u1.cost + u2.cost) fs.j u3.cost (10 * fs.left) a0 (runs task d l) b0 (busy (is_running task) u2.mid l) (busy (is_running task) t.0 l) (busy (is_running task) u3.to l) q1 mv u3.silent (omega arith) (omega arith)
-                (r_runs top fs.left (omega arith) is_top (record { flat_at = fs.to; link = fs.link; near = u3.near }) lf (allowed_on n k [] a0 (runs task d l) (ap (by_step (base w) w.plan task l) is) al)),
+                by_silence w.original w.settings w.which w.written (xp w) w.plan nn R n spare k (u1.cost + u2.cost) fs.j u3.cost (10 * fs.left) a0 (runs task d l) b0
+                (busy (is_running task) u2.mid l) (busy (is_running task) t.0 l) (busy (is_running task) u3.to l) q1 mv u3.silent (omega arith) (omega arith)
+                (r_runs top fs.left (omega arith) is_top (record { flat_at = fs.to; link = fs.link; near = u3.near }) lf
+                (allowed_on n k [] a0 (runs task d l) (ap (by_step (base w) w.plan task l) is) al)),
           )
 
       pub traps_case : (k : ℕ) (t : Trap) (s : Store) → FlatTraps w (λ c d. c ≡ d) L W G top x k t s lk.flat_at → Owes n spare a0 b0 (goes k (note (ended (Trapped t)) s ∷ []) (halts s))
@@ -159,10 +170,12 @@ module _ (w : World) where
           let mv : pr w (busy (is_running task) u2.mid l) ≡ goes fs.j (note (ended (Trapped t)) r.0 ∷ []) (over r.0) = ap (busy_step w.written (xp w) w.plan (is_running task) l) r.1 in
           let h = sl.same_end top s r.0 r.2 in
           let a9 = u1.least in let a4 = fs.least in let a1 = u1.most in let a2 = u2.short in let a3 = fs.most in let a5 = within in
-          last_move n spare k fs.j (u1.cost + u2.cost) a0 (halts s) b0 (busy (is_running task) u2.mid l) (over r.0) [] (note (ended (Trapped t)) r.0 ∷ []) (note (ended (Trapped t)) s) q1 mv (same_note _ _ refl h tt refl, tt) h (omega arith, omega arith) (λ enough. r_halts h)
+          last_move n spare k fs.j (u1.cost + u2.cost) a0 (halts s) b0 (busy (is_running task) u2.mid l) (over r.0) [] (note (ended (Trapped t)) r.0 ∷ []) (note (ended (Trapped t)) s) q1 mv
+          (same_note _ _ refl h tt refl, tt) h (omega arith, omega arith) (λ enough. r_halts h)
 
       -- what comes behind the start function or an entry
-      pub goes_on : (k : ℕ) (vs : List Value) (s : Store) → step (base w) c ≡ returns k vs s → FlatReturns w (λ c d. c ≡ d) L W G top x k vs s lk.flat_at → Owes n spare a0 b0 (sh (task_back k task vs s l))
+      pub goes_on : (k : ℕ) (vs : List Value) (s : Store) → step (base w) c ≡ returns k vs s → FlatReturns w (λ c d. c ≡ d) L W G top x k vs s lk.flat_at
+          → Owes n spare a0 b0 (sh (task_back k task vs s l))
       goes_on k vs s is fs = by_task task refl l.entries refl
         where
           u1 : Along w ft sl top task l c.store fs.n fs.at b
@@ -191,25 +204,39 @@ module _ (w : World) where
 
           next_r : (l2 : Left) → l2.entries ≡ l.entries → l2.outcomes ≡ l.outcomes → (es : List Note) → nb a0 ≡ goes k es (between s l2) → suc k ≤ n → R (n - suc k) 0 (between s l2) (free r.0 l2)
           next_r l2 ee eo es e enough =
-              r_between fs.good (other_top w top 0 s r.0 r.2) (record { entries = subst (All (EntryFits w.original)) (sym ee) lf.entries; outcomes = subst (All OutcomeFits) (sym eo) lf.outcomes }) (allowed_on n k es a0 (between s l2) e al)
+              r_between fs.good (other_top w top 0 s r.0 r.2) (record {
+                entries = subst (All (EntryFits w.original)) (sym ee) lf.entries;
+                outcomes =
+                    subst (All OutcomeFits) (sym eo) lf.outcomes;
+              }) (allowed_on n k es a0 (between s l2) e al)
 
           by_task : (tk : Task) → task ≡ tk → (es : List Entry) → l.entries ≡ es → Owes n spare a0 b0 (sh (task_back k task vs s l))
           by_task the_start et [] ee = subst (Owes n spare a0 b0) (sym (ap (sh) (ap (λ z. task_back k z vs s l) et ∙ ap (λ z. goes k (done_notes s z) (on_to s l z)) ee)))
-              (last_move n spare k fs.j (u1.cost + u2.cost) a0 (halts s) b0 (busy (is_running task) u2.mid l) (over r.0) [] (note (ended Done) r.0 ∷ []) (note (ended Done) s) q1 (mv ∙ ap (λ z. held_back fs.j z vs r.0 l) et ∙ ap (λ z. goes fs.j (done_notes r.0 z) (held_on r.0 l z)) ee) (same_note _ _ refl h tt refl, tt) h few (λ enough. r_halts h))
+              (last_move n spare k fs.j (u1.cost + u2.cost) a0 (halts s) b0 (busy (is_running task) u2.mid l) (over r.0) [] (note (ended Done) r.0 ∷ []) (note (ended Done) s) q1 (mv
+              ∙ ap (λ z. held_back fs.j z vs r.0 l) et ∙ ap (λ z. goes fs.j (done_notes r.0 z) (held_on r.0 l z)) ee) (same_note _ _ refl h tt refl, tt) h few (λ enough. r_halts h))
           by_task the_start et (e1 ∷ es) ee = subst (Owes n spare a0 b0) (sym (ap (sh) (ap (λ z. task_back k z vs s l) et ∙ ap (λ z. goes k (done_notes s z) (on_to s l z)) ee)))
-              (silent_last (mv ∙ ap (λ z. held_back fs.j z vs r.0 l) et ∙ ap (λ z. goes fs.j (done_notes r.0 z) (held_on r.0 l z)) ee) (next_r l refl refl [] (was ∙ ap (λ z. task_back k z vs s l) et ∙ ap (λ z. goes k (done_notes s z) (on_to s l z)) ee)))
+              (silent_last (mv ∙ ap (λ z. held_back fs.j z vs r.0 l) et ∙ ap (λ z. goes fs.j (done_notes r.0 z) (held_on r.0 l z)) ee)
+              (next_r l refl refl [] (was ∙ ap (λ z. task_back k z vs s l) et ∙ ap (λ z. goes k (done_notes s z) (on_to s l z)) ee)))
             where
               silent_last : pr w (busy (is_running task) u2.mid l) ≡ goes fs.j [] (free r.0 l) → (suc k ≤ n → R (n - suc k) 0 (between s l) (free r.0 l)) → Owes n spare a0 b0 (goes k [] (between s l))
               silent_last e rr = (
                 λ j le. rests_before c.store b0 (busy (is_running task) u2.mid l) (free r.0 l) (u1.cost + u2.cost) fs.j [] q1 e j (let a1 = few.0 in omega arith),
-                λ enough. let a1 = few.0 in let a2 = few.1 in by_silence w.original w.settings w.which w.written (xp w) w.plan nn R n spare k (u1.cost + u2.cost) fs.j 0 0 a0 (between s l) b0 (busy (is_running task) u2.mid l) (free r.0 l) (free r.0 l) q1 e (silent_none w.original w.settings w.which w.written (xp w) w.plan s (free r.0 l) h) (omega arith) (omega arith) (rr enough),
+                λ enough. let a1 = few.0 in let a2 = few.1 in by_silence w.original w.settings w.which w.written (xp w) w.plan nn R n spare k (u1.cost + u2.cost) fs.j 0 0 a0
+                    (between s l) b0 (busy (is_running task) u2.mid l) (free r.0 l) (free r.0 l) q1 e (silent_none w.original w.settings w.which w.written (xp w) w.plan s (free r.0 l) h)
+                    (omega arith) (omega arith) (rr enough),
               )
-          by_task (an_entry e) et [] ee = subst (Owes n spare a0 b0) (sym (ap (sh) (ap (λ z. task_back k z vs s l) et ∙ ap (λ z. goes k (note (returned l.number (value_of_results vs)) s ∷ done_notes s z) (on_to s (next_entry l) z)) ee)))
-              (last_move n spare k fs.j (u1.cost + u2.cost) a0 (halts s) b0 (busy (is_running task) u2.mid l) (over r.0) (note (returned l.number (value_of_results vs)) s ∷ []) (note (returned l.number (value_of_results vs)) r.0 ∷ note (ended Done) r.0 ∷ []) (note (ended Done) s) q1
+          by_task (an_entry e) et [] ee =
+              subst (Owes n spare a0 b0) (sym (ap (sh) (ap (λ z. task_back k z vs s l) et
+              ∙ ap (λ z. goes k (note (returned l.number (value_of_results vs)) s ∷ done_notes s z) (on_to s (next_entry l) z)) ee)))
+              (last_move n spare k fs.j (u1.cost + u2.cost) a0 (halts s) b0 (busy (is_running task) u2.mid l) (over r.0) (note (returned l.number (value_of_results vs)) s ∷ [])
+              (note (returned l.number (value_of_results vs)) r.0 ∷ note (ended Done) r.0 ∷ []) (note (ended Done) s) q1
               (mv ∙ ap (λ z. held_back fs.j z vs r.0 l) et ∙ ap (λ z. goes fs.j (note (returned l.number (value_of_results vs)) r.0 ∷ done_notes r.0 z) (held_on r.0 (next_entry l) z)) ee)
               (same_note _ _ refl h tt refl, (same_note _ _ refl h tt refl, tt)) h few (λ enough. r_halts h))
-          by_task (an_entry e) et (e1 ∷ es) ee = subst (Owes n spare a0 b0) (sym (ap (sh) (ap (λ z. task_back k z vs s l) et ∙ ap (λ z. goes k (note (returned l.number (value_of_results vs)) s ∷ done_notes s z) (on_to s (next_entry l) z)) ee)))
-              (last_move n spare k fs.j (u1.cost + u2.cost) a0 (between s (next_entry l)) b0 (busy (is_running task) u2.mid l) (free r.0 (next_entry l)) [] (note (returned l.number (value_of_results vs)) r.0 ∷ []) (note (returned l.number (value_of_results vs)) s) q1
+          by_task (an_entry e) et (e1 ∷ es) ee =
+              subst (Owes n spare a0 b0) (sym (ap (sh) (ap (λ z. task_back k z vs s l) et
+              ∙ ap (λ z. goes k (note (returned l.number (value_of_results vs)) s ∷ done_notes s z) (on_to s (next_entry l) z)) ee)))
+              (last_move n spare k fs.j (u1.cost + u2.cost) a0 (between s (next_entry l)) b0 (busy (is_running task) u2.mid l) (free r.0 (next_entry l)) []
+              (note (returned l.number (value_of_results vs)) r.0 ∷ []) (note (returned l.number (value_of_results vs)) s) q1
               (mv ∙ ap (λ z. held_back fs.j z vs r.0 l) et ∙ ap (λ z. goes fs.j (note (returned l.number (value_of_results vs)) r.0 ∷ done_notes r.0 z) (held_on r.0 (next_entry l) z)) ee)
               (same_note _ _ refl h tt refl, tt) h few (next_r (next_entry l) refl refl (note (returned l.number (value_of_results vs)) s ∷ [])
               (was ∙ ap (λ z. task_back k z vs s l) et ∙ ap (λ z. goes k (note (returned l.number (value_of_results vs)) s ∷ done_notes s z) (on_to s (next_entry l) z)) ee)))

@@ -11,6 +11,7 @@ use Rattle.wa_model.specs.View.{answer_of}
 use Rattle.host_answers.specs.declared.lines.Met.{Met}
 use Rattle.host_answers.specs.declared.lines.Met.TheVariants.{Given, Refused}
 
+-- what a call meets
 abbrev pub outcome_of : Met → Outcome
 outcome_of (Given answer) = given (answer_of answer)
 outcome_of (Refused end) = refused end

@@ -1,3 +1,5 @@
+//! What a device answers to a new call of an import that is bound to it.
+
 ghost use Rattle.std.specs.Prelude.{◌≡◌, [], ◌∷◌, IfOk, Some};
 ghost use Rattle.wa_model.specs.World.{MeetsDevice};
 ghost use Rattle.host_turns.specs.Journals.{replied};

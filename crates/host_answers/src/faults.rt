@@ -1,3 +1,5 @@
+//! The tests of an answer: its value, its pokes, and whether it may pause there.
+
 ghost use Rattle.std.specs.Prelude.{◌≡◌, ◌<◌, ◌^◌, ◌+◌, ◌&&◌, List, All, Bool, not, length, map};
 ghost use Rattle.std.specs.Option.{option_copied, option_to_list};
 ghost use Rattle.std.specs.List.{find};
@@ -20,7 +22,8 @@ pub fn answer_fault(
     import: u32,
     answer: &Answer,
 ) -> Option<End>
-    ensures { (plan : Plan) → plan.area ≡ area → plan.listed ≡ listed_of listed.entry → All IsShort (map poke_of answer.now.pokes.items) → result ≡ fault_of (option_to_list result_type) size plan in_start import (answer_of answer.now) }
+    ensures { (plan : Plan) → plan.area ≡ area → plan.listed ≡ listed_of listed.entry → All IsShort (map poke_of answer.now.pokes.items)
+        → result ≡ fault_of (option_to_list result_type) size plan in_start import (answer_of answer.now) }
 {
     if !is_result(result_type, answer.value) {
         return Some(End::BadAnswer {

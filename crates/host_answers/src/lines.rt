@@ -1,3 +1,5 @@
+//! The answer line that a new call of an import takes.
+
 ghost use Rattle.std.specs.Prelude.{◌≡◌, IfOk, map};
 ghost use Rattle.wa_model.specs.View.{answer_line_of};
 ghost use Rattle.wa_model.specs.World.{MeetsLine};

@@ -35,6 +35,7 @@ abbrev pub IsContentFault : FileFault → Type 0
 IsContentFault (Refused kind) = IsOfContent (refusal_of kind)
 IsContentFault _ = Unit {0}
 
+-- the fault of a file by that of a prepared module
 abbrev pub file_fault : PreparedFault → FileFault
 file_fault P.Memory = Memory
 file_fault (P.Refused kind) = Refused kind

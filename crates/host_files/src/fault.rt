@@ -1,3 +1,5 @@
+//! Why a file's content isn't there.
+
 use thiserror::Error;
 use transcript::RefusalKind;
 

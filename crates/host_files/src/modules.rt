@@ -1,4 +1,5 @@
-// The prepared module in a file.
+//! The prepared module in a file.
+
 ghost use Rattle.std.specs.Prelude.{◌≡◌, ◌⊎◌, ◌≤◌, ℕ, List, IfOk, IsErrOf, IsSome};
 ghost use Rattle.std.specs.Result.{IfErr};
 ghost use Rattle.vault_port.specs.Counts.{HasRisen};

@@ -1,4 +1,5 @@
-// From the bytes of a prepared module to the module.
+//! From the bytes of a prepared module to the module.
+
 ghost use Rattle.std.specs.Prelude.{IfOk};
 ghost use Rattle.std.specs.Result.{IfErr};
 ghost use Rattle.wa_types.specs.View.{module_of};

@@ -101,11 +101,13 @@ record PauseLeads (w : Program) (l : Left) (import ticks : ℕ) (answer : Answer
   place : place_in (exports_of w.source) w.plan.area l s waits (stage_after None (suc ticks) task import answer) ≡ stands [] to
   leads : (k : ℕ) (y : Note) (more : List Outcome) → held_pauses (exports_of w.source) w.plan k y import (answer_of answer) (with_outcomes l more) who ≡ goes k (y ∷ []) (meeting more to)
 
-pause_leads : (w : Program) (l : Left) (import ticks : ℕ) (answer : AnswerValue) (task : Task) (waits : Waits) (s : Store) (who : Asker) → IsAsking task waits s who → in_start who ≡ false → PauseLeads w l import ticks answer task waits s who
+pause_leads : (w : Program) (l : Left) (import ticks : ℕ) (answer : AnswerValue) (task : Task) (waits : Waits) (s : Store) (who : Asker) → IsAsking task waits s who → in_start who ≡ false
+    → PauseLeads w l import ticks answer task waits s who
 pause_leads w l import ticks answer (T.Entry e) (I.inside here under) s who h out =
     subst (PauseLeads w l import ticks answer (T.Entry e) (I.inside here under) s) (sym h)
     (record {
-      to = calling (unwinds (entry_of e) import (answer_of answer)) (with_words s w.plan.area) (exports_of w.source).start_unwind (V.I32 w.plan.area.at ∷ []) (give_zero (record { store = s; here = here; under = under })) l;
+      to = calling (unwinds (entry_of e) import (answer_of answer)) (with_words s w.plan.area) (exports_of w.source).start_unwind (V.I32 w.plan.area.at ∷ [])
+          (give_zero (record { store = s; here = here; under = under })) l;
       place = refl;
       leads = λ k y more. refl;
     })
@@ -161,7 +163,8 @@ module _ (w : Program) (h : Held) (l : Left) (left used : ℕ) (call : CallValue
     fault = fault_of (func_type_at p call.import).results (length (store_at who).memory) w.plan (in_start who) call.import a
 
     tested_is : (more : List Outcome) (o : Option End) (pause : Option ℕ) → fault ≡ o → pause_of a.ticks ≡ pause
-        → held_asked p x w.plan a0.k call.import call.args.items who (with_outcomes l (given a ∷ more)) (given a ∷ more) ≡ held_tested p x w.plan a0.k call.import call.args.items who (with_outcomes l more) a o pause
+        → held_asked p x w.plan a0.k call.import call.args.items who (with_outcomes l (given a ∷ more)) (given a ∷ more)
+        ≡ held_tested p x w.plan a0.k call.import call.args.items who (with_outcomes l more) a o pause
     tested_is more o pause f t =
         ap (λ z. held_tested p x w.plan a0.k call.import call.args.items who (with_outcomes l more) a z (pause_of a.ticks)) f
         ∙ ap (held_tested p x w.plan a0.k call.import call.args.items who (with_outcomes l more) a o) t

@@ -41,7 +41,8 @@ module _ (w : Program) (x : Setting) (is : IsSetting w x) (import : ℕ) (i : Ho
   bound_told b e = e ∙ sym (is.binds import)
 
   -- an answer line answers
-  pub by_line : (args : List Value) (lines lines' : List AnswerLine) (ds : List Device) (fs : List ℕ) (o : Outcome) (name : List ℕ) → None ≡ unwrap_or (slice_get x.binds.items import) None → name ≡ i.name → MeetsLine import name lines o lines'
+  pub by_line : (args : List Value) (lines lines' : List AnswerLine) (ds : List Device) (fs : List ℕ) (o : Outcome) (name : List ℕ) → None ≡ unwrap_or (slice_get x.binds.items import) None
+      → name ≡ i.name → MeetsLine import name lines o lines'
       → Answers w (record { import = import; args = args }) (record { lines = lines; devices = ds; faults = fs }) o (record { lines = lines'; devices = ds; faults = fs })
   by_line args lines lines' ds fs o name e n m = record {
     meets = subst (λ b. MeetsBound w.source import args b lines ds o lines' ds) (bound_told None e)
@@ -50,7 +51,8 @@ module _ (w : Program) (x : Setting) (is : IsSetting w x) (import : ℕ) (i : Ho
   }
 
   -- a device does
-  pub by_device : (args : List Value) (lines : List AnswerLine) (ds ds' : List Device) (fs fs' : List ℕ) (o : Outcome) (device base : List ℕ) (args' : List Value) → Some device ≡ unwrap_or (slice_get x.binds.items import) None
+  pub by_device : (args : List Value) (lines : List AnswerLine) (ds ds' : List Device) (fs fs' : List ℕ) (o : Outcome) (device base : List ℕ) (args' : List Value)
+      → Some device ≡ unwrap_or (slice_get x.binds.items import) None
       → base ≡ i.base → args' ≡ args → MeetsDevice import base device args' ds o ds' → Counts import (Some device) ds o fs fs'
       → Answers w (record { import = import; args = args }) (record { lines = lines; devices = ds; faults = fs }) o (record { lines = lines; devices = ds'; faults = fs' })
   by_device args lines ds ds' fs fs' o device base args' e b a m k = record {
@@ -69,14 +71,16 @@ device_short import base name args ds ds' a m = by_any (list_any (is_named name)
 
     by_any : (b : Bool)
         → MatchBool b
-        (((r : Reply) × ValueFits r.value × (r.ticks < 2 ^ 32) × (given a ≡ given (record { value = r.value; pokes = []; ticks = r.ticks })) × (ds' ≡ journaled name (record { base = base; args = args; reply = r }) ds))
+        (((r : Reply) × ValueFits r.value × (r.ticks < 2 ^ 32) × (given a ≡ given (record { value = r.value; pokes = []; ticks = r.ticks }))
+        × (ds' ≡ journaled name (record { base = base; args = args; reply = r }) ds))
         ⊎ ((given a ≡ refused (DeviceFault import)) × (ds' ≡ ds)))
         ((given a ≡ refused (NoDevice import)) × (ds' ≡ ds))
         → All IsShort a.pokes
     by_any true k = elim k [ inl r ↦ replied r.0 r.3 | inr z ↦ absurd (let no : given a ≡ refused (DeviceFault import) = z.0 in cc) ]
     by_any false k = absurd (let no : given a ≡ refused (NoDevice import) = k.0 in cc)
 
-bound_short : (m : Module) (import : ℕ) (args : List Value) (bound : Option (List ℕ)) (lines lines' : List AnswerLine) (ds ds' : List Device) (a : Answer) → MeetsBound m import args bound lines ds (given a) lines' ds'
+bound_short : (m : Module) (import : ℕ) (args : List Value) (bound : Option (List ℕ)) (lines lines' : List AnswerLine) (ds ds' : List Device) (a : Answer)
+    → MeetsBound m import args bound lines ds (given a) lines' ds'
     → All HasShortPokes lines → All IsShort a.pokes
 bound_short m import args (Some name) lines lines' ds ds' a h short = device_short import (name_at (base_names m) import) name args ds ds' a h.0
 bound_short m import args None lines lines' ds ds' a h short = short_given import (name_at (import_names m) import) lines a lines' h.0 short

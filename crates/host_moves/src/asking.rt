@@ -1,3 +1,5 @@
+//! What a new call of an import meets: its device's answer, or the next answer line.
+
 ghost use Rattle.std.specs.Prelude.{◌≡◌, IfOk, None, Some, slice_get};
 ghost use Rattle.std.specs.Option.{option_map, unwrap_or};
 ghost use Rattle.wa_model.specs.View.{call_of};
@@ -24,7 +26,8 @@ pub(crate) fn next_outcome(
     answers: &mut VecDeque<AnswerLine>,
     devices: &mut Devices<'_>,
 ) -> Result<Met, AllocError>
-    ensures answers { (w : Program) → IsSetting w setting.now → slice_get setting.now.imports.items call.now.import ≡ Some import.now → IfOk result (λ met. Answers w (call_of call.now) (supply_in seen faults answers.old.items devices.old) (outcome_of met) (supply_in seen faults answers.new.items devices.new)) }
+    ensures answers { (w : Program) → IsSetting w setting.now → slice_get setting.now.imports.items call.now.import ≡ Some import.now
+        → IfOk result (λ met. Answers w (call_of call.now) (supply_in seen faults answers.old.items devices.old) (outcome_of met) (supply_in seen faults answers.new.items devices.new)) }
     ensures same_list { devices.new.list.ghost_name ≡ devices.old.list.ghost_name }
 {
     let (alloc, number) = (setting.alloc, call.import);

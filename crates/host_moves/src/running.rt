@@ -1,3 +1,5 @@
+//! What comes of each stage but the pauses: the start function, entries, and calls of imports with their answers.
+
 ghost use Rattle.std.specs.Prelude.{◌≡◌, ◌<◌, ◌≤◌, ◌+◌, ◌-◌, ◌^◌, ℕ, List, [], ◌∷◌, All, IfOk, OnOk, None, map, slice_get};
 ghost use Rattle.std.specs.Option.{option_map, option_to_list};
 ghost use Rattle.wa_types.specs.Modules.{func_imports};
@@ -37,7 +39,10 @@ pub fn start(
     func: u32,
 ) -> Result<Moved, AllocError>
     requires { steps.old.left + steps.old.used < 2 ^ 64 }
-    ensures comes { (w : Program) → IsSetting w setting.now → code_in instance.old ≡ w.source → All HasShortPokes (lines_in answers.old.items) → HeldFits w.source (starting func (store_in instance.old) (left_of left.old)) → IfOk result (λ m. Comes w (starting func (store_in instance.old) (left_of left.old)) steps.old.left (steps.new.used - steps.old.used) m (supply_in seen faults answers.old.items devices.old) (supply_in seen faults answers.new.items devices.new) (left_of left.new) (store_in instance.new) (waits_in instance.new)) }
+    ensures comes { (w : Program) → IsSetting w setting.now → code_in instance.old ≡ w.source → All HasShortPokes (lines_in answers.old.items)
+        → HeldFits w.source (starting func (store_in instance.old) (left_of left.old))
+        → IfOk result (λ m. Comes w (starting func (store_in instance.old) (left_of left.old)) steps.old.left (steps.new.used - steps.old.used) m
+        (supply_in seen faults answers.old.items devices.old) (supply_in seen faults answers.new.items devices.new) (left_of left.new) (store_in instance.new) (waits_in instance.new)) }
     ensures code { code_in instance.new ≡ code_in instance.old }
     ensures sum { steps.new.left + steps.new.used ≡ steps.old.left + steps.old.used }
     ensures grows { steps.old.used ≤ steps.new.used }
@@ -58,7 +63,11 @@ fn start_asked(
     devices: &mut Devices<'_>,
     turn: Turn,
 ) -> Result<Moved, AllocError>
-    ensures comes { (w : Program) → IsSetting w setting.now → code_in instance.now ≡ w.source → All HasShortPokes (lines_in answers.old.items) → (s : Store) (func : ℕ) (l : PlainLeft) (left_then used : ℕ) → func < func_imports w.source → Calls w.source s func [] left_then used turn (store_in instance.now) (waits_in instance.now) → IfOk result (λ m. Comes w (starting func s l) left_then used m (supply_in seen faults answers.old.items devices.old) (supply_in seen faults answers.new.items devices.new) l (store_in instance.now) (waits_in instance.now)) }
+    ensures comes { (w : Program) → IsSetting w setting.now → code_in instance.now ≡ w.source → All HasShortPokes (lines_in answers.old.items)
+        → (s : Store) (func : ℕ) (l : PlainLeft) (left_then used : ℕ) → func < func_imports w.source
+        → Calls w.source s func [] left_then used turn (store_in instance.now) (waits_in instance.now)
+        → IfOk result (λ m. Comes w (starting func s l) left_then used m (supply_in seen faults answers.old.items devices.old) (supply_in seen faults answers.new.items devices.new) l
+        (store_in instance.now) (waits_in instance.now)) }
     ensures same_list { devices.new.list.ghost_name ≡ devices.old.list.ghost_name }
 {
     match turn {
@@ -86,7 +95,10 @@ fn start_ran(
     turn: Turn,
 ) -> Result<Moved, AllocError>
     requires { steps.old.left + steps.old.used < 2 ^ 64 }
-    ensures comes { (w : Program) → IsSetting w setting.now → code_in instance.old ≡ w.source → All HasShortPokes (lines_in answers.old.items) → (h : Held) (left_then used : ℕ) → TaskTurn w h (left_of left.old) the_start left_then used turn (store_in instance.old) (waits_in instance.old) → steps.old.left + used ≡ left_then → HeldFits w.source h → IfOk result (λ m. Comes w h left_then (used + (steps.new.used - steps.old.used)) m (supply_in seen faults answers.old.items devices.old) (supply_in seen faults answers.new.items devices.new) (left_of left.new) (store_in instance.new) (waits_in instance.new)) }
+    ensures comes { (w : Program) → IsSetting w setting.now → code_in instance.old ≡ w.source → All HasShortPokes (lines_in answers.old.items) → (h : Held) (left_then used : ℕ)
+        → TaskTurn w h (left_of left.old) the_start left_then used turn (store_in instance.old) (waits_in instance.old) → steps.old.left + used ≡ left_then → HeldFits w.source h
+        → IfOk result (λ m. Comes w h left_then (used + (steps.new.used - steps.old.used)) m (supply_in seen faults answers.old.items devices.old)
+        (supply_in seen faults answers.new.items devices.new) (left_of left.new) (store_in instance.new) (waits_in instance.new)) }
     ensures code { code_in instance.new ≡ code_in instance.old }
     ensures sum { steps.new.left + steps.new.used ≡ steps.old.left + steps.old.used }
     ensures grows { steps.old.used ≤ steps.new.used }
@@ -108,7 +120,10 @@ pub(crate) fn call_next(
     steps: &mut Steps,
 ) -> Result<Moved, AllocError>
     requires { steps.old.left + steps.old.used < 2 ^ 64 }
-    ensures comes { (w : Program) → IsSetting w setting.now → code_in instance.old ≡ w.source → All HasShortPokes (lines_in answers.old.items) → PlaceFits w (free_place (left_of left.old) (store_in instance.old)) → IfOk result (λ m. ComesFrom w (free_place (left_of left.old) (store_in instance.old)) steps.old.left (steps.new.used - steps.old.used) m (supply_in seen faults answers.old.items devices.old) (supply_in seen faults answers.new.items devices.new) (left_of left.new) (store_in instance.new) (waits_in instance.new)) }
+    ensures comes { (w : Program) → IsSetting w setting.now → code_in instance.old ≡ w.source → All HasShortPokes (lines_in answers.old.items)
+        → PlaceFits w (free_place (left_of left.old) (store_in instance.old)) → IfOk result
+        (λ m. ComesFrom w (free_place (left_of left.old) (store_in instance.old)) steps.old.left (steps.new.used - steps.old.used) m (supply_in seen faults answers.old.items devices.old)
+        (supply_in seen faults answers.new.items devices.new) (left_of left.new) (store_in instance.new) (waits_in instance.new)) }
     ensures code { code_in instance.new ≡ code_in instance.old }
     ensures sum { steps.new.left + steps.new.used ≡ steps.old.left + steps.old.used }
     ensures grows { steps.old.used ≤ steps.new.used }
@@ -133,7 +148,10 @@ fn entry_ran(
     entry: EntryCall,
     turn: Turn,
 ) -> Result<Moved, AllocError>
-    ensures comes { (w : Program) → IsSetting w setting.now → code_in instance.now ≡ w.source → All HasShortPokes (lines_in answers.old.items) → (h : Held) (left_then used : ℕ) → TaskTurn w h (left_of left.old) (an_entry (entry_of entry)) left_then used turn (store_in instance.now) (waits_in instance.now) → IfOk result (λ m. Comes w h left_then used m (supply_in seen faults answers.old.items devices.old) (supply_in seen faults answers.new.items devices.new) (left_of left.new) (store_in instance.now) (waits_in instance.now)) }
+    ensures comes { (w : Program) → IsSetting w setting.now → code_in instance.now ≡ w.source → All HasShortPokes (lines_in answers.old.items) → (h : Held) (left_then used : ℕ)
+        → TaskTurn w h (left_of left.old) (an_entry (entry_of entry)) left_then used turn (store_in instance.now) (waits_in instance.now)
+        → IfOk result (λ m. Comes w h left_then used m (supply_in seen faults answers.old.items devices.old) (supply_in seen faults answers.new.items devices.new) (left_of left.new)
+        (store_in instance.now) (waits_in instance.now)) }
     ensures same_list { devices.new.list.ghost_name ≡ devices.old.list.ghost_name }
 {
     match turn {
@@ -174,7 +192,10 @@ fn stopped(
     task: Task,
     turn: Turn,
 ) -> Result<Moved, AllocError>
-    ensures comes { (w : Program) → IsSetting w setting.now → code_in instance.now ≡ w.source → All HasShortPokes (lines_in answers.old.items) → (t : PlainTask) (h : Held) (l : PlainLeft) (left_then used : ℕ) → IsTask task t → TaskTurn w h l t left_then used turn (store_in instance.now) (waits_in instance.now) → IfOk result (λ m. Comes w h left_then used m (supply_in seen faults answers.old.items devices.old) (supply_in seen faults answers.new.items devices.new) l (store_in instance.now) (waits_in instance.now)) }
+    ensures comes { (w : Program) → IsSetting w setting.now → code_in instance.now ≡ w.source → All HasShortPokes (lines_in answers.old.items)
+        → (t : PlainTask) (h : Held) (l : PlainLeft) (left_then used : ℕ) → IsTask task t → TaskTurn w h l t left_then used turn (store_in instance.now) (waits_in instance.now)
+        → IfOk result (λ m. Comes w h left_then used m (supply_in seen faults answers.old.items devices.old) (supply_in seen faults answers.new.items devices.new) l (store_in instance.now)
+        (waits_in instance.now)) }
     ensures same_list { devices.new.list.ghost_name ≡ devices.old.list.ghost_name }
 {
     match turn {
@@ -194,7 +215,11 @@ fn called(
     task: Task,
     call: Call,
 ) -> Result<Moved, AllocError>
-    ensures comes { (w : Program) → IsSetting w setting.now → code_in instance.now ≡ w.source → All HasShortPokes (lines_in answers.old.items) → (who : Asker) (h : Held) (l : PlainLeft) (left_then used : ℕ) → Asks w h used call.import call.args.items who l → used ≤ left_then → IsAsking task (waits_in instance.now) (store_in instance.now) who → IfOk result (λ m. Comes w h left_then used m (supply_in seen faults answers.old.items devices.old) (supply_in seen faults answers.new.items devices.new) l (store_in instance.now) (waits_in instance.now)) }
+    ensures comes { (w : Program) → IsSetting w setting.now → code_in instance.now ≡ w.source → All HasShortPokes (lines_in answers.old.items)
+        → (who : Asker) (h : Held) (l : PlainLeft) (left_then used : ℕ) → Asks w h used call.import call.args.items who l → used ≤ left_then
+        → IsAsking task (waits_in instance.now) (store_in instance.now) who → IfOk result
+        (λ m. Comes w h left_then used m (supply_in seen faults answers.old.items devices.old) (supply_in seen faults answers.new.items devices.new) l (store_in instance.now)
+        (waits_in instance.now)) }
     ensures same_list { devices.new.list.ghost_name ≡ devices.old.list.ghost_name }
 {
     let Some(import) = setting.imports.get(call.import as usize) else {
@@ -227,7 +252,8 @@ fn answered(
     number: u32,
     answer: Answer,
 ) -> Stage
-    ensures { (w : Program) → IsSetting w setting.now → All IsShort (answer_of answer).pokes → result ≡ stage_after (fault_of (option_to_list import.now.result) size w.plan (starts task) number (answer_of answer)) answer.ticks task number answer }
+    ensures { (w : Program) → IsSetting w setting.now → All IsShort (answer_of answer).pokes
+        → result ≡ stage_after (fault_of (option_to_list import.now.result) size w.plan (starts task) number (answer_of answer)) answer.ticks task number answer }
 {
     let listed = listed_in(setting);
     let in_start = is_start(&task);
@@ -288,7 +314,10 @@ pub(crate) fn tell_answer(
     task: Task,
     answer: Answer,
 ) -> Result<Moved, AllocError>
-    ensures comes { (w : Program) (l : PlainLeft) (supply : Supply) (left_then : ℕ) → PlaceFits w (place_in (exports_of w.source) w.plan.area l (store_in instance.old) (waits_in instance.old) (Stage.Answering task answer)) → IfOk result (λ m. ComesFrom w (place_in (exports_of w.source) w.plan.area l (store_in instance.old) (waits_in instance.old) (Stage.Answering task answer)) left_then 0 m supply supply l (store_in instance.new) (waits_in instance.new)) }
+    ensures comes { (w : Program) (l : PlainLeft) (supply : Supply) (left_then : ℕ) → PlaceFits w
+        (place_in (exports_of w.source) w.plan.area l (store_in instance.old) (waits_in instance.old) (Stage.Answering task answer))
+        → IfOk result (λ m. ComesFrom w (place_in (exports_of w.source) w.plan.area l (store_in instance.old) (waits_in instance.old) (Stage.Answering task answer)) left_then 0 m supply
+        supply l (store_in instance.new) (waits_in instance.new)) }
     ensures code { code_in instance.new ≡ code_in instance.old }
 {
     write_pokes(instance, &answer.pokes)?;
@@ -327,7 +356,11 @@ pub(crate) fn give(
     value: Option<Value>,
 ) -> Result<Moved, AllocError>
     requires { steps.old.left + steps.old.used < 2 ^ 64 }
-    ensures comes { (w : Program) → IsSetting w setting.now → code_in instance.old ≡ w.source → All HasShortPokes (lines_in answers.old.items) → PlaceFits w (place_in (exports_of w.source) w.plan.area (left_of left.old) (store_in instance.old) (waits_in instance.old) (Stage.Giving task value)) → IfOk result (λ m. ComesFrom w (place_in (exports_of w.source) w.plan.area (left_of left.old) (store_in instance.old) (waits_in instance.old) (Stage.Giving task value)) steps.old.left (steps.new.used - steps.old.used) m (supply_in seen faults answers.old.items devices.old) (supply_in seen faults answers.new.items devices.new) (left_of left.new) (store_in instance.new) (waits_in instance.new)) }
+    ensures comes { (w : Program) → IsSetting w setting.now → code_in instance.old ≡ w.source → All HasShortPokes (lines_in answers.old.items)
+        → PlaceFits w (place_in (exports_of w.source) w.plan.area (left_of left.old) (store_in instance.old) (waits_in instance.old) (Stage.Giving task value))
+        → IfOk result (λ m. ComesFrom w (place_in (exports_of w.source) w.plan.area (left_of left.old) (store_in instance.old) (waits_in instance.old) (Stage.Giving task value))
+        steps.old.left (steps.new.used - steps.old.used) m (supply_in seen faults answers.old.items devices.old) (supply_in seen faults answers.new.items devices.new) (left_of left.new)
+        (store_in instance.new) (waits_in instance.new)) }
     ensures code { code_in instance.new ≡ code_in instance.old }
     ensures sum { steps.new.left + steps.new.used ≡ steps.old.left + steps.old.used }
     ensures grows { steps.old.used ≤ steps.new.used }

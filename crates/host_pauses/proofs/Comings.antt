@@ -52,12 +52,14 @@ module _ (w : Program) where
   }
 
   -- behind a stretch, whose notes come first
-  lands_behind : (h h1 : Held) (ready : List Note) (os : List Outcome) (u left0 left1 used1 used : ℕ) (x : Note) (to : Place) → Stretch w.source w.plan h [] ready u h1 → left1 ≡ left0 - u → used ≡ u + used1
+  lands_behind : (h h1 : Held) (ready : List Note) (os : List Outcome) (u left0 left1 used1 used : ℕ) (x : Note) (to : Place) → Stretch w.source w.plan h [] ready u h1 → left1 ≡ left0 - u
+      → used ≡ u + used1
       → Lands w.source w.plan w.steps ready h1 os left1 x used1 to → Lands w.source w.plan w.steps [] h os left0 x used to
   lands_behind h h1 ready os u left0 left1 used1 used x to first l e (goes_on made tail h' stretch is_x more to_is) =
       goes_on (ready ++ made) tail h' (subst (λ n. Stretch w.source w.plan h os (ready ++ made) n h') (sym e) (compose w.source w.plan h h1 h' [] os ready made u used1 first stretch)) is_x more to_is
   lands_behind h h1 ready os u left0 left1 used1 used x to first l e (ends how made s stretch is_x end_is to_is) =
-      ends how (ready ++ made) s (subst (λ n. Stretch w.source w.plan h os (ready ++ made) n (over s)) (sym e) (compose w.source w.plan h h1 (over s) [] os ready made u used1 first stretch)) is_x end_is to_is
+      ends how (ready ++ made) s (subst (λ n. Stretch w.source w.plan h os (ready ++ made) n (over s)) (sym e)
+      (compose w.source w.plan h h1 (over s) [] os ready made u used1 first stretch)) is_x end_is to_is
   lands_behind h h1 ready os u left0 left1 used1 used x to first l e (spends h' stretch none spent is_x to_is) =
       let short : left1 - used1 ≡ left0 - used = omega arith in
       spends h'
@@ -65,7 +67,8 @@ module _ (w : Program) where
       (subst (λ xs. Stretch w.source w.plan h os (xs ++ []) (u + used1) h') none (compose w.source w.plan h h1 h' [] os ready [] u used1 first stretch)))
       refl (subst (λ n. IsSpent w.source w.plan n h') short spent) is_x to_is
 
-  pub comes_behind : (h h1 : Held) (ready : List Note) (u left0 left1 used1 used : ℕ) (m : Moved) (supply supply' : Supply) (l : Left) (s : Store) (waits : Waits) → Stretch w.source w.plan h [] ready u h1
+  pub comes_behind : (h h1 : Held) (ready : List Note) (u left0 left1 used1 used : ℕ) (m : Moved) (supply supply' : Supply) (l : Left) (s : Store) (waits : Waits)
+      → Stretch w.source w.plan h [] ready u h1
       → u ≤ left0 → left1 ≡ left0 - u → used ≡ u + used1 → ComesFrom w (stands ready h1) left1 used1 m supply supply' l s waits → Comes w h left0 used m supply supply' l s waits
   comes_behind h h1 ready u left0 left1 used1 used m supply supply' l s waits first le l1 e c = record {
     note = c.note;

@@ -44,29 +44,34 @@ module _ {F : Type 0} (w : Program) (h : Held) where
 
   -- behind a stretch, where l0 and u0 were left and used before it, l1 and u1 behind it, and u2 in the end
   pub behind_ok : (h1 : Held) (ready : List Note) (l0 u0 l1 u1 u2 : ℕ) (r : Result Moved F) (supply supply' : Supply) (l : Left) (s : Store) (waits : Waits) → l1 + u1 ≡ l0 + u0 → u0 ≤ u1 → u1 ≤ u2
-      → Stretch w.source w.plan h [] ready (u1 - u0) h1 → IfOk r (λ m. ComesFrom w (stands ready h1) l1 (u2 - u1) m supply supply' l s waits) → IfOk r (λ m. Comes w h l0 (u2 - u0) m supply supply' l s waits)
+      → Stretch w.source w.plan h [] ready (u1 - u0) h1 → IfOk r (λ m. ComesFrom w (stands ready h1) l1 (u2 - u1) m supply supply' l s waits)
+      → IfOk r (λ m. Comes w h l0 (u2 - u0) m supply supply' l s waits)
   behind_ok h1 ready l0 u0 l1 u1 u2 (Ok m) supply supply' l s waits sum a b stretch c =
       comes_behind w h h1 ready (u1 - u0) l0 l1 (u2 - u1) (u2 - u0) m supply supply' l s waits stretch (omega arith) (omega arith) (omega arith) c
   behind_ok h1 ready l0 u0 l1 u1 u2 (Err d) supply supply' l s waits sum a b stretch c = tt
 
   pub behind_sum : (h1 : Held) (ready : List Note) (left0 u left1 used1 : ℕ) (r : Result Moved F) (supply supply' : Supply) (l : Left) (s : Store) (waits : Waits) → left1 + u ≡ left0
-      → Stretch w.source w.plan h [] ready u h1 → IfOk r (λ m. ComesFrom w (stands ready h1) left1 used1 m supply supply' l s waits) → IfOk r (λ m. Comes w h left0 (u + used1) m supply supply' l s waits)
+      → Stretch w.source w.plan h [] ready u h1 → IfOk r (λ m. ComesFrom w (stands ready h1) left1 used1 m supply supply' l s waits)
+      → IfOk r (λ m. Comes w h left0 (u + used1) m supply supply' l s waits)
   behind_sum h1 ready left0 u left1 used1 (Ok m) supply supply' l s waits sum stretch c =
       comes_behind w h h1 ready u left0 left1 used1 (u + used1) m supply supply' l s waits stretch (omega arith) (omega arith) refl c
   behind_sum h1 ready left0 u left1 used1 (Err d) supply supply' l s waits sum stretch c = tt
 
-pub export_got : (w : Program) (work : Work) (s s' : Store) (func n : ℕ) (args args' : List Value) (left used : ℕ) (r r' : Exported) → func ≡ n → args ≡ args' → r ≡ r' → Exports w work s func args left used r s' → Exports w work s n args' left used r' s'
+pub export_got : (w : Program) (work : Work) (s s' : Store) (func n : ℕ) (args args' : List Value) (left used : ℕ) (r r' : Exported) → func ≡ n → args ≡ args' → r ≡ r'
+    → Exports w work s func args left used r s' → Exports w work s n args' left used r' s'
 export_got w work s s' func n args args' left used r r' e a i h =
     subst (λ z. Exports w work s n args' left used z s') i (subst (λ z. Exports w work s n z left used r s') a (subst (λ z. Exports w work s z args left used r s') e h))
 
 -- an entry that returned
-pub returned_ok : {F : Type 0} (w : Program) (h : Held) (l l' : Left) (y : Entry) (left used : ℕ) (v : Option Value) (s : Store) (waits : Waits) (r : Result Moved F) (supply : Supply) → IfOk r (λ m. m.event ≡ V.Returned l.number v) → IfOk r (λ m. m.stage ≡ S.Free)
+pub returned_ok : {F : Type 0} (w : Program) (h : Held) (l l' : Left) (y : Entry) (left used : ℕ) (v : Option Value) (s : Store) (waits : Waits) (r : Result Moved F) (supply : Supply)
+    → IfOk r (λ m. m.event ≡ V.Returned l.number v) → IfOk r (λ m. m.stage ≡ S.Free)
     → OnOk r (l' ≡ next_entry l) → TaskTurn w h l (an_entry y) left used (U.Returned v) s waits → IfOk r (λ m. Comes w h left used m supply supply l' s waits)
 returned_ok w h l l' y left used v s waits (Ok m) supply e st nl ran = entry_returned w h l l' y left used v s waits m supply nl e st ran
 returned_ok w h l l' y left used v s waits (Err d) supply e st nl ran = tt
 
 -- the end behind the last entry
-pub done_ok : {F : Type 0} (w : Program) (l : Left) (s : Store) (left n : ℕ) (r : Result Moved F) (supply : Supply) (l' : Left) (waits : Waits) → l.entries ≡ [] → n ≡ 0 → IfOk r (λ m. m.event ≡ V.Ended E.Done) → IfOk r (λ m. m.stage ≡ S.Ended E.Done)
+pub done_ok : {F : Type 0} (w : Program) (l : Left) (s : Store) (left n : ℕ) (r : Result Moved F) (supply : Supply) (l' : Left) (waits : Waits) → l.entries ≡ [] → n ≡ 0
+    → IfOk r (λ m. m.event ≡ V.Ended E.Done) → IfOk r (λ m. m.stage ≡ S.Ended E.Done)
     → IfOk r (λ m. ComesFrom w (free_place l s) left n m supply supply l' s waits)
 done_ok w l s left n (Ok m) supply l' waits none z e st = subst (λ k. ComesFrom w (free_place l s) left k m supply supply l' s waits) (sym z) (done_comes w l s left m supply l' waits none e st)
 done_ok w l s left n (Err d) supply l' waits none z e st = tt
@@ -81,7 +86,8 @@ task_asking task t at s waits is same e = subst (λ ws. IsAsking task ws s (insi
     by_task T.Outermost k = absurd k
 
 -- what comes next is an end that was ready
-pub ending_ok : {F : Type 0} (w : Program) (how : End) (s : Store) (left n : ℕ) (r : Result Moved F) (supply : Supply) (l : Left) (waits : Waits) → n ≡ 0 → IfOk r (λ m. m.event ≡ V.Ended how) → IfOk r (λ m. m.stage ≡ S.Ended how)
+pub ending_ok : {F : Type 0} (w : Program) (how : End) (s : Store) (left n : ℕ) (r : Result Moved F) (supply : Supply) (l : Left) (waits : Waits) → n ≡ 0
+    → IfOk r (λ m. m.event ≡ V.Ended how) → IfOk r (λ m. m.stage ≡ S.Ended how)
     → IfOk r (λ m. ComesFrom w (stands (note (ended how) s ∷ []) (over s)) left n m supply supply l s waits)
 ending_ok w how s left n (Ok m) supply l waits z e st =
     subst (λ k. ComesFrom w (stands (note (ended how) s ∷ []) (over s)) left k m supply supply l s waits) (sym z)
@@ -89,7 +95,13 @@ ending_ok w how s left n (Ok m) supply l waits z e st =
       note = note (ended how) s;
       event_is = ap event_of (sym e);
       store_is = refl;
-      tells = record { outcomes = []; takes = (refl, refl); within = omega arith; lands = ends how [] s (nowhere_on w.source w.plan (over s)) refl refl (ap (place_in (exports_of w.source) w.plan.area l s waits) st) };
+      tells = record {
+        outcomes = [];
+        takes = (refl, refl);
+        within = omega arith;
+        lands =
+            ends how [] s (nowhere_on w.source w.plan (over s)) refl refl (ap (place_in (exports_of w.source) w.plan.area l s waits) st);
+      };
     })
 ending_ok w how s left n (Err d) supply l waits z e st = tt
 

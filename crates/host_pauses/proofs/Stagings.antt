@@ -38,7 +38,8 @@ module _ (w : Program) where
   abbrev Place_of : Store → TV.Task → Waits → Left → Answer → Store → Place
   Place_of s task waits l a s' = with_asker nowhere s task waits (answering l a s')
 
-  told_next : (from : Place) (left : ℕ) (m : Moved) (supply : Supply) (l : Left) (a : Answer) (s' : Store) (waits : Waits) (behind : List Note) (h : Held) → from ≡ stands (note (answered a.value) s' ∷ behind) h → m.event ≡ EV.Answered a.value
+  told_next : (from : Place) (left : ℕ) (m : Moved) (supply : Supply) (l : Left) (a : Answer) (s' : Store) (waits : Waits) (behind : List Note) (h : Held)
+      → from ≡ stands (note (answered a.value) s' ∷ behind) h → m.event ≡ EV.Answered a.value
       → place_in (exports_of p) w.plan.area l s' waits m.stage ≡ stands behind h → ComesFrom w from left 0 m supply supply l s' waits
   told_next from left m supply l a s' waits behind h is ev place =
       subst (λ z. ComesFrom w z left 0 m supply supply l s' waits) (sym is)
@@ -49,17 +50,21 @@ module _ (w : Program) where
         tells = record { outcomes = []; takes = (refl, refl); within = omega arith; lands = goes_on [] behind h (nowhere_on p w.plan h) (append-nil (note (answered a.value) s' ∷ behind)) refl place };
       })
 
-  pub tell_comes : (s : Store) (task : TV.Task) (waits : Waits) (left : ℕ) (m : Moved) (supply : Supply) (l : Left) (answer : AnswerValue) (s' : Store) → PlaceFits w (Place_of s task waits l (answer_of answer) s')
+  pub tell_comes : (s : Store) (task : TV.Task) (waits : Waits) (left : ℕ) (m : Moved) (supply : Supply) (l : Left) (answer : AnswerValue) (s' : Store)
+      → PlaceFits w (Place_of s task waits l (answer_of answer) s')
       → m.event ≡ EV.Answered answer.value → m.stage ≡ stage_told task answer.value
       → ComesFrom w (Place_of s task waits l (answer_of answer) s') left 0 m supply supply l s' waits
   tell_comes s T.Outermost I.outermost left m supply l answer s' f ev st =
-      told_next (Place_of s T.Outermost I.outermost l (answer_of answer) s') left m supply l (answer_of answer) s' I.outermost (done_notes s' l.entries) (held_on s' l l.entries) refl ev (ap (place_in (exports_of p) w.plan.area l s' I.outermost) st)
+      told_next (Place_of s T.Outermost I.outermost l (answer_of answer) s') left m supply l (answer_of answer) s' I.outermost (done_notes s' l.entries) (held_on s' l l.entries) refl ev
+      (ap (place_in (exports_of p) w.plan.area l s' I.outermost) st)
   tell_comes s T.Start (I.inside here under) left m supply l answer s' f ev st =
       told_next (Place_of s T.Start (I.inside here under) l (answer_of answer) s') left m supply l (answer_of answer) s' (I.inside here under) []
-      (busy (is_running the_start) (resumed (record { store = s'; here = here; under = under }) s' (option_to_list answer.value)) l) refl ev (ap (place_in (exports_of p) w.plan.area l s' (I.inside here under)) st)
+      (busy (is_running the_start) (resumed (record { store = s'; here = here; under = under }) s' (option_to_list answer.value)) l) refl ev
+      (ap (place_in (exports_of p) w.plan.area l s' (I.inside here under)) st)
   tell_comes s (T.Entry e) (I.inside here under) left m supply l answer s' f ev st =
       told_next (Place_of s (T.Entry e) (I.inside here under) l (answer_of answer) s') left m supply l (answer_of answer) s' (I.inside here under) []
-      (busy (is_running (an_entry (entry_of e))) (resumed (record { store = s'; here = here; under = under }) s' (option_to_list answer.value)) l) refl ev (ap (place_in (exports_of p) w.plan.area l s' (I.inside here under)) st)
+      (busy (is_running (an_entry (entry_of e))) (resumed (record { store = s'; here = here; under = under }) s' (option_to_list answer.value)) l) refl ev
+      (ap (place_in (exports_of p) w.plan.area l s' (I.inside here under)) st)
   tell_comes s T.Outermost I.nothing left m supply l answer s' f ev st = absurd f
   tell_comes s T.Outermost (I.inside here under) left m supply l answer s' f ev st = absurd f
   tell_comes s T.Start I.nothing left m supply l answer s' f ev st = absurd f
@@ -77,7 +82,8 @@ module _ (w : Program) where
     pub place_is : with_asker nowhere s task waits (giving l value s) ≡ stands [] (busy (is_running t) (resumed (record { store = s; here = here; under = under }) s (option_to_list value)) l)
     pub fits : HeldFits p (busy (is_running t) (resumed (record { store = s; here = here; under = under }) s (option_to_list value)) l)
 
-  pub gives : (task : TV.Task) (t : Task) (waits : Waits) (l : Left) (value : Option Value) (s : Store) → IsTask task t → PlaceFits w (with_asker nowhere s task waits (giving l value s)) → Gives task t waits l value s
+  pub gives : (task : TV.Task) (t : Task) (waits : Waits) (l : Left) (value : Option Value) (s : Store) → IsTask task t → PlaceFits w (with_asker nowhere s task waits (giving l value s))
+      → Gives task t waits l value s
   gives T.Start t (I.inside here under) l value s is f =
       subst (λ z. Gives T.Start z (I.inside here under) l value s) (sym is) (record { here = here; under = under; waits_is = refl; place_is = refl; fits = f })
   gives (T.Entry e) t (I.inside here under) l value s is f =
@@ -92,12 +98,14 @@ module _ (w : Program) where
   pub gives_store : (task : TV.Task) (t : Task) (waits : Waits) (l : Left) (value : Option Value) (s : Store) → Gives task t waits l value s → StoreFits p s
   gives_store task t waits l value s g = g.fits.1.store
 
-  pub gives_awaits : (task : TV.Task) (t : Task) (waits : Waits) (l : Left) (value : Option Value) (s : Store) (g : Gives task t waits l value s) → Awaits p g.fits.0 (types_of (option_to_list value)) waits
+  pub gives_awaits : (task : TV.Task) (t : Task) (waits : Waits) (l : Left) (value : Option Value) (s : Store) (g : Gives task t waits l value s)
+      → Awaits p g.fits.0 (types_of (option_to_list value)) waits
   gives_awaits task t waits l value s g =
       subst (Awaits p g.fits.0 (types_of (option_to_list value))) (sym g.waits_is) (awaits_from p g.fits.0 s s g.here g.under (option_to_list value) g.fits.1)
 
   -- and its turn
-  pub gives_turn : (task : TV.Task) (t : Task) (waits : Waits) (l : Left) (value : Option Value) (s : Store) (g : Gives task t waits l value s) (left used : ℕ) (turn : Turn) (s' : Store) (w' : Waits) → Resumes p s waits value left used turn s' w'
+  pub gives_turn : (task : TV.Task) (t : Task) (waits : Waits) (l : Left) (value : Option Value) (s : Store) (g : Gives task t waits l value s) (left used : ℕ) (turn : Turn) (s' : Store)
+      (w' : Waits) → Resumes p s waits value left used turn s' w'
       → TaskTurn w (busy (is_running t) (resumed (record { store = s; here = g.here; under = g.under }) s (option_to_list value)) l) l t left used turn s' w'
   gives_turn task t waits l value s g left used turn s' w' h =
       let c : Configuration = resumed (record { store = s; here = g.here; under = g.under }) s (option_to_list value) in
@@ -113,9 +121,11 @@ module _ (w : Program) where
     pub waits_is : waits ≡ I.inside here under
     pub place_is : pausing (exports_of p) w.plan.area l (entry_of pause.entry) pause.import (answer_of pause.answer) s waits
         ≡ stands [] (calling (unwinding pause) (with_words s w.plan.area) (exports_of p).start_unwind (V.I32 w.plan.area.at ∷ []) (give_zero (record { store = s; here = here; under = under })) l)
-    pub fits : HeldFits p (calling (unwinding pause) (with_words s w.plan.area) (exports_of p).start_unwind (V.I32 w.plan.area.at ∷ []) (give_zero (record { store = s; here = here; under = under })) l)
+    pub fits : HeldFits p (calling (unwinding pause) (with_words s w.plan.area) (exports_of p).start_unwind (V.I32 w.plan.area.at ∷ [])
+        (give_zero (record { store = s; here = here; under = under })) l)
 
-  pub pauses : (pause : Pause) (waits : Waits) (l : Left) (s : Store) → PlaceFits w (pausing (exports_of p) w.plan.area l (entry_of pause.entry) pause.import (answer_of pause.answer) s waits) → Pauses pause waits l s
+  pub pauses : (pause : Pause) (waits : Waits) (l : Left) (s : Store) → PlaceFits w (pausing (exports_of p) w.plan.area l (entry_of pause.entry) pause.import
+      (answer_of pause.answer) s waits) → Pauses pause waits l s
   pauses pause (I.inside here under) l s f = record { here = here; under = under; waits_is = refl; place_is = refl; fits = f }
   pauses pause I.nothing l s f = absurd f
   pauses pause I.outermost l s f = absurd f

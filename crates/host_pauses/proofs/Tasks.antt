@@ -59,11 +59,13 @@ module _ (w : Program) where
     Ran turn = TaskTurn w h l t left used turn s waits
 
     pub task_trapped : (trap : Trap) → Ran (Trapped trap) → EndsAt w h left used (E.Trapped trap) s
-    task_trapped trap (runs_on c u more go le e h1) = ends_behind w h (busy (is_running t) c l) u left (left - u) more used (E.Trapped trap) s go le refl e (turn_trapped w (is_running t) l c (left - u) more trap s waits h1)
+    task_trapped trap (runs_on c u more go le e h1) = ends_behind w h (busy (is_running t) c l) u left (left - u) more used (E.Trapped trap) s go le refl e
+        (turn_trapped w (is_running t) l c (left - u) more trap s waits h1)
     task_trapped trap (too_dear is h1) = cc
 
     pub task_spent : Ran StepsSpent → EndsAt w h left used (E.StepsSpent w.steps) s
-    task_spent (runs_on c u more go le e h1) = ends_behind w h (busy (is_running t) c l) u left (left - u) more used (E.StepsSpent w.steps) s go le refl e (turn_spent w (is_running t) l c (left - u) more s waits h1)
+    task_spent (runs_on c u more go le e h1) = ends_behind w h (busy (is_running t) c l) u left (left - u) more used (E.StepsSpent w.steps) s go le refl e
+        (turn_spent w (is_running t) l c (left - u) more s waits h1)
     task_spent (too_dear is h1) = h1
 
     -- it calls an import
@@ -89,7 +91,8 @@ module _ (w : Program) where
         )
 
   -- an entry returned
-  pub entry_returned : (h : Held) (l l' : Left) (e : Entry) (left used : ℕ) (v : Option Value) (s : Store) (waits : Waits) (m : Moved) (supply : Supply) → l' ≡ next_entry l → m.event ≡ EV.Returned l.number v → m.stage ≡ S.Free
+  pub entry_returned : (h : Held) (l l' : Left) (e : Entry) (left used : ℕ) (v : Option Value) (s : Store) (waits : Waits) (m : Moved) (supply : Supply) → l' ≡ next_entry l
+      → m.event ≡ EV.Returned l.number v → m.stage ≡ S.Free
       → TaskTurn w h l (an_entry e) left used (Returned v) s waits → Comes w h left used m supply supply l' s waits
   entry_returned h l l' e left used v s waits m supply nl ev st (too_dear is h1) = cc
   entry_returned h l l' e left used v s waits m supply nl ev st (runs_on c u more go le eu h1) =
@@ -121,7 +124,8 @@ module _ (w : Program) where
       let r = returns_by p c (left - u) more (option_to_list v) s h1.0 in
       let to : Held = held_on s l l.entries in
       let first : Stretch p w.plan (busy (is_running the_start) c l) [] (done_notes s l.entries) more to =
-      busy_last w (is_running the_start) l c (left - u) more (λ k. returns k (option_to_list v) s) [] (done_notes s l.entries) to r (λ k os. ap (goes k (done_notes s l.entries)) (on_last s l l.entries os)) in (
+      busy_last w (is_running the_start) l c (left - u) more (λ k. returns k (option_to_list v) s) [] (done_notes s l.entries) to r
+      (λ k os. ap (goes k (done_notes s l.entries)) (on_last s l l.entries os)) in (
         subst (λ n. Stretch p w.plan h [] (done_notes s l.entries) n to) (sym eu) (compose p w.plan h (busy (is_running the_start) c l) to [] [] [] (done_notes s l.entries) u more go first),
         omega (arith, r.within),
       )
@@ -129,7 +133,8 @@ module _ (w : Program) where
   -- ---- calls
 
   -- the next entry is called
-  pub entry_turn : (l l' : Left) (e : Entry) (es : List Entry) (g : Func) (s : Store) (left used : ℕ) (t : Turn) (s' : Store) (w' : Waits) → l.entries ≡ e ∷ es → l' ≡ record { number = l.number; entries = es; outcomes = [] }
+  pub entry_turn : (l l' : Left) (e : Entry) (es : List Entry) (g : Func) (s : Store) (left used : ℕ) (t : Turn) (s' : Store) (w' : Waits) → l.entries ≡ e ∷ es
+      → l' ≡ record { number = l.number; entries = es; outcomes = [] }
       → l.outcomes ≡ [] → defined_at p e.func ≡ Some g → Calls p s e.func e.args left used t s' w' → TaskTurn w (free s l) l' (an_entry e) left used t s' w'
   entry_turn l l' e es g s left used t s' w' is l_is none there h = by_case (calls_in p s e.func e.args g left used t s' w' there h)
     where
@@ -154,7 +159,8 @@ module _ (w : Program) where
           (record { goes_on = refl; dearer = λ os. subst (CostsMore (left - 0)) (sym (to os)) (subst (λ n. n ≤ length e.args) (sym short) le) }) refl))
 
   -- the start function is called
-  pub start_turn : (l : Left) (f : ℕ) (g : Func) (s : Store) (left used : ℕ) (t : Turn) (s' : Store) (w' : Waits) → defined_at p f ≡ Some g → Calls p s f [] left used t s' w' → TaskTurn w (starting f s l) l the_start left used t s' w'
+  pub start_turn : (l : Left) (f : ℕ) (g : Func) (s : Store) (left used : ℕ) (t : Turn) (s' : Store) (w' : Waits) → defined_at p f ≡ Some g → Calls p s f [] left used t s' w'
+      → TaskTurn w (starting f s l) l the_start left used t s' w'
   start_turn l f g s left used t s' w' there h = by_case (calls_in p s f [] g left used t s' w' there h)
     where
       to : (os : List Outcome) → next (meeting os (starting f s l)) ≡ goes 0 [] (meeting os (busy (is_running the_start) (entered s [] [] f g) l))

@@ -1,3 +1,5 @@
+//! A pause rewound: from `asyncify_start_rewind` over the entry's call to the suspended import's answer.
+
 ghost use Rattle.std.specs.Prelude.{◌≡◌, ◌<◌, ◌≤◌, ◌+◌, ◌-◌, ◌^◌, List, [], ◌∷◌, IfOk, map, slice_get};
 ghost use Rattle.std.specs.Option.{option_to_list};
 ghost use Rattle.wa_types.specs.declared.values.Value.TheVariants as V;
@@ -30,7 +32,10 @@ pub fn rewind(
     pause: Pause,
 ) -> Result<Moved, AllocError>
     requires { steps.old.left + steps.old.used < 2 ^ 64 }
-    ensures comes { (w : Program) (l : PlainLeft) (supply : Supply) → IsSetting w setting.now → code_in instance.old ≡ w.source → HeldFits w.source (calling (rewinding pause (store_in instance.old)) (store_in instance.old) (exports_of w.source).start_rewind (V.I32 w.plan.area.at ∷ []) call_again l) → IfOk result (λ m. Comes w (calling (rewinding pause (store_in instance.old)) (store_in instance.old) (exports_of w.source).start_rewind (V.I32 w.plan.area.at ∷ []) call_again l) steps.old.left (steps.new.used - steps.old.used) m supply supply l (store_in instance.new) (waits_in instance.new)) }
+    ensures comes { (w : Program) (l : PlainLeft) (supply : Supply) → IsSetting w setting.now → code_in instance.old ≡ w.source
+        → HeldFits w.source (calling (rewinding pause (store_in instance.old)) (store_in instance.old) (exports_of w.source).start_rewind (V.I32 w.plan.area.at ∷ []) call_again l)
+        → IfOk result (λ m. Comes w (calling (rewinding pause (store_in instance.old)) (store_in instance.old) (exports_of w.source).start_rewind (V.I32 w.plan.area.at ∷ []) call_again l)
+        steps.old.left (steps.new.used - steps.old.used) m supply supply l (store_in instance.new) (waits_in instance.new)) }
     ensures code { code_in instance.new ≡ code_in instance.old }
     ensures sum { steps.new.left + steps.new.used ≡ steps.old.left + steps.old.used }
     ensures grows { steps.old.used ≤ steps.new.used }
@@ -51,7 +56,10 @@ fn call_again(
     pause: Pause,
 ) -> Result<Moved, AllocError>
     requires { steps.old.left + steps.old.used < 2 ^ 64 }
-    ensures comes { (w : Program) (l : PlainLeft) (supply : Supply) (since : Store) → IsSetting w setting.now → code_in instance.old ≡ w.source → HeldFits w.source (entering (rewinding pause since) (entry_of pause.entry) (store_in instance.old) l) → IfOk result (λ m. Comes w (entering (rewinding pause since) (entry_of pause.entry) (store_in instance.old) l) steps.old.left (steps.new.used - steps.old.used) m supply supply l (store_in instance.new) (waits_in instance.new)) }
+    ensures comes { (w : Program) (l : PlainLeft) (supply : Supply) (since : Store) → IsSetting w setting.now → code_in instance.old ≡ w.source
+        → HeldFits w.source (entering (rewinding pause since) (entry_of pause.entry) (store_in instance.old) l)
+        → IfOk result (λ m. Comes w (entering (rewinding pause since) (entry_of pause.entry) (store_in instance.old) l) steps.old.left (steps.new.used - steps.old.used) m supply supply l
+        (store_in instance.new) (waits_in instance.new)) }
     ensures code { code_in instance.new ≡ code_in instance.old }
     ensures sum { steps.new.left + steps.new.used ≡ steps.old.left + steps.old.used }
     ensures grows { steps.old.used ≤ steps.new.used }
@@ -80,7 +88,12 @@ fn test_rewound(
     pause: Pause,
 ) -> Result<Moved, AllocError>
     requires { steps.old.left + steps.old.used < 2 ^ 64 }
-    ensures comes { (w : Program) (l : PlainLeft) (supply : Supply) (since at : Store) (here : Activation) (under : List Activation) → IsSetting w setting.now → code_in instance.old ≡ w.source → waits_in instance.old ≡ inside here under → HeldFits w.source (calling (rewinding pause since) (store_in instance.old) (exports_of w.source).get_state [] (test_rewound (record { store = at; here = here; under = under })) l) → IfOk result (λ m. Comes w (calling (rewinding pause since) (store_in instance.old) (exports_of w.source).get_state [] (test_rewound (record { store = at; here = here; under = under })) l) steps.old.left (steps.new.used - steps.old.used) m supply supply l (store_in instance.new) (waits_in instance.new)) }
+    ensures comes { (w : Program) (l : PlainLeft) (supply : Supply) (since at : Store) (here : Activation) (under : List Activation) → IsSetting w setting.now
+        → code_in instance.old ≡ w.source → waits_in instance.old ≡ inside here under → HeldFits w.source
+        (calling (rewinding pause since) (store_in instance.old) (exports_of w.source).get_state [] (test_rewound (record { store = at; here = here; under = under })) l)
+        → IfOk result (λ m. Comes w (calling (rewinding pause since) (store_in instance.old) (exports_of w.source).get_state []
+        (test_rewound (record { store = at; here = here; under = under })) l) steps.old.left (steps.new.used - steps.old.used) m supply supply l (store_in instance.new)
+        (waits_in instance.new)) }
     ensures code { code_in instance.new ≡ code_in instance.old }
     ensures sum { steps.new.left + steps.new.used ≡ steps.old.left + steps.old.used }
     ensures grows { steps.old.used ≤ steps.new.used }
@@ -106,7 +119,12 @@ fn stop_rewind(
     pause: Pause,
 ) -> Result<Moved, AllocError>
     requires { steps.old.left + steps.old.used < 2 ^ 64 }
-    ensures comes { (w : Program) (l : PlainLeft) (supply : Supply) (since at : Store) (here : Activation) (under : List Activation) → IsSetting w setting.now → code_in instance.old ≡ w.source → waits_in instance.old ≡ inside here under → HeldFits w.source (calling (rewinding pause since) (store_in instance.old) (exports_of w.source).stop_rewind [] (give_answer (record { store = at; here = here; under = under })) l) → IfOk result (λ m. Comes w (calling (rewinding pause since) (store_in instance.old) (exports_of w.source).stop_rewind [] (give_answer (record { store = at; here = here; under = under })) l) steps.old.left (steps.new.used - steps.old.used) m supply supply l (store_in instance.new) (waits_in instance.new)) }
+    ensures comes { (w : Program) (l : PlainLeft) (supply : Supply) (since at : Store) (here : Activation) (under : List Activation) → IsSetting w setting.now
+        → code_in instance.old ≡ w.source → waits_in instance.old ≡ inside here under → HeldFits w.source
+        (calling (rewinding pause since) (store_in instance.old) (exports_of w.source).stop_rewind [] (give_answer (record { store = at; here = here; under = under })) l)
+        → IfOk result (λ m. Comes w (calling (rewinding pause since) (store_in instance.old) (exports_of w.source).stop_rewind []
+        (give_answer (record { store = at; here = here; under = under })) l) steps.old.left (steps.new.used - steps.old.used) m supply supply l (store_in instance.new)
+        (waits_in instance.new)) }
     ensures code { code_in instance.new ≡ code_in instance.old }
     ensures sum { steps.new.left + steps.new.used ≡ steps.old.left + steps.old.used }
     ensures grows { steps.old.used ≤ steps.new.used }

@@ -1,3 +1,5 @@
+//! A stack that waits, unwound: from the words of the area over `asyncify_start_unwind` to the pause.
+
 ghost use Rattle.std.specs.Prelude.{◌≡◌, ◌<◌, ◌≤◌, ◌+◌, ◌-◌, ◌^◌, List, [], ◌∷◌, IfOk, map, slice_get};
 ghost use Rattle.std.specs.Option.{option_to_list};
 ghost use Rattle.wa_types.specs.declared.values.Value.TheVariants as V;
@@ -32,7 +34,10 @@ pub fn unwind(
     pause: Pause,
 ) -> Result<Moved, AllocError>
     requires { steps.old.left + steps.old.used < 2 ^ 64 }
-    ensures comes { (w : Program) (l : PlainLeft) (supply : Supply) → IsSetting w setting.now → code_in instance.old ≡ w.source → PlaceFits w (pausing (exports_of w.source) w.plan.area l (entry_of pause.entry) pause.import (answer_of pause.answer) (store_in instance.old) (waits_in instance.old)) → IfOk result (λ m. ComesFrom w (pausing (exports_of w.source) w.plan.area l (entry_of pause.entry) pause.import (answer_of pause.answer) (store_in instance.old) (waits_in instance.old)) steps.old.left (steps.new.used - steps.old.used) m supply supply l (store_in instance.new) (waits_in instance.new)) }
+    ensures comes { (w : Program) (l : PlainLeft) (supply : Supply) → IsSetting w setting.now → code_in instance.old ≡ w.source
+        → PlaceFits w (pausing (exports_of w.source) w.plan.area l (entry_of pause.entry) pause.import (answer_of pause.answer) (store_in instance.old) (waits_in instance.old))
+        → IfOk result (λ m. ComesFrom w (pausing (exports_of w.source) w.plan.area l (entry_of pause.entry) pause.import (answer_of pause.answer) (store_in instance.old)
+        (waits_in instance.old)) steps.old.left (steps.new.used - steps.old.used) m supply supply l (store_in instance.new) (waits_in instance.new)) }
     ensures code { code_in instance.new ≡ code_in instance.old }
     ensures sum { steps.new.left + steps.new.used ≡ steps.old.left + steps.old.used }
     ensures grows { steps.old.used ≤ steps.new.used }
@@ -54,7 +59,11 @@ fn give_zero(
     pause: Pause,
 ) -> Result<Moved, AllocError>
     requires { steps.old.left + steps.old.used < 2 ^ 64 }
-    ensures comes { (w : Program) (l : PlainLeft) (supply : Supply) (here : Activation) (under : List Activation) → IsSetting w setting.now → code_in instance.old ≡ w.source → waits_in instance.old ≡ inside here under → HeldFits w.source (busy (unwinding pause) (resumed (record { store = store_in instance.old; here = here; under = under }) (store_in instance.old) (zeros_of w.source pause.import)) l) → IfOk result (λ m. Comes w (busy (unwinding pause) (resumed (record { store = store_in instance.old; here = here; under = under }) (store_in instance.old) (zeros_of w.source pause.import)) l) steps.old.left (steps.new.used - steps.old.used) m supply supply l (store_in instance.new) (waits_in instance.new)) }
+    ensures comes { (w : Program) (l : PlainLeft) (supply : Supply) (here : Activation) (under : List Activation) → IsSetting w setting.now → code_in instance.old ≡ w.source
+        → waits_in instance.old ≡ inside here under → HeldFits w.source (busy (unwinding pause)
+        (resumed (record { store = store_in instance.old; here = here; under = under }) (store_in instance.old) (zeros_of w.source pause.import)) l)
+        → IfOk result (λ m. Comes w (busy (unwinding pause) (resumed (record { store = store_in instance.old; here = here; under = under }) (store_in instance.old)
+        (zeros_of w.source pause.import)) l) steps.old.left (steps.new.used - steps.old.used) m supply supply l (store_in instance.new) (waits_in instance.new)) }
     ensures code { code_in instance.new ≡ code_in instance.old }
     ensures sum { steps.new.left + steps.new.used ≡ steps.old.left + steps.old.used }
     ensures grows { steps.old.used ≤ steps.new.used }
@@ -104,7 +113,10 @@ fn test_unwound(
     pause: Pause,
 ) -> Result<Moved, AllocError>
     requires { steps.old.left + steps.old.used < 2 ^ 64 }
-    ensures comes { (w : Program) (l : PlainLeft) (supply : Supply) → IsSetting w setting.now → code_in instance.old ≡ w.source → HeldFits w.source (calling (unwinding pause) (store_in instance.old) (exports_of w.source).get_state [] test_unwound l) → IfOk result (λ m. Comes w (calling (unwinding pause) (store_in instance.old) (exports_of w.source).get_state [] test_unwound l) steps.old.left (steps.new.used - steps.old.used) m supply supply l (store_in instance.new) (waits_in instance.new)) }
+    ensures comes { (w : Program) (l : PlainLeft) (supply : Supply) → IsSetting w setting.now → code_in instance.old ≡ w.source
+        → HeldFits w.source (calling (unwinding pause) (store_in instance.old) (exports_of w.source).get_state [] test_unwound l)
+        → IfOk result (λ m. Comes w (calling (unwinding pause) (store_in instance.old) (exports_of w.source).get_state [] test_unwound l) steps.old.left
+        (steps.new.used - steps.old.used) m supply supply l (store_in instance.new) (waits_in instance.new)) }
     ensures code { code_in instance.new ≡ code_in instance.old }
     ensures sum { steps.new.left + steps.new.used ≡ steps.old.left + steps.old.used }
     ensures grows { steps.old.used ≤ steps.new.used }
@@ -130,7 +142,10 @@ fn stop_unwind(
     pause: Pause,
 ) -> Result<Moved, AllocError>
     requires { steps.old.left + steps.old.used < 2 ^ 64 }
-    ensures comes { (w : Program) (l : PlainLeft) (supply : Supply) → IsSetting w setting.now → code_in instance.old ≡ w.source → HeldFits w.source (calling (unwinding pause) (store_in instance.old) (exports_of w.source).stop_unwind [] pause_there l) → IfOk result (λ m. Comes w (calling (unwinding pause) (store_in instance.old) (exports_of w.source).stop_unwind [] pause_there l) steps.old.left (steps.new.used - steps.old.used) m supply supply l (store_in instance.new) (waits_in instance.new)) }
+    ensures comes { (w : Program) (l : PlainLeft) (supply : Supply) → IsSetting w setting.now → code_in instance.old ≡ w.source
+        → HeldFits w.source (calling (unwinding pause) (store_in instance.old) (exports_of w.source).stop_unwind [] pause_there l)
+        → IfOk result (λ m. Comes w (calling (unwinding pause) (store_in instance.old) (exports_of w.source).stop_unwind [] pause_there l) steps.old.left
+        (steps.new.used - steps.old.used) m supply supply l (store_in instance.new) (waits_in instance.new)) }
     ensures code { code_in instance.new ≡ code_in instance.old }
     ensures sum { steps.new.left + steps.new.used ≡ steps.old.left + steps.old.used }
     ensures grows { steps.old.used ≤ steps.new.used }

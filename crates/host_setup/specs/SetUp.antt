@@ -43,13 +43,16 @@ least_pages p = least_of (all_memories p)
 
 -- ---- exports
 
+-- the index space of functions
 abbrev pub is_func : Space → Bool
 is_func a_func = true
 is_func _ = false
 
+-- the function that is exported, if it is one
 abbrev pub func_of : Export → Option ℕ
 func_of e = if is_func e.space then Some e.index else None
 
+-- the same of an export that may not be there
 abbrev pub func_in : Option Export → Option ℕ
 func_in None = None
 func_in (Some e) = func_of e
@@ -78,11 +81,13 @@ abbrev pub is_defined_as : Module → FuncType → Option ℕ → Bool
 is_defined_as p ty None = false
 is_defined_as p ty (Some x) = nat_le (func_imports p) x && same_func_type (func_type_at p x) ty
 
+-- an export that is needed is there
 abbrev pub is_there : Module → Needed → Bool
 is_there p n = is_defined_as p n.ty (func_named p n.name)
 
 -- ---- entries
 
+-- a name is one of the five
 abbrev pub is_five : List ℕ → Bool
 is_five name = list_any (λ (n : Needed). bytes_eq name n.name) needed
 
@@ -95,12 +100,14 @@ abbrev pub is_imported : (imports : ℕ) → Option ℕ → Bool
 is_imported imports None = false
 is_imported imports (Some x) = nat_lt x imports
 
+-- values are arguments of a function that is there
 abbrev pub are_args : Module → List Value → Option ℕ → Bool
 are_args p args None = false
 are_args p args (Some x) = are_of (func_type_at p x).params args
 
 -- ---- in their order
 
+-- a fault at a place, where there is one
 abbrev pub fault_at : (ℕ → Fault) → Option ℕ → Option Fault
 fault_at fault None = None
 fault_at fault (Some i) = Some (fault i)
@@ -109,35 +116,42 @@ fault_at fault (Some i) = Some (fault i)
 abbrev pub first_false : List Bool → Option ℕ
 first_false tests = position (λ (t : Bool). not t) tests
 
+-- the functions of entries
 abbrev pub entry_funcs : Module → List NamedEntry → List (Option ℕ)
 entry_funcs p entries = map (λ (e : NamedEntry). entry_func p e.name) entries
 
+-- whether each entry has arguments of its function's types
 abbrev pub have_args : Module → List NamedEntry → List Bool
 have_args p entries = map (λ (e : NamedEntry). are_args p e.args (entry_func p e.name)) entries
 
--- The first fault: each kind is asked of all entries before the next. `tests` tells of each entry whether it has arguments of
--- its function's types.
+-- The first entry whose arguments aren't of its function's types, which `tests` tells of each.
 abbrev pub args_fault : (tests : List Bool) → Option Fault
 args_fault tests = fault_at arg_types (first_false tests)
 
+-- The first entry of an imported function, else that.
 abbrev pub calls_fault : (imports : ℕ) → (funcs : List (Option ℕ)) → (tests : List Bool) → Option Fault
 calls_fault imports funcs tests = or_else (fault_at entry_is_import (position (is_imported imports) funcs)) (args_fault tests)
 
+-- The first entry that names no exported function, else that.
 abbrev pub entries_fault : (imports : ℕ) → (funcs : List (Option ℕ)) → (tests : List Bool) → Option Fault
 entries_fault imports funcs tests = or_else (fault_at entry_missing (position is_none funcs)) (calls_fault imports funcs tests)
 
+-- The first of the five exports that isn't there, else a fault of an entry.
 abbrev pub module_fault : Module → List NamedEntry → Option Fault
 module_fault p entries =
     or_else (fault_at no_export (first_false (map (is_there p) needed)))
     (entries_fault (func_imports p) (entry_funcs p entries) (have_args p entries))
 
+-- The first fault: each kind is asked of all entries before the next.
 abbrev pub first_fault : Module → Area → List NamedEntry → Option Fault
 first_fault p area entries = or_else (if is_area_in (least_pages p) area then None else Some area_bad) (module_fault p entries)
 
+-- a fault, where there is one, else what was made
 abbrev pub unless_fault : {A : Type 0} → Option Fault → A → Result A Fault
 unless_fault None x = Ok x
 unless_fault (Some f) x = Err f
 
+-- the functions of entries, each of which has one
 abbrev pub all_told : List (Option ℕ) → List ℕ
 all_told funcs = map (λ (f : Option ℕ). unwrap_or f 0) funcs
 

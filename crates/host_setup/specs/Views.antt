@@ -13,6 +13,7 @@ use Rattle.host_setup.specs.declared.faults.SetupFault.{SetupFault}
 use Rattle.host_setup.specs.declared.faults.SetupFault.TheVariants.{Memory, AreaBad, NoExports, EntryMissing, EntryIsImport, ArgTypes}
 use Rattle.host_setup.specs.SetUp.{func_of, NamedEntry, Fault, area_bad, no_export, entry_missing, entry_is_import, arg_types}
 
+-- an entry
 abbrev pub entry_of : Entry → NamedEntry
 entry_of e = record { name = e.name; args = e.args.items }
 

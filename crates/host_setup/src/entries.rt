@@ -1,4 +1,5 @@
-// A program's set-up.
+//! A program's set-up over a prepared module: the area, the five exports, and the functions of the entries.
+
 ghost use Rattle.std.specs.Prelude.{◌≡◌, ◌<◌, ◌^◌, ◌++◌, [], ◌∷◌, IfOk, IfSome, OnOk, None, length, map, position, slice_get};
 ghost use Rattle.std.specs.Option.{is_none, unwrap_or};
 ghost use Rattle.wa_types.specs.Modules.{func_imports, func_sorts};
@@ -179,7 +180,8 @@ fn with_exports(
     requires sorts { sorts.now ≡ func_sorts (module_of «module».now) }
     requires imports { imports ≡ func_imports (module_of «module».now) }
     requires names { IsTableOf names.now («module».now).exports.items }
-    ensures { let p = module_of «module».now in let es = map entry_of entries.now in Reads (λ funcs. funcs.items) result (unless_fault (entries_fault (func_imports p) (entry_funcs p es) (have_args p es)) (all_told (entry_funcs p es))) }
+    ensures { let p = module_of «module».now in let es = map entry_of entries.now in Reads (λ funcs. funcs.items) result
+        (unless_fault (entries_fault (func_imports p) (entry_funcs p es) (have_args p es)) (all_told (entry_funcs p es))) }
 {
     let funcs = entry_funcs(alloc, names, entries)?;
     let have_args = have_args(alloc, module, sorts, &funcs, entries)?;

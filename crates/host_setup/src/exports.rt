@@ -1,4 +1,5 @@
-// The functions that a module exports, by their names.
+//! The functions that a module exports, by their names (standard, section 2.5.10).
+
 ghost use Rattle.std.specs.Prelude.{◌≡◌, ℕ, List, IfOk, OnOk, None, Some, if◌then◌else◌};
 ghost use Rattle.wa_types.specs.Validity.{same_name};
 ghost use Rattle.wa_model.specs.ScriptLines.{or_else};

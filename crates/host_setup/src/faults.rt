@@ -1,3 +1,5 @@
+//! Why a program can't run over its module.
+
 use std::alloc::AllocError;
 use thiserror::Error;
 

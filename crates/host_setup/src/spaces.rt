@@ -1,4 +1,5 @@
-// Index spaces of a module.
+//! Index spaces of a module: the types of its functions, and the declared minimum of its memory (standard, section 2.5.1).
+
 ghost use Rattle.std.specs.Prelude.{◌≡◌, IfOk, length, map};
 ghost use Rattle.wa_types.specs.Modules.{all_memories, func_imports, func_sorts, imported, imported_func, imported_memory};
 ghost use Rattle.wa_types.specs.View.{module_of};

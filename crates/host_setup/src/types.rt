@@ -1,4 +1,5 @@
-// Types of functions.
+//! The types of functions, and values that are of such types (standard, section 2.3.3).
+
 ghost use Rattle.std.specs.Prelude.{◌≡◌, MatchOption, Option, ℕ, Some, None};
 ghost use Rattle.wa_types.specs.Modules.{empty_type, func_imports, func_sorts, func_type_at, type_at};
 ghost use Rattle.wa_types.specs.View.{func_type_of, module_of};

@@ -39,7 +39,18 @@ module _ (w : Program) (m : Module) (code : m ≡ w.source) (s : Store) (x : ℕ
       by_case (too_dear le u t same) = cc
       by_case (it_enters le more u k) =
           let r = returns_by w.source (entered s [] args x callable.0.0) (left - suc (length args)) more (option_to_list v) s' k.0 in
-          record { func = callable.0.0; there = callable.0.1; last = r.at; cost = r.cost; k = r.k; runs = r.runs; returns_then = r.next_is; used_is = u ∙ ap (λ n. suc (length args) + n) r.used_is; within = omega (arith, r.within) }
+          record {
+            func = callable.0.0;
+            there = callable.0.1;
+            last = r.at;
+            cost = r.cost;
+            k = r.k;
+            runs = r.runs;
+            returns_then = r.next_is;
+            used_is = u
+                ∙ ap (λ n. suc (length args) + n) r.used_is;
+            within = omega (arith, r.within);
+          }
 
   module _ (ph : Phase) (th : Then) (l : Left) where
     pub came_trapped : (t : Trap) → Came (Trapped t) → EndsAt w (calling ph s x args th l) left used (trap_end w.plan.area ph t s') s'

@@ -20,7 +20,8 @@ use Rattle.wa_model.specs.Configuration.{Activation, Configuration}
 use Rattle.wa_model.specs.Step.{asks, returns, entered}
 use Rattle.wa_model.specs.Plan.{Entry, Outcome}
 use Rattle.wa_model.specs.Blocking.{note, Left, with_outcomes, resumed, poked, an_entry}
-use Rattle.wa_model.specs.Protocol.{Exports, exports_of, Phase, is_running, give_zero, test_unwound, pause_there, call_again, test_rewound, give_answer, Held, busy, calling, entering, over, trap_end, is_state, zeros_of, used_of, answer_note, busy_step, busy_enters}
+use Rattle.wa_model.specs.Protocol.{Exports, exports_of, Phase, is_running, give_zero, test_unwound, pause_there, call_again, test_rewound, give_answer, Held, busy, calling, entering, over}
+use Rattle.wa_model.specs.Protocol.{trap_end, is_state, zeros_of, used_of, answer_note, busy_step, busy_enters}
 use Rattle.wa_model.specs.World.{Program}
 use Rattle.interp.specs.declared.turns.Turn.{Turn}
 use Rattle.interp.specs.declared.turns.Turn.TheVariants.{Returned, Trapped, Waiting, StepsSpent}
@@ -44,7 +45,8 @@ pub data CallsIn (p : Module) (s : Store) (x : ℕ) (args : List Value) (g : Fun
   too_dear : left ≤ length args → used ≡ 0 → t ≡ StepsSpent → s' ≡ s → CallsIn p s x args g left used t s' w'
   it_enters : suc (length args) ≤ left → (more : ℕ) → used ≡ suc (length args) + more → Turns p (entered s [] args x g) (left - suc (length args)) more t s' w' → CallsIn p s x args g left used t s' w'
 
-pub calls_in : (p : Module) (s : Store) (x : ℕ) (args : List Value) (g : Func) (left used : ℕ) (t : Turn) (s' : Store) (w' : Waits) → defined_at p x ≡ Some g → Calls p s x args left used t s' w' → CallsIn p s x args g left used t s' w'
+pub calls_in : (p : Module) (s : Store) (x : ℕ) (args : List Value) (g : Func) (left used : ℕ) (t : Turn) (s' : Store) (w' : Waits) → defined_at p x ≡ Some g
+    → Calls p s x args left used t s' w' → CallsIn p s x args g left used t s' w'
 calls_in p s x args g left used t s' w' there h = by_cost (nat_le left (length args)) refl (subst (λ o. CallsAs p s x args (nat_le left (length args)) o left used t s' w') there h)
   where
     by_cost : (b : Bool) → nat_le left (length args) ≡ b → CallsAs p s x args b (Some g) left used t s' w' → CallsIn p s x args g left used t s' w'
@@ -59,19 +61,23 @@ module _ (w : Program) where
   x = exports_of w.source
 
   -- the program ends behind a stretch
-  pub ends_behind : (h h1 : Held) (u left0 left1 used1 used : ℕ) (how : End) (s : Store) → Stretch p w.plan h [] [] u h1 → u ≤ left0 → left1 ≡ left0 - u → used ≡ u + used1 → EndsAt w h1 left1 used1 how s → EndsAt w h left0 used how s
+  pub ends_behind : (h h1 : Held) (u left0 left1 used1 used : ℕ) (how : End) (s : Store) → Stretch p w.plan h [] [] u h1 → u ≤ left0 → left1 ≡ left0 - u → used ≡ u + used1
+      → EndsAt w h1 left1 used1 how s → EndsAt w h left0 used how s
   ends_behind h h1 u left0 left1 used1 used how s first le l1 e (at_over stretch within) =
       at_over (subst (λ n. Stretch p w.plan h [] (note (ended how) s ∷ []) n (over s)) (sym e) (compose p w.plan h h1 (over s) [] [] [] (note (ended how) s ∷ []) u used1 first stretch)) (omega arith)
   ends_behind h h1 u left0 left1 used1 used how s first le l1 e (at_spent h' stretch within same spent is) =
       let short : left1 - used1 ≡ left0 - used = omega arith in
-      at_spent h' (subst (λ n. Stretch p w.plan h [] [] n h') (sym e) (compose p w.plan h h1 h' [] [] [] [] u used1 first stretch)) (omega arith) same (subst (λ n. IsSpent p w.plan n h') short spent) is
+      at_spent h' (subst (λ n. Stretch p w.plan h [] [] n h') (sym e) (compose p w.plan h h1 h' [] [] [] [] u used1 first stretch)) (omega arith) same
+      (subst (λ n. IsSpent p w.plan n h') short spent) is
 
   -- ---- turns in a phase
 
-  pub turn_trapped : (ph : Phase) (l : Left) (c : Configuration) (left used : ℕ) (t : Trap) (s' : Store) (w' : Waits) → Turns p c left used (Trapped t) s' w' → EndsAt w (busy ph c l) left used (trap_end w.plan.area ph t s') s'
+  pub turn_trapped : (ph : Phase) (l : Left) (c : Configuration) (left used : ℕ) (t : Trap) (s' : Store) (w' : Waits) → Turns p c left used (Trapped t) s' w'
+      → EndsAt w (busy ph c l) left used (trap_end w.plan.area ph t s') s'
   turn_trapped ph l c left used t s' w' h = busy_trapped w ph l c left used t s' h.0
 
-  pub turn_spent : (ph : Phase) (l : Left) (c : Configuration) (left used : ℕ) (s' : Store) (w' : Waits) → Turns p c left used StepsSpent s' w' → EndsAt w (busy ph c l) left used (E.StepsSpent w.steps) s'
+  pub turn_spent : (ph : Phase) (l : Left) (c : Configuration) (left used : ℕ) (s' : Store) (w' : Waits) → Turns p c left used StepsSpent s' w'
+      → EndsAt w (busy ph c l) left used (E.StepsSpent w.steps) s'
   turn_spent ph l c left used s' w' h = busy_spent w ph l c left used h.0.at (E.StepsSpent w.steps) s' h.0.store_is refl h.0.ends
 
   -- the entry returned while the stack unwinds
@@ -82,22 +88,26 @@ module _ (w : Program) where
       (busy_last w (unwinding pause) l c left used (λ k. returns k (option_to_list v) s') [] [] (calling (unwinding pause) s' x.get_state [] test_unwound l) r (λ k more. refl), r.within)
 
   -- an import is called while the stack unwinds
-  pub unwound_asked : (pause : Pause) (l : Left) (c : Configuration) (left used : ℕ) (call : CallValue) (s' : Store) (w' : Waits) → Turns p c left used (Waiting call) s' w' → EndsAt w (busy (unwinding pause) c l) left used (E.Broken 1) s'
+  pub unwound_asked : (pause : Pause) (l : Left) (c : Configuration) (left used : ℕ) (call : CallValue) (s' : Store) (w' : Waits) → Turns p c left used (Waiting call) s' w'
+      → EndsAt w (busy (unwinding pause) c l) left used (E.Broken 1) s'
   unwound_asked pause l c left used call s' w' h =
       let r = asks_by p c left used call.import call.args.items h.at h.ends in
       subst (EndsAt w (busy (unwinding pause) c l) left used (E.Broken 1)) h.store_is
-      (at_over (busy_last w (unwinding pause) l c left used (λ k. asks k call.import call.args.items h.at) [] (note (ended (E.Broken 1)) h.at.store ∷ []) (over h.at.store) r (λ k more. refl)) r.within)
+      (at_over (busy_last w (unwinding pause) l c left used (λ k. asks k call.import call.args.items h.at) [] (note (ended (E.Broken 1)) h.at.store ∷ []) (over h.at.store) r
+      (λ k more. refl)) r.within)
 
   -- ---- the entry is called again
 
-  entered_goes : (ph : Phase) (e : Entry) (s : Store) (l : Left) (g : Func) → defined_at p e.func ≡ Some g → Stretch p w.plan (entering ph e s l) [] [] (suc (length e.args)) (busy ph (entered s [] e.args e.func g) l)
+  entered_goes : (ph : Phase) (e : Entry) (s : Store) (l : Left) (g : Func) → defined_at p e.func ≡ Some g
+      → Stretch p w.plan (entering ph e s l) [] [] (suc (length e.args)) (busy ph (entered s [] e.args e.func g) l)
   entered_goes ph e s l g there = λ more. moves (ap (busy_enters ph e s (with_outcomes l more)) there) stays (omega arith) refl
 
   enters_dear : (n : ℕ) (ph : Phase) (e : Entry) (s : Store) (l : Left) (o : Option Func) → n ≤ length e.args → CostsMore n (busy_enters ph e s l o)
   enters_dear n ph e s l None h = tt
   enters_dear n ph e s l (Some g) h = h
 
-  again_dear : (ph : Phase) (e : Entry) (s : Store) (l : Left) (left used : ℕ) (s' : Store) → left ≤ length e.args → used ≡ 0 → s' ≡ s → EndsAt w (entering ph e s l) left used (E.StepsSpent w.steps) s'
+  again_dear : (ph : Phase) (e : Entry) (s : Store) (l : Left) (left used : ℕ) (s' : Store) → left ≤ length e.args → used ≡ 0 → s' ≡ s
+      → EndsAt w (entering ph e s l) left used (E.StepsSpent w.steps) s'
   again_dear ph e s l left used s' dear e0 same =
       let short : left - 0 ≡ left = omega arith in
       subst (λ n. EndsAt w (entering ph e s l) left n (E.StepsSpent w.steps) s') (sym e0)
@@ -120,7 +130,8 @@ module _ (w : Program) where
     abbrev Again : Turn → Type 0
     Again t = CallsIn p s e.func e.args g left used t s' w'
 
-    behind_again : (more : ℕ) (how : End) → suc (length e.args) ≤ left → used ≡ suc (length e.args) + more → EndsAt w (busy ph c0 l) (left - suc (length e.args)) more how s' → EndsAt w from left used how s'
+    behind_again : (more : ℕ) (how : End) → suc (length e.args) ≤ left → used ≡ suc (length e.args) + more → EndsAt w (busy ph c0 l) (left - suc (length e.args)) more how s'
+        → EndsAt w from left used how s'
     behind_again more how le u h = ends_behind from (busy ph c0 l) (suc (length e.args)) left (left - suc (length e.args)) more used how s' (entered_goes ph e s l g there) le refl u h
 
     pub again_returned : (v : Option Value) → Again (Returned v) → EndsAt w from left used (E.Broken 5) s'
@@ -151,7 +162,8 @@ module _ (w : Program) where
         behind_again more (E.Broken 3) le u
         (subst (EndsAt w (busy ph c0 l) (left - suc (length e.args)) more (E.Broken 3)) h.store_is
         (at_over
-        (busy_last w ph l c0 (left - suc (length e.args)) more (λ k. asks k call.import call.args.items h.at) [] (note (ended (E.Broken 3)) h.at.store ∷ []) (over h.at.store) r (λ k os. asked_step call h.at false ne k os))
+        (busy_last w ph l c0 (left - suc (length e.args)) more (λ k. asks k call.import call.args.items h.at) [] (note (ended (E.Broken 3)) h.at.store ∷ []) (over h.at.store) r
+        (λ k os. asked_step call h.at false ne k os))
         r.within))
 
     -- the suspended import is called
@@ -168,7 +180,8 @@ module _ (w : Program) where
           h.at.under,
           h.waits,
           subst (λ n. Stretch p w.plan from [] [] n (to s')) (sym u)
-              (compose p w.plan from (busy ph c0 l) (to s') [] [] [] [] (suc (length e.args)) more (entered_goes ph e s l g there) (subst (λ z. Stretch p w.plan (busy ph c0 l) [] [] more (to z)) h.store_is go)),
+              (compose p w.plan from (busy ph c0 l) (to s') [] [] [] [] (suc (length e.args)) more (entered_goes ph e s l g there)
+              (subst (λ z. Stretch p w.plan (busy ph c0 l) [] [] more (to z)) h.store_is go)),
           omega (arith, r.within),
         )
 
@@ -190,7 +203,8 @@ module _ (w : Program) where
         returned_by w (unwinding pause) s f args test_unwound l left used vs s' [] (calling (unwinding pause) s' x.stop_unwind [] pause_there l) r
         (λ k more. ap (λ b. cond b (goes k [] (calling (unwinding pause) s' x.stop_unwind [] pause_there (with_outcomes l more))) (goes k (note (ended (E.Broken 2)) s' ∷ []) (over s'))) is)
 
-    pub state_not_unwound : (f : ℕ) (args : List Value) → is_state 1 vs ≡ false → Returns p s f args left used vs s' → EndsAt w (calling (unwinding pause) s f args test_unwound l) left used (E.Broken 2) s'
+    pub state_not_unwound : (f : ℕ) (args : List Value) → is_state 1 vs ≡ false → Returns p s f args left used vs s'
+        → EndsAt w (calling (unwinding pause) s f args test_unwound l) left used (E.Broken 2) s'
     state_not_unwound f args is r =
         at_over
         (returned_by w (unwinding pause) s f args test_unwound l left used vs s' (note (ended (E.Broken 2)) s' ∷ []) (over s') r
@@ -198,7 +212,8 @@ module _ (w : Program) where
         r.within
 
     -- asyncify_stop_unwind: the program is paused
-    pub stopped_unwind : (f : ℕ) (args : List Value) (m : Moved) (used_now : ℕ) (supply : Supply) (waits : Waits) → used_now ≡ used_of s' w.plan.area → m.event ≡ EV.Paused pause.answer.ticks used_now → m.stage ≡ S.Paused pause
+    pub stopped_unwind : (f : ℕ) (args : List Value) (m : Moved) (used_now : ℕ) (supply : Supply) (waits : Waits) → used_now ≡ used_of s' w.plan.area
+        → m.event ≡ EV.Paused pause.answer.ticks used_now → m.stage ≡ S.Paused pause
         → Returns p s f args left used vs s' → Comes w (calling (unwinding pause) s f args pause_there l) left used m supply supply l s' waits
     stopped_unwind f args m used_now supply waits is_used e st r = record {
       note = note (paused pause.answer.ticks (used_of s' w.plan.area)) s';
@@ -238,7 +253,8 @@ module _ (w : Program) where
         r.within
 
     -- asyncify_stop_rewind: the answer is told
-    pub stopped_rewind : (since at now : Store) (here : Activation) (under : List Activation) (f : ℕ) (args : List Value) (m : Moved) (supply : Supply) (waits : Waits) → now ≡ poked s' (answer_of pause.answer).pokes
+    pub stopped_rewind : (since at now : Store) (here : Activation) (under : List Activation) (f : ℕ) (args : List Value) (m : Moved) (supply : Supply) (waits : Waits)
+        → now ≡ poked s' (answer_of pause.answer).pokes
         → waits ≡ inside here under → m.event ≡ EV.Answered pause.answer.value → m.stage ≡ S.Giving (T.Entry pause.entry) pause.answer.value → Returns p s f args left used vs s'
         → Comes w (calling (rewinding pause since) s f args (give_answer (record { store = at; here = here; under = under })) l) left used m supply supply l now waits
     stopped_rewind since at now here under f args m supply waits is_now is_waits e st r =
@@ -255,7 +271,8 @@ module _ (w : Program) where
             takes = (refl, refl);
             within = r.within;
             lands = goes_on (answer_note a.value after since ∷ []) [] to
-                (returned_by w (rewinding pause since) s f args (give_answer (record { store = at; here = here; under = under })) l left used vs s' (answer_note a.value after since ∷ []) to r (λ k more. refl))
+                (returned_by w (rewinding pause since) s f args (give_answer (record { store = at; here = here; under = under })) l left used vs s'
+                (answer_note a.value after since ∷ []) to r (λ k more. refl))
                 refl refl (ap (λ z. place_in x w.plan.area l after z m.stage) is_waits ∙ ap (place_in x w.plan.area l after (inside here under)) st);
           };
         })

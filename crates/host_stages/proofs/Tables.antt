@@ -31,7 +31,8 @@ pub found_at : {X : Type 0} (xs ys : List X) (i : ℕ) (x : X) → xs ≡ ys →
 found_at xs ys i x e lt at = ap (λ zs. slice_get zs i) (sym e) ∙ slice_get_read xs (length xs) i x refl lt at
 
 -- the zero of an import's result
-pub zero_told : (w : Program) (x : Setting) (import : ℕ) (i : HostImport) (r : Option ValType) → IsSetting w x → slice_get x.imports.items import ≡ Some i → i.result ≡ r → map zero_of (option_to_list r) ≡ zeros_of w.source import
+pub zero_told : (w : Program) (x : Setting) (import : ℕ) (i : HostImport) (r : Option ValType) → IsSetting w x → slice_get x.imports.items import ≡ Some i → i.result ≡ r
+    → map zero_of (option_to_list r) ≡ zeros_of w.source import
 zero_told w x import i r is at e = sym (ap (map zero_of) (is.results import i at ∙ ap option_to_list e))
 
 pub eq_true : (a b : ℕ) → a ≡ b → nat_eq a b ≡ true
@@ -47,7 +48,8 @@ memory_more m [] p = refl
 memory_more m (q ∷ ps) p = memory_more (overwritten m q.at q.bytes) ps p
 
 -- one more
-pub poked_more : (s now new : Store) (ps : List PokeValue) (i : ℕ) (p : PokeValue) → i < length ps → p ≡ get_or ps i p → now ≡ poked s (map poke_of (take i ps)) → new ≡ with_memory now (overwritten now.memory p.at p.bytes.items)
+pub poked_more : (s now new : Store) (ps : List PokeValue) (i : ℕ) (p : PokeValue) → i < length ps → p ≡ get_or ps i p → now ≡ poked s (map poke_of (take i ps))
+    → new ≡ with_memory now (overwritten now.memory p.at p.bytes.items)
     → new ≡ poked s (map poke_of (take (i + 1) ps))
 poked_more s now new ps i p lt at before e =
     let more = map_more poke_of ps i p lt in
@@ -74,7 +76,8 @@ size_told w x m s bytes is code e = by_test (nat_lt 0 (length (all_memories m)))
     by_test false z h = cc
 
 -- an answer of a line that has short pokes has short pokes
-pub short_given : (import : ℕ) (name : List ℕ) (lines : List AnswerLine) (a : Answer) (lines' : List AnswerLine) → MeetsLine import name lines (given a) lines' → All HasShortPokes lines → All IsShort a.pokes
+pub short_given : (import : ℕ) (name : List ℕ) (lines : List AnswerLine) (a : Answer) (lines' : List AnswerLine) → MeetsLine import name lines (given a) lines' → All HasShortPokes lines
+    → All IsShort a.pokes
 short_given import name [] a lines' m h = let z : given a ≡ refused (NoAnswer import) = m.0 in cc
 short_given import name (l ∷ ls) a lines' m h = by_name (same_name l.import name) m
   where

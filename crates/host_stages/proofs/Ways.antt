@@ -15,7 +15,8 @@ use Rattle.wa_model.specs.Step.{Next, steps, asks, returns, traps, stuck, entere
 use Rattle.wa_model.specs.Plan.{Outcome, given, refused}
 use Rattle.wa_model.specs.Alone.{Goes, it_returned, it_trapped, it_asks, it_spent, FinishesAt, CostsAbove, EndsAs, by_finish, by_steps}
 use Rattle.wa_model.specs.Blocking.{Note, note, Left, with_outcomes, Asker, inside, outermost, the_start, an_entry}
-use Rattle.wa_model.specs.Protocol.{Exports, exports_of, Phase, is_running, unwinds, rewinds, Then, give_zero, test_unwound, pause_there, call_again, test_rewound, give_answer, Held, busy, calling, aside, over, trap_end, held_asked, held_tested, busy_step, is_state, aside_back, aside_step, aside_called, protocol}
+use Rattle.wa_model.specs.Protocol.{Exports, exports_of, Phase, is_running, unwinds, rewinds, Then, give_zero, test_unwound, pause_there, call_again, test_rewound, give_answer, Held, busy}
+use Rattle.wa_model.specs.Protocol.{calling, aside, over, trap_end, held_asked, held_tested, busy_step, is_state, aside_back, aside_step, aside_called, protocol}
 use Rattle.wa_model.specs.World.{Program}
 use Rattle.wa_model.proofs.Runs.{leads_on}
 use Rattle.wa_model.proofs.Alone.{in_busy, in_aside}
@@ -201,7 +202,8 @@ module _ (w : Program) where
       (λ more. ap (busy_step p x w.plan ph (with_outcomes l (os ++ more))) r.next_is ∙ mv r.k more) r.used_is
 
   -- a trap, and steps that don't reach
-  pub busy_trapped : (ph : Phase) (l : Left) (c : Configuration) (left used : ℕ) (t : Trap) (s : Store) → EndsAs p c left used (it_trapped t s) → EndsAt w (busy ph c l) left used (trap_end w.plan.area ph t s) s
+  pub busy_trapped : (ph : Phase) (l : Left) (c : Configuration) (left used : ℕ) (t : Trap) (s : Store) → EndsAs p c left used (it_trapped t s)
+      → EndsAt w (busy ph c l) left used (trap_end w.plan.area ph t s) s
   busy_trapped ph l c left used t s e =
       let r = traps_by p c left used t s e in
       at_over (busy_last ph l c left used (λ k. traps k t s) [] (note (ended (trap_end w.plan.area ph t s)) s ∷ []) (over s) r (λ k more. by_phase ph k more)) r.within
@@ -212,7 +214,8 @@ module _ (w : Program) where
       by_phase (unwinds e i a) k more = refl
       by_phase (rewinds e i a sp) k more = refl
 
-  pub busy_spent : (ph : Phase) (l : Left) (c : Configuration) (left used : ℕ) (d : Configuration) (how : End) (s : Store) → d.store ≡ s → how ≡ E.StepsSpent w.steps → EndsAs p c left used (it_spent d) → EndsAt w (busy ph c l) left used how s
+  pub busy_spent : (ph : Phase) (l : Left) (c : Configuration) (left used : ℕ) (d : Configuration) (how : End) (s : Store) → d.store ≡ s → how ≡ E.StepsSpent w.steps
+      → EndsAs p c left used (it_spent d) → EndsAt w (busy ph c l) left used how s
   busy_spent ph l c left used d how s same is e =
       let r = spent_by p c left used d e in
       at_spent (busy ph d l) (busy_goes ph l c d used r.runs) r.within same
@@ -247,16 +250,20 @@ module _ (w : Program) where
       called_last ph s f args th l r.func (r.cost + suc r.k) used (r.cost + suc r.k) (λ k. returns k vs s') [] es t r.there
       (record { at = r.last; cost = r.cost; k = r.k; runs = r.runs; next_is = r.returns_then; used_is = refl; within = omega arith }) r.used_is (λ k more. mv k more)
 
-  pub export_trapped : (ph : Phase) (s : Store) (f : ℕ) (args : List Value) (th : Then) (l : Left) (g : Func) (left used more : ℕ) (t : Trap) (s' : Store) → defined_at p f ≡ Some g → suc (length args) ≤ left
-      → used ≡ suc (length args) + more → EndsAs p (entered s [] args f g) (left - suc (length args)) more (it_trapped t s') → EndsAt w (calling ph s f args th l) left used (trap_end w.plan.area ph t s') s'
+  pub export_trapped : (ph : Phase) (s : Store) (f : ℕ) (args : List Value) (th : Then) (l : Left) (g : Func) (left used more : ℕ) (t : Trap) (s' : Store) → defined_at p f ≡ Some g
+      → suc (length args) ≤ left
+      → used ≡ suc (length args) + more → EndsAs p (entered s [] args f g) (left - suc (length args)) more (it_trapped t s')
+      → EndsAt w (calling ph s f args th l) left used (trap_end w.plan.area ph t s') s'
   export_trapped ph s f args th l g left used more t s' there enough e h =
       let r = traps_by p (entered s [] args f g) (left - suc (length args)) more t s' h in
       at_over
       (called_last ph s f args th l g (left - suc (length args)) used more (λ k. traps k t s') [] (note (ended (trap_end w.plan.area ph t s')) s' ∷ []) (over s') there r e (λ k more. refl))
       (omega (arith, r.within))
 
-  pub export_asked : (ph : Phase) (s : Store) (f : ℕ) (args : List Value) (th : Then) (l : Left) (g : Func) (left used more i : ℕ) (brgs : List Value) (d : Configuration) (s' : Store) → defined_at p f ≡ Some g → suc (length args) ≤ left
-      → used ≡ suc (length args) + more → d.store ≡ s' → EndsAs p (entered s [] args f g) (left - suc (length args)) more (it_asks i brgs d) → EndsAt w (calling ph s f args th l) left used (E.Broken 6) s'
+  pub export_asked : (ph : Phase) (s : Store) (f : ℕ) (args : List Value) (th : Then) (l : Left) (g : Func) (left used more i : ℕ) (brgs : List Value) (d : Configuration) (s' : Store)
+      → defined_at p f ≡ Some g → suc (length args) ≤ left
+      → used ≡ suc (length args) + more → d.store ≡ s' → EndsAs p (entered s [] args f g) (left - suc (length args)) more (it_asks i brgs d)
+      → EndsAt w (calling ph s f args th l) left used (E.Broken 6) s'
   export_asked ph s f args th l g left used more i brgs d s' there enough e same h =
       let r = asks_by p (entered s [] args f g) (left - suc (length args)) more i brgs d h in
       subst (λ z. EndsAt w (calling ph s f args th l) left used (E.Broken 6) z) same
@@ -264,8 +271,10 @@ module _ (w : Program) where
       (called_last ph s f args th l g (left - suc (length args)) used more (λ k. asks k i brgs d) [] (note (ended (E.Broken 6)) d.store ∷ []) (over d.store) there r e (λ k more. refl))
       (omega (arith, r.within)))
 
-  pub export_spent : (ph : Phase) (s : Store) (f : ℕ) (args : List Value) (th : Then) (l : Left) (g : Func) (left used more : ℕ) (d : Configuration) (s' : Store) → defined_at p f ≡ Some g → suc (length args) ≤ left
-      → used ≡ suc (length args) + more → d.store ≡ s' → EndsAs p (entered s [] args f g) (left - suc (length args)) more (it_spent d) → EndsAt w (calling ph s f args th l) left used (E.StepsSpent w.steps) s'
+  pub export_spent : (ph : Phase) (s : Store) (f : ℕ) (args : List Value) (th : Then) (l : Left) (g : Func) (left used more : ℕ) (d : Configuration) (s' : Store) → defined_at p f ≡ Some g
+      → suc (length args) ≤ left
+      → used ≡ suc (length args) + more → d.store ≡ s' → EndsAs p (entered s [] args f g) (left - suc (length args)) more (it_spent d)
+      → EndsAt w (calling ph s f args th l) left used (E.StepsSpent w.steps) s'
   export_spent ph s f args th l g left used more d s' there enough e same h =
       let r = spent_by p (entered s [] args f g) (left - suc (length args)) more d h in
       let within : used ≤ left = omega (arith, r.within) in
@@ -276,7 +285,8 @@ module _ (w : Program) where
       within same
       (record { goes_on = refl; dearer = λ os. aside_dear (left - used) ph th (with_outcomes l os) (step p d) (subst (λ n. CostsAbove (step p d) n) short r.dearer) }) refl
 
-  pub export_dear : (ph : Phase) (s : Store) (f : ℕ) (args : List Value) (th : Then) (l : Left) (left used : ℕ) (s' : Store) → left ≤ length args → used ≡ 0 → s' ≡ s → EndsAt w (calling ph s f args th l) left used (E.StepsSpent w.steps) s'
+  pub export_dear : (ph : Phase) (s : Store) (f : ℕ) (args : List Value) (th : Then) (l : Left) (left used : ℕ) (s' : Store) → left ≤ length args → used ≡ 0 → s' ≡ s
+      → EndsAt w (calling ph s f args th l) left used (E.StepsSpent w.steps) s'
   export_dear ph s f args th l left used s' dear e same =
       let short : left - 0 ≡ left = omega arith in
       subst (λ n. EndsAt w (calling ph s f args th l) left n (E.StepsSpent w.steps) s') (sym e)

@@ -80,6 +80,7 @@ abbrev pub ComesFrom : Program → Place → (left used : ℕ) → Moved → (su
 ComesFrom w from left used m supply supply' l s waits =
     Moves w from left supply m.event s used supply' (place_in (exports_of w.source) w.plan.area l s waits m.stage)
 
+-- The same from a state of the machine.
 abbrev pub Comes : Program → Held → (left used : ℕ) → Moved → (supply supply' : Supply) → B.Left → Store → Waits → Type 0
 Comes w h left used m supply supply' l s waits = ComesFrom w (stands [] h) left used m supply supply' l s waits
 
@@ -88,7 +89,8 @@ Comes w h left used m supply supply' l s waits = ComesFrom w (stands [] h) left 
 -- the program ends here, with nothing before, over this store
 pub data EndsAt (w : Program) (h : Held) (left used : ℕ) (how : End) (s : Store) : Type 0 where
   at_over : Stretch w.source w.plan h [] (note (ended how) s ∷ []) used (over s) → used ≤ left → EndsAt w h left used how s
-  at_spent : (h' : Held) → Stretch w.source w.plan h [] [] used h' → used ≤ left → store_held h' ≡ s → IsSpent w.source w.plan (left - used) h' → how ≡ E.StepsSpent w.steps → EndsAt w h left used how s
+  at_spent : (h' : Held) → Stretch w.source w.plan h [] [] used h' → used ≤ left → store_held h' ≡ s → IsSpent w.source w.plan (left - used) h' → how ≡ E.StepsSpent w.steps
+      → EndsAt w h left used how s
 
 -- a function called on a fresh stack returned these values
 pub record Returns (p : Module) (s : Store) (x : ℕ) (args : List Value) (left used : ℕ) (values : List Value) (s' : Store) : Type 0 where
@@ -135,5 +137,6 @@ IsTask T.Outermost t = ⊥
 -- What the host called for a task has run from where the machine stands, and this turn came of it; or its call costs more than is
 -- left.
 pub data TaskTurn (w : Program) (h : Held) (l : B.Left) (t : B.Task) (left used : ℕ) (turn : Turn) (s : Store) (waits : Waits) : Type 0 where
-  runs_on : (c : Configuration) (u more : ℕ) → Stretch w.source w.plan h [] [] u (busy (is_running t) c l) → u ≤ left → used ≡ u + more → I.Turns w.source c (left - u) more turn s waits → TaskTurn w h l t left used turn s waits
+  runs_on : (c : Configuration) (u more : ℕ) → Stretch w.source w.plan h [] [] u (busy (is_running t) c l) → u ≤ left → used ≡ u + more → I.Turns w.source c (left - u) more turn s waits
+      → TaskTurn w h l t left used turn s waits
   too_dear : turn ≡ StepsSpent → EndsAt w h left used (E.StepsSpent w.steps) s → TaskTurn w h l t left used turn s waits

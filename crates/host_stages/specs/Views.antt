@@ -32,9 +32,11 @@ use Rattle.host_stages.specs.declared.stages.Task.TheVariants as T
 use Rattle.host_stages.specs.declared.stages.Stage.{Stage}
 use Rattle.host_stages.specs.declared.stages.Stage.TheVariants.{Free, Answering, Giving, Pausing, Paused, Ending, Ended}
 
+-- the five exports
 abbrev pub exports_in : Exports → P.Exports
 exports_in x = record { start_unwind = x.start_unwind; stop_unwind = x.stop_unwind; start_rewind = x.start_rewind; stop_rewind = x.stop_rewind; get_state = x.get_state }
 
+-- an entry
 abbrev pub entry_of : EntryCall → Entry
 entry_of e = record { func = e.func; args = e.args.items }
 
@@ -52,9 +54,11 @@ supply_in seen faults answers devices = record { lines = lines_in answers; devic
 
 -- ---- phases of a pause
 
+-- the phase in which a pause unwinds
 abbrev pub unwinding : Pause → Phase
 unwinding pause = unwinds (entry_of pause.entry) pause.import (answer_of pause.answer)
 
+-- the phase in which it rewinds, since this store
 abbrev pub rewinding : Pause → (since : Store) → Phase
 rewinding pause since = rewinds (entry_of pause.entry) pause.import (answer_of pause.answer) since
 
@@ -108,6 +112,7 @@ end_of _ = None
 
 -- ---- the stage behind an answer that was told
 
+-- the stage once the answer was told: an import that is the start function waits for nothing
 abbrev pub stage_told : Task → Option Value → Stage
 stage_told T.Outermost value = Free
 stage_told T.Start value = Giving T.Start value
@@ -120,6 +125,7 @@ abbrev pub starts : Task → Bool
 starts (T.Entry e) = false
 starts _ = true
 
+-- the stage behind an answer that passes its tests, by its ticks
 abbrev pub stage_passed : (ticks : ℕ) → Task → (import : ℕ) → AnswerValue → Stage
 stage_passed zero task import a = Answering task a
 stage_passed (suc ticks) (T.Entry e) import a = Pausing (record { entry = e; import = import; answer = a })

@@ -1,3 +1,5 @@
+//! The end of a program, told as an event.
+
 ghost use Rattle.std.specs.Prelude.{◌≡◌, IfOk};
 
 use crate::stages::{Moved, Stage};

@@ -1,3 +1,5 @@
+//! Calls of the five exports through which a host unwinds and rewinds a stack.
+
 ghost use Rattle.std.specs.Prelude.{◌≡◌, ◌<◌, ◌≤◌, ◌+◌, ◌-◌, ◌^◌, IfOk};
 ghost use Rattle.std.specs.Option.{option_to_list};
 ghost use Rattle.wa_model.specs.Fitting.{StoreFits, types_of};
@@ -38,7 +40,8 @@ pub fn call_export(
     args: &[Value],
 ) -> Result<Exported, AllocError>
     requires { steps.old.left + steps.old.used < 2 ^ 64 }
-    ensures exports { (w : Program) → IsSetting w setting.now → code_in instance.old ≡ w.source → StoreFits w.source (store_in instance.old) → Callable w.source func (types_of args.now) → IfOk result (λ r. Exports w work (store_in instance.old) func args.now steps.old.left (steps.new.used - steps.old.used) r (store_in instance.new)) }
+    ensures exports { (w : Program) → IsSetting w setting.now → code_in instance.old ≡ w.source → StoreFits w.source (store_in instance.old) → Callable w.source func (types_of args.now)
+        → IfOk result (λ r. Exports w work (store_in instance.old) func args.now steps.old.left (steps.new.used - steps.old.used) r (store_in instance.new)) }
     ensures waits { waits_in instance.new ≡ waits_in instance.old }
     ensures code { code_in instance.new ≡ code_in instance.old }
     ensures sum { steps.new.left + steps.new.used ≡ steps.old.left + steps.old.used }

@@ -1,3 +1,5 @@
+//! What a host writes into a program's memory: the words of the area, and the pokes of an answer.
+
 ghost use Rattle.std.specs.Prelude.{◌≡◌, IfOk, OnOk, map};
 ghost use Rattle.wa_types.specs.Memory.{overwritten};
 ghost use Rattle.wa_model.specs.Store.{with_memory};

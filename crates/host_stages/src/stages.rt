@@ -1,3 +1,5 @@
+//! Where a program with an instance stands between two events, and what stays of it on its way.
+
 use std::alloc::Global;
 use std::collections::VecDeque;
 use wa_model::{Answer, Area, End, Event};

@@ -1,12 +1,14 @@
 -- The story of a program alone is a run of the protocol world.
-use Rattle.std.proofs.Common.{◌≡◌, ◌<◌, ◌≤◌, ℕ, zero, suc, ◌+◌, ◌++◌, List, [], ◌∷◌, length, map, Bool, true, false, cond, Option, Some, None, ◌⊎◌, inr, refl, sym, ap, ◌∙◌, subst, append_assoc, append-nil, add-zero, arith}
+use Rattle.std.proofs.Common.{◌≡◌, ◌<◌, ◌≤◌, ℕ, zero, suc, ◌+◌, ◌++◌, List, [], ◌∷◌, length, map, Bool, true, false, cond, Option, Some, None, ◌⊎◌, inr, refl, sym, ap, ◌∙◌, subst}
+use Rattle.std.proofs.Common.{append_assoc, append-nil, add-zero, arith}
 use Rattle.std.specs.Prelude.{slice_get}
 use Rattle.std.proofs.lemmas.List.{map-append}
 use Rattle.std.proofs.lemmas.List.Elements.{All-nil, All-cons}
 use Rattle.wa_model.specs.Outside.{Call, AnswerLine, Event, called, answered, paused, returned, ended, shown}
 use Rattle.wa_model.specs.Plan.{Outcome}
 use Rattle.wa_model.specs.Blocking.{Note}
-use Rattle.wa_model.specs.World.{Program, Device, Actor, ends_turn, turn_of, behind_turn, call_in, NoteMeets, CallsMeet, ticks_in, put_off, line_at, looks_after, events_with_looks, turn_lines, HasNotes, IsNext, Plays, Events, no_event, an_event}
+use Rattle.wa_model.specs.World.{Program, Device, Actor, ends_turn, turn_of, behind_turn, call_in, NoteMeets, CallsMeet, ticks_in, put_off, line_at, looks_after, events_with_looks}
+use Rattle.wa_model.specs.World.{turn_lines, HasNotes, IsNext, Plays, Events, no_event, an_event}
 use Rattle.host_turns.specs.Stories.{lines_from}
 use Rattle.host_turns.specs.Laws.{StoryIsWorld}
 
@@ -41,7 +43,8 @@ module _ (w : Program) where
 
       later : (c : Option Call) → ((o : List Outcome) (l : List AnswerLine) (d : List Device) → CallsMeet w xs o l d os' lines' ds' → Split w xs o l d os' lines' ds')
           → NoteMeets w c os lines ds (λ o l d. CallsMeet w xs o l d os' lines' ds')
-          → (o1 : List Outcome) × (l1 : List AnswerLine) × (d1 : List Device) × NoteMeets w c os lines ds (λ o l d. CallsMeet w (turn_of xs) o l d o1 l1 d1) × CallsMeet w (behind_turn xs) o1 l1 d1 os' lines' ds'
+          → (o1 : List Outcome) × (l1 : List AnswerLine) × (d1 : List Device) × NoteMeets w c os lines ds (λ o l d. CallsMeet w (turn_of xs) o l d o1 l1 d1)
+          × CallsMeet w (behind_turn xs) o1 l1 d1 os' lines' ds'
       later None ih g = let s : Split w xs os lines ds os' lines' ds' = ih os lines ds g in (s.outcomes, s.answers, s.devices, s.first, s.rest)
       later (Some c) ih g = let s : Split w xs g.1 g.2 g.3 os' lines' ds' = ih g.1 g.2 g.3 g.6 in (s.outcomes, s.answers, s.devices, (g.0, g.1, g.2, g.3, g.4, g.5, s.first), s.rest)
 
@@ -87,7 +90,8 @@ module _ (w : Program) where
           ∙ ap (λ ls. map (line_at due 0) here ++ ls) ih
           ∙ sym (append_assoc (map (line_at due 0) here) (map (line_at due 0) (events_with_looks w.looks (turn_of xs))) (lines_from w (due + put_off (turn_of xs)) (behind_turn xs)))
           ∙ ap (λ ls. ls ++ lines_from w (due + put_off (turn_of xs)) (behind_turn xs)) (sym (map-append (line_at due 0) here (events_with_looks w.looks (turn_of xs))))
-          ∙ ap (λ n. map (line_at due 0) (here ++ events_with_looks w.looks (turn_of xs)) ++ lines_from w n (behind_turn xs)) (put_off_is (ticks_in x.event) (put_off (turn_of xs)) (no_ticks x.event e)))
+          ∙ ap (λ n. map (line_at due 0) (here ++ events_with_looks w.looks (turn_of xs)) ++ lines_from w n (behind_turn xs))
+          (put_off_is (ticks_in x.event) (put_off (turn_of xs)) (no_ticks x.event e)))
         where
           put_off_is : (a b : ℕ) → a ≡ 0 → due + b ≡ due + (a + b)
           put_off_is a b z = omega arith
@@ -122,7 +126,13 @@ module _ (w : Program) where
   played : (fuel number due : ℕ) (notes : List Note) (os : List Outcome) (lines lines' : List AnswerLine) (ds ds' : List Device) → length notes ≤ fuel
       → CallsMeet w notes os lines ds [] lines' ds' → Played number due notes os lines ds ds'
   played fuel number due [] os lines lines' ds ds' le h =
-      record { last = record { due = due; notes = []; outcomes = os; answers = lines }; over = refl; events = subst (λ d. Events (w ∷ []) [] number (record { due = due; notes = []; outcomes = os; answers = lines } ∷ []) ds [] (record { due = due; notes = []; outcomes = os; answers = lines } ∷ []) d) (sym h.2) no_event }
+      record {
+        last = record { due = due; notes = []; outcomes = os; answers = lines };
+        over = refl;
+        events =
+            subst (λ d. Events (w ∷ []) [] number (record { due = due; notes = []; outcomes = os; answers = lines } ∷ []) ds []
+            (record { due = due; notes = []; outcomes = os; answers = lines } ∷ []) d) (sym h.2) no_event;
+      }
   played zero number due (x ∷ xs) os lines lines' ds ds' le h = let z : ⊥ = omega arith in absurd z
   played (suc fuel) number due (x ∷ xs) os lines lines' ds ds' le h =
       let notes : List Note = x ∷ xs in
@@ -130,7 +140,13 @@ module _ (w : Program) where
       let s : Split w notes os lines ds [] lines' ds' = split notes os lines ds [] lines' ds' h in
       let more : Played (suc number) (due + put_off (turn_of notes)) (behind_turn notes) s.outcomes s.answers s.devices ds' =
       played fuel (suc number) (due + put_off (turn_of notes)) (behind_turn notes) s.outcomes s.answers lines' s.devices ds' (behind_shorter x xs fuel le) s.rest in
-      let plays : Plays (w ∷ []) [] number (a ∷ []) ds (turn_lines 0 w a) (record { due = due + put_off (turn_of notes); notes = behind_turn notes; outcomes = s.outcomes; answers = s.answers } ∷ []) s.devices =
+      let plays : Plays (w ∷ []) [] number (a ∷ []) ds (turn_lines 0 w a) (record {
+        due = due
+            + put_off (turn_of notes);
+        notes = behind_turn notes;
+        outcomes = s.outcomes;
+        answers = s.answers;
+      } ∷ []) s.devices =
       record {
         i = 0;
         a = a;

@@ -45,7 +45,8 @@ one_more_met w notes os met lines ds x old new chain takes =
 
 -- ---- without devices
 
-none_left : (m : Module) (import : ℕ) (args : List Value) (bound : Option (List ℕ)) (lines lines' : List AnswerLine) (o : Outcome) (ds : List Device) → MeetsBound m import args bound lines [] o lines' ds → ds ≡ []
+none_left : (m : Module) (import : ℕ) (args : List Value) (bound : Option (List ℕ)) (lines lines' : List AnswerLine) (o : Outcome) (ds : List Device)
+    → MeetsBound m import args bound lines [] o lines' ds → ds ≡ []
 none_left m import args (Some name) lines lines' o ds h = h.0.1
 none_left m import args None lines lines' o ds h = h.1
 

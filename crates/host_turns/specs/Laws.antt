@@ -46,9 +46,11 @@ OneMoreMet =
 
 -- ---- a program alone, without devices
 
+-- At its start a program has told nothing.
 abbrev pub NothingToldAlone : Type 0
 NothingToldAlone = (w : Program) → Told w [] w.steps w.answers (stands (opened w.source w.plan).events (opened w.source w.plan).last)
 
+-- With one note more it has told that, too, and there are no devices still.
 abbrev pub OneMoreAlone : Type 0
 OneMoreAlone =
     (w : Program) (notes : List Note) (left : ℕ) (place : Place) (old : Supply) (x : Note) (used : ℕ) (new : Supply) (place' : Place)

@@ -21,11 +21,14 @@ pub data Place : Type 0 where
 -- How the note x comes next, where those of `ready` were made before and `left` can be paid with, and where the program then is.
 pub data Lands (p : Module) (plan : Plan) (steps : ℕ) (ready : List Note) (h : Held) (os : List Outcome) (left : ℕ) (x : Note) (used : ℕ) (to : Place) : Type 0 where
   -- it was ready, or is the first that the run makes when it goes on; the others are ready behind it
-  goes_on : (made behind : List Note) (h' : Held) → Stretch p plan h os made used h' → ready ++ made ≡ x ∷ behind → is_end x.event ≡ false → to ≡ stands behind h' → Lands p plan steps ready h os left x used to
+  goes_on : (made behind : List Note) (h' : Held) → Stretch p plan h os made used h' → ready ++ made ≡ x ∷ behind → is_end x.event ≡ false → to ≡ stands behind h'
+      → Lands p plan steps ready h os left x used to
   -- it is the program's end
-  ends : (how : End) (made : List Note) (s : Store) → Stretch p plan h os made used (over s) → ready ++ made ≡ x ∷ [] → x.event ≡ ended how → to ≡ has_ended how → Lands p plan steps ready h os left x used to
+  ends : (how : End) (made : List Note) (s : Store) → Stretch p plan h os made used (over s) → ready ++ made ≡ x ∷ [] → x.event ≡ ended how → to ≡ has_ended how
+      → Lands p plan steps ready h os left x used to
   -- no note comes before a move that costs more than is left, of the program's number of steps
-  spends : (h' : Held) → Stretch p plan h os [] used h' → ready ≡ [] → IsSpent p plan (left - used) h' → x ≡ note (ended (StepsSpent steps)) (store_held h') → to ≡ has_ended (StepsSpent steps) → Lands p plan steps ready h os left x used to
+  spends : (h' : Held) → Stretch p plan h os [] used h' → ready ≡ [] → IsSpent p plan (left - used) h' → x ≡ note (ended (StepsSpent steps)) (store_held h')
+      → to ≡ has_ended (StepsSpent steps) → Lands p plan steps ready h os left x used to
 
 -- The note x is told next: it takes what it takes of what answers calls, and pays no more than is left.
 pub record Tells (w : Program) (ready : List Note) (h : Held) (left : ℕ) (old : Supply) (x : Note) (used : ℕ) (new : Supply) (to : Place) : Type 0 where

@@ -21,6 +21,7 @@ meeting os (over s) = over s
 abbrev pub Stretch : Module → Plan → Held → List Outcome → List Note → ℕ → Held → Type 0
 Stretch p plan h os notes cost h' = (more : List Outcome) → Leads (protocol p (exports_of p) plan) (meeting (os ++ more) h) cost notes (meeting more h')
 
+-- all is over
 abbrev pub is_over : Held → Bool
 is_over (over s) = true
 is_over _ = false

@@ -3,5 +3,6 @@ use Rattle.std.specs.Prelude.{ℕ}
 use Rattle.wa_types.specs.Accesses.{AccessRow}
 use Rattle.instr_tables.specs.declared.access.Access.{Access}
 
+-- the row of an opcode
 abbrev pub row_of : ℕ → Access → AccessRow
 row_of op a = record { opcode = op; ty = a.ty; natural = a.natural; signed = a.signed }

@@ -1,3 +1,5 @@
+//! The tables of loads and stores, a row for each opcode (standard, sections 2.4.4 and 5.4.4).
+
 ghost use Rattle.std.specs.Prelude.{◌≡◌, ◌<◌, ◌^◌};
 ghost use Rattle.std.specs.Option.{option_map};
 ghost use Rattle.wa_types.specs.Accesses.{load_row, store_row};

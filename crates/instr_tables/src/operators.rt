@@ -1,3 +1,5 @@
+//! The types of a numeric operator's operands and of its result (standard, section 3.3.1).
+
 ghost use Rattle.std.specs.Prelude.{◌≡◌, [], ◌∷◌, reverse};
 ghost use Rattle.wa_types.specs.declared.values.ValType.TheVariants.{I32};
 ghost use Rattle.wa_types.specs.Operators.{operand_types, result_type};

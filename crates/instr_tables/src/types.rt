@@ -1,3 +1,5 @@
+//! Equal value types, and the type of a value (standard, sections 2.3.1 and 4.2.1).
+
 ghost use Rattle.std.specs.Prelude.{◌≡◌};
 ghost use Rattle.wa_types.specs.Encoding.{same_type};
 ghost use Rattle.wa_types.specs.Typing.{type_of};

@@ -19,7 +19,8 @@ use Rattle.interp.proofs.FittingTurns.{answered_fits}
 use Rattle.interp_reduce.proofs.OperandLemmas.{answered_with, answered_without}
 use Rattle.interp_reduce.proofs.RoomKept.{operands_within}
 
-pub answer_lacked : (m : Module) (outs : List ValType) (s : Store) (k : Stack) (taken : ℕ) (value : Option Value) → vec_capacity k.here.operands < length (option_to_list value ++ drop taken (reverse k.here.operands.items))
+pub answer_lacked : (m : Module) (outs : List ValType) (s : Store) (k : Stack) (taken : ℕ) (value : Option Value)
+    → vec_capacity k.here.operands < length (option_to_list value ++ drop taken (reverse k.here.operands.items))
     → StoreFits m s → Awaits m outs (types_of (option_to_list value)) (waits_of (WV.Inside k taken)) → StackRoom m k → ⊥
 answer_lacked m outs s k taken value lack ok a h =
     let ops = option_to_list value ++ drop taken (reverse k.here.operands.items) in
@@ -28,7 +29,8 @@ answer_lacked m outs s k taken value lack ok a h =
     omega arith
 
 -- where it goes on from its answer and lacks memory, the answer did
-pub answered_lacks : (m : Module) (s : Store) (k : Stack) (taken : ℕ) (value : Option Value) (ops : List Value) (used : ℕ) (s' : Store) → ops ≡ option_to_list value ++ drop taken (reverse k.here.operands.items)
+pub answered_lacks : (m : Module) (s : Store) (k : Stack) (taken : ℕ) (value : Option Value) (ops : List Value) (used : ℕ) (s' : Store)
+    → ops ≡ option_to_list value ++ drop taken (reverse k.here.operands.items)
     → LacksAt m (running s k.here.func (map waiting_of (reverse k.under.items)) k.here.locals.items ops (code k.here.code.now) (map label_of (reverse k.here.labels.items))) used s'
     → ResumeLacks m s (waits_of (WV.Inside k taken)) value used s'
 answered_lacks m s k taken value ops used s' e l =

@@ -4,11 +4,13 @@ use Rattle.std.specs.Prelude.{nat_lt, if◌then◌else◌, slice_get, slice_set,
 use Rattle.wa_types.specs.declared.values.Value.{Value}
 use Rattle.wa_types.specs.declared.values.Value.TheVariants as V
 use Rattle.wa_types.specs.declared.values.Trap.TheVariants.{StackExhausted, TypeMismatch}
-use Rattle.wa_types.specs.Syntax.{basic, local_get, local_set, local_tee, br, br_if, br_table, return, unreachable, call, call_indirect, a_block, a_loop, Plain, Code, done, plain, nest, branch, Func, Module}
+use Rattle.wa_types.specs.Syntax.{basic, local_get, local_set, local_tee, br, br_if, br_table, return, unreachable, call, call_indirect, a_block, a_loop, Plain, Code, done, plain, nest}
+use Rattle.wa_types.specs.Syntax.{branch, Func, Module}
 use Rattle.wa_types.specs.Modules.{func_imports, func_type_at, type_at, defined_at}
 use Rattle.wa_model.specs.Store.{Store, Did, works, fails, lacks, takes, act}
 use Rattle.wa_model.specs.Configuration.{Label, block_label, loop_label, Activation, Configuration, running, waiting}
-use Rattle.wa_model.specs.Step.{Next, steps, asks, returns, traps, stuck, result_count, leave, jump, finish, did, with_top, with_number, choose, entered, invoke, param_count, same_func_type, through, memory_max, step_plain, step_at, step}
+use Rattle.wa_model.specs.Step.{Next, steps, asks, returns, traps, stuck, result_count, leave, jump, finish, did, with_top, with_number, choose, entered, invoke, param_count, same_func_type}
+use Rattle.wa_model.specs.Step.{through, memory_max, step_plain, step_at, step}
 use Rattle.wa_model.specs.Alone.{Finish, it_asks, FinishesAt, EndsAs, by_finish, by_steps}
 use Rattle.interp_reduce.specs.StackRooms.{TakesMemory, paid_for}
 use Rattle.interp.specs.Runs.{LacksAt}
@@ -59,15 +61,18 @@ module _ (m : Module) (s : Store) (fn : ℕ) (under : List Activation) (ls : Lis
 
   invoke_asks : TakesMemory c → (own ops : List Value) (rest : Code) (labels : List Label) (params x : ℕ) (o : Option Func) → AsksFrom s c (invoke m s fn under ls own ops rest labels params x o)
   invoke_asks h own ops rest labels params x (Some f) =
-      if_asks (nat_lt (length under + 1) 4096) (steps params (entered s (waiting fn ls (drop params ops) (own ++ take params ops) rest labels ∷ under) (reverse (take params ops)) x f)) (traps params StackExhausted s) tt tt
+      if_asks (nat_lt (length under + 1) 4096) (steps params (entered s (waiting fn ls (drop params ops) (own ++ take params ops) rest labels ∷ under) (reverse (take params ops)) x f))
+      (traps params StackExhausted s) tt tt
   invoke_asks h own ops rest labels params x None =
-      if_asks (nat_lt x (func_imports m)) (asks params x (reverse (take params ops)) (record { store = s; here = waiting fn ls (drop params ops) (own ++ take params ops) rest labels; under = under })) stuck (h, refl) tt
+      if_asks (nat_lt x (func_imports m))
+      (asks params x (reverse (take params ops)) (record { store = s; here = waiting fn ls (drop params ops) (own ++ take params ops) rest labels; under = under })) stuck (h, refl) tt
 
   through_asks : TakesMemory c → (own ops : List Value) (rest : Code) (labels : List Label) (sort : ℕ) (o : Option (Option ℕ)) → AsksFrom s c (through m s fn under ls own ops rest labels sort o)
   through_asks h own ops rest labels sort None = tt
   through_asks h own ops rest labels sort (Some None) = tt
   through_asks h own ops rest labels sort (Some (Some x)) =
-      if_asks (same_func_type (func_type_at m x) (type_at m sort)) (invoke m s fn under ls own ops rest labels (param_count (type_at m sort)) x (defined_at m x)) (traps (param_count (type_at m sort)) TypeMismatch s)
+      if_asks (same_func_type (func_type_at m x) (type_at m sort)) (invoke m s fn under ls own ops rest labels (param_count (type_at m sort)) x (defined_at m x))
+      (traps (param_count (type_at m sort)) TypeMismatch s)
       (invoke_asks h own ops rest labels (param_count (type_at m sort)) x (defined_at m x)) tt
 
 module _ (m : Module) (s : Store) (fn : ℕ) (under : List Activation) (ls ops : List Value) (labels : List Label) where
@@ -79,7 +84,8 @@ module _ (m : Module) (s : Store) (fn : ℕ) (under : List Activation) (ls ops :
   plain_asks (br l) rest = jump_asks m s fn under ls (plain (br l) rest) 0 ops labels l
   plain_asks (br_if l) rest =
       number_asks m s fn under ls (plain (br_if l) rest) ops (λ n below. choose n (jump 0 m s fn under ls below labels l) (steps 0 (running s fn under ls below rest labels)))
-      (λ n below. choose_asks m s fn under ls (plain (br_if l) rest) n (jump 0 m s fn under ls below labels l) (steps 0 (running s fn under ls below rest labels)) (jump_asks m s fn under ls (plain (br_if l) rest) 0 below labels l) tt)
+      (λ n below. choose_asks m s fn under ls (plain (br_if l) rest) n (jump 0 m s fn under ls below labels l) (steps 0 (running s fn under ls below rest labels))
+      (jump_asks m s fn under ls (plain (br_if l) rest) 0 below labels l) tt)
   plain_asks (br_table targets last) rest =
       number_asks m s fn under ls (plain (br_table targets last) rest) ops (λ n below. jump (length targets + 1) m s fn under ls below labels (unwrap_or (slice_get targets n) last))
       (λ n below. jump_asks m s fn under ls (plain (br_table targets last) rest) (length targets + 1) below labels (unwrap_or (slice_get targets n) last))

@@ -33,7 +33,8 @@ module _ (m : Module) (v : Valid m) (outs : List ValType) where
   turns_fit c left used StepsSpent s w ok t =
       let e = ends_fit m v outs c left used (it_spent t.0.at) ok t.0.ends in (subst (StoreFits m) t.0.store_is e.store, tt)
 
-  asks_fit : (x : ℕ) (args : List Value) (turn : Turn) (s : Store) → results_of m x ≡ outs → x < func_imports m → types_of args ≡ (func_type_at m x).params → StoreFits m s → IsCall turn x args → FitsAgain m outs turn s outermost
+  asks_fit : (x : ℕ) (args : List Value) (turn : Turn) (s : Store) → results_of m x ≡ outs → x < func_imports m → types_of args ≡ (func_type_at m x).params → StoreFits m s
+      → IsCall turn x args → FitsAgain m outs turn s outermost
   asks_fit x args (Returned value) s eo lt et ok h = absurd h
   asks_fit x args (Trapped trap) s eo lt et ok h = absurd h
   asks_fit x args (Waiting call) s eo lt et ok h =
@@ -59,7 +60,8 @@ pub answered_fits : (m : Module) (outs : List ValType) (s : Store) (k : Stack) (
     → StoreFits m s → Awaits m outs (types_of (option_to_list value)) (waits_of (WV.Inside k taken)) → ops ≡ option_to_list value ++ drop taken (reverse k.here.operands.items)
     → Fits m outs (running s k.here.func (map waiting_of (reverse k.under.items)) k.here.locals.items ops (code k.here.code.now) (map label_of (reverse k.here.labels.items)))
 answered_fits m outs s k taken value ops ok a e =
-    let here = waiting k.here.func k.here.locals.items (drop taken (reverse k.here.operands.items)) (take taken (reverse k.here.operands.items)) (code k.here.code.now) (map label_of (reverse k.here.labels.items)) in
+    let here = waiting k.here.func k.here.locals.items (drop taken (reverse k.here.operands.items)) (take taken (reverse k.here.operands.items)) (code k.here.code.now)
+    (map label_of (reverse k.here.labels.items)) in
     let c : Configuration = record { store = s; here = here; under = map waiting_of (reverse k.under.items) } in
     subst (λ o. Fits m outs (running s k.here.func (map waiting_of (reverse k.under.items)) k.here.locals.items o (code k.here.code.now) (map label_of (reverse k.here.labels.items)))) (sym e)
     (answers_fit m outs c s (option_to_list value) ok a)
@@ -70,7 +72,8 @@ pub answered_turns : (m : Module) (s : Store) (k : Stack) (taken : ℕ) (value :
     → Turns m (running s k.here.func (map waiting_of (reverse k.under.items)) k.here.locals.items ops (code k.here.code.now) (map label_of (reverse k.here.labels.items))) left used turn s' w'
     → Resumes m s (waits_of (WV.Inside k taken)) value left used turn s' w'
 answered_turns m s k taken value ops left used turn s' w' e t =
-    subst (λ o. Turns m (running s k.here.func (map waiting_of (reverse k.under.items)) k.here.locals.items o (code k.here.code.now) (map label_of (reverse k.here.labels.items))) left used turn s' w') e t
+    subst (λ o. Turns m (running s k.here.func (map waiting_of (reverse k.under.items)) k.here.locals.items o (code k.here.code.now) (map label_of (reverse k.here.labels.items))) left used
+    turn s' w') e t
 
 -- bytes that are written leave a store fitting
 pub pokes_fit : (m : Module) (s : Store) (at : ℕ) (bytes : List ℕ) (done : Bool) (s' : Store) → Pokes m s at bytes done s' → StoreFits m s → StoreFits m s'

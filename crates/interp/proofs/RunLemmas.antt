@@ -36,7 +36,8 @@ module _ (m : Module) (c : Configuration) where
       subst (λ k. Goes m c k e) (sym en) (leads_on Configuration Note (alone (λ x. true) m) c d e n (more + 1) [] [] g last)
 
   -- it stops where what comes next is no reduction
-  pub ends_by : (left n more used : ℕ) (d : Configuration) (next : Next) (end : Finish) → Goes m c n d → step m d ≡ next → FinishesAt next (more + 1) end → used ≡ n + (more + 1) → used ≤ left → EndsAs m c left used end
+  pub ends_by : (left n more used : ℕ) (d : Configuration) (next : Next) (end : Finish) → Goes m c n d → step m d ≡ next → FinishesAt next (more + 1) end → used ≡ n + (more + 1)
+      → used ≤ left → EndsAs m c left used end
   ends_by left n more used d next end g en fin eu le =
       by_finish n (more + 1) d g (subst (λ x. FinishesAt x (more + 1) end) (sym en) fin) eu le
 
@@ -48,7 +49,8 @@ module _ (m : Module) (c : Configuration) where
   costs_above outs stuck more ok h = absurd ok
 
   -- or where none can be paid
-  pub ends_spent : (left used more : ℕ) (d : Configuration) → Valid m → (outs : List ValType) × Fits m outs c → Goes m c used d → left ≡ used + more → IsUnpaid (step m d) more → EndsAs m c left used (it_spent d)
+  pub ends_spent : (left used more : ℕ) (d : Configuration) → Valid m → (outs : List ValType) × Fits m outs c → Goes m c used d → left ≡ used + more → IsUnpaid (step m d) more
+      → EndsAs m c left used (it_spent d)
   ends_spent left used more d v ok g el h = by_steps more d g refl el (costs_above ok.0 (step m d) more (steps_fit m ok.0 d v (leads_fit m v ok.0 c d used [] ok.1 g)) h)
 
   -- what is returned is told by its first value

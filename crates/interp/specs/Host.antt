@@ -11,13 +11,15 @@ use Rattle.interp.specs.declared.turns.Turn.{Turn}
 use Rattle.interp_reduce.specs.View.{store_of}
 use Rattle.interp.specs.Instance.{Waits, waits_of, Calls}
 
--- its module, its store, and what waits in it
+-- its module
 abbrev pub code_in : Instance → Module
 code_in i = module_of i.program.source.now
 
+-- its store
 abbrev pub store_in : Instance → Store
 store_in i = store_of i.store
 
+-- what waits in it
 abbrev pub waits_in : Instance → Waits
 waits_in i = waits_of i.wait
 
@@ -25,10 +27,12 @@ waits_in i = waits_of i.wait
 abbrev pub memory_of : Module → Store → Option (List ℕ)
 memory_of m s = if nat_lt 0 (length (all_memories m)) then Some s.memory else None
 
+-- the bytes of a memory that is there, with some written at a place, where they lie inside
 abbrev pub poked_in : Option (List ℕ) → (at : ℕ) → (bytes : List ℕ) → Option (List ℕ)
 poked_in None at bytes = None
 poked_in (Some memory) at bytes = with_piece memory at bytes
 
+-- whether they were written, with the store behind it
 abbrev pub PokesTo : Option (List ℕ) → Store → Bool → Store → Type 0
 PokesTo (Some memory) s done s' = (done ≡ true) × (s' ≡ with_memory s memory)
 PokesTo None s done s' = (done ≡ false) × (s' ≡ s)

@@ -24,12 +24,14 @@ pub data Waits : Type 0 where
   nothing outermost : Waits
   inside : (here : Activation) → (under : List Activation) → Waits
 
+-- what waits in an instance
 abbrev pub waits_of : W.Wait → Waits
 waits_of WV.Nothing = nothing
 waits_of WV.Outermost = outermost
 waits_of (WV.Inside k taken) =
     inside
-    (waiting k.here.func k.here.locals.items (drop taken (reverse k.here.operands.items)) (take taken (reverse k.here.operands.items)) (code k.here.code.now) (map label_of (reverse k.here.labels.items)))
+    (waiting k.here.func k.here.locals.items (drop taken (reverse k.here.operands.items)) (take taken (reverse k.here.operands.items)) (code k.here.code.now)
+    (map label_of (reverse k.here.labels.items)))
     (map waiting_of (reverse k.under.items))
 
 -- the run came to stand at a configuration with this store
@@ -77,6 +79,7 @@ pub record TooDear (s : Store) (used : ℕ) (turn : Turn) (s' : Store) (w : Wait
   pub store_is : s' ≡ s
   pub waits : w ≡ nothing
 
+-- a call of a function: too dear, of a defined one, or of an import
 abbrev pub CallsAs : Module → Store → ℕ → List Value → (dear : Bool) → Option Func → (left used : ℕ) → Turn → Store → Waits → Type 0
 CallsAs m s x args true f left used turn s' w = TooDear s used turn s' w
 CallsAs m s x args false (Some f) left used turn s' w = Enters m s x args f left used turn s' w

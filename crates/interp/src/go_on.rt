@@ -1,3 +1,5 @@
+//! From reductions to turns: a stack that goes on, and a call from outside on a fresh stack.
+
 ghost use Rattle.std.specs.Prelude.{◌≡◌, ◌<◌, ◌≤◌, ◌+◌, ◌-◌, ◌^◌, List, IfOk, IfErr};
 ghost use Rattle.wa_types.specs.declared.values.ValType.{ValType};
 ghost use Rattle.wa_types.specs.Modules.{func_type_at};
@@ -28,9 +30,13 @@ pub fn go_on<'m>(
 ) -> Result<(Turn, Wait<'m>), AllocError>
     requires most { store.old.memory.max ≡ memory_max (module_of program.now.source.now) }
     requires fits { steps.old.left + steps.old.used < 2 ^ 64 }
-    ensures turns { Valid (module_of program.now.source.now) → (outs : List ValType) × Fits (module_of program.now.source.now) outs (running_of (store_of store.old) stack.entry) → IfOk result (λ t. Turns (module_of program.now.source.now) (running_of (store_of store.old) stack.entry) steps.old.left (steps.new.used - steps.old.used) t.0 (store_of store.new) (waits_of t.1)) }
+    ensures turns { Valid (module_of program.now.source.now) → (outs : List ValType) × Fits (module_of program.now.source.now) outs (running_of (store_of store.old) stack.entry)
+        → IfOk result (λ t. Turns (module_of program.now.source.now) (running_of (store_of store.old) stack.entry) steps.old.left (steps.new.used - steps.old.used) t.0 (store_of store.new)
+        (waits_of t.1)) }
     ensures holds { IfOk result (λ t. StackRoom (module_of program.now.source.now) stack.entry → WaitRoom (module_of program.now.source.now) t.1) }
-    ensures lacks { IfErr result (λ _. Valid (module_of program.now.source.now) → (outs : List ValType) × Fits (module_of program.now.source.now) outs (running_of (store_of store.old) stack.entry) → StackRoom (module_of program.now.source.now) stack.entry → LacksAt (module_of program.now.source.now) (running_of (store_of store.old) stack.entry) (steps.new.used - steps.old.used) (store_of store.new)) }
+    ensures lacks { IfErr result (λ _. Valid (module_of program.now.source.now) → (outs : List ValType)
+        × Fits (module_of program.now.source.now) outs (running_of (store_of store.old) stack.entry) → StackRoom (module_of program.now.source.now) stack.entry
+        → LacksAt (module_of program.now.source.now) (running_of (store_of store.old) stack.entry) (steps.new.used - steps.old.used) (store_of store.new)) }
     ensures sum { steps.new.left + steps.new.used ≡ steps.old.left + steps.old.used }
     ensures grows { steps.old.used ≤ steps.new.used }
     ensures max { store.new.memory.max ≡ store.old.memory.max }
@@ -62,9 +68,14 @@ pub fn call_from_outside<'m>(
 ) -> Result<(Turn, Wait<'m>), AllocError>
     requires most { store.old.memory.max ≡ memory_max (module_of program.now.source.now) }
     requires fits { steps.old.left + steps.old.used < 2 ^ 64 }
-    ensures calls { Valid (module_of program.now.source.now) → StoreFits (module_of program.now.source.now) (store_of store.old) → types_of args.now ≡ (func_type_at (module_of program.now.source.now) func).params → IfOk result (λ t. Calls (module_of program.now.source.now) (store_of store.old) func args.now steps.old.left (steps.new.used - steps.old.used) t.0 (store_of store.new) (waits_of t.1)) }
+    ensures calls { Valid (module_of program.now.source.now) → StoreFits (module_of program.now.source.now) (store_of store.old)
+        → types_of args.now ≡ (func_type_at (module_of program.now.source.now) func).params
+        → IfOk result (λ t. Calls (module_of program.now.source.now) (store_of store.old) func args.now steps.old.left (steps.new.used - steps.old.used) t.0 (store_of store.new)
+        (waits_of t.1)) }
     ensures holds { IfOk result (λ t. WaitRoom (module_of program.now.source.now) t.1) }
-    ensures lacks { IfErr result (λ _. Valid (module_of program.now.source.now) → StoreFits (module_of program.now.source.now) (store_of store.old) → types_of args.now ≡ (func_type_at (module_of program.now.source.now) func).params → CallLacks (module_of program.now.source.now) (store_of store.old) func args.now (steps.new.used - steps.old.used) (store_of store.new)) }
+    ensures lacks { IfErr result (λ _. Valid (module_of program.now.source.now) → StoreFits (module_of program.now.source.now) (store_of store.old)
+        → types_of args.now ≡ (func_type_at (module_of program.now.source.now) func).params
+        → CallLacks (module_of program.now.source.now) (store_of store.old) func args.now (steps.new.used - steps.old.used) (store_of store.new)) }
     ensures sum { steps.new.left + steps.new.used ≡ steps.old.left + steps.old.used }
     ensures grows { steps.old.used ≤ steps.new.used }
     ensures max { store.new.memory.max ≡ store.old.memory.max }

@@ -1,3 +1,5 @@
+//! Instances of valid modules: made, called, resumed, and their memory and globals shown (standard, sections 4.5.4 and 4.5.5).
+
 ghost use Rattle.std.specs.Prelude.{◌≡◌, ◌<◌, ◌≤◌, ◌+◌, ◌-◌, ◌^◌, ◌++◌, List, All, IfOk, IfErr, OnErr, nat_lt, vec_capacity, length, drop, reverse};
 ghost use Rattle.std.specs.Bool.{OnTrue, OnFalse};
 ghost use Rattle.std.specs.Coded.{codes};
@@ -106,9 +108,12 @@ impl<'m> Instance<'m> {
         steps: &mut Steps,
     ) -> Result<Turn, AllocError>
         requires sum_fits { steps.old.left + steps.old.used < 2 ^ 64 }
-        ensures calls { StoreFits (code_in self.old) (store_in self.old) → types_of args.now ≡ (func_type_at (code_in self.old) func).params → IfOk result (λ t. Calls (code_in self.old) (store_in self.old) func args.now steps.old.left (steps.new.used - steps.old.used) t (store_in self.new) (waits_in self.new)) }
-        ensures lacks { IfErr result (λ _. StoreFits (code_in self.old) (store_in self.old) → types_of args.now ≡ (func_type_at (code_in self.old) func).params → CallLacks (code_in self.old) (store_in self.old) func args.now (steps.new.used - steps.old.used) (store_in self.new)) }
-        ensures again { func < length (func_sorts (code_in self.old)) → StoreFits (code_in self.old) (store_in self.old) → types_of args.now ≡ (func_type_at (code_in self.old) func).params → IfOk result (λ t. FitsAgain (code_in self.old) (results_of (code_in self.old) func) t (store_in self.new) (waits_in self.new)) }
+        ensures calls { StoreFits (code_in self.old) (store_in self.old) → types_of args.now ≡ (func_type_at (code_in self.old) func).params
+            → IfOk result (λ t. Calls (code_in self.old) (store_in self.old) func args.now steps.old.left (steps.new.used - steps.old.used) t (store_in self.new) (waits_in self.new)) }
+        ensures lacks { IfErr result (λ _. StoreFits (code_in self.old) (store_in self.old) → types_of args.now ≡ (func_type_at (code_in self.old) func).params
+            → CallLacks (code_in self.old) (store_in self.old) func args.now (steps.new.used - steps.old.used) (store_in self.new)) }
+        ensures again { func < length (func_sorts (code_in self.old)) → StoreFits (code_in self.old) (store_in self.old) → types_of args.now ≡ (func_type_at (code_in self.old) func).params
+            → IfOk result (λ t. FitsAgain (code_in self.old) (results_of (code_in self.old) func) t (store_in self.new) (waits_in self.new)) }
         ensures code { code_in self.new ≡ code_in self.old }
         ensures sum { steps.new.left + steps.new.used ≡ steps.old.left + steps.old.used }
         ensures grows { steps.old.used ≤ steps.new.used }
@@ -129,9 +134,12 @@ impl<'m> Instance<'m> {
         steps: &mut Steps,
     ) -> Result<Turn, AllocError>
         requires sum_fits { steps.old.left + steps.old.used < 2 ^ 64 }
-        ensures calls { StoreFits (code_in self.old) (store_in self.old) → types_of args.now ≡ (func_type_at (code_in self.old) func).params → IfOk result (λ t. CallsAside (code_in self.old) (store_in self.old) func args.now steps.old.left (steps.new.used - steps.old.used) t (store_in self.new)) }
-        ensures lacks { IfErr result (λ _. StoreFits (code_in self.old) (store_in self.old) → types_of args.now ≡ (func_type_at (code_in self.old) func).params → CallLacks (code_in self.old) (store_in self.old) func args.now (steps.new.used - steps.old.used) (store_in self.new)) }
-        ensures again { func < length (func_sorts (code_in self.old)) → StoreFits (code_in self.old) (store_in self.old) → types_of args.now ≡ (func_type_at (code_in self.old) func).params → IfOk result (λ _. StoreFits (code_in self.old) (store_in self.new)) }
+        ensures calls { StoreFits (code_in self.old) (store_in self.old) → types_of args.now ≡ (func_type_at (code_in self.old) func).params
+            → IfOk result (λ t. CallsAside (code_in self.old) (store_in self.old) func args.now steps.old.left (steps.new.used - steps.old.used) t (store_in self.new)) }
+        ensures lacks { IfErr result (λ _. StoreFits (code_in self.old) (store_in self.old) → types_of args.now ≡ (func_type_at (code_in self.old) func).params
+            → CallLacks (code_in self.old) (store_in self.old) func args.now (steps.new.used - steps.old.used) (store_in self.new)) }
+        ensures again { func < length (func_sorts (code_in self.old)) → StoreFits (code_in self.old) (store_in self.old) → types_of args.now ≡ (func_type_at (code_in self.old) func).params
+            → IfOk result (λ _. StoreFits (code_in self.old) (store_in self.new)) }
         ensures waits { waits_in self.new ≡ waits_in self.old }
         ensures code { code_in self.new ≡ code_in self.old }
         ensures sum { steps.new.left + steps.new.used ≡ steps.old.left + steps.old.used }
@@ -147,9 +155,14 @@ impl<'m> Instance<'m> {
     pub fn resume(&mut self, value: Option<Value>, steps: &mut Steps) -> Result<Turn, AllocError>
         requires waits { waits_in self.old ≡ nothing → ⊥ }
         requires sum_fits { steps.old.left + steps.old.used < 2 ^ 64 }
-        ensures resumes { (outs : List ValType) → StoreFits (code_in self.old) (store_in self.old) → Awaits (code_in self.old) outs (types_of (option_to_list value)) (waits_in self.old) → IfOk result (λ t. Resumes (code_in self.old) (store_in self.old) (waits_in self.old) value steps.old.left (steps.new.used - steps.old.used) t (store_in self.new) (waits_in self.new)) }
-        ensures lacks { IfErr result (λ _. (outs : List ValType) → StoreFits (code_in self.old) (store_in self.old) → Awaits (code_in self.old) outs (types_of (option_to_list value)) (waits_in self.old) → ResumeLacks (code_in self.old) (store_in self.old) (waits_in self.old) value (steps.new.used - steps.old.used) (store_in self.new)) }
-        ensures again { (outs : List ValType) → StoreFits (code_in self.old) (store_in self.old) → Awaits (code_in self.old) outs (types_of (option_to_list value)) (waits_in self.old) → IfOk result (λ t. FitsAgain (code_in self.old) outs t (store_in self.new) (waits_in self.new)) }
+        ensures resumes { (outs : List ValType) → StoreFits (code_in self.old) (store_in self.old) → Awaits (code_in self.old) outs (types_of (option_to_list value)) (waits_in self.old)
+            → IfOk result (λ t. Resumes (code_in self.old) (store_in self.old) (waits_in self.old) value steps.old.left (steps.new.used - steps.old.used) t (store_in self.new)
+            (waits_in self.new)) }
+        ensures lacks { IfErr result (λ _. (outs : List ValType) → StoreFits (code_in self.old) (store_in self.old)
+            → Awaits (code_in self.old) outs (types_of (option_to_list value)) (waits_in self.old)
+            → ResumeLacks (code_in self.old) (store_in self.old) (waits_in self.old) value (steps.new.used - steps.old.used) (store_in self.new)) }
+        ensures again { (outs : List ValType) → StoreFits (code_in self.old) (store_in self.old) → Awaits (code_in self.old) outs (types_of (option_to_list value)) (waits_in self.old)
+            → IfOk result (λ t. FitsAgain (code_in self.old) outs t (store_in self.new) (waits_in self.new)) }
         ensures code { code_in self.new ≡ code_in self.old }
         ensures sum { steps.new.left + steps.new.used ≡ steps.old.left + steps.old.used }
         ensures grows { steps.old.used ≤ steps.new.used }

@@ -1,3 +1,5 @@
+//! Runs of reductions, each paid by its cost.
+
 ghost use Rattle.std.specs.Prelude.{◌≡◌, ◌<◌, ◌≤◌, ◌+◌, ◌-◌, ◌^◌, List, IfOk, IfErr, OnOk};
 ghost use Rattle.wa_types.specs.declared.values.ValType.{ValType};
 ghost use Rattle.wa_types.specs.Validity.{Valid};
@@ -54,9 +56,13 @@ pub fn run<'m>(
 ) -> Result<Stop, AllocError>
     requires most { store.old.memory.max ≡ memory_max (module_of program.now.source.now) }
     requires fits { steps.old.left + steps.old.used < 2 ^ 64 }
-    ensures runs { Valid (module_of program.now.source.now) → (outs : List ValType) × Fits (module_of program.now.source.now) outs (running_of (store_of store.old) stack.old) → IfOk result (λ t. RunsTo (module_of program.now.source.now) (running_of (store_of store.old) stack.old) steps.old.left (steps.new.used - steps.old.used) t (running_of (store_of store.new) stack.new)) }
+    ensures runs { Valid (module_of program.now.source.now) → (outs : List ValType) × Fits (module_of program.now.source.now) outs (running_of (store_of store.old) stack.old)
+        → IfOk result (λ t. RunsTo (module_of program.now.source.now) (running_of (store_of store.old) stack.old) steps.old.left (steps.new.used - steps.old.used) t
+        (running_of (store_of store.new) stack.new)) }
     ensures holds { OnOk result (StackRoom (module_of program.now.source.now) stack.old → StackRoom (module_of program.now.source.now) stack.new) }
-    ensures lacks { IfErr result (λ _. Valid (module_of program.now.source.now) → (outs : List ValType) × Fits (module_of program.now.source.now) outs (running_of (store_of store.old) stack.old) → StackRoom (module_of program.now.source.now) stack.old → LacksAt (module_of program.now.source.now) (running_of (store_of store.old) stack.old) (steps.new.used - steps.old.used) (store_of store.new)) }
+    ensures lacks { IfErr result (λ _. Valid (module_of program.now.source.now) → (outs : List ValType)
+        × Fits (module_of program.now.source.now) outs (running_of (store_of store.old) stack.old) → StackRoom (module_of program.now.source.now) stack.old
+        → LacksAt (module_of program.now.source.now) (running_of (store_of store.old) stack.old) (steps.new.used - steps.old.used) (store_of store.new)) }
     ensures sum { steps.new.left + steps.new.used ≡ steps.old.left + steps.old.used }
     ensures grows { steps.old.used ≤ steps.new.used }
     ensures max { store.new.memory.max ≡ store.old.memory.max }

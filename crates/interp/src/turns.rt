@@ -1,3 +1,5 @@
+//! How a call of an instance turns out, and what waits in it.
+
 use interp_reduce::Stack;
 use wa_model::Call;
 use wa_types::{Trap, Value};

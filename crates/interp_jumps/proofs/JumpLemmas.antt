@@ -37,14 +37,17 @@ module _ (m : Module) (s : Store) (more fn : ℕ) (under : List Activation) (ls 
   from : List Label → ℕ → Next
   from labels l = jump more m s fn under ls ops (map label_of (reverse labels)) l
 
-  pub at_block : (labels labels' : List Label) (x : Label) (h l : ℕ) (carries : Bool) (rest : _) (skipped : _) (ops' : List Value) → labels ≡ labels' ++ x ∷ [] → x ≡ L.Block h carries rest skipped → l ≡ 0 → ops' ≡ take (count_of carries) ops ++ keep h ops → jump more m s fn under ls ops (map label_of (reverse labels)) l ≡ steps more (running s fn under ls ops' (code rest.now) (map label_of (reverse labels')))
+  pub at_block : (labels labels' : List Label) (x : Label) (h l : ℕ) (carries : Bool) (rest : _) (skipped : _) (ops' : List Value) → labels ≡ labels' ++ x ∷ []
+      → x ≡ L.Block h carries rest skipped → l ≡ 0 → ops' ≡ take (count_of carries) ops ++ keep h ops
+      → jump more m s fn under ls ops (map label_of (reverse labels)) l ≡ steps more (running s fn under ls ops' (code rest.now) (map label_of (reverse labels')))
   at_block labels labels' x h l carries rest skipped ops' e ex el eo =
       ap (λ v. jump more m s fn under ls ops (map label_of v) l) (top_first labels labels' x e)
       ∙ ap (λ v. jump more m s fn under ls ops (label_of v ∷ map label_of (reverse labels')) l) ex
       ∙ ap (jump more m s fn under ls ops (label_of (L.Block h carries rest skipped) ∷ map label_of (reverse labels'))) el
       ∙ ap (λ v. steps more (running s fn under ls v (code rest.now) (map label_of (reverse labels')))) (sym eo)
 
-  pub at_loop : (labels labels' : List Label) (x : Label) (h l : ℕ) (body rest : _) (ops' : List Value) → labels ≡ labels' ++ x ∷ [] → x ≡ L.Loop h body rest → l ≡ 0 → ops' ≡ keep h ops → jump more m s fn under ls ops (map label_of (reverse labels)) l ≡ steps more (running s fn under ls ops' (code body.now) (map label_of (reverse labels)))
+  pub at_loop : (labels labels' : List Label) (x : Label) (h l : ℕ) (body rest : _) (ops' : List Value) → labels ≡ labels' ++ x ∷ [] → x ≡ L.Loop h body rest → l ≡ 0 → ops' ≡ keep h ops
+      → jump more m s fn under ls ops (map label_of (reverse labels)) l ≡ steps more (running s fn under ls ops' (code body.now) (map label_of (reverse labels)))
   at_loop labels labels' x h l body rest ops' e ex el eo =
       let all = top_first labels labels' x e ∙ ap (λ v. v ∷ reverse labels') ex in
       ap (λ v. jump more m s fn under ls ops (map label_of v) l) all
@@ -56,7 +59,8 @@ module _ (m : Module) (s : Store) (more fn : ℕ) (under : List Activation) (ls 
   passes_one (L.Block h carries rest skipped) labels l = refl
   passes_one (L.Loop h body rest) labels l = refl
 
-  pub at_next : (labels labels' : List Label) (x : Label) (l : ℕ) → labels ≡ labels' ++ x ∷ [] → (l ≡ 0 → ⊥) → jump more m s fn under ls ops (map label_of (reverse labels')) (l - 1) ≡ jump more m s fn under ls ops (map label_of (reverse labels)) l
+  pub at_next : (labels labels' : List Label) (x : Label) (l : ℕ) → labels ≡ labels' ++ x ∷ [] → (l ≡ 0 → ⊥)
+      → jump more m s fn under ls ops (map label_of (reverse labels')) (l - 1) ≡ jump more m s fn under ls ops (map label_of (reverse labels)) l
   at_next labels labels' x zero e h = absurd (h refl)
   at_next labels labels' x (suc l) e h =
       let n : suc l - 1 ≡ l = omega arith in

@@ -39,13 +39,16 @@ pub ruleset popping = (lacks_none, lacks_wide, top_first)
 
 module _ (m : Module) (s : Store) (fn : ℕ) (under : List Activation) (ls ops : List Value) (labels : List Label) (rest : Code) where
   -- with a number topmost
-  pub indirect_at : (sort n : ℕ) → HasNumber ops n → step_plain m s fn under ls ops labels rest (call_indirect sort) ≡ through m s fn under ls (take 1 ops) (drop 1 ops) rest labels sort (slice_get s.table n)
+  pub indirect_at : (sort n : ℕ) → HasNumber ops n → step_plain m s fn under ls ops labels rest (call_indirect sort)
+      ≡ through m s fn under ls (take 1 ops) (drop 1 ops) rest labels sort (slice_get s.table n)
   indirect_at sort n h =
       ap (λ v. step_plain m s fn under ls v labels rest (call_indirect sort)) h.is
       ∙ ap (λ v. through m s fn under ls v (drop 1 ops) rest labels sort (slice_get s.table n)) (sym (ap (take 1) h.is))
 
   -- and an element that holds a function of the type
-  pub indirect_invokes : (sort n x params : ℕ) → HasNumber ops n → slice_get s.table n ≡ Some (Some x) → same_func_type (func_type_at m x) (type_at m sort) ≡ true → params ≡ param_count (type_at m sort) → invoke m s fn under ls (take 1 ops) (drop 1 ops) rest labels params x (defined_at m x) ≡ step_plain m s fn under ls ops labels rest (call_indirect sort)
+  pub indirect_invokes : (sort n x params : ℕ) → HasNumber ops n → slice_get s.table n ≡ Some (Some x) → same_func_type (func_type_at m x) (type_at m sort) ≡ true
+      → params ≡ param_count (type_at m sort) → invoke m s fn under ls (take 1 ops) (drop 1 ops) rest labels params x (defined_at m x)
+      ≡ step_plain m s fn under ls ops labels rest (call_indirect sort)
   indirect_invokes sort n x params h e et ep =
       sym
       (indirect_at sort n h

@@ -32,11 +32,18 @@ module _ (m : Module) (s : Store) (fn : ℕ) (under : List Activation) (ls : Lis
   did_led below (fails trap) = refl
   did_led below lacks = refl
 
-  pub shows_tells : (b : Basic) (ops ops' : List Value) (s' : Store) (f : Flow) (left : ℕ) → 0 < left → (Unmoved f → s' ≡ s) → Shows (effect (memory_max m) b s ops) f s' ops' → Tells s (step_plain m s fn under ls ops labels rest (basic b)) left f (running s' fn under ls ops' rest labels)
-  shows_tells b ops ops' s' (Moved more) left paid kept h =
-      (did_led (drop (takes b) ops) (act (memory_max m) b s (take (takes b) ops)) ∙ ap led h.1 ∙ ap (λ n. steps n (running s' fn under ls ops' rest labels)) (sym h.0), subst (λ n. n < left) (sym h.0) paid)
-  shows_tells b ops ops' s' (Trapped more trap) left paid kept h =
-      (did_led (drop (takes b) ops) (act (memory_max m) b s (take (takes b) ops)) ∙ ap led h.1 ∙ ap (λ n. traps n trap s) (sym h.0) ∙ ap (traps more trap) (sym (kept tt)), subst (λ n. n < left) (sym h.0) paid)
+  pub shows_tells : (b : Basic) (ops ops' : List Value) (s' : Store) (f : Flow) (left : ℕ) → 0 < left → (Unmoved f → s' ≡ s) → Shows (effect (memory_max m) b s ops) f s' ops'
+      → Tells s (step_plain m s fn under ls ops labels rest (basic b)) left f (running s' fn under ls ops' rest labels)
+  shows_tells b ops ops' s' (Moved more) left paid kept h = (
+    did_led (drop (takes b) ops) (act (memory_max m) b s (take (takes b) ops)) ∙ ap led h.1
+        ∙ ap (λ n. steps n (running s' fn under ls ops' rest labels)) (sym h.0),
+    subst (λ n. n < left) (sym h.0) paid,
+  )
+  shows_tells b ops ops' s' (Trapped more trap) left paid kept h = (
+    did_led (drop (takes b) ops) (act (memory_max m) b s (take (takes b) ops)) ∙ ap led h.1 ∙ ap (λ n. traps n trap s) (sym h.0)
+        ∙ ap (traps more trap) (sym (kept tt)),
+    subst (λ n. n < left) (sym h.0) paid,
+  )
   shows_tells b ops ops' s' Spent left paid kept h =
       (subst (λ x. IsUnpaid x left) (sym (did_led (drop (takes b) ops) (act (memory_max m) b s (take (takes b) ops)) ∙ ap led h)) tt, kept tt)
   shows_tells b ops ops' s' (Asked more import own taken) left paid kept h = absurd h
@@ -48,15 +55,20 @@ with_operands k v =
     record { here = record { func = k.here.func; locals = k.here.locals; operands = v; code = k.here.code; labels = k.here.labels }; under = k.under }
 
 -- an instruction whose code is known
-pub code_arm : (m : Module) (s : Store) (k : Stack) (x x' : Instr) (d : Code) (f : Flow) (left : ℕ) (c : Configuration) → x ≡ x' → in_front x' (code k.here.code.now) ≡ d → Tells s (code_of m s k d) left f c → Tells s (code_of m s k (in_front x (code k.here.code.now))) left f c
+pub code_arm : (m : Module) (s : Store) (k : Stack) (x x' : Instr) (d : Code) (f : Flow) (left : ℕ) (c : Configuration) → x ≡ x' → in_front x' (code k.here.code.now) ≡ d
+    → Tells s (code_of m s k d) left f c → Tells s (code_of m s k (in_front x (code k.here.code.now))) left f c
 code_arm m s k x x' d f left c ex ed told =
     subst (λ a. Tells s (code_of m s k a) left f c) (sym (ap (λ i. in_front i (code k.here.code.now)) ex ∙ ed)) told
 
 -- one that touches only its operands and the store
-pub basic_arm : (m : Module) (s s' : Store) (k : Stack) (v : Vec Value Global) (x x' : Instr) (b : Basic) (f : Flow) (left : ℕ) → x ≡ x' → in_front x' (code k.here.code.now) ≡ plain (basic b) (code k.here.code.now) → 0 < left → (Unmoved f → s' ≡ s) → Shows (effect (memory_max m) b s (reverse k.here.operands.items)) f s' (reverse v.items) → Tells s (code_of m s k (in_front x (code k.here.code.now))) left f (running_of s' (with_operands k v))
+pub basic_arm : (m : Module) (s s' : Store) (k : Stack) (v : Vec Value Global) (x x' : Instr) (b : Basic) (f : Flow) (left : ℕ) → x ≡ x'
+    → in_front x' (code k.here.code.now) ≡ plain (basic b) (code k.here.code.now) → 0 < left → (Unmoved f → s' ≡ s)
+    → Shows (effect (memory_max m) b s (reverse k.here.operands.items)) f s' (reverse v.items)
+    → Tells s (code_of m s k (in_front x (code k.here.code.now))) left f (running_of s' (with_operands k v))
 basic_arm m s s' k v x x' b f left ex ed paid kept shown =
     code_arm m s k x x' (plain (basic b) (code k.here.code.now)) f left (running_of s' (with_operands k v)) ex ed
-    (shows_tells m s k.here.func (map waiting_of (reverse k.under.items)) k.here.locals.items (map label_of (reverse k.here.labels.items)) (code k.here.code.now) b (reverse k.here.operands.items) (reverse v.items) s' f left paid kept shown)
+    (shows_tells m s k.here.func (map waiting_of (reverse k.under.items)) k.here.locals.items (map label_of (reverse k.here.labels.items)) (code k.here.code.now) b
+    (reverse k.here.operands.items) (reverse v.items) s' f left paid kept shown)
 
 pub if_ok_both : {X Y : Type 0} (r : Result X Y) (P Q : X → Type 0) → IfOk r P → IfOk r Q → IfOk r (λ x. P x × Q x)
 if_ok_both (Ok x) P Q p q = (p, q)

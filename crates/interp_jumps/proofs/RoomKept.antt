@@ -1,5 +1,6 @@
 -- What keeps the room of a stack's activations, and what refutes that room was lacking.
-use Rattle.std.proofs.Common.{arith, ◌≡◌, ℕ, zero, suc, ◌+◌, ◌<◌, ◌≤◌, nat_lt, if◌then◌else◌, Bool, true, false, List, [], ◌∷◌, ◌++◌, length, map, reverse, take, drop, Option, Some, Result, Ok, Err, IfErr, OnOk, IsOk, Vec, Global, vec_capacity, vec_len, refl, sym, ap, ◌∙◌, subst}
+use Rattle.std.proofs.Common.{arith, ◌≡◌, ℕ, zero, suc, ◌+◌, ◌<◌, ◌≤◌, nat_lt, if◌then◌else◌, Bool, true, false, List, [], ◌∷◌, ◌++◌, length, map, reverse, take, drop, Option, Some, Result}
+use Rattle.std.proofs.Common.{Ok, Err, IfErr, OnOk, IsOk, Vec, Global, vec_capacity, vec_len, refl, sym, ap, ◌∙◌, subst}
 use Rattle.std.proofs.lemmas.List.{length-map, length-reverse}
 use Rattle.wa_types.specs.declared.values.ValType.{ValType}
 use Rattle.wa_types.specs.declared.values.Value.{Value}
@@ -100,7 +101,8 @@ operands_lacked m outs k next n s under ls v c labels e full h fits =
 
 -- more labels
 pub labels_lacked : (m : Module) (outs : List ValType) (k : Stack) (next : Next) (n : ℕ) (s : Store) (under : List C.Activation) (ls ops : List Value) (c : Code) (l : C.Label)
-    → next ≡ steps n (running s k.here.func under ls ops c (l ∷ map label_of (reverse k.here.labels.items))) → vec_capacity k.here.labels ≤ vec_len k.here.labels → StackRoom m k → NextFits m outs next → ⊥
+    → next ≡ steps n (running s k.here.func under ls ops c (l ∷ map label_of (reverse k.here.labels.items))) → vec_capacity k.here.labels ≤ vec_len k.here.labels → StackRoom m k
+    → NextFits m outs next → ⊥
 labels_lacked m outs k next n s under ls ops c l e full h fits =
     let w = labels_within m outs next n (running s k.here.func under ls ops c (l ∷ map label_of (reverse k.here.labels.items))) (vec_capacity k.here.labels) e fits h.here.labels in
     let size = k.here.labels.ok.0 in
@@ -129,7 +131,8 @@ arm_lacked m outs k s r a b full h fits = by_top (reverse k.here.operands.items)
 
 -- the caller has no room for the results
 pub leave_lacked : (m : Module) (outs : List ValType) (k : Stack) (s : Store) (more arity : ℕ) (caller : Waiting) (rest : List Waiting) (from to : Activation)
-    → k.under.items ≡ rest ++ caller ∷ [] → from ≡ k.here → to ≡ caller.activation → vec_capacity to.operands < length (take arity (reverse from.operands.items) ++ drop caller.taken (reverse to.operands.items))
+    → k.under.items ≡ rest ++ caller ∷ [] → from ≡ k.here → to ≡ caller.activation → vec_capacity to.operands < length
+    (take arity (reverse from.operands.items) ++ drop caller.taken (reverse to.operands.items))
     → StackRoom m k → NextFits m outs (leave_of s more k arity) → ⊥
 leave_lacked m outs k s more arity caller rest from to e ef et lack h fits =
     let t = each_last (WaitsRoom m) rest caller (subst (Each (WaitsRoom m)) e h.under) in
@@ -137,7 +140,8 @@ leave_lacked m outs k s more arity caller rest from to e ef et lack h fits =
     let ops = take arity (reverse k.here.operands.items) ++ drop caller.taken (reverse a.operands.items) in
     let path : leave_of s more k arity ≡ leave more s (reverse k.here.operands.items) arity (waiting_of caller ∷ map waiting_of (reverse rest)) =
     ap (λ u. leave more s (reverse k.here.operands.items) arity (map waiting_of u)) (top_first k.under.items rest caller e) in
-    let w = operands_within m outs (leave_of s more k arity) more (running s a.func (map waiting_of (reverse rest)) a.locals.items ops (code a.code.now) (map label_of (reverse a.labels.items))) (vec_capacity a.operands) path fits t.1.operands in
+    let w = operands_within m outs (leave_of s more k arity) more (running s a.func (map waiting_of (reverse rest)) a.locals.items ops (code a.code.now)
+    (map label_of (reverse a.labels.items))) (vec_capacity a.operands) path fits t.1.operands in
     let lack' : vec_capacity a.operands < length ops =
     subst (λ (x : Activation). vec_capacity x.operands < length (take arity (reverse k.here.operands.items) ++ drop caller.taken (reverse x.operands.items))) et
     (subst (λ (x : Activation). vec_capacity to.operands < length (take arity (reverse x.operands.items) ++ drop caller.taken (reverse to.operands.items))) ef lack) in
@@ -145,7 +149,8 @@ leave_lacked m outs k s more arity caller rest from to e ef et lack h fits =
 
 -- the stack behind it
 pub leave_holds : (m : Module) (k : Stack) (caller : Waiting) (rest : List Waiting) (k' : Stack) (to : Activation)
-    → k.under.items ≡ rest ++ caller ∷ [] → to ≡ caller.activation → k'.under.items ≡ rest → k'.here.func ≡ to.func → vec_capacity to.operands ≤ vec_capacity k'.here.operands → vec_capacity to.labels ≤ vec_capacity k'.here.labels → StackRoom m k → StackRoom m k'
+    → k.under.items ≡ rest ++ caller ∷ [] → to ≡ caller.activation → k'.under.items ≡ rest → k'.here.func ≡ to.func → vec_capacity to.operands ≤ vec_capacity k'.here.operands
+    → vec_capacity to.labels ≤ vec_capacity k'.here.labels → StackRoom m k → StackRoom m k'
 leave_holds m k caller rest k' to e et eu ef eo el h =
     let t = each_last (WaitsRoom m) rest caller (subst (Each (WaitsRoom m)) e h.under) in
     record { here = same_room m to k'.here ef eo el (subst (HasRoom m) (sym et) t.1); under = subst (Each (WaitsRoom m)) (sym eu) t.0 }
@@ -158,15 +163,19 @@ choose_first (suc n) a b h = refl
 abbrev pub TakesUnpaid : Module → Store → Stack → Code → Type 0
 TakesUnpaid m s k c = TakesMemory c × (paid_for (code_of m s k c) ≡ 0)
 
-did_unpaid : (fn : ℕ) (under : List C.Activation) (ls : List Value) (labels : List C.Label) (rest : Code) (s : Store) (below : List Value) (d : Did) → paid_for (did fn under ls labels rest s below d) ≡ 0
+did_unpaid : (fn : ℕ) (under : List C.Activation) (ls : List Value) (labels : List C.Label) (rest : Code) (s : Store) (below : List Value) (d : Did)
+    → paid_for (did fn under ls labels rest s below d) ≡ 0
 did_unpaid fn under ls labels rest s below (works s' results) = refl
 did_unpaid fn under ls labels rest s below (fails trap) = refl
 did_unpaid fn under ls labels rest s below lacks = refl
 
 pub grow_unpaid : (m : Module) (s : Store) (k : Stack) → TakesUnpaid m s k (plain (basic memory_grow) (code k.here.code.now))
 grow_unpaid m s k =
-    let ops = reverse k.here.operands.items in
-    (tt, did_unpaid k.here.func (map waiting_of (reverse k.under.items)) k.here.locals.items (map label_of (reverse k.here.labels.items)) (code k.here.code.now) s (drop 1 ops) (act (memory_max m) memory_grow s (take 1 ops)))
+    let ops = reverse k.here.operands.items in (
+      tt,
+      did_unpaid k.here.func (map waiting_of (reverse k.under.items)) k.here.locals.items (map label_of (reverse k.here.labels.items)) (code k.here.code.now) s (drop 1 ops)
+          (act (memory_max m) memory_grow s (take 1 ops)),
+    )
 
 -- a call of a defined function
 pub call_unpaid : (m : Module) (s : Store) (fn : ℕ) (under : List C.Activation) (ls own ops : List Value) (rest : Code) (labels : List C.Label) (params x : ℕ) (f : Func)
@@ -174,7 +183,8 @@ pub call_unpaid : (m : Module) (s : Store) (fn : ℕ) (under : List C.Activation
 call_unpaid m s fn under ls own ops rest labels params x f e =
     ap (λ o. paid_for (invoke m s fn under ls own ops rest labels params x o)) e ∙ by_room (nat_lt (length under + 1) 4096)
   where
-    by_room : (b : Bool) → paid_for (if b then steps params (entered s (waiting fn ls (drop params ops) (own ++ take params ops) rest labels ∷ under) (reverse (take params ops)) x f) else traps params StackExhausted s) ≡ 0
+    by_room : (b : Bool) → paid_for (if b then steps params (entered s (waiting fn ls (drop params ops) (own ++ take params ops) rest labels ∷ under) (reverse (take params ops)) x f)
+        else traps params StackExhausted s) ≡ 0
     by_room true = refl
     by_room false = refl
 
@@ -185,7 +195,8 @@ refuted_arm m outs s k x x' d ex ed f fits =
     absurd (f (subst (λ a. NextFits m outs (code_of m s k a)) (ap (λ i. in_front i (code k.here.code.now)) ex ∙ ed) fits))
 
 -- one that takes memory
-pub taking_arm : (m : Module) (s : Store) (k : Stack) (x x' : Instr) (d : Code) → x ≡ x' → in_front x' (code k.here.code.now) ≡ d → TakesUnpaid m s k d → TakesUnpaid m s k (in_front x (code k.here.code.now))
+pub taking_arm : (m : Module) (s : Store) (k : Stack) (x x' : Instr) (d : Code) → x ≡ x' → in_front x' (code k.here.code.now) ≡ d → TakesUnpaid m s k d
+    → TakesUnpaid m s k (in_front x (code k.here.code.now))
 taking_arm m s k x x' d ex ed h = subst (TakesUnpaid m s k) (sym (ap (λ i. in_front i (code k.here.code.now)) ex ∙ ed)) h
 
 -- other operands with no less room

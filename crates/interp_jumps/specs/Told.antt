@@ -21,6 +21,7 @@ IsUnpaid stuck left = Unit {0}
 abbrev pub args_below : (own params : ℕ) → Configuration → List Value
 args_below own params c = reverse (take params (drop own c.here.operands))
 
+-- the outermost activation returned, with this value where it has a result
 pub record IsReturned (next : Next) (more : ℕ) (value : Option Value) (s : Store) : Type 0 where
   pub values : List Value
   pub next_is : next ≡ returns more values s

@@ -1,3 +1,5 @@
+//! Conditional branches, and constructs entered: `br_if`, `br_table`, `block`, `loop` and `if` (standard, section 4.4.5).
+
 ghost use Rattle.std.specs.Prelude.{◌≡◌, ◌<◌, ◌≤◌, List, vec_capacity, vec_len, OnErr, IfErr, ◌∷◌, ℕ, IfOk, MatchOption, reverse, slice_get, unwrap_or};
 ghost use Rattle.wa_types.specs.Syntax.{Module, a_block, a_loop, nest, branch, br_if, br_table, done};
 ghost use Rattle.wa_types.specs.declared.values.Value.TheVariants as V;
@@ -19,7 +21,8 @@ use wa_types::{Instr, ValType, Value};
 pub fn branch_if(program: &Program, stack: &mut Stack, label: u32) -> Result<Flow, AllocError>
     ensures tells { IfOk result (λ f. (s : Store) (left : ℕ) → 0 < left → Tells s (plain_of (module_of program.now.source.now) s stack.old (br_if label)) left f (running_of s stack.new)) }
     ensures holds { (m : Module) → StackRoom m stack.old → StackRoom m stack.new }
-    ensures lacks { IfErr result (λ _. (s : Store) (outs : List ValType) → StackRoom (module_of program.now.source.now) stack.old → NextFits (module_of program.now.source.now) outs (plain_of (module_of program.now.source.now) s stack.old (br_if label)) → ⊥) }
+    ensures lacks { IfErr result (λ _. (s : Store) (outs : List ValType) → StackRoom (module_of program.now.source.now) stack.old
+        → NextFits (module_of program.now.source.now) outs (plain_of (module_of program.now.source.now) s stack.old (br_if label)) → ⊥) }
 {
     let Some(test) = pop_number(&mut stack.here.operands) else {
         return Ok(Flow::Spent);
@@ -40,7 +43,8 @@ pub fn branch_by(
 ) -> Result<Flow, AllocError>
     ensures tells { IfOk result (λ f. (s : Store) → Tells s (plain_of (module_of program.now.source.now) s stack.old (br_table labels.now.items last)) left f (running_of s stack.new)) }
     ensures holds { (m : Module) → StackRoom m stack.old → StackRoom m stack.new }
-    ensures lacks { IfErr result (λ _. (s : Store) (outs : List ValType) → StackRoom (module_of program.now.source.now) stack.old → NextFits (module_of program.now.source.now) outs (plain_of (module_of program.now.source.now) s stack.old (br_table labels.now.items last)) → ⊥) }
+    ensures lacks { IfErr result (λ _. (s : Store) (outs : List ValType) → StackRoom (module_of program.now.source.now) stack.old
+        → NextFits (module_of program.now.source.now) outs (plain_of (module_of program.now.source.now) s stack.old (br_table labels.now.items last)) → ⊥) }
 {
     let more = labels.len() as u64 + 1;
     if left <= more {
@@ -79,7 +83,8 @@ pub fn enter_block<'m>(
     result_type: Option<ValType>,
     body: &'m [Instr],
 ) -> Result<Flow, AllocError>
-    ensures tells { IfOk result (λ f. (m : Module) (s : Store) (left : ℕ) → 0 < left → Tells s (code_of m s stack.old (nest a_block result_type (code body.now) (code stack.old.here.code.now))) left f (running_of s stack.new)) }
+    ensures tells { IfOk result (λ f. (m : Module) (s : Store) (left : ℕ) → 0 < left → Tells s
+        (code_of m s stack.old (nest a_block result_type (code body.now) (code stack.old.here.code.now))) left f (running_of s stack.new)) }
     ensures holds { Roomier stack.old stack.new }
     ensures lacks { OnErr result (vec_capacity stack.old.here.labels ≤ vec_len stack.old.here.labels) }
 {
@@ -100,7 +105,8 @@ pub fn enter_loop<'m>(
     result_type: Option<ValType>,
     body: &'m [Instr],
 ) -> Result<Flow, AllocError>
-    ensures tells { IfOk result (λ f. (m : Module) (s : Store) (left : ℕ) → 0 < left → Tells s (code_of m s stack.old (nest a_loop result_type (code body.now) (code stack.old.here.code.now))) left f (running_of s stack.new)) }
+    ensures tells { IfOk result (λ f. (m : Module) (s : Store) (left : ℕ) → 0 < left → Tells s
+        (code_of m s stack.old (nest a_loop result_type (code body.now) (code stack.old.here.code.now))) left f (running_of s stack.new)) }
     ensures holds { Roomier stack.old stack.new }
     ensures lacks { OnErr result (vec_capacity stack.old.here.labels ≤ vec_len stack.old.here.labels) }
 {
@@ -121,7 +127,8 @@ pub fn enter_arm<'m>(
     then_arm: &'m [Instr],
     else_arm: &'m [Instr],
 ) -> Result<Flow, AllocError>
-    ensures tells { IfOk result (λ f. (m : Module) (s : Store) (left : ℕ) → 0 < left → Tells s (code_of m s stack.old (branch result_type (code then_arm.now) (code else_arm.now) (code stack.old.here.code.now))) left f (running_of s stack.new)) }
+    ensures tells { IfOk result (λ f. (m : Module) (s : Store) (left : ℕ) → 0 < left → Tells s
+        (code_of m s stack.old (branch result_type (code then_arm.now) (code else_arm.now) (code stack.old.here.code.now))) left f (running_of s stack.new)) }
     ensures holds { Roomier stack.old stack.new }
     ensures lacks { OnErr result (vec_capacity stack.old.here.labels ≤ vec_len stack.old.here.labels) }
 {

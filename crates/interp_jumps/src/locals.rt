@@ -1,3 +1,5 @@
+//! Accesses of locals: `local.get`, `local.set` and `local.tee` (standard, section 4.4.3).
+
 ghost use Rattle.std.specs.Prelude.{◌≡◌, ◌<◌, ◌≤◌, vec_capacity, vec_len, OnErr, ℕ, IfOk};
 ghost use Rattle.wa_types.specs.Syntax.{Module, local_get, local_set, local_tee};
 ghost use Rattle.wa_model.specs.Store.{Store};

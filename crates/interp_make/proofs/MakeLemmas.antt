@@ -1,12 +1,15 @@
 -- What an instance is made of.
-use Rattle.std.proofs.Common.{arith, ◌≡◌, ℕ, suc, ◌+◌, ◌<◌, ◌≤◌, List, [], ◌∷◌, ◌++◌, length, map, get_or, take, drop, Option, Some, None, Bool, true, false, nat_le, if◌then◌else◌, refl, ap, sym, ◌∙◌, drop-cons, add-one}
+use Rattle.std.proofs.Common.{arith, ◌≡◌, ℕ, suc, ◌+◌, ◌<◌, ◌≤◌, List, [], ◌∷◌, ◌++◌, length, map, get_or, take, drop, Option, Some, None, Bool, true, false, nat_le, if◌then◌else◌, refl, ap}
+use Rattle.std.proofs.Common.{sym, ◌∙◌, drop-cons, add-one}
 use Rattle.std.proofs.lemmas.List.{drop_all, nil_from_length, length-append, length-take-le, length-drop}
 use Rattle.std.proofs.lemmas.Bool.{leb-true}
 use Rattle.wa_types.specs.declared.values.Value.{Value}
 use Rattle.wa_types.specs.declared.values.Value.TheVariants.{I32}
 use Rattle.wa_types.specs.declared.instrs.Instr.{Instr}
-use Rattle.wa_types.specs.declared.instrs.Instr.TheVariants.{Unreachable, Nop, Drop, Select, Return, MemorySize, MemoryGrow, Const, Num, Br, BrIf, BrTable, Call, CallIndirect, LocalGet, LocalSet, LocalTee, GlobalGet, GlobalSet, Load, Store, Block', Loop', If'}
-use Rattle.wa_types.specs.Syntax.{nop, drop as drop_operand, select, const, num, global_get, global_set, load, store, memory_size, memory_grow, Plain, basic, local_get, local_set, local_tee, br, br_if, br_table, return, unreachable, call, call_indirect, Code, done, plain, nest, branch}
+use Rattle.wa_types.specs.declared.instrs.Instr.TheVariants.{Unreachable, Nop, Drop, Select, Return, MemorySize, MemoryGrow, Const, Num, Br, BrIf, BrTable, Call, CallIndirect, LocalGet}
+use Rattle.wa_types.specs.declared.instrs.Instr.TheVariants.{LocalSet, LocalTee, GlobalGet, GlobalSet, Load, Store, Block', Loop', If'}
+use Rattle.wa_types.specs.Syntax.{nop, drop as drop_operand, select, const, num, global_get, global_set, load, store, memory_size, memory_grow, Plain, basic, local_get, local_set, local_tee}
+use Rattle.wa_types.specs.Syntax.{br, br_if, br_table, return, unreachable, call, call_indirect, Code, done, plain, nest, branch}
 use Rattle.wa_types.specs.View.{in_front, onto, code}
 use Rattle.wa_types.proofs.ViewLemmas.{Kind, is_block, is_loop, is_if, is_plain, kind, in_block, in_loop, in_if}
 use Rattle.wa_model.specs.Store.{value_at}
@@ -125,7 +128,8 @@ module _ {X Y : Type 0} (piece : X → Piece Y) (size : ℕ) (xs : List X) (i : 
       ∙ ap (λ v. piece v ∷ map piece (drop (suc i) xs)) (sym e)
       ∙ ap (λ n. piece x ∷ map piece (drop n xs)) (sym (add-one i))
 
-  pub out_step : i < length xs → x ≡ get_or xs i x → nat_le ((piece x).at + length (piece x).items) size ≡ true → first_out size i (map piece (drop i xs)) ≡ first_out size (i + 1) (map piece (drop (i + 1) xs))
+  pub out_step : i < length xs → x ≡ get_or xs i x → nat_le ((piece x).at + length (piece x).items) size ≡ true
+      → first_out size i (map piece (drop i xs)) ≡ first_out size (i + 1) (map piece (drop (i + 1) xs))
   out_step h e t =
       ap (first_out size i) (at_both h e)
       ∙ ap (λ b. if b then first_out size (suc i) (map piece (drop (i + 1) xs)) else Some i) t
@@ -145,7 +149,8 @@ pub record FitsNext {X Y : Type 0} (piece : X → Piece Y) (size : ℕ) (xs : Li
   pub test : nat_le ((piece x).at + length (piece x).items) size ≡ true
   pub rest : first_out size (i + 1) (map piece (drop (i + 1) xs)) ≡ None
 
-pub fits_next : {X Y : Type 0} (piece : X → Piece Y) (size : ℕ) (xs : List X) (i : ℕ) (x : X) → i < length xs → x ≡ get_or xs i x → first_out size i (map piece (drop i xs)) ≡ None → FitsNext piece size xs i x
+pub fits_next : {X Y : Type 0} (piece : X → Piece Y) (size : ℕ) (xs : List X) (i : ℕ) (x : X) → i < length xs → x ≡ get_or xs i x → first_out size i (map piece (drop i xs)) ≡ None
+    → FitsNext piece size xs i x
 fits_next piece size xs i x h e none = by_test (nat_le ((piece x).at + length (piece x).items) size) refl
   where
     by_test : (b : Bool) → nat_le ((piece x).at + length (piece x).items) size ≡ b → FitsNext piece size xs i x
@@ -153,7 +158,8 @@ fits_next piece size xs i x h e none = by_test (nat_le ((piece x).at + length (p
     by_test false t = let some = out_here piece size xs i x h e t in absurd (let f : Some i ≡ None = sym some ∙ none in cc)
 
 -- one more piece is put
-pub puts_on : {X Y : Type 0} (piece : X → Piece Y) (xs : List X) (i : ℕ) (x : X) (ys ys' : List Y) → i < length xs → x ≡ get_or xs i x → ys' ≡ put_piece ys (piece x) → put_pieces ys' (map piece (drop (i + 1) xs)) ≡ put_pieces ys (map piece (drop i xs))
+pub puts_on : {X Y : Type 0} (piece : X → Piece Y) (xs : List X) (i : ℕ) (x : X) (ys ys' : List Y) → i < length xs → x ≡ get_or xs i x → ys' ≡ put_piece ys (piece x)
+    → put_pieces ys' (map piece (drop (i + 1) xs)) ≡ put_pieces ys (map piece (drop i xs))
 puts_on piece xs i x ys ys' h e ey =
     ap (λ v. put_pieces v (map piece (drop (i + 1) xs))) ey ∙ sym (ap (put_pieces ys) (at_both piece 0 xs i x h e))
 
@@ -167,7 +173,8 @@ put_length xs p h =
     ∙ omega (arith, length-append (take p.at xs) p.items, length-take-le p.at xs at, length-drop (p.at + length p.items) xs)
 
 -- a write that fits
-pub written_over : (old new piece : List ℕ) (at : ℕ) (done : Bool) → OnTrue done (with_piece old at piece ≡ Some new) → OnFalse done (with_piece old at piece ≡ None) → nat_le (at + length piece) (length old) ≡ true → new ≡ overwritten old at piece
+pub written_over : (old new piece : List ℕ) (at : ℕ) (done : Bool) → OnTrue done (with_piece old at piece ≡ Some new) → OnFalse done (with_piece old at piece ≡ None)
+    → nat_le (at + length piece) (length old) ≡ true → new ≡ overwritten old at piece
 written_over old new piece at true yes' no' t =
     let f : Some new ≡ Some (overwritten old at piece) = sym yes' ∙ ap (λ b. if b then Some (overwritten old at piece) else None) t in cc
 written_over old new piece at false yes' no' t =
@@ -182,5 +189,6 @@ module _ (globals : List Value) (memory : List ℕ) (table : List (Option ℕ)) 
   pub filled_bytes : (i : ℕ) → first_out (length table) 0 elems ≡ None → first_out (length memory) 0 bytes ≡ Some i → filled globals memory table elems bytes ≡ fails_as (BytesOut i)
   filled_bytes i e f = ap (elems_checked globals memory table elems bytes) e ∙ ap (bytes_checked globals memory table elems bytes) f
 
-  pub filled_all : first_out (length table) 0 elems ≡ None → first_out (length memory) 0 bytes ≡ None → filled globals memory table elems bytes ≡ opens (record { globals = globals; memory = put_pieces memory bytes; table = put_pieces table elems })
+  pub filled_all : first_out (length table) 0 elems ≡ None → first_out (length memory) 0 bytes ≡ None
+      → filled globals memory table elems bytes ≡ opens (record { globals = globals; memory = put_pieces memory bytes; table = put_pieces table elems })
   filled_all e f = ap (elems_checked globals memory table elems bytes) e ∙ ap (bytes_checked globals memory table elems bytes) f

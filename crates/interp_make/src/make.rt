@@ -1,3 +1,5 @@
+//! The store of a new instance: its globals, table and memory, with the segments written (standard, section 4.5.4).
+
 ghost use Rattle.std.specs.Prelude.{◌≡◌, ◌≤◌, ◌<◌, ◌*◌, ◌^◌, ◌++◌, IfOk, IfErr, None, Some, length, map, replicate};
 ghost use Rattle.wa_types.specs.Memory.{page_size};
 ghost use Rattle.wa_types.specs.Modules.{all_memories, all_tables};
@@ -97,9 +99,11 @@ fn fill(
     requires pages { pages ≤ 1024 }
     requires elems { length source.now.elems.items < 2 ^ 32 }
     requires segments { length source.now.segments.items < 2 ^ 32 }
-    ensures ok { IfOk result (λ s. filled globals.items (replicate (pages * page_size) 0) (replicate entries None) (map (elem_piece globals.items) (map elem_of source.now.elems.items)) (map (byte_piece globals.items) (map segment_of source.now.segments.items)) ≡ opens (store_of s)) }
+    ensures ok { IfOk result (λ s. filled globals.items (replicate (pages * page_size) 0) (replicate entries None) (map (elem_piece globals.items) (map elem_of source.now.elems.items))
+        (map (byte_piece globals.items) (map segment_of source.now.segments.items)) ≡ opens (store_of s)) }
     ensures max { IfOk result (λ s. s.memory.max ≡ most) }
-    ensures err { IfErr result (FailsAs (filled globals.items (replicate (pages * page_size) 0) (replicate entries None) (map (elem_piece globals.items) (map elem_of source.now.elems.items)) (map (byte_piece globals.items) (map segment_of source.now.segments.items)))) }
+    ensures err { IfErr result (FailsAs (filled globals.items (replicate (pages * page_size) 0) (replicate entries None)
+        (map (elem_piece globals.items) (map elem_of source.now.elems.items)) (map (byte_piece globals.items) (map segment_of source.now.segments.items)))) }
 {
     let mut table = make_table(alloc, entries)?;
     let mut memory = Pages::new(alloc, pages, most)?;

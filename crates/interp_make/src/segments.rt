@@ -1,3 +1,5 @@
+//! The values of initialisers and offsets, and the element and data segments, tested and written (standard, section 4.5.4).
+
 ghost use Rattle.std.specs.Prelude.{◌≡◌, ◌≤◌, ◌+◌, ◌<◌, ◌++◌, IfOk, IfSome, OnOk, Some, None, length, map, take, drop, nat_le};
 ghost use Rattle.wa_types.specs.View.{code};
 ghost use Rattle.wa_model.specs.Instantiation.{constant_value, place_at, first_out, put_piece, put_pieces};

@@ -1,5 +1,6 @@
 -- How high operands stand, instruction by instruction.
-use Rattle.std.proofs.Common.{◌≡◌, ℕ, ◌+◌, ◌-◌, ◌^◌, ◌<◌, ◌≤◌, max, min, nat_lt, if◌then◌else◌, Bool, true, false, List, [], ◌∷◌, map, All, ap, sym, ◌∙◌, arith, refl, Option, Some, None, slice_get, length, get_or, drop}
+use Rattle.std.proofs.Common.{◌≡◌, ℕ, ◌+◌, ◌-◌, ◌^◌, ◌<◌, ◌≤◌, max, min, nat_lt, if◌then◌else◌, Bool, true, false, List, [], ◌∷◌, map, All, ap, sym, ◌∙◌, arith, refl, Option, Some, None}
+use Rattle.std.proofs.Common.{slice_get, length, get_or, drop}
 use Rattle.std.specs.Option.{option_map}
 use Rattle.std.proofs.lemmas.List.Elements.{All-nil, All-cons, All-head, All-tail}
 use Rattle.std.proofs.lemmas.Option.{slice_get-map, get_or_from_slice_get}
@@ -10,12 +11,14 @@ use Rattle.wa_types.specs.declared.values.ValType.{ValType}
 use Rattle.wa_types.specs.declared.values.Value.{Value}
 use Rattle.wa_types.specs.declared.operators.NumOp.{NumOp}
 use Rattle.wa_types.specs.declared.instrs.Instr.{Instr}
-use Rattle.wa_types.specs.declared.instrs.Instr.TheVariants.{Unreachable, Nop, Drop, Select, Return, MemorySize, MemoryGrow, Const, Num, Br, BrIf, BrTable, Call, CallIndirect, LocalGet, LocalSet, LocalTee, GlobalGet, GlobalSet, Load, Store, Block, Loop, If, Block', Loop', If'}
+use Rattle.wa_types.specs.declared.instrs.Instr.TheVariants.{Unreachable, Nop, Drop, Select, Return, MemorySize, MemoryGrow, Const, Num, Br, BrIf, BrTable, Call, CallIndirect, LocalGet}
+use Rattle.wa_types.specs.declared.instrs.Instr.TheVariants.{LocalSet, LocalTee, GlobalGet, GlobalSet, Load, Store, Block, Loop, If, Block', Loop', If'}
 use Rattle.wa_types.specs.Counts.{count_of}
 use Rattle.wa_types.specs.Modules.{type_at, func_type_at, func_imports, defined_at}
 use Rattle.wa_types.specs.Operators.{operand_types}
 use Rattle.wa_types.specs.Pruned.{is_last, is_last_instr}
-use Rattle.wa_types.specs.Syntax.{Module, Basic, nop, drop as drop_operand, select, const, num, global_get, global_set, load, store, memory_size, memory_grow, Plain, basic, local_get, local_set, local_tee, br, br_if, br_table, return, unreachable, call, call_indirect, Code, done, plain, Func}
+use Rattle.wa_types.specs.Syntax.{Module, Basic, nop, drop as drop_operand, select, const, num, global_get, global_set, load, store, memory_size, memory_grow, Plain, basic, local_get}
+use Rattle.wa_types.specs.Syntax.{local_set, local_tee, br, br_if, br_table, return, unreachable, call, call_indirect, Code, done, plain, Func}
 use Rattle.wa_types.specs.Sizes.{FuncSizes}
 use Rattle.wa_types.specs.View.{code, in_front, func_of}
 use Rattle.wa_types.proofs.SizeBounds.{count_fits}
@@ -75,18 +78,40 @@ most_ending m x rest h l = elim (kind x) [
 ]
 
 -- and of one and of the code behind it, where control goes on
-most_behind : (m : Module) (x : Instr) (rest : Code) (h : ℕ) → is_last_instr x ≡ false → most_operands m (in_front x rest) h ≡ max (most_operands m (in_front x done) h) (most_operands m rest (behind m (in_front x done) h))
+most_behind : (m : Module) (x : Instr) (rest : Code) (h : ℕ) → is_last_instr x ≡ false
+    → most_operands m (in_front x rest) h ≡ max (most_operands m (in_front x done) h) (most_operands m rest (behind m (in_front x done) h))
 unfolding most_operands behind
 most_behind m x rest h l = elim (kind x) [
   | is_block r v e ↦
       ap (λ y. most_operands m (in_front y rest) h) e ∙ ap (λ c. most_operands m c h) (in_block r v rest)
-      ∙ omega (arith, most_least m rest (h + arity_of r), ap (λ y. most_operands m (in_front y done) h) e ∙ ap (λ c. most_operands m c h) (in_block r v done), ap (λ y. most_operands m rest (behind m (in_front y done) h)) e ∙ ap (λ c. most_operands m rest (behind m c h)) (in_block r v done))
+      ∙ omega (
+        arith,
+        most_least m rest (h + arity_of r),
+        ap (λ y. most_operands m (in_front y done) h) e
+            ∙ ap (λ c. most_operands m c h) (in_block r v done),
+        ap (λ y. most_operands m rest (behind m (in_front y done) h)) e
+            ∙ ap (λ c. most_operands m rest (behind m c h)) (in_block r v done),
+      )
   | is_loop r v e ↦
       ap (λ y. most_operands m (in_front y rest) h) e ∙ ap (λ c. most_operands m c h) (in_loop r v rest)
-      ∙ omega (arith, most_least m rest (h + arity_of r), ap (λ y. most_operands m (in_front y done) h) e ∙ ap (λ c. most_operands m c h) (in_loop r v done), ap (λ y. most_operands m rest (behind m (in_front y done) h)) e ∙ ap (λ c. most_operands m rest (behind m c h)) (in_loop r v done))
+      ∙ omega (
+        arith,
+        most_least m rest (h + arity_of r),
+        ap (λ y. most_operands m (in_front y done) h) e
+            ∙ ap (λ c. most_operands m c h) (in_loop r v done),
+        ap (λ y. most_operands m rest (behind m (in_front y done) h)) e
+            ∙ ap (λ c. most_operands m rest (behind m c h)) (in_loop r v done),
+      )
   | is_if r v w e ↦
       ap (λ y. most_operands m (in_front y rest) h) e ∙ ap (λ c. most_operands m c h) (in_if r v w rest)
-      ∙ omega (arith, most_least m rest (h - 1 + arity_of r), ap (λ y. most_operands m (in_front y done) h) e ∙ ap (λ c. most_operands m c h) (in_if r v w done), ap (λ y. most_operands m rest (behind m (in_front y done) h)) e ∙ ap (λ c. most_operands m rest (behind m c h)) (in_if r v w done))
+      ∙ omega (
+        arith,
+        most_least m rest (h - 1 + arity_of r),
+        ap (λ y. most_operands m (in_front y done) h) e
+            ∙ ap (λ c. most_operands m c h) (in_if r v w done),
+        ap (λ y. most_operands m rest (behind m (in_front y done) h)) e
+            ∙ ap (λ c. most_operands m rest (behind m c h)) (in_if r v w done),
+      )
   | is_plain p e ↦
       let goes : is_last p ≡ false = sym (last_plain x p e) ∙ l in
       let whole : most_operands m (in_front x rest) h ≡ max h (most_operands m rest (behind_plain m p h)) =
@@ -143,7 +168,8 @@ behind_few m x h = elim (kind x) [
 ]
 
 -- code with the element at i in front of those after it
-pub most_step : (m : Module) (xs : List Instr) (i : ℕ) (x : Instr) (h : ℕ) → i < length xs → x ≡ get_or xs i x → is_last_instr x ≡ false → most_operands m (code (drop i xs)) h ≡ max (most_operands m (in_front x done) h) (most_operands m (code (drop (i + 1) xs)) (behind m (in_front x done) h))
+pub most_step : (m : Module) (xs : List Instr) (i : ℕ) (x : Instr) (h : ℕ) → i < length xs → x ≡ get_or xs i x → is_last_instr x ≡ false
+    → most_operands m (code (drop i xs)) h ≡ max (most_operands m (in_front x done) h) (most_operands m (code (drop (i + 1) xs)) (behind m (in_front x done) h))
 most_step m xs i x h n e l = ap (λ c. most_operands m c h) (code_step xs i x n e) ∙ most_behind m x (code (drop (i + 1) xs)) h l
 
 pub most_last : (m : Module) (xs : List Instr) (i : ℕ) (x : Instr) (h : ℕ) → i < length xs → x ≡ get_or xs i x → is_last_instr x ≡ true → most_operands m (code (drop i xs)) h ≡ h
@@ -153,17 +179,21 @@ pub most_empty : (m : Module) (xs : List Instr) (i : ℕ) (h : ℕ) → length x
 unfolding most_operands
 most_empty m xs i h l = ap (λ c. most_operands m c h) (code_empty xs i l)
 
-pub most_block : (m : Module) (r : Option ValType) (v : Vec Instr Global) (h : ℕ) → most_operands m (in_front (Block r v) done) h ≡ max (most_operands m (code v.items) h) (behind m (in_front (Block r v) done) h)
+pub most_block : (m : Module) (r : Option ValType) (v : Vec Instr Global) (h : ℕ) → most_operands m (in_front (Block r v) done) h
+    ≡ max (most_operands m (code v.items) h) (behind m (in_front (Block r v) done) h)
 unfolding most_operands behind
 most_block m r v h = ap (λ c. most_operands m c h) (in_block r v done) ∙ ap (max (most_operands m (code v.items) h)) (sym (ap (λ c. behind m c h) (in_block r v done)))
 
-pub most_loop : (m : Module) (r : Option ValType) (v : Vec Instr Global) (h : ℕ) → most_operands m (in_front (Loop r v) done) h ≡ max (most_operands m (code v.items) h) (behind m (in_front (Loop r v) done) h)
+pub most_loop : (m : Module) (r : Option ValType) (v : Vec Instr Global) (h : ℕ) → most_operands m (in_front (Loop r v) done) h
+    ≡ max (most_operands m (code v.items) h) (behind m (in_front (Loop r v) done) h)
 unfolding most_operands behind
 most_loop m r v h = ap (λ c. most_operands m c h) (in_loop r v done) ∙ ap (max (most_operands m (code v.items) h)) (sym (ap (λ c. behind m c h) (in_loop r v done)))
 
-pub most_if : (m : Module) (r : Option ValType) (v w : Vec Instr Global) (h : ℕ) → most_operands m (in_front (If r v w) done) h ≡ max h (max (max (most_operands m (code v.items) (h - 1)) (most_operands m (code w.items) (h - 1))) (behind m (in_front (If r v w) done) h))
+pub most_if : (m : Module) (r : Option ValType) (v w : Vec Instr Global) (h : ℕ) → most_operands m (in_front (If r v w) done) h
+    ≡ max h (max (max (most_operands m (code v.items) (h - 1)) (most_operands m (code w.items) (h - 1))) (behind m (in_front (If r v w) done) h))
 unfolding most_operands behind
-most_if m r v w h = ap (λ c. most_operands m c h) (in_if r v w done) ∙ ap (λ n. max h (max (max (most_operands m (code v.items) (h - 1)) (most_operands m (code w.items) (h - 1))) n)) (sym (ap (λ c. behind m c h) (in_if r v w done)))
+most_if m r v w h = ap (λ c. most_operands m c h) (in_if r v w done) ∙ ap (λ n. max h (max (max (most_operands m (code v.items) (h - 1)) (most_operands m (code w.items) (h - 1))) n))
+    (sym (ap (λ c. behind m c h) (in_if r v w done)))
 
 -- one that holds no other, alone: where control never goes on the height is as it was
 most_plain : (m : Module) (p : Plain) (h : ℕ) → (if is_last p then h else max h (behind_plain m p h)) ≡ max h (behind_plain m p h)
@@ -179,7 +209,8 @@ most_plain m unreachable h = omega arith
 most_plain m (call x) h = refl
 most_plain m (call_indirect sort) h = refl
 
-pub most_other : (m : Module) (x : Instr) (h : ℕ) → ((r : Option ValType) (v : Vec Instr Global) → x ≡ Block r v → ⊥) → ((r : Option ValType) (v : Vec Instr Global) → x ≡ Loop r v → ⊥) → ((r : Option ValType) (v w : Vec Instr Global) → x ≡ If r v w → ⊥) → most_operands m (in_front x done) h ≡ max h (behind m (in_front x done) h)
+pub most_other : (m : Module) (x : Instr) (h : ℕ) → ((r : Option ValType) (v : Vec Instr Global) → x ≡ Block r v → ⊥) → ((r : Option ValType) (v : Vec Instr Global) → x ≡ Loop r v → ⊥)
+    → ((r : Option ValType) (v w : Vec Instr Global) → x ≡ If r v w → ⊥) → most_operands m (in_front x done) h ≡ max h (behind m (in_front x done) h)
 unfolding most_operands behind
 most_other m x h not_block not_loop not_if = elim (kind x) [
   | is_block r v e ↦ absurd (not_block r v e)
@@ -298,10 +329,12 @@ count_some x = elim (kind x) [
 -- a function that is defined stands behind the imported ones
 defined_there : (m : Module) (x : ℕ) (f : Func) → defined_at m x ≡ Some f → slice_get m.funcs (x - func_imports m) ≡ Some f
 defined_there m x f =
-    elim (nat_lt x (func_imports m)) as (λ b. (if b then None else slice_get m.funcs (x - func_imports m)) ≡ Some f → slice_get m.funcs (x - func_imports m) ≡ Some f) [ true ↦ λ e. cc | false ↦ λ e. e ]
+    elim (nat_lt x (func_imports m)) as (λ b. (if b then None else slice_get m.funcs (x - func_imports m)) ≡ Some f
+    → slice_get m.funcs (x - func_imports m) ≡ Some f) [ true ↦ λ e. cc | false ↦ λ e. e ]
 
 -- what a defined function's activations reserve, read from those of all
-pub room_found : (m : Module) (funcs : List FuncValue) (rooms : List Room) (n x : ℕ) (r : Room) (f : Func) → m.funcs ≡ map func_of funcs → rooms ≡ map (room_at m) funcs → n ≡ func_imports m → defined_at m x ≡ Some f → r ≡ get_or rooms (x - n) r → r ≡ room_of m f
+pub room_found : (m : Module) (funcs : List FuncValue) (rooms : List Room) (n x : ℕ) (r : Room) (f : Func) → m.funcs ≡ map func_of funcs → rooms ≡ map (room_at m) funcs → n ≡ func_imports m
+    → defined_at m x ≡ Some f → r ≡ get_or rooms (x - n) r → r ≡ room_of m f
 room_found m funcs rooms n x r f each all behind_imports here read =
     let k = x - func_imports m in
     let of_all : rooms ≡ map (room_of m) m.funcs = all ∙ sym (map_map (room_of m) func_of funcs) ∙ ap (map (room_of m)) (sym each) in
@@ -317,8 +350,34 @@ few_instrs m f s =
 pub all_few : (m : Module) (funcs : List FuncValue) → All (FuncSizes (2 ^ 32) (2 ^ 56) m) (map func_of funcs) → All HasFewInstrs funcs
 all_few m [] h = All-nil HasFewInstrs
 all_few m (f ∷ fs) h =
-    All-cons HasFewInstrs f fs (few_instrs m f (All-head (FuncSizes (2 ^ 32) (2 ^ 56) m) (func_of f) (map func_of fs) h)) (all_few m fs (All-tail (FuncSizes (2 ^ 32) (2 ^ 56) m) (func_of f) (map func_of fs) h))
+    All-cons HasFewInstrs f fs (few_instrs m f (All-head (FuncSizes (2 ^ 32) (2 ^ 56) m) (func_of f) (map func_of fs) h))
+    (all_few m fs (All-tail (FuncSizes (2 ^ 32) (2 ^ 56) m) (func_of f) (map func_of fs) h))
 
-pub ruleset passing = (after_get, after_global_get, after_const, after_size, after_num, after_select, after_load, after_grow, after_set, after_global_set, after_drop, after_br_if, after_store, after_call, after_indirect, after_tee, after_nop, after_br, after_br_table, after_return, after_unreachable, after_block, after_loop, after_if)
+pub ruleset passing = (
+  after_get,
+  after_global_get,
+  after_const,
+  after_size,
+  after_num,
+  after_select,
+  after_load,
+  after_grow,
+  after_set,
+  after_global_set,
+  after_drop,
+  after_br_if,
+  after_store,
+  after_call,
+  after_indirect,
+  after_tee,
+  after_nop,
+  after_br,
+  after_br_table,
+  after_return,
+  after_unreachable,
+  after_block,
+  after_loop,
+  after_if,
+)
 
 pub ruleset walking = (most_least, most_step, most_last, most_empty, most_block, most_loop, most_if, most_other, behind_few, count_some, count_step, count_empty, count_block, count_loop, count_if)

@@ -26,13 +26,15 @@ not_same I32 I64 h = refl
 not_same I64 I32 h = refl
 not_same I64 I64 h = absurd (h refl)
 
-at_both : (xs ys : List ValType) (i : ℕ) (x y : ValType) → i < length xs → i < length ys → x ≡ get_or xs i x → y ≡ get_or ys i y → same_types (drop i xs) (drop i ys) ≡ (same_type x y && same_types (drop (i + 1) xs) (drop (i + 1) ys))
+at_both : (xs ys : List ValType) (i : ℕ) (x y : ValType) → i < length xs → i < length ys → x ≡ get_or xs i x → y ≡ get_or ys i y
+    → same_types (drop i xs) (drop i ys) ≡ (same_type x y && same_types (drop (i + 1) xs) (drop (i + 1) ys))
 at_both xs ys i x y hx hy ex ey =
     ap (λ v. same_types v (drop i ys)) (drop-cons xs i x hx ∙ ap (λ v. v ∷ drop (suc i) xs) (sym ex))
     ∙ ap (same_types (x ∷ drop (suc i) xs)) (drop-cons ys i y hy ∙ ap (λ v. v ∷ drop (suc i) ys) (sym ey))
     ∙ ap (λ n. same_type x y && same_types (drop n xs) (drop n ys)) (sym (add-one i))
 
-pub same_on : (xs ys : List ValType) (i : ℕ) (x y : ValType) → i < length xs → i < length ys → x ≡ get_or xs i x → y ≡ get_or ys i y → x ≡ y → same_types (drop i xs) (drop i ys) ≡ same_types (drop (i + 1) xs) (drop (i + 1) ys)
+pub same_on : (xs ys : List ValType) (i : ℕ) (x y : ValType) → i < length xs → i < length ys → x ≡ get_or xs i x → y ≡ get_or ys i y → x ≡ y
+    → same_types (drop i xs) (drop i ys) ≡ same_types (drop (i + 1) xs) (drop (i + 1) ys)
 same_on xs ys i x y hx hy ex ey e =
     at_both xs ys i x y hx hy ex ey ∙ ap (λ b. b && same_types (drop (i + 1) xs) (drop (i + 1) ys)) (ap (same_type x) (sym e) ∙ same_itself x)
 

@@ -11,6 +11,7 @@ use Rattle.interp_program.specs.declared.rooms.Room.{Room}
 abbrev pub room_of : Module → Func → Room
 room_of m f = record { operands = most_operands m f.body 0; labels = depth_of f.body }
 
+-- the same of a value of the program
 abbrev pub room_at : Module → FuncValue → Room
 room_at m f = room_of m (func_of f)
 

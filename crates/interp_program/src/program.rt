@@ -1,3 +1,5 @@
+//! A module with what is looked up at calls.
+
 ghost use Rattle.std.specs.Prelude.{◌≡◌, ◌<◌, ◌^◌, Some, None, All, IfOk, MatchOption, length, map};
 ghost use Rattle.wa_types.specs.Modules.{func_sorts, func_imports, type_at, func_type_at, defined_at};
 ghost use Rattle.wa_types.specs.Syntax.{Func as PlainFunc};

@@ -1,3 +1,5 @@
+//! What an activation reserves: the greatest height of its operands and depth of its labels, found in the code.
+
 ghost use Rattle.std.specs.Prelude.{◌≡◌, ◌+◌, ◌<◌, ◌^◌, All, IfOk, length, map};
 ghost use Rattle.wa_types.specs.Counts.{count_of};
 ghost use Rattle.wa_types.specs.Modules.{func_sorts};

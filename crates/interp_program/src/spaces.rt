@@ -1,3 +1,5 @@
+//! The limits of a module's memories and tables, imported ones first (standard, section 2.5.1).
+
 ghost use Rattle.std.specs.Prelude.{◌≡◌, IfOk, map};
 ghost use Rattle.wa_types.specs.Modules.{imported_table, imported_memory, imported, all_memories, all_tables};
 ghost use Rattle.wa_types.specs.View.{module_of};

@@ -1,3 +1,5 @@
+//! Function types by index: those of types and of functions, with how many parameters and results they have (standard, section 2.5.1).
+
 ghost use Rattle.std.specs.Prelude.{◌≡◌, ◌<◌, ◌^◌, MatchOption, length};
 ghost use Rattle.wa_types.specs.Modules.{func_sorts, empty_type, type_at, func_type_at};
 ghost use Rattle.wa_types.specs.View.{func_type_of, module_of};

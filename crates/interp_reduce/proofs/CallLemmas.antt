@@ -1,5 +1,6 @@
 -- What a call takes and makes.
-use Rattle.std.proofs.Common.{arith, ◌≡◌, ℕ, zero, suc, ◌+◌, ◌-◌, ◌<◌, ◌≤◌, List, [], ◌∷◌, ◌++◌, length, map, replicate, reverse, take, drop, get_or, Some, None, if◌then◌else◌, lt-ltb, refl, ap, sym, ◌∙◌, append_assoc}
+use Rattle.std.proofs.Common.{arith, ◌≡◌, ℕ, zero, suc, ◌+◌, ◌-◌, ◌<◌, ◌≤◌, List, [], ◌∷◌, ◌++◌, length, map, replicate, reverse, take, drop, get_or, Some, None, if◌then◌else◌, lt-ltb, refl}
+use Rattle.std.proofs.Common.{ap, sym, ◌∙◌, append_assoc}
 use Rattle.std.proofs.lemmas.List.{reverse-reverse, length-take-le, drop-take, take_all, take_more, map-append, append-nil, drop-drop, take-take, take-append-drop}
 use Rattle.std.proofs.lemmas.Grind.{flat_map-append}
 use Rattle.wa_types.specs.declared.values.ValType.{ValType}
@@ -36,7 +37,9 @@ zeros : (n : ℕ) (t : ValType) → map zero_of (replicate n t) ≡ replicate n 
 zeros zero t = refl
 zeros (suc n) t = ap (λ v. zero_of t ∷ v) (zeros n t)
 
-pub locals_more : (args : List Value) (runs : List Run) (i : ℕ) (r : Run) (xs ys : List Value) → i < length runs → r ≡ get_or runs i r → xs ≡ args ++ map zero_of (declared_locals (take i runs)) → ys ≡ take (length xs + r.count) xs ++ replicate (length xs + r.count - length xs) (zero_of r.ty) → ys ≡ args ++ map zero_of (declared_locals (take (i + 1) runs))
+pub locals_more : (args : List Value) (runs : List Run) (i : ℕ) (r : Run) (xs ys : List Value) → i < length runs → r ≡ get_or runs i r
+    → xs ≡ args ++ map zero_of (declared_locals (take i runs)) → ys ≡ take (length xs + r.count) xs ++ replicate (length xs + r.count - length xs) (zero_of r.ty)
+    → ys ≡ args ++ map zero_of (declared_locals (take (i + 1) runs))
 locals_more args runs i r xs ys h er ex ey =
     let k : length xs + r.count - length xs ≡ r.count = omega arith in
     let piece : Run → List ValType = λ x. replicate x.count x.ty in
@@ -69,22 +72,32 @@ module _ (m : Module) (s : Store) (fn : ℕ) (under : List Activation) (ls ops :
       ap (λ v. waiting fn ls v (take own ops ++ take params (drop own ops)) rest labels) below_both
       ∙ ap (λ v. waiting fn ls (drop (own + params) ops) v rest labels) taken_both
 
-  pub asked_at : defined_at m x ≡ None → x < func_imports m → invoke m s fn under ls (take own ops) (drop own ops) rest labels params x (defined_at m x) ≡ asks params x (reverse (take params (drop own ops))) (taking (own + params) (running s fn under ls ops rest labels))
+  pub asked_at : defined_at m x ≡ None → x < func_imports m → invoke m s fn under ls (take own ops) (drop own ops) rest labels params x (defined_at m x)
+      ≡ asks params x (reverse (take params (drop own ops))) (taking (own + params) (running s fn under ls ops rest labels))
   asked_at e h =
       ap (invoke m s fn under ls (take own ops) (drop own ops) rest labels params x) e
-      ∙ ap (λ b. if b then asks params x (reverse (take params (drop own ops))) (record { store = s; here = waiting fn ls (drop params (drop own ops)) (take own ops ++ take params (drop own ops)) rest labels; under = under }) else stuck) (lt-ltb x (func_imports m) h)
+      ∙ ap (λ b. if b then asks params x (reverse (take params (drop own ops))) (record {
+        store = s;
+        here =
+            waiting fn ls (drop params (drop own ops)) (take own ops ++ take params (drop own ops)) rest labels;
+        under = under;
+      }) else stuck) (lt-ltb x (func_imports m) h)
       ∙ ap (λ w. asks params x (reverse (take params (drop own ops))) (record { store = s; here = w; under = under })) waits_at
 
-  pub entered_at : (f : Func) (ls' : List Value) → defined_at m x ≡ Some f → length under + 1 < 4096 → ls' ≡ reverse (take params (drop own ops)) ++ map zero_of (declared_locals f.locals) → invoke m s fn under ls (take own ops) (drop own ops) rest labels params x (defined_at m x) ≡ steps params (running s x (waiting fn ls (drop (own + params) ops) (take (own + params) ops) rest labels ∷ under) ls' [] f.body [])
+  pub entered_at : (f : Func) (ls' : List Value) → defined_at m x ≡ Some f → length under + 1 < 4096 → ls' ≡ reverse (take params (drop own ops)) ++ map zero_of (declared_locals f.locals)
+      → invoke m s fn under ls (take own ops) (drop own ops) rest labels params x (defined_at m x)
+      ≡ steps params (running s x (waiting fn ls (drop (own + params) ops) (take (own + params) ops) rest labels ∷ under) ls' [] f.body [])
   entered_at f ls' e h el =
       let args = reverse (take params (drop own ops)) in
       ap (invoke m s fn under ls (take own ops) (drop own ops) rest labels params x) e
-      ∙ ap (λ b. if b then steps params (entered s (waiting fn ls (drop params (drop own ops)) (take own ops ++ take params (drop own ops)) rest labels ∷ under) args x f) else traps params StackExhausted s) (lt-ltb (length under + 1) 4096 h)
+      ∙ ap (λ b. if b then steps params (entered s (waiting fn ls (drop params (drop own ops)) (take own ops ++ take params (drop own ops)) rest labels ∷ under) args x f)
+      else traps params StackExhausted s) (lt-ltb (length under + 1) 4096 h)
       ∙ ap (λ w. steps params (entered s (w ∷ under) args x f)) waits_at
       ∙ ap (λ v. steps params (running s x (waiting fn ls (drop (own + params) ops) (take (own + params) ops) rest labels ∷ under) v [] f.body [])) (sym el)
 
 -- an activation that has just been entered, above others
-pub entered_runs : (s : Store) (a : Entered) (x : ℕ) (args : List Value) (f : Func) (under : List Activation) → IsEntered a x args f → running s a.func under a.locals.items (reverse a.operands.items) (code a.code.now) (map label_of (reverse a.labels.items)) ≡ entered s under args x f
+pub entered_runs : (s : Store) (a : Entered) (x : ℕ) (args : List Value) (f : Func) (under : List Activation) → IsEntered a x args f
+    → running s a.func under a.locals.items (reverse a.operands.items) (code a.code.now) (map label_of (reverse a.labels.items)) ≡ entered s under args x f
 entered_runs s a x args f under e =
     ap (λ v. running s v under a.locals.items (reverse a.operands.items) (code a.code.now) (map label_of (reverse a.labels.items))) e.func_is
     ∙ ap (λ v. running s x under v (reverse a.operands.items) (code a.code.now) (map label_of (reverse a.labels.items))) e.locals

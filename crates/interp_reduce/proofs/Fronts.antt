@@ -2,8 +2,10 @@
 use Rattle.std.proofs.Common.{◌≡◌, ℕ, refl}
 use Rattle.wa_types.specs.declared.values.Value.{Value}
 use Rattle.wa_types.specs.declared.operators.NumOp.{NumOp}
-use Rattle.wa_types.specs.declared.instrs.Instr.TheVariants.{Unreachable, Nop, Drop, Select, Return, MemorySize, MemoryGrow, Const, Num, Br, BrIf, Call, CallIndirect, LocalGet, LocalSet, LocalTee, GlobalGet, GlobalSet, Load, Store}
-use Rattle.wa_types.specs.Syntax.{nop, drop as drop_operand, select, const, num, global_get, global_set, load, store, memory_size, memory_grow, basic, local_get, local_set, local_tee, br, br_if, return, unreachable, call, call_indirect, Code, plain}
+use Rattle.wa_types.specs.declared.instrs.Instr.TheVariants.{Unreachable, Nop, Drop, Select, Return, MemorySize, MemoryGrow, Const, Num, Br, BrIf, Call, CallIndirect, LocalGet, LocalSet}
+use Rattle.wa_types.specs.declared.instrs.Instr.TheVariants.{LocalTee, GlobalGet, GlobalSet, Load, Store}
+use Rattle.wa_types.specs.Syntax.{nop, drop as drop_operand, select, const, num, global_get, global_set, load, store, memory_size, memory_grow, basic, local_get, local_set, local_tee, br}
+use Rattle.wa_types.specs.Syntax.{br_if, return, unreachable, call, call_indirect, Code, plain}
 use Rattle.wa_types.specs.View.{in_front}
 
 pub front_unreachable : (rest : Code) → in_front Unreachable rest ≡ plain unreachable rest

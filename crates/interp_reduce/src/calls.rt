@@ -1,3 +1,5 @@
+//! Calls: `call`, `call_indirect`, and the invocation of a function (standard, sections 4.4.5.10, 4.4.5.11 and 4.4.7.1).
+
 ghost use Rattle.std.specs.Prelude.{◌≡◌, OnOk, ◌<◌, ◌+◌, ◌^◌, ◌++◌, ℕ, Some, IfErr, IfOk, MatchOption, map, slice_get, reverse, take, drop};
 ghost use Rattle.wa_types.specs.Modules.{declared_locals, defined_at};
 ghost use Rattle.wa_types.specs.Syntax.{call, call_indirect};
@@ -156,7 +158,8 @@ pub fn call_indirect<'m>(
     sort: u32,
     left: u64,
 ) -> Result<Flow, AllocError>
-    ensures tells { IfOk result (λ f. (s : Store) → s.table ≡ table.now.items → Tells s (plain_of (module_of program.now.source.now) s stack.old (call_indirect sort)) left f (running_of s stack.new)) }
+    ensures tells { IfOk result (λ f. (s : Store) → s.table ≡ table.now.items → Tells s (plain_of (module_of program.now.source.now) s stack.old (call_indirect sort)) left f
+        (running_of s stack.new)) }
     ensures holds { OnOk result (StackRoom (module_of program.now.source.now) stack.old → StackRoom (module_of program.now.source.now) stack.new) }
     ensures lacks { IfErr result (λ _. (s : Store) → s.table ≡ table.now.items → paid_for (plain_of (module_of program.now.source.now) s stack.old (call_indirect sort)) ≡ 0) }
 {

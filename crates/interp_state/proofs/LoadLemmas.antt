@@ -17,7 +17,8 @@ extended_is : (op natural : ℕ) (ty : ValType) (signed : Bool) (n : ℕ) → ex
 extended_is op natural I32 signed n = refl
 extended_is op natural I64 signed n = refl
 
-pub load_shows : (most : Option ℕ) (s : Store) (ops : List Value) (addr op align offset width : ℕ) (a : Access) (n : ℕ) → load_row op ≡ Some (row_of op a) → number_at s.memory (addr + offset) width ≡ Some n → width ≡ 2 ^ a.natural → effect most (load op align offset) s (V.I32 addr ∷ ops) ≡ worked s (load_value a.ty width a.signed n ∷ ops)
+pub load_shows : (most : Option ℕ) (s : Store) (ops : List Value) (addr op align offset width : ℕ) (a : Access) (n : ℕ) → load_row op ≡ Some (row_of op a)
+    → number_at s.memory (addr + offset) width ≡ Some n → width ≡ 2 ^ a.natural → effect most (load op align offset) s (V.I32 addr ∷ ops) ≡ worked s (load_value a.ty width a.signed n ∷ ops)
 load_shows most s ops addr op align offset width a n er en ew =
     ap (λ r. effect_over ops (load_at s (addr + offset) r)) er
     ∙ ap (λ r. effect_over ops (loaded s (row_of op a) r)) (ap (number_at s.memory (addr + offset)) (sym ew) ∙ en)

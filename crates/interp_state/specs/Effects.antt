@@ -7,11 +7,13 @@ use Rattle.wa_model.specs.Store.{Store, Did, works, fails, lacks, takes, act}
 use Rattle.interp_state.specs.declared.flow.Flow.{Flow}
 use Rattle.interp_state.specs.declared.flow.Flow.TheVariants.{Moved, Trapped, Spent}
 
+-- What an instruction did to all operands and the store.
 pub data Effect : Type 0 where
   worked : (store : Store) → (operands : List Value) → Effect
   trapped : (trap : Trap) → Effect
   nothing : Effect
 
+-- the effect of what it did with its own operands, over those below
 abbrev pub effect_over : List Value → Did → Effect
 effect_over below (works s results) = worked s (results ++ below)
 effect_over below (fails trap) = trapped trap

@@ -13,17 +13,21 @@ use Rattle.interp_state.specs.declared.activation.Label.TheVariants as LV
 use Rattle.interp_state.specs.declared.activation.Waiting.{Waiting}
 use Rattle.interp_state.specs.declared.activation.Stack.{Stack}
 
+-- a store
 abbrev pub store_of : S.Store → Store
 store_of s = record { globals = s.globals.items; memory = s.memory.bytes; table = s.table.items }
 
+-- how many values a branch carries
 abbrev pub count_of : Bool → ℕ
 count_of false = 0
 count_of true = 1
 
+-- the arm that stands behind the one that runs, where there is one
 abbrev pub skipped_of : Option (Bor (List Instr)) → Code
 skipped_of None = done
 skipped_of (Some skipped) = code skipped.now
 
+-- a label
 abbrev pub label_of : L.Label → C.Label
 label_of (LV.Block height carries rest skipped) = block_label height (count_of carries) (code rest.now) (skipped_of skipped)
 label_of (LV.Loop height body rest) = loop_label height (code body.now) (code rest.now)

@@ -1,3 +1,5 @@
+//! Activations with their labels, and the stack of those that wait (standard, section 4.2.12).
+
 use wa_types::{Instr, Value};
 
 /// What a branch goes on with, and the instructions left behind it (standard, section 4.2.12).

@@ -1,3 +1,5 @@
+//! What comes of one reduction.
+
 use wa_types::{Trap, Value};
 
 /// What came of one reduction. `more` is what it costs past 1.

@@ -1,3 +1,5 @@
+//! Memory instructions, and accesses of globals (standard, sections 4.4.4, 4.4.3.4 and 4.4.3.5).
+
 ghost use Rattle.std.specs.Prelude.{◌≡◌, ◌<◌, ◌≤◌, vec_capacity, vec_len, IsOk, OnErr, ◌^◌, ◌⊎◌, ℕ, List, Option, IfOk, reverse};
 ghost use Rattle.wa_types.specs.Syntax.{load, store as store_instr, memory_size, memory_grow, global_get, global_set};
 ghost use Rattle.interp_state.specs.Effects.{effect, Shows, Unmoved};
@@ -18,7 +20,8 @@ pub fn load_at(
     op: u8,
     offset: u32,
 ) -> Result<Flow, AllocError>
-    ensures shows { IfOk result (λ f. (most : Option ℕ) (align : ℕ) → Shows (effect most (load op align offset) (store_of store.now) (reverse operands.old.items)) f (store_of store.now) (reverse operands.new.items)) }
+    ensures shows { IfOk result (λ f. (most : Option ℕ) (align : ℕ) → Shows (effect most (load op align offset) (store_of store.now) (reverse operands.old.items)) f (store_of store.now)
+        (reverse operands.new.items)) }
     ensures holds { vec_capacity operands.old ≤ vec_capacity operands.new }
     ensures succeeds { IsOk result }
 {
@@ -46,7 +49,8 @@ pub fn load_at(
 
 /// A store (standard, section 4.4.4.2).
 pub fn store_at(store: &mut Store, operands: &mut Vec<Value>, op: u8, offset: u32) -> Flow
-    ensures shows { (most : Option ℕ) (align : ℕ) → Shows (effect most (store_instr op align offset) (store_of store.old) (reverse operands.old.items)) result (store_of store.new) (reverse operands.new.items) }
+    ensures shows { (most : Option ℕ) (align : ℕ) → Shows (effect most (store_instr op align offset) (store_of store.old) (reverse operands.old.items)) result (store_of store.new)
+        (reverse operands.new.items) }
     ensures kept { Unmoved result → store_of store.new ≡ store_of store.old }
     ensures max { store.new.memory.max ≡ store.old.memory.max }
     ensures holds { vec_capacity operands.old ≤ vec_capacity operands.new }

@@ -1,3 +1,5 @@
+//! Numeric instructions over operands (standard, section 4.4.1).
+
 ghost use Rattle.std.specs.Prelude.{ℕ, ◌≡◌, ◌≤◌, vec_capacity, IsOk, List, [], ◌∷◌, Option, IfOk, length, reverse};
 ghost use Rattle.wa_types.specs.Operators.{operand_types};
 ghost use Rattle.wa_types.specs.Syntax.{num};

@@ -1,3 +1,5 @@
+//! Constants and parametric instructions: `const`, `drop` and `select` (standard, sections 4.4.1.1 and 4.4.2).
+
 ghost use Rattle.std.specs.Prelude.{ℕ, ◌≡◌, ◌≤◌, List, Option, IfOk, IsOk, OnErr, reverse, vec_capacity, vec_len};
 ghost use Rattle.wa_types.specs.Syntax.{nop, drop as drop_operand, select, const};
 ghost use Rattle.wa_model.specs.Store.{Store};

@@ -1,3 +1,5 @@
+//! The store: the globals, the memory and the table of an instance (standard, section 4.2.3).
+
 use page_memory::Pages;
 use wa_types::Value;
 

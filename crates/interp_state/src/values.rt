@@ -1,3 +1,5 @@
+//! A value in a list by its index, read and set.
+
 ghost use Rattle.std.specs.Prelude.{◌≡◌, slice_set};
 ghost use Rattle.wa_model.specs.Store.{value_at};
 

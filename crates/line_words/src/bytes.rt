@@ -1,4 +1,5 @@
-// Bytes in hexadecimal digits.
+//! Bytes in hexadecimal digits.
+
 ghost use Rattle.std.specs.Prelude.{◌≡◌, ◌≤◌, length, IfOk};
 ghost use Rattle.wa_model.specs.ScriptLines.{hex_bytes, hex_in};
 ghost use Rattle.line_words.specs.Reading.{Reads, or_breaks};

@@ -1,3 +1,5 @@
+//! Why a line says nothing.
+
 use std::alloc::AllocError;
 use thiserror::Error;
 

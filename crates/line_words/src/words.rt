@@ -1,4 +1,5 @@
-// The words of a line.
+//! A line, cut into words in which `%hh` stands for a byte.
+
 ghost use Rattle.std.specs.Prelude.{◌≡◌, ◌==◌, ◌∷◌, ◌++◌, [], OnOk, Some, if◌then◌else◌};
 ghost use Rattle.std.specs.List.{slice_split};
 ghost use Rattle.wa_model.specs.ScriptLines.{hex_value, if_utf8, is_blank, is_comment, joined_digits, line_words, unescaped_parts, word_text};

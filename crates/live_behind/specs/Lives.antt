@@ -16,6 +16,7 @@ abbrev pub label_live : ℕ → Shape → List Bool → (behind : Bool) → Code
 label_live x a_block tos k body = k
 label_live x a_loop tos k body = live x (false ∷ tos) k body
 
+-- what is told behind an instruction, in front of others, where it is a call
 abbrev pub if_called : Option Callee → Bool → List Bool → List Bool
 if_called None b rest = rest
 if_called (Some c) b rest = b ∷ rest

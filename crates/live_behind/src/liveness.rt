@@ -1,3 +1,5 @@
+//! Whether a local is live behind a call: read on some way before it is written.
+
 ghost use Rattle.std.specs.Prelude.{◌≡◌, ◌++◌, ◌∷◌, ◌||◌, [], false, reverse, slice_get, IfOk, OnOk};
 ghost use Rattle.std.specs.List.{list_any};
 ghost use Rattle.wa_types.specs.Liveness.{live, told_at};

@@ -48,7 +48,8 @@ unfolding calls_of pruned code_bytes
 calls_take done = omega arith
 calls_take (plain p rest) = by (is_last p) (calls_take rest)
   where
-    by : (b : Bool) → length (calls_of (pruned rest)) ≤ length (code_bytes rest) → length (callee_onto (callee p) (calls_of (if b then done else pruned rest))) ≤ length (plain_bytes p ++ code_bytes rest)
+    by : (b : Bool) → length (calls_of (pruned rest)) ≤ length (code_bytes rest) → length (callee_onto (callee p) (calls_of (if b then done else pruned rest))) ≤ length
+        (plain_bytes p ++ code_bytes rest)
     by true h = omega (arith, plain_calls p [], length-append (plain_bytes p) (code_bytes rest))
     by false h = omega (arith, h, plain_calls p (calls_of (pruned rest)), length-append (plain_bytes p) (code_bytes rest))
 calls_take (nest s r body rest) =

@@ -111,7 +111,8 @@ fn word_from(told: &[bool], number: usize) -> u64
 
 /// Puts a word that takes the place of the one on top, where the index isn't below its first call.
 fn put_word(out: &mut Vec<Instr>, index: u32, word: u64, first: u32) -> Result<(), AllocError>
-    ensures { OnOk result (Puts out.old.items out.new.items (λ c. plain (basic (const (value_64 word))) (plain (local_get index) (plain (basic (const (value_32 first))) (plain (basic (num I32LtU)) (plain (basic select) c)))))) }
+    ensures { OnOk result (Puts out.old.items out.new.items (λ c. plain (basic (const (value_64 word)))
+        (plain (local_get index) (plain (basic (const (value_32 first))) (plain (basic (num I32LtU)) (plain (basic select) c)))))) }
 {
     out.push(Instr::Const(Value::I64(word)))?;
     out.push(Instr::LocalGet(index))?;

@@ -131,13 +131,15 @@ module _ (m : Module) (s : Settings) (which : List Bool) (frames : (index : ℕ)
   place_moved v ls None = refl
   place_moved v ls (Some f) = refl
 
-  lay_same : (a v v1 : Activation) (ls : List Value) (table : List (Option ℕ)) (g : ℕ) → PairAt (Base m) which a v → PairAt (Base m) which a v1 → AtNumber m s which valid table g a → k.lay v1 ≡ k.lay (moved v ls)
+  lay_same : (a v v1 : Activation) (ls : List Value) (table : List (Option ℕ)) (g : ℕ) → PairAt (Base m) which a v → PairAt (Base m) which a v1 → AtNumber m s which valid table g a
+      → k.lay v1 ≡ k.lay (moved v ls)
   lay_same a v v1 ls table g pv p1 num =
       let defined : defined_at m a.func ≡ Some num.func = sym (base_defined m a.func) ∙ num.is in
       call_frame_is m s which frames plan p a v1 p1 num.func defined ∙ sym (call_frame_is m s which frames plan p a v pv num.func defined)
       ∙ ap (λ i. (frames v.func).frame_at i) (place_moved v ls (defined_at m v.func))
 
-  same_moved : (table : List (Option ℕ)) (g : ℕ) (us vs vs1 cs : List Activation) → AllAtNumbers m s which valid table g us → AllPairs (Base m) which us vs → AllPairs (Base m) which us vs1 → AllSameFlat k.lay vs1 cs
+  same_moved : (table : List (Option ℕ)) (g : ℕ) (us vs vs1 cs : List Activation) → AllAtNumbers m s which valid table g us → AllPairs (Base m) which us vs → AllPairs (Base m) which us vs1
+      → AllSameFlat k.lay vs1 cs
       → AllSameFlat k.lay (moved_all vs vs1) (moved_all vs cs)
   same_moved table g [] [] vs1 cs nums pv p1 same = tt
   same_moved table g [] (v ∷ vs) vs1 cs nums pv p1 same = absurd pv
@@ -179,7 +181,8 @@ module _ (m : Module) (s : Settings) (which : List Bool) (frames : (index : ℕ)
   again_before (a ∷ us) [] ps = absurd ps
   again_before (a ∷ us) (v ∷ vs) ps = let pr = ps.0 in (record { func = pr.func; is = pr.is; extra = pr.extra; locals = pr.locals; held = pr.held }, again_before us vs ps.1)
 
-  more_moved : (lay : Activation → CallFrame) (us vs vs1 cs : List Activation) → AllPairs (Base m) which us vs → AllPairs (Base m) which us vs1 → AllSameFlat lay vs1 cs → AllMore p cs → AllMore p (moved_all vs cs)
+  more_moved : (lay : Activation → CallFrame) (us vs vs1 cs : List Activation) → AllPairs (Base m) which us vs → AllPairs (Base m) which us vs1 → AllSameFlat lay vs1 cs → AllMore p cs
+      → AllMore p (moved_all vs cs)
   more_moved lay [] [] vs1 cs pv p1 same more = tt
   more_moved lay [] (v ∷ vs) vs1 cs pv p1 same more = absurd pv
   more_moved lay (a ∷ us) [] vs1 cs pv p1 same more = absurd pv
@@ -193,7 +196,8 @@ module _ (m : Module) (s : Settings) (which : List Bool) (frames : (index : ℕ)
 
   -- a stack beside the one that came back, which differs from the suspended one only in locals that no path reads first
   chosen_waits : (i : ℕ) (d f : Configuration) (a v : Activation) (us vs cs : List Activation) → (l : LinkedWaits k B A i d f) → SameUnder (d.here ∷ d.under) cs → Callers (Base m) which i cs (v ∷ vs)
-      → AllMore p (v ∷ vs) → CallersFit (flat_module (Base m) which) l.beside.outs (results_of (flat_module (Base m) which) i) (v ∷ vs) → Unders (sides_here m s which frames plan p valid) (v ∷ vs) (a ∷ us)
+      → AllMore p (v ∷ vs) → CallersFit (flat_module (Base m) which) l.beside.outs (results_of (flat_module (Base m) which) i) (v ∷ vs)
+      → Unders (sides_here m s which frames plan p valid) (v ∷ vs) (a ∷ us)
       → WaitingFits k.flat l.flat_outs i (record { store = f.store; here = a; under = us }) → ConfigNamed (spaces_of k.flat) (record { store = f.store; here = a; under = us })
       → (chosen : Configuration) × SameLive d chosen × LinkedWaits k B A i chosen (record { store = f.store; here = a; under = us })
   chosen_waits i d f a v us vs [] l live beside more fq un fits named = let n = chosen_count (d.here ∷ d.under) [] live in absurd (omega arith)
@@ -234,7 +238,8 @@ module _ (m : Module) (s : Settings) (which : List Bool) (frames : (index : ℕ)
         },
       )
 
-  again : (top i : ℕ) (d f : Configuration) (a : Activation) (us : List Activation) → LinkedWaits k B A i d f → All (StandsNumbered m s which) (stack_of (Base m) d) → AllSameFlat k.lay (f.here ∷ f.under) (a ∷ us)
+  again : (top i : ℕ) (d f : Configuration) (a : Activation) (us : List Activation) → LinkedWaits k B A i d f → All (StandsNumbered m s which) (stack_of (Base m) d)
+      → AllSameFlat k.lay (f.here ∷ f.under) (a ∷ us)
       → (us' : List Activation) → Stopped (setting (world_of k) top) i (a ∷ us) us' → AllLocalsFit p us' → FlatAgain (world_of k) SameLive (N.L k B A) (N.W k B A) (GoodStore k) top i d f a us
   again top i d f a us l nums same us' st fit =
       let flat = flat_again m s which frames plan p valid tells em plan_fits codes top i d f a us l nums same us' st fit in
@@ -248,10 +253,12 @@ module _ (m : Module) (s : Settings) (which : List Bool) (frames : (index : ℕ)
       let stood = callers_moved (Base m) which i (d.here ∷ d.under) (v.here ∷ v.under) (f.here ∷ f.under) (be.asked).waits told (again_before (d.here ∷ d.under) (f.here ∷ f.under) ps) in
       let back = stacks_come_back (Base m) which k.lay i (d.here ∷ d.under) (moved_all (v.here ∷ v.under) (f.here ∷ f.under)) (moved_all (v.here ∷ v.under) (a ∷ us)) stood l.spots.waits
       (all_told d.store.table i (d.here ∷ d.under) at) (same_moved d.store.table i (d.here ∷ d.under) (v.here ∷ v.under) (f.here ∷ f.under) (a ∷ us) at pv ps same)
-      (framed_moved d.store.table i (d.here ∷ d.under) (v.here ∷ v.under) (f.here ∷ f.under) (a ∷ us) at pv ps (all_framed d.store.table i (d.here ∷ d.under) (f.here ∷ f.under) (a ∷ us) ps at same more)) in
+      (framed_moved d.store.table i (d.here ∷ d.under) (v.here ∷ v.under) (f.here ∷ f.under) (a ∷ us) at pv ps
+      (all_framed d.store.table i (d.here ∷ d.under) (f.here ∷ f.under) (a ∷ us) ps at same more)) in
       let r = chosen_waits i d f a (moved v.here a.locals) us (moved_all v.under us) back.chosen l back.live back.beside
       (more_moved k.lay (d.here ∷ d.under) (v.here ∷ v.under) (f.here ∷ f.under) (a ∷ us) pv ps same more)
-      (fits_moved m s which frames plan p k.lay be.outs (results_of (flat_module (Base m) which) i) l.flat_outs (results_of k.flat i) (v.here ∷ v.under) (f.here ∷ f.under) (a ∷ us) (be.slim_asked).stack same (be.fits).waits (flat.0).waits)
+      (fits_moved m s which frames plan p k.lay be.outs (results_of (flat_module (Base m) which) i) l.flat_outs (results_of k.flat i) (v.here ∷ v.under) (f.here ∷ f.under) (a ∷ us)
+      (be.slim_asked).stack same (be.fits).waits (flat.0).waits)
       (unders_moved m s which frames plan p k.lay (d.here ∷ d.under) (v.here ∷ v.under) (f.here ∷ f.under) (a ∷ us) (be.slim_asked).stack ps same) flat.0 flat.1 in
       record { chosen = r.0; live = r.1; waits = r.2 }
 

@@ -205,13 +205,15 @@ module _ (m : Module) (s : Settings) (which : List Bool) (policy : s.policy ≡ 
       defined = h.defined;
       lays =
           subst (λ p. Lays (wanted m h.func new) v.locals v.fn.layout.fields (Saved m p h.func new.place)) (sym policy)
-          (lays_same (OwnPasses (is_live_after h.func new.place) (length (locals_of m h.func))) (wanted m h.func old) (wanted m h.func new) v.locals v.fn.layout.fields (Saved m save_live h.func new.place)
+          (lays_same (OwnPasses (is_live_after h.func new.place) (length (locals_of m h.func))) (wanted m h.func old) (wanted m h.func new) v.locals v.fn.layout.fields
+          (Saved m save_live h.func new.place)
           (wants_same h.func h.defined) (saved_pass m h.func new.place)
           (subst (λ p. Lays (wanted m h.func old) v.locals v.fn.layout.fields (Saved m p h.func old.place)) policy h.lays));
       number = h.number;
     }
 
-  all_stand : (g : ℕ) (ws : List Level) (us vs : List Activation) → SameUnder us vs → CallersAtSpots (Base m) g vs → AllStandFor m s which ws (map (suspended b) vs) → AllStandFor m s which ws (map (suspended b) us)
+  all_stand : (g : ℕ) (ws : List Level) (us vs : List Activation) → SameUnder us vs → CallersAtSpots (Base m) g vs → AllStandFor m s which ws (map (suspended b) vs)
+      → AllStandFor m s which ws (map (suspended b) us)
   all_stand g [] _ _ none at h = h
   all_stand g (w ∷ ws) _ _ none at h = absurd h
   all_stand g [] _ _ (also e rest) at h = absurd h

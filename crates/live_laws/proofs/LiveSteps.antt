@@ -1,11 +1,13 @@
 -- One reduction of configurations that differ in locals that aren't read before they are written.
-use Rattle.std.proofs.Common.{◌≡◌, ◌≢◌, ℕ, zero, suc, ◌+◌, ◌≤◌, inl, inr, List, [], ◌∷◌, ◌++◌, length, map, take, drop, reverse, Option, Some, None, Bool, true, false, eq-eqb, refl, sym, ap, ◌∙◌, subst, arith, eqb-true, get_or-set_other, length-set}
+use Rattle.std.proofs.Common.{◌≡◌, ◌≢◌, ℕ, zero, suc, ◌+◌, ◌≤◌, inl, inr, List, [], ◌∷◌, ◌++◌, length, map, take, drop, reverse, Option, Some, None, Bool, true, false, eq-eqb, refl, sym, ap}
+use Rattle.std.proofs.Common.{◌∙◌, subst, arith, eqb-true, get_or-set_other, length-set}
 use Rattle.std.specs.Prelude.{nat_eq, nat_lt, slice_get, slice_set, unwrap_or, if◌then◌else◌}
 use Rattle.wa_types.specs.Liveness.{Position, ReadsFirst, SomeTarget, ends_here, goes_on, goes_again, goes_behind, position, target, Leads, writes}
 use Rattle.wa_types.specs.Liveness as L
 use Rattle.wa_types.specs.Modules.{defined_at, func_imports, func_type_at, type_at}
 use Rattle.wa_types.specs.Pruned.{pruned}
-use Rattle.wa_types.specs.Syntax.{Code, Func, Module, Plain, a_block, a_loop, basic, br, br_if, br_table, branch, call, call_indirect, done, local_get, local_set, local_tee, nest, plain, return, unreachable}
+use Rattle.wa_types.specs.Syntax.{Code, Func, Module, Plain, a_block, a_loop, basic, br, br_if, br_table, branch, call, call_indirect, done, local_get, local_set, local_tee, nest, plain}
+use Rattle.wa_types.specs.Syntax.{return, unreachable}
 use Rattle.wa_types.specs.declared.values.Value.{Value}
 use Rattle.wa_types.specs.declared.values.Value.TheVariants as V
 use Rattle.wa_types.specs.declared.values.Trap.TheVariants.{StackExhausted, TypeMismatch}

@@ -26,6 +26,7 @@ place code labels = position (pruned code) (map leads_to labels)
 abbrev pub AgreeAt : Position → (ls ls' : List Value) → Type 0
 AgreeAt at ls ls' = (x : ℕ) → ReadsFirst x at → value_at ls' x ≡ value_at ls x
 
+-- as many locals, and the same values of those that are read first
 abbrev pub SameLocals : Code → List Label → (ls ls' : List Value) → Type 0
 SameLocals code labels ls ls' = (length ls' ≡ length ls) × AgreeAt (place code labels) ls ls'
 

@@ -1,5 +1,6 @@
 -- What is kept at calls, told exactly.
-use Rattle.std.proofs.Common.{◌≡◌, ◌∙◌, ℕ, zero, suc, ◌-◌, ◌+◌, ◌<◌, ◌≤◌, ◌↔◌, ◌⊎◌, inl, inr, List, [], ◌∷◌, ◌++◌, length, map, reverse, drop, get_or, Option, Some, None, Bool, true, false, ◌||◌, All, refl, sym, ap, arith, subst, length-append}
+use Rattle.std.proofs.Common.{◌≡◌, ◌∙◌, ℕ, zero, suc, ◌-◌, ◌+◌, ◌<◌, ◌≤◌, ◌↔◌, ◌⊎◌, inl, inr, List, [], ◌∷◌, ◌++◌, length, map, reverse, drop, get_or, Option, Some, None, Bool, true, false}
+use Rattle.std.proofs.Common.{◌||◌, All, refl, sym, ap, arith, subst, length-append}
 use Rattle.std.specs.Prelude.{Vec, if◌then◌else◌, nat_eq, slice_get}
 use Rattle.std.specs.List.{list_any}
 use Rattle.std.specs.declared.alloc.Global.{Global}
@@ -12,7 +13,8 @@ use Rattle.wa_types.specs.Liveness.{Label, goes_behind, goes_again, Position, po
 use Rattle.wa_types.proofs.LiveLemmas.{live_reads, reads_live}
 use Rattle.wa_model.specs.declared.flat.Operand.{Operand}
 use Rattle.wa_model.specs.declared.flat.Operand.TheVariants.{Local, Const}
-use Rattle.wa_model.specs.Flat.{Stmts, no_more, computes, copies, calls, leaps, leaps_if, leaps_by, nests, decides, halts, FlatFunc, followed_by, got, all_got, set_to, slots_got, last_of, code_of, result_got, body_of}
+use Rattle.wa_model.specs.Flat.{Stmts, no_more, computes, copies, calls, leaps, leaps_if, leaps_by, nests, decides, halts, FlatFunc, followed_by, got, all_got, set_to, slots_got, last_of}
+use Rattle.wa_model.specs.Flat.{code_of, result_got, body_of}
 use Rattle.wa_model.specs.FlatFits.{IsCallCode}
 use Rattle.guard_form.specs.Grouping.{is_place}
 use Rattle.guard_form.specs.Pieces.{call_total}
@@ -245,7 +247,8 @@ module _ (x : ℕ) where
   places_are : (f : FlatFunc) → behind_calls [] (body_of f) ≡ behind_calls (goes_behind (result_got f.result) ∷ []) (code_of f.body)
   unfolding behind_calls
   places_are f =
-      ap (λ ps. behind_calls (goes_behind (result_got f.result) ∷ []) (code_of f.body) ++ ps) (no_calls [] f.result) ∙ append-nil (behind_calls (goes_behind (result_got f.result) ∷ []) (code_of f.body))
+      ap (λ ps. behind_calls (goes_behind (result_got f.result) ∷ []) (code_of f.body) ++ ps) (no_calls [] f.result)
+      ∙ append-nil (behind_calls (goes_behind (result_got f.result) ∷ []) (code_of f.body))
 
   some_same : {X : Type 0} (a b : X) → Some a ≡ Some b → a ≡ b
   some_same a b e = cc

@@ -1,5 +1,6 @@
 -- The sets of numbered calls, statement by statement.
-use Rattle.std.proofs.Common.{◌≡◌, ◌∙◌, ℕ, zero, suc, ◌-◌, ◌+◌, ◌<◌, ◌≤◌, List, [], ◌∷◌, ◌++◌, length, map, reverse, drop, get_or, Option, Some, None, Bool, true, false, All, refl, sym, ap, arith, subst, length-append}
+use Rattle.std.proofs.Common.{◌≡◌, ◌∙◌, ℕ, zero, suc, ◌-◌, ◌+◌, ◌<◌, ◌≤◌, List, [], ◌∷◌, ◌++◌, length, map, reverse, drop, get_or, Option, Some, None, Bool, true, false, All, refl, sym, ap}
+use Rattle.std.proofs.Common.{arith, subst, length-append}
 use Rattle.std.specs.Prelude.{Vec, if◌then◌else◌}
 use Rattle.std.specs.declared.alloc.Global.{Global}
 use Rattle.std.proofs.lemmas.List.{append-nil, append_assoc, map-append, reverse-append}
@@ -10,7 +11,8 @@ use Rattle.wa_types.specs.View.{in_front}
 use Rattle.wa_types.specs.Liveness.{live}
 use Rattle.wa_model.specs.declared.flat.Operand.{Operand}
 use Rattle.wa_model.specs.declared.flat.Stmt.{Stmt}
-use Rattle.wa_model.specs.declared.flat.Stmt.TheVariants.{Plain as PlainStmt, Move, Call as CallStmt, Br as BrStmt, BrIf as BrIfStmt, BrTable as BrTableStmt, Block, Loop, If, Unreachable as UnreachableStmt, Block', Loop', If', rolls-Block, rolls-Loop, rolls-If, outs-Block', outs-Loop', outs-If'}
+use Rattle.wa_model.specs.declared.flat.Stmt.TheVariants.{Plain as PlainStmt, Move, Call as CallStmt, Br as BrStmt, BrIf as BrIfStmt, BrTable as BrTableStmt, Block, Loop, If}
+use Rattle.wa_model.specs.declared.flat.Stmt.TheVariants.{Unreachable as UnreachableStmt, Block', Loop', If', rolls-Block, rolls-Loop, rolls-If, outs-Block', outs-Loop', outs-If'}
 use Rattle.wa_model.specs.declared.flat.Stmt.{roll-Stmt, roll-out-Stmt}
 use Rattle.wa_model.specs.Flat.{Stmts, no_more, computes, copies, calls, leaps, leaps_if, leaps_by, nests, decides, halts, followed_by, set_to, slots_got, code_of}
 use Rattle.wa_model.specs.FlatView.{stmt_in_front, stmts}
@@ -82,7 +84,8 @@ kept_with x tos out (decides o a b rest) s =
     ap (λ z. ka ++ (z ++ kept x tos out s)) (sym (append-nil kb)) ∙ sym (append_assoc ka (kb ++ []) (kept x tos out s))
 kept_with x tos out (halts rest) s = refl
 
-pub kept_front : (x : ℕ) (tos : List Bool) (out : Bool) (st : Stmt) (s : Stmts) → kept x tos out (stmt_in_front st s) ≡ kept x tos (live x tos out (code_of s)) (stmt_in_front st no_more) ++ kept x tos out s
+pub kept_front : (x : ℕ) (tos : List Bool) (out : Bool) (st : Stmt) (s : Stmts) → kept x tos out (stmt_in_front st s) ≡ kept x tos (live x tos out (code_of s)) (stmt_in_front st no_more)
+    ++ kept x tos out s
 kept_front x tos out st s =
     ap (kept x tos out) (in_front_is st s) ∙ kept_with x tos out (stmt_in_front st no_more) s
     ∙ ap (λ u. kept x tos (live x tos out (code_of s)) u ++ kept x tos out s) (sym (in_front_is st no_more))
@@ -122,7 +125,8 @@ total_drop (suc i) (x ∷ xs) = let a = total_drop i xs in let b = total_front x
 
 -- ---- counting
 
-pub count_next : (xs : List Stmt) (j : ℕ) (x : Stmt) (next next2 m : ℕ) → j < length xs → x ≡ get_or xs j x → next2 ≡ next + call_total (stmt_in_front x no_more) → next + call_total (stmts (drop j xs)) ≡ m
+pub count_next : (xs : List Stmt) (j : ℕ) (x : Stmt) (next next2 m : ℕ) → j < length xs → x ≡ get_or xs j x → next2 ≡ next + call_total (stmt_in_front x no_more)
+    → next + call_total (stmts (drop j xs)) ≡ m
     → next2 + call_total (stmts (drop (j + 1) xs)) ≡ m
 count_next xs j x next next2 m lt at n e =
     let q = ap call_total (stmts_step xs j x lt at) in let f = total_front x (stmts (drop (j + 1) xs)) in omega (arith, q, f, n, e)
@@ -133,7 +137,8 @@ count_end xs j next m le e = let q = ap call_total (stmts_end xs j le) in omega 
 pub nest_total : (n m : ℕ) (x : Stmt) (y : _) (body : Stmts) → stmt_in_front x no_more ≡ nests y body no_more → m ≡ n + call_total body → m ≡ n + call_total (stmt_in_front x no_more)
 nest_total n m x y body is e = let q = ap call_total is in omega (arith, q, e)
 
-pub if_total : (n m l : ℕ) (x : Stmt) (o : Operand) (s t : Stmts) → stmt_in_front x no_more ≡ decides o s t no_more → m ≡ n + call_total s → l ≡ m + call_total t → l ≡ n + call_total (stmt_in_front x no_more)
+pub if_total : (n m l : ℕ) (x : Stmt) (o : Operand) (s t : Stmts) → stmt_in_front x no_more ≡ decides o s t no_more → m ≡ n + call_total s → l ≡ m + call_total t
+    → l ≡ n + call_total (stmt_in_front x no_more)
 if_total n m l x o s t is e f = let q = ap call_total is in omega (arith, q, e, f)
 
 -- ---- rows
@@ -144,7 +149,8 @@ as_long rows n m e h = subst (λ k. All (λ (row : Vec Bool Global). length row.
 
 module _ (ns : List ℕ) where
   -- two stretches of calls, the later one put first
-  pub rows_pair : (tos tos1 tos2 : List (Vec Bool Global)) (a a1 a2 : List Bool) (s s1 s2 : Stmts) (last mid first : ℕ) (old between new : List (Vec Bool Global)) → length a1 ≡ length a → length a2 ≡ length a
+  pub rows_pair : (tos tos1 tos2 : List (Vec Bool Global)) (a a1 a2 : List Bool) (s s1 s2 : Stmts) (last mid first : ℕ) (old between new : List (Vec Bool Global)) → length a1 ≡ length a
+      → length a2 ≡ length a
       → call_total s ≡ call_total s2 + call_total s1
       → ((x : ℕ) → x < length a → kept x (told_of x tos) (has a x) s ≡ kept x (told_of x tos2) (has a2 x) s2 ++ kept x (told_of x tos1) (has a1 x) s1)
       → RowsPut ns tos1 a1 s1 last mid old between → RowsPut ns tos2 a2 s2 mid first between new → RowsPut ns tos a s last first old new
@@ -192,7 +198,8 @@ module _ (ns : List ℕ) where
       let e = stmts_end xs (length xs) (omega arith) in
       rows_none tos a (stmts (drop (length xs) xs)) last old (ap call_total e) (λ x. ap (kept x (told_of x tos) (has a x)) e)
 
-  pub rows_before : (tos mid : List (Vec Bool Global)) (a b : List Bool) (xs : List Stmt) (left : ℕ) (x : Stmt) (last place first : ℕ) (old between new : List (Vec Bool Global)) → 0 < left → left ≤ length xs
+  pub rows_before : (tos mid : List (Vec Bool Global)) (a b : List Bool) (xs : List Stmt) (left : ℕ) (x : Stmt) (last place first : ℕ) (old between new : List (Vec Bool Global)) → 0 < left
+      → left ≤ length xs
       → x ≡ get_or xs (left - 1) x → Passed tos mid a b (code_of (stmts (drop left xs))) → RowsPut ns tos a (stmts (drop left xs)) last place old between
       → RowsPut ns mid b (stmt_in_front x no_more) place first between new → RowsPut ns tos a (stmts (drop (left - 1) xs)) last first old new
   rows_before tos mid a b xs left x last place first old between new some within at p f g =
@@ -206,7 +213,8 @@ module _ (ns : List ℕ) where
       (ap (λ c. kept y (told_of y tos) c (stmt_in_front x no_more)) (sym (p.tells.each y lt)) ∙ ap (λ ts. kept y (told_of y ts) (has b y) (stmt_in_front x no_more)) (sym p.labels)))
       f g
 
-  pub rows_end : (tos : List (Vec Bool Global)) (a : List Bool) (xs : List Stmt) (left last first : ℕ) (old new : List (Vec Bool Global)) → left ≡ 0 → RowsPut ns tos a (stmts (drop left xs)) last first old new
+  pub rows_end : (tos : List (Vec Bool Global)) (a : List Bool) (xs : List Stmt) (left last first : ℕ) (old new : List (Vec Bool Global)) → left ≡ 0
+      → RowsPut ns tos a (stmts (drop left xs)) last first old new
       → RowsPut ns tos a (stmts xs) last first old new
   rows_end tos a xs left last first old new e h = subst (λ n. RowsPut ns tos a (stmts (drop n xs)) last first old new) e h
 

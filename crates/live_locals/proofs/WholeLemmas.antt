@@ -95,7 +95,8 @@ module _ (f : FlatFunc) (ns : List ℕ) (v : Vec Bool Global) (behind : List Boo
     locals = λ k lt.
         let n = length-reverse rows in let m = their_count in
         ap length (of_list k lt) ∙ ap (λ (s : Vec Bool Global). length s.items) (get_or-reverse rows k v (omega (arith, m, lt)))
-        ∙ All-get_or (λ (s : Vec Bool Global). length s.items ≡ length behind) rows (length rows - 1 - k) v (omega (arith, m, lt)) (put.sizes (All-nil (λ (s : Vec Bool Global). length s.items ≡ length behind))) ∙ size;
+        ∙ All-get_or (λ (s : Vec Bool Global). length s.items ≡ length behind) rows (length rows - 1 - k) v (omega (arith, m, lt))
+        (put.sizes (All-nil (λ (s : Vec Bool Global). length s.items ≡ length behind))) ∙ size;
     exact = λ k place x at lt.
         let within = slice_get_within ns k place at in
         let is : get_or ns k 0 ≡ place = get_or_from_slice_get ns k place 0 at in
@@ -105,11 +106,13 @@ module _ (f : FlatFunc) (ns : List ℕ) (v : Vec Bool Global) (behind : List Boo
         column_at (reverse rows) k x ∙ ap (λ bs. get_or bs k false) (columns_are x lt) ∙ get_or-map (λ p. get_or (K x) (p - 0) false) ns k 0 false within
         ∙ ap (λ p. get_or (K x) (p - 0) false) is ∙ ap (λ p. get_or (K x) p false) none in
         subst (λ b. (b ≡ true) ↔ KeepsAt f place x) (sym e)
-        (told_exactly x f (has behind x) place ((read []).each x (let l = length-replicate (length f.locals) false in omega (arith, l, lt)) ∙ ap (λ o. live x [] o (result_got f.result)) (none_has (length f.locals) x)) fit low);
+        (told_exactly x f (has behind x) place ((read []).each x (let l = length-replicate (length f.locals) false in omega (arith, l, lt))
+        ∙ ap (λ o. live x [] o (result_got f.result)) (none_has (length f.locals) x)) fit low);
   }
 
 -- the same of what the walk is given and answers
-pub sets_are : (f : FlatFunc) (ns : List ℕ) (v : Vec Bool Global) (none told behind : List Bool) (s t : Stmts) (count first : ℕ) (tos old rows new : List (Vec Bool Global)) → StmtsFit (length f.locals) 1 f.body
+pub sets_are : (f : FlatFunc) (ns : List ℕ) (v : Vec Bool Global) (none told behind : List Bool) (s t : Stmts) (count first : ℕ) (tos old rows new : List (Vec Bool Global))
+    → StmtsFit (length f.locals) 1 f.body
     → Rises ns → All (λ n. n < call_total f.body) ns → none ≡ replicate (length f.locals) false → TellsAnywhere none told (result_got f.result) → behind ≡ told → v.items ≡ behind → tos ≡ v ∷ []
     → s ≡ f.body → t ≡ f.body → count ≡ 0 + call_total t → old ≡ [] → RowsPut ns tos behind s count first old rows → new ≡ reverse rows → LiveAtCalls f ns (lists_of new)
 sets_are f ns v none told behind s t count first tos old rows new fits rises range en read eb ev et es est ec eo put er =

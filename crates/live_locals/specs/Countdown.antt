@@ -9,12 +9,14 @@ use Rattle.wa_model.specs.declared.flat.Operand.TheVariants.{Local, Const}
 use Rattle.wa_model.specs.Flat.{Stmts, no_more, computes, copies, calls, leaps_if, nests, decides, FlatFunc}
 use Rattle.live_locals.specs.LiveAt.{KeepsAt}
 
+-- a turn of the loop
 abbrev pub one_turn : Stmts
 one_turn =
     copies 2 (Local 1) (decides (Const (value_32 0)) (copies 3 (Const (value_32 100)) no_more) (copies 3 (Local 0) (calls (plain (call 0) done) (2 ∷ 3 ∷ []) 1 (Some 3) no_more))
     (computes (plain (basic (num I32Add)) done) (Local 2 ∷ Local 3 ∷ []) (Some 2) (copies 1 (Local 2) (computes (plain (basic (num I32Sub)) done) (Local 0 ∷ Const (value_32 1) ∷ []) (Some 2)
     (copies 0 (Local 2) (leaps_if (Local 2) 0 no_more))))))
 
+-- the function
 abbrev pub countdown : FlatFunc
 countdown = record {
   func = 1;

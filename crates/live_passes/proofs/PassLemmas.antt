@@ -1,5 +1,6 @@
 -- Bodies and constructs, passed over backwards.
-use Rattle.std.proofs.Common.{◌≡◌, ◌∙◌, ℕ, zero, suc, ◌-◌, ◌+◌, ◌<◌, ◌≤◌, List, [], ◌∷◌, ◌++◌, length, take, drop, get_or, Option, Some, None, Bool, true, false, ◌||◌, refl, sym, ap, arith, subst, length-append}
+use Rattle.std.proofs.Common.{◌≡◌, ◌∙◌, ℕ, zero, suc, ◌-◌, ◌+◌, ◌<◌, ◌≤◌, List, [], ◌∷◌, ◌++◌, length, take, drop, get_or, Option, Some, None, Bool, true, false, ◌||◌, refl, sym, ap, arith}
+use Rattle.std.proofs.Common.{subst, length-append}
 use Rattle.std.specs.Prelude.{Vec}
 use Rattle.std.specs.declared.alloc.Global.{Global}
 use Rattle.std.proofs.lemmas.List.{take_at}
@@ -7,7 +8,8 @@ use Rattle.wa_types.specs.Syntax.{a_block, a_loop, Code, done, plain, nest, bran
 use Rattle.wa_types.specs.Liveness.{live}
 use Rattle.wa_model.specs.declared.flat.Operand.{Operand}
 use Rattle.wa_model.specs.declared.flat.Stmt.{Stmt}
-use Rattle.wa_model.specs.declared.flat.Stmt.TheVariants.{Plain as PlainStmt, Move, Call as CallStmt, Br as BrStmt, BrIf as BrIfStmt, BrTable as BrTableStmt, Block, Loop, If, Unreachable as UnreachableStmt, Block', Loop', If', rolls-Block, rolls-Loop, rolls-If, outs-Block', outs-Loop', outs-If'}
+use Rattle.wa_model.specs.declared.flat.Stmt.TheVariants.{Plain as PlainStmt, Move, Call as CallStmt, Br as BrStmt, BrIf as BrIfStmt, BrTable as BrTableStmt, Block, Loop, If}
+use Rattle.wa_model.specs.declared.flat.Stmt.TheVariants.{Unreachable as UnreachableStmt, Block', Loop', If', rolls-Block, rolls-Loop, rolls-If, outs-Block', outs-Loop', outs-If'}
 use Rattle.wa_model.specs.declared.flat.Stmt.{roll-Stmt, roll-out-Stmt}
 use Rattle.wa_model.specs.Flat.{Stmts, no_more, nests, decides, followed_by, got, code_of}
 use Rattle.wa_model.specs.FlatView.{stmt_in_front, stmts}
@@ -30,7 +32,8 @@ passed_before tos mid new a b c xs left x some within at f g = record {
       (subst (λ ts. TellsBefore ts b c (code_of (stmt_in_front x no_more))) f.labels g.tells));
 }
 
-pub passed_end : (tos new : List (Vec Bool Global)) (a b : List Bool) (xs : List Stmt) (left : ℕ) → left ≡ 0 → Passed tos new a b (code_of (stmts (drop left xs))) → Passed tos new a b (code_of (stmts xs))
+pub passed_end : (tos new : List (Vec Bool Global)) (a b : List Bool) (xs : List Stmt) (left : ℕ) → left ≡ 0 → Passed tos new a b (code_of (stmts (drop left xs)))
+    → Passed tos new a b (code_of (stmts xs))
 passed_end tos new a b xs left e h = subst (λ n. Passed tos new a b (code_of (stmts (drop n xs)))) e h
 
 -- ---- labels put and taken away
@@ -72,7 +75,8 @@ module _ (x : Stmt) (tos : List (Vec Bool Global)) where
   abbrev one : Code
   one = code_of (stmt_in_front x no_more)
 
-  pub block_passed : (body : Stmts) (v : Vec Bool Global) (mid : Vec (Vec Bool Global) Global) (inside new : List (Vec Bool Global)) (a b : List Bool) → stmt_in_front x no_more ≡ nests a_block body no_more
+  pub block_passed : (body : Stmts) (v : Vec Bool Global) (mid : Vec (Vec Bool Global) Global) (inside new : List (Vec Bool Global)) (a b : List Bool)
+      → stmt_in_front x no_more ≡ nests a_block body no_more
       → v.items ≡ a → inside ≡ tos ++ v ∷ [] → Passed inside mid.items a b (code_of body) → new ≡ take (mid.len - 1) mid.items → Passed tos new a b one
   unfolding code_of
   block_passed body v mid inside new a b is e ei h r = record {
@@ -81,7 +85,8 @@ module _ (x : Stmt) (tos : List (Vec Bool Global)) where
         (block_tells tos v a b (code_of body) e (subst (λ ts. TellsBefore ts a b (code_of body)) ei h.tells));
   }
 
-  pub loop_passed : (body : Stmts) (v : Vec Bool Global) (mid : Vec (Vec Bool Global) Global) (inside new : List (Vec Bool Global)) (a b : List Bool) → stmt_in_front x no_more ≡ nests a_loop body no_more
+  pub loop_passed : (body : Stmts) (v : Vec Bool Global) (mid : Vec (Vec Bool Global) Global) (inside new : List (Vec Bool Global)) (a b : List Bool)
+      → stmt_in_front x no_more ≡ nests a_loop body no_more
       → v.items ≡ [] → inside ≡ tos ++ v ∷ [] → Passed inside mid.items a b (code_of body) → new ≡ take (mid.len - 1) mid.items → Passed tos new a b one
   unfolding code_of
   loop_passed body v mid inside new a b is e ei h r = record {
@@ -91,8 +96,10 @@ module _ (x : Stmt) (tos : List (Vec Bool Global)) where
   }
 
   -- `lent` is the set of the then arm as it is read again
-  pub if_passed : (o : Operand) (s t : Stmts) (v : Vec Bool Global) (mid : List (Vec Bool Global)) (last : Vec (Vec Bool Global) Global) (inside new : List (Vec Bool Global)) (a own first lent second joined b : List Bool)
-      → stmt_in_front x no_more ≡ decides o s t no_more → v.items ≡ a → own ≡ a → lent ≡ first → inside ≡ tos ++ v ∷ [] → Passed inside mid a second (code_of t) → Passed mid last.items own first (code_of s)
+  pub if_passed : (o : Operand) (s t : Stmts) (v : Vec Bool Global) (mid : List (Vec Bool Global)) (last : Vec (Vec Bool Global) Global) (inside new : List (Vec Bool Global))
+      (a own first lent second joined b : List Bool)
+      → stmt_in_front x no_more ≡ decides o s t no_more → v.items ≡ a → own ≡ a → lent ≡ first → inside ≡ tos ++ v ∷ [] → Passed inside mid a second (code_of t)
+      → Passed mid last.items own first (code_of s)
       → new ≡ take (last.len - 1) last.items → length joined ≡ length second → ((y : ℕ) → y < length second → has joined y ≡ (has lent y || has second y))
       → TellsAnywhere joined b (got o done) → Passed tos new a b one
   unfolding code_of

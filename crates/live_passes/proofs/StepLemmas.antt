@@ -4,14 +4,17 @@ use Rattle.std.specs.Prelude.{Vec}
 use Rattle.std.specs.declared.alloc.Global.{Global}
 use Rattle.std.proofs.lemmas.List.{drop_all, get_or_default, take_rest}
 use Rattle.wa_types.specs.declared.instrs.Instr.{Instr}
-use Rattle.wa_types.specs.declared.instrs.Instr.TheVariants.{Unreachable as UnreachableInstr, Nop, Drop, Select, Return, MemorySize, MemoryGrow, Const as ConstInstr, Num, Br as BrInstr, BrIf as BrIfInstr, BrTable as BrTableInstr, Call as CallInstr, CallIndirect, LocalGet, LocalSet, LocalTee, GlobalGet, GlobalSet, Load, Store, Block' as BlockInstr', Loop' as LoopInstr', If' as IfInstr'}
+use Rattle.wa_types.specs.declared.instrs.Instr.TheVariants.{Unreachable as UnreachableInstr, Nop, Drop, Select, Return, MemorySize, MemoryGrow, Const as ConstInstr, Num, Br as BrInstr}
+use Rattle.wa_types.specs.declared.instrs.Instr.TheVariants.{BrIf as BrIfInstr, BrTable as BrTableInstr, Call as CallInstr, CallIndirect, LocalGet, LocalSet, LocalTee, GlobalGet, GlobalSet}
+use Rattle.wa_types.specs.declared.instrs.Instr.TheVariants.{Load, Store, Block' as BlockInstr', Loop' as LoopInstr', If' as IfInstr'}
 use Rattle.wa_types.specs.Syntax.{Plain, basic, local_get, local_set, local_tee, br, br_if, br_table, unreachable, call, call_indirect, Code, done, plain, nest, branch}
 use Rattle.wa_types.specs.View.{in_front}
 use Rattle.wa_types.specs.Liveness.{live}
 use Rattle.wa_model.specs.declared.flat.Operand.{Operand}
 use Rattle.wa_model.specs.declared.flat.Operand.TheVariants.{Local, Const}
 use Rattle.wa_model.specs.declared.flat.Stmt.{Stmt}
-use Rattle.wa_model.specs.declared.flat.Stmt.TheVariants.{Plain as PlainStmt, Move, Call as CallStmt, Br as BrStmt, BrIf as BrIfStmt, BrTable as BrTableStmt, Block', Loop', If', Unreachable as UnreachableStmt}
+use Rattle.wa_model.specs.declared.flat.Stmt.TheVariants.{Plain as PlainStmt, Move, Call as CallStmt, Br as BrStmt, BrIf as BrIfStmt, BrTable as BrTableStmt, Block', Loop', If'}
+use Rattle.wa_model.specs.declared.flat.Stmt.TheVariants.{Unreachable as UnreachableStmt}
 use Rattle.wa_model.specs.Flat.{Stmts, no_more, computes, copies, calls, leaps, leaps_if, leaps_by, nests, decides, halts, followed_by, got, all_got, set_to, slots_got, last_of, code_of, result_got}
 use Rattle.wa_model.specs.FlatView.{stmt_in_front}
 use Rattle.wa_model.specs.FlatFits.{IsCallCode}
@@ -152,7 +155,8 @@ module _ (tos : List (Vec Bool Global)) (x : Stmt) where
       ∙ sym (ap code_of (as_plain x op args to e no_more)))
       (tells_then tos a c d (all_got xs done) (followed_by (in_front op done) (set_to to done)) op_to (h tos))
 
-  pub move_arm : (to : ℕ) (from : Operand) (a b c : List Bool) → x ≡ Move to from → TellsAnywhere a b (plain (local_set to) done) → TellsAnywhere b c (got from done) → TellsBefore tos a c (code_of one)
+  pub move_arm : (to : ℕ) (from : Operand) (a b c : List Bool) → x ≡ Move to from → TellsAnywhere a b (plain (local_set to) done) → TellsAnywhere b c (got from done)
+      → TellsBefore tos a c (code_of one)
   unfolding code_of
   move_arm to from a b c e f g =
       tells_as tos a c (followed_by (got from done) (plain (local_set to) done)) (code_of one)

@@ -44,7 +44,9 @@ fn live_body(
     requires few { call_total (flat_func_of flat.now.func).body < 2 ^ 32 }
     requires slots { flat.now.first_slot ≤ flat.now.first_result }
     requires parts { FewParts (parts_view parts.now) }
-    ensures { IfOk result (λ v. (m : PlainModule) (f : PlainFunc) (count : ℕ) → IsFlattened m f flat.now → IsSlimBody m numbers.now ids.now.state flat.now.func.func f (restoring_by_call (frames_of (told_frames count (length flat.now.func.locals.items) ids.now.address parts.now)) done) (saving_by_call (frames_of (told_frames count (length flat.now.func.locals.items) ids.now.address parts.now)) done) (code v.items)) }
+    ensures { IfOk result (λ v. (m : PlainModule) (f : PlainFunc) (count : ℕ) → IsFlattened m f flat.now
+        → IsSlimBody m numbers.now ids.now.state flat.now.func.func f (restoring_by_call (frames_of (told_frames count (length flat.now.func.locals.items) ids.now.address parts.now)) done)
+        (saving_by_call (frames_of (told_frames count (length flat.now.func.locals.items) ids.now.address parts.now)) done) (code v.items)) }
 {
     let base = flat.func.locals.len() as u32;
     let restored = restoring(alloc, parts, base, ids.address)?;

@@ -1,5 +1,6 @@
 -- What comes back stands beside the same operands, and beside own locals that differ only where no path reads first.
-use Rattle.std.proofs.Common.{◌≡◌, ℕ, zero, suc, ◌+◌, ◌<◌, ◌≤◌, ◌⊎◌, inl, inr, List, [], ◌∷◌, ◌++◌, length, map, take, drop, reverse, Option, Some, None, Bool, true, false, ◌&&◌, refl, sym, ap, ◌∙◌, subst, arith, length-append, ⊎_elim}
+use Rattle.std.proofs.Common.{◌≡◌, ℕ, zero, suc, ◌+◌, ◌<◌, ◌≤◌, ◌⊎◌, inl, inr, List, [], ◌∷◌, ◌++◌, length, map, take, drop, reverse, Option, Some, None, Bool, true, false, ◌&&◌, refl, sym}
+use Rattle.std.proofs.Common.{ap, ◌∙◌, subst, arith, length-append, ⊎_elim}
 use Rattle.std.specs.Prelude.{slice_get}
 use Rattle.std.proofs.lemmas.Bool.{cases_lt}
 use Rattle.std.proofs.lemmas.List.{get_or-take, get_or_append_left, get_or_past, length-drop, length-map, length-take-le, take-append-drop}
@@ -112,7 +113,8 @@ the_func x y e = cc
 some_from : (y : ℕ) (o : Option Position) (at : Position) → o ≡ Some at → ReadsFirst y at → live_from y o ≡ true
 some_from y o at e h = ap (live_from y) e ∙ reads_live y at h
 
-module _ (m : Module) (f : Func) (g : ℕ) (a : Activation) (extra locals : List Value) (is : defined_at m a.func ≡ Some f) (at : WaitsAtSpot m g a) (held : Locals m f a.locals extra (a.taken ++ a.operands))
+module _ (m : Module) (f : Func) (g : ℕ) (a : Activation) (extra locals : List Value) (is : defined_at m a.func ≡ Some f) (at : WaitsAtSpot m g a)
+    (held : Locals m f a.locals extra (a.taken ++ a.operands))
     (size : length locals ≡ length (a.locals ++ extra)) (typed : types_of (take (length a.locals) locals) ≡ locals_of m f)
     (same : (y : ℕ) → IsKept y (fields_at m f (place_of (Some f) a.code a.labels)) → value_at locals y ≡ value_at (a.locals ++ extra) y) where
   abbrev own : List Value
@@ -157,7 +159,8 @@ module _ (m : Module) (f : Func) (g : ℕ) (a : Activation) (extra locals : List
       let o = own_size in
       let z : 0 + y ≡ y = omega arith in
       subst (λ i. IsKept i (fields_at m f call_place)) z
-      (kept_own (is_live_after f call_place) 0 (locals_of m f) (slot_places (is_on_stack (slice_get (func_call_points m f) call_place)) (length (locals_of m f)) (SlotPairs m f)) y (omega (arith, lt, o))
+      (kept_own (is_live_after f call_place) 0 (locals_of m f) (slot_places (is_on_stack (slice_get (func_call_points m f) call_place)) (length (locals_of m f)) (SlotPairs m f)) y
+      (omega (arith, lt, o))
       (ap (is_live_after f call_place) z ∙ some_from y (slice_get (behind_calls [] (pruned f.body)) call_place) (place a.code a.labels) behind r))
 
   live : SameLocals a.code a.labels a.locals own
@@ -167,7 +170,8 @@ module _ (m : Module) (f : Func) (g : ℕ) (a : Activation) (extra locals : List
       by y r (inl lt) = get_or-take (length a.locals) locals y (V.I32 0) lt ∙ same y (own_kept y lt r) ∙ get_or_append_left a.locals extra (V.I32 0) y lt
       by y r (inr ge) = let n = own_long in get_or_past own y (V.I32 0) (omega (arith, n, ge)) ∙ sym (get_or_past a.locals y (V.I32 0) ge)
 
-  slot_same : (h : ℕ) (t : ValType) → slice_get (reverse stack) h ≡ Some t → F.place h t (SlotPairs m f) < length (SlotPairs m f) → value_at extra2 (F.place h t (SlotPairs m f)) ≡ value_at extra (F.place h t (SlotPairs m f))
+  slot_same : (h : ℕ) (t : ValType) → slice_get (reverse stack) h ≡ Some t → F.place h t (SlotPairs m f) < length (SlotPairs m f)
+      → value_at extra2 (F.place h t (SlotPairs m f)) ≡ value_at extra (F.place h t (SlotPairs m f))
   slot_same h t e lt =
       let i = F.place h t (SlotPairs m f) in
       let n = length (locals_of m f) in

@@ -18,7 +18,8 @@ use Rattle.live_laws.specs.SameLive.{also, none}
 use Rattle.live_stacks.specs.LiveFrames.{AllFramed, AllTold, LiveStacksComeBack, StackComesBack}
 use Rattle.live_stacks.proofs.BackAgain.{comes_back}
 
-act_is : (c : Activation) (fn : ℕ) (ls ops taken : List Value) (code : Code) (labels : List Label) → c.func ≡ fn → c.locals ≡ ls → c.operands ≡ ops → c.taken ≡ taken → c.code ≡ code → c.labels ≡ labels
+act_is : (c : Activation) (fn : ℕ) (ls ops taken : List Value) (code : Code) (labels : List Label) → c.func ≡ fn → c.locals ≡ ls → c.operands ≡ ops → c.taken ≡ taken → c.code ≡ code
+    → c.labels ≡ labels
     → waiting fn ls ops taken code labels ≡ c
 act_is c fn ls ops taken code labels e1 e2 e3 e4 e5 e6 =
     ap (λ z. waiting z ls ops taken code labels) (sym e1) ∙ ap (λ z. waiting c.func z ops taken code labels) (sym e2) ∙ ap (λ z. waiting c.func c.locals z taken code labels) (sym e3)
@@ -31,7 +32,8 @@ module _ (m : Module) (which : List Bool) (lay : Activation → CallFrame) where
   again g _ _ (c ∷ cs) host at tells same fr = absurd same
   again g _ _ [] (above told is under l sp) at tells same fr = absurd same
   again g _ _ [] (above_same told is under act) at tells same fr = absurd same
-  again _ _ _ (c ∷ cs) (above {g = g} {fn = fn} {f = f} {under = under} {under' = under'} {ls = ls} {extra = extra} {ops = ops} {taken = taken} {code = code} {labels = labels} {labels' = labels'} {stmts = stmts} told is us l sp) at tells same fr =
+  again _ _ _ (c ∷ cs) (above {g = g} {fn = fn} {f = f} {under = under} {under' = under'} {ls = ls} {extra = extra} {ops = ops} {taken = taken} {code = code} {labels = labels} {labels' =
+      labels'} {stmts = stmts} told is us l sp) at tells same fr =
       let a = waiting fn ls ops taken code labels in
       let code' = set_to (top_of (names m f) (result_count m g) (results_of m g ++ types_of ops)) (code_of stmts) in
       let sm = same.0 in

@@ -22,6 +22,7 @@ abbrev pub stored_value : ValType → (offset : ℕ) → Code → Code
 stored_value I32 off next = plain (basic (store 0x36 2 off)) next
 stored_value I64 off next = plain (basic (store 0x37 3 off)) next
 
+-- the value there is loaded
 abbrev pub loaded_value : ValType → (offset : ℕ) → Code → Code
 loaded_value I32 off next = plain (basic (load 0x28 2 off)) next
 loaded_value I64 off next = plain (basic (load 0x29 3 off)) next
@@ -46,9 +47,11 @@ room_tested adr sp size next =
     plain (basic (global_get adr)) (plain (basic (load 0x28 2 4)) (location_of adr (plain (local_tee sp) (plain (basic (num I32Sub)) (plain (basic (const (V.I32 size)))
     (plain (basic (num I32LtU)) (branch None (plain unreachable done) done next)))))))
 
+-- the call index goes to its offset in the frame
 abbrev pub index_saved : (index scratch offset : ℕ) → Code → Code
 index_saved ci sp off next = plain (local_get sp) (plain (local_get ci) (stored_value I32 off next))
 
+-- the call index comes from its offset in the frame
 abbrev pub index_restored : (index scratch offset : ℕ) → Code → Code
 index_restored ci sp off next = plain (local_get sp) (loaded_value I32 off (plain (local_set ci) next))
 

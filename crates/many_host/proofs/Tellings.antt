@@ -68,7 +68,8 @@ runs_first w os x f = by (place_of x x.state) f.at.told where
   by nowhere t = refl
   by (at_end how) t = absurd (no_last t.before t.last t.last_is)
 
-held_first : (ws : List W.Program) (shows : List Show) (xs : List Hosted) (programs : List Program) → map (λ (x : Hosted). x.program) xs ≡ programs → AreSetUp ws shows programs → (i : ℕ) (w : W.Program) (x : Hosted)
+held_first : (ws : List W.Program) (shows : List Show) (xs : List Hosted) (programs : List Program) → map (λ (x : Hosted). x.program) xs ≡ programs → AreSetUp ws shows programs
+    → (i : ℕ) (w : W.Program) (x : Hosted)
     → slice_get ws i ≡ Some w → slice_get xs i ≡ Some x → IsHeld follows has_ended shows i w (starting w) x
 held_first ws shows xs programs are s i w x ew ex =
     let there : slice_get programs i ≡ Some x.program =
@@ -76,7 +77,8 @@ held_first ws shows xs programs are s i w x ew ex =
     let first = s.each i w x.program ew there in
     record { follow = (first.0, first.1); ended_is = runs_first w [] x.program first.0; told_end = refl; looks = first.2 }
 
-pub all_start : (ws : List W.Program) (shows : List Show) (xs : List Hosted) (programs : List Program) → map (λ (x : Hosted). x.program) xs ≡ programs → AreSetUp ws shows programs → AllStart follows has_ended shows ws xs
+pub all_start : (ws : List W.Program) (shows : List Show) (xs : List Hosted) (programs : List Program) → map (λ (x : Hosted). x.program) xs ≡ programs → AreSetUp ws shows programs
+    → AllStart follows has_ended shows ws xs
 all_start ws shows xs programs are s =
     record {
       wide = sym (length-map xs (λ (x : Hosted). x.program)) ∙ ap (λ (l : List Program). length l) are ∙ s.wide;

@@ -23,9 +23,11 @@ use Rattle.many_host.specs.declared.host.Host.{Host}
 abbrev pub follows : Hosted → W.Program → List Note → List Outcome → List AnswerLine → Type 0
 follows x w notes os answers = Follows w notes os x.program × (lines_left x.program ≡ answers)
 
+-- it has told its end
 abbrev pub has_ended : Hosted → Bool
 has_ended x = is_some (ended_as x.program)
 
+-- the bytes of its memory
 abbrev pub memory_of : Hosted → List ℕ
 memory_of x = memory_in x.program
 

@@ -1,3 +1,5 @@
+//! `Host`: several programs on one thread, told line by line.
+
 ghost use Rattle.std.specs.Prelude.{◌≡◌, ◌≤◌, List, [], IfOk, MatchOption, length, map};
 ghost use Rattle.wa_model.specs.Outside.{Line as WorldLine};
 ghost use Rattle.wa_model.specs.World.{Device, Program as WorldProgram};

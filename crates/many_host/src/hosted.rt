@@ -1,3 +1,5 @@
+//! A program of a host, as one that takes turns.
+
 use device_port::Devices;
 use pause_host::Program;
 use std::alloc::AllocError;

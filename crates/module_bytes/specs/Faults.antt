@@ -6,10 +6,12 @@ use Rattle.wasm_encode.specs.declared.EncodeFault.TheVariants as E
 use Rattle.module_bytes.specs.declared.fault.EmitFault.{EmitFault}
 use Rattle.module_bytes.specs.declared.fault.EmitFault.TheVariants.{Memory, Locals, TooLong}
 
+-- a fault of flattening
 abbrev pub of_flat : FlatFault → EmitFault
 of_flat F.Memory = Memory
 of_flat (F.Locals func count) = Locals func count
 
+-- a fault of writing bytes
 abbrev pub of_encode : EncodeFault → EmitFault
 of_encode E.Memory = Memory
 of_encode (E.TooLong len) = TooLong len

@@ -1,3 +1,6 @@
+//! The functions of the emitted module as entries of its code section, each dropped before the next is written (standard,
+//! section 5.5.13).
+
 ghost use Rattle.std.specs.Prelude.{◌≡◌, ◌+◌, ◌<◌, ◌≤◌, ◌^◌, ◌++◌, drop, length, All, OnOk};
 ghost use Rattle.wa_types.specs.Encoding.{Enc};
 ghost use Rattle.wa_types.specs.Modules.{func_imports};

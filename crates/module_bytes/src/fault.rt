@@ -1,3 +1,5 @@
+//! Why the bytes of a rewritten module weren't written.
+
 use module_rewrite::FlatFault;
 use std::alloc::AllocError;
 use thiserror::Error;

@@ -1,3 +1,5 @@
+//! A module, from its tree to the bytes of the rewritten one.
+
 ghost use Rattle.std.specs.Prelude.{◌≡◌, ◌<◌, ◌≤◌, ◌^◌, None, length, IfOk, IfErr};
 ghost use Rattle.wa_types.specs.Encoding.{Enc};
 ghost use Rattle.wa_types.specs.Runtime.{func_space, global_space, with_runtime};

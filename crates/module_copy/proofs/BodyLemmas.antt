@@ -10,7 +10,8 @@ use Rattle.wa_types.specs.View.{code, onto, in_front}
 use Rattle.wa_types.proofs.ViewLemmas.{in_block, in_loop, in_if, code_step, code_empty, onto_append, onto_done, onto_none}
 use Rattle.wasm_tree.proofs.PruneLemmas.{leaf_other}
 
-pub copy_step : (xs new body : List Instr) (i : ℕ) (x y : Instr) (k : Code) → new ≡ xs ++ y ∷ [] → ((rest : Code) → in_front y rest ≡ in_front x rest) → i < length body → x ≡ get_or body i x → onto xs (code (drop i body)) ≡ k → onto new (code (drop (i + 1) body)) ≡ k
+pub copy_step : (xs new body : List Instr) (i : ℕ) (x y : Instr) (k : Code) → new ≡ xs ++ y ∷ [] → ((rest : Code) → in_front y rest ≡ in_front x rest) → i < length body
+    → x ≡ get_or body i x → onto xs (code (drop i body)) ≡ k → onto new (code (drop (i + 1) body)) ≡ k
 copy_step xs new body i x y k e same h at before =
     ap (λ s. onto s (code (drop (i + 1) body))) e
     ∙ onto_append xs y (code (drop (i + 1) body))

@@ -2,7 +2,8 @@
 use Rattle.std.proofs.Common.{◌++◌, ◌≡◌, ℕ, ◌+◌, ◌<◌, ◌≤◌, List, [], ◌∷◌, ap, sym, ◌∙◌, get_or, length, map, take}
 use Rattle.std.proofs.lemmas.List.{map-append, take_all, take_more}
 
-pub map_step : {X Y : Type 0} (f : X → Y) (out new xs : List X) (i : ℕ) (x y : X) → new ≡ out ++ y ∷ [] → f y ≡ f x → i < length xs → x ≡ get_or xs i x → map f out ≡ map f (take i xs) → map f new ≡ map f (take (i + 1) xs)
+pub map_step : {X Y : Type 0} (f : X → Y) (out new xs : List X) (i : ℕ) (x y : X) → new ≡ out ++ y ∷ [] → f y ≡ f x → i < length xs → x ≡ get_or xs i x → map f out ≡ map f (take i xs)
+    → map f new ≡ map f (take (i + 1) xs)
 map_step f out new xs i x y e same h at before =
     ap (map f) e ∙ map-append f out (y ∷ []) ∙ ap (λ zs. zs ++ f y ∷ []) before ∙ ap (λ z. map f (take i xs) ++ z ∷ []) (same ∙ ap f at)
     ∙ sym (map-append f (take i xs) (get_or xs i x ∷ [])) ∙ ap (map f) (sym (take_more xs i x h))

@@ -1,3 +1,5 @@
+//! Equal bodies and functions.
+
 ghost use Rattle.std.specs.Prelude.{◌≡◌, IfOk};
 ghost use Rattle.wa_types.specs.Syntax.{Code};
 ghost use Rattle.wa_types.specs.View.{code, in_front, func_of};

@@ -1,3 +1,5 @@
+//! Equal types, imports, globals, exports, segments and custom sections.
+
 ghost use Rattle.std.specs.Prelude.{◌≡◌, map, IfOk};
 ghost use Rattle.wa_types.specs.View.{func_type_of, global_of, elem_of, segment_of, custom_of};
 

@@ -1,3 +1,5 @@
+//! Equal modules, and modules with other functions in place of their own.
+
 ghost use Rattle.std.specs.Prelude.{◌≡◌, map, IfOk};
 ghost use Rattle.wa_types.specs.View.{func_of, module_of};
 

@@ -63,7 +63,8 @@ module _ (m : Module) (s : Settings) (which : List Bool) where
       let none : drop i m.funcs ≡ [] = drop_all i m.funcs le in
       record {
         funcs = subst (AreEmitted m s which n m.funcs) (append-nil (map func_of v.funcs.items)) (g.funcs [] (subst (λ fs. AreEmitted m s which (n + i) fs []) (sym none) tt));
-        layouts = subst (LaidOut m s which n ws m.funcs) (append-nil v.layouts.items) (g.layouts [] (subst (λ fs. LaidOut m s which (n + i) (drop i ws) fs []) (sym none) (nothing (n + i) (drop i ws))));
+        layouts = subst (LaidOut m s which n ws m.funcs) (append-nil v.layouts.items) (g.layouts []
+            (subst (λ fs. LaidOut m s which (n + i) (drop i ws) fs []) (sym none) (nothing (n + i) (drop i ws))));
         few = (sofar_done m ws m.funcs n i g.flats g.sofar le).1;
       }
     where
@@ -104,7 +105,8 @@ module _ (m : Module) (s : Settings) (which : List Bool) where
     }
 
     -- the flat function of this place
-    module _ (flat : Flattened) (y : ℕ) (ey : y ≡ n + i) (h : (flat_func_of flat.func ≡ flattened m y f) × (Count m f ≤ 50000) × (flat.first_slot ≡ length (locals_of m f)) × (flat.first_result ≡ length (locals_of m f) + length (SlotPairs m f))) where
+    module _ (flat : Flattened) (y : ℕ) (ey : y ≡ n + i) (h : (flat_func_of flat.func ≡ flattened m y f) × (Count m f ≤ 50000) × (flat.first_slot ≡ length (locals_of m f))
+        × (flat.first_result ≡ length (locals_of m f) + length (SlotPairs m f))) where
       index_is : flat.func.func ≡ n + i
       index_is = ap (λ (z : FlatFunc). z.func) h.0 ∙ ey
 
@@ -122,8 +124,10 @@ module _ (m : Module) (s : Settings) (which : List Bool) where
           let flats : List FlatFunc = g.flats ++ flattened m (n + i) f ∷ [] in
           record {
             flats = flats;
-            sofar = go_put m which n i at g.flats g.sofar many lt ea flats (flattened m (n + i) f) (n + i) e refl refl (λ k ek. let z : Some f ≡ Some k = sym ef ∙ ek in let q : f ≡ k = cc in (ap (flattened m (n + i)) q, subst (λ w. Count m w ≤ 50000) q h.1));
-            funcs = one_more new p.written (subst (λ b. IsEmittedWhere b m s which (n + i) f p.written) (sym (ap is_told (bit true e))) (subst (λ k. IsWritten m s which k f p.written) index_is p.is)) p.funcs;
+            sofar = go_put m which n i at g.flats g.sofar many lt ea flats (flattened m (n + i) f) (n + i) e refl refl (λ k ek. let z : Some f ≡ Some k = sym ef
+                ∙ ek in let q : f ≡ k = cc in (ap (flattened m (n + i)) q, subst (λ w. Count m w ≤ 50000) q h.1));
+            funcs = one_more new p.written (subst (λ b. IsEmittedWhere b m s which (n + i) f p.written) (sym (ap is_told (bit true e)))
+                (subst (λ k. IsWritten m s which k f p.written) index_is p.is)) p.funcs;
             layouts = λ rest r.
                 subst (LaidOut m s which n ws m.funcs) (sym (append_assoc v.layouts.items (p.layout ∷ []) rest) ∙ ap (λ ls. ls ++ rest) (sym p.layouts))
                 (g.layouts (p.layout ∷ rest)

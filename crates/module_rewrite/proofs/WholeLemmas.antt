@@ -38,7 +38,8 @@ few_written m which h x f = by (nat_lt x (func_imports m)) refl
     by false e is t =
         let le = ltb-false x (func_imports m) e in
         let z : x ≡ func_imports m + (x - func_imports m) = omega arith in
-        passes_at m (drop (func_imports m) which) m.funcs (x - func_imports m) f h is (ap is_told (dropped_at (func_imports m) (x - func_imports m) which) ∙ ap (λ k. is_told (slice_get which k)) (sym z) ∙ t)
+        passes_at m (drop (func_imports m) which) m.funcs (x - func_imports m) f h is (ap is_told (dropped_at (func_imports m) (x - func_imports m) which)
+        ∙ ap (λ k. is_told (slice_get which k)) (sym z) ∙ t)
 
 -- one answer a function
 pub which_long : (m : Module) (s : Settings) (which : List Bool) → TellsMayPause m s which → length which ≡ func_imports m + length m.funcs

@@ -41,6 +41,7 @@ pub record AllEmitted (m : Module) (s : Settings) (which : List Bool) (v : Emitt
   pub layouts : LaidOut m s which (func_imports m) (drop (func_imports m) which) m.funcs v.layouts.items
   pub few : NonePasses m (drop (func_imports m) which) m.funcs
 
+-- what emitting all functions answers
 abbrev pub Emits : Module → Settings → (which : List Bool) → Result Emitted RewriteFault → Type 0
 Emits m s which (Ok v) = AllEmitted m s which v
 Emits m s which (Err Memory) = Unit {0}

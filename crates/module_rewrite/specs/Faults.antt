@@ -4,6 +4,7 @@ use Rattle.live_rewrite.specs.FlatFault.TheVariants as F
 use Rattle.module_rewrite.specs.declared.fault.RewriteFault.{RewriteFault}
 use Rattle.module_rewrite.specs.declared.fault.RewriteFault.TheVariants.{Memory, Locals}
 
+-- a fault of flattening
 abbrev pub of_flat : FlatFault → RewriteFault
 of_flat F.Memory = Memory
 of_flat (F.Locals func count) = Locals func count

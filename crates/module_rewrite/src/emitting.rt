@@ -1,3 +1,5 @@
+//! The functions of the emitted module, with the frames of those that are written.
+
 ghost use Rattle.std.specs.Prelude.{◌≡◌, ◌+◌, ◌∷◌, ◌++◌, [], length, map, OnOk};
 ghost use Rattle.wa_types.specs.Modules.{func_imports};
 ghost use Rattle.wa_types.specs.Pausing.{Listed};

@@ -1,3 +1,5 @@
+//! Why a module wasn't rewritten.
+
 use asyncify_runtime::ReservedAt;
 use live_rewrite::FlatFault;
 use std::alloc::AllocError;

@@ -1,3 +1,5 @@
+//! A module, rewritten: its emitted functions, and the runtime's parts behind.
+
 ghost use Rattle.std.specs.Prelude.{◌≡◌, ◌<◌, ◌^◌, None, length, IfOk, IfErr};
 ghost use Rattle.wa_types.specs.Runtime.{func_space, global_space, with_runtime};
 ghost use Rattle.wa_types.specs.Sizes.{SizeRule, StrictSizeRule};

@@ -13,8 +13,12 @@ use Rattle.wa_model.specs.Store.{Store}
 use Rattle.wa_model.specs.Step.{Next, steps, asks, returns, traps, stuck, zero_of, step}
 use Rattle.wa_model.specs.Plan.{Entry, Plan, Outcome, given, refused}
 use Rattle.wa_model.specs.Instantiation.{opening}
-use Rattle.wa_model.specs.Blocking.{Note, call_note, ends_at_call, go_on, pause_of, poked, fault_of, resumed, Task, the_start, an_entry, Left, with_outcomes, Asker, inside, outermost, store_at, stack_at, in_start, State, between, begins, runs, halts, tested, asked, by_step, enters, enter_next, start_called, blocking, all_left, begun, continued}
-use Rattle.wa_model.specs.Protocol.{Exports, exports_of, Phase, is_running, unwinds, rewinds, Then, give_zero, test_unwound, pause_there, call_again, test_rewound, give_answer, Held, free, starting, busy, calling, aside, entering, over, held_given, held_ends, held_pauses, held_tested, held_asked, busy_step, aside_back, aside_step, busy_enters, held_next, aside_called, held_start, protocol, held_begun, held_continued}
+use Rattle.wa_model.specs.Blocking.{Note, call_note, ends_at_call, go_on, pause_of, poked, fault_of, resumed, Task, the_start, an_entry, Left, with_outcomes, Asker, inside, outermost}
+use Rattle.wa_model.specs.Blocking.{store_at, stack_at, in_start, State, between, begins, runs, halts, tested, asked, by_step, enters, enter_next, start_called, blocking, all_left, begun}
+use Rattle.wa_model.specs.Blocking.{continued}
+use Rattle.wa_model.specs.Protocol.{Exports, exports_of, Phase, is_running, unwinds, rewinds, Then, give_zero, test_unwound, pause_there, call_again, test_rewound, give_answer, Held, free}
+use Rattle.wa_model.specs.Protocol.{starting, busy, calling, aside, entering, over, held_given, held_ends, held_pauses, held_tested, held_asked, busy_step, aside_back, aside_step}
+use Rattle.wa_model.specs.Protocol.{busy_enters, held_next, aside_called, held_start, protocol, held_begun, held_continued}
 use Rattle.norm_laws.specs.Bare.{one_by_one, bare}
 use Rattle.norm_laws.specs.NormLaws.{BareSteps, BareBlocking, BareProtocol}
 use Rattle.norm_laws.proofs.BareSteps.{entered_same, types_same, defined_same, stack_same, step_same}

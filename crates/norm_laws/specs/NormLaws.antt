@@ -28,6 +28,7 @@ BareProtocol = (p : Module) (plan : Plan) (os : List Outcome) (n : ℕ) → Prot
 abbrev pub NormBlocking : Type 0
 NormBlocking = (m : Module) (plan : Plan) (os : List Outcome) (n : ℕ) → Blocking (Norm m) plan os n ≡ Blocking m plan os n
 
+-- So it is under the protocol.
 abbrev pub NormProtocol : Type 0
 NormProtocol = (p : Module) (plan : Plan) (os : List Outcome) (n : ℕ) → Protocol (Norm p) plan os n ≡ Protocol p plan os n
 

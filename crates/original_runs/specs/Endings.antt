@@ -18,6 +18,7 @@ use Rattle.original_runs.specs.OriginalRuns.{IsRewritten, Source, StaysOff, orig
 
 -- ---- ends that lines tell
 
+-- an end by steps that didn't reach
 abbrev pub is_spent : End → Bool
 is_spent (StepsSpent steps) = true
 is_spent _ = false
@@ -27,6 +28,7 @@ abbrev pub ends_spent : Event → Bool
 ends_spent (ended how) = is_spent how
 ends_spent _ = false
 
+-- an end by a trap while it unwound
 abbrev pub is_unwound : End → Bool
 is_unwound (UnwindTrap trap used len) = true
 is_unwound _ = false

@@ -33,6 +33,7 @@ pub record IsRewritten (x : Source) (y : Part) : Type 0 where
 abbrev pub original_for : Source → Part → Original
 original_for x y = record { program = world_program (part x.original (Some (Listed x.original x.settings)) y.text y.given); settings = x.settings }
 
+-- the originals for which programs stand, one each
 abbrev pub originals_for : List Source → List Part → List Original
 originals_for [] ys = []
 originals_for (x ∷ xs) [] = []

@@ -1,3 +1,5 @@
+//! A linear memory as its bytes, read and written at addresses, and grown by pages (standard, sections 4.2.8 and 4.4.4).
+
 ghost use Rattle.std.specs.Prelude.{◌≡◌, ◌+◌, ◌*◌, ◌^◌, ◌<◌, ◌≤◌, ◌⊎◌, ◌↔◌, IsSome, IfOk, IfSome, IfNone, OnSome, OnErr, length, replicate, Some, None};
 ghost use Rattle.std.specs.Bool.{OnTrue, OnFalse};
 ghost use Rattle.std.specs.Option.{SomeIff};

@@ -119,7 +119,19 @@ stopped = above 1 (omega arith) refl own extra [] [] (record { size = refl; more
 
 stands : MayStand setting (λ a. one_frame layout) stopped
 unfolding with_runtime
-stands = ((written_function, refl), record { index = refl; codes = layout_codes layout (guarded_body (indices_of 0 guarded) guarded.exits guarded.first guarded.body) (Some 1) 0 (λ e. cc) }, refl, refl, tt, tt, (omega arith, refl, lit< tt, tt), lit< tt, tt, refl, tt)
+stands = (
+  (written_function, refl),
+  record { index = refl; codes = layout_codes layout (guarded_body (indices_of 0 guarded) guarded.exits guarded.first guarded.body) (Some 1) 0 (λ e. cc) },
+  refl,
+  refl,
+  tt,
+  tt,
+  (omega arith, refl, lit< tt, tt),
+  lit< tt,
+  tt,
+  refl,
+  tt,
+)
 
 pub fits : AllFit 0 plan.area setting.written 0 1 (level ∷ [])
 fits = (stopped_are_levels 0 plan.area setting (λ a. one_frame layout) 0 flat_stack written_stack stopped paired stands).fit

@@ -26,9 +26,11 @@ use Rattle.guard_frames.specs.Joined.{one_frame, written_of, site_of}
 
 -- ---- the function
 
+-- the call's result is added to what was kept
 abbrev pub after_call : Stmts
 after_call = computes (plain (basic (num I32Add)) done) (Local 0 ∷ Local 1 ∷ []) (Some 1) no_more
 
+-- 5 is kept in local 0, and the import is called
 abbrev pub statements : Stmts
 statements = copies 0 (Const (V.I32 5)) (calls (plain (call 0) done) [] 0 (Some 1) after_call)
 
@@ -40,6 +42,7 @@ numbered_places = 0 ∷ []
 abbrev pub layout : Layout
 layout = record { address = 1; index = 2; scratch = 3; fields = kept 0 I32 ∷ gap I32 ∷ [] }
 
+-- the function with its guards and its one frame
 abbrev pub guarded : GuardedFunc
 guarded = record {
   size = 2;
@@ -51,14 +54,17 @@ guarded = record {
   body = units numbered_places 0 statements;
 }
 
+-- its flat form
 abbrev pub flat_function : Func
 flat_function = record { sort = 0; locals = record { count = 2; ty = I32 } ∷ []; body = flat_code (with_guards guarded) }
 
+-- its written form
 abbrev pub written_function : Func
 written_function = record { sort = 0; locals = record { count = 2; ty = I32 } ∷ record { count = 2; ty = I32 } ∷ record { count = 1; ty = I64 } ∷ []; body = written_code 0 (with_guards guarded) }
 
 -- ---- both modules
 
+-- a module with an import and this function
 abbrev pub with_function : Func → Module
 with_function f = record {
   types = record { params = []; results = I32 ∷ [] } ∷ [];
@@ -74,14 +80,17 @@ with_function f = record {
   customs = [];
 }
 
+-- what each function is: the one of index 1 is written, any other stays
 abbrev pub role : ℕ → Role
 role (suc zero) = with_guards guarded
 role _ = as_is 0 done
 
+-- the callee is the import
 abbrev pub is_sleep : Callee → Bool
 is_sleep (direct zero) = true
 is_sleep _ = false
 
+-- both modules, with what they have in common
 abbrev pub setting : Setting
 setting = record {
   flat = with_runtime (with_function flat_function);
@@ -98,12 +107,15 @@ setting = record {
 
 -- ---- at the call
 
+-- the store at the call
 abbrev pub store : Store
 store = record { globals = V.I32 0 ∷ V.I32 0 ∷ []; memory = replicate 80 7; table = [] }
 
+-- a plan with this area
 abbrev pub plan : Plan
 plan = record { globals = []; entries = []; area = setting.area; listed = None }
 
+-- the entry is the function
 abbrev pub entry : Entry
 entry = record { func = 1; args = [] }
 
@@ -111,6 +123,7 @@ entry = record { func = 1; args = [] }
 abbrev pub answer : Answer
 answer = record { value = Some (V.I32 37); pokes = []; ticks = 3 }
 
+-- nothing is left behind it
 abbrev pub left : Left
 left = record { number = 0; entries = []; outcomes = [] }
 

@@ -59,12 +59,14 @@ module _ (w : W.Program) where
   end_told ready h os left x used to (ends how made s stretch is_x end_is to_is) = ap end_at to_is ∙ sym (ap end_in end_is)
   end_told ready h os left x used to (spends h' stretch none spent is_x to_is) = ap end_at to_is ∙ sym (ap (λ (y : Note). end_in y.event) is_x)
 
-  fits_then : (ready : List Note) (h : Held) (os : List Outcome) (left : ℕ) (x : Note) (used : ℕ) (to : Place) → Valid w.source → ExportsTyped w.source → HeldFits w.source h → Lands w.source w.plan w.steps ready h os left x used to → PlaceFits w to
+  fits_then : (ready : List Note) (h : Held) (os : List Outcome) (left : ℕ) (x : Note) (used : ℕ) (to : Place) → Valid w.source → ExportsTyped w.source → HeldFits w.source h
+      → Lands w.source w.plan w.steps ready h os left x used to → PlaceFits w to
   fits_then ready h os left x used to v ex f (goes_on made tail h' stretch is_x more to_is) = subst (PlaceFits w) (sym to_is) (fits_on w.source w.plan h h' os made used v ex stretch f)
   fits_then ready h os left x used to v ex f (ends how made s stretch is_x end_is to_is) = subst (PlaceFits w) (sym to_is) tt
   fits_then ready h os left x used to v ex f (spends h' stretch none spent is_x to_is) = subst (PlaceFits w) (sym to_is) tt
 
-  line_taken : (import : ℕ) (name : List ℕ) (lines : List AnswerLine) (o : Outcome) (lines' : List AnswerLine) → MeetsLine import name lines o lines' → All HasShortPokes lines → All HasShortPokes lines'
+  line_taken : (import : ℕ) (name : List ℕ) (lines : List AnswerLine) (o : Outcome) (lines' : List AnswerLine) → MeetsLine import name lines o lines' → All HasShortPokes lines
+      → All HasShortPokes lines'
   line_taken import name [] o lines' h k = subst (All HasShortPokes) (sym h.1) (All-nil HasShortPokes)
   line_taken import name (l ∷ ls) o lines' h k = by_name (same_name l.import name) h
     where
@@ -72,7 +74,8 @@ module _ (w : W.Program) where
       by_name true m = subst (All HasShortPokes) (sym m.1) (All-tail HasShortPokes l ls k)
       by_name false m = subst (All HasShortPokes) (sym m.1) k
 
-  bound_taken : (import : ℕ) (args : List Value) (bound : Option (List ℕ)) (lines lines' : List AnswerLine) (ds ds' : List W.Device) (o : Outcome) → MeetsBound w.source import args bound lines ds o lines' ds' → All HasShortPokes lines → All HasShortPokes lines'
+  bound_taken : (import : ℕ) (args : List Value) (bound : Option (List ℕ)) (lines lines' : List AnswerLine) (ds ds' : List W.Device) (o : Outcome)
+      → MeetsBound w.source import args bound lines ds o lines' ds' → All HasShortPokes lines → All HasShortPokes lines'
   bound_taken import args (Some name) lines lines' ds ds' o h k = subst (All HasShortPokes) (sym h.1) k
   bound_taken import args None lines lines' ds ds' o h k = line_taken import (name_at (import_names w.source) import) lines o lines' h.0 k
 
@@ -81,7 +84,8 @@ module _ (w : W.Program) where
   pokes_then (Some c) old os new t k = bound_taken c.import c.args (bound_to w c.import) old.lines new.lines old.devices new.devices t.0 t.2.meets k
 
   -- The program x' is the program x with one note more.
-  pub advanced : (notes : List Note) (os : List Outcome) (x x' : Program) (from to : Place) (event : EventValue) (s : Store) (used : ℕ) (old new : Supply) → FollowsAt w notes os x from → Moves w from x.steps_left old event s used new to
+  pub advanced : (notes : List Note) (os : List Outcome) (x x' : Program) (from to : Place) (event : EventValue) (s : Store) (used : ℕ) (old new : Supply) → FollowsAt w notes os x from
+      → Moves w from x.steps_left old event s used new to
       → old.lines ≡ lines_left x → module_of x'.valid.now ≡ module_of x.valid.now → x'.setting ≡ x.setting → x'.globals ≡ x.globals → lines_left x' ≡ new.lines → x'.steps_left ≡ x.steps_left - used
       → place_of x' x'.state ≡ to → store_of x'.state ≡ s → memory_in x' ≡ s.memory → RunsCode w.source x'.state → Advances w notes os event old new x'
   advanced notes os x x' (stands ready h) to event s used old new f m old_lines same_code same_setting same_globals same_lines same_steps same_place same_store same_memory code =
@@ -144,7 +148,8 @@ runs_first w os x f = by_place (place_of x x.state) f.at.told
 pub starts_alone : (w : W.Program) (x : Program) → Follows w [] [] x → lines_left x ≡ w.answers → FollowsAlone w [] x
 starts_alone w x f e = record { outcomes = []; meets = (refl, e, refl); follows = f }
 
-pub advances_alone : (w : W.Program) (notes : List Note) (x x' : Program) (event : EventValue) (old new : Supply) (f : FollowsAlone w notes x) → old.lines ≡ lines_left x → old.devices ≡ [] → new.lines ≡ lines_left x'
+pub advances_alone : (w : W.Program) (notes : List Note) (x x' : Program) (event : EventValue) (old new : Supply) (f : FollowsAlone w notes x) → old.lines ≡ lines_left x → old.devices ≡ []
+    → new.lines ≡ lines_left x'
     → Advances w notes f.outcomes event old new x' → AdvancesAlone w notes event x'
 advances_alone w notes x x' event old new f old_lines none new_lines a =
     let left_none : new.devices ≡ [] = still_none w (call_in a.note.event) a.met old new a.takes none in
@@ -211,7 +216,8 @@ same_place w x l s waits stage is =
     ap (λ e. place_in e x.setting.area l s waits stage) is.exports ∙ ap (λ a. place_in (exports_of w.source) a l s waits stage) (sym is.area)
 
 -- the memory of an instance of the module
-pub memory_told : (w : W.Program) (x : Program) (instance : Instance) (stage : Stage) → IsSetting w x.setting → code_in instance ≡ w.source → memory_at (Live instance stage) ≡ (store_in instance).memory
+pub memory_told : (w : W.Program) (x : Program) (instance : Instance) (stage : Stage) → IsSetting w x.setting → code_in instance ≡ w.source
+    → memory_at (Live instance stage) ≡ (store_in instance).memory
 memory_told w x instance stage is code = by_test (nat_lt 0 (length (all_memories (code_in instance)))) (ap (λ m. nat_lt 0 (length (all_memories m))) code ∙ is.memory)
   where
     by_test : (b : Bool) → b ≡ true → unwrap_or (cond b (Some (store_in instance).memory) None) [] ≡ (store_in instance).memory
@@ -223,7 +229,8 @@ pub in_state : (w : W.Program) (notes : List Note) (os : List Outcome) (x : Prog
 in_state w notes os x st place f = record { source = f.source; setting = f.setting; globals = f.globals; pokes = f.pokes; fits = f.fits; told = f.told }
 
 -- an end that is told without an instance
-pub failed_moves : (w : W.Program) (left : ℕ) (supply : Supply) (end told : End) → told ≡ end → Moves w (stands (note (ended end) no_store ∷ []) (over no_store)) left supply (EV.Ended told) no_store 0 supply (has_ended end)
+pub failed_moves : (w : W.Program) (left : ℕ) (supply : Supply) (end told : End) → told ≡ end
+    → Moves w (stands (note (ended end) no_store ∷ []) (over no_store)) left supply (EV.Ended told) no_store 0 supply (has_ended end)
 failed_moves w left supply end told e = record {
   note = note (ended end) no_store;
   event_is = ap ended (sym e);

@@ -81,7 +81,8 @@ module _ (p : Module) (v : Valid p) where
   results_told imports e import i at =
       let f : ℕ → Option ValType = λ sort. slice_get (type_at p sort).results 0 in
       let there : Some i.result ≡ option_map f (slice_get (imported imported_func p) import) =
-      ap (option_map (λ (j : HostImport). j.result)) (sym at) ∙ sym (slice_get-map (λ (j : HostImport). j.result) imports import) ∙ ap (λ xs. slice_get xs import) e ∙ slice_get-map f (imported imported_func p) import in
+      ap (option_map (λ (j : HostImport). j.result)) (sym at) ∙ sym (slice_get-map (λ (j : HostImport). j.result) imports import) ∙ ap (λ xs. slice_get xs import) e
+      ∙ slice_get-map f (imported imported_func p) import in
       let s = some_sort f (slice_get (imported imported_func p) import) i.result there in
       let ty : func_type_at p import ≡ type_at p s.0 =
       ap or_empty (slice_get-map (type_at p) (func_sorts p) import) ∙ ap (λ o. or_empty (option_map (type_at p) o)) (front_at (imported imported_func p) _ import s.0 s.1) in
@@ -93,7 +94,8 @@ begin m l g = before (held_begun m.start l (opening m g))
 abbrev left_with : ℕ → List Entry → Left
 left_with n es = record { number = n; entries = es; outcomes = [] }
 
-module _ (x : Plan) (funcs : List ℕ) (looks : List Look) (binds : List (Option (List ℕ))) (bound : BindsAs x binds) (plan : IsPlan x) (v : Valid (source_of x)) (up : set_up (source_of x) x.area (named_entries x) ≡ Ok funcs) where
+module _ (x : Plan) (funcs : List ℕ) (looks : List Look) (binds : List (Option (List ℕ))) (bound : BindsAs x binds) (plan : IsPlan x) (v : Valid (source_of x))
+    (up : set_up (source_of x) x.area (named_entries x) ≡ Ok funcs) where
   abbrev p : Module
   p = source_of x
 
@@ -125,9 +127,14 @@ module _ (x : Plan) (funcs : List ℕ) (looks : List Look) (binds : List (Option
       (begun_fits p v w.plan fine.exports (all_left w.plan []) (opening p x.globals.items) p.start 0 fine.entries (λ s o. openings_fit p x.globals.items s v plan.globals o)
       (λ f o. (start_takes_none p f v o, start_there p f p.start (valid_instance p v).start o))).1
 
-  pub follows : (program : Program) → module_of program.valid.now ≡ p → program.globals ≡ x.globals → MakesSetting p x.listed x.binds x.area x.steps program.setting → program.left.number ≡ 0 → map entry_of program.left.entries.items ≡ calls_of (named_entries x) funcs
+  pub follows : (program : Program) → module_of program.valid.now ≡ p → program.globals ≡ x.globals → MakesSetting p x.listed x.binds x.area x.steps program.setting
+      → program.left.number ≡ 0 → map entry_of program.left.entries.items ≡ calls_of (named_entries x) funcs
       → program.answers.items ≡ x.answers.items → program.steps_left ≡ x.steps → program.state ≡ Fresh → Follows w [] [] program
-  follows program code globals made number entries answers steps fresh = record { at = subst (λ st. FollowsAt w [] [] program (place_of program st)) (sym fresh) at; code = subst (RunsCode w.source) (sym fresh) tt }
+  follows program code globals made number entries answers steps fresh = record {
+    at = subst (λ st. FollowsAt w [] [] program (place_of program st)) (sym fresh) at;
+    code =
+        subst (RunsCode w.source) (sym fresh) tt;
+  }
     where
       left : left_of program.left ≡ all_left w.plan []
       left = ap (λ n. left_with n (map entry_of program.left.entries.items)) number ∙ ap (left_with 0) entries

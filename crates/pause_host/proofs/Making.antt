@@ -25,7 +25,9 @@ use Rattle.wa_model.specs.Fitting.{types_of}
 use Rattle.wa_model.specs.Protocol.{exported_as, index_of}
 use Rattle.wa_model.proofs.FittingNames.{same_true, func_types_true, not_defined}
 use Rattle.run_laws.specs.FittingStates.{Callable, EntryTyped, ExportsTyped}
-use Rattle.host_setup.specs.SetUp.{NamedEntry, Fault, no_export, entry_missing, entry_is_import, arg_types, Needed, module_fault, first_fault, func_in, func_named, is_func, is_defined_as, is_there, needed, is_five, entry_func, is_imported, are_args, fault_at, first_false, entry_funcs, have_args, all_told, unless_fault, set_up, area_bad, is_area_in, least_pages}
+use Rattle.host_setup.specs.SetUp.{NamedEntry, Fault, no_export, entry_missing, entry_is_import, arg_types, Needed, module_fault, first_fault, func_in, func_named, is_func, is_defined_as}
+use Rattle.host_setup.specs.SetUp.{is_there, needed, is_five, entry_func, is_imported, are_args, fault_at, first_false, entry_funcs, have_args, all_told, unless_fault, set_up, area_bad}
+use Rattle.host_setup.specs.SetUp.{is_area_in, least_pages}
 use Rattle.pause_host.specs.Settings.{calls_of}
 
 both : (a b : Bool) → (a && b) ≡ true → (a ≡ true) × (b ≡ true)
@@ -168,7 +170,8 @@ module _ (p : Module) (v : Valid p) where
       by_five true z = cc
       by_five false z = z
 
-  one_entry : (e : NamedEntry) (x : ℕ) → entry_func p e.name ≡ Some x → not (is_imported (func_imports p) (Some x)) ≡ true → are_args p e.args (Some x) ≡ true → EntryTyped p (record { func = x; args = e.args })
+  one_entry : (e : NamedEntry) (x : ℕ) → entry_func p e.name ≡ Some x → not (is_imported (func_imports p) (Some x)) ≡ true → are_args p e.args (Some x) ≡ true
+      → EntryTyped p (record { func = x; args = e.args })
   one_entry e x there own args =
       let no : nat_lt x (func_imports p) ≡ false = by_bool (nat_lt x (func_imports p)) own in
       (defined_there x (exported_below e.name x (entry_named e.name x there)) (ltb-false x (func_imports p) no), types_are (func_type_at p x).params e.args args)
@@ -177,7 +180,8 @@ module _ (p : Module) (v : Valid p) where
       by_bool true z = cc
       by_bool false z = refl
 
-  entries_all : (es : List NamedEntry) → list_all (λ (o : Option ℕ). not (is_none o)) (entry_funcs p es) ≡ true → list_all (λ (o : Option ℕ). not (is_imported (func_imports p) o)) (entry_funcs p es) ≡ true
+  entries_all : (es : List NamedEntry) → list_all (λ (o : Option ℕ). not (is_none o)) (entry_funcs p es) ≡ true
+      → list_all (λ (o : Option ℕ). not (is_imported (func_imports p) o)) (entry_funcs p es) ≡ true
       → list_all (λ (t : Bool). not (not t)) (have_args p es) ≡ true → All (EntryTyped p) (calls_of es (all_told (entry_funcs p es)))
   entries_all [] a b c = All-nil (EntryTyped p)
   entries_all (e ∷ es) a b c = by_func (entry_func p e.name) refl a b c (λ a' b' c'. entries_all es a' b' c')

@@ -33,16 +33,19 @@ found_same name (e ∷ es) =
     ∙ ap (λ r. cond (same_name e.name name) (Some e) r) (found_same name es)
 
 pub five : (a b c d e a' b' c' d' e' : ℕ) → a ≡ a' → b ≡ b' → c ≡ c' → d ≡ d' → e ≡ e'
-    → (let x : P.Exports = record { start_unwind = a; stop_unwind = b; start_rewind = c; stop_rewind = d; get_state = e } in let y : P.Exports = record { start_unwind = a'; stop_unwind = b'; start_rewind = c'; stop_rewind = d'; get_state = e' } in x ≡ y)
+    → (let x : P.Exports = record { start_unwind = a; stop_unwind = b; start_rewind = c; stop_rewind = d; get_state = e } in let y : P.Exports =
+    record { start_unwind = a'; stop_unwind = b'; start_rewind = c'; stop_rewind = d'; get_state = e' } in x ≡ y)
 five a b c d e a' b' c' d' e' h1 h2 h3 h4 h5 = rw (h1, h2, h3, h4, h5) refl
 
 -- ---- items that are gathered
 
-pub one_more : {X Y : Type 0} (f : X → Option Y) (xs : List X) (i : ℕ) (x : X) (ys new : List Y) → i < length xs → x ≡ get_or xs i x → ys ≡ filter_map f (take i xs) → new ≡ ys ++ cons_option (f x) [] → new ≡ filter_map f (take (i + 1) xs)
+pub one_more : {X Y : Type 0} (f : X → Option Y) (xs : List X) (i : ℕ) (x : X) (ys new : List Y) → i < length xs → x ≡ get_or xs i x → ys ≡ filter_map f (take i xs)
+    → new ≡ ys ++ cons_option (f x) [] → new ≡ filter_map f (take (i + 1) xs)
 one_more f xs i x ys new lt at before e =
     e ∙ ap (λ z. z ++ cons_option (f x) []) before ∙ sym (filter_map-append f (take i xs) (x ∷ [])) ∙ ap (λ z. filter_map f (take i xs ++ z ∷ [])) at ∙ ap (filter_map f) (sym (take_more xs i x lt))
 
-pub mapped_more : {X Y Z : Type 0} (g : Y → Z) (f : X → Option Y) (xs : List X) (i : ℕ) (x : X) (zs new : List Z) → i < length xs → x ≡ get_or xs i x → zs ≡ map g (filter_map f (take i xs)) → new ≡ zs ++ map g (cons_option (f x) [])
+pub mapped_more : {X Y Z : Type 0} (g : Y → Z) (f : X → Option Y) (xs : List X) (i : ℕ) (x : X) (zs new : List Z) → i < length xs → x ≡ get_or xs i x → zs ≡ map g (filter_map f (take i xs))
+    → new ≡ zs ++ map g (cons_option (f x) [])
     → new ≡ map g (filter_map f (take (i + 1) xs))
 mapped_more g f xs i x zs new lt at before e =
     e ∙ ap (λ z. z ++ map g (cons_option (f x) [])) before ∙ sym (map-append g (filter_map f (take i xs)) (cons_option (f x) []))
@@ -54,7 +57,8 @@ pub no_funcs : (es : List NamedEntry) → calls_of es [] ≡ []
 no_funcs [] = refl
 no_funcs (e ∷ es) = refl
 
-pub call_more : (all : List Entry) (rest rest' : List EntryValue) (funcs : List ℕ) (i f : ℕ) (e : EntryValue) (calls calls' : List EntryCall) (c : EntryCall) → all ≡ map entry_of calls ++ calls_of (map V.entry_of rest) (drop i funcs) → rest ≡ e ∷ rest'
+pub call_more : (all : List Entry) (rest rest' : List EntryValue) (funcs : List ℕ) (i f : ℕ) (e : EntryValue) (calls calls' : List EntryCall) (c : EntryCall)
+    → all ≡ map entry_of calls ++ calls_of (map V.entry_of rest) (drop i funcs) → rest ≡ e ∷ rest'
     → drop i funcs ≡ f ∷ drop (i + 1) funcs → calls' ≡ calls ++ c ∷ [] → c.func ≡ f → c.args.items ≡ e.args.items → all ≡ map entry_of calls' ++ calls_of (map V.entry_of rest') (drop (i + 1) funcs)
 call_more all rest rest' funcs i f e calls calls' c h r d n is_f is_args =
     h ∙ ap (λ z. map entry_of calls ++ calls_of (map V.entry_of z) (drop i funcs)) r ∙ ap (λ z. map entry_of calls ++ calls_of (map V.entry_of (e ∷ rest')) z) d

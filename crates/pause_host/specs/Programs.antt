@@ -37,9 +37,11 @@ use Rattle.pause_host.specs.declared.program.Program.{Program}
 
 -- ---- a plan
 
+-- the module of a plan
 abbrev pub source_of : Plan → Module
 source_of x = module_of x.module.now
 
+-- the entries of a plan
 abbrev pub named_entries : Plan → List NamedEntry
 named_entries x = map S.entry_of x.entries.items
 
@@ -80,6 +82,7 @@ none_bound p = map (λ sort. None) (imported imported_func p)
 abbrev pub before : Ran Held Note → Place
 before r = stands r.events r.last
 
+-- where a program stands
 abbrev pub place_of : Program → State → Place
 place_of x Fresh = before (held_begun (module_of x.valid.now).start (left_of x.left) (opening (module_of x.valid.now) x.globals.items))
 place_of x (Live instance stage) = place_in (exports_in x.setting.exports) x.setting.area (left_of x.left) (store_in instance) (waits_in instance) stage
@@ -96,9 +99,11 @@ abbrev pub memory_at : State → List ℕ
 memory_at (Live instance stage) = unwrap_or (memory_of (code_in instance) (store_in instance)) []
 memory_at _ = []
 
+-- the bytes of a program's memory; none where there is none
 abbrev pub memory_in : Program → List ℕ
 memory_in x = memory_at x.state
 
+-- the end that was told at a place
 abbrev pub end_at : Place → Option End
 end_at (has_ended how) = Some how
 end_at _ = None
@@ -163,6 +168,7 @@ pub record FollowsAlone (w : W.Program) (notes : List Note) (x : Program) : Type
   pub meets : CallsMeet w notes outcomes w.answers [] [] (lines_left x) []
   pub follows : Follows w notes outcomes x
 
+-- The next event of a program that is alone: what it has told goes on by it.
 pub record AdvancesAlone (w : W.Program) (notes : List Note) (event : EventValue) (x : Program) : Type 0 where
   pub note : Note
   pub event_is : note.event ≡ event_of event
@@ -175,5 +181,7 @@ pub record AdvancesAlone (w : W.Program) (notes : List Note) (event : EventValue
 
 -- Set up is a plan whose area, exports and entries are lawful: the program has told nothing yet. Else the first fault says why.
 abbrev pub SetsUp : Plan → Result Program SetupFault → Type 0
-SetsUp x (Ok program) = (funcs : List ℕ) × (set_up (source_of x) x.area (named_entries x) ≡ Ok funcs) × ((looks : List Look) (binds : List (Option (List ℕ))) → BindsAs x binds → Follows (world_program x funcs looks binds) [] [] program) × (lines_left program ≡ map answer_line_of x.answers.items)
+SetsUp x (Ok program) = (funcs : List ℕ) × (set_up (source_of x) x.area (named_entries x) ≡ Ok funcs)
+    × ((looks : List Look) (binds : List (Option (List ℕ))) → BindsAs x binds → Follows (world_program x funcs looks binds) [] [] program)
+    × (lines_left program ≡ map answer_line_of x.answers.items)
 SetsUp x (Err fault) = Blames fault (set_up (source_of x) x.area (named_entries x))

@@ -1,3 +1,5 @@
+//! The bindings of function imports to devices, where there are none.
+
 ghost use Rattle.std.specs.Prelude.{◌≡◌, ◌++◌, [], IfOk, None, OnOk, map};
 ghost use Rattle.std.specs.List.{cons_option};
 ghost use Rattle.wa_types.specs.Modules.{imported_func};

@@ -1,3 +1,5 @@
+//! The entry calls of a plan.
+
 ghost use Rattle.std.specs.Prelude.{◌≡◌, IfOk, map};
 ghost use Rattle.host_setup.specs.Views.{entry_of as named_of};
 ghost use Rattle.host_stages.specs.Views.{entry_of};

@@ -1,3 +1,5 @@
+//! What a program is given: its module, and what a host says of it.
+
 use host_setup::Entry;
 use wa_model::{AnswerLine, Area};
 use wa_types::{Name, Value};

@@ -1,3 +1,5 @@
+//! `Program`: a plan over a prepared module, advanced from event to event.
+
 ghost use Rattle.std.specs.Prelude.{◌≡◌, ◌<◌, ◌≤◌, ◌+◌, ◌++◌, ◌^◌, [], ◌∷◌, ℕ, List, IfOk, IfErr, None, Some, length, map};
 ghost use Rattle.std.specs.Option.{option_copied};
 ghost use Rattle.wa_model.specs.World.{bytes_shown};
@@ -93,7 +95,8 @@ impl<'m> Program<'m> {
     /// After want of memory it isn't called again.
     pub fn advance(&mut self, devices: &mut Devices<'_>) -> Result<Event, AllocError>
         requires { IsLent }
-        ensures next { (w : WorldProgram) (notes : List Note) (os : List Outcome) → Follows w notes os self.old → ended_as self.old ≡ None → IfOk result (λ event. Advances w notes os event (supply_of seen faults self.old devices.old) (supply_of seen faults self.new devices.new) self.new) }
+        ensures next { (w : WorldProgram) (notes : List Note) (os : List Outcome) → Follows w notes os self.old → ended_as self.old ≡ None
+            → IfOk result (λ event. Advances w notes os event (supply_of seen faults self.old devices.old) (supply_of seen faults self.new devices.new) self.new) }
         ensures again { (how : End) → ended_as self.old ≡ Some how → IfOk result (λ event. (event_of event ≡ ended how) × (self.new ≡ self.old) × (devices.new ≡ devices.old)) }
         ensures same_list { devices.new.list.ghost_name ≡ devices.old.list.ghost_name }
     {
@@ -116,7 +119,8 @@ impl<'m> Program<'m> {
 
     // The module is instantiated, and its start function called where it has one.
     fn open(&mut self, devices: &mut Devices<'_>) -> Result<Event, AllocError>
-        ensures next { (w : WorldProgram) (notes : List Note) (os : List Outcome) → FollowsAt w notes os self.old (place_of self.old State.Fresh) → IfOk result (λ event. Advances w notes os event (supply_of seen faults self.old devices.old) (supply_of seen faults self.new devices.new) self.new) }
+        ensures next { (w : WorldProgram) (notes : List Note) (os : List Outcome) → FollowsAt w notes os self.old (place_of self.old State.Fresh)
+            → IfOk result (λ event. Advances w notes os event (supply_of seen faults self.old devices.old) (supply_of seen faults self.new devices.new) self.new) }
         ensures same_list { devices.new.list.ghost_name ≡ devices.old.list.ghost_name }
     {
         match Instance::make(self.setting.alloc, self.valid, &self.globals) {
@@ -130,7 +134,9 @@ impl<'m> Program<'m> {
         instance: Instance<'m>,
         devices: &mut Devices<'_>,
     ) -> Result<Event, AllocError>
-        ensures next { (w : WorldProgram) (notes : List Note) (os : List Outcome) → code_in instance.entry ≡ module_of self.old.valid.now → opening (module_of self.old.valid.now) self.old.globals.items ≡ opens (store_in instance.entry) → FollowsAt w notes os self.old (place_of self.old State.Fresh) → IfOk result (λ event. Advances w notes os event (supply_of seen faults self.old devices.old) (supply_of seen faults self.new devices.new) self.new) }
+        ensures next { (w : WorldProgram) (notes : List Note) (os : List Outcome) → code_in instance.entry ≡ module_of self.old.valid.now
+            → opening (module_of self.old.valid.now) self.old.globals.items ≡ opens (store_in instance.entry) → FollowsAt w notes os self.old (place_of self.old State.Fresh)
+            → IfOk result (λ event. Advances w notes os event (supply_of seen faults self.old devices.old) (supply_of seen faults self.new devices.new) self.new) }
         ensures same_list { devices.new.list.ghost_name ≡ devices.old.list.ghost_name }
     {
         match self.valid.module().start {
@@ -140,7 +146,9 @@ impl<'m> Program<'m> {
     }
 
     fn not_opened(&mut self, fault: MakeFault) -> Result<Event, AllocError>
-        ensures { (w : WorldProgram) (notes : List Note) (os : List Outcome) (ds : List Device) (counts : List ℕ) → FailsAs (opening (module_of self.old.valid.now) self.old.globals.items) fault → FollowsAt w notes os self.old (place_of self.old State.Fresh) → IfOk result (λ event. Advances w notes os event (supply_with self.old ds counts) (supply_with self.new ds counts) self.new) }
+        ensures { (w : WorldProgram) (notes : List Note) (os : List Outcome) (ds : List Device) (counts : List ℕ)
+            → FailsAs (opening (module_of self.old.valid.now) self.old.globals.items) fault → FollowsAt w notes os self.old (place_of self.old State.Fresh)
+            → IfOk result (λ event. Advances w notes os event (supply_with self.old ds counts) (supply_with self.new ds counts) self.new) }
     {
         match fault {
             MakeFault::Memory => Err(AllocError),
@@ -154,7 +162,9 @@ impl<'m> Program<'m> {
 
     // The program has ended without an instance.
     fn fail(&mut self, end: End) -> Result<Event, AllocError>
-        ensures next { (w : WorldProgram) (notes : List Note) (os : List Outcome) (ds : List Device) (counts : List ℕ) → FollowsAt w notes os self.old (stands (note (ended end) no_store ∷ []) (over no_store)) → IfOk result (λ event. Advances w notes os event (supply_with self.old ds counts) (supply_with self.new ds counts) self.new) }
+        ensures next { (w : WorldProgram) (notes : List Note) (os : List Outcome) (ds : List Device) (counts : List ℕ)
+            → FollowsAt w notes os self.old (stands (note (ended end) no_store ∷ []) (over no_store))
+            → IfOk result (λ event. Advances w notes os event (supply_with self.old ds counts) (supply_with self.new ds counts) self.new) }
         ensures again { IfOk result (λ event. (event_of event ≡ ended end) × (self.new ≡ record self.old { state = State.Failed end })) }
     {
         let told = copy_end(self.setting.alloc, &end)?;
@@ -168,8 +178,11 @@ impl<'m> Program<'m> {
         stage: Stage,
         devices: &mut Devices<'_>,
     ) -> Result<Event, AllocError>
-        ensures next { (w : WorldProgram) (notes : List Note) (os : List Outcome) → FollowsAt w notes os self.old (place_of self.old (State.Live instance.entry stage)) → RunsCode w.source (State.Live instance.entry stage) → end_of stage ≡ None → IfOk result (λ event. Advances w notes os event (supply_of seen faults self.old devices.old) (supply_of seen faults self.new devices.new) self.new) }
-        ensures again { (how : End) → end_of stage ≡ Some how → IfOk result (λ event. (event_of event ≡ ended how) × (self.new ≡ record self.old { state = (State.Live instance.entry stage) }) × (devices.new ≡ devices.old)) }
+        ensures next { (w : WorldProgram) (notes : List Note) (os : List Outcome) → FollowsAt w notes os self.old (place_of self.old (State.Live instance.entry stage))
+            → RunsCode w.source (State.Live instance.entry stage) → end_of stage ≡ None
+            → IfOk result (λ event. Advances w notes os event (supply_of seen faults self.old devices.old) (supply_of seen faults self.new devices.new) self.new) }
+        ensures again { (how : End) → end_of stage ≡ Some how → IfOk result (λ event. (event_of event ≡ ended how)
+            × (self.new ≡ record self.old { state = (State.Live instance.entry stage) }) × (devices.new ≡ devices.old)) }
         ensures same_list { devices.new.list.ghost_name ≡ devices.old.list.ghost_name }
     {
         match stage {
@@ -195,7 +208,9 @@ impl<'m> Program<'m> {
         stage: Stage,
         devices: &mut Devices<'_>,
     ) -> Result<Event, AllocError>
-        ensures next { (w : WorldProgram) (notes : List Note) (os : List Outcome) → FollowsAt w notes os self.old (place_of self.old (State.Live instance.entry stage)) → RunsCode w.source (State.Live instance.entry stage) → end_of stage ≡ None → IfOk result (λ event. Advances w notes os event (supply_of seen faults self.old devices.old) (supply_of seen faults self.new devices.new) self.new) }
+        ensures next { (w : WorldProgram) (notes : List Note) (os : List Outcome) → FollowsAt w notes os self.old (place_of self.old (State.Live instance.entry stage))
+            → RunsCode w.source (State.Live instance.entry stage) → end_of stage ≡ None
+            → IfOk result (λ event. Advances w notes os event (supply_of seen faults self.old devices.old) (supply_of seen faults self.new devices.new) self.new) }
         ensures same_list { devices.new.list.ghost_name ≡ devices.old.list.ghost_name }
     {
         let mut steps = unused(self.steps_left);
@@ -221,7 +236,9 @@ impl<'m> Program<'m> {
         func: u32,
         devices: &mut Devices<'_>,
     ) -> Result<Event, AllocError>
-        ensures next { (w : WorldProgram) (notes : List Note) (os : List Outcome) → code_in instance.entry ≡ w.source → FollowsAt w notes os self.old (stands [] (starting func (store_in instance.entry) (left_of self.old.left))) → IfOk result (λ event. Advances w notes os event (supply_of seen faults self.old devices.old) (supply_of seen faults self.new devices.new) self.new) }
+        ensures next { (w : WorldProgram) (notes : List Note) (os : List Outcome) → code_in instance.entry ≡ w.source
+            → FollowsAt w notes os self.old (stands [] (starting func (store_in instance.entry) (left_of self.old.left)))
+            → IfOk result (λ event. Advances w notes os event (supply_of seen faults self.old devices.old) (supply_of seen faults self.new devices.new) self.new) }
         ensures same_list { devices.new.list.ghost_name ≡ devices.old.list.ghost_name }
     {
         let mut steps = unused(self.steps_left);

@@ -1,3 +1,5 @@
+//! What stays of a program on its way, taken from its module and its plan.
+
 ghost use Rattle.std.specs.Prelude.{◌≡◌, ◌++◌, [], ◌∷◌, IfOk, OnOk, map, slice_get};
 ghost use Rattle.std.specs.List.{cons_option, find};
 ghost use Rattle.std.specs.Option.{option_copied};
@@ -78,7 +80,8 @@ fn find_export<'m>(exports: &'m [Export], name: &str) -> Option<&'m Export>
 fn host_imports(alloc: Global, module: &Module) -> Result<Vec<HostImport>, AllocError>
     ensures names { IfOk result (λ v. map (λ (i : HostImport). i.name) v.items ≡ import_names (module_of «module».now)) }
     ensures bases { IfOk result (λ v. map (λ (i : HostImport). i.base) v.items ≡ base_names (module_of «module».now)) }
-    ensures results { IfOk result (λ v. map (λ (i : HostImport). i.result) v.items ≡ map (λ sort. slice_get (type_at (module_of «module».now) sort).results 0) (imported imported_func (module_of «module».now))) }
+    ensures results { IfOk result (λ v. map (λ (i : HostImport). i.result) v.items ≡ map (λ sort. slice_get (type_at (module_of «module».now) sort).results 0)
+        (imported imported_func (module_of «module».now))) }
 {
     let mut imports = Vec::new(alloc);
     for import in &module.imports {
@@ -94,9 +97,12 @@ fn put_import(
     import: &Import,
     imports: &mut Vec<HostImport>,
 ) -> Result<(), AllocError>
-    ensures names { OnOk result (map (λ (i : HostImport). i.name) imports.new.items ≡ map (λ (i : HostImport). i.name) imports.old.items ++ cons_option (name_if (joined_name import.now) (imported_func import.now.kind)) []) }
-    ensures bases { OnOk result (map (λ (i : HostImport). i.base) imports.new.items ≡ map (λ (i : HostImport). i.base) imports.old.items ++ cons_option (name_if import.now.base (imported_func import.now.kind)) []) }
-    ensures results { OnOk result (map (λ (i : HostImport). i.result) imports.new.items ≡ map (λ (i : HostImport). i.result) imports.old.items ++ map (λ sort. slice_get (type_at (module_of «module».now) sort).results 0) (cons_option (imported_func import.now.kind) [])) }
+    ensures names { OnOk result (map (λ (i : HostImport). i.name) imports.new.items ≡ map (λ (i : HostImport). i.name) imports.old.items
+        ++ cons_option (name_if (joined_name import.now) (imported_func import.now.kind)) []) }
+    ensures bases { OnOk result (map (λ (i : HostImport). i.base) imports.new.items ≡ map (λ (i : HostImport). i.base) imports.old.items
+        ++ cons_option (name_if import.now.base (imported_func import.now.kind)) []) }
+    ensures results { OnOk result (map (λ (i : HostImport). i.result) imports.new.items ≡ map (λ (i : HostImport). i.result) imports.old.items
+        ++ map (λ sort. slice_get (type_at (module_of «module».now) sort).results 0) (cons_option (imported_func import.now.kind) [])) }
 {
     match import.kind {
         ImportKind::Func(sort) => {

@@ -1,5 +1,6 @@
 -- A pause under the host's protocol.
-use Rattle.std.proofs.Common.{◌≡◌, ◌≢◌, ℕ, suc, ◌+◌, ◌-◌, ◌%◌, ◌^◌, ◌<◌, ◌≤◌, ◌⊎◌, inl, inr, List, [], ◌∷◌, ◌++◌, length, take, map, Some, None, Bool, true, false, refl, sym, ap, ◌∙◌, subst, arith, ⊎_elim, length-set, length-append, get_or-set_same, get_or-set_other}
+use Rattle.std.proofs.Common.{◌≡◌, ◌≢◌, ℕ, suc, ◌+◌, ◌-◌, ◌%◌, ◌^◌, ◌<◌, ◌≤◌, ◌⊎◌, inl, inr, List, [], ◌∷◌, ◌++◌, length, take, map, Some, None, Bool, true, false, refl, sym, ap, ◌∙◌, subst}
+use Rattle.std.proofs.Common.{arith, ⊎_elim, length-set, length-append, get_or-set_same, get_or-set_other}
 use Rattle.std.specs.Prelude.{nat_eq, nat_lt, if◌then◌else◌, slice_set}
 use Rattle.std.proofs.lemmas.List.{length-map}
 use Rattle.wa_types.specs.declared.values.Value.TheVariants as V
@@ -19,7 +20,8 @@ use Rattle.wa_model.specs.Configuration.{Configuration, running, waiting}
 use Rattle.wa_model.specs.Step.{zero_of, result_count}
 use Rattle.wa_model.specs.Plan.{Entry, Plan}
 use Rattle.wa_model.specs.Blocking.{note, Left}
-use Rattle.wa_model.specs.Protocol.{Exports, unwinds, rewinds, give_zero, test_unwound, pause_there, call_again, test_rewound, give_answer, Held, busy, calling, aside, entering, over, with_words, used_of, broken, zeros_of, busy_step, aside_step, busy_enters, protocol}
+use Rattle.wa_model.specs.Protocol.{Exports, unwinds, rewinds, give_zero, test_unwound, pause_there, call_again, test_rewound, give_answer, Held, busy, calling, aside, entering, over}
+use Rattle.wa_model.specs.Protocol.{with_words, used_of, broken, zeros_of, busy_step, aside_step, busy_enters, protocol}
 use Rattle.frame_laws.specs.FrameMemory.{AreaAt}
 use Rattle.frame_laws.specs.Function.{function_code, site_code}
 use Rattle.frame_laws.specs.Stack.{Level, AllFit, total_size, fit_of, level_size, behind_call, outer_of, CallsTo, Chain}

@@ -1,5 +1,6 @@
 -- Pairs and points, as lists that are given as slices.
-use Rattle.std.proofs.Common.{arith, ◌≡◌, ℕ, zero, suc, ◌+◌, ◌-◌, ◌<◌, ◌≤◌, List, [], ◌∷◌, ◌++◌, ◌||◌, map, max, Option, Some, None, Bool, true, false, refl, ap, sym, ◌∙◌, length, take, drop, get_or, reverse, slice_get, append_assoc}
+use Rattle.std.proofs.Common.{arith, ◌≡◌, ℕ, zero, suc, ◌+◌, ◌-◌, ◌<◌, ◌≤◌, List, [], ◌∷◌, ◌++◌, ◌||◌, map, max, Option, Some, None, Bool, true, false, refl, ap, sym, ◌∙◌, length, take}
+use Rattle.std.proofs.Common.{drop, get_or, reverse, slice_get, append_assoc}
 use Rattle.std.proofs.lemmas.List.{append-nil, length-reverse, reverse-reverse, take_more, take_all, map-append}
 use Rattle.std.proofs.lemmas.List.Folds.{list_any-append}
 use Rattle.std.specs.Prelude.{Vec}

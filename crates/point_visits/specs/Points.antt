@@ -17,10 +17,11 @@ lists_of vs = map (λ (v : Vec ValType Global). reverse v.items) vs
 abbrev pub all_of : Walk → List ValType
 all_of w = w.own ++ w.under
 
--- those at the points of code from there on, and at its calls
+-- those at the points of code from there on
 abbrev pub points_at : Walk → Code → List (List ValType)
 points_at w k = points w.around w.labels k w.under w.own
 
+-- those just before its calls
 abbrev pub calls_at : Walk → Code → List (List ValType)
 calls_at w k = call_points w.around w.labels k w.under w.own
 
@@ -32,6 +33,7 @@ points_inside w (nest s r body rest) = points w.around (label s r ∷ w.labels) 
 points_inside w (branch r a b rest) =
     points w.around (r ∷ w.labels) a (drop 1 w.own ++ w.under) [] ++ points w.around (r ∷ w.labels) b (drop 1 w.own ++ w.under) []
 
+-- those just before the calls inside the first instruction, or before it where it is one
 abbrev pub calls_inside : Walk → Code → List (List ValType)
 calls_inside w done = []
 calls_inside w (plain p rest) = if_call (callee p) (all_of w)

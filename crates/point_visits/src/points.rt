@@ -1,3 +1,5 @@
+//! The operands at each point of a body and just before each of its calls.
+
 ghost use Rattle.std.specs.Prelude.{◌≡◌, ◌++◌, ◌∷◌, [], false, OnOk};
 ghost use Rattle.wa_types.specs.Syntax.{done};
 ghost use Rattle.wa_types.specs.View.{code, in_front};

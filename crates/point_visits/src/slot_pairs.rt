@@ -1,3 +1,5 @@
+//! Slots as pairs: the heights and types of the operands that stand at some point.
+
 ghost use Rattle.std.specs.Prelude.{◌≡◌, ◌++◌, ◌<◌, ◌^◌, [], reverse, IfOk, OnOk};
 ghost use Rattle.std.specs.List.{list_any};
 ghost use Rattle.wa_types.specs.Encoding.{same_type};

@@ -5,20 +5,27 @@ use Rattle.std.specs.List.{flat_map}
 use Rattle.std.proofs.lemmas.Bool.{and_parts, cases_lt, leb-true, or_cases, or_left, or_right}
 use Rattle.std.proofs.lemmas.List.Elements.{All-nil, All-cons, All-head, All-tail}
 use Rattle.wa_types.specs.declared.operators.NumOp.{NumOp}
-use Rattle.wa_types.specs.declared.operators.NumOp.TheVariants.{I32Eqz, I32Eq, I32Ne, I32LtS, I32LtU, I32GtS, I32GtU, I32LeS, I32LeU, I32GeS, I32GeU, I64Eqz, I64Eq, I64Ne, I64LtS, I64LtU, I64GtS, I64GtU, I64LeS, I64LeU, I64GeS, I64GeU, I32Clz, I32Ctz, I32Popcnt, I32Add, I32Sub, I32Mul, I32DivS, I32DivU, I32RemS, I32RemU, I32And, I32Or, I32Xor, I32Shl, I32ShrS, I32ShrU, I32Rotl, I32Rotr, I64Clz, I64Ctz, I64Popcnt, I64Add, I64Sub, I64Mul, I64DivS, I64DivU, I64RemS, I64RemU, I64And, I64Or, I64Xor, I64Shl, I64ShrS, I64ShrU, I64Rotl, I64Rotr, I32WrapI64, I64ExtendI32S, I64ExtendI32U}
+use Rattle.wa_types.specs.declared.operators.NumOp.TheVariants.{I32Eqz, I32Eq, I32Ne, I32LtS, I32LtU, I32GtS, I32GtU, I32LeS, I32LeU, I32GeS, I32GeU, I64Eqz, I64Eq, I64Ne, I64LtS, I64LtU}
+use Rattle.wa_types.specs.declared.operators.NumOp.TheVariants.{I64GtS, I64GtU, I64LeS, I64LeU, I64GeS, I64GeU, I32Clz, I32Ctz, I32Popcnt, I32Add, I32Sub, I32Mul, I32DivS, I32DivU, I32RemS}
+use Rattle.wa_types.specs.declared.operators.NumOp.TheVariants.{I32RemU, I32And, I32Or, I32Xor, I32Shl, I32ShrS, I32ShrU, I32Rotl, I32Rotr, I64Clz, I64Ctz, I64Popcnt, I64Add, I64Sub, I64Mul}
+use Rattle.wa_types.specs.declared.operators.NumOp.TheVariants.{I64DivS, I64DivU, I64RemS, I64RemU, I64And, I64Or, I64Xor, I64Shl, I64ShrS, I64ShrU, I64Rotl, I64Rotr, I32WrapI64}
+use Rattle.wa_types.specs.declared.operators.NumOp.TheVariants.{I64ExtendI32S, I64ExtendI32U}
 use Rattle.wa_types.specs.declared.values.Value.TheVariants as V
 use Rattle.wa_types.specs.declared.values.ValType.{ValType}
 use Rattle.wa_types.specs.declared.values.ValType.TheVariants.{I32, I64}
 use Rattle.wa_types.specs.declared.syntax.ImportKind.{ImportKind}
-use Rattle.wa_types.specs.Binary.{Placed, Operands, RawCode, ended, otherwise, instr, nested, branched, RawType, RawKind, raw_func, raw_table, raw_memory, raw_global, RawImport, RawGlobal, RawElem, RawRun, RawBody, RawSegment, Section, custom, types, imports, functions, tables, memories, globals, exports, start, elements, bodies, segments}
+use Rattle.wa_types.specs.Binary.{Placed, Operands, RawCode, ended, otherwise, instr, nested, branched, RawType, RawKind, raw_func, raw_table, raw_memory, raw_global, RawImport, RawGlobal}
+use Rattle.wa_types.specs.Binary.{RawElem, RawRun, RawBody, RawSegment, Section, custom, types, imports, functions, tables, memories, globals, exports, start, elements, bodies, segments}
 use Rattle.wa_types.specs.Encoding.{type_byte, block_type_byte}
 use Rattle.wa_types.specs.declared.syntax.Run.{Run}
 use Rattle.wa_types.specs.Marks.{place_if, float_type, code_floats, type_floats, kind_floats, body_floats, section_floats, floats}
 use Rattle.wa_types.specs.Opcodes.{within, is_float_type, is_float_op, is_load_op, is_store_op}
 use Rattle.wa_types.specs.Operators.{opcode_of}
-use Rattle.wa_types.specs.Reading.{plain_opcode, HasKind, IsPlain, IsCode, Each, IsValueType, IsFuncType, IsKind, IsImport, IsGlobal, IsElem, IsRun, IsBody, IsSegment, types_in, imports_in, globals_in, elements_in, segments_in, IsModule}
+use Rattle.wa_types.specs.Reading.{plain_opcode, HasKind, IsPlain, IsCode, Each, IsValueType, IsFuncType, IsKind, IsImport, IsGlobal, IsElem, IsRun, IsBody, IsSegment, types_in, imports_in}
+use Rattle.wa_types.specs.Reading.{globals_in, elements_in, segments_in, IsModule}
 use Rattle.wa_types.specs.Spells.{bodies_in}
-use Rattle.wa_types.specs.Syntax.{Basic, nop, drop, select, const, num, global_get, global_set, load, store, memory_size, memory_grow, Plain, basic, local_get, local_set, local_tee, br, br_if, br_table, return, unreachable, call, call_indirect, Code, done, plain, nest, branch, FuncType, Func, GlobalDef, Elem, Segment, Module}
+use Rattle.wa_types.specs.Syntax.{Basic, nop, drop, select, const, num, global_get, global_set, load, store, memory_size, memory_grow, Plain, basic, local_get, local_set, local_tee, br}
+use Rattle.wa_types.specs.Syntax.{br_if, br_table, return, unreachable, call, call_indirect, Code, done, plain, nest, branch, FuncType, Func, GlobalDef, Elem, Segment, Module}
 use Rattle.wasm_reader.proofs.ModulesMade.{join_clear}
 
 -- ---- opcodes
@@ -259,7 +266,8 @@ section_clear (imports is) ss c = all_clear (λ (i : RawImport). kind_floats i.k
 section_clear (functions sorts) ss c = refl
 section_clear (tables ts) ss c = refl
 section_clear (memories ms) ss c = refl
-section_clear (globals gs) ss c = all_clear (λ (g : RawGlobal). float_type g.ty ++ code_floats g.init) gs (front_all (λ (g : RawGlobal). float_type g.ty ++ code_floats g.init ≡ []) gs (flat_map globals_in ss) c.globals)
+section_clear (globals gs) ss c = all_clear (λ (g : RawGlobal). float_type g.ty ++ code_floats g.init) gs
+    (front_all (λ (g : RawGlobal). float_type g.ty ++ code_floats g.init ≡ []) gs (flat_map globals_in ss) c.globals)
 section_clear (exports es) ss c = refl
 section_clear (start x) ss c = refl
 section_clear (elements es) ss c = all_clear (λ (e : RawElem). code_floats e.offset) es (front_all (λ (e : RawElem). code_floats e.offset ≡ []) es (flat_map elements_in ss) c.elems)
@@ -282,13 +290,16 @@ clear_floats (s ∷ ss) c = join_clear (section_floats s) (floats ss) (section_c
 
 module_clear : (ss : List Section) (m : Module) → IsModule ss m → Clear ss
 module_clear ss m h = record {
-  types = each_are IsFuncType (λ (t : RawType). type_floats t ≡ []) (λ x y r. join_clear (flat_map float_type x.params) (flat_map float_type x.results) (types_clear x.params y.params r.params) (types_clear x.results y.results r.results))
+  types = each_are IsFuncType (λ (t : RawType). type_floats t ≡ []) (λ x y r. join_clear (flat_map float_type x.params) (flat_map float_type x.results)
+      (types_clear x.params y.params r.params) (types_clear x.results y.results r.results))
       (flat_map types_in ss) m.types h.types;
   imports = each_are IsImport (λ (i : RawImport). kind_floats i.kind ≡ []) (λ x y r. kind_clear x.kind y.kind r.kind) (flat_map imports_in ss) m.imports h.imports;
-  globals = each_are IsGlobal (λ (g : RawGlobal). float_type g.ty ++ code_floats g.init ≡ []) (λ x y r. join_clear (float_type x.ty) (code_floats x.init) (type_clear x.ty y.ty r.ty) (code_clear x.init y.init done r.init))
+  globals = each_are IsGlobal (λ (g : RawGlobal). float_type g.ty ++ code_floats g.init ≡ [])
+      (λ x y r. join_clear (float_type x.ty) (code_floats x.init) (type_clear x.ty y.ty r.ty) (code_clear x.init y.init done r.init))
       (flat_map globals_in ss) m.globals h.globals;
   elems = each_are IsElem (λ (e : RawElem). code_floats e.offset ≡ []) (λ x y r. code_clear x.offset y.offset done r.offset) (flat_map elements_in ss) m.elems h.elems;
-  bodies = each_are IsBody (λ (b : RawBody). body_floats b ≡ []) (λ x y r. join_clear (flat_map (λ (r : RawRun). float_type r.ty) x.locals) (code_floats x.code) (runs_clear x.locals y.locals r.locals) (code_clear x.code y.body done r.body))
+  bodies = each_are IsBody (λ (b : RawBody). body_floats b ≡ []) (λ x y r. join_clear (flat_map (λ (r : RawRun). float_type r.ty) x.locals) (code_floats x.code)
+      (runs_clear x.locals y.locals r.locals) (code_clear x.code y.body done r.body))
       (flat_map bodies_in ss) m.funcs h.funcs;
   segments = each_are IsSegment (λ (s : RawSegment). code_floats s.offset ≡ []) (λ x y r. code_clear x.offset y.offset done r.offset) (flat_map segments_in ss) m.segments h.segments;
 }

@@ -4,7 +4,8 @@ use Rattle.std.specs.Prelude.{max, nat_le}
 use Rattle.std.specs.List.{flat_map}
 use Rattle.std.proofs.lemmas.Bool.{leb-false, lt-leb}
 use Rattle.std.proofs.lemmas.List.Elements.{All-nil, All-cons, All-head, All-tail, All-append}
-use Rattle.wa_types.specs.Binary.{RawCode, ended, otherwise, instr, nested, branched, RawGlobal, RawElem, RawBody, RawSegment, Section, custom, types, imports, functions, tables, memories, globals, exports, start, elements, bodies, segments}
+use Rattle.wa_types.specs.Binary.{RawCode, ended, otherwise, instr, nested, branched, RawGlobal, RawElem, RawBody, RawSegment, Section, custom, types, imports, functions, tables, memories}
+use Rattle.wa_types.specs.Binary.{globals, exports, start, elements, bodies, segments}
 use Rattle.wa_types.specs.Counts.{depth_of}
 use Rattle.wa_types.specs.Marks.{place_if, code_opens, section_opens, opens}
 use Rattle.wa_types.specs.Reading.{IsCode, Each, IsGlobal, IsElem, IsBody, IsSegment, globals_in, elements_in, segments_in, IsModule}
@@ -128,7 +129,8 @@ clear_all h [] e = All-nil (λ x. h x ≡ [])
 clear_all h (x ∷ xs) e = let p = both_empty (h x) (flat_map h xs) e in All-cons (λ x. h x ≡ []) x xs p.0 (clear_all h xs p.1)
 
 -- the parts of one kind
-held : {X : Type 0} (bound : ℕ) (g : Section → List X) (h : X → List ℕ) → ((s : Section) → section_opens bound s ≡ [] → flat_map h (g s) ≡ []) → (ss : List Section) → opens bound ss ≡ [] → All (λ x. h x ≡ []) (flat_map g ss)
+held : {X : Type 0} (bound : ℕ) (g : Section → List X) (h : X → List ℕ) → ((s : Section) → section_opens bound s ≡ [] → flat_map h (g s) ≡ []) → (ss : List Section) → opens bound ss ≡ []
+    → All (λ x. h x ≡ []) (flat_map g ss)
 held bound g h w [] e = All-nil (λ x. h x ≡ [])
 held bound g h w (s ∷ ss) e =
     let p = both_empty (section_opens bound s) (opens bound ss) e in
@@ -159,10 +161,13 @@ shallow_parts bound ss e = record {
     of_segments _ e = refl
 
 section_shallow : (bound : ℕ) (s : Section) (ss : List Section) → Shallow bound (s ∷ ss) → section_opens bound s ≡ []
-section_shallow bound (globals gs) ss c = all_clear (λ (g : RawGlobal). code_opens bound 0 g.init) gs (front_all (λ (g : RawGlobal). code_opens bound 0 g.init ≡ []) gs (flat_map globals_in ss) c.globals)
-section_shallow bound (elements es) ss c = all_clear (λ (e : RawElem). code_opens bound 0 e.offset) es (front_all (λ (e : RawElem). code_opens bound 0 e.offset ≡ []) es (flat_map elements_in ss) c.elems)
+section_shallow bound (globals gs) ss c = all_clear (λ (g : RawGlobal). code_opens bound 0 g.init) gs
+    (front_all (λ (g : RawGlobal). code_opens bound 0 g.init ≡ []) gs (flat_map globals_in ss) c.globals)
+section_shallow bound (elements es) ss c = all_clear (λ (e : RawElem). code_opens bound 0 e.offset) es
+    (front_all (λ (e : RawElem). code_opens bound 0 e.offset ≡ []) es (flat_map elements_in ss) c.elems)
 section_shallow bound (bodies bs) ss c = all_clear (λ (b : RawBody). code_opens bound 0 b.code) bs (front_all (λ (b : RawBody). code_opens bound 0 b.code ≡ []) bs (flat_map bodies_in ss) c.bodies)
-section_shallow bound (segments ds) ss c = all_clear (λ (s : RawSegment). code_opens bound 0 s.offset) ds (front_all (λ (s : RawSegment). code_opens bound 0 s.offset ≡ []) ds (flat_map segments_in ss) c.segments)
+section_shallow bound (segments ds) ss c = all_clear (λ (s : RawSegment). code_opens bound 0 s.offset) ds
+    (front_all (λ (s : RawSegment). code_opens bound 0 s.offset ≡ []) ds (flat_map segments_in ss) c.segments)
 section_shallow bound (custom name bytes) ss c = refl
 section_shallow bound (types ts) ss c = refl
 section_shallow bound (imports is) ss c = refl
@@ -205,13 +210,17 @@ module _ (bound : ℕ) (ss : List Section) (m : Module) (is : IsModule ss m) whe
   levels_of e =
       let c = shallow_parts bound ss e in
       record {
-        funcs = each_back IsBody (λ (b : RawBody). code_opens bound 0 b.code ≡ []) (λ (f : Func). depth_of f.body ≤ bound) (λ x y r o. shallower (depth_of y.body) (code_depth bound 0 x.code y.body done r.body o low).0)
+        funcs = each_back IsBody (λ (b : RawBody). code_opens bound 0 b.code ≡ []) (λ (f : Func). depth_of f.body ≤ bound)
+            (λ x y r o. shallower (depth_of y.body) (code_depth bound 0 x.code y.body done r.body o low).0)
             (flat_map bodies_in ss) m.funcs is.funcs c.bodies;
-        globals = each_back IsGlobal (λ (g : RawGlobal). code_opens bound 0 g.init ≡ []) (λ (g : GlobalDef). depth_of g.init ≤ bound) (λ x y r o. shallower (depth_of y.init) (code_depth bound 0 x.init y.init done r.init o low).0)
+        globals = each_back IsGlobal (λ (g : RawGlobal). code_opens bound 0 g.init ≡ []) (λ (g : GlobalDef). depth_of g.init ≤ bound)
+            (λ x y r o. shallower (depth_of y.init) (code_depth bound 0 x.init y.init done r.init o low).0)
             (flat_map globals_in ss) m.globals is.globals c.globals;
-        elems = each_back IsElem (λ (e : RawElem). code_opens bound 0 e.offset ≡ []) (λ (e : Elem). depth_of e.offset ≤ bound) (λ x y r o. shallower (depth_of y.offset) (code_depth bound 0 x.offset y.offset done r.offset o low).0)
+        elems = each_back IsElem (λ (e : RawElem). code_opens bound 0 e.offset ≡ []) (λ (e : Elem). depth_of e.offset ≤ bound)
+            (λ x y r o. shallower (depth_of y.offset) (code_depth bound 0 x.offset y.offset done r.offset o low).0)
             (flat_map elements_in ss) m.elems is.elems c.elems;
-        segments = each_back IsSegment (λ (s : RawSegment). code_opens bound 0 s.offset ≡ []) (λ (s : Segment). depth_of s.offset ≤ bound) (λ x y r o. shallower (depth_of y.offset) (code_depth bound 0 x.offset y.offset done r.offset o low).0)
+        segments = each_back IsSegment (λ (s : RawSegment). code_opens bound 0 s.offset ≡ []) (λ (s : Segment). depth_of s.offset ≤ bound)
+            (λ x y r o. shallower (depth_of y.offset) (code_depth bound 0 x.offset y.offset done r.offset o low).0)
             (flat_map segments_in ss) m.segments is.segments c.segments;
       }
 
@@ -223,12 +232,16 @@ module _ (bound : ℕ) (ss : List Section) (m : Module) (is : IsModule ss m) whe
   pub opens_of : Levels bound m → opens bound ss ≡ []
   opens_of l =
       opens_none bound ss (record {
-        globals = each_all IsGlobal (λ (g : RawGlobal). code_opens bound 0 g.init ≡ []) (λ (g : GlobalDef). depth_of g.init ≤ bound) (λ x y r d. code_shallow bound 0 x.init y.init done r.init (from_none (depth_of y.init) d) none_deep)
+        globals = each_all IsGlobal (λ (g : RawGlobal). code_opens bound 0 g.init ≡ []) (λ (g : GlobalDef). depth_of g.init ≤ bound)
+            (λ x y r d. code_shallow bound 0 x.init y.init done r.init (from_none (depth_of y.init) d) none_deep)
             (flat_map globals_in ss) m.globals is.globals l.globals;
-        elems = each_all IsElem (λ (e : RawElem). code_opens bound 0 e.offset ≡ []) (λ (e : Elem). depth_of e.offset ≤ bound) (λ x y r d. code_shallow bound 0 x.offset y.offset done r.offset (from_none (depth_of y.offset) d) none_deep)
+        elems = each_all IsElem (λ (e : RawElem). code_opens bound 0 e.offset ≡ []) (λ (e : Elem). depth_of e.offset ≤ bound)
+            (λ x y r d. code_shallow bound 0 x.offset y.offset done r.offset (from_none (depth_of y.offset) d) none_deep)
             (flat_map elements_in ss) m.elems is.elems l.elems;
-        bodies = each_all IsBody (λ (b : RawBody). code_opens bound 0 b.code ≡ []) (λ (f : Func). depth_of f.body ≤ bound) (λ x y r d. code_shallow bound 0 x.code y.body done r.body (from_none (depth_of y.body) d) none_deep)
+        bodies = each_all IsBody (λ (b : RawBody). code_opens bound 0 b.code ≡ []) (λ (f : Func). depth_of f.body ≤ bound)
+            (λ x y r d. code_shallow bound 0 x.code y.body done r.body (from_none (depth_of y.body) d) none_deep)
             (flat_map bodies_in ss) m.funcs is.funcs l.funcs;
-        segments = each_all IsSegment (λ (s : RawSegment). code_opens bound 0 s.offset ≡ []) (λ (s : Segment). depth_of s.offset ≤ bound) (λ x y r d. code_shallow bound 0 x.offset y.offset done r.offset (from_none (depth_of y.offset) d) none_deep)
+        segments = each_all IsSegment (λ (s : RawSegment). code_opens bound 0 s.offset ≡ []) (λ (s : Segment). depth_of s.offset ≤ bound)
+            (λ x y r d. code_shallow bound 0 x.offset y.offset done r.offset (from_none (depth_of y.offset) d) none_deep)
             (flat_map segments_in ss) m.segments is.segments l.segments;
       })

@@ -152,7 +152,8 @@ runtime_low m =
     let pq : P q = (omega arith, omega (arith, c)) in
     All-cons P x (y ∷ w ∷ y ∷ q ∷ []) px (All-cons P y (w ∷ y ∷ q ∷ []) py (All-cons P w (y ∷ q ∷ []) pw (All-cons P y (q ∷ []) py (All-cons P q [] pq (All-nil P)))))
 
-module _ (m : Module) (s : Settings) (which : List Bool) (codes : (index : ℕ) → Func → FrameCode) (v : Valid m) (hold : AllCodesHold m s which codes) (few : FewWritten m which) (levels : Levels 1000 m)
+module _ (m : Module) (s : Settings) (which : List Bool) (codes : (index : ℕ) → Func → FrameCode) (v : Valid m) (hold : AllCodesHold m s which codes) (few : FewWritten m which)
+    (levels : Levels 1000 m)
     (locals : All (λ (f : Func). func_locals m.types f ≤ 50000) m.funcs) where
   abbrev p : Module
   p = asyncified_by m s which codes
@@ -203,7 +204,8 @@ module _ (m : Module) (s : Settings) (which : List Bool) (codes : (index : ℕ) 
   norm_levels = record {
     funcs = merged_all (Low p) (λ (f : Func). depth_of f.body ≤ 3008) (λ f h. h.0) p.funcs funcs_low;
     globals = All-append (λ (g : GlobalDef). depth_of g.init ≤ 3008) m.globals runtime_globals (deeper (λ (g : GlobalDef). depth_of g.init) m.globals levels.globals)
-        (All-cons (λ (g : GlobalDef). depth_of g.init ≤ 3008) zero_global (zero_global ∷ []) (omega arith) (All-cons (λ (g : GlobalDef). depth_of g.init ≤ 3008) zero_global [] (omega arith) (All-nil (λ (g : GlobalDef). depth_of g.init ≤ 3008))));
+        (All-cons (λ (g : GlobalDef). depth_of g.init ≤ 3008) zero_global (zero_global ∷ []) (omega arith)
+        (All-cons (λ (g : GlobalDef). depth_of g.init ≤ 3008) zero_global [] (omega arith) (All-nil (λ (g : GlobalDef). depth_of g.init ≤ 3008))));
     elems = deeper (λ (e : Elem). depth_of e.offset) m.elems levels.elems;
     segments = deeper (λ (s : Segment). depth_of s.offset) m.segments levels.segments;
   }
@@ -220,7 +222,8 @@ module _ (m : Module) (s : Settings) (which : List Bool) (codes : (index : ℕ) 
       let c = same_length m s which codes in omega (arith, a, b, c)
 
 -- what is written of a source is within the bounds of a prepared module
-pub prepared_by : (m : Module) (s : Settings) (which : List Bool) (codes : (index : ℕ) → Func → FrameCode) (bytes : List ℕ) → IsAccepted source_bounds bytes m → Valid m → AllCodesHold m s which codes → FewWritten m which
+pub prepared_by : (m : Module) (s : Settings) (which : List Bool) (codes : (index : ℕ) → Func → FrameCode) (bytes : List ℕ) → IsAccepted source_bounds bytes m → Valid m
+    → AllCodesHold m s which codes → FewWritten m which
     → length (Enc (asyncified_by m s which codes)) ≤ 67108864 → SpellsModule (Enc (asyncified_by m s which codes)) (Norm (asyncified_by m s which codes))
     → IsAccepted prepared_bounds (Enc (asyncified_by m s which codes)) (Norm (asyncified_by m s which codes))
 unfolding Norm with_runtime

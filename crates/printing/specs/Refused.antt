@@ -22,6 +22,7 @@ status_of (write_fault name) = 11
 abbrev pub Prints : List ℕ → ℕ → ℕ → List ℕ → List ℕ → Type 0
 Prints line faults faults' old new = Appends line old new ⊎ (AppendsLess line old new × HasRisen faults faults')
 
+-- the line of want of memory
 abbrev pub memory_line : List ℕ
 memory_line = refusal_line None out_of_memory
 

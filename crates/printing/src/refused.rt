@@ -1,4 +1,5 @@
-// A refusal's line, over a sink that may fail.
+//! A refusal's line, over a sink that may fail.
+
 ghost use Rattle.std.specs.Prelude.{◌≡◌, ◌≢◌, ◌⊎◌, ◌≤◌, None};
 ghost use Rattle.vault_port.specs.Told.{Becomes};
 ghost use Rattle.wa_model.specs.Transcript.{read_fault, refusal_line, write_fault};

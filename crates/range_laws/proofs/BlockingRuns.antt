@@ -16,12 +16,16 @@ use Rattle.wa_model.specs.Store.{Store}
 use Rattle.wa_model.specs.Step.{Next, steps, asks, returns, traps, stuck, step}
 use Rattle.wa_model.specs.Plan.{Entry, Plan, Outcome, given, refused, AnswerFits, OutcomeFits}
 use Rattle.wa_model.specs.Instantiation.{Opening, fails_as, opens, opening, least_of}
-use Rattle.wa_model.specs.Blocking.{continued, Note, note, call_note, fault_of, pause_of, poked, done_notes, value_of_results, Task, the_start, an_entry, Left, with_outcomes, Asker, inside, outermost, store_at, stack_at, in_start, State, between, begins, runs, halts, on_to, next_entry, task_back, go_on, ends_at_call, tested, asked, by_step, enters, enter_next, start_called, blocking, no_store, all_left, started, begun, Blocking, store_of}
-use Rattle.range_laws.specs.Ranges.{CodesIn, WellFormedIn, ValuesIn, byte_in, StoreIn, NextIn, EndIn, NoteIn, EntryIn, LeftIn, TaskIn, AskerIn, StateIn, PokeInside, OpeningIn, BlockingIn, BlockingHoldsArea, BlockingMemoryGrows, BlockingLater}
+use Rattle.wa_model.specs.Blocking.{continued, Note, note, call_note, fault_of, pause_of, poked, done_notes, value_of_results, Task, the_start, an_entry, Left, with_outcomes, Asker, inside}
+use Rattle.wa_model.specs.Blocking.{outermost, store_at, stack_at, in_start, State, between, begins, runs, halts, on_to, next_entry, task_back, go_on, ends_at_call, tested, asked, by_step}
+use Rattle.wa_model.specs.Blocking.{enters, enter_next, start_called, blocking, no_store, all_left, started, begun, Blocking, store_of}
+use Rattle.range_laws.specs.Ranges.{CodesIn, WellFormedIn, ValuesIn, byte_in, StoreIn, NextIn, EndIn, NoteIn, EntryIn, LeftIn, TaskIn, AskerIn, StateIn, PokeInside, OpeningIn, BlockingIn}
+use Rattle.range_laws.specs.Ranges.{BlockingHoldsArea, BlockingMemoryGrows, BlockingLater}
 use Rattle.range_laws.proofs.Acts.{none_in}
 use Rattle.range_laws.proofs.Steps.{func_in, entered_in, step_in}
 use Rattle.range_laws.proofs.Openings.{openings_in}
-use Rattle.range_laws.proofs.Host.{store_lower, store_whole, poked_store_in, FaultIn, fault_in, fault_pokes, refusal_in, note_in, call_note_in, one_note, two_notes, done_in, stack_in, asker_store, ticks_in, result_in, optional_in, resumed_in, waits_in}
+use Rattle.range_laws.proofs.Host.{store_lower, store_whole, poked_store_in, FaultIn, fault_in, fault_pokes, refusal_in, note_in, call_note_in, one_note, two_notes, done_in, stack_in}
+use Rattle.range_laws.proofs.Host.{asker_store, ticks_in, result_in, optional_in, resumed_in, waits_in}
 use Rattle.wa_model.proofs.Invariants.{TurnKeeps, RanKeeps, after_keeps, leads_keeps, later_keeps}
 
 -- a store as an answer leaves it

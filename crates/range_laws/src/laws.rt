@@ -1,6 +1,7 @@
 //! Laws of ranges and of memories. Each is the contract of a function that does nothing.
 
-ghost use Rattle.range_laws.specs.Ranges.{AnswersIn, BlockingHoldsArea, BlockingIn, BlockingLater, BlockingMemoryGrows, CallsIn, ComparedIn, EndsIn, FitsAreas, FitsIn, OpeningsIn, OperatorsIn, ProtocolHoldsArea, ProtocolIn, ProtocolLater, ProtocolMemoryGrows, StepsIn, StretchesIn, WellFormedIn};
+ghost use Rattle.range_laws.specs.Ranges.{AnswersIn, BlockingHoldsArea, BlockingIn, BlockingLater, BlockingMemoryGrows, CallsIn, ComparedIn, EndsIn, FitsAreas, FitsIn, OpeningsIn};
+ghost use Rattle.range_laws.specs.Ranges.{OperatorsIn, ProtocolHoldsArea, ProtocolIn, ProtocolLater, ProtocolMemoryGrows, StepsIn, StretchesIn, WellFormedIn};
 
 /// What an operator makes of operands in range is in range (standard, section 4.4.1).
 pub fn operators_in_range()

@@ -169,7 +169,8 @@ module _ (m : Module) (s : Settings) (which : List Bool) (codes : (index : ℕ) 
   unfolding with_runtime
   sorts_are =
       ap (λ ks. flat_map (λ (i : Import). kind_sorts i.kind) m.imports ++ ks)
-      (map-append sort_of (inner m s which codes).funcs (runtime m s which codes) ∙ ap (λ ks. ks ++ map sort_of (runtime m s which codes)) (same_sorts m s which codes) ∙ sym (map-append sort_of m.funcs (runtime m s which codes)))
+      (map-append sort_of (inner m s which codes).funcs (runtime m s which codes) ∙ ap (λ ks. ks ++ map sort_of (runtime m s which codes)) (same_sorts m s which codes)
+      ∙ sym (map-append sort_of m.funcs (runtime m s which codes)))
 
   params_are : (c : Code) → code_params p c ≡ code_params (with_runtime m) c
   params_are = same_params p (with_runtime m) types_are sorts_are
@@ -222,7 +223,8 @@ module _ (m : Module) (s : Settings) (which : List Bool) (codes : (index : ℕ) 
     lists : code_lists (2 ^ 32) g.body
     lists =
         lists_few (2 ^ 32) g.body
-        (subst (Each (λ x. x < 2 ^ 32)) (sym (no_marks table_marking (no_tables (codes x f).restoring owed.restoring_quiet) (no_tables (codes x f).saving owed.saving_quiet))) (tables_few (2 ^ 32) (code_of (flattened m x f).body) (flat_lists (meets m x f v strict is counted).fits.sizes.labels)))
+        (subst (Each (λ x. x < 2 ^ 32)) (sym (no_marks table_marking (no_tables (codes x f).restoring owed.restoring_quiet) (no_tables (codes x f).saving owed.saving_quiet)))
+        (tables_few (2 ^ 32) (code_of (flattened m x f).body) (flat_lists (meets m x f v strict is counted).fits.sizes.labels)))
 
     bound : (items calls own runs size w l cs more oi oc op orn : ℕ) → items ≤ 3 * size → size ≤ 19 * w + cs + 11 → cs < 2 ^ 53 → w + l < 2 ^ 31 → calls ≤ oc + oi → own ≤ op + 1 → runs ≡ orn + more
         → more ≤ 50003 → oi + 1 + oc + op + orn < 2 ^ 31 → items + 1 + calls + own + runs < 2 ^ 56

@@ -4,7 +4,8 @@ use Rattle.std.proofs.lemmas.List.{append-nil, length-map}
 use Rattle.wa_types.specs.declared.values.ValType.{ValType}
 use Rattle.wa_types.specs.declared.values.ValType.TheVariants.{I32, I64}
 use Rattle.wa_types.specs.declared.values.Value.TheVariants as V
-use Rattle.wa_types.specs.Syntax.{Basic, const, num, global_get, load, store, basic, local_get, local_set, local_tee, br, br_if, br_table, return, unreachable, call, call_indirect, Plain, a_block, Code, done, plain, nest, branch}
+use Rattle.wa_types.specs.Syntax.{Basic, const, num, global_get, load, store, basic, local_get, local_set, local_tee, br, br_if, br_table, return, unreachable, call, call_indirect, Plain}
+use Rattle.wa_types.specs.Syntax.{a_block, Code, done, plain, nest, branch}
 use Rattle.wa_types.specs.declared.operators.NumOp.TheVariants.{I32Ne, I32LtU, I32Add, I32Sub}
 use Rattle.wa_types.specs.Pausing.{Callee, callee, callee_onto, calls_of}
 use Rattle.wa_types.specs.Sizes.{plain_lists, code_lists}
@@ -18,7 +19,8 @@ use Rattle.wa_model.specs.Store.{gives}
 use Rattle.slim_modules.specs.Slim as S
 use Rattle.slim_modules.specs.Slim.{Free, Slims, Terms}
 use Rattle.slim_modules.specs.Pieces.{Units, no_unit, call_unit, nest_unit, if_unit, any_unit, numbers_in, call_to, got_any, flat_units}
-use Rattle.slim_modules.specs.Guarded.{raise, raised_plain, raised, GuardIndices, by_state, index_with, guarded, sought, one_more, index_noted, noted, call_guarded, choice, arm, Exit, each_end, its_end, by_label, nowhere, exit_inside, last_piece, call_front, body_exit, guarded_body, front, written_body}
+use Rattle.slim_modules.specs.Guarded.{raise, raised_plain, raised, GuardIndices, by_state, index_with, guarded, sought, one_more, index_noted, noted, call_guarded, choice, arm, Exit}
+use Rattle.slim_modules.specs.Guarded.{each_end, its_end, by_label, nowhere, exit_inside, last_piece, call_front, body_exit, guarded_body, front, written_body}
 
 -- ---- marks
 
@@ -229,7 +231,8 @@ module _ {X : Type 0} (k : Marking X) where
         let two_arm : Code = arm b fb (front i v (suc d) (n + numbers_in a) fb b) in
         let next : Code = front i e d (n + numbers_in a + numbers_in b) behind rest in
         let ea : marks_of one_arm ≡ marks_of (followed_by fa (flat_units a)) = marks_arm a fa (front i v (suc d) n fa a) (marks_front v (suc d) n fa a) ∙ sym (marks_then fa (flat_units a)) in
-        let eb : marks_of two_arm ≡ marks_of (followed_by fb (flat_units b)) = marks_arm b fb (front i v (suc d) (n + numbers_in a) fb b) (marks_front v (suc d) (n + numbers_in a) fb b) ∙ sym (marks_then fb (flat_units b)) in
+        let eb : marks_of two_arm ≡ marks_of (followed_by fb (flat_units b)) = marks_arm b fb (front i v (suc d) (n + numbers_in a) fb b) (marks_front v (suc d) (n + numbers_in a) fb b)
+        ∙ sym (marks_then fb (flat_units b)) in
         let en : marks_of next ≡ marks_of (followed_by behind (flat_units rest)) = marks_front e d (n + numbers_in a + numbers_in b) behind rest ∙ sym (marks_then behind (flat_units rest)) in
         let tested : marks_of whole ≡ marks_of first =
         marks_raised 0 1 (followed_by first (got_any o done)) ∙ marks_then first (got_any o done) ∙ ap (λ z. marks_of first ++ z) (marks_any o done) ∙ append-nil (marks_of first) in
@@ -440,7 +443,8 @@ module _ (n : ℕ) where
   tables_few (plain p rest) h = both (table_marks p) (marks_of table_marking rest) (plain_few p h.0) (tables_few rest h.1)
   tables_few (nest s r body rest) h = both (marks_of table_marking body) (marks_of table_marking rest) (tables_few body h.0) (tables_few rest h.1)
   tables_few (branch r a b rest) h =
-      both (marks_of table_marking a ++ marks_of table_marking b) (marks_of table_marking rest) (both (marks_of table_marking a) (marks_of table_marking b) (tables_few a h.0) (tables_few b h.1)) (tables_few rest h.2)
+      both (marks_of table_marking a ++ marks_of table_marking b) (marks_of table_marking rest)
+      (both (marks_of table_marking a) (marks_of table_marking b) (tables_few a h.0) (tables_few b h.1)) (tables_few rest h.2)
 
   pub lists_few : (c : Code) → Each (λ x. x < n) (marks_of table_marking c) → code_lists n c
   lists_few done h = tt

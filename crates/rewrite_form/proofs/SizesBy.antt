@@ -141,7 +141,8 @@ module _ (st : ℕ) (restoring saving body : Code) (o : Option ℕ) where
   body_depth r s = let e = result_flat o in grind arith
 
   -- both codes nest no deeper than a function with them, but for the branch around them
-  pub inner_depths : (1 + depth_of restoring ≤ depth_of (function_body st restoring saving (result_got o) body)) × (1 + depth_of saving ≤ depth_of (function_body st restoring saving (result_got o) body))
+  pub inner_depths : (1 + depth_of restoring ≤ depth_of (function_body st restoring saving (result_got o) body))
+      × (1 + depth_of saving ≤ depth_of (function_body st restoring saving (result_got o) body))
   unfolding depth_of
   inner_depths = (grind arith, grind arith)
 

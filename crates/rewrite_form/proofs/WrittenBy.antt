@@ -135,7 +135,8 @@ module _ (m : Module) (s : Settings) (which : List Bool) (codes : (index : ℕ) 
     written_typed sp restores saves =
         let gf : GuardedFunc = guarded_by m s which codes x f in
         let ends : own ≡ c.result = sym result_is in
-        let result : Types c (c.result ∷ []) (result_got (flattened m x f).result) (listed c.result) [] = subst (λ q. Types c (q ∷ []) (result_got (flattened m x f).result) (listed q) []) ends result_typed in
+        let result : Types c (c.result ∷ []) (result_got (flattened m x f).result) (listed c.result) [] =
+        subst (λ q. Types c (q ∷ []) (result_got (flattened m x f).result) (listed q) []) ends result_typed in
         let stmts : StmtsTyped c (None ∷ c.result ∷ []) (flattened m x f).body =
         subst (λ q. StmtsTyped c (None ∷ q ∷ []) (flattened m x f).body) ends
         (stmts_wider (wide m f) c to_written labels (flattened m x f).body (body_stmts m f (func_type_small m v) (type_small m v) x (good_body m f body) (own_result m f))) in

@@ -43,7 +43,8 @@ module _ (locals : List ValType) where
       place_typed (keep x) x t (named_places keep (suc x) ts) (ap (slice_get locals) (sym z) ∙ h 0 t refl)
       (named_typed keep (suc x) ts (λ i u e. let k : suc x + i ≡ x + suc i = omega arith in ap (slice_get locals) k ∙ h (suc i) u e))
 
-  slots_typed : (keep : Pair → Bool) (x : ℕ) (ps : List Pair) → ((i : ℕ) (t : ValType) → slice_get (map (λ (p : Pair). p.ty) ps) i ≡ Some t → slice_get locals (x + i) ≡ Some t) → PlacesTyped locals (slot_places keep x ps)
+  slots_typed : (keep : Pair → Bool) (x : ℕ) (ps : List Pair) → ((i : ℕ) (t : ValType) → slice_get (map (λ (p : Pair). p.ty) ps) i ≡ Some t → slice_get locals (x + i) ≡ Some t)
+      → PlacesTyped locals (slot_places keep x ps)
   slots_typed keep x [] h = tt
   slots_typed keep x (p ∷ ps) h =
       let z : x + 0 ≡ x = omega arith in

@@ -32,6 +32,7 @@ pub record CodeQuiet (code : Code) : Type 0 where
   pub lists : (n : ℕ) → code_lists n code
   pub depth : depth_of code ≤ 1
 
+-- the size of both codes
 abbrev pub codes_size : FrameCode → ℕ
 codes_size c = instructions_and_labels c.restoring + instructions_and_labels c.saving
 

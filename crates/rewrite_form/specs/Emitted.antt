@@ -15,6 +15,7 @@ use Rattle.rewrite_form.specs.EmittedBy.{FrameCode, asyncified_by, written_by}
 
 -- ---- frames
 
+-- a list that is told, else an empty one
 abbrev pub or_none : Option (List ℕ) → List ℕ
 or_none None = []
 or_none (Some stack) = stack

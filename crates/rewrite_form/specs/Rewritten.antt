@@ -29,7 +29,8 @@ pub record RewritesButRuns (m : Module) (s : Settings) (p : Module) : Type 0 whe
   pub customs : (Norm p).customs ≡ (Norm (record p { customs = m.customs })).customs
   pub runtime : drop (length m.funcs) p.funcs ≡ drop (length m.funcs) (with_runtime m).funcs
   pub unchanged : (i : ℕ) (f g : Func) → slice_get m.funcs i ≡ Some f → slice_get p.funcs i ≡ Some g → ¬ MayPause m s (func_imports m + i) → SameFunc f g
-  pub rewritten : (i : ℕ) (f g : Func) (which : List Bool) → slice_get m.funcs i ≡ Some f → slice_get p.funcs i ≡ Some g → TellsMayPause m s which → MayPause m s (func_imports m + i) → RewrittenFunc m s p which f g
+  pub rewritten : (i : ℕ) (f g : Func) (which : List Bool) → slice_get m.funcs i ≡ Some f → slice_get p.funcs i ≡ Some g → TellsMayPause m s which → MayPause m s (func_imports m + i)
+      → RewrittenFunc m s p which f g
 
 -- ---- laws
 

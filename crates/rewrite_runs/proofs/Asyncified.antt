@@ -119,14 +119,17 @@ module _ (m : Module) (s : Settings) (which : List Bool) (pieces : (index : ℕ)
     abbrev at_place : ℕ → ℕ → Bool
     at_place y place = list_any (nat_eq y) (or_none (slice_get (stacks_in (flattened m x f).body) place))
 
-    stack_there : (place : ℕ) (ops : List ValType) → slice_get (func_call_points (Base m) f) place ≡ Some ops → or_none (slice_get (stacks_in (flattened m x f).body) place) ≡ reverse (slots (names (Base m) f) ops)
+    stack_there : (place : ℕ) (ops : List ValType) → slice_get (func_call_points (Base m) f) place ≡ Some ops
+        → or_none (slice_get (stacks_in (flattened m x f).body) place) ≡ reverse (slots (names (Base m) f) ops)
     stack_there place ops points =
         let typed = body_typed (Base m) (base_valid m valid) x f (base_defined m x ∙ is) in
         ap (λ (z : FlatFunc). or_none (slice_get (stacks_in z.body) place)) (sym same_flat)
         ∙ ap (λ xs. or_none (slice_get xs place)) (stacks_are_slots (Base m) x f typed)
-        ∙ ap or_none (slice_get-map (λ (os : List ValType). reverse (slots (names (Base m) f) os)) (func_call_points (Base m) f) place ∙ ap (option_map (λ (os : List ValType). reverse (slots (names (Base m) f) os))) points)
+        ∙ ap or_none (slice_get-map (λ (os : List ValType). reverse (slots (names (Base m) f) os)) (func_call_points (Base m) f) place
+        ∙ ap (option_map (λ (os : List ValType). reverse (slots (names (Base m) f) os))) points)
 
-    kept_there : (place : ℕ) (ops : List ValType) → Contains ps place → slice_get (func_call_points (Base m) f) place ≡ Some ops → (y : ℕ) → list_any (nat_eq y) (slots (names (Base m) f) ops) ≡ true → keep x y ≡ true
+    kept_there : (place : ℕ) (ops : List ValType) → Contains ps place → slice_get (func_call_points (Base m) f) place ≡ Some ops → (y : ℕ)
+        → list_any (nat_eq y) (slots (names (Base m) f) ops) ≡ true → keep x y ≡ true
     kept_there place ops c points y e =
         let here : at_place y place ≡ true = ap (list_any (nat_eq y)) (stack_there place ops points) ∙ any_reverse (nat_eq y) (slots (names (Base m) f) ops) [] e in
         let any : holds_operand (flattened m x f) ps y ≡ true = list_any_at (at_place y) ps c.0 place c.1 (ap (at_place y) c.2 ∙ here) in

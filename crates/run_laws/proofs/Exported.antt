@@ -121,7 +121,8 @@ pub exports_free : (m p : Module) → p.exports ≡ (with_runtime m).exports →
 exports_free m p exports valid = free_names (func_space m) m.exports (ap (λ es. all_differ (map (λ (e : Export). e.name) es)) (sym (exports ∙ grown_exports m)) ∙ valid.names)
 
 -- and one that has the runtime's functions behind the original's
-pub parts_exported : (m p : Module) → p.imports ≡ m.imports → p.exports ≡ (with_runtime m).exports → drop (length m.funcs) p.funcs ≡ drop (length m.funcs) (with_runtime m).funcs → Valid p → RuntimeExported m p
+pub parts_exported : (m p : Module) → p.imports ≡ m.imports → p.exports ≡ (with_runtime m).exports → drop (length m.funcs) p.funcs ≡ drop (length m.funcs) (with_runtime m).funcs → Valid p
+    → RuntimeExported m p
 parts_exported m p imports exports runtime valid =
     let more : List Func = runtime_funcs (length m.types) (global_space m) (global_space m + 1) in
     let behind : drop (length m.funcs) p.funcs ≡ more = runtime ∙ ap (drop (length m.funcs)) (grown_funcs m) ∙ drop-append_seam m.funcs more in

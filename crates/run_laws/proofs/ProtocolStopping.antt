@@ -17,8 +17,12 @@ use Rattle.wa_model.specs.Store.{Store}
 use Rattle.wa_model.specs.Step.{Next, steps, asks, returns, traps, stuck, step}
 use Rattle.wa_model.specs.Plan.{Entry, EntryFits, Plan, Outcome, given, refused}
 use Rattle.wa_model.specs.Instantiation.{Opening, fails_as, opens, opening}
-use Rattle.wa_model.specs.Blocking.{Note, note, no_store, value_of_results, answers, fault_of, pause_of, poked, done_notes, Task, the_start, an_entry, Left, with_outcomes, Asker, inside, outermost, store_at, in_start, stack_at, call_note, next_entry, all_left}
-use Rattle.wa_model.specs.Protocol.{Exports, exports_of, Phase, is_running, unwinds, rewinds, Then, give_zero, test_unwound, pause_there, call_again, test_rewound, give_answer, Held, free, starting, busy, calling, aside, entering, over, with_words, used_of, broken, held_on, held_back, held_given, held_pauses, held_tested, held_asked, trap_end, busy_step, is_state, zeros_of, answer_note, aside_back, aside_step, busy_enters, held_next, aside_called, held_start, protocol, held_started, held_begun, held_continued, Protocol}
+use Rattle.wa_model.specs.Blocking.{Note, note, no_store, value_of_results, answers, fault_of, pause_of, poked, done_notes, Task, the_start, an_entry, Left, with_outcomes, Asker, inside}
+use Rattle.wa_model.specs.Blocking.{outermost, store_at, in_start, stack_at, call_note, next_entry, all_left}
+use Rattle.wa_model.specs.Protocol.{Exports, exports_of, Phase, is_running, unwinds, rewinds, Then, give_zero, test_unwound, pause_there, call_again, test_rewound, give_answer, Held, free}
+use Rattle.wa_model.specs.Protocol.{starting, busy, calling, aside, entering, over, with_words, used_of, broken, held_on, held_back, held_given, held_pauses, held_tested, held_asked}
+use Rattle.wa_model.specs.Protocol.{trap_end, busy_step, is_state, zeros_of, answer_note, aside_back, aside_step, busy_enters, held_next, aside_called, held_start, protocol, held_started}
+use Rattle.wa_model.specs.Protocol.{held_begun, held_continued, Protocol}
 use Rattle.wa_model.specs.Fitting.{types_of, results_of, global_types, StoreFits, CallersFit, WaitingFits, NextFits}
 use Rattle.wa_model.proofs.Invariants.{TurnKeeps, RanKeeps, after_keeps, leads_keeps}
 use Rattle.wa_model.proofs.FittingNames.{not_defined, results_are, zeros_typed}
@@ -77,7 +81,8 @@ module _ (p : Module) (v : Valid p) (plan : Plan) (ex : ExportsTyped p) where
       (any_notes (called ∷ note (answered a.value) s ∷ []), (w.1, answers_fit p w.1 c s (option_to_list a.value) so (subst (λ ts. CallersFit p w.1 ts (c.here ∷ c.under)) (sym e) w.2.waits), w.0, h))
   given_fits k import called a s l (outermost old) so e h w = (any_notes (called ∷ note (answered a.value) s ∷ done_notes s l.entries), on_fits s l l.entries refl so h)
 
-  pauses_fit : (k import : ℕ) (called : Note) (a : Answer) (l : Left) (who : Asker) → AnswerTyped p import a → LeftTyped p l → AskerFits import who → TurnFits (held_pauses x plan k called import a l who)
+  pauses_fit : (k import : ℕ) (called : Note) (a : Answer) (l : Left) (who : Asker) → AnswerTyped p import a → LeftTyped p l → AskerFits import who
+      → TurnFits (held_pauses x plan k called import a l who)
   pauses_fit k import called a l (inside (an_entry e) c) typed h w =
       (any_notes (called ∷ []), (words_fit c.store w.2.store, ex.start_unwind, (w.0, typed), (w.1, w.2.waits), h))
   pauses_fit k import called a l (inside the_start c) typed h w = tt

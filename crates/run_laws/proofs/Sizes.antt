@@ -9,9 +9,11 @@ use Rattle.wa_types.specs.declared.syntax.Import.{Import}
 use Rattle.wa_types.specs.declared.syntax.Limits.{Limits}
 use Rattle.wa_types.specs.Base.{added_memories}
 use Rattle.wa_types.specs.Modules.{all_memories}
-use Rattle.wa_types.specs.Syntax.{Plain, basic, local_get, local_set, local_tee, br, br_if, br_table, return, unreachable, call, call_indirect, Code, done, plain, nest, branch, FuncType, Func, GlobalDef, Module}
+use Rattle.wa_types.specs.Syntax.{Plain, basic, local_get, local_set, local_tee, br, br_if, br_table, return, unreachable, call, call_indirect, Code, done, plain, nest, branch, FuncType}
+use Rattle.wa_types.specs.Syntax.{Func, GlobalDef, Module}
 use Rattle.wa_types.specs.Sizes.{params_of_type, kind_sorts, all_sorts, params_at_index, call_params, code_items, code_params, plain_lists, code_lists, FuncSizes, TypeSizes, ElemSizes, SegmentSizes}
-use Rattle.wa_types.specs.Runtime.{global_space, runtime_types, zero_global, runtime_globals, runtime_func, runtime_funcs, runtime_exports, func_space, start_code, stop_code, state_code, test_code, with_runtime}
+use Rattle.wa_types.specs.Runtime.{global_space, runtime_types, zero_global, runtime_globals, runtime_func, runtime_funcs, runtime_exports, func_space, start_code, stop_code, state_code}
+use Rattle.wa_types.specs.Runtime.{test_code, with_runtime}
 use Rattle.run_laws.specs.RuntimeParts.{RuntimeKeepsSizes}
 
 -- ---- parameters of calls

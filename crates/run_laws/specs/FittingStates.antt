@@ -9,7 +9,8 @@ use Rattle.wa_model.specs.Outside.{Answer}
 use Rattle.wa_model.specs.Configuration.{Configuration}
 use Rattle.wa_model.specs.Plan.{Entry}
 use Rattle.wa_model.specs.Blocking.{Task, the_start, an_entry, Left, State, between, begins, runs, halts}
-use Rattle.wa_model.specs.Protocol.{exports_of, Phase, is_running, unwinds, rewinds, Then, give_zero, test_unwound, pause_there, call_again, test_rewound, give_answer, Held, free, starting, busy, calling, aside, entering, over}
+use Rattle.wa_model.specs.Protocol.{exports_of, Phase, is_running, unwinds, rewinds, Then, give_zero, test_unwound, pause_there, call_again, test_rewound, give_answer, Held, free, starting}
+use Rattle.wa_model.specs.Protocol.{busy, calling, aside, entering, over}
 use Rattle.wa_model.specs.Fitting.{types_of, results_of, StoreFits, CallersFit, Fits}
 
 -- a defined function that takes operands of these types
@@ -20,6 +21,7 @@ Callable m x params = ((f : Func) × (defined_at m x ≡ Some f)) × ((func_type
 abbrev pub EntryTyped : Module → Entry → Type 0
 EntryTyped m e = ((f : Func) × (defined_at m e.func ≡ Some f)) × (types_of e.args ≡ (func_type_at m e.func).params)
 
+-- so is each entry that is left
 abbrev pub LeftTyped : Module → Left → Type 0
 LeftTyped m l = All (EntryTyped m) l.entries
 
@@ -41,6 +43,7 @@ StateFits m (halts s) = Unit {0}
 
 -- ---- under the protocol
 
+-- an entry that the host has called is typed
 abbrev pub TaskTyped : Module → Task → Type 0
 TaskTyped p the_start = Unit {0}
 TaskTyped p (an_entry e) = EntryTyped p e
@@ -49,6 +52,7 @@ TaskTyped p (an_entry e) = EntryTyped p e
 abbrev pub AnswerTyped : Module → ℕ → Answer → Type 0
 AnswerTyped p import a = types_of (option_to_list a.value) ≡ results_of p import
 
+-- the entry, and what waits in a phase of a pause
 abbrev pub PhaseTyped : Module → Phase → Type 0
 PhaseTyped p (is_running task) = TaskTyped p task
 PhaseTyped p (unwinds e i a) = EntryTyped p e × AnswerTyped p i a

@@ -26,12 +26,14 @@ PausesLower =
 abbrev pub EndIsLast : List Note → Type 0
 EndIsLast notes = (i : ℕ) (x : Note) → slice_get notes i ≡ Some x → is_end x.event ≡ true → length notes ≡ suc i
 
--- Nothing follows an end, in a run with blocking imports, in what is expected, and under the protocol.
+-- Nothing follows an end in a run with blocking imports.
 abbrev pub BlockingEndIsLast : Type 0
 BlockingEndIsLast = (m : Module) (plan : Plan) (os : List Outcome) (n : ℕ) → EndIsLast (Blocking m plan os n).events
 
+-- Nothing follows one in what is expected.
 abbrev pub ExpectedEndIsLast : Type 0
 ExpectedEndIsLast = (m : Module) (s : Settings) (plan : Plan) (os : List Outcome) (n : ℕ) → EndIsLast (expected_notes m s plan os n)
 
+-- Nothing follows one under the protocol.
 abbrev pub ProtocolEndIsLast : Type 0
 ProtocolEndIsLast = (p : Module) (plan : Plan) (os : List Outcome) (n : ℕ) → EndIsLast (Protocol p plan os n).events

@@ -20,9 +20,11 @@ use Rattle.wa_model.specs.Blocking.{Note, events_of, Blocking}
 use Rattle.wa_model.specs.Protocol.{Protocol}
 use Rattle.wa_model.specs.Expected.{Expected}
 
+-- an i32
 abbrev pub i32 : ℕ → Value
 i32 n = V.I32 n
 
+-- an instruction in front of code
 abbrev pub then : Basic → Code → Code
 then b rest = plain (basic b) rest
 
@@ -30,15 +32,19 @@ then b rest = plain (basic b) rest
 abbrev pub one_to_one : FuncType
 one_to_one = record { params = I32 ∷ []; results = I32 ∷ [] }
 
+-- the import `env.pause`, of the type of this index
 abbrev pub import_of : ℕ → Import
 import_of sort = record { «module» = codes "env"; base = codes "pause"; kind = K.Func sort }
 
+-- this function, exported as `run`
 abbrev pub export_of : ℕ → Export
 export_of x = record { name = codes "run"; space = Sp.Func; index = x }
 
+-- an answer of this value, with these ticks
 abbrev pub answer : Option Value → ℕ → Outcome
 answer v ticks = given (record { value = v; pokes = []; ticks = ticks })
 
+-- the event of a call of an import
 abbrev pub call_of : ℕ → List Value → Event
 call_of i args = called (record { import = i; args = args })
 
@@ -58,6 +64,7 @@ module_with f = record {
   customs = [];
 }
 
+-- an entry of this function
 abbrev pub entry : ℕ → List Value → Entry
 entry x args = record { func = x; args = args }
 
@@ -73,21 +80,27 @@ location rest = then (global_get 1) (then (load 0x28 2 0) rest)
 abbrev pub five_more : Module
 five_more = module_with (record { sort = 0; locals = []; body = then (const (i32 5)) (plain (local_get 0) (plain (call 0) (then (num I32Add) done))) })
 
+-- a plan that calls `run` with 7, with an area of this length
 abbrev pub area_of : ℕ → Plan
 area_of len = record { globals = []; entries = entry 1 (i32 7 ∷ []) ∷ []; area = record { at = 1024; len = len }; listed = Some (true ∷ []) }
 
+-- a word of the area, this far behind the location, into a local
 abbrev pub word_into : ℕ → ℕ → Code → Code
 word_into x offset rest = location (then (load 0x28 2 offset) (plain (local_set x) rest))
 
+-- a local into a word of the area
 abbrev pub word_from : ℕ → ℕ → Code → Code
 word_from x offset rest = location (plain (local_get x) (then (store 0x36 2 offset) rest))
 
+-- the location moved back by 16 bytes
 abbrev pub lowered : Code → Code
 lowered rest = then (global_get 1) (location (then (const (i32 16)) (then (num I32Sub) (then (store 0x36 2 0) rest))))
 
+-- the location moved on by 16 bytes
 abbrev pub raised : Code → Code
 raised rest = then (global_get 1) (location (then (const (i32 16)) (then (num I32Add) (then (store 0x36 2 0) rest))))
 
+-- the number of the call, written into the frame
 abbrev pub indexed : Code → Code
 indexed rest = location (then (const (i32 0)) (then (store 0x36 2 12) rest))
 
@@ -108,6 +121,7 @@ hand back out after = with_runtime (module_with (record {
       (plain (local_get 1) (plain (local_get 3) (then (num I32Add) done))))))));
 }))
 
+-- the parameter and both slots are restored
 abbrev pub back_all : Code
 back_all = word_into 0 0 (word_into 1 4 (word_into 2 8 done))
 
@@ -115,6 +129,7 @@ back_all = word_into 0 0 (word_into 1 4 (word_into 2 8 done))
 abbrev pub back_less : Code
 back_less = word_into 0 0 (word_into 2 8 done)
 
+-- the room is tested, then the parameter, both slots and the number of the call are saved
 abbrev pub out_all : Code
 out_all = tested (word_from 0 0 (word_from 1 4 (word_from 2 8 (indexed (raised done)))))
 
@@ -126,6 +141,7 @@ out_early = word_from 0 0 (word_from 1 4 (word_from 2 8 (indexed (tested (raised
 abbrev pub out_moved : Code
 out_moved = raised (tested (done))
 
+-- the call's result goes to the scratch local
 abbrev pub keeps_apart : Code → Code
 keeps_apart rest = plain (local_set 3) rest
 
@@ -133,6 +149,7 @@ keeps_apart rest = plain (local_set 3) rest
 abbrev pub into_slot : Code → Code
 into_slot rest = plain (local_tee 2) (plain (local_set 3) rest)
 
+-- an answer of 42 behind a pause of 5 ticks
 abbrev pub one_pause : List Outcome
 one_pause = answer (Some (i32 42)) 5 ∷ []
 
@@ -144,6 +161,7 @@ held p len = events_of (Protocol p (area_of len) one_pause 400).events
 abbrev pub wanted : ℕ → List Event
 wanted len = events_of (Expected five_more save_all (record { at = 1024; len = len }) (Blocking five_more (area_of len) one_pause 40).events)
 
+-- bytes of the memory at a note, where there is one
 abbrev pub bytes_of_note : Option Note → ℕ → ℕ → List ℕ
 bytes_of_note None at len = []
 bytes_of_note (Some x) at len = bytes_at x.store.memory at len
@@ -152,6 +170,7 @@ bytes_of_note (Some x) at len = bytes_at x.store.memory at len
 abbrev pub bytes_shown : Module → (len place at count : ℕ) → List ℕ
 bytes_shown p len place at count = bytes_of_note (slice_get (Protocol p (area_of len) one_pause 400).events place) at count
 
+-- the module that is right
 abbrev pub right_one : Module
 right_one = hand back_all out_all keeps_apart
 
@@ -191,9 +210,11 @@ pub record DummyStored : Type 0 where
 abbrev pub too_big : ℕ
 too_big = 4294967301
 
+-- a module that holds it over its call
 abbrev pub keeps_big : Module
 keeps_big = module_with (record { sort = 0; locals = []; body = then (const (i32 too_big)) (plain (local_get 0) (plain (call 0) (then drop done))) })
 
+-- that module, rewritten by hand
 abbrev pub hand_big : Module
 hand_big = with_runtime (module_with (record {
   sort = 0;

@@ -19,6 +19,7 @@ SeenByMoves =
 abbrev pub SeenNoFurther : Type 0
 SeenNoFurther = (m : Module) (plan : Plan) (s : State) (n : ℕ) → CostsMore n (blocking m plan s) → trace (blocking m plan) seen_at seen_note n s ≡ []
 
+-- the event that is seen, where it is one
 abbrev pub made_event : Seen → Option Event
 made_event (made e) = Some e
 made_event (touched t) = None

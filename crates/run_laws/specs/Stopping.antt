@@ -23,20 +23,22 @@ abbrev pub ProtocolStatesStop : Type 0
 ProtocolStatesStop =
     (p : Module) (plan : Plan) (t : Held) → Valid p → ExportsTyped p → HeldFits p t → (protocol p (exports_of p) plan t ≡ stops) ↔ ((s : Store) × (t ≡ over s))
 
--- Moves lead from such a state to such states,
+-- Moves lead from such a state to such states.
 abbrev pub BlockingStatesStay : Type 0
 BlockingStatesStay =
     (m : Module) (plan : Plan) (t u : State) (n : ℕ) (notes : List Note) → Valid m → StateFits m t → Leads (blocking m plan) t n notes u → StateFits m u
 
+-- So they do under the protocol.
 abbrev pub ProtocolStatesStay : Type 0
 ProtocolStatesStay =
     (p : Module) (plan : Plan) (t u : Held) (n : ℕ) (notes : List Note) → Valid p → ExportsTyped p → HeldFits p t
     → Leads (protocol p (exports_of p) plan) t n notes u → HeldFits p u
 
--- and runs of plans that fit stand at such states.
+-- Runs of plans that fit stand at such states.
 abbrev pub BlockingRunsFit : Type 0
 BlockingRunsFit = (m : Module) (plan : Plan) (os : List Outcome) (n : ℕ) → Valid m → Fits m plan → StateFits (Base m) (Blocking m plan os n).last
 
+-- So they do under the protocol.
 abbrev pub ProtocolRunsFit : Type 0
 ProtocolRunsFit = (p : Module) (plan : Plan) (os : List Outcome) (n : ℕ) → Valid p → Fits p plan → ExportsTyped p → HeldFits p (Protocol p plan os n).last
 

@@ -31,7 +31,8 @@ module _ (first y : ℕ) (own_local : y < first) where
   get_live z true tos tos2 out k rest q e = ap (λ c. nat_eq y z || c) e
   get_live z false tos tos2 out k rest q e = e ∙ sym (ap (λ c. c || k) (other z q))
 
-  set_live : (z : ℕ) (b : Bool) (tos tos2 : List Bool) (out k : Bool) (rest : Code) → nat_lt z first ≡ b → live y tos2 out rest ≡ k → live y tos2 out (keep_if b (local_set z) rest) ≡ (not (nat_eq y z) && k)
+  set_live : (z : ℕ) (b : Bool) (tos tos2 : List Bool) (out k : Bool) (rest : Code) → nat_lt z first ≡ b → live y tos2 out rest ≡ k
+      → live y tos2 out (keep_if b (local_set z) rest) ≡ (not (nat_eq y z) && k)
   unfolding live
   set_live z true tos tos2 out k rest q e = ap (λ c. not (nat_eq y z) && c) e
   set_live z false tos tos2 out k rest q e = e ∙ sym (ap (λ c. not c && k) (other z q))

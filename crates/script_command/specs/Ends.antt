@@ -27,6 +27,7 @@ pub record Call : Type 0 where
   pub devices : List Counted
   pub devices' : List Counted
 
+-- a call by these
 abbrev pub call : Way → (script : List ℕ) → Option Files → (fetched fetched' put put' : ℕ) → (old new : Option (List ℕ)) → (ds ds' : List Counted) → Call
 call way spelled all fetched fetched' put put' old new ds ds' = record {
   way = way;
@@ -42,6 +43,7 @@ call way spelled all fetched fetched' put put' old new ds ds' = record {
   devices' = ds';
 }
 
+-- How a call ends.
 pub data End : Type 0 where
   done memory sink_fault : End
   refused : (cause : Cause) → End
@@ -52,9 +54,11 @@ abbrev pub program_of_cause : Cause → Option ℕ
 program_of_cause (bad_module number r) = Some number
 program_of_cause _ = None
 
+-- the line of a cause
 abbrev pub cause_line : Cause → List ℕ
 cause_line cause = refusal_line (program_of_cause cause) (refusal_of_cause cause)
 
+-- the status of an end
 abbrev pub status_of_end : End → ℕ
 status_of_end done = 0
 status_of_end (refused cause) = status_of (refusal_of_cause cause)

@@ -1,4 +1,5 @@
-// A script, played.
+//! A script, played: from its file to the status.
+
 ghost use Rattle.std.specs.Prelude.{◌≡◌, ◌≤◌, ℕ, List, Option, length};
 ghost use Rattle.vault_port.specs.Files.{Files};
 ghost use Rattle.event_order.specs.Left.{Counted};

@@ -1,4 +1,5 @@
-// Programs over the modules of a script.
+//! Programs over the modules of a script.
+
 ghost use Rattle.std.specs.Prelude.{◌≡◌, IfOk};
 ghost use Rattle.std.specs.List.{AllZip};
 ghost use Rattle.script_verdicts.specs.Views.{CanStage, parts_of};

@@ -12,6 +12,7 @@ use Rattle.script_lines.specs.declared.statements.Statement.TheVariants as S
 use Rattle.script_lines.specs.declared.keywords.Keyword.{Keyword as KeywordValue}
 use Rattle.script_lines.specs.declared.keywords.Keyword.TheVariants as K
 
+-- a keyword
 abbrev pub keyword_of : KeywordValue → Keyword
 keyword_of K.Program = program_word
 keyword_of K.Imports = imports_word
@@ -30,6 +31,7 @@ keyword_of K.Detach = detach_word
 abbrev pub keyword_among : List Spelling → List ℕ → Option Keyword
 keyword_among some word = option_map (λ (s : Spelling). s.keyword) (find (λ (s : Spelling). bytes_eq s.text word) some)
 
+-- a statement
 abbrev pub statement_of : StatementValue → Statement
 statement_of (S.Program path) = begins_program path
 statement_of (S.Imports list) = lists_imports list

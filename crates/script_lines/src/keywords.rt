@@ -1,4 +1,5 @@
-// The first words of lines.
+//! Keywords: the first words of lines.
+
 ghost use Rattle.std.specs.Prelude.{◌≡◌, drop};
 ghost use Rattle.std.specs.Option.{option_map};
 ghost use Rattle.wa_model.specs.ScriptLines.{keyword_in, keywords};

@@ -1,4 +1,5 @@
-// What lines say.
+//! Statements: what a line says, by its first word and those behind it.
+
 ghost use Rattle.wa_model.specs.ScriptLines.{all_values, area_word, detach_word, device_word, enter_word, global_word, ignore_imports_word, imports_word, line_says, program_word, save_word};
 ghost use Rattle.wa_model.specs.ScriptLines.{says, says_policy, says_with, show_word, steps_word, words_say};
 ghost use Rattle.std.specs.Prelude.{◌≡◌, ◌∷◌, ◌++◌, [], IfOk, OnOk, Some};

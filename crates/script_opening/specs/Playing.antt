@@ -85,10 +85,11 @@ pub record Play (way : Way) (files : Option Files) (name : List ℕ) : Type 0 wh
   pub parts : List Part
   pub stages : AreStages way files whole.programs parts
 
--- the devices that a script takes out
+-- a device that is taken out
 abbrev pub detach_for : DetachText → Detach
 detach_for d = record { device = d.device; before = d.before }
 
+-- the devices that a script takes out
 abbrev pub detaches_in : Script → List Detach
 detaches_in s = map detach_for s.detaches
 

@@ -51,6 +51,7 @@ IsBadModuleFor way files t _ = Unit {0}
 abbrev pub part_of : ModuleValue → Planned → Part
 part_of v p = record { source = module_of v; listed = listing p.listed; text = program_of p.text; given = set_up_of p.given }
 
+-- the parts of a script, one a module
 abbrev pub parts_of : List ModuleValue → List Planned → List Part
 parts_of [] ps = []
 parts_of (v ∷ vs) [] = []

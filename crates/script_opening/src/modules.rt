@@ -1,4 +1,5 @@
-// The module of a program.
+//! The module of a program: a prepared one as it is, or an original that is rewritten.
+
 ghost use Rattle.std.specs.Prelude.{◌≡◌, ◌⊎◌, ◌≤◌, IfOk, IsErrOf, IsSome, None, Some};
 ghost use Rattle.std.specs.Option.{option_map};
 ghost use Rattle.std.specs.Result.{IfErr};

@@ -1,4 +1,5 @@
-// A script, and its programs.
+//! A script, opened with all its programs, or why it is not played.
+
 ghost use Rattle.std.specs.Prelude.{◌≡◌, ◌≤◌, IfOk};
 ghost use Rattle.std.specs.Result.{IfErr};
 ghost use Rattle.script_opening.specs.Views.{Blames, CanPlay, Opens};

@@ -1,4 +1,5 @@
-// The programs of a script, one after another.
+//! The programs of a script, one after another.
+
 ghost use Rattle.std.specs.Prelude.{◌≡◌, ◌≤◌, ◌<◌, ◌^◌, ◌++◌, [], ◌∷◌, All, IfOk, List, OnOk, Option, length, map};
 ghost use Rattle.std.specs.Result.{IfErr};
 ghost use Rattle.vault_port.specs.Files.{Files};

@@ -1,3 +1,5 @@
+//! How the programs of a script are taken: as they are, or rewritten first.
+
 ghost use Rattle.std.specs.Prelude.{◌≡◌};
 ghost use Rattle.script_opening.specs.Playing.{asks_all};
 

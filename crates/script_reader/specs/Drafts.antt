@@ -84,6 +84,7 @@ told_with d a = record {
   shows = d.shows;
 }
 
+-- a program behind others, where it has an area, which rule 7 asks for
 abbrev pub one_more : List ProgramText → Draft → Option AreaText → Result (List ProgramText) ScriptFault
 one_more programs d None = Err (breaks d.line 7)
 one_more programs d (Some a) = Ok (programs ++ told_with d a ∷ [])
@@ -93,6 +94,7 @@ abbrev pub closed : Result (List ProgramText) ScriptFault → Draft → Result (
 closed (Ok programs) d = one_more programs d d.area
 closed (Err f) d = Err f
 
+-- the same of the last program, where one is being told
 abbrev pub closed_last : Result (List ProgramText) ScriptFault → Option Draft → Result (List ProgramText) ScriptFault
 closed_last programs None = programs
 closed_last programs (Some d) = closed programs d
@@ -104,9 +106,11 @@ pub record Reading : Type 0 where
   pub current : Option Draft
   pub detached : List DetachText
 
+-- nothing yet
 abbrev pub nothing_read : Reading
 nothing_read = record { programs = Ok []; count = 0; current = None; detached = [] }
 
+-- a fault, where there is one, else what was made
 abbrev pub or_fault : {A : Type 0} → Option ScriptFault → A → Result A ScriptFault
 or_fault (Some f) x = Err f
 or_fault None x = Ok x
@@ -122,15 +126,18 @@ abbrev pub on_program : (line : ℕ) → Statement → Option Draft → Result D
 on_program line s None = Err (breaks line 5)
 on_program line s (Some d) = or_fault (fault_in line s d) (more_told line s d)
 
+-- the same with this program being told, where it has no fault
 abbrev pub with_current : Reading → Result Draft ScriptFault → Result Reading ScriptFault
 with_current r (Ok d) = Ok (record r { current = Some d })
 with_current r (Err f) = Err f
 
+-- a statement more
 abbrev pub with_statement : (line : ℕ) → Statement → Reading → Result Reading ScriptFault
 with_statement line (begins_program path) r = with_program line path r
 with_statement line (detaches device before) r = Ok (record r { detached = r.detached ++ record { device = device; before = before } ∷ [] })
 with_statement line s r = with_current r (on_program line s r.current)
 
+-- a line more, by what it says
 abbrev pub with_line : (line : ℕ) → Result (Option Statement) ℕ → Reading → Result Reading ScriptFault
 with_line line (Err rule) r = Err (breaks line rule)
 with_line line (Ok None) r = Ok r
@@ -140,6 +147,7 @@ with_line line (Ok (Some s)) r = with_statement line s r
 abbrev pub ended : Reading → Result Script ScriptFault
 ended r = with_programs r.detached (closed_last r.programs r.current)
 
+-- the rest is read, where there was no fault
 abbrev pub and_then : Result Reading ScriptFault → (Reading → Result Script ScriptFault) → Result Script ScriptFault
 and_then (Ok r) rest = rest r
 and_then (Err f) rest = Err f

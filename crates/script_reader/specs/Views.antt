@@ -18,21 +18,27 @@ use Rattle.script_reader.specs.declared.drafts.AreaLine.{AreaLine}
 use Rattle.script_reader.specs.declared.reading.Reading.{Reading}
 use Rattle.script_reader.specs.Drafts as D
 
+-- a line of globals
 abbrev pub global_of : GlobalText → T.GlobalText
 global_of g = record { line = g.line; name = g.name; value = g.value }
 
+-- a line of a device
 abbrev pub bind_of : BindText → T.BindText
 bind_of b = record { import = b.import; device = b.device }
 
+-- a line of an entry
 abbrev pub entry_of : EntryText → T.EntryText
 entry_of e = record { line = e.line; name = e.name; args = e.args.items }
 
+-- a line of shown memory
 abbrev pub show_of : ShowText → T.ShowText
 show_of s = record { line = s.line; at = s.at; len = s.len }
 
+-- a device that is taken out
 abbrev pub detach_of : Detach → T.DetachText
 detach_of d = record { device = d.device; before = d.before }
 
+-- a program
 abbrev pub program_of : ProgramText → T.ProgramText
 program_of p = record {
   line = p.line;
@@ -50,14 +56,17 @@ program_of p = record {
   shows = map show_of p.shows.items;
 }
 
+-- a script
 abbrev pub script_of : Script → T.Script
 script_of s = record { programs = map program_of s.programs.items; detaches = map detach_of s.detaches.items }
 
 -- ---- while lines are read
 
+-- an area with its line
 abbrev pub area_of : AreaLine → AreaText
 area_of a = record { line = a.line; area = a.area }
 
+-- a program, as far as it is told
 abbrev pub draft_of : Draft → D.Draft
 draft_of d = record {
   line = d.line;
@@ -79,6 +88,7 @@ abbrev pub programs_of : Option ℕ → List ProgramText → Result (List T.Prog
 programs_of None programs = Ok (map program_of programs)
 programs_of (Some line) programs = Err (T.breaks line 7)
 
+-- what is known of a script so far
 abbrev pub reading_of : Reading → D.Reading
 reading_of r = record { programs = programs_of r.missing r.programs.items; count = r.count; current = option_map draft_of r.current; detached = map detach_of r.detaches.items }
 

@@ -1,4 +1,5 @@
-// Programs, while their lines are read.
+//! Programs, while their lines are read.
+
 ghost use Rattle.std.specs.Prelude.{◌≡◌, ◌∷◌, ◌++◌, [], OnOk, Result, Some, ℕ, None, List, if◌then◌else◌};
 ghost use Rattle.wa_types.specs.Pausing.{list_of};
 ghost use Rattle.wa_model.specs.Script.{ProgramText as PlainProgram, breaks};

@@ -1,3 +1,5 @@
+//! Why a text is no script.
+
 use std::alloc::AllocError;
 use thiserror::Error;
 

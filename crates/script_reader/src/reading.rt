@@ -1,4 +1,5 @@
-// Scripts, line by line.
+//! Scripts, read line by line.
+
 ghost use Rattle.std.specs.Prelude.{◌≡◌, ◌≤◌, length, OnOk};
 ghost use Rattle.std.specs.Option.{option_map};
 ghost use Rattle.wa_model.specs.ScriptLines.{line_says};

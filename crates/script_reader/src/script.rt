@@ -1,3 +1,5 @@
+//! A script as it was read: its programs with their lines, and the devices that it takes out.
+
 use wa_model::{AnswerLine, Area, Detach};
 use wa_types::{Name, Value};
 

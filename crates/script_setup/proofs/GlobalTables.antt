@@ -88,7 +88,8 @@ last_more name (x ∷ gs) g = ap (λ (o : Option Value). or_else o (own x)) (las
   by_test true = refl
   by_test false = refl
 
-pub next_values : (old new : List ℕ → Option Value) (xs : List GlobalValue) (i : ℕ) (x : GlobalValue) → i < length xs → x ≡ get_or xs i x → ((name : List ℕ) → old name ≡ last_value name (map global_of (take i xs)))
+pub next_values : (old new : List ℕ → Option Value) (xs : List GlobalValue) (i : ℕ) (x : GlobalValue) → i < length xs → x ≡ get_or xs i x
+    → ((name : List ℕ) → old name ≡ last_value name (map global_of (take i xs)))
     → ((name : List ℕ) → new name ≡ (if bytes_eq x.name name then Some x.value else old name)) → (name : List ℕ) → new name ≡ last_value name (map global_of (take (i + 1) xs))
 next_values old new xs i x lt at before now name =
     now name ∙ ap (λ (o : Option Value). if bytes_eq x.name name then Some x.value else o) (before name) ∙ sym (last_more name (map global_of (take i xs)) (global_of x))
@@ -110,7 +111,8 @@ same_values f h (x ∷ xs) e =
 
 -- one more imported global under its name
 pub put_found : (old new : BTreeMap (String Global) Types) (bs : List ℕ) (v : Types) (ty : ValType) → v ≡ with_type ty (types_in old bs)
-    → UpdatesBy string_cmp (λ k. slice_cmp nat_cmp bs (string_bytes k)) old new (Some v) → (name : List ℕ) → types_in new name ≡ (if bytes_eq bs name then with_type ty (types_in old name) else types_in old name)
+    → UpdatesBy string_cmp (λ k. slice_cmp nat_cmp bs (string_bytes k)) old new (Some v) → (name : List ℕ)
+    → types_in new name ≡ (if bytes_eq bs name then with_type ty (types_in old name) else types_in old name)
 put_found old new bs v ty e u name = ap (λ (o : Option Types). unwrap_or o no_types) (btree_map_updates_text bs old new (Some v) u name) ∙ by (bytes_eq bs name) refl where
   by : (b : Bool) → bytes_eq bs name ≡ b → unwrap_or (cond b (Some v) (get_by_text old name)) no_types ≡ (if b then with_type ty (types_in old name) else types_in old name)
   by true h = e ∙ ap (λ (n : List ℕ). with_type ty (types_in old n)) ((bytes_eq-Decides bs name).0 h)

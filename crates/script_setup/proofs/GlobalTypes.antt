@@ -1,5 +1,6 @@
 -- The values that a program's imported globals are given have their types.
-use Rattle.std.proofs.Common.{◌≡◌, ℕ, suc, ◌+◌, ◌<◌, List, [], ◌∷◌, length, map, Option, Some, None, Bool, true, false, ◌||◌, ◌&&◌, not, cond, ap, sym, ◌∙◌, refl, subst, if◌then◌else◌, position, arith, nat_lt, Result, Ok, Err}
+use Rattle.std.proofs.Common.{◌≡◌, ℕ, suc, ◌+◌, ◌<◌, List, [], ◌∷◌, length, map, Option, Some, None, Bool, true, false, ◌||◌, ◌&&◌, not, cond, ap, sym, ◌∙◌, refl, subst, if◌then◌else◌}
+use Rattle.std.proofs.Common.{position, arith, nat_lt, Result, Ok, Err}
 use Rattle.std.specs.List.{list_any, filter_map, cons_option, position_or_len}
 use Rattle.std.specs.Option.{unwrap_or}
 use Rattle.std.specs.Str.{bytes_eq}
@@ -19,7 +20,8 @@ use Rattle.wa_model.specs.Script.{GlobalText, ProgramText, ScriptFault}
 use Rattle.wa_model.specs.ScriptLines.{or_else}
 use Rattle.wa_model.specs.Step.{zero_of}
 use Rattle.host_setup.specs.SetUp as H
-use Rattle.script_setup.specs.SetUpRules.{SetUp, has_type, is_global, imports_global, is_set, other_type, bad_global, last_value, value_or_zero, global_values, told_at, global_line, show_line, bad_show, lines_fault, unless_told, told_funcs, with_lines, set_up_rules, named_entry}
+use Rattle.script_setup.specs.SetUpRules.{SetUp, has_type, is_global, imports_global, is_set, other_type, bad_global, last_value, value_or_zero, global_values, told_at, global_line}
+use Rattle.script_setup.specs.SetUpRules.{show_line, bad_show, lines_fault, unless_told, told_funcs, with_lines, set_up_rules, named_entry}
 
 -- ---- no line is bad
 
@@ -77,7 +79,8 @@ winner imports name v (g ∷ gs) h e = by_later (last_value name gs) refl e (win
   own true n is = record { line = g; lawful = not_false (is_set imports g) (left_false (unset imports g) (list_any (unset imports) gs) h); named = n; value = cc }
   own false n is = cc
 
-  by_later : (o : Option Value) → last_value name gs ≡ o → or_else o (if bytes_eq g.name name then Some g.value else None) ≡ Some v → (last_value name gs ≡ Some v → Wins imports name v) → Wins imports name v
+  by_later : (o : Option Value) → last_value name gs ≡ o → or_else o (if bytes_eq g.name name then Some g.value else None) ≡ Some v → (last_value name gs ≡ Some v → Wins imports name v)
+      → Wins imports name v
   by_later (Some w) later is more = more (later ∙ is)
   by_later None later is more = own (bytes_eq g.name name) refl is
 
@@ -98,14 +101,16 @@ abbrev NoneIs : List Import → List Import → Type 0
 NoneIs imports xs = (name : List ℕ) (ty : ValType) → imports_global imports name ty ≡ false → imports_global xs name ty ≡ false
 
 module _ (imports : List Import) (gs : List GlobalText) (lawful : list_any (unset imports) gs ≡ false) where
-  typed : (x : Import) (xs : List Import) → NoneIs imports (x ∷ xs) → (g : GlobalType) → imported_global x.kind ≡ Some g → (told : Option Value) → last_value (joined_name x) gs ≡ told → type_of (unwrap_or told (zero_of g.ty)) ≡ g.ty
+  typed : (x : Import) (xs : List Import) → NoneIs imports (x ∷ xs) → (g : GlobalType) → imported_global x.kind ≡ Some g → (told : Option Value) → last_value (joined_name x) gs ≡ told
+      → type_of (unwrap_or told (zero_of g.ty)) ≡ g.ty
   typed x xs none g is None e = zero_typed g.ty
   typed x xs none g is (Some v) e =
       let w = winner imports (joined_name x) v gs lawful e in
       let parts = both_true (imports_global imports w.line.name (type_of w.line.value)) (not (imports_global imports w.line.name (other_type (type_of w.line.value)))) w.lawful in
       let no : imports_global imports w.line.name (other_type (type_of w.line.value)) ≡ false = not_true (imports_global imports w.line.name (other_type (type_of w.line.value))) parts.1 in
       let here : is_global w.line.name (other_type (type_of w.line.value)) x ≡ false =
-      left_false (is_global w.line.name (other_type (type_of w.line.value)) x) (imports_global xs w.line.name (other_type (type_of w.line.value))) (none w.line.name (other_type (type_of w.line.value)) no) in
+      left_false (is_global w.line.name (other_type (type_of w.line.value)) x) (imports_global xs w.line.name (other_type (type_of w.line.value)))
+      (none w.line.name (other_type (type_of w.line.value)) no) in
       same_types g.ty (type_of v) (λ same. differ w here same)
     where
       differ : (w : Wins imports (joined_name x) v) → is_global w.line.name (other_type (type_of w.line.value)) x ≡ false → same_type g.ty (other_type (type_of v)) ≡ true → ⊥
@@ -125,12 +130,14 @@ module _ (imports : List Import) (gs : List GlobalText) (lawful : list_any (unse
     rest : List Value
     rest = filter_map (λ (i : Import). value_or_zero (imported_global i.kind) (last_value (joined_name i) gs)) xs
 
-    by : (o : Option GlobalType) → imported_global x.kind ≡ o → types_of (filter_map (λ (i : Import). value_or_zero (imported_global i.kind) (last_value (joined_name i) gs)) xs) ≡ global_types (filter_map (λ (i : Import). imported_global i.kind) xs)
+    by : (o : Option GlobalType) → imported_global x.kind ≡ o → types_of (filter_map (λ (i : Import). value_or_zero (imported_global i.kind) (last_value (joined_name i) gs)) xs)
+        ≡ global_types (filter_map (λ (i : Import). imported_global i.kind) xs)
         → types_of (cons_option (value_or_zero o (last_value (joined_name x) gs)) (filter_map (λ (i : Import). value_or_zero (imported_global i.kind) (last_value (joined_name i) gs)) xs))
         ≡ global_types (cons_option o (filter_map (λ (i : Import). imported_global i.kind) xs))
     by None is more = more
     by (Some g) is more =
-        ap (λ (t : ValType). t ∷ types_of (filter_map (λ (i : Import). value_or_zero (imported_global i.kind) (last_value (joined_name i) gs)) xs)) (typed x xs none g is (last_value (joined_name x) gs) refl)
+        ap (λ (t : ValType). t ∷ types_of (filter_map (λ (i : Import). value_or_zero (imported_global i.kind) (last_value (joined_name i) gs)) xs))
+        (typed x xs none g is (last_value (joined_name x) gs) refl)
         ∙ ap (λ (ts : List ValType). g.ty ∷ ts) more
 
 -- ---- of a set-up

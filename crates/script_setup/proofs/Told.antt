@@ -1,5 +1,6 @@
 -- Faults and the lines at which they are told.
-use Rattle.std.proofs.Common.{◌≡◌, ℕ, suc, ◌+◌, ◌<◌, List, [], ◌∷◌, length, map, get_or, slice_get, position, Option, Some, None, Bool, true, false, not, cond, nat_lt, ap, sym, ◌∙◌, refl, subst, Result, Ok, Err, if◌then◌else◌}
+use Rattle.std.proofs.Common.{◌≡◌, ℕ, suc, ◌+◌, ◌<◌, List, [], ◌∷◌, length, map, get_or, slice_get, position, Option, Some, None, Bool, true, false, not, cond, nat_lt, ap, sym, ◌∙◌, refl}
+use Rattle.std.proofs.Common.{subst, Result, Ok, Err, if◌then◌else◌}
 use Rattle.std.specs.List.{position_or_len, prefix_len}
 use Rattle.std.specs.Option.{option_map, unwrap_or}
 use Rattle.std.proofs.lemmas.Option.{slice_get-map, slice_get_read}

@@ -22,9 +22,11 @@ use Rattle.host_setup.specs.SetUp.{NamedEntry, Fault, area_bad, no_export, entry
 
 -- ---- rules 9 to 13: area, exports, entries
 
+-- an entry that a line tells
 abbrev pub named_entry : EntryText → NamedEntry
 named_entry e = record { name = e.name; args = e.args }
 
+-- the line of the entry of this number
 abbrev pub entry_line : ProgramText → ℕ → ℕ
 entry_line t i = unwrap_or (option_map (λ (e : EntryText). e.line) (slice_get t.entries i)) 0
 
@@ -39,6 +41,7 @@ told_fault t (arg_types i) = breaks (entry_line t i) 13
 
 -- ---- rule 14: globals
 
+-- a global that is told has this type
 abbrev pub has_type : ValType → Option GlobalType → Bool
 has_type ty None = false
 has_type ty (Some g) = same_type g.ty ty
@@ -47,9 +50,11 @@ has_type ty (Some g) = same_type g.ty ty
 abbrev pub is_global : (name : List ℕ) → ValType → Import → Bool
 is_global name ty i = bytes_eq (joined_name i) name && has_type ty (imported_global i.kind)
 
+-- one of these imports does
 abbrev pub imports_global : List Import → (name : List ℕ) → ValType → Bool
 imports_global imports name ty = list_any (is_global name ty) imports
 
+-- the other one of the two types
 abbrev pub other_type : ValType → ValType
 other_type I32 = I64
 other_type I64 = I32
@@ -62,17 +67,21 @@ is_set imports g = imports_global imports g.name (type_of g.value) && not (impor
 abbrev pub bad_global : List Import → List GlobalText → Option ℕ
 bad_global imports globals = position (λ (g : GlobalText). not (is_set imports g)) globals
 
+-- the line of the global at this place
 abbrev pub global_line : ProgramText → ℕ → ℕ
 global_line t i = unwrap_or (option_map (λ (g : GlobalText). g.line) (slice_get t.globals i)) 0
 
 -- ---- rule 15: memory that is shown, which `run` asks to lie off the area
 
+-- a range of memory that is shown has a byte of the area
 abbrev pub overlaps : Area → ShowText → Bool
 overlaps area s = nat_lt s.at (area.at + area.len) && nat_lt area.at (s.at + s.len)
 
+-- the first such range, where that is asked
 abbrev pub bad_show : (runs : Bool) → Area → List ShowText → Option ℕ
 bad_show runs area shows = if runs then position (overlaps area) shows else None
 
+-- the line of the range at this place
 abbrev pub show_line : ProgramText → ℕ → ℕ
 show_line t i = unwrap_or (option_map (λ (s : ShowText). s.line) (slice_get t.shows i)) 0
 
@@ -83,6 +92,7 @@ abbrev pub last_value : (name : List ℕ) → List GlobalText → Option Value
 last_value name [] = None
 last_value name (g ∷ gs) = or_else (last_value name gs) (if bytes_eq g.name name then Some g.value else None)
 
+-- the value of an imported global, where the import is one: what is told, else 0
 abbrev pub value_or_zero : Option GlobalType → Option Value → Option Value
 value_or_zero None told = None
 value_or_zero (Some g) told = Some (unwrap_or told (zero_of g.ty))
@@ -96,6 +106,7 @@ pub record SetUp : Type 0 where
   pub funcs : List ℕ
   pub globals : List Value
 
+-- a rule broken at the line of this place, where one is told
 abbrev pub told_at : (rule : ℕ) → (line : ℕ → ℕ) → Option ℕ → Option ScriptFault
 told_at rule line None = None
 told_at rule line (Some i) = Some (breaks (line i) rule)
@@ -104,14 +115,17 @@ told_at rule line (Some i) = Some (breaks (line i) rule)
 abbrev pub lines_fault : (runs : Bool) → List Import → ProgramText → Option ScriptFault
 lines_fault runs imports t = or_else (told_at 14 (global_line t) (bad_global imports t.globals)) (told_at 15 (show_line t) (bad_show runs t.area t.shows))
 
+-- a fault, where there is one, else what was made
 abbrev pub unless_told : {A : Type 0} → Option ScriptFault → A → Result A ScriptFault
 unless_told None x = Ok x
 unless_told (Some f) x = Err f
 
+-- the functions of the entries, or the fault as it is told
 abbrev pub told_funcs : ProgramText → Result (List ℕ) Fault → Result (List ℕ) ScriptFault
 told_funcs t (Err f) = Err (told_fault t f)
 told_funcs t (Ok funcs) = Ok funcs
 
+-- what a program is given, where neither its entries nor its lines have a fault
 abbrev pub with_lines : (runs : Bool) → List Import → ProgramText → Result (List ℕ) ScriptFault → Result SetUp ScriptFault
 with_lines runs imports t (Err f) = Err f
 with_lines runs imports t (Ok funcs) = unless_told (lines_fault runs imports t) (record { funcs = funcs; globals = global_values imports t.globals })

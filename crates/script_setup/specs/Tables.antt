@@ -17,6 +17,7 @@ use Rattle.wa_model.specs.Script.{GlobalText}
 use Rattle.script_setup.specs.declared.globals.Types.{Types}
 use Rattle.script_setup.specs.SetUpRules.{imports_global, last_value}
 
+-- no global was found
 abbrev pub no_types : Types
 no_types = record { narrow = false; wide = false }
 
@@ -24,6 +25,7 @@ no_types = record { narrow = false; wide = false }
 abbrev pub types_in : BTreeMap (String Global) Types → List ℕ → Types
 types_in found name = unwrap_or (get_by_text found name) no_types
 
+-- one type more
 abbrev pub with_type : ValType → Types → Types
 with_type ty t = record { narrow = t.narrow || same_type ty I32; wide = t.wide || same_type ty I64 }
 

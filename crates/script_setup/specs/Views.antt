@@ -9,9 +9,11 @@ use Rattle.script_setup.specs.declared.setting.Broken.{Broken}
 use Rattle.script_setup.specs.declared.setting.SetUp.{SetUp as SetUpValue}
 use Rattle.script_setup.specs.SetUpRules.{SetUp, entry_line}
 
+-- what a program is given
 abbrev pub set_up_of : SetUpValue → SetUp
 set_up_of s = record { funcs = s.funcs.items; globals = s.globals.items }
 
+-- a line and the rule that it breaks
 abbrev pub broken_of : Broken → T.ScriptFault
 broken_of b = T.breaks b.line b.rule
 

@@ -1,4 +1,5 @@
-// The entries that lines tell.
+//! The entries that lines tell.
+
 ghost use Rattle.std.specs.Prelude.{◌≡◌, IfOk, map};
 ghost use Rattle.host_setup.specs.Views.{entry_of as named_entry_of};
 ghost use Rattle.script_reader.specs.Views.{entry_of};

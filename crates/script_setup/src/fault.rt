@@ -1,3 +1,5 @@
+//! Why a program isn't set up.
+
 use std::alloc::AllocError;
 use thiserror::Error;
 

@@ -1,4 +1,5 @@
-// Imported globals, and the lines that set them.
+//! Imported globals, and the lines that set them.
+
 ghost use Rattle.std.specs.Prelude.{◌≡◌, ◌++◌, [], ◌∷◌, ℕ, List, IfOk, OnOk, map, not, position, if◌then◌else◌};
 ghost use Rattle.std.specs.List.{filter_map};
 ghost use Rattle.std.specs.Option.{unwrap_or};

@@ -1,4 +1,5 @@
-// What is named in a program's lines.
+//! The names in a program's lines: its function imports, its entries, and the length of its area.
+
 ghost use Rattle.std.specs.Prelude.{◌≡◌, ◌++◌, [], ◌∷◌, IfOk, OnOk, map};
 ghost use Rattle.std.specs.String.{string_bytes};
 ghost use Rattle.transcript.specs.Printing.{names_of};

@@ -1,4 +1,5 @@
-// A program, set up.
+//! A program, set up over its module: what it is given, or the line and the rule of its first fault.
+
 ghost use Rattle.std.specs.Prelude.{◌≡◌, ◌<◌, ◌^◌, IfOk, Ok, length, map, position};
 ghost use Rattle.std.specs.Option.{option_map};
 ghost use Rattle.wa_types.specs.View.{module_of};
@@ -151,7 +152,8 @@ pub(crate) struct Broken {
 
 // The first line that breaks a rule of globals, the first of which that does stands here, or of shown memory.
 fn lines_fault(runs: bool, text: &ProgramText, place: Option<usize>) -> Option<Broken>
-    ensures { or_else (told_at 14 (global_line (program_of text.now)) place) (told_at 15 (show_line (program_of text.now)) (bad_show runs (program_of text.now).area (program_of text.now).shows)) ≡ option_map broken_of result }
+    ensures { or_else (told_at 14 (global_line (program_of text.now)) place) (told_at 15 (show_line (program_of text.now))
+        (bad_show runs (program_of text.now).area (program_of text.now).shows)) ≡ option_map broken_of result }
 {
     match place {
         Some(place) => Some(Broken {

@@ -15,7 +15,8 @@ use Rattle.wa_types.specs.Syntax as Y
 use Rattle.slim_form.specs.Slim.{Held, Free, Covers, CoversBut, Shape, more, Takes, takes_none, takes_same, takes_one, Rises, rises, rises_below, Lacks, lacks_all, lacks_held, lacks_slot}
 use Rattle.slim_form.specs.Slim.{Plainly, plainly, plainly_held, Reaches, Terms, Slims, ends, does, gets, sets, tees, keeps, uses, saves, narrows, forgets}
 use Rattle.slim_form.specs.Emit.{elem, all_in, without, without_if, free_by, strip, rev_onto, name_onto, names, flushed, Part, then_code, only_if, got_all, by_strip, taken, by_strip_alone}
-use Rattle.slim_form.specs.Emit.{taken_alone, can_keep, Next, result_kept, count, op_code, op_on, computed_by, put, put_on, reads_again, got_again, copied_again, copied_by, reaches, reaches_all, with_operand}
+use Rattle.slim_form.specs.Emit.{taken_alone, can_keep, Next, result_kept, count, op_code, op_on, computed_by, put, put_on, reads_again, got_again, copied_again, copied_by, reaches}
+use Rattle.slim_form.specs.Emit.{reaches_all, with_operand}
 use Rattle.slim_form.specs.Emit.{part_then, is_call, both_codes, three_codes, behind_of, call_on, goes_behind, right_behind, if_behind, free_behind, emit, Told, EmitsSlim, SlimBesideItself}
 
 -- ---- tests

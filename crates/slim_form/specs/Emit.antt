@@ -9,14 +9,17 @@ use Rattle.wa_model.specs.Store.{takes, gives}
 use Rattle.wa_model.specs.Flat.{Stmts, no_more, computes, copies, calls, leaps, leaps_if, leaps_by, nests, decides, halts, set_to, slots_got, last_of, followed_by, code_of}
 use Rattle.slim_form.specs.Slim.{Free, Terms, Slims}
 
+-- a number is among these
 abbrev pub elem : ℕ → List ℕ → Bool
 elem x [] = false
 elem x (y ∷ ys) = nat_eq x y || elem x ys
 
+-- each of the first is among the second
 abbrev pub all_in : List ℕ → List ℕ → Bool
 all_in [] ys = true
 all_in (x ∷ xs) ys = elem x ys && all_in xs ys
 
+-- a number in front of others, unless told
 abbrev pub without_if : Bool → ℕ → List ℕ → List ℕ
 without_if true y ys = ys
 without_if false y ys = y ∷ ys
@@ -41,12 +44,13 @@ abbrev pub rev_onto : List ℕ → List ℕ → List ℕ
 rev_onto [] ys = ys
 rev_onto (x ∷ xs) ys = rev_onto xs (x ∷ ys)
 
--- the locals of operands
+-- the local of an operand in front of others, where it is no constant
 abbrev pub name_onto : Operand → Option (List ℕ) → Option (List ℕ)
 name_onto (Const v) o = None
 name_onto (Local x) None = None
 name_onto (Local x) (Some xs) = Some (x ∷ xs)
 
+-- the locals of operands, where none is a constant
 abbrev pub names : List Operand → Option (List ℕ)
 names [] = Some []
 names (a ∷ args) = name_onto a (names args)
@@ -62,10 +66,12 @@ pub record Part : Type 0 where
   pub base : List ℕ
   pub front : Code → Code
 
+-- code with something in front, where it is there
 abbrev pub then_code : (Code → Code) → Option Code → Option Code
 then_code wrap None = None
 then_code wrap (Some c) = Some (wrap c)
 
+-- code, where told
 abbrev pub only_if : Bool → Option Code → Option Code
 only_if true o = o
 only_if false o = None
@@ -80,6 +86,7 @@ abbrev pub by_strip : List ℕ → (pend base : List ℕ) → Option (List ℕ) 
 by_strip xs pend base None = got_all xs pend base
 by_strip xs pend base (Some left) = Some (record { pend = left; base = base; front = λ c. c })
 
+-- operands of these slots are taken
 abbrev pub taken : List ℕ → (pend base : List ℕ) → Option Part
 taken xs pend base = by_strip xs pend base (strip (rev_onto xs []) pend)
 
@@ -88,6 +95,7 @@ abbrev pub by_strip_alone : List ℕ → (pend base : List ℕ) → Option (List
 by_strip_alone xs pend base (Some []) = Some (record { pend = []; base = base; front = λ c. c })
 by_strip_alone xs pend base _ = got_all xs pend base
 
+-- operands of these slots are taken, and none is left
 abbrev pub taken_alone : List ℕ → (pend base : List ℕ) → Option Part
 taken_alone xs pend base = by_strip_alone xs pend base (strip (rev_onto xs []) pend)
 
@@ -95,13 +103,16 @@ taken_alone xs pend base = by_strip_alone xs pend base (strip (rev_onto xs []) p
 abbrev pub can_keep : Terms → ℕ → (pend : List ℕ) → Bool
 can_keep t x pend = t.slot x && not (elem x pend)
 
+-- The code behind, by the slots kept on the operand stack and those that hold their operands.
 abbrev pub Next : Type 0
 Next = (pend base : List ℕ) → Option Code
 
+-- a result, where there is one, is kept on the operand stack in front of the code behind
 abbrev pub result_kept : Terms → Option ℕ → (pend base : List ℕ) → Next → Option Code
 result_kept t None pend base next = next pend base
 result_kept t (Some x) pend base next = only_if (can_keep t x pend) (next (x ∷ pend) (without (x ∷ []) base))
 
+-- how many results are told: one or none
 abbrev pub count : Option ℕ → ℕ
 count None = 0
 count (Some x) = 1
@@ -114,10 +125,12 @@ op_code t (plain (local_set y) done) None (suc zero) pend base next = only_if (n
 op_code t (plain (local_tee y) done) (Some x) (suc zero) pend base next = only_if (not (t.slot y) && not (elem y pend)) (then_code (plain (local_tee y)) (result_kept t (Some x) pend base next))
 op_code t _ to n pend base next = None
 
+-- the same behind the code that takes its operands
 abbrev pub op_on : Terms → Code → Option ℕ → ℕ → Next → Option Part → Option Code
 op_on t op to n next None = None
 op_on t op to n next (Some p) = then_code p.front (op_code t op to n p.pend p.base next)
 
+-- a computation of these operands, where none is a constant
 abbrev pub computed_by : Terms → Code → Option ℕ → Option (List ℕ) → (pend base : List ℕ) → Next → Option Code
 computed_by t op to None pend base next = None
 computed_by t op to (Some xs) pend base next = op_on t op to (length xs) next (taken xs pend base)
@@ -127,6 +140,7 @@ abbrev pub put : Terms → ℕ → (pend base : List ℕ) → Next → Option Co
 put t to pend base next = if t.slot to then only_if (can_keep t to pend) (next (to ∷ pend) (without (to ∷ []) base)) else only_if (not (elem to pend))
     (then_code (plain (local_set to)) (next pend base))
 
+-- the same behind the code that takes the operand
 abbrev pub put_on : Terms → ℕ → Next → Option Part → Option Code
 put_on t to next None = None
 put_on t to next (Some p) = then_code p.front (put t to p.pend p.base next)
@@ -141,11 +155,13 @@ reads_again _ = false
 abbrev pub got_again : Terms → (to from : ℕ) → (pend base : List ℕ) → Next → Option Code
 got_again t to x pend base next = only_if (elem x (pend ++ base)) (then_code (λ c. flushed pend (plain (local_get x) c)) (put t to [] (pend ++ base) next))
 
+-- the operand is used again behind: where it is on top and the other local is no slot, it stays
 abbrev pub copied_again : Terms → (to from : ℕ) → (pend base : List ℕ) → Next → Option Code
 copied_again t to x [] base next = got_again t to x [] base next
 copied_again t to x (y ∷ pend) base next =
     if nat_eq x y && (not (t.slot to) && not (elem to (y ∷ pend))) then then_code (plain (local_tee to)) (next (y ∷ pend) base) else got_again t to x (y ∷ pend) base next
 
+-- a local is copied
 abbrev pub copied_by : Terms → ℕ → Operand → (again : Bool) → (pend base : List ℕ) → Next → Option Code
 copied_by t to (Const v) again pend base next = None
 copied_by t to (Local x) again pend base next =
@@ -159,10 +175,12 @@ reaches [] l base = true
 reaches (b ∷ ts) zero base = all_in b base
 reaches (b ∷ ts) (suc l) base = reaches ts l base
 
+-- the slots of all targets hold their operands
 abbrev pub reaches_all : List (List ℕ) → List ℕ → Bool
 reaches_all [] base = true
 reaches_all (b ∷ ts) base = all_in b base && reaches_all ts base
 
+-- the code behind operands that were taken
 abbrev pub part_then : (List ℕ → Option Code) → Option Part → Option Code
 part_then next None = None
 part_then next (Some p) = then_code p.front (next p.base)
@@ -172,19 +190,23 @@ abbrev pub with_operand : Operand → (pend base : List ℕ) → (List ℕ → O
 with_operand (Const v) pend base next = None
 with_operand (Local x) pend base next = part_then next (taken_alone (x ∷ []) pend base)
 
+-- the code is one call
 abbrev pub is_call : Code → Bool
 is_call (plain (call x) done) = true
 is_call (plain (call_indirect s) done) = true
 is_call _ = false
 
+-- a call behind the code that takes its operands
 abbrev pub call_on : Terms → Code → Option ℕ → Next → Option Part → Option Code
 call_on t op to next None = None
 call_on t op to next (Some p) = then_code p.front (then_code (followed_by op) (result_kept t to [] p.base next))
 
+-- two codes made one, where both are there
 abbrev pub both_codes : (Code → Code → Code) → Option Code → Option Code → Option Code
 both_codes make (Some a) (Some b) = Some (make a b)
 both_codes make _ _ = None
 
+-- three codes made one, where all are there
 abbrev pub three_codes : (Code → Code → Code → Code) → Option Code → Option Code → Option Code → Option Code
 three_codes make (Some a) (Some b) (Some c) = Some (make a b c)
 three_codes make _ _ _ = None
@@ -194,6 +216,7 @@ abbrev pub named : Option (List ℕ) → List ℕ
 named None = []
 named (Some xs) = xs
 
+-- a local in front of others, where it is told
 abbrev pub in_front : Option ℕ → List ℕ → List ℕ
 in_front None base = base
 in_front (Some x) base = x ∷ base
@@ -231,14 +254,17 @@ falls (nests a_loop body rest) = falls body && falls rest
 falls (decides c a b rest) = falls rest
 falls (halts rest) = false
 
+-- what stands behind a construct may be reached
 abbrev pub goes_behind : Shape → Stmts → Bool
 goes_behind a_block body = true
 goes_behind a_loop body = falls body
 
+-- the slots that the end of code wants hold their operands; where it isn't to be reached, none will do
 abbrev pub right_behind : Option (List ℕ) → List ℕ → Bool
 right_behind None base = false
 right_behind (Some out) base = all_in out base
 
+-- by whether what stands behind may be reached
 abbrev pub if_behind : Bool → (reached never : Option Code) → Option Code
 if_behind true a b = a
 if_behind false a b = b

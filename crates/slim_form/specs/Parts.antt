@@ -13,6 +13,7 @@ pub data Units (P : Type 0) : Type 0 where
   nest_unit : Shape → (first : P) → (body : Units P) → (behind : P) → (rest : Units P) → Units P
   if_unit : (condition : ℕ) → (first_then : P) → (then_arm : Units P) → (first_else : P) → (else_arm : Units P) → (behind : P) → (rest : Units P) → Units P
 
+-- the call that goes there
 abbrev pub call_to : Callee → Plain
 call_to (direct x) = call x
 call_to (indirect sort) = call_indirect sort
@@ -24,6 +25,7 @@ flat_units (call_unit slots x to behind rest) = slots_got slots (plain (call_to 
 flat_units (nest_unit s first body behind rest) = nest s None (followed_by first (flat_units body)) (followed_by behind (flat_units rest))
 flat_units (if_unit x fa a fb b behind rest) = plain (local_get x) (branch None (followed_by fa (flat_units a)) (followed_by fb (flat_units b)) (followed_by behind (flat_units rest)))
 
+-- units with the code of their pieces
 abbrev pub codes : Units Stmts → Units Code
 codes no_unit = no_unit
 codes (call_unit slots x to behind rest) = call_unit slots x to (code_of behind) (codes rest)
@@ -42,6 +44,7 @@ end_units t first (nest_unit a_block inner body behind rest) base = end_units t 
 end_units t first (nest_unit a_loop inner body behind rest) base = end_units t behind rest (end_units t inner body (end_of t first base))
 end_units t first (if_unit x fa a fb b behind rest) base = end_units t behind rest (without (x ∷ []) (end_of t first base))
 
+-- the slots of the operands behind a construct, from those before
 abbrev pub behind_units : Terms → Shape → Stmts → Units Stmts → List ℕ → List ℕ
 behind_units t a_block inner body base = base
 behind_units t a_loop inner body base = end_units t inner body base
@@ -51,22 +54,27 @@ pub record Pieces : Type 0 where
   pub first : Code
   pub units : Units Code
 
+-- pieces, where told
 abbrev pub when : Bool → Option Pieces → Option Pieces
 when true o = o
 when false o = None
 
+-- one piece and no unit, where its code is there
 abbrev pub alone : Option Code → Option Pieces
 alone None = None
 alone (Some c) = Some (record { first = c; units = no_unit })
 
+-- a first piece, and a unit made with the pieces behind it, where all are there
 abbrev pub with_rest : (Pieces → Units Code) → Option Code → Option Pieces → Option Pieces
 with_rest make (Some c) (Some p) = Some (record { first = c; units = make p })
 with_rest make _ _ = None
 
+-- the same of a unit made of two
 abbrev pub with_two : (Pieces → Pieces → Units Code) → Option Code → Option Pieces → Option Pieces → Option Pieces
 with_two make (Some c) (Some p) (Some q) = Some (record { first = c; units = make p q })
 with_two make _ _ _ = None
 
+-- the same of a unit made of three
 abbrev pub with_three : (Pieces → Pieces → Pieces → Units Code) → Option Code → Option Pieces → Option Pieces → Option Pieces → Option Pieces
 with_three make (Some c) (Some p) (Some q) (Some r) = Some (record { first = c; units = make p q r })
 with_three make _ _ _ _ = None
@@ -97,7 +105,7 @@ emit_units t n ts out first (if_unit x fa a fb b behind rest) pend base =
     (Some (without (x ∷ []) (end_of t first (pend ++ base)))) fb b [] (without (x ∷ []) (end_of t first (pend ++ base))))
     (emit_units t n ts out behind rest [] (without (x ∷ []) (end_of t first (pend ++ base)))))
 
--- Each piece that units stand behind comes to its end, by code, and no local is fixed at a call in a piece.
+-- code comes to its end: no branch, return or trap ends its sequence
 abbrev pub goes_on : Code → Bool
 goes_on done = true
 goes_on (plain (br l) rest) = false
@@ -108,6 +116,7 @@ goes_on (plain p rest) = goes_on rest
 goes_on (nest s r body rest) = goes_on rest
 goes_on (branch r a b rest) = goes_on rest
 
+-- No local is fixed at a call in a piece, and each piece in front of a unit comes to its end.
 abbrev pub PiecesTold : Terms → (n : ℕ) → Stmts → Units Stmts → Type 0
 PiecesTold t n first no_unit = Told t n first
 PiecesTold t n first (call_unit slots x to behind rest) =
@@ -131,6 +140,7 @@ PiecesAreSlim =
 abbrev pub slim_body : Pieces → Option ℕ → Code
 slim_body p result = nest a_block None (followed_by p.first (flat_units p.units)) (result_got result)
 
+-- a result's local is no slot
 abbrev pub IsNoSlot : Terms → Option ℕ → Type 0
 IsNoSlot t None = Unit {0}
 IsNoSlot t (Some x) = t.slot x ≡ false

@@ -5,9 +5,11 @@ use Rattle.wa_types.specs.Pausing.{calls_of}
 use Rattle.wa_types.specs.Counts.{count_of, depth_of}
 use Rattle.slim_form.specs.Slim.{Free, Shape, kept, Terms, Slims}
 
+-- Slim code has no more instructions, but for the values that its side has alone.
 abbrev pub NoLarger : Type 0
 NoLarger = (t : Terms) (n : ℕ) (ts : List Free) (out f : Free) (sh : Shape) (code code' : Code) → Slims t n ts out f sh code code' → count_of code' ≤ count_of code + kept sh
 
+-- It nests no deeper.
 abbrev pub NoDeeper : Type 0
 NoDeeper = (t : Terms) (n : ℕ) (ts : List Free) (out f : Free) (sh : Shape) (code code' : Code) → Slims t n ts out f sh code code' → depth_of code' ≤ depth_of code
 

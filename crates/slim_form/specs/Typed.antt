@@ -11,10 +11,12 @@ pub data WovenTypes (locals : List ValType) : Shape → (ins ins' : List ValType
   types_both : {sh : Shape} {ins ins' : List ValType} → (ty : ValType) → WovenTypes locals sh ins ins' → WovenTypes locals (None ∷ sh) (ty ∷ ins) (ty ∷ ins')
   types_kept : {sh : Shape} {ins ins' : List ValType} → (x : ℕ) → (ty : ValType) → slice_get locals x ≡ Some ty → WovenTypes locals sh ins ins' → WovenTypes locals (Some x ∷ sh) ins (ty ∷ ins')
 
+-- Slim code has the types of the code beside it.
 abbrev pub TypesAreKept : Type 0
 TypesAreKept =
     (c : Around) (ls : List (Option ValType)) (t : Terms) (n : ℕ) (ts : List Free) (out f : Free) (sh : Shape) (code code' : Code) (outs ins ins' : List ValType)
     → Slims t n ts out f sh code code' → WovenTypes c.locals sh ins ins' → Types c ls code outs ins → Types c ls code' outs ins'
 
+-- A slim body is typed where the body beside it is.
 abbrev pub BodiesAreTyped : Type 0
 BodiesAreTyped = (c : Around) (t : Terms) (n : ℕ) (ts : List Free) (out f : Free) (code code' : Code) → Slims t n ts out f [] code code' → Typed c code → Typed c code'

@@ -14,6 +14,7 @@ pub record GuardedSlim (m : Module) (places : List ℕ) (state x : ℕ) (f : Fun
   pub slim : SlimPieces m places x f pieces
   pub code : c ≡ guarded_body (guard_indices state (length (flattened m x f).locals) pieces.exits pieces.units) pieces.exits pieces.first pieces.units
 
+-- It is such code of whatever function has this flat form.
 abbrev pub GuardedTold : (places : List ℕ) → (low count state : ℕ) → FlatFunc → Code → Type 0
 GuardedTold ps low count state g c =
     (m : Module) (x : ℕ) (f : Func) → g ≡ flattened m x f → low ≡ length (locals_of m f) → count ≡ length (SlotPairs m f) → GuardedSlim m ps state x f c

@@ -120,7 +120,8 @@ module _ (m : Module) (which : List Bool) (places : (index : ℕ) → Func → L
   module _ (valid : Valid m) (slim : AllSlimPieces m which places pieces) where
     -- ---- one told function
 
-    body_slim : (x : ℕ) (f : Func) (sp : SlimPieces m (places x f) x f (pieces x)) → Slims (flat_terms m (places x f) x f) 0 [] (λ y. true) sp.here [] (body_of (flattened m x f)) (body_with (pieces x) (flattened m x f).result)
+    body_slim : (x : ℕ) (f : Func) (sp : SlimPieces m (places x f) x f (pieces x)) → Slims (flat_terms m (places x f) x f) 0 [] (λ y. true) sp.here [] (body_of (flattened m x f))
+        (body_with (pieces x) (flattened m x f).result)
     body_slim x f sp =
         let ff = flattened m x f in
         let t = flat_terms m (places x f) x f in
@@ -146,7 +147,9 @@ module _ (m : Module) (which : List Bool) (places : (index : ℕ) → Func → L
         let sp = slim x f w.1 t in
         let was : Typed (around q g) g.body = (valid_stays m which valid).bodies i g e in
         let was2 : Typed (around q g) (body_of (flattened m x f)) = subst (λ (z : Func). Typed (around q g) z.body) (sym w.2) was in
-        let now : Typed (around q g) (bodies x) = subst (λ c. Typed (around q g) c) (sym (body_there x f w.1)) (bodies_are_typed (around q g) (flat_terms m (places x f) x f) 0 [] (λ y. true) sp.here (body_of (flattened m x f)) (body_with (pieces x) (flattened m x f).result) (body_slim x f sp) was2) in
+        let now : Typed (around q g) (bodies x) = subst (λ c. Typed (around q g) c) (sym (body_there x f w.1))
+        (bodies_are_typed (around q g) (flat_terms m (places x f) x f) 0 [] (λ y. true) sp.here (body_of (flattened m x f)) (body_with (pieces x) (flattened m x f).result)
+        (body_slim x f sp) was2) in
         subst (λ (z : Func). Typed (around q1 z) z.body) eh (subst (λ c. Typed c (bodies x)) (same_context g) now)
     typed_at false x i g h t ex e eh =
         subst (λ (z : Func). Typed (around q1 z) z.body) eh (subst (λ c. Typed c g.body) (same_context g) ((valid_stays m which valid).bodies i g e))
@@ -188,10 +191,12 @@ module _ (m : Module) (which : List Bool) (places : (index : ℕ) → Func → L
         let d = flat_there x g t e in
         let f = d.0 in
         let sp = slim x f d.1 t in
-        let there : defined_at q1 x ≡ Some (with_body true (bodies x) g) = slim_found x ∙ ap (λ z. option_map (with_body z (bodies x)) (defined_at q x)) t ∙ ap (option_map (with_body true (bodies x))) e in
+        let there : defined_at q1 x ≡ Some (with_body true (bodies x) g) = slim_found x ∙ ap (λ z. option_map (with_body z (bodies x)) (defined_at q x)) t
+        ∙ ap (option_map (with_body true (bodies x))) e in
         let same = terms_told x f true t d.1 in
         let l1 = flat_size m x f in
-        let l2 : length (declared_locals g.locals) ≡ length (declared_locals f.locals ++ extra_types m f) = ap (λ (z : Func). length (declared_locals z.locals)) (sym d.2) ∙ ap length (is_flat m x f).1 in
+        let l2 : length (declared_locals g.locals) ≡ length (declared_locals f.locals ++ extra_types m f) = ap (λ (z : Func). length (declared_locals z.locals)) (sym d.2)
+        ∙ ap length (is_flat m x f).1 in
         let l3 = sized x f d.1 in
         let size : param_count (func_type_at q x) + length (declared_locals g.locals) ≡ (flat_terms m (places x f) x f).size = omega arith in
         both_defined g (with_body true (bodies x) g) e there refl (size ∙ ap (λ (z : Terms). z.size) same) (λ y. true) sp.here

@@ -42,6 +42,7 @@ abbrev pub fixed_where : (numbered : Bool) → (own : ℕ) → (stack : Option (
 fixed_where true own (Some stack) = locals_below own ++ stack
 fixed_where _ own _ = []
 
+-- the same of the call with so many behind it
 abbrev pub fixed_at : (places : List ℕ) → (own : ℕ) → (stacks : List (List ℕ)) → (behind : ℕ) → List ℕ
 fixed_at places own stacks behind = fixed_where (is_place places (length stacks - suc behind)) own (slice_get stacks (length stacks - suc behind))
 

@@ -19,6 +19,7 @@ AreSlim ps low count f p =
     (t : Terms) → ((x : ℕ) → t.slot x ≡ is_between low count x) → low + count ≤ t.size → CallsFixed t ps 0 0 f.body
     → SlimUnits t 0 (free_by t.slot [] ∷ []) (free_by t.slot []) (free_by t.slot []) [] (first_piece ps 0 f.body) (units ps 0 f.body) (first_code p) (units_in p)
 
+-- Pieces that are there are slim.
 abbrev pub SlimTold : (places : List ℕ) → (low count : ℕ) → FlatFunc → Option Pieces → Type 0
 SlimTold ps low count f None = Prim.Unit {0}
 SlimTold ps low count f (Some p) = AreSlim ps low count f p

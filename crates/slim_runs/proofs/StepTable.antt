@@ -21,7 +21,8 @@ use Rattle.wa_model.specs.Untouched.{access_in}
 use Rattle.slim_form.specs.Slim.{Held, Free, Covers, Shape, more, Takes, takes_none, takes_same, takes_one, kept, Reaches, Terms, Slims, ends, does, gets, sets, tees, keeps, uses, saves}
 use Rattle.slim_form.specs.Slim.{copies, narrows, forgets, leaps, leaps_if, leaps_by, returns_here, halts, calls, calls_by, blocks, loops, decides}
 use Rattle.slim_runs.specs.Beside.{Sides, Twin, both_import, both_defined, Together, Agree, Woven, woven, woven_both, woven_kept, Around, in_body, in_block, in_loop, Waits, waits, Unders}
-use Rattle.slim_runs.specs.Beside.{bottom, above, Beside, beside, copying, Asked, ProperCode, lean_plain, lean_code, head_of, sets_local, SameNext, way_ends, way_same, way_sets, saves_none, saves_one, ComesToo, it_steps}
+use Rattle.slim_runs.specs.Beside.{bottom, above, Beside, beside, copying, Asked, ProperCode, lean_plain, lean_code, head_of, sets_local, SameNext, way_ends, way_same, way_sets, saves_none}
+use Rattle.slim_runs.specs.Beside.{saves_one, ComesToo, it_steps}
 use Rattle.slim_runs.specs.Beside.{it_asks, it_returns, it_traps, it_is_stuck}
 use Rattle.slim_runs.proofs.ResultCounts.{GivesSo, gives_so}
 use Rattle.slim_form.proofs.KeptSizes.{same_calls}
@@ -379,7 +380,8 @@ module _ (w : Sides) where
             → Same w spare (step_at q s fn under ls ops labels (branch r a b rest)) (step_at p s fn under' ls' ops labels' (branch r a' b' rest'))
         arms_too spare r g n ts out ops a a' b b' rest rest' labels labels' sa sb sl ar = number_too spare ops _ _ (λ v below e. by v below)
           where
-            arm : (m : ℕ) (below : List Value) (c c' sk sk' : Code) → m ≡ length (calls_of sk) + (length (calls_of rest) + n) → length (calls_of sk') ≡ length (calls_of sk) → Slims (w.terms fn) m (g ∷ ts) g f [] c c'
+            arm : (m : ℕ) (below : List Value) (c c' sk sk' : Code) → m ≡ length (calls_of sk) + (length (calls_of rest) + n) → length (calls_of sk') ≡ length (calls_of sk)
+                → Slims (w.terms fn) m (g ∷ ts) g f [] c c'
                 → Same w spare (steps 0 (running s fn under ls below c (block_label (length below) (arity_of r) rest sk ∷ labels)))
                 (steps 0 (running s fn under' ls' below c' (block_label (length below) (arity_of r) rest' sk' ∷ labels')))
             arm m below c c' sk sk' em es sc = same_step (omega arith) (at x f (λ y fr. fr) m (g ∷ ts) g [] below below c c' _ _ woven sc (in_block (length below) (arity_of r) sk sk' em es sl ar))

@@ -25,6 +25,7 @@ pub data Twin (w : Sides) (x : ℕ) : Type 0 where
       → param_count (func_type_at w.flat x) + length (declared_locals g.locals) ≡ (w.terms x).size
       → (out f : Free) → Slims (w.terms x) 0 [] out f [] g.body g'.body → Twin w x
 
+-- Both modules, function by function.
 pub record Together (w : Sides) : Type 0 where
   pub imports : func_imports w.slim ≡ func_imports w.flat
   pub func_type : (x : ℕ) → func_type_at w.slim x ≡ func_type_at w.flat x
@@ -66,6 +67,7 @@ pub data Waits (w : Sides) : Activation → Activation → Type 0 where
       → (ls ls' ops taken : List Value) → length ls ≡ (w.terms fn).size → Agree f ls ls'
       → Slims (w.terms fn) n ts out f [] rest rest' → Around (w.terms fn) n ts out labels labels' → Waits w (waiting fn ls ops taken rest labels) (waiting fn ls' ops taken rest' labels')
 
+-- Activations that wait, on both sides.
 pub data Unders (w : Sides) : List Activation → List Activation → Type 0 where
   bottom : Unders w [] []
   above : {a a' : Activation} {under under' : List Activation} → Waits w a a' → Unders w under under' → Unders w (a ∷ under) (a' ∷ under')
@@ -95,10 +97,12 @@ ProperPlain m ops (call x) = param_count (func_type_at m x) ≤ length ops
 ProperPlain m ops (call_indirect s) = suc (param_count (type_at m s)) ≤ length ops
 ProperPlain m ops _ = Unit {0}
 
+-- so has the instruction that stands next
 abbrev pub ProperCode : Module → (ops : List Value) → Code → Type 0
 ProperCode m ops (plain p rest) = ProperPlain m ops p
 ProperCode m ops _ = Unit {0}
 
+-- so has a configuration
 abbrev pub Proper : Module → Configuration → Type 0
 Proper m c = ProperCode m c.here.operands c.here.code
 
@@ -110,12 +114,14 @@ lean_plain t (local_get x) k = if t.slot x then 0 else k
 lean_plain t (local_set x) k = if t.slot x then 0 else k
 lean_plain t p k = k
 
+-- the same of the instruction that stands next
 abbrev pub lean_code : Terms → Code → ℕ → ℕ
 lean_code t (plain p rest) k = lean_plain t p k
 lean_code t done k = k
 lean_code t (nest s r body rest) k = k
 lean_code t (branch r a b rest) k = k
 
+-- the same of a configuration's next reduction
 abbrev pub lean : Sides → Configuration → ℕ → ℕ
 lean w c k = lean_code (w.terms c.here.func) c.here.code k
 
@@ -124,6 +130,7 @@ abbrev pub head_of : Code → Option Plain
 head_of (plain p rest) = Some p
 head_of _ = None
 
+-- a local is set by the instruction that stands next
 abbrev pub sets_local : Code → Bool
 sets_local (plain (local_set x) rest) = true
 sets_local (plain (local_tee x) rest) = true
@@ -213,5 +220,6 @@ pub record Agreeing (w : Sides) (a a' : Activation) : Type 0 where
   pub held : Held free ((w.terms a.func).fixed (length (calls_of a.code) + calls_behind a.labels))
   pub locals : Agree free a.locals a'.locals
 
+-- So it is wherever both wait.
 abbrev pub WaitingAgrees : Type 0
 WaitingAgrees = (w : Sides) (a a' : Activation) → Waits w a a' → Agreeing w a a'

@@ -14,7 +14,8 @@ use Rattle.slim_units.specs.Laws.{UnitsAreSlimmer}
 use Rattle.slim_units.proofs.UnitsSlim.{units_law}
 
 -- no larger, with the labels of branch tables
-pub labelled : (t : Terms) (n : ℕ) (ts : List Free) (out f : Free) (sh : Shape) (code code' : Code) → Slims t n ts out f sh code code' → instructions_and_labels code' ≤ instructions_and_labels code + kept sh
+pub labelled : (t : Terms) (n : ℕ) (ts : List Free) (out f : Free) (sh : Shape) (code code' : Code) → Slims t n ts out f sh code code'
+    → instructions_and_labels code' ≤ instructions_and_labels code + kept sh
 unfolding instructions_and_labels
 labelled t n ts out f sh _ _ (ends co pl) = omega arith
 labelled t n ts out f sh _ _ (does {sh2 = sh2} {rest = rest} {rest' = rest'} b ta sl) =

@@ -85,17 +85,32 @@ module _ (t : Terms) where
   units_alike n ts out f sh first first' _ _ (before_call {sh2 = sh2} {behind = behind} {behind' = behind'} {rest = rest} {rest' = rest'} {to = to} {to' = to'} slots x g h2 go sl hs hf re sg on) =
       let e = units_alike n ts out h2 sh2 behind behind' rest rest' on in
       record { numbers = ap suc e.numbers; count = ap (λ i. 1 + i) e.count; numbered = λ test h. (h.0, e.numbered test h.1); arms = e.arms }
-  units_alike n ts out f sh first first' _ _ (before_block {inner = inner} {inner' = inner'} {behind = behind} {behind' = behind'} {body = body} {body' = body'} {rest = rest} {rest' = rest'} g h2 go sl ib on) =
+  units_alike n ts out f sh first first' _ _ (before_block {inner = inner} {inner' = inner'} {behind = behind} {behind' = behind'} {body = body} {body' = body'} {rest = rest} {rest' =
+      rest'} g h2 go sl ib on) =
       let e = units_alike n ts out h2 [] behind behind' rest rest' on in
       let i = units_alike _ (h2 ∷ ts) h2 g [] inner inner' body body' ib in
       let e1 = e.numbers in let e2 = e.count in let i1 = i.numbers in let i2 = i.count in
-      record { numbers = omega arith; count = omega arith; numbered = λ test h. (i.numbered test h.0, e.numbered test h.1); arms = λ h. (any_is body' (some_stays _ (h2 ∷ ts) h2 g [] inner inner' body body' ib (any_some body h.0)), i.arms h.1, e.arms h.2) }
-  units_alike n ts out f sh first first' _ _ (before_loop {inner = inner} {inner' = inner'} {behind = behind} {behind' = behind'} {body = body} {body' = body'} {rest = rest} {rest' = rest'} g head h2 go sl co ib on) =
+      record {
+        numbers = omega arith;
+        count = omega arith;
+        numbered = λ test h. (i.numbered test h.0, e.numbered test h.1);
+        arms = λ h.
+            (any_is body' (some_stays _ (h2 ∷ ts) h2 g [] inner inner' body body' ib (any_some body h.0)), i.arms h.1, e.arms h.2);
+      }
+  units_alike n ts out f sh first first' _ _ (before_loop {inner = inner} {inner' = inner'} {behind = behind} {behind' = behind'} {body = body} {body' = body'} {rest = rest} {rest' =
+      rest'} g head h2 go sl co ib on) =
       let e = units_alike n ts out h2 [] behind behind' rest rest' on in
       let i = units_alike _ (head ∷ ts) h2 head [] inner inner' body body' ib in
       let e1 = e.numbers in let e2 = e.count in let i1 = i.numbers in let i2 = i.count in
-      record { numbers = omega arith; count = omega arith; numbered = λ test h. (i.numbered test h.0, e.numbered test h.1); arms = λ h. (any_is body' (some_stays _ (head ∷ ts) h2 head [] inner inner' body body' ib (any_some body h.0)), i.arms h.1, e.arms h.2) }
-  units_alike n ts out f sh first first' _ _ (before_if {fa = fa} {fa' = fa'} {fb = fb} {fb' = fb'} {behind = behind} {behind' = behind'} {a = a} {a' = a'} {b = b} {b' = b'} {rest = rest} {rest' = rest'} o g k h2 go sl hc co ia ib on) =
+      record {
+        numbers = omega arith;
+        count = omega arith;
+        numbered = λ test h. (i.numbered test h.0, e.numbered test h.1);
+        arms = λ h.
+            (any_is body' (some_stays _ (head ∷ ts) h2 head [] inner inner' body body' ib (any_some body h.0)), i.arms h.1, e.arms h.2);
+      }
+  units_alike n ts out f sh first first' _ _ (before_if {fa = fa} {fa' = fa'} {fb = fb} {fb' = fb'} {behind = behind} {behind' = behind'} {a = a} {a' = a'} {b = b} {b' = b'} {rest =
+      rest} {rest' = rest'} o g k h2 go sl hc co ia ib on) =
       let e = units_alike n ts out h2 [] behind behind' rest rest' on in
       let i = units_alike _ (h2 ∷ ts) h2 k [] fa fa' a a' ia in
       let j = units_alike _ (h2 ∷ ts) h2 k [] fb fb' b b' ib in
@@ -104,7 +119,12 @@ module _ (t : Terms) where
         numbers = omega arith;
         count = omega arith;
         numbered = λ test h. (i.numbered test h.0, j.numbered test h.1, e.numbered test h.2);
-        arms = λ h. (⊎_elim (λ s. then_has a' b' (some_stays _ (h2 ∷ ts) h2 k [] fa fa' a a' ia s)) (λ s. else_has a' b' (some_stays _ (h2 ∷ ts) h2 k [] fb fb' b b' ib s)) (one_of a b h.0), i.arms h.1, j.arms h.2, e.arms h.3);
+        arms = λ h. (
+          ⊎_elim (λ s. then_has a' b' (some_stays _ (h2 ∷ ts) h2 k [] fa fa' a a' ia s)) (λ s. else_has a' b' (some_stays _ (h2 ∷ ts) h2 k [] fb fb' b b' ib s)) (one_of a b h.0),
+          i.arms h.1,
+          j.arms h.2,
+          e.arms h.3,
+        );
       }
   units_alike n ts out f sh first first' _ _ (before_kept_if {fa = fa} {fa' = fa'} {fb = fb} {fb' = fb'} {behind = behind} {behind' = behind'} {a = a} {a' = a'} {b = b} {b' = b'}
       {rest = rest} {rest' = rest'} o g h2 go sl ia ib on) =
@@ -133,15 +153,18 @@ module _ (t : Terms) where
         sg on) h k =
         let e = pieces_call n ts out h2 sh2 behind behind' rest rest' on k.0 k.1 in
         (code_calls t P _ ts g f sh first first' sl h, (e.0, e.1))
-    pieces_call n ts out f sh first first' _ _ (before_block {inner = inner} {inner' = inner'} {behind = behind} {behind' = behind'} {body = body} {body' = body'} {rest = rest} {rest' = rest'} g h2 go sl ib on) h k =
+    pieces_call n ts out f sh first first' _ _ (before_block {inner = inner} {inner' = inner'} {behind = behind} {behind' = behind'} {body = body} {body' = body'} {rest = rest} {rest' =
+        rest'} g h2 go sl ib on) h k =
         let i = pieces_call _ (h2 ∷ ts) h2 g [] inner inner' body body' ib k.0 k.1 in
         let e = pieces_call n ts out h2 [] behind behind' rest rest' on k.2 k.3 in
         (code_calls t P _ ts g f sh first first' sl h, (i.0, i.1, e.0, e.1))
-    pieces_call n ts out f sh first first' _ _ (before_loop {inner = inner} {inner' = inner'} {behind = behind} {behind' = behind'} {body = body} {body' = body'} {rest = rest} {rest' = rest'} g head h2 go sl co ib on) h k =
+    pieces_call n ts out f sh first first' _ _ (before_loop {inner = inner} {inner' = inner'} {behind = behind} {behind' = behind'} {body = body} {body' = body'} {rest = rest} {rest' =
+        rest'} g head h2 go sl co ib on) h k =
         let i = pieces_call _ (head ∷ ts) h2 head [] inner inner' body body' ib k.0 k.1 in
         let e = pieces_call n ts out h2 [] behind behind' rest rest' on k.2 k.3 in
         (code_calls t P _ ts g f sh first first' sl h, (i.0, i.1, e.0, e.1))
-    pieces_call n ts out f sh first first' _ _ (before_if {fa = fa} {fa' = fa'} {fb = fb} {fb' = fb'} {behind = behind} {behind' = behind'} {a = a} {a' = a'} {b = b} {b' = b'} {rest = rest} {rest' = rest'} o g l h2 go sl hc co ia ib on) h k =
+    pieces_call n ts out f sh first first' _ _ (before_if {fa = fa} {fa' = fa'} {fb = fb} {fb' = fb'} {behind = behind} {behind' = behind'} {a = a} {a' = a'} {b = b} {b' = b'} {rest =
+        rest} {rest' = rest'} o g l h2 go sl hc co ia ib on) h k =
         let i = pieces_call _ (h2 ∷ ts) h2 l [] fa fa' a a' ia k.0 k.1 in
         let j = pieces_call _ (h2 ∷ ts) h2 l [] fb fb' b b' ib k.2 k.3 in
         let e = pieces_call n ts out h2 [] behind behind' rest rest' on k.4 k.5 in

@@ -62,15 +62,18 @@ module _ (t : Terms) where
   passing_less a a' n ts out f sh first first' _ _ (before_call {sh2 = sh2} {behind = behind} {behind' = behind'} {rest = rest} {rest' = rest'} slots x g h go sl hs hf re sg on) le =
       let e = passing_less done done n ts out h sh2 behind behind' rest rest' on (same_less rest done) in
       omega arith
-  passing_less a a' n ts out f sh first first' _ _ (before_block {inner = inner} {inner' = inner'} {behind = behind} {behind' = behind'} {body = body} {body' = body'} {rest = rest} {rest' = rest'} g h go sl ib on) le =
+  passing_less a a' n ts out f sh first first' _ _ (before_block {inner = inner} {inner' = inner'} {behind = behind} {behind' = behind'} {body = body} {body' = body'} {rest = rest} {rest' =
+      rest'} g h go sl ib on) le =
       let i = passing_less inner inner' _ (h ∷ ts) h g [] inner inner' body body' ib (first_less _ (h ∷ ts) h g inner inner' body body' ib) in
       let e = passing_less behind behind' n ts out h [] behind behind' rest rest' on (first_less n ts out h behind behind' rest rest' on) in
       omega arith
-  passing_less a a' n ts out f sh first first' _ _ (before_loop {inner = inner} {inner' = inner'} {behind = behind} {behind' = behind'} {body = body} {body' = body'} {rest = rest} {rest' = rest'} g head h go sl co ib on) le =
+  passing_less a a' n ts out f sh first first' _ _ (before_loop {inner = inner} {inner' = inner'} {behind = behind} {behind' = behind'} {body = body} {body' = body'} {rest = rest} {rest' =
+      rest'} g head h go sl co ib on) le =
       let i = passing_less inner inner' _ (head ∷ ts) h head [] inner inner' body body' ib (first_less _ (head ∷ ts) h head inner inner' body body' ib) in
       let e = passing_less behind behind' n ts out h [] behind behind' rest rest' on (first_less n ts out h behind behind' rest rest' on) in
       omega arith
-  passing_less a a' n ts out f sh first first' _ _ (before_if {fa = fa} {fa' = fa'} {fb = fb} {fb' = fb'} {behind = behind} {behind' = behind'} {a = x} {a' = x'} {b = y} {b' = y'} {rest = rest} {rest' = rest'} c g k h go sl hc co ia ib on) le =
+  passing_less a a' n ts out f sh first first' _ _ (before_if {fa = fa} {fa' = fa'} {fb = fb} {fb' = fb'} {behind = behind} {behind' = behind'} {a = x} {a' = x'} {b = y} {b' = y'} {rest =
+      rest} {rest' = rest'} c g k h go sl hc co ia ib on) le =
       let i = passing_less fa fa' _ (h ∷ ts) h k [] fa fa' x x' ia (first_less _ (h ∷ ts) h k fa fa' x x' ia) in
       let j = passing_less fb fb' _ (h ∷ ts) h k [] fb fb' y y' ib (first_less _ (h ∷ ts) h k fb fb' y y' ib) in
       let e = passing_less behind behind' n ts out h [] behind behind' rest rest' on (first_less n ts out h behind behind' rest rest' on) in

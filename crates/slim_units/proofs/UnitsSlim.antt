@@ -92,14 +92,18 @@ module _ (t : Terms) where
       in_front n ts out g f sh first first' (flat_units (call_unit slots x to behind rest)) (flat_units (call_unit slots x to' behind' rest')) go sl
       (call_slim n ts out g slots x [] (set_to to (followed_by behind (flat_units rest))) (set_to to' (followed_by behind' (flat_units rest'))) plainly hs hf
       (result_slim n ts out g h sh2 to to' (followed_by behind (flat_units rest)) (followed_by behind' (flat_units rest')) re (units_slim n ts out h sh2 behind behind' rest rest' on)))
-  units_slim n ts out f sh first first' _ _ (before_block {inner = inner} {inner' = inner'} {behind = behind} {behind' = behind'} {body = body} {body' = body'} {rest = rest} {rest' = rest'} g h go sl ib on) =
+  units_slim n ts out f sh first first' _ _ (before_block {inner = inner} {inner' = inner'} {behind = behind} {behind' = behind'} {body = body} {body' = body'} {rest = rest} {rest' =
+      rest'} g h go sl ib on) =
       in_front n ts out g f sh first first' _ _ go sl
-      (S.blocks None h plainly (units_slim (length (calls_of (followed_by behind (flat_units rest))) + n) (h ∷ ts) h g [] inner inner' body body' ib) (units_slim n ts out h [] behind behind' rest rest' on))
-  units_slim n ts out f sh first first' _ _ (before_loop {inner = inner} {inner' = inner'} {behind = behind} {behind' = behind'} {body = body} {body' = body'} {rest = rest} {rest' = rest'} g head h go sl co ib on) =
+      (S.blocks None h plainly (units_slim (length (calls_of (followed_by behind (flat_units rest))) + n) (h ∷ ts) h g [] inner inner' body body' ib)
+      (units_slim n ts out h [] behind behind' rest rest' on))
+  units_slim n ts out f sh first first' _ _ (before_loop {inner = inner} {inner' = inner'} {behind = behind} {behind' = behind'} {body = body} {body' = body'} {rest = rest} {rest' =
+      rest'} g head h go sl co ib on) =
       in_front n ts out g f sh first first' _ _ go sl
       (S.loops None head h plainly co (units_slim (length (calls_of (followed_by behind (flat_units rest))) + n) (head ∷ ts) h head [] inner inner' body body' ib)
       (units_slim n ts out h [] behind behind' rest rest' on))
-  units_slim n ts out f sh first first' _ _ (before_if {fa = fa} {fa' = fa'} {fb = fb} {fb' = fb'} {behind = behind} {behind' = behind'} {a = a} {a' = a'} {b = b} {b' = b'} {rest = rest} {rest' = rest'} c g k h go sl hc co ia ib on) =
+  units_slim n ts out f sh first first' _ _ (before_if {fa = fa} {fa' = fa'} {fb = fb} {fb' = fb'} {behind = behind} {behind' = behind'} {a = a} {a' = a'} {b = b} {b' = b'} {rest =
+      rest} {rest' = rest'} c g k h go sl hc co ia ib on) =
       in_front n ts out g f sh first first' _ _ go sl
       (if_slim n ts out g k h c (followed_by fa (flat_units a)) (followed_by fa' (flat_units a')) (followed_by fb (flat_units b)) (followed_by fb' (flat_units b'))
       (followed_by behind (flat_units rest)) (followed_by behind' (flat_units rest')) hc co
@@ -123,7 +127,8 @@ no_calls_in (Some x) = refl
 pub body_law : BodyIsSlim
 body_law t f out first first' us us' result su held =
     S.blocks None out plainly
-    (subst (λ n. Slims t n (out ∷ []) out f [] (followed_by first (flat_units us)) (followed_by first' (flat_units us'))) (sym (no_calls_in result)) (units_slim t 0 (out ∷ []) out f [] first first' us us' su))
+    (subst (λ n. Slims t n (out ∷ []) out f [] (followed_by first (flat_units us)) (followed_by first' (flat_units us'))) (sym (no_calls_in result))
+    (units_slim t 0 (out ∷ []) out f [] first first' us us' su))
     (by result held)
   where
     by : (r : Option ℕ) → ToHeld out r → Slims t 0 [] (λ y. true) out [] (result_got r) (result_got r)

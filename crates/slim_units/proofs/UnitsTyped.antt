@@ -60,16 +60,25 @@ module _ (c : Around) (t : Terms) where
       sg on) wo h =
       let l = left ls slots x g h2 to to' sh2 re h.1 in
       (l.outs, typed c t ls _ ts g f sh first first' [] [] ins sl wo h.0, l.call, units_typed ls n ts out h2 sh2 behind behind' rest rest' l.outs on l.woven h.2, sg)
-  units_typed ls n ts out f sh first first' _ _ ins (before_block {inner = inner} {inner' = inner'} {behind = behind} {behind' = behind'} {body = body} {body' = body'} {rest = rest} {rest' = rest'} g h2 go sl ib on) wo h =
-      (typed c t ls _ ts g f sh first first' [] [] ins sl wo h.0, units_typed (None ∷ ls) _ (h2 ∷ ts) h2 g [] inner inner' body body' [] ib types_same h.1, units_typed ls n ts out h2 [] behind behind' rest rest' [] on types_same h.2)
-  units_typed ls n ts out f sh first first' _ _ ins (before_loop {inner = inner} {inner' = inner'} {behind = behind} {behind' = behind'} {body = body} {body' = body'} {rest = rest} {rest' = rest'} g head h2 go sl co ib on) wo h =
-      (typed c t ls _ ts g f sh first first' [] [] ins sl wo h.0, units_typed (None ∷ ls) _ (head ∷ ts) h2 head [] inner inner' body body' [] ib types_same h.1, units_typed ls n ts out h2 [] behind behind' rest rest' [] on types_same h.2)
-  units_typed ls n ts out f sh first first' _ _ ins (before_if {fa = fa} {fa' = fa'} {fb = fb} {fb' = fb'} {behind = behind} {behind' = behind'} {a = a} {a' = a'} {b = b} {b' = b'} {rest = rest} {rest' = rest'} o g k h2 go sl hc co ia ib on) wo h = (
-    (typed c t ls _ ts g f sh first first' [] [] ins sl wo h.0, h.1),
-    units_typed (None ∷ ls) _ (h2 ∷ ts) h2 k [] fa fa' a a' [] ia types_same h.2,
-    units_typed (None ∷ ls) _ (h2 ∷ ts) h2 k [] fb fb' b b' [] ib types_same h.3,
-    units_typed ls n ts out h2 [] behind behind' rest rest' [] on types_same h.4,
-  )
+  units_typed ls n ts out f sh first first' _ _ ins (before_block {inner = inner} {inner' = inner'} {behind = behind} {behind' = behind'} {body = body} {body' = body'} {rest =
+      rest} {rest' = rest'} g h2 go sl ib on) wo h = (
+        typed c t ls _ ts g f sh first first' [] [] ins sl wo h.0,
+        units_typed (None ∷ ls) _ (h2 ∷ ts) h2 g [] inner inner' body body' [] ib types_same h.1,
+        units_typed ls n ts out h2 [] behind behind' rest rest' [] on types_same h.2,
+      )
+  units_typed ls n ts out f sh first first' _ _ ins (before_loop {inner = inner} {inner' = inner'} {behind = behind} {behind' = behind'} {body = body} {body' = body'} {rest = rest} {rest' =
+      rest'} g head h2 go sl co ib on) wo h = (
+        typed c t ls _ ts g f sh first first' [] [] ins sl wo h.0,
+        units_typed (None ∷ ls) _ (head ∷ ts) h2 head [] inner inner' body body' [] ib types_same h.1,
+        units_typed ls n ts out h2 [] behind behind' rest rest' [] on types_same h.2,
+      )
+  units_typed ls n ts out f sh first first' _ _ ins (before_if {fa = fa} {fa' = fa'} {fb = fb} {fb' = fb'} {behind = behind} {behind' = behind'} {a = a} {a' = a'} {b = b} {b' = b'} {rest =
+      rest} {rest' = rest'} o g k h2 go sl hc co ia ib on) wo h = (
+        (typed c t ls _ ts g f sh first first' [] [] ins sl wo h.0, h.1),
+        units_typed (None ∷ ls) _ (h2 ∷ ts) h2 k [] fa fa' a a' [] ia types_same h.2,
+        units_typed (None ∷ ls) _ (h2 ∷ ts) h2 k [] fb fb' b b' [] ib types_same h.3,
+        units_typed ls n ts out h2 [] behind behind' rest rest' [] on types_same h.4,
+      )
   units_typed ls n ts out f sh first first' _ _ ins (before_kept_if {fa = fa} {fa' = fa'} {fb = fb} {fb' = fb'} {behind = behind} {behind' = behind'} {a = a} {a' = a'} {b = b} {b' = b'}
       {rest = rest} {rest' = rest'} o g h2 go sl ia ib on) wo h = (
         typed c t ls _ ts g f sh (followed_by first (got o done)) first' (I32 ∷ []) [] ins sl wo (types_then c ls first (got o done) (I32 ∷ []) [] [] h.0 h.1),

@@ -16,17 +16,18 @@ use Rattle.slim_form.specs.Slim.{Free, Shape, kept, Slims, Terms}
 use Rattle.slim_form.specs.Typed.{WovenTypes}
 use Rattle.slim_units.specs.SlimUnits.{SlimUnits}
 
--- The code of slim units is slim;
+-- The code of slim units is slim.
 abbrev pub UnitsAreSlim : Type 0
 UnitsAreSlim =
     (t : Terms) (n : ℕ) (ts : List Free) (out f : Free) (sh : Shape) (first first' : Code) (us us' : Units) → SlimUnits t n ts out f sh first us first' us'
     → Slims t n ts out f sh (followed_by first (flat_units us)) (followed_by first' (flat_units us'))
 
--- so is the body that they make, where the local of the result isn't free.
+-- the local of a result isn't free
 abbrev pub ToHeld : Free → Option ℕ → Type 0
 ToHeld f None = Unit {0}
 ToHeld f (Some x) = f x ≡ false
 
+-- So is the body that they make, where the local of the result isn't free.
 abbrev pub BodyIsSlim : Type 0
 BodyIsSlim =
     (t : Terms) (f out : Free) (first first' : Code) (us us' : Units) (result : Option ℕ) → SlimUnits t 0 (out ∷ []) out f [] first us first' us' → ToHeld out result
@@ -46,6 +47,7 @@ pub record AlikeUnits (first first' : Code) (us us' : Units) : Type 0 where
   pub numbered : (test : Callee → Bool) → UnitsNumbered test us → UnitsNumbered test us'
   pub arms : ArmsHold us → ArmsHold us'
 
+-- So are all slim units.
 abbrev pub UnitsAreAlike : Type 0
 UnitsAreAlike =
     (t : Terms) (n : ℕ) (ts : List Free) (out f : Free) (sh : Shape) (first first' : Code) (us us' : Units) → SlimUnits t n ts out f sh first us first' us' → AlikeUnits first first' us us'
@@ -62,6 +64,7 @@ pub record SlimmerUnits (state : ℕ) (sh : Shape) (first first' : Code) (us us'
   pub depth : depth_of (followed_by first' (flat_units us')) ≤ depth_of (followed_by first (flat_units us))
   pub reading : reads state (followed_by first' (flat_units us')) ≡ reads state (followed_by first (flat_units us))
 
+-- So are all slim units.
 abbrev pub UnitsAreSlimmer : Type 0
 UnitsAreSlimmer =
     (t : Terms) (n : ℕ) (ts : List Free) (out f : Free) (sh : Shape) (first first' : Code) (us us' : Units) (state : ℕ) → SlimUnits t n ts out f sh first us first' us'

@@ -19,7 +19,8 @@ use Rattle.slim_form.specs.Slim.{copies, gets, Lacks, more, sets, takes_one, tak
 use Rattle.slim_walk.specs.declared.stack.Walk.{Walk}
 use Rattle.slim_walk.specs.Walking.{slot_in, kept_onto, unstacked, free_at, shape_at, Assigned, Flushed, Good, IsKeptTop, Kept, Stepped, Taken, TakenBy, from_stack, from_slots}
 use Rattle.slim_walk.proofs.BranchLemmas.{flushed_full}
-use Rattle.slim_walk.proofs.StepLemmas.{Way, in_place, put_back, alike_piece, alike_same, alike_then, among_next, drop_split, flushed_slim, kept_join, kept_slim, no_slot_at, slots_of, small_of, taken_slim, with_piece}
+use Rattle.slim_walk.proofs.StepLemmas.{Way, in_place, put_back, alike_piece, alike_same, alike_then, among_next, drop_split, flushed_slim, kept_join, kept_slim, no_slot_at, slots_of}
+use Rattle.slim_walk.proofs.StepLemmas.{small_of, taken_slim, with_piece}
 
 -- ---- a local is set
 

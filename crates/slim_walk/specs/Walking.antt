@@ -40,10 +40,11 @@ abbrev pub unstacked : List ℕ → Code → Code
 unstacked [] c = c
 unstacked (x ∷ xs) c = unstacked xs (plain (local_set x) c)
 
--- the locals that may differ, and the operands
+-- the locals that may differ
 abbrev pub free_at : Terms → Walk → Free
 free_at t w = free_by t.slot (take w.set w.stack.items)
 
+-- the operands that stand on the operand stack
 abbrev pub shape_at : Walk → Shape
 shape_at w = kept_onto (drop w.set w.stack.items) []
 
@@ -61,6 +62,7 @@ pub record Kept (a b : Walk) (x : ℕ) : Type 0 where
   pub slot : slot_in a x ≡ true
   pub new : elem x a.stack.items ≡ false
 
+-- So it is of a result that is told.
 abbrev pub KeptTold : (a b : Walk) → Option ℕ → Type 0
 KeptTold a b None = b ≡ a
 KeptTold a b (Some x) = Kept a b x
@@ -83,6 +85,7 @@ pub data TakenBy (a b : Walk) (args : List Operand) : Type 0 where
   from_stack : a.set ≤ length b.stack.items → b.set ≡ a.set → b.piece.items ≡ a.piece.items → TakenBy a b args
   from_slots : b.set ≡ length b.stack.items → Puts a.piece.items b.piece.items (λ c. unstacked (drop a.set a.stack.items) (all_got args c)) → TakenBy a b args
 
+-- These operands were taken; `alone` tells that none is left on the operand stack.
 pub record Taken (a b : Walk) (args : List Operand) (alone : Bool) : Type 0 where
   pub good : Good b
   pub alike : Alike a b
@@ -99,6 +102,7 @@ OpTakes w (plain (local_set x) done) k = (slot_in w x ≡ false) × (k ≡ 1)
 OpTakes w (plain (local_tee x) done) k = (slot_in w x ≡ false) × (k ≡ 1)
 OpTakes w c k = ⊥
 
+-- So it is where a number is told.
 abbrev pub TakesTold : Walk → Code → Option ℕ → Type 0
 TakesTold w c None = Unit {0}
 TakesTold w c (Some k) = OpTakes w c k

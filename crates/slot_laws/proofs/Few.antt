@@ -25,7 +25,8 @@ use Rattle.slot_laws.specs.SlotBounds.{SlotsAreFew, CountFits}
 use Rattle.slot_laws.proofs.Results.{any_left, any_right, is_pair, slots_ascend, results_ascend}
 use Rattle.slot_laws.proofs.Order.{all_there}
 use Rattle.slot_laws.proofs.Distinct.{few_of}
-use Rattle.slot_laws.proofs.Covers.{top_pair, top_length, Stands, stands_left, stands_right, stands_dropped, stands_top_or, stands_after, FewResults, puts_one, ends, pair_unless, unless_last_pairs, made, end_is_point}
+use Rattle.slot_laws.proofs.Covers.{top_pair, top_length, Stands, stands_left, stands_right, stands_dropped, stands_top_or, stands_after, FewResults, puts_one, ends, pair_unless}
+use Rattle.slot_laws.proofs.Covers.{unless_last_pairs, made, end_is_point}
 
 module _ (c : Around) (few : FewResults c) (h : ℕ) (t : ValType) where
   -- the pairs of two stretches of code, one behind the other

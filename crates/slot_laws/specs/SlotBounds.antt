@@ -26,20 +26,23 @@ abbrev pub Ascend : List Pair → Type 0
 Ascend [] = Unit {0}
 Ascend (p ∷ ps) = All (Precedes p) ps × Ascend ps
 
--- The slots of a function, and its result locals, stand in this order,
+-- The slots of a function stand in this order.
 abbrev pub SlotsAscend : Type 0
 SlotsAscend = (m : Module) (f : Func) → Ascend (SlotPairs m f)
 
+-- So do its result locals.
 abbrev pub ResultsAscend : Type 0
 ResultsAscend = (m : Module) (f : Func) → Ascend (ResultPairs m f)
 
--- so each pair stands at one place.
+-- Each pair stands at one place.
 abbrev pub StandOnce : List Pair → Type 0
 StandOnce ps = (i j : ℕ) (p : Pair) → slice_get ps i ≡ Some p → slice_get ps j ≡ Some p → i ≡ j
 
+-- So does each slot.
 abbrev pub SlotsStandOnce : Type 0
 SlotsStandOnce = (m : Module) (f : Func) → StandOnce (SlotPairs m f)
 
+-- So does each result local.
 abbrev pub ResultsStandOnce : Type 0
 ResultsStandOnce = (m : Module) (f : Func) → StandOnce (ResultPairs m f)
 

@@ -1,6 +1,7 @@
 //! Laws of slots and result locals. Each is the contract of a function that does nothing.
 
-ghost use Rattle.slot_laws.specs.SlotBounds.{CallsAreAtPoints, CountFits, OperandsAreSaved, OperandsAreWanted, ResultsArePairs, ResultsAscend, ResultsStandOnce, SavedRise, SlotsAreFew, SlotsAscend, SlotsStandOnce};
+ghost use Rattle.slot_laws.specs.SlotBounds.{CallsAreAtPoints, CountFits, OperandsAreSaved, OperandsAreWanted, ResultsArePairs, ResultsAscend, ResultsStandOnce, SavedRise, SlotsAreFew};
+ghost use Rattle.slot_laws.specs.SlotBounds.{SlotsAscend, SlotsStandOnce};
 ghost use Rattle.slot_laws.specs.TypingWalks.{TypingStandsAtPoints};
 ghost use Rattle.slot_laws.specs.WalkPoints.{WalksStandAtPoints};
 

@@ -79,7 +79,8 @@ none_behind c o true n = cc
 none_behind c o false n = n
 
 -- where none is above the bound
-few_told : (m : Module) (ws : List Bool) (fs : List Func) (i : ℕ) (f : Func) → first_above 50000 (told_counts m ws fs) ≡ None → slice_get fs i ≡ Some f → is_told (slice_get ws i) ≡ true → Count m f ≤ 50000
+few_told : (m : Module) (ws : List Bool) (fs : List Func) (i : ℕ) (f : Func) → first_above 50000 (told_counts m ws fs) ≡ None → slice_get fs i ≡ Some f → is_told (slice_get ws i) ≡ true
+    → Count m f ≤ 50000
 few_told m [] fs i f n e t = cc
 few_told m (w ∷ ws) [] i f n e t = cc
 few_told m (true ∷ ws) (g ∷ fs) zero f n e t =
@@ -137,7 +138,8 @@ module _ (bytes : List ℕ) (m : Module) (src : IsValidSource bytes m) where
     source_prepared p e are_bytes short = prepared_as m s which p bytes can e read short (spelled_as m s which p can e (well are_bytes) short)
 
 -- the parts of a valid source
-pub made_source : (bytes : List ℕ) (m v : ModuleValue) → v ≡ m → IsAccepted source_bounds bytes (module_of m) → reserved_at (module_of m) ≡ None → Valid (module_of m) → IsValidSource bytes (module_of v)
+pub made_source : (bytes : List ℕ) (m v : ModuleValue) → v ≡ m → IsAccepted source_bounds bytes (module_of m) → reserved_at (module_of m) ≡ None → Valid (module_of m)
+    → IsValidSource bytes (module_of v)
 made_source bytes m v e a r d = subst (λ (z : ModuleValue). IsValidSource bytes (module_of z)) (sym e) (record { unreserved = record { read = a; free = r }; valid = d })
 
 -- what reading refuses
@@ -149,7 +151,8 @@ read_refused s bytes (Deep at) r h e = subst (IsFaultOf s bytes) (sym e) h
 read_refused s bytes (Limit what n) r h e = subst (IsFaultOf s bytes) (sym e) h
 
 -- what rewriting refuses
-pub rewrite_refused : (s : Settings) (bytes : List ℕ) (m : Module) (fault : RewriteFault) (r : SourceFault) → IsValidSource bytes m → Asyncifies m s (Err fault) → IsOfRewrite fault r → IsFaultOf s bytes r
+pub rewrite_refused : (s : Settings) (bytes : List ℕ) (m : Module) (fault : RewriteFault) (r : SourceFault) → IsValidSource bytes m → Asyncifies m s (Err fault) → IsOfRewrite fault r
+    → IsFaultOf s bytes r
 rewrite_refused s bytes m rewrite_memory r src h e = subst (IsFaultOf s bytes) (sym e) tt
 rewrite_refused s bytes m (rewrite_locals func count) r src h e =
     subst (IsFaultOf s bytes) (sym e) (m, h.which, src, h.tells, first_passes m func count (func_imports m) (drop (func_imports m) h.which) m.funcs h.first)

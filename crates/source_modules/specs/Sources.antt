@@ -62,6 +62,7 @@ abbrev pub joined_name : Option Import → List ℕ
 joined_name None = []
 joined_name (Some i) = i.«module» ++ 46 ∷ i.base
 
+-- the name of an export that is there
 abbrev pub exported_name : Option Export → List ℕ
 exported_name None = []
 exported_name (Some e) = e.name

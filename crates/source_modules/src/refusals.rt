@@ -1,4 +1,5 @@
-// Why a source is refused.
+//! Why a source is refused.
+
 ghost use Rattle.std.specs.Prelude.{◌≡◌};
 ghost use Rattle.transcript.specs.Printing.{refusal_of};
 ghost use Rattle.source_modules.specs.Refusals.{cause_of};

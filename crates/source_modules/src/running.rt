@@ -1,4 +1,5 @@
-// A source, rewritten to be run, without being written.
+//! A source, rewritten to be run, without being written.
+
 ghost use Rattle.std.specs.Prelude.{IfOk};
 ghost use Rattle.std.specs.Result.{IfErr};
 ghost use Rattle.call_graph.specs.Settings.{settings_of};

@@ -1,4 +1,5 @@
-// From the bytes of a module to those of the written one.
+//! From the bytes of a module to those of the written one.
+
 ghost use Rattle.std.specs.Prelude.{◌≡◌, count_by, IfOk, Some};
 ghost use Rattle.std.specs.Result.{IfErr};
 ghost use Rattle.call_graph.specs.Settings.{settings_of};

@@ -27,7 +27,9 @@ use Rattle.wa_model.specs.Configuration.{Activation, place_of, suspended}
 use Rattle.wa_model.specs.Step.{Next, steps, asks, returns, traps, stuck, step}
 use Rattle.wa_model.specs.Plan.{Entry, EntryFits, Plan, Outcome, given, refused, Fits}
 use Rattle.wa_model.specs.Instantiation.{Opening, fails_as, opens, opening}
-use Rattle.wa_model.specs.Blocking.{Note, note, call_note, answers, or_else, fault_of, pause_of, poked, done_notes, Task, the_start, an_entry, Left, with_outcomes, Asker, inside, outermost, store_at, stack_at, in_start, State, between, begins, runs, halts, on_to, next_entry, task_back, go_on, tested, asked, by_step, enters, enter_next, start_called, blocking, all_left, started, begun, continued, Blocking}
+use Rattle.wa_model.specs.Blocking.{Note, note, call_note, answers, or_else, fault_of, pause_of, poked, done_notes, Task, the_start, an_entry, Left, with_outcomes, Asker, inside, outermost}
+use Rattle.wa_model.specs.Blocking.{store_at, stack_at, in_start, State, between, begins, runs, halts, on_to, next_entry, task_back, go_on, tested, asked, by_step, enters, enter_next}
+use Rattle.wa_model.specs.Blocking.{start_called, blocking, all_left, started, begun, continued, Blocking}
 use Rattle.wa_model.specs.Fitting.{types_of, results_of, global_types, StoreFits}
 use Rattle.wa_model.specs.LawfulStacks.{SuspendedIn, LawfulActivation}
 use Rattle.wa_model.proofs.Invariants.{TurnKeeps, RanKeeps, after_keeps}

@@ -9,16 +9,20 @@ use Rattle.wa_types.specs.declared.values.Value.TheVariants as V
 use Rattle.wa_types.specs.declared.values.Trap.TheVariants.{StackExhausted, TypeMismatch}
 use Rattle.wa_types.specs.Pruned.{is_last}
 use Rattle.wa_types.specs.Pausing.{Callee, direct, indirect, callee as callee_of}
-use Rattle.wa_types.specs.Syntax.{Plain, basic, local_get, local_set, local_tee, br, br_if, br_table, return, unreachable, call, call_indirect, a_block, a_loop, Code, done, plain, nest, branch, FuncType, Func, Module}
-use Rattle.wa_types.specs.Typing.{Around, leaves, lacks, listed, type_of, all_there, all_alike, jump as jump_sig, may_jump, jumps, calls, calls_at, gets, sets, tees, basic_sig, sig, Takes, Types, Typed}
+use Rattle.wa_types.specs.Syntax.{Plain, basic, local_get, local_set, local_tee, br, br_if, br_table, return, unreachable, call, call_indirect, a_block, a_loop, Code, done, plain, nest}
+use Rattle.wa_types.specs.Syntax.{branch, FuncType, Func, Module}
+use Rattle.wa_types.specs.Typing.{Around, leaves, lacks, listed, type_of, all_there, all_alike, jump as jump_sig, may_jump, jumps, calls, calls_at, gets, sets, tees, basic_sig, sig, Takes}
+use Rattle.wa_types.specs.Typing.{Types, Typed}
 use Rattle.wa_types.specs.Validity.{Valid}
 use Rattle.wa_types.specs.Modules.{func_imports, func_types, func_type_at, type_at, or_empty, declared_locals, locals_of, around, defined_at}
 use Rattle.wa_types.proofs.PlaceLemmas.{last_no_call}
 use Rattle.wa_model.specs.Store.{Store, value_at, Did, works, fails, lacks as lacking, takes, act}
 use Rattle.wa_model.specs.Configuration.{Label, block_label, loop_label, Activation, Configuration, running, waiting}
-use Rattle.wa_model.specs.Step.{Next, steps, asks, returns, traps, stuck, keep, result_count, leave, jump, finish, did, with_top, with_number, choose, arity_of, zero_of, entered, invoke, param_count, same_func_type, through, memory_max, step_at, step}
+use Rattle.wa_model.specs.Step.{Next, steps, asks, returns, traps, stuck, keep, result_count, leave, jump, finish, did, with_top, with_number, choose, arity_of, zero_of, entered, invoke}
+use Rattle.wa_model.specs.Step.{param_count, same_func_type, through, memory_max, step_at, step}
 use Rattle.wa_model.specs.Fitting.{types_of, results_of, StoreFits}
-use Rattle.wa_model.proofs.FittingNames.{split_types, carried_types, kept_types, reversed_types, value_typed, set_typed, zeros_typed, func_types_true, one_reversed, func_type_small, results_are, count_is, defined_type, func_found}
+use Rattle.wa_model.proofs.FittingNames.{split_types, carried_types, kept_types, reversed_types, value_typed, set_typed, zeros_typed, func_types_true, one_reversed, func_type_small}
+use Rattle.wa_model.proofs.FittingNames.{results_are, count_is, defined_type, func_found}
 use Rattle.wa_model.proofs.FittingActs.{DidFits, act_fits}
 use Rattle.wa_model.proofs.FittingSteps.{takes_above, chosen_alike, body_typed}
 use Rattle.stack_laws.proofs.Spots.{Spot, at_start, past, in_block, in_loop, in_arm, in_else, retyped, placed}

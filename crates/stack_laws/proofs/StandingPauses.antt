@@ -1,6 +1,7 @@
 -- At each call of an import the stack is chained; each activation that a pause suspends stands at a numbered call, where
 -- `call_indirect` isn't ignored.
-use Rattle.std.proofs.Common.{drop, take, ◌<◌, ltb-true, ◌≡◌, ◌⊎◌, inl, inr, ℕ, zero, suc, ◌+◌, ◌≤◌, Bool, true, false, cond, ltb, not, ◌||◌, List, [], ◌∷◌, ◌++◌, length, map, Option, Some, None, All, Contains, refl, sym, ap, ◌∙◌, subst, arith, length-append}
+use Rattle.std.proofs.Common.{drop, take, ◌<◌, ltb-true, ◌≡◌, ◌⊎◌, inl, inr, ℕ, zero, suc, ◌+◌, ◌≤◌, Bool, true, false, cond, ltb, not, ◌||◌, List, [], ◌∷◌, ◌++◌, length, map, Option, Some}
+use Rattle.std.proofs.Common.{None, All, Contains, refl, sym, ap, ◌∙◌, subst, arith, length-append}
 use Rattle.std.proofs.lemmas.List.{length-map}
 use Rattle.std.specs.Prelude.{slice_get}
 use Rattle.std.proofs.lemmas.List.Elements.{All-nil, All-cons, All-weaker}
@@ -9,7 +10,8 @@ use Rattle.wa_types.specs.declared.values.ValType.{ValType}
 use Rattle.wa_types.specs.Base.{Base}
 use Rattle.wa_types.specs.Frames.{Suspended}
 use Rattle.wa_types.specs.Pruned.{pruned}
-use Rattle.wa_types.specs.Pausing.{Callee, direct, indirect, calls_of, calls_in, Settings, Listed, MayPause, calls_listed, calls_indirectly, calls_pausing, TellsMayPause, is_told, has_number, places_from, Numbered}
+use Rattle.wa_types.specs.Pausing.{Callee, direct, indirect, calls_of, calls_in, Settings, Listed, MayPause, calls_listed, calls_indirectly, calls_pausing, TellsMayPause, is_told}
+use Rattle.wa_types.specs.Pausing.{has_number, places_from, Numbered}
 use Rattle.wa_types.specs.Syntax.{Func, Module}
 use Rattle.wa_types.specs.Modules.{func_imports, func_type_at, defined_at}
 use Rattle.wa_model.specs.declared.events.End.{End}
@@ -20,7 +22,9 @@ use Rattle.wa_model.specs.Configuration.{Activation, call_count, calls_behind, c
 use Rattle.wa_model.specs.Step.{Next, steps, asks, returns, traps, stuck, entered, step}
 use Rattle.wa_model.specs.Plan.{Entry, Plan, Outcome, given, refused}
 use Rattle.wa_model.specs.Instantiation.{Opening, fails_as, opens, opening}
-use Rattle.wa_model.specs.Blocking.{Note, call_note, bad_poke, bad_pause, is_unlisted, or_else, fault_of, pause_of, poked, done_notes, Task, the_start, an_entry, Left, with_outcomes, Asker, inside, outermost, store_at, stack_at, in_start, State, between, begins, runs, halts, on_to, next_entry, task_back, go_on, tested, asked, by_step, enters, enter_next, start_called, blocking, all_left, started, begun, continued, Blocking}
+use Rattle.wa_model.specs.Blocking.{Note, call_note, bad_poke, bad_pause, is_unlisted, or_else, fault_of, pause_of, poked, done_notes, Task, the_start, an_entry, Left, with_outcomes, Asker}
+use Rattle.wa_model.specs.Blocking.{inside, outermost, store_at, stack_at, in_start, State, between, begins, runs, halts, on_to, next_entry, task_back, go_on, tested, asked, by_step, enters}
+use Rattle.wa_model.specs.Blocking.{enter_next, start_called, blocking, all_left, started, begun, continued, Blocking}
 use Rattle.wa_model.specs.Behaves.{StandsNumbered, PauseNumbered}
 use Rattle.wa_model.specs.LawfulStacks.{LeadsTo, Chained}
 use Rattle.stack_laws.specs.Standing.{IsRoot, CallChained, StacksChained, PauseTold, PausesTold, ListedNumbered, CallsAtNumbers, PausesAtNumbers, onward, returned_by, EntryStack, PausesOfEntries}

@@ -16,6 +16,7 @@ pub record Site : Type 0 where
   pub behind : Position
   pub operands : List ValType
 
+-- the site of a call, where an instruction is one
 abbrev pub site_of : Option Callee → Position → List ValType → List Site
 site_of None at ops = []
 site_of (Some x) at ops = (record { callee = x; behind = at; operands = ops }) ∷ []

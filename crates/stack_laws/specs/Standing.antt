@@ -22,6 +22,7 @@ abbrev pub CallChained : Module → (ℕ → Type 0) → Event → Store → Lis
 CallChained m Root (called c) s stack = (root : ℕ) × Root root × Chained m s.table root c.import stack × (length stack ≤ 4096)
 CallChained m Root _ s stack = Unit {0}
 
+-- so it is at each call of a run with blocking imports
 abbrev pub StacksChained : Type 0
 StacksChained = (m : Module) (plan : Plan) (os : List Outcome) (n : ℕ) → All (λ (x : Note). CallChained m (IsRoot m plan) x.event x.store x.stack) (Blocking m plan os n).events
 
@@ -31,6 +32,7 @@ PauseTold plan event None = Unit {0}
 PauseTold plan (called c) (Some ticks) = (listed : List Bool) → plan.listed ≡ Some listed → slice_get listed c.import ≡ Some true
 PauseTold plan _ (Some ticks) = ⊥
 
+-- so it is at each pause of a run with blocking imports
 abbrev pub PausesTold : Type 0
 PausesTold = (m : Module) (plan : Plan) (os : List Outcome) (n : ℕ) → All (λ (x : Note). PauseTold plan x.event x.pause) (Blocking m plan os n).events
 

@@ -79,7 +79,8 @@ pub record Front (w : Program) (xs : List Note) (os : List Outcome) (lines : Lis
   pub all : os ≡ first ++ more
   pub calls : CallsMeet w xs first lines ds [] answers devices
 
-pub calls_front : (w : Program) (xs ys : List Note) (os : List Outcome) (lines lines' : List AnswerLine) (ds ds' : List Device) → CallsMeet w (xs ++ ys) os lines ds [] lines' ds' → Front w xs os lines ds
+pub calls_front : (w : Program) (xs ys : List Note) (os : List Outcome) (lines lines' : List AnswerLine) (ds ds' : List Device) → CallsMeet w (xs ++ ys) os lines ds [] lines' ds'
+    → Front w xs os lines ds
 calls_front w [] ys os lines lines' ds ds' h = record { first = []; more = os; answers = lines; devices = ds; all = refl; calls = (refl, refl, refl) }
 calls_front w (x ∷ xs) ys os lines lines' ds ds' h = by (call_in x.event) refl h (λ o l d m. calls_front w xs ys o l lines' d ds' m) where
   by : (c : Option Call) → call_in x.event ≡ c → NoteMeets w c os lines ds (λ o l d. CallsMeet w (xs ++ ys) o l d [] lines' ds')

@@ -31,7 +31,8 @@ told_counted w t turn met answers lines ds ds' c calls =
     let n = calls_count w turn met lines answers ds ds' calls in
     omega (arith, c, n, calls_on t.told turn, length-append t.met met)
 
-set_counted : (tellers : List Teller) (i j : ℕ) (t u v : Teller) → slice_get tellers i ≡ Some t → slice_get (slice_set tellers i u) j ≡ Some v → Counted u → ((x : Teller) → slice_get tellers j ≡ Some x → Counted x) → Counted v
+set_counted : (tellers : List Teller) (i j : ℕ) (t u v : Teller) → slice_get tellers i ≡ Some t → slice_get (slice_set tellers i u) j ≡ Some v → Counted u
+    → ((x : Teller) → slice_get tellers j ≡ Some x → Counted x) → Counted v
 set_counted tellers i j t u v there at c on = by (cases_eq j i) where
   by : (j ≡ i) ⊎ (j ≡ i → ⊥) → Counted v
   by (inr other) = on v (sym (set_there tellers i j u other) ∙ at)
@@ -46,7 +47,8 @@ first_counted programs j t at = by (slice_get programs j) (sym (slice_get-map st
   by (Some w) e = let is : starting w ≡ t = same_Some (starting w) t e in sym (ap (λ (x : Teller). new_calls x.told) is) ∙ ap (λ (x : Teller). length x.met) is
 
 module _ (programs : List Program) (detaches : List Detach) (ds : List Device) where
-  pub counted : (number : ℕ) (lines : List Line) (tellers : List Teller) (ds' : List Device) → Tells programs detaches ds number lines tellers ds' → (j : ℕ) (t : Teller) → slice_get tellers j ≡ Some t → Counted t
+  pub counted : (number : ℕ) (lines : List Line) (tellers : List Teller) (ds' : List Device) → Tells programs detaches ds number lines tellers ds' → (j : ℕ) (t : Teller)
+      → slice_get tellers j ≡ Some t → Counted t
   counted zero lines tellers ds' h j t at = first_counted programs j t (ap (λ (l : List Teller). slice_get l j) (sym h.1) ∙ at)
   counted (suc number) lines tellers ds' h j t at =
       let play = h.5 in
@@ -54,7 +56,8 @@ module _ (programs : List Program) (detaches : List Detach) (ds : List Device) w
       (told_counted play.w play.t play.turn play.met play.answers play.t.answers _ _ (counted number h.0 h.2 h.3 h.4 play.i play.t play.there) play.calls)
       (counted number h.0 h.2 h.3 h.4 j)
 
-  pub counted_on : (number i due : ℕ) (lines : List Line) (tellers : List Teller) (ds' : List Device) → TellsOn programs detaches ds number i due lines tellers ds' → (j : ℕ) (t : Teller) → slice_get tellers j ≡ Some t
+  pub counted_on : (number i due : ℕ) (lines : List Line) (tellers : List Teller) (ds' : List Device) → TellsOn programs detaches ds number i due lines tellers ds' → (j : ℕ) (t : Teller)
+      → slice_get tellers j ≡ Some t
       → Counted t
   counted_on number i due lines tellers ds' on j t at =
       set_counted on.mid i j on.t (having_told on.t on.turn on.met on.answers) t on.there (ap (λ (l : List Teller). slice_get l j) (sym on.after) ∙ at)

@@ -36,7 +36,8 @@ ends_tail (x ∷ z ∷ xs) full e h = ends_tail (z ∷ xs) full (or_right (is_en
 
 abbrev Replied : (base name : List ℕ) → List Value → List Device → Outcome → List Device → Type 0
 Replied base name args ds o ds' =
-    (r : Reply) × ValueFits r.value × (r.ticks < 2 ^ 32) × (o ≡ given (record { value = r.value; pokes = []; ticks = r.ticks })) × (ds' ≡ journaled name (record { base = base; args = args; reply = r }) ds)
+    (r : Reply) × ValueFits r.value × (r.ticks < 2 ^ 32) × (o ≡ given (record { value = r.value; pokes = []; ticks = r.ticks }))
+    × (ds' ≡ journaled name (record { base = base; args = args; reply = r }) ds)
 
 abbrev Device_by : (import : ℕ) (base name : List ℕ) → List Value → List Device → Outcome → Bool → Type 0
 Device_by import base name args ds o b =
@@ -94,7 +95,8 @@ module _ (w : Program) (pre : List Outcome) (done : List Note) (answers : List A
         let d = decided w o.call o.device ds o.left o.bound in
         let r = o.refusal d.0 in
         let list : call_list (o.notes ++ r.there ∷ r.more) ≡ call_list o.notes ++ o.call ∷ [] =
-        list_on o.notes (r.there ∷ r.more) ∙ ap (λ (cs : List Call). call_list o.notes ++ cs) (call_listed r.there o.call r.more r.is ∙ ap (λ (cs : List Call). o.call ∷ cs) (none_listed r.more r.quiet)) in
+        list_on o.notes (r.there ∷ r.more) ∙ ap (λ (cs : List Call). call_list o.notes ++ cs) (call_listed r.there o.call r.more r.is
+        ∙ ap (λ (cs : List Call). o.call ∷ cs) (none_listed r.more r.quiet)) in
         by_list (o.notes ++ r.there ∷ r.more) (o.outcomes ++ refused d.0 ∷ []) o.left ds
         (subst (λ (cs : List Call). ListMeet w cs (o.outcomes ++ refused d.0 ∷ []) answers ds [] o.left ds) (sym list)
         (list_more w (call_list o.notes) o.call o.outcomes (refused d.0) answers o.left o.left ds ds ds (list_by_lines w (call_list o.notes) o.outcomes answers [] o.left ds o.meets) d.1))

@@ -71,7 +71,8 @@ zip_at (v ∷ ws) [] i w t h ew et = absurd h
 zip_at (v ∷ ws) (u ∷ ts) zero w t h ew et = subst (λ (x : Program). OnStory x t) (same_Some v w ew) (subst (λ (x : Teller). OnStory v x) (same_Some u t et) h.0)
 zip_at (v ∷ ws) (u ∷ ts) (suc i) w t h ew et = zip_at ws ts i w t h.1 ew et
 
-zip_set : (ws : List Program) (ts : List Teller) (i : ℕ) (w : Program) (u v : Teller) → slice_get ws i ≡ Some w → AllZip HasStory ws (slice_set ts i u) → HasStory w v → AllZip HasStory ws (slice_set ts i v)
+zip_set : (ws : List Program) (ts : List Teller) (i : ℕ) (w : Program) (u v : Teller) → slice_get ws i ≡ Some w → AllZip HasStory ws (slice_set ts i u) → HasStory w v
+    → AllZip HasStory ws (slice_set ts i v)
 zip_set [] [] i w u v ew h s = tt
 zip_set [] (t ∷ ts) zero w u v ew h s = absurd h
 zip_set [] (t ∷ ts) (suc i) w u v ew h s = absurd h
@@ -119,7 +120,8 @@ module _ (programs : List Program) (detaches : List Detach) (ds ds' : List Devic
         rest = behind_turn f.full;
         more = front.more;
         story =
-            ap (protocol_story on.w) ((λ k. sym (append_assoc on.t.met on.met front.first) k ++ front.more) ∙ append_assoc now.met front.first front.more ∙ ap (λ (l : List Outcome). now.met ++ l) (sym front.all))
+            ap (protocol_story on.w) ((λ k. sym (append_assoc on.t.met on.met front.first) k ++ front.more) ∙ append_assoc now.met front.first front.more
+            ∙ ap (λ (l : List Outcome). now.met ++ l) (sym front.all))
             ∙ f.story
             ∙ ap (λ (l : List Note). now.told ++ l) (sym (turn_parts f.full))
             ∙ sym (append_assoc now.told (turn_of f.full) (behind_turn f.full))

@@ -25,7 +25,8 @@ module _ {X : Type 0} where
   set_same (z ∷ xs) zero x e = let same : z ≡ x = cc in ap (λ y. y ∷ xs) (sym same)
   set_same (z ∷ xs) (suc i) x e = ap (λ l. z ∷ l) (set_same xs i x e)
 
-pub zipped : {X Y : Type 0} (R : X → Y → Type 0) (xs : List X) (ys : List Y) → length ys ≡ length xs → ((i : ℕ) (x : X) (y : Y) → slice_get xs i ≡ Some x → slice_get ys i ≡ Some y → R x y) → AllZip R xs ys
+pub zipped : {X Y : Type 0} (R : X → Y → Type 0) (xs : List X) (ys : List Y) → length ys ≡ length xs → ((i : ℕ) (x : X) (y : Y) → slice_get xs i ≡ Some x → slice_get ys i ≡ Some y → R x y)
+    → AllZip R xs ys
 zipped R [] [] long each = tt
 zipped R [] (y ∷ ys) long each = let never : ⊥ = omega (arith, long) in absurd never
 zipped R (x ∷ xs) [] long each = let never : ⊥ = omega (arith, long) in absurd never

@@ -1,6 +1,7 @@
 -- Turns that were told are a world: the notes and outcomes that the definition wants beforehand are those that were told, and what is
 -- still to be told behind them.
-use Rattle.std.proofs.Common.{arith, ◌≡◌, ◌<◌, ◌≤◌, ◌+◌, ◌⊎◌, inl, inr, ℕ, zero, suc, List, [], ◌∷◌, ◌++◌, length, get_or, map, Option, Some, None, Bool, true, false, All, slice_get, slice_set, refl, sym, ap, ◌∙◌, subst, append_assoc, length-set}
+use Rattle.std.proofs.Common.{arith, ◌≡◌, ◌<◌, ◌≤◌, ◌+◌, ◌⊎◌, inl, inr, ℕ, zero, suc, List, [], ◌∷◌, ◌++◌, length, get_or, map, Option, Some, None, Bool, true, false, All, slice_get}
+use Rattle.std.proofs.Common.{slice_set, refl, sym, ap, ◌∙◌, subst, append_assoc, length-set}
 use Rattle.std.specs.List.{AllZip}
 use Rattle.std.specs.Option.{option_map}
 use Rattle.std.proofs.lemmas.Bool.{cases_eq}
@@ -10,7 +11,8 @@ use Rattle.wa_model.specs.declared.answers.Detach.{Detach}
 use Rattle.wa_model.specs.Outside.{AnswerLine, Line}
 use Rattle.wa_model.specs.Plan.{Outcome}
 use Rattle.wa_model.specs.Blocking.{Note}
-use Rattle.wa_model.specs.World.{Device, Program, Actor, CallsMeet, Plays, IsNext, HasNotes, Starts, StartsHeld, IsOver, detached, turn_of, behind_turn, put_off, line_at, events_with_looks, protocol_story, ProtocolWorld}
+use Rattle.wa_model.specs.World.{Device, Program, Actor, CallsMeet, Plays, IsNext, HasNotes, Starts, StartsHeld, IsOver, detached, turn_of, behind_turn, put_off, line_at, events_with_looks}
+use Rattle.wa_model.specs.World.{protocol_story, ProtocolWorld}
 use Rattle.event_order.specs.Dues.{HaveEnded}
 use Rattle.world_laws.specs.Played.{ProtocolWorldUpTo}
 use Rattle.world_laws.proofs.Played.{next_event, played_is_whole}
@@ -51,7 +53,8 @@ due_at tellers j t there unfinished =
 -- ---- one turn, from behind
 
 module _ (programs : List Program) (detaches : List Detach) (wholes : List Whole) where
-  module _ (number : ℕ) (mid tellers : List Teller) (es ds' : List Device) (lines : List Line) (actors : List Actor) (play : TellsTurn programs detaches number mid es lines tellers ds') (fore : Foretold wholes tellers actors) where
+  module _ (number : ℕ) (mid tellers : List Teller) (es ds' : List Device) (lines : List Line) (actors : List Actor) (play : TellsTurn programs detaches number mid es lines tellers ds')
+      (fore : Foretold wholes tellers actors) where
     within : play.i < length mid
     within = slice_get_within mid play.i play.t play.there
 
@@ -126,10 +129,12 @@ module _ (programs : List Program) (detaches : List Detach) (wholes : List Whole
         record {
           there = before_there;
           unfinished = some_note play.turn later.0.notes play.whole;
-          least = λ j b eb some. by j b eb some (item mid j (omega (arith, slice_get_within acts j b eb, fore_before.long))) (item wholes j (omega (arith, slice_get_within acts j b eb, fore_before.long, fore_before.wide)));
+          least = λ j b eb some. by j b eb some (item mid j (omega (arith, slice_get_within acts j b eb, fore_before.long)))
+              (item wholes j (omega (arith, slice_get_within acts j b eb, fore_before.long, fore_before.wide)));
         }
       where
-        by : (j : ℕ) (b : Actor) → slice_get acts j ≡ Some b → HasNotes b → (t : Teller) × (slice_get mid j ≡ Some t) → (h : Whole) × (slice_get wholes j ≡ Some h) → (play.t.due < b.due) ⊎ ((play.t.due ≡ b.due) × (play.i ≤ j))
+        by : (j : ℕ) (b : Actor) → slice_get acts j ≡ Some b → HasNotes b → (t : Teller) × (slice_get mid j ≡ Some t) → (h : Whole) × (slice_get wholes j ≡ Some h)
+            → (play.t.due < b.due) ⊎ ((play.t.due ≡ b.due) × (play.i ≤ j))
         by j b eb some t h =
             let tie = fore_before.each j t.0 h.0 b t.1 h.1 eb in
             let least = play.next.least j t.0.due (due_at mid j t.0 t.1 (unended t.0.has_ended b.notes tie.is_rest some)) in
@@ -184,12 +189,14 @@ module _ (programs : List Program) (detaches : List Detach) (wholes : List Whole
             story = tie.notes ∙ stories i w h.0 ew h.1 ∙ ap (protocol_story w) (sym tie.outcomes);
           }
 
-    reaches : (number : ℕ) (ds ds' : List Device) (lines : List Line) (tellers : List Teller) (actors : List Actor) → Tells programs detaches ds number lines tellers ds' → Foretold wholes tellers actors → Reaches number ds lines ds' actors
+    reaches : (number : ℕ) (ds ds' : List Device) (lines : List Line) (tellers : List Teller) (actors : List Actor) → Tells programs detaches ds number lines tellers ds'
+        → Foretold wholes tellers actors → Reaches number ds lines ds' actors
     reaches zero ds ds' lines tellers actors tells fore =
         (record { actors = actors; now = actors; starts = start tellers actors tells.1 fore; played = (tells.0, refl, tells.2) }, refl)
     reaches (suc number) ds ds' lines tellers actors tells fore =
         let play = tells.5 in
-        let on = reaches number ds tells.3 tells.0 tells.2 (acts (suc number) tells.2 tellers tells.3 ds' tells.1 actors play fore) tells.4 (fore_before (suc number) tells.2 tellers tells.3 ds' tells.1 actors play fore) in
+        let on = reaches number ds tells.3 tells.0 tells.2 (acts (suc number) tells.2 tellers tells.3 ds' tells.1 actors play fore) tells.4
+        (fore_before (suc number) tells.2 tellers tells.3 ds' tells.1 actors play fore) in
         let turn : Plays programs detaches (suc number) on.0.now tells.3 tells.1 actors ds' =
         subst (λ (l : List Actor). Plays programs detaches (suc number) l tells.3 tells.1 actors ds') (sym on.1) (plays (suc number) tells.2 tellers tells.3 ds' tells.1 actors play fore) in
         let more = next_event programs detaches ds tells.3 ds' number tells.0 tells.1 actors on.0 turn in
@@ -219,18 +226,22 @@ prepared (w ∷ programs) (t ∷ tellers) all =
       stories = stories s on;
     }
   where
-    each : (s : HasStory w t) (on : Prepared programs tellers) (i : ℕ) (t' : Teller) (h' : Whole) (a' : Actor) → slice_get (t ∷ tellers) i ≡ Some t' → slice_get (record { notes = t.told ++ s.rest; outcomes = t.met ++ s.more } ∷ on.wholes) i ≡ Some h'
+    each : (s : HasStory w t) (on : Prepared programs tellers) (i : ℕ) (t' : Teller) (h' : Whole) (a' : Actor) → slice_get (t ∷ tellers) i ≡ Some t'
+        → slice_get (record { notes = t.told ++ s.rest; outcomes = t.met ++ s.more } ∷ on.wholes) i ≡ Some h'
         → slice_get (record { due = t.due; notes = s.rest; outcomes = s.more; answers = t.answers } ∷ on.actors) i ≡ Some a' → Ties t' h' a'
     each s on zero t' h' a' et eh ea =
-        let tie : Ties t (record { notes = t.told ++ s.rest; outcomes = t.met ++ s.more }) (record { due = t.due; notes = s.rest; outcomes = s.more; answers = t.answers }) = record { due = refl; answers = refl; notes = refl; outcomes = refl; is_rest = s.is_rest } in
+        let tie : Ties t (record { notes = t.told ++ s.rest; outcomes = t.met ++ s.more }) (record { due = t.due; notes = s.rest; outcomes = s.more; answers = t.answers }) =
+        record { due = refl; answers = refl; notes = refl; outcomes = refl; is_rest = s.is_rest } in
         subst (λ (x : Teller). Ties x h' a') (same_Some _ _ et)
         (subst (λ (x : Whole). Ties t x a') (same_Some _ _ eh) (subst (λ (x : Actor). Ties t (record { notes = t.told ++ s.rest; outcomes = t.met ++ s.more }) x) (same_Some _ _ ea) tie))
     each s on (suc i) t' h' a' et eh ea = on.fore.each i t' h' a' et eh ea
 
-    stories : (s : HasStory w t) (on : Prepared programs tellers) (i : ℕ) (w' : Program) (h' : Whole) → slice_get (w ∷ programs) i ≡ Some w' → slice_get (record { notes = t.told ++ s.rest; outcomes = t.met ++ s.more } ∷ on.wholes) i ≡ Some h'
+    stories : (s : HasStory w t) (on : Prepared programs tellers) (i : ℕ) (w' : Program) (h' : Whole) → slice_get (w ∷ programs) i ≡ Some w'
+        → slice_get (record { notes = t.told ++ s.rest; outcomes = t.met ++ s.more } ∷ on.wholes) i ≡ Some h'
         → h'.notes ≡ protocol_story w' h'.outcomes
     stories s on zero w' h' ew eh =
-        subst (λ (x : Whole). x.notes ≡ protocol_story w' x.outcomes) (same_Some _ _ eh) (subst (λ (x : Program). t.told ++ s.rest ≡ protocol_story x (t.met ++ s.more)) (same_Some _ _ ew) (sym s.story))
+        subst (λ (x : Whole). x.notes ≡ protocol_story w' x.outcomes) (same_Some _ _ eh)
+        (subst (λ (x : Program). t.told ++ s.rest ≡ protocol_story x (t.met ++ s.more)) (same_Some _ _ ew) (sym s.story))
     stories s on (suc i) w' h' ew eh = on.stories i w' h' ew eh
 
 pub told_is_world : ToldIsWorld

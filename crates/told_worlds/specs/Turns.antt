@@ -25,6 +25,7 @@ abbrev pub unless : Bool → ℕ → Option ℕ
 unless true due = None
 unless false due = Some due
 
+-- the same of a program
 abbrev pub due_of : Teller → Option ℕ
 due_of t = unless t.has_ended t.due
 
@@ -33,6 +34,7 @@ abbrev pub EndsOnce : List Note → Type 0
 EndsOnce [] = ⊥
 EndsOnce (x ∷ xs) = MatchBool (ends_turn x.event) (xs ≡ []) (EndsOnce xs)
 
+-- one of these notes is an end
 abbrev pub ends_program : List Note → Bool
 ends_program [] = false
 ends_program (x ∷ xs) = is_end x.event || ends_program xs
@@ -44,7 +46,8 @@ having_told t turn met answers =
 
 -- Event number `number`: the detaches with its number come first, then the unfinished program with the least pair of due tick and
 -- number tells a turn.
-pub record TellsTurn (programs : List Program) (detaches : List Detach) (number : ℕ) (tellers : List Teller) (ds : List Device) (lines : List Line) (tellers' : List Teller) (ds' : List Device) : Type 0 where
+pub record TellsTurn (programs : List Program) (detaches : List Detach) (number : ℕ) (tellers : List Teller) (ds : List Device) (lines : List Line) (tellers' : List Teller)
+    (ds' : List Device) : Type 0 where
   pub i : ℕ
   pub w : Program
   pub t : Teller

@@ -10,6 +10,7 @@ use Rattle.transcript.specs.declared.events.Names.{Names}
 use Rattle.transcript.specs.declared.refusals.RefusalKind.{RefusalKind}
 use Rattle.transcript.specs.declared.refusals.RefusalKind.TheVariants.{Usage, Malformed, Float, Invalid, Limit, Nesting, Reserved, Script, OutOfMemory, ReadFault, WriteFault}
 
+-- the names of a program's lines
 abbrev pub names_of : Names → T.Names
 names_of n = record { imports = n.imports.items; entries = n.entries.items; len = n.len }
 
@@ -19,6 +20,7 @@ of_imports imports = record { imports = imports; entries = []; len = 0 }
 
 -- ---- what is asked of lines
 
+-- an import has a name
 abbrev pub IsImport : List (List ℕ) → ℕ → Type 0
 IsImport imports i = i < length imports
 
@@ -42,11 +44,13 @@ EventFits n tick (Returned entry value) = entry < length n.entries.items
 EventFits n tick (Ended how) = EndFits n.imports.items how
 EventFits n tick (Shown at bytes) = Unit {0}
 
+-- the same of a line
 abbrev pub LineFits : Names → Line → Type 0
 LineFits n l = EventFits n l.tick l.event
 
 -- ---- refusals
 
+-- a refusal
 abbrev pub refusal_of : RefusalKind → T.Refusal
 refusal_of Usage = T.usage
 refusal_of (Malformed at) = T.malformed at

@@ -1,4 +1,5 @@
-// The texts of ends.
+//! The texts of ends.
+
 ghost use Rattle.std.specs.Prelude.{◌≡◌, ◌++◌, [], OnOk, codes};
 ghost use Rattle.wa_model.specs.Transcript.{area_text, end_text, name_at, trap_text};
 ghost use Rattle.wa_model.specs.declared.events.End.TheVariants.{HostLimit, OtherImport};

@@ -1,4 +1,5 @@
-// The parts of a line: words, numbers, names, bytes and values.
+//! The parts of a line: words, numbers, names, bytes and values.
+
 ghost use Rattle.std.specs.Prelude.{◌≡◌, ◌++◌, ◌<◌, OnOk};
 ghost use Rattle.std.specs.Fmt.{decimal};
 ghost use Rattle.wa_model.specs.Transcript.{behind_spaces, hex_digit, hex_pair, is_plain_byte, name_byte, printed_bytes, printed_name, printed_value, value_or_none};

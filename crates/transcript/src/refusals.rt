@@ -1,4 +1,5 @@
-// The lines of refusals.
+//! The lines of refusals.
+
 ghost use Rattle.std.specs.Prelude.{◌≡◌, ◌++◌, IfOk, OnOk};
 ghost use Rattle.wa_model.specs.Transcript.{invalid, limit_word, program_text, refusal_line, refusal_text, script};
 ghost use Rattle.transcript.specs.Printing.{refusal_of};

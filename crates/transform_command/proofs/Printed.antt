@@ -11,7 +11,8 @@ use Rattle.vault_port.specs.Files.{Files, bytes_of}
 use Rattle.wa_types.specs.Pausing.{Settings}
 
 -- the line on memory alone, where any line might have been begun
-pub memory_any : (s : Settings) (files files' : Option Files) (input output : List ℕ) (old new : Option (List ℕ)) → Becomes old new EndsInMemory → Becomes old new (RunsOutOfMemory s files files' input output)
+pub memory_any : (s : Settings) (files files' : Option Files) (input output : List ℕ) (old new : Option (List ℕ)) → Becomes old new EndsInMemory
+    → Becomes old new (RunsOutOfMemory s files files' input output)
 memory_any s files files' input output None None h = tt
 memory_any s files files' input output (Some x) (Some y) h = (refusal_line None (read_fault input), inr (inl refl), memory_alone (refusal_line None (read_fault input)) (Some x) (Some y) h)
 memory_any s files files' input output None (Some y) h = h

@@ -8,10 +8,12 @@ use Rattle.printing.specs.Refused.{status_of}
 use Rattle.source_modules.specs.Sources.{Cause, IsRefusedFor, long_output, refusal_for}
 use Rattle.transform_command.specs.Transforms.{HoldsRewritable, HoldsSource, IsTransformed}
 
+-- How a call ends.
 pub data End : Type 0 where
   done memory read_fault write_fault sink_fault : End
   refused : (cause : Cause) → End
 
+-- the status of an end
 abbrev pub status_of_end : End → ℕ
 status_of_end done = 0
 status_of_end (refused cause) = status_of (refusal_for cause)

@@ -85,4 +85,5 @@ RunsOutOfMemory s files files' input output old new = (line : List ℕ) × IsLin
 -- the line of a cause of this status was printed, for which IN is refused; or less of it where the sink has failed
 abbrev pub PrintsRefusal : Settings → Option Files → List ℕ → ℕ → ℕ → ℕ → List ℕ → List ℕ → Type 0
 PrintsRefusal s files input status faults faults' old new =
-    (cause : Cause) × (status ≡ status_of (refusal_for cause)) × WhereTold files (λ all. IsRefusedFor s (bytes_of all input) cause) × Prints (refusal_line None (refusal_for cause)) faults faults' old new
+    (cause : Cause) × (status ≡ status_of (refusal_for cause)) × WhereTold files (λ all. IsRefusedFor s (bytes_of all input) cause)
+    × Prints (refusal_line None (refusal_for cause)) faults faults' old new

@@ -1,4 +1,5 @@
-// The command from its files to its status.
+//! The command `transform` from its files to its status.
+
 ghost use Rattle.std.specs.Prelude.{◌≡◌, ◌⊎◌, ◌≤◌, None, IsSome};
 ghost use Rattle.call_graph.specs.Settings.{settings_of};
 ghost use Rattle.vault_port.specs.Counts.{HasRisen};
@@ -49,7 +50,8 @@ pub fn run_transform<V: Vault, S: Sink>(
     ensures prints_memory { result ≡ 9 → Becomes (S.taken out.old) (S.taken out.new) (RunsOutOfMemory (settings_of settings.now) (V.files vault.old) (V.files vault.new) input.now output.now) }
     ensures prints_read { result ≡ 10 → Becomes (S.taken out.old) (S.taken out.new) (Prints (refusal_line None (read_fault input.now)) (S.faults out.old) (S.faults out.new)) }
     ensures prints_write { result ≡ 11 → Becomes (S.taken out.old) (S.taken out.new) (Prints (refusal_line None (write_fault output.now)) (S.faults out.old) (S.faults out.new)) }
-    ensures prints_refusal { IsRefusal result → Becomes (S.taken out.old) (S.taken out.new) (PrintsRefusal (settings_of settings.now) (V.files vault.old) input.now result (S.faults out.old) (S.faults out.new)) }
+    ensures prints_refusal { IsRefusal result → Becomes (S.taken out.old) (S.taken out.new)
+        (PrintsRefusal (settings_of settings.now) (V.files vault.old) input.now result (S.faults out.old) (S.faults out.new)) }
 
     // No count falls.
     ensures fetch_faults { V.fetch_faults vault.old ≤ V.fetch_faults vault.new }

@@ -1,4 +1,5 @@
-// What is printed of a module that was written.
+//! What is printed of a module that was written.
+
 ghost use Rattle.std.specs.Prelude.{◌≡◌, ◌⊎◌, ◌≤◌, IfOk};
 ghost use Rattle.std.specs.String.{string_bytes};
 ghost use Rattle.vault_port.specs.Counts.{HasRisen};

@@ -1,4 +1,5 @@
-// The command `transform`.
+//! A module in one file, rewritten into another.
+
 ghost use Rattle.std.specs.Prelude.{◌≡◌, ◌⊎◌, ◌≤◌, length, IfOk, IsErrOf, OnOk, OnErr, IsSome};
 ghost use Rattle.call_graph.specs.Settings.{settings_of};
 ghost use Rattle.vault_port.specs.Counts.{HasRisen};

@@ -36,7 +36,8 @@ module _ {X : Type 0} (follows : X → Program → List Note → List Outcome �
   abbrev begun_now : ℕ → Held X
   begun_now begun = record { programs = h.programs; dues = h.dues; detaches = h.detaches; shows = h.shows; begun = begun }
 
-  pub begun_at : (begun : ℕ) (own : List Detach) (es : List Device) → begun ≡ h.begun + 1 → own ≡ h.detaches → es ≡ detached begun own ds' → Standing follows over memory programs detaches ds lines (begun_now begun) es (Telling turn)
+  pub begun_at : (begun : ℕ) (own : List Detach) (es : List Device) → begun ≡ h.begun + 1 → own ≡ h.detaches → es ≡ detached begun own ds'
+      → Standing follows over memory programs detaches ds lines (begun_now begun) es (Telling turn)
   begun_at begun own es is own_is out =
       let number : begun ≡ suc h.begun = omega (arith, is) in
       let out_is : detached (suc h.begun) detaches ds' ≡ es = (λ k. detached (sym number k) (sym (own_is ∙ s.detaches_are) k) ds') ∙ sym out in

@@ -18,10 +18,12 @@ maps : {A B C : Type 0} (p : B → C) (q : A → B) (xs : List A) → map p (map
 maps p q [] = refl
 maps {A} {B} {C} p q (x ∷ xs) = ap (λ (l : List C). p (q x) ∷ l) (maps p q xs)
 
-pub counted_devices : {X : Type 0} {F : X → Type 0} (f : (x : X) × F x → Device) (g : (x : X) × F x → ℕ) (d : Devices X F) → devices_of (of_all (λ z. record { device = f z; faults = g z }) d) ≡ of_all f d
+pub counted_devices : {X : Type 0} {F : X → Type 0} (f : (x : X) × F x → Device) (g : (x : X) × F x → ℕ) (d : Devices X F)
+    → devices_of (of_all (λ z. record { device = f z; faults = g z }) d) ≡ of_all f d
 counted_devices f g d = maps _ _ d.list.now.items
 
-pub counted_faults : {X : Type 0} {F : X → Type 0} (f : (x : X) × F x → Device) (g : (x : X) × F x → ℕ) (d : Devices X F) → faults_of (of_all (λ z. record { device = f z; faults = g z }) d) ≡ of_all g d
+pub counted_faults : {X : Type 0} {F : X → Type 0} (f : (x : X) × F x → Device) (g : (x : X) × F x → ℕ) (d : Devices X F)
+    → faults_of (of_all (λ z. record { device = f z; faults = g z }) d) ≡ of_all g d
 counted_faults f g d = maps _ _ d.list.now.items
 
 pick : {A : Type 0} (b : Bool) (x y : A) → b ≡ true → (if b then x else y) ≡ x

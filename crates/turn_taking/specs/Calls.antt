@@ -12,10 +12,11 @@ use Rattle.turn_taking.specs.declared.turns.Stage.{Stage}
 use Rattle.turn_taking.specs.declared.turns.Stage.TheVariants.{Between, Telling, Showing}
 use Rattle.turn_taking.specs.Telling.{supply}
 
--- the devices, and their counts of faults
+-- the devices
 abbrev pub devices_of : List Counted → List Device
 devices_of cs = map (λ (c : Counted). c.device) cs
 
+-- their counts of faults
 abbrev pub faults_of : List Counted → List ℕ
 faults_of cs = map (λ (c : Counted). c.faults) cs
 

@@ -25,11 +25,13 @@ pub record Held (X : Type 0) : Type 0 where
   pub shows : List Show
   pub begun : ℕ
 
+-- what is held
 abbrev pub held_of : {X : Type 0} → Turns X → Held X
 held_of h = record { programs = h.programs.items; dues = h.dues.items; detaches = h.detaches.items; shows = h.shows.items; begun = h.begun }
 
 -- A program of a world is held so: it has told what the teller has, and has ended where that has; its looks are its shows.
-pub record IsHeld {X : Type 0} (follows : X → Program → List Note → List Outcome → List AnswerLine → Type 0) (over : X → Bool) (shows : List Show) (i : ℕ) (w : Program) (t : Teller) (x : X) : Type 0 where
+pub record IsHeld {X : Type 0} (follows : X → Program → List Note → List Outcome → List AnswerLine → Type 0) (over : X → Bool) (shows : List Show) (i : ℕ) (w : Program) (t : Teller)
+    (x : X) : Type 0 where
   pub follow : follows x w t.told t.met t.answers
   pub ended_is : over x ≡ t.has_ended
   pub told_end : ends_program t.told ≡ t.has_ended
@@ -72,7 +74,8 @@ TellsNext follows over memory programs detaches ds lines h ds' result =
     (λ line. Standing follows over memory programs detaches ds (lines ++ line_of line ∷ []) (held_of h) ds' h.stage)
 
 -- The programs of a world, of which none has told anything yet.
-pub record AllStart {X : Type 0} (follows : X → Program → List Note → List Outcome → List AnswerLine → Type 0) (over : X → Bool) (shows : List Show) (programs : List Program) (xs : List X) : Type 0 where
+pub record AllStart {X : Type 0} (follows : X → Program → List Note → List Outcome → List AnswerLine → Type 0) (over : X → Bool) (shows : List Show) (programs : List Program)
+    (xs : List X) : Type 0 where
   pub wide : length xs ≡ length programs
   pub each : (i : ℕ) (w : Program) (x : X) → slice_get programs i ≡ Some w → slice_get xs i ≡ Some x → IsHeld follows over shows i w (starting w) x
 
@@ -96,6 +99,7 @@ stage_behind turn _ = Telling turn
 
 -- ---- numbers in range
 
+-- where the host stands, the program is one of so many
 abbrev pub PlaceFits : (count : ℕ) → Stage → Type 0
 PlaceFits count Between = Unit {0}
 PlaceFits count (Telling turn) = turn.program < count

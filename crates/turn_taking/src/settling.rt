@@ -1,4 +1,5 @@
-// What an event leads to.
+//! What an event leads to: when its program is due, and where the host then stands.
+
 ghost use Rattle.std.specs.Prelude.{◌≡◌, IfOk};
 ghost use Rattle.wa_model.specs.View.{event_of};
 ghost use Rattle.turn_taking.specs.Standing.{due_behind, stage_behind};

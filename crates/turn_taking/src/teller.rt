@@ -1,3 +1,5 @@
+//! The trait `Teller`: a program that tells its events one after another.
+
 ghost use Rattle.std.specs.Prelude.{◌≡◌, ℕ, List, Bool, false, IfOk};
 ghost use Rattle.std.specs.Option.{option_copied};
 ghost use Rattle.wa_model.specs.Outside.{AnswerLine};

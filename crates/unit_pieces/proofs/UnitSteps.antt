@@ -37,7 +37,8 @@ call_as i (by_label l) false k first call_of next = refl
 call_as i nowhere true k first call_of next = refl
 call_as i nowhere false k first call_of next = refl
 
-nothing_more : (i : GuardIndices) (e v : Exit) (more : Bool) (d k : ℕ) (rest : Units) → any_unit rest ≡ more → v ≡ (if more then its_end else e) → own_block v false ≡ false → front i e d k done rest ≡ done
+nothing_more : (i : GuardIndices) (e v : Exit) (more : Bool) (d k : ℕ) (rest : Units) → any_unit rest ≡ more → v ≡ (if more then its_end else e) → own_block v false ≡ false
+    → front i e d k done rest ≡ done
 nothing_more i e v more d k no_unit am ve own = last_none i e
 nothing_more i e v true d k (call_unit _ _ _ _ _) am ve own = let z = ap (λ w. own_block w false) ve in cc
 nothing_more i e v true d k (nest_unit _ _ _ _ _) am ve own = let z = ap (λ w. own_block w false) ve in cc
@@ -132,15 +133,18 @@ pub walked_ready : (g : Guards) (e : Exit) (d k : ℕ) (first : Code) (us : Unit
 walked_ready g e d k first us out piece next xs j u lt is w =
     ready_one e d next (code piece) u (units_of (drop (j + 1) xs)) (subst (Ready e d next (code piece)) (units_step xs j u lt is) w.ready)
 
-pub walked_next : (g : Guards) (e : Exit) (d k : ℕ) (first : Code) (us : Units) (out new piece : List Instr) (next m left : ℕ) (more : Bool) (xs : List Unit) (j : ℕ) (u : Unit) (behind : List Instr) → j < length xs
-    → u ≡ get_or xs j u → Walked g e d k first us out piece next (units_of (drop j xs)) → Stepped g e more d next out new piece u m → behind ≡ piece_behind u → left + (j + 1) ≡ length xs → (more ≡ true → 0 < left) → (more ≡ false → left ≤ 0)
+pub walked_next : (g : Guards) (e : Exit) (d k : ℕ) (first : Code) (us : Units) (out new piece : List Instr) (next m left : ℕ) (more : Bool) (xs : List Unit) (j : ℕ) (u : Unit)
+    (behind : List Instr) → j < length xs
+    → u ≡ get_or xs j u → Walked g e d k first us out piece next (units_of (drop j xs)) → Stepped g e more d next out new piece u m → behind ≡ piece_behind u → left + (j + 1) ≡ length xs
+    → (more ≡ true → 0 < left) → (more ≡ false → left ≤ 0)
     → Walked g e d k first us new behind m (units_of (drop (j + 1) xs))
 walked_next g e d k first us out new piece next m left more xs j u behind lt is w st q ll some none =
     let rest = units_of (drop (j + 1) xs) in
     let s = units_step xs j u lt is in
     let r = ready_behind e d next m (code piece) u rest (subst (Ready e d next (code piece)) s w.ready) st.number in
     record {
-      written = w.written ∙ ap (λ y. onto out (front (indices g) e d next (code piece) y)) s ∙ st.written rest (any_left xs (j + 1) left more ll some none) ∙ ap (λ y. onto new (front (indices g) e d m (code y) rest)) (sym q);
+      written = w.written ∙ ap (λ y. onto out (front (indices g) e d next (code piece) y)) s ∙ st.written rest (any_left xs (j + 1) left more ll some none)
+          ∙ ap (λ y. onto new (front (indices g) e d m (code y) rest)) (sym q);
       number = w.number ∙ ap (λ y. next + numbers_in y) s ∙ r.1;
       count = let a = ap unit_count s ∙ count_front u rest in let b = w.count in omega arith;
       ready = subst (λ y. Ready e d m (code y) rest) (sym q) r.0;

@@ -4,6 +4,7 @@ use Rattle.guard_form.specs.Guarded.{Exit, each_end, its_end, by_label, nowhere}
 use Rattle.unit_pieces.specs.declared.exits.ExitTo.{ExitTo}
 use Rattle.unit_pieces.specs.declared.exits.ExitTo.TheVariants.{End, Label, Nowhere}
 
+-- where a run leaves to
 abbrev pub exit_of : ExitTo → Exit
 exit_of End = its_end
 exit_of (Label l) = by_label l

@@ -9,6 +9,7 @@ use Rattle.unit_pieces.specs.declared.pieces.Target.TheVariants.{Direct, Indirec
 use Rattle.unit_pieces.specs.declared.pieces.Unit.{Unit, Row_of-Unit, end_of-Unit, more_of-Unit}
 use Rattle.unit_pieces.specs.declared.pieces.Unit.TheVariants.{Call, Block', Loop', If'}
 
+-- what a numbered call goes to
 abbrev pub callee_of : Target → Callee
 callee_of (Direct f) = direct f
 callee_of (Indirect sort) = indirect sort

@@ -65,7 +65,8 @@ fn put_called(
     behind: &[Instr],
 ) -> Result<(), AllocError>
     requires { Raisable 0 by (code behind.now) }
-    ensures { OnOk result (code out.new.items ≡ onto out.old.items (slots_got slots.now (plain (call_to (callee_of target)) (noted (indices guards.now) label number (set_to to (raised 0 by (code behind.now))))))) }
+    ensures { OnOk result (code out.new.items ≡ onto out.old.items (slots_got slots.now
+        (plain (call_to (callee_of target)) (noted (indices guards.now) label number (set_to to (raised 0 by (code behind.now))))))) }
 {
     put_slots(out, slots)?;
     put_target(out, target)?;
@@ -93,7 +94,9 @@ pub(crate) fn put_call(
     requires label { LabelBelow (2 ^ 31) (exit_of exit) }
     requires piece { Raisable 0 2 (code piece.now) }
     requires behind { Raisable 0 2 (code behind.now) }
-    ensures { OnOk result ((next : Code) → (own_block (exit_of exit) false ≡ false → next ≡ done) → onto out.new.items next ≡ onto out.old.items (call_front (indices guards.now) (exit_of exit) false number (code piece.now) (λ own. call_guarded (indices guards.now) own depth number slots.now (callee_of target) to (code behind.now)) next)) }
+    ensures { OnOk result ((next : Code) → (own_block (exit_of exit) false ≡ false → next ≡ done)
+        → onto out.new.items next ≡ onto out.old.items (call_front (indices guards.now) (exit_of exit) false number (code piece.now)
+        (λ own. call_guarded (indices guards.now) own depth number slots.now (callee_of target) to (code behind.now)) next)) }
 {
     match exit {
         ExitTo::End => {

@@ -1,3 +1,5 @@
+//! A body in pieces and units, as data.
+
 use wa_model::Operand;
 use wa_types::Instr;
 

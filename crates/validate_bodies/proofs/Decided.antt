@@ -9,7 +9,7 @@ use Rattle.wa_types.proofs.TypingLemmas.{less_on}
 use Rattle.wa_types.proofs.FaultLemmas.{all_hold_valid}
 use Rattle.validate_bodies.specs.Running.{Verdict, fine, fault, body_verdict, Answer, valid, invalid, func_answer, funcs_answer, outside_answer, module_answer}
 use Rattle.validate_bodies.specs.Laws.{Says}
-use Rattle.validate_bodies.proofs.Right.{passes_typed, fails_fault}
+use Rattle.validate_bodies.proofs.BodyVerdicts.{passes_typed, fails_fault}
 
 -- the functions before this one are typed
 abbrev Before : Module → ℕ → Type 0
@@ -47,7 +47,8 @@ funcs_say m [] n x e before rest = λ i f found. elim (less_on i n) [
       absurd (none_here f (sym (rest (i - n)) ∙ ap (slice_get m.funcs) at ∙ found))
 ]
 funcs_say m (f ∷ fs) n x e before rest =
-    by_verdict (body_verdict (around m f) f.body) refl (λ typed. funcs_say m fs (suc n) (suc x) (omega (arith, e)) (one_more m n f before here typed) (λ j. ap (slice_get m.funcs) (moved j) ∙ rest (suc j)))
+    by_verdict (body_verdict (around m f) f.body) refl (λ typed. funcs_say m fs (suc n) (suc x) (omega (arith, e)) (one_more m n f before here typed) (λ j. ap (slice_get m.funcs) (moved j)
+    ∙ rest (suc j)))
   where
     here : slice_get m.funcs n ≡ Some f
     here = let z : n ≡ n + 0 = omega arith in ap (slice_get m.funcs) z ∙ rest 0

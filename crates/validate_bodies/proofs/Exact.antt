@@ -71,7 +71,8 @@ unfolding Fits
 know_fit [] os free below h = h
 know_fit (r ∷ rs) os free below h = (refl, know_fit rs os free below h)
 
-pub know_split : (rs : List ValType) (os : List (Option ValType)) (free : Bool) (outs : List ValType) → Fits (knows rs ++ os) free outs → (below : List ValType) × (outs ≡ rs ++ below) × Fits os free below
+pub know_split : (rs : List ValType) (os : List (Option ValType)) (free : Bool) (outs : List ValType) → Fits (knows rs ++ os) free outs
+    → (below : List ValType) × (outs ≡ rs ++ below) × Fits os free below
 unfolding Fits
 know_split [] os free outs h = (outs, refl, h)
 know_split (r ∷ rs) os free [] h = absurd h
@@ -107,7 +108,8 @@ at_fit : (os : List (Option ValType)) (free : Bool) (a b : List ValType) → a �
 at_fit os free a b e h = subst (Fits os free) e h
 
 module _ (os : List (Option ValType)) (free : Bool) (ps : List ValType) where
-  exact_moves : (rs : List ValType) (o : Option (List (Option ValType))) → ((below : List ValType) → Left o free below → Fits os free (ps ++ below)) → ((below : List ValType) → Fits os free (ps ++ below) → Left o free below) → Exact (moves ps rs) os free (pushed rs free o)
+  exact_moves : (rs : List ValType) (o : Option (List (Option ValType))) → ((below : List ValType) → Left o free below → Fits os free (ps ++ below))
+      → ((below : List ValType) → Fits os free (ps ++ below) → Left o free below) → Exact (moves ps rs) os free (pushed rs free o)
   exact_moves rs None to of =
       let k = some_fit os free in
       ((k.0, k.1, inl (omega arith)), λ ins h m. elim m [ inl l ↦ absurd (omega arith) | inr w ↦ of w.1.0 (at_fit os free ins _ w.1.1 h) ])
@@ -116,7 +118,8 @@ module _ (os : List (Option ValType)) (free : Bool) (ps : List ValType) where
     λ ins outs h w. subst (Fits (knows rs ++ os') free) (sym w.2) (know_fit rs os' free w.0 (of w.0 (at_fit os free ins _ w.1 h))),
   )
 
-  exact_leaves : (o : Option (List (Option ValType))) → ((below : List ValType) → Left o free below → Fits os free (ps ++ below)) → ((below : List ValType) → Fits os free (ps ++ below) → Left o free below) → Exact (leaves ps) os free (gone o)
+  exact_leaves : (o : Option (List (Option ValType))) → ((below : List ValType) → Left o free below → Fits os free (ps ++ below))
+      → ((below : List ValType) → Fits os free (ps ++ below) → Left o free below) → Exact (leaves ps) os free (gone o)
   unfolding Fits
   exact_leaves None to of =
       let k = some_fit os free in
@@ -124,7 +127,8 @@ module _ (os : List (Option ValType)) (free : Bool) (ps : List ValType) where
   exact_leaves (Some os') to of =
       (λ outs h. let k = some_fit os' free in (ps ++ k.0, to k.0 k.1, (k.0, refl)), λ ins outs h w. tt)
 
-  exact_late : (r : ℕ) (rs : List ValType) (o : Option (List (Option ValType))) → 9 ≤ r → ((below : List ValType) → Left o free below → Fits os free (ps ++ below)) → ((below : List ValType) → Fits os free (ps ++ below) → Left o free below) → Exact (late r ps rs) os free (too_late r o)
+  exact_late : (r : ℕ) (rs : List ValType) (o : Option (List (Option ValType))) → 9 ≤ r → ((below : List ValType) → Left o free below → Fits os free (ps ++ below))
+      → ((below : List ValType) → Fits os free (ps ++ below) → Left o free below) → Exact (late r ps rs) os free (too_late r o)
   exact_late r rs None big to of =
       let k = some_fit os free in
       ((k.0, k.1, inl (omega arith)), λ ins h m. elim m [ inl l ↦ absurd (omega arith) | inr w ↦ of w.1.0 (at_fit os free ins _ w.1.1 h) ])
@@ -187,7 +191,8 @@ twice (Some t ∷ None ∷ os) free = (λ outs h. top outs h, λ t below h. (h.0
     top (v ∷ below) h = (v, below, refl, (h.0, (tt, h.1)))
 twice (Some t ∷ Some u ∷ os) free = twice_known t u os free (same_type t u) refl
 
-exact_selected : (os : List (Option ValType)) (free : Bool) (o : Option (List (Option ValType))) → ((below : List ValType) → Left o free below → Fits os free (I32 ∷ below)) → ((below : List ValType) → Fits os free (I32 ∷ below) → Left o free below) → Exact selects os free (selected free o)
+exact_selected : (os : List (Option ValType)) (free : Bool) (o : Option (List (Option ValType))) → ((below : List ValType) → Left o free below → Fits os free (I32 ∷ below))
+    → ((below : List ValType) → Fits os free (I32 ∷ below) → Left o free below) → Exact selects os free (selected free o)
 exact_selected os free None to of =
     let k = some_fit os free in
     ((k.0, k.1, inl (omega arith)), λ ins h m. elim m [ inl l ↦ absurd (omega arith) | inr w ↦ of _ (at_fit os free ins _ w.1.2 h) ])

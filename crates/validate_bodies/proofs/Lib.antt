@@ -6,5 +6,5 @@ pub use Rattle.validate_table.proofs.SpaceLemmas
 pub mod Decided
 pub mod Exact
 pub mod Lists
-pub mod Right
+pub mod BodyVerdicts
 pub mod Trees

@@ -1,5 +1,6 @@
 -- The operands as a list, and the vector that holds them.
-use Rattle.std.proofs.Common.{arith, ◌≡◌, ℕ, suc, ◌<◌, ◌≤◌, List, [], ◌∷◌, ◌++◌, length, take, drop, reverse, get_or, ◌-◌, Option, Some, None, Bool, true, false, if◌then◌else◌, refl, ap, sym, ◌∙◌, subst, length-drop}
+use Rattle.std.proofs.Common.{arith, ◌≡◌, ℕ, suc, ◌<◌, ◌≤◌, List, [], ◌∷◌, ◌++◌, length, take, drop, reverse, get_or, ◌-◌, Option, Some, None, Bool, true, false, if◌then◌else◌, refl, ap}
+use Rattle.std.proofs.Common.{sym, ◌∙◌, subst, length-drop}
 use Rattle.std.proofs.lemmas.List.{length-reverse, reverse-append, drop-append-le, drop_all}
 use Rattle.std.proofs.Math.Seq.{take-suc}
 use Rattle.wa_types.specs.declared.values.ValType.{ValType}
@@ -16,7 +17,8 @@ pub known_none : (b : ℕ) (xs : List (Option ValType)) → length xs ≤ b → 
 unfolding known_at
 known_none b xs h = ap reverse (drop_all b xs h)
 
-pub pop_step : (b : ℕ) (xs ys : List (Option ValType)) (o : Option ValType) (t : ValType) (free : Bool) → xs ≡ ys ++ o ∷ [] → b ≤ length ys → pop1 t (known_at b xs) free ≡ (if may_be o t then Some (known_at b ys) else None)
+pub pop_step : (b : ℕ) (xs ys : List (Option ValType)) (o : Option ValType) (t : ValType) (free : Bool) → xs ≡ ys ++ o ∷ [] → b ≤ length ys
+    → pop1 t (known_at b xs) free ≡ (if may_be o t then Some (known_at b ys) else None)
 pop_step b xs ys o t free e h = ap (λ v. pop1 t v free) (known_more b ys xs o e h)
 
 pub pop_none : (b : ℕ) (xs : List (Option ValType)) (t : ValType) (free : Bool) → length xs ≤ b → pop1 t (known_at b xs) free ≡ (if free then Some (known_at b xs) else None)

@@ -1,5 +1,6 @@
 -- What the validator computes of the code of a list of instructions.
-use Rattle.std.proofs.Common.{arith, ◌≡◌, ℕ, suc, ◌+◌, ◌<◌, ◌≤◌, List, [], ◌∷◌, ◌++◌, length, drop, reverse, get_or, Option, Some, None, Bool, true, false, if◌then◌else◌, refl, ap, sym, ◌∙◌, subst, Result, Ok, Err, IsErrAnd}
+use Rattle.std.proofs.Common.{arith, ◌≡◌, ℕ, suc, ◌+◌, ◌<◌, ◌≤◌, List, [], ◌∷◌, ◌++◌, length, drop, reverse, get_or, Option, Some, None, Bool, true, false, if◌then◌else◌, refl, ap, sym, ◌∙◌}
+use Rattle.std.proofs.Common.{subst, Result, Ok, Err, IsErrAnd}
 use Rattle.std.proofs.lemmas.List.{reverse-append}
 use Rattle.std.specs.declared.vec.Vec.{Vec}
 use Rattle.std.specs.declared.alloc.Global.{Global}
@@ -23,7 +24,8 @@ use Rattle.validate_table.proofs.InstrKinds.{is_block, is_loop, is_branch, is_pl
 use Rattle.validate_bodies.specs.Judging.{Judged, Blames}
 
 -- what the validator computes
-pub checks_done : (c : Around) (ls : List (Option ValType)) (outs : List ValType) (os : List (Option ValType)) (free : Bool) (k : ℕ) → checks c ls done outs os free k ≡ (if ended outs os free then fine else fault 8 k)
+pub checks_done : (c : Around) (ls : List (Option ValType)) (outs : List ValType) (os : List (Option ValType)) (free : Bool) (k : ℕ)
+    → checks c ls done outs os free k ≡ (if ended outs os free then fine else fault 8 k)
 unfolding checks
 checks_done c ls outs os free k = refl
 
@@ -35,22 +37,30 @@ pub judged_err : {B : Type 0} (res : Result B Flaw) (e : Flaw) (k : ℕ) (v w x 
 judged_err (Ok u) e k v w x y i j h = absurd i
 judged_err (Err f) e k v w x y i j h = blames_on f k v w y (subst (λ (g : Flaw). Blames g k v) (sym i) j) h
 
-at_number : (c : Around) (ls : List (Option ValType)) (k : Code) (outs : List ValType) (os : List (Option ValType)) (free : Bool) (m n : ℕ) → m ≡ n → checks c ls k outs os free m ≡ checks c ls k outs os free n
+at_number : (c : Around) (ls : List (Option ValType)) (k : Code) (outs : List ValType) (os : List (Option ValType)) (free : Bool) (m n : ℕ) → m ≡ n
+    → checks c ls k outs os free m ≡ checks c ls k outs os free n
 at_number c ls k outs os free m n e = ap (checks c ls k outs os free) e
 
 module _ (c : Around) (ls : List (Option ValType)) (outs : List ValType) (os : List (Option ValType)) (free : Bool) (k : ℕ) (x : Instr) (rest : Code) where
-  nested : (s : Shape) (l r : Option ValType) (xs : List Instr) → in_front x rest ≡ nest s r (code xs) rest → label s r ≡ l → checks c ls (in_front x rest) outs os free k ≡ both (checks c (l ∷ ls) (code xs) (listed r) [] false (k + 1)) (checks c ls rest outs (knows (listed r) ++ os) free (k + 1 + size (code xs) + 1))
+  nested : (s : Shape) (l r : Option ValType) (xs : List Instr) → in_front x rest ≡ nest s r (code xs) rest → label s r ≡ l
+      → checks c ls (in_front x rest) outs os free k ≡ both (checks c (l ∷ ls) (code xs) (listed r) [] false (k + 1))
+      (checks c ls rest outs (knows (listed r) ++ os) free (k + 1 + size (code xs) + 1))
   unfolding checks
   nested s l r xs e el =
       ap (λ z. checks c ls z outs os free k) e
       ∙ ap (λ z. both (checks c (z ∷ ls) (code xs) (listed r) [] false (suc k)) (checks c ls rest outs (knows (listed r) ++ os) free (suc k + (size (code xs) + 1)))) el
       ∙ ap (λ z. both z (checks c ls rest outs (knows (listed r) ++ os) free (suc k + (size (code xs) + 1)))) (at_number c (l ∷ ls) (code xs) (listed r) [] false (suc k) (k + 1) (omega arith))
-      ∙ ap (both (checks c (l ∷ ls) (code xs) (listed r) [] false (k + 1))) (at_number c ls rest outs (knows (listed r) ++ os) free (suc k + (size (code xs) + 1)) (k + 1 + size (code xs) + 1) (omega arith))
+      ∙ ap (both (checks c (l ∷ ls) (code xs) (listed r) [] false (k + 1))) (at_number c ls rest outs (knows (listed r) ++ os) free (suc k + (size (code xs) + 1))
+      (k + 1 + size (code xs) + 1) (omega arith))
 
-  pub block_arm : (r : Option ValType) (v : Vec Instr Global) (xs : List Instr) → x ≡ Block r v → xs ≡ v.items → checks c ls (in_front x rest) outs os free k ≡ both (checks c (r ∷ ls) (code xs) (listed r) [] false (k + 1)) (checks c ls rest outs (knows (listed r) ++ os) free (k + 1 + size (code xs) + 1))
+  pub block_arm : (r : Option ValType) (v : Vec Instr Global) (xs : List Instr) → x ≡ Block r v → xs ≡ v.items
+      → checks c ls (in_front x rest) outs os free k ≡ both (checks c (r ∷ ls) (code xs) (listed r) [] false (k + 1))
+      (checks c ls rest outs (knows (listed r) ++ os) free (k + 1 + size (code xs) + 1))
   block_arm r v xs e f = nested a_block r r xs (ap (λ y. in_front y rest) e ∙ in_block r v rest ∙ ap (λ y. nest a_block r (code y) rest) (sym f)) refl
 
-  pub loop_arm : (r : Option ValType) (v : Vec Instr Global) (xs : List Instr) → x ≡ Loop r v → xs ≡ v.items → checks c ls (in_front x rest) outs os free k ≡ both (checks c (None ∷ ls) (code xs) (listed r) [] false (k + 1)) (checks c ls rest outs (knows (listed r) ++ os) free (k + 1 + size (code xs) + 1))
+  pub loop_arm : (r : Option ValType) (v : Vec Instr Global) (xs : List Instr) → x ≡ Loop r v → xs ≡ v.items
+      → checks c ls (in_front x rest) outs os free k ≡ both (checks c (None ∷ ls) (code xs) (listed r) [] false (k + 1))
+      (checks c ls rest outs (knows (listed r) ++ os) free (k + 1 + size (code xs) + 1))
   loop_arm r v xs e f = nested a_loop None r xs (ap (λ y. in_front y rest) e ∙ in_loop r v rest ∙ ap (λ y. nest a_loop r (code y) rest) (sym f)) refl
 
   branched : (r : Option ValType) (v w : Vec Instr Global) (xs ys : List Instr) → x ≡ If r v w → xs ≡ v.items → ys ≡ w.items → in_front x rest ≡ branch r (code xs) (code ys) rest
@@ -60,19 +70,27 @@ module _ (c : Around) (ls : List (Option ValType)) (outs : List ValType) (os : L
   unfolding checks
   if_fault r v w e p = ap (λ z. checks c ls z outs os free k) (branched r v w v.items w.items e refl refl) ∙ rw p refl
 
-  pub if_arm : (r : Option ValType) (v w : Vec Instr Global) (xs ys : List Instr) (os' : List (Option ValType)) → x ≡ If r v w → xs ≡ v.items → ys ≡ w.items → pop1 I32 os free ≡ Some os' → checks c ls (in_front x rest) outs os free k ≡ both (checks c (r ∷ ls) (code xs) (listed r) [] false (k + 1)) (both (checks c (r ∷ ls) (code ys) (listed r) [] false (k + 1 + size (code xs) + mid (code ys))) (checks c ls rest outs (knows (listed r) ++ os') free (k + 1 + size (code xs) + mid (code ys) + size (code ys) + 1)))
+  pub if_arm : (r : Option ValType) (v w : Vec Instr Global) (xs ys : List Instr) (os' : List (Option ValType)) → x ≡ If r v w → xs ≡ v.items → ys ≡ w.items → pop1 I32 os free ≡ Some os'
+      → checks c ls (in_front x rest) outs os free k ≡ both (checks c (r ∷ ls) (code xs) (listed r) [] false (k + 1))
+      (both (checks c (r ∷ ls) (code ys) (listed r) [] false (k + 1 + size (code xs) + mid (code ys)))
+      (checks c ls rest outs (knows (listed r) ++ os') free (k + 1 + size (code xs) + mid (code ys) + size (code ys) + 1)))
   unfolding checks
   if_arm r v w xs ys os' e f g p =
       let a : suc k ≡ k + 1 = omega arith in
       let b : suc k + (size (code xs) + mid (code ys)) ≡ k + 1 + size (code xs) + mid (code ys) = omega arith in
       let d : suc k + (size (code xs) + mid (code ys) + size (code ys) + 1) ≡ k + 1 + size (code xs) + mid (code ys) + size (code ys) + 1 = omega arith in
       ap (λ z. checks c ls z outs os free k) (branched r v w xs ys e f g) ∙ rw p
-      (ap (λ n. both (checks c (r ∷ ls) (code xs) (listed r) [] false n) (both (checks c (r ∷ ls) (code ys) (listed r) [] false (suc k + (size (code xs) + mid (code ys)))) (checks c ls rest outs (knows (listed r) ++ os') free (suc k + (size (code xs) + mid (code ys) + size (code ys) + 1))))) a
-      ∙ ap (λ n. both (checks c (r ∷ ls) (code xs) (listed r) [] false (k + 1)) (both (checks c (r ∷ ls) (code ys) (listed r) [] false n) (checks c ls rest outs (knows (listed r) ++ os') free (suc k + (size (code xs) + mid (code ys) + size (code ys) + 1))))) b
-      ∙ ap (λ n. both (checks c (r ∷ ls) (code xs) (listed r) [] false (k + 1)) (both (checks c (r ∷ ls) (code ys) (listed r) [] false (k + 1 + size (code xs) + mid (code ys))) (checks c ls rest outs (knows (listed r) ++ os') free n))) d)
+      (ap (λ n. both (checks c (r ∷ ls) (code xs) (listed r) [] false n) (both (checks c (r ∷ ls) (code ys) (listed r) [] false (suc k + (size (code xs) + mid (code ys))))
+      (checks c ls rest outs (knows (listed r) ++ os') free (suc k + (size (code xs) + mid (code ys) + size (code ys) + 1))))) a
+      ∙ ap (λ n. both (checks c (r ∷ ls) (code xs) (listed r) [] false (k + 1)) (both (checks c (r ∷ ls) (code ys) (listed r) [] false n)
+      (checks c ls rest outs (knows (listed r) ++ os') free (suc k + (size (code xs) + mid (code ys) + size (code ys) + 1))))) b
+      ∙ ap (λ n. both (checks c (r ∷ ls) (code xs) (listed r) [] false (k + 1)) (both (checks c (r ∷ ls) (code ys) (listed r) [] false (k + 1 + size (code xs) + mid (code ys)))
+      (checks c ls rest outs (knows (listed r) ++ os') free n))) d)
 
-  module _ (not_block : (r : Option ValType) (v : Vec Instr Global) → x ≡ Block r v → ⊥) (not_loop : (r : Option ValType) (v : Vec Instr Global) → x ≡ Loop r v → ⊥) (not_if : (r : Option ValType) (v w : Vec Instr Global) → x ≡ If r v w → ⊥) where
-    pub plain_is : (s : D.Asks) → Says (plain_of x) (λ p. sig_of s ≡ sig c ls p) → checks c ls (in_front x rest) outs os free k ≡ onward (next (sig_of s) os free) k (λ os' free'. checks c ls rest outs os' free' (suc k))
+  module _ (not_block : (r : Option ValType) (v : Vec Instr Global) → x ≡ Block r v → ⊥) (not_loop : (r : Option ValType) (v : Vec Instr Global) → x ≡ Loop r v → ⊥)
+      (not_if : (r : Option ValType) (v w : Vec Instr Global) → x ≡ If r v w → ⊥) where
+    pub plain_is : (s : D.Asks) → Says (plain_of x) (λ p. sig_of s ≡ sig c ls p) → checks c ls (in_front x rest) outs os free k
+        ≡ onward (next (sig_of s) os free) k (λ os' free'. checks c ls rest outs os' free' (suc k))
     unfolding checks
     plain_is s h = elim (kind x) [
       | is_block r v e ↦ absurd (not_block r v e)
@@ -83,7 +101,8 @@ module _ (c : Around) (ls : List (Option ValType)) (outs : List ValType) (os : L
           ap (λ z. checks c ls z outs os free k) (f rest) ∙ ap (λ z. onward (next z os free) k (λ os' free'. checks c ls rest outs os' free' (suc k))) (sym g))
     ]
 
-pub plain_size : (x : Instr) → ((r : Option ValType) (v : Vec Instr Global) → x ≡ Block r v → ⊥) → ((r : Option ValType) (v : Vec Instr Global) → x ≡ Loop r v → ⊥) → ((r : Option ValType) (v w : Vec Instr Global) → x ≡ If r v w → ⊥) → size (in_front x done) ≡ 1
+pub plain_size : (x : Instr) → ((r : Option ValType) (v : Vec Instr Global) → x ≡ Block r v → ⊥) → ((r : Option ValType) (v : Vec Instr Global) → x ≡ Loop r v → ⊥)
+    → ((r : Option ValType) (v w : Vec Instr Global) → x ≡ If r v w → ⊥) → size (in_front x done) ≡ 1
 plain_size x not_block not_loop not_if = elim (kind x) [
   | is_block r v e ↦ absurd (not_block r v e)
   | is_loop r v e ↦ absurd (not_loop r v e)
@@ -116,17 +135,20 @@ passed_then y v u u' w h e f = h ∙ ap (λ z. both z (both u w)) e ∙ ap (λ z
 pub pushed_on : (r : Option ValType) (a b d : List (Option ValType)) → d ≡ knows (listed r) ++ b → b ≡ a → knows (listed r) ++ a ≡ d
 pushed_on r a b d e f = ap (λ z. knows (listed r) ++ z) (sym f) ∙ sym e
 
-pub same_checks : (c : Around) (ls : List (Option ValType)) (k : Code) (outs : List ValType) (os os' : List (Option ValType)) (free free' : Bool) (m n : ℕ) → os ≡ os' → free ≡ free' → m ≡ n → checks c ls k outs os free m ≡ checks c ls k outs os' free' n
+pub same_checks : (c : Around) (ls : List (Option ValType)) (k : Code) (outs : List ValType) (os os' : List (Option ValType)) (free free' : Bool) (m n : ℕ) → os ≡ os' → free ≡ free' → m ≡ n
+    → checks c ls k outs os free m ≡ checks c ls k outs os' free' n
 same_checks c ls k outs os os' free free' m n e f g =
     ap (λ z. checks c ls k outs z free m) e ∙ ap (λ z. checks c ls k outs os' z m) f ∙ ap (checks c ls k outs os' free') g
 
-pub moved_checks : (c : Around) (ls ls' : List (Option ValType)) (r : Option ValType) (k : Code) (outs : List ValType) (m n : ℕ) → ls ≡ ls' → m ≡ n → checks c (r ∷ ls) k outs [] false m ≡ checks c (r ∷ ls') k outs [] false n
+pub moved_checks : (c : Around) (ls ls' : List (Option ValType)) (r : Option ValType) (k : Code) (outs : List ValType) (m n : ℕ) → ls ≡ ls' → m ≡ n
+    → checks c (r ∷ ls) k outs [] false m ≡ checks c (r ∷ ls') k outs [] false n
 moved_checks c ls ls' r k outs m n e f = ap (λ z. checks c (r ∷ z) k outs [] false m) e ∙ ap (checks c (r ∷ ls') k outs [] false) f
 
 pub labels_are : (old new now : List (Option ValType)) (l : Option ValType) → new ≡ old ++ l ∷ [] → now ≡ new → reverse now ≡ l ∷ reverse old
 labels_are old new now l e f = ap reverse (f ∙ e) ∙ reverse-append old (l ∷ [])
 
-module _ (c : Around) (ls ls' : List (Option ValType)) (body : List Instr) (i : ℕ) (outs : List ValType) (os : List (Option ValType)) (free : Bool) (k k0 : ℕ) (el : ls' ≡ ls) (inv : checks c ls' (code (drop i body)) outs os free k ≡ checks c ls' (code body) outs [] false k0) where
+module _ (c : Around) (ls ls' : List (Option ValType)) (body : List Instr) (i : ℕ) (outs : List ValType) (os : List (Option ValType)) (free : Bool) (k k0 : ℕ) (el : ls' ≡ ls)
+    (inv : checks c ls' (code (drop i body)) outs os free k ≡ checks c ls' (code body) outs [] false k0) where
   pub body_on : (x : Instr) → i < length body → x ≡ get_or body i x → checks c ls (code body) outs [] false k0 ≡ checks c ls' (in_front x (code (drop (i + 1) body))) outs os free k
   body_on x h e = ap (λ z. checks c z (code body) outs [] false k0) (sym el) ∙ sym inv ∙ ap (λ z. checks c ls' z outs os free k) (code_step body i x h e)
 
@@ -140,7 +162,8 @@ pub popped_some : (b : Bool) (x : Option (List (Option ValType))) (os : List (Op
 popped_some b x os e f = e ∙ ap (λ z. popped z os) f
 
 -- the verdict on a body, checked under no other labels
-pub whole : (c : Around) (body : Code) (ls : List (Option ValType)) (r : Option ValType) (v : Verdict) → ls ≡ [] → r ≡ c.result → checks c (r ∷ reverse ls) body (listed r) [] false 0 ≡ v → body_verdict c body ≡ v
+pub whole : (c : Around) (body : Code) (ls : List (Option ValType)) (r : Option ValType) (v : Verdict) → ls ≡ [] → r ≡ c.result → checks c (r ∷ reverse ls) body (listed r) [] false 0 ≡ v
+    → body_verdict c body ≡ v
 whole c body ls r v e f h =
     subst (λ (z : Option ValType). checks c (z ∷ []) body (listed z) [] false 0 ≡ v) f
     (subst (λ (z : List (Option ValType)). checks c (r ∷ reverse z) body (listed r) [] false 0 ≡ v) e h)

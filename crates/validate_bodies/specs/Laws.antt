@@ -6,6 +6,7 @@ use Rattle.wa_types.specs.Validity.{Valid}
 use Rattle.wa_types.specs.FirstFault.{BodyFault, FirstFault}
 use Rattle.validate_bodies.specs.Running.{fine, fault, body_verdict, Answer, valid, invalid, module_answer}
 
+-- The verdict on a body is the typing relation, or the first fault.
 abbrev pub VerdictIsTyping : Type 0
 VerdictIsTyping =
     (c : Around) → (body : Code) → (body_verdict c body ≡ fine → Typed c body) × ((rule at : ℕ) → body_verdict c body ≡ fault rule at → BodyFault c body rule at)

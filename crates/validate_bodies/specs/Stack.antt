@@ -8,9 +8,11 @@ use Rattle.validate_bodies.specs.Running.{Next, goes, stops}
 unfoldable pub known_at : ℕ → List (Option ValType) → List (Option ValType)
 known_at base xs = reverse (drop base xs)
 
+-- the same by a stack of operands
 abbrev pub known : Operands → List (Option ValType)
 known o = known_at o.base o.types.items
 
+-- the stack reaches to the innermost construct
 abbrev pub Deep : Operands → Type 0
 Deep o = o.base ≤ length o.types.items
 
@@ -24,6 +26,7 @@ pub record Level (a b : Operands) : Type 0 where
 abbrev pub popped : Bool → List (Option ValType) → Option (List (Option ValType))
 popped b os = if b then Some os else None
 
+-- what comes of an instruction whose operand was there, else rule 8 fails
 abbrev pub passed : Bool → List (Option ValType) → Bool → Next
 passed b os free = if b then goes os free else stops 8
 

@@ -1,3 +1,5 @@
+//! A body, checked from front to back: typed, or its first fault (standard, section 3.3).
+
 ghost use Rattle.std.specs.Prelude.{◌≡◌, [], ◌∷◌, false, ◌+◌, ◌<◌, ◌^◌, reverse, List, IfOk};
 ghost use Rattle.wa_types.specs.declared.values.ValType.{ValType as ValTypeValue};
 ghost use Rattle.wa_types.specs.FirstFault.{size, mid};
@@ -110,7 +112,8 @@ fn check_instr(
     ensures labels { IfOk result (λ _. labels.new.items ≡ labels.old.items) }
     ensures level { IfOk result (λ _. Level o.old o.new) }
     ensures place { IfOk result (λ _. at.new ≡ at.old + size (in_front instr.now done)) }
-    ensures judged { (rest : Code) (outs : List ValType) → Judged result at.new (checks context.now (reverse labels.old.items) (in_front instr.now rest) outs (known o.old) o.old.free at.old) (checks context.now (reverse labels.old.items) rest outs (known o.new) o.new.free at.new) }
+    ensures judged { (rest : Code) (outs : List ValType) → Judged result at.new (checks context.now (reverse labels.old.items) (in_front instr.now rest) outs
+        (known o.old) o.old.free at.old) (checks context.now (reverse labels.old.items) rest outs (known o.new) o.new.free at.new) }
 {
     match instr {
         Instr::Block { result, body } => {

@@ -1,7 +1,7 @@
 //! Whether a body has its type, and if not, its first fault (standard, section 3.3).
 //!
 //! A body is checked from front to back over a stack of types, some of them unknown (`stack`, `bodies`). What that computes
-//! stands in `specs/Running.antt`, and `proofs/Right.antt` shows that it is the typing relation, or the first fault.
+//! stands in `specs/Running.antt`, and `proofs/BodyVerdicts.antt` shows that it is the typing relation, or the first fault.
 #![tactic(auto)]
 
 mod bodies;

@@ -1,3 +1,5 @@
+//! The stack of operand types of a check, some of them unknown, and what instructions do to it (standard, section 3.3).
+
 ghost use Rattle.std.specs.Prelude.{◌≡◌, [], ◌∷◌, ◌++◌, length, reverse, true, IfOk, IfNone, MatchOption};
 ghost use Rattle.wa_types.specs.Typing.{listed};
 ghost use Rattle.validate_bodies.specs.Running.{pop1, pops, knows, ended, next, dropped, two};

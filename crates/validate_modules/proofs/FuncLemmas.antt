@@ -1,6 +1,7 @@
 -- Functions checked one by one.
 use Rattle.std.specs.Option.{MatchOption}
-use Rattle.std.proofs.Common.{arith, zero, ◌≡◌, ℕ, suc, ◌+◌, ◌<◌, ◌≤◌, ◌^◌, List, [], ◌∷◌, map, length, get_or, drop, slice_get, Option, Some, None, refl, ap, sym, ◌∙◌, subst, Result, Ok, Err, IsErrAnd, add-one, drop-cons, cond, count_by}
+use Rattle.std.proofs.Common.{arith, zero, ◌≡◌, ℕ, suc, ◌+◌, ◌<◌, ◌≤◌, ◌^◌, List, [], ◌∷◌, map, length, get_or, drop, slice_get, Option, Some, None, refl, ap, sym, ◌∙◌, subst, Result, Ok}
+use Rattle.std.proofs.Common.{Err, IsErrAnd, add-one, drop-cons, cond, count_by}
 use Rattle.std.specs.List.{filter_map}
 use Rattle.std.proofs.lemmas.List.{length-map, get_or-map, drop_all}
 use Rattle.std.proofs.lemmas.List.Recursion.{is_count_by}
@@ -24,7 +25,8 @@ use Rattle.validate_bodies.specs.Laws.{Says}
 use Rattle.validate_modules.specs.Validated.{Tells, Answers, Validates}
 use Rattle.validate_bodies.proofs.Decided.{module_decided}
 
-count_step : (x : Import) (ys : List Import) (k : ImportKind) → x.kind ≡ k → length (filter_map (λ (i : Import). imported_func i.kind) (x ∷ ys)) ≡ cond (is_func k) (1 + length (filter_map (λ (i : Import). imported_func i.kind) ys)) (length (filter_map (λ (i : Import). imported_func i.kind) ys))
+count_step : (x : Import) (ys : List Import) (k : ImportKind) → x.kind ≡ k → length (filter_map (λ (i : Import). imported_func i.kind) (x ∷ ys))
+    ≡ cond (is_func k) (1 + length (filter_map (λ (i : Import). imported_func i.kind) ys)) (length (filter_map (λ (i : Import). imported_func i.kind) ys))
 count_step x ys (a_func_import sort) e = rw e (omega arith)
 count_step x ys (a_table_import l) e = rw e refl
 count_step x ys (a_memory_import l) e = rw e refl
@@ -66,7 +68,8 @@ func_at fs i f lt e =
     slice_get-get_or (map func_of fs) i (func_of f) (omega (arith, length-map fs func_of)) ∙ ap Some (get_or-map func_of fs i f (func_of f) lt ∙ ap func_of (sym e))
 
 module _ (m : Module) (x : ℕ) (fs : List FuncValue) (i : ℕ) (f : FuncValue) (lt : i < length fs) (e : f ≡ get_or fs i f) where
-  pub funcs_step : (v : Verdict) → body_verdict (around m (func_of f)) (code f.body.items) ≡ v → funcs_answer m x (map func_of (drop i fs)) ≡ func_answer x v (funcs_answer m (suc x) (map func_of (drop (i + 1) fs)))
+  pub funcs_step : (v : Verdict) → body_verdict (around m (func_of f)) (code f.body.items) ≡ v
+      → funcs_answer m x (map func_of (drop i fs)) ≡ func_answer x v (funcs_answer m (suc x) (map func_of (drop (i + 1) fs)))
   funcs_step v is =
       rw (add-one, drop-cons fs i f) (ap (λ (g : FuncValue). func_answer x (body_verdict (around m (func_of g)) (code g.body.items)) (funcs_answer m (suc x) (map func_of (drop (suc i) fs)))) (sym e)
       ∙ ap (λ z. func_answer x z (funcs_answer m (suc x) (map func_of (drop (suc i) fs)))) is)
@@ -78,7 +81,8 @@ blamed : (e : ValidateFault) (x : ℕ) (v : Verdict) (a rest : Answer) → Tells
 blamed Memory x v a rest h s = tt
 blamed (Invalid func rule at) x v a rest h s = s ∙ ap (λ z. func_answer x z rest) h.1 ∙ ap (λ z. invalid z rule at) (sym h.0)
 
-pub told_on : (res : Result (Unit {0}) ValidateFault) (e : ValidateFault) (x : ℕ) (v : Verdict) (a rest : Answer) → IsErrAnd res (λ f. f ≡ e) → Tells {A = Unit {0}} (Err e) x v → a ≡ func_answer x v rest → Answers res a
+pub told_on : (res : Result (Unit {0}) ValidateFault) (e : ValidateFault) (x : ℕ) (v : Verdict) (a rest : Answer) → IsErrAnd res (λ f. f ≡ e) → Tells {A = Unit {0}} (Err e) x v
+    → a ≡ func_answer x v rest → Answers res a
 told_on (Ok u) e x v a rest i h s = absurd i
 told_on (Err f) e x v a rest i h s = subst (λ (g : ValidateFault). Answers {A = Unit {0}} (Err g) a) (sym i) (blamed e x v a rest h s)
 
@@ -87,7 +91,8 @@ some_at [] i h = absurd (omega arith)
 some_at (f ∷ fs) zero h = (f, refl)
 some_at (f ∷ fs) (suc i) h = some_at fs i (omega arith)
 
-pub verdict_of : (m : Module) (fs : List Func) (i : ℕ) (f h : Func) (c : Around) (k : Code) (v : Verdict) → slice_get fs i ≡ Some h → slice_get fs i ≡ Some f → c ≡ around m h → k ≡ h.body → body_verdict c k ≡ v → body_verdict (around m f) f.body ≡ v
+pub verdict_of : (m : Module) (fs : List Func) (i : ℕ) (f h : Func) (c : Around) (k : Code) (v : Verdict) → slice_get fs i ≡ Some h → slice_get fs i ≡ Some f → c ≡ around m h → k ≡ h.body
+    → body_verdict c k ≡ v → body_verdict (around m f) f.body ≡ v
 verdict_of m fs i f h c k v e g is body said =
     let same : h ≡ f = (let z : Some h ≡ Some f = sym e ∙ g in cc) in
     subst (λ (q : Func). body_verdict (around m q) q.body ≡ v) same (sym (ap (λ z. body_verdict z k) is ∙ ap (body_verdict (around m h)) body) ∙ said)
@@ -100,11 +105,13 @@ decided_by m a e f =
 pub is_valid : (m : Module) → broken_outside m ≡ [] → funcs_answer m (func_imports m) m.funcs ≡ valid → Valid m
 is_valid m e f = decided_by m valid e f
 
-fault_said : (m : ModuleValue) (e : ValidateFault) → broken_outside (module_of m) ≡ [] → Answers {A = Unit {0}} (Err e) (funcs_answer (module_of m) (func_imports (module_of m)) (module_of m).funcs) → Validates m (Err e)
+fault_said : (m : ModuleValue) (e : ValidateFault) → broken_outside (module_of m) ≡ []
+    → Answers {A = Unit {0}} (Err e) (funcs_answer (module_of m) (func_imports (module_of m)) (module_of m).funcs) → Validates m (Err e)
 fault_said m Memory b h = tt
 fault_said m (Invalid func rule at) b h = decided_by (module_of m) (invalid func rule at) b h
 
-pub fault_of : (m : ModuleValue) (res : Result ModuleValue ValidateFault) (e : ValidateFault) → IsErrAnd res (λ f. f ≡ e) → broken_outside (module_of m) ≡ [] → Answers {A = Unit {0}} (Err e) (funcs_answer (module_of m) (func_imports (module_of m)) (module_of m).funcs) → Validates m res
+pub fault_of : (m : ModuleValue) (res : Result ModuleValue ValidateFault) (e : ValidateFault) → IsErrAnd res (λ f. f ≡ e) → broken_outside (module_of m) ≡ []
+    → Answers {A = Unit {0}} (Err e) (funcs_answer (module_of m) (func_imports (module_of m)) (module_of m).funcs) → Validates m res
 fault_of m (Ok u) e i b h = absurd i
 fault_of m (Err f) e i b h = subst (λ (g : ValidateFault). Validates m (Err g)) (sym i) (fault_said m e b h)
 

@@ -14,6 +14,7 @@ Tells (Ok u) x v = v ≡ fine
 Tells (Err Memory) x v = Unit {0}
 Tells (Err (Invalid func rule at)) x v = (func ≡ Some x) × (v ≡ fault rule at)
 
+-- the same of a module
 abbrev pub Answers : {A : Type 0} → Result A ValidateFault → Answer → Type 0
 Answers (Ok u) a = a ≡ valid
 Answers (Err Memory) a = Unit {0}

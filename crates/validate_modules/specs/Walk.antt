@@ -35,13 +35,15 @@ Inside v (nest s r body rest) w = w ≡ record { around = v.around; labels = lab
 Inside v (branch r a b rest) w = w ≡ record { around = v.around; labels = r ∷ v.labels; own = []; under = drop 1 v.own ++ v.under }
 Inside v _ w = Unit {0}
 
+-- an instruction has its operands there
 abbrev pub CanTake : Sig → List ValType → Type 0
 CanTake s ins = (outs : List ValType) × Takes s ins outs
 
--- of types, the deepest first, those from `base` on and those before, the topmost first
+-- of types, the deepest first, those from `base` on, the topmost first
 unfoldable pub own_at : ℕ → List ValType → List ValType
 own_at base xs = reverse (drop base xs)
 
+-- those before, the topmost first
 unfoldable pub under_at : ℕ → List ValType → List ValType
 under_at base xs = reverse (take base xs)
 

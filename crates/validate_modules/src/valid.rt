@@ -1,3 +1,5 @@
+//! `Valid` modules, and the first fault of a module that isn't (standard, section 3.4).
+
 ghost use Rattle.std.specs.Prelude.{◌≡◌, ◌+◌, ◌<◌, true, Some, length, slice_get};
 ghost use Rattle.wa_types.specs.FirstFault.{FirstFault};
 ghost use Rattle.wa_types.specs.Modules.{around, defined_at, func_imports};
@@ -156,7 +158,8 @@ fn check_func(
     requires spaces { SpacesOf (module_of «module».now) spaces.now }
     requires sorts { types_there (module_of «module».now) ≡ true }
     requires index { index < length «module».now.funcs.items }
-    ensures { (f : PlainFunc) → slice_get (module_of «module».now).funcs index ≡ Some f → Tells result (func_imports (module_of «module».now) + index) (body_verdict (around (module_of «module».now) f) f.body) }
+    ensures { (f : PlainFunc) → slice_get (module_of «module».now).funcs index ≡ Some f
+        → Tells result (func_imports (module_of «module».now) + index) (body_verdict (around (module_of «module».now) f) f.body) }
 {
     let context = Context::of(module, spaces, index);
     match check_whole(&context, labels, operands, &module.funcs[index].body) {

@@ -90,7 +90,8 @@ module _ (v : Bor (List ℕ)) (keys : List (Bor (List ℕ))) (es : List Export) 
   pub again : fresh ≡ false → all_differ (names_of (take i es)) ≡ true → false ≡ all_differ (names_of es)
   again f d =
       let less : all_differ (names_of (take (i + 1) es)) ≡ false = differ_is ∙ rw (d, f) refl in
-      let whole : names_of (take (i + 1) es) ++ names_of (drop (i + 1) es) ≡ names_of es = sym (map-append (λ (x : Export). x.name) (take (i + 1) es) (drop (i + 1) es)) ∙ ap names_of (take-append-drop (i + 1) es) in
+      let whole : names_of (take (i + 1) es) ++ names_of (drop (i + 1) es) ≡ names_of es = sym (map-append (λ (x : Export). x.name) (take (i + 1) es) (drop (i + 1) es))
+      ∙ ap names_of (take-append-drop (i + 1) es) in
       sym (ap all_differ (sym whole) ∙ differ_less (names_of (take (i + 1) es)) (names_of (drop (i + 1) es)) less)
 
   -- a new name
@@ -104,6 +105,7 @@ module _ (v : Bor (List ℕ)) (keys : List (Bor (List ℕ))) (es : List Export) 
       → (name : List ℕ) → list_any (same_name name) (behind news) ≡ list_any (same_name name) (names_of (take (i + 1) es))
   kept news n name =
       ap (λ ks. list_any (same_name name) (behind ks)) n ∙ sym (any_behind name (insert_key by_name keys v)) ∙ one_more name v keys
-      ∙ ap (λ b. b || pointwise nat_eq name v.now) (any_behind name keys ∙ seen name) ∙ ap (λ b. list_any (same_name name) (names_of (take i es)) || b) (sym (same-pointwise name v.now)) ∙ ap (λ x. list_any (same_name name) (names_of (take i es)) || same_name name x) here
+      ∙ ap (λ b. b || pointwise nat_eq name v.now) (any_behind name keys ∙ seen name) ∙ ap (λ b. list_any (same_name name) (names_of (take i es)) || b) (sym (same-pointwise name v.now))
+      ∙ ap (λ x. list_any (same_name name) (names_of (take i es)) || same_name name x) here
       ∙ ap (λ b. list_any (same_name name) (names_of (take i es)) || b) (sym (any_one name e.name))
       ∙ sym (list_any-append (same_name name) (names_of (take i es)) (e.name ∷ [])) ∙ ap (list_any (same_name name)) (sym longer)

@@ -61,7 +61,8 @@ module _ (n : ℕ) (gs : List GlobalValue) (es : List ElemValue) (ss : List Segm
   elems = all_flat (λ x. nat_lt x n) got_global (map (λ (e : Elem). e.offset) (map elem_of es)) ∙ all_map_map (λ (k : Code). all_below n (got_global k)) (λ (e : Elem). e.offset) elem_of es
 
   segments : all_below n (flat_map got_global (map (λ (s : Segment). s.offset) (map segment_of ss))) ≡ in_segments
-  segments = all_flat (λ x. nat_lt x n) got_global (map (λ (s : Segment). s.offset) (map segment_of ss)) ∙ all_map_map (λ (k : Code). all_below n (got_global k)) (λ (s : Segment). s.offset) segment_of ss
+  segments = all_flat (λ x. nat_lt x n) got_global (map (λ (s : Segment). s.offset) (map segment_of ss))
+      ∙ all_map_map (λ (k : Code). all_below n (got_global k)) (λ (s : Segment). s.offset) segment_of ss
 
   abbrev of_globals : List Code
   of_globals = map (λ (g : GlobalDef). g.init) (map global_of gs)

@@ -10,9 +10,11 @@ use Rattle.wa_types.specs.Validity.{same_space, all_limits_fit, one_each, all_co
 abbrev pub index_in : Space → Export → Option ℕ
 index_in space e = if same_space e.space space then Some e.index else None
 
+-- the indices of one space that are exported
 abbrev pub exported_in : Space → List Export → List ℕ
 exported_in space es = filter_map (λ (e : Export). index_in space e) es
 
+-- an item passes a test, where it is told
 abbrev pub option_all : {X : Type 0} → (X → Bool) → Option X → Bool
 option_all p None = true
 option_all p (Some x) = p x

@@ -167,7 +167,9 @@ pub(crate) fn globals_below(
     elems: &[Elem],
     segments: &[Segment],
 ) -> bool
-    ensures { result ≡ all_below limit (exported_in Global exports.now ++ flat_map got_global (map (λ (g : PlainGlobal). g.init) (map global_of globals.now) ++ map (λ (e : PlainElem). e.offset) (map elem_of elems.now) ++ map (λ (s : PlainSegment). s.offset) (map segment_of segments.now))) }
+    ensures { result ≡ all_below limit (exported_in Global exports.now ++ flat_map got_global
+        (map (λ (g : PlainGlobal). g.init) (map global_of globals.now) ++ map (λ (e : PlainElem). e.offset) (map elem_of elems.now)
+        ++ map (λ (s : PlainSegment). s.offset) (map segment_of segments.now))) }
 {
     if !exported_below(limit, Space::Global, exports) {
         return false;

@@ -1,3 +1,5 @@
+//! Rule 14 outside the bodies: names of exports.
+
 ghost use Rattle.std.specs.Prelude.{◌≡◌, map, IfOk};
 ghost use Rattle.wa_types.specs.declared.syntax.Export.{Export};
 ghost use Rattle.wa_types.specs.Validity.{all_differ};

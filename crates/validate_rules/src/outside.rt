@@ -88,7 +88,8 @@ fn memories_fit(imports: &[Import], memories: &[Limits]) -> bool
 /// Rule 11: tables are within 2^32 entries, memories within 65,536 pages, and no maximum is below its minimum
 /// (standard, sections 3.2.3 and 3.2.4).
 pub(crate) fn all_limits_fit(imports: &[Import], tables: &[Limits], memories: &[Limits]) -> bool
-    ensures { result ≡ (list_all (limits_fit (2 ^ 32)) (filter_map (λ (i : ImportValue). imported_table i.kind) imports.now ++ tables.now) && list_all (limits_fit 65536) (filter_map (λ (i : ImportValue). imported_memory i.kind) imports.now ++ memories.now)) }
+    ensures { result ≡ (list_all (limits_fit (2 ^ 32)) (filter_map (λ (i : ImportValue). imported_table i.kind) imports.now ++ tables.now)
+        && list_all (limits_fit 65536) (filter_map (λ (i : ImportValue). imported_memory i.kind) imports.now ++ memories.now)) }
 {
     if !tables_fit(imports, tables) {
         return false;
@@ -168,7 +169,9 @@ pub(crate) fn all_constant(
     segments: &[Segment],
 ) -> bool
     requires { imported ≤ length all.now }
-    ensures { result ≡ (list_all (λ (g : PlainGlobal). is_constant (map global_type_of (take imported all.now)) g.ty g.init) (map global_of globals.now) && list_all (λ (e : PlainElem). is_constant (map global_type_of all.now) I32 e.offset) (map elem_of elems.now) && list_all (λ (s : PlainSegment). is_constant (map global_type_of all.now) I32 s.offset) (map segment_of segments.now)) }
+    ensures { result ≡ (list_all (λ (g : PlainGlobal). is_constant (map global_type_of (take imported all.now)) g.ty g.init) (map global_of globals.now)
+        && list_all (λ (e : PlainElem). is_constant (map global_type_of all.now) I32 e.offset) (map elem_of elems.now)
+        && list_all (λ (s : PlainSegment). is_constant (map global_type_of all.now) I32 s.offset) (map segment_of segments.now)) }
 {
     if !inits_constant(&all[..imported], globals) {
         return false;

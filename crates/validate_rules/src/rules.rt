@@ -1,7 +1,8 @@
 //! The rules outside the bodies of a module, in rising number.
 
 ghost use Rattle.std.specs.Prelude.{◌≡◌, [], Some, MatchOption, IfOk, slice_get};
-ghost use Rattle.wa_types.specs.Validity.{types_there, funcs_there, tables_there, memories_there, globals_there, all_limits_fit, one_each, all_constant, names_differ, start_lawful, one_result, broken_outside};
+ghost use Rattle.wa_types.specs.Validity.{types_there, funcs_there, tables_there, memories_there, globals_there, all_limits_fit, one_each, all_constant, names_differ, start_lawful};
+ghost use Rattle.wa_types.specs.Validity.{one_result, broken_outside};
 ghost use Rattle.wa_types.specs.View.{module_of};
 ghost use Rattle.validate_rules.specs.Outside.{later};
 ghost use Rattle.validate_table.specs.Spaces.{SpacesOf};

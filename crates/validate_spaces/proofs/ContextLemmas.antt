@@ -1,5 +1,6 @@
 -- The types of functions and locals, found by index.
-use Rattle.std.proofs.Common.{arith, ◌≡◌, ℕ, zero, suc, ◌+◌, ◌-◌, ◌<◌, ◌≤◌, List, [], ◌∷◌, ◌++◌, All, length, take, drop, get_or, map, replicate, add-one, drop-cons, slice_get, Option, Some, None, refl, ap, sym, ◌∙◌, subst, true, nat_lt, ltb-true}
+use Rattle.std.proofs.Common.{arith, ◌≡◌, ℕ, zero, suc, ◌+◌, ◌-◌, ◌<◌, ◌≤◌, List, [], ◌∷◌, ◌++◌, All, length, take, drop, get_or, map, replicate, add-one, drop-cons, slice_get, Option, Some}
+use Rattle.std.proofs.Common.{None, refl, ap, sym, ◌∙◌, subst, true, nat_lt, ltb-true}
 use Rattle.std.proofs.lemmas.List.{length-replicate, take_all, drop_all}
 use Rattle.std.proofs.lemmas.List.Elements.{All-get_or}
 use Rattle.std.proofs.lemmas.List.Sums.{sum_by-cons}
@@ -86,7 +87,8 @@ past_runs (q ∷ rs) x h =
     get_on (replicate q.count q.ty) (declared_locals rs) x (x - q.count) at ∙ past_runs rs (x - q.count) (omega arith)
 
 -- the search has closed
-pub found_run : (rs : List Run) (low high x : ℕ) (d : Run) → low ≤ high → high ≤ low → low < length rs → total (take low rs) ≤ x → (high < length rs → x < total (take (suc high) rs)) → Some (get_or rs low d).ty ≡ slice_get (declared_locals rs) x
+pub found_run : (rs : List Run) (low high x : ℕ) (d : Run) → low ≤ high → high ≤ low → low < length rs → total (take low rs) ≤ x → (high < length rs → x < total (take (suc high) rs))
+    → Some (get_or rs low d).ty ≡ slice_get (declared_locals rs) x
 found_run rs low high x d le ge lt before behind =
     let same : high ≡ low = omega arith in
     let within : high < length rs = omega arith in
@@ -102,7 +104,8 @@ walk_in rs i x r d h e low =
     ∙ get_front (replicate r.count r.ty) (declared_locals (drop (i + 1) rs)) x (omega (arith, length-replicate r.count r.ty)) ∙ get_same r.ty r.count x low
 
 -- one behind it
-pub walk_on : (rs : List Run) (i x y : ℕ) (r d : Run) → i < length rs → r ≡ get_or rs i d → r.count ≤ x → y ≡ x - r.count → slice_get (declared_locals (drop i rs)) x ≡ slice_get (declared_locals (drop (i + 1) rs)) y
+pub walk_on : (rs : List Run) (i x y : ℕ) (r d : Run) → i < length rs → r ≡ get_or rs i d → r.count ≤ x → y ≡ x - r.count
+    → slice_get (declared_locals (drop i rs)) x ≡ slice_get (declared_locals (drop (i + 1) rs)) y
 walk_on rs i x y r d h e high f =
     ap (λ z. slice_get (declared_locals z) x) (next_run rs i r d h e)
     ∙ get_on (replicate r.count r.ty) (declared_locals (drop (i + 1) rs)) x y (omega (arith, length-replicate r.count r.ty))
@@ -140,10 +143,14 @@ sort_there m i f h lt e =
     let front = imported imported_func (module_of m) in
     let sorts = map (λ (g : Func). g.sort) (map func_of m.funcs.items) in
     let at : length front + i < length (front ++ sorts) = omega (arith, length-append front sorts, length-map (map func_of m.funcs.items) (λ (g : Func). g.sort), length-map m.funcs.items func_of) in
-    let is : get_or (front ++ sorts) (length front + i) f.sort ≡ f.sort = get_or-append-add front sorts i f.sort ∙ get_or-map (λ (g : Func). g.sort) (map func_of m.funcs.items) i (func_of f) f.sort (omega (arith, length-map m.funcs.items func_of)) ∙ ap (λ (g : Func). g.sort) (get_or-map func_of m.funcs.items i f (func_of f) lt ∙ ap func_of (sym e)) in
+    let is : get_or (front ++ sorts) (length front + i) f.sort ≡ f.sort = get_or-append-add front sorts i f.sort
+    ∙ get_or-map (λ (g : Func). g.sort) (map func_of m.funcs.items) i (func_of f) f.sort (omega (arith, length-map m.funcs.items func_of))
+    ∙ ap (λ (g : Func). g.sort) (get_or-map func_of m.funcs.items i f (func_of f) lt ∙ ap func_of (sym e)) in
     omega (arith, subst (λ n. n < length (module_of m).types) is (sorts_there (module_of m) h (length front + i) f.sort at), length-map m.types.items func_type_of)
 
-pub ends_are : (fs : List FuncValue) (es : List (Vec ℕ Global)) (i : ℕ) (f : FuncValue) (v : Vec ℕ Global) → map (λ (w : Vec ℕ Global). w.items) es ≡ map (λ (g : Func). ends_of g.locals) (map func_of fs) → i < length fs → f ≡ get_or fs i f → v ≡ get_or es i v → v.items ≡ ends_of f.locals.items
+pub ends_are : (fs : List FuncValue) (es : List (Vec ℕ Global)) (i : ℕ) (f : FuncValue) (v : Vec ℕ Global)
+    → map (λ (w : Vec ℕ Global). w.items) es ≡ map (λ (g : Func). ends_of g.locals) (map func_of fs) → i < length fs → f ≡ get_or fs i f → v ≡ get_or es i v
+    → v.items ≡ ends_of f.locals.items
 ends_are fs es i f v h lt e g =
     let n : i < length es = omega (arith, ap length h, length-map es (λ (w : Vec ℕ Global). w.items), length-map (map func_of fs) (λ (g : Func). ends_of g.locals), length-map fs func_of) in
     ap (λ (w : Vec ℕ Global). w.items) g ∙ sym (get_or-map (λ (w : Vec ℕ Global). w.items) es i v v.items n)
@@ -164,10 +171,12 @@ made types sorts tables memories globals params runs r = record {
 }
 
 module _ (m : ModuleValue) (s : Spaces) (spaces : SpacesOf (module_of m) s) (i : ℕ) (f : Func) (g : FuncValue) (ty : TypeValue)
-    (found : slice_get (map func_of m.funcs.items) i ≡ Some f) (lt : i < length m.funcs.items) (is : g ≡ get_or m.funcs.items i g) (small : g.sort < length m.types.items) (of : ty ≡ get_or m.types.items g.sort ty) where
+    (found : slice_get (map func_of m.funcs.items) i ≡ Some f) (lt : i < length m.funcs.items) (is : g ≡ get_or m.funcs.items i g) (small : g.sort < length m.types.items)
+    (of : ty ≡ get_or m.types.items g.sort ty) where
   same_func : f ≡ func_of g
   same_func =
-      let h : slice_get (map func_of m.funcs.items) i ≡ Some (func_of g) = slice_get-get_or (map func_of m.funcs.items) i (func_of g) (omega (arith, length-map m.funcs.items func_of)) ∙ ap Some (get_or-map func_of m.funcs.items i g (func_of g) lt ∙ ap func_of (sym is)) in
+      let h : slice_get (map func_of m.funcs.items) i ≡ Some (func_of g) = slice_get-get_or (map func_of m.funcs.items) i (func_of g) (omega (arith, length-map m.funcs.items func_of))
+      ∙ ap Some (get_or-map func_of m.funcs.items i g (func_of g) lt ∙ ap func_of (sym is)) in
       let z : Some f ≡ Some (func_of g) = sym found ∙ h in
       cc
 
@@ -187,7 +196,9 @@ module _ (m : ModuleValue) (s : Spaces) (spaces : SpacesOf (module_of m) s) (i :
     result = slice_get t.results 0;
   }
 
-  pub around_is : (types : List TypeValue) (sorts : List ℕ) (globals : List GlobalValue) (params : List ValType) (runs : List Run) (r : Option ValType) → types ≡ m.types.items → sorts ≡ s.sorts.items → globals ≡ s.globals.items → params ≡ ty.params.items → runs ≡ g.locals.items → r ≡ slice_get ty.results.items 0 → made types sorts s.tables s.memories globals params runs r ≡ around (module_of m) f
+  pub around_is : (types : List TypeValue) (sorts : List ℕ) (globals : List GlobalValue) (params : List ValType) (runs : List Run) (r : Option ValType) → types ≡ m.types.items
+      → sorts ≡ s.sorts.items → globals ≡ s.globals.items → params ≡ ty.params.items → runs ≡ g.locals.items → r ≡ slice_get ty.results.items 0
+      → made types sorts s.tables s.memories globals params runs r ≡ around (module_of m) f
   around_is types sorts globals params runs r e1 e2 e3 e4 e5 e6 =
       (λ j. made (e1 j) ((e2 ∙ spaces.sorts) j) (spaces.tables j) (spaces.memories j) (e3 j) (e4 j) (e5 j) (e6 j))
       ∙ (λ j. with_globals (spaces.globals j) ((sym its_type) j))

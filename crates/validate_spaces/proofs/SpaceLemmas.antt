@@ -1,5 +1,6 @@
 -- What stands in a module under each index, gathered item by item.
-use Rattle.std.proofs.Common.{arith, ◌≡◌, ℕ, suc, ◌+◌, ◌-◌, ◌<◌, ◌≤◌, ◌^◌, List, [], ◌∷◌, ◌++◌, length, take, drop, get_or, map, Option, Some, None, Bool, true, false, refl, ap, sym, ◌∙◌, subst, add-one, drop-cons, if◌then◌else◌, All, append_assoc}
+use Rattle.std.proofs.Common.{arith, ◌≡◌, ℕ, suc, ◌+◌, ◌-◌, ◌<◌, ◌≤◌, ◌^◌, List, [], ◌∷◌, ◌++◌, length, take, drop, get_or, map, Option, Some, None, Bool, true, false, refl, ap, sym, ◌∙◌}
+use Rattle.std.proofs.Common.{subst, add-one, drop-cons, if◌then◌else◌, All, append_assoc}
 use Rattle.std.specs.List.{filter_map}
 use Rattle.std.specs.Option.{is_some}
 use Rattle.std.proofs.lemmas.List.{take_more, take_all, drop_all, map_more, length-append, length-map, get_or-map, append-nil}
@@ -26,13 +27,16 @@ fm_one f x = by_test (f x) refl
 
 fm_more : {X Y : Type 0} (f : X → Option Y) (xs : List X) (i : ℕ) (x : X) → i < length xs → x ≡ get_or xs i x → filter_map f (take (i + 1) xs) ≡ filter_map f (take i xs) ++ opt_list (f x)
 fm_more f xs i x h e =
-    ap (filter_map f) (take_more xs i x h) ∙ filter_map-append f (take i xs) (get_or xs i x ∷ []) ∙ ap (λ z. filter_map f (take i xs) ++ z) (fm_one f (get_or xs i x) ∙ ap (λ z. opt_list (f z)) (sym e))
+    ap (filter_map f) (take_more xs i x h) ∙ filter_map-append f (take i xs) (get_or xs i x ∷ [])
+    ∙ ap (λ z. filter_map f (take i xs) ++ z) (fm_one f (get_or xs i x) ∙ ap (λ z. opt_list (f z)) (sym e))
 
-pub fm_some : {X Y : Type 0} (f : X → Option Y) (xs : List X) (ys new : List Y) (i : ℕ) (x : X) (y : Y) → Some y ≡ f x → new ≡ ys ++ y ∷ [] → i < length xs → x ≡ get_or xs i x → ys ≡ filter_map f (take i xs) → new ≡ filter_map f (take (i + 1) xs)
+pub fm_some : {X Y : Type 0} (f : X → Option Y) (xs : List X) (ys new : List Y) (i : ℕ) (x : X) (y : Y) → Some y ≡ f x → new ≡ ys ++ y ∷ [] → i < length xs → x ≡ get_or xs i x
+    → ys ≡ filter_map f (take i xs) → new ≡ filter_map f (take (i + 1) xs)
 fm_some f xs ys new i x y some e h at before =
     e ∙ ap (λ z. z ++ y ∷ []) before ∙ ap (λ o. filter_map f (take i xs) ++ opt_list o) some ∙ sym (fm_more f xs i x h at)
 
-pub fm_none : {X Y : Type 0} (f : X → Option Y) (xs : List X) (ys : List Y) (i : ℕ) (x : X) → None ≡ f x → i < length xs → x ≡ get_or xs i x → ys ≡ filter_map f (take i xs) → ys ≡ filter_map f (take (i + 1) xs)
+pub fm_none : {X Y : Type 0} (f : X → Option Y) (xs : List X) (ys : List Y) (i : ℕ) (x : X) → None ≡ f x → i < length xs → x ≡ get_or xs i x → ys ≡ filter_map f (take i xs)
+    → ys ≡ filter_map f (take (i + 1) xs)
 fm_none f xs ys i x none h at before =
     before ∙ sym (append-nil (filter_map f (take i xs))) ∙ ap (λ o. filter_map f (take i xs) ++ opt_list o) none ∙ sym (fm_more f xs i x h at)
 
@@ -43,12 +47,14 @@ map_one : {X Y : Type 0} (v : X → Y) (xs : List X) (x : X) → map v (xs ++ x 
 map_one v [] x = refl
 map_one v (y ∷ ys) x = ap (λ z. v y ∷ z) (map_one v ys x)
 
-pub fm_some_map : {X Y Z : Type 0} (v : Z → Y) (f : X → Option Y) (xs : List X) (ys new : List Z) (i : ℕ) (x : X) (y : Z) → Some (v y) ≡ f x → new ≡ ys ++ y ∷ [] → i < length xs → x ≡ get_or xs i x → map v ys ≡ filter_map f (take i xs) → map v new ≡ filter_map f (take (i + 1) xs)
+pub fm_some_map : {X Y Z : Type 0} (v : Z → Y) (f : X → Option Y) (xs : List X) (ys new : List Z) (i : ℕ) (x : X) (y : Z) → Some (v y) ≡ f x → new ≡ ys ++ y ∷ [] → i < length xs
+    → x ≡ get_or xs i x → map v ys ≡ filter_map f (take i xs) → map v new ≡ filter_map f (take (i + 1) xs)
 fm_some_map v f xs ys new i x y some e h at before =
     fm_some f xs (map v ys) (map v new) i x (v y) some (ap (map v) e ∙ map_one v ys y) h at before
 
 -- one more item of a map, in front of which something stands
-pub on_more : {X Y : Type 0} (f : X → Y) (front ys new : List Y) (xs : List X) (i : ℕ) (x : X) (y : Y) → new ≡ ys ++ y ∷ [] → y ≡ f x → i < length xs → x ≡ get_or xs i x → ys ≡ front ++ map f (take i xs) → new ≡ front ++ map f (take (i + 1) xs)
+pub on_more : {X Y : Type 0} (f : X → Y) (front ys new : List Y) (xs : List X) (i : ℕ) (x : X) (y : Y) → new ≡ ys ++ y ∷ [] → y ≡ f x → i < length xs → x ≡ get_or xs i x
+    → ys ≡ front ++ map f (take i xs) → new ≡ front ++ map f (take (i + 1) xs)
 on_more f front ys new xs i x y e is h at before =
     e ∙ ap (λ z. z ++ y ∷ []) before ∙ ap (λ z. (front ++ map f (take i xs)) ++ z ∷ []) (is ∙ ap f at)
     ∙ append_assoc front (map f (take i xs)) (f (get_or xs i x) ∷ []) ∙ ap (λ z. front ++ z) (sym (map_more f xs i x h))
@@ -86,13 +92,16 @@ opt_length : {Y : Type 0} (o : Option Y) → length (opt_list o) ≡ one_if (is_
 opt_length None = refl
 opt_length (Some y) = refl
 
-pub count_more : {X Y : Type 0} (f : X → Option Y) (xs : List X) (i : ℕ) (x : X) → i < length xs → x ≡ get_or xs i x → length (filter_map f (take (i + 1) xs)) ≡ length (filter_map f (take i xs)) + one_if (is_some (f x))
+pub count_more : {X Y : Type 0} (f : X → Option Y) (xs : List X) (i : ℕ) (x : X) → i < length xs → x ≡ get_or xs i x
+    → length (filter_map f (take (i + 1) xs)) ≡ length (filter_map f (take i xs)) + one_if (is_some (f x))
 count_more f xs i x h e = ap length (fm_more f xs i x h e) ∙ length-append (filter_map f (take i xs)) (opt_list (f x)) ∙ ap (λ n. length (filter_map f (take i xs)) + n) (opt_length (f x))
 
-pub count_yes : {X Y : Type 0} (f : X → Option Y) (xs : List X) (i n : ℕ) (x : X) → is_some (f x) ≡ true → i < length xs → x ≡ get_or xs i x → n ≡ length (filter_map f (take i xs)) → n + 1 ≡ length (filter_map f (take (i + 1) xs))
+pub count_yes : {X Y : Type 0} (f : X → Option Y) (xs : List X) (i n : ℕ) (x : X) → is_some (f x) ≡ true → i < length xs → x ≡ get_or xs i x → n ≡ length (filter_map f (take i xs))
+    → n + 1 ≡ length (filter_map f (take (i + 1) xs))
 count_yes f xs i n x there h e before = ap (λ k. k + 1) before ∙ sym (count_more f xs i x h e ∙ ap (λ b. length (filter_map f (take i xs)) + one_if b) there)
 
-pub count_not : {X Y : Type 0} (f : X → Option Y) (xs : List X) (i n : ℕ) (x : X) → is_some (f x) ≡ false → i < length xs → x ≡ get_or xs i x → n ≡ length (filter_map f (take i xs)) → n ≡ length (filter_map f (take (i + 1) xs))
+pub count_not : {X Y : Type 0} (f : X → Option Y) (xs : List X) (i n : ℕ) (x : X) → is_some (f x) ≡ false → i < length xs → x ≡ get_or xs i x → n ≡ length (filter_map f (take i xs))
+    → n ≡ length (filter_map f (take (i + 1) xs))
 count_not f xs i n x none h e before = before ∙ (omega arith) ∙ sym (count_more f xs i x h e ∙ ap (λ b. length (filter_map f (take i xs)) + one_if b) none)
 
 pub count_end : {X Y : Type 0} (f : X → Option Y) (xs : List X) (i : ℕ) → length xs ≤ i → length (filter_map f (take i xs)) ≡ length (filter_map f xs)
@@ -108,7 +117,8 @@ pub ends_step : (n : ℕ) (rs : List Run) (i : ℕ) (r d : Run) → i < length r
 unfolding ends_from
 ends_step n rs i r d h e = rw (add-one, drop-cons rs i d) (ap (λ (q : Run). (n + q.count) ∷ ends_from (n + q.count) (drop (suc i) rs)) (sym e))
 
-pub ends_on : (n m : ℕ) (rs : List Run) (i : ℕ) (r d : Run) (ys new all : List ℕ) → i < length rs → r ≡ get_or rs i d → m ≡ n + r.count → new ≡ ys ++ m ∷ [] → ys ++ ends_from n (drop i rs) ≡ all → new ++ ends_from m (drop (i + 1) rs) ≡ all
+pub ends_on : (n m : ℕ) (rs : List Run) (i : ℕ) (r d : Run) (ys new all : List ℕ) → i < length rs → r ≡ get_or rs i d → m ≡ n + r.count → new ≡ ys ++ m ∷ []
+    → ys ++ ends_from n (drop i rs) ≡ all → new ++ ends_from m (drop (i + 1) rs) ≡ all
 ends_on n m rs i r d ys new all h at e f before =
     ap (λ z. z ++ ends_from m (drop (i + 1) rs)) f ∙ append_assoc ys (m ∷ []) (ends_from m (drop (i + 1) rs))
     ∙ ap (λ z. ys ++ z ∷ ends_from z (drop (i + 1) rs)) e ∙ ap (λ z. ys ++ z) (sym (ends_step n rs i r d h at)) ∙ before

@@ -7,6 +7,7 @@ use Rattle.wa_types.specs.Modules.{imported_global, imported, func_sorts, func_i
 use Rattle.validate_spaces.specs.declared.spaces.GlobalType.{GlobalType as GlobalValue}
 use Rattle.validate_spaces.specs.declared.spaces.Spaces.{Spaces}
 
+-- a global type
 abbrev pub global_type_of : GlobalValue → GlobalType
 global_type_of g = record { ty = g.ty; mutable = g.mutable }
 
@@ -23,6 +24,7 @@ ends_from n (r ∷ rs) = (n + r.count) ∷ ends_from (n + r.count) rs
 unfoldable pub ends_of : List Run → List ℕ
 ends_of runs = if nat_lt 4 (length runs) then ends_from 0 runs else []
 
+-- These are the index spaces of the module (2.5.1).
 pub record SpacesOf (m : Module) (s : Spaces) : Type 0 where
   pub sorts : s.sorts.items ≡ func_sorts m
   pub func_imports : s.func_imports ≡ func_imports m

@@ -1,3 +1,5 @@
+//! Contexts: what stands around a body (standard, section 3.1.1).
+
 ghost use Rattle.std.specs.Prelude.{◌≡◌, ◌<◌, true, None, Some, MatchOption, length, slice_get};
 ghost use Rattle.wa_types.specs.View.{func_type_of, module_of};
 ghost use Rattle.wa_types.specs.Modules.{around, declared_locals};

@@ -1,3 +1,5 @@
+//! The index spaces of a module, gathered once (standard, section 2.5.1).
+
 ghost use Rattle.std.specs.Prelude.{◌≡◌, ◌<◌, ◌≤◌, ◌^◌, ◌++◌, All, map, length, IfOk, option_map, is_some};
 ghost use Rattle.std.specs.List.{filter_map};
 ghost use Rattle.wa_types.specs.declared.syntax.Func.{Func as FuncValue};

@@ -32,7 +32,8 @@ pub alike_there : (ls : List (Option ValType)) (r : Option ValType) (table : Lis
 alike_there ls r [] e = refl
 alike_there ls r (l ∷ table) e = by_test (slice_get ls l) refl e (alike_there ls r table)
   where
-    by_test : (o : Option (Option ValType)) → slice_get ls l ≡ o → (agrees_with r o && all_alike ls r table) ≡ true → (all_alike ls r table ≡ true → all_there ls table ≡ true) → (nat_lt l (length ls) && all_there ls table) ≡ true
+    by_test : (o : Option (Option ValType)) → slice_get ls l ≡ o → (agrees_with r o && all_alike ls r table) ≡ true → (all_alike ls r table ≡ true → all_there ls table ≡ true)
+        → (nat_lt l (length ls) && all_there ls table) ≡ true
     by_test None f h more = cc
     by_test (Some s) f h more = ap (λ b. b && all_there ls table) (lt-ltb l (length ls) (slice_get_within ls l s f)) ∙ more (and_right (same_result r s) (all_alike ls r table) h)
 

@@ -1,10 +1,12 @@
 -- Instructions that hold no other, and what the validator's table says of them.
 use Rattle.std.specs.Prelude.{List, ◌∷◌, reverse, Option, Some, None, Bool, if◌then◌else◌}
 use Rattle.wa_types.specs.declared.instrs.Instr.{Instr}
-use Rattle.wa_types.specs.declared.instrs.Instr.TheVariants.{Unreachable, Nop, Drop, Select, Return, MemorySize, MemoryGrow, Const, Num, Br, BrIf, BrTable, Call, CallIndirect, LocalGet, LocalSet, LocalTee, GlobalGet, GlobalSet, Load, Store}
+use Rattle.wa_types.specs.declared.instrs.Instr.TheVariants.{Unreachable, Nop, Drop, Select, Return, MemorySize, MemoryGrow, Const, Num, Br, BrIf, BrTable, Call, CallIndirect, LocalGet}
+use Rattle.wa_types.specs.declared.instrs.Instr.TheVariants.{LocalSet, LocalTee, GlobalGet, GlobalSet, Load, Store}
 use Rattle.wa_types.specs.declared.values.ValType.{ValType}
 use Rattle.wa_types.specs.declared.values.ValType.TheVariants.{I32}
-use Rattle.wa_types.specs.Syntax.{nop, drop, select, const, num, global_get, global_set, load, store, memory_size, memory_grow, Plain, basic, local_get, local_set, local_tee, br, br_if, br_table, return, unreachable, call, call_indirect}
+use Rattle.wa_types.specs.Syntax.{nop, drop, select, const, num, global_get, global_set, load, store, memory_size, memory_grow, Plain, basic, local_get, local_set, local_tee, br, br_if}
+use Rattle.wa_types.specs.Syntax.{br_table, return, unreachable, call, call_indirect}
 use Rattle.wa_types.specs.Typing.{Sig, moves, leaves, drops, selects, lacks, late}
 use Rattle.validate_table.specs.declared.table.Asks as D
 use Rattle.validate_table.specs.declared.table.Asks.TheVariants as A
@@ -34,6 +36,7 @@ plain_of (Load op align offset) = Some (basic (load op align offset))
 plain_of (Store op align offset) = Some (basic (store op align offset))
 plain_of _ = None
 
+-- what is said of an instruction that holds no other, where it is one
 abbrev pub Says : Option Plain → (Plain → Type 0) → Type 0
 Says None P = Unit {0}
 Says (Some p) P = P p

@@ -1,8 +1,11 @@
+//! What each instruction that holds no other takes off the operands and puts on (standard, sections 3.3.1 to 3.3.5).
+
 ghost use Rattle.std.specs.Prelude.{◌≡◌, ℕ, [], ◌∷◌, Some, reverse, slice_get, true};
 ghost use Rattle.wa_types.specs.Accesses.{load_row, store_row};
 ghost use Rattle.wa_types.specs.declared.values.ValType.TheVariants.{I32};
 ghost use Rattle.wa_types.specs.declared.instrs.Instr.TheVariants as Instr;
-ghost use Rattle.wa_types.specs.Typing.{same_result, listed, sig, all_there, all_alike, jumps, jump, may_jump, calls, calls_at, gets, sets, tees, gets_global, sets_global, loads, stores, with_memory, moves, leaves};
+ghost use Rattle.wa_types.specs.Typing.{same_result, listed, sig, all_there, all_alike, jumps, jump, may_jump, calls, calls_at, gets, sets, tees, gets_global, sets_global, loads, stores};
+ghost use Rattle.wa_types.specs.Typing.{with_memory, moves, leaves};
 ghost use Rattle.wasm_tree.specs.Kinds.{is_leaf};
 ghost use Rattle.validate_table.specs.Table.{plain_of, sig_of, Says};
 

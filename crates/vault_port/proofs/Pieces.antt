@@ -13,7 +13,8 @@ take-add m n xs =
     cc
 
 -- one piece taken after others
-pub Appends_more : (bytes piece : List ℕ) (done n : ℕ) → piece ≡ drop done bytes → (old mid new : List ℕ) → Appends (take done bytes) old mid → Appends (take n piece) mid new → Appends (take (done + n) bytes) old new
+pub Appends_more : (bytes piece : List ℕ) (done n : ℕ) → piece ≡ drop done bytes → (old mid new : List ℕ) → Appends (take done bytes) old mid → Appends (take n piece) mid new
+    → Appends (take (done + n) bytes) old new
 Appends_more bytes piece done n is old mid new before now =
     let step = take-add done n bytes in
     let joined = append_assoc old (take done bytes) (take n (drop done bytes)) in
@@ -45,7 +46,8 @@ others_since name bytes done old mid new (inr same) kept other differs =
     kept other differs ∙ ap (λ files. files other) same.1
 
 -- one piece saved behind the first bytes
-pub HasFront_more : (name bytes piece : List ℕ) (done n : ℕ) → piece ≡ drop done bytes → (old mid new : Files) → HasFront name bytes done old mid → ChangesOnly name (take done (bytes_of mid name) ++ take n piece) mid new → ChangesOnly name (take (done + n) bytes) old new
+pub HasFront_more : (name bytes piece : List ℕ) (done n : ℕ) → piece ≡ drop done bytes → (old mid new : Files) → HasFront name bytes done old mid
+    → ChangesOnly name (take done (bytes_of mid name) ++ take n piece) mid new → ChangesOnly name (take (done + n) bytes) old new
 HasFront_more name bytes piece done n rest old mid new front saved =
     let step = take-add done n bytes in
     let is = front_is name bytes done old mid front in
@@ -56,7 +58,8 @@ HasFront_more name bytes piece done n rest old mid new front saved =
     }
 
 -- one piece fetched behind the first bytes: k is the length of the buffer's part behind them, which was `old`
-pub FetchesMore_by : (bytes buffer old new : List ℕ) (done n k : ℕ) → done ≤ length buffer → length old ≡ length buffer - done → IsFetched bytes done n old new → FetchesMore bytes done n buffer (put_mid done k buffer new)
+pub FetchesMore_by : (bytes buffer old new : List ℕ) (done n k : ℕ) → done ≤ length buffer → length old ≡ length buffer - done → IsFetched bytes done n old new
+    → FetchesMore bytes done n buffer (put_mid done k buffer new)
 FetchesMore_by bytes buffer old new done n k within long fetched =
     record {
       more = λ front. record {
@@ -67,7 +70,8 @@ FetchesMore_by bytes buffer old new done n k within long fetched =
             let rest = drop n old ++ post_of done k buffer in
             let n_next : length next ≡ n = length-take-le n (drop done bytes) (omega (arith, length-drop done bytes, fetched.there)) in
             let n_both : length (first ++ next) ≡ done + n = omega (arith, length-append first next, length-take-le done buffer within) in
-            let joined : put_mid done k buffer new ≡ (first ++ next) ++ rest = ap (λ part. first ++ (part ++ post_of done k buffer)) fetched.buffer ∙ ap (λ part. first ++ part) (append_assoc next (drop n old) (post_of done k buffer)) ∙ sym (append_assoc first next rest) in
+            let joined : put_mid done k buffer new ≡ (first ++ next) ++ rest = ap (λ part. first ++ (part ++ post_of done k buffer)) fetched.buffer
+            ∙ ap (λ part. first ++ part) (append_assoc next (drop n old) (post_of done k buffer)) ∙ sym (append_assoc first next rest) in
             let cut : take (done + n) ((first ++ next) ++ rest) ≡ first ++ next = take_at (first ++ next) rest (done + n) n_both in
             ap (take (done + n)) joined ∙ cut ∙ ap (λ part. part ++ next) front.same ∙ sym (take-add done n bytes);
       };

@@ -31,13 +31,15 @@ files_of-found front rest file name none is =
     ∙ ap (λ b. cond b (Some file.bytes.items) (files_of rest name)) ((bytes_eq-Decides file.name name).1 is)
 
 -- a file of another name doesn't count
-pub files_of-skip : (front rest : List NamedFile) (file : NamedFile) (other : List ℕ) → file.name ≢ other → files_of (front ++ file ∷ rest) other ≡ option_or (files_of front other) (files_of rest other)
+pub files_of-skip : (front rest : List NamedFile) (file : NamedFile) (other : List ℕ) → file.name ≢ other
+    → files_of (front ++ file ∷ rest) other ≡ option_or (files_of front other) (files_of rest other)
 files_of-skip front rest file other differs =
     files_of-append front (file ∷ rest) other
     ∙ ap (λ b. option_or (files_of front other) (cond b (Some file.bytes.items) (files_of rest other))) (differ file.name other differs)
 
 -- one step of the search
-pub files_of-more : (files : List NamedFile) (name : List ℕ) (i : ℕ) (file : NamedFile) → i < length files → file ≡ get_or files i file → bytes_eq file.name name ≡ false → files_of (take i files) name ≡ None → files_of (take (i + 1) files) name ≡ None
+pub files_of-more : (files : List NamedFile) (name : List ℕ) (i : ℕ) (file : NamedFile) → i < length files → file ≡ get_or files i file → bytes_eq file.name name ≡ false
+    → files_of (take i files) name ≡ None → files_of (take (i + 1) files) name ≡ None
 files_of-more files name i file within is differs none =
     ap (λ front. files_of front name) (take_more files i file within ∙ ap (λ f. take i files ++ f ∷ []) (sym is))
     ∙ files_of-append (take i files) (file ∷ []) name
@@ -58,7 +60,8 @@ pub bytes_at : (files : List NamedFile) (name : List ℕ) (i : ℕ) (file : Name
 bytes_at files name i file is first = ap (λ o. unwrap_or o []) (files_of-at files name i file is first)
 
 -- another content of the first file of a name
-pub ChangesOnly_set : (files : List NamedFile) (name bytes : List ℕ) (i : ℕ) (old new : NamedFile) → old ≡ get_or files i old → new.name ≡ old.name → new.bytes.items ≡ bytes → IsFirstOf files name i → ChangesOnly name bytes (files_of files) (files_of (set files i new))
+pub ChangesOnly_set : (files : List NamedFile) (name bytes : List ℕ) (i : ℕ) (old new : NamedFile) → old ≡ get_or files i old → new.name ≡ old.name → new.bytes.items ≡ bytes
+    → IsFirstOf files name i → ChangesOnly name bytes (files_of files) (files_of (set files i new))
 ChangesOnly_set files name bytes i old new is same holds first =
     let named : old.name ≡ name = ap (λ f. f.name) is ∙ first.found old in
     let now = set_split files i new first.within in
@@ -76,7 +79,8 @@ none_behind None = refl
 none_behind (Some x) = refl
 
 -- one more file
-pub ChangesOnly_push : (files : List NamedFile) (name bytes : List ℕ) (file : NamedFile) → file.name ≡ name → file.bytes.items ≡ bytes → files_of files name ≡ None → ChangesOnly name bytes (files_of files) (files_of (files ++ file ∷ []))
+pub ChangesOnly_push : (files : List NamedFile) (name bytes : List ℕ) (file : NamedFile) → file.name ≡ name → file.bytes.items ≡ bytes → files_of files name ≡ None
+    → ChangesOnly name bytes (files_of files) (files_of (files ++ file ∷ []))
 ChangesOnly_push files name bytes file is holds none =
     record {
       changed = files_of-found files [] file name none is ∙ ap Some holds;

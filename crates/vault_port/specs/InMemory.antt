@@ -24,16 +24,19 @@ pub record IsFirstOf (files : List NamedFile) (name : List ℕ) (place : ℕ) : 
 abbrev pub sure_files : SureVault → Files
 sure_files vault = files_of vault.files.items
 
--- of a MemVault its files, which of its calls fail, and how many fetches and saves have failed
+-- the files of a MemVault
 abbrev pub mem_files : MemVault → Files
 mem_files vault = sure_files vault.kept
 
+-- which of its calls fail
 abbrev pub vault_schedule : MemVault → Schedule
 vault_schedule vault = vault.schedule
 
+-- how many fetches have failed
 abbrev pub failed_fetches : MemVault → ℕ
 failed_fetches vault = vault.fetch_faults
 
+-- how many saves have failed
 abbrev pub failed_saves : MemVault → ℕ
 failed_saves vault = vault.save_faults
 
@@ -41,12 +44,14 @@ failed_saves vault = vault.save_faults
 abbrev pub sure_bytes : SureSink → List ℕ
 sure_bytes sink = sink.bytes.items
 
--- of a MemSink the bytes that it has taken, which of its calls fail, and how many have failed
+-- the bytes that a MemSink has taken
 abbrev pub mem_bytes : MemSink → List ℕ
 mem_bytes sink = sure_bytes sink.kept
 
+-- which of its calls fail
 abbrev pub sink_schedule : MemSink → Schedule
 sink_schedule sink = sink.schedule
 
+-- how many have failed
 abbrev pub failed_puts : MemSink → ℕ
 failed_puts sink = sink.faults

@@ -3,10 +3,11 @@ use Rattle.std.specs.Prelude.{ℕ}
 use Rattle.vault_port.specs.declared.file_vault.FileVault.{FileVault}
 use Rattle.vault_port.specs.declared.out_sink.OutSink.{OutSink}
 
--- how many fetches and saves of a FileVault have failed; File and Dir are the runtime's types of opened files
+-- how many fetches of a FileVault have failed; File and Dir are the runtime's types of opened files
 abbrev pub file_fetch_faults : {R File Dir : Type 0} → FileVault R File Dir → ℕ
 file_fetch_faults vault = vault.fetch_faults
 
+-- how many saves of a FileVault have failed
 abbrev pub file_save_faults : {R File Dir : Type 0} → FileVault R File Dir → ℕ
 file_save_faults vault = vault.save_faults
 

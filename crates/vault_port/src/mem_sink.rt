@@ -1,3 +1,5 @@
+//! Sinks in memory: `SureSink`, and `MemSink`, which fails at chosen calls.
+
 ghost use Rattle.std.specs.Prelude.{◌≡◌, ◌≢◌, ◌≤◌, ◌↔◌, ◌++◌, [], ℕ, List, length, take, Some, Contains, IfOk, OnErr, IsErrOf};
 ghost use Rattle.vault_port.specs.declared.sink.SinkFail.TheVariants.{Memory};
 

@@ -1,3 +1,5 @@
+//! `MemVault`: files in memory, whose calls fail where chosen.
+
 ghost use Rattle.std.specs.Prelude.{◌≡◌, ◌≢◌, ◌⊎◌, ◌≤◌, ◌↔◌, ◌++◌, ℕ, List, length, take, Some, None, Contains, option_map, IsSome, IfOk, OnErr, IsErrOf};
 ghost use Rattle.vault_port.specs.Counts.{HasRisen};
 ghost use Rattle.vault_port.specs.Files.{Files, bytes_of, IsFetched, ChangesOnly, ChangesAtMost};

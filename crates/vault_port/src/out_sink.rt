@@ -1,3 +1,5 @@
+//! `OutSink`: standard output.
+
 ghost use Rattle.std.specs.Prelude.{◌≡◌, ◌≢◌, ◌≤◌, None, IfOk, OnOk, OnErr, length};
 ghost use Rattle.vault_port.specs.Schedule.{one_more};
 

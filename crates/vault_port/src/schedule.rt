@@ -1,3 +1,5 @@
+//! Which calls of an object fail, by their numbers.
+
 ghost use Rattle.std.specs.Prelude.{◌≡◌, ◌↔◌, [], IsTrue, Contains};
 ghost use Rattle.vault_port.specs.Schedule.{failing, next_call, one_more};
 

@@ -1,3 +1,5 @@
+//! The trait `Sink`: where printed bytes go.
+
 ghost use Rattle.std.specs.Prelude.{◌≡◌, ◌≤◌, ℕ, List, length, take, Option, IfOk, OnErr, IsErrOf};
 ghost use Rattle.vault_port.specs.declared.sink.SinkFail.TheVariants.{Memory};
 ghost use Rattle.vault_port.specs.Counts.{HasRisen};

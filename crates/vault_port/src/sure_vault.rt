@@ -1,5 +1,7 @@
-// Vaults that keep their files in memory.
-ghost use Rattle.std.specs.Prelude.{◌≡◌, ◌≢◌, ◌⊎◌, ◌≤◌, ◌<◌, ◌↔◌, ◌++◌, [], ◌∷◌, ℕ, List, length, take, Some, None, Contains, option_map, IsTrue, IfOk, IsNone, OnOk, OnErr, IsErrOf, IsOkUnless, MatchOption, vec_len};
+//! `SureVault`: files in memory.
+
+ghost use Rattle.std.specs.Prelude.{◌≡◌, ◌≢◌, ◌⊎◌, ◌≤◌, ◌<◌, ◌↔◌, ◌++◌, [], ◌∷◌, ℕ, List, length, take, Some, None, Contains, option_map, IsTrue, IfOk, IsNone, OnOk, OnErr, IsErrOf};
+ghost use Rattle.std.specs.Prelude.{IsOkUnless, MatchOption, vec_len};
 ghost use Rattle.vault_port.specs.declared.vault.VaultFail.TheVariants.{Memory};
 ghost use Rattle.vault_port.specs.Counts.{HasRisen};
 ghost use Rattle.vault_port.specs.Told.{WhereTold, Becomes};

@@ -1,3 +1,5 @@
+//! The trait `Vault`: files by name.
+
 ghost use Rattle.std.specs.Prelude.{◌≡◌, ◌≢◌, ◌≤◌, ◌↔◌, ℕ, List, ◌++◌, length, take, Option, None, IfOk, OnErr, IsErrOf};
 ghost use Rattle.vault_port.specs.declared.vault.VaultFail.TheVariants.{Memory};
 ghost use Rattle.vault_port.specs.Counts.{HasRisen};

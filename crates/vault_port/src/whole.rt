@@ -1,4 +1,5 @@
-// Whole files and whole pieces of output, over calls that may take less than they are given.
+//! Whole files and whole pieces of output, over calls that may take less than they are given.
+
 ghost use Rattle.std.specs.Prelude.{◌≡◌, ◌⊎◌, ◌+◌, ◌≤◌, ◌<◌, length, take, IfOk, OnOk, OnErr, IsErrOf, IsSome, vec_len};
 ghost use Rattle.vault_port.specs.declared.whole.FetchFault.TheVariants.{Memory};
 ghost use Rattle.vault_port.specs.Counts.{HasRisen};

@@ -62,7 +62,8 @@ module _ (ok : Configuration → Bool) (m : Module) where
       pub in_busy : (ph : Phase) (l : Left) (c d : Configuration) (n : ℕ) → Comes ok m c n d → Leads (protocol m x plan) (busy ph c l) n [] (busy ph d l)
       in_busy ph l c d n s = leads_busy ph l c d n [] s.by
 
-      leads_aside : (ph : Phase) (th : Then) (l : Left) (c d : Configuration) (n : ℕ) (es : List Note) → Leads (alone ok m) c n es d → Leads (protocol m x plan) (aside ph c th l) n [] (aside ph d th l)
+      leads_aside : (ph : Phase) (th : Then) (l : Left) (c d : Configuration) (n : ℕ) (es : List Note) → Leads (alone ok m) c n es d
+          → Leads (protocol m x plan) (aside ph c th l) n [] (aside ph d th l)
       leads_aside ph th l c d _ _ stays = stays
       leads_aside ph th l c d _ _ (moves {t = t} {k = k} {es = es} e rest em eg) =
           moves (ap (aside_step m x plan ph th l) (moved_alone c k es t e)) (leads_aside ph th l t d _ _ rest) em refl

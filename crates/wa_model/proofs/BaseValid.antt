@@ -64,7 +64,8 @@ module _ (m : Module) where
         types = v.types;
         sorts = v.sorts;
         bodies = λ i f e. types_wider (around m f) (around b f) (wider f) ((around m f).result ∷ []) f.body (listed (around m f).result) [] (v.bodies i f e);
-        limits = and_from (list_all (limits_fit (2 ^ 32)) (all_tables b)) (list_all (limits_fit 65536) (all_memories b)) limits.0 (by_memories (λ ms. list_all (limits_fit 65536) ms ≡ true) limits.1 refl);
+        limits = and_from (list_all (limits_fit (2 ^ 32)) (all_tables b)) (list_all (limits_fit 65536) (all_memories b)) limits.0
+            (by_memories (λ ms. list_all (limits_fit 65536) ms ≡ true) limits.1 refl);
         single = and_from (nat_le (length (all_tables b)) 1) (nat_le (length (all_memories b)) 1) single.0 (by_memories (λ ms. nat_le (length ms) 1 ≡ true) single.1 refl);
         constants = v.constants;
         globals = v.globals;

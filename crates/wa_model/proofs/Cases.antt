@@ -10,7 +10,8 @@ use Rattle.wa_types.specs.declared.syntax.Import.{Import}
 use Rattle.wa_types.specs.declared.syntax.ImportKind.TheVariants as K
 use Rattle.wa_types.specs.declared.syntax.Export.{Export}
 use Rattle.wa_types.specs.declared.syntax.Space.TheVariants as Sp
-use Rattle.wa_types.specs.Syntax.{Basic, drop, const, num, global_get, global_set, return, unreachable, load, store, memory_grow, basic, local_get, local_set, local_tee, br_if, br_table, call, call_indirect, Code, done, plain, nest, branch, a_block, a_loop, FuncType, Func, Module}
+use Rattle.wa_types.specs.Syntax.{Basic, drop, const, num, global_get, global_set, return, unreachable, load, store, memory_grow, basic, local_get, local_set, local_tee, br_if, br_table}
+use Rattle.wa_types.specs.Syntax.{call, call_indirect, Code, done, plain, nest, branch, a_block, a_loop, FuncType, Func, Module}
 use Rattle.wa_types.specs.Pruned.{pruned}
 use Rattle.wa_types.specs.Base.{Base}
 use Rattle.wa_types.specs.Pausing.{calls_of, every, save_all, save_live, Settings}
@@ -81,7 +82,8 @@ abbrev selector : Module
 selector = module_with (record {
   sort = 0;
   locals = [];
-  body = nest a_block (Some I32) (then (const (i32 5)) (nest a_block (Some I32) (then (const (i32 9)) (plain (local_get 0) (plain (br_table (0 ∷ []) 1) done))) (then (num I32Add) done))) (plain (call 0) done);
+  body = nest a_block (Some I32) (then (const (i32 5)) (nest a_block (Some I32) (then (const (i32 9)) (plain (local_get 0) (plain (br_table (0 ∷ []) 1) done))) (then (num I32Add) done)))
+      (plain (call 0) done);
 })
 
 abbrev both : List Entry
@@ -100,7 +102,9 @@ unfolding Base
 selects_not_within_27 = refl
 
 -- with pauses: each takes 28 bytes of the area
-selects_paused : events_of (Expected selector save_all (record { at = 0; len = 64 }) (Blocking selector (plan_of 64 both) (answer (Some (i32 1)) 1 ∷ answer (Some (i32 2)) 1 ∷ []) 28).events) ≡ call_of 0 (i32 14 ∷ []) ∷ paused 1 28 ∷ answered (Some (i32 1)) ∷ returned 0 (Some (i32 1)) ∷ call_of 0 (i32 9 ∷ []) ∷ paused 1 28 ∷ answered (Some (i32 2)) ∷ returned 1 (Some (i32 2)) ∷ ended Done ∷ []
+selects_paused : events_of (Expected selector save_all (record { at = 0; len = 64 }) (Blocking selector (plan_of 64 both)
+    (answer (Some (i32 1)) 1 ∷ answer (Some (i32 2)) 1 ∷ []) 28).events) ≡ call_of 0 (i32 14 ∷ []) ∷ paused 1 28 ∷ answered (Some (i32 1)) ∷ returned 0 (Some (i32 1))
+    ∷ call_of 0 (i32 9 ∷ []) ∷ paused 1 28 ∷ answered (Some (i32 2)) ∷ returned 1 (Some (i32 2)) ∷ ended Done ∷ []
 unfolding pruned calls_of points Base
 selects_paused = refl
 
@@ -109,7 +113,8 @@ abbrev countdown : Module
 countdown = module_with (record {
   sort = 0;
   locals = record { count = 1; ty = I32 } ∷ [];
-  body = nest a_loop None (plain (local_get 1) (then (const (i32 0)) (branch (Some I32) (then (const (i32 100)) done) (plain (local_get 0) (plain (call 0) done)) (then (num I32Add) (plain (local_set 1) (plain (local_get 0) (then (const (i32 1)) (then (num I32Sub) (plain (local_tee 0) (plain (br_if 0) done))))))))))
+  body = nest a_loop None (plain (local_get 1) (then (const (i32 0)) (branch (Some I32) (then (const (i32 100)) done) (plain (local_get 0) (plain (call 0) done))
+      (then (num I32Add) (plain (local_set 1) (plain (local_get 0) (then (const (i32 1)) (then (num I32Sub) (plain (local_tee 0) (plain (br_if 0) done))))))))))
       (plain (local_get 1) done);
 })
 
@@ -140,7 +145,8 @@ unfolding pruned calls_of points call_points behind_calls live Base
 counts_live = refl
 
 -- in an area of 27 bytes the frame doesn't fit
-short : events_of (Expected countdown save_all (record { at = 0; len = 27 }) (Blocking countdown (plan_of 27 (entry 1 (i32 3 ∷ []) ∷ [])) tens 100).events) ≡ call_of 0 (i32 3 ∷ []) ∷ answered (Some (i32 10)) ∷ call_of 0 (i32 2 ∷ []) ∷ ended (UnwindTrap Unreachable 8 27) ∷ []
+short : events_of (Expected countdown save_all (record { at = 0; len = 27 }) (Blocking countdown (plan_of 27 (entry 1 (i32 3 ∷ []) ∷ [])) tens 100).events) ≡ call_of 0 (i32 3 ∷ [])
+    ∷ answered (Some (i32 10)) ∷ call_of 0 (i32 2 ∷ []) ∷ ended (UnwindTrap Unreachable 8 27) ∷ []
 unfolding pruned calls_of points Base
 short = refl
 
@@ -152,7 +158,8 @@ divides = record {
   funcs = record {
     sort = 1;
     locals = record { count = 1; ty = I64 } ∷ [];
-    body = then (const (i32 1)) (then memory_grow (then drop (then (const (V.I64 5000000000)) (plain (local_set 0) (plain (local_get 0) (then (const (i32 2)) (plain (call 0) (then (num I64ExtendI32U) (then (num I64DivU) done)))))))));
+    body = then (const (i32 1)) (then memory_grow (then drop (then (const (V.I64 5000000000))
+        (plain (local_set 0) (plain (local_get 0) (then (const (i32 2)) (plain (call 0) (then (num I64ExtendI32U) (then (num I64DivU) done)))))))));
   } ∷ [];
   tables = [];
   memories = record { min = 1; max = None } ∷ [];
@@ -261,7 +268,12 @@ not_within_two = refl
 
 -- an if with a false condition and no else costs 2: 1 for the entry, 1 for the constant, 2, and 1 for the end
 abbrev empty_arm : ℕ → List Event
-empty_arm n = events_of (blocking_run (record seven { types = record { params = []; results = [] } ∷ []; funcs = record { sort = 0; locals = []; body = then (const (i32 0)) (branch None (then (const (i32 1)) (then drop done)) done done) } ∷ [] }) (plan_of 64 (entry 0 [] ∷ [])) [] n).events
+empty_arm n = events_of (blocking_run (record seven {
+  types = record { params = []; results = [] }
+      ∷ [];
+  funcs = record { sort = 0; locals = []; body = then (const (i32 0)) (branch None (then (const (i32 1)) (then drop done)) done done) } ∷ [];
+})
+    (plan_of 64 (entry 0 [] ∷ [])) [] n).events
 
 arm_within_five : empty_arm 5 ≡ returned 0 None ∷ ended Done ∷ []
 unfolding Base
@@ -325,7 +337,8 @@ unfolding Base
 no_value = refl
 
 -- with a poke into the area, of which byte 63 is the last
-pokes_area : asked_with (record { value = Some (i32 5); pokes = record { at = 64; bytes = 1 ∷ 2 ∷ [] } ∷ record { at = 63; bytes = 1 ∷ 2 ∷ [] } ∷ []; ticks = 0 }) ≡ call_of 0 (i32 7 ∷ []) ∷ ended (BadPoke 63 2) ∷ []
+pokes_area : asked_with (record { value = Some (i32 5); pokes = record { at = 64; bytes = 1 ∷ 2 ∷ [] } ∷ record { at = 63; bytes = 1 ∷ 2 ∷ [] } ∷ []; ticks = 0 }) ≡ call_of 0 (i32 7 ∷ [])
+    ∷ ended (BadPoke 63 2) ∷ []
 unfolding Base
 pokes_area = refl
 
@@ -365,7 +378,8 @@ no_pause_in_start = refl
 abbrev asks_twice : Module
 asks_twice = module_with (record { sort = 0; locals = []; body = plain (local_get 0) (plain (call 0) (plain (call 0) done)) })
 
-breaks_rule_one : events_of (Protocol (with_runtime asks_twice) (record (plan_of 64 (entry 1 (i32 7 ∷ []) ∷ [])) { listed = None }) (answer (Some (i32 1)) 1 ∷ []) 60).events ≡ call_of 0 (i32 7 ∷ []) ∷ ended (Broken 1) ∷ []
+breaks_rule_one : events_of (Protocol (with_runtime asks_twice) (record (plan_of 64 (entry 1 (i32 7 ∷ []) ∷ [])) { listed = None }) (answer (Some (i32 1)) 1 ∷ []) 60).events
+    ≡ call_of 0 (i32 7 ∷ []) ∷ ended (Broken 1) ∷ []
 unfolding with_runtime Base
 breaks_rule_one = refl
 
@@ -407,12 +421,14 @@ abbrev bytes_of_note : Option Note → ℕ → ℕ → List ℕ
 bytes_of_note None at len = []
 bytes_of_note (Some x) at len = bytes_at x.store.memory at len
 
-frame_at_pause : bytes_of_note (slice_get (Protocol by_hand by_hand_plan (answer (Some (i32 42)) 5 ∷ []) 200).events 1) 1024 20 ≡ 0x14 ∷ 4 ∷ 0 ∷ 0 ∷ 0x40 ∷ 4 ∷ 0 ∷ 0 ∷ 7 ∷ 0 ∷ 0 ∷ 0 ∷ 7 ∷ 0 ∷ 0 ∷ 0 ∷ 0 ∷ 0 ∷ 0 ∷ 0 ∷ []
+frame_at_pause : bytes_of_note (slice_get (Protocol by_hand by_hand_plan (answer (Some (i32 42)) 5 ∷ []) 200).events 1) 1024 20 ≡ 0x14 ∷ 4 ∷ 0 ∷ 0 ∷ 0x40 ∷ 4 ∷ 0 ∷ 0 ∷ 7 ∷ 0 ∷ 0 ∷ 0 ∷ 7 ∷ 0
+    ∷ 0 ∷ 0 ∷ 0 ∷ 0 ∷ 0 ∷ 0 ∷ []
 unfolding with_runtime Base
 frame_at_pause = refl
 
 -- and that of the answer the location at its start again
-frame_at_answer : bytes_of_note (slice_get (Protocol by_hand by_hand_plan (answer (Some (i32 42)) 5 ∷ []) 200).events 2) 1024 20 ≡ 8 ∷ 4 ∷ 0 ∷ 0 ∷ 0x40 ∷ 4 ∷ 0 ∷ 0 ∷ 7 ∷ 0 ∷ 0 ∷ 0 ∷ 7 ∷ 0 ∷ 0 ∷ 0 ∷ 0 ∷ 0 ∷ 0 ∷ 0 ∷ []
+frame_at_answer : bytes_of_note (slice_get (Protocol by_hand by_hand_plan (answer (Some (i32 42)) 5 ∷ []) 200).events 2) 1024 20 ≡ 8 ∷ 4 ∷ 0 ∷ 0 ∷ 0x40 ∷ 4 ∷ 0 ∷ 0 ∷ 7 ∷ 0 ∷ 0 ∷ 0 ∷ 7 ∷ 0
+    ∷ 0 ∷ 0 ∷ 0 ∷ 0 ∷ 0 ∷ 0 ∷ []
 unfolding with_runtime Base
 frame_at_answer = refl
 
@@ -421,7 +437,8 @@ abbrev calls_in_arms : Module
 calls_in_arms = module_with (record {
   sort = 0;
   locals = record { count = 1; ty = I64 } ∷ [];
-  body = then (const (i32 5)) (plain (local_get 0) (branch (Some I32) (then (const (i32 8)) (plain (call 0) done)) (then (const (i32 9)) (plain (call 0) done)) (then (num I32Add) (plain (call 0) done))));
+  body = then (const (i32 5)) (plain (local_get 0) (branch (Some I32) (then (const (i32 8)) (plain (call 0) done)) (then (const (i32 9)) (plain (call 0) done))
+      (then (num I32Add) (plain (call 0) done))));
 })
 
 abbrev stack_of_note : Option Note → List Suspended
@@ -462,7 +479,13 @@ unfolding with_runtime
 breaks_rule_two = refl
 
 -- another import is called while the program rewinds
-breaks_rule_three : events_of (Protocol (with_runtime (record (module_with (record { sort = 0; locals = []; body = on_state 2 (plain (local_get 0) (plain (call 1) (then drop done))) (ask_then done) })) { imports = import_of 0 ∷ import_of 0 ∷ []; exports = export_of 2 ∷ [] })) (plan_of 64 (entry 2 (i32 7 ∷ []) ∷ [])) (answer (Some (i32 1)) 1 ∷ []) 200).events ≡ call_of 0 (i32 7 ∷ []) ∷ paused 1 8 ∷ ended (Broken 3) ∷ []
+breaks_rule_three : events_of (Protocol
+    (with_runtime (record (module_with (record { sort = 0; locals = []; body = on_state 2 (plain (local_get 0) (plain (call 1) (then drop done))) (ask_then done) })) {
+      imports = import_of 0
+          ∷ import_of 0 ∷ [];
+      exports = export_of 2 ∷ [];
+    })) (plan_of 64 (entry 2 (i32 7 ∷ []) ∷ [])) (answer (Some (i32 1)) 1 ∷ []) 200).events ≡ call_of 0 (i32 7 ∷ []) ∷ paused 1 8
+    ∷ ended (Broken 3) ∷ []
 unfolding with_runtime
 breaks_rule_three = refl
 
@@ -486,7 +509,10 @@ unfolding with_runtime
 traps_rewinding = refl
 
 -- an import is called inside an export
-breaks_rule_six : held_to (record (prepared_by (ask_then done)) { funcs = take 5 (prepared_by (ask_then done)).funcs ++ (record { sort = 3; locals = []; body = then (const (i32 1)) (plain (call 0) done) }) ∷ [] }) ≡ call_of 0 (i32 7 ∷ []) ∷ ended (Broken 6) ∷ []
+breaks_rule_six : held_to (record (prepared_by (ask_then done)) {
+  funcs = take 5 (prepared_by (ask_then done)).funcs
+      ++ (record { sort = 3; locals = []; body = then (const (i32 1)) (plain (call 0) done) }) ∷ [];
+}) ≡ call_of 0 (i32 7 ∷ []) ∷ ended (Broken 6) ∷ []
 unfolding with_runtime
 breaks_rule_six = refl
 
@@ -513,7 +539,8 @@ every_import = record { choice = every; ignore_indirect = false; policy = save_a
 abbrev hand_answers : List Outcome
 hand_answers = answer (Some (i32 42)) 5 ∷ []
 
-hand_reaches : IsPrefix (events_of (expected_notes asks_once every_import by_hand_plan hand_answers 6)) (events_of (protocol_notes by_hand by_hand_plan hand_answers (Bound asks_once 6 (pause_stacks (Blocking asks_once by_hand_plan hand_answers 6).events))))
+hand_reaches : IsPrefix (events_of (expected_notes asks_once every_import by_hand_plan hand_answers 6))
+    (events_of (protocol_notes by_hand by_hand_plan hand_answers (Bound asks_once 6 (pause_stacks (Blocking asks_once by_hand_plan hand_answers 6).events))))
 unfolding with_runtime pruned calls_of points Base code_weight
 hand_reaches = ([], refl)
 
@@ -521,7 +548,8 @@ hand_follows : IsPrefix (events_of (protocol_notes by_hand by_hand_plan hand_ans
 unfolding with_runtime pruned calls_of points Base
 hand_follows = (paused 5 20 ∷ answered (Some (i32 42)) ∷ returned 0 (Some (i32 42)) ∷ ended Done ∷ [], refl)
 
-hand_image : Image asks_once every_import (false ∷ true ∷ []) (stack_of_note (slice_get (expected_notes asks_once every_import by_hand_plan hand_answers 6) 1)) 1024 64 (bytes_of_note (slice_get (protocol_notes by_hand by_hand_plan hand_answers 200) 1) 0 65536)
+hand_image : Image asks_once every_import (false ∷ true ∷ []) (stack_of_note (slice_get (expected_notes asks_once every_import by_hand_plan hand_answers 6) 1)) 1024 64
+    (bytes_of_note (slice_get (protocol_notes by_hand by_hand_plan hand_answers 200) 1) 0 65536)
 unfolding with_runtime pruned calls_of points Base
 hand_image = record { location = refl; limit = refl; frames = (((refl, (refl, tt)), refl), tt) }
 

@@ -49,7 +49,8 @@ module _ (m : Module) (c : Configuration) where
   beyond d e j n x y le = leads_beyond Configuration Note next c d e j n [] [] x y le
 
   -- an end and a want of steps don't stand in one run
-  never_both : (left j k used more : ℕ) (d e : Configuration) (end : Finish) → Goes m c j d → FinishesAt (step m d) k end → j + k ≤ left → Goes m c used e → left ≡ used + more → CostsAbove (step m e) more → ⊥
+  never_both : (left j k used more : ℕ) (d e : Configuration) (end : Finish) → Goes m c j d → FinishesAt (step m d) k end → j + k ≤ left → Goes m c used e → left ≡ used + more
+      → CostsAbove (step m e) more → ⊥
   never_both left j k used more d e end x f le y split above =
       ⊎_elim
       (λ lt.

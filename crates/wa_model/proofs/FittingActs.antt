@@ -71,7 +71,8 @@ module _ (m : Module) where
   computed_fits s t ts mids below (Some (Err trap)) ok some typed e f = tt
 
   -- a load gives a value of its row's type
-  loaded_fits : (s : Store) (row : AccessRow) (ts mids : List ValType) (below : List Value) (o : Option ℕ) → StoreFits m s → types_of below ≡ ts → mids ≡ row.ty ∷ ts → DidFits m mids below (loaded s row o)
+  loaded_fits : (s : Store) (row : AccessRow) (ts mids : List ValType) (below : List Value) (o : Option ℕ) → StoreFits m s → types_of below ≡ ts → mids ≡ row.ty ∷ ts
+      → DidFits m mids below (loaded s row o)
   loaded_fits s row ts mids below None ok e f = tt
   loaded_fits s row ts mids below (Some n) ok e f = (ok, above row.ty ts mids below (extended row n) (value_of_typed row.ty _) e f)
 
@@ -81,7 +82,8 @@ module _ (m : Module) where
   stored_fits s mids below (Some memory) ok e = (record { globals = ok.globals; table = ok.table }, e)
 
   -- a store of a value of its row's type
-  put_fits : (s : Store) (row : AccessRow) (place : ℕ) (v : Value) (mids : List ValType) (below : List Value) → StoreFits m s → type_of v ≡ row.ty → types_of below ≡ mids → DidFits m mids below (store_at s place v (Some row))
+  put_fits : (s : Store) (row : AccessRow) (place : ℕ) (v : Value) (mids : List ValType) (below : List Value) → StoreFits m s → type_of v ≡ row.ty → types_of below ≡ mids
+      → DidFits m mids below (store_at s place v (Some row))
   put_fits s row place v mids below ok e f =
       let done : Did = stored s (number_put s.memory place (width_of row) (number_of v)) in
       let same : same_type row.ty (type_of v) ≡ true = ap (same_type row.ty) e ∙ same_itself row.ty in
@@ -110,7 +112,8 @@ module _ (m : Module) where
       (ok, above t ts mids ops (chosen n lower upper) (chosen_typed t n lower upper low up) (tail_is (type_of lower) t (types_of ops) ts e2) f)
 
   -- global.set takes a value of the global's type
-  set_fits : (most : Option ℕ) (s : Store) (x : ℕ) (g : GlobalType) (ops : List Value) (ts mids : List ValType) → StoreFits m s → slice_get (all_globals m) x ≡ Some g → types_of ops ≡ g.ty ∷ ts → mids ≡ ts
+  set_fits : (most : Option ℕ) (s : Store) (x : ℕ) (g : GlobalType) (ops : List Value) (ts mids : List ValType) → StoreFits m s → slice_get (all_globals m) x ≡ Some g
+      → types_of ops ≡ g.ty ∷ ts → mids ≡ ts
       → DidFits m mids (drop 1 ops) (act most (global_set x) s (take 1 ops))
   set_fits most s x g [] ts mids ok at e f = cc
   set_fits most s x g (v ∷ ops) ts mids ok at e f = (
@@ -119,7 +122,8 @@ module _ (m : Module) where
   )
 
   -- a load takes an address
-  load_fits : (most : Option ℕ) (s : Store) (op align offset : ℕ) (ops : List Value) (row : AccessRow) (ts mids : List ValType) → StoreFits m s → load_row op ≡ Some row → types_of ops ≡ I32 ∷ ts → mids ≡ row.ty ∷ ts
+  load_fits : (most : Option ℕ) (s : Store) (op align offset : ℕ) (ops : List Value) (row : AccessRow) (ts mids : List ValType) → StoreFits m s → load_row op ≡ Some row
+      → types_of ops ≡ I32 ∷ ts → mids ≡ row.ty ∷ ts
       → DidFits m mids (drop 1 ops) (act most (load op align offset) s (take 1 ops))
   load_fits most s op align offset [] row ts mids ok at e f = cc
   load_fits most s op align offset (V.I64 n ∷ ops) row ts mids ok at e f = cc
@@ -128,7 +132,8 @@ module _ (m : Module) where
       (loaded_fits s row ts mids ops (number_at s.memory (a + offset) (width_of row)) ok (tail_is I32 I32 (types_of ops) ts e) f)
 
   -- a store takes a value of its row's type, and an address below it
-  store_fits : (most : Option ℕ) (s : Store) (op align offset : ℕ) (ops : List Value) (row : AccessRow) (ts mids : List ValType) → StoreFits m s → store_row op ≡ Some row → types_of ops ≡ row.ty ∷ I32 ∷ ts → mids ≡ ts
+  store_fits : (most : Option ℕ) (s : Store) (op align offset : ℕ) (ops : List Value) (row : AccessRow) (ts mids : List ValType) → StoreFits m s → store_row op ≡ Some row
+      → types_of ops ≡ row.ty ∷ I32 ∷ ts → mids ≡ ts
       → DidFits m mids (drop 2 ops) (act most (store op align offset) s (take 2 ops))
   store_fits most s op align offset [] row ts mids ok at e f = cc
   store_fits most s op align offset (v ∷ []) row ts mids ok at e f = cc
@@ -165,13 +170,15 @@ set_moves None ins outs h = absurd h
 set_moves (Some g) ins outs h = (g, refl, moves_where g.mutable 10 (g.ty ∷ []) [] ins outs h)
 
 -- there is a row of the load, and its type is given
-pub load_moves : (memory : Bool) (align : ℕ) (o : Option AccessRow) (ins outs : List ValType) → Takes (loads memory align o) ins outs → (row : AccessRow) × (o ≡ Some row) × Takes (moves (I32 ∷ []) (row.ty ∷ [])) ins outs
+pub load_moves : (memory : Bool) (align : ℕ) (o : Option AccessRow) (ins outs : List ValType) → Takes (loads memory align o) ins outs
+    → (row : AccessRow) × (o ≡ Some row) × Takes (moves (I32 ∷ []) (row.ty ∷ [])) ins outs
 load_moves false align o ins outs h = absurd h
 load_moves true align None ins outs h = absurd h
 load_moves true align (Some row) ins outs h = (row, refl, moves_where (nat_le align row.natural) 9 (I32 ∷ []) (row.ty ∷ []) ins outs h)
 
 -- there is a row of the store, and its type is taken
-pub store_moves : (memory : Bool) (align : ℕ) (o : Option AccessRow) (ins outs : List ValType) → Takes (stores memory align o) ins outs → (row : AccessRow) × (o ≡ Some row) × Takes (moves (row.ty ∷ I32 ∷ []) []) ins outs
+pub store_moves : (memory : Bool) (align : ℕ) (o : Option AccessRow) (ins outs : List ValType) → Takes (stores memory align o) ins outs
+    → (row : AccessRow) × (o ≡ Some row) × Takes (moves (row.ty ∷ I32 ∷ []) []) ins outs
 store_moves false align o ins outs h = absurd h
 store_moves true align None ins outs h = absurd h
 store_moves true align (Some row) ins outs h = (row, refl, moves_where (nat_le align row.natural) 9 (row.ty ∷ I32 ∷ []) [] ins outs h)

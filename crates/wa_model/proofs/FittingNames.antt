@@ -1,5 +1,6 @@
 -- Values and their types in lists; the types of functions of a valid module.
-use Rattle.std.proofs.Common.{arith, ◌≡◌, ℕ, zero, suc, ◌+◌, ◌-◌, ◌<◌, ◌≤◌, List, [], ◌∷◌, ◌++◌, map, reverse, Option, Some, None, Bool, true, false, refl, sym, ap, ◌∙◌, subst, length, take, drop, length-append}
+use Rattle.std.proofs.Common.{arith, ◌≡◌, ℕ, zero, suc, ◌+◌, ◌-◌, ◌<◌, ◌≤◌, List, [], ◌∷◌, ◌++◌, map, reverse, Option, Some, None, Bool, true, false, refl, sym, ap, ◌∙◌, subst, length, take}
+use Rattle.std.proofs.Common.{drop, length-append}
 use Rattle.std.specs.Prelude.{nat_lt, nat_le, if◌then◌else◌, slice_get, slice_set}
 use Rattle.std.specs.Option.{option_map}
 use Rattle.std.specs.List.{list_all}
@@ -166,7 +167,8 @@ module _ (m : Module) where
       by_import true z e = ltb-true x (func_imports m) z
       by_import false z e =
           let le = ltb-false x (func_imports m) z in
-          let n : length (func_sorts m) ≡ func_imports m + length m.funcs = length-append (imported imported_func m) (sorts_of m.funcs) ∙ ap (λ k. func_imports m + k) (length-map m.funcs (λ (f : Func). f.sort)) in
+          let n : length (func_sorts m) ≡ func_imports m + length m.funcs = length-append (imported imported_func m) (sorts_of m.funcs)
+          ∙ ap (λ k. func_imports m + k) (length-map m.funcs (λ (f : Func). f.sort)) in
           absurd (there m.funcs (x - func_imports m) (omega arith) e)
 
   -- a function that is found is there

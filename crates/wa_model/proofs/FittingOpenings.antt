@@ -31,7 +31,8 @@ are_of_types (v ∷ values) = ap (λ b. b && are_of (types_of values) values) (s
 -- ---- initialisers
 
 -- a constant global has a value of its type
-got_typed : (values : List Value) (gs : List GlobalType) (t : ValType) (x : ℕ) (o : Option GlobalType) → types_of values ≡ global_types gs → slice_get gs x ≡ o → constant_of o t ≡ true → type_of (value_at values x) ≡ t
+got_typed : (values : List Value) (gs : List GlobalType) (t : ValType) (x : ℕ) (o : Option GlobalType) → types_of values ≡ global_types gs → slice_get gs x ≡ o → constant_of o t ≡ true
+    → type_of (value_at values x) ≡ t
 got_typed values gs t x None e z h = cc
 got_typed values gs t x (Some g) e z h = value_typed values x g.ty (global_at values gs x g e z) ∙ same_true g.ty t (and_parts (not g.mutable) (same_type g.ty t) h).1
 
@@ -67,7 +68,8 @@ values_typed m imports v e =
 -- ---- the store
 
 -- once all pieces are written the globals are as given
-filled_globals : (globals : List Value) (memory : List ℕ) (table : List (Option ℕ)) (elems : List (Piece (Option ℕ))) (bytes : List (Piece ℕ)) (s : Store) → filled globals memory table elems bytes ≡ opens s → s.globals ≡ globals
+filled_globals : (globals : List Value) (memory : List ℕ) (table : List (Option ℕ)) (elems : List (Piece (Option ℕ))) (bytes : List (Piece ℕ)) (s : Store)
+    → filled globals memory table elems bytes ≡ opens s → s.globals ≡ globals
 filled_globals globals memory table elems bytes s = by_elems (first_out (length table) 0 elems)
   where
     by_bytes : (o : Option ℕ) → bytes_checked globals memory table elems bytes o ≡ opens s → s.globals ≡ globals

@@ -44,10 +44,12 @@ module _ (m : Module) (v : Valid m) (outs : List ValType) where
   ends_fit c left used end ok (by_finish j k d g f e le) = finishes_fit (step m d) k end (steps_fit m outs d v (leads_fit c d j _ ok g)) f
   ends_fit c left used end ok (by_steps more d g e el a) = subst (EndFits m outs) (sym e) (leads_fit c d used _ ok g)
 
-pub calls_fit : (m : Module) (s : Store) (args : List Value) (x : ℕ) (f : Func) → Valid m → StoreFits m s → defined_at m x ≡ Some f → types_of args ≡ (func_type_at m x).params → Fits m (results_of m x) (entered s [] args x f)
+pub calls_fit : (m : Module) (s : Store) (args : List Value) (x : ℕ) (f : Func) → Valid m → StoreFits m s → defined_at m x ≡ Some f → types_of args ≡ (func_type_at m x).params
+    → Fits m (results_of m x) (entered s [] args x f)
 calls_fit m s args x f v so is e = entered_fits m v (results_of m x) s so [] args x f is e refl
 
-pub answers_fit : (m : Module) (outs : List ValType) (c : Configuration) (s : Store) (values : List Value) → StoreFits m s → CallersFit m outs (types_of values) (c.here ∷ c.under) → Fits m outs (resumed c s values)
+pub answers_fit : (m : Module) (outs : List ValType) (c : Configuration) (s : Store) (values : List Value) → StoreFits m s → CallersFit m outs (types_of values) (c.here ∷ c.under)
+    → Fits m outs (resumed c s values)
 answers_fit m outs c s values so w =
     let a = c.here in record {
       store = so;

@@ -1,5 +1,6 @@
 -- From a configuration that fits a valid module there is a reduction, to one that fits again.
-use Rattle.std.proofs.Common.{arith, ◌≡◌, ℕ, zero, suc, ◌+◌, ◌-◌, ◌<◌, ◌≤◌, List, [], ◌∷◌, ◌++◌, map, reverse, Option, Some, None, Bool, true, false, refl, sym, ap, ◌∙◌, subst, length, take, drop, append_assoc}
+use Rattle.std.proofs.Common.{arith, ◌≡◌, ℕ, zero, suc, ◌+◌, ◌-◌, ◌<◌, ◌≤◌, List, [], ◌∷◌, ◌++◌, map, reverse, Option, Some, None, Bool, true, false, refl, sym, ap, ◌∙◌, subst, length, take}
+use Rattle.std.proofs.Common.{drop, append_assoc}
 use Rattle.std.specs.Prelude.{nat_lt, if◌then◌else◌, slice_get, slice_set, unwrap_or}
 use Rattle.std.proofs.lemmas.Bool.{ltb-true, ltb-false, and_parts}
 use Rattle.std.proofs.lemmas.List.{length-map, map-append, length-reverse, reverse-reverse}
@@ -10,20 +11,25 @@ use Rattle.wa_types.specs.declared.values.Value.TheVariants as V
 use Rattle.wa_types.specs.declared.values.Trap.TheVariants.{StackExhausted, TypeMismatch}
 use Rattle.wa_types.specs.Counts.{depth_of}
 use Rattle.wa_types.specs.Pruned.{is_last}
-use Rattle.wa_types.specs.Syntax.{Plain, basic, local_get, local_set, local_tee, br, br_if, br_table, return, unreachable, call, call_indirect, a_block, a_loop, Code, done, plain, nest, branch, FuncType, Func, Module}
-use Rattle.wa_types.specs.Typing.{Around, Sig, moves, leaves, drops, selects, lacks, late, listed, type_of, same_result, all_there, agrees_with, all_alike, jump as jump_sig, may_jump, jumps, calls, calls_at, gets, sets, tees, basic_sig, sig, Takes, Types}
+use Rattle.wa_types.specs.Syntax.{Plain, basic, local_get, local_set, local_tee, br, br_if, br_table, return, unreachable, call, call_indirect, a_block, a_loop, Code, done, plain, nest}
+use Rattle.wa_types.specs.Syntax.{branch, FuncType, Func, Module}
+use Rattle.wa_types.specs.Typing.{Around, Sig, moves, leaves, drops, selects, lacks, late, listed, type_of, same_result, all_there, agrees_with, all_alike, jump as jump_sig, may_jump, jumps}
+use Rattle.wa_types.specs.Typing.{calls, calls_at, gets, sets, tees, basic_sig, sig, Takes, Types}
 use Rattle.wa_types.specs.Validity.{Valid}
 use Rattle.wa_types.specs.Modules.{func_imports, func_sorts, func_types, func_type_at, type_at, or_empty, declared_locals, locals_of, around, defined_at}
 use Rattle.wa_model.specs.Store.{Store, value_at, Did, works, fails, lacks as lacking, takes, act}
 use Rattle.wa_model.specs.Configuration.{Label, block_label, loop_label, Activation, Configuration, running, waiting}
-use Rattle.wa_model.specs.Step.{Next, steps, asks, traps, stuck, keep, result_count, leave, jump, finish, did, with_top, with_number, choose, arity_of, zero_of, entered, invoke, param_count, same_func_type, through, memory_max, step_at, step}
+use Rattle.wa_model.specs.Step.{Next, steps, asks, traps, stuck, keep, result_count, leave, jump, finish, did, with_top, with_number, choose, arity_of, zero_of, entered, invoke, param_count}
+use Rattle.wa_model.specs.Step.{same_func_type, through, memory_max, step_at, step}
 use Rattle.wa_model.specs.Growth.{EntryNamed}
 use Rattle.wa_model.specs.Heights.{behind_plain, most_operands, Within}
 use Rattle.wa_model.specs.Fitting.{types_of, results_of, StoreFits, Stands, ActFits, CallersFit, Fits, NextFits, ActWithin}
 use Rattle.wa_model.proofs.GrownSteps.{each_got}
-use Rattle.wa_model.proofs.FittingNames.{split_types, carried_types, kept_types, reversed_types, value_typed, set_typed, zeros_typed, same_true, func_types_true, one_reversed, type_small, func_type_small, results_are, count_is, defined_type, not_defined, func_found}
+use Rattle.wa_model.proofs.FittingNames.{split_types, carried_types, kept_types, reversed_types, value_typed, set_typed, zeros_typed, same_true, func_types_true, one_reversed, type_small}
+use Rattle.wa_model.proofs.FittingNames.{func_type_small, results_are, count_is, defined_type, not_defined, func_found}
 use Rattle.wa_model.proofs.FittingActs.{DidFits, act_fits}
-use Rattle.wa_model.proofs.HeightLemmas.{listed_height, basic_height, gets_height, sets_height, tees_height, may_jump_height, calls_height, calls_at_height, begins_within, rest_within, nest_within, branch_within}
+use Rattle.wa_model.proofs.HeightLemmas.{listed_height, basic_height, gets_height, sets_height, tees_height, may_jump_height, calls_height, calls_at_height, begins_within, rest_within}
+use Rattle.wa_model.proofs.HeightLemmas.{nest_within, branch_within}
 
 -- ---- typing
 
@@ -59,7 +65,8 @@ pub record Restands (m : Module) (top deep : ℕ) (c : Around) (results : List (
   pub outs : List ValType
   pub typed : Types c results code outs own
   pub within : Within m top deep code (length (own ++ below)) (length labels)
-  pub again : (code' : Code) (own' : List ValType) → Types c results code' outs own' → Within m top deep code' (length (own' ++ below)) (length labels) → Stands m top deep c results labels code' own' below
+  pub again : (code' : Code) (own' : List ValType) → Types c results code' outs own' → Within m top deep code' (length (own' ++ below)) (length labels)
+      → Stands m top deep c results labels code' own' below
 
 pub restands : (m : Module) (top deep : ℕ) (c : Around) (results : List (Option ValType)) (labels : List Label) (code : Code) (own below : List ValType)
     → Stands m top deep c results labels code own below → Restands m top deep c results labels code own below
@@ -96,7 +103,8 @@ module _ (m : Module) (v : Valid m) (outs : List ValType) where
         (so, ap (λ n. types_of (take n ops)) (count_is m v fn) ∙ (split_types (results_of m fn) more ops e).0 ∙ w)
     leaves_fit k fn ops more (a ∷ under) e w =
         let taken : types_of (take (result_count m fn) ops) ≡ results_of m fn = ap (λ n. types_of (take n ops)) (count_is m v fn) ∙ (split_types (results_of m fn) more ops e).0 in
-        let types : types_of (take (result_count m fn) ops ++ a.operands) ≡ results_of m fn ++ types_of a.operands = map-append type_of (take (result_count m fn) ops) a.operands ∙ ap (λ xs. xs ++ types_of a.operands) taken in
+        let types : types_of (take (result_count m fn) ops ++ a.operands) ≡ results_of m fn ++ types_of a.operands = map-append type_of (take (result_count m fn) ops) a.operands
+        ∙ ap (λ xs. xs ++ types_of a.operands) taken in
         record { store = so; here = subst (ActFits m a.func a.locals a.code a.labels) (sym types) w.0; under = w.1 }
 
     -- ---- calls
@@ -112,7 +120,17 @@ module _ (m : Module) (v : Valid m) (outs : List ValType) where
         ∙ ap (λ ts. (type_at m g.sort).params ++ ts) (zeros_typed (declared_locals g.locals)) in
         let c : Around = around m g in record {
           store = so;
-          here = record { func = g; func_is = is; locals_fit = locals; results = c.result ∷ []; own = []; below = []; types_are = refl; stands = (refl, refl, body_typed m v x g is, record { operands = omega arith; labels = omega arith }) };
+          here = record {
+            func = g;
+            func_is = is;
+            locals_fit = locals;
+            results = c.result
+                ∷ [];
+            own = [];
+            below = [];
+            types_are = refl;
+            stands = (refl, refl, body_typed m v x g is, record { operands = omega arith; labels = omega arith });
+          };
           under = w;
         }
 
@@ -232,13 +250,15 @@ module _ (m : Module) (v : Valid m) (outs : List ValType) where
         -- ---- branches
 
         br_fits : (ops : List Value) (labels : List Label) (results : List (Option ValType)) (code : Code) (own mids below : List ValType) (l : ℕ) (o : Option (Option ValType))
-            → slice_get results l ≡ o → Takes (jump_sig o) own mids → types_of ops ≡ own ++ below → Stands m top deep c results labels code own below → NextFits m outs (jump 0 m s fn under ls ops labels l)
+            → slice_get results l ≡ o → Takes (jump_sig o) own mids → types_of ops ≡ own ++ below → Stands m top deep c results labels code own below
+            → NextFits m outs (jump 0 m s fn under ls ops labels l)
         br_fits ops labels results code own mids below l None e h eo st = absurd h
         br_fits ops labels results code own mids below l (Some r) e h eo st =
             jumps_fit 0 ops labels results code own below own (h.0 ++ below) l r st eo (eo ∙ ap (λ xs. xs ++ below) h.1 ∙ append_assoc (listed r) h.0 below) e
 
         br_if_fits : (ops : List Value) (labels : List Label) (results : List (Option ValType)) (code rest : Code) (own mids below : List ValType) (l : ℕ) (o : Option (Option ValType))
-            → slice_get results l ≡ o → Takes (may_jump o) own mids → types_of ops ≡ own ++ below → Stands m top deep c results labels code own below → Stands m top deep c results labels rest mids below
+            → slice_get results l ≡ o → Takes (may_jump o) own mids → types_of ops ≡ own ++ below → Stands m top deep c results labels code own below
+            → Stands m top deep c results labels rest mids below
             → NextFits m outs (with_number ops (λ n lower. choose n (jump 0 m s fn under ls lower labels l) (steps 0 (running s fn under ls lower rest labels))))
         br_if_fits ops labels results code rest own mids below l None e h eo st again = absurd h
         br_if_fits ops labels results code rest own mids below l (Some r) e h eo st again =
@@ -248,7 +268,8 @@ module _ (m : Module) (v : Valid m) (outs : List ValType) where
             (goes_on ls lower rest labels results mids below el el' again))
 
         -- by what a branch table takes
-        br_table_fits : (ops : List Value) (labels : List Label) (results : List (Option ValType)) (code : Code) (own mids below : List ValType) (targets : List ℕ) (last : ℕ) (o : Option (Option ValType))
+        br_table_fits : (ops : List Value) (labels : List Label) (results : List (Option ValType)) (code : Code) (own mids below : List ValType) (targets : List ℕ) (last : ℕ)
+            (o : Option (Option ValType))
             → slice_get results last ≡ o → Takes (jumps results targets o) own mids → types_of ops ≡ own ++ below → Stands m top deep c results labels code own below
             → NextFits m outs (with_number ops (λ n lower. jump (length targets + 1) m s fn under ls lower labels (unwrap_or (slice_get targets n) last)))
         br_table_fits ops labels results code own mids below targets last None e h eo st = absurd h
@@ -295,12 +316,19 @@ module _ (m : Module) (v : Valid m) (outs : List ValType) where
             by_callee : (o : Option Func) → defined_at m x ≡ o → NextFits m outs (invoke m s fn under ls own_ops ops rest labels params x o)
             by_callee (Some g) e = by_room (nat_lt (length under + 1) 4096)
               where
-                by_room : (b : Bool) → NextFits m outs (if b then steps params (entered s (waiting fn ls (drop params ops) (own_ops ++ take params ops) rest labels ∷ under) (reverse (take params ops)) x g) else traps params StackExhausted s)
+                by_room : (b : Bool) → NextFits m outs (if b then steps params (entered s (waiting fn ls (drop params ops) (own_ops ++ take params ops) rest labels ∷ under)
+                    (reverse (take params ops)) x g) else traps params StackExhausted s)
                 by_room true = entered_fits (waiting fn ls (drop params ops) (own_ops ++ take params ops) rest labels ∷ under) (reverse (take params ops)) x g e args_typed caller
                 by_room false = so
             by_callee None e = by_import (nat_lt x (func_imports m)) refl
               where
-                by_import : (b : Bool) → nat_lt x (func_imports m) ≡ b → NextFits m outs (if b then asks params x (reverse (take params ops)) (record { store = s; here = waiting fn ls (drop params ops) (own_ops ++ take params ops) rest labels; under = under }) else stuck)
+                by_import : (b : Bool) → nat_lt x (func_imports m) ≡ b → NextFits m outs
+                    (if b then asks params x (reverse (take params ops)) (record {
+                      store = s;
+                      here = waiting fn ls (drop params ops) (own_ops ++ take params ops) rest labels;
+                      under =
+                          under;
+                    }) else stuck)
                 by_import true z = (ltb-true x (func_imports m) z, args_typed, record { store = so; waits = caller })
                 by_import false z = let i = not_defined m x lt e in let j = ltb-false x (func_imports m) z in absurd (omega arith)
 
@@ -366,14 +394,16 @@ module _ (m : Module) (v : Valid m) (outs : List ValType) where
         plain_fits ops labels results return rest own mids below h eo st again = leaves_here 0 ops (h.0 ++ below) (eo ∙ ap (λ xs. xs ++ below) h.1 ∙ append_assoc (listed c.result) h.0 below)
         plain_fits ops labels results unreachable rest own mids below h eo st again = so
         plain_fits ops labels results (call x) rest own mids below h eo st again =
-            calls_fit ops labels results rest own mids below x (slice_get (func_types m) x) refl h eo (again refl (calls_height (slice_get (func_types m) x) (func_type_at m x) own mids below (λ t e. (func_found m x t e).1) (func_type_small m v x) h))
+            calls_fit ops labels results rest own mids below x (slice_get (func_types m) x) refl h eo
+            (again refl (calls_height (slice_get (func_types m) x) (func_type_at m x) own mids below (λ t e. (func_found m x t e).1) (func_type_small m v x) h))
         plain_fits ops labels results (call_indirect sort) rest own mids below h eo st again =
             calls_at_fit ops labels results rest own mids below sort c.table (slice_get m.types sort) refl h eo
             (again refl (calls_at_height c.table (slice_get m.types sort) (type_at m sort) own mids below (λ t e. ap or_empty e) (type_small m v sort) h))
 
         -- a construct's body begins with none of the operands below it
         enters : (ops : List Value) (labels : List Label) (results : List (Option ValType)) (body rest : Code) (r : Option ValType) (skipped : Code) (own below : List ValType)
-            → types_of ops ≡ own ++ below → Types c (r ∷ results) body (listed r) [] → Within m top deep body (length (own ++ below)) (suc (length labels)) → Stands m top deep c results labels rest (listed r ++ own) below
+            → types_of ops ≡ own ++ below → Types c (r ∷ results) body (listed r) [] → Within m top deep body (length (own ++ below)) (suc (length labels))
+            → Stands m top deep c results labels rest (listed r ++ own) below
             → Fits m outs (running s fn under ls ops body (block_label (length ops) (arity_of r) rest skipped ∷ labels))
         unfolding Stands
         enters ops labels results body rest r skipped own below eo t wi st =
@@ -381,7 +411,8 @@ module _ (m : Module) (v : Valid m) (outs : List ValType) where
             goes_on ls ops body (block_label (length ops) (arity_of r) rest skipped ∷ labels) (r ∷ results) [] (own ++ below) el eo (r, results, own, below, refl, refl, h, refl, t, wi, st)
 
         enters_loop : (ops : List Value) (labels : List Label) (results : List (Option ValType)) (body rest : Code) (r : Option ValType) (own below : List ValType)
-            → types_of ops ≡ own ++ below → Types c (None ∷ results) body (listed r) [] → Within m top deep body (length (own ++ below)) (suc (length labels)) → Stands m top deep c results labels rest (listed r ++ own) below
+            → types_of ops ≡ own ++ below → Types c (None ∷ results) body (listed r) [] → Within m top deep body (length (own ++ below)) (suc (length labels))
+            → Stands m top deep c results labels rest (listed r ++ own) below
             → Fits m outs (running s fn under ls ops body (loop_label (length ops) body rest ∷ labels))
         unfolding Stands
         enters_loop ops labels results body rest r own below eo t wi st =
@@ -389,16 +420,19 @@ module _ (m : Module) (v : Valid m) (outs : List ValType) where
             goes_on ls ops body (loop_label (length ops) body rest ∷ labels) (None ∷ results) [] (own ++ below) el eo (r, results, own, below, refl, refl, h, t, wi, t, wi, st)
 
         -- what stands behind a construct
-        behind_fits : (r : Option ValType) (rest : Code) (own below : List ValType) (d : ℕ) → Within m top deep rest (length (own ++ below) + arity_of r) d → Within m top deep rest (length ((listed r ++ own) ++ below)) d
+        behind_fits : (r : Option ValType) (rest : Code) (own below : List ValType) (d : ℕ) → Within m top deep rest (length (own ++ below) + arity_of r) d
+            → Within m top deep rest (length ((listed r ++ own) ++ below)) d
         behind_fits r rest own below d w = subst (λ k. Within m top deep rest k d) (sym (listed_height r own below)) w
 
         code_fits : (ops : List Value) (labels : List Label) (results : List (Option ValType)) (code : Code) (own below : List ValType)
-            → types_of ops ≡ own ++ below → Stands m top deep c results labels code own below → Restands m top deep c results labels code own below → NextFits m outs (step_at m s fn under ls ops labels code)
+            → types_of ops ≡ own ++ below → Stands m top deep c results labels code own below → Restands m top deep c results labels code own below
+            → NextFits m outs (step_at m s fn under ls ops labels code)
         unfolding Types
         code_fits ops labels results done own below eo st k = finishes_fit ops labels results own below st eo
         code_fits ops labels results (plain p rest) own below eo st k =
             let t = k.typed in
-            plain_fits ops labels results p rest own t.0 below t.1 eo st (λ goes e. k.again rest t.0 t.2 (rest_within m top deep p rest (length (own ++ below)) (length (t.0 ++ below)) (length labels) goes e k.within))
+            plain_fits ops labels results p rest own t.0 below t.1 eo st (λ goes e. k.again rest t.0 t.2
+            (rest_within m top deep p rest (length (own ++ below)) (length (t.0 ++ below)) (length labels) goes e k.within))
         code_fits ops labels results (nest a_block r body rest) own below eo st k =
             let t = k.typed in
             let w = nest_within m top deep a_block r body rest (length (own ++ below)) (length labels) k.within in

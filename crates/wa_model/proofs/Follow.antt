@@ -45,7 +45,8 @@ split_on : {A : Type 0} (xs ys : List A) (x : A) → xs ++ x ∷ ys ≡ (xs ++ x
 split_on [] ys x = refl
 split_on (y ∷ xs) ys x = ap (λ zs. y ∷ zs) (split_on xs ys x)
 
-module _ (SA SB EA EB : Type 0) (na : SA → Turn SA EA) (nb : SB → Turn SB EB) (R : (n spare : ℕ) → SA → SB → Type 0) (Q : EA → EB → Type 0) (dear : List EA → ℕ) (Sees : SA → SB → Type 0) (Sees_at : EA → SB → Type 0) where
+module _ (SA SB EA EB : Type 0) (na : SA → Turn SA EA) (nb : SB → Turn SB EB) (R : (n spare : ℕ) → SA → SB → Type 0) (Q : EA → EB → Type 0) (dear : List EA → ℕ) (Sees : SA → SB → Type 0)
+    (Sees_at : EA → SB → Type 0) where
   -- Where B stands within a match: it has made the events of A before the move, or all of the move, or those up to one of its
   -- events.
   pub data On_way (k : ℕ) (es : List EA) (a a' : SA) (m : ℕ) (r : Ran SB EB) : Type 0 where
@@ -110,7 +111,8 @@ module _ (SA SB EA EB : Type 0) (na : SA → Turn SA EA) (nb : SB → Turn SB EB
         (λ paid. let z = run_a k m es a a' e (omega arith) in rw z (begins_more Q es (run na (m - suc k) a').events (run nb n b).events (early k es a a' n (run nb n b) (mt.on_way n lt))))
         (cases_lt n (suc k))
 
-    beyond : (n m k : ℕ) (es : List EA) (a a' : SA) (b : SB) → na a ≡ goes k es a' → {w v : ℕ} → (mt : Match w v k es a a' b) → n ≤ m → mt.cost ≤ n → Begins Q (run na (m - suc k) a').events (run nb (n - mt.cost) mt.to).events → Begins Q (run na m a).events (run nb n b).events
+    beyond : (n m k : ℕ) (es : List EA) (a a' : SA) (b : SB) → na a ≡ goes k es a' → {w v : ℕ} → (mt : Match w v k es a a' b) → n ≤ m → mt.cost ≤ n
+        → Begins Q (run na (m - suc k) a').events (run nb (n - mt.cost) mt.to).events → Begins Q (run na m a).events (run nb n b).events
     beyond n m k es a a' b e mt le ge ih =
         let le' = mt.no_less in
         let za = run_a k m es a a' e (omega arith) in
@@ -125,7 +127,8 @@ module _ (SA SB EA EB : Type 0) (na : SA → Turn SA EA) (nb : SB → Turn SB EB
         rw none tt
     back (suc fuel) n m spare a b r le le2 = by_turn (λ n' m' spare' a' b' r' h h2. back fuel n' m' spare' a' b' r' h h2) (na a) refl
       where
-        by_turn : ((n' m' spare' : ℕ) (a' : SA) (b' : SB) → R n' spare' a' b' → n' ≤ fuel → n' ≤ m' → Begins Q (run na m' a').events (run nb n' b').events) → (o : Turn SA EA) → na a ≡ o → Begins Q (run na m a).events (run nb n b).events
+        by_turn : ((n' m' spare' : ℕ) (a' : SA) (b' : SB) → R n' spare' a' b' → n' ≤ fuel → n' ≤ m' → Begins Q (run na m' a').events (run nb n' b').events) → (o : Turn SA EA) → na a ≡ o
+            → Begins Q (run na m a).events (run nb n b).events
         by_turn ih stops e = let z = (f.stop n spare a b r e n (omega arith)).0 in rw z tt
         by_turn ih (goes k es a') e =
             ⊎_elim
@@ -135,7 +138,8 @@ module _ (SA SB EA EB : Type 0) (na : SA → Turn SA EA) (nb : SB → Turn SB EB
             let pos = mt.no_less in
             ⊎_elim
             (λ lt. within n m k es a a' b e mt le2 lt)
-            (λ ge. beyond n m k es a a' b e mt le2 ge (ih (n - mt.cost) (m - suc k) mt.left a' mt.to (f.less (n - suc k) (n - mt.cost) mt.left a' mt.to mt.rel (omega arith)) (omega arith) (omega arith)))
+            (λ ge. beyond n m k es a a' b e mt le2 ge (ih (n - mt.cost) (m - suc k) mt.left a' mt.to (f.less (n - suc k) (n - mt.cost) mt.left a' mt.to mt.rel (omega arith)) (omega arith)
+            (omega arith)))
             (cases_lt n mt.cost))
             (cases_lt n (suc k))
 
@@ -163,6 +167,12 @@ module _ (SA SB EA EB : Type 0) (na : SA → Turn SA EA) (nb : SB → Turn SB EB
             let mt = f.move n spare a b k es a' r e ge in
             let on = ih (n - suc k) mt.left a' mt.to mt.rel (omega arith) in
             let z = run_a k n es a a' e ge in
-            let d = ap dear z ∙ dear_on es (run na (n - suc k) a').events in
-            (mt.cost + on.0, mt.events ++ on.1, on.2, leads_on SB EB nb b mt.to on.2 mt.cost on.0 mt.events on.1 mt.leads on.3, omega (arith, mt.bound, on.4, d), rw z (alike_on Q es (run na (n - suc k) a').events mt.events on.1 mt.alike on.5)))
+            let d = ap dear z ∙ dear_on es (run na (n - suc k) a').events in (
+              mt.cost + on.0,
+              mt.events ++ on.1,
+              on.2,
+              leads_on SB EB nb b mt.to on.2 mt.cost on.0 mt.events on.1 mt.leads on.3,
+              omega (arith, mt.bound, on.4, d),
+              rw z (alike_on Q es (run na (n - suc k) a').events mt.events on.1 mt.alike on.5),
+            ))
             (cases_lt n (suc k))

@@ -1,5 +1,6 @@
 -- A module with more parts behind its own opens as it did, with more globals.
-use Rattle.std.proofs.Common.{◌≡◌, ℕ, zero, suc, ◌+◌, ◌*◌, ◌<◌, ◌++◌, List, [], ◌∷◌, map, Option, Some, None, Bool, true, false, refl, sym, ap, ◌∙◌, subst, length, take, drop, replicate, append_assoc, length-append}
+use Rattle.std.proofs.Common.{◌≡◌, ℕ, zero, suc, ◌+◌, ◌*◌, ◌<◌, ◌++◌, List, [], ◌∷◌, map, Option, Some, None, Bool, true, false, refl, sym, ap, ◌∙◌, subst, length, take, drop, replicate}
+use Rattle.std.proofs.Common.{append_assoc, length-append}
 use Rattle.std.specs.Prelude.{nat_lt}
 use Rattle.std.proofs.lemmas.Bool.{and_parts}
 use Rattle.std.proofs.lemmas.List.{length-map, map-append, get_or_append_left}
@@ -14,7 +15,8 @@ use Rattle.wa_types.specs.Syntax.{const, global_get, basic, Code, done, plain, F
 use Rattle.wa_types.specs.Modules.{imported, imported_global, global_type, all_globals, all_tables, all_memories}
 use Rattle.wa_types.specs.Validity.{got_global}
 use Rattle.wa_ops.specs.Operate.{number_of, are_of}
-use Rattle.wa_model.specs.Instantiation.{constant_value, all_values, least_of, place_at, Piece, elem_piece, byte_piece, first_out, put_piece, put_pieces, Opening, fails_as, opens, bytes_checked, elems_checked, filled, opened_by, opening}
+use Rattle.wa_model.specs.Instantiation.{constant_value, all_values, least_of, place_at, Piece, elem_piece, byte_piece, first_out, put_piece, put_pieces, Opening, fails_as, opens}
+use Rattle.wa_model.specs.Instantiation.{bytes_checked, elems_checked, filled, opened_by, opening}
 use Rattle.wa_model.specs.Behaves.{is_pause_end}
 use Rattle.wa_model.specs.Growth.{grown_module, Spaces, spaces_of, Each, EntryNamed, StoreNamed, grown_store, OpensGrown}
 use Rattle.wa_model.proofs.NamedModules.{InstanceNamed}
@@ -50,13 +52,15 @@ constant_stays values more (plain (basic (const v)) done) h = refl
 constant_stays values more (plain (basic (global_get x)) done) h = get_or_append_left values more (V.I32 0) x h.0
 constant_stays values more _ h = refl
 
-elems_stay : (values more : List Value) (es : List Elem) → Each (λ (e : Elem). Each (λ x. x < length values) (got_global e.offset)) es → map (elem_piece (values ++ more)) es ≡ map (elem_piece values) es
+elems_stay : (values more : List Value) (es : List Elem) → Each (λ (e : Elem). Each (λ x. x < length values) (got_global e.offset)) es
+    → map (elem_piece (values ++ more)) es ≡ map (elem_piece values) es
 elems_stay values more [] h = refl
 elems_stay values more (e ∷ es) h =
     ap (λ v. record { at = number_of v; items = map (λ x. Some x) e.funcs } ∷ map (elem_piece (values ++ more)) es) (constant_stays values more e.offset h.0)
     ∙ ap (λ ps. elem_piece values e ∷ ps) (elems_stay values more es h.1)
 
-segments_stay : (values more : List Value) (ss : List Segment) → Each (λ (s : Segment). Each (λ x. x < length values) (got_global s.offset)) ss → map (byte_piece (values ++ more)) ss ≡ map (byte_piece values) ss
+segments_stay : (values more : List Value) (ss : List Segment) → Each (λ (s : Segment). Each (λ x. x < length values) (got_global s.offset)) ss
+    → map (byte_piece (values ++ more)) ss ≡ map (byte_piece values) ss
 segments_stay values more [] h = refl
 segments_stay values more (s ∷ ss) h =
     ap (λ v. record { at = number_of v; items = s.bytes } ∷ map (byte_piece (values ++ more)) ss) (constant_stays values more s.offset h.0)
@@ -68,7 +72,8 @@ entries_named : (f : ℕ) (xs : List ℕ) → Each (λ x. x < f) xs → Each (En
 entries_named f [] h = tt
 entries_named f (x ∷ xs) h = (h.0, entries_named f xs h.1)
 
-table_named : (f : ℕ) (values : List Value) (table : List (Option ℕ)) (es : List Elem) → Each (EntryNamed f) table → Each (λ (e : Elem). Each (λ x. x < f) e.funcs) es → Each (EntryNamed f) (put_pieces table (map (elem_piece values) es))
+table_named : (f : ℕ) (values : List Value) (table : List (Option ℕ)) (es : List Elem) → Each (EntryNamed f) table → Each (λ (e : Elem). Each (λ x. x < f) e.funcs) es
+    → Each (EntryNamed f) (put_pieces table (map (elem_piece values) es))
 table_named f values table [] t h = t
 table_named f values table (e ∷ es) t h =
     let items : List (Option ℕ) = map (λ x. Some x) e.funcs in
@@ -118,11 +123,13 @@ module _ (m : Module) (ts : List FuncType) (fs : List Func) (gs : List GlobalDef
   values_count : are_of (map (λ (g : GlobalType). g.ty) (imported imported_global m)) imports ≡ true → length (all_values imports m) ≡ length (all_globals m)
   values_count h =
       length-append imports (map (λ (g : GlobalDef). constant_value imports g.init) m.globals)
-      ∙ ap (λ k. k + length (map (λ (g : GlobalDef). constant_value imports g.init) m.globals)) (same_length (map (λ (g : GlobalType). g.ty) (imported imported_global m)) imports h ∙ length-map (imported imported_global m) (λ (g : GlobalType). g.ty))
+      ∙ ap (λ k. k + length (map (λ (g : GlobalDef). constant_value imports g.init) m.globals)) (same_length (map (λ (g : GlobalType). g.ty) (imported imported_global m)) imports h
+      ∙ length-map (imported imported_global m) (λ (g : GlobalType). g.ty))
       ∙ ap (λ k. length (imported imported_global m) + k) (length-map m.globals (λ (g : GlobalDef). constant_value imports g.init) ∙ sym (length-map m.globals global_type))
       ∙ sym (length-append (imported imported_global m) (map global_type m.globals))
 
-  pub opening_stays : are_of (map (λ (g : GlobalType). g.ty) (imported imported_global m)) imports ≡ true → InstanceNamed m → OpeningStays more_values (spaces_of m) (opening m imports) (opening (grown_module m ts fs gs es) imports)
+  pub opening_stays : are_of (map (λ (g : GlobalType). g.ty) (imported imported_global m)) imports ≡ true → InstanceNamed m
+      → OpeningStays more_values (spaces_of m) (opening m imports) (opening (grown_module m ts fs gs es) imports)
   opening_stays h named = by_limits (nat_lt 1024 pages) (nat_lt 100000 entries)
     where
       pages : ℕ
@@ -160,7 +167,8 @@ module _ (m : Module) (ts : List FuncType) (fs : List Func) (gs : List GlobalDef
           subst (OpeningStays more_values (spaces_of m) (filled_by values values values)) (sym same)
           (filled_stays more_values (spaces_of m) values (replicate (pages * page_size) 0) (replicate entries None) (map (elem_piece values) m.elems) (map (byte_piece values) m.segments) count table)
 
-      by_limits : (a b : Bool) → OpeningStays more_values (spaces_of m) (opened_by m values pages entries a b) (opened_by (grown_module m ts fs gs es) (all_values imports (grown_module m ts fs gs es)) pages entries a b)
+      by_limits : (a b : Bool) → OpeningStays more_values (spaces_of m) (opened_by m values pages entries a b)
+          (opened_by (grown_module m ts fs gs es) (all_values imports (grown_module m ts fs gs es)) pages entries a b)
       by_limits true b = (refl, refl)
       by_limits false true = (refl, refl)
       by_limits false false = whole

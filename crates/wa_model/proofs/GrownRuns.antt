@@ -17,8 +17,11 @@ use Rattle.wa_model.specs.Store.{Store}
 use Rattle.wa_model.specs.Configuration.{Activation, place_of, suspended}
 use Rattle.wa_model.specs.Step.{Next, steps, asks, returns, traps, stuck, entered, step}
 use Rattle.wa_model.specs.Plan.{Entry, Plan, Outcome, given, refused, OutcomeFits, IsRefusal}
-use Rattle.wa_model.specs.Blocking.{Note, note, call_note, answers, poke_fits, bad_poke, is_unlisted, bad_pause, or_else, fault_of, pause_of, poked, Task, the_start, an_entry, Left, with_outcomes, Asker, inside, outermost, store_at, stack_at, in_start, State, between, begins, runs, halts, done_notes, on_to, value_of_results, next_entry, task_back, go_on, ends_at_call, tested, asked, by_step, enters, enter_next, start_called, blocking}
-use Rattle.wa_model.specs.Protocol.{Exports, Held, free, starting, busy, over, is_running, held_on, held_back, held_given, held_tested, held_asked, busy_step, busy_enters, held_next, held_start, protocol}
+use Rattle.wa_model.specs.Blocking.{Note, note, call_note, answers, poke_fits, bad_poke, is_unlisted, bad_pause, or_else, fault_of, pause_of, poked, Task, the_start, an_entry, Left}
+use Rattle.wa_model.specs.Blocking.{with_outcomes, Asker, inside, outermost, store_at, stack_at, in_start, State, between, begins, runs, halts, done_notes, on_to, value_of_results}
+use Rattle.wa_model.specs.Blocking.{next_entry, task_back, go_on, ends_at_call, tested, asked, by_step, enters, enter_next, start_called, blocking}
+use Rattle.wa_model.specs.Protocol.{Exports, Held, free, starting, busy, over, is_running, held_on, held_back, held_given, held_tested, held_asked, busy_step, busy_enters, held_next}
+use Rattle.wa_model.specs.Protocol.{held_start, protocol}
 use Rattle.wa_model.specs.Behaves.{is_pause_end, unless_end, unless_pause}
 use Rattle.wa_model.specs.Growth.{grown_module, Spaces, spaces_of, Each, ActNamed, StoreNamed, ConfigNamed, grown_store, grown_config}
 use Rattle.wa_model.proofs.GrownSteps.{ModuleNamed, defined_stays, defined_below, func_type_stays, entered_named, step_stays, Stays}
@@ -63,9 +66,11 @@ bad_pause_plain false false import (suc ticks) = tt
 
 fault_plain : (results : List ValType) (size : ℕ) (plan : Plan) (start : Bool) (import : ℕ) (a : Answer) → PlainFault (fault_of results size plan start import a)
 fault_plain results size plan start import a =
-    or_else_plain (if answers results a.value then None else Some (BadAnswer import a.value)) (or_else (bad_poke size plan.area a.pokes) (bad_pause start (is_unlisted plan.listed import) import a.ticks))
+    or_else_plain (if answers results a.value then None else Some (BadAnswer import a.value))
+    (or_else (bad_poke size plan.area a.pokes) (bad_pause start (is_unlisted plan.listed import) import a.ticks))
     (by_value (answers results a.value))
-    (or_else_plain (bad_poke size plan.area a.pokes) (bad_pause start (is_unlisted plan.listed import) import a.ticks) (bad_poke_plain size plan.area a.pokes) (bad_pause_plain start (is_unlisted plan.listed import) import a.ticks))
+    (or_else_plain (bad_poke size plan.area a.pokes) (bad_pause start (is_unlisted plan.listed import) import a.ticks) (bad_poke_plain size plan.area a.pokes)
+    (bad_pause_plain start (is_unlisted plan.listed import) import a.ticks))
   where
     by_value : (b : Bool) → PlainFault (if b then None else Some (BadAnswer import a.value))
     by_value true = tt
@@ -84,7 +89,8 @@ no_pause_in_start : (results : List ValType) (size : ℕ) (plan : Plan) (import 
 no_pause_in_start results size plan import a e =
     start_pause (is_unlisted plan.listed import) import a.ticks
     (second_none (bad_poke size plan.area a.pokes) (bad_pause true (is_unlisted plan.listed import) import a.ticks)
-    (second_none (if answers results a.value then None else Some (BadAnswer import a.value)) (or_else (bad_poke size plan.area a.pokes) (bad_pause true (is_unlisted plan.listed import) import a.ticks)) e))
+    (second_none (if answers results a.value then None else Some (BadAnswer import a.value))
+    (or_else (bad_poke size plan.area a.pokes) (bad_pause true (is_unlisted plan.listed import) import a.ticks)) e))
 
 refusal_plain : (e : End) → IsRefusal e → is_pause_end e ≡ false
 refusal_plain (NoAnswer i) h = refl
@@ -203,7 +209,8 @@ module _ (m : Module) (ts : List FuncType) (fs : List Func) (gs : List GlobalDef
 
   -- ---- what comes behind the last entry
 
-  ends_in_step : (k : ℕ) (xs xs' : List Note) (s s' : Store) (l : Left) (ens : List Entry) → (Each SuspendsNone xs → (xs' ≡ map (grown_note more) xs) × Plain xs) → s' ≡ big s → StoreNamed n s → LeftNamed m l
+  ends_in_step : (k : ℕ) (xs xs' : List Note) (s s' : Store) (l : Left) (ens : List Entry) → (Each SuspendsNone xs → (xs' ≡ map (grown_note more) xs) × Plain xs) → s' ≡ big s
+      → StoreNamed n s → LeftNamed m l
       → InStep (goes k (xs ++ done_notes s ens) (on_to s l ens)) (goes k (xs' ++ done_notes s' ens) (held_on s' l ens))
   ends_in_step k xs xs' s s' l [] h es' so lo = (
     xs' ++ note (ended Done) s' ∷ [],
@@ -239,7 +246,8 @@ module _ (m : Module) (ts : List FuncType) (fs : List Func) (gs : List GlobalDef
   -- ---- calls of imports
 
   call_ends : (k import : ℕ) (args : List Value) (w : Asker) (e : End) → AskerNamed m w → is_pause_end e ≡ false
-      → InStep (ends_at_call k (call_before import args w None) e) (goes k (call_behind import args w None ∷ note (ended e) (call_behind import args w None).store ∷ []) (over (call_behind import args w None).store))
+      → InStep (ends_at_call k (call_before import args w None) e) (goes k (call_behind import args w None ∷ note (ended e) (call_behind import args w None).store ∷ [])
+      (over (call_behind import args w None).store))
   call_ends k import args w e h plain = (
     call_behind import args w None ∷ note (ended e) (call_behind import args w None).store ∷ [],
     over (call_behind import args w None).store,
@@ -254,7 +262,8 @@ module _ (m : Module) (ts : List FuncType) (fs : List Func) (gs : List GlobalDef
 
   -- the answer is given at once
   given_in_step : (k import : ℕ) (args : List Value) (w : Asker) (l : Left) (a : Answer) → AskerNamed m w → LeftNamed m l
-      → InStep (go_on k (call_before import args w None) a (poked (store_at w) a.pokes) l w) (held_given k (call_behind import args w None) a (poked (store_at (grown_asker more w)) a.pokes) l (grown_asker more w))
+      → InStep (go_on k (call_before import args w None) a (poked (store_at w) a.pokes) l w)
+      (held_given k (call_behind import args w None) a (poked (store_at (grown_asker more w)) a.pokes) l (grown_asker more w))
   given_in_step k import args (inside task c) l a h lo = (
     _,
     _,
@@ -267,7 +276,8 @@ module _ (m : Module) (ts : List FuncType) (fs : List Func) (gs : List GlobalDef
     ),
   )
   given_in_step k import args (outermost s) l a h lo =
-      ends_in_step k (call_before import args (outermost s) None ∷ note (answered a.value) (poked s a.pokes) ∷ []) (call_behind import args (outermost s) None ∷ note (answered a.value) (poked (big s) a.pokes) ∷ []) (poked s a.pokes) (poked (big s) a.pokes) l l.entries
+      ends_in_step k (call_before import args (outermost s) None ∷ note (answered a.value) (poked s a.pokes) ∷ [])
+      (call_behind import args (outermost s) None ∷ note (answered a.value) (poked (big s) a.pokes) ∷ []) (poked s a.pokes) (poked (big s) a.pokes) l l.entries
       (λ idle. (refl, (plain_call import args (outermost s) h, (record { event = refl; pause = refl; since = refl; globals = h.globals }, tt))))
       refl (record { globals = h.globals; table = h.table }) lo
 
@@ -278,7 +288,8 @@ module _ (m : Module) (ts : List FuncType) (fs : List Func) (gs : List GlobalDef
   pauses_in_step k import ticks args (inside the_start c) l a h = absurd (h refl)
   pauses_in_step k import ticks args (outermost s) l a h = absurd (h refl)
 
-  tested_in_step : (k import : ℕ) (args : List Value) (w : Asker) (l : Left) (a : Answer) (o : Option End) → AskerNamed m w → LeftNamed m l → PlainFault o → (o ≡ None → in_start w ≡ true → a.ticks ≡ 0)
+  tested_in_step : (k import : ℕ) (args : List Value) (w : Asker) (l : Left) (a : Answer) (o : Option End) → AskerNamed m w → LeftNamed m l → PlainFault o
+      → (o ≡ None → in_start w ≡ true → a.ticks ≡ 0)
       → InStep (tested m k import args w l a o) (held_tested p ex plan k import args (grown_asker more w) l a o (pause_of a.ticks))
   tested_in_step k import args w l a (Some e) h lo plain start = call_ends k import args w e h plain
   tested_in_step k import args w l a None h lo plain start = by_ticks a.ticks refl
@@ -318,7 +329,8 @@ module _ (m : Module) (ts : List FuncType) (fs : List Func) (gs : List GlobalDef
       let to : Option End → Turn Held Note = λ o. held_tested p ex plan k import args (grown_asker more w) after a o (pause_of a.ticks) in
       let results : List ValType = (func_type_at m import).results in
       let size : ℕ = length (store_at w).memory in
-      by_held (tested m k import args w after a (test results size (in_start w))) (to (test (func_type_at p import).results (length (store_at (grown_asker more w)).memory) (in_start (grown_asker more w)))) (to (test results size (in_start w)))
+      by_held (tested m k import args w after a (test results size (in_start w))) (to (test (func_type_at p import).results (length (store_at (grown_asker more w)).memory)
+      (in_start (grown_asker more w)))) (to (test results size (in_start w)))
       (ap (λ (t : FuncType). to (test t.results (length (store_at (grown_asker more w)).memory) (in_start (grown_asker more w)))) (func_type_stays m ts fs gs es ok import i)
       ∙ ap (λ (s : Store). to (test results (length s.memory) (in_start (grown_asker more w)))) (store_is more w)
       ∙ ap (λ b. to (test results size b)) (in_start_is more w))
@@ -335,7 +347,8 @@ module _ (m : Module) (ts : List FuncType) (fs : List Func) (gs : List GlobalDef
 
   step_in_step : (task : Task) (l : Left) (o o' : Next) → Stays more n o o' → LeftNamed m l → InStep (by_step m plan task l o) (busy_step p ex plan (is_running task) l o')
   step_in_step task l (steps k d) o' h lo = by_held (goes k [] (runs task d l)) _ _ (ap (busy_step p ex plan (is_running task) l) h.0) (went k (runs task d l) (h.1, lo))
-  step_in_step task l (asks k import args d) o' h lo = by_held (asked m plan k import args (inside task d) l l.outcomes) _ _ (ap (busy_step p ex plan (is_running task) l) h.0) (asked_in_step k import args (inside task d) l l.outcomes (h.1).0 (h.1).1 lo lo.outcomes)
+  step_in_step task l (asks k import args d) o' h lo = by_held (asked m plan k import args (inside task d) l l.outcomes) _ _ (ap (busy_step p ex plan (is_running task) l) h.0)
+      (asked_in_step k import args (inside task d) l l.outcomes (h.1).0 (h.1).1 lo lo.outcomes)
   step_in_step task l (returns k results s) o' h lo = by_held (task_back k task results s l) _ _ (ap (busy_step p ex plan (is_running task) l) h.0) (back_in_step k task results s l h.1 lo)
   step_in_step task l (traps k trap s) o' h lo = by_held (goes k (note (ended (Trapped trap)) s ∷ []) (halts s)) _ _ (ap (busy_step p ex plan (is_running task) l) h.0) (trapped k trap s h.1)
   step_in_step task l stuck o' h lo = ap (busy_step p ex plan (is_running task) l) h.0
@@ -347,10 +360,12 @@ module _ (m : Module) (ts : List FuncType) (fs : List Func) (gs : List GlobalDef
       let there : defined_at m e.func ≡ Some f = (eo.0).1 in
       let left : Left = record { number = l.number; entries = ens; outcomes = l.outcomes } in
       by_turn _ (enters e s left (Some f)) _ (ap (enters e s left) there)
-      (by_held (enters e s left (Some f)) _ (busy_enters (is_running (an_entry e)) e (big s) left (Some f)) (ap (busy_enters (is_running (an_entry e)) e (big s) left) (defined_stays m ts fs gs es e.func (defined_below m ts fs gs es ok e.func f there) ∙ there))
+      (by_held (enters e s left (Some f)) _ (busy_enters (is_running (an_entry e)) e (big s) left (Some f))
+      (ap (busy_enters (is_running (an_entry e)) e (big s) left) (defined_stays m ts fs gs es e.func (defined_below m ts fs gs es ok e.func f there) ∙ there))
       (went (length e.args) (runs (an_entry e) (entered s [] e.args e.func f) left) (entered_named m ts fs gs es ok s [] e.args e.func f so tt there, record { entries = eo.1; outcomes = oo })))
 
-  start_in_step : (x : ℕ) (s : Store) (l : Left) (o : Option Func) → defined_at m x ≡ o → x < n.funcs → StoreNamed n s → LeftNamed m l → InStep (start_called m plan x s l o) (held_start p ex plan x (big s) l o)
+  start_in_step : (x : ℕ) (s : Store) (l : Left) (o : Option Func) → defined_at m x ≡ o → x < n.funcs → StoreNamed n s → LeftNamed m l
+      → InStep (start_called m plan x s l o) (held_start p ex plan x (big s) l o)
   start_in_step x s l (Some f) e i so lo = went 0 (runs the_start (entered s [] [] x f) l) (entered_named m ts fs gs es ok s [] [] x f so tt e, lo)
   start_in_step x s l None e i so lo = by_import (nat_lt x (func_imports m)) (asked_in_step 0 x [] (outermost s) l l.outcomes i so lo lo.outcomes)
     where
@@ -361,7 +376,8 @@ module _ (m : Module) (ts : List FuncType) (fs : List Func) (gs : List GlobalDef
 
   turn_in_step : (s : State) → StateNamed m s → InStep (blocking m plan s) (protocol p ex plan (held_of more s))
   turn_in_step (between s l) h = enter_in_step s l l.entries h.0 (h.1).entries (h.1).outcomes
-  turn_in_step (begins x s l) h = by_held (start_called m plan x s l (defined_at m x)) _ _ (ap (held_start p ex plan x (big s) l) (defined_stays m ts fs gs es x h.0)) (start_in_step x s l (defined_at m x) refl h.0 h.1 h.2)
+  turn_in_step (begins x s l) h = by_held (start_called m plan x s l (defined_at m x)) _ _ (ap (held_start p ex plan x (big s) l) (defined_stays m ts fs gs es x h.0))
+      (start_in_step x s l (defined_at m x) refl h.0 h.1 h.2)
   turn_in_step (runs task c l) h = step_in_step task l (step m c) (step p (grown_config more c)) (step_stays m ts fs gs es ok more c h.0) h.1
   turn_in_step (halts s) h = refl
 
@@ -372,7 +388,8 @@ module _ (m : Module) (ts : List FuncType) (fs : List Func) (gs : List GlobalDef
   Together r r' = (r' ≡ held_ran more r) × StateNamed m r.last × Plain r.events
 
   paid_together : (most k : ℕ) (s : State) (o : Turn State Note) (o' : Turn Held Note) → InStep o o' → StateNamed m s
-      → ((left : ℕ) (t : State) → StateNamed m t → Each SuspendsNone (run_with (blocking m plan) most left t).events → Together (run_with (blocking m plan) most left t) (run_with (protocol p ex plan) most left (held_of more t)))
+      → ((left : ℕ) (t : State) → StateNamed m t → Each SuspendsNone (run_with (blocking m plan) most left t).events
+      → Together (run_with (blocking m plan) most left t) (run_with (protocol p ex plan) most left (held_of more t)))
       → Each SuspendsNone (pay (run_with (blocking m plan) most) k s o).events
       → Together (pay (run_with (blocking m plan) most) k s o) (pay (run_with (protocol p ex plan) most) k (held_of more s) o')
   paid_together most k s stops o' h so ih idle = (ap (pay (run_with (protocol p ex plan) most) k (held_of more s)) h, so, tt)

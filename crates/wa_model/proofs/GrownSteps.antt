@@ -1,5 +1,6 @@
 -- What stands behind a module's own parts leaves each of its reductions as it was.
-use Rattle.std.proofs.Common.{◌≡◌, ℕ, zero, suc, ◌+◌, ◌-◌, ◌<◌, List, [], ◌∷◌, ◌++◌, map, Option, Some, None, Result, Ok, Err, Bool, true, false, refl, sym, ap, ◌∙◌, subst, length, take, drop, reverse, arith, append_assoc, length-append, length-set}
+use Rattle.std.proofs.Common.{◌≡◌, ℕ, zero, suc, ◌+◌, ◌-◌, ◌<◌, List, [], ◌∷◌, ◌++◌, map, Option, Some, None, Result, Ok, Err, Bool, true, false, refl, sym, ap, ◌∙◌, subst, length, take}
+use Rattle.std.proofs.Common.{drop, reverse, arith, append_assoc, length-append, length-set}
 use Rattle.std.specs.Prelude.{nat_lt, if◌then◌else◌, slice_get, slice_set, unwrap_or}
 use Rattle.std.specs.Option.{option_map}
 use Rattle.std.proofs.lemmas.Bool.{ltb-false}
@@ -14,13 +15,16 @@ use Rattle.wa_types.specs.Accesses.{AccessRow, load_row, store_row}
 use Rattle.wa_types.specs.Encoding.{same_type}
 use Rattle.wa_types.specs.Memory.{Memory, number_at, with_number as number_put, grown}
 use Rattle.wa_types.specs.Typing.{type_of}
-use Rattle.wa_types.specs.Syntax.{Basic, nop, drop as a_drop, select, const, num, global_get, global_set, load, store, memory_size, memory_grow, basic, local_get, local_set, local_tee, br, br_if, br_table, return, unreachable, call, call_indirect, a_block, a_loop, Code, done, plain, nest, branch, FuncType, Func, GlobalDef, Module}
+use Rattle.wa_types.specs.Syntax.{Basic, nop, drop as a_drop, select, const, num, global_get, global_set, load, store, memory_size, memory_grow, basic, local_get, local_set, local_tee, br}
+use Rattle.wa_types.specs.Syntax.{br_if, br_table, return, unreachable, call, call_indirect, a_block, a_loop, Code, done, plain, nest, branch, FuncType, Func, GlobalDef, Module}
 use Rattle.wa_types.specs.Modules.{imported, imported_func, func_imports, func_sorts, func_type_at, type_at, or_empty, defined_at}
 use Rattle.wa_ops.specs.Operate.{operate, number_of}
 use Rattle.wa_model.specs.Store.{Store, value_at, Did, works, fails, lacks, takes, act, computed, load_at, loaded, store_at, stored, width_of, grew}
 use Rattle.wa_model.specs.Configuration.{Label, block_label, loop_label, Activation, Configuration, running, waiting}
-use Rattle.wa_model.specs.Step.{Next, steps, asks, traps, stuck, result_count, leave, jump, finish, did, with_top, with_number, choose, arity_of, entered, invoke, param_count, same_func_type, through, memory_max, step_at, step}
-use Rattle.wa_model.specs.Growth.{grown_module, Spaces, spaces_of, Each, BasicNamed, CodeNamed, LabelNamed, ActNamed, EntryNamed, StoreNamed, ConfigNamed, NextNamed, grown_store, grown_config, grown_next}
+use Rattle.wa_model.specs.Step.{Next, steps, asks, traps, stuck, result_count, leave, jump, finish, did, with_top, with_number, choose, arity_of, entered, invoke, param_count}
+use Rattle.wa_model.specs.Step.{same_func_type, through, memory_max, step_at, step}
+use Rattle.wa_model.specs.Growth.{grown_module, Spaces, spaces_of, Each, BasicNamed, CodeNamed, LabelNamed, ActNamed, EntryNamed, StoreNamed, ConfigNamed, NextNamed, grown_store}
+use Rattle.wa_model.specs.Growth.{grown_config, grown_next}
 
 -- ---- lists
 
@@ -74,7 +78,8 @@ module _ (more : List Value) (n : Spaces) where
   store_stays s place v (Some row) ok = by_type (same_type row.ty (type_of v)) (stored_stays s (number_put s.memory place (width_of row) (number_of v)) ok)
     where
       by_type : (b : Bool) → DidStays more n (stored s (number_put s.memory place (width_of row) (number_of v))) (stored (wide s) (number_put s.memory place (width_of row) (number_of v)))
-          → DidStays more n (if b then stored s (number_put s.memory place (width_of row) (number_of v)) else lacks) (if b then stored (wide s) (number_put s.memory place (width_of row) (number_of v)) else lacks)
+          → DidStays more n (if b then stored s (number_put s.memory place (width_of row) (number_of v)) else lacks)
+          (if b then stored (wide s) (number_put s.memory place (width_of row) (number_of v)) else lacks)
       by_type true h = h
       by_type false h = (refl, tt)
 
@@ -107,7 +112,8 @@ module _ (more : List Value) (n : Spaces) where
   abbrev pub Stays : (o o' : Next) → Type 0
   Stays o o' = (o' ≡ grown_next more o) × NextNamed n o
 
-  leaves_stay : (k : ℕ) (s : Store) (ops : List Value) (arity : ℕ) (under : List Activation) → StoreNamed n s → Each (ActNamed n) under → Stays (leave k s ops arity under) (leave k (wide s) ops arity under)
+  leaves_stay : (k : ℕ) (s : Store) (ops : List Value) (arity : ℕ) (under : List Activation) → StoreNamed n s → Each (ActNamed n) under
+      → Stays (leave k s ops arity under) (leave k (wide s) ops arity under)
   leaves_stay k s ops arity [] so uo = (refl, so)
   leaves_stay k s ops arity (a ∷ under) so uo =
       let ao = uo.0 in (refl, record { store = so; here = record { func = ao.func; code = ao.code; labels = ao.labels }; under = uo.1 })
@@ -192,7 +198,8 @@ module _ (m : Module) (ts : List FuncType) (fs : List Func) (gs : List GlobalDef
         by_import true z e = cc
         by_import false z e = let le = ltb-false x (func_imports m) z in let lt = slice_get_within m.funcs (x - func_imports m) f e in let c = funcs_count in omega arith
 
-    pub entered_named : (s : Store) (under : List Activation) (args : List Value) (x : ℕ) (f : Func) → StoreNamed n s → Each (ActNamed n) under → defined_at m x ≡ Some f → ConfigNamed n (entered s under args x f)
+    pub entered_named : (s : Store) (under : List Activation) (args : List Value) (x : ℕ) (f : Func) → StoreNamed n s → Each (ActNamed n) under → defined_at m x ≡ Some f
+        → ConfigNamed n (entered s under args x f)
     entered_named s under args x f so uo e = record { store = so; here = record { func = defined_below x f e; code = body_named x f e; labels = tt }; under = uo }
 
     module _ (more : List Value) where
@@ -202,32 +209,40 @@ module _ (m : Module) (ts : List FuncType) (fs : List Func) (gs : List GlobalDef
       abbrev Same : (o o' : Next) → Type 0
       Same o o' = Stays more n o o'
 
-      leaves_here : (k : ℕ) (s : Store) (fn : ℕ) (ops : List Value) (under : List Activation) → fn < n.funcs → StoreNamed n s → Each (ActNamed n) under → Same (leave k s ops (result_count m fn) under) (leave k (big s) ops (result_count p fn) under)
+      leaves_here : (k : ℕ) (s : Store) (fn : ℕ) (ops : List Value) (under : List Activation) → fn < n.funcs → StoreNamed n s → Each (ActNamed n) under
+          → Same (leave k s ops (result_count m fn) under) (leave k (big s) ops (result_count p fn) under)
       leaves_here k s fn ops under fo so uo =
           let r = leaves_stay more n k s ops (result_count m fn) under so uo in
           (ap (λ (t : FuncType). leave k (big s) ops (length t.results) under) (func_type_stays fn fo) ∙ r.0, r.1)
 
-      jumps_stay : (k : ℕ) (s : Store) (fn : ℕ) (under : List Activation) (ls ops : List Value) (labels : List Label) (l : ℕ) → fn < n.funcs → StoreNamed n s → Each (ActNamed n) under → Each (LabelNamed n) labels → Same (jump k m s fn under ls ops labels l) (jump k p (big s) fn under ls ops labels l)
+      jumps_stay : (k : ℕ) (s : Store) (fn : ℕ) (under : List Activation) (ls ops : List Value) (labels : List Label) (l : ℕ) → fn < n.funcs → StoreNamed n s → Each (ActNamed n) under
+          → Each (LabelNamed n) labels → Same (jump k m s fn under ls ops labels l) (jump k p (big s) fn under ls ops labels l)
       jumps_stay k s fn under ls ops [] l fo so uo lo = leaves_here k s fn ops under fo so uo
       jumps_stay k s fn under ls ops (block_label h arity rest skipped ∷ labels) zero fo so uo lo = (refl, record { store = so; here = record { func = fo; code = lo.0; labels = lo.1 }; under = uo })
       jumps_stay k s fn under ls ops (loop_label h body rest ∷ labels) zero fo so uo lo = (refl, record { store = so; here = record { func = fo; code = (lo.0).0; labels = lo }; under = uo })
       jumps_stay k s fn under ls ops (block_label h arity rest skipped ∷ labels) (suc l) fo so uo lo = jumps_stay k s fn under ls ops labels l fo so uo lo.1
       jumps_stay k s fn under ls ops (loop_label h body rest ∷ labels) (suc l) fo so uo lo = jumps_stay k s fn under ls ops labels l fo so uo lo.1
 
-      finishes_stay : (s : Store) (fn : ℕ) (under : List Activation) (ls ops : List Value) (labels : List Label) → fn < n.funcs → StoreNamed n s → Each (ActNamed n) under → Each (LabelNamed n) labels → Same (finish m s fn under ls ops labels) (finish p (big s) fn under ls ops labels)
+      finishes_stay : (s : Store) (fn : ℕ) (under : List Activation) (ls ops : List Value) (labels : List Label) → fn < n.funcs → StoreNamed n s → Each (ActNamed n) under
+          → Each (LabelNamed n) labels → Same (finish m s fn under ls ops labels) (finish p (big s) fn under ls ops labels)
       finishes_stay s fn under ls ops [] fo so uo lo = leaves_here 0 s fn ops under fo so uo
       finishes_stay s fn under ls ops (block_label h arity rest skipped ∷ labels) fo so uo lo = (refl, record { store = so; here = record { func = fo; code = lo.0; labels = lo.1 }; under = uo })
       finishes_stay s fn under ls ops (loop_label h body rest ∷ labels) fo so uo lo = (refl, record { store = so; here = record { func = fo; code = (lo.0).1; labels = lo.1 }; under = uo })
 
       module _ (s : Store) (fn : ℕ) (under : List Activation) (fo : fn < n.funcs) (so : StoreNamed n s) (uo : Each (ActNamed n) under) where
-        invokes_stay : (ls own ops : List Value) (rest : Code) (labels : List Label) (params x : ℕ) → x < n.funcs → CodeNamed n rest → Each (LabelNamed n) labels → (o : Option Func) → defined_at m x ≡ o → Same (invoke m s fn under ls own ops rest labels params x o) (invoke p (big s) fn under ls own ops rest labels params x o)
+        invokes_stay : (ls own ops : List Value) (rest : Code) (labels : List Label) (params x : ℕ) → x < n.funcs → CodeNamed n rest → Each (LabelNamed n) labels → (o : Option Func)
+            → defined_at m x ≡ o → Same (invoke m s fn under ls own ops rest labels params x o) (invoke p (big s) fn under ls own ops rest labels params x o)
         invokes_stay ls own ops rest labels params x xo co lo (Some f) e = by_room (nat_lt (length under + 1) 4096)
           where
             to : Store → Configuration
             to st = entered st (waiting fn ls (drop params ops) (own ++ take params ops) rest labels ∷ under) (reverse (take params ops)) x f
 
             by_room : (b : Bool) → Same (if b then steps params (to s) else traps params StackExhausted s) (if b then steps params (to (big s)) else traps params StackExhausted (big s))
-            by_room true = (refl, entered_named s (waiting fn ls (drop params ops) (own ++ take params ops) rest labels ∷ under) (reverse (take params ops)) x f so (record { func = fo; code = co; labels = lo }, uo) e)
+            by_room true = (
+              refl,
+              entered_named s (waiting fn ls (drop params ops) (own ++ take params ops) rest labels ∷ under) (reverse (take params ops)) x f so
+                  (record { func = fo; code = co; labels = lo }, uo) e,
+            )
             by_room false = (refl, so)
         invokes_stay ls own ops rest labels params x xo co lo None e = by_import (nat_lt x (func_imports m))
           where
@@ -238,12 +253,14 @@ module _ (m : Module) (ts : List FuncType) (fs : List Func) (gs : List GlobalDef
             by_import true = (refl, (xo, record { store = so; here = record { func = fo; code = co; labels = lo }; under = uo }))
             by_import false = (refl, tt)
 
-        invokes_at : (ls own ops : List Value) (rest : Code) (labels : List Label) (params x : ℕ) → x < n.funcs → CodeNamed n rest → Each (LabelNamed n) labels → Same (invoke m s fn under ls own ops rest labels params x (defined_at m x)) (invoke p (big s) fn under ls own ops rest labels params x (defined_at p x))
+        invokes_at : (ls own ops : List Value) (rest : Code) (labels : List Label) (params x : ℕ) → x < n.funcs → CodeNamed n rest → Each (LabelNamed n) labels
+            → Same (invoke m s fn under ls own ops rest labels params x (defined_at m x)) (invoke p (big s) fn under ls own ops rest labels params x (defined_at p x))
         invokes_at ls own ops rest labels params x xo co lo =
             let r = invokes_stay ls own ops rest labels params x xo co lo (defined_at m x) refl in
             (ap (invoke p (big s) fn under ls own ops rest labels params x) (defined_stays x xo) ∙ r.0, r.1)
 
-        through_stays : (ls own ops : List Value) (rest : Code) (labels : List Label) (sort : ℕ) → sort < n.types → CodeNamed n rest → Each (LabelNamed n) labels → (o : Option (Option ℕ)) → ((x : ℕ) → o ≡ Some (Some x) → x < n.funcs) → Same (through m s fn under ls own ops rest labels sort o) (through p (big s) fn under ls own ops rest labels sort o)
+        through_stays : (ls own ops : List Value) (rest : Code) (labels : List Label) (sort : ℕ) → sort < n.types → CodeNamed n rest → Each (LabelNamed n) labels → (o : Option (Option ℕ))
+            → ((x : ℕ) → o ≡ Some (Some x) → x < n.funcs) → Same (through m s fn under ls own ops rest labels sort o) (through p (big s) fn under ls own ops rest labels sort o)
         through_stays ls own ops rest labels sort st co lo None h = (ap (λ t. traps (param_count t) UndefinedElement (big s)) (type_stays sort st), so)
         through_stays ls own ops rest labels sort st co lo (Some None) h = (ap (λ t. traps (param_count t) UninitializedElement (big s)) (type_stays sort st), so)
         through_stays ls own ops rest labels sort st co lo (Some (Some x)) h =
@@ -254,8 +271,11 @@ module _ (m : Module) (ts : List FuncType) (fs : List Func) (gs : List GlobalDef
             test : FuncType → FuncType → Next
             test t u = if same_func_type t u then invoke p (big s) fn under ls own ops rest labels (param_count u) x (defined_at p x) else traps (param_count u) TypeMismatch (big s)
 
-            by_type : (b : Bool) → Same (invoke m s fn under ls own ops rest labels (param_count (type_at m sort)) x (defined_at m x)) (invoke p (big s) fn under ls own ops rest labels (param_count (type_at m sort)) x (defined_at p x))
-                → Same (if b then invoke m s fn under ls own ops rest labels (param_count (type_at m sort)) x (defined_at m x) else traps (param_count (type_at m sort)) TypeMismatch s) (if b then invoke p (big s) fn under ls own ops rest labels (param_count (type_at m sort)) x (defined_at p x) else traps (param_count (type_at m sort)) TypeMismatch (big s))
+            by_type : (b : Bool) → Same (invoke m s fn under ls own ops rest labels (param_count (type_at m sort)) x (defined_at m x))
+                (invoke p (big s) fn under ls own ops rest labels (param_count (type_at m sort)) x (defined_at p x))
+                → Same (if b then invoke m s fn under ls own ops rest labels (param_count (type_at m sort)) x (defined_at m x) else traps (param_count (type_at m sort)) TypeMismatch s)
+                (if b then invoke p (big s) fn under ls own ops rest labels (param_count (type_at m sort)) x (defined_at p x)
+                else traps (param_count (type_at m sort)) TypeMismatch (big s))
             by_type true r = r
             by_type false r = (refl, so)
 
@@ -265,16 +285,19 @@ module _ (m : Module) (ts : List FuncType) (fs : List Func) (gs : List GlobalDef
         here_named : (ls ops : List Value) (code : Code) (labels : List Label) → CodeNamed n code → Each (LabelNamed n) labels → ConfigNamed n (running s fn under ls ops code labels)
         here_named ls ops code labels co lo = record { store = so; here = record { func = fo; code = co; labels = lo }; under = uo }
 
-        step_at_stays : (ls ops : List Value) (labels : List Label) (code : Code) → CodeNamed n code → Each (LabelNamed n) labels → Same (step_at m s fn under ls ops labels code) (step_at p (big s) fn under ls ops labels code)
+        step_at_stays : (ls ops : List Value) (labels : List Label) (code : Code) → CodeNamed n code → Each (LabelNamed n) labels
+            → Same (step_at m s fn under ls ops labels code) (step_at p (big s) fn under ls ops labels code)
         step_at_stays ls ops labels done co lo = finishes_stay s fn under ls ops labels fo so uo lo
         step_at_stays ls ops labels (plain (basic b) rest) co lo =
-            did_stays more n fn under ls labels rest (drop (takes b) ops) s (act (memory_max m) b s (take (takes b) ops)) (act (memory_max m) b (big s) (take (takes b) ops)) fo uo lo co.1 so (act_stays more n (memory_max m) b s (take (takes b) ops) co.0 so)
+            did_stays more n fn under ls labels rest (drop (takes b) ops) s (act (memory_max m) b s (take (takes b) ops))
+            (act (memory_max m) b (big s) (take (takes b) ops)) fo uo lo co.1 so (act_stays more n (memory_max m) b s (take (takes b) ops) co.0 so)
         step_at_stays ls ops labels (plain (local_get x) rest) co lo = (refl, here_named ls (value_at ls x ∷ ops) rest labels co.1 lo)
         step_at_stays ls ops labels (plain (local_set x) rest) co lo = top_stays more n ops _ _ (λ v below. (refl, here_named (slice_set ls x v) below rest labels co.1 lo))
         step_at_stays ls ops labels (plain (local_tee x) rest) co lo = top_stays more n ops _ _ (λ v below. (refl, here_named (slice_set ls x v) (v ∷ below) rest labels co.1 lo))
         step_at_stays ls ops labels (plain (br l) rest) co lo = jumps_stay 0 s fn under ls ops labels l fo so uo lo
         step_at_stays ls ops labels (plain (br_if l) rest) co lo =
-            number_stays more n ops _ _ (λ v below. chooses_stay more n v (jump 0 m s fn under ls below labels l) (steps 0 (running s fn under ls below rest labels)) _ _ (jumps_stay 0 s fn under ls below labels l fo so uo lo) (refl, here_named ls below rest labels co.1 lo))
+            number_stays more n ops _ _ (λ v below. chooses_stay more n v (jump 0 m s fn under ls below labels l) (steps 0 (running s fn under ls below rest labels)) _ _
+            (jumps_stay 0 s fn under ls below labels l fo so uo lo) (refl, here_named ls below rest labels co.1 lo))
         step_at_stays ls ops labels (plain (br_table targets last) rest) co lo =
             number_stays more n ops _ _ (λ v below. jumps_stay (length targets + 1) s fn under ls below labels (unwrap_or (slice_get targets v) last) fo so uo lo)
         step_at_stays ls ops labels (plain return rest) co lo = leaves_here 0 s fn ops under fo so uo

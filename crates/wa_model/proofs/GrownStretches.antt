@@ -13,7 +13,8 @@ use Rattle.wa_model.proofs.Runs.{turned}
 use Rattle.wa_model.proofs.GrownSteps.{ModuleNamed, Stays, step_stays}
 
 module _ (more : List Value) (n : Spaces) where
-  turn_stays : (o o' : Next) (k : ℕ) (es : List Note) (t : Configuration) → Stays more n o o' → alone_next true o ≡ goes k es t → (alone_next true o' ≡ goes k es (grown_config more t)) × ConfigNamed n t
+  turn_stays : (o o' : Next) (k : ℕ) (es : List Note) (t : Configuration) → Stays more n o o' → alone_next true o ≡ goes k es t
+      → (alone_next true o' ≡ goes k es (grown_config more t)) × ConfigNamed n t
   turn_stays (steps j d) o' k es t h e =
       let same : d ≡ t = cc in (ap (alone_next true) h.0 ∙ ap (turned (grown_config more)) e, subst (ConfigNamed n) same h.1)
   turn_stays (asks j import args d) o' k es t h e = cc
@@ -42,7 +43,8 @@ module _ (m : Module) (ts : List FuncType) (fs : List Func) (gs : List GlobalDef
   abbrev n : Spaces
   n = spaces_of m
 
-  pub leads_stay : (c d : Configuration) (cost : ℕ) (notes : List Note) → ConfigNamed n c → Leads (alone (λ c. true) m) c cost notes d → Leads (alone (λ c. true) p) (grown_config more c) cost notes (grown_config more d) × ConfigNamed n d
+  pub leads_stay : (c d : Configuration) (cost : ℕ) (notes : List Note) → ConfigNamed n c → Leads (alone (λ c. true) m) c cost notes d
+      → Leads (alone (λ c. true) p) (grown_config more c) cost notes (grown_config more d) × ConfigNamed n d
   leads_stay c d cost notes h stays = (stays, h)
   leads_stay c d cost notes h (moves {t = t} {k = k} {n = j} {es = xs} {fs = ys} e l em eg) =
       let turn = turn_stays more n (step m c) (step p (grown_config more c)) k xs t (step_stays m ts fs gs es ok more c h) e in

@@ -1,5 +1,6 @@
 -- How high operands stand, by the types that instructions take and give.
-use Rattle.std.proofs.Common.{arith, ◌≡◌, ℕ, suc, ◌+◌, ◌-◌, ◌≤◌, max, if◌then◌else◌, List, [], ◌∷◌, ◌++◌, reverse, Option, Some, None, Bool, true, false, refl, sym, ap, ◌∙◌, subst, length, length-append}
+use Rattle.std.proofs.Common.{arith, ◌≡◌, ℕ, suc, ◌+◌, ◌-◌, ◌≤◌, max, if◌then◌else◌, List, [], ◌∷◌, ◌++◌, reverse, Option, Some, None, Bool, true, false, refl, sym, ap, ◌∙◌, subst, length}
+use Rattle.std.proofs.Common.{length-append}
 use Rattle.std.specs.Prelude.{slice_get}
 use Rattle.std.proofs.lemmas.List.{length-reverse}
 use Rattle.wa_types.specs.declared.values.ValType.{ValType}
@@ -85,17 +86,20 @@ called_height : (t : FuncType) (own : List ValType) (ins outs below : List ValTy
 called_height t own ins outs below few h =
     let p : length (own ++ reverse t.params) ≡ length own + length t.params = length-append own (reverse t.params) ∙ ap (λ k. length own + k) (length-reverse t.params) in
     let r : length (reverse t.results) ≡ length t.results = length-reverse t.results in
-    let k : length (ins ++ below) - length (own ++ reverse t.params) + length (reverse t.results) ≡ length (outs ++ below) = moved_height (own ++ reverse t.params) (reverse t.results) ins outs below h in
+    let k : length (ins ++ below) - length (own ++ reverse t.params) + length (reverse t.results)
+    ≡ length (outs ++ below) = moved_height (own ++ reverse t.params) (reverse t.results) ins outs below h in
     omega arith
 
-pub calls_height : (o : Option FuncType) (u : FuncType) (ins outs below : List ValType) → ((t : FuncType) → o ≡ Some t → u ≡ t) → length u.results ≤ 1 → Takes (calls o) ins outs → behind_call u (length (ins ++ below)) ≡ length (outs ++ below)
+pub calls_height : (o : Option FuncType) (u : FuncType) (ins outs below : List ValType) → ((t : FuncType) → o ≡ Some t → u ≡ t) → length u.results ≤ 1 → Takes (calls o) ins outs
+    → behind_call u (length (ins ++ below)) ≡ length (outs ++ below)
 calls_height None u ins outs below is few h = absurd h
 calls_height (Some t) u ins outs below is few h =
     let e : u ≡ t = is t refl in
     let k = called_height u [] ins outs below few (subst (λ (w : FuncType). Takes (moves (reverse w.params) (reverse w.results)) ins outs) (sym e) h) in
     omega (arith, k)
 
-pub calls_at_height : (table : Bool) (o : Option FuncType) (u : FuncType) (ins outs below : List ValType) → ((t : FuncType) → o ≡ Some t → u ≡ t) → length u.results ≤ 1 → Takes (calls_at table o) ins outs → behind_call u (length (ins ++ below) - 1) ≡ length (outs ++ below)
+pub calls_at_height : (table : Bool) (o : Option FuncType) (u : FuncType) (ins outs below : List ValType) → ((t : FuncType) → o ≡ Some t → u ≡ t) → length u.results ≤ 1
+    → Takes (calls_at table o) ins outs → behind_call u (length (ins ++ below) - 1) ≡ length (outs ++ below)
 calls_at_height table None u ins outs below is few h = absurd h
 calls_at_height false (Some t) u ins outs below is few h = absurd h
 calls_at_height true (Some t) u ins outs below is few h =

@@ -5,7 +5,8 @@ use Rattle.wa_model.specs.Machine.{Turn, stops, goes, Ran, after, run, Leads, st
 use Rattle.wa_model.proofs.Runs.{leads_run}
 use Rattle.wa_model.proofs.Follow.{Alike, alike_on, On_way, not_yet, all_made, up_to, Match, Follows}
 
-module _ (SA SB EA EB : Type 0) (na : SA → Turn SA EA) (nb : SB → Turn SB EB) (R : (n spare : ℕ) → SA → SB → Type 0) (Q : EA → EB → Type 0) (dear : List EA → ℕ) (Sees : SA → SB → Type 0) (Sees_at : EA → SB → Type 0) where
+module _ (SA SB EA EB : Type 0) (na : SA → Turn SA EA) (nb : SB → Turn SB EB) (R : (n spare : ℕ) → SA → SB → Type 0) (Q : EA → EB → Type 0) (dear : List EA → ℕ) (Sees : SA → SB → Type 0)
+    (Sees_at : EA → SB → Type 0) where
   abbrev M : (n spare k : ℕ) → List EA → SA → SA → SB → Type 0
   M = Match SA SB EA EB na nb R Q dear Sees Sees_at
 
@@ -15,7 +16,8 @@ module _ (SA SB EA EB : Type 0) (na : SA → Turn SA EA) (nb : SB → Turn SB EB
   -- a moment of A within a cost of n: where it stands, or one of the events of its next move
   pub data Moment (n : ℕ) (a : SA) (r : Ran SB EB) : Type 0 where
     at_state : (cost : ℕ) (es : List EA) (at : SA) → Leads na a cost es at → cost ≤ n → Alike Q es r.events → Sees at r.last → Moment n a r
-    at_event : (cost k : ℕ) (es es1 es2 : List EA) (x : EA) (at a' : SA) → Leads na a cost es at → na at ≡ goes k (es1 ++ x ∷ es2) a' → cost + suc k ≤ n → Alike Q (es ++ (es1 ++ x ∷ [])) r.events → Sees_at x r.last → Moment n a r
+    at_event : (cost k : ℕ) (es es1 es2 : List EA) (x : EA) (at a' : SA) → Leads na a cost es at → na at ≡ goes k (es1 ++ x ∷ es2) a' → cost + suc k ≤ n
+        → Alike Q (es ++ (es1 ++ x ∷ [])) r.events → Sees_at x r.last → Moment n a r
 
   module _ (f : Follows SA SB EA EB na nb R Q dear Sees Sees_at) where
     alike_none : (es : List EB) → es ≡ [] → Alike Q [] es
@@ -48,7 +50,8 @@ module _ (SA SB EA EB : Type 0) (na : SA → Turn SA EA) (nb : SB → Turn SB EB
         at_slow : (n spare k : ℕ) (es : List EA) (a a' : SA) (b : SB) → R n spare a b → na a ≡ goes k es a' → n ≤ k → Moment n a (run nb n b)
         at_slow n spare k es a a' b r e few = let w = f.slow n spare k es a' a b r e few n (omega arith) in at_state 0 [] a stays (omega arith) (alike_none (run nb n b).events w.0) w.1
 
-        by_turn : (fuel n spare : ℕ) (a : SA) (b : SB) → R n spare a b → n ≤ suc fuel → ((n' spare' : ℕ) (a' : SA) (b' : SB) → R n' spare' a' b' → n' ≤ fuel → Moment n' a' (run nb n' b')) → (o : Turn SA EA) → na a ≡ o → Moment n a (run nb n b)
+        by_turn : (fuel n spare : ℕ) (a : SA) (b : SB) → R n spare a b → n ≤ suc fuel → ((n' spare' : ℕ) (a' : SA) (b' : SB) → R n' spare' a' b' → n' ≤ fuel → Moment n' a' (run nb n' b'))
+            → (o : Turn SA EA) → na a ≡ o → Moment n a (run nb n b)
         by_turn fuel n spare a b r le ih stops e = at_stop n spare a b r e
         by_turn fuel n spare a b r le ih (goes k es a') e =
             ⊎_elim

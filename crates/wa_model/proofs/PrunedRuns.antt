@@ -5,7 +5,8 @@ use Rattle.std.specs.Option.{option_map}
 use Rattle.wa_types.specs.declared.values.Value.{Value}
 use Rattle.wa_types.specs.declared.values.Value.TheVariants as V
 use Rattle.wa_types.specs.declared.values.Trap.TheVariants.{StackExhausted, TypeMismatch}
-use Rattle.wa_types.specs.Syntax.{basic, local_get, local_set, local_tee, br, br_if, br_table, return, unreachable, call, call_indirect, a_block, a_loop, Code, done, plain, nest, branch, FuncType, Func, Module}
+use Rattle.wa_types.specs.Syntax.{basic, local_get, local_set, local_tee, br, br_if, br_table, return, unreachable, call, call_indirect, a_block, a_loop, Code, done, plain, nest, branch}
+use Rattle.wa_types.specs.Syntax.{FuncType, Func, Module}
 use Rattle.wa_types.specs.Pruned.{is_last, pruned}
 use Rattle.wa_types.specs.Modules.{imported, imported_func, func_imports, func_type_at, type_at, or_empty, defined_at}
 use Rattle.wa_types.specs.Pausing.{calls_of, calls_in}
@@ -14,10 +15,13 @@ use Rattle.wa_model.specs.Outside.{Answer, answered, returned}
 use Rattle.wa_model.specs.Machine.{Turn, stops, goes, Ran, after, run}
 use Rattle.wa_model.specs.Store.{Store, Did, works, fails, lacks, takes, act}
 use Rattle.wa_model.specs.Configuration.{Label, block_label, loop_label, Activation, Configuration, running, waiting, call_count, calls_behind, calls_outside, place_of, suspended, stack_of}
-use Rattle.wa_model.specs.Step.{Next, steps, asks, returns, traps, stuck, result_count, leave, jump, finish, did, with_top, with_number, choose, arity_of, entered, invoke, param_count, same_func_type, through, memory_max, step_at, step}
+use Rattle.wa_model.specs.Step.{Next, steps, asks, returns, traps, stuck, result_count, leave, jump, finish, did, with_top, with_number, choose, arity_of, entered, invoke, param_count}
+use Rattle.wa_model.specs.Step.{same_func_type, through, memory_max, step_at, step}
 use Rattle.wa_model.specs.Plan.{Entry, Plan, Outcome, given, refused}
 use Rattle.wa_model.specs.Pruning.{pruned_func, pruned_module}
-use Rattle.wa_model.specs.Blocking.{Note, note, value_of_results, fault_of, Task, the_start, an_entry, Left, with_outcomes, Asker, inside, outermost, store_at, stack_at, in_start, State, between, begins, runs, halts, on_to, next_entry, task_back, go_on, tested, asked, by_step, enters, enter_next, start_called, blocking, poked, call_note, pause_of, done_notes, all_left, begun, continued, blocking_run}
+use Rattle.wa_model.specs.Blocking.{Note, note, value_of_results, fault_of, Task, the_start, an_entry, Left, with_outcomes, Asker, inside, outermost, store_at, stack_at, in_start, State}
+use Rattle.wa_model.specs.Blocking.{between, begins, runs, halts, on_to, next_entry, task_back, go_on, tested, asked, by_step, enters, enter_next, start_called, blocking, poked, call_note}
+use Rattle.wa_model.specs.Blocking.{pause_of, done_notes, all_left, begun, continued, blocking_run}
 use Rattle.wa_model.specs.Instantiation.{Opening, fails_as, opens, opening}
 use Rattle.wa_model.proofs.Runs.{turned, mapped, run_mapped}
 
@@ -27,7 +31,8 @@ unfolding pruned
 pruned_twice done = refl
 pruned_twice (plain p rest) = by_last (is_last p) refl (pruned_twice rest)
   where
-    by_last : (b : Bool) → is_last p ≡ b → pruned (pruned rest) ≡ pruned rest → plain p (if is_last p then done else pruned (if is_last p then done else pruned rest)) ≡ plain p (if is_last p then done else pruned rest)
+    by_last : (b : Bool) → is_last p ≡ b → pruned (pruned rest) ≡ pruned rest → plain p (if is_last p then done else pruned (if is_last p then done else pruned rest))
+        ≡ plain p (if is_last p then done else pruned rest)
     by_last true e h = rw e
     by_last false e h = rw e (ap (plain p) h)
 pruned_twice (nest s r body rest) = ap (λ x. nest s r x (pruned (pruned rest))) (pruned_twice body) ∙ ap (nest s r (pruned body)) (pruned_twice rest)
@@ -123,22 +128,26 @@ module _ (m : Module) where
   leaves_pruned k s ops arity [] = refl
   leaves_pruned k s ops arity (a ∷ under) = refl
 
-  leaves_here : (k : ℕ) (s : Store) (fn : ℕ) (ops : List Value) (under : List Activation) → leave k s ops (result_count (pruned_module m) fn) (map pruned_act under) ≡ pruned_next (leave k s ops (result_count m fn) under)
+  leaves_here : (k : ℕ) (s : Store) (fn : ℕ) (ops : List Value) (under : List Activation)
+      → leave k s ops (result_count (pruned_module m) fn) (map pruned_act under) ≡ pruned_next (leave k s ops (result_count m fn) under)
   leaves_here k s fn ops under = ap (λ (t : FuncType). leave k s ops (length t.results) (map pruned_act under)) (types_same fn) ∙ leaves_pruned k s ops (result_count m fn) under
 
-  jumps_pruned : (k : ℕ) (s : Store) (fn : ℕ) (under : List Activation) (ls ops : List Value) (labels : List Label) (l : ℕ) → jump k (pruned_module m) s fn (map pruned_act under) ls ops (map pruned_label labels) l ≡ pruned_next (jump k m s fn under ls ops labels l)
+  jumps_pruned : (k : ℕ) (s : Store) (fn : ℕ) (under : List Activation) (ls ops : List Value) (labels : List Label) (l : ℕ)
+      → jump k (pruned_module m) s fn (map pruned_act under) ls ops (map pruned_label labels) l ≡ pruned_next (jump k m s fn under ls ops labels l)
   jumps_pruned k s fn under ls ops [] l = leaves_here k s fn ops under
   jumps_pruned k s fn under ls ops (block_label h arity rest skipped ∷ labels) zero = refl
   jumps_pruned k s fn under ls ops (loop_label h body rest ∷ labels) zero = refl
   jumps_pruned k s fn under ls ops (block_label h arity rest skipped ∷ labels) (suc l) = jumps_pruned k s fn under ls ops labels l
   jumps_pruned k s fn under ls ops (loop_label h body rest ∷ labels) (suc l) = jumps_pruned k s fn under ls ops labels l
 
-  finishes_pruned : (s : Store) (fn : ℕ) (under : List Activation) (ls ops : List Value) (labels : List Label) → finish (pruned_module m) s fn (map pruned_act under) ls ops (map pruned_label labels) ≡ pruned_next (finish m s fn under ls ops labels)
+  finishes_pruned : (s : Store) (fn : ℕ) (under : List Activation) (ls ops : List Value) (labels : List Label)
+      → finish (pruned_module m) s fn (map pruned_act under) ls ops (map pruned_label labels) ≡ pruned_next (finish m s fn under ls ops labels)
   finishes_pruned s fn under ls ops [] = leaves_here 0 s fn ops under
   finishes_pruned s fn under ls ops (block_label h arity rest skipped ∷ labels) = refl
   finishes_pruned s fn under ls ops (loop_label h body rest ∷ labels) = refl
 
-  did_pruned : (fn : ℕ) (under : List Activation) (ls : List Value) (labels : List Label) (rest : Code) (s : Store) (ops : List Value) (d : Did) → did fn (map pruned_act under) ls (map pruned_label labels) (pruned rest) s ops d ≡ pruned_next (did fn under ls labels rest s ops d)
+  did_pruned : (fn : ℕ) (under : List Activation) (ls : List Value) (labels : List Label) (rest : Code) (s : Store) (ops : List Value) (d : Did)
+      → did fn (map pruned_act under) ls (map pruned_label labels) (pruned rest) s ops d ≡ pruned_next (did fn under ls labels rest s ops d)
   did_pruned fn under ls labels rest s ops (works s' results) = refl
   did_pruned fn under ls labels rest s ops (fails trap) = refl
   did_pruned fn under ls labels rest s ops lacks = refl
@@ -156,7 +165,9 @@ module _ (m : Module) where
   chooses_pruned zero x y x' y' e f = f
   chooses_pruned (suc n) x y x' y' e f = e
 
-  invokes_pruned : (s : Store) (fn : ℕ) (under : List Activation) (ls own ops : List Value) (rest : Code) (labels : List Label) (params x : ℕ) (o : Option Func) → invoke (pruned_module m) s fn (map pruned_act under) ls own ops (pruned rest) (map pruned_label labels) params x (option_map pruned_func o) ≡ pruned_next (invoke m s fn under ls own ops rest labels params x o)
+  invokes_pruned : (s : Store) (fn : ℕ) (under : List Activation) (ls own ops : List Value) (rest : Code) (labels : List Label) (params x : ℕ) (o : Option Func)
+      → invoke (pruned_module m) s fn (map pruned_act under) ls own ops (pruned rest) (map pruned_label labels) params x (option_map pruned_func o)
+      ≡ pruned_next (invoke m s fn under ls own ops rest labels params x o)
   invokes_pruned s fn under ls own ops rest labels params x (Some f) =
       ap (λ n. if nat_lt (n + 1) 4096 then steps params (pruned_config (to f)) else traps params StackExhausted s) (length_map pruned_act under) ∙ by_room (nat_lt (length under + 1) 4096)
     where
@@ -171,15 +182,20 @@ module _ (m : Module) where
       waits : Configuration
       waits = record { store = s; here = waiting fn ls (drop params ops) (own ++ take params ops) rest labels; under = under }
 
-      by_import : (b : Bool) → (if b then asks params x (reverse (take params ops)) (pruned_config waits) else stuck) ≡ pruned_next (if b then asks params x (reverse (take params ops)) waits else stuck)
+      by_import : (b : Bool) → (if b then asks params x (reverse (take params ops)) (pruned_config waits) else stuck)
+          ≡ pruned_next (if b then asks params x (reverse (take params ops)) waits else stuck)
       by_import true = refl
       by_import false = refl
 
-  invokes_at : (s : Store) (fn : ℕ) (under : List Activation) (ls own ops : List Value) (rest : Code) (labels : List Label) (params x : ℕ) → invoke (pruned_module m) s fn (map pruned_act under) ls own ops (pruned rest) (map pruned_label labels) params x (defined_at (pruned_module m) x) ≡ pruned_next (invoke m s fn under ls own ops rest labels params x (defined_at m x))
+  invokes_at : (s : Store) (fn : ℕ) (under : List Activation) (ls own ops : List Value) (rest : Code) (labels : List Label) (params x : ℕ)
+      → invoke (pruned_module m) s fn (map pruned_act under) ls own ops (pruned rest) (map pruned_label labels) params x (defined_at (pruned_module m) x)
+      ≡ pruned_next (invoke m s fn under ls own ops rest labels params x (defined_at m x))
   invokes_at s fn under ls own ops rest labels params x =
-      ap (invoke (pruned_module m) s fn (map pruned_act under) ls own ops (pruned rest) (map pruned_label labels) params x) (defined_pruned x) ∙ invokes_pruned s fn under ls own ops rest labels params x (defined_at m x)
+      ap (invoke (pruned_module m) s fn (map pruned_act under) ls own ops (pruned rest) (map pruned_label labels) params x) (defined_pruned x)
+      ∙ invokes_pruned s fn under ls own ops rest labels params x (defined_at m x)
 
-  through_pruned : (s : Store) (fn : ℕ) (under : List Activation) (ls own ops : List Value) (rest : Code) (labels : List Label) (sort : ℕ) (o : Option (Option ℕ)) → through (pruned_module m) s fn (map pruned_act under) ls own ops (pruned rest) (map pruned_label labels) sort o ≡ pruned_next (through m s fn under ls own ops rest labels sort o)
+  through_pruned : (s : Store) (fn : ℕ) (under : List Activation) (ls own ops : List Value) (rest : Code) (labels : List Label) (sort : ℕ) (o : Option (Option ℕ))
+      → through (pruned_module m) s fn (map pruned_act under) ls own ops (pruned rest) (map pruned_label labels) sort o ≡ pruned_next (through m s fn under ls own ops rest labels sort o)
   through_pruned s fn under ls own ops rest labels sort None = refl
   through_pruned s fn under ls own ops rest labels sort (Some None) = refl
   through_pruned s fn under ls own ops rest labels sort (Some (Some x)) =
@@ -195,7 +211,8 @@ module _ (m : Module) where
       by_type true = invokes_at s fn under ls own ops rest labels n x
       by_type false = refl
 
-  step_at_pruned : (s : Store) (fn : ℕ) (under : List Activation) (ls ops : List Value) (labels : List Label) (c : Code) → step_at (pruned_module m) s fn (map pruned_act under) ls ops (map pruned_label labels) (pruned c) ≡ pruned_next (step_at m s fn under ls ops labels c)
+  step_at_pruned : (s : Store) (fn : ℕ) (under : List Activation) (ls ops : List Value) (labels : List Label) (c : Code)
+      → step_at (pruned_module m) s fn (map pruned_act under) ls ops (map pruned_label labels) (pruned c) ≡ pruned_next (step_at m s fn under ls ops labels c)
   unfolding pruned
   step_at_pruned s fn under ls ops labels done = finishes_pruned s fn under ls ops labels
   step_at_pruned s fn under ls ops labels (plain (basic b) rest) = did_pruned fn under ls labels rest s (drop (takes b) ops) (act (memory_max m) b s (take (takes b) ops))
@@ -204,7 +221,8 @@ module _ (m : Module) where
   step_at_pruned s fn under ls ops labels (plain (local_tee x) rest) = top_pruned ops _ _ (λ v below. refl)
   step_at_pruned s fn under ls ops labels (plain (br l) rest) = jumps_pruned 0 s fn under ls ops labels l
   step_at_pruned s fn under ls ops labels (plain (br_if l) rest) =
-      number_pruned ops _ _ (λ n below. chooses_pruned n (jump 0 m s fn under ls below labels l) (steps 0 (running s fn under ls below rest labels)) _ _ (jumps_pruned 0 s fn under ls below labels l) refl)
+      number_pruned ops _ _ (λ n below. chooses_pruned n (jump 0 m s fn under ls below labels l) (steps 0 (running s fn under ls below rest labels)) _ _
+      (jumps_pruned 0 s fn under ls below labels l) refl)
   step_at_pruned s fn under ls ops labels (plain (br_table targets last) rest) =
       number_pruned ops _ _ (λ n below. jumps_pruned (length targets + 1) s fn under ls below labels (unwrap_or (slice_get targets n) last))
   step_at_pruned s fn under ls ops labels (plain return rest) = leaves_here 0 s fn ops under
@@ -224,7 +242,9 @@ module _ (m : Module) where
       second : List Value → Configuration
       second below = running s fn under ls below b (block_label (length below) (arity_of r) rest done ∷ labels)
 
-      by_arm : (n : ℕ) (below : List Value) → steps 0 (choose n (pruned_config (first below)) (running s fn (map pruned_act under) ls below (pruned b) (block_label (length below) (arity_of r) (pruned rest) done ∷ map pruned_label labels))) ≡ pruned_next (steps 0 (choose n (first below) (second below)))
+      by_arm : (n : ℕ) (below : List Value) → steps 0 (choose n (pruned_config (first below))
+          (running s fn (map pruned_act under) ls below (pruned b) (block_label (length below) (arity_of r) (pruned rest) done ∷ map pruned_label labels)))
+          ≡ pruned_next (steps 0 (choose n (first below) (second below)))
       by_arm zero below = refl
       by_arm (suc n) below = refl
 
@@ -279,14 +299,17 @@ module _ (m : Module) (plan : Plan) where
 
   tested_pruned : (k import : ℕ) (args : List Value) (w : Asker) (l : Left) (a : Answer) (o : Option End) → tested p k import args (pruned_asker w) l a o ≡ pruned_turn (tested m k import args w l a o)
   tested_pruned k import args w l a (Some e) = rw (store_at_same w, stack_at_same w) refl
-  tested_pruned k import args w l a None = rw (store_at_same w, stack_at_same w) (go_on_pruned k (call_note import args (store_at w) (stack_at m w) (pause_of a.ticks)) a (poked (store_at w) a.pokes) l w)
+  tested_pruned k import args w l a None = rw (store_at_same w, stack_at_same w) (go_on_pruned k (call_note import args (store_at w) (stack_at m w) (pause_of a.ticks)) a
+      (poked (store_at w) a.pokes) l w)
 
   asked_pruned : (k import : ℕ) (args : List Value) (w : Asker) (l : Left) (os : List Outcome) → asked p plan k import args (pruned_asker w) l os ≡ pruned_turn (asked m plan k import args w l os)
   asked_pruned k import args w l [] = rw (store_at_same w, stack_at_same w) refl
   asked_pruned k import args w l (refused e ∷ os) = rw (store_at_same w, stack_at_same w) refl
   asked_pruned k import args w l (given a ∷ os) =
-      ap (λ (t : FuncType). tested p k import args (pruned_asker w) (with_outcomes l os) a (fault_of t.results (length (store_at (pruned_asker w)).memory) plan (in_start (pruned_asker w)) import a)) (types_same m import)
-      ∙ ap (λ (s : Store). tested p k import args (pruned_asker w) (with_outcomes l os) a (fault_of (func_type_at m import).results (length s.memory) plan (in_start (pruned_asker w)) import a)) (store_at_same w)
+      ap (λ (t : FuncType). tested p k import args (pruned_asker w) (with_outcomes l os) a
+      (fault_of t.results (length (store_at (pruned_asker w)).memory) plan (in_start (pruned_asker w)) import a)) (types_same m import)
+      ∙ ap (λ (s : Store). tested p k import args (pruned_asker w) (with_outcomes l os) a
+      (fault_of (func_type_at m import).results (length s.memory) plan (in_start (pruned_asker w)) import a)) (store_at_same w)
       ∙ ap (λ b. tested p k import args (pruned_asker w) (with_outcomes l os) a (fault_of (func_type_at m import).results (length (store_at w).memory) plan b import a)) (in_start_same w)
       ∙ tested_pruned k import args w (with_outcomes l os) a (fault_of (func_type_at m import).results (length (store_at w).memory) plan (in_start w) import a)
 
@@ -303,7 +326,8 @@ module _ (m : Module) (plan : Plan) where
 
   enter_next_pruned : (s : Store) (l : Left) (es : List Entry) → enter_next p s l es ≡ pruned_turn (enter_next m s l es)
   enter_next_pruned s l [] = refl
-  enter_next_pruned s l (e ∷ es) = ap (enters e s (record { number = l.number; entries = es; outcomes = l.outcomes })) (defined_pruned m e.func) ∙ enters_pruned e s (record { number = l.number; entries = es; outcomes = l.outcomes }) (defined_at m e.func)
+  enter_next_pruned s l (e ∷ es) = ap (enters e s (record { number = l.number; entries = es; outcomes = l.outcomes })) (defined_pruned m e.func)
+      ∙ enters_pruned e s (record { number = l.number; entries = es; outcomes = l.outcomes }) (defined_at m e.func)
 
   start_pruned : (x : ℕ) (s : Store) (l : Left) (o : Option Func) → start_called p plan x s l (option_map pruned_func o) ≡ pruned_turn (start_called m plan x s l o)
   start_pruned x s l (Some f) = refl

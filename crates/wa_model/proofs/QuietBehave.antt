@@ -82,7 +82,8 @@ protocol_grows p plan os n more =
     let le : n ≤ n = omega arith in
     prefix_on Held Note (protocol p (exports_of p) plan) (held_start_of p plan os).events _ _ (prefix_of_longer Held Note (protocol p (exports_of p) plan) n n more (held_start_of p plan os).last le)
 
-module _ (m : Module) (s : Settings) (valid : Valid m) (never : NeverPauses m s) (which : List Bool) (tells : TellsMayPause m s which) (plan : Plan) (os : List Outcome) (n : ℕ) (c : Compared m s plan os n) (pauses : PausesNumbered m s which (Blocking m plan os n).events) where
+module _ (m : Module) (s : Settings) (valid : Valid m) (never : NeverPauses m s) (which : List Bool) (tells : TellsMayPause m s which) (plan : Plan) (os : List Outcome) (n : ℕ)
+    (c : Compared m s plan os n) (pauses : PausesNumbered m s which (Blocking m plan os n).events) where
   abbrev p : Module
   p = with_runtime m
 

@@ -77,7 +77,8 @@ module _ (m : Module) (ts : List FuncType) (fs : List Func) (gs : List GlobalDef
   abbrev count : ℕ
   count = (spaces_of m).globals
 
-  from_start : (k : ℕ) (xs : List Note) (s : State) (r' : Ran Held Note) → r' ≡ after (map (grown_note more) xs) (run (protocol p (exports_of p) plan) k (held_of more s)) → Each (IsPlainNote count) xs → StateNamed m s
+  from_start : (k : ℕ) (xs : List Note) (s : State) (r' : Ran Held Note) → r' ≡ after (map (grown_note more) xs) (run (protocol p (exports_of p) plan) k (held_of more s))
+      → Each (IsPlainNote count) xs → StateNamed m s
       → Each SuspendsNone (xs ++ (run (blocking m plan) k s).events) → AgreeOn count (after xs (run (blocking m plan) k s)) r'
   from_start k xs s r' e h so idle =
       let r = run (blocking m plan) k s in
@@ -90,8 +91,10 @@ module _ (m : Module) (ts : List FuncType) (fs : List Func) (gs : List GlobalDef
       → Each SuspendsNone (continued m plan k (begun start l o)).events → AgreeOn count (continued m plan k (begun start l o)) (held_continued p plan k (held_begun start l o'))
   by_opening k l start (fails_as e) o' h lo st idle =
       let x : Note = note (ended e) no_store in
-      let ends : AgreeOn count (after (x ∷ []) (still (halts no_store))) (after (x ∷ []) (still (over no_store))) =
-      ((record { event = refl; plain = end_plain e h.1; pause = refl; since = refl; store = record { globals = λ y lt. refl; memory = refl } }, tt), record { globals = λ y lt. refl; memory = refl }) in
+      let ends : AgreeOn count (after (x ∷ []) (still (halts no_store))) (after (x ∷ []) (still (over no_store))) = (
+        (record { event = refl; plain = end_plain e h.1; pause = refl; since = refl; store = record { globals = λ y lt. refl; memory = refl } }, tt),
+        record { globals = λ y lt. refl; memory = refl },
+      ) in
       subst (λ y. AgreeOn count (continued m plan k (begun start l (fails_as e))) (held_continued p plan k (held_begun start l y))) (sym h.0)
       (subst (λ r. AgreeOn count (after (x ∷ []) r) (after (x ∷ []) (run (protocol p (exports_of p) plan) k (over no_store)))) (sym (no_move State Note (blocking m plan) k (halts no_store) refl))
       (subst (λ r'. AgreeOn count (after (x ∷ []) (still (halts no_store))) (after (x ∷ []) r')) (sym (no_move Held Note (protocol p (exports_of p) plan) k (over no_store) refl)) ends))
@@ -129,7 +132,8 @@ base_instance : (m : Module) → InstanceNamed m → InstanceNamed (Base m)
 unfolding Base
 base_instance m h = record { elem_offsets = h.elem_offsets; segment_offsets = h.segment_offsets; elem_funcs = h.elem_funcs; start = h.start }
 
-pub is_grown : (m : Module) → with_runtime m ≡ grown_module (Base m) runtime_types (runtime_funcs (length m.types) (global_space m) (global_space m + 1)) runtime_globals (runtime_exports (func_space m))
+pub is_grown : (m : Module) → with_runtime m ≡ grown_module (Base m) runtime_types (runtime_funcs (length m.types) (global_space m) (global_space m + 1)) runtime_globals
+    (runtime_exports (func_space m))
 unfolding Base with_runtime
 is_grown m = refl
 
@@ -137,7 +141,8 @@ base_entry : (m : Module) (e : Entry) → EntryFits m e → EntryThere (Base m) 
 unfolding Base
 base_entry m e h = h.defined
 
-base_globals : (m : Module) (values : List Value) → are_of (map (λ (g : GlobalType). g.ty) (imported imported_global m)) values ≡ true → are_of (map (λ (g : GlobalType). g.ty) (imported imported_global (Base m))) values ≡ true
+base_globals : (m : Module) (values : List Value) → are_of (map (λ (g : GlobalType). g.ty) (imported imported_global m)) values ≡ true
+    → are_of (map (λ (g : GlobalType). g.ty) (imported imported_global (Base m))) values ≡ true
 unfolding Base
 base_globals m values h = h
 
@@ -145,7 +150,8 @@ base_count : (m : Module) → (spaces_of (Base m)).globals ≡ global_space m
 unfolding Base
 base_count m = refl
 
-module _ (m : Module) (s : Settings) (valid : Valid m) (never : NeverPauses m s) (which : List Bool) (tells : TellsMayPause m s which) (plan : Plan) (os : List Outcome) (n : ℕ) (c : Compared m s plan os n) (pauses : PausesNumbered m s which (Blocking m plan os n).events) where
+module _ (m : Module) (s : Settings) (valid : Valid m) (never : NeverPauses m s) (which : List Bool) (tells : TellsMayPause m s which) (plan : Plan) (os : List Outcome) (n : ℕ)
+    (c : Compared m s plan os n) (pauses : PausesNumbered m s which (Blocking m plan os n).events) where
   abbrev q : Module
   q = with_runtime m
 

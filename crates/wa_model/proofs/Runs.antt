@@ -92,7 +92,8 @@ module _ (S E : Type 0) (next : S → Turn S E) where
       let z : n ≡ 0 = omega arith in prefix_of_none (run next n s).events (run next (n + more) s).events (ap (λ k. (run next k s).events) z)
   prefix_of_longer (suc fuel) n more s le = by_turn (λ n' t h. prefix_of_longer fuel n' more t h) (next s) refl
     where
-      by_turn : ((n' : ℕ) (t : S) → n' ≤ fuel → IsPrefix (run next n' t).events (run next (n' + more) t).events) → (o : Turn S E) → next s ≡ o → IsPrefix (run next n s).events (run next (n + more) s).events
+      by_turn : ((n' : ℕ) (t : S) → n' ≤ fuel → IsPrefix (run next n' t).events (run next (n' + more) t).events) → (o : Turn S E) → next s ≡ o
+          → IsPrefix (run next n s).events (run next (n + more) s).events
       by_turn ih stops e = prefix_of_none (run next n s).events (run next (n + more) s).events (ap (λ r. r.events) (no_move n s e))
       by_turn ih (goes k es t) e =
           ⊎_elim
@@ -180,7 +181,8 @@ module _ (S E : Type 0) (next : S → Turn S E) where
       by_fuel (suc fuel) n s le = by_turn fuel n s le (λ n' t h. by_fuel fuel n' t h) (next s) refl
 
 -- a machine whose moves are those of another, its states mapped
-pub run_mapped : (S T E : Type 0) (na : S → Turn S E) (nb : T → Turn T E) (f : S → T) → ((s : S) → nb (f s) ≡ turned f (na s)) → (most n : ℕ) (s : S) → run_with nb most n (f s) ≡ mapped f (run_with na most n s)
+pub run_mapped : (S T E : Type 0) (na : S → Turn S E) (nb : T → Turn T E) (f : S → T) → ((s : S) → nb (f s) ≡ turned f (na s)) → (most n : ℕ) (s : S)
+    → run_with nb most n (f s) ≡ mapped f (run_with na most n s)
 run_mapped S T E na nb f h zero n s = refl
 run_mapped S T E na nb f h (suc most) n s = ap (pay (run_with nb most) n (f s)) (h s) ∙ by_turn (λ n t. run_mapped S T E na nb f h most n t) (na s)
   where

@@ -1,5 +1,6 @@
 -- A valid module is valid with the runtime's parts behind its own.
-use Rattle.std.proofs.Common.{◌≡◌, ℕ, zero, suc, ◌+◌, ◌-◌, ◌<◌, ◌++◌, List, [], ◌∷◌, map, Option, Some, None, Bool, true, false, not, ◌&&◌, refl, sym, ap, ◌∙◌, subst, ⊎_elim, length, arith, append_assoc, length-append, eqb-true, All, Contains}
+use Rattle.std.proofs.Common.{◌≡◌, ℕ, zero, suc, ◌+◌, ◌-◌, ◌<◌, ◌++◌, List, [], ◌∷◌, map, Option, Some, None, Bool, true, false, not, ◌&&◌, refl, sym, ap, ◌∙◌, subst, ⊎_elim, length, arith}
+use Rattle.std.proofs.Common.{append_assoc, length-append, eqb-true, All, Contains}
 use Rattle.std.specs.Prelude.{slice_get, nat_lt, nat_le, ◌==◌, if◌then◌else◌}
 use Rattle.std.specs.List.{filter_map, flat_map, list_all, list_any}
 use Rattle.std.specs.Option.{option_map}
@@ -17,9 +18,12 @@ use Rattle.wa_types.specs.declared.syntax.Export.{Export}
 use Rattle.wa_types.specs.Syntax.{const, global_get, basic, Code, done, plain, FuncType, Func, GlobalDef, Elem, Segment, Module}
 use Rattle.wa_types.specs.Typing.{GlobalType, listed, Types, Typed}
 use Rattle.wa_types.specs.Base.{Base}
-use Rattle.wa_types.specs.Modules.{imported, imported_func, imported_global, global_type, func_sorts, func_types, func_imports, type_at, or_empty, all_tables, all_memories, all_globals, declared_locals, around}
-use Rattle.wa_types.specs.Validity.{all_below, same_space, exported, start_indices, got_global, types_there, funcs_there, tables_there, memories_there, expressions, globals_there, constant_of, is_constant, all_constant, same_name, all_differ, names_differ, is_empty_type, start_fits, start_lawful, Valid}
-use Rattle.wa_types.specs.Runtime.{func_space, global_space, runtime_types, runtime_globals, start_code, stop_code, state_code, runtime_func, runtime_funcs, runtime_exports, runtime_names, with_runtime}
+use Rattle.wa_types.specs.Modules.{imported, imported_func, imported_global, global_type, func_sorts, func_types, func_imports, type_at, or_empty, all_tables, all_memories, all_globals}
+use Rattle.wa_types.specs.Modules.{declared_locals, around}
+use Rattle.wa_types.specs.Validity.{all_below, same_space, exported, start_indices, got_global, types_there, funcs_there, tables_there, memories_there, expressions, globals_there}
+use Rattle.wa_types.specs.Validity.{constant_of, is_constant, all_constant, same_name, all_differ, names_differ, is_empty_type, start_fits, start_lawful, Valid}
+use Rattle.wa_types.specs.Runtime.{func_space, global_space, runtime_types, runtime_globals, start_code, stop_code, state_code, runtime_func, runtime_funcs, runtime_exports, runtime_names}
+use Rattle.wa_types.specs.Runtime.{with_runtime}
 use Rattle.wa_model.specs.Growth.{grown_module, Spaces, spaces_of, Each}
 use Rattle.wa_model.specs.Quiet.{FreeOfNames}
 use Rattle.wa_model.proofs.GrownSteps.{ModuleNamed, front, sorts_are, sort_stays, type_stays}
@@ -53,7 +57,8 @@ differ_joined : (xs ys : List (List ℕ)) → all_differ xs ≡ true → Each (�
 differ_joined [] ys d f h = h
 differ_joined (x ∷ xs) ys d f h =
     let b = and_parts (not (list_any (same_name x) xs)) (all_differ xs) d in
-    let none : list_any (same_name x) (xs ++ ys) ≡ false = list_any-append (same_name x) xs ys ∙ or_from (list_any (same_name x) xs) (list_any (same_name x) ys) (not-true (list_any (same_name x) xs) b.0) f.0 in
+    let none : list_any (same_name x) (xs ++ ys) ≡ false = list_any-append (same_name x) xs ys
+    ∙ or_from (list_any (same_name x) xs) (list_any (same_name x) ys) (not-true (list_any (same_name x) xs) b.0) f.0 in
     and_from (not (list_any (same_name x) (xs ++ ys))) (all_differ (xs ++ ys)) (not_from_false (list_any (same_name x) (xs ++ ys)) none) (differ_joined xs ys b.1 f.1 h)
 
 same_is : (xs ys : List ℕ) → same_name xs ys ≡ true → xs ≡ ys
@@ -254,7 +259,8 @@ module _ (m : Module) (v : Valid m) (has_memory : nat_lt 0 (length (all_memories
       let split : (xs : List Code) → flat_map got_global ((xs ++ rest) ++ last) ≡ (flat_map got_global xs ++ flat_map got_global rest) ++ flat_map got_global last =
       λ xs. flat_map-append got_global (xs ++ rest) last ∙ ap (λ ys. ys ++ flat_map got_global last) (flat_map-append got_global xs rest) in
       let inits : flat_map got_global (map init p.globals) ≡ flat_map got_global (map init m.globals) =
-      ap (flat_map got_global) (map-append init m.globals runtime_globals) ∙ flat_map-append got_global (map init m.globals) (map init runtime_globals) ∙ append-nil (flat_map got_global (map init m.globals)) in
+      ap (flat_map got_global) (map-append init m.globals runtime_globals) ∙ flat_map-append got_global (map init m.globals) (map init runtime_globals)
+      ∙ append-nil (flat_map got_global (map init m.globals)) in
       split (map init p.globals) ∙ ap (λ ys. (ys ++ flat_map got_global rest) ++ flat_map got_global last) inits ∙ sym (split (map init m.globals))
 
   globals_count : length (all_globals p) ≡ state + 2

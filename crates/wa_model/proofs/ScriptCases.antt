@@ -37,7 +37,8 @@ numbers : (number_in (codes "0") ≡ Some 0) × (number_in (codes "120") ≡ Som
 unfolding script_text is_utf8 chars encode digits
 numbers = (refl, refl, refl, refl, refl)
 
-least_values : (value_in (codes "i32:-2147483648") ≡ Some (V.I32 2147483648)) × (value_in (codes "i32:-2147483649") ≡ None) × (value_in (codes "i32:4294967295") ≡ Some (V.I32 4294967295)) × (value_in (codes "i32:4294967296") ≡ None)
+least_values : (value_in (codes "i32:-2147483648") ≡ Some (V.I32 2147483648)) × (value_in (codes "i32:-2147483649") ≡ None) × (value_in (codes "i32:4294967295") ≡ Some (V.I32 4294967295))
+    × (value_in (codes "i32:4294967296") ≡ None)
 unfolding script_text is_utf8 chars encode digits
 least_values = (refl, refl, refl, refl)
 
@@ -58,7 +59,8 @@ no_plus : (value_in (codes "i32:+1") ≡ None) × (value_in (codes "i32:") ≡ N
 unfolding script_text is_utf8 chars encode digits
 no_plus = (refl, refl, refl, refl)
 
-great_values : (value_in (codes "i64:-1") ≡ Some (V.I64 18446744073709551615)) × (value_in (codes "i64:18446744073709551615") ≡ Some (V.I64 18446744073709551615)) × (value_in (codes "i64:18446744073709551616") ≡ None)
+great_values : (value_in (codes "i64:-1") ≡ Some (V.I64 18446744073709551615)) × (value_in (codes "i64:18446744073709551615") ≡ Some (V.I64 18446744073709551615))
+    × (value_in (codes "i64:18446744073709551616") ≡ None)
 unfolding script_text is_utf8 chars encode digits
 great_values = (refl, refl, refl)
 
@@ -103,11 +105,13 @@ no_policy : line_says (codes "save some") ≡ Err 3
 unfolding script_text is_utf8 chars encode digits
 no_policy = refl
 
-ranges : (line_says (codes "steps 1000000001") ≡ Err 4) × (line_says (codes "show 0 4097") ≡ Err 4) × (line_says (codes "show 0 0") ≡ Err 4) × (line_says (codes "detach d 0") ≡ Err 4) × (line_says (codes "area 4294967296 8") ≡ Err 4)
+ranges : (line_says (codes "steps 1000000001") ≡ Err 4) × (line_says (codes "show 0 4097") ≡ Err 4) × (line_says (codes "show 0 0") ≡ Err 4) × (line_says (codes "detach d 0") ≡ Err 4)
+    × (line_says (codes "area 4294967296 8") ≡ Err 4)
 unfolding script_text is_utf8 chars encode digits
 ranges = (refl, refl, refl, refl, refl)
 
-bounds : (line_says (codes "steps 1000000000") ≡ Ok (Some (has_steps 1000000000))) × (line_says (codes "show 0 4096") ≡ Ok (Some (shows 0 4096))) × (line_says (codes "detach d 1") ≡ Ok (Some (detaches (codes "d") 1)))
+bounds : (line_says (codes "steps 1000000000") ≡ Ok (Some (has_steps 1000000000))) × (line_says (codes "show 0 4096") ≡ Ok (Some (shows 0 4096)))
+    × (line_says (codes "detach d 1") ≡ Ok (Some (detaches (codes "d") 1)))
 unfolding script_text is_utf8 chars encode digits
 bounds = (refl, refl, refl)
 

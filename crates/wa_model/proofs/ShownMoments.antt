@@ -14,7 +14,9 @@ use Rattle.wa_model.specs.Machine.{Turn, stops, goes, Ran, after, run, Leads, st
 use Rattle.wa_model.specs.Store.{Store}
 use Rattle.wa_model.specs.Step.{Next, steps, asks, returns, traps, stuck, step}
 use Rattle.wa_model.specs.Plan.{Entry, Plan, Outcome, given, refused, OutcomeFits, IsRefusal}
-use Rattle.wa_model.specs.Blocking.{Note, note, events_of, answers, poke_fits, bad_poke, is_unlisted, bad_pause, or_else, fault_of, Task, the_start, an_entry, Left, with_outcomes, Asker, inside, outermost, store_at, in_start, State, between, begins, runs, halts, done_notes, on_to, next_entry, task_back, call_note, poked, pause_of, stack_at, go_on, tested, asked, by_step, enters, enter_next, start_called, blocking, store_of}
+use Rattle.wa_model.specs.Blocking.{Note, note, events_of, answers, poke_fits, bad_poke, is_unlisted, bad_pause, or_else, fault_of, Task, the_start, an_entry, Left, with_outcomes, Asker}
+use Rattle.wa_model.specs.Blocking.{inside, outermost, store_at, in_start, State, between, begins, runs, halts, done_notes, on_to, next_entry, task_back, call_note, poked, pause_of}
+use Rattle.wa_model.specs.Blocking.{stack_at, go_on, tested, asked, by_step, enters, enter_next, start_called, blocking, store_of}
 use Rattle.wa_model.specs.Behaves.{is_pause_end, unless_end, unless_pause, without_pauses}
 use Rattle.wa_model.specs.Expected.{pause_note, trap_note}
 use Rattle.std.specs.List.{cons_option}
@@ -69,9 +71,11 @@ else_honest (Some e) b x y = x
 
 fault_honest : (results : List ValType) (size : ℕ) (plan : Plan) (start : Bool) (import : ℕ) (a : Answer) → Honest_end (fault_of results size plan start import a)
 fault_honest results size plan start import a =
-    else_honest (if answers results a.value then None else Some (BadAnswer import a.value)) (or_else (bad_poke size plan.area a.pokes) (bad_pause start (is_unlisted plan.listed import) import a.ticks))
+    else_honest (if answers results a.value then None else Some (BadAnswer import a.value))
+    (or_else (bad_poke size plan.area a.pokes) (bad_pause start (is_unlisted plan.listed import) import a.ticks))
     (by_value (answers results a.value))
-    (else_honest (bad_poke size plan.area a.pokes) (bad_pause start (is_unlisted plan.listed import) import a.ticks) (pokes_honest size plan.area a.pokes) (pause_honest start (is_unlisted plan.listed import) import a.ticks))
+    (else_honest (bad_poke size plan.area a.pokes) (bad_pause start (is_unlisted plan.listed import) import a.ticks) (pokes_honest size plan.area a.pokes)
+    (pause_honest start (is_unlisted plan.listed import) import a.ticks))
   where
     by_value : (b : Bool) → Honest_end (if b then None else Some (BadAnswer import a.value))
     by_value true = tt
@@ -93,7 +97,8 @@ go_on_honest : (k : ℕ) (x : Note) (a : Answer) (s : Store) (l : Left) (w : Ask
 go_on_honest k x a s l (inside task c) e h = ((e, (refl, tt)), h)
 go_on_honest k x a s l (outermost old) e h = ((e, (refl, done_honest s l.entries)), on_lawful s l l.entries h)
 
-tested_honest : (m : Module) (k import : ℕ) (args : List Value) (w : Asker) (l : Left) (a : Answer) (o : Option End) → Honest_end o → All OutcomeFits l.outcomes → Honest_turn (tested m k import args w l a o)
+tested_honest : (m : Module) (k import : ℕ) (args : List Value) (w : Asker) (l : Left) (a : Answer) (o : Option End) → Honest_end o → All OutcomeFits l.outcomes
+    → Honest_turn (tested m k import args w l a o)
 tested_honest m k import args w l a (Some e) he h = ((refl, end_honest e (store_at w) he), tt)
 tested_honest m k import args w l a None he h = go_on_honest k (call_note import args (store_at w) (stack_at m w) (pause_of a.ticks)) a (poked (store_at w) a.pokes) l w refl h
 
@@ -188,10 +193,12 @@ module _ (room fit : List Suspended → ℕ) (len : ℕ) (m : Module) (plan : Pl
   -- one up to a call at which the shown run ends.
   pub data Trace (s : State) (cost : ℕ) (es : List Note) (at : State) : Type 0 where
     kept : (fs : List Note) → Leads nb s cost fs at → events_shown es ≡ events_of fs → Lawful at → Trace s cost es at
-    cut : (c k : ℕ) (x : Note) (fs xs : List Note) (s1 t : State) → Leads nb s c fs s1 → nb s1 ≡ goes k (x ∷ xs) t → cost ≡ c + suc k → events_shown es ≡ events_of (fs ++ x ∷ []) → at ≡ halts x.store → Trace s cost es at
+    cut : (c k : ℕ) (x : Note) (fs xs : List Note) (s1 t : State) → Leads nb s c fs s1 → nb s1 ≡ goes k (x ∷ xs) t → cost ≡ c + suc k → events_shown es ≡ events_of (fs ++ x ∷ [])
+        → at ≡ halts x.store → Trace s cost es at
 
   -- a move in front
-  traced : (s t at : State) (k n : ℕ) (xs es1 es2 : List Note) → nb s ≡ goes k xs t → events_shown (es1 ++ es2) ≡ events_of xs ++ events_shown es2 → Trace t n es2 at → Trace s (suc k + n) (es1 ++ es2) at
+  traced : (s t at : State) (k n : ℕ) (xs es1 es2 : List Note) → nb s ≡ goes k xs t → events_shown (es1 ++ es2) ≡ events_of xs ++ events_shown es2 → Trace t n es2 at
+      → Trace s (suc k + n) (es1 ++ es2) at
   traced s t at k n xs es1 es2 e same (kept fs l ev law) =
       kept (xs ++ fs) (moves e l refl refl) (same ∙ ap (λ es. events_of xs ++ es) ev ∙ sym (events_append xs fs)) law
   traced s t at k n xs es1 es2 e same (cut c j x fs ys s1 u l e1 sum ev halt) =
@@ -212,7 +219,8 @@ module _ (room fit : List Suspended → ℕ) (len : ℕ) (m : Module) (plan : Pl
       by_pause None = as_it_is
       by_pause (Some ticks) = by_room (nat_lt len (room x.stack))
         where
-          by_room : (b : Bool) → Shows k (x ∷ xs) t (if b then goes k (x ∷ trap_note (fit x.stack) len x.store ∷ []) (halts x.store) else goes k (x ∷ pause_note ticks (room x.stack) x.store x.stack ∷ xs) t)
+          by_room : (b : Bool) → Shows k (x ∷ xs) t (if b then goes k (x ∷ trap_note (fit x.stack) len x.store ∷ []) (halts x.store)
+              else goes k (x ∷ pause_note ticks (room x.stack) x.store x.stack ∷ xs) t)
           by_room true = with_trap x xs (fit x.stack) refl
           by_room false = with_pause x xs ticks (room x.stack) refl
 
@@ -224,7 +232,8 @@ module _ (room fit : List Suspended → ℕ) (len : ℕ) (m : Module) (plan : Pl
       cast : Trace s (suc k1 + n1) (es1 ++ es2) at → Trace s cost es at
       cast t = subst (λ c. Trace s c es at) (sym em) (subst (λ xs. Trace s (suc k1 + n1) xs at) (sym eg) t)
 
-      by_shows : (k : ℕ) (xs : List Note) (t : State) (o : Turn State Note) → (Lawful t1 → Trace t1 n1 es2 at) → nb s ≡ goes k xs t → Honest xs → Lawful t → Shows k xs t o → o ≡ goes k1 es1 t1 → Trace s cost es at
+      by_shows : (k : ℕ) (xs : List Note) (t : State) (o : Turn State Note) → (Lawful t1 → Trace t1 n1 es2 at) → nb s ≡ goes k xs t → Honest xs → Lawful t → Shows k xs t o
+          → o ≡ goes k1 es1 t1 → Trace s cost es at
       by_shows k xs t o ih q h lt as_it_is p =
           let same_k : k ≡ k1 = cc in
           let same_es : xs ≡ es1 = cc in
@@ -238,7 +247,8 @@ module _ (room fit : List Suspended → ℕ) (len : ℕ) (m : Module) (plan : Pl
           let q' : nb s ≡ goes k1 xs t1 = q ∙ ap (λ j. goes j xs t) same_k ∙ ap (λ u. goes k1 xs u) same_t in
           let hx : Honest (x ∷ ys) = subst Honest split h in
           cast (traced s t1 at k1 n1 xs es1 es2 q'
-          (sym (ap (λ zs. events_shown (zs ++ es2)) same_es) ∙ one_honest x (pause_note ticks used x.store x.stack ∷ (ys ++ es2)) hx.0 ∙ ap (λ zs. x.event ∷ zs) (honest_on ys es2 hx.1) ∙ ap (λ zs. events_of zs ++ events_shown es2) (sym split))
+          (sym (ap (λ zs. events_shown (zs ++ es2)) same_es) ∙ one_honest x (pause_note ticks used x.store x.stack ∷ (ys ++ es2)) hx.0 ∙ ap (λ zs. x.event ∷ zs) (honest_on ys es2 hx.1)
+          ∙ ap (λ zs. events_of zs ++ events_shown es2) (sym split))
           (ih (subst Lawful same_t lt)))
       by_shows k xs t o ih q h lt (with_trap x ys used split) p =
           let same_k : k ≡ k1 = cc in
@@ -263,7 +273,8 @@ module _ (room fit : List Suspended → ℕ) (len : ℕ) (m : Module) (plan : Pl
       ⊎ ((i : ℕ) × (z : Note) × (slice_get (e0 ++ (run nb n s).events) i ≡ Some z) × (events ≡ events_of (take (suc i) (e0 ++ (run nb n s).events))) × (at ≡ z.store))
 
   -- at a note of the move behind a stretch
-  at_note : (e0 fs ys zs : List Note) (s s1 t : State) (n c k : ℕ) (z : Note) → Leads nb s c fs s1 → nb s1 ≡ goes k (ys ++ z ∷ zs) t → c + suc k ≤ n → Block_moment e0 s n (events_of e0 ++ events_of (fs ++ (ys ++ z ∷ []))) z.store
+  at_note : (e0 fs ys zs : List Note) (s s1 t : State) (n c k : ℕ) (z : Note) → Leads nb s c fs s1 → nb s1 ≡ goes k (ys ++ z ∷ zs) t → c + suc k ≤ n
+      → Block_moment e0 s n (events_of e0 ++ events_of (fs ++ (ys ++ z ∷ []))) z.store
   at_note e0 fs ys zs s s1 t n c k z l e le =
       let more : List Note = (run nb (n - c - suc k) t).events in
       let sum : n ≡ c + (n - c) = omega arith in
@@ -277,7 +288,8 @@ module _ (room fit : List Suspended → ℕ) (len : ℕ) (m : Module) (plan : Pl
         z,
         ap (λ xs. slice_get xs (length (e0 ++ (fs ++ ys)))) all ∙ got_behind (e0 ++ (fs ++ ys)) (zs ++ more) z,
         sym (events_append e0 (fs ++ (ys ++ z ∷ [])))
-            ∙ ap events_of (sym (append_assoc e0 (fs ++ ys) (z ∷ []) ∙ ap (λ xs. e0 ++ xs) (append_assoc fs ys (z ∷ []))) ∙ sym (taken_behind (e0 ++ (fs ++ ys)) (zs ++ more) z) ∙ sym (ap (take (suc (length (e0 ++ (fs ++ ys))))) all)),
+            ∙ ap events_of (sym (append_assoc e0 (fs ++ ys) (z ∷ []) ∙ ap (λ xs. e0 ++ xs) (append_assoc fs ys (z ∷ []))) ∙ sym (taken_behind (e0 ++ (fs ++ ys)) (zs ++ more) z)
+            ∙ sym (ap (take (suc (length (e0 ++ (fs ++ ys))))) all)),
         refl,
       )
 
@@ -301,19 +313,22 @@ module _ (room fit : List Suspended → ℕ) (len : ℕ) (m : Module) (plan : Pl
           (subst (λ st. Block_moment e0 s n (events_of e0 ++ events_of (fs ++ x ∷ [])) (store_of st)) (sym halt) b)
 
   -- one of the notes that the shown run makes
-  pub event_moment : (e0 : List Note) (s at a' : State) (n cost k : ℕ) (es es1 es2 : List Note) (x : Note) → Lawful s → Leads ne s cost es at → ne at ≡ goes k (es1 ++ x ∷ es2) a' → cost + suc k ≤ n → Block_moment e0 s n (events_of e0 ++ events_shown (es ++ (es1 ++ x ∷ []))) x.store
+  pub event_moment : (e0 : List Note) (s at a' : State) (n cost k : ℕ) (es es1 es2 : List Note) (x : Note) → Lawful s → Leads ne s cost es at → ne at ≡ goes k (es1 ++ x ∷ es2) a'
+      → cost + suc k ≤ n → Block_moment e0 s n (events_of e0 ++ events_shown (es ++ (es1 ++ x ∷ []))) x.store
   event_moment e0 s at a' n cost k es es1 es2 x law l e le = by_trace (trace s at cost es law l)
     where
       Goal : List Note → Store → Type 0
       Goal made st = Block_moment e0 s n (events_of e0 ++ events_shown (es ++ made)) st
 
-      by_shows : (fs : List Note) → Leads nb s cost fs at → events_shown es ≡ events_of fs → (j : ℕ) (xs : List Note) (t : State) (o : Turn State Note) → nb at ≡ goes j xs t → Honest xs → Shows j xs t o → o ≡ goes k (es1 ++ x ∷ es2) a' → Goal (es1 ++ x ∷ []) x.store
+      by_shows : (fs : List Note) → Leads nb s cost fs at → events_shown es ≡ events_of fs → (j : ℕ) (xs : List Note) (t : State) (o : Turn State Note) → nb at ≡ goes j xs t → Honest xs
+          → Shows j xs t o → o ≡ goes k (es1 ++ x ∷ es2) a' → Goal (es1 ++ x ∷ []) x.store
       by_shows fs lb ev j xs t o q h as_it_is p =
           let same_k : j ≡ k = cc in
           let same_es : xs ≡ es1 ++ x ∷ es2 = cc in
           let b = at_note e0 fs es1 es2 s at t n cost j x lb (q ∙ ap (λ ys. goes j ys t) same_es) (omega arith) in
           subst (λ ws. Block_moment e0 s n (events_of e0 ++ ws) x.store)
-          (events_append fs (es1 ++ x ∷ []) ∙ ap (λ ws. ws ++ events_of (es1 ++ x ∷ [])) (sym ev) ∙ ap (λ ws. events_shown es ++ ws) (sym (honest_up_to es1 es2 x (subst Honest same_es h))) ∙ sym (shown_append es (es1 ++ x ∷ [])))
+          (events_append fs (es1 ++ x ∷ []) ∙ ap (λ ws. ws ++ events_of (es1 ++ x ∷ [])) (sym ev) ∙ ap (λ ws. events_shown es ++ ws) (sym (honest_up_to es1 es2 x (subst Honest same_es h)))
+          ∙ sym (shown_append es (es1 ++ x ∷ [])))
           b
       by_shows fs lb ev j xs t o q h (with_pause y ys ticks used split) p =
           let same_k : j ≡ k = cc in
@@ -326,7 +341,8 @@ module _ (room fit : List Suspended → ℕ) (len : ℕ) (m : Module) (plan : Pl
               let same : y ≡ x = cc in
               let b = at_note e0 fs [] ys s at t n cost j y lb q' le' in
               subst (λ w. Goal (w ∷ []) w.store) same
-              (subst (λ ws. Block_moment e0 s n (events_of e0 ++ ws) y.store) (events_append fs (y ∷ []) ∙ ap (λ ws. ws ++ y.event ∷ []) (sym ev) ∙ ap (λ ws. events_shown es ++ ws) (sym (one_honest y [] hy.0)) ∙ sym (shown_append es (y ∷ []))) b)
+              (subst (λ ws. Block_moment e0 s n (events_of e0 ++ ws) y.store) (events_append fs (y ∷ []) ∙ ap (λ ws. ws ++ y.event ∷ []) (sym ev)
+              ∙ ap (λ ws. events_shown es ++ ws) (sym (one_honest y [] hy.0)) ∙ sym (shown_append es (y ∷ []))) b)
           by_place (a ∷ []) r hy q' le' =
               let first : y ≡ a = cc in
               let same : pause_note ticks used y.store y.stack ≡ x = cc in
@@ -334,7 +350,8 @@ module _ (room fit : List Suspended → ℕ) (len : ℕ) (m : Module) (plan : Pl
               subst (λ w. Goal (w ∷ x ∷ []) x.store) first
               (subst (λ w. Goal (y ∷ w ∷ []) w.store) same
               (subst (λ ws. Block_moment e0 s n (events_of e0 ++ ws) y.store)
-              (events_append fs (y ∷ []) ∙ ap (λ ws. ws ++ y.event ∷ []) (sym ev) ∙ ap (λ ws. events_shown es ++ ws) (sym (one_honest y (pause_note ticks used y.store y.stack ∷ []) hy.0)) ∙ sym (shown_append es (y ∷ pause_note ticks used y.store y.stack ∷ []))) b))
+              (events_append fs (y ∷ []) ∙ ap (λ ws. ws ++ y.event ∷ []) (sym ev) ∙ ap (λ ws. events_shown es ++ ws) (sym (one_honest y (pause_note ticks used y.store y.stack ∷ []) hy.0))
+              ∙ sym (shown_append es (y ∷ pause_note ticks used y.store y.stack ∷ []))) b))
           by_place (a ∷ c ∷ es3) r hy q' le' =
               let first : y ≡ a = cc in
               let second : pause_note ticks used y.store y.stack ≡ c = cc in
@@ -344,7 +361,10 @@ module _ (room fit : List Suspended → ℕ) (len : ℕ) (m : Module) (plan : Pl
               subst (λ w. Goal (w ∷ c ∷ (es3 ++ x ∷ [])) x.store) first
               (subst (λ w. Goal (y ∷ w ∷ (es3 ++ x ∷ [])) x.store) second
               (subst (λ ws. Block_moment e0 s n (events_of e0 ++ ws) x.store)
-              (events_append fs (y ∷ (es3 ++ x ∷ [])) ∙ ap (λ ws. ws ++ y.event ∷ events_of (es3 ++ x ∷ [])) (sym ev) ∙ ap (λ ws. events_shown es ++ (y.event ∷ ws)) (sym (honest_up_to es3 es2 x hr)) ∙ ap (λ ws. events_shown es ++ ws) (sym (one_honest y (pause_note ticks used y.store y.stack ∷ (es3 ++ x ∷ [])) hy.0)) ∙ sym (shown_append es (y ∷ pause_note ticks used y.store y.stack ∷ (es3 ++ x ∷ [])))) b))
+              (events_append fs (y ∷ (es3 ++ x ∷ [])) ∙ ap (λ ws. ws ++ y.event ∷ events_of (es3 ++ x ∷ [])) (sym ev)
+              ∙ ap (λ ws. events_shown es ++ (y.event ∷ ws)) (sym (honest_up_to es3 es2 x hr))
+              ∙ ap (λ ws. events_shown es ++ ws) (sym (one_honest y (pause_note ticks used y.store y.stack ∷ (es3 ++ x ∷ [])) hy.0))
+              ∙ sym (shown_append es (y ∷ pause_note ticks used y.store y.stack ∷ (es3 ++ x ∷ [])))) b))
       by_shows fs lb ev j xs t o q h (with_trap y ys used split) p =
           let same_k : j ≡ k = cc in
           let same_es : y ∷ trap_note used len y.store ∷ [] ≡ es1 ++ x ∷ es2 = cc in
@@ -356,7 +376,8 @@ module _ (room fit : List Suspended → ℕ) (len : ℕ) (m : Module) (plan : Pl
               let same : y ≡ x = cc in
               let b = at_note e0 fs [] ys s at t n cost j y lb q' le' in
               subst (λ w. Goal (w ∷ []) w.store) same
-              (subst (λ ws. Block_moment e0 s n (events_of e0 ++ ws) y.store) (events_append fs (y ∷ []) ∙ ap (λ ws. ws ++ y.event ∷ []) (sym ev) ∙ ap (λ ws. events_shown es ++ ws) (sym (one_honest y [] hy.0)) ∙ sym (shown_append es (y ∷ []))) b)
+              (subst (λ ws. Block_moment e0 s n (events_of e0 ++ ws) y.store) (events_append fs (y ∷ []) ∙ ap (λ ws. ws ++ y.event ∷ []) (sym ev)
+              ∙ ap (λ ws. events_shown es ++ ws) (sym (one_honest y [] hy.0)) ∙ sym (shown_append es (y ∷ []))) b)
           by_place (a ∷ []) r hy q' le' =
               let first : y ≡ a = cc in
               let same : trap_note used len y.store ≡ x = cc in
@@ -364,7 +385,8 @@ module _ (room fit : List Suspended → ℕ) (len : ℕ) (m : Module) (plan : Pl
               subst (λ w. Goal (w ∷ x ∷ []) x.store) first
               (subst (λ w. Goal (y ∷ w ∷ []) w.store) same
               (subst (λ ws. Block_moment e0 s n (events_of e0 ++ ws) y.store)
-              (events_append fs (y ∷ []) ∙ ap (λ ws. ws ++ y.event ∷ []) (sym ev) ∙ ap (λ ws. events_shown es ++ ws) (sym (one_honest y (trap_note used len y.store ∷ []) hy.0)) ∙ sym (shown_append es (y ∷ trap_note used len y.store ∷ []))) b))
+              (events_append fs (y ∷ []) ∙ ap (λ ws. ws ++ y.event ∷ []) (sym ev) ∙ ap (λ ws. events_shown es ++ ws) (sym (one_honest y (trap_note used len y.store ∷ []) hy.0))
+              ∙ sym (shown_append es (y ∷ trap_note used len y.store ∷ []))) b))
           by_place (a ∷ c ∷ []) r hy q' le' = cc
           by_place (a ∷ c ∷ d ∷ es3) r hy q' le' = cc
 

@@ -12,7 +12,8 @@ use Rattle.wa_model.specs.Machine.{Turn, stops, goes, Ran, run}
 use Rattle.wa_model.specs.Store.{Store}
 use Rattle.wa_model.specs.Step.{Next, steps, asks, returns, traps, stuck, step}
 use Rattle.wa_model.specs.Plan.{Entry, Plan, Outcome, given, refused}
-use Rattle.wa_model.specs.Blocking.{Note, fault_of, Task, the_start, an_entry, Left, with_outcomes, Asker, inside, outermost, store_at, in_start, State, between, begins, runs, halts, done_notes, task_back, call_note, poked, pause_of, stack_at, go_on, tested, asked, by_step, enters, enter_next, start_called, blocking}
+use Rattle.wa_model.specs.Blocking.{Note, fault_of, Task, the_start, an_entry, Left, with_outcomes, Asker, inside, outermost, store_at, in_start, State, between, begins, runs, halts}
+use Rattle.wa_model.specs.Blocking.{done_notes, task_back, call_note, poked, pause_of, stack_at, go_on, tested, asked, by_step, enters, enter_next, start_called, blocking}
 use Rattle.wa_model.specs.Expected.{pause_note, trap_note, shown_at, shown}
 use Rattle.wa_model.proofs.Runs.{one_move, too_dear, no_move}
 
@@ -70,7 +71,8 @@ plain_tested m k import args w l a None = plain_go_on k (call_note import args (
 plain_asked : (m : Module) (plan : Plan) (k import : ℕ) (args : List Value) (w : Asker) (l : Left) (os : List Outcome) → Plain_turn (asked m plan k import args w l os)
 plain_asked m plan k import args w l [] = tt
 plain_asked m plan k import args w l (refused e ∷ os) = (refl, tt)
-plain_asked m plan k import args w l (given a ∷ os) = plain_tested m k import args w (with_outcomes l os) a (fault_of (func_type_at m import).results (length (store_at w).memory) plan (in_start w) import a)
+plain_asked m plan k import args w l (given a ∷ os) = plain_tested m k import args w (with_outcomes l os) a
+    (fault_of (func_type_at m import).results (length (store_at w).memory) plan (in_start w) import a)
 
 plain_step : (m : Module) (plan : Plan) (task : Task) (l : Left) (o : Next) → Plain_turn (by_step m plan task l o)
 plain_step m plan task l (steps k d) = tt
@@ -149,14 +151,19 @@ module _ (room fit : List Suspended → ℕ) (len : ℕ) (m : Module) (plan : Pl
                   mv = ap (shown_move room fit len) e ∙ ap (pause_shown room fit len k x xs t) q
 
                   by_room : (b : Bool) → nat_lt len (room x.stack) ≡ b → run ne n s ≡ record { events = []; last = s }
-                  by_room true b = too_dear State Note ne k n (x ∷ trap_note (fit x.stack) len x.store ∷ []) s (halts x.store) (mv ∙ ap (λ b. if b then goes k (x ∷ trap_note (fit x.stack) len x.store ∷ []) (halts x.store) else goes k (x ∷ pause_note ticks (room x.stack) x.store x.stack ∷ xs) t) b) le
-                  by_room false b = too_dear State Note ne k n (x ∷ pause_note ticks (room x.stack) x.store x.stack ∷ xs) s t (mv ∙ ap (λ b. if b then goes k (x ∷ trap_note (fit x.stack) len x.store ∷ []) (halts x.store) else goes k (x ∷ pause_note ticks (room x.stack) x.store x.stack ∷ xs) t) b) le
+                  by_room true b = too_dear State Note ne k n (x ∷ trap_note (fit x.stack) len x.store ∷ []) s (halts x.store) (mv
+                      ∙ ap (λ b. if b then goes k (x ∷ trap_note (fit x.stack) len x.store ∷ []) (halts x.store) else goes k (x ∷ pause_note ticks (room x.stack) x.store x.stack ∷ xs) t) b)
+                      le
+                  by_room false b = too_dear State Note ne k n (x ∷ pause_note ticks (room x.stack) x.store x.stack ∷ xs) s t (mv
+                      ∙ ap (λ b. if b then goes k (x ∷ trap_note (fit x.stack) len x.store ∷ []) (halts x.store) else goes k (x ∷ pause_note ticks (room x.stack) x.store x.stack ∷ xs) t) b)
+                      le
 
           -- a paid move of the shown machine
           paid : (fs : List Note) (u : State) → ne s ≡ goes k fs u → n ≡ suc (k + (n - suc k)) → (run ne n s).events ≡ fs ++ (run ne (n - suc k) u).events
           paid fs u mv z = ap (λ j. (run ne j s).events) z ∙ ap (λ r. r.events) (one_move State Note ne k (n - suc k) fs s u mv)
 
-          by_events : (es : List Note) → nb s ≡ goes k es t → Plain_tail es → n ≡ suc (k + (n - suc k)) → (run nb n s).events ≡ es ++ (run nb (n - suc k) t).events → (run ne (n - suc k) t).events ≡ sh (run nb (n - suc k) t).events → (run ne n s).events ≡ sh (run nb n s).events
+          by_events : (es : List Note) → nb s ≡ goes k es t → Plain_tail es → n ≡ suc (k + (n - suc k)) → (run nb n s).events ≡ es ++ (run nb (n - suc k) t).events
+              → (run ne (n - suc k) t).events ≡ sh (run nb (n - suc k) t).events → (run ne n s).events ≡ sh (run nb n s).events
           by_events [] e h z eb ih = paid [] t (ap (shown_move room fit len) e) z ∙ ih ∙ sym (ap sh eb)
           by_events (x ∷ xs) e h z eb ih = by_pause x.pause refl
             where
@@ -186,7 +193,8 @@ module _ (room fit : List Suspended → ℕ) (len : ℕ) (m : Module) (plan : Pl
                       ∙ ap (λ r. x ∷ cut_note ++ r) (halted (n - suc k) x.store)
                       ∙ sym (old_is ∙ ap (λ b. x ∷ (if b then cut_note else pause_note ticks (room x.stack) x.store x.stack ∷ sh (xs ++ rest))) b)
                   by_room false b =
-                      paid (x ∷ pause_note ticks (room x.stack) x.store x.stack ∷ xs) t (mv ∙ ap (λ b. if b then goes k (x ∷ cut_note) (halts x.store) else goes k (x ∷ pause_note ticks (room x.stack) x.store x.stack ∷ xs) t) b) z
+                      paid (x ∷ pause_note ticks (room x.stack) x.store x.stack ∷ xs) t (mv
+                      ∙ ap (λ b. if b then goes k (x ∷ cut_note) (halts x.store) else goes k (x ∷ pause_note ticks (room x.stack) x.store x.stack ∷ xs) t) b) z
                       ∙ ap (λ r. x ∷ pause_note ticks (room x.stack) x.store x.stack ∷ xs ++ r) ih
                       ∙ ap (λ r. x ∷ pause_note ticks (room x.stack) x.store x.stack ∷ r) (sym (shown_plain xs rest h))
                       ∙ sym (old_is ∙ ap (λ b. x ∷ (if b then cut_note else pause_note ticks (room x.stack) x.store x.stack ∷ sh (xs ++ rest))) b)

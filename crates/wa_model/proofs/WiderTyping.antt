@@ -4,7 +4,8 @@ use Rattle.std.specs.Prelude.{slice_get}
 use Rattle.wa_types.specs.declared.values.ValType.{ValType}
 use Rattle.wa_types.specs.declared.values.ValType.TheVariants.{I32}
 use Rattle.wa_types.specs.Accesses.{AccessRow, load_row, store_row}
-use Rattle.wa_types.specs.Syntax.{global_get, global_set, load, store, memory_size, memory_grow, Plain, basic, local_get, local_set, local_tee, return, call, call_indirect, Code, done, plain, nest, branch, FuncType}
+use Rattle.wa_types.specs.Syntax.{global_get, global_set, load, store, memory_size, memory_grow, Plain, basic, local_get, local_set, local_tee, return, call, call_indirect, Code, done}
+use Rattle.wa_types.specs.Syntax.{plain, nest, branch, FuncType}
 use Rattle.wa_types.specs.Typing.{GlobalType, Around, listed, calls, calls_at, gets, sets, tees, gets_global, sets_global, loads, stores, with_memory, sig, leaves, Takes, label, Types}
 use Rattle.wa_types.specs.Runtime.{test_code, start_code, stop_code, state_code}
 
@@ -102,7 +103,8 @@ module _ (c : Around) (ls : List (Option ValType)) where
     ),
   )
 
-  pub start_typed : (number state address : ℕ) → slice_get c.globals state ≡ Some state_type → slice_get c.globals address ≡ Some state_type → c.memory ≡ true → slice_get c.locals 0 ≡ Some I32 → Types c ls (start_code number state address) [] []
+  pub start_typed : (number state address : ℕ) → slice_get c.globals state ≡ Some state_type → slice_get c.globals address ≡ Some state_type → c.memory ≡ true
+      → slice_get c.locals 0 ≡ Some I32 → Types c ls (start_code number state address) [] []
   unfolding Types
   start_typed number state address s a m l = (
     I32 ∷ [],

@@ -9,6 +9,7 @@ use Rattle.wa_model.specs.Configuration.{Configuration}
 use Rattle.wa_model.specs.Step.{Next, steps, asks, returns, traps, stuck, step}
 use Rattle.wa_model.specs.Blocking.{Note}
 
+-- a module alone goes on by reductions in its own code, where told, and stops at anything else
 abbrev pub alone_next : Bool → Next → Turn Configuration Note
 alone_next false o = stops
 alone_next true (steps k d) = goes k [] d

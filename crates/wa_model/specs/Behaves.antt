@@ -28,6 +28,7 @@ pub record StandsNumbered (m : Module) (s : Settings) (which : List Bool) (a : S
   pub instrumented : slice_get which a.func ≡ Some true
   pub numbered : (f : Func) × (defined_at m a.func ≡ Some f) × Contains (Numbered m s which f) a.place
 
+-- at a pause every activation of the stack does
 abbrev pub PauseNumbered : Module → Settings → List Bool → List Suspended → Option ℕ → Type 0
 PauseNumbered m s which stack None = Unit {0}
 PauseNumbered m s which stack (Some ticks) = All (StandsNumbered m s which) stack
@@ -36,6 +37,7 @@ PauseNumbered m s which stack (Some ticks) = All (StandsNumbered m s which) stac
 abbrev pub PausesNumbered : Module → Settings → List Bool → List Note → Type 0
 PausesNumbered m s which notes = All (λ (x : Note). PauseNumbered m s which x.stack x.pause) notes
 
+-- the stack of a call that pauses
 abbrev pub stack_if : List Suspended → Option ℕ → Option (List Suspended)
 stack_if stack None = None
 stack_if stack (Some ticks) = Some stack
@@ -79,14 +81,17 @@ pub record SameNote (m : Module) (s : Settings) (which : List Bool) (area : Area
   pub image : AtPaused y.event (Image m s which x.stack area.at area.len y.store.memory)
   pub kept : (at_pause : Store) → y.since ≡ Some at_pause → AreaKept area at_pause y.store
 
+-- the end is a trap of an unwind
 abbrev pub is_pause_end : End → Bool
 is_pause_end (UnwindTrap trap used len) = true
 is_pause_end _ = false
 
+-- an event, and none where told
 abbrev pub unless_end : Bool → Event → Option Event
 unless_end true e = None
 unless_end false e = Some e
 
+-- an event that is neither a pause nor such an end
 abbrev pub unless_pause : Event → Option Event
 unless_pause (paused ticks used) = None
 unless_pause (ended how) = unless_end (is_pause_end how) (ended how)
@@ -113,7 +118,8 @@ pub record BehavesOn (m : Module) (s : Settings) (p : Module) (plan : Plan) (os 
   -- each of its notes has an expected one beside it: stores, images and what is kept of the area are right at each event
   pub notes : (i : ℕ) (y : Note) → slice_get (protocol_notes p plan os n) i ≡ Some y → (x : Note) × (slice_get expected i ≡ Some x) × SameNote m s which plan.area x y
   -- between events too the store is one that the original has at a moment with the same events
-  pub moments : (events : List Event) × (at : Store) × IsMoment m plan os n events at × (events ≡ without_pauses (events_of (protocol_notes p plan os n))) × SameEnd (global_space m) plan.area at (store_held (Protocol p plan os n).last)
+  pub moments : (events : List Event) × (at : Store) × IsMoment m plan os n events at × (events ≡ without_pauses (events_of (protocol_notes p plan os n)))
+      × SameEnd (global_space m) plan.area at (store_held (Protocol p plan os n).last)
 
 -- For every plan, list of outcomes and cost at which each pause finds its activations at numbered calls, the rewritten module
 -- behaves like its original. The original's numbers lie in the ranges of their types: else what passes through a frame

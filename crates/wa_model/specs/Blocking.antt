@@ -31,12 +31,15 @@ pub record Note : Type 0 where
   pub pause : Option ℕ
   pub since : Option Store
 
+-- the note of an event that is no call
 abbrev pub note : Event → Store → Note
 note e s = record { event = e; store = s; stack = []; pause = None; since = None }
 
+-- the note of a call, with the stack just before it, and the ticks where its answer pauses
 abbrev pub call_note : ℕ → List Value → Store → List Suspended → Option ℕ → Note
 call_note import args s stack pause = record { event = called (record { import = import; args = args }); store = s; stack = stack; pause = pause; since = None }
 
+-- the events of notes
 abbrev pub events_of : List Note → List Event
 events_of notes = map (λ (x : Note). x.event) notes
 
@@ -66,6 +69,7 @@ abbrev pub is_unlisted : Option (List Bool) → ℕ → Bool
 is_unlisted None import = false
 is_unlisted (Some listed) import = not (is_told (slice_get listed import))
 
+-- the end by a pause inside the start function, or of an import that isn't listed
 abbrev pub bad_pause : (in_start unlisted : Bool) → (import ticks : ℕ) → Option End
 bad_pause in_start unlisted import zero = None
 bad_pause true unlisted import (suc ticks) = Some (PauseInStart import)
@@ -93,6 +97,7 @@ abbrev pub poked_memory : List ℕ → List Poke → List ℕ
 poked_memory memory [] = memory
 poked_memory memory (p ∷ ps) = poked_memory (overwritten memory p.at p.bytes) ps
 
+-- a store with the pokes applied to its memory
 abbrev pub poked : Store → List Poke → Store
 poked s pokes = with_memory s (poked_memory s.memory pokes)
 
@@ -113,6 +118,7 @@ pub record Left : Type 0 where
   pub entries : List Entry
   pub outcomes : List Outcome
 
+-- the same with these outcomes left
 abbrev pub with_outcomes : Left → List Outcome → Left
 with_outcomes l outcomes = record { number = l.number; entries = l.entries; outcomes = outcomes }
 
@@ -121,18 +127,22 @@ pub data Asker : Type 0 where
   inside : (task : Task) → (config : Configuration) → Asker
   outermost : (store : Store) → Asker
 
+-- the store of what waits
 abbrev pub store_at : Asker → Store
 store_at (inside task c) = c.store
 store_at (outermost s) = s
 
+-- the stack of what waits; the host has none
 abbrev pub stack_at : Module → Asker → List Suspended
 stack_at m (inside task c) = stack_of m c
 stack_at m (outermost s) = []
 
+-- it is the start function that was called
 abbrev pub is_start : Task → Bool
 is_start the_start = true
 is_start (an_entry e) = false
 
+-- a call is inside the start function, or is it
 abbrev pub in_start : Asker → Bool
 in_start (inside task c) = is_start task
 in_start (outermost s) = true
@@ -149,14 +159,17 @@ abbrev pub done_notes : Store → List Entry → List Note
 done_notes s [] = note (ended Done) s ∷ []
 done_notes s (e ∷ es) = []
 
+-- behind an entry comes the next one, if there is one
 abbrev pub on_to : Store → Left → List Entry → State
 on_to s l [] = halts s
 on_to s l (e ∷ es) = between s l
 
+-- the value of at most one result
 abbrev pub value_of_results : List Value → Option Value
 value_of_results [] = None
 value_of_results (v ∷ vs) = Some v
 
+-- the next entry has the next number
 abbrev pub next_entry : Left → Left
 next_entry l = record { number = suc l.number; entries = l.entries; outcomes = l.outcomes }
 
@@ -171,6 +184,7 @@ abbrev pub go_on : ℕ → Note → Answer → Store → Left → Asker → Turn
 go_on k x a s l (inside task c) = goes k (x ∷ note (answered a.value) s ∷ []) (runs task (resumed c s (option_to_list a.value)) l)
 go_on k x a s l (outermost old) = goes k (x ∷ note (answered a.value) s ∷ done_notes s l.entries) (on_to s l l.entries)
 
+-- a call is told, and then the end
 abbrev pub ends_at_call : ℕ → Note → End → Turn State Note
 ends_at_call k x e = goes k (x ∷ note (ended e) x.store ∷ []) (halts x.store)
 
@@ -199,6 +213,7 @@ abbrev pub enters : Entry → Store → Left → Option Func → Turn State Note
 enters e s l None = stops
 enters e s l (Some f) = goes (length e.args) [] (runs (an_entry e) (entered s [] e.args e.func f) l)
 
+-- the next of these entries is called
 abbrev pub enter_next : Module → Store → Left → List Entry → Turn State Note
 enter_next m s l [] = stops
 enter_next m s l (e ∷ es) = enters e s (record { number = l.number; entries = es; outcomes = l.outcomes }) (defined_at m e.func)
@@ -221,9 +236,11 @@ blocking m plan (halts s) = stops
 abbrev pub no_store : Store
 no_store = record { globals = []; memory = []; table = [] }
 
+-- all entries and outcomes are left
 abbrev pub all_left : Plan → List Outcome → Left
 all_left plan os = record { number = 0; entries = plan.entries; outcomes = os }
 
+-- where a run stands behind instantiation: at the call of the start function, else at the first entry
 abbrev pub started : Store → Left → Option ℕ → Ran State Note
 started s l None = record { events = done_notes s l.entries; last = on_to s l l.entries }
 started s l (Some x) = still (begins x s l)
@@ -233,6 +250,7 @@ abbrev pub begun : Option ℕ → Left → Opening → Ran State Note
 begun start l (fails_as e) = record { events = note (ended e) no_store ∷ []; last = halts no_store }
 begun start l (opens s) = started s l start
 
+-- a run that goes on from where it stands, up to a cost of n
 abbrev pub continued : Module → Plan → ℕ → Ran State Note → Ran State Note
 continued m plan n r = after r.events (run (blocking m plan) n r.last)
 

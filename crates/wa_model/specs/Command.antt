@@ -27,6 +27,7 @@ pub record Said : Type 0 where
   pub input : Option (List ℕ)
   pub output : Option (List ℕ)
 
+-- nothing yet
 abbrev pub nothing_said : Said
 nothing_said = record { place = anywhere; imports = None; save = None; ignore_imports = false; ignore_indirect = false; input = None; output = None }
 
@@ -45,11 +46,13 @@ behind (b ∷ bs) (c ∷ cs) = if c == b then behind bs cs else None
 abbrev pub named_word : List ℕ → Word
 named_word word = if not (is_hyphened word) || bytes_eq word (codes "-") then name_word word else unknown_word
 
+-- the value of an option that a word gives with it, else what another word is
 abbrev pub with_value : (imports save : Option (List ℕ)) → List ℕ → Word
 with_value (Some text) save word = imports_with text
 with_value None (Some text) word = save_with text
 with_value None None word = named_word word
 
+-- what a word is in front of `--`
 abbrev pub word_of : List ℕ → Word
 word_of word =
     if bytes_eq word (codes "--imports") then imports_word
@@ -64,14 +67,17 @@ abbrev pub say_imports : Option (List ℕ) → List ℕ → Said → Option Said
 say_imports (Some earlier) text s = None
 say_imports None text s = Some (record s { place = anywhere; imports = Some text })
 
+-- a policy is given
 abbrev pub say_save : Option (List ℕ) → List ℕ → Said → Option Said
 say_save (Some earlier) text s = None
 say_save None text s = Some (record s { place = anywhere; save = Some text })
 
+-- the flag `--ignore-imports` is given
 abbrev pub say_ignore_imports : Bool → Said → Option Said
 say_ignore_imports true s = None
 say_ignore_imports false s = Some (record s { ignore_imports = true })
 
+-- the flag `--ignore-indirect` is given
 abbrev pub say_ignore_indirect : Bool → Said → Option Said
 say_ignore_indirect true s = None
 say_ignore_indirect false s = Some (record s { ignore_indirect = true })
@@ -82,6 +88,7 @@ say_file None output name s = Some (record s { input = Some name })
 say_file (Some input) None name s = Some (record s { output = Some name })
 say_file (Some input) (Some output) name s = None
 
+-- what is said with a word of this kind
 abbrev pub say_word : Word → Said → Option Said
 say_word imports_word s = Some (record s { place = behind_imports })
 say_word (imports_with text) s = say_imports s.imports text s
@@ -100,6 +107,7 @@ say_at behind_imports word s = if is_hyphened word then None else say_imports s.
 say_at behind_save word s = if is_hyphened word then None else say_save s.save word s
 say_at behind_options word s = say_file s.input s.output word s
 
+-- what is said with one word more
 abbrev pub say : List ℕ → Option Said → Option Said
 say word None = None
 say word (Some s) = say_at s.place word s
@@ -109,11 +117,12 @@ abbrev pub said : Option Said → List (List ℕ) → Option Said
 said s [] = s
 said s (word ∷ words) = said (say word s) words
 
--- Every import is listed, or none, or those of a LIST; one of the two options at most.
+-- those of a LIST, where the text is one
 abbrev pub listed_choice : Result (List Entry) ListError → Option Choice
 listed_choice (Ok entries) = Some (of_list entries)
 listed_choice (Err e) = None
 
+-- Every import is listed, or none, or those of a LIST; one of the two options at most.
 abbrev pub choice_said : Option (List ℕ) → Bool → Option Choice
 choice_said None false = Some every
 choice_said None true = Some nobody
@@ -125,16 +134,19 @@ abbrev pub policy_said : Option (List ℕ) → Option Policy
 policy_said None = Some save_all
 policy_said (Some text) = if bytes_eq text (codes "all") then Some save_all else (if bytes_eq text (codes "live") then Some save_live else None)
 
+-- a `transform`, where its settings and both files are there
 abbrev pub with_files : Option Choice → Bool → Option Policy → Option (List ℕ) → Option (List ℕ) → Option Command
 with_files (Some choice) ignore (Some policy) (Some input) (Some output) =
     Some (transform (record { choice = choice; ignore_indirect = ignore; policy = policy }) input output)
 with_files _ ignore policy input output = None
 
+-- what was said is a `transform`, where no option still wants its value
 abbrev pub transform_at : Place → Said → Option Command
 transform_at behind_imports s = None
 transform_at behind_save s = None
 transform_at _ s = with_files (choice_said s.imports s.ignore_imports) s.ignore_indirect (policy_said s.save) s.input s.output
 
+-- what was said, if the words go well, is a `transform`
 abbrev pub transform_said : Option Said → Option Command
 transform_said None = None
 transform_said (Some s) = transform_at s.place s

@@ -18,6 +18,7 @@ pause_note ticks room s stack = record { event = paused ticks room; store = s; s
 abbrev pub trap_note : (used len : ℕ) → Store → Note
 trap_note used len s = note (ended (UnwindTrap Unreachable used len)) s
 
+-- a note with what stands behind it: where it is a call that pauses, the pause or the trap
 abbrev pub shown_at : (room fit : List Suspended → ℕ) → (len : ℕ) → Note → Option ℕ → (rest : List Note) → List Note
 shown_at room fit len x None rest = x ∷ rest
 shown_at room fit len x (Some ticks) rest =

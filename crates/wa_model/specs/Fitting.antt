@@ -137,5 +137,6 @@ pub record ActWithin (m : Module) (a : Activation) (types : List ValType) : Type
   pub operands : length types ≤ most_operands m func.body 0
   pub labels : length a.labels ≤ depth_of func.body
 
+-- An activation that fits is within these.
 abbrev pub HeightsWithin : Type 0
 HeightsWithin = (m : Module) (a : Activation) (types : List ValType) → ActFits m a.func a.locals a.code a.labels types → ActWithin m a types

@@ -27,6 +27,7 @@ pub record FlatFunc : Type 0 where
   pub result : Option ℕ
   pub body : Stmts
 
+-- Flat functions, in index order.
 pub record FlatModule : Type 0 where
   pub funcs : List FlatFunc
 
@@ -37,18 +38,22 @@ followed_by (plain p more) rest = plain p (followed_by more rest)
 followed_by (nest s r body more) rest = nest s r body (followed_by more rest)
 followed_by (branch r a b more) rest = branch r a b (followed_by more rest)
 
+-- an operand is put on the stack, and then comes this code
 abbrev pub got : Operand → Code → Code
 got (Local x) rest = plain (local_get x) rest
 got (Const v) rest = plain (basic (const v)) rest
 
+-- operands are put on the stack in order
 abbrev pub all_got : List Operand → Code → Code
 all_got [] rest = rest
 all_got (a ∷ args) rest = got a (all_got args rest)
 
+-- the topmost operand goes to a local, where one is told
 abbrev pub set_to : Option ℕ → Code → Code
 set_to None rest = rest
 set_to (Some x) rest = plain (local_set x) rest
 
+-- the values of locals are put on the stack in order
 abbrev pub slots_got : List ℕ → Code → Code
 slots_got [] rest = rest
 slots_got (x ∷ xs) rest = plain (local_get x) (slots_got xs rest)
@@ -70,6 +75,7 @@ code_of (nests s body rest) = nest s None (code_of body) (code_of rest)
 code_of (decides condition a b rest) = got condition (branch None (code_of a) (code_of b) (code_of rest))
 code_of (halts rest) = plain unreachable (code_of rest)
 
+-- the value of the local of a result is put on the stack, where one is told
 abbrev pub result_got : Option ℕ → Code
 result_got None = done
 result_got (Some x) = plain (local_get x) done

@@ -117,6 +117,7 @@ pub record FlatOf (m : Module) (x : ℕ) (f : Func) (g : FlatFunc) : Type 0 wher
   pub result : TellsResult (length (type_at m g.sort).results) g.result
   pub calls : ResultsTold m g.body
 
+-- one local of a type
 abbrev pub one_run : ValType → Run
 one_run t = record { count = 1; ty = t }
 

@@ -32,8 +32,10 @@ unfoldable pub stmts : List Stmt → Stmts
 stmts [] = no_more
 stmts (i ∷ is) = stmt_in_front i (stmts is)
 
+-- a flat function
 abbrev pub flat_func_of : FlatFuncValue → FlatFunc
 flat_func_of f = record { func = f.func; sort = f.sort; locals = f.locals.items; result = f.result; body = stmts f.body.items }
 
+-- flat functions in index order
 abbrev pub flat_module_of : FlatModuleValue → FlatModule
 flat_module_of m = record { funcs = map flat_func_of m.funcs.items }

@@ -28,6 +28,7 @@ pub record Spaces : Type 0 where
   pub funcs : ℕ
   pub globals : ℕ
 
+-- how many a module has
 abbrev pub spaces_of : Module → Spaces
 spaces_of m = record { types = length m.types; funcs = length (func_sorts m); globals = length (all_globals m) }
 
@@ -36,11 +37,13 @@ abbrev pub Each : {X : Type 0} → (X → Type 0) → List X → Type 0
 Each P [] = Unit {0}
 Each P (x ∷ xs) = P x × Each P xs
 
+-- an instruction on operands and the store names only globals that are there
 abbrev pub BasicNamed : (globals : ℕ) → Basic → Type 0
 BasicNamed globals (global_get x) = x < globals
 BasicNamed globals (global_set x) = x < globals
 BasicNamed globals _ = Unit {0}
 
+-- an instruction names only types, functions and globals that are there
 abbrev pub PlainNamed : Spaces → Plain → Type 0
 PlainNamed n (basic b) = BasicNamed n.globals b
 PlainNamed n (call x) = x < n.funcs
@@ -59,6 +62,7 @@ abbrev pub LabelNamed : Spaces → Label → Type 0
 LabelNamed n (block_label height arity rest skipped) = CodeNamed n rest
 LabelNamed n (loop_label height body rest) = CodeNamed n body × CodeNamed n rest
 
+-- an activation of a function that is there, whose code and labels name only what is there
 pub record ActNamed (n : Spaces) (a : Activation) : Type 0 where
   pub func : a.func < n.funcs
   pub code : CodeNamed n a.code
@@ -90,12 +94,15 @@ NextNamed n stuck = Unit {0}
 
 -- ---- with more globals behind
 
+-- a store with more globals
 abbrev pub grown_store : List Value → Store → Store
 grown_store more s = record { globals = s.globals ++ more; memory = s.memory; table = s.table }
 
+-- a configuration with more globals
 abbrev pub grown_config : List Value → Configuration → Configuration
 grown_config more c = record { store = grown_store more c.store; here = c.here; under = c.under }
 
+-- what comes next, with more globals
 abbrev pub grown_next : List Value → Next → Next
 grown_next more (steps k d) = steps k (grown_config more d)
 grown_next more (asks k import args d) = asks k import args (grown_config more d)
@@ -103,6 +110,7 @@ grown_next more (returns k values s) = returns k values (grown_store more s)
 grown_next more (traps k trap s) = traps k trap (grown_store more s)
 grown_next more stuck = stuck
 
+-- an end of reductions, with more globals
 abbrev pub grown_finish : List Value → Finish → Finish
 grown_finish more (it_returned values s) = it_returned values (grown_store more s)
 grown_finish more (it_trapped trap s) = it_trapped trap (grown_store more s)

@@ -16,12 +16,15 @@ abbrev pub in_area : Area → Option Access → Bool
 in_area area None = true
 in_area area (Some x) = nat_le area.at x.at && nat_le (x.at + x.width) (area.at + area.len)
 
+-- An instruction on operands and the store writes none of so many globals and no byte outside the area, and doesn't grow
+-- the memory.
 abbrev pub keeps_basic : (globals : ℕ) → Area → Basic → List Value → Bool
 keeps_basic globals area (global_set x) ops = nat_le globals x
 keeps_basic globals area (store op align offset) ops = in_area area (accessed (store op align offset) ops)
 keeps_basic globals area memory_grow ops = false
 keeps_basic globals area _ ops = true
 
+-- the same of code by the instruction that stands next
 abbrev pub keeps_code : (globals : ℕ) → Area → List Value → Code → Bool
 keeps_code globals area ops (plain (basic b) rest) = keeps_basic globals area b ops
 keeps_code globals area ops _ = true
@@ -32,6 +35,7 @@ keeps globals area c = keeps_code globals area c.here.operands c.here.code
 
 -- ---- no call, and the store left as it is, without loads
 
+-- the instruction leaves the store and is no load
 abbrev pub silent_basic : Basic → Bool
 silent_basic (global_set x) = false
 silent_basic (load op align offset) = false
@@ -39,12 +43,14 @@ silent_basic (store op align offset) = false
 silent_basic memory_grow = false
 silent_basic _ = true
 
+-- so it is, and no call
 abbrev pub silent_plain : Plain → Bool
 silent_plain (basic b) = silent_basic b
 silent_plain (call x) = false
 silent_plain (call_indirect sort) = false
 silent_plain _ = true
 
+-- so is the instruction that stands next
 abbrev pub silent_code : Code → Bool
 silent_code (plain p rest) = silent_plain p
 silent_code _ = true

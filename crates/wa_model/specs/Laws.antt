@@ -17,10 +17,11 @@ use Rattle.wa_model.specs.Pruning.{pruned_module}
 abbrev pub OneNext : Type 0
 OneNext = (m : Module) (c d e : Configuration) (j k : ℕ) → Step m c d j → Step m c e k → (d ≡ e) × (j ≡ k)
 
--- What a run has made before its first move, and where it then stands.
+-- What a run with blocking imports has made before its first move, and where it then stands.
 abbrev pub start_of : Module → Plan → List Outcome → Ran State Note
 start_of m plan os = begun (Base m).start (all_left plan os) (opening (Base m) plan.globals)
 
+-- The same of a run under the protocol.
 abbrev pub held_start_of : Module → Plan → List Outcome → Ran Held Note
 held_start_of p plan os = held_begun p.start (all_left plan os) (opening p plan.globals)
 
@@ -31,6 +32,7 @@ RunsDetermined =
     → Leads (blocking (Base m) plan) (start_of m plan os).last n es t → Leads (blocking (Base m) plan) (start_of m plan os).last n fs u
     → (es ≡ fs) × (t ≡ u)
 
+-- So it is under the protocol.
 abbrev pub ProtocolDetermined : Type 0
 ProtocolDetermined =
     (p : Module) (plan : Plan) (os : List Outcome) (n : ℕ) (es fs : List Note) (t u : Held)
@@ -43,6 +45,7 @@ RunsAreMoves =
     (m : Module) (plan : Plan) (os : List Outcome) (n : ℕ)
     → (r : Ran State Note) × (Blocking m plan os n ≡ after (start_of m plan os).events r) × IsRun (blocking (Base m) plan) n (start_of m plan os).last r
 
+-- So it is under the protocol.
 abbrev pub ProtocolAreMoves : Type 0
 ProtocolAreMoves =
     (p : Module) (plan : Plan) (os : List Outcome) (n : ℕ)
@@ -53,6 +56,7 @@ abbrev pub RunsGrow : Type 0
 RunsGrow =
     (m : Module) (plan : Plan) (os : List Outcome) (n more : ℕ) → IsPrefix (Blocking m plan os n).events (Blocking m plan os (n + more)).events
 
+-- So it is under the protocol.
 abbrev pub ProtocolGrows : Type 0
 ProtocolGrows =
     (p : Module) (plan : Plan) (os : List Outcome) (n more : ℕ) → IsPrefix (Protocol p plan os n).events (Protocol p plan os (n + more)).events

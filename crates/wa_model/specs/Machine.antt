@@ -19,6 +19,7 @@ after es r = record { events = es ++ r.events; last = r.last }
 abbrev pub still : {S E : Type 0} → S → Ran S E
 still s = record { events = []; last = s }
 
+-- the next move, where it costs no more than n, and then what `on` makes of what is left
 abbrev pub pay : {S E : Type 0} → (ℕ → S → Ran S E) → ℕ → S → Turn S E → Ran S E
 pay on n s stops = still s
 pay on n s (goes k es t) = if nat_lt k n then after es (on (n - suc k) t) else still s

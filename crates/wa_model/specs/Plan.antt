@@ -69,14 +69,17 @@ pub record Fits (m : Module) (plan : Plan) : Type 0 where
 
 -- ---- outcomes
 
+-- the numbers of a poke lie in the ranges of their types
 pub record PokeFits (p : Poke) : Type 0 where
   pub at : p.at < 2 ^ 32
   pub bytes : All (λ b. b < 256) p.bytes
 
+-- so does a value, where there is one
 abbrev pub ValueFits : Option Value → Type 0
 ValueFits None = Unit {0}
 ValueFits (Some v) = value_fits v
 
+-- so do all numbers of an answer
 pub record AnswerFits (a : Answer) : Type 0 where
   pub value : ValueFits a.value
   pub pokes : All PokeFits a.pokes

@@ -21,7 +21,8 @@ use Rattle.wa_model.specs.Configuration.{Configuration}
 use Rattle.wa_model.specs.Step.{Next, steps, asks, returns, traps, stuck, zero_of, entered, step}
 use Rattle.wa_model.specs.Plan.{Entry, Plan, Outcome, given, refused}
 use Rattle.wa_model.specs.Instantiation.{Opening, fails_as, opens, opening}
-use Rattle.wa_model.specs.Blocking.{Note, note, call_note, fault_of, pause_of, poked, resumed, Task, the_start, an_entry, Left, with_outcomes, Asker, inside, outermost, store_at, stack_at, in_start, done_notes, value_of_results, next_entry, no_store, all_left}
+use Rattle.wa_model.specs.Blocking.{Note, note, call_note, fault_of, pause_of, poked, resumed, Task, the_start, an_entry, Left, with_outcomes, Asker, inside, outermost, store_at, stack_at}
+use Rattle.wa_model.specs.Blocking.{in_start, done_notes, value_of_results, next_entry, no_store, all_left}
 
 -- The five exports, by the indices of their functions.
 pub record Exports : Type 0 where
@@ -31,6 +32,7 @@ pub record Exports : Type 0 where
   pub stop_rewind : ℕ
   pub get_state : ℕ
 
+-- the index of an export that is there, else 0
 abbrev pub index_of : Option Export → ℕ
 index_of None = 0
 index_of (Some e) = e.index
@@ -39,6 +41,7 @@ index_of (Some e) = e.index
 abbrev pub exported_as : Module → List ℕ → ℕ
 exported_as p name = index_of (find (λ (e : Export). same_name e.name name) p.exports)
 
+-- the five exports of a prepared module
 abbrev pub exports_of : Module → Exports
 exports_of p = record {
   start_unwind = exported_as p (codes "asyncify_start_unwind");
@@ -96,9 +99,11 @@ used_of s area = (number_of_bytes (bytes_at s.memory area.at 4) + 2 ^ 32 - area.
 
 -- ---- the machine
 
+-- the end of a module that broke this rule of the protocol
 abbrev pub broken : ℕ → ℕ → Store → Turn Held Note
 broken k rule s = goes k (note (ended (Broken rule)) s ∷ []) (over s)
 
+-- behind an entry comes the next one, if there is one
 abbrev pub held_on : Store → Left → List Entry → Held
 held_on s l [] = over s
 held_on s l (e ∷ es) = free s l
@@ -114,6 +119,7 @@ abbrev pub held_given : ℕ → Note → Answer → Store → Left → Asker →
 held_given k x a s l (inside task c) = goes k (x ∷ note (answered a.value) s ∷ []) (busy (is_running task) (resumed c s (option_to_list a.value)) l)
 held_given k x a s l (outermost old) = goes k (x ∷ note (answered a.value) s ∷ done_notes s l.entries) (held_on s l l.entries)
 
+-- a call is told, and then the end
 abbrev pub held_ends : ℕ → Note → End → Turn Held Note
 held_ends k x e = goes k (x ∷ note (ended e) x.store ∷ []) (over x.store)
 
@@ -123,6 +129,7 @@ held_pauses x plan k called import a l (inside (an_entry e) c) =
     goes k (called ∷ []) (calling (unwinds e import a) (with_words c.store plan.area) x.start_unwind (V.I32 plan.area.at ∷ []) (give_zero c) l)
 held_pauses x plan k called import a l _ = stops
 
+-- by the first test that the answer fails, else by whether it pauses
 abbrev pub held_tested : Module → Exports → Plan → ℕ → (import : ℕ) → List Value → Asker → Left → Answer → Option End → Option ℕ → Turn Held Note
 held_tested p x plan k import args w l a (Some e) pause = held_ends k (call_note import args (store_at w) (stack_at p w) None) e
 held_tested p x plan k import args w l a None None = held_given k (call_note import args (store_at w) (stack_at p w) None) a (poked (store_at w) a.pokes) l w
@@ -181,6 +188,7 @@ aside_back p x plan k (rewinds e i a sp) (give_answer c) l results s =
     goes k (answer_note a.value (poked s a.pokes) sp ∷ []) (busy (is_running (an_entry e)) (resumed c (poked s a.pokes) (option_to_list a.value)) l)
 aside_back p x plan k ph th l results s = stops
 
+-- by the reduction of an export that runs; it may call no import
 abbrev pub aside_step : Module → Exports → Plan → Phase → Then → Left → Next → Turn Held Note
 aside_step p x plan ph th l (steps k d) = goes k [] (aside ph d th l)
 aside_step p x plan ph th l (asks k import args d) = broken k 6 d.store
@@ -193,14 +201,17 @@ abbrev pub busy_enters : Phase → Entry → Store → Left → Option Func → 
 busy_enters ph e s l None = stops
 busy_enters ph e s l (Some f) = goes (length e.args) [] (busy ph (entered s [] e.args e.func f) l)
 
+-- the next of these entries is called
 abbrev pub held_next : Module → Store → Left → List Entry → Turn Held Note
 held_next p s l [] = stops
 held_next p s l (e ∷ es) = busy_enters (is_running (an_entry e)) e s (record { number = l.number; entries = es; outcomes = l.outcomes }) (defined_at p e.func)
 
+-- an export is called on a fresh stack
 abbrev pub aside_called : Phase → Store → ℕ → List Value → Then → Left → Option Func → Turn Held Note
 aside_called ph s f args th l None = stops
 aside_called ph s f args th l (Some g) = goes (length args) [] (aside ph (entered s [] args f g) th l)
 
+-- the start function is called, which may be an import
 abbrev pub held_start : Module → Exports → Plan → ℕ → Store → Left → Option Func → Turn Held Note
 held_start p x plan f s l (Some g) = goes 0 [] (busy (is_running the_start) (entered s [] [] f g) l)
 held_start p x plan f s l None = if nat_lt f (func_imports p) then held_asked p x plan 0 f [] (outermost s) l l.outcomes else stops
@@ -217,14 +228,17 @@ protocol p x plan (over s) = stops
 
 -- ---- whole runs
 
+-- where a run stands behind instantiation: at the call of the start function, else at the first entry
 abbrev pub held_started : Store → Left → Option ℕ → Ran Held Note
 held_started s l None = record { events = done_notes s l.entries; last = held_on s l l.entries }
 held_started s l (Some f) = still (starting f s l)
 
+-- what stands before the first move: instantiation costs nothing
 abbrev pub held_begun : Option ℕ → Left → Opening → Ran Held Note
 held_begun start l (fails_as e) = record { events = note (ended e) no_store ∷ []; last = over no_store }
 held_begun start l (opens s) = held_started s l start
 
+-- a run that goes on from where it stands, up to a cost of n
 abbrev pub held_continued : Module → Plan → ℕ → Ran Held Note → Ran Held Note
 held_continued p plan n r = after r.events (run (protocol p (exports_of p) plan) n r.last)
 

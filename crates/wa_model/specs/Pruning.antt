@@ -3,6 +3,7 @@ use Rattle.std.specs.Prelude.{map}
 use Rattle.wa_types.specs.Syntax.{Func, Module}
 use Rattle.wa_types.specs.Pruned.{pruned}
 
+-- a function with its body pruned
 abbrev pub pruned_func : Func → Func
 pruned_func f = record { sort = f.sort; locals = f.locals; body = pruned f.body }
 

@@ -60,5 +60,6 @@ pub record Rewrites (m : Module) (s : Settings) (p : Module) : Type 0 where
   pub runtime : drop (length m.funcs) p.funcs ≡ drop (length m.funcs) (with_runtime m).funcs
   -- functions, by their number among the defined ones
   pub unchanged : (i : ℕ) (f g : Func) → slice_get m.funcs i ≡ Some f → slice_get p.funcs i ≡ Some g → ¬ MayPause m s (func_imports m + i) → SameFunc f g
-  pub rewritten : (i : ℕ) (f g : Func) (which : List Bool) → slice_get m.funcs i ≡ Some f → slice_get p.funcs i ≡ Some g → TellsMayPause m s which → MayPause m s (func_imports m + i) → RewrittenFunc m s p which f g
+  pub rewritten : (i : ℕ) (f g : Func) (which : List Bool) → slice_get m.funcs i ≡ Some f → slice_get p.funcs i ≡ Some g → TellsMayPause m s which → MayPause m s (func_imports m + i)
+      → RewrittenFunc m s p which f g
   pub behaves : Behaves m s p

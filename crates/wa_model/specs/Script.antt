@@ -49,6 +49,7 @@ pub record ProgramText : Type 0 where
   pub answers : List AnswerLine
   pub shows : List ShowText
 
+-- A script: its programs, and the devices that it takes out.
 pub record Script : Type 0 where
   pub programs : List ProgramText
   pub detaches : List DetachText

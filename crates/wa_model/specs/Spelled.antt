@@ -23,6 +23,7 @@ abbrev pub files_alone : (Option (List ℕ) → Option (List ℕ) → Option Spe
 files_alone spell None = None
 files_alone spell (Some s) = if is_plain s.place s.imports s.save s.ignore_imports s.ignore_indirect then spell s.input s.output else None
 
+-- a command of one file
 abbrev pub one_file : (List ℕ → Spelled) → Option (List ℕ) → Option (List ℕ) → Option Spelled
 one_file spell (Some script) None = Some (spell script)
 one_file spell _ _ = None

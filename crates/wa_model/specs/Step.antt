@@ -1,5 +1,6 @@
 -- One reduction of a configuration (standard, section 4.4), with its cost.
-use Rattle.std.specs.Prelude.{◌≡◌, ℕ, zero, suc, ◌+◌, ◌-◌, nat_lt, ◌&&◌, if◌then◌else◌, List, [], ◌∷◌, ◌++◌, length, map, take, drop, reverse, Option, Some, None, Bool, true, false, unwrap_or, slice_get, slice_set}
+use Rattle.std.specs.Prelude.{◌≡◌, ℕ, zero, suc, ◌+◌, ◌-◌, nat_lt, ◌&&◌, if◌then◌else◌, List, [], ◌∷◌, ◌++◌, length, map, take, drop, reverse, Option, Some, None, Bool, true, false}
+use Rattle.std.specs.Prelude.{unwrap_or, slice_get, slice_set}
 use Rattle.wa_types.specs.declared.values.ValType.{ValType}
 use Rattle.wa_types.specs.declared.values.Value.{Value}
 use Rattle.wa_types.specs.declared.values.Value.TheVariants as V
@@ -7,13 +8,14 @@ use Rattle.wa_types.specs.declared.values.Trap.{Trap}
 use Rattle.wa_types.specs.declared.values.Trap.TheVariants.{Unreachable, UndefinedElement, UninitializedElement, TypeMismatch, StackExhausted}
 use Rattle.wa_types.specs.declared.syntax.Limits.{Limits}
 use Rattle.wa_types.specs.Encoding.{same_type}
-use Rattle.wa_types.specs.Syntax.{Plain, basic, local_get, local_set, local_tee, br, br_if, br_table, return, unreachable, call, call_indirect, a_block, a_loop, Code, done, plain, nest, branch, FuncType, Func, Module}
+use Rattle.wa_types.specs.Syntax.{Plain, basic, local_get, local_set, local_tee, br, br_if, br_table, return, unreachable, call, call_indirect, a_block, a_loop, Code, done, plain, nest}
+use Rattle.wa_types.specs.Syntax.{branch, FuncType, Func, Module}
 use Rattle.wa_types.specs.Modules.{func_imports, all_memories, type_at, func_type_at, declared_locals, defined_at}
 use Rattle.wa_ops.specs.Operate.{value_of}
 use Rattle.wa_model.specs.Store.{Store, value_at, Did, works, fails, lacks, takes, act}
 use Rattle.wa_model.specs.Configuration.{Label, block_label, loop_label, Activation, Configuration, running, waiting}
 
--- What comes next. A cost k stands for suc k.
+-- What comes next (4.4). A cost k stands for suc k.
 pub data Next : Type 0 where
   -- a reduction to this configuration
   steps : (k : ℕ) → (to : Configuration) → Next
@@ -25,11 +27,11 @@ pub data Next : Type 0 where
   -- no reduction; no configuration of a valid module comes here
   stuck : Next
 
--- the lowest h operands
+-- the lowest h operands, those below a construct (4.4.5.6)
 abbrev pub keep : ℕ → List Value → List Value
 keep h ops = drop (length ops - h) ops
 
--- how many results a function has
+-- how many results a function has (2.5.3)
 abbrev pub result_count : Module → ℕ → ℕ
 result_count m fn = length (func_type_at m fn).results
 
@@ -51,6 +53,7 @@ finish m s fn under ls ops [] = leave 0 s ops (result_count m fn) under
 finish m s fn under ls ops (block_label h arity rest skipped ∷ labels) = steps 0 (running s fn under ls ops rest labels)
 finish m s fn under ls ops (loop_label h body rest ∷ labels) = steps 0 (running s fn under ls ops rest labels)
 
+-- what an instruction did with its operands, as what comes next (4.4.1 to 4.4.4)
 abbrev pub did : ℕ → List Activation → (ls : List Value) → List Label → (rest : Code) → Store → (ops : List Value) → Did → Next
 did fn under ls labels rest s ops (works s' results) = steps 0 (running s' fn under ls (results ++ ops) rest labels)
 did fn under ls labels rest s ops (fails trap) = traps 0 trap s
@@ -72,6 +75,7 @@ abbrev pub choose : {A : Type 0} → ℕ → A → A → A
 choose zero first second = second
 choose (suc n) first second = first
 
+-- the number of a construct's results (2.4.5)
 abbrev pub arity_of : Option ValType → ℕ
 arity_of None = 0
 arity_of (Some t) = 1
@@ -96,14 +100,17 @@ invoke m s fn under ls own ops rest labels params x None =
     then asks params x (reverse (take params ops)) (record { store = s; here = waiting fn ls (drop params ops) (own ++ take params ops) rest labels; under = under })
     else stuck
 
+-- the number of parameters of a type (2.3.3)
 abbrev pub param_count : FuncType → ℕ
 param_count t = length t.params
 
+-- two lists of value types are one (2.3.1)
 abbrev pub same_types : List ValType → List ValType → Bool
 same_types [] [] = true
 same_types (t ∷ ts) (u ∷ us) = same_type t u && same_types ts us
 same_types _ _ = false
 
+-- two function types are one (2.3.3)
 abbrev pub same_func_type : FuncType → FuncType → Bool
 same_func_type t u = same_types t.params u.params && same_types t.results u.results
 
@@ -116,15 +123,16 @@ through m s fn under ls own ops rest labels sort (Some (Some x)) =
     then invoke m s fn under ls own ops rest labels (param_count (type_at m sort)) x (defined_at m x)
     else traps (param_count (type_at m sort)) TypeMismatch s
 
+-- the maximum of the first of some limits, where it is told
 abbrev pub first_max : List Limits → Option ℕ
 first_max [] = None
 first_max (l ∷ ls) = l.max
 
--- the greatest number of pages that the type of the module's memory allows, where told
+-- the greatest number of pages that the type of the module's memory allows, where told (2.3.5)
 abbrev pub memory_max : Module → Option ℕ
 memory_max m = first_max (all_memories m)
 
--- By the instruction that stands next. Variable instructions are 4.4.3, control instructions 4.4.5.
+-- By the instruction that stands next (variable instructions, 4.4.3; control instructions, 4.4.5).
 abbrev pub step_plain : Module → Store → ℕ → List Activation → (ls ops : List Value) → List Label → (rest : Code) → Plain → Next
 step_plain m s fn under ls ops labels rest (basic b) = did fn under ls labels rest s (drop (takes b) ops) (act (memory_max m) b s (take (takes b) ops))
 step_plain m s fn under ls ops labels rest (local_get x) = steps 0 (running s fn under ls (value_at ls x ∷ ops) rest labels)
@@ -149,7 +157,7 @@ step_at m s fn under ls ops labels (branch r a b rest) =
     (running s fn under ls below a (block_label (length below) (arity_of r) rest b ∷ labels))
     (running s fn under ls below b (block_label (length below) (arity_of r) rest done ∷ labels))))
 
--- what comes next
+-- what comes next (4.4)
 abbrev pub step : Module → Configuration → Next
 step m c = step_at m c.store c.here.func c.under c.here.locals c.here.operands c.here.labels c.here.code
 

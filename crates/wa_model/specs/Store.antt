@@ -28,7 +28,7 @@ pub record Store : Type 0 where
 abbrev pub with_memory : Store → List ℕ → Store
 with_memory s memory = record { globals = s.globals; memory = memory; table = s.table }
 
--- the value at a place; valid code asks for none past the end
+-- the value at a place; valid code asks for none past the end (4.4.3)
 abbrev pub value_at : List Value → ℕ → Value
 value_at values x = slice_index_or values x (V.I32 0)
 
@@ -52,7 +52,7 @@ takes (store op align offset) = 2
 takes memory_size = 0
 takes memory_grow = 1
 
--- how many results it gives
+-- how many results it gives (4.4.1 to 4.4.4)
 abbrev pub gives : Basic → ℕ
 gives nop = 0
 gives drop = 0
@@ -77,10 +77,11 @@ abbrev pub chosen : ℕ → Value → Value → Value
 chosen zero lower upper = upper
 chosen (suc n) lower upper = lower
 
--- the number of bytes of an access, and of bits of a type
+-- the number of bytes of an access (4.4.4.1)
 abbrev pub width_of : AccessRow → ℕ
 width_of row = 2 ^ row.natural
 
+-- the number of bits of a type (2.3.1)
 abbrev pub bits_of : ValType → ℕ
 bits_of I32 = 32
 bits_of I64 = 64
@@ -89,6 +90,7 @@ bits_of I64 = 64
 abbrev pub extended : AccessRow → ℕ → Value
 extended row n = value_of row.ty (if row.signed then extend_s (8 * width_of row) (bits_of row.ty) n else n)
 
+-- a load of the number that its bytes spell, where they are all there (4.4.4.1)
 abbrev pub loaded : Store → AccessRow → Option ℕ → Did
 loaded s row None = fails OutOfBounds
 loaded s row (Some n) = works s (extended row n ∷ [])
@@ -98,6 +100,7 @@ abbrev pub load_at : Store → ℕ → Option AccessRow → Did
 load_at s place None = lacks
 load_at s place (Some row) = loaded s row (number_at s.memory place (width_of row))
 
+-- a store, where its bytes are all there (4.4.4.2)
 abbrev pub stored : Store → Option (List ℕ) → Did
 stored s None = fails OutOfBounds
 stored s (Some memory) = works (with_memory s memory) []
@@ -129,12 +132,13 @@ act most memory_size s [] = works s (V.I32 (pages_of s.memory) ∷ [])
 act most memory_grow s (V.I32 n ∷ []) = grew s (grown (record { bytes = s.memory; max = most }) n)
 act most _ s _ = lacks
 
--- The bytes that a load or store touches: the first, and how many.
+-- The bytes that a load or store touches (4.4.4.1, 4.4.4.2): the first, and how many.
 pub record Access : Type 0 where
   pub stores : Bool
   pub at : ℕ
   pub width : ℕ
 
+-- the access of a row at a place, where the row is there
 abbrev pub access_of : Bool → ℕ → Option AccessRow → Option Access
 access_of stores at None = None
 access_of stores at (Some row) = Some (record { stores = stores; at = at; width = width_of row })

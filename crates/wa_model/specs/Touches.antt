@@ -35,15 +35,18 @@ pub record Touch : Type 0 where
   pub instr : Basic
   pub operands : List Value
 
+-- the instruction is a load, a store or a growth of the memory
 abbrev pub reaches_memory : Basic → Bool
 reaches_memory (load op align offset) = true
 reaches_memory (store op align offset) = true
 reaches_memory memory_grow = true
 reaches_memory _ = false
 
+-- the touch that an instruction is, with its own operands, if it is one
 abbrev pub touch_basic : Basic → List Value → List Touch
 touch_basic b ops = if reaches_memory b then (record { instr = b; operands = take (takes b) ops }) ∷ [] else []
 
+-- the touch that the instruction that stands next is, if it is one
 abbrev pub touch_in : List Value → Code → List Touch
 touch_in ops (plain (basic b) rest) = touch_basic b ops
 touch_in ops _ = []
@@ -52,6 +55,7 @@ touch_in ops _ = []
 abbrev pub next_touch : Configuration → List Touch
 next_touch c = touch_in c.here.operands c.here.code
 
+-- the same where a run stands
 abbrev pub touch_of : State → List Touch
 touch_of (between s l) = []
 touch_of (begins x s l) = []
@@ -65,9 +69,11 @@ pub data Seen : Type 0 where
   made : (event : Event) → Seen
   touched : (touch : Touch) → Seen
 
+-- what is seen at a state before its move
 abbrev pub seen_at : State → List Seen
 seen_at t = map touched (touch_of t)
 
+-- what is seen of a note: its event
 abbrev pub seen_note : Note → Seen
 seen_note x = made x.event
 

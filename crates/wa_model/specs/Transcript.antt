@@ -9,7 +9,8 @@ use Rattle.wa_types.specs.declared.values.Value.TheVariants as V
 use Rattle.wa_types.specs.declared.values.Trap.{Trap}
 use Rattle.wa_types.specs.declared.values.Trap.TheVariants.{DivideByZero, IntegerOverflow, OutOfBounds, Unreachable, UndefinedElement, UninitializedElement, TypeMismatch, StackExhausted}
 use Rattle.wa_model.specs.declared.events.End.{End}
-use Rattle.wa_model.specs.declared.events.End.TheVariants.{Done, Trapped, UnwindTrap, RewindTrap, ElementsOut, BytesOut, HostLimit, NoAnswer, OtherImport, BadAnswer, BadPoke, UnlistedPause, PauseInStart, DeviceFault, NoDevice, StepsSpent, Broken}
+use Rattle.wa_model.specs.declared.events.End.TheVariants.{Done, Trapped, UnwindTrap, RewindTrap, ElementsOut, BytesOut, HostLimit, NoAnswer, OtherImport, BadAnswer, BadPoke, UnlistedPause}
+use Rattle.wa_model.specs.declared.events.End.TheVariants.{PauseInStart, DeviceFault, NoDevice, StepsSpent, Broken}
 use Rattle.wa_model.specs.Outside.{Event, called, answered, paused, returned, ended, shown, Line}
 
 -- ---- names, bytes and values
@@ -18,6 +19,7 @@ use Rattle.wa_model.specs.Outside.{Event, called, answered, paused, returned, en
 abbrev pub hex_digit : ℕ → ℕ
 hex_digit n = if nat_lt n 10 then 48 + n else 87 + n
 
+-- a byte as two of them
 abbrev pub hex_pair : ℕ → List ℕ
 hex_pair b = hex_digit (b / 16) ∷ hex_digit (b % 16) ∷ []
 
@@ -34,10 +36,12 @@ abbrev pub printed_name : List ℕ → List ℕ
 printed_name [] = []
 printed_name (b ∷ rest) = name_byte b ++ printed_name rest
 
+-- bytes, two digits each
 abbrev pub printed_bytes : List ℕ → List ℕ
 printed_bytes [] = []
 printed_bytes (b ∷ bytes) = hex_pair b ++ printed_bytes bytes
 
+-- a value as it is printed
 abbrev pub printed_value : Value → List ℕ
 printed_value (V.I32 n) = codes "i32:" ++ decimal n
 printed_value (V.I64 n) = codes "i64:" ++ decimal n
@@ -64,6 +68,7 @@ pub record Names : Type 0 where
   pub entries : List (List ℕ)
   pub len : ℕ
 
+-- a trap
 abbrev pub trap_text : Trap → List ℕ
 trap_text DivideByZero = codes "integer divide by zero"
 trap_text IntegerOverflow = codes "integer overflow"
@@ -74,12 +79,15 @@ trap_text UninitializedElement = codes "uninitialized element"
 trap_text TypeMismatch = codes "indirect call type mismatch"
 trap_text StackExhausted = codes "call stack exhausted"
 
+-- how much of an area is used
 abbrev pub area_text : (used len : ℕ) → List ℕ
 area_text used len = codes "area " ++ decimal used ++ codes " of " ++ decimal len
 
+-- what the host has less of
 abbrev pub host_limit_word : Bool → List ℕ
 host_limit_word entries = if entries then codes "entries" else codes "pages"
 
+-- how a program ended
 abbrev pub end_text : Names → End → List ℕ
 end_text names Done = codes "done"
 end_text names (Trapped trap) = codes "trap " ++ trap_text trap
@@ -99,14 +107,17 @@ end_text names (NoDevice import) = codes "no device " ++ name_at names.imports i
 end_text names (StepsSpent n) = codes "steps spent " ++ decimal n
 end_text names (Broken rule) = codes "protocol broken " ++ decimal rule
 
+-- bytes that are shown
 abbrev pub shown_bytes : Option (List ℕ) → List ℕ
 shown_bytes None = codes "absent"
 shown_bytes (Some bytes) = printed_bytes bytes
 
+-- the value that an entry returned, where it returned one
 abbrev pub returned_value : Option Value → List ℕ
 returned_value None = []
 returned_value (Some v) = codes " " ++ printed_value v
 
+-- a pause until this tick
 abbrev pub pause_text : (due used len : ℕ) → List ℕ
 pause_text due used len = codes "pause until " ++ decimal due ++ codes " " ++ area_text used len
 
@@ -131,13 +142,15 @@ event_line names l = decimal l.tick ++ codes " " ++ decimal l.program ++ codes "
 unfoldable pub last_line : (programs events : ℕ) → List ℕ
 last_line programs events = codes "programs " ++ decimal programs ++ codes " events " ++ decimal events ++ line_end
 
--- the names of the program of this number
+-- no names
 abbrev pub no_names : Names
 no_names = record { imports = []; entries = []; len = 0 }
 
+-- the names of the program of this number
 abbrev pub names_at : List Names → ℕ → Names
 names_at names i = unwrap_or (slice_get names i) no_names
 
+-- the lines of events, one behind another
 abbrev pub event_lines : List Names → List Line → List ℕ
 event_lines names [] = []
 event_lines names (l ∷ ls) = event_line (names_at names l.program) l ++ event_lines names ls
@@ -169,6 +182,7 @@ limit_word Output = codes "output"
 limit_word Script = codes "script"
 limit_word Programs = codes "programs"
 
+-- why a command is refused
 abbrev pub refusal_text : Refusal → List ℕ
 refusal_text usage = codes "usage"
 refusal_text out_of_memory = codes "out of memory"

@@ -13,6 +13,7 @@ abbrev pub access_in : List Value → Code → Option Access
 access_in ops (plain (basic b) rest) = accessed b ops
 access_in ops _ = None
 
+-- the access of a configuration's next reduction
 abbrev pub next_access : Configuration → Option Access
 next_access c = access_in c.here.operands c.here.code
 
@@ -21,6 +22,7 @@ abbrev pub StaysOff : Area → (size : ℕ) → Option Access → Type 0
 StaysOff area size None = Unit {0}
 StaysOff area size (Some x) = x.at + x.width ≤ size → overlap x.at x.width area.at area.len ≡ false
 
+-- the next move of a run stays off the area
 abbrev pub IsCalm : Area → State → Type 0
 IsCalm area (between s l) = Unit {0}
 IsCalm area (begins x s l) = Unit {0}

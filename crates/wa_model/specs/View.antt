@@ -10,18 +10,23 @@ use Rattle.wa_model.specs.declared.events.Event.TheVariants.{Called, Answered, P
 use Rattle.wa_model.specs.declared.events.Line.{Line as LineValue}
 use Rattle.wa_model.specs.Outside.{Poke, Answer, Call, AnswerLine, Event, called, answered, paused, returned, ended, shown, Line}
 
+-- a poke
 abbrev pub poke_of : PokeValue → Poke
 poke_of p = record { at = p.at; bytes = p.bytes.items }
 
+-- an answer
 abbrev pub answer_of : AnswerValue → Answer
 answer_of a = record { value = a.value; pokes = map poke_of a.pokes.items; ticks = a.ticks }
 
+-- a call of an import
 abbrev pub call_of : CallValue → Call
 call_of c = record { import = c.import; args = c.args.items }
 
+-- an answer for an import
 abbrev pub answer_line_of : AnswerLineValue → AnswerLine
 answer_line_of l = record { import = l.import; answer = answer_of l.answer }
 
+-- an event
 abbrev pub event_of : EventValue → Event
 event_of (Called c) = called (call_of c)
 event_of (Answered v) = answered v
@@ -30,5 +35,6 @@ event_of (Returned entry v) = returned entry v
 event_of (Ended e) = ended e
 event_of (Shown at bytes) = shown at (option_map (λ b. b.items) bytes)
 
+-- an event of a program, and its tick
 abbrev pub line_of : LineValue → Line
 line_of l = record { tick = l.tick; program = l.program; event = event_of l.event }

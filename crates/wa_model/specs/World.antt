@@ -1,5 +1,6 @@
 -- Several programs over one list of devices. A program's turn goes from one of its pauses to the next, or to its end.
-use Rattle.std.specs.Prelude.{◌≡◌, ℕ, suc, ◌+◌, ◌≤◌, ◌<◌, ◌^◌, ◌⊎◌, nat_lt, nat_le, nat_eq, ◌&&◌, if◌then◌else◌, List, [], ◌∷◌, ◌++◌, length, map, take, Option, Some, None, Bool, true, false, All, MatchBool, slice_get, slice_set}
+use Rattle.std.specs.Prelude.{◌≡◌, ℕ, suc, ◌+◌, ◌≤◌, ◌<◌, ◌^◌, ◌⊎◌, nat_lt, nat_le, nat_eq, ◌&&◌, if◌then◌else◌, List, [], ◌∷◌, ◌++◌, length, map, take, Option, Some, None, Bool, true}
+use Rattle.std.specs.Prelude.{false, All, MatchBool, slice_get, slice_set}
 use Rattle.std.specs.List.{filter_map, list_any, AllZip}
 use Rattle.std.specs.Option.{unwrap_or}
 use Rattle.wa_types.specs.declared.values.Value.{Value}
@@ -37,6 +38,7 @@ pub record Device : Type 0 where
   pub name : List ℕ
   pub journal : List Asked
 
+-- a device has this name
 abbrev pub is_named : List ℕ → Device → Bool
 is_named name d = same_name d.name name
 
@@ -45,6 +47,7 @@ abbrev pub taken_out : List ℕ → List Device → List Device
 taken_out name [] = []
 taken_out name (d ∷ ds) = if is_named name d then ds else d ∷ taken_out name ds
 
+-- the devices without the first of a name, where told
 abbrev pub detached_if : Bool → List ℕ → List Device → List Device
 detached_if true name ds = taken_out name ds
 detached_if false name ds = ds
@@ -77,17 +80,20 @@ pub record Program : Type 0 where
   pub binds : List (Option (List ℕ))
   pub looks : List Look
 
+-- a name, where its import is a function, of which the index of the type is told
 abbrev pub name_if : List ℕ → Option ℕ → Option (List ℕ)
 name_if name None = None
 name_if name (Some sort) = Some name
 
--- the joined names, and the base names, of the function imports
+-- the joined names of the function imports
 abbrev pub import_names : Module → List (List ℕ)
 import_names m = filter_map (λ (i : Import). name_if (joined_name i) (imported_func i.kind)) m.imports
 
+-- the base names of the function imports
 abbrev pub base_names : Module → List (List ℕ)
 base_names m = filter_map (λ (i : Import). name_if i.base (imported_func i.kind)) m.imports
 
+-- the name at a place
 abbrev pub name_at : List (List ℕ) → ℕ → List ℕ
 name_at names i = unwrap_or (slice_get names i) []
 
@@ -105,7 +111,8 @@ pub record Actor : Type 0 where
 abbrev pub MeetsDevice : (import : ℕ) → (base name : List ℕ) → List Value → List Device → Outcome → List Device → Type 0
 MeetsDevice import base name args ds o ds' =
     MatchBool (list_any (is_named name) ds)
-    (((r : Reply) × ValueFits r.value × (r.ticks < 2 ^ 32) × (o ≡ given (record { value = r.value; pokes = []; ticks = r.ticks })) × (ds' ≡ journaled name (record { base = base; args = args; reply = r }) ds))
+    (((r : Reply) × ValueFits r.value × (r.ticks < 2 ^ 32) × (o ≡ given (record { value = r.value; pokes = []; ticks = r.ticks }))
+    × (ds' ≡ journaled name (record { base = base; args = args; reply = r }) ds))
     ⊎ ((o ≡ refused (DeviceFault import)) × (ds' ≡ ds)))
     ((o ≡ refused (NoDevice import)) × (ds' ≡ ds))
 
@@ -115,6 +122,7 @@ MeetsLine import name [] o lines = (o ≡ refused (NoAnswer import)) × (lines �
 MeetsLine import name (l ∷ ls) o lines =
     MatchBool (same_name l.import name) ((o ≡ given l.answer) × (lines ≡ ls)) ((o ≡ refused (OtherImport import l.import)) × (lines ≡ l ∷ ls))
 
+-- what an import meets by its binding: its device, where it is bound to one, else the next answer line
 abbrev pub MeetsBound : Module → (import : ℕ) → List Value → Option (List ℕ) → List AnswerLine → List Device → Outcome → List AnswerLine → List Device → Type 0
 MeetsBound m import args (Some name) lines ds o lines' ds' = MeetsDevice import (name_at (base_names m) import) name args ds o ds' × (lines' ≡ lines)
 MeetsBound m import args None lines ds o lines' ds' = MeetsLine import (name_at (import_names m) import) lines o lines' × (ds' ≡ ds)
@@ -131,15 +139,17 @@ ends_turn (paused ticks used) = true
 ends_turn (ended how) = true
 ends_turn _ = false
 
--- the notes of a turn, and those behind it
+-- the notes of a turn
 abbrev pub turn_of : List Note → List Note
 turn_of [] = []
 turn_of (x ∷ xs) = if ends_turn x.event then x ∷ [] else x ∷ turn_of xs
 
+-- the notes behind a turn
 abbrev pub behind_turn : List Note → List Note
 behind_turn [] = []
 behind_turn (x ∷ xs) = if ends_turn x.event then xs else behind_turn xs
 
+-- the call that an event tells
 abbrev pub call_in : Event → Option Call
 call_in (called call) = Some call
 call_in _ = None
@@ -156,15 +166,17 @@ abbrev pub CallsMeet : Program → List Note → List Outcome → List AnswerLin
 CallsMeet w [] os lines ds os' lines' ds' = (os' ≡ os) × (lines' ≡ lines) × (ds' ≡ ds)
 CallsMeet w (x ∷ xs) os lines ds os' lines' ds' = NoteMeets w (call_in x.event) os lines ds (λ o l d. CallsMeet w xs o l d os' lines' ds')
 
--- the ticks by which a turn's pause puts its program off
+-- the ticks by which an event puts its program off: those of a pause
 abbrev pub ticks_in : Event → ℕ
 ticks_in (paused ticks used) = ticks
 ticks_in _ = 0
 
+-- the same of all notes of a turn
 abbrev pub put_off : List Note → ℕ
 put_off [] = 0
 put_off (x ∷ xs) = ticks_in x.event + put_off xs
 
+-- an event of the program of this number, at the tick at which it was due
 abbrev pub line_at : (due number : ℕ) → Event → Line
 line_at due number e = record { tick = due; program = number; event = e }
 
@@ -172,6 +184,7 @@ line_at due number e = record { tick = due; program = number; event = e }
 abbrev pub bytes_shown : List ℕ → Look → Option (List ℕ)
 bytes_shown memory x = if nat_lt 0 (length memory) && nat_le (x.at + x.len) (length memory) then Some (bytes_at memory x.at x.len) else None
 
+-- the events of looks, at this store
 abbrev pub look_events : Store → List Look → List Event
 look_events s looks = map (λ (x : Look). shown x.at (bytes_shown s.memory x)) looks
 
@@ -180,6 +193,7 @@ abbrev pub looks_after : List Look → Note → Event → List Event
 looks_after looks x (ended how) = look_events x.store looks
 looks_after looks x _ = []
 
+-- the events of notes, with the looks behind an end
 abbrev pub events_with_looks : List Look → List Note → List Event
 events_with_looks looks [] = []
 events_with_looks looks (x ∷ xs) = (x.event ∷ looks_after looks x x.event) ++ events_with_looks looks xs
@@ -190,6 +204,7 @@ turn_lines number w a = map (line_at a.due number) (events_with_looks w.looks (t
 
 -- ---- the order of events
 
+-- a program has notes that are still to come
 abbrev pub HasNotes : Actor → Type 0
 HasNotes a = 0 < length a.notes
 
@@ -215,7 +230,8 @@ pub record Plays (programs : List Program) (detaches : List Detach) (number : �
 -- Events in a row, numbered from `number` on, with the lines that they make.
 pub data Events (programs : List Program) (detaches : List Detach) : (number : ℕ) → List Actor → List Device → List Line → List Actor → List Device → Type 0 where
   no_event : {number : ℕ} {actors : List Actor} {ds : List Device} → Events programs detaches number actors ds [] actors ds
-  an_event : {number : ℕ} {actors actors' last : List Actor} {ds ds' end : List Device} {lines more all : List Line} → Plays programs detaches number actors ds lines actors' ds' → Events programs detaches (suc number) actors' ds' more last end → all ≡ lines ++ more → Events programs detaches number actors ds all last end
+  an_event : {number : ℕ} {actors actors' last : List Actor} {ds ds' end : List Device} {lines more all : List Line} → Plays programs detaches number actors ds lines actors' ds'
+      → Events programs detaches (suc number) actors' ds' more last end → all ≡ lines ++ more → Events programs detaches number actors ds all last end
 
 -- ---- what a program's notes are
 
@@ -228,6 +244,7 @@ unless_over steps h = note (ended (StepsSpent steps)) (store_held h) ∷ []
 abbrev pub protocol_story : Program → List Outcome → List Note
 protocol_story w os = (Protocol w.source w.plan os w.steps).events ++ unless_over w.steps (Protocol w.source w.plan os w.steps).last
 
+-- an event is an end
 abbrev pub is_end : Event → Bool
 is_end (ended how) = true
 is_end _ = false
@@ -242,7 +259,8 @@ IsCertain s w os j =
 -- ends as StepsSpent before one that isn't certain, and shows its memory at a moment of its run.
 pub data BlockingStory (s : Settings) (w : Program) (os : List Outcome) : List Note → Type 0 where
   whole : (x : Note) (before notes : List Note) → notes ≡ expected_notes w.source s w.plan os w.steps → notes ≡ before ++ x ∷ [] → is_end x.event ≡ true → BlockingStory s w os notes
-  spent : (j : ℕ) (before notes : List Note) (at : Store) → before ≡ take j (expected_notes w.source s w.plan os w.steps) → j ≤ length (expected_notes w.source s w.plan os w.steps) → All (λ (x : Note). is_end x.event ≡ false) before
+  spent : (j : ℕ) (before notes : List Note) (at : Store) → before ≡ take j (expected_notes w.source s w.plan os w.steps) → j ≤ length (expected_notes w.source s w.plan os w.steps)
+      → All (λ (x : Note). is_end x.event ≡ false) before
       → (IsCertain s w os j → ⊥) → IsMoment w.source w.plan os w.steps (without_pauses (events_of before)) at → notes ≡ before ++ note (ended (StepsSpent w.steps)) at ∷ [] → BlockingStory s w os notes
 
 -- ---- worlds
@@ -252,14 +270,17 @@ pub record Starts (w : Program) (a : Actor) : Type 0 where
   pub due : a.due ≡ 0
   pub answers : a.answers ≡ w.answers
 
+-- a program at its start in the protocol world
 pub record StartsHeld (w : Program) (a : Actor) : Type 0 where
   pub starts : Starts w a
   pub story : a.notes ≡ protocol_story w a.outcomes
 
+-- a program at its start in the blocking world
 pub record StartsBlocking (s : Settings) (w : Program) (a : Actor) : Type 0 where
   pub starts : Starts w a
   pub story : BlockingStory s w a.outcomes a.notes
 
+-- no program has notes left
 abbrev pub IsOver : List Actor → Type 0
 IsOver actors = All (λ (a : Actor). a.notes ≡ []) actors
 
@@ -276,6 +297,7 @@ pub record Original : Type 0 where
   pub program : Program
   pub settings : Settings
 
+-- an original at its start
 abbrev pub StartsOriginal : Original → Actor → Type 0
 StartsOriginal o a = StartsBlocking o.settings o.program a
 

@@ -1,3 +1,5 @@
+//! What answers a call of an import, and what a script says of answers, areas and devices.
+
 use wa_types::{Name, Value};
 
 /// Bytes that an answer puts into a program's memory from a place on.

@@ -1,3 +1,6 @@
+//! Soundness of types as laws: what fits a valid module goes on fitting it (standard, section 7.5). Each is the contract of a function
+//! that does nothing.
+
 ghost use Rattle.wa_model.specs.Fitting.{AnswersFit, CallsFit, EndsFit, HeightsWithin, OpeningsFit, StepsFit, StretchesFit};
 
 /// From a configuration that fits a valid module there is a reduction: it goes on to one that fits again, or returns, traps

@@ -1,3 +1,5 @@
+//! Flat functions: statements whose operands are locals and constants.
+
 use wa_types::{Instr, ValType, Value};
 
 /// What a flat statement takes in: a local or a constant.

@@ -1,3 +1,5 @@
+//! Laws of modules with more parts behind their own. Each is the contract of a function that does nothing.
+
 ghost use Rattle.wa_model.specs.Growth.{BaseIsValid, CallsAreNamed, EndsStay, InstancesStay, RuntimeStepsStay, StepsStay, StretchesStay};
 
 /// A valid module with more parts behind its own makes each of its own reductions as before, at the same cost.

@@ -1,3 +1,5 @@
+//! Laws of configurations and runs (standard, sections 4.2 and 4.4). Each is the contract of a function that does nothing.
+
 ghost use Rattle.wa_model.specs.Laws.{EndsOneWay, MovesAddUp, OneNext, ProtocolAreMoves, ProtocolDetermined, ProtocolGrows, PrunedRunsSame, RunsAreMoves, RunsDetermined, RunsGrow};
 
 /// A configuration has one next configuration at most, at one cost.

@@ -1,3 +1,5 @@
+//! Laws of modules of which nothing may pause. Each is the contract of a function that does nothing.
+
 ghost use Rattle.wa_model.specs.Quiet.{NoneTold, QuietAreRewritten, QuietBehave, RuntimeIsValid};
 
 /// A valid module without a reserved name is valid with the runtime's parts behind its own.

@@ -1,6 +1,7 @@
 -- The operations on integers (standard, section 4.3), over the width N in bits. An integer is its unsigned
 -- number, below 2 ^ N.
-use Rattle.std.specs.Prelude.{ℕ, zero, suc, ◌+◌, ◌-◌, ◌*◌, ◌/◌, ◌%◌, ◌^◌, Bool, not, ◌==◌, nat_lt, nat_le, if◌then◌else◌, ℤ, pos, negsuc, ◌-ℤ◌, int_lt, int_le, int_div, int_rem, List, [], ◌∷◌, sum, Result, Ok, Err, bit_and, bit_or, bit_xor}
+use Rattle.std.specs.Prelude.{ℕ, zero, suc, ◌+◌, ◌-◌, ◌*◌, ◌/◌, ◌%◌, ◌^◌, Bool, not, ◌==◌, nat_lt, nat_le, if◌then◌else◌, ℤ, pos, negsuc, ◌-ℤ◌, int_lt, int_le, int_div, int_rem, List, []}
+use Rattle.std.specs.Prelude.{◌∷◌, sum, Result, Ok, Err, bit_and, bit_or, bit_xor}
 use Rattle.std.specs.List.{prefix_len, suffix_len}
 use Rattle.std.specs.Ordering.{int_eq}
 use Rattle.wa_types.specs.declared.values.Trap.{Trap}
@@ -151,7 +152,7 @@ ige_u i j = of_bool (nat_le j i)
 abbrev pub ige_s : ℕ → ℕ → ℕ → ℕ
 ige_s N i j = of_bool (int_le (signed N j) (signed N i))
 
--- ---- conversions (4.3.3)
+-- ---- conversions (4.3.4)
 
 -- to the low N bits (wrap)
 abbrev pub wrap : ℕ → ℕ → ℕ

@@ -1,3 +1,5 @@
+//! Classes of numeric operators, by the operands that they take and what they give (standard, section 2.4.1).
+
 ghost use Rattle.std.specs.Prelude.{◌≡◌};
 
 use wa_types::NumOp;

@@ -43,7 +43,7 @@ pub fn unary(op: NumOp, a: Value) -> Value
     }
 }
 
-/// The value of a conversion between the two integer types (standard, section 4.3.3).
+/// The value of a conversion between the two integer types (standard, section 4.3.4).
 pub fn convert(op: NumOp, a: Value) -> Value
     requires class { class_of op ≡ Conversion }
     requires types { operand_types op ≡ type_of a ∷ [] }

@@ -1,3 +1,5 @@
+//! What a load makes of the bytes that it reads (standard, section 4.4.4.1).
+
 ghost use Rattle.std.specs.Prelude.{◌≡◌, ◌*◌, ◌^◌, ◌<◌, ◌≤◌, ◌⊎◌};
 ghost use Rattle.wa_types.specs.Frames.{width};
 ghost use Rattle.wa_ops.specs.Integers.{extend_s};

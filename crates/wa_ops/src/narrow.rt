@@ -1,3 +1,5 @@
+//! Integer operators at 32 bits (standard, section 4.3.2).
+
 ghost use Rattle.std.specs.Prelude.{◌≡◌, [], ◌∷◌, Some, Ok};
 ghost use Rattle.wa_types.specs.declared.values.ValType.TheVariants.{I32};
 ghost use Rattle.wa_types.specs.Operators.{operand_types};

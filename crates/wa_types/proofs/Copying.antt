@@ -6,7 +6,8 @@ use Rattle.wa_types.specs.Syntax.{Code}
 use Rattle.wa_types.specs.View.{in_front, onto, code}
 use Rattle.wa_types.proofs.ViewLemmas.{code_step, code_empty, onto_append, onto_done, onto_none}
 
-pub copy_step : (xs new body : List Instr) (i : ℕ) (x y : Instr) (k : Code) → new ≡ xs ++ y ∷ [] → ((rest : Code) → in_front y rest ≡ in_front x rest) → i < length body → x ≡ get_or body i x → onto xs (code (drop i body)) ≡ k → onto new (code (drop (i + 1) body)) ≡ k
+pub copy_step : (xs new body : List Instr) (i : ℕ) (x y : Instr) (k : Code) → new ≡ xs ++ y ∷ [] → ((rest : Code) → in_front y rest ≡ in_front x rest) → i < length body
+    → x ≡ get_or body i x → onto xs (code (drop i body)) ≡ k → onto new (code (drop (i + 1) body)) ≡ k
 copy_step xs new body i x y k e same h at before =
     ap (λ s. onto s (code (drop (i + 1) body))) e ∙ onto_append xs y _ ∙ ap (onto xs) (same _ ∙ sym (code_step body i x h at)) ∙ before
 
@@ -16,7 +17,8 @@ map_append_one : {X Y : Type 0} (f : X → Y) (xs : List X) (x : X) → map f (x
 map_append_one f [] x = refl
 map_append_one f (y ∷ ys) x = ap (λ z. f y ∷ z) (map_append_one f ys x)
 
-pub map_step : {X Y : Type 0} (f : X → Y) (xs ys new : List X) (i : ℕ) (x y : X) → new ≡ ys ++ y ∷ [] → f y ≡ f x → i < length xs → x ≡ get_or xs i x → map f ys ≡ map f (take i xs) → map f new ≡ map f (take (i + 1) xs)
+pub map_step : {X Y : Type 0} (f : X → Y) (xs ys new : List X) (i : ℕ) (x y : X) → new ≡ ys ++ y ∷ [] → f y ≡ f x → i < length xs → x ≡ get_or xs i x → map f ys ≡ map f (take i xs)
+    → map f new ≡ map f (take (i + 1) xs)
 map_step f xs ys new i x y e same h at before =
     ap (map f) e ∙ map_append_one f ys y ∙ (λ j. before j ++ (same ∙ ap f at) j ∷ []) ∙ sym (map_append_one f (take i xs) (get_or xs i x)) ∙ ap (map f) (sym (take_more xs i x h))
 

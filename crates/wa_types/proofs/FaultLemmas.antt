@@ -3,7 +3,8 @@ use Rattle.std.proofs.Common.{arith, ◌≡◌, ℕ, suc, ◌+◌, ◌<◌, inl,
 use Rattle.wa_types.specs.Syntax.{Code, Func, Module}
 use Rattle.wa_types.specs.Typing.{Around, listed, Typed}
 use Rattle.wa_types.specs.Modules.{func_imports, around}
-use Rattle.wa_types.specs.Validity.{types_there, funcs_there, tables_there, memories_there, globals_there, all_limits_fit, one_each, all_constant, names_differ, start_lawful, one_result, Valid, unless, broken_outside}
+use Rattle.wa_types.specs.Validity.{types_there, funcs_there, tables_there, memories_there, globals_there, all_limits_fit, one_each, all_constant, names_differ, start_lawful, one_result}
+use Rattle.wa_types.specs.Validity.{Valid, unless, broken_outside}
 use Rattle.wa_types.specs.FirstFault.{BodyFault, FuncFault, FirstFault, cut}
 use Rattle.wa_types.proofs.TypingLemmas.{at_upto, typed_upto, upto_fewer, upto_less, less_on}
 use Rattle.wa_types.proofs.Cuts.{cut_typed, typed_cut}
@@ -17,7 +18,8 @@ no_sooner c body r s at to f g lt = f.fails (upto_less s (suc r) c (c.result ∷
 
 no_less : (c : Around) (body : Code) (r s at to : ℕ) → BodyFault c body r at → BodyFault c body s to → at ≡ to → r < s → ⊥
 no_less c body r s at to f g e lt =
-    f.fails (at_upto (suc r) c (c.result ∷ []) body (listed c.result) [] (suc to) (suc at) (omega arith) (upto_fewer s (suc r) c (c.result ∷ []) body (listed c.result) [] (suc to) (omega arith) g.before))
+    f.fails (at_upto (suc r) c (c.result ∷ []) body (listed c.result) [] (suc to) (suc at) (omega arith)
+    (upto_fewer s (suc r) c (c.result ∷ []) body (listed c.result) [] (suc to) (omega arith) g.before))
 
 same_place : (c : Around) (body : Code) (r s at to : ℕ) → BodyFault c body r at → BodyFault c body s to → at ≡ to
 same_place c body r s at to f g = elim (less_on at to) [

@@ -26,7 +26,8 @@ pub at_long : (bits : ℕ) (bytes : List ℕ) (at : ℕ) → at < length bytes �
 unfolding unsigned_at
 at_long bits bytes at h high few = at_byte bits bytes at h ∙ rw (le-ltb _ _ high, le-ltb _ _ few) refl
 
-pub at_more : (bits : ℕ) (bytes : List ℕ) (at : ℕ) → at < length bytes → 128 ≤ get_or bytes at 0 → 7 < bits → unsigned_at bits (drop at bytes) at ≡ (above (get_or bytes at 0) (unsigned_at (bits - 7) (drop (at + 1) bytes) (at + 1)).0, (unsigned_at (bits - 7) (drop (at + 1) bytes) (at + 1)).1)
+pub at_more : (bits : ℕ) (bytes : List ℕ) (at : ℕ) → at < length bytes → 128 ≤ get_or bytes at 0 → 7 < bits
+    → unsigned_at bits (drop at bytes) at ≡ (above (get_or bytes at 0) (unsigned_at (bits - 7) (drop (at + 1) bytes) (at + 1)).0, (unsigned_at (bits - 7) (drop (at + 1) bytes) (at + 1)).1)
 unfolding unsigned_at
 at_more bits bytes at h high many = at_byte bits bytes at h ∙ rw (le-ltb _ _ high, lt-ltb _ _ many) refl
 
@@ -61,7 +62,8 @@ pub s_long : (bits : ℕ) (bytes : List ℕ) (at : ℕ) → at < length bytes �
 unfolding signed_at
 s_long bits bytes at h high few = s_byte bits bytes at h ∙ rw (le-ltb _ _ high, le-ltb _ _ few) refl
 
-pub s_more : (bits : ℕ) (bytes : List ℕ) (at : ℕ) → at < length bytes → 128 ≤ get_or bytes at 0 → 7 < bits → signed_at bits (drop at bytes) at ≡ (above (get_or bytes at 0) (signed_at (bits - 7) (drop (at + 1) bytes) (at + 1)).0, (signed_at (bits - 7) (drop (at + 1) bytes) (at + 1)).1)
+pub s_more : (bits : ℕ) (bytes : List ℕ) (at : ℕ) → at < length bytes → 128 ≤ get_or bytes at 0 → 7 < bits
+    → signed_at bits (drop at bytes) at ≡ (above (get_or bytes at 0) (signed_at (bits - 7) (drop (at + 1) bytes) (at + 1)).0, (signed_at (bits - 7) (drop (at + 1) bytes) (at + 1)).1)
 unfolding signed_at
 s_more bits bytes at h high many = s_byte bits bytes at h ∙ rw (le-ltb _ _ high, lt-ltb _ _ many) refl
 

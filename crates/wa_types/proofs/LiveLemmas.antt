@@ -4,7 +4,8 @@ use Rattle.std.specs.List.{list_any}
 use Rattle.std.proofs.lemmas.Bool.{eqb-true, eq-eqb}
 use Rattle.wa_types.specs.Syntax.{Plain, basic, local_get, local_set, local_tee, br, br_if, br_table, return, unreachable, call, call_indirect, a_block, a_loop, Code, done, plain, nest, branch, Func}
 use Rattle.wa_types.specs.Pruned.{pruned}
-use Rattle.wa_types.specs.Liveness.{Label, goes_behind, goes_again, Position, position, behind, target, SomeTarget, PlainLeads, EndLeads, Leads, Reads, writes_plain, writes, ReadsFirst, ends_here, goes_on, behind_calls, LiveAfter, told_at, live_plain, live, told, live_at, live_from, is_live_after}
+use Rattle.wa_types.specs.Liveness.{Label, goes_behind, goes_again, Position, position, behind, target, SomeTarget, PlainLeads, EndLeads, Leads, Reads, writes_plain, writes, ReadsFirst}
+use Rattle.wa_types.specs.Liveness.{ends_here, goes_on, behind_calls, LiveAfter, told_at, live_plain, live, told, live_at, live_from, is_live_after}
 
 -- either of two tests
 either_true : (a b : Bool) → (a || b) ≡ true → (a ≡ true) ⊎ (b ≡ true)
@@ -36,20 +37,24 @@ abbrev EndSound : ℕ → List Label → Bool → Type 0
 EndSound x ls out = out ≡ true → (there : Position) × EndLeads ls there × ReadsFirst x there
 
 -- a path goes on from one instruction to the next
-onward : (x : ℕ) (p : Plain) (rest : Code) (ls : List Label) → writes_plain x p ≡ false → PlainLeads p rest ls (position rest ls) → ReadsFirst x (position rest ls) → ReadsFirst x (position (plain p rest) ls)
+onward : (x : ℕ) (p : Plain) (rest : Code) (ls : List Label) → writes_plain x p ≡ false → PlainLeads p rest ls (position rest ls) → ReadsFirst x (position rest ls)
+    → ReadsFirst x (position (plain p rest) ls)
 onward x p rest ls unwritten leads h = goes_on (position (plain p rest) ls) (position rest ls) unwritten leads h
 
-to_target : (x : ℕ) (p : Plain) (rest : Code) (ls : List Label) (there : Position) → writes_plain x p ≡ false → PlainLeads p rest ls there → ReadsFirst x there → ReadsFirst x (position (plain p rest) ls)
+to_target : (x : ℕ) (p : Plain) (rest : Code) (ls : List Label) (there : Position) → writes_plain x p ≡ false → PlainLeads p rest ls there → ReadsFirst x there
+    → ReadsFirst x (position (plain p rest) ls)
 to_target x p rest ls there unwritten leads h = goes_on (position (plain p rest) ls) there unwritten leads h
 
-some_target : (x : ℕ) (ls : List Label) (tos : List Bool) (labels : List ℕ) → TargetsSound x ls tos → list_any (told_at tos) labels ≡ true → (there : Position) × SomeTarget ls labels there × ReadsFirst x there
+some_target : (x : ℕ) (ls : List Label) (tos : List Bool) (labels : List ℕ) → TargetsSound x ls tos → list_any (told_at tos) labels ≡ true
+    → (there : Position) × SomeTarget ls labels there × ReadsFirst x there
 some_target x ls tos [] sound h = cc
 some_target x ls tos (l ∷ labels) sound h = elim (either_true (told_at tos l) (list_any (told_at tos) labels) h) [
   | inl e ↦ let w = sound l e in (w.0, inl w.1, w.2)
   | inr e ↦ let w = some_target x ls tos labels sound e in (w.0, inr w.1, w.2)
 ]
 
-plain_sound : (x : ℕ) (ls : List Label) (tos : List Bool) (p : Plain) (rest : Code) (b : Bool) → TargetsSound x ls tos → (b ≡ true → ReadsFirst x (position rest ls)) → live_plain x tos p b ≡ true → ReadsFirst x (position (plain p rest) ls)
+plain_sound : (x : ℕ) (ls : List Label) (tos : List Bool) (p : Plain) (rest : Code) (b : Bool) → TargetsSound x ls tos → (b ≡ true → ReadsFirst x (position rest ls))
+    → live_plain x tos p b ≡ true → ReadsFirst x (position (plain p rest) ls)
 plain_sound x ls tos (local_get y) rest b sound go h = elim (either_true (nat_eq x y) b h) [
   | inl e ↦ ends_here (position (plain (local_get y) rest) ls) (eqb-true x y e)
   | inr e ↦ onward x (local_get y) rest ls refl refl (go e)
@@ -72,12 +77,14 @@ plain_sound x ls tos (call f) rest b sound go h = onward x (call f) rest ls refl
 plain_sound x ls tos (call_indirect t) rest b sound go h = onward x (call_indirect t) rest ls refl refl (go h)
 
 -- one more label
-more_targets : (x : ℕ) (y : Label) (ls : List Label) (tos : List Bool) (b : Bool) → TargetsSound x ls tos → ((l : ℕ) → target (y ∷ ls) (suc l) ≡ target ls l) → (b ≡ true → (there : Position) × (target (y ∷ ls) 0 ≡ Some there) × ReadsFirst x there) → TargetsSound x (y ∷ ls) (b ∷ tos)
+more_targets : (x : ℕ) (y : Label) (ls : List Label) (tos : List Bool) (b : Bool) → TargetsSound x ls tos → ((l : ℕ) → target (y ∷ ls) (suc l) ≡ target ls l)
+    → (b ≡ true → (there : Position) × (target (y ∷ ls) 0 ≡ Some there) × ReadsFirst x there) → TargetsSound x (y ∷ ls) (b ∷ tos)
 more_targets x y ls tos b sound deeper first zero h = first h
 more_targets x y ls tos b sound deeper first (suc l) h = let w = sound l h in (w.0, deeper l ∙ w.1, w.2)
 
 -- behind a block or an if
-behind_targets : (x : ℕ) (rest : Code) (ls : List Label) (tos : List Bool) (b : Bool) → TargetsSound x ls tos → (b ≡ true → ReadsFirst x (position rest ls)) → TargetsSound x (goes_behind rest ∷ ls) (b ∷ tos)
+behind_targets : (x : ℕ) (rest : Code) (ls : List Label) (tos : List Bool) (b : Bool) → TargetsSound x ls tos → (b ≡ true → ReadsFirst x (position rest ls))
+    → TargetsSound x (goes_behind rest ∷ ls) (b ∷ tos)
 behind_targets x rest ls tos b sound go =
     more_targets x (goes_behind rest) ls tos b sound (λ l. refl) (λ e. (position rest ls, refl, go e))
 
@@ -97,7 +104,8 @@ live_sound x (plain p rest) ls tos out sound end h =
 live_sound x (nest a_block r body rest) ls tos out sound end h =
     let go : live x tos out rest ≡ true → ReadsFirst x (position rest ls) = λ e. live_sound x rest ls tos out sound end e in
     goes_on (position (nest a_block r body rest) ls) (position body (goes_behind rest ∷ ls)) refl refl
-    (live_sound x body (goes_behind rest ∷ ls) (live x tos out rest ∷ tos) (live x tos out rest) (behind_targets x rest ls tos (live x tos out rest) sound go) (behind_end x (goes_behind rest) ls (live x tos out rest) go) h)
+    (live_sound x body (goes_behind rest ∷ ls) (live x tos out rest ∷ tos) (live x tos out rest) (behind_targets x rest ls tos (live x tos out rest) sound go)
+    (behind_end x (goes_behind rest) ls (live x tos out rest) go) h)
 live_sound x (nest a_loop r body rest) ls tos out sound end h =
     let go : live x tos out rest ≡ true → ReadsFirst x (position rest ls) = λ e. live_sound x rest ls tos out sound end e in
     goes_on (position (nest a_loop r body rest) ls) (position body (goes_again body rest ∷ ls)) refl refl
@@ -107,8 +115,10 @@ live_sound x (branch r a b rest) ls tos out sound end h =
     let targets = behind_targets x rest ls tos (live x tos out rest) sound go in
     let ends = behind_end x (goes_behind rest) ls (live x tos out rest) go in
     elim (either_true (live x (live x tos out rest ∷ tos) (live x tos out rest) a) (live x (live x tos out rest ∷ tos) (live x tos out rest) b) h) [
-      | inl e ↦ goes_on (position (branch r a b rest) ls) (position a (goes_behind rest ∷ ls)) refl (inl refl) (live_sound x a (goes_behind rest ∷ ls) (live x tos out rest ∷ tos) (live x tos out rest) targets ends e)
-      | inr e ↦ goes_on (position (branch r a b rest) ls) (position b (goes_behind rest ∷ ls)) refl (inr refl) (live_sound x b (goes_behind rest ∷ ls) (live x tos out rest ∷ tos) (live x tos out rest) targets ends e)
+      | inl e ↦ goes_on (position (branch r a b rest) ls) (position a (goes_behind rest ∷ ls)) refl (inl refl)
+          (live_sound x a (goes_behind rest ∷ ls) (live x tos out rest ∷ tos) (live x tos out rest) targets ends e)
+      | inr e ↦ goes_on (position (branch r a b rest) ls) (position b (goes_behind rest ∷ ls)) refl (inr refl)
+          (live_sound x b (goes_behind rest ∷ ls) (live x tos out rest ∷ tos) (live x tos out rest) targets ends e)
     ]
 
 -- what is told under labels is so
@@ -124,7 +134,13 @@ told_sound x (goes_again body rest ∷ ls) =
     let k = live x (told x ls).tos (told x ls).out rest in
     let go : live x (told x ls).tos (told x ls).out rest ≡ true → ReadsFirst x (position rest ls) = λ e. live_sound x rest ls (told x ls).tos (told x ls).out w.0 w.1 e in
     let ends = behind_end x (goes_again body rest) ls (live x (told x ls).tos (told x ls).out rest) go in (
-      more_targets x (goes_again body rest) ls (told x ls).tos (live x (false ∷ tos) k body) w.0 (λ l. refl) (λ e. (position body (goes_again body rest ∷ ls), refl, live_sound x body (goes_again body rest ∷ ls) (false ∷ (told x ls).tos) (live x (told x ls).tos (told x ls).out rest) (again_targets x body rest ls (told x ls).tos w.0) ends e)),
+      more_targets x (goes_again body rest) ls (told x ls).tos (live x (false ∷ tos) k body) w.0 (λ l. refl)
+          (λ e. (
+            position body (goes_again body rest ∷ ls),
+            refl,
+            live_sound x body (goes_again body rest ∷ ls) (false ∷ (told x ls).tos) (live x (told x ls).tos (told x ls).out rest)
+                (again_targets x body rest ls (told x ls).tos w.0) ends e,
+          )),
       ends,
     )
 
@@ -160,7 +176,8 @@ any_told x ls [] there s h = absurd s
 any_told x ls (l ∷ labels) there (inl e) h = or_left _ _ (target_told x ls l there e h)
 any_told x ls (l ∷ labels) there (inr s) h = or_right _ _ (any_told x ls labels there s h)
 
-plain_told : (x : ℕ) (ls : List Label) (p : Plain) (rest : Code) (there : Position) → writes_plain x p ≡ false → PlainLeads p rest ls there → live_at x there ≡ true → live_plain x (told x ls).tos p (live x (told x ls).tos (told x ls).out rest) ≡ true
+plain_told : (x : ℕ) (ls : List Label) (p : Plain) (rest : Code) (there : Position) → writes_plain x p ≡ false → PlainLeads p rest ls there → live_at x there ≡ true
+    → live_plain x (told x ls).tos p (live x (told x ls).tos (told x ls).out rest) ≡ true
 plain_told x ls (local_get y) rest there w leads h = or_right (nat_eq x y) _ (moved x there (position rest ls) leads h)
 plain_told x ls (local_set y) rest there w leads h = and_both (nat_eq x y) _ w (moved x there (position rest ls) leads h)
 plain_told x ls (local_tee y) rest there w leads h = and_both (nat_eq x y) _ w (moved x there (position rest ls) leads h)

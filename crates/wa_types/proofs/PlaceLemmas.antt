@@ -17,7 +17,13 @@ unfolding behind_calls calls_of
 behind_each ls done = refl
 behind_each ls (plain p rest) = onto_position (callee p) (position rest ls) (behind_calls ls rest) (calls_of rest) (behind_each ls rest)
 behind_each ls (nest s r body rest) =
-    omega (arith, length-append (behind_calls (label_of s body rest ∷ ls) body) (behind_calls ls rest), length-append (calls_of body) (calls_of rest), behind_each (label_of s body rest ∷ ls) body, behind_each ls rest)
+    omega (
+      arith,
+      length-append (behind_calls (label_of s body rest ∷ ls) body) (behind_calls ls rest),
+      length-append (calls_of body) (calls_of rest),
+      behind_each (label_of s body rest ∷ ls) body,
+      behind_each ls rest,
+    )
 behind_each ls (branch r a b rest) =
     omega (
       arith,
@@ -48,7 +54,10 @@ onto_point : (o : Option Callee) (ops : List ValType) (rest : List (List ValType
 onto_point None ops rest cs e = e
 onto_point (Some x) ops rest cs e = omega (arith, e)
 
-plain_point : (c : Around) (ls : List (Option ValType)) (p : Plain) (rest : Code) (under ops next : List ValType) (b : Bool) → is_last p ≡ b → length (call_points c ls (pruned rest) under next) ≡ length (calls_of (pruned rest)) → length (if_call (callee p) (ops ++ under) ++ unless_last b (call_points c ls (if b then done else pruned rest) under next)) ≡ length (callee_onto (callee p) (calls_of (if b then done else pruned rest)))
+plain_point : (c : Around) (ls : List (Option ValType)) (p : Plain) (rest : Code) (under ops next : List ValType) (b : Bool) → is_last p ≡ b
+    → length (call_points c ls (pruned rest) under next) ≡ length (calls_of (pruned rest))
+    → length (if_call (callee p) (ops ++ under) ++ unless_last b (call_points c ls (if b then done else pruned rest) under next))
+    ≡ length (callee_onto (callee p) (calls_of (if b then done else pruned rest)))
 unfolding calls_of
 plain_point c ls p rest under ops next true e h = onto_point (callee p) (ops ++ under) [] [] refl
 plain_point c ls p rest under ops next false e h = onto_point (callee p) (ops ++ under) (call_points c ls (pruned rest) under next) (calls_of (pruned rest)) h
@@ -71,5 +80,6 @@ point_each c ls (nest s r body rest) under ops =
       point_each c ls rest under (listed r ++ ops),
     )
 point_each c ls (branch r a b rest) under ops =
-    three (call_points c (r ∷ ls) (pruned a) (drop 1 ops ++ under) []) (call_points c (r ∷ ls) (pruned b) (drop 1 ops ++ under) []) (call_points c ls (pruned rest) under (listed r ++ drop 1 ops)) (calls_of (pruned a)) (calls_of (pruned b)) (calls_of (pruned rest))
+    three (call_points c (r ∷ ls) (pruned a) (drop 1 ops ++ under) []) (call_points c (r ∷ ls) (pruned b) (drop 1 ops ++ under) [])
+    (call_points c ls (pruned rest) under (listed r ++ drop 1 ops)) (calls_of (pruned a)) (calls_of (pruned b)) (calls_of (pruned rest))
     (point_each c (r ∷ ls) a (drop 1 ops ++ under) []) (point_each c (r ∷ ls) b (drop 1 ops ++ under) []) (point_each c ls rest under (listed r ++ drop 1 ops))

@@ -4,9 +4,11 @@ use Rattle.std.proofs.Math.Seq.{drop-append_seam}
 use Rattle.wa_types.specs.declared.values.ValType.{ValType}
 use Rattle.wa_types.specs.declared.values.ValType.TheVariants.{I32}
 use Rattle.wa_types.specs.Accesses.{AccessRow, load_row, store_row}
-use Rattle.wa_types.specs.Syntax.{Basic, nop, drop as drop_operand, select, const, num, global_get, global_set, load, store, memory_size, memory_grow, Plain, basic, local_get, local_set, local_tee, br, br_if, br_table, return, unreachable, call, call_indirect, Code, done, plain, nest, branch, FuncType}
+use Rattle.wa_types.specs.Syntax.{Basic, nop, drop as drop_operand, select, const, num, global_get, global_set, load, store, memory_size, memory_grow, Plain, basic, local_get, local_set}
+use Rattle.wa_types.specs.Syntax.{local_tee, br, br_if, br_table, return, unreachable, call, call_indirect, Code, done, plain, nest, branch, FuncType}
 use Rattle.wa_types.specs.Pruned.{is_last}
-use Rattle.wa_types.specs.Typing.{GlobalType, Around, Sig, moves, leaves, drops, selects, lacks, late, listed, sig, basic_sig, may_jump, calls, calls_at, gets, sets, tees, gets_global, sets_global, accesses, loads, stores, with_memory, Takes, label, Types}
+use Rattle.wa_types.specs.Typing.{GlobalType, Around, Sig, moves, leaves, drops, selects, lacks, late, listed, sig, basic_sig, may_jump, calls, calls_at, gets, sets, tees, gets_global}
+use Rattle.wa_types.specs.Typing.{sets_global, accesses, loads, stores, with_memory, Takes, label, Types}
 use Rattle.wa_types.specs.Points.{Unless, AtPoint, after, unless_last, points}
 
 -- a member of a list
@@ -122,11 +124,15 @@ passes c ls (call x) e = passes_calls (slice_get c.funcs x)
 passes c ls (call_indirect x) e = passes_calls_at c.table (slice_get c.types x)
 
 -- behind an instruction
-behind : (c : Around) (ls : List (Option ValType)) (p : Plain) (rest : Code) (under ops mids all : List ValType) → Takes (sig c ls p) ops mids → (b : Bool) → b ≡ is_last p → (AtPoint c ls rest under mids all → In all (points c ls rest under mids)) → Unless b (AtPoint c ls rest under mids all) → In all (unless_last b (points c ls rest under (after (sig c ls p) ops)))
+behind : (c : Around) (ls : List (Option ValType)) (p : Plain) (rest : Code) (under ops mids all : List ValType) → Takes (sig c ls p) ops mids → (b : Bool) → b ≡ is_last p
+    → (AtPoint c ls rest under mids all → In all (points c ls rest under mids)) → Unless b (AtPoint c ls rest under mids all)
+    → In all (unless_last b (points c ls rest under (after (sig c ls p) ops)))
 behind c ls p rest under ops mids all t true e go h = absurd h
 behind c ls p rest under ops mids all t false e go h = subst (λ (z : List ValType). In all (points c ls rest under z)) (takes_after (sig c ls p) ops mids (passes c ls p (sym e)) t) (go h)
 
-behind_back : (c : Around) (ls : List (Option ValType)) (p : Plain) (rest : Code) (under ops mids all : List ValType) → Takes (sig c ls p) ops mids → (b : Bool) → b ≡ is_last p → (In all (points c ls rest under mids) → AtPoint c ls rest under mids all) → In all (unless_last b (points c ls rest under (after (sig c ls p) ops))) → Unless b (AtPoint c ls rest under mids all)
+behind_back : (c : Around) (ls : List (Option ValType)) (p : Plain) (rest : Code) (under ops mids all : List ValType) → Takes (sig c ls p) ops mids → (b : Bool) → b ≡ is_last p
+    → (In all (points c ls rest under mids) → AtPoint c ls rest under mids all) → In all (unless_last b (points c ls rest under (after (sig c ls p) ops)))
+    → Unless b (AtPoint c ls rest under mids all)
 behind_back c ls p rest under ops mids all t true e go h = absurd h
 behind_back c ls p rest under ops mids all t false e go h = go (subst (λ (z : List ValType). In all (points c ls rest under z)) (sym (takes_after (sig c ls p) ops mids (passes c ls p (sym e)) t)) h)
 

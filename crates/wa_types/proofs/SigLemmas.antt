@@ -3,9 +3,11 @@ use Rattle.std.proofs.Common.{arith, ◌≡◌, ℕ, ◌≤◌, nat_le, List, []
 use Rattle.wa_types.specs.declared.values.ValType.{ValType}
 use Rattle.wa_types.specs.declared.values.ValType.TheVariants.{I32}
 use Rattle.wa_types.specs.Accesses.{AccessRow, load_row, store_row}
-use Rattle.wa_types.specs.Syntax.{Basic, nop, drop, select, const, num, global_get, global_set, load, store, memory_size, memory_grow, Plain, basic, local_get, local_set, local_tee, br, br_if, br_table, return, unreachable, call, call_indirect, FuncType}
+use Rattle.wa_types.specs.Syntax.{Basic, nop, drop, select, const, num, global_get, global_set, load, store, memory_size, memory_grow, Plain, basic, local_get, local_set, local_tee, br}
+use Rattle.wa_types.specs.Syntax.{br_if, br_table, return, unreachable, call, call_indirect, FuncType}
 use Rattle.wa_types.specs.Pruned.{is_last}
-use Rattle.wa_types.specs.Typing.{GlobalType, Around, Sig, moves, leaves, lacks, late, listed, sig, basic_sig, jump, may_jump, jumps, all_there, all_alike, calls, calls_at, gets, sets, tees, gets_global, sets_global, accesses, loads, stores, with_memory, Takes}
+use Rattle.wa_types.specs.Typing.{GlobalType, Around, Sig, moves, leaves, lacks, late, listed, sig, basic_sig, jump, may_jump, jumps, all_there, all_alike, calls, calls_at, gets, sets, tees}
+use Rattle.wa_types.specs.Typing.{gets_global, sets_global, accesses, loads, stores, with_memory, Takes}
 
 -- a rule that operands can't mend is at most 8, and one that is asked behind them from 9 to 16
 abbrev pub Lawful : Sig → Type 0
@@ -30,7 +32,8 @@ lawful_jumps ls labels None = omega arith
 lawful_jumps ls labels (Some r) =
     let seven : 7 ≤ 8 = omega arith in
     let eight : 8 ≤ 8 = omega arith in
-    lawful_if (all_there ls labels) (if all_alike ls r labels then leaves (I32 ∷ listed r) else lacks 8) (lacks 7) (lawful_if (all_alike ls r labels) (leaves (I32 ∷ listed r)) (lacks 8) tt eight) seven
+    lawful_if (all_there ls labels) (if all_alike ls r labels then leaves (I32 ∷ listed r) else lacks 8) (lacks 7)
+    (lawful_if (all_alike ls r labels) (leaves (I32 ∷ listed r)) (lacks 8) tt eight) seven
 
 lawful_calls : (o : Option FuncType) → Lawful (calls o)
 lawful_calls None = omega arith

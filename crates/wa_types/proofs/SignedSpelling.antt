@@ -48,7 +48,8 @@ signed_last text new whole width n b room one e before =
     let k : 10 - length text ≡ suc (9 - length text) = omega arith in
     e ∙ ap (λ s. text ++ s) (sym (ap (λ i. signed_spelled i width n) k ∙ one.byte _)) ∙ before
 
-pub signed_more : (text new whole : List ℕ) (width n : ℕ) → length text < 10 → IsLong width n → new ≡ text ++ (n % 128 + 128) ∷ [] → text ++ signed_spelled (10 - length text) width n ≡ whole → new ++ signed_spelled (10 - length new) (width - 7) (n / 128) ≡ whole
+pub signed_more : (text new whole : List ℕ) (width n : ℕ) → length text < 10 → IsLong width n → new ≡ text ++ (n % 128 + 128) ∷ []
+    → text ++ signed_spelled (10 - length text) width n ≡ whole → new ++ signed_spelled (10 - length new) (width - 7) (n / 128) ≡ whole
 signed_more text new whole width n room long e before =
     let k : 10 - length text ≡ suc (9 - length text) = omega arith in
     let longer : length new ≡ length text + 1 = ap length e ∙ length_push text _ in

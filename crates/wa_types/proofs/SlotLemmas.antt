@@ -1,5 +1,6 @@
 -- The slots of a function are its pairs of a height and a type.
-use Rattle.std.proofs.Common.{arith, ◌≡◌, ℕ, zero, suc, ◌+◌, ◌<◌, ◌≤◌, ◌⊎◌, inl, inr, ◌++◌, length, reverse, slice_get, nat_eq, List, [], ◌∷◌, Some, None, Bool, true, false, ◌&&◌, ◌||◌, refl, ap, sym, ◌∙◌, subst}
+use Rattle.std.proofs.Common.{arith, ◌≡◌, ℕ, zero, suc, ◌+◌, ◌<◌, ◌≤◌, ◌⊎◌, inl, inr, ◌++◌, length, reverse, slice_get, nat_eq, List, [], ◌∷◌, Some, None, Bool, true, false, ◌&&◌, ◌||◌}
+use Rattle.std.proofs.Common.{refl, ap, sym, ◌∙◌, subst}
 use Rattle.std.specs.List.{list_any}
 use Rattle.std.proofs.lemmas.Bool.{eqb-true, eq-eqb}
 use Rattle.std.proofs.lemmas.List.{reverse-append, length-reverse}
@@ -173,7 +174,8 @@ moved_pair test n k h t e f =
 pub pass_pairs : (test : ℕ → ValType → Bool) (n k h : ℕ) (t : ValType) → n ≤ h → h < n + k → test h t ≡ true → list_any (same_pair h t) (pairs_from test n k) ≡ true
 pass_pairs test n zero h t le lt e = absurd (omega (arith, le, lt))
 pass_pairs test n (suc k) h t le lt e = elim (less_on n h) [
-  | inl less ↦ has_onto (test n I32) n h I32 t (pair_onto (test n I64) n I64 (pairs_from test (suc n) k)) (has_onto (test n I64) n h I64 t (pairs_from test (suc n) k) (pass_pairs test (suc n) k h t (omega (arith, less)) (omega (arith, lt)) e))
+  | inl less ↦ has_onto (test n I32) n h I32 t (pair_onto (test n I64) n I64 (pairs_from test (suc n) k))
+      (has_onto (test n I64) n h I64 t (pairs_from test (suc n) k) (pass_pairs test (suc n) k h t (omega (arith, less)) (omega (arith, lt)) e))
   | inr ge ↦ moved_pair test n k h t (omega (arith, le, ge)) e
 ]
 
@@ -182,8 +184,15 @@ pub slots_are_pairs : (m : Module) (f : Func) → Typed (around m f) f.body → 
 slots_are_pairs m f typed h t e =
     let passed = pairs_pass (λ k u. list_any (stands_at k u) (func_points m f)) 0 (greatest (func_points m f)) h t e in
     let w = any_in (stands_at h t) (func_points m f) passed in
-    let s = stands_splits h t w.0 w.2 in
-    (w.0, s.0, s.1, is_visited (around m f) ((around m f).result ∷ []) (pruned f.body) (listed (around m f).result) [] [] w.0 (pruned_types (around m f) ((around m f).result ∷ []) f.body (listed (around m f).result) [] typed) w.1, s.2, s.3)
+    let s = stands_splits h t w.0 w.2 in (
+      w.0,
+      s.0,
+      s.1,
+      is_visited (around m f) ((around m f).result ∷ []) (pruned f.body) (listed (around m f).result) [] [] w.0
+          (pruned_types (around m f) ((around m f).result ∷ []) f.body (listed (around m f).result) [] typed) w.1,
+      s.2,
+      s.3,
+    )
 
 pub pairs_are_slots : (m : Module) (f : Func) → (h : ℕ) (t : ValType) → SlotPair m f h t → list_any (same_pair h t) (SlotPairs m f) ≡ true
 pairs_are_slots m f h t (all, above, lower, at, e, g) =

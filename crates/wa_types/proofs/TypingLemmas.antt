@@ -8,7 +8,9 @@ use Rattle.wa_types.specs.Typing.{Around, Sig, moves, leaves, drops, selects, la
 use Rattle.wa_types.specs.FirstFault.{mid, size, Meets, UpTo}
 use Rattle.wa_types.proofs.SigLemmas.{last_ends}
 
-pruned_plain : (c : Around) (ls : List (Option ValType)) (p : Plain) (rest : Code) (outs ins : List ValType) (h : (mids : List ValType) × Takes (sig c ls p) ins mids × Types c ls rest outs mids) → Types c ls (pruned rest) outs h.0 → (b : Bool) → b ≡ is_last p → (mids : List ValType) × Takes (sig c ls p) ins mids × Types c ls (if b then done else pruned rest) outs mids
+pruned_plain : (c : Around) (ls : List (Option ValType)) (p : Plain) (rest : Code) (outs ins : List ValType)
+    (h : (mids : List ValType) × Takes (sig c ls p) ins mids × Types c ls rest outs mids) → Types c ls (pruned rest) outs h.0 → (b : Bool) → b ≡ is_last p
+    → (mids : List ValType) × Takes (sig c ls p) ins mids × Types c ls (if b then done else pruned rest) outs mids
 unfolding Types
 pruned_plain c ls p rest outs ins h k true e = (outs, last_ends c ls p (sym e) ins h.0 outs h.1, refl)
 pruned_plain c ls p rest outs ins h k false e = (h.0, h.1, k)

@@ -6,8 +6,11 @@ use Rattle.std.specs.declared.alloc.Global.{Global}
 use Rattle.wa_types.specs.declared.values.ValType.{ValType}
 use Rattle.wa_types.specs.declared.instrs.Instr.{Instr, Row_of-Instr, end_of-Instr, more_of-Instr, items-the_row-Instr, items_hidden-the_row-Instr-0, roll-Instr, roll-out-Instr}
 use Rattle.wa_types.specs.declared.instrs.Instr.TheBlock.{hidden-the_row-Instr-0}
-use Rattle.wa_types.specs.declared.instrs.Instr.TheVariants.{Unreachable, Nop, Drop, Select, Return, MemorySize, MemoryGrow, Const, Num, Br, BrIf, BrTable, Call, CallIndirect, LocalGet, LocalSet, LocalTee, GlobalGet, GlobalSet, Load, Store, Block, Loop, If, Block', Loop', If', rolls-Block, rolls-Loop, rolls-If, outs-Block', outs-Loop', outs-If'}
-use Rattle.wa_types.specs.Syntax.{nop, drop as drop_operand, select, const, num, global_get, global_set, load, store, memory_size, memory_grow, Plain, basic, local_get, local_set, local_tee, br, br_if, br_table, return, unreachable, call, call_indirect, a_block, a_loop, Code, done, plain, nest, branch}
+use Rattle.wa_types.specs.declared.instrs.Instr.TheVariants.{Unreachable, Nop, Drop, Select, Return, MemorySize, MemoryGrow, Const, Num, Br, BrIf, BrTable, Call, CallIndirect, LocalGet}
+use Rattle.wa_types.specs.declared.instrs.Instr.TheVariants.{LocalSet, LocalTee, GlobalGet, GlobalSet, Load, Store, Block, Loop, If, Block', Loop', If', rolls-Block, rolls-Loop, rolls-If}
+use Rattle.wa_types.specs.declared.instrs.Instr.TheVariants.{outs-Block', outs-Loop', outs-If'}
+use Rattle.wa_types.specs.Syntax.{nop, drop as drop_operand, select, const, num, global_get, global_set, load, store, memory_size, memory_grow, Plain, basic, local_get, local_set, local_tee}
+use Rattle.wa_types.specs.Syntax.{br, br_if, br_table, return, unreachable, call, call_indirect, a_block, a_loop, Code, done, plain, nest, branch}
 use Rattle.wa_types.specs.View.{in_front, row_code, onto, code}
 
 -- a construct's body is the code of its list

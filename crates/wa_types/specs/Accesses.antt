@@ -4,7 +4,7 @@ use Rattle.std.specs.List.{find}
 use Rattle.wa_types.specs.declared.values.ValType.{ValType}
 use Rattle.wa_types.specs.declared.values.ValType.TheVariants.{I32, I64}
 
--- A row of the table: the opcode, the type of the value, the natural alignment as an exponent of 2, which
+-- A row of the table (2.4.4): the opcode, the type of the value, the natural alignment as an exponent of 2, which
 -- is also that of the number of bytes, and whether a load extends their sign.
 pub record AccessRow : Type 0 where
   pub opcode : ℕ
@@ -12,6 +12,7 @@ pub record AccessRow : Type 0 where
   pub natural : ℕ
   pub signed : Bool
 
+-- the loads of integers (5.4.4)
 abbrev pub load_rows : List AccessRow
 load_rows =
     record { opcode = 0x28; ty = I32; natural = 2; signed = false }
@@ -28,6 +29,7 @@ load_rows =
     ∷ record { opcode = 0x35; ty = I64; natural = 2; signed = false }
     ∷ []
 
+-- the stores of integers (5.4.4)
 abbrev pub store_rows : List AccessRow
 store_rows =
     record { opcode = 0x36; ty = I32; natural = 2; signed = false }
@@ -39,10 +41,10 @@ store_rows =
     ∷ record { opcode = 0x3E; ty = I64; natural = 2; signed = false }
     ∷ []
 
--- the load of this opcode, where there is one
+-- the load of this opcode, where there is one (5.4.4)
 abbrev pub load_row : ℕ → Option AccessRow
 load_row op = find (λ row. row.opcode == op) load_rows
 
--- the store of this opcode, where there is one
+-- the store of this opcode, where there is one (5.4.4)
 abbrev pub store_row : ℕ → Option AccessRow
 store_row op = find (λ row. row.opcode == op) store_rows

@@ -1,7 +1,8 @@
 -- Which bytes begin a file: items in an order that the grammar allows, and a part of one more (standard,
 -- section 5). The grammar is a stack of goals, which say what may come next; an item takes the first goal away
 -- and puts in its place what has to follow.
-use Rattle.std.specs.Prelude.{◌≡◌, ℕ, ◌+◌, ◌-◌, ◌<◌, ◌≤◌, ◌⊎◌, ◌==◌, ◌&&◌, ◌||◌, nat_le, nat_lt, List, [], ◌∷◌, ◌++◌, map, length, take, Option, Some, None, Err, Bool, true, false, not, if◌then◌else◌, IsUtf8}
+use Rattle.std.specs.Prelude.{◌≡◌, ℕ, ◌+◌, ◌-◌, ◌<◌, ◌≤◌, ◌⊎◌, ◌==◌, ◌&&◌, ◌||◌, nat_le, nat_lt, List, [], ◌∷◌, ◌++◌, map, length, take, Option, Some, None, Err, Bool, true, false, not}
+use Rattle.std.specs.Prelude.{if◌then◌else◌, IsUtf8}
 use Rattle.wa_types.specs.declared.leb.LebFault.TheVariants.{Short}
 use Rattle.wa_types.specs.Leb.{IsUnsigned, IsSigned, unsigned_at, signed_at}
 use Rattle.wa_types.specs.Encoding.{preamble}
@@ -168,6 +169,7 @@ operands some_labels = count some_indices ∷ number ∷ []
 operands (a_constant bits) = signed bits ∷ []
 operands (a_float n) = float_bytes n ∷ []
 
+-- the goals of what follows an opcode, where it is one, and more behind (5.4)
 abbrev pub operands_of : Option Follows → List Goal → Option (List Goal)
 operands_of None more = None
 operands_of (Some f) more = Some (operands f ++ more)
@@ -210,11 +212,13 @@ pub data Closing : Type 0 where
   open_ended : Closing
   must must_not_before : (end : ℕ) → Closing
 
+-- how a goal stands to an end
 abbrev pub closing : Goal → Closing
 closing (until end) = must end
 closing (rest end) = must_not_before end
 closing _ = open_ended
 
+-- what is wanted at this place, by how the first goal stands to its end: `here` with it, `later` behind it
 abbrev pub passed : ℕ → Closing → (later here : Option (List Goal)) → Option (List Goal)
 passed at open_ended later here = here
 passed at (must end) later here = if at == end then later else None
@@ -232,6 +236,7 @@ end_of (until end) = Some end
 end_of (rest end) = Some end
 end_of _ = None
 
+-- this place is before the end, where there is one
 abbrev pub IsBefore : ℕ → Option ℕ → Type 0
 IsBefore at None = Unit {0}
 IsBefore at (Some end) = at < end
@@ -274,7 +279,7 @@ start = map exact preamble ++ sections 0 0 ∷ []
 abbrev pub Begun : List ℕ → Type 0
 Begun bytes = BegunFrom 0 start bytes
 
--- The bytes are a whole file: they lead to where sections may stand, and no function is without a body.
+-- The bytes are a whole file (5.5.15): they lead to where sections may stand, and no function is without a body.
 abbrev pub IsWhole : List ℕ → Type 0
 IsWhole bytes = (last : ℕ) × Leads 0 start bytes (sections last 0 ∷ [])
 

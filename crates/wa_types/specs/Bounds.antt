@@ -25,6 +25,7 @@ code_weight m (branch r a b rest) = 1 + code_weight m a + code_weight m b + code
 abbrev pub Weight : Module → Func → ℕ
 Weight m f = code_weight m (pruned f.body) + length (locals_of m f)
 
+-- the weight of a function that is there, else 0
 abbrev pub weight_of_found : Module → Option Func → ℕ
 weight_of_found m None = 0
 weight_of_found m (Some f) = Weight m f

@@ -17,7 +17,9 @@ use Rattle.wa_types.specs.declared.syntax.Space.TheVariants.{Func as a_func, Tab
 use Rattle.wa_types.specs.declared.syntax.Export.{Export}
 use Rattle.wa_types.specs.Operators.{opcode_of}
 use Rattle.wa_types.specs.Leb.{shortest, shortest_signed}
-use Rattle.wa_types.specs.Syntax.{Basic, nop, drop, select, const, num, global_get, global_set, load, store, memory_size, memory_grow, Plain, basic, local_get, local_set, local_tee, br, br_if, br_table, return, unreachable, call, call_indirect, Shape, a_block, a_loop, Code, done, plain, nest, branch, FuncType, Func, GlobalDef, Elem, Segment, Custom, Module}
+use Rattle.wa_types.specs.Syntax.{Basic, nop, drop, select, const, num, global_get, global_set, load, store, memory_size, memory_grow, Plain, basic, local_get, local_set, local_tee, br}
+use Rattle.wa_types.specs.Syntax.{br_if, br_table, return, unreachable, call, call_indirect, Shape, a_block, a_loop, Code, done, plain, nest, branch, FuncType, Func, GlobalDef, Elem}
+use Rattle.wa_types.specs.Syntax.{Segment, Custom, Module}
 
 -- a list of items, with their number (5.1.3)
 abbrev pub vector : {X : Type 0} → (X → List ℕ) → List X → List ℕ
@@ -45,11 +47,12 @@ block_type_byte (Some t) = type_byte t
 abbrev pub func_type_bytes : FuncType → List ℕ
 func_type_bytes t = 0x60 ∷ (vector (λ p. type_byte p ∷ []) t.params ++ vector (λ r. type_byte r ∷ []) t.results)
 
+-- limits by whether they have a maximum (5.3.4)
 abbrev pub max_bytes : ℕ → Option ℕ → List ℕ
 max_bytes low None = 0x00 ∷ shortest low
 max_bytes low (Some high) = 0x01 ∷ (shortest low ++ shortest high)
 
--- limits (5.3.4)
+-- limits, as which a memory type is written (5.3.4, 5.3.5)
 abbrev pub limits_bytes : Limits → List ℕ
 limits_bytes l = max_bytes l.min l.max
 
@@ -57,6 +60,7 @@ limits_bytes l = max_bytes l.min l.max
 abbrev pub table_bytes : Limits → List ℕ
 table_bytes l = 0x70 ∷ limits_bytes l
 
+-- whether a global is mutable (5.3.7)
 abbrev pub mutable_byte : Bool → ℕ
 mutable_byte false = 0x00
 mutable_byte true = 0x01
@@ -98,11 +102,12 @@ plain_bytes unreachable = 0x00 ∷ []
 plain_bytes (call x) = 0x10 ∷ shortest x
 plain_bytes (call_indirect x) = 0x11 ∷ (shortest x ++ 0x00 ∷ [])
 
+-- the opcode of a block or a loop (5.4.1)
 abbrev pub shape_byte : Shape → ℕ
 shape_byte a_block = 0x02
 shape_byte a_loop = 0x03
 
--- an else arm with these bytes, left out where it is empty
+-- an else arm with these bytes, left out where it is empty (5.4.1)
 abbrev pub else_bytes : Code → List ℕ → List ℕ
 else_bytes done bytes = []
 else_bytes _ bytes = 0x05 ∷ bytes
@@ -118,6 +123,7 @@ code_bytes (branch r a b rest) = 0x04 ∷ block_type_byte r ∷ (code_bytes a ++
 abbrev pub expression_bytes : Code → List ℕ
 expression_bytes c = code_bytes c ++ 0x0B ∷ []
 
+-- two value types are one (2.3.1)
 abbrev pub same_type : ValType → ValType → Bool
 same_type I32 I32 = true
 same_type I64 I64 = true
@@ -142,6 +148,7 @@ run_bytes r = shortest r.count ++ type_byte r.ty ∷ []
 abbrev pub body_bytes : Func → List ℕ
 body_bytes f = vector run_bytes (merged f.locals) ++ expression_bytes f.body
 
+-- what is imported (5.5.5)
 abbrev pub import_kind_bytes : ImportKind → List ℕ
 import_kind_bytes (a_func_import sort) = 0x00 ∷ shortest sort
 import_kind_bytes (a_table_import l) = 0x01 ∷ table_bytes l
@@ -156,6 +163,7 @@ import_bytes i = name_bytes i.module ++ name_bytes i.base ++ import_kind_bytes i
 abbrev pub global_bytes : GlobalDef → List ℕ
 global_bytes g = global_type_bytes g.ty g.mutable ++ expression_bytes g.init
 
+-- the index space of an export (5.5.10)
 abbrev pub space_byte : Space → ℕ
 space_byte a_func = 0x00
 space_byte a_table = 0x01
@@ -188,7 +196,7 @@ start_section (Some x) = 0x08 ∷ sized (shortest x)
 abbrev pub custom_bytes : Custom → List ℕ
 custom_bytes c = 0x00 ∷ sized (name_bytes c.name ++ c.bytes)
 
--- the custom sections whose place is behind the sections of ids up to this one; 11 is the last
+-- the custom sections whose place is behind the sections of ids up to this one (5.5.3); 11 is the last
 abbrev pub customs_behind : ℕ → List Custom → List ℕ
 customs_behind id cs = flat_map custom_bytes (filter (λ c. min c.after 11 == id) cs)
 
@@ -196,7 +204,7 @@ customs_behind id cs = flat_map custom_bytes (filter (λ c. min c.after 11 == id
 abbrev pub preamble : List ℕ
 preamble = 0x00 ∷ 0x61 ∷ 0x73 ∷ 0x6D ∷ 0x01 ∷ 0x00 ∷ 0x00 ∷ 0x00 ∷ []
 
--- The known sections by id, each without the custom sections behind it.
+-- The known sections by id, each without the custom sections behind it (5.5.4 to 5.5.14).
 abbrev pub sections : Module → List (List ℕ)
 sections m =
     section 1 func_type_bytes m.types

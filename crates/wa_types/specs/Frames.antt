@@ -21,6 +21,7 @@ pub record Pair : Type 0 where
   pub number : ℕ
   pub ty : ValType
 
+-- a pair in front of others, where told
 abbrev pub pair_onto : Bool → ℕ → ValType → List Pair → List Pair
 pair_onto true n t rest = record { number = n; ty = t } ∷ rest
 pair_onto false n t rest = rest
@@ -30,6 +31,7 @@ abbrev pub pairs_from : (ℕ → ValType → Bool) → ℕ → ℕ → List Pair
 pairs_from test n zero = []
 pairs_from test n (suc k) = pair_onto (test n I32) n I32 (pair_onto (test n I64) n I64 (pairs_from test (suc n) k))
 
+-- a type that is there is this one
 abbrev pub is_type : ValType → Option ValType → Bool
 is_type t None = false
 is_type t (Some u) = same_type t u
@@ -38,6 +40,7 @@ is_type t (Some u) = same_type t u
 abbrev pub stands_at : ℕ → ValType → List ValType → Bool
 stands_at h t ops = is_type t (slice_get (reverse ops) h)
 
+-- the most operands that stand at one point
 abbrev pub greatest : List (List ValType) → ℕ
 greatest [] = 0
 greatest (ops ∷ rest) = max (length ops) (greatest rest)
@@ -46,10 +49,12 @@ greatest (ops ∷ rest) = max (length ops) (greatest rest)
 abbrev pub SlotPairs : Module → Func → List Pair
 SlotPairs m f = pairs_from (λ h t. list_any (stands_at h t) (func_points m f)) 0 (greatest (func_points m f))
 
+-- the pair of a result, where there is one
 abbrev pub pair_of : ℕ → Option ValType → List Pair
 pair_of d None = []
 pair_of d (Some t) = record { number = d; ty = t } ∷ []
 
+-- the pair of the result of a block; a loop's makes none
 abbrev pub shape_pair : Shape → ℕ → Option ValType → List Pair
 shape_pair a_block d r = pair_of d r
 shape_pair a_loop d r = []
@@ -65,6 +70,7 @@ results_in d (branch r a b rest) = pair_of d r ++ results_in (suc d) a ++ result
 abbrev pub all_results : Module → Func → List Pair
 all_results m f = pair_of 0 (around m f).result ++ results_in 1 (pruned f.body)
 
+-- a pair is of this number and type
 abbrev pub same_pair : ℕ → ValType → Pair → Bool
 same_pair n t p = nat_eq n p.number && same_type t p.ty
 
@@ -82,6 +88,7 @@ pub record Place : Type 0 where
   pub local : ℕ
   pub ty : ValType
 
+-- a place in front of others, where told
 abbrev pub place_onto : Bool → ℕ → ValType → List Place → List Place
 place_onto true x t rest = record { local = x; ty = t } ∷ rest
 place_onto false x t rest = rest
@@ -96,10 +103,12 @@ abbrev pub slot_places : (Pair → Bool) → ℕ → List Pair → List Place
 slot_places keep x [] = []
 slot_places keep x (p ∷ ps) = place_onto (keep p) x p.ty (slot_places keep (suc x) ps)
 
+-- the parameters, declared locals and slots that are kept
 abbrev pub places : Module → Func → (ℕ → Bool) → (Pair → Bool) → List Place
 places m f keep keep_slot =
     named_places keep 0 (locals_of m f) ++ slot_places keep_slot (length (locals_of m f)) (SlotPairs m f)
 
+-- an operand of this pair stands on the stack that is told
 abbrev pub is_on_stack : Option (List ValType) → Pair → Bool
 is_on_stack None p = false
 is_on_stack (Some ops) p = stands_at p.number p.ty ops
@@ -128,6 +137,7 @@ pub record Suspended : Type 0 where
   pub locals : List Value
   pub operands : List Value
 
+-- the bytes of the frame of a call of a function that is there, else 0
 abbrev pub size_of_found : Module → Policy → Option Func → ℕ → ℕ
 size_of_found m policy None place = 0
 size_of_found m policy (Some f) place = FrameSize m policy f place
@@ -155,9 +165,11 @@ Fit m policy stack len = fit_from m policy len 8 stack
 abbrev pub HoldsBytes : List ℕ → ℕ → List ℕ → Type 0
 HoldsBytes memory at bytes = take (length bytes) (drop at memory) ≡ bytes
 
+-- a word of 32 bits, the lowest byte first
 abbrev pub word : ℕ → List ℕ
 word n = to_le_bytes w32 n
 
+-- the bytes of a value, the lowest first
 abbrev pub value_bytes : Value → List ℕ
 value_bytes (value_32 n) = to_le_bytes w32 n
 value_bytes (value_64 n) = to_le_bytes w64 n
@@ -167,6 +179,7 @@ abbrev pub of_type : ValType → Option Value → Option Value
 of_type t None = None
 of_type t (Some v) = if same_type (type_of v) t then Some v else None
 
+-- the operand of a pair that is told, counted from the lowest one
 abbrev pub operand_at : List Value → Option Pair → Option Value
 operand_at operands None = None
 operand_at operands (Some p) = of_type p.ty (slice_get (reverse operands) p.number)
@@ -178,6 +191,7 @@ wanted m f a p =
     let n = length (locals_of m f) in
     if nat_lt p.local n then slice_get a.locals p.local else operand_at a.operands (slice_get (SlotPairs m f) (p.local - n))
 
+-- memory holds this value, where one is told
 abbrev pub HoldsValue : List ℕ → ℕ → Option Value → Type 0
 HoldsValue memory at None = Unit {0}
 HoldsValue memory at (Some v) = HoldsBytes memory at (value_bytes v)
@@ -191,10 +205,12 @@ HoldsPlaces memory value at (p ∷ ps) = HoldsValue memory at (value p) × Holds
 abbrev pub call_number : Module → Settings → List Bool → Func → ℕ → Option ℕ
 call_number m s which f place = position (nat_eq place) (Numbered m s which f)
 
+-- memory holds this number of a call, which is told
 abbrev pub HoldsIndex : List ℕ → ℕ → Option ℕ → Type 0
 HoldsIndex memory at None = ⊥
 HoldsIndex memory at (Some k) = HoldsBytes memory at (word k)
 
+-- memory holds the frame of an activation of a function that is there: its saved locals, and the number of its call
 abbrev pub HoldsFrame : Module → Settings → List Bool → List ℕ → ℕ → Suspended → Option Func → Type 0
 HoldsFrame m s which memory at a None = ⊥
 HoldsFrame m s which memory at a (Some f) =

@@ -4,7 +4,7 @@ use Rattle.std.specs.Int.{Width, cast_unsigned}
 use Rattle.wa_types.specs.declared.leb.LebFault.{LebFault}
 use Rattle.wa_types.specs.declared.leb.LebFault.TheVariants.{Short, Long, Bits}
 
--- The bytes spell n, an unsigned number of so many bits. A byte below 128 is the last. One from 128 on has
+-- The bytes spell n, an unsigned number of so many bits (5.2.2). A byte below 128 is the last. One from 128 on has
 -- seven low bits, and the bytes after it spell the rest, of seven bits fewer. Padding by zeros is allowed.
 abbrev pub IsUnsigned : ℕ → List ℕ → ℕ → Type 0
 IsUnsigned bits [] n = ⊥
@@ -12,14 +12,14 @@ IsUnsigned bits (b ∷ bs) n =
     ((b < 128) × (b < 2 ^ bits) × (bs ≡ []) × (n ≡ b))
     ⊎ ((128 ≤ b) × (b < 256) × (7 < bits) × (high : ℕ) × (n + 128 ≡ b + 128 * high) × IsUnsigned (bits - 7) bs high)
 
--- The number of a signed spelling's last byte, as so many bits of two's complement; the byte's unused bits
+-- The number of a signed spelling's last byte (5.2.2), as so many bits of two's complement; the byte's unused bits
 -- have to repeat the sign.
 abbrev pub last_signed : ℕ → ℕ → Result ℕ LebFault
 last_signed bits b =
     if nat_lt b 64 then (if nat_lt b (2 ^ (bits - 1)) then Ok b else Err Bits)
     else (if nat_lt (b + 2 ^ (bits - 1)) 128 then Err Bits else Ok (b + 2 ^ bits - 128))
 
--- The bytes spell n, a signed number as so many bits of two's complement.
+-- The bytes spell n, a signed number as so many bits of two's complement (5.2.2).
 abbrev pub IsSigned : ℕ → List ℕ → ℕ → Type 0
 IsSigned bits [] n = ⊥
 IsSigned bits (b ∷ bs) n =
@@ -31,7 +31,7 @@ abbrev pub above : ℕ → Result ℕ LebFault → Result ℕ LebFault
 above b (Ok high) = Ok (b - 128 + 128 * high)
 above b (Err e) = Err e
 
--- What reading an unsigned number of so many bits answers, and the place behind the last byte looked at,
+-- What reading an unsigned number of so many bits (5.2.2) answers, and the place behind the last byte looked at,
 -- for bytes that begin at this place.
 unfoldable pub unsigned_at : ℕ → List ℕ → ℕ → Result ℕ LebFault × ℕ
 unsigned_at bits [] at = (Err Short, at)
@@ -41,7 +41,7 @@ unsigned_at bits (b ∷ bs) at =
     then (above b (unsigned_at (bits - 7) bs (at + 1)).0, (unsigned_at (bits - 7) bs (at + 1)).1)
     else (Err Long, at + 1))
 
--- The same of a signed number, as so many bits of two's complement.
+-- The same of a signed number (5.2.2), as so many bits of two's complement.
 unfoldable pub signed_at : ℕ → List ℕ → ℕ → Result ℕ LebFault × ℕ
 signed_at bits [] at = (Err Short, at)
 signed_at bits (b ∷ bs) at =
@@ -60,7 +60,7 @@ unfoldable pub spelled : ℕ → ℕ → List ℕ
 spelled zero n = []
 spelled (suc k) n = if nat_lt n 128 then n ∷ [] else (n % 128 + 128) ∷ spelled k (n / 128)
 
--- the shortest spelling of an unsigned number; ten bytes hold 64 bits
+-- the shortest spelling of an unsigned number (5.2.2); ten bytes hold 64 bits
 abbrev pub shortest : ℕ → List ℕ
 shortest n = spelled 10 n
 
@@ -73,7 +73,7 @@ signed_spelled (suc k) bits n =
     else (if nat_le (2 ^ bits) (n + 64) then (n + 128 - 2 ^ bits) ∷ []
     else (n % 128 + 128) ∷ signed_spelled k (bits - 7) (n / 128))
 
--- the shortest spelling of a signed number, as so many bits of two's complement
+-- the shortest spelling of a signed number (5.2.2), as so many bits of two's complement
 abbrev pub shortest_signed : ℕ → ℕ → List ℕ
 shortest_signed bits n = signed_spelled 10 bits n
 

@@ -16,6 +16,7 @@ pub record Position : Type 0 where
   pub here : Code
   pub labels : List Label
 
+-- a place of this code under these labels
 abbrev pub position : Code → List Label → Position
 position here labels = record { here = here; labels = labels }
 
@@ -36,12 +37,12 @@ target (goes_behind rest ∷ ls) zero = Some (position rest ls)
 target (goes_again body rest ∷ ls) zero = Some (position body (goes_again body rest ∷ ls))
 target (x ∷ ls) (suc l) = target ls l
 
--- a branch to one of these labels may go there
+-- a branch to one of these labels may go there (4.4.5.8)
 abbrev pub SomeTarget : List Label → List ℕ → Position → Type 0
 SomeTarget ls [] there = ⊥
 SomeTarget ls (l ∷ labels) there = (target ls l ≡ Some there) ⊎ SomeTarget ls labels there
 
--- a reduction may lead from an instruction to this place
+-- a reduction may lead from an instruction to this place (4.4.5)
 abbrev pub PlainLeads : Plain → Code → List Label → Position → Type 0
 PlainLeads (br l) rest ls there = target ls l ≡ Some there
 PlainLeads (br_if l) rest ls there = (target ls l ≡ Some there) ⊎ (there ≡ position rest ls)
@@ -63,17 +64,18 @@ Leads (nest s r body rest) ls there = there ≡ position body (label_of s body r
 Leads (branch r a b rest) ls there =
     (there ≡ position a (goes_behind rest ∷ ls)) ⊎ (there ≡ position b (goes_behind rest ∷ ls))
 
--- a `local.get` of x stands here
+-- a `local.get` of x stands here (4.4.3.1)
 abbrev pub Reads : ℕ → Code → Type 0
 Reads x (plain (local_get y) rest) = x ≡ y
 Reads x _ = ⊥
 
+-- the instruction is a `local.set` or `local.tee` of x
 abbrev pub writes_plain : ℕ → Plain → Bool
 writes_plain x (local_set y) = nat_eq x y
 writes_plain x (local_tee y) = nat_eq x y
 writes_plain x _ = false
 
--- a `local.set` or `local.tee` of x stands here
+-- a `local.set` or `local.tee` of x stands here (4.4.3.2, 4.4.3.3)
 abbrev pub writes : ℕ → Code → Bool
 writes x (plain p rest) = writes_plain x p
 writes x _ = false
@@ -83,6 +85,7 @@ pub data ReadsFirst (x : ℕ) : Position → Type 0 where
   ends_here : (at : Position) → Reads x at.here → ReadsFirst x at
   goes_on : (at there : Position) → writes x at.here ≡ false → Leads at.here at.labels there → ReadsFirst x there → ReadsFirst x at
 
+-- a place in front of others, where a call is told
 abbrev pub if_call_here : Option Callee → Position → List Position → List Position
 if_call_here None at rest = rest
 if_call_here (Some x) at rest = at ∷ rest
@@ -106,6 +109,7 @@ LiveAfter f place x = (at : Position) × (slice_get (behind_calls [] (pruned f.b
 abbrev pub told_at : List Bool → ℕ → Bool
 told_at tos l = is_told (slice_get tos l)
 
+-- whether x is read first from an instruction on, given what is told behind it
 abbrev pub live_plain : ℕ → List Bool → Plain → Bool → Bool
 live_plain x tos (local_get y) rest = nat_eq x y || rest
 live_plain x tos (local_set y) rest = not (nat_eq x y) && rest
@@ -117,10 +121,12 @@ live_plain x tos return rest = false
 live_plain x tos unreachable rest = false
 live_plain x tos _ rest = rest
 
+-- what is told for a construct's label: a block's what is told behind it, a loop's that x isn't read
 abbrev pub shape_live : Shape → Bool → Bool
 shape_live a_block k = k
 shape_live a_loop k = false
 
+-- whether x is read first from code on
 unfoldable pub live : ℕ → (tos : List Bool) → (out : Bool) → Code → Bool
 live x tos out done = out
 live x tos out (plain p rest) = live_plain x tos p (live x tos out rest)
@@ -132,11 +138,13 @@ pub record Told : Type 0 where
   pub tos : List Bool
   pub out : Bool
 
+-- what is told under one label more
 abbrev pub label_told : ℕ → Label → Told → Told
 label_told x (goes_behind rest) t = let k = live x t.tos t.out rest in record { tos = k ∷ t.tos; out = k }
 label_told x (goes_again body rest) t =
     let k = live x t.tos t.out rest in record { tos = live x (false ∷ t.tos) k body ∷ t.tos; out = k }
 
+-- what is told under labels, the innermost first
 abbrev pub told : ℕ → List Label → Told
 told x [] = record { tos = []; out = false }
 told x (l ∷ ls) = label_told x l (told x ls)
@@ -145,6 +153,7 @@ told x (l ∷ ls) = label_told x l (told x ls)
 abbrev pub live_at : ℕ → Position → Bool
 live_at x at = live x (told x at.labels).tos (told x at.labels).out at.here
 
+-- x is read first from a place that is told
 abbrev pub live_from : ℕ → Option Position → Bool
 live_from x None = false
 live_from x (Some at) = live_at x at

@@ -1,15 +1,17 @@
 -- What a file's sections are judged by besides their spelling: where a float stands, where an instruction opens a
 -- level, and the numbers that limits bound.
 use Rattle.std.specs.Prelude.{ℕ, ◌+◌, ◌≤◌, List, [], ◌∷◌, ◌++◌, map, length, flat_map, sum_by, Option, Some, None, Bool, if◌then◌else◌, nat_le, nat_lt, All, Contains}
-use Rattle.wa_types.specs.Binary.{Placed, RawCode, ended, otherwise, instr, nested, branched, RawType, RawKind, raw_func, raw_global, RawImport, RawGlobal, RawElem, RawRun, RawBody, RawSegment, Section, types, imports, globals, elements, bodies, segments}
+use Rattle.wa_types.specs.Binary.{Placed, RawCode, ended, otherwise, instr, nested, branched, RawType, RawKind, raw_func, raw_global, RawImport, RawGlobal, RawElem, RawRun, RawBody}
+use Rattle.wa_types.specs.Binary.{RawSegment, Section, types, imports, globals, elements, bodies, segments}
 use Rattle.wa_types.specs.Opcodes.{is_float_type, is_float_op}
 use Rattle.wa_types.specs.Spells.{sorts_in, bodies_in}
 use Rattle.wa_types.specs.Reading.{types_in, imports_in}
 
+-- an offset, where told
 abbrev pub place_if : Bool → ℕ → List ℕ
 place_if b place = if b then place ∷ [] else []
 
--- the offset of a float type
+-- the offset of a float type (5.3.1)
 abbrev pub float_type : Placed → List ℕ
 float_type t = place_if (is_float_type t.byte) t.place
 
@@ -21,16 +23,20 @@ code_floats (instr op operands rest) = place_if (is_float_op op.byte) op.place +
 code_floats (nested op result body rest) = float_type result ++ code_floats body ++ code_floats rest
 code_floats (branched op result arms rest) = float_type result ++ code_floats arms ++ code_floats rest
 
+-- the offsets of the float types of a function type
 abbrev pub type_floats : RawType → List ℕ
 type_floats t = flat_map float_type t.params ++ flat_map float_type t.results
 
+-- the offset of the float type of an imported global
 abbrev pub kind_floats : RawKind → List ℕ
 kind_floats (raw_global t mutable) = float_type t
 kind_floats _ = []
 
+-- the offsets of the float types and float opcodes of a body
 abbrev pub body_floats : RawBody → List ℕ
 body_floats b = flat_map (λ (r : RawRun). float_type r.ty) b.locals ++ code_floats b.code
 
+-- the offsets of the float types and float opcodes of a section
 abbrev pub section_floats : Section → List ℕ
 section_floats (types ts) = flat_map type_floats ts
 section_floats (imports is) = flat_map (λ (i : RawImport). kind_floats i.kind) is
@@ -54,6 +60,7 @@ code_opens bound level (nested op result body rest) =
 code_opens bound level (branched op result arms rest) =
     place_if (nat_le bound level) op.place ++ code_opens bound (level + 1) arms ++ code_opens bound level rest
 
+-- the same in a section
 abbrev pub section_opens : (bound : ℕ) → Section → List ℕ
 section_opens bound (globals gs) = flat_map (λ (g : RawGlobal). code_opens bound 0 g.init) gs
 section_opens bound (elements es) = flat_map (λ (e : RawElem). code_opens bound 0 e.offset) es
@@ -75,6 +82,7 @@ abbrev pub kind_sorts : RawKind → List ℕ
 kind_sorts (raw_func sort) = sort ∷ []
 kind_sorts _ = []
 
+-- the type indices of all imported functions
 abbrev pub imported_sorts : List Section → List ℕ
 imported_sorts ss = flat_map (λ (i : RawImport). kind_sorts i.kind) (flat_map imports_in ss)
 
@@ -101,6 +109,7 @@ abbrev pub locals_with : List RawType → List ℕ → List RawBody → List ℕ
 locals_with ts (sort ∷ sorts) (b ∷ bs) = (params_at ts sort + sum_by (λ (r : RawRun). r.count) b.locals) ∷ locals_with ts sorts bs
 locals_with ts _ _ = []
 
+-- the numbers of parameters and locals of all bodies
 abbrev pub local_counts : List Section → List ℕ
 local_counts ss = locals_with (flat_map types_in ss) (flat_map sorts_in ss) (flat_map bodies_in ss)
 

@@ -15,7 +15,7 @@ page_size = 65536
 abbrev pub pages_of : List ℕ → ℕ
 pages_of bytes = length bytes / page_size
 
--- whole pages, and no more than 1,024 of them
+-- whole pages (4.2.8), and no more than 1,024 of them
 pub record IsWholePages (bytes : List ℕ) : Type 0 where
   pub whole : length bytes % page_size ≡ 0
   pub bounded : length bytes ≤ 1024 * page_size
@@ -26,7 +26,7 @@ pub record IsWholePages (bytes : List ℕ) : Type 0 where
 abbrev pub bytes_of : ℕ → ℕ → List ℕ
 bytes_of width n = bytes_low_first 0 width n
 
--- the number that bytes spell, the lowest first (the inverse of bytes_iN)
+-- the number that bytes spell, the lowest first (4.3.1, the inverse of bytes_iN)
 abbrev pub number_of_bytes : List ℕ → ℕ
 number_of_bytes [] = 0
 number_of_bytes (b ∷ bs) = b + 256 * number_of_bytes bs
@@ -37,7 +37,7 @@ number_of_bytes (b ∷ bs) = b + 256 * number_of_bytes bs
 abbrev pub bytes_at : List ℕ → ℕ → ℕ → List ℕ
 bytes_at bytes at width = take width (drop at bytes)
 
--- the number that the bytes at an address spell
+-- the number that the bytes at an address spell (4.4.4.1)
 abbrev pub number_at : List ℕ → ℕ → ℕ → Option ℕ
 number_at bytes at width =
     if nat_le (at + width) (length bytes) then Some (number_of_bytes (bytes_at bytes at width)) else None
@@ -50,17 +50,18 @@ overwritten bytes at piece = take at bytes ++ piece ++ drop (at + length piece) 
 abbrev pub with_piece : List ℕ → ℕ → List ℕ → Option (List ℕ)
 with_piece bytes at piece = if nat_le (at + length piece) (length bytes) then Some (overwritten bytes at piece) else None
 
--- the bytes after a store of the low bytes of a number
+-- the bytes after a store of the low bytes of a number (4.4.4.2)
 abbrev pub with_number : List ℕ → ℕ → ℕ → ℕ → Option (List ℕ)
 with_number bytes at width n = with_piece bytes at (bytes_of width n)
 
 -- ---- growth (4.4.4.4 memory.grow), within the type's greatest number of pages and 1,024
 
+-- the most pages that a memory may have, by what its type tells
 abbrev pub page_bound : Option ℕ → ℕ
 page_bound None = 1024
 page_bound (Some most) = min most 1024
 
--- a memory with so many pages of zeros more, where they are within its bound
+-- a memory with so many pages of zeros more, where they are within its bound (4.4.4.4)
 abbrev pub grown : Memory → ℕ → Option Memory
 grown memory by =
     if nat_le (pages_of memory.bytes + by) (page_bound memory.max)

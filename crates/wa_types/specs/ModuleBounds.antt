@@ -12,8 +12,10 @@ pub record ModuleBounds : Type 0 where
   pub nesting : ℕ
   pub locals : ℕ
 
+-- the bounds of a source module
 abbrev pub source_bounds : ModuleBounds
 source_bounds = record { file = 8388608; functions = 100000; parameters = 1000; body = 1048576; nesting = 1000; locals = 50000 }
 
+-- the bounds of a prepared module
 abbrev pub prepared_bounds : ModuleBounds
 prepared_bounds = record { file = 67108864; functions = 100005; parameters = 1000; body = 67108864; nesting = 3008; locals = 50000 }

@@ -3,10 +3,12 @@ use Rattle.std.specs.Prelude.{ℕ, suc, List, [], ◌∷◌, ◌++◌, map, filt
 use Rattle.wa_types.specs.Syntax.{Func, Custom, Module}
 use Rattle.wa_types.specs.Encoding.{merged}
 
+-- a list has an item
 abbrev pub has_some : {X : Type 0} → List X → Bool
 has_some [] = false
 has_some (x ∷ xs) = true
 
+-- a start function is told
 abbrev pub has_start : Option ℕ → Bool
 has_start None = false
 has_start (Some x) = true

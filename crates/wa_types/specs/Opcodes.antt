@@ -3,7 +3,7 @@
 use Rattle.std.specs.Prelude.{ℕ, length, Option, Some, None, Bool, nat_le, ◌==◌, ◌&&◌, ◌||◌, if◌then◌else◌}
 use Rattle.wa_types.specs.Binary.{Operands, nothing, zero_byte, index, index_and_zero, access, labels, constant, float}
 
--- What follows an opcode: nothing, a zero byte, an index, an index and a zero byte, an alignment exponent and an
+-- What follows an opcode (5.4): nothing, a zero byte, an index, an index and a zero byte, an alignment exponent and an
 -- offset, labels and a last one, a signed number of so many bits, or the bytes of a float.
 pub data Follows : Type 0 where
   no_operand a_zero an_index an_index_and_zero an_access some_labels : Follows
@@ -34,7 +34,7 @@ follows op =
     else (if within 0x45 0xBF op then Some no_operand
     else None))))))))))))))
 
--- what these operands are
+-- what these operands are (5.4)
 abbrev pub shape : Operands → Follows
 shape nothing = no_operand
 shape zero_byte = a_zero
@@ -67,9 +67,10 @@ is_float_op op =
     within 0x2A 0x2B op || within 0x38 0x39 op || within 0x43 0x44 op || within 0x5B 0x66 op || within 0x8B 0xA6 op
     || within 0xA8 0xAB op || within 0xAE 0xBF op
 
--- the opcode of a load of an integer, and of a store (5.4.4)
+-- the opcode of a load of an integer (5.4.4)
 abbrev pub is_load_op : ℕ → Bool
 is_load_op op = within 0x28 0x29 op || within 0x2C 0x35 op
 
+-- the opcode of a store of an integer (5.4.4)
 abbrev pub is_store_op : ℕ → Bool
 is_store_op op = within 0x36 0x37 op || within 0x3A 0x3E op

@@ -3,14 +3,19 @@ use Rattle.std.specs.Prelude.{ℕ, List, [], ◌∷◌}
 use Rattle.wa_types.specs.declared.values.ValType.{ValType}
 use Rattle.wa_types.specs.declared.values.ValType.TheVariants.{I32, I64}
 use Rattle.wa_types.specs.declared.operators.NumOp.{NumOp}
-use Rattle.wa_types.specs.declared.operators.NumOp.TheVariants.{I32Eqz, I32Eq, I32Ne, I32LtS, I32LtU, I32GtS, I32GtU, I32LeS, I32LeU, I32GeS, I32GeU, I64Eqz, I64Eq, I64Ne, I64LtS, I64LtU, I64GtS, I64GtU, I64LeS, I64LeU, I64GeS, I64GeU, I32Clz, I32Ctz, I32Popcnt, I32Add, I32Sub, I32Mul, I32DivS, I32DivU, I32RemS, I32RemU, I32And, I32Or, I32Xor, I32Shl, I32ShrS, I32ShrU, I32Rotl, I32Rotr, I64Clz, I64Ctz, I64Popcnt, I64Add, I64Sub, I64Mul, I64DivS, I64DivU, I64RemS, I64RemU, I64And, I64Or, I64Xor, I64Shl, I64ShrS, I64ShrU, I64Rotl, I64Rotr, I32WrapI64, I64ExtendI32S, I64ExtendI32U}
+use Rattle.wa_types.specs.declared.operators.NumOp.TheVariants.{I32Eqz, I32Eq, I32Ne, I32LtS, I32LtU, I32GtS, I32GtU, I32LeS, I32LeU, I32GeS, I32GeU, I64Eqz, I64Eq, I64Ne, I64LtS, I64LtU}
+use Rattle.wa_types.specs.declared.operators.NumOp.TheVariants.{I64GtS, I64GtU, I64LeS, I64LeU, I64GeS, I64GeU, I32Clz, I32Ctz, I32Popcnt, I32Add, I32Sub, I32Mul, I32DivS, I32DivU, I32RemS}
+use Rattle.wa_types.specs.declared.operators.NumOp.TheVariants.{I32RemU, I32And, I32Or, I32Xor, I32Shl, I32ShrS, I32ShrU, I32Rotl, I32Rotr, I64Clz, I64Ctz, I64Popcnt, I64Add, I64Sub, I64Mul}
+use Rattle.wa_types.specs.declared.operators.NumOp.TheVariants.{I64DivS, I64DivU, I64RemS, I64RemU, I64And, I64Or, I64Xor, I64Shl, I64ShrS, I64ShrU, I64Rotl, I64Rotr, I32WrapI64}
+use Rattle.wa_types.specs.declared.operators.NumOp.TheVariants.{I64ExtendI32S, I64ExtendI32U}
 
--- A row of the table: the opcode, the types of the operands, topmost first, and the type of the result.
+-- A row of the table (2.4.1): the opcode, the types of the operands, topmost first, and the type of the result.
 pub record OperatorRow : Type 0 where
   pub opcode : ℕ
   pub operands : List ValType
   pub gives : ValType
 
+-- the row of each operator (3.3.1, 5.4.5)
 abbrev pub operator_row : NumOp → OperatorRow
 operator_row I32Eqz = record { opcode = 0x45; operands = I32 ∷ []; gives = I32 }
 operator_row I32Eq = record { opcode = 0x46; operands = I32 ∷ I32 ∷ []; gives = I32 }
@@ -74,14 +79,14 @@ operator_row I32WrapI64 = record { opcode = 0xA7; operands = I64 ∷ []; gives =
 operator_row I64ExtendI32S = record { opcode = 0xAC; operands = I32 ∷ []; gives = I64 }
 operator_row I64ExtendI32U = record { opcode = 0xAD; operands = I32 ∷ []; gives = I64 }
 
--- the opcode of a numeric operator
+-- the opcode of a numeric operator (5.4.5)
 abbrev pub opcode_of : NumOp → ℕ
 opcode_of op = (operator_row op).opcode
 
--- the types of its operands, topmost first
+-- the types of its operands, topmost first (3.3.1)
 abbrev pub operand_types : NumOp → List ValType
 operand_types op = (operator_row op).operands
 
--- the type of its result
+-- the type of its result (3.3.1)
 abbrev pub result_type : NumOp → ValType
 result_type op = (operator_row op).gives

@@ -24,11 +24,13 @@ pub data Choice : Type 0 where
 pub data Policy : Type 0 where
   save_all save_live : Policy
 
+-- How a module is rewritten: what may pause it, whether calls through the table count, and what frames save.
 pub record Settings : Type 0 where
   pub choice : Choice
   pub ignore_indirect : Bool
   pub policy : Policy
 
+-- a byte in front of the first of some pieces
 abbrev pub onto_first : ℕ → List (List ℕ) → List (List ℕ)
 onto_first b [] = (b ∷ []) ∷ []
 onto_first b (p ∷ ps) = (b ∷ p) ∷ ps
@@ -38,12 +40,15 @@ abbrev pub pieces : List ℕ → List (List ℕ)
 pieces [] = [] ∷ []
 pieces (b ∷ bs) = if b == 44 then [] ∷ pieces bs else onto_first b (pieces bs)
 
+-- a text has this byte
 abbrev pub has_byte : ℕ → List ℕ → Bool
 has_byte b text = list_any (λ c. c == b) text
 
+-- a text without its last byte
 abbrev pub all_but_last : List ℕ → List ℕ
 all_but_last text = take (length text - 1) text
 
+-- the entry of a text that no star ends: exactly this name, which has a dot
 abbrev pub entry_without_star : List ℕ → Result Entry ListError
 entry_without_star text = if has_byte 46 text then Ok (exactly text) else Err no_dot
 
@@ -54,10 +59,12 @@ entry_of (b ∷ bs) =
     if has_byte 42 (all_but_last (b ∷ bs)) then Err star_inside
     else (if has_byte 42 (b ∷ bs) then Ok (beginning (all_but_last (b ∷ bs))) else entry_without_star (b ∷ bs))
 
+-- an entry in front of others, where these are told
 abbrev pub onto_entries : Entry → Result (List Entry) ListError → Result (List Entry) ListError
 onto_entries e (Ok es) = Ok (e ∷ es)
 onto_entries e (Err f) = Err f
 
+-- the same of an entry that may be an error
 abbrev pub entry_onto : Result Entry ListError → Result (List Entry) ListError → Result (List Entry) ListError
 entry_onto (Ok e) rest = onto_entries e rest
 entry_onto (Err f) rest = Err f
@@ -75,6 +82,7 @@ list_of text = entries_of (pieces text)
 abbrev pub joined_name : Import → List ℕ
 joined_name i = i.module ++ 46 ∷ i.base
 
+-- an entry names imports of this joined name
 abbrev pub names : Entry → List ℕ → Bool
 names (beginning text) name = starts_with nat_eq name text
 names (exactly text) name = starts_with nat_eq name text && nat_eq (length name) (length text)
@@ -85,6 +93,7 @@ is_listed every name = true
 is_listed nobody name = false
 is_listed (of_list entries) name = list_any (λ e. names e name) entries
 
+-- whether an import is listed, where it is a function, of which the index of the type is told
 abbrev pub listed_import : Choice → Import → Option ℕ → Option Bool
 listed_import choice i None = None
 listed_import choice i (Some sort) = Some (is_listed choice (joined_name i))
@@ -98,11 +107,13 @@ pub data Callee : Type 0 where
   direct : (func : ℕ) → Callee
   indirect : (sort : ℕ) → Callee
 
+-- what an instruction calls, where it is a call
 abbrev pub callee : Plain → Option Callee
 callee (call x) = Some (direct x)
 callee (call_indirect t) = Some (indirect t)
 callee _ = None
 
+-- what a call goes to in front of others, where one is told
 abbrev pub callee_onto : Option Callee → List Callee → List Callee
 callee_onto None cs = cs
 callee_onto (Some x) cs = x ∷ cs
@@ -130,6 +141,7 @@ pub record TellsMayPause (m : Module) (s : Settings) (which : List Bool) : Type 
   pub len : length which ≡ length (func_sorts m)
   pub each : (x : ℕ) → (slice_get which x ≡ Some true) ↔ MayPause m s x
 
+-- true is told
 abbrev pub is_told : Option Bool → Bool
 is_told None = false
 is_told (Some b) = b

@@ -8,6 +8,7 @@ use Rattle.wa_types.specs.Typing.{Around, Sig, moves, leaves, drops, selects, la
 use Rattle.wa_types.specs.Modules.{around}
 use Rattle.wa_types.specs.Pausing.{Callee, callee}
 
+-- this holds, and it isn't told otherwise
 abbrev pub Unless : Bool → Type 0 → Type 0
 Unless true P = ⊥
 Unless false P = P
@@ -34,6 +35,7 @@ after selects ops = drop 2 ops
 after (lacks r) ops = ops
 after (late r ps rs) ops = ops
 
+-- a list, and none where told
 abbrev pub unless_last : {X : Type 0} → Bool → List X → List X
 unless_last true xs = []
 unless_last false xs = xs
@@ -47,6 +49,7 @@ points c ls (nest s r body rest) under ops =
 points c ls (branch r a b rest) under ops =
     (ops ++ under) ∷ (points c (r ∷ ls) a (drop 1 ops ++ under) [] ++ (points c (r ∷ ls) b (drop 1 ops ++ under) [] ++ points c ls rest under (listed r ++ drop 1 ops)))
 
+-- the operands just before an instruction, where it is a call
 abbrev pub if_call : Option Callee → List ValType → List (List ValType)
 if_call None ops = []
 if_call (Some x) ops = ops ∷ []

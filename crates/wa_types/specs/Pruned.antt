@@ -5,7 +5,7 @@ use Rattle.wa_types.specs.declared.instrs.Instr.{Instr}
 use Rattle.wa_types.specs.declared.instrs.Instr.TheVariants.{Unreachable, Return, Br, BrTable}
 use Rattle.wa_types.specs.Syntax.{Plain, unreachable, return, br, br_table, Code, done, plain, nest, branch}
 
--- control never goes on behind it
+-- control never goes on behind it (3.3.5)
 abbrev pub is_last : Plain → Bool
 is_last (br l) = true
 is_last (br_table ls l) = true

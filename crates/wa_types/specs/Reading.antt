@@ -10,12 +10,15 @@ use Rattle.wa_types.specs.declared.syntax.Limits.{Limits}
 use Rattle.wa_types.specs.declared.syntax.Export.{Export}
 use Rattle.wa_types.specs.Operators.{opcode_of}
 use Rattle.wa_types.specs.Encoding.{type_byte, block_type_byte, shape_byte}
-use Rattle.wa_types.specs.Syntax.{Basic, nop, drop, select, const, num, global_get, global_set, load, store, memory_size, memory_grow, Plain, basic, local_get, local_set, local_tee, br, br_if, br_table, return, unreachable, call, call_indirect, Code, done, plain, nest, branch, FuncType, Func, GlobalDef, Elem, Segment, Custom, Module}
-use Rattle.wa_types.specs.Binary.{Placed, Operands, nothing, zero_byte, index, index_and_zero, access, labels, constant, RawCode, ended, otherwise, instr, nested, branched, RawType, RawKind, raw_func, raw_table, raw_memory, raw_global, RawImport, RawGlobal, RawElem, RawRun, RawBody, RawSegment, Section, custom, types, imports, tables, memories, globals, exports, start, elements, segments, section_id}
+use Rattle.wa_types.specs.Syntax.{Basic, nop, drop, select, const, num, global_get, global_set, load, store, memory_size, memory_grow, Plain, basic, local_get, local_set, local_tee, br}
+use Rattle.wa_types.specs.Syntax.{br_if, br_table, return, unreachable, call, call_indirect, Code, done, plain, nest, branch, FuncType, Func, GlobalDef, Elem, Segment, Custom, Module}
+use Rattle.wa_types.specs.Binary.{Placed, Operands, nothing, zero_byte, index, index_and_zero, access, labels, constant, RawCode, ended, otherwise, instr, nested, branched, RawType, RawKind}
+use Rattle.wa_types.specs.Binary.{raw_func, raw_table, raw_memory, raw_global, RawImport, RawGlobal, RawElem, RawRun, RawBody, RawSegment, Section, custom, types, imports, tables, memories}
+use Rattle.wa_types.specs.Binary.{globals, exports, start, elements, segments, section_id}
 use Rattle.wa_types.specs.Opcodes.{is_load_op, is_store_op}
 use Rattle.wa_types.specs.Spells.{Spells, sorts_in, bodies_in}
 
--- the opcode of an instruction that holds no other (5.4)
+-- the opcode of an instruction that touches only its own operands and the store (5.4)
 abbrev pub basic_opcode : Basic → ℕ
 basic_opcode nop = 0x01
 basic_opcode drop = 0x1A
@@ -30,6 +33,7 @@ basic_opcode (store op align offset) = op
 basic_opcode memory_size = 0x3F
 basic_opcode memory_grow = 0x40
 
+-- the opcode of an instruction that holds no other (5.4)
 abbrev pub plain_opcode : Plain → ℕ
 plain_opcode (basic b) = basic_opcode b
 plain_opcode (local_get x) = 0x20
@@ -43,7 +47,7 @@ plain_opcode unreachable = 0x00
 plain_opcode (call x) = 0x10
 plain_opcode (call_indirect x) = 0x11
 
--- what follows it
+-- what follows the opcode of an instruction that touches only its own operands and the store (5.4)
 abbrev pub basic_operands : Basic → Operands
 basic_operands nop = nothing
 basic_operands drop = nothing
@@ -58,6 +62,7 @@ basic_operands (store op align offset) = access align offset
 basic_operands memory_size = zero_byte
 basic_operands memory_grow = zero_byte
 
+-- what follows the opcode of an instruction that holds no other (5.4)
 abbrev pub plain_operands : Plain → Operands
 plain_operands (basic b) = basic_operands b
 plain_operands (local_get x) = index x
@@ -77,13 +82,13 @@ HasKind (basic (load op align offset)) = IsTrue (is_load_op op)
 HasKind (basic (store op align offset)) = IsTrue (is_store_op op)
 HasKind _ = Unit {0}
 
--- the instruction of this opcode, followed by this
+-- the instruction of this opcode, followed by this (5.4)
 pub record IsPlain (op : Placed) (operands : Operands) (p : Plain) : Type 0 where
   pub opcode : op.byte ≡ plain_opcode p
   pub follows : operands ≡ plain_operands p
   pub kind : HasKind p
 
--- the code that a sequence is up to its end, and, where that is an else, the code of the arm behind it
+-- the code that a sequence is up to its end, and, where that is an else, the code of the arm behind it (5.4.1)
 abbrev pub IsCode : RawCode → (code else_arm : Code) → Type 0
 IsCode (ended k) done else_arm = else_arm ≡ done
 IsCode (otherwise k arm) done else_arm = IsCode arm else_arm done
@@ -94,6 +99,7 @@ IsCode (branched op result arms rest) (branch r a b more) else_arm =
     (result.byte ≡ block_type_byte r) × IsCode arms a b × IsCode rest more else_arm
 IsCode _ _ else_arm = ⊥
 
+-- the code that an expression is (5.4.6)
 abbrev pub IsExpression : RawCode → Code → Type 0
 IsExpression raw c = IsCode raw c done
 
@@ -103,90 +109,108 @@ Each R [] [] = Unit {0}
 Each R (x ∷ xs) (y ∷ ys) = R x y × Each R xs ys
 Each R _ _ = ⊥
 
+-- the value type of a byte (5.3.1)
 abbrev pub IsValueType : Placed → ValType → Type 0
 IsValueType raw t = raw.byte ≡ type_byte t
 
+-- the function type that is spelled (5.3.3)
 pub record IsFuncType (raw : RawType) (t : FuncType) : Type 0 where
   pub params : Each IsValueType raw.params t.params
   pub results : Each IsValueType raw.results t.results
 
+-- what is imported (5.5.5)
 abbrev pub IsKind : RawKind → ImportKind → Type 0
 IsKind (raw_func sort) k = k ≡ a_func_import sort
 IsKind (raw_table l) k = k ≡ a_table_import l
 IsKind (raw_memory l) k = k ≡ a_memory_import l
 IsKind (raw_global raw mutable) k = (t : ValType) × (k ≡ a_global_import t mutable) × IsValueType raw t
 
+-- an import (5.5.5)
 pub record IsImport (raw : RawImport) (i : Import) : Type 0 where
   pub module_name : i.module ≡ raw.module_name
   pub base : i.base ≡ raw.base
   pub kind : IsKind raw.kind i.kind
 
+-- a defined global (5.5.9)
 pub record IsGlobal (raw : RawGlobal) (g : GlobalDef) : Type 0 where
   pub ty : IsValueType raw.ty g.ty
   pub mutable : g.mutable ≡ raw.mutable
   pub init : IsExpression raw.init g.init
 
+-- an element segment (5.5.12)
 pub record IsElem (raw : RawElem) (e : Elem) : Type 0 where
   pub table : e.table ≡ raw.table
   pub offset : IsExpression raw.offset e.offset
   pub funcs : e.funcs ≡ raw.funcs
 
+-- so many locals of one type (5.5.13)
 pub record IsRun (raw : RawRun) (r : Run) : Type 0 where
   pub count : r.count ≡ raw.count
   pub ty : IsValueType raw.ty r.ty
 
+-- a function, by its body (5.5.13)
 pub record IsBody (raw : RawBody) (f : Func) : Type 0 where
   pub locals : Each IsRun raw.locals f.locals
   pub body : IsExpression raw.code f.body
 
+-- a data segment (5.5.14)
 pub record IsSegment (raw : RawSegment) (s : Segment) : Type 0 where
   pub memory : s.memory ≡ raw.memory
   pub offset : IsExpression raw.offset s.offset
   pub bytes : s.bytes ≡ raw.bytes
 
+-- the types of a section, where it is of that kind (5.5.4)
 abbrev pub types_in : Section → List RawType
 types_in (types ts) = ts
 types_in _ = []
 
+-- the imports of a section (5.5.5)
 abbrev pub imports_in : Section → List RawImport
 imports_in (imports is) = is
 imports_in _ = []
 
+-- the tables (5.5.7)
 abbrev pub tables_in : Section → List Limits
 tables_in (tables ts) = ts
 tables_in _ = []
 
+-- the memories (5.5.8)
 abbrev pub memories_in : Section → List Limits
 memories_in (memories ms) = ms
 memories_in _ = []
 
+-- the globals (5.5.9)
 abbrev pub globals_in : Section → List RawGlobal
 globals_in (globals gs) = gs
 globals_in _ = []
 
+-- the exports (5.5.10)
 abbrev pub exports_in : Section → List Export
 exports_in (exports es) = es
 exports_in _ = []
 
+-- the start function (5.5.11)
 abbrev pub starts_in : Section → List ℕ
 starts_in (start x) = x ∷ []
 starts_in _ = []
 
+-- the element segments (5.5.12)
 abbrev pub elements_in : Section → List RawElem
 elements_in (elements es) = es
 elements_in _ = []
 
+-- the data segments (5.5.14)
 abbrev pub segments_in : Section → List RawSegment
 segments_in (segments ss) = ss
 segments_in _ = []
 
--- the custom sections, each with the id of the last known section before it
+-- the custom sections, each with the id of the last known section before it (5.5.3)
 abbrev pub customs_of : (last : ℕ) → List Section → List Custom
 customs_of last [] = []
 customs_of last (custom name bytes ∷ ss) = record { after = last; name = name; bytes = bytes } ∷ customs_of last ss
 customs_of last (s ∷ ss) = customs_of (section_id s) ss
 
--- The module that the sections are. There is none where they hold a float.
+-- The module that the sections are (5.5.15). There is none where they hold a float.
 pub record IsModule (ss : List Section) (m : Module) : Type 0 where
   pub types : Each IsFuncType (flat_map types_in ss) m.types
   pub imports : Each IsImport (flat_map imports_in ss) m.imports
@@ -201,7 +225,7 @@ pub record IsModule (ss : List Section) (m : Module) : Type 0 where
   pub segments : Each IsSegment (flat_map segments_in ss) m.segments
   pub customs : m.customs ≡ customs_of 0 ss
 
--- The bytes spell this module.
+-- The bytes spell this module (5.5.15).
 pub record SpellsModule (bytes : List ℕ) (m : Module) : Type 0 where
   pub sections : List Section
   pub spells : Spells bytes sections

@@ -14,7 +14,7 @@ use Rattle.wa_types.specs.Syntax.{const, num, global_get, global_set, load, basi
 abbrev pub func_space : Module → ℕ
 func_space m = length (func_sorts m)
 
--- how many globals, imports included
+-- how many globals, imports included (2.5.1)
 abbrev pub global_space : Module → ℕ
 global_space m = length (all_globals m)
 
@@ -56,6 +56,7 @@ stop_code state address =
 abbrev pub state_code : ℕ → Code
 state_code state = plain (basic (global_get state)) done
 
+-- a function of the runtime, without declared locals
 abbrev pub runtime_func : ℕ → Code → Func
 runtime_func sort body = record { sort = sort; locals = []; body = body }
 
@@ -69,6 +70,7 @@ runtime_funcs first_type state address =
     ∷ runtime_func (first_type + 2) (state_code state)
     ∷ []
 
+-- an export of this function
 abbrev pub func_export : List ℕ → ℕ → Export
 func_export name index = record { name = name; space = a_func; index = index }
 

@@ -5,7 +5,9 @@ use Rattle.wa_types.specs.declared.syntax.Limits.{Limits}
 use Rattle.wa_types.specs.declared.syntax.Export.{Export}
 use Rattle.wa_types.specs.Leb.{IsUnsigned, IsSigned}
 use Rattle.wa_types.specs.Encoding.{space_byte, mutable_byte, preamble}
-use Rattle.wa_types.specs.Binary.{Placed, Operands, nothing, zero_byte, index, index_and_zero, access, labels, constant, float, RawCode, ended, otherwise, instr, nested, branched, RawType, RawKind, raw_func, raw_table, raw_memory, raw_global, RawImport, RawGlobal, RawElem, RawRun, RawBody, RawSegment, Section, custom, types, imports, functions, tables, memories, globals, exports, start, elements, bodies, segments, section_id}
+use Rattle.wa_types.specs.Binary.{Placed, Operands, nothing, zero_byte, index, index_and_zero, access, labels, constant, float, RawCode, ended, otherwise, instr, nested, branched, RawType}
+use Rattle.wa_types.specs.Binary.{RawKind, raw_func, raw_table, raw_memory, raw_global, RawImport, RawGlobal, RawElem, RawRun, RawBody, RawSegment, Section, custom, types, imports}
+use Rattle.wa_types.specs.Binary.{functions, tables, memories, globals, exports, start, elements, bodies, segments, section_id}
 use Rattle.wa_types.specs.Opcodes.{follows, shape, is_value_type, is_block_type, is_nest}
 
 infixr 30 ◌▸◌
@@ -34,7 +36,7 @@ Items item (x ∷ xs) = item x ▸ Items item xs
 abbrev pub Vector : {X : Type 0} → (X → ℕ → List ℕ → Type 0) → List X → ℕ → List ℕ → Type 0
 Vector item xs = Number (length xs) ▸ Items item xs
 
--- a content of so many bytes
+-- a content of so many bytes (5.5.2)
 abbrev pub Filling : ℕ → (ℕ → List ℕ → Type 0) → ℕ → List ℕ → Type 0
 Filling size content at bytes = (length bytes ≡ size) × content at bytes
 
@@ -42,14 +44,15 @@ Filling size content at bytes = (length bytes ≡ size) × content at bytes
 abbrev pub Sized : (ℕ → List ℕ → Type 0) → ℕ → List ℕ → Type 0
 Sized content at bytes = (size : ℕ) × (Number size ▸ Filling size content) at bytes
 
--- a name (5.2.4)
+-- the bytes of a name (5.2.4)
 abbrev pub TextBytes : List ℕ → ℕ → List ℕ → Type 0
 TextBytes name at bytes = (bytes ≡ name) × IsUtf8 name
 
+-- a name (5.2.4)
 abbrev pub Text : List ℕ → ℕ → List ℕ → Type 0
 Text name = Number (length name) ▸ TextBytes name
 
--- a byte at its offset
+-- a byte at its offset (5.2.1)
 abbrev pub Byte : Placed → ℕ → List ℕ → Type 0
 Byte b at bytes = (at ≡ b.place) × (bytes ≡ b.byte ∷ [])
 
@@ -65,11 +68,12 @@ BlockType t at bytes = IsTrue (is_block_type t.byte) × Byte t at bytes
 abbrev pub FunctionType : RawType → ℕ → List ℕ → Type 0
 FunctionType t = Exactly (0x60 ∷ []) ▸ Vector ValueType t.params ▸ Vector ValueType t.results
 
+-- limits by whether they have a maximum (5.3.4)
 abbrev pub Maximum : ℕ → Option ℕ → ℕ → List ℕ → Type 0
 Maximum low None = Exactly (0x00 ∷ []) ▸ Number low
 Maximum low (Some high) = Exactly (0x01 ∷ []) ▸ Number low ▸ Number high
 
--- limits (5.3.4)
+-- limits, as which a memory type is written (5.3.4, 5.3.5)
 abbrev pub LimitsOf : Limits → ℕ → List ℕ → Type 0
 LimitsOf l = Maximum l.min l.max
 
@@ -104,6 +108,7 @@ CodeOf first_arm (branched op result arms rest) at bytes = (op.byte ≡ 0x04) ×
 abbrev pub Expression : RawCode → ℕ → List ℕ → Type 0
 Expression = CodeOf false
 
+-- what is imported (5.5.5)
 abbrev pub ImportKindOf : RawKind → ℕ → List ℕ → Type 0
 ImportKindOf (raw_func sort) = Exactly (0x00 ∷ []) ▸ Number sort
 ImportKindOf (raw_table l) = Exactly (0x01 ∷ []) ▸ TableType l
@@ -163,11 +168,12 @@ Rising last [] = Unit {0}
 Rising last (custom name bytes ∷ ss) = Rising last ss
 Rising last (s ∷ ss) = (last < section_id s) × Rising (section_id s) ss
 
--- the type indices of the functions of a section, and its bodies
+-- the type indices of the functions of a section (5.5.6)
 abbrev pub sorts_in : Section → List ℕ
 sorts_in (functions sorts) = sorts
 sorts_in _ = []
 
+-- the bodies of a section (5.5.13)
 abbrev pub bodies_in : Section → List RawBody
 bodies_in (bodies bs) = bs
 bodies_in _ = []

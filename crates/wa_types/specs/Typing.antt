@@ -7,7 +7,8 @@ use Rattle.wa_types.specs.declared.values.Value.TheVariants.{I32 as value_32, I6
 use Rattle.wa_types.specs.Operators.{operand_types, result_type}
 use Rattle.wa_types.specs.Accesses.{AccessRow, load_row, store_row}
 use Rattle.wa_types.specs.Encoding.{same_type}
-use Rattle.wa_types.specs.Syntax.{Basic, nop, drop, select, const, num, global_get, global_set, load, store, memory_size, memory_grow, Plain, basic, local_get, local_set, local_tee, br, br_if, br_table, return, unreachable, call, call_indirect, Shape, a_block, a_loop, Code, done, plain, nest, branch, FuncType}
+use Rattle.wa_types.specs.Syntax.{Basic, nop, drop, select, const, num, global_get, global_set, load, store, memory_size, memory_grow, Plain, basic, local_get, local_set, local_tee, br}
+use Rattle.wa_types.specs.Syntax.{br_if, br_table, return, unreachable, call, call_indirect, Shape, a_block, a_loop, Code, done, plain, nest, branch, FuncType}
 
 -- A global type (2.3.7).
 pub record GlobalType : Type 0 where
@@ -25,12 +26,12 @@ pub record Around : Type 0 where
   pub locals : List ValType
   pub result : Option ValType
 
--- What an instruction asks of the operands, the topmost first, and what it leaves.
+-- What an instruction asks of the operands, the topmost first, and what it leaves (3.3).
 -- A rule that fails has its number by `Validity`.
 pub data Sig : Type 0 where
   -- takes these operands off and puts those on (3.3.1 to 3.3.5)
   moves : (ins outs : List ValType) → Sig
-  -- takes these operands, and control never goes on behind it: what it leaves is arbitrary
+  -- takes these operands, and control never goes on behind it: what it leaves is arbitrary (3.3.5)
   leaves : (ins : List ValType) → Sig
   -- takes one operand of any type (3.3.2.1)
   drops : Sig
@@ -41,29 +42,33 @@ pub data Sig : Type 0 where
   -- asks for these operands, and then this rule fails, which is above that on operands
   late : (rule : ℕ) → (ins outs : List ValType) → Sig
 
+-- a result type, as the list of its types (2.3.2)
 abbrev pub listed : Option ValType → List ValType
 listed None = []
 listed (Some t) = t ∷ []
 
+-- the type of a value (4.2.1)
 abbrev pub type_of : Value → ValType
 type_of (value_32 n) = I32
 type_of (value_64 n) = I64
 
+-- two result types are one (2.3.2)
 abbrev pub same_result : Option ValType → Option ValType → Bool
 same_result None None = true
 same_result (Some t) (Some u) = same_type t u
 same_result _ _ = false
 
--- each label is there
+-- each label is there (3.3.5.8)
 abbrev pub all_there : List (Option ValType) → List ℕ → Bool
 all_there ls [] = true
 all_there ls (l ∷ labels) = nat_lt l (length ls) && all_there ls labels
 
+-- a label that is there takes this result (3.3.5.8)
 abbrev pub agrees_with : Option ValType → Option (Option ValType) → Bool
 agrees_with r None = false
 agrees_with r (Some s) = same_result r s
 
--- each label takes this result
+-- each label takes this result (3.3.5.8)
 abbrev pub all_alike : List (Option ValType) → Option ValType → List ℕ → Bool
 all_alike ls r [] = true
 all_alike ls r (l ∷ labels) = agrees_with r (slice_get ls l) && all_alike ls r labels
@@ -95,24 +100,27 @@ calls_at table None = lacks 1
 calls_at false (Some t) = lacks 3
 calls_at true (Some t) = moves (I32 ∷ reverse t.params) (reverse t.results)
 
--- local.get, local.set and local.tee (3.3.3.1 to 3.3.3.3)
+-- local.get (3.3.3.1)
 abbrev pub gets : Option ValType → Sig
 gets None = lacks 6
 gets (Some t) = moves [] (t ∷ [])
 
+-- local.set (3.3.3.2)
 abbrev pub sets : Option ValType → Sig
 sets None = lacks 6
 sets (Some t) = moves (t ∷ []) []
 
+-- local.tee (3.3.3.3)
 abbrev pub tees : Option ValType → Sig
 tees None = lacks 6
 tees (Some t) = moves (t ∷ []) (t ∷ [])
 
--- global.get and global.set (3.3.3.4, 3.3.3.5)
+-- global.get (3.3.3.4)
 abbrev pub gets_global : Option GlobalType → Sig
 gets_global None = lacks 5
 gets_global (Some g) = moves [] (g.ty ∷ [])
 
+-- global.set (3.3.3.5)
 abbrev pub sets_global : Option GlobalType → Sig
 sets_global None = lacks 5
 sets_global (Some g) = if g.mutable then moves (g.ty ∷ []) [] else late 10 (g.ty ∷ []) []
@@ -121,12 +129,13 @@ sets_global (Some g) = if g.mutable then moves (g.ty ∷ []) [] else late 10 (g.
 abbrev pub accesses : ℕ → AccessRow → (ins outs : List ValType) → Sig
 accesses align row ins outs = if nat_le align row.natural then moves ins outs else late 9 ins outs
 
--- a load or store whose opcode is none has no type
+-- a load (3.3.4.1, 3.3.4.2); one whose opcode is none has no type
 abbrev pub loads : Bool → ℕ → Option AccessRow → Sig
 loads false align row = lacks 4
 loads true align None = lacks 8
 loads true align (Some row) = accesses align row (I32 ∷ []) (row.ty ∷ [])
 
+-- a store (3.3.4.3, 3.3.4.4)
 abbrev pub stores : Bool → ℕ → Option AccessRow → Sig
 stores false align row = lacks 4
 stores true align None = lacks 8
@@ -137,6 +146,7 @@ abbrev pub with_memory : Bool → (ins outs : List ValType) → Sig
 with_memory false ins outs = lacks 4
 with_memory true ins outs = moves ins outs
 
+-- what an instruction that touches only its own operands and the store asks and leaves (3.3.1 to 3.3.4, and nop, 3.3.5.1)
 abbrev pub basic_sig : Around → Basic → Sig
 basic_sig c nop = moves [] []
 basic_sig c drop = drops
@@ -150,7 +160,7 @@ basic_sig c (store op align offset) = stores c.memory align (store_row op)
 basic_sig c memory_size = with_memory c.memory [] (I32 ∷ [])
 basic_sig c memory_grow = with_memory c.memory (I32 ∷ []) (I32 ∷ [])
 
--- What an instruction asks and leaves under these labels, the innermost first. Each label is the result that
+-- What an instruction asks and leaves under these labels (3.3.1 to 3.3.5), the innermost first. Each label is the result that
 -- a branch to it takes; the last one is the function's own.
 abbrev pub sig : Around → List (Option ValType) → Plain → Sig
 sig c ls (basic b) = basic_sig c b
@@ -165,7 +175,7 @@ sig c ls unreachable = leaves []
 sig c ls (call x) = calls (slice_get c.funcs x)
 sig c ls (call_indirect x) = calls_at c.table (slice_get c.types x)
 
--- The instruction takes these operands to those.
+-- The instruction takes these operands to those, and leaves what lies below (3.3.6.2).
 abbrev pub Takes : Sig → List ValType → List ValType → Type 0
 Takes (moves ps rs) ins outs = (below : List ValType) × (ins ≡ ps ++ below) × (outs ≡ rs ++ below)
 Takes (leaves ps) ins outs = (below : List ValType) × (ins ≡ ps ++ below)

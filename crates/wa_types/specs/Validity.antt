@@ -27,6 +27,7 @@ use Rattle.wa_types.specs.Modules.{imported_global, imported, func_sorts, func_t
 abbrev pub all_below : ℕ → List ℕ → Bool
 all_below n xs = list_all (λ x. nat_lt x n) xs
 
+-- two index spaces are one (2.5.1)
 abbrev pub same_space : Space → Space → Bool
 same_space a_func a_func = true
 same_space a_table a_table = true
@@ -38,6 +39,7 @@ same_space _ _ = false
 abbrev pub exported : Space → Module → List ℕ
 exported space m = filter_map (λ (e : Export). if same_space e.space space then Some e.index else None) m.exports
 
+-- the index of the start function, where there is one (2.5.9)
 abbrev pub start_indices : Option ℕ → List ℕ
 start_indices None = []
 start_indices (Some x) = x ∷ []
@@ -64,7 +66,7 @@ tables_there m = all_below (length (all_tables m)) (exported a_table m ++ map (�
 abbrev pub memories_there : Module → Bool
 memories_there m = all_below (length (all_memories m)) (exported a_memory m ++ map (λ (s : Segment). s.memory) m.segments)
 
--- the initialisers and offsets of the module
+-- the initialisers and offsets of the module (2.5.6 to 2.5.8)
 abbrev pub expressions : Module → List Code
 expressions m = map (λ (g : GlobalDef). g.init) m.globals ++ map (λ (e : Elem). e.offset) m.elems ++ map (λ (s : Segment). s.offset) m.segments
 
@@ -72,6 +74,7 @@ expressions m = map (λ (g : GlobalDef). g.init) m.globals ++ map (λ (e : Elem)
 abbrev pub globals_there : Module → Bool
 globals_there m = all_below (length (all_globals m)) (exported a_global m ++ flat_map got_global (expressions m))
 
+-- a maximum within a range, and not below the minimum (3.2.1)
 abbrev pub max_fits : ℕ → ℕ → Option ℕ → Bool
 max_fits range low None = true
 max_fits range low (Some high) = nat_le high range && nat_le low high
@@ -89,6 +92,7 @@ all_limits_fit m = list_all (limits_fit (2 ^ 32)) (all_tables m) && list_all (li
 abbrev pub one_each : Module → Bool
 one_each m = nat_le (length (all_tables m)) 1 && nat_le (length (all_memories m)) 1
 
+-- a constant global of this type (3.3.7.2)
 abbrev pub constant_of : Option GlobalType → ValType → Bool
 constant_of None t = false
 constant_of (Some g) t = not g.mutable && same_type g.ty t
@@ -107,11 +111,13 @@ all_constant m =
     && list_all (λ (e : Elem). is_constant (all_globals m) I32 e.offset) m.elems
     && list_all (λ (s : Segment). is_constant (all_globals m) I32 s.offset) m.segments
 
+-- two names are one (2.2.4)
 abbrev pub same_name : List ℕ → List ℕ → Bool
 same_name [] [] = true
 same_name (x ∷ xs) (y ∷ ys) = x == y && same_name xs ys
 same_name _ _ = false
 
+-- no two of these names are one (3.4.10)
 abbrev pub all_differ : List (List ℕ) → Bool
 all_differ [] = true
 all_differ (x ∷ xs) = not (list_any (same_name x) xs) && all_differ xs
@@ -120,10 +126,12 @@ all_differ (x ∷ xs) = not (list_any (same_name x) xs) && all_differ xs
 abbrev pub names_differ : Module → Bool
 names_differ m = all_differ (map (λ (e : Export). e.name) m.exports)
 
+-- the type [] -> [] (3.4.7)
 abbrev pub is_empty_type : Option FuncType → Bool
 is_empty_type None = false
 is_empty_type (Some t) = length t.params == 0 && length t.results == 0
 
+-- the start function, where there is one, is of that type (3.4.7)
 abbrev pub start_fits : Option ℕ → List FuncType → Bool
 start_fits None types = true
 start_fits (Some x) types = is_empty_type (slice_get types x)

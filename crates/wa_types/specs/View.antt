@@ -1,7 +1,8 @@
 -- What the values of the program are, as plain data: the vectors' memory is left out.
 use Rattle.std.specs.Prelude.{List, [], ◌∷◌, map}
 use Rattle.wa_types.specs.declared.instrs.Instr.{Instr, Row_of-Instr, end_of-Instr, more_of-Instr}
-use Rattle.wa_types.specs.declared.instrs.Instr.TheVariants.{Unreachable, Nop, Drop, Select, Return, MemorySize, MemoryGrow, Const, Num, Br, BrIf, BrTable, Call, CallIndirect, LocalGet, LocalSet, LocalTee, GlobalGet, GlobalSet, Load, Store, Block', Loop', If'}
+use Rattle.wa_types.specs.declared.instrs.Instr.TheVariants.{Unreachable, Nop, Drop, Select, Return, MemorySize, MemoryGrow, Const, Num, Br, BrIf, BrTable, Call, CallIndirect, LocalGet}
+use Rattle.wa_types.specs.declared.instrs.Instr.TheVariants.{LocalSet, LocalTee, GlobalGet, GlobalSet, Load, Store, Block', Loop', If'}
 use Rattle.wa_types.specs.declared.syntax.FuncType.{FuncType as FuncTypeValue}
 use Rattle.wa_types.specs.declared.syntax.Func.{Func as FuncValue}
 use Rattle.wa_types.specs.declared.syntax.GlobalDef.{GlobalDef as GlobalDefValue}
@@ -9,7 +10,8 @@ use Rattle.wa_types.specs.declared.syntax.Elem.{Elem as ElemValue}
 use Rattle.wa_types.specs.declared.syntax.Segment.{Segment as SegmentValue}
 use Rattle.wa_types.specs.declared.syntax.Custom.{Custom as CustomValue}
 use Rattle.wa_types.specs.declared.syntax.Module.{Module as ModuleValue}
-use Rattle.wa_types.specs.Syntax.{nop, drop, select, const, num, global_get, global_set, load, store, memory_size, memory_grow, basic, local_get, local_set, local_tee, br, br_if, br_table, return, unreachable, call, call_indirect, a_block, a_loop, Code, done, plain, nest, branch, FuncType, Func, GlobalDef, Elem, Segment, Custom, Module}
+use Rattle.wa_types.specs.Syntax.{nop, drop, select, const, num, global_get, global_set, load, store, memory_size, memory_grow, basic, local_get, local_set, local_tee, br, br_if, br_table}
+use Rattle.wa_types.specs.Syntax.{return, unreachable, call, call_indirect, a_block, a_loop, Code, done, plain, nest, branch, FuncType, Func, GlobalDef, Elem, Segment, Custom, Module}
 
 unfoldable mutual
   -- an instruction in front of the rest of its sequence
@@ -53,21 +55,27 @@ onto (i ∷ is) rest = in_front i (onto is rest)
 unfoldable pub code : List Instr → Code
 code is = onto is done
 
+-- a function type
 abbrev pub func_type_of : FuncTypeValue → FuncType
 func_type_of t = record { params = t.params.items; results = t.results.items }
 
+-- a defined function
 abbrev pub func_of : FuncValue → Func
 func_of f = record { sort = f.sort; locals = f.locals.items; body = code f.body.items }
 
+-- a defined global
 abbrev pub global_of : GlobalDefValue → GlobalDef
 global_of g = record { ty = g.ty; mutable = g.mutable; init = code g.init.items }
 
+-- an element segment
 abbrev pub elem_of : ElemValue → Elem
 elem_of e = record { table = e.table; offset = code e.offset.items; funcs = e.funcs.items }
 
+-- a data segment
 abbrev pub segment_of : SegmentValue → Segment
 segment_of s = record { memory = s.memory; offset = code s.offset.items; bytes = s.bytes.items }
 
+-- a custom section
 abbrev pub custom_of : CustomValue → Custom
 custom_of c = record { after = c.after; name = c.name; bytes = c.bytes.items }
 

@@ -1,3 +1,5 @@
+//! The bounds that source and prepared modules are held to, and which limit is passed.
+
 ghost use Rattle.std.specs.Prelude.{◌≡◌, ◌⊎◌};
 ghost use Rattle.wa_types.specs.ModuleBounds.{prepared_bounds, source_bounds};
 

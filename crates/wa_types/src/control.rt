@@ -1,3 +1,5 @@
+//! Which instructions transfer control unconditionally, so that what follows them can't be reached (standard, section 3.3.5).
+
 ghost use Rattle.std.specs.Prelude.{◌≡◌};
 ghost use Rattle.wa_types.specs.Pruned.{is_last_instr};
 

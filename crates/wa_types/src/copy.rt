@@ -1,3 +1,5 @@
+//! Copies of modules, part by part.
+
 ghost use Rattle.std.specs.Prelude.{◌≡◌, IfOk, map};
 ghost use Rattle.wa_types.specs.Syntax.{Code};
 ghost use Rattle.wa_types.specs.View.{in_front, code, func_type_of, func_of, global_of, elem_of, segment_of, custom_of, module_of};

@@ -1,3 +1,5 @@
+//! Instructions: a tree in which a construct holds its bodies (standard, section 2.4).
+
 use crate::operators::NumOp;
 use crate::values::{ValType, Value};
 

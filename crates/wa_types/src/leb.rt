@@ -1,3 +1,5 @@
+//! Numbers in LEB128, read and written, with their laws (standard, section 5.2.2).
+
 ghost use Rattle.std.specs.Prelude.{◌≡◌, ℕ, ◌+◌, ◌*◌, ◌<◌, ◌≤◌, ◌^◌, ◌++◌, List, [], ◌∷◌, length, drop, slice_index, Ok, IfOk, OnOk, OnErr, MatchOption};
 ghost use Rattle.std.specs.Int.{w32, w64, cast_unsigned};
 ghost use Rattle.wa_types.specs.Leb.{unsigned_at, signed_at, last_signed, in_bits, shortest, shortest_signed, IsLong, IsOneByte, IsUnsigned, IsSigned, Front};

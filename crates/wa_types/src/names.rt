@@ -1,9 +1,11 @@
+//! Names (standard, section 2.2.4).
+
 ghost use Rattle.std.specs.Prelude.{◌≡◌, IfOk};
 
 use std::alloc::{AllocError, Global};
 use std::marker::Model;
 
-/// A name: a text in UTF-8 (standard, section 2.2.3). Contracts see its bytes.
+/// A name: a text in UTF-8 (standard, section 2.2.4). Contracts see its bytes.
 #[derive(Debug, Drop)]
 pub struct Name {
     text: String,

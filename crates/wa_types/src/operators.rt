@@ -1,3 +1,5 @@
+//! Numeric operators on integers, by their opcodes (standard, sections 2.4.1 and 5.4.5).
+
 /// A numeric operator (standard, sections 2.4.1 and 5.4.5); its number is its opcode.
 #[derive(Clone, Copy, Debug, PartialEq, Eq)]
 pub enum NumOp {

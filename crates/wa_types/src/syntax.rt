@@ -1,3 +1,5 @@
+//! Modules and what they list: types, imports, functions, tables, memories, globals, exports, segments (standard, section 2.5).
+
 use crate::instrs::Instr;
 use crate::names::Name;
 use crate::values::ValType;

@@ -1,3 +1,5 @@
+//! Value types, values, and the causes of traps (standard, sections 2.3.1, 4.2.1 and 4.2.2).
+
 /// A value type (standard, section 2.3.1). Floats are not among them.
 #[derive(Clone, Copy, Debug, PartialEq, Eq)]
 pub enum ValType {

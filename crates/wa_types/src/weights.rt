@@ -1,3 +1,5 @@
+//! The weight of a function, which bounds the size of its rewritten form.
+
 ghost use Rattle.std.specs.Prelude.{◌≡◌, ◌+◌, ◌^◌, ◌<◌, length, slice_get};
 ghost use Rattle.wa_types.specs.Syntax.{done};
 ghost use Rattle.wa_types.specs.View.{code, in_front, func_of, module_of};

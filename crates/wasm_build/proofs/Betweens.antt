@@ -50,7 +50,8 @@ here_is : (from to : Place) (front : List ℕ) → to.at ≡ from.at + length fr
 here_is from to front e = ap (λ k. record { at = k; left = to.left }) (sym e)
 
 -- a number that is read
-pub number_passed : (Spells : List ℕ → ℕ → Type 0) (r : Result ℕ NotSpelled) (old new end : Place) (n : ℕ) → ReadsNumber Spells r old new → Between (λ at bytes. Spells bytes n) old end → (r ≡ Ok n) × (new ≡ end)
+pub number_passed : (Spells : List ℕ → ℕ → Type 0) (r : Result ℕ NotSpelled) (old new end : Place) (n : ℕ) → ReadsNumber Spells r old new → Between (λ at bytes. Spells bytes n) old end
+    → (r ≡ Ok n) × (new ≡ end)
 number_passed Spells r old new end n f b =
     let g = f n b.front end.left b.left b.spelled in (g.0, g.1 ∙ here_is old end b.front b.place)
 
@@ -92,7 +93,8 @@ pub record Going {A X : Type 0} (view : A → X) (Spelled : X → ℕ → List �
 pub record Keeps {A X : Type 0} (view : A → X) (Spelled : X → ℕ → List ℕ → Type 0) (count : ℕ) (old : Place) (got : List A) (here : Place) : Type 0 where
   pub going : (xs : List X) (end : Place) → Between (Vector Spelled xs) old end → Going view Spelled count got here end xs
 
-pub keeps_none : {A X : Type 0} (view : A → X) (Spelled : X → ℕ → List ℕ → Type 0) (count : ℕ) (old new : Place) (got : List A) → ReadsNumber (IsUnsigned 32) (Ok count) old new → got ≡ [] → Keeps view Spelled count old got new
+pub keeps_none : {A X : Type 0} (view : A → X) (Spelled : X → ℕ → List ℕ → Type 0) (count : ℕ) (old new : Place) (got : List A) → ReadsNumber (IsUnsigned 32) (Ok count) old new → got ≡ []
+    → Keeps view Spelled count old got new
 keeps_none view Spelled count old new got f e = record {
   going = λ xs end b.
       let k = parts (Number (length xs)) (Items Spelled xs) old end b in
@@ -122,17 +124,20 @@ pub record Next {A X : Type 0} (view : A → X) (Spelled : X → ℕ → List �
   pub first : Between (Spelled item) here middle
   pub others : Between (Items Spelled more) middle end
 
-next_of : {A X : Type 0} (view : A → X) (Spelled : X → ℕ → List ℕ → Type 0) (got : List A) (here end : Place) (xs rest : List X) → map view got ++ rest ≡ xs → Between (Items Spelled rest) here end → length got < length xs → Next view Spelled got here end xs
+next_of : {A X : Type 0} (view : A → X) (Spelled : X → ℕ → List ℕ → Type 0) (got : List A) (here end : Place) (xs rest : List X) → map view got ++ rest ≡ xs
+    → Between (Items Spelled rest) here end → length got < length xs → Next view Spelled got here end xs
 next_of view Spelled got here end xs [] e b k =
     absurd (let n : length (map view got) + 0 ≡ length xs = sym (length-append (map view got) []) ∙ ap length e in omega (arith, map_length view got, n))
 next_of view Spelled got here end xs (x ∷ more) e b k =
     let p = parts (Spelled x) (Items Spelled more) here end b in
     record { item = x; more = more; whole = e; middle = p.middle; first = p.first; others = p.second }
 
-next : {A X : Type 0} (view : A → X) (Spelled : X → ℕ → List ℕ → Type 0) (count : ℕ) (got : List A) (here end : Place) (xs : List X) → Going view Spelled count got here end xs → length got < count → Next view Spelled got here end xs
+next : {A X : Type 0} (view : A → X) (Spelled : X → ℕ → List ℕ → Type 0) (count : ℕ) (got : List A) (here end : Place) (xs : List X) → Going view Spelled count got here end xs
+    → length got < count → Next view Spelled got here end xs
 next view Spelled count got here end xs g k = next_of view Spelled got here end xs g.rest g.whole g.between (let c = g.counted in omega (arith, c, k))
 
-pub keeps_more : {A X : Type 0} (view : A → X) (Spelled : X → ℕ → List ℕ → Type 0) (count : ℕ) (old here new : Place) (got more : List A) (a : A) → Keeps view Spelled count old got here → length got < count → Builds view Spelled (Ok a) here new → more ≡ got ++ a ∷ [] → Keeps view Spelled count old more new
+pub keeps_more : {A X : Type 0} (view : A → X) (Spelled : X → ℕ → List ℕ → Type 0) (count : ℕ) (old here new : Place) (got more : List A) (a : A) → Keeps view Spelled count old got here
+    → length got < count → Builds view Spelled (Ok a) here new → more ≡ got ++ a ∷ [] → Keeps view Spelled count old more new
 keeps_more view Spelled count old here new got more a k some read f = record {
   going = λ xs end b.
       let g = k.going xs end b in
@@ -141,17 +146,20 @@ keeps_more view Spelled count old here new got more a k some read f = record {
       record {
         counted = g.counted;
         rest = n.more;
-        whole = ap (λ s. map view s ++ n.more) f ∙ ap (λ s. s ++ n.more) (map_append view got (a ∷ [])) ∙ append_assoc (map view got) (view a ∷ []) n.more ∙ ap (λ y. map view got ++ y ∷ n.more) r.0 ∙ n.whole;
+        whole = ap (λ s. map view s ++ n.more) f ∙ ap (λ s. s ++ n.more) (map_append view got (a ∷ [])) ∙ append_assoc (map view got) (view a ∷ []) n.more
+            ∙ ap (λ y. map view got ++ y ∷ n.more) r.0 ∙ n.whole;
         between = from_here _ _ _ _ r.1 n.others;
       };
 }
 
-pub keeps_stop : {A X : Type 0} (view : A → X) (Spelled : X → ℕ → List ℕ → Type 0) (count : ℕ) (old here new : Place) (got : List A) (d : BuildFault) → Keeps view Spelled count old got here → length got < count → Builds view Spelled (Err d) here new → (xs : List X) (end : Place) → Between (Vector Spelled xs) old end → d ≡ Memory
+pub keeps_stop : {A X : Type 0} (view : A → X) (Spelled : X → ℕ → List ℕ → Type 0) (count : ℕ) (old here new : Place) (got : List A) (d : BuildFault) → Keeps view Spelled count old got here
+    → length got < count → Builds view Spelled (Err d) here new → (xs : List X) (end : Place) → Between (Vector Spelled xs) old end → d ≡ Memory
 keeps_stop view Spelled count old here new got d k some read xs end b =
     let n = next view Spelled count got here end xs (k.going xs end b) some in
     read.built n.item n.middle n.first
 
-ends_of : {A X : Type 0} (view : A → X) (Spelled : X → ℕ → List ℕ → Type 0) (got : List A) (here end : Place) (xs rest : List X) → map view got ++ rest ≡ xs → Between (Items Spelled rest) here end → length got ≡ length xs → (map view got ≡ xs) × (here ≡ end)
+ends_of : {A X : Type 0} (view : A → X) (Spelled : X → ℕ → List ℕ → Type 0) (got : List A) (here end : Place) (xs rest : List X) → map view got ++ rest ≡ xs
+    → Between (Items Spelled rest) here end → length got ≡ length xs → (map view got ≡ xs) × (here ≡ end)
 ends_of view Spelled got here end xs [] e b k =
     let left : here.left ≡ end.left = b.left ∙ ap (λ z. z ++ end.left) b.spelled in
     let place : here.at ≡ end.at = let g = b.place in let h = ap length b.spelled in omega (arith, g, h) in
@@ -160,13 +168,15 @@ ends_of view Spelled got here end xs (x ∷ more) e b k =
     absurd (let n : length (map view got) + suc (length more) ≡ length xs = sym (length-append (map view got) (x ∷ more)) ∙ ap length e in omega (arith, map_length view got, n))
 
 -- all of them are read
-pub keeps_all : {A X : Type 0} (view : A → X) (Spelled : X → ℕ → List ℕ → Type 0) (count : ℕ) (old here : Place) (got : List A) → Keeps view Spelled count old got here → length got ≡ count → (xs : List X) (end : Place) → Between (Vector Spelled xs) old end → (map view got ≡ xs) × (here ≡ end)
+pub keeps_all : {A X : Type 0} (view : A → X) (Spelled : X → ℕ → List ℕ → Type 0) (count : ℕ) (old here : Place) (got : List A) → Keeps view Spelled count old got here → length got ≡ count
+    → (xs : List X) (end : Place) → Between (Vector Spelled xs) old end → (map view got ≡ xs) × (here ≡ end)
 keeps_all view Spelled count old here got k whole xs end b =
     let g = k.going xs end b in
     ends_of view Spelled got here end xs g.rest g.whole g.between (whole ∙ g.counted)
 
 -- a vector of what the file spells is one of what is left of it
-as_items : {R X : Type 0} (Spelled : R → ℕ → List ℕ → Type 0) (Is : R → X → Type 0) (raws : List R) (xs : List X) (at : ℕ) (bytes : List ℕ) → Each Is raws xs → Items Spelled raws at bytes → Items (SpelledAs Spelled Is) xs at bytes
+as_items : {R X : Type 0} (Spelled : R → ℕ → List ℕ → Type 0) (Is : R → X → Type 0) (raws : List R) (xs : List X) (at : ℕ) (bytes : List ℕ) → Each Is raws xs → Items Spelled raws at bytes
+    → Items (SpelledAs Spelled Is) xs at bytes
 as_items Spelled Is [] [] at bytes h b = b
 as_items Spelled Is [] (x ∷ xs) at bytes h b = absurd h
 as_items Spelled Is (r ∷ raws) [] at bytes h b = absurd h
@@ -178,12 +188,14 @@ each_length Is [] (x ∷ xs) h = absurd h
 each_length Is (r ∷ raws) [] h = absurd h
 each_length Is (r ∷ raws) (x ∷ xs) h = ap suc (each_length Is raws xs h.1)
 
-pub as_vector : {R X : Type 0} (Spelled : R → ℕ → List ℕ → Type 0) (Is : R → X → Type 0) (raws : List R) (xs : List X) (at : ℕ) (bytes : List ℕ) → Each Is raws xs → Vector Spelled raws at bytes → Vector (SpelledAs Spelled Is) xs at bytes
+pub as_vector : {R X : Type 0} (Spelled : R → ℕ → List ℕ → Type 0) (Is : R → X → Type 0) (raws : List R) (xs : List X) (at : ℕ) (bytes : List ℕ) → Each Is raws xs
+    → Vector Spelled raws at bytes → Vector (SpelledAs Spelled Is) xs at bytes
 as_vector Spelled Is raws xs at bytes h b =
     (b.0, b.1, b.2, subst (IsUnsigned 32 b.0) (each_length Is raws xs h) b.3, as_items Spelled Is raws xs (at + length b.0) b.1 h b.4)
 
 -- the exit of a `?` with this error, where it is want of memory
-pub exits : {A X : Type 0} (view : A → X) (Spelled : X → ℕ → List ℕ → Type 0) (r : Result A BuildFault) (old new : Place) (d y : BuildFault) → r ≡ Err y → y ≡ d → ((x : X) (end : Place) → Between (Spelled x) old end → d ≡ Memory) → Builds view Spelled r old new
+pub exits : {A X : Type 0} (view : A → X) (Spelled : X → ℕ → List ℕ → Type 0) (r : Result A BuildFault) (old new : Place) (d y : BuildFault) → r ≡ Err y → y ≡ d
+    → ((x : X) (end : Place) → Between (Spelled x) old end → d ≡ Memory) → Builds view Spelled r old new
 exits view Spelled r old new d y e f g = record { built = λ x end b. fails view r x new end d y e f (g x end b) }
 
 pub map_same : {A : Type 0} (s : List A) → map (λ x. x) s ≡ s
@@ -191,7 +203,8 @@ map_same [] = refl
 map_same (x ∷ s) = ap (λ z. x ∷ z) (map_same s)
 
 -- so many bytes that are taken
-pub taken_is : (got : List ℕ) (count : ℕ) (these : List ℕ) (old new end : Place) → old.left ≡ got ++ new.left → length got ≡ count → new.at ≡ old.at + count → count ≡ length these → Between (Exactly these) old end → (got ≡ these) × (new ≡ end)
+pub taken_is : (got : List ℕ) (count : ℕ) (these : List ℕ) (old new end : Place) → old.left ≡ got ++ new.left → length got ≡ count → new.at ≡ old.at + count → count ≡ length these
+    → Between (Exactly these) old end → (got ≡ these) × (new ≡ end)
 taken_is got count these old new end e f g h b =
     let whole : got ++ new.left ≡ these ++ end.left = sym e ∙ b.left ∙ ap (λ z. z ++ end.left) b.spelled in
     let same = same_cut got new.left these end.left whole (f ∙ h) in
@@ -211,10 +224,13 @@ pub record Gotten {A X : Type 0} (view : A → X) (Spelled : X → ℕ → List 
   pub counted : length got ≡ index
   pub keeps : Keeps view Spelled count old got here
 
-pub gotten_none : {A X : Type 0} {view : A → X} {Spelled : X → ℕ → List ℕ → Type 0} {count : ℕ} {old new : Place} (before : List A) → ReadsNumber (IsUnsigned 32) (Ok count) old new → Gotten view Spelled count old before before 0 new
+pub gotten_none : {A X : Type 0} {view : A → X} {Spelled : X → ℕ → List ℕ → Type 0} {count : ℕ} {old new : Place} (before : List A) → ReadsNumber (IsUnsigned 32) (Ok count) old new
+    → Gotten view Spelled count old before before 0 new
 gotten_none before r = record { got = []; items_are = sym (append-nil before); counted = refl; keeps = keeps_none _ _ _ _ _ _ r refl }
 
-pub gotten_more : {A X : Type 0} {view : A → X} {Spelled : X → ℕ → List ℕ → Type 0} {count : ℕ} {old here new : Place} {before items more : List A} {index : ℕ} {a : A} → Gotten view Spelled count old before items index here → index < count → Builds view Spelled (Ok a) here new → more ≡ items ++ a ∷ [] → Gotten view Spelled count old before more (index + 1) new
+pub gotten_more : {A X : Type 0} {view : A → X} {Spelled : X → ℕ → List ℕ → Type 0} {count : ℕ} {old here new : Place} {before items more : List A} {index : ℕ} {a : A}
+    → Gotten view Spelled count old before items index here → index < count → Builds view Spelled (Ok a) here new → more ≡ items ++ a ∷ []
+    → Gotten view Spelled count old before more (index + 1) new
 gotten_more {before = before} {items = items} {a = a} g some r e = record {
   got = g.got ++ a ∷ [];
   items_are = e ∙ ap (λ s. s ++ a ∷ []) g.items_are ∙ append_assoc before g.got (a ∷ []);
@@ -222,7 +238,9 @@ gotten_more {before = before} {items = items} {a = a} g some r e = record {
   keeps = keeps_more _ _ _ _ _ _ _ _ _ g.keeps (let c = g.counted in omega (arith, c, some)) r refl;
 }
 
-pub gotten_stop : {A X : Type 0} {view : A → X} {Spelled : X → ℕ → List ℕ → Type 0} {count : ℕ} {old here new : Place} {before items : List A} {index : ℕ} {d y : BuildFault} {q : Result (Unit {0}) BuildFault} (after : List A) → Gotten view Spelled count old before items index here → index < count → q ≡ Err y → y ≡ d → Builds view Spelled (Err d) here new → Builds (λ (u : Unit {0}). map view after) (SpelledBehind Spelled (map view before)) q old new
+pub gotten_stop : {A X : Type 0} {view : A → X} {Spelled : X → ℕ → List ℕ → Type 0} {count : ℕ} {old here new : Place} {before items : List A} {index : ℕ} {d y : BuildFault} {q : Result
+    (Unit {0}) BuildFault} (after : List A) → Gotten view Spelled count old before items index here → index < count → q ≡ Err y → y ≡ d → Builds view Spelled (Err d) here new
+    → Builds (λ (u : Unit {0}). map view after) (SpelledBehind Spelled (map view before)) q old new
 gotten_stop {view = view} after g some e f r = record {
   built = λ ys end b.
       let h = b.spelled in
@@ -230,7 +248,8 @@ gotten_stop {view = view} after g some e f r = record {
       (keeps_stop _ _ _ _ _ _ _ _ g.keeps (let c = g.counted in omega (arith, c, some)) r h.0 end (record { front = b.front; spelled = h.2; left = b.left; place = b.place }));
 }
 
-pub gotten_all : {A X : Type 0} {view : A → X} {Spelled : X → ℕ → List ℕ → Type 0} {count : ℕ} {old here : Place} {before items : List A} {index : ℕ} → Gotten view Spelled count old before items index here → index ≡ count → Builds (λ (u : Unit {0}). map view items) (SpelledBehind Spelled (map view before)) (Ok tt) old here
+pub gotten_all : {A X : Type 0} {view : A → X} {Spelled : X → ℕ → List ℕ → Type 0} {count : ℕ} {old here : Place} {before items : List A} {index : ℕ}
+    → Gotten view Spelled count old before items index here → index ≡ count → Builds (λ (u : Unit {0}). map view items) (SpelledBehind Spelled (map view before)) (Ok tt) old here
 gotten_all {view = view} {before = before} {items = items} g all = record {
   built = λ ys end b.
       let h = b.spelled in
@@ -239,14 +258,17 @@ gotten_all {view = view} {before = before} {items = items} g all = record {
 }
 
 -- a vector alone is one behind nothing
-pub from_nothing : {A X B : Type 0} {Spelled : X → ℕ → List ℕ → Type 0} {old new : Place} {u : Unit {0}} (view : A → X) (v : List A) (none : List A) (whole : B → List X) (c : B) → none ≡ [] → whole c ≡ map view v → Builds (λ (u : Unit {0}). map view v) (SpelledBehind Spelled (map view none)) (Ok u) old new → Builds whole (λ xs. Vector Spelled xs) (Ok c) old new
+pub from_nothing : {A X B : Type 0} {Spelled : X → ℕ → List ℕ → Type 0} {old new : Place} {u : Unit {0}} (view : A → X) (v : List A) (none : List A) (whole : B → List X) (c : B) → none ≡ []
+    → whole c ≡ map view v → Builds (λ (u : Unit {0}). map view v) (SpelledBehind Spelled (map view none)) (Ok u) old new → Builds whole (λ xs. Vector Spelled xs) (Ok c) old new
 from_nothing view v none whole c e f r = record {
   built = λ xs end b.
       let g = r.built xs end (record { front = b.front; spelled = (xs, sym (ap (λ z. map view z ++ xs) e), b.spelled); left = b.left; place = b.place }) in
       (f ∙ g.0, g.1);
 }
 
-pub from_nothing_stop : {A X B : Type 0} {Spelled : X → ℕ → List ℕ → Type 0} {old new : Place} {d y : BuildFault} {q : Result B BuildFault} (view : A → X) (v : List A) (none : List A) (whole : B → List X) → none ≡ [] → q ≡ Err y → y ≡ d → Builds (λ (u : Unit {0}). map view v) (SpelledBehind Spelled (map view none)) (Err d) old new → Builds whole (λ xs. Vector Spelled xs) q old new
+pub from_nothing_stop : {A X B : Type 0} {Spelled : X → ℕ → List ℕ → Type 0} {old new : Place} {d y : BuildFault} {q : Result B BuildFault} (view : A → X) (v : List A) (none : List A)
+    (whole : B → List X) → none ≡ [] → q ≡ Err y → y ≡ d → Builds (λ (u : Unit {0}). map view v) (SpelledBehind Spelled (map view none)) (Err d) old new
+    → Builds whole (λ xs. Vector Spelled xs) q old new
 from_nothing_stop view v none whole e f g r = record {
   built = λ xs end b. fails whole _ xs _ end _ _ f g
       (r.built xs end (record { front = b.front; spelled = (xs, sym (ap (λ z. map view z ++ xs) e), b.spelled); left = b.left; place = b.place }));

@@ -1,10 +1,7 @@
 -- Code that is read instruction by instruction.
 use Rattle.std.proofs.Common.{◌≡◌, ℕ, ◌+◌, ◌≤◌, List, [], ◌∷◌, ◌++◌, Bool, true, false, Option, Some, None, Result, Ok, Err, refl, ap, sym, ◌∙◌, subst, arith, length, length-append, append_assoc}
-use Rattle.std.specs.declared.vec.Vec.{Vec}
-use Rattle.std.specs.declared.alloc.Global.{Global}
 use Rattle.wa_types.specs.declared.values.ValType.{ValType}
 use Rattle.wa_types.specs.declared.instrs.Instr.{Instr}
-use Rattle.wa_types.specs.declared.instrs.Instr.TheVariants.{Block, Loop, If}
 use Rattle.wa_types.specs.Binary.{RawCode, ended, otherwise, instr, nested, branched}
 use Rattle.wa_types.specs.Encoding.{shape_byte}
 use Rattle.wa_types.specs.Opcodes.{Follows, follows, shape}
@@ -12,26 +9,25 @@ use Rattle.wa_types.specs.Spells.{◌▸◌, BlockType, OperandsOf, CodeOf}
 use Rattle.wa_types.specs.Syntax.{Plain, Shape, a_block, a_loop, Code, done, plain, nest, branch}
 use Rattle.wa_types.specs.View.{in_front, code, onto}
 use Rattle.wa_types.specs.Reading.{IsCode}
-use Rattle.wa_types.proofs.ViewLemmas.{in_block, in_loop, in_if, onto_append, onto_done, onto_none, code_none, is_block, is_loop, is_if, is_plain, kind}
+use Rattle.wa_types.proofs.ViewLemmas.{in_block, in_loop, in_if, onto_done, is_block, is_loop, is_if, is_plain, kind}
 use Rattle.wasm_build.specs.declared.BuildFault.{BuildFault}
 use Rattle.wasm_build.specs.declared.BuildFault.TheVariants.{Memory}
-use Rattle.wasm_build.specs.declared.code.Next.{Next}
-use Rattle.wasm_build.specs.declared.code.Next.TheVariants.{Instr as an_instr, End as an_end, Else as an_else}
-use Rattle.wasm_build.specs.declared.code.Mark.{Mark}
-use Rattle.wasm_build.specs.declared.code.Mark.TheVariants.{End, Else}
 use Rattle.wasm_cursor.specs.Places.{Place}
 use Rattle.wasm_build.specs.Builds.{Between, Builds}
-use Rattle.wasm_build.specs.BuildsCode.{SpelledCode, SpelledExpression, SpelledConstruct, view_construct, SpelledArms, view_arms, GivesNext, BuildsNext, Ended, GivesSequence, BuildsSequence, IsOfOpcode, SpelledPlain, alone}
-use Rattle.wasm_build.proofs.Betweens.{Parts, parts, behind_first, nothing_between, fails}
-use Rattle.wasm_build.proofs.Steps.{At, never}
+use Rattle.wasm_build.specs.BuildsCode.{Next, an_instr, open_block, open_loop, open_if, an_else, an_end, SpelledCode, SpelledExpression, SpelledResult, SpelledConstruct, SpelledArms}
+use Rattle.wasm_build.specs.BuildsCode.{GivesNext, GivesNest, BuildsNext, IsOfOpcode, SpelledPlain, alone}
+use Rattle.wasm_build.proofs.Betweens.{Parts, parts, behind_first, nothing_between}
 
 -- What code begins with, by its first byte, and what stands behind that byte.
 pub data Opens (first_arm : Bool) (v : ℕ) (body else_arm : Code) : ℕ → List ℕ → Type 0 where
   opens_end : {at : ℕ} {back : List ℕ} → v ≡ 0x0B → body ≡ done → else_arm ≡ done → back ≡ [] → Opens first_arm v body else_arm at back
   opens_else : {at : ℕ} {back : List ℕ} → v ≡ 0x05 → body ≡ done → first_arm ≡ true → SpelledExpression else_arm at back → Opens first_arm v body else_arm at back
-  opens_plain : {at : ℕ} {back : List ℕ} (p : Plain) (rest : Code) → body ≡ plain p rest → IsOfOpcode v p → (SpelledPlain v (plain p done) ▸ SpelledCode first_arm rest else_arm) at back → Opens first_arm v body else_arm at back
-  opens_nest : {at : ℕ} {back : List ℕ} (s : Shape) (r : Option ValType) (inner rest : Code) → v ≡ shape_byte s → body ≡ nest s r inner rest → (SpelledConstruct (r, inner) ▸ SpelledCode first_arm rest else_arm) at back → Opens first_arm v body else_arm at back
-  opens_if : {at : ℕ} {back : List ℕ} (r : Option ValType) (a b rest : Code) → v ≡ 0x04 → body ≡ branch r a b rest → (SpelledArms (r, a, b) ▸ SpelledCode first_arm rest else_arm) at back → Opens first_arm v body else_arm at back
+  opens_plain : {at : ℕ} {back : List ℕ} (p : Plain) (rest : Code) → body ≡ plain p rest → IsOfOpcode v p → (SpelledPlain v (plain p done) ▸ SpelledCode first_arm rest else_arm) at back
+      → Opens first_arm v body else_arm at back
+  opens_nest : {at : ℕ} {back : List ℕ} (s : Shape) (r : Option ValType) (inner rest : Code) → v ≡ shape_byte s → body ≡ nest s r inner rest
+      → (SpelledConstruct (r, inner) ▸ SpelledCode first_arm rest else_arm) at back → Opens first_arm v body else_arm at back
+  opens_if : {at : ℕ} {back : List ℕ} (r : Option ValType) (a b rest : Code) → v ≡ 0x04 → body ≡ branch r a b rest → (SpelledArms (r, a, b) ▸ SpelledCode first_arm rest else_arm) at back
+      → Opens first_arm v body else_arm at back
 
 -- the first byte of code
 record Opened (first_arm : Bool) (body else_arm : Code) (at : ℕ) (bytes : List ℕ) : Type 0 where
@@ -113,7 +109,8 @@ pub record Onto (first_arm : Bool) (v : ℕ) (body else_arm : Code) (here end : 
 cons_same : (v w : ℕ) (xs ys : List ℕ) → v ∷ xs ≡ w ∷ ys → (v ≡ w) × (xs ≡ ys)
 cons_same v w xs ys e = ((let p : v ≡ w = cc in p), (let p : xs ≡ ys = cc in p))
 
-opens_here : (first_arm : Bool) (v : ℕ) (body else_arm : Code) (old here end : Place) → old.left ≡ v ∷ here.left → here.at ≡ old.at + 1 → Between (SpelledCode first_arm body else_arm) old end → Onto first_arm v body else_arm here end
+opens_here : (first_arm : Bool) (v : ℕ) (body else_arm : Code) (old here end : Place) → old.left ≡ v ∷ here.left → here.at ≡ old.at + 1
+    → Between (SpelledCode first_arm body else_arm) old end → Onto first_arm v body else_arm here end
 opens_here first_arm v body else_arm old here end e f b =
     let (raw, is, h) = b.spelled in
     let o = opened first_arm raw body else_arm old.at b.front is h in
@@ -125,93 +122,8 @@ opens_here first_arm v body else_arm old here end e f b =
       place = let p = b.place in let q = ap length o.whole in omega (arith, p, q, f);
     }
 
--- For whatever code is spelled from the old place, these instructions are read of it.
-pub record Taken (old : Place) (got : List Instr) (here : Place) : Type 0 where
-  pub taken : (first_arm : Bool) (body else_arm : Code) (end : Place) → Between (SpelledCode first_arm body else_arm) old end → (rest : Code) × (onto got rest ≡ body) × Between (SpelledCode first_arm rest else_arm) here end
-
-pub taken_none : (old : Place) (got : List Instr) → got ≡ [] → Taken old got old
-taken_none old got e = record { taken = λ first_arm body else_arm end b. (body, ap (λ s. onto s body) e ∙ onto_none body, b) }
-
-pub taken_more : (old here new : Place) (got more : List Instr) (i : Instr) → Taken old got here → BuildsNext (Ok (an_instr i)) here new → more ≡ got ++ i ∷ [] → Taken old more new
-taken_more old here new got more i t n e = record {
-  taken = λ first_arm body else_arm end b.
-      let k = t.taken first_arm body else_arm end b in
-      let g = n.built first_arm k.0 else_arm end k.2 in
-      (g.0, ap (λ s. onto s g.0) e ∙ onto_append got i g.0 ∙ ap (onto got) (sym g.1) ∙ k.1, g.2);
-}
-
-pub taken_stop : {old here new : Place} {got : List Instr} {d y : BuildFault} {q : Result (Vec Instr Global × Mark) BuildFault} → Taken old got here → q ≡ Err y → y ≡ d → BuildsNext (Err d) here new → BuildsSequence q old new
-taken_stop {old} {here} {new} {got} {d} {y} {q} t e f n = record {
-  built = λ first_arm body else_arm end b.
-      let k = t.taken first_arm body else_arm end b in
-      let g : d ≡ Memory = n.built first_arm k.0 else_arm end k.2 in
-      let P : Result _ BuildFault → Type 0 = λ z. GivesSequence z first_arm body else_arm new end in
-      subst P (sym e) (f ∙ g);
-}
-
-whole_is : (got : List Instr) (rest body : Code) → onto got rest ≡ body → rest ≡ done → code got ≡ body
+pub whole_is : (got : List Instr) (rest body : Code) → onto got rest ≡ body → rest ≡ done → code got ≡ body
 whole_is got rest body e f = sym (onto_done got) ∙ ap (onto got) (sym f) ∙ e
-
-pub taken_end : (old here new : Place) (v : Vec Instr Global) → Taken old v.items here → BuildsNext (Ok an_end) here new → BuildsSequence (Ok (v, End)) old new
-taken_end old here new v t n = record {
-  built = λ first_arm body else_arm end b.
-      let k = t.taken first_arm body else_arm end b in
-      let g = n.built first_arm k.0 else_arm end k.2 in
-      (whole_is v.items k.0 body k.1 g.0, (g.1, g.2));
-}
-
-pub taken_else : (old here new : Place) (v : Vec Instr Global) → Taken old v.items here → BuildsNext (Ok an_else) here new → BuildsSequence (Ok (v, Else)) old new
-taken_else old here new v t n = record {
-  built = λ first_arm body else_arm end b.
-      let k = t.taken first_arm body else_arm end b in
-      let g = n.built first_arm k.0 else_arm end k.2 in
-      (whole_is v.items k.0 body k.1 g.0, (g.1, g.2));
-}
-
--- an expression is a sequence up to its end
-pub expression_stop : {old new : Place} {d y : BuildFault} {q : Result (Vec Instr Global) BuildFault} → q ≡ Err y → y ≡ d → BuildsSequence (Err d) old new → Builds (λ (v : Vec Instr Global). code v.items) SpelledExpression q old new
-expression_stop e f n = record { built = λ c end b. fails (λ (v : Vec Instr Global). code v.items) _ c _ end _ _ e f (n.built false c done end b) }
-
-pub expression_end : (old new : Place) (v : Vec Instr Global) (m : Mark) → m ≡ End → BuildsSequence (Ok (v, m)) old new → Builds (λ (v : Vec Instr Global). code v.items) SpelledExpression (Ok v) old new
-expression_end old new v m e n = record {
-  built = λ c end b.
-      let g = n.built false c done end b in
-      let h = subst (λ z. Ended z false done new end) e g.1 in
-      (g.0, h.1);
-}
-
-no_else : false ≡ true → ⊥
-no_else e = cc
-
-pub expression_else : (old new : Place) (v : Vec Instr Global) (m : Mark) (q : Result (Vec Instr Global) BuildFault) → m ≡ Else → BuildsSequence (Ok (v, m)) old new → Builds (λ (v : Vec Instr Global). code v.items) SpelledExpression q old new
-expression_else old new v m q e n = never (λ c end b.
-    let g = n.built false c done end b in
-    let h = subst (λ z. Ended z false done new end) e g.1 in
-    no_else h.0)
-
--- the arms of an if
-pub arms_stop : {Known : Option ValType × Code × Code → Type 0} {old here new : Place} {d y : BuildFault} {q : Result (Option ValType × Vec Instr Global × Vec Instr Global) BuildFault} → q ≡ Err y → y ≡ d → BuildsSequence (Err d) here new → At SpelledArms old (λ x. SpelledCode true x.1 x.2) Known here → Builds view_arms SpelledArms q old new
-arms_stop e f n s = record { built = λ x end b. fails view_arms _ x _ end _ _ e f (n.built true x.1 x.2 end (s.ahead x end b)) }
-
-pub arms_end : (old here new : Place) (r : Option ValType) (v w : Vec Instr Global) (m : Mark) → m ≡ End → w.items ≡ [] → BuildsSequence (Ok (v, m)) here new → At SpelledArms old (λ x. SpelledCode true x.1 x.2) (λ x. Unit {0} × (r ≡ x.0)) here → Builds view_arms SpelledArms (Ok (r, v, w)) old new
-arms_end old here new r v w m e f n s = record {
-  built = λ x end b.
-      let g = n.built true x.1 x.2 end (s.ahead x end b) in
-      let h = subst (λ z. Ended z true x.2 new end) e g.1 in
-      let k = s.known x end b in
-      let empty : code w.items ≡ x.2 = ap code f ∙ code_none ∙ sym h.0 in
-      (λ i. (k.1 i, g.0 i, empty i), h.1);
-}
-
-pub arms_else : (old here new : Place) (r : Option ValType) (v : Vec Instr Global) (m : Mark) → m ≡ Else → BuildsSequence (Ok (v, m)) here new → At SpelledArms old (λ x. SpelledCode true x.1 x.2) (λ x. Unit {0} × (r ≡ x.0)) here → At SpelledArms old (λ x. SpelledExpression x.2) (λ x. (r ≡ x.0) × (code v.items ≡ x.1)) new
-arms_else old here new r v m e n s = record {
-  ahead = λ x end b.
-      let g = n.built true x.1 x.2 end (s.ahead x end b) in
-      (subst (λ z. Ended z true x.2 new end) e g.1).1;
-  known = λ x end b.
-      let g = n.built true x.1 x.2 end (s.ahead x end b) in
-      ((s.known x end b).1, g.0);
-}
 
 -- what stands behind a first byte
 none_some : (f : Follows) → None ≡ Some f → ⊥
@@ -232,7 +144,8 @@ end_of e (opens_plain p rest f is k) = absurd (no_plain _ 0x0B p refl e is)
 end_of e (opens_nest s r inner rest f g k) = absurd (omega (arith, e, f, (shape_range s).1))
 end_of e (opens_if r a b rest f g k) = absurd (omega (arith, e, f))
 
-else_of : {first_arm : Bool} {v : ℕ} {body else_arm : Code} {at : ℕ} {back : List ℕ} → v ≡ 0x05 → Opens first_arm v body else_arm at back → (body ≡ done) × (first_arm ≡ true) × SpelledExpression else_arm at back
+else_of : {first_arm : Bool} {v : ℕ} {body else_arm : Code} {at : ℕ} {back : List ℕ} → v ≡ 0x05 → Opens first_arm v body else_arm at back
+    → (body ≡ done) × (first_arm ≡ true) × SpelledExpression else_arm at back
 unfolding follows
 else_of e (opens_end f g h k) = absurd (omega (arith, e, f))
 else_of e (opens_else f g h k) = (g, h, k)
@@ -323,6 +236,27 @@ pub record ByteRead (v : ℕ) (old here : Place) : Type 0 where
   pub left : old.left ≡ v ∷ here.left
   pub at : here.at ≡ old.at + 1
 
+-- what stands behind the opcode of a block or a loop
+record NestHead (s : Shape) (first_arm : Bool) (body else_arm : Code) (here end : Place) : Type 0 where
+  result : Option ValType
+  inner : Code
+  rest : Code
+  whole : body ≡ nest s result inner rest
+  middle : Place
+  head : Parts (SpelledResult result) (SpelledExpression inner) here middle
+  second : Between (SpelledCode first_arm rest else_arm) middle end
+
+-- what stands behind the opcode of an if
+record BranchHead (first_arm : Bool) (body else_arm : Code) (here end : Place) : Type 0 where
+  result : Option ValType
+  arm : Code
+  other : Code
+  rest : Code
+  whole : body ≡ branch result arm other rest
+  middle : Place
+  head : Parts (SpelledResult result) (SpelledCode true arm other) here middle
+  second : Between (SpelledCode first_arm rest else_arm) middle end
+
 pub next_end : (v : ℕ) (old here : Place) → ByteRead v old here → v ≡ 0x0B → BuildsNext (Ok an_end) old here
 next_end v old here r e = record {
   built = λ first_arm body else_arm end b.
@@ -353,51 +287,84 @@ next_none q old here e = record {
 next_fails : (q : Result Next BuildFault) (first_arm : Bool) (body else_arm : Code) (new end : Place) (d y : BuildFault) → q ≡ Err y → y ≡ d → d ≡ Memory → GivesNext q first_arm body else_arm new end
 next_fails q first_arm body else_arm new end d y e f g = let P : Result _ BuildFault → Type 0 = λ z. GivesNext z first_arm body else_arm new end in subst P (sym e) (f ∙ g)
 
-pub nest_stop : (s : Shape) (v : ℕ) (old here new : Place) (d y : BuildFault) (q : Result Next BuildFault) → ByteRead v old here → v ≡ shape_byte s → q ≡ Err y → y ≡ d → Builds view_construct SpelledConstruct (Err d) here new → BuildsNext q old new
+-- the head of a construct, whose result was read or not
+head_parts : (s : Shape) (v : ℕ) (old here end : Place) (first_arm : Bool) (body else_arm : Code) → ByteRead v old here → v ≡ shape_byte s
+    → Between (SpelledCode first_arm body else_arm) old end → NestHead s first_arm body else_arm here end
+head_parts s v old here end first_arm body else_arm r e b =
+    let o = opens_here first_arm v body else_arm old here end r.left r.at b in
+    let k = nest_of s e o.opens in
+    let w = onto_parts (SpelledConstruct (k.result, k.inner)) (SpelledCode first_arm k.rest else_arm) here end o.back k.spelled o.left o.place in
+    record {
+      result = k.result;
+      inner = k.inner;
+      rest = k.rest;
+      whole = k.whole;
+      middle = w.middle;
+      head =
+          parts (SpelledResult k.result) (SpelledExpression k.inner) here w.middle w.first;
+      second = w.second;
+    }
+
+branch_parts : (v : ℕ) (old here end : Place) (first_arm : Bool) (body else_arm : Code) → ByteRead v old here → v ≡ 0x04 → Between (SpelledCode first_arm body else_arm) old end
+    → BranchHead first_arm body else_arm here end
+branch_parts v old here end first_arm body else_arm r e b =
+    let o = opens_here first_arm v body else_arm old here end r.left r.at b in
+    let k = if_of e o.opens in
+    let w = onto_parts (SpelledArms (k.result, k.then_arm, k.other)) (SpelledCode first_arm k.rest else_arm) here end o.back k.spelled o.left o.place in
+    record {
+      result = k.result;
+      arm = k.then_arm;
+      other = k.other;
+      rest = k.rest;
+      whole = k.whole;
+      middle = w.middle;
+      head = parts (SpelledResult k.result) (SpelledCode true k.then_arm k.other) here w.middle w.first;
+      second = w.second;
+    }
+
+pub nest_stop : (s : Shape) (v : ℕ) (old here new : Place) (d y : BuildFault) (q : Result Next BuildFault) → ByteRead v old here → v ≡ shape_byte s → q ≡ Err y → y ≡ d
+    → Builds (λ (r : Option ValType). r) SpelledResult (Err d) here new → BuildsNext q old new
 nest_stop s v old here new d y q r e f g n = record {
   built = λ first_arm body else_arm end b.
-      let o = opens_here first_arm v body else_arm old here end r.left r.at b in
-      let k = nest_of s e o.opens in
-      let w = onto_parts (SpelledConstruct (k.result, k.inner)) (SpelledCode first_arm k.rest else_arm) here end o.back k.spelled o.left o.place in
-      next_fails q first_arm body else_arm new end d y f g (n.built (k.result, k.inner) w.middle w.first);
+      let k = head_parts s v old here end first_arm body else_arm r e b in
+      next_fails q first_arm body else_arm new end d y f g (n.built k.result k.head.middle k.head.first);
 }
 
-nest_next : (s : Shape) (i : Instr) (v : ℕ) (old here new : Place) (p : Option ValType × Vec Instr Global) → ((rest : Code) → in_front i rest ≡ nest s p.0 (code p.1.items) rest) → ByteRead v old here → v ≡ shape_byte s → Builds view_construct SpelledConstruct (Ok p) here new → BuildsNext (Ok (an_instr i)) old new
-nest_next s i v old here new p f r e n = record {
-  built = λ first_arm body else_arm end b.
-      let o = opens_here first_arm v body else_arm old here end r.left r.at b in
-      let k = nest_of s e o.opens in
-      let w = onto_parts (SpelledConstruct (k.result, k.inner)) (SpelledCode first_arm k.rest else_arm) here end o.back k.spelled o.left o.place in
-      let g = n.built (k.result, k.inner) w.middle w.first in
-      (k.rest, k.whole ∙ ap (λ z. nest s z.0 z.1 k.rest) (sym g.0) ∙ sym (f k.rest), behind_first _ _ _ end new w g.1);
-}
-
-pub next_block : (v : ℕ) (old here new : Place) (r : Option ValType) (w : Vec Instr Global) → ByteRead v old here → v ≡ 0x02 → Builds view_construct SpelledConstruct (Ok (r, w)) here new → BuildsNext (Ok (an_instr (Block r w))) old new
-next_block v old here new r w b e n = nest_next a_block (Block r w) v old here new (r, w) (in_block r w) b e n
-
-pub next_loop : (v : ℕ) (old here new : Place) (r : Option ValType) (w : Vec Instr Global) → ByteRead v old here → v ≡ 0x03 → Builds view_construct SpelledConstruct (Ok (r, w)) here new → BuildsNext (Ok (an_instr (Loop r w))) old new
-next_loop v old here new r w b e n = nest_next a_loop (Loop r w) v old here new (r, w) (in_loop r w) b e n
-
-pub if_stop : (v : ℕ) (old here new : Place) (d y : BuildFault) (q : Result Next BuildFault) → ByteRead v old here → v ≡ 0x04 → q ≡ Err y → y ≡ d → Builds view_arms SpelledArms (Err d) here new → BuildsNext q old new
+pub if_stop : (v : ℕ) (old here new : Place) (d y : BuildFault) (q : Result Next BuildFault) → ByteRead v old here → v ≡ 0x04 → q ≡ Err y → y ≡ d
+    → Builds (λ (r : Option ValType). r) SpelledResult (Err d) here new → BuildsNext q old new
 if_stop v old here new d y q r e f g n = record {
   built = λ first_arm body else_arm end b.
-      let o = opens_here first_arm v body else_arm old here end r.left r.at b in
-      let k = if_of e o.opens in
-      let w = onto_parts (SpelledArms (k.result, k.then_arm, k.other)) (SpelledCode first_arm k.rest else_arm) here end o.back k.spelled o.left o.place in
-      next_fails q first_arm body else_arm new end d y f g (n.built (k.result, k.then_arm, k.other) w.middle w.first);
+      let k = branch_parts v old here end first_arm body else_arm r e b in
+      next_fails q first_arm body else_arm new end d y f g (n.built k.result k.head.middle k.head.first);
 }
 
-pub next_if : (v : ℕ) (old here new : Place) (r : Option ValType) (t u : Vec Instr Global) → ByteRead v old here → v ≡ 0x04 → Builds view_arms SpelledArms (Ok (r, t, u)) here new → BuildsNext (Ok (an_instr (If r t u))) old new
-next_if v old here new r t u b e n = record {
-  built = λ first_arm body else_arm end s.
-      let o = opens_here first_arm v body else_arm old here end b.left b.at s in
-      let k = if_of e o.opens in
-      let w = onto_parts (SpelledArms (k.result, k.then_arm, k.other)) (SpelledCode first_arm k.rest else_arm) here end o.back k.spelled o.left o.place in
-      let g = n.built (k.result, k.then_arm, k.other) w.middle w.first in
-      (k.rest, k.whole ∙ ap (λ z. branch z.0 z.1 z.2 k.rest) (sym g.0) ∙ sym (in_if r t u k.rest), behind_first _ _ _ end new w g.1);
+nest_given : (s : Shape) (v : ℕ) (old here new end : Place) (r : Option ValType) (first_arm : Bool) (body else_arm : Code) → ByteRead v old here → v ≡ shape_byte s
+    → Builds (λ (r : Option ValType). r) SpelledResult (Ok r) here new
+    → Between (SpelledCode first_arm body else_arm) old end → GivesNest s r first_arm body else_arm new end
+nest_given s v old here new end r first_arm body else_arm w e n b =
+    let k = head_parts s v old here end first_arm body else_arm w e b in
+    let g = n.built k.result k.head.middle k.head.first in
+    (k.inner, k.rest, k.middle, k.whole ∙ ap (λ z. nest s z k.inner k.rest) (sym g.0), behind_first _ _ here k.middle new k.head g.1, k.second)
+
+pub next_block : (v : ℕ) (old here new : Place) (r : Option ValType) → ByteRead v old here → v ≡ 0x02 → Builds (λ (r : Option ValType). r) SpelledResult (Ok r) here new
+    → BuildsNext (Ok (open_block r)) old new
+next_block v old here new r w e n = record { built = λ first_arm body else_arm end b. nest_given a_block v old here new end r first_arm body else_arm w e n b }
+
+pub next_loop : (v : ℕ) (old here new : Place) (r : Option ValType) → ByteRead v old here → v ≡ 0x03 → Builds (λ (r : Option ValType). r) SpelledResult (Ok r) here new
+    → BuildsNext (Ok (open_loop r)) old new
+next_loop v old here new r w e n = record { built = λ first_arm body else_arm end b. nest_given a_loop v old here new end r first_arm body else_arm w e n b }
+
+pub next_if : (v : ℕ) (old here new : Place) (r : Option ValType) → ByteRead v old here → v ≡ 0x04 → Builds (λ (r : Option ValType). r) SpelledResult (Ok r) here new
+    → BuildsNext (Ok (open_if r)) old new
+next_if v old here new r w e n = record {
+  built = λ first_arm body else_arm end b.
+      let k = branch_parts v old here end first_arm body else_arm w e b in
+      let g = n.built k.result k.head.middle k.head.first in
+      (k.arm, k.other, k.rest, k.middle, k.whole ∙ ap (λ z. branch z k.arm k.other k.rest) (sym g.0), behind_first _ _ here k.middle new k.head g.1, k.second);
 }
 
-pub plain_stop : (v : ℕ) (old here new : Place) (d y : BuildFault) (q : Result Next BuildFault) → ByteRead v old here → IsOther v → q ≡ Err y → y ≡ d → Builds alone (SpelledPlain v) (Err d) here new → BuildsNext q old new
+pub plain_stop : (v : ℕ) (old here new : Place) (d y : BuildFault) (q : Result Next BuildFault) → ByteRead v old here → IsOther v → q ≡ Err y → y ≡ d
+    → Builds alone (SpelledPlain v) (Err d) here new → BuildsNext q old new
 plain_stop v old here new d y q r e f g n = record {
   built = λ first_arm body else_arm end b.
       let o = opens_here first_arm v body else_arm old here end r.left r.at b in

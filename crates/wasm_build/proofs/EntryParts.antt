@@ -176,8 +176,19 @@ ElementParts e = Number e.table ▸ (SpelledExpression e.offset ▸ Vector Numbe
 
 pub element_parts : (e : Elem) (at : ℕ) (bytes : List ℕ) → SpelledAs ElementOf IsElem e at bytes → ElementParts e at bytes
 element_parts e at bytes (raw, is, h) =
-    let k = h.4 in
-    (h.0, h.1, h.2, subst (λ n. Number n at h.0) (sym is.table) h.3, (k.0, k.1, k.2, (raw.offset, is.offset, k.3), subst (λ xs. Vector Number xs (at + length h.0 + length k.0) k.1) (sym is.funcs) k.4))
+    let k = h.4 in (
+      h.0,
+      h.1,
+      h.2,
+      subst (λ n. Number n at h.0) (sym is.table) h.3,
+      (
+        k.0,
+        k.1,
+        k.2,
+        (raw.offset, is.offset, k.3),
+        subst (λ xs. Vector Number xs (at + length h.0 + length k.0) k.1) (sym is.funcs) k.4,
+      ),
+    )
 
 -- a data segment
 abbrev pub SegmentParts : Segment → ℕ → List ℕ → Type 0

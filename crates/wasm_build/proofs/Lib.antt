@@ -3,6 +3,7 @@ pub mod CodeParts
 pub mod EntryParts
 pub mod FuncParts
 pub mod ModuleSums
+pub mod OpenLevels
 pub mod PlainNames
 pub mod PlainParts
 pub mod Reading

@@ -4,7 +4,8 @@ use Rattle.std.specs.List.{flat_map}
 use Rattle.wa_types.specs.Binary.{Section, custom, types, imports, functions, tables, memories, globals, exports, start, elements, bodies, segments}
 use Rattle.wa_types.specs.Syntax.{Func, Custom, Module}
 use Rattle.wa_types.specs.Spells.{Rising, sorts_in, bodies_in}
-use Rattle.wa_types.specs.Reading.{Each, IsFuncType, IsImport, IsGlobal, IsElem, IsBody, IsSegment, types_in, imports_in, tables_in, memories_in, globals_in, exports_in, starts_in, elements_in, segments_in, customs_of, IsModule}
+use Rattle.wa_types.specs.Reading.{Each, IsFuncType, IsImport, IsGlobal, IsElem, IsBody, IsSegment, types_in, imports_in, tables_in, memories_in, globals_in, exports_in, starts_in}
+use Rattle.wa_types.specs.Reading.{elements_in, segments_in, customs_of, IsModule}
 use Rattle.wasm_build.specs.BuildsModule.{State, nothing_yet, AddsAll}
 
 -- what the sections that are left hold of a module
@@ -466,7 +467,8 @@ add_all (bodies bs ∷ ss) p n r h =
     let s = split_each IsBody bs (flat_map bodies_in ss) n.funcs h.funcs_are in
     let none = each_none IsBody s.back (subst (λ z. Each IsBody z s.back) (no_bodies 10 ss (omega arith) r.1) s.back_is) in
     let all : n.funcs ≡ s.front = s.whole ∙ ap (λ z. s.front ++ z) none ∙ append-nil s.front in
-    let sorted : map (λ (f : Func). f.sort) s.front ≡ p.sorts = ap (map (λ (f : Func). f.sort)) (sym all) ∙ sym (let e = r.0 in h.sorted e) ∙ ap (λ z. p.sorts ++ z) (no_sorts 10 ss (omega arith) r.1) ∙ append-nil p.sorts in
+    let sorted : map (λ (f : Func). f.sort) s.front ≡ p.sorts = ap (map (λ (f : Func). f.sort)) (sym all) ∙ sym (let e = r.0 in h.sorted e)
+    ∙ ap (λ z. p.sorts ++ z) (no_sorts 10 ss (omega arith) r.1) ∙ append-nil p.sorts in
     let mid : State = record p { held = record p.held { funcs = p.held.funcs ++ s.front }; last = 10 } in
     let g = add_all ss mid (record n { funcs = s.back }) r.1 (record {
       types_are = h.types_are;

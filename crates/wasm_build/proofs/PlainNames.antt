@@ -4,10 +4,15 @@ use Rattle.wa_types.specs.declared.instrs.Instr.{Instr}
 use Rattle.wa_types.specs.declared.instrs.Instr.TheVariants.{Num, Load, Store}
 use Rattle.wa_types.specs.declared.values.Value.TheVariants.{I32 as value_32, I64 as value_64}
 use Rattle.wa_types.specs.declared.operators.NumOp.{NumOp}
-use Rattle.wa_types.specs.declared.operators.NumOp.TheVariants.{I32Eqz, I32Eq, I32Ne, I32LtS, I32LtU, I32GtS, I32GtU, I32LeS, I32LeU, I32GeS, I32GeU, I64Eqz, I64Eq, I64Ne, I64LtS, I64LtU, I64GtS, I64GtU, I64LeS, I64LeU, I64GeS, I64GeU, I32Clz, I32Ctz, I32Popcnt, I32Add, I32Sub, I32Mul, I32DivS, I32DivU, I32RemS, I32RemU, I32And, I32Or, I32Xor, I32Shl, I32ShrS, I32ShrU, I32Rotl, I32Rotr, I64Clz, I64Ctz, I64Popcnt, I64Add, I64Sub, I64Mul, I64DivS, I64DivU, I64RemS, I64RemU, I64And, I64Or, I64Xor, I64Shl, I64ShrS, I64ShrU, I64Rotl, I64Rotr, I32WrapI64, I64ExtendI32S, I64ExtendI32U}
+use Rattle.wa_types.specs.declared.operators.NumOp.TheVariants.{I32Eqz, I32Eq, I32Ne, I32LtS, I32LtU, I32GtS, I32GtU, I32LeS, I32LeU, I32GeS, I32GeU, I64Eqz, I64Eq, I64Ne, I64LtS, I64LtU}
+use Rattle.wa_types.specs.declared.operators.NumOp.TheVariants.{I64GtS, I64GtU, I64LeS, I64LeU, I64GeS, I64GeU, I32Clz, I32Ctz, I32Popcnt, I32Add, I32Sub, I32Mul, I32DivS, I32DivU, I32RemS}
+use Rattle.wa_types.specs.declared.operators.NumOp.TheVariants.{I32RemU, I32And, I32Or, I32Xor, I32Shl, I32ShrS, I32ShrU, I32Rotl, I32Rotr, I64Clz, I64Ctz, I64Popcnt, I64Add, I64Sub, I64Mul}
+use Rattle.wa_types.specs.declared.operators.NumOp.TheVariants.{I64DivS, I64DivU, I64RemS, I64RemU, I64And, I64Or, I64Xor, I64Shl, I64ShrS, I64ShrU, I64Rotl, I64Rotr, I32WrapI64}
+use Rattle.wa_types.specs.declared.operators.NumOp.TheVariants.{I64ExtendI32S, I64ExtendI32U}
 use Rattle.wa_types.specs.Operators.{opcode_of}
 use Rattle.wa_types.specs.Binary.{nothing, zero_byte, index, access}
-use Rattle.wa_types.specs.Syntax.{nop, drop, select, const, num, global_get, global_set, load, store, memory_size, memory_grow, Plain, basic, local_get, local_set, local_tee, br, br_if, br_table, return, unreachable, call, call_indirect, done, plain}
+use Rattle.wa_types.specs.Syntax.{nop, drop, select, const, num, global_get, global_set, load, store, memory_size, memory_grow, Plain, basic, local_get, local_set, local_tee, br, br_if}
+use Rattle.wa_types.specs.Syntax.{br_table, return, unreachable, call, call_indirect, done, plain}
 use Rattle.wa_types.specs.View.{in_front}
 use Rattle.wa_types.specs.Reading.{plain_opcode, plain_operands, HasKind}
 use Rattle.file_laws.proofs.CodeWriting.{load_range, store_range}
@@ -150,7 +155,8 @@ named_simple i op k a small b = record {
 some_injective : (m n : NumOp) (r : Option NumOp) → r ≡ Some m → r ≡ Some n → m ≡ n
 some_injective m n r e f = cc
 
-named_operator : (n : NumOp) (op : ℕ) (r : Option NumOp) → r ≡ Some n → ((m : NumOp) → op ≡ opcode_of m → r ≡ Some m) → (op ≡ 0x00 → ⊥) → (op ≡ 0x01 → ⊥) → (op ≡ 0x0F → ⊥) → (op ≡ 0x1A → ⊥) → (op ≡ 0x1B → ⊥) → (p : Plain) → op ≡ plain_opcode p → plain_operands p ≡ nothing → alone (Num n) ≡ plain p done
+named_operator : (n : NumOp) (op : ℕ) (r : Option NumOp) → r ≡ Some n → ((m : NumOp) → op ≡ opcode_of m → r ≡ Some m) → (op ≡ 0x00 → ⊥) → (op ≡ 0x01 → ⊥) → (op ≡ 0x0F → ⊥) → (op ≡ 0x1A → ⊥)
+    → (op ≡ 0x1B → ⊥) → (p : Plain) → op ≡ plain_opcode p → plain_operands p ≡ nothing → alone (Num n) ≡ plain p done
 unfolding in_front
 named_operator n op r q f a b k d w (basic nop) e o = absurd (b e)
 named_operator n op r q f a b k d w (basic drop) e o = absurd (d e)
@@ -175,7 +181,8 @@ named_operator n op r q f a b k d w unreachable e o = absurd (a e)
 named_operator n op r q f a b k d w (call y) e o = absurd (cc)
 named_operator n op r q f a b k d w (call_indirect y) e o = absurd (cc)
 
-pub names_operator : (n : NumOp) (op : ℕ) (r : Option NumOp) → r ≡ Some n → ((m : NumOp) → op ≡ opcode_of m → r ≡ Some m) → (op ≡ 0x00 → ⊥) → (op ≡ 0x01 → ⊥) → (op ≡ 0x0F → ⊥) → (op ≡ 0x1A → ⊥) → (op ≡ 0x1B → ⊥) → NamesPlain op nothing (Some (Num n))
+pub names_operator : (n : NumOp) (op : ℕ) (r : Option NumOp) → r ≡ Some n → ((m : NumOp) → op ≡ opcode_of m → r ≡ Some m) → (op ≡ 0x00 → ⊥) → (op ≡ 0x01 → ⊥) → (op ≡ 0x0F → ⊥)
+    → (op ≡ 0x1A → ⊥) → (op ≡ 0x1B → ⊥) → NamesPlain op nothing (Some (Num n))
 names_operator n op r q f a b k d w = record { named = λ p h e o. named_operator n op r q f a b k d w p e o }
 
 access_same : (a o c d : ℕ) → access a o ≡ access c d → (a ≡ c) × (o ≡ d)

@@ -9,7 +9,8 @@ use Rattle.wa_types.specs.Leb.{IsUnsigned, IsSigned}
 use Rattle.wa_types.specs.Binary.{Operands, nothing, zero_byte, index, index_and_zero, access, labels, constant, float}
 use Rattle.wa_types.specs.Opcodes.{Follows, follows, shape, no_operand, a_zero, an_index, an_index_and_zero, an_access, some_labels, a_constant, a_float}
 use Rattle.wa_types.specs.Spells.{◌▸◌, Exactly, Number, SignedNumber, Vector, OperandsOf}
-use Rattle.wa_types.specs.Syntax.{nop, drop, select, const, num, global_get, global_set, load, store, memory_size, memory_grow, Plain, basic, local_get, local_set, local_tee, br, br_if, br_table, return, unreachable, call, call_indirect, Code, done, plain}
+use Rattle.wa_types.specs.Syntax.{nop, drop, select, const, num, global_get, global_set, load, store, memory_size, memory_grow, Plain, basic, local_get, local_set, local_tee, br, br_if}
+use Rattle.wa_types.specs.Syntax.{br_table, return, unreachable, call, call_indirect, Code, done, plain}
 use Rattle.wa_types.specs.View.{in_front}
 use Rattle.wa_types.specs.Reading.{plain_operands}
 use Rattle.wasm_build.specs.declared.BuildFault.{BuildFault}
@@ -231,44 +232,57 @@ zero_start op old e = turn (λ c. Exactly (0x00 ∷ []) ▸ Exactly []) (λ c at
 pub index_start : (op : ℕ) (old : Place) → follows op ≡ Some an_index → At (SpelledPlain op) old (λ c. Number (x_in (operands_in c))) (Followed op an_index) old
 index_start op old e = turn (λ c. Number (x_in (operands_in c))) (λ c at bytes k h. index_so (operands_in c) at bytes k.shape_is h) (operands_start op an_index old e)
 
-pub both_start : (op : ℕ) (old : Place) → follows op ≡ Some an_index_and_zero → At (SpelledPlain op) old (λ c. Number (x_in (operands_in c)) ▸ (Exactly (0x00 ∷ []) ▸ Exactly [])) (Followed op an_index_and_zero) old
-both_start op old e = turn (λ c. Number (x_in (operands_in c)) ▸ (Exactly (0x00 ∷ []) ▸ Exactly [])) (λ c at bytes k h. both_so (operands_in c) at bytes k.shape_is h) (operands_start op an_index_and_zero old e)
+pub both_start : (op : ℕ) (old : Place) → follows op ≡ Some an_index_and_zero → At (SpelledPlain op) old (λ c. Number (x_in (operands_in c)) ▸ (Exactly (0x00 ∷ []) ▸ Exactly []))
+    (Followed op an_index_and_zero) old
+both_start op old e = turn (λ c. Number (x_in (operands_in c)) ▸ (Exactly (0x00 ∷ []) ▸ Exactly [])) (λ c at bytes k h. both_so (operands_in c) at bytes k.shape_is h)
+    (operands_start op an_index_and_zero old e)
 
-pub access_start : (op : ℕ) (old : Place) → follows op ≡ Some an_access → At (SpelledPlain op) old (λ c. Number (align_in (operands_in c)) ▸ Number (offset_in (operands_in c))) (Followed op an_access) old
-access_start op old e = turn (λ c. Number (align_in (operands_in c)) ▸ Number (offset_in (operands_in c))) (λ c at bytes k h. access_so (operands_in c) at bytes k.shape_is h) (operands_start op an_access old e)
+pub access_start : (op : ℕ) (old : Place) → follows op ≡ Some an_access → At (SpelledPlain op) old (λ c. Number (align_in (operands_in c)) ▸ Number (offset_in (operands_in c)))
+    (Followed op an_access) old
+access_start op old e = turn (λ c. Number (align_in (operands_in c)) ▸ Number (offset_in (operands_in c))) (λ c at bytes k h. access_so (operands_in c) at bytes k.shape_is h)
+    (operands_start op an_access old e)
 
-pub labels_start : (op : ℕ) (old : Place) → follows op ≡ Some some_labels → At (SpelledPlain op) old (λ c. Vector Number (targets_in (operands_in c)) ▸ Number (x_in (operands_in c))) (Followed op some_labels) old
-labels_start op old e = turn (λ c. Vector Number (targets_in (operands_in c)) ▸ Number (x_in (operands_in c))) (λ c at bytes k h. labels_so (operands_in c) at bytes k.shape_is h) (operands_start op some_labels old e)
+pub labels_start : (op : ℕ) (old : Place) → follows op ≡ Some some_labels → At (SpelledPlain op) old (λ c. Vector Number (targets_in (operands_in c)) ▸ Number (x_in (operands_in c)))
+    (Followed op some_labels) old
+labels_start op old e = turn (λ c. Vector Number (targets_in (operands_in c)) ▸ Number (x_in (operands_in c))) (λ c at bytes k h. labels_so (operands_in c) at bytes k.shape_is h)
+    (operands_start op some_labels old e)
 
-pub constant_start : (bits : ℕ) (op : ℕ) (old : Place) → follows op ≡ Some (a_constant bits) → At (SpelledPlain op) old (λ c. SignedNumber bits (x_in (operands_in c))) (Followed op (a_constant bits)) old
-constant_start bits op old e = turn (λ c. SignedNumber bits (x_in (operands_in c))) (λ c at bytes k h. constant_so (operands_in c) bits at bytes k.shape_is h) (operands_start op (a_constant bits) old e)
+pub constant_start : (bits : ℕ) (op : ℕ) (old : Place) → follows op ≡ Some (a_constant bits)
+    → At (SpelledPlain op) old (λ c. SignedNumber bits (x_in (operands_in c))) (Followed op (a_constant bits)) old
+constant_start bits op old e = turn (λ c. SignedNumber bits (x_in (operands_in c))) (λ c at bytes k h. constant_so (operands_in c) bits at bytes k.shape_is h)
+    (operands_start op (a_constant bits) old e)
 
 -- The instruction that was found by its opcode.
-by_found : (op : ℕ) (o : Option Instr) (r : Result Instr BuildFault) (old new : Place) → FoundIn o r → ((c : Code) (end : Place) → Between (SpelledPlain op c) old end → (p : Plain) × (c ≡ plain p done) × IsNamed o p × (new ≡ end)) → Builds alone (SpelledPlain op) r old new
+by_found : (op : ℕ) (o : Option Instr) (r : Result Instr BuildFault) (old new : Place) → FoundIn o r
+    → ((c : Code) (end : Place) → Between (SpelledPlain op c) old end → (p : Plain) × (c ≡ plain p done) × IsNamed o p × (new ≡ end)) → Builds alone (SpelledPlain op) r old new
 by_found op (Some i) r old new f g =
     subst (λ q. Builds alone (SpelledPlain op) q old new) (sym f) (record { built = λ c end b. let k = g c end b in (k.2 ∙ sym k.1, k.3) })
 by_found op None r old new f g = never (λ c end b. (g c end b).2)
 
-pub simple_found : (op : ℕ) (o : Option Instr) (r : Result Instr BuildFault) (here : Place) → follows op ≡ Some no_operand → NamesPlain op nothing o → FoundIn o r → Builds alone (SpelledPlain op) r here here
+pub simple_found : (op : ℕ) (o : Option Instr) (r : Result Instr BuildFault) (here : Place) → follows op ≡ Some no_operand → NamesPlain op nothing o → FoundIn o r
+    → Builds alone (SpelledPlain op) r here here
 simple_found op o r here e n f = by_found op o r here here f (λ c end b.
     let s = nothing_start op here e in
     let k = s.known c end b in
     (k.instr, k.code_is, n.named k.instr k.is_of.kind k.is_of.opcode (k.operands_are ∙ nothing_are (operands_in c) k.shape_is), nothing_between here end (s.ahead c end b)))
 
-pub memory_built : (op : ℕ) (i : Instr) (u : Unit {0}) (old new : Place) → follows op ≡ Some a_zero → Passes (Exactly (0x00 ∷ [])) (Ok u) old new → NamesPlain op zero_byte (Some i) → Builds alone (SpelledPlain op) (Ok i) old new
+pub memory_built : (op : ℕ) (i : Instr) (u : Unit {0}) (old new : Place) → follows op ≡ Some a_zero → Passes (Exactly (0x00 ∷ [])) (Ok u) old new → NamesPlain op zero_byte (Some i)
+    → Builds alone (SpelledPlain op) (Ok i) old new
 memory_built op i u old new e r n = by_found op (Some i) (Ok i) old new refl (λ c end b.
     let s = step_passed (λ c. Exactly []) r (zero_start op old e) in
     let k = s.known c end b in
     (k.instr, k.code_is, n.named k.instr k.is_of.kind k.is_of.opcode (k.operands_are ∙ zero_are (operands_in c) k.shape_is), nothing_between new end (s.ahead c end b)))
 
-pub index_found : (op x : ℕ) (o : Option Instr) (r : Result Instr BuildFault) (old new : Place) → follows op ≡ Some an_index → ReadsNumber (IsUnsigned 32) (Ok x) old new → NamesPlain op (index x) o → FoundIn o r → Builds alone (SpelledPlain op) r old new
+pub index_found : (op x : ℕ) (o : Option Instr) (r : Result Instr BuildFault) (old new : Place) → follows op ≡ Some an_index → ReadsNumber (IsUnsigned 32) (Ok x) old new
+    → NamesPlain op (index x) o → FoundIn o r → Builds alone (SpelledPlain op) r old new
 index_found op x o r old new e m n f = by_found op o r old new f (λ c end b.
     let s = index_start op old e in
     let k = s.known c end b in
     let g = number_is (IsUnsigned 32) x old new end (x_in (operands_in c)) m (s.ahead c end b) in
     (k.instr, k.code_is, n.named k.instr k.is_of.kind k.is_of.opcode (k.operands_are ∙ index_are (operands_in c) k.shape_is ∙ ap index (sym g.0)), g.1))
 
-pub access_found : (op x y : ℕ) (o : Option Instr) (r : Result Instr BuildFault) (old middle new : Place) → follows op ≡ Some an_access → ReadsNumber (IsUnsigned 32) (Ok x) old middle → ReadsNumber (IsUnsigned 32) (Ok y) middle new → NamesPlain op (access x y) o → FoundIn o r → Builds alone (SpelledPlain op) r old new
+pub access_found : (op x y : ℕ) (o : Option Instr) (r : Result Instr BuildFault) (old middle new : Place) → follows op ≡ Some an_access → ReadsNumber (IsUnsigned 32) (Ok x) old middle
+    → ReadsNumber (IsUnsigned 32) (Ok y) middle new → NamesPlain op (access x y) o → FoundIn o r → Builds alone (SpelledPlain op) r old new
 access_found op x y o r old middle new e l m n f = by_found op o r old new f (λ c end b.
     let s = step_number (λ c. align_in (operands_in c)) (λ c. Number (offset_in (operands_in c))) l (access_start op old e) in
     let w = s.known c end b in
@@ -302,7 +316,8 @@ call_is unreachable x e = absurd (cc)
 call_is (call y) x e = absurd (cc)
 call_is (call_indirect y) x e = let f : x ≡ y = cc in ap (λ z. plain (call_indirect z) done) f
 
-pub call_built : (op x : ℕ) (u : Unit {0}) (old middle new : Place) → follows op ≡ Some an_index_and_zero → ReadsNumber (IsUnsigned 32) (Ok x) old middle → Passes (Exactly (0x00 ∷ [])) (Ok u) middle new → Builds alone (SpelledPlain op) (Ok (CallIndirect x)) old new
+pub call_built : (op x : ℕ) (u : Unit {0}) (old middle new : Place) → follows op ≡ Some an_index_and_zero → ReadsNumber (IsUnsigned 32) (Ok x) old middle
+    → Passes (Exactly (0x00 ∷ [])) (Ok u) middle new → Builds alone (SpelledPlain op) (Ok (CallIndirect x)) old new
 call_built op x u old middle new e m r = by_found op (Some (CallIndirect x)) (Ok (CallIndirect x)) old new refl (λ c end b.
     let s = step_passed (λ c. Exactly []) r (step_number (λ c. x_in (operands_in c)) (λ c. Exactly (0x00 ∷ []) ▸ Exactly []) m (both_start op old e)) in
     let w = s.known c end b in
@@ -337,7 +352,9 @@ table_is unreachable v x e = absurd (cc)
 table_is (call y) v x e = absurd (cc)
 table_is (call_indirect y) v x e = absurd (cc)
 
-pub table_built : (op l : ℕ) (v : Vec ℕ Global) (old middle new : Place) → follows op ≡ Some some_labels → Builds (λ (v : Vec ℕ Global). map (λ x. x) v.items) (λ xs. Vector Number xs) (Ok v) old middle → ReadsNumber (IsUnsigned 32) (Ok l) middle new → Builds alone (SpelledPlain op) (Ok (BrTable v l)) old new
+pub table_built : (op l : ℕ) (v : Vec ℕ Global) (old middle new : Place) → follows op ≡ Some some_labels
+    → Builds (λ (v : Vec ℕ Global). map (λ x. x) v.items) (λ xs. Vector Number xs) (Ok v) old middle → ReadsNumber (IsUnsigned 32) (Ok l) middle new
+    → Builds alone (SpelledPlain op) (Ok (BrTable v l)) old new
 table_built op l v old middle new e r m = by_found op (Some (BrTable v l)) (Ok (BrTable v l)) old new refl (λ c end b.
     let s = step (λ c. targets_in (operands_in c)) (λ c. Number (x_in (operands_in c))) r (labels_start op old e) in
     let w = s.known c end b in

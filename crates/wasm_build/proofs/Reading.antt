@@ -27,7 +27,8 @@ reading_none p old = record { reading = λ q end e b. b }
 none_left : (old end : Place) (front : List ℕ) → old.left ≡ front ++ end.left → end.left ≡ [] → front ≡ [] → old.left ≡ []
 none_left old end front e f g = e ∙ ap (λ z. z ++ end.left) g ∙ f
 
-next_section : (ss : List Section) (p q : State) (old here : Place) (end : Place) (new : Place) (after : State) → (here.left ≡ [] → ⊥) → end.left ≡ [] → Builds (λ (u : Unit {0}). after) (SpelledSection p) (Ok tt) here new → AddsAll ss p q → Between (Items SectionOf ss) here end → Between (SpelledSections after q) new end
+next_section : (ss : List Section) (p q : State) (old here : Place) (end : Place) (new : Place) (after : State) → (here.left ≡ [] → ⊥) → end.left ≡ []
+    → Builds (λ (u : Unit {0}). after) (SpelledSection p) (Ok tt) here new → AddsAll ss p q → Between (Items SectionOf ss) here end → Between (SpelledSections after q) new end
 next_section [] p q old here end new after some e r a b = absurd (some (none_left here end b.front b.left e b.spelled))
 next_section (s ∷ ss) p q old here end new after some e r a b =
     let k = parts (SectionOf s) (Items SectionOf ss) here end b in
@@ -39,14 +40,16 @@ next_section (s ∷ ss) p q old here end new after some e r a b =
 as_items : (p q : State) (here end : Place) → (b : Between (SpelledSections p q) here end) → Between (Items SectionOf b.spelled.0) here end
 as_items p q here end b = record { front = b.front; spelled = b.spelled.2; left = b.left; place = b.place }
 
-pub reading_more : {first p : State} {old here new : Place} (after : State) → Reading first old p here → (here.left ≡ [] → ⊥) → Builds (λ (u : Unit {0}). after) (SpelledSection p) (Ok tt) here new → Reading first old after new
+pub reading_more : {first p : State} {old here new : Place} (after : State) → Reading first old p here → (here.left ≡ [] → ⊥)
+    → Builds (λ (u : Unit {0}). after) (SpelledSection p) (Ok tt) here new → Reading first old after new
 reading_more {p = p} {old = old} {here = here} {new = new} after t some r = record {
   reading = λ q end e b.
       let w = t.reading q end e b in
       next_section w.spelled.0 p q old here end new after some e r w.spelled.1 (as_items p q here end w);
 }
 
-section_fault : (ss : List Section) (p q : State) (here end new : Place) (after : State) (d : BuildFault) → (here.left ≡ [] → ⊥) → end.left ≡ [] → Builds (λ (u : Unit {0}). after) (SpelledSection p) (Err d) here new → AddsAll ss p q → Between (Items SectionOf ss) here end → d ≡ Memory
+section_fault : (ss : List Section) (p q : State) (here end new : Place) (after : State) (d : BuildFault) → (here.left ≡ [] → ⊥) → end.left ≡ []
+    → Builds (λ (u : Unit {0}). after) (SpelledSection p) (Err d) here new → AddsAll ss p q → Between (Items SectionOf ss) here end → d ≡ Memory
 section_fault [] p q here end new after d some e r a b = absurd (some (none_left here end b.front b.left e b.spelled))
 section_fault (s ∷ ss) p q here end new after d some e r a b =
     let k = parts (SectionOf s) (Items SectionOf ss) here end b in
@@ -96,7 +99,9 @@ not_begun bytes m old here d e r h =
     let k = parts (Exactly preamble) (Items SectionOf h.sections) old end (from_here _ _ _ _ e whole) in
     not_ok d tt (r.passed k.middle k.first).0
 
-pub module_stop : {old first here new : Place} {p start after : State} {d y : BuildFault} (bytes : List ℕ) (m : Module) (q : Result ModuleValue BuildFault) → start ≡ nothing_yet → old ≡ place_in bytes 0 → Passes (Exactly preamble) (Ok tt) old first → Reading start first p here → (here.left ≡ [] → ⊥) → q ≡ Err y → y ≡ d → Builds (λ (u : Unit {0}). after) (SpelledSection p) (Err d) here new → SpellsModule bytes m → GivesModule q m
+pub module_stop : {old first here new : Place} {p start after : State} {d y : BuildFault} (bytes : List ℕ) (m : Module) (q : Result ModuleValue BuildFault) → start ≡ nothing_yet
+    → old ≡ place_in bytes 0 → Passes (Exactly preamble) (Ok tt) old first → Reading start first p here → (here.left ≡ [] → ⊥) → q ≡ Err y → y ≡ d
+    → Builds (λ (u : Unit {0}). after) (SpelledSection p) (Err d) here new → SpellsModule bytes m → GivesModule q m
 module_stop {old = old} {first = first} {here = here} {new = new} {p = p} {after = after} {d = d} bytes m q s e r t some f g n h =
     let k = begun bytes m old first e r h in
     let w = t.reading k.sum k.end k.none_behind (subst (λ z. Between (SpelledSections z k.sum) first k.end) (sym s) k.between) in
@@ -104,7 +109,8 @@ module_stop {old = old} {first = first} {here = here} {new = new} {p = p} {after
     let P : Result ModuleValue BuildFault → Type 0 = λ z. GivesModule z m in
     subst P (sym f) (g ∙ fault)
 
-pub module_end : {old first here : Place} {p start : State} (bytes : List ℕ) (m : Module) (built : ModuleValue) → start ≡ nothing_yet → old ≡ place_in bytes 0 → Passes (Exactly preamble) (Ok tt) old first → Reading start first p here → here.left ≡ [] → module_of built ≡ p.held → SpellsModule bytes m → module_of built ≡ m
+pub module_end : {old first here : Place} {p start : State} (bytes : List ℕ) (m : Module) (built : ModuleValue) → start ≡ nothing_yet → old ≡ place_in bytes 0
+    → Passes (Exactly preamble) (Ok tt) old first → Reading start first p here → here.left ≡ [] → module_of built ≡ p.held → SpellsModule bytes m → module_of built ≡ m
 module_end {old = old} {first = first} {here = here} {p = p} bytes m built s e r t none f h =
     let k = begun bytes m old first e r h in
     let w = t.reading k.sum k.end k.none_behind (subst (λ z. Between (SpelledSections z k.sum) first k.end) (sym s) k.between) in

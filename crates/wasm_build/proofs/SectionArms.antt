@@ -18,7 +18,8 @@ use Rattle.wasm_build.specs.BuildsSections.{SpelledFunc, SpelledFuncs, SpelledCu
 use Rattle.wasm_build.specs.BuildsModule.{State, Adds, SpelledKnown, SpelledSection}
 use Rattle.wasm_build.proofs.Betweens.{map_append, parts, behind_first, as_vector, number_is, byte_is, fails}
 
-gives_by : {A X Y : Type 0} (view : A → X) (other : A → Y) (new end : Place) (x : X) (y : Y) (r : Result A BuildFault) → ((a : A) → view a ≡ x → other a ≡ y) → Gives view r x new end → Gives other r y new end
+gives_by : {A X Y : Type 0} (view : A → X) (other : A → Y) (new end : Place) (x : X) (y : Y) (r : Result A BuildFault) → ((a : A) → view a ≡ x → other a ≡ y) → Gives view r x new end
+    → Gives other r y new end
 gives_by view other new end x y (Ok a) f g = (f a g.0, g.1)
 gives_by view other new end x y (Err e) f g = g
 
@@ -37,7 +38,11 @@ sized_parts {P = P} n old here end r b =
     let rest = behind_first _ _ old end here k m.1 in
     record { front = rest.front; spelled = rest.spelled.1; left = rest.left; place = rest.place }
 
-pub arm_built : {A X : Type 0} {Spelled : X → ℕ → List ℕ → Type 0} {old here new : Place} {n id k : ℕ} {p : State} (view : A → X) (before after : List A) (first : List X) (put : ℕ → List X → State) (whole : State) (r : Result (Unit {0}) BuildFault) → id ≡ k → ReadsNumber (IsUnsigned 32) (Ok n) old here → Builds (λ (u : Unit {0}). map view after) (SpelledBehind Spelled (map view before)) r here new → first ≡ map view before → whole ≡ put id (map view after) → ((s : Section) (q : State) (at : ℕ) (bytes : List ℕ) → section_id s ≡ k → Adds s p q → Sized (ContentOf s) at bytes → Arm Spelled (put k) first q at bytes) → Builds (λ (u : Unit {0}). whole) (SpelledKnown id p) r old new
+pub arm_built : {A X : Type 0} {Spelled : X → ℕ → List ℕ → Type 0} {old here new : Place} {n id k : ℕ} {p : State} (view : A → X) (before after : List A) (first : List X) (put : ℕ → List X
+    → State) (whole : State) (r : Result (Unit {0}) BuildFault) → id ≡ k → ReadsNumber (IsUnsigned 32) (Ok n) old here
+    → Builds (λ (u : Unit {0}). map view after) (SpelledBehind Spelled (map view before)) r here new → first ≡ map view before → whole ≡ put id (map view after)
+    → ((s : Section) (q : State) (at : ℕ) (bytes : List ℕ) → section_id s ≡ k → Adds s p q → Sized (ContentOf s) at bytes → Arm Spelled (put k) first q at bytes)
+    → Builds (λ (u : Unit {0}). whole) (SpelledKnown id p) r old new
 arm_built {Spelled = Spelled} {n = n} {id = id} view before after first put whole r same m built begins e f = record {
   built = λ q end b.
       let h = b.spelled in
@@ -75,7 +80,8 @@ put_elements p id xs = record p { held = record p.held { elems = xs }; last = id
 abbrev pub put_segments : State → ℕ → List Segment → State
 put_segments p id xs = record p { held = record p.held { segments = xs }; last = id }
 
-pub types_arm : (p : State) (s : Section) (q : State) (at : ℕ) (bytes : List ℕ) → section_id s ≡ 1 → Adds s p q → Sized (ContentOf s) at bytes → Arm (SpelledAs FunctionType IsFuncType) (put_types p 1) p.held.types q at bytes
+pub types_arm : (p : State) (s : Section) (q : State) (at : ℕ) (bytes : List ℕ) → section_id s ≡ 1 → Adds s p q → Sized (ContentOf s) at bytes
+    → Arm (SpelledAs FunctionType IsFuncType) (put_types p 1) p.held.types q at bytes
 types_arm p (custom name content) q at bytes e a h = absurd (omega (arith, e))
 types_arm p (types ts) q at bytes e a h = record {
   xs = a.0;
@@ -93,7 +99,8 @@ types_arm p (elements es) q at bytes e a h = absurd (omega (arith, e))
 types_arm p (bodies bs) q at bytes e a h = absurd (omega (arith, e))
 types_arm p (segments ss) q at bytes e a h = absurd (omega (arith, e))
 
-pub imports_arm : (p : State) (s : Section) (q : State) (at : ℕ) (bytes : List ℕ) → section_id s ≡ 2 → Adds s p q → Sized (ContentOf s) at bytes → Arm (SpelledAs ImportOf IsImport) (put_imports p 2) p.held.imports q at bytes
+pub imports_arm : (p : State) (s : Section) (q : State) (at : ℕ) (bytes : List ℕ) → section_id s ≡ 2 → Adds s p q → Sized (ContentOf s) at bytes
+    → Arm (SpelledAs ImportOf IsImport) (put_imports p 2) p.held.imports q at bytes
 imports_arm p (custom name content) q at bytes e a h = absurd (omega (arith, e))
 imports_arm p (types ts) q at bytes e a h = absurd (omega (arith, e))
 imports_arm p (imports is) q at bytes e a h = record {
@@ -125,7 +132,8 @@ sorts_arm p (elements es) q at bytes e a h = absurd (omega (arith, e))
 sorts_arm p (bodies bs) q at bytes e a h = absurd (omega (arith, e))
 sorts_arm p (segments ss) q at bytes e a h = absurd (omega (arith, e))
 
-pub tables_arm : (p : State) (s : Section) (q : State) (at : ℕ) (bytes : List ℕ) → section_id s ≡ 4 → Adds s p q → Sized (ContentOf s) at bytes → Arm TableType (put_tables p 4) p.held.tables q at bytes
+pub tables_arm : (p : State) (s : Section) (q : State) (at : ℕ) (bytes : List ℕ) → section_id s ≡ 4 → Adds s p q → Sized (ContentOf s) at bytes
+    → Arm TableType (put_tables p 4) p.held.tables q at bytes
 tables_arm p (custom name content) q at bytes e a h = absurd (omega (arith, e))
 tables_arm p (types ts) q at bytes e a h = absurd (omega (arith, e))
 tables_arm p (imports is) q at bytes e a h = absurd (omega (arith, e))
@@ -139,7 +147,8 @@ tables_arm p (elements es) q at bytes e a h = absurd (omega (arith, e))
 tables_arm p (bodies bs) q at bytes e a h = absurd (omega (arith, e))
 tables_arm p (segments ss) q at bytes e a h = absurd (omega (arith, e))
 
-pub memories_arm : (p : State) (s : Section) (q : State) (at : ℕ) (bytes : List ℕ) → section_id s ≡ 5 → Adds s p q → Sized (ContentOf s) at bytes → Arm LimitsOf (put_memories p 5) p.held.memories q at bytes
+pub memories_arm : (p : State) (s : Section) (q : State) (at : ℕ) (bytes : List ℕ) → section_id s ≡ 5 → Adds s p q → Sized (ContentOf s) at bytes
+    → Arm LimitsOf (put_memories p 5) p.held.memories q at bytes
 memories_arm p (custom name content) q at bytes e a h = absurd (omega (arith, e))
 memories_arm p (types ts) q at bytes e a h = absurd (omega (arith, e))
 memories_arm p (imports is) q at bytes e a h = absurd (omega (arith, e))
@@ -153,7 +162,8 @@ memories_arm p (elements es) q at bytes e a h = absurd (omega (arith, e))
 memories_arm p (bodies bs) q at bytes e a h = absurd (omega (arith, e))
 memories_arm p (segments ss) q at bytes e a h = absurd (omega (arith, e))
 
-pub globals_arm : (p : State) (s : Section) (q : State) (at : ℕ) (bytes : List ℕ) → section_id s ≡ 6 → Adds s p q → Sized (ContentOf s) at bytes → Arm (SpelledAs GlobalOf IsGlobal) (put_globals p 6) p.held.globals q at bytes
+pub globals_arm : (p : State) (s : Section) (q : State) (at : ℕ) (bytes : List ℕ) → section_id s ≡ 6 → Adds s p q → Sized (ContentOf s) at bytes
+    → Arm (SpelledAs GlobalOf IsGlobal) (put_globals p 6) p.held.globals q at bytes
 globals_arm p (custom name content) q at bytes e a h = absurd (omega (arith, e))
 globals_arm p (types ts) q at bytes e a h = absurd (omega (arith, e))
 globals_arm p (imports is) q at bytes e a h = absurd (omega (arith, e))
@@ -171,7 +181,8 @@ globals_arm p (elements es) q at bytes e a h = absurd (omega (arith, e))
 globals_arm p (bodies bs) q at bytes e a h = absurd (omega (arith, e))
 globals_arm p (segments ss) q at bytes e a h = absurd (omega (arith, e))
 
-pub exports_arm : (p : State) (s : Section) (q : State) (at : ℕ) (bytes : List ℕ) → section_id s ≡ 7 → Adds s p q → Sized (ContentOf s) at bytes → Arm ExportOf (put_exports p 7) p.held.exports q at bytes
+pub exports_arm : (p : State) (s : Section) (q : State) (at : ℕ) (bytes : List ℕ) → section_id s ≡ 7 → Adds s p q → Sized (ContentOf s) at bytes
+    → Arm ExportOf (put_exports p 7) p.held.exports q at bytes
 exports_arm p (custom name content) q at bytes e a h = absurd (omega (arith, e))
 exports_arm p (types ts) q at bytes e a h = absurd (omega (arith, e))
 exports_arm p (imports is) q at bytes e a h = absurd (omega (arith, e))
@@ -185,7 +196,8 @@ exports_arm p (elements es) q at bytes e a h = absurd (omega (arith, e))
 exports_arm p (bodies bs) q at bytes e a h = absurd (omega (arith, e))
 exports_arm p (segments ss) q at bytes e a h = absurd (omega (arith, e))
 
-pub elements_arm : (p : State) (s : Section) (q : State) (at : ℕ) (bytes : List ℕ) → section_id s ≡ 9 → Adds s p q → Sized (ContentOf s) at bytes → Arm (SpelledAs ElementOf IsElem) (λ (xs : List Elem). record p { held = record p.held { elems = xs }; last = 9 }) p.held.elems q at bytes
+pub elements_arm : (p : State) (s : Section) (q : State) (at : ℕ) (bytes : List ℕ) → section_id s ≡ 9 → Adds s p q → Sized (ContentOf s) at bytes
+    → Arm (SpelledAs ElementOf IsElem) (λ (xs : List Elem). record p { held = record p.held { elems = xs }; last = 9 }) p.held.elems q at bytes
 elements_arm p (custom name content) q at bytes e a h = absurd (omega (arith, e))
 elements_arm p (types ts) q at bytes e a h = absurd (omega (arith, e))
 elements_arm p (imports is) q at bytes e a h = absurd (omega (arith, e))
@@ -203,7 +215,8 @@ elements_arm p (elements es) q at bytes e a h = record {
 elements_arm p (bodies bs) q at bytes e a h = absurd (omega (arith, e))
 elements_arm p (segments ss) q at bytes e a h = absurd (omega (arith, e))
 
-pub segments_arm : (p : State) (s : Section) (q : State) (at : ℕ) (bytes : List ℕ) → section_id s ≡ 11 → Adds s p q → Sized (ContentOf s) at bytes → Arm (SpelledAs SegmentOf IsSegment) (put_segments p 11) p.held.segments q at bytes
+pub segments_arm : (p : State) (s : Section) (q : State) (at : ℕ) (bytes : List ℕ) → section_id s ≡ 11 → Adds s p q → Sized (ContentOf s) at bytes
+    → Arm (SpelledAs SegmentOf IsSegment) (put_segments p 11) p.held.segments q at bytes
 segments_arm p (custom name content) q at bytes e a h = absurd (omega (arith, e))
 segments_arm p (types ts) q at bytes e a h = absurd (omega (arith, e))
 segments_arm p (imports is) q at bytes e a h = absurd (omega (arith, e))
@@ -247,7 +260,10 @@ code_arm p (bodies bs) q at bytes e a h = record {
 }
 code_arm p (segments ss) q at bytes e a h = absurd (omega (arith, e))
 
-pub code_built : {n id : ℕ} {old here new : Place} (before after : List FuncValue) (sorts : List ℕ) (p whole : State) (r : Result (Unit {0}) BuildFault) → id ≡ 10 → ReadsNumber (IsUnsigned 32) (Ok n) old here → sorts ≡ p.sorts → p.held.funcs ≡ map func_of before → Builds (λ (u : Unit {0}). map func_of after) (SpelledFuncs sorts (map func_of before)) r here new → whole ≡ record p { held = record p.held { funcs = map func_of after }; last = id } → Builds (λ (u : Unit {0}). whole) (SpelledKnown id p) r old new
+pub code_built : {n id : ℕ} {old here new : Place} (before after : List FuncValue) (sorts : List ℕ) (p whole : State) (r : Result (Unit {0}) BuildFault) → id ≡ 10
+    → ReadsNumber (IsUnsigned 32) (Ok n) old here → sorts ≡ p.sorts → p.held.funcs ≡ map func_of before
+    → Builds (λ (u : Unit {0}). map func_of after) (SpelledFuncs sorts (map func_of before)) r here new → whole ≡ record p { held = record p.held { funcs = map func_of after }; last = id }
+    → Builds (λ (u : Unit {0}). whole) (SpelledKnown id p) r old new
 code_built {n = n} {id = id} before after sorts p whole r same m listed funcs built e = record {
   built = λ q end b.
       let h = b.spelled in
@@ -255,7 +271,8 @@ code_built {n = n} {id = id} before after sorts p whole r same m listed funcs bu
       let c = sized_parts {P = Vector SpelledFunc a.fs} n _ _ end m (record { front = b.front; spelled = a.sized; left = b.left; place = b.place }) in
       let put : ℕ → List Func → State = λ (k : ℕ) (xs : List Func). record p { held = record p.held { funcs = xs }; last = k } in
       let all : map func_of before ++ a.fs ≡ p.held.funcs ++ a.fs = ap (λ z. z ++ a.fs) (sym funcs) in
-      gives_by (λ (u : Unit {0}). map func_of after) (λ (u : Unit {0}). whole) _ end (map func_of before ++ a.fs) q r (λ u g. e ∙ ap (λ k. put k (map func_of after)) same ∙ ap (put 10) (g ∙ all) ∙ sym a.state)
+      gives_by (λ (u : Unit {0}). map func_of after) (λ (u : Unit {0}). whole) _ end (map func_of before ++ a.fs) q r (λ u g. e ∙ ap (λ k. put k (map func_of after)) same
+      ∙ ap (put 10) (g ∙ all) ∙ sym a.state)
       (built.built (map func_of before ++ a.fs) end (record { front = c.front; spelled = (a.fs, refl, a.sorted ∙ sym listed, c.spelled); left = c.left; place = c.place }));
 }
 
@@ -273,7 +290,8 @@ behind_id p q id old here end e f b =
     let g = byte_is id (section_id h.0) old here k.middle e f k.first in
     record { section = h.0; id_is = sym g.0; adds = h.1; between = behind_first _ _ old end here k g.1 }
 
-pub known_built : {id : ℕ} {p whole : State} {old here new : Place} {r : Result (Unit {0}) BuildFault} → old.left ≡ id ∷ here.left → here.at ≡ old.at + 1 → (id ≡ 0 → ⊥) → Builds (λ (u : Unit {0}). whole) (SpelledKnown id p) r here new → Builds (λ (u : Unit {0}). whole) (SpelledSection p) r old new
+pub known_built : {id : ℕ} {p whole : State} {old here new : Place} {r : Result (Unit {0}) BuildFault} → old.left ≡ id ∷ here.left → here.at ≡ old.at + 1 → (id ≡ 0 → ⊥)
+    → Builds (λ (u : Unit {0}). whole) (SpelledKnown id p) r here new → Builds (λ (u : Unit {0}). whole) (SpelledSection p) r old new
 known_built {id = id} {p = p} {old = old} {here = here} e f some r = record {
   built = λ q end b.
       let k = behind_id p q id old here end e f b in
@@ -311,7 +329,8 @@ customized {id = id} {old = old} {here = here} p q end e f none b =
     let k = behind_id p q id old here end e f b in
     custom_arm p q k.section here end (k.id_is ∙ none) k.adds k.between
 
-pub custom_stop : {id : ℕ} {old here new : Place} {d y : BuildFault} (p whole : State) (q : Result (Unit {0}) BuildFault) → old.left ≡ id ∷ here.left → here.at ≡ old.at + 1 → id ≡ 0 → q ≡ Err y → y ≡ d → Builds custom_of (SpelledCustom p.last) (Err d) here new → Builds (λ (u : Unit {0}). whole) (SpelledSection p) q old new
+pub custom_stop : {id : ℕ} {old here new : Place} {d y : BuildFault} (p whole : State) (q : Result (Unit {0}) BuildFault) → old.left ≡ id ∷ here.left → here.at ≡ old.at + 1 → id ≡ 0
+    → q ≡ Err y → y ≡ d → Builds custom_of (SpelledCustom p.last) (Err d) here new → Builds (λ (u : Unit {0}). whole) (SpelledSection p) q old new
 custom_stop p whole q e f none g h r = record {
   built = λ z end b.
       let k = customized p z end e f none b in
@@ -321,11 +340,14 @@ custom_stop p whole q e f none g h r = record {
 map_push : (xs : List CustomValue) (x : CustomValue) → map custom_of (xs ++ x ∷ []) ≡ map custom_of xs ++ custom_of x ∷ []
 map_push xs x = map_append custom_of xs (x ∷ [])
 
-pub custom_put : {id : ℕ} {old here new : Place} (p whole : State) (items more : List CustomValue) (c : CustomValue) → old.left ≡ id ∷ here.left → here.at ≡ old.at + 1 → id ≡ 0 → Builds custom_of (SpelledCustom p.last) (Ok c) here new → more ≡ items ++ c ∷ [] → p.held.customs ≡ map custom_of items → whole ≡ record p { held = record p.held { customs = map custom_of more } } → Builds (λ (u : Unit {0}). whole) (SpelledSection p) (Ok tt) old new
+pub custom_put : {id : ℕ} {old here new : Place} (p whole : State) (items more : List CustomValue) (c : CustomValue) → old.left ≡ id ∷ here.left → here.at ≡ old.at + 1 → id ≡ 0
+    → Builds custom_of (SpelledCustom p.last) (Ok c) here new → more ≡ items ++ c ∷ [] → p.held.customs ≡ map custom_of items
+    → whole ≡ record p { held = record p.held { customs = map custom_of more } } → Builds (λ (u : Unit {0}). whole) (SpelledSection p) (Ok tt) old new
 custom_put p whole items more c e f none r push customs is = record {
   built = λ z end b.
       let k = customized p z end e f none b in
       let g = r.built k.custom_is end k.between in
-      let all : map custom_of more ≡ p.held.customs ++ k.custom_is ∷ [] = ap (map custom_of) push ∙ map_push items c ∙ ap (λ s. s ++ custom_of c ∷ []) (sym customs) ∙ ap (λ x. p.held.customs ++ x ∷ []) g.0 in
+      let all : map custom_of more ≡ p.held.customs ++ k.custom_is ∷ [] = ap (map custom_of) push ∙ map_push items c ∙ ap (λ s. s ++ custom_of c ∷ []) (sym customs)
+      ∙ ap (λ x. p.held.customs ++ x ∷ []) g.0 in
       (is ∙ ap (λ xs. record p { held = record p.held { customs = xs } }) all ∙ sym k.state, g.1);
 }

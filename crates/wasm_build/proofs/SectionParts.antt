@@ -14,7 +14,8 @@ pub record Content (c : Custom) (after : ℕ) (got : List ℕ) (new end : Place)
   pub ends : new ≡ end
   pub between : Between (Text c.name ▸ Exactly c.bytes) (place_in got 0) (record { at = length got; left = [] })
 
-pub content : (c : Custom) (after n : ℕ) (got : List ℕ) (old here new end : Place) → ReadsNumber (IsUnsigned 32) (Ok n) old here → here.left ≡ got ++ new.left → length got ≡ n → new.at ≡ here.at + n → Between (SpelledCustom after c) old end → Content c after got new end
+pub content : (c : Custom) (after n : ℕ) (got : List ℕ) (old here new end : Place) → ReadsNumber (IsUnsigned 32) (Ok n) old here → here.left ≡ got ++ new.left → length got ≡ n
+    → new.at ≡ here.at + n → Between (SpelledCustom after c) old end → Content c after got new end
 content c after n got old here new end r e f g b =
     let h = b.spelled.1 in
     let k = parts (Number h.0) (Filling h.0 (Text c.name ▸ Exactly c.bytes)) old end (record { front = b.front; spelled = h.1; left = b.left; place = b.place }) in

@@ -13,14 +13,17 @@ pub record At {X : Type 0} (Spelled : X → ℕ → List ℕ → Type 0) (old : 
   pub ahead : (x : X) (end : Place) → Between (Spelled x) old end → Between (Rest x) here end
   pub known : (x : X) (end : Place) → Between (Spelled x) old end → Known x
 
-pub start : {X : Type 0} {Spelled : X → ℕ → List ℕ → Type 0} (Rest : X → ℕ → List ℕ → Type 0) (old : Place) → ((x : X) (at : ℕ) (bytes : List ℕ) → Spelled x at bytes → Rest x at bytes) → At Spelled old Rest (λ x. Unit {0}) old
+pub start : {X : Type 0} {Spelled : X → ℕ → List ℕ → Type 0} (Rest : X → ℕ → List ℕ → Type 0) (old : Place) → ((x : X) (at : ℕ) (bytes : List ℕ) → Spelled x at bytes → Rest x at bytes)
+    → At Spelled old Rest (λ x. Unit {0}) old
 start Rest old f = record { ahead = λ x end b. spelled_so old end (f x) b; known = λ x end b. tt }
 
-split : {X : Type 0} {Spelled : X → ℕ → List ℕ → Type 0} {Known : X → Type 0} {old here : Place} (First Rest : X → ℕ → List ℕ → Type 0) → At Spelled old (λ x. First x ▸ Rest x) Known here → (x : X) (end : Place) → Between (Spelled x) old end → Parts (First x) (Rest x) here end
+split : {X : Type 0} {Spelled : X → ℕ → List ℕ → Type 0} {Known : X → Type 0} {old here : Place} (First Rest : X → ℕ → List ℕ → Type 0) → At Spelled old (λ x. First x ▸ Rest x) Known here
+    → (x : X) (end : Place) → Between (Spelled x) old end → Parts (First x) (Rest x) here end
 split First Rest s x end b = parts (First x) (Rest x) _ end (s.ahead x end b)
 
 -- a part is read
-pub step : {A X Y : Type 0} {Spelled : X → ℕ → List ℕ → Type 0} {Known : X → Type 0} {Part : Y → ℕ → List ℕ → Type 0} {view : A → Y} {old here new : Place} {a : A} (part : X → Y) (Rest : X → ℕ → List ℕ → Type 0) → Builds view Part (Ok a) here new → At Spelled old (λ x. Part (part x) ▸ Rest x) Known here → At Spelled old Rest (λ x. Known x × (view a ≡ part x)) new
+pub step : {A X Y : Type 0} {Spelled : X → ℕ → List ℕ → Type 0} {Known : X → Type 0} {Part : Y → ℕ → List ℕ → Type 0} {view : A → Y} {old here new : Place} {a : A} (part : X → Y) (Rest : X
+    → ℕ → List ℕ → Type 0) → Builds view Part (Ok a) here new → At Spelled old (λ x. Part (part x) ▸ Rest x) Known here → At Spelled old Rest (λ x. Known x × (view a ≡ part x)) new
 step {Part = Part} part Rest r s = record {
   ahead = λ x end b.
       let k = split (λ x. Part (part x)) Rest s x end b in
@@ -31,7 +34,9 @@ step {Part = Part} part Rest r s = record {
 }
 
 -- the last part is read
-pub last : {A X Y B : Type 0} {Spelled : X → ℕ → List ℕ → Type 0} {Known : X → Type 0} {Part : Y → ℕ → List ℕ → Type 0} {view : A → Y} {old here new : Place} {a : A} (whole : B → X) (c : B) (part : X → Y) → Builds view Part (Ok a) here new → ((x : X) → Known x → view a ≡ part x → whole c ≡ x) → At Spelled old (λ x. Part (part x)) Known here → Builds whole Spelled (Ok c) old new
+pub last : {A X Y B : Type 0} {Spelled : X → ℕ → List ℕ → Type 0} {Known : X → Type 0} {Part : Y → ℕ → List ℕ → Type 0} {view : A → Y} {old here new : Place} {a : A} (whole : B → X) (c : B)
+    (part : X → Y) → Builds view Part (Ok a) here new → ((x : X) → Known x → view a ≡ part x → whole c ≡ x) → At Spelled old (λ x. Part (part x)) Known here
+    → Builds whole Spelled (Ok c) old new
 last whole c part r f s = record {
   built = λ x end b.
       let g = r.built (part x) end (s.ahead x end b) in
@@ -39,18 +44,23 @@ last whole c part r f s = record {
 }
 
 -- the exit of a `?` behind a part
-pub stop : {A X Y B : Type 0} {Spelled : X → ℕ → List ℕ → Type 0} {Known : X → Type 0} {Part : Y → ℕ → List ℕ → Type 0} {view : A → Y} {whole : B → X} {old here new : Place} {d y : BuildFault} {q : Result B BuildFault} (part : X → Y) (Rest : X → ℕ → List ℕ → Type 0) → q ≡ Err y → y ≡ d → Builds view Part (Err d) here new → At Spelled old (λ x. Part (part x) ▸ Rest x) Known here → Builds whole Spelled q old new
+pub stop : {A X Y B : Type 0} {Spelled : X → ℕ → List ℕ → Type 0} {Known : X → Type 0} {Part : Y → ℕ → List ℕ → Type 0} {view : A → Y} {whole : B
+    → X} {old here new : Place} {d y : BuildFault} {q : Result B BuildFault} (part : X → Y) (Rest : X → ℕ → List ℕ → Type 0) → q ≡ Err y → y ≡ d → Builds view Part (Err d) here new
+    → At Spelled old (λ x. Part (part x) ▸ Rest x) Known here → Builds whole Spelled q old new
 stop {Part = Part} {whole = whole} part Rest e f r s = record {
   built = λ x end b.
       let k = split (λ x. Part (part x)) Rest s x end b in
       fails whole _ x _ end _ _ e f (r.built (part x) k.middle k.first);
 }
 
-pub stop_last : {A X Y B : Type 0} {Spelled : X → ℕ → List ℕ → Type 0} {Known : X → Type 0} {Part : Y → ℕ → List ℕ → Type 0} {view : A → Y} {whole : B → X} {old here new : Place} {d y : BuildFault} {q : Result B BuildFault} (part : X → Y) → q ≡ Err y → y ≡ d → Builds view Part (Err d) here new → At Spelled old (λ x. Part (part x)) Known here → Builds whole Spelled q old new
+pub stop_last : {A X Y B : Type 0} {Spelled : X → ℕ → List ℕ → Type 0} {Known : X → Type 0} {Part : Y → ℕ → List ℕ → Type 0} {view : A → Y} {whole : B
+    → X} {old here new : Place} {d y : BuildFault} {q : Result B BuildFault} (part : X → Y) → q ≡ Err y → y ≡ d → Builds view Part (Err d) here new
+    → At Spelled old (λ x. Part (part x)) Known here → Builds whole Spelled q old new
 stop_last {whole = whole} part e f r s = record { built = λ x end b. fails whole _ x _ end _ _ e f (r.built (part x) end (s.ahead x end b)) }
 
 -- a number is read
-pub step_number : {X : Type 0} {Spelled : X → ℕ → List ℕ → Type 0} {Known : X → Type 0} {Spells : List ℕ → ℕ → Type 0} {old here new : Place} {n : ℕ} (part : X → ℕ) (Rest : X → ℕ → List ℕ → Type 0) → ReadsNumber Spells (Ok n) here new → At Spelled old (λ x. (λ at bytes. Spells bytes (part x)) ▸ Rest x) Known here → At Spelled old Rest (λ x. Known x × (n ≡ part x)) new
+pub step_number : {X : Type 0} {Spelled : X → ℕ → List ℕ → Type 0} {Known : X → Type 0} {Spells : List ℕ → ℕ → Type 0} {old here new : Place} {n : ℕ} (part : X → ℕ) (Rest : X → ℕ → List ℕ
+    → Type 0) → ReadsNumber Spells (Ok n) here new → At Spelled old (λ x. (λ at bytes. Spells bytes (part x)) ▸ Rest x) Known here → At Spelled old Rest (λ x. Known x × (n ≡ part x)) new
 step_number {Spells = Spells} part Rest r s = record {
   ahead = λ x end b.
       let k = split (λ x at bytes. Spells bytes (part x)) Rest s x end b in
@@ -60,7 +70,9 @@ step_number {Spells = Spells} part Rest r s = record {
       (s.known x end b, (number_is Spells _ _ _ k.middle (part x) r k.first).0);
 }
 
-pub last_number : {X B : Type 0} {Spelled : X → ℕ → List ℕ → Type 0} {Known : X → Type 0} {Spells : List ℕ → ℕ → Type 0} {old here new : Place} {n : ℕ} (whole : B → X) (c : B) (part : X → ℕ) → ReadsNumber Spells (Ok n) here new → ((x : X) → Known x → n ≡ part x → whole c ≡ x) → At Spelled old (λ x at bytes. Spells bytes (part x)) Known here → Builds whole Spelled (Ok c) old new
+pub last_number : {X B : Type 0} {Spelled : X → ℕ → List ℕ → Type 0} {Known : X → Type 0} {Spells : List ℕ → ℕ → Type 0} {old here new : Place} {n : ℕ} (whole : B → X) (c : B) (part : X
+    → ℕ) → ReadsNumber Spells (Ok n) here new → ((x : X) → Known x → n ≡ part x → whole c ≡ x) → At Spelled old (λ x at bytes. Spells bytes (part x)) Known here
+    → Builds whole Spelled (Ok c) old new
 last_number {Spells = Spells} whole c part r f s = record {
   built = λ x end b.
       let g = number_is Spells _ _ _ end (part x) r (s.ahead x end b) in
@@ -68,18 +80,24 @@ last_number {Spells = Spells} whole c part r f s = record {
 }
 
 -- the exit of a `?` that isn't taken
-pub never : {X B : Type 0} {Spelled : X → ℕ → List ℕ → Type 0} {whole : B → X} {old new : Place} {q : Result B BuildFault} → ((x : X) (end : Place) → Between (Spelled x) old end → ⊥) → Builds whole Spelled q old new
+pub never : {X B : Type 0} {Spelled : X → ℕ → List ℕ → Type 0} {whole : B → X} {old new : Place} {q : Result B BuildFault} → ((x : X) (end : Place) → Between (Spelled x) old end → ⊥)
+    → Builds whole Spelled q old new
 never f = record { built = λ x end b. absurd (f x end b) }
 
-pub stop_number : {X B : Type 0} {Spelled : X → ℕ → List ℕ → Type 0} {Known : X → Type 0} {Spells : List ℕ → ℕ → Type 0} {whole : B → X} {old here new last : Place} {d : NotSpelled} {q : Result B BuildFault} (part : X → ℕ) (Rest : X → ℕ → List ℕ → Type 0) → ReadsNumber Spells (Err d) here new → At Spelled old (λ x. (λ at bytes. Spells bytes (part x)) ▸ Rest x) Known here → Builds whole Spelled q old last
+pub stop_number : {X B : Type 0} {Spelled : X → ℕ → List ℕ → Type 0} {Known : X → Type 0} {Spells : List ℕ → ℕ → Type 0} {whole : B
+    → X} {old here new last : Place} {d : NotSpelled} {q : Result B BuildFault} (part : X → ℕ) (Rest : X → ℕ → List ℕ → Type 0) → ReadsNumber Spells (Err d) here new
+    → At Spelled old (λ x. (λ at bytes. Spells bytes (part x)) ▸ Rest x) Known here → Builds whole Spelled q old last
 stop_number {Spells = Spells} part Rest r s =
     never (λ x end b. let k = split (λ x at bytes. Spells bytes (part x)) Rest s x end b in number_fails Spells _ _ _ k.middle (part x) r k.first)
 
-pub stop_last_number : {X B : Type 0} {Spelled : X → ℕ → List ℕ → Type 0} {Known : X → Type 0} {Spells : List ℕ → ℕ → Type 0} {whole : B → X} {old here new last : Place} {d : NotSpelled} {q : Result B BuildFault} (part : X → ℕ) → ReadsNumber Spells (Err d) here new → At Spelled old (λ x at bytes. Spells bytes (part x)) Known here → Builds whole Spelled q old last
+pub stop_last_number : {X B : Type 0} {Spelled : X → ℕ → List ℕ → Type 0} {Known : X → Type 0} {Spells : List ℕ → ℕ → Type 0} {whole : B
+    → X} {old here new last : Place} {d : NotSpelled} {q : Result B BuildFault} (part : X → ℕ) → ReadsNumber Spells (Err d) here new
+    → At Spelled old (λ x at bytes. Spells bytes (part x)) Known here → Builds whole Spelled q old last
 stop_last_number {Spells = Spells} part r s = never (λ x end b. number_fails Spells _ _ _ end (part x) r (s.ahead x end b))
 
 -- bytes that are passed over
-pub step_passed : {X : Type 0} {Spelled : X → ℕ → List ℕ → Type 0} {Known : X → Type 0} {First : ℕ → List ℕ → Type 0} {old here new : Place} {a : Unit {0}} (Rest : X → ℕ → List ℕ → Type 0) → Passes First (Ok a) here new → At Spelled old (λ x. First ▸ Rest x) Known here → At Spelled old Rest Known new
+pub step_passed : {X : Type 0} {Spelled : X → ℕ → List ℕ → Type 0} {Known : X → Type 0} {First : ℕ → List ℕ → Type 0} {old here new : Place} {a : Unit {0}} (Rest : X → ℕ → List ℕ → Type 0)
+    → Passes First (Ok a) here new → At Spelled old (λ x. First ▸ Rest x) Known here → At Spelled old Rest Known new
 step_passed {First = First} Rest r s = record {
   ahead = λ x end b.
       let k = split (λ x. First) Rest s x end b in
@@ -90,19 +108,24 @@ step_passed {First = First} Rest r s = record {
 pub not_ok : (e : NotSpelled) (a : Unit {0}) → Err e ≡ Ok a → ⊥
 not_ok e a f = cc
 
-pub stop_passed : {X B : Type 0} {Spelled : X → ℕ → List ℕ → Type 0} {Known : X → Type 0} {First : ℕ → List ℕ → Type 0} {whole : B → X} {old here new last : Place} {d : NotSpelled} {q : Result B BuildFault} (Rest : X → ℕ → List ℕ → Type 0) → Passes First (Err d) here new → At Spelled old (λ x. First ▸ Rest x) Known here → Builds whole Spelled q old last
+pub stop_passed : {X B : Type 0} {Spelled : X → ℕ → List ℕ → Type 0} {Known : X → Type 0} {First : ℕ → List ℕ → Type 0} {whole : B
+    → X} {old here new last : Place} {d : NotSpelled} {q : Result B BuildFault} (Rest : X → ℕ → List ℕ → Type 0) → Passes First (Err d) here new
+    → At Spelled old (λ x. First ▸ Rest x) Known here → Builds whole Spelled q old last
 stop_passed {First = First} {d = d} Rest r s = never (λ x end b. let k = split (λ x. First) Rest s x end b in not_ok d tt (r.passed k.middle k.first).0)
 
 -- the rest is handed on
-pub hand_on : {A X : Type 0} {Spelled Rest : X → ℕ → List ℕ → Type 0} {Known : X → Type 0} {view : A → X} {old here new : Place} {r : Result A BuildFault} → Builds view Rest r here new → At Spelled old Rest Known here → Builds view Spelled r old new
+pub hand_on : {A X : Type 0} {Spelled Rest : X → ℕ → List ℕ → Type 0} {Known : X → Type 0} {view : A → X} {old here new : Place} {r : Result A BuildFault} → Builds view Rest r here new
+    → At Spelled old Rest Known here → Builds view Spelled r old new
 hand_on r s = record { built = λ x end b. r.built x end (s.ahead x end b) }
 
 -- what is spelled from here on is this, by what is known
-pub turn : {X : Type 0} {Spelled Rest : X → ℕ → List ℕ → Type 0} {Known : X → Type 0} {old here : Place} (Turned : X → ℕ → List ℕ → Type 0) → ((x : X) (at : ℕ) (bytes : List ℕ) → Known x → Rest x at bytes → Turned x at bytes) → At Spelled old Rest Known here → At Spelled old Turned Known here
+pub turn : {X : Type 0} {Spelled Rest : X → ℕ → List ℕ → Type 0} {Known : X → Type 0} {old here : Place} (Turned : X → ℕ → List ℕ → Type 0)
+    → ((x : X) (at : ℕ) (bytes : List ℕ) → Known x → Rest x at bytes → Turned x at bytes) → At Spelled old Rest Known here → At Spelled old Turned Known here
 turn Turned f s = record { ahead = λ x end b. spelled_so _ end (λ at bytes h. f x at bytes (s.known x end b) h) (s.ahead x end b); known = s.known }
 
 -- a byte is read
-pub step_byte : {X : Type 0} {Spelled : X → ℕ → List ℕ → Type 0} {Known : X → Type 0} {old here new : Place} {v : ℕ} (part : X → ℕ) (Rest : X → ℕ → List ℕ → Type 0) → here.left ≡ v ∷ new.left → new.at ≡ here.at + 1 → At Spelled old (λ x. Exactly (part x ∷ []) ▸ Rest x) Known here → At Spelled old Rest (λ x. Known x × (v ≡ part x)) new
+pub step_byte : {X : Type 0} {Spelled : X → ℕ → List ℕ → Type 0} {Known : X → Type 0} {old here new : Place} {v : ℕ} (part : X → ℕ) (Rest : X → ℕ → List ℕ → Type 0)
+    → here.left ≡ v ∷ new.left → new.at ≡ here.at + 1 → At Spelled old (λ x. Exactly (part x ∷ []) ▸ Rest x) Known here → At Spelled old Rest (λ x. Known x × (v ≡ part x)) new
 step_byte part Rest e f s = record {
   ahead = λ x end b.
       let k = split (λ x. Exactly (part x ∷ [])) Rest s x end b in
@@ -113,7 +136,9 @@ step_byte part Rest e f s = record {
 }
 
 -- so many bytes are taken
-pub step_taken : {X : Type 0} {Spelled : X → ℕ → List ℕ → Type 0} {Known : X → Type 0} {old here new : Place} {got : List ℕ} {count : ℕ} (part : X → List ℕ) (Rest : X → ℕ → List ℕ → Type 0) → here.left ≡ got ++ new.left → length got ≡ count → new.at ≡ here.at + count → ((x : X) → Known x → count ≡ length (part x)) → At Spelled old (λ x. Exactly (part x) ▸ Rest x) Known here → At Spelled old Rest (λ x. Known x × (got ≡ part x)) new
+pub step_taken : {X : Type 0} {Spelled : X → ℕ → List ℕ → Type 0} {Known : X → Type 0} {old here new : Place} {got : List ℕ} {count : ℕ} (part : X → List ℕ) (Rest : X → ℕ → List ℕ → Type 0)
+    → here.left ≡ got ++ new.left → length got ≡ count → new.at ≡ here.at + count → ((x : X) → Known x → count ≡ length (part x))
+    → At Spelled old (λ x. Exactly (part x) ▸ Rest x) Known here → At Spelled old Rest (λ x. Known x × (got ≡ part x)) new
 step_taken part Rest e f g h s = record {
   ahead = λ x end b.
       let k = split (λ x. Exactly (part x)) Rest s x end b in
@@ -124,11 +149,13 @@ step_taken part Rest e f g h s = record {
 }
 
 -- the end is reached
-pub finish : {X B : Type 0} {Spelled : X → ℕ → List ℕ → Type 0} {Known : X → Type 0} {old here : Place} (whole : B → X) (c : B) → ((x : X) → Known x → whole c ≡ x) → At Spelled old (λ x. Exactly []) Known here → Builds whole Spelled (Ok c) old here
+pub finish : {X B : Type 0} {Spelled : X → ℕ → List ℕ → Type 0} {Known : X → Type 0} {old here : Place} (whole : B → X) (c : B) → ((x : X) → Known x → whole c ≡ x)
+    → At Spelled old (λ x. Exactly []) Known here → Builds whole Spelled (Ok c) old here
 finish whole c f s = record { built = λ x end b. (f x (s.known x end b), nothing_between _ end (s.ahead x end b)) }
 
 -- a number is passed over, whatever it is
-pub step_size : {X : Type 0} {Spelled : X → ℕ → List ℕ → Type 0} {old new : Place} {n : ℕ} (Rest : X → ℕ → List ℕ → Type 0) → ReadsNumber (IsUnsigned 32) (Ok n) old new → ((x : X) (at : ℕ) (bytes : List ℕ) → Spelled x at bytes → (size : ℕ) × (Number size ▸ Rest x) at bytes) → At Spelled old Rest (λ x. Unit {0}) new
+pub step_size : {X : Type 0} {Spelled : X → ℕ → List ℕ → Type 0} {old new : Place} {n : ℕ} (Rest : X → ℕ → List ℕ → Type 0) → ReadsNumber (IsUnsigned 32) (Ok n) old new
+    → ((x : X) (at : ℕ) (bytes : List ℕ) → Spelled x at bytes → (size : ℕ) × (Number size ▸ Rest x) at bytes) → At Spelled old Rest (λ x. Unit {0}) new
 step_size Rest r f = record {
   ahead = λ x end b.
       let h = f x _ b.front b.spelled in
@@ -137,7 +164,9 @@ step_size Rest r f = record {
   known = λ x end b. tt;
 }
 
-pub stop_taken : {X B : Type 0} {Spelled : X → ℕ → List ℕ → Type 0} {Known : X → Type 0} {whole : B → X} {old here last : Place} {count : ℕ} {q : Result B BuildFault} (part : X → List ℕ) (Rest : X → ℕ → List ℕ → Type 0) → length here.left < count → ((x : X) → Known x → count ≡ length (part x)) → At Spelled old (λ x. Exactly (part x) ▸ Rest x) Known here → Builds whole Spelled q old last
+pub stop_taken : {X B : Type 0} {Spelled : X → ℕ → List ℕ → Type 0} {Known : X → Type 0} {whole : B → X} {old here last : Place} {count : ℕ} {q : Result B BuildFault} (part : X → List ℕ)
+    (Rest : X → ℕ → List ℕ → Type 0) → length here.left < count → ((x : X) → Known x → count ≡ length (part x)) → At Spelled old (λ x. Exactly (part x) ▸ Rest x) Known here
+    → Builds whole Spelled q old last
 stop_taken part Rest few h s = never (λ x end b.
     let k = split (λ x. Exactly (part x)) Rest s x end b in
     let n = h x (s.known x end b) in

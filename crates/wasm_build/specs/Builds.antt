@@ -34,6 +34,7 @@ pub record Builds {A X : Type 0} (view : A → X) (Spelled : X → ℕ → List 
 pub record Passes (Spelled : ℕ → List ℕ → Type 0) (result : Result (Unit {0}) NotSpelled) (old new : Place) : Type 0 where
   pub passed : (end : Place) → Between Spelled old end → (result ≡ Ok tt) × (new ≡ end)
 
+-- the result of a construct (5.3.2)
 abbrev pub IsResult : Placed → Option ValType → Type 0
 IsResult raw r = raw.byte ≡ block_type_byte r
 

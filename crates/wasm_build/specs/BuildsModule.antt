@@ -17,9 +17,11 @@ pub record State : Type 0 where
   pub sorts : List ℕ
   pub last : ℕ
 
+-- what sections that were read hold
 abbrev pub state_of : Sections → State
 state_of s = record { held = module_of s.module; sorts = s.sorts.items; last = s.last }
 
+-- nothing is held before the first section
 abbrev pub nothing_yet : State
 nothing_yet = record {
   held = record {
@@ -61,6 +63,7 @@ Adds (start x) p q = q ≡ record p { held = record p.held { start = Some x }; l
 Adds (bodies bs) p q =
     (fs : List Func) × Each IsBody bs fs × (map (λ (f : Func). f.sort) fs ≡ p.sorts) × (q ≡ record p { held = record p.held { funcs = p.held.funcs ++ fs }; last = 10 })
 
+-- so do several
 abbrev pub AddsAll : List Section → State → State → Type 0
 AddsAll [] p q = p ≡ q
 AddsAll (s ∷ ss) p q = (r : State) × Adds s p r × AddsAll ss r q
@@ -69,9 +72,11 @@ AddsAll (s ∷ ss) p q = (r : State) × Adds s p r × AddsAll ss r q
 abbrev pub SpelledKnown : (id : ℕ) → (before after : State) → ℕ → List ℕ → Type 0
 SpelledKnown id p q at bytes = (s : Section) × (0 < id) × (section_id s ≡ id) × Adds s p q × Sized (ContentOf s) at bytes
 
+-- a section
 abbrev pub SpelledSection : (before after : State) → ℕ → List ℕ → Type 0
 SpelledSection p q at bytes = (s : Section) × Adds s p q × SectionOf s at bytes
 
+-- sections one behind another
 abbrev pub SpelledSections : (before after : State) → ℕ → List ℕ → Type 0
 SpelledSections p q at bytes = (ss : List Section) × AddsAll ss p q × Items SectionOf ss at bytes
 

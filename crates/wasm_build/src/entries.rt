@@ -1,3 +1,6 @@
+//! Entries of the global, element, code and data sections, and custom sections, from bytes (standard, sections 5.5.3, 5.5.9 and 5.5.12
+//! to 5.5.14).
+
 ghost use Rattle.std.specs.Prelude.{◌≡◌, ◌≤◌, length};
 ghost use Rattle.wa_types.specs.Syntax.{GlobalDef as PlainGlobal, Elem as PlainElem, Segment as PlainSegment, Custom as PlainCustom};
 ghost use Rattle.wa_types.specs.View.{global_of, elem_of, segment_of, custom_of};

@@ -1,3 +1,5 @@
+//! How an entry of a vector is read, and vectors of such entries (standard, section 5.1.3).
+
 ghost use Rattle.std.specs.Prelude.{ℕ, ◌≤◌, List, length, map};
 ghost use Rattle.wa_types.specs.Spells.{Vector};
 ghost use Rattle.wasm_build.specs.Builds.{Builds, SpelledBehind};

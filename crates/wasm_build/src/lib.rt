@@ -1,11 +1,12 @@
 //! Builds a module from bytes that are known to spell one.
 //!
-//! `build` reads entry by entry, and goes as deep as the code nests. What each part builds is what the bytes from one place to another spell (`specs/Builds.antt`).
+//! `build` reads entry by entry, and code in a loop over its instructions: constructs that are open wait on a stack. What each part builds is what the bytes from one place to another spell (`specs/Builds.antt`).
 #![tactic(auto)]
 
 mod code;
 mod entries;
 mod entry;
+mod levels;
 mod plain;
 mod sections;
 mod types;

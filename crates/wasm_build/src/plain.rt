@@ -1,3 +1,5 @@
+//! Instructions that hold no other, by their opcodes (standard, section 5.4).
+
 ghost use Rattle.std.specs.Prelude.{◌≡◌, ◌≤◌, length, Some};
 ghost use Rattle.wa_types.specs.Binary.{nothing, zero_byte, index, access};
 ghost use Rattle.wa_types.specs.Operators.{opcode_of};

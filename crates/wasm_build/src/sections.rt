@@ -1,3 +1,5 @@
+//! Sections one behind another, and the module that they are (standard, sections 5.5.2 and 5.5.15).
+
 ghost use Rattle.std.specs.Prelude.{◌≡◌, ◌≤◌, ◌<◌, length, map, IfOk, OnOk};
 ghost use Rattle.wa_types.specs.Syntax.{Func as PlainFunc};
 ghost use Rattle.wa_types.specs.View.{func_of, module_of};

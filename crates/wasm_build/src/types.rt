@@ -1,3 +1,6 @@
+//! Types and names from bytes, and entries of the type, import, table, memory and export sections (standard, sections 5.2.4, 5.3, 5.5.4,
+//! 5.5.5, 5.5.7, 5.5.8 and 5.5.10).
+
 ghost use Rattle.std.specs.Prelude.{◌≡◌, ℕ, ◌≤◌, ◌∷◌, [], List, Bool, length};
 ghost use Rattle.wa_types.specs.declared.values.ValType.{ValType};
 ghost use Rattle.wa_types.specs.declared.syntax.Limits.{Limits};

@@ -18,13 +18,15 @@ passed bytes front rest at end e f =
 abbrev pub Given : (List ℕ → ℕ → Type 0) → List ℕ → ℕ → ℕ → Result ℕ LebFault → Place → Type 0
 Given Spells bytes at end r p = (n : ℕ) (front rest : List ℕ) → p.left ≡ front ++ rest → Spells front n → (r ≡ Ok n) × (place_in bytes end ≡ behind p front rest)
 
-pub unsigned_given : (bits : ℕ) (bytes : List ℕ) (at end : ℕ) (r : Result ℕ LebFault) (p : Place) → place_in bytes at ≡ p → (r, end) ≡ unsigned_at bits (drop at bytes) at → Given (IsUnsigned bits) bytes at end r p
+pub unsigned_given : (bits : ℕ) (bytes : List ℕ) (at end : ℕ) (r : Result ℕ LebFault) (p : Place) → place_in bytes at ≡ p → (r, end) ≡ unsigned_at bits (drop at bytes) at
+    → Given (IsUnsigned bits) bytes at end r p
 unsigned_given bits bytes at end r p v f =
     subst (Given (IsUnsigned bits) bytes at end r) v (λ n front rest e s.
     let g : (r, end) ≡ (Ok n, at + length front) = f ∙ ap (λ z. unsigned_at bits z at) e ∙ again bits front rest n at s in
     (ap (λ q. q.0) g, passed bytes front rest at end e (ap (λ q. q.1) g)))
 
-pub signed_given : (bits : ℕ) (bytes : List ℕ) (at end : ℕ) (r : Result ℕ LebFault) (p : Place) → place_in bytes at ≡ p → (r, end) ≡ signed_at bits (drop at bytes) at → Given (IsSigned bits) bytes at end r p
+pub signed_given : (bits : ℕ) (bytes : List ℕ) (at end : ℕ) (r : Result ℕ LebFault) (p : Place) → place_in bytes at ≡ p → (r, end) ≡ signed_at bits (drop at bytes) at
+    → Given (IsSigned bits) bytes at end r p
 signed_given bits bytes at end r p v f =
     subst (Given (IsSigned bits) bytes at end r) v (λ n front rest e s.
     let g : (r, end) ≡ (Ok n, at + length front) = f ∙ ap (λ z. signed_at bits z at) e ∙ signed_again bits front rest n at s in
@@ -56,12 +58,14 @@ goes_on bytes at end p v h k =
       left = omega (arith, length-drop end bytes, length-drop at bytes);
     })
 
-pub unsigned_on : (bits : ℕ) (bytes : List ℕ) (at end : ℕ) (r : Result ℕ LebFault) (p : Place) → place_in bytes at ≡ p → (r, end) ≡ unsigned_at bits (drop at bytes) at → end ≤ length bytes → Onward p (place_in bytes end)
+pub unsigned_on : (bits : ℕ) (bytes : List ℕ) (at end : ℕ) (r : Result ℕ LebFault) (p : Place) → place_in bytes at ≡ p → (r, end) ≡ unsigned_at bits (drop at bytes) at → end ≤ length bytes
+    → Onward p (place_in bytes end)
 unsigned_on bits bytes at end r p v f k =
     let place : end ≡ (unsigned_at bits (drop at bytes) at).1 = ap (λ q. q.1) f in
     goes_on bytes at end p v (omega (arith, place, unsigned_grows bits (drop at bytes) at)) k
 
-pub signed_on : (bits : ℕ) (bytes : List ℕ) (at end : ℕ) (r : Result ℕ LebFault) (p : Place) → place_in bytes at ≡ p → (r, end) ≡ signed_at bits (drop at bytes) at → end ≤ length bytes → Onward p (place_in bytes end)
+pub signed_on : (bits : ℕ) (bytes : List ℕ) (at end : ℕ) (r : Result ℕ LebFault) (p : Place) → place_in bytes at ≡ p → (r, end) ≡ signed_at bits (drop at bytes) at → end ≤ length bytes
+    → Onward p (place_in bytes end)
 signed_on bits bytes at end r p v f k =
     let place : end ≡ (signed_at bits (drop at bytes) at).1 = ap (λ q. q.1) f in
     goes_on bytes at end p v (omega (arith, place, signed_grows bits (drop at bytes) at)) k

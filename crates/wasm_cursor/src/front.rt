@@ -1,3 +1,5 @@
+//! `Cursor`: a place in bytes that are known to spell something, read on from there.
+
 ghost use Rattle.std.specs.Prelude.{◌≡◌, ℕ, ◌+◌, ◌<◌, ◌^◌, [], ◌∷◌, ◌++◌, length, IfOk, OnErr, IsTrue, ◌↔◌};
 ghost use Rattle.wa_types.specs.Leb.{IsUnsigned, IsSigned};
 ghost use Rattle.wasm_cursor.specs.Places.{Onward, ReadsNumber, place_in};

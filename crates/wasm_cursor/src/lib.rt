@@ -9,4 +9,4 @@ mod numbers;
 mod opcodes;
 
 pub use front::{Cursor, NotSpelled};
-pub use opcodes::{Shape, is_float_op, is_float_type, operand_shape};
+pub use opcodes::{Shape, operand_shape};

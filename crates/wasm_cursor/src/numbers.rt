@@ -1,4 +1,5 @@
-// Numbers in LEB128, those of one byte at once.
+//! Numbers in LEB128, those of one byte at once (standard, section 5.2.2).
+
 ghost use Rattle.std.specs.Prelude.{◌≡◌, ◌<◌, ◌≤◌, ◌^◌, length, drop, IfOk};
 ghost use Rattle.std.specs.Int.{w32, w64};
 ghost use Rattle.wa_types.specs.Leb.{unsigned_at, signed_at, in_bits};

@@ -1,5 +1,7 @@
+//! What follows an opcode, and which opcodes and types are floats (standard, sections 5.3.1 and 5.4).
+
 ghost use Rattle.std.specs.Prelude.{◌≡◌};
-ghost use Rattle.wa_types.specs.Opcodes.{follows, within, is_float_op, is_float_type};
+ghost use Rattle.wa_types.specs.Opcodes.{follows};
 ghost use Rattle.wasm_cursor.specs.Shapes.{follows_of};
 
 /// What follows an opcode that is no construct's and no end (standard, sections 5.4.1 to 5.4.5).
@@ -48,31 +50,4 @@ pub fn operand_shape(op: u8) -> Option<Shape>
         0x45..=0xBF => Some(Shape::Nothing),
         _ => None,
     }
-}
-
-/// Whether this is the opcode of an instruction on floats.
-pub fn is_float_op(op: u8) -> bool
-    ensures { result ≡ is_float_op op }
-{
-    within(0x2A, 0x2B, op)
-        || within(0x38, 0x39, op)
-        || within(0x43, 0x44, op)
-        || within(0x5B, 0x66, op)
-        || within(0x8B, 0xA6, op)
-        || within(0xA8, 0xAB, op)
-        || within(0xAE, 0xBF, op)
-}
-
-/// Whether this is a float type (standard, section 5.3.1).
-pub fn is_float_type(byte: u8) -> bool
-    ensures { result ≡ is_float_type byte }
-{
-    within(0x7C, 0x7D, byte)
-}
-
-// Whether the byte is of this range.
-fn within(low: u8, high: u8, byte: u8) -> bool
-    ensures { result ≡ within low high byte }
-{
-    low <= byte && byte <= high
 }

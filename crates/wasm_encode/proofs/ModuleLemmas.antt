@@ -33,21 +33,25 @@ section_map id f g (x ∷ xs) = ap (λ v. id ∷ sized v) (vector_map f g (x ∷
 abbrev code_entry : FuncValue → List ℕ
 code_entry f = sized (body_bytes (func_of f))
 
-entries_fit : (fs : List FuncValue) → All (λ f. local_count f.locals.items < 2 ^ 32) fs → length (section 10 code_entry fs) < 2 ^ 64 → All (λ f. (local_count f.locals.items < 2 ^ 32) × (length (code_entry f) < 2 ^ 64)) fs
+entries_fit : (fs : List FuncValue) → All (λ f. local_count f.locals.items < 2 ^ 32) fs → length (section 10 code_entry fs) < 2 ^ 64
+    → All (λ f. (local_count f.locals.items < 2 ^ 32) × (length (code_entry f) < 2 ^ 64)) fs
 entries_fit fs few fits = λ k d h.
     let whole = section_length 10 code_entry fs (omega arith) in
     let entry = entry_le code_entry fs k (get_or fs k d) h (get_or_default fs k d (get_or fs k d) h) in
     (few k d h, omega (arith, whole, entry, fits))
 
-pub code_fits : (m : ModuleValue) (id : ℕ) (fs : List FuncValue) → id ≡ 10 → fs ≡ m.funcs.items → FewLocals (module_of m) → length (known_section id (module_of m)) < 2 ^ 64 → All (λ f. (local_count f.locals.items < 2 ^ 32) × (length (code_entry f) < 2 ^ 64)) fs
+pub code_fits : (m : ModuleValue) (id : ℕ) (fs : List FuncValue) → id ≡ 10 → fs ≡ m.funcs.items → FewLocals (module_of m) → length (known_section id (module_of m)) < 2 ^ 64
+    → All (λ f. (local_count f.locals.items < 2 ^ 32) × (length (code_entry f) < 2 ^ 64)) fs
 unfolding known_section
 code_fits m id fs ten same few fits =
     let P : List FuncValue → Type 0 = λ s. All (λ f. (local_count f.locals.items < 2 ^ 32) × (length (code_entry f) < 2 ^ 64)) s in
     let known : length (section 10 (λ (f : Func). sized (body_bytes f)) (map func_of m.funcs.items)) < 2 ^ 64 =
     subst (λ (i : ℕ). length (known_section i (module_of m)) < 2 ^ 64) ten fits in
-    let section_fits : length (section 10 code_entry m.funcs.items) < 2 ^ 64 = subst (λ (s : List ℕ). length s < 2 ^ 64) (section_map 10 (λ (f : Func). sized (body_bytes f)) func_of m.funcs.items) known in
+    let section_fits : length (section 10 code_entry m.funcs.items) < 2 ^ 64 = subst (λ (s : List ℕ). length s < 2 ^ 64)
+    (section_map 10 (λ (f : Func). sized (body_bytes f)) func_of m.funcs.items) known in
     let each : All (λ f. local_count f.locals.items < 2 ^ 32) m.funcs.items = λ k d h.
-    subst (λ (f : Func). local_count f.locals < 2 ^ 32) (get_or-map func_of m.funcs.items k d (func_of d) h) (few k (func_of d) (let count = length-map m.funcs.items func_of in omega (arith, count))) in
+    subst (λ (f : Func). local_count f.locals < 2 ^ 32) (get_or-map func_of m.funcs.items k d (func_of d) h)
+    (few k (func_of d) (let count = length-map m.funcs.items func_of in omega (arith, count))) in
     subst P (sym same) (entries_fit m.funcs.items each section_fits)
 
 -- a module's places begin behind its preamble
@@ -68,7 +72,11 @@ pub first_length : (m : Module) → length (Enc m) ≡ 8 + length (places_from 0
 first_length m = ap length (places_first m) ∙ omega (arith, length-append preamble (places_from 0 m))
 
 pub more_length : (m : Module) (id : ℕ) → id < 12 → length (places_from id m) ≡ length (known_section id m) + length (customs_behind id m.customs) + length (places_from (id + 1) m)
-more_length m id h = ap length (places_more m id h) ∙ omega (arith, length-append (known_section id m ++ customs_behind id m.customs) (places_from (id + 1) m), length-append (known_section id m) (customs_behind id m.customs))
+more_length m id h = ap length (places_more m id h) ∙ omega (
+  arith,
+  length-append (known_section id m ++ customs_behind id m.customs) (places_from (id + 1) m),
+  length-append (known_section id m) (customs_behind id m.customs),
+)
 
 pub none_length : (m : Module) (id : ℕ) → 12 ≤ id → length (places_from id m) ≡ 0
 none_length m id h = ap length (places_none m id h)
@@ -78,7 +86,8 @@ pub ruleset measuring = (first_length, more_length, none_length)
 pub put_first : (m : Module) (old new : List ℕ) → new ≡ old ++ preamble → new ++ places_from 0 m ≡ old ++ Enc m
 put_first m old new put = ap (λ s. s ++ places_from 0 m) put ∙ append_assoc old preamble _ ∙ ap (λ s. old ++ s) (sym (places_first m))
 
-pub put_more : (m : Module) (id : ℕ) (old middle new whole : List ℕ) → id < 12 → middle ≡ old ++ known_section id m → new ≡ middle ++ customs_behind id m.customs → old ++ places_from id m ≡ whole → new ++ places_from (id + 1) m ≡ whole
+pub put_more : (m : Module) (id : ℕ) (old middle new whole : List ℕ) → id < 12 → middle ≡ old ++ known_section id m → new ≡ middle ++ customs_behind id m.customs
+    → old ++ places_from id m ≡ whole → new ++ places_from (id + 1) m ≡ whole
 put_more m id old middle new whole h known customs before =
     ap (λ s. s ++ places_from (id + 1) m) (customs ∙ ap (λ s. s ++ customs_behind id m.customs) known ∙ append_assoc old _ _)
     ∙ append_assoc old (known_section id m ++ customs_behind id m.customs) _ ∙ ap (λ s. old ++ s) (sym (places_more m id h)) ∙ before

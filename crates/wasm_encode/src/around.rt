@@ -1,3 +1,5 @@
+//! A module as bytes, around entries of the code section that were written beforehand (standard, sections 5.5.13 and 5.5.15).
+
 ghost use Rattle.std.specs.Prelude.{◌≡◌, ◌<◌, ◌≤◌, ◌^◌, ◌++◌, length, IfOk, OnOk};
 ghost use Rattle.std.specs.Result.{IfErr};
 ghost use Rattle.wa_types.specs.Encoding.{Enc};

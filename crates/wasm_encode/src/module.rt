@@ -1,3 +1,5 @@
+//! A module as bytes: the preamble, and its sections in order (standard, section 5.5.15).
+
 ghost use Rattle.std.specs.Prelude.{◌≡◌, ◌<◌, ◌≤◌, ◌^◌, ◌++◌, length, map, All, OnOk};
 ghost use Rattle.wa_types.specs.View.{module_of, custom_of};
 ghost use Rattle.wa_types.specs.Encoding.{Enc};

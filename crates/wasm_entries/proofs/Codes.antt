@@ -33,7 +33,8 @@ pub loop_bytes : (r : Option ValType) (v : Vec Instr Global) → instr_bytes (Lo
 unfolding instr_bytes first_bytes
 loop_bytes r v = ap first_bytes (in_loop r v done)
 
-pub branch_bytes : (r : Option ValType) (v w : Vec Instr Global) → instr_bytes (If r v w) ≡ 0x04 ∷ block_type_byte r ∷ (code_bytes (code v.items) ++ else_bytes (code w.items) (code_bytes (code w.items)) ++ 0x0B ∷ [])
+pub branch_bytes : (r : Option ValType) (v w : Vec Instr Global) → instr_bytes (If r v w) ≡ 0x04 ∷ block_type_byte r
+    ∷ (code_bytes (code v.items) ++ else_bytes (code w.items) (code_bytes (code w.items)) ++ 0x0B ∷ [])
 unfolding instr_bytes first_bytes
 branch_bytes r v w = ap first_bytes (in_if r v w done)
 
@@ -56,7 +57,8 @@ pub instr_none : (xs : List Instr) (i : ℕ) → length xs ≤ i → code_bytes 
 unfolding code_bytes
 instr_none xs i h = ap code_bytes (code_empty xs i h)
 
-pub instr_length : (xs : List Instr) (i : ℕ) (x : Instr) → i < length xs → x ≡ get_or xs i x → length (code_bytes (code (drop i xs))) ≡ length (instr_bytes x) + length (code_bytes (code (drop (i + 1) xs)))
+pub instr_length : (xs : List Instr) (i : ℕ) (x : Instr) → i < length xs → x ≡ get_or xs i x
+    → length (code_bytes (code (drop i xs))) ≡ length (instr_bytes x) + length (code_bytes (code (drop (i + 1) xs)))
 instr_length xs i x h e = ap length (instr_step xs i x h e) ∙ length-append (instr_bytes x) _
 
 pub instr_none_length : (xs : List Instr) (i : ℕ) → length xs ≤ i → length (code_bytes (code (drop i xs))) ≡ 0
@@ -65,7 +67,8 @@ instr_none_length xs i h = ap length (instr_none xs i h)
 pub ruleset measuring = (instr_length, instr_none_length)
 
 -- what was written, with an instruction more
-pub put_step : (xs : List Instr) (i : ℕ) (x : Instr) (old new whole : List ℕ) → i < length xs → x ≡ get_or xs i x → new ≡ old ++ instr_bytes x → old ++ code_bytes (code (drop i xs)) ≡ whole → new ++ code_bytes (code (drop (i + 1) xs)) ≡ whole
+pub put_step : (xs : List Instr) (i : ℕ) (x : Instr) (old new whole : List ℕ) → i < length xs → x ≡ get_or xs i x → new ≡ old ++ instr_bytes x → old ++ code_bytes (code (drop i xs)) ≡ whole
+    → new ++ code_bytes (code (drop (i + 1) xs)) ≡ whole
 put_step xs i x old new whole h e put before =
     ap (λ s. s ++ code_bytes (code (drop (i + 1) xs))) put ∙ append_assoc old (instr_bytes x) _ ∙ ap (λ s. old ++ s) (sym (instr_step xs i x h e)) ∙ before
 
@@ -110,16 +113,19 @@ block_length r v = ap length (block_bytes r v) ∙ omega (arith, length-append (
 pub loop_length : (r : Option ValType) (v : Vec Instr Global) → length (instr_bytes (Loop r v)) ≡ 3 + length (code_bytes (code v.items))
 loop_length r v = ap length (loop_bytes r v) ∙ omega (arith, length-append (code_bytes (code v.items)) (0x0B ∷ []))
 
-branch_length : (r : Option ValType) (v w : Vec Instr Global) → length (instr_bytes (If r v w)) ≡ 3 + length (code_bytes (code v.items)) + length (else_bytes (code w.items) (code_bytes (code w.items)))
+branch_length : (r : Option ValType) (v w : Vec Instr Global) → length (instr_bytes (If r v w)) ≡ 3 + length (code_bytes (code v.items))
+    + length (else_bytes (code w.items) (code_bytes (code w.items)))
 branch_length r v w =
     let arms : List ℕ = code_bytes (code v.items) ++ else_bytes (code w.items) (code_bytes (code w.items)) in
     ap length (branch_bytes r v w) ∙ omega (arith, length-append arms (0x0B ∷ []), length-append (code_bytes (code v.items)) (else_bytes (code w.items) (code_bytes (code w.items))))
 
-pub branch_length_none : (r : Option ValType) (v w : Vec Instr Global) → length w.items ≡ 0 → length (instr_bytes (If r v w)) ≡ 3 + length (code_bytes (code v.items)) + length (code_bytes (code w.items))
+pub branch_length_none : (r : Option ValType) (v w : Vec Instr Global) → length w.items ≡ 0
+    → length (instr_bytes (If r v w)) ≡ 3 + length (code_bytes (code v.items)) + length (code_bytes (code w.items))
 branch_length_none r v w h =
     branch_length r v w ∙ omega (arith, ap length (else_none w.items (code_bytes (code w.items)) h), ap length (code_none w.items h))
 
-pub branch_length_some : (r : Option ValType) (v w : Vec Instr Global) → length w.items ≢ 0 → length (instr_bytes (If r v w)) ≡ 4 + length (code_bytes (code v.items)) + length (code_bytes (code w.items))
+pub branch_length_some : (r : Option ValType) (v w : Vec Instr Global) → length w.items ≢ 0
+    → length (instr_bytes (If r v w)) ≡ 4 + length (code_bytes (code v.items)) + length (code_bytes (code w.items))
 branch_length_some r v w h = branch_length r v w ∙ omega (arith, ap length (else_some w.items (code_bytes (code w.items)) h))
 
 pub branch_length_le : (r : Option ValType) (v w : Vec Instr Global) → 3 + length (code_bytes (code v.items)) + length (code_bytes (code w.items)) ≤ length (instr_bytes (If r v w))

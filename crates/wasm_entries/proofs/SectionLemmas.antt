@@ -1,5 +1,6 @@
 -- Sections of entries, and custom sections at their places.
-use Rattle.std.proofs.Common.{◌≡◌, ◌≢◌, ℕ, zero, suc, ◌+◌, ◌<◌, ◌≤◌, ◌^◌, List, [], ◌∷◌, ◌++◌, Bool, true, false, inl, inr, refl, ap, sym, ◌∙◌, arith, min, map, filter, eqb, cond, add-one, append_assoc, append-nil, length, length-append, get_or, drop, drop-cons}
+use Rattle.std.proofs.Common.{◌≡◌, ◌≢◌, ℕ, zero, suc, ◌+◌, ◌<◌, ◌≤◌, ◌^◌, List, [], ◌∷◌, ◌++◌, Bool, true, false, inl, inr, refl, ap, sym, ◌∙◌, arith, min, map, filter, eqb, cond, add-one}
+use Rattle.std.proofs.Common.{append_assoc, append-nil, length, length-append, get_or, drop, drop-cons}
 use Rattle.std.proofs.lemmas.List.{drop_all}
 use Rattle.std.proofs.lemmas.Bool.{eq-eqb, ne_eqb}
 use Rattle.wa_types.specs.declared.syntax.Custom.{Custom as CustomValue}
@@ -33,19 +34,23 @@ custom_elsewhere id c cs h = rw (ne_eqb _ _ h) refl
 at_custom : (cs : List CustomValue) (i : ℕ) (c : CustomValue) → i < length cs → c ≡ get_or cs i c → map custom_of (drop i cs) ≡ custom_of c ∷ map custom_of (drop (i + 1) cs)
 at_custom cs i c h e = rw (add-one, drop-cons cs i c) (ap (λ d. custom_of d ∷ map custom_of (drop (suc i) cs)) (sym e))
 
-pub customs_step_here : (id : ℕ) (cs : List CustomValue) (i : ℕ) (c : CustomValue) → i < length cs → c ≡ get_or cs i c → min c.after 11 ≡ id → customs_behind id (map custom_of (drop i cs)) ≡ custom_bytes (custom_of c) ++ customs_behind id (map custom_of (drop (i + 1) cs))
+pub customs_step_here : (id : ℕ) (cs : List CustomValue) (i : ℕ) (c : CustomValue) → i < length cs → c ≡ get_or cs i c → min c.after 11 ≡ id
+    → customs_behind id (map custom_of (drop i cs)) ≡ custom_bytes (custom_of c) ++ customs_behind id (map custom_of (drop (i + 1) cs))
 customs_step_here id cs i c h e here = ap (customs_behind id) (at_custom cs i c h e) ∙ custom_here id (custom_of c) _ here
 
-pub customs_step_elsewhere : (id : ℕ) (cs : List CustomValue) (i : ℕ) (c : CustomValue) → i < length cs → c ≡ get_or cs i c → min c.after 11 ≢ id → customs_behind id (map custom_of (drop i cs)) ≡ customs_behind id (map custom_of (drop (i + 1) cs))
+pub customs_step_elsewhere : (id : ℕ) (cs : List CustomValue) (i : ℕ) (c : CustomValue) → i < length cs → c ≡ get_or cs i c → min c.after 11 ≢ id
+    → customs_behind id (map custom_of (drop i cs)) ≡ customs_behind id (map custom_of (drop (i + 1) cs))
 customs_step_elsewhere id cs i c h e there = ap (customs_behind id) (at_custom cs i c h e) ∙ custom_elsewhere id (custom_of c) _ there
 
 pub customs_none : (id : ℕ) (cs : List CustomValue) (i : ℕ) → length cs ≤ i → customs_behind id (map custom_of (drop i cs)) ≡ []
 customs_none id cs i h = ap (λ s. customs_behind id (map custom_of s)) (drop_all i cs h)
 
-pub customs_length_here : (id : ℕ) (cs : List CustomValue) (i : ℕ) (c : CustomValue) → i < length cs → c ≡ get_or cs i c → min c.after 11 ≡ id → length (customs_behind id (map custom_of (drop i cs))) ≡ length (custom_bytes (custom_of c)) + length (customs_behind id (map custom_of (drop (i + 1) cs)))
+pub customs_length_here : (id : ℕ) (cs : List CustomValue) (i : ℕ) (c : CustomValue) → i < length cs → c ≡ get_or cs i c → min c.after 11 ≡ id
+    → length (customs_behind id (map custom_of (drop i cs))) ≡ length (custom_bytes (custom_of c)) + length (customs_behind id (map custom_of (drop (i + 1) cs)))
 customs_length_here id cs i c h e here = ap length (customs_step_here id cs i c h e here) ∙ length-append (custom_bytes (custom_of c)) _
 
-pub customs_length_elsewhere : (id : ℕ) (cs : List CustomValue) (i : ℕ) (c : CustomValue) → i < length cs → c ≡ get_or cs i c → min c.after 11 ≢ id → length (customs_behind id (map custom_of (drop i cs))) ≡ length (customs_behind id (map custom_of (drop (i + 1) cs)))
+pub customs_length_elsewhere : (id : ℕ) (cs : List CustomValue) (i : ℕ) (c : CustomValue) → i < length cs → c ≡ get_or cs i c → min c.after 11 ≢ id
+    → length (customs_behind id (map custom_of (drop i cs))) ≡ length (customs_behind id (map custom_of (drop (i + 1) cs)))
 customs_length_elsewhere id cs i c h e there = ap length (customs_step_elsewhere id cs i c h e there)
 
 pub customs_length_none : (id : ℕ) (cs : List CustomValue) (i : ℕ) → length cs ≤ i → length (customs_behind id (map custom_of (drop i cs))) ≡ 0
@@ -53,11 +58,13 @@ customs_length_none id cs i h = ap length (customs_none id cs i h)
 
 pub ruleset measuring_customs = (customs_length_here, customs_length_elsewhere, customs_length_none)
 
-pub put_here : (id : ℕ) (cs : List CustomValue) (i : ℕ) (c : CustomValue) (old new whole : List ℕ) → i < length cs → c ≡ get_or cs i c → min c.after 11 ≡ id → new ≡ old ++ custom_bytes (custom_of c) → old ++ customs_behind id (map custom_of (drop i cs)) ≡ whole → new ++ customs_behind id (map custom_of (drop (i + 1) cs)) ≡ whole
+pub put_here : (id : ℕ) (cs : List CustomValue) (i : ℕ) (c : CustomValue) (old new whole : List ℕ) → i < length cs → c ≡ get_or cs i c → min c.after 11 ≡ id
+    → new ≡ old ++ custom_bytes (custom_of c) → old ++ customs_behind id (map custom_of (drop i cs)) ≡ whole → new ++ customs_behind id (map custom_of (drop (i + 1) cs)) ≡ whole
 put_here id cs i c old new whole h e here put before =
     ap (λ s. s ++ customs_behind id (map custom_of (drop (i + 1) cs))) put ∙ append_assoc old (custom_bytes (custom_of c)) _ ∙ ap (λ s. old ++ s) (sym (customs_step_here id cs i c h e here)) ∙ before
 
-pub put_elsewhere : (id : ℕ) (cs : List CustomValue) (i : ℕ) (c : CustomValue) (old whole : List ℕ) → i < length cs → c ≡ get_or cs i c → min c.after 11 ≢ id → old ++ customs_behind id (map custom_of (drop i cs)) ≡ whole → old ++ customs_behind id (map custom_of (drop (i + 1) cs)) ≡ whole
+pub put_elsewhere : (id : ℕ) (cs : List CustomValue) (i : ℕ) (c : CustomValue) (old whole : List ℕ) → i < length cs → c ≡ get_or cs i c → min c.after 11 ≢ id
+    → old ++ customs_behind id (map custom_of (drop i cs)) ≡ whole → old ++ customs_behind id (map custom_of (drop (i + 1) cs)) ≡ whole
 put_elsewhere id cs i c old whole h e there before = ap (λ s. old ++ s) (sym (customs_step_elsewhere id cs i c h e there)) ∙ before
 
 pub put_no_more : (id : ℕ) (cs : List CustomValue) (i : ℕ) (new whole : List ℕ) → length cs ≤ i → new ++ customs_behind id (map custom_of (drop i cs)) ≡ whole → new ≡ whole

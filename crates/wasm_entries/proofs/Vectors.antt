@@ -14,7 +14,8 @@ entry_step f xs i x h e = rw (add-one, drop-cons xs i x) (ap (λ y. f y ++ flat_
 pub entry_none : {X : Type 0} (f : X → List ℕ) (xs : List X) (i : ℕ) → length xs ≤ i → flat_map f (drop i xs) ≡ []
 entry_none f xs i h = ap (flat_map f) (drop_all i xs h)
 
-pub entry_length : {X : Type 0} (f : X → List ℕ) (xs : List X) (i : ℕ) (x : X) → i < length xs → x ≡ get_or xs i x → length (flat_map f (drop i xs)) ≡ length (f x) + length (flat_map f (drop (i + 1) xs))
+pub entry_length : {X : Type 0} (f : X → List ℕ) (xs : List X) (i : ℕ) (x : X) → i < length xs → x ≡ get_or xs i x
+    → length (flat_map f (drop i xs)) ≡ length (f x) + length (flat_map f (drop (i + 1) xs))
 entry_length f xs i x h e = ap length (entry_step f xs i x h e) ∙ length-append (f x) _
 
 pub entry_none_length : {X : Type 0} (f : X → List ℕ) (xs : List X) (i : ℕ) → length xs ≤ i → length (flat_map f (drop i xs)) ≡ 0
@@ -28,7 +29,8 @@ entry_le f xs i x h e =
     omega (arith, whole, entry, length-flat_map f xs, get_or-le-sum_by (λ y. length (f y)) xs i x h)
 
 -- what was written, with an entry more
-pub put_step : {X : Type 0} (f : X → List ℕ) (xs : List X) (i : ℕ) (x : X) (old new whole : List ℕ) → i < length xs → x ≡ get_or xs i x → new ≡ old ++ f x → old ++ flat_map f (drop i xs) ≡ whole → new ++ flat_map f (drop (i + 1) xs) ≡ whole
+pub put_step : {X : Type 0} (f : X → List ℕ) (xs : List X) (i : ℕ) (x : X) (old new whole : List ℕ) → i < length xs → x ≡ get_or xs i x → new ≡ old ++ f x
+    → old ++ flat_map f (drop i xs) ≡ whole → new ++ flat_map f (drop (i + 1) xs) ≡ whole
 put_step f xs i x old new whole h e put before =
     ap (λ s. s ++ flat_map f (drop (i + 1) xs)) put ∙ append_assoc old (f x) _ ∙ ap (λ s. old ++ s) (sym (entry_step f xs i x h e)) ∙ before
 

@@ -1,3 +1,5 @@
+//! Instructions and expressions as bytes (standard, section 5.4).
+
 ghost use Rattle.std.specs.Prelude.{◌≡◌, ◌<◌, ◌≤◌, ◌^◌, ◌++◌, [], ◌∷◌, length, OnOk};
 ghost use Rattle.wa_types.specs.Encoding.{code_bytes, expression_bytes};
 ghost use Rattle.wa_types.specs.View.{code};

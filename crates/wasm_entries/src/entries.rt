@@ -1,3 +1,5 @@
+//! Entries of the function, global, element, code and data sections (standard, sections 5.5.6, 5.5.9 and 5.5.12 to 5.5.14).
+
 ghost use Rattle.std.specs.Prelude.{◌≡◌, ◌<◌, ◌^◌, ◌++◌, length, OnOk, ⊤};
 ghost use Rattle.wa_types.specs.Leb.{shortest};
 ghost use Rattle.wa_types.specs.View.{func_of, global_of, elem_of, segment_of};

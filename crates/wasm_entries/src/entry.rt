@@ -1,3 +1,5 @@
+//! How an entry of a vector is written, and vectors of such entries (standard, section 5.1.3).
+
 ghost use Rattle.std.specs.Prelude.{◌≡◌, ◌<◌, ◌^◌, ◌++◌, ℕ, List, length, OnOk, All};
 ghost use Rattle.wa_types.specs.Encoding.{vector};
 

@@ -1,3 +1,5 @@
+//! A function's declared locals as bytes, adjacent runs of one type merged (standard, section 5.5.13).
+
 ghost use Rattle.std.specs.Prelude.{◌≡◌, ◌+◌, ◌<◌, ◌≤◌, ◌^◌, ◌++◌, [], ◌∷◌, ℕ, List, length, drop, sum_by, OnOk, IfSome, MatchOption};
 ghost use Rattle.wa_types.specs.Encoding.{vector, merged, run_bytes};
 ghost use Rattle.wa_types.specs.declared.syntax.Run.{Run};

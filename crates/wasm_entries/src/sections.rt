@@ -1,3 +1,5 @@
+//! Sections as bytes: those of entries, the start section, custom sections (standard, sections 5.5.2, 5.5.3 and 5.5.11).
+
 ghost use Rattle.std.specs.Prelude.{◌≡◌, ◌<◌, ◌≤◌, ◌^◌, ◌++◌, ◌∷◌, [], length, map, All, OnOk};
 ghost use Rattle.wa_types.specs.View.{custom_of};
 ghost use Rattle.wa_types.specs.Encoding.{section, start_section, custom_bytes, customs_behind};

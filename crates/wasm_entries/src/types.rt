@@ -1,3 +1,6 @@
+//! Types as bytes, and entries of the type, import, table, memory and export sections (standard, sections 5.3, 5.5.4, 5.5.5, 5.5.7,
+//! 5.5.8 and 5.5.10).
+
 ghost use Rattle.std.specs.Prelude.{◌≡◌, ◌≤◌, ◌++◌, [], ◌∷◌, length, OnOk, ⊤};
 ghost use Rattle.wa_types.specs.Leb.{shortest};
 ghost use Rattle.wa_types.specs.View.{func_type_of};

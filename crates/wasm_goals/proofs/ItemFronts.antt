@@ -1,5 +1,6 @@
 -- What stands at the front of bytes is read: numbers, texts and floats.
-use Rattle.std.proofs.Common.{◌≡◌, ℕ, suc, ◌+◌, ◌-◌, ◌^◌, ◌<◌, ◌≤◌, ◌⊎◌, inl, inr, List, [], ◌∷◌, ◌++◌, Result, Ok, Err, refl, ap, sym, ◌∙◌, subst, arith, length, length-append, length-take-le, take, drop, get_or, nat_lt, true, false, Bool, cond, IsUtf8, append-nil, append_assoc}
+use Rattle.std.proofs.Common.{◌≡◌, ℕ, suc, ◌+◌, ◌-◌, ◌^◌, ◌<◌, ◌≤◌, ◌⊎◌, inl, inr, List, [], ◌∷◌, ◌++◌, Result, Ok, Err, refl, ap, sym, ◌∙◌, subst, arith, length, length-append}
+use Rattle.std.proofs.Common.{length-take-le, take, drop, get_or, nat_lt, true, false, Bool, cond, IsUtf8, append-nil, append_assoc}
 use Rattle.std.proofs.lemmas.List.{take-append-drop}
 use Rattle.wa_types.specs.declared.leb.LebFault.{LebFault}
 use Rattle.wa_types.specs.declared.leb.LebFault.TheVariants.{Short, Long, Bits}

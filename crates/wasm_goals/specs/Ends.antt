@@ -40,6 +40,7 @@ abbrev pub owes_none : Goal → Bool
 owes_none (sections last owed) = owed == 0
 owes_none _ = false
 
+-- such a goal alone is wanted
 abbrev pub is_end : List Goal → Bool
 is_end [] = false
 is_end (g ∷ []) = owes_none g

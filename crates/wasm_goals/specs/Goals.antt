@@ -1,13 +1,13 @@
 -- The goals of the grammar as the code keeps them.
 use Rattle.std.specs.Prelude.{Option, Some, None, List, [], ◌∷◌, ◌++◌, map, reverse}
-use Rattle.wa_types.specs.Begun.{Goal, exact, sections, size, head, until, rest, entries, count, number, name, value_type, block_type, mutable, import_kind, space, limits, signed, name_bytes, float_bytes, code, Kind, some_types, some_imports, some_functions, some_tables, some_memories, some_globals, some_exports, some_elements, some_bodies, some_segments, some_value_types, some_runs, some_indices, some_bytes}
+use Rattle.wa_types.specs.Begun.{Goal, exact, sections, size, head, until, rest, entries, count, number, name, value_type, block_type, mutable, import_kind, space, limits, signed}
+use Rattle.wa_types.specs.Begun.{name_bytes, float_bytes, code, Kind, some_types, some_imports, some_functions, some_tables, some_memories, some_globals, some_exports, some_elements}
+use Rattle.wa_types.specs.Begun.{some_bodies, some_segments, some_value_types, some_runs, some_indices, some_bytes}
 use Rattle.wasm_goals.specs.declared.goals.Kind.{Kind as Counted}
 use Rattle.wasm_goals.specs.declared.goals.Kind.TheVariants.{Types, Imports, Functions, Tables, Memories, Globals, Exports, Elements, Bodies, Segments, ValueTypes, Runs, Indices, Bytes}
 use Rattle.wasm_goals.specs.declared.goals.Goal.{Goal as Wanted}
-use Rattle.wasm_goals.specs.declared.goals.Goal.TheVariants.{Exact, Sections, Size, Head, Until, Rest, Entries, Count, Number, Name, ValueType, BlockType, Mutable, ImportKind, Space, Limits, Signed32, Signed64, NameBytes, Float32, Float64, Code}
-use Rattle.wa_types.specs.Opcodes.{Follows, no_operand, a_zero, an_index, an_index_and_zero, an_access, some_labels, a_constant, a_float}
-use Rattle.wasm_goals.specs.declared.next.Operands.{Operands}
-use Rattle.wasm_goals.specs.declared.next.Operands.TheVariants.{NoOperand, ZeroByte, Index, IndexAndZero, Access, Labels, Constant32, Constant64, Float32 as Float32_bytes, Float64 as Float64_bytes}
+use Rattle.wasm_goals.specs.declared.goals.Goal.TheVariants.{Exact, Sections, Size, Head, Until, Rest, Entries, Count, Number, Name, ValueType, BlockType, Mutable, ImportKind, Space, Limits}
+use Rattle.wasm_goals.specs.declared.goals.Goal.TheVariants.{Signed32, Signed64, NameBytes, Float32, Float64, Code}
 
 -- what is counted
 abbrev pub kind_of : Counted → Kind
@@ -71,20 +71,3 @@ new_of (Some t) = Some (few_of t)
 -- the goals on a stack, whose top is last
 abbrev pub stack_of : List Wanted → List Goal
 stack_of items = map goal_of (reverse items)
-
--- what follows an opcode
-abbrev pub operands_are : Operands → Follows
-operands_are NoOperand = no_operand
-operands_are ZeroByte = a_zero
-operands_are Index = an_index
-operands_are IndexAndZero = an_index_and_zero
-operands_are Access = an_access
-operands_are Labels = some_labels
-operands_are Constant32 = a_constant 32
-operands_are Constant64 = a_constant 64
-operands_are (Float32_bytes) = a_float 4
-operands_are (Float64_bytes) = a_float 8
-
-abbrev pub follows_of : Option Operands → Option Follows
-follows_of None = None
-follows_of (Some f) = Some (operands_are f)

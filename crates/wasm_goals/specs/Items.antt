@@ -48,6 +48,7 @@ pub record IsWrong (i : Item) (bytes : List ℕ) (used : ℕ) : Type 0 where
   pub before : IsPart i (take (used - 1) bytes)
   pub never : Never i (take used bytes)
 
+-- what stands at the front of bytes, where this item is wanted
 abbrev pub FrontIs : Item → List ℕ → Front → Type 0
 FrontIs i bytes Part = IsPart i bytes
 FrontIs i bytes (Wrong used) = IsWrong i bytes used

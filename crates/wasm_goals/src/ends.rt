@@ -1,3 +1,5 @@
+//! The ends of contents of known length: how a goal stands to a place, and the least end of several goals.
+
 ghost use Rattle.std.specs.Prelude.{◌≡◌, List, ◌∷◌, Option, Some, reverse};
 ghost use Rattle.wa_types.specs.Begun.{end_of, closing, passed, Goal as Wanted};
 ghost use Rattle.wasm_goals.specs.Goals.{goal_of};

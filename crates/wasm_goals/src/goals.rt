@@ -1,3 +1,5 @@
+//! Goals: what may come next in a file.
+
 ghost use Rattle.std.specs.Prelude.{◌<◌};
 
 /// What a vector counts (standard, section 5.1.3).

@@ -1,3 +1,5 @@
+//! Items: the numbers, names, floats and single bytes that goals want, and what stands at the front of bytes.
+
 ghost use Rattle.std.specs.Prelude.{◌≡◌, ◌<◌};
 ghost use Rattle.wa_types.specs.Begun.{wants, first_of, a_byte, an_unsigned, a_signed, a_name, a_constant_of};
 ghost use Rattle.wasm_goals.specs.Goals.{goal_of, kind_of};

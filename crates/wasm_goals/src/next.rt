@@ -1,27 +1,16 @@
+//! What comes in the place of a goal behind its item (standard, sections 5.3 to 5.5).
+
 ghost use Rattle.std.specs.Prelude.{◌≡◌, ℕ, ◌<◌, ◌^◌, Some, [], ◌∷◌};
 ghost use Rattle.wa_types.specs.Begun.{next, may_follow, name_of, some_of, others, and_then, entry, where_true, content, behind_flag, behind_kind, behind_opcode, operands_of, size as size_of};
 ghost use Rattle.wa_types.specs.Opcodes.{within, follows, is_value_type};
-ghost use Rattle.wasm_goals.specs.Goals.{goal_of, kind_of, list_of, few_of, new_of, follows_of};
+ghost use Rattle.wasm_cursor.specs.Shapes.{follows_of};
+ghost use Rattle.wasm_goals.specs.Goals.{goal_of, kind_of, list_of, few_of, new_of};
 
 use crate::goals::{Goal, Kind, TextLen};
+use wasm_cursor::{Shape, operand_shape};
 
 /// Up to four goals, the first first.
 pub(crate) type Few = (Option<Goal>, Option<Goal>, Option<Goal>, Option<Goal>);
-
-/// What follows an opcode that is no construct's and no end (standard, section 5.4).
-#[derive(Clone, Copy, Debug, PartialEq, Eq)]
-pub(crate) enum Operands {
-    NoOperand,
-    ZeroByte,
-    Index,
-    IndexAndZero,
-    Access,
-    Labels,
-    Constant32,
-    Constant64,
-    Float32,
-    Float64,
-}
 
 /// The goals in the place of one whose item has this value and ends at this place; none where the value is
 /// wrong.
@@ -301,66 +290,36 @@ fn behind_opcode(first_arm: bool, op: u32) -> Option<Few>
         )),
         _ => match follows(op) {
             None => None,
-            Some(operands) => Some(operands_before(operands, code)),
+            Some(shape) => Some(operands_before(shape, code)),
         },
     }
 }
 
 // What follows an opcode (standard, sections 5.4.1 to 5.4.5).
-#[tactic(auto, unfolding(wa_types::specs::Opcodes::follows))]
-fn follows(op: u32) -> Option<Operands>
+fn follows(op: u32) -> Option<Shape>
     ensures { follows_of result ≡ follows op }
 {
-    if within(0x00, 0x01, op) {
-        Some(Operands::NoOperand)
-    } else if within(0x0C, 0x0D, op) {
-        Some(Operands::Index)
-    } else if op == 0x0E {
-        Some(Operands::Labels)
-    } else if op == 0x0F {
-        Some(Operands::NoOperand)
-    } else if op == 0x10 {
-        Some(Operands::Index)
-    } else if op == 0x11 {
-        Some(Operands::IndexAndZero)
-    } else if within(0x1A, 0x1B, op) {
-        Some(Operands::NoOperand)
-    } else if within(0x20, 0x24, op) {
-        Some(Operands::Index)
-    } else if within(0x28, 0x3E, op) {
-        Some(Operands::Access)
-    } else if within(0x3F, 0x40, op) {
-        Some(Operands::ZeroByte)
-    } else if op == 0x41 {
-        Some(Operands::Constant32)
-    } else if op == 0x42 {
-        Some(Operands::Constant64)
-    } else if op == 0x43 {
-        Some(Operands::Float32)
-    } else if op == 0x44 {
-        Some(Operands::Float64)
-    } else if within(0x45, 0xBF, op) {
-        Some(Operands::NoOperand)
-    } else {
-        None
+    if op > 0xFF {
+        return None;
     }
+    operand_shape(op as u8)
 }
 
 // The operands of an opcode, and the rest of the code.
-fn operands_before(operands: Operands, code: Option<Goal>) -> Few
-    ensures { Some (few_of result) ≡ operands_of (follows_of (Some operands)) (list_of code) }
+fn operands_before(shape: Shape, code: Option<Goal>) -> Few
+    ensures { Some (few_of result) ≡ operands_of (follows_of (Some shape)) (list_of code) }
 {
     let number = Some(Goal::Number);
-    match operands {
-        Operands::NoOperand => (None, None, None, code),
-        Operands::ZeroByte => (Some(Goal::Exact(0x00)), None, None, code),
-        Operands::Index => (number, None, None, code),
-        Operands::IndexAndZero => (number, Some(Goal::Exact(0x00)), None, code),
-        Operands::Access => (number, number, None, code),
-        Operands::Labels => (Some(Goal::Count(Kind::Indices)), number, None, code),
-        Operands::Constant32 => (Some(Goal::Signed32), None, None, code),
-        Operands::Constant64 => (Some(Goal::Signed64), None, None, code),
-        Operands::Float32 => (Some(Goal::Float32), None, None, code),
-        Operands::Float64 => (Some(Goal::Float64), None, None, code),
+    match shape {
+        Shape::Nothing => (None, None, None, code),
+        Shape::ZeroByte => (Some(Goal::Exact(0x00)), None, None, code),
+        Shape::Index => (number, None, None, code),
+        Shape::IndexAndZero => (number, Some(Goal::Exact(0x00)), None, code),
+        Shape::Access => (number, number, None, code),
+        Shape::Labels => (Some(Goal::Count(Kind::Indices)), number, None, code),
+        Shape::Constant32 => (Some(Goal::Signed32), None, None, code),
+        Shape::Constant64 => (Some(Goal::Signed64), None, None, code),
+        Shape::Float4 => (Some(Goal::Float32), None, None, code),
+        Shape::Float8 => (Some(Goal::Float64), None, None, code),
     }
 }

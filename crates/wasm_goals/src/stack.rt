@@ -1,8 +1,11 @@
+//! `Goals`: the stack of the goals that are owed at a place.
+
 ghost use Rattle.std.specs.Prelude.{◌≡◌, ◌<◌, ◌^◌, [], ◌∷◌, ◌++◌, drop, IfNone, IfSome, OnOk, OnErr, IfOk, Some, None, MatchBool};
 ghost use Rattle.std.specs.Bool.{OnTrue, OnFalse};
 ghost use Rattle.wa_types.specs.Begun.{settled, start, Steps};
 ghost use Rattle.wasm_goals.specs.Goals.{goal_of, list_of, few_of, stack_of};
 ghost use Rattle.wasm_goals.specs.Ends.{IsLeastEnd, least_ends, NoStep, IsReached, is_end, owes_none};
+ghost use Rattle.wasm_marks.specs.Showing.{level_of, levels};
 
 use crate::ends::{Closing, closing_at, end_of, least_with};
 use crate::goals::Goal;
@@ -16,19 +19,22 @@ pub struct Goals {
     stack: Vec<Goal>,
     // For each goal that has an end, the least of its own and of those behind it.
     ends: Vec<u64>,
+    // The levels of code that stand open.
+    codes: usize,
 }
 
 impl Model for Goals {
-    ghost use Rattle.std.specs.Prelude.{◌≡◌, List, reverse};
+    ghost use Rattle.std.specs.Prelude.{◌≡◌, List, reverse, length};
     ghost use Rattle.wa_types.specs.Begun.{Goal as Wanted};
     ghost use Rattle.wasm_goals.specs.Goals.{stack_of};
     ghost use Rattle.wasm_goals.specs.Ends.{least_ends};
+    ghost use Rattle.wasm_marks.specs.Showing.{levels};
 
     ghost Value = { List Wanted };
 
     ghost view = { λ s. stack_of s.stack.items };
 
-    ghost invariant = { λ s. least_ends (stack_of s.stack.items) ≡ reverse s.ends.items };
+    ghost invariant = { λ s. (least_ends (stack_of s.stack.items) ≡ reverse s.ends.items) × (s.codes ≡ levels (stack_of s.stack.items)) };
 }
 
 impl Goals {
@@ -68,13 +74,24 @@ impl Goals {
 
     /// The goal behind the first.
     pub fn second(&self) -> Option<Goal>
-        ensures { IfSome result (λ g. drop 1 self.now ≡ goal_of g ∷ drop 2 self.now) }
+        ensures none { IfNone result (drop 1 self.now ≡ []) }
+        ensures some { IfSome result (λ g. drop 1 self.now ≡ goal_of g ∷ drop 2 self.now) }
     {
         let count = self.stack.len();
         if count < 2 {
             return None;
         }
         Some(self.stack[count - 2])
+    }
+
+    /// The levels of code that stand open behind the first goal.
+    pub fn outer_levels(&self) -> u64
+        ensures { result ≡ levels (drop 1 self.now) }
+    {
+        match self.top() {
+            None => 0,
+            Some(goal) => (self.codes - level_of(goal)) as u64,
+        }
     }
 
     // The least end of a content.
@@ -143,6 +160,7 @@ impl Goals {
         Goals {
             stack: Vec::new(alloc),
             ends: Vec::new(alloc),
+            codes: 0,
         }
     }
 
@@ -154,6 +172,9 @@ impl Goals {
     {
         let Some(end) = end_of(goal) else {
             self.stack.push(goal)?;
+            // Each level has a place on the stack, so their number fits.
+            let _places = self.stack.len();
+            self.codes += level_of(goal);
             return Ok(());
         };
         let least = least_with(end, &self.ends);
@@ -195,6 +216,7 @@ impl Goals {
         ensures { self.new ≡ drop 1 self.old }
     {
         if let Some(goal) = self.stack.pop() {
+            self.codes -= level_of(goal);
             if end_of(goal).is_some() {
                 self.ends.pop();
             }
@@ -215,6 +237,17 @@ impl Goals {
             }
         }
         true
+    }
+}
+
+// Whether a level of code stands open by this goal: one, or none.
+#[inline(always)]
+fn level_of(goal: Goal) -> usize
+    ensures { result ≡ level_of (goal_of goal) }
+{
+    match goal {
+        Goal::Code { .. } => 1,
+        _ => 0,
     }
 }
 

@@ -1,15 +1,23 @@
 -- Where the bytes of a file stop being begun.
-use Rattle.std.proofs.Common.{◌≡◌, ℕ, suc, zero, ◌+◌, ◌-◌, ◌<◌, ◌≤◌, inl, inr, List, [], ◌∷◌, ◌++◌, Option, Some, None, refl, ap, sym, ◌∙◌, subst, arith, add-zero, append-nil, length, take, drop, length-take-le, length-drop, Bool, true, false, MatchBool, max}
+use Rattle.std.proofs.Common.{◌≡◌, ℕ, suc, zero, ◌+◌, ◌-◌, ◌<◌, ◌≤◌, inl, inr, List, [], ◌∷◌, ◌++◌, Option, Some, None, refl, ap, sym, ◌∙◌, subst, arith, add-zero, append-nil, length, take}
+use Rattle.std.proofs.Common.{drop, length-take-le, length-drop, Bool, true, false, MatchBool, max}
 use Rattle.std.proofs.Math.Seq.{take-add, take-append_seam}
 use Rattle.std.proofs.lemmas.List.{take_all, drop-drop}
 use Rattle.std.proofs.lemmas.Bool.{cases_lt, ne_eqb}
 use Rattle.std.specs.Option.{unwrap_or}
-use Rattle.wa_types.specs.Begun.{Goal, rest, entries, signed, Kind, some_types, some_imports, some_functions, some_tables, some_memories, some_globals, some_exports, some_elements, some_bodies, some_segments, some_value_types, some_runs, some_indices, some_bytes, first_of, wants, IsItem, IsPart, next, Steps, Leads, BegunFrom, part, then, Inside, settled, start, Begun}
+use Rattle.wa_types.specs.Begun.{Goal, rest, entries, signed, Kind, some_types, some_imports, some_functions, some_tables, some_memories, some_globals, some_exports, some_elements}
+use Rattle.wa_types.specs.Begun.{some_bodies, some_segments, some_value_types, some_runs, some_indices, some_bytes, first_of, wants, IsItem, IsPart, next, Steps, Leads, BegunFrom, part}
+use Rattle.wa_types.specs.Begun.{then, Inside, settled, start, Begun}
 use Rattle.file_laws.proofs.Items.{item_front, part_front, item_some, item_whole, one_item}
 use Rattle.file_laws.proofs.Runs.{leads_on, leads_only, leads_more, inside_less, begun_front}
 use Rattle.wasm_goals.proofs.ItemFronts.{byte_whole}
 use Rattle.wasm_goals.specs.Items.{IsTold, IsWholeItem, IsWrong}
 use Rattle.wasm_goals.specs.Ends.{NoStep, IsReached}
+use Rattle.wa_types.specs.ModuleBounds.{ModuleBounds}
+use Rattle.wasm_marks.specs.declared.marks.Marks.{Marks}
+use Rattle.wasm_marks.specs.Showing.{shown, Noted, MarksAlong}
+use Rattle.wasm_marks.proofs.Noting.{noted_none}
+use Rattle.wasm_marks.proofs.Showings.{marks_more}
 use Rattle.wasm_grammar.specs.Machine.{Stands, StopsAt}
 
 -- the bytes between two places
@@ -47,7 +55,8 @@ not_begun bytes at k hs h fits l never b =
     never (subst (λ n. BegunFrom n hs (between bytes at k)) (place_at bytes at (omega arith)) (leads_only 0 start (take at bytes) hs l (between bytes at k) (take k bytes) b (cut_at bytes at k h)))
 
 -- a first fault, from what stands before it
-fault : (bytes : List ℕ) (at k : ℕ) (g : Goal) (gs : List Goal) → at < k → k ≤ length bytes → Leads 0 start (take at bytes) (g ∷ gs) → IsPart (wants g) (between bytes at (k - 1)) → Inside (k - 1) (g ∷ gs) → (BegunFrom at (g ∷ gs) (between bytes at k) → ⊥) → StopsAt bytes k
+fault : (bytes : List ℕ) (at k : ℕ) (g : Goal) (gs : List Goal) → at < k → k ≤ length bytes → Leads 0 start (take at bytes) (g ∷ gs) → IsPart (wants g) (between bytes at (k - 1))
+    → Inside (k - 1) (g ∷ gs) → (BegunFrom at (g ∷ gs) (between bytes at k) → ⊥) → StopsAt bytes k
 fault bytes at k g gs h fits l short inside never =
     let place : k - 1 ≡ 0 + length (take at bytes) + length (between bytes at (k - 1)) =
     omega (arith, place_at bytes at (omega arith), length_between bytes at (k - 1) (omega arith) (omega arith)) in
@@ -100,18 +109,25 @@ told_next (signed bits) v told at h = refl
 told_next (entries k n) v told at h = ap (λ z. next (entries k n) z at) (told_entry k v told h)
 told_next g v told at h = ap (λ z. next g z at) h
 
+-- and shows what it does
+told_shown : (bounds : ModuleBounds) (g : Goal) (gs : List Goal) (v told at : ℕ) → IsTold (wants g) v told → shown bounds g gs told at ≡ shown bounds g gs v at
+told_shown bounds (signed bits) gs v told at h = refl
+told_shown bounds (entries k n) gs v told at h = ap (λ z. shown bounds (entries k n) gs z at) (sym (told_entry k v told h))
+told_shown bounds g gs v told at h = ap (λ z. shown bounds g gs z at) (sym h)
+
 told_steps : (g : Goal) (gs : List Goal) (v told at : ℕ) (hs : List Goal) → next g v at ≡ next g told at → Steps g gs told at hs → Steps g gs v at hs
 told_steps g gs v told at hs e s = record { new = s.new; pushed = e ∙ s.pushed; settles = s.settles; inside = s.inside }
 
 -- What is known where an item is to be read.
-pub record Ready (bytes : List ℕ) (at stop : ℕ) (g : Goal) (gs : List Goal) : Type 0 where
+pub record Ready (bounds : ModuleBounds) (m : Marks) (bytes : List ℕ) (at stop : ℕ) (g : Goal) (gs : List Goal) : Type 0 where
   pub room : at ≤ stop
   pub fits : stop ≤ length bytes
   pub leads : Leads 0 start (take at bytes) (g ∷ gs)
+  pub marked : MarksAlong bounds 0 start (take at bytes) (g ∷ gs) m
   pub below : (j : ℕ) → j < stop → Inside j (g ∷ gs)
 
 -- an end that is reached stands before no place that stands
-pub end_room : (bytes : List ℕ) (at last end : ℕ) (gs : List Goal) (o : Option ℕ) → Stands bytes at gs → o ≡ Some end → IsReached gs last o → at < end
+pub end_room : {bounds : ModuleBounds} {m : Marks} (bytes : List ℕ) (at last end : ℕ) (gs : List Goal) (o : Option ℕ) → Stands bounds m bytes at gs → o ≡ Some end → IsReached gs last o → at < end
 end_room bytes at last end gs None s e reached = absurd (cc)
 end_room bytes at last end gs (Some x) s e reached =
     let f : x ≡ end = cc in
@@ -120,17 +136,20 @@ end_room bytes at last end gs (Some x) s e reached =
       | inr ge ↦ absurd (reached.2 (inside_less gs x at ge s.inside))
     ]
 
-pub ready : (bytes : List ℕ) (at stop : ℕ) (all gs : List Goal) (g : Goal) (end : Option ℕ) → Stands bytes at all → all ≡ g ∷ gs → IsReached all (length bytes) end → stop ≡ unwrap_or end (length bytes) → Ready bytes at stop g gs
-ready bytes at stop all gs g None s e reached f = record {
+pub ready : {bounds : ModuleBounds} {m : Marks} (bytes : List ℕ) (at stop : ℕ) (all gs : List Goal) (g : Goal) (end : Option ℕ) → Stands bounds m bytes at all → all ≡ g ∷ gs
+    → IsReached all (length bytes) end → stop ≡ unwrap_or end (length bytes) → Ready bounds m bytes at stop g gs
+ready {bounds = bounds} {m = m} bytes at stop all gs g None s e reached f = record {
   room = omega (arith, f, s.within);
   fits = omega (arith, f);
   leads = subst (Leads 0 start (take at bytes)) e s.leads;
+  marked = subst (λ z. MarksAlong bounds 0 start (take at bytes) z m) e s.marked;
   below = λ j h. subst (Inside j) e (reached j (omega (arith, f, h)));
 }
-ready bytes at stop all gs g (Some end) s e reached f = record {
+ready {bounds = bounds} {m = m} bytes at stop all gs g (Some end) s e reached f = record {
   room = omega (arith, f, end_room bytes at (length bytes) end all (Some end) s refl reached);
   fits = omega (arith, f, reached.0);
   leads = subst (Leads 0 start (take at bytes)) e s.leads;
+  marked = subst (λ z. MarksAlong bounds 0 start (take at bytes) z m) e s.marked;
   below = λ j h. subst (Inside j) e (reached.1 j (omega (arith, f, h)));
 }
 
@@ -151,7 +170,7 @@ no_end gs last (Some x) e reached = absurd (cc)
 pub stop_last : (o : Option ℕ) (stop last : ℕ) → o ≡ None → stop ≡ unwrap_or o last → stop ≡ last
 stop_last o stop last e f = f ∙ ap (λ z. unwrap_or z last) e
 
-module _ (bytes : List ℕ) (at stop : ℕ) (g : Goal) (gs : List Goal) (y : Ready bytes at stop g gs) where
+module _ {bounds : ModuleBounds} {m : Marks} (bytes : List ℕ) (at stop : ℕ) (g : Goal) (gs : List Goal) (y : Ready bounds m bytes at stop g gs) where
   -- so many bytes stand before the stop
   used_fits : (used : ℕ) → used ≤ length (between bytes at stop) → at + used ≤ stop
   used_fits used h = omega (arith, h, length_between bytes at stop (omega (arith, y.room)) y.fits, y.room)
@@ -205,8 +224,9 @@ module _ (bytes : List ℕ) (at stop : ℕ) (g : Goal) (gs : List Goal) (y : Rea
       (λ hs s. never hs (told_steps g gs told w.value (at + used) hs (sym (told_next g w.value told (at + used) w.is_told)) (subst (λ n. Steps g gs w.value n hs) (ap (λ n. at + n) long) s))))
 
   -- the item leads on
-  pub goes_on : (told used : ℕ) (hs : List Goal) → IsWholeItem (wants g) (between bytes at stop) told used → Steps g gs told (at + used) hs → Stands bytes (at + used) hs
-  goes_on told used hs w s =
+  pub goes_on : (n : Marks) (told used : ℕ) (hs : List Goal) → IsWholeItem (wants g) (between bytes at stop) told used → Noted bounds (shown bounds g gs told at) m n
+      → Steps g gs told (at + used) hs → Stands bounds n bytes (at + used) hs
+  goes_on n told used hs w noted s =
       let fits = used_fits used w.within in
       let t = told_steps g gs w.value told (at + used) hs (told_next g w.value told (at + used) w.is_told) s in
       let place : at + used ≡ 0 + length (take at bytes) + length (between bytes at (at + used)) = omega (arith, place_at bytes at (omega (arith, y.room, y.fits)), long_is told used w) in
@@ -215,6 +235,9 @@ module _ (bytes : List ℕ) (at stop : ℕ) (g : Goal) (gs : List Goal) (y : Rea
         leads = subst (λ z. Leads 0 start z hs) (sym (cut_at bytes at (at + used) (omega arith)))
             (leads_more 0 start (take at bytes) g gs hs y.leads (between bytes at (at + used)) w.value (whole_is told used w) (subst (λ n. Steps g gs w.value n hs) place t));
         inside = s.inside;
+        marked = subst (λ z. MarksAlong bounds 0 start z hs n) (sym (cut_at bytes at (at + used) (omega arith)))
+            (marks_more bounds 0 start (take at bytes) g gs hs m n y.marked (between bytes at (at + used)) w.value (whole_is told used w) (subst (λ n. Steps g gs w.value n hs) place t)
+            (subst (λ z. Noted bounds z m n) (told_shown bounds g gs w.value told at w.is_told ∙ ap (shown bounds g gs w.value) (sym (place_at bytes at (omega (arith, y.room, y.fits))))) noted));
       }
 
   -- there are no more bytes
@@ -237,10 +260,18 @@ a_first [] h = absurd (omega (arith, h))
 a_first (b ∷ bs) h = (b, bs, refl)
 
 -- any byte goes on with any bytes
-skip_one : (bytes : List ℕ) (at end : ℕ) (gs : List Goal) → Stands bytes at (rest end ∷ gs) → at + 1 ≤ length bytes → Inside (at + 1) (rest end ∷ gs) → Stands bytes (at + 1) (rest end ∷ gs)
+skip_one : {bounds : ModuleBounds} {m : Marks} (bytes : List ℕ) (at end : ℕ) (gs : List Goal) → Stands bounds m bytes at (rest end ∷ gs) → at + 1 ≤ length bytes
+    → Inside (at + 1) (rest end ∷ gs) → Stands bounds m bytes (at + 1) (rest end ∷ gs)
 unfolding next settled Inside
-skip_one bytes at end gs s fits inside =
-    let y : Ready bytes at (at + 1) (rest end) gs = record { room = omega arith; fits = fits; leads = s.leads; below = λ j h. inside_less (rest end ∷ gs) j (at + 1) (omega (arith, h)) inside } in
+skip_one {bounds = bounds} {m = m} bytes at end gs s fits inside =
+    let y : Ready bounds m bytes at (at + 1) (rest end) gs = record {
+      room = omega arith;
+      fits = fits;
+      leads = s.leads;
+      marked = s.marked;
+      below = λ j h.
+          inside_less (rest end ∷ gs) j (at + 1) (omega (arith, h)) inside;
+    } in
     let long = length_between bytes at (at + 1) (omega arith) fits in
     let f = a_first (between bytes at (at + 1)) (omega (arith, long)) in
     let before : at + 1 < end = inside.0 in
@@ -250,29 +281,33 @@ skip_one bytes at end gs s fits inside =
       settles = rw (ne_eqb (at + 1) end (λ e. omega (arith, before, e))) refl;
       inside = inside;
     } in
-    goes_on bytes at (at + 1) (rest end) gs y f.0 1 (rest end ∷ gs) (byte_whole f.0 f.1 (between bytes at (at + 1)) f.2) steps
+    goes_on bytes at (at + 1) (rest end) gs y m f.0 1 (rest end ∷ gs) (byte_whole f.0 f.1 (between bytes at (at + 1)) f.2) (noted_none bounds m) steps
 
-skips : (bytes : List ℕ) (at n end : ℕ) (gs : List Goal) → Stands bytes at (rest end ∷ gs) → at + n ≤ length bytes → Inside (at + n) (rest end ∷ gs) → Stands bytes (at + n) (rest end ∷ gs)
-skips bytes at zero end gs s fits inside = subst (λ k. Stands bytes k (rest end ∷ gs)) (sym (add-zero at)) s
-skips bytes at (suc n) end gs s fits inside =
+skips : {bounds : ModuleBounds} {m : Marks} (bytes : List ℕ) (at n end : ℕ) (gs : List Goal) → Stands bounds m bytes at (rest end ∷ gs) → at + n ≤ length bytes
+    → Inside (at + n) (rest end ∷ gs) → Stands bounds m bytes (at + n) (rest end ∷ gs)
+skips {bounds = bounds} {m = m} bytes at zero end gs s fits inside = subst (λ k. Stands bounds m bytes k (rest end ∷ gs)) (sym (add-zero at)) s
+skips {bounds = bounds} {m = m} bytes at (suc n) end gs s fits inside =
     let place : at + n + 1 ≡ at + suc n = omega arith in
     let near = skips bytes at n end gs s (omega (arith, fits)) (inside_less (rest end ∷ gs) (at + n) (at + suc n) (omega arith) inside) in
-    subst (λ k. Stands bytes k (rest end ∷ gs)) place (skip_one bytes (at + n) end gs near (omega (arith, fits)) (subst (λ k. Inside k (rest end ∷ gs)) (sym place) inside))
+    subst (λ k. Stands bounds m bytes k (rest end ∷ gs)) place (skip_one bytes (at + n) end gs near (omega (arith, fits)) (subst (λ k. Inside k (rest end ∷ gs)) (sym place) inside))
 
 -- all but the last byte before a stop
-pub skips_to : (bytes : List ℕ) (at stop place end : ℕ) (g : Goal) (gs : List Goal) → g ≡ rest end → place ≡ max at (stop - 1) → Stands bytes at (g ∷ gs) → stop ≤ length bytes → ((j : ℕ) → j < stop → Inside j (g ∷ gs)) → Stands bytes place (g ∷ gs)
-skips_to bytes at stop place end g gs e f s fits below = elim (cases_lt at (stop - 1)) [
+pub skips_to : {bounds : ModuleBounds} {m : Marks} (bytes : List ℕ) (at stop place end : ℕ) (g : Goal) (gs : List Goal) → g ≡ rest end → place ≡ max at (stop - 1)
+    → Stands bounds m bytes at (g ∷ gs) → stop ≤ length bytes → ((j : ℕ) → j < stop → Inside j (g ∷ gs)) → Stands bounds m bytes place (g ∷ gs)
+skips_to {bounds = bounds} {m = m} bytes at stop place end g gs e f s fits below = elim (cases_lt at (stop - 1)) [
   | inl lt ↦
       let n : at + (place - at) ≡ place = omega (arith, f, lt) in
-      let t : Stands bytes at (rest end ∷ gs) = subst (λ h. Stands bytes at (h ∷ gs)) e s in
+      let t : Stands bounds m bytes at (rest end ∷ gs) = subst (λ h. Stands bounds m bytes at (h ∷ gs)) e s in
       let i : Inside place (rest end ∷ gs) = subst (λ h. Inside place (h ∷ gs)) e (below place (omega (arith, f, lt))) in
-      let u : Stands bytes (at + (place - at)) (rest end ∷ gs) = skips bytes at (place - at) end gs t (omega (arith, n, f, lt, fits)) (subst (λ k. Inside k (rest end ∷ gs)) (sym n) i) in
-      subst (λ k. Stands bytes k (g ∷ gs)) n (subst (λ h. Stands bytes (at + (place - at)) (h ∷ gs)) (sym e) u)
-  | inr ge ↦ subst (λ k. Stands bytes k (g ∷ gs)) (let k : at ≡ place = omega (arith, f, ge) in k) s
+      let u : Stands bounds m bytes (at + (place - at)) (rest end ∷ gs) = skips bytes at (place - at) end gs t (omega (arith, n, f, lt, fits)) (subst (λ k. Inside k (rest end ∷ gs)) (sym n) i) in
+      subst (λ k. Stands bounds m bytes k (g ∷ gs)) n (subst (λ h. Stands bounds m bytes (at + (place - at)) (h ∷ gs)) (sym e) u)
+  | inr ge ↦ subst (λ k. Stands bounds m bytes k (g ∷ gs)) (let k : at ≡ place = omega (arith, f, ge) in k) s
 ]
 
 -- what stands where reading goes on
-pub on_from : (bytes : List ℕ) (at from stop : ℕ) (all gs : List Goal) (g : Goal) (end : Option ℕ) → Stands bytes at all → all ≡ g ∷ gs → IsReached all (length bytes) end → stop ≡ unwrap_or end (length bytes) → (Stands bytes at (g ∷ gs) → stop ≤ length bytes → ((j : ℕ) → j < stop → Inside j (g ∷ gs)) → Stands bytes from (g ∷ gs)) → Stands bytes from all
-on_from bytes at from stop all gs g end s e reached f on =
+pub on_from : {bounds : ModuleBounds} {m : Marks} (bytes : List ℕ) (at from stop : ℕ) (all gs : List Goal) (g : Goal) (end : Option ℕ) → Stands bounds m bytes at all → all ≡ g ∷ gs
+    → IsReached all (length bytes) end → stop ≡ unwrap_or end (length bytes) → (Stands bounds m bytes at (g ∷ gs) → stop ≤ length bytes → ((j : ℕ) → j < stop → Inside j (g ∷ gs))
+    → Stands bounds m bytes from (g ∷ gs)) → Stands bounds m bytes from all
+on_from {bounds = bounds} {m = m} bytes at from stop all gs g end s e reached f on =
     let y = ready bytes at stop all gs g end s e reached f in
-    subst (Stands bytes from) (sym e) (on (subst (Stands bytes at) e s) y.fits y.below)
+    subst (Stands bounds m bytes from) (sym e) (on (subst (Stands bounds m bytes at) e s) y.fits y.below)

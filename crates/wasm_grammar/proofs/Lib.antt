@@ -1,3 +1,5 @@
 pub mod Faults
+pub mod Marking
 pub mod ShortItems
-pub mod Waiting
+pub mod PieceEnds
+pub mod WholeOpcodes

@@ -1,2 +1,3 @@
 pub mod Machine
 pub mod Passing
+pub use Rattle.wasm_marks.specs.Found

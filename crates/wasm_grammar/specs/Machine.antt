@@ -1,14 +1,21 @@
 -- How far the items of a file have been read, and where bytes fail.
-use Rattle.std.specs.Prelude.{◌≡◌, ℕ, ◌<◌, ◌≤◌, List, [], ◌∷◌, length, take, drop}
+use Rattle.std.specs.Prelude.{◌≡◌, ℕ, ◌<◌, ◌≤◌, ◌^◌, List, [], ◌∷◌, length, take, drop}
 use Rattle.wa_types.specs.Begun.{Goal, IsPart, wants, Inside, Leads, start, Begun, FaultAt}
+use Rattle.wa_types.specs.Binary.{Section}
+use Rattle.wa_types.specs.Spells.{Spells}
+use Rattle.wa_types.specs.ModuleBounds.{ModuleBounds}
+use Rattle.wasm_marks.specs.declared.marks.Marks.{Marks}
+use Rattle.wasm_marks.specs.Found.{MarksOf}
+use Rattle.wasm_marks.specs.Showing.{MarksAlong}
 use Rattle.wasm_grammar.specs.declared.machine.CheckFault.{CheckFault}
 use Rattle.wasm_grammar.specs.declared.machine.CheckFault.TheVariants.{Memory, Malformed}
 
--- whole items up to this place, and what comes next
-pub record Stands (bytes : List ℕ) (at : ℕ) (gs : List Goal) : Type 0 where
+-- whole items up to this place, what comes next, and what is marked along the items
+pub record Stands (bounds : ModuleBounds) (m : Marks) (bytes : List ℕ) (at : ℕ) (gs : List Goal) : Type 0 where
   pub within : at ≤ length bytes
   pub leads : Leads 0 start (take at bytes) gs
   pub inside : Inside at gs
+  pub marked : MarksAlong bounds 0 start (take at bytes) gs m
 
 -- the bytes are a part of what comes next
 abbrev pub IsPartOf : List Goal → List ℕ → Type 0
@@ -16,8 +23,8 @@ IsPartOf [] bytes = bytes ≡ []
 IsPartOf (g ∷ gs) bytes = IsPart (wants g) bytes
 
 -- Whole items up to this place, and then a part of one more.
-pub record Waits (bytes : List ℕ) (at : ℕ) (gs : List Goal) : Type 0 where
-  pub stands : Stands bytes at gs
+pub record Waits (bounds : ModuleBounds) (m : Marks) (bytes : List ℕ) (at : ℕ) (gs : List Goal) : Type 0 where
+  pub stands : Stands bounds m bytes at gs
   pub inside : Inside (length bytes) gs
   pub left : IsPartOf gs (drop at bytes)
 
@@ -36,3 +43,7 @@ IsFault bytes (Malformed k) = StopsAt bytes k
 abbrev pub IsCause : List ℕ → CheckFault → Type 0
 IsCause bytes Memory = Unit {0}
 IsCause bytes (Malformed k) = FaultAt bytes k
+
+-- What is marked is what the file's sections are judged by, where it isn't too long.
+abbrev pub AreMarks : ModuleBounds → List ℕ → Marks → Type 0
+AreMarks bounds bytes m = length bytes < 2 ^ 32 → (ss : List Section) → Spells bytes ss → MarksOf bounds ss m

@@ -1,16 +1,23 @@
+//! The machine of the grammar: it takes the items of a file one behind another, and keeps what may come next (standard, section 5.5.15).
+
 ghost use Rattle.std.specs.Prelude.{◌≡◌, ℕ, Bool, List, ◌∷◌, ◌<◌, ◌≤◌, ◌-◌, ◌++◌, length, take, drop, OnOk, IfOk, IfErr, MatchBool};
 ghost use Rattle.std.specs.Bool.{OnTrue};
 ghost use Rattle.wa_types.specs.Begun.{Begun, IsWhole, wants, Inside, code, entries, some_runs, Goal as Wanted};
 ghost use Rattle.wasm_goals.specs.Goals.{goal_of, kind_of};
 ghost use Rattle.wasm_goals.specs.Items.{FrontIs};
-ghost use Rattle.wasm_grammar.specs.Machine.{Stands, Waits, IsFault, IsCause};
-ghost use Rattle.wasm_grammar.specs.Passing.{Below};
+ghost use Rattle.wa_types.specs.ModuleBounds.{ModuleBounds};
+ghost use Rattle.wasm_marks.specs.declared.marks.Marks.{Marks as MarksValue};
+ghost use Rattle.wasm_grammar.specs.Machine.{Stands, Waits, IsFault, IsCause, AreMarks};
+ghost use Rattle.wasm_grammar.specs.Passing.{Below, Moves};
 
+use crate::notes::note;
 use crate::short::{closes, opened, pass_short, short_entries, short_runs};
 use std::alloc::{AllocError, Global};
 use thiserror::Error;
+use wa_types::Bounds;
 use wasm_goals::stack::Goals;
 use wasm_goals::{Front, Goal, Kind, read_item, wants};
+use wasm_marks::Marks;
 
 /// Why bytes are no file.
 #[derive(Clone, Copy, Debug, PartialEq, Eq, Error)]
@@ -33,40 +40,46 @@ impl From<AllocError> for CheckFault {
     }
 }
 
-/// Reads the items of a file, and keeps nothing of them but what may come next.
+/// Reads the items of a file, and keeps nothing of them but what may come next and what was marked.
 #[derive(Drop)]
 pub struct Machine {
     goals: Goals,
     // Where the item begins that isn't whole so far.
     at: usize,
+    marks: Marks,
 }
 
 impl Machine {
     /// At the first byte.
     pub fn new(alloc: Global) -> Result<Machine, AllocError>
-        ensures { IfOk result (λ m. (bytes : List ℕ) → Stands bytes m.at m.goals) }
+        ensures { IfOk result (λ m. (bounds : ModuleBounds) (bytes : List ℕ) → Stands bounds m.marks bytes m.at m.goals) }
     {
         let goals = Goals::start(alloc)?;
-        Ok(Machine { goals, at: 0 })
+        Ok(Machine {
+            goals,
+            at: 0,
+            marks: Marks::none(),
+        })
     }
 
     /// Takes all items that are whole so far. As the file grows it may be called again, each time over all bytes so far,
     /// from the first on; after an error it may not.
-    pub fn feed(&mut self, alloc: Global, bytes: &[u8]) -> Result<(), CheckFault>
-        requires { Stands bytes.now self.old.at self.old.goals }
-        ensures ok { OnOk result (Waits bytes.now self.new.at self.new.goals) }
+    pub fn feed(&mut self, alloc: Global, bytes: &[u8], bounds: &Bounds) -> Result<(), CheckFault>
+        requires { Stands bounds.now self.old.marks bytes.now self.old.at self.old.goals }
+        ensures ok { OnOk result (Waits bounds.now self.new.marks bytes.now self.new.at self.new.goals) }
         ensures begun { OnOk result (Begun bytes.now) }
-        ensures more { OnOk result ((piece : List ℕ) → Stands (bytes.now ++ piece) self.new.at self.new.goals) }
+        ensures more { OnOk result ((piece : List ℕ) → Stands bounds.now self.new.marks (bytes.now ++ piece) self.new.at self.new.goals) }
         ensures err { IfErr result (IsFault bytes.now) }
     {
-        while self.go_on(alloc, bytes)? {}
+        while self.go_on(alloc, bytes, bounds)? {}
         Ok(())
     }
 
-    /// Whether these bytes, which are all that have come, are a whole file.
-    pub fn finish(&self, bytes: &[u8]) -> Result<(), CheckFault>
-        requires { Waits bytes.now self.now.at self.now.goals }
-        ensures ok { OnOk result (IsWhole bytes.now) }
+    /// Whether these bytes, which are all that have come, are a whole file; and what was marked along it.
+    pub fn finish(&self, bytes: &[u8], bounds: &Bounds) -> Result<Marks, CheckFault>
+        requires { Waits bounds.now self.now.marks bytes.now self.now.at self.now.goals }
+        ensures ok { IfOk result (λ m. IsWhole bytes.now) }
+        ensures marks { IfOk result (λ m. AreMarks bounds.now bytes.now m) }
         ensures err { IfErr result (IsCause bytes.now) }
     {
         let cut = CheckFault::Malformed { at: bytes.len() };
@@ -76,40 +89,39 @@ impl Machine {
         if !self.goals.is_end() {
             return Err(cut);
         }
-        Ok(())
+        Ok(self.marks)
     }
 
     // Takes what is short, and one more item; false where that isn't whole yet.
-    fn go_on(&mut self, alloc: Global, bytes: &[u8]) -> Result<bool, CheckFault>
-        requires { Stands bytes.now self.old.at self.old.goals }
-        ensures on { IfOk result (λ on. MatchBool on (Stands bytes.now self.new.at self.new.goals) (Waits bytes.now self.new.at self.new.goals)) }
+    fn go_on(&mut self, alloc: Global, bytes: &[u8], bounds: &Bounds) -> Result<bool, CheckFault>
+        requires { Stands bounds.now self.old.marks bytes.now self.old.at self.old.goals }
+        ensures on { IfOk result (λ on. MatchBool on (Stands bounds.now self.new.marks bytes.now self.new.at self.new.goals) (Waits bounds.now self.new.marks bytes.now self.new.at self.new.goals)) }
         ensures more { IfOk result (λ on. MatchBool on ((self.old.at < self.new.at) × (self.new.at ≤ length bytes.now)) Unit) }
         ensures err { IfErr result (IsFault bytes.now) }
     {
-        self.pass(alloc, bytes)?;
-        self.advance(alloc, bytes)
+        self.pass(alloc, bytes, bounds)?;
+        self.advance(alloc, bytes, bounds)
     }
 
     // Takes what is short.
-    fn pass(&mut self, alloc: Global, bytes: &[u8]) -> Result<(), AllocError>
-        requires { Stands bytes.now self.old.at self.old.goals }
-        ensures ok { OnOk result (Stands bytes.now self.new.at self.new.goals) }
+    fn pass(&mut self, alloc: Global, bytes: &[u8], bounds: &Bounds) -> Result<(), AllocError>
+        requires { Stands bounds.now self.old.marks bytes.now self.old.at self.old.goals }
+        ensures ok { OnOk result (Stands bounds.now self.new.marks bytes.now self.new.at self.new.goals) }
         ensures ahead { self.old.at ≤ self.new.at }
     {
         let Some(stop) = self.goals.end_within(bytes.len()) else {
             return Ok(());
         };
         self.pass_entries(alloc, bytes, stop)?;
-        while self.pass_code(alloc, bytes, stop)? {}
+        while self.pass_code(alloc, bytes, stop, bounds)? {}
         Ok(())
     }
 
     // Takes entries of one byte each, or runs of two, with one left.
     fn pass_entries(&mut self, alloc: Global, bytes: &[u8], stop: usize) -> Result<(), AllocError>
-        requires stands { Stands bytes.now self.old.at self.old.goals }
         requires below { Below stop self.old.goals }
         requires stop { stop ≤ length bytes.now }
-        ensures ok { OnOk result (Stands bytes.now self.new.at self.new.goals) }
+        ensures ok { OnOk result (Moves bytes.now self.old.marks self.old.at self.old.goals self.new.marks self.new.at self.new.goals) }
         ensures below { OnOk result (Below stop self.new.goals) }
         ensures ahead { self.old.at ≤ self.new.at }
     {
@@ -132,11 +144,10 @@ impl Machine {
         kind: Kind,
         n: u32,
     ) -> Result<(), AllocError>
-        requires stands { Stands bytes.now self.old.at self.old.goals }
         requires below { Below stop self.old.goals }
         requires stop { stop ≤ length bytes.now }
         requires top { self.old.goals ≡ entries (kind_of kind) n ∷ drop 1 self.old.goals }
-        ensures ok { OnOk result (Stands bytes.now self.new.at self.new.goals) }
+        ensures ok { OnOk result (Moves bytes.now self.old.marks self.old.at self.old.goals self.new.marks self.new.at self.new.goals) }
         ensures below { OnOk result (Below stop self.new.goals) }
         ensures ahead { self.old.at ≤ self.new.at }
     {
@@ -158,11 +169,10 @@ impl Machine {
         stop: usize,
         n: u32,
     ) -> Result<(), AllocError>
-        requires stands { Stands bytes.now self.old.at self.old.goals }
         requires below { Below stop self.old.goals }
         requires stop { stop ≤ length bytes.now }
         requires top { self.old.goals ≡ entries some_runs n ∷ drop 1 self.old.goals }
-        ensures ok { OnOk result (Stands bytes.now self.new.at self.new.goals) }
+        ensures ok { OnOk result (Moves bytes.now self.old.marks self.old.at self.old.goals self.new.marks self.new.at self.new.goals) }
         ensures below { OnOk result (Below stop self.new.goals) }
         ensures ahead { self.old.at ≤ self.new.at }
     {
@@ -178,11 +188,17 @@ impl Machine {
     }
 
     // Takes short instructions of one level, and opens or closes a level behind them; false where neither stands there.
-    fn pass_code(&mut self, alloc: Global, bytes: &[u8], stop: usize) -> Result<bool, AllocError>
-        requires stands { Stands bytes.now self.old.at self.old.goals }
+    fn pass_code(
+        &mut self,
+        alloc: Global,
+        bytes: &[u8],
+        stop: usize,
+        bounds: &Bounds,
+    ) -> Result<bool, AllocError>
+        requires stands { Stands bounds.now self.old.marks bytes.now self.old.at self.old.goals }
         requires below { Below stop self.old.goals }
         requires stop { stop ≤ length bytes.now }
-        ensures ok { OnOk result (Stands bytes.now self.new.at self.new.goals) }
+        ensures ok { OnOk result (Stands bounds.now self.new.marks bytes.now self.new.at self.new.goals) }
         ensures below { OnOk result (Below stop self.new.goals) }
         ensures ahead { self.old.at ≤ self.new.at }
         ensures more { IfOk result (λ on. OnTrue on (self.old.at < self.new.at)) }
@@ -195,6 +211,8 @@ impl Machine {
         }
         self.at = pass_short(bytes, self.at, stop);
         if let Some(first_arm) = opened(bytes, self.at, stop) {
+            let level = self.goals.outer_levels();
+            self.marks.note_level(level, self.at as u64, bounds);
             self.goals.push(alloc, Goal::Code { first_arm })?;
             self.at += 2;
             return Ok(true);
@@ -214,9 +232,9 @@ impl Machine {
     }
 
     // Takes one more item; false where it isn't whole yet.
-    fn advance(&mut self, alloc: Global, bytes: &[u8]) -> Result<bool, CheckFault>
-        requires { Stands bytes.now self.old.at self.old.goals }
-        ensures on { IfOk result (λ on. MatchBool on (Stands bytes.now self.new.at self.new.goals) (Waits bytes.now self.new.at self.new.goals)) }
+    fn advance(&mut self, alloc: Global, bytes: &[u8], bounds: &Bounds) -> Result<bool, CheckFault>
+        requires { Stands bounds.now self.old.marks bytes.now self.old.at self.old.goals }
+        ensures on { IfOk result (λ on. MatchBool on (Stands bounds.now self.new.marks bytes.now self.new.at self.new.goals) (Waits bounds.now self.new.marks bytes.now self.new.at self.new.goals)) }
         ensures more { IfOk result (λ on. MatchBool on ((self.old.at < self.new.at) × (self.new.at ≤ length bytes.now)) Unit) }
         ensures err { IfErr result (IsFault bytes.now) }
     {
@@ -236,6 +254,8 @@ impl Machine {
             },
             Front::Wrong { used } => Err(CheckFault::Malformed { at: self.at + used }),
             Front::Whole { value, used } => {
+                let place = self.at as u64;
+                note(&mut self.marks, &self.goals, goal, value, place, bounds);
                 let at = self.at + used;
                 if !self.goals.step(alloc, goal, value, at as u64)? {
                     return Err(CheckFault::Malformed { at });
@@ -249,8 +269,8 @@ impl Machine {
 
 // Passes over bytes that may be any, but for the last one before a stop.
 fn skip(goal: Goal, at: usize, stop: usize) -> usize
-    ensures on { (bytes : List ℕ) (gs : List Wanted) → Stands bytes at (goal_of goal ∷ gs) → stop ≤ length bytes
-        → ((j : ℕ) → j < stop → Inside j (goal_of goal ∷ gs)) → Stands bytes result (goal_of goal ∷ gs) }
+    ensures on { (bounds : ModuleBounds) (m : MarksValue) (bytes : List ℕ) (gs : List Wanted) → Stands bounds m bytes at (goal_of goal ∷ gs) → stop ≤ length bytes
+        → ((j : ℕ) → j < stop → Inside j (goal_of goal ∷ gs)) → Stands bounds m bytes result (goal_of goal ∷ gs) }
     ensures ahead { at ≤ result }
 {
     match goal {
@@ -278,12 +298,13 @@ fn is_code(goal: Goal) -> bool
     }
 }
 
-/// Whether the bytes are a whole file (standard, section 5.5.15), or else where they fail.
-pub fn check(alloc: Global, bytes: &[u8]) -> Result<(), CheckFault>
-    ensures ok { OnOk result (IsWhole bytes.now) }
+/// Whether the bytes are a whole file (standard, section 5.5.15), and then what is marked along it; or else where they fail.
+pub fn check(alloc: Global, bytes: &[u8], bounds: &Bounds) -> Result<Marks, CheckFault>
+    ensures ok { IfOk result (λ m. IsWhole bytes.now) }
+    ensures marks { IfOk result (λ m. AreMarks bounds.now bytes.now m) }
     ensures err { IfErr result (IsCause bytes.now) }
 {
     let mut machine = Machine::new(alloc)?;
-    machine.feed(alloc, bytes)?;
-    machine.finish(bytes)
+    machine.feed(alloc, bytes, bounds)?;
+    machine.finish(bytes, bounds)
 }

@@ -1,7 +1,7 @@
 // Runs of short items, taken at once. They stop before the end of a content.
-ghost use Rattle.std.specs.Prelude.{ℕ, ◌≡◌, ◌+◌, ◌-◌, ◌*◌, ◌<◌, ◌≤◌, length, take, drop, get_or, IfSome};
+ghost use Rattle.std.specs.Prelude.{ℕ, true, false, ◌≡◌, ◌+◌, ◌-◌, ◌*◌, ◌<◌, ◌≤◌, length, take, drop, get_or, IfSome};
 ghost use Rattle.std.specs.Bool.{OnTrue};
-ghost use Rattle.wa_types.specs.Opcodes.{is_block_type, is_value_type};
+ghost use Rattle.wa_types.specs.Opcodes.{is_block_type, is_float_op, is_float_type, is_value_type};
 ghost use Rattle.wasm_goals.specs.Goals.{kind_of};
 ghost use Rattle.wasm_grammar.specs.Passing.{IsShort, AreShort, Passes, Opens, Closes, PassesEntries, IsAlone, PassesRuns, IsShortRun};
 
@@ -50,7 +50,22 @@ fn behind_numbers(bytes: &[u8], at: usize, stop: usize) -> Option<usize>
     behind_number(bytes, second, stop)
 }
 
-// Where the instruction that begins here ends, if it holds no other, and each of its numbers is short.
+// Whether this opcode is of no floats. Some rare ones that aren't either are told as if they were, and go item by item.
+#[inline(always)]
+fn is_integer_op(op: u8) -> bool
+    ensures { OnTrue result (is_float_op op ≡ false) }
+{
+    match op {
+        0x00..=0x29 => true,
+        0x2C..=0x37 => true,
+        0x3A..=0x42 => true,
+        0x45..=0x5A => true,
+        0x67..=0x8A => true,
+        _ => false,
+    }
+}
+
+// Where the instruction that begins here ends, if it holds no other and is of no floats, and each of its numbers is short.
 #[inline(always)]
 fn short_end(bytes: &[u8], at: usize, stop: usize) -> Option<usize>
     requires { stop ≤ length bytes.now }
@@ -60,7 +75,11 @@ fn short_end(bytes: &[u8], at: usize, stop: usize) -> Option<usize>
     if stop.saturating_sub(at) < 3 {
         return None;
     }
-    match operand_shape(bytes[at])? {
+    let op = bytes[at];
+    if !is_integer_op(op) {
+        return None;
+    }
+    match operand_shape(op)? {
         Shape::Nothing => Some(at + 1),
         Shape::Index => behind_number(bytes, at + 1, stop),
         Shape::Constant32 => behind_number(bytes, at + 1, stop),
@@ -84,11 +103,11 @@ pub(crate) fn pass_short(bytes: &[u8], at: usize, stop: usize) -> usize
     place
 }
 
-// Whether this byte is the result of a construct (standard, section 5.3.2).
+// Whether this byte is the result of a construct (standard, section 5.3.2), and no float.
 fn is_block_type(byte: u8) -> bool
-    ensures { result ≡ is_block_type byte }
+    ensures { OnTrue result ((is_block_type byte ≡ true) × (is_float_type byte ≡ false)) }
 {
-    byte == 0x40 || (0x7C <= byte && byte <= 0x7F)
+    byte == 0x40 || is_integer_type(byte)
 }
 
 /// Whether an else may stand in the level that a construct opens here (standard, section 5.4.1), if one does.
@@ -125,12 +144,12 @@ pub(crate) fn closes(bytes: &[u8], at: usize, stop: usize) -> bool
     bytes[at] == 0x0B
 }
 
-// Whether this byte is a value type (standard, section 5.3.1).
+// Whether this byte is a value type (standard, section 5.3.1), and no float.
 #[inline(always)]
-fn is_value_type(byte: u8) -> bool
-    ensures { result ≡ is_value_type byte }
+fn is_integer_type(byte: u8) -> bool
+    ensures { OnTrue result ((is_value_type byte ≡ true) × (is_float_type byte ≡ false)) }
 {
-    0x7C <= byte && byte <= 0x7F
+    0x7E <= byte && byte <= 0x7F
 }
 
 // Whether an entry is this byte alone.
@@ -142,7 +161,7 @@ fn is_alone(kind: Kind, byte: u8) -> bool
         Kind::Bytes => true,
         Kind::Indices => byte < 128,
         Kind::Functions => byte < 128,
-        Kind::ValueTypes => is_value_type(byte),
+        Kind::ValueTypes => is_integer_type(byte),
         _ => false,
     }
 }
@@ -170,7 +189,7 @@ pub(crate) fn short_entries(kind: Kind, n: u32, bytes: &[u8], at: usize, stop: u
 fn is_short_run(count: u8, ty: u8) -> bool
     ensures { OnTrue result (IsShortRun count ty) }
 {
-    count < 128 && is_value_type(ty)
+    count < 128 && is_integer_type(ty)
 }
 
 /// How many runs of so many can be passed over, each of two bytes, with one left.

@@ -88,12 +88,24 @@ accepted_strictly b bytes m e a =
 -- what stands is accepted, where no function has too many locals
 pub accepted : (b : ModuleBounds) (bytes : List ℕ) (m : Module) (n : ℕ) → Stands b bytes m → n ≡ b.locals → None ≡ first_above n (module_locals m) → IsAccepted b bytes m
 accepted b bytes m n s l e =
-    record { sections = s.sections; within = record { before = s.shallow; locals = same_above b.locals s.sections m s.is_module ∙ ap (λ k. first_above k (module_locals m)) (sym l) ∙ sym e }; is_module = s.is_module }
+    record {
+      sections = s.sections;
+      within = record {
+        before = s.shallow;
+        locals = same_above b.locals s.sections m s.is_module ∙ ap (λ k. first_above k (module_locals m)) (sym l)
+            ∙ sym e;
+      };
+      is_module = s.is_module;
+    }
 
-pub too_many : (b : ModuleBounds) (bytes : List ℕ) (m : Module) (n found : ℕ) (s : Stands b bytes m) → n ≡ b.locals → Some found ≡ first_above n (module_locals m) → first_above b.locals (local_counts s.sections) ≡ Some found
+pub too_many : (b : ModuleBounds) (bytes : List ℕ) (m : Module) (n found : ℕ) (s : Stands b bytes m) → n ≡ b.locals → Some found ≡ first_above n (module_locals m)
+    → first_above b.locals (local_counts s.sections) ≡ Some found
 too_many b bytes m n found s l e = same_above b.locals s.sections m s.is_module ∙ ap (λ k. first_above k (module_locals m)) (sym l) ∙ sym e
 
 -- a file within either bounds is short
 pub few_bytes : (b : ModuleBounds) (bytes : List ℕ) → (b ≡ source_bounds) ⊎ (b ≡ prepared_bounds) → length bytes ≤ b.file → length bytes < 2 ^ 31
 few_bytes b bytes (inl e) l = omega (arith, l, ap (λ (z : ModuleBounds). z.file) e)
 few_bytes b bytes (inr e) l = omega (arith, l, ap (λ (z : ModuleBounds). z.file) e)
+
+pub short_file : (b : ModuleBounds) (bytes : List ℕ) → (b ≡ source_bounds) ⊎ (b ≡ prepared_bounds) → length bytes ≤ b.file → length bytes < 2 ^ 32
+short_file b bytes columns few = omega (arith, few_bytes b bytes columns few)

@@ -1,4 +1,5 @@
 pub mod Accepting
+pub mod GoingOn
 pub mod LocalCounts
 pub mod ModulesMade
 pub mod OpcodesMade

@@ -1,5 +1,6 @@
 -- Parameters and locals, counted step by step.
-use Rattle.std.proofs.Common.{◌≡◌, ℕ, zero, suc, ◌+◌, ◌<◌, ◌≤◌, List, [], ◌∷◌, map, refl, ap, sym, ◌∙◌, arith, add-one, length, get_or, drop, drop-cons, Option, Some, None, slice_get, Bool, true, false, cond, nat_lt}
+use Rattle.std.proofs.Common.{◌≡◌, ℕ, zero, suc, ◌+◌, ◌<◌, ◌≤◌, List, [], ◌∷◌, map, refl, ap, sym, ◌∙◌, arith, add-one, length, get_or, drop, drop-cons, Option, Some, None, slice_get, Bool}
+use Rattle.std.proofs.Common.{true, false, cond, nat_lt}
 use Rattle.std.proofs.lemmas.Bool.{lt-ltb, le-ltb}
 use Rattle.std.proofs.lemmas.List.Sums.{sum_by-cons}
 use Rattle.std.proofs.lemmas.List.{drop_all}
@@ -59,11 +60,13 @@ passed : {A : Type 0} (b : Bool) (x y : A) → b ≡ false → cond b x y ≡ y
 passed false x y e = refl
 passed true x y e = absurd (let f : true ≡ false = e in cc)
 
-pub above_found : (bound : ℕ) (ts : List FuncType) (fs : List FuncValue) (i n : ℕ) (f : FuncValue) → i < length fs → f ≡ get_or fs i f → n ≡ func_locals ts (func_of f) → bound < n → Some n ≡ above_from bound ts (drop i fs)
+pub above_found : (bound : ℕ) (ts : List FuncType) (fs : List FuncValue) (i n : ℕ) (f : FuncValue) → i < length fs → f ≡ get_or fs i f → n ≡ func_locals ts (func_of f) → bound < n
+    → Some n ≡ above_from bound ts (drop i fs)
 above_found bound ts fs i n f h e c l =
     ap Some c ∙ sym (chosen _ _ _ (lt-ltb bound (func_locals ts (func_of f)) (omega (arith, l, c)))) ∙ sym (above_at bound ts fs i f h e)
 
-pub above_on : (bound : ℕ) (ts : List FuncType) (fs : List FuncValue) (i n : ℕ) (f : FuncValue) → i < length fs → f ≡ get_or fs i f → n ≡ func_locals ts (func_of f) → n ≤ bound → above_from bound ts (drop (i + 1) fs) ≡ above_from bound ts (drop i fs)
+pub above_on : (bound : ℕ) (ts : List FuncType) (fs : List FuncValue) (i n : ℕ) (f : FuncValue) → i < length fs → f ≡ get_or fs i f → n ≡ func_locals ts (func_of f) → n ≤ bound
+    → above_from bound ts (drop (i + 1) fs) ≡ above_from bound ts (drop i fs)
 above_on bound ts fs i n f h e c l =
     sym (passed _ _ _ (le-ltb bound (func_locals ts (func_of f)) (omega (arith, l, c)))) ∙ sym (above_at bound ts fs i f h e)
 
@@ -73,6 +76,7 @@ above_none bound ts fs i h = ap (above_from bound ts) (sym (drop_all i fs h))
 pub ruleset judging = (above_found, above_on, above_none)
 
 -- at the first function stands the whole module
-pub above_first : (bound : ℕ) (m : ModuleValue) (fs : List FuncValue) → fs ≡ m.funcs.items → above_from bound (map func_type_of m.types.items) (drop 0 fs) ≡ first_above bound (module_locals (module_of m))
+pub above_first : (bound : ℕ) (m : ModuleValue) (fs : List FuncValue) → fs ≡ m.funcs.items
+    → above_from bound (map func_type_of m.types.items) (drop 0 fs) ≡ first_above bound (module_locals (module_of m))
 unfolding module_locals
 above_first bound m fs e = ap (above_from bound (map func_type_of m.types.items)) e

@@ -1,5 +1,6 @@
 -- Sections that are spelled, without a float, are a module.
-use Rattle.std.proofs.Common.{◌≡◌, ℕ, ◌+◌, ◌≤◌, inl, inr, List, [], ◌∷◌, ◌++◌, map, flat_map, length, Option, Some, None, Bool, true, false, ◌&&◌, nat_eq, nat_le, refl, ap, sym, ◌∙◌, subst, arith, eqb-true, option_to_list, All}
+use Rattle.std.proofs.Common.{◌≡◌, ℕ, ◌+◌, ◌≤◌, inl, inr, List, [], ◌∷◌, ◌++◌, map, flat_map, length, Option, Some, None, Bool, true, false, ◌&&◌, nat_eq, nat_le, refl, ap, sym, ◌∙◌, subst}
+use Rattle.std.proofs.Common.{arith, eqb-true, option_to_list, All}
 use Rattle.std.proofs.lemmas.Bool.{leb-true, leb-false, eqb-false}
 use Rattle.std.proofs.lemmas.List.Elements.{All-head, All-tail}
 use Rattle.wa_types.specs.declared.values.ValType.{ValType}
@@ -11,9 +12,11 @@ use Rattle.wa_types.specs.declared.syntax.Run.{Run}
 use Rattle.wa_types.specs.Encoding.{type_byte, block_type_byte, shape_byte}
 use Rattle.wa_types.specs.Opcodes.{is_float_type, is_float_op, is_value_type, is_block_type, is_nest}
 use Rattle.wa_types.specs.Syntax.{Shape, a_block, a_loop, Code, done, plain, nest, branch, FuncType, Func, GlobalDef, Elem, Segment, Module}
-use Rattle.wa_types.specs.Binary.{Placed, RawCode, ended, otherwise, instr, nested, branched, RawType, RawKind, raw_func, raw_table, raw_memory, raw_global, RawImport, RawGlobal, RawElem, RawRun, RawBody, RawSegment, Section, custom, types, imports, functions, tables, memories, globals, exports, start, elements, bodies, segments}
+use Rattle.wa_types.specs.Binary.{Placed, RawCode, ended, otherwise, instr, nested, branched, RawType, RawKind, raw_func, raw_table, raw_memory, raw_global, RawImport, RawGlobal, RawElem}
+use Rattle.wa_types.specs.Binary.{RawRun, RawBody, RawSegment, Section, custom, types, imports, functions, tables, memories, globals, exports, start, elements, bodies, segments}
 use Rattle.wa_types.specs.Spells.{ValueType, FunctionType, CodeOf, ImportKindOf, ImportOf, GlobalOf, ElementOf, RunOf, BodyOf, SegmentOf, Rising, sorts_in, bodies_in, Spells}
-use Rattle.wa_types.specs.Reading.{IsCode, Each, IsValueType, IsFuncType, IsKind, IsImport, IsGlobal, IsElem, IsRun, IsBody, IsSegment, types_in, imports_in, tables_in, memories_in, globals_in, exports_in, starts_in, elements_in, segments_in, customs_of, IsModule}
+use Rattle.wa_types.specs.Reading.{IsCode, Each, IsValueType, IsFuncType, IsKind, IsImport, IsGlobal, IsElem, IsRun, IsBody, IsSegment, types_in, imports_in, tables_in, memories_in}
+use Rattle.wa_types.specs.Reading.{globals_in, exports_in, starts_in, elements_in, segments_in, customs_of, IsModule}
 use Rattle.wa_types.specs.Marks.{place_if, float_type, code_floats, type_floats, kind_floats, body_floats, section_floats, floats}
 use Rattle.wasm_reader.proofs.SpelledSizes.{Seen, seen_vector, held_seen, types_seen, imports_seen, globals_seen, elements_seen, bodies_seen, segments_seen}
 use Rattle.wasm_reader.proofs.SpelledCodeSizes.{length_split}
@@ -36,7 +39,8 @@ not_placed true k e = absurd (cc)
 not_placed false k e = refl
 
 -- what holds no float, section by section
-held_clear : {X : Type 0} (g : Section → List X) (h : X → List ℕ) → ((s : Section) → section_floats s ≡ [] → flat_map h (g s) ≡ []) → (ss : List Section) → floats ss ≡ [] → flat_map h (flat_map g ss) ≡ []
+held_clear : {X : Type 0} (g : Section → List X) (h : X → List ℕ) → ((s : Section) → section_floats s ≡ [] → flat_map h (g s) ≡ []) → (ss : List Section) → floats ss ≡ []
+    → flat_map h (flat_map g ss) ≡ []
 held_clear g h w [] e = refl
 held_clear g h w (s ∷ ss) e =
     over (g s) (flat_map g ss) (w s (front_clear (section_floats s) (floats ss) e)) (held_clear g h w ss (back_clear (section_floats s) (floats ss) e))
@@ -46,7 +50,8 @@ held_clear g h w (s ∷ ss) e =
     over (x ∷ xs) ys e f = join_clear (h x) (flat_map h (xs ++ ys)) (front_clear (h x) (flat_map h xs) e) (over xs ys (back_clear (h x) (flat_map h xs) e) f)
 
 -- each of some parts that are spelled and have no float is something
-each_made : {X Y : Type 0} (S : X → Type 0) (h : X → List ℕ) (R : X → Y → Type 0) → ((x : X) → S x → h x ≡ [] → (y : Y) × R x y) → (xs : List X) → All S xs → flat_map h xs ≡ [] → (ys : List Y) × Each R xs ys
+each_made : {X Y : Type 0} (S : X → Type 0) (h : X → List ℕ) (R : X → Y → Type 0) → ((x : X) → S x → h x ≡ [] → (y : Y) × R x y) → (xs : List X) → All S xs → flat_map h xs ≡ []
+    → (ys : List Y) × Each R xs ys
 each_made S h R w [] s e = ([], tt)
 each_made S h R w (x ∷ xs) s e =
     let one = w x (All-head S x xs s) (front_clear (h x) (flat_map h xs) e) in
@@ -136,8 +141,11 @@ func_type_made n x s e =
     let m = length s.bytes in
     let d1 = length_split s.bytes h.0 h.1 h.2 in
     let d2 = length_split h.1 g.0 g.1 g.2 in
-    let p = each_made (Seen m ValueType) float_type IsValueType (placed_made m) x.params (seen_vector m ValueType x.params (s.place + length h.0) g.0 g.3 (omega (arith, d1, d2))) (front_clear (flat_map float_type x.params) (flat_map float_type x.results) e) in
-    let r = each_made (Seen m ValueType) float_type IsValueType (placed_made m) x.results (seen_vector m ValueType x.results (s.place + length h.0 + length g.0) g.1 g.4 (omega (arith, d1, d2))) (back_clear (flat_map float_type x.params) (flat_map float_type x.results) e) in
+    let p = each_made (Seen m ValueType) float_type IsValueType (placed_made m) x.params (seen_vector m ValueType x.params (s.place + length h.0) g.0 g.3 (omega (arith, d1, d2)))
+    (front_clear (flat_map float_type x.params) (flat_map float_type x.results) e) in
+    let r = each_made (Seen m ValueType) float_type IsValueType (placed_made m) x.results
+    (seen_vector m ValueType x.results (s.place + length h.0 + length g.0) g.1 g.4 (omega (arith, d1, d2)))
+    (back_clear (flat_map float_type x.params) (flat_map float_type x.results) e) in
     (record { params = p.0; results = r.0 }, record { params = p.1; results = r.1 })
 
 kind_made : (x : RawKind) (at : ℕ) (a : List ℕ) → ImportKindOf x at a → kind_floats x ≡ [] → (k : ImportKind) × IsKind x k
@@ -194,7 +202,8 @@ body_made n sort x s e =
     let c = expression_made x.code (s.place + length h.0 + length g.0) g.1 g.4 (back_clear (flat_map (λ (r : RawRun). float_type r.ty) x.locals) (code_floats x.code) e) in
     (record { sort = sort; locals = ls.0; body = c.0 }, record { locals = ls.1; body = c.1 }, refl)
 
-funcs_made : (n : ℕ) (sorts : List ℕ) (xs : List RawBody) → length sorts ≡ length xs → All (Seen n BodyOf) xs → flat_map body_floats xs ≡ [] → (fs : List Func) × Each IsBody xs fs × (map (λ (f : Func). f.sort) fs ≡ sorts)
+funcs_made : (n : ℕ) (sorts : List ℕ) (xs : List RawBody) → length sorts ≡ length xs → All (Seen n BodyOf) xs → flat_map body_floats xs ≡ []
+    → (fs : List Func) × Each IsBody xs fs × (map (λ (f : Func). f.sort) fs ≡ sorts)
 funcs_made n [] [] l s e = ([], tt, refl)
 funcs_made n [] (x ∷ xs) l s e = absurd (omega (arith, l))
 funcs_made n (k ∷ ks) [] l s e = absurd (omega (arith, l))
@@ -266,11 +275,16 @@ module_made bytes ss s e =
     let at = 0 + length p.0 in
     let n = length p.1 in
     let l : n ≤ n = omega arith in
-    let ts = each_made (Seen n FunctionType) type_floats IsFuncType (func_type_made n) (flat_map types_in ss) (held_seen n FunctionType types_in (types_seen n) ss at p.1 p.4 l) (held_clear types_in type_floats types_clear ss e) in
-    let is = each_made (Seen n ImportOf) (λ (i : RawImport). kind_floats i.kind) IsImport (import_made n) (flat_map imports_in ss) (held_seen n ImportOf imports_in (imports_seen n) ss at p.1 p.4 l) (held_clear imports_in (λ (i : RawImport). kind_floats i.kind) imports_clear ss e) in
-    let gs = each_made (Seen n GlobalOf) (λ (g : RawGlobal). float_type g.ty ++ code_floats g.init) IsGlobal (global_made n) (flat_map globals_in ss) (held_seen n GlobalOf globals_in (globals_seen n) ss at p.1 p.4 l) (held_clear globals_in (λ (g : RawGlobal). float_type g.ty ++ code_floats g.init) globals_clear ss e) in
-    let es = each_made (Seen n ElementOf) (λ (x : RawElem). code_floats x.offset) IsElem (elem_made n) (flat_map elements_in ss) (held_seen n ElementOf elements_in (elements_seen n) ss at p.1 p.4 l) (held_clear elements_in (λ (x : RawElem). code_floats x.offset) elements_clear ss e) in
-    let ds = each_made (Seen n SegmentOf) (λ (x : RawSegment). code_floats x.offset) IsSegment (segment_made n) (flat_map segments_in ss) (held_seen n SegmentOf segments_in (segments_seen n) ss at p.1 p.4 l) (held_clear segments_in (λ (x : RawSegment). code_floats x.offset) segments_clear ss e) in
+    let ts = each_made (Seen n FunctionType) type_floats IsFuncType (func_type_made n) (flat_map types_in ss) (held_seen n FunctionType types_in (types_seen n) ss at p.1 p.4 l)
+    (held_clear types_in type_floats types_clear ss e) in
+    let is = each_made (Seen n ImportOf) (λ (i : RawImport). kind_floats i.kind) IsImport (import_made n) (flat_map imports_in ss)
+    (held_seen n ImportOf imports_in (imports_seen n) ss at p.1 p.4 l) (held_clear imports_in (λ (i : RawImport). kind_floats i.kind) imports_clear ss e) in
+    let gs = each_made (Seen n GlobalOf) (λ (g : RawGlobal). float_type g.ty ++ code_floats g.init) IsGlobal (global_made n) (flat_map globals_in ss)
+    (held_seen n GlobalOf globals_in (globals_seen n) ss at p.1 p.4 l) (held_clear globals_in (λ (g : RawGlobal). float_type g.ty ++ code_floats g.init) globals_clear ss e) in
+    let es = each_made (Seen n ElementOf) (λ (x : RawElem). code_floats x.offset) IsElem (elem_made n) (flat_map elements_in ss)
+    (held_seen n ElementOf elements_in (elements_seen n) ss at p.1 p.4 l) (held_clear elements_in (λ (x : RawElem). code_floats x.offset) elements_clear ss e) in
+    let ds = each_made (Seen n SegmentOf) (λ (x : RawSegment). code_floats x.offset) IsSegment (segment_made n) (flat_map segments_in ss)
+    (held_seen n SegmentOf segments_in (segments_seen n) ss at p.1 p.4 l) (held_clear segments_in (λ (x : RawSegment). code_floats x.offset) segments_clear ss e) in
     let fs = funcs_made n (flat_map sorts_in ss) (flat_map bodies_in ss) s.counts (held_seen n BodyOf bodies_in (bodies_seen n) ss at p.1 p.4 l) (held_clear bodies_in body_floats bodies_clear ss e) in
     let o = start_made 0 ss s.order in (
       record {

@@ -4,7 +4,8 @@ use Rattle.wa_types.proofs.SignedSpelling.{shortest_signed_least}
 use Rattle.wa_types.specs.declared.values.Value.TheVariants.{I32 as value_32, I64 as value_64}
 use Rattle.wa_types.specs.Leb.{shortest}
 use Rattle.wa_types.specs.Encoding.{vector, sized, code_bytes, plain_bytes, else_bytes, expression_bytes}
-use Rattle.wa_types.specs.Syntax.{nop, drop, select, const, num, global_get, global_set, load, store, memory_size, memory_grow, Plain, basic, local_get, local_set, local_tee, br, br_if, br_table, return, unreachable, call, call_indirect, Code, done, plain, nest, branch}
+use Rattle.wa_types.specs.Syntax.{nop, drop, select, const, num, global_get, global_set, load, store, memory_size, memory_grow, Plain, basic, local_get, local_set, local_tee, br, br_if}
+use Rattle.wa_types.specs.Syntax.{br_table, return, unreachable, call, call_indirect, Code, done, plain, nest, branch}
 use Rattle.wa_types.specs.Binary.{RawCode, ended, otherwise, instr, nested, branched}
 use Rattle.wa_types.specs.Spells.{Number, Items, Vector, OperandsOf, CodeOf}
 use Rattle.wa_types.specs.Reading.{plain_operands, IsCode, Each}
@@ -61,8 +62,20 @@ operands_short (basic (const (value_64 n))) at a h = omega (arith, shortest_sign
 operands_short (basic (num op)) at a h = omega arith
 operands_short (basic (global_get x)) at a h = omega (arith, number_short x a h)
 operands_short (basic (global_set x)) at a h = omega (arith, number_short x a h)
-operands_short (basic (load op align offset)) at a h = omega (arith, length_split a h.0 h.1 h.2, length-append (shortest align) (shortest offset), number_short align h.0 h.3, number_short offset h.1 h.4)
-operands_short (basic (store op align offset)) at a h = omega (arith, length_split a h.0 h.1 h.2, length-append (shortest align) (shortest offset), number_short align h.0 h.3, number_short offset h.1 h.4)
+operands_short (basic (load op align offset)) at a h = omega (
+  arith,
+  length_split a h.0 h.1 h.2,
+  length-append (shortest align) (shortest offset),
+  number_short align h.0 h.3,
+  number_short offset h.1 h.4,
+)
+operands_short (basic (store op align offset)) at a h = omega (
+  arith,
+  length_split a h.0 h.1 h.2,
+  length-append (shortest align) (shortest offset),
+  number_short align h.0 h.3,
+  number_short offset h.1 h.4,
+)
 operands_short (basic memory_size) at a h = omega (arith, ap length h)
 operands_short (basic memory_grow) at a h = omega (arith, ap length h)
 operands_short (local_get x) at a h = omega (arith, number_short x a h)
@@ -70,7 +83,13 @@ operands_short (local_set x) at a h = omega (arith, number_short x a h)
 operands_short (local_tee x) at a h = omega (arith, number_short x a h)
 operands_short (br x) at a h = omega (arith, number_short x a h)
 operands_short (br_if x) at a h = omega (arith, number_short x a h)
-operands_short (br_table targets last) at a h = omega (arith, length_split a h.0 h.1 h.2, length-append (vector shortest targets) (shortest last), indices_short targets at h.0 h.3, number_short last h.1 h.4)
+operands_short (br_table targets last) at a h = omega (
+  arith,
+  length_split a h.0 h.1 h.2,
+  length-append (vector shortest targets) (shortest last),
+  indices_short targets at h.0 h.3,
+  number_short last h.1 h.4,
+)
 operands_short return at a h = omega arith
 operands_short unreachable at a h = omega arith
 operands_short (call x) at a h = omega (arith, number_short x a h)

@@ -1,5 +1,6 @@
 -- No spelling of an entry is shorter than the one that it is written in.
-use Rattle.std.proofs.Common.{◌≡◌, ℕ, zero, suc, ◌+◌, ◌*◌, ◌/◌, ◌≤◌, inl, inr, List, [], ◌∷◌, ◌++◌, flat_map, length, Option, Some, None, refl, ap, sym, subst, arith, length-append, Bool, true, false, cond, nat_eq, nat_lt}
+use Rattle.std.proofs.Common.{◌≡◌, ℕ, zero, suc, ◌+◌, ◌*◌, ◌/◌, ◌≤◌, inl, inr, List, [], ◌∷◌, ◌++◌, flat_map, length, Option, Some, None, refl, ap, sym, subst, arith, length-append, Bool}
+use Rattle.std.proofs.Common.{true, false, cond, nat_eq, nat_lt}
 use Rattle.std.proofs.lemmas.Bool.{ltb-true, ltb-false}
 use Rattle.wa_types.specs.declared.values.ValType.{ValType}
 use Rattle.wa_types.specs.declared.syntax.Limits.{Limits}
@@ -8,7 +9,8 @@ use Rattle.wa_types.specs.declared.syntax.Import.{Import}
 use Rattle.wa_types.specs.declared.syntax.Export.{Export}
 use Rattle.wa_types.specs.declared.syntax.Run.{Run}
 use Rattle.wa_types.specs.Leb.{spelled, shortest}
-use Rattle.wa_types.specs.Encoding.{vector, sized, name_bytes, type_byte, func_type_bytes, max_bytes, limits_bytes, table_bytes, global_type_bytes, expression_bytes, same_type, run_onto, merged, run_bytes, body_bytes, import_kind_bytes, import_bytes, global_bytes, space_byte, export_bytes, elem_bytes, segment_bytes}
+use Rattle.wa_types.specs.Encoding.{vector, sized, name_bytes, type_byte, func_type_bytes, max_bytes, limits_bytes, table_bytes, global_type_bytes, expression_bytes, same_type, run_onto}
+use Rattle.wa_types.specs.Encoding.{merged, run_bytes, body_bytes, import_kind_bytes, import_bytes, global_bytes, space_byte, export_bytes, elem_bytes, segment_bytes}
 use Rattle.wa_types.specs.Syntax.{FuncType, Func, GlobalDef, Elem, Segment}
 use Rattle.wa_types.specs.Binary.{Placed, RawType, RawKind, raw_func, raw_table, raw_memory, raw_global, RawImport, RawGlobal, RawElem, RawRun, RawBody, RawSegment}
 use Rattle.wa_types.specs.Spells.{Text, Vector, ValueType, FunctionType, Maximum, LimitsOf, TableType, ImportKindOf, ImportOf, GlobalOf, ExportOf, ElementOf, RunOf, BodyOf, SegmentOf}
@@ -54,8 +56,10 @@ text_short n at a h = omega (arith, length_split a h.0 h.1 h.2, length-append (s
 
 kind_short : (x : RawKind) (k : ImportKind) (at : ℕ) (a : List ℕ) → ImportKindOf x at a → IsKind x k → length (import_kind_bytes k) ≤ length a
 kind_short (raw_func sort) k at a h i = subst (λ z. length (import_kind_bytes z) ≤ length a) (sym i) (omega (arith, length_split a h.0 h.1 h.2, ap length h.3, number_short sort h.1 h.4))
-kind_short (raw_table l) k at a h i = subst (λ z. length (import_kind_bytes z) ≤ length a) (sym i) (omega (arith, length_split a h.0 h.1 h.2, ap length h.3, table_short l l (at + length h.0) h.1 h.4 (same_limits l)))
-kind_short (raw_memory l) k at a h i = subst (λ z. length (import_kind_bytes z) ≤ length a) (sym i) (omega (arith, length_split a h.0 h.1 h.2, ap length h.3, limits_short l l (at + length h.0) h.1 h.4 (same_limits l)))
+kind_short (raw_table l) k at a h i = subst (λ z. length (import_kind_bytes z) ≤ length a) (sym i)
+    (omega (arith, length_split a h.0 h.1 h.2, ap length h.3, table_short l l (at + length h.0) h.1 h.4 (same_limits l)))
+kind_short (raw_memory l) k at a h i = subst (λ z. length (import_kind_bytes z) ≤ length a) (sym i)
+    (omega (arith, length_split a h.0 h.1 h.2, ap length h.3, limits_short l l (at + length h.0) h.1 h.4 (same_limits l)))
 kind_short (raw_global t m) k at a h i =
     let g = h.4 in
     subst (λ z. length (import_kind_bytes z) ≤ length a) (sym i.1) (omega (arith, length_split a h.0 h.1 h.2, ap length h.3, length_split h.1 g.0 g.1 g.2, ap length g.3.1.1, ap length g.4))
@@ -175,9 +179,20 @@ onto_short r (s ∷ rest) = by_type (same_type r.ty s.ty)
     both : Run
     both = record { count = r.count + s.count; ty = r.ty }
 
-    by_type : (t : Bool) → (runs_length (cond t (both ∷ rest) (r ∷ s ∷ rest)) ≤ length (run_bytes r) + runs_length (s ∷ rest)) × (length (cond t (both ∷ rest) (r ∷ s ∷ rest)) ≤ suc (length (s ∷ rest)))
-    by_type true =
-        (omega (arith, length-append (run_bytes both) (flat_map run_bytes rest), length-append (run_bytes s) (flat_map run_bytes rest), run_length both, run_length r, run_length s, sum_short r.count s.count), omega arith)
+    by_type : (t : Bool) → (runs_length (cond t (both ∷ rest) (r ∷ s ∷ rest)) ≤ length (run_bytes r) + runs_length (s ∷ rest))
+        × (length (cond t (both ∷ rest) (r ∷ s ∷ rest)) ≤ suc (length (s ∷ rest)))
+    by_type true = (
+      omega (
+        arith,
+        length-append (run_bytes both) (flat_map run_bytes rest),
+        length-append (run_bytes s) (flat_map run_bytes rest),
+        run_length both,
+        run_length r,
+        run_length s,
+        sum_short r.count s.count,
+      ),
+      omega arith,
+    )
     by_type false = (omega (arith, length-append (run_bytes r) (flat_map run_bytes (s ∷ rest))), omega arith)
 
 merged_short : (rs : List Run) → (runs_length (merged rs) ≤ runs_length rs) × (length (merged rs) ≤ length rs)

@@ -1,15 +1,19 @@
 -- No spelling of a file is shorter than the one that its module is written in.
-use Rattle.std.proofs.Common.{◌≡◌, ℕ, zero, suc, ◌+◌, ◌<◌, ◌≤◌, ◌⊎◌, inl, inr, List, [], ◌∷◌, ◌++◌, map, flat_map, length, min, Option, Some, None, option_to_list, refl, ap, sym, subst, arith, length-append, Bool, true, false, cond, nat_eq, eqb-true, filter}
+use Rattle.std.proofs.Common.{◌≡◌, ℕ, zero, suc, ◌+◌, ◌<◌, ◌≤◌, ◌⊎◌, inl, inr, List, [], ◌∷◌, ◌++◌, map, flat_map, length, min, Option, Some, None, option_to_list, refl, ap, sym, subst}
+use Rattle.std.proofs.Common.{arith, length-append, Bool, true, false, cond, nat_eq, eqb-true, filter}
 use Rattle.std.proofs.lemmas.Bool.{ne_eqb, eqb-false}
 use Rattle.wa_types.specs.declared.syntax.Limits.{Limits}
 use Rattle.wa_types.specs.declared.syntax.Import.{Import}
 use Rattle.wa_types.specs.declared.syntax.Export.{Export}
 use Rattle.wa_types.specs.Leb.{shortest}
-use Rattle.wa_types.specs.Encoding.{Enc, vector, sized, name_bytes, func_type_bytes, limits_bytes, table_bytes, body_bytes, import_bytes, global_bytes, export_bytes, elem_bytes, segment_bytes, section, start_section, custom_bytes, customs_behind, preamble, sections, with_customs}
+use Rattle.wa_types.specs.Encoding.{Enc, vector, sized, name_bytes, func_type_bytes, limits_bytes, table_bytes, body_bytes, import_bytes, global_bytes, export_bytes, elem_bytes}
+use Rattle.wa_types.specs.Encoding.{segment_bytes, section, start_section, custom_bytes, customs_behind, preamble, sections, with_customs}
 use Rattle.wa_types.specs.Syntax.{FuncType, Func, GlobalDef, Elem, Segment, Custom, Module}
 use Rattle.wa_types.specs.Binary.{Section, custom, types, imports, functions, tables, memories, globals, exports, start, elements, bodies, segments, section_id}
-use Rattle.wa_types.specs.Spells.{◌▸◌, Exactly, Number, Items, Vector, Sized, FunctionType, LimitsOf, TableType, ImportOf, GlobalOf, ExportOf, ElementOf, BodyOf, SegmentOf, SectionOf, Rising, sorts_in, bodies_in}
-use Rattle.wa_types.specs.Reading.{Each, IsFuncType, IsImport, IsGlobal, IsElem, IsBody, IsSegment, types_in, imports_in, tables_in, memories_in, globals_in, exports_in, starts_in, elements_in, segments_in, customs_of, SpellsModule}
+use Rattle.wa_types.specs.Spells.{◌▸◌, Exactly, Number, Items, Vector, Sized, FunctionType, LimitsOf, TableType, ImportOf, GlobalOf, ExportOf, ElementOf, BodyOf, SegmentOf, SectionOf}
+use Rattle.wa_types.specs.Spells.{Rising, sorts_in, bodies_in}
+use Rattle.wa_types.specs.Reading.{Each, IsFuncType, IsImport, IsGlobal, IsElem, IsBody, IsSegment, types_in, imports_in, tables_in, memories_in, globals_in, exports_in, starts_in}
+use Rattle.wa_types.specs.Reading.{elements_in, segments_in, customs_of, SpellsModule}
 use Rattle.wasm_reader.proofs.ModulesMade.{join_clear}
 use Rattle.wasm_reader.proofs.ShortNumbers.{by_test, number_short}
 use Rattle.wasm_reader.proofs.ShortCode.{vector_short, Same, each_same, index_short, sized_short}
@@ -57,7 +61,8 @@ without : {X : Type 0} (xs ys : List X) → xs ≡ [] → xs ++ ys ≡ ys
 without xs ys e = ap (λ z. z ++ ys) e
 
 -- behind a section of an id stands no other
-none_later : {X : Type 0} (g : Section → List X) (id : ℕ) → 1 ≤ id → ((s : Section) → (section_id s ≡ id → ⊥) → g s ≡ []) → (last : ℕ) (ss : List Section) → id ≤ last → Rising last ss → flat_map g ss ≡ []
+none_later : {X : Type 0} (g : Section → List X) (id : ℕ) → 1 ≤ id → ((s : Section) → (section_id s ≡ id → ⊥) → g s ≡ []) → (last : ℕ) (ss : List Section) → id ≤ last → Rising last ss
+    → flat_map g ss ≡ []
 none_later g id one other last [] l r = refl
 none_later g id one other last (s ∷ ss) l r = elim (rises last s ss r) [
   | inl c ↦ join_clear (g s) (flat_map g ss) (other s (λ e. omega (arith, one, e, c.0))) (none_later g id one other last ss l c.1)
@@ -257,7 +262,14 @@ customs_short last (custom n b ∷ ss) at a h =
     let z = s.4.1 in
     let v = z.4.1 in
     let c : Custom = record { after = last; name = n; bytes = b } in
-    let content : length (name_bytes n ++ b) ≤ s.4.0 = omega (arith, length_split z.1 v.0 v.1 v.2, length-append (name_bytes n) b, text_short n (at + length s.0 + length z.0) v.0 v.3, ap length v.4, z.4.0) in
+    let content : length (name_bytes n ++ b) ≤ s.4.0 = omega (
+      arith,
+      length_split z.1 v.0 v.1 v.2,
+      length-append (name_bytes n) b,
+      text_short n (at + length s.0 + length z.0) v.0 v.3,
+      ap length v.4,
+      z.4.0,
+    ) in
     let w = sized_short (name_bytes n ++ b) s.4.0 s.1 z.0 z.1 z.2 z.3 z.4.0 content in
     omega (arith, length-append (custom_bytes c) (flat_map custom_bytes (customs_of last ss)), length_split h.0 s.0 s.1 s.2, ap length s.3, w, customs_short last ss (at + length h.0) h.1 h.4)
 customs_short last (types xs ∷ ss) at a h = omega (arith, customs_short 1 ss (at + length h.0) h.1 h.4)
@@ -274,7 +286,8 @@ customs_short last (segments xs ∷ ss) at a h = omega (arith, customs_short 11 
 
 -- all sections together
 all_lengths : (ss : List Section) (at : ℕ) (a : List ℕ) (h : Items SectionOf ss at a)
-    → lengths_of 0 ss at a h + lengths_of 1 ss at a h + lengths_of 2 ss at a h + lengths_of 3 ss at a h + lengths_of 4 ss at a h + lengths_of 5 ss at a h + lengths_of 6 ss at a h + lengths_of 7 ss at a h + lengths_of 8 ss at a h + lengths_of 9 ss at a h + lengths_of 10 ss at a h + lengths_of 11 ss at a h ≡ length a
+    → lengths_of 0 ss at a h + lengths_of 1 ss at a h + lengths_of 2 ss at a h + lengths_of 3 ss at a h + lengths_of 4 ss at a h + lengths_of 5 ss at a h + lengths_of 6 ss at a h
+    + lengths_of 7 ss at a h + lengths_of 8 ss at a h + lengths_of 9 ss at a h + lengths_of 10 ss at a h + lengths_of 11 ss at a h ≡ length a
 unfolding lengths_of
 all_lengths [] at a h = omega (arith, ap length h)
 all_lengths (custom n b ∷ ss) at a h = omega (arith, length_split a h.0 h.1 h.2, all_lengths ss (at + length h.0) h.1 h.4)
@@ -297,7 +310,8 @@ place_of c = min c.after 11
 behind_step : (id : ℕ) (c : Custom) (cs : List Custom) → length (customs_behind id (c ∷ cs)) ≡ cond (nat_eq (place_of c) id) (length (custom_bytes c)) 0 + length (customs_behind id cs)
 behind_step id c cs = by_place (nat_eq (place_of c) id)
   where
-    by_place : (t : Bool) → length (flat_map custom_bytes (cond t (c ∷ filter (λ (d : Custom). nat_eq (place_of d) id) cs) (filter (λ (d : Custom). nat_eq (place_of d) id) cs))) ≡ cond t (length (custom_bytes c)) 0 + length (customs_behind id cs)
+    by_place : (t : Bool) → length (flat_map custom_bytes (cond t (c ∷ filter (λ (d : Custom). nat_eq (place_of d) id) cs) (filter (λ (d : Custom). nat_eq (place_of d) id) cs)))
+        ≡ cond t (length (custom_bytes c)) 0 + length (customs_behind id cs)
     by_place true = length-append (custom_bytes c) (customs_behind id cs)
     by_place false = omega arith
 
@@ -406,7 +420,8 @@ written_short bytes m s =
       ap customs_length i.customs,
       kind_short types_in 1 IsFuncType (section 1 func_type_bytes) types_kind 0 ss at p.1 p.4 m.types r i.types,
       kind_short imports_in 2 IsImport (section 2 import_bytes) imports_kind 0 ss at p.1 p.4 m.imports r i.imports,
-      kind_short sorts_in 3 Same (section 3 shortest) functions_kind 0 ss at p.1 p.4 (map (λ (f : Func). f.sort) m.funcs) r (same_as (flat_map sorts_in ss) (map (λ (f : Func). f.sort) m.funcs) i.sorts),
+      kind_short sorts_in 3 Same (section 3 shortest) functions_kind 0 ss at p.1 p.4 (map (λ (f : Func). f.sort) m.funcs) r
+          (same_as (flat_map sorts_in ss) (map (λ (f : Func). f.sort) m.funcs) i.sorts),
       ap length (mapped_section m.funcs),
       kind_short tables_in 4 Same (section 4 table_bytes) tables_kind 0 ss at p.1 p.4 m.tables r (same_as (flat_map tables_in ss) m.tables i.tables),
       kind_short memories_in 5 Same (section 5 limits_bytes) memories_kind 0 ss at p.1 p.4 m.memories r (same_as (flat_map memories_in ss) m.memories i.memories),

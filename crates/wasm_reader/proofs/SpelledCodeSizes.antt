@@ -21,7 +21,8 @@ pub items_take : {X : Type 0} (f : X → ℕ → List ℕ → Type 0) → ((x : 
 items_take f t [] at a h = omega arith
 items_take f t (x ∷ xs) at a h = omega (arith, length_split a h.0 h.1 h.2, t x at h.0 h.3, items_take f t xs (at + length h.0) h.1 h.4)
 
-pub vector_takes : {X : Type 0} (f : X → ℕ → List ℕ → Type 0) → ((x : X) (at : ℕ) (a : List ℕ) → f x at a → 1 ≤ length a) → (xs : List X) (at : ℕ) (a : List ℕ) → Vector f xs at a → suc (length xs) ≤ length a
+pub vector_takes : {X : Type 0} (f : X → ℕ → List ℕ → Type 0) → ((x : X) (at : ℕ) (a : List ℕ) → f x at a → 1 ≤ length a) → (xs : List X) (at : ℕ) (a : List ℕ) → Vector f xs at a
+    → suc (length xs) ≤ length a
 vector_takes f t xs at a h = omega (arith, length_split a h.0 h.1 h.2, number_takes (length xs) at h.0 h.3, items_take f t xs (at + length h.0) h.1 h.4)
 
 -- the labels of an instruction take no more bytes than its operands
@@ -95,7 +96,8 @@ else_few (plain p rest) = omega arith
 else_few (nest s r b rest) = omega arith
 else_few (branch r a b rest) = omega arith
 
-code_holds : (m : Module) (lists : ℕ) → HaveFewParams m.types → (x : RawCode) (c e : Code) (first_arm : Bool) (at : ℕ) (a : List ℕ) → CodeOf first_arm x at a → IsCode x c e → length a < lists → Holds m lists c e (length a)
+code_holds : (m : Module) (lists : ℕ) → HaveFewParams m.types → (x : RawCode) (c e : Code) (first_arm : Bool) (at : ℕ) (a : List ℕ) → CodeOf first_arm x at a → IsCode x c e
+    → length a < lists → Holds m lists c e (length a)
 unfolding code_items code_params
 code_holds m lists f (ended k) done e first_arm at a h i l =
     subst (λ z. Holds m lists done z (length a)) (sym i)
@@ -171,5 +173,6 @@ code_holds m lists f (branched op t x y) (plain p r) e first_arm at a h i l = ab
 code_holds m lists f (branched op t x y) (nest s r c z) e first_arm at a h i l = absurd i
 
 -- an expression that is spelled in so many bytes
-pub expression_holds : (m : Module) (lists : ℕ) → HaveFewParams m.types → (x : RawCode) (c : Code) (at : ℕ) (a : List ℕ) → CodeOf false x at a → IsCode x c done → length a < lists → Holds m lists c done (length a)
+pub expression_holds : (m : Module) (lists : ℕ) → HaveFewParams m.types → (x : RawCode) (c : Code) (at : ℕ) (a : List ℕ) → CodeOf false x at a → IsCode x c done → length a < lists
+    → Holds m lists c done (length a)
 expression_holds m lists f x c at a h i l = code_holds m lists f x c done false at a h i l

@@ -1,5 +1,6 @@
 -- A module that is spelled within bounds keeps the size rule.
-use Rattle.std.proofs.Common.{◌≡◌, ℕ, zero, suc, ◌+◌, ◌*◌, ◌<◌, ◌≤◌, List, [], ◌∷◌, map, flat_map, length, refl, ap, subst, arith, length-append, All, Option, Some, None, Bool, true, false, cond, nat_lt}
+use Rattle.std.proofs.Common.{◌≡◌, ℕ, zero, suc, ◌+◌, ◌*◌, ◌<◌, ◌≤◌, List, [], ◌∷◌, map, flat_map, length, refl, ap, subst, arith, length-append, All, Option, Some, None, Bool, true, false}
+use Rattle.std.proofs.Common.{cond, nat_lt}
 use Rattle.std.proofs.lemmas.Bool.{ltb-false}
 use Rattle.std.proofs.lemmas.List.Elements.{All-head, All-tail, All-cons, All-append}
 use Rattle.std.proofs.lemmas.List.Sums.{sum_by-cons, count_by-le-length}
@@ -9,9 +10,12 @@ use Rattle.wa_types.specs.declared.syntax.Import.{Import}
 use Rattle.wa_types.specs.declared.syntax.Export.{Export}
 use Rattle.wa_types.specs.declared.syntax.Run.{Run}
 use Rattle.wa_types.specs.Syntax.{FuncType, Func, GlobalDef, Elem, Segment, Module}
-use Rattle.wa_types.specs.Binary.{Placed, RawType, RawImport, RawGlobal, RawElem, RawRun, RawBody, RawSegment, Section, types, imports, functions, tables, memories, globals, exports, elements, bodies, segments}
-use Rattle.wa_types.specs.Spells.{◌▸◌, Exactly, Number, Items, Vector, Sized, Text, ValueType, FunctionType, Maximum, LimitsOf, TableType, ImportOf, GlobalOf, ExportOf, ElementOf, RunOf, BodyOf, SegmentOf, SectionOf, sorts_in, bodies_in}
-use Rattle.wa_types.specs.Reading.{Each, IsValueType, IsFuncType, IsImport, IsGlobal, IsElem, IsRun, IsBody, IsSegment, types_in, imports_in, tables_in, memories_in, globals_in, exports_in, elements_in, segments_in, SpellsModule, IsModule}
+use Rattle.wa_types.specs.Binary.{Placed, RawType, RawImport, RawGlobal, RawElem, RawRun, RawBody, RawSegment, Section, types, imports, functions, tables, memories, globals, exports}
+use Rattle.wa_types.specs.Binary.{elements, bodies, segments}
+use Rattle.wa_types.specs.Spells.{◌▸◌, Exactly, Number, Items, Vector, Sized, Text, ValueType, FunctionType, Maximum, LimitsOf, TableType, ImportOf, GlobalOf, ExportOf, ElementOf, RunOf}
+use Rattle.wa_types.specs.Spells.{BodyOf, SegmentOf, SectionOf, sorts_in, bodies_in}
+use Rattle.wa_types.specs.Reading.{Each, IsValueType, IsFuncType, IsImport, IsGlobal, IsElem, IsRun, IsBody, IsSegment, types_in, imports_in, tables_in, memories_in, globals_in, exports_in}
+use Rattle.wa_types.specs.Reading.{elements_in, segments_in, SpellsModule, IsModule}
 use Rattle.wa_types.specs.Marks.{local_counts, locals_with, params_at, first_above}
 use Rattle.wa_types.specs.Sizes.{params_of_type, is_func, is_table, is_memory, is_global, code_lists, FuncSizes, TypeSizes, ElemSizes, SegmentSizes, MeetsSizes}
 use Rattle.wasm_reader.specs.Locals.{func_locals}
@@ -44,18 +48,21 @@ section_seen n f xs id at a h l =
     seen_vector n f xs (at + length h.0 + length z.0) z.1 z.4.1 (omega (arith, e, d, l))
 
 -- .. and no more of them than bytes
-section_takes : {X : Type 0} (f : X → ℕ → List ℕ → Type 0) → ((x : X) (at : ℕ) (a : List ℕ) → f x at a → 1 ≤ length a) → (xs : List X) (id at : ℕ) (a : List ℕ) → (Exactly (id ∷ []) ▸ Sized (Vector f xs)) at a → length xs ≤ length a
+section_takes : {X : Type 0} (f : X → ℕ → List ℕ → Type 0) → ((x : X) (at : ℕ) (a : List ℕ) → f x at a → 1 ≤ length a) → (xs : List X) (id at : ℕ) (a : List ℕ)
+    → (Exactly (id ∷ []) ▸ Sized (Vector f xs)) at a → length xs ≤ length a
 section_takes f t xs id at a h =
     let z = h.4.1 in
     omega (arith, length_split a h.0 h.1 h.2, length_split h.1 z.0 z.1 z.2, vector_takes f t xs (at + length h.0 + length z.0) z.1 z.4.1)
 
-pub held_seen : (n : ℕ) {X : Type 0} (f : X → ℕ → List ℕ → Type 0) (g : Section → List X) → ((s : Section) (at : ℕ) (a : List ℕ) → SectionOf s at a → length a ≤ n → All (Seen n f) (g s)) → (ss : List Section) (at : ℕ) (a : List ℕ) → Items SectionOf ss at a → length a ≤ n → All (Seen n f) (flat_map g ss)
+pub held_seen : (n : ℕ) {X : Type 0} (f : X → ℕ → List ℕ → Type 0) (g : Section → List X) → ((s : Section) (at : ℕ) (a : List ℕ) → SectionOf s at a → length a ≤ n → All (Seen n f) (g s))
+    → (ss : List Section) (at : ℕ) (a : List ℕ) → Items SectionOf ss at a → length a ≤ n → All (Seen n f) (flat_map g ss)
 held_seen n f g w [] at a h l = none_seen (Seen n f)
 held_seen n f g w (s ∷ ss) at a h l =
     let e = length_split a h.0 h.1 h.2 in
     All-append (Seen n f) (g s) (flat_map g ss) (w s at h.0 h.3 (omega (arith, e, l))) (held_seen n f g w ss (at + length h.0) h.1 h.4 (omega (arith, e, l)))
 
-held_take : {X : Type 0} (g : Section → List X) → ((s : Section) (at : ℕ) (a : List ℕ) → SectionOf s at a → length (g s) ≤ length a) → (ss : List Section) (at : ℕ) (a : List ℕ) → Items SectionOf ss at a → length (flat_map g ss) ≤ length a
+held_take : {X : Type 0} (g : Section → List X) → ((s : Section) (at : ℕ) (a : List ℕ) → SectionOf s at a → length (g s) ≤ length a) → (ss : List Section) (at : ℕ) (a : List ℕ)
+    → Items SectionOf ss at a → length (flat_map g ss) ≤ length a
 held_take g w [] at a h = omega arith
 held_take g w (s ∷ ss) at a h =
     let e = length_split a h.0 h.1 h.2 in
@@ -215,7 +222,8 @@ same_counts (r ∷ rs) (q ∷ qs) h =
     omega (arith, h.0.count, same_counts rs qs h.1, sum_by-cons (λ (r : RawRun). r.count) r rs, sum_by-cons (λ (r : Run). r.count) q qs)
 
 -- the parameters and locals of each function, read and spelled
-same_locals : (ts : List RawType) (us : List FuncType) (bs : List RawBody) (fs : List Func) → Each IsFuncType ts us → Each IsBody bs fs → locals_with ts (map (λ (f : Func). f.sort) fs) bs ≡ map (func_locals us) fs
+same_locals : (ts : List RawType) (us : List FuncType) (bs : List RawBody) (fs : List Func) → Each IsFuncType ts us → Each IsBody bs fs
+    → locals_with ts (map (λ (f : Func). f.sort) fs) bs ≡ map (func_locals us) fs
 same_locals ts us [] [] h e = refl
 same_locals ts us [] (f ∷ fs) h e = absurd e
 same_locals ts us (b ∷ bs) [] h e = absurd e
@@ -226,7 +234,8 @@ same_locals ts us (b ∷ bs) (f ∷ fs) h e =
     cong2 a b c = cc
 
 pub spelled_locals : (ss : List Section) (m : Module) → IsModule ss m → local_counts ss ≡ map (func_locals m.types) m.funcs
-spelled_locals ss m i = subst (λ z. locals_with (flat_map types_in ss) z (flat_map bodies_in ss) ≡ map (func_locals m.types) m.funcs) i.sorts (same_locals (flat_map types_in ss) m.types (flat_map bodies_in ss) m.funcs i.types i.funcs)
+spelled_locals ss m i = subst (λ z. locals_with (flat_map types_in ss) z (flat_map bodies_in ss) ≡ map (func_locals m.types) m.funcs) i.sorts
+    (same_locals (flat_map types_in ss) m.types (flat_map bodies_in ss) m.funcs i.types i.funcs)
 
 -- the parts of a module, each within the size rule
 type_sizes : (n lists : ℕ) → n < lists → (t : RawType) (u : FuncType) → Seen n FunctionType t → IsFuncType t u → TypeSizes lists u
@@ -274,7 +283,8 @@ segment_sizes n lists l m f x y s i =
 abbrev FewBytes : (n most : ℕ) → RawBody → Type 0
 FewBytes n most b = Seen n BodyOf b × (b.size ≤ most)
 
-func_sizes : (n lists items most : ℕ) → n < lists → 1001 * most + 50000 < items → (m : Module) → HaveFewParams m.types → (x : RawBody) (y : Func) → FewBytes n most x → IsBody x y → func_locals m.types y ≤ 50000 → FuncSizes lists items m y
+func_sizes : (n lists items most : ℕ) → n < lists → 1001 * most + 50000 < items → (m : Module) → HaveFewParams m.types → (x : RawBody) (y : Func) → FewBytes n most x → IsBody x y
+    → func_locals m.types y ≤ 50000 → FuncSizes lists items m y
 func_sizes n lists items most l k m f x y s i few =
     let h = s.0.spelled in
     let c = h.4 in
@@ -288,7 +298,8 @@ func_sizes n lists items most l k m f x y s i few =
       total = omega (arith, v.items, v.params, c.0, d, s.1, k, few);
     }
 
-funcs_sizes : (n lists items most : ℕ) → n < lists → 1001 * most + 50000 < items → (m : Module) → HaveFewParams m.types → (xs : List RawBody) (ys : List Func) → All (FewBytes n most) xs → Each IsBody xs ys → All (λ (y : Func). func_locals m.types y ≤ 50000) ys → All (FuncSizes lists items m) ys
+funcs_sizes : (n lists items most : ℕ) → n < lists → 1001 * most + 50000 < items → (m : Module) → HaveFewParams m.types → (xs : List RawBody) (ys : List Func) → All (FewBytes n most) xs
+    → Each IsBody xs ys → All (λ (y : Func). func_locals m.types y ≤ 50000) ys → All (FuncSizes lists items m) ys
 funcs_sizes n lists items most l k m f [] [] s e a = none_seen (FuncSizes lists items m)
 funcs_sizes n lists items most l k m f [] (y ∷ ys) s e a = absurd e
 funcs_sizes n lists items most l k m f (x ∷ xs) [] s e a = absurd e
@@ -302,7 +313,14 @@ func_runs : (n : ℕ) (x : RawBody) (y : Func) → Seen n BodyOf x → IsBody x 
 func_runs n x y s i =
     let h = s.spelled in
     let g = h.4.1 in
-    omega (arith, s.few, length_split s.bytes h.0 h.1 h.2, length_split h.1 g.0 g.1 g.2, each_length IsRun x.locals y.locals i.locals, vector_takes RunOf run_takes x.locals (s.place + length h.0) g.0 g.3)
+    omega (
+      arith,
+      s.few,
+      length_split s.bytes h.0 h.1 h.2,
+      length_split h.1 g.0 g.1 g.2,
+      each_length IsRun x.locals y.locals i.locals,
+      vector_takes RunOf run_takes x.locals (s.place + length h.0) g.0 g.3,
+    )
 
 pub spelled_runs : (bytes : List ℕ) (m : Module) → SpellsModule bytes m → All (λ (y : Func). length y.locals ≤ length bytes) m.funcs
 spelled_runs bytes m s =
@@ -313,7 +331,8 @@ spelled_runs bytes m s =
 
 -- types of few parameters, read and spelled
 few_params : (ts : List RawType) (us : List FuncType) → Each IsFuncType ts us → All (λ (t : RawType). length t.params ≤ 1000) ts → HaveFewParams us
-few_params ts us e a = each_all (λ (t : RawType). length t.params ≤ 1000) IsFuncType (λ (u : FuncType). length u.params ≤ 1000) (λ t u s i. omega (arith, s, each_length IsValueType t.params u.params i.params)) ts us a e
+few_params ts us e a = each_all (λ (t : RawType). length t.params ≤ 1000) IsFuncType (λ (u : FuncType). length u.params ≤ 1000)
+    (λ t u s i. omega (arith, s, each_length IsValueType t.params u.params i.params)) ts us a e
 
 -- What is spelled keeps a size rule: in so few bytes, with few parameters, short bodies and few locals.
 pub spelled_sizes : (lists items most : ℕ) (bytes : List ℕ) (m : Module) (s : SpellsModule bytes m)
@@ -338,17 +357,31 @@ spelled_sizes lists items most bytes m s l k few short locals =
     let funcs_len = each_length IsBody (flat_map bodies_in ss) m.funcs i.funcs in
     record {
       types = omega (arith, n_lists, each_length IsFuncType (flat_map types_in ss) m.types i.types, held_take types_in types_take ss at p.1 p.4);
-      each_type = each_all (Seen n FunctionType) IsFuncType (TypeSizes lists) (type_sizes n lists n_lists) (flat_map types_in ss) m.types (held_seen n FunctionType types_in (types_seen n) ss at p.1 p.4 n_few) i.types;
+      each_type = each_all (Seen n FunctionType) IsFuncType (TypeSizes lists) (type_sizes n lists n_lists) (flat_map types_in ss) m.types
+          (held_seen n FunctionType types_in (types_seen n) ss at p.1 p.4 n_few) i.types;
       imports = omega (arith, n_lists, imports_len, imports_few);
       funcs = omega (arith, e, l, imports_len, imports_few, funcs_len, held_take bodies_in bodies_take ss at p.1 p.4, count_by-le-length (λ (i : Import). is_func i.kind) m.imports);
       tables = omega (arith, e, l, imports_len, imports_few, ap length i.tables, held_take tables_in tables_take ss at p.1 p.4, count_by-le-length (λ (i : Import). is_table i.kind) m.imports);
-      memories = omega (arith, e, l, imports_len, imports_few, ap length i.memories, held_take memories_in memories_take ss at p.1 p.4, count_by-le-length (λ (i : Import). is_memory i.kind) m.imports);
+      memories = omega (
+        arith,
+        e,
+        l,
+        imports_len,
+        imports_few,
+        ap length i.memories,
+        held_take memories_in memories_take ss at p.1 p.4,
+        count_by-le-length (λ (i : Import). is_memory i.kind) m.imports,
+      );
       globals = omega (arith, e, l, imports_len, imports_few, globals_len, held_take globals_in globals_take ss at p.1 p.4, count_by-le-length (λ (i : Import). is_global i.kind) m.imports);
       exports = omega (arith, n_lists, ap length i.exports, held_take exports_in exports_take ss at p.1 p.4);
       elems = omega (arith, n_lists, each_length IsElem (flat_map elements_in ss) m.elems i.elems, held_take elements_in elements_take ss at p.1 p.4);
       segments = omega (arith, n_lists, each_length IsSegment (flat_map segments_in ss) m.segments i.segments, held_take segments_in segments_take ss at p.1 p.4);
-      each_func = funcs_sizes n lists items most n_lists k m f (flat_map bodies_in ss) m.funcs (both_all (Seen n BodyOf) (λ (b : RawBody). b.size ≤ most) (flat_map bodies_in ss) (held_seen n BodyOf bodies_in (bodies_seen n) ss at p.1 p.4 n_few) short) i.funcs locals;
-      each_global = each_all (Seen n GlobalOf) IsGlobal (λ (g : GlobalDef). code_lists lists g.init) (global_sizes n lists n_lists m f) (flat_map globals_in ss) m.globals (held_seen n GlobalOf globals_in (globals_seen n) ss at p.1 p.4 n_few) i.globals;
-      each_elem = each_all (Seen n ElementOf) IsElem (ElemSizes lists) (elem_sizes n lists n_lists m f) (flat_map elements_in ss) m.elems (held_seen n ElementOf elements_in (elements_seen n) ss at p.1 p.4 n_few) i.elems;
-      each_segment = each_all (Seen n SegmentOf) IsSegment (SegmentSizes lists) (segment_sizes n lists n_lists m f) (flat_map segments_in ss) m.segments (held_seen n SegmentOf segments_in (segments_seen n) ss at p.1 p.4 n_few) i.segments;
+      each_func = funcs_sizes n lists items most n_lists k m f (flat_map bodies_in ss) m.funcs
+          (both_all (Seen n BodyOf) (λ (b : RawBody). b.size ≤ most) (flat_map bodies_in ss) (held_seen n BodyOf bodies_in (bodies_seen n) ss at p.1 p.4 n_few) short) i.funcs locals;
+      each_global = each_all (Seen n GlobalOf) IsGlobal (λ (g : GlobalDef). code_lists lists g.init) (global_sizes n lists n_lists m f) (flat_map globals_in ss) m.globals
+          (held_seen n GlobalOf globals_in (globals_seen n) ss at p.1 p.4 n_few) i.globals;
+      each_elem = each_all (Seen n ElementOf) IsElem (ElemSizes lists) (elem_sizes n lists n_lists m f) (flat_map elements_in ss) m.elems
+          (held_seen n ElementOf elements_in (elements_seen n) ss at p.1 p.4 n_few) i.elems;
+      each_segment = each_all (Seen n SegmentOf) IsSegment (SegmentSizes lists) (segment_sizes n lists n_lists m f) (flat_map segments_in ss) m.segments
+          (held_seen n SegmentOf segments_in (segments_seen n) ss at p.1 p.4 n_few) i.segments;
     }

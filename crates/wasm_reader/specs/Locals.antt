@@ -4,6 +4,7 @@ use Rattle.wa_types.specs.declared.syntax.Run.{Run}
 use Rattle.wa_types.specs.Syntax.{FuncType, Func, Module}
 use Rattle.wa_types.specs.Sizes.{params_of_type}
 
+-- the number of locals that runs declare
 abbrev pub counts_of : List Run → ℕ
 counts_of runs = sum_by (λ (r : Run). r.count) runs
 

@@ -8,9 +8,9 @@ use Rattle.wasm_reader.specs.declared.read_fault.ReadFault.{ReadFault}
 use Rattle.wasm_reader.specs.declared.read_fault.ReadFault.TheVariants.{Memory, Malformed, Limit}
 
 -- The items of the bytes have been read as far as they are whole; nothing was where there are none.
-abbrev pub IsGoing : List ℕ → Option Machine → Type 0
-IsGoing bytes None = bytes ≡ []
-IsGoing bytes (Some m) = Waits bytes m.at m.goals
+abbrev pub IsGoing : ModuleBounds → List ℕ → Option Machine → Type 0
+IsGoing b bytes None = bytes ≡ []
+IsGoing b bytes (Some m) = Waits b m.marks bytes m.at m.goals
 
 -- A file that is read in pieces: the bounds, the bytes that have come, and the first fault that they met.
 pub record Reading : Type 0 where
@@ -28,7 +28,7 @@ fed r piece = record r { bytes = r.bytes ++ piece }
 
 -- Before a fault the bytes are within the limit of a file, and have been read.
 abbrev pub KeepsUp : ModuleBounds → List ℕ → Option Machine → Option ReadFault → Type 0
-KeepsUp b bytes m None = (length bytes ≤ b.file) × IsGoing bytes m
+KeepsUp b bytes m None = (length bytes ≤ b.file) × IsGoing b bytes m
 KeepsUp b bytes m (Some fault) = Unit {0}
 
 -- The bytes aren't begun any more: k is the least number of first bytes that aren't.

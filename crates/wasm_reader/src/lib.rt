@@ -1,8 +1,8 @@
 //! Reads modules from bytes (standard, section 5).
 //!
-//! `read` passes over the bytes three times. The machine of `wasm_grammar` finds out whether they are a whole file, and else
-//! where they fail: it holds a stack of goals and never recurses. `wasm_scan` notes the first float, the numbers that
-//! limits bound, and where nesting goes too deep, in a loop over levels. Then `wasm_build` makes the module, entry by entry,
+//! `read` passes over the bytes twice. The machine of `wasm_grammar` finds out whether they are a whole file, and else
+//! where they fail: it holds a stack of goals and never recurses. As it goes it notes the first float, the numbers that
+//! limits bound, and where nesting goes too deep. Then `wasm_build` makes the module, entry by entry,
 //! and goes as deep as its code nests.
 //!
 //! A caller may rely on this: the answer is the module that the bytes spell, within the bounds, or the first reason

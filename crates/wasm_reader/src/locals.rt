@@ -1,3 +1,5 @@
+//! The first function with too many parameters and locals.
+
 ghost use Rattle.std.specs.Prelude.{◌≡◌, ◌<◌, ◌^◌, All, length, map};
 ghost use Rattle.wa_types.specs.declared.syntax.Func.{Func as FuncValue};
 ghost use Rattle.wa_types.specs.View.{func_type_of, module_of};

@@ -8,7 +8,7 @@ ghost use Rattle.wa_types.specs.ModuleBounds.{source_bounds};
 ghost use Rattle.wa_types.specs.Sizes.{SizeRule, StrictSizeRule};
 ghost use Rattle.wa_types.specs.View.{module_of};
 ghost use Rattle.wasm_reader.specs.Answers.{IsAccepted, IsRefused};
-ghost use Rattle.wasm_grammar.specs.Machine.{IsCause};
+ghost use Rattle.wasm_grammar.specs.Machine.{AreMarks, IsCause};
 ghost use Rattle.wasm_reader.specs.Pieces.{IsFeedFault, IsGoing, IsStop, begun_with, fed};
 ghost use Rattle.wasm_reader.specs.declared.read_fault.ReadFault.{ReadFault as FaultValue};
 
@@ -17,7 +17,7 @@ use crate::reader::read_whole;
 use std::alloc::Global;
 use std::marker::Model;
 use wa_types::{Bounds, LimitKind, Module};
-use wasm_grammar::{CheckFault, Machine, check};
+use wasm_grammar::{CheckFault, Machine, Marks, check};
 
 /// Reads a module from a file that comes in pieces, one behind another. The pieces that were fed count as one input. Contracts see the
 /// bounds, the bytes so far, and the first fault that they met.
@@ -69,9 +69,8 @@ impl Reader {
         if let Some(fault) = self.fault {
             return Err(fault);
         }
-        let limit = self.bounds.file();
         let machine = self.machine.take();
-        match take(self.alloc, &mut self.bytes, machine, limit, piece) {
+        match take(self.alloc, &mut self.bytes, machine, &self.bounds, piece) {
             Ok(machine) => {
                 self.machine = Some(machine);
                 Ok(())
@@ -95,8 +94,8 @@ impl Reader {
         if let Some(fault) = self.fault {
             return Err(fault);
         }
-        match whole(self.alloc, &self.bytes, &self.machine) {
-            Ok(()) => read_whole(self.alloc, &self.bytes, &self.bounds),
+        match whole(self.alloc, &self.bytes, &self.machine, &self.bounds) {
+            Ok(marks) => read_whole(self.alloc, &self.bytes, &self.bounds, &marks),
             Err(CheckFault::Memory) => Err(ReadFault::Memory),
             Err(CheckFault::Malformed { at }) => Err(ReadFault::Malformed { at: at as u64 }),
         }
@@ -108,17 +107,18 @@ fn take(
     alloc: Global,
     bytes: &mut Vec<u8>,
     machine: Option<Machine>,
-    limit: u32,
+    bounds: &Bounds,
     piece: &[u8],
 ) -> Result<Machine, ReadFault>
-    requires going { IsGoing bytes.old.items machine }
-    requires few { length bytes.old.items ≤ limit }
+    requires going { IsGoing bounds.now bytes.old.items machine }
+    requires few { length bytes.old.items ≤ bounds.now.file }
     ensures bytes { OnOk result (bytes.new.items ≡ bytes.old.items ++ piece.now) }
-    ensures few { OnOk result (length (bytes.old.items ++ piece.now) ≤ limit) }
-    ensures going { IfOk result (λ m. IsGoing (bytes.old.items ++ piece.now) (Some m)) }
+    ensures few { OnOk result (length (bytes.old.items ++ piece.now) ≤ bounds.now.file) }
+    ensures going { IfOk result (λ m. IsGoing bounds.now (bytes.old.items ++ piece.now) (Some m)) }
     ensures begun { OnOk result (Begun (bytes.old.items ++ piece.now)) }
-    ensures fault { IfErr result (IsFeedFault limit (bytes.old.items ++ piece.now)) }
+    ensures fault { IfErr result (IsFeedFault bounds.now.file (bytes.old.items ++ piece.now)) }
 {
+    let limit = bounds.file();
     if piece.len() > limit as usize - bytes.len() {
         return Err(ReadFault::Limit {
             what: LimitKind::File,
@@ -126,13 +126,18 @@ fn take(
         });
     }
     bytes.extend_from_slice(piece)?;
-    go_on(alloc, machine, bytes)
+    go_on(alloc, machine, bytes, bounds)
 }
 
 // Reads the items that are whole by now, where those of the bytes in front of the last piece have been read.
-fn go_on(alloc: Global, machine: Option<Machine>, bytes: &[u8]) -> Result<Machine, ReadFault>
-    requires { (old : List ℕ) × (piece : List ℕ) × IsGoing old machine × (bytes.now ≡ old ++ piece) }
-    ensures going { IfOk result (λ m. IsGoing bytes.now (Some m)) }
+fn go_on(
+    alloc: Global,
+    machine: Option<Machine>,
+    bytes: &[u8],
+    bounds: &Bounds,
+) -> Result<Machine, ReadFault>
+    requires { (old : List ℕ) × (piece : List ℕ) × IsGoing bounds.now old machine × (bytes.now ≡ old ++ piece) }
+    ensures going { IfOk result (λ m. IsGoing bounds.now bytes.now (Some m)) }
     ensures begun { IfOk result (λ m. Begun bytes.now) }
     ensures fault { IfErr result (IsStop bytes.now) }
 {
@@ -140,21 +145,27 @@ fn go_on(alloc: Global, machine: Option<Machine>, bytes: &[u8]) -> Result<Machin
         Some(machine) => machine,
         None => Machine::new(alloc)?,
     };
-    match machine.feed(alloc, bytes) {
+    match machine.feed(alloc, bytes, bounds) {
         Ok(()) => Ok(machine),
         Err(CheckFault::Memory) => Err(ReadFault::Memory),
         Err(CheckFault::Malformed { at }) => Err(ReadFault::Malformed { at: at as u64 }),
     }
 }
 
-// Whether all bytes that came are a whole file.
-fn whole(alloc: Global, bytes: &[u8], machine: &Option<Machine>) -> Result<(), CheckFault>
-    requires { IsGoing bytes.now machine.now }
-    ensures ok { OnOk result (IsWhole bytes.now) }
+// Whether all bytes that came are a whole file, and what is marked along it.
+fn whole(
+    alloc: Global,
+    bytes: &[u8],
+    machine: &Option<Machine>,
+    bounds: &Bounds,
+) -> Result<Marks, CheckFault>
+    requires { IsGoing bounds.now bytes.now machine.now }
+    ensures ok { IfOk result (λ m. IsWhole bytes.now) }
+    ensures marks { IfOk result (λ m. AreMarks bounds.now bytes.now m) }
     ensures err { IfErr result (IsCause bytes.now) }
 {
     match machine {
-        Some(machine) => machine.finish(bytes),
-        None => check(alloc, bytes),
+        Some(machine) => machine.finish(bytes, bounds),
+        None => check(alloc, bytes, bounds),
     }
 }

@@ -1,3 +1,5 @@
+//! Why no module was read.
+
 use std::alloc::AllocError;
 use thiserror::Error;
 use wa_types::LimitKind;

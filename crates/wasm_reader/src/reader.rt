@@ -1,3 +1,5 @@
+//! A module from the bytes of a whole file, or why it is refused (standard, section 5).
+
 ghost use Rattle.std.specs.Prelude.{◌≡◌, ◌≤◌, ◌⊎◌, ℕ, List, length, IfOk};
 ghost use Rattle.std.specs.Result.{IfErr};
 ghost use Rattle.wa_types.specs.Begun.{IsWhole};
@@ -7,7 +9,8 @@ ghost use Rattle.wa_types.specs.ModuleBounds.{prepared_bounds, source_bounds};
 ghost use Rattle.wa_types.specs.Sizes.{SizeRule, StrictSizeRule};
 ghost use Rattle.wa_types.specs.View.{module_of};
 ghost use Rattle.wasm_reader.specs.Answers.{IsAccepted, IsFile, IsRefused};
-ghost use Rattle.wasm_scan.specs.Found.{MarksOf};
+ghost use Rattle.wasm_grammar.specs.Found.{MarksOf};
+ghost use Rattle.wasm_grammar.specs.Machine.{AreMarks};
 ghost use Rattle.wasm_reader.specs.Marking.{IsJudged};
 
 use crate::locals::locals_above;
@@ -15,8 +18,7 @@ use crate::read_fault::ReadFault;
 use std::alloc::Global;
 use wa_types::{Bounds, LimitKind, Module};
 use wasm_build::{BuildFault, build};
-use wasm_grammar::{CheckFault, check};
-use wasm_scan::{Marks, scan};
+use wasm_grammar::{CheckFault, Marks, check};
 
 /// The module that the bytes spell (standard, section 5), where it has no float and is within the bounds. Any
 /// spelling is accepted, padded numbers too; custom sections are kept unread. Takes time linear in the bytes, and room
@@ -39,28 +41,31 @@ pub fn read(alloc: Global, bytes: &[u8], bounds: &Bounds) -> Result<Module, Read
             found: bounds.file() as u64 + 1,
         });
     }
-    match check(alloc, bytes) {
-        Ok(()) => read_whole(alloc, bytes, bounds),
+    match check(alloc, bytes, bounds) {
+        Ok(marks) => read_whole(alloc, bytes, bounds, &marks),
         Err(CheckFault::Memory) => Err(ReadFault::Memory),
         Err(CheckFault::Malformed { at }) => Err(ReadFault::Malformed { at: at as u64 }),
     }
 }
 
-/// The module of a whole file, or why it is refused.
-pub(crate) fn read_whole(alloc: Global, bytes: &[u8], bounds: &Bounds) -> Result<Module, ReadFault>
+/// The module of a whole file along which this was marked, or why it is refused.
+pub(crate) fn read_whole(
+    alloc: Global,
+    bytes: &[u8],
+    bounds: &Bounds,
+    marks: &Marks,
+) -> Result<Module, ReadFault>
     requires few { length bytes.now ≤ bounds.now.file }
     requires columns { (bounds.now ≡ source_bounds) ⊎ (bounds.now ≡ prepared_bounds) }
     requires whole { IsWhole bytes.now }
+    requires marks { AreMarks bounds.now bytes.now marks.now }
     ensures ok { IfOk result (λ r. IsAccepted bounds.now bytes.now (module_of r)) }
     ensures sizes { IfOk result (λ r. SizeRule (module_of r)) }
     ensures source_sizes { bounds.now ≡ source_bounds → IfOk result (λ r. StrictSizeRule (module_of r)) }
     ensures short { IfOk result (λ r. length (Enc (module_of r)) ≤ length bytes.now) }
     ensures refused { IfErr result (λ fault. IsRefused bounds.now bytes.now fault) }
 {
-    let Ok(marks) = scan(bytes, bounds) else {
-        unreachable!()
-    };
-    if let Some(fault) = judge(&marks, bounds) {
+    if let Some(fault) = judge(marks, bounds) {
         return Err(fault);
     }
     let module = match build(alloc, bytes) {

@@ -41,7 +41,8 @@ unfolding count_of
 count_empty xs i h = ap count_of (code_empty xs i h)
 
 -- an instruction that is no construct
-pub count_other : (x : Instr) → ((r : Option ValType) (v : Vec Instr Global) → x ≡ Block r v → ⊥) → ((r : Option ValType) (v : Vec Instr Global) → x ≡ Loop r v → ⊥) → ((r : Option ValType) (v w : Vec Instr Global) → x ≡ If r v w → ⊥) → 1 ≡ count_of (in_front x done)
+pub count_other : (x : Instr) → ((r : Option ValType) (v : Vec Instr Global) → x ≡ Block r v → ⊥) → ((r : Option ValType) (v : Vec Instr Global) → x ≡ Loop r v → ⊥)
+    → ((r : Option ValType) (v w : Vec Instr Global) → x ≡ If r v w → ⊥) → 1 ≡ count_of (in_front x done)
 unfolding count_of
 count_other x not_block not_loop not_if = elim (kind x) [
   | is_block r v e ↦ absurd (not_block r v e)
@@ -80,7 +81,8 @@ pub depth_empty : (xs : List Instr) (i : ℕ) → length xs ≤ i → depth_of (
 unfolding depth_of
 depth_empty xs i h = ap depth_of (code_empty xs i h)
 
-pub depth_other : (x : Instr) → ((r : Option ValType) (v : Vec Instr Global) → x ≡ Block r v → ⊥) → ((r : Option ValType) (v : Vec Instr Global) → x ≡ Loop r v → ⊥) → ((r : Option ValType) (v w : Vec Instr Global) → x ≡ If r v w → ⊥) → 0 ≡ depth_of (in_front x done)
+pub depth_other : (x : Instr) → ((r : Option ValType) (v : Vec Instr Global) → x ≡ Block r v → ⊥) → ((r : Option ValType) (v : Vec Instr Global) → x ≡ Loop r v → ⊥)
+    → ((r : Option ValType) (v w : Vec Instr Global) → x ≡ If r v w → ⊥) → 0 ≡ depth_of (in_front x done)
 unfolding depth_of
 depth_other x not_block not_loop not_if = elim (kind x) [
   | is_block r v e ↦ absurd (not_block r v e)

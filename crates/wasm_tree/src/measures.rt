@@ -1,3 +1,5 @@
+//! How many instructions a body has, and how deep its constructs nest.
+
 ghost use Rattle.std.specs.Prelude.{◌≡◌, ◌+◌, ◌^◌, ◌<◌};
 ghost use Rattle.wa_types.specs.View.{code, in_front};
 ghost use Rattle.wa_types.specs.Syntax.{done};

@@ -1,3 +1,5 @@
+//! Bodies without the code that can't be reached.
+
 ghost use Rattle.std.specs.Prelude.{◌≡◌, IfOk, true, if◌then◌else◌};
 ghost use Rattle.wa_types.specs.View.{code, in_front};
 ghost use Rattle.wa_types.specs.Syntax.{Code, done};

@@ -3,7 +3,7 @@ pub use Rattle.validate_modules.proofs.Decided
 pub use Rattle.validate_modules.proofs.FuncLemmas
 pub use Rattle.validate_modules.proofs.NameLemmas
 pub use Rattle.validate_modules.proofs.OrderedNames
-pub use Rattle.validate_modules.proofs.Right
+pub use Rattle.validate_modules.proofs.BodyVerdicts
 pub use Rattle.validate_modules.proofs.SpaceLemmas
 pub mod WalkUses
 pub mod Walks

@@ -5,12 +5,15 @@ use Rattle.std.specs.declared.alloc.Global.{Global}
 use Rattle.wa_types.specs.declared.values.ValType.{ValType}
 use Rattle.wa_types.specs.declared.values.ValType.TheVariants.{I32}
 use Rattle.wa_types.specs.declared.instrs.Instr.{Instr}
-use Rattle.wa_types.specs.declared.instrs.Instr.TheVariants.{Unreachable, Nop, Drop, Select, Return, MemorySize, MemoryGrow, Const, Num, Br, BrIf, BrTable, Call, CallIndirect, LocalGet, LocalSet, LocalTee, GlobalGet, GlobalSet, Load, Store, Block, Loop, If, Block', Loop', If'}
+use Rattle.wa_types.specs.declared.instrs.Instr.TheVariants.{Unreachable, Nop, Drop, Select, Return, MemorySize, MemoryGrow, Const, Num, Br, BrIf, BrTable, Call, CallIndirect, LocalGet}
+use Rattle.wa_types.specs.declared.instrs.Instr.TheVariants.{LocalSet, LocalTee, GlobalGet, GlobalSet, Load, Store, Block, Loop, If, Block', Loop', If'}
 use Rattle.wa_types.specs.Accesses.{AccessRow, load_row, store_row}
-use Rattle.wa_types.specs.Syntax.{Basic, nop, drop as drop_operand, select, const, num, global_get, global_set, load, store, memory_size, memory_grow, Plain, basic, local_get, local_set, local_tee, br, br_if, br_table, return, unreachable, call, call_indirect, Shape, a_block, a_loop, Code, done, plain, nest, branch, FuncType}
+use Rattle.wa_types.specs.Syntax.{Basic, nop, drop as drop_operand, select, const, num, global_get, global_set, load, store, memory_size, memory_grow, Plain, basic, local_get, local_set}
+use Rattle.wa_types.specs.Syntax.{local_tee, br, br_if, br_table, return, unreachable, call, call_indirect, Shape, a_block, a_loop, Code, done, plain, nest, branch, FuncType}
 use Rattle.wa_types.specs.View.{in_front, code}
 use Rattle.wa_types.specs.Pruned.{is_last, is_last_instr}
-use Rattle.wa_types.specs.Typing.{GlobalType, Around, Sig, moves, leaves, drops, selects, lacks, late, listed, sig, basic_sig, may_jump, calls, calls_at, gets, sets, tees, gets_global, sets_global, accesses, loads, stores, with_memory, Takes, label, Types}
+use Rattle.wa_types.specs.Typing.{GlobalType, Around, Sig, moves, leaves, drops, selects, lacks, late, listed, sig, basic_sig, may_jump, calls, calls_at, gets, sets, tees, gets_global}
+use Rattle.wa_types.specs.Typing.{sets_global, accesses, loads, stores, with_memory, Takes, label, Types}
 use Rattle.wa_types.proofs.ViewLemmas.{in_block, in_loop, in_if, code_step}
 use Rattle.validate_modules.specs.Table.{plain_of}
 use Rattle.wa_types.specs.Syntax.{Func, Module}
@@ -147,11 +150,13 @@ abbrev pub TypedOn : Around → List (Option ValType) → Code → List ValType 
 TypedOn c ls k ops = (outs : List ValType) × Types c ls k outs ops
 
 -- What lies behind an instruction is typed from the operands that the walk gives there.
-pub nest_once : (c : Around) (ls : List (Option ValType)) (s : Shape) (r : Option ValType) (k rest : Code) (outs ops new : List ValType) → Types c ls (nest s r k rest) outs ops → Types c ls (nest s r k done) new ops → Types c ls rest outs new
+pub nest_once : (c : Around) (ls : List (Option ValType)) (s : Shape) (r : Option ValType) (k rest : Code) (outs ops new : List ValType) → Types c ls (nest s r k rest) outs ops
+    → Types c ls (nest s r k done) new ops → Types c ls rest outs new
 unfolding Types
 nest_once c ls s r k rest outs ops new h w = subst (Types c ls rest outs) w.1 h.1
 
-pub branch_once : (c : Around) (ls : List (Option ValType)) (r : Option ValType) (a b rest : Code) (outs ops new : List ValType) → Types c ls (branch r a b rest) outs ops → Types c ls (branch r a b done) new ops → Types c ls rest outs new
+pub branch_once : (c : Around) (ls : List (Option ValType)) (r : Option ValType) (a b rest : Code) (outs ops new : List ValType) → Types c ls (branch r a b rest) outs ops
+    → Types c ls (branch r a b done) new ops → Types c ls rest outs new
 unfolding Types
 branch_once c ls r a b rest outs ops new h w =
     let e : h.0 ≡ w.0 = (let f : I32 ∷ h.0 ≡ I32 ∷ w.0 = sym h.1 ∙ w.1 in cc) in
@@ -169,15 +174,18 @@ takes_once selects ins a b p h w = let f : I32 ∷ h.0 ∷ h.0 ∷ h.1 ≡ I32 �
 takes_once (lacks r) ins a b p h w = absurd h
 takes_once (late r ps rs) ins a b p h w = absurd h
 
-pub plain_once : (c : Around) (ls : List (Option ValType)) (p : Plain) (rest : Code) (outs ops new : List ValType) → Passes (sig c ls p) → Types c ls (plain p rest) outs ops → Types c ls (plain p done) new ops → Types c ls rest outs new
+pub plain_once : (c : Around) (ls : List (Option ValType)) (p : Plain) (rest : Code) (outs ops new : List ValType) → Passes (sig c ls p) → Types c ls (plain p rest) outs ops
+    → Types c ls (plain p done) new ops → Types c ls rest outs new
 unfolding Types
 plain_once c ls p rest outs ops new a h w = subst (Types c ls rest outs) (takes_once (sig c ls p) ops h.0 new a h.1 (subst (Takes (sig c ls p) ops) w.2 w.1)) h.2
 
-nest_alone : (c : Around) (ls : List (Option ValType)) (s : Shape) (r : Option ValType) (k rest : Code) (outs ops : List ValType) → Types c ls (nest s r k rest) outs ops → TypedOn c ls (nest s r k done) ops
+nest_alone : (c : Around) (ls : List (Option ValType)) (s : Shape) (r : Option ValType) (k rest : Code) (outs ops : List ValType) → Types c ls (nest s r k rest) outs ops
+    → TypedOn c ls (nest s r k done) ops
 unfolding Types
 nest_alone c ls s r k rest outs ops h = (listed r ++ ops, (h.0, refl))
 
-branch_alone : (c : Around) (ls : List (Option ValType)) (r : Option ValType) (a b rest : Code) (outs ops : List ValType) → Types c ls (branch r a b rest) outs ops → TypedOn c ls (branch r a b done) ops
+branch_alone : (c : Around) (ls : List (Option ValType)) (r : Option ValType) (a b rest : Code) (outs ops : List ValType) → Types c ls (branch r a b rest) outs ops
+    → TypedOn c ls (branch r a b done) ops
 unfolding Types
 branch_alone c ls r a b rest outs ops h = (listed r ++ h.0, (h.0, h.1, h.2, h.3, refl))
 
@@ -185,11 +193,13 @@ plain_alone : (c : Around) (ls : List (Option ValType)) (p : Plain) (rest : Code
 unfolding Types
 plain_alone c ls p rest outs ops h = (h.0, (h.0, h.1, refl))
 
-nest_body : (c : Around) (ls : List (Option ValType)) (s : Shape) (r : Option ValType) (k rest : Code) (outs ops : List ValType) → Types c ls (nest s r k rest) outs ops → TypedOn c (label s r ∷ ls) k []
+nest_body : (c : Around) (ls : List (Option ValType)) (s : Shape) (r : Option ValType) (k rest : Code) (outs ops : List ValType) → Types c ls (nest s r k rest) outs ops
+    → TypedOn c (label s r ∷ ls) k []
 unfolding Types
 nest_body c ls s r k rest outs ops h = (listed r, h.0)
 
-branch_arms : (c : Around) (ls : List (Option ValType)) (r : Option ValType) (a b rest : Code) (outs ops : List ValType) → Types c ls (branch r a b rest) outs ops → TypedOn c (r ∷ ls) a [] × TypedOn c (r ∷ ls) b []
+branch_arms : (c : Around) (ls : List (Option ValType)) (r : Option ValType) (a b rest : Code) (outs ops : List ValType) → Types c ls (branch r a b rest) outs ops
+    → TypedOn c (r ∷ ls) a [] × TypedOn c (r ∷ ls) b []
 unfolding Types
 branch_arms c ls r a b rest outs ops h = ((listed r, h.2), (listed r, h.3))
 
@@ -231,7 +241,8 @@ module _ (c : Around) (ls : List (Option ValType)) (x : Instr) (rest : Code) (op
       let both = branch_arms c ls r (code v.items) (code w.items) rest h.0 ops (subst (λ (k : Code). Types c ls k h.0 ops) (ap (λ y. in_front y rest) e ∙ in_if r v w rest) h.1) in
       (subst (λ (z : List Instr). TypedOn c (r ∷ ls) (code z) []) (sym f) both.0, subst (λ (z : List Instr). TypedOn c (r ∷ ls) (code z) []) (sym g) both.1)
 
-pub typed_step : (c : Around) (ls : List (Option ValType)) (xs : List Instr) (i : ℕ) (x : Instr) (ops : List ValType) → i < length xs → x ≡ get_or xs i x → TypedOn c ls (code (drop i xs)) ops → TypedOn c ls (in_front x (code (drop (i + 1) xs))) ops
+pub typed_step : (c : Around) (ls : List (Option ValType)) (xs : List Instr) (i : ℕ) (x : Instr) (ops : List ValType) → i < length xs → x ≡ get_or xs i x
+    → TypedOn c ls (code (drop i xs)) ops → TypedOn c ls (in_front x (code (drop (i + 1) xs))) ops
 typed_step c ls xs i x ops h e t = subst (λ (k : Code). TypedOn c ls k ops) (code_step xs i x h e) t
 
 -- of walks: where one stands behind an instruction

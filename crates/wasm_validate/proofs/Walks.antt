@@ -1,5 +1,6 @@
 -- The types on a walk.
-use Rattle.std.proofs.Common.{arith, ◌≡◌, ℕ, zero, suc, ◌+◌, ◌-◌, ◌≤◌, ◌++◌, length, take, drop, reverse, List, [], ◌∷◌, Option, Some, None, Bool, true, false, if◌then◌else◌, refl, ap, sym, ◌∙◌, subst, length-drop, length-append, slice_get}
+use Rattle.std.proofs.Common.{arith, ◌≡◌, ℕ, zero, suc, ◌+◌, ◌-◌, ◌≤◌, ◌++◌, length, take, drop, reverse, List, [], ◌∷◌, Option, Some, None, Bool, true, false, if◌then◌else◌, refl, ap, sym}
+use Rattle.std.proofs.Common.{◌∙◌, subst, length-drop, length-append, slice_get}
 use Rattle.std.proofs.lemmas.List.{length-take-le, length-reverse, reverse-append, take-append-drop, take-append-le, drop-append-le, drop-take, drop_all, take_all, reverse-reverse}
 use Rattle.std.proofs.Math.Seq.{drop-append_seam, take-append_seam}
 use Rattle.std.proofs.Common.{Result, Ok, Err}
@@ -9,7 +10,8 @@ use Rattle.std.specs.declared.alloc.Global.{Global}
 use Rattle.wa_types.specs.declared.values.ValType.{ValType}
 use Rattle.wa_types.specs.declared.values.ValType.TheVariants.{I32}
 use Rattle.wa_types.specs.declared.instrs.Instr.{Instr}
-use Rattle.wa_types.specs.declared.instrs.Instr.TheVariants.{Unreachable, Nop, Drop, Select, Return, MemorySize, MemoryGrow, Const, Num, Br, BrIf, BrTable, Call, CallIndirect, LocalGet, LocalSet, LocalTee, GlobalGet, GlobalSet, Load, Store, Block, Loop, If, Block', Loop', If'}
+use Rattle.wa_types.specs.declared.instrs.Instr.TheVariants.{Unreachable, Nop, Drop, Select, Return, MemorySize, MemoryGrow, Const, Num, Br, BrIf, BrTable, Call, CallIndirect, LocalGet}
+use Rattle.wa_types.specs.declared.instrs.Instr.TheVariants.{LocalSet, LocalTee, GlobalGet, GlobalSet, Load, Store, Block, Loop, If, Block', Loop', If'}
 use Rattle.wa_types.specs.Syntax.{Plain, Shape, a_block, a_loop, Code, done, plain, nest, branch}
 use Rattle.wa_types.specs.View.{in_front, code}
 use Rattle.wa_types.specs.Typing.{Around, Types, sig, listed, Sig, moves, leaves, drops, selects, Takes}
@@ -121,7 +123,8 @@ module _ (c : Around) (ls : List (Option ValType)) (x : Instr) (ops : List ValTy
       (subst (λ (t : List ValType). Types c ls (nest a_loop r (code v.items) done) t ops) (sym (f ∙ ap (λ z. z ++ ops) (reverse_listed r)))
       (walk_nest c ls h.0 ops a_loop r (code v.items) (subst (λ (k : Code). Types c ls k h.0 ops) g h.1)))
 
-  pub at_if : (r : Option ValType) (v w : Vec Instr Global) → x ≡ If r v w → (below : List ValType) × (ops ≡ I32 ∷ below) × Types c ls (branch r (code v.items) (code w.items) done) (listed r ++ below) ops
+  pub at_if : (r : Option ValType) (v w : Vec Instr Global) → x ≡ If r v w → (below : List ValType) × (ops ≡ I32 ∷ below)
+      × Types c ls (branch r (code v.items) (code w.items) done) (listed r ++ below) ops
   at_if r v w e = walk_branch c ls h.0 ops r (code v.items) (code w.items) (subst (λ (k : Code). Types c ls k h.0 ops) (ap (λ y. in_front y done) e ∙ in_if r v w done) h.1)
 
   pub walk_if : (r : Option ValType) (v w : Vec Instr Global) (mid new : List ValType) → x ≡ If r v w → mid ≡ drop 1 ops → new ≡ reverse (listed r) ++ mid → Types c ls (in_front x done) new ops
@@ -129,12 +132,14 @@ module _ (c : Around) (ls : List (Option ValType)) (x : Instr) (ops : List ValTy
       let g : in_front x done ≡ branch r (code v.items) (code w.items) done = ap (λ y. in_front y done) e ∙ in_if r v w done in
       let k = at_if r v w e in
       subst (λ (k : Code). Types c ls k new ops) (sym g)
-      (subst (λ (t : List ValType). Types c ls (branch r (code v.items) (code w.items) done) t ops) (sym (f ∙ ap (λ z. z ++ mid) (reverse_listed r) ∙ ap (λ z. listed r ++ z) (m ∙ ap (drop 1) k.1))) k.2)
+      (subst (λ (t : List ValType). Types c ls (branch r (code v.items) (code w.items) done) t ops)
+      (sym (f ∙ ap (λ z. z ++ mid) (reverse_listed r) ∙ ap (λ z. listed r ++ z) (m ∙ ap (drop 1) k.1))) k.2)
 
   pub room_if : (b : ℕ) (xs : List ValType) (r : Option ValType) (v w : Vec Instr Global) → ops ≡ own_at b xs → x ≡ If r v w → b + 1 ≤ length xs
   room_if b xs r v w o e = let k = at_if r v w e in room_tested b xs k.0 (sym o ∙ k.1)
 
-  module _ (not_block : (r : Option ValType) (v : Vec Instr Global) → x ≡ Block r v → ⊥) (not_loop : (r : Option ValType) (v : Vec Instr Global) → x ≡ Loop r v → ⊥) (not_if : (r : Option ValType) (v w : Vec Instr Global) → x ≡ If r v w → ⊥) (s : D.Asks) (says : Says (plain_of x) (λ p. sig_of s ≡ sig c ls p)) where
+  module _ (not_block : (r : Option ValType) (v : Vec Instr Global) → x ≡ Block r v → ⊥) (not_loop : (r : Option ValType) (v : Vec Instr Global) → x ≡ Loop r v → ⊥)
+      (not_if : (r : Option ValType) (v w : Vec Instr Global) → x ≡ If r v w → ⊥) (s : D.Asks) (says : Says (plain_of x) (λ p. sig_of s ≡ sig c ls p)) where
     pub can_walk : CanTake (sig_of s) ops
     can_walk = elim (kind x) [
       | is_block r v e ↦ absurd (not_block r v e)
@@ -179,13 +184,16 @@ pub ruleset whole = (all_types, all_types)
 pub ruleset entering = (own_none, under_taken)
 
 module _ (v w : Walk) (x : Instr) where
-  pub inside_block : (r : Option ValType) (u : Vec Instr Global) → x ≡ Block r u → w ≡ record { around = v.around; labels = r ∷ v.labels; own = []; under = v.own ++ v.under } → Inside v (in_front x done) w
+  pub inside_block : (r : Option ValType) (u : Vec Instr Global) → x ≡ Block r u → w ≡ record { around = v.around; labels = r ∷ v.labels; own = []; under = v.own ++ v.under }
+      → Inside v (in_front x done) w
   inside_block r u e h = subst (λ (k : Code). Inside v k w) (sym (ap (λ y. in_front y done) e ∙ in_block r u done)) h
 
-  pub inside_loop : (r : Option ValType) (u : Vec Instr Global) → x ≡ Loop r u → w ≡ record { around = v.around; labels = None ∷ v.labels; own = []; under = v.own ++ v.under } → Inside v (in_front x done) w
+  pub inside_loop : (r : Option ValType) (u : Vec Instr Global) → x ≡ Loop r u → w ≡ record { around = v.around; labels = None ∷ v.labels; own = []; under = v.own ++ v.under }
+      → Inside v (in_front x done) w
   inside_loop r u e h = subst (λ (k : Code). Inside v k w) (sym (ap (λ y. in_front y done) e ∙ in_loop r u done)) h
 
-  pub inside_if : (r : Option ValType) (u t : Vec Instr Global) → x ≡ If r u t → w ≡ record { around = v.around; labels = r ∷ v.labels; own = []; under = drop 1 v.own ++ v.under } → Inside v (in_front x done) w
+  pub inside_if : (r : Option ValType) (u t : Vec Instr Global) → x ≡ If r u t → w ≡ record { around = v.around; labels = r ∷ v.labels; own = []; under = drop 1 v.own ++ v.under }
+      → Inside v (in_front x done) w
   inside_if r u t e h = subst (λ (k : Code). Inside v k w) (sym (ap (λ y. in_front y done) e ∙ in_if r u t done)) h
 
 pub but_topmost : (xs : List ValType) (n : ℕ) → 1 ≤ length xs → n ≡ length xs - 1 → reverse (take n xs) ≡ drop 1 (reverse xs)
@@ -218,7 +226,8 @@ leaf_plain (Block' r s b) p e = absurd (cc)
 leaf_plain (Loop' r s b) p e = absurd (cc)
 leaf_plain (If' r s a t b) p e = absurd (cc)
 
-pub no_other : (x : Instr) → ((r : Option ValType) (v : Vec Instr Global) → x ≡ Block r v → ⊥) → ((r : Option ValType) (v : Vec Instr Global) → x ≡ Loop r v → ⊥) → ((r : Option ValType) (v w : Vec Instr Global) → x ≡ If r v w → ⊥) → is_leaf x ≡ false → ⊥
+pub no_other : (x : Instr) → ((r : Option ValType) (v : Vec Instr Global) → x ≡ Block r v → ⊥) → ((r : Option ValType) (v : Vec Instr Global) → x ≡ Loop r v → ⊥)
+    → ((r : Option ValType) (v w : Vec Instr Global) → x ≡ If r v w → ⊥) → is_leaf x ≡ false → ⊥
 no_other x not_block not_loop not_if h = elim (kind x) [
   | is_block r v e ↦ not_block r v e
   | is_loop r v e ↦ not_loop r v e
@@ -227,7 +236,8 @@ no_other x not_block not_loop not_if h = elim (kind x) [
 ]
 
 module _ (m : ModuleValue) (func : ℕ) (ls : List (Option ValType)) (ts : List ValType) (base : ℕ) (v : Walk) (e : standing m func ls ts base ≡ v) where
-  pub enter_is : (ls' : List (Option ValType)) (l : Option ValType) (xs below : List ValType) → ls' ≡ ls ++ l ∷ [] → xs ≡ below → standing m func ls' xs (length below) ≡ record { around = v.around; labels = l ∷ v.labels; own = []; under = reverse below }
+  pub enter_is : (ls' : List (Option ValType)) (l : Option ValType) (xs below : List ValType) → ls' ≡ ls ++ l ∷ [] → xs ≡ below
+      → standing m func ls' xs (length below) ≡ record { around = v.around; labels = l ∷ v.labels; own = []; under = reverse below }
   enter_is ls' l xs below f g =
       let lab : reverse ls' ≡ l ∷ v.labels = ap reverse f ∙ reverse-append ls (l ∷ []) ∙ ap (λ (w : Walk). l ∷ w.labels) e in
       let here : own_at (length below) xs ≡ [] = ap (own_at (length below)) g ∙ own_none (length below) below (omega arith) in
@@ -277,7 +287,8 @@ lower b us le =
     ap (λ k. drop k (reverse us)) n ∙ ap (drop (length a)) e ∙ drop-append_seam a c
 
 module _ (m : ModuleValue) (func : ℕ) (ls : List (Option ValType)) (ts : List ValType) (base : ℕ) (v : Walk) (e : standing m func ls ts base ≡ v) (deep : base ≤ length ts) where
-  pub entered_is : (ls' : List (Option ValType)) (l : Option ValType) (xs below : List ValType) (b : ℕ) → ls' ≡ ls ++ l ∷ [] → xs ≡ below → b ≡ length below → standing m func ls' xs b ≡ record { around = v.around; labels = l ∷ v.labels; own = []; under = reverse below }
+  pub entered_is : (ls' : List (Option ValType)) (l : Option ValType) (xs below : List ValType) (b : ℕ) → ls' ≡ ls ++ l ∷ [] → xs ≡ below → b ≡ length below
+      → standing m func ls' xs b ≡ record { around = v.around; labels = l ∷ v.labels; own = []; under = reverse below }
   entered_is ls' l xs below b f g h = ap (standing m func ls' xs) h ∙ enter_is m func ls ts base v e ls' l xs below f g
 
   pub restarted_is : (xs : List ValType) → xs ≡ take base ts → standing m func ls xs base ≡ record { around = v.around; labels = v.labels; own = []; under = v.under }
@@ -294,13 +305,15 @@ module _ (m : ModuleValue) (func : ℕ) (ls : List (Option ValType)) (ts : List 
   pub left_deep : (us xs rs : List ValType) (b : ℕ) → us ≡ take base ts → xs ≡ us ++ rs → b ≤ length v.under → b ≤ length xs
   left_deep us xs rs b hu hx le = omega (arith, ap length (under_is ∙ ap reverse (sym hu)), length-reverse us, ap length hx, length-append us rs)
 
-  pub left_is : (ls' : List (Option ValType)) (r : Option ValType) (us xs rs : List ValType) (b : ℕ) → reverse ls' ≡ drop 1 (reverse ls) → us ≡ take base ts → rs ≡ listed r → xs ≡ us ++ rs → b ≤ length v.under → standing m func ls' xs b ≡ left_at r b v
+  pub left_is : (ls' : List (Option ValType)) (r : Option ValType) (us xs rs : List ValType) (b : ℕ) → reverse ls' ≡ drop 1 (reverse ls) → us ≡ take base ts → rs ≡ listed r → xs ≡ us ++ rs
+      → b ≤ length v.under → standing m func ls' xs b ≡ left_at r b v
   unfolding own_at under_at
   left_is ls' r us xs rs b f hu hr hx le =
       let u : v.under ≡ reverse us = under_is ∙ ap reverse (sym hu) in
       let lb : b ≤ length us = omega (arith, ap length u, length-reverse us) in
       let own : reverse (drop b xs) ≡ listed r ++ take (length v.under - b) v.under =
-      ap (λ z. reverse (drop b z)) hx ∙ ap reverse (drop-append-le b us rs lb) ∙ reverse-append (drop b us) rs ∙ ap (λ z. reverse z ++ reverse (drop b us)) hr ∙ ap (λ z. z ++ reverse (drop b us)) (reverse_listed r)
+      ap (λ z. reverse (drop b z)) hx ∙ ap reverse (drop-append-le b us rs lb) ∙ reverse-append (drop b us) rs ∙ ap (λ z. reverse z ++ reverse (drop b us)) hr
+      ∙ ap (λ z. z ++ reverse (drop b us)) (reverse_listed r)
       ∙ ap (λ z. listed r ++ z) (sym (upper b us lb) ∙ ap (λ z. take (length z - b) z) (sym u)) in
       let kept : take b xs ≡ take b us = ap (take b) hx ∙ take-append-le b us rs lb in
       let under : reverse (take b xs) ≡ drop (length v.under - b) v.under = ap reverse kept ∙ sym (lower b us lb) ∙ ap (λ z. drop (length z - b) z) (sym u) in
@@ -314,7 +327,8 @@ popped n (l ∷ ls) new h e =
     let one : length (reverse (l ∷ ls)) - (n - 1) ≡ 1 = omega (arith, length-reverse (l ∷ ls)) in
     ap reverse e ∙ sym (lower (n - 1) (l ∷ ls) (omega arith)) ∙ ap (λ k. drop k (reverse (l ∷ ls))) one
 
-pub start_is : (m : ModuleValue) (func : ℕ) (ls : List (Option ValType)) (r : Option ValType) (xs : List ValType) (f : Func) → slice_get (module_of m).funcs func ≡ Some f → ls ≡ [] ++ r ∷ [] → r ≡ (around (module_of m) f).result → xs ≡ [] → standing m func ls xs 0 ≡ outset (around (module_of m) f)
+pub start_is : (m : ModuleValue) (func : ℕ) (ls : List (Option ValType)) (r : Option ValType) (xs : List ValType) (f : Func) → slice_get (module_of m).funcs func ≡ Some f
+    → ls ≡ [] ++ r ∷ [] → r ≡ (around (module_of m) f).result → xs ≡ [] → standing m func ls xs 0 ≡ outset (around (module_of m) f)
 start_is m func ls r xs f g e s h =
     let a : around_or (module_of m) (slice_get (module_of m).funcs func) ≡ around (module_of m) f = ap (around_or (module_of m)) g in
     let lab : reverse ls ≡ (around (module_of m) f).result ∷ [] = ap reverse e ∙ ap (λ z. z ∷ []) s in
@@ -322,7 +336,8 @@ start_is m func ls r xs f g e s h =
     let there : under_at 0 xs ≡ [] = ap (under_at 0) h ∙ under_taken 0 [] (omega arith) in
     (λ j. record { around = a j; labels = lab j; own = here j; under = there j })
 
-pub says_at : (a b : Around) (ls ks : List (Option ValType)) (x : Instr) (s : D.Asks) → a ≡ b → ls ≡ ks → Says (plain_of x) (λ p. sig_of s ≡ sig a ls p) → Says (plain_of x) (λ p. sig_of s ≡ sig b ks p)
+pub says_at : (a b : Around) (ls ks : List (Option ValType)) (x : Instr) (s : D.Asks) → a ≡ b → ls ≡ ks → Says (plain_of x) (λ p. sig_of s ≡ sig a ls p)
+    → Says (plain_of x) (λ p. sig_of s ≡ sig b ks p)
 says_at a b ls ks x s e f h =
     subst (λ (z : Around). Says (plain_of x) (λ p. sig_of s ≡ sig z ks p)) e (subst (λ (z : List (Option ValType)). Says (plain_of x) (λ p. sig_of s ≡ sig a z p)) f h)
 

@@ -1,3 +1,5 @@
+//! A walk of operand types over the pruned body of a function of a valid module (standard, section 3.3).
+
 ghost use Rattle.std.specs.Prelude.{◌≡◌, ◌+◌, ◌≤◌, [], ◌∷◌, ◌++◌, drop, false, length, reverse, slice_get, take, None, Some, IfOk, IsOk, MatchOption, OnErr, OnOk};
 ghost use Rattle.std.specs.Vec.{vec_capacity, vec_len};
 ghost use Rattle.wa_types.specs.Modules.{around, defined_at};

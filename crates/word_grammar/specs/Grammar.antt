@@ -11,6 +11,7 @@ use Rattle.wa_model.specs.Spelled.{Spelled, rewrites, hosts, runs, number_and_fi
 pub data Kind : Type 0 where
   transform_words host_words run_words gen_words : Kind
 
+-- a command's first word
 abbrev pub name_of : Kind → Text
 name_of transform_words = codes "transform"
 name_of host_words = codes "host"
@@ -23,6 +24,7 @@ name_of gen_words = codes "gen"
 abbrev pub option_rule : Text → Rule
 option_rule name = record (new_rule name) { long = Some name }
 
+-- an option without a value
 abbrev pub flag_rule : Text → Rule
 flag_rule name = record (new_rule name) { long = Some name; action = Some SetTrue }
 
@@ -30,6 +32,7 @@ flag_rule name = record (new_rule name) { long = Some name; action = Some SetTru
 abbrev pub placed_rule : Text → Rule
 placed_rule id = record (new_rule id) { required = true }
 
+-- the arguments of each command
 abbrev pub arguments : Kind → List Rule
 arguments transform_words =
     option_rule (codes "imports") ∷ flag_rule (codes "ignore-imports") ∷ flag_rule (codes "ignore-indirect")
@@ -40,6 +43,7 @@ arguments gen_words = placed_rule (codes "number") ∷ placed_rule (codes "outpu
 
 -- ---- the commands, as they are made
 
+-- a command
 abbrev pub command_shape : Kind → Shape
 command_shape k = record (new_shape (name_of k)) { rules = arguments k }
 
@@ -52,6 +56,7 @@ line_shape = record (new_shape (codes "asyncify")) {
   subcommand_required = true;
 }
 
+-- the line with its four commands
 abbrev pub line : App
 line =
     with_subcommand (with_subcommand (with_subcommand (with_subcommand (record { top = line_shape; subs = [] }) (command_shape transform_words))
@@ -59,9 +64,11 @@ line =
 
 -- ---- the same, built
 
+-- the arguments of a command, with their places
 abbrev pub rules : Kind → List Rule
 rules k = filled_from 1 (arguments k)
 
+-- a command, built
 abbrev pub shape : Kind → Shape
 shape k = record (command_shape k) {
   rules = rules k;
@@ -73,6 +80,7 @@ shape k = record (command_shape k) {
 
 -- ---- what the matches say
 
+-- a flag's value is that it was given
 abbrev pub is_true : Option Text → Bool
 is_true None = false
 is_true (Some text) = bytes_eq text (codes "true")
@@ -85,6 +93,7 @@ flag_of id rows = is_true (one_of id rows)
 abbrev pub TellsFlag : Text → List Row → Type 0
 TellsFlag id rows = (one_of id rows ≡ Some (codes "true")) ⊎ (one_of id rows ≡ Some (codes "false"))
 
+-- The matches of a command tell it of each of its flags.
 abbrev pub TellsFlags : Kind → List Row → Type 0
 TellsFlags transform_words rows = TellsFlag (codes "ignore-imports") rows × TellsFlag (codes "ignore-indirect") rows
 TellsFlags _ rows = Unit {0}

@@ -23,5 +23,6 @@ where_func (Some sort) device = Some device
 abbrev pub bound_imports : List Import → List BindText → List (Option (List ℕ))
 bound_imports imports binds = filter_map (λ (i : Import). where_func (imported_func i.kind) (last_device (joined_name i) binds)) imports
 
+-- the same of a module
 abbrev pub bindings : Module → List BindText → List (Option (List ℕ))
 bindings p binds = bound_imports p.imports binds

@@ -17,6 +17,7 @@ abbrev pub shows_from : ℕ → List Staged → List Show
 shows_from number [] = []
 shows_from number (s ∷ ss) = map (show_at number) s.shows.items ++ shows_from (suc number) ss
 
+-- The programs, the names of their lines, and what is shown behind their ends, in order.
 pub record AreParted (staged : List Staged) (x : Parted) : Type 0 where
   pub programs : x.programs.items ≡ map (λ (s : Staged). s.program) staged
   pub names : x.names.items ≡ map (λ (s : Staged). s.names) staged

@@ -49,6 +49,7 @@ pub record Part : Type 0 where
   pub text : ProgramText
   pub given : SetUp
 
+-- a program of a script by these
 abbrev pub part : Module → Option (List Bool) → ProgramText → SetUp → Part
 part p listed t s = record { source = p; listed = listed; text = t; given = s }
 
@@ -56,7 +57,7 @@ part p listed t s = record { source = p; listed = listed; text = t; given = s }
 abbrev pub look_at : ShowText → Look
 look_at s = record { at = s.at; len = s.len }
 
--- the program of a world that it is, and the names of its lines
+-- the program of a world that it is
 abbrev pub world_program : Part → Program
 world_program x = record {
   source = x.source;
@@ -67,9 +68,11 @@ world_program x = record {
   looks = map look_at x.text.shows;
 }
 
+-- the names of its lines
 abbrev pub part_names : Part → Names
 part_names x = program_names x.source x.text
 
+-- the programs of a world
 abbrev pub world_programs : List Part → List Program
 world_programs parts = map world_program parts
 
@@ -95,15 +98,16 @@ pub record AreBegun (parts : List Part) (detaches : List Detach) (old : List Cou
   pub world : ProtocolWorld (world_programs parts) detaches (devices_of old) (lines ++ more) last
   pub text_is : text ≡ event_lines (map part_names parts) lines
 
--- A whole such text came behind what was printed,
+-- A whole such text came behind what was printed.
 abbrev pub Tells : List Part → List Detach → (cs cs' : List Counted) → (old new : List ℕ) → Type 0
 Tells parts detaches cs cs' old new = (text : List ℕ) × AreTold parts detaches cs cs' text × Appends text old new
 
--- or some first bytes of one, and not all of them where the sink failed.
+-- Some first bytes of a text were printed, and not all of them where the sink failed.
 abbrev pub PrintsPart : PutFault → (text old new : List ℕ) → Type 0
 PrintsPart Fault text old new = AppendsLess text old new
 PrintsPart Memory text old new = (n : ℕ) × (new ≡ old ++ take n text)
 
+-- A beginning of a whole such text came behind what was printed.
 abbrev pub TellsPart : PutFault → List Part → List Detach → (cs cs' : List Counted) → (old new : List ℕ) → Type 0
 TellsPart fault parts detaches cs cs' old new =
     (text : List ℕ) × (AreBegun parts detaches cs text ⊎ AreTold parts detaches cs cs' text) × PrintsPart fault text old new

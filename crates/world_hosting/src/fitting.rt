@@ -1,4 +1,5 @@
-// Lines whose names and ticks are there.
+//! Lines whose names and ticks are there.
+
 ghost use Rattle.std.specs.Prelude.{◌≡◌, true};
 ghost use Rattle.transcript.specs.Printing.{EndFits, IsImport, LineFits};
 

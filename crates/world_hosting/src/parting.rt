@@ -1,4 +1,5 @@
-// The programs that are set up, parted in what hosts them and what prints their lines.
+//! The programs that are set up, parted in what hosts them and what prints their lines.
+
 ghost use Rattle.std.specs.Prelude.{◌≡◌, ◌≤◌, ◌++◌, IfOk, OnOk, length, map};
 ghost use Rattle.world_hosting.specs.Parted.{AreParted, show_at};
 

@@ -1,4 +1,5 @@
-// A program of a script, made over its module.
+//! A program of a script, made over its module.
+
 ghost use Rattle.std.specs.Prelude.{IfOk};
 ghost use Rattle.wa_types.specs.View.{module_of};
 ghost use Rattle.script_reader.specs.Views.{program_of};

@@ -1,4 +1,5 @@
-// The programs of a script, told to their ends.
+//! The programs of a script, told to their ends.
+
 ghost use Rattle.std.specs.Prelude.{◌≡◌, ◌≤◌, [], ◌∷◌, IsErrOf, List, OnOk, length, map};
 ghost use Rattle.std.specs.Result.{IfErr};
 ghost use Rattle.vault_port.specs.Counts.{HasRisen};

@@ -1,5 +1,6 @@
 -- A story of the rewritten module under the protocol is one of its original.
-use Rattle.std.proofs.Common.{arith, ◌≡◌, ◌≤◌, ◌<◌, ◌+◌, ◌*◌, ◌-◌, inl, inr, ℕ, zero, suc, List, [], ◌∷◌, ◌++◌, length, take, Some, None, Bool, true, false, All, refl, sym, ap, ◌∙◌, subst, append-nil, length-append, length-take}
+use Rattle.std.proofs.Common.{arith, ◌≡◌, ◌≤◌, ◌<◌, ◌+◌, ◌*◌, ◌-◌, inl, inr, ℕ, zero, suc, List, [], ◌∷◌, ◌++◌, length, take, Some, None, Bool, true, false, All, refl, sym, ap, ◌∙◌, subst}
+use Rattle.std.proofs.Common.{append-nil, length-append, length-take}
 use Rattle.std.specs.Prelude.{slice_get}
 use Rattle.std.specs.List.{AllZip, sum_by}
 use Rattle.std.proofs.lemmas.List.{length-map}

@@ -6,7 +6,8 @@ use Rattle.wa_model.specs.Outside.{Call, AnswerLine, Event, called, answered, pa
 use Rattle.wa_model.specs.Store.{Store}
 use Rattle.wa_model.specs.Plan.{Outcome}
 use Rattle.wa_model.specs.Blocking.{Note}
-use Rattle.wa_model.specs.World.{Device, Look, Program, ends_turn, turn_of, behind_turn, ticks_in, put_off, call_in, NoteMeets, CallsMeet, line_at, look_events, looks_after, events_with_looks, protocol_story}
+use Rattle.wa_model.specs.World.{Device, Look, Program, ends_turn, turn_of, behind_turn, ticks_in, put_off, call_in, NoteMeets, CallsMeet, line_at, look_events, looks_after}
+use Rattle.wa_model.specs.World.{events_with_looks, protocol_story}
 use Rattle.world_laws.specs.Originals.{one_if, new_calls}
 use Rattle.world_laws.proofs.Counting.{calls_on}
 use Rattle.world_runs.proofs.StoryParts.{begins_any}

@@ -9,6 +9,7 @@ use Rattle.wa_model.specs.Outside.{Event, ended, Line}
 use Rattle.wa_model.specs.World.{Device, Program, ProtocolWorld}
 use Rattle.world_laws.specs.AloneLines.{Unbound}
 
+-- an end by a device that failed
 abbrev pub is_device_fault : End → Bool
 is_device_fault (DeviceFault import) = true
 is_device_fault _ = false

@@ -22,10 +22,13 @@ use Rattle.wa_model.specs.Store.{Store}
 use Rattle.wa_model.specs.Step.{Next, steps, asks, returns, traps, stuck, step}
 use Rattle.wa_model.specs.Plan.{Entry, Plan, Outcome, given, refused, OutcomeFits, IsRefusal}
 use Rattle.wa_model.specs.Instantiation.{Piece, elem_piece, byte_piece, first_out, all_values, least_of, bytes_checked, elems_checked, opened_by, Opening, fails_as, opens, opening}
-use Rattle.wa_model.specs.Blocking.{Note, note, no_store, call_note, value_of_results, answers, poke_fits, bad_poke, is_unlisted, bad_pause, or_else, fault_of, pause_of, poked, done_notes, Task, the_start, an_entry, Left, with_outcomes, Asker, inside, outermost, store_at, stack_at, in_start, State, between, begins, runs, halts, on_to, task_back, go_on, tested, asked, by_step, enters, enter_next, start_called, next_entry, blocking, all_left, begun, Blocking}
+use Rattle.wa_model.specs.Blocking.{Note, note, no_store, call_note, value_of_results, answers, poke_fits, bad_poke, is_unlisted, bad_pause, or_else, fault_of, pause_of, poked, done_notes}
+use Rattle.wa_model.specs.Blocking.{Task, the_start, an_entry, Left, with_outcomes, Asker, inside, outermost, store_at, stack_at, in_start, State, between, begins, runs, halts, on_to}
+use Rattle.wa_model.specs.Blocking.{task_back, go_on, tested, asked, by_step, enters, enter_next, start_called, next_entry, blocking, all_left, begun, Blocking}
 use Rattle.wa_model.specs.Expected.{pause_note, trap_note, shown_at, shown}
 use Rattle.wa_model.specs.Behaves.{expected_notes}
-use Rattle.wa_model.specs.World.{Device, Look, Program, bytes_shown, put_off, turn_of, behind_turn, protocol_story, BlockingStory, whole, spent, looks_after, look_events, events_with_looks, line_at, Actor, Events, no_event, an_event, StartsHeld, Original}
+use Rattle.wa_model.specs.World.{Device, Look, Program, bytes_shown, put_off, turn_of, behind_turn, protocol_story, BlockingStory, whole, spent, looks_after, look_events, events_with_looks}
+use Rattle.wa_model.specs.World.{line_at, Actor, Events, no_event, an_event, StartsHeld, Original}
 use Rattle.wa_model.proofs.Invariants.{TurnKeeps, RanKeeps, after_keeps}
 use Rattle.world_laws.specs.Originals.{StandsIn, MayRun, new_calls, met, Orderly, SameMoment}
 use Rattle.world_laws.proofs.Meeting.{AnswersFit, Met, EachMet, events_met}

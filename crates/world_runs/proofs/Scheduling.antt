@@ -1,5 +1,6 @@
 -- Programs of which it is known what is left of them make a world's run: a last call of a bound import is refused.
-use Rattle.std.proofs.Common.{arith, ◌≡◌, ◌+◌, ◌^◌, ◌≤◌, ◌<◌, ◌⊎◌, inl, inr, ℕ, zero, suc, List, [], ◌∷◌, ◌++◌, length, map, Option, Some, Bool, true, false, refl, sym, ap, ◌∙◌, subst, ⊎_elim, length-append}
+use Rattle.std.proofs.Common.{arith, ◌≡◌, ◌+◌, ◌^◌, ◌≤◌, ◌<◌, ◌⊎◌, inl, inr, ℕ, zero, suc, List, [], ◌∷◌, ◌++◌, length, map, Option, Some, Bool, true, false, refl, sym, ap, ◌∙◌, subst}
+use Rattle.std.proofs.Common.{⊎_elim, length-append}
 use Rattle.std.specs.Prelude.{MatchBool, slice_get, slice_set}
 use Rattle.std.specs.List.{AllZip, list_any}
 use Rattle.wa_types.specs.declared.values.Value.{Value}
@@ -9,7 +10,8 @@ use Rattle.wa_model.specs.declared.events.End.TheVariants.{DeviceFault, NoDevice
 use Rattle.wa_model.specs.Outside.{Call, AnswerLine, Line, called}
 use Rattle.wa_model.specs.Plan.{Outcome, given, refused, ValueFits}
 use Rattle.wa_model.specs.Blocking.{Note}
-use Rattle.wa_model.specs.World.{Reply, Device, is_named, detached, journaled, Program, base_names, name_at, MeetsDevice, MeetsBound, Meets, turn_of, behind_turn, put_off, CallsMeet, turn_lines, Actor, HasNotes, IsNext, Plays, Events, no_event, an_event, IsOver}
+use Rattle.wa_model.specs.World.{Reply, Device, is_named, detached, journaled, Program, base_names, name_at, MeetsDevice, MeetsBound, Meets, turn_of, behind_turn, put_off, CallsMeet}
+use Rattle.wa_model.specs.World.{turn_lines, Actor, HasNotes, IsNext, Plays, Events, no_event, an_event, IsOver}
 use Rattle.world_laws.specs.Originals.{new_calls}
 use Rattle.world_laws.proofs.CallLists.{call_list, ListMeet, list_on, from_list, list_more}
 use Rattle.world_laws.proofs.Merging.{AllDone, SomeNext, some_next, shorter, fewer}

@@ -27,6 +27,7 @@ is_astray (RewindTrap trap) = true
 is_astray (Broken rule) = true
 is_astray _ = false
 
+-- an event that is such an end
 abbrev pub ends_astray : Event → Bool
 ends_astray (ended how) = is_astray how
 ends_astray _ = false

@@ -1,5 +1,6 @@
 -- The stacks of numbered calls, marked statement by statement.
-use Rattle.std.proofs.Common.{◌≡◌, ℕ, zero, suc, ◌+◌, ◌<◌, ◌≤◌, List, [], ◌∷◌, ◌++◌, length, get_or, drop, take, Option, ◌⊎◌, inl, inr, Bool, true, false, refl, sym, ap, subst, ◌∙◌, arith, All, append_assoc, length-append, set}
+use Rattle.std.proofs.Common.{◌≡◌, ℕ, zero, suc, ◌+◌, ◌<◌, ◌≤◌, List, [], ◌∷◌, ◌++◌, length, get_or, drop, take, Option, ◌⊎◌, inl, inr, Bool, true, false, refl, sym, ap, subst, ◌∙◌, arith}
+use Rattle.std.proofs.Common.{All, append_assoc, length-append, set}
 use Rattle.std.specs.Prelude.{◌≢◌, ◌||◌, ◌&&◌, nat_eq, nat_lt, slice_get}
 use Rattle.std.specs.List.{list_any}
 use Rattle.std.proofs.lemmas.Bool.{cases_eq, cases_lt, eq-eqb, le-ltb, ne_eqb}
@@ -185,7 +186,8 @@ module _ (ps : List ℕ) (place : ℕ) (x : Stmt) (old : List Bool) where
     pub call_place : place + 1 ≡ place + call_total it
     call_place = let q = ap call_total (call_is x op stack args to is no_more) in omega arith
 
-    pub call_marked : (new : List Bool) → length new ≡ length old → ((y : ℕ) → get_or new y false ≡ (get_or old y false || (is_place ps place && list_any (nat_eq y) stack.items))) → Marked ps place it old new
+    pub call_marked : (new : List Bool) → length new ≡ length old → ((y : ℕ) → get_or new y false ≡ (get_or old y false || (is_place ps place && list_any (nat_eq y) stack.items)))
+        → Marked ps place it old new
     call_marked new e h = record {
       size = e;
       each = λ y.
@@ -249,7 +251,8 @@ module _ (ps : List ℕ) (place : ℕ) (x : Stmt) (old : List Bool) where
             ∙ ap (λ st. get_or old x false || is_held ps place st x) (sym if_stacks);
       }
 
-  none_of : ((op : Instr) (stack : Vec ℕ Global) (args : ℕ) (to : Option ℕ) → x ≡ CallStmt op stack args to → ⊥) → ((v : Vec Stmt Global) → x ≡ Block v → ⊥) → ((v : Vec Stmt Global) → x ≡ Loop v → ⊥) → ((o : Operand) (v w : Vec Stmt Global) → x ≡ If o v w → ⊥) → call_total it ≡ 0
+  none_of : ((op : Instr) (stack : Vec ℕ Global) (args : ℕ) (to : Option ℕ) → x ≡ CallStmt op stack args to → ⊥) → ((v : Vec Stmt Global) → x ≡ Block v → ⊥)
+      → ((v : Vec Stmt Global) → x ≡ Loop v → ⊥) → ((o : Operand) (v w : Vec Stmt Global) → x ≡ If o v w → ⊥) → call_total it ≡ 0
   none_of nc nb nl ni = let e = none_place 0 x nc nb nl ni in omega arith
 
   none_stacks : (s : Stmts) → call_total s ≡ 0 → stacks_in s ≡ []
@@ -259,7 +262,8 @@ module _ (ps : List ℕ) (place : ℕ) (x : Stmt) (old : List Bool) where
       by [] h = refl
       by (a ∷ b) h = absurd (omega arith)
 
-  pub none_marked : ((op : Instr) (stack : Vec ℕ Global) (args : ℕ) (to : Option ℕ) → x ≡ CallStmt op stack args to → ⊥) → ((v : Vec Stmt Global) → x ≡ Block v → ⊥) → ((v : Vec Stmt Global) → x ≡ Loop v → ⊥) → ((o : Operand) (v w : Vec Stmt Global) → x ≡ If o v w → ⊥) → (place ≡ place + call_total it) × Marked ps place it old old
+  pub none_marked : ((op : Instr) (stack : Vec ℕ Global) (args : ℕ) (to : Option ℕ) → x ≡ CallStmt op stack args to → ⊥) → ((v : Vec Stmt Global) → x ≡ Block v → ⊥)
+      → ((v : Vec Stmt Global) → x ≡ Loop v → ⊥) → ((o : Operand) (v w : Vec Stmt Global) → x ≡ If o v w → ⊥) → (place ≡ place + call_total it) × Marked ps place it old old
   none_marked nc nb nl ni =
       let e = none_of nc nb nl ni in (
         omega arith,

@@ -1,3 +1,5 @@
+//! The places of a frame, with gaps where locals aren't kept, and the frames of the numbered calls.
+
 ghost use Rattle.std.specs.Prelude.{◌≡◌, ◌≤◌, ◌+◌, ◌^◌, ◌<◌, ℕ, length, get_or, filter, map, take, false, All, ◌++◌, ◌∷◌, [], IfOk, OnOk, if◌then◌else◌};
 ghost use Rattle.local_spill.specs.Laying.{in_a_row, row_size, saved_local};
 ghost use Rattle.local_spill.specs.declared.frames.Place.{Place as APlace};

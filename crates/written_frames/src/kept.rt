@@ -1,3 +1,5 @@
+//! Which locals the frames of a function keep: its own, and the slots on the stack of some numbered call.
+
 ghost use Rattle.std.specs.Prelude.{◌≡◌, ◌<◌, ◌≤◌, ◌+◌, ◌^◌, ◌||◌, ◌&&◌, ℕ, All, length, get_or, false, nat_eq, nat_lt, IfOk};
 ghost use Rattle.std.specs.List.{list_any};
 ghost use Rattle.wa_model.specs.Flat.{no_more};

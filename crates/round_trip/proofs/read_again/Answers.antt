@@ -15,10 +15,12 @@ returns-in_err-bytes-clause-refused c =
 pub returns-in_err-read-clause-whole : goal.returns-in_err-read-clause-whole
 returns-in_err-read-clause-whole c =
     let p = err_from_is_err_and c.from_residual-in_err-read.result c.from_residual-in_err-read.ensures.1 in
-    told_whole (module_of c.args.module.now) c.deref.result.now c.from_residual-in_err-read.result c.in_err-read.field-0.0 p.0 c.requires.well_formed c.requires.locals (c.deref.ensures ∙ c.in_ok-bytes.ensures.ok) c.in_ok-bytes.ensures.short
+    told_whole (module_of c.args.module.now) c.deref.result.now c.from_residual-in_err-read.result c.in_err-read.field-0.0 p.0 c.requires.well_formed c.requires.locals (c.deref.ensures
+    ∙ c.in_ok-bytes.ensures.ok) c.in_ok-bytes.ensures.short
     (subst (λ b. IsRefused b c.deref.result.now c.in_err-read.field-0.0) c.prepared.ensures c.in_err-read.ensures.refused) p.1 p.2
 
 pub returns-clause-same : goal.returns-clause-same
 returns-clause-same c =
-    read_back (module_of c.args.module.now) (module_of c.in_ok-read.field-0) c.deref.result.now c.requires.well_formed c.requires.locals (c.deref.ensures ∙ c.in_ok-bytes.ensures.ok) c.in_ok-bytes.ensures.short
+    read_back (module_of c.args.module.now) (module_of c.in_ok-read.field-0) c.deref.result.now c.requires.well_formed c.requires.locals (c.deref.ensures
+    ∙ c.in_ok-bytes.ensures.ok) c.in_ok-bytes.ensures.short
     (subst (λ b. IsAccepted b c.deref.result.now (module_of c.in_ok-read.field-0)) c.prepared.ensures c.in_ok-read.ensures.ok)

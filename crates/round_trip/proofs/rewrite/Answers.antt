@@ -13,7 +13,8 @@ encode-requires-clause-locals c =
 pub returns-in_err-encode-clause-refused : goal.returns-in_err-encode-clause-refused
 returns-in_err-encode-clause-refused c =
     let p = err_from_is_err_and c.from_residual-in_err-encode.result c.from_residual-in_err-encode.ensures.1 in
-    let few = few_bytes c.args.bytes.now (module_of c.in_ok-module.module) (subst (λ b. IsAccepted b c.args.bytes.now (module_of c.in_ok-module.module)) c.prepared.ensures c.in_ok-module.ensures.ok) in
+    let few = few_bytes c.args.bytes.now (module_of c.in_ok-module.module) (subst (λ b. IsAccepted b c.args.bytes.now (module_of c.in_ok-module.module)) c.prepared.ensures
+    c.in_ok-module.ensures.ok) in
     told_of_source c.args.bytes.now c.from_residual-in_err-encode.result c.in_err-encode.field-0.0 p.0 (λ len e. let w = (c.in_err-encode.ensures.too_long len).0 (cc) in omega (arith, w, few)) p.1 p.2
 
 pub returns-clause-written : goal.returns-clause-written

@@ -12,8 +12,10 @@ loop-input-preserved c = reading_more _ c.loop-input.invariant (λ e. let f = c.
 pub returns-in_err-read : goal.returns-in_err-read
 returns-in_err-read c = λ m h.
     let p = err_from_is_err_and c.from_residual-in_err-read.result c.from_residual-in_err-read.ensures.1 in
-    module_stop c.args.bytes.now m _ c.new-sections.ensures c.new-input.ensures c.in_ok-magic.ensures c.loop-input.invariant (λ e. let f = c.loop-input-test.ensures.1 e in cc) p.1 p.2 c.in_err-read.ensures.built h
+    module_stop c.args.bytes.now m _ c.new-sections.ensures c.new-input.ensures c.in_ok-magic.ensures c.loop-input.invariant
+    (λ e. let f = c.loop-input-test.ensures.1 e in cc) p.1 p.2 c.in_err-read.ensures.built h
 
 pub returns : goal.returns
 returns c = λ m h.
-    module_end c.args.bytes.now m c.into_module.result c.new-sections.ensures c.new-input.ensures c.in_ok-magic.ensures c.loop-input.invariant (c.loop-input-test.ensures.0 refl) c.into_module.ensures h
+    module_end c.args.bytes.now m c.into_module.result c.new-sections.ensures c.new-input.ensures c.in_ok-magic.ensures c.loop-input.invariant
+    (c.loop-input-test.ensures.0 refl) c.into_module.ensures h

@@ -17,4 +17,5 @@ returns-then-has_imported_memory c =
 pub returns : goal.returns
 returns c =
     let none : length c.args.memories.now.items ≡ 0 = grind (arith, common_steps) in
-    c.in_ok-push.ensures.items ∙ sym (got_one (λ (i : Import). imported_memory i.kind) c.args.imports.now c.args.memories.now.items (sym c.has_imported_memory.ensures ∙ c.if-has_imported_memory.false) none)
+    c.in_ok-push.ensures.items ∙ sym (got_one (λ (i : Import). imported_memory i.kind) c.args.imports.now c.args.memories.now.items (sym c.has_imported_memory.ensures
+    ∙ c.if-has_imported_memory.false) none)

@@ -7,5 +7,6 @@ use Rattle.asyncify_runtime.proofs.adding.add_runtime.Goals as goal
 
 pub returns-clause-added : goal.returns-clause-added
 returns-clause-added c =
-    grown (module_of c.args.module) _ _ _ _ _ c.ids_behind-ids.result c.len-first_type.result c.ids_behind-ids.ensures (c.len-first_type.ensures ∙ c.args.module.types.ok.0 ∙ sym (length-map c.args.module.types.items func_type_of))
+    grown (module_of c.args.module) _ _ _ _ _ c.ids_behind-ids.result c.len-first_type.result c.ids_behind-ids.ensures (c.len-first_type.ensures ∙ c.args.module.types.ok.0
+    ∙ sym (length-map c.args.module.types.items func_type_of))
     c.in_ok-push_types.ensures c.in_ok-push_funcs.ensures (rw c.deref.ensures.value at c.in_ok-add_memory.ensures) c.in_ok-push_globals.ensures c.in_ok-push_exports.ensures

@@ -10,15 +10,20 @@ use Rattle.call_graph.proofs.calls.+put_calls.Goals as goal
 
 pub put_calls-returns-then-is_last : goal.put_calls-returns-then-is_last
 put_calls-returns-then-is_last t c =
-    calls_last (map callee_of c.loop-instr.out.items) (map callee_of c.put_instr_calls.new.out.items) (map callee_of c.args.out.now.items ++ calls_of (pruned (code c.args.body.now))) c.args.body.now c.loop-instr.instr-index c.instr-item.result c.loop-instr-test.true c.instr-item.is (sym c.is_last.ensures ∙ c.if-is_last.true) c.in_ok-put_instr_calls.ensures c.loop-instr.invariant
+    calls_last (map callee_of c.loop-instr.out.items) (map callee_of c.put_instr_calls.new.out.items)
+    (map callee_of c.args.out.now.items ++ calls_of (pruned (code c.args.body.now))) c.args.body.now c.loop-instr.instr-index c.instr-item.result c.loop-instr-test.true c.instr-item.is
+    (sym c.is_last.ensures ∙ c.if-is_last.true) c.in_ok-put_instr_calls.ensures c.loop-instr.invariant
 
 pub put_calls-loop-instr-preserved : goal.put_calls-loop-instr-preserved
 put_calls-loop-instr-preserved t c =
-    calls_step (map callee_of c.loop-instr.out.items) (map callee_of c.put_instr_calls.new.out.items) (map callee_of c.args.out.now.items ++ calls_of (pruned (code c.args.body.now))) c.args.body.now c.loop-instr.instr-index c.instr-item.result c.loop-instr-test.true c.instr-item.is (sym c.is_last.ensures ∙ c.if-is_last.false) c.in_ok-put_instr_calls.ensures c.loop-instr.invariant
+    calls_step (map callee_of c.loop-instr.out.items) (map callee_of c.put_instr_calls.new.out.items)
+    (map callee_of c.args.out.now.items ++ calls_of (pruned (code c.args.body.now))) c.args.body.now c.loop-instr.instr-index c.instr-item.result c.loop-instr-test.true c.instr-item.is
+    (sym c.is_last.ensures ∙ c.if-is_last.false) c.in_ok-put_instr_calls.ensures c.loop-instr.invariant
 
 pub put_calls-returns : goal.put_calls-returns
 put_calls-returns t c =
-    calls_end (map callee_of c.loop-instr.out.items) (map callee_of c.args.out.now.items ++ calls_of (pruned (code c.args.body.now))) c.args.body.now c.loop-instr.instr-index c.loop-instr-test.false c.loop-instr.invariant
+    calls_end (map callee_of c.loop-instr.out.items) (map callee_of c.args.out.now.items ++ calls_of (pruned (code c.args.body.now))) c.args.body.now c.loop-instr.instr-index
+    c.loop-instr-test.false c.loop-instr.invariant
 
 pub put_instr_calls-returns-in_ok-push-in-Call : goal.put_instr_calls-returns-in_ok-push-in-Call
 put_instr_calls-returns-in_ok-push-in-Call t c =

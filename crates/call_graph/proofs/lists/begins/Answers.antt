@@ -14,4 +14,5 @@ returns-in-Some c =
 
 pub returns-in-None : goal.returns-in-None
 returns-in-None c =
-    begins_nowhere c.args.module.now c.args.base.now c.args.text.now (sym (starts_text c.starts_with.result c.args.text.now c.args.module.now c.starts_with.ensures.cases) ∙ c.if-starts_with.false) c.in-None.ensures
+    begins_nowhere c.args.module.now c.args.base.now c.args.text.now (sym (starts_text c.starts_with.result c.args.text.now c.args.module.now c.starts_with.ensures.cases)
+    ∙ c.if-starts_with.false) c.in-None.ensures

@@ -8,8 +8,10 @@ returns-then-contains c =
 
 pub returns-then-not-contains : goal.returns-then-not-contains
 returns-then-not-contains c =
-    without_dot c.args.text.now c.requires.some c.requires.starless (contains_is 42 c.args.text.now c.contains.result c.contains.ensures.cases (omega arith) ∙ c.if-contains.false) (contains_is 46 c.args.text.now c.contains-2.result c.contains-2.ensures.cases (omega arith) ∙ c.if-not-contains.true)
+    without_dot c.args.text.now c.requires.some c.requires.starless (contains_is 42 c.args.text.now c.contains.result c.contains.ensures.cases (omega arith) ∙ c.if-contains.false)
+    (contains_is 46 c.args.text.now c.contains-2.result c.contains-2.ensures.cases (omega arith) ∙ c.if-not-contains.true)
 
 pub returns : goal.returns
 returns c =
-    with_dot c.args.text.now c.in_ok-new.field-0 c.requires.some c.requires.starless (contains_is 42 c.args.text.now c.contains.result c.contains.ensures.cases (omega arith) ∙ c.if-contains.false) (contains_is 46 c.args.text.now c.contains-2.result c.contains-2.ensures.cases (omega arith) ∙ c.if-not-contains.false) c.in_ok-new.ensures
+    with_dot c.args.text.now c.in_ok-new.field-0 c.requires.some c.requires.starless (contains_is 42 c.args.text.now c.contains.result c.contains.ensures.cases (omega arith)
+    ∙ c.if-contains.false) (contains_is 46 c.args.text.now c.contains-2.result c.contains-2.ensures.cases (omega arith) ∙ c.if-not-contains.false) c.in_ok-new.ensures

@@ -13,5 +13,7 @@ returns-in_ok-push-in-Some c =
     let a = c.args.at.now in
     let labels = ap (λ (z : Vec (Option ℕ) Global). z.items) c.in_ok-to-in-Some.ensures.labels in
     subst (λ (o : Option ValType). Closed n o a c.push_slot.new.at c.args.out.now.items c.push.new.self.items) (sym c.in-Some.is)
-    (one_arrives n c.in-Some.ty a c.push_slot.new.at c.args.out.now.items c.push.new.self.items c.in_ok-to-in-Some.to c.result-from.result (subst (λ (o : Option ValType). ArrivesAt n o a) c.in-Some.is c.requires)
-    c.in_ok-to-in-Some.ensures.typing labels c.in_ok-to-in-Some.ensures.slot c.in_ok-to-in-Some.ensures.result (c.result-from.ensures ∙ ap (λ d. result_local n d c.in-Some.ty) (len_labels c.push_slot.new.at a c.len.result c.len.ensures labels)) c.in_ok-push-in-Some.ensures.items)
+    (one_arrives n c.in-Some.ty a c.push_slot.new.at c.args.out.now.items c.push.new.self.items c.in_ok-to-in-Some.to c.result-from.result
+    (subst (λ (o : Option ValType). ArrivesAt n o a) c.in-Some.is c.requires)
+    c.in_ok-to-in-Some.ensures.typing labels c.in_ok-to-in-Some.ensures.slot c.in_ok-to-in-Some.ensures.result (c.result-from.ensures
+    ∙ ap (λ d. result_local n d c.in-Some.ty) (len_labels c.push_slot.new.at a c.len.result c.len.ensures labels)) c.in_ok-push-in-Some.ensures.items)

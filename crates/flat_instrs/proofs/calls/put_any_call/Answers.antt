@@ -38,6 +38,7 @@ returns c =
     let stack = c.in_ok-stack.ensures.items ∙ c.deref.ensures.value ∙ sym (reverse-reverse c.args.at.now.slots.items) ∙ ap reverse c.requires.ready.held in
     put_is n c.args.at.now c.put_to.new.at c.args.instr.now c.args.out.now.items c.push.new.self.items w c.requires.ready st ty
     (emits n v w c.args.instr.now at.call at.is st ty at.goes_on c.args.out.now.items c.push.new.self.items
-    (λ k. called_is n at.call c.args.out.now.items c.push.new.self.items c.in_ok-op.op c.in_ok-stack.stack c.args.taken c.in_ok-to.to c.args.given (all_of v) (all_of w) k (λ rest. c.in_ok-op.ensures rest ∙ at.is rest) c.in_ok-push.ensures.items stack c.in_ok-to.ensures.to
+    (λ k. called_is n at.call c.args.out.now.items c.push.new.self.items c.in_ok-op.op c.in_ok-stack.stack c.args.taken c.in_ok-to.to c.args.given (all_of v) (all_of w) k
+    (λ rest. c.in_ok-op.ensures rest ∙ at.is rest) c.in_ok-push.ensures.items stack c.in_ok-to.ensures.to
     ∙ ap (onto_stmts c.args.out.now.items) (sym (at.flat_is (all_of w) k))))
     c.in_ok-to.ensures.typing (ap (λ (z : Vec (Option ℕ) Global). z.items) c.in_ok-to.ensures.labels) c.in_ok-to.ensures.held

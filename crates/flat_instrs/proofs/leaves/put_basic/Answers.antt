@@ -37,7 +37,17 @@ take_operands-requires c =
     let ch = basic_changed v.around b v.own w.own v.under t in
     let long = new_long c.args.names.now (takes b) (gives b) (all_of v) (w.own ++ v.under) ch (bit_few c.args.given (gives b) c.requires.is.2) c.args.at.now.slots.items c.requires.ready.held in
     let there = ch.there in
-    omega (arith, long, there, c.requires.is.2, c.bit.ensures, ap length c.types.ensures, ap (λ z. length (w.own ++ z)) st.under, length-reverse c.types.result.now, slots_are_long c.args.names.now c.args.at.now c.requires.ready)
+    omega (
+      arith,
+      long,
+      there,
+      c.requires.is.2,
+      c.bit.ensures,
+      ap length c.types.ensures,
+      ap (λ z. length (w.own ++ z)) st.under,
+      length-reverse c.types.result.now,
+      slots_are_long c.args.names.now c.args.at.now c.requires.ready,
+    )
 
 pub put_to-requires : goal.put_to-requires
 put_to-requires c =
@@ -54,8 +64,19 @@ put_to-requires c =
     let there = ch.there in
     let kept : ℕ = length c.types.result.now - c.bit.result in
     let e : kept + takes b ≡ length ss =
-    omega (arith, long, there, c.requires.is.2, c.bit.ensures, ap length c.types.ensures, ap (λ z. length (w.own ++ z)) st.under, length-reverse c.types.result.now, slots_are_long n c.args.at.now c.requires.ready) in
-    holds_but c.args.given n _ (w.own ++ v.under) (drop (takes b) (all_of v)) (ap (λ z. w.own ++ z) st.under) (subst (λ g. Given g (w.own ++ v.under) (drop (takes b) (all_of v))) (sym c.requires.is.2) ch.then_all)
+    omega (
+      arith,
+      long,
+      there,
+      c.requires.is.2,
+      c.bit.ensures,
+      ap length c.types.ensures,
+      ap (λ z. length (w.own ++ z)) st.under,
+      length-reverse c.types.result.now,
+      slots_are_long n c.args.at.now c.requires.ready,
+    ) in
+    holds_but c.args.given n _ (w.own ++ v.under) (drop (takes b) (all_of v)) (ap (λ z. w.own ++ z) st.under)
+    (subst (λ g. Given g (w.own ++ v.under) (drop (takes b) (all_of v))) (sym c.requires.is.2) ch.then_all)
     (ap reverse c.in_ok-args.ensures.kept ∙ kept_slots n (takes b) (gives b) (all_of v) (w.own ++ v.under) ch few ss c.requires.ready.held kept e)
 
 pub returns : goal.returns
@@ -75,7 +96,17 @@ returns c =
     let there = ch.there in
     let kept : ℕ = length c.types.result.now - c.bit.result in
     let e : kept + takes b ≡ length ss =
-    omega (arith, long, there, c.requires.is.2, c.bit.ensures, ap length c.types.ensures, ap (λ z. length (w.own ++ z)) st.under, length-reverse c.types.result.now, slots_are_long n c.args.at.now c.requires.ready) in
+    omega (
+      arith,
+      long,
+      there,
+      c.requires.is.2,
+      c.bit.ensures,
+      ap length c.types.ensures,
+      ap (λ z. length (w.own ++ z)) st.under,
+      length-reverse c.types.result.now,
+      slots_are_long n c.args.at.now c.requires.ready,
+    ) in
     let args = c.in_ok-args.ensures.taken ∙ ap (map Local) (taken_slots n (takes b) (gives b) (all_of v) (w.own ++ v.under) ch few ss c.requires.ready.held kept e) in
     let to = c.in_ok-to.ensures.to ∙ ap (λ g. top_of n g (all_of w)) c.requires.is.2 in
     put_is n c.args.at.now c.put_to.new.at c.args.instr.now c.args.out.now.items c.push.new.self.items w c.requires.ready st ty

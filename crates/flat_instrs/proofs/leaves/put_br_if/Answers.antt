@@ -36,6 +36,7 @@ returns c =
     let locals = ap (λ (z : List (Option ℕ)). reverse z) c.deref-2.ensures.value ∙ ready.labels in
     put_is n c.args.at.now _ c.args.instr.now c.args.out.now.items c.push.new.self.items w ready st ty
     (emits n v w c.args.instr.now (br_if c.args.label) is st ty refl c.args.out.now.items c.push.new.self.items
-    (λ k. branched_if n v.labels (reverse c.deref-2.result.now) c.args.out.now.items c.put_carry.new.out.items c.push.new.self.items c.pop_slot-cond.result c.args.label c.top_slot-from.result (all_of v) k locals c.in_ok-put_carry.ensures c.in_ok-push.ensures.items
+    (λ k. branched_if n v.labels (reverse c.deref-2.result.now) c.args.out.now.items c.put_carry.new.out.items c.push.new.self.items c.pop_slot-cond.result c.args.label
+    c.top_slot-from.result (all_of v) k locals c.in_ok-put_carry.ensures c.in_ok-push.ensures.items
     (top_slot_is n c.args.at.now ready c.pop_slot-cond.result c.pop_slot-cond.ensures.top) from))
     refl refl (less ∙ ap (slots n) (sym o.1 ∙ ap (λ z. w.own ++ z) (sym st.under)))

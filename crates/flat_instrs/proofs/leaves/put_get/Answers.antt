@@ -26,4 +26,5 @@ returns c =
     put_is n c.args.at.now c.push_slot.new.at c.args.instr.now c.args.out.now.items c.push.new.self.items w c.requires.ready st ty
     (emits n v w c.args.instr.now (local_get c.args.x) is st ty refl c.args.out.now.items c.push.new.self.items
     (λ k. copied n c.args.out.now.items c.push.new.self.items c.in_ok-to.to c.args.x _ k c.in_ok-push.ensures.items c.in_ok-to.ensures.result))
-    c.in_ok-to.ensures.typing (ap (λ (z : Vec (Option ℕ) Global). z.items) c.in_ok-to.ensures.labels) (slot_more n c.args.at.now.slots.items c.push_slot.new.at.slots.items b.0 b.1 _ b.3 b.2 c.in_ok-to.ensures.slot)
+    c.in_ok-to.ensures.typing (ap (λ (z : Vec (Option ℕ) Global). z.items) c.in_ok-to.ensures.labels)
+    (slot_more n c.args.at.now.slots.items c.push_slot.new.at.slots.items b.0 b.1 _ b.3 b.2 c.in_ok-to.ensures.slot)

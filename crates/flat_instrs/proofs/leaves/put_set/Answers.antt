@@ -24,5 +24,6 @@ returns c =
     let o = set_one (slice_get v.around.locals c.args.x) v.own w.own v.under t in
     put_is n c.args.at.now _ c.args.instr.now c.args.out.now.items c.push.new.self.items w c.requires.ready st ty
     (emits n v w c.args.instr.now (local_set c.args.x) is st ty refl c.args.out.now.items c.push.new.self.items
-    (λ k. copied_from n c.args.out.now.items c.push.new.self.items c.args.x c.pop_slot-from.result (all_of v) k c.in_ok-push.ensures.items (top_slot_is n c.args.at.now c.requires.ready c.pop_slot-from.result c.pop_slot-from.ensures.top)))
+    (λ k. copied_from n c.args.out.now.items c.push.new.self.items c.args.x c.pop_slot-from.result (all_of v) k c.in_ok-push.ensures.items
+    (top_slot_is n c.args.at.now c.requires.ready c.pop_slot-from.result c.pop_slot-from.ensures.top)))
     refl refl (one_less n c.args.at.now c.requires.ready c.pop_slot-from.new.slots.items c.pop_slot-from.ensures.rest ∙ ap (slots n) (sym o.1 ∙ ap (λ z. w.own ++ z) (sym st.under)))

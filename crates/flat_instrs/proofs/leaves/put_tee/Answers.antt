@@ -17,5 +17,6 @@ returns c =
     let o = tee_same (slice_get v.around.locals c.args.x) v.own w.own v.under t in
     put_is n c.args.at.now _ c.args.instr.now c.args.out.now.items c.push.new.self.items w c.requires.ready st ty
     (emits n v w c.args.instr.now (local_tee c.args.x) is st ty refl c.args.out.now.items c.push.new.self.items
-    (λ k. copied_from n c.args.out.now.items c.push.new.self.items c.args.x c.top_slot-from.result (all_of v) k c.in_ok-push.ensures.items (top_slot_is n c.args.at.now c.requires.ready c.top_slot-from.result (c.top_slot-from.ensures ∙ ap (λ (z : List ℕ). first_or (reverse z)) c.deref.ensures.value))))
+    (λ k. copied_from n c.args.out.now.items c.push.new.self.items c.args.x c.top_slot-from.result (all_of v) k c.in_ok-push.ensures.items
+    (top_slot_is n c.args.at.now c.requires.ready c.top_slot-from.result (c.top_slot-from.ensures ∙ ap (λ (z : List ℕ). first_or (reverse z)) c.deref.ensures.value))))
     refl refl (c.requires.ready.held ∙ ap (slots n) (sym o ∙ ap (λ z. w.own ++ z) (sym st.under)))

@@ -19,4 +19,5 @@ returns c =
     let from = top_slot_is n c.args.at.now c.requires.ready c.top_slot-from.result (c.top_slot-from.ensures ∙ ap (λ (z : List ℕ). first_or (reverse z)) c.deref.ensures.value) in
     let locals = ap (λ (z : List (Option ℕ)). reverse z) c.deref-2.ensures.value ∙ c.requires.ready.labels in
     last_put n v c.args.instr.now (br c.args.label) c.args.out.now.items c.push.new.self.items (is_br c.args.instr.now c.args.label c.requires.is)
-    (λ behind k. jumped n v.labels (reverse c.deref-2.result.now) c.args.out.now.items c.put_carry.new.out.items c.push.new.self.items c.args.label c.top_slot-from.result (all_of v) locals c.in_ok-put_carry.ensures c.in_ok-push.ensures.items from)
+    (λ behind k. jumped n v.labels (reverse c.deref-2.result.now) c.args.out.now.items c.put_carry.new.out.items c.push.new.self.items c.args.label c.top_slot-from.result
+    (all_of v) locals c.in_ok-put_carry.ensures c.in_ok-push.ensures.items from)

@@ -40,11 +40,15 @@ returns c =
     let size : c.len.result ≡ length ss = omega (arith, c.len.ensures, ap length c.deref-2.ensures.value) in
     let some : 0 < c.len.result = omega (arith, own_long v w.one, slots_are_long n c.args.at.now ready, size) in
     let low = one_less n c.args.at.now ready (take (c.len.result - 1) ss) (less_one ss c.len.result size some) in
-    let from = c.top_slot-from.ensures ∙ ap (λ (z : List ℕ). first_or (reverse (take (c.len.result - 1) z))) c.deref-2.ensures.value ∙ top_is n (drop 1 (all_of v)) (reverse (take (c.len.result - 1) ss)) low in
+    let from = c.top_slot-from.ensures ∙ ap (λ (z : List ℕ). first_or (reverse (take (c.len.result - 1) z))) c.deref-2.ensures.value
+    ∙ top_is n (drop 1 (all_of v)) (reverse (take (c.len.result - 1) ss)) low in
     let locals = ready.labels in
     last_put n v c.args.instr.now (br_table c.args.targets.now.items c.args.last) c.args.out.now.items c.push.new.self.items (is_br_table c.args.instr.now c.args.targets.now c.args.last c.requires.is)
-    (λ behind k. jumped_by n v.labels (reverse c.args.at.now.labels.items) c.args.out.now.items c.put_carries.new.out.items c.put_carry.new.out.items c.push.new.self.items c.top_slot-index.result c.top_slot-from.result c.args.last c.args.targets.now c.in_ok-from_slice.field-0 (all_of v) locals
+    (λ behind k. jumped_by n v.labels (reverse c.args.at.now.labels.items) c.args.out.now.items c.put_carries.new.out.items c.put_carry.new.out.items c.push.new.self.items
+    c.top_slot-index.result c.top_slot-from.result c.args.last c.args.targets.now c.in_ok-from_slice.field-0 (all_of v) locals
     (c.in_ok-from_slice.ensures.items ∙ c.deref-6.ensures.value)
-    (λ rest. c.in_ok-put_carries.ensures rest ∙ ap (λ (z : List (Option ℕ)). onto_stmts c.args.out.now.items (all_carried (reverse z) c.deref-4.result.now c.top_slot-from.result rest)) c.deref-3.ensures.value ∙ ap (λ z. onto_stmts c.args.out.now.items (all_carried (reverse c.args.at.now.labels.items) z c.top_slot-from.result rest)) c.deref-4.ensures.value)
-    (λ rest. c.in_ok-put_carry.ensures rest ∙ ap (λ (z : List (Option ℕ)). onto_stmts c.put_carries.new.out.items (carried_to (slice_get (reverse z) c.args.last) c.top_slot-from.result rest)) c.deref-5.ensures.value)
+    (λ rest. c.in_ok-put_carries.ensures rest ∙ ap (λ (z : List (Option ℕ)). onto_stmts c.args.out.now.items (all_carried (reverse z) c.deref-4.result.now c.top_slot-from.result rest))
+    c.deref-3.ensures.value ∙ ap (λ z. onto_stmts c.args.out.now.items (all_carried (reverse c.args.at.now.labels.items) z c.top_slot-from.result rest)) c.deref-4.ensures.value)
+    (λ rest. c.in_ok-put_carry.ensures rest ∙ ap (λ (z : List (Option ℕ)). onto_stmts c.put_carries.new.out.items
+    (carried_to (slice_get (reverse z) c.args.last) c.top_slot-from.result rest)) c.deref-5.ensures.value)
     c.in_ok-push.ensures.items index from)

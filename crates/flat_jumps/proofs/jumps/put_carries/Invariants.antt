@@ -5,4 +5,5 @@ use Rattle.flat_jumps.proofs.jumps.put_carries.Given as goal
 
 abbrev pub invariant-loop-label : goal.invariant-loop-label
 invariant-loop-label l =
-    (k : Stmts) → onto_stmts l.out.items (all_carried (reverse l.fn.labels) (drop l.label-index l.fn.targets) l.fn.from k) ≡ onto_stmts l.fn.out.items (all_carried (reverse l.fn.labels) l.fn.targets l.fn.from k)
+    (k : Stmts) → onto_stmts l.out.items (all_carried (reverse l.fn.labels) (drop l.label-index l.fn.targets) l.fn.from k)
+    ≡ onto_stmts l.fn.out.items (all_carried (reverse l.fn.labels) l.fn.targets l.fn.from k)

@@ -16,5 +16,6 @@ returns c =
     let label : ℕ = c.len.result - 1 in
     let same : label ≡ length v.labels - 1 = omega (arith, c.len.ensures, labels_long n c.args.at.now c.requires.ready) in
     last_put n v c.args.instr.now return c.args.out.now.items c.push.new.self.items (is_return c.args.instr.now c.requires.is)
-    (λ behind k. jumped n v.labels (reverse c.deref-2.result.now) c.args.out.now.items c.put_carry.new.out.items c.push.new.self.items label c.top_slot-from.result (all_of v) locals c.in_ok-put_carry.ensures c.in_ok-push.ensures.items from
+    (λ behind k. jumped n v.labels (reverse c.deref-2.result.now) c.args.out.now.items c.put_carry.new.out.items c.push.new.self.items label c.top_slot-from.result
+    (all_of v) locals c.in_ok-put_carry.ensures c.in_ok-push.ensures.items from
     ∙ ap (λ l. onto_stmts c.args.out.now.items (carry n v.labels (all_of v) l (leaps l no_more))) same)

@@ -14,9 +14,13 @@ returns-clause-names c =
     let k = code c.args.body.now in
     let a : Found = record { slots = c.new.result; results = c.visit_result.new.results } in
     let b = c.survey_body.new.found in
-    let marked : (d : ℕ) (t : ValType) → is_marked c.visit_result.new.results.items d t ≡ (list_any (same_pair d t) (pair_of 0 c.args.given) || false) = (λ d t. c.in_ok-visit_result.ensures.marked d t ∙ ap (λ z. list_any (same_pair d t) (pair_of 0 c.args.given) || z) (no_marks c.new-2.result.items d t c.new-2.ensures.items)) in
-    let slots = ap (λ (z : Locals). z.pairs) c.in_ok-slots.ensures ∙ ap (pairs_in 0) c.deref.ensures.value ∙ slots_are w c.survey_body.new.typing c.args.given k a b c.new.ensures.items marked c.in_ok-survey_body.ensures c.requires.own c.requires.under c.requires.labels in
-    let results = ap (λ (z : Locals). z.pairs) c.in_ok-results.ensures ∙ ap (pairs_in 0) c.deref-2.ensures.value ∙ results_are w c.survey_body.new.typing c.args.given k a b c.new.ensures.items marked c.in_ok-survey_body.ensures c.requires.own c.requires.under c.requires.labels in
+    let marked : (d : ℕ) (t : ValType) → is_marked c.visit_result.new.results.items d t
+    ≡ (list_any (same_pair d t) (pair_of 0 c.args.given) || false) = (λ d t. c.in_ok-visit_result.ensures.marked d t
+    ∙ ap (λ z. list_any (same_pair d t) (pair_of 0 c.args.given) || z) (no_marks c.new-2.result.items d t c.new-2.ensures.items)) in
+    let slots = ap (λ (z : Locals). z.pairs) c.in_ok-slots.ensures ∙ ap (pairs_in 0) c.deref.ensures.value
+    ∙ slots_are w c.survey_body.new.typing c.args.given k a b c.new.ensures.items marked c.in_ok-survey_body.ensures c.requires.own c.requires.under c.requires.labels in
+    let results = ap (λ (z : Locals). z.pairs) c.in_ok-results.ensures ∙ ap (pairs_in 0) c.deref-2.ensures.value
+    ∙ results_are w c.survey_body.new.typing c.args.given k a b c.new.ensures.items marked c.in_ok-survey_body.ensures c.requires.own c.requires.under c.requires.labels in
     let first = ap (λ (z : Locals). z.first) c.in_ok-slots.ensures in
     (λ j. record { first = first j; slots = slots j; results = results j })
 

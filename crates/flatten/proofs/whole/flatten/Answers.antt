@@ -52,4 +52,5 @@ loop-index-preserved c =
     let lt : i < length m.funcs = omega (arith, c.loop-index-test.true, c.len-index-end.ensures, many, len) in
     let start : length c.args.which.now - c.len.result ≡ func_imports m = omega (arith, c.len.ensures, c.requires.which, many, len) in
     let at = ap (λ k. k + i) start in
-    go_put m c.args.which.now (func_imports m) i _ _ c.loop-index.invariant c.requires.which lt at _ _ _ c.if-not-which-imports.false at c.in_ok-put_func.ensures (λ f e. let r = c.in_ok-flat.ensures f e in (r.0, r.1))
+    go_put m c.args.which.now (func_imports m) i _ _ c.loop-index.invariant c.requires.which lt at _ _ _ c.if-not-which-imports.false at c.in_ok-put_func.ensures
+    (λ f e. let r = c.in_ok-flat.ensures f e in (r.0, r.1))

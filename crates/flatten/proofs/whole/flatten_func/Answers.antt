@@ -9,7 +9,8 @@ use Rattle.wa_types.specs.Syntax.{Func, FuncType}
 use Rattle.wa_types.specs.Modules.{declared_locals, defined_at, locals_of, type_at}
 use Rattle.wa_types.specs.Frames.{SlotPairs}
 use Rattle.wa_types.specs.View.{module_of, func_of, code}
-use Rattle.flatten.proofs.FuncLemmas.{sort_below, all_few, number_few, defined, begins_typed, small_types, result_is, func_there, type_is, same_names, same_flat, same_result, same_locals, answered, counted, refused, same_one}
+use Rattle.flatten.proofs.FuncLemmas.{sort_below, all_few, number_few, defined, begins_typed, small_types, result_is, func_there, type_is, same_names, same_flat, same_result, same_locals}
+use Rattle.flatten.proofs.FuncLemmas.{answered, counted, refused, same_one}
 use Rattle.flat_laws.specs.Flatten.{Names}
 use Rattle.flatten.proofs.whole.flatten_func.Goals as goal
 
@@ -253,7 +254,20 @@ overflow_add-count c =
     let fst = ap (λ (z : Names). z.first) (c.names.view_is ∙ c.in_ok-names.ensures.names) in
     let slots = ap (λ (z : Names). length z.slots) c.names.view_is in
     let results = ap (λ (z : Names). length z.results) c.names.view_is in
-    omega (arith, few, fst, slots, results, c.end-count.ensures, c.names.invariant, c.in_ok-names.ensures.few, ap (λ xs. code_items (code xs)) c.deref-2.ensures.value, c.len.ensures, c.count_runs.ensures, ap (λ rs. length (declared_locals rs)) c.deref.ensures.value)
+    omega (
+      arith,
+      few,
+      fst,
+      slots,
+      results,
+      c.end-count.ensures,
+      c.names.invariant,
+      c.in_ok-names.ensures.few,
+      ap (λ xs. code_items (code xs)) c.deref-2.ensures.value,
+      c.len.ensures,
+      c.count_runs.ensures,
+      ap (λ rs. length (declared_locals rs)) c.deref.ensures.value,
+    )
 
 pub returns-then-count-gt-MOST_LOCALS : goal.returns-then-count-gt-MOST_LOCALS
 returns-then-count-gt-MOST_LOCALS c =
@@ -276,7 +290,14 @@ returns-then-count-gt-MOST_LOCALS c =
     let w = c.in_ok-typing.ensures g (ap (λ k. defined_at m (k + i)) c.requires.imports ∙ defined v i f lt at valid) in
     let given = c.first_result-given.ensures ∙ sym (result_is v i f lt at valid t ta) in
     let first : c.len.result + c.count_runs.result ≡ length (locals_of m g) =
-    omega (arith, c.len.ensures, c.count_runs.ensures, ap (λ rs. length (declared_locals rs)) c.deref.ensures.value, length-append (type_at m f.sort).params (declared_locals f.locals.items), ap (λ (z : FuncType). length z.params) kind) in
+    omega (
+      arith,
+      c.len.ensures,
+      c.count_runs.ensures,
+      ap (λ rs. length (declared_locals rs)) c.deref.ensures.value,
+      length-append (type_at m f.sort).params (declared_locals f.locals.items),
+      ap (λ (z : FuncType). length z.params) kind,
+    ) in
     let named = same_names m g c.in_ok-names.names c.in_ok-typing.typing _ _ _ (c.in_ok-names.ensures.names) w given first (ap code c.deref-2.ensures.value) in
     let count = counted m g _ c.end-count.result _ (c.names.view_is ∙ named) c.end-count.ensures c.names.invariant in
     let there = func_there v i f lt at valid in
@@ -427,7 +448,14 @@ returns c =
     let w = c.in_ok-typing.ensures g (ap (λ k. defined_at m (k + i)) c.requires.imports ∙ defined v i f lt at valid) in
     let given = c.first_result-given.ensures ∙ sym (result_is v i f lt at valid t ta) in
     let first : c.len.result + c.count_runs.result ≡ length (locals_of m g) =
-    omega (arith, c.len.ensures, c.count_runs.ensures, ap (λ rs. length (declared_locals rs)) c.deref.ensures.value, length-append (type_at m f.sort).params (declared_locals f.locals.items), ap (λ (z : FuncType). length z.params) kind) in
+    omega (
+      arith,
+      c.len.ensures,
+      c.count_runs.ensures,
+      ap (λ rs. length (declared_locals rs)) c.deref.ensures.value,
+      length-append (type_at m f.sort).params (declared_locals f.locals.items),
+      ap (λ (z : FuncType). length z.params) kind,
+    ) in
     let named = same_names m g c.in_ok-names.names c.in_ok-typing.typing _ _ _ (c.in_ok-names.ensures.names) w given first (ap code c.deref-2.ensures.value) in
     let count = counted m g _ c.end-count.result _ (c.names.view_is ∙ named) c.end-count.ensures c.names.invariant in
     let there = func_there v i f lt at valid in

@@ -16,44 +16,59 @@ use Rattle.func_rewrite.proofs.WrittenFuncs.{fits, few_calls, stacks, numbers, o
 use Rattle.func_rewrite.proofs.function.emit_func.Goals as goal
 
 pub number_calls-requires : goal.number_calls-requires
-number_calls-requires c = few_calls (module_of c.args._module.now) (settings_of c.args.settings.now) c.args.which.now (func_of c.args.source.now) c.args.flat.now c.requires.valid c.requires.sizes c.requires.flat
+number_calls-requires c = few_calls (module_of c.args._module.now) (settings_of c.args.settings.now) c.args.which.now
+    (func_of c.args.source.now) c.args.flat.now c.requires.valid c.requires.sizes c.requires.flat
 
 pub kept_locals-requires-clause-rises : goal.kept_locals-requires-clause-rises
-kept_locals-requires-clause-rises c = subst Rises (sym (c.deref.ensures.value ∙ c.in_ok-numbers.ensures)) (places_rise (gets_number c.args.which.now c.args.listed.now c.args.settings.now.ignore_indirect) 0 (callees (flat_func_of c.args.flat.now.func).body))
+kept_locals-requires-clause-rises c = subst Rises (sym (c.deref.ensures.value ∙ c.in_ok-numbers.ensures))
+    (places_rise (gets_number c.args.which.now c.args.listed.now c.args.settings.now.ignore_indirect) 0 (callees (flat_func_of c.args.flat.now.func).body))
 
 pub kept_locals-requires-clause-fits : goal.kept_locals-requires-clause-fits
-kept_locals-requires-clause-fits c = stacks (module_of c.args._module.now) (settings_of c.args.settings.now) c.args.which.now (func_of c.args.source.now) c.args.flat.now c.requires.valid c.requires.sizes c.requires.flat
+kept_locals-requires-clause-fits c = stacks (module_of c.args._module.now) (settings_of c.args.settings.now) c.args.which.now
+    (func_of c.args.source.now) c.args.flat.now c.requires.valid c.requires.sizes c.requires.flat
 
 pub kept_locals-requires-clause-few : goal.kept_locals-requires-clause-few
-kept_locals-requires-clause-few c = few_calls (module_of c.args._module.now) (settings_of c.args.settings.now) c.args.which.now (func_of c.args.source.now) c.args.flat.now c.requires.valid c.requires.sizes c.requires.flat
+kept_locals-requires-clause-few c = few_calls (module_of c.args._module.now) (settings_of c.args.settings.now) c.args.which.now
+    (func_of c.args.source.now) c.args.flat.now c.requires.valid c.requires.sizes c.requires.flat
 
 pub kept_locals-requires-clause-own : goal.kept_locals-requires-clause-own
-kept_locals-requires-clause-own c = own_few (module_of c.args._module.now) (settings_of c.args.settings.now) c.args.which.now (func_of c.args.source.now) c.args.flat.now c.requires.valid c.requires.sizes c.requires.flat
+kept_locals-requires-clause-own c = own_few (module_of c.args._module.now) (settings_of c.args.settings.now) c.args.which.now
+    (func_of c.args.source.now) c.args.flat.now c.requires.valid c.requires.sizes c.requires.flat
 
 pub saved_places-requires : goal.saved_places-requires
-saved_places-requires c = let e = ap length c.deref-2.ensures.value in let k = saved_few (module_of c.args._module.now) (settings_of c.args.settings.now) c.args.which.now (func_of c.args.source.now) c.args.flat.now c.requires.valid c.requires.sizes c.requires.flat in omega (arith, e, k)
+saved_places-requires c = let e = ap length c.deref-2.ensures.value in let k = saved_few (module_of c.args._module.now) (settings_of c.args.settings.now) c.args.which.now
+    (func_of c.args.source.now) c.args.flat.now c.requires.valid c.requires.sizes c.requires.flat in omega (arith, e, k)
 
 pub layout-requires : goal.layout-requires
-layout-requires c = let e = ap length c.deref-3.ensures.value in let k = places_few (module_of c.args._module.now) (settings_of c.args.settings.now) c.args.which.now (func_of c.args.source.now) c.args.flat.now c.requires.valid c.requires.sizes c.requires.flat c.in_ok-saved.saved.items (c.in_ok-saved.ensures ∙ ap (λ xs. numbered_places 0 (take c.args.flat.now.first_result xs)) c.deref-2.ensures.value) in omega (arith, e, k)
+layout-requires c = let e = ap length c.deref-3.ensures.value in let k = places_few (module_of c.args._module.now) (settings_of c.args.settings.now) c.args.which.now
+    (func_of c.args.source.now) c.args.flat.now c.requires.valid c.requires.sizes c.requires.flat c.in_ok-saved.saved.items (c.in_ok-saved.ensures
+    ∙ ap (λ xs. numbered_places 0 (take c.args.flat.now.first_result xs)) c.deref-2.ensures.value) in omega (arith, e, k)
 
 pub chosen_frame-requires : goal.chosen_frame-requires
 chosen_frame-requires c =
     let len : length c.deref-4.result.now ≡ length c.args.flat.now.func.locals.items = ap length c.deref-4.ensures.value ∙ c.in_ok-kept.ensures.size in
     let row : c.in_ok-layout.field-0.places.items ≡ in_a_row 0 c.in_ok-saved.saved.items = c.in_ok-layout.ensures.places ∙ ap (in_a_row 0) c.deref-3.ensures.value in
     subst (λ n. All (λ (p : Place). p.local < n) c.in_ok-layout.field-0.places.items) (sym len)
-    (subst (All (λ (p : Place). p.local < length c.args.flat.now.func.locals.items)) (sym row) (row_fits (module_of c.args._module.now) (settings_of c.args.settings.now) c.args.which.now (func_of c.args.source.now) c.args.flat.now c.requires.valid c.requires.sizes c.requires.flat c.in_ok-saved.saved.items (c.in_ok-saved.ensures ∙ ap (λ xs. numbered_places 0 (take c.args.flat.now.first_result xs)) c.deref-2.ensures.value)))
+    (subst (All (λ (p : Place). p.local < length c.args.flat.now.func.locals.items)) (sym row)
+    (row_fits (module_of c.args._module.now) (settings_of c.args.settings.now) c.args.which.now
+    (func_of c.args.source.now) c.args.flat.now c.requires.valid c.requires.sizes c.requires.flat c.in_ok-saved.saved.items (c.in_ok-saved.ensures
+    ∙ ap (λ xs. numbered_places 0 (take c.args.flat.now.first_result xs)) c.deref-2.ensures.value)))
 
 pub written_body-requires-clause-fits : goal.written_body-requires-clause-fits
-written_body-requires-clause-fits c = fits (module_of c.args._module.now) (settings_of c.args.settings.now) c.args.which.now (func_of c.args.source.now) c.args.flat.now c.requires.valid c.requires.sizes c.requires.flat
+written_body-requires-clause-fits c = fits (module_of c.args._module.now) (settings_of c.args.settings.now) c.args.which.now
+    (func_of c.args.source.now) c.args.flat.now c.requires.valid c.requires.sizes c.requires.flat
 
 pub written_body-requires-clause-rises : goal.written_body-requires-clause-rises
-written_body-requires-clause-rises c = subst Rises (sym (c.deref-5.ensures.value ∙ c.in_ok-numbers.ensures)) (places_rise (gets_number c.args.which.now c.args.listed.now c.args.settings.now.ignore_indirect) 0 (callees (flat_func_of c.args.flat.now.func).body))
+written_body-requires-clause-rises c = subst Rises (sym (c.deref-5.ensures.value ∙ c.in_ok-numbers.ensures))
+    (places_rise (gets_number c.args.which.now c.args.listed.now c.args.settings.now.ignore_indirect) 0 (callees (flat_func_of c.args.flat.now.func).body))
 
 pub written_body-requires-clause-few : goal.written_body-requires-clause-few
-written_body-requires-clause-few c = few_calls (module_of c.args._module.now) (settings_of c.args.settings.now) c.args.which.now (func_of c.args.source.now) c.args.flat.now c.requires.valid c.requires.sizes c.requires.flat
+written_body-requires-clause-few c = few_calls (module_of c.args._module.now) (settings_of c.args.settings.now) c.args.which.now
+    (func_of c.args.source.now) c.args.flat.now c.requires.valid c.requires.sizes c.requires.flat
 
 pub written_body-requires-clause-slots : goal.written_body-requires-clause-slots
-written_body-requires-clause-slots c = slots_told (module_of c.args._module.now) (settings_of c.args.settings.now) c.args.which.now (func_of c.args.source.now) c.args.flat.now c.requires.valid c.requires.sizes c.requires.flat
+written_body-requires-clause-slots c = slots_told (module_of c.args._module.now) (settings_of c.args.settings.now) c.args.which.now
+    (func_of c.args.source.now) c.args.flat.now c.requires.valid c.requires.sizes c.requires.flat
 
 pub returns : goal.returns
 returns c =

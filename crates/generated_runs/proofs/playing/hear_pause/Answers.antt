@@ -9,7 +9,10 @@ use Rattle.generated_runs.proofs.playing.hear_pause.Goals.{in-Paused, in_default
 pub returns : goal.returns
 returns c = λ w notes f none. elim c.match-branch-2.branch [
   | in-Paused v ↦
-      given c.match-branch-2.result v.in-Paused.used (λ used. (ticks : ℕ) × TellsNext w notes (paused ticks used) c.advance_alone.new.self) v.result-is
-      (v.in-Paused.ticks, tells w c.advance_alone.new.self notes c.in_ok-used.field-0 (paused v.in-Paused.ticks v.in-Paused.used) (ap event_of v.in-Paused.is) (c.in_ok-used.ensures.next w notes f none))
+      given c.match-branch-2.result v.in-Paused.used (λ used. (ticks : ℕ) × TellsNext w notes (paused ticks used) c.advance_alone.new.self) v.result-is (
+        v.in-Paused.ticks,
+        tells w c.advance_alone.new.self notes c.in_ok-used.field-0 (paused v.in-Paused.ticks v.in-Paused.used) (ap event_of v.in-Paused.is)
+            (c.in_ok-used.ensures.next w notes f none),
+      )
   | in_default v ↦ refused c.match-branch-2.result _ (λ used. (ticks : ℕ) × TellsNext w notes (paused ticks used) c.advance_alone.new.self) v.result-is
 ]

@@ -35,7 +35,8 @@ returns-in_ok-turn-in-Some-clause-comes g c = λ w is code pokes f.
     let fits = free_fits w.source s l e rest entries f in
     let typed = ap types_of c.deref.ensures.value ∙ fits.1.1 ∙ ap (λ z. (func_type_at z e.func).params) (sym code) in
     let told = c.in_ok-turn-in-Some.ensures.calls (subst (λ z. StoreFits z s) (sym code) fits.0) typed in
-    let calls = subst (λ z. Calls z s e.func e.args left used c.in_ok-turn-in-Some.turn s' w') code (subst (λ vs. Calls m s e.func vs left used c.in_ok-turn-in-Some.turn s' w') c.deref.ensures.value told) in
+    let calls = subst (λ z. Calls z s e.func e.args left used c.in_ok-turn-in-Some.turn s' w') code
+    (subst (λ vs. Calls m s e.func vs left used c.in_ok-turn-in-Some.turn s' w') c.deref.ensures.value told) in
     let ran = entry_turn w l (record { number = l.number; entries = rest; outcomes = [] }) e rest fits.1.0.0 s left used c.in_ok-turn-in-Some.turn s' w' entries refl refl fits.1.0.1 calls in
     subst (λ z. IfOk c.entry_ran.result (λ m. ComesFrom w z left used m old new (left_of c.entry_ran.new.left) s' w')) (sym (free_is s l e rest entries))
     (c.entry_ran.ensures.comes w is (c.begin.ensures.code ∙ code) pokes (free s l) left used ran)

@@ -21,7 +21,8 @@ returns-then-func-len-clause-comes g c = λ w is code pokes f.
     let typed = sym f.1.0 ∙ ap (λ z. (func_type_at z c.args.func).params) (sym code) in
     let told = c.in_ok-turn.ensures.calls (subst (λ z. StoreFits z s) (sym code) f.0) typed in
     let calls = subst (λ z. Calls z s c.args.func [] left used c.in_ok-turn.turn s' w') code told in
-    c.start_asked.ensures.comes w is (c.begin.ensures.code ∙ code) pokes s c.args.func l left used (let lt : c.args.func < func_imports w.source = omega (arith, c.len.ensures, c.args.setting.now.imports.ok.0, is.all, c.if-func-len.true) in lt) calls
+    c.start_asked.ensures.comes w is (c.begin.ensures.code ∙ code) pokes s c.args.func l left used
+    (let lt : c.args.func < func_imports w.source = omega (arith, c.len.ensures, c.args.setting.now.imports.ok.0, is.all, c.if-func-len.true) in lt) calls
 
 pub returns-clause-comes : goal.returns-clause-comes
 returns-clause-comes g c = λ w is code pokes f.
@@ -41,5 +42,6 @@ returns-clause-comes g c = λ w is code pokes f.
     let ran = start_turn w l c.args.func there.0 s left used c.in_ok-turn.turn s' w' there.1 calls in
     let sum : c.begin.new.steps.left + used ≡ left = omega (arith, c.begin.ensures.sum, c.begin.ensures.grows) in
     let total : used + (c.start_ran.new.steps.used - c.begin.new.steps.used) ≡ c.start_ran.new.steps.used - c.args.steps.now.used = omega (arith, c.begin.ensures.grows, c.start_ran.ensures.grows) in
-    subst (λ n. IfOk c.start_ran.result (λ m. Comes w (starting c.args.func s l) left n m old new (left_of c.start_ran.new.left) (store_in c.start_ran.new.instance) (waits_in c.start_ran.new.instance))) total
+    subst (λ n. IfOk c.start_ran.result (λ m. Comes w (starting c.args.func s l) left n m old new (left_of c.start_ran.new.left) (store_in c.start_ran.new.instance)
+    (waits_in c.start_ran.new.instance))) total
     (c.start_ran.ensures.comes w is (c.begin.ensures.code ∙ code) pokes (starting c.args.func s l) left used ran sum f)

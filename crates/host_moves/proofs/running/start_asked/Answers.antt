@@ -25,4 +25,5 @@ returns-in-StepsSpent-clause-comes g c = λ w is code pokes s func l left used l
     let s' = store_in c.args.instance.now in
     let w' = waits_in c.args.instance.now in
     ended_ok w (starting func s l) left used (E.StepsSpent c.args.setting.now.steps) s' c.ended.result old l w' c.ended.ensures.event c.ended.ensures.stage
-    (subst (λ n. EndsAt w (starting func s l) left used (E.StepsSpent n) s') is.steps (import_spent w l func s left used s' w' lt (subst (λ t. Calls w.source s func [] left used t s' w') c.in-StepsSpent.is calls)))
+    (subst (λ n. EndsAt w (starting func s l) left used (E.StepsSpent n) s') is.steps (import_spent w l func s left used s' w' lt
+    (subst (λ t. Calls w.source s func [] left used t s' w') c.in-StepsSpent.is calls)))

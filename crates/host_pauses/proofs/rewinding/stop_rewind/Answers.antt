@@ -21,7 +21,8 @@ returns-in-Ended-clause-comes c = λ w l lines since at here under is code waits
     let e = ap (λ x. x.stop_rewind) is.exports in
     let told = c.in_ok-end.ensures.exports w is code f.0 (subst (λ n. Callable w.source n (types_of [])) (sym e) f.1) in
     let got = export_got w Rewinding s s' c.args.setting.now.exports.stop_rewind (exports_of w.source).stop_rewind ([]) ([]) left used c.in_ok-end.field-0 _ e refl c.in-Ended.is told in
-    ended_ok w (calling (rewinding c.args.pause since) s (exports_of w.source).stop_rewind [] (give_answer (record { store = at; here = here; under = under })) l) left used c.in-Ended.end s' c.ended.result lines l (waits_in c.call_export.new.instance) c.ended.ensures.event c.ended.ensures.stage
+    ended_ok w (calling (rewinding c.args.pause since) s (exports_of w.source).stop_rewind [] (give_answer (record { store = at; here = here; under = under })) l) left used c.in-Ended.end
+    s' c.ended.result lines l (waits_in c.call_export.new.instance) c.ended.ensures.event c.ended.ensures.stage
     (got (rewinding c.args.pause since) (give_answer (record { store = at; here = here; under = under })) l tt)
 
 pub returns-in_ok-write_pokes-in-Returned-clause-comes : goal.returns-in_ok-write_pokes-in-Returned-clause-comes
@@ -34,4 +35,5 @@ returns-in_ok-write_pokes-in-Returned-clause-comes c = λ w l lines since at her
     let told = c.in_ok-end.ensures.exports w is code f.0 (subst (λ n. Callable w.source n (types_of [])) (sym e) f.1) in
     let got = export_got w Rewinding s s' c.args.setting.now.exports.stop_rewind (exports_of w.source).stop_rewind ([]) ([]) left used c.in_ok-end.field-0 _ e refl c.in-Returned.is told in
     stopped_rewind w c.args.pause l s left used (option_to_list c.in-Returned.field-0) s' since at (store_in c.write_pokes.new.instance) here under (exports_of w.source).stop_rewind [] _ lines
-    (waits_in c.write_pokes.new.instance) (c.in_ok-write_pokes-in-Returned.ensures.store ∙ ap (λ ps. poked s' (map poke_of ps)) c.deref.ensures.value) (c.write_pokes.ensures.waits ∙ c.call_export.ensures.waits ∙ waits) refl refl got
+    (waits_in c.write_pokes.new.instance) (c.in_ok-write_pokes-in-Returned.ensures.store ∙ ap (λ ps. poked s' (map poke_of ps)) c.deref.ensures.value) (c.write_pokes.ensures.waits
+    ∙ c.call_export.ensures.waits ∙ waits) refl refl got

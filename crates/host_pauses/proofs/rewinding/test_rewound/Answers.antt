@@ -21,7 +21,8 @@ returns-in-Ended-clause-comes c = λ w l lines since at here under is code waits
     let e = ap (λ x. x.get_state) is.exports in
     let told = c.in_ok-end.ensures.exports w is code f.0 (subst (λ n. Callable w.source n (types_of [])) (sym e) f.1) in
     let got = export_got w Rewinding s s' c.args.setting.now.exports.get_state (exports_of w.source).get_state ([]) ([]) left used c.in_ok-end.field-0 _ e refl c.in-Ended.is told in
-    ended_ok w (calling (rewinding c.args.pause since) s (exports_of w.source).get_state [] (test_rewound (record { store = at; here = here; under = under })) l) left used c.in-Ended.end s' c.ended.result lines l (waits_in c.call_export.new.instance) c.ended.ensures.event c.ended.ensures.stage
+    ended_ok w (calling (rewinding c.args.pause since) s (exports_of w.source).get_state [] (test_rewound (record { store = at; here = here; under = under })) l) left used c.in-Ended.end
+    s' c.ended.result lines l (waits_in c.call_export.new.instance) c.ended.ensures.event c.ended.ensures.stage
     (got (rewinding c.args.pause since) (test_rewound (record { store = at; here = here; under = under })) l tt)
 
 pub returns-then-is_state-clause-comes : goal.returns-then-is_state-clause-comes
@@ -33,10 +34,13 @@ returns-then-is_state-clause-comes c = λ w l lines since at here under is code 
     let e = ap (λ x. x.get_state) is.exports in
     let told = c.in_ok-end.ensures.exports w is code f.0 (subst (λ n. Callable w.source n (types_of [])) (sym e) f.1) in
     let got = export_got w Rewinding s s' c.args.setting.now.exports.get_state (exports_of w.source).get_state ([]) ([]) left used c.in_ok-end.field-0 _ e refl c.in-Returned.is told in
-    let on = state_rewound w c.args.pause l s left used (option_to_list c.in-Returned.value) s' since (record { store = at; here = here; under = under }) (exports_of w.source).get_state [] (sym c.is_state.ensures ∙ c.if-is_state.true) got in
+    let on = state_rewound w c.args.pause l s left used (option_to_list c.in-Returned.value) s' since (record { store = at; here = here; under = under }) (exports_of w.source).get_state []
+    (sym c.is_state.ensures ∙ c.if-is_state.true) got in
     let next = calling (rewinding c.args.pause since) s' (exports_of w.source).stop_rewind [] (give_answer (record { store = at; here = here; under = under })) l in
-    let fits = fits_on w.source w.plan (calling (rewinding c.args.pause since) s (exports_of w.source).get_state [] (test_rewound (record { store = at; here = here; under = under })) l) next [] [] used is.valid is.typed on f in
-    behind_ok w (calling (rewinding c.args.pause since) s (exports_of w.source).get_state [] (test_rewound (record { store = at; here = here; under = under })) l) next [] left c.args.steps.now.used c.call_export.new.steps.left c.call_export.new.steps.used c.stop_rewind.new.steps.used c.stop_rewind.result lines lines l
+    let fits = fits_on w.source w.plan (calling (rewinding c.args.pause since) s (exports_of w.source).get_state [] (test_rewound (record { store = at; here = here; under = under })) l)
+    next [] [] used is.valid is.typed on f in
+    behind_ok w (calling (rewinding c.args.pause since) s (exports_of w.source).get_state [] (test_rewound (record { store = at; here = here; under = under })) l) next [] left
+    c.args.steps.now.used c.call_export.new.steps.left c.call_export.new.steps.used c.stop_rewind.new.steps.used c.stop_rewind.result lines lines l
     (store_in c.stop_rewind.new.instance) (waits_in c.stop_rewind.new.instance) c.call_export.ensures.sum c.call_export.ensures.grows c.stop_rewind.ensures.grows on
     (c.stop_rewind.ensures.comes w l lines since at here under is (c.call_export.ensures.code ∙ code) (c.call_export.ensures.waits ∙ waits) fits)
 
@@ -49,5 +53,7 @@ returns-else-is_state-clause-comes c = λ w l lines since at here under is code 
     let e = ap (λ x. x.get_state) is.exports in
     let told = c.in_ok-end.ensures.exports w is code f.0 (subst (λ n. Callable w.source n (types_of [])) (sym e) f.1) in
     let got = export_got w Rewinding s s' c.args.setting.now.exports.get_state (exports_of w.source).get_state ([]) ([]) left used c.in_ok-end.field-0 _ e refl c.in-Returned.is told in
-    ended_ok w (calling (rewinding c.args.pause since) s (exports_of w.source).get_state [] (test_rewound (record { store = at; here = here; under = under })) l) left used (E.Broken 4) s' c.ended-else-is_state.result lines l (waits_in c.call_export.new.instance) c.ended-else-is_state.ensures.event c.ended-else-is_state.ensures.stage
-    (state_not_rewound w c.args.pause l s left used (option_to_list c.in-Returned.value) s' since (record { store = at; here = here; under = under }) (exports_of w.source).get_state [] (sym c.is_state.ensures ∙ c.if-is_state.false) got)
+    ended_ok w (calling (rewinding c.args.pause since) s (exports_of w.source).get_state [] (test_rewound (record { store = at; here = here; under = under })) l) left used
+    (E.Broken 4) s' c.ended-else-is_state.result lines l (waits_in c.call_export.new.instance) c.ended-else-is_state.ensures.event c.ended-else-is_state.ensures.stage
+    (state_not_rewound w c.args.pause l s left used (option_to_list c.in-Returned.value) s' since (record { store = at; here = here; under = under }) (exports_of w.source).get_state []
+    (sym c.is_state.ensures ∙ c.if-is_state.false) got)

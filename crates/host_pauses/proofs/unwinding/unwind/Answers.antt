@@ -29,7 +29,8 @@ returns-in-Ended-clause-comes c = λ w l lines is code f.
     let e = ap (λ x. x.start_unwind) is.exports in
     let typed = subst (λ n. Callable w.source n (types_of (V.I32 c.args.setting.now.area.at ∷ []))) (sym e) g.fits.1 in
     let told = c.in_ok-end.ensures.exports w is (c.write_words.ensures.code ∙ code) (subst (StoreFits w.source) (sym written) g.fits.0) typed in
-    let got0 = export_got w Unwinding s s' c.args.setting.now.exports.start_unwind (exports_of w.source).start_unwind (V.I32 c.args.setting.now.area.at ∷ []) (V.I32 w.plan.area.at ∷ []) left used c.in_ok-end.field-0 _ e (ap (λ a. V.I32 a.at ∷ []) (sym is.area)) c.in-Ended.is told in
+    let got0 = export_got w Unwinding s s' c.args.setting.now.exports.start_unwind (exports_of w.source).start_unwind (V.I32 c.args.setting.now.area.at ∷ [])
+    (V.I32 w.plan.area.at ∷ []) left used c.in_ok-end.field-0 _ e (ap (λ a. V.I32 a.at ∷ []) (sym is.area)) c.in-Ended.is told in
     let got = subst (λ z. Exports w Unwinding z (exports_of w.source).start_unwind (V.I32 w.plan.area.at ∷ []) left used (X.Ended c.in-Ended.end) s') written got0 in
     let from = calling (unwinding c.args.pause) s1 (exports_of w.source).start_unwind (V.I32 w.plan.area.at ∷ []) (give_zero (record { store = s0; here = g.here; under = g.under })) l in
     subst (λ z. IfOk c.ended.result (λ m. ComesFrom w z left used m lines lines l s' (waits_in c.call_export.new.instance))) (sym g.place_is)
@@ -49,14 +50,16 @@ returns-in-Returned-clause-comes c = λ w l lines is code f.
     let e = ap (λ x. x.start_unwind) is.exports in
     let typed = subst (λ n. Callable w.source n (types_of (V.I32 c.args.setting.now.area.at ∷ []))) (sym e) g.fits.1 in
     let told = c.in_ok-end.ensures.exports w is (c.write_words.ensures.code ∙ code) (subst (StoreFits w.source) (sym written) g.fits.0) typed in
-    let got0 = export_got w Unwinding s s' c.args.setting.now.exports.start_unwind (exports_of w.source).start_unwind (V.I32 c.args.setting.now.area.at ∷ []) (V.I32 w.plan.area.at ∷ []) left used c.in_ok-end.field-0 _ e (ap (λ a. V.I32 a.at ∷ []) (sym is.area)) c.in-Returned.is told in
+    let got0 = export_got w Unwinding s s' c.args.setting.now.exports.start_unwind (exports_of w.source).start_unwind (V.I32 c.args.setting.now.area.at ∷ [])
+    (V.I32 w.plan.area.at ∷ []) left used c.in_ok-end.field-0 _ e (ap (λ a. V.I32 a.at ∷ []) (sym is.area)) c.in-Returned.is told in
     let got = subst (λ z. Exports w Unwinding z (exports_of w.source).start_unwind (V.I32 w.plan.area.at ∷ []) left used (X.Returned c.in-Returned.field-0) s') written got0 in
     let from = calling (unwinding c.args.pause) s1 (exports_of w.source).start_unwind (V.I32 w.plan.area.at ∷ []) (give_zero (record { store = s0; here = g.here; under = g.under })) l in
     let on = started_unwind w c.args.pause l s1 left used (option_to_list c.in-Returned.field-0) s' s0 g.here g.under (exports_of w.source).start_unwind (V.I32 w.plan.area.at ∷ []) got in
     let next = busy (unwinding c.args.pause) (resumed (record { store = s'; here = g.here; under = g.under }) s' (zeros_of w.source c.args.pause.import)) l in
     let fits = fits_on w.source w.plan from next [] [] used is.valid is.typed on g.fits in
     let waits = c.call_export.ensures.waits ∙ c.write_words.ensures.waits ∙ g.waits_is in
-    subst (λ z. IfOk c.give_zero.result (λ m. ComesFrom w z left (c.give_zero.new.steps.used - c.args.steps.now.used) m lines lines l (store_in c.give_zero.new.instance) (waits_in c.give_zero.new.instance))) (sym g.place_is)
+    subst (λ z. IfOk c.give_zero.result (λ m. ComesFrom w z left (c.give_zero.new.steps.used - c.args.steps.now.used) m lines lines l (store_in c.give_zero.new.instance)
+    (waits_in c.give_zero.new.instance))) (sym g.place_is)
     (behind_ok w from next [] left c.args.steps.now.used c.call_export.new.steps.left c.call_export.new.steps.used c.give_zero.new.steps.used c.give_zero.result lines lines l
     (store_in c.give_zero.new.instance) (waits_in c.give_zero.new.instance) c.call_export.ensures.sum c.call_export.ensures.grows c.give_zero.ensures.grows on
     (c.give_zero.ensures.comes w l lines g.here g.under is (c.call_export.ensures.code ∙ c.write_words.ensures.code ∙ code) waits fits))

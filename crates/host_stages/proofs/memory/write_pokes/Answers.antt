@@ -14,7 +14,8 @@ loop-poke-preserved c =
     record {
       store = poked_more (store_in c.args.instance.now) s (store_in c.write.new.instance) c.args.pokes.now c.loop-poke.poke-index c.poke-item.result c.loop-poke-test.true c.poke-item.is
           c.loop-poke.invariant.store
-          (c.in_ok-write.ensures.store ∙ ap (λ n. with_memory s (overwritten s.memory n c.deref.result.now)) c.from.ensures ∙ ap (λ b. with_memory s (overwritten s.memory c.poke-item.result.at b)) c.deref.ensures.value);
+          (c.in_ok-write.ensures.store ∙ ap (λ n. with_memory s (overwritten s.memory n c.deref.result.now)) c.from.ensures
+          ∙ ap (λ b. with_memory s (overwritten s.memory c.poke-item.result.at b)) c.deref.ensures.value);
       waits = c.write.ensures.waits ∙ c.loop-poke.invariant.waits;
       code = c.write.ensures.code ∙ c.loop-poke.invariant.code;
     }

@@ -59,7 +59,8 @@ returns-clause-lacks c =
     let entered_is =
     ap (λ v. running s here.func (map waiting_of (reverse v)) here.locals.items (reverse here.operands.items) (code here.code.now) (map label_of (reverse here.labels.items))) c.new-under.ensures.items
     ∙ entered_runs s here x args f [] c.in_ok-here.ensures.entered in
-    let room = alone_room m (record { here = here; under = c.new-under.result }) (entered_room m here x f c.in_ok-here.ensures.entered.func_is c.in-Some.ensures c.in_ok-here.ensures.reserves) c.new-under.ensures.items in
+    let room = alone_room m (record { here = here; under = c.new-under.result }) (entered_room m here x f c.in_ok-here.ensures.entered.func_is c.in-Some.ensures
+    c.in_ok-here.ensures.reserves) c.new-under.ensures.items in
     IfErr-weaker c.go_on.result _ _
     (λ e lacks v ok typed.
     inside_run f more c.in-Some.ensures cost

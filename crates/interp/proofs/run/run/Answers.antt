@@ -11,7 +11,14 @@ use Rattle.interp_reduce.proofs.RoomKept.{err_any}
 use Rattle.interp.proofs.run.run.Goals as goal
 
 pub loop-steps-init : goal.loop-steps-init
-loop-steps-init c = record { goes = no_step (module_of c.args.program.now.source.now) (running_of (store_of c.args.store.now) c.args.stack.now) _ (omega arith); sum = refl; grows = omega arith; room = λ h. h; max = refl }
+loop-steps-init c = record {
+  goes = no_step (module_of c.args.program.now.source.now) (running_of (store_of c.args.store.now) c.args.stack.now) _ (omega arith);
+  sum = refl;
+  grows =
+      omega arith;
+  room = λ h. h;
+  max = refl;
+}
 
 pub loop-steps-preserved : goal.loop-steps-preserved
 loop-steps-preserved c =
@@ -41,9 +48,11 @@ returns-in-Returned-clause-runs c = λ v ok.
     let told = subst (λ f. Tells at.store (step m at) c.loop-steps.steps.left f to) c.in-Returned.is c.in_ok-more.ensures.tells in
     let more = c.in-Returned.more in
     let paid : c.pay-in-Returned.new.steps.used - c.args.steps.now.used ≡ n + (more + 1) = omega (arith, c.pay-in-Returned.ensures.used, c.loop-steps.invariant.grows) in
-    let enough : c.pay-in-Returned.new.steps.used - c.args.steps.now.used ≤ c.args.steps.now.left = omega (arith, c.pay-in-Returned.ensures.used, c.pay-in-Returned.ensures.left, c.loop-steps.invariant.grows, c.loop-steps.invariant.sum) in
+    let enough : c.pay-in-Returned.new.steps.used - c.args.steps.now.used ≤ c.args.steps.now.left =
+    omega (arith, c.pay-in-Returned.ensures.used, c.pay-in-Returned.ensures.left, c.loop-steps.invariant.grows, c.loop-steps.invariant.sum) in
     let values = returned_listed m from n more at told.0.values to.store c.in-Returned.value v ok c.loop-steps.invariant.goes told.0.next_is told.0.value_is in
-    ends_by m from c.args.steps.now.left n more _ at _ (it_returned (option_to_list c.in-Returned.value) to.store) c.loop-steps.invariant.goes told.0.next_is ((let e : more + 1 ≡ suc more = omega arith in e), ap (λ vs. it_returned vs to.store) (sym values)) paid enough
+    ends_by m from c.args.steps.now.left n more _ at _ (it_returned (option_to_list c.in-Returned.value) to.store) c.loop-steps.invariant.goes told.0.next_is
+    ((let e : more + 1 ≡ suc more = omega arith in e), ap (λ vs. it_returned vs to.store) (sym values)) paid enough
 
 pub returns-in-Trapped-clause-runs : goal.returns-in-Trapped-clause-runs
 returns-in-Trapped-clause-runs c = λ v ok.
@@ -55,7 +64,8 @@ returns-in-Trapped-clause-runs c = λ v ok.
     let told = subst (λ f. Tells at.store (step m at) c.loop-steps.steps.left f to) c.in-Trapped.is c.in_ok-more.ensures.tells in
     let more = c.in-Trapped.more in
     let paid : c.pay-in-Trapped.new.steps.used - c.args.steps.now.used ≡ n + (more + 1) = omega (arith, c.pay-in-Trapped.ensures.used, c.loop-steps.invariant.grows) in
-    let enough : c.pay-in-Trapped.new.steps.used - c.args.steps.now.used ≤ c.args.steps.now.left = omega (arith, c.pay-in-Trapped.ensures.used, c.pay-in-Trapped.ensures.left, c.loop-steps.invariant.grows, c.loop-steps.invariant.sum) in
+    let enough : c.pay-in-Trapped.new.steps.used - c.args.steps.now.used ≤ c.args.steps.now.left =
+    omega (arith, c.pay-in-Trapped.ensures.used, c.pay-in-Trapped.ensures.left, c.loop-steps.invariant.grows, c.loop-steps.invariant.sum) in
     ends_by m from c.args.steps.now.left n more _ at _ (it_trapped c.in-Trapped.trap to.store) c.loop-steps.invariant.goes told.0 ((let e : more + 1 ≡ suc more = omega arith in e), refl) paid enough
 
 pub returns-in-Asked-clause-runs : goal.returns-in-Asked-clause-runs
@@ -68,8 +78,10 @@ returns-in-Asked-clause-runs c = λ v ok.
     let told = subst (λ f. Tells at.store (step m at) c.loop-steps.steps.left f to) c.in-Asked.is c.in_ok-more.ensures.tells in
     let more = c.in-Asked.more in
     let paid : c.pay-in-Asked.new.steps.used - c.args.steps.now.used ≡ n + (more + 1) = omega (arith, c.pay-in-Asked.ensures.used, c.loop-steps.invariant.grows) in
-    let enough : c.pay-in-Asked.new.steps.used - c.args.steps.now.used ≤ c.args.steps.now.left = omega (arith, c.pay-in-Asked.ensures.used, c.pay-in-Asked.ensures.left, c.loop-steps.invariant.grows, c.loop-steps.invariant.sum) in
-    ends_by m from c.args.steps.now.left n more _ at _ (it_asks c.in-Asked.import (args_below c.in-Asked.own (c.in-Asked.taken - c.in-Asked.own) to) (taking c.in-Asked.taken to)) c.loop-steps.invariant.goes told.0 ((let e : more + 1 ≡ suc more = omega arith in e), refl) paid enough
+    let enough : c.pay-in-Asked.new.steps.used - c.args.steps.now.used ≤ c.args.steps.now.left =
+    omega (arith, c.pay-in-Asked.ensures.used, c.pay-in-Asked.ensures.left, c.loop-steps.invariant.grows, c.loop-steps.invariant.sum) in
+    ends_by m from c.args.steps.now.left n more _ at _ (it_asks c.in-Asked.import (args_below c.in-Asked.own (c.in-Asked.taken - c.in-Asked.own) to) (taking c.in-Asked.taken to))
+    c.loop-steps.invariant.goes told.0 ((let e : more + 1 ≡ suc more = omega arith in e), refl) paid enough
 
 pub returns-in-Spent-clause-runs : goal.returns-in-Spent-clause-runs
 returns-in-Spent-clause-runs c = λ v ok.
@@ -89,7 +101,12 @@ returns-clause-runs c = λ v ok.
     let at = running_of (store_of c.loop-steps.store) c.loop-steps.stack in
     let n = c.loop-steps.steps.used - c.args.steps.now.used in
     let left : c.args.steps.now.left ≡ n + c.loop-steps.steps.left = omega (arith, c.loop-steps.invariant.grows, c.loop-steps.invariant.sum) in
-    record { at = at; store_is = refl; ends = ends_spent m from c.args.steps.now.left n c.loop-steps.steps.left at v ok c.loop-steps.invariant.goes left (nothing_left (step m at) c.loop-steps.steps.left c.loop-steps-test.false) }
+    record {
+      at = at;
+      store_is = refl;
+      ends = ends_spent m from c.args.steps.now.left n c.loop-steps.steps.left at v ok c.loop-steps.invariant.goes left
+          (nothing_left (step m at) c.loop-steps.steps.left c.loop-steps-test.false);
+    }
 
 pub returns-in_err-more-clause-lacks : goal.returns-in_err-more-clause-lacks
 returns-in_err-more-clause-lacks c =

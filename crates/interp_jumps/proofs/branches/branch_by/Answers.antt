@@ -16,7 +16,8 @@ returns-then-left-more-clause-tells c =
     let size = c.args.labels.now.ok.0 in
     let short : c.args.left ≤ length c.args.labels.now.items + 1 = omega arith in
     λ s. (
-      table_unpaid m s (length c.args.labels.now.items + 1) k.here.func (map waiting_of (reverse k.under.items)) k.here.locals.items (reverse k.here.operands.items) (map label_of (reverse k.here.labels.items)) (λ n. unwrap_or (slice_get c.args.labels.now.items n) c.args.last) c.args.left short,
+      table_unpaid m s (length c.args.labels.now.items + 1) k.here.func (map waiting_of (reverse k.under.items)) k.here.locals.items (reverse k.here.operands.items)
+          (map label_of (reverse k.here.labels.items)) (λ n. unwrap_or (slice_get c.args.labels.now.items n) c.args.last) c.args.left short,
       refl,
     )
 

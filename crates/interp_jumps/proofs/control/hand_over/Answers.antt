@@ -12,7 +12,9 @@ returns-clause-puts c =
     let n : c.saturating_sub.result ≡ length to - c.args.taken = omega arith in
     let k : c.saturating_sub-2.result ≡ length from - c.args.arity = omega arith in
     let kept = c.truncate.ensures.items ∙ ap (λ i. take i to) n in
-    let whole = take_all (length c.deref.result.now - c.saturating_sub-2.result) (drop c.saturating_sub-2.result c.deref.result.now) (omega (arith, length-drop c.saturating_sub-2.result c.deref.result.now)) in
+    let whole = take_all (length c.deref.result.now - c.saturating_sub-2.result) (drop c.saturating_sub-2.result c.deref.result.now)
+    (omega (arith, length-drop c.saturating_sub-2.result c.deref.result.now)) in
     let given = whole ∙ ap (drop c.saturating_sub-2.result) c.deref.ensures.value ∙ ap (λ i. drop i from) k in
-    ap reverse (c.in_ok-extend_from_slice.ensures.items ∙ ap (λ v. v ++ take (length c.deref.result.now - c.saturating_sub-2.result) (drop c.saturating_sub-2.result c.deref.result.now)) kept ∙ ap (λ v. take (length to - c.args.taken) to ++ v) given)
+    ap reverse (c.in_ok-extend_from_slice.ensures.items ∙ ap (λ v. v ++ take (length c.deref.result.now - c.saturating_sub-2.result) (drop c.saturating_sub-2.result c.deref.result.now))
+    kept ∙ ap (λ v. take (length to - c.args.taken) to ++ v) given)
     ∙ handed from to c.args.arity c.args.taken

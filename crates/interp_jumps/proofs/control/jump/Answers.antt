@@ -128,8 +128,11 @@ returns-in_err-carry-in-Block-clause-lacks c =
     let ops' = take (count_of c.in-Block.carries) ops ++ keep c.in-Block.height ops in
     err_any c.from_residual.result _
     (λ e s outs h fits.
-    let path = at_block m s c.args.more k.here.func under ls ops labels (take (length labels - 1) labels) c.in-Some.entry.now c.in-Block.height c.loop-entry.passed c.in-Block.carries c.in-Block.rest c.in-Block.skipped ops' split c.in-Block.is c.if-passed-eq0.true refl in
+    let path = at_block m s c.args.more k.here.func under ls ops labels (take (length labels - 1) labels) c.in-Some.entry.now c.in-Block.height c.loop-entry.passed c.in-Block.carries
+    c.in-Block.rest c.in-Block.skipped ops' split c.in-Block.is c.if-passed-eq0.true refl in
     let room = roomier m c.args.stack.now k c.loop-entry.invariant.roomier h in
-    let within = operands_within m outs (jump_of m s c.args.more c.args.stack.now c.args.label) c.args.more (running s k.here.func under ls ops' (code c.in-Block.rest.now) (map label_of (reverse (take (length labels - 1) labels)))) (vec_capacity k.here.operands) (sym (c.loop-entry.invariant.path s) ∙ path) fits room.here.operands in
+    let within = operands_within m outs (jump_of m s c.args.more c.args.stack.now c.args.label) c.args.more
+    (running s k.here.func under ls ops' (code c.in-Block.rest.now) (map label_of (reverse (take (length labels - 1) labels)))) (vec_capacity k.here.operands)
+    (sym (c.loop-entry.invariant.path s) ∙ path) fits room.here.operands in
     let lacking : vec_capacity k.here.operands < length ops' = c.in_err-carry-in-Block.ensures.lacks in
     omega arith)

@@ -12,4 +12,5 @@ returns c =
     let globals = c.args.source.now.globals.items in
     c.in_ok-extend_from_slice.ensures.items
     ∙ ap (λ v. v ++ c.deref-2.result.now) c.in_ok-values.ensures.items
-    ∙ ap (λ v. imports ++ v) (c.deref-2.ensures.value ∙ c.in_ok-defined.ensures ∙ ap (map (value_of_global imports)) c.deref.ensures.value ∙ sym (map_map (λ (g : GlobalDef). constant_value imports g.init) global_of globals))
+    ∙ ap (λ v. imports ++ v) (c.deref-2.ensures.value ∙ c.in_ok-defined.ensures ∙ ap (map (value_of_global imports)) c.deref.ensures.value
+    ∙ sym (map_map (λ (g : GlobalDef). constant_value imports g.init) global_of globals))

@@ -17,16 +17,19 @@ returns-then-not-is_empty c =
 
 pub returns-in-Const : goal.returns-in-Const
 returns-in-Const c =
-    sym (ap (constant_value c.args.globals.now) (single c.args.init.now c.in-Some.first.now (Const c.in-Const.v) c.in-Some.rest.now c.in-Some.ensures.cases.0 (eqb-true _ _ (sym c.is_empty.ensures ∙ c.if-not-is_empty.false)) c.in-Const.is)
+    sym (ap (constant_value c.args.globals.now) (single c.args.init.now c.in-Some.first.now (Const c.in-Const.v) c.in-Some.rest.now c.in-Some.ensures.cases.0
+    (eqb-true _ _ (sym c.is_empty.ensures ∙ c.if-not-is_empty.false)) c.in-Const.is)
     ∙ constant_const c.args.globals.now c.in-Const.v)
 
 pub returns-in-GlobalGet : goal.returns-in-GlobalGet
 returns-in-GlobalGet c =
     c.value_at.ensures
-    ∙ sym (ap (constant_value c.args.globals.now) (single c.args.init.now c.in-Some.first.now (GlobalGet c.in-GlobalGet.x) c.in-Some.rest.now c.in-Some.ensures.cases.0 (eqb-true _ _ (sym c.is_empty.ensures ∙ c.if-not-is_empty.false)) c.in-GlobalGet.is)
+    ∙ sym (ap (constant_value c.args.globals.now) (single c.args.init.now c.in-Some.first.now (GlobalGet c.in-GlobalGet.x) c.in-Some.rest.now c.in-Some.ensures.cases.0
+    (eqb-true _ _ (sym c.is_empty.ensures ∙ c.if-not-is_empty.false)) c.in-GlobalGet.is)
     ∙ constant_get c.args.globals.now c.in-GlobalGet.x)
 
 pub returns-in_default-first : goal.returns-in_default-first
 returns-in_default-first c =
-    sym (ap (constant_value c.args.globals.now) (single c.args.init.now c.in-Some.first.now c.in-Some.first.now c.in-Some.rest.now c.in-Some.ensures.cases.0 (eqb-true _ _ (sym c.is_empty.ensures ∙ c.if-not-is_empty.false)) refl)
+    sym (ap (constant_value c.args.globals.now) (single c.args.init.now c.in-Some.first.now c.in-Some.first.now c.in-Some.rest.now c.in-Some.ensures.cases.0
+    (eqb-true _ _ (sym c.is_empty.ensures ∙ c.if-not-is_empty.false)) refl)
     ∙ constant_other c.args.globals.now c.in-Some.first.now c.in_default-first.not-Const c.in_default-first.not-GlobalGet)

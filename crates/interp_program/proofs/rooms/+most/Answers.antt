@@ -20,12 +20,14 @@ most_inside-most_operands-requires-in-Loop t c =
 
 pub most_inside-most_operands-first-requires : goal.most_inside-most_operands-first-requires
 most_inside-most_operands-first-requires t c =
-    let counted = ap (λ x. count_of (in_front x done)) c.in-If.is ∙ count_if c.in-If.result c.in-If.then_arm c.in-If.else_arm ∙ ap (λ b. 1 + count_of (code b) + count_of (code c.in-If.else_arm.items)) (sym c.deref-in-If.ensures.value) in
+    let counted = ap (λ x. count_of (in_front x done)) c.in-If.is ∙ count_if c.in-If.result c.in-If.then_arm c.in-If.else_arm
+    ∙ ap (λ b. 1 + count_of (code b) + count_of (code c.in-If.else_arm.items)) (sym c.deref-in-If.ensures.value) in
     (search (rules, the_lemmas), (c.requires.sorts, omega (arith, c.requires.fits, counted, c.saturating_sub-below.ensures)))
 
 pub most_inside-most_operands-second-requires : goal.most_inside-most_operands-second-requires
 most_inside-most_operands-second-requires t c =
-    let counted = ap (λ x. count_of (in_front x done)) c.in-If.is ∙ count_if c.in-If.result c.in-If.then_arm c.in-If.else_arm ∙ ap (λ b. 1 + count_of (code c.in-If.then_arm.items) + count_of (code b)) (sym c.deref-in-If-2.ensures.value) in
+    let counted = ap (λ x. count_of (in_front x done)) c.in-If.is ∙ count_if c.in-If.result c.in-If.then_arm c.in-If.else_arm
+    ∙ ap (λ b. 1 + count_of (code c.in-If.then_arm.items) + count_of (code b)) (sym c.deref-in-If-2.ensures.value) in
     (search (rules, the_lemmas), (c.requires.sorts, omega (arith, c.requires.fits, counted, c.saturating_sub-below.ensures)))
 
 pub most_operands-most_inside-requires : goal.most_operands-most_inside-requires

@@ -18,7 +18,9 @@ returns-clause-tells c =
     let found : slice_get c.args.table.now.items place ≡ Some (Some func) = sym c.element_at.ensures ∙ c.in-Some-element_at.is ∙ ap Some c.in-Some-element.is in
     IfOk-weaker c.invoke.result _ _
     (λ f told s same.
-    let path = indirect_invokes m s k.here.func under k.here.locals.items ops (map label_of (reverse k.here.labels.items)) (code k.here.code.now) c.args.sort place func c.sort_params-params.result c.in-Some.ensures (ap (λ t. slice_get t place) same ∙ found) (sym c.has_type.ensures ∙ c.if-not-has_type.false) c.sort_params-params.ensures.count in
+    let path = indirect_invokes m s k.here.func under k.here.locals.items ops (map label_of (reverse k.here.labels.items))
+    (code k.here.code.now) c.args.sort place func c.sort_params-params.result c.in-Some.ensures (ap (λ t. slice_get t place) same ∙ found) (sym c.has_type.ensures
+    ∙ c.if-not-has_type.false) c.sort_params-params.ensures.count in
     subst (λ x. Tells s x c.args.left f (running_of s c.invoke.new.stack)) path (told s))
     c.invoke.ensures.tells
 
@@ -33,6 +35,8 @@ returns-clause-lacks c =
     let found : slice_get c.args.table.now.items place ≡ Some (Some func) = sym c.element_at.ensures ∙ c.in-Some-element_at.is ∙ ap Some c.in-Some-element.is in
     IfErr-weaker c.invoke.result _ _
     (λ e paid s same.
-    let path = indirect_invokes m s k.here.func under k.here.locals.items ops (map label_of (reverse k.here.labels.items)) (code k.here.code.now) c.args.sort place func c.sort_params-params.result c.in-Some.ensures (ap (λ t. slice_get t place) same ∙ found) (sym c.has_type.ensures ∙ c.if-not-has_type.false) c.sort_params-params.ensures.count in
+    let path = indirect_invokes m s k.here.func under k.here.locals.items ops (map label_of (reverse k.here.labels.items))
+    (code k.here.code.now) c.args.sort place func c.sort_params-params.result c.in-Some.ensures (ap (λ t. slice_get t place) same ∙ found) (sym c.has_type.ensures
+    ∙ c.if-not-has_type.false) c.sort_params-params.ensures.count in
     subst (λ x. paid_for x ≡ 0) path (paid s))
     c.invoke.ensures.lacks

@@ -17,8 +17,11 @@ returns-then-func-program-clause-tells c =
     let k = c.args.stack.now in
     let ops = reverse k.here.operands.items in
     λ s. (
-      asked_at m s k.here.func (map waiting_of (reverse k.under.items)) k.here.locals.items ops (code k.here.code.now) (map label_of (reverse k.here.labels.items)) c.args.own c.args.params c.args.func c.in_default.ensures (subst (λ i. c.args.func < i) c.args.program.now.imports_are c.if-func-program.true)
-          ∙ ap (λ p. asks c.args.params c.args.func (reverse (take p (drop c.args.own ops))) (taking (c.args.own + c.args.params) (running_of s k))) (let e : c.args.params ≡ c.args.own + c.args.params - c.args.own = omega arith in e),
+      asked_at m s k.here.func (map waiting_of (reverse k.under.items)) k.here.locals.items ops (code k.here.code.now)
+          (map label_of (reverse k.here.labels.items)) c.args.own c.args.params c.args.func c.in_default.ensures
+          (subst (λ i. c.args.func < i) c.args.program.now.imports_are c.if-func-program.true)
+          ∙ ap (λ p. asks c.args.params c.args.func (reverse (take p (drop c.args.own ops))) (taking (c.args.own + c.args.params) (running_of s k)))
+          (let e : c.args.params ≡ c.args.own + c.args.params - c.args.own = omega arith in e),
       omega arith,
     )
 

@@ -1,8 +1,10 @@
 use Rattle.std.proofs.Common.{ap, sym, ◌∙◌, refl, map, reverse, subst}
 use Rattle.std.proofs.lemmas.Result.{IfOk-weaker, IfErr-weaker}
 use Rattle.wa_types.specs.declared.values.Trap.TheVariants as T
-use Rattle.wa_types.specs.declared.instrs.Instr.TheVariants.{Unreachable, Nop, Drop, Select, Return, MemorySize, MemoryGrow, Const, Num, Br, BrIf, BrTable, Call, CallIndirect, LocalGet, LocalSet, LocalTee, GlobalGet, GlobalSet, Load, Store, Block, Loop, If}
-use Rattle.wa_types.specs.Syntax.{basic, nop, drop as drop_operand, select, const, num, global_get, global_set, load, store, memory_size, memory_grow, local_get, local_set, local_tee, br, br_if, br_table, return, unreachable, call, call_indirect, plain, nest, branch, a_block, a_loop}
+use Rattle.wa_types.specs.declared.instrs.Instr.TheVariants.{Unreachable, Nop, Drop, Select, Return, MemorySize, MemoryGrow, Const, Num, Br, BrIf, BrTable, Call, CallIndirect, LocalGet}
+use Rattle.wa_types.specs.declared.instrs.Instr.TheVariants.{LocalSet, LocalTee, GlobalGet, GlobalSet, Load, Store, Block, Loop, If}
+use Rattle.wa_types.specs.Syntax.{basic, nop, drop as drop_operand, select, const, num, global_get, global_set, load, store, memory_size, memory_grow, local_get, local_set, local_tee, br}
+use Rattle.wa_types.specs.Syntax.{br_if, br_table, return, unreachable, call, call_indirect, plain, nest, branch, a_block, a_loop}
 use Rattle.wa_types.specs.View.{code, module_of}
 use Rattle.wa_types.proofs.ViewLemmas.{in_block, in_loop, in_if, in_br_table}
 use Rattle.wa_model.specs.Fitting.{NextFits}
@@ -12,7 +14,8 @@ use Rattle.interp_program.specs.Effects.{Shows, effect}
 use Rattle.interp_jumps.specs.Stacks.{code_of}
 use Rattle.interp_jumps.specs.Told.{Tells}
 use Rattle.interp_program.specs.View.{store_of, running_of, waiting_of}
-use Rattle.interp_reduce.proofs.Fronts.{front_unreachable, front_nop, front_drop, front_select, front_return, front_size, front_grow, front_const, front_num, front_br, front_br_if, front_call, front_indirect, front_local_get, front_local_set, front_local_tee, front_global_get, front_global_set, front_load, front_store}
+use Rattle.interp_reduce.proofs.Fronts.{front_unreachable, front_nop, front_drop, front_select, front_return, front_size, front_grow, front_const, front_num, front_br, front_br_if}
+use Rattle.interp_reduce.proofs.Fronts.{front_call, front_indirect, front_local_get, front_local_set, front_local_tee, front_global_get, front_global_set, front_load, front_store}
 use Rattle.interp_jumps.proofs.ReduceLemmas.{code_arm, basic_arm, if_ok_both}
 use Rattle.interp_jumps.proofs.RoomKept.{arm_lacked, err_any, grow_unpaid, labels_lacked, never_err, ok_any, operands_hold, operands_lacked, refuted_arm, roomier, taking_arm}
 use Rattle.interp_reduce.proofs.reducing.dispatch.Goals as goal
@@ -23,7 +26,8 @@ returns-in-Const-clause-tells c =
     let s = store_of c.args.store.now in
     let k = c.args.stack.now in
     let rest = code k.here.code.now in
-    IfOk-weaker c.constant.result _ _ (λ f told. basic_arm m s s k c.constant.new.operands c.args.instr.now (Const c.in-Const.value) (const c.in-Const.value) f c.args.left c.in-Const.is (front_const c.in-Const.value rest) c.requires.paid (λ _. refl) (told (memory_max m) s)) c.constant.ensures.shows
+    IfOk-weaker c.constant.result _ _ (λ f told. basic_arm m s s k c.constant.new.operands c.args.instr.now (Const c.in-Const.value) (const c.in-Const.value) f c.args.left c.in-Const.is
+    (front_const c.in-Const.value rest) c.requires.paid (λ _. refl) (told (memory_max m) s)) c.constant.ensures.shows
 
 pub returns-in-Num-clause-tells : goal.returns-in-Num-clause-tells
 returns-in-Num-clause-tells c =
@@ -31,7 +35,8 @@ returns-in-Num-clause-tells c =
     let s = store_of c.args.store.now in
     let k = c.args.stack.now in
     let rest = code k.here.code.now in
-    IfOk-weaker c.numeric.result _ _ (λ f told. basic_arm m s s k c.numeric.new.operands c.args.instr.now (Num c.in-Num.op) (num c.in-Num.op) f c.args.left c.in-Num.is (front_num c.in-Num.op rest) c.requires.paid (λ _. refl) (told (memory_max m) s)) c.numeric.ensures.shows
+    IfOk-weaker c.numeric.result _ _ (λ f told. basic_arm m s s k c.numeric.new.operands c.args.instr.now (Num c.in-Num.op) (num c.in-Num.op) f c.args.left c.in-Num.is
+    (front_num c.in-Num.op rest) c.requires.paid (λ _. refl) (told (memory_max m) s)) c.numeric.ensures.shows
 
 pub returns-in-Select-clause-tells : goal.returns-in-Select-clause-tells
 returns-in-Select-clause-tells c =
@@ -39,7 +44,8 @@ returns-in-Select-clause-tells c =
     let s = store_of c.args.store.now in
     let k = c.args.stack.now in
     let rest = code k.here.code.now in
-    IfOk-weaker c.choose.result _ _ (λ f told. basic_arm m s s k c.choose.new.operands c.args.instr.now Select select f c.args.left c.in-Select.is (front_select rest) c.requires.paid (λ _. refl) (told (memory_max m) s)) c.choose.ensures.shows
+    IfOk-weaker c.choose.result _ _ (λ f told. basic_arm m s s k c.choose.new.operands c.args.instr.now Select select f c.args.left c.in-Select.is (front_select rest) c.requires.paid
+    (λ _. refl) (told (memory_max m) s)) c.choose.ensures.shows
 
 pub returns-in-Load-clause-tells : goal.returns-in-Load-clause-tells
 returns-in-Load-clause-tells c =
@@ -47,7 +53,9 @@ returns-in-Load-clause-tells c =
     let s = store_of c.args.store.now in
     let k = c.args.stack.now in
     let rest = code k.here.code.now in
-    IfOk-weaker c.load_at.result _ _ (λ f told. basic_arm m s s k c.load_at.new.operands c.args.instr.now (Load c.in-Load.op c.in-Load.align c.in-Load.offset) (load c.in-Load.op c.in-Load.align c.in-Load.offset) f c.args.left c.in-Load.is (front_load c.in-Load.op c.in-Load.align c.in-Load.offset rest) c.requires.paid (λ _. refl) (told (memory_max m) c.in-Load.align)) c.load_at.ensures.shows
+    IfOk-weaker c.load_at.result _ _ (λ f told. basic_arm m s s k c.load_at.new.operands c.args.instr.now (Load c.in-Load.op c.in-Load.align c.in-Load.offset)
+    (load c.in-Load.op c.in-Load.align c.in-Load.offset) f c.args.left c.in-Load.is (front_load c.in-Load.op c.in-Load.align c.in-Load.offset rest) c.requires.paid (λ _. refl)
+    (told (memory_max m) c.in-Load.align)) c.load_at.ensures.shows
 
 pub returns-in-MemorySize-clause-tells : goal.returns-in-MemorySize-clause-tells
 returns-in-MemorySize-clause-tells c =
@@ -55,7 +63,8 @@ returns-in-MemorySize-clause-tells c =
     let s = store_of c.args.store.now in
     let k = c.args.stack.now in
     let rest = code k.here.code.now in
-    IfOk-weaker c.memory_size.result _ _ (λ f told. basic_arm m s s k c.memory_size.new.operands c.args.instr.now MemorySize memory_size f c.args.left c.in-MemorySize.is (front_size rest) c.requires.paid (λ _. refl) (told (memory_max m))) c.memory_size.ensures.shows
+    IfOk-weaker c.memory_size.result _ _ (λ f told. basic_arm m s s k c.memory_size.new.operands c.args.instr.now MemorySize memory_size f c.args.left c.in-MemorySize.is
+    (front_size rest) c.requires.paid (λ _. refl) (told (memory_max m))) c.memory_size.ensures.shows
 
 pub returns-in-GlobalGet-clause-tells : goal.returns-in-GlobalGet-clause-tells
 returns-in-GlobalGet-clause-tells c =
@@ -63,7 +72,8 @@ returns-in-GlobalGet-clause-tells c =
     let s = store_of c.args.store.now in
     let k = c.args.stack.now in
     let rest = code k.here.code.now in
-    IfOk-weaker c.get_global.result _ _ (λ f told. basic_arm m s s k c.get_global.new.operands c.args.instr.now (GlobalGet c.in-GlobalGet.x) (global_get c.in-GlobalGet.x) f c.args.left c.in-GlobalGet.is (front_global_get c.in-GlobalGet.x rest) c.requires.paid (λ _. refl) (told (memory_max m))) c.get_global.ensures.shows
+    IfOk-weaker c.get_global.result _ _ (λ f told. basic_arm m s s k c.get_global.new.operands c.args.instr.now (GlobalGet c.in-GlobalGet.x)
+    (global_get c.in-GlobalGet.x) f c.args.left c.in-GlobalGet.is (front_global_get c.in-GlobalGet.x rest) c.requires.paid (λ _. refl) (told (memory_max m))) c.get_global.ensures.shows
 
 pub returns-in-Drop-clause-tells : goal.returns-in-Drop-clause-tells
 returns-in-Drop-clause-tells c =
@@ -71,7 +81,8 @@ returns-in-Drop-clause-tells c =
     let s = store_of c.args.store.now in
     let k = c.args.stack.now in
     let rest = code k.here.code.now in
-    basic_arm m s s k c.drop_top.new.operands c.args.instr.now Drop drop_operand c.drop_top.result c.args.left c.in-Drop.is (front_drop rest) c.requires.paid (λ _. refl) (c.drop_top.ensures.shows (memory_max m) s)
+    basic_arm m s s k c.drop_top.new.operands c.args.instr.now Drop drop_operand c.drop_top.result c.args.left c.in-Drop.is (front_drop rest) c.requires.paid (λ _. refl)
+    (c.drop_top.ensures.shows (memory_max m) s)
 
 pub returns-in-Nop-clause-tells : goal.returns-in-Nop-clause-tells
 returns-in-Nop-clause-tells c =
@@ -87,7 +98,9 @@ returns-in-Store-clause-tells c =
     let s = store_of c.args.store.now in
     let k = c.args.stack.now in
     let rest = code k.here.code.now in
-    basic_arm m s (store_of c.store_at.new.store) k c.store_at.new.operands c.args.instr.now (Store c.in-Store.op c.in-Store.align c.in-Store.offset) (store c.in-Store.op c.in-Store.align c.in-Store.offset) c.store_at.result c.args.left c.in-Store.is (front_store c.in-Store.op c.in-Store.align c.in-Store.offset rest) c.requires.paid c.store_at.ensures.kept (c.store_at.ensures.shows (memory_max m) c.in-Store.align)
+    basic_arm m s (store_of c.store_at.new.store) k c.store_at.new.operands c.args.instr.now (Store c.in-Store.op c.in-Store.align c.in-Store.offset)
+    (store c.in-Store.op c.in-Store.align c.in-Store.offset) c.store_at.result c.args.left c.in-Store.is
+    (front_store c.in-Store.op c.in-Store.align c.in-Store.offset rest) c.requires.paid c.store_at.ensures.kept (c.store_at.ensures.shows (memory_max m) c.in-Store.align)
 
 pub returns-in-GlobalSet-clause-tells : goal.returns-in-GlobalSet-clause-tells
 returns-in-GlobalSet-clause-tells c =
@@ -95,7 +108,9 @@ returns-in-GlobalSet-clause-tells c =
     let s = store_of c.args.store.now in
     let k = c.args.stack.now in
     let rest = code k.here.code.now in
-    basic_arm m s (store_of c.set_global.new.store) k c.set_global.new.operands c.args.instr.now (GlobalSet c.in-GlobalSet.x) (global_set c.in-GlobalSet.x) c.set_global.result c.args.left c.in-GlobalSet.is (front_global_set c.in-GlobalSet.x rest) c.requires.paid c.set_global.ensures.kept (c.set_global.ensures.shows (memory_max m))
+    basic_arm m s (store_of c.set_global.new.store) k c.set_global.new.operands c.args.instr.now (GlobalSet c.in-GlobalSet.x)
+    (global_set c.in-GlobalSet.x) c.set_global.result c.args.left c.in-GlobalSet.is (front_global_set c.in-GlobalSet.x rest) c.requires.paid c.set_global.ensures.kept
+    (c.set_global.ensures.shows (memory_max m))
 
 pub returns-in-MemoryGrow-clause-tells : goal.returns-in-MemoryGrow-clause-tells
 returns-in-MemoryGrow-clause-tells c =
@@ -103,7 +118,9 @@ returns-in-MemoryGrow-clause-tells c =
     let s = store_of c.args.store.now in
     let k = c.args.stack.now in
     let rest = code k.here.code.now in
-    IfOk-weaker c.memory_grow.result _ _ (λ f told. basic_arm m s (store_of c.memory_grow.new.store) k c.memory_grow.new.operands c.args.instr.now MemoryGrow memory_grow f c.args.left c.in-MemoryGrow.is (front_grow rest) c.requires.paid told.1 (subst (λ most. Shows (effect most memory_grow s (reverse k.here.operands.items)) f (store_of c.memory_grow.new.store) (reverse c.memory_grow.new.operands.items)) c.requires.most told.0)) (if_ok_both c.memory_grow.result _ _ c.memory_grow.ensures.shows c.memory_grow.ensures.kept)
+    IfOk-weaker c.memory_grow.result _ _ (λ f told. basic_arm m s (store_of c.memory_grow.new.store) k c.memory_grow.new.operands c.args.instr.now MemoryGrow memory_grow f c.args.left
+    c.in-MemoryGrow.is (front_grow rest) c.requires.paid told.1 (subst (λ most. Shows (effect most memory_grow s (reverse k.here.operands.items)) f (store_of c.memory_grow.new.store)
+    (reverse c.memory_grow.new.operands.items)) c.requires.most told.0)) (if_ok_both c.memory_grow.result _ _ c.memory_grow.ensures.shows c.memory_grow.ensures.kept)
 
 pub returns-in-LocalGet-clause-tells : goal.returns-in-LocalGet-clause-tells
 returns-in-LocalGet-clause-tells c =
@@ -111,7 +128,8 @@ returns-in-LocalGet-clause-tells c =
     let s = store_of c.args.store.now in
     let k = c.args.stack.now in
     let rest = code k.here.code.now in
-    IfOk-weaker c.get_local.result _ _ (λ f told. code_arm m s k c.args.instr.now (LocalGet c.in-LocalGet.x) (plain (local_get c.in-LocalGet.x) rest) f c.args.left (running_of s c.get_local.new.stack) c.in-LocalGet.is (front_local_get c.in-LocalGet.x rest) (told m s c.args.left c.requires.paid)) c.get_local.ensures.tells
+    IfOk-weaker c.get_local.result _ _ (λ f told. code_arm m s k c.args.instr.now (LocalGet c.in-LocalGet.x) (plain (local_get c.in-LocalGet.x) rest) f c.args.left
+    (running_of s c.get_local.new.stack) c.in-LocalGet.is (front_local_get c.in-LocalGet.x rest) (told m s c.args.left c.requires.paid)) c.get_local.ensures.tells
 
 pub returns-in-BrIf-clause-tells : goal.returns-in-BrIf-clause-tells
 returns-in-BrIf-clause-tells c =
@@ -119,7 +137,8 @@ returns-in-BrIf-clause-tells c =
     let s = store_of c.args.store.now in
     let k = c.args.stack.now in
     let rest = code k.here.code.now in
-    IfOk-weaker c.branch_if.result _ _ (λ f told. code_arm m s k c.args.instr.now (BrIf c.in-BrIf.label) (plain (br_if c.in-BrIf.label) rest) f c.args.left (running_of s c.branch_if.new.stack) c.in-BrIf.is (front_br_if c.in-BrIf.label rest) (told s c.args.left c.requires.paid)) c.branch_if.ensures.tells
+    IfOk-weaker c.branch_if.result _ _ (λ f told. code_arm m s k c.args.instr.now (BrIf c.in-BrIf.label) (plain (br_if c.in-BrIf.label) rest) f c.args.left
+    (running_of s c.branch_if.new.stack) c.in-BrIf.is (front_br_if c.in-BrIf.label rest) (told s c.args.left c.requires.paid)) c.branch_if.ensures.tells
 
 pub returns-in-Br-clause-tells : goal.returns-in-Br-clause-tells
 returns-in-Br-clause-tells c =
@@ -127,7 +146,8 @@ returns-in-Br-clause-tells c =
     let s = store_of c.args.store.now in
     let k = c.args.stack.now in
     let rest = code k.here.code.now in
-    IfOk-weaker c.jump.result _ _ (λ f told. code_arm m s k c.args.instr.now (Br c.in-Br.label) (plain (br c.in-Br.label) rest) f c.args.left (running_of s c.jump.new.stack) c.in-Br.is (front_br c.in-Br.label rest) (told s c.args.left c.requires.paid)) c.jump.ensures.tells
+    IfOk-weaker c.jump.result _ _ (λ f told. code_arm m s k c.args.instr.now (Br c.in-Br.label) (plain (br c.in-Br.label) rest) f c.args.left (running_of s c.jump.new.stack) c.in-Br.is
+    (front_br c.in-Br.label rest) (told s c.args.left c.requires.paid)) c.jump.ensures.tells
 
 pub returns-in-BrTable-clause-tells : goal.returns-in-BrTable-clause-tells
 returns-in-BrTable-clause-tells c =
@@ -135,7 +155,9 @@ returns-in-BrTable-clause-tells c =
     let s = store_of c.args.store.now in
     let k = c.args.stack.now in
     let rest = code k.here.code.now in
-    IfOk-weaker c.branch_by.result _ _ (λ f told. code_arm m s k c.args.instr.now (BrTable c.in-BrTable.labels c.in-BrTable.last) (plain (br_table c.in-BrTable.labels.items c.in-BrTable.last) rest) f c.args.left (running_of s c.branch_by.new.stack) c.in-BrTable.is (in_br_table c.in-BrTable.labels c.in-BrTable.last rest) (told s)) c.branch_by.ensures.tells
+    IfOk-weaker c.branch_by.result _ _ (λ f told. code_arm m s k c.args.instr.now (BrTable c.in-BrTable.labels c.in-BrTable.last)
+    (plain (br_table c.in-BrTable.labels.items c.in-BrTable.last) rest) f c.args.left (running_of s c.branch_by.new.stack) c.in-BrTable.is
+    (in_br_table c.in-BrTable.labels c.in-BrTable.last rest) (told s)) c.branch_by.ensures.tells
 
 pub returns-in-Call-clause-tells : goal.returns-in-Call-clause-tells
 returns-in-Call-clause-tells c =
@@ -143,7 +165,8 @@ returns-in-Call-clause-tells c =
     let s = store_of c.args.store.now in
     let k = c.args.stack.now in
     let rest = code k.here.code.now in
-    IfOk-weaker c.call.result _ _ (λ f told. code_arm m s k c.args.instr.now (Call c.in-Call.func) (plain (call c.in-Call.func) rest) f c.args.left (running_of s c.call.new.stack) c.in-Call.is (front_call c.in-Call.func rest) (told s)) c.call.ensures.tells
+    IfOk-weaker c.call.result _ _ (λ f told. code_arm m s k c.args.instr.now (Call c.in-Call.func) (plain (call c.in-Call.func) rest) f c.args.left
+    (running_of s c.call.new.stack) c.in-Call.is (front_call c.in-Call.func rest) (told s)) c.call.ensures.tells
 
 pub returns-in-CallIndirect-clause-tells : goal.returns-in-CallIndirect-clause-tells
 returns-in-CallIndirect-clause-tells c =
@@ -151,7 +174,8 @@ returns-in-CallIndirect-clause-tells c =
     let s = store_of c.args.store.now in
     let k = c.args.stack.now in
     let rest = code k.here.code.now in
-    IfOk-weaker c.call_indirect.result _ _ (λ f told. code_arm m s k c.args.instr.now (CallIndirect c.in-CallIndirect.sort) (plain (call_indirect c.in-CallIndirect.sort) rest) f c.args.left (running_of s c.call_indirect.new.stack) c.in-CallIndirect.is (front_indirect c.in-CallIndirect.sort rest) (told s refl)) c.call_indirect.ensures.tells
+    IfOk-weaker c.call_indirect.result _ _ (λ f told. code_arm m s k c.args.instr.now (CallIndirect c.in-CallIndirect.sort) (plain (call_indirect c.in-CallIndirect.sort) rest) f c.args.left
+    (running_of s c.call_indirect.new.stack) c.in-CallIndirect.is (front_indirect c.in-CallIndirect.sort rest) (told s refl)) c.call_indirect.ensures.tells
 
 pub returns-in-Return-clause-tells : goal.returns-in-Return-clause-tells
 returns-in-Return-clause-tells c =
@@ -159,7 +183,9 @@ returns-in-Return-clause-tells c =
     let s = store_of c.args.store.now in
     let k = c.args.stack.now in
     let rest = code k.here.code.now in
-    IfOk-weaker c.leave.result _ _ (λ f told. code_arm m s k c.args.instr.now Return (plain return rest) f c.args.left (running_of s c.leave.new.stack) c.in-Return.is (front_return rest) (subst (λ n. Tells s (leave 0 s (reverse k.here.operands.items) n (map waiting_of (reverse k.under.items))) c.args.left f (running_of s c.leave.new.stack)) c.func_results.ensures (told s c.args.left c.requires.paid))) c.leave.ensures.tells
+    IfOk-weaker c.leave.result _ _ (λ f told. code_arm m s k c.args.instr.now Return (plain return rest) f c.args.left (running_of s c.leave.new.stack) c.in-Return.is (front_return rest)
+    (subst (λ n. Tells s (leave 0 s (reverse k.here.operands.items) n (map waiting_of (reverse k.under.items))) c.args.left f (running_of s c.leave.new.stack)) c.func_results.ensures
+    (told s c.args.left c.requires.paid))) c.leave.ensures.tells
 
 pub returns-in-LocalSet-clause-tells : goal.returns-in-LocalSet-clause-tells
 returns-in-LocalSet-clause-tells c =
@@ -167,7 +193,8 @@ returns-in-LocalSet-clause-tells c =
     let s = store_of c.args.store.now in
     let k = c.args.stack.now in
     let rest = code k.here.code.now in
-    code_arm m s k c.args.instr.now (LocalSet c.in-LocalSet.x) (plain (local_set c.in-LocalSet.x) rest) c.set_local.result c.args.left (running_of s c.set_local.new.stack) c.in-LocalSet.is (front_local_set c.in-LocalSet.x rest) (c.set_local.ensures.tells m s c.args.left c.requires.paid)
+    code_arm m s k c.args.instr.now (LocalSet c.in-LocalSet.x) (plain (local_set c.in-LocalSet.x) rest) c.set_local.result c.args.left (running_of s c.set_local.new.stack) c.in-LocalSet.is
+    (front_local_set c.in-LocalSet.x rest) (c.set_local.ensures.tells m s c.args.left c.requires.paid)
 
 pub returns-in-LocalTee-clause-tells : goal.returns-in-LocalTee-clause-tells
 returns-in-LocalTee-clause-tells c =
@@ -175,7 +202,8 @@ returns-in-LocalTee-clause-tells c =
     let s = store_of c.args.store.now in
     let k = c.args.stack.now in
     let rest = code k.here.code.now in
-    code_arm m s k c.args.instr.now (LocalTee c.in-LocalTee.x) (plain (local_tee c.in-LocalTee.x) rest) c.tee_local.result c.args.left (running_of s c.tee_local.new.stack) c.in-LocalTee.is (front_local_tee c.in-LocalTee.x rest) (c.tee_local.ensures.tells m s c.args.left c.requires.paid)
+    code_arm m s k c.args.instr.now (LocalTee c.in-LocalTee.x) (plain (local_tee c.in-LocalTee.x) rest) c.tee_local.result c.args.left (running_of s c.tee_local.new.stack) c.in-LocalTee.is
+    (front_local_tee c.in-LocalTee.x rest) (c.tee_local.ensures.tells m s c.args.left c.requires.paid)
 
 pub returns-in-Unreachable-clause-tells : goal.returns-in-Unreachable-clause-tells
 returns-in-Unreachable-clause-tells c =
@@ -191,7 +219,9 @@ returns-in-Block-clause-tells c =
     let s = store_of c.args.store.now in
     let k = c.args.stack.now in
     let rest = code k.here.code.now in
-    IfOk-weaker c.enter_block.result _ _ (λ f told. code_arm m s k c.args.instr.now (Block c.in-Block.result c.in-Block.body) (nest a_block c.in-Block.result (code c.deref.result.now) rest) f c.args.left (running_of s c.enter_block.new.stack) c.in-Block.is (in_block c.in-Block.result c.in-Block.body rest ∙ ap (λ b. nest a_block c.in-Block.result (code b) rest) (sym c.deref.ensures.value)) (told m s c.args.left c.requires.paid)) c.enter_block.ensures.tells
+    IfOk-weaker c.enter_block.result _ _ (λ f told. code_arm m s k c.args.instr.now (Block c.in-Block.result c.in-Block.body)
+    (nest a_block c.in-Block.result (code c.deref.result.now) rest) f c.args.left (running_of s c.enter_block.new.stack) c.in-Block.is (in_block c.in-Block.result c.in-Block.body rest
+    ∙ ap (λ b. nest a_block c.in-Block.result (code b) rest) (sym c.deref.ensures.value)) (told m s c.args.left c.requires.paid)) c.enter_block.ensures.tells
 
 pub returns-in-Loop-clause-tells : goal.returns-in-Loop-clause-tells
 returns-in-Loop-clause-tells c =
@@ -199,7 +229,9 @@ returns-in-Loop-clause-tells c =
     let s = store_of c.args.store.now in
     let k = c.args.stack.now in
     let rest = code k.here.code.now in
-    IfOk-weaker c.enter_loop.result _ _ (λ f told. code_arm m s k c.args.instr.now (Loop c.in-Loop.result c.in-Loop.body) (nest a_loop c.in-Loop.result (code c.deref-in-Loop.result.now) rest) f c.args.left (running_of s c.enter_loop.new.stack) c.in-Loop.is (in_loop c.in-Loop.result c.in-Loop.body rest ∙ ap (λ b. nest a_loop c.in-Loop.result (code b) rest) (sym c.deref-in-Loop.ensures.value)) (told m s c.args.left c.requires.paid)) c.enter_loop.ensures.tells
+    IfOk-weaker c.enter_loop.result _ _ (λ f told. code_arm m s k c.args.instr.now (Loop c.in-Loop.result c.in-Loop.body)
+    (nest a_loop c.in-Loop.result (code c.deref-in-Loop.result.now) rest) f c.args.left (running_of s c.enter_loop.new.stack) c.in-Loop.is (in_loop c.in-Loop.result c.in-Loop.body rest
+    ∙ ap (λ b. nest a_loop c.in-Loop.result (code b) rest) (sym c.deref-in-Loop.ensures.value)) (told m s c.args.left c.requires.paid)) c.enter_loop.ensures.tells
 
 pub returns-in-If-clause-tells : goal.returns-in-If-clause-tells
 returns-in-If-clause-tells c =
@@ -207,7 +239,10 @@ returns-in-If-clause-tells c =
     let s = store_of c.args.store.now in
     let k = c.args.stack.now in
     let rest = code k.here.code.now in
-    IfOk-weaker c.enter_arm.result _ _ (λ f told. code_arm m s k c.args.instr.now (If c.in-If.result c.in-If.then_arm c.in-If.else_arm) (branch c.in-If.result (code c.deref-in-If.result.now) (code c.deref-in-If-2.result.now) rest) f c.args.left (running_of s c.enter_arm.new.stack) c.in-If.is (in_if c.in-If.result c.in-If.then_arm c.in-If.else_arm rest ∙ ap (λ b. branch c.in-If.result (code b) (code c.in-If.else_arm.items) rest) (sym c.deref-in-If.ensures.value) ∙ ap (λ b. branch c.in-If.result (code c.deref-in-If.result.now) (code b) rest) (sym c.deref-in-If-2.ensures.value)) (told m s c.args.left c.requires.paid)) c.enter_arm.ensures.tells
+    IfOk-weaker c.enter_arm.result _ _ (λ f told. code_arm m s k c.args.instr.now (If c.in-If.result c.in-If.then_arm c.in-If.else_arm)
+    (branch c.in-If.result (code c.deref-in-If.result.now) (code c.deref-in-If-2.result.now) rest) f c.args.left (running_of s c.enter_arm.new.stack) c.in-If.is
+    (in_if c.in-If.result c.in-If.then_arm c.in-If.else_arm rest ∙ ap (λ b. branch c.in-If.result (code b) (code c.in-If.else_arm.items) rest) (sym c.deref-in-If.ensures.value)
+    ∙ ap (λ b. branch c.in-If.result (code c.deref-in-If.result.now) (code b) rest) (sym c.deref-in-If-2.ensures.value)) (told m s c.args.left c.requires.paid)) c.enter_arm.ensures.tells
 
 pub returns-in-Const-clause-holds : goal.returns-in-Const-clause-holds
 returns-in-Const-clause-holds c =
@@ -295,7 +330,8 @@ returns-in-Const-clause-lacks c =
     let s = store_of c.args.store.now in
     let k = c.args.stack.now in
     let rest = code k.here.code.now in
-    IfErr-weaker c.constant.result _ _ (λ e full outs h. refuted_arm m outs s k c.args.instr.now (Const c.in-Const.value) (plain (basic (const c.in-Const.value)) rest) c.in-Const.is (front_const c.in-Const.value rest) (operands_lacked m outs k (code_of m s k (plain (basic (const c.in-Const.value)) rest)) 0 _ _ _ _ _ _ refl full h)) c.constant.ensures.lacks
+    IfErr-weaker c.constant.result _ _ (λ e full outs h. refuted_arm m outs s k c.args.instr.now (Const c.in-Const.value) (plain (basic (const c.in-Const.value)) rest) c.in-Const.is
+    (front_const c.in-Const.value rest) (operands_lacked m outs k (code_of m s k (plain (basic (const c.in-Const.value)) rest)) 0 _ _ _ _ _ _ refl full h)) c.constant.ensures.lacks
 
 pub returns-in-MemorySize-clause-lacks : goal.returns-in-MemorySize-clause-lacks
 returns-in-MemorySize-clause-lacks c =
@@ -303,7 +339,8 @@ returns-in-MemorySize-clause-lacks c =
     let s = store_of c.args.store.now in
     let k = c.args.stack.now in
     let rest = code k.here.code.now in
-    IfErr-weaker c.memory_size.result _ _ (λ e full outs h. refuted_arm m outs s k c.args.instr.now (MemorySize) (plain (basic memory_size) rest) c.in-MemorySize.is (front_size rest) (operands_lacked m outs k (code_of m s k (plain (basic memory_size) rest)) 0 _ _ _ _ _ _ refl full h)) c.memory_size.ensures.lacks
+    IfErr-weaker c.memory_size.result _ _ (λ e full outs h. refuted_arm m outs s k c.args.instr.now (MemorySize) (plain (basic memory_size) rest) c.in-MemorySize.is (front_size rest)
+    (operands_lacked m outs k (code_of m s k (plain (basic memory_size) rest)) 0 _ _ _ _ _ _ refl full h)) c.memory_size.ensures.lacks
 
 pub returns-in-GlobalGet-clause-lacks : goal.returns-in-GlobalGet-clause-lacks
 returns-in-GlobalGet-clause-lacks c =
@@ -311,7 +348,9 @@ returns-in-GlobalGet-clause-lacks c =
     let s = store_of c.args.store.now in
     let k = c.args.stack.now in
     let rest = code k.here.code.now in
-    IfErr-weaker c.get_global.result _ _ (λ e full outs h. refuted_arm m outs s k c.args.instr.now (GlobalGet c.in-GlobalGet.x) (plain (basic (global_get c.in-GlobalGet.x)) rest) c.in-GlobalGet.is (front_global_get c.in-GlobalGet.x rest) (operands_lacked m outs k (code_of m s k (plain (basic (global_get c.in-GlobalGet.x)) rest)) 0 _ _ _ _ _ _ refl full h)) c.get_global.ensures.lacks
+    IfErr-weaker c.get_global.result _ _ (λ e full outs h. refuted_arm m outs s k c.args.instr.now (GlobalGet c.in-GlobalGet.x)
+    (plain (basic (global_get c.in-GlobalGet.x)) rest) c.in-GlobalGet.is (front_global_get c.in-GlobalGet.x rest)
+    (operands_lacked m outs k (code_of m s k (plain (basic (global_get c.in-GlobalGet.x)) rest)) 0 _ _ _ _ _ _ refl full h)) c.get_global.ensures.lacks
 
 pub returns-in-LocalGet-clause-lacks : goal.returns-in-LocalGet-clause-lacks
 returns-in-LocalGet-clause-lacks c =
@@ -319,7 +358,8 @@ returns-in-LocalGet-clause-lacks c =
     let s = store_of c.args.store.now in
     let k = c.args.stack.now in
     let rest = code k.here.code.now in
-    IfErr-weaker c.get_local.result _ _ (λ e full outs h. refuted_arm m outs s k c.args.instr.now (LocalGet c.in-LocalGet.x) (plain (local_get c.in-LocalGet.x) rest) c.in-LocalGet.is (front_local_get c.in-LocalGet.x rest) (operands_lacked m outs k (code_of m s k (plain (local_get c.in-LocalGet.x) rest)) 0 _ _ _ _ _ _ refl full h)) c.get_local.ensures.lacks
+    IfErr-weaker c.get_local.result _ _ (λ e full outs h. refuted_arm m outs s k c.args.instr.now (LocalGet c.in-LocalGet.x) (plain (local_get c.in-LocalGet.x) rest) c.in-LocalGet.is
+    (front_local_get c.in-LocalGet.x rest) (operands_lacked m outs k (code_of m s k (plain (local_get c.in-LocalGet.x) rest)) 0 _ _ _ _ _ _ refl full h)) c.get_local.ensures.lacks
 
 pub returns-in-Num-clause-lacks : goal.returns-in-Num-clause-lacks
 returns-in-Num-clause-lacks c =
@@ -339,7 +379,10 @@ returns-in-Block-clause-lacks c =
     let s = store_of c.args.store.now in
     let k = c.args.stack.now in
     let rest = code k.here.code.now in
-    IfErr-weaker c.enter_block.result _ _ (λ e full outs h. refuted_arm m outs s k c.args.instr.now (Block c.in-Block.result c.in-Block.body) (nest a_block c.in-Block.result (code c.deref.result.now) rest) c.in-Block.is (in_block c.in-Block.result c.in-Block.body rest ∙ ap (λ b. nest a_block c.in-Block.result (code b) rest) (sym c.deref.ensures.value)) (labels_lacked m outs k (code_of m s k (nest a_block c.in-Block.result (code c.deref.result.now) rest)) 0 _ _ _ _ _ _ refl full h)) c.enter_block.ensures.lacks
+    IfErr-weaker c.enter_block.result _ _ (λ e full outs h. refuted_arm m outs s k c.args.instr.now (Block c.in-Block.result c.in-Block.body)
+    (nest a_block c.in-Block.result (code c.deref.result.now) rest) c.in-Block.is (in_block c.in-Block.result c.in-Block.body rest
+    ∙ ap (λ b. nest a_block c.in-Block.result (code b) rest) (sym c.deref.ensures.value))
+    (labels_lacked m outs k (code_of m s k (nest a_block c.in-Block.result (code c.deref.result.now) rest)) 0 _ _ _ _ _ _ refl full h)) c.enter_block.ensures.lacks
 
 pub returns-in-Loop-clause-lacks : goal.returns-in-Loop-clause-lacks
 returns-in-Loop-clause-lacks c =
@@ -347,7 +390,10 @@ returns-in-Loop-clause-lacks c =
     let s = store_of c.args.store.now in
     let k = c.args.stack.now in
     let rest = code k.here.code.now in
-    IfErr-weaker c.enter_loop.result _ _ (λ e full outs h. refuted_arm m outs s k c.args.instr.now (Loop c.in-Loop.result c.in-Loop.body) (nest a_loop c.in-Loop.result (code c.deref-in-Loop.result.now) rest) c.in-Loop.is (in_loop c.in-Loop.result c.in-Loop.body rest ∙ ap (λ b. nest a_loop c.in-Loop.result (code b) rest) (sym c.deref-in-Loop.ensures.value)) (labels_lacked m outs k (code_of m s k (nest a_loop c.in-Loop.result (code c.deref-in-Loop.result.now) rest)) 0 _ _ _ _ _ _ refl full h)) c.enter_loop.ensures.lacks
+    IfErr-weaker c.enter_loop.result _ _ (λ e full outs h. refuted_arm m outs s k c.args.instr.now (Loop c.in-Loop.result c.in-Loop.body)
+    (nest a_loop c.in-Loop.result (code c.deref-in-Loop.result.now) rest) c.in-Loop.is (in_loop c.in-Loop.result c.in-Loop.body rest
+    ∙ ap (λ b. nest a_loop c.in-Loop.result (code b) rest) (sym c.deref-in-Loop.ensures.value))
+    (labels_lacked m outs k (code_of m s k (nest a_loop c.in-Loop.result (code c.deref-in-Loop.result.now) rest)) 0 _ _ _ _ _ _ refl full h)) c.enter_loop.ensures.lacks
 
 pub returns-in-Br-clause-lacks : goal.returns-in-Br-clause-lacks
 returns-in-Br-clause-lacks c =
@@ -355,7 +401,8 @@ returns-in-Br-clause-lacks c =
     let s = store_of c.args.store.now in
     let k = c.args.stack.now in
     let rest = code k.here.code.now in
-    IfErr-weaker c.jump.result _ _ (λ e f outs h. refuted_arm m outs s k c.args.instr.now (Br c.in-Br.label) (plain (br c.in-Br.label) rest) c.in-Br.is (front_br c.in-Br.label rest) (f s outs h)) c.jump.ensures.lacks
+    IfErr-weaker c.jump.result _ _ (λ e f outs h. refuted_arm m outs s k c.args.instr.now (Br c.in-Br.label) (plain (br c.in-Br.label) rest) c.in-Br.is (front_br c.in-Br.label rest)
+    (f s outs h)) c.jump.ensures.lacks
 
 pub returns-in-BrIf-clause-lacks : goal.returns-in-BrIf-clause-lacks
 returns-in-BrIf-clause-lacks c =
@@ -363,7 +410,8 @@ returns-in-BrIf-clause-lacks c =
     let s = store_of c.args.store.now in
     let k = c.args.stack.now in
     let rest = code k.here.code.now in
-    IfErr-weaker c.branch_if.result _ _ (λ e f outs h. refuted_arm m outs s k c.args.instr.now (BrIf c.in-BrIf.label) (plain (br_if c.in-BrIf.label) rest) c.in-BrIf.is (front_br_if c.in-BrIf.label rest) (f s outs h)) c.branch_if.ensures.lacks
+    IfErr-weaker c.branch_if.result _ _ (λ e f outs h. refuted_arm m outs s k c.args.instr.now (BrIf c.in-BrIf.label) (plain (br_if c.in-BrIf.label) rest) c.in-BrIf.is
+    (front_br_if c.in-BrIf.label rest) (f s outs h)) c.branch_if.ensures.lacks
 
 pub returns-in-BrTable-clause-lacks : goal.returns-in-BrTable-clause-lacks
 returns-in-BrTable-clause-lacks c =
@@ -371,7 +419,8 @@ returns-in-BrTable-clause-lacks c =
     let s = store_of c.args.store.now in
     let k = c.args.stack.now in
     let rest = code k.here.code.now in
-    IfErr-weaker c.branch_by.result _ _ (λ e f outs h. refuted_arm m outs s k c.args.instr.now (BrTable c.in-BrTable.labels c.in-BrTable.last) (plain (br_table c.in-BrTable.labels.items c.in-BrTable.last) rest) c.in-BrTable.is (in_br_table c.in-BrTable.labels c.in-BrTable.last rest) (f s outs h)) c.branch_by.ensures.lacks
+    IfErr-weaker c.branch_by.result _ _ (λ e f outs h. refuted_arm m outs s k c.args.instr.now (BrTable c.in-BrTable.labels c.in-BrTable.last)
+    (plain (br_table c.in-BrTable.labels.items c.in-BrTable.last) rest) c.in-BrTable.is (in_br_table c.in-BrTable.labels c.in-BrTable.last rest) (f s outs h)) c.branch_by.ensures.lacks
 
 pub returns-in-Return-clause-lacks : goal.returns-in-Return-clause-lacks
 returns-in-Return-clause-lacks c =
@@ -379,7 +428,8 @@ returns-in-Return-clause-lacks c =
     let s = store_of c.args.store.now in
     let k = c.args.stack.now in
     let rest = code k.here.code.now in
-    IfErr-weaker c.leave.result _ _ (λ e f outs h. refuted_arm m outs s k c.args.instr.now (Return) (plain return rest) c.in-Return.is (front_return rest) (subst (λ n. NextFits m outs (leave 0 s (reverse k.here.operands.items) n (map waiting_of (reverse k.under.items))) → ⊥) c.func_results.ensures (f m s outs h))) c.leave.ensures.lacks
+    IfErr-weaker c.leave.result _ _ (λ e f outs h. refuted_arm m outs s k c.args.instr.now (Return) (plain return rest) c.in-Return.is (front_return rest)
+    (subst (λ n. NextFits m outs (leave 0 s (reverse k.here.operands.items) n (map waiting_of (reverse k.under.items))) → ⊥) c.func_results.ensures (f m s outs h))) c.leave.ensures.lacks
 
 pub returns-in-Call-clause-lacks : goal.returns-in-Call-clause-lacks
 returns-in-Call-clause-lacks c =
@@ -387,7 +437,8 @@ returns-in-Call-clause-lacks c =
     let s = store_of c.args.store.now in
     let k = c.args.stack.now in
     let rest = code k.here.code.now in
-    IfErr-weaker c.call.result _ _ (λ e paid outs h fits. taking_arm m s k c.args.instr.now (Call c.in-Call.func) (plain (call c.in-Call.func) rest) c.in-Call.is (front_call c.in-Call.func rest) (tt, paid s)) c.call.ensures.lacks
+    IfErr-weaker c.call.result _ _ (λ e paid outs h fits. taking_arm m s k c.args.instr.now (Call c.in-Call.func) (plain (call c.in-Call.func) rest) c.in-Call.is
+    (front_call c.in-Call.func rest) (tt, paid s)) c.call.ensures.lacks
 
 pub returns-in-CallIndirect-clause-lacks : goal.returns-in-CallIndirect-clause-lacks
 returns-in-CallIndirect-clause-lacks c =
@@ -395,7 +446,8 @@ returns-in-CallIndirect-clause-lacks c =
     let s = store_of c.args.store.now in
     let k = c.args.stack.now in
     let rest = code k.here.code.now in
-    IfErr-weaker c.call_indirect.result _ _ (λ e paid outs h fits. taking_arm m s k c.args.instr.now (CallIndirect c.in-CallIndirect.sort) (plain (call_indirect c.in-CallIndirect.sort) rest) c.in-CallIndirect.is (front_indirect c.in-CallIndirect.sort rest) (tt, paid s refl)) c.call_indirect.ensures.lacks
+    IfErr-weaker c.call_indirect.result _ _ (λ e paid outs h fits. taking_arm m s k c.args.instr.now (CallIndirect c.in-CallIndirect.sort)
+    (plain (call_indirect c.in-CallIndirect.sort) rest) c.in-CallIndirect.is (front_indirect c.in-CallIndirect.sort rest) (tt, paid s refl)) c.call_indirect.ensures.lacks
 
 pub returns-in-MemoryGrow-clause-lacks : goal.returns-in-MemoryGrow-clause-lacks
 returns-in-MemoryGrow-clause-lacks c =
@@ -415,4 +467,8 @@ returns-in-If-clause-lacks c =
     let s = store_of c.args.store.now in
     let k = c.args.stack.now in
     let rest = code k.here.code.now in
-    IfErr-weaker c.enter_arm.result _ _ (λ e full outs h. refuted_arm m outs s k c.args.instr.now (If c.in-If.result c.in-If.then_arm c.in-If.else_arm) (branch c.in-If.result (code c.deref-in-If.result.now) (code c.deref-in-If-2.result.now) rest) c.in-If.is (in_if c.in-If.result c.in-If.then_arm c.in-If.else_arm rest ∙ ap (λ b. branch c.in-If.result (code b) (code c.in-If.else_arm.items) rest) (sym c.deref-in-If.ensures.value) ∙ ap (λ b. branch c.in-If.result (code c.deref-in-If.result.now) (code b) rest) (sym c.deref-in-If-2.ensures.value)) (arm_lacked m outs k s c.in-If.result (code c.deref-in-If.result.now) (code c.deref-in-If-2.result.now) full h)) c.enter_arm.ensures.lacks
+    IfErr-weaker c.enter_arm.result _ _ (λ e full outs h. refuted_arm m outs s k c.args.instr.now (If c.in-If.result c.in-If.then_arm c.in-If.else_arm)
+    (branch c.in-If.result (code c.deref-in-If.result.now) (code c.deref-in-If-2.result.now) rest) c.in-If.is (in_if c.in-If.result c.in-If.then_arm c.in-If.else_arm rest
+    ∙ ap (λ b. branch c.in-If.result (code b) (code c.in-If.else_arm.items) rest) (sym c.deref-in-If.ensures.value)
+    ∙ ap (λ b. branch c.in-If.result (code c.deref-in-If.result.now) (code b) rest) (sym c.deref-in-If-2.ensures.value))
+    (arm_lacked m outs k s c.in-If.result (code c.deref-in-If.result.now) (code c.deref-in-If-2.result.now) full h)) c.enter_arm.ensures.lacks

@@ -6,7 +6,8 @@ use Rattle.wa_types.specs.Pausing.{direct, indirect}
 use Rattle.wa_types.specs.Liveness.{live}
 use Rattle.live_behind.specs.Lives.{lives, label_live}
 use Rattle.point_visits.proofs.VisitLemmas.{block_is, loop_is, if_is, ok_as, always}
-use Rattle.live_behind.proofs.LiveLemmas.{live_end, lives_end, live_before, lives_before, same_first, nest_live, nest_lives, branch_live, branch_lives, call_lives, none_lives, told_as, same_live, same_lives}
+use Rattle.live_behind.proofs.LiveLemmas.{live_end, lives_end, live_before, lives_before, same_first, nest_live, nest_lives, branch_live, branch_lives, call_lives, none_lives, told_as}
+use Rattle.live_behind.proofs.LiveLemmas.{same_live, same_lives}
 use Rattle.live_behind.proofs.liveness.+lives.Goals as goal
 
 pub put_lives-loop-left-init : goal.put_lives-loop-left-init

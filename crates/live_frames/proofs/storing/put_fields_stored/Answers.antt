@@ -5,7 +5,8 @@ use Rattle.live_frames.proofs.storing.put_fields_stored.Goals as goal
 
 pub overflow_add-place : goal.overflow_add-place
 overflow_add-place c =
-    let e = size_step c.args.fields.now c.loop-field.field-index _ c.args.offset c.loop-field.place c.width-place.result (omega (arith, c.loop-field-test.true)) c.loop-field.invariant.0 c.width-place.ensures in
+    let e = size_step c.args.fields.now c.loop-field.field-index _ c.args.offset c.loop-field.place c.width-place.result
+    (omega (arith, c.loop-field-test.true)) c.loop-field.invariant.0 c.width-place.ensures in
     let m = part_most c.args.fields.now (c.loop-field.field-index + 1) in
     omega (arith, c.requires.few, c.requires.offset)
 

@@ -15,7 +15,8 @@ count_calls-count_stmt_calls-count-requires t c = (
 )
 
 pub count_calls-loop-stmt-preserved : goal.count_calls-loop-stmt-preserved
-count_calls-loop-stmt-preserved t c = count_next c.args.body.now c.loop-stmt.stmt-index c.stmt-item.result c.loop-stmt.count c.count_stmt_calls-count.result _ (omega (arith, c.loop-stmt-test.true)) c.stmt-item.is c.count_stmt_calls-count.ensures c.loop-stmt.invariant
+count_calls-loop-stmt-preserved t c = count_next c.args.body.now c.loop-stmt.stmt-index c.stmt-item.result c.loop-stmt.count c.count_stmt_calls-count.result _
+    (omega (arith, c.loop-stmt-test.true)) c.stmt-item.is c.count_stmt_calls-count.ensures c.loop-stmt.invariant
 
 pub count_calls-returns : goal.count_calls-returns
 count_calls-returns t c = count_end c.args.body.now c.loop-stmt.stmt-index c.loop-stmt.count _ (omega (arith, c.loop-stmt-test.false)) c.loop-stmt.invariant

@@ -21,17 +21,21 @@ put_body_rows-loop-left-init t c = (
 pub put_body_rows-put_stmt_rows-requires : goal.put_body_rows-put_stmt_rows-requires
 put_body_rows-put_stmt_rows-requires t c = (
   search (rules, the_lemmas),
-  countable_before c.args.numbers.now c.args.tos.now.items c.args.set.now c.args.body.now c.loop-left.left c.index-body-left.result c.args.last c.loop-left.first c.args.rows.now.items c.loop-left.rows.items
+  countable_before c.args.numbers.now c.args.tos.now.items c.args.set.now c.args.body.now c.loop-left.left c.index-body-left.result c.args.last c.loop-left.first c.args.rows.now.items
+      c.loop-left.rows.items
       (omega (arith, c.loop-left-test.true)) c.loop-left.invariant.0 c.index-body-left.is c.requires c.loop-left.invariant.2,
 )
 
 pub put_body_rows-loop-left-preserved : goal.put_body_rows-loop-left-preserved
 put_body_rows-loop-left-preserved t c = (
   omega (arith, c.loop-left.invariant.0),
-  passed_before c.args.tos.now.items c.loop-left.tos.items c.put_stmt_rows.new.tos.items c.args.set.now c.loop-left.set c.put_stmt_rows.new.set c.args.body.now c.loop-left.left c.index-body-left.result
+  passed_before c.args.tos.now.items c.loop-left.tos.items c.put_stmt_rows.new.tos.items c.args.set.now c.loop-left.set c.put_stmt_rows.new.set c.args.body.now c.loop-left.left
+      c.index-body-left.result
       (omega (arith, c.loop-left-test.true)) c.loop-left.invariant.0 c.index-body-left.is c.loop-left.invariant.1 c.in_ok-first.ensures.passed,
-  rows_before c.args.numbers.now c.args.tos.now.items c.loop-left.tos.items c.args.set.now c.loop-left.set c.args.body.now c.loop-left.left c.index-body-left.result c.args.last c.loop-left.first c.in_ok-first.first
-      c.args.rows.now.items c.loop-left.rows.items c.put_stmt_rows.new.rows.items (omega (arith, c.loop-left-test.true)) c.loop-left.invariant.0 c.index-body-left.is c.loop-left.invariant.1 c.loop-left.invariant.2
+  rows_before c.args.numbers.now c.args.tos.now.items c.loop-left.tos.items c.args.set.now c.loop-left.set c.args.body.now c.loop-left.left c.index-body-left.result c.args.last
+      c.loop-left.first c.in_ok-first.first
+      c.args.rows.now.items c.loop-left.rows.items c.put_stmt_rows.new.rows.items (omega (arith, c.loop-left-test.true)) c.loop-left.invariant.0 c.index-body-left.is c.loop-left.invariant.1
+      c.loop-left.invariant.2
       c.in_ok-first.ensures.rows,
 )
 
@@ -44,20 +48,23 @@ put_stmt_rows-overflow_sub-result t c = call_room c.args.numbers.now c.args.stmt
 pub put_stmt_rows-put_body_rows-requires : goal.put_stmt_rows-put_body_rows-requires
 put_stmt_rows-put_body_rows-requires t c = (
   search (rules, the_lemmas),
-  nest_countable c.args.numbers.now c.args.stmt.now c.args.tos.now.items a_block (stmts c.deref-in-Block.result.now) c.args.last (block_is c.args.stmt.now c.in-Block.body c.in-Block.is no_more ∙ ap (λ xs. nests a_block (stmts xs) no_more) (sym c.deref-in-Block.ensures.value)) c.requires,
+  nest_countable c.args.numbers.now c.args.stmt.now c.args.tos.now.items a_block (stmts c.deref-in-Block.result.now) c.args.last
+      (block_is c.args.stmt.now c.in-Block.body c.in-Block.is no_more ∙ ap (λ xs. nests a_block (stmts xs) no_more) (sym c.deref-in-Block.ensures.value)) c.requires,
 )
 
 pub put_stmt_rows-put_body_rows-requires-in-Loop : goal.put_stmt_rows-put_body_rows-requires-in-Loop
 put_stmt_rows-put_body_rows-requires-in-Loop t c = (
   search (rules, the_lemmas),
-  nest_countable c.args.numbers.now c.args.stmt.now c.args.tos.now.items a_loop (stmts c.deref-in-Loop.result.now) c.args.last (loop_is c.args.stmt.now c.in-Loop.body c.in-Loop.is no_more ∙ ap (λ xs. nests a_loop (stmts xs) no_more) (sym c.deref-in-Loop.ensures.value)) c.requires,
+  nest_countable c.args.numbers.now c.args.stmt.now c.args.tos.now.items a_loop (stmts c.deref-in-Loop.result.now) c.args.last (loop_is c.args.stmt.now c.in-Loop.body c.in-Loop.is no_more
+      ∙ ap (λ xs. nests a_loop (stmts xs) no_more) (sym c.deref-in-Loop.ensures.value)) c.requires,
 )
 
 pub put_stmt_rows-put_body_rows-requires-in-If : goal.put_stmt_rows-put_body_rows-requires-in-If
 put_stmt_rows-put_body_rows-requires-in-If t c = (
   search (rules, the_lemmas),
   else_countable c.args.numbers.now c.args.stmt.now c.args.tos.now.items c.in-If.cond (stmts c.in-If.then_arm.items) (stmts c.deref-in-If.result.now) c.args.last
-      (if_is c.args.stmt.now c.in-If.cond c.in-If.then_arm c.in-If.else_arm c.in-If.is no_more ∙ ap (λ xs. decides c.in-If.cond (stmts c.in-If.then_arm.items) (stmts xs) no_more) (sym c.deref-in-If.ensures.value)) c.requires,
+      (if_is c.args.stmt.now c.in-If.cond c.in-If.then_arm c.in-If.else_arm c.in-If.is no_more
+      ∙ ap (λ xs. decides c.in-If.cond (stmts c.in-If.then_arm.items) (stmts xs) no_more) (sym c.deref-in-If.ensures.value)) c.requires,
 )
 
 pub put_stmt_rows-put_body_rows-requires-in-If-2 : goal.put_stmt_rows-put_body_rows-requires-in-If-2
@@ -74,42 +81,54 @@ put_stmt_rows-pass_simple-requires t c = record { ops = c.requires.ops; simple =
 pub put_stmt_rows-returns-in_ok-put_row-in-Call-clause-passed : goal.put_stmt_rows-returns-in_ok-put_row-in-Call-clause-passed
 put_stmt_rows-returns-in_ok-put_row-in-Call-clause-passed t c = record {
   labels = refl;
-  tells = call_arm c.args.tos.now.items c.args.stmt.now c.in-Call.op c.in-Call.stack c.in-Call.args c.in-Call.to c.deref-in-Call.result.now c.args.set.now c.write_told.new.set c.read_taken.new.set c.in-Call.is
+  tells = call_arm c.args.tos.now.items c.args.stmt.now c.in-Call.op c.in-Call.stack c.in-Call.args c.in-Call.to c.deref-in-Call.result.now c.args.set.now c.write_told.new.set
+      c.read_taken.new.set c.in-Call.is
       c.deref-in-Call.ensures.value c.requires.ops c.write_told.ensures c.read_taken.ensures;
 }
 
 pub put_stmt_rows-returns-in_ok-put_row-in-Call-clause-rows : goal.put_stmt_rows-returns-in_ok-put_row-in-Call-clause-rows
-put_stmt_rows-returns-in_ok-put_row-in-Call-clause-rows t c = call_rows c.args.numbers.now c.args.tos.now.items c.args.stmt.now c.in-Call.op c.in-Call.stack c.in-Call.args c.in-Call.to c.deref.result.now
-    c.args.set.now c.write_told.new.set c.args.last c.args.rows.now.items c.put_row.new.rows.items c.in-Call.is c.deref.ensures.value c.write_told.ensures c.requires.room c.in_ok-put_row-in-Call.ensures
+put_stmt_rows-returns-in_ok-put_row-in-Call-clause-rows t c = call_rows c.args.numbers.now c.args.tos.now.items c.args.stmt.now c.in-Call.op c.in-Call.stack c.in-Call.args c.in-Call.to
+    c.deref.result.now
+    c.args.set.now c.write_told.new.set c.args.last c.args.rows.now.items c.put_row.new.rows.items c.in-Call.is c.deref.ensures.value c.write_told.ensures c.requires.room
+    c.in_ok-put_row-in-Call.ensures
 
 pub put_stmt_rows-returns-in_ok-first-in-Block-clause-passed : goal.put_stmt_rows-returns-in_ok-first-in-Block-clause-passed
-put_stmt_rows-returns-in_ok-first-in-Block-clause-passed t c = block_passed c.args.stmt.now c.args.tos.now.items (stmts c.deref-in-Block.result.now) c.in_ok-copied-in-Block.field-0 c.put_body_rows.new.tos
-    c.push.new.self.items c.pop.new.self.items c.args.set.now c.put_body_rows.new.set (block_is c.args.stmt.now c.in-Block.body c.in-Block.is no_more ∙ ap (λ xs. nests a_block (stmts xs) no_more) (sym c.deref-in-Block.ensures.value))
+put_stmt_rows-returns-in_ok-first-in-Block-clause-passed t c = block_passed c.args.stmt.now c.args.tos.now.items
+    (stmts c.deref-in-Block.result.now) c.in_ok-copied-in-Block.field-0 c.put_body_rows.new.tos
+    c.push.new.self.items c.pop.new.self.items c.args.set.now c.put_body_rows.new.set (block_is c.args.stmt.now c.in-Block.body c.in-Block.is no_more
+    ∙ ap (λ xs. nests a_block (stmts xs) no_more) (sym c.deref-in-Block.ensures.value))
     c.in_ok-copied-in-Block.ensures c.in_ok-push-in-Block.ensures.items c.in_ok-first-in-Block.ensures.passed c.pop.ensures.rest
 
 pub put_stmt_rows-returns-in_ok-first-in-Block-clause-rows : goal.put_stmt_rows-returns-in_ok-first-in-Block-clause-rows
-put_stmt_rows-returns-in_ok-first-in-Block-clause-rows t c = block_rows c.args.numbers.now c.args.stmt.now c.args.tos.now.items (stmts c.deref-in-Block.result.now) c.in_ok-copied-in-Block.field-0 c.push.new.self.items
-    c.args.set.now c.args.last c.in_ok-first-in-Block.first c.args.rows.now.items c.put_body_rows.new.rows.items (block_is c.args.stmt.now c.in-Block.body c.in-Block.is no_more ∙ ap (λ xs. nests a_block (stmts xs) no_more) (sym c.deref-in-Block.ensures.value))
+put_stmt_rows-returns-in_ok-first-in-Block-clause-rows t c = block_rows c.args.numbers.now c.args.stmt.now c.args.tos.now.items
+    (stmts c.deref-in-Block.result.now) c.in_ok-copied-in-Block.field-0 c.push.new.self.items
+    c.args.set.now c.args.last c.in_ok-first-in-Block.first c.args.rows.now.items c.put_body_rows.new.rows.items (block_is c.args.stmt.now c.in-Block.body c.in-Block.is no_more
+    ∙ ap (λ xs. nests a_block (stmts xs) no_more) (sym c.deref-in-Block.ensures.value))
     c.in_ok-copied-in-Block.ensures c.in_ok-push-in-Block.ensures.items c.in_ok-first-in-Block.ensures.rows
 
 pub put_stmt_rows-returns-in_ok-first-in-Loop-clause-rows : goal.put_stmt_rows-returns-in_ok-first-in-Loop-clause-rows
-put_stmt_rows-returns-in_ok-first-in-Loop-clause-rows t c = loop_rows c.args.numbers.now c.args.stmt.now c.args.tos.now.items (stmts c.deref-in-Loop.result.now) c.in_ok-head-in-Loop.head c.push-in-Loop.new.self.items
-    c.args.set.now c.deref_mut.result.now c.pass_stmt.new.set c.args.last c.in_ok-first-in-Loop.first c.args.rows.now.items c.put_body_rows-in-Loop.new.rows.items (loop_is c.args.stmt.now c.in-Loop.body c.in-Loop.is no_more ∙ ap (λ xs. nests a_loop (stmts xs) no_more) (sym c.deref-in-Loop.ensures.value))
+put_stmt_rows-returns-in_ok-first-in-Loop-clause-rows t c = loop_rows c.args.numbers.now c.args.stmt.now c.args.tos.now.items
+    (stmts c.deref-in-Loop.result.now) c.in_ok-head-in-Loop.head c.push-in-Loop.new.self.items
+    c.args.set.now c.deref_mut.result.now c.pass_stmt.new.set c.args.last c.in_ok-first-in-Loop.first c.args.rows.now.items c.put_body_rows-in-Loop.new.rows.items
+    (loop_is c.args.stmt.now c.in-Loop.body c.in-Loop.is no_more ∙ ap (λ xs. nests a_loop (stmts xs) no_more) (sym c.deref-in-Loop.ensures.value))
     c.in_ok-head-in-Loop.ensures (c.in_ok-push-in-Loop.ensures.items ∙ ap (λ ts. ts ++ c.in_ok-head-in-Loop.head ∷ []) c.in_ok-pass_stmt-in-Loop.ensures.labels)
     (c.deref_mut.ensures.value ∙ c.in_ok-inner-in-Loop.ensures) c.in_ok-pass_stmt-in-Loop.ensures.tells c.in_ok-first-in-Loop.ensures.rows
 
 pub put_stmt_rows-returns-in_ok-first-in-If-clause-passed : goal.put_stmt_rows-returns-in_ok-first-in-If-clause-passed
-put_stmt_rows-returns-in_ok-first-in-If-clause-passed t c = if_passed c.args.stmt.now c.args.tos.now.items c.in-If.cond (stmts c.deref-in-If-2.result.now) (stmts c.deref-in-If.result.now) c.in_ok-copied-in-If.field-0
+put_stmt_rows-returns-in_ok-first-in-If-clause-passed t c = if_passed c.args.stmt.now c.args.tos.now.items c.in-If.cond (stmts c.deref-in-If-2.result.now)
+    (stmts c.deref-in-If.result.now) c.in_ok-copied-in-If.field-0
     c.put_body_rows-in-If.new.tos.items c.put_body_rows-in-If-2.new.tos c.push-in-If.new.self.items c.pop-in-If.new.self.items
     c.args.set.now c.deref_mut-in-If.result.now c.put_body_rows-in-If-2.new.set c.deref-in-If-3.result.now c.put_body_rows-in-If.new.set c.join.new.set c.read_operand.new.set
     (if_is c.args.stmt.now c.in-If.cond c.in-If.then_arm c.in-If.else_arm c.in-If.is no_more
     ∙ (λ j. decides c.in-If.cond (stmts (sym c.deref-in-If-2.ensures.value j)) (stmts (sym c.deref-in-If.ensures.value j)) no_more))
     c.in_ok-copied-in-If.ensures (c.deref_mut-in-If.ensures.value ∙ c.in_ok-other-in-If.ensures)
-    (c.deref-in-If-3.ensures.value ∙ put_back c.put_body_rows-in-If-2.new.set c.in_ok-other-in-If.other.items c.in_ok-other-in-If.other.len (c.in_ok-first-in-If.ensures.passed.tells.size ∙ ap length c.deref_mut-in-If.ensures.value) (sym c.in_ok-other-in-If.other.ok.0))
+    (c.deref-in-If-3.ensures.value ∙ put_back c.put_body_rows-in-If-2.new.set c.in_ok-other-in-If.other.items c.in_ok-other-in-If.other.len (c.in_ok-first-in-If.ensures.passed.tells.size
+    ∙ ap length c.deref_mut-in-If.ensures.value) (sym c.in_ok-other-in-If.other.ok.0))
     c.in_ok-push-in-If.ensures.items c.in_ok-middle-in-If.ensures.passed c.in_ok-first-in-If.ensures.passed c.pop-in-If.ensures.rest c.join.auto.set c.join.ensures c.read_operand.ensures
 
 pub put_stmt_rows-returns-in_ok-first-in-If-clause-rows : goal.put_stmt_rows-returns-in_ok-first-in-If-clause-rows
-put_stmt_rows-returns-in_ok-first-in-If-clause-rows t c = if_rows c.args.numbers.now c.args.stmt.now c.args.tos.now.items c.in-If.cond (stmts c.deref-in-If-2.result.now) (stmts c.deref-in-If.result.now) c.in_ok-copied-in-If.field-0
+put_stmt_rows-returns-in_ok-first-in-If-clause-rows t c = if_rows c.args.numbers.now c.args.stmt.now c.args.tos.now.items c.in-If.cond (stmts c.deref-in-If-2.result.now)
+    (stmts c.deref-in-If.result.now) c.in_ok-copied-in-If.field-0
     c.push-in-If.new.self.items c.put_body_rows-in-If.new.tos.items c.args.set.now c.deref_mut-in-If.result.now c.args.last c.in_ok-middle-in-If.middle c.in_ok-first-in-If.first
     c.args.rows.now.items c.put_body_rows-in-If.new.rows.items c.put_body_rows-in-If-2.new.rows.items
     (if_is c.args.stmt.now c.in-If.cond c.in-If.then_arm c.in-If.else_arm c.in-If.is no_more
@@ -123,5 +142,6 @@ put_stmt_rows-returns-in_default t c = record {
     labels = refl;
     tells = subst (λ ts. TellsBefore ts c.args.set.now c.pass_simple.new.set (code_of (stmt_in_front c.args.stmt.now no_more))) c.deref-in_default.ensures.value c.pass_simple.ensures;
   };
-  rows = simple_rows c.args.numbers.now c.args.stmt.now c.args.tos.now.items c.args.set.now c.args.last c.args.rows.now.items c.in_default.not-Call c.in_default.not-Block c.in_default.not-Loop c.in_default.not-If;
+  rows = simple_rows c.args.numbers.now c.args.stmt.now c.args.tos.now.items c.args.set.now c.args.last c.args.rows.now.items c.in_default.not-Call c.in_default.not-Block
+      c.in_default.not-Loop c.in_default.not-If;
 }

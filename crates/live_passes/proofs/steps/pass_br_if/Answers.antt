@@ -4,4 +4,5 @@ use Rattle.live_passes.proofs.StepLemmas.{operand_then}
 use Rattle.live_passes.proofs.steps.pass_br_if.Goals as goal
 
 pub returns : goal.returns
-returns c = operand_then c.args.tos.now c.args.cond (plain (br_if c.args.label) done) c.args.set.now c.join_label.new.set c.read_operand.new.set (maybe_to_label c.args.tos.now c.args.label c.args.set.now c.join_label.new.set c.join_label.ensures) c.read_operand.ensures
+returns c = operand_then c.args.tos.now c.args.cond (plain (br_if c.args.label) done) c.args.set.now c.join_label.new.set c.read_operand.new.set
+    (maybe_to_label c.args.tos.now c.args.label c.args.set.now c.join_label.new.set c.join_label.ensures) c.read_operand.ensures

@@ -63,7 +63,8 @@ put_written-requires-clause-flat c =
     let lt : i < length m.funcs = omega (arith, c.loop-index-test.true, c.len-index-end.ensures, many, len) in
     let f = c.index-source.result.now in
     let ef : slice_get m.funcs i ≡ Some (func_of f) = func_at v.funcs.items i f (omega (arith, lt, len)) (c.index-source.ensures ∙ ap (λ (z : ModuleValue). get_or z.funcs.items i f) same) in
-    subst (λ (z : ModuleValue). IsFlattened (module_of z) (func_of f) c.in_ok-flat.flat) (sym same) (is_flattened m s which i _ c.loop-index.out c.loop-index.invariant c.requires.which lt at (func_of f) ef c.in_ok-flat.flat _ at (c.in_ok-flat.ensures (func_of f) ef))
+    subst (λ (z : ModuleValue). IsFlattened (module_of z) (func_of f) c.in_ok-flat.flat) (sym same)
+    (is_flattened m s which i _ c.loop-index.out c.loop-index.invariant c.requires.which lt at (func_of f) ef c.in_ok-flat.flat _ at (c.in_ok-flat.ensures (func_of f) ef))
 
 pub loop-index-preserved : goal.loop-index-preserved
 loop-index-preserved c =
@@ -80,7 +81,8 @@ loop-index-preserved c =
     let lt : i < length m.funcs = omega (arith, c.loop-index-test.true, c.len-index-end.ensures, many, len) in
     let f = c.index-source.result.now in
     let ef : slice_get m.funcs i ≡ Some (func_of f) = func_at v.funcs.items i f (omega (arith, lt, len)) (c.index-source.ensures ∙ ap (λ (z : ModuleValue). get_or z.funcs.items i f) same) in
-    going_written m s which i _ c.loop-index.out c.loop-index.invariant c.requires.which lt at (func_of f) ef c.in_ok-flat.flat _ at (c.in_ok-flat.ensures (func_of f) ef) _ c.if-not-which-imports.false
+    going_written m s which i _ c.loop-index.out c.loop-index.invariant c.requires.which lt at (func_of f) ef c.in_ok-flat.flat _ at
+    (c.in_ok-flat.ensures (func_of f) ef) _ c.if-not-which-imports.false
     (subst (λ (z : ModuleValue). PutWritten (module_of z) s which c.in_ok-flat.flat.func.func (func_of f) c.loop-index.out c.put_written.new.out) same c.in_ok-put_written.ensures)
 
 pub returns : goal.returns
@@ -88,4 +90,5 @@ returns c =
     let v = c.args.valid.now in
     let many = ap (λ (z : ModuleValue). length z.funcs.items) c.module-module.ensures.same in
     let len = length-map v.funcs.items func_of in
-    going_end (module_of v) (settings_of c.args.settings.now) c.args.which.now c.loop-index.index c.loop-index.out c.loop-index.invariant (omega (arith, c.loop-index-test.false, c.len-index-end.ensures, many, len))
+    going_end (module_of v) (settings_of c.args.settings.now) c.args.which.now c.loop-index.index c.loop-index.out c.loop-index.invariant
+    (omega (arith, c.loop-index-test.false, c.len-index-end.ensures, many, len))

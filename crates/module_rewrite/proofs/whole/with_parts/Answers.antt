@@ -14,4 +14,5 @@ pub unreachable-requires-in-Err-Invalid : goal.unreachable-requires-in-Err-Inval
 unreachable-requires-in-Err-Invalid c =
     let m = module_of c.in-Ok.with.module in
     let valid = subst Valid (sym c.in-Ok.ensures.added) c.requires.valid in
-    valid_no_fault m c.in-Err-Invalid.field-0-0 c.in-Err-Invalid.field-0-1 c.in-Err-Invalid.field-0-2 valid (subst (λ e. Validates c.in-Ok.with.module (Err e)) c.in-Err-Invalid.field-0-is c.in-Err-Invalid.ensures)
+    valid_no_fault m c.in-Err-Invalid.field-0-0 c.in-Err-Invalid.field-0-1 c.in-Err-Invalid.field-0-2 valid
+    (subst (λ e. Validates c.in-Ok.with.module (Err e)) c.in-Err-Invalid.field-0-is c.in-Err-Invalid.ensures)

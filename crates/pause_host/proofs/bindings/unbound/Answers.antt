@@ -13,7 +13,8 @@ loop-import-preserved c =
     let d = c.deref-import-items.ensures.value in
     let lt = subst (λ ys. i < length ys) d c.loop-import-test.true in
     let at = c.import-item.is ∙ ap (λ ys. get_or ys i c.import-item.result) d in
-    mapped_more (λ sort. None) (λ (y : Import). imported_func y.kind) xs i c.import-item.result c.loop-import.binds.items c.put_none.new.binds.items lt at c.loop-import.invariant c.in_ok-put_none.ensures
+    mapped_more (λ sort. None) (λ (y : Import). imported_func y.kind) xs i c.import-item.result c.loop-import.binds.items c.put_none.new.binds.items lt at c.loop-import.invariant
+    c.in_ok-put_none.ensures
 
 pub returns : goal.returns
 returns c =

@@ -45,4 +45,5 @@ returns-clause-results c =
     let i = c.loop-import.import-index in
     let le = subst (λ ys. length ys ≤ i) c.deref-import-items.ensures.value c.loop-import-test.false in
     c.loop-import.invariant.results
-    ∙ ap (λ ys. map (λ sort. slice_get (type_at (module_of c.args.«module».now) sort).results 0) (filter_map (λ (y : Import). imported_func y.kind) ys)) (take_all i c.args.«module».now.imports.items le)
+    ∙ ap (λ ys. map (λ sort. slice_get (type_at (module_of c.args.«module».now) sort).results 0) (filter_map (λ (y : Import). imported_func y.kind) ys))
+    (take_all i c.args.«module».now.imports.items le)

@@ -13,5 +13,6 @@ abbrev pub invariant-loop-import : goal.invariant-loop-import
 invariant-loop-import l = record {
   names : map (λ (i : HostImport). i.name) l.imports.items ≡ filter_map (λ (i : Import). name_if (joined_name i) (imported_func i.kind)) (take l.import-index l.«module».imports.items);
   bases : map (λ (i : HostImport). i.base) l.imports.items ≡ filter_map (λ (i : Import). name_if i.base (imported_func i.kind)) (take l.import-index l.«module».imports.items);
-  results : map (λ (i : HostImport). i.result) l.imports.items ≡ map (λ sort. slice_get (type_at (module_of l.«module») sort).results 0) (filter_map (λ (i : Import). imported_func i.kind) (take l.import-index l.«module».imports.items));
+  results : map (λ (i : HostImport). i.result) l.imports.items ≡ map (λ sort. slice_get (type_at (module_of l.«module») sort).results 0)
+      (filter_map (λ (i : Import). imported_func i.kind) (take l.import-index l.«module».imports.items));
 }

@@ -16,7 +16,8 @@ returns-in-Err-clause-one_end g c = one_end _ c.refuse_script.result (c.refuse_s
 
 pub returns-in-Ok-clause-status : goal.returns-in-Ok-clause-status
 returns-in-Ok-clause-status g c =
-    end_status (call c.args.way c.args.script.now (g.V.Vault.files c.args.vault.now) (g.V.Vault.fetch_faults c.args.vault.now) (g.V.Vault.fetch_faults c.open_script.new.vault) _ _ _ _ _ _) c.play.result
+    end_status (call c.args.way c.args.script.now (g.V.Vault.files c.args.vault.now) (g.V.Vault.fetch_faults c.args.vault.now) (g.V.Vault.fetch_faults c.open_script.new.vault) _ _ _ _ _ _)
+    c.play.result
     (c.play.ensures.end c.args.way _ c.args.script.now _ _ c.in-Ok.ensures.opened)
 
 pub returns-in-Err-clause-status : goal.returns-in-Err-clause-status

@@ -4,7 +4,8 @@ use Rattle.script_setup.proofs.globals.told_values.Goals as goal
 
 pub loop-global-preserved : goal.loop-global-preserved
 loop-global-preserved c =
-    next_values (value_in c.loop-global.values) (value_in c.put_value.new.values) c.args.globals.now c.loop-global.global-index c.global-item.result c.loop-global-test.true c.global-item.is c.loop-global.invariant
+    next_values (value_in c.loop-global.values) (value_in c.put_value.new.values) c.args.globals.now c.loop-global.global-index c.global-item.result c.loop-global-test.true c.global-item.is
+    c.loop-global.invariant
     c.in_ok-put_value.ensures
 
 pub returns : goal.returns

@@ -7,7 +7,8 @@ use Rattle.script_setup.proofs.names.import_names.Goals as goal
 
 pub loop-import-preserved : goal.loop-import-preserved
 loop-import-preserved c =
-    filter_next (λ (i : Import). name_if (joined_name i) (imported_func i.kind)) c.loop-import.names.items c.put_import.new.names.items c.args.imports.now c.loop-import.import-index c.import-item.result
+    filter_next (λ (i : Import). name_if (joined_name i) (imported_func i.kind)) c.loop-import.names.items c.put_import.new.names.items c.args.imports.now c.loop-import.import-index
+    c.import-item.result
     c.in_ok-put_import.ensures c.loop-import-test.true c.import-item.is c.loop-import.invariant
 
 pub returns : goal.returns

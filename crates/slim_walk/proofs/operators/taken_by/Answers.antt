@@ -1,5 +1,6 @@
 use Rattle.std.proofs.Common.{sym, ◌∙◌}
-use Rattle.slim_walk.proofs.OpLemmas.{takes_nop, takes_const, takes_global_get, takes_memory_size, takes_drop, takes_global_set, takes_memory_grow, takes_load, takes_store, takes_select, takes_num, takes_get, takes_set, takes_tee}
+use Rattle.slim_walk.proofs.OpLemmas.{takes_nop, takes_const, takes_global_get, takes_memory_size, takes_drop, takes_global_set, takes_memory_grow, takes_load, takes_store, takes_select}
+use Rattle.slim_walk.proofs.OpLemmas.{takes_num, takes_get, takes_set, takes_tee}
 use Rattle.slim_walk.proofs.operators.taken_by.Goals as goal
 
 pub returns-in-Nop : goal.returns-in-Nop

@@ -18,7 +18,8 @@ rewrite_fault-requires c =
 
 pub returns-clause-refused : goal.returns-clause-refused
 returns-clause-refused c =
-    rewrite_refused (settings_of c.args.settings.now) c.args.bytes.now (module_of c.in_ok-valid.valid) c.in-Err.fault c.rewrite_fault.result c.in_ok-valid.ensures.source c.in-Err.ensures c.rewrite_fault.ensures.fault
+    rewrite_refused (settings_of c.args.settings.now) c.args.bytes.now (module_of c.in_ok-valid.valid) c.in-Err.fault c.rewrite_fault.result c.in_ok-valid.ensures.source c.in-Err.ensures
+    c.rewrite_fault.ensures.fault
 
 pub returns-in-Ok-clause-done : goal.returns-in-Ok-clause-done
 returns-in-Ok-clause-done c =

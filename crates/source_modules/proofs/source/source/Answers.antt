@@ -8,7 +8,8 @@ use Rattle.source_modules.proofs.source.source.Goals as goal
 
 pub returns-in-Err-clause-refused : goal.returns-in-Err-clause-refused
 returns-in-Err-clause-refused c =
-    read_refused (settings_of c.args._settings.now) c.args.bytes.now c.in-Err.fault c.read_fault.result (subst (λ b. IsRefused b c.args.bytes.now c.in-Err.fault) c.source.ensures c.in-Err.ensures.refused) c.read_fault.ensures.fault
+    read_refused (settings_of c.args._settings.now) c.args.bytes.now c.in-Err.fault c.read_fault.result
+    (subst (λ b. IsRefused b c.args.bytes.now c.in-Err.fault) c.source.ensures c.in-Err.ensures.refused) c.read_fault.ensures.fault
 
 pub returns-in-Ok-validate-clause-source : goal.returns-in-Ok-validate-clause-source
 returns-in-Ok-validate-clause-source c =

@@ -7,16 +7,19 @@ use Rattle.transform_command.proofs.transform.transform.Goals as goal
 
 pub returns-in-Err-Refused-clause-refused : goal.returns-in-Err-Refused-clause-refused
 returns-in-Err-Refused-clause-refused g c =
-    refused_for (settings_of c.args.settings.now) c.args.input.now c.in-Ok.bytes.items _ (cause_of c.in-Err-Refused.refusal) c.in-Ok.ensures.whole (subst (IsFaultOf (settings_of c.args.settings.now) c.in-Ok.bytes.items) c.in-Err-Refused.field-0-is (rw c.deref.ensures.value at c.in-Err-Refused.ensures.refused))
+    refused_for (settings_of c.args.settings.now) c.args.input.now c.in-Ok.bytes.items _ (cause_of c.in-Err-Refused.refusal) c.in-Ok.ensures.whole
+    (subst (IsFaultOf (settings_of c.args.settings.now) c.in-Ok.bytes.items) c.in-Err-Refused.field-0-is (rw c.deref.ensures.value at c.in-Err-Refused.ensures.refused))
 
 pub returns-in-Ok-save_whole-clause-done : goal.returns-in-Ok-save_whole-clause-done
 returns-in-Ok-save_whole-clause-done g c =
-    transformed (settings_of c.args.settings.now) c.args.input.now c.args.output.now c.in-Ok.bytes.items c.in-Ok-rewrite.written.text.items c.in-Ok-rewrite.written.functions c.in-Ok-rewrite.written.instrumented _ _ _ c.fetch_whole.ensures.kept c.in-Ok.ensures.whole
+    transformed (settings_of c.args.settings.now) c.args.input.now c.args.output.now c.in-Ok.bytes.items c.in-Ok-rewrite.written.text.items c.in-Ok-rewrite.written.functions
+    c.in-Ok-rewrite.written.instrumented _ _ _ c.fetch_whole.ensures.kept c.in-Ok.ensures.whole
     (rw c.deref.ensures.value at c.in-Ok-rewrite.ensures.done) (rw c.deref-2.ensures at c.in-Ok-save_whole.ensures.saved)
 
 pub returns-in-Ok-save_whole-clause-counts : goal.returns-in-Ok-save_whole-clause-counts
 returns-in-Ok-save_whole-clause-counts g c =
-    counted (settings_of c.args.settings.now) c.args.input.now c.in-Ok.bytes.items c.in-Ok-rewrite.written.text.items c.in-Ok-rewrite.written.functions c.in-Ok-rewrite.written.instrumented _ _ c.len.ensures.value c.in-Ok.ensures.whole (rw c.deref.ensures.value at c.in-Ok-rewrite.ensures.done)
+    counted (settings_of c.args.settings.now) c.args.input.now c.in-Ok.bytes.items c.in-Ok-rewrite.written.text.items c.in-Ok-rewrite.written.functions
+    c.in-Ok-rewrite.written.instrumented _ _ c.len.ensures.value c.in-Ok.ensures.whole (rw c.deref.ensures.value at c.in-Ok-rewrite.ensures.done)
 
 pub returns-in-Ok-save_whole-clause-bytes : goal.returns-in-Ok-save_whole-clause-bytes
 returns-in-Ok-save_whole-clause-bytes g c =
@@ -24,14 +27,17 @@ returns-in-Ok-save_whole-clause-bytes g c =
 
 pub returns-in-Err-Write-clause-cut : goal.returns-in-Err-Write-clause-cut
 returns-in-Err-Write-clause-cut g c =
-    cut_short (settings_of c.args.settings.now) c.args.input.now c.args.output.now c.in-Ok.bytes.items c.in-Ok-rewrite.written.text.items c.in-Ok-rewrite.written.functions c.in-Ok-rewrite.written.instrumented _ _ _ c.fetch_whole.ensures.kept c.in-Ok.ensures.whole
+    cut_short (settings_of c.args.settings.now) c.args.input.now c.args.output.now c.in-Ok.bytes.items c.in-Ok-rewrite.written.text.items c.in-Ok-rewrite.written.functions
+    c.in-Ok-rewrite.written.instrumented _ _ _ c.fetch_whole.ensures.kept c.in-Ok.ensures.whole
     (rw c.deref.ensures.value at c.in-Ok-rewrite.ensures.done) (rw c.deref-2.ensures at c.in-Err-Write.ensures.cut)
 
 pub returns-clause-cut : goal.returns-clause-cut
 returns-clause-cut g c =
-    cut_short (settings_of c.args.settings.now) c.args.input.now c.args.output.now c.in-Ok.bytes.items c.in-Ok-rewrite.written.text.items c.in-Ok-rewrite.written.functions c.in-Ok-rewrite.written.instrumented _ _ _ c.fetch_whole.ensures.kept c.in-Ok.ensures.whole
+    cut_short (settings_of c.args.settings.now) c.args.input.now c.args.output.now c.in-Ok.bytes.items c.in-Ok-rewrite.written.text.items c.in-Ok-rewrite.written.functions
+    c.in-Ok-rewrite.written.instrumented _ _ _ c.fetch_whole.ensures.kept c.in-Ok.ensures.whole
     (rw c.deref.ensures.value at c.in-Ok-rewrite.ensures.done) (rw c.deref-2.ensures at c.in-Err-Memory-save_whole.ensures.cut)
 
 pub returns-in-Err-Write-clause-source : goal.returns-in-Err-Write-clause-source
 returns-in-Err-Write-clause-source g c = λ h.
-    held (settings_of c.args.settings.now) c.args.input.now c.in-Ok.bytes.items c.in-Ok-rewrite.written.text.items c.in-Ok-rewrite.written.functions c.in-Ok-rewrite.written.instrumented _ c.in-Ok.ensures.whole (rw c.deref.ensures.value at c.in-Ok-rewrite.ensures.done)
+    held (settings_of c.args.settings.now) c.args.input.now c.in-Ok.bytes.items c.in-Ok-rewrite.written.text.items c.in-Ok-rewrite.written.functions
+    c.in-Ok-rewrite.written.instrumented _ c.in-Ok.ensures.whole (rw c.deref.ensures.value at c.in-Ok-rewrite.ensures.done)

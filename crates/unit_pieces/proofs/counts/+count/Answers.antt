@@ -28,13 +28,23 @@ few_among-returns t c = all_found _ c.loop-unit.found c.args.units.now c.loop-un
 
 pub few_inside-few_among-requires : goal.few_inside-few_among-requires
 few_inside-few_among-requires t c = (
-  omega (arith, c.decreases, ap unit_count (block_is c.args.unit.now c.in-Block.first c.in-Block.body c.in-Block.behind c.in-Block.is no_unit), ap (λ xs. unit_count (units_of xs)) c.deref.ensures.value),
+  omega (
+    arith,
+    c.decreases,
+    ap unit_count (block_is c.args.unit.now c.in-Block.first c.in-Block.body c.in-Block.behind c.in-Block.is no_unit),
+    ap (λ xs. unit_count (units_of xs)) c.deref.ensures.value,
+  ),
   tt,
 )
 
 pub few_inside-few_among-requires-in-Loop : goal.few_inside-few_among-requires-in-Loop
 few_inside-few_among-requires-in-Loop t c = (
-  omega (arith, c.decreases, ap unit_count (loop_is c.args.unit.now c.in-Loop.first c.in-Loop.body c.in-Loop.behind c.in-Loop.is no_unit), ap (λ xs. unit_count (units_of xs)) c.deref-in-Loop.ensures.value),
+  omega (
+    arith,
+    c.decreases,
+    ap unit_count (loop_is c.args.unit.now c.in-Loop.first c.in-Loop.body c.in-Loop.behind c.in-Loop.is no_unit),
+    ap (λ xs. unit_count (units_of xs)) c.deref-in-Loop.ensures.value,
+  ),
   tt,
 )
 

@@ -66,7 +66,8 @@ put_unit-write_sequence-requires t c = (
   ),
   nest_ready (exit_of c.args.exit) (exit_of c.inside_block-exit.result) c.args.more c.args.depth c.args.number (code c.args.piece.now) _ a_block _ _ (code c.in-Block.behind.items)
       (block_is c.args.unit.now c.in-Block.first c.in-Block.body c.in-Block.behind c.in-Block.is no_unit
-      ∙ (λ j. nest_unit a_block (code (sym c.deref-in-Block.ensures.value j)) (units_of (sym c.deref-in-Block-2.ensures.value j)) (code c.in-Block.behind.items) no_unit)) c.inside_block-exit.ensures c.requires,
+      ∙ (λ j. nest_unit a_block (code (sym c.deref-in-Block.ensures.value j)) (units_of (sym c.deref-in-Block-2.ensures.value j)) (code c.in-Block.behind.items) no_unit))
+      c.inside_block-exit.ensures c.requires,
 )
 
 pub put_unit-put_guarded-requires-in-Loop : goal.put_unit-put_guarded-requires-in-Loop
@@ -82,13 +83,21 @@ put_unit-write_sequence-requires-in-Loop t c = (
   ),
   nest_ready (exit_of c.args.exit) (exit_of c.inside_loop-exit.result) c.args.more c.args.depth c.args.number (code c.args.piece.now) _ a_loop _ _ (code c.in-Loop.behind.items)
       (loop_is c.args.unit.now c.in-Loop.first c.in-Loop.body c.in-Loop.behind c.in-Loop.is no_unit
-      ∙ (λ j. nest_unit a_loop (code (sym c.deref-in-Loop.ensures.value j)) (units_of (sym c.deref-in-Loop-2.ensures.value j)) (code c.in-Loop.behind.items) no_unit)) c.inside_loop-exit.ensures c.requires,
+      ∙ (λ j. nest_unit a_loop (code (sym c.deref-in-Loop.ensures.value j)) (units_of (sym c.deref-in-Loop-2.ensures.value j)) (code c.in-Loop.behind.items) no_unit))
+      c.inside_loop-exit.ensures c.requires,
 )
 
 pub put_unit-write_arm-requires : goal.put_unit-write_arm-requires
 put_unit-write_arm-requires t c = (
-  omega (arith, c.decreases, ap unit_count (if_is c.args.unit.now c.in-If.cond c.in-If.then_first c.in-If.then_units c.in-If.else_first c.in-If.else_units c.in-If.behind c.in-If.is no_unit), ap (λ xs. unit_count (units_of xs)) c.deref-in-If-2.ensures.value),
-  (arms_ready (exit_of c.args.exit) (exit_of c.inside_block-exit-in-If.result) c.args.more c.args.depth c.args.number c.args.number (code c.args.piece.now) _ c.in-If.cond _ _ (code c.in-If.else_first.items) (units_of c.in-If.else_units.items) (code c.in-If.behind.items)
+  omega (
+    arith,
+    c.decreases,
+    ap unit_count (if_is c.args.unit.now c.in-If.cond c.in-If.then_first c.in-If.then_units c.in-If.else_first c.in-If.else_units c.in-If.behind c.in-If.is
+        no_unit),
+    ap (λ xs. unit_count (units_of xs)) c.deref-in-If-2.ensures.value,
+  ),
+  (arms_ready (exit_of c.args.exit) (exit_of c.inside_block-exit-in-If.result) c.args.more c.args.depth c.args.number c.args.number (code c.args.piece.now) _ c.in-If.cond _ _
+      (code c.in-If.else_first.items) (units_of c.in-If.else_units.items) (code c.in-If.behind.items)
       (if_is c.args.unit.now c.in-If.cond c.in-If.then_first c.in-If.then_units c.in-If.else_first c.in-If.else_units c.in-If.behind c.in-If.is no_unit
       ∙ (λ j. if_unit c.in-If.cond (code (sym c.deref-in-If.ensures.value j)) (units_of (sym c.deref-in-If-2.ensures.value j)) (code c.in-If.else_first.items)
       (units_of c.in-If.else_units.items) (code c.in-If.behind.items) no_unit)) c.inside_block-exit-in-If.ensures c.requires).0,
@@ -96,8 +105,15 @@ put_unit-write_arm-requires t c = (
 
 pub put_unit-write_arm-requires-in-If : goal.put_unit-write_arm-requires-in-If
 put_unit-write_arm-requires-in-If t c = (
-  omega (arith, c.decreases, ap unit_count (if_is c.args.unit.now c.in-If.cond c.in-If.then_first c.in-If.then_units c.in-If.else_first c.in-If.else_units c.in-If.behind c.in-If.is no_unit), ap (λ xs. unit_count (units_of xs)) c.deref-in-If-4.ensures.value),
-  (arms_ready (exit_of c.args.exit) (exit_of c.inside_block-exit-in-If.result) c.args.more c.args.depth c.args.number c.in_ok-then_arm-in-If.then_arm.number (code c.args.piece.now) _ c.in-If.cond (code c.deref-in-If.result.now) (units_of c.deref-in-If-2.result.now)
+  omega (
+    arith,
+    c.decreases,
+    ap unit_count (if_is c.args.unit.now c.in-If.cond c.in-If.then_first c.in-If.then_units c.in-If.else_first c.in-If.else_units c.in-If.behind c.in-If.is
+        no_unit),
+    ap (λ xs. unit_count (units_of xs)) c.deref-in-If-4.ensures.value,
+  ),
+  (arms_ready (exit_of c.args.exit) (exit_of c.inside_block-exit-in-If.result) c.args.more c.args.depth c.args.number c.in_ok-then_arm-in-If.then_arm.number
+      (code c.args.piece.now) _ c.in-If.cond (code c.deref-in-If.result.now) (units_of c.deref-in-If-2.result.now)
       _ _ (code c.in-If.behind.items)
       (if_is c.args.unit.now c.in-If.cond c.in-If.then_first c.in-If.then_units c.in-If.else_first c.in-If.else_units c.in-If.behind c.in-If.is no_unit
       ∙ (λ j. if_unit c.in-If.cond (code (sym c.deref-in-If.ensures.value j)) (units_of (sym c.deref-in-If-2.ensures.value j)) (code (sym c.deref-in-If-3.ensures.value j))
@@ -113,7 +129,8 @@ put_unit-put_condition-requires-clause-number t c = c.in_ok-then_arm-in-If.ensur
 
 pub put_unit-returns-in_ok-put_call-in-Call : goal.put_unit-returns-in_ok-put_call-in-Call
 put_unit-returns-in_ok-put_call-in-Call t c =
-    call_stepped c.args.guards.now (exit_of c.args.exit) (exit_of c.at_call-exit.result) c.args.more c.args.depth c.args.number c.args.out.now.items c.put_call.new.out.items c.args.piece.now c.args.unit.now c.deref.result.now c.in-Call.target c.in-Call.to
+    call_stepped c.args.guards.now (exit_of c.args.exit) (exit_of c.at_call-exit.result) c.args.more c.args.depth c.args.number c.args.out.now.items c.put_call.new.out.items
+    c.args.piece.now c.args.unit.now c.deref.result.now c.in-Call.target c.in-Call.to
     c.deref-in-Call.result.now
     (λ rest. call_is c.args.unit.now c.in-Call.slots c.in-Call.target c.in-Call.to c.in-Call.behind c.in-Call.is rest
     ∙ (λ j. call_unit (sym c.deref.ensures.value j) (callee_of c.in-Call.target) c.in-Call.to (code (sym c.deref-in-Call.ensures.value j)) rest))
@@ -121,7 +138,8 @@ put_unit-returns-in_ok-put_call-in-Call t c =
 
 pub put_unit-returns-in_ok-push-in-Block : goal.put_unit-returns-in_ok-push-in-Block
 put_unit-returns-in_ok-push-in-Block t c =
-    nest_stepped c.args.guards.now (exit_of c.args.exit) (exit_of c.inside_block-exit.result) c.args.more c.args.depth (c.args.depth + 1) c.args.number c.args.out.now.items c.put_guarded.new.out.items _ c.args.piece.now c.args.unit.now a_block
+    nest_stepped c.args.guards.now (exit_of c.args.exit) (exit_of c.inside_block-exit.result) c.args.more c.args.depth
+    (c.args.depth + 1) c.args.number c.args.out.now.items c.put_guarded.new.out.items _ c.args.piece.now c.args.unit.now a_block
     (code c.deref-in-Block.result.now) (units_of c.deref-in-Block-2.result.now) c.in-Block.behind.items c.in_ok-inner-in-Block.inner _ c.inside_block-exit.ensures refl
     (λ rest. block_is c.args.unit.now c.in-Block.first c.in-Block.body c.in-Block.behind c.in-Block.is rest
     ∙ (λ j. nest_unit a_block (code (sym c.deref-in-Block.ensures.value j)) (units_of (sym c.deref-in-Block-2.ensures.value j)) (code c.in-Block.behind.items) rest))
@@ -129,7 +147,8 @@ put_unit-returns-in_ok-push-in-Block t c =
 
 pub put_unit-returns-in_ok-push-in-Loop : goal.put_unit-returns-in_ok-push-in-Loop
 put_unit-returns-in_ok-push-in-Loop t c =
-    nest_stepped c.args.guards.now (exit_of c.args.exit) (exit_of c.inside_loop-exit.result) c.args.more c.args.depth (c.args.depth + 1) c.args.number c.args.out.now.items c.put_guarded-in-Loop.new.out.items _ c.args.piece.now c.args.unit.now a_loop
+    nest_stepped c.args.guards.now (exit_of c.args.exit) (exit_of c.inside_loop-exit.result) c.args.more c.args.depth
+    (c.args.depth + 1) c.args.number c.args.out.now.items c.put_guarded-in-Loop.new.out.items _ c.args.piece.now c.args.unit.now a_loop
     (code c.deref-in-Loop.result.now) (units_of c.deref-in-Loop-2.result.now) c.in-Loop.behind.items c.in_ok-inner-in-Loop.inner _ c.inside_loop-exit.ensures refl
     (λ rest. loop_is c.args.unit.now c.in-Loop.first c.in-Loop.body c.in-Loop.behind c.in-Loop.is rest
     ∙ (λ j. nest_unit a_loop (code (sym c.deref-in-Loop.ensures.value j)) (units_of (sym c.deref-in-Loop-2.ensures.value j)) (code c.in-Loop.behind.items) rest))
@@ -137,7 +156,8 @@ put_unit-returns-in_ok-push-in-Loop t c =
 
 pub put_unit-returns-in_ok-push-in-If : goal.put_unit-returns-in_ok-push-in-If
 put_unit-returns-in_ok-push-in-If t c =
-    if_stepped c.args.guards.now (exit_of c.args.exit) (exit_of c.inside_block-exit-in-If.result) c.args.more c.args.depth (c.args.depth + 1) c.args.number c.args.out.now.items c.put_condition.new.out.items _ c.args.piece.now c.args.unit.now c.in-If.cond
+    if_stepped c.args.guards.now (exit_of c.args.exit) (exit_of c.inside_block-exit-in-If.result) c.args.more c.args.depth
+    (c.args.depth + 1) c.args.number c.args.out.now.items c.put_condition.new.out.items _ c.args.piece.now c.args.unit.now c.in-If.cond
     (code c.deref-in-If.result.now) (units_of c.deref-in-If-2.result.now) (code c.deref-in-If-3.result.now) (units_of c.deref-in-If-4.result.now) c.in-If.behind.items
     c.in_ok-then_arm-in-If.then_arm c.in_ok-else_arm-in-If.else_arm _ c.inside_block-exit-in-If.ensures refl
     (λ rest. if_is c.args.unit.now c.in-If.cond c.in-If.then_first c.in-If.then_units c.in-If.else_first c.in-If.else_units c.in-If.behind c.in-If.is rest
@@ -154,7 +174,8 @@ pub write_arm-returns-then-is_empty : goal.write_arm-returns-then-is_empty
 write_arm-returns-then-is_empty t c =
     let e = units_empty c.args.units.now (length_none _ _ c.is_empty.ensures c.if-is_empty.true) in
     record {
-      written = c.in_ok-copy_body.ensures ∙ sym (ap (λ us. arm us (code c.args.first.now) (front (indices c.args.guards.now) (exit_of c.args.exit) c.args.depth c.args.number (code c.args.first.now) us)) e);
+      written = c.in_ok-copy_body.ensures
+          ∙ sym (ap (λ us. arm us (code c.args.first.now) (front (indices c.args.guards.now) (exit_of c.args.exit) c.args.depth c.args.number (code c.args.first.now) us)) e);
       number = let n = ap numbers_in e in omega arith;
     }
 
@@ -174,18 +195,25 @@ write_sequence-put_unit-requires t c = (
     walked_fewer c.args.guards.now (exit_of c.args.exit) c.args.depth c.args.number (code c.args.first.now) (units_of c.args.units.now) c.loop-unit.out.items c.loop-unit.piece.now
         c.loop-unit.next c.args.units.now c.loop-unit.unit-index c.unit-item.result (omega (arith, c.loop-unit-test.true)) c.unit-item.is c.loop-unit.invariant.0,
   ),
-  walked_ready c.args.guards.now (exit_of c.args.exit) c.args.depth c.args.number (code c.args.first.now) (units_of c.args.units.now) c.loop-unit.out.items c.loop-unit.piece.now c.loop-unit.next c.args.units.now
+  walked_ready c.args.guards.now (exit_of c.args.exit) c.args.depth c.args.number (code c.args.first.now)
+      (units_of c.args.units.now) c.loop-unit.out.items c.loop-unit.piece.now c.loop-unit.next c.args.units.now
       c.loop-unit.unit-index c.unit-item.result (omega (arith, c.loop-unit-test.true)) c.unit-item.is c.loop-unit.invariant.0,
 )
 
 pub write_sequence-loop-unit-init : goal.write_sequence-loop-unit-init
-write_sequence-loop-unit-init t c = (walked_start c.args.guards.now (exit_of c.args.exit) c.args.depth c.args.number c.args.first.now (units_of c.args.units.now) _ c.requires c.new-out.ensures.items, omega arith)
+write_sequence-loop-unit-init t c = (
+  walked_start c.args.guards.now (exit_of c.args.exit) c.args.depth c.args.number c.args.first.now
+      (units_of c.args.units.now) _ c.requires c.new-out.ensures.items,
+  omega arith,
+)
 
 pub write_sequence-loop-unit-preserved : goal.write_sequence-loop-unit-preserved
 write_sequence-loop-unit-preserved t c =
     let inv = c.loop-unit.invariant.1 in (
-      walked_next c.args.guards.now (exit_of c.args.exit) c.args.depth c.args.number (code c.args.first.now) (units_of c.args.units.now) c.loop-unit.out.items c.put_unit.new.out.items c.loop-unit.piece.now
-          c.loop-unit.next c.in_ok-next.next (c.loop-unit.left - 1) _ c.args.units.now c.loop-unit.unit-index c.unit-item.result c.next_piece-piece.result.now (omega (arith, c.loop-unit-test.true)) c.unit-item.is
+      walked_next c.args.guards.now (exit_of c.args.exit) c.args.depth c.args.number (code c.args.first.now)
+          (units_of c.args.units.now) c.loop-unit.out.items c.put_unit.new.out.items c.loop-unit.piece.now
+          c.loop-unit.next c.in_ok-next.next (c.loop-unit.left - 1) _ c.args.units.now c.loop-unit.unit-index c.unit-item.result c.next_piece-piece.result.now
+          (omega (arith, c.loop-unit-test.true)) c.unit-item.is
           c.loop-unit.invariant.0 c.in_ok-next.ensures c.next_piece-piece.ensures (omega arith) (λ e. ltb-true 0 (c.loop-unit.left - 1) e) (λ e. ltb-false 0 (c.loop-unit.left - 1) e),
       omega arith,
     )

@@ -8,7 +8,8 @@ use Rattle.unit_pieces.specs.Fronts.{Walked}
 use Rattle.unit_pieces.proofs.sequences.+write.Given as goal
 
 abbrev pub invariant-write_sequence-loop-unit : goal.invariant-write_sequence-loop-unit
-invariant-write_sequence-loop-unit l = Walked l.guards (exit_of l.exit) l.depth l.number (code l.first) (units_of l.units) l.out.items l.piece l.next (units_of (drop l.unit-index l.units)) × (l.left + l.unit-index ≡ length l.units)
+invariant-write_sequence-loop-unit l = Walked l.guards (exit_of l.exit) l.depth l.number (code l.first) (units_of l.units) l.out.items l.piece l.next (units_of (drop l.unit-index l.units))
+    × (l.left + l.unit-index ≡ length l.units)
 
 abbrev pub decreases-write_sequence : goal.decreases-write_sequence
 decreases-write_sequence l = 3 * unit_count (units_of l.units.now) + 1

@@ -6,7 +6,8 @@ use Rattle.wa_types.specs.Typing.{listed}
 use Rattle.validate_bodies.specs.Running.{fine, fault}
 use Rattle.validate_table.proofs.PruneLemmas.{leaf_other}
 use Rattle.validate_bodies.proofs.Lists.{known_none}
-use Rattle.validate_bodies.proofs.Trees.{judged_err, judged_same, passed_by, passed_then, pushed_on, same_checks, moved_checks, labels_are, body_on, body_end, popped_none, popped_some, block_arm, loop_arm, if_arm, if_fault, plain_size, plain_is, go_on, stop_at, none_is, instrs, bodies}
+use Rattle.validate_bodies.proofs.Trees.{judged_err, judged_same, passed_by, passed_then, pushed_on, same_checks, moved_checks, labels_are, body_on, body_end, popped_none, popped_some}
+use Rattle.validate_bodies.proofs.Trees.{block_arm, loop_arm, if_arm, if_fault, plain_size, plain_is, go_on, stop_at, none_is, instrs, bodies}
 use Rattle.validate_bodies.proofs.bodies.+check.Goals as goal
 
 pub check_body-loop-instr-init : goal.check_body-loop-instr-init
@@ -23,7 +24,8 @@ check_body-check_instr-requires t c = (search (rules, the_lemmas), (c.loop-instr
 pub check_body-returns-in_err-check_instr-clause-judged : goal.check_body-returns-in_err-check_instr-clause-judged
 check_body-returns-in_err-check_instr-clause-judged t c =
     judged_same _ _ _ _ _ _ c.from_residual-in_err-check_instr.ensures.1 (c.in_err-check_instr.ensures.judged (code (drop (c.loop-instr.instr-index + 1) c.args.body.now)) (listed c.args.gives))
-    (body_on _ _ _ c.args.body.now c.loop-instr.instr-index _ _ _ _ _ (labels_are _ _ _ _ c.in_ok-push.ensures.items c.loop-instr.invariant.labels) c.loop-instr.invariant.judged _ (omega arith) c.instr-item.is)
+    (body_on _ _ _ c.args.body.now c.loop-instr.instr-index _ _ _ _ _ (labels_are _ _ _ _ c.in_ok-push.ensures.items c.loop-instr.invariant.labels) c.loop-instr.invariant.judged _
+    (omega arith) c.instr-item.is)
 
 pub check_body-returns-then-not-ends-clause-judged : goal.check_body-returns-then-not-ends-clause-judged
 check_body-returns-then-not-ends-clause-judged t c =
@@ -55,7 +57,8 @@ check_instr-returns-in_err-check_body-in-Block-clause-judged t c =
 pub check_instr-returns-in_err-check_body-in-Loop-clause-judged :
     goal.check_instr-returns-in_err-check_body-in-Loop-clause-judged
 check_instr-returns-in_err-check_body-in-Loop-clause-judged t c =
-    λ rest outs. judged_err _ _ _ _ _ _ _ c.from_residual-in_err-check_body-in-Loop.ensures.1 c.in_err-check_body-in-Loop.ensures.judged (loop_arm _ _ outs _ _ _ _ rest _ _ _ c.in-Loop.is c.deref-in-Loop.ensures.value)
+    λ rest outs. judged_err _ _ _ _ _ _ _ c.from_residual-in_err-check_body-in-Loop.ensures.1 c.in_err-check_body-in-Loop.ensures.judged
+    (loop_arm _ _ outs _ _ _ _ rest _ _ _ c.in-Loop.is c.deref-in-Loop.ensures.value)
 
 pub check_instr-returns-then-not-pop-clause-judged : goal.check_instr-returns-then-not-pop-clause-judged
 check_instr-returns-then-not-pop-clause-judged t c =
@@ -74,7 +77,8 @@ pub check_instr-returns-in_err-check_body-in-If-2-clause-judged :
 check_instr-returns-in_err-check_body-in-If-2-clause-judged t c =
     let e : c.pop.result ≡ true = search rules in
     let m = ap (λ z. mid (code z)) (c.deref-in-If-2.ensures.value ∙ sym c.deref-in-If-3.ensures.value) in
-    let n : c.check_body-in-If.new.at + c.middle.result ≡ c.args.at.now + 1 + size (code c.deref-in-If.result.now) + mid (code c.deref-in-If-3.result.now) = omega (arith, m, c.middle.ensures, c.in_ok-check_body-in-If.ensures.place) in
+    let n : c.check_body-in-If.new.at + c.middle.result ≡ c.args.at.now + 1 + size (code c.deref-in-If.result.now)
+    + mid (code c.deref-in-If-3.result.now) = omega (arith, m, c.middle.ensures, c.in_ok-check_body-in-If.ensures.place) in
     λ rest outs.
     let y = if_arm _ _ outs _ _ _ _ rest _ _ _ _ c.deref-in-If-3.result.now _ c.in-If.is c.deref-in-If.ensures.value c.deref-in-If-3.ensures.value (popped_some _ _ _ c.pop.ensures.popped e) in
     judged_err _ _ _ _ _ _ _ c.from_residual-in_err-check_body-in-If-2.ensures.1 c.in_err-check_body-in-If-2.ensures.judged
@@ -83,22 +87,28 @@ check_instr-returns-in_err-check_body-in-If-2-clause-judged t c =
 pub check_instr-returns-in_ok-push_result-in-Block-clause-judged : goal.check_instr-returns-in_ok-push_result-in-Block-clause-judged
 check_instr-returns-in_ok-push_result-in-Block-clause-judged t c = λ rest outs.
     passed_by _ _ _ (block_arm _ _ outs _ _ _ _ rest _ _ _ c.in-Block.is c.deref.ensures.value) c.in_ok-check_body-in-Block.ensures.judged
-    ∙ same_checks _ _ _ _ _ _ _ _ _ _ (pushed_on _ _ _ _ c.in_ok-push_result-in-Block.ensures.pushed c.in_ok-check_body-in-Block.ensures.known) (sym (c.in_ok-push_result-in-Block.ensures.free ∙ c.in_ok-check_body-in-Block.ensures.free)) (omega (arith, c.in_ok-check_body-in-Block.ensures.place))
+    ∙ same_checks _ _ _ _ _ _ _ _ _ _ (pushed_on _ _ _ _ c.in_ok-push_result-in-Block.ensures.pushed c.in_ok-check_body-in-Block.ensures.known)
+    (sym (c.in_ok-push_result-in-Block.ensures.free ∙ c.in_ok-check_body-in-Block.ensures.free)) (omega (arith, c.in_ok-check_body-in-Block.ensures.place))
 
 pub check_instr-returns-in_ok-push_result-in-Loop-clause-judged : goal.check_instr-returns-in_ok-push_result-in-Loop-clause-judged
 check_instr-returns-in_ok-push_result-in-Loop-clause-judged t c = λ rest outs.
     passed_by _ _ _ (loop_arm _ _ outs _ _ _ _ rest _ _ _ c.in-Loop.is c.deref-in-Loop.ensures.value) c.in_ok-check_body-in-Loop.ensures.judged
-    ∙ same_checks _ _ _ _ _ _ _ _ _ _ (pushed_on _ _ _ _ c.in_ok-push_result-in-Loop.ensures.pushed c.in_ok-check_body-in-Loop.ensures.known) (sym (c.in_ok-push_result-in-Loop.ensures.free ∙ c.in_ok-check_body-in-Loop.ensures.free)) (omega (arith, c.in_ok-check_body-in-Loop.ensures.place))
+    ∙ same_checks _ _ _ _ _ _ _ _ _ _ (pushed_on _ _ _ _ c.in_ok-push_result-in-Loop.ensures.pushed c.in_ok-check_body-in-Loop.ensures.known)
+    (sym (c.in_ok-push_result-in-Loop.ensures.free ∙ c.in_ok-check_body-in-Loop.ensures.free)) (omega (arith, c.in_ok-check_body-in-Loop.ensures.place))
 
 pub check_instr-returns-in_ok-push_result-in-If-clause-judged : goal.check_instr-returns-in_ok-push_result-in-If-clause-judged
 check_instr-returns-in_ok-push_result-in-If-clause-judged t c =
     let e : c.pop.result ≡ true = search rules in
     let m = ap (λ z. mid (code z)) (c.deref-in-If-2.ensures.value ∙ sym c.deref-in-If-3.ensures.value) in
-    let n : c.check_body-in-If.new.at + c.middle.result ≡ c.args.at.now + 1 + size (code c.deref-in-If.result.now) + mid (code c.deref-in-If-3.result.now) = omega (arith, m, c.middle.ensures, c.in_ok-check_body-in-If.ensures.place) in
+    let n : c.check_body-in-If.new.at + c.middle.result ≡ c.args.at.now + 1 + size (code c.deref-in-If.result.now)
+    + mid (code c.deref-in-If-3.result.now) = omega (arith, m, c.middle.ensures, c.in_ok-check_body-in-If.ensures.place) in
     λ rest outs.
     let y = if_arm _ _ outs _ _ _ _ rest _ _ _ _ c.deref-in-If-3.result.now _ c.in-If.is c.deref-in-If.ensures.value c.deref-in-If-3.ensures.value (popped_some _ _ _ c.pop.ensures.popped e) in
-    passed_by _ _ _ (passed_then _ _ _ _ _ y c.in_ok-check_body-in-If.ensures.judged (moved_checks _ _ _ _ _ _ _ _ (sym (ap reverse c.in_ok-check_body-in-If.ensures.labels)) (sym n))) c.in_ok-check_body-in-If-2.ensures.judged
-    ∙ same_checks _ _ _ _ _ _ _ _ _ _ (pushed_on _ _ _ _ c.in_ok-push_result-in-If.ensures.pushed (c.in_ok-check_body-in-If-2.ensures.known ∙ c.in_ok-check_body-in-If.ensures.known)) (sym (c.in_ok-push_result-in-If.ensures.free ∙ c.in_ok-check_body-in-If-2.ensures.free ∙ c.in_ok-check_body-in-If.ensures.free ∙ c.pop.ensures.free)) (omega (arith, n, c.in_ok-check_body-in-If-2.ensures.place))
+    passed_by _ _ _ (passed_then _ _ _ _ _ y c.in_ok-check_body-in-If.ensures.judged (moved_checks _ _ _ _ _ _ _ _ (sym (ap reverse c.in_ok-check_body-in-If.ensures.labels)) (sym n)))
+    c.in_ok-check_body-in-If-2.ensures.judged
+    ∙ same_checks _ _ _ _ _ _ _ _ _ _ (pushed_on _ _ _ _ c.in_ok-push_result-in-If.ensures.pushed (c.in_ok-check_body-in-If-2.ensures.known ∙ c.in_ok-check_body-in-If.ensures.known))
+    (sym (c.in_ok-push_result-in-If.ensures.free ∙ c.in_ok-check_body-in-If-2.ensures.free ∙ c.in_ok-check_body-in-If.ensures.free ∙ c.pop.ensures.free))
+    (omega (arith, n, c.in_ok-check_body-in-If-2.ensures.place))
 
 pub check_instr-asks_at-requires : goal.check_instr-asks_at-requires
 check_instr-asks_at-requires t c = leaf_other _ c.in_default.not-Block c.in_default.not-Loop c.in_default.not-If

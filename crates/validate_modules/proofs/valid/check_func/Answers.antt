@@ -8,7 +8,8 @@ use Rattle.validate_modules.proofs.valid.check_func.Goals as goal
 pub check_whole-requires : goal.check_whole-requires
 check_whole-requires c =
     let lt : c.args.index < length (map func_of c.args.module.now.funcs.items) = omega (arith, c.requires.index, length-map c.args.module.now.funcs.items func_of) in
-    rw c.deref.ensures.value (size_fits (module_of c.args.module.now) (func_of c.index.result.now) c.args.index c.requires.sizes lt (func_at c.args.module.now.funcs.items c.args.index c.index.result.now c.requires.index c.index.ensures))
+    rw c.deref.ensures.value (size_fits (module_of c.args.module.now) (func_of c.index.result.now) c.args.index c.requires.sizes lt
+    (func_at c.args.module.now.funcs.items c.args.index c.index.result.now c.requires.index c.index.ensures))
 
 pub overflow_cast-result : goal.overflow_cast-result
 overflow_cast-result c =
@@ -18,9 +19,15 @@ overflow_cast-result c =
 pub returns-in-Ok : goal.returns-in-Ok
 returns-in-Ok c =
     let g = func_at c.args.module.now.funcs.items c.args.index c.index.result.now c.requires.index c.index.ensures in
-    λ f e. verdict_of (module_of c.args.module.now) (map func_of c.args.module.now.funcs.items) c.args.index f (func_of c.index.result.now) c.of-context.result (code c.deref.result.now) fine g e (c.of-context.ensures (func_of c.index.result.now) g) (ap code c.deref.ensures.value) c.in-Ok.ensures
+    λ f e. verdict_of (module_of c.args.module.now) (map func_of c.args.module.now.funcs.items) c.args.index f (func_of c.index.result.now) c.of-context.result
+    (code c.deref.result.now) fine g e (c.of-context.ensures (func_of c.index.result.now) g) (ap code c.deref.ensures.value) c.in-Ok.ensures
 
 pub returns-in-Err-Invalid : goal.returns-in-Err-Invalid
 returns-in-Err-Invalid c =
     let g = func_at c.args.module.now.funcs.items c.args.index c.index.result.now c.requires.index c.index.ensures in
-    λ f e. (ap (λ n. Some (n + c.args.index)) c.requires.spaces.func_imports, verdict_of (module_of c.args.module.now) (map func_of c.args.module.now.funcs.items) c.args.index f (func_of c.index.result.now) c.of-context.result (code c.deref.result.now) (fault c.in-Err-Invalid.rule c.in-Err-Invalid.at) g e (c.of-context.ensures (func_of c.index.result.now) g) (ap code c.deref.ensures.value) (rw c.in-Err-Invalid.field-0-is at c.in-Err-Invalid.ensures))
+    λ f e. (
+      ap (λ n. Some (n + c.args.index)) c.requires.spaces.func_imports,
+      verdict_of (module_of c.args.module.now) (map func_of c.args.module.now.funcs.items) c.args.index f
+          (func_of c.index.result.now) c.of-context.result (code c.deref.result.now) (fault c.in-Err-Invalid.rule c.in-Err-Invalid.at) g e
+          (c.of-context.ensures (func_of c.index.result.now) g) (ap code c.deref.ensures.value) (rw c.in-Err-Invalid.field-0-is at c.in-Err-Invalid.ensures),
+    )

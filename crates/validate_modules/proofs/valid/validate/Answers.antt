@@ -5,7 +5,8 @@ use Rattle.validate_modules.proofs.valid.validate.Goals as goal
 
 pub returns-in_err-check_funcs : goal.returns-in_err-check_funcs
 returns-in_err-check_funcs c =
-    fault_of c.args.module c.from_residual-in_err-check_funcs.result c.in_err-check_funcs.field-0.0 c.from_residual-in_err-check_funcs.ensures.1 (if_none _ c.in_ok-rule.field-0 c.in_ok-rule.ensures c.in_default.not-Some) c.in_err-check_funcs.ensures
+    fault_of c.args.module c.from_residual-in_err-check_funcs.result c.in_err-check_funcs.field-0.0 c.from_residual-in_err-check_funcs.ensures.1
+    (if_none _ c.in_ok-rule.field-0 c.in_ok-rule.ensures c.in_default.not-Some) c.in_err-check_funcs.ensures
 
 pub invariant_of-result : goal.invariant_of-result
 invariant_of-result c =

@@ -10,4 +10,5 @@ use Rattle.validate_rules.proofs.indices.elem_funcs_below.Goals as goal
 
 pub returns : goal.returns
 returns c =
-    all_from_yields_List (λ (x : ElemValue). all_below c.args.limit x.funcs.items) _ _ _ c.all.ensures.ran (YieldsList-from_slice c.args.elems.now cc) (λ x b q k. search (rules, tests)) ∙ sym (all_flat_map (λ n. nat_lt n c.args.limit) (λ (x : Elem). x.funcs) elem_of c.args.elems.now)
+    all_from_yields_List (λ (x : ElemValue). all_below c.args.limit x.funcs.items) _ _ _ c.all.ensures.ran (YieldsList-from_slice c.args.elems.now cc) (λ x b q k. search (rules, tests))
+    ∙ sym (all_flat_map (λ n. nat_lt n c.args.limit) (λ (x : Elem). x.funcs) elem_of c.args.elems.now)

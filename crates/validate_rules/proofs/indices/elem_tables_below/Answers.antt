@@ -9,4 +9,5 @@ use Rattle.validate_rules.proofs.indices.elem_tables_below.Goals as goal
 
 pub returns : goal.returns
 returns c =
-    all_from_yields_List (λ (x : ElemValue). nat_lt x.table c.args.limit) _ _ _ c.all.ensures.ran (YieldsList-from_slice c.args.elems.now cc) (λ x b q k. search (rules, tests)) ∙ sym (all_map_map (λ n. nat_lt n c.args.limit) (λ (x : Elem). x.table) elem_of c.args.elems.now)
+    all_from_yields_List (λ (x : ElemValue). nat_lt x.table c.args.limit) _ _ _ c.all.ensures.ran (YieldsList-from_slice c.args.elems.now cc) (λ x b q k. search (rules, tests))
+    ∙ sym (all_map_map (λ n. nat_lt n c.args.limit) (λ (x : Elem). x.table) elem_of c.args.elems.now)

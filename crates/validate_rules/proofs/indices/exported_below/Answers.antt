@@ -8,4 +8,5 @@ use Rattle.validate_rules.proofs.indices.exported_below.Goals as goal
 
 pub returns : goal.returns
 returns c =
-    all_from_yields_List (λ (x : Export). option_all (λ n. nat_lt n c.args.limit) (index_in c.args.space x)) _ _ _ c.all.ensures.ran (YieldsList-from_slice c.args.exports.now cc) (λ x b q k. search (rules, tests)) ∙ sym (all_filtered (λ n. nat_lt n c.args.limit) (index_in c.args.space) c.args.exports.now)
+    all_from_yields_List (λ (x : Export). option_all (λ n. nat_lt n c.args.limit) (index_in c.args.space x)) _ _ _ c.all.ensures.ran (YieldsList-from_slice c.args.exports.now cc)
+    (λ x b q k. search (rules, tests)) ∙ sym (all_filtered (λ n. nat_lt n c.args.limit) (index_in c.args.space) c.args.exports.now)

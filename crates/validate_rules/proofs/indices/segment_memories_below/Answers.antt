@@ -9,4 +9,5 @@ use Rattle.validate_rules.proofs.indices.segment_memories_below.Goals as goal
 
 pub returns : goal.returns
 returns c =
-    all_from_yields_List (λ (x : SegmentValue). nat_lt x.memory c.args.limit) _ _ _ c.all.ensures.ran (YieldsList-from_slice c.args.segments.now cc) (λ x b q k. search (rules, tests)) ∙ sym (all_map_map (λ n. nat_lt n c.args.limit) (λ (x : Segment). x.memory) segment_of c.args.segments.now)
+    all_from_yields_List (λ (x : SegmentValue). nat_lt x.memory c.args.limit) _ _ _ c.all.ensures.ran (YieldsList-from_slice c.args.segments.now cc) (λ x b q k. search (rules, tests))
+    ∙ sym (all_map_map (λ n. nat_lt n c.args.limit) (λ (x : Segment). x.memory) segment_of c.args.segments.now)

@@ -12,4 +12,6 @@ use Rattle.validate_rules.proofs.outside.elem_offsets_constant.Goals as goal
 
 pub returns : goal.returns
 returns c =
-    all_from_yields_List (λ (x : ElemValue). is_constant (map global_type_of c.args.globals.now) I32 (code x.offset.items)) _ _ _ c.all.ensures.ran (YieldsList-from_slice c.args.elems.now cc) (λ x b q k. search (rules, tests)) ∙ sym (list_all-map (λ (x : Elem). is_constant (map global_type_of c.args.globals.now) I32 x.offset) elem_of c.args.elems.now)
+    all_from_yields_List (λ (x : ElemValue). is_constant (map global_type_of c.args.globals.now) I32 (code x.offset.items)) _ _ _ c.all.ensures.ran
+    (YieldsList-from_slice c.args.elems.now cc) (λ x b q k. search (rules, tests))
+    ∙ sym (list_all-map (λ (x : Elem). is_constant (map global_type_of c.args.globals.now) I32 x.offset) elem_of c.args.elems.now)

@@ -10,4 +10,5 @@ use Rattle.validate_rules.proofs.outside.imported_memories_fit.Goals as goal
 
 pub returns : goal.returns
 returns c =
-    all_from_yields_List (λ (x : Import). option_all (limits_fit 65536) (imported_memory x.kind)) _ _ _ c.all.ensures.ran (YieldsList-from_slice c.args.imports.now cc) (λ x b q k. search (rules, tests)) ∙ sym (all_filtered (limits_fit 65536) (λ (x : Import). imported_memory x.kind) c.args.imports.now)
+    all_from_yields_List (λ (x : Import). option_all (limits_fit 65536) (imported_memory x.kind)) _ _ _ c.all.ensures.ran (YieldsList-from_slice c.args.imports.now cc)
+    (λ x b q k. search (rules, tests)) ∙ sym (all_filtered (limits_fit 65536) (λ (x : Import). imported_memory x.kind) c.args.imports.now)

@@ -10,4 +10,5 @@ use Rattle.validate_rules.proofs.outside.imported_tables_fit.Goals as goal
 
 pub returns : goal.returns
 returns c =
-    all_from_yields_List (λ (x : Import). option_all (limits_fit (2 ^ 32)) (imported_table x.kind)) _ _ _ c.all.ensures.ran (YieldsList-from_slice c.args.imports.now cc) (λ x b q k. search (rules, tests)) ∙ sym (all_filtered (limits_fit (2 ^ 32)) (λ (x : Import). imported_table x.kind) c.args.imports.now)
+    all_from_yields_List (λ (x : Import). option_all (limits_fit (2 ^ 32)) (imported_table x.kind)) _ _ _ c.all.ensures.ran (YieldsList-from_slice c.args.imports.now cc)
+    (λ x b q k. search (rules, tests)) ∙ sym (all_filtered (limits_fit (2 ^ 32)) (λ (x : Import). imported_table x.kind) c.args.imports.now)

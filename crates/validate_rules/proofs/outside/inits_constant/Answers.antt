@@ -11,4 +11,6 @@ use Rattle.validate_rules.proofs.outside.inits_constant.Goals as goal
 
 pub returns : goal.returns
 returns c =
-    all_from_yields_List (λ (x : GlobalValue). is_constant (map global_type_of c.args.imported.now) x.ty (code x.init.items)) _ _ _ c.all.ensures.ran (YieldsList-from_slice c.args.globals.now cc) (λ x b q k. search (rules, tests)) ∙ sym (list_all-map (λ (x : GlobalDef). is_constant (map global_type_of c.args.imported.now) x.ty x.init) global_of c.args.globals.now)
+    all_from_yields_List (λ (x : GlobalValue). is_constant (map global_type_of c.args.imported.now) x.ty (code x.init.items)) _ _ _ c.all.ensures.ran
+    (YieldsList-from_slice c.args.globals.now cc) (λ x b q k. search (rules, tests))
+    ∙ sym (list_all-map (λ (x : GlobalDef). is_constant (map global_type_of c.args.imported.now) x.ty x.init) global_of c.args.globals.now)

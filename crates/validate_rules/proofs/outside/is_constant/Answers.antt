@@ -9,7 +9,8 @@ returns-then-body-ne1 c = let o = no_single c.args.body.now c.if-body-ne1.true i
 
 pub returns-in-GlobalGet : goal.returns-in-GlobalGet
 returns-in-GlobalGet c =
-    c.is_constant_of.ensures ∙ sym (ap (is_constant (map global_type_of c.args.globals.now) c.args.ty) (single_get c.args.body.now c.index-body-0.result _ c.if-body-ne1.false c.index-body-0.is c.in-GlobalGet.is))
+    c.is_constant_of.ensures ∙ sym (ap (is_constant (map global_type_of c.args.globals.now) c.args.ty)
+    (single_get c.args.body.now c.index-body-0.result _ c.if-body-ne1.false c.index-body-0.is c.in-GlobalGet.is))
 
 pub returns-in_default : goal.returns-in_default
 returns-in_default c =

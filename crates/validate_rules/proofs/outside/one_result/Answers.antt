@@ -10,4 +10,5 @@ use Rattle.validate_rules.proofs.outside.one_result.Goals as goal
 
 pub returns : goal.returns
 returns c =
-    all_from_yields_List (λ (x : TypeValue). nat_le (length x.results.items) 1) _ _ _ c.all.ensures.ran (YieldsList-from_slice c.args.types.now cc) (λ x b q k. search (rules, tests)) ∙ sym (list_all-map (λ (x : FuncType). nat_le (length x.results) 1) func_type_of c.args.types.now)
+    all_from_yields_List (λ (x : TypeValue). nat_le (length x.results.items) 1) _ _ _ c.all.ensures.ran (YieldsList-from_slice c.args.types.now cc) (λ x b q k. search (rules, tests))
+    ∙ sym (list_all-map (λ (x : FuncType). nat_le (length x.results) 1) func_type_of c.args.types.now)

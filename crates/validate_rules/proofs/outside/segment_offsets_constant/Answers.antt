@@ -12,4 +12,6 @@ use Rattle.validate_rules.proofs.outside.segment_offsets_constant.Goals as goal
 
 pub returns : goal.returns
 returns c =
-    all_from_yields_List (λ (x : SegmentValue). is_constant (map global_type_of c.args.globals.now) I32 (code x.offset.items)) _ _ _ c.all.ensures.ran (YieldsList-from_slice c.args.segments.now cc) (λ x b q k. search (rules, tests)) ∙ sym (list_all-map (λ (x : Segment). is_constant (map global_type_of c.args.globals.now) I32 x.offset) segment_of c.args.segments.now)
+    all_from_yields_List (λ (x : SegmentValue). is_constant (map global_type_of c.args.globals.now) I32 (code x.offset.items)) _ _ _ c.all.ensures.ran
+    (YieldsList-from_slice c.args.segments.now cc) (λ x b q k. search (rules, tests))
+    ∙ sym (list_all-map (λ (x : Segment). is_constant (map global_type_of c.args.globals.now) I32 x.offset) segment_of c.args.segments.now)

@@ -9,4 +9,5 @@ use Rattle.validate_spaces.proofs.spaces.all_globals.Goals as goal
 
 pub returns : goal.returns
 returns c =
-    on_close global_type global_of (filter_map (λ (i : Import). imported_global i.kind) c.args.imports.now) (map global_type_of c.loop-global.all.items) c.args.globals.now c.loop-global.global-index c.loop-global-test.false c.loop-global.invariant
+    on_close global_type global_of (filter_map (λ (i : Import). imported_global i.kind) c.args.imports.now)
+    (map global_type_of c.loop-global.all.items) c.args.globals.now c.loop-global.global-index c.loop-global-test.false c.loop-global.invariant

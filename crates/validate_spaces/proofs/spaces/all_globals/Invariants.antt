@@ -8,4 +8,5 @@ use Rattle.validate_spaces.specs.Spaces.{global_type_of}
 use Rattle.validate_spaces.proofs.spaces.all_globals.Given as goal
 
 abbrev pub invariant-loop-global : goal.invariant-loop-global
-invariant-loop-global l = map global_type_of l.all.items ≡ filter_map (λ (i : Import). imported_global i.kind) l.imports ++ map (λ (g : GlobalDef). global_type (global_of g)) (take l.global-index l.globals)
+invariant-loop-global l = map global_type_of l.all.items ≡ filter_map (λ (i : Import). imported_global i.kind) l.imports
+    ++ map (λ (g : GlobalDef). global_type (global_of g)) (take l.global-index l.globals)

@@ -8,4 +8,5 @@ use Rattle.validate_spaces.proofs.spaces.all_sorts.Goals as goal
 
 pub returns : goal.returns
 returns c =
-    on_close (λ (f : Func). f.sort) func_of (filter_map (λ (i : Import). imported_func i.kind) c.args.imports.now) c.loop-func.sorts.items c.args.funcs.now c.loop-func.func-index c.loop-func-test.false c.loop-func.invariant
+    on_close (λ (f : Func). f.sort) func_of (filter_map (λ (i : Import). imported_func i.kind) c.args.imports.now) c.loop-func.sorts.items c.args.funcs.now c.loop-func.func-index
+    c.loop-func-test.false c.loop-func.invariant

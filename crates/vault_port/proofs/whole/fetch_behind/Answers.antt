@@ -10,4 +10,5 @@ returns-in-Ok-clause-fetched g c =
     let buffer = c.args.buffer.now in
     let done = c.args.done in
     let long = ap length (take_rest buffer done) in
-    told_weaker _ _ (λ all fetched. FetchesMore_by (bytes_of all c.args.name.now) buffer _ c.fetch.new.buf done c.in-Ok.count _ c.requires (omega (arith, long, length-drop done buffer)) fetched) _ c.in-Ok.ensures.fetched
+    told_weaker _ _ (λ all fetched. FetchesMore_by (bytes_of all c.args.name.now) buffer _ c.fetch.new.buf done c.in-Ok.count _ c.requires
+    (omega (arith, long, length-drop done buffer)) fetched) _ c.in-Ok.ensures.fetched

@@ -13,7 +13,8 @@ saving-preserved g c =
     let long = ap length piece in
     record {
       within = omega (arith, long, length-drop done bytes, c.in-Ok.ensures.count);
-      front = Becomes_then (HasFront name bytes done) _ _ (λ old mid new before now. inl (HasFront_more name bytes _ done c.in-Ok.count piece old mid new before now)) _ _ _ c.saving.invariant.front c.in-Ok.ensures.saved;
+      front = Becomes_then (HasFront name bytes done) _ _ (λ old mid new before now. inl (HasFront_more name bytes _ done c.in-Ok.count piece old mid new before now)) _ _ _
+          c.saving.invariant.front c.in-Ok.ensures.saved;
       rising = omega (arith, c.in-Ok.ensures.faults);
       fetches = cc;
     }

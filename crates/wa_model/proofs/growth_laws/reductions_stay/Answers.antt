@@ -19,4 +19,5 @@ returns-clause-ends c = λ m ts fs gs es more d left used end v h e. ends_stay m
 pub returns-clause-runtime : goal.returns-clause-runtime
 unfolding Base with_runtime
 returns-clause-runtime c = λ m more d v h.
-    step_stays (Base m) runtime_types (runtime_funcs (length m.types) (global_space m) (global_space m + 1)) runtime_globals (runtime_exports (func_space m)) (valid_named (Base m) (base_valid m v)) more d h
+    step_stays (Base m) runtime_types (runtime_funcs (length m.types) (global_space m) (global_space m + 1)) runtime_globals (runtime_exports (func_space m))
+    (valid_named (Base m) (base_valid m v)) more d h

@@ -25,4 +25,5 @@ loop-sort-preserved c = record {
 }
 
 pub returns-clause-built : goal.returns-clause-built
-returns-clause-built c = funcs_all _ _ _ _ _ (gotten_all c.loop-sort.invariant.gotten (omega arith)) (c.loop-sort.invariant.sorted ∙ ap (λ z. value_sorts c.args.funcs.now.items ++ z) (take_all _ _ (omega arith)))
+returns-clause-built c = funcs_all _ _ _ _ _ (gotten_all c.loop-sort.invariant.gotten (omega arith)) (c.loop-sort.invariant.sorted
+    ∙ ap (λ z. value_sorts c.args.funcs.now.items ++ z) (take_all _ _ (omega arith)))

@@ -9,26 +9,35 @@ use Rattle.wasm_build.proofs.types.import_kind.Goals as goal
 pub returns-in_err-read-in-1-clause-built : goal.returns-in_err-read-in-1-clause-built
 returns-in_err-read-in-1-clause-built c =
     let p = err_from_is_err_and c.from_residual-in_err-read-in-1.result c.from_residual-in_err-read-in-1.ensures.1 in
-    stop_last limits_in p.1 p.2 c.in_err-read-in-1.ensures.built (turn (λ k. TableType (limits_in k)) (λ k at bytes w h. table_tail k at bytes (sym c.in-1.is ∙ w.1) h) (step_byte kind_byte KindTail c.in_ok-byte.ensures.ok c.in_ok-byte.ensures.at (start (λ k. Exactly (kind_byte k ∷ []) ▸ KindTail k) _ kind_parts)))
+    stop_last limits_in p.1 p.2 c.in_err-read-in-1.ensures.built (turn (λ k. TableType (limits_in k)) (λ k at bytes w h. table_tail k at bytes (sym c.in-1.is ∙ w.1) h)
+    (step_byte kind_byte KindTail c.in_ok-byte.ensures.ok c.in_ok-byte.ensures.at (start (λ k. Exactly (kind_byte k ∷ []) ▸ KindTail k) _ kind_parts)))
 
 pub returns-in_ok-read-in-1-clause-built : goal.returns-in_ok-read-in-1-clause-built
 returns-in_ok-read-in-1-clause-built c =
-    last (λ k. k) _ limits_in c.in_ok-read-in-1.ensures.built (λ k w e. table_is _ k (sym c.in-1.is ∙ w.1) e) (turn (λ k. TableType (limits_in k)) (λ k at bytes w h. table_tail k at bytes (sym c.in-1.is ∙ w.1) h) (step_byte kind_byte KindTail c.in_ok-byte.ensures.ok c.in_ok-byte.ensures.at (start (λ k. Exactly (kind_byte k ∷ []) ▸ KindTail k) _ kind_parts)))
+    last (λ k. k) _ limits_in c.in_ok-read-in-1.ensures.built (λ k w e. table_is _ k (sym c.in-1.is ∙ w.1) e)
+    (turn (λ k. TableType (limits_in k)) (λ k at bytes w h. table_tail k at bytes (sym c.in-1.is ∙ w.1) h)
+    (step_byte kind_byte KindTail c.in_ok-byte.ensures.ok c.in_ok-byte.ensures.at (start (λ k. Exactly (kind_byte k ∷ []) ▸ KindTail k) _ kind_parts)))
 
 pub returns-in_err-read-in-2-clause-built : goal.returns-in_err-read-in-2-clause-built
 returns-in_err-read-in-2-clause-built c =
     let p = err_from_is_err_and c.from_residual-in_err-read-in-2.result c.from_residual-in_err-read-in-2.ensures.1 in
-    stop_last limits_in p.1 p.2 c.in_err-read-in-2.ensures.built (turn (λ k. LimitsOf (limits_in k)) (λ k at bytes w h. memory_tail k at bytes (sym c.in-2.is ∙ w.1) h) (step_byte kind_byte KindTail c.in_ok-byte.ensures.ok c.in_ok-byte.ensures.at (start (λ k. Exactly (kind_byte k ∷ []) ▸ KindTail k) _ kind_parts)))
+    stop_last limits_in p.1 p.2 c.in_err-read-in-2.ensures.built (turn (λ k. LimitsOf (limits_in k)) (λ k at bytes w h. memory_tail k at bytes (sym c.in-2.is ∙ w.1) h)
+    (step_byte kind_byte KindTail c.in_ok-byte.ensures.ok c.in_ok-byte.ensures.at (start (λ k. Exactly (kind_byte k ∷ []) ▸ KindTail k) _ kind_parts)))
 
 pub returns-in_ok-read-in-2-clause-built : goal.returns-in_ok-read-in-2-clause-built
 returns-in_ok-read-in-2-clause-built c =
-    last (λ k. k) _ limits_in c.in_ok-read-in-2.ensures.built (λ k w e. memory_is _ k (sym c.in-2.is ∙ w.1) e) (turn (λ k. LimitsOf (limits_in k)) (λ k at bytes w h. memory_tail k at bytes (sym c.in-2.is ∙ w.1) h) (step_byte kind_byte KindTail c.in_ok-byte.ensures.ok c.in_ok-byte.ensures.at (start (λ k. Exactly (kind_byte k ∷ []) ▸ KindTail k) _ kind_parts)))
+    last (λ k. k) _ limits_in c.in_ok-read-in-2.ensures.built (λ k w e. memory_is _ k (sym c.in-2.is ∙ w.1) e)
+    (turn (λ k. LimitsOf (limits_in k)) (λ k at bytes w h. memory_tail k at bytes (sym c.in-2.is ∙ w.1) h)
+    (step_byte kind_byte KindTail c.in_ok-byte.ensures.ok c.in_ok-byte.ensures.at (start (λ k. Exactly (kind_byte k ∷ []) ▸ KindTail k) _ kind_parts)))
 
 pub returns-in_err-ty-in-3-clause-built : goal.returns-in_err-ty-in-3-clause-built
 returns-in_err-ty-in-3-clause-built c =
     let p = err_from_is_err_and c.from_residual-in_err-ty-in-3.result c.from_residual-in_err-ty-in-3.ensures.1 in
-    stop_last global_in p.1 p.2 c.in_err-ty-in-3.ensures.built (turn (λ k. SpelledGlobalType (global_in k)) (λ k at bytes w h. global_tail k at bytes (sym c.in-3.is ∙ w.1) h) (step_byte kind_byte KindTail c.in_ok-byte.ensures.ok c.in_ok-byte.ensures.at (start (λ k. Exactly (kind_byte k ∷ []) ▸ KindTail k) _ kind_parts)))
+    stop_last global_in p.1 p.2 c.in_err-ty-in-3.ensures.built (turn (λ k. SpelledGlobalType (global_in k)) (λ k at bytes w h. global_tail k at bytes (sym c.in-3.is ∙ w.1) h)
+    (step_byte kind_byte KindTail c.in_ok-byte.ensures.ok c.in_ok-byte.ensures.at (start (λ k. Exactly (kind_byte k ∷ []) ▸ KindTail k) _ kind_parts)))
 
 pub returns-in_ok-ty-in-3-clause-built : goal.returns-in_ok-ty-in-3-clause-built
 returns-in_ok-ty-in-3-clause-built c =
-    last (λ k. k) _ global_in c.in_ok-ty-in-3.ensures.built (λ k w e. global_is _ k (sym c.in-3.is ∙ w.1) e) (turn (λ k. SpelledGlobalType (global_in k)) (λ k at bytes w h. global_tail k at bytes (sym c.in-3.is ∙ w.1) h) (step_byte kind_byte KindTail c.in_ok-byte.ensures.ok c.in_ok-byte.ensures.at (start (λ k. Exactly (kind_byte k ∷ []) ▸ KindTail k) _ kind_parts)))
+    last (λ k. k) _ global_in c.in_ok-ty-in-3.ensures.built (λ k w e. global_is _ k (sym c.in-3.is ∙ w.1) e)
+    (turn (λ k. SpelledGlobalType (global_in k)) (λ k at bytes w h. global_tail k at bytes (sym c.in-3.is ∙ w.1) h)
+    (step_byte kind_byte KindTail c.in_ok-byte.ensures.ok c.in_ok-byte.ensures.at (start (λ k. Exactly (kind_byte k ∷ []) ▸ KindTail k) _ kind_parts)))

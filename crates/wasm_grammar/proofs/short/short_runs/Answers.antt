@@ -1,4 +1,5 @@
-use Rattle.std.proofs.Common.{arith}
+use Rattle.std.proofs.Common.{◌≡◌, subst, arith}
+use Rattle.wasm_grammar.specs.Passing.{PassesRuns}
 use Rattle.wasm_grammar.proofs.ShortItems.{passes_one_run}
 use Rattle.wasm_grammar.proofs.short.short_runs.Goals as goal
 
@@ -11,3 +12,10 @@ loop-index-preserved c =
     let some = c.saturating_sub-2.ensures in
     passes_one_run c.args.bytes.now c.args.n c.args.at c.loop-index.index c.args.stop (omega (arith, test, most, room, all)) c.requires
     (omega (arith, test, most, some)) c.if-not-is_short_run.ensures c.loop-index.invariant
+
+pub returns-clause-passes : goal.returns-clause-passes
+returns-clause-passes c =
+    let test = c.loop-index-test.false in
+    let most = c.loop-index.auto.index-end in
+    let e : c.loop-index.index ≡ c.min-most.result = omega (arith, test, most) in
+    subst (λ i. PassesRuns c.args.bytes.now c.args.n c.args.at i c.args.stop) e c.loop-index.invariant

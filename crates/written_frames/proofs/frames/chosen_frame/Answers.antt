@@ -11,10 +11,12 @@ loop-place-init c = c.new-places.ensures.items
 pub loop-place-preserved : goal.loop-place-preserved
 loop-place-preserved c =
     let lt : c.loop-place.place-index < length c.args.frame.places.items = omega (arith, c.loop-place-test.true, ap length c.deref-place-items.ensures.value) in
-    chosen_next (λ (p : Place). get_or c.args.kept.now p.local false) c.args.frame.places.items c.loop-place.place-index _ (record { local = 0; ty = I32; offset = 0 }) lt (ap (λ xs. get_or xs c.loop-place.place-index (record { local = 0; ty = I32; offset = 0 })) c.deref-place-items.ensures.value)
+    chosen_next (λ (p : Place). get_or c.args.kept.now p.local false) c.args.frame.places.items c.loop-place.place-index _ (record { local = 0; ty = I32; offset = 0 }) lt
+    (ap (λ xs. get_or xs c.loop-place.place-index (record { local = 0; ty = I32; offset = 0 })) c.deref-place-items.ensures.value)
     c.loop-place.places.items _ c.in_ok-put_place.ensures c.loop-place.invariant
 
 pub returns-clause-places : goal.returns-clause-places
 returns-clause-places c =
     c.loop-place.invariant
-    ∙ ap (filter (λ (p : Place). get_or c.args.kept.now p.local false)) (take_all c.loop-place.place-index c.args.frame.places.items (omega (arith, c.loop-place-test.false, ap length c.deref-place-items.ensures.value)))
+    ∙ ap (filter (λ (p : Place). get_or c.args.kept.now p.local false)) (take_all c.loop-place.place-index c.args.frame.places.items
+    (omega (arith, c.loop-place-test.false, ap length c.deref-place-items.ensures.value)))

@@ -22,7 +22,8 @@ returns-clause-kept c =
     let marked : Marked c.args.numbers.now 0 f.body old new =
     subst (λ xs. Marked c.args.numbers.now 0 f.body xs new) c.deref_mut.ensures.value
     (subst (λ xs. Marked c.args.numbers.now 0 (stmts xs) c.deref_mut.result.now new) c.deref.ensures.value c.mark_body-count.ensures.marked) in
-    let back : take c.loop-local.kept.len (new ++ drop (length new) old) ≡ new = put_back new old c.loop-local.kept.len marked.size (sym (ap length c.deref_mut.ensures.value) ∙ c.deref_mut.ensures.len) in
+    let back : take c.loop-local.kept.len (new ++ drop (length new) old) ≡ new = put_back new old c.loop-local.kept.len marked.size (sym (ap length c.deref_mut.ensures.value)
+    ∙ c.deref_mut.ensures.len) in
     λ x. ap (λ xs. get_or xs x false) back ∙ kept_is f c.args.numbers.now c.args.own c.loop-local.local old new many (omega (arith, full, c.requires.own)) c.loop-local.invariant.own marked x
 
 pub returns-clause-size : goal.returns-clause-size
@@ -35,5 +36,6 @@ returns-clause-size c =
     let marked : Marked c.args.numbers.now 0 f.body old new =
     subst (λ xs. Marked c.args.numbers.now 0 f.body xs new) c.deref_mut.ensures.value
     (subst (λ xs. Marked c.args.numbers.now 0 (stmts xs) c.deref_mut.result.now new) c.deref.ensures.value c.mark_body-count.ensures.marked) in
-    let back : take c.loop-local.kept.len (new ++ drop (length new) old) ≡ new = put_back new old c.loop-local.kept.len marked.size (sym (ap length c.deref_mut.ensures.value) ∙ c.deref_mut.ensures.len) in
+    let back : take c.loop-local.kept.len (new ++ drop (length new) old) ≡ new = put_back new old c.loop-local.kept.len marked.size (sym (ap length c.deref_mut.ensures.value)
+    ∙ c.deref_mut.ensures.len) in
     ap length back ∙ marked.size ∙ many ∙ full

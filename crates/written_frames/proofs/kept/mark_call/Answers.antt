@@ -6,7 +6,9 @@ use Rattle.written_frames.proofs.MarkLemmas.{marked_where, unmarked_where}
 use Rattle.written_frames.proofs.kept.mark_call.Goals as goal
 
 pub returns-then-is_numbered : goal.returns-then-is_numbered
-returns-then-is_numbered c = λ x. marked_where _ _ (is_place c.args.numbers.now c.args.place) (list_any (nat_eq x) c.args.stack.now) (sym c.is_numbered.ensures ∙ c.if-is_numbered.true) (c.mark_stack.ensures x)
+returns-then-is_numbered c = λ x. marked_where _ _ (is_place c.args.numbers.now c.args.place) (list_any (nat_eq x) c.args.stack.now) (sym c.is_numbered.ensures ∙ c.if-is_numbered.true)
+    (c.mark_stack.ensures x)
 
 pub returns-else-is_numbered : goal.returns-else-is_numbered
-returns-else-is_numbered c = λ x. unmarked_where (get_or c.args.kept.now x false) (is_place c.args.numbers.now c.args.place) (list_any (nat_eq x) c.args.stack.now) (sym c.is_numbered.ensures ∙ c.if-is_numbered.false)
+returns-else-is_numbered c = λ x. unmarked_where (get_or c.args.kept.now x false) (is_place c.args.numbers.now c.args.place) (list_any (nat_eq x) c.args.stack.now)
+    (sym c.is_numbered.ensures ∙ c.if-is_numbered.false)

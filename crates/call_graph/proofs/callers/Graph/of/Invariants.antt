@@ -9,5 +9,6 @@ use Rattle.call_graph.proofs.callers.Graph.of.Given as goal
 abbrev pub invariant-loop-func : goal.invariant-loop-func
 invariant-loop-func l = record {
   calls : GatheredBelow (module_of l.fn.module) (func_imports (module_of l.fn.module) + l.func-index) l.callers.items;
-  own : l.pauses.items ≡ replicate (func_imports (module_of l.fn.module)) false ++ map (λ (f : FuncValue). pauses l.fn.listed l.fn.ignore_indirect (func_of f)) (take l.func-index l.fn.module.funcs.items);
+  own : l.pauses.items ≡ replicate (func_imports (module_of l.fn.module)) false ++ map (λ (f : FuncValue). pauses l.fn.listed l.fn.ignore_indirect (func_of f))
+      (take l.func-index l.fn.module.funcs.items);
 }

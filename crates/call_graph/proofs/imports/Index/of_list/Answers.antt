@@ -8,7 +8,8 @@ use Rattle.call_graph.proofs.imports.Index.of_list.Goals as goal
 
 pub loop-entry-preserved : goal.loop-entry-preserved
 loop-entry-preserved c = λ name.
-    named_more c.entries-entry-items.result.now c.loop-entry.entry-index c.entry-item.result name (indexed c.loop-entry.index name) (indexed c.put.new.self name) c.loop-entry-test.true c.entry-item.is (c.loop-entry.invariant name) (c.in_ok-put.ensures name)
+    named_more c.entries-entry-items.result.now c.loop-entry.entry-index c.entry-item.result name (indexed c.loop-entry.index name)
+    (indexed c.put.new.self name) c.loop-entry-test.true c.entry-item.is (c.loop-entry.invariant name) (c.in_ok-put.ensures name)
 
 pub returns : goal.returns
 returns c = λ name.

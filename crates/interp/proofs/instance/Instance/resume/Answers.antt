@@ -23,7 +23,8 @@ returns-in_ok-turn-in-Inside-clause-resumes c = λ outs ok a.
     let is = sym c.replace.ensures.value ∙ c.in-Inside.is in
     let fits = answered_fits m outs s k c.in-Inside.taken value _ ok (subst (λ w. Awaits m outs (types_of (option_to_list value)) (waits_of w)) is a) c.in_ok-answer-in-Inside.ensures.puts in
     subst (λ w. Resumes m s (waits_of w) value c.args.steps.now.left used turn s' w') (sym is)
-    (answered_turns m s k c.in-Inside.taken value _ c.args.steps.now.left used turn s' w' c.in_ok-answer-in-Inside.ensures.puts (c.in_ok-turn-in-Inside.ensures.turns c.valid_code.ensures (outs, fits)))
+    (answered_turns m s k c.in-Inside.taken value _ c.args.steps.now.left used turn s' w' c.in_ok-answer-in-Inside.ensures.puts
+    (c.in_ok-turn-in-Inside.ensures.turns c.valid_code.ensures (outs, fits)))
 
 pub returns-in_ok-turn-in-Inside-clause-again : goal.returns-in_ok-turn-in-Inside-clause-again
 returns-in_ok-turn-in-Inside-clause-again c = λ outs ok a.

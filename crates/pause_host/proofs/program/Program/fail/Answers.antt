@@ -11,5 +11,6 @@ use Rattle.pause_host.proofs.program.Program.fail.Goals as goal
 pub returns-clause-next : goal.returns-clause-next
 returns-clause-next c = λ w notes os ds counts f.
     let x = c.args.self.now in
-    advanced w notes os x _ (stands (note (ended c.args.end) no_store ∷ []) (over no_store)) (has_ended c.args.end) (EV.Ended c.in_ok-told.told) no_store 0 (supply_with x ds counts) (supply_with x ds counts) f
+    advanced w notes os x _ (stands (note (ended c.args.end) no_store ∷ []) (over no_store)) (has_ended c.args.end) (EV.Ended c.in_ok-told.told) no_store 0 (supply_with x ds counts)
+    (supply_with x ds counts) f
     (failed_moves w x.steps_left (supply_with x ds counts) c.args.end c.in_ok-told.told c.in_ok-told.ensures) refl refl refl refl refl (omega arith) refl refl refl tt

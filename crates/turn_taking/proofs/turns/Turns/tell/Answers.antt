@@ -1,7 +1,7 @@
 use Rattle.wa_model.specs.View.{event_of}
 use Rattle.turn_taking.specs.Standing.{held_of}
 use Rattle.turn_taking.proofs.Counts.{counted_devices, counted_faults}
-use Rattle.turn_taking.proofs.Going.{call_on, told_on}
+use Rattle.turn_taking.proofs.TurnNotes.{call_on, told_on}
 use Rattle.turn_taking.proofs.Places.{stands_at}
 use Rattle.turn_taking.proofs.turns.Turns.tell.Goals as goal
 

@@ -15,8 +15,10 @@ returns-in_err-locals-clause-built c =
 pub returns-in_err-code-clause-built : goal.returns-in_err-code-clause-built
 returns-in_err-code-clause-built c =
     let p = err_from_is_err_and c.from_residual-in_err-code.result c.from_residual-in_err-code.ensures.1 in
-    stop_last (λ b. b.code) p.1 p.2 c.in_err-code.ensures.built (step (λ b. b.locals) (λ b. SpelledExpression b.code) c.in_ok-locals.ensures.built (step_size BodyParts c.in_ok-_size.ensures.read body_sized))
+    stop_last (λ b. b.code) p.1 p.2 c.in_err-code.ensures.built (step (λ b. b.locals) (λ b. SpelledExpression b.code) c.in_ok-locals.ensures.built
+    (step_size BodyParts c.in_ok-_size.ensures.read body_sized))
 
 pub returns-clause-built : goal.returns-clause-built
 returns-clause-built c =
-    last body_of _ (λ b. b.code) c.in_ok-code.ensures.built (λ x k e i. record { locals = (sym (map_same _) ∙ k.1) i; code = e i }) (step (λ b. b.locals) (λ b. SpelledExpression b.code) c.in_ok-locals.ensures.built (step_size BodyParts c.in_ok-_size.ensures.read body_sized))
+    last body_of _ (λ b. b.code) c.in_ok-code.ensures.built (λ x k e i. record { locals = (sym (map_same _) ∙ k.1) i; code = e i })
+    (step (λ b. b.locals) (λ b. SpelledExpression b.code) c.in_ok-locals.ensures.built (step_size BodyParts c.in_ok-_size.ensures.read body_sized))

@@ -17,4 +17,5 @@ returns-in_err-init-clause-built c =
 
 pub returns-clause-built : goal.returns-clause-built
 returns-clause-built c =
-    last global_of _ (λ g. g.init) c.in_ok-init.ensures.built (λ g k e i. record { ty = (k.1 i).0; mutable = (k.1 i).1; init = e i }) (step (λ g. (g.ty, g.mutable)) (λ g. SpelledExpression g.init) c.in_ok-ty.ensures.built (start GlobalParts _ global_def_parts))
+    last global_of _ (λ g. g.init) c.in_ok-init.ensures.built (λ g k e i. record { ty = (k.1 i).0; mutable = (k.1 i).1; init = e i })
+    (step (λ g. (g.ty, g.mutable)) (λ g. SpelledExpression g.init) c.in_ok-ty.ensures.built (start GlobalParts _ global_def_parts))

@@ -6,12 +6,22 @@ use Rattle.wasm_build.proofs.types.MemoryEntryEntry.read.Goals as goal
 
 pub returns-in_err-min-in-1-clause-built : goal.returns-in_err-min-in-1-clause-built
 returns-in_err-min-in-1-clause-built c =
-    stop_number (λ l. l.min) (λ l. Number (high_in l.max)) c.in_err-min-in-1.ensures.read (turn (λ l. Number l.min ▸ Number (high_in l.max)) (λ l at bytes k h. with_high l.min l.max at bytes (sym c.in-1.is ∙ k.1) h) (step_byte (λ l. flag_of l.max) (λ l. LimitsTail l.min l.max) c.in_ok-byte.ensures.ok c.in_ok-byte.ensures.at (start (λ l. Exactly (flag_of l.max ∷ []) ▸ LimitsTail l.min l.max) _ limits_parts)))
+    stop_number (λ l. l.min) (λ l. Number (high_in l.max)) c.in_err-min-in-1.ensures.read
+    (turn (λ l. Number l.min ▸ Number (high_in l.max)) (λ l at bytes k h. with_high l.min l.max at bytes (sym c.in-1.is ∙ k.1) h)
+    (step_byte (λ l. flag_of l.max) (λ l. LimitsTail l.min l.max) c.in_ok-byte.ensures.ok c.in_ok-byte.ensures.at
+    (start (λ l. Exactly (flag_of l.max ∷ []) ▸ LimitsTail l.min l.max) _ limits_parts)))
 
 pub returns-in_err-max-in-1-clause-built : goal.returns-in_err-max-in-1-clause-built
 returns-in_err-max-in-1-clause-built c =
-    stop_last_number (λ l. high_in l.max) c.in_err-max-in-1.ensures.read (step_number (λ l. l.min) (λ l. Number (high_in l.max)) c.in_ok-min-in-1.ensures.read (turn (λ l. Number l.min ▸ Number (high_in l.max)) (λ l at bytes k h. with_high l.min l.max at bytes (sym c.in-1.is ∙ k.1) h) (step_byte (λ l. flag_of l.max) (λ l. LimitsTail l.min l.max) c.in_ok-byte.ensures.ok c.in_ok-byte.ensures.at (start (λ l. Exactly (flag_of l.max ∷ []) ▸ LimitsTail l.min l.max) _ limits_parts))))
+    stop_last_number (λ l. high_in l.max) c.in_err-max-in-1.ensures.read (step_number (λ l. l.min) (λ l. Number (high_in l.max)) c.in_ok-min-in-1.ensures.read
+    (turn (λ l. Number l.min ▸ Number (high_in l.max)) (λ l at bytes k h. with_high l.min l.max at bytes (sym c.in-1.is ∙ k.1) h)
+    (step_byte (λ l. flag_of l.max) (λ l. LimitsTail l.min l.max) c.in_ok-byte.ensures.ok c.in_ok-byte.ensures.at
+    (start (λ l. Exactly (flag_of l.max ∷ []) ▸ LimitsTail l.min l.max) _ limits_parts))))
 
 pub returns-in_ok-max-in-1-clause-built : goal.returns-in_ok-max-in-1-clause-built
 returns-in_ok-max-in-1-clause-built c =
-    last_number (λ l. l) _ (λ l. high_in l.max) c.in_ok-max-in-1.ensures.read (λ l k e i. record { min = k.1 i; max = high_is _ l.max (sym c.in-1.is ∙ k.0.1) e i }) (step_number (λ l. l.min) (λ l. Number (high_in l.max)) c.in_ok-min-in-1.ensures.read (turn (λ l. Number l.min ▸ Number (high_in l.max)) (λ l at bytes k h. with_high l.min l.max at bytes (sym c.in-1.is ∙ k.1) h) (step_byte (λ l. flag_of l.max) (λ l. LimitsTail l.min l.max) c.in_ok-byte.ensures.ok c.in_ok-byte.ensures.at (start (λ l. Exactly (flag_of l.max ∷ []) ▸ LimitsTail l.min l.max) _ limits_parts))))
+    last_number (λ l. l) _ (λ l. high_in l.max) c.in_ok-max-in-1.ensures.read (λ l k e i. record { min = k.1 i; max = high_is _ l.max (sym c.in-1.is ∙ k.0.1) e i })
+    (step_number (λ l. l.min) (λ l. Number (high_in l.max)) c.in_ok-min-in-1.ensures.read
+    (turn (λ l. Number l.min ▸ Number (high_in l.max)) (λ l at bytes k h. with_high l.min l.max at bytes (sym c.in-1.is ∙ k.1) h)
+    (step_byte (λ l. flag_of l.max) (λ l. LimitsTail l.min l.max) c.in_ok-byte.ensures.ok c.in_ok-byte.ensures.at
+    (start (λ l. Exactly (flag_of l.max ∷ []) ▸ LimitsTail l.min l.max) _ limits_parts))))

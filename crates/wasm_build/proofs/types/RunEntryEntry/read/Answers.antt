@@ -11,4 +11,5 @@ returns-in_err-ty-clause-built c =
 
 pub returns-clause-built : goal.returns-clause-built
 returns-clause-built c =
-    last (λ r. r) _ (λ r. r.ty) c.in_ok-ty.ensures.built (λ r k e i. record { count = k.1 i; ty = e i }) (step_number (λ r. r.count) (λ r. SpelledType r.ty) c.in_ok-count.ensures.read (start (λ r. Number r.count ▸ SpelledType r.ty) _ run_parts))
+    last (λ r. r) _ (λ r. r.ty) c.in_ok-ty.ensures.built (λ r k e i. record { count = k.1 i; ty = e i })
+    (step_number (λ r. r.count) (λ r. SpelledType r.ty) c.in_ok-count.ensures.read (start (λ r. Number r.count ▸ SpelledType r.ty) _ run_parts))

@@ -17,8 +17,10 @@ returns-in_err-params-clause-built c =
 pub returns-in_err-results-clause-built : goal.returns-in_err-results-clause-built
 returns-in_err-results-clause-built c =
     let p = err_from_is_err_and c.from_residual-in_err-results.result c.from_residual-in_err-results.ensures.1 in
-    stop_last (λ t. t.results) p.1 p.2 c.in_err-results.ensures.built (step (λ t. t.params) TypeResults c.in_ok-params.ensures.built (step_passed TypeVectors c.in_ok-tag.ensures.passed (start TypeParts _ type_parts)))
+    stop_last (λ t. t.results) p.1 p.2 c.in_err-results.ensures.built (step (λ t. t.params) TypeResults c.in_ok-params.ensures.built
+    (step_passed TypeVectors c.in_ok-tag.ensures.passed (start TypeParts _ type_parts)))
 
 pub returns-clause-built : goal.returns-clause-built
 returns-clause-built c =
-    last func_type_of _ (λ t. t.results) c.in_ok-results.ensures.built (λ t k e i. record { params = (sym (map_same _) ∙ k.1) i; results = (sym (map_same _) ∙ e) i }) (step (λ t. t.params) TypeResults c.in_ok-params.ensures.built (step_passed TypeVectors c.in_ok-tag.ensures.passed (start TypeParts _ type_parts)))
+    last func_type_of _ (λ t. t.results) c.in_ok-results.ensures.built (λ t k e i. record { params = (sym (map_same _) ∙ k.1) i; results = (sym (map_same _) ∙ e) i })
+    (step (λ t. t.params) TypeResults c.in_ok-params.ensures.built (step_passed TypeVectors c.in_ok-tag.ensures.passed (start TypeParts _ type_parts)))

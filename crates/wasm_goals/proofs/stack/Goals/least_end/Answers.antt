@@ -4,7 +4,7 @@ use Rattle.wasm_goals.proofs.GoalStacks.{empty_ends, last_end}
 use Rattle.wasm_goals.proofs.stack.Goals.least_end.Goals as goal
 
 pub returns-in-empty : goal.returns-in-empty
-returns-in-empty c = empty_ends c.args.self.now c.self.inside.ends.items c.as_slice.result.now c.as_slice.ensures.value (omega arith) (ap least_ends (sym c.self.view_is) ∙ c.self.invariant)
+returns-in-empty c = empty_ends c.args.self.now c.self.inside.ends.items c.as_slice.result.now c.as_slice.ensures.value (omega arith) (ap least_ends (sym c.self.view_is) ∙ c.self.invariant.0)
 
 pub returns-in-len1-up : goal.returns-in-len1-up
-returns-in-len1-up c = last_end c.args.self.now c.self.inside.ends.items c.as_slice.result.now c.as_slice.ensures.value (omega arith) (ap least_ends (sym c.self.view_is) ∙ c.self.invariant)
+returns-in-len1-up c = last_end c.args.self.now c.self.inside.ends.items c.as_slice.result.now c.as_slice.ensures.value (omega arith) (ap least_ends (sym c.self.view_is) ∙ c.self.invariant.0)

@@ -1,5 +1,5 @@
 use Rattle.wasm_grammar.proofs.Faults.{on_false}
-use Rattle.wasm_grammar.proofs.Waiting.{waits_begun, stands_on}
+use Rattle.wasm_grammar.proofs.PieceEnds.{waits_begun, stands_on}
 use Rattle.wasm_grammar.proofs.machine.Machine.feed.Goals as goal
 
 pub returns-clause-begun : goal.returns-clause-begun

@@ -1,5 +1,6 @@
 use Rattle.std.proofs.Common.{sym, ◌∙◌}
-use Rattle.wasm_grammar.proofs.Waiting.{fault_more, fault_wanting, whole_there}
+use Rattle.wasm_grammar.proofs.PieceEnds.{fault_more, fault_wanting, whole_there, marked_there}
+use Rattle.wasm_marks.proofs.Judged.{judged}
 use Rattle.wasm_grammar.proofs.machine.Machine.finish.Goals as goal
 
 pub returns-then-self-bytes-clause-err : goal.returns-then-self-bytes-clause-err
@@ -10,3 +11,8 @@ returns-then-not-is_end-clause-err c = fault_wanting c.args.bytes.now c.args.sel
 
 pub returns-clause-ok : goal.returns-clause-ok
 returns-clause-ok c = whole_there c.args.bytes.now c.args.self.now.at c.args.self.now.goals c.requires c.if-self-bytes.false (sym c.is_end.ensures ∙ c.if-not-is_end.false)
+
+pub returns-clause-marks : goal.returns-clause-marks
+returns-clause-marks c = λ short ss spelled.
+    let m = marked_there c.args.bytes.now c.args.self.now.at c.args.self.now.goals c.requires c.if-self-bytes.false (sym c.is_end.ensures ∙ c.if-not-is_end.false) in
+    judged c.args.bounds.now c.args.bytes.now m.0 c.args.self.now.marks ss m.1 short spelled

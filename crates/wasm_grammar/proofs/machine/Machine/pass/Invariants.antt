@@ -5,7 +5,7 @@ use Rattle.wasm_grammar.proofs.machine.Machine.pass.Given as goal
 
 abbrev pub invariant-loop : goal.invariant-loop
 invariant-loop l = record {
-  stands : Stands l.bytes l.self.at l.self.goals;
+  stands : Stands l.bounds l.self.marks l.bytes l.self.at l.self.goals;
   below : Below l.stop l.self.goals;
   ahead : l.fn.self.at ≤ l.self.at;
 }

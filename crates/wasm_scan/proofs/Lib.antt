@@ -1,6 +1,0 @@
-pub mod Files
-pub mod Judged
-pub mod Parts
-pub mod Scans
-pub mod Skipping
-pub mod Turning
