@@ -16,7 +16,7 @@ returns c = sets_are (flat_func_of c.args.func.now) c.args.numbers.now c.in_ok-c
     c.count_calls-count.result c.in_ok-put_body_rows.field-0 c.push.new.self.items c.new-rows.result.items c.put_body_rows.new.rows.items c.reverse.new.self.items
     c.requires.fits.statements c.requires.rises c.requires.calls
     (c.deref_mut.ensures.value ∙ c.in_ok-set.ensures ∙ ap (λ n. replicate n false) (c.len.ensures ∙ c.args.func.now.locals.ok.0)) c.read_told.ensures
-    (c.deref_mut-2.ensures.value ∙ put_back c.read_told.new.set c.in_ok-set.set.items c.in_ok-set.set.len ((c.read_told.ensures []).size ∙ ap length c.deref_mut.ensures.value)
+    (c.deref_mut-2.ensures.value ∙ put_back c.read_told.new.set c.in_ok-set.set.items c.in_ok-set.set.len ((c.read_told.ensures (λ z. [])).size ∙ ap length c.deref_mut.ensures.value)
     (sym c.in_ok-set.set.ok.0))
     (c.in_ok-copied.ensures ∙ c.deref.ensures.value ∙ sym c.deref_mut-2.ensures.value)
     (c.in_ok-push.ensures.items ∙ ap (λ ts. ts ++ c.in_ok-copied.field-0 ∷ []) c.new-tos.ensures.items)

@@ -4,7 +4,7 @@ use Rattle.wa_model.specs.Flat.{no_more, nests, decides, code_of}
 use Rattle.wa_model.specs.FlatView.{stmt_in_front, stmts}
 use Rattle.wa_model.specs.declared.flat.Stmt.{the_lemmas}
 use Rattle.flat_pieces.proofs.StmtLemmas.{block_is, loop_is, if_is}
-use Rattle.live_passes.specs.Sets.{TellsBefore}
+use Rattle.live_passes.specs.Sets.{told_by, TellsBefore}
 use Rattle.live_passes.proofs.SetLemmas.{put_back}
 use Rattle.live_passes.proofs.StepLemmas.{call_arm}
 use Rattle.live_passes.proofs.PassLemmas.{passed_first, passed_before, holds_none, block_passed, if_passed}
@@ -140,7 +140,7 @@ pub put_stmt_rows-returns-in_default : goal.put_stmt_rows-returns-in_default
 put_stmt_rows-returns-in_default t c = record {
   passed = record {
     labels = refl;
-    tells = subst (λ ts. TellsBefore ts c.args.set.now c.pass_simple.new.set (code_of (stmt_in_front c.args.stmt.now no_more))) c.deref-in_default.ensures.value c.pass_simple.ensures;
+    tells = subst (λ ts. TellsBefore (told_by ts) c.args.set.now c.pass_simple.new.set (code_of (stmt_in_front c.args.stmt.now no_more))) c.deref-in_default.ensures.value c.pass_simple.ensures;
   };
   rows = simple_rows c.args.numbers.now c.args.stmt.now c.args.tos.now.items c.args.set.now c.args.last c.args.rows.now.items c.in_default.not-Call c.in_default.not-Block
       c.in_default.not-Loop c.in_default.not-If;
