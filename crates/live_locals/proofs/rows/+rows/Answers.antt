@@ -81,7 +81,7 @@ put_stmt_rows-pass_simple-requires t c = record { ops = c.requires.ops; simple =
 pub put_stmt_rows-returns-in_ok-put_row-in-Call-clause-passed : goal.put_stmt_rows-returns-in_ok-put_row-in-Call-clause-passed
 put_stmt_rows-returns-in_ok-put_row-in-Call-clause-passed t c = record {
   labels = refl;
-  tells = call_arm c.args.tos.now.items c.args.stmt.now c.in-Call.op c.in-Call.stack c.in-Call.args c.in-Call.to c.deref-in-Call.result.now c.args.set.now c.write_told.new.set
+  tells = call_arm (told_by c.args.tos.now.items) c.args.stmt.now c.in-Call.op c.in-Call.stack c.in-Call.args c.in-Call.to c.deref-in-Call.result.now c.args.set.now c.write_told.new.set
       c.read_taken.new.set c.in-Call.is
       c.deref-in-Call.ensures.value c.requires.ops c.write_told.ensures c.read_taken.ensures;
 }
