@@ -5,6 +5,7 @@ use Rattle.std.specs.Prelude.{Vec, nat_eq, if◌then◌else◌}
 use Rattle.std.specs.declared.alloc.Global.{Global}
 use Rattle.std.proofs.lemmas.Bool.{cases_eq, cases_lt, eq-eqb, ne_eqb, lt-ltb, le-ltb}
 use Rattle.std.proofs.lemmas.List.{append-nil, append_assoc, get_or_past, get_or-replicate, length-replicate, reverse-append, take_at}
+use Rattle.std.proofs.Math.Seq.{take-append_seam}
 use Rattle.wa_types.specs.Syntax.{a_block, a_loop, Code, done, plain, nest, branch}
 use Rattle.wa_types.specs.Liveness.{live}
 use Rattle.wa_model.specs.declared.flat.Operand.{Operand}
@@ -289,3 +290,16 @@ no_loops (Block' a z) nb nl ni = absurd (nb _ (sym (roll-out-Stmt (Block' a z)) 
 no_loops (Loop' a z) nb nl ni = absurd (nl _ (sym (roll-out-Stmt (Loop' a z)) ∙ ap roll-Stmt (outs-Loop' a z) ∙ rolls-Loop _))
 no_loops (If' c a z e f) nb nl ni = absurd (ni c _ _ (sym (roll-out-Stmt (If' c a z e f)) ∙ ap roll-Stmt (outs-If' c a z e f) ∙ rolls-If c _ _))
 no_loops UnreachableStmt nb nl ni = refl
+
+pub own_of : (r n m : ℕ) (v : Vec ℕ Global) → n ≡ m → (w : ℕ) × (v.items ≡ replicate n w) × ((i : ℕ) → i < 64 → bit i w ≡ nat_eq i (suc r)) → OwnLabel r m v
+own_of r n m v e h = record { word = h.0; are = h.1 ∙ ap (λ k. replicate k h.0) e; bits = h.2 }
+
+pub put_as : (r2 r : ℕ) (outer : List (Vec Bool Global)) (inner : List (Vec ℕ Global)) (a : List ℕ) (s : Stmts) (es old new : List (Option (Vec ℕ Global))) → r2 ≡ r → es ≡ old
+    → HeadsPut r2 outer inner a s es new → HeadsPut r outer inner a s old new
+put_as r2 r outer inner a s es old new e f h = subst (λ l. HeadsPut l outer inner a s old new) e (subst (λ o. HeadsPut r2 outer inner a s o new) f h)
+
+pub words_size : (outer : List (Vec Bool Global)) (inner : List (Vec ℕ Global)) (a b : List ℕ) (k : Code) → WordsBefore outer inner a b k → length b ≡ length a
+words_size outer inner a b k w = let n = world_long 0 a in let m = world_long 0 b in let s = (w 0 (omega arith)).size in omega (arith, n, m, s)
+
+pub put_back_words : (new old : List ℕ) (len : ℕ) → length new ≡ length old → length old ≡ len → take len (new ++ drop (length new) old) ≡ new
+put_back_words new old len e k = let z : len ≡ length new = omega (arith, e, k) in ap (λ n. take n (new ++ drop (length new) old)) z ∙ take-append_seam new (drop (length new) old)
