@@ -9,6 +9,7 @@
 
 mod calls;
 mod laws;
+mod nests;
 mod rows;
 
 pub use calls::live_at;

@@ -195,3 +195,12 @@ entered_is level own len reach old lent new head e eo el n k h =
     λ x u lt ul. ap (λ s. meets u (get_or s x 0)) back
     ∙ meets_entered u (get_or reach x 0) (get_or new x 0) level own (has head x) e
     (h x (omega (arith, m, lt)) ∙ ap (λ s. if has head x then bit_or (get_or s x 0) own else get_or s x 0) (el ∙ eo)))
+
+-- the world of no loop alone
+pub meets_first : (w : ℕ) → meets w 1 ≡ bit 0 w
+meets_first w = ap (λ n. not (nat_eq n 0)) (sym (lowest w)) ∙ by (bit_at w 0) (bit_at-lt w 0)
+  where
+    by : (n : ℕ) → n < 2 → not (nat_eq n 0) ≡ nat_eq n 1
+    by zero l = refl
+    by (suc zero) l = refl
+    by (suc (suc n)) l = absurd (omega (arith, l))

@@ -12,4 +12,4 @@ mod sets;
 mod steps;
 
 pub use levels::{broadcast, entered, met};
-pub use passes::pass_stmt;
+pub use passes::pass_stmt as pass_words;
