@@ -4,21 +4,22 @@ use Rattle.std.proofs.Common.{◌||◌, ◌&&◌, refl, sym, ap, arith, subst, l
 use Rattle.std.specs.Prelude.{Vec, nat_eq, if◌then◌else◌, replicate, Result, Ok, Err, IfOk, OnOk}
 use Rattle.std.specs.declared.alloc.Global.{Global}
 use Rattle.std.proofs.lemmas.Bool.{cases_lt, ne_eqb, eq-eqb, lt-ltb}
-use Rattle.std.proofs.lemmas.List.{append-nil, append_assoc, drop-append-le, drop_all, drop_at, length-drop, length-reverse, get_or-replicate, length-replicate, reverse-append, take-append-drop, take_all, take_more}
+use Rattle.std.proofs.lemmas.List.{append-nil, append_assoc, drop-append-le, drop_all, drop_at, drop-drop, length-drop, length-reverse, get_or-replicate, length-replicate, reverse-append, take-append-drop, take_all, take_more}
 use Rattle.wa_types.specs.Syntax.{a_block, a_loop, Code, done, plain, nest, branch}
 use Rattle.wa_types.specs.Liveness.{live}
 use Rattle.wa_model.specs.declared.flat.Operand.{Operand}
 use Rattle.wa_model.specs.declared.flat.Stmt.{Stmt}
 use Rattle.wa_model.specs.Flat.{Stmts, no_more, nests, decides, code_of}
 use Rattle.wa_model.specs.FlatView.{stmt_in_front, stmts}
-use Rattle.flat_pieces.proofs.StmtLemmas.{stmts_step}
+use Rattle.flat_pieces.proofs.StmtLemmas.{stmts_step, stmts_end}
 use Rattle.live_passes.specs.Sets.{has, told_of, told_by, TellsBefore, Passed}
 use Rattle.live_passes.proofs.SetLemmas.{told_more, or_none}
+use Rattle.live_passes.proofs.PassLemmas.{popped}
 use Rattle.live_words.specs.Words.{bit, world, meets, told_in, WordsPassed}
 use Rattle.live_words.specs.Heads.{deeper, loop_total, heads, Knows, HeadsPut}
 use Rattle.live_words.proofs.WordLemmas.{world_long, world_has}
 use Rattle.live_words.proofs.LevelLemmas.{meets_first}
-use Rattle.live_words.proofs.HeadLemmas.{knows_on, knows_left, knows_right, knows_as, heads_front, heads_count, heads_tail}
+use Rattle.live_words.proofs.HeadLemmas.{knows_on, knows_left, knows_right, knows_as, loops_front, heads_front, heads_count, heads_tail}
 use Rattle.live_locals.specs.Nests.{joined, in_some, told_in_some, Up_to, Around, NestOf, Nest, LoopOf, AtLoop, Enters}
 use Rattle.live_locals.proofs.UnionLemmas.{live_in_some, told_again, some_again, told_cons, some_same, none_in_some, up_more}
 
@@ -315,3 +316,54 @@ at_begun tos a first lent passed words none inner x before inside old skip put n
     (let c = h.count in let z = ap loop_total is in let d = ap length h.is in let g = length-append before h.more in let o = ap length eb in omega (arith, c, z, d, g, o)) in
     let b = begun inside old skip put new m (loop_total body) l (omega (arith, em, ln)) es ep et in
     (at_first tos a lent words inner x body before inside new skip reach (λ i il. ap (world i) el ∙ cast i il) (er ∙ eo) is eb p1 h1 b.0, b.1)
+
+-- ---- entries that are left
+
+pub left_first : (xs : List Stmt) (es : List (Option (Vec ℕ Global))) → es ≡ drop (loop_total (stmts (drop (length xs) xs))) es
+left_first xs es = sym (ap (λ n. drop n es) (ap loop_total (stmts_end xs (length xs) (omega arith))))
+
+pub left_before : (xs : List Stmt) (left : ℕ) (x : Stmt) (es fs gs : List (Option (Vec ℕ Global))) → 0 < left → left ≤ length xs → x ≡ get_or xs (left - 1) x
+    → fs ≡ drop (loop_total (stmts (drop left xs))) es → gs ≡ drop (loop_total (stmt_in_front x no_more)) fs → gs ≡ drop (loop_total (stmts (drop (left - 1) xs))) es
+left_before xs left x es fs gs some within at ef eg =
+    let next : left - 1 + 1 ≡ left = omega arith in
+    let e : stmts (drop (left - 1) xs) ≡ stmt_in_front x (stmts (drop left xs)) = stmts_step xs (left - 1) x (omega arith) at ∙ ap (λ n. stmt_in_front x (stmts (drop n xs))) next in
+    eg ∙ ap (drop (loop_total (stmt_in_front x no_more))) ef ∙ drop-drop (loop_total (stmt_in_front x no_more)) (loop_total (stmts (drop left xs))) es
+    ∙ ap (λ n. drop n es) (sym (ap loop_total e ∙ loops_front x (stmts (drop left xs))))
+
+pub left_end : (xs : List Stmt) (left : ℕ) (es fs : List (Option (Vec ℕ Global))) → left ≡ 0 → fs ≡ drop (loop_total (stmts (drop left xs))) es → fs ≡ drop (loop_total (stmts xs)) es
+left_end xs left es fs e h = h ∙ ap (λ n. drop (loop_total (stmts (drop n xs))) es) e
+
+-- as many entries are left, if as many loops are passed
+pub left_as : (m n : ℕ) (es fs : List (Option (Vec ℕ Global))) → m ≡ n → fs ≡ drop m es → fs ≡ drop n es
+left_as m n es fs e h = h ∙ ap (λ k. drop k es) e
+
+pub left_two : (m n k : ℕ) (es fs gs : List (Option (Vec ℕ Global))) → k ≡ m + n → fs ≡ drop m es → gs ≡ drop n fs → gs ≡ drop k es
+left_two m n k es fs gs e f g = g ∙ ap (drop n) f ∙ drop-drop n m es ∙ ap (λ j. drop j es) (sym e)
+
+pub loops_of : (x : Stmt) (s : Stmts) → stmt_in_front x no_more ≡ s → loop_total s ≡ loop_total (stmt_in_front x no_more)
+loops_of x s is = sym (ap loop_total is)
+
+pub loops_in_block : (x : Stmt) (body : Stmts) → stmt_in_front x no_more ≡ nests a_block body no_more → loop_total body ≡ loop_total (stmt_in_front x no_more)
+loops_in_block x body is = let e = ap loop_total is in omega (arith, e)
+
+pub loops_in_loop : (x : Stmt) (body : Stmts) → stmt_in_front x no_more ≡ nests a_loop body no_more → suc (loop_total body) ≡ loop_total (stmt_in_front x no_more)
+loops_in_loop x body is = let e = ap loop_total is in omega (arith, e)
+
+pub loops_in_if : (x : Stmt) (o : Operand) (s t : Stmts) → stmt_in_front x no_more ≡ decides o s t no_more → loop_total (stmt_in_front x no_more) ≡ loop_total t + loop_total s
+loops_in_if x o s t is = let e = ap loop_total is in omega (arith, e)
+
+-- ---- what is known, of equal things
+
+pub nest_as : (level : ℕ) (reach reach2 : List ℕ) (tos tos2 : List (Vec Bool Global)) (a b : List Bool) (es : List (Option (Vec ℕ Global))) (s : Stmts) → reach2 ≡ reach → tos2 ≡ tos → b ≡ a
+    → Nest level reach tos a es s → Nest level reach2 tos2 b es s
+nest_as level reach reach2 tos tos2 a b es s er et eb n =
+    subst (λ r. Nest level r tos2 b es s) (sym er) (subst (λ ts. Nest level reach ts b es s) (sym et) (subst (λ u. Nest level reach tos u es s) (sym eb) n))
+
+-- a loop that was entered
+pub loop_passed_by : (x : Stmt) (body : Stmts) (tos entered_tos inside : List (Vec Bool Global)) (v : Vec Bool Global) (mid : Vec (Vec Bool Global) Global) (new : List (Vec Bool Global)) (a b : List Bool)
+    → stmt_in_front x no_more ≡ nests a_loop body no_more → Passed tos entered_tos a b (code_of (nests a_loop body no_more)) → inside ≡ entered_tos ++ v ∷ [] → mid.items ≡ inside
+    → new ≡ take (mid.len - 1) mid.items → Passed tos new a b (code_of (stmt_in_front x no_more))
+loop_passed_by x body tos entered_tos inside v mid new a b is h ei em r = record {
+  labels = popped tos v mid new (em ∙ ei ∙ ap (λ ts. ts ++ v ∷ []) h.labels) r;
+  tells = subst (λ s. TellsBefore (told_by tos) a b (code_of s)) (sym is) h.tells;
+}

@@ -69,8 +69,9 @@ pub fn live_at(
     tos.push(copied(alloc, &set)?)?;
     let mut rows = Vec::new(alloc);
     let count = count_calls(&func.body, 0);
+    let mut heads = Vec::new(alloc);
     put_body_rows(
-        alloc, &mut rows, numbers, count, &mut tos, &mut set, &func.body,
+        alloc, &mut rows, numbers, count, 63, &[], &mut heads, &mut tos, &mut set, &func.body,
     )?;
     rows.reverse();
     Ok(rows)
