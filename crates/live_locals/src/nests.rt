@@ -11,7 +11,7 @@ ghost use Rattle.live_words.specs.Heads.{loop_total};
 ghost use Rattle.live_locals.specs.Nests.{AtLoop, Enters, Nest};
 
 use live_passes::pass_stmt;
-use live_words::{broadcast, entered, met, pass_words};
+use live_words::{broadcast, entered, loop_sizes, met, pass_words};
 use std::alloc::{AllocError, Global};
 use wa_model::Stmt;
 
@@ -106,7 +106,8 @@ fn begin_nest(
     let mut words = broadcast(alloc, set)?;
     let mut inside = Vec::new(alloc);
     let mut inner = Vec::new(alloc);
-    pass_words(alloc, tos, &mut inner, 0, &mut inside, &mut words, stmt)?;
+    let sizes = loop_sizes(alloc, stmt)?;
+    pass_words(alloc, tos, &mut inner, 0, &sizes, 0, &mut inside, &mut words, stmt)?;
     skip_heads(heads, inside.len().saturating_sub(1));
     put_heads(heads, inside)?;
     take_head(heads);

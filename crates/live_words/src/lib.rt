@@ -9,7 +9,9 @@
 mod levels;
 mod passes;
 mod sets;
+mod sizes;
 mod steps;
 
 pub use levels::{broadcast, entered, met};
 pub use passes::pass_stmt as pass_words;
+pub use sizes::loop_sizes;

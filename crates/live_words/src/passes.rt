@@ -9,19 +9,23 @@ ghost use Rattle.live_words.specs.Words.{WordsPassed};
 
 use crate::levels::{inside, label_told, leave};
 use crate::sets::{copied, join, read_operand};
+use crate::sizes::{is_kept, size_at};
 use crate::steps::pass_simple;
 use std::alloc::{AllocError, Global};
 use wa_model::Stmt;
 
 /// A body is passed over backwards in all worlds. `outer` tells for the labels around the nest of loops what is read first from
 /// their targets on, `inner` for those inside it; `level` loops of the nest stand around the body. For each loop in the body an
-/// entry is put behind `heads`: what is read first from its head on, where that is kept.
+/// entry is put behind `heads`: what is read first from its head on, where that is kept. `sizes` has the sizes of the nest's loops
+/// (`loop_sizes`), and `around` is that of the innermost loop around.
 #[cycle(pass)]
 fn pass_body(
     alloc: Global,
     outer: &[Vec<bool>],
     inner: &mut Vec<Vec<u64>>,
     level: u32,
+    sizes: &[u32],
+    around: u32,
     heads: &mut Vec<Option<Vec<u64>>>,
     set: &mut [u64],
     body: &[Stmt],
@@ -34,7 +38,7 @@ fn pass_body(
     let mut left = body.len();
     while left > 0 {
         left -= 1;
-        pass_stmt(alloc, outer, inner, level, heads, set, &body[left])?;
+        pass_stmt(alloc, outer, inner, level, sizes, around, heads, set, &body[left])?;
     }
     Ok(())
 }
@@ -46,6 +50,8 @@ pub fn pass_stmt(
     outer: &[Vec<bool>],
     inner: &mut Vec<Vec<u64>>,
     level: u32,
+    sizes: &[u32],
+    around: u32,
     heads: &mut Vec<Option<Vec<u64>>>,
     set: &mut [u64],
     stmt: &Stmt,
@@ -58,18 +64,19 @@ pub fn pass_stmt(
     match stmt {
         Stmt::Block(body) => {
             inner.push(copied(alloc, set)?)?;
-            pass_body(alloc, outer, inner, level, heads, set, body)?;
+            pass_body(alloc, outer, inner, level, sizes, around, heads, set, body)?;
             inner.pop();
             Ok(())
         }
         Stmt::Loop(body) => {
             let at = heads.len();
+            let size = size_at(sizes, at);
             heads.push(None)?;
             inner.push(label_told(alloc, set.len(), level)?)?;
-            pass_body(alloc, outer, inner, inside(level), heads, set, body)?;
+            pass_body(alloc, outer, inner, inside(level), sizes, size, heads, set, body)?;
             inner.pop();
             leave(set, level);
-            if level < 63 {
+            if is_kept(level, size, around) {
                 heads[at] = Some(copied(alloc, set)?);
             }
             Ok(())
@@ -81,8 +88,8 @@ pub fn pass_stmt(
         } => {
             let mut other = copied(alloc, set)?;
             inner.push(copied(alloc, set)?)?;
-            pass_body(alloc, outer, inner, level, heads, set, else_arm)?;
-            pass_body(alloc, outer, inner, level, heads, &mut other, then_arm)?;
+            pass_body(alloc, outer, inner, level, sizes, around, heads, set, else_arm)?;
+            pass_body(alloc, outer, inner, level, sizes, around, heads, &mut other, then_arm)?;
             inner.pop();
             join(set, &other);
             read_operand(set, *cond);

@@ -124,16 +124,16 @@ pass_stmt-returns-in_ok-copied-in-Loop-clause-heads t c = heads_loop_kept c.args
     (c.args.heads.now.items ++ None ∷ []) c.pass_body-in-Loop.new.heads.items c.inside.ensures c.in_ok-push-in-Loop.ensures.items c.in_ok-pass_body-in-Loop.ensures.heads)
     c.in_ok-copied-in-Loop.field-0 c.len-at.result _ c.in_ok-copied-in-Loop.ensures (c.len-at.ensures ∙ c.args.heads.now.ok.0) refl
 
-pub pass_stmt-returns-else-level-lt63-clause-passed : goal.pass_stmt-returns-else-level-lt63-clause-passed
-pass_stmt-returns-else-level-lt63-clause-passed t c = words_loop c.args.stmt.now c.args.level c.args.outer.now c.args.inner.now.items
+pub pass_stmt-returns-else-is_kept-clause-passed : goal.pass_stmt-returns-else-is_kept-clause-passed
+pass_stmt-returns-else-is_kept-clause-passed t c = words_loop c.args.stmt.now c.args.level c.args.outer.now c.args.inner.now.items
     (stmts c.deref-in-Loop.result.now) c.in_ok-label_told-in-Loop.field-0 c.push-in-Loop-2.new.self.items c.args.set.now c.in_ok-push-in-Loop-2.ensures.items
     (loop_is c.args.stmt.now c.in-Loop.body c.in-Loop.is no_more ∙ ap (λ xs. nests a_loop (stmts xs) no_more) (sym c.deref-in-Loop.ensures.value))
     (own_of c.args.level (length c.args.set.now) (length c.args.set.now) c.in_ok-label_told-in-Loop.field-0 refl c.in_ok-label_told-in-Loop.ensures)
     c.requires.fresh c.pass_body-in-Loop.new.inner c.pass_body-in-Loop.new.set c.leave.new.set c.in_ok-pass_body-in-Loop.ensures.passed c.leave.auto.set c.leave.ensures
     c.pop-in-Loop.new.self.items c.pop-in-Loop.ensures.rest
 
-pub pass_stmt-returns-else-level-lt63-clause-heads : goal.pass_stmt-returns-else-level-lt63-clause-heads
-pass_stmt-returns-else-level-lt63-clause-heads t c = heads_loop_left c.args.stmt.now c.args.level c.args.outer.now c.args.inner.now.items
+pub pass_stmt-returns-else-is_kept-clause-heads : goal.pass_stmt-returns-else-is_kept-clause-heads
+pass_stmt-returns-else-is_kept-clause-heads t c = heads_loop_left c.args.stmt.now c.args.level c.args.outer.now c.args.inner.now.items
     (stmts c.deref-in-Loop.result.now) c.in_ok-label_told-in-Loop.field-0 c.push-in-Loop-2.new.self.items c.args.set.now c.in_ok-push-in-Loop-2.ensures.items
     (loop_is c.args.stmt.now c.in-Loop.body c.in-Loop.is no_more ∙ ap (λ xs. nests a_loop (stmts xs) no_more) (sym c.deref-in-Loop.ensures.value))
     (own_of c.args.level (length c.args.set.now) (length c.args.set.now) c.in_ok-label_told-in-Loop.field-0 refl c.in_ok-label_told-in-Loop.ensures)
