@@ -1,11 +1,12 @@
 -- What is known inside nests of loops, statement by statement.
-use Rattle.std.proofs.Common.{◌≡◌, ◌∙◌, ℕ, zero, suc, ◌-◌, ◌+◌, ◌<◌, ◌≤◌, ◌⊎◌, inl, inr, ◌^◌, List, [], ◌∷◌, ◌++◌, length, map, reverse, take, drop, get_or, min, Option, Some, None, Bool, true, false}
+use Rattle.std.proofs.Common.{◌≡◌, ◌∙◌, ℕ, suc, ◌-◌, ◌+◌, ◌<◌, ◌≤◌, ◌⊎◌, inl, inr, ◌^◌, List, [], ◌∷◌, ◌++◌, length, reverse, take, drop, get_or, Option, Some, Bool, true, false}
 use Rattle.std.proofs.Common.{◌||◌, ◌&&◌, refl, sym, ap, arith, subst, length-append}
 use Rattle.std.specs.Prelude.{Vec, nat_eq, if◌then◌else◌, replicate, Result, Ok, Err, IfOk, OnOk}
 use Rattle.std.specs.declared.alloc.Global.{Global}
 use Rattle.std.proofs.lemmas.Bool.{cases_lt, ne_eqb, eq-eqb, lt-ltb}
-use Rattle.std.proofs.lemmas.List.{append-nil, append_assoc, drop-append-le, drop_all, drop_at, drop-drop, length-drop, length-reverse, get_or-replicate, length-replicate, reverse-append, take-append-drop, take_all, take_more}
-use Rattle.wa_types.specs.Syntax.{a_block, a_loop, Code, done, plain, nest, branch}
+use Rattle.std.proofs.lemmas.List.{append-nil, append_assoc, drop-append-le, drop_all, drop_at, drop-drop, length-drop, length-reverse, get_or-replicate, length-replicate, reverse-append}
+use Rattle.std.proofs.lemmas.List.{take-append-drop, take_all, take_more}
+use Rattle.wa_types.specs.Syntax.{a_block, a_loop}
 use Rattle.wa_types.specs.Liveness.{live}
 use Rattle.wa_model.specs.declared.flat.Operand.{Operand}
 use Rattle.wa_model.specs.declared.flat.Stmt.{Stmt}
@@ -15,12 +16,12 @@ use Rattle.flat_pieces.proofs.StmtLemmas.{stmts_step, stmts_end}
 use Rattle.live_passes.specs.Sets.{has, told_of, told_by, TellsBefore, Passed}
 use Rattle.live_passes.proofs.SetLemmas.{told_more, or_none}
 use Rattle.live_passes.proofs.PassLemmas.{popped}
-use Rattle.live_words.specs.Words.{bit, world, meets, told_in, WordsPassed}
+use Rattle.live_words.specs.Words.{bit, world, meets, WordsPassed}
 use Rattle.live_words.specs.Heads.{deeper, loop_total, heads, Knows, HeadsPut}
 use Rattle.live_words.proofs.WordLemmas.{world_long, world_has}
 use Rattle.live_words.proofs.LevelLemmas.{meets_first}
 use Rattle.live_words.proofs.HeadLemmas.{knows_on, knows_left, knows_right, knows_as, loops_front, heads_front, heads_count, heads_tail}
-use Rattle.live_locals.specs.Nests.{joined, in_some, told_in_some, Up_to, Around, NestOf, Nest, LoopOf, AtLoop, Enters}
+use Rattle.live_locals.specs.Nests.{joined, in_some, told_in_some, Around, NestOf, Nest, AtLoop, Enters}
 use Rattle.live_locals.proofs.UnionLemmas.{live_in_some, told_again, some_again, told_cons, some_same, none_in_some, up_more}
 
 -- ---- statement by statement
@@ -59,12 +60,16 @@ module _ (level : ℕ) (reach : List ℕ) (tos mid : List (Vec Bool Global)) (a 
   pub nest_stmt : (es fs : List (Option (Vec ℕ Global))) → fs ≡ drop (loop_total rest) es → Nest level reach tos a es (stmts xs) → Nest level reach mid b fs (stmt_in_front x no_more)
   unfolding around_stmt
   nest_stmt es fs ef n = λ low.
-      let q = n low in let s = f.tells.size in
-      (q.0 ∙ sym s, λ y lt.
-      let la : y < length a = omega (arith, s, lt) in
-      let w = q.1 y la in
-      (around_stmt y la w.0, λ i il. subst (λ z. Knows i y z (heads y i level (w.0.told i) (live y (w.0.told i) (w.0.out i) (code_of rest)) (stmt_in_front x no_more))) (sym ef)
-      (heads_stmt y i (w.0.told i) (w.0.out i) es (w.1 i il))))
+      let q = n low in let s = f.tells.size in (
+        q.0 ∙ sym s,
+        λ y lt.
+            let la : y < length a = omega (arith, s, lt) in
+            let w = q.1 y la in (
+              around_stmt y la w.0,
+              λ i il. subst (λ z. Knows i y z (heads y i level (w.0.told i) (live y (w.0.told i) (w.0.out i) (code_of rest)) (stmt_in_front x no_more))) (sym ef)
+                  (heads_stmt y i (w.0.told i) (w.0.out i) es (w.1 i il)),
+            ),
+      )
 
 -- ---- constructs
 
@@ -90,38 +95,50 @@ module _ (level : ℕ) (reach : List ℕ) (x : Stmt) (tos : List (Vec Bool Globa
   pub nest_block : (body : Stmts) → one ≡ nests a_block body no_more → (es : List (Option (Vec ℕ Global))) → Nest level reach tos a es one → Nest level reach inside a es body
   unfolding heads live code_of around_block
   nest_block body is es n = λ low.
-      let q = n low in
-      (q.0, λ y lt.
-      let w = q.1 y lt in
-      (around_block y w.0, λ i il. knows_as i y es (heads y i level (w.0.told i) (w.0.out i) one) (heads y i level (w.0.told i) (w.0.out i) (nests a_block body no_more))
-      (ap (heads y i level (w.0.told i) (w.0.out i)) is) (w.1 i il)))
+      let q = n low in (
+        q.0,
+        λ y lt.
+            let w = q.1 y lt in (
+              around_block y w.0,
+              λ i il. knows_as i y es (heads y i level (w.0.told i) (w.0.out i) one) (heads y i level (w.0.told i) (w.0.out i) (nests a_block body no_more))
+                  (ap (heads y i level (w.0.told i) (w.0.out i)) is) (w.1 i il),
+            ),
+      )
 
   module _ (o : Operand) (s t : Stmts) (is : one ≡ decides o s t no_more) (es : List (Option (Vec ℕ Global))) (n : Nest level reach tos a es one) where
     pub nest_else : Nest level reach inside a es t
     unfolding heads live code_of around_block
     nest_else = λ low.
-        let q = n low in
-        (q.0, λ y lt.
-        let w = q.1 y lt in
-        (around_block y w.0, λ i il.
-        let told : List Bool = w.0.out i ∷ w.0.told i in
-        knows_left i y es (heads y i level told (w.0.out i) t) (heads y i level told (w.0.out i) s)
-        (knows_as i y es (heads y i level (w.0.told i) (w.0.out i) one) (heads y i level (w.0.told i) (w.0.out i) (decides o s t no_more))
-        (ap (heads y i level (w.0.told i) (w.0.out i)) is) (w.1 i il))))
+        let q = n low in (
+          q.0,
+          λ y lt.
+              let w = q.1 y lt in (
+                around_block y w.0,
+                λ i il.
+                    let told : List Bool = w.0.out i ∷ w.0.told i in
+                    knows_left i y es (heads y i level told (w.0.out i) t) (heads y i level told (w.0.out i) s)
+                    (knows_as i y es (heads y i level (w.0.told i) (w.0.out i) one) (heads y i level (w.0.told i) (w.0.out i) (decides o s t no_more))
+                    (ap (heads y i level (w.0.told i) (w.0.out i)) is) (w.1 i il)),
+              ),
+        )
 
     pub nest_then : (mid : List (Vec Bool Global)) (own : List Bool) (fs : List (Option (Vec ℕ Global))) → mid ≡ inside → own ≡ a → fs ≡ drop (loop_total t) es → Nest level reach mid own fs s
     unfolding heads live code_of around_block
     nest_then mid own fs em eo ef =
         subst (λ ts. Nest level reach ts own fs s) (sym em) (subst (λ u. Nest level reach inside u fs s) (sym eo) (subst (λ z. Nest level reach inside a z s) (sym ef) (λ low.
-        let q = n low in
-        (q.0, λ y lt.
-        let w = q.1 y lt in
-        (around_block y w.0, λ i il.
-        let told : List Bool = w.0.out i ∷ w.0.told i in
-        subst (λ m. Knows i y (drop m es) (heads y i level told (w.0.out i) s)) (heads_count y i level told (w.0.out i) t)
-        (knows_right i y es (heads y i level told (w.0.out i) t) (heads y i level told (w.0.out i) s)
-        (knows_as i y es (heads y i level (w.0.told i) (w.0.out i) one) (heads y i level (w.0.told i) (w.0.out i) (decides o s t no_more))
-        (ap (heads y i level (w.0.told i) (w.0.out i)) is) (w.1 i il))))))))
+        let q = n low in (
+          q.0,
+          λ y lt.
+              let w = q.1 y lt in (
+                around_block y w.0,
+                λ i il.
+                    let told : List Bool = w.0.out i ∷ w.0.told i in
+                    subst (λ m. Knows i y (drop m es) (heads y i level told (w.0.out i) s)) (heads_count y i level told (w.0.out i) t)
+                    (knows_right i y es (heads y i level told (w.0.out i) t) (heads y i level told (w.0.out i) s)
+                    (knows_as i y es (heads y i level (w.0.told i) (w.0.out i) one) (heads y i level (w.0.told i) (w.0.out i) (decides o s t no_more))
+                    (ap (heads y i level (w.0.told i) (w.0.out i)) is) (w.1 i il))),
+              ),
+        ))))
 
 -- ---- loops
 
@@ -134,12 +151,15 @@ pub at_known : (level : ℕ) (reach : List ℕ) (tos : List (Vec Bool Global)) (
     → es ≡ Some w ∷ fs → words ≡ w.items → length words ≡ length a → Nest level reach tos a es (nests a_loop body no_more) → AtLoop level reach tos a words fs body
 unfolding heads live code_of
 at_known level reach tos a body es fs w words low e ew n h =
-    let q = h low in
-    (q.0, n, λ y lt.
-    let p = q.1 y lt in
-    let known : (i : ℕ) → i < 64 → Knows i y (Some w ∷ fs) (heads y i level (p.0.told i) (p.0.out i) (nests a_loop body no_more)) =
-    λ i il. subst (λ z. Knows i y z (heads y i level (p.0.told i) (p.0.out i) (nests a_loop body no_more))) e (p.1 i il) in
-    (p.0, λ i il. ap (λ s. bit i (get_or s y 0)) ew ∙ sym (world_has i w.items y) ∙ (known i il).0, λ i il. (known i il).1))
+    let q = h low in (
+      q.0,
+      n,
+      λ y lt.
+          let p = q.1 y lt in
+          let known : (i : ℕ) → i < 64 → Knows i y (Some w ∷ fs) (heads y i level (p.0.told i) (p.0.out i) (nests a_loop body no_more)) =
+          λ i il. subst (λ z. Knows i y z (heads y i level (p.0.told i) (p.0.out i) (nests a_loop body no_more))) e (p.1 i il) in
+          (p.0, λ i il. ap (λ s. bit i (get_or s y 0)) ew ∙ sym (world_has i w.items y) ∙ (known i il).0, λ i il. (known i il).1),
+    )
 
 none_left : (i y : ℕ) (es : List (Option (Vec ℕ Global))) → Knows i y es []
 none_left i y [] = tt
@@ -154,32 +174,38 @@ unfolding heads live code_of
 at_first tos a first words inner x body old new entries fs ones cast eo is none p h ee =
     let n : length first ≡ length a = sym (world_long 0 first) ∙ ap length (cast 0 (omega arith)) in
     let m : length words ≡ length first = (let s = (p.tells 0 (omega arith)).size in let c = world_long 0 words in let d = world_long 0 first in omega (arith, s, c, d)) in
-    let l : length new ≡ suc (loop_total body) = (let c = h.count in let z = ap loop_total is in let d = ap length h.is in let g = length-append old h.more in let o = ap length none in omega (arith, c, z, d, g, o)) in
-    (ap length eo ∙ length-replicate (length a) 1, m ∙ n, λ y lt.
-        let lf : y < length first = omega (arith, n, lt) in
-        let same : new ≡ h.more = h.is ∙ ap (λ z. z ++ h.more) none in
-        let around : Around 0 (get_or ones y 0) (told_of y tos) (has a y) = record {
-          worlds = [];
-          told = λ i. told_of y tos;
-          out = λ i. has (world i first) y;
-          low = tt;
-          long = λ i. refl;
-          fresh = λ i il l2. (refl, ap (λ s. has s y) (cast i il ∙ sym (cast 0 (omega arith))));
-          labels_are = refl;
-          behind_is = ap (λ s. has s y) (sym (cast 0 (omega arith)));
-          meet = λ w small. ap (λ s. meets w (get_or s y 0)) eo ∙ ap (meets w) (get_or-replicate (length a) y 1 0 lt) ∙ meets_first w;
-        } in
-        (around,
-        λ i il. (let c = world_long i first in sym (world_has i words y) ∙ (p.tells i il).each y (omega (arith, c, lf)) ∙ ap (λ s. live y (told_of y tos) (has (world i first) y) (code_of s)) is),
-        λ i il.
-        let gs : List Bool = heads y i (deeper 0) (nat_eq i 1 ∷ told_of y tos) (has (world i first) y) body in
-        let k : Knows i y new (heads y i 0 (told_of y tos) (has (world i first) y) (nests a_loop body no_more)) =
-        subst (λ z. Knows i y z (heads y i 0 (told_of y tos) (has (world i first) y) (nests a_loop body no_more))) (sym same)
-        (knows_as i y h.more (heads y i 0 (told_of y tos) (has (world i first) y) (stmt_in_front x no_more)) (heads y i 0 (told_of y tos) (has (world i first) y) (nests a_loop body no_more))
-        (ap (heads y i 0 (told_of y tos) (has (world i first) y)) is) (h.tell i y il lf)) in
-        let k1 : Knows i y (drop 1 new) gs = knows_right i y new (live y (false ∷ told_of y tos) (has (world i first) y) (code_of body) ∷ []) gs k in
-        let c1 : length (drop 1 new) ≡ length gs = (let d = length-drop 1 new in let z = heads_count y i (deeper 0) (nat_eq i 1 ∷ told_of y tos) (has (world i first) y) body in omega (arith, d, z, l)) in
-        subst (λ z. Knows i y z gs) (sym ee) (knows_as i y (drop 1 new ++ fs) (gs ++ []) gs (append-nil gs) (knows_on i y (drop 1 new) fs gs [] c1 k1 (none_left i y fs)))))
+    let l : length new ≡ suc (loop_total body) = (let c = h.count in let z = ap loop_total is in let d = ap length h.is in let g = length-append old h.more in let o = ap length none
+    in omega (arith, c, z, d, g, o)) in (
+      ap length eo ∙ length-replicate (length a) 1,
+      m ∙ n,
+      λ y lt.
+          let lf : y < length first = omega (arith, n, lt) in
+          let same : new ≡ h.more = h.is ∙ ap (λ z. z ++ h.more) none in
+          let around : Around 0 (get_or ones y 0) (told_of y tos) (has a y) = record {
+            worlds = [];
+            told = λ i. told_of y tos;
+            out = λ i. has (world i first) y;
+            low = tt;
+            long = λ i. refl;
+            fresh = λ i il l2. (refl, ap (λ s. has s y) (cast i il ∙ sym (cast 0 (omega arith))));
+            labels_are = refl;
+            behind_is = ap (λ s. has s y) (sym (cast 0 (omega arith)));
+            meet = λ w small. ap (λ s. meets w (get_or s y 0)) eo ∙ ap (meets w) (get_or-replicate (length a) y 1 0 lt) ∙ meets_first w;
+          } in (
+            around,
+            λ i il. (let c = world_long i first in sym (world_has i words y) ∙ (p.tells i il).each y (omega (arith, c, lf)) ∙ ap (λ s. live y (told_of y tos) (has (world i first) y) (code_of s)) is),
+            λ i il.
+                let gs : List Bool = heads y i (deeper 0) (nat_eq i 1 ∷ told_of y tos) (has (world i first) y) body in
+                let k : Knows i y new (heads y i 0 (told_of y tos) (has (world i first) y) (nests a_loop body no_more)) =
+                subst (λ z. Knows i y z (heads y i 0 (told_of y tos) (has (world i first) y) (nests a_loop body no_more))) (sym same)
+                (knows_as i y h.more (heads y i 0 (told_of y tos) (has (world i first) y) (stmt_in_front x no_more)) (heads y i 0 (told_of y tos) (has (world i first) y) (nests a_loop body no_more))
+                (ap (heads y i 0 (told_of y tos) (has (world i first) y)) is) (h.tell i y il lf)) in
+                let k1 : Knows i y (drop 1 new) gs = knows_right i y new (live y (false ∷ told_of y tos) (has (world i first) y) (code_of body) ∷ []) gs k in
+                let c1 : length (drop 1 new) ≡ length gs = (let d = length-drop 1 new in let z = heads_count y i (deeper 0) (nat_eq i 1 ∷ told_of y tos) (has (world i first) y) body
+                in omega (arith, d, z, l)) in
+                subst (λ z. Knows i y z gs) (sym ee) (knows_as i y (drop 1 new ++ fs) (gs ++ []) gs (append-nil gs) (knows_on i y (drop 1 new) fs gs [] c1 k1 (none_left i y fs))),
+          ),
+    )
 
 module _ (level : ℕ) (low : level < 63) (reach : List ℕ) (tos : List (Vec Bool Global)) (a new : List Bool) (words : List ℕ) (body : Stmts) (es : List (Option (Vec ℕ Global)))
     (inner : ℕ) (within : List ℕ) (h : AtLoop level reach tos a words es body) (g : Enters level reach words a new inner within) where
@@ -216,49 +242,56 @@ module _ (level : ℕ) (low : level < 63) (reach : List ℕ) (tos : List (Vec Bo
         → NestOf (suc level) (get_or within y 0) (told_of y (tos ++ v ∷ [])) (has a y) es body y
     entered true e w k =
         let f : ℕ → Bool = λ i. nat_eq i (suc level) in
-        let q = w.fresh (suc level) (omega (arith, low)) (omega arith) in
-        (record {
-          worlds = suc level ∷ w.worlds;
-          told = λ i. f i ∷ w.told i;
-          out = w.out;
-          low = (omega arith, up_more level (suc level) w.worlds (omega arith) w.low);
-          long = λ i. ap suc (w.long i);
-          fresh = λ i il l. let r = w.fresh i il (omega (arith, l)) in
-              (λ j. (own_other i (λ z. absurd (omega (arith, z, l))) ∙ sym (own_other 0 (λ z. absurd (omega (arith, z))))) j ∷ r.0 j, r.1);
-          labels_are =
-              one_label ∙ (λ j. e j ∷ w.labels_are j)
-              ∙ sym (ap (λ z. joined z (f (suc level) ∷ w.told (suc level))) (told_cons f w.told w.worlds)
-              ∙ (λ j. (ap (λ c. in_some w.worlds f || c) (eq-eqb (suc level) (suc level) refl) ∙ or_all (in_some w.worlds f)) j
-              ∷ (ap (joined (told_in_some w.worlds w.told)) q.0 ∙ told_again w.told w.long w.worlds) j));
-          behind_is = w.behind_is ∙ sym (ap (λ c. in_some w.worlds w.out || c) q.1 ∙ some_again w.out w.worlds);
-          meet = λ u small. met_inside u small ∙ (λ j. w.meet u small j || (e j && bit (suc level) u));
-        }, λ i il. subst (λ l. Knows i y es (heads y i l (f i ∷ w.told i) (w.out i) body)) deeper_is (k i il))
+        let q = w.fresh (suc level) (omega (arith, low)) (omega arith) in (
+          record {
+            worlds = suc level ∷ w.worlds;
+            told = λ i. f i ∷ w.told i;
+            out = w.out;
+            low = (omega arith, up_more level (suc level) w.worlds (omega arith) w.low);
+            long = λ i. ap suc (w.long i);
+            fresh = λ i il l. let r = w.fresh i il (omega (arith, l)) in
+                (λ j. (own_other i (λ z. absurd (omega (arith, z, l))) ∙ sym (own_other 0 (λ z. absurd (omega (arith, z))))) j ∷ r.0 j, r.1);
+            labels_are =
+                one_label ∙ (λ j. e j ∷ w.labels_are j)
+                ∙ sym (ap (λ z. joined z (f (suc level) ∷ w.told (suc level))) (told_cons f w.told w.worlds)
+                ∙ (λ j. (ap (λ c. in_some w.worlds f || c) (eq-eqb (suc level) (suc level) refl) ∙ or_all (in_some w.worlds f)) j
+                ∷ (ap (joined (told_in_some w.worlds w.told)) q.0 ∙ told_again w.told w.long w.worlds) j));
+            behind_is = w.behind_is ∙ sym (ap (λ c. in_some w.worlds w.out || c) q.1 ∙ some_again w.out w.worlds);
+            meet = λ u small. met_inside u small ∙ (λ j. w.meet u small j || (e j && bit (suc level) u));
+          },
+          λ i il. subst (λ l. Knows i y es (heads y i l (f i ∷ w.told i) (w.out i) body)) deeper_is (k i il),
+        )
       where
         or_all : (c : Bool) → (c || true) ≡ true
         or_all true = refl
         or_all false = refl
     entered false e w k =
-        let f : ℕ → Bool = λ i. nat_eq i (suc level) in
-        (record {
-          worlds = w.worlds;
-          told = λ i. f i ∷ w.told i;
-          out = w.out;
-          low = up_more level (suc level) w.worlds (omega arith) w.low;
-          long = λ i. ap suc (w.long i);
-          fresh = λ i il l. let r = w.fresh i il (omega (arith, l)) in
-              (λ j. (own_other i (λ z. absurd (omega (arith, z, l))) ∙ sym (own_other 0 (λ z. absurd (omega (arith, z))))) j ∷ r.0 j, r.1);
-          labels_are =
-              one_label ∙ (λ j. e j ∷ w.labels_are j)
-              ∙ sym (told_cons f w.told w.worlds ∙ ap (λ c. c ∷ told_in_some w.worlds w.told)
-              (none_in_some level f (λ i le. own_other i (λ z. absurd (omega (arith, z, le)))) w.worlds w.low));
-          behind_is = w.behind_is;
-          meet = λ u small. met_inside u small ∙ (λ j. w.meet u small j || (e j && bit (suc level) u)) ∙ or_none (in_some w.worlds (λ i. bit i u));
-        }, λ i il. subst (λ l. Knows i y es (heads y i l (f i ∷ w.told i) (w.out i) body)) deeper_is (k i il))
+        let f : ℕ → Bool = λ i. nat_eq i (suc level) in (
+          record {
+            worlds = w.worlds;
+            told = λ i. f i ∷ w.told i;
+            out = w.out;
+            low = up_more level (suc level) w.worlds (omega arith) w.low;
+            long = λ i. ap suc (w.long i);
+            fresh = λ i il l. let r = w.fresh i il (omega (arith, l)) in
+                (λ j. (own_other i (λ z. absurd (omega (arith, z, l))) ∙ sym (own_other 0 (λ z. absurd (omega (arith, z))))) j ∷ r.0 j, r.1);
+            labels_are =
+                one_label ∙ (λ j. e j ∷ w.labels_are j)
+                ∙ sym (told_cons f w.told w.worlds ∙ ap (λ c. c ∷ told_in_some w.worlds w.told)
+                (none_in_some level f (λ i le. own_other i (λ z. absurd (omega (arith, z, le)))) w.worlds w.low));
+            behind_is = w.behind_is;
+            meet = λ u small. met_inside u small ∙ (λ j. w.meet u small j || (e j && bit (suc level) u)) ∙ or_none (in_some w.worlds (λ i. bit i u));
+          },
+          λ i il. subst (λ l. Knows i y es (heads y i l (f i ∷ w.told i) (w.out i) body)) deeper_is (k i il),
+        )
 
   pub nest_inside : (v : Vec Bool Global) → v.items ≡ new → Nest inner within (tos ++ v ∷ []) a es body
-  nest_inside v ev = λ lo. (g.long ∙ h.0, λ y lt.
-      let p = h.2 y lt in
-      subst (λ l. NestOf l (get_or within y 0) (told_of y (tos ++ v ∷ [])) (has a y) es body y) (sym g.level_is) (entered v ev y lt (has new y) refl p.0 p.2))
+  nest_inside v ev = λ lo. (
+    g.long ∙ h.0,
+    λ y lt.
+        let p = h.2 y lt in
+        subst (λ l. NestOf l (get_or within y 0) (told_of y (tos ++ v ∷ [])) (has a y) es body y) (sym g.level_is) (entered v ev y lt (has new y) refl p.0 p.2),
+  )
 
 -- ---- entries, the next last
 
@@ -270,7 +303,8 @@ skipped old len n k el ek = sym (ap (λ xs. drop n (reverse xs)) (sym (take-appe
         let m = length-reverse (drop k old) in let d = length-drop k old in drop_at (reverse (drop k old)) (reverse (take k old)) n (omega (arith, m, d, ek, el, l))
     sides (inr g) =
         let e : k ≡ 0 = omega (arith, ek, el, g) in
-        ap (λ j. drop n (reverse (drop j old) ++ reverse (take j old))) e ∙ drop_all n (reverse old ++ []) (let q = length-append (reverse old) [] in let p = length-reverse old in omega (arith, q, p, g))
+        ap (λ j. drop n (reverse (drop j old) ++ reverse (take j old))) e ∙ drop_all n (reverse old ++ [])
+        (let q = length-append (reverse old) [] in let p = length-reverse old in omega (arith, q, p, g))
         ∙ sym (ap (λ j. reverse (take j old)) e)
 
 -- the last of some entries is put before others
@@ -360,7 +394,8 @@ nest_as level reach reach2 tos tos2 a b es s er et eb n =
     subst (λ r. Nest level r tos2 b es s) (sym er) (subst (λ ts. Nest level reach ts b es s) (sym et) (subst (λ u. Nest level reach tos u es s) (sym eb) n))
 
 -- a loop that was entered
-pub loop_passed_by : (x : Stmt) (body : Stmts) (tos entered_tos inside : List (Vec Bool Global)) (v : Vec Bool Global) (mid : Vec (Vec Bool Global) Global) (new : List (Vec Bool Global)) (a b : List Bool)
+pub loop_passed_by : (x : Stmt) (body : Stmts) (tos entered_tos inside : List (Vec Bool Global)) (v : Vec Bool Global) (mid : Vec (Vec Bool Global) Global) (new : List (Vec Bool Global))
+    (a b : List Bool)
     → stmt_in_front x no_more ≡ nests a_loop body no_more → Passed tos entered_tos a b (code_of (nests a_loop body no_more)) → inside ≡ entered_tos ++ v ∷ [] → mid.items ≡ inside
     → new ≡ take (mid.len - 1) mid.items → Passed tos new a b (code_of (stmt_in_front x no_more))
 loop_passed_by x body tos entered_tos inside v mid new a b is h ei em r = record {

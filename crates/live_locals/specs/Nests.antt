@@ -1,11 +1,10 @@
 -- What is known inside nests of loops, whose worlds hold where what the heads of the loops around read first is known.
-use Rattle.std.specs.Prelude.{◌≡◌, ◌<◌, ◌≤◌, ◌++◌, ◌||◌, ◌&&◌, ◌^◌, ℕ, suc, List, [], ◌∷◌, length, get_or, reverse, drop, Option, Some, Bool, false, Vec, nat_eq}
+use Rattle.std.specs.Prelude.{◌≡◌, ◌<◌, ◌≤◌, ◌||◌, ◌&&◌, ◌^◌, ℕ, suc, List, [], ◌∷◌, length, get_or, Option, Bool, false, Vec, nat_eq}
 use Rattle.std.specs.declared.alloc.Global.{Global}
-use Rattle.wa_types.specs.Syntax.{Code}
 use Rattle.wa_types.specs.Liveness.{live}
 use Rattle.wa_model.specs.Flat.{Stmts, code_of}
 use Rattle.live_passes.specs.Sets.{has, told_of}
-use Rattle.live_words.specs.Words.{bit, world, meets}
+use Rattle.live_words.specs.Words.{bit, meets}
 use Rattle.live_words.specs.Heads.{deeper, heads, Knows}
 
 -- what two lists of answers tell together

@@ -45,7 +45,10 @@ fn skip_heads(heads: &mut Vec<Option<Vec<u64>>>, count: usize)
 }
 
 /// Entries are put before those that are next.
-fn put_heads(heads: &mut Vec<Option<Vec<u64>>>, mut more: Vec<Option<Vec<u64>>>) -> Result<(), AllocError>
+fn put_heads(
+    heads: &mut Vec<Option<Vec<u64>>>,
+    mut more: Vec<Option<Vec<u64>>>,
+) -> Result<(), AllocError>
     ensures { OnOk result (reverse heads.new.items ≡ more.items ++ reverse heads.old.items) }
 {
     while let Some(entry) = more.pop() {
@@ -94,20 +97,26 @@ fn begin_nest(
 ) -> Result<Inside, AllocError>
     requires ops { OpsFit (stmt_in_front stmt.now no_more) }
     requires is_loop { (body : Stmts) × (stmt_in_front stmt.now no_more ≡ nests a_loop body no_more) }
-    ensures rest {
-        OnOk result ((body : Stmts) → stmt_in_front stmt.now no_more ≡ nests a_loop body no_more
-        → drop (loop_total body) (reverse heads.new.items) ≡ drop (loop_total body) (reverse heads.old.items))
-    }
-    ensures inside {
-        IfOk result (λ n. (body : Stmts) → stmt_in_front stmt.now no_more ≡ nests a_loop body no_more
-        → (reach words : List ℕ) × AtLoop 0 reach tos.now set.old words (reverse heads.new.items) body × Enters 0 reach words set.old set.new n.level n.reach.items)
-    }
+    ensures rest { OnOk result ((body : Stmts) → stmt_in_front stmt.now no_more ≡ nests a_loop body no_more
+        → drop (loop_total body) (reverse heads.new.items) ≡ drop (loop_total body) (reverse heads.old.items)) }
+    ensures inside { IfOk result (λ n. (body : Stmts) → stmt_in_front stmt.now no_more ≡ nests a_loop body no_more
+        → (reach words : List ℕ) × AtLoop 0 reach tos.now set.old words (reverse heads.new.items) body × Enters 0 reach words set.old set.new n.level n.reach.items) }
 {
     let mut words = broadcast(alloc, set)?;
     let mut inside = Vec::new(alloc);
     let mut inner = Vec::new(alloc);
     let sizes = loop_sizes(alloc, stmt)?;
-    pass_words(alloc, tos, &mut inner, 0, &sizes, 0, &mut inside, &mut words, stmt)?;
+    pass_words(
+        alloc,
+        tos,
+        &mut inner,
+        0,
+        &sizes,
+        0,
+        &mut inside,
+        &mut words,
+        stmt,
+    )?;
     skip_heads(heads, inside.len().saturating_sub(1));
     put_heads(heads, inside)?;
     take_head(heads);
@@ -132,9 +141,7 @@ pub(crate) fn enter_loop(
     requires nest { Nest level reach.now tos.old.items set.old (reverse heads.old.items) (nests a_loop (stmts body.now) no_more) }
     ensures passed { OnOk result (Passed tos.old.items tos.new.items set.old set.new (code_of (nests a_loop (stmts body.now) no_more))) }
     ensures rest { OnOk result (drop (loop_total (stmts body.now)) (reverse heads.new.items) ≡ drop (suc (loop_total (stmts body.now))) (reverse heads.old.items)) }
-    ensures inside {
-        IfOk result (λ n. (v : Vec Bool Global) → v.items ≡ set.new → Nest n.level n.reach.items (tos.old.items ++ v ∷ []) set.old (reverse heads.new.items) (stmts body.now))
-    }
+    ensures inside { IfOk result (λ n. (v : Vec Bool Global) → v.items ≡ set.new → Nest n.level n.reach.items (tos.old.items ++ v ∷ []) set.old (reverse heads.new.items) (stmts body.now)) }
 {
     let known = take_head(heads);
     if level < 63 {

@@ -11,9 +11,7 @@ ghost use Rattle.live_locals.specs.Rows.{Countable, RowPut, RowsPut};
 ghost use Rattle.live_passes.specs.Sets.{Passed};
 
 use crate::nests::enter_loop;
-use live_passes::{
-    copied, join, pass_simple, read_operand, read_slots, read_taken, write_told,
-};
+use live_passes::{copied, join, pass_simple, read_operand, read_slots, read_taken, write_told};
 use std::alloc::{AllocError, Global};
 use wa_model::Stmt;
 
@@ -71,7 +69,18 @@ pub(crate) fn put_body_rows(
     let mut left = body.len();
     while left > 0 {
         left -= 1;
-        first = put_stmt_rows(alloc, rows, numbers, first, level, reach, heads, tos, set, &body[left])?;
+        first = put_stmt_rows(
+            alloc,
+            rows,
+            numbers,
+            first,
+            level,
+            reach,
+            heads,
+            tos,
+            set,
+            &body[left],
+        )?;
     }
     Ok(first)
 }
@@ -110,7 +119,9 @@ fn put_stmt_rows(
         }
         Stmt::Block(body) => {
             tos.push(copied(alloc, set)?)?;
-            let first = put_body_rows(alloc, rows, numbers, last, level, reach, heads, tos, set, body)?;
+            let first = put_body_rows(
+                alloc, rows, numbers, last, level, reach, heads, tos, set, body,
+            )?;
             tos.pop();
             Ok(first)
         }
@@ -141,8 +152,12 @@ fn put_stmt_rows(
         } => {
             let mut other = copied(alloc, set)?;
             tos.push(copied(alloc, set)?)?;
-            let middle = put_body_rows(alloc, rows, numbers, last, level, reach, heads, tos, set, else_arm)?;
-            let first = put_body_rows(alloc, rows, numbers, middle, level, reach, heads, tos, &mut other, then_arm)?;
+            let middle = put_body_rows(
+                alloc, rows, numbers, last, level, reach, heads, tos, set, else_arm,
+            )?;
+            let first = put_body_rows(
+                alloc, rows, numbers, middle, level, reach, heads, tos, &mut other, then_arm,
+            )?;
             tos.pop();
             join(set, &other);
             read_operand(set, *cond);

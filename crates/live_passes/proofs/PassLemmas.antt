@@ -1,10 +1,10 @@
 -- Bodies and constructs, passed over backwards.
-use Rattle.std.proofs.Common.{◌≡◌, ◌∙◌, ℕ, zero, suc, ◌-◌, ◌+◌, ◌<◌, ◌≤◌, List, [], ◌∷◌, ◌++◌, length, take, drop, get_or, Option, Some, None, Bool, true, false, ◌||◌, refl, sym, ap, arith}
+use Rattle.std.proofs.Common.{◌≡◌, ◌∙◌, ℕ, ◌-◌, ◌<◌, ◌≤◌, List, [], ◌∷◌, ◌++◌, length, take, drop, get_or, None, Bool, false, ◌||◌, refl, sym, ap, arith}
 use Rattle.std.proofs.Common.{subst, length-append}
 use Rattle.std.specs.Prelude.{Vec}
 use Rattle.std.specs.declared.alloc.Global.{Global}
 use Rattle.std.proofs.lemmas.List.{take_at}
-use Rattle.wa_types.specs.Syntax.{a_block, a_loop, Code, done, plain, nest, branch}
+use Rattle.wa_types.specs.Syntax.{a_block, a_loop, Code, done, nest, branch}
 use Rattle.wa_types.specs.Liveness.{live}
 use Rattle.wa_model.specs.declared.flat.Operand.{Operand}
 use Rattle.wa_model.specs.declared.flat.Stmt.{Stmt}
@@ -16,7 +16,7 @@ use Rattle.wa_model.specs.FlatView.{stmt_in_front, stmts}
 use Rattle.live_passes.specs.Ops.{OpsFit, HoldsNone}
 use Rattle.live_passes.specs.Sets.{has, told_of, told_by, TellsBefore, TellsAnywhere, Passed}
 use Rattle.live_passes.proofs.SetLemmas.{tells_then, tells_as, tells_none, told_more}
-use Rattle.live_passes.proofs.CodeLemmas.{got_then, code_before, code_end, ops_at}
+use Rattle.live_passes.proofs.CodeLemmas.{got_then, code_before, code_end}
 
 -- ---- bodies
 

@@ -1,17 +1,17 @@
 -- Sets of locals: reads, writes and joins.
-use Rattle.std.proofs.Common.{◌≡◌, ◌∙◌, ℕ, suc, ◌+◌, ◌-◌, ◌<◌, ◌≤◌, ◌⊎◌, List, [], ◌∷◌, ◌++◌, length, map, reverse, get_or, take, drop, set, Option, Some, None, Bool, true, false, not, ◌&&◌}
-use Rattle.std.proofs.Common.{◌||◌, inl, inr, refl, sym, ap, arith, subst, min}
-use Rattle.std.specs.Prelude.{slice_get, nat_eq, replicate, Vec}
+use Rattle.std.proofs.Common.{◌≡◌, ◌∙◌, ℕ, ◌+◌, ◌-◌, ◌<◌, ◌≤◌, ◌⊎◌, List, [], ◌∷◌, ◌++◌, length, map, reverse, get_or, take, drop, set, Some, Bool, true, false, not, ◌&&◌}
+use Rattle.std.proofs.Common.{◌||◌, inl, inr, refl, sym, ap, arith, subst}
+use Rattle.std.specs.Prelude.{nat_eq, replicate, Vec}
 use Rattle.std.specs.declared.alloc.Global.{Global}
 use Rattle.std.specs.List.{list_any}
 use Rattle.std.specs.Option.{option_map}
 use Rattle.std.proofs.lemmas.Bool.{cases_eq, cases_lt, eq-eqb, ne_eqb}
-use Rattle.std.proofs.lemmas.List.{append-nil, drop_more, drop_all, get_or-set_same, get_or-set_other, get_or_past, get_or-reverse, length-set, length-map, length-reverse, reverse-append}
+use Rattle.std.proofs.lemmas.List.{drop_more, drop_all, get_or-set_same, get_or-set_other, get_or_past, get_or-reverse, length-set, length-map, length-reverse, reverse-append}
 use Rattle.std.proofs.lemmas.List.{get_or-replicate, length-replicate}
 use Rattle.std.proofs.lemmas.Option.{slice_get-map, slice_get-get_or, slice_get_past}
 use Rattle.std.proofs.Math.Seq.{take-append_seam}
 use Rattle.wa_types.specs.Pausing.{is_told}
-use Rattle.wa_types.specs.Syntax.{Shape, local_get, local_set, br, br_if, br_table, unreachable, Code, done, plain, nest, branch}
+use Rattle.wa_types.specs.Syntax.{local_get, local_set, br, br_if, br_table, unreachable, Code, done, plain, nest, branch}
 use Rattle.wa_types.specs.Liveness.{live, live_plain, shape_live, told_at}
 use Rattle.wa_model.specs.Flat.{followed_by}
 use Rattle.live_passes.specs.Sets.{has, told_of, told_by, TellsBefore, TellsAnywhere, Joined}

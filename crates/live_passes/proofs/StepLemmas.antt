@@ -1,5 +1,5 @@
 -- Statements that hold no others.
-use Rattle.std.proofs.Common.{◌≡◌, ◌∙◌, ℕ, ◌-◌, ◌+◌, ◌<◌, ◌≤◌, List, [], ◌∷◌, length, take, drop, get_or, Option, Some, None, Bool, refl, sym, ap, arith, subst}
+use Rattle.std.proofs.Common.{◌≡◌, ◌∙◌, ℕ, ◌-◌, ◌<◌, ◌≤◌, List, length, take, drop, get_or, Option, Some, None, Bool, refl, sym, ap, arith, subst}
 use Rattle.std.specs.Prelude.{Vec}
 use Rattle.std.specs.declared.alloc.Global.{Global}
 use Rattle.std.proofs.lemmas.List.{drop_all, get_or_default, take_rest}
@@ -7,7 +7,7 @@ use Rattle.wa_types.specs.declared.instrs.Instr.{Instr}
 use Rattle.wa_types.specs.declared.instrs.Instr.TheVariants.{Unreachable as UnreachableInstr, Nop, Drop, Select, Return, MemorySize, MemoryGrow, Const as ConstInstr, Num, Br as BrInstr}
 use Rattle.wa_types.specs.declared.instrs.Instr.TheVariants.{BrIf as BrIfInstr, BrTable as BrTableInstr, Call as CallInstr, CallIndirect, LocalGet, LocalSet, LocalTee, GlobalGet, GlobalSet}
 use Rattle.wa_types.specs.declared.instrs.Instr.TheVariants.{Load, Store, Block' as BlockInstr', Loop' as LoopInstr', If' as IfInstr'}
-use Rattle.wa_types.specs.Syntax.{Plain, basic, local_get, local_set, local_tee, br, br_if, br_table, unreachable, call, call_indirect, Code, done, plain, nest, branch}
+use Rattle.wa_types.specs.Syntax.{basic, local_get, local_set, local_tee, br, br_if, br_table, unreachable, call, call_indirect, Code, done, plain}
 use Rattle.wa_types.specs.View.{in_front}
 use Rattle.wa_types.specs.Liveness.{live}
 use Rattle.wa_model.specs.declared.flat.Operand.{Operand}
@@ -15,7 +15,7 @@ use Rattle.wa_model.specs.declared.flat.Operand.TheVariants.{Local, Const}
 use Rattle.wa_model.specs.declared.flat.Stmt.{Stmt}
 use Rattle.wa_model.specs.declared.flat.Stmt.TheVariants.{Plain as PlainStmt, Move, Call as CallStmt, Br as BrStmt, BrIf as BrIfStmt, BrTable as BrTableStmt, Block', Loop', If'}
 use Rattle.wa_model.specs.declared.flat.Stmt.TheVariants.{Unreachable as UnreachableStmt}
-use Rattle.wa_model.specs.Flat.{Stmts, no_more, computes, copies, calls, leaps, leaps_if, leaps_by, nests, decides, halts, followed_by, got, all_got, set_to, slots_got, last_of, code_of, result_got}
+use Rattle.wa_model.specs.Flat.{Stmts, no_more, followed_by, got, all_got, set_to, slots_got, last_of, code_of, result_got}
 use Rattle.wa_model.specs.FlatView.{stmt_in_front}
 use Rattle.wa_model.specs.FlatFits.{IsCallCode}
 use Rattle.flat_pieces.proofs.StmtLemmas.{call_is}

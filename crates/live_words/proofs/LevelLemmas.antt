@@ -1,15 +1,13 @@
 -- The worlds of loops, by level.
-use Rattle.std.proofs.Common.{◌≡◌, ◌∙◌, ℕ, zero, suc, ◌+◌, ◌-◌, ◌*◌, ◌%◌, ◌<◌, ◌≤◌, ◌⊎◌, inl, inr, ◌^◌, List, [], ◌∷◌, ◌++◌, length, drop, get_or, set, take, replicate, min, max, Bool, true, false}
-use Rattle.std.proofs.Common.{◌||◌, ◌&&◌, not, refl, sym, ap, arith, pow_pos, subst}
-use Rattle.std.specs.Prelude.{Vec, nat_eq, if◌then◌else◌}
+use Rattle.std.proofs.Common.{◌≡◌, ◌∙◌, ℕ, zero, suc, ◌+◌, ◌-◌, ◌*◌, ◌<◌, ◌≤◌, inl, inr, ◌^◌, List, [], ◌∷◌, ◌++◌, length, drop, get_or, set, take, min, max, Bool, true, false}
+use Rattle.std.proofs.Common.{◌||◌, ◌&&◌, not, refl, sym, ap, arith, pow_pos}
+use Rattle.std.specs.Prelude.{nat_eq, if◌then◌else◌}
 use Rattle.std.specs.Int.{bit_at, bit_not, w64}
 use Rattle.std.specs.Int.Bits.{bit_and, bit_or}
-use Rattle.std.specs.declared.alloc.Global.{Global}
-use Rattle.std.proofs.lemmas.Bool.{cases_eq, cases_lt, eq-eqb, ne_eqb, eqb-true}
-use Rattle.std.proofs.lemmas.List.{get_or-set_same, get_or-set_other, get_or_past, map-append, take_more, take_all}
+use Rattle.std.proofs.lemmas.Bool.{cases_eq, cases_lt, eq-eqb, ne_eqb}
+use Rattle.std.proofs.lemmas.List.{get_or-set_same, get_or-set_other, get_or_past, map-append, take_more}
 use Rattle.std.proofs.lemmas.Nat.{and_mask, le_or_l, le_or_r}
 use Rattle.std.proofs.lemmas.Nat.Bits.{and_pow, bit_at-lt, bit_at_and, bit_at_lowest, bit_at_not, bit_at_or, bit_at-pow_same, bit_at-pow_other, same_from_bits}
-
 use Rattle.live_passes.specs.Sets.{has}
 use Rattle.live_words.specs.Words.{bit, world, meets}
 use Rattle.live_words.proofs.WordLemmas.{bit_of_or, world_long, world_has}
@@ -87,10 +85,10 @@ leaving_end old own new at level j n full bits i x il = elim (cases_lt x at) [
   | inl l ↦ world_has i new x ∙ j.below x i l il ∙ ap (λ b. if b then bit 0 (get_or old x 0) else bit i (get_or old x 0)) (bits i il)
       ∙ (λ k. if nat_eq i (suc level) then sym (world_has 0 old x) k else sym (world_has i old x) k)
   | inr g ↦
-    let m = world_long i new in let a = world_long 0 old in let b = world_long i old in
-    get_or_past (world i new) x false (omega (arith, m, n, full, g))
-    ∙ both (nat_eq i (suc level)) (has (world 0 old) x) (has (world i old) x)
-    (get_or_past (world 0 old) x false (omega (arith, a, full, g))) (get_or_past (world i old) x false (omega (arith, b, full, g)))
+      let m = world_long i new in let a = world_long 0 old in let b = world_long i old in
+      get_or_past (world i new) x false (omega (arith, m, n, full, g))
+      ∙ both (nat_eq i (suc level)) (has (world 0 old) x) (has (world i old) x)
+      (get_or_past (world 0 old) x false (omega (arith, a, full, g))) (get_or_past (world i old) x false (omega (arith, b, full, g)))
 ]
   where
     both : (c a b : Bool) → a ≡ false → b ≡ false → false ≡ (if c then a else b)
@@ -190,11 +188,12 @@ pub entered_is : (level own len : ℕ) (reach old lent new : List ℕ) (head : L
     × ((x u : ℕ) → x < length reach → u < 2 ^ 64 → meets u (get_or (take len (new ++ drop (length new) old)) x 0) ≡ (meets u (get_or reach x 0) || (has head x && bit (suc level) u)))
 entered_is level own len reach old lent new head e eo el n k h =
     let back : take len (new ++ drop (length new) old) ≡ new = put_back_words new old len (n ∙ ap length el) k in
-    let m : length lent ≡ length reach = ap length (el ∙ eo) in
-    (ap length back ∙ n ∙ m,
-    λ x u lt ul. ap (λ s. meets u (get_or s x 0)) back
-    ∙ meets_entered u (get_or reach x 0) (get_or new x 0) level own (has head x) e
-    (h x (omega (arith, m, lt)) ∙ ap (λ s. if has head x then bit_or (get_or s x 0) own else get_or s x 0) (el ∙ eo)))
+    let m : length lent ≡ length reach = ap length (el ∙ eo) in (
+      ap length back ∙ n ∙ m,
+      λ x u lt ul. ap (λ s. meets u (get_or s x 0)) back
+          ∙ meets_entered u (get_or reach x 0) (get_or new x 0) level own (has head x) e
+          (h x (omega (arith, m, lt)) ∙ ap (λ s. if has head x then bit_or (get_or s x 0) own else get_or s x 0) (el ∙ eo)),
+    )
 
 -- the world of no loop alone
 pub meets_first : (w : ℕ) → meets w 1 ≡ bit 0 w

@@ -1,18 +1,17 @@
 -- Words: bits, reads, writes and joins, world by world.
 use Rattle.std.proofs.Common.{◌≡◌, ◌∙◌, ℕ, zero, suc, ◌+◌, ◌-◌, ◌<◌, ◌≤◌, ◌⊎◌, inl, inr, ◌^◌, List, [], ◌∷◌, ◌++◌, length, map, reverse, get_or, set, min, max, Bool, true, false}
-use Rattle.std.proofs.Common.{◌||◌, ◌&&◌, not, refl, sym, ap, arith, subst}
-use Rattle.std.specs.Prelude.{Vec, nat_eq, slice_get}
+use Rattle.std.proofs.Common.{◌||◌, refl, sym, ap, arith, subst}
+use Rattle.std.specs.Prelude.{Vec, nat_eq}
 use Rattle.std.specs.Int.{bit_at}
-use Rattle.std.specs.Int.Bits.{bit_and, bit_or}
+use Rattle.std.specs.Int.Bits.{bit_or}
 use Rattle.std.specs.declared.alloc.Global.{Global}
-use Rattle.std.specs.List.{list_any}
 use Rattle.std.proofs.lemmas.Bool.{cases_eq, cases_lt}
-use Rattle.std.proofs.lemmas.List.{get_or-map, get_or-set_same, get_or-set_other, get_or_past, get_or-reverse, length-set, length-map, length-reverse, map-set}
+use Rattle.std.proofs.lemmas.List.{get_or-map, get_or-set_same, get_or-set_other, get_or_past, get_or-reverse, length-map, length-reverse, map-set}
 use Rattle.std.proofs.lemmas.Nat.Bits.{bit_at-lt, bit_at-zero, bit_at_ones, bit_at_or}
 use Rattle.wa_types.specs.Syntax.{local_get, local_set, unreachable, done, plain}
 use Rattle.wa_types.specs.Liveness.{told_at}
-use Rattle.live_passes.specs.Sets.{has, told_of, told_by, TellsAnywhere, TellsBefore, Joined}
-use Rattle.live_passes.proofs.SetLemmas.{or_turn, or_none, read_here, read_past, write_here, write_past, emptied, Joining, joining_end, joined_nothing, joined_on, told_at_is, told_past}
+use Rattle.live_passes.specs.Sets.{has, told_of, TellsAnywhere}
+use Rattle.live_passes.proofs.SetLemmas.{or_none, read_here, read_past, write_here, write_past, emptied, told_at_is, told_past}
 use Rattle.live_words.specs.Words.{bit, world, told_in, WordsTell, WordsJoined}
 
 -- ---- bits

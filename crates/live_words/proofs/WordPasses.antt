@@ -1,12 +1,13 @@
 -- Bodies and constructs, passed over backwards in all worlds.
-use Rattle.std.proofs.Common.{◌≡◌, ◌∙◌, ℕ, zero, suc, ◌-◌, ◌+◌, ◌<◌, ◌≤◌, ◌⊎◌, inl, inr, List, [], ◌∷◌, ◌++◌, length, map, reverse, take, drop, get_or, set, replicate, Option, Some, None, Bool, true, false}
+use Rattle.std.proofs.Common.{◌≡◌, ◌∙◌, ℕ, suc, ◌-◌, ◌+◌, ◌<◌, ◌≤◌, inl, inr, List, [], ◌∷◌, ◌++◌, length, map, take, drop, get_or, set, replicate, Option, Some, None}
+use Rattle.std.proofs.Common.{Bool, false}
 use Rattle.std.proofs.Common.{◌||◌, refl, sym, ap, arith, subst, length-append}
 use Rattle.std.specs.Prelude.{Vec, nat_eq, if◌then◌else◌}
 use Rattle.std.specs.declared.alloc.Global.{Global}
 use Rattle.std.proofs.lemmas.Bool.{cases_eq, cases_lt, eq-eqb, ne_eqb, lt-ltb, le-ltb}
 use Rattle.std.proofs.lemmas.List.{append-nil, append_assoc, get_or_past, get_or-replicate, length-replicate, reverse-append, take_at}
 use Rattle.std.proofs.Math.Seq.{take-append_seam}
-use Rattle.wa_types.specs.Syntax.{a_block, a_loop, Code, done, plain, nest, branch}
+use Rattle.wa_types.specs.Syntax.{a_block, a_loop, Code, done, nest}
 use Rattle.wa_types.specs.Liveness.{live}
 use Rattle.wa_model.specs.declared.flat.Operand.{Operand}
 use Rattle.wa_model.specs.declared.flat.Stmt.{Stmt}
@@ -16,7 +17,7 @@ use Rattle.wa_model.specs.declared.flat.Stmt.{roll-Stmt, roll-out-Stmt}
 use Rattle.wa_model.specs.Flat.{Stmts, no_more, nests, decides, got, code_of}
 use Rattle.wa_model.specs.FlatView.{stmt_in_front, stmts}
 use Rattle.flat_pieces.proofs.StmtLemmas.{stmts_step, stmts_end}
-use Rattle.live_passes.specs.Sets.{has, told_of, TellsBefore, TellsAnywhere}
+use Rattle.live_passes.specs.Sets.{has, told_of, TellsBefore}
 use Rattle.live_passes.proofs.SetLemmas.{tells_as, tells_none}
 use Rattle.live_passes.proofs.CodeLemmas.{code_end}
 use Rattle.live_passes.proofs.PassLemmas.{tells_before, block_tells, if_tells}
@@ -58,11 +59,13 @@ module _ (r n : ℕ) (v : Vec ℕ Global) (own : OwnLabel r n v) (i : ℕ) (il :
 pub fresh_on : (r : ℕ) (outer : List (Vec Bool Global)) (inner : List (Vec ℕ Global)) (a b : List ℕ) (k : Code) → Fresh r outer inner a → WordsBefore outer inner a b k → Fresh r outer inner b
 fresh_on r outer inner a b k f w i x il lt =
     let q = f i x il lt in
-    let n = world_long i a in let m = world_long 0 a in let nb = (w i il).size in let mb = (w 0 (omega arith)).size in
-    (q.0, elim (cases_lt x (length a)) [
-      | inl l ↦ (w i il).each x (omega (arith, n, l)) ∙ (λ j. live x (q.0 j) (q.1 j) k) ∙ sym ((w 0 (omega arith)).each x (omega (arith, m, l)))
-      | inr g ↦ get_or_past (world i b) x false (omega (arith, n, nb, g)) ∙ sym (get_or_past (world 0 b) x false (omega (arith, m, mb, g)))
-    ])
+    let n = world_long i a in let m = world_long 0 a in let nb = (w i il).size in let mb = (w 0 (omega arith)).size in (
+      q.0,
+      elim (cases_lt x (length a)) [
+        | inl l ↦ (w i il).each x (omega (arith, n, l)) ∙ (λ j. live x (q.0 j) (q.1 j) k) ∙ sym ((w 0 (omega arith)).each x (omega (arith, m, l)))
+        | inr g ↦ get_or_past (world i b) x false (omega (arith, n, nb, g)) ∙ sym (get_or_past (world 0 b) x false (omega (arith, m, mb, g)))
+      ],
+    )
 
 pub fresh_block : (r : ℕ) (outer : List (Vec Bool Global)) (inner inside : List (Vec ℕ Global)) (v : Vec ℕ Global) (a : List ℕ) → v.items ≡ a → inside ≡ inner ++ v ∷ [] → Fresh r outer inner a
     → Fresh r outer inside a
@@ -81,9 +84,11 @@ pub fresh_loop : (r n : ℕ) (outer : List (Vec Bool Global)) (inner inside : Li
 fresh_loop r n outer inner inside v a own ei f =
     subst (λ ts. Fresh (deeper r) outer ts a) (sym ei) (λ i x il lt.
     let up = deeper_above r i il lt in
-    let q = f i x il (omega (arith, up)) in
-    (told_more i outer inner v x ∙ (λ j. (own_other r n v own i il x (λ e. absurd (omega (arith, e, up))) ∙ sym (own_other r n v own 0 (omega arith) x (λ e. absurd (omega (arith, e))))) j ∷ q.0 j)
-    ∙ sym (told_more 0 outer inner v x), q.1))
+    let q = f i x il (omega (arith, up)) in (
+      told_more i outer inner v x ∙ (λ j. (own_other r n v own i il x (λ e. absurd (omega (arith, e, up))) ∙ sym (own_other r n v own 0 (omega arith) x (λ e. absurd (omega (arith, e))))) j ∷ q.0 j)
+          ∙ sym (told_more 0 outer inner v x),
+      q.1,
+    ))
 
 -- ---- bodies
 
@@ -176,7 +181,8 @@ module _ (x : Stmt) (r : ℕ) (outer : List (Vec Bool Global)) (inner : List (Ve
         is = h.is;
         count = let c = h.count in let l = ap loop_total is in omega (arith, c, l);
         tell = λ i y il lt. knows_as i y h.more (heads y i r (told_in i outer inside y) (has (world i a) y) body) (heads y i r (told_in i outer inner y) (has (world i a) y) one)
-            (ap (λ ts. heads y i r ts (has (world i a) y) body) (ap (λ q. told_in i outer q y) ei ∙ told_as i outer inner v a e y) ∙ sym (ap (heads y i r (told_in i outer inner y) (has (world i a) y)) is))
+            (ap (λ ts. heads y i r ts (has (world i a) y) body) (ap (λ q. told_in i outer q y) ei ∙ told_as i outer inner v a e y)
+            ∙ sym (ap (heads y i r (told_in i outer inner y) (has (world i a) y)) is))
             (h.tell i y il lt);
       }
 
@@ -188,14 +194,15 @@ module _ (x : Stmt) (r : ℕ) (outer : List (Vec Bool Global)) (inner : List (Ve
       in_others i il ne y lt =
           let m = world_long i a in
           (h.tells i il).each y (omega (arith, m, lt))
-          ∙ ap (λ ts. live y ts (has (world i a) y) (code_of body)) (ap (λ q. told_in i outer q y) ei ∙ told_more i outer inner v y ∙ ap (λ t. t ∷ told_in i outer inner y) (own_other r (length a) v own i il y ne))
+          ∙ ap (λ ts. live y ts (has (world i a) y) (code_of body)) (ap (λ q. told_in i outer q y) ei ∙ told_more i outer inner v y
+          ∙ ap (λ t. t ∷ told_in i outer inner y) (own_other r (length a) v own i il y ne))
 
       head_each : (i : ℕ) → i < 64 → (y : ℕ) → y < length a → has (world i c) y ≡ live y (false ∷ told_in i outer inner y) (has (world i a) y) (code_of body)
       head_each i il y lt = elim (cases_eq i (suc r)) [
         | inl e ↦
-          let q = f i y il (omega (arith, e)) in
-          leaves i y il ∙ ap (λ t. if t then has (world 0 b) y else has (world i b) y) (eq-eqb i (suc r) e) ∙ in_others 0 (omega arith) (λ z. absurd (omega (arith, z))) y lt
-          ∙ (λ j. live y (false ∷ sym q.0 j) (sym q.1 j) (code_of body))
+            let q = f i y il (omega (arith, e)) in
+            leaves i y il ∙ ap (λ t. if t then has (world 0 b) y else has (world i b) y) (eq-eqb i (suc r) e) ∙ in_others 0 (omega arith) (λ z. absurd (omega (arith, z))) y lt
+            ∙ (λ j. live y (false ∷ sym q.0 j) (sym q.1 j) (code_of body))
         | inr ne ↦ leaves i y il ∙ ap (λ t. if t then has (world 0 b) y else has (world i b) y) (ne_eqb i (suc r) ne) ∙ in_others i il ne y lt
       ]
 
@@ -229,7 +236,8 @@ module _ (x : Stmt) (r : ℕ) (outer : List (Vec Bool Global)) (inner : List (Ve
           more = None ∷ g.more;
           is = g.is ∙ append_assoc old (None ∷ []) g.more;
           count = loop_counted None;
-          tell = λ i y il lt. knows_as i y (None ∷ g.more) (heads y i r (told_in i outer inner y) (has (world i a) y) (nests a_loop body no_more)) (heads y i r (told_in i outer inner y) (has (world i a) y) one)
+          tell = λ i y il lt. knows_as i y (None ∷ g.more) (heads y i r (told_in i outer inner y) (has (world i a) y) (nests a_loop body no_more))
+              (heads y i r (told_in i outer inner y) (has (world i a) y) one)
               (sym (ap (heads y i r (told_in i outer inner y) (has (world i a) y)) is)) (inside_known i y il lt);
         }
 

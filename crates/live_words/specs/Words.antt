@@ -1,5 +1,5 @@
 -- Sets of locals in 64 worlds at once: a word for each local, a bit of it for each world.
-use Rattle.std.specs.Prelude.{◌≡◌, ◌<◌, ◌++◌, ◌||◌, ℕ, List, length, map, reverse, Bool, not, Vec, nat_eq}
+use Rattle.std.specs.Prelude.{◌≡◌, ◌<◌, ◌++◌, ℕ, List, map, reverse, Bool, not, Vec, nat_eq}
 use Rattle.std.specs.Int.{bit_at}
 use Rattle.std.specs.Int.Bits.{bit_and}
 use Rattle.std.specs.declared.alloc.Global.{Global}

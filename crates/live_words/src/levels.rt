@@ -44,7 +44,11 @@ pub(crate) fn label_told(alloc: Global, count: usize, level: u32) -> Result<Vec<
 fn left(word: u64, own: u64) -> u64
     ensures { (i : ℕ) → i < 64 → bit i result ≡ (if bit i own then bit 0 word else bit i word) }
 {
-    if word & 1 == 0 { word & !own } else { word | own }
+    if word & 1 == 0 {
+        word & !own
+    } else {
+        word | own
+    }
 }
 
 /// In front of a loop its own world tells what world 0 tells.
@@ -87,13 +91,16 @@ pub fn met(set: &mut [bool], words: &[u64], reach: &[u64])
 }
 
 /// The worlds that hold of each local inside a loop at this level: that of the loop too where `head` has the local.
-pub fn entered(alloc: Global, reach: &[u64], head: &[bool], level: u32) -> Result<Vec<u64>, AllocError>
+pub fn entered(
+    alloc: Global,
+    reach: &[u64],
+    head: &[bool],
+    level: u32,
+) -> Result<Vec<u64>, AllocError>
     requires level { level < 63 }
     requires head { length head.now ≡ length reach.now }
-    ensures {
-        IfOk result (λ v. (length v.items ≡ length reach.now)
-        × ((x u : ℕ) → x < length reach.now → u < 2 ^ 64 → meets u (get_or v.items x 0) ≡ (meets u (get_or reach.now x 0) || (has head.now x && bit (suc level) u))))
-    }
+    ensures { IfOk result (λ v. (length v.items ≡ length reach.now)
+        × ((x u : ℕ) → x < length reach.now → u < 2 ^ 64 → meets u (get_or v.items x 0) ≡ (meets u (get_or reach.now x 0) || (has head.now x && bit (suc level) u)))) }
 {
     let own = own_bit(level);
     let mut worlds = Vec::from_slice(alloc, reach)?;

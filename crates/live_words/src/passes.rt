@@ -38,7 +38,17 @@ fn pass_body(
     let mut left = body.len();
     while left > 0 {
         left -= 1;
-        pass_stmt(alloc, outer, inner, level, sizes, around, heads, set, &body[left])?;
+        pass_stmt(
+            alloc,
+            outer,
+            inner,
+            level,
+            sizes,
+            around,
+            heads,
+            set,
+            &body[left],
+        )?;
     }
     Ok(())
 }
@@ -73,7 +83,17 @@ pub fn pass_stmt(
             let size = size_at(sizes, at);
             heads.push(None)?;
             inner.push(label_told(alloc, set.len(), level)?)?;
-            pass_body(alloc, outer, inner, inside(level), sizes, size, heads, set, body)?;
+            pass_body(
+                alloc,
+                outer,
+                inner,
+                inside(level),
+                sizes,
+                size,
+                heads,
+                set,
+                body,
+            )?;
             inner.pop();
             leave(set, level);
             if is_kept(level, size, around) {
@@ -88,8 +108,12 @@ pub fn pass_stmt(
         } => {
             let mut other = copied(alloc, set)?;
             inner.push(copied(alloc, set)?)?;
-            pass_body(alloc, outer, inner, level, sizes, around, heads, set, else_arm)?;
-            pass_body(alloc, outer, inner, level, sizes, around, heads, &mut other, then_arm)?;
+            pass_body(
+                alloc, outer, inner, level, sizes, around, heads, set, else_arm,
+            )?;
+            pass_body(
+                alloc, outer, inner, level, sizes, around, heads, &mut other, then_arm,
+            )?;
             inner.pop();
             join(set, &other);
             read_operand(set, *cond);

@@ -53,7 +53,14 @@ fn pass_br_if(outer: &[Vec<bool>], inner: &[Vec<u64>], set: &mut [u64], cond: Op
 }
 
 /// A branch to one of several labels.
-fn pass_br_table(outer: &[Vec<bool>], inner: &[Vec<u64>], set: &mut [u64], index: Operand, labels: &[u32], last: u32)
+fn pass_br_table(
+    outer: &[Vec<bool>],
+    inner: &[Vec<u64>],
+    set: &mut [u64],
+    index: Operand,
+    labels: &[u32],
+    last: u32,
+)
     ensures { WordsBefore outer.now inner.now set.old set.new (got index (plain (br_table labels.now last) done)) }
 {
     empty(set);

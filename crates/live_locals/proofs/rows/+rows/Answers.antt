@@ -1,4 +1,4 @@
-use Rattle.std.proofs.Common.{rules, arith, [], suc, drop, ◌-◌, ◌∷◌, ◌++◌, ap, length, refl, reverse, subst, sym, ◌∙◌}
+use Rattle.std.proofs.Common.{rules, arith, [], drop, ◌∷◌, ◌++◌, ap, length, refl, reverse, subst, sym, ◌∙◌}
 use Rattle.wa_types.specs.Syntax.{a_block, a_loop}
 use Rattle.wa_model.specs.Flat.{no_more, nests, decides, code_of}
 use Rattle.wa_model.specs.FlatView.{stmt_in_front, stmts}
@@ -29,11 +29,11 @@ put_body_rows-put_stmt_rows-requires t c = (
   search (rules, the_lemmas),
   (
     countable_before c.args.numbers.now c.args.tos.now.items c.args.set.now c.args.body.now c.loop-left.left c.index-body-left.result c.args.last c.loop-left.first c.args.rows.now.items
-      c.loop-left.rows.items
-      (omega (arith, c.loop-left-test.true)) c.loop-left.invariant.0 c.index-body-left.is c.requires.calls c.loop-left.invariant.2,
+        c.loop-left.rows.items
+        (omega (arith, c.loop-left-test.true)) c.loop-left.invariant.0 c.index-body-left.is c.requires.calls c.loop-left.invariant.2,
     nest_stmt c.args.level c.args.reach.now c.args.tos.now.items c.loop-left.tos.items c.args.set.now c.loop-left.set c.args.body.now c.loop-left.left c.index-body-left.result
         (omega (arith, c.loop-left-test.true)) c.loop-left.invariant.0 c.index-body-left.is c.loop-left.invariant.1 (reverse c.args.heads.now.items) (reverse c.loop-left.heads.items)
-        c.loop-left.invariant.3 c.requires.nest
+        c.loop-left.invariant.3 c.requires.nest,
   ),
 )
 
@@ -70,7 +70,8 @@ put_stmt_rows-put_body_rows-requires t c = (
         (block_is c.args.stmt.now c.in-Block.body c.in-Block.is no_more ∙ ap (λ xs. nests a_block (stmts xs) no_more) (sym c.deref-in-Block.ensures.value)) c.requires.calls,
     nest_block c.args.level c.args.reach.now c.args.stmt.now c.args.tos.now.items c.in_ok-copied-in-Block.field-0 c.push.new.self.items c.args.set.now c.in_ok-copied-in-Block.ensures
         c.in_ok-push-in-Block.ensures.items (stmts c.deref-in-Block.result.now)
-        (block_is c.args.stmt.now c.in-Block.body c.in-Block.is no_more ∙ ap (λ xs. nests a_block (stmts xs) no_more) (sym c.deref-in-Block.ensures.value)) (reverse c.args.heads.now.items) c.requires.nest
+        (block_is c.args.stmt.now c.in-Block.body c.in-Block.is no_more ∙ ap (λ xs. nests a_block (stmts xs) no_more) (sym c.deref-in-Block.ensures.value))
+        (reverse c.args.heads.now.items) c.requires.nest,
   ),
 )
 
@@ -93,7 +94,7 @@ put_stmt_rows-put_body_rows-requires-in-Loop t c = (
         (nest_as c.in_ok-inside-in-Loop.inside.level c.in_ok-inside-in-Loop.inside.reach.items c.deref-in-Loop-2.result.now (c.args.tos.now.items ++ c.in_ok-head-in-Loop.head ∷ [])
         c.push-in-Loop.new.self.items c.args.set.now c.deref_mut.result.now (reverse c.enter_loop.new.heads.items) (stmts c.deref-in-Loop.result.now) c.deref-in-Loop-2.ensures.value
         (c.in_ok-push-in-Loop.ensures.items ∙ ap (λ ts. ts ++ c.in_ok-head-in-Loop.head ∷ []) c.in_ok-inside-in-Loop.ensures.passed.labels) (c.deref_mut.ensures.value ∙ c.in_ok-inner-in-Loop.ensures)
-        (c.in_ok-inside-in-Loop.ensures.inside c.in_ok-head-in-Loop.head c.in_ok-head-in-Loop.ensures))
+        (c.in_ok-inside-in-Loop.ensures.inside c.in_ok-head-in-Loop.head c.in_ok-head-in-Loop.ensures)),
   ),
 )
 
@@ -107,7 +108,7 @@ put_stmt_rows-put_body_rows-requires-in-If t c = (
     nest_else c.args.level c.args.reach.now c.args.stmt.now c.args.tos.now.items c.in_ok-copied-in-If.field-0 c.push-in-If.new.self.items c.args.set.now c.in_ok-copied-in-If.ensures
         c.in_ok-push-in-If.ensures.items c.in-If.cond (stmts c.in-If.then_arm.items) (stmts c.deref-in-If.result.now)
         (if_is c.args.stmt.now c.in-If.cond c.in-If.then_arm c.in-If.else_arm c.in-If.is no_more
-        ∙ ap (λ xs. decides c.in-If.cond (stmts c.in-If.then_arm.items) (stmts xs) no_more) (sym c.deref-in-If.ensures.value)) (reverse c.args.heads.now.items) c.requires.nest
+        ∙ ap (λ xs. decides c.in-If.cond (stmts c.in-If.then_arm.items) (stmts xs) no_more) (sym c.deref-in-If.ensures.value)) (reverse c.args.heads.now.items) c.requires.nest,
   ),
 )
 
@@ -117,12 +118,13 @@ put_stmt_rows-put_body_rows-requires-in-If-2 t c = (
   (
     then_countable c.args.numbers.now c.args.stmt.now c.args.tos.now.items c.in-If.cond (stmts c.deref-in-If-2.result.now) (stmts c.deref-in-If.result.now) c.args.last c.in_ok-middle-in-If.middle
         (if_is c.args.stmt.now c.in-If.cond c.in-If.then_arm c.in-If.else_arm c.in-If.is no_more
-    ∙ (λ j. decides c.in-If.cond (stmts (sym c.deref-in-If-2.ensures.value j)) (stmts (sym c.deref-in-If.ensures.value j)) no_more)) c.in_ok-middle-in-If.ensures.rows.places c.requires.calls,
+        ∙ (λ j. decides c.in-If.cond (stmts (sym c.deref-in-If-2.ensures.value j)) (stmts (sym c.deref-in-If.ensures.value j)) no_more)) c.in_ok-middle-in-If.ensures.rows.places c.requires.calls,
     nest_then c.args.level c.args.reach.now c.args.stmt.now c.args.tos.now.items c.in_ok-copied-in-If.field-0 c.push-in-If.new.self.items c.args.set.now c.in_ok-copied-in-If.ensures
         c.in_ok-push-in-If.ensures.items c.in-If.cond (stmts c.deref-in-If-2.result.now) (stmts c.deref-in-If.result.now)
         (if_is c.args.stmt.now c.in-If.cond c.in-If.then_arm c.in-If.else_arm c.in-If.is no_more
-    ∙ (λ j. decides c.in-If.cond (stmts (sym c.deref-in-If-2.ensures.value j)) (stmts (sym c.deref-in-If.ensures.value j)) no_more)) (reverse c.args.heads.now.items) c.requires.nest c.put_body_rows-in-If.new.tos.items c.deref_mut-in-If.result.now (reverse c.put_body_rows-in-If.new.heads.items)
-        c.in_ok-middle-in-If.ensures.passed.labels (c.deref_mut-in-If.ensures.value ∙ c.in_ok-other-in-If.ensures) c.in_ok-middle-in-If.ensures.heads
+        ∙ (λ j. decides c.in-If.cond (stmts (sym c.deref-in-If-2.ensures.value j)) (stmts (sym c.deref-in-If.ensures.value j)) no_more))
+        (reverse c.args.heads.now.items) c.requires.nest c.put_body_rows-in-If.new.tos.items c.deref_mut-in-If.result.now (reverse c.put_body_rows-in-If.new.heads.items)
+        c.in_ok-middle-in-If.ensures.passed.labels (c.deref_mut-in-If.ensures.value ∙ c.in_ok-other-in-If.ensures) c.in_ok-middle-in-If.ensures.heads,
   ),
 )
 
@@ -177,7 +179,8 @@ put_stmt_rows-returns-in_ok-first-in-Loop-clause-rows t c = loop_rows c.args.num
     (stmts c.deref-in-Loop-3.result.now) c.in_ok-head-in-Loop.head c.push-in-Loop.new.self.items
     c.args.set.now c.deref_mut.result.now c.enter_loop.new.set c.args.last c.in_ok-first-in-Loop.first c.args.rows.now.items c.put_body_rows-in-Loop.new.rows.items
     (loop_is c.args.stmt.now c.in-Loop.body c.in-Loop.is no_more ∙ ap (λ xs. nests a_loop (stmts xs) no_more) (sym c.deref-in-Loop-3.ensures.value))
-    c.in_ok-head-in-Loop.ensures (c.in_ok-push-in-Loop.ensures.items ∙ ap (λ ts. ts ++ c.in_ok-head-in-Loop.head ∷ []) c.in_ok-inside-in-Loop.ensures.passed.labels) (c.deref_mut.ensures.value ∙ c.in_ok-inner-in-Loop.ensures)
+    c.in_ok-head-in-Loop.ensures (c.in_ok-push-in-Loop.ensures.items ∙ ap (λ ts. ts ++ c.in_ok-head-in-Loop.head ∷ []) c.in_ok-inside-in-Loop.ensures.passed.labels)
+    (c.deref_mut.ensures.value ∙ c.in_ok-inner-in-Loop.ensures)
     (subst (λ s. TellsBefore (told_by c.args.tos.now.items) c.args.set.now c.enter_loop.new.set (code_of s))
     (sym (loop_is c.args.stmt.now c.in-Loop.body c.in-Loop.is no_more ∙ ap (λ xs. nests a_loop (stmts xs) no_more) (sym c.deref-in-Loop.ensures.value)))
     c.in_ok-inside-in-Loop.ensures.passed.tells) c.in_ok-first-in-Loop.ensures.rows

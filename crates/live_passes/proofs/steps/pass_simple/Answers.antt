@@ -14,7 +14,8 @@ returns-in-Plain c = plain_arm (told_by c.args.tos.now) c.args.stmt.now c.in-Pla
     c.read_operands.new.set c.in-Plain.is c.deref.ensures.value c.write_told.ensures c.pass_op.ensures c.read_operands.ensures
 
 pub returns-in-Move : goal.returns-in-Move
-returns-in-Move c = move_arm (told_by c.args.tos.now) c.args.stmt.now c.in-Move.to c.in-Move.from c.args.set.now c.write.new.set c.read_operand.new.set c.in-Move.is c.write.ensures c.read_operand.ensures
+returns-in-Move c = move_arm (told_by c.args.tos.now) c.args.stmt.now c.in-Move.to c.in-Move.from c.args.set.now c.write.new.set c.read_operand.new.set c.in-Move.is c.write.ensures
+    c.read_operand.ensures
 
 pub returns-in-Call : goal.returns-in-Call
 returns-in-Call c = call_arm (told_by c.args.tos.now) c.args.stmt.now c.in-Call.op c.in-Call.stack c.in-Call.args c.in-Call.to c.deref-in-Call.result.now c.args.set.now c.write_told-in-Call.new.set

@@ -10,4 +10,5 @@ loop-word-preserved c = leaving_more c.args.set.now c.own_word-own.result c.loop
     (omega (arith, c.loop-word-test.true, c.loop-word.auto.set)) c.left.ensures
 
 pub returns : goal.returns
-returns c = leaving_end c.args.set.now c.own_word-own.result c.loop-word.set c.loop-word.word-index c.args.level c.loop-word.invariant c.loop-word.auto.set c.loop-word-test.false c.own_word-own.ensures
+returns c = leaving_end c.args.set.now c.own_word-own.result c.loop-word.set c.loop-word.word-index c.args.level c.loop-word.invariant c.loop-word.auto.set c.loop-word-test.false
+    c.own_word-own.ensures

@@ -8,7 +8,7 @@ use Rattle.live_passes.proofs.CodeLemmas.{ops_at}
 use Rattle.live_passes.proofs.PassLemmas.{nest_ops, then_ops, else_ops, holds_none}
 use Rattle.live_words.specs.Words.{WordsBefore}
 use Rattle.live_words.specs.Heads.{Fresh, deeper}
-use Rattle.live_words.proofs.WordPasses.{words_first, words_before, fresh_before, heads_before, heads_first, fresh_block, fresh_loop, fresh_on, words_block, heads_block, words_loop, heads_loop_left}
+use Rattle.live_words.proofs.WordPasses.{words_first, words_before, fresh_before, heads_before, heads_first, fresh_block, fresh_loop, words_block, heads_block, words_loop, heads_loop_left}
 use Rattle.live_words.proofs.WordPasses.{heads_loop_kept, words_if, heads_if, heads_none, no_loops, own_of, put_as, words_size, put_back_words}
 use Rattle.live_words.proofs.passes.+pass.Goals as goal
 
@@ -25,7 +25,7 @@ pass_body-pass_stmt-requires t c = (
   (
     ops_at c.args.body.now (c.loop-left.left - 1) c.index-body-left.result (omega (arith, c.loop-left-test.true, c.loop-left.invariant.0)) c.index-body-left.is c.requires.ops,
     fresh_before c.args.outer.now c.args.inner.now.items c.loop-left.inner.items [] c.args.set.now c.loop-left.set [] c.args.body.now c.loop-left.left c.index-body-left.result
-        (omega (arith, c.loop-left-test.true)) c.loop-left.invariant.0 c.index-body-left.is c.loop-left.invariant.1 c.args.level c.requires.fresh
+        (omega (arith, c.loop-left-test.true)) c.loop-left.invariant.0 c.index-body-left.is c.loop-left.invariant.1 c.args.level c.requires.fresh,
   ),
 )
 
@@ -48,7 +48,7 @@ pass_stmt-pass_body-requires t c = (
     nest_ops c.args.stmt.now [] a_block (stmts c.deref.result.now)
         (block_is c.args.stmt.now c.in-Block.body c.in-Block.is no_more ∙ ap (λ xs. nests a_block (stmts xs) no_more) (sym c.deref.ensures.value)) c.requires.ops,
     fresh_block c.args.level c.args.outer.now c.args.inner.now.items c.push.new.self.items c.in_ok-copied-in-Block.field-0 c.args.set.now c.in_ok-copied-in-Block.ensures
-        c.in_ok-push-in-Block.ensures.items c.requires.fresh
+        c.in_ok-push-in-Block.ensures.items c.requires.fresh,
   ),
 )
 
@@ -60,7 +60,8 @@ pass_stmt-pass_body-requires-in-Loop t c = (
         (loop_is c.args.stmt.now c.in-Loop.body c.in-Loop.is no_more ∙ ap (λ xs. nests a_loop (stmts xs) no_more) (sym c.deref-in-Loop.ensures.value)) c.requires.ops,
     subst (λ l. Fresh l c.args.outer.now c.push-in-Loop-2.new.self.items c.args.set.now) (sym c.inside.ensures)
         (fresh_loop c.args.level (length c.args.set.now) c.args.outer.now c.args.inner.now.items c.push-in-Loop-2.new.self.items c.in_ok-label_told-in-Loop.field-0 c.args.set.now
-        (own_of c.args.level (length c.args.set.now) (length c.args.set.now) c.in_ok-label_told-in-Loop.field-0 refl c.in_ok-label_told-in-Loop.ensures) c.in_ok-push-in-Loop-2.ensures.items c.requires.fresh)
+        (own_of c.args.level (length c.args.set.now) (length c.args.set.now) c.in_ok-label_told-in-Loop.field-0 refl c.in_ok-label_told-in-Loop.ensures) c.in_ok-push-in-Loop-2.ensures.items
+        c.requires.fresh),
   ),
 )
 
@@ -72,7 +73,7 @@ pass_stmt-pass_body-requires-in-If t c = (
         (if_is c.args.stmt.now c.in-If.cond c.in-If.then_arm c.in-If.else_arm c.in-If.is no_more
         ∙ ap (λ xs. decides c.in-If.cond (stmts c.in-If.then_arm.items) (stmts xs) no_more) (sym c.deref-in-If.ensures.value)) c.requires.ops,
     fresh_block c.args.level c.args.outer.now c.args.inner.now.items c.push-in-If.new.self.items c.in_ok-copied-in-If.field-0 c.args.set.now c.in_ok-copied-in-If.ensures
-        c.in_ok-push-in-If.ensures.items c.requires.fresh
+        c.in_ok-push-in-If.ensures.items c.requires.fresh,
   ),
 )
 
@@ -86,7 +87,7 @@ pass_stmt-pass_body-requires-in-If-2 t c = (
     subst (λ u. Fresh c.args.level c.args.outer.now c.pass_body-in-If.new.inner.items u) (sym (c.deref_mut.ensures.value ∙ c.in_ok-other-in-If.ensures))
         (subst (λ ts. Fresh c.args.level c.args.outer.now ts c.args.set.now) (sym c.in_ok-pass_body-in-If.ensures.passed.labels)
         (fresh_block c.args.level c.args.outer.now c.args.inner.now.items c.push-in-If.new.self.items c.in_ok-copied-in-If.field-0 c.args.set.now c.in_ok-copied-in-If.ensures
-        c.in_ok-push-in-If.ensures.items c.requires.fresh))
+        c.in_ok-push-in-If.ensures.items c.requires.fresh)),
   ),
 )
 
@@ -150,7 +151,8 @@ pass_stmt-returns-in_ok-pass_body-in-If-2-clause-passed t c = words_if c.args.st
     c.in_ok-copied-in-If.ensures (c.deref_mut.ensures.value ∙ c.in_ok-other-in-If.ensures) c.in_ok-push-in-If.ensures.items c.in_ok-pass_body-in-If.ensures.passed.labels
     c.pass_body-in-If-2.new.inner c.pop-in-If.new.self.items c.pass_body-in-If-2.new.set c.deref-in-If-3.result.now c.pass_body-in-If.new.set c.join.new.set c.read_operand.new.set
     (c.deref-in-If-3.ensures.value ∙ put_back_words c.pass_body-in-If-2.new.set c.in_ok-other-in-If.other.items c.in_ok-other-in-If.other.len
-    (words_size c.args.outer.now c.pass_body-in-If.new.inner.items c.deref_mut.result.now c.pass_body-in-If-2.new.set (code_of (stmts c.deref-in-If-2.result.now)) c.in_ok-pass_body-in-If-2.ensures.passed.tells
+    (words_size c.args.outer.now c.pass_body-in-If.new.inner.items c.deref_mut.result.now c.pass_body-in-If-2.new.set
+    (code_of (stmts c.deref-in-If-2.result.now)) c.in_ok-pass_body-in-If-2.ensures.passed.tells
     ∙ ap length c.deref_mut.ensures.value) (sym c.in_ok-other-in-If.other.ok.0))
     c.in_ok-pass_body-in-If.ensures.passed c.in_ok-pass_body-in-If-2.ensures.passed c.pop-in-If.ensures.rest c.join.auto.set c.join.ensures c.read_operand.ensures
 
@@ -164,7 +166,11 @@ pass_stmt-returns-in_ok-pass_body-in-If-2-clause-heads t c = heads_if c.args.stm
 
 pub pass_stmt-returns-in_default : goal.pass_stmt-returns-in_default
 pass_stmt-returns-in_default t c = record {
-  passed = record { labels = refl; tells = subst (λ ts. WordsBefore c.args.outer.now ts c.args.set.now c.pass_simple.new.set (code_of (stmt_in_front c.args.stmt.now no_more))) c.deref-in_default.ensures.value c.pass_simple.ensures };
+  passed = record {
+    labels = refl;
+    tells = subst (λ ts. WordsBefore c.args.outer.now ts c.args.set.now c.pass_simple.new.set (code_of (stmt_in_front c.args.stmt.now no_more)))
+        c.deref-in_default.ensures.value c.pass_simple.ensures;
+  };
   heads = heads_none c.args.level c.args.outer.now c.args.inner.now.items c.args.set.now (stmt_in_front c.args.stmt.now no_more) c.args.heads.now.items
       (no_loops c.args.stmt.now c.in_default.not-Block c.in_default.not-Loop c.in_default.not-If);
 }
