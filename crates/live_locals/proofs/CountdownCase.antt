@@ -1,5 +1,5 @@
 -- What the call of a countdown loop keeps.
-use Rattle.std.proofs.Common.{◌≡◌, ◌∙◌, ℕ, ◌<◌, List, [], ◌∷◌, get_or, Bool, true, false, refl, sym, ap, arith, subst}
+use Rattle.std.proofs.Common.{◌≡◌, ◌∙◌, ℕ, ◌<◌, [], ◌∷◌, get_or, Bool, true, false, refl, sym, ap, arith, subst}
 use Rattle.std.specs.Prelude.{length}
 use Rattle.wa_types.specs.Liveness.{live}
 use Rattle.wa_model.specs.Flat.{code_of, followed_by, result_got}

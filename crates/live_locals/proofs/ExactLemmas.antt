@@ -1,15 +1,13 @@
 -- What is kept at calls, told exactly.
-use Rattle.std.proofs.Common.{◌≡◌, ◌∙◌, ℕ, zero, suc, ◌-◌, ◌+◌, ◌<◌, ◌≤◌, ◌↔◌, ◌⊎◌, inl, inr, List, [], ◌∷◌, ◌++◌, length, map, reverse, drop, get_or, Option, Some, None, Bool, true, false}
-use Rattle.std.proofs.Common.{◌||◌, All, refl, sym, ap, arith, subst, length-append}
+use Rattle.std.proofs.Common.{◌≡◌, ◌∙◌, ℕ, zero, suc, ◌-◌, ◌+◌, ◌<◌, ◌≤◌, ◌↔◌, ◌⊎◌, inl, inr, List, [], ◌∷◌, ◌++◌, length, map, get_or, Option, Some, None, Bool, true, false}
+use Rattle.std.proofs.Common.{◌||◌, All, refl, sym, ap, arith, subst}
 use Rattle.std.specs.Prelude.{Vec, if◌then◌else◌, nat_eq, slice_get}
 use Rattle.std.specs.List.{list_any}
 use Rattle.std.specs.declared.alloc.Global.{Global}
-use Rattle.std.proofs.lemmas.Bool.{cases_eq, cases_lt, eqb-true, eq-eqb, ne_eqb}
-use Rattle.std.proofs.lemmas.List.{append-nil, append_assoc, length-map}
-use Rattle.std.proofs.lemmas.Option.{slice_get_within}
-use Rattle.wa_types.specs.Syntax.{Plain, basic, local_get, local_set, local_tee, br_if, br_table, call, call_indirect, Shape, a_block, a_loop, Code, done, plain, nest, branch}
-use Rattle.wa_types.specs.Pausing.{Callee, callee}
-use Rattle.wa_types.specs.Liveness.{Label, goes_behind, goes_again, Position, position, label_of, ReadsFirst, if_call_here, behind_calls, live, told, live_at}
+use Rattle.std.proofs.lemmas.Bool.{cases_eq, eqb-true, eq-eqb, ne_eqb}
+use Rattle.std.proofs.lemmas.List.{append-nil}
+use Rattle.wa_types.specs.Syntax.{basic, local_get, local_set, local_tee, br_if, br_table, call, call_indirect, a_block, a_loop, Code, done, plain, branch}
+use Rattle.wa_types.specs.Liveness.{Label, goes_behind, goes_again, Position, position, behind_calls, live, told, live_at}
 use Rattle.wa_types.proofs.LiveLemmas.{live_reads, reads_live}
 use Rattle.wa_model.specs.declared.flat.Operand.{Operand}
 use Rattle.wa_model.specs.declared.flat.Operand.TheVariants.{Local, Const}
@@ -17,14 +15,13 @@ use Rattle.wa_model.specs.Flat.{Stmts, no_more, computes, copies, calls, leaps, 
 use Rattle.wa_model.specs.Flat.{code_of, result_got, body_of}
 use Rattle.wa_model.specs.FlatFits.{IsCallCode}
 use Rattle.guard_form.specs.Grouping.{is_place}
-use Rattle.guard_form.specs.Pieces.{call_total}
 use Rattle.flat_laws.specs.FlatModule.{stacks_in}
 use Rattle.flat_rules.specs.Behind.{Among}
 use Rattle.flow_rewrite.specs.Emitting.{Rises}
 use Rattle.live_passes.specs.Ops.{IsComputation, OpsFit}
 use Rattle.live_passes.specs.Sets.{has}
-use Rattle.live_locals.specs.Rows.{label_tells, kept, chosen, column}
-use Rattle.live_locals.specs.LiveAt.{lists_of, OnStack, ReadBehind, KeepsAt}
+use Rattle.live_locals.specs.Rows.{kept, chosen, column}
+use Rattle.live_locals.specs.LiveAt.{lists_of, KeepsAt}
 use Rattle.live_passes.proofs.CodeLemmas.{live_slots}
 
 -- ---- places that rise

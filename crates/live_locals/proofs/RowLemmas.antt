@@ -1,27 +1,26 @@
 -- The sets of numbered calls, statement by statement.
-use Rattle.std.proofs.Common.{◌≡◌, ◌∙◌, ℕ, zero, suc, ◌-◌, ◌+◌, ◌<◌, ◌≤◌, List, [], ◌∷◌, ◌++◌, length, map, reverse, drop, get_or, Option, Some, None, Bool, true, false, All, refl, sym, ap}
+use Rattle.std.proofs.Common.{◌≡◌, ◌∙◌, ℕ, zero, suc, ◌-◌, ◌+◌, ◌<◌, ◌≤◌, List, [], ◌∷◌, ◌++◌, length, reverse, drop, get_or, Option, Bool, true, false, All, refl, sym, ap}
 use Rattle.std.proofs.Common.{arith, subst, length-append}
 use Rattle.std.specs.Prelude.{Vec, if◌then◌else◌}
 use Rattle.std.specs.declared.alloc.Global.{Global}
 use Rattle.std.proofs.lemmas.List.{append-nil, append_assoc, map-append, reverse-append}
 use Rattle.std.proofs.lemmas.List.Elements.{All-append, All-cons, All-nil}
 use Rattle.wa_types.specs.declared.instrs.Instr.{Instr}
-use Rattle.wa_types.specs.Syntax.{a_block, a_loop, Code, done, plain, nest, branch}
-use Rattle.wa_types.specs.View.{in_front}
+use Rattle.wa_types.specs.Syntax.{a_block, a_loop, done}
 use Rattle.wa_types.specs.Liveness.{live}
 use Rattle.wa_model.specs.declared.flat.Operand.{Operand}
 use Rattle.wa_model.specs.declared.flat.Stmt.{Stmt}
 use Rattle.wa_model.specs.declared.flat.Stmt.TheVariants.{Plain as PlainStmt, Move, Call as CallStmt, Br as BrStmt, BrIf as BrIfStmt, BrTable as BrTableStmt, Block, Loop, If}
 use Rattle.wa_model.specs.declared.flat.Stmt.TheVariants.{Unreachable as UnreachableStmt, Block', Loop', If', rolls-Block, rolls-Loop, rolls-If, outs-Block', outs-Loop', outs-If'}
 use Rattle.wa_model.specs.declared.flat.Stmt.{roll-Stmt, roll-out-Stmt}
-use Rattle.wa_model.specs.Flat.{Stmts, no_more, computes, copies, calls, leaps, leaps_if, leaps_by, nests, decides, halts, followed_by, set_to, slots_got, code_of}
+use Rattle.wa_model.specs.Flat.{Stmts, no_more, computes, copies, calls, leaps, leaps_if, leaps_by, nests, decides, halts, set_to, slots_got, code_of}
 use Rattle.wa_model.specs.FlatView.{stmt_in_front, stmts}
 use Rattle.guard_form.specs.Grouping.{is_place}
 use Rattle.guard_form.specs.Pieces.{call_total}
 use Rattle.flat_pieces.specs.Statements.{with_rest}
 use Rattle.flat_pieces.proofs.StmtLemmas.{in_front_is, stmts_step, stmts_end, total_with, call_is}
 use Rattle.live_passes.specs.Ops.{OpsFit}
-use Rattle.live_passes.specs.Sets.{has, told_of, TellsBefore, TellsAnywhere, Passed}
+use Rattle.live_passes.specs.Sets.{has, told_of, told_by, TellsBefore, TellsAnywhere, Passed}
 use Rattle.live_locals.specs.Rows.{label_tells, kept, chosen, numbered_from, column, Countable, RowPut, RowsPut}
 use Rattle.live_passes.proofs.SetLemmas.{live_followed, told_more}
 use Rattle.live_passes.proofs.CodeLemmas.{slots_then, slots_set, ops_at}
@@ -243,14 +242,14 @@ module _ (ns : List ℕ) where
   call_rows tos x op stack args to xs a b last old new e ex w room f =
       let is = call_is x op stack args to e no_more in
       let t : call_total (stmt_in_front x no_more) ≡ 1 = ap call_total is in
-      let n = (w tos).size in record {
+      let n = (w (told_by tos)).size in record {
         places = omega (arith, t, room);
         sizes = λ h. as_long new (length b) (length a) n (f.sizes (as_long old (length a) (length b) (sym n) h));
         count = f.count ∙ ap (λ m. length old + numbered_from ns (last - 1) m) (sym t);
         columns = λ y lt.
             let ts = told_of y tos in
             let same : live y ts (has b y) (slots_got xs done) ≡ live y ts (has a y) (slots_got stack.items (set_to to done)) =
-            ap (λ ys. live y ts (has b y) (slots_got ys done)) ex ∙ ap (λ o. live y ts o (slots_got stack.items done)) ((w tos).each y lt)
+            ap (λ ys. live y ts (has b y) (slots_got ys done)) ex ∙ ap (λ o. live y ts o (slots_got stack.items done)) ((w (told_by tos)).each y lt)
             ∙ sym (live_followed y ts (has a y) (slots_got stack.items done) (set_to to done)) ∙ ap (live y ts (has a y)) (sym (slots_then stack.items (set_to to done))) in
             f.columns tos y (omega (arith, n, lt)) ∙ ap (λ c. column y old ++ (if is_place ns (last - 1) then c ∷ [] else [])) same
             ∙ ap (λ z. column y old ++ z) (one_or_none (is_place ns (last - 1)) (live y ts (has a y) (slots_got stack.items (set_to to done))))
@@ -266,10 +265,10 @@ module _ (ns : List ℕ) where
       → new ≡ old ++ v ∷ [] → RowPut b set stack old new
   row_put set row stack v old new b e ev h n =
       let P : Vec Bool Global → Type 0 = λ (r : Vec Bool Global). length r.items ≡ length set in record {
-        sizes = λ g. subst (All P) (sym n) (All-append P old (v ∷ []) g (All-cons P v [] (ap length ev ∙ (h []).size) (All-nil P)));
+        sizes = λ g. subst (All P) (sym n) (All-append P old (v ∷ []) g (All-cons P v [] (ap length ev ∙ (h (λ z. [])).size) (All-nil P)));
         count = ap length n ∙ length-append old (v ∷ []) ∙ ap (λ c. length old + (if c then 1 else 0)) (sym e);
         columns = λ tos x lt.
-            ap (column x) n ∙ map-append (λ (r : Vec Bool Global). has r.items x) old (v ∷ []) ∙ ap (λ c. column x old ++ c ∷ []) (ap (λ s. has s x) ev ∙ (h tos).each x lt)
+            ap (column x) n ∙ map-append (λ (r : Vec Bool Global). has r.items x) old (v ∷ []) ∙ ap (λ c. column x old ++ c ∷ []) (ap (λ s. has s x) ev ∙ (h (told_by tos)).each x lt)
             ∙ ap (λ c. column x old ++ (if c then live x (told_of x tos) (has set x) (slots_got stack done) ∷ [] else [])) (sym e);
       }
 
@@ -296,7 +295,7 @@ module _ (ns : List ℕ) (x : Stmt) (tos : List (Vec Bool Global)) where
       ∙ ap (λ ts. kept y ts (has a y) body) (sym (ap (told_of y) ei ∙ told_more y tos v ∙ ap (λ s. has s y ∷ told_of y tos) e))) h
 
   pub loop_rows : (body : Stmts) (v : Vec Bool Global) (inside : List (Vec Bool Global)) (a b entry : List Bool) (last first : ℕ) (old new : List (Vec Bool Global)) → one ≡ nests a_loop body no_more
-      → v.items ≡ entry → inside ≡ tos ++ v ∷ [] → b ≡ a → TellsBefore tos a entry (code_of one) → RowsPut ns inside b body last first old new → RowsPut ns tos a one last first old new
+      → v.items ≡ entry → inside ≡ tos ++ v ∷ [] → b ≡ a → TellsBefore (told_by tos) a entry (code_of one) → RowsPut ns inside b body last first old new → RowsPut ns tos a one last first old new
   unfolding kept code_of live
   loop_rows body v inside a b entry last first old new is e ei eb w h =
       rows_as ns tos inside a b one body last first old new (ap length eb) (let t = ap call_total is in omega (arith, t))

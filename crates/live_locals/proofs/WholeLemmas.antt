@@ -1,6 +1,6 @@
 -- The sets of a whole function.
-use Rattle.std.proofs.Common.{◌≡◌, ◌∙◌, ℕ, zero, suc, ◌-◌, ◌+◌, ◌<◌, ◌≤◌, ◌↔◌, List, [], ◌∷◌, ◌++◌, length, map, reverse, get_or, replicate, Some, Bool, true, false, All, refl, sym, ap, arith, subst}
-use Rattle.std.specs.Prelude.{Vec, slice_get}
+use Rattle.std.proofs.Common.{◌≡◌, ◌∙◌, ℕ, suc, ◌-◌, ◌+◌, ◌<◌, ◌↔◌, List, [], ◌∷◌, ◌++◌, length, map, reverse, get_or, replicate, Bool, true, false, All, refl, sym, ap, arith, subst}
+use Rattle.std.specs.Prelude.{Vec}
 use Rattle.std.specs.declared.alloc.Global.{Global}
 use Rattle.std.proofs.lemmas.List.{get_or-map, get_or-reverse, length-map, length-replicate, length-reverse, map-append, reverse-append, reverse-reverse}
 use Rattle.std.proofs.lemmas.List.Elements.{All-get_or, All-nil}
@@ -59,7 +59,7 @@ module _ (f : FlatFunc) (ns : List ℕ) (v : Vec Bool Global) (behind : List Boo
   fit = ops_fit (length f.locals) 1 f.body fits
 
   size : length behind ≡ length f.locals
-  size = (read []).size ∙ length-replicate (length f.locals) false
+  size = (read (λ z. [])).size ∙ length-replicate (length f.locals) false
 
   at_first : first ≡ 0
   at_first = let p = put.places in omega (arith, p)
@@ -106,7 +106,7 @@ module _ (f : FlatFunc) (ns : List ℕ) (v : Vec Bool Global) (behind : List Boo
         column_at (reverse rows) k x ∙ ap (λ bs. get_or bs k false) (columns_are x lt) ∙ get_or-map (λ p. get_or (K x) (p - 0) false) ns k 0 false within
         ∙ ap (λ p. get_or (K x) (p - 0) false) is ∙ ap (λ p. get_or (K x) p false) none in
         subst (λ b. (b ≡ true) ↔ KeepsAt f place x) (sym e)
-        (told_exactly x f (has behind x) place ((read []).each x (let l = length-replicate (length f.locals) false in omega (arith, l, lt))
+        (told_exactly x f (has behind x) place ((read (λ z. [])).each x (let l = length-replicate (length f.locals) false in omega (arith, l, lt))
         ∙ ap (λ o. live x [] o (result_got f.result)) (none_has (length f.locals) x)) fit low);
   }
 

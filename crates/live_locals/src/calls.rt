@@ -50,8 +50,9 @@ fn count_stmt_calls(stmt: &Stmt, before: u32) -> u32
 
 /// For each numbered call of a flat function which of its locals the call's frame has to keep: the entries of the call's
 /// stack, and each other local that some path from the call, its own result counting as written, reads before it writes it.
-/// `numbers` holds the places of the numbered calls among all calls; they rise. Takes two passes over the body, and one more over
-/// a loop for each loop around it; each branch, construct and call takes time linear in the number of locals.
+/// `numbers` holds the places of the numbered calls among all calls; they rise. A statement is passed over a few times, and
+/// once more for each 63 loops around it and each time that one of these is at most half of what it stands in; each branch, construct
+/// and call takes time linear in the number of locals.
 pub fn live_at(
     alloc: Global,
     func: &FlatFunc,
@@ -69,8 +70,18 @@ pub fn live_at(
     tos.push(copied(alloc, &set)?)?;
     let mut rows = Vec::new(alloc);
     let count = count_calls(&func.body, 0);
+    let mut heads = Vec::new(alloc);
     put_body_rows(
-        alloc, &mut rows, numbers, count, &mut tos, &mut set, &func.body,
+        alloc,
+        &mut rows,
+        numbers,
+        count,
+        63,
+        &[],
+        &mut heads,
+        &mut tos,
+        &mut set,
+        &func.body,
     )?;
     rows.reverse();
     Ok(rows)

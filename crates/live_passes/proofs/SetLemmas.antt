@@ -1,20 +1,20 @@
 -- Sets of locals: reads, writes and joins.
-use Rattle.std.proofs.Common.{◌≡◌, ◌∙◌, ℕ, suc, ◌+◌, ◌-◌, ◌<◌, ◌≤◌, ◌⊎◌, List, [], ◌∷◌, ◌++◌, length, map, reverse, get_or, take, drop, set, Option, Some, None, Bool, true, false, not, ◌&&◌}
-use Rattle.std.proofs.Common.{◌||◌, inl, inr, refl, sym, ap, arith, subst, min}
-use Rattle.std.specs.Prelude.{slice_get, nat_eq, replicate, Vec}
+use Rattle.std.proofs.Common.{◌≡◌, ◌∙◌, ℕ, ◌+◌, ◌-◌, ◌<◌, ◌≤◌, ◌⊎◌, List, [], ◌∷◌, ◌++◌, length, map, reverse, get_or, take, drop, set, Some, Bool, true, false, not, ◌&&◌}
+use Rattle.std.proofs.Common.{◌||◌, inl, inr, refl, sym, ap, arith, subst}
+use Rattle.std.specs.Prelude.{nat_eq, replicate, Vec}
 use Rattle.std.specs.declared.alloc.Global.{Global}
 use Rattle.std.specs.List.{list_any}
 use Rattle.std.specs.Option.{option_map}
 use Rattle.std.proofs.lemmas.Bool.{cases_eq, cases_lt, eq-eqb, ne_eqb}
-use Rattle.std.proofs.lemmas.List.{append-nil, drop_more, drop_all, get_or-set_same, get_or-set_other, get_or_past, get_or-reverse, length-set, length-map, length-reverse, reverse-append}
+use Rattle.std.proofs.lemmas.List.{drop_more, drop_all, get_or-set_same, get_or-set_other, get_or_past, get_or-reverse, length-set, length-map, length-reverse, reverse-append}
 use Rattle.std.proofs.lemmas.List.{get_or-replicate, length-replicate}
 use Rattle.std.proofs.lemmas.Option.{slice_get-map, slice_get-get_or, slice_get_past}
 use Rattle.std.proofs.Math.Seq.{take-append_seam}
 use Rattle.wa_types.specs.Pausing.{is_told}
-use Rattle.wa_types.specs.Syntax.{Shape, local_get, local_set, br, br_if, br_table, unreachable, Code, done, plain, nest, branch}
+use Rattle.wa_types.specs.Syntax.{local_get, local_set, br, br_if, br_table, unreachable, Code, done, plain, nest, branch}
 use Rattle.wa_types.specs.Liveness.{live, live_plain, shape_live, told_at}
 use Rattle.wa_model.specs.Flat.{followed_by}
-use Rattle.live_passes.specs.Sets.{has, told_of, TellsBefore, TellsAnywhere, Joined}
+use Rattle.live_passes.specs.Sets.{has, told_of, told_by, TellsBefore, TellsAnywhere, Joined}
 
 -- ---- booleans
 
@@ -35,12 +35,12 @@ live_followed x tos out (plain p rest) l = ap (live_plain x tos p) (live_followe
 live_followed x tos out (nest s r body rest) l = ap (λ k. live x (shape_live s k ∷ tos) k body) (live_followed x tos out rest l)
 live_followed x tos out (branch r a b rest) l = ap (λ k. live x (k ∷ tos) k a || live x (k ∷ tos) k b) (live_followed x tos out rest l)
 
-module _ (tos : List (Vec Bool Global)) where
+module _ (tos : ℕ → List Bool) where
   -- what is told behind code, and what before it
   pub tells_then : (behind mid before : List Bool) (k l : Code) → TellsBefore tos behind mid l → TellsBefore tos mid before k → TellsBefore tos behind before (followed_by k l)
   tells_then behind mid before k l g h = record {
     size = h.size ∙ g.size;
-    each = λ x lt. let n = g.size in h.each x (omega (arith, n, lt)) ∙ ap (λ o. live x (told_of x tos) o k) (g.each x lt) ∙ sym (live_followed x (told_of x tos) (has behind x) k l);
+    each = λ x lt. let n = g.size in h.each x (omega (arith, n, lt)) ∙ ap (λ o. live x (tos x) o k) (g.each x lt) ∙ sym (live_followed x (tos x) (has behind x) k l);
   }
 
   pub tells_as : (behind before : List Bool) (k l : Code) → k ≡ l → TellsBefore tos behind before k → TellsBefore tos behind before l
@@ -148,18 +148,19 @@ told_more x tos v = ap (map (λ (s : Vec Bool Global). has s.items x)) (reverse-
 
 module _ (tos : List (Vec Bool Global)) where
   pub joined_label : (l : ℕ) (v : Vec Bool Global) (old new : List Bool) → l < length tos → v ≡ get_or tos (length tos - 1 - l) v → length new ≡ length old
-      → ((x : ℕ) → x < length old → has new x ≡ (has v.items x || has old x)) → Joined tos (l ∷ []) old new
+      → ((x : ℕ) → x < length old → has new x ≡ (has v.items x || has old x)) → Joined (told_by tos) (l ∷ []) old new
   joined_label l v old new lt at n h = record {
     size = n;
     each = λ x k. h x k ∙ sym (ap (λ b. b || has old x) (or_none (told_at (told_of x tos) l) ∙ told_at_is x tos l v lt at));
   }
 
-  pub joined_past : (l : ℕ) (old : List Bool) → length tos ≤ l → Joined tos (l ∷ []) old old
+  pub joined_past : (l : ℕ) (old : List Bool) → length tos ≤ l → Joined (told_by tos) (l ∷ []) old old
   joined_past l old le = record {
     size = refl;
     each = λ x k. sym (ap (λ b. b || has old x) (or_none (told_at (told_of x tos) l) ∙ told_past x tos l le));
   }
 
+module _ (tos : ℕ → List Bool) where
   pub joined_nothing : (old : List Bool) (ls : List ℕ) → Joined tos (drop (length ls) ls) old old
   joined_nothing old ls = subst (λ qs. Joined tos qs old old) (sym (drop_all (length ls) ls (omega arith))) (record { size = refl; each = λ x k. refl })
 
@@ -167,8 +168,8 @@ module _ (tos : List (Vec Bool Global)) where
   joined_on l ls old mid new g h = record {
     size = h.size ∙ g.size;
     each = λ x k. let n = g.size in
-        h.each x (omega (arith, n, k)) ∙ ap (λ b. b || has mid x) (or_none (told_at (told_of x tos) l)) ∙ ap (λ b. told_at (told_of x tos) l || b) (g.each x k)
-        ∙ sym (or_turn (told_at (told_of x tos) l) (list_any (told_at (told_of x tos)) ls) (has old x));
+        h.each x (omega (arith, n, k)) ∙ ap (λ b. b || has mid x) (or_none (told_at (tos x) l)) ∙ ap (λ b. told_at (tos x) l || b) (g.each x k)
+        ∙ sym (or_turn (told_at (tos x) l) (list_any (told_at (tos x)) ls) (has old x));
   }
 
   -- the label before those that are joined
@@ -186,12 +187,12 @@ module _ (tos : List (Vec Bool Global)) where
   to_label l old mid new g h = record {
     size = h.size ∙ g.size;
     each = λ x k. let n = g.size in
-        h.each x (omega (arith, n, k)) ∙ ap (λ b. (told_at (told_of x tos) l || false) || b) (g.each x k) ∙ or_none (told_at (told_of x tos) l || false) ∙ or_none (told_at (told_of x tos) l);
+        h.each x (omega (arith, n, k)) ∙ ap (λ b. (told_at (tos x) l || false) || b) (g.each x k) ∙ or_none (told_at (tos x) l || false) ∙ or_none (told_at (tos x) l);
   }
 
   pub maybe_to_label : (l : ℕ) (old new : List Bool) → Joined tos (l ∷ []) old new → TellsBefore tos old new (plain (br_if l) done)
   unfolding live
-  maybe_to_label l old new h = record { size = h.size; each = λ x k. h.each x k ∙ ap (λ b. b || has old x) (or_none (told_at (told_of x tos) l)) }
+  maybe_to_label l old new h = record { size = h.size; each = λ x k. h.each x k ∙ ap (λ b. b || has old x) (or_none (told_at (tos x) l)) }
 
   pub to_labels : (ls : List ℕ) (l : ℕ) (old mid more new : List Bool) → TellsBefore tos old mid (plain unreachable done) → Joined tos ls mid more → Joined tos (l ∷ []) more new
       → TellsBefore tos old new (plain (br_table ls l) done)
@@ -200,7 +201,7 @@ module _ (tos : List (Vec Bool Global)) where
       let both = joined_on l ls mid more new h j in record {
         size = both.size ∙ g.size;
         each = λ x k. let n = g.size in
-            both.each x (omega (arith, n, k)) ∙ ap (λ b. list_any (told_at (told_of x tos)) (l ∷ ls) || b) (g.each x k) ∙ or_none (list_any (told_at (told_of x tos)) (l ∷ ls));
+            both.each x (omega (arith, n, k)) ∙ ap (λ b. list_any (told_at (tos x)) (l ∷ ls) || b) (g.each x k) ∙ or_none (list_any (told_at (tos x)) (l ∷ ls));
       }
 
 -- ---- the set of a vector that was lent

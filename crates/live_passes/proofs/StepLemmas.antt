@@ -1,5 +1,5 @@
 -- Statements that hold no others.
-use Rattle.std.proofs.Common.{◌≡◌, ◌∙◌, ℕ, ◌-◌, ◌+◌, ◌<◌, ◌≤◌, List, [], ◌∷◌, length, take, drop, get_or, Option, Some, None, Bool, refl, sym, ap, arith, subst}
+use Rattle.std.proofs.Common.{◌≡◌, ◌∙◌, ℕ, ◌-◌, ◌<◌, ◌≤◌, List, length, take, drop, get_or, Option, Some, None, Bool, refl, sym, ap, arith, subst}
 use Rattle.std.specs.Prelude.{Vec}
 use Rattle.std.specs.declared.alloc.Global.{Global}
 use Rattle.std.proofs.lemmas.List.{drop_all, get_or_default, take_rest}
@@ -7,7 +7,7 @@ use Rattle.wa_types.specs.declared.instrs.Instr.{Instr}
 use Rattle.wa_types.specs.declared.instrs.Instr.TheVariants.{Unreachable as UnreachableInstr, Nop, Drop, Select, Return, MemorySize, MemoryGrow, Const as ConstInstr, Num, Br as BrInstr}
 use Rattle.wa_types.specs.declared.instrs.Instr.TheVariants.{BrIf as BrIfInstr, BrTable as BrTableInstr, Call as CallInstr, CallIndirect, LocalGet, LocalSet, LocalTee, GlobalGet, GlobalSet}
 use Rattle.wa_types.specs.declared.instrs.Instr.TheVariants.{Load, Store, Block' as BlockInstr', Loop' as LoopInstr', If' as IfInstr'}
-use Rattle.wa_types.specs.Syntax.{Plain, basic, local_get, local_set, local_tee, br, br_if, br_table, unreachable, call, call_indirect, Code, done, plain, nest, branch}
+use Rattle.wa_types.specs.Syntax.{basic, local_get, local_set, local_tee, br, br_if, br_table, unreachable, call, call_indirect, Code, done, plain}
 use Rattle.wa_types.specs.View.{in_front}
 use Rattle.wa_types.specs.Liveness.{live}
 use Rattle.wa_model.specs.declared.flat.Operand.{Operand}
@@ -15,13 +15,13 @@ use Rattle.wa_model.specs.declared.flat.Operand.TheVariants.{Local, Const}
 use Rattle.wa_model.specs.declared.flat.Stmt.{Stmt}
 use Rattle.wa_model.specs.declared.flat.Stmt.TheVariants.{Plain as PlainStmt, Move, Call as CallStmt, Br as BrStmt, BrIf as BrIfStmt, BrTable as BrTableStmt, Block', Loop', If'}
 use Rattle.wa_model.specs.declared.flat.Stmt.TheVariants.{Unreachable as UnreachableStmt}
-use Rattle.wa_model.specs.Flat.{Stmts, no_more, computes, copies, calls, leaps, leaps_if, leaps_by, nests, decides, halts, followed_by, got, all_got, set_to, slots_got, last_of, code_of, result_got}
+use Rattle.wa_model.specs.Flat.{Stmts, no_more, followed_by, got, all_got, set_to, slots_got, last_of, code_of, result_got}
 use Rattle.wa_model.specs.FlatView.{stmt_in_front}
 use Rattle.wa_model.specs.FlatFits.{IsCallCode}
 use Rattle.flat_pieces.proofs.StmtLemmas.{call_is}
 use Rattle.live_passes.proofs.StmtViews.{as_plain, as_move, as_br, as_br_if, as_table, as_halt}
 use Rattle.live_passes.specs.Ops.{IsComputation, OpsFit, HoldsNone}
-use Rattle.live_passes.specs.Sets.{has, told_of, TellsBefore, TellsAnywhere, Joined}
+use Rattle.live_passes.specs.Sets.{TellsBefore, TellsAnywhere}
 use Rattle.live_passes.proofs.SetLemmas.{tells_then, tells_as, tells_none}
 use Rattle.live_passes.proofs.CodeLemmas.{got_then, all_then, operand_before, slot_before, slots_then}
 
@@ -35,7 +35,7 @@ pub op_set : (op : Instr) (y : ℕ) (old new : List Bool) → op ≡ LocalSet y 
 unfolding in_front
 op_set op y old new e h tos = tells_as tos old new (plain (local_set y) done) (in_front op done) (ap (λ i. in_front i done) (sym e)) (h tos)
 
-tee_too : (tos : List (Vec Bool Global)) (y : ℕ) (old new : List Bool) → TellsBefore tos old new (plain (local_set y) done) → TellsBefore tos old new (plain (local_tee y) done)
+tee_too : (tos : ℕ → List Bool) (y : ℕ) (old new : List Bool) → TellsBefore tos old new (plain (local_set y) done) → TellsBefore tos old new (plain (local_tee y) done)
 unfolding live
 tee_too tos y old new h = record { size = h.size; each = h.each }
 
@@ -141,7 +141,7 @@ call_quiet _ old h tos = absurd h
 
 -- ---- statements
 
-module _ (tos : List (Vec Bool Global)) (x : Stmt) where
+module _ (tos : ℕ → List Bool) (x : Stmt) where
   abbrev one : Stmts
   one = stmt_in_front x no_more
 
@@ -194,7 +194,7 @@ module _ (tos : List (Vec Bool Global)) (x : Stmt) where
   halt_arm a b e f = tells_as tos a b (plain unreachable done) (code_of one) (sym (ap code_of (as_halt x e no_more))) (f tos)
 
 -- an operand in front of a branch
-pub operand_then : (tos : List (Vec Bool Global)) (o : Operand) (k : Code) (a b c : List Bool) → TellsBefore tos a b k → TellsAnywhere b c (got o done) → TellsBefore tos a c (got o k)
+pub operand_then : (tos : ℕ → List Bool) (o : Operand) (k : Code) (a b c : List Bool) → TellsBefore tos a b k → TellsAnywhere b c (got o done) → TellsBefore tos a c (got o k)
 operand_then tos o k a b c f g = tells_as tos a c (followed_by (got o done) k) (got o k) (sym (got_then o k)) (tells_then tos a b c (got o done) k f (g tos))
 
 pub plain_op : (x : Stmt) (op : Instr) (args : Vec Operand Global) (to : Option ℕ) → x ≡ PlainStmt op args to → OpsFit (stmt_in_front x no_more) → IsComputation (in_front op done)

@@ -1,5 +1,4 @@
 -- What is asked of the instructions of statements.
-use Rattle.std.specs.Prelude.{ℕ}
 use Rattle.wa_types.specs.Syntax.{basic, local_get, local_set, local_tee, Code, done, plain}
 use Rattle.wa_model.specs.Flat.{Stmts, no_more, computes, copies, calls, leaps, leaps_if, leaps_by, nests, decides, halts}
 use Rattle.wa_model.specs.FlatFits.{IsCallCode}

@@ -3,7 +3,7 @@
 ghost use Rattle.std.specs.Prelude.{◌≡◌, ◌<◌, ◌∷◌, ◌||◌, [], ℕ, false, length, IfOk, replicate};
 ghost use Rattle.wa_types.specs.Syntax.{local_get, local_set, unreachable, done, plain};
 ghost use Rattle.wa_model.specs.Flat.{got, all_got, set_to, slots_got, result_got};
-ghost use Rattle.live_passes.specs.Sets.{has, Joined, TellsAnywhere};
+ghost use Rattle.live_passes.specs.Sets.{has, told_by, Joined, TellsAnywhere};
 
 use std::alloc::{AllocError, Global};
 use wa_model::Operand;
@@ -86,7 +86,7 @@ pub fn read_slots(set: &mut [bool], slots: &[u32])
     ensures { TellsAnywhere set.old set.new (slots_got slots.now done) }
 {
     let mut left = slots.len();
-    while left > 0 {
+    'slots: while left > 0 {
         left -= 1;
         read(set, slots[left]);
     }
@@ -115,7 +115,7 @@ pub fn join(set: &mut [bool], other: &[bool])
 
 /// What is told for a label's target is put in.
 pub(crate) fn join_label(set: &mut [bool], tos: &[Vec<bool>], label: u32)
-    ensures { Joined tos.now (label ∷ []) set.old set.new }
+    ensures { Joined (told_by tos.now) (label ∷ []) set.old set.new }
 {
     let label = label as usize;
     if label < tos.len() {
@@ -125,7 +125,7 @@ pub(crate) fn join_label(set: &mut [bool], tos: &[Vec<bool>], label: u32)
 
 /// What is told for these labels' targets is put in.
 pub(crate) fn join_labels(set: &mut [bool], tos: &[Vec<bool>], labels: &[u32])
-    ensures { Joined tos.now labels.now set.old set.new }
+    ensures { Joined (told_by tos.now) labels.now set.old set.new }
 {
     let mut left = labels.len();
     while left > 0 {

@@ -6,7 +6,7 @@ ghost use Rattle.wa_types.specs.View.{in_front};
 ghost use Rattle.wa_model.specs.Flat.{code_of, got, last_of, no_more, slots_got};
 ghost use Rattle.wa_model.specs.FlatView.{stmt_in_front};
 ghost use Rattle.live_passes.specs.Ops.{HoldsNone, IsComputation, OpsFit};
-ghost use Rattle.live_passes.specs.Sets.{TellsAnywhere, TellsBefore};
+ghost use Rattle.live_passes.specs.Sets.{told_by, TellsAnywhere, TellsBefore};
 
 use crate::sets::{
     empty, join_label, join_labels, read, read_operand, read_operands, read_slots, write,
@@ -38,7 +38,7 @@ pub fn read_taken(set: &mut [bool], stack: &[u32], args: u32)
 
 /// A branch that is always taken.
 fn pass_br(tos: &[Vec<bool>], set: &mut [bool], label: u32)
-    ensures { TellsBefore tos.now set.old set.new (plain (br label) done) }
+    ensures { TellsBefore (told_by tos.now) set.old set.new (plain (br label) done) }
 {
     empty(set);
     join_label(set, tos, label);
@@ -46,7 +46,7 @@ fn pass_br(tos: &[Vec<bool>], set: &mut [bool], label: u32)
 
 /// A branch that may be taken.
 fn pass_br_if(tos: &[Vec<bool>], set: &mut [bool], cond: Operand, label: u32)
-    ensures { TellsBefore tos.now set.old set.new (got cond (plain (br_if label) done)) }
+    ensures { TellsBefore (told_by tos.now) set.old set.new (got cond (plain (br_if label) done)) }
 {
     join_label(set, tos, label);
     read_operand(set, cond);
@@ -54,7 +54,7 @@ fn pass_br_if(tos: &[Vec<bool>], set: &mut [bool], cond: Operand, label: u32)
 
 /// A branch to one of several labels.
 fn pass_br_table(tos: &[Vec<bool>], set: &mut [bool], index: Operand, labels: &[u32], last: u32)
-    ensures { TellsBefore tos.now set.old set.new (got index (plain (br_table labels.now last) done)) }
+    ensures { TellsBefore (told_by tos.now) set.old set.new (got index (plain (br_table labels.now last) done)) }
 {
     empty(set);
     join_labels(set, tos, labels);
@@ -66,7 +66,7 @@ fn pass_br_table(tos: &[Vec<bool>], set: &mut [bool], index: Operand, labels: &[
 pub fn pass_simple(tos: &[Vec<bool>], set: &mut [bool], stmt: &Stmt)
     requires ops { OpsFit (stmt_in_front stmt.now no_more) }
     requires simple { HoldsNone (stmt_in_front stmt.now no_more) }
-    ensures { TellsBefore tos.now set.old set.new (code_of (stmt_in_front stmt.now no_more)) }
+    ensures { TellsBefore (told_by tos.now) set.old set.new (code_of (stmt_in_front stmt.now no_more)) }
 {
     match stmt {
         Stmt::Plain { op, args, to } => {

@@ -1,4 +1,4 @@
-use Rattle.std.proofs.Common.{rules, arith, [], ◌-◌, ap, length, refl, subst, sym, ◌∙◌}
+use Rattle.std.proofs.Common.{rules, arith, [], ◌-◌, ap, length, sym, ◌∙◌}
 use Rattle.wa_types.specs.Syntax.{a_block, a_loop}
 use Rattle.wa_model.specs.Flat.{no_more, nests, decides}
 use Rattle.wa_model.specs.FlatView.{stmts}
@@ -6,7 +6,7 @@ use Rattle.wa_model.specs.declared.flat.Stmt.{the_lemmas}
 use Rattle.flat_pieces.proofs.StmtLemmas.{block_is, loop_is, if_is}
 use Rattle.live_passes.proofs.SetLemmas.{put_back}
 use Rattle.live_passes.proofs.CodeLemmas.{ops_at}
-use Rattle.live_passes.proofs.PassLemmas.{passed_first, passed_before, passed_end, nest_ops, then_ops, else_ops, holds_none, block_passed, loop_passed, if_passed}
+use Rattle.live_passes.proofs.PassLemmas.{passed_first, passed_before, nest_ops, then_ops, else_ops, holds_none, block_passed, loop_passed, if_passed}
 use Rattle.live_passes.proofs.passes.+pass.Goals as goal
 
 pub pass_body-loop-left-init : goal.pass_body-loop-left-init

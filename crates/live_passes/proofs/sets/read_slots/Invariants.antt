@@ -4,8 +4,8 @@ use Rattle.wa_model.specs.Flat.{slots_got}
 use Rattle.live_passes.specs.Sets.{TellsAnywhere}
 use Rattle.live_passes.proofs.sets.read_slots.Given as goal
 
-abbrev pub invariant-loop-left : goal.invariant-loop-left
-invariant-loop-left l = (l.left ≤ length l.slots) × TellsAnywhere l.fn.set l.set (slots_got (drop l.left l.slots) done)
+abbrev pub invariant-slots : goal.invariant-slots
+invariant-slots l = (l.left ≤ length l.slots) × TellsAnywhere l.fn.set l.set (slots_got (drop l.left l.slots) done)
 
-abbrev pub decreases-loop-left : goal.decreases-loop-left
-decreases-loop-left l = l.left
+abbrev pub decreases-slots : goal.decreases-slots
+decreases-slots l = l.left

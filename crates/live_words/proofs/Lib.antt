@@ -1,0 +1,4 @@
+pub mod WordLemmas
+pub mod HeadLemmas
+pub mod WordPasses
+pub mod LevelLemmas

@@ -1,0 +1,127 @@
+//! What is read first from the front of statements on, and from the heads of the loops in them.
+
+ghost use Rattle.std.specs.Prelude.{OnOk};
+ghost use Rattle.wa_model.specs.Flat.{code_of, no_more};
+ghost use Rattle.wa_model.specs.FlatView.{stmt_in_front, stmts};
+ghost use Rattle.live_passes.specs.Ops.{OpsFit};
+ghost use Rattle.live_words.specs.Heads.{Fresh, HeadsPut};
+ghost use Rattle.live_words.specs.Words.{WordsPassed};
+
+use crate::levels::{inside, label_told, leave};
+use crate::sets::{copied, join, read_operand};
+use crate::sizes::{is_kept, size_at};
+use crate::steps::pass_simple;
+use std::alloc::{AllocError, Global};
+use wa_model::Stmt;
+
+/// A body is passed over backwards in all worlds. `outer` tells for the labels around the nest of loops what is read first from
+/// their targets on, `inner` for those inside it; `level` loops of the nest stand around the body. For each loop in the body an
+/// entry is put behind `heads`: what is read first from its head on, where that is kept. `sizes` has the sizes of the nest's loops
+/// (`loop_sizes`), and `around` is that of the innermost loop around.
+#[cycle(pass)]
+fn pass_body(
+    alloc: Global,
+    outer: &[Vec<bool>],
+    inner: &mut Vec<Vec<u64>>,
+    level: u32,
+    sizes: &[u32],
+    around: u32,
+    heads: &mut Vec<Option<Vec<u64>>>,
+    set: &mut [u64],
+    body: &[Stmt],
+) -> Result<(), AllocError>
+    requires ops { OpsFit (stmts body.now) }
+    requires fresh { Fresh level outer.now inner.old.items set.old }
+    ensures passed { OnOk result (WordsPassed outer.now inner.old.items inner.new.items set.old set.new (code_of (stmts body.now))) }
+    ensures heads { OnOk result (HeadsPut level outer.now inner.old.items set.old (stmts body.now) heads.old.items heads.new.items) }
+{
+    let mut left = body.len();
+    while left > 0 {
+        left -= 1;
+        pass_stmt(
+            alloc,
+            outer,
+            inner,
+            level,
+            sizes,
+            around,
+            heads,
+            set,
+            &body[left],
+        )?;
+    }
+    Ok(())
+}
+
+/// So is a statement.
+#[cycle(pass)]
+pub fn pass_stmt(
+    alloc: Global,
+    outer: &[Vec<bool>],
+    inner: &mut Vec<Vec<u64>>,
+    level: u32,
+    sizes: &[u32],
+    around: u32,
+    heads: &mut Vec<Option<Vec<u64>>>,
+    set: &mut [u64],
+    stmt: &Stmt,
+) -> Result<(), AllocError>
+    requires ops { OpsFit (stmt_in_front stmt.now no_more) }
+    requires fresh { Fresh level outer.now inner.old.items set.old }
+    ensures passed { OnOk result (WordsPassed outer.now inner.old.items inner.new.items set.old set.new (code_of (stmt_in_front stmt.now no_more))) }
+    ensures heads { OnOk result (HeadsPut level outer.now inner.old.items set.old (stmt_in_front stmt.now no_more) heads.old.items heads.new.items) }
+{
+    match stmt {
+        Stmt::Block(body) => {
+            inner.push(copied(alloc, set)?)?;
+            pass_body(alloc, outer, inner, level, sizes, around, heads, set, body)?;
+            inner.pop();
+            Ok(())
+        }
+        Stmt::Loop(body) => {
+            let at = heads.len();
+            let size = size_at(sizes, at);
+            heads.push(None)?;
+            inner.push(label_told(alloc, set.len(), level)?)?;
+            pass_body(
+                alloc,
+                outer,
+                inner,
+                inside(level),
+                sizes,
+                size,
+                heads,
+                set,
+                body,
+            )?;
+            inner.pop();
+            leave(set, level);
+            if is_kept(level, size, around) {
+                heads[at] = Some(copied(alloc, set)?);
+            }
+            Ok(())
+        }
+        Stmt::If {
+            cond,
+            then_arm,
+            else_arm,
+        } => {
+            let mut other = copied(alloc, set)?;
+            inner.push(copied(alloc, set)?)?;
+            pass_body(
+                alloc, outer, inner, level, sizes, around, heads, set, else_arm,
+            )?;
+            pass_body(
+                alloc, outer, inner, level, sizes, around, heads, &mut other, then_arm,
+            )?;
+            inner.pop();
+            join(set, &other);
+            read_operand(set, *cond);
+            Ok(())
+        }
+        _ => {
+            pass_simple(outer, inner, set, stmt);
+            Ok(())
+        }
+    }
+}
