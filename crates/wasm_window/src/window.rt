@@ -1,5 +1,5 @@
 //! A stretch of a file.
-ghost use Rattle.std.specs.Prelude.{◌≡◌, ◌++◌, ◌+◌, ◌-◌, ◌<◌, ◌≤◌, ◌^◌, length, get_or, take, drop};
+ghost use Rattle.std.specs.Prelude.{◌≡◌, [], ◌++◌, ◌+◌, ◌-◌, ◌<◌, ◌≤◌, ◌^◌, length, get_or, take, drop};
 
 use crate::passed::Passed;
 use std::marker::Model;
@@ -20,7 +20,7 @@ impl<'a> Model for Window<'a> {
 
     ghost view = { λ w. input_of w.before.now.bytes w.bytes.now w.base };
 
-    ghost invariant = { λ w. (length w.before.now.bytes ≡ w.base) × (w.base + length w.bytes.now < 2 ^ 64) };
+    ghost invariant = { λ w. (length w.before.now.bytes ≡ w.base) × (w.base + length w.bytes.now < 2 ^ 63) };
 }
 
 impl<'a> Window<'a> {
@@ -29,7 +29,7 @@ impl<'a> Window<'a> {
     /// These bytes behind those in front of their place.
     pub fn new(before: &'a Passed, base: usize, bytes: &'a [u8]) -> Window<'a>
         requires base { length before.now.bytes ≡ base }
-        requires fits { base + length bytes.now < 2 ^ 64 }
+        requires fits { base + length bytes.now < 2 ^ 63 }
         ensures { result ≡ input_of before.now.bytes bytes.now base }
     {
         Window {
@@ -39,10 +39,23 @@ impl<'a> Window<'a> {
         }
     }
 
+    /// A whole file, with nothing in front.
+    pub fn whole(nothing: &'a Passed, bytes: &'a [u8]) -> Window<'a>
+        requires { nothing.now.bytes ≡ [] }
+        ensures { result ≡ input_of [] bytes.now 0 }
+    {
+        Window {
+            bytes,
+            base: 0,
+            before: nothing,
+        }
+    }
+
     /// How many bytes have come.
     #[inline(always)]
     pub fn len(&self) -> usize
-        ensures { result ≡ length self.now.all }
+        ensures len { result ≡ length self.now.all }
+        ensures fits { result < 2 ^ 63 }
     {
         self.base + self.bytes.len()
     }
