@@ -3,9 +3,11 @@
 //! `build` reads entry by entry, and code in a loop over its instructions: constructs that are open wait on a stack. What each part builds is what the bytes from one place to another spell (`specs/Builds.antt`).
 #![tactic(auto)]
 
+mod builder;
 mod code;
 mod entries;
 mod entry;
+mod extents;
 mod levels;
 mod plain;
 mod sections;
@@ -18,6 +20,8 @@ ghost use Rattle.wa_types.specs.Spells.{Exactly};
 ghost use Rattle.wa_types.specs.Reading.{SpellsModule};
 ghost use Rattle.wasm_build.specs.Builds.{Passes};
 ghost use Rattle.wasm_build.specs.BuildsModule.{GivesModule};
+
+pub use builder::Builder;
 
 use sections::Sections;
 use std::alloc::{AllocError, AllocFailed, Global};

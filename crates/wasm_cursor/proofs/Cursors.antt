@@ -1,5 +1,5 @@
 -- Numbers at the front of a place.
-use Rattle.std.proofs.Common.{◌≡◌, ℕ, ◌+◌, ◌-◌, ◌^◌, ◌≤◌, List, [], ◌∷◌, ◌++◌, Bool, true, false, cond, Result, Ok, ap, sym, ◌∙◌, subst, arith, length, drop, nat_lt, nat_eq, IsTrue, length-drop}
+use Rattle.std.proofs.Common.{◌≡◌, ℕ, ◌+◌, ◌-◌, ◌^◌, ◌≤◌, List, [], ◌∷◌, ◌++◌, Bool, true, false, cond, Result, Ok, ap, sym, ◌∙◌, subst, arith, length, drop, nat_lt, nat_eq, IsTrue, length-drop, add-zero}
 use Rattle.std.proofs.lemmas.List.{drop_all, drop-drop}
 use Rattle.std.proofs.lemmas.Bool.{eqb-true, eq-eqb}
 use Rattle.std.proofs.Math.Seq.{drop-append_seam}
@@ -7,7 +7,10 @@ use Rattle.wa_types.specs.declared.leb.LebFault.{LebFault}
 use Rattle.wa_types.specs.Leb.{IsUnsigned, IsSigned, unsigned_at, signed_at}
 use Rattle.wa_types.proofs.UnsignedReads.{again}
 use Rattle.wa_types.proofs.SignedReads.{again as signed_again}
-use Rattle.wasm_cursor.specs.Places.{Place, place_from, behind, Onward}
+use Rattle.wasm_cursor.specs.Places.{Place, place_from, place_at, behind, Onward}
+
+pub first_place : (first : ℕ) (bytes : List ℕ) → place_from first bytes 0 ≡ place_at first bytes
+first_place first bytes = λ i. record { at = add-zero first i; left = bytes }
 
 passed : (first : ℕ) (bytes front rest : List ℕ) (at end : ℕ) → drop at bytes ≡ front ++ rest → end ≡ at + length front
     → place_from first bytes end ≡ behind (place_from first bytes at) front rest
@@ -34,11 +37,11 @@ signed_given first bits bytes at end r p v f =
     let g : (r, end) ≡ (Ok n, at + length front) = f ∙ ap (λ z. signed_at bits z at) e ∙ signed_again bits front rest n at s in
     (ap (λ q. q.0) g, passed first bytes front rest at end e (ap (λ q. q.1) g)))
 
-either_grows : (b : Bool) (at : ℕ) (x y : Result ℕ LebFault × ℕ) → at ≤ x.1 → at ≤ y.1 → at ≤ (cond b x y).1
+pub either_grows : (b : Bool) (at : ℕ) (x y : Result ℕ LebFault × ℕ) → at ≤ x.1 → at ≤ y.1 → at ≤ (cond b x y).1
 either_grows true at x y h k = h
 either_grows false at x y h k = k
 
-unsigned_grows : (bits : ℕ) (bytes : List ℕ) (at : ℕ) → at ≤ (unsigned_at bits bytes at).1
+pub unsigned_grows : (bits : ℕ) (bytes : List ℕ) (at : ℕ) → at ≤ (unsigned_at bits bytes at).1
 unfolding unsigned_at
 unsigned_grows bits [] at = omega arith
 unsigned_grows bits (b ∷ bs) at =

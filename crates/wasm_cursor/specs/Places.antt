@@ -15,6 +15,10 @@ place_in bytes at = record { at = at; left = drop at bytes }
 abbrev pub place_from : (first : ℕ) (bytes : List ℕ) (at : ℕ) → Place
 place_from first bytes at = record { at = first + at; left = drop at bytes }
 
+-- the place at the first of these bytes, which has this offset
+abbrev pub place_at : (first : ℕ) (bytes : List ℕ) → Place
+place_at first bytes = record { at = first; left = bytes }
+
 -- the place behind these bytes, where those are left
 abbrev pub behind : Place → (passed left : List ℕ) → Place
 behind p passed left = record { at = p.at + length passed; left = left }

@@ -2,7 +2,7 @@
 
 ghost use Rattle.std.specs.Prelude.{◌≡◌, ℕ, ◌+◌, ◌<◌, ◌^◌, [], ◌∷◌, ◌++◌, length, IfOk, OnErr, IsTrue, ◌↔◌};
 ghost use Rattle.wa_types.specs.Leb.{IsUnsigned, IsSigned};
-ghost use Rattle.wasm_cursor.specs.Places.{Onward, ReadsNumber, place_from, place_in};
+ghost use Rattle.wasm_cursor.specs.Places.{Onward, ReadsNumber, place_at, place_in};
 
 use crate::numbers;
 use std::marker::Model;
@@ -54,7 +54,7 @@ impl<'a> Cursor<'a> {
 
     /// The place at the first of these bytes, whose offset this is.
     pub fn new_at(first: usize, bytes: &'a [u8]) -> Cursor<'a>
-        ensures { result ≡ place_from first bytes.now 0 }
+        ensures { result ≡ place_at first bytes.now }
     {
         Cursor {
             bytes,
