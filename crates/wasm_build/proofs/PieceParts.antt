@@ -41,7 +41,7 @@ cut bytes more front behind e h =
     (sym (append_assoc (take k bytes) (drop k bytes) more) ∙ ap (λ z. z ++ more) (take-append-drop k bytes) ∙ e) (length-take-le k bytes h) in
     record { taken = s.0; left = s.1 }
 
-cut_at : (bytes more front behind : List ℕ) (k : ℕ) → bytes ++ more ≡ front ++ behind → k ≡ length front → k ≤ length bytes → drop k bytes ++ more ≡ behind
+pub cut_at : (bytes more front behind : List ℕ) (k : ℕ) → bytes ++ more ≡ front ++ behind → k ≡ length front → k ≤ length bytes → drop k bytes ++ more ≡ behind
 cut_at bytes more front behind k e f h =
     let c = cut bytes more front behind e (omega (arith, f, h)) in
     ap (λ n. drop n bytes ++ more) f ∙ c.left

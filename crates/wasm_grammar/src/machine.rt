@@ -1,6 +1,6 @@
 //! The machine of the grammar: it takes the items of a file one behind another, and keeps what may come next (standard, section 5.5.15).
 
-ghost use Rattle.std.specs.Prelude.{◌≡◌, ℕ, Bool, List, ◌∷◌, ◌<◌, ◌≤◌, ◌-◌, ◌++◌, length, take, drop, OnOk, IfOk, IfErr, MatchBool};
+ghost use Rattle.std.specs.Prelude.{◌≡◌, ℕ, Bool, List, Some, ◌∷◌, ◌<◌, ◌≤◌, ◌-◌, ◌++◌, length, take, drop, OnOk, IfOk, IfErr, MatchBool};
 ghost use Rattle.std.specs.Bool.{OnTrue};
 ghost use Rattle.wa_types.specs.Begun.{Begun, IsWhole, wants, Inside, code, entries, some_runs, Goal as Wanted};
 ghost use Rattle.wasm_goals.specs.Goals.{goal_of, kind_of};
@@ -73,7 +73,7 @@ impl Machine {
         ensures begun { OnOk result (Begun bytes.now.all) }
         ensures more { OnOk result ((piece : List ℕ) → Stands bounds.now self.new.marks (bytes.now.all ++ piece) self.new.at self.new.goals) }
         ensures err { IfErr result (IsFault bytes.now.all) }
-        ensures ahead { self.old.at ≤ self.new.at }
+        ensures from { bytes.now.base ≤ self.new.at }
     {
         while self.go_on(alloc, bytes, bounds)? {}
         Ok(())
@@ -95,6 +95,23 @@ impl Machine {
             return Err(cut);
         }
         Ok(self.marks)
+    }
+
+    /// Where the item begins that isn't whole so far.
+    pub fn reached(&self) -> usize
+        ensures { result ≡ self.now.at }
+    {
+        self.at
+    }
+
+    /// Whether a level past the bound on nesting stands open, or stood.
+    pub fn is_deep(&self) -> bool
+        ensures { OnTrue result ((k : ℕ) × (self.now.marks.deep ≡ Some k)) }
+    {
+        match self.marks.deep {
+            Some(_) => true,
+            None => false,
+        }
     }
 
     // Takes what is short, and one more item; false where that isn't whole yet.

@@ -11,6 +11,7 @@
 
 mod locals;
 mod pieces;
+mod progress;
 mod read_fault;
 mod reader;
 

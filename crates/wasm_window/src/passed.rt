@@ -16,6 +16,7 @@ impl Model for Passed {
 }
 
 /// Some bytes that come next.
+#[derive(Drop)]
 pub struct Piece<'a> {
     pub bytes: &'a [u8],
 }
