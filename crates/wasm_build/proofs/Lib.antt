@@ -7,7 +7,6 @@ pub mod OpenLevels
 pub mod PieceParts
 pub mod PlainNames
 pub mod PlainParts
-pub mod Reading
 pub mod SectionArms
 pub mod SectionParts
 pub mod SizedParts

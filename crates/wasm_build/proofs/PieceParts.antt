@@ -75,10 +75,13 @@ preamble_step s stage at bytes e long = record {
 pub preamble_waits : (s : Sections) (stage : Stage) (at : ℕ) (bytes : List ℕ) → stage ≡ Preamble → length bytes < 8
     → Steps (Ok None) (record { sections = s; stage = stage }) (record { sections = s; stage = stage }) at bytes
 preamble_waits s stage at bytes e short = record {
-  steps = λ more m c. (c, λ none.
-      let a = subst (λ z. AheadOf z (state_of s) c.sum at (bytes ++ more)) e c.ahead in
-      let eight : 8 ≡ length a.0 = ap length (sym a.3) in
-      absurd (omega (arith, short, eight, ap length none, ap length a.2, length-append bytes more, length-append a.0 a.1)));
+  steps = λ more m c. (
+    c,
+    λ none.
+        let a = subst (λ z. AheadOf z (state_of s) c.sum at (bytes ++ more)) e c.ahead in
+        let eight : 8 ≡ length a.0 = ap length (sym a.3) in
+        absurd (omega (arith, short, eight, ap length none, ap length a.2, length-append bytes more, length-append a.0 a.1)),
+  );
 }
 
 -- no section is left of nothing
@@ -95,11 +98,14 @@ no_byte (x ∷ xs) h = absurd (omega (arith, h))
 pub section_none : (s : Sections) (stage : Stage) (at : ℕ) (bytes : List ℕ) → stage ≡ Section → length bytes < 1
     → Steps (Ok None) (record { sections = s; stage = stage }) (record { sections = s; stage = stage }) at bytes
 section_none s stage at bytes e few = record {
-  steps = λ more m c. (c, λ none.
-      let empty = no_byte bytes few in
-      let a = subst (λ z. AheadOf z (state_of s) c.sum at (bytes ++ more)) e c.ahead in
-      let nothing : bytes ++ more ≡ [] = ap (λ z. z ++ more) empty ∙ none in
-      (empty, ap (λ z. z.held) (sections_none a.0 (state_of s) c.sum at (bytes ++ more) nothing a.1 a.2) ∙ c.is));
+  steps = λ more m c. (
+    c,
+    λ none.
+        let empty = no_byte bytes few in
+        let a = subst (λ z. AheadOf z (state_of s) c.sum at (bytes ++ more)) e c.ahead in
+        let nothing : bytes ++ more ≡ [] = ap (λ z. z ++ more) empty ∙ none in
+        (empty, ap (λ z. z.held) (sections_none a.0 (state_of s) c.sum at (bytes ++ more) nothing a.1 a.2) ∙ c.is),
+  );
 }
 
 -- the section at the front
@@ -143,11 +149,14 @@ extent_of P at k bytes h = let z = h.1 in (h.0, (z.0, z.1, z.2, z.3, (z.4.0, tt)
 pub section_waits : (s : Sections) (stage : Stage) (at : ℕ) (bytes : List ℕ) → stage ≡ Section → 1 ≤ length bytes → NoEnd bytes 1
     → Steps (Ok None) (record { sections = s; stage = stage }) (record { sections = s; stage = stage }) at bytes
 section_waits s stage at bytes e some never = record {
-  steps = λ more m c. (c, λ none.
-      let a = subst (λ z. AheadOf z (state_of s) c.sum at (bytes ++ more)) e c.ahead in
-      let f = first_section s c.sum at bytes more (some_same bytes some) a in
-      let alone : drop 1 bytes ≡ f.content ++ f.behind = sym (append-nil (drop 1 bytes)) ∙ ap (λ z. drop 1 bytes ++ z) (sym none) ∙ f.whole in
-      absurd (never f.content f.behind 0 alone (extent_of (ContentOf f.section) (at + 1) 0 f.content f.sized)));
+  steps = λ more m c. (
+    c,
+    λ none.
+        let a = subst (λ z. AheadOf z (state_of s) c.sum at (bytes ++ more)) e c.ahead in
+        let f = first_section s c.sum at bytes more (some_same bytes some) a in
+        let alone : drop 1 bytes ≡ f.content ++ f.behind = sym (append-nil (drop 1 bytes)) ∙ ap (λ z. drop 1 bytes ++ z) (sym none) ∙ f.whole in
+        absurd (never f.content f.behind 0 alone (extent_of (ContentOf f.section) (at + 1) 0 f.content f.sized)),
+  );
 }
 
 -- where a section that ends there is spelled, and what is behind it
@@ -320,24 +329,30 @@ code_step s stage behind at size place count end bytes e id first second within 
 pub code_waits : (s : Sections) (stage : Stage) (at : ℕ) (bytes : List ℕ) → stage ≡ Section → bytes ≡ 10 ∷ drop 1 bytes → NoNumberAt bytes 1
     → Steps (Ok None) (record { sections = s; stage = stage }) (record { sections = s; stage = stage }) at bytes
 code_waits s stage at bytes e id never = record {
-  steps = λ more m c. (c, λ none.
-      let p = state_of s in
-      let a = subst (λ z. AheadOf z p c.sum at (bytes ++ more)) e c.ahead in
-      let h = code_here p c.sum at bytes more id a in
-      absurd (never h.size_bytes (h.count_bytes ++ (h.items ++ h.behind)) h.size
-      (sym (append-nil (drop 1 bytes)) ∙ ap (λ z. drop 1 bytes ++ z) (sym none) ∙ left_one p c.sum at bytes more id h) h.is_size));
+  steps = λ more m c. (
+    c,
+    λ none.
+        let p = state_of s in
+        let a = subst (λ z. AheadOf z p c.sum at (bytes ++ more)) e c.ahead in
+        let h = code_here p c.sum at bytes more id a in
+        absurd (never h.size_bytes (h.count_bytes ++ (h.items ++ h.behind)) h.size
+        (sym (append-nil (drop 1 bytes)) ∙ ap (λ z. drop 1 bytes ++ z) (sym none) ∙ left_one p c.sum at bytes more id h) h.is_size),
+  );
 }
 
 pub count_waits : (s : Sections) (stage : Stage) (at size place : ℕ) (bytes : List ℕ) → stage ≡ Section → bytes ≡ 10 ∷ drop 1 bytes → NumberAt bytes 1 size place → place ≤ length bytes
     → NoNumberAt bytes place → Steps (Ok None) (record { sections = s; stage = stage }) (record { sections = s; stage = stage }) at bytes
 count_waits s stage at size place bytes e id first within never = record {
-  steps = λ more m c. (c, λ none.
-      let p = state_of s in
-      let a = subst (λ z. AheadOf z p c.sum at (bytes ++ more)) e c.ahead in
-      let h = code_here p c.sum at bytes more id a in
-      let n = first.is more h.size_bytes (h.count_bytes ++ (h.items ++ h.behind)) h.size (left_one p c.sum at bytes more id h) h.is_size in
-      absurd (never h.count_bytes (h.items ++ h.behind) (length h.fs)
-      (sym (append-nil (drop place bytes)) ∙ ap (λ z. drop place bytes ++ z) (sym none) ∙ left_two p c.sum at place bytes more h n.1 within) h.is_count));
+  steps = λ more m c. (
+    c,
+    λ none.
+        let p = state_of s in
+        let a = subst (λ z. AheadOf z p c.sum at (bytes ++ more)) e c.ahead in
+        let h = code_here p c.sum at bytes more id a in
+        let n = first.is more h.size_bytes (h.count_bytes ++ (h.items ++ h.behind)) h.size (left_one p c.sum at bytes more id h) h.is_size in
+        absurd (never h.count_bytes (h.items ++ h.behind) (length h.fs)
+        (sym (append-nil (drop place bytes)) ∙ ap (λ z. drop place bytes ++ z) (sym none) ∙ left_two p c.sum at place bytes more h n.1 within) h.is_count),
+  );
 }
 
 -- the body at the front, and what is behind it
@@ -381,10 +396,13 @@ body_extent f at bytes (raw, is, h) = (raw.size, (h.0, h.1, h.2, h.3, (h.4.0, tt
 pub body_waits : (s : Sections) (stage : Stage) (k at : ℕ) (bytes : List ℕ) → stage ≡ Body k → NoEnd bytes 0
     → Steps (Ok None) (record { sections = s; stage = stage }) (record { sections = s; stage = stage }) at bytes
 body_waits s stage k at bytes e never = record {
-  steps = λ more m c. (c, λ none.
-      let a = subst (λ z. AheadOf z (state_of s) c.sum at (bytes ++ more)) e c.ahead in
-      let f = body_first a.0 k (state_of s) c.sum at (bytes ++ more) a.1 a.2 a.3 in
-      absurd (never f.front (f.items ++ f.behind) 0 (sym (append-nil bytes) ∙ ap (λ z. bytes ++ z) (sym none) ∙ f.whole) (body_extent f.func at f.front f.body)));
+  steps = λ more m c. (
+    c,
+    λ none.
+        let a = subst (λ z. AheadOf z (state_of s) c.sum at (bytes ++ more)) e c.ahead in
+        let f = body_first a.0 k (state_of s) c.sum at (bytes ++ more) a.1 a.2 a.3 in
+        absurd (never f.front (f.items ++ f.behind) 0 (sym (append-nil bytes) ∙ ap (λ z. bytes ++ z) (sym none) ∙ f.whole) (body_extent f.func at f.front f.body)),
+  );
 }
 
 pub no_type : {q : Result (Option ℕ) BuildFault} (s : Sections) (new : Builder) (stage : Stage) (k at : ℕ) (bytes : List ℕ) → stage ≡ Body k → length s.sorts.items ≤ k
@@ -451,7 +469,7 @@ body_built s new stage behind k at end sort bytes old here b items e ends within
       let sections = subst (λ n. SpelledSections (with_funcs p (f.func ∷ f.funcs)) c.sum (n + length f.items) f.behind) there f.ahead in
       let q = with_funcs p (f.func ∷ []) in
       let rest = bodies_ahead (k + 1) q c.sum f.funcs (at + end) (drop end bytes ++ more) f.sorted
-          (f.items, f.behind, h.left, others, subst (λ z. SpelledSections z c.sum (at + end + length f.items) f.behind) (more_funcs p f.func f.funcs) sections) in
+      (f.items, f.behind, h.left, others, subst (λ z. SpelledSections z c.sum (at + end + length f.items) f.behind) (more_funcs p f.func f.funcs) sections) in
       record {
         sum = c.sum;
         is = c.is;

@@ -1,5 +1,6 @@
 -- Where numbers and parts that stand behind their size end, whatever follows.
-use Rattle.std.proofs.Common.{◌≡◌, ℕ, ◌+◌, ◌-◌, ◌^◌, ◌<◌, ◌≤◌, List, [], ◌∷◌, ◌++◌, Result, Ok, Err, ap, sym, ◌∙◌, refl, arith, append_assoc, append-nil, length, length-append, length-drop, drop, nat_lt}
+use Rattle.std.proofs.Common.{◌≡◌, ℕ, ◌+◌, ◌-◌, ◌^◌, ◌<◌, ◌≤◌, List, [], ◌∷◌, ◌++◌, Result, Ok, Err, ap, sym, ◌∙◌, refl, arith, append_assoc, append-nil, length, length-append, length-drop}
+use Rattle.std.proofs.Common.{drop, nat_lt}
 use Rattle.wa_types.specs.declared.leb.LebFault.{LebFault}
 use Rattle.wa_types.specs.declared.leb.LebFault.TheVariants.{Short}
 use Rattle.wa_types.specs.Leb.{IsUnsigned, unsigned_at}

@@ -43,12 +43,7 @@ impl Builder {
 
     /// Builds what is whole of these bytes, which come next at this offset, and tells how many bytes that is. Where they are the rest of the file that
     /// is all of them. For bytes that are no part of a file that spells a module the answer has no meaning.
-    pub fn take(
-        &mut self,
-        alloc: Global,
-        bytes: &[u8],
-        first: usize,
-    ) -> Result<usize, BuildFault>
+    pub fn take(&mut self, alloc: Global, bytes: &[u8], first: usize) -> Result<usize, BuildFault>
         requires { first + length bytes.now < 2 ^ 64 }
         ensures within { IfOk result (λ used. used ≤ length bytes.now) }
         ensures takes { Takes result self.old self.new first bytes.now }

@@ -1,5 +1,6 @@
 -- Numbers at the front of a place.
-use Rattle.std.proofs.Common.{◌≡◌, ℕ, ◌+◌, ◌-◌, ◌^◌, ◌≤◌, List, [], ◌∷◌, ◌++◌, Bool, true, false, cond, Result, Ok, ap, sym, ◌∙◌, subst, arith, length, drop, nat_lt, nat_eq, IsTrue, length-drop, add-zero}
+use Rattle.std.proofs.Common.{◌≡◌, ℕ, ◌+◌, ◌-◌, ◌^◌, ◌≤◌, List, [], ◌∷◌, ◌++◌, Bool, true, false, cond, Result, Ok, ap, sym, ◌∙◌, subst, arith, length, drop, nat_lt, nat_eq, IsTrue}
+use Rattle.std.proofs.Common.{length-drop, add-zero}
 use Rattle.std.proofs.lemmas.List.{drop_all, drop-drop}
 use Rattle.std.proofs.lemmas.Bool.{eqb-true, eq-eqb}
 use Rattle.std.proofs.Math.Seq.{drop-append_seam}
@@ -63,13 +64,15 @@ goes_on first bytes at end p v h k =
       left = omega (arith, length-drop end bytes, length-drop at bytes);
     })
 
-pub unsigned_on : (first : ℕ) (bits : ℕ) (bytes : List ℕ) (at end : ℕ) (r : Result ℕ LebFault) (p : Place) → place_from first bytes at ≡ p → (r, end) ≡ unsigned_at bits (drop at bytes) at → end ≤ length bytes
+pub unsigned_on : (first : ℕ) (bits : ℕ) (bytes : List ℕ) (at end : ℕ) (r : Result ℕ LebFault) (p : Place) → place_from first bytes at ≡ p → (r, end) ≡ unsigned_at bits (drop at bytes) at
+    → end ≤ length bytes
     → Onward p (place_from first bytes end)
 unsigned_on first bits bytes at end r p v f k =
     let place : end ≡ (unsigned_at bits (drop at bytes) at).1 = ap (λ q. q.1) f in
     goes_on first bytes at end p v (omega (arith, place, unsigned_grows bits (drop at bytes) at)) k
 
-pub signed_on : (first : ℕ) (bits : ℕ) (bytes : List ℕ) (at end : ℕ) (r : Result ℕ LebFault) (p : Place) → place_from first bytes at ≡ p → (r, end) ≡ signed_at bits (drop at bytes) at → end ≤ length bytes
+pub signed_on : (first : ℕ) (bits : ℕ) (bytes : List ℕ) (at end : ℕ) (r : Result ℕ LebFault) (p : Place) → place_from first bytes at ≡ p → (r, end) ≡ signed_at bits (drop at bytes) at
+    → end ≤ length bytes
     → Onward p (place_from first bytes end)
 signed_on first bits bytes at end r p v f k =
     let place : end ≡ (signed_at bits (drop at bytes) at).1 = ap (λ q. q.1) f in

@@ -66,7 +66,12 @@ impl Machine {
 
     /// Takes all items that are whole so far. As the file grows it may be called again, each time over all bytes so far,
     /// from the first on; after an error it may not.
-    pub fn feed(&mut self, alloc: Global, bytes: &Window<'_>, bounds: &Bounds) -> Result<(), CheckFault>
+    pub fn feed(
+        &mut self,
+        alloc: Global,
+        bytes: &Window<'_>,
+        bounds: &Bounds,
+    ) -> Result<(), CheckFault>
         requires from { bytes.now.base ≤ self.old.at }
         requires stands { Stands bounds.now self.old.marks bytes.now.all self.old.at self.old.goals }
         ensures ok { OnOk result (Waits bounds.now self.new.marks bytes.now.all self.new.at self.new.goals) }
@@ -115,10 +120,16 @@ impl Machine {
     }
 
     // Takes what is short, and one more item; false where that isn't whole yet.
-    fn go_on(&mut self, alloc: Global, bytes: &Window<'_>, bounds: &Bounds) -> Result<bool, CheckFault>
+    fn go_on(
+        &mut self,
+        alloc: Global,
+        bytes: &Window<'_>,
+        bounds: &Bounds,
+    ) -> Result<bool, CheckFault>
         requires from { bytes.now.base ≤ self.old.at }
         requires stands { Stands bounds.now self.old.marks bytes.now.all self.old.at self.old.goals }
-        ensures on { IfOk result (λ on. MatchBool on (Stands bounds.now self.new.marks bytes.now.all self.new.at self.new.goals) (Waits bounds.now self.new.marks bytes.now.all self.new.at self.new.goals)) }
+        ensures on { IfOk result (λ on. MatchBool on (Stands bounds.now self.new.marks bytes.now.all self.new.at self.new.goals)
+            (Waits bounds.now self.new.marks bytes.now.all self.new.at self.new.goals)) }
         ensures more { IfOk result (λ on. MatchBool on ((self.old.at < self.new.at) × (self.new.at ≤ length bytes.now.all)) Unit) }
         ensures ahead { self.old.at ≤ self.new.at }
         ensures err { IfErr result (IsFault bytes.now.all) }
@@ -143,7 +154,12 @@ impl Machine {
     }
 
     // Takes entries of one byte each, or runs of two, with one left.
-    fn pass_entries(&mut self, alloc: Global, bytes: &Window<'_>, stop: usize) -> Result<(), AllocError>
+    fn pass_entries(
+        &mut self,
+        alloc: Global,
+        bytes: &Window<'_>,
+        stop: usize,
+    ) -> Result<(), AllocError>
         requires from { bytes.now.base ≤ self.old.at }
         requires below { Below stop self.old.goals }
         requires stop { stop ≤ length bytes.now.all }
@@ -261,10 +277,16 @@ impl Machine {
     }
 
     // Takes one more item; false where it isn't whole yet.
-    fn advance(&mut self, alloc: Global, bytes: &Window<'_>, bounds: &Bounds) -> Result<bool, CheckFault>
+    fn advance(
+        &mut self,
+        alloc: Global,
+        bytes: &Window<'_>,
+        bounds: &Bounds,
+    ) -> Result<bool, CheckFault>
         requires from { bytes.now.base ≤ self.old.at }
         requires stands { Stands bounds.now self.old.marks bytes.now.all self.old.at self.old.goals }
-        ensures on { IfOk result (λ on. MatchBool on (Stands bounds.now self.new.marks bytes.now.all self.new.at self.new.goals) (Waits bounds.now self.new.marks bytes.now.all self.new.at self.new.goals)) }
+        ensures on { IfOk result (λ on. MatchBool on (Stands bounds.now self.new.marks bytes.now.all self.new.at self.new.goals)
+            (Waits bounds.now self.new.marks bytes.now.all self.new.at self.new.goals)) }
         ensures more { IfOk result (λ on. MatchBool on ((self.old.at < self.new.at) × (self.new.at ≤ length bytes.now.all)) Unit) }
         ensures ahead { self.old.at ≤ self.new.at }
         ensures err { IfErr result (IsFault bytes.now.all) }

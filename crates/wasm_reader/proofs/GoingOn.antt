@@ -1,5 +1,6 @@
 -- A file goes on behind what has been read and built of it.
-use Rattle.std.proofs.Common.{◌≡◌, ℕ, ◌+◌, ◌<◌, ◌≤◌, List, [], ◌++◌, Option, Some, None, Bool, true, Result, Ok, Err, refl, sym, ap, ◌∙◌, subst, arith, length, take, drop, length-append, length-take-le}
+use Rattle.std.proofs.Common.{◌≡◌, ℕ, ◌+◌, ◌<◌, ◌≤◌, List, [], ◌++◌, Option, Some, None, Bool, true, Result, Ok, Err, refl, sym, ap, ◌∙◌, subst, arith, length, take, drop, length-append}
+use Rattle.std.proofs.Common.{length-take-le}
 use Rattle.std.proofs.Common.{append_assoc, append-nil, length-drop, ◌-◌}
 use Rattle.std.specs.Bool.{OnTrue}
 use Rattle.std.specs.List.{copy_within}

@@ -13,7 +13,8 @@ loop-more-preserved c =
     let s = take_all (length c.args.bytes.now - c.loop-more.used) (drop c.loop-more.used c.args.bytes.now) (omega (arith, length-drop c.loop-more.used c.args.bytes.now)) in
     record {
       within = step_fits c.args.bytes.now _ c.loop-more.used c.in-Some.more c.in_ok-more.field-0 c.in-Some.is s v c.in_ok-more.ensures.within;
-      comes = takes_more c.args.self.now c.loop-more.self c.step.new.self c.args.first c.loop-more.used c.in-Some.more c.args.bytes.now _ _ c.in-Some.is s c.loop-more.invariant.comes c.in_ok-more.ensures.steps;
+      comes = takes_more c.args.self.now c.loop-more.self c.step.new.self c.args.first c.loop-more.used c.in-Some.more c.args.bytes.now _ _ c.in-Some.is s c.loop-more.invariant.comes
+          c.in_ok-more.ensures.steps;
     }
 
 pub returns-clause-takes : goal.returns-clause-takes
