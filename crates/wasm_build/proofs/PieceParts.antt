@@ -7,9 +7,8 @@ use Rattle.wa_types.specs.declared.syntax.Func.{Func as FuncValue}
 use Rattle.wa_types.specs.Binary.{Section as PlainSection, section_id}
 use Rattle.wa_types.specs.Encoding.{preamble}
 use Rattle.wa_types.specs.Syntax.{Func, Module}
-use Rattle.wa_types.specs.View.{code, func_of}
+use Rattle.wa_types.specs.View.{func_of}
 use Rattle.wa_types.specs.Spells.{◌▸◌, Exactly, Items, Sized, ContentOf, SectionOf}
-use Rattle.wa_types.specs.Reading.{SpellsModule}
 use Rattle.file_laws.proofs.Items.{same_cut}
 use Rattle.wasm_cursor.specs.Places.{Place, place_at}
 use Rattle.wasm_build.specs.declared.BuildFault.{BuildFault}
@@ -19,15 +18,15 @@ use Rattle.wasm_build.specs.declared.builder.Stage.{Stage}
 use Rattle.wasm_build.specs.declared.builder.Stage.TheVariants.{Preamble, Section, Body}
 use Rattle.wasm_build.specs.declared.entries.Body.{Body as BodyValue}
 use Rattle.wasm_build.specs.declared.sections.Sections.{Sections}
-use Rattle.wasm_build.specs.Builds.{Between, Builds, Gives}
+use Rattle.wasm_build.specs.Builds.{Between, Builds}
 use Rattle.wasm_build.specs.BuildsModule.{State, state_of, nothing_yet, Adds, AddsAll, SpelledSection, SpelledSections}
-use Rattle.wasm_build.specs.BuildsSections.{PlainBody, SpelledBody, SpelledFunc, body_of}
+use Rattle.wasm_build.specs.BuildsSections.{SpelledBody, SpelledFunc, body_of}
 use Rattle.wasm_build.specs.BuildsPieces.{with_funcs, SpelledBodies, AheadOf, stage_behind, Comes, Coming, Stepped, Steps, Taken, Takes}
 use Rattle.wasm_build.specs.Extents.{Extent, NumberAt, NoNumberAt, EndsAt, NoEnd}
 use Rattle.wasm_build.proofs.Betweens.{map_append}
 use Rattle.wasm_build.proofs.FuncParts.{plain_body, as_body}
 use Rattle.wasm_build.proofs.ModuleSums.{module_adds}
-use Rattle.wasm_build.proofs.SectionArms.{Coded, code_arm}
+use Rattle.wasm_build.proofs.SectionArms.{code_arm}
 
 -- A front that ends within the bytes is cut off them.
 record Cut (bytes more front behind : List ℕ) : Type 0 where

@@ -3,7 +3,7 @@ use Rattle.std.proofs.Common.{◌≡◌, ℕ, ◌+◌, ◌-◌, ◌^◌, ◌<◌
 use Rattle.std.proofs.Common.{drop, nat_lt}
 use Rattle.wa_types.specs.declared.leb.LebFault.{LebFault}
 use Rattle.wa_types.specs.declared.leb.LebFault.TheVariants.{Short}
-use Rattle.wa_types.specs.Leb.{IsUnsigned, unsigned_at}
+use Rattle.wa_types.specs.Leb.{unsigned_at}
 use Rattle.file_laws.proofs.NumberReading.{unsigned_stays, unsigned_again}
 use Rattle.wasm_cursor.proofs.Cursors.{unsigned_grows, either_grows}
 use Rattle.wasm_build.specs.Extents.{NumberAt, NoNumberAt, EndsAt, NoEnd}

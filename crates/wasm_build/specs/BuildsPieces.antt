@@ -2,7 +2,6 @@
 use Rattle.std.specs.Prelude.{◌≡◌, ℕ, ◌+◌, ◌<◌, List, [], ◌++◌, map, length, drop, Option, Some, None, Result, Ok, Err, nat_lt, if◌then◌else◌}
 use Rattle.wa_types.specs.Encoding.{preamble}
 use Rattle.wa_types.specs.Syntax.{Func, Module}
-use Rattle.wa_types.specs.View.{module_of}
 use Rattle.wa_types.specs.Spells.{◌▸◌, Exactly, Items}
 use Rattle.wa_types.specs.Reading.{SpellsModule}
 use Rattle.wasm_build.specs.declared.BuildFault.{BuildFault}

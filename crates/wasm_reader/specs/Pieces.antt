@@ -1,5 +1,5 @@
 -- Files that come in pieces.
-use Rattle.std.specs.Prelude.{◌≡◌, ℕ, suc, ◌<◌, ◌≤◌, ◌++◌, List, [], length, Option, Some, None}
+use Rattle.std.specs.Prelude.{◌≡◌, ℕ, suc, ◌<◌, ◌≤◌, ◌++◌, List, [], length, Option, None}
 use Rattle.wa_types.specs.ModuleBounds.{ModuleBounds}
 use Rattle.wa_types.specs.declared.bounds.LimitKind.TheVariants.{File}
 use Rattle.wasm_grammar.specs.Machine.{StopsAt}

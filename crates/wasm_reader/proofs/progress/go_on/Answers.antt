@@ -1,4 +1,4 @@
-use Rattle.std.proofs.Common.{Some, ◌++◌, ap, sym, ◌∙◌, subst, append_assoc, take, ◌-◌, refl, arith}
+use Rattle.std.proofs.Common.{Some, ◌++◌, ap, sym, ◌∙◌, subst, append_assoc, take, ◌-◌}
 use Rattle.wasm_reader.specs.Progress.{Awaits}
 use Rattle.wasm_reader.proofs.GoingOn.{goes_behind, same_bytes, awaits_more, hopeless_deep, at_file, in_file, all_of, behind_passed, used_reached}
 use Rattle.wasm_reader.proofs.progress.go_on.Goals as goal

@@ -1,4 +1,4 @@
-use Rattle.std.proofs.Common.{◌-◌, ◌+◌, arith, length, length-drop, drop}
+use Rattle.std.proofs.Common.{◌-◌, arith, length, length-drop, drop}
 use Rattle.std.proofs.lemmas.List.{take_all}
 use Rattle.std.proofs.lemmas.Result.{err_from_is_err_and}
 use Rattle.wasm_build.proofs.PieceParts.{step_fits, takes_none, takes_more, takes_all, takes_lost}
