@@ -145,9 +145,9 @@ impl Machine {
         ensures ok { OnOk result (Stands bounds.now self.new.marks bytes.now.all self.new.at self.new.goals) }
         ensures ahead { self.old.at ≤ self.new.at }
     {
-        let Some(stop) = self.goals.end_within(bytes.len()) else {
-            return Ok(());
-        };
+        let last = bytes.len();
+        let end = self.goals.end_within(last);
+        let stop = end.unwrap_or(last);
         self.pass_entries(alloc, bytes, stop)?;
         while self.pass_code(alloc, bytes, stop, bounds)? {}
         Ok(())
