@@ -80,6 +80,27 @@ impl Machine {
         ensures err { IfErr result (IsFault bytes.now.all) }
         ensures from { bytes.now.base ≤ self.new.at }
     {
+        // A window of its own has its fields in registers.
+        let file = bytes.again();
+        self.feed_all(alloc, &file, bounds)
+    }
+
+    // The same over a window that nobody else holds.
+    #[inline(always)]
+    fn feed_all(
+        &mut self,
+        alloc: Global,
+        bytes: &Window<'_>,
+        bounds: &Bounds,
+    ) -> Result<(), CheckFault>
+        requires from { bytes.now.base ≤ self.old.at }
+        requires stands { Stands bounds.now self.old.marks bytes.now.all self.old.at self.old.goals }
+        ensures ok { OnOk result (Waits bounds.now self.new.marks bytes.now.all self.new.at self.new.goals) }
+        ensures begun { OnOk result (Begun bytes.now.all) }
+        ensures more { OnOk result ((piece : List ℕ) → Stands bounds.now self.new.marks (bytes.now.all ++ piece) self.new.at self.new.goals) }
+        ensures err { IfErr result (IsFault bytes.now.all) }
+        ensures from { bytes.now.base ≤ self.new.at }
+    {
         while self.go_on(alloc, bytes, bounds)? {}
         Ok(())
     }

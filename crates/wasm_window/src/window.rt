@@ -51,6 +51,18 @@ impl<'a> Window<'a> {
         }
     }
 
+    /// The same, to be held where bytes are looked at one by one.
+    #[inline(always)]
+    pub fn again(&self) -> Window<'a>
+        ensures { result ≡ self.now }
+    {
+        Window {
+            bytes: self.bytes,
+            base: self.base,
+            before: self.before,
+        }
+    }
+
     /// How many bytes have come.
     #[inline(always)]
     pub fn len(&self) -> usize

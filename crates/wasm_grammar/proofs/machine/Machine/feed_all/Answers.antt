@@ -1,6 +1,6 @@
 use Rattle.wasm_grammar.proofs.Faults.{on_false}
 use Rattle.wasm_grammar.proofs.PieceEnds.{waits_begun, stands_on}
-use Rattle.wasm_grammar.proofs.machine.Machine.feed.Goals as goal
+use Rattle.wasm_grammar.proofs.machine.Machine.feed_all.Goals as goal
 
 pub returns-clause-begun : goal.returns-clause-begun
 returns-clause-begun c = waits_begun c.args.bytes.now.all _ _ (on_false _ _ _ c.if-branch.false c.in_ok-go_on.ensures.on)

@@ -1,6 +1,6 @@
 use Rattle.std.proofs.Common.{◌-◌, ◌≤◌, length}
 use Rattle.wasm_grammar.specs.Machine.{Stands}
-use Rattle.wasm_grammar.proofs.machine.Machine.feed.Given as goal
+use Rattle.wasm_grammar.proofs.machine.Machine.feed_all.Given as goal
 
 abbrev pub invariant-loop : goal.invariant-loop
 invariant-loop l = record {
