@@ -25,7 +25,7 @@ sorts_of fs = map (λ (f : Func). f.sort) fs
 abbrev pub value_sorts : List FuncValue → List ℕ
 value_sorts fs = map (λ (f : FuncValue). f.sort) fs
 
-as_body : (f : Func) (at : ℕ) (bytes : List ℕ) → SpelledFunc f at bytes → SpelledBody (plain_body f) at bytes
+pub as_body : (f : Func) (at : ℕ) (bytes : List ℕ) → SpelledFunc f at bytes → SpelledBody (plain_body f) at bytes
 as_body f at bytes (raw, is, h) = (raw, record { locals = is.locals; code = is.body }, h)
 
 as_bodies : (fs : List Func) (at : ℕ) (bytes : List ℕ) → Items SpelledFunc fs at bytes → Items SpelledBody (map plain_body fs) at bytes

@@ -4,9 +4,10 @@ pub mod EntryParts
 pub mod FuncParts
 pub mod ModuleSums
 pub mod OpenLevels
+pub mod PieceParts
 pub mod PlainNames
 pub mod PlainParts
-pub mod Reading
 pub mod SectionArms
 pub mod SectionParts
+pub mod SizedParts
 pub mod Steps

@@ -241,7 +241,7 @@ pub record Coded (p q : State) (at : ℕ) (bytes : List ℕ) : Type 0 where
   pub state : q ≡ record p { held = record p.held { funcs = p.held.funcs ++ fs }; last = 10 }
   pub sized : Sized (Vector SpelledFunc fs) at bytes
 
-code_arm : (p : State) (s : Section) (q : State) (at : ℕ) (bytes : List ℕ) → section_id s ≡ 10 → Adds s p q → Sized (ContentOf s) at bytes → Coded p q at bytes
+pub code_arm : (p : State) (s : Section) (q : State) (at : ℕ) (bytes : List ℕ) → section_id s ≡ 10 → Adds s p q → Sized (ContentOf s) at bytes → Coded p q at bytes
 code_arm p (custom name content) q at bytes e a h = absurd (omega (arith, e))
 code_arm p (types ts) q at bytes e a h = absurd (omega (arith, e))
 code_arm p (imports is) q at bytes e a h = absurd (omega (arith, e))

@@ -2,4 +2,6 @@ pub mod Builds
 pub mod BuildsCode
 pub mod BuildsLevels
 pub mod BuildsModule
+pub mod BuildsPieces
 pub mod BuildsSections
+pub mod Extents

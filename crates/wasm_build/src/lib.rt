@@ -1,29 +1,24 @@
-//! Builds a module from bytes that are known to spell one.
+//! Builds a module from bytes that are known to spell one, as they come.
 //!
-//! `build` reads entry by entry, and code in a loop over its instructions: constructs that are open wait on a stack. What each part builds is what the bytes from one place to another spell (`specs/Builds.antt`).
+//! `Builder` takes whole sections, and of the code section whole bodies, and keeps no byte of them (`specs/BuildsPieces.antt`). Sections are read
+//! entry by entry, and code in a loop over its instructions: constructs that are open wait on a stack. What each part builds is what the bytes
+//! from one place to another spell (`specs/Builds.antt`).
 #![tactic(auto)]
 
+mod builder;
 mod code;
 mod entries;
 mod entry;
+mod extents;
 mod levels;
 mod plain;
 mod sections;
 mod types;
 
-ghost use Rattle.std.specs.Prelude.{◌≡◌, ◌≤◌, length};
-ghost use Rattle.wa_types.specs.Encoding.{preamble};
-ghost use Rattle.wa_types.specs.Syntax.{Module as PlainModule};
-ghost use Rattle.wa_types.specs.Spells.{Exactly};
-ghost use Rattle.wa_types.specs.Reading.{SpellsModule};
-ghost use Rattle.wasm_build.specs.Builds.{Passes};
-ghost use Rattle.wasm_build.specs.BuildsModule.{GivesModule};
-
-use sections::Sections;
-use std::alloc::{AllocError, AllocFailed, Global};
+pub use builder::Builder;
+use std::alloc::{AllocError, AllocFailed};
 use thiserror::Error;
-use wa_types::Module;
-use wasm_cursor::{Cursor, NotSpelled};
+use wasm_cursor::NotSpelled;
 
 /// Why nothing was built.
 #[derive(Clone, Copy, Debug, PartialEq, Eq, Error)]
@@ -64,31 +59,4 @@ impl From<NotSpelled> for BuildFault {
     fn from(_error: NotSpelled) -> BuildFault {
         BuildFault::NotSpelled
     }
-}
-
-/// The magic number and the version (standard, section 5.5.15).
-const PREAMBLE: [u8; 8] = *b"\0asm\x01\0\0\0";
-
-// The preamble.
-fn magic(input: &mut Cursor<'_>) -> Result<(), NotSpelled>
-    ensures { Passes (Exactly preamble) result input.old input.new }
-{
-    if input.take(8)? != PREAMBLE.as_slice() {
-        return Err(NotSpelled);
-    }
-    Ok(())
-}
-
-/// The module that these bytes spell (standard, section 5.5.15). For bytes that spell none the answer has no meaning.
-/// Takes time linear in the bytes, and stack for each level of nesting.
-pub fn build(alloc: Global, bytes: &[u8]) -> Result<Module, BuildFault>
-    ensures { (m : PlainModule) → SpellsModule bytes.now m → GivesModule result m }
-{
-    let mut input = Cursor::new(bytes);
-    magic(&mut input)?;
-    let mut sections = Sections::new(alloc);
-    while !input.is_at_end() {
-        sections.read(alloc, &mut input)?;
-    }
-    Ok(sections.into_module())
 }

@@ -18,9 +18,9 @@ use wasm_cursor::Cursor;
 /// The sections that were read: the module so far, the types of its functions, and the id of the last known section.
 #[derive(Drop)]
 pub(crate) struct Sections {
-    module: Module,
-    sorts: Vec<u32>,
-    last: u8,
+    pub(crate) module: Module,
+    pub(crate) sorts: Vec<u32>,
+    pub(crate) last: u8,
 }
 
 impl Sections {

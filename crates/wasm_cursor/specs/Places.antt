@@ -11,6 +11,14 @@ pub record Place : Type 0 where
 abbrev pub place_in : (bytes : List ℕ) (at : ℕ) → Place
 place_in bytes at = record { at = at; left = drop at bytes }
 
+-- the same where the first of these bytes has an offset of its own
+abbrev pub place_from : (first : ℕ) (bytes : List ℕ) (at : ℕ) → Place
+place_from first bytes at = record { at = first + at; left = drop at bytes }
+
+-- the place at the first of these bytes, which has this offset
+abbrev pub place_at : (first : ℕ) (bytes : List ℕ) → Place
+place_at first bytes = record { at = first; left = bytes }
+
 -- the place behind these bytes, where those are left
 abbrev pub behind : Place → (passed left : List ℕ) → Place
 behind p passed left = record { at = p.at + length passed; left = left }

@@ -2,7 +2,7 @@
 
 ghost use Rattle.std.specs.Prelude.{◌≡◌, ℕ, ◌+◌, ◌<◌, ◌^◌, [], ◌∷◌, ◌++◌, length, IfOk, OnErr, IsTrue, ◌↔◌};
 ghost use Rattle.wa_types.specs.Leb.{IsUnsigned, IsSigned};
-ghost use Rattle.wasm_cursor.specs.Places.{Onward, ReadsNumber, place_in};
+ghost use Rattle.wasm_cursor.specs.Places.{Onward, ReadsNumber, place_at, place_in};
 
 use crate::numbers;
 use std::marker::Model;
@@ -25,15 +25,17 @@ impl From<LebFault> for NotSpelled {
 pub struct Cursor<'a> {
     bytes: &'a [u8],
     at: usize,
+    // The offset of the first byte.
+    first: usize,
 }
 
 impl<'a> Model for Cursor<'a> {
     ghost use Rattle.std.specs.Prelude.{length, ◌≤◌};
-    ghost use Rattle.wasm_cursor.specs.Places.{Place, place_in};
+    ghost use Rattle.wasm_cursor.specs.Places.{Place, place_from};
 
     ghost Value = { Place };
 
-    ghost view = { λ s. place_in s.bytes.now s.at };
+    ghost view = { λ s. place_from s.first s.bytes.now s.at };
 
     ghost invariant = { λ s. s.at ≤ length s.bytes.now };
 }
@@ -43,14 +45,22 @@ impl<'a> Cursor<'a> {
     pub fn new(bytes: &'a [u8]) -> Cursor<'a>
         ensures { result ≡ place_in bytes.now 0 }
     {
-        Cursor { bytes, at: 0 }
+        Cursor {
+            bytes,
+            at: 0,
+            first: 0,
+        }
     }
 
-    /// The offset.
-    pub fn at(&self) -> usize
-        ensures { result ≡ self.now.at }
+    /// The place at the first of these bytes, whose offset this is.
+    pub fn new_at(first: usize, bytes: &'a [u8]) -> Cursor<'a>
+        ensures { result ≡ place_at first bytes.now }
     {
-        self.at
+        Cursor {
+            bytes,
+            at: 0,
+            first,
+        }
     }
 
     /// Whether no byte is left.

@@ -163,6 +163,22 @@ ended_there gs hs last end (Some x) e f reached i =
 pub stop_there : (o : Option ℕ) (stop last end : ℕ) → o ≡ Some end → stop ≡ unwrap_or o last → stop ≡ end
 stop_there o stop last end e f = f ∙ ap (λ z. unwrap_or z last) e
 
+-- the same of the number that is all bytes' length
+pub reached_at : (gs : List Goal) (o : Option ℕ) {n last : ℕ} → n ≡ last → IsReached gs n o → IsReached gs last o
+reached_at gs o e reached = subst (λ z. IsReached gs z o) e reached
+
+pub stop_at : (o : Option ℕ) {stop n last : ℕ} → n ≡ last → stop ≡ unwrap_or o n → stop ≡ unwrap_or o last
+stop_at o e f = f ∙ ap (unwrap_or o) e
+
+-- no content ends before the place where one ends first, or before the end of all bytes
+pub below_stop : (gs : List Goal) (o : Option ℕ) (n last stop : ℕ) → n ≡ last → IsReached gs n o → stop ≡ unwrap_or o n → (j : ℕ) → j < stop → Inside j gs
+below_stop gs None n last stop e reached f = λ j lt. reached j (omega (arith, f, lt))
+below_stop gs (Some x) n last stop e reached f = λ j lt. reached.1 j (omega (arith, f, lt))
+
+pub stop_within : (gs : List Goal) (o : Option ℕ) (n last stop : ℕ) → n ≡ last → IsReached gs n o → stop ≡ unwrap_or o n → stop ≤ last
+stop_within gs None n last stop e reached f = omega (arith, e, f)
+stop_within gs (Some x) n last stop e reached f = let h = reached.0 in omega (arith, e, f, h)
+
 pub no_end : (gs : List Goal) (last : ℕ) (o : Option ℕ) → o ≡ None → IsReached gs last o → Inside last gs
 no_end gs last None e reached = reached last (omega arith)
 no_end gs last (Some x) e reached = absurd (cc)

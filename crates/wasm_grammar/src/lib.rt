@@ -11,3 +11,4 @@ mod short;
 
 pub use machine::{CheckFault, Machine, check};
 pub use wasm_marks::Marks;
+pub use wasm_window::{Passed, Piece, Window};

@@ -1,6 +1,6 @@
 //! The machine of the grammar: it takes the items of a file one behind another, and keeps what may come next (standard, section 5.5.15).
 
-ghost use Rattle.std.specs.Prelude.{◌≡◌, ℕ, Bool, List, ◌∷◌, ◌<◌, ◌≤◌, ◌-◌, ◌++◌, length, take, drop, OnOk, IfOk, IfErr, MatchBool};
+ghost use Rattle.std.specs.Prelude.{◌≡◌, ℕ, Bool, List, Some, ◌∷◌, ◌<◌, ◌≤◌, ◌-◌, ◌++◌, length, take, drop, OnOk, IfOk, IfErr, MatchBool};
 ghost use Rattle.std.specs.Bool.{OnTrue};
 ghost use Rattle.wa_types.specs.Begun.{Begun, IsWhole, wants, Inside, code, entries, some_runs, Goal as Wanted};
 ghost use Rattle.wasm_goals.specs.Goals.{goal_of, kind_of};
@@ -18,6 +18,7 @@ use wa_types::Bounds;
 use wasm_goals::stack::Goals;
 use wasm_goals::{Front, Goal, Kind, read_item, wants};
 use wasm_marks::Marks;
+use wasm_window::Window;
 
 /// Why bytes are no file.
 #[derive(Clone, Copy, Debug, PartialEq, Eq, Error)]
@@ -52,7 +53,8 @@ pub struct Machine {
 impl Machine {
     /// At the first byte.
     pub fn new(alloc: Global) -> Result<Machine, AllocError>
-        ensures { IfOk result (λ m. (bounds : ModuleBounds) (bytes : List ℕ) → Stands bounds m.marks bytes m.at m.goals) }
+        ensures stands { IfOk result (λ m. (bounds : ModuleBounds) (bytes : List ℕ) → Stands bounds m.marks bytes m.at m.goals) }
+        ensures first { IfOk result (λ m. m.at ≡ 0) }
     {
         let goals = Goals::start(alloc)?;
         Ok(Machine {
@@ -64,26 +66,55 @@ impl Machine {
 
     /// Takes all items that are whole so far. As the file grows it may be called again, each time over all bytes so far,
     /// from the first on; after an error it may not.
-    pub fn feed(&mut self, alloc: Global, bytes: &[u8], bounds: &Bounds) -> Result<(), CheckFault>
-        requires { Stands bounds.now self.old.marks bytes.now self.old.at self.old.goals }
-        ensures ok { OnOk result (Waits bounds.now self.new.marks bytes.now self.new.at self.new.goals) }
-        ensures begun { OnOk result (Begun bytes.now) }
-        ensures more { OnOk result ((piece : List ℕ) → Stands bounds.now self.new.marks (bytes.now ++ piece) self.new.at self.new.goals) }
-        ensures err { IfErr result (IsFault bytes.now) }
+    pub fn feed(
+        &mut self,
+        alloc: Global,
+        bytes: &Window<'_>,
+        bounds: &Bounds,
+    ) -> Result<(), CheckFault>
+        requires from { bytes.now.base ≤ self.old.at }
+        requires stands { Stands bounds.now self.old.marks bytes.now.all self.old.at self.old.goals }
+        ensures ok { OnOk result (Waits bounds.now self.new.marks bytes.now.all self.new.at self.new.goals) }
+        ensures begun { OnOk result (Begun bytes.now.all) }
+        ensures more { OnOk result ((piece : List ℕ) → Stands bounds.now self.new.marks (bytes.now.all ++ piece) self.new.at self.new.goals) }
+        ensures err { IfErr result (IsFault bytes.now.all) }
+        ensures from { bytes.now.base ≤ self.new.at }
+    {
+        // A window of its own has its fields in registers.
+        let file = bytes.again();
+        self.feed_all(alloc, &file, bounds)
+    }
+
+    // The same over a window that nobody else holds.
+    #[inline(always)]
+    fn feed_all(
+        &mut self,
+        alloc: Global,
+        bytes: &Window<'_>,
+        bounds: &Bounds,
+    ) -> Result<(), CheckFault>
+        requires from { bytes.now.base ≤ self.old.at }
+        requires stands { Stands bounds.now self.old.marks bytes.now.all self.old.at self.old.goals }
+        ensures ok { OnOk result (Waits bounds.now self.new.marks bytes.now.all self.new.at self.new.goals) }
+        ensures begun { OnOk result (Begun bytes.now.all) }
+        ensures more { OnOk result ((piece : List ℕ) → Stands bounds.now self.new.marks (bytes.now.all ++ piece) self.new.at self.new.goals) }
+        ensures err { IfErr result (IsFault bytes.now.all) }
+        ensures from { bytes.now.base ≤ self.new.at }
     {
         while self.go_on(alloc, bytes, bounds)? {}
         Ok(())
     }
 
     /// Whether these bytes, which are all that have come, are a whole file; and what was marked along it.
-    pub fn finish(&self, bytes: &[u8], bounds: &Bounds) -> Result<Marks, CheckFault>
-        requires { Waits bounds.now self.now.marks bytes.now self.now.at self.now.goals }
-        ensures ok { IfOk result (λ m. IsWhole bytes.now) }
-        ensures marks { IfOk result (λ m. AreMarks bounds.now bytes.now m) }
-        ensures err { IfErr result (IsCause bytes.now) }
+    pub fn finish(&self, bytes: &Window<'_>, bounds: &Bounds) -> Result<Marks, CheckFault>
+        requires { Waits bounds.now self.now.marks bytes.now.all self.now.at self.now.goals }
+        ensures ok { IfOk result (λ m. IsWhole bytes.now.all) }
+        ensures marks { IfOk result (λ m. AreMarks bounds.now bytes.now.all m) }
+        ensures err { IfErr result (IsCause bytes.now.all) }
     {
-        let cut = CheckFault::Malformed { at: bytes.len() };
-        if self.at < bytes.len() {
+        let last = bytes.len();
+        let cut = CheckFault::Malformed { at: last };
+        if self.at < last {
             return Err(cut);
         }
         if !self.goals.is_end() {
@@ -92,36 +123,68 @@ impl Machine {
         Ok(self.marks)
     }
 
+    /// Where the item begins that isn't whole so far.
+    pub fn reached(&self) -> usize
+        ensures { result ≡ self.now.at }
+    {
+        self.at
+    }
+
+    /// Whether a level past the bound on nesting stands open, or stood.
+    pub fn is_deep(&self) -> bool
+        ensures { OnTrue result ((k : ℕ) × (self.now.marks.deep ≡ Some k)) }
+    {
+        match self.marks.deep {
+            Some(_) => true,
+            None => false,
+        }
+    }
+
     // Takes what is short, and one more item; false where that isn't whole yet.
-    fn go_on(&mut self, alloc: Global, bytes: &[u8], bounds: &Bounds) -> Result<bool, CheckFault>
-        requires { Stands bounds.now self.old.marks bytes.now self.old.at self.old.goals }
-        ensures on { IfOk result (λ on. MatchBool on (Stands bounds.now self.new.marks bytes.now self.new.at self.new.goals) (Waits bounds.now self.new.marks bytes.now self.new.at self.new.goals)) }
-        ensures more { IfOk result (λ on. MatchBool on ((self.old.at < self.new.at) × (self.new.at ≤ length bytes.now)) Unit) }
-        ensures err { IfErr result (IsFault bytes.now) }
+    fn go_on(
+        &mut self,
+        alloc: Global,
+        bytes: &Window<'_>,
+        bounds: &Bounds,
+    ) -> Result<bool, CheckFault>
+        requires from { bytes.now.base ≤ self.old.at }
+        requires stands { Stands bounds.now self.old.marks bytes.now.all self.old.at self.old.goals }
+        ensures on { IfOk result (λ on. MatchBool on (Stands bounds.now self.new.marks bytes.now.all self.new.at self.new.goals)
+            (Waits bounds.now self.new.marks bytes.now.all self.new.at self.new.goals)) }
+        ensures more { IfOk result (λ on. MatchBool on ((self.old.at < self.new.at) × (self.new.at ≤ length bytes.now.all)) Unit) }
+        ensures ahead { self.old.at ≤ self.new.at }
+        ensures err { IfErr result (IsFault bytes.now.all) }
     {
         self.pass(alloc, bytes, bounds)?;
         self.advance(alloc, bytes, bounds)
     }
 
     // Takes what is short.
-    fn pass(&mut self, alloc: Global, bytes: &[u8], bounds: &Bounds) -> Result<(), AllocError>
-        requires { Stands bounds.now self.old.marks bytes.now self.old.at self.old.goals }
-        ensures ok { OnOk result (Stands bounds.now self.new.marks bytes.now self.new.at self.new.goals) }
+    fn pass(&mut self, alloc: Global, bytes: &Window<'_>, bounds: &Bounds) -> Result<(), AllocError>
+        requires from { bytes.now.base ≤ self.old.at }
+        requires stands { Stands bounds.now self.old.marks bytes.now.all self.old.at self.old.goals }
+        ensures ok { OnOk result (Stands bounds.now self.new.marks bytes.now.all self.new.at self.new.goals) }
         ensures ahead { self.old.at ≤ self.new.at }
     {
-        let Some(stop) = self.goals.end_within(bytes.len()) else {
-            return Ok(());
-        };
+        let last = bytes.len();
+        let end = self.goals.end_within(last);
+        let stop = end.unwrap_or(last);
         self.pass_entries(alloc, bytes, stop)?;
         while self.pass_code(alloc, bytes, stop, bounds)? {}
         Ok(())
     }
 
     // Takes entries of one byte each, or runs of two, with one left.
-    fn pass_entries(&mut self, alloc: Global, bytes: &[u8], stop: usize) -> Result<(), AllocError>
+    fn pass_entries(
+        &mut self,
+        alloc: Global,
+        bytes: &Window<'_>,
+        stop: usize,
+    ) -> Result<(), AllocError>
+        requires from { bytes.now.base ≤ self.old.at }
         requires below { Below stop self.old.goals }
-        requires stop { stop ≤ length bytes.now }
-        ensures ok { OnOk result (Moves bytes.now self.old.marks self.old.at self.old.goals self.new.marks self.new.at self.new.goals) }
+        requires stop { stop ≤ length bytes.now.all }
+        ensures ok { OnOk result (Moves bytes.now.all self.old.marks self.old.at self.old.goals self.new.marks self.new.at self.new.goals) }
         ensures below { OnOk result (Below stop self.new.goals) }
         ensures ahead { self.old.at ≤ self.new.at }
     {
@@ -139,15 +202,16 @@ impl Machine {
     fn pass_single(
         &mut self,
         alloc: Global,
-        bytes: &[u8],
+        bytes: &Window<'_>,
         stop: usize,
         kind: Kind,
         n: u32,
     ) -> Result<(), AllocError>
+        requires from { bytes.now.base ≤ self.old.at }
         requires below { Below stop self.old.goals }
-        requires stop { stop ≤ length bytes.now }
+        requires stop { stop ≤ length bytes.now.all }
         requires top { self.old.goals ≡ entries (kind_of kind) n ∷ drop 1 self.old.goals }
-        ensures ok { OnOk result (Moves bytes.now self.old.marks self.old.at self.old.goals self.new.marks self.new.at self.new.goals) }
+        ensures ok { OnOk result (Moves bytes.now.all self.old.marks self.old.at self.old.goals self.new.marks self.new.at self.new.goals) }
         ensures below { OnOk result (Below stop self.new.goals) }
         ensures ahead { self.old.at ≤ self.new.at }
     {
@@ -165,14 +229,15 @@ impl Machine {
     fn pass_runs(
         &mut self,
         alloc: Global,
-        bytes: &[u8],
+        bytes: &Window<'_>,
         stop: usize,
         n: u32,
     ) -> Result<(), AllocError>
+        requires from { bytes.now.base ≤ self.old.at }
         requires below { Below stop self.old.goals }
-        requires stop { stop ≤ length bytes.now }
+        requires stop { stop ≤ length bytes.now.all }
         requires top { self.old.goals ≡ entries some_runs n ∷ drop 1 self.old.goals }
-        ensures ok { OnOk result (Moves bytes.now self.old.marks self.old.at self.old.goals self.new.marks self.new.at self.new.goals) }
+        ensures ok { OnOk result (Moves bytes.now.all self.old.marks self.old.at self.old.goals self.new.marks self.new.at self.new.goals) }
         ensures below { OnOk result (Below stop self.new.goals) }
         ensures ahead { self.old.at ≤ self.new.at }
     {
@@ -191,14 +256,15 @@ impl Machine {
     fn pass_code(
         &mut self,
         alloc: Global,
-        bytes: &[u8],
+        bytes: &Window<'_>,
         stop: usize,
         bounds: &Bounds,
     ) -> Result<bool, AllocError>
-        requires stands { Stands bounds.now self.old.marks bytes.now self.old.at self.old.goals }
+        requires from { bytes.now.base ≤ self.old.at }
+        requires stands { Stands bounds.now self.old.marks bytes.now.all self.old.at self.old.goals }
         requires below { Below stop self.old.goals }
-        requires stop { stop ≤ length bytes.now }
-        ensures ok { OnOk result (Stands bounds.now self.new.marks bytes.now self.new.at self.new.goals) }
+        requires stop { stop ≤ length bytes.now.all }
+        ensures ok { OnOk result (Stands bounds.now self.new.marks bytes.now.all self.new.at self.new.goals) }
         ensures below { OnOk result (Below stop self.new.goals) }
         ensures ahead { self.old.at ≤ self.new.at }
         ensures more { IfOk result (λ on. OnTrue on (self.old.at < self.new.at)) }
@@ -232,20 +298,29 @@ impl Machine {
     }
 
     // Takes one more item; false where it isn't whole yet.
-    fn advance(&mut self, alloc: Global, bytes: &[u8], bounds: &Bounds) -> Result<bool, CheckFault>
-        requires { Stands bounds.now self.old.marks bytes.now self.old.at self.old.goals }
-        ensures on { IfOk result (λ on. MatchBool on (Stands bounds.now self.new.marks bytes.now self.new.at self.new.goals) (Waits bounds.now self.new.marks bytes.now self.new.at self.new.goals)) }
-        ensures more { IfOk result (λ on. MatchBool on ((self.old.at < self.new.at) × (self.new.at ≤ length bytes.now)) Unit) }
-        ensures err { IfErr result (IsFault bytes.now) }
+    fn advance(
+        &mut self,
+        alloc: Global,
+        bytes: &Window<'_>,
+        bounds: &Bounds,
+    ) -> Result<bool, CheckFault>
+        requires from { bytes.now.base ≤ self.old.at }
+        requires stands { Stands bounds.now self.old.marks bytes.now.all self.old.at self.old.goals }
+        ensures on { IfOk result (λ on. MatchBool on (Stands bounds.now self.new.marks bytes.now.all self.new.at self.new.goals)
+            (Waits bounds.now self.new.marks bytes.now.all self.new.at self.new.goals)) }
+        ensures more { IfOk result (λ on. MatchBool on ((self.old.at < self.new.at) × (self.new.at ≤ length bytes.now.all)) Unit) }
+        ensures ahead { self.old.at ≤ self.new.at }
+        ensures err { IfErr result (IsFault bytes.now.all) }
     {
+        let last = bytes.len();
         let Some(goal) = self.goals.top() else {
-            if self.at == bytes.len() {
+            if self.at == last {
                 return Ok(false);
             }
             return Err(CheckFault::Malformed { at: self.at + 1 });
         };
-        let end = self.goals.end_within(bytes.len());
-        let stop = end.unwrap_or(bytes.len());
+        let end = self.goals.end_within(last);
+        let stop = end.unwrap_or(last);
         self.at = skip(goal, self.at, stop);
         match item_between(goal, bytes, self.at, stop) {
             Front::Part => match end {
@@ -280,12 +355,13 @@ fn skip(goal: Goal, at: usize, stop: usize) -> usize
 }
 
 // The item that a goal wants, as far as it stands between two places.
-fn item_between(goal: Goal, bytes: &[u8], at: usize, stop: usize) -> Front
+fn item_between(goal: Goal, bytes: &Window<'_>, at: usize, stop: usize) -> Front
+    requires from { bytes.now.base ≤ at }
     requires start { at ≤ stop }
-    requires stop { stop ≤ length bytes.now }
-    ensures { FrontIs (wants (goal_of goal)) (take (stop - at) (drop at bytes.now)) result }
+    requires stop { stop ≤ length bytes.now.all }
+    ensures { FrontIs (wants (goal_of goal)) (take (stop - at) (drop at bytes.now.all)) result }
 {
-    read_item(wants(goal), &bytes[at..stop])
+    read_item(wants(goal), bytes.between(at, stop))
 }
 
 // Whether instructions are wanted.
@@ -299,10 +375,11 @@ fn is_code(goal: Goal) -> bool
 }
 
 /// Whether the bytes are a whole file (standard, section 5.5.15), and then what is marked along it; or else where they fail.
-pub fn check(alloc: Global, bytes: &[u8], bounds: &Bounds) -> Result<Marks, CheckFault>
-    ensures ok { IfOk result (λ m. IsWhole bytes.now) }
-    ensures marks { IfOk result (λ m. AreMarks bounds.now bytes.now m) }
-    ensures err { IfErr result (IsCause bytes.now) }
+pub fn check(alloc: Global, bytes: &Window<'_>, bounds: &Bounds) -> Result<Marks, CheckFault>
+    requires { bytes.now.base ≡ 0 }
+    ensures ok { IfOk result (λ m. IsWhole bytes.now.all) }
+    ensures marks { IfOk result (λ m. AreMarks bounds.now bytes.now.all m) }
+    ensures err { IfErr result (IsCause bytes.now.all) }
 {
     let mut machine = Machine::new(alloc)?;
     machine.feed(alloc, bytes, bounds)?;

@@ -7,28 +7,30 @@ ghost use Rattle.wasm_grammar.specs.Passing.{IsShort, AreShort, Passes, Opens, C
 
 use wasm_cursor::{Shape, operand_shape};
 use wasm_goals::Kind;
+use wasm_window::Window;
 
 // The place behind a number of at most four bytes, which isn't judged: all of its bits are within its width.
 #[inline(always)]
-fn behind_number(bytes: &[u8], at: usize, stop: usize) -> Option<usize>
-    requires stop { stop ≤ length bytes.now }
+fn behind_number(bytes: &Window<'_>, at: usize, stop: usize) -> Option<usize>
+    requires from { bytes.now.base ≤ at }
+    requires stop { stop ≤ length bytes.now.all }
     requires room { at + 1 < stop }
     ensures ahead { IfSome result (λ end. (at < end) × (end < stop)) }
-    ensures short { IfSome result (λ end. IsShort 4 (take (end - at) (drop at bytes.now))) }
+    ensures short { IfSome result (λ end. IsShort 4 (take (end - at) (drop at bytes.now.all))) }
 {
-    if bytes[at] < 128 {
+    if bytes.at(at) < 128 {
         return Some(at + 1);
     }
     if stop - at < 5 {
         return None;
     }
-    if bytes[at + 1] < 128 {
+    if bytes.at(at + 1) < 128 {
         return Some(at + 2);
     }
-    if bytes[at + 2] < 128 {
+    if bytes.at(at + 2) < 128 {
         return Some(at + 3);
     }
-    if bytes[at + 3] < 128 {
+    if bytes.at(at + 3) < 128 {
         Some(at + 4)
     } else {
         None
@@ -37,11 +39,12 @@ fn behind_number(bytes: &[u8], at: usize, stop: usize) -> Option<usize>
 
 // The place behind two numbers of at most four bytes.
 #[inline(always)]
-fn behind_numbers(bytes: &[u8], at: usize, stop: usize) -> Option<usize>
-    requires stop { stop ≤ length bytes.now }
+fn behind_numbers(bytes: &Window<'_>, at: usize, stop: usize) -> Option<usize>
+    requires from { bytes.now.base ≤ at }
+    requires stop { stop ≤ length bytes.now.all }
     requires room { at + 1 < stop }
     ensures ahead { IfSome result (λ end. (at < end) × (end < stop)) }
-    ensures short { IfSome result (λ end. AreShort bytes.now at end) }
+    ensures short { IfSome result (λ end. AreShort bytes.now.all at end) }
 {
     let second = behind_number(bytes, at, stop)?;
     if stop - second < 2 {
@@ -67,15 +70,16 @@ fn is_integer_op(op: u8) -> bool
 
 // Where the instruction that begins here ends, if it holds no other and is of no floats, and each of its numbers is short.
 #[inline(always)]
-fn short_end(bytes: &[u8], at: usize, stop: usize) -> Option<usize>
-    requires { stop ≤ length bytes.now }
+fn short_end(bytes: &Window<'_>, at: usize, stop: usize) -> Option<usize>
+    requires from { bytes.now.base ≤ at }
+    requires stop { stop ≤ length bytes.now.all }
     ensures ahead { IfSome result (λ end. (at < end) × (end < stop)) }
-    ensures passes { IfSome result (λ end. Passes bytes.now at end stop) }
+    ensures passes { IfSome result (λ end. Passes bytes.now.all at end stop) }
 {
     if stop.saturating_sub(at) < 3 {
         return None;
     }
-    let op = bytes[at];
+    let op = bytes.at(at);
     if !is_integer_op(op) {
         return None;
     }
@@ -91,10 +95,11 @@ fn short_end(bytes: &[u8], at: usize, stop: usize) -> Option<usize>
 
 /// Passes over short instructions (standard, sections 5.4.1 to 5.4.5): the place behind them.
 #[inline]
-pub(crate) fn pass_short(bytes: &[u8], at: usize, stop: usize) -> usize
-    requires { stop ≤ length bytes.now }
+pub(crate) fn pass_short(bytes: &Window<'_>, at: usize, stop: usize) -> usize
+    requires from { bytes.now.base ≤ at }
+    requires stop { stop ≤ length bytes.now.all }
     ensures ahead { at ≤ result }
-    ensures passes { Passes bytes.now at result stop }
+    ensures passes { Passes bytes.now.all at result stop }
 {
     let mut place = at;
     while let Some(end) = short_end(bytes, place, stop) {
@@ -112,18 +117,21 @@ fn is_block_type(byte: u8) -> bool
 
 /// Whether an else may stand in the level that a construct opens here (standard, section 5.4.1), if one does.
 #[inline]
-pub(crate) fn opened(bytes: &[u8], at: usize, stop: usize) -> Option<bool>
-    requires { stop ≤ length bytes.now }
+pub(crate) fn opened(bytes: &Window<'_>, at: usize, stop: usize) -> Option<bool>
+    requires from { bytes.now.base ≤ at }
+    requires stop { stop ≤ length bytes.now.all }
     ensures room { IfSome result (λ inner. at + 2 < stop) }
-    ensures opens { IfSome result (λ inner. Opens bytes.now at inner stop) }
+    ensures opens { IfSome result (λ inner. Opens bytes.now.all at inner stop) }
 {
     if stop.saturating_sub(at) < 3 {
         return None;
     }
-    if !is_block_type(bytes[at + 1]) {
+    let ty = bytes.at(at + 1);
+    if !is_block_type(ty) {
         return None;
     }
-    match bytes[at] {
+    let op = bytes.at(at);
+    match op {
         0x02 => Some(false),
         0x03 => Some(false),
         0x04 => Some(true),
@@ -133,15 +141,17 @@ pub(crate) fn opened(bytes: &[u8], at: usize, stop: usize) -> Option<bool>
 
 /// Whether an end stands here.
 #[inline]
-pub(crate) fn closes(bytes: &[u8], at: usize, stop: usize) -> bool
-    requires { stop ≤ length bytes.now }
+pub(crate) fn closes(bytes: &Window<'_>, at: usize, stop: usize) -> bool
+    requires from { bytes.now.base ≤ at }
+    requires stop { stop ≤ length bytes.now.all }
     ensures room { OnTrue result (at + 1 < stop) }
-    ensures closes { OnTrue result (Closes bytes.now at stop) }
+    ensures closes { OnTrue result (Closes bytes.now.all at stop) }
 {
     if stop.saturating_sub(at) < 2 {
         return false;
     }
-    bytes[at] == 0x0B
+    let op = bytes.at(at);
+    op == 0x0B
 }
 
 // Whether this byte is a value type (standard, section 5.3.1), and no float.
@@ -168,16 +178,18 @@ fn is_alone(kind: Kind, byte: u8) -> bool
 
 /// How many entries of so many can be passed over, each of one byte, with one left.
 #[inline]
-pub(crate) fn short_entries(kind: Kind, n: u32, bytes: &[u8], at: usize, stop: usize) -> u32
-    requires { stop ≤ length bytes.now }
+pub(crate) fn short_entries(kind: Kind, n: u32, bytes: &Window<'_>, at: usize, stop: usize) -> u32
+    requires from { bytes.now.base ≤ at }
+    requires stop { stop ≤ length bytes.now.all }
     ensures room { 0 < result → at + result < stop }
     ensures fewer { result ≤ n }
-    ensures passes { PassesEntries bytes.now (kind_of kind) n at result stop }
+    ensures passes { PassesEntries bytes.now.all (kind_of kind) n at result stop }
 {
     let room = stop.saturating_sub(at).saturating_sub(1);
     let most = room.min(n.saturating_sub(1) as usize);
     for index in 0..most {
-        if !is_alone(kind, bytes[at + index]) {
+        let byte = bytes.at(at + index);
+        if !is_alone(kind, byte) {
             return index as u32;
         }
     }
@@ -194,16 +206,19 @@ fn is_short_run(count: u8, ty: u8) -> bool
 
 /// How many runs of so many can be passed over, each of two bytes, with one left.
 #[inline]
-pub(crate) fn short_runs(n: u32, bytes: &[u8], at: usize, stop: usize) -> u32
-    requires { stop ≤ length bytes.now }
+pub(crate) fn short_runs(n: u32, bytes: &Window<'_>, at: usize, stop: usize) -> u32
+    requires from { bytes.now.base ≤ at }
+    requires stop { stop ≤ length bytes.now.all }
     ensures room { 0 < result → at + 2 * result < stop }
     ensures fewer { result ≤ n }
-    ensures passes { PassesRuns bytes.now n at result stop }
+    ensures passes { PassesRuns bytes.now.all n at result stop }
 {
     let room = stop.saturating_sub(at).saturating_sub(1) / 2;
     let most = room.min(n.saturating_sub(1) as usize);
     for index in 0..most {
-        if !is_short_run(bytes[at + 2 * index], bytes[at + 2 * index + 1]) {
+        let count = bytes.at(at + 2 * index);
+        let ty = bytes.at(at + 2 * index + 1);
+        if !is_short_run(count, ty) {
             return index as u32;
         }
     }

@@ -1,9 +1,11 @@
 -- What the marks of a file are, by its sections.
+use Rattle.std.proofs.Common.{take, drop, Some}
+use Rattle.std.proofs.lemmas.List.{take-append-drop}
 use Rattle.std.proofs.Common.{◌≡◌, ℕ, ◌+◌, ◌<◌, ◌≤◌, ◌^◌, List, [], ◌∷◌, ◌++◌, map, Option, None, refl, ap, sym, ◌∙◌, subst, arith, append_assoc, length, length-append}
 use Rattle.std.specs.List.{All, flat_map}
 use Rattle.std.proofs.lemmas.List.Concat.{flat_map_single}
 use Rattle.std.proofs.lemmas.List.Elements.{All-nil, All-cons}
-use Rattle.wa_types.specs.Begun.{sections, start as start_goals}
+use Rattle.wa_types.specs.Begun.{Goal, sections, start as start_goals}
 use Rattle.wa_types.specs.Binary.{RawType, RawKind, raw_func, raw_table, raw_memory, raw_global, RawImport, RawGlobal, RawElem, RawBody, RawSegment, Section, types, imports, functions}
 use Rattle.wa_types.specs.Binary.{globals, elements, bodies, segments}
 use Rattle.wa_types.specs.Spells.{Spells, sorts_in, bodies_in}
@@ -15,7 +17,7 @@ use Rattle.wasm_marks.specs.declared.marks.Marks.{Marks}
 use Rattle.wasm_marks.specs.Showing.{Seen, nothing_seen, both, first_of, total, Noted, no_marks, MarksAlong}
 use Rattle.wasm_marks.specs.Found.{IsFirst, MarksOf}
 use Rattle.wasm_marks.proofs.Noting.{total_both}
-use Rattle.wasm_marks.proofs.Showings.{Within, held_along, one_showing}
+use Rattle.wasm_marks.proofs.Showings.{Within, held_along, one_showing, shows_front}
 use Rattle.wasm_marks.proofs.Telling.{seen_in, seen_kind}
 use Rattle.wasm_marks.proofs.TellingEntries.{seen_type, seen_import, seen_global, seen_element, seen_body, seen_segment}
 use Rattle.wasm_marks.proofs.TellingFile.{seen_section, file_shows}
@@ -216,3 +218,21 @@ judged b bytes last m ss a short s =
     let held = held_along b 0 start_goals bytes (sections f.0 0 ∷ []) (seen_in (seen_section b) ss) f.1 in
     let few = held.few in
     noted_of b bytes ss m f.0 (subst (λ z. Noted b z no_marks m) same a.2) short held.floats held.opens (omega (arith, few, short))
+
+none_first : (xs ys : List ℕ) → xs ++ ys ≡ [] → xs ≡ []
+none_first [] ys e = refl
+none_first (x ∷ xs) ys e = absurd (omega (arith, ap length e))
+
+-- Where a level past the bound is marked, whatever follows, no file is shallow.
+pub deep_stays : (b : ModuleBounds) (bytes more : List ℕ) (at k : ℕ) (gs : List Goal) (m : Marks) → MarksAlong b 0 start_goals (take at bytes) gs m → m.deep ≡ Some k
+    → (ss : List Section) → Spells (bytes ++ more) ss → opens b.nesting ss ≡ [] → ⊥
+deep_stays b bytes more at k gs m a deep ss s none =
+    let f = file_shows b (bytes ++ more) ss s in
+    let front : bytes ++ more ≡ take at bytes ++ (drop at bytes ++ more) =
+    ap (λ z. z ++ more) (sym (take-append-drop at bytes)) ∙ append_assoc (take at bytes) (drop at bytes) more in
+    let u = shows_front b 0 start_goals (take at bytes) gs a.0 a.1 (bytes ++ more) (drop at bytes ++ more) (sections f.0 0 ∷ []) (seen_in (seen_section b) ss) f.1 front in
+    let nothing : a.0.opens_at ++ u.0.opens_at ≡ [] =
+    sym (ap (λ z. z.opens_at) u.1) ∙ opens_in (seen_section b) (section_opens b.nesting) (opens_of b) ss ∙ none in
+    let is : m.deep ≡ None = a.2.deep ∙ ap (first_of None) (none_first a.0.opens_at u.0.opens_at nothing) in
+    let no : None ≡ Some k = sym is ∙ deep in
+    cc

@@ -41,6 +41,25 @@ one_showing b at (g ∷ gs) bytes hs ks s t (shows_item p q v js u c i z l o) (s
     subst (λ h. Shows b (at + length p) h q ks r) same (subst (λ h. Shows b (at + length p) is h ks r) (sym two.1) (subst (λ n. Shows b (at + n) is y ks r) (sym one.1) k)) in
     o ∙ ap (λ n. both (shown b g gs n at) u) one.0 ∙ ap (both (shown b g gs w at)) (one_showing b (at + length p) js q hs ks u r l there) ∙ sym f
 
+-- what bytes show that lead on is what their front shows, and more
+pub shows_front : (b : ModuleBounds) (at : ℕ) (gs : List Goal) (a : List ℕ) (hs : List Goal) (s : Seen) → Shows b at gs a hs s
+    → (c more : List ℕ) (rs : List Goal) (t : Seen) → Shows b at gs c rs t → c ≡ a ++ more → (u : Seen) × (t ≡ both s u)
+shows_front b at gs [] hs s (shows_none e) c more rs t h f = (t, ap (λ z. both z t) (sym e))
+shows_front b at (g ∷ gs) a hs s (shows_item p q v js u e i z l o) [] more rs t (shows_none k) f =
+    absurd (omega (arith, item_some (wants g) p v i, ap length f, ap length e, length-append p q, length-append a more))
+shows_front b at (g ∷ gs) a hs s (shows_item p q v js u e i z l o) c more rs t (shows_item x y w is r d j m k f) h =
+    let cut : p ++ (q ++ more) ≡ x ++ y = sym (h ∙ ap (λ t. t ++ more) e ∙ append_assoc p q more) ∙ d in
+    let one = one_item (wants g) p (q ++ more) x y v w i j cut in
+    let two = same_cut p (q ++ more) x y cut one.1 in
+    let near : Steps g gs v (at + length p) is =
+    subst (λ u. Steps g gs u (at + length p) is) (sym one.0) (subst (λ n. Steps g gs w (at + n) is) (sym one.1) m) in
+    let same : is ≡ js = one_step g gs v (at + length p) is js near z in
+    let there : Shows b (at + length p) js (q ++ more) rs r =
+    subst (λ h. Shows b (at + length p) h (q ++ more) rs r) same
+    (subst (λ h. Shows b (at + length p) is h rs r) (sym two.1) (subst (λ n. Shows b (at + n) is y rs r) (sym one.1) k)) in
+    let on = shows_front b (at + length p) js q hs u l (q ++ more) more rs r there refl in
+    (on.0, f ∙ ap (λ n. both (shown b g gs n at) r) (sym one.0) ∙ ap (both (shown b g gs v at)) on.1 ∙ sym (both_assoc (shown b g gs v at) u on.0) ∙ ap (λ z. both z on.0) (sym o))
+
 -- Offsets that rise from one offset, and stay below another.
 abbrev pub Within : (low high : ℕ) → List ℕ → Type 0
 Within low high [] = low ≤ high

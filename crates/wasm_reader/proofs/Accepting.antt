@@ -40,12 +40,12 @@ pub record Stands (b : ModuleBounds) (bytes : List ℕ) (m : Module) : Type 0 wh
   pub is_module : IsModule sections m
 
 pub stands : (b : ModuleBounds) (bytes : List ℕ) (m : Module) → length bytes ≤ b.file → IsWhole bytes
-    → ((ss : List Section) → IsFile b bytes ss → IsShallow b bytes ss) → ((n : Module) → SpellsModule bytes n → m ≡ n) → Stands b bytes m
+    → ((ss : List Section) → IsFile b bytes ss → IsShallow b bytes ss) → ((ss : List Section) → IsShallow b bytes ss → (n : Module) → IsModule ss n → m ≡ n) → Stands b bytes m
 stands b bytes m few whole judged built =
     let f = file_of b bytes few whole in
     let shallow = judged f.0 f.1 in
     let n = module_in b bytes f.0 shallow in
-    record { sections = f.0; shallow = shallow; is_module = subst (IsModule f.0) (sym (built n.0 (spelled_in b bytes f.0 n.0 shallow n.1))) n.1 }
+    record { sections = f.0; shallow = shallow; is_module = subst (IsModule f.0) (sym (built f.0 shallow n.0 n.1)) n.1 }
 
 -- the bodies' runs are few
 pub few_runs : (b : ModuleBounds) (bytes : List ℕ) (r : ModuleValue) → Stands b bytes (module_of r) → length bytes < 2 ^ 31 → All (λ (f : FuncValue). length f.locals.items < 2 ^ 31) r.funcs.items

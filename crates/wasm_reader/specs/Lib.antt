@@ -2,3 +2,4 @@ pub mod Answers
 pub mod Locals
 pub mod Marking
 pub mod Pieces
+pub mod Progress

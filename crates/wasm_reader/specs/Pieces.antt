@@ -1,16 +1,10 @@
 -- Files that come in pieces.
-use Rattle.std.specs.Prelude.{◌≡◌, ℕ, suc, ◌<◌, ◌≤◌, ◌++◌, List, [], length, Option, Some, None}
+use Rattle.std.specs.Prelude.{◌≡◌, ℕ, suc, ◌<◌, ◌≤◌, ◌++◌, List, [], length, Option, None}
 use Rattle.wa_types.specs.ModuleBounds.{ModuleBounds}
 use Rattle.wa_types.specs.declared.bounds.LimitKind.TheVariants.{File}
-use Rattle.wasm_grammar.specs.Machine.{StopsAt, Waits}
-use Rattle.wasm_grammar.specs.declared.machine.Machine.{Machine}
+use Rattle.wasm_grammar.specs.Machine.{StopsAt}
 use Rattle.wasm_reader.specs.declared.read_fault.ReadFault.{ReadFault}
 use Rattle.wasm_reader.specs.declared.read_fault.ReadFault.TheVariants.{Memory, Malformed, Limit}
-
--- The items of the bytes have been read as far as they are whole; nothing was where there are none.
-abbrev pub IsGoing : ModuleBounds → List ℕ → Option Machine → Type 0
-IsGoing b bytes None = bytes ≡ []
-IsGoing b bytes (Some m) = Waits b m.marks bytes m.at m.goals
 
 -- A file that is read in pieces: the bounds, the bytes that have come, and the first fault that they met.
 pub record Reading : Type 0 where
@@ -25,11 +19,6 @@ begun_with b = record { bounds = b; bytes = []; fault = None }
 -- one more piece has come
 abbrev pub fed : Reading → List ℕ → Reading
 fed r piece = record r { bytes = r.bytes ++ piece }
-
--- Before a fault the bytes are within the limit of a file, and have been read.
-abbrev pub KeepsUp : ModuleBounds → List ℕ → Option Machine → Option ReadFault → Type 0
-KeepsUp b bytes m None = (length bytes ≤ b.file) × IsGoing b bytes m
-KeepsUp b bytes m (Some fault) = Unit {0}
 
 -- The bytes aren't begun any more: k is the least number of first bytes that aren't.
 abbrev pub IsStop : List ℕ → ReadFault → Type 0

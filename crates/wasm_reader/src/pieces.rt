@@ -9,36 +9,38 @@ ghost use Rattle.wa_types.specs.Sizes.{SizeRule, StrictSizeRule};
 ghost use Rattle.wa_types.specs.View.{module_of};
 ghost use Rattle.wasm_reader.specs.Answers.{IsAccepted, IsRefused};
 ghost use Rattle.wasm_grammar.specs.Machine.{AreMarks, IsCause};
-ghost use Rattle.wasm_reader.specs.Pieces.{IsFeedFault, IsGoing, IsStop, begun_with, fed};
+ghost use Rattle.wasm_reader.specs.Pieces.{IsFeedFault, begun_with, fed};
+ghost use Rattle.wasm_reader.specs.Progress.{Goes, IsGoing, bytes_of};
 ghost use Rattle.wasm_reader.specs.declared.read_fault.ReadFault.{ReadFault as FaultValue};
 
+use crate::progress::{Progress, take};
 use crate::read_fault::ReadFault;
 use crate::reader::read_whole;
 use std::alloc::Global;
 use std::marker::Model;
-use wa_types::{Bounds, LimitKind, Module};
-use wasm_grammar::{CheckFault, Machine, Marks, check};
+use wa_types::{Bounds, Module};
+use wasm_build::Builder;
+use wasm_grammar::{CheckFault, Machine, Marks, Passed, Window, check};
 
-/// Reads a module from a file that comes in pieces, one behind another. The pieces that were fed count as one input. Contracts see the
-/// bounds, the bytes so far, and the first fault that they met.
+/// Reads a module from a file that comes in pieces, one behind another. The pieces that were fed count as one input; of them only what isn't
+/// built yet is held: at most the section that is coming, and in the code section the body. Contracts see the bounds, the bytes so far, and the first fault that they met.
 #[derive(Drop)]
 pub struct Reader {
     alloc: Global,
     bounds: Bounds,
-    bytes: Vec<u8>,
-    // How far the bytes have been read as items of a file; none before the first piece.
-    machine: Option<Machine>,
+    progress: Progress,
     fault: Option<ReadFault>,
 }
 
 impl Model for Reader {
-    ghost use Rattle.wasm_reader.specs.Pieces.{KeepsUp, Reading};
+    ghost use Rattle.wasm_reader.specs.Pieces.{Reading};
+    ghost use Rattle.wasm_reader.specs.Progress.{KeepsUp, bytes_of};
 
     ghost Value = { Reading };
 
-    ghost view = { λ r. record { bounds = r.bounds; bytes = r.bytes.items; fault = r.fault } };
+    ghost view = { λ r. record { bounds = r.bounds; bytes = bytes_of r.progress; fault = r.fault } };
 
-    ghost invariant = { λ r. KeepsUp r.bounds r.bytes.items r.machine r.fault };
+    ghost invariant = { λ r. KeepsUp r.bounds r.progress r.fault };
 }
 
 impl Reader {
@@ -49,8 +51,13 @@ impl Reader {
         Reader {
             alloc,
             bounds,
-            bytes: Vec::new(alloc),
-            machine: None,
+            progress: Progress {
+                before: Passed::none(),
+                base: 0,
+                window: Vec::new(alloc),
+                machine: None,
+                builder: Some(Builder::new(alloc)),
+            },
             fault: None,
         }
     }
@@ -69,12 +76,8 @@ impl Reader {
         if let Some(fault) = self.fault {
             return Err(fault);
         }
-        let machine = self.machine.take();
-        match take(self.alloc, &mut self.bytes, machine, &self.bounds, piece) {
-            Ok(machine) => {
-                self.machine = Some(machine);
-                Ok(())
-            }
+        match take(self.alloc, &mut self.progress, &self.bounds, piece) {
+            Ok(()) => Ok(()),
             Err(fault) => {
                 self.fault = Some(fault);
                 Err(fault)
@@ -94,59 +97,37 @@ impl Reader {
         if let Some(fault) = self.fault {
             return Err(fault);
         }
-        match whole(self.alloc, &self.bytes, &self.machine, &self.bounds) {
-            Ok(marks) => read_whole(self.alloc, &self.bytes, &self.bounds, &marks),
-            Err(CheckFault::Memory) => Err(ReadFault::Memory),
-            Err(CheckFault::Malformed { at }) => Err(ReadFault::Malformed { at: at as u64 }),
-        }
+        let Reader {
+            alloc,
+            bounds,
+            progress,
+            ..
+        } = self;
+        finish(alloc, progress, &bounds)
     }
 }
 
-// Takes one more piece behind bytes without a fault, and reads the items that are whole by then.
-fn take(
-    alloc: Global,
-    bytes: &mut Vec<u8>,
-    machine: Option<Machine>,
-    bounds: &Bounds,
-    piece: &[u8],
-) -> Result<Machine, ReadFault>
-    requires going { IsGoing bounds.now bytes.old.items machine }
-    requires few { length bytes.old.items ≤ bounds.now.file }
-    ensures bytes { OnOk result (bytes.new.items ≡ bytes.old.items ++ piece.now) }
-    ensures few { OnOk result (length (bytes.old.items ++ piece.now) ≤ bounds.now.file) }
-    ensures going { IfOk result (λ m. IsGoing bounds.now (bytes.old.items ++ piece.now) (Some m)) }
-    ensures begun { OnOk result (Begun (bytes.old.items ++ piece.now)) }
-    ensures fault { IfErr result (IsFeedFault bounds.now.file (bytes.old.items ++ piece.now)) }
+// The module of all bytes that have come.
+fn finish(alloc: Global, progress: Progress, bounds: &Bounds) -> Result<Module, ReadFault>
+    requires going { Goes bounds.now progress progress.window.items }
+    requires few { length (bytes_of progress) ≤ bounds.now.file }
+    ensures ok { IfOk result (λ r. IsAccepted bounds.now (bytes_of progress) (module_of r)) }
+    ensures sizes { IfOk result (λ r. SizeRule (module_of r)) }
+    ensures source_sizes { bounds.now ≡ source_bounds → IfOk result (λ r. StrictSizeRule (module_of r)) }
+    ensures short { IfOk result (λ r. length (Enc (module_of r)) ≤ length (bytes_of progress)) }
+    ensures refused { IfErr result (λ fault. IsRefused bounds.now (bytes_of progress) fault) }
 {
-    let limit = bounds.file();
-    if piece.len() > limit as usize - bytes.len() {
-        return Err(ReadFault::Limit {
-            what: LimitKind::File,
-            found: limit as u64 + 1,
-        });
-    }
-    bytes.extend_from_slice(piece)?;
-    go_on(alloc, machine, bytes, bounds)
-}
-
-// Reads the items that are whole by now, where those of the bytes in front of the last piece have been read.
-fn go_on(
-    alloc: Global,
-    machine: Option<Machine>,
-    bytes: &[u8],
-    bounds: &Bounds,
-) -> Result<Machine, ReadFault>
-    requires { (old : List ℕ) × (piece : List ℕ) × IsGoing bounds.now old machine × (bytes.now ≡ old ++ piece) }
-    ensures going { IfOk result (λ m. IsGoing bounds.now bytes.now (Some m)) }
-    ensures begun { IfOk result (λ m. Begun bytes.now) }
-    ensures fault { IfErr result (IsStop bytes.now) }
-{
-    let mut machine = match machine {
-        Some(machine) => machine,
-        None => Machine::new(alloc)?,
-    };
-    match machine.feed(alloc, bytes, bounds) {
-        Ok(()) => Ok(machine),
+    let Progress {
+        before,
+        base,
+        window,
+        machine,
+        builder,
+    } = progress;
+    let _limit = bounds.file();
+    let file = Window::new(&before, base, &window);
+    match whole(alloc, &machine, &file, bounds) {
+        Ok(marks) => read_whole(alloc, &file, builder, &window, base, bounds, &marks),
         Err(CheckFault::Memory) => Err(ReadFault::Memory),
         Err(CheckFault::Malformed { at }) => Err(ReadFault::Malformed { at: at as u64 }),
     }
@@ -155,17 +136,17 @@ fn go_on(
 // Whether all bytes that came are a whole file, and what is marked along it.
 fn whole(
     alloc: Global,
-    bytes: &[u8],
     machine: &Option<Machine>,
+    file: &Window<'_>,
     bounds: &Bounds,
 ) -> Result<Marks, CheckFault>
-    requires { IsGoing bounds.now bytes.now machine.now }
-    ensures ok { IfOk result (λ m. IsWhole bytes.now) }
-    ensures marks { IfOk result (λ m. AreMarks bounds.now bytes.now m) }
-    ensures err { IfErr result (IsCause bytes.now) }
+    requires { IsGoing bounds.now file.now.all file.now.base machine.now }
+    ensures ok { IfOk result (λ m. IsWhole file.now.all) }
+    ensures marks { IfOk result (λ m. AreMarks bounds.now file.now.all m) }
+    ensures err { IfErr result (IsCause file.now.all) }
 {
     match machine {
-        Some(machine) => machine.finish(bytes, bounds),
-        None => check(alloc, bytes, bounds),
+        Some(machine) => machine.finish(file, bounds),
+        None => check(alloc, file, bounds),
     }
 }

@@ -1,6 +1,6 @@
 //! A module from the bytes of a whole file, or why it is refused (standard, section 5).
 
-ghost use Rattle.std.specs.Prelude.{◌≡◌, ◌≤◌, ◌⊎◌, ℕ, List, length, IfOk};
+ghost use Rattle.std.specs.Prelude.{◌≡◌, ◌+◌, ◌^◌, ◌<◌, ◌≤◌, ◌⊎◌, ℕ, List, length, IfOk};
 ghost use Rattle.std.specs.Result.{IfErr};
 ghost use Rattle.wa_types.specs.Begun.{IsWhole};
 ghost use Rattle.wa_types.specs.Binary.{Section};
@@ -12,13 +12,14 @@ ghost use Rattle.wasm_reader.specs.Answers.{IsAccepted, IsFile, IsRefused};
 ghost use Rattle.wasm_grammar.specs.Found.{MarksOf};
 ghost use Rattle.wasm_grammar.specs.Machine.{AreMarks};
 ghost use Rattle.wasm_reader.specs.Marking.{IsJudged};
+ghost use Rattle.wasm_reader.specs.Progress.{GivesLeft, IsLeft};
 
 use crate::locals::locals_above;
 use crate::read_fault::ReadFault;
 use std::alloc::Global;
 use wa_types::{Bounds, LimitKind, Module};
-use wasm_build::{BuildFault, build};
-use wasm_grammar::{CheckFault, Marks, check};
+use wasm_build::{BuildFault, Builder};
+use wasm_grammar::{CheckFault, Marks, Passed, Window, check};
 
 /// The module that the bytes spell (standard, section 5), where it has no float and is within the bounds. Any
 /// spelling is accepted, padded numbers too; custom sections are kept unread. Takes time linear in the bytes, and room
@@ -41,34 +42,43 @@ pub fn read(alloc: Global, bytes: &[u8], bounds: &Bounds) -> Result<Module, Read
             found: bounds.file() as u64 + 1,
         });
     }
-    match check(alloc, bytes, bounds) {
-        Ok(marks) => read_whole(alloc, bytes, bounds, &marks),
+    let nothing = Passed::none();
+    let file = Window::whole(&nothing, bytes);
+    match check(alloc, &file, bounds) {
+        Ok(marks) => {
+            let builder = Some(Builder::new(alloc));
+            read_whole(alloc, &file, builder, bytes, 0, bounds, &marks)
+        }
         Err(CheckFault::Memory) => Err(ReadFault::Memory),
         Err(CheckFault::Malformed { at }) => Err(ReadFault::Malformed { at: at as u64 }),
     }
 }
 
-/// The module of a whole file along which this was marked, or why it is refused.
+/// The module of a whole file along which this was marked, of which these last bytes aren't built, or why it is refused.
 pub(crate) fn read_whole(
     alloc: Global,
-    bytes: &[u8],
+    file: &Window<'_>,
+    builder: Option<Builder>,
+    left: &[u8],
+    base: usize,
     bounds: &Bounds,
     marks: &Marks,
 ) -> Result<Module, ReadFault>
-    requires few { length bytes.now ≤ bounds.now.file }
+    requires few { length file.now.all ≤ bounds.now.file }
     requires columns { (bounds.now ≡ source_bounds) ⊎ (bounds.now ≡ prepared_bounds) }
-    requires whole { IsWhole bytes.now }
-    requires marks { AreMarks bounds.now bytes.now marks.now }
-    ensures ok { IfOk result (λ r. IsAccepted bounds.now bytes.now (module_of r)) }
+    requires whole { IsWhole file.now.all }
+    requires marks { AreMarks bounds.now file.now.all marks.now }
+    requires left { IsLeft bounds.now file.now.all builder left.now base }
+    ensures ok { IfOk result (λ r. IsAccepted bounds.now file.now.all (module_of r)) }
     ensures sizes { IfOk result (λ r. SizeRule (module_of r)) }
     ensures source_sizes { bounds.now ≡ source_bounds → IfOk result (λ r. StrictSizeRule (module_of r)) }
-    ensures short { IfOk result (λ r. length (Enc (module_of r)) ≤ length bytes.now) }
-    ensures refused { IfErr result (λ fault. IsRefused bounds.now bytes.now fault) }
+    ensures short { IfOk result (λ r. length (Enc (module_of r)) ≤ length file.now.all) }
+    ensures refused { IfErr result (λ fault. IsRefused bounds.now file.now.all fault) }
 {
     if let Some(fault) = judge(marks, bounds) {
         return Err(fault);
     }
-    let module = match build(alloc, bytes) {
+    let module = match build_left(alloc, builder, left, base) {
         Ok(module) => module,
         Err(BuildFault::Memory) => return Err(ReadFault::Memory),
         Err(BuildFault::NotSpelled) => unreachable!(),
@@ -80,6 +90,23 @@ pub(crate) fn read_whole(
         });
     }
     Ok(module)
+}
+
+// The module of a file whose last bytes these are.
+fn build_left(
+    alloc: Global,
+    builder: Option<Builder>,
+    left: &[u8],
+    base: usize,
+) -> Result<Module, BuildFault>
+    requires { base + length left.now < 2 ^ 64 }
+    ensures { GivesLeft result builder left.now base }
+{
+    let Some(mut builder) = builder else {
+        return Err(BuildFault::NotSpelled);
+    };
+    let _used = builder.take(alloc, left, base)?;
+    Ok(builder.into_module())
 }
 
 // Why a file of these marks is refused, if it is.

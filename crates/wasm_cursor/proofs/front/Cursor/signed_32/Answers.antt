@@ -8,16 +8,16 @@ use Rattle.wasm_cursor.proofs.front.Cursor.signed_32.Goals as goal
 
 pub returns-in_err-n-clause-read : goal.returns-in_err-n-clause-read
 returns-in_err-n-clause-read c = λ n front rest e s.
-    absurd (let f = signed_given 32 _ _ _ _ _ c.self.view_is c.in_err-n.ensures.exact n front rest e s in let g = f.0 in cc)
+    absurd (let f = signed_given _ 32 _ _ _ _ _ c.self.view_is c.in_err-n.ensures.exact n front rest e s in let g = f.0 in cc)
 
 pub returns-in_err-n-clause-onward : goal.returns-in_err-n-clause-onward
-returns-in_err-n-clause-onward c = signed_on 32 _ _ _ _ _ c.self.view_is c.in_err-n.ensures.exact c.signed_32.ensures.place
+returns-in_err-n-clause-onward c = signed_on _ 32 _ _ _ _ _ c.self.view_is c.in_err-n.ensures.exact c.signed_32.ensures.place
 
 pub returns-clause-read : goal.returns-clause-read
 returns-clause-read c = λ n front rest e s.
-    let f = signed_given 32 _ _ _ _ _ c.self.view_is c.in_ok-n.ensures.exact n front rest e s in
+    let f = signed_given _ 32 _ _ _ _ _ c.self.view_is c.in_ok-n.ensures.exact n front rest e s in
     let g = f.0 in
     (ap Ok (c.cast_unsigned.ensures ∙ ap (λ x. cast_unsigned w32 (cast_signed w32 x)) (ok-injective _ _ _ refl g) ∙ of_z-to_z w32 n (signed_fits 32 front n s)), f.1)
 
 pub returns-clause-onward : goal.returns-clause-onward
-returns-clause-onward c = signed_on 32 _ _ _ _ _ c.self.view_is c.in_ok-n.ensures.exact c.signed_32.ensures.place
+returns-clause-onward c = signed_on _ 32 _ _ _ _ _ c.self.view_is c.in_ok-n.ensures.exact c.signed_32.ensures.place

@@ -8,16 +8,16 @@ use Rattle.wasm_cursor.proofs.front.Cursor.signed_64.Goals as goal
 
 pub returns-in_err-n-clause-read : goal.returns-in_err-n-clause-read
 returns-in_err-n-clause-read c = λ n front rest e s.
-    absurd (let f = signed_given 64 _ _ _ _ _ c.self.view_is c.in_err-n.ensures.exact n front rest e s in let g = f.0 in cc)
+    absurd (let f = signed_given _ 64 _ _ _ _ _ c.self.view_is c.in_err-n.ensures.exact n front rest e s in let g = f.0 in cc)
 
 pub returns-in_err-n-clause-onward : goal.returns-in_err-n-clause-onward
-returns-in_err-n-clause-onward c = signed_on 64 _ _ _ _ _ c.self.view_is c.in_err-n.ensures.exact c.signed_64.ensures.place
+returns-in_err-n-clause-onward c = signed_on _ 64 _ _ _ _ _ c.self.view_is c.in_err-n.ensures.exact c.signed_64.ensures.place
 
 pub returns-clause-read : goal.returns-clause-read
 returns-clause-read c = λ n front rest e s.
-    let f = signed_given 64 _ _ _ _ _ c.self.view_is c.in_ok-n.ensures.exact n front rest e s in
+    let f = signed_given _ 64 _ _ _ _ _ c.self.view_is c.in_ok-n.ensures.exact n front rest e s in
     let g = f.0 in
     (ap Ok (c.cast_unsigned.ensures ∙ ap (λ x. cast_unsigned w64 (cast_signed w64 x)) (ok-injective _ _ _ refl g) ∙ of_z-to_z w64 n (signed_fits 64 front n s)), f.1)
 
 pub returns-clause-onward : goal.returns-clause-onward
-returns-clause-onward c = signed_on 64 _ _ _ _ _ c.self.view_is c.in_ok-n.ensures.exact c.signed_64.ensures.place
+returns-clause-onward c = signed_on _ 64 _ _ _ _ _ c.self.view_is c.in_ok-n.ensures.exact c.signed_64.ensures.place

@@ -1,0 +1,5 @@
+use Rattle.wasm_build.proofs.PieceParts.{comes_first}
+use Rattle.wasm_build.proofs.builder.Builder.new.Goals as goal
+
+pub returns : goal.returns
+returns c = comes_first c.new.result c.new.ensures

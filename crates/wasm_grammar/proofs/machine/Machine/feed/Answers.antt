@@ -1,9 +1,0 @@
-use Rattle.wasm_grammar.proofs.Faults.{on_false}
-use Rattle.wasm_grammar.proofs.PieceEnds.{waits_begun, stands_on}
-use Rattle.wasm_grammar.proofs.machine.Machine.feed.Goals as goal
-
-pub returns-clause-begun : goal.returns-clause-begun
-returns-clause-begun c = waits_begun c.args.bytes.now _ _ (on_false _ _ _ c.if-branch.false c.in_ok-go_on.ensures.on)
-
-pub returns-clause-more : goal.returns-clause-more
-returns-clause-more c = λ piece. stands_on c.args.bytes.now piece _ _ (on_false _ _ _ c.if-branch.false c.in_ok-go_on.ensures.on).stands
