@@ -1,5 +1,6 @@
 -- The first bytes of a file, and what they say of all of it.
-use Rattle.std.proofs.Common.{◌≡◌, ◌≤◌, ◌<◌, ◌+◌, ◌-◌, ◌^◌, ℕ, List, [], ◌∷◌, ◌++◌, zero, suc, Option, Some, None, length, take, drop, inl, refl, sym, ap, ◌∙◌, subst, arith, length-append}
+use Rattle.std.proofs.Common.{◌≡◌, ◌≤◌, ◌<◌, ◌+◌, ◌-◌, ◌^◌, ℕ, List, [], ◌∷◌, ◌++◌, zero, suc, Option, Some, None, length, take, drop, inl, refl, sym, ap, ◌∙◌, subst, arith}
+use Rattle.std.proofs.Common.{length-append}
 use Rattle.std.specs.Prelude.{All, IsSome, replicate}
 use Rattle.std.proofs.lemmas.List.Elements.{All-append, All-take}
 use Rattle.std.proofs.Math.Seq.{take-length}
@@ -14,8 +15,10 @@ use Rattle.wasm_reader.specs.declared.read_fault.ReadFault.{ReadFault}
 use Rattle.wasm_reader.specs.declared.read_fault.ReadFault.TheVariants as R
 use Rattle.wasm_reader.specs.Answers.{IsRefused}
 use Rattle.wasm_reader.specs.Pieces.{IsFeedFault}
-use Rattle.module_files.specs.Held.{Holds}
-use Rattle.module_files.specs.Pieces.{BeginsWith, IsFront, IsPiece}
+use Rattle.module_files.specs.Held.{Holds, IsToldFault}
+use Rattle.module_files.specs.Pieces.{BeginsWith, IsFaultOf, IsFront, IsPiece}
+use Rattle.module_files.specs.declared.fault.ModuleFault.{ModuleFault}
+use Rattle.module_files.specs.declared.fault.ModuleFault.TheVariants as M
 use Rattle.module_files.proofs.Held.{holds_own}
 
 -- one more piece
@@ -87,6 +90,12 @@ refused_long b most None name done e there far over =
     let long : length (replicate done nought) ≡ done = length-replicate done nought in (replicate done nought, tt, (omega (arith, e, over, long), omega (arith, e)))
 refused_long b most (Some all) name done e there far over =
     (bytes_of all name, holds_own all name there, (omega (arith, e, far, over), omega (arith, e)))
+
+-- what bytes are refused for, the file is that holds them
+pub told_fault : (b : ModuleBounds) (files : Option Files) (name bytes : List ℕ) (fault : ModuleFault) → Holds files name bytes → IsFaultOf b bytes fault → IsToldFault b files name fault
+told_fault b files name bytes M.Memory holds h = tt
+told_fault b files name bytes M.Read holds h = tt
+told_fault b files name bytes (M.Refused fault) holds h = (bytes, holds, h)
 
 -- ---- a reader, and a piece for it
 

@@ -1,14 +1,44 @@
 -- Each piece is one more of the file behind the front that has come.
 use Rattle.std.proofs.Common.{◌≡◌, ◌+◌, ◌<◌, ◌≤◌, ◌^◌, List, ℕ, All, ◌++◌, ap, arith, drop, length, subst, sym, take, ◌∙◌}
 use Rattle.std.specs.Prelude.{IsSome}
+use Rattle.std.proofs.lemmas.Result.{IfErr-weaker, IfOk-weaker}
 use Rattle.vault_port.specs.Files.{bytes_of}
 use Rattle.vault_port.specs.Told.{WhereTold}
 use Rattle.wa_types.specs.ModuleBounds.{ModuleBounds}
+use Rattle.wa_types.specs.View.{module_of}
+use Rattle.wasm_reader.specs.Answers.{IsAccepted}
 use Rattle.wasm_reader.specs.Pieces.{Reading, IsFeedFault, fed}
 use Rattle.module_files.specs.Held.{IsToldFault}
-use Rattle.module_files.specs.Pieces.{IsFront, IsPiece}
-use Rattle.module_files.proofs.Fronts.{are_bytes_more, came_more, front_more, lent_back}
+use Rattle.module_files.specs.Pieces.{IsFaultOf, IsFront, IsPiece}
+use Rattle.module_files.proofs.Fronts.{are_bytes_more, came_more, front_more, holds_front, lent_back, told_fault}
 use Rattle.module_files.proofs.reading.read_file.Goals as goal
+
+pub returns-then-count-eq0-clause-ok : goal.returns-then-count-eq0-clause-ok
+returns-then-count-eq0-clause-ok g c =
+    let i = c.fetching.invariant in
+    let files = g.V.Vault.files c.args.vault.now in
+    let name = c.args.name.now in
+    let front = c.fetching.reader.bytes in
+    let buffer = c.fetch_piece.new.buffer in
+    let count = c.in_ok-count.count in
+    let piece = subst (λ f. WhereTold f (λ all. IsPiece (bytes_of all name) c.fetching.done count buffer)) i.kept c.in_ok-count.ensures.fetched in
+    let there = subst (λ f. WhereTold f (λ all. IsSome (all name))) i.kept c.in_ok-count.ensures.there in
+    let holds = holds_front files name front buffer c.fetching.done count i.done c.if-count-eq0.true i.front piece there in
+    IfOk-weaker c.finish.result _ _
+    (λ r read. record { bytes = front; holds = holds; are_bytes = i.are_bytes; accepted = subst (λ b. IsAccepted b front (module_of r)) i.bounds read }) c.finish.ensures.ok
+
+pub returns-then-count-eq0-clause-refused : goal.returns-then-count-eq0-clause-refused
+returns-then-count-eq0-clause-refused g c =
+    let i = c.fetching.invariant in
+    let files = g.V.Vault.files c.args.vault.now in
+    let name = c.args.name.now in
+    let front = c.fetching.reader.bytes in
+    let buffer = c.fetch_piece.new.buffer in
+    let count = c.in_ok-count.count in
+    let piece = subst (λ f. WhereTold f (λ all. IsPiece (bytes_of all name) c.fetching.done count buffer)) i.kept c.in_ok-count.ensures.fetched in
+    let there = subst (λ f. WhereTold f (λ all. IsSome (all name))) i.kept c.in_ok-count.ensures.there in
+    let holds = holds_front files name front buffer c.fetching.done count i.done c.if-count-eq0.true i.front piece there in
+    IfErr-weaker c.finish.result _ _ (λ fault why. told_fault c.args.bounds files name front fault holds (subst (λ b. IsFaultOf b front fault) i.bounds why)) c.finish.ensures.refused
 
 pub refuse-requires-clause-fault : goal.refuse-requires-clause-fault
 refuse-requires-clause-fault g c =
