@@ -1,5 +1,5 @@
 -- What holds of the front of a script that was read holds of the file; what is told of a module.
-use Rattle.std.proofs.Common.{◌≡◌, ◌⊎◌, inl, inr, ℕ, List, Option, Some, None, refl, sym, subst, take, length, arith, Result, Ok, Err}
+use Rattle.std.proofs.Common.{◌≡◌, inl, inr, ℕ, List, Option, Some, None, sym, subst, take, arith, Result, Ok, Err}
 use Rattle.std.specs.Prelude.{IsSome}
 use Rattle.std.specs.Result.{IfErr}
 use Rattle.std.proofs.lemmas.List.{take_all, length-take}
@@ -9,7 +9,7 @@ use Rattle.wa_model.specs.Script as T
 use Rattle.wa_model.specs.Transcript.{Refusal, usage, out_of_memory, malformed, float, nesting, invalid, limit, reserved, script, read_fault, write_fault}
 use Rattle.transcript.specs.Printing.{refusal_of}
 use Rattle.module_files.specs.Held.{Holds}
-use Rattle.module_files.proofs.Held.{held_there, holds_own}
+use Rattle.module_files.proofs.Held.{holds_own}
 use Rattle.host_modules.specs.declared.reading.PreparedFault.{PreparedFault}
 use Rattle.host_modules.specs.declared.reading.PreparedFault.TheVariants as P
 use Rattle.host_modules.specs.Faults.{IsToldFault}
@@ -68,18 +68,6 @@ pub content_told : (name : List ℕ) (files : Option Files) (fault : PreparedFau
 content_told name files P.Memory told e h = subst IsContentFault (sym e) tt
 content_told name files P.Read told e h = subst IsContentFault (sym e) tt
 content_told name files (P.Refused kind) told e h = subst IsContentFault (sym e) (content_of h.0 (refusal_of kind) h.2)
-
--- a file that was read is there
-pub there_told : (name : List ℕ) (files : Option Files) (fault : PreparedFault) (told : FileFault) → told ≡ file_fault fault → IsToldFault files name fault
-    → (told ≡ Read) ⊎ (told ≡ Memory) ⊎ WhereTold files (λ all. IsSome (all name))
-there_told name files P.Memory told e h = inr (inl e)
-there_told name files P.Read told e h = inl e
-there_told name files (P.Refused kind) told e h = inr (inr (held_there files name h.0 h.1))
-
-pub read_told : (fault : PreparedFault) (told : FileFault) → told ≡ file_fault fault → told ≡ Read → fault ≡ P.Read
-read_told P.Memory told e r = cc
-read_told P.Read told e r = refl
-read_told (P.Refused kind) told e r = cc
 
 pub if_err_weaker : {T E : Type 0} (r : Result T E) (P Q : E → Type 0) → ((e : E) → P e → Q e) → IfErr r P → IfErr r Q
 if_err_weaker (Ok x) P Q f h = tt

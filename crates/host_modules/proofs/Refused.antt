@@ -1,7 +1,6 @@
 -- What isn't read, or isn't valid, is refused for its cause.
-use Rattle.std.proofs.Common.{◌≡◌, ℕ, List, Option, subst, sym}
+use Rattle.std.proofs.Common.{ℕ, List, Option, subst, sym}
 use Rattle.vault_port.specs.Files.{Files}
-use Rattle.wa_types.specs.declared.bounds.LimitKind.{LimitKind}
 use Rattle.wa_types.specs.ModuleBounds.{prepared_bounds}
 use Rattle.wasm_reader.specs.declared.read_fault.ReadFault.{ReadFault}
 use Rattle.wasm_reader.specs.declared.read_fault.ReadFault.TheVariants.{Memory, Malformed, Float, Deep, Limit}

@@ -1,5 +1,5 @@
 -- The fault of a file is that of the module in it.
-use Rattle.host_files.proofs.Fronts.{content_told, read_told, unprepared_told}
+use Rattle.host_files.proofs.Fronts.{content_told, unprepared_told}
 use Rattle.host_files.proofs.modules.fetch_prepared.Goals as goal
 
 pub returns-in-Err-clause-refused : goal.returns-in-Err-clause-refused

@@ -1,5 +1,5 @@
 -- No more comes behind a front that met a fault, or more than a file may have.
-use Rattle.std.proofs.Common.{arith, subst, sym}
+use Rattle.std.proofs.Common.{arith, subst}
 use Rattle.vault_port.specs.Files.{bytes_of}
 use Rattle.vault_port.specs.Told.{WhereTold}
 use Rattle.module_files.specs.Pieces.{IsPiece}
