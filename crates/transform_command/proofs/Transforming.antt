@@ -12,7 +12,8 @@ use Rattle.source_modules.proofs.Held.{own_bytes}
 use Rattle.transform_command.specs.Transforms.{HoldsSource, IsTransformed, IsCutShort, IsCount}
 
 -- what was read is of the file
-source_of : (s : Settings) (input bytes : List ℕ) (a : Files) (m : Module) (which : List Bool) (p : Module) → a input ≡ Some bytes → IsSource s bytes m which p → IsSource s (bytes_of a input) m which p
+source_of : (s : Settings) (input bytes : List ℕ) (a : Files) (m : Module) (which : List Bool) (p : Module) → a input ≡ Some bytes → IsSource s bytes m which p
+    → IsSource s (bytes_of a input) m which p
 source_of s input bytes a m which p e h = subst (λ z. IsSource s z m which p) (own_bytes a input bytes e) h
 
 -- what one change of the files means of another, where they are told

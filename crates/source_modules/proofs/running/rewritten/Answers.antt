@@ -44,3 +44,6 @@ returns-in-Ok-asyncify_module-clause-done g c =
         rewrites = e.rewrites;
       },
     )
+
+pub returns-in-Err-clause-refused : goal.returns-in-Err-clause-refused
+returns-in-Err-clause-refused g c = c.in-Err.ensures.refused (settings_of c.args.settings.now)

@@ -55,3 +55,6 @@ returns-clause-done g c =
         norm_rewritten m s e.written e.rewrites,
       ),
     )
+
+pub returns-in-Err-clause-refused : goal.returns-in-Err-clause-refused
+returns-in-Err-clause-refused g c = c.in-Err.ensures.refused (settings_of c.args.settings.now)
