@@ -11,6 +11,8 @@ mod commands;
 #[cfg(test)]
 mod driving;
 #[cfg(test)]
+mod fetching;
+#[cfg(test)]
 mod flattening;
 #[cfg(test)]
 mod guarding;
@@ -42,5 +44,7 @@ mod trees;
 mod validating;
 #[cfg(test)]
 mod vaults;
+#[cfg(test)]
+mod worked;
 #[cfg(test)]
 mod writing;

@@ -1,6 +1,7 @@
 //! Files that come in pieces.
 
 use crate::modules::EACH_SECTION;
+use crate::worked::WORKED;
 use bytes::BytesMut;
 use std::alloc::Global;
 use std::test::Fail;
@@ -22,7 +23,7 @@ fn written(alloc: Global, module: &Module) -> Option<BytesMut> {
 }
 
 /// What is read of a file that comes in pieces of so many bytes.
-fn in_pieces(alloc: Global, file: &[u8], size: usize) -> Result<Module, ReadFault> {
+pub fn in_pieces(alloc: Global, file: &[u8], size: usize) -> Result<Module, ReadFault> {
     let mut reader = Reader::new(alloc, Bounds::source());
     for piece in file.chunks(size) {
         reader.feed(piece)?;
@@ -31,7 +32,7 @@ fn in_pieces(alloc: Global, file: &[u8], size: usize) -> Result<Module, ReadFaul
 }
 
 /// Whether both were read and are written alike, or both have one fault.
-fn alike(alloc: Global, one: Result<Module, ReadFault>, other: Result<Module, ReadFault>) -> bool {
+pub fn alike(alloc: Global, one: Result<Module, ReadFault>, other: Result<Module, ReadFault>) -> bool {
     match (one, other) {
         (Ok(one), Ok(other)) => match (written(alloc, &one), written(alloc, &other)) {
             (Some(one), Some(other)) => one[..] == other[..],
@@ -50,6 +51,37 @@ fn files_come_byte_by_byte_or_in_any_two_pieces(rt: HostRuntime) -> Result<(), F
             let whole = read(alloc, file, &Bounds::source());
             assert!(rt; whole.is_ok());
             assert!(rt; alike(alloc, in_pieces(alloc, file, size), whole));
+        }
+    }
+    Ok(())
+}
+
+#[test]
+fn worked_files_come_byte_by_byte(rt: HostRuntime) -> Result<(), Fail> {
+    let alloc = rt.alloc();
+    for (name, file) in WORKED {
+        let whole = read(alloc, file, &Bounds::source());
+        assert!(rt; whole.is_ok(), "{name}");
+        assert!(rt; alike(alloc, in_pieces(alloc, file, 1), whole), "{name}");
+    }
+    Ok(())
+}
+
+/// What is read of a file that comes in two pieces, the first of so many bytes.
+fn cut_at(alloc: Global, file: &[u8], place: usize) -> Result<Module, ReadFault> {
+    let mut reader = Reader::new(alloc, Bounds::source());
+    reader.feed(&file[..place])?;
+    reader.feed(&file[place..])?;
+    reader.finish()
+}
+
+#[test]
+fn worked_files_come_in_two_pieces_cut_anywhere(rt: HostRuntime) -> Result<(), Fail> {
+    let alloc = rt.alloc();
+    for (name, file) in WORKED {
+        for place in 0..file.len() + 1 {
+            let whole = read(alloc, file, &Bounds::source());
+            assert!(rt; alike(alloc, cut_at(alloc, file, place), whole), "{name} at {place}");
         }
     }
     Ok(())

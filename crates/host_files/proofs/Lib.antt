@@ -1,2 +1,3 @@
+pub use Rattle.module_files.proofs.Held
 pub mod Counts
 pub mod Fronts

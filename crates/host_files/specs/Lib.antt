@@ -1,2 +1,3 @@
+pub use Rattle.module_files.specs.Held
 pub mod Scripts
 pub mod Views

@@ -1,8 +1,8 @@
 -- What is answered, as plain data.
-use Rattle.std.specs.Prelude.{◌≡◌, ℕ, List, Option, Some}
+use Rattle.std.specs.Prelude.{ℕ, List, Option}
 use Rattle.vault_port.specs.Files.{Files}
-use Rattle.vault_port.specs.Told.{WhereTold}
 use Rattle.transcript.specs.Printing.{refusal_of}
+use Rattle.module_files.specs.Held.{Holds}
 use Rattle.host_modules.specs.declared.reading.PreparedFault.{PreparedFault}
 use Rattle.host_modules.specs.declared.reading.PreparedFault.TheVariants as P
 use Rattle.host_modules.specs.Prepared.{IsOfContent, IsUnprepared}
@@ -15,10 +15,6 @@ abbrev pub IsNoScriptFor : List ℕ → FileFault → Type 0
 IsNoScriptFor bytes Memory = Unit {0}
 IsNoScriptFor bytes Read = ⊥
 IsNoScriptFor bytes (Refused kind) = IsNoScript bytes (refusal_of kind)
-
--- where the files are told, this one is there and holds these bytes
-abbrev pub Holds : Option Files → (name bytes : List ℕ) → Type 0
-Holds files name bytes = WhereTold files (λ all. all name ≡ Some bytes)
 
 -- a refusal, for which the file's bytes are no script
 abbrev pub IsToldNoScript : Option Files → List ℕ → FileFault → Type 0
@@ -38,4 +34,5 @@ IsContentFault _ = Unit {0}
 -- the fault of a file by that of a prepared module
 abbrev pub file_fault : PreparedFault → FileFault
 file_fault P.Memory = Memory
+file_fault P.Read = Read
 file_fault (P.Refused kind) = Refused kind

@@ -7,16 +7,14 @@ ghost use Rattle.vault_port.specs.Files.{IsMissing};
 ghost use Rattle.vault_port.specs.Told.{WhereTold};
 ghost use Rattle.wa_types.specs.View.{module_of};
 ghost use Rattle.host_modules.specs.Prepared.{IsPrepared};
-ghost use Rattle.host_files.specs.Views.{Holds, IsContentFault, IsToldUnprepared, file_fault};
+ghost use Rattle.module_files.specs.Held.{Holds};
+ghost use Rattle.host_files.specs.Views.{IsContentFault, IsToldUnprepared, file_fault};
 
 use crate::fault::FileFault;
 use host_modules::{PreparedFault, prepare};
 use std::alloc::Global;
-use vault_port::{FetchFault, Vault, fetch_whole};
+use vault_port::Vault;
 use wasm_validate::Valid;
-
-/// The file of a prepared module is read until one byte past its limit.
-const FETCH_LIMIT: u64 = 67_108_865;
 
 /// The prepared module in this file. No file changes.
 pub fn fetch_prepared<V: Vault>(
@@ -36,12 +34,7 @@ pub fn fetch_prepared<V: Vault>(
     ensures faults { V.fetch_faults vault.old ≤ V.fetch_faults vault.new }
     ensures saves { V.save_faults vault.new ≡ V.save_faults vault.old }
 {
-    let bytes = match fetch_whole(alloc, vault, name, FETCH_LIMIT) {
-        Ok(bytes) => bytes,
-        Err(FetchFault::Read) => return Err(FileFault::Read),
-        Err(FetchFault::Memory) => return Err(FileFault::Memory),
-    };
-    match prepare(alloc, &bytes) {
+    match prepare(alloc, vault, name) {
         Ok(valid) => Ok(valid),
         Err(fault) => Err(file_fault(fault)),
     }
@@ -52,6 +45,7 @@ fn file_fault(fault: PreparedFault) -> FileFault
 {
     match fault {
         PreparedFault::Memory => FileFault::Memory,
+        PreparedFault::Read => FileFault::Read,
         PreparedFault::Refused(kind) => FileFault::Refused(kind),
     }
 }

@@ -10,8 +10,9 @@ ghost use Rattle.wa_model.specs.Transcript.{limit};
 ghost use Rattle.transcript.specs.Printing.{refusal_of};
 ghost use Rattle.script_reader.specs.Views.{script_of};
 ghost use Rattle.host_modules.specs.Prepared.{IsOfContent};
+ghost use Rattle.module_files.specs.Held.{Holds};
 ghost use Rattle.host_files.specs.Scripts.{IsScript};
-ghost use Rattle.host_files.specs.Views.{Holds, IsContentFault, IsNoScriptFor, IsToldNoScript};
+ghost use Rattle.host_files.specs.Views.{IsContentFault, IsNoScriptFor, IsToldNoScript};
 
 use crate::fault::FileFault;
 use script_reader::{Script, ScriptFault, read_script};

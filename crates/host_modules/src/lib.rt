@@ -1,7 +1,7 @@
-//! Prepared modules, from their bytes.
+//! Prepared modules, from their files.
 //!
-//! A host takes a module as it is, if its bytes spell one, without a float and within the limits of a prepared module, and it is
-//! valid (`specs/Prepared.antt`); `prepare` answers it, or what its bytes are refused for.
+//! A host takes a module as it is, if its file spells one, without a float and within the limits of a prepared module, and it is
+//! valid (`specs/Prepared.antt`); `prepare` answers it, or what its file is refused for.
 #![tactic(auto)]
 
 mod reading;

@@ -1,16 +1,24 @@
-//! From the bytes of a prepared module to the module.
+//! From the file of a prepared module to the module.
 
-ghost use Rattle.std.specs.Prelude.{IfOk};
+ghost use Rattle.std.specs.Prelude.{◌≡◌, ◌≢◌, ◌⊎◌, ◌≤◌, ℕ, List, Err, IfOk, IsErrOf};
 ghost use Rattle.std.specs.Result.{IfErr};
+ghost use Rattle.vault_port.specs.Counts.{HasRisen};
+ghost use Rattle.vault_port.specs.Files.{IsMissing};
+ghost use Rattle.wa_types.specs.ModuleBounds.{prepared_bounds};
+ghost use Rattle.wa_types.specs.Sizes.{SizeRule};
 ghost use Rattle.wa_types.specs.View.{module_of};
-ghost use Rattle.host_modules.specs.Faults.{IsFaultOf, IsOfRead};
+ghost use Rattle.wasm_reader.specs.Answers.{IsAccepted};
+ghost use Rattle.module_files.specs.Held.{Holds};
+ghost use Rattle.host_modules.specs.Faults.{IsFaultOf, IsOfFile, IsOfRead, IsToldFault};
 ghost use Rattle.host_modules.specs.Prepared.{IsPrepared};
 
+use module_files::{ModuleFault, read_file};
 use std::alloc::Global;
 use thiserror::Error;
 use transcript::RefusalKind;
-use wa_types::Bounds;
-use wasm_reader::{ReadFault, read};
+use vault_port::Vault;
+use wa_types::{Bounds, Module};
+use wasm_reader::ReadFault;
 use wasm_validate::{Valid, ValidateFault, validate};
 
 /// Why there is no prepared module.
@@ -18,25 +26,53 @@ use wasm_validate::{Valid, ValidateFault, validate};
 pub enum PreparedFault {
     #[error("out of memory")]
     Memory,
+    #[error("the file could not be read")]
+    Read,
     #[error("the module is refused")]
     Refused(RefusalKind),
 }
 
-/// The prepared module that these bytes spell.
-pub fn prepare(alloc: Global, bytes: &[u8]) -> Result<Valid, PreparedFault>
-    ensures prepared { IfOk result (λ valid. IsPrepared bytes.now (module_of valid)) }
-    ensures refused { IfErr result (λ fault. IsFaultOf bytes.now fault) }
+/// The prepared module that this file spells. No file changes.
+pub fn prepare<V: Vault>(alloc: Global, vault: &mut V, name: &str) -> Result<Valid, PreparedFault>
+    ensures prepared { IfOk result (λ valid. (bytes : List ℕ) × Holds (V.files vault.old) name.now bytes × IsPrepared bytes (module_of valid)) }
+    ensures refused { IfErr result (λ fault. IsToldFault (V.files vault.old) name.now fault) }
+    ensures read { IsErrOf result PreparedFault.Read
+        → HasRisen (V.fetch_faults vault.old) (V.fetch_faults vault.new)
+        ⊎ IsMissing (V.files vault.old) name.now }
+    ensures kept { V.files vault.new ≡ V.files vault.old }
+    ensures faults { V.fetch_faults vault.old ≤ V.fetch_faults vault.new }
+    ensures saves { V.save_faults vault.new ≡ V.save_faults vault.old }
 {
-    let module = match read(alloc, bytes, &Bounds::prepared()) {
-        Ok(module) => module,
-        Err(fault) => return Err(read_fault(fault)),
-    };
+    match read_file(alloc, vault, name, Bounds::prepared()) {
+        Ok(module) => valid_module(alloc, module),
+        Err(fault) => Err(file_fault(fault)),
+    }
+}
+
+// A module that was read, where it is valid.
+fn valid_module(alloc: Global, module: Module) -> Result<Valid, PreparedFault>
+    requires { SizeRule (module_of «module») }
+    ensures prepared { (bytes : List ℕ) → IsAccepted prepared_bounds bytes (module_of «module») → IfOk result (λ valid. IsPrepared bytes (module_of valid)) }
+    ensures refused { (bytes : List ℕ) → IsAccepted prepared_bounds bytes (module_of «module») → IfErr result (λ fault. IsFaultOf bytes fault) }
+    ensures no_read { result ≢ Err PreparedFault.Read }
+{
     match validate(alloc, module) {
         Ok(valid) => Ok(valid),
         Err(ValidateFault::Memory) => Err(PreparedFault::Memory),
         Err(ValidateFault::Invalid { func, rule, at }) => {
             Err(PreparedFault::Refused(RefusalKind::Invalid { func, rule, at }))
         }
+    }
+}
+
+// Why a file gave no module.
+fn file_fault(fault: ModuleFault) -> PreparedFault
+    ensures { IsOfFile fault result }
+{
+    match fault {
+        ModuleFault::Memory => PreparedFault::Memory,
+        ModuleFault::Read => PreparedFault::Read,
+        ModuleFault::Refused(fault) => read_fault(fault),
     }
 }
 

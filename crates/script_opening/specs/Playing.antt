@@ -10,7 +10,7 @@ use Rattle.wa_model.specs.Script.{DetachText, ProgramText, Script, breaks}
 use Rattle.wa_model.specs.Transcript.{Refusal, script}
 use Rattle.host_modules.specs.Prepared.{IsPrepared, IsUnprepared}
 use Rattle.host_files.specs.Scripts.{IsScript, IsNoScript}
-use Rattle.host_files.specs.Views.{Holds}
+use Rattle.host_files.specs.Held.{Holds}
 use Rattle.source_modules.specs.Running.{RunsAs}
 use Rattle.source_modules.specs.Sources.{IsRefusedFor, refusal_for}
 use Rattle.source_modules.specs.Sources as S

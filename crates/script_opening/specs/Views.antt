@@ -7,8 +7,13 @@ use Rattle.wa_types.specs.View.{module_of}
 use Rattle.wa_types.specs.declared.syntax.Module.{Module as ModuleValue}
 use Rattle.wa_model.specs.Script.{ProgramText, ScriptFault, breaks}
 use Rattle.transcript.specs.Printing.{refusal_of}
+use Rattle.transcript.specs.declared.refusals.RefusalKind.{RefusalKind}
 use Rattle.host_files.specs.declared.fault.FileFault.{FileFault}
 use Rattle.host_files.specs.declared.fault.FileFault.TheVariants as F
+use Rattle.source_modules.specs.Refusals.{cause_of}
+use Rattle.source_modules.specs.Sources.{refusal_for}
+use Rattle.source_modules.specs.declared.source.SourceFault.{SourceFault}
+use Rattle.source_modules.specs.declared.source.SourceFault.TheVariants as U
 use Rattle.script_reader.specs.Views.{program_of}
 use Rattle.script_setup.specs.SetUpRules.{SetUp}
 use Rattle.script_setup.specs.Views.{set_up_of}
@@ -21,24 +26,19 @@ use Rattle.script_opening.specs.declared.programs.Programs.{Programs}
 use Rattle.script_opening.specs.declared.opening.Opened.{Opened}
 use Rattle.script_opening.specs.declared.opening.OpenFault.{OpenFault}
 use Rattle.script_opening.specs.declared.opening.OpenFault.TheVariants.{Memory, Read, Script, Module, Rule}
-use Rattle.script_opening.specs.Playing.{AreStages, BreaksRule, IsBadModule, IsBadOriginal, IsModule, IsReached, IsRead}
-use Rattle.script_opening.specs.Playing.{IsRefused, IsStage, Play, RunsFor, bad_line, bad_module, bad_script, detaches_in}
+use Rattle.script_opening.specs.Playing.{AreStages, BreaksRule, IsBadModule, IsModule, IsReached, IsRead}
+use Rattle.script_opening.specs.Playing.{IsRefused, IsStage, Play, bad_line, bad_module, bad_script, detaches_in}
 
 -- a module of a program of this text, which is told of each function import whether it is listed where it is told at all
 pub record Loads (way : Way) (files : Option Files) (t : ProgramText) (l : Loaded) : Type 0 where
   pub module_is : IsModule way files t (module_of l.valid) (listing l.listed)
   pub listing : IsListing (module_of l.valid) (listing l.listed)
 
--- an original that is rewritten
-pub record Rewritten (t : ProgramText) (bytes : List ℕ) (l : Loaded) : Type 0 where
-  pub runs : (listed : List Bool) × RunsFor t bytes listed (module_of l.valid) × (listing l.listed ≡ Some listed)
-  pub listing : IsListing (module_of l.valid) (listing l.listed)
-
--- a refusal, for which the bytes are no original that can be rewritten
-abbrev pub IsBadOriginalFor : ProgramText → List ℕ → FileFault → Type 0
-IsBadOriginalFor t bytes (F.Refused kind) = IsBadOriginal t bytes (refusal_of kind)
-IsBadOriginalFor t bytes F.Memory = Unit {0}
-IsBadOriginalFor t bytes F.Read = ⊥
+-- the fault of an original that wasn't rewritten
+abbrev pub IsOfSource : SourceFault → FileFault → Type 0
+IsOfSource U.Memory fault = fault ≡ F.Memory
+IsOfSource U.Read fault = fault ≡ F.Read
+IsOfSource (U.Refused refusal) fault = (kind : RefusalKind) × (fault ≡ F.Refused kind) × (refusal_of kind ≡ refusal_for (cause_of refusal))
 
 -- a refusal, for which a program's module is refused
 abbrev pub IsBadModuleFor : Way → Option Files → ProgramText → FileFault → Type 0

@@ -12,7 +12,7 @@ ghost use Rattle.wa_model.specs.Command.{choice_said};
 ghost use Rattle.script_reader.specs.Views.{program_of};
 ghost use Rattle.script_opening.specs.declared.way.Way.TheVariants.{Host, Run};
 ghost use Rattle.script_opening.specs.Playing.{policy_for, settings_for};
-ghost use Rattle.script_opening.specs.Views.{IsBadModuleFor, IsBadOriginalFor, Loads, Rewritten};
+ghost use Rattle.script_opening.specs.Views.{IsBadModuleFor, IsOfSource, Loads};
 
 use crate::way::Way;
 use call_graph::{Choice, ImportList, Policy, Settings};
@@ -20,12 +20,9 @@ use host_files::{FileFault, fetch_prepared};
 use script_reader::ProgramText;
 use source_modules::{SourceFault, refusal_kind, rewritten};
 use std::alloc::{AllocError, Global};
-use vault_port::{FetchFault, Vault, fetch_whole};
+use vault_port::Vault;
 use wa_types::Name;
 use wasm_validate::Valid;
-
-/// The file of an original is read until one byte past its limit.
-const FETCH_LIMIT: u64 = 8_388_609;
 
 /// A program's module, as it is hosted; and which of its function imports are listed, where it was rewritten.
 #[derive(Debug, Drop)]
@@ -93,29 +90,26 @@ fn fetch_rewritten<V: Vault>(
     ensures faults { V.fetch_faults vault.old ≤ V.fetch_faults vault.new }
     ensures saves { V.save_faults vault.new ≡ V.save_faults vault.old }
 {
-    let bytes = match fetch_whole(alloc, vault, text.path.as_str(), FETCH_LIMIT) {
-        Ok(bytes) => bytes,
-        Err(FetchFault::Read) => return Err(FileFault::Read),
-        Err(FetchFault::Memory) => return Err(FileFault::Memory),
-    };
-    rewritten_module(alloc, &bytes, text)
-}
-
-// The original of these bytes, rewritten for a program.
-fn rewritten_module(alloc: Global, bytes: &[u8], text: &ProgramText) -> Result<Loaded, FileFault>
-    ensures loaded { IfOk result (λ l. Rewritten (program_of text.now) bytes.now l) }
-    ensures refused { IfErr result (λ fault. IsBadOriginalFor (program_of text.now) bytes.now fault) }
-{
     let Ok(settings) = settings_for(alloc, text) else {
         return Err(FileFault::Memory);
     };
-    match rewritten(alloc, bytes, &settings) {
+    match rewritten(alloc, vault, text.path.as_str(), &settings) {
         Ok(runnable) => Ok(Loaded {
             valid: runnable.module,
             listed: Some(runnable.listed),
         }),
-        Err(SourceFault::Memory) => Err(FileFault::Memory),
-        Err(SourceFault::Refused(refusal)) => Err(FileFault::Refused(refusal_kind(refusal))),
+        Err(fault) => Err(source_fault(fault)),
+    }
+}
+
+// Why a program's original is refused.
+fn source_fault(fault: SourceFault) -> FileFault
+    ensures { IsOfSource fault result }
+{
+    match fault {
+        SourceFault::Memory => FileFault::Memory,
+        SourceFault::Read => FileFault::Read,
+        SourceFault::Refused(refusal) => FileFault::Refused(refusal_kind(refusal)),
     }
 }
 

@@ -7,7 +7,7 @@ use Rattle.wa_types.specs.Pausing.{Settings}
 use Rattle.wa_types.specs.Syntax.{Module}
 use Rattle.wa_model.specs.Script.{ProgramText}
 use Rattle.wa_model.specs.Transcript.{Refusal}
-use Rattle.host_files.proofs.Fronts.{own_bytes}
+use Rattle.host_files.proofs.Held.{own_bytes}
 use Rattle.host_modules.specs.Prepared.{IsPrepared, IsUnprepared}
 use Rattle.script_opening.specs.Running.{RunsAs}
 use Rattle.script_opening.specs.Sources.{Cause, malformed, float, deep, limit, reserved, invalid, rewritten_locals, long_output, IsRefusedFor}

@@ -7,7 +7,7 @@ use Rattle.wa_types.specs.Syntax.{Module}
 use Rattle.wa_model.specs.Script.{ProgramText, Script, ScriptFault, breaks}
 use Rattle.wa_model.specs.Transcript.{Refusal}
 use Rattle.host_files.specs.Scripts.{IsNoScript, IsScript, refusal_for}
-use Rattle.host_files.proofs.Fronts.{own_bytes}
+use Rattle.host_files.proofs.Held.{own_bytes}
 use Rattle.script_setup.specs.SetUpRules.{SetUp, set_up_rules}
 use Rattle.script_opening.specs.Worlds.{Part}
 use Rattle.script_opening.specs.declared.way.Way.{Way}

@@ -1,8 +1,7 @@
 -- What an accepted source is: few functions and bytes, and what is refused of it when it is rewritten.
 use Rattle.std.proofs.Common.{◌≡◌, ℕ, zero, suc, ◌+◌, ◌-◌, ◌≤◌, ◌<◌, ◌^◌, inl, inr, List, [], ◌∷◌, drop, length, Bool, true, false, Option, Some, None, refl, sym, ap, ◌∙◌, subst, arith}
-use Rattle.std.specs.Prelude.{Err, slice_get, slice_index_or, nat_lt, if◌then◌else◌}
+use Rattle.std.specs.Prelude.{All, Err, slice_get, nat_lt, if◌then◌else◌}
 use Rattle.std.proofs.lemmas.Bool.{le-ltb, lt-ltb, ltb-false}
-use Rattle.std.proofs.lemmas.List.Elements.{All-from_get_or}
 use Rattle.wa_types.specs.declared.syntax.Module.{Module as ModuleValue}
 use Rattle.wa_types.specs.Encoding.{Enc}
 use Rattle.wa_types.specs.Frames.{Count}
@@ -117,8 +116,8 @@ module _ (bytes : List ℕ) (m : Module) (src : IsValidSource bytes m) where
   pub strict : StrictSizeRule m
   strict = accepted_strictly source_bounds bytes m refl read
 
-  pub well : ((i : ℕ) → slice_index_or bytes i 0 < 2 ^ 8) → WellFormed m
-  well are_bytes = spelled_fits bytes m (All-from_get_or (λ b. b < 2 ^ 8) bytes 0 (λ i l. are_bytes i)) (accepted_spelled source_bounds bytes m read)
+  pub well : All (λ x. x < 2 ^ 8) bytes → WellFormed m
+  well are_bytes = spelled_fits bytes m are_bytes (accepted_spelled source_bounds bytes m read)
 
   pub few_functions : length m.funcs ≤ 100000
   few_functions =
@@ -134,7 +133,7 @@ module _ (bytes : List ℕ) (m : Module) (src : IsValidSource bytes m) where
     can = record { valid = src.valid; sizes = strict; few = few_written m which few; tells = tells }
 
     -- what is written, where it isn't long, is a prepared module
-    pub source_prepared : (p : Module) → EmittedAs m s which p → ((i : ℕ) → slice_index_or bytes i 0 < 2 ^ 8) → length (Enc p) ≤ 67108864 → IsAccepted prepared_bounds (Enc p) (Norm p)
+    pub source_prepared : (p : Module) → EmittedAs m s which p → All (λ x. x < 2 ^ 8) bytes → length (Enc p) ≤ 67108864 → IsAccepted prepared_bounds (Enc p) (Norm p)
     source_prepared p e are_bytes short = prepared_as m s which p bytes can e read short (spelled_as m s which p can e (well are_bytes) short)
 
 -- the parts of a valid source

@@ -1,7 +1,11 @@
 -- What a refusal of a source says.
-use Rattle.std.specs.Prelude.{◌≡◌, List, ℕ}
+use Rattle.std.specs.Prelude.{◌≡◌, List, Option, ℕ}
+use Rattle.vault_port.specs.Files.{Files}
 use Rattle.wasm_reader.specs.declared.read_fault.ReadFault.{ReadFault}
 use Rattle.wasm_reader.specs.declared.read_fault.ReadFault.TheVariants.{Memory as read_memory, Malformed as read_malformed, Float as read_float, Deep as read_deep, Limit as read_limit}
+use Rattle.module_files.specs.Held.{Holds}
+use Rattle.module_files.specs.declared.fault.ModuleFault.{ModuleFault}
+use Rattle.module_files.specs.declared.fault.ModuleFault.TheVariants.{Memory as file_memory, Read as file_read, Refused as file_refused}
 use Rattle.module_bytes.specs.RewriteFault.{RewriteFault}
 use Rattle.module_bytes.specs.RewriteFault.TheVariants.{Memory as rewrite_memory, Locals as rewrite_locals, Reserved as rewrite_reserved}
 use Rattle.module_bytes.specs.declared.fault.EmitFault.{EmitFault}
@@ -9,7 +13,7 @@ use Rattle.module_bytes.specs.declared.fault.EmitFault.TheVariants.{Memory as em
 use Rattle.source_modules.specs.declared.refusals.Refusal.{Refusal}
 use Rattle.source_modules.specs.declared.refusals.Refusal.TheVariants.{Malformed, Float, Deep, Limit, Reserved, Invalid, RewrittenLocals, Output}
 use Rattle.source_modules.specs.declared.source.SourceFault.{SourceFault}
-use Rattle.source_modules.specs.declared.source.SourceFault.TheVariants.{Memory, Refused}
+use Rattle.source_modules.specs.declared.source.SourceFault.TheVariants.{Memory, Read, Refused}
 use Rattle.wa_types.specs.Pausing.{Settings}
 use Rattle.source_modules.specs.Sources.{Cause, malformed, float, deep, limit, reserved, invalid, rewritten_locals, long_output, IsRefusedFor}
 
@@ -27,7 +31,14 @@ cause_of (Output found) = long_output found
 -- want of memory, or a refusal for which the bytes are refused
 abbrev pub IsFaultOf : Settings → List ℕ → SourceFault → Type 0
 IsFaultOf s bytes Memory = Unit {0}
+IsFaultOf s bytes Read = ⊥
 IsFaultOf s bytes (Refused refusal) = IsRefusedFor s bytes (cause_of refusal)
+
+-- where it could be read, the file holds bytes that are refused for this
+abbrev pub IsToldFault : Settings → Option Files → (name : List ℕ) → SourceFault → Type 0
+IsToldFault s files name Memory = Unit {0}
+IsToldFault s files name Read = Unit {0}
+IsToldFault s files name (Refused refusal) = (bytes : List ℕ) × Holds files name bytes × IsRefusedFor s bytes (cause_of refusal)
 
 -- the fault of a source that wasn't read
 abbrev pub IsOfRead : ReadFault → SourceFault → Type 0
@@ -36,6 +47,12 @@ IsOfRead (read_malformed at) fault = fault ≡ Refused (Malformed at)
 IsOfRead (read_float at) fault = fault ≡ Refused (Float at)
 IsOfRead (read_deep at) fault = fault ≡ Refused (Deep at)
 IsOfRead (read_limit what found) fault = fault ≡ Refused (Limit what found)
+
+-- the fault of a file that gave no source
+abbrev pub IsOfFile : ModuleFault → SourceFault → Type 0
+IsOfFile file_memory fault = fault ≡ Memory
+IsOfFile file_read fault = fault ≡ Read
+IsOfFile (file_refused why) fault = IsOfRead why fault
 
 -- the fault of a source that wasn't rewritten
 abbrev pub IsOfRewrite : RewriteFault → SourceFault → Type 0

@@ -1,5 +1,6 @@
 -- Which source modules are accepted, and why others are refused.
-use Rattle.std.specs.Prelude.{◌≡◌, ◌<◌, ◌≤◌, ℕ, List, [], ◌∷◌, ◌++◌, length, count_by, drop, slice_get, Option, Some, None, Bool, true, false}
+use Rattle.std.specs.Prelude.{◌≡◌, ◌<◌, ◌≤◌, ◌^◌, ℕ, List, All, [], ◌∷◌, ◌++◌, length, count_by, drop, slice_get, Option, Some, None, Bool, true, false}
+use Rattle.vault_port.specs.Files.{Files}
 use Rattle.wa_types.specs.declared.bounds.LimitKind.{LimitKind}
 use Rattle.wa_types.specs.declared.bounds.LimitKind.TheVariants.{Locals, Output}
 use Rattle.wa_types.specs.declared.syntax.Import.{Import}
@@ -19,6 +20,7 @@ use Rattle.wa_model.specs.Transcript as T
 use Rattle.wa_model.specs.Transcript.{Refusal}
 use Rattle.wasm_reader.specs.declared.read_fault.ReadFault.TheVariants.{Malformed, Float, Deep, Limit}
 use Rattle.wasm_reader.specs.Answers.{IsAccepted, IsRefused}
+use Rattle.module_files.specs.Held.{Holds}
 use Rattle.asyncify_runtime.specs.declared.reserving.ReservedAt.{ReservedAt}
 use Rattle.asyncify_runtime.specs.declared.reserving.ReservedAt.TheVariants.{Import as at_import, Export as at_export}
 use Rattle.asyncify_runtime.specs.Reserved.{reserved_at}
@@ -33,6 +35,13 @@ pub record IsFree (bytes : List ℕ) (m : Module) : Type 0 where
 pub record IsValidSource (bytes : List ℕ) (m : Module) : Type 0 where
   pub unreserved : IsFree bytes m
   pub valid : Valid m
+
+-- The file holds bytes that are a valid source.
+pub record HoldsValidSource (files : Option Files) (name : List ℕ) (m : Module) : Type 0 where
+  pub bytes : List ℕ
+  pub holds : Holds files name bytes
+  pub are_bytes : All (λ x. x < 2 ^ 8) bytes
+  pub source : IsValidSource bytes m
 
 -- the parameters and locals, as they are rewritten, of the functions that are told
 abbrev pub told_counts : Module → List Bool → List Func → List ℕ

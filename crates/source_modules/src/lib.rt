@@ -1,7 +1,7 @@
-//! A source module, from its bytes to those of the written one.
+//! A source module, from its file to the bytes of the written one.
 //!
-//! `rewrite` reads a module within the limits of a source, refuses it by the first cause there is (`specs/Sources.antt`), and
-//! writes it rewritten. `rewritten` does the same without writing it, for whoever runs it.
+//! `rewrite` reads the module in a file within the limits of a source, refuses it by the first cause there is (`specs/Sources.antt`),
+//! and writes it rewritten. `rewritten` does the same without writing it, for whoever runs it.
 #![tactic(auto)]
 
 mod refusals;

@@ -1,16 +1,20 @@
 //! A source, rewritten to be run, without being written.
 
-ghost use Rattle.std.specs.Prelude.{IfOk};
+ghost use Rattle.std.specs.Prelude.{◌≡◌, ◌⊎◌, ◌≤◌, ℕ, List, IfOk, IsErrOf};
 ghost use Rattle.std.specs.Result.{IfErr};
 ghost use Rattle.call_graph.specs.Settings.{settings_of};
+ghost use Rattle.vault_port.specs.Counts.{HasRisen};
+ghost use Rattle.vault_port.specs.Files.{IsMissing};
 ghost use Rattle.wa_types.specs.View.{module_of};
-ghost use Rattle.source_modules.specs.Refusals.{IsFaultOf, IsUnwritten};
+ghost use Rattle.module_files.specs.Held.{Holds};
+ghost use Rattle.source_modules.specs.Refusals.{IsToldFault, IsUnwritten};
 ghost use Rattle.source_modules.specs.Running.{RunsAs};
 
 use crate::source::{SourceFault, rewrite_fault, source};
 use call_graph::{Settings, listed_imports};
 use module_bytes::asyncify_module;
 use std::alloc::Global;
+use vault_port::Vault;
 use wasm_validate::Valid;
 
 /// A source as a host runs it: which of its function imports are listed, and the module, rewritten.
@@ -20,14 +24,29 @@ pub struct Runnable {
     pub module: Valid,
 }
 
-/// The module that these bytes spell, rewritten by these settings, where it is a source that can be rewritten. It isn't written, so
-/// its length has no limit.
-pub fn rewritten(alloc: Global, bytes: &[u8], settings: &Settings) -> Result<Runnable, SourceFault>
-    ensures done { IfOk result (λ r. RunsAs (settings_of settings.now) bytes.now r.listed.items (module_of r.«module»)) }
-    ensures refused { IfErr result (λ fault. IsFaultOf (settings_of settings.now) bytes.now fault) }
+/// The module that this file spells, rewritten by these settings, where it is a source that can be rewritten. It isn't written, so
+/// its length has no limit. No file changes.
+pub fn rewritten<V: Vault>(
+    alloc: Global,
+    vault: &mut V,
+    name: &str,
+    settings: &Settings,
+) -> Result<Runnable, SourceFault>
+    ensures done { IfOk result (λ r. (bytes : List ℕ) × Holds (V.files vault.old) name.now bytes
+        × RunsAs (settings_of settings.now) bytes r.listed.items (module_of r.«module»)) }
+    ensures refused { IfErr result (λ fault. IsToldFault (settings_of settings.now) (V.files vault.old) name.now fault) }
     ensures unwritten { IfErr result IsUnwritten }
+    ensures read { IsErrOf result SourceFault.Read
+        → HasRisen (V.fetch_faults vault.old) (V.fetch_faults vault.new)
+        ⊎ IsMissing (V.files vault.old) name.now }
+    ensures kept { V.files vault.new ≡ V.files vault.old }
+    ensures faults { V.fetch_faults vault.old ≤ V.fetch_faults vault.new }
+    ensures saves { V.save_faults vault.new ≡ V.save_faults vault.old }
 {
-    let valid = source(alloc, bytes, settings)?;
+    let valid = match source(alloc, vault, name) {
+        Ok(valid) => valid,
+        Err(fault) => return Err(fault),
+    };
     let listed = listed_imports(alloc, &valid, settings)?;
     match asyncify_module(alloc, &valid, settings) {
         Ok(rewritten) => Ok(Runnable {

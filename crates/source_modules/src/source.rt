@@ -1,24 +1,32 @@
-//! From the bytes of a module to those of the written one.
+//! From the file of a module to the bytes of the written one.
 
-ghost use Rattle.std.specs.Prelude.{◌≡◌, count_by, IfOk, Some};
+ghost use Rattle.std.specs.Prelude.{◌≡◌, ◌≢◌, ◌⊎◌, ◌≤◌, ℕ, List, count_by, Err, IfOk, IsErrOf, Some};
 ghost use Rattle.std.specs.Result.{IfErr};
 ghost use Rattle.call_graph.specs.Settings.{settings_of};
+ghost use Rattle.vault_port.specs.Counts.{HasRisen};
+ghost use Rattle.vault_port.specs.Files.{IsMissing};
+ghost use Rattle.wa_types.specs.ModuleBounds.{source_bounds};
+ghost use Rattle.wa_types.specs.Pausing.{Settings as Chosen};
+ghost use Rattle.wa_types.specs.Sizes.{SizeRule};
 ghost use Rattle.wa_types.specs.View.{module_of};
 ghost use Rattle.wasm_reader.specs.Answers.{IsAccepted};
 ghost use Rattle.asyncify_runtime.specs.Reserved.{reserved_at};
+ghost use Rattle.module_files.specs.Held.{Holds};
 ghost use Rattle.source_modules.specs.declared.source.SourceFault.TheVariants.{Memory};
-ghost use Rattle.source_modules.specs.Refusals.{IsFaultOf, IsOfEmit, IsOfRead, IsOfRewrite, IsUnreserved, IsUnwritten};
-ghost use Rattle.source_modules.specs.Sources.{IsRewritten, IsValidSource, reserved_name};
+ghost use Rattle.source_modules.specs.Refusals.{IsFaultOf, IsOfEmit, IsOfFile, IsOfRead, IsOfRewrite, IsToldFault, IsUnreserved, IsUnwritten};
+ghost use Rattle.source_modules.specs.Sources.{HoldsValidSource, IsRewritten, IsValidSource, reserved_name};
 
 use crate::refusals::Refusal;
 use asyncify_runtime::{ReservedAt, reserved};
 use bytes::BytesMut;
 use call_graph::Settings;
 use module_bytes::{EmitFault, RewriteFault, emit_module};
+use module_files::{ModuleFault, read_file};
 use std::alloc::{AllocError, Global};
 use thiserror::Error;
+use vault_port::Vault;
 use wa_types::{Bounds, Module, Name};
-use wasm_reader::{ReadFault, read};
+use wasm_reader::ReadFault;
 use wasm_validate::{Valid, ValidateFault, validate};
 
 /// Why no module was written.
@@ -26,6 +34,8 @@ use wasm_validate::{Valid, ValidateFault, validate};
 pub enum SourceFault {
     #[error("out of memory")]
     Memory,
+    #[error("the file could not be read")]
+    Read,
     #[error("the module is refused")]
     Refused(Refusal),
 }
@@ -49,12 +59,27 @@ pub struct Written {
     pub text: BytesMut,
 }
 
-/// The module that these bytes spell, rewritten by these settings, where it is an accepted source.
-pub fn rewrite(alloc: Global, bytes: &[u8], settings: &Settings) -> Result<Written, SourceFault>
-    ensures done { IfOk result (λ r. IsRewritten (settings_of settings.now) bytes.now r.functions r.instrumented r.text.items) }
-    ensures refused { IfErr result (λ fault. IsFaultOf (settings_of settings.now) bytes.now fault) }
+/// The module that this file spells, rewritten by these settings, where it is an accepted source. No file changes.
+pub fn rewrite<V: Vault>(
+    alloc: Global,
+    vault: &mut V,
+    name: &str,
+    settings: &Settings,
+) -> Result<Written, SourceFault>
+    ensures done { IfOk result (λ r. (bytes : List ℕ) × Holds (V.files vault.old) name.now bytes
+        × IsRewritten (settings_of settings.now) bytes r.functions r.instrumented r.text.items) }
+    ensures refused { IfErr result (λ fault. IsToldFault (settings_of settings.now) (V.files vault.old) name.now fault) }
+    ensures read { IsErrOf result SourceFault.Read
+        → HasRisen (V.fetch_faults vault.old) (V.fetch_faults vault.new)
+        ⊎ IsMissing (V.files vault.old) name.now }
+    ensures kept { V.files vault.new ≡ V.files vault.old }
+    ensures faults { V.fetch_faults vault.old ≤ V.fetch_faults vault.new }
+    ensures saves { V.save_faults vault.new ≡ V.save_faults vault.old }
 {
-    let valid = source(alloc, bytes, settings)?;
+    let valid = match source(alloc, vault, name) {
+        Ok(valid) => valid,
+        Err(fault) => return Err(fault),
+    };
     let functions = valid.module().funcs.len();
     let emitted = match emit_module(alloc, valid, settings) {
         Ok(emitted) => emitted,
@@ -68,20 +93,36 @@ pub fn rewrite(alloc: Global, bytes: &[u8], settings: &Settings) -> Result<Writt
     })
 }
 
-/// The module that these bytes spell, where it is a valid source.
-pub(crate) fn source(
+/// The module that this file spells, where it is a valid source. No file changes.
+pub(crate) fn source<V: Vault>(
     alloc: Global,
-    bytes: &[u8],
-    _settings: &Settings,
+    vault: &mut V,
+    name: &str,
 ) -> Result<Valid, SourceFault>
-    ensures source { IfOk result (λ r. IsValidSource bytes.now (module_of r)) }
+    ensures source { IfOk result (λ r. HoldsValidSource (V.files vault.old) name.now (module_of r)) }
     ensures unwritten { IfErr result IsUnwritten }
-    ensures refused { IfErr result (λ fault. IsFaultOf (settings_of _settings.now) bytes.now fault) }
+    ensures refused { IfErr result (λ fault. (s : Chosen) → IsToldFault s (V.files vault.old) name.now fault) }
+    ensures read { IsErrOf result SourceFault.Read
+        → HasRisen (V.fetch_faults vault.old) (V.fetch_faults vault.new)
+        ⊎ IsMissing (V.files vault.old) name.now }
+    ensures kept { V.files vault.new ≡ V.files vault.old }
+    ensures faults { V.fetch_faults vault.old ≤ V.fetch_faults vault.new }
+    ensures saves { V.save_faults vault.new ≡ V.save_faults vault.old }
 {
-    let module = match read(alloc, bytes, &Bounds::source()) {
-        Ok(module) => module,
-        Err(fault) => return Err(read_fault(fault)),
-    };
+    match read_file(alloc, vault, name, Bounds::source()) {
+        Ok(module) => valid_source(alloc, module),
+        Err(fault) => Err(file_fault(fault)),
+    }
+}
+
+// A module that was read, where it is a valid source.
+fn valid_source(alloc: Global, module: Module) -> Result<Valid, SourceFault>
+    requires { SizeRule (module_of «module») }
+    ensures source { (bytes : List ℕ) → IsAccepted source_bounds bytes (module_of «module») → IfOk result (λ r. IsValidSource bytes (module_of r)) }
+    ensures unwritten { IfErr result IsUnwritten }
+    ensures refused { (bytes : List ℕ) → IsAccepted source_bounds bytes (module_of «module») → IfErr result (λ fault. (s : Chosen) → IsFaultOf s bytes fault) }
+    ensures no_read { result ≢ Err SourceFault.Read }
+{
     if let Some(at) = reserved(&module) {
         let name = name_at(alloc, &module, at)?;
         return Err(SourceFault::Refused(Refusal::Reserved { name }));
@@ -127,6 +168,18 @@ fn told_count(told: &[bool]) -> usize
     ensures { result ≡ count_by (λ b. b) told.now }
 {
     told.iter().filter(|told| **told).count()
+}
+
+// Why a file gave no source.
+fn file_fault(fault: ModuleFault) -> SourceFault
+    ensures fault { IsOfFile fault result }
+    ensures unwritten { IsUnwritten result }
+{
+    match fault {
+        ModuleFault::Memory => SourceFault::Memory,
+        ModuleFault::Read => SourceFault::Read,
+        ModuleFault::Refused(fault) => read_fault(fault),
+    }
 }
 
 // Why a source that isn't read is refused.

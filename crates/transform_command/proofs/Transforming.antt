@@ -8,12 +8,13 @@ use Rattle.wa_types.specs.Syntax.{Module}
 use Rattle.wa_types.specs.Encoding.{Enc}
 use Rattle.wa_types.specs.Pausing.{Settings}
 use Rattle.source_modules.specs.Sources.{IsSource, Cause, IsRefusedFor, IsRewritten}
-use Rattle.source_modules.proofs.Fronts.{cause_whole, source_whole}
+use Rattle.source_modules.proofs.Held.{own_bytes}
 use Rattle.transform_command.specs.Transforms.{HoldsSource, IsTransformed, IsCutShort, IsCount}
 
--- the front that was read is of the file
-source_of : (s : Settings) (bytes whole : List ℕ) (m : Module) (which : List Bool) (p : Module) → bytes ≡ take 8388609 whole → IsSource s bytes m which p → IsSource s whole m which p
-source_of s bytes whole m which p e h = source_whole s whole m which p (subst (λ z. IsSource s z m which p) e h)
+-- what was read is of the file
+source_of : (s : Settings) (input bytes : List ℕ) (a : Files) (m : Module) (which : List Bool) (p : Module) → a input ≡ Some bytes → IsSource s bytes m which p
+    → IsSource s (bytes_of a input) m which p
+source_of s input bytes a m which p e h = subst (λ z. IsSource s z m which p) (own_bytes a input bytes e) h
 
 -- what one change of the files means of another, where they are told
 pub becomes_by : (P Q : Files → Files → Type 0) (old new : Option Files) → ((a b : Files) → old ≡ Some a → P a b → Q a b) → Becomes old new P → Becomes old new Q
@@ -25,7 +26,7 @@ becomes_by P Q (Some a) None f h = h
 told : (P : Files → Type 0) (old : Option Files) (a : Files) → old ≡ Some a → WhereTold old P → P a
 told P old a e h = subst (λ (o : Option Files). WhereTold o P) e h
 
-transformed_at : (s : Settings) (input output bytes text : List ℕ) (functions instrumented : ℕ) (a b : Files) → bytes ≡ take 8388609 (bytes_of a input)
+transformed_at : (s : Settings) (input output bytes text : List ℕ) (functions instrumented : ℕ) (a b : Files) → a input ≡ Some bytes
     → IsRewritten s bytes functions instrumented text → ChangesOnly output text a b → IsTransformed s input output a b
 transformed_at s input output bytes text functions instrumented a b e w c =
     let m : Module = w.0 in
@@ -34,7 +35,7 @@ transformed_at s input output bytes text functions instrumented a b e w c =
       «module» = m;
       which = which;
       emitted = w.2;
-      source = source_of s bytes (bytes_of a input) m which w.2 e w.3;
+      source = source_of s input bytes a m which w.2 e w.3;
       written = subst (λ (bs : List ℕ). ChangesOnly output bs a b) w.6 c;
       prepared = w.7;
       rewritten = w.8;
@@ -42,18 +43,18 @@ transformed_at s input output bytes text functions instrumented a b e w c =
 
 -- after the save
 pub transformed : (s : Settings) (input output bytes text : List ℕ) (functions instrumented : ℕ) (old mid new : Option Files) → mid ≡ old
-    → WhereTold old (λ all. bytes ≡ take 8388609 (bytes_of all input)) → IsRewritten s bytes functions instrumented text
+    → WhereTold old (λ all. all input ≡ Some bytes) → IsRewritten s bytes functions instrumented text
     → Becomes mid new (ChangesOnly output text) → Becomes old new (IsTransformed s input output)
 transformed s input output bytes text functions instrumented old mid new same read w saved =
     becomes_by (ChangesOnly output text) (IsTransformed s input output) old new
-    (λ a b e c. transformed_at s input output bytes text functions instrumented a b (told (λ all. bytes ≡ take 8388609 (bytes_of all input)) old a e read) w c)
+    (λ a b e c. transformed_at s input output bytes text functions instrumented a b (told (λ all. all input ≡ Some bytes) old a e read) w c)
     (subst (λ (o : Option Files). Becomes o new (ChangesOnly output text)) same saved)
 
-left_at : (s : Settings) (input output bytes text : List ℕ) (functions instrumented : ℕ) (a b : Files) → bytes ≡ take 8388609 (bytes_of a input)
+left_at : (s : Settings) (input output bytes text : List ℕ) (functions instrumented : ℕ) (a b : Files) → a input ≡ Some bytes
     → IsRewritten s bytes functions instrumented text → HoldsFrontAtMost output text a b → IsCutShort s input output a b
 left_at s input output bytes text functions instrumented a b e w h = record {
   left = elim h.changed [
-    | inl front ↦ inr (w.0, w.1, w.2, source_of s bytes (bytes_of a input) w.0 w.1 w.2 e w.3, front.0, subst (λ (bs : List ℕ). b output ≡ Some (take front.0 bs)) w.6 front.1)
+    | inl front ↦ inr (w.0, w.1, w.2, source_of s input bytes a w.0 w.1 w.2 e w.3, front.0, subst (λ (bs : List ℕ). b output ≡ Some (take front.0 bs)) w.6 front.1)
     | inr same ↦ inl same
   ];
   others = h.others;
@@ -61,11 +62,11 @@ left_at s input output bytes text functions instrumented a b e w h = record {
 
 -- after a save that failed
 pub cut_short : (s : Settings) (input output bytes text : List ℕ) (functions instrumented : ℕ) (old mid new : Option Files) → mid ≡ old
-    → WhereTold old (λ all. bytes ≡ take 8388609 (bytes_of all input)) → IsRewritten s bytes functions instrumented text
+    → WhereTold old (λ all. all input ≡ Some bytes) → IsRewritten s bytes functions instrumented text
     → Becomes mid new (HoldsFrontAtMost output text) → Becomes old new (IsCutShort s input output)
 cut_short s input output bytes text functions instrumented old mid new same read w saved =
     becomes_by (HoldsFrontAtMost output text) (IsCutShort s input output) old new
-    (λ a b e c. left_at s input output bytes text functions instrumented a b (told (λ all. bytes ≡ take 8388609 (bytes_of all input)) old a e read) w c)
+    (λ a b e c. left_at s input output bytes text functions instrumented a b (told (λ all. all input ≡ Some bytes) old a e read) w c)
     (subst (λ (o : Option Files). Becomes o new (HoldsFrontAtMost output text)) same saved)
 
 -- of files that did not change
@@ -75,10 +76,10 @@ uncut s input output (Some a) new e = subst (λ (o : Option Files). Becomes (Som
 
 -- what is counted
 pub counted : (s : Settings) (input bytes text : List ℕ) (functions instrumented len : ℕ) (old : Option Files) → len ≡ length text
-    → WhereTold old (λ all. bytes ≡ take 8388609 (bytes_of all input)) → IsRewritten s bytes functions instrumented text
+    → WhereTold old (λ all. all input ≡ Some bytes) → IsRewritten s bytes functions instrumented text
     → WhereTold old (λ all. IsCount s (bytes_of all input) functions instrumented len)
 counted s input bytes text functions instrumented len None l read w = tt
-counted s input bytes text functions instrumented len (Some a) l read w = (w.0, w.1, w.2, source_of s bytes (bytes_of a input) w.0 w.1 w.2 read w.3, w.4, w.5, l ∙ ap length w.6)
+counted s input bytes text functions instrumented len (Some a) l read w = (w.0, w.1, w.2, source_of s input bytes a w.0 w.1 w.2 read w.3, w.4, w.5, l ∙ ap length w.6)
 
 -- and how many bytes were saved
 pub saved_bytes : (output text : List ℕ) (len : ℕ) (old new : Option Files) → len ≡ length text → Becomes old new (ChangesOnly output text)
@@ -88,20 +89,20 @@ saved_bytes output text len (Some a) (Some b) l saved = l ∙ sym (ap (λ (o : O
 saved_bytes output text len None (Some b) l saved = absurd saved
 saved_bytes output text len (Some a) None l saved = tt
 
--- what the front is refused for, the file is
+-- what the bytes are refused for, the file is
 pub refused_for : (s : Settings) (input bytes : List ℕ) (old : Option Files) (cause : Cause)
-    → WhereTold old (λ all. bytes ≡ take 8388609 (bytes_of all input)) → IsRefusedFor s bytes cause
+    → WhereTold old (λ all. all input ≡ Some bytes) → IsRefusedFor s bytes cause
     → WhereTold old (λ all. IsRefusedFor s (bytes_of all input) cause)
 refused_for s input bytes None cause read h = tt
-refused_for s input bytes (Some a) cause read h = cause_whole s (bytes_of a input) cause (subst (λ bs. IsRefusedFor s bs cause) read h)
+refused_for s input bytes (Some a) cause read h = subst (λ bs. IsRefusedFor s bs cause) (own_bytes a input bytes read) h
 
 -- an accepted source is in the file
 pub held : (s : Settings) (input bytes text : List ℕ) (functions instrumented : ℕ) (old : Option Files)
-    → WhereTold old (λ all. bytes ≡ take 8388609 (bytes_of all input)) → IsRewritten s bytes functions instrumented text
+    → WhereTold old (λ all. all input ≡ Some bytes) → IsRewritten s bytes functions instrumented text
     → WhereTold old (λ all. HoldsSource s (bytes_of all input))
 unfolding HoldsSource
 held s input bytes text functions instrumented None read w = tt
-held s input bytes text functions instrumented (Some a) read w = (w.0, w.1, w.2, source_of s bytes (bytes_of a input) w.0 w.1 w.2 read w.3)
+held s input bytes text functions instrumented (Some a) read w = (w.0, w.1, w.2, source_of s input bytes a w.0 w.1 w.2 read w.3)
 
 cut_of_transformed : (s : Settings) (input output : List ℕ) (a b : Files) → IsTransformed s input output a b → IsCutShort s input output a b
 cut_of_transformed s input output a b t =

@@ -13,7 +13,7 @@ use call_graph::Settings;
 use source_modules::{Refusal, SourceFault, rewrite};
 use std::alloc::Global;
 use thiserror::Error;
-use vault_port::{FetchFault, SaveFault, Vault, fetch_whole, save_whole};
+use vault_port::{SaveFault, Vault, save_whole};
 
 /// Why a module was not rewritten into a file.
 #[derive(Debug, Drop, Error)]
@@ -35,9 +35,6 @@ pub struct Done {
     pub instrumented: usize,
     pub bytes: usize,
 }
-
-/// A source file is read until one byte past its limit.
-const FETCH_LIMIT: u64 = 8_388_609;
 
 /// Reads the module in `input`, and writes it, rewritten by these settings, into `output`. After `Read` and `Refused`
 /// no file is changed; after `Memory` and `Write` the output may hold a first part of what it would hold.
@@ -72,14 +69,10 @@ pub fn transform<V: Vault>(
     ensures fetch_faults { V.fetch_faults vault.old ≤ V.fetch_faults vault.new }
     ensures save_faults { V.save_faults vault.old ≤ V.save_faults vault.new }
 {
-    let bytes = match fetch_whole(alloc, vault, input, FETCH_LIMIT) {
-        Ok(bytes) => bytes,
-        Err(FetchFault::Read) => return Err(TransformFault::Read),
-        Err(FetchFault::Memory) => return Err(TransformFault::Memory),
-    };
-    let written = match rewrite(alloc, &bytes, settings) {
+    let written = match rewrite(alloc, vault, input, settings) {
         Ok(written) => written,
         Err(SourceFault::Refused(refusal)) => return Err(TransformFault::Refused(refusal)),
+        Err(SourceFault::Read) => return Err(TransformFault::Read),
         Err(SourceFault::Memory) => return Err(TransformFault::Memory),
     };
     match save_whole(vault, output, &written.text) {

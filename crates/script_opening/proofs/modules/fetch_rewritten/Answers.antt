@@ -1,22 +1,16 @@
--- The front that was read is that of the file.
-use Rattle.std.proofs.Common.{List, subst, ℕ}
-use Rattle.std.proofs.lemmas.Result.{IfOk-weaker}
-use Rattle.host_files.proofs.Fronts.{if_err_weaker}
+-- What runs is the original in the file, rewritten.
+use Rattle.std.proofs.Common.{refl}
+use Rattle.call_graph.specs.Settings.{settings_of}
 use Rattle.script_reader.specs.Views.{program_of}
-use Rattle.script_opening.specs.Views.{IsBadOriginalFor, Rewritten}
-use Rattle.script_opening.proofs.Originals.{bad_rewritten, loads_rewritten}
+use Rattle.script_opening.proofs.Originals.{bad_rewritten, loads_rewritten, read_of_source}
 use Rattle.script_opening.proofs.modules.fetch_rewritten.Goals as goal
 
-pub returns-clause-loaded : goal.returns-clause-loaded
-returns-clause-loaded g c =
-    IfOk-weaker c.rewritten_module.result _ _
-    (λ l h. loads_rewritten (program_of c.args.text.now) (g.V.Vault.files c.args.vault.now) c.in-Ok.bytes.items l (rw c.as_str.ensures at c.in-Ok.ensures.whole)
-    (rw c.as_str.ensures at c.in-Ok.ensures.there)
-    (subst (λ (b : List ℕ). Rewritten (program_of c.args.text.now) b l) c.deref.ensures.value h)) c.rewritten_module.ensures.loaded
+pub returns-in-Ok-rewritten-clause-loaded : goal.returns-in-Ok-rewritten-clause-loaded
+returns-in-Ok-rewritten-clause-loaded g c =
+    let w = rw c.as_str.ensures at c.in-Ok-rewritten.ensures.done in
+    loads_rewritten (program_of c.args.text.now) (settings_of c.in-Ok.settings) (g.V.Vault.files c.args.vault.now) c.in-Ok.ensures.settings w.0 _ _ refl w.1 w.2
 
 pub returns-clause-refused : goal.returns-clause-refused
 returns-clause-refused g c =
-    if_err_weaker c.rewritten_module.result _ _
-    (λ fault h. bad_rewritten (program_of c.args.text.now) (g.V.Vault.files c.args.vault.now) c.in-Ok.bytes.items fault (rw c.as_str.ensures at c.in-Ok.ensures.whole)
-    (rw c.as_str.ensures at c.in-Ok.ensures.there)
-    (subst (λ (b : List ℕ). IsBadOriginalFor (program_of c.args.text.now) b fault) c.deref.ensures.value h)) c.rewritten_module.ensures.refused
+    bad_rewritten (program_of c.args.text.now) (settings_of c.in-Ok.settings) (g.V.Vault.files c.args.vault.now) c.in-Ok.ensures.settings c.in-Err.fault c.source_fault.result
+    (rw c.as_str.ensures at c.in-Err.ensures.refused) c.in-Err.ensures.unwritten c.source_fault.ensures

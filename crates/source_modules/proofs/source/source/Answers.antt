@@ -1,17 +1,26 @@
--- What was read, free of reserved names and valid is a source; what isn't read is refused for its cause.
-use Rattle.std.proofs.Common.{◌∙◌, sym, subst}
+-- A module that was read is that of the file, and so is what it is refused for.
+use Rattle.std.proofs.Common.{subst}
+use Rattle.std.proofs.lemmas.Result.{IfErr-weaker, IfOk-weaker}
 use Rattle.wa_types.specs.View.{module_of}
-use Rattle.wasm_reader.specs.Answers.{IsAccepted, IsRefused}
-use Rattle.call_graph.specs.Settings.{settings_of}
-use Rattle.source_modules.proofs.Accepted.{made_source, read_refused}
+use Rattle.wasm_reader.specs.Answers.{IsAccepted}
+use Rattle.module_files.specs.Held.{IsToldFault}
+use Rattle.source_modules.proofs.Files.{told_fault, told_unread}
 use Rattle.source_modules.proofs.source.source.Goals as goal
 
-pub returns-in-Err-clause-refused : goal.returns-in-Err-clause-refused
-returns-in-Err-clause-refused c =
-    read_refused (settings_of c.args._settings.now) c.args.bytes.now c.in-Err.fault c.read_fault.result
-    (subst (λ b. IsRefused b c.args.bytes.now c.in-Err.fault) c.source.ensures c.in-Err.ensures.refused) c.read_fault.ensures.fault
+pub returns-in-Ok-clause-source : goal.returns-in-Ok-clause-source
+returns-in-Ok-clause-source g c =
+    let h = c.in-Ok.ensures.ok in
+    let read = subst (λ b. IsAccepted b h.bytes (module_of c.in-Ok.«module»)) c.source.ensures h.accepted in
+    IfOk-weaker c.valid_source.result _ _ (λ valid is. record { bytes = h.bytes; holds = h.holds; are_bytes = h.are_bytes; source = is }) (c.valid_source.ensures.source h.bytes read)
 
-pub returns-in-Ok-validate-clause-source : goal.returns-in-Ok-validate-clause-source
-returns-in-Ok-validate-clause-source c =
-    made_source c.args.bytes.now c.in-Ok.module c.in-Ok-validate.valid c.in-Ok-validate.ensures.0
-    (subst (λ b. IsAccepted b c.args.bytes.now (module_of c.in-Ok.module)) c.source.ensures c.in-Ok.ensures.ok) (sym c.reserved.ensures ∙ c.in_default.is) c.in-Ok-validate.ensures.1
+pub returns-in-Ok-clause-refused : goal.returns-in-Ok-clause-refused
+returns-in-Ok-clause-refused g c =
+    let h = c.in-Ok.ensures.ok in
+    let read = subst (λ b. IsAccepted b h.bytes (module_of c.in-Ok.«module»)) c.source.ensures h.accepted in
+    IfErr-weaker c.valid_source.result _ _ (λ fault why s. told_fault s (g.V.Vault.files c.args.vault.now) c.args.name.now h.bytes fault h.holds (why s))
+    (c.valid_source.ensures.refused h.bytes read)
+
+pub returns-in-Err-clause-refused : goal.returns-in-Err-clause-refused
+returns-in-Err-clause-refused g c = λ s.
+    told_unread s (g.V.Vault.files c.args.vault.now) c.args.name.now c.in-Err.fault c.file_fault.result
+    (subst (λ b. IsToldFault b (g.V.Vault.files c.args.vault.now) c.args.name.now c.in-Err.fault) c.source.ensures c.in-Err.ensures.refused) c.file_fault.ensures.fault
