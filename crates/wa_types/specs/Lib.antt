@@ -21,6 +21,7 @@ pub mod Pausing
 pub mod Points
 pub mod Pruned
 pub mod Reading
+pub mod Rules
 pub mod Runtime
 pub mod Sizes
 pub mod Spells

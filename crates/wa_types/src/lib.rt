@@ -17,6 +17,7 @@ mod instrs;
 mod leb;
 mod names;
 mod operators;
+mod rules;
 mod syntax;
 mod typing_laws;
 mod values;
@@ -32,6 +33,7 @@ pub use leb::{
 };
 pub use names::Name;
 pub use operators::NumOp;
+pub use rules::Rule;
 pub use syntax::{
     Custom, Elem, Export, Func, FuncType, GlobalDef, Import, ImportKind, Limits, Module, Run,
     Segment, Space,
