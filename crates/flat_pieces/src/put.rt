@@ -5,14 +5,13 @@ ghost use Rattle.wa_types.specs.declared.values.Value.TheVariants as V;
 ghost use Rattle.wa_types.specs.Syntax.{const, num, global_get, basic, local_get, local_set, br_if, done, plain, branch};
 ghost use Rattle.wa_types.specs.View.{code, in_front};
 ghost use Rattle.wa_model.specs.Flat.{followed_by, got, all_got, set_to, slots_got};
-ghost use Rattle.wasm_tree.specs.Kinds.{is_leaf};
+ghost use Rattle.wa_types.specs.Kinds.{is_leaf};
 ghost use Rattle.guard_form.specs.Guarded.{index_noted};
 ghost use Rattle.flat_pieces.specs.Putting.{Puts};
 
 use std::alloc::{AllocError, Global};
 use wa_model::Operand;
-use wa_types::{Instr, NumOp, ValType, Value};
-use wasm_tree::copy_leaf;
+use wa_types::{Instr, NumOp, ValType, Value, copy_leaf};
 
 /// Puts what gets an operand.
 pub fn put_operand(out: &mut Vec<Instr>, operand: Operand) -> Result<(), AllocError>

@@ -2,6 +2,7 @@ pub mod AccessLemmas
 pub mod Copying
 pub mod Cuts
 pub mod FaultLemmas
+pub mod LeafLemmas
 pub mod LebAnswers
 pub mod LebLemmas
 pub mod LiveLemmas

@@ -24,7 +24,7 @@ mod values;
 mod weights;
 
 pub use bounds::{Bounds, LimitKind};
-pub use copy::copy_module;
+pub use copy::{copy_around, copy_body, copy_func, copy_leaf, copy_module};
 pub use frame_laws::{live_is_path, one_each_call, slots_are_pairs};
 pub use instrs::Instr;
 pub use leb::{

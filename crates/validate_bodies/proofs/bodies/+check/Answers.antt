@@ -6,7 +6,7 @@ use Rattle.wa_types.specs.View.{code}
 use Rattle.wa_types.specs.FirstFault.{size, mid}
 use Rattle.wa_types.specs.Typing.{listed}
 use Rattle.validate_bodies.specs.Running.{fine, fault}
-use Rattle.validate_table.proofs.PruneLemmas.{leaf_other}
+use Rattle.wa_types.proofs.LeafLemmas.{leaf_other}
 use Rattle.validate_bodies.proofs.Lists.{known_none}
 use Rattle.validate_bodies.proofs.Trees.{judged_err, judged_same, passed_by, passed_then, pushed_on, same_checks, moved_checks, labels_are, body_on, body_end, popped_none, popped_some}
 use Rattle.validate_bodies.proofs.Trees.{block_arm, loop_arm, if_arm, if_fault, plain_size, plain_is, go_on, stop_at, none_is, instrs, bodies}
