@@ -7,13 +7,13 @@ use Rattle.wa_types.specs.declared.values.ValType.{ValType}
 use Rattle.wa_types.specs.declared.values.ValType.TheVariants.{I32, I64}
 use Rattle.wa_types.specs.declared.values.Value.TheVariants.{I32 as value_32, I64 as value_64}
 use Rattle.wa_types.specs.Leb.{spelled, shortest, shortest_signed}
-use Rattle.wa_types.specs.Encoding.{vector, type_byte, block_type_byte, basic_bytes, plain_bytes, shape_byte, else_bytes, code_bytes, expression_bytes}
-use Rattle.wa_types.specs.Opcodes.{an_access, follows, shape, within, is_nest, is_load_op, is_store_op}
+use Rattle.wa_types.specs.Encoding.{vector, type_byte, block_type_byte, plain_bytes, shape_byte, else_bytes, code_bytes, expression_bytes}
+use Rattle.wa_types.specs.Opcodes.{an_access, follows, shape, within, is_nest, is_load_op, is_store_op, plain_opcode, plain_operands}
 use Rattle.wa_types.specs.Binary.{Placed, RawCode, ended, otherwise, instr, nested, branched}
 use Rattle.wa_types.specs.Spells.{Number, Items, Vector, ValueType, BlockType, OperandsOf, CodeOf}
 use Rattle.wa_types.specs.Syntax.{Basic, nop, drop, select, const, num, global_get, global_set, load, store, memory_size, memory_grow, Plain, basic, local_get, local_set, local_tee, br}
 use Rattle.wa_types.specs.Syntax.{br_if, br_table, return, unreachable, call, call_indirect, Shape, a_block, a_loop, Code, done, plain, nest, branch}
-use Rattle.wa_types.specs.Reading.{plain_opcode, plain_operands, HasKind, IsCode, Each}
+use Rattle.wa_types.specs.Reading.{HasKind, IsCode, Each}
 use Rattle.wa_types.specs.Sizes.{PlainFits, CodeFits}
 use Rattle.file_laws.proofs.NumOpcodes.{num_follows}
 use Rattle.file_laws.proofs.NumberWriting.{shortest_spells, shortest_signed_spells}
@@ -144,7 +144,7 @@ store_range op h = elim (either_range 0x36 0x37 0x3A 0x3E op h) [ inl r ↦ (r.0
 by_index : (x at : ℕ) → x < 2 ^ 32 → Number x at (shortest x)
 by_index x at h = shortest_spells x h
 
-write_basic : (b : Basic) → PlainFits (basic b) → (at : ℕ) → PlainWritten (basic b) at (basic_bytes b)
+write_basic : (b : Basic) → PlainFits (basic b) → (at : ℕ) → PlainWritten (basic b) at (plain_bytes (basic b))
 unfolding follows
 write_basic nop h at = record { back = []; whole = refl; spelled = refl; follows = refl; kind = tt }
 write_basic drop h at = record { back = []; whole = refl; spelled = refl; follows = refl; kind = tt }

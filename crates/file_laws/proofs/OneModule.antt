@@ -10,7 +10,8 @@ use Rattle.wa_types.specs.Encoding.{type_byte, block_type_byte, shape_byte}
 use Rattle.wa_types.specs.Syntax.{Plain, Shape, a_block, a_loop, Code, done, plain, nest, branch, FuncType, Func, GlobalDef, Elem, Segment, Module}
 use Rattle.wa_types.specs.Binary.{Placed, Operands, RawCode, ended, otherwise, instr, nested, branched, RawType, RawKind, raw_func, raw_table, raw_memory, raw_global, RawImport, RawGlobal}
 use Rattle.wa_types.specs.Binary.{RawElem, RawRun, RawBody, RawSegment, Section}
-use Rattle.wa_types.specs.Reading.{plain_opcode, plain_operands, IsPlain, IsCode, Each, IsValueType, IsFuncType, IsKind, IsImport, IsGlobal, IsElem, IsRun, IsBody, IsSegment, IsModule, SpellsModule}
+use Rattle.wa_types.specs.Reading.{IsPlain, IsCode, Each, IsValueType, IsFuncType, IsKind, IsImport, IsGlobal, IsElem, IsRun, IsBody, IsSegment, IsModule, SpellsModule}
+use Rattle.wa_types.specs.Opcodes.{plain_opcode, plain_operands}
 use Rattle.file_laws.proofs.PlainOf.{plain_of, plain_again}
 use Rattle.file_laws.proofs.UniqueCode.{one_file}
 

@@ -8,11 +8,11 @@ use Rattle.wa_types.specs.declared.operators.NumOp.TheVariants.{I32RemU, I32And,
 use Rattle.wa_types.specs.declared.operators.NumOp.TheVariants.{I64DivS, I64DivU, I64RemS, I64RemU, I64And, I64Or, I64Xor, I64Shl, I64ShrS, I64ShrU, I64Rotl, I64Rotr, I32WrapI64}
 use Rattle.wa_types.specs.declared.operators.NumOp.TheVariants.{I64ExtendI32S, I64ExtendI32U}
 use Rattle.wa_types.specs.Operators.{opcode_of}
-use Rattle.wa_types.specs.Opcodes.{is_load_op}
+use Rattle.wa_types.specs.Opcodes.{is_load_op, plain_opcode, plain_operands}
 use Rattle.wa_types.specs.Binary.{Operands, nothing, zero_byte, index, index_and_zero, access, labels, constant, float}
 use Rattle.wa_types.specs.Syntax.{nop, drop, select, const, num, global_get, global_set, load, store, memory_size, memory_grow, Plain, basic, local_get, local_set, local_tee, br, br_if}
 use Rattle.wa_types.specs.Syntax.{br_table, return, unreachable, call, call_indirect}
-use Rattle.wa_types.specs.Reading.{plain_opcode, plain_operands, HasKind}
+use Rattle.wa_types.specs.Reading.{HasKind}
 use Rattle.file_laws.proofs.CodeWriting.{within_above, store_range}
 
 -- the operator of an opcode

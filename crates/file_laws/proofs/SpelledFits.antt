@@ -20,7 +20,8 @@ use Rattle.wa_types.specs.Binary.{Placed, Operands, RawCode, ended, otherwise, i
 use Rattle.wa_types.specs.Binary.{RawRun, RawBody, RawSegment, Section, custom, types, imports, functions, tables, memories, globals, exports, start, elements, bodies, segments, section_id}
 use Rattle.wa_types.specs.Spells.{◌▸◌, Exactly, Number, Items, Vector, Sized, Text, Maximum, LimitsOf, TableType, OperandsOf, CodeOf, ImportKindOf, ImportOf, GlobalOf, ExportOf, ElementOf}
 use Rattle.wa_types.specs.Spells.{RunOf, BodyOf, SegmentOf, SectionOf, sorts_in, bodies_in}
-use Rattle.wa_types.specs.Reading.{plain_operands, HasKind, IsPlain, IsCode, Each, IsKind, IsImport, IsGlobal, IsElem, IsRun, IsBody, IsSegment, imports_in, tables_in, memories_in}
+use Rattle.wa_types.specs.Reading.{HasKind, IsPlain, IsCode, Each, IsKind, IsImport, IsGlobal, IsElem, IsRun, IsBody, IsSegment, imports_in, tables_in, memories_in}
+use Rattle.wa_types.specs.Opcodes.{plain_operands}
 use Rattle.wa_types.specs.Reading.{globals_in, exports_in, starts_in, elements_in, segments_in, customs_of, SpellsModule}
 use Rattle.wa_types.specs.Sizes.{PlainFits, CodeFits, MaxFits, LimitsFit, KindFits, ImportFits, FuncFits, ExportFits, ElemFits, SegmentFits, CustomFits, StartFits, WellFormed}
 

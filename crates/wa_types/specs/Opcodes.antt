@@ -1,7 +1,69 @@
--- The opcodes of the binary format, by what follows them, and which of them are floats (standard, sections 5.3
--- and 5.4).
+-- The opcodes of the binary format: of each instruction with what follows it, what follows each of them, and which are floats
+-- (standard, sections 5.3 and 5.4).
 use Rattle.std.specs.Prelude.{ℕ, length, Option, Some, None, Bool, nat_le, ◌==◌, ◌&&◌, ◌||◌, if◌then◌else◌}
+use Rattle.wa_types.specs.declared.values.Value.TheVariants.{I32 as value_32, I64 as value_64}
+use Rattle.wa_types.specs.Operators.{opcode_of}
+use Rattle.wa_types.specs.Syntax.{Basic, nop, drop, select, const, num, global_get, global_set, load, store, memory_size, memory_grow, Plain, basic, local_get, local_set, local_tee, br}
+use Rattle.wa_types.specs.Syntax.{br_if, br_table, return, unreachable, call, call_indirect}
 use Rattle.wa_types.specs.Binary.{Operands, nothing, zero_byte, index, index_and_zero, access, labels, constant, float}
+
+-- the opcode of an instruction that touches only its own operands and the store (5.4)
+abbrev pub basic_opcode : Basic → ℕ
+basic_opcode nop = 0x01
+basic_opcode drop = 0x1A
+basic_opcode select = 0x1B
+basic_opcode (const (value_32 n)) = 0x41
+basic_opcode (const (value_64 n)) = 0x42
+basic_opcode (num op) = opcode_of op
+basic_opcode (global_get x) = 0x23
+basic_opcode (global_set x) = 0x24
+basic_opcode (load op align offset) = op
+basic_opcode (store op align offset) = op
+basic_opcode memory_size = 0x3F
+basic_opcode memory_grow = 0x40
+
+-- the opcode of an instruction that holds no other (5.4)
+abbrev pub plain_opcode : Plain → ℕ
+plain_opcode (basic b) = basic_opcode b
+plain_opcode (local_get x) = 0x20
+plain_opcode (local_set x) = 0x21
+plain_opcode (local_tee x) = 0x22
+plain_opcode (br l) = 0x0C
+plain_opcode (br_if l) = 0x0D
+plain_opcode (br_table ls l) = 0x0E
+plain_opcode return = 0x0F
+plain_opcode unreachable = 0x00
+plain_opcode (call x) = 0x10
+plain_opcode (call_indirect x) = 0x11
+
+-- what follows the opcode of an instruction that touches only its own operands and the store (5.4)
+abbrev pub basic_operands : Basic → Operands
+basic_operands nop = nothing
+basic_operands drop = nothing
+basic_operands select = nothing
+basic_operands (const (value_32 n)) = constant 32 n
+basic_operands (const (value_64 n)) = constant 64 n
+basic_operands (num op) = nothing
+basic_operands (global_get x) = index x
+basic_operands (global_set x) = index x
+basic_operands (load op align offset) = access align offset
+basic_operands (store op align offset) = access align offset
+basic_operands memory_size = zero_byte
+basic_operands memory_grow = zero_byte
+
+-- what follows the opcode of an instruction that holds no other (5.4)
+abbrev pub plain_operands : Plain → Operands
+plain_operands (basic b) = basic_operands b
+plain_operands (local_get x) = index x
+plain_operands (local_set x) = index x
+plain_operands (local_tee x) = index x
+plain_operands (br l) = index l
+plain_operands (br_if l) = index l
+plain_operands (br_table ls l) = labels ls l
+plain_operands return = nothing
+plain_operands unreachable = nothing
+plain_operands (call x) = index x
+plain_operands (call_indirect x) = index_and_zero x
 
 -- What follows an opcode (5.4): nothing, a zero byte, an index, an index and a zero byte, an alignment exponent and an
 -- offset, labels and a last one, a signed number of so many bits, or the bytes of a float.

@@ -5,10 +5,10 @@ use Rattle.std.specs.declared.alloc.Global.{Global}
 use Rattle.wa_types.specs.declared.values.ValType.{ValType}
 use Rattle.wa_types.specs.declared.instrs.Instr.{Instr}
 use Rattle.wa_types.specs.declared.instrs.Instr.TheVariants.{BrTable, Block, Loop, If}
-use Rattle.wa_types.specs.Leb.{shortest, shortest_signed}
+use Rattle.wa_types.specs.Binary.{Operands as PlainOperands, nothing, zero_byte, index, index_and_zero, access, constant}
 use Rattle.wa_types.specs.Syntax.{Code, done, plain, nest, branch}
 use Rattle.wa_types.specs.View.{in_front}
-use Rattle.wa_types.specs.Encoding.{plain_bytes, shape_byte, block_type_byte, code_bytes, else_bytes}
+use Rattle.wa_types.specs.Encoding.{operand_bytes as bytes_behind, plain_bytes, shape_byte, block_type_byte, code_bytes, else_bytes}
 use Rattle.wasm_entries.specs.declared.code.Operands.{Operands}
 use Rattle.wasm_entries.specs.declared.code.Operands.TheVariants.{Nothing, Zero, Index, IndexAndZero, Memory, Signed32, Signed64}
 
@@ -23,15 +23,19 @@ first_bytes (branch r a b rest) = 0x04 ∷ block_type_byte r ∷ (code_bytes a +
 unfoldable pub instr_bytes : Instr → List ℕ
 instr_bytes i = first_bytes (in_front i done)
 
--- what follows an opcode
+-- what follows an opcode, in the terms of the format
+abbrev pub operands_of : Operands → PlainOperands
+operands_of Nothing = nothing
+operands_of Zero = zero_byte
+operands_of (Index x) = index x
+operands_of (IndexAndZero x) = index_and_zero x
+operands_of (Memory align offset) = access align offset
+operands_of (Signed32 n) = constant 32 n
+operands_of (Signed64 n) = constant 64 n
+
+-- the same as it is written
 abbrev pub operand_bytes : Operands → List ℕ
-operand_bytes Nothing = []
-operand_bytes Zero = 0x00 ∷ []
-operand_bytes (Index x) = shortest x
-operand_bytes (IndexAndZero x) = shortest x ++ 0x00 ∷ []
-operand_bytes (Memory align offset) = shortest align ++ shortest offset
-operand_bytes (Signed32 n) = shortest_signed 32 n
-operand_bytes (Signed64 n) = shortest_signed 64 n
+operand_bytes operands = bytes_behind (operands_of operands)
 
 -- behind the opcode stand two numbers at most: the instruction is no br_table, block, loop or if
 pub record IsSimple (i : Instr) : Type 0 where
