@@ -7,10 +7,10 @@ use Rattle.wa_types.specs.declared.operators.NumOp.TheVariants.{I32RemU, I32And,
 use Rattle.wa_types.specs.declared.operators.NumOp.TheVariants.{I64DivS, I64DivU, I64RemS, I64RemU, I64And, I64Or, I64Xor, I64Shl, I64ShrS, I64ShrU, I64Rotl, I64Rotr, I32WrapI64}
 use Rattle.wa_types.specs.declared.operators.NumOp.TheVariants.{I64ExtendI32S, I64ExtendI32U}
 use Rattle.wa_types.specs.Operators.{opcode_of}
-use Rattle.wa_types.specs.Opcodes.{follows, no_operand}
+use Rattle.wa_types.specs.Opcodes.{follows, no_immediate}
 
 -- no operator is followed by anything
-pub num_follows : (op : NumOp) → follows (opcode_of op) ≡ Some no_operand
+pub num_follows : (op : NumOp) → follows (opcode_of op) ≡ Some no_immediate
 unfolding follows
 num_follows I32Eqz = refl
 num_follows I32Eq = refl

@@ -8,8 +8,8 @@ use Rattle.wa_types.specs.declared.operators.NumOp.TheVariants.{I32RemU, I32And,
 use Rattle.wa_types.specs.declared.operators.NumOp.TheVariants.{I64DivS, I64DivU, I64RemS, I64RemU, I64And, I64Or, I64Xor, I64Shl, I64ShrS, I64ShrU, I64Rotl, I64Rotr, I32WrapI64}
 use Rattle.wa_types.specs.declared.operators.NumOp.TheVariants.{I64ExtendI32S, I64ExtendI32U}
 use Rattle.wa_types.specs.Operators.{opcode_of}
-use Rattle.wa_types.specs.Opcodes.{is_load_op, plain_opcode, plain_operands}
-use Rattle.wa_types.specs.Binary.{Operands, nothing, zero_byte, index, index_and_zero, access, labels, constant, float}
+use Rattle.wa_types.specs.Opcodes.{is_load_op, plain_opcode, plain_immediates}
+use Rattle.wa_types.specs.Binary.{Immediates, nothing, zero_byte, index, index_and_zero, access, labels, constant, float}
 use Rattle.wa_types.specs.Syntax.{nop, drop, select, const, num, global_get, global_set, load, store, memory_size, memory_grow, Plain, basic, local_get, local_set, local_tee, br, br_if}
 use Rattle.wa_types.specs.Syntax.{br_table, return, unreachable, call, call_indirect}
 use Rattle.wa_types.specs.Reading.{HasKind}
@@ -81,7 +81,7 @@ num_at op =
     I64ExtendI32U))))))))))))))))))))))))))))))))))))))))))))))))))))))))))))
 
 -- the instruction of an opcode and operands
-pub plain_of : ℕ → Operands → Plain
+pub plain_of : ℕ → Immediates → Plain
 plain_of op nothing =
     cond (nat_eq op 0x00) unreachable (cond (nat_eq op 0x01) (basic nop) (cond (nat_eq op 0x0F) return
     (cond (nat_eq op 0x1A) (basic drop) (cond (nat_eq op 0x1B) (basic select) (basic (num (num_at op)))))))
@@ -163,7 +163,7 @@ not_load : (op : ℕ) → 0x36 ≤ op → is_load_op op ≡ false
 not_load op h = rw (within_above 0x28 0x29 op (omega (arith, h)), within_above 0x2C 0x35 op (omega (arith, h))) refl
 
 -- an instruction's opcode and operands give it back
-pub plain_again : (p : Plain) → HasKind p → plain_of (plain_opcode p) (plain_operands p) ≡ p
+pub plain_again : (p : Plain) → HasKind p → plain_of (plain_opcode p) (plain_immediates p) ≡ p
 unfolding plain_of
 plain_again (basic nop) h = refl
 plain_again (basic drop) h = refl

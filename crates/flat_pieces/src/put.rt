@@ -105,15 +105,15 @@ fn put_leave(out: &mut Vec<Instr>, state: u32, label: u32) -> Result<(), AllocEr
 /// Puts what notes the index behind a call, but for the only one, and leaves by the label where the state isn't 0.
 pub fn put_noted(
     out: &mut Vec<Instr>,
-    alone: bool,
+    one_call: bool,
     state: u32,
     index: u32,
     number: u32,
     label: u32,
 ) -> Result<(), AllocError>
-    ensures { OnOk result (Puts out.old.items out.new.items (λ c. index_noted alone index number (plain (basic (global_get state)) (plain (br_if label) c)))) }
+    ensures { OnOk result (Puts out.old.items out.new.items (λ c. index_noted one_call index number (plain (basic (global_get state)) (plain (br_if label) c)))) }
 {
-    if alone {
+    if one_call {
         put_leave(out, state, label)?;
         return Ok(());
     }

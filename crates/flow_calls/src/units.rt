@@ -78,7 +78,7 @@ fn put_numbered_call(
     put_copy(guards.alloc, &mut block, op)?;
     put_noted(
         &mut block,
-        guards.alone,
+        guards.one_call,
         guards.state,
         guards.index,
         at.number,

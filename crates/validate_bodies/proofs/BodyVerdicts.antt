@@ -9,7 +9,7 @@ use Rattle.wa_types.specs.Typing.{Around, Sig, moves, leaves, drops, selects, la
 use Rattle.wa_types.specs.FirstFault.{mid, size, Meets, UpTo, BodyFault}
 use Rattle.wa_types.proofs.SigLemmas.{lawful}
 use Rattle.wa_types.proofs.TypingLemmas.{upto_zero, at_upto, typed_upto}
-use Rattle.validate_bodies.specs.Running.{may_be, knows, Next, goes, stops, next, Verdict, fine, fault, both, onward, ended, checks, body_verdict}
+use Rattle.validate_bodies.specs.Running.{may_be, knows, StackAfter, goes, stops, next, Verdict, fine, fault, both, onward, ended, checks, body_verdict}
 use Rattle.validate_bodies.proofs.Exact.{Is, Fits, Exact, exact, some_fit, know_fit, know_split, may_is, is_may}
 
 pub takes_meets : (q : ℕ) (s : Sig) (ins outs : List ValType) → Takes s ins outs → Meets q s ins
@@ -72,7 +72,7 @@ module _ (c : Around) (ls : List (Option ValType)) (outs : List ValType) (os : L
     },
   )
 
-  right_plain : (p : Plain) (rest : Code) (n : Next) (go : List (Option ValType) → Bool → Verdict) → Exact (sig c ls p) os free n
+  right_plain : (p : Plain) (rest : Code) (n : StackAfter) (go : List (Option ValType) → Bool → Verdict) → Exact (sig c ls p) os free n
       → ((os' : List (Option ValType)) (free' : Bool) → Right c ls rest outs os' free' (suc k) (go os' free')) → Right c ls (plain p rest) outs os free k (onward n k go)
   unfolding UpTo Types size
   right_plain p rest (stops r) go x ih = (
@@ -256,7 +256,7 @@ module _ (c : Around) (ls : List (Option ValType)) (outs : List ValType) (os : L
 
 module _ (c : Around) (ls : List (Option ValType)) (outs : List ValType) (os : List (Option ValType)) (free : Bool) (k : ℕ) (r : Option ValType) (a b rest : Code)
     (arms : List (Option ValType) → Bool → Verdict) where
-  right_branch : (n : Next) → Exact (moves (I32 ∷ []) []) os free n → ((os' : List (Option ValType)) (free' : Bool) → Exact (moves (I32 ∷ []) []) os free (goes os' free')
+  right_branch : (n : StackAfter) → Exact (moves (I32 ∷ []) []) os free n → ((os' : List (Option ValType)) (free' : Bool) → Exact (moves (I32 ∷ []) []) os free (goes os' free')
       → Right c ls (branch r a b rest) outs os free k (arms os' free')) → Right c ls (branch r a b rest) outs os free k (onward n k arms)
   unfolding UpTo size
   right_branch (goes os' free') x ih = ih os' free' x

@@ -9,7 +9,7 @@ use Rattle.wa_types.specs.Encoding.{same_type}
 use Rattle.wa_types.specs.Typing.{Sig, moves, leaves, drops, selects, lacks, late, Takes}
 use Rattle.wa_types.specs.FirstFault.{Meets}
 use Rattle.wa_types.proofs.SigLemmas.{Lawful}
-use Rattle.validate_bodies.specs.Running.{may_be, chain, pops, knows, Next, goes, stops, pushed, gone, too_late, dropped, two, selected, next}
+use Rattle.validate_bodies.specs.Running.{may_be, chain, pops, knows, StackAfter, goes, stops, pushed, gone, too_late, dropped, two, selected, next}
 
 -- what a stack of types may stand for: such operands, and any more where it is free
 abbrev pub Is : Option ValType → ValType → Type 0
@@ -99,7 +99,7 @@ some_fit [] false = ([], refl)
 some_fit (o ∷ os) free = let k = some_fit os free in (one_of o ∷ k.0, (one_is o, k.1))
 
 -- What the next stack says of the instruction.
-abbrev pub Exact : Sig → List (Option ValType) → Bool → Next → Type 0
+abbrev pub Exact : Sig → List (Option ValType) → Bool → StackAfter → Type 0
 Exact s os free (goes os' free') =
     ((outs : List ValType) → Fits os' free' outs → (ins : List ValType) × Fits os free ins × Takes s ins outs)
     × ((ins outs : List ValType) → Fits os free ins → Takes s ins outs → Fits os' free' outs)
@@ -149,7 +149,7 @@ exact_dropped (o ∷ os) free = (
 )
 
 -- what two operands of one type leave
-abbrev Twice : List (Option ValType) → Bool → Next → Type 0
+abbrev Twice : List (Option ValType) → Bool → StackAfter → Type 0
 Twice os free (goes os' free') =
     ((outs : List ValType) → Fits os' free' outs → (t : ValType) × (below : List ValType) × (outs ≡ t ∷ below) × Fits os free (t ∷ t ∷ below))
     × ((t : ValType) (below : List ValType) → Fits os free (t ∷ t ∷ below) → Fits os' free' (t ∷ below))
@@ -201,7 +201,7 @@ exact_selected os free None to of =
     ((k.0, k.1, inl (omega arith)), λ ins h m. elim m [ inl l ↦ absurd (omega arith) | inr w ↦ of _ (at_fit os free ins _ w.1.2 h) ])
 exact_selected os free (Some os') to of = by_next (two os' free) (twice os' free)
   where
-    by_next : (n : Next) → Twice os' free n → Exact selects os free n
+    by_next : (n : StackAfter) → Twice os' free n → Exact selects os free n
     by_next (goes os'' free'') w = (
       λ outs h. let k = w.0 outs h in (I32 ∷ k.0 ∷ k.0 ∷ k.1, to _ k.3, (k.0, k.1, refl, k.2)),
       λ ins outs h v. subst (Fits os'' free'') (sym v.3) (w.1 v.0 v.1 (of _ (at_fit os free ins _ v.2 h))),

@@ -19,11 +19,11 @@ use Rattle.wa_types.proofs.ViewLemmas.{in_block, in_loop, in_if, code_step, code
 use Rattle.validate_bodies.specs.declared.bodies.Flaw.{Flaw}
 use Rattle.validate_bodies.specs.declared.bodies.Flaw.TheVariants.{Memory, Breaks}
 use Rattle.validate_table.specs.declared.table.Asks as D
-use Rattle.validate_bodies.specs.Running.{Next, goes, stops, next, Verdict, fine, fault, both, onward, ended, knows, pop1, checks, body_verdict}
+use Rattle.validate_bodies.specs.Running.{StackAfter, goes, stops, next, Verdict, fine, fault, both, onward, ended, knows, pop1, checks, body_verdict}
 use Rattle.validate_bodies.specs.Stack.{Applied, popped}
 use Rattle.validate_table.specs.Table.{sig_of}
 use Rattle.validate_table.specs.Table.{plain_of, Says}
-use Rattle.validate_table.proofs.InstrKinds.{is_block, is_loop, is_branch, is_plain, kind, size_plain, size_done, size_block, size_loop, size_if, size_step, size_empty}
+use Rattle.validate_table.proofs.InstrKinds.{is_block, is_loop, is_branch, is_plain, leaf_kind, size_plain, size_done, size_block, size_loop, size_if, size_step, size_empty}
 use Rattle.validate_bodies.specs.Judging.{Judged, Blames}
 
 -- what the validator computes
@@ -95,7 +95,7 @@ module _ (c : Around) (ls : List (Option ValType)) (outs : List ValType) (os : L
     pub plain_is : (s : D.Asks) → Says (plain_of x) (λ p. sig_of s ≡ sig c ls p) → checks c ls (in_front x rest) outs os free k
         ≡ onward (next (sig_of s) os free) k (λ os' free'. checks c ls rest outs os' free' (suc k))
     unfolding checks
-    plain_is s h = elim (kind x) [
+    plain_is s h = elim (leaf_kind x) [
       | is_block r v e ↦ absurd (not_block r v e)
       | is_loop r v e ↦ absurd (not_loop r v e)
       | is_branch r v w e ↦ absurd (not_if r v w e)
@@ -106,7 +106,7 @@ module _ (c : Around) (ls : List (Option ValType)) (outs : List ValType) (os : L
 
 pub plain_size : (x : Instr) → ((r : Option ValType) (v : Vec Instr Global) → x ≡ Block r v → ⊥) → ((r : Option ValType) (v : Vec Instr Global) → x ≡ Loop r v → ⊥)
     → ((r : Option ValType) (v w : Vec Instr Global) → x ≡ If r v w → ⊥) → size (in_front x done) ≡ 1
-plain_size x not_block not_loop not_if = elim (kind x) [
+plain_size x not_block not_loop not_if = elim (leaf_kind x) [
   | is_block r v e ↦ absurd (not_block r v e)
   | is_loop r v e ↦ absurd (not_loop r v e)
   | is_branch r v w e ↦ absurd (not_if r v w e)
@@ -117,11 +117,11 @@ pub none_is : {A : Type 0} (o : Option A) → ((q : A) → o ≡ Some q → ⊥)
 none_is None f = refl
 none_is (Some q) f = absurd (f q refl)
 
-pub go_on : (n : Next) (k : ℕ) (go : List (Option ValType) → Bool → Verdict) (os : List (Option ValType)) (free : Bool) → Applied n None os free → onward n k go ≡ go os free
+pub go_on : (n : StackAfter) (k : ℕ) (go : List (Option ValType) → Bool → Verdict) (os : List (Option ValType)) (free : Bool) → Applied n None os free → onward n k go ≡ go os free
 go_on (goes os' free') k go os free h = ap (λ z. go z free') (sym h.0) ∙ ap (go os) (sym h.1)
 go_on (stops r) k go os free h = absurd h
 
-pub stop_at : (n : Next) (k : ℕ) (q : Rule) (go : List (Option ValType) → Bool → Verdict) (os : List (Option ValType)) (free : Bool) → Applied n (Some q) os free → onward n k go ≡ fault (number q) k
+pub stop_at : (n : StackAfter) (k : ℕ) (q : Rule) (go : List (Option ValType) → Bool → Verdict) (os : List (Option ValType)) (free : Bool) → Applied n (Some q) os free → onward n k go ≡ fault (number q) k
 stop_at (goes os' free') k q go os free h = absurd h
 stop_at (stops r) k q go os free h = ap (λ z. fault (number z) k) (sym h)
 

@@ -38,49 +38,49 @@ knows [] = []
 knows (t ∷ ts) = Some t ∷ knows ts
 
 -- What comes of an instruction: the operands left and whether more may lie below, or a rule that fails.
-pub data Next : Type 0 where
-  goes : List (Option ValType) → Bool → Next
-  stops : Rule → Next
+pub data StackAfter : Type 0 where
+  goes : List (Option ValType) → Bool → StackAfter
+  stops : Rule → StackAfter
 
 -- results go on what is left; where an operand is wanting, the rule on operands fails
-abbrev pub pushed : List ValType → Bool → Option (List (Option ValType)) → Next
+abbrev pub pushed : List ValType → Bool → Option (List (Option ValType)) → StackAfter
 pushed rs free None = stops TypeMismatch
 pushed rs free (Some os) = goes (knows rs ++ os) free
 
 -- control never goes on: no operand is left, and any may be there
-abbrev pub gone : Option (List (Option ValType)) → Next
+abbrev pub gone : Option (List (Option ValType)) → StackAfter
 gone None = stops TypeMismatch
 gone (Some os) = goes [] true
 
 -- a rule above that on operands fails, where they are there
-abbrev pub too_late : Rule → Option (List (Option ValType)) → Next
+abbrev pub too_late : Rule → Option (List (Option ValType)) → StackAfter
 too_late r None = stops TypeMismatch
 too_late r (Some os) = stops r
 
 -- one operand of any type is taken
-abbrev pub dropped : List (Option ValType) → Bool → Next
+abbrev pub dropped : List (Option ValType) → Bool → StackAfter
 dropped [] free = if free then goes [] true else stops TypeMismatch
 dropped (o ∷ os) free = goes os free
 
 -- the better known of two that are alike
-abbrev pub joined : Option ValType → Option ValType → Next → (Option ValType → Next) → Next
+abbrev pub joined : Option ValType → Option ValType → StackAfter → (Option ValType → StackAfter) → StackAfter
 joined None p bad go = go p
 joined (Some t) None bad go = go (Some t)
 joined (Some t) (Some u) bad go = if same_type t u then go (Some t) else bad
 
 -- two operands of one type are taken, and one of it is given
-abbrev pub two : List (Option ValType) → Bool → Next
+abbrev pub two : List (Option ValType) → Bool → StackAfter
 two [] free = if free then goes (None ∷ []) free else stops TypeMismatch
 two (o ∷ []) free = if free then goes (o ∷ []) free else stops TypeMismatch
 two (o ∷ p ∷ os) free = joined o p (stops TypeMismatch) (λ q. goes (q ∷ os) free)
 
 -- what is left behind the number of a select
-abbrev pub selected : Bool → Option (List (Option ValType)) → Next
+abbrev pub selected : Bool → Option (List (Option ValType)) → StackAfter
 selected free None = stops TypeMismatch
 selected free (Some os) = two os free
 
 -- what an instruction makes of the operands (3.3)
-abbrev pub next : Sig → List (Option ValType) → Bool → Next
+abbrev pub next : Sig → List (Option ValType) → Bool → StackAfter
 next (moves ps rs) os free = pushed rs free (pops ps os free)
 next (leaves ps) os free = gone (pops ps os free)
 next drops os free = dropped os free
@@ -99,7 +99,7 @@ both fine v = v
 both (fault r k) v = fault r k
 
 -- what comes behind an instruction, where no rule fails
-abbrev pub onward : Next → ℕ → (List (Option ValType) → Bool → Verdict) → Verdict
+abbrev pub onward : StackAfter → ℕ → (List (Option ValType) → Bool → Verdict) → Verdict
 onward (goes os free) k go = go os free
 onward (stops r) k go = fault (number r) k
 

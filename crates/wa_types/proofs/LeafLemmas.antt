@@ -8,7 +8,7 @@ use Rattle.wa_types.specs.declared.instrs.Instr.TheVariants.{Block, Loop, If, Bl
 use Rattle.wa_types.specs.Kinds.{is_leaf}
 use Rattle.wa_types.specs.Syntax.{a_block, a_loop, Plain, Code, done, plain, nest, branch}
 use Rattle.wa_types.specs.View.{code, in_front}
-use Rattle.wa_types.proofs.ViewLemmas.{Kind, is_block, is_loop, is_if, is_plain, kind, in_block, in_loop, in_if, in_br_table}
+use Rattle.wa_types.proofs.ViewLemmas.{InstrKind, is_block, is_loop, is_if, is_plain, instr_kind, in_block, in_loop, in_if, in_br_table}
 
 block_no_leaf : (r : Option ValType) (v : Vec Instr Global) → is_leaf (Block r v) ≡ false
 unfolding is_leaf
@@ -32,7 +32,7 @@ plain_leaf _ p e = refl
 
 pub leaf_other : (x : Instr) → ((r : Option ValType) (v : Vec Instr Global) → x ≡ Block r v → ⊥) → ((r : Option ValType) (v : Vec Instr Global) → x ≡ Loop r v → ⊥)
     → ((r : Option ValType) (v w : Vec Instr Global) → x ≡ If r v w → ⊥) → is_leaf x ≡ true
-leaf_other x not_block not_loop not_if = elim (kind x) [
+leaf_other x not_block not_loop not_if = elim (instr_kind x) [
   | is_block r v e ↦ absurd (not_block r v e)
   | is_loop r v e ↦ absurd (not_loop r v e)
   | is_if r v w e ↦ absurd (not_if r v w e)

@@ -15,8 +15,8 @@ use Rattle.wa_types.specs.declared.syntax.Space.TheVariants.{Func as a_func, Tab
 use Rattle.wa_types.specs.declared.syntax.Export.{Export}
 use Rattle.wa_types.specs.Leb.{shortest, shortest_signed}
 use Rattle.wa_types.specs.Syntax.{Plain, Shape, a_block, a_loop, Code, done, plain, nest, branch, FuncType, Func, GlobalDef, Elem, Segment, Custom, Module}
-use Rattle.wa_types.specs.Binary.{Operands, nothing, zero_byte, index, index_and_zero, access, labels, constant, float}
-use Rattle.wa_types.specs.Opcodes.{plain_opcode, plain_operands}
+use Rattle.wa_types.specs.Binary.{Immediates, nothing, zero_byte, index, index_and_zero, access, labels, constant, float}
+use Rattle.wa_types.specs.Opcodes.{plain_opcode, plain_immediates}
 
 -- a list of items, with their number (5.1.3)
 abbrev pub vector : {X : Type 0} → (X → List ℕ) → List X → List ℕ
@@ -67,19 +67,19 @@ abbrev pub global_type_bytes : ValType → Bool → List ℕ
 global_type_bytes t mutable = type_byte t ∷ mutable_byte mutable ∷ []
 
 -- what follows an opcode (5.4)
-abbrev pub operand_bytes : Operands → List ℕ
-operand_bytes nothing = []
-operand_bytes zero_byte = 0x00 ∷ []
-operand_bytes (index x) = shortest x
-operand_bytes (index_and_zero x) = shortest x ++ 0x00 ∷ []
-operand_bytes (access align offset) = shortest align ++ shortest offset
-operand_bytes (labels targets last) = vector shortest targets ++ shortest last
-operand_bytes (constant bits n) = shortest_signed bits n
-operand_bytes (float bytes) = bytes
+abbrev pub immediate_bytes : Immediates → List ℕ
+immediate_bytes nothing = []
+immediate_bytes zero_byte = 0x00 ∷ []
+immediate_bytes (index x) = shortest x
+immediate_bytes (index_and_zero x) = shortest x ++ 0x00 ∷ []
+immediate_bytes (access align offset) = shortest align ++ shortest offset
+immediate_bytes (labels targets last) = vector shortest targets ++ shortest last
+immediate_bytes (constant bits n) = shortest_signed bits n
+immediate_bytes (float bytes) = bytes
 
 -- an instruction that holds no other (5.4.1 to 5.4.5)
 abbrev pub plain_bytes : Plain → List ℕ
-plain_bytes p = plain_opcode p ∷ operand_bytes (plain_operands p)
+plain_bytes p = plain_opcode p ∷ immediate_bytes (plain_immediates p)
 
 -- the opcode of a block or a loop (5.4.1)
 abbrev pub shape_byte : Shape → ℕ

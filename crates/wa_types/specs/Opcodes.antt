@@ -5,7 +5,7 @@ use Rattle.wa_types.specs.declared.values.Value.TheVariants.{I32 as value_32, I6
 use Rattle.wa_types.specs.Operators.{opcode_of}
 use Rattle.wa_types.specs.Syntax.{Basic, nop, drop, select, const, num, global_get, global_set, load, store, memory_size, memory_grow, Plain, basic, local_get, local_set, local_tee, br}
 use Rattle.wa_types.specs.Syntax.{br_if, br_table, return, unreachable, call, call_indirect}
-use Rattle.wa_types.specs.Binary.{Operands, nothing, zero_byte, index, index_and_zero, access, labels, constant, float}
+use Rattle.wa_types.specs.Binary.{Immediates, nothing, zero_byte, index, index_and_zero, access, labels, constant, float}
 
 -- the opcode of an instruction that touches only its own operands and the store (5.4)
 abbrev pub basic_opcode : Basic → ℕ
@@ -37,55 +37,55 @@ plain_opcode (call x) = 0x10
 plain_opcode (call_indirect x) = 0x11
 
 -- what follows the opcode of an instruction that touches only its own operands and the store (5.4)
-abbrev pub basic_operands : Basic → Operands
-basic_operands nop = nothing
-basic_operands drop = nothing
-basic_operands select = nothing
-basic_operands (const (value_32 n)) = constant 32 n
-basic_operands (const (value_64 n)) = constant 64 n
-basic_operands (num op) = nothing
-basic_operands (global_get x) = index x
-basic_operands (global_set x) = index x
-basic_operands (load op align offset) = access align offset
-basic_operands (store op align offset) = access align offset
-basic_operands memory_size = zero_byte
-basic_operands memory_grow = zero_byte
+abbrev pub basic_immediates : Basic → Immediates
+basic_immediates nop = nothing
+basic_immediates drop = nothing
+basic_immediates select = nothing
+basic_immediates (const (value_32 n)) = constant 32 n
+basic_immediates (const (value_64 n)) = constant 64 n
+basic_immediates (num op) = nothing
+basic_immediates (global_get x) = index x
+basic_immediates (global_set x) = index x
+basic_immediates (load op align offset) = access align offset
+basic_immediates (store op align offset) = access align offset
+basic_immediates memory_size = zero_byte
+basic_immediates memory_grow = zero_byte
 
 -- what follows the opcode of an instruction that holds no other (5.4)
-abbrev pub plain_operands : Plain → Operands
-plain_operands (basic b) = basic_operands b
-plain_operands (local_get x) = index x
-plain_operands (local_set x) = index x
-plain_operands (local_tee x) = index x
-plain_operands (br l) = index l
-plain_operands (br_if l) = index l
-plain_operands (br_table ls l) = labels ls l
-plain_operands return = nothing
-plain_operands unreachable = nothing
-plain_operands (call x) = index x
-plain_operands (call_indirect x) = index_and_zero x
+abbrev pub plain_immediates : Plain → Immediates
+plain_immediates (basic b) = basic_immediates b
+plain_immediates (local_get x) = index x
+plain_immediates (local_set x) = index x
+plain_immediates (local_tee x) = index x
+plain_immediates (br l) = index l
+plain_immediates (br_if l) = index l
+plain_immediates (br_table ls l) = labels ls l
+plain_immediates return = nothing
+plain_immediates unreachable = nothing
+plain_immediates (call x) = index x
+plain_immediates (call_indirect x) = index_and_zero x
 
 -- What follows an opcode (5.4): nothing, a zero byte, an index, an index and a zero byte, an alignment exponent and an
 -- offset, labels and a last one, a signed number of so many bits, or the bytes of a float.
-pub data Follows : Type 0 where
-  no_operand a_zero an_index an_index_and_zero an_access some_labels : Follows
-  a_constant : (bits : ℕ) → Follows
-  a_float : (size : ℕ) → Follows
+pub data Form : Type 0 where
+  no_immediate a_zero an_index an_index_and_zero an_access some_labels : Form
+  a_constant : (bits : ℕ) → Form
+  a_float : (size : ℕ) → Form
 
 -- a number of this range
 abbrev pub within : (low high n : ℕ) → Bool
 within low high n = nat_le low n && nat_le n high
 
 -- What follows each opcode that is no construct's and no end (5.4.1 to 5.4.5).
-unfoldable pub follows : ℕ → Option Follows
+unfoldable pub follows : ℕ → Option Form
 follows op =
-    if within 0x00 0x01 op then Some no_operand
+    if within 0x00 0x01 op then Some no_immediate
     else (if within 0x0C 0x0D op then Some an_index
     else (if op == 0x0E then Some some_labels
-    else (if op == 0x0F then Some no_operand
+    else (if op == 0x0F then Some no_immediate
     else (if op == 0x10 then Some an_index
     else (if op == 0x11 then Some an_index_and_zero
-    else (if within 0x1A 0x1B op then Some no_operand
+    else (if within 0x1A 0x1B op then Some no_immediate
     else (if within 0x20 0x24 op then Some an_index
     else (if within 0x28 0x3E op then Some an_access
     else (if within 0x3F 0x40 op then Some a_zero
@@ -93,19 +93,19 @@ follows op =
     else (if op == 0x42 then Some (a_constant 64)
     else (if op == 0x43 then Some (a_float 4)
     else (if op == 0x44 then Some (a_float 8)
-    else (if within 0x45 0xBF op then Some no_operand
+    else (if within 0x45 0xBF op then Some no_immediate
     else None))))))))))))))
 
 -- what these operands are (5.4)
-abbrev pub shape : Operands → Follows
-shape nothing = no_operand
-shape zero_byte = a_zero
-shape (index x) = an_index
-shape (index_and_zero x) = an_index_and_zero
-shape (access align offset) = an_access
-shape (labels targets last) = some_labels
-shape (constant bits n) = a_constant bits
-shape (float bytes) = a_float (length bytes)
+abbrev pub form : Immediates → Form
+form nothing = no_immediate
+form zero_byte = a_zero
+form (index x) = an_index
+form (index_and_zero x) = an_index_and_zero
+form (access align offset) = an_access
+form (labels targets last) = some_labels
+form (constant bits n) = a_constant bits
+form (float bytes) = a_float (length bytes)
 
 -- a value type (5.3.1)
 abbrev pub is_value_type : ℕ → Bool

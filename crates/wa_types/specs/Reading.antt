@@ -9,10 +9,10 @@ use Rattle.wa_types.specs.declared.syntax.Limits.{Limits}
 use Rattle.wa_types.specs.declared.syntax.Export.{Export}
 use Rattle.wa_types.specs.Encoding.{type_byte, block_type_byte, shape_byte}
 use Rattle.wa_types.specs.Syntax.{load, store, Plain, basic, Code, done, plain, nest, branch, FuncType, Func, GlobalDef, Elem, Segment, Custom, Module}
-use Rattle.wa_types.specs.Binary.{Placed, Operands, RawCode, ended, otherwise, instr, nested, branched, RawType, RawKind}
+use Rattle.wa_types.specs.Binary.{Placed, Immediates, RawCode, ended, otherwise, instr, nested, branched, RawType, RawKind}
 use Rattle.wa_types.specs.Binary.{raw_func, raw_table, raw_memory, raw_global, RawImport, RawGlobal, RawElem, RawRun, RawBody, RawSegment, Section, custom, types, imports, tables, memories}
 use Rattle.wa_types.specs.Binary.{globals, exports, start, elements, segments, section_id}
-use Rattle.wa_types.specs.Opcodes.{plain_opcode, plain_operands, is_load_op, is_store_op}
+use Rattle.wa_types.specs.Opcodes.{plain_opcode, plain_immediates, is_load_op, is_store_op}
 use Rattle.wa_types.specs.Spells.{Spells, sorts_in, bodies_in}
 
 -- a load or a store has an opcode of its own kind, on integers (5.4.4)
@@ -22,9 +22,9 @@ HasKind (basic (store op align offset)) = IsTrue (is_store_op op)
 HasKind _ = Unit {0}
 
 -- the instruction of this opcode, followed by this (5.4)
-pub record IsPlain (op : Placed) (operands : Operands) (p : Plain) : Type 0 where
+pub record IsPlain (op : Placed) (operands : Immediates) (p : Plain) : Type 0 where
   pub opcode : op.byte ≡ plain_opcode p
-  pub follows : operands ≡ plain_operands p
+  pub follows : operands ≡ plain_immediates p
   pub kind : HasKind p
 
 -- the code that a sequence is up to its end, and, where that is an else, the code of the arm behind it (5.4.1)

@@ -1,7 +1,7 @@
 -- The table of what follows an opcode, by ranges.
 use Rattle.std.proofs.Common.{◌≡◌, ℕ, ◌<◌, ◌≤◌, ◌⊎◌, inl, inr, Bool, true, false, Some, None, refl, arith, nat_eq, nat_le, ◌&&◌}
 use Rattle.std.proofs.lemmas.Bool.{le-leb}
-use Rattle.wa_types.specs.Opcodes.{no_operand, a_zero, an_index, an_access, follows, within}
+use Rattle.wa_types.specs.Opcodes.{no_immediate, a_zero, an_index, an_access, follows, within}
 
 past : (a b : ℕ) → b < a → nat_le a b ≡ false
 past a b h = grind (arith)
@@ -21,7 +21,7 @@ outside low high op (inr h) = rw (past op high h) (and_no (nat_le low op))
 inside : (low high op : ℕ) → low ≤ op → op ≤ high → within low high op ≡ true
 inside low high op h k = rw (le-leb low op h, le-leb op high k) refl
 
-pub row_0 : (op : ℕ) → 0 ≤ op → op ≤ 1 → follows op ≡ Some no_operand
+pub row_0 : (op : ℕ) → 0 ≤ op → op ≤ 1 → follows op ≡ Some no_immediate
 unfolding follows
 row_0 op h k = rw (inside 0 1 op h k) refl
 
@@ -29,7 +29,7 @@ pub row_12 : (op : ℕ) → 12 ≤ op → op ≤ 13 → follows op ≡ Some an_i
 unfolding follows
 row_12 op h k = rw (outside 0 1 op (inr (omega arith)), inside 12 13 op h k) refl
 
-pub row_26 : (op : ℕ) → 26 ≤ op → op ≤ 27 → follows op ≡ Some no_operand
+pub row_26 : (op : ℕ) → 26 ≤ op → op ≤ 27 → follows op ≡ Some no_immediate
 unfolding follows
 row_26 op h k = rw (
   outside 0 1 op (inr (omega arith)),
@@ -83,7 +83,7 @@ row_63 op h k = rw (
   inside 63 64 op h k,
 ) refl
 
-pub row_69 : (op : ℕ) → 69 ≤ op → op ≤ 191 → follows op ≡ Some no_operand
+pub row_69 : (op : ℕ) → 69 ≤ op → op ≤ 191 → follows op ≡ Some no_immediate
 unfolding follows
 row_69 op h k = rw (
   outside 0 1 op (inr (omega arith)),

@@ -29,7 +29,7 @@ use Rattle.validate_modules.proofs.FuncLemmas.{func_at}
 use Rattle.wa_types.specs.Validity.{Valid}
 use Rattle.wa_types.specs.Kinds.{is_leaf}
 use Rattle.validate_modules.specs.Walk.{Walk, outset, Stays, Inside, TypedAt}
-use Rattle.validate_modules.proofs.InstrKinds.{is_block, is_loop, is_branch, is_plain, kind}
+use Rattle.validate_modules.proofs.InstrKinds.{is_block, is_loop, is_branch, is_plain, leaf_kind}
 
 -- control may come behind it
 abbrev pub Passes : Sig → Type 0
@@ -205,8 +205,8 @@ unfolding Types
 branch_arms c ls r a b rest outs ops h = ((listed r, h.2), (listed r, h.3))
 
 module _ (c : Around) (ls : List (Option ValType)) (x : Instr) (rest : Code) (ops : List ValType) (h : TypedOn c ls (in_front x rest) ops) where
-  pub alone : TypedOn c ls (in_front x done) ops
-  alone = elim (kind x) [
+  pub typed_alone : TypedOn c ls (in_front x done) ops
+  typed_alone = elim (leaf_kind x) [
     | is_block r v e ↦ (let g : (k : Code) → in_front x k ≡ nest a_block r (code v.items) k = λ k. ap (λ y. in_front y k) e ∙ in_block r v k in
         subst (λ (k : Code). TypedOn c ls k ops) (sym (g done)) (nest_alone c ls a_block r (code v.items) rest h.0 ops (subst (λ (k : Code). Types c ls k h.0 ops) (g rest) h.1)))
     | is_loop r v e ↦ (let g : (k : Code) → in_front x k ≡ nest a_loop r (code v.items) k = λ k. ap (λ y. in_front y k) e ∙ in_loop r v k in
@@ -217,7 +217,7 @@ module _ (c : Around) (ls : List (Option ValType)) (x : Instr) (rest : Code) (op
   ]
 
   pub onward : (new : List ValType) → Types c ls (in_front x done) new ops → is_last_instr x ≡ false → TypedOn c ls rest new
-  onward new w l = elim (kind x) [
+  onward new w l = elim (leaf_kind x) [
     | is_block r v e ↦ (let g : (k : Code) → in_front x k ≡ nest a_block r (code v.items) k = λ k. ap (λ y. in_front y k) e ∙ in_block r v k in
         (h.0, nest_once c ls a_block r (code v.items) rest h.0 ops new (subst (λ (k : Code). Types c ls k h.0 ops) (g rest) h.1) (subst (λ (k : Code). Types c ls k new ops) (g done) w)))
     | is_loop r v e ↦ (let g : (k : Code) → in_front x k ≡ nest a_loop r (code v.items) k = λ k. ap (λ y. in_front y k) e ∙ in_loop r v k in
@@ -253,7 +253,7 @@ stays_typed v w k ops s t =
 
 -- what `advance` asks, where the rest of the sequence is typed
 pub ahead : (w : Walk) (x : Instr) (rest : Code) → TypedAt w (in_front x rest) → TypedAt w (in_front x done)
-ahead w x rest h = alone w.around w.labels x rest w.own h
+ahead w x rest h = typed_alone w.around w.labels x rest w.own h
 
 -- the rest is typed where the walk stands then
 pub behind : (v w : Walk) (x : Instr) (rest : Code) → TypedAt v (in_front x rest) → Stays v w → Types v.around v.labels (in_front x done) w.own v.own → is_last_instr x ≡ false → TypedAt w rest
