@@ -14,9 +14,10 @@ use Rattle.wa_types.specs.Binary.{nothing, zero_byte, index, access}
 use Rattle.wa_types.specs.Syntax.{nop, drop, select, const, num, global_get, global_set, load, store, memory_size, memory_grow, Plain, basic, local_get, local_set, local_tee, br, br_if}
 use Rattle.wa_types.specs.Syntax.{br_table, return, unreachable, call, call_indirect, done, plain}
 use Rattle.wa_types.specs.View.{in_front}
-use Rattle.wa_types.specs.Reading.{plain_opcode, plain_operands, HasKind}
+use Rattle.wa_types.specs.Reading.{HasKind}
+use Rattle.wa_types.specs.Opcodes.{plain_immediates, plain_opcode}
 use Rattle.file_laws.proofs.CodeWriting.{load_range, store_range}
-use Rattle.wasm_build.specs.BuildsCode.{alone, NamesPlain}
+use Rattle.wasm_build.specs.BuildsCode.{code_of_one, NamesPlain}
 
 num_low : (op : NumOp) → 0x45 ≤ opcode_of op
 num_low I32Eqz = lit≤ tt
@@ -90,7 +91,7 @@ index_at op x =
 index_same : (x y : ℕ) → index x ≡ index y → x ≡ y
 index_same x y e = cc
 
-index_again : (p : Plain) (x : ℕ) → plain_operands p ≡ index x → index_at (plain_opcode p) x ≡ p
+index_again : (p : Plain) (x : ℕ) → plain_immediates p ≡ index x → index_at (plain_opcode p) x ≡ p
 index_again (basic nop) x e = absurd (cc)
 index_again (basic drop) x e = absurd (cc)
 index_again (basic select) x e = absurd (cc)
@@ -114,7 +115,7 @@ index_again unreachable x e = absurd (cc)
 index_again (call y) x e = ap (λ k. call k) (sym (index_same y x e))
 index_again (call_indirect y) x e = absurd (cc)
 
-pub named_index : (i : Instr) (op k x : ℕ) → op ≡ k → alone i ≡ plain (index_at k x) done → NamesPlain op (index x) (Some i)
+pub named_index : (i : Instr) (op k x : ℕ) → op ≡ k → code_of_one i ≡ plain (index_at k x) done → NamesPlain op (index x) (Some i)
 named_index i op k x a b = record {
   named = λ p h e f. b ∙ ap (λ q. plain q done) (ap (λ n. index_at n x) (sym a ∙ e) ∙ index_again p x f);
 }
@@ -123,7 +124,7 @@ named_index i op k x a b = record {
 abbrev pub simple_at : ℕ → Plain
 simple_at op = cond (nat_eq op 0x00) unreachable (cond (nat_eq op 0x01) (basic nop) (cond (nat_eq op 0x0F) return (cond (nat_eq op 0x1A) (basic drop) (basic select))))
 
-simple_again : (p : Plain) → plain_opcode p < 0x45 → plain_operands p ≡ nothing → simple_at (plain_opcode p) ≡ p
+simple_again : (p : Plain) → plain_opcode p < 0x45 → plain_immediates p ≡ nothing → simple_at (plain_opcode p) ≡ p
 simple_again (basic nop) h e = refl
 simple_again (basic drop) h e = refl
 simple_again (basic select) h e = refl
@@ -147,7 +148,7 @@ simple_again unreachable h e = refl
 simple_again (call y) h e = absurd (cc)
 simple_again (call_indirect y) h e = absurd (cc)
 
-pub named_simple : (i : Instr) (op k : ℕ) → op ≡ k → k < 0x45 → alone i ≡ plain (simple_at k) done → NamesPlain op nothing (Some i)
+pub named_simple : (i : Instr) (op k : ℕ) → op ≡ k → k < 0x45 → code_of_one i ≡ plain (simple_at k) done → NamesPlain op nothing (Some i)
 named_simple i op k a small b = record {
   named = λ p h e f. let n = sym a ∙ e in b ∙ ap (λ q. plain q done) (ap simple_at n ∙ simple_again p (omega (arith, n, small)) f);
 }
@@ -156,7 +157,7 @@ some_injective : (m n : NumOp) (r : Option NumOp) → r ≡ Some m → r ≡ Som
 some_injective m n r e f = cc
 
 named_operator : (n : NumOp) (op : ℕ) (r : Option NumOp) → r ≡ Some n → ((m : NumOp) → op ≡ opcode_of m → r ≡ Some m) → (op ≡ 0x00 → ⊥) → (op ≡ 0x01 → ⊥) → (op ≡ 0x0F → ⊥) → (op ≡ 0x1A → ⊥)
-    → (op ≡ 0x1B → ⊥) → (p : Plain) → op ≡ plain_opcode p → plain_operands p ≡ nothing → alone (Num n) ≡ plain p done
+    → (op ≡ 0x1B → ⊥) → (p : Plain) → op ≡ plain_opcode p → plain_immediates p ≡ nothing → code_of_one (Num n) ≡ plain p done
 unfolding in_front
 named_operator n op r q f a b k d w (basic nop) e o = absurd (b e)
 named_operator n op r q f a b k d w (basic drop) e o = absurd (d e)
@@ -188,7 +189,7 @@ names_operator n op r q f a b k d w = record { named = λ p h e o. named_operato
 access_same : (a o c d : ℕ) → access a o ≡ access c d → (a ≡ c) × (o ≡ d)
 access_same a o c d e = ((let p : a ≡ c = cc in p), (let p : o ≡ d = cc in p))
 
-named_load : (op a o : ℕ) → op ≤ 0x35 → (p : Plain) → HasKind p → op ≡ plain_opcode p → plain_operands p ≡ access a o → alone (Load op a o) ≡ plain p done
+named_load : (op a o : ℕ) → op ≤ 0x35 → (p : Plain) → HasKind p → op ≡ plain_opcode p → plain_immediates p ≡ access a o → code_of_one (Load op a o) ≡ plain p done
 unfolding in_front
 named_load op a o small (basic nop) h e f = absurd (cc)
 named_load op a o small (basic drop) h e f = absurd (cc)
@@ -213,7 +214,7 @@ named_load op a o small unreachable h e f = absurd (cc)
 named_load op a o small (call y) h e f = absurd (cc)
 named_load op a o small (call_indirect y) h e f = absurd (cc)
 
-named_store : (op a o : ℕ) → 0x36 ≤ op → (p : Plain) → HasKind p → op ≡ plain_opcode p → plain_operands p ≡ access a o → alone (Store op a o) ≡ plain p done
+named_store : (op a o : ℕ) → 0x36 ≤ op → (p : Plain) → HasKind p → op ≡ plain_opcode p → plain_immediates p ≡ access a o → code_of_one (Store op a o) ≡ plain p done
 unfolding in_front
 named_store op a o big (basic nop) h e f = absurd (cc)
 named_store op a o big (basic drop) h e f = absurd (cc)
@@ -244,7 +245,7 @@ names_load op a o small = record { named = λ p h e f. named_load op a o small p
 pub names_store : (op a o : ℕ) → 0x36 ≤ op → NamesPlain op (access a o) (Some (Store op a o))
 names_store op a o big = record { named = λ p h e f. named_store op a o big p h e f }
 
-named_size : (op : ℕ) (p : Plain) → op ≡ 0x3F → op ≡ plain_opcode p → plain_operands p ≡ zero_byte → basic memory_size ≡ p
+named_size : (op : ℕ) (p : Plain) → op ≡ 0x3F → op ≡ plain_opcode p → plain_immediates p ≡ zero_byte → basic memory_size ≡ p
 named_size op (basic nop) a e f = absurd (cc)
 named_size op (basic drop) a e f = absurd (cc)
 named_size op (basic select) a e f = absurd (cc)
@@ -268,7 +269,7 @@ named_size op unreachable a e f = absurd (cc)
 named_size op (call y) a e f = absurd (cc)
 named_size op (call_indirect y) a e f = absurd (cc)
 
-named_grow : (op : ℕ) (p : Plain) → (op ≡ 0x3F → ⊥) → op ≡ plain_opcode p → plain_operands p ≡ zero_byte → basic memory_grow ≡ p
+named_grow : (op : ℕ) (p : Plain) → (op ≡ 0x3F → ⊥) → op ≡ plain_opcode p → plain_immediates p ≡ zero_byte → basic memory_grow ≡ p
 named_grow op (basic nop) a e f = absurd (cc)
 named_grow op (basic drop) a e f = absurd (cc)
 named_grow op (basic select) a e f = absurd (cc)
@@ -292,8 +293,8 @@ named_grow op unreachable a e f = absurd (cc)
 named_grow op (call y) a e f = absurd (cc)
 named_grow op (call_indirect y) a e f = absurd (cc)
 
-pub names_size : (i : Instr) (op : ℕ) → op ≡ 0x3F → alone i ≡ plain (basic memory_size) done → NamesPlain op zero_byte (Some i)
+pub names_size : (i : Instr) (op : ℕ) → op ≡ 0x3F → code_of_one i ≡ plain (basic memory_size) done → NamesPlain op zero_byte (Some i)
 names_size i op a b = record { named = λ p h e f. b ∙ ap (λ q. plain q done) (named_size op p a e f) }
 
-pub names_grow : (i : Instr) (op : ℕ) → (op ≡ 0x3F → ⊥) → alone i ≡ plain (basic memory_grow) done → NamesPlain op zero_byte (Some i)
+pub names_grow : (i : Instr) (op : ℕ) → (op ≡ 0x3F → ⊥) → code_of_one i ≡ plain (basic memory_grow) done → NamesPlain op zero_byte (Some i)
 names_grow i op a b = record { named = λ p h e f. b ∙ ap (λ q. plain q done) (named_grow op p a e f) }

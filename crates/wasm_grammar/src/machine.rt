@@ -16,7 +16,7 @@ use std::alloc::{AllocError, Global};
 use thiserror::Error;
 use wa_types::Bounds;
 use wasm_goals::stack::Goals;
-use wasm_goals::{Front, Goal, Kind, read_item, wants};
+use wasm_goals::{EntryKind, Front, Goal, read_item, wants};
 use wasm_marks::Marks;
 
 /// Why bytes are no file.
@@ -129,7 +129,7 @@ impl Machine {
             return Ok(());
         };
         match goal {
-            Goal::Entries(Kind::Runs, n) => self.pass_runs(alloc, bytes, stop, n),
+            Goal::Entries(EntryKind::Runs, n) => self.pass_runs(alloc, bytes, stop, n),
             Goal::Entries(kind, n) => self.pass_single(alloc, bytes, stop, kind, n),
             _ => Ok(()),
         }
@@ -141,7 +141,7 @@ impl Machine {
         alloc: Global,
         bytes: &[u8],
         stop: usize,
-        kind: Kind,
+        kind: EntryKind,
         n: u32,
     ) -> Result<(), AllocError>
         requires below { Below stop self.old.goals }
@@ -182,7 +182,7 @@ impl Machine {
         }
         self.goals.pop();
         self.goals
-            .push(alloc, Goal::Entries(Kind::Runs, n - passed))?;
+            .push(alloc, Goal::Entries(EntryKind::Runs, n - passed))?;
         self.at += 2 * passed as usize;
         Ok(())
     }

@@ -12,7 +12,7 @@ loop-index-preserved c =
     let all = c.saturating_sub.ensures in
     let some = c.saturating_sub-2.ensures in
     passes_more c.args.bytes.now (kind_of c.args.kind) c.args.n c.args.at c.loop-index.index c.args.stop (omega (arith, test, most, room, all)) c.requires
-    (omega (arith, test, most, some)) c.if-not-is_alone.ensures c.loop-index.invariant
+    (omega (arith, test, most, some)) c.if-not-is_entry_byte.ensures c.loop-index.invariant
 
 pub returns-clause-passes : goal.returns-clause-passes
 returns-clause-passes c =
