@@ -358,7 +358,7 @@ module _ (m : Module) (f : Func) where
               [],
               subst (λ o. Takes (jumps_sig (none_of lt ++ ((around m f).result ∷ [])) ts o) (I32 ∷ []) []) (sym (none_there lt ((around m f).result ∷ []) j (slice_get_within lt j r er)))
                   (subst (λ (b : Bool). Takes (if b then (if all_alike (none_of lt ++ ((around m f).result ∷ [])) None ts then leaves (I32 ∷ []) else lacks TypeMismatch)
-                      else lacks UnknownLabel) (I32 ∷ []) []) (sym al.0)
+                  else lacks UnknownLabel) (I32 ∷ []) []) (sym al.0)
                   (subst (λ (b : Bool). Takes (if b then leaves (I32 ∷ []) else lacks TypeMismatch) (I32 ∷ []) []) (sym al.1) ([], refl))),
               refl,
             ) in
@@ -594,7 +594,7 @@ module _ (m : Module) (f : Func) where
               [],
               subst (λ o. Takes (jumps_sig (none_of lt ++ ((around m f).result ∷ [])) ts o) (I32 ∷ []) []) (sym (none_there lt ((around m f).result ∷ []) j (slice_get_within lt j r er)))
                   (subst (λ (b : Bool). Takes (if b then (if all_alike (none_of lt ++ ((around m f).result ∷ [])) None ts then leaves (I32 ∷ []) else lacks TypeMismatch)
-                      else lacks UnknownLabel) (I32 ∷ []) []) (sym al.0)
+                  else lacks UnknownLabel) (I32 ∷ []) []) (sym al.0)
                   (subst (λ (b : Bool). Takes (if b then leaves (I32 ∷ []) else lacks TypeMismatch) (I32 ∷ []) []) (sym al.1) ([], refl))),
               refl,
             ) in

@@ -7,6 +7,7 @@ pub mod LebAnswers
 pub mod LebLemmas
 pub mod LiveLemmas
 pub mod MemoryLemmas
+pub mod OperatorLemmas
 pub mod PlaceLemmas
 pub mod PointLemmas
 pub mod SigLemmas
