@@ -4,7 +4,7 @@ ghost use Rattle.std.specs.Prelude.{◌≡◌, true, OnOk};
 ghost use Rattle.wa_types.specs.Syntax.{done};
 ghost use Rattle.wa_types.specs.View.{in_front};
 ghost use Rattle.wa_types.specs.declared.instrs.Instr.TheVariants.{Call, CallIndirect};
-ghost use Rattle.wa_types.specs.Kinds.{is_leaf};
+ghost use Rattle.wa_types.specs.Leaves.{is_leaf};
 ghost use Rattle.wasm_validate.specs.Walk.{TypedAt};
 ghost use Rattle.flat_instrs.specs.Emitting.{CallAt, Put, Ready, SmallTypes};
 

@@ -11,7 +11,7 @@ use Rattle.wa_types.specs.Syntax.{br_table, a_block, a_loop, Code, done, plain, 
 use Rattle.wa_types.specs.View.{in_front, onto, code}
 use Rattle.wa_types.specs.Counts.{depth_of}
 use Rattle.wa_types.proofs.ViewLemmas.{is_block, is_loop, is_if, is_plain, instr_kind, in_block, in_loop, in_if, in_br_table, code_step, code_empty, onto_append, onto_done, onto_none}
-use Rattle.wa_types.specs.Kinds.{is_leaf}
+use Rattle.wa_types.specs.Leaves.{is_leaf}
 use Rattle.guard_form.specs.Guarded.{raise, raised}
 use Rattle.flat_pieces.specs.Raising.{LabelsBelow, Raisable}
 

@@ -6,7 +6,7 @@ ghost use Rattle.wa_types.specs.declared.values.ValType.TheVariants.{I32};
 ghost use Rattle.wa_types.specs.declared.instrs.Instr.TheVariants as Instr;
 ghost use Rattle.wa_types.specs.Typing.{same_result, listed, sig, all_there, all_alike, jumps, jump, may_jump, calls, calls_at, gets, sets, tees, gets_global, sets_global, loads, stores};
 ghost use Rattle.wa_types.specs.Typing.{with_memory, moves, leaves};
-ghost use Rattle.wa_types.specs.Kinds.{is_leaf};
+ghost use Rattle.wa_types.specs.Leaves.{is_leaf};
 ghost use Rattle.validate_table.specs.Table.{plain_of, sig_of, Says};
 
 use instr_tables::{load_access, operands_of, result_of, same_types, store_access, type_of_value};

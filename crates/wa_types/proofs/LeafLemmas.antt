@@ -5,7 +5,7 @@ use Rattle.std.specs.declared.alloc.Global.{Global}
 use Rattle.wa_types.specs.declared.values.ValType.{ValType}
 use Rattle.wa_types.specs.declared.instrs.Instr.{Instr}
 use Rattle.wa_types.specs.declared.instrs.Instr.TheVariants.{Block, Loop, If, Block', Loop', If'}
-use Rattle.wa_types.specs.Kinds.{is_leaf}
+use Rattle.wa_types.specs.Leaves.{is_leaf}
 use Rattle.wa_types.specs.Syntax.{a_block, a_loop, Plain, Code, done, plain, nest, branch}
 use Rattle.wa_types.specs.View.{code, in_front}
 use Rattle.wa_types.proofs.ViewLemmas.{InstrKind, is_block, is_loop, is_if, is_plain, instr_kind, in_block, in_loop, in_if, in_br_table}

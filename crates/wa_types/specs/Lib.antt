@@ -8,7 +8,7 @@ pub mod Encoding
 pub mod FirstFault
 pub mod FrameLaws
 pub mod Frames
-pub mod Kinds
+pub mod Leaves
 pub mod Leb
 pub mod Liveness
 pub mod Marks

@@ -65,7 +65,7 @@ plain_immediates unreachable = nothing
 plain_immediates (call x) = index x
 plain_immediates (call_indirect x) = index_and_zero x
 
--- What follows an opcode (5.4): nothing, a zero byte, an index, an index and a zero byte, an alignment exponent and an
+-- What may follow an opcode (5.4): nothing, a zero byte, an index, an index and a zero byte, an alignment exponent and an
 -- offset, labels and a last one, a signed number of so many bits, or the bytes of a float.
 pub data Form : Type 0 where
   no_immediate a_zero an_index an_index_and_zero an_access some_labels : Form
@@ -96,7 +96,7 @@ follows op =
     else (if within 0x45 0xBF op then Some no_immediate
     else None))))))))))))))
 
--- what these operands are (5.4)
+-- the form of what follows an opcode (5.4)
 abbrev pub form : Immediates → Form
 form nothing = no_immediate
 form zero_byte = a_zero

@@ -22,16 +22,16 @@ HasKind (basic (store op align offset)) = IsTrue (is_store_op op)
 HasKind _ = Unit {0}
 
 -- the instruction of this opcode, followed by this (5.4)
-pub record IsPlain (op : Placed) (operands : Immediates) (p : Plain) : Type 0 where
+pub record IsPlain (op : Placed) (immediates : Immediates) (p : Plain) : Type 0 where
   pub opcode : op.byte ≡ plain_opcode p
-  pub follows : operands ≡ plain_immediates p
+  pub follows : immediates ≡ plain_immediates p
   pub kind : HasKind p
 
 -- the code that a sequence is up to its end, and, where that is an else, the code of the arm behind it (5.4.1)
 abbrev pub IsCode : RawCode → (code else_arm : Code) → Type 0
 IsCode (ended k) done else_arm = else_arm ≡ done
 IsCode (otherwise k arm) done else_arm = IsCode arm else_arm done
-IsCode (instr op operands rest) (plain p more) else_arm = IsPlain op operands p × IsCode rest more else_arm
+IsCode (instr op immediates rest) (plain p more) else_arm = IsPlain op immediates p × IsCode rest more else_arm
 IsCode (nested op result body rest) (nest s r inner more) else_arm =
     (op.byte ≡ shape_byte s) × (result.byte ≡ block_type_byte r) × IsCode body inner done × IsCode rest more else_arm
 IsCode (branched op result arms rest) (branch r a b more) else_arm =

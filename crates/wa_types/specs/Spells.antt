@@ -100,7 +100,7 @@ ImmediatesOf (float bytes) = Exactly bytes
 abbrev pub CodeOf : (first_arm : Bool) → RawCode → ℕ → List ℕ → Type 0
 CodeOf first_arm (ended k) at bytes = (at ≡ k) × (bytes ≡ 0x0B ∷ [])
 CodeOf first_arm (otherwise k arm) at bytes = (first_arm ≡ true) × (Byte (record { place = k; byte = 0x05 }) ▸ CodeOf false arm) at bytes
-CodeOf first_arm (instr op operands rest) at bytes = (follows op.byte ≡ Some (form operands)) × (Byte op ▸ ImmediatesOf operands ▸ CodeOf first_arm rest) at bytes
+CodeOf first_arm (instr op immediates rest) at bytes = (follows op.byte ≡ Some (form immediates)) × (Byte op ▸ ImmediatesOf immediates ▸ CodeOf first_arm rest) at bytes
 CodeOf first_arm (nested op result body rest) at bytes = IsTrue (is_nest op.byte) × (Byte op ▸ BlockType result ▸ CodeOf false body ▸ CodeOf first_arm rest) at bytes
 CodeOf first_arm (branched op result arms rest) at bytes = (op.byte ≡ 0x04) × (Byte op ▸ BlockType result ▸ CodeOf true arms ▸ CodeOf first_arm rest) at bytes
 

@@ -1,7 +1,7 @@
 //! Copies of modules, part by part.
 
 ghost use Rattle.std.specs.Prelude.{◌≡◌, IfOk, map, true};
-ghost use Rattle.wa_types.specs.Kinds.{is_leaf};
+ghost use Rattle.wa_types.specs.Leaves.{is_leaf};
 ghost use Rattle.wa_types.specs.Syntax.{Code};
 ghost use Rattle.wa_types.specs.View.{in_front, code, func_type_of, func_of, global_of, elem_of, segment_of, custom_of, module_of};
 

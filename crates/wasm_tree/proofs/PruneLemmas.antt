@@ -11,7 +11,7 @@ use Rattle.wa_types.specs.Syntax.{br, br_if, br_table, return, unreachable, call
 use Rattle.wa_types.specs.View.{code, onto, in_front}
 use Rattle.wa_types.specs.Pruned.{is_last, is_last_instr, pruned}
 use Rattle.wa_types.proofs.ViewLemmas.{in_block, in_loop, in_if, code_step, code_empty, onto_append, onto_done, onto_none}
-use Rattle.wa_types.specs.Kinds.{is_leaf}
+use Rattle.wa_types.specs.Leaves.{is_leaf}
 use Rattle.wa_types.proofs.LeafLemmas.{leaf_other}
 
 pub pruned_done : pruned done ≡ done

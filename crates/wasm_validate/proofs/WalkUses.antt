@@ -27,7 +27,7 @@ use Rattle.wa_types.specs.View.{module_of, func_of}
 use Rattle.wa_types.specs.Modules.{around, defined_at, func_imports, imported_func}
 use Rattle.validate_modules.proofs.FuncLemmas.{func_at}
 use Rattle.wa_types.specs.Validity.{Valid}
-use Rattle.wa_types.specs.Kinds.{is_leaf}
+use Rattle.wa_types.specs.Leaves.{is_leaf}
 use Rattle.validate_modules.specs.Walk.{Walk, outset, Stays, Inside, TypedAt}
 use Rattle.validate_modules.proofs.InstrKinds.{is_block, is_loop, is_branch, is_plain, leaf_kind}
 

@@ -20,7 +20,7 @@ use Rattle.validate_modules.specs.Asks as D
 use Rattle.validate_modules.specs.Table.{sig_of, tested}
 use Rattle.validate_modules.specs.Table.{plain_of, Says}
 use Rattle.validate_modules.specs.Walk.{left_at, Walk, outset, Stays, Inside, CanTake, own_at, under_at, around_or, standing}
-use Rattle.wa_types.specs.Kinds.{is_leaf}
+use Rattle.wa_types.specs.Leaves.{is_leaf}
 use Rattle.wa_types.specs.Modules.{around}
 use Rattle.wa_types.specs.Syntax.{Func}
 use Rattle.wa_types.specs.declared.syntax.Module.{Module as ModuleValue}
