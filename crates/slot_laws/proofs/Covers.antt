@@ -132,7 +132,7 @@ puts_jumps : (ls : List (Option ValType)) (labels : List ℕ) (o : Option (Optio
 puts_jumps ls labels None = tt
 puts_jumps ls labels (Some r) =
     puts_if (all_there ls labels) (if all_alike ls r labels then leaves (I32 ∷ listed r) else lacks TypeMismatch) (lacks UnknownLabel)
-        (puts_if (all_alike ls r labels) (leaves (I32 ∷ listed r)) (lacks TypeMismatch) tt tt) tt
+    (puts_if (all_alike ls r labels) (leaves (I32 ∷ listed r)) (lacks TypeMismatch) tt tt) tt
 
 puts_gets : (o : Option ValType) → PutsOne (gets o)
 puts_gets None = tt

@@ -30,5 +30,5 @@ returns-in-Err-Invalid c =
       verdict_of (module_of c.args.module.now) (map func_of c.args.module.now.funcs.items) c.args.index f
           (func_of c.index.result.now) c.of-context.result (code c.deref.result.now) (fault c.number.result c.in-Err-Invalid.at) g e
           (c.of-context.ensures (func_of c.index.result.now) g) (ap code c.deref.ensures.value) (rw c.in-Err-Invalid.field-0-is at c.in-Err-Invalid.ensures
-              ∙ ap (λ n. fault n c.in-Err-Invalid.at) (sym c.number.ensures)),
+          ∙ ap (λ n. fault n c.in-Err-Invalid.at) (sym c.number.ensures)),
     )
