@@ -1,14 +1,9 @@
 -- Which instruction that holds no other has an opcode and what follows it.
-use Rattle.std.proofs.Common.{lit≤, ◌≡◌, ℕ, ◌<◌, ◌≤◌, Option, Some, refl, ap, sym, ◌∙◌, arith, cond, nat_eq}
+use Rattle.std.proofs.Common.{◌≡◌, ℕ, ◌<◌, ◌≤◌, Option, Some, refl, ap, sym, ◌∙◌, arith, cond, nat_eq}
 use Rattle.wa_types.specs.declared.instrs.Instr.{Instr}
 use Rattle.wa_types.specs.declared.instrs.Instr.TheVariants.{Num, Load, Store}
 use Rattle.wa_types.specs.declared.values.Value.TheVariants.{I32 as value_32, I64 as value_64}
 use Rattle.wa_types.specs.declared.operators.NumOp.{NumOp}
-use Rattle.wa_types.specs.declared.operators.NumOp.TheVariants.{I32Eqz, I32Eq, I32Ne, I32LtS, I32LtU, I32GtS, I32GtU, I32LeS, I32LeU, I32GeS, I32GeU, I64Eqz, I64Eq, I64Ne, I64LtS, I64LtU}
-use Rattle.wa_types.specs.declared.operators.NumOp.TheVariants.{I64GtS, I64GtU, I64LeS, I64LeU, I64GeS, I64GeU, I32Clz, I32Ctz, I32Popcnt, I32Add, I32Sub, I32Mul, I32DivS, I32DivU, I32RemS}
-use Rattle.wa_types.specs.declared.operators.NumOp.TheVariants.{I32RemU, I32And, I32Or, I32Xor, I32Shl, I32ShrS, I32ShrU, I32Rotl, I32Rotr, I64Clz, I64Ctz, I64Popcnt, I64Add, I64Sub, I64Mul}
-use Rattle.wa_types.specs.declared.operators.NumOp.TheVariants.{I64DivS, I64DivU, I64RemS, I64RemU, I64And, I64Or, I64Xor, I64Shl, I64ShrS, I64ShrU, I64Rotl, I64Rotr, I32WrapI64}
-use Rattle.wa_types.specs.declared.operators.NumOp.TheVariants.{I64ExtendI32S, I64ExtendI32U}
 use Rattle.wa_types.specs.Operators.{opcode_of}
 use Rattle.wa_types.specs.Binary.{nothing, zero_byte, index, access}
 use Rattle.wa_types.specs.Syntax.{nop, drop, select, const, num, global_get, global_set, load, store, memory_size, memory_grow, Plain, basic, local_get, local_set, local_tee, br, br_if}
@@ -16,71 +11,9 @@ use Rattle.wa_types.specs.Syntax.{br_table, return, unreachable, call, call_indi
 use Rattle.wa_types.specs.View.{in_front}
 use Rattle.wa_types.specs.Reading.{HasKind}
 use Rattle.wa_types.specs.Opcodes.{plain_immediates, plain_opcode}
+use Rattle.wa_types.proofs.OperatorLemmas.{operator_low}
 use Rattle.file_laws.proofs.CodeWriting.{load_range, store_range}
 use Rattle.wasm_build.specs.BuildsCode.{code_of_one, NamesPlain}
-
-num_low : (op : NumOp) → 0x45 ≤ opcode_of op
-num_low I32Eqz = lit≤ tt
-num_low I32Eq = lit≤ tt
-num_low I32Ne = lit≤ tt
-num_low I32LtS = lit≤ tt
-num_low I32LtU = lit≤ tt
-num_low I32GtS = lit≤ tt
-num_low I32GtU = lit≤ tt
-num_low I32LeS = lit≤ tt
-num_low I32LeU = lit≤ tt
-num_low I32GeS = lit≤ tt
-num_low I32GeU = lit≤ tt
-num_low I64Eqz = lit≤ tt
-num_low I64Eq = lit≤ tt
-num_low I64Ne = lit≤ tt
-num_low I64LtS = lit≤ tt
-num_low I64LtU = lit≤ tt
-num_low I64GtS = lit≤ tt
-num_low I64GtU = lit≤ tt
-num_low I64LeS = lit≤ tt
-num_low I64LeU = lit≤ tt
-num_low I64GeS = lit≤ tt
-num_low I64GeU = lit≤ tt
-num_low I32Clz = lit≤ tt
-num_low I32Ctz = lit≤ tt
-num_low I32Popcnt = lit≤ tt
-num_low I32Add = lit≤ tt
-num_low I32Sub = lit≤ tt
-num_low I32Mul = lit≤ tt
-num_low I32DivS = lit≤ tt
-num_low I32DivU = lit≤ tt
-num_low I32RemS = lit≤ tt
-num_low I32RemU = lit≤ tt
-num_low I32And = lit≤ tt
-num_low I32Or = lit≤ tt
-num_low I32Xor = lit≤ tt
-num_low I32Shl = lit≤ tt
-num_low I32ShrS = lit≤ tt
-num_low I32ShrU = lit≤ tt
-num_low I32Rotl = lit≤ tt
-num_low I32Rotr = lit≤ tt
-num_low I64Clz = lit≤ tt
-num_low I64Ctz = lit≤ tt
-num_low I64Popcnt = lit≤ tt
-num_low I64Add = lit≤ tt
-num_low I64Sub = lit≤ tt
-num_low I64Mul = lit≤ tt
-num_low I64DivS = lit≤ tt
-num_low I64DivU = lit≤ tt
-num_low I64RemS = lit≤ tt
-num_low I64RemU = lit≤ tt
-num_low I64And = lit≤ tt
-num_low I64Or = lit≤ tt
-num_low I64Xor = lit≤ tt
-num_low I64Shl = lit≤ tt
-num_low I64ShrS = lit≤ tt
-num_low I64ShrU = lit≤ tt
-num_low I64Rotl = lit≤ tt
-num_low I64Rotr = lit≤ tt
-num_low I32WrapI64 = lit≤ tt
-num_low I64ExtendI32S = lit≤ tt
-num_low I64ExtendI32U = lit≤ tt
 
 -- the instructions that an index follows
 abbrev pub index_at : ℕ → ℕ → Plain
@@ -130,7 +63,7 @@ simple_again (basic drop) h e = refl
 simple_again (basic select) h e = refl
 simple_again (basic (const (value_32 n))) h e = absurd (cc)
 simple_again (basic (const (value_64 n))) h e = absurd (cc)
-simple_again (basic (num op)) h e = absurd (omega (arith, h, num_low op))
+simple_again (basic (num op)) h e = absurd (omega (arith, h, operator_low op))
 simple_again (basic (global_get y)) h e = absurd (cc)
 simple_again (basic (global_set y)) h e = absurd (cc)
 simple_again (basic (load op align offset)) h e = absurd (cc)

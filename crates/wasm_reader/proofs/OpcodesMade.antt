@@ -5,11 +5,7 @@ use Rattle.std.proofs.Math.Nat.{eq-or-lt_of_le}
 use Rattle.std.proofs.lemmas.Bool.{ltb-true, ltb-false, ne_eqb}
 use Rattle.wa_types.specs.declared.values.Value.TheVariants.{I32 as value_32, I64 as value_64}
 use Rattle.wa_types.specs.declared.operators.NumOp.{NumOp}
-use Rattle.wa_types.specs.declared.operators.NumOp.TheVariants.{I32Eqz, I32Eq, I32Ne, I32LtS, I32LtU, I32GtS, I32GtU, I32LeS, I32LeU, I32GeS, I32GeU, I64Eqz, I64Eq, I64Ne, I64LtS, I64LtU}
-use Rattle.wa_types.specs.declared.operators.NumOp.TheVariants.{I64GtS, I64GtU, I64LeS, I64LeU, I64GeS, I64GeU, I32Clz, I32Ctz, I32Popcnt, I32Add, I32Sub, I32Mul, I32DivS, I32DivU, I32RemS}
-use Rattle.wa_types.specs.declared.operators.NumOp.TheVariants.{I32RemU, I32And, I32Or, I32Xor, I32Shl, I32ShrS, I32ShrU, I32Rotl, I32Rotr, I64Clz, I64Ctz, I64Popcnt, I64Add, I64Sub, I64Mul}
-use Rattle.wa_types.specs.declared.operators.NumOp.TheVariants.{I64DivS, I64DivU, I64RemS, I64RemU, I64And, I64Or, I64Xor, I64Shl, I64ShrS, I64ShrU, I64Rotl, I64Rotr, I32WrapI64}
-use Rattle.wa_types.specs.declared.operators.NumOp.TheVariants.{I64ExtendI32S, I64ExtendI32U}
+use Rattle.wa_types.specs.declared.operators.NumOp.TheVariants.{I32Eqz}
 use Rattle.wa_types.specs.Operators.{opcode_of}
 use Rattle.wa_types.specs.Opcodes.{Form, no_immediate, a_zero, an_index, an_index_and_zero, an_access, some_labels, a_constant, a_float, follows, form, is_float_op, is_load_op, is_store_op}
 use Rattle.wa_types.specs.Binary.{Placed, Immediates, nothing, zero_byte, index, index_and_zero, access, labels, constant, float}
@@ -17,6 +13,7 @@ use Rattle.wa_types.specs.Syntax.{nop, drop, select, const, num, global_get, glo
 use Rattle.wa_types.specs.Syntax.{br_table, return, unreachable, call, call_indirect}
 use Rattle.wa_types.specs.Reading.{HasKind, IsPlain}
 use Rattle.wa_types.specs.Opcodes.{plain_immediates, plain_opcode}
+use Rattle.wa_types.proofs.OperatorLemmas.{operators}
 use Rattle.file_laws.proofs.CodeWriting.{within_above}
 
 -- a test that all numbers below one pass
@@ -75,13 +72,6 @@ low op f e = elim (by_test (nat_lt op 192)) [
   | inl less ↦ ltb-true op 192 less
   | inr past ↦ absurd (let g : None ≡ Some f = sym (none_follows op (ltb-false op 192 past)) ∙ e in cc)
 ]
-
--- all operators
-operators : List NumOp
-operators = I32Eqz ∷ I32Eq ∷ I32Ne ∷ I32LtS ∷ I32LtU ∷ I32GtS ∷ I32GtU ∷ I32LeS ∷ I32LeU ∷ I32GeS ∷ I32GeU ∷ I64Eqz ∷ I64Eq ∷ I64Ne ∷ I64LtS ∷ I64LtU ∷ I64GtS ∷ I64GtU ∷ I64LeS ∷ I64LeU
-    ∷ I64GeS ∷ I64GeU ∷ I32Clz ∷ I32Ctz ∷ I32Popcnt ∷ I32Add ∷ I32Sub ∷ I32Mul ∷ I32DivS ∷ I32DivU ∷ I32RemS ∷ I32RemU ∷ I32And ∷ I32Or ∷ I32Xor ∷ I32Shl ∷ I32ShrS ∷ I32ShrU ∷ I32Rotl
-    ∷ I32Rotr ∷ I64Clz ∷ I64Ctz ∷ I64Popcnt ∷ I64Add ∷ I64Sub ∷ I64Mul ∷ I64DivS ∷ I64DivU ∷ I64RemS ∷ I64RemU ∷ I64And ∷ I64Or ∷ I64Xor ∷ I64Shl ∷ I64ShrS ∷ I64ShrU ∷ I64Rotl ∷ I64Rotr
-    ∷ I32WrapI64 ∷ I64ExtendI32S ∷ I64ExtendI32U ∷ []
 
 -- the one of an opcode
 search_num : List NumOp → ℕ → NumOp
