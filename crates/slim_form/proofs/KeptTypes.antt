@@ -6,7 +6,7 @@ use Rattle.wa_types.specs.declared.values.ValType.TheVariants.{I32}
 use Rattle.wa_types.specs.Accesses.{AccessRow, load_row, store_row}
 use Rattle.wa_types.specs.Syntax.{Basic, nop, drop, select, const, num, global_get, global_set, load, store, memory_size, memory_grow, br, br_if, br_table, return, call, call_indirect}
 use Rattle.wa_types.specs.Syntax.{a_block, a_loop, Code, plain, nest, branch}
-use Rattle.wa_types.specs.declared.rules.Rule.TheVariants.{UnknownLabel, TypeMismatch, Alignment, ConstantGlobal}
+use Rattle.wa_types.specs.declared.rules.Rule.TheVariants.{UnknownLabel, StackTypes, Alignment, ConstantGlobal}
 use Rattle.wa_types.specs.Typing.{GlobalType, Around, Sig, moves, leaves, drops, selects, lacks, late, gets_global, sets_global, loads, stores, with_memory, basic_sig, gets, sets, tees}
 use Rattle.wa_types.specs.Typing.{jump, jumps, all_there, all_alike, listed, Takes, Types}
 use Rattle.wa_model.specs.Store.{takes, gives}
@@ -170,8 +170,8 @@ jumps_any : (ls : List (Option ValType)) (es : List ℕ) (o : Option (Option Val
 jumps_any ls es None ins a b h = absurd h
 jumps_any ls es (Some r) ins a b h = by (all_there ls es) (all_alike ls r es) h
   where
-    by : (p q : Bool) → Takes (if p then (if q then leaves (I32 ∷ listed r) else lacks TypeMismatch) else lacks UnknownLabel) ins a
-        → Takes (if p then (if q then leaves (I32 ∷ listed r) else lacks TypeMismatch) else lacks UnknownLabel) ins b
+    by : (p q : Bool) → Takes (if p then (if q then leaves (I32 ∷ listed r) else lacks StackTypes) else lacks UnknownLabel) ins a
+        → Takes (if p then (if q then leaves (I32 ∷ listed r) else lacks StackTypes) else lacks UnknownLabel) ins b
     by true true h = h
     by true false h = absurd h
     by false q h = absurd h

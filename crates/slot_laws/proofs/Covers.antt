@@ -9,7 +9,7 @@ use Rattle.wa_types.specs.Syntax.{Basic, nop, drop as drop_operand, select, cons
 use Rattle.wa_types.specs.Syntax.{local_tee, br, br_if, br_table, return, unreachable, call, call_indirect, Code, done, plain, nest, branch, FuncType}
 use Rattle.wa_types.specs.Pruned.{is_last}
 use Rattle.wa_types.specs.Accesses.{AccessRow, load_row, store_row}
-use Rattle.wa_types.specs.declared.rules.Rule.TheVariants.{UnknownLabel, TypeMismatch, Alignment, ConstantGlobal}
+use Rattle.wa_types.specs.declared.rules.Rule.TheVariants.{UnknownLabel, StackTypes, Alignment, ConstantGlobal}
 use Rattle.wa_types.specs.Typing.{GlobalType, Around, Sig, moves, leaves, drops, selects, lacks, late, listed, sig, basic_sig, all_there, all_alike, jump, may_jump, jumps, calls, calls_at}
 use Rattle.wa_types.specs.Typing.{gets, sets, tees, gets_global, sets_global, accesses, loads, stores, with_memory, label, Types}
 use Rattle.wa_types.specs.Points.{after, unless_last, points}
@@ -131,8 +131,8 @@ puts_jump (Some r) = tt
 puts_jumps : (ls : List (Option ValType)) (labels : List ℕ) (o : Option (Option ValType)) → PutsOne (jumps ls labels o)
 puts_jumps ls labels None = tt
 puts_jumps ls labels (Some r) =
-    puts_if (all_there ls labels) (if all_alike ls r labels then leaves (I32 ∷ listed r) else lacks TypeMismatch) (lacks UnknownLabel)
-    (puts_if (all_alike ls r labels) (leaves (I32 ∷ listed r)) (lacks TypeMismatch) tt tt) tt
+    puts_if (all_there ls labels) (if all_alike ls r labels then leaves (I32 ∷ listed r) else lacks StackTypes) (lacks UnknownLabel)
+    (puts_if (all_alike ls r labels) (leaves (I32 ∷ listed r)) (lacks StackTypes) tt tt) tt
 
 puts_gets : (o : Option ValType) → PutsOne (gets o)
 puts_gets None = tt

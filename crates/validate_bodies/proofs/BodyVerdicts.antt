@@ -1,6 +1,6 @@
 -- What is computed of a body is its typing and its first fault.
 use Rattle.std.proofs.Common.{arith, ◌≡◌, ℕ, zero, suc, ◌+◌, ◌-◌, ◌≤◌, inl, inr, ◌++◌, List, [], ◌∷◌, Option, Bool, true, false, if◌then◌else◌, refl, ap, sym, ◌∙◌, subst}
-use Rattle.wa_types.specs.declared.rules.Rule.TheVariants.{TypeMismatch}
+use Rattle.wa_types.specs.declared.rules.Rule.TheVariants.{StackTypes}
 use Rattle.wa_types.specs.declared.values.ValType.{ValType}
 use Rattle.wa_types.specs.declared.values.ValType.TheVariants.{I32}
 use Rattle.wa_types.specs.Rules.{number}
@@ -46,7 +46,7 @@ fits_ended (t ∷ ts) (o ∷ os) free h = rw (is_may o t h.0) (fits_ended ts os 
 -- A fault at the place j of the code, for the operands that fit.
 pub record FaultAt (c : Around) (ls : List (Option ValType)) (code : Code) (outs : List ValType) (os : List (Option ValType)) (free : Bool) (rule j : ℕ) : Type 0 where
   pub inside : j ≤ size code
-  pub end : size code ≤ j → rule ≤ number TypeMismatch
+  pub end : size code ≤ j → rule ≤ number StackTypes
   pub before : (ins : List ValType) × Fits os free ins × UpTo rule c ls code outs ins (suc j)
   pub fails : (ins : List ValType) → Fits os free ins → UpTo (suc rule) c ls code outs ins (suc j) → ⊥
 
@@ -55,7 +55,7 @@ Right c ls code outs os free k fine = (ins : List ValType) × Fits os free ins �
 Right c ls code outs os free k (fault r at) = (j : ℕ) × (at ≡ k + j) × FaultAt c ls code outs os free r j
 
 module _ (c : Around) (ls : List (Option ValType)) (outs : List ValType) (os : List (Option ValType)) (free : Bool) (k : ℕ) where
-  right_done : (b : Bool) → b ≡ ended outs os free → Right c ls done outs os free k (if b then fine else fault (number TypeMismatch) k)
+  right_done : (b : Bool) → b ≡ ended outs os free → Right c ls done outs os free k (if b then fine else fault (number StackTypes) k)
   unfolding UpTo Types size
   right_done true e = (outs, ended_fits outs os free (sym e), refl)
   right_done false e = (
@@ -152,13 +152,13 @@ module _ (c : Around) (ls : List (Option ValType)) (outs : List ValType) (os : L
 
 -- the else arm, while the then arm isn't over
 module _ (q : ℕ) (c : Around) (ls : List (Option ValType)) (outs : List ValType) where
-  at_most_one : (n : ℕ) → n ≤ 1 → (1 ≤ n → q ≤ number TypeMismatch) → UpTo q c ls done outs [] n
+  at_most_one : (n : ℕ) → n ≤ 1 → (1 ≤ n → q ≤ number StackTypes) → UpTo q c ls done outs [] n
   unfolding UpTo
   at_most_one zero h l = tt
   at_most_one (suc zero) h l = inl (refl, l (omega arith))
   at_most_one (suc (suc n)) h l = absurd (omega arith)
 
-  else_waits : (b : Code) (n j : ℕ) → j ≤ n → (n ≤ j → q ≤ number TypeMismatch) → UpTo q c ls b outs [] (suc j - (n + mid b))
+  else_waits : (b : Code) (n j : ℕ) → j ≤ n → (n ≤ j → q ≤ number StackTypes) → UpTo q c ls b outs [] (suc j - (n + mid b))
   else_waits done n j h l = at_most_one (suc j - (n + 0)) (omega arith) (λ m. l (omega arith))
   else_waits (plain p rest) n j h l = at_upto q c ls (plain p rest) outs [] 0 (suc j - (n + 1)) (omega arith) (upto_zero q c ls (plain p rest) outs [])
   else_waits (nest s r body rest) n j h l = at_upto q c ls (nest s r body rest) outs [] 0 (suc j - (n + 1)) (omega arith) (upto_zero q c ls (nest s r body rest) outs [])

@@ -1,7 +1,7 @@
 -- A stack of known and unknown types stands for all the operands that fit it, before and behind an instruction.
 use Rattle.std.proofs.Common.{arith, ◌≡◌, suc, ◌<◌, inl, inr, ◌++◌, List, [], ◌∷◌, Option, Some, None, Bool, true, false, if◌then◌else◌, refl, ap, sym, ◌∙◌, subst}
 use Rattle.wa_types.specs.declared.rules.Rule.{Rule}
-use Rattle.wa_types.specs.declared.rules.Rule.TheVariants.{TypeMismatch}
+use Rattle.wa_types.specs.declared.rules.Rule.TheVariants.{StackTypes}
 use Rattle.wa_types.specs.declared.values.ValType.{ValType}
 use Rattle.wa_types.specs.declared.values.ValType.TheVariants.{I32, I64}
 use Rattle.wa_types.specs.Rules.{number}
@@ -130,7 +130,7 @@ module _ (os : List (Option ValType)) (free : Bool) (ps : List ValType) where
   exact_leaves (Some os') to of =
       (λ outs h. let k = some_fit os' free in (ps ++ k.0, to k.0 k.1, (k.0, refl)), λ ins outs h w. tt)
 
-  exact_late : (r : Rule) (rs : List ValType) (o : Option (List (Option ValType))) → number TypeMismatch < number r → ((below : List ValType) → Left o free below → Fits os free (ps ++ below))
+  exact_late : (r : Rule) (rs : List ValType) (o : Option (List (Option ValType))) → number StackTypes < number r → ((below : List ValType) → Left o free below → Fits os free (ps ++ below))
       → ((below : List ValType) → Fits os free (ps ++ below) → Left o free below) → Exact (late r ps rs) os free (too_late r o)
   exact_late r rs None big to of =
       let k = some_fit os free in
@@ -153,12 +153,12 @@ abbrev Twice : List (Option ValType) → Bool → StackAfter → Type 0
 Twice os free (goes os' free') =
     ((outs : List ValType) → Fits os' free' outs → (t : ValType) × (below : List ValType) × (outs ≡ t ∷ below) × Fits os free (t ∷ t ∷ below))
     × ((t : ValType) (below : List ValType) → Fits os free (t ∷ t ∷ below) → Fits os' free' (t ∷ below))
-Twice os free (stops r) = (r ≡ TypeMismatch) × ((t : ValType) (below : List ValType) → Fits os free (t ∷ t ∷ below) → ⊥)
+Twice os free (stops r) = (r ≡ StackTypes) × ((t : ValType) (below : List ValType) → Fits os free (t ∷ t ∷ below) → ⊥)
 
 is_along : (o : Option ValType) (t u : ValType) → t ≡ u → Is o t → Is o u
 is_along o t u e h = subst (Is o) e h
 
-twice_known : (t u : ValType) (os : List (Option ValType)) (free : Bool) (b : Bool) → b ≡ same_type t u → Twice (Some t ∷ Some u ∷ os) free (if b then goes (Some t ∷ os) free else stops TypeMismatch)
+twice_known : (t u : ValType) (os : List (Option ValType)) (free : Bool) (b : Bool) → b ≡ same_type t u → Twice (Some t ∷ Some u ∷ os) free (if b then goes (Some t ∷ os) free else stops StackTypes)
 unfolding Fits
 twice_known t u os free true e =
     (λ outs h. some_top outs h, λ v below h. (h.0, h.1.1))
@@ -208,7 +208,7 @@ exact_selected os free (Some os') to of = by_next (two os' free) (twice os' free
     )
     by_next (stops r) w =
         let k = some_fit os free in
-        let is : number r ≡ number TypeMismatch = ap number w.0 in
+        let is : number r ≡ number StackTypes = ap number w.0 in
         ((k.0, k.1, inl (omega (arith, is))), λ ins h m. elim m [ inl l ↦ absurd (omega (arith, is, l)) | inr v ↦ w.1 v.1.0 v.1.1 (of _ (at_fit os free ins _ v.1.2 h)) ])
 
 pub exact : (s : Sig) (os : List (Option ValType)) (free : Bool) → Lawful s → Exact s os free (next s os free)

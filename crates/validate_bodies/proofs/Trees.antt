@@ -5,7 +5,7 @@ use Rattle.std.proofs.lemmas.List.{reverse-append}
 use Rattle.std.specs.declared.vec.Vec.{Vec}
 use Rattle.std.specs.declared.alloc.Global.{Global}
 use Rattle.wa_types.specs.declared.rules.Rule.{Rule}
-use Rattle.wa_types.specs.declared.rules.Rule.TheVariants.{TypeMismatch}
+use Rattle.wa_types.specs.declared.rules.Rule.TheVariants.{StackTypes}
 use Rattle.wa_types.specs.Rules.{number}
 use Rattle.wa_types.specs.declared.values.ValType.{ValType}
 use Rattle.wa_types.specs.declared.values.ValType.TheVariants.{I32}
@@ -28,7 +28,7 @@ use Rattle.validate_bodies.specs.Judging.{Judged, Blames}
 
 -- what the validator computes
 pub checks_done : (c : Around) (ls : List (Option ValType)) (outs : List ValType) (os : List (Option ValType)) (free : Bool) (k : ℕ)
-    → checks c ls done outs os free k ≡ (if ended outs os free then fine else fault (number TypeMismatch) k)
+    → checks c ls done outs os free k ≡ (if ended outs os free then fine else fault (number StackTypes) k)
 unfolding checks
 checks_done c ls outs os free k = refl
 
@@ -69,7 +69,7 @@ module _ (c : Around) (ls : List (Option ValType)) (outs : List ValType) (os : L
   branched : (r : Option ValType) (v w : Vec Instr Global) (xs ys : List Instr) → x ≡ If r v w → xs ≡ v.items → ys ≡ w.items → in_front x rest ≡ branch r (code xs) (code ys) rest
   branched r v w xs ys e f g = ap (λ y. in_front y rest) e ∙ in_if r v w rest ∙ ap (λ y. branch r (code y) (code w.items) rest) (sym f) ∙ ap (λ y. branch r (code xs) (code y) rest) (sym g)
 
-  pub if_fault : (r : Option ValType) (v w : Vec Instr Global) → x ≡ If r v w → pop1 I32 os free ≡ None → checks c ls (in_front x rest) outs os free k ≡ fault (number TypeMismatch) k
+  pub if_fault : (r : Option ValType) (v w : Vec Instr Global) → x ≡ If r v w → pop1 I32 os free ≡ None → checks c ls (in_front x rest) outs os free k ≡ fault (number StackTypes) k
   unfolding checks
   if_fault r v w e p = ap (λ z. checks c ls z outs os free k) (branched r v w v.items w.items e refl refl) ∙ rw p refl
 
@@ -155,7 +155,7 @@ module _ (c : Around) (ls ls' : List (Option ValType)) (body : List Instr) (i : 
   pub body_on : (x : Instr) → i < length body → x ≡ get_or body i x → checks c ls (code body) outs [] false k0 ≡ checks c ls' (in_front x (code (drop (i + 1) body))) outs os free k
   body_on x h e = ap (λ z. checks c z (code body) outs [] false k0) (sym el) ∙ sym inv ∙ ap (λ z. checks c ls' z outs os free k) (code_step body i x h e)
 
-  pub body_end : length body ≤ i → checks c ls (code body) outs [] false k0 ≡ (if ended outs os free then fine else fault (number TypeMismatch) k)
+  pub body_end : length body ≤ i → checks c ls (code body) outs [] false k0 ≡ (if ended outs os free then fine else fault (number StackTypes) k)
   body_end h = ap (λ z. checks c z (code body) outs [] false k0) (sym el) ∙ sym inv ∙ ap (λ z. checks c ls' z outs os free k) (code_empty body i h) ∙ checks_done c ls' outs os free k
 
 pub popped_none : (b : Bool) (x : Option (List (Option ValType))) (os : List (Option ValType)) → x ≡ popped b os → b ≡ false → x ≡ None

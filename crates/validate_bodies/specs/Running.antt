@@ -1,7 +1,7 @@
 -- The verdict on a body, computed from front to back over a stack of types, some of them unknown.
 use Rattle.std.specs.Prelude.{ℕ, suc, ◌+◌, ◌++◌, List, [], ◌∷◌, Option, Some, None, Bool, true, false, if◌then◌else◌}
 use Rattle.wa_types.specs.declared.rules.Rule.{Rule}
-use Rattle.wa_types.specs.declared.rules.Rule.TheVariants.{TypeMismatch}
+use Rattle.wa_types.specs.declared.rules.Rule.TheVariants.{StackTypes}
 use Rattle.wa_types.specs.declared.values.ValType.{ValType}
 use Rattle.wa_types.specs.declared.values.ValType.TheVariants.{I32}
 use Rattle.wa_types.specs.Rules.{number}
@@ -44,22 +44,22 @@ pub data StackAfter : Type 0 where
 
 -- results go on what is left; where an operand is wanting, the rule on operands fails
 abbrev pub pushed : List ValType → Bool → Option (List (Option ValType)) → StackAfter
-pushed rs free None = stops TypeMismatch
+pushed rs free None = stops StackTypes
 pushed rs free (Some os) = goes (knows rs ++ os) free
 
 -- control never goes on: no operand is left, and any may be there
 abbrev pub gone : Option (List (Option ValType)) → StackAfter
-gone None = stops TypeMismatch
+gone None = stops StackTypes
 gone (Some os) = goes [] true
 
 -- a rule above that on operands fails, where they are there
 abbrev pub too_late : Rule → Option (List (Option ValType)) → StackAfter
-too_late r None = stops TypeMismatch
+too_late r None = stops StackTypes
 too_late r (Some os) = stops r
 
 -- one operand of any type is taken
 abbrev pub dropped : List (Option ValType) → Bool → StackAfter
-dropped [] free = if free then goes [] true else stops TypeMismatch
+dropped [] free = if free then goes [] true else stops StackTypes
 dropped (o ∷ os) free = goes os free
 
 -- the better known of two that are alike
@@ -70,13 +70,13 @@ joined (Some t) (Some u) bad go = if same_type t u then go (Some t) else bad
 
 -- two operands of one type are taken, and one of it is given
 abbrev pub two : List (Option ValType) → Bool → StackAfter
-two [] free = if free then goes (None ∷ []) free else stops TypeMismatch
-two (o ∷ []) free = if free then goes (o ∷ []) free else stops TypeMismatch
-two (o ∷ p ∷ os) free = joined o p (stops TypeMismatch) (λ q. goes (q ∷ os) free)
+two [] free = if free then goes (None ∷ []) free else stops StackTypes
+two (o ∷ []) free = if free then goes (o ∷ []) free else stops StackTypes
+two (o ∷ p ∷ os) free = joined o p (stops StackTypes) (λ q. goes (q ∷ os) free)
 
 -- what is left behind the number of a select
 abbrev pub selected : Bool → Option (List (Option ValType)) → StackAfter
-selected free None = stops TypeMismatch
+selected free None = stops StackTypes
 selected free (Some os) = two os free
 
 -- what an instruction makes of the operands (3.3)
@@ -112,7 +112,7 @@ ended (t ∷ ts) (o ∷ os) free = if may_be o t then ended ts os free else fals
 
 -- the verdict on code, whose first instruction has number k (3.3.5, 3.3.6)
 unfoldable pub checks : Around → List (Option ValType) → Code → List ValType → List (Option ValType) → Bool → ℕ → Verdict
-checks c ls done outs os free k = if ended outs os free then fine else fault (number TypeMismatch) k
+checks c ls done outs os free k = if ended outs os free then fine else fault (number StackTypes) k
 checks c ls (plain p rest) outs os free k = onward (next (sig c ls p) os free) k (λ os' free'. checks c ls rest outs os' free' (suc k))
 checks c ls (nest s r body rest) outs os free k =
     both (checks c (label s r ∷ ls) body (listed r) [] false (suc k)) (checks c ls rest outs (knows (listed r) ++ os) free (suc k + (size body + 1)))

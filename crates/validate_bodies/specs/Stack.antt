@@ -1,7 +1,7 @@
 -- What the validator's stack of operand types stands for.
 use Rattle.std.specs.Prelude.{◌≡◌, ℕ, ◌≤◌, List, reverse, length, take, drop, Option, Some, None, Bool, if◌then◌else◌}
 use Rattle.wa_types.specs.declared.rules.Rule.{Rule}
-use Rattle.wa_types.specs.declared.rules.Rule.TheVariants.{TypeMismatch}
+use Rattle.wa_types.specs.declared.rules.Rule.TheVariants.{StackTypes}
 use Rattle.wa_types.specs.declared.values.ValType.{ValType}
 use Rattle.validate_bodies.specs.declared.stack.Operands.{Operands}
 use Rattle.validate_bodies.specs.Running.{StackAfter, goes, stops}
@@ -30,7 +30,7 @@ popped b os = if b then Some os else None
 
 -- what comes of an instruction whose operand was there, else the rule on operands fails
 abbrev pub passed : Bool → List (Option ValType) → Bool → StackAfter
-passed b os free = if b then goes os free else stops TypeMismatch
+passed b os free = if b then goes os free else stops StackTypes
 
 -- what became of the operands: the next ones, or a rule that fails
 abbrev pub Applied : StackAfter → Option Rule → List (Option ValType) → Bool → Type 0

@@ -90,7 +90,7 @@ fn check_body(
         check_instr(context, labels, o, instr, at)?;
     }
     if !ends(o, gives) {
-        return Err(Flaw::Breaks(Rule::TypeMismatch));
+        return Err(Flaw::Breaks(Rule::StackTypes));
     }
     o.base = base;
     o.free = free;
@@ -136,7 +136,7 @@ fn check_instr(
             else_arm,
         } => {
             if !pop(o, ValType::I32) {
-                return Err(Flaw::Breaks(Rule::TypeMismatch));
+                return Err(Flaw::Breaks(Rule::StackTypes));
             }
             *at += 1;
             check_body(context, labels, o, then_arm, *result, *result, at)?;

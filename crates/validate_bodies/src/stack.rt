@@ -174,14 +174,14 @@ pub(crate) fn apply(o: &mut Operands, s: Asks) -> Result<Option<Rule>, AllocErro
     match s {
         Asks::Moves { test, ins, outs } => {
             if !take_off(o, test, ins) {
-                return Ok(Some(Rule::TypeMismatch));
+                return Ok(Some(Rule::StackTypes));
             }
             push_all(o, outs)?;
             Ok(None)
         }
         Asks::Leaves { test, ins } => {
             if !take_off(o, test, ins) {
-                return Ok(Some(Rule::TypeMismatch));
+                return Ok(Some(Rule::StackTypes));
             }
             o.types.truncate(o.base);
             o.free = true;
@@ -189,23 +189,23 @@ pub(crate) fn apply(o: &mut Operands, s: Asks) -> Result<Option<Rule>, AllocErro
         }
         Asks::Drops => {
             if !drop_any(o) {
-                return Ok(Some(Rule::TypeMismatch));
+                return Ok(Some(Rule::StackTypes));
             }
             Ok(None)
         }
         Asks::Selects => {
             if !pop(o, ValType::I32) {
-                return Ok(Some(Rule::TypeMismatch));
+                return Ok(Some(Rule::StackTypes));
             }
             if !one_of_two(o)? {
-                return Ok(Some(Rule::TypeMismatch));
+                return Ok(Some(Rule::StackTypes));
             }
             Ok(None)
         }
         Asks::Lacks(rule) => Ok(Some(rule)),
         Asks::Late { rule, ins, .. } => {
             if !take_off(o, false, ins) {
-                return Ok(Some(Rule::TypeMismatch));
+                return Ok(Some(Rule::StackTypes));
             }
             Ok(Some(rule))
         }

@@ -107,7 +107,7 @@ fn jumping(labels: &[Option<ValType>], table: &[u32], last: u32) -> Asks<'static
         if !all_there(labels, table) {
             return Asks::Lacks(Rule::UnknownLabel);
         }
-        return Asks::Lacks(Rule::TypeMismatch);
+        return Asks::Lacks(Rule::StackTypes);
     }
     Asks::Leaves {
         test: true,
@@ -258,7 +258,7 @@ fn loading(memory: bool, op: u8, align: u32) -> Asks<'static>
         return Asks::Lacks(Rule::UnknownMemory);
     }
     let Some(access) = load_access(op) else {
-        return Asks::Lacks(Rule::TypeMismatch);
+        return Asks::Lacks(Rule::StackTypes);
     };
     let ins = listing(Some(ValType::I32));
     let outs = listing(Some(access.ty));
@@ -294,7 +294,7 @@ fn storing(memory: bool, op: u8, align: u32) -> Asks<'static>
         return Asks::Lacks(Rule::UnknownMemory);
     }
     let Some(access) = store_access(op) else {
-        return Asks::Lacks(Rule::TypeMismatch);
+        return Asks::Lacks(Rule::StackTypes);
     };
     let ins = address_and(access.ty);
     let outs = listing(None);

@@ -7,14 +7,14 @@ use Rattle.wa_types.specs.Syntax.{Basic, nop, drop, select, const, num, global_g
 use Rattle.wa_types.specs.Syntax.{br_if, br_table, return, unreachable, call, call_indirect, FuncType}
 use Rattle.wa_types.specs.Pruned.{is_last}
 use Rattle.wa_types.specs.Rules.{number, above_all}
-use Rattle.wa_types.specs.declared.rules.Rule.TheVariants.{UnknownLabel, TypeMismatch, Alignment, ConstantGlobal}
+use Rattle.wa_types.specs.declared.rules.Rule.TheVariants.{UnknownLabel, StackTypes, Alignment, ConstantGlobal}
 use Rattle.wa_types.specs.Typing.{GlobalType, Around, Sig, moves, leaves, lacks, late, listed, sig, basic_sig, jump, may_jump, jumps, all_there, all_alike, calls, calls_at, gets, sets, tees}
 use Rattle.wa_types.specs.Typing.{gets_global, sets_global, accesses, loads, stores, with_memory, Takes}
 
 -- a rule that operands can't mend is at most that on operands, and one that is asked behind them is above it
 abbrev pub Lawful : Sig → Type 0
-Lawful (lacks r) = number r ≤ number TypeMismatch
-Lawful (late r ps rs) = (number TypeMismatch < number r) × (number r < above_all)
+Lawful (lacks r) = number r ≤ number StackTypes
+Lawful (late r ps rs) = (number StackTypes < number r) × (number r < above_all)
 Lawful _ = Unit {0}
 
 lawful_if : (b : Bool) (s t : Sig) → Lawful s → Lawful t → Lawful (if b then s else t)
@@ -33,9 +33,9 @@ lawful_jumps : (ls : List (Option ValType)) (labels : List ℕ) (o : Option (Opt
 lawful_jumps ls labels None = omega arith
 lawful_jumps ls labels (Some r) =
     let label_lawful : Lawful (lacks UnknownLabel) = omega arith in
-    let mismatch_lawful : Lawful (lacks TypeMismatch) = omega arith in
-    lawful_if (all_there ls labels) (if all_alike ls r labels then leaves (I32 ∷ listed r) else lacks TypeMismatch) (lacks UnknownLabel)
-    (lawful_if (all_alike ls r labels) (leaves (I32 ∷ listed r)) (lacks TypeMismatch) tt mismatch_lawful) label_lawful
+    let mismatch_lawful : Lawful (lacks StackTypes) = omega arith in
+    lawful_if (all_there ls labels) (if all_alike ls r labels then leaves (I32 ∷ listed r) else lacks StackTypes) (lacks UnknownLabel)
+    (lawful_if (all_alike ls r labels) (leaves (I32 ∷ listed r)) (lacks StackTypes) tt mismatch_lawful) label_lawful
 
 lawful_calls : (o : Option FuncType) → Lawful (calls o)
 lawful_calls None = omega arith
@@ -62,10 +62,10 @@ lawful_gets_global : (o : Option GlobalType) → Lawful (gets_global o)
 lawful_gets_global None = omega arith
 lawful_gets_global (Some g) = tt
 
-constant_late : (number TypeMismatch < number ConstantGlobal) × (number ConstantGlobal < above_all)
+constant_late : (number StackTypes < number ConstantGlobal) × (number ConstantGlobal < above_all)
 constant_late = (omega arith, omega arith)
 
-alignment_late : (number TypeMismatch < number Alignment) × (number Alignment < above_all)
+alignment_late : (number StackTypes < number Alignment) × (number Alignment < above_all)
 alignment_late = (omega arith, omega arith)
 
 lawful_sets_global : (o : Option GlobalType) → Lawful (sets_global o)
@@ -130,8 +130,8 @@ ends_jump (Some r) ins mids outs h = h
 ends_jumps : (ls : List (Option ValType)) (labels : List ℕ) (o : Option (Option ValType)) → Ends (jumps ls labels o)
 ends_jumps ls labels None = λ ins mids outs h. h
 ends_jumps ls labels (Some r) =
-    ends_if (all_there ls labels) (if all_alike ls r labels then leaves (I32 ∷ listed r) else lacks TypeMismatch) (lacks UnknownLabel)
-    (ends_if (all_alike ls r labels) (leaves (I32 ∷ listed r)) (lacks TypeMismatch) (λ ins mids outs h. h) (λ ins mids outs h. h)) (λ ins mids outs h. h)
+    ends_if (all_there ls labels) (if all_alike ls r labels then leaves (I32 ∷ listed r) else lacks StackTypes) (lacks UnknownLabel)
+    (ends_if (all_alike ls r labels) (leaves (I32 ∷ listed r)) (lacks StackTypes) (λ ins mids outs h. h) (λ ins mids outs h. h)) (λ ins mids outs h. h)
 
 pub last_ends : (c : Around) (ls : List (Option ValType)) (p : Plain) → is_last p ≡ true → Ends (sig c ls p)
 last_ends c ls (basic b) e = cc

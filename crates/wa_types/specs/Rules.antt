@@ -1,7 +1,7 @@
 -- The rules of validity (standard, section 3) and their numbers: where several rules fail at one place, the smallest is told.
 use Rattle.std.specs.Prelude.{ℕ, suc}
 use Rattle.wa_types.specs.declared.rules.Rule.{Rule}
-use Rattle.wa_types.specs.declared.rules.Rule.TheVariants.{UnknownType, UnknownFunc, UnknownTable, UnknownMemory, UnknownGlobal, UnknownLocal, UnknownLabel, TypeMismatch, Alignment}
+use Rattle.wa_types.specs.declared.rules.Rule.TheVariants.{UnknownType, UnknownFunc, UnknownTable, UnknownMemory, UnknownGlobal, UnknownLocal, UnknownLabel, StackTypes, Alignment}
 use Rattle.wa_types.specs.declared.rules.Rule.TheVariants.{ConstantGlobal, BadLimits, SecondInstance, NotConstant, DuplicateExport, StartType, SecondResult}
 
 -- the number of each rule
@@ -21,7 +21,7 @@ number UnknownLocal = 6
 -- label
 number UnknownLabel = 7
 -- operand types, labels of `br_table` that differ, or results at an end
-number TypeMismatch = 8
+number StackTypes = 8
 -- alignment above natural
 number Alignment = 9
 -- `global.set` of a constant global

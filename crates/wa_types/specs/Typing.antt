@@ -8,7 +8,7 @@ use Rattle.wa_types.specs.Operators.{operand_types, result_type}
 use Rattle.wa_types.specs.Accesses.{AccessRow, load_row, store_row}
 use Rattle.wa_types.specs.Encoding.{same_type}
 use Rattle.wa_types.specs.declared.rules.Rule.{Rule}
-use Rattle.wa_types.specs.declared.rules.Rule.TheVariants.{UnknownType, UnknownFunc, UnknownTable, UnknownMemory, UnknownGlobal, UnknownLocal, UnknownLabel, TypeMismatch, Alignment, ConstantGlobal}
+use Rattle.wa_types.specs.declared.rules.Rule.TheVariants.{UnknownType, UnknownFunc, UnknownTable, UnknownMemory, UnknownGlobal, UnknownLocal, UnknownLabel, StackTypes, Alignment, ConstantGlobal}
 use Rattle.wa_types.specs.Syntax.{Basic, nop, drop, select, const, num, global_get, global_set, load, store, memory_size, memory_grow, Plain, basic, local_get, local_set, local_tee, br}
 use Rattle.wa_types.specs.Syntax.{br_if, br_table, return, unreachable, call, call_indirect, Shape, a_block, a_loop, Code, done, plain, nest, branch, FuncType}
 
@@ -88,7 +88,7 @@ may_jump (Some r) = moves (I32 ∷ listed r) (listed r)
 abbrev pub jumps : List (Option ValType) → List ℕ → Option (Option ValType) → Sig
 jumps ls labels None = lacks UnknownLabel
 jumps ls labels (Some r) =
-    if all_there ls labels then (if all_alike ls r labels then leaves (I32 ∷ listed r) else lacks TypeMismatch) else lacks UnknownLabel
+    if all_there ls labels then (if all_alike ls r labels then leaves (I32 ∷ listed r) else lacks StackTypes) else lacks UnknownLabel
 
 -- call (3.3.5.10)
 abbrev pub calls : Option FuncType → Sig
@@ -133,13 +133,13 @@ accesses align row ins outs = if nat_le align row.natural then moves ins outs el
 -- a load (3.3.4.1, 3.3.4.2); one whose opcode is none has no type
 abbrev pub loads : Bool → ℕ → Option AccessRow → Sig
 loads false align row = lacks UnknownMemory
-loads true align None = lacks TypeMismatch
+loads true align None = lacks StackTypes
 loads true align (Some row) = accesses align row (I32 ∷ []) (row.ty ∷ [])
 
 -- a store (3.3.4.3, 3.3.4.4)
 abbrev pub stores : Bool → ℕ → Option AccessRow → Sig
 stores false align row = lacks UnknownMemory
-stores true align None = lacks TypeMismatch
+stores true align None = lacks StackTypes
 stores true align (Some row) = accesses align row (row.ty ∷ I32 ∷ []) []
 
 -- memory.size and memory.grow (3.3.4.5, 3.3.4.6)

@@ -13,7 +13,7 @@ pub enum Rule {
     UnknownLocal = 6,
     UnknownLabel = 7,
     /// Operands, labels of `br_table` that differ, or results at an end.
-    TypeMismatch = 8,
+    StackTypes = 8,
     /// An alignment above the natural one.
     Alignment = 9,
     /// A `global.set` of a constant global.

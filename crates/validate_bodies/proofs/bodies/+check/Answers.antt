@@ -1,5 +1,5 @@
 use Rattle.std.proofs.Common.{rules, arith, ◌≡◌, ◌+◌, drop, refl, ap, sym, ◌∙◌, true, false, reverse, if◌then◌else◌}
-use Rattle.wa_types.specs.declared.rules.Rule.TheVariants.{TypeMismatch}
+use Rattle.wa_types.specs.declared.rules.Rule.TheVariants.{StackTypes}
 use Rattle.wa_types.specs.Rules.{number}
 use Rattle.wa_types.specs.declared.instrs.Instr.{the_lemmas}
 use Rattle.wa_types.specs.View.{code}
@@ -32,12 +32,12 @@ check_body-returns-in_err-check_instr-clause-judged t c =
 pub check_body-returns-then-not-ends-clause-judged : goal.check_body-returns-then-not-ends-clause-judged
 check_body-returns-then-not-ends-clause-judged t c =
     body_end _ _ _ c.args.body.now c.loop-instr.instr-index _ _ _ _ _ (labels_are _ _ _ _ c.in_ok-push.ensures.items c.loop-instr.invariant.labels) c.loop-instr.invariant.judged (omega arith)
-    ∙ ap (λ b. if b then fine else fault (number TypeMismatch) c.loop-instr.at) (sym c.if-not-ends.ensures.ended)
+    ∙ ap (λ b. if b then fine else fault (number StackTypes) c.loop-instr.at) (sym c.if-not-ends.ensures.ended)
 
 pub check_body-returns-clause-judged : goal.check_body-returns-clause-judged
 check_body-returns-clause-judged t c =
     body_end _ _ _ c.args.body.now c.loop-instr.instr-index _ _ _ _ _ (labels_are _ _ _ _ c.in_ok-push.ensures.items c.loop-instr.invariant.labels) c.loop-instr.invariant.judged (omega arith)
-    ∙ ap (λ b. if b then fine else fault (number TypeMismatch) c.loop-instr.at) (sym c.if-not-ends.ensures.ended)
+    ∙ ap (λ b. if b then fine else fault (number StackTypes) c.loop-instr.at) (sym c.if-not-ends.ensures.ended)
 
 pub check_instr-check_body-requires : goal.check_instr-check_body-requires
 check_instr-check_body-requires t c = (search (rules, the_lemmas), grind (arith, instrs))
