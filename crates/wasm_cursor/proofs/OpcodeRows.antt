@@ -1,5 +1,5 @@
 -- The table of what follows an opcode, by ranges: each is computed over all of its opcodes.
-use Rattle.std.proofs.Common.{◌≡◌, ℕ, zero, suc, ◌+◌, ◌<◌, ◌≤◌, ◌⊎◌, inl, inr, Bool, true, false, Option, Some, None, refl, sym, subst, arith, nat_eq, nat_le, ◌&&◌}
+use Rattle.std.proofs.Common.{◌≡◌, ℕ, zero, suc, ◌+◌, ◌<◌, ◌≤◌, ◌⊎◌, inl, inr, Bool, true, false, Option, Some, None, refl, subst, arith, nat_eq, nat_le, ◌&&◌}
 use Rattle.std.proofs.Math.Nat.{eq-or-lt_of_le}
 use Rattle.wa_types.specs.Opcodes.{Form, no_immediate, a_zero, an_index, an_access, follows, within}
 
