@@ -133,7 +133,7 @@ module _ {X : Type 0} (k : Marking X) where
         ∙ ap (λ xs. xs ++ marks_of (raised 0 m a) ++ marks_of c) (marks_index n (num I32Ne) (plain (br_if l) done) ∙ unmarked (br_if l) done (k.on_br_if l))
         ∙ ap (λ xs. xs ++ marks_of c) (marks_raised 0 m a)
 
-    index_unmarked : (alone : Bool) (n : ℕ) (c : Code) → marks_of (index_noted alone i.index n c) ≡ marks_of c
+    index_unmarked : (one_call : Bool) (n : ℕ) (c : Code) → marks_of (index_noted one_call i.index n c) ≡ marks_of c
     index_unmarked true n c = refl
     index_unmarked false n c =
         unmarked (basic (const (V.I32 n))) (plain (local_set i.index) c) (k.on_basic (const (V.I32 n)))
@@ -141,7 +141,7 @@ module _ {X : Type 0} (k : Marking X) where
 
     marks_noted : (l n : ℕ) (c : Code) → marks_of (noted i l n c) ≡ marks_of c
     marks_noted l n c =
-        index_unmarked i.alone n (plain (basic (global_get i.state)) (plain (br_if l) c))
+        index_unmarked i.one_call n (plain (basic (global_get i.state)) (plain (br_if l) c))
         ∙ unmarked (basic (global_get i.state)) (plain (br_if l) c) (k.on_basic (global_get i.state))
         ∙ unmarked (br_if l) c (k.on_br_if l)
 

@@ -6,6 +6,7 @@ use Rattle.wa_types.specs.declared.values.ValType.TheVariants.{I32}
 use Rattle.wa_types.specs.Accesses.{AccessRow, load_row, store_row}
 use Rattle.wa_types.specs.Syntax.{Basic, nop, drop, select, const, num, global_get, global_set, load, store, memory_size, memory_grow, br, br_if, br_table, return, call, call_indirect}
 use Rattle.wa_types.specs.Syntax.{a_block, a_loop, Code, plain, nest, branch}
+use Rattle.wa_types.specs.declared.rules.Rule.TheVariants.{UnknownLabel, StackTypes, Alignment, ConstantGlobal}
 use Rattle.wa_types.specs.Typing.{GlobalType, Around, Sig, moves, leaves, drops, selects, lacks, late, gets_global, sets_global, loads, stores, with_memory, basic_sig, gets, sets, tees}
 use Rattle.wa_types.specs.Typing.{jump, jumps, all_there, all_alike, listed, Takes, Types}
 use Rattle.wa_model.specs.Store.{takes, gives}
@@ -37,7 +38,7 @@ sized c (global_get x) = by (slice_get c.globals x)
     by (Some g) = (refl, refl)
 sized c (global_set x) = by (slice_get c.globals x)
   where
-    by_mutable : (ty : ValType) (b : Bool) → Sized (if b then moves (ty ∷ []) [] else late 10 (ty ∷ []) []) 1 0
+    by_mutable : (ty : ValType) (b : Bool) → Sized (if b then moves (ty ∷ []) [] else late ConstantGlobal (ty ∷ []) []) 1 0
     by_mutable ty true = (refl, refl)
     by_mutable ty false = tt
 
@@ -46,7 +47,7 @@ sized c (global_set x) = by (slice_get c.globals x)
     by (Some g) = by_mutable g.ty g.mutable
 sized c (load op align offset) = by c.memory (load_row op)
   where
-    by_align : (ty : ValType) (b : Bool) → Sized (if b then moves (I32 ∷ []) (ty ∷ []) else late 9 (I32 ∷ []) (ty ∷ [])) 1 1
+    by_align : (ty : ValType) (b : Bool) → Sized (if b then moves (I32 ∷ []) (ty ∷ []) else late Alignment (I32 ∷ []) (ty ∷ [])) 1 1
     by_align ty true = (refl, refl)
     by_align ty false = tt
 
@@ -56,7 +57,7 @@ sized c (load op align offset) = by c.memory (load_row op)
     by true (Some row) = by_align row.ty (nat_le align row.natural)
 sized c (store op align offset) = by c.memory (store_row op)
   where
-    by_align : (ty : ValType) (b : Bool) → Sized (if b then moves (ty ∷ I32 ∷ []) [] else late 9 (ty ∷ I32 ∷ []) []) 2 0
+    by_align : (ty : ValType) (b : Bool) → Sized (if b then moves (ty ∷ I32 ∷ []) [] else late Alignment (ty ∷ I32 ∷ []) []) 2 0
     by_align ty true = (refl, refl)
     by_align ty false = tt
 
@@ -169,7 +170,8 @@ jumps_any : (ls : List (Option ValType)) (es : List ℕ) (o : Option (Option Val
 jumps_any ls es None ins a b h = absurd h
 jumps_any ls es (Some r) ins a b h = by (all_there ls es) (all_alike ls r es) h
   where
-    by : (p q : Bool) → Takes (if p then (if q then leaves (I32 ∷ listed r) else lacks 8) else lacks 7) ins a → Takes (if p then (if q then leaves (I32 ∷ listed r) else lacks 8) else lacks 7) ins b
+    by : (p q : Bool) → Takes (if p then (if q then leaves (I32 ∷ listed r) else lacks StackTypes) else lacks UnknownLabel) ins a
+        → Takes (if p then (if q then leaves (I32 ∷ listed r) else lacks StackTypes) else lacks UnknownLabel) ins b
     by true true h = h
     by true false h = absurd h
     by false q h = absurd h

@@ -16,7 +16,7 @@ use Rattle.wasm_build.specs.declared.levels.Opened.TheVariants.{Block, Loop, The
 use Rattle.wasm_build.specs.declared.levels.Level.{Level}
 use Rattle.wasm_cursor.specs.Places.{Place}
 use Rattle.wasm_build.specs.Builds.{Between, Builds}
-use Rattle.wasm_build.specs.BuildsCode.{Next, an_instr, open_block, open_loop, open_if, an_else, an_end, SpelledCode, SpelledExpression, BuildsNext}
+use Rattle.wasm_build.specs.BuildsCode.{CodeItem, an_instr, open_block, open_loop, open_if, an_else, an_end, SpelledCode, SpelledExpression, BuildsNext}
 use Rattle.wasm_build.specs.BuildsLevels.{Inside, Ahead, Running, Turned, Turns, closed, IsTurned, IsLost}
 use Rattle.wasm_build.proofs.Betweens.{fails}
 use Rattle.wasm_build.proofs.CodeParts.{whole_is}
@@ -263,7 +263,7 @@ pub turned_memory : (q : Result Bool BuildFault) (d y : BuildFault) (old new : P
 turned_memory q d y old new levels body e f g = subst (λ z. Turned z old levels body new) (sym e) (memory_is old new y (f ∙ g))
 
 -- the head of a construct
-pub turn_open : (opened : Opened) (ty : Option ValType) (next : Next) (q : Result Bool BuildFault) (levels new_levels : List Level) (body new_body : Vec Instr Global) → IfOk q (λ ended. ended ≡ false)
+pub turn_open : (opened : Opened) (ty : Option ValType) (next : CodeItem) (q : Result Bool BuildFault) (levels new_levels : List Level) (body new_body : Vec Instr Global) → IfOk q (λ ended. ended ≡ false)
     → OnOk q (new_levels ≡ levels ++ (record { before = body; ty = ty; opened = opened }) ∷ []) → OnOk q (new_body.items ≡ []) → IfErr q (λ e. e ≡ Memory)
     → ((old here new : Place) → Running old levels body.items here → BuildsNext (Ok next) here new → new_body.items ≡ []
     → new_levels ≡ levels ++ (record { before = body; ty = ty; opened = opened }) ∷ [] → Running old new_levels new_body.items new)

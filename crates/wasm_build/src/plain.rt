@@ -5,14 +5,14 @@ ghost use Rattle.wa_types.specs.Binary.{nothing, zero_byte, index, access};
 ghost use Rattle.wa_types.specs.Operators.{opcode_of};
 ghost use Rattle.wa_types.specs.declared.operators.NumOp.{NumOp};
 ghost use Rattle.wasm_build.specs.Builds.{Builds};
-ghost use Rattle.wasm_build.specs.BuildsCode.{SpelledPlain, alone, NamesPlain, FoundIn};
+ghost use Rattle.wasm_build.specs.BuildsCode.{SpelledPlain, code_of_one, NamesPlain, FoundIn};
 
 use crate::BuildFault;
 use crate::entry::{Entry, vector};
 use crate::types::{IndexEntry, tag};
 use std::alloc::Global;
 use wa_types::{Instr, NumOp, Value};
-use wasm_cursor::{Cursor, Shape, operand_shape};
+use wasm_cursor::{Cursor, ImmediateForm, immediate_form};
 
 // The operators of the opcodes from 45 on, and of those from 67 on (standard, section 5.4.5).
 const COMPARISONS: [NumOp; 22] = [
@@ -150,38 +150,38 @@ fn accessed(op: u8, align: u32, offset: u32) -> Option<Instr>
 
 /// An instruction that holds no other, behind its opcode (standard, section 5.4).
 pub(crate) fn plain(alloc: Global, input: &mut Cursor<'_>, op: u8) -> Result<Instr, BuildFault>
-    ensures built { Builds alone (SpelledPlain op) result input.old input.new }
+    ensures built { Builds code_of_one (SpelledPlain op) result input.old input.new }
     ensures left { length input.new.left ≤ length input.old.left }
 {
-    match operand_shape(op) {
-        Some(Shape::Nothing) => found(simple(op)),
-        Some(Shape::ZeroByte) => {
+    match immediate_form(op) {
+        Some(ImmediateForm::Nothing) => found(simple(op)),
+        Some(ImmediateForm::ZeroByte) => {
             tag(input, 0x00)?;
             Ok(of_memory(op))
         }
-        Some(Shape::Index) => {
+        Some(ImmediateForm::Index) => {
             let x = input.number()?;
             found(indexed(op, x))
         }
-        Some(Shape::IndexAndZero) => {
+        Some(ImmediateForm::IndexAndZero) => {
             let x = input.number()?;
             tag(input, 0x00)?;
             Ok(Instr::CallIndirect(x))
         }
-        Some(Shape::Access) => {
+        Some(ImmediateForm::Access) => {
             let align = input.number()?;
             let offset = input.number()?;
             found(accessed(op, align, offset))
         }
-        Some(Shape::Labels) => {
+        Some(ImmediateForm::Labels) => {
             let labels = vector::<IndexEntry>(alloc, input)?;
             let last = input.number()?;
             Ok(Instr::BrTable { labels, last })
         }
-        Some(Shape::Constant32) => Ok(Instr::Const(Value::I32(input.signed_32()?))),
-        Some(Shape::Constant64) => Ok(Instr::Const(Value::I64(input.signed_64()?))),
-        Some(Shape::Float4) => Err(BuildFault::NotSpelled),
-        Some(Shape::Float8) => Err(BuildFault::NotSpelled),
+        Some(ImmediateForm::Constant32) => Ok(Instr::Const(Value::I32(input.signed_32()?))),
+        Some(ImmediateForm::Constant64) => Ok(Instr::Const(Value::I64(input.signed_64()?))),
+        Some(ImmediateForm::Float4) => Err(BuildFault::NotSpelled),
+        Some(ImmediateForm::Float8) => Err(BuildFault::NotSpelled),
         None => Err(BuildFault::NotSpelled),
     }
 }

@@ -16,7 +16,7 @@ use std::alloc::{AllocError, Global};
 use thiserror::Error;
 use wa_types::Bounds;
 use wasm_goals::stack::Goals;
-use wasm_goals::{Front, Goal, Kind, read_item, wants};
+use wasm_goals::{EntryKind, Front, Goal, read_item, wants};
 use wasm_marks::Marks;
 use wasm_window::Window;
 
@@ -192,7 +192,7 @@ impl Machine {
             return Ok(());
         };
         match goal {
-            Goal::Entries(Kind::Runs, n) => self.pass_runs(alloc, bytes, stop, n),
+            Goal::Entries(EntryKind::Runs, n) => self.pass_runs(alloc, bytes, stop, n),
             Goal::Entries(kind, n) => self.pass_single(alloc, bytes, stop, kind, n),
             _ => Ok(()),
         }
@@ -204,7 +204,7 @@ impl Machine {
         alloc: Global,
         bytes: &Window<'_>,
         stop: usize,
-        kind: Kind,
+        kind: EntryKind,
         n: u32,
     ) -> Result<(), AllocError>
         requires from { bytes.now.base ≤ self.old.at }
@@ -247,7 +247,7 @@ impl Machine {
         }
         self.goals.pop();
         self.goals
-            .push(alloc, Goal::Entries(Kind::Runs, n - passed))?;
+            .push(alloc, Goal::Entries(EntryKind::Runs, n - passed))?;
         self.at += 2 * passed as usize;
         Ok(())
     }

@@ -1,6 +1,6 @@
 -- What the items of a file show of that which it is judged by besides its spelling.
 use Rattle.std.specs.Prelude.{◌≡◌, ℕ, ◌+◌, ◌<◌, ◌^◌, List, [], ◌∷◌, ◌++◌, length, Option, Some, None, Bool, true, false, nat_le, ◌==◌, ◌&&◌, ◌||◌, if◌then◌else◌}
-use Rattle.wa_types.specs.Begun.{Goal, head, entries, count, value_type, block_type, import_kind, code, Kind, some_globals, some_bodies, some_value_types, wants, IsItem, Steps}
+use Rattle.wa_types.specs.Begun.{Goal, head, entries, count, value_type, block_type, import_kind, code, EntryKind, some_globals, some_bodies, some_value_types, wants, IsItem, Steps}
 use Rattle.wa_types.specs.Marks.{place_if, first_above}
 use Rattle.wa_types.specs.ModuleBounds.{ModuleBounds}
 use Rattle.wa_types.specs.Opcodes.{is_float_type, is_float_op, is_nest}
@@ -46,7 +46,7 @@ unfoldable pub levels : List Goal → ℕ
 levels [] = 0
 levels (g ∷ gs) = level_of g + levels gs
 
-abbrev pub of_types : Kind → Bool
+abbrev pub of_types : EntryKind → Bool
 of_types some_value_types = true
 of_types _ = false
 
@@ -64,14 +64,14 @@ abbrev pub opens_level : ℕ → Bool
 opens_level op = is_nest op || op == 0x04
 
 -- what the first item of an entry shows, of value v at this place
-abbrev pub entry_shown : Kind → (v at : ℕ) → Seen
+abbrev pub entry_shown : EntryKind → (v at : ℕ) → Seen
 entry_shown some_globals v at = floats_seen (place_if (is_float_type v) at)
 entry_shown some_bodies v at = size_seen v
 entry_shown some_value_types v at = floats_seen (place_if (is_float_type v) at)
 entry_shown _ v at = nothing_seen
 
 -- what the number of some entries shows, before these goals: that of a type's first ones is the number of its parameters
-abbrev pub count_shown : Kind → List Goal → (v : ℕ) → Seen
+abbrev pub count_shown : EntryKind → List Goal → (v : ℕ) → Seen
 count_shown some_value_types gs v = if await_results gs then parameters_seen v else nothing_seen
 count_shown _ gs v = nothing_seen
 
