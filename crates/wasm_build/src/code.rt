@@ -1,3 +1,5 @@
+//! Expressions from bytes, in a loop over their instructions (standard, section 5.4.6).
+
 ghost use Rattle.std.specs.Prelude.{◌<◌, ◌≤◌, length, IfOk};
 ghost use Rattle.wa_types.specs.View.{code};
 ghost use Rattle.wasm_cursor.specs.Places.{Place};

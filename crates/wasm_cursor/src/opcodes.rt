@@ -1,4 +1,4 @@
-//! What follows an opcode, and which opcodes and types are floats (standard, sections 5.3.1 and 5.4).
+//! What follows an opcode (standard, sections 5.3.1 and 5.4).
 
 ghost use Rattle.std.specs.Prelude.{◌≡◌};
 ghost use Rattle.wa_types.specs.Opcodes.{follows};

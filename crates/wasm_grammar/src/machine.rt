@@ -23,6 +23,7 @@ use wasm_window::Window;
 /// Why bytes are no file.
 #[derive(Clone, Copy, Debug, PartialEq, Eq, Error)]
 pub enum CheckFault {
+    /// Want of memory.
     #[error("out of memory")]
     Memory,
     /// The least number of bytes that begin no file, or all of them where they lack only more.

@@ -1,4 +1,5 @@
-// What items show of that which a file is judged by besides its spelling.
+//! What items show of that which a file is judged by besides its spelling.
+
 ghost use Rattle.std.specs.Prelude.{◌≡◌, ◌∷◌, List, drop};
 ghost use Rattle.wa_types.specs.Begun.{some_value_types, Goal as Wanted};
 ghost use Rattle.wa_types.specs.ModuleBounds.{ModuleBounds};

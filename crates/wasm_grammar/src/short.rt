@@ -1,4 +1,5 @@
-// Runs of short items, taken at once. They stop before the end of a content.
+//! Runs of short items, taken at once. They stop before the end of a content.
+
 ghost use Rattle.std.specs.Prelude.{ℕ, true, false, ◌≡◌, ◌+◌, ◌-◌, ◌*◌, ◌<◌, ◌≤◌, length, take, drop, get_or, IfSome};
 ghost use Rattle.std.specs.Bool.{OnTrue};
 ghost use Rattle.wa_types.specs.Opcodes.{is_block_type, is_float_op, is_float_type, is_value_type};
