@@ -1,6 +1,6 @@
 #!/usr/bin/env bash
 # Times `asyncify transform --save live`, the least of RUNS runs (3), at a quarter, half and the whole of a size: loops nested 500 deep with a
-# call inside, 10,000 calls of one function, 49,000 locals and 100 calls; SHAPES names the shapes. Then beside `--save all` on ordinary
+# call inside, the same with 2 KB of code in each, 10,000 calls of one function, 49,000 locals and 100 calls; SHAPES names the shapes. Then beside `--save all` on ordinary
 # functions with several calls each (2 MB): user time and length of what is written. At last the bytes that a pause takes in a few programs, by
 # either policy and as `wasm-opt -O2 --asyncify` (Debian's binaryen) writes them.
 # Fails where twice the size takes more than 2.6 times the time, past 1.3 times the time of `--save all`, and past 1.1 times its length.
@@ -37,6 +37,12 @@ if shape == "loops":
     code = PAUSE + b"\x1a"
     for level in range(125 * quarters):
         code = loop(level, code)
+    bodies = [body(code + GET, b"\x01\x64\x7f")]
+elif shape == "heavy":
+    # the same with 2 KB of code in each loop
+    code = PAUSE + b"\x1a"
+    for level in range(125 * quarters):
+        code = loop(level, GET + plain(250) + b"\x1a" + code)
     bodies = [body(code + GET, b"\x01\x64\x7f")]
 elif shape == "calls":
     bodies = [body(GET + (PAUSE + ADD) * (2_500 * quarters))]
@@ -87,7 +93,7 @@ tell_pause() {
 }
 
 build_asyncify
-for shape in ${SHAPES:-loops calls locals}; do
+for shape in ${SHAPES:-loops heavy calls locals}; do
     before=
     for part in 1 2 4; do
         make_module "$shape" "$part" "$temp/in.wasm"
