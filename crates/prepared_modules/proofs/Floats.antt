@@ -9,7 +9,7 @@ use Rattle.wa_types.specs.declared.values.Value.TheVariants as V
 use Rattle.wa_types.specs.declared.values.ValType.{ValType}
 use Rattle.wa_types.specs.declared.values.ValType.TheVariants.{I32, I64}
 use Rattle.wa_types.specs.declared.syntax.ImportKind.{ImportKind}
-use Rattle.wa_types.specs.Binary.{Placed, Immediates, RawCode, ended, otherwise, instr, nested, branched, RawType, RawKind, raw_func, raw_table, raw_memory, raw_global, RawImport, RawGlobal}
+use Rattle.wa_types.specs.Binary.{Placed, RawCode, ended, otherwise, instr, nested, branched, RawType, RawKind, raw_func, raw_table, raw_memory, raw_global, RawImport, RawGlobal}
 use Rattle.wa_types.specs.Binary.{RawElem, RawRun, RawBody, RawSegment, Section, custom, types, imports, functions, tables, memories, globals, exports, start, elements, bodies, segments}
 use Rattle.wa_types.specs.Encoding.{type_byte, block_type_byte}
 use Rattle.wa_types.specs.declared.syntax.Run.{Run}
