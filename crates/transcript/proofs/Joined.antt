@@ -11,8 +11,8 @@ pub two_pairs : (old x y a b c d : List ℕ) → x ≡ old ++ (a ++ b) → y ≡
 two_pairs old x y a b c d first second = simp (second, first, append_assoc)
 
 -- what stands for the items of a list, one behind another: one more item
-pub next_text : {A : Type 0} (f : List A → List ℕ) (g : A → List ℕ) → ((x : A) (xs : List A) → f (x ∷ xs) ≡ g x ++ f xs) → (old now whole : List ℕ) (xs : List A) (i : ℕ) (d : A) → i < length xs
-    → now ≡ old ++ g (get_or xs i d) → old ++ f (drop i xs) ≡ whole → now ++ f (drop (i + 1) xs) ≡ whole
+pub next_text : {A : Type 0} (f : List A → List ℕ) (g : A → List ℕ) → ((x : A) (xs : List A) → f (x ∷ xs) ≡ g x ++ f xs) → (old now whole : List ℕ) (xs : List A) (i : ℕ) (d : A)
+    → i < length xs → now ≡ old ++ g (get_or xs i d) → old ++ f (drop i xs) ≡ whole → now ++ f (drop (i + 1) xs) ≡ whole
 next_text f g one old now whole xs i d lt is before =
     let here : drop i xs ≡ get_or xs i d ∷ drop (i + 1) xs = drop-cons xs i d lt ∙ ap (λ (k : ℕ). get_or xs i d ∷ drop k xs) (sym (add-one i)) in
     ap (λ (t : List ℕ). t ++ f (drop (i + 1) xs)) is
