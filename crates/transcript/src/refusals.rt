@@ -9,14 +9,14 @@ use std::alloc::{AllocError, Global};
 use wa_types::{LimitKind, Name};
 
 /// Why a command is refused, and the program of a script whose module it is about, where it is about one.
-#[derive(Debug, Drop)]
+#[derive(Drop)]
 pub struct Refusal {
     pub program: Option<u32>,
     pub kind: RefusalKind,
 }
 
 /// Why a command is refused. Places and lengths are in bytes.
-#[derive(Debug, Drop)]
+#[derive(Drop)]
 pub enum RefusalKind {
     /// The words spell no command.
     Usage,
