@@ -78,6 +78,11 @@ put_end xs i close old new whole h put before =
 
 pub ruleset putting = (put_step, put_end)
 
+-- what was written, with three parts more
+pub put_parts : (out head a b first new whole : List ℕ) → first ≡ out ++ head → new ≡ first ++ a ++ b → whole ≡ head ++ (a ++ b) → new ≡ out ++ whole
+put_parts out head a b first new whole begun put e =
+    put ∙ ap (λ s. s ++ a ++ b) begun ∙ append_assoc (out ++ head) a b ∙ append_assoc out head (a ++ b) ∙ ap (λ s. out ++ s) (sym e)
+
 -- an else arm is left out exactly where it is empty
 pub else_none : (xs : List Instr) (bytes : List ℕ) → length xs ≡ 0 → else_bytes (code xs) bytes ≡ []
 unfolding code onto
