@@ -1,5 +1,5 @@
 -- What the builder gives for bytes that spell code.
-use Rattle.std.specs.Prelude.{◌≡◌, ℕ, List, Bool, true, false, Option, Some, None, Result, Ok, Err}
+use Rattle.std.specs.Prelude.{◌≡◌, ℕ, List, [], ◌∷◌, ◌++◌, Bool, true, false, Option, Some, None, Result, Ok, Err}
 use Rattle.wa_types.specs.declared.values.ValType.{ValType}
 use Rattle.wa_types.specs.declared.instrs.Instr.{Instr}
 use Rattle.wa_types.specs.Syntax.{Plain, Shape, a_block, a_loop, Code, done, plain, nest, branch}
@@ -11,7 +11,7 @@ use Rattle.wa_types.specs.Reading.{plain_opcode, plain_operands, HasKind, IsCode
 use Rattle.wasm_build.specs.declared.BuildFault.{BuildFault}
 use Rattle.wasm_build.specs.declared.BuildFault.TheVariants.{Memory, NotSpelled}
 use Rattle.wasm_cursor.specs.Places.{Place}
-use Rattle.wasm_build.specs.Builds.{Between, SpelledAs, IsResult}
+use Rattle.wasm_build.specs.Builds.{Between, Builds, SpelledAs, IsResult}
 
 -- code up to its end, or up to an else and the other arm behind it
 abbrev pub SpelledCode : (first_arm : Bool) → (body else_arm : Code) → ℕ → List ℕ → Type 0
@@ -87,3 +87,8 @@ pub record NamesPlain (op : ℕ) (operands : Operands) (result : Option Instr) :
 abbrev pub FoundIn : Option Instr → Result Instr BuildFault → Type 0
 FoundIn (Some i) result = result ≡ Ok i
 FoundIn None result = result ≡ Err NotSpelled
+
+-- the instruction of this opcode stands behind those before it, and the expression goes on; or there is none
+abbrev pub Puts : (op : ℕ) → Result Bool BuildFault → (old new : List Instr) → (here there : Place) → Type 0
+Puts op (Ok ended) old new here there = (instr : Instr) × (ended ≡ false) × (new ≡ old ++ instr ∷ []) × Builds alone (SpelledPlain op) (Ok instr) here there
+Puts op (Err e) old new here there = Builds alone (SpelledPlain op) (Err e) here there

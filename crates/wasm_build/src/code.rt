@@ -2,7 +2,7 @@ ghost use Rattle.std.specs.Prelude.{◌<◌, ◌≤◌, length, IfOk};
 ghost use Rattle.wa_types.specs.View.{code};
 ghost use Rattle.wasm_cursor.specs.Places.{Place};
 ghost use Rattle.wasm_build.specs.Builds.{Builds};
-ghost use Rattle.wasm_build.specs.BuildsCode.{SpelledExpression};
+ghost use Rattle.wasm_build.specs.BuildsCode.{SpelledExpression, Puts};
 ghost use Rattle.wasm_build.specs.BuildsLevels.{Running, Turned};
 
 use crate::BuildFault;
@@ -41,7 +41,8 @@ fn go_on(
     ensures left { length input.new.left ≤ length input.old.left }
     ensures falls { IfOk result (λ _. length input.new.left < length input.old.left) }
 {
-    match input.byte()? {
+    let op = input.byte()?;
+    match op {
         0x0B => end(alloc, levels, body),
         0x05 => turn(alloc, levels, body),
         0x02 => {
@@ -56,10 +57,44 @@ fn go_on(
             let ty = block_type(input)?;
             open(alloc, levels, body, ty, Opened::Then)
         }
-        op => {
-            let instr = plain(alloc, input, op)?;
-            body.push(instr)?;
-            Ok(false)
-        }
+        _ => put(alloc, input, body, op),
     }
+}
+
+// Puts the instruction of this opcode, which holds no other, behind the body. Each kind that is common has a call of its own, so that
+// the compiler keeps a copy of `put_one` for it that reads and writes this kind alone.
+#[inline(always)]
+fn put(
+    alloc: Global,
+    input: &mut Cursor<'_>,
+    body: &mut Vec<Instr>,
+    op: u8,
+) -> Result<bool, BuildFault>
+    ensures puts { Puts op result body.old.items body.new.items input.old input.new }
+    ensures left { length input.new.left ≤ length input.old.left }
+{
+    match op {
+        0x20..=0x24 => put_one(alloc, input, body, op),
+        0x28..=0x3E => put_one(alloc, input, body, op),
+        0x41 => put_one(alloc, input, body, op),
+        0x45..=0x5A => put_one(alloc, input, body, op),
+        0x67..=0x8A => put_one(alloc, input, body, op),
+        _ => put_one(alloc, input, body, op),
+    }
+}
+
+// Puts the instruction of this opcode behind the body.
+#[inline(always)]
+fn put_one(
+    alloc: Global,
+    input: &mut Cursor<'_>,
+    body: &mut Vec<Instr>,
+    op: u8,
+) -> Result<bool, BuildFault>
+    ensures puts { Puts op result body.old.items body.new.items input.old input.new }
+    ensures left { length input.new.left ≤ length input.old.left }
+{
+    let instr = plain(alloc, input, op)?;
+    body.push(instr)?;
+    Ok(false)
 }

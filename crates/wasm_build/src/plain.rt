@@ -80,6 +80,7 @@ const ARITHMETIC: [NumOp; 36] = [
 ];
 
 // The numeric operator of an opcode (standard, section 5.4.5).
+#[inline(always)]
 fn operator(op: u8) -> Option<NumOp>
     ensures { (n : NumOp) → op ≡ opcode_of n → result ≡ Some n }
 {
@@ -94,6 +95,7 @@ fn operator(op: u8) -> Option<NumOp>
 }
 
 // The instruction of an opcode that nothing follows.
+#[inline(always)]
 fn simple(op: u8) -> Option<Instr>
     ensures { NamesPlain op nothing result }
 {
@@ -108,6 +110,7 @@ fn simple(op: u8) -> Option<Instr>
 }
 
 // The instruction of an opcode that a zero byte follows (standard, section 5.4.4).
+#[inline(always)]
 fn of_memory(op: u8) -> Instr
     ensures { NamesPlain op zero_byte (Some result) }
 {
@@ -119,6 +122,7 @@ fn of_memory(op: u8) -> Instr
 }
 
 // The instruction of an opcode that this index follows.
+#[inline(always)]
 fn indexed(op: u8, x: u32) -> Option<Instr>
     ensures { NamesPlain op (index x) result }
 {
@@ -136,6 +140,7 @@ fn indexed(op: u8, x: u32) -> Option<Instr>
 }
 
 // The load or store of this opcode; those of floats are left out (standard, section 5.4.4).
+#[inline(always)]
 fn accessed(op: u8, align: u32, offset: u32) -> Option<Instr>
     ensures { NamesPlain op (access align offset) result }
 {
@@ -149,6 +154,7 @@ fn accessed(op: u8, align: u32, offset: u32) -> Option<Instr>
 }
 
 /// An instruction that holds no other, behind its opcode (standard, section 5.4).
+#[inline(always)]
 pub(crate) fn plain(alloc: Global, input: &mut Cursor<'_>, op: u8) -> Result<Instr, BuildFault>
     ensures built { Builds alone (SpelledPlain op) result input.old input.new }
     ensures left { length input.new.left ≤ length input.old.left }
@@ -187,6 +193,7 @@ pub(crate) fn plain(alloc: Global, input: &mut Cursor<'_>, op: u8) -> Result<Ins
 }
 
 // That instruction, where there is one.
+#[inline(always)]
 fn found(instr: Option<Instr>) -> Result<Instr, BuildFault>
     ensures { FoundIn instr result }
 {
