@@ -2,10 +2,12 @@
 use Rattle.std.specs.Prelude.{◌≡◌, ℕ, List, [], ◌∷◌, ◌++◌, Bool, true, false, Option, Some, None, Result, Ok, Err}
 use Rattle.wa_types.specs.declared.values.ValType.{ValType}
 use Rattle.wa_types.specs.declared.instrs.Instr.{Instr}
+use Rattle.wa_types.specs.declared.instrs.Instr.TheVariants.{Num}
+use Rattle.wa_types.specs.declared.operators.NumOp.{NumOp}
 use Rattle.wa_types.specs.Syntax.{Plain, Shape, a_block, a_loop, Code, done, plain, nest, branch}
 use Rattle.wa_types.specs.View.{in_front}
-use Rattle.wa_types.specs.Binary.{Operands}
-use Rattle.wa_types.specs.Opcodes.{follows, shape}
+use Rattle.wa_types.specs.Binary.{Operands, nothing}
+use Rattle.wa_types.specs.Opcodes.{follows, shape, no_operand}
 use Rattle.wa_types.specs.Spells.{◌▸◌, BlockType, OperandsOf, CodeOf}
 use Rattle.wa_types.specs.Reading.{plain_opcode, plain_operands, HasKind, IsCode}
 use Rattle.wasm_build.specs.declared.BuildFault.{BuildFault}
@@ -92,3 +94,7 @@ FoundIn None result = result ≡ Err NotSpelled
 abbrev pub Puts : (op : ℕ) → Result Bool BuildFault → (old new : List Instr) → (here there : Place) → Type 0
 Puts op (Ok ended) old new here there = (instr : Instr) × (ended ≡ false) × (new ≡ old ++ instr ∷ []) × Builds alone (SpelledPlain op) (Ok instr) here there
 Puts op (Err e) old new here there = Builds alone (SpelledPlain op) (Err e) here there
+
+-- the same of a numeric instruction, whatever opcode it has
+abbrev pub PutsNumber : NumOp → Result Bool BuildFault → (old new : List Instr) → Type 0
+PutsNumber n result old new = (op : ℕ) (here : Place) → follows op ≡ Some no_operand → NamesPlain op nothing (Some (Num n)) → Puts op result old new here here

@@ -2,15 +2,15 @@ ghost use Rattle.std.specs.Prelude.{◌<◌, ◌≤◌, length, IfOk};
 ghost use Rattle.wa_types.specs.View.{code};
 ghost use Rattle.wasm_cursor.specs.Places.{Place};
 ghost use Rattle.wasm_build.specs.Builds.{Builds};
-ghost use Rattle.wasm_build.specs.BuildsCode.{SpelledExpression, Puts};
+ghost use Rattle.wasm_build.specs.BuildsCode.{SpelledExpression, Puts, PutsNumber};
 ghost use Rattle.wasm_build.specs.BuildsLevels.{Running, Turned};
 
 use crate::BuildFault;
 use crate::levels::{Level, Opened, end, open, turn};
-use crate::plain::plain;
+use crate::plain::{arithmetic, comparison, plain};
 use crate::types::block_type;
 use std::alloc::Global;
-use wa_types::Instr;
+use wa_types::{Instr, NumOp};
 use wasm_cursor::Cursor;
 
 /// An expression (standard, section 5.4.6): the instructions up to their end. Constructs that are open wait on a stack.
@@ -77,8 +77,8 @@ fn put(
         0x20..=0x24 => put_one(alloc, input, body, op),
         0x28..=0x3E => put_one(alloc, input, body, op),
         0x41 => put_one(alloc, input, body, op),
-        0x45..=0x5A => put_one(alloc, input, body, op),
-        0x67..=0x8A => put_one(alloc, input, body, op),
+        0x45..=0x5A => put_number(body, comparison(op)),
+        0x67..=0x8A => put_number(body, arithmetic(op)),
         _ => put_one(alloc, input, body, op),
     }
 }
@@ -96,5 +96,14 @@ fn put_one(
 {
     let instr = plain(alloc, input, op)?;
     body.push(instr)?;
+    Ok(false)
+}
+
+// Puts the numeric instruction of this operator behind the body.
+#[inline(always)]
+fn put_number(body: &mut Vec<Instr>, n: NumOp) -> Result<bool, BuildFault>
+    ensures { PutsNumber n result body.old.items body.new.items }
+{
+    body.push(Instr::Num(n))?;
     Ok(false)
 }

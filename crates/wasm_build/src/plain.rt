@@ -79,14 +79,34 @@ const ARITHMETIC: [NumOp; 36] = [
     NumOp::I64Rotr,
 ];
 
+/// The operator of a comparison (standard, section 5.4.5).
+#[inline(always)]
+pub(crate) fn comparison(op: u8) -> NumOp
+    requires low { 0x45 ≤ op }
+    requires high { op ≤ 0x5A }
+    ensures { (n : NumOp) → op ≡ opcode_of n → result ≡ n }
+{
+    COMPARISONS[(op - 0x45) as usize]
+}
+
+/// The operator of an opcode from 67 to 8A (standard, section 5.4.5).
+#[inline(always)]
+pub(crate) fn arithmetic(op: u8) -> NumOp
+    requires low { 0x67 ≤ op }
+    requires high { op ≤ 0x8A }
+    ensures { (n : NumOp) → op ≡ opcode_of n → result ≡ n }
+{
+    ARITHMETIC[(op - 0x67) as usize]
+}
+
 // The numeric operator of an opcode (standard, section 5.4.5).
 #[inline(always)]
 fn operator(op: u8) -> Option<NumOp>
     ensures { (n : NumOp) → op ≡ opcode_of n → result ≡ Some n }
 {
     match op {
-        0x45..=0x5A => Some(COMPARISONS[(op - 0x45) as usize]),
-        0x67..=0x8A => Some(ARITHMETIC[(op - 0x67) as usize]),
+        0x45..=0x5A => Some(comparison(op)),
+        0x67..=0x8A => Some(arithmetic(op)),
         0xA7 => Some(NumOp::I32WrapI64),
         0xAC => Some(NumOp::I64ExtendI32S),
         0xAD => Some(NumOp::I64ExtendI32U),
