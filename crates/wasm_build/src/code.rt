@@ -73,10 +73,29 @@ fn put(
     ensures puts { Puts op result body.old.items body.new.items input.old input.new }
     ensures left { length input.new.left ≤ length input.old.left }
 {
+    if op >= 0x45 {
+        return put_numeric(alloc, input, body, op);
+    }
     match op {
         0x20..=0x24 => put_one(alloc, input, body, op),
         0x28..=0x3E => put_one(alloc, input, body, op),
         0x41 => put_one(alloc, input, body, op),
+        _ => put_one(alloc, input, body, op),
+    }
+}
+
+// The same for the numeric instructions, which have the opcodes from 45 on.
+#[inline(always)]
+fn put_numeric(
+    alloc: Global,
+    input: &mut Cursor<'_>,
+    body: &mut Vec<Instr>,
+    op: u8,
+) -> Result<bool, BuildFault>
+    ensures puts { Puts op result body.old.items body.new.items input.old input.new }
+    ensures left { length input.new.left ≤ length input.old.left }
+{
+    match op {
         0x45..=0x5A => put_number(body, comparison(op)),
         0x67..=0x8A => put_number(body, arithmetic(op)),
         _ => put_one(alloc, input, body, op),

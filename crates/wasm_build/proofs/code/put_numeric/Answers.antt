@@ -1,7 +1,7 @@
 use Rattle.std.proofs.Common.{Some, refl, ap, arith}
 use Rattle.wasm_cursor.proofs.OpcodeRows.{row_69}
 use Rattle.wasm_build.proofs.PlainNames.{names_operator}
-use Rattle.wasm_build.proofs.code.put.Goals as goal
+use Rattle.wasm_build.proofs.code.put_numeric.Goals as goal
 
 pub returns-in-69-to-90-clause-puts : goal.returns-in-69-to-90-clause-puts
 returns-in-69-to-90-clause-puts c =
