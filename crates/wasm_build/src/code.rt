@@ -74,8 +74,44 @@ fn put(
     ensures left { length input.new.left ≤ length input.old.left }
 {
     if op >= 0x45 {
-        return put_numeric(alloc, input, body, op);
+        put_numeric(alloc, input, body, op)
+    } else if op >= 0x20 {
+        put_accessing(alloc, input, body, op)
+    } else {
+        put_control(alloc, input, body, op)
     }
+}
+
+// The same for control and parametric instructions, which have the opcodes below 20.
+#[inline(always)]
+fn put_control(
+    alloc: Global,
+    input: &mut Cursor<'_>,
+    body: &mut Vec<Instr>,
+    op: u8,
+) -> Result<bool, BuildFault>
+    ensures puts { Puts op result body.old.items body.new.items input.old input.new }
+    ensures left { length input.new.left ≤ length input.old.left }
+{
+    match op {
+        0x0C..=0x0D => put_one(alloc, input, body, op),
+        0x10 => put_one(alloc, input, body, op),
+        0x1A..=0x1B => put_one(alloc, input, body, op),
+        _ => put_one(alloc, input, body, op),
+    }
+}
+
+// The same for variables, accesses of the memory and constants, which have the opcodes from 20 to 44.
+#[inline(always)]
+fn put_accessing(
+    alloc: Global,
+    input: &mut Cursor<'_>,
+    body: &mut Vec<Instr>,
+    op: u8,
+) -> Result<bool, BuildFault>
+    ensures puts { Puts op result body.old.items body.new.items input.old input.new }
+    ensures left { length input.new.left ≤ length input.old.left }
+{
     match op {
         0x20..=0x24 => put_one(alloc, input, body, op),
         0x28..=0x3E => put_one(alloc, input, body, op),
