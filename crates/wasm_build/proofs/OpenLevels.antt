@@ -16,7 +16,7 @@ use Rattle.wasm_build.specs.declared.levels.Opened.TheVariants.{Block, Loop, The
 use Rattle.wasm_build.specs.declared.levels.Level.{Level}
 use Rattle.wasm_cursor.specs.Places.{Place}
 use Rattle.wasm_build.specs.Builds.{Between, Builds}
-use Rattle.wasm_build.specs.BuildsCode.{Next, an_instr, open_block, open_loop, open_if, an_else, an_end, SpelledCode, SpelledExpression, SpelledPlain, alone, Puts, BuildsNext}
+use Rattle.wasm_build.specs.BuildsCode.{CodeItem, an_instr, open_block, open_loop, open_if, an_else, an_end, SpelledCode, SpelledExpression, SpelledPlain, code_of_one, Puts, BuildsNext}
 use Rattle.wasm_build.specs.BuildsLevels.{Inside, Ahead, Running, Turned, Turns, closed, IsTurned, IsLost}
 use Rattle.wasm_build.proofs.Betweens.{fails}
 use Rattle.wasm_build.proofs.CodeParts.{whole_is, ByteRead, IsOther, plain_stop, next_plain}
@@ -263,7 +263,7 @@ pub turned_memory : (q : Result Bool BuildFault) (d y : BuildFault) (old new : P
 turned_memory q d y old new levels body e f g = subst (λ z. Turned z old levels body new) (sym e) (memory_is old new y (f ∙ g))
 
 -- the head of a construct
-pub turn_open : (opened : Opened) (ty : Option ValType) (next : Next) (q : Result Bool BuildFault) (levels new_levels : List Level) (body new_body : Vec Instr Global) → IfOk q (λ ended. ended ≡ false)
+pub turn_open : (opened : Opened) (ty : Option ValType) (next : CodeItem) (q : Result Bool BuildFault) (levels new_levels : List Level) (body new_body : Vec Instr Global) → IfOk q (λ ended. ended ≡ false)
     → OnOk q (new_levels ≡ levels ++ (record { before = body; ty = ty; opened = opened }) ∷ []) → OnOk q (new_body.items ≡ []) → IfErr q (λ e. e ≡ Memory)
     → ((old here new : Place) → Running old levels body.items here → BuildsNext (Ok next) here new → new_body.items ≡ []
     → new_levels ≡ levels ++ (record { before = body; ty = ty; opened = opened }) ∷ [] → Running old new_levels new_body.items new)
@@ -312,10 +312,10 @@ turn_put op (Ok ended) old before here new levels body new_body b o p r =
 turn_put op (Err d) old before here new levels body new_body b o p r =
     turned_stop levels new_body (Err d) d refl (plain_stop op before here new d d (Err d) b o refl refl p) r
 
-pub put_stops : (op : ℕ) (here there : Place) (d y : BuildFault) (q : Result Bool BuildFault) (got new : List Instr) → q ≡ Err y → y ≡ d → Builds alone (SpelledPlain op) (Err d) here there
+pub put_stops : (op : ℕ) (here there : Place) (d y : BuildFault) (q : Result Bool BuildFault) (got new : List Instr) → q ≡ Err y → y ≡ d → Builds code_of_one (SpelledPlain op) (Err d) here there
     → Puts op q got new here there
 put_stops op here there d y q got new e f n =
-    subst (λ z. Puts op z got new here there) (sym e) (subst (λ z. Builds alone (SpelledPlain op) (Err z) here there) (sym f) n)
+    subst (λ z. Puts op z got new here there) (sym e) (subst (λ z. Builds code_of_one (SpelledPlain op) (Err z) here there) (sym f) n)
 
 pub put_memory : (op : ℕ) (here there : Place) (y : BuildFault) (q : Result Bool BuildFault) (got new : List Instr) → q ≡ Err y → y ≡ Memory → Puts op q got new here there
 put_memory op here there y q got new e f = subst (λ z. Puts op z got new here there) (sym e) (record { built = λ c end b. f })

@@ -91,7 +91,7 @@ instr_len-overflow_add-result-then-is_empty t c =
     omega (arith, e, le, v, w, c.requires)
 
 pub instr_len-overflow_add-result-in_default : goal.instr_len-overflow_add-result-in_default
-instr_len-overflow_add-result-in_default t c = omega (arith, c.operands_len.ensures.few)
+instr_len-overflow_add-result-in_default t c = omega (arith, c.immediates_len.ensures.few)
 
 pub instr_len-code_len-requires-in-Block : goal.instr_len-code_len-requires-in-Block
 instr_len-code_len-requires-in-Block t c = (search (rules, the_lemmas), grind (arith, measuring_one))

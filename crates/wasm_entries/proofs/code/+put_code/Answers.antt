@@ -3,7 +3,7 @@ use Rattle.std.proofs.lemmas.Result.{IfOk-weaker, on_ok_weaker}
 use Rattle.wa_types.specs.Leb.{shortest}
 use Rattle.wa_types.specs.Encoding.{block_type_byte, code_bytes, vector}
 use Rattle.wa_types.specs.View.{code}
-use Rattle.wasm_entries.specs.Instrs.{instr_bytes, operand_bytes}
+use Rattle.wasm_entries.specs.Instrs.{instr_bytes, immediate_bytes}
 use Rattle.wasm_entries.proofs.Codes.{block_bytes, loop_bytes, put_end, put_parts, put_step, table_bytes}
 use Rattle.wasm_entries.proofs.code.+put_code.Goals as goal
 
@@ -51,9 +51,9 @@ put_instr-returns-in_ok-extend_from_slice-in-Loop t c =
 
 pub put_instr-returns-in_ok-extend_from_slice-in_default : goal.put_instr-returns-in_ok-extend_from_slice-in_default
 put_instr-returns-in_ok-extend_from_slice-in_default t c =
-    let told = c.opcode_and_operands-opcode.result in
+    let told = c.opcode_and_immediates-opcode.result in
     let out = c.args.out.now.items in
-    on_ok_weaker c.put_operands.result
-    (λ put. put ∙ ap (λ s. s ++ operand_bytes told.1) c.in_ok-extend_from_slice-in_default.ensures.ok ∙ append_assoc out (told.0 ∷ []) (operand_bytes told.1)
-    ∙ ap (λ s. out ++ s) (sym c.opcode_and_operands-opcode.ensures))
-    c.put_operands.ensures
+    on_ok_weaker c.put_immediates.result
+    (λ put. put ∙ ap (λ s. s ++ immediate_bytes told.1) c.in_ok-extend_from_slice-in_default.ensures.ok ∙ append_assoc out (told.0 ∷ []) (immediate_bytes told.1)
+    ∙ ap (λ s. out ++ s) (sym c.opcode_and_immediates-opcode.ensures))
+    c.put_immediates.ensures
