@@ -51,7 +51,7 @@ def command(built, crate, listed):
 def modules(folder):
     """The names of the modules that are checked."""
     names = {name for _, _, files in os.walk(folder) for name in files if name.endswith(".oantt")}
-    return {name.removesuffix(".oantt").split("-proofs.")[-1] for name in names}
+    return {name.removesuffix(".oantt").removesuffix(".decls").split("-proofs.")[-1] for name in names}
 
 
 def seconds(process):
