@@ -37,14 +37,14 @@ impl From<AllocError> for ListFault {
 }
 
 /// An entry: all joined names that begin so, or exactly one.
-#[derive(Drop)]
+#[derive(Debug, Drop)]
 pub(crate) enum Entry {
     Beginning(Name),
     Exactly(Name),
 }
 
 /// A list of function imports by their joined names. Contracts see its entries.
-#[derive(Drop)]
+#[derive(Debug, Drop)]
 pub struct ImportList {
     entries: Vec<Entry>,
 }
