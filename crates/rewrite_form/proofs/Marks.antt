@@ -79,7 +79,7 @@ module _ {X : Type 0} (k : Marking X) where
   marks_any (Some o) c = marks_got o c
 
   -- slim code has the marks of the code beside it
-  pub marks_slim : (t : Terms) (n : ℕ) (ts : List Free) (out f : Free) (sh : S.Shape) (code code' : Code) → Slims t n ts out f sh code code' → marks_of code' ≡ marks_of code
+  pub marks_slim : (t : Terms) (n : ℕ) (ts : List Free) (out f : Free) (sh : S.StackShape) (code code' : Code) → Slims t n ts out f sh code code' → marks_of code' ≡ marks_of code
   marks_slim t n ts out f sh _ _ (S.ends co pl) = refl
   marks_slim t n ts out f sh _ _ (S.does {sh2 = sh2} {rest = rest} {rest' = rest'} b ta sl) = ap (λ z. k.marks (basic b) ++ z) (marks_slim t n ts out f (S.more (gives b) sh2) rest rest' sl)
   marks_slim t n ts out f sh _ _ (S.gets {rest = rest} {rest' = rest'} x fr sl) = ap (λ z. k.marks (local_get x) ++ z) (marks_slim t n ts out f (None ∷ sh) rest rest' sl)

@@ -79,21 +79,21 @@ sized c memory_grow = by c.memory
 -- ---- operands
 
 module _ (locals : List ValType) where
-  abbrev W : S.Shape → List ValType → List ValType → Type 0
+  abbrev W : S.StackShape → List ValType → List ValType → Type 0
   W sh ins ins' = WovenTypes locals sh ins ins'
 
-  plain_types : (sh : S.Shape) (ins ins' : List ValType) → Plainly sh → W sh ins ins' → ins' ≡ ins
+  plain_types : (sh : S.StackShape) (ins ins' : List ValType) → Plainly sh → W sh ins ins' → ins' ≡ ins
   plain_types _ _ _ p types_same = refl
   plain_types _ _ _ (plainly_held p) (types_both {sh = sh} {ins = ins} {ins' = ins'} ty wo) = ap (λ us. ty ∷ us) (plain_types sh ins ins' p wo)
   plain_types _ _ _ p (types_kept x ty e wo) = elim p [ ]
 
   -- the same operands on top
-  pub record On (sh2 : S.Shape) (ps below ins' : List ValType) : Type 0 where
+  pub record On (sh2 : S.StackShape) (ps below ins' : List ValType) : Type 0 where
     pub low : List ValType
     pub is : ins' ≡ ps ++ low
     pub rest : W sh2 below low
 
-  on : (ps : List ValType) (n : ℕ) (sh sh2 : S.Shape) (below ins' : List ValType) → length ps ≡ n → S.Takes n sh sh2 → W sh (ps ++ below) ins' → On sh2 ps below ins'
+  on : (ps : List ValType) (n : ℕ) (sh sh2 : S.StackShape) (below ins' : List ValType) → length ps ≡ n → S.Takes n sh sh2 → W sh (ps ++ below) ins' → On sh2 ps below ins'
   on [] _ sh _ below ins' e takes_none wo = record { low = ins'; is = refl; rest = wo }
   on (ty ∷ ps) _ sh _ below ins' e takes_none wo = absurd (omega arith)
   on ps n _ _ below _ e takes_same types_same = record { low = below; is = refl; rest = types_same }
@@ -101,18 +101,18 @@ module _ (locals : List ValType) where
   on (ty ∷ ps) _ _ _ below _ e (takes_one {n = n} {sh = sh} {sh2 = sh2} ta) (types_both {ins' = ins'} ty2 wo) =
       let r = on ps n sh sh2 below ins' (omega arith) ta wo in record { low = r.low; is = ap (λ us. ty ∷ us) r.is; rest = r.rest }
 
-  more_types : (rs : List ValType) (g : ℕ) (sh : S.Shape) (below low : List ValType) → length rs ≡ g → W sh below low → W (more g sh) (rs ++ below) (rs ++ low)
+  more_types : (rs : List ValType) (g : ℕ) (sh : S.StackShape) (below low : List ValType) → length rs ≡ g → W sh below low → W (more g sh) (rs ++ below) (rs ++ low)
   more_types [] g sh below low e wo = subst (λ k. W (more k sh) below low) e wo
   more_types (ty ∷ rs) zero sh below low e wo = absurd (omega arith)
   more_types (ty ∷ rs) (suc g) sh below low e wo = types_both ty (more_types rs g sh below low (omega arith) wo)
 
   -- what a rule makes of the operands of both
-  pub record Goes (s : Sig) (g : ℕ) (sh2 : S.Shape) (mids ins' : List ValType) : Type 0 where
+  pub record Goes (s : Sig) (g : ℕ) (sh2 : S.StackShape) (mids ins' : List ValType) : Type 0 where
     pub mids' : List ValType
     pub takes' : Takes s ins' mids'
     pub rest : W (more g sh2) mids mids'
 
-  moved : (s : Sig) (n g : ℕ) (sh sh2 : S.Shape) (ins mids ins' : List ValType) → Sized s n g → S.Takes n sh sh2 → W sh ins ins' → Takes s ins mids → Goes s g sh2 mids ins'
+  moved : (s : Sig) (n g : ℕ) (sh sh2 : S.StackShape) (ins mids ins' : List ValType) → Sized s n g → S.Takes n sh sh2 → W sh ins ins' → Takes s ins mids → Goes s g sh2 mids ins'
   moved (moves ps rs) n g sh sh2 ins mids ins' z ta wo h =
       let r = on ps n sh sh2 h.0 ins' z.0 ta (subst (λ us. W sh us ins') h.1 wo) in
       record { mids' = rs ++ r.low; takes' = (r.low, r.is, refl); rest = subst (λ us. W (more g sh2) us (rs ++ r.low)) (sym h.2) (more_types rs g sh2 h.0 r.low z.1 r.rest) }
@@ -133,7 +133,7 @@ module _ (locals : List ValType) where
   moved (lacks r) n g sh sh2 ins mids ins' z ta wo h = absurd h
   moved (late r ps rs) n g sh sh2 ins mids ins' z ta wo h = absurd h
 
-  risen_types : (x : ℕ) (ty : ValType) (sh sh2 : S.Shape) (ins ins' : List ValType) → slice_get locals x ≡ Some ty → Rises x sh sh2 → W sh ins ins' → W sh2 (ty ∷ ins) ins'
+  risen_types : (x : ℕ) (ty : ValType) (sh sh2 : S.StackShape) (ins ins' : List ValType) → slice_get locals x ≡ Some ty → Rises x sh sh2 → W sh ins ins' → W sh2 (ty ∷ ins) ins'
   risen_types x ty _ _ _ _ e rises (types_kept {sh = sh} {ins = ins} {ins' = ins'} y ty2 e2 wo) =
       let q : Some ty2 ≡ Some ty = sym e2 ∙ e in let z : ty2 ≡ ty = cc in subst (λ u. W (None ∷ sh) (ty ∷ ins) (u ∷ ins')) (sym z) (types_both ty wo)
   risen_types x ty _ _ _ _ e (rises_below {sh = sh} {sh2 = sh2} ri) (types_kept {ins = ins} {ins' = ins'} y ty2 e2 wo) = types_kept y ty2 e2 (risen_types x ty sh sh2 ins ins' e ri wo)
@@ -178,7 +178,7 @@ jumps_any ls es (Some r) ins a b h = by (all_there ls es) (all_alike ls r es) h
 
 module _ (c : Around) (t : Terms) where
   -- an instruction that leaves, or goes on, with the same operands on both sides
-  pub typed : (ls : List (Option ValType)) (n : ℕ) (ts : List Free) (out f : Free) (sh : S.Shape) (code code' : Code) (outs ins ins' : List ValType)
+  pub typed : (ls : List (Option ValType)) (n : ℕ) (ts : List Free) (out f : Free) (sh : S.StackShape) (code code' : Code) (outs ins ins' : List ValType)
       → Slims t n ts out f sh code code' → WovenTypes c.locals sh ins ins' → Types c ls code outs ins → Types c ls code' outs ins'
   unfolding Types
   typed ls n ts out f sh _ _ outs ins ins' (ends co pl) wo h = plain_types c.locals sh ins ins' pl wo ∙ h

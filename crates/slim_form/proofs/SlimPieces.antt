@@ -41,7 +41,7 @@ module _ (t : Terms) (n : ℕ) (ts : List Free) (out g : Free) (k k' : Code) (be
   left : (m : ℕ) (rest : Code) → m ≡ length (calls_of k) + n → length (calls_of rest) + m ≡ length (calls_of (followed_by rest k)) + n
   left m rest em = let e = calls_join rest k in omega arith
 
-  pub then_slim : (m : ℕ) (f : Free) (sh : S.Shape) (c c' : Code) → m ≡ length (calls_of k) + n → goes_on c ≡ true → Slims t m ts g f sh c c'
+  pub then_slim : (m : ℕ) (f : Free) (sh : S.StackShape) (c c' : Code) → m ≡ length (calls_of k) + n → goes_on c ≡ true → Slims t m ts g f sh c c'
       → Slims t n ts out f sh (followed_by c k) (followed_by c' k')
   unfolding followed_by
   then_slim m f sh _ _ em go (ends co pl) = forgets pl (narrows g co behind)
