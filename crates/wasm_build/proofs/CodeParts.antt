@@ -59,7 +59,7 @@ opened first_arm (otherwise k arm) (branch r a b m) else_arm at bytes e h = absu
 opened first_arm (instr op operands raw) (plain p rest) else_arm at bytes e h =
     let g = h.1 in
     let w = one_back op.byte at g.0 g.1 bytes (ImmediatesOf operands ▸ CodeOf first_arm raw) g.2 g.3.1 g.4 in
-    let is : IsOfOpcode op.byte p = record { opcode = e.0.opcode; operands = h.0 ∙ ap (λ z. Some (form z)) e.0.follows; instr_kind = e.0.kind } in
+    let is : IsOfOpcode op.byte p = record { opcode = e.0.opcode; operands = h.0 ∙ ap (λ z. Some (form z)) e.0.follows; kind = e.0.kind } in
     let q = w.1 in
     record {
       byte = op.byte;
