@@ -11,7 +11,7 @@ use Rattle.wa_types.specs.Syntax.{Plain, Code, done, plain, nest, branch}
 use Rattle.wa_types.specs.View.{code, in_front}
 use Rattle.wa_types.specs.Pruned.{is_last_instr, pruned}
 use Rattle.wa_types.specs.Pausing.{Callee as PlainCallee, direct, indirect, calls_of}
-use Rattle.wa_types.proofs.ViewLemmas.{is_block, is_loop, is_if, is_plain, kind, in_block, in_loop, in_if, code_step, code_empty}
+use Rattle.wa_types.proofs.ViewLemmas.{is_block, is_loop, is_if, is_plain, instr_kind, in_block, in_loop, in_if, code_step, code_empty}
 use Rattle.call_graph.specs.declared.calls.Callee.{Callee}
 use Rattle.call_graph.specs.declared.calls.Callee.TheVariants.{Direct, Indirect}
 use Rattle.call_graph.specs.Calls.{callee_of}
@@ -106,7 +106,7 @@ plain_not p e = cc
 -- what stands in front of code as a construct is one
 no_construct : (x : Instr) → ((r : Option ValType) (v : Vec Instr Global) → x ≡ Block r v → ⊥) → ((r : Option ValType) (v : Vec Instr Global) → x ≡ Loop r v → ⊥)
     → ((r : Option ValType) (v w : Vec Instr Global) → x ≡ If r v w → ⊥) → is_construct (in_front x done) ≡ true → ⊥
-no_construct x not_block not_loop not_if h = elim (kind x) [
+no_construct x not_block not_loop not_if h = elim (instr_kind x) [
   | is_block r v e ↦ not_block r v e
   | is_loop r v e ↦ not_loop r v e
   | is_if r v w e ↦ not_if r v w e

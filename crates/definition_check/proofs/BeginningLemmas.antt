@@ -187,11 +187,11 @@ module _ (test : ℕ → List Goal → List ℕ → Bool) (n at : ℕ) (g : Goal
   abbrev On : ℕ → List Goal → Bool
   On used hs = is_inside (at + used) hs && walks test n (at + used) hs (drop used bytes)
 
-  abbrev Next : ℕ → List Goal → Bool
-  Next used new = on_goals (settled (at + used) (new ++ gs)) (On used)
+  abbrev NextItem : ℕ → List Goal → Bool
+  NextItem used new = on_goals (settled (at + used) (new ++ gs)) (On used)
 
   abbrev Taken : ℕ → ℕ → Bool
-  Taken v used = on_goals (next g v (at + used)) (Next used)
+  Taken v used = on_goals (next g v (at + used)) (NextItem used)
 
   module _ (v used : ℕ) (a b : List ℕ) (e : bytes ≡ a ++ b) (i : IsItem (wants g) a v) (u : used ≡ length a) where
     by_settled : (new : List Goal) → next g v (at + used) ≡ Some new → (o : Option (List Goal)) → settled (at + used) (new ++ gs) ≡ o → on_goals o (On used) ≡ true → Took test n at g gs bytes
@@ -211,7 +211,7 @@ module _ (test : ℕ → List Goal → List ℕ → Bool) (n at : ℕ) (g : Goal
           on = subst (λ k. walks test n (at + k) hs b ≡ true) u (subst (λ z. walks test n (at + used) hs z ≡ true) rest t.1);
         }
 
-    by_next : (o : Option (List Goal)) → next g v (at + used) ≡ o → on_goals o (Next used) ≡ true → Took test n at g gs bytes
+    by_next : (o : Option (List Goal)) → next g v (at + used) ≡ o → on_goals o (NextItem used) ≡ true → Took test n at g gs bytes
     by_next None f h = absurd (let w : false ≡ true = h in cc)
     by_next (Some new) f h = by_settled new f (settled (at + used) (new ++ gs)) refl h
 
@@ -237,7 +237,7 @@ step_item test n at g gs bytes a b v ks e i s h =
     let front : front_of (wants g) bytes ≡ whole v used = ap (front_of (wants g)) e ∙ front_item (wants g) a b v i in
     let rest : b ≡ drop used bytes = sym (ap (drop used) e ∙ drop_front a b) in
     ap (λ f. on_front f (test at (g ∷ gs) bytes) (Taken test n at g gs bytes)) front
-    ∙ ap (λ o. on_goals o (Next test n at g gs bytes used)) s.pushed
+    ∙ ap (λ o. on_goals o (NextItem test n at g gs bytes used)) s.pushed
     ∙ ap (λ o. on_goals o (On test n at g gs bytes used)) s.settles
     ∙ join _ _ (true_inside (at + used) ks s.inside) (subst (λ z. walks test n (at + used) ks z ≡ true) rest h)
 

@@ -275,10 +275,10 @@ module _ (i : GuardIndices) (small : i.state < 2 ^ 32) where
   sought_fits label by k first next l h g = (small, ((tt, (l, (tt, (tt, tt)))), raised_fits 0 by first h, g))
 
   noted_fits : (label k : ℕ) (next : Code) → k < 2 ^ 32 → BasicsFit next → BasicsFit (noted i label k next)
-  noted_fits label k next l h = index_fits i.alone (small, (tt, h))
+  noted_fits label k next l h = index_fits i.one_call (small, (tt, h))
     where
-      index_fits : (alone : Bool) → BasicsFit (plain (basic (global_get i.state)) (plain (br_if label) next))
-          → BasicsFit (index_noted alone i.index k (plain (basic (global_get i.state)) (plain (br_if label) next)))
+      index_fits : (one_call : Bool) → BasicsFit (plain (basic (global_get i.state)) (plain (br_if label) next))
+          → BasicsFit (index_noted one_call i.index k (plain (basic (global_get i.state)) (plain (br_if label) next)))
       index_fits true g = g
       index_fits false g = (l, (tt, g))
 

@@ -9,7 +9,7 @@ use Rattle.wa_types.specs.declared.syntax.Run.{Run}
 use Rattle.wa_types.specs.declared.values.ValType.{ValType}
 use Rattle.wa_types.specs.declared.values.Value.TheVariants as V
 use Rattle.wa_types.specs.Bounds.{code_weight}
-use Rattle.wa_types.specs.Encoding.{Enc, sections, type_byte, vector, sized, same_type, basic_bytes, plain_bytes, else_bytes, code_bytes, expression_bytes, run_onto, merged, run_bytes, body_bytes}
+use Rattle.wa_types.specs.Encoding.{Enc, sections, type_byte, vector, sized, same_type, plain_bytes, else_bytes, code_bytes, expression_bytes, run_onto, merged, run_bytes, body_bytes}
 use Rattle.wa_types.specs.Frames.{Pair, SlotPairs, ResultPairs, Count}
 use Rattle.wa_types.specs.Leb.{shortest}
 use Rattle.wa_types.specs.Modules.{defined_at, func_imports, locals_of}
@@ -39,7 +39,7 @@ use Rattle.emitted_bytes.proofs.Lengths.{shortest_length, shortest_signed_length
 
 -- ---- code
 
-basic_length : (b : Basic) → length (basic_bytes b) ≤ 21
+basic_length : (b : Basic) → length (plain_bytes (basic b)) ≤ 21
 basic_length nop = omega arith
 basic_length drop = omega arith
 basic_length select = omega arith

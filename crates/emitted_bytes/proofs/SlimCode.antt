@@ -5,12 +5,12 @@ use Rattle.wa_model.specs.Flat.{followed_by, got}
 use Rattle.wa_model.specs.Store.{gives}
 use Rattle.rewrite_form.specs.Pieces.{Units}
 use Rattle.rewrite_form.specs.Slim as S
-use Rattle.rewrite_form.specs.Slim.{Free, Shape, Slims, Terms, more, ends, does, keeps, uses, saves, narrows, forgets}
+use Rattle.rewrite_form.specs.Slim.{Free, StackShape, Slims, Terms, more, ends, does, keeps, uses, saves, narrows, forgets}
 use Rattle.rewrite_form.specs.SlimUnits.{SlimUnits, untouched, alone, before_call, before_block, before_loop, before_if, before_kept_if}
 use Rattle.emitted_bytes.proofs.BasicCode.{followed_fits, got_fits, BasicsFit, UnitsBasic}
 
 module _ (t : Terms) where
-  pub code_slim : (n : ℕ) (ts : List Free) (out f : Free) (sh : Shape) (code code' : Code) → Slims t n ts out f sh code code' → BasicsFit code → BasicsFit code'
+  pub code_slim : (n : ℕ) (ts : List Free) (out f : Free) (sh : StackShape) (code code' : Code) → Slims t n ts out f sh code code' → BasicsFit code → BasicsFit code'
   code_slim n ts out f sh _ _ (ends co pl) h = tt
   code_slim n ts out f sh _ _ (does {sh2 = sh2} {rest = rest} {rest' = rest'} b ta sl) h = (h.0, code_slim n ts out f (more (gives b) sh2) rest rest' sl h.1)
   code_slim n ts out f sh _ _ (S.gets {rest = rest} {rest' = rest'} x fr sl) h = (h.0, code_slim n ts out f (None ∷ sh) rest rest' sl h.1)
@@ -36,7 +36,7 @@ module _ (t : Terms) where
   code_slim n ts out f sh _ _ (S.decides {a = a} {a' = a'} {b = b} {b' = b'} {rest = rest} {rest' = rest'} r g pl sa sb sl) h =
       (code_slim _ (g ∷ ts) g f [] a a' sa h.0, code_slim _ (g ∷ ts) g f [] b b' sb h.1, code_slim n ts out g [] rest rest' sl h.2)
 
-  pub units_basic : (n : ℕ) (ts : List Free) (out f : Free) (sh : Shape) (first first' : Code) (us us' : Units) → SlimUnits t n ts out f sh first us first' us' → BasicsFit first → UnitsBasic us
+  pub units_basic : (n : ℕ) (ts : List Free) (out f : Free) (sh : StackShape) (first first' : Code) (us us' : Units) → SlimUnits t n ts out f sh first us first' us' → BasicsFit first → UnitsBasic us
       → BasicsFit first' × UnitsBasic us'
   units_basic n ts out _ _ first _ us _ untouched h k = (h, k)
   units_basic n ts out f sh first first' _ _ (alone sl) h k = (code_slim n ts out f sh first first' sl h, tt)

@@ -10,6 +10,7 @@ use Rattle.wa_types.specs.declared.values.ValType.TheVariants.{I32}
 use Rattle.wa_types.specs.Counts.{depth_of}
 use Rattle.wa_types.specs.Sizes.{PlainFits, CodeFits}
 use Rattle.wa_types.specs.Syntax.{basic, local_get, local_set, local_tee, br, br_if, br_table, return, unreachable, call, call_indirect, Plain, Code, done, plain, nest, branch, FuncType}
+use Rattle.wa_types.specs.declared.rules.Rule.TheVariants.{UnknownLabel, StackTypes}
 use Rattle.wa_types.specs.Typing.{Around, leaves, lacks, all_there, all_alike, jump, may_jump, jumps, calls, calls_at, gets, sets, tees, Takes, sig, listed, label, Types}
 use Rattle.emitted_bytes.proofs.BasicCode.{PlainBasic, BasicsFit}
 
@@ -52,7 +53,7 @@ module _ (c : Around) (few : AroundFew c) (ls : List (Option ValType)) (shallow 
   table_there labels l None e ins outs h = absurd h
   table_there labels l (Some r) e ins outs h = by (all_there ls labels) refl h
     where
-      by : (b : Bool) → all_there ls labels ≡ b → Takes (if b then (if all_alike ls r labels then leaves (I32 ∷ listed r) else lacks 8) else lacks 7) ins outs
+      by : (b : Bool) → all_there ls labels ≡ b → Takes (if b then (if all_alike ls r labels then leaves (I32 ∷ listed r) else lacks StackTypes) else lacks UnknownLabel) ins outs
           → All (λ l. l < 2 ^ 32) labels × (l < 2 ^ 32)
       by true t h = let k = slice_get_within ls l r e in (labels_there labels t, omega (arith, k, shallow))
       by false t h = absurd h

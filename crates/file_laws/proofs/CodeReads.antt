@@ -1,10 +1,10 @@
 -- Goals of code.
 use Rattle.std.proofs.Common.{◌≡◌, ℕ, suc, zero, ◌+◌, ◌<◌, ◌≤◌, ◌⊎◌, List, [], ◌∷◌, ◌++◌, Option, Some, None, refl, ap, sym, ◌∙◌, subst, arith, append_assoc, length, length-append, Bool}
 use Rattle.std.proofs.Common.{true, false, inl, inr, cond, nat_eq, nat_le, eqb-true, IsTrue}
-use Rattle.wa_types.specs.Opcodes.{Follows, no_operand, a_zero, an_index, an_index_and_zero, an_access, some_labels, a_constant, a_float, follows, shape, within, is_nest}
-use Rattle.wa_types.specs.Binary.{Placed, Operands, nothing, zero_byte, index, index_and_zero, access, labels, constant, float, RawCode, ended, otherwise, instr, nested, branched}
-use Rattle.wa_types.specs.Begun.{Goal, code, exact, number, count, block_type, entries, some_indices, next, where_true, operands, operands_of, behind_opcode, an_unsigned}
-use Rattle.wa_types.specs.Spells.{◌▸◌, Exactly, Number, SignedNumber, Vector, Byte, BlockType, OperandsOf, CodeOf}
+use Rattle.wa_types.specs.Opcodes.{Form, no_immediate, a_zero, an_index, an_index_and_zero, an_access, some_labels, a_constant, a_float, follows, form, within, is_nest}
+use Rattle.wa_types.specs.Binary.{Placed, Immediates, nothing, zero_byte, index, index_and_zero, access, labels, constant, float, RawCode, ended, otherwise, instr, nested, branched}
+use Rattle.wa_types.specs.Begun.{Goal, code, exact, number, count, block_type, entries, some_indices, next, where_true, immediates, immediates_of, behind_opcode, an_unsigned}
+use Rattle.wa_types.specs.Spells.{◌▸◌, Exactly, Number, SignedNumber, Vector, Byte, BlockType, ImmediatesOf, CodeOf}
 use Rattle.file_laws.proofs.Runs.{some_same, not_none}
 use Rattle.file_laws.proofs.GoalReads.{Any, Reads, reads_none, reads_then, reads_as, Begins, reads_first, Goes, takes_one, gives_one, to_right, on_right}
 use Rattle.file_laws.proofs.Leaves.{reads_number, reads_signed, reads_exact, reads_float, reads_block_type, tested, alone, with_nothing}
@@ -16,8 +16,8 @@ reads_index = reads_as _ (Begins an_unsigned (λ v k. Exactly [])) (Any Number) 
     (reads_first (entries some_indices 1) (λ v k. Exactly []) refl refl (λ v k. reads_none))
 
 -- what follows an opcode, by what the table says
-Behind : Follows → ℕ → List ℕ → Type 0
-Behind no_operand = Exactly []
+Behind : Form → ℕ → List ℕ → Type 0
+Behind no_immediate = Exactly []
 Behind a_zero = Exactly (0x00 ∷ [])
 Behind an_index = Any Number
 Behind an_index_and_zero = Any Number ▸ Exactly (0x00 ∷ [])
@@ -26,13 +26,13 @@ Behind some_labels = Any (Vector Number) ▸ Any Number
 Behind (a_constant bits) = Any (SignedNumber bits)
 Behind (a_float n) = λ at bytes. length bytes ≡ n
 
-HasBytes : Follows → Type 0
+HasBytes : Form → Type 0
 HasBytes (a_float n) = 0 < n
 HasBytes _ = Unit {0}
 
-reads_behind : (f : Follows) → HasBytes f → Reads (operands f) (Behind f)
+reads_behind : (f : Form) → HasBytes f → Reads (immediates f) (Behind f)
 unfolding Behind HasBytes
-reads_behind no_operand h = reads_none
+reads_behind no_immediate h = reads_none
 reads_behind a_zero h = reads_exact 0x00
 reads_behind an_index h = reads_number
 reads_behind an_index_and_zero h = reads_then number (exact 0x00 ∷ []) (Any Number) (Exactly (0x00 ∷ [])) reads_number (reads_exact 0x00)
@@ -41,7 +41,7 @@ reads_behind some_labels h = reads_then (count some_indices) (number ∷ []) (An
 reads_behind (a_constant bits) h = reads_signed bits
 reads_behind (a_float n) h = reads_float n h
 
-to_behind : (o : Operands) (at : ℕ) (a : List ℕ) → OperandsOf o at a → Behind (shape o) at a
+to_behind : (o : Immediates) (at : ℕ) (a : List ℕ) → ImmediatesOf o at a → Behind (form o) at a
 unfolding Behind
 to_behind nothing at a h = h
 to_behind zero_byte at a h = h
@@ -52,9 +52,9 @@ to_behind (labels targets last) at a h = (h.0, h.1, h.2, (targets, h.3), (last, 
 to_behind (constant bits n) at a h = (n, h)
 to_behind (float bytes) at a h = ap length h
 
-from_behind : (f : Follows) (at : ℕ) (a : List ℕ) → Behind f at a → (o : Operands) × (shape o ≡ f) × OperandsOf o at a
+from_behind : (f : Form) (at : ℕ) (a : List ℕ) → Behind f at a → (o : Immediates) × (form o ≡ f) × ImmediatesOf o at a
 unfolding Behind
-from_behind no_operand at a h = (nothing, refl, h)
+from_behind no_immediate at a h = (nothing, refl, h)
 from_behind a_zero at a h = (zero_byte, refl, h)
 from_behind an_index at a h = (index h.0, refl, h.1)
 from_behind an_index_and_zero at a h = (index_and_zero h.3.0, refl, (h.0, h.1, h.2, h.3.1, h.4))
@@ -64,21 +64,21 @@ from_behind (a_constant bits) at a h = (constant bits h.0, refl, h.1)
 from_behind (a_float n) at a h = (float a, ap a_float h, refl)
 
 -- the table's floats have bytes
-Sized : Option Follows → Type 0
-Sized o = (f : Follows) → o ≡ Some f → HasBytes f
+Sized : Option Form → Type 0
+Sized o = (f : Form) → o ≡ Some f → HasBytes f
 
-either : (b : Bool) (x y : Option Follows) → Sized x → Sized y → Sized (cond b x y)
+either : (b : Bool) (x y : Option Form) → Sized x → Sized y → Sized (cond b x y)
 either true x y p q = p
 either false x y p q = q
 
-follows_same : (e f : Follows) → Some e ≡ Some f → e ≡ f
+follows_same : (e f : Form) → Some e ≡ Some f → e ≡ f
 follows_same e f p = cc
 
-sized : (e : Follows) → HasBytes e → Sized (Some e)
+sized : (e : Form) → HasBytes e → Sized (Some e)
 unfolding Sized
 sized e h f p = subst HasBytes (follows_same e f p) h
 
-not_followed : (f : Follows) → None ≡ Some f → ⊥
+not_followed : (f : Form) → None ≡ Some f → ⊥
 not_followed f e = cc
 
 unsized : Sized None
@@ -88,13 +88,13 @@ unsized f p = absurd (not_followed f p)
 follows_sized : (op : ℕ) → Sized (follows op)
 unfolding follows HasBytes
 follows_sized op =
-    either (within 0x00 0x01 op) _ _ (sized no_operand tt)
+    either (within 0x00 0x01 op) _ _ (sized no_immediate tt)
     (either (within 0x0C 0x0D op) _ _ (sized an_index tt)
     (either (nat_eq op 0x0E) _ _ (sized some_labels tt)
-    (either (nat_eq op 0x0F) _ _ (sized no_operand tt)
+    (either (nat_eq op 0x0F) _ _ (sized no_immediate tt)
     (either (nat_eq op 0x10) _ _ (sized an_index tt)
     (either (nat_eq op 0x11) _ _ (sized an_index_and_zero tt)
-    (either (within 0x1A 0x1B op) _ _ (sized no_operand tt)
+    (either (within 0x1A 0x1B op) _ _ (sized no_immediate tt)
     (either (within 0x20 0x24 op) _ _ (sized an_index tt)
     (either (within 0x28 0x3E op) _ _ (sized an_access tt)
     (either (within 0x3F 0x40 op) _ _ (sized a_zero tt)
@@ -102,9 +102,9 @@ follows_sized op =
     (either (nat_eq op 0x42) _ _ (sized (a_constant 64) tt)
     (either (nat_eq op 0x43) _ _ (sized (a_float 4) (omega arith))
     (either (nat_eq op 0x44) _ _ (sized (a_float 8) (omega arith))
-    (either (within 0x45 0xBF op) _ _ (sized no_operand tt) unsized))))))))))))))
+    (either (within 0x45 0xBF op) _ _ (sized no_immediate tt) unsized))))))))))))))
 
-has_bytes : (op : ℕ) (f : Follows) → follows op ≡ Some f → HasBytes f
+has_bytes : (op : ℕ) (f : Form) → follows op ≡ Some f → HasBytes f
 unfolding Sized
 has_bytes op f e = follows_sized op f e
 
@@ -114,15 +114,15 @@ data Opcode (first_arm : Bool) (op : ℕ) (new : List Goal) : Type 0 where
   is_else : op ≡ 0x05 → first_arm ≡ true → new ≡ code false ∷ [] → Opcode first_arm op new
   is_nested : IsTrue (is_nest op) → new ≡ block_type ∷ code false ∷ code first_arm ∷ [] → Opcode first_arm op new
   is_if : op ≡ 0x04 → new ≡ block_type ∷ code true ∷ code first_arm ∷ [] → Opcode first_arm op new
-  is_instr : (f : Follows) → follows op ≡ Some f → new ≡ operands f ++ code first_arm ∷ [] → Opcode first_arm op new
+  is_instr : (f : Form) → follows op ≡ Some f → new ≡ immediates f ++ code first_arm ∷ [] → Opcode first_arm op new
 
 where_some : (b : Bool) (gs new : List Goal) → where_true b gs ≡ Some new → (b ≡ true) × (new ≡ gs)
 where_some true gs new e = (refl, some_same new gs _ e refl)
 where_some false gs new e = absurd (not_none new e)
 
-operands_some : (o : Option Follows) (more new : List Goal) → operands_of o more ≡ Some new → (f : Follows) × (o ≡ Some f) × (new ≡ operands f ++ more)
+operands_some : (o : Option Form) (more new : List Goal) → immediates_of o more ≡ Some new → (f : Form) × (o ≡ Some f) × (new ≡ immediates f ++ more)
 operands_some None more new e = absurd (not_none new e)
-operands_some (Some f) more new e = (f, refl, some_same new (operands f ++ more) _ e refl)
+operands_some (Some f) more new e = (f, refl, some_same new (immediates f ++ more) _ e refl)
 
 by_test : (b : Bool) → (b ≡ true) ⊎ (b ≡ false)
 by_test true = inl refl
@@ -134,19 +134,19 @@ opcode first_arm op new e =
       | inl a ↦ is_end (eqb-true op 0x0B a) (some_same new [] _ (let p : Some [] ≡ Some new = rw a at e in p) refl)
       | inr a ↦
           let e1 : cond (nat_eq op 0x05) (where_true first_arm (code false ∷ [])) (cond (is_nest op) (Some (block_type ∷ code false ∷ code first_arm ∷ []))
-          (cond (nat_eq op 0x04) (Some (block_type ∷ code true ∷ code first_arm ∷ [])) (operands_of (follows op) (code first_arm ∷ [])))) ≡ Some new = rw a at e in
+          (cond (nat_eq op 0x04) (Some (block_type ∷ code true ∷ code first_arm ∷ [])) (immediates_of (follows op) (code first_arm ∷ [])))) ≡ Some new = rw a at e in
           elim (by_test (nat_eq op 0x05)) [
             | inl b ↦ let w = where_some first_arm (code false ∷ []) new (let p : where_true first_arm (code false ∷ []) ≡ Some new = rw b at e1 in p) in is_else (eqb-true op 0x05 b) w.0 w.1
             | inr b ↦
                 let e2 : cond (is_nest op) (Some (block_type ∷ code false ∷ code first_arm ∷ []))
-                (cond (nat_eq op 0x04) (Some (block_type ∷ code true ∷ code first_arm ∷ [])) (operands_of (follows op) (code first_arm ∷ []))) ≡ Some new = rw b at e1 in
+                (cond (nat_eq op 0x04) (Some (block_type ∷ code true ∷ code first_arm ∷ [])) (immediates_of (follows op) (code first_arm ∷ []))) ≡ Some new = rw b at e1 in
                 elim (by_test (is_nest op)) [
                   | inl c ↦ is_nested c (some_same new _ _ (let p : Some (block_type ∷ code false ∷ code first_arm ∷ []) ≡ Some new = rw c at e2 in p) refl)
                   | inr c ↦
-                      let e3 : cond (nat_eq op 0x04) (Some (block_type ∷ code true ∷ code first_arm ∷ [])) (operands_of (follows op) (code first_arm ∷ [])) ≡ Some new = rw c at e2 in
+                      let e3 : cond (nat_eq op 0x04) (Some (block_type ∷ code true ∷ code first_arm ∷ [])) (immediates_of (follows op) (code first_arm ∷ [])) ≡ Some new = rw c at e2 in
                       elim (by_test (nat_eq op 0x04)) [
                         | inl d ↦ is_if (eqb-true op 0x04 d) (some_same new _ _ (let p : Some (block_type ∷ code true ∷ code first_arm ∷ []) ≡ Some new = rw d at e3 in p) refl)
-                        | inr d ↦ let o = operands_some (follows op) (code first_arm ∷ []) new (let p : operands_of (follows op) (code first_arm ∷ []) ≡ Some new = rw d at e3 in p)
+                        | inr d ↦ let o = operands_some (follows op) (code first_arm ∷ []) new (let p : immediates_of (follows op) (code first_arm ∷ []) ≡ Some new = rw d at e3 in p)
                             in is_instr o.0 o.1 o.2
                       ]
                 ]
@@ -235,7 +235,7 @@ by_opcode n first_arm more last at op new b less short (is_if e f) g =
     )
 by_opcode n first_arm more last at op new b less short (is_instr f e i) g =
     let r = (reads_behind f (has_bytes op f e)).sound (code first_arm ∷ more) last (at + 1) b
-    (subst (λ z. Goes z last (at + 1) b) (append_assoc (operands f) (code first_arm ∷ []) more) (subst (λ z. Goes (z ++ more) last (at + 1) b) i g)) in
+    (subst (λ z. Goes z last (at + 1) b) (append_assoc (immediates f) (code first_arm ∷ []) more) (subst (λ z. Goes (z ++ more) last (at + 1) b) i g)) in
     let o = from_behind f (at + 1) r.0 r.3 in
     let u = less first_arm more last (at + 1 + length r.0) r.1 (omega (arith, short, ap length r.2, length-append r.0 r.1)) r.4 in (
       op ∷ (r.0 ++ u.0),
@@ -272,13 +272,13 @@ nest_next first_arm op h = elim (nest_range op h) [
   | inr e ↦ subst (λ z. behind_opcode first_arm z ≡ Some (block_type ∷ code false ∷ code first_arm ∷ [])) (sym e) refl
 ]
 
-pub refuted : (op k : ℕ) (f : Follows) → follows op ≡ Some f → follows k ≡ None → nat_eq op k ≡ false
+pub refuted : (op k : ℕ) (f : Form) → follows op ≡ Some f → follows k ≡ None → nat_eq op k ≡ false
 refuted op k f e n = elim (tested op k) [
   | inl s ↦ absurd (not_followed f (sym n ∙ ap follows (sym s) ∙ e))
   | inr r ↦ r
 ]
 
-pub none_nest : (op : ℕ) (f : Follows) → follows op ≡ Some f → is_nest op ≡ false
+pub none_nest : (op : ℕ) (f : Form) → follows op ≡ Some f → is_nest op ≡ false
 unfolding follows
 none_nest op f e = elim (by_test (is_nest op)) [
   | inr r ↦ r
@@ -288,7 +288,7 @@ none_nest op f e = elim (by_test (is_nest op)) [
   ]
 ]
 
-instr_next : (first_arm : Bool) (op : ℕ) (f : Follows) → follows op ≡ Some f → behind_opcode first_arm op ≡ Some (operands f ++ code first_arm ∷ [])
+instr_next : (first_arm : Bool) (op : ℕ) (f : Form) → follows op ≡ Some f → behind_opcode first_arm op ≡ Some (immediates f ++ code first_arm ∷ [])
 unfolding follows
 instr_next first_arm op f e = rw (refuted op 0x0B f e refl, refuted op 0x05 f e refl, none_nest op f e, refuted op 0x04 f e refl, e) refl
 
@@ -303,13 +303,13 @@ code_complete (otherwise k arm) first_arm more last at bytes h =
     give_op first_arm more last at bytes b (code false ∷ []) (ap (λ t. where_true t (code false ∷ [])) h.3.0)
     (on_right (Byte b) (CodeOf false arm ▸ Goes more last) (Goes (code false ∷ more) last) at bytes (λ k b w. code_complete arm false more last k b w) r)
 code_complete (instr op o rest) first_arm more last at bytes h =
-    let r = to_right (Byte op) (OperandsOf o ▸ CodeOf first_arm rest) (Goes more last) at bytes (h.0, h.1, h.2, h.3.1, h.4) in
-    give_op first_arm more last at bytes op (operands (shape o) ++ code first_arm ∷ []) (instr_next first_arm op.byte (shape o) h.3.0)
-    (on_right (Byte op) ((OperandsOf o ▸ CodeOf first_arm rest) ▸ Goes more last) (Goes ((operands (shape o) ++ code first_arm ∷ []) ++ more) last) at bytes
+    let r = to_right (Byte op) (ImmediatesOf o ▸ CodeOf first_arm rest) (Goes more last) at bytes (h.0, h.1, h.2, h.3.1, h.4) in
+    give_op first_arm more last at bytes op (immediates (form o) ++ code first_arm ∷ []) (instr_next first_arm op.byte (form o) h.3.0)
+    (on_right (Byte op) ((ImmediatesOf o ▸ CodeOf first_arm rest) ▸ Goes more last) (Goes ((immediates (form o) ++ code first_arm ∷ []) ++ more) last) at bytes
     (λ k b w.
-    let s = to_right (OperandsOf o) (CodeOf first_arm rest) (Goes more last) k b w in
-    subst (λ z. Goes z last k b) (sym (append_assoc (operands (shape o)) (code first_arm ∷ []) more))
-    ((reads_behind (shape o) (has_bytes op.byte (shape o) h.3.0)).complete (code first_arm ∷ more) last k b
+    let s = to_right (ImmediatesOf o) (CodeOf first_arm rest) (Goes more last) k b w in
+    subst (λ z. Goes z last k b) (sym (append_assoc (immediates (form o)) (code first_arm ∷ []) more))
+    ((reads_behind (form o) (has_bytes op.byte (form o) h.3.0)).complete (code first_arm ∷ more) last k b
     (s.0, s.1, s.2, to_behind o k s.0 s.3, code_complete rest first_arm more last (k + length s.0) s.1 s.4)))
     r)
 code_complete (nested op result body rest) first_arm more last at bytes h =

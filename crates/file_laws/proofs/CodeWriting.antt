@@ -7,13 +7,13 @@ use Rattle.wa_types.specs.declared.values.ValType.{ValType}
 use Rattle.wa_types.specs.declared.values.ValType.TheVariants.{I32, I64}
 use Rattle.wa_types.specs.declared.values.Value.TheVariants.{I32 as value_32, I64 as value_64}
 use Rattle.wa_types.specs.Leb.{spelled, shortest, shortest_signed}
-use Rattle.wa_types.specs.Encoding.{vector, type_byte, block_type_byte, basic_bytes, plain_bytes, shape_byte, else_bytes, code_bytes, expression_bytes}
-use Rattle.wa_types.specs.Opcodes.{an_access, follows, shape, within, is_nest, is_load_op, is_store_op}
+use Rattle.wa_types.specs.Encoding.{vector, type_byte, block_type_byte, plain_bytes, shape_byte, else_bytes, code_bytes, expression_bytes}
+use Rattle.wa_types.specs.Opcodes.{an_access, follows, form, within, is_nest, is_load_op, is_store_op, plain_opcode, plain_immediates}
 use Rattle.wa_types.specs.Binary.{Placed, RawCode, ended, otherwise, instr, nested, branched}
-use Rattle.wa_types.specs.Spells.{Number, Items, Vector, ValueType, BlockType, OperandsOf, CodeOf}
+use Rattle.wa_types.specs.Spells.{Number, Items, Vector, ValueType, BlockType, ImmediatesOf, CodeOf}
 use Rattle.wa_types.specs.Syntax.{Basic, nop, drop, select, const, num, global_get, global_set, load, store, memory_size, memory_grow, Plain, basic, local_get, local_set, local_tee, br}
 use Rattle.wa_types.specs.Syntax.{br_if, br_table, return, unreachable, call, call_indirect, Shape, a_block, a_loop, Code, done, plain, nest, branch}
-use Rattle.wa_types.specs.Reading.{plain_opcode, plain_operands, HasKind, IsCode, Each}
+use Rattle.wa_types.specs.Reading.{HasKind, IsCode, Each}
 use Rattle.wa_types.specs.Sizes.{PlainFits, CodeFits}
 use Rattle.file_laws.proofs.NumOpcodes.{num_follows}
 use Rattle.file_laws.proofs.NumberWriting.{shortest_spells, shortest_signed_spells}
@@ -94,8 +94,8 @@ block_type (Some I64) at = record { raw = record { place = at; byte = 0x7E }; sp
 pub record PlainWritten (p : Plain) (at : ℕ) (bytes : List ℕ) : Type 0 where
   pub back : List ℕ
   pub whole : bytes ≡ plain_opcode p ∷ back
-  pub spelled : OperandsOf (plain_operands p) (at + 1) back
-  pub follows : follows (plain_opcode p) ≡ Some (shape (plain_operands p))
+  pub spelled : ImmediatesOf (plain_immediates p) (at + 1) back
+  pub follows : follows (plain_opcode p) ≡ Some (form (plain_immediates p))
   pub kind : HasKind p
 
 pub within_above : (low high n : ℕ) → high < n → within low high n ≡ false
@@ -144,7 +144,7 @@ store_range op h = elim (either_range 0x36 0x37 0x3A 0x3E op h) [ inl r ↦ (r.0
 by_index : (x at : ℕ) → x < 2 ^ 32 → Number x at (shortest x)
 by_index x at h = shortest_spells x h
 
-write_basic : (b : Basic) → PlainFits (basic b) → (at : ℕ) → PlainWritten (basic b) at (basic_bytes b)
+write_basic : (b : Basic) → PlainFits (basic b) → (at : ℕ) → PlainWritten (basic b) at (plain_bytes (basic b))
 unfolding follows
 write_basic nop h at = record { back = []; whole = refl; spelled = refl; follows = refl; kind = tt }
 write_basic drop h at = record { back = []; whole = refl; spelled = refl; follows = refl; kind = tt }
@@ -240,7 +240,7 @@ write_seq (plain p rest) h first_arm e tail t l at =
     let w = write_plain p h.0 (omega (arith, len)) at in
     let x = write_seq rest h.1 first_arm e tail t (omega (arith, len, length-append (code_bytes rest) tail)) (at + 1 + length w.back) in
     let op : Placed = record { place = at; byte = plain_opcode p } in (
-      instr op (plain_operands p) x.0,
+      instr op (plain_immediates p) x.0,
       (
         w.follows,
         (

@@ -5,7 +5,7 @@ use Rattle.std.proofs.lemmas.Bool.{lt-ltb}
 use Rattle.wa_types.specs.Leb.{IsUnsigned}
 use Rattle.wa_types.specs.Encoding.{preamble}
 use Rattle.wa_types.specs.Binary.{Section, custom, types, imports, functions, tables, memories, globals, exports, start, elements, bodies, segments}
-use Rattle.wa_types.specs.Begun.{Goal, exact, sections, size, head, until, rest, entries, Kind, some_types, some_imports, some_functions, some_tables, some_memories, some_globals}
+use Rattle.wa_types.specs.Begun.{Goal, exact, sections, size, head, until, rest, entries, EntryKind, some_types, some_imports, some_functions, some_tables, some_memories, some_globals}
 use Rattle.wa_types.specs.Begun.{some_exports, some_elements, some_bodies, some_segments, next, Inside, settled, where_true, some_of, name_of, may_follow, content, Leads, arrived, IsWhole}
 use Rattle.wa_types.specs.Begun.{Begun, part, start as start_goals}
 use Rattle.wa_types.specs.Spells.{◌▸◌, Exactly, Number, Items, Vector, Sized, Text, FunctionType, LimitsOf, TableType, ImportOf, GlobalOf, ExportOf, ElementOf, BodyOf, SegmentOf, SectionOf}
@@ -85,7 +85,7 @@ at_end : (end : ℕ) (more : List Goal) (fin at : ℕ) (bytes : List ℕ) → at
 at_end end more fin at bytes e g = (reads_until end).complete more fin at bytes ([], bytes, refl, (e, refl), subst (λ z. Goes more fin z bytes) (sym (add-zero at)) g)
 
 -- a section of entries
-give_entries : {X : Type 0} (f : X → ℕ → List ℕ → Type 0) (k : Kind) (id last owed next_owed fin at : ℕ) (xs : List X) (bytes : List ℕ) → Reads (entries k 1 ∷ []) (Any f)
+give_entries : {X : Type 0} (f : X → ℕ → List ℕ → Type 0) (k : EntryKind) (id last owed next_owed fin at : ℕ) (xs : List X) (bytes : List ℕ) → Reads (entries k 1 ∷ []) (Any f)
     → may_follow id last owed ≡ true → ((end : ℕ) → content id end last owed (length xs) ≡ Some (some_of k (length xs) ++ until end ∷ sections id next_owed ∷ []))
     → ((Exactly (id ∷ []) ▸ Sized (Vector f xs)) ▸ Goes (sections id next_owed ∷ []) fin) at bytes → Goes (sections last owed ∷ []) fin at bytes
 give_entries f k id last owed next_owed fin at xs bytes r follows pushed h =

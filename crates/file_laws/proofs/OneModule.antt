@@ -8,16 +8,17 @@ use Rattle.wa_types.specs.declared.syntax.ImportKind.TheVariants.{Global as a_gl
 use Rattle.wa_types.specs.declared.syntax.Import.{Import}
 use Rattle.wa_types.specs.Encoding.{type_byte, block_type_byte, shape_byte}
 use Rattle.wa_types.specs.Syntax.{Plain, Shape, a_block, a_loop, Code, done, plain, nest, branch, FuncType, Func, GlobalDef, Elem, Segment, Module}
-use Rattle.wa_types.specs.Binary.{Placed, Operands, RawCode, ended, otherwise, instr, nested, branched, RawType, RawKind, raw_func, raw_table, raw_memory, raw_global, RawImport, RawGlobal}
+use Rattle.wa_types.specs.Binary.{Placed, Immediates, RawCode, ended, otherwise, instr, nested, branched, RawType, RawKind, raw_func, raw_table, raw_memory, raw_global, RawImport, RawGlobal}
 use Rattle.wa_types.specs.Binary.{RawElem, RawRun, RawBody, RawSegment, Section}
-use Rattle.wa_types.specs.Reading.{plain_opcode, plain_operands, IsPlain, IsCode, Each, IsValueType, IsFuncType, IsKind, IsImport, IsGlobal, IsElem, IsRun, IsBody, IsSegment, IsModule, SpellsModule}
+use Rattle.wa_types.specs.Reading.{IsPlain, IsCode, Each, IsValueType, IsFuncType, IsKind, IsImport, IsGlobal, IsElem, IsRun, IsBody, IsSegment, IsModule, SpellsModule}
+use Rattle.wa_types.specs.Opcodes.{plain_opcode, plain_immediates}
 use Rattle.file_laws.proofs.PlainOf.{plain_of, plain_again}
 use Rattle.file_laws.proofs.UniqueCode.{one_file}
 
-one_plain : (op : Placed) (o : Operands) (p q : Plain) → IsPlain op o p → IsPlain op o q → p ≡ q
+one_plain : (op : Placed) (o : Immediates) (p q : Plain) → IsPlain op o p → IsPlain op o q → p ≡ q
 one_plain op o p q h k =
     let a : plain_opcode p ≡ plain_opcode q = sym h.opcode ∙ k.opcode in
-    let b : plain_operands p ≡ plain_operands q = sym h.follows ∙ k.follows in
+    let b : plain_immediates p ≡ plain_immediates q = sym h.follows ∙ k.follows in
     sym (plain_again p h.kind) ∙ (λ i. plain_of (a i) (b i)) ∙ plain_again q k.kind
 
 one_shape : (s t : Shape) → shape_byte s ≡ shape_byte t → s ≡ t

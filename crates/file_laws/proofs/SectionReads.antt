@@ -4,7 +4,7 @@ use Rattle.std.proofs.Common.{length-append, Bool, true, false, not, ◌&&◌, i
 use Rattle.std.proofs.lemmas.Bool.{ltb-true, ltb-false, lt-ltb}
 use Rattle.wa_types.specs.Leb.{IsUnsigned}
 use Rattle.wa_types.specs.Binary.{Section, custom, types, imports, functions, tables, memories, globals, exports, start, elements, bodies, segments}
-use Rattle.wa_types.specs.Begun.{Goal, sections, size, head, until, rest, entries, Kind, some_types, some_imports, some_functions, some_tables, some_memories, some_globals, some_exports}
+use Rattle.wa_types.specs.Begun.{Goal, sections, size, head, until, rest, entries, EntryKind, some_types, some_imports, some_functions, some_tables, some_memories, some_globals, some_exports}
 use Rattle.wa_types.specs.Begun.{some_elements, some_bodies, some_segments, next, settled, where_true, some_of, name_of, may_follow, content, Leads, arrived, item}
 use Rattle.wa_types.specs.Spells.{◌▸◌, Exactly, Number, Items, Vector, Sized, FunctionType, LimitsOf, TableType, ImportOf, GlobalOf, ExportOf, ElementOf, BodyOf, SegmentOf, SectionOf, Rising}
 use Rattle.file_laws.proofs.Runs.{some_same, not_none}
@@ -230,7 +230,7 @@ behind_end end more fin at bytes h =
     let none : at + length u.0 ≡ at = omega (arith, ap length u.3.1) in
     (u.3.0, subst (Goes more fin at) (sym (u.2 ∙ ap (λ z. z ++ u.1) u.3.1)) (subst (λ z. Goes more fin z u.1) none u.4))
 
-entries_step : {X : Type 0} (f : X → ℕ → List ℕ → Type 0) (k : Kind) (id last owed next_owed fin at : ℕ) (bytes : List ℕ) → Reads (entries k 1 ∷ []) (Any f)
+entries_step : {X : Type 0} (f : X → ℕ → List ℕ → Type 0) (k : EntryKind) (id last owed next_owed fin at : ℕ) (bytes : List ℕ) → Reads (entries k 1 ∷ []) (Any f)
     → (o : Opened id last owed fin at bytes) → o.new ≡ some_of k o.value ++ until (at + 1 + length o.size_bytes + o.bytes_size) ∷ sections id next_owed ∷ []
     → Entries f id o.value next_owed fin at bytes
 entries_step f k id last owed next_owed fin at bytes r o e =

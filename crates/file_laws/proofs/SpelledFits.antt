@@ -16,11 +16,12 @@ use Rattle.wa_types.specs.declared.syntax.Run.{Run}
 use Rattle.wa_types.specs.Leb.{IsUnsigned, IsSigned, last_signed}
 use Rattle.wa_types.specs.Syntax.{nop, drop, select, const, num, global_get, global_set, load, store, memory_size, memory_grow, Plain, basic, local_get, local_set, local_tee, br, br_if}
 use Rattle.wa_types.specs.Syntax.{br_table, return, unreachable, call, call_indirect, Code, done, plain, nest, branch, Func, GlobalDef, Elem, Segment, Module}
-use Rattle.wa_types.specs.Binary.{Placed, Operands, RawCode, ended, otherwise, instr, nested, branched, RawKind, raw_func, raw_table, raw_memory, raw_global, RawImport, RawGlobal, RawElem}
+use Rattle.wa_types.specs.Binary.{Placed, Immediates, RawCode, ended, otherwise, instr, nested, branched, RawKind, raw_func, raw_table, raw_memory, raw_global, RawImport, RawGlobal, RawElem}
 use Rattle.wa_types.specs.Binary.{RawRun, RawBody, RawSegment, Section, custom, types, imports, functions, tables, memories, globals, exports, start, elements, bodies, segments, section_id}
-use Rattle.wa_types.specs.Spells.{◌▸◌, Exactly, Number, Items, Vector, Sized, Text, Maximum, LimitsOf, TableType, OperandsOf, CodeOf, ImportKindOf, ImportOf, GlobalOf, ExportOf, ElementOf}
+use Rattle.wa_types.specs.Spells.{◌▸◌, Exactly, Number, Items, Vector, Sized, Text, Maximum, LimitsOf, TableType, ImmediatesOf, CodeOf, ImportKindOf, ImportOf, GlobalOf, ExportOf, ElementOf}
 use Rattle.wa_types.specs.Spells.{RunOf, BodyOf, SegmentOf, SectionOf, sorts_in, bodies_in}
-use Rattle.wa_types.specs.Reading.{plain_operands, HasKind, IsPlain, IsCode, Each, IsKind, IsImport, IsGlobal, IsElem, IsRun, IsBody, IsSegment, imports_in, tables_in, memories_in}
+use Rattle.wa_types.specs.Reading.{HasKind, IsPlain, IsCode, Each, IsKind, IsImport, IsGlobal, IsElem, IsRun, IsBody, IsSegment, imports_in, tables_in, memories_in}
+use Rattle.wa_types.specs.Opcodes.{plain_immediates}
 use Rattle.wa_types.specs.Reading.{globals_in, exports_in, starts_in, elements_in, segments_in, customs_of, SpellsModule}
 use Rattle.wa_types.specs.Sizes.{PlainFits, CodeFits, MaxFits, LimitsFit, KindFits, ImportFits, FuncFits, ExportFits, ElemFits, SegmentFits, CustomFits, StartFits, WellFormed}
 
@@ -124,7 +125,7 @@ table_fits : (l : Limits) → Seen TableType l → LimitsFit l
 table_fits l s = let h = s.spelled in let m = max_fits l.min l.max (s.place + length h.0) h.1 h.4 in (m.0, m.1)
 
 -- an instruction's operands fit
-operands_fit : (p : Plain) (at : ℕ) (a : List ℕ) → HasKind p → OperandsOf (plain_operands p) at a → AreBytes a → PlainFits p
+operands_fit : (p : Plain) (at : ℕ) (a : List ℕ) → HasKind p → ImmediatesOf (plain_immediates p) at a → AreBytes a → PlainFits p
 operands_fit (basic nop) at a k h b = tt
 operands_fit (basic drop) at a k h b = tt
 operands_fit (basic select) at a k h b = tt
@@ -148,8 +149,8 @@ operands_fit unreachable at a k h b = tt
 operands_fit (call x) at a k h b = unsigned_fits 32 a x h
 operands_fit (call_indirect x) at a k h b = unsigned_fits 32 h.0 x h.3
 
-plain_fits : (op : Placed) (o : Operands) (p : Plain) (at : ℕ) (a : List ℕ) → OperandsOf o at a → AreBytes a → IsPlain op o p → PlainFits p
-plain_fits op o p at a h b i = operands_fit p at a i.kind (subst (λ z. OperandsOf z at a) i.follows h) b
+plain_fits : (op : Placed) (o : Immediates) (p : Plain) (at : ℕ) (a : List ℕ) → ImmediatesOf o at a → AreBytes a → IsPlain op o p → PlainFits p
+plain_fits op o p at a h b i = operands_fit p at a i.kind (subst (λ z. ImmediatesOf z at a) i.follows h) b
 
 code_fits : (x : RawCode) (c e : Code) (first_arm : Bool) (at : ℕ) (a : List ℕ) → CodeOf first_arm x at a → AreBytes a → IsCode x c e → CodeFits c × CodeFits e
 code_fits (ended k) done e first_arm at a h b i = (tt, subst CodeFits (sym i) tt)

@@ -1,18 +1,18 @@
 -- Bytes spell at most one code, and one file.
 use Rattle.std.proofs.Common.{◌≡◌, ℕ, ◌+◌, List, [], ◌∷◌, ◌++◌, Some, Bool, true, false, refl, ap, sym, ◌∙◌, subst, arith, append_assoc, length, length-append, IsTrue, nat_eq, cond, inl, inr}
 use Rattle.wa_types.specs.Encoding.{preamble}
-use Rattle.wa_types.specs.Opcodes.{Follows, follows, shape, is_nest}
-use Rattle.wa_types.specs.Binary.{Placed, Operands, nothing, zero_byte, index, index_and_zero, access, labels, constant, float, RawCode, ended, otherwise, instr, nested, branched, Section}
+use Rattle.wa_types.specs.Opcodes.{Form, follows, form, is_nest}
+use Rattle.wa_types.specs.Binary.{Placed, Immediates, nothing, zero_byte, index, index_and_zero, access, labels, constant, float, RawCode, ended, otherwise, instr, nested, branched, Section}
 use Rattle.wa_types.specs.Binary.{custom, types, imports, functions, tables, memories, globals, exports, start, elements, bodies, segments, section_id}
 use Rattle.wa_types.specs.Spells.{◌▸◌, Exactly, Number, SignedNumber, Items, Vector, Filling, Sized, Text, Byte, ValueType, BlockType, FunctionType, LimitsOf, TableType, GlobalType}
-use Rattle.wa_types.specs.Spells.{OperandsOf, CodeOf, ImportOf, GlobalOf, ExportOf, ElementOf, RunOf, BodyOf, SegmentOf, ContentOf, SectionOf, Spells}
+use Rattle.wa_types.specs.Spells.{ImmediatesOf, CodeOf, ImportOf, GlobalOf, ExportOf, ElementOf, RunOf, BodyOf, SegmentOf, ContentOf, SectionOf, Spells}
 use Rattle.file_laws.proofs.Items.{same_cut}
 use Rattle.file_laws.proofs.CodeReads.{nest_range, refuted, none_nest}
 use Rattle.file_laws.proofs.Unique.{Same, One, Pair, one_pair, one_view, one_exact, one_number, one_signed, one_vector, one_text, one_byte, one_value_type, one_block_type, one_global_type}
 use Rattle.file_laws.proofs.Unique.{one_function_type, one_limits, one_table, one_import, one_export, heads, one_head}
 
 -- what follows an opcode, of one shape
-one_operands : (x y : Operands) (at : ℕ) (a b c d : List ℕ) → shape x ≡ shape y → OperandsOf x at a → OperandsOf y at c → a ++ b ≡ c ++ d → Same x y a c
+one_operands : (x y : Immediates) (at : ℕ) (a b c d : List ℕ) → form x ≡ form y → ImmediatesOf x at a → ImmediatesOf y at c → a ++ b ≡ c ++ d → Same x y a c
 one_operands nothing nothing at a b c d n h k e = record { value = refl; front = h ∙ sym k }
 one_operands zero_byte zero_byte at a b c d n h k e = record { value = refl; front = h ∙ sym k }
 one_operands (index x) (index y) at a b c d n h k e = let o = one_number x y at a b c d h k e in record { value = ap (λ z. index z) o.value; front = o.front }
@@ -29,13 +29,13 @@ one_operands (constant bits x) (constant bytes y) at a b c d n h k e =
     let same : bits ≡ bytes = constant_bits n in
     let o = one_signed bits x y at a b c d h (subst (λ z. SignedNumber z y at c) (sym same) k) e in
     record { value = λ i. constant (same i) (o.value i); front = o.front } where
-      constant_bits : shape (constant bits x) ≡ shape (constant bytes y) → bits ≡ bytes
+      constant_bits : form (constant bits x) ≡ form (constant bytes y) → bits ≡ bytes
       constant_bits p = cc
 one_operands (float x) (float y) at a b c d n h k e =
     let same : length x ≡ length y = float_size n in
     let cut = (same_cut a b c d e (ap length h ∙ same ∙ ap length (sym k))).0 in
     record { value = ap (λ z. float z) (sym h ∙ cut ∙ k); front = cut } where
-      float_size : shape (float x) ≡ shape (float y) → length x ≡ length y
+      float_size : form (float x) ≡ form (float y) → length x ≡ length y
       float_size p = cc
 one_operands nothing _ at a b c d n h k e = absurd (cc)
 one_operands zero_byte _ at a b c d n h k e = absurd (cc)
@@ -64,7 +64,7 @@ nest_class op h = elim (nest_range op h) [
   | inr e ↦ ap op_class e
 ]
 
-instr_class : (op : ℕ) (f : Follows) → follows op ≡ Some f → op_class op ≡ 4
+instr_class : (op : ℕ) (f : Form) → follows op ≡ Some f → op_class op ≡ 4
 unfolding op_class follows
 instr_class op f e = rw (refuted op 0x0B f e refl, refuted op 0x05 f e refl, none_nest op f e, refuted op 0x04 f e refl) refl
 
@@ -76,8 +76,8 @@ unfolding op_class class_of
 code_head (ended k) first_arm at a h = (0x0B, [], h.1, refl)
 code_head (otherwise k arm) first_arm at a h = let p = byte_head (record { place = k; byte = 0x05 }) (CodeOf false arm) at a h.1 in (0x05, p.0, p.1, refl)
 code_head (instr op operands rest) first_arm at a h =
-    let p = byte_head op (OperandsOf operands ▸ CodeOf first_arm rest) at a h.1 in
-    (op.byte, p.0, p.1, instr_class op.byte (shape operands) h.0)
+    let p = byte_head op (ImmediatesOf operands ▸ CodeOf first_arm rest) at a h.1 in
+    (op.byte, p.0, p.1, instr_class op.byte (form operands) h.0)
 code_head (nested op result body rest) first_arm at a h =
     let p = byte_head op (BlockType result ▸ CodeOf false body ▸ CodeOf first_arm rest) at a h.1 in
     (op.byte, p.0, p.1, nest_class op.byte h.0)
@@ -118,7 +118,7 @@ behind f G H u x y at a b c d h k e =
       },
     )
 
-some_follows : (e f : Follows) → Some e ≡ Some f → e ≡ f
+some_follows : (e f : Form) → Some e ≡ Some f → e ≡ f
 some_follows e f p = cc
 
 one_code : (x y : RawCode) (first_arm : Bool) (at : ℕ) (a b c d : List ℕ) → class_of x ≡ class_of y → CodeOf first_arm x at a → CodeOf first_arm y at c → a ++ b ≡ c ++ d → Same x y a c
@@ -129,8 +129,8 @@ one_code (otherwise k x) (otherwise j y) first_arm at a b c d n h i e =
     let r = one_code x y false s.1.place s.1.p b s.1.q d (code_class x y false s.1.place s.1.p b s.1.q d s.1.one s.1.two s.1.cut) s.1.one s.1.two s.1.cut in
     record { value = λ t. otherwise (s.0 t).place (r.value t); front = s.1.whole r.front }
 one_code (instr op o x) (instr op' o' y) first_arm at a b c d n h i e =
-    let s = behind Byte (OperandsOf o ▸ CodeOf first_arm x) (OperandsOf o' ▸ CodeOf first_arm y) one_byte op op' at a b c d h.1 i.1 e in
-    let same : shape o ≡ shape o' = some_follows (shape o) (shape o') (sym h.0 ∙ ap (λ z. follows z.byte) s.0 ∙ i.0) in
+    let s = behind Byte (ImmediatesOf o ▸ CodeOf first_arm x) (ImmediatesOf o' ▸ CodeOf first_arm y) one_byte op op' at a b c d h.1 i.1 e in
+    let same : form o ≡ form o' = some_follows (form o) (form o') (sym h.0 ∙ ap (λ z. follows z.byte) s.0 ∙ i.0) in
     let u = s.1.one in
     let v = s.1.two in
     let cut : u.0 ++ (u.1 ++ b) ≡ v.0 ++ (v.1 ++ d) = sym (append_assoc u.0 u.1 b) ∙ ap (λ z. z ++ b) (sym u.2) ∙ s.1.cut ∙ ap (λ z. z ++ d) v.2 ∙ append_assoc v.0 v.1 d in

@@ -1,7 +1,7 @@
 -- Goals of counted entries.
 use Rattle.std.proofs.Common.{◌≡◌, ℕ, suc, zero, ◌+◌, ◌-◌, List, [], ◌∷◌, ◌++◌, Option, Some, None, refl, ap, sym, ◌∙◌, subst, arith, append_assoc, append-nil, length, false, nat_eq, nat_le}
 use Rattle.wa_types.specs.Leb.{IsUnsigned}
-use Rattle.wa_types.specs.Begun.{Goal, count, entries, Kind, an_unsigned, next, entry, others, and_then, some_of}
+use Rattle.wa_types.specs.Begun.{Goal, count, entries, EntryKind, an_unsigned, next, entry, others, and_then, some_of}
 use Rattle.wa_types.specs.Spells.{◌▸◌, Exactly, Items, Vector}
 use Rattle.file_laws.proofs.Runs.{some_same, not_none}
 use Rattle.file_laws.proofs.GoalReads.{Any, Reads, reads_none, reads_then, reads_as, Begins, reads_first, Goes, takes_one, gives_one, to_left, to_right, on_right}
@@ -31,33 +31,33 @@ and_then_some : (o : Option (List Goal)) (more new : List Goal) → and_then o m
 and_then_some None more new e = absurd (not_none new e)
 and_then_some (Some gs) more new e = (gs, refl, some_same new (gs ++ more) _ e refl)
 
-others_one : (k : Kind) → others k 1 ≡ []
+others_one : (k : EntryKind) → others k 1 ≡ []
 others_one k = refl
 
-others_more : (k : Kind) (n : ℕ) → others k (suc (suc n)) ≡ entries k (suc n) ∷ []
+others_more : (k : EntryKind) (n : ℕ) → others k (suc (suc n)) ≡ entries k (suc n) ∷ []
 others_more k n =
     let e : nat_le (suc (suc n)) 1 ≡ false = grind (arith) in
     let f : suc (suc n) - 1 ≡ suc n = omega arith in
     rw (e, f) refl
 
-entry_next : (k : Kind) (n v at : ℕ) → next (entries k n) v at ≡ and_then (entry k v at) (others k n)
+entry_next : (k : EntryKind) (n v at : ℕ) → next (entries k n) v at ≡ and_then (entry k v at) (others k n)
 unfolding next
 entry_next k n v at = refl
 
-pushed_one : (k : Kind) (n v at : ℕ) (new : List Goal) → next (entries k (suc (suc n))) v at ≡ Some new
+pushed_one : (k : EntryKind) (n v at : ℕ) (new : List Goal) → next (entries k (suc (suc n))) v at ≡ Some new
     → (e : List Goal) × (next (entries k 1) v at ≡ Some (e ++ [])) × (new ≡ e ++ entries k (suc n) ∷ [])
 pushed_one k n v at new p =
     let t = and_then_some (entry k v at) (others k (suc (suc n))) new (sym (entry_next k (suc (suc n)) v at) ∙ p) in
     (t.0, entry_next k 1 v at ∙ ap (λ o. and_then o []) t.1, t.2 ∙ ap (λ z. t.0 ++ z) (others_more k n))
 
-pushed_more : (k : Kind) (n v at : ℕ) (new : List Goal) → next (entries k 1) v at ≡ Some new → next (entries k (suc (suc n))) v at ≡ Some (new ++ entries k (suc n) ∷ [])
+pushed_more : (k : EntryKind) (n v at : ℕ) (new : List Goal) → next (entries k 1) v at ≡ Some new → next (entries k (suc (suc n))) v at ≡ Some (new ++ entries k (suc n) ∷ [])
 pushed_more k n v at new p =
     let t = and_then_some (entry k v at) [] new (sym (entry_next k 1 v at) ∙ p) in
     entry_next k (suc (suc n)) v at ∙ ap (λ o. and_then o (others k (suc (suc n)))) t.1
     ∙ ap (λ z. Some (t.0 ++ z)) (others_more k n) ∙ ap (λ z. Some (z ++ entries k (suc n) ∷ [])) (sym (append-nil t.0) ∙ sym t.2)
 
 -- an entry of several is an entry and the others
-unroll : (k : Kind) (n last at : ℕ) (more : List Goal) (bytes : List ℕ) → Goes (entries k (suc (suc n)) ∷ more) last at bytes → Goes (entries k 1 ∷ entries k (suc n) ∷ more) last at bytes
+unroll : (k : EntryKind) (n last at : ℕ) (more : List Goal) (bytes : List ℕ) → Goes (entries k (suc (suc n)) ∷ more) last at bytes → Goes (entries k 1 ∷ entries k (suc n) ∷ more) last at bytes
 unroll k n last at more bytes h =
     let f = takes_one (entries k (suc (suc n))) more last at bytes refl refl h in
     let p = pushed_one k n f.value (at + length f.front) f.new f.pushed in
@@ -73,7 +73,7 @@ unroll k n last at more bytes h =
           (ap (λ z. z ++ more) p.2 ∙ append_assoc p.0 (entries k (suc n) ∷ []) more ∙ ap (λ z. z ++ entries k (suc n) ∷ more) (sym (append-nil p.0))) f.goes;
     })
 
-roll : (k : Kind) (n last at : ℕ) (more : List Goal) (bytes : List ℕ) → Goes (entries k 1 ∷ entries k (suc n) ∷ more) last at bytes → Goes (entries k (suc (suc n)) ∷ more) last at bytes
+roll : (k : EntryKind) (n last at : ℕ) (more : List Goal) (bytes : List ℕ) → Goes (entries k 1 ∷ entries k (suc n) ∷ more) last at bytes → Goes (entries k (suc (suc n)) ∷ more) last at bytes
 roll k n last at more bytes h =
     let f = takes_one (entries k 1) (entries k (suc n) ∷ more) last at bytes refl refl h in
     gives_one (entries k (suc (suc n))) more last at bytes refl (record {
@@ -126,7 +126,7 @@ module _ {X : Type 0} (f : X → ℕ → List ℕ → Type 0) where
   vector_to at a h = let t = h.1 in record { front = t.0; back = t.1; value = length h.0; whole = t.2; is_item = t.3; follows = record { items = h.0; number = refl; spelled = t.4 } }
 
   -- several entries, where one is read
-  pub reads_entries : (k : Kind) → Reads (entries k 1 ∷ []) (Any f) → (n : ℕ) → Reads (entries k (suc n) ∷ []) (Many f (suc n))
+  pub reads_entries : (k : EntryKind) → Reads (entries k 1 ∷ []) (Any f) → (n : ℕ) → Reads (entries k (suc n) ∷ []) (Many f (suc n))
   reads_entries k r zero = reads_as (entries k 1 ∷ []) (Any f) (Many f 1) one_from one_to r
   reads_entries k r (suc n) =
       let s = reads_as (entries k 1 ∷ entries k (suc n) ∷ []) (Any f ▸ Many f (suc n)) (Many f (suc (suc n))) (more_from (suc n)) (more_to (suc n))
@@ -136,13 +136,13 @@ module _ {X : Type 0} (f : X → ℕ → List ℕ → Type 0) where
         complete = λ more last at bytes h. roll k n last at more bytes (s.complete more last at bytes h);
       }
 
-  pub reads_some : (k : Kind) → Reads (entries k 1 ∷ []) (Any f) → (n : ℕ) → Reads (some_of k n) (Many f n)
+  pub reads_some : (k : EntryKind) → Reads (entries k 1 ∷ []) (Any f) → (n : ℕ) → Reads (some_of k n) (Many f n)
   reads_some k r zero = reads_as [] (Exactly []) (Many f 0) none_from none_to reads_none
   reads_some k r (suc n) =
       let e : nat_eq (suc n) 0 ≡ false = grind (arith) in
       let p : some_of k (suc n) ≡ entries k (suc n) ∷ [] = rw e refl in
       subst (λ z. Reads z (Many f (suc n))) (sym p) (reads_entries k r n)
 
-  pub reads_count : (k : Kind) → Reads (entries k 1 ∷ []) (Any f) → Reads (count k ∷ []) (Any (Vector f))
+  pub reads_count : (k : EntryKind) → Reads (entries k 1 ∷ []) (Any f) → Reads (count k ∷ []) (Any (Vector f))
   unfolding next
   reads_count k r = reads_as _ (Begins an_unsigned (λ v k. Many f v)) (Any (Vector f)) vector_from vector_to (reads_first (count k) (λ v k. Many f v) refl refl (λ v j. reads_some k r v))

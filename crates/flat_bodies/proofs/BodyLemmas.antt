@@ -7,9 +7,9 @@ use Rattle.wa_types.specs.Syntax.{Code, done}
 use Rattle.wa_types.specs.View.{code, in_front}
 use Rattle.wa_types.specs.Pruned.{is_last_instr}
 use Rattle.wa_types.specs.Sizes.{code_items}
-use Rattle.wa_types.proofs.ViewLemmas.{is_block, is_loop, is_if, is_plain, kind, in_block, in_loop, in_if, code_step, code_empty}
+use Rattle.wa_types.proofs.ViewLemmas.{is_block, is_loop, is_if, is_plain, instr_kind, in_block, in_loop, in_if, code_step, code_empty}
 use Rattle.wasm_validate.specs.Walk.{Walk, Stays, TypedAt}
-use Rattle.wasm_validate.proofs.WalkUses.{alone, onward}
+use Rattle.wasm_validate.proofs.WalkUses.{typed_alone, onward}
 use Rattle.wa_model.specs.declared.flat.Stmt.{Stmt}
 use Rattle.wa_model.specs.Flat.{Stmts, no_more}
 use Rattle.wa_model.specs.FlatView.{stmt_in_front, stmts}
@@ -36,7 +36,7 @@ onto_all (x ∷ xs) = ap (stmt_in_front x) (onto_all xs)
 
 pub items_front : (x : Instr) (rest : Code) → code_items (in_front x rest) ≡ code_items (in_front x done) + code_items rest
 unfolding code_items
-items_front x rest = elim (kind x) [
+items_front x rest = elim (instr_kind x) [
   | is_block r v e ↦ ap (λ y. code_items (in_front y rest)) e ∙ ap code_items (in_block r v rest) ∙ omega (arith, ap (λ y. code_items (in_front y done)) e ∙ ap code_items (in_block r v done))
   | is_loop r v e ↦ ap (λ y. code_items (in_front y rest)) e ∙ ap code_items (in_loop r v rest) ∙ omega (arith, ap (λ y. code_items (in_front y done)) e ∙ ap code_items (in_loop r v done))
   | is_if r v w e ↦ ap (λ y. code_items (in_front y rest)) e ∙ ap code_items (in_if r v w rest) ∙ omega (arith, ap (λ y. code_items (in_front y done)) e ∙ ap code_items (in_if r v w done))
@@ -62,7 +62,7 @@ module _ (n : Names) (a p : Position) (body : List Instr) (j : ℕ) (x : Instr) 
   front_typed = subst (TypedAt p.typing) front w.typed
 
   pub one_typed : TypedAt p.typing (in_front x done)
-  one_typed = alone p.typing.around p.typing.labels x (code (drop (j + 1) body)) p.typing.own front_typed
+  one_typed = typed_alone p.typing.around p.typing.labels x (code (drop (j + 1) body)) p.typing.own front_typed
 
   labels_same : Ready n a → length p.labels.items ≡ length a.labels.items
   labels_same r = labels_long n p w.ready ∙ ap length w.stays.labels ∙ sym (labels_long n a r)

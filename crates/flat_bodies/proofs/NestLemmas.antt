@@ -13,7 +13,7 @@ use Rattle.wa_types.specs.View.{code, in_front}
 use Rattle.wa_types.specs.Sizes.{code_items}
 use Rattle.wa_types.specs.Typing.{label, listed, Types}
 use Rattle.wa_types.proofs.ViewLemmas.{in_block, in_loop, in_if}
-use Rattle.wasm_tree.specs.Kinds.{is_leaf}
+use Rattle.wa_types.specs.Leaves.{is_leaf}
 use Rattle.wasm_validate.specs.Walk.{Walk, Stays, Inside, TypedAt, left_at}
 use Rattle.wa_model.specs.declared.flat.Stmt.{Stmt}
 use Rattle.wa_model.specs.declared.flat.Operand.TheVariants.{Local}

@@ -9,7 +9,7 @@ use Rattle.wa_types.specs.View.{in_front}
 use Rattle.wa_types.specs.Pruned.{is_last, is_last_instr}
 use Rattle.std.specs.declared.vec.Vec.{Vec}
 use Rattle.std.specs.declared.alloc.Global.{Global}
-use Rattle.wasm_tree.specs.Kinds.{is_leaf}
+use Rattle.wa_types.specs.Leaves.{is_leaf}
 use Rattle.flat_instrs.specs.Emitting.{basic_of}
 
 same_basic : (a b : Basic) (rest : Code) → Some a ≡ Some b → plain (basic a) rest ≡ plain (basic b) rest

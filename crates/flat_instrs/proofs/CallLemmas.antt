@@ -9,7 +9,7 @@ use Rattle.wa_types.specs.Syntax.{Plain, call, call_indirect, Code, done, plain,
 use Rattle.wa_types.specs.View.{in_front}
 use Rattle.wa_types.specs.Typing.{calls as calls_sig, calls_at, sig, Takes}
 use Rattle.wa_types.specs.Modules.{or_empty}
-use Rattle.wasm_tree.specs.Kinds.{is_leaf}
+use Rattle.wa_types.specs.Leaves.{is_leaf}
 use Rattle.wasm_validate.specs.Walk.{Walk, TypedAt}
 use Rattle.wa_model.specs.declared.flat.Stmt.{Stmt}
 use Rattle.wa_model.specs.declared.flat.Stmt.TheVariants.{Call as Calls}

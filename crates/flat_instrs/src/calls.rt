@@ -4,7 +4,7 @@ ghost use Rattle.std.specs.Prelude.{◌≡◌, true, OnOk};
 ghost use Rattle.wa_types.specs.Syntax.{done};
 ghost use Rattle.wa_types.specs.View.{in_front};
 ghost use Rattle.wa_types.specs.declared.instrs.Instr.TheVariants.{Call, CallIndirect};
-ghost use Rattle.wasm_tree.specs.Kinds.{is_leaf};
+ghost use Rattle.wa_types.specs.Leaves.{is_leaf};
 ghost use Rattle.wasm_validate.specs.Walk.{TypedAt};
 ghost use Rattle.flat_instrs.specs.Emitting.{CallAt, Put, Ready, SmallTypes};
 
@@ -13,8 +13,7 @@ use crate::position::Position;
 use flat_names::Names;
 use std::alloc::AllocError;
 use wa_model::Stmt;
-use wa_types::Instr;
-use wasm_tree::copy_leaf;
+use wa_types::{Instr, copy_leaf};
 
 /// Puts what a call stands for that takes so many operands, and whether it has a result.
 fn put_any_call(

@@ -15,8 +15,7 @@ use crate::position::{Position, pop_slot, push_slot, put_carry, top_slot};
 use flat_names::Names;
 use std::alloc::{AllocError, Global};
 use wa_model::{Operand, Stmt};
-use wa_types::Instr;
-use wasm_tree::copy_leaf;
+use wa_types::{Instr, copy_leaf};
 
 /// Puts what a `local.get` stands for.
 pub fn put_get(

@@ -1,22 +1,20 @@
 -- Operands before and behind instructions of good code.
-use Rattle.std.proofs.Common.{◌≡◌, ℕ, ◌++◌, zero, suc, length, take, drop, nat_le, slice_get, List, [], ◌∷◌, Option, Some, None, Bool, true, false, if◌then◌else◌, ap, sym, ◌∙◌, ◌≤◌, arith}
+use Rattle.std.proofs.Common.{◌≡◌, ℕ, ◌++◌, zero, suc, length, take, drop, nat_le, slice_get, List, [], ◌∷◌, Option, Some, None, Bool, true, false, if◌then◌else◌, ap, sym, ◌∙◌, ◌≤◌, arith, refl}
 use Rattle.std.proofs.Math.Seq.{drop-append_seam}
+use Rattle.std.proofs.lemmas.Bool.{leb-true}
 use Rattle.wa_types.specs.declared.values.ValType.{ValType}
 use Rattle.wa_types.specs.declared.values.ValType.TheVariants.{I32}
 use Rattle.wa_types.specs.Accesses.{AccessRow, load_row, store_row}
 use Rattle.wa_types.specs.Syntax.{Basic, nop, drop as drop_operand, select, const, num, global_get, global_set, load, store, memory_size, memory_grow, Plain, basic, local_get, local_set}
 use Rattle.wa_types.specs.Syntax.{local_tee, br, br_if, br_table, return, unreachable, call, call_indirect, Code, done, plain, nest, branch, FuncType}
 use Rattle.wa_types.specs.Pruned.{is_last}
+use Rattle.wa_types.specs.declared.rules.Rule.TheVariants.{Alignment, ConstantGlobal}
 use Rattle.wa_types.specs.Typing.{GlobalType, Around, Sig, moves, leaves, drops, selects, lacks, late, sig, basic_sig, may_jump, calls, calls_at, gets, sets, tees, gets_global, sets_global}
 use Rattle.wa_types.specs.Typing.{accesses, loads, stores, with_memory, Takes}
 use Rattle.wa_types.specs.Points.{after}
 use Rattle.wa_types.specs.declared.operators.NumOp.{NumOp}
-use Rattle.wa_types.specs.declared.operators.NumOp.TheVariants.{I32Eqz, I32Eq, I32Ne, I32LtS, I32LtU, I32GtS, I32GtU, I32LeS, I32LeU, I32GeS, I32GeU, I64Eqz, I64Eq, I64Ne, I64LtS, I64LtU}
-use Rattle.wa_types.specs.declared.operators.NumOp.TheVariants.{I64GtS, I64GtU, I64LeS, I64LeU, I64GeS, I64GeU, I32Clz, I32Ctz, I32Popcnt, I32Add, I32Sub, I32Mul, I32DivS, I32DivU, I32RemS}
-use Rattle.wa_types.specs.declared.operators.NumOp.TheVariants.{I32RemU, I32And, I32Or, I32Xor, I32Shl, I32ShrS, I32ShrU, I32Rotl, I32Rotr, I64Clz, I64Ctz, I64Popcnt, I64Add, I64Sub, I64Mul}
-use Rattle.wa_types.specs.declared.operators.NumOp.TheVariants.{I64DivS, I64DivU, I64RemS, I64RemU, I64And, I64Or, I64Xor, I64Shl, I64ShrS, I64ShrU, I64Rotl, I64Rotr, I32WrapI64}
-use Rattle.wa_types.specs.declared.operators.NumOp.TheVariants.{I64ExtendI32S, I64ExtendI32U}
 use Rattle.wa_types.specs.Operators.{operand_types}
+use Rattle.wa_types.proofs.OperatorLemmas.{operators, each_operator}
 use Rattle.wa_model.specs.Store.{takes}
 use Rattle.wa_model.proofs.FittingSteps.{takes_above}
 use Rattle.flat_laws.specs.Flatten.{Names}
@@ -70,10 +68,10 @@ passes_gets_global (Some g) = tt
 
 passes_sets_global : (o : Option GlobalType) → Passes (sets_global o)
 passes_sets_global None = tt
-passes_sets_global (Some g) = passes_if g.mutable (moves (g.ty ∷ []) []) (late 10 (g.ty ∷ []) []) tt tt
+passes_sets_global (Some g) = passes_if g.mutable (moves (g.ty ∷ []) []) (late ConstantGlobal (g.ty ∷ []) []) tt tt
 
 passes_accesses : (align : ℕ) (row : AccessRow) (ins outs : List ValType) → Passes (accesses align row ins outs)
-passes_accesses align row ins outs = passes_if (nat_le align row.natural) (moves ins outs) (late 9 ins outs) tt tt
+passes_accesses align row ins outs = passes_if (nat_le align row.natural) (moves ins outs) (late Alignment ins outs) tt tt
 
 passes_loads : (b : Bool) (align : ℕ) (o : Option AccessRow) → Passes (loads b align o)
 passes_loads false align o = tt
@@ -117,67 +115,8 @@ passes c ls (call_indirect x) e = passes_calls_at c.table (slice_get c.types x)
 
 -- a numeric instruction takes two operands at most
 few_operands : (op : NumOp) → length (operand_types op) ≤ 3
-few_operands I32Eqz = omega arith
-few_operands I32Eq = omega arith
-few_operands I32Ne = omega arith
-few_operands I32LtS = omega arith
-few_operands I32LtU = omega arith
-few_operands I32GtS = omega arith
-few_operands I32GtU = omega arith
-few_operands I32LeS = omega arith
-few_operands I32LeU = omega arith
-few_operands I32GeS = omega arith
-few_operands I32GeU = omega arith
-few_operands I64Eqz = omega arith
-few_operands I64Eq = omega arith
-few_operands I64Ne = omega arith
-few_operands I64LtS = omega arith
-few_operands I64LtU = omega arith
-few_operands I64GtS = omega arith
-few_operands I64GtU = omega arith
-few_operands I64LeS = omega arith
-few_operands I64LeU = omega arith
-few_operands I64GeS = omega arith
-few_operands I64GeU = omega arith
-few_operands I32Clz = omega arith
-few_operands I32Ctz = omega arith
-few_operands I32Popcnt = omega arith
-few_operands I32Add = omega arith
-few_operands I32Sub = omega arith
-few_operands I32Mul = omega arith
-few_operands I32DivS = omega arith
-few_operands I32DivU = omega arith
-few_operands I32RemS = omega arith
-few_operands I32RemU = omega arith
-few_operands I32And = omega arith
-few_operands I32Or = omega arith
-few_operands I32Xor = omega arith
-few_operands I32Shl = omega arith
-few_operands I32ShrS = omega arith
-few_operands I32ShrU = omega arith
-few_operands I32Rotl = omega arith
-few_operands I32Rotr = omega arith
-few_operands I64Clz = omega arith
-few_operands I64Ctz = omega arith
-few_operands I64Popcnt = omega arith
-few_operands I64Add = omega arith
-few_operands I64Sub = omega arith
-few_operands I64Mul = omega arith
-few_operands I64DivS = omega arith
-few_operands I64DivU = omega arith
-few_operands I64RemS = omega arith
-few_operands I64RemU = omega arith
-few_operands I64And = omega arith
-few_operands I64Or = omega arith
-few_operands I64Xor = omega arith
-few_operands I64Shl = omega arith
-few_operands I64ShrS = omega arith
-few_operands I64ShrU = omega arith
-few_operands I64Rotl = omega arith
-few_operands I64Rotr = omega arith
-few_operands I32WrapI64 = omega arith
-few_operands I64ExtendI32S = omega arith
-few_operands I64ExtendI32U = omega arith
+unfolding operators
+few_operands op = leb-true (length (operand_types op)) 3 (each_operator (λ (n : NumOp). nat_le (length (operand_types n)) 3) refl op)
 
 pub takes_few : (b : Basic) → takes b ≤ 3
 takes_few nop = omega arith

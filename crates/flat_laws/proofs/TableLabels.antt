@@ -4,6 +4,7 @@ use Rattle.std.specs.Prelude.{slice_get, if◌then◌else◌}
 use Rattle.std.proofs.lemmas.Bool.{and_parts}
 use Rattle.wa_types.specs.declared.values.ValType.{ValType}
 use Rattle.wa_types.specs.declared.values.ValType.TheVariants.{I32}
+use Rattle.wa_types.specs.declared.rules.Rule.TheVariants.{UnknownLabel, StackTypes}
 use Rattle.wa_types.specs.Typing.{listed, jumps as jumps_sig, leaves as leaves_sig, lacks as lacks_sig, same_result, Takes, all_there, all_alike, agrees_with}
 use Rattle.wa_model.proofs.FittingNames.{same_true}
 
@@ -31,7 +32,7 @@ pub table_typed : (lt : List (Option ValType)) (targets : List ℕ) (r : Option 
     → AllLabels lt r targets × (below : List ValType) × (own ≡ I32 ∷ (listed r ++ below))
 table_typed lt targets r own mids t = by (all_there lt targets) (all_alike lt r targets) refl t
   where
-    by : (a b : Bool) → all_alike lt r targets ≡ b → Takes (if a then (if b then leaves_sig (I32 ∷ listed r) else lacks_sig 8) else lacks_sig 7) own mids
+    by : (a b : Bool) → all_alike lt r targets ≡ b → Takes (if a then (if b then leaves_sig (I32 ∷ listed r) else lacks_sig StackTypes) else lacks_sig UnknownLabel) own mids
         → AllLabels lt r targets × (below : List ValType) × (own ≡ I32 ∷ (listed r ++ below))
     by false b e t = absurd t
     by true false e t = absurd t

@@ -10,6 +10,7 @@ use Rattle.wa_types.specs.declared.values.ValType.{ValType}
 use Rattle.wa_types.specs.declared.values.ValType.TheVariants.{I32}
 use Rattle.wa_types.specs.Encoding.{same_type}
 use Rattle.wa_types.specs.Accesses.{AccessRow, load_row, store_row}
+use Rattle.wa_types.specs.declared.rules.Rule.TheVariants.{UnknownLabel, StackTypes, Alignment, ConstantGlobal}
 use Rattle.wa_types.specs.Syntax.{Basic, nop, drop as a_drop, select, const, num, global_get, global_set, load, store, memory_size, memory_grow, Plain, basic, local_get, local_set}
 use Rattle.wa_types.specs.Syntax.{local_tee, br, br_if, br_table, return, unreachable, call, call_indirect, a_block, a_loop, Code, done, plain, nest, branch, Func, Module, FuncType}
 use Rattle.wa_types.specs.Pruned.{is_last}
@@ -67,17 +68,17 @@ sized_got (Some g) = (refl, refl)
 
 sized_set : (o : Option GlobalType) → Sized (sets_global o) 1 0
 sized_set None = tt
-sized_set (Some g) = sized_if g.mutable (moves (g.ty ∷ []) []) (late_sig 10 (g.ty ∷ []) []) 1 0 (refl, refl) tt
+sized_set (Some g) = sized_if g.mutable (moves (g.ty ∷ []) []) (late_sig ConstantGlobal (g.ty ∷ []) []) 1 0 (refl, refl) tt
 
 sized_load : (b : Bool) (align : ℕ) (o : Option AccessRow) → Sized (loads b align o) 1 1
 sized_load false align o = tt
 sized_load true align None = tt
-sized_load true align (Some row) = sized_if (nat_le align row.natural) (moves (I32 ∷ []) (row.ty ∷ [])) (late_sig 9 (I32 ∷ []) (row.ty ∷ [])) 1 1 (refl, refl) tt
+sized_load true align (Some row) = sized_if (nat_le align row.natural) (moves (I32 ∷ []) (row.ty ∷ [])) (late_sig Alignment (I32 ∷ []) (row.ty ∷ [])) 1 1 (refl, refl) tt
 
 sized_store : (b : Bool) (align : ℕ) (o : Option AccessRow) → Sized (stores b align o) 2 0
 sized_store false align o = tt
 sized_store true align None = tt
-sized_store true align (Some row) = sized_if (nat_le align row.natural) (moves (row.ty ∷ I32 ∷ []) []) (late_sig 9 (row.ty ∷ I32 ∷ []) []) 2 0 (refl, refl) tt
+sized_store true align (Some row) = sized_if (nat_le align row.natural) (moves (row.ty ∷ I32 ∷ []) []) (late_sig Alignment (row.ty ∷ I32 ∷ []) []) 2 0 (refl, refl) tt
 
 sized_memory : (b : Bool) (ps rs : List ValType) → Sized (with_memory b ps rs) (length ps) (length rs)
 sized_memory false ps rs = tt
@@ -356,8 +357,9 @@ module _ (m : Module) (f : Func) where
             let leap : Types wide (none_of lt ++ ((around m f).result ∷ [])) (plain (br_table ts j) done) [] (I32 ∷ []) = (
               [],
               subst (λ o. Takes (jumps_sig (none_of lt ++ ((around m f).result ∷ [])) ts o) (I32 ∷ []) []) (sym (none_there lt ((around m f).result ∷ []) j (slice_get_within lt j r er)))
-                  (subst (λ (b : Bool). Takes (if b then (if all_alike (none_of lt ++ ((around m f).result ∷ [])) None ts then leaves (I32 ∷ []) else lacks 8) else lacks 7) (I32 ∷ []) []) (sym al.0)
-                  (subst (λ (b : Bool). Takes (if b then leaves (I32 ∷ []) else lacks 8) (I32 ∷ []) []) (sym al.1) ([], refl))),
+                  (subst (λ (b : Bool). Takes (if b then (if all_alike (none_of lt ++ ((around m f).result ∷ [])) None ts then leaves (I32 ∷ []) else lacks StackTypes)
+                  else lacks UnknownLabel) (I32 ∷ []) []) (sym al.0)
+                  (subst (λ (b : Bool). Takes (if b then leaves (I32 ∷ []) else lacks StackTypes) (I32 ∷ []) []) (sym al.1) ([], refl))),
               refl,
             ) in
             let a1 : AllIn (names m f) (drop 1 ops) = subst (AllIn (names m f)) (sym (ap (drop 1) eo)) (subst (AllIn (names m f)) eo a).1 in
@@ -591,8 +593,9 @@ module _ (m : Module) (f : Func) where
             let leap : Types wide (none_of lt ++ ((around m f).result ∷ [])) (plain (br_table ts j) done) [] (I32 ∷ []) = (
               [],
               subst (λ o. Takes (jumps_sig (none_of lt ++ ((around m f).result ∷ [])) ts o) (I32 ∷ []) []) (sym (none_there lt ((around m f).result ∷ []) j (slice_get_within lt j r er)))
-                  (subst (λ (b : Bool). Takes (if b then (if all_alike (none_of lt ++ ((around m f).result ∷ [])) None ts then leaves (I32 ∷ []) else lacks 8) else lacks 7) (I32 ∷ []) []) (sym al.0)
-                  (subst (λ (b : Bool). Takes (if b then leaves (I32 ∷ []) else lacks 8) (I32 ∷ []) []) (sym al.1) ([], refl))),
+                  (subst (λ (b : Bool). Takes (if b then (if all_alike (none_of lt ++ ((around m f).result ∷ [])) None ts then leaves (I32 ∷ []) else lacks StackTypes)
+                  else lacks UnknownLabel) (I32 ∷ []) []) (sym al.0)
+                  (subst (λ (b : Bool). Takes (if b then leaves (I32 ∷ []) else lacks StackTypes) (I32 ∷ []) []) (sym al.1) ([], refl))),
               refl,
             ) in
             let a1 : AllIn (names m f) (drop 1 ops) = subst (AllIn (names m f)) (sym (ap (drop 1) eo)) (subst (AllIn (names m f)) eo a).1 in

@@ -6,7 +6,7 @@ use Rattle.wa_types.specs.declared.instrs.Instr.{Instr}
 use Rattle.wa_types.specs.Syntax.{basic, local_get, local_set, local_tee, br_if, br_table, call, call_indirect, Code, done, plain, branch}
 use Rattle.wa_types.specs.View.{in_front, onto, code}
 use Rattle.wa_types.specs.Counts.{depth_of}
-use Rattle.wa_types.proofs.ViewLemmas.{is_block, is_loop, is_if, is_plain, kind, in_block, in_loop, in_if, onto_done}
+use Rattle.wa_types.proofs.ViewLemmas.{is_block, is_loop, is_if, is_plain, instr_kind, in_block, in_loop, in_if, onto_done}
 use Rattle.wa_model.specs.declared.flat.Operand.{Operand}
 use Rattle.wa_model.specs.declared.flat.Operand.TheVariants.{Local, Const}
 use Rattle.wa_model.specs.Flat.{Stmts, no_more, computes, copies, calls, leaps, leaps_if, leaps_by, nests, decides, halts, followed_by, got, all_got, set_to, slots_got, last_of, code_of}
@@ -115,7 +115,7 @@ labels_onto m [] c h g = g
 labels_onto m (x ∷ xs) c h g = labels_in m x (onto xs done) (onto xs c) h (λ q. labels_onto m xs c q g)
   where
     labels_in : (m : ℕ) (x : Instr) (a b : Code) → LabelsBelow m (in_front x a) → (LabelsBelow m a → LabelsBelow m b) → LabelsBelow m (in_front x b)
-    labels_in m x a b h go = elim (kind x) [
+    labels_in m x a b h go = elim (instr_kind x) [
       | is_block r v e ↦ let q = subst (LabelsBelow m) (ap (λ y. in_front y a) e ∙ in_block r v a) h in subst (LabelsBelow m) (sym (ap (λ y. in_front y b) e ∙ in_block r v b)) (q.0, go q.1)
       | is_loop r v e ↦ let q = subst (LabelsBelow m) (ap (λ y. in_front y a) e ∙ in_loop r v a) h in subst (LabelsBelow m) (sym (ap (λ y. in_front y b) e ∙ in_loop r v b)) (q.0, go q.1)
       | is_if r v w e ↦ let q = subst (LabelsBelow m) (ap (λ y. in_front y a) e ∙ in_if r v w a) h in subst (LabelsBelow m) (sym (ap (λ y. in_front y b) e ∙ in_if r v w b)) (q.0, q.1, go q.2)
@@ -124,7 +124,7 @@ labels_onto m (x ∷ xs) c h g = labels_in m x (onto xs done) (onto xs c) h (λ 
 
 depth_in : (x : Instr) (a b : Code) (n : ℕ) → depth_of (in_front x a) ≤ n → depth_of b ≤ n → depth_of (in_front x b) ≤ n
 unfolding depth_of
-depth_in x a b n h g = elim (kind x) [
+depth_in x a b n h g = elim (instr_kind x) [
   | is_block r v e ↦ let p = ap (λ y. depth_of (in_front y a)) e ∙ ap depth_of (in_block r v a) in let q = ap (λ y. depth_of (in_front y b)) e ∙ ap depth_of (in_block r v b) in omega arith
   | is_loop r v e ↦ let p = ap (λ y. depth_of (in_front y a)) e ∙ ap depth_of (in_loop r v a) in let q = ap (λ y. depth_of (in_front y b)) e ∙ ap depth_of (in_loop r v b) in omega arith
   | is_if r v w e ↦ let p = ap (λ y. depth_of (in_front y a)) e ∙ ap depth_of (in_if r v w a) in let q = ap (λ y. depth_of (in_front y b)) e ∙ ap depth_of (in_if r v w b) in omega arith
@@ -133,7 +133,7 @@ depth_in x a b n h g = elim (kind x) [
 
 depth_rest : (x : Instr) (a : Code) (n : ℕ) → depth_of (in_front x a) ≤ n → depth_of a ≤ n
 unfolding depth_of
-depth_rest x a n h = elim (kind x) [
+depth_rest x a n h = elim (instr_kind x) [
   | is_block r v e ↦ let p = ap (λ y. depth_of (in_front y a)) e ∙ ap depth_of (in_block r v a) in omega arith
   | is_loop r v e ↦ let p = ap (λ y. depth_of (in_front y a)) e ∙ ap depth_of (in_loop r v a) in omega arith
   | is_if r v w e ↦ let p = ap (λ y. depth_of (in_front y a)) e ∙ ap depth_of (in_if r v w a) in omega arith

@@ -8,7 +8,7 @@ use Rattle.wa_types.specs.declared.operators.NumOp.{NumOp}
 use Rattle.wa_types.specs.declared.instrs.Instr.TheVariants.{Unreachable, Const as ConstInstr, Num, Br, BrIf, LocalGet, LocalSet, GlobalGet}
 use Rattle.wa_types.specs.Syntax.{const, num, global_get, basic, local_get, local_set, br, br_if, unreachable, Code, done, plain}
 use Rattle.wa_types.specs.View.{in_front, onto, code}
-use Rattle.wa_types.proofs.ViewLemmas.{is_block, is_loop, is_if, is_plain, kind, in_block, in_loop, in_if, onto_append, onto_done, onto_none}
+use Rattle.wa_types.proofs.ViewLemmas.{is_block, is_loop, is_if, is_plain, instr_kind, in_block, in_loop, in_if, onto_append, onto_done, onto_none}
 use Rattle.wa_model.specs.declared.flat.Operand.{Operand}
 use Rattle.wa_model.specs.declared.flat.Operand.TheVariants.{Local, Const}
 use Rattle.wa_model.specs.Flat.{followed_by, got, all_got, set_to, slots_got}
@@ -26,18 +26,18 @@ pub put_none : (old new : List Instr) → new ≡ old → Puts old new (λ c. c)
 put_none old new e rest = ap (λ s. onto s rest) e
 
 -- the index of the only call stands
-pub noted_alone : (alone : Bool) (x k : ℕ) (old new : List Instr) (f : Code → Code) → alone ≡ true → Puts old new f → Puts old new (λ c. index_noted alone x k (f c))
-noted_alone alone x k old new f e h = subst (λ b. Puts old new (λ c. index_noted b x k (f c))) (sym e) h
+pub noted_alone : (one_call : Bool) (x k : ℕ) (old new : List Instr) (f : Code → Code) → one_call ≡ true → Puts old new f → Puts old new (λ c. index_noted one_call x k (f c))
+noted_alone one_call x k old new f e h = subst (λ b. Puts old new (λ c. index_noted b x k (f c))) (sym e) h
 
 -- else it is set
-pub noted_set : (alone : Bool) (x k : ℕ) (old new : List Instr) (f : Code → Code) → alone ≡ false
-    → Puts old new (λ c. plain (basic (const (V.I32 k))) (plain (local_set x) (f c))) → Puts old new (λ c. index_noted alone x k (f c))
-noted_set alone x k old new f e h = subst (λ b. Puts old new (λ c. index_noted b x k (f c))) (sym e) h
+pub noted_set : (one_call : Bool) (x k : ℕ) (old new : List Instr) (f : Code → Code) → one_call ≡ false
+    → Puts old new (λ c. plain (basic (const (V.I32 k))) (plain (local_set x) (f c))) → Puts old new (λ c. index_noted one_call x k (f c))
+noted_set one_call x k old new f e h = subst (λ b. Puts old new (λ c. index_noted b x k (f c))) (sym e) h
 
 -- one behind another: an instruction in front of code
 pub front_then : (x y : Instr) (rest : Code) → ((c : Code) → in_front y c ≡ in_front x c) → in_front y rest ≡ followed_by (in_front x done) rest
 unfolding followed_by
-front_then x y rest same = same rest ∙ elim (kind x) [
+front_then x y rest same = same rest ∙ elim (instr_kind x) [
   | is_block r v e ↦ ap (λ z. in_front z rest) e ∙ in_block r v rest ∙ sym (ap (λ z. followed_by (in_front z done) rest) e ∙ ap (λ c. followed_by c rest) (in_block r v done))
   | is_loop r v e ↦ ap (λ z. in_front z rest) e ∙ in_loop r v rest ∙ sym (ap (λ z. followed_by (in_front z done) rest) e ∙ ap (λ c. followed_by c rest) (in_loop r v done))
   | is_if r v w e ↦ ap (λ z. in_front z rest) e ∙ in_if r v w rest ∙ sym (ap (λ z. followed_by (in_front z done) rest) e ∙ ap (λ c. followed_by c rest) (in_if r v w done))

@@ -10,15 +10,15 @@ use Rattle.wa_types.specs.declared.instrs.Instr.TheVariants.{LocalSet, LocalTee,
 use Rattle.wa_types.specs.Syntax.{br_table, a_block, a_loop, Code, done, plain, nest, branch}
 use Rattle.wa_types.specs.View.{in_front, onto, code}
 use Rattle.wa_types.specs.Counts.{depth_of}
-use Rattle.wa_types.proofs.ViewLemmas.{is_block, is_loop, is_if, is_plain, kind, in_block, in_loop, in_if, in_br_table, code_step, code_empty, onto_append, onto_done, onto_none}
-use Rattle.wasm_tree.specs.Kinds.{is_leaf}
+use Rattle.wa_types.proofs.ViewLemmas.{is_block, is_loop, is_if, is_plain, instr_kind, in_block, in_loop, in_if, in_br_table, code_step, code_empty, onto_append, onto_done, onto_none}
+use Rattle.wa_types.specs.Leaves.{is_leaf}
 use Rattle.guard_form.specs.Guarded.{raise, raised}
 use Rattle.flat_pieces.specs.Raising.{LabelsBelow, Raisable}
 
 -- ---- one instruction of a list
 
 labels_front : (m : ℕ) (x : Instr) (rest : Code) → LabelsBelow m (in_front x rest) → LabelsBelow m (in_front x done) × LabelsBelow m rest
-labels_front m x rest h = elim (kind x) [
+labels_front m x rest h = elim (instr_kind x) [
   | is_block r v e ↦ let q = subst (LabelsBelow m) (ap (λ y. in_front y rest) e ∙ in_block r v rest) h in (subst (LabelsBelow m) (sym (ap (λ y. in_front y done) e ∙ in_block r v done)) (q.0, tt), q.1)
   | is_loop r v e ↦ let q = subst (LabelsBelow m) (ap (λ y. in_front y rest) e ∙ in_loop r v rest) h in (subst (LabelsBelow m) (sym (ap (λ y. in_front y done) e ∙ in_loop r v done)) (q.0, tt), q.1)
   | is_if r v w e ↦ let q = subst (LabelsBelow m) (ap (λ y. in_front y rest) e ∙ in_if r v w rest) h in
@@ -28,7 +28,7 @@ labels_front m x rest h = elim (kind x) [
 
 depth_front : (x : Instr) (rest : Code) → (depth_of (in_front x done) ≤ depth_of (in_front x rest)) × (depth_of rest ≤ depth_of (in_front x rest))
 unfolding depth_of
-depth_front x rest = elim (kind x) [
+depth_front x rest = elim (instr_kind x) [
   | is_block r v e ↦ let a = ap (λ y. depth_of (in_front y rest)) e ∙ ap depth_of (in_block r v rest) in let b = ap (λ y. depth_of (in_front y done)) e
       ∙ ap depth_of (in_block r v done) in (omega arith, omega arith)
   | is_loop r v e ↦ let a = ap (λ y. depth_of (in_front y rest)) e ∙ ap depth_of (in_loop r v rest) in let b = ap (λ y. depth_of (in_front y done)) e

@@ -8,7 +8,7 @@ use Rattle.wa_types.specs.declared.instrs.Instr.{Instr}
 use Rattle.wa_types.specs.declared.instrs.Instr.TheVariants.{Block' as BlockInstr', Loop' as LoopInstr', If' as IfInstr'}
 use Rattle.wa_types.specs.Syntax.{Plain, basic, local_get, local_set, local_tee, a_block, a_loop, Code, done, plain, nest, branch}
 use Rattle.wa_types.specs.View.{in_front}
-use Rattle.wasm_tree.specs.Kinds.{is_leaf}
+use Rattle.wa_types.specs.Leaves.{is_leaf}
 use Rattle.wa_model.specs.declared.flat.Operand.{Operand}
 use Rattle.wa_model.specs.declared.flat.Stmt.{Stmt, Row_of-Stmt, end_of-Stmt, more_of-Stmt, items-the_row-Stmt, items_hidden-the_row-Stmt-0}
 use Rattle.wa_model.specs.declared.flat.Stmt.TheBlock.{hidden-the_row-Stmt-0}

@@ -7,8 +7,7 @@ ghost use Rattle.guard_form.specs.Guarded.{raise, raised};
 ghost use Rattle.flat_pieces.specs.Raising.{Raisable};
 
 use std::alloc::{AllocError, Global};
-use wa_types::Instr;
-use wasm_tree::copy_leaf;
+use wa_types::{Instr, copy_leaf};
 
 /// The label raised by so much, where it leads out of so many constructs.
 fn raise(inside: u32, by: u32, label: u32) -> u32

@@ -5,14 +5,13 @@ ghost use Rattle.wa_types.specs.declared.values.Value.TheVariants as V;
 ghost use Rattle.wa_types.specs.Syntax.{const, num, global_get, basic, local_get, local_set, br_if, done, plain, branch};
 ghost use Rattle.wa_types.specs.View.{code, in_front};
 ghost use Rattle.wa_model.specs.Flat.{followed_by, got, all_got, set_to, slots_got};
-ghost use Rattle.wasm_tree.specs.Kinds.{is_leaf};
+ghost use Rattle.wa_types.specs.Leaves.{is_leaf};
 ghost use Rattle.guard_form.specs.Guarded.{index_noted};
 ghost use Rattle.flat_pieces.specs.Putting.{Puts};
 
 use std::alloc::{AllocError, Global};
 use wa_model::Operand;
-use wa_types::{Instr, NumOp, ValType, Value};
-use wasm_tree::copy_leaf;
+use wa_types::{Instr, NumOp, ValType, Value, copy_leaf};
 
 /// Puts what gets an operand.
 pub fn put_operand(out: &mut Vec<Instr>, operand: Operand) -> Result<(), AllocError>
@@ -106,15 +105,15 @@ fn put_leave(out: &mut Vec<Instr>, state: u32, label: u32) -> Result<(), AllocEr
 /// Puts what notes the index behind a call, but for the only one, and leaves by the label where the state isn't 0.
 pub fn put_noted(
     out: &mut Vec<Instr>,
-    alone: bool,
+    one_call: bool,
     state: u32,
     index: u32,
     number: u32,
     label: u32,
 ) -> Result<(), AllocError>
-    ensures { OnOk result (Puts out.old.items out.new.items (λ c. index_noted alone index number (plain (basic (global_get state)) (plain (br_if label) c)))) }
+    ensures { OnOk result (Puts out.old.items out.new.items (λ c. index_noted one_call index number (plain (basic (global_get state)) (plain (br_if label) c)))) }
 {
-    if alone {
+    if one_call {
         put_leave(out, state, label)?;
         return Ok(());
     }

@@ -15,7 +15,7 @@ use Rattle.wa_types.specs.Points.{after, unless_last, points}
 use Rattle.wa_types.specs.Frames.{Pair, pair_of, shape_pair, same_pair, stands_at, results_in}
 use Rattle.wa_types.proofs.ViewLemmas.{code_step, code_empty}
 use Rattle.wasm_validate.specs.Walk.{Walk, Stays, Inside, TypedAt, left_at}
-use Rattle.wasm_validate.proofs.WalkUses.{alone, onward}
+use Rattle.wasm_validate.proofs.WalkUses.{typed_alone, onward}
 use Rattle.wa_model.specs.Store.{takes, gives}
 use Rattle.flat_laws.proofs.OperandTypes.{after_all}
 use Rattle.flat_names.specs.declared.marks.Seen.{Seen}
@@ -166,7 +166,7 @@ module _ (v w : Walk) (body : List Instr) (j : ℕ) (a b : Found) (g : Went v w 
         ∙ last_results d t w p.0 (code (drop (j + 1) body)) p.2)
 
     pub next_typed : TypedAt w (in_front x done)
-    next_typed = alone w.around w.labels x (code (drop (j + 1) body)) w.own front_typed
+    next_typed = typed_alone w.around w.labels x (code (drop (j + 1) body)) w.own front_typed
 
     pub next_fewer : code_items (in_front x done) ≤ code_items (code (drop j body))
     next_fewer = omega (arith, ap code_items front ∙ items_front x (code (drop (j + 1) body)))

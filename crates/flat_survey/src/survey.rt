@@ -8,7 +8,7 @@ ghost use Rattle.wa_types.specs.Sizes.{code_items};
 ghost use Rattle.wa_types.specs.Syntax.{done};
 ghost use Rattle.wa_types.specs.View.{code, in_front};
 ghost use Rattle.wa_types.specs.declared.values.ValType.{ValType as AType};
-ghost use Rattle.wasm_tree.specs.Kinds.{is_leaf};
+ghost use Rattle.wa_types.specs.Leaves.{is_leaf};
 ghost use Rattle.wasm_validate.specs.Walk.{Stays, TypedAt};
 ghost use Rattle.flat_instrs.specs.Emitting.{all_of, SmallTypes};
 ghost use Rattle.flat_names.specs.Numbers.{is_marked, pairs_in, same_at};

@@ -8,7 +8,7 @@ use Rattle.wa_types.specs.declared.instrs.Instr.TheVariants.{Block}
 use Rattle.wa_types.specs.Syntax.{a_block, Code, done, nest}
 use Rattle.wa_types.specs.Counts.{depth_of}
 use Rattle.wa_types.specs.View.{in_front, onto, code}
-use Rattle.wa_types.proofs.ViewLemmas.{is_block, is_loop, is_if, is_plain, kind, in_block, in_loop, in_if, onto_append, onto_done, onto_none}
+use Rattle.wa_types.proofs.ViewLemmas.{is_block, is_loop, is_if, is_plain, instr_kind, in_block, in_loop, in_if, onto_append, onto_done, onto_none}
 use Rattle.wa_model.specs.Flat.{Stmts, no_more}
 use Rattle.guard_form.specs.Pieces.{no_unit, numbers_in, call_total, holds_call, first_piece, units}
 use Rattle.guard_form.specs.Guarded.{each_end, GuardIndices, by_state, raised, guarded, front}
@@ -42,7 +42,7 @@ guarded_none i [] next le = refl
 guarded_none i (x ∷ xs) next le = absurd (omega arith)
 
 guarded_front : (i : GuardIndices) (x : Instr) (rest next : Code) → guarded i (in_front x rest) next ≡ by_state i.state done (raised 0 1 (in_front x rest)) next
-guarded_front i x rest next = elim (kind x) [
+guarded_front i x rest next = elim (instr_kind x) [
   | is_block r v e ↦ let q = ap (λ y. in_front y rest) e ∙ in_block r v rest in ap (λ c. guarded i c next) q ∙ ap (λ c. by_state i.state done (raised 0 1 c) next) (sym q)
   | is_loop r v e ↦ let q = ap (λ y. in_front y rest) e ∙ in_loop r v rest in ap (λ c. guarded i c next) q ∙ ap (λ c. by_state i.state done (raised 0 1 c) next) (sym q)
   | is_if r v w e ↦ let q = ap (λ y. in_front y rest) e ∙ in_if r v w rest in ap (λ c. guarded i c next) q ∙ ap (λ c. by_state i.state done (raised 0 1 c) next) (sym q)

@@ -143,11 +143,11 @@ pub block_of : (i : GuardIndices) (d k : ℕ) (first op : Code) (x : Callee) (sl
     → l0 ≡ [] → code other ≡ index_with i (basic (num I32Ne)) k (plain (br_if 1) done) → code piece ≡ raised 0 2 first
     → Puts l0 l1 (λ c. plain (basic (global_get i.state)) (branch None (code other) (code piece) c)) → Puts l1 l2 (slots_got slots2) → slots2 ≡ slots → Puts l2 l3 (followed_by op)
     → op ≡ plain (call_to x) done
-    → Puts l3 l4 (λ c. index_noted i.alone i.index k (plain (basic (global_get i.state)) (plain (br_if label) c))) → label ≡ suc d
+    → Puts l3 l4 (λ c. index_noted i.one_call i.index k (plain (basic (global_get i.state)) (plain (br_if label) c))) → label ≡ suc d
     → Puts l4 l5 (set_to to)
     → (c : Code) → onto l5 c ≡ sought i 1 2 k first (slots_got slots (plain (call_to x) (noted i (suc d) k (set_to to c))))
 block_of i d k first op x slots slots2 to l0 l1 l2 l3 l4 l5 other piece label e0 eo ep p1 p2 es p3 eop p4 el p5 c =
-    let n : ℕ → Code = λ l. index_noted i.alone i.index k (plain (basic (global_get i.state)) (plain (br_if l) (set_to to c))) in
+    let n : ℕ → Code = λ l. index_noted i.one_call i.index k (plain (basic (global_get i.state)) (plain (br_if l) (set_to to c))) in
     p5 c ∙ p4 (set_to to c) ∙ ap (λ l. onto l3 (n l)) el ∙ p3 (n (suc d)) ∙ ap (λ o. onto l2 (followed_by o (n (suc d)))) eop ∙ ap (onto l2) (call_then x (n (suc d)))
     ∙ p2 (plain (call_to x) (n (suc d))) ∙ ap (λ xs. onto l1 (slots_got xs (plain (call_to x) (n (suc d))))) es
     ∙ p1 (slots_got slots (plain (call_to x) (n (suc d)))) ∙ (λ j. onto (e0 j) (plain (basic (global_get i.state)) (branch None (eo j) (ep j) (slots_got slots (plain (call_to x) (n (suc d)))))))

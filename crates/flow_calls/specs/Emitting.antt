@@ -21,7 +21,7 @@ Rises xs = (i j : ℕ) → i < j → j < length xs → get_or xs i 0 < get_or xs
 
 -- the global of the state and the local of the index, and whether the only call isn't noted
 abbrev pub indices : Guards → GuardIndices
-indices g = record { state = g.state; index = g.index; alone = g.alone }
+indices g = record { state = g.state; index = g.index; one_call = g.one_call }
 
 -- the piece so far, with statements to come
 abbrev pub first_of : (places : List ℕ) → Sequence → Stmts → Code

@@ -20,7 +20,7 @@ pub struct Guards {
     pub numbers: Vec<u32>,
     pub state: u32,
     pub index: u32,
-    pub alone: bool,
+    pub one_call: bool,
 }
 
 /// Whether the call at this place is numbered.

@@ -5,7 +5,7 @@ ghost use Rattle.wa_types.specs.Syntax.{done};
 ghost use Rattle.wa_types.specs.View.{in_front};
 ghost use Rattle.wa_model.specs.Flat.{calls, last_of, no_more};
 ghost use Rattle.guard_form.specs.Grouping.{is_place};
-ghost use Rattle.wasm_tree.specs.Kinds.{is_leaf};
+ghost use Rattle.wa_types.specs.Leaves.{is_leaf};
 ghost use Rattle.flat_pieces.specs.Statements.{Fits};
 ghost use Rattle.flow_calls.specs.Emitting.{Good, Rises, Stepped};
 
@@ -78,7 +78,7 @@ fn put_numbered_call(
     put_copy(guards.alloc, &mut block, op)?;
     put_noted(
         &mut block,
-        guards.alone,
+        guards.one_call,
         guards.state,
         guards.index,
         at.number,

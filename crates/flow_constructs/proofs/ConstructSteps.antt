@@ -12,7 +12,7 @@ use Rattle.guard_form.specs.Pieces.{no_unit, nest_unit, if_unit, numbers_in, cal
 use Rattle.guard_form.specs.Guarded.{each_end, GuardIndices, raised, guarded, arm, front}
 use Rattle.guard_form.proofs.CodeLemmas.{then_done}
 use Rattle.guard_form.proofs.Grouped.{joins, has_unit}
-use Rattle.wa_types.proofs.ViewLemmas.{is_block, is_loop, is_if, is_plain, kind}
+use Rattle.wa_types.proofs.ViewLemmas.{is_block, is_loop, is_if, is_plain, instr_kind}
 use Rattle.wa_types.specs.Counts.{depth_of}
 use Rattle.wa_model.specs.declared.flat.Operand.TheVariants.{Local, Const}
 use Rattle.guard_form.proofs.UnitLemmas.{Some_unit, arm_is}
@@ -240,7 +240,7 @@ nest_held g d a0 a b y body p mid x good0 st part is_held p1 pushed is behind pi
 
 followed_front : (x : Instr) (r c : Code) → followed_by (in_front x r) c ≡ in_front x (followed_by r c)
 unfolding followed_by
-followed_front x r c = elim (kind x) [
+followed_front x r c = elim (instr_kind x) [
   | is_block y v e ↦ ap (λ z. followed_by z c) (ap (λ z. in_front z r) e ∙ in_block y v r) ∙ sym (ap (λ z. in_front z (followed_by r c)) e ∙ in_block y v (followed_by r c))
   | is_loop y v e ↦ ap (λ z. followed_by z c) (ap (λ z. in_front z r) e ∙ in_loop y v r) ∙ sym (ap (λ z. in_front z (followed_by r c)) e ∙ in_loop y v (followed_by r c))
   | is_if y v w e ↦ ap (λ z. followed_by z c) (ap (λ z. in_front z r) e ∙ in_if y v w r) ∙ sym (ap (λ z. in_front z (followed_by r c)) e ∙ in_if y v w (followed_by r c))

@@ -23,11 +23,11 @@ func_ready g f e rises fits room =
     let sh = fits.shallow in
     record { rises = rises; fits = record { fit = subst (λ n. StmtsFit n 1 f.body) (sym e) fits.statements; shallow = omega arith }; few = omega arith; room = omega arith }
 
-pub whole_is : (g : Guards) (f : FlatFunc) (p : Part) (body : Code) → g.alone ≡ false → g.index ≡ length f.locals → IsPart (indices g) g.numbers.items 0 0 0 f.body p
+pub whole_is : (g : Guards) (f : FlatFunc) (p : Part) (body : Code) → g.one_call ≡ false → g.index ≡ length f.locals → IsPart (indices g) g.numbers.items 0 0 0 f.body p
     → body ≡ (if p.held then code p.code.items else guarded (indices g) (code p.code.items) done) → body ≡ guarded_code g.state g.numbers.items f
 whole_is g f p body noted e part is =
     is ∙ by p.held refl
-    ∙ (λ j. front (record { state = g.state; index = e j; alone = noted j }) each_end 0 0 (first_piece g.numbers.items 0 f.body) (units g.numbers.items 0 f.body))
+    ∙ (λ j. front (record { state = g.state; index = e j; one_call = noted j }) each_end 0 0 (first_piece g.numbers.items 0 f.body) (units g.numbers.items 0 f.body))
   where
     by : (b : Bool) → p.held ≡ b → (if p.held then code p.code.items else guarded (indices g) (code p.code.items) done) ≡ front (indices g) each_end 0 0 (first_piece g.numbers.items 0 f.body)
         (units g.numbers.items 0 f.body)

@@ -17,7 +17,7 @@ use Rattle.wa_model.specs.declared.flat.Stmt.TheVariants.{Unreachable as Unreach
 use Rattle.wa_model.specs.Flat.{Stmts, no_more, computes, copies, calls, leaps, leaps_if, leaps_by, nests, decides, halts, followed_by, got, all_got, set_to, slots_got, last_of, code_of}
 use Rattle.wa_model.specs.FlatView.{stmt_in_front, stmts}
 use Rattle.wa_model.specs.FlatFits.{StmtsFit}
-use Rattle.wasm_tree.specs.Kinds.{is_leaf}
+use Rattle.wa_types.specs.Leaves.{is_leaf}
 use Rattle.flow_calls.proofs.UnitSteps.{callee_of}
 use Rattle.guard_form.specs.Pieces.{call_to, numbers_in, call_total, holds_call, first_piece, units}
 use Rattle.guard_form.specs.Guarded.{each_end, raised, front}

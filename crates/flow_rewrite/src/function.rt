@@ -79,7 +79,7 @@ pub fn guard(
         numbers: Vec::from_slice(alloc, numbers)?,
         state,
         index: func.locals.len() as u32,
-        alone: false,
+        one_call: false,
     };
     let part = write_sequence(&guards, &func.body, 0, 0, 0)?;
     let body = guarded_body(&guards, part)?;

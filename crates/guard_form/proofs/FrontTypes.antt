@@ -183,8 +183,8 @@ module _ (c : Around) where
     results_too ls None behind outs mids h g = subst (λ ms. Types c ls behind [] ms) (sym h) g
     results_too ls (Some x) behind outs mids h g = (h.0, h.1, subst (λ ms. Types c ls behind [] ms) (sym h.2) g)
 
-    index_typed : (alone : Bool) (ls : Labels) (k : ℕ) (ms : List ValType) (next : Code) (outs : List ValType) → Types c ls next outs ms
-        → Types c ls (index_noted alone i.index k next) outs ms
+    index_typed : (one_call : Bool) (ls : Labels) (k : ℕ) (ms : List ValType) (next : Code) (outs : List ValType) → Types c ls next outs ms
+        → Types c ls (index_noted one_call i.index k next) outs ms
     unfolding Types
     index_typed true ls k ms next outs h = h
     index_typed false ls k ms next outs h = (I32 ∷ ms, (ms, refl, refl), (ms, sets_index ls ms, h))
@@ -195,7 +195,7 @@ module _ (c : Around) where
     unfolding Types
     calls_noted ls l k x to behind outs mids e hb h =
         let ms = h.0 in
-        (ms, h.1, index_typed i.alone ls k ms _ [] (I32 ∷ ms, gets_state ls ms, (ms, leads ls l ms e, results_too ls to behind outs ms h.2 hb)))
+        (ms, h.1, index_typed i.one_call ls k ms _ [] (I32 ∷ ms, gets_state ls ms, (ms, leads ls l ms e, results_too ls to behind outs ms h.2 hb)))
 
     -- a call's result in other labels
     called_too : (ls ls2 : Labels) (x : Callee) (to : Option ℕ) (outs mids : List ValType) → Types c ls (plain (call_to x) (set_to to done)) outs mids

@@ -133,7 +133,7 @@ size_call i (by_label l) false k first by_own next n h = let a = h false in let 
 size_call i nowhere true k first by_own next n h = let a = h true in let b = size_sought i 1 2 k first (by_own true) in omega arith
 size_call i nowhere false k first by_own next n h = let a = h false in let b = size_guarded i first (by_own false) in omega arith
 
-size_noted : (alone : Bool) (x k : ℕ) (next : Code) → size (index_noted alone x k next) ≤ size next + 2
+size_noted : (one_call : Bool) (x k : ℕ) (next : Code) → size (index_noted one_call x k next) ≤ size next + 2
 unfolding instructions_and_labels
 size_noted true x k next = omega arith
 size_noted false x k next = omega arith
@@ -146,7 +146,7 @@ size_called i own d k slots x to behind =
     let e7 = size_raised 0 (one_more own 0) behind in
     let e8 = size_set to (raised 0 (one_more own 0) behind) in
     let e9 = size_slots slots (plain (call_to x) (noted i (one_more own d) k (set_to to (raised 0 (one_more own 0) behind)))) in
-    let e10 = size_noted i.alone i.index k (plain (basic (global_get i.state)) (plain (br_if (one_more own d)) (set_to to (raised 0 (one_more own 0) behind)))) in
+    let e10 = size_noted i.one_call i.index k (plain (basic (global_get i.state)) (plain (br_if (one_more own d)) (set_to to (raised 0 (one_more own 0) behind)))) in
     omega arith
 
 size_front : (i : GuardIndices) (e : Exit) (d k : ℕ) (first : Code) (us : Units) → size (front i e d k first us) ≤ size (followed_by first (flat_units us)) + 11 * unit_count us + 2
@@ -293,7 +293,7 @@ deep_call i nowhere true k first by_own next n h f g =
     let a = h true in let b = deep_sought i 1 2 k first (by_own true) (max (deep first + 1) (deep (by_own true))) (omega arith) (omega arith) (omega arith) in omega arith
 deep_call i nowhere false k first by_own next n h f g = let a = h false in deep_guarded i first (by_own false) n (omega arith) (omega arith)
 
-deep_noted : (alone : Bool) (x k : ℕ) (next : Code) → deep (index_noted alone x k next) ≡ deep next
+deep_noted : (one_call : Bool) (x k : ℕ) (next : Code) → deep (index_noted one_call x k next) ≡ deep next
 unfolding depth_of
 deep_noted true x k next = refl
 deep_noted false x k next = refl
@@ -302,7 +302,7 @@ deep_called : (i : GuardIndices) (own : Bool) (d k : ℕ) (slots : List ℕ) (x 
 unfolding depth_of
 deep_called i own d k slots x to behind =
     deep_slots slots (plain (call_to x) (noted i (one_more own d) k (set_to to (raised 0 (one_more own 0) behind))))
-    ∙ deep_noted i.alone i.index k (plain (basic (global_get i.state)) (plain (br_if (one_more own d)) (set_to to (raised 0 (one_more own 0) behind))))
+    ∙ deep_noted i.one_call i.index k (plain (basic (global_get i.state)) (plain (br_if (one_more own d)) (set_to to (raised 0 (one_more own 0) behind))))
     ∙ deep_set to (raised 0 (one_more own 0) behind) ∙ deep_raised 0 (one_more own 0) behind
 
 deep_front : (i : GuardIndices) (e : Exit) (d k : ℕ) (first : Code) (us : Units) → deep (front i e d k first us) ≤ deep (followed_by first (flat_units us)) + 2
@@ -471,7 +471,7 @@ module _ (i : GuardIndices) where
   reads_one nowhere true k first by_own next n h = let a = h true in let b = reads_sought 1 2 k first (by_own true) in omega arith
   reads_one nowhere false k first by_own next n h = let a = h false in let b = reads_guarded first (by_own false) in omega arith
 
-  reads_noted : (alone : Bool) (x k : ℕ) (next : Code) → reads i.state (index_noted alone x k next) ≡ reads i.state next
+  reads_noted : (one_call : Bool) (x k : ℕ) (next : Code) → reads i.state (index_noted one_call x k next) ≡ reads i.state next
   reads_noted true x k next = refl
   reads_noted false x k next = omega arith
 
@@ -483,7 +483,7 @@ module _ (i : GuardIndices) where
       let e8 = reads_set i.state to (raised 0 (one_more own 0) behind) in
       let e9 = reads_slots i.state slots (plain (call_to x) (noted i (one_more own d) k (set_to to (raised 0 (one_more own 0) behind)))) in
       let o = one_read i.state (basic (global_get i.state)) in
-      let e10 = reads_noted i.alone i.index k (plain (basic (global_get i.state)) (plain (br_if (one_more own d)) (set_to to (raised 0 (one_more own 0) behind)))) in
+      let e10 = reads_noted i.one_call i.index k (plain (basic (global_get i.state)) (plain (br_if (one_more own d)) (set_to to (raised 0 (one_more own 0) behind)))) in
       omega arith
 
   reads_front : (e : Exit) (d k : ℕ) (first : Code) (us : Units)

@@ -35,7 +35,7 @@ raised d n (branch r a b rest) = branch r (raised (suc d) n a) (raised (suc d) n
 pub record GuardIndices : Type 0 where
   pub state : ℕ
   pub index : ℕ
-  pub alone : Bool
+  pub one_call : Bool
 
 -- a test of the state's global: the first arm where it isn't 0
 abbrev pub by_state : (state : ℕ) → (then_arm else_arm next : Code) → Code
@@ -57,13 +57,13 @@ abbrev pub sought : GuardIndices → (label by k : ℕ) → Code → (next : Cod
 sought i l n k first next = by_state i.state (index_with i (basic (num I32Ne)) k (plain (br_if l) done)) (raised 0 n first) next
 
 -- The index is set, but for the only call.
-abbrev pub index_noted : (alone : Bool) → (index k : ℕ) → (next : Code) → Code
+abbrev pub index_noted : (one_call : Bool) → (index k : ℕ) → (next : Code) → Code
 index_noted true x k next = next
 index_noted false x k next = plain (basic (const (V.I32 k))) (plain (local_set x) next)
 
 -- Behind call k: the index is noted, and where the state isn't 0 the function's block is left by this label.
 abbrev pub noted : GuardIndices → (label k : ℕ) → (next : Code) → Code
-noted i l k next = index_noted i.alone i.index k (plain (basic (global_get i.state)) (plain (br_if l) next))
+noted i l k next = index_noted i.one_call i.index k (plain (basic (global_get i.state)) (plain (br_if l) next))
 
 -- In a state that isn't 0, whether the call of the index stands in the then arm, where k is the first number in the arms.
 abbrev pub choice : GuardIndices → (k : ℕ) → (then_arm else_arm : Units) → Code
@@ -154,13 +154,13 @@ body_exit true = nowhere
 body_exit false = each_end
 
 -- Of a function whose runs leave by labels the only numbered call isn't noted.
-abbrev pub is_alone : (exits : Bool) → Units → Bool
-is_alone true us = nat_eq (numbers_in us) 1
-is_alone false us = false
+abbrev pub has_one_call : (exits : Bool) → Units → Bool
+has_one_call true us = nat_eq (numbers_in us) 1
+has_one_call false us = false
 
 -- the indices of a function with these units
 abbrev pub guard_indices : (state index : ℕ) → (exits : Bool) → Units → GuardIndices
-guard_indices st x exits us = record { state = st; index = x; alone = is_alone exits us }
+guard_indices st x exits us = record { state = st; index = x; one_call = has_one_call exits us }
 
 -- the guarded code of a function's sequence
 abbrev pub guarded_body : GuardIndices → (exits : Bool) → (first : Code) → Units → Code

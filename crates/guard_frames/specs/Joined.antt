@@ -10,7 +10,7 @@ use Rattle.frame_laws.specs.Function.{WrittenFunc, function_code, CallSite, Body
 use Rattle.frame_laws.specs.Layout.{Layout, restore_cost, save_cost}
 use Rattle.guard_form.specs.Bounds.{passing}
 use Rattle.guard_form.specs.Functions.{GuardedFunc, with_guards, indices_of, written_code, ArmsHold}
-use Rattle.guard_form.specs.Guarded.{is_alone, guarded_body}
+use Rattle.guard_form.specs.Guarded.{has_one_call, guarded_body}
 use Rattle.guard_form.specs.Pieces.{Units, call_unit, call_to}
 use Rattle.guard_form.specs.Places.{Enclosing, BodyPlace, noted_code, call_labels}
 use Rattle.guard_runs.specs.Rewinding.{NoneBelow}
@@ -62,5 +62,5 @@ abbrev pub BodyKeeps : Type 0
 BodyKeeps =
     (g : ℕ) (area : Area) (p : Module) (st k h : ℕ) (f : GuardedFunc) (l : CallFrame) (slots : List ℕ) (x : Callee) (to : Option ℕ) (behind : Code) (rest : Units) (xs : List Enclosing)
     (ls : List Value)
-    → Uses st f k l → ArmsHold f.body → BodyPlace st f k (call_unit slots x to behind rest) xs → NoneBelow xs → (is_alone f.exits f.body ≡ true → value_at ls f.size ≡ V.I32 0)
+    → Uses st f k l → ArmsHold f.body → BodyPlace st f k (call_unit slots x to behind rest) xs → NoneBelow xs → (has_one_call f.exits f.body ≡ true → value_at ls f.size ≡ V.I32 0)
     → BodyLaw g area p st (written_of st f l) (site_of st f k h slots x to behind rest xs) ls 4 (passing f.first f.body)

@@ -42,7 +42,7 @@ abbrev places : List ℕ
 places = 0 ∷ 1 ∷ 2 ∷ 3 ∷ []
 
 abbrev i : GuardIndices
-i = record { state = 0; index = 2; alone = false }
+i = record { state = 0; index = 2; one_call = false }
 
 abbrev call_it : ℕ → Code → ℕ → Code
 call_it d behind k = plain (call 0) (plain (basic (const (V.I32 k))) (plain (local_set 2) (plain (basic (global_get 0)) (plain (br_if d) behind))))

@@ -17,7 +17,7 @@ use Rattle.wa_model.specs.Configuration.{Label, block_label, loop_label, Activat
 use Rattle.wa_model.specs.Step.{Next, steps, asks, traps, stuck, keep, result_count, leave, jump, with_top, with_number, choose, zero_of, entered, invoke, param_count, same_types, same_func_type}
 use Rattle.wa_model.specs.Flat.{followed_by, set_to, result_got}
 use Rattle.guard_form.specs.Functions.{GuardedFunc, Role, as_is, with_guards, size_of, extra_types, indices_of, flat_code, written_code, Calls, PiecesCall, RoleCalls}
-use Rattle.guard_form.specs.Guarded.{raise, raised, by_state, one_more, arm, Exit, each_end, its_end, by_label, nowhere, exit_inside, own_block, index_noted, is_alone, front}
+use Rattle.guard_form.specs.Guarded.{raise, raised, by_state, one_more, arm, Exit, each_end, its_end, by_label, nowhere, exit_inside, own_block, index_noted, has_one_call, front}
 use Rattle.guard_form.specs.Pieces.{Units, no_unit, call_unit, nest_unit, if_unit, any_unit, flat_units, numbers_in}
 use Rattle.guard_form.specs.Places.{Enclosing, in_a_block, in_a_loop, flat_labels, exit_at, written_labels, has_block, label_more, BodyPlace, past_call, call_code, noted_code, call_labels}
 use Rattle.guard_form.proofs.PlacesBelow.{alone_number}
@@ -97,7 +97,7 @@ module _ (w : Sides) where
   both_set ls extra y v b = record { size = length-set ls y v ∙ b.size; more = b.more; held = b.held }
 
   -- the index of a call is set
-  pub index_set : (f : GuardedFunc) (ls extra : List Value) (k : ℕ) → (is_alone f.exits f.body ≡ true → k ≡ 0) → Locals (with_guards f) ls extra
+  pub index_set : (f : GuardedFunc) (ls extra : List Value) (k : ℕ) → (has_one_call f.exits f.body ≡ true → k ≡ 0) → Locals (with_guards f) ls extra
       → Locals (with_guards f) ls (slice_set extra 0 (V.I32 k))
   index_set f ls extra k none b =
       let more = b.more in
@@ -124,7 +124,7 @@ module _ (w : Sides) where
     both = both_set x.ls x.extra y v x.both;
   }
 
-  abbrev pub with_index : (f : GuardedFunc) (x : Ctx w (with_guards f)) (k : ℕ) → (is_alone f.exits f.body ≡ true → k ≡ 0) → Ctx w (with_guards f)
+  abbrev pub with_index : (f : GuardedFunc) (x : Ctx w (with_guards f)) (k : ℕ) → (has_one_call f.exits f.body ≡ true → k ≡ 0) → Ctx w (with_guards f)
   with_index f x k none = record {
     s = x.s;
     s' = x.s';
@@ -201,7 +201,7 @@ module _ (w : Sides) where
         → Near w 9 (cq w x ops (set_to to (followed_by behind (flat_units rest))) (flat_labels f xs))
         (cp w x ops (noted_code w.state f xs k to behind rest) (call_labels w.state f h xs k rest))
     unfolding followed_by
-    noted_near f x ops k h slots c to behind rest xs pl = by_alone (is_alone f.exits f.body) (λ a. alone_number w.state f k slots c to behind rest xs pl a)
+    noted_near f x ops k h slots c to behind rest xs pl = by_alone (has_one_call f.exits f.body) (λ a. alone_number w.state f k slots c to behind rest xs pl a)
       where
         co : BehindPiece w (with_guards f) (one_more (has_block f rest xs) 0) (flat_units rest) (flat_labels f xs) (call_labels w.state f h xs k rest)
         co = behind_call f h k slots c to behind rest xs pl
@@ -231,8 +231,8 @@ module _ (w : Sides) where
             on p 1 1 _ _ _ (reads w ok y ops (plain (br_if (one_more (has_block f rest xs) (length xs))) next) lb')
             (walks p 1 (cp w y (V.I32 0 ∷ ops) (plain (br_if (one_more (has_block f rest xs) (length xs))) next) lb') _ refl)
 
-        by_alone : (alone : Bool) → (is_alone f.exits f.body ≡ true → k ≡ 0)
-            → Near w 9 (cq w x ops (set_to to (followed_by behind (flat_units rest))) (flat_labels f xs)) (cp w x ops (index_noted alone f.size k test) lb')
+        by_alone : (one_call : Bool) → (has_one_call f.exits f.body ≡ true → k ≡ 0)
+            → Near w 9 (cq w x ops (set_to to (followed_by behind (flat_units rest))) (flat_labels f xs)) (cp w x ops (index_noted one_call f.size k test) lb')
         by_alone true none = later w 2 5 9 _ _ _ (passes x) (by_to x ca to) (omega arith)
         by_alone false none =
             let y = with_index f x k none in

@@ -12,7 +12,7 @@ use Rattle.wa_model.specs.Step.{steps, jump}
 use Rattle.wa_model.specs.Flat.{set_to, result_got}
 use Rattle.guard_form.specs.Bounds.{over, passing}
 use Rattle.guard_form.specs.Functions.{GuardedFunc, indices_of, ArmsHold}
-use Rattle.guard_form.specs.Guarded.{raised, GuardIndices, by_state, one_more, arm, exit_inside, call_guarded, index_noted, is_alone, guarded_body, front}
+use Rattle.guard_form.specs.Guarded.{raised, GuardIndices, by_state, one_more, arm, exit_inside, call_guarded, index_noted, has_one_call, guarded_body, front}
 use Rattle.guard_form.specs.Pieces.{Units, call_unit, nest_unit, if_unit, any_unit, numbers_in}
 use Rattle.guard_form.specs.Places.{Enclosing, in_a_block, in_a_loop, exit_at, written_labels, has_block, label_more, BodyPlace, at_start, past_call, past_block, past_loop, past_if}
 use Rattle.guard_form.specs.Places.{in_block, in_loop, in_then, in_else, call_code, call_labels}
@@ -206,9 +206,9 @@ set_there (y ∷ ls) zero v e = ap (λ z. z ∷ ls) (sym e)
 set_there (y ∷ ls) (suc x) v e = ap (λ zs. y ∷ zs) (set_there ls x v e)
 
 -- the index becomes k, or is k already
-notes : (p : Module) (s : Store) (fn : ℕ) (under : List Activation) (ls ops : List Value) (x k : ℕ) (next : Code) (labels : List Label) (alone : Bool)
-    → (alone ≡ true → slice_set ls x (V.I32 k) ≡ ls)
-    → Within p (running s fn under ls ops (index_noted alone x k next) labels) 2 (running s fn under (slice_set ls x (V.I32 k)) ops next labels)
+notes : (p : Module) (s : Store) (fn : ℕ) (under : List Activation) (ls ops : List Value) (x k : ℕ) (next : Code) (labels : List Label) (one_call : Bool)
+    → (one_call ≡ true → slice_set ls x (V.I32 k) ≡ ls)
+    → Within p (running s fn under ls ops (index_noted one_call x k next) labels) 2 (running s fn under (slice_set ls x (V.I32 k)) ops next labels)
 notes p s fn under ls ops x k next labels true h = record {
   cost = 0;
   within = omega arith;
@@ -218,7 +218,7 @@ notes p s fn under ls ops x k next labels false h = record { cost = 2; within = 
 
 pub unwinds_law : Unwinds
 unwinds_law p st n k h f s fn under ls ops slots x to behind rest xs state pl held =
-    let front = notes p s fn under ls ops f.size k test lb' (is_alone f.exits f.body) same in
+    let front = notes p s fn under ls ops f.size k test lb' (has_one_call f.exits f.body) same in
     let within = front.within in
     record {
       cost = front.cost + 2;
@@ -234,7 +234,7 @@ unwinds_law p st n k h f s fn under ls ops slots x to behind rest xs state pl he
     ls2 : List Value
     ls2 = slice_set ls f.size (V.I32 k)
 
-    same : is_alone f.exits f.body ≡ true → slice_set ls f.size (V.I32 k) ≡ ls
+    same : has_one_call f.exits f.body ≡ true → slice_set ls f.size (V.I32 k) ≡ ls
     same a = set_there ls f.size (V.I32 k) (held a ∙ ap V.I32 (sym (alone_number st f k slots x to behind rest xs pl a)))
 
     tail : Code

@@ -13,7 +13,7 @@ use Rattle.wa_model.specs.Step.{Next, steps, asks, returns, traps, stuck, param_
 use Rattle.wa_model.specs.Store.{Store, value_at, Did, works, fails, lacks, takes, act}
 use Rattle.wa_model.specs.declared.flat.Operand.{Operand}
 use Rattle.guard_form.specs.Functions.{GuardedFunc, Role, as_is, with_guards, size_of, extra_types, indices_of, flat_code, written_code, Calls, RoleCalls}
-use Rattle.guard_form.specs.Guarded.{raised, by_state, one_more, arm, exit_inside, is_alone, guarded_body, front}
+use Rattle.guard_form.specs.Guarded.{raised, by_state, one_more, arm, exit_inside, has_one_call, guarded_body, front}
 use Rattle.guard_form.specs.Pieces.{Units, no_unit, call_unit, nest_unit, if_unit, any_unit, numbers_in, call_to, flat_units}
 use Rattle.guard_form.specs.Places.{Enclosing, flat_labels, exit_at, written_labels, BodyPlace, has_block, call_code, noted_code, call_labels}
 use Rattle.guard_runs.specs.Silent.{Silently}
@@ -143,7 +143,7 @@ pub data GoesTo (w : Sides) (g : ℕ) (taken : List Value) : Callee → Type 0 w
 -- the index of a function whose only call isn't noted is 0
 abbrev pub IndexHeld : Role → (extra : List Value) → Type 0
 IndexHeld (as_is n body) extra = Unit {0}
-IndexHeld (with_guards f) extra = is_alone f.exits f.body ≡ true → value_at extra 0 ≡ V.I32 0
+IndexHeld (with_guards f) extra = has_one_call f.exits f.body ≡ true → value_at extra 0 ≡ V.I32 0
 
 -- The locals of both sides: the written ones have the index and the scratch locals behind.
 pub record Locals (r : Role) (ls extra : List Value) : Type 0 where

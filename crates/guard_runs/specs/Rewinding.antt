@@ -10,7 +10,7 @@ use Rattle.wa_model.specs.Step.{steps, jump}
 use Rattle.wa_model.specs.Store.{Store, value_at}
 use Rattle.guard_form.specs.Bounds.{passing}
 use Rattle.guard_form.specs.Functions.{GuardedFunc, indices_of, ArmsHold}
-use Rattle.guard_form.specs.Guarded.{by_state, Exit, each_end, its_end, by_label, nowhere, is_alone, guarded_body, front}
+use Rattle.guard_form.specs.Guarded.{by_state, Exit, each_end, its_end, by_label, nowhere, has_one_call, guarded_body, front}
 use Rattle.guard_form.specs.Pieces.{Units, call_unit, any_unit, numbers_in}
 use Rattle.guard_form.specs.Places.{Enclosing, in_a_block, in_a_loop, written_labels, BodyPlace, call_code, noted_code, call_labels}
 use Rattle.guard_runs.specs.Silent.{Silently}
@@ -67,6 +67,6 @@ abbrev pub Unwinds : Type 0
 Unwinds =
     (p : Module) (st n k h : ℕ) (f : GuardedFunc) (s : Store) (fn : ℕ) (under : List Activation) (ls ops : List Value) (slots : List ℕ) (x : Callee) (to : Option ℕ) (behind : Code)
     (rest : Units) (xs : List Enclosing)
-    → value_at s.globals st ≡ V.I32 (suc n) → BodyPlace st f k (call_unit slots x to behind rest) xs → (is_alone f.exits f.body ≡ true → value_at ls f.size ≡ V.I32 0)
+    → value_at s.globals st ≡ V.I32 (suc n) → BodyPlace st f k (call_unit slots x to behind rest) xs → (has_one_call f.exits f.body ≡ true → value_at ls f.size ≡ V.I32 0)
     → Within p (running s fn under ls ops (noted_code st f xs k to behind rest) (call_labels st f h xs k rest)) 4
     (running s fn under (slice_set ls f.size (V.I32 k)) [] (by_state st f.saving done (result_got f.result)) [])

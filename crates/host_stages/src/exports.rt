@@ -17,14 +17,14 @@ use wa_model::End;
 use wa_types::{Trap, Value};
 
 /// What the host does with a stack when it calls an export.
-#[derive(Clone, Copy, Debug, PartialEq, Eq)]
+#[derive(Clone, Copy)]
 pub enum Work {
     Unwinding,
     Rewinding,
 }
 
 /// What an export returned, or how the program ended inside it.
-#[derive(Debug, Drop)]
+#[derive(Drop)]
 pub enum Exported {
     Returned(Option<Value>),
     Ended(End),

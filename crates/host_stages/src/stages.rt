@@ -6,7 +6,7 @@ use wa_model::{Answer, Area, End, Event};
 use wa_types::{Name, ValType, Value};
 
 /// The functions of the five exports through which a host unwinds and rewinds a stack.
-#[derive(Clone, Copy, Debug, PartialEq, Eq)]
+#[derive(Clone, Copy)]
 pub struct Exports {
     pub start_unwind: u32,
     pub stop_unwind: u32,
@@ -16,7 +16,7 @@ pub struct Exports {
 }
 
 /// An imported function as a host sees it: its joined name, its base name, and its result where it has one.
-#[derive(Debug, Drop)]
+#[derive(Drop)]
 pub struct HostImport {
     pub name: Name,
     pub base: Name,
@@ -37,21 +37,21 @@ pub struct Setting {
 }
 
 /// An entry call: the function and its arguments.
-#[derive(Debug, Drop)]
+#[derive(Drop)]
 pub struct EntryCall {
     pub func: u32,
     pub args: Vec<Value>,
 }
 
 /// The number of the entry that runs or comes next, and those that are still to be called.
-#[derive(Debug, Drop)]
+#[derive(Drop)]
 pub struct Left {
     pub number: u32,
     pub entries: VecDeque<EntryCall>,
 }
 
 /// What the host has called: an import as the start function, the start function, or an entry.
-#[derive(Debug, Drop)]
+#[derive(Drop)]
 pub enum Task {
     Outermost,
     Start,
@@ -59,7 +59,7 @@ pub enum Task {
 }
 
 /// A pause: the entry that is called again, the import whose call waits, and its answer.
-#[derive(Debug, Drop)]
+#[derive(Drop)]
 pub struct Pause {
     pub entry: EntryCall,
     pub import: u32,
@@ -67,7 +67,7 @@ pub struct Pause {
 }
 
 /// Where a program with an instance stands between two events.
-#[derive(Debug, Drop)]
+#[derive(Drop)]
 pub enum Stage {
     /// The next entry is to be called, or all have returned.
     Free,
@@ -86,7 +86,7 @@ pub enum Stage {
 }
 
 /// An event, and where the program then stands.
-#[derive(Debug, Drop)]
+#[derive(Drop)]
 pub struct Moved {
     pub event: Event,
     pub stage: Stage,

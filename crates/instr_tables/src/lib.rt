@@ -7,5 +7,5 @@ mod operators;
 mod types;
 
 pub use access::{Access, load_access, store_access};
-pub use operators::{operands_of, result_of};
+pub use operators::{operand_count, operands_of, result_of};
 pub use types::{same_types, type_of_value};

@@ -1,6 +1,6 @@
 //! The types of a numeric operator's operands and of its result (standard, section 3.3.1).
 
-ghost use Rattle.std.specs.Prelude.{◌≡◌, [], ◌∷◌, reverse};
+ghost use Rattle.std.specs.Prelude.{◌≡◌, [], ◌∷◌, length, reverse};
 ghost use Rattle.wa_types.specs.declared.values.ValType.TheVariants.{I32};
 ghost use Rattle.wa_types.specs.Operators.{operand_types, result_type};
 
@@ -26,6 +26,13 @@ pub fn operands_of(op: NumOp) -> &'static [ValType]
             two_of_32(),
         _ => &[ValType::I64, ValType::I64],
     }
+}
+
+/// How many operands an operator takes (standard, section 2.4.1).
+pub fn operand_count(op: NumOp) -> usize
+    ensures { result ≡ length (operand_types op) }
+{
+    operands_of(op).len()
 }
 
 fn two_of_32() -> &'static [ValType]

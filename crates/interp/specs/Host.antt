@@ -13,7 +13,7 @@ use Rattle.interp.specs.Instance.{Waits, waits_of, Calls}
 
 -- its module
 abbrev pub code_in : Instance → Module
-code_in i = module_of i.program.source.now
+code_in i = module_of i.program
 
 -- its store
 abbrev pub store_in : Instance → Store

@@ -28,15 +28,15 @@ pub fn go_on<'m>(
     mut stack: Stack<'m>,
     steps: &mut Steps,
 ) -> Result<(Turn, Wait<'m>), AllocError>
-    requires most { store.old.memory.max ≡ memory_max (module_of program.now.source.now) }
+    requires most { store.old.memory.max ≡ memory_max (module_of program.now) }
     requires fits { steps.old.left + steps.old.used < 2 ^ 64 }
-    ensures turns { Valid (module_of program.now.source.now) → (outs : List ValType) × Fits (module_of program.now.source.now) outs (running_of (store_of store.old) stack.entry)
-        → IfOk result (λ t. Turns (module_of program.now.source.now) (running_of (store_of store.old) stack.entry) steps.old.left (steps.new.used - steps.old.used) t.0 (store_of store.new)
+    ensures turns { Valid (module_of program.now) → (outs : List ValType) × Fits (module_of program.now) outs (running_of (store_of store.old) stack.entry)
+        → IfOk result (λ t. Turns (module_of program.now) (running_of (store_of store.old) stack.entry) steps.old.left (steps.new.used - steps.old.used) t.0 (store_of store.new)
         (waits_of t.1)) }
-    ensures holds { IfOk result (λ t. StackRoom (module_of program.now.source.now) stack.entry → WaitRoom (module_of program.now.source.now) t.1) }
-    ensures lacks { IfErr result (λ _. Valid (module_of program.now.source.now) → (outs : List ValType)
-        × Fits (module_of program.now.source.now) outs (running_of (store_of store.old) stack.entry) → StackRoom (module_of program.now.source.now) stack.entry
-        → LacksAt (module_of program.now.source.now) (running_of (store_of store.old) stack.entry) (steps.new.used - steps.old.used) (store_of store.new)) }
+    ensures holds { IfOk result (λ t. StackRoom (module_of program.now) stack.entry → WaitRoom (module_of program.now) t.1) }
+    ensures lacks { IfErr result (λ _. Valid (module_of program.now) → (outs : List ValType)
+        × Fits (module_of program.now) outs (running_of (store_of store.old) stack.entry) → StackRoom (module_of program.now) stack.entry
+        → LacksAt (module_of program.now) (running_of (store_of store.old) stack.entry) (steps.new.used - steps.old.used) (store_of store.new)) }
     ensures sum { steps.new.left + steps.new.used ≡ steps.old.left + steps.old.used }
     ensures grows { steps.old.used ≤ steps.new.used }
     ensures max { store.new.memory.max ≡ store.old.memory.max }
@@ -50,7 +50,7 @@ pub fn go_on<'m>(
         Stop::Trapped(trap) => Ok((Turn::Trapped(trap), Wait::Nothing)),
         Stop::Asked { import, own, taken } => {
             let args = args_of(&stack.here.operands, own, taken.saturating_sub(own));
-            let args = Vec::from_slice(program.alloc, args)?;
+            let args = Vec::from_slice(program.alloc(), args)?;
             let wait = Wait::Inside { stack, taken };
             Ok((Turn::Waiting(Call { import, args }), wait))
         }
@@ -66,16 +66,16 @@ pub fn call_from_outside<'m>(
     args: &[Value],
     steps: &mut Steps,
 ) -> Result<(Turn, Wait<'m>), AllocError>
-    requires most { store.old.memory.max ≡ memory_max (module_of program.now.source.now) }
+    requires most { store.old.memory.max ≡ memory_max (module_of program.now) }
     requires fits { steps.old.left + steps.old.used < 2 ^ 64 }
-    ensures calls { Valid (module_of program.now.source.now) → StoreFits (module_of program.now.source.now) (store_of store.old)
-        → types_of args.now ≡ (func_type_at (module_of program.now.source.now) func).params
-        → IfOk result (λ t. Calls (module_of program.now.source.now) (store_of store.old) func args.now steps.old.left (steps.new.used - steps.old.used) t.0 (store_of store.new)
+    ensures calls { Valid (module_of program.now) → StoreFits (module_of program.now) (store_of store.old)
+        → types_of args.now ≡ (func_type_at (module_of program.now) func).params
+        → IfOk result (λ t. Calls (module_of program.now) (store_of store.old) func args.now steps.old.left (steps.new.used - steps.old.used) t.0 (store_of store.new)
         (waits_of t.1)) }
-    ensures holds { IfOk result (λ t. WaitRoom (module_of program.now.source.now) t.1) }
-    ensures lacks { IfErr result (λ _. Valid (module_of program.now.source.now) → StoreFits (module_of program.now.source.now) (store_of store.old)
-        → types_of args.now ≡ (func_type_at (module_of program.now.source.now) func).params
-        → CallLacks (module_of program.now.source.now) (store_of store.old) func args.now (steps.new.used - steps.old.used) (store_of store.new)) }
+    ensures holds { IfOk result (λ t. WaitRoom (module_of program.now) t.1) }
+    ensures lacks { IfErr result (λ _. Valid (module_of program.now) → StoreFits (module_of program.now) (store_of store.old)
+        → types_of args.now ≡ (func_type_at (module_of program.now) func).params
+        → CallLacks (module_of program.now) (store_of store.old) func args.now (steps.new.used - steps.old.used) (store_of store.new)) }
     ensures sum { steps.new.left + steps.new.used ≡ steps.old.left + steps.old.used }
     ensures grows { steps.old.used ≤ steps.new.used }
     ensures max { store.new.memory.max ≡ store.old.memory.max }
@@ -85,12 +85,12 @@ pub fn call_from_outside<'m>(
         return Ok((Turn::StepsSpent, Wait::Nothing));
     }
     let Some(callee) = program.defined(func) else {
-        let args = Vec::from_slice(program.alloc, args)?;
+        let args = Vec::from_slice(program.alloc(), args)?;
         pay(steps, more);
         return Ok((Turn::Waiting(Call { import: func, args }), Wait::Outermost));
     };
     let here = enter(program, func, callee, args)?;
-    let under = Vec::new(program.alloc);
+    let under = Vec::new(program.alloc());
     pay(steps, more);
     go_on(program, store, Stack { here, under }, steps)
 }

@@ -29,10 +29,10 @@ pub struct Instance<'m> {
     store: Store,
     has_memory: bool,
     wait: Wait<'m>,
-    ghost source_is: { program.source.now ≡ valid.now } by { Prim.hlevel (codes, instr.the_row.coded) },
-    ghost most_is: { store.memory.max ≡ memory_max (module_of program.source.now) },
-    ghost room_is: { WaitRoom (module_of program.source.now) wait } by { wait_prop (module_of program.source.now) wait },
-    ghost has_is: { has_memory ≡ nat_lt 0 (length (all_memories (module_of program.source.now))) },
+    ghost source_is: { program ≡ valid.now } by { Prim.hlevel (codes, instr.the_row.coded) },
+    ghost most_is: { store.memory.max ≡ memory_max (module_of program) },
+    ghost room_is: { WaitRoom (module_of program) wait } by { wait_prop (module_of program) wait },
+    ghost has_is: { has_memory ≡ nat_lt 0 (length (all_memories (module_of program))) },
 }
 
 impl<'m> Instance<'m> {

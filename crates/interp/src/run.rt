@@ -54,15 +54,15 @@ pub fn run<'m>(
     stack: &mut Stack<'m>,
     steps: &mut Steps,
 ) -> Result<Stop, AllocError>
-    requires most { store.old.memory.max ≡ memory_max (module_of program.now.source.now) }
+    requires most { store.old.memory.max ≡ memory_max (module_of program.now) }
     requires fits { steps.old.left + steps.old.used < 2 ^ 64 }
-    ensures runs { Valid (module_of program.now.source.now) → (outs : List ValType) × Fits (module_of program.now.source.now) outs (running_of (store_of store.old) stack.old)
-        → IfOk result (λ t. RunsTo (module_of program.now.source.now) (running_of (store_of store.old) stack.old) steps.old.left (steps.new.used - steps.old.used) t
+    ensures runs { Valid (module_of program.now) → (outs : List ValType) × Fits (module_of program.now) outs (running_of (store_of store.old) stack.old)
+        → IfOk result (λ t. RunsTo (module_of program.now) (running_of (store_of store.old) stack.old) steps.old.left (steps.new.used - steps.old.used) t
         (running_of (store_of store.new) stack.new)) }
-    ensures holds { OnOk result (StackRoom (module_of program.now.source.now) stack.old → StackRoom (module_of program.now.source.now) stack.new) }
-    ensures lacks { IfErr result (λ _. Valid (module_of program.now.source.now) → (outs : List ValType)
-        × Fits (module_of program.now.source.now) outs (running_of (store_of store.old) stack.old) → StackRoom (module_of program.now.source.now) stack.old
-        → LacksAt (module_of program.now.source.now) (running_of (store_of store.old) stack.old) (steps.new.used - steps.old.used) (store_of store.new)) }
+    ensures holds { OnOk result (StackRoom (module_of program.now) stack.old → StackRoom (module_of program.now) stack.new) }
+    ensures lacks { IfErr result (λ _. Valid (module_of program.now) → (outs : List ValType)
+        × Fits (module_of program.now) outs (running_of (store_of store.old) stack.old) → StackRoom (module_of program.now) stack.old
+        → LacksAt (module_of program.now) (running_of (store_of store.old) stack.old) (steps.new.used - steps.old.used) (store_of store.new)) }
     ensures sum { steps.new.left + steps.new.used ≡ steps.old.left + steps.old.used }
     ensures grows { steps.old.used ≤ steps.new.used }
     ensures max { store.new.memory.max ≡ store.old.memory.max }

@@ -19,10 +19,10 @@ use wa_types::{Instr, ValType, Value};
 
 /// `br_if` (standard, section 4.4.5.7).
 pub fn branch_if(program: &Program, stack: &mut Stack, label: u32) -> Result<Flow, AllocError>
-    ensures tells { IfOk result (λ f. (s : Store) (left : ℕ) → 0 < left → Tells s (plain_of (module_of program.now.source.now) s stack.old (br_if label)) left f (running_of s stack.new)) }
+    ensures tells { IfOk result (λ f. (s : Store) (left : ℕ) → 0 < left → Tells s (plain_of (module_of program.now) s stack.old (br_if label)) left f (running_of s stack.new)) }
     ensures holds { (m : Module) → StackRoom m stack.old → StackRoom m stack.new }
-    ensures lacks { IfErr result (λ _. (s : Store) (outs : List ValType) → StackRoom (module_of program.now.source.now) stack.old
-        → NextFits (module_of program.now.source.now) outs (plain_of (module_of program.now.source.now) s stack.old (br_if label)) → ⊥) }
+    ensures lacks { IfErr result (λ _. (s : Store) (outs : List ValType) → StackRoom (module_of program.now) stack.old
+        → NextFits (module_of program.now) outs (plain_of (module_of program.now) s stack.old (br_if label)) → ⊥) }
 {
     let Some(test) = pop_number(&mut stack.here.operands) else {
         return Ok(Flow::Spent);
@@ -41,10 +41,10 @@ pub fn branch_by(
     last: u32,
     left: u64,
 ) -> Result<Flow, AllocError>
-    ensures tells { IfOk result (λ f. (s : Store) → Tells s (plain_of (module_of program.now.source.now) s stack.old (br_table labels.now.items last)) left f (running_of s stack.new)) }
+    ensures tells { IfOk result (λ f. (s : Store) → Tells s (plain_of (module_of program.now) s stack.old (br_table labels.now.items last)) left f (running_of s stack.new)) }
     ensures holds { (m : Module) → StackRoom m stack.old → StackRoom m stack.new }
-    ensures lacks { IfErr result (λ _. (s : Store) (outs : List ValType) → StackRoom (module_of program.now.source.now) stack.old
-        → NextFits (module_of program.now.source.now) outs (plain_of (module_of program.now.source.now) s stack.old (br_table labels.now.items last)) → ⊥) }
+    ensures lacks { IfErr result (λ _. (s : Store) (outs : List ValType) → StackRoom (module_of program.now) stack.old
+        → NextFits (module_of program.now) outs (plain_of (module_of program.now) s stack.old (br_table labels.now.items last)) → ⊥) }
 {
     let more = labels.len() as u64 + 1;
     if left <= more {

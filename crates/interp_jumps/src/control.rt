@@ -68,10 +68,10 @@ fn hand_over(
 
 /// A branch to the label of this number; past the last one it leaves the function (standard, section 4.4.5.6).
 pub fn jump(program: &Program, stack: &mut Stack, label: u32, more: u64) -> Result<Flow, AllocError>
-    ensures tells { IfOk result (λ f. (s : Store) (left : ℕ) → more < left → Tells s (jump_of (module_of program.now.source.now) s more stack.old label) left f (running_of s stack.new)) }
+    ensures tells { IfOk result (λ f. (s : Store) (left : ℕ) → more < left → Tells s (jump_of (module_of program.now) s more stack.old label) left f (running_of s stack.new)) }
     ensures holds { (m : Module) → StackRoom m stack.old → StackRoom m stack.new }
-    ensures lacks { IfErr result (λ _. (s : Store) (outs : List ValType) → StackRoom (module_of program.now.source.now) stack.old
-        → NextFits (module_of program.now.source.now) outs (jump_of (module_of program.now.source.now) s more stack.old label) → ⊥) }
+    ensures lacks { IfErr result (λ _. (s : Store) (outs : List ValType) → StackRoom (module_of program.now) stack.old
+        → NextFits (module_of program.now) outs (jump_of (module_of program.now) s more stack.old label) → ⊥) }
 {
     let mut passed = label;
     while let Some(entry) = stack.here.labels.last() {
@@ -122,10 +122,10 @@ fn carry(operands: &mut Vec<Value>, height: usize, carries: bool) -> Result<(), 
 /// The end of a sequence (standard, sections 4.4.6.2 and 4.4.7.2).
 pub fn finish(program: &Program, stack: &mut Stack) -> Result<Flow, AllocError>
     requires { stack.old.here.code.now ≡ [] }
-    ensures tells { IfOk result (λ f. (s : Store) (left : ℕ) → 0 < left → Tells s (finish_of (module_of program.now.source.now) s stack.old) left f (running_of s stack.new)) }
+    ensures tells { IfOk result (λ f. (s : Store) (left : ℕ) → 0 < left → Tells s (finish_of (module_of program.now) s stack.old) left f (running_of s stack.new)) }
     ensures holds { (m : Module) → StackRoom m stack.old → StackRoom m stack.new }
-    ensures lacks { IfErr result (λ _. (s : Store) (outs : List ValType) → StackRoom (module_of program.now.source.now) stack.old
-        → NextFits (module_of program.now.source.now) outs (finish_of (module_of program.now.source.now) s stack.old) → ⊥) }
+    ensures lacks { IfErr result (λ _. (s : Store) (outs : List ValType) → StackRoom (module_of program.now) stack.old
+        → NextFits (module_of program.now) outs (finish_of (module_of program.now) s stack.old) → ⊥) }
 {
     match stack.here.labels.pop() {
         None => leave(stack, program.func_results(stack.here.func), 0),

@@ -11,7 +11,7 @@ use Rattle.wa_types.specs.declared.instrs.Instr.TheVariants.{LocalSet, LocalTee,
 use Rattle.wa_types.specs.Syntax.{nop, drop as drop_operand, select, const, num, global_get, global_set, load, store, memory_size, memory_grow, Plain, basic, local_get, local_set, local_tee}
 use Rattle.wa_types.specs.Syntax.{br, br_if, br_table, return, unreachable, call, call_indirect, Code, done, plain, nest, branch}
 use Rattle.wa_types.specs.View.{in_front, onto, code}
-use Rattle.wa_types.proofs.ViewLemmas.{Kind, is_block, is_loop, is_if, is_plain, kind, in_block, in_loop, in_if}
+use Rattle.wa_types.proofs.ViewLemmas.{InstrKind, is_block, is_loop, is_if, is_plain, instr_kind, in_block, in_loop, in_if}
 use Rattle.wa_model.specs.Store.{value_at}
 use Rattle.wa_types.specs.Memory.{overwritten, with_piece}
 use Rattle.std.specs.Bool.{OnTrue, OnFalse}
@@ -97,18 +97,18 @@ long_plain globals (call x) r h = refl
 long_plain globals (call_indirect x) r h = refl
 
 not_done : (x : Instr) (r : Code) → in_front x r ≡ done → ⊥
-not_done x r e = by_kind (kind x)
+not_done x r e = by_kind (instr_kind x)
   where
-    by_kind : Kind x → ⊥
+    by_kind : InstrKind x → ⊥
     by_kind (is_block t v h) = let f : nest _ t (code v.items) r ≡ done = sym (ap (λ i. in_front i r) h ∙ in_block t v r) ∙ e in cc
     by_kind (is_loop t v h) = let f : nest _ t (code v.items) r ≡ done = sym (ap (λ i. in_front i r) h ∙ in_loop t v r) ∙ e in cc
     by_kind (is_if t v w h) = let f : branch t (code v.items) (code w.items) r ≡ done = sym (ap (λ i. in_front i r) h ∙ in_if t v w r) ∙ e in cc
     by_kind (is_plain p h) = let f : plain p r ≡ done = sym (h r) ∙ e in cc
 
 long_any : (globals : List Value) (x : Instr) (r : Code) → (r ≡ done → ⊥) → constant_value globals (in_front x r) ≡ I32 0
-long_any globals x r h = by_kind (kind x)
+long_any globals x r h = by_kind (instr_kind x)
   where
-    by_kind : Kind x → constant_value globals (in_front x r) ≡ I32 0
+    by_kind : InstrKind x → constant_value globals (in_front x r) ≡ I32 0
     by_kind (is_block t v e) = ap (constant_value globals) (ap (λ i. in_front i r) e ∙ in_block t v r)
     by_kind (is_loop t v e) = ap (constant_value globals) (ap (λ i. in_front i r) e ∙ in_loop t v r)
     by_kind (is_if t v w e) = ap (constant_value globals) (ap (λ i. in_front i r) e ∙ in_if t v w r)

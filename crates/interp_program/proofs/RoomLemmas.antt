@@ -22,7 +22,7 @@ use Rattle.wa_types.specs.Syntax.{local_set, local_tee, br, br_if, br_table, ret
 use Rattle.wa_types.specs.Sizes.{FuncSizes}
 use Rattle.wa_types.specs.View.{code, in_front, func_of}
 use Rattle.wa_types.proofs.SizeBounds.{count_fits}
-use Rattle.wa_types.proofs.ViewLemmas.{is_block, is_loop, is_if, is_plain, kind, in_block, in_loop, in_if, code_step, code_empty}
+use Rattle.wa_types.proofs.ViewLemmas.{is_block, is_loop, is_if, is_plain, instr_kind, in_block, in_loop, in_if, code_step, code_empty}
 use Rattle.wasm_tree.proofs.MeasureLemmas.{count_step, count_empty, count_block, count_loop, count_if}
 use Rattle.wa_model.specs.Store.{gives}
 use Rattle.wa_model.specs.Step.{arity_of}
@@ -70,7 +70,7 @@ last_plain x p e = last_front x ∙ ap ends (e done)
 -- those of an instruction, where control never goes on behind it
 most_ending : (m : Module) (x : Instr) (rest : Code) (h : ℕ) → is_last_instr x ≡ true → most_operands m (in_front x rest) h ≡ h
 unfolding most_operands is_last_instr
-most_ending m x rest h l = elim (kind x) [
+most_ending m x rest h l = elim (instr_kind x) [
   | is_block r v e ↦ absurd (let f : false ≡ true = sym (ap is_last_instr e) ∙ l in cc)
   | is_loop r v e ↦ absurd (let f : false ≡ true = sym (ap is_last_instr e) ∙ l in cc)
   | is_if r v w e ↦ absurd (let f : false ≡ true = sym (ap is_last_instr e) ∙ l in cc)
@@ -81,7 +81,7 @@ most_ending m x rest h l = elim (kind x) [
 most_behind : (m : Module) (x : Instr) (rest : Code) (h : ℕ) → is_last_instr x ≡ false
     → most_operands m (in_front x rest) h ≡ max (most_operands m (in_front x done) h) (most_operands m rest (behind m (in_front x done) h))
 unfolding most_operands behind
-most_behind m x rest h l = elim (kind x) [
+most_behind m x rest h l = elim (instr_kind x) [
   | is_block r v e ↦
       ap (λ y. most_operands m (in_front y rest) h) e ∙ ap (λ c. most_operands m c h) (in_block r v rest)
       ∙ omega (
@@ -160,7 +160,7 @@ behind_basic m (call_indirect sort) h = omega arith
 
 pub behind_few : (m : Module) (x : Instr) (h : ℕ) → behind m (in_front x done) h ≤ h + 1
 unfolding behind
-behind_few m x h = elim (kind x) [
+behind_few m x h = elim (instr_kind x) [
   | is_block r v e ↦ omega (arith, arity_few r, ap (λ y. behind m (in_front y done) h) e ∙ ap (λ c. behind m c h) (in_block r v done))
   | is_loop r v e ↦ omega (arith, arity_few r, ap (λ y. behind m (in_front y done) h) e ∙ ap (λ c. behind m c h) (in_loop r v done))
   | is_if r v w e ↦ omega (arith, arity_few r, ap (λ y. behind m (in_front y done) h) e ∙ ap (λ c. behind m c h) (in_if r v w done))
@@ -212,7 +212,7 @@ most_plain m (call_indirect sort) h = refl
 pub most_other : (m : Module) (x : Instr) (h : ℕ) → ((r : Option ValType) (v : Vec Instr Global) → x ≡ Block r v → ⊥) → ((r : Option ValType) (v : Vec Instr Global) → x ≡ Loop r v → ⊥)
     → ((r : Option ValType) (v w : Vec Instr Global) → x ≡ If r v w → ⊥) → most_operands m (in_front x done) h ≡ max h (behind m (in_front x done) h)
 unfolding most_operands behind
-most_other m x h not_block not_loop not_if = elim (kind x) [
+most_other m x h not_block not_loop not_if = elim (instr_kind x) [
   | is_block r v e ↦ absurd (not_block r v e)
   | is_loop r v e ↦ absurd (not_loop r v e)
   | is_if r v w e ↦ absurd (not_if r v w e)
@@ -319,7 +319,7 @@ after_if m h r v w = ap (λ c. behind m c h) (in_if r v w done)
 -- an instruction counts as one at least
 pub count_some : (x : Instr) → 1 ≤ count_of (in_front x done)
 unfolding count_of
-count_some x = elim (kind x) [
+count_some x = elim (instr_kind x) [
   | is_block r v e ↦ omega (arith, ap (λ y. count_of (in_front y done)) e ∙ ap count_of (in_block r v done))
   | is_loop r v e ↦ omega (arith, ap (λ y. count_of (in_front y done)) e ∙ ap count_of (in_loop r v done))
   | is_if r v w e ↦ omega (arith, ap (λ y. count_of (in_front y done)) e ∙ ap count_of (in_if r v w done))

@@ -1,36 +1,65 @@
 //! A module with what is looked up at calls.
 
-ghost use Rattle.std.specs.Prelude.{◌≡◌, ◌<◌, ◌^◌, Some, None, All, IfOk, MatchOption, length, map};
-ghost use Rattle.wa_types.specs.Modules.{func_sorts, func_imports, type_at, func_type_at, defined_at};
+ghost use Rattle.std.specs.Prelude.{◌≡◌, ◌<◌, ◌^◌, Some, None, All, IfOk, MatchOption, length, nat_lt};
+ghost use Rattle.wa_types.specs.Modules.{func_imports, type_at, func_type_at, defined_at};
 ghost use Rattle.wa_types.specs.Syntax.{Func as PlainFunc};
 ghost use Rattle.wa_types.specs.View.{func_of, module_of};
 ghost use Rattle.wa_model.specs.Step.{result_count, same_types, same_func_type};
-ghost use Rattle.interp_program.specs.Rooms.{room_at, room_of, HasFewInstrs};
+ghost use Rattle.interp_program.specs.Rooms.{room_of, HasFewInstrs};
 
 use crate::rooms::{Room, all_rooms};
 use crate::types;
 use std::alloc::{AllocError, Global};
+use std::marker::Model;
 use validate_spaces::{all_sorts, imported_sorts};
 use wa_types::{Func, Module, ValType};
 
 /// A module with what is looked up at calls: the index of each function's type, imports first, how many functions are
-/// imported (standard, section 2.5.1), and what the activations of each defined one reserve.
+/// imported (standard, section 2.5.1), and what the activations of each defined one reserve. Contracts see the module.
 #[derive(Drop)]
 pub struct Program<'m> {
-    pub alloc: Global,
-    pub source: &'m Module,
-    pub sorts: Vec<u32>,
-    pub imports: usize,
-    pub rooms: Vec<Room>,
-    ghost sorts_are: { sorts.items ≡ func_sorts (module_of source.now) },
-    ghost imports_are: { imports ≡ func_imports (module_of source.now) },
-    ghost rooms_are: { rooms.items ≡ map (room_at (module_of source.now)) source.now.funcs.items },
+    alloc: Global,
+    source: &'m Module,
+    sorts: Vec<u32>,
+    imports: usize,
+    rooms: Vec<Room>,
+}
+
+impl<'m> Model for Program<'m> {
+    ghost use Rattle.std.specs.Coded.{codes};
+    ghost use Rattle.std.specs.Prelude.{◌≡◌, map};
+    ghost use Rattle.wa_types.specs.Modules.{func_sorts, func_imports};
+    ghost use Rattle.wa_types.specs.View.{module_of};
+    ghost use Rattle.wa_types.specs.declared.syntax.Module.{Module as ModuleValue};
+    ghost use Rattle.wa_types.specs.contracts.instrs.Instr as instr;
+    ghost use Rattle.interp_program.specs.Rooms.{room_at};
+
+    ghost coded = { Prim.hlevel (codes, instr.the_row.coded) };
+
+    ghost Value = { ModuleValue };
+
+    ghost view = { λ s. s.source.now };
+
+    ghost invariant = { λ s. (s.sorts.items ≡ func_sorts (module_of s.source.now)) × (s.imports ≡ func_imports (module_of s.source.now))
+        × (s.rooms.items ≡ map (room_at (module_of s.source.now)) s.source.now.funcs.items) };
 }
 
 impl<'m> Program<'m> {
+    /// The allocator that it was made with.
+    pub fn alloc(&self) -> Global {
+        self.alloc
+    }
+
+    /// Whether the function of this index is imported (standard, section 2.5.1).
+    pub fn is_imported(&self, func: u32) -> bool
+        ensures { result ≡ nat_lt func (func_imports (module_of self.now)) }
+    {
+        (func as usize) < self.imports
+    }
+
     /// How many parameters the type of this index has.
     pub fn sort_params(&self, sort: u32) -> usize
-        ensures count { result ≡ length (type_at (module_of self.now.source.now) sort).params }
+        ensures count { result ≡ length (type_at (module_of self.now) sort).params }
         ensures small { result < 2 ^ 63 }
     {
         types::sort_params(self.source, sort)
@@ -38,7 +67,7 @@ impl<'m> Program<'m> {
 
     /// How many parameters the function of this index has.
     pub fn func_params(&self, func: u32) -> usize
-        ensures count { result ≡ length (func_type_at (module_of self.now.source.now) func).params }
+        ensures count { result ≡ length (func_type_at (module_of self.now) func).params }
         ensures small { result < 2 ^ 63 }
     {
         types::func_params(self.source, &self.sorts, func)
@@ -46,7 +75,7 @@ impl<'m> Program<'m> {
 
     /// How many results the function of this index has.
     pub fn func_results(&self, func: u32) -> usize
-        ensures { result ≡ result_count (module_of self.now.source.now) func }
+        ensures { result ≡ result_count (module_of self.now) func }
     {
         types::func_results(self.source, &self.sorts, func)
     }
@@ -54,7 +83,7 @@ impl<'m> Program<'m> {
     /// The defined function of this index.
     #[tactic(auto, using(crate::proofs::ProgramLemmas::finding))]
     pub fn defined(&self, func: u32) -> Option<&'m Func>
-        ensures { MatchOption result (defined_at (module_of self.now.source.now) func ≡ None) (λ f. defined_at (module_of self.now.source.now) func ≡ Some (func_of f.now)) }
+        ensures { MatchOption result (defined_at (module_of self.now) func ≡ None) (λ f. defined_at (module_of self.now) func ≡ Some (func_of f.now)) }
     {
         let place = (func as usize).checked_sub(self.imports)?;
         self.source.funcs.get(place)
@@ -62,15 +91,15 @@ impl<'m> Program<'m> {
 
     /// What the activations of a function reserve.
     pub fn room(&self, func: u32) -> Room
-        requires { (f : PlainFunc) × (defined_at (module_of self.now.source.now) func ≡ Some f) }
-        ensures { (f : PlainFunc) → defined_at (module_of self.now.source.now) func ≡ Some f → result ≡ room_of (module_of self.now.source.now) f }
+        requires { (f : PlainFunc) × (defined_at (module_of self.now) func ≡ Some f) }
+        ensures { (f : PlainFunc) → defined_at (module_of self.now) func ≡ Some f → result ≡ room_of (module_of self.now) f }
     {
         self.rooms[func as usize - self.imports]
     }
 
     /// Whether a function has the type of this index.
     pub fn has_type(&self, func: u32, sort: u32) -> bool
-        ensures { result ≡ same_func_type (func_type_at (module_of self.now.source.now) func) (type_at (module_of self.now.source.now) sort) }
+        ensures { result ≡ same_func_type (func_type_at (module_of self.now) func) (type_at (module_of self.now) sort) }
     {
         let func_type = types::func_type(self.source, &self.sorts, func);
         match (func_type, types::sort_type(self.source, sort)) {
@@ -86,7 +115,7 @@ impl<'m> Program<'m> {
 /// What is looked up in a module.
 pub fn make_program<'m>(alloc: Global, source: &'m Module) -> Result<Program<'m>, AllocError>
     requires { All HasFewInstrs source.now.funcs.items }
-    ensures { IfOk result (λ p. p.source.now ≡ source.now) }
+    ensures { IfOk result (λ p. p ≡ source.now) }
 {
     let sorts = all_sorts(alloc, &source.imports, &source.funcs)?;
     let imports = imported_sorts(alloc, &source.imports)?.len();

@@ -39,11 +39,11 @@ pub fn enter<'m>(
     callee: &'m Func,
     args: &[Value],
 ) -> Result<Activation<'m>, AllocError>
-    requires { defined_at (module_of program.now.source.now) func ≡ Some (func_of callee.now) }
+    requires { defined_at (module_of program.now) func ≡ Some (func_of callee.now) }
     ensures entered { IfOk result (λ a. IsEntered a func args.now (func_of callee.now)) }
-    ensures reserves { IfOk result (λ a. Reserves a (room_of (module_of program.now.source.now) (func_of callee.now))) }
+    ensures reserves { IfOk result (λ a. Reserves a (room_of (module_of program.now) (func_of callee.now))) }
 {
-    let alloc = program.alloc;
+    let alloc = program.alloc();
     let room = program.room(func);
     Ok(Activation {
         func,
@@ -83,9 +83,9 @@ fn invoke<'m>(
     left: u64,
 ) -> Result<Flow, AllocError>
     requires { own + params < 2 ^ 64 }
-    ensures tells { IfOk result (λ f. (s : Store) → Tells s (invoke_of (module_of program.now.source.now) s stack.old own params func) left f (running_of s stack.new)) }
-    ensures holds { OnOk result (StackRoom (module_of program.now.source.now) stack.old → StackRoom (module_of program.now.source.now) stack.new) }
-    ensures lacks { IfErr result (λ _. (s : Store) → paid_for (invoke_of (module_of program.now.source.now) s stack.old own params func) ≡ 0) }
+    ensures tells { IfOk result (λ f. (s : Store) → Tells s (invoke_of (module_of program.now) s stack.old own params func) left f (running_of s stack.new)) }
+    ensures holds { OnOk result (StackRoom (module_of program.now) stack.old → StackRoom (module_of program.now) stack.new) }
+    ensures lacks { IfErr result (λ _. (s : Store) → paid_for (invoke_of (module_of program.now) s stack.old own params func) ≡ 0) }
 {
     let more = params as u64;
     let taken = own + params;
@@ -93,7 +93,7 @@ fn invoke<'m>(
         return Ok(Flow::Spent);
     }
     let Some(callee) = program.defined(func) else {
-        if (func as usize) < program.imports {
+        if program.is_imported(func) {
             return Ok(Flow::Asked {
                 more,
                 import: func,
@@ -142,9 +142,9 @@ pub fn call<'m>(
     func: u32,
     left: u64,
 ) -> Result<Flow, AllocError>
-    ensures tells { IfOk result (λ f. (s : Store) → Tells s (plain_of (module_of program.now.source.now) s stack.old (call func)) left f (running_of s stack.new)) }
-    ensures holds { OnOk result (StackRoom (module_of program.now.source.now) stack.old → StackRoom (module_of program.now.source.now) stack.new) }
-    ensures lacks { IfErr result (λ _. (s : Store) → paid_for (plain_of (module_of program.now.source.now) s stack.old (call func)) ≡ 0) }
+    ensures tells { IfOk result (λ f. (s : Store) → Tells s (plain_of (module_of program.now) s stack.old (call func)) left f (running_of s stack.new)) }
+    ensures holds { OnOk result (StackRoom (module_of program.now) stack.old → StackRoom (module_of program.now) stack.new) }
+    ensures lacks { IfErr result (λ _. (s : Store) → paid_for (plain_of (module_of program.now) s stack.old (call func)) ≡ 0) }
 {
     let params = program.func_params(func);
     invoke(program, stack, 0, params, func, left)
@@ -158,10 +158,10 @@ pub fn call_indirect<'m>(
     sort: u32,
     left: u64,
 ) -> Result<Flow, AllocError>
-    ensures tells { IfOk result (λ f. (s : Store) → s.table ≡ table.now.items → Tells s (plain_of (module_of program.now.source.now) s stack.old (call_indirect sort)) left f
+    ensures tells { IfOk result (λ f. (s : Store) → s.table ≡ table.now.items → Tells s (plain_of (module_of program.now) s stack.old (call_indirect sort)) left f
         (running_of s stack.new)) }
-    ensures holds { OnOk result (StackRoom (module_of program.now.source.now) stack.old → StackRoom (module_of program.now.source.now) stack.new) }
-    ensures lacks { IfErr result (λ _. (s : Store) → s.table ≡ table.now.items → paid_for (plain_of (module_of program.now.source.now) s stack.old (call_indirect sort)) ≡ 0) }
+    ensures holds { OnOk result (StackRoom (module_of program.now) stack.old → StackRoom (module_of program.now) stack.new) }
+    ensures lacks { IfErr result (λ _. (s : Store) → s.table ≡ table.now.items → paid_for (plain_of (module_of program.now) s stack.old (call_indirect sort)) ≡ 0) }
 {
     let params = program.sort_params(sort);
     let more = params as u64;

@@ -32,14 +32,14 @@ pub fn reduce<'m>(
     left: u64,
 ) -> Result<Flow, AllocError>
     requires paid { 0 < left }
-    requires most { store.old.memory.max ≡ memory_max (module_of program.now.source.now) }
-    ensures tells { IfOk result (λ f. Tells (store_of store.old) (step (module_of program.now.source.now) (running_of (store_of store.old) stack.old)) left f
+    requires most { store.old.memory.max ≡ memory_max (module_of program.now) }
+    ensures tells { IfOk result (λ f. Tells (store_of store.old) (step (module_of program.now) (running_of (store_of store.old) stack.old)) left f
         (running_of (store_of store.new) stack.new)) }
     ensures max { store.new.memory.max ≡ store.old.memory.max }
-    ensures holds { OnOk result (StackRoom (module_of program.now.source.now) stack.old → StackRoom (module_of program.now.source.now) stack.new) }
-    ensures lacks { IfErr result (λ _. (outs : List ValType) → StackRoom (module_of program.now.source.now) stack.old → Valid (module_of program.now.source.now)
-        → Fits (module_of program.now.source.now) outs (running_of (store_of store.old) stack.old)
-        → TakesMemory (code stack.old.here.code.now) × (paid_for (step (module_of program.now.source.now) (running_of (store_of store.old) stack.old)) ≡ 0)) }
+    ensures holds { OnOk result (StackRoom (module_of program.now) stack.old → StackRoom (module_of program.now) stack.new) }
+    ensures lacks { IfErr result (λ _. (outs : List ValType) → StackRoom (module_of program.now) stack.old → Valid (module_of program.now)
+        → Fits (module_of program.now) outs (running_of (store_of store.old) stack.old)
+        → TakesMemory (code stack.old.here.code.now) × (paid_for (step (module_of program.now) (running_of (store_of store.old) stack.old)) ≡ 0)) }
     ensures unchanged { OnErr result (store_of store.new ≡ store_of store.old) }
 {
     let Some((instr, rest)) = stack.here.code.split_first() else {
@@ -58,15 +58,15 @@ fn dispatch<'m>(
     left: u64,
 ) -> Result<Flow, AllocError>
     requires paid { 0 < left }
-    requires most { store.old.memory.max ≡ memory_max (module_of program.now.source.now) }
-    ensures tells { IfOk result (λ f. Tells (store_of store.old) (code_of (module_of program.now.source.now) (store_of store.old) stack.old
+    requires most { store.old.memory.max ≡ memory_max (module_of program.now) }
+    ensures tells { IfOk result (λ f. Tells (store_of store.old) (code_of (module_of program.now) (store_of store.old) stack.old
         (in_front instr.now (code stack.old.here.code.now))) left f (running_of (store_of store.new) stack.new)) }
     ensures max { store.new.memory.max ≡ store.old.memory.max }
-    ensures holds { OnOk result (StackRoom (module_of program.now.source.now) stack.old → StackRoom (module_of program.now.source.now) stack.new) }
-    ensures lacks { IfErr result (λ _. (outs : List ValType) → StackRoom (module_of program.now.source.now) stack.old
-        → NextFits (module_of program.now.source.now) outs (code_of (module_of program.now.source.now) (store_of store.old) stack.old (in_front instr.now (code stack.old.here.code.now)))
+    ensures holds { OnOk result (StackRoom (module_of program.now) stack.old → StackRoom (module_of program.now) stack.new) }
+    ensures lacks { IfErr result (λ _. (outs : List ValType) → StackRoom (module_of program.now) stack.old
+        → NextFits (module_of program.now) outs (code_of (module_of program.now) (store_of store.old) stack.old (in_front instr.now (code stack.old.here.code.now)))
         → TakesMemory (in_front instr.now (code stack.old.here.code.now))
-        × (paid_for (code_of (module_of program.now.source.now) (store_of store.old) stack.old (in_front instr.now (code stack.old.here.code.now))) ≡ 0)) }
+        × (paid_for (code_of (module_of program.now) (store_of store.old) stack.old (in_front instr.now (code stack.old.here.code.now))) ≡ 0)) }
     ensures unchanged { OnErr result (store_of store.new ≡ store_of store.old) }
 {
     match instr {

@@ -1,6 +1,6 @@
 //! Numeric instructions over operands (standard, section 4.4.1).
 
-ghost use Rattle.std.specs.Prelude.{ℕ, ◌≡◌, ◌≤◌, vec_capacity, IsOk, List, [], ◌∷◌, Option, IfOk, length, reverse};
+ghost use Rattle.std.specs.Prelude.{ℕ, ◌≡◌, ◌≤◌, vec_capacity, IsOk, List, [], ◌∷◌, Option, IfOk, reverse};
 ghost use Rattle.wa_types.specs.Operators.{operand_types};
 ghost use Rattle.wa_types.specs.Syntax.{num};
 ghost use Rattle.wa_ops.specs.declared.class.OperatorClass.TheVariants.{Unary, Conversion, Comparison, Binary};
@@ -9,7 +9,7 @@ ghost use Rattle.wa_model.specs.Store.{Store};
 ghost use Rattle.interp_state.specs.Effects.{effect, Shows};
 
 use crate::flow::Flow;
-use instr_tables::{operands_of, type_of_value};
+use instr_tables::type_of_value;
 use std::alloc::AllocError;
 use wa_ops::{OperatorClass, binary, compare, convert, unary};
 use wa_types::{NumOp, ValType, Value};
@@ -103,13 +103,6 @@ fn apply_binary(op: NumOp, operands: &mut Vec<Value>) -> Result<Flow, AllocError
         }
         Err(trap) => Ok(Flow::Trapped { more: 0, trap }),
     }
-}
-
-/// How many operands an operator takes (standard, section 2.4.1).
-pub fn operand_count(op: NumOp) -> usize
-    ensures { result ≡ length (operand_types op) }
-{
-    operands_of(op).len()
 }
 
 /// The type of all operands of an operator (standard, section 2.4.1).

@@ -1,6 +1,7 @@
 -- Lists of things that words spell, read one behind another.
-use Rattle.std.proofs.Common.{arith, ◌≡◌, ℕ, ◌-◌, ◌≤◌, Option, Some, None, Result, Ok, Err, List, [], ◌∷◌, ◌++◌, length, drop, take, get_or, sym, ap, ◌∙◌, append_assoc}
-use Rattle.std.proofs.Common.{append-nil, refl}
+use Rattle.std.proofs.Common.{arith, ◌≡◌, ℕ, ◌-◌, ◌<◌, ◌≤◌, Option, Some, None, Result, Ok, Err, List, [], ◌∷◌, ◌++◌, length, drop, take, get_or, sym, ap, ◌∙◌, append_assoc}
+use Rattle.std.proofs.Common.{append-nil, refl, ◌==◌, false}
+use Rattle.std.proofs.lemmas.Bool.{false≢true}
 use Rattle.std.proofs.lemmas.List.{take_all}
 use Rattle.wa_model.specs.ScriptLines.{onto, hex_value, joined_digits, hex_bytes}
 use Rattle.line_words.specs.declared.faults.LineFault.{LineFault}
@@ -60,3 +61,20 @@ byte_step old new b (x ∷ []) whole l e n h = absurd (omega arith)
 byte_step old new b (x ∷ y ∷ more) whole l e n h =
     ap (λ (t : List ℕ). appended new (hex_bytes t)) (take_all (length (x ∷ y ∷ more) - 2) more (omega arith))
     ∙ one_more old new b (joined_digits (hex_value x) (hex_value y)) (hex_bytes more) whole (sym e) n h
+
+-- two digits that stand for no byte
+pub no_byte : (old rest : List ℕ) (whole : Option (List ℕ)) → 2 ≤ length rest → None ≡ pair_at rest → appended old (hex_bytes rest) ≡ whole → or_breaks 4 whole ≡ Err 4
+no_byte old [] whole l e h = absurd (omega arith)
+no_byte old (x ∷ []) whole l e h = absurd (omega arith)
+no_byte old (x ∷ y ∷ more) whole l e h = none_more old (joined_digits (hex_value x) (hex_value y)) (hex_bytes more) whole (sym e) h
+
+-- one digit is left
+pub one_digit : (old rest : List ℕ) (whole : Option (List ℕ)) → length rest < 2 → (length rest == 0) ≡ false → appended old (hex_bytes rest) ≡ whole → or_breaks 4 whole ≡ Err 4
+one_digit old [] whole l some h = absurd (false≢true (sym some))
+one_digit old (x ∷ []) whole l some h = ap (or_breaks 4) (sym h)
+one_digit old (x ∷ y ∷ more) whole l some h = absurd (omega arith)
+
+-- none is left
+pub no_digit : (old rest : List ℕ) (whole : Option (List ℕ)) → length rest ≡ 0 → appended old (hex_bytes rest) ≡ whole → or_breaks 4 whole ≡ Ok old
+no_digit old [] whole none h = no_more old whole h
+no_digit old (x ∷ rest) whole none h = absurd (omega arith)

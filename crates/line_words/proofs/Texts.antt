@@ -1,6 +1,6 @@
 -- Words, whose escapes are read from left to right.
 use Rattle.std.proofs.Common.{arith, ◌≡◌, ℕ, ◌<◌, ◌==◌, Bool, true, false, Option, Some, None, Result, Ok, Err, List, [], ◌∷◌, ◌++◌, length, sym, ap, ◌∙◌, append_assoc, eqb-true, refl}
-use Rattle.std.proofs.Common.{get_or, take, drop, ◌-◌, ◌≤◌}
+use Rattle.std.proofs.Common.{append-nil, get_or, take, drop, ◌-◌, ◌≤◌}
 use Rattle.std.specs.Bool.{if◌then◌else◌}
 use Rattle.std.specs.Option.{option_map}
 use Rattle.std.specs.Str.{IsUtf8, is_utf8}
@@ -167,3 +167,18 @@ byte_read text new b rest whole some first two e n w = byte_behind text new b (b
 pub none_read : (text : List ℕ) (rest : List ℕ) (whole : Option (List ℕ)) → 1 ≤ length rest → get_or rest 0 0 ≡ 37 → 2 ≤ length (behind_first rest)
     → None ≡ pair_at (behind_first rest) → both (Some text) (unescaped rest) ≡ whole → or_breaks 1 whole ≡ Err 1
 none_read text rest whole some first two e w = ap (λ (o : Option (List ℕ)). or_breaks 1 o) (none_behind text (behind_first rest) whole two e (percent_first text rest whole some first w))
+
+pub plain_read : (text new rest : List ℕ) (whole : Option (List ℕ)) → 1 ≤ length rest → is_percent (get_or rest 0 0) ≡ false → new ≡ text ++ get_or rest 0 0 ∷ []
+    → both (Some text) (unescaped rest) ≡ whole → both (Some new) (unescaped (behind_first rest)) ≡ whole
+plain_read text new [] whole l e n w = absurd (omega arith)
+plain_read text new (c ∷ cs) whole l e n w = ap (λ (t : List ℕ). both (Some new) (unescaped t)) (behind_is c cs) ∙ plain_byte text new c cs whole e n w
+
+pub cut_read : (text rest : List ℕ) (whole : Option (List ℕ)) → 1 ≤ length rest → get_or rest 0 0 ≡ 37 → length (behind_first rest) < 2
+    → both (Some text) (unescaped rest) ≡ whole → or_breaks 1 whole ≡ Err 1
+cut_read text rest whole some first few w = ap (λ (o : Option (List ℕ)). or_breaks 1 o) (escape_cut text (behind_first rest) whole few (percent_first text rest whole some first w))
+
+pub all_read : (text rest : List ℕ) (whole : Option (List ℕ)) → length rest < 1 → both (Some text) (unescaped rest) ≡ whole → or_breaks 1 whole ≡ Ok text
+all_read text [] whole none w =
+    let ok : List ℕ → Result (List ℕ) ℕ = λ t. Ok t in
+    ap (λ (o : Option (List ℕ)). or_breaks 1 o) (sym w) ∙ ap ok (append-nil text)
+all_read text (c ∷ cs) whole none w = absurd (omega arith)

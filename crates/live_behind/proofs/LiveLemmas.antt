@@ -13,7 +13,7 @@ use Rattle.wa_types.specs.Syntax.{Plain, Shape, a_block, a_loop, Code, done, pla
 use Rattle.wa_types.specs.View.{code, in_front}
 use Rattle.wa_types.specs.Pausing.{Callee, callee, is_told}
 use Rattle.wa_types.specs.Liveness.{Label, goes_behind, goes_again, position, live, live_plain, shape_live, told, live_at, behind_calls, if_call_here}
-use Rattle.wa_types.proofs.ViewLemmas.{is_block as K_is_block, is_loop as K_is_loop, is_if as K_is_if, is_plain as K_is_plain, kind, code_step, code_empty}
+use Rattle.wa_types.proofs.ViewLemmas.{is_block as K_is_block, is_loop as K_is_loop, is_if as K_is_if, is_plain as K_is_plain, instr_kind, code_step, code_empty}
 use Rattle.live_behind.specs.Lives.{live_first, label_live, lives, lives_first, if_called}
 use Rattle.point_visits.proofs.VisitLemmas.{is_plain, is_nest, is_branch, front, no_call}
 
@@ -116,7 +116,7 @@ module _ (x : ℕ) (tos : List Bool) (k : Bool) (i : Instr) where
   pub none_lives : ((y : ℕ) → i ≡ Call y → ⊥) → ((y : ℕ) → i ≡ CallIndirect y → ⊥) → ((r : Option ValType) (v : Vec Instr Global) → i ≡ Block r v → ⊥)
       → ((r : Option ValType) (v : Vec Instr Global) → i ≡ Loop r v → ⊥) → ((r : Option ValType) (v u : Vec Instr Global) → i ≡ If r v u → ⊥)
       → (old : List Bool) → old ≡ old ++ reverse (lives_first x tos k (in_front i done))
-  none_lives nc ni nb nl nf old = elim (kind i) [
+  none_lives nc ni nb nl nf old = elim (instr_kind i) [
     | K_is_block r v e ↦ absurd (nb r v e)
     | K_is_loop r v e ↦ absurd (nl r v e)
     | K_is_if r v u e ↦ absurd (nf r v u e)
@@ -130,7 +130,7 @@ pub other_live : (x : ℕ) (tos : List Bool) (k : Bool) (i : Instr) → ((y : �
     → ((r : Option ValType) (v u : Vec Instr Global) → i ≡ If r v u → ⊥)
     → k ≡ live_first x tos k (in_front i done)
 unfolding in_front
-other_live x tos k i g s t b bi bt re un nb nl nf = elim (kind i) [
+other_live x tos k i g s t b bi bt re un nb nl nf = elim (instr_kind i) [
   | K_is_block r v e ↦ absurd (nb r v e)
   | K_is_loop r v e ↦ absurd (nl r v e)
   | K_is_if r v u e ↦ absurd (nf r v u e)

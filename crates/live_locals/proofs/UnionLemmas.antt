@@ -4,7 +4,7 @@ use Rattle.std.specs.Prelude.{nat_eq}
 use Rattle.std.specs.List.{list_any}
 use Rattle.wa_types.specs.Syntax.{Plain, basic, local_get, local_set, local_tee, br, br_if, br_table, return, unreachable, call, call_indirect, a_block, a_loop, Code, done, plain, nest, branch}
 use Rattle.wa_types.specs.Liveness.{told_at, live_plain, live}
-use Rattle.live_locals.specs.Nests.{joined, in_some, told_in_some, Up_to}
+use Rattle.live_locals.specs.Nests.{joined, in_some, told_in_some, NoneAbove}
 
 four : (a b c d : Bool) → ((a || b) || (c || d)) ≡ ((a || c) || (b || d))
 four true b c d = refl
@@ -131,14 +131,14 @@ told_cons f told [] = refl
 told_cons f told (w ∷ ws) = ap (λ z. joined z (f w ∷ told w)) (told_cons f told ws)
 
 module _ (n : ℕ) (small : n < 64) where
-  pub some_same : (f g : ℕ → Bool) → ((i : ℕ) → i < 64 → f i ≡ g i) → (ws : List ℕ) → Up_to n ws → in_some ws f ≡ in_some ws g
+  pub some_same : (f g : ℕ → Bool) → ((i : ℕ) → i < 64 → f i ≡ g i) → (ws : List ℕ) → NoneAbove n ws → in_some ws f ≡ in_some ws g
   some_same f g h [] u = h 0 (omega arith)
   some_same f g h (w ∷ ws) u = let a = u.0 in (λ i. some_same f g h ws u.1 i || h w (omega (arith, a, small)) i)
 
-pub none_in_some : (n : ℕ) (f : ℕ → Bool) → ((i : ℕ) → i ≤ n → f i ≡ false) → (ws : List ℕ) → Up_to n ws → in_some ws f ≡ false
+pub none_in_some : (n : ℕ) (f : ℕ → Bool) → ((i : ℕ) → i ≤ n → f i ≡ false) → (ws : List ℕ) → NoneAbove n ws → in_some ws f ≡ false
 none_in_some n f h [] u = h 0 (omega arith)
 none_in_some n f h (w ∷ ws) u = (λ i. none_in_some n f h ws u.1 i || h w u.0 i)
 
-pub up_more : (n m : ℕ) (ws : List ℕ) → n ≤ m → Up_to n ws → Up_to m ws
+pub up_more : (n m : ℕ) (ws : List ℕ) → n ≤ m → NoneAbove n ws → NoneAbove m ws
 up_more n m [] le u = tt
 up_more n m (w ∷ ws) le u = let a = u.0 in (omega (arith, a, le), up_more n m ws le u.1)

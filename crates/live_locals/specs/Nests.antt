@@ -24,9 +24,9 @@ told_in_some [] f = f 0
 told_in_some (i ∷ is) f = joined (told_in_some is f) (f i)
 
 -- none is above
-abbrev pub Up_to : ℕ → List ℕ → Type 0
-Up_to n [] = Unit {0}
-Up_to n (i ∷ is) = (i ≤ n) × Up_to n is
+abbrev pub NoneAbove : ℕ → List ℕ → Type 0
+NoneAbove n [] = Unit {0}
+NoneAbove n (i ∷ is) = (i ≤ n) × NoneAbove n is
 
 -- What the worlds of a nest tell of a local, `level` loops of the nest being around. Those that hold tell together what is so:
 -- `told` what is read first from each label's target on, `out` from behind the statements on.
@@ -34,7 +34,7 @@ pub record Around (level reach : ℕ) (labels : List Bool) (behind : Bool) : Typ
   pub worlds : List ℕ
   pub told : ℕ → List Bool
   pub out : ℕ → Bool
-  pub low : Up_to level worlds
+  pub low : NoneAbove level worlds
   pub long : (i : ℕ) → length (told i) ≡ length (told 0)
   pub fresh : (i : ℕ) → i < 64 → level < i → (told i ≡ told 0) × (out i ≡ out 0)
   pub labels_are : labels ≡ told_in_some worlds told

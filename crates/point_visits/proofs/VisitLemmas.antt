@@ -15,7 +15,7 @@ use Rattle.wa_types.specs.Pausing.{callee}
 use Rattle.wa_types.specs.Sizes.{code_items}
 use Rattle.wa_types.specs.Typing.{Types}
 use Rattle.wa_types.specs.Points.{points, call_points, if_call}
-use Rattle.wa_types.proofs.ViewLemmas.{is_block as K_is_block, is_loop as K_is_loop, is_if as K_is_if, is_plain as K_is_plain, kind, in_block, in_loop, in_if, code_step, code_empty}
+use Rattle.wa_types.proofs.ViewLemmas.{is_block as K_is_block, is_loop as K_is_loop, is_if as K_is_if, is_plain as K_is_plain, instr_kind, in_block, in_loop, in_if, code_step, code_empty}
 use Rattle.wasm_validate.specs.Walk.{Walk, Stays, Inside, TypedAt}
 use Rattle.wasm_validate.proofs.WalkUses.{ahead, behind}
 use Rattle.point_visits.specs.declared.points.Visits.{Visits}
@@ -232,7 +232,7 @@ no_call (If' r s k t l) p e nc ni = let z = e done in cc
 pub quiet : (x : Instr) → ((y : ℕ) → x ≡ Call y → ⊥) → ((y : ℕ) → x ≡ CallIndirect y → ⊥) → ((r : Option ValType) (v : Vec Instr Global) → x ≡ Block r v → ⊥)
     → ((r : Option ValType) (v : Vec Instr Global) → x ≡ Loop r v → ⊥) → ((r : Option ValType) (v u : Vec Instr Global) → x ≡ If r v u → ⊥)
     → (w : Walk) → (points_inside w (in_front x done) ≡ []) × (calls_inside w (in_front x done) ≡ [])
-quiet x nc ni nb nl nf w = elim (kind x) [
+quiet x nc ni nb nl nf w = elim (instr_kind x) [
   | K_is_block r v e ↦ absurd (nb r v e)
   | K_is_loop r v e ↦ absurd (nl r v e)
   | K_is_if r v u e ↦ absurd (nf r v u e)

@@ -5,93 +5,34 @@ use Rattle.std.specs.List.{flat_map}
 use Rattle.std.proofs.lemmas.Bool.{and_parts, cases_lt, leb-true, or_cases, or_left, or_right}
 use Rattle.std.proofs.lemmas.List.Elements.{All-nil, All-cons, All-head, All-tail}
 use Rattle.wa_types.specs.declared.operators.NumOp.{NumOp}
-use Rattle.wa_types.specs.declared.operators.NumOp.TheVariants.{I32Eqz, I32Eq, I32Ne, I32LtS, I32LtU, I32GtS, I32GtU, I32LeS, I32LeU, I32GeS, I32GeU, I64Eqz, I64Eq, I64Ne, I64LtS, I64LtU}
-use Rattle.wa_types.specs.declared.operators.NumOp.TheVariants.{I64GtS, I64GtU, I64LeS, I64LeU, I64GeS, I64GeU, I32Clz, I32Ctz, I32Popcnt, I32Add, I32Sub, I32Mul, I32DivS, I32DivU, I32RemS}
-use Rattle.wa_types.specs.declared.operators.NumOp.TheVariants.{I32RemU, I32And, I32Or, I32Xor, I32Shl, I32ShrS, I32ShrU, I32Rotl, I32Rotr, I64Clz, I64Ctz, I64Popcnt, I64Add, I64Sub, I64Mul}
-use Rattle.wa_types.specs.declared.operators.NumOp.TheVariants.{I64DivS, I64DivU, I64RemS, I64RemU, I64And, I64Or, I64Xor, I64Shl, I64ShrS, I64ShrU, I64Rotl, I64Rotr, I32WrapI64}
-use Rattle.wa_types.specs.declared.operators.NumOp.TheVariants.{I64ExtendI32S, I64ExtendI32U}
 use Rattle.wa_types.specs.declared.values.Value.TheVariants as V
 use Rattle.wa_types.specs.declared.values.ValType.{ValType}
 use Rattle.wa_types.specs.declared.values.ValType.TheVariants.{I32, I64}
 use Rattle.wa_types.specs.declared.syntax.ImportKind.{ImportKind}
-use Rattle.wa_types.specs.Binary.{Placed, Operands, RawCode, ended, otherwise, instr, nested, branched, RawType, RawKind, raw_func, raw_table, raw_memory, raw_global, RawImport, RawGlobal}
+use Rattle.wa_types.specs.Binary.{Placed, RawCode, ended, otherwise, instr, nested, branched, RawType, RawKind, raw_func, raw_table, raw_memory, raw_global, RawImport, RawGlobal}
 use Rattle.wa_types.specs.Binary.{RawElem, RawRun, RawBody, RawSegment, Section, custom, types, imports, functions, tables, memories, globals, exports, start, elements, bodies, segments}
 use Rattle.wa_types.specs.Encoding.{type_byte, block_type_byte}
 use Rattle.wa_types.specs.declared.syntax.Run.{Run}
 use Rattle.wa_types.specs.Marks.{place_if, float_type, code_floats, type_floats, kind_floats, body_floats, section_floats, floats}
-use Rattle.wa_types.specs.Opcodes.{within, is_float_type, is_float_op, is_load_op, is_store_op}
+use Rattle.wa_types.specs.Opcodes.{within, is_float_type, is_float_op, is_load_op, is_store_op, plain_opcode}
 use Rattle.wa_types.specs.Operators.{opcode_of}
-use Rattle.wa_types.specs.Reading.{plain_opcode, HasKind, IsPlain, IsCode, Each, IsValueType, IsFuncType, IsKind, IsImport, IsGlobal, IsElem, IsRun, IsBody, IsSegment, types_in, imports_in}
+use Rattle.wa_types.specs.Reading.{HasKind, IsPlain, IsCode, Each, IsValueType, IsFuncType, IsKind, IsImport, IsGlobal, IsElem, IsRun, IsBody, IsSegment, types_in, imports_in}
 use Rattle.wa_types.specs.Reading.{globals_in, elements_in, segments_in, IsModule}
 use Rattle.wa_types.specs.Spells.{bodies_in}
 use Rattle.wa_types.specs.Syntax.{Basic, nop, drop, select, const, num, global_get, global_set, load, store, memory_size, memory_grow, Plain, basic, local_get, local_set, local_tee, br}
 use Rattle.wa_types.specs.Syntax.{br_if, br_table, return, unreachable, call, call_indirect, Code, done, plain, nest, branch, FuncType, Func, GlobalDef, Elem, Segment, Module}
+use Rattle.wa_types.proofs.OperatorLemmas.{operators, each_operator}
 use Rattle.wasm_reader.proofs.ModulesMade.{join_clear}
 
 -- ---- opcodes
 
+clear : (b : Bool) → not b ≡ true → b ≡ false
+clear true e = cc
+clear false e = refl
+
 num_clear : (op : NumOp) → is_float_op (opcode_of op) ≡ false
-num_clear I32Eqz = refl
-num_clear I32Eq = refl
-num_clear I32Ne = refl
-num_clear I32LtS = refl
-num_clear I32LtU = refl
-num_clear I32GtS = refl
-num_clear I32GtU = refl
-num_clear I32LeS = refl
-num_clear I32LeU = refl
-num_clear I32GeS = refl
-num_clear I32GeU = refl
-num_clear I64Eqz = refl
-num_clear I64Eq = refl
-num_clear I64Ne = refl
-num_clear I64LtS = refl
-num_clear I64LtU = refl
-num_clear I64GtS = refl
-num_clear I64GtU = refl
-num_clear I64LeS = refl
-num_clear I64LeU = refl
-num_clear I64GeS = refl
-num_clear I64GeU = refl
-num_clear I32Clz = refl
-num_clear I32Ctz = refl
-num_clear I32Popcnt = refl
-num_clear I32Add = refl
-num_clear I32Sub = refl
-num_clear I32Mul = refl
-num_clear I32DivS = refl
-num_clear I32DivU = refl
-num_clear I32RemS = refl
-num_clear I32RemU = refl
-num_clear I32And = refl
-num_clear I32Or = refl
-num_clear I32Xor = refl
-num_clear I32Shl = refl
-num_clear I32ShrS = refl
-num_clear I32ShrU = refl
-num_clear I32Rotl = refl
-num_clear I32Rotr = refl
-num_clear I64Clz = refl
-num_clear I64Ctz = refl
-num_clear I64Popcnt = refl
-num_clear I64Add = refl
-num_clear I64Sub = refl
-num_clear I64Mul = refl
-num_clear I64DivS = refl
-num_clear I64DivU = refl
-num_clear I64RemS = refl
-num_clear I64RemU = refl
-num_clear I64And = refl
-num_clear I64Or = refl
-num_clear I64Xor = refl
-num_clear I64Shl = refl
-num_clear I64ShrS = refl
-num_clear I64ShrU = refl
-num_clear I64Rotl = refl
-num_clear I64Rotr = refl
-num_clear I32WrapI64 = refl
-num_clear I64ExtendI32S = refl
-num_clear I64ExtendI32U = refl
+unfolding operators
+num_clear op = clear (is_float_op (opcode_of op)) (each_operator (λ (n : NumOp). not (is_float_op (opcode_of n))) refl op)
 
 first_of : (a b : Bool) → a && b ≡ true → a ≡ true
 first_of true b h = refl

@@ -79,7 +79,7 @@ module _ {X : Type 0} (k : Marking X) where
   marks_any (Some o) c = marks_got o c
 
   -- slim code has the marks of the code beside it
-  pub marks_slim : (t : Terms) (n : ℕ) (ts : List Free) (out f : Free) (sh : S.Shape) (code code' : Code) → Slims t n ts out f sh code code' → marks_of code' ≡ marks_of code
+  pub marks_slim : (t : Terms) (n : ℕ) (ts : List Free) (out f : Free) (sh : S.StackShape) (code code' : Code) → Slims t n ts out f sh code code' → marks_of code' ≡ marks_of code
   marks_slim t n ts out f sh _ _ (S.ends co pl) = refl
   marks_slim t n ts out f sh _ _ (S.does {sh2 = sh2} {rest = rest} {rest' = rest'} b ta sl) = ap (λ z. k.marks (basic b) ++ z) (marks_slim t n ts out f (S.more (gives b) sh2) rest rest' sl)
   marks_slim t n ts out f sh _ _ (S.gets {rest = rest} {rest' = rest'} x fr sl) = ap (λ z. k.marks (local_get x) ++ z) (marks_slim t n ts out f (None ∷ sh) rest rest' sl)
@@ -133,7 +133,7 @@ module _ {X : Type 0} (k : Marking X) where
         ∙ ap (λ xs. xs ++ marks_of (raised 0 m a) ++ marks_of c) (marks_index n (num I32Ne) (plain (br_if l) done) ∙ unmarked (br_if l) done (k.on_br_if l))
         ∙ ap (λ xs. xs ++ marks_of c) (marks_raised 0 m a)
 
-    index_unmarked : (alone : Bool) (n : ℕ) (c : Code) → marks_of (index_noted alone i.index n c) ≡ marks_of c
+    index_unmarked : (one_call : Bool) (n : ℕ) (c : Code) → marks_of (index_noted one_call i.index n c) ≡ marks_of c
     index_unmarked true n c = refl
     index_unmarked false n c =
         unmarked (basic (const (V.I32 n))) (plain (local_set i.index) c) (k.on_basic (const (V.I32 n)))
@@ -141,7 +141,7 @@ module _ {X : Type 0} (k : Marking X) where
 
     marks_noted : (l n : ℕ) (c : Code) → marks_of (noted i l n c) ≡ marks_of c
     marks_noted l n c =
-        index_unmarked i.alone n (plain (basic (global_get i.state)) (plain (br_if l) c))
+        index_unmarked i.one_call n (plain (basic (global_get i.state)) (plain (br_if l) c))
         ∙ unmarked (basic (global_get i.state)) (plain (br_if l) c) (k.on_basic (global_get i.state))
         ∙ unmarked (br_if l) c (k.on_br_if l)
 

@@ -60,7 +60,7 @@ none_behind (x ∷ xs) = ap (λ ys. x ∷ ys) (none_behind xs)
 -- ---- one program more
 
 -- the next module is there, and what is planned can be staged over it
-pub record Next (modules : List Module) (n : ℕ) (p : Planned) : Type 0 where
+pub record NextProgram (modules : List Module) (n : ℕ) (p : Planned) : Type 0 where
   pub within : n < length modules
   pub can : (v : Module) → v ≡ get_or modules n v → CanStage v p
 
@@ -68,9 +68,9 @@ pub item_at : (modules : List Module) (v : Module) (k n l : ℕ) → v ≡ get_o
 item_at modules v k n l e a b = e ∙ ap (λ (i : ℕ). get_or modules i v) (a ∙ b)
 
 module _ (modules : List Module) (planned : List Planned) (p : Planned) (rest : List Planned) (staged : List Staged) where
-  pub next : Staging modules planned (p ∷ rest) staged → Next modules (length staged) p
+  pub next : Staging modules planned (p ∷ rest) staged → NextProgram modules (length staged) p
   next s = by s.left s.left_is s.each where
-    by : (left : List Module) → left ≡ drop (length staged) modules → AllZip CanStage left (p ∷ rest) → Next modules (length staged) p
+    by : (left : List Module) → left ≡ drop (length staged) modules → AllZip CanStage left (p ∷ rest) → NextProgram modules (length staged) p
     by [] is each = absurd each
     by (w ∷ ms) is each =
         let g = goes_on (length staged) modules w ms is in

@@ -12,10 +12,10 @@ use Rattle.wa_model.specs.Store.{takes, gives}
 use Rattle.wa_model.specs.Flat.{Stmts, no_more, computes, copies, calls, leaps, leaps_if, leaps_by, nests, decides, halts, followed_by, got, all_got, set_to, slots_got, last_of, code_of}
 use Rattle.slim_form.specs.Slim as S
 use Rattle.wa_types.specs.Syntax as Y
-use Rattle.slim_form.specs.Slim.{Held, Free, Covers, CoversBut, Shape, more, Takes, takes_none, takes_same, takes_one, Rises, rises, rises_below, Lacks, lacks_all, lacks_held, lacks_slot}
+use Rattle.slim_form.specs.Slim.{Held, Free, Covers, CoversBut, StackShape, more, Takes, takes_none, takes_same, takes_one, Rises, rises, rises_below, Lacks, lacks_all, lacks_held, lacks_slot}
 use Rattle.slim_form.specs.Slim.{Plainly, plainly, plainly_held, Reaches, Terms, Slims, ends, does, gets, sets, tees, keeps, uses, saves, narrows, forgets}
 use Rattle.slim_form.specs.Emit.{elem, all_in, without, without_if, free_by, strip, rev_onto, name_onto, names, flushed, Part, then_code, only_if, got_all, by_strip, taken, by_strip_alone}
-use Rattle.slim_form.specs.Emit.{taken_alone, can_keep, Next, result_kept, count, op_code, op_on, computed_by, put, put_on, reads_again, got_again, copied_again, copied_by, reaches}
+use Rattle.slim_form.specs.Emit.{taken_alone, can_keep, Emission, result_kept, count, op_code, op_on, computed_by, put, put_on, reads_again, got_again, copied_again, copied_by, reaches}
 use Rattle.slim_form.specs.Emit.{reaches_all, with_operand}
 use Rattle.slim_form.specs.Emit.{part_then, is_call, both_codes, three_codes, behind_of, call_on, goes_behind, right_behind, if_behind, free_behind, emit, Told, EmitsSlim, SlimBesideItself}
 
@@ -135,7 +135,7 @@ module _ (t : Terms) where
   Slots [] = Unit {0}
   Slots (x ∷ pend) = (t.slot x ≡ true) × Slots pend
 
-  abbrev pub shape : List ℕ → Shape
+  abbrev pub shape : List ℕ → StackShape
   shape pend = map Some pend
 
   lacks_by : (x : ℕ) (pend : List ℕ) → elem x pend ≡ false → Lacks x (shape pend)
@@ -147,7 +147,7 @@ module _ (t : Terms) where
       by ih (inr h) = lacks_slot (λ q. h.1 (sym q)) (ih (subst (λ b. (b || elem x pend) ≡ false) h.0 e))
 
   module _ (small : (x : ℕ) → t.slot x ≡ true → x < t.size) (n : ℕ) (ts : List Free) (out : Free) where
-    abbrev L : Free → Shape → Code → Code → Type 0
+    abbrev L : Free → StackShape → Code → Code → Type 0
     L f sh c c' = Slims t n ts out f sh c c'
 
     -- slots set
@@ -157,7 +157,7 @@ module _ (t : Terms) where
         (flush_ok pend (x ∷ base) c c' so.1 (narrows (fr ((x ∷ pend) ++ base)) (covers_by (pend ++ (x ∷ base)) ((x ∷ pend) ++ base) (λ y e. elem_moved x y pend base e)) sl))
 
     -- a result kept
-    pub kept_by : (x : ℕ) (pend base : List ℕ) (sh sh2 : Shape) (c c' : Code) → t.slot x ≡ true → Takes 1 sh sh2 → Lacks x sh2 → L (fr (without (x ∷ []) base)) (Some x ∷ sh2) c c'
+    pub kept_by : (x : ℕ) (pend base : List ℕ) (sh sh2 : StackShape) (c c' : Code) → t.slot x ≡ true → Takes 1 sh sh2 → Lacks x sh2 → L (fr (without (x ∷ []) base)) (Some x ∷ sh2) c c'
         → L (fr base) sh (plain (local_set x) c) c'
     kept_by x pend base sh sh2 c c' is ta la sl =
         keeps x (fr (without (x ∷ []) base)) is (small x is) (covers_by base (without (x ∷ []) base) (λ y m. elem_without y (x ∷ []) base m))
@@ -174,10 +174,10 @@ module _ (t : Terms) where
         kept_by x pend base (more 1 (shape pend)) (shape pend) c c' g.0 (takes_one takes_none) (lacks_by x pend (not_true (elem x pend) g.1)) sl
 
     -- what stands behind is slim
-    abbrev Fine : Code → Next → Type 0
+    abbrev Fine : Code → Emission → Type 0
     Fine c next = (pend base : List ℕ) (c' : Code) → Slots pend → next pend base ≡ Some c' → L (fr base) (shape pend) c c'
 
-    result_ok : (to : Option ℕ) (pend base : List ℕ) (next : Next) (c c' : Code) → Fine c next → Slots pend → result_kept t to pend base next ≡ Some c'
+    result_ok : (to : Option ℕ) (pend base : List ℕ) (next : Emission) (c c' : Code) → Fine c next → Slots pend → result_kept t to pend base next ≡ Some c'
         → L (fr base) (more (count to) (shape pend)) (set_to to c) c'
     result_ok None pend base next c c' fine so e = fine pend base c' so e
     result_ok (Some x) pend base next c c' fine so e =
@@ -190,7 +190,7 @@ module _ (t : Terms) where
     local_ok x pend base c c' e sl = sets x (fr base) (λ y f ne. f) (takes_one takes_none) (lacks_by x pend e) sl
 
     -- operands got
-    pub gets_ok : (xs : List ℕ) (h : ℕ) (base : List ℕ) (sh : Shape) (c c' : Code) → all_in xs base ≡ true → L (fr base) (more (h + length xs) sh) c c'
+    pub gets_ok : (xs : List ℕ) (h : ℕ) (base : List ℕ) (sh : StackShape) (c c' : Code) → all_in xs base ≡ true → L (fr base) (more (h + length xs) sh) c c'
         → L (fr base) (more h sh) (slots_got xs c) (slots_got xs c')
     gets_ok [] h base sh c c' e sl = let z : h + 0 ≡ h = omega arith in subst (λ k. L (fr base) (more k sh) c c') z sl
     gets_ok (x ∷ xs) h base sh c c' e sl =
@@ -199,15 +199,15 @@ module _ (t : Terms) where
         gets x (held_by x base b.0) (gets_ok xs (suc h) base sh c c' b.1 (subst (λ k. L (fr base) (more k sh) c c') z sl))
 
     -- operands that stand on the operand stack
-    abbrev onto : List ℕ → Shape → Shape
+    abbrev onto : List ℕ → StackShape → StackShape
     onto [] sh = sh
     onto (x ∷ xs) sh = onto xs (Some x ∷ sh)
 
-    rises_onto : (x : ℕ) (xs : List ℕ) (sh sh2 : Shape) → Rises x sh sh2 → Rises x (onto xs sh) (onto xs sh2)
+    rises_onto : (x : ℕ) (xs : List ℕ) (sh sh2 : StackShape) → Rises x sh sh2 → Rises x (onto xs sh) (onto xs sh2)
     rises_onto x [] sh sh2 r = r
     rises_onto x (y ∷ xs) sh sh2 r = rises_onto x xs (Some y ∷ sh) (Some y ∷ sh2) (rises_below r)
 
-    uses_ok : (xs : List ℕ) (h : ℕ) (base : List ℕ) (sh : Shape) (c c' : Code) → Slots xs → L (fr base) (more (h + length xs) sh) c c' → L (fr base) (onto xs (more h sh)) (slots_got xs c) c'
+    uses_ok : (xs : List ℕ) (h : ℕ) (base : List ℕ) (sh : StackShape) (c c' : Code) → Slots xs → L (fr base) (more (h + length xs) sh) c c' → L (fr base) (onto xs (more h sh)) (slots_got xs c) c'
     uses_ok [] h base sh c c' so sl = let z : h + 0 ≡ h = omega arith in subst (λ k. L (fr base) (more k sh) c c') z sl
     uses_ok (x ∷ xs) h base sh c c' so sl =
         let z : h + suc (length xs) ≡ suc h + length xs = omega arith in
@@ -295,7 +295,7 @@ module _ (t : Terms) where
 
     -- ---- statements
 
-    takes_more : (k : ℕ) (sh : Shape) → Takes k (more k sh) sh
+    takes_more : (k : ℕ) (sh : StackShape) → Takes k (more k sh) sh
     takes_more zero sh = takes_none
     takes_more (suc k) sh = takes_one (takes_more k sh)
 
@@ -309,7 +309,7 @@ module _ (t : Terms) where
         by None q ih e = cc
         by (Some us) q ih e = let a : x ∷ us ≡ xs = cc in subst (λ ys. plain (local_get x) (all_got args c) ≡ slots_got ys c) a (ap (plain (local_get x)) (ih us c q))
 
-    put_ok : (to : ℕ) (pend base : List ℕ) (next : Next) (c c' : Code) → Fine c next → Slots pend → put t to pend base next ≡ Some c' → L (fr base) (more 1 (shape pend)) (plain (local_set to) c) c'
+    put_ok : (to : ℕ) (pend base : List ℕ) (next : Emission) (c c' : Code) → Fine c next → Slots pend → put t to pend base next ≡ Some c' → L (fr base) (more 1 (shape pend)) (plain (local_set to) c) c'
     put_ok to pend base next c c' fine so e = by (t.slot to) e
       where
         by : (b : Bool) → (if b then only_if (can_keep t to pend) (next (to ∷ pend) (without (to ∷ []) base)) else only_if (not (elem to pend))
@@ -320,7 +320,7 @@ module _ (t : Terms) where
             let b = behind (plain (local_set to)) (next pend base) c' h.1 in
             subst (λ k. L (fr base) (more 1 (shape pend)) (plain (local_set to) c) k) b.whole (local_ok to pend base c b.code (not_true (elem to pend) h.0) (fine pend base b.code so b.is))
 
-    op_ok : (op : Code) (to : Option ℕ) (k : ℕ) (pend base : List ℕ) (next : Next) (c c' : Code) → Fine c next → Slots pend → op_code t op to k pend base next ≡ Some c'
+    op_ok : (op : Code) (to : Option ℕ) (k : ℕ) (pend base : List ℕ) (next : Emission) (c c' : Code) → Fine c next → Slots pend → op_code t op to k pend base next ≡ Some c'
         → L (fr base) (more k (shape pend)) (followed_by op (set_to to c)) c'
     unfolding followed_by
     op_ok done to k pend base next c c' fine so e = cc
@@ -400,7 +400,7 @@ module _ (t : Terms) where
     op_ok (plain (call_indirect y) done) to k pend base next c c' fine so e = cc
 
     -- a result behind a call, where all operands are the same
-    called_ok : (to : Option ℕ) (base : List ℕ) (next : Next) (c c' : Code) → Fine c next → result_kept t to [] base next ≡ Some c' → L (fr base) [] (set_to to c) c'
+    called_ok : (to : Option ℕ) (base : List ℕ) (next : Emission) (c c' : Code) → Fine c next → result_kept t to [] base next ≡ Some c' → L (fr base) [] (set_to to c) c'
     called_ok None base next c c' fine e = fine [] base c' tt e
     called_ok (Some x) base next c c' fine e =
         let h = if_so (can_keep t x []) (next (x ∷ []) (without (x ∷ []) base)) c' e in
@@ -432,7 +432,7 @@ module _ (t : Terms) where
             let took = a.0 in
             subst (λ z. L (fr base) (shape pend) (plain (local_get x) c) z) u.whole (took.goes c u.code (subst (λ l. L (fr p.base) (None ∷ shape l) c u.code) (sym a.1) (h p.base u.code u.is)))
 
-    got_again_ok : (to x : ℕ) (pend base : List ℕ) (next : Next) (c c' : Code) → Fine c next → Slots pend → got_again t to x pend base next ≡ Some c'
+    got_again_ok : (to x : ℕ) (pend base : List ℕ) (next : Emission) (c c' : Code) → Fine c next → Slots pend → got_again t to x pend base next ≡ Some c'
         → L (fr base) (shape pend) (plain (local_get x) (plain (local_set to) c)) c'
     got_again_ok to x pend base next c c' fine so e =
         let h = if_so (elem x (pend ++ base)) (then_code (λ c. flushed pend (plain (local_get x) c)) (put t to [] (pend ++ base) next)) c' e in
@@ -441,7 +441,7 @@ module _ (t : Terms) where
         (flush_ok pend base (plain (local_get x) (plain (local_set to) c)) (plain (local_get x) u.code) so
         (gets x (held_by x (pend ++ base) h.0) (put_ok to [] (pend ++ base) next c u.code fine tt u.is)))
 
-    copied_again_ok : (to x : ℕ) (pend base : List ℕ) (next : Next) (c c' : Code) → Fine c next → Slots pend → copied_again t to x pend base next ≡ Some c'
+    copied_again_ok : (to x : ℕ) (pend base : List ℕ) (next : Emission) (c c' : Code) → Fine c next → Slots pend → copied_again t to x pend base next ≡ Some c'
         → L (fr base) (shape pend) (plain (local_get x) (plain (local_set to) c)) c'
     copied_again_ok to x [] base next c c' fine so e = got_again_ok to x [] base next c c' fine so e
     copied_again_ok to x (y ∷ pend) base next c c' fine so e = by (nat_eq x y && (not (t.slot to) && not (elem to (y ∷ pend)))) refl e
@@ -458,7 +458,7 @@ module _ (t : Terms) where
             (subst (λ z. L (fr base) (shape (y ∷ pend)) (plain (local_get y) (plain (local_set to) c)) z) u.whole
             (S.copies y to (fr base) so.0 (λ z f ne. f) (lacks_by to (y ∷ pend) (not_true (elem to (y ∷ pend)) g.1)) (fine (y ∷ pend) base u.code so u.is)))
 
-    copied_ok : (to : ℕ) (o : Operand) (again : Bool) (pend base : List ℕ) (next : Next) (c c' : Code) → Fine c next → Slots pend → copied_by t to o again pend base next ≡ Some c'
+    copied_ok : (to : ℕ) (o : Operand) (again : Bool) (pend base : List ℕ) (next : Emission) (c c' : Code) → Fine c next → Slots pend → copied_by t to o again pend base next ≡ Some c'
         → L (fr base) (shape pend) (got o (plain (local_set to) c)) c'
     copied_ok to (Const v) again pend base next c c' fine so e = cc
     copied_ok to (Local x) again pend base next c c' fine so e = by_slot (t.slot x) refl again e
@@ -480,7 +480,7 @@ module _ (t : Terms) where
             let u = behind (plain (local_get x)) (put t to pend base next) c' e in
             subst (λ z. L (fr base) (shape pend) (plain (local_get x) (plain (local_set to) c)) z) u.whole (gets x (no_slot x base (ap not q)) (put_ok to pend base next c u.code fine so u.is))
 
-    computed_ok : (op : Code) (args : List Operand) (to : Option ℕ) (pend base : List ℕ) (next : Next) (c c' : Code) → Fine c next → Slots pend
+    computed_ok : (op : Code) (args : List Operand) (to : Option ℕ) (pend base : List ℕ) (next : Emission) (c c' : Code) → Fine c next → Slots pend
         → computed_by t op to (names args) pend base next ≡ Some c' → L (fr base) (shape pend) (all_got args (followed_by op (set_to to c))) c'
     computed_ok op args to pend base next c c' fine so e = by (names args) refl e
       where
@@ -505,7 +505,7 @@ module _ (t : Terms) where
     sole_ok (plain (call_indirect s) done) f k c c' e h sl = S.calls_by s (plain_more k [] refl) h sl
     sole_ok _ f k c c' e h sl = cc
 
-    call_ok : (op : Code) (xs : List ℕ) (to : Option ℕ) (pend base : List ℕ) (next : Next) (c c' : Code) → Fine c next → Slots pend → t.fixed (length (calls_of (set_to to c)) + n) ≡ []
+    call_ok : (op : Code) (xs : List ℕ) (to : Option ℕ) (pend base : List ℕ) (next : Emission) (c c' : Code) → Fine c next → Slots pend → t.fixed (length (calls_of (set_to to c)) + n) ≡ []
         → only_if (is_call op) (call_on t op to next (taken_alone xs pend base)) ≡ Some c' → L (fr base) (shape pend) (slots_got xs (followed_by op (set_to to c))) c'
     call_ok op xs to pend base next c c' fine so told e =
         let h = if_so (is_call op) (call_on t op to next (taken_alone xs pend base)) c' e in by h.0 (taken_alone xs pend base) refl h.1

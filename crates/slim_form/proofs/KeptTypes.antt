@@ -6,6 +6,7 @@ use Rattle.wa_types.specs.declared.values.ValType.TheVariants.{I32}
 use Rattle.wa_types.specs.Accesses.{AccessRow, load_row, store_row}
 use Rattle.wa_types.specs.Syntax.{Basic, nop, drop, select, const, num, global_get, global_set, load, store, memory_size, memory_grow, br, br_if, br_table, return, call, call_indirect}
 use Rattle.wa_types.specs.Syntax.{a_block, a_loop, Code, plain, nest, branch}
+use Rattle.wa_types.specs.declared.rules.Rule.TheVariants.{UnknownLabel, StackTypes, Alignment, ConstantGlobal}
 use Rattle.wa_types.specs.Typing.{GlobalType, Around, Sig, moves, leaves, drops, selects, lacks, late, gets_global, sets_global, loads, stores, with_memory, basic_sig, gets, sets, tees}
 use Rattle.wa_types.specs.Typing.{jump, jumps, all_there, all_alike, listed, Takes, Types}
 use Rattle.wa_model.specs.Store.{takes, gives}
@@ -37,7 +38,7 @@ sized c (global_get x) = by (slice_get c.globals x)
     by (Some g) = (refl, refl)
 sized c (global_set x) = by (slice_get c.globals x)
   where
-    by_mutable : (ty : ValType) (b : Bool) → Sized (if b then moves (ty ∷ []) [] else late 10 (ty ∷ []) []) 1 0
+    by_mutable : (ty : ValType) (b : Bool) → Sized (if b then moves (ty ∷ []) [] else late ConstantGlobal (ty ∷ []) []) 1 0
     by_mutable ty true = (refl, refl)
     by_mutable ty false = tt
 
@@ -46,7 +47,7 @@ sized c (global_set x) = by (slice_get c.globals x)
     by (Some g) = by_mutable g.ty g.mutable
 sized c (load op align offset) = by c.memory (load_row op)
   where
-    by_align : (ty : ValType) (b : Bool) → Sized (if b then moves (I32 ∷ []) (ty ∷ []) else late 9 (I32 ∷ []) (ty ∷ [])) 1 1
+    by_align : (ty : ValType) (b : Bool) → Sized (if b then moves (I32 ∷ []) (ty ∷ []) else late Alignment (I32 ∷ []) (ty ∷ [])) 1 1
     by_align ty true = (refl, refl)
     by_align ty false = tt
 
@@ -56,7 +57,7 @@ sized c (load op align offset) = by c.memory (load_row op)
     by true (Some row) = by_align row.ty (nat_le align row.natural)
 sized c (store op align offset) = by c.memory (store_row op)
   where
-    by_align : (ty : ValType) (b : Bool) → Sized (if b then moves (ty ∷ I32 ∷ []) [] else late 9 (ty ∷ I32 ∷ []) []) 2 0
+    by_align : (ty : ValType) (b : Bool) → Sized (if b then moves (ty ∷ I32 ∷ []) [] else late Alignment (ty ∷ I32 ∷ []) []) 2 0
     by_align ty true = (refl, refl)
     by_align ty false = tt
 
@@ -78,21 +79,21 @@ sized c memory_grow = by c.memory
 -- ---- operands
 
 module _ (locals : List ValType) where
-  abbrev W : S.Shape → List ValType → List ValType → Type 0
+  abbrev W : S.StackShape → List ValType → List ValType → Type 0
   W sh ins ins' = WovenTypes locals sh ins ins'
 
-  plain_types : (sh : S.Shape) (ins ins' : List ValType) → Plainly sh → W sh ins ins' → ins' ≡ ins
+  plain_types : (sh : S.StackShape) (ins ins' : List ValType) → Plainly sh → W sh ins ins' → ins' ≡ ins
   plain_types _ _ _ p types_same = refl
   plain_types _ _ _ (plainly_held p) (types_both {sh = sh} {ins = ins} {ins' = ins'} ty wo) = ap (λ us. ty ∷ us) (plain_types sh ins ins' p wo)
   plain_types _ _ _ p (types_kept x ty e wo) = elim p [ ]
 
   -- the same operands on top
-  pub record On (sh2 : S.Shape) (ps below ins' : List ValType) : Type 0 where
+  pub record On (sh2 : S.StackShape) (ps below ins' : List ValType) : Type 0 where
     pub low : List ValType
     pub is : ins' ≡ ps ++ low
     pub rest : W sh2 below low
 
-  on : (ps : List ValType) (n : ℕ) (sh sh2 : S.Shape) (below ins' : List ValType) → length ps ≡ n → S.Takes n sh sh2 → W sh (ps ++ below) ins' → On sh2 ps below ins'
+  on : (ps : List ValType) (n : ℕ) (sh sh2 : S.StackShape) (below ins' : List ValType) → length ps ≡ n → S.Takes n sh sh2 → W sh (ps ++ below) ins' → On sh2 ps below ins'
   on [] _ sh _ below ins' e takes_none wo = record { low = ins'; is = refl; rest = wo }
   on (ty ∷ ps) _ sh _ below ins' e takes_none wo = absurd (omega arith)
   on ps n _ _ below _ e takes_same types_same = record { low = below; is = refl; rest = types_same }
@@ -100,18 +101,18 @@ module _ (locals : List ValType) where
   on (ty ∷ ps) _ _ _ below _ e (takes_one {n = n} {sh = sh} {sh2 = sh2} ta) (types_both {ins' = ins'} ty2 wo) =
       let r = on ps n sh sh2 below ins' (omega arith) ta wo in record { low = r.low; is = ap (λ us. ty ∷ us) r.is; rest = r.rest }
 
-  more_types : (rs : List ValType) (g : ℕ) (sh : S.Shape) (below low : List ValType) → length rs ≡ g → W sh below low → W (more g sh) (rs ++ below) (rs ++ low)
+  more_types : (rs : List ValType) (g : ℕ) (sh : S.StackShape) (below low : List ValType) → length rs ≡ g → W sh below low → W (more g sh) (rs ++ below) (rs ++ low)
   more_types [] g sh below low e wo = subst (λ k. W (more k sh) below low) e wo
   more_types (ty ∷ rs) zero sh below low e wo = absurd (omega arith)
   more_types (ty ∷ rs) (suc g) sh below low e wo = types_both ty (more_types rs g sh below low (omega arith) wo)
 
   -- what a rule makes of the operands of both
-  pub record Goes (s : Sig) (g : ℕ) (sh2 : S.Shape) (mids ins' : List ValType) : Type 0 where
+  pub record Goes (s : Sig) (g : ℕ) (sh2 : S.StackShape) (mids ins' : List ValType) : Type 0 where
     pub mids' : List ValType
     pub takes' : Takes s ins' mids'
     pub rest : W (more g sh2) mids mids'
 
-  moved : (s : Sig) (n g : ℕ) (sh sh2 : S.Shape) (ins mids ins' : List ValType) → Sized s n g → S.Takes n sh sh2 → W sh ins ins' → Takes s ins mids → Goes s g sh2 mids ins'
+  moved : (s : Sig) (n g : ℕ) (sh sh2 : S.StackShape) (ins mids ins' : List ValType) → Sized s n g → S.Takes n sh sh2 → W sh ins ins' → Takes s ins mids → Goes s g sh2 mids ins'
   moved (moves ps rs) n g sh sh2 ins mids ins' z ta wo h =
       let r = on ps n sh sh2 h.0 ins' z.0 ta (subst (λ us. W sh us ins') h.1 wo) in
       record { mids' = rs ++ r.low; takes' = (r.low, r.is, refl); rest = subst (λ us. W (more g sh2) us (rs ++ r.low)) (sym h.2) (more_types rs g sh2 h.0 r.low z.1 r.rest) }
@@ -132,7 +133,7 @@ module _ (locals : List ValType) where
   moved (lacks r) n g sh sh2 ins mids ins' z ta wo h = absurd h
   moved (late r ps rs) n g sh sh2 ins mids ins' z ta wo h = absurd h
 
-  risen_types : (x : ℕ) (ty : ValType) (sh sh2 : S.Shape) (ins ins' : List ValType) → slice_get locals x ≡ Some ty → Rises x sh sh2 → W sh ins ins' → W sh2 (ty ∷ ins) ins'
+  risen_types : (x : ℕ) (ty : ValType) (sh sh2 : S.StackShape) (ins ins' : List ValType) → slice_get locals x ≡ Some ty → Rises x sh sh2 → W sh ins ins' → W sh2 (ty ∷ ins) ins'
   risen_types x ty _ _ _ _ e rises (types_kept {sh = sh} {ins = ins} {ins' = ins'} y ty2 e2 wo) =
       let q : Some ty2 ≡ Some ty = sym e2 ∙ e in let z : ty2 ≡ ty = cc in subst (λ u. W (None ∷ sh) (ty ∷ ins) (u ∷ ins')) (sym z) (types_both ty wo)
   risen_types x ty _ _ _ _ e (rises_below {sh = sh} {sh2 = sh2} ri) (types_kept {ins = ins} {ins' = ins'} y ty2 e2 wo) = types_kept y ty2 e2 (risen_types x ty sh sh2 ins ins' e ri wo)
@@ -169,14 +170,15 @@ jumps_any : (ls : List (Option ValType)) (es : List ℕ) (o : Option (Option Val
 jumps_any ls es None ins a b h = absurd h
 jumps_any ls es (Some r) ins a b h = by (all_there ls es) (all_alike ls r es) h
   where
-    by : (p q : Bool) → Takes (if p then (if q then leaves (I32 ∷ listed r) else lacks 8) else lacks 7) ins a → Takes (if p then (if q then leaves (I32 ∷ listed r) else lacks 8) else lacks 7) ins b
+    by : (p q : Bool) → Takes (if p then (if q then leaves (I32 ∷ listed r) else lacks StackTypes) else lacks UnknownLabel) ins a
+        → Takes (if p then (if q then leaves (I32 ∷ listed r) else lacks StackTypes) else lacks UnknownLabel) ins b
     by true true h = h
     by true false h = absurd h
     by false q h = absurd h
 
 module _ (c : Around) (t : Terms) where
   -- an instruction that leaves, or goes on, with the same operands on both sides
-  pub typed : (ls : List (Option ValType)) (n : ℕ) (ts : List Free) (out f : Free) (sh : S.Shape) (code code' : Code) (outs ins ins' : List ValType)
+  pub typed : (ls : List (Option ValType)) (n : ℕ) (ts : List Free) (out f : Free) (sh : S.StackShape) (code code' : Code) (outs ins ins' : List ValType)
       → Slims t n ts out f sh code code' → WovenTypes c.locals sh ins ins' → Types c ls code outs ins → Types c ls code' outs ins'
   unfolding Types
   typed ls n ts out f sh _ _ outs ins ins' (ends co pl) wo h = plain_types c.locals sh ins ins' pl wo ∙ h

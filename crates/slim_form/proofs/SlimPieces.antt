@@ -9,7 +9,7 @@ use Rattle.wa_model.specs.Flat.{Stmts, followed_by, set_to, slots_got, code_of, 
 use Rattle.slim_form.specs.Slim as S
 use Rattle.slim_form.specs.Slim.{Held, Free, Covers, more, takes_same, lacks_all, Plainly, plainly, plainly_held, Terms, Slims, ends, does, keeps, uses, saves, narrows, forgets}
 use Rattle.slim_form.specs.Emit.{elem, all_in, without, free_by, free_behind, can_keep, end_of, Told, emit}
-use Rattle.slim_form.specs.Parts.{Units, no_unit, call_unit, nest_unit, if_unit, call_to, flat_units, codes, whole, behind_units, Pieces, when, alone, with_rest, with_two, with_three}
+use Rattle.slim_form.specs.Parts.{Units, no_unit, call_unit, nest_unit, if_unit, call_to, flat_units, codes, whole, behind_units, Pieces, when, lone_piece, with_rest, with_two, with_three}
 use Rattle.slim_form.specs.Parts.{result_pends, emit_units, goes_on, PiecesTold, PiecesAreSlim, IsNoSlot, BodiesAreSlim}
 use Rattle.slim_form.proofs.EmittedCode as E
 
@@ -41,7 +41,7 @@ module _ (t : Terms) (n : ℕ) (ts : List Free) (out g : Free) (k k' : Code) (be
   left : (m : ℕ) (rest : Code) → m ≡ length (calls_of k) + n → length (calls_of rest) + m ≡ length (calls_of (followed_by rest k)) + n
   left m rest em = let e = calls_join rest k in omega arith
 
-  pub then_slim : (m : ℕ) (f : Free) (sh : S.Shape) (c c' : Code) → m ≡ length (calls_of k) + n → goes_on c ≡ true → Slims t m ts g f sh c c'
+  pub then_slim : (m : ℕ) (f : Free) (sh : S.StackShape) (c c' : Code) → m ≡ length (calls_of k) + n → goes_on c ≡ true → Slims t m ts g f sh c c'
       → Slims t n ts out f sh (followed_by c k) (followed_by c' k')
   unfolding followed_by
   then_slim m f sh _ _ em go (ends co pl) = forgets pl (narrows g co behind)
@@ -222,7 +222,7 @@ module _ (t : Terms) (small : (x : ℕ) → t.slot x ≡ true → x < t.size) wh
   pub parts_ok : (n : ℕ) (targets : List (List ℕ)) (out : Option (List ℕ)) (first : Stmts) (us : Units Stmts) → PiecesTold t n first us → Shown n targets out first us
   parts_ok n targets out first no_unit told pend base p so e = by (emit t targets out first pend base) refl e
     where
-      by : (o : Option Code) → emit t targets out first pend base ≡ o → alone o ≡ Some p → Slims t n (map fr targets) (fb out) (fr base) (E.shape t pend) (followed_by (code_of first) done) (joined p)
+      by : (o : Option Code) → emit t targets out first pend base ≡ o → lone_piece o ≡ Some p → Slims t n (map fr targets) (fb out) (fr base) (E.shape t pend) (followed_by (code_of first) done) (joined p)
       by None q e = cc
       by (Some c) q e =
           let a : record { first = c; units = no_unit } ≡ p = cc in

@@ -10,7 +10,7 @@ use Rattle.flat_pieces.specs.Raising.{LabelsBelow, Raisable}
 use Rattle.flat_pieces.proofs.FitLemmas.{whole_raisable}
 use Rattle.slim_form.specs.Emit.{free_by}
 use Rattle.slim_form.specs.Slim as S
-use Rattle.slim_form.specs.Slim.{Free, Shape, Slims, Terms}
+use Rattle.slim_form.specs.Slim.{Free, StackShape, Slims, Terms}
 use Rattle.slim_units.specs.SlimUnits.{SlimUnits}
 use Rattle.slim_units.proofs.UnitSizes.{slimmer_law}
 use Rattle.slim_units.proofs.UnitsAlike.{alike_law}
@@ -22,7 +22,7 @@ use Rattle.slim_pieces.proofs.InsideLemmas.{nothing_fixed}
 
 -- ---- labels
 
-pub labels_kept : (m : ℕ) (t : Terms) (n : ℕ) (ts : List Free) (out f : Free) (sh : Shape) (c c' : Code) → Slims t n ts out f sh c c' → LabelsBelow m c → LabelsBelow m c'
+pub labels_kept : (m : ℕ) (t : Terms) (n : ℕ) (ts : List Free) (out f : Free) (sh : StackShape) (c c' : Code) → Slims t n ts out f sh c c' → LabelsBelow m c → LabelsBelow m c'
 labels_kept m t n ts out f sh _ _ (S.ends co pl) h = tt
 labels_kept m t n ts out f sh _ _ (S.does b ta sl) h = (h.0, labels_kept m t n ts out f _ _ _ sl h.1)
 labels_kept m t n ts out f sh _ _ (S.gets x e sl) h = (h.0, labels_kept m t n ts out f _ _ _ sl h.1)

@@ -9,7 +9,7 @@ use Rattle.wa_types.specs.Modules.{around, locals_of}
 use Rattle.wa_types.specs.Syntax.{Code, Func, Module}
 use Rattle.wa_model.specs.Flat.{FlatFunc}
 use Rattle.wa_model.specs.FlatFits.{FlatFits}
-use Rattle.guard_form.specs.Guarded.{is_alone, guarded_body, guarded_code}
+use Rattle.guard_form.specs.Guarded.{has_one_call, guarded_body, guarded_code}
 use Rattle.flat_laws.specs.FlatModule.{stacks_in}
 use Rattle.flat_laws.specs.Flatten.{flattened, names, place, result_of}
 use Rattle.slim_form.specs.Emit.{free_by}
@@ -80,12 +80,12 @@ pieces_told ps low count g (Some p) fits h = λ m x f is low_is count_is.
 
 -- ---- guarded code
 
-pub guarded_slim : (ps : List ℕ) (low count state index : ℕ) (alone : Bool) (g : FlatFunc) (p : Pieces) (c : Code) → PiecesTold ps low count g (Some p) → index ≡ length g.locals
-    → alone ≡ is_alone true (units_in p) → c ≡ guarded_body (record { state = state; index = index; alone = alone }) true (first_code p) (units_in p) → GuardedTold ps low count state g c
-guarded_slim ps low count state index alone g p c h e one is = λ m x f same low_is count_is. record {
+pub guarded_slim : (ps : List ℕ) (low count state index : ℕ) (one_call : Bool) (g : FlatFunc) (p : Pieces) (c : Code) → PiecesTold ps low count g (Some p) → index ≡ length g.locals
+    → one_call ≡ has_one_call true (units_in p) → c ≡ guarded_body (record { state = state; index = index; one_call = one_call }) true (first_code p) (units_in p) → GuardedTold ps low count state g c
+guarded_slim ps low count state index one_call g p c h e one is = λ m x f same low_is count_is. record {
   pieces = record { exits = true; first = first_code p; units = units_in p };
   slim = h m x f same low_is count_is;
-  code = is ∙ (λ j. guarded_body (record { state = state; index = (e ∙ ap (λ (z : FlatFunc). length z.locals) same) j; alone = one j }) true (first_code p) (units_in p));
+  code = is ∙ (λ j. guarded_body (record { state = state; index = (e ∙ ap (λ (z : FlatFunc). length z.locals) same) j; one_call = one j }) true (first_code p) (units_in p));
 }
 
 pub guarded_plain : (ps : List ℕ) (low count state : ℕ) (g : FlatFunc) (c : Code) → c ≡ guarded_code state ps g → GuardedTold ps low count state g c

@@ -40,7 +40,7 @@ pub fn guard_slim(
         numbers: Vec::new(alloc),
         state,
         index: func.locals.len() as u32,
-        alone: has_one_call(&pieces),
+        one_call: has_one_call(&pieces),
     };
     guarded_pieces(&guards, &pieces)
 }

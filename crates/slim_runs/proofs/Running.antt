@@ -12,13 +12,13 @@ use Rattle.wa_model.specs.Step.{Next, steps, zero_of, entered, step}
 use Rattle.slim_runs.specs.Beside.{Sides, Twin, both_import, both_defined, woven, in_body, waits, bottom, above, Beside, beside, lean, Way, way_ends, way_same, way_sets, ComesToo, it_steps}
 use Rattle.slim_runs.specs.Beside.{it_asks, it_returns, it_traps, it_is_stuck, EachStep, EachStretch, stays, moves, Follows, CallsBegin, AnswersGoOn, WaitsWithAny, WaitingAgrees, Around}
 use Rattle.slim_runs.specs.Beside.{in_block, in_loop, calls_behind, Agree, copying, lean_code, Unders, Woven, woven_kept}
-use Rattle.slim_form.specs.Slim.{Free, CoversBut, Held, kept, Lacks, Shape, Slims, Terms}
+use Rattle.slim_form.specs.Slim.{Free, CoversBut, Held, kept, Lacks, StackShape, Slims, Terms}
 use Rattle.slim_runs.proofs.Locals.{agree_set, woven_set}
 use Rattle.slim_runs.proofs.Stretches.{Comes, none, one, on}
 use Rattle.slim_runs.proofs.StepTable.{lean_below, table}
 
 -- behind the get of a slot that is copied: the flat side sets the other local, and so does the slim one, with what it keeps
-copied : (w : Sides) (s : Store) (fn : ℕ) (under under' : List Activation) → Unders w under under' → (f g : Free) (x y : ℕ) (sh : Shape) (n : ℕ) (ts : List Free) (out : Free)
+copied : (w : Sides) (s : Store) (fn : ℕ) (under under' : List Activation) → Unders w under under' → (f g : Free) (x y : ℕ) (sh : StackShape) (n : ℕ) (ts : List Free) (out : Free)
     (ls ls' ops ops' : List Value) (rest rest' : Code) (labels labels' : List Label) → length ls ≡ (w.terms fn).size → Agree f ls ls' → Woven ls (Some x ∷ sh) ops ops' → CoversBut y f g
     → Lacks y (Some x ∷ sh) → Slims (w.terms fn) n ts out g (Some x ∷ sh) rest rest' → Around (w.terms fn) n ts out labels labels'
     → ComesToo w (running s fn under ls (value_at ls x ∷ ops) (plain (local_set y) rest) labels) (running s fn under' ls' ops' (plain (local_tee y) rest') labels') (suc (kept sh))

@@ -18,7 +18,7 @@ use Rattle.wa_model.specs.Configuration.{Label, block_label, Activation, Configu
 use Rattle.wa_model.specs.Step.{Next, steps, asks, returns, traps, stuck, result_count, leave, jump, finish, did, with_number, choose, arity_of, zero_of, entered, invoke, param_count}
 use Rattle.wa_model.specs.Step.{same_types, same_func_type, through, memory_max, step_at, step}
 use Rattle.wa_model.specs.Untouched.{access_in}
-use Rattle.slim_form.specs.Slim.{Held, Free, Covers, Shape, more, Takes, takes_none, takes_same, takes_one, kept, Reaches, Terms, Slims, ends, does, gets, sets, tees, keeps, uses, saves}
+use Rattle.slim_form.specs.Slim.{Held, Free, Covers, StackShape, more, Takes, takes_none, takes_same, takes_one, kept, Reaches, Terms, Slims, ends, does, gets, sets, tees, keeps, uses, saves}
 use Rattle.slim_form.specs.Slim.{copies, narrows, forgets, leaps, leaps_if, leaps_by, returns_here, halts, calls, calls_by, blocks, loops, decides}
 use Rattle.slim_runs.specs.Beside.{Sides, Twin, both_import, both_defined, Together, Agree, Woven, woven, woven_both, woven_kept, Around, in_body, in_block, in_loop, Waits, waits, Unders}
 use Rattle.slim_runs.specs.Beside.{bottom, above, Beside, beside, copying, Asked, ProperCode, lean_plain, lean_code, head_of, sets_local, SameNext, way_ends, way_same, way_sets, saves_none}
@@ -51,7 +51,7 @@ pub data Same (w : Sides) (spare : ℕ) : Next → Next → Type 0 where
   flat_stuck : {o : Next} → Same w spare stuck o
 
 -- the topmost operand of both
-pub data Topped (ls : List Value) (sh : Shape) : List Value → List Value → Type 0 where
+pub data Topped (ls : List Value) (sh : StackShape) : List Value → List Value → Type 0 where
   no_top : Topped ls sh [] []
   a_top : (v : Value) → {below below' : List Value} → Woven ls sh below below' → Topped ls sh (v ∷ below) (v ∷ below')
 
@@ -59,7 +59,7 @@ topped_same : (ls ops : List Value) → Topped ls [] ops ops
 topped_same ls [] = no_top
 topped_same ls (v ∷ ops) = a_top v woven
 
-topped_on : (ls : List Value) (n : ℕ) (sh sh2 : Shape) (ops ops' : List Value) → n ≡ 1 → Takes n sh sh2 → Woven ls sh ops ops' → Topped ls sh2 ops ops'
+topped_on : (ls : List Value) (n : ℕ) (sh sh2 : StackShape) (ops ops' : List Value) → n ≡ 1 → Takes n sh sh2 → Woven ls sh ops ops' → Topped ls sh2 ops ops'
 topped_on ls _ sh _ ops ops' e takes_none wo = absurd (omega arith)
 topped_on ls n _ _ _ _ e takes_same (woven {ops = ops}) = topped_same ls ops
 topped_on ls _ _ _ _ _ e (takes_one {n = n} {sh = sh} {sh2 = sh2} ta) (woven_both {ops = ops} {ops' = ops'} v wo) = a_top v (rest ta)
@@ -67,7 +67,7 @@ topped_on ls _ _ _ _ _ e (takes_one {n = n} {sh = sh} {sh2 = sh2} ta) (woven_bot
     rest : Takes n sh sh2 → Woven ls sh2 ops ops'
     rest ta = subst (λ j. Woven ls sh2 (drop j ops) (drop j ops')) (let z : n ≡ 0 = omega arith in z) (taken_same ls n sh sh2 ops ops' ta wo).1
 
-topped : (ls : List Value) (sh sh2 : Shape) (ops ops' : List Value) → Takes 1 sh sh2 → Woven ls sh ops ops' → Topped ls sh2 ops ops'
+topped : (ls : List Value) (sh sh2 : StackShape) (ops ops' : List Value) → Takes 1 sh sh2 → Woven ls sh ops ops' → Topped ls sh2 ops ops'
 topped ls sh sh2 ops ops' ta wo = topped_on ls 1 sh sh2 ops ops' refl ta wo
 
 pub lean_below : (w : Sides) (fn : ℕ) (c : Code) (k : ℕ) → lean_code (w.terms fn) c k ≤ k
@@ -189,7 +189,7 @@ module _ (w : Sides) where
 
   module _ (ok : Together w) where
     -- a place where both sides stand
-    at : (x : Ctx w) (g : Free) → Covers x.free g → (n : ℕ) (ts : List Free) (out : Free) (sh : Shape) (ops ops' : List Value) (code code' : Code) (labels labels' : List Label)
+    at : (x : Ctx w) (g : Free) → Covers x.free g → (n : ℕ) (ts : List Free) (out : Free) (sh : StackShape) (ops ops' : List Value) (code code' : Code) (labels labels' : List Label)
         → Woven x.ls sh ops ops' → Slims (t x) n ts out g sh code code' → Around (t x) n ts out labels labels'
         → Beside w (kept sh) (cq x ops code labels) (cp x ops' code' labels')
     at x g co n ts out sh ops ops' code code' labels labels' wo sl ar = beside x.s x.fn g refl x.size (agree_wider x.free g x.ls x.ls' co x.agree) wo sl ar x.us
@@ -308,7 +308,7 @@ module _ (w : Sides) where
 
     -- ---- an instruction that touches no local
 
-    dids : (x : Ctx w) (b : Basic) (spare : ℕ) (n : ℕ) (ts : List Free) (out : Free) (sh : Shape) (ops ops' : List Value) (rest rest' : Code) (labels labels' : List Label)
+    dids : (x : Ctx w) (b : Basic) (spare : ℕ) (n : ℕ) (ts : List Free) (out : Free) (sh : StackShape) (ops ops' : List Value) (rest rest' : Code) (labels labels' : List Label)
         → kept sh ≤ spare → Woven x.ls sh ops ops'
         → Slims (t x) n ts out x.free (more (gives b) sh) rest rest' → Around (t x) n ts out labels labels' → (a : Did) → GivesSo (gives b) a
         → Same w spare (did x.fn x.under x.ls labels rest x.s ops a) (did x.fn x.under' x.ls' labels' rest' x.s ops' a)
@@ -395,7 +395,7 @@ module _ (w : Sides) where
             by (suc v) below = arm _ below a a' b b' refl (ap length (same_calls (w.terms fn) (length (calls_of rest) + n) (g ∷ ts) g f [] b b' sb)) sa
 
       -- in lockstep, with the same operands
-      plain_case : (ls ls' : List Value) (sh : Shape) (ops ops' : List Value) (code code' : Code) (labels labels' : List Label) → head_of code' ≡ head_of code
+      plain_case : (ls ls' : List Value) (sh : StackShape) (ops ops' : List Value) (code code' : Code) (labels labels' : List Label) → head_of code' ≡ head_of code
           → access_in ops code' ≡ access_in ops code → Same w (kept sh) (step_at q s fn under ls ops labels code) (step_at p s fn under' ls' ops labels' code') → ops' ≡ ops
           → ComesToo w (running s fn under ls ops code labels) (running s fn under' ls' ops' code' labels') (kept sh) (lean_code (w.terms fn) code) (step_at q s fn under ls ops labels code)
       plain_case ls ls' sh ops ops' code code' labels labels' hd ac sm e =
@@ -404,7 +404,7 @@ module _ (w : Sides) where
           (together _ _ (kept sh) (lean_code (w.terms fn) code) _ _ (record { store = refl; head = hd; access = ac }) (lean_below w fn code) refl sm)
 
       -- The whole table. Slots that are set on the slim side alone come first.
-      pub table : (ls : List Value) (size : length ls ≡ (w.terms fn).size) (f : Free) (ls' : List Value) (ag : Agree f ls ls') (n : ℕ) (ts : List Free) (out : Free) (sh : Shape)
+      pub table : (ls : List Value) (size : length ls ≡ (w.terms fn).size) (f : Free) (ls' : List Value) (ag : Agree f ls ls') (n : ℕ) (ts : List Free) (out : Free) (sh : StackShape)
           (ops ops' : List Value) (code code' : Code) (labels labels' : List Label)
           → Woven ls sh ops ops' → Slims (w.terms fn) n ts out f sh code code' → Around (w.terms fn) n ts out labels labels' → ProperCode q ops code
           → ComesToo w (running s fn under ls ops code labels) (running s fn under' ls' ops' code' labels') (kept sh) (lean_code (w.terms fn) code) (step_at q s fn under ls ops labels code)

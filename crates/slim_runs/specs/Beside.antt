@@ -10,7 +10,7 @@ use Rattle.wa_model.specs.Configuration.{Label, block_label, loop_label, Activat
 use Rattle.wa_model.specs.Step.{Next, steps, asks, returns, traps, stuck, entered, param_count, memory_max, step}
 use Rattle.wa_model.specs.Untouched.{next_access}
 use Rattle.wa_model.specs.Alone.{Goes}
-use Rattle.slim_form.specs.Slim.{Held, Free, CoversBut, Lacks, Shape, kept, Terms, Slims}
+use Rattle.slim_form.specs.Slim.{Held, Free, CoversBut, Lacks, StackShape, kept, Terms, Slims}
 
 -- the module with flat code, the slim one, and what is asked of each function
 pub record Sides : Type 0 where
@@ -39,10 +39,10 @@ pub record Agree (free : Free) (ls ls' : List Value) : Type 0 where
   pub same : (x : ℕ) → free x ≡ false → value_at ls' x ≡ value_at ls x
 
 -- the operands of both sides, the topmost first
-pub data Woven (ls : List Value) : Shape → (ops ops' : List Value) → Type 0 where
+pub data Woven (ls : List Value) : StackShape → (ops ops' : List Value) → Type 0 where
   woven : {ops : List Value} → Woven ls [] ops ops
-  woven_both : {sh : Shape} {ops ops' : List Value} → (v : Value) → Woven ls sh ops ops' → Woven ls (None ∷ sh) (v ∷ ops) (v ∷ ops')
-  woven_kept : {sh : Shape} {ops ops' : List Value} → (x : ℕ) → (v : Value) → v ≡ value_at ls x → Woven ls sh ops ops' → Woven ls (Some x ∷ sh) ops (v ∷ ops')
+  woven_both : {sh : StackShape} {ops ops' : List Value} → (v : Value) → Woven ls sh ops ops' → Woven ls (None ∷ sh) (v ∷ ops) (v ∷ ops')
+  woven_kept : {sh : StackShape} {ops ops' : List Value} → (x : ℕ) → (v : Value) → v ≡ value_at ls x → Woven ls sh ops ops' → Woven ls (Some x ∷ sh) ops (v ∷ ops')
 
 -- The labels of both sides, with the number of calls behind, and what is free at their targets and behind the innermost
 -- construct.
@@ -74,13 +74,13 @@ pub data Unders (w : Sides) : List Activation → List Activation → Type 0 whe
 
 -- Both sides, in the same store; the slim one has so many slots' values on its operand stack.
 pub data Beside (w : Sides) : ℕ → Configuration → Configuration → Type 0 where
-  beside : {n : ℕ} {ts : List Free} {out : Free} {sh : Shape} {code code' : Code} {labels labels' : List Label} {ls ls' ops ops' : List Value} {under under' : List Activation}
+  beside : {n : ℕ} {ts : List Free} {out : Free} {sh : StackShape} {code code' : Code} {labels labels' : List Label} {ls ls' ops ops' : List Value} {under under' : List Activation}
       {spare : ℕ} → (s : Store) → (fn : ℕ) → (f : Free)
       → kept sh ≡ spare → length ls ≡ (w.terms fn).size → Agree f ls ls' → Woven ls sh ops ops' → Slims (w.terms fn) n ts out f sh code code'
       → Around (w.terms fn) n ts out labels labels' → Unders w under under'
       → Beside w spare (running s fn under ls ops code labels) (running s fn under' ls' ops' code' labels')
   -- a slot is copied, and the flat side has got it
-  copying : {n : ℕ} {ts : List Free} {out : Free} {sh : Shape} {rest rest' : Code} {labels labels' : List Label} {ls ls' ops ops' : List Value} {under under' : List Activation}
+  copying : {n : ℕ} {ts : List Free} {out : Free} {sh : StackShape} {rest rest' : Code} {labels labels' : List Label} {ls ls' ops ops' : List Value} {under under' : List Activation}
       {spare : ℕ} → (s : Store) → (fn : ℕ) → (f g : Free) → (x y : ℕ)
       → suc (kept sh) ≡ spare → length ls ≡ (w.terms fn).size → Agree f ls ls' → Woven ls (Some x ∷ sh) ops ops' → CoversBut y f g → Lacks y (Some x ∷ sh)
       → Slims (w.terms fn) n ts out g (Some x ∷ sh) rest rest' → Around (w.terms fn) n ts out labels labels' → Unders w under under'

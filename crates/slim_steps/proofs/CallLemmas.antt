@@ -9,7 +9,7 @@ use Rattle.wa_types.specs.Pausing.{calls_of}
 use Rattle.wa_types.specs.declared.instrs.Instr.{Instr}
 use Rattle.wa_types.specs.declared.instrs.Instr.TheVariants.{Call as CallInstr, CallIndirect}
 use Rattle.wa_types.specs.Syntax.{call, call_indirect, Plain, Code, done, plain}
-use Rattle.wasm_tree.specs.Kinds.{is_leaf}
+use Rattle.wa_types.specs.Leaves.{is_leaf}
 use Rattle.flat_pieces.proofs.StmtLemmas.{leaf_of}
 use Rattle.wa_types.specs.View.{in_front}
 use Rattle.wa_model.specs.Flat.{no_more, calls, followed_by, last_of, set_to, slots_got}

@@ -11,7 +11,7 @@ use Rattle.wa_model.specs.declared.flat.Stmt.TheVariants.{Plain, Move, Br, BrIf,
 use Rattle.wa_model.specs.Flat.{Stmts, no_more, computes, copies, leaps, leaps_if, leaps_by, halts}
 use Rattle.wa_model.specs.FlatFits.{ComputesFit, StmtsFit}
 use Rattle.wa_model.specs.FlatView.{stmt_in_front}
-use Rattle.wasm_tree.specs.Kinds.{is_leaf}
+use Rattle.wa_types.specs.Leaves.{is_leaf}
 use Rattle.flat_pieces.specs.Statements.{one_code}
 use Rattle.flat_pieces.proofs.StmtLemmas.{leaf_of, one_plain}
 use Rattle.slim_walk.specs.declared.stack.Walk.{Walk}

@@ -10,7 +10,7 @@ use Rattle.guard_form.specs.Grouping.{is_place}
 use Rattle.guard_form.specs.Pieces.{Units, no_unit, if_unit, call_total, first_piece, flat_units, units, StartsGot}
 use Rattle.slim_form.specs.Emit.{free_by}
 use Rattle.slim_form.specs.Parts.{goes_on}
-use Rattle.slim_form.specs.Slim.{Free, Held, Reaches, Shape, Slims, Terms}
+use Rattle.slim_form.specs.Slim.{Free, Held, Reaches, StackShape, Slims, Terms}
 use Rattle.slim_units.specs.SlimUnits.{SlimUnits}
 use Rattle.slim_walk.specs.declared.stack.Walk.{Walk}
 use Rattle.slim_walk.specs.Walking.{free_at, shape_at}
@@ -59,7 +59,7 @@ module _ (t : Terms) (n : ℕ) (ts : List Free) (out : Free) where
   -- Slim units beside these: whatever piece comes to them, with these locals free at its end.
   abbrev pub Behind : Free → (us us' : Units) → Type 0
   Behind g us us' =
-      (f : Free) (sh : Shape) (c c' : Code) → Goes us c → Slims t (length (calls_of (flat_units us)) + n) ts g f sh (with_left (left_by us us') c) c' → SlimUnits t n ts out f sh c us c' us'
+      (f : Free) (sh : StackShape) (c c' : Code) → Goes us c → Slims t (length (calls_of (flat_units us)) + n) ts g f sh (with_left (left_by us us') c) c' → SlimUnits t n ts out f sh c us c' us'
 
   -- A piece and units, from where the walk is, and the slim ones beside them.
   pub record From (w : Walk) (c : Code) (us : Units) (c' : Code) (us' : Units) : Type 0 where

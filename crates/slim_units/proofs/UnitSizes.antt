@@ -7,14 +7,14 @@ use Rattle.wa_model.specs.Store.{takes, gives}
 use Rattle.guard_form.specs.Bounds.{plain_reads, reads}
 use Rattle.guard_form.specs.Pieces.{flat_units}
 use Rattle.slim_form.specs.Slim as S
-use Rattle.slim_form.specs.Slim.{Free, Shape, more, kept, Terms, Slims, ends, does, keeps, uses, saves, narrows, forgets}
+use Rattle.slim_form.specs.Slim.{Free, StackShape, more, kept, Terms, Slims, ends, does, keeps, uses, saves, narrows, forgets}
 use Rattle.slim_form.proofs.KeptSizes.{deeper}
 use Rattle.slim_form.proofs.Shapes.{plainly_none, taken_kept, more_kept, risen_kept}
 use Rattle.slim_units.specs.Laws.{UnitsAreSlimmer}
 use Rattle.slim_units.proofs.UnitsSlim.{units_law}
 
 -- no larger, with the labels of branch tables
-pub labelled : (t : Terms) (n : ℕ) (ts : List Free) (out f : Free) (sh : Shape) (code code' : Code) → Slims t n ts out f sh code code'
+pub labelled : (t : Terms) (n : ℕ) (ts : List Free) (out f : Free) (sh : StackShape) (code code' : Code) → Slims t n ts out f sh code code'
     → instructions_and_labels code' ≤ instructions_and_labels code + kept sh
 unfolding instructions_and_labels
 labelled t n ts out f sh _ _ (ends co pl) = omega arith
@@ -81,7 +81,7 @@ labelled t n ts out f sh _ _ (S.decides {a = a} {a' = a'} {b = b} {b' = b'} {res
     omega arith
 
 -- a global is read as often
-pub as_often : (st : ℕ) (t : Terms) (n : ℕ) (ts : List Free) (out f : Free) (sh : Shape) (code code' : Code) → Slims t n ts out f sh code code' → reads st code' ≡ reads st code
+pub as_often : (st : ℕ) (t : Terms) (n : ℕ) (ts : List Free) (out f : Free) (sh : StackShape) (code code' : Code) → Slims t n ts out f sh code code' → reads st code' ≡ reads st code
 as_often st t n ts out f sh _ _ (ends co pl) = refl
 as_often st t n ts out f sh _ _ (does {sh2 = sh2} {rest = rest} {rest' = rest'} b ta sl) = ap (λ i. plain_reads st (basic b) + i) (as_often st t n ts out f (more (gives b) sh2) rest rest' sl)
 as_often st t n ts out f sh _ _ (S.gets {rest = rest} {rest' = rest'} x fr sl) = let e = as_often st t n ts out f (None ∷ sh) rest rest' sl in omega arith

@@ -9,14 +9,14 @@ use Rattle.guard_form.specs.Pieces.{Units, no_unit, call_unit, nest_unit, if_uni
 use Rattle.guard_form.proofs.Grouped.{calls_got, calls_then}
 use Rattle.guard_form.proofs.UnitLemmas.{any_is, any_some, Some_unit}
 use Rattle.slim_form.specs.Slim as S
-use Rattle.slim_form.specs.Slim.{Free, Shape, Slims, Terms, more, ends, does, keeps, uses, saves, narrows, forgets}
+use Rattle.slim_form.specs.Slim.{Free, StackShape, Slims, Terms, more, ends, does, keeps, uses, saves, narrows, forgets}
 use Rattle.slim_units.specs.SlimUnits.{SlimUnits, untouched, alone, before_call, before_block, before_loop, before_if, before_kept_if}
 use Rattle.slim_units.specs.Laws.{AlikeUnits, PiecesCallAlike, UnitsAreAlike}
 
 -- ---- code
 
 module _ (t : Terms) (P : Callee → Type 0) where
-  pub code_calls : (n : ℕ) (ts : List Free) (out f : Free) (sh : Shape) (code code' : Code) → Slims t n ts out f sh code code' → Calls P code → Calls P code'
+  pub code_calls : (n : ℕ) (ts : List Free) (out f : Free) (sh : StackShape) (code code' : Code) → Slims t n ts out f sh code code' → Calls P code → Calls P code'
   code_calls n ts out f sh _ _ (ends co pl) h = tt
   code_calls n ts out f sh _ _ (does {sh2 = sh2} {rest = rest} {rest' = rest'} b ta sl) h = (h.0, code_calls n ts out f (more (gives b) sh2) rest rest' sl h.1)
   code_calls n ts out f sh _ _ (S.gets {rest = rest} {rest' = rest'} x fr sl) h = (h.0, code_calls n ts out f (None ∷ sh) rest rest' sl h.1)
@@ -70,7 +70,7 @@ else_has (nest_unit _ _ _ _ _) b h = tt
 else_has (if_unit _ _ _ _ _ _ _) b h = tt
 
 module _ (t : Terms) where
-  some_stays : (n : ℕ) (ts : List Free) (out f : Free) (sh : Shape) (first first' : Code) (us us' : Units) → SlimUnits t n ts out f sh first us first' us' → Some_unit us → Some_unit us'
+  some_stays : (n : ℕ) (ts : List Free) (out f : Free) (sh : StackShape) (first first' : Code) (us us' : Units) → SlimUnits t n ts out f sh first us first' us' → Some_unit us → Some_unit us'
   some_stays n ts out _ _ first _ us _ untouched h = h
   some_stays n ts out f sh first first' _ _ (alone sl) h = h
   some_stays n ts out f sh first first' _ _ (before_call _ _ _ _ _ _ _ _ _ _ _) h = tt
@@ -79,7 +79,7 @@ module _ (t : Terms) where
   some_stays n ts out f sh first first' _ _ (before_if _ _ _ _ _ _ _ _ _ _ _) h = tt
   some_stays n ts out f sh first first' _ _ (before_kept_if _ _ _ _ _ _ _ _) h = tt
 
-  pub units_alike : (n : ℕ) (ts : List Free) (out f : Free) (sh : Shape) (first first' : Code) (us us' : Units) → SlimUnits t n ts out f sh first us first' us' → AlikeUnits first first' us us'
+  pub units_alike : (n : ℕ) (ts : List Free) (out f : Free) (sh : StackShape) (first first' : Code) (us us' : Units) → SlimUnits t n ts out f sh first us first' us' → AlikeUnits first first' us us'
   units_alike n ts out _ _ first _ us _ untouched = record { numbers = refl; count = refl; numbered = λ test h. h; arms = λ h. h }
   units_alike n ts out f sh first first' _ _ (alone sl) = record { numbers = refl; count = refl; numbered = λ test h. h; arms = λ h. h }
   units_alike n ts out f sh first first' _ _ (before_call {sh2 = sh2} {behind = behind} {behind' = behind'} {rest = rest} {rest' = rest'} {to = to} {to' = to'} slots x g h2 go sl hs hf re sg on) =
@@ -145,7 +145,7 @@ module _ (t : Terms) where
       }
 
   module _ (P : Callee → Type 0) where
-    pub pieces_call : (n : ℕ) (ts : List Free) (out f : Free) (sh : Shape) (first first' : Code) (us us' : Units) → SlimUnits t n ts out f sh first us first' us' → Calls P first → PiecesCall P us
+    pub pieces_call : (n : ℕ) (ts : List Free) (out f : Free) (sh : StackShape) (first first' : Code) (us us' : Units) → SlimUnits t n ts out f sh first us first' us' → Calls P first → PiecesCall P us
         → Calls P first' × PiecesCall P us'
     pieces_call n ts out _ _ first _ us _ untouched h k = (h, k)
     pieces_call n ts out f sh first first' _ _ (alone sl) h k = (code_calls t P n ts out f sh first first' sl h, tt)

@@ -3,7 +3,7 @@ use Rattle.std.proofs.Common.{◌≡◌, ◌≤◌, ℕ, suc, ◌+◌, List, [],
 use Rattle.wa_types.specs.Syntax.{branch, Code, done, nest, plain}
 use Rattle.guard_form.specs.Bounds.{over, passing}
 use Rattle.guard_form.specs.Pieces.{Units, no_unit, call_unit, nest_unit, if_unit}
-use Rattle.slim_form.specs.Slim.{Free, Shape, Slims, Terms, ends, forgets, narrows, saves}
+use Rattle.slim_form.specs.Slim.{Free, StackShape, Slims, Terms, ends, forgets, narrows, saves}
 use Rattle.slim_units.specs.SlimUnits.{SlimUnits, untouched, alone, before_call, before_block, before_loop, before_if, before_kept_if}
 use Rattle.slim_units.specs.Laws.{PassingIsLess}
 
@@ -15,7 +15,7 @@ over_few (branch r a b rest) = omega arith
 
 module _ (t : Terms) where
   -- no code stays none, where no operand is kept
-  none_stays : (n : ℕ) (ts : List Free) (out f : Free) (sh : Shape) (code' : Code) → Slims t n ts out f sh done code' → sh ≡ [] → code' ≡ done
+  none_stays : (n : ℕ) (ts : List Free) (out f : Free) (sh : StackShape) (code' : Code) → Slims t n ts out f sh done code' → sh ≡ [] → code' ≡ done
   none_stays n ts out f sh _ (ends co pl) e = refl
   none_stays n ts out f _ _ (saves {sh = sh} x g lt co sl) e = cc
   none_stays n ts out f sh code' (narrows g co sl) e = none_stays n ts out g sh code' sl e
@@ -55,7 +55,7 @@ module _ (t : Terms) where
   with_first a a' (nest_unit s first body behind rest) le = omega arith
   with_first a a' (if_unit c fa x fb y behind rest) le = omega arith
 
-  passing_less : (a a' : Code) (n : ℕ) (ts : List Free) (out f : Free) (sh : Shape) (first first' : Code) (us us' : Units) → SlimUnits t n ts out f sh first us first' us' → Less us a a'
+  passing_less : (a a' : Code) (n : ℕ) (ts : List Free) (out f : Free) (sh : StackShape) (first first' : Code) (us us' : Units) → SlimUnits t n ts out f sh first us first' us' → Less us a a'
       → passing a' us' ≤ passing a us
   passing_less a a' n ts out _ _ first _ us _ untouched le = with_first a a' us le
   passing_less a a' n ts out f sh first first' _ _ (alone sl) le = le

@@ -10,7 +10,7 @@ use Rattle.guard_form.proofs.CodeLemmas.{then_done}
 use Rattle.guard_form.proofs.Grouped.{then_got, then_then}
 use Rattle.slim_form.specs.Parts.{goes_on}
 use Rattle.slim_form.specs.Slim as S
-use Rattle.slim_form.specs.Slim.{Free, Covers, Held, Shape, Slims, Terms, does, ends, forgets, keeps, lacks_all, narrows, Plainly, plainly, plainly_held, takes_none, takes_same}
+use Rattle.slim_form.specs.Slim.{Free, Covers, Held, StackShape, Slims, Terms, does, ends, forgets, keeps, lacks_all, narrows, Plainly, plainly, plainly_held, takes_none, takes_same}
 use Rattle.slim_form.proofs.EmittedCode.{same_slim}
 use Rattle.slim_form.proofs.SlimPieces.{then_slim}
 use Rattle.slim_units.specs.SlimUnits.{OperandHeld, ResultSlim, has_none, is_set, is_kept, SlimUnits, untouched, alone, before_call, before_block, before_loop, before_if, before_kept_if}
@@ -18,14 +18,14 @@ use Rattle.slim_units.specs.Laws.{BodyIsSlim, ToHeld, UnitsAreSlim}
 
 module _ (t : Terms) where
   -- behind a call, with its result
-  result_slim : (n : ℕ) (ts : List Free) (out g h : Free) (sh : Shape) (to to' : Option ℕ) (c c' : Code) → ResultSlim t g to to' h sh → Slims t n ts out h sh c c'
+  result_slim : (n : ℕ) (ts : List Free) (out g h : Free) (sh : StackShape) (to to' : Option ℕ) (c c' : Code) → ResultSlim t g to to' h sh → Slims t n ts out h sh c c'
       → Slims t n ts out g [] (set_to to c) (set_to to' c')
   result_slim n ts out g h _ _ _ c c' (has_none co) sl = narrows h co sl
   result_slim n ts out g h _ _ _ c c' (is_set x co) sl = S.sets x h co takes_same lacks_all sl
   result_slim n ts out g h _ _ _ c c' (is_kept x is lt co hx) sl = keeps x h is lt co hx takes_same lacks_all sl
 
   -- a numbered call, its arguments got from slots
-  call_slim : (n : ℕ) (ts : List Free) (out g : Free) (slots : List ℕ) (x : Callee) (sh : Shape) (c c' : Code) → Plainly sh → Held g slots → Held g (t.fixed (length (calls_of c) + n))
+  call_slim : (n : ℕ) (ts : List Free) (out g : Free) (slots : List ℕ) (x : Callee) (sh : StackShape) (c c' : Code) → Plainly sh → Held g slots → Held g (t.fixed (length (calls_of c) + n))
       → Slims t n ts out g [] c c' → Slims t n ts out g sh (slots_got slots (plain (call_to x) c)) (slots_got slots (plain (call_to x) c'))
   call_slim n ts out g [] (direct y) sh c c' pl hs hf sl = S.calls y pl hf sl
   call_slim n ts out g [] (indirect s) sh c c' pl hs hf sl = S.calls_by s pl hf sl
@@ -39,7 +39,7 @@ module _ (t : Terms) where
   if_slim n ts out g k h (Const v) a a' b b' r r' hc co sa sb sr = does (const v) takes_none (narrows k co (S.decides None h (plainly_held plainly) sa sb sr))
 
   -- a piece in front of a unit
-  in_front : (n : ℕ) (ts : List Free) (out g f : Free) (sh : Shape) (first first' k k' : Code) → goes_on first ≡ true
+  in_front : (n : ℕ) (ts : List Free) (out g f : Free) (sh : StackShape) (first first' k k' : Code) → goes_on first ≡ true
       → Slims t (length (calls_of k) + n) ts g f sh first first' → Slims t n ts out g [] k k' → Slims t n ts out f sh (followed_by first k) (followed_by first' k')
   in_front n ts out g f sh first first' k k' go sl behind = then_slim t n ts out g k k' behind (length (calls_of k) + n) f sh first first' refl go sl
 
@@ -71,7 +71,7 @@ module _ (t : Terms) where
   unfolding followed_by
   none_then tail = refl
 
-  kept_if_slim : (n : ℕ) (ts : List Free) (out g f h : Free) (sh : Shape) (c : Operand) (first first' a a' b b' r r' : Code) → goes_on first ≡ true
+  kept_if_slim : (n : ℕ) (ts : List Free) (out g f h : Free) (sh : StackShape) (c : Operand) (first first' a a' b b' r r' : Code) → goes_on first ≡ true
       → Slims t (length (calls_of (got c (branch None a b r))) + n) ts g f sh (followed_by first (got c done)) first'
       → Slims t (length (calls_of b) + (length (calls_of r) + n)) (h ∷ ts) h g [] a a' → Slims t (length (calls_of r) + n) (h ∷ ts) h g [] b b' → Slims t n ts out h [] r r'
       → Slims t n ts out f sh (followed_by first (got c (branch None a b r))) (followed_by first' (branch None a' b' r'))
@@ -83,7 +83,7 @@ module _ (t : Terms) where
       (in_front n ts out g f sh (followed_by first (got c done)) first' k (branch None a' b' r') (goes_condition first c ∙ go)
       (subst (λ cs. Slims t (length cs + n) ts g f sh (followed_by first (got c done)) first') (calls_condition c a b r) sl) (S.decides None h plainly sa sb sr))
 
-  pub units_slim : (n : ℕ) (ts : List Free) (out f : Free) (sh : Shape) (first first' : Code) (us us' : Units) → SlimUnits t n ts out f sh first us first' us'
+  pub units_slim : (n : ℕ) (ts : List Free) (out f : Free) (sh : StackShape) (first first' : Code) (us us' : Units) → SlimUnits t n ts out f sh first us first' us'
       → Slims t n ts out f sh (followed_by first (flat_units us)) (followed_by first' (flat_units us'))
   units_slim n ts out _ _ first _ us _ untouched = same_slim t n ts out (followed_by first (flat_units us))
   units_slim n ts out f sh first first' _ _ (alone sl) =

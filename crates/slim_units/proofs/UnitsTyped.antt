@@ -11,7 +11,7 @@ use Rattle.guard_form.specs.Pieces.{Units, call_to}
 use Rattle.guard_form.specs.Typed.{UnitsTyped, UnitsTypedFrom}
 use Rattle.guard_form.proofs.FrontTypes.{from_none}
 use Rattle.guard_form.proofs.PieceTypes.{types_then}
-use Rattle.slim_form.specs.Slim.{Free, Shape, Terms}
+use Rattle.slim_form.specs.Slim.{Free, StackShape, Terms}
 use Rattle.slim_form.specs.Typed.{WovenTypes, types_same, types_kept}
 use Rattle.slim_form.proofs.KeptTypes.{typed}
 use Rattle.slim_units.specs.SlimUnits.{ResultSlim, has_none, is_set, is_kept, SlimUnits, untouched, alone, before_call, before_block, before_loop, before_if, before_kept_if}
@@ -19,7 +19,7 @@ use Rattle.slim_units.specs.Laws.{UnitsStayTyped}
 
 module _ (c : Around) (t : Terms) where
   -- What a call leaves on the slim side: its arguments and the call take nothing to it, and it is what that side has alone.
-  record Left (ls : List (Option ValType)) (slots : List ℕ) (x : Callee) (to' : Option ℕ) (sh : Shape) : Type 0 where
+  record Left (ls : List (Option ValType)) (slots : List ℕ) (x : Callee) (to' : Option ℕ) (sh : StackShape) : Type 0 where
     outs : List ValType
     call : Types c ls (slots_got slots (plain (call_to x) (set_to to' done))) outs []
     woven : WovenTypes c.locals sh [] outs
@@ -44,7 +44,7 @@ module _ (c : Around) (t : Terms) where
       by (Some ty) e k = (ty, e)
   has_type ls (z ∷ xs) x y ins h = has_type ls xs x y h.0 h.2
 
-  left : (ls : List (Option ValType)) (slots : List ℕ) (x : Callee) (g h : Free) (to to' : Option ℕ) (sh : Shape) → ResultSlim t g to to' h sh
+  left : (ls : List (Option ValType)) (slots : List ℕ) (x : Callee) (g h : Free) (to to' : Option ℕ) (sh : StackShape) → ResultSlim t g to to' h sh
       → Types c ls (slots_got slots (plain (call_to x) (set_to to done))) [] [] → Left ls slots x to' sh
   left ls slots x g h _ _ _ (has_none co) k = record { outs = []; call = k; woven = types_same }
   left ls slots x g h _ _ _ (is_set y co) k = record { outs = []; call = k; woven = types_same }
@@ -52,7 +52,7 @@ module _ (c : Around) (t : Terms) where
       let ty = has_type ls slots x y [] k in
       record { outs = ty.0 ∷ []; call = without_set ls slots x y ty.0 [] ty.1 k; woven = types_kept y ty.0 ty.1 types_same }
 
-  units_typed : (ls : List (Option ValType)) (n : ℕ) (ts : List Free) (out f : Free) (sh : Shape) (first first' : Code) (us us' : Units) (ins : List ValType)
+  units_typed : (ls : List (Option ValType)) (n : ℕ) (ts : List Free) (out f : Free) (sh : StackShape) (first first' : Code) (us us' : Units) (ins : List ValType)
       → SlimUnits t n ts out f sh first us first' us' → WovenTypes c.locals sh [] ins → UnitsTyped c ls first us → UnitsTypedFrom c ls ins first' us'
   units_typed ls n ts out _ _ first _ us _ _ untouched types_same h = from_none c ls first us h
   units_typed ls n ts out f sh first first' _ _ ins (alone sl) wo h = typed c t ls n ts out f sh first first' [] [] ins sl wo h

@@ -12,14 +12,14 @@ use Rattle.guard_form.specs.Functions.{ArmsHold, Calls, PiecesCall}
 use Rattle.guard_form.specs.Numbers.{UnitsNumbered}
 use Rattle.guard_form.specs.Pieces.{Units, flat_units, numbers_in}
 use Rattle.guard_form.specs.Typed.{UnitsTyped, UnitsTypedFrom}
-use Rattle.slim_form.specs.Slim.{Free, Shape, kept, Slims, Terms}
+use Rattle.slim_form.specs.Slim.{Free, StackShape, kept, Slims, Terms}
 use Rattle.slim_form.specs.Typed.{WovenTypes}
 use Rattle.slim_units.specs.SlimUnits.{SlimUnits}
 
 -- The code of slim units is slim.
 abbrev pub UnitsAreSlim : Type 0
 UnitsAreSlim =
-    (t : Terms) (n : ℕ) (ts : List Free) (out f : Free) (sh : Shape) (first first' : Code) (us us' : Units) → SlimUnits t n ts out f sh first us first' us'
+    (t : Terms) (n : ℕ) (ts : List Free) (out f : Free) (sh : StackShape) (first first' : Code) (us us' : Units) → SlimUnits t n ts out f sh first us first' us'
     → Slims t n ts out f sh (followed_by first (flat_units us)) (followed_by first' (flat_units us'))
 
 -- the local of a result isn't free
@@ -36,7 +36,7 @@ BodyIsSlim =
 -- Where units take no operands to none, slim ones take those that their side has alone to none.
 abbrev pub UnitsStayTyped : Type 0
 UnitsStayTyped =
-    (c : Around) (ls : List (Option ValType)) (t : Terms) (n : ℕ) (ts : List Free) (out f : Free) (sh : Shape) (first first' : Code) (us us' : Units) (ins : List ValType)
+    (c : Around) (ls : List (Option ValType)) (t : Terms) (n : ℕ) (ts : List Free) (out f : Free) (sh : StackShape) (first first' : Code) (us us' : Units) (ins : List ValType)
     → SlimUnits t n ts out f sh first us first' us' → WovenTypes c.locals sh [] ins → UnitsTyped c ls first us → UnitsTypedFrom c ls ins first' us'
 
 -- Slim units have as many numbers and units; their calls pass a test where those beside them do, arms have a unit, and pieces
@@ -50,16 +50,16 @@ pub record AlikeUnits (first first' : Code) (us us' : Units) : Type 0 where
 -- So are all slim units.
 abbrev pub UnitsAreAlike : Type 0
 UnitsAreAlike =
-    (t : Terms) (n : ℕ) (ts : List Free) (out f : Free) (sh : Shape) (first first' : Code) (us us' : Units) → SlimUnits t n ts out f sh first us first' us' → AlikeUnits first first' us us'
+    (t : Terms) (n : ℕ) (ts : List Free) (out f : Free) (sh : StackShape) (first first' : Code) (us us' : Units) → SlimUnits t n ts out f sh first us first' us' → AlikeUnits first first' us us'
 
 -- Their pieces call what those beside them call.
 abbrev pub PiecesCallAlike : Type 0
 PiecesCallAlike =
-    (t : Terms) (n : ℕ) (ts : List Free) (out f : Free) (sh : Shape) (first first' : Code) (us us' : Units) (test : Callee → Bool) → SlimUnits t n ts out f sh first us first' us'
+    (t : Terms) (n : ℕ) (ts : List Free) (out f : Free) (sh : StackShape) (first first' : Code) (us us' : Units) (test : Callee → Bool) → SlimUnits t n ts out f sh first us first' us'
     → Calls (λ c. test c ≡ false) first → PiecesCall (λ c. test c ≡ false) us → Calls (λ c. test c ≡ false) first' × PiecesCall (λ c. test c ≡ false) us'
 
 -- They are no larger but for the values that their side has alone, nest no deeper, and read a global as often.
-pub record SlimmerUnits (state : ℕ) (sh : Shape) (first first' : Code) (us us' : Units) : Type 0 where
+pub record SlimmerUnits (state : ℕ) (sh : StackShape) (first first' : Code) (us us' : Units) : Type 0 where
   pub size : instructions_and_labels (followed_by first' (flat_units us')) ≤ instructions_and_labels (followed_by first (flat_units us)) + kept sh
   pub depth : depth_of (followed_by first' (flat_units us')) ≤ depth_of (followed_by first (flat_units us))
   pub reading : reads state (followed_by first' (flat_units us')) ≡ reads state (followed_by first (flat_units us))
@@ -67,7 +67,7 @@ pub record SlimmerUnits (state : ℕ) (sh : Shape) (first first' : Code) (us us'
 -- So are all slim units.
 abbrev pub UnitsAreSlimmer : Type 0
 UnitsAreSlimmer =
-    (t : Terms) (n : ℕ) (ts : List Free) (out f : Free) (sh : Shape) (first first' : Code) (us us' : Units) (state : ℕ) → SlimUnits t n ts out f sh first us first' us'
+    (t : Terms) (n : ℕ) (ts : List Free) (out f : Free) (sh : StackShape) (first first' : Code) (us us' : Units) (state : ℕ) → SlimUnits t n ts out f sh first us first' us'
     → SlimmerUnits state sh first first' us us'
 
 -- Passing them costs no more.

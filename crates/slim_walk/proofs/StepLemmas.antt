@@ -18,7 +18,7 @@ use Rattle.wa_model.specs.Store.{gives}
 use Rattle.wa_model.specs.Flat.{all_got, followed_by, set_to, slots_got}
 use Rattle.flat_pieces.specs.Putting.{Puts}
 use Rattle.slim_form.specs.Emit.{all_in, count, elem, free_by}
-use Rattle.slim_form.specs.Slim.{Free, CoversBut, Shape, more, Takes, takes_none, takes_one, Rises, rises, rises_below, Lacks, lacks_all, lacks_slot, Terms, Slims, does, gets, sets, tees}
+use Rattle.slim_form.specs.Slim.{Free, CoversBut, StackShape, more, Takes, takes_none, takes_one, Rises, rises, rises_below, Lacks, lacks_all, lacks_slot, Terms, Slims, does, gets, sets, tees}
 use Rattle.slim_form.specs.Slim.{keeps, uses, saves, narrows}
 use Rattle.slim_form.proofs.EmittedCode as E
 use Rattle.slim_walk.specs.declared.stack.Walk.{Walk}
@@ -77,11 +77,11 @@ false_by false b h e = refl
 pub drop_split : (n m : ℕ) (xs : List ℕ) → n ≤ m → m ≤ length xs → drop n xs ≡ drop n (take m xs) ++ drop m xs
 drop_split n m xs le lm = ap (drop n) (sym (take-append-drop m xs)) ∙ drop-append-le n (take m xs) (drop m xs) (let q = length-take-le m xs lm in omega arith)
 
-pub kept_join : (xs ys : List ℕ) (sh : Shape) → kept_onto (xs ++ ys) sh ≡ kept_onto ys (kept_onto xs sh)
+pub kept_join : (xs ys : List ℕ) (sh : StackShape) → kept_onto (xs ++ ys) sh ≡ kept_onto ys (kept_onto xs sh)
 kept_join [] ys sh = refl
 kept_join (x ∷ xs) ys sh = kept_join xs ys (Some x ∷ sh)
 
-kept_lacks : (x : ℕ) (xs : List ℕ) (sh : Shape) → elem x xs ≡ false → Lacks x sh → Lacks x (kept_onto xs sh)
+kept_lacks : (x : ℕ) (xs : List ℕ) (sh : StackShape) → elem x xs ≡ false → Lacks x sh → Lacks x (kept_onto xs sh)
 kept_lacks x [] sh e la = la
 kept_lacks x (y ∷ xs) sh e la = by (eqb_tells x y) (λ f l. kept_lacks x xs (Some y ∷ sh) f l)
   where
@@ -90,7 +90,7 @@ kept_lacks x (y ∷ xs) sh e la = by (eqb_tells x y) (λ f l. kept_lacks x xs (S
     by (inl q) ih = let z : (nat_eq x y || elem x xs) ≡ true = or_left (nat_eq x y) (elem x xs) q.0 in cc
     by (inr q) ih = ih (subst (λ b. (b || elem x xs) ≡ false) q.0 e) (lacks_slot (λ z. q.1 (sym z)) la)
 
-rises_kept : (x : ℕ) (xs : List ℕ) (sh sh2 : Shape) → Rises x sh sh2 → Rises x (kept_onto xs sh) (kept_onto xs sh2)
+rises_kept : (x : ℕ) (xs : List ℕ) (sh sh2 : StackShape) → Rises x sh sh2 → Rises x (kept_onto xs sh) (kept_onto xs sh2)
 rises_kept x [] sh sh2 r = r
 rises_kept x (y ∷ xs) sh sh2 r = rises_kept x xs (Some y ∷ sh) (Some y ∷ sh2) (rises_below r)
 
@@ -110,11 +110,11 @@ module _ (t : Terms) where
       by (inr h) = subst (λ b. (t.slot y && not (b || elem y base)) ≡ false) h.0 e
 
   module _ (small : (x : ℕ) → t.slot x ≡ true → x < t.size) (n : ℕ) (ts : List Free) (out : Free) where
-    abbrev L : Free → Shape → Code → Code → Type 0
+    abbrev L : Free → StackShape → Code → Code → Type 0
     L f sh c c' = Slims t n ts out f sh c c'
 
     -- all slots set
-    flush_slim : (xs base : List ℕ) (sh : Shape) (c c' : Code) → Slots xs → L (fr (xs ++ base)) sh c c' → L (fr base) (kept_onto xs sh) c (unstacked xs c')
+    flush_slim : (xs base : List ℕ) (sh : StackShape) (c c' : Code) → Slots xs → L (fr (xs ++ base)) sh c c' → L (fr base) (kept_onto xs sh) c (unstacked xs c')
     flush_slim [] base sh c c' so sl = sl
     flush_slim (x ∷ xs) base sh c c' so sl = flush_slim xs base (Some x ∷ sh) c (plain (local_set x) c') so.1 (saves x (fr (x ∷ (xs ++ base))) (small x so.0) (but_one x (xs ++ base)) sl)
 
@@ -126,7 +126,7 @@ module _ (t : Terms) where
         (narrows (fr w.stack.items) (E.covers_by t (xs ++ base) w.stack.items (λ y e. elem_swap y base xs (ap (elem y) (take-append-drop w.set w.stack.items) ∙ e))) sl)
 
     -- operands used where they stand
-    uses_slim : (xs : List ℕ) (h : ℕ) (f : Free) (sh : Shape) (c c' : Code) → Slots xs → L f (more (h + length xs) sh) c c' → L f (kept_onto xs (more h sh)) (slots_got xs c) c'
+    uses_slim : (xs : List ℕ) (h : ℕ) (f : Free) (sh : StackShape) (c c' : Code) → Slots xs → L f (more (h + length xs) sh) c c' → L f (kept_onto xs (more h sh)) (slots_got xs c) c'
     uses_slim [] h f sh c c' so sl = let z : h + 0 ≡ h = omega arith in subst (λ k. L f (more k sh) c c') z sl
     uses_slim (x ∷ xs) h f sh c c' so sl =
         let z : h + suc (length xs) ≡ suc h + length xs = omega arith in
@@ -194,14 +194,14 @@ module _ (t : Terms) where
         (subst (λ z. L (free_at t a) (shape_at a) z (unstacked (drop a.set xs) (slots_got (drop m xs) c'))) (sym (taken.top.same c)) s4)
 
     -- an instruction
-    pub op_slim : (w : Walk) (op : Code) (locals k : ℕ) (to : Option ℕ) (f : Free) (sh : Shape) (c c' : Code) → ComputesFit locals op to → OpTakes w op k
+    pub op_slim : (w : Walk) (op : Code) (locals k : ℕ) (to : Option ℕ) (f : Free) (sh : StackShape) (c c' : Code) → ComputesFit locals op to → OpTakes w op k
         → ((x : ℕ) → t.slot x ≡ slot_in w x) → ((x : ℕ) → t.slot x ≡ false → (f x ≡ false) × Lacks x sh) → L f (more (count to) sh) (set_to to c) c'
         → L f (more k sh) (followed_by op (set_to to c)) (followed_by op c')
     unfolding followed_by
     op_slim w (plain (basic b) done) locals k to f sh c c' fit takes slots held sl =
         does b (subst (λ j. Takes j (more k sh) sh) (sym takes) (takes_more k sh)) (subst (λ j. L f (more j sh) (set_to to c) c') (sym (told (gives b) to (few b) fit)) sl)
       where
-        takes_more : (k : ℕ) (sh : Shape) → Takes k (more k sh) sh
+        takes_more : (k : ℕ) (sh : StackShape) → Takes k (more k sh) sh
         takes_more zero sh = takes_none
         takes_more (suc k) sh = takes_one (takes_more k sh)
 

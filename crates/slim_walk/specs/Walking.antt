@@ -8,7 +8,7 @@ use Rattle.wa_model.specs.Flat.{all_got, slots_got}
 use Rattle.wa_model.specs.Store.{takes}
 use Rattle.flat_pieces.specs.Putting.{Puts}
 use Rattle.slim_form.specs.Emit.{elem, free_by}
-use Rattle.slim_form.specs.Slim.{Free, more, Reaches, Shape, Slims, Terms}
+use Rattle.slim_form.specs.Slim.{Free, more, Reaches, StackShape, Slims, Terms}
 use Rattle.slim_walk.specs.declared.stack.Walk.{Walk}
 
 -- a local that holds operands
@@ -31,7 +31,7 @@ pub record Alike (a b : Walk) : Type 0 where
   pub below : take a.floor b.stack.items ≡ take a.floor a.stack.items
 
 -- slots whose values stand above those of this shape on the operand stack of the slim code, the lowest first
-abbrev pub kept_onto : List ℕ → Shape → Shape
+abbrev pub kept_onto : List ℕ → StackShape → StackShape
 kept_onto [] sh = sh
 kept_onto (x ∷ xs) sh = kept_onto xs (Some x ∷ sh)
 
@@ -45,7 +45,7 @@ abbrev pub free_at : Terms → Walk → Free
 free_at t w = free_by t.slot (take w.set w.stack.items)
 
 -- the operands that stand on the operand stack
-abbrev pub shape_at : Walk → Shape
+abbrev pub shape_at : Walk → StackShape
 shape_at w = kept_onto (drop w.set w.stack.items) []
 
 -- the topmost operand is this slot's, and stands on the operand stack of the slim code

@@ -6,7 +6,7 @@ ghost use Rattle.wa_types.specs.View.{in_front};
 ghost use Rattle.wa_model.specs.declared.flat.Operand.TheVariants as O;
 ghost use Rattle.wa_model.specs.Flat.{followed_by, got, last_of, set_to, slots_got};
 ghost use Rattle.wa_model.specs.FlatFits.{IsCallCode};
-ghost use Rattle.wasm_tree.specs.Kinds.{is_leaf};
+ghost use Rattle.wa_types.specs.Leaves.{is_leaf};
 ghost use Rattle.slim_walk.specs.Walking.{Ended, Good, Stepped};
 
 use crate::moves::keep_told;

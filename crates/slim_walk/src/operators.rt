@@ -1,26 +1,12 @@
 //! What instructions take.
 
-ghost use Rattle.std.specs.Prelude.{◌≡◌, length};
-ghost use Rattle.wa_types.specs.Operators.{operand_types};
 ghost use Rattle.wa_types.specs.Syntax.{done};
 ghost use Rattle.wa_types.specs.View.{in_front};
 ghost use Rattle.slim_walk.specs.Walking.{TakesTold};
 
 use crate::stack::{Walk, is_slot};
-use wa_types::{Instr, NumOp};
-
-/// How many operands a numeric operator takes.
-fn operand_count(op: NumOp) -> usize
-    ensures { result ≡ length (operand_types op) }
-{
-    match op {
-        NumOp::I32Eqz | NumOp::I32Clz | NumOp::I32Ctz | NumOp::I32Popcnt => 1,
-        NumOp::I64ExtendI32S | NumOp::I64ExtendI32U => 1,
-        NumOp::I64Eqz | NumOp::I64Clz | NumOp::I64Ctz | NumOp::I64Popcnt => 1,
-        NumOp::I32WrapI64 => 1,
-        _ => 2,
-    }
-}
+use instr_tables::operand_count;
+use wa_types::Instr;
 
 /// How many operands an instruction takes, where it is neither control nor an access to a slot.
 pub(crate) fn taken_by(at: &Walk, op: &Instr) -> Option<usize>

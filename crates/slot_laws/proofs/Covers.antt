@@ -9,6 +9,7 @@ use Rattle.wa_types.specs.Syntax.{Basic, nop, drop as drop_operand, select, cons
 use Rattle.wa_types.specs.Syntax.{local_tee, br, br_if, br_table, return, unreachable, call, call_indirect, Code, done, plain, nest, branch, FuncType}
 use Rattle.wa_types.specs.Pruned.{is_last}
 use Rattle.wa_types.specs.Accesses.{AccessRow, load_row, store_row}
+use Rattle.wa_types.specs.declared.rules.Rule.TheVariants.{UnknownLabel, StackTypes, Alignment, ConstantGlobal}
 use Rattle.wa_types.specs.Typing.{GlobalType, Around, Sig, moves, leaves, drops, selects, lacks, late, listed, sig, basic_sig, all_there, all_alike, jump, may_jump, jumps, calls, calls_at}
 use Rattle.wa_types.specs.Typing.{gets, sets, tees, gets_global, sets_global, accesses, loads, stores, with_memory, label, Types}
 use Rattle.wa_types.specs.Points.{after, unless_last, points}
@@ -130,7 +131,8 @@ puts_jump (Some r) = tt
 puts_jumps : (ls : List (Option ValType)) (labels : List ℕ) (o : Option (Option ValType)) → PutsOne (jumps ls labels o)
 puts_jumps ls labels None = tt
 puts_jumps ls labels (Some r) =
-    puts_if (all_there ls labels) (if all_alike ls r labels then leaves (I32 ∷ listed r) else lacks 8) (lacks 7) (puts_if (all_alike ls r labels) (leaves (I32 ∷ listed r)) (lacks 8) tt tt) tt
+    puts_if (all_there ls labels) (if all_alike ls r labels then leaves (I32 ∷ listed r) else lacks StackTypes) (lacks UnknownLabel)
+    (puts_if (all_alike ls r labels) (leaves (I32 ∷ listed r)) (lacks StackTypes) tt tt) tt
 
 puts_gets : (o : Option ValType) → PutsOne (gets o)
 puts_gets None = tt
@@ -150,10 +152,10 @@ puts_gets_global (Some g) = omega arith
 
 puts_sets_global : (o : Option GlobalType) → PutsOne (sets_global o)
 puts_sets_global None = tt
-puts_sets_global (Some g) = puts_if g.mutable (moves (g.ty ∷ []) []) (late 10 (g.ty ∷ []) []) (omega arith) tt
+puts_sets_global (Some g) = puts_if g.mutable (moves (g.ty ∷ []) []) (late ConstantGlobal (g.ty ∷ []) []) (omega arith) tt
 
 puts_accesses : (align : ℕ) (row : AccessRow) (ins outs : List ValType) → length outs ≤ 1 → PutsOne (accesses align row ins outs)
-puts_accesses align row ins outs le = puts_if (nat_le align row.natural) (moves ins outs) (late 9 ins outs) le tt
+puts_accesses align row ins outs le = puts_if (nat_le align row.natural) (moves ins outs) (late Alignment ins outs) le tt
 
 puts_loads : (b : Bool) (align : ℕ) (o : Option AccessRow) → PutsOne (loads b align o)
 puts_loads false align o = tt

@@ -17,7 +17,7 @@ use wa_model::{Event, Line};
 use wa_types::{Name, Value};
 
 /// What is named in a program's lines: its function imports, joined, its entries, and the length of its area in bytes.
-#[derive(Debug, Drop)]
+#[derive(Drop)]
 pub struct Names {
     pub imports: Vec<Name>,
     pub entries: Vec<Name>,

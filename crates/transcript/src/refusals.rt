@@ -9,7 +9,7 @@ use std::alloc::{AllocError, Global};
 use wa_types::{LimitKind, Name};
 
 /// Why a command is refused, and the program of a script whose module it is about, where it is about one.
-#[derive(Debug, Drop)]
+#[derive(Drop)]
 pub struct Refusal {
     pub program: Option<u32>,
     pub kind: RefusalKind,

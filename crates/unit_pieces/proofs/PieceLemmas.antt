@@ -7,7 +7,7 @@ use Rattle.wa_types.specs.Syntax.{num, global_get, br_if, basic, call, call_indi
 use Rattle.wa_types.specs.Pausing.{Callee}
 use Rattle.wa_types.specs.Counts.{depth_of}
 use Rattle.wa_types.specs.View.{in_front, onto, code}
-use Rattle.wa_types.proofs.ViewLemmas.{is_block, is_loop, is_if, is_plain, kind, in_block, in_loop, in_if, onto_done}
+use Rattle.wa_types.proofs.ViewLemmas.{is_block, is_loop, is_if, is_plain, instr_kind, in_block, in_loop, in_if, onto_done}
 use Rattle.wa_model.specs.declared.flat.Operand.{Operand}
 use Rattle.wa_model.specs.declared.flat.Operand.TheVariants.{Local, Const}
 use Rattle.wa_model.specs.Flat.{followed_by, got, set_to, slots_got}
@@ -58,7 +58,7 @@ search_of i l m k first old new other inside eo ei puts = λ rest.
 
 pub called_of : (i : GuardIndices) (label k : ℕ) (tail : Code) (x : Callee) (slots : List ℕ) (to : Option ℕ) (l1 l2 l3 l4 l5 l6 : List Instr)
     → Puts l1 l2 (slots_got slots) → Puts l2 l3 (plain (call_to x))
-    → Puts l3 l4 (λ c. index_noted i.alone i.index k (plain (basic (global_get i.state)) (plain (br_if label) c)))
+    → Puts l3 l4 (λ c. index_noted i.one_call i.index k (plain (basic (global_get i.state)) (plain (br_if label) c)))
     → Puts l4 l5 (set_to to) → code l6 ≡ onto l5 tail → code l6 ≡ onto l1 (slots_got slots (plain (call_to x) (noted i label k (set_to to tail))))
 called_of i label k tail x slots to l1 l2 l3 l4 l5 l6 p2 p3 p4 p5 e6 =
     e6 ∙ p5 tail ∙ p4 (set_to to tail) ∙ p3 (noted i label k (set_to to tail)) ∙ p2 (plain (call_to x) (noted i label k (set_to to tail)))
@@ -67,7 +67,7 @@ called_of i label k tail x slots to l1 l2 l3 l4 l5 l6 p2 p3 p4 p5 e6 =
 
 followed_front : (x : Instr) (r c : Code) → followed_by (in_front x r) c ≡ in_front x (followed_by r c)
 unfolding followed_by
-followed_front x r c = elim (kind x) [
+followed_front x r c = elim (instr_kind x) [
   | is_block y v e ↦ ap (λ z. followed_by z c) (ap (λ z. in_front z r) e ∙ in_block y v r) ∙ sym (ap (λ z. in_front z (followed_by r c)) e ∙ in_block y v (followed_by r c))
   | is_loop y v e ↦ ap (λ z. followed_by z c) (ap (λ z. in_front z r) e ∙ in_loop y v r) ∙ sym (ap (λ z. in_front z (followed_by r c)) e ∙ in_loop y v (followed_by r c))
   | is_if y v w e ↦ ap (λ z. followed_by z c) (ap (λ z. in_front z r) e ∙ in_if y v w r) ∙ sym (ap (λ z. in_front z (followed_by r c)) e ∙ in_if y v w (followed_by r c))

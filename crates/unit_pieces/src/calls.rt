@@ -70,7 +70,14 @@ fn put_called(
 {
     put_slots(out, slots)?;
     put_target(out, target)?;
-    put_noted(out, guards.alone, guards.state, guards.index, number, label)?;
+    put_noted(
+        out,
+        guards.one_call,
+        guards.state,
+        guards.index,
+        number,
+        label,
+    )?;
     put_to(out, to)?;
     put_raised(guards.alloc, out, by, behind)?;
     Ok(())

@@ -1,7 +1,7 @@
 //! Whether a body has one numbered call alone.
 
 ghost use Rattle.std.specs.Prelude.{◌≡◌, min, true};
-ghost use Rattle.guard_form.specs.Guarded.{is_alone};
+ghost use Rattle.guard_form.specs.Guarded.{has_one_call};
 ghost use Rattle.guard_form.specs.Pieces.{no_unit, numbers_in};
 ghost use Rattle.unit_pieces.specs.UnitView.{unit_in_front, units_of};
 
@@ -38,7 +38,7 @@ fn few_inside(unit: &Unit) -> u32
 
 /// Whether a body has one numbered call alone.
 pub fn has_one_call(pieces: &Pieces) -> bool
-    ensures { result ≡ is_alone true (units_of pieces.now.units.items) }
+    ensures { result ≡ has_one_call true (units_of pieces.now.units.items) }
 {
     few_among(&pieces.units) == 1
 }

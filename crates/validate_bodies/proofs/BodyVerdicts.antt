@@ -1,13 +1,15 @@
 -- What is computed of a body is its typing and its first fault.
 use Rattle.std.proofs.Common.{arith, ◌≡◌, ℕ, zero, suc, ◌+◌, ◌-◌, ◌≤◌, inl, inr, ◌++◌, List, [], ◌∷◌, Option, Bool, true, false, if◌then◌else◌, refl, ap, sym, ◌∙◌, subst}
+use Rattle.wa_types.specs.declared.rules.Rule.TheVariants.{StackTypes}
 use Rattle.wa_types.specs.declared.values.ValType.{ValType}
 use Rattle.wa_types.specs.declared.values.ValType.TheVariants.{I32}
+use Rattle.wa_types.specs.Rules.{number}
 use Rattle.wa_types.specs.Syntax.{Plain, Shape, Code, done, plain, nest, branch}
 use Rattle.wa_types.specs.Typing.{Around, Sig, moves, leaves, drops, selects, lacks, late, listed, sig, Takes, label, Types, Typed}
 use Rattle.wa_types.specs.FirstFault.{mid, size, Meets, UpTo, BodyFault}
 use Rattle.wa_types.proofs.SigLemmas.{lawful}
 use Rattle.wa_types.proofs.TypingLemmas.{upto_zero, at_upto, typed_upto}
-use Rattle.validate_bodies.specs.Running.{may_be, knows, Next, goes, stops, next, Verdict, fine, fault, both, onward, ended, checks, body_verdict}
+use Rattle.validate_bodies.specs.Running.{may_be, knows, StackAfter, goes, stops, next, Verdict, fine, fault, both, onward, ended, checks, body_verdict}
 use Rattle.validate_bodies.proofs.Exact.{Is, Fits, Exact, exact, some_fit, know_fit, know_split, may_is, is_may}
 
 pub takes_meets : (q : ℕ) (s : Sig) (ins outs : List ValType) → Takes s ins outs → Meets q s ins
@@ -44,7 +46,7 @@ fits_ended (t ∷ ts) (o ∷ os) free h = rw (is_may o t h.0) (fits_ended ts os 
 -- A fault at the place j of the code, for the operands that fit.
 pub record FaultAt (c : Around) (ls : List (Option ValType)) (code : Code) (outs : List ValType) (os : List (Option ValType)) (free : Bool) (rule j : ℕ) : Type 0 where
   pub inside : j ≤ size code
-  pub end : size code ≤ j → rule ≤ 8
+  pub end : size code ≤ j → rule ≤ number StackTypes
   pub before : (ins : List ValType) × Fits os free ins × UpTo rule c ls code outs ins (suc j)
   pub fails : (ins : List ValType) → Fits os free ins → UpTo (suc rule) c ls code outs ins (suc j) → ⊥
 
@@ -53,7 +55,7 @@ Right c ls code outs os free k fine = (ins : List ValType) × Fits os free ins �
 Right c ls code outs os free k (fault r at) = (j : ℕ) × (at ≡ k + j) × FaultAt c ls code outs os free r j
 
 module _ (c : Around) (ls : List (Option ValType)) (outs : List ValType) (os : List (Option ValType)) (free : Bool) (k : ℕ) where
-  right_done : (b : Bool) → b ≡ ended outs os free → Right c ls done outs os free k (if b then fine else fault 8 k)
+  right_done : (b : Bool) → b ≡ ended outs os free → Right c ls done outs os free k (if b then fine else fault (number StackTypes) k)
   unfolding UpTo Types size
   right_done true e = (outs, ended_fits outs os free (sym e), refl)
   right_done false e = (
@@ -70,7 +72,7 @@ module _ (c : Around) (ls : List (Option ValType)) (outs : List ValType) (os : L
     },
   )
 
-  right_plain : (p : Plain) (rest : Code) (n : Next) (go : List (Option ValType) → Bool → Verdict) → Exact (sig c ls p) os free n
+  right_plain : (p : Plain) (rest : Code) (n : StackAfter) (go : List (Option ValType) → Bool → Verdict) → Exact (sig c ls p) os free n
       → ((os' : List (Option ValType)) (free' : Bool) → Right c ls rest outs os' free' (suc k) (go os' free')) → Right c ls (plain p rest) outs os free k (onward n k go)
   unfolding UpTo Types size
   right_plain p rest (stops r) go x ih = (
@@ -82,7 +84,7 @@ module _ (c : Around) (ls : List (Option ValType)) (outs : List ValType) (os : L
       before = (x.0.0, x.0.1, inl (refl, x.0.2));
       fails = λ ins h u. elim u [
         | inl l ↦ x.1 ins h l.1
-        | inr w ↦ x.1 ins h (takes_meets (suc r) (sig c ls p) ins w.0 w.1)
+        | inr w ↦ x.1 ins h (takes_meets (suc (number r)) (sig c ls p) ins w.0 w.1)
       ];
     },
   )
@@ -150,13 +152,13 @@ module _ (c : Around) (ls : List (Option ValType)) (outs : List ValType) (os : L
 
 -- the else arm, while the then arm isn't over
 module _ (q : ℕ) (c : Around) (ls : List (Option ValType)) (outs : List ValType) where
-  at_most_one : (n : ℕ) → n ≤ 1 → (1 ≤ n → q ≤ 8) → UpTo q c ls done outs [] n
+  at_most_one : (n : ℕ) → n ≤ 1 → (1 ≤ n → q ≤ number StackTypes) → UpTo q c ls done outs [] n
   unfolding UpTo
   at_most_one zero h l = tt
   at_most_one (suc zero) h l = inl (refl, l (omega arith))
   at_most_one (suc (suc n)) h l = absurd (omega arith)
 
-  else_waits : (b : Code) (n j : ℕ) → j ≤ n → (n ≤ j → q ≤ 8) → UpTo q c ls b outs [] (suc j - (n + mid b))
+  else_waits : (b : Code) (n j : ℕ) → j ≤ n → (n ≤ j → q ≤ number StackTypes) → UpTo q c ls b outs [] (suc j - (n + mid b))
   else_waits done n j h l = at_most_one (suc j - (n + 0)) (omega arith) (λ m. l (omega arith))
   else_waits (plain p rest) n j h l = at_upto q c ls (plain p rest) outs [] 0 (suc j - (n + 1)) (omega arith) (upto_zero q c ls (plain p rest) outs [])
   else_waits (nest s r body rest) n j h l = at_upto q c ls (nest s r body rest) outs [] 0 (suc j - (n + 1)) (omega arith) (upto_zero q c ls (nest s r body rest) outs [])
@@ -254,7 +256,7 @@ module _ (c : Around) (ls : List (Option ValType)) (outs : List ValType) (os : L
 
 module _ (c : Around) (ls : List (Option ValType)) (outs : List ValType) (os : List (Option ValType)) (free : Bool) (k : ℕ) (r : Option ValType) (a b rest : Code)
     (arms : List (Option ValType) → Bool → Verdict) where
-  right_branch : (n : Next) → Exact (moves (I32 ∷ []) []) os free n → ((os' : List (Option ValType)) (free' : Bool) → Exact (moves (I32 ∷ []) []) os free (goes os' free')
+  right_branch : (n : StackAfter) → Exact (moves (I32 ∷ []) []) os free n → ((os' : List (Option ValType)) (free' : Bool) → Exact (moves (I32 ∷ []) []) os free (goes os' free')
       → Right c ls (branch r a b rest) outs os free k (arms os' free')) → Right c ls (branch r a b rest) outs os free k (onward n k arms)
   unfolding UpTo size
   right_branch (goes os' free') x ih = ih os' free' x
@@ -267,7 +269,7 @@ module _ (c : Around) (ls : List (Option ValType)) (outs : List ValType) (os : L
       before = (x.0.0, x.0.1, inl (refl, x.0.2));
       fails = λ ins h u. elim u [
         | inl l ↦ x.1 ins h l.1
-        | inr w ↦ x.1 ins h (takes_meets (suc q) (moves (I32 ∷ []) []) ins w.0 (w.0, w.1, refl))
+        | inr w ↦ x.1 ins h (takes_meets (suc (number q)) (moves (I32 ∷ []) []) ins w.0 (w.0, w.1, refl))
       ];
     },
   )

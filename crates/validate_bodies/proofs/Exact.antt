@@ -1,12 +1,15 @@
 -- A stack of known and unknown types stands for all the operands that fit it, before and behind an instruction.
-use Rattle.std.proofs.Common.{arith, ◌≡◌, ℕ, suc, ◌≤◌, inl, inr, ◌++◌, List, [], ◌∷◌, Option, Some, None, Bool, true, false, if◌then◌else◌, refl, sym, ◌∙◌, subst}
+use Rattle.std.proofs.Common.{arith, ◌≡◌, suc, ◌<◌, inl, inr, ◌++◌, List, [], ◌∷◌, Option, Some, None, Bool, true, false, if◌then◌else◌, refl, ap, sym, ◌∙◌, subst}
+use Rattle.wa_types.specs.declared.rules.Rule.{Rule}
+use Rattle.wa_types.specs.declared.rules.Rule.TheVariants.{StackTypes}
 use Rattle.wa_types.specs.declared.values.ValType.{ValType}
 use Rattle.wa_types.specs.declared.values.ValType.TheVariants.{I32, I64}
+use Rattle.wa_types.specs.Rules.{number}
 use Rattle.wa_types.specs.Encoding.{same_type}
 use Rattle.wa_types.specs.Typing.{Sig, moves, leaves, drops, selects, lacks, late, Takes}
 use Rattle.wa_types.specs.FirstFault.{Meets}
 use Rattle.wa_types.proofs.SigLemmas.{Lawful}
-use Rattle.validate_bodies.specs.Running.{may_be, chain, pops, knows, Next, goes, stops, pushed, gone, too_late, dropped, two, selected, next}
+use Rattle.validate_bodies.specs.Running.{may_be, chain, pops, knows, StackAfter, goes, stops, pushed, gone, too_late, dropped, two, selected, next}
 
 -- what a stack of types may stand for: such operands, and any more where it is free
 abbrev pub Is : Option ValType → ValType → Type 0
@@ -96,13 +99,13 @@ some_fit [] false = ([], refl)
 some_fit (o ∷ os) free = let k = some_fit os free in (one_of o ∷ k.0, (one_is o, k.1))
 
 -- What the next stack says of the instruction.
-abbrev pub Exact : Sig → List (Option ValType) → Bool → Next → Type 0
+abbrev pub Exact : Sig → List (Option ValType) → Bool → StackAfter → Type 0
 Exact s os free (goes os' free') =
     ((outs : List ValType) → Fits os' free' outs → (ins : List ValType) × Fits os free ins × Takes s ins outs)
     × ((ins outs : List ValType) → Fits os free ins → Takes s ins outs → Fits os' free' outs)
 Exact s os free (stops r) =
-    ((ins : List ValType) × Fits os free ins × Meets r s ins)
-    × ((ins : List ValType) → Fits os free ins → Meets (suc r) s ins → ⊥)
+    ((ins : List ValType) × Fits os free ins × Meets (number r) s ins)
+    × ((ins : List ValType) → Fits os free ins → Meets (suc (number r)) s ins → ⊥)
 
 at_fit : (os : List (Option ValType)) (free : Bool) (a b : List ValType) → a ≡ b → Fits os free a → Fits os free b
 at_fit os free a b e h = subst (Fits os free) e h
@@ -127,7 +130,7 @@ module _ (os : List (Option ValType)) (free : Bool) (ps : List ValType) where
   exact_leaves (Some os') to of =
       (λ outs h. let k = some_fit os' free in (ps ++ k.0, to k.0 k.1, (k.0, refl)), λ ins outs h w. tt)
 
-  exact_late : (r : ℕ) (rs : List ValType) (o : Option (List (Option ValType))) → 9 ≤ r → ((below : List ValType) → Left o free below → Fits os free (ps ++ below))
+  exact_late : (r : Rule) (rs : List ValType) (o : Option (List (Option ValType))) → number StackTypes < number r → ((below : List ValType) → Left o free below → Fits os free (ps ++ below))
       → ((below : List ValType) → Fits os free (ps ++ below) → Left o free below) → Exact (late r ps rs) os free (too_late r o)
   exact_late r rs None big to of =
       let k = some_fit os free in
@@ -146,16 +149,16 @@ exact_dropped (o ∷ os) free = (
 )
 
 -- what two operands of one type leave
-abbrev Twice : List (Option ValType) → Bool → Next → Type 0
+abbrev Twice : List (Option ValType) → Bool → StackAfter → Type 0
 Twice os free (goes os' free') =
     ((outs : List ValType) → Fits os' free' outs → (t : ValType) × (below : List ValType) × (outs ≡ t ∷ below) × Fits os free (t ∷ t ∷ below))
     × ((t : ValType) (below : List ValType) → Fits os free (t ∷ t ∷ below) → Fits os' free' (t ∷ below))
-Twice os free (stops r) = (r ≡ 8) × ((t : ValType) (below : List ValType) → Fits os free (t ∷ t ∷ below) → ⊥)
+Twice os free (stops r) = (r ≡ StackTypes) × ((t : ValType) (below : List ValType) → Fits os free (t ∷ t ∷ below) → ⊥)
 
 is_along : (o : Option ValType) (t u : ValType) → t ≡ u → Is o t → Is o u
 is_along o t u e h = subst (Is o) e h
 
-twice_known : (t u : ValType) (os : List (Option ValType)) (free : Bool) (b : Bool) → b ≡ same_type t u → Twice (Some t ∷ Some u ∷ os) free (if b then goes (Some t ∷ os) free else stops 8)
+twice_known : (t u : ValType) (os : List (Option ValType)) (free : Bool) (b : Bool) → b ≡ same_type t u → Twice (Some t ∷ Some u ∷ os) free (if b then goes (Some t ∷ os) free else stops StackTypes)
 unfolding Fits
 twice_known t u os free true e =
     (λ outs h. some_top outs h, λ v below h. (h.0, h.1.1))
@@ -198,14 +201,15 @@ exact_selected os free None to of =
     ((k.0, k.1, inl (omega arith)), λ ins h m. elim m [ inl l ↦ absurd (omega arith) | inr w ↦ of _ (at_fit os free ins _ w.1.2 h) ])
 exact_selected os free (Some os') to of = by_next (two os' free) (twice os' free)
   where
-    by_next : (n : Next) → Twice os' free n → Exact selects os free n
+    by_next : (n : StackAfter) → Twice os' free n → Exact selects os free n
     by_next (goes os'' free'') w = (
       λ outs h. let k = w.0 outs h in (I32 ∷ k.0 ∷ k.0 ∷ k.1, to _ k.3, (k.0, k.1, refl, k.2)),
       λ ins outs h v. subst (Fits os'' free'') (sym v.3) (w.1 v.0 v.1 (of _ (at_fit os free ins _ v.2 h))),
     )
     by_next (stops r) w =
         let k = some_fit os free in
-        ((k.0, k.1, inl (omega arith)), λ ins h m. elim m [ inl l ↦ absurd (omega arith) | inr v ↦ w.1 v.1.0 v.1.1 (of _ (at_fit os free ins _ v.1.2 h)) ])
+        let is : number r ≡ number StackTypes = ap number w.0 in
+        ((k.0, k.1, inl (omega (arith, is))), λ ins h m. elim m [ inl l ↦ absurd (omega (arith, is, l)) | inr v ↦ w.1 v.1.0 v.1.1 (of _ (at_fit os free ins _ v.1.2 h)) ])
 
 pub exact : (s : Sig) (os : List (Option ValType)) (free : Bool) → Lawful s → Exact s os free (next s os free)
 exact (moves ps rs) os free l = exact_moves os free ps rs (pops ps os free) (pop_to ps os free) (pop_of ps os free)

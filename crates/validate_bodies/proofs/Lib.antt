@@ -1,7 +1,6 @@
 pub use Rattle.validate_table.proofs.ContextLemmas
 pub use Rattle.validate_table.proofs.InstrKinds
 pub use Rattle.validate_table.proofs.LabelLemmas
-pub use Rattle.validate_table.proofs.PruneLemmas
 pub use Rattle.validate_table.proofs.SpaceLemmas
 pub mod Decided
 pub mod Exact

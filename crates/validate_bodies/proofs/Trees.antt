@@ -4,6 +4,9 @@ use Rattle.std.proofs.Common.{subst, Result, Ok, Err, IsErrAnd}
 use Rattle.std.proofs.lemmas.List.{reverse-append}
 use Rattle.std.specs.declared.vec.Vec.{Vec}
 use Rattle.std.specs.declared.alloc.Global.{Global}
+use Rattle.wa_types.specs.declared.rules.Rule.{Rule}
+use Rattle.wa_types.specs.declared.rules.Rule.TheVariants.{StackTypes}
+use Rattle.wa_types.specs.Rules.{number}
 use Rattle.wa_types.specs.declared.values.ValType.{ValType}
 use Rattle.wa_types.specs.declared.values.ValType.TheVariants.{I32}
 use Rattle.wa_types.specs.declared.instrs.Instr.{Instr}
@@ -16,16 +19,16 @@ use Rattle.wa_types.proofs.ViewLemmas.{in_block, in_loop, in_if, code_step, code
 use Rattle.validate_bodies.specs.declared.bodies.Flaw.{Flaw}
 use Rattle.validate_bodies.specs.declared.bodies.Flaw.TheVariants.{Memory, Breaks}
 use Rattle.validate_table.specs.declared.table.Asks as D
-use Rattle.validate_bodies.specs.Running.{Next, goes, stops, next, Verdict, fine, fault, both, onward, ended, knows, pop1, checks, body_verdict}
+use Rattle.validate_bodies.specs.Running.{StackAfter, goes, stops, next, Verdict, fine, fault, both, onward, ended, knows, pop1, checks, body_verdict}
 use Rattle.validate_bodies.specs.Stack.{Applied, popped}
 use Rattle.validate_table.specs.Table.{sig_of}
 use Rattle.validate_table.specs.Table.{plain_of, Says}
-use Rattle.validate_table.proofs.InstrKinds.{is_block, is_loop, is_branch, is_plain, kind, size_plain, size_done, size_block, size_loop, size_if, size_step, size_empty}
+use Rattle.validate_table.proofs.InstrKinds.{is_block, is_loop, is_branch, is_plain, leaf_kind, size_plain, size_done, size_block, size_loop, size_if, size_step, size_empty}
 use Rattle.validate_bodies.specs.Judging.{Judged, Blames}
 
 -- what the validator computes
 pub checks_done : (c : Around) (ls : List (Option ValType)) (outs : List ValType) (os : List (Option ValType)) (free : Bool) (k : ℕ)
-    → checks c ls done outs os free k ≡ (if ended outs os free then fine else fault 8 k)
+    → checks c ls done outs os free k ≡ (if ended outs os free then fine else fault (number StackTypes) k)
 unfolding checks
 checks_done c ls outs os free k = refl
 
@@ -66,7 +69,7 @@ module _ (c : Around) (ls : List (Option ValType)) (outs : List ValType) (os : L
   branched : (r : Option ValType) (v w : Vec Instr Global) (xs ys : List Instr) → x ≡ If r v w → xs ≡ v.items → ys ≡ w.items → in_front x rest ≡ branch r (code xs) (code ys) rest
   branched r v w xs ys e f g = ap (λ y. in_front y rest) e ∙ in_if r v w rest ∙ ap (λ y. branch r (code y) (code w.items) rest) (sym f) ∙ ap (λ y. branch r (code xs) (code y) rest) (sym g)
 
-  pub if_fault : (r : Option ValType) (v w : Vec Instr Global) → x ≡ If r v w → pop1 I32 os free ≡ None → checks c ls (in_front x rest) outs os free k ≡ fault 8 k
+  pub if_fault : (r : Option ValType) (v w : Vec Instr Global) → x ≡ If r v w → pop1 I32 os free ≡ None → checks c ls (in_front x rest) outs os free k ≡ fault (number StackTypes) k
   unfolding checks
   if_fault r v w e p = ap (λ z. checks c ls z outs os free k) (branched r v w v.items w.items e refl refl) ∙ rw p refl
 
@@ -92,7 +95,7 @@ module _ (c : Around) (ls : List (Option ValType)) (outs : List ValType) (os : L
     pub plain_is : (s : D.Asks) → Says (plain_of x) (λ p. sig_of s ≡ sig c ls p) → checks c ls (in_front x rest) outs os free k
         ≡ onward (next (sig_of s) os free) k (λ os' free'. checks c ls rest outs os' free' (suc k))
     unfolding checks
-    plain_is s h = elim (kind x) [
+    plain_is s h = elim (leaf_kind x) [
       | is_block r v e ↦ absurd (not_block r v e)
       | is_loop r v e ↦ absurd (not_loop r v e)
       | is_branch r v w e ↦ absurd (not_if r v w e)
@@ -103,24 +106,24 @@ module _ (c : Around) (ls : List (Option ValType)) (outs : List ValType) (os : L
 
 pub plain_size : (x : Instr) → ((r : Option ValType) (v : Vec Instr Global) → x ≡ Block r v → ⊥) → ((r : Option ValType) (v : Vec Instr Global) → x ≡ Loop r v → ⊥)
     → ((r : Option ValType) (v w : Vec Instr Global) → x ≡ If r v w → ⊥) → size (in_front x done) ≡ 1
-plain_size x not_block not_loop not_if = elim (kind x) [
+plain_size x not_block not_loop not_if = elim (leaf_kind x) [
   | is_block r v e ↦ absurd (not_block r v e)
   | is_loop r v e ↦ absurd (not_loop r v e)
   | is_branch r v w e ↦ absurd (not_if r v w e)
   | is_plain p e f ↦ ap size (f done) ∙ size_plain p done ∙ ap (λ n. 1 + n) size_done
 ]
 
-pub none_is : (o : Option ℕ) → ((q : ℕ) → o ≡ Some q → ⊥) → o ≡ None
+pub none_is : {A : Type 0} (o : Option A) → ((q : A) → o ≡ Some q → ⊥) → o ≡ None
 none_is None f = refl
 none_is (Some q) f = absurd (f q refl)
 
-pub go_on : (n : Next) (k : ℕ) (go : List (Option ValType) → Bool → Verdict) (os : List (Option ValType)) (free : Bool) → Applied n None os free → onward n k go ≡ go os free
+pub go_on : (n : StackAfter) (k : ℕ) (go : List (Option ValType) → Bool → Verdict) (os : List (Option ValType)) (free : Bool) → Applied n None os free → onward n k go ≡ go os free
 go_on (goes os' free') k go os free h = ap (λ z. go z free') (sym h.0) ∙ ap (go os) (sym h.1)
 go_on (stops r) k go os free h = absurd h
 
-pub stop_at : (n : Next) (k q : ℕ) (go : List (Option ValType) → Bool → Verdict) (os : List (Option ValType)) (free : Bool) → Applied n (Some q) os free → onward n k go ≡ fault q k
+pub stop_at : (n : StackAfter) (k : ℕ) (q : Rule) (go : List (Option ValType) → Bool → Verdict) (os : List (Option ValType)) (free : Bool) → Applied n (Some q) os free → onward n k go ≡ fault (number q) k
 stop_at (goes os' free') k q go os free h = absurd h
-stop_at (stops r) k q go os free h = ap (λ z. fault z k) (sym h)
+stop_at (stops r) k q go os free h = ap (λ z. fault (number z) k) (sym h)
 
 pub judged_same : {B : Type 0} (res : Result B Flaw) (e : Flaw) (k : ℕ) (v x y : Verdict) → IsErrAnd res (λ f. f ≡ e) → Blames e k v → y ≡ v → Judged res k y x
 judged_same (Ok u) e k v x y i j h = absurd i
@@ -152,7 +155,7 @@ module _ (c : Around) (ls ls' : List (Option ValType)) (body : List Instr) (i : 
   pub body_on : (x : Instr) → i < length body → x ≡ get_or body i x → checks c ls (code body) outs [] false k0 ≡ checks c ls' (in_front x (code (drop (i + 1) body))) outs os free k
   body_on x h e = ap (λ z. checks c z (code body) outs [] false k0) (sym el) ∙ sym inv ∙ ap (λ z. checks c ls' z outs os free k) (code_step body i x h e)
 
-  pub body_end : length body ≤ i → checks c ls (code body) outs [] false k0 ≡ (if ended outs os free then fine else fault 8 k)
+  pub body_end : length body ≤ i → checks c ls (code body) outs [] false k0 ≡ (if ended outs os free then fine else fault (number StackTypes) k)
   body_end h = ap (λ z. checks c z (code body) outs [] false k0) (sym el) ∙ sym inv ∙ ap (λ z. checks c ls' z outs os free k) (code_empty body i h) ∙ checks_done c ls' outs os free k
 
 pub popped_none : (b : Bool) (x : Option (List (Option ValType))) (os : List (Option ValType)) → x ≡ popped b os → b ≡ false → x ≡ None

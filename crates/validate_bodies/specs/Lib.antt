@@ -1,4 +1,3 @@
-pub use Rattle.validate_table.specs.Kinds
 pub use Rattle.validate_table.specs.Spaces
 pub use Rattle.validate_table.specs.Table
 pub use Rattle.validate_table.specs.declared.table.Asks

@@ -1,7 +1,10 @@
 -- The verdict on a body, computed from front to back over a stack of types, some of them unknown.
 use Rattle.std.specs.Prelude.{ℕ, suc, ◌+◌, ◌++◌, List, [], ◌∷◌, Option, Some, None, Bool, true, false, if◌then◌else◌}
+use Rattle.wa_types.specs.declared.rules.Rule.{Rule}
+use Rattle.wa_types.specs.declared.rules.Rule.TheVariants.{StackTypes}
 use Rattle.wa_types.specs.declared.values.ValType.{ValType}
 use Rattle.wa_types.specs.declared.values.ValType.TheVariants.{I32}
+use Rattle.wa_types.specs.Rules.{number}
 use Rattle.wa_types.specs.Encoding.{same_type}
 use Rattle.wa_types.specs.Syntax.{Code, done, plain, nest, branch, Func, Module}
 use Rattle.wa_types.specs.Typing.{Around, Sig, moves, leaves, drops, selects, lacks, late, listed, sig, label}
@@ -35,49 +38,49 @@ knows [] = []
 knows (t ∷ ts) = Some t ∷ knows ts
 
 -- What comes of an instruction: the operands left and whether more may lie below, or a rule that fails.
-pub data Next : Type 0 where
-  goes : List (Option ValType) → Bool → Next
-  stops : ℕ → Next
+pub data StackAfter : Type 0 where
+  goes : List (Option ValType) → Bool → StackAfter
+  stops : Rule → StackAfter
 
--- results go on what is left; where an operand is wanting, rule 8 fails
-abbrev pub pushed : List ValType → Bool → Option (List (Option ValType)) → Next
-pushed rs free None = stops 8
+-- results go on what is left; where an operand is wanting, the rule on operands fails
+abbrev pub pushed : List ValType → Bool → Option (List (Option ValType)) → StackAfter
+pushed rs free None = stops StackTypes
 pushed rs free (Some os) = goes (knows rs ++ os) free
 
 -- control never goes on: no operand is left, and any may be there
-abbrev pub gone : Option (List (Option ValType)) → Next
-gone None = stops 8
+abbrev pub gone : Option (List (Option ValType)) → StackAfter
+gone None = stops StackTypes
 gone (Some os) = goes [] true
 
 -- a rule above that on operands fails, where they are there
-abbrev pub too_late : ℕ → Option (List (Option ValType)) → Next
-too_late r None = stops 8
+abbrev pub too_late : Rule → Option (List (Option ValType)) → StackAfter
+too_late r None = stops StackTypes
 too_late r (Some os) = stops r
 
 -- one operand of any type is taken
-abbrev pub dropped : List (Option ValType) → Bool → Next
-dropped [] free = if free then goes [] true else stops 8
+abbrev pub dropped : List (Option ValType) → Bool → StackAfter
+dropped [] free = if free then goes [] true else stops StackTypes
 dropped (o ∷ os) free = goes os free
 
 -- the better known of two that are alike
-abbrev pub joined : Option ValType → Option ValType → Next → (Option ValType → Next) → Next
+abbrev pub joined : Option ValType → Option ValType → StackAfter → (Option ValType → StackAfter) → StackAfter
 joined None p bad go = go p
 joined (Some t) None bad go = go (Some t)
 joined (Some t) (Some u) bad go = if same_type t u then go (Some t) else bad
 
 -- two operands of one type are taken, and one of it is given
-abbrev pub two : List (Option ValType) → Bool → Next
-two [] free = if free then goes (None ∷ []) free else stops 8
-two (o ∷ []) free = if free then goes (o ∷ []) free else stops 8
-two (o ∷ p ∷ os) free = joined o p (stops 8) (λ q. goes (q ∷ os) free)
+abbrev pub two : List (Option ValType) → Bool → StackAfter
+two [] free = if free then goes (None ∷ []) free else stops StackTypes
+two (o ∷ []) free = if free then goes (o ∷ []) free else stops StackTypes
+two (o ∷ p ∷ os) free = joined o p (stops StackTypes) (λ q. goes (q ∷ os) free)
 
 -- what is left behind the number of a select
-abbrev pub selected : Bool → Option (List (Option ValType)) → Next
-selected free None = stops 8
+abbrev pub selected : Bool → Option (List (Option ValType)) → StackAfter
+selected free None = stops StackTypes
 selected free (Some os) = two os free
 
 -- what an instruction makes of the operands (3.3)
-abbrev pub next : Sig → List (Option ValType) → Bool → Next
+abbrev pub next : Sig → List (Option ValType) → Bool → StackAfter
 next (moves ps rs) os free = pushed rs free (pops ps os free)
 next (leaves ps) os free = gone (pops ps os free)
 next drops os free = dropped os free
@@ -85,7 +88,7 @@ next selects os free = selected free (pops (I32 ∷ []) os free)
 next (lacks r) os free = stops r
 next (late r ps rs) os free = too_late r (pops ps os free)
 
--- What is said of code: it is typed, or this rule fails at this place.
+-- What is said of code: it is typed, or the rule of this number fails at this place.
 pub data Verdict : Type 0 where
   fine : Verdict
   fault : (rule at : ℕ) → Verdict
@@ -96,9 +99,9 @@ both fine v = v
 both (fault r k) v = fault r k
 
 -- what comes behind an instruction, where no rule fails
-abbrev pub onward : Next → ℕ → (List (Option ValType) → Bool → Verdict) → Verdict
+abbrev pub onward : StackAfter → ℕ → (List (Option ValType) → Bool → Verdict) → Verdict
 onward (goes os free) k go = go os free
-onward (stops r) k go = fault r k
+onward (stops r) k go = fault (number r) k
 
 -- exactly these operands at an end
 abbrev pub ended : List ValType → List (Option ValType) → Bool → Bool
@@ -109,7 +112,7 @@ ended (t ∷ ts) (o ∷ os) free = if may_be o t then ended ts os free else fals
 
 -- the verdict on code, whose first instruction has number k (3.3.5, 3.3.6)
 unfoldable pub checks : Around → List (Option ValType) → Code → List ValType → List (Option ValType) → Bool → ℕ → Verdict
-checks c ls done outs os free k = if ended outs os free then fine else fault 8 k
+checks c ls done outs os free k = if ended outs os free then fine else fault (number StackTypes) k
 checks c ls (plain p rest) outs os free k = onward (next (sig c ls p) os free) k (λ os' free'. checks c ls rest outs os' free' (suc k))
 checks c ls (nest s r body rest) outs os free k =
     both (checks c (label s r ∷ ls) body (listed r) [] false (suc k)) (checks c ls rest outs (knows (listed r) ++ os) free (suc k + (size body + 1)))

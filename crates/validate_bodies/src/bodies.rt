@@ -13,21 +13,21 @@ ghost use Rattle.validate_bodies.specs.Stack.{known, Deep, Level};
 use crate::stack::{Operands, apply, ends, pop, push_result};
 use std::alloc::{AllocError, AllocFailed, Global};
 use validate_table::{Context, asks_at};
-use wa_types::{Instr, ValType};
+use wa_types::{Instr, Rule, ValType};
 
 /// Why a body wasn't found typed: the rule that fails first, and the number of the instruction, `else` or `end`
 /// where it fails.
 #[derive(Clone, Copy, Debug, PartialEq, Eq)]
 pub enum BodyFail {
     Memory,
-    Invalid { rule: u8, at: u64 },
+    Invalid { rule: Rule, at: u64 },
 }
 
 /// The same without the place, where the check stops: small enough to be handed up in a register.
 #[derive(Clone, Copy, Debug, PartialEq, Eq)]
 enum Flaw {
     Memory,
-    Breaks(u8),
+    Breaks(Rule),
 }
 
 impl From<AllocError> for Flaw {
@@ -90,7 +90,7 @@ fn check_body(
         check_instr(context, labels, o, instr, at)?;
     }
     if !ends(o, gives) {
-        return Err(Flaw::Breaks(8));
+        return Err(Flaw::Breaks(Rule::StackTypes));
     }
     o.base = base;
     o.free = free;
@@ -136,7 +136,7 @@ fn check_instr(
             else_arm,
         } => {
             if !pop(o, ValType::I32) {
-                return Err(Flaw::Breaks(8));
+                return Err(Flaw::Breaks(Rule::StackTypes));
             }
             *at += 1;
             check_body(context, labels, o, then_arm, *result, *result, at)?;

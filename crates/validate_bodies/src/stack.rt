@@ -8,7 +8,7 @@ ghost use Rattle.validate_table.specs.Table.{sig_of, tested};
 
 use std::alloc::{AllocError, AllocFailed};
 use validate_table::{Asks, listing, same_types};
-use wa_types::ValType;
+use wa_types::{Rule, ValType};
 
 /// Operands of all open constructs: those from `base` on are of the innermost one, and where `free` more may lie below them.
 #[derive(Drop)]
@@ -166,7 +166,7 @@ fn take_off(o: &mut Operands, test: bool, wanted: &[ValType]) -> bool
 
 // Does what an instruction does to the operands, or says which rule fails.
 #[tactic(auto, using(crate::proofs::Lists::levels))]
-pub(crate) fn apply(o: &mut Operands, s: Asks) -> Result<Option<u8>, AllocError>
+pub(crate) fn apply(o: &mut Operands, s: Asks) -> Result<Option<Rule>, AllocError>
     requires { Deep o.old }
     ensures level { IfOk result (λ r. IfNone r (Level o.old o.new)) }
     ensures applied { IfOk result (λ r. Applied (next (sig_of s.entry) (known o.old) o.old.free) r (known o.new) o.new.free) }
@@ -174,14 +174,14 @@ pub(crate) fn apply(o: &mut Operands, s: Asks) -> Result<Option<u8>, AllocError>
     match s {
         Asks::Moves { test, ins, outs } => {
             if !take_off(o, test, ins) {
-                return Ok(Some(8));
+                return Ok(Some(Rule::StackTypes));
             }
             push_all(o, outs)?;
             Ok(None)
         }
         Asks::Leaves { test, ins } => {
             if !take_off(o, test, ins) {
-                return Ok(Some(8));
+                return Ok(Some(Rule::StackTypes));
             }
             o.types.truncate(o.base);
             o.free = true;
@@ -189,23 +189,23 @@ pub(crate) fn apply(o: &mut Operands, s: Asks) -> Result<Option<u8>, AllocError>
         }
         Asks::Drops => {
             if !drop_any(o) {
-                return Ok(Some(8));
+                return Ok(Some(Rule::StackTypes));
             }
             Ok(None)
         }
         Asks::Selects => {
             if !pop(o, ValType::I32) {
-                return Ok(Some(8));
+                return Ok(Some(Rule::StackTypes));
             }
             if !one_of_two(o)? {
-                return Ok(Some(8));
+                return Ok(Some(Rule::StackTypes));
             }
             Ok(None)
         }
         Asks::Lacks(rule) => Ok(Some(rule)),
         Asks::Late { rule, ins, .. } => {
             if !take_off(o, false, ins) {
-                return Ok(Some(8));
+                return Ok(Some(Rule::StackTypes));
             }
             Ok(Some(rule))
         }

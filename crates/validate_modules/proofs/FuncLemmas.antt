@@ -115,7 +115,7 @@ pub fault_of : (m : ModuleValue) (res : Result ModuleValue ValidateFault) (e : V
 fault_of m (Ok u) e i b h = absurd i
 fault_of m (Err f) e i b h = subst (λ (g : ValidateFault). Validates m (Err g)) (sym i) (fault_said m e b h)
 
-pub if_none : {P : Type 0} (Q : ℕ → Type 0) (o : Option ℕ) → MatchOption o P Q → ((n : ℕ) → o ≡ Some n → ⊥) → P
+pub if_none : {P A : Type 0} (Q : A → Type 0) (o : Option A) → MatchOption o P Q → ((n : A) → o ≡ Some n → ⊥) → P
 if_none Q None h none = h
 if_none Q (Some n) h none = absurd (none n refl)
 

@@ -117,7 +117,7 @@ pub fn validate(alloc: Global, module: Module) -> Result<Valid, ValidateFault>
     if let Some(rule) = broken_outside(alloc, &module, &spaces)? {
         return Err(ValidateFault::Invalid {
             func: None,
-            rule,
+            rule: rule.number(),
             at: 0,
         });
     }
@@ -167,7 +167,7 @@ fn check_func(
         Err(BodyFail::Memory) => Err(ValidateFault::Memory),
         Err(BodyFail::Invalid { rule, at }) => Err(ValidateFault::Invalid {
             func: Some((spaces.func_imports + index) as u32),
-            rule,
+            rule: rule.number(),
             at,
         }),
     }

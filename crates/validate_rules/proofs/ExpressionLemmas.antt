@@ -12,7 +12,7 @@ use Rattle.wa_types.specs.Typing.{GlobalType}
 use Rattle.wa_types.specs.Validity.{got_global, is_constant}
 use Rattle.wa_types.specs.FirstFault.{mid}
 use Rattle.wa_types.proofs.ViewLemmas.{in_block, in_loop, in_if}
-use Rattle.validate_table.proofs.InstrKinds.{is_block, is_loop, is_branch, is_plain, kind, code_cons, mid_front}
+use Rattle.validate_table.proofs.InstrKinds.{is_block, is_loop, is_branch, is_plain, leaf_kind, code_cons, mid_front}
 
 -- it names no global, and is no constant
 pub record Other (k : Code) : Type 0 where
@@ -87,7 +87,7 @@ more_plain (call_indirect x) (branch r d b k) h = record { got = refl; constant 
 
 -- of two instructions and more
 more : (x : Instr) (rest : Code) → mid rest ≡ 1 → Other (in_front x rest)
-more x rest h = elim (kind x) [
+more x rest h = elim (leaf_kind x) [
   | is_block r v e ↦ subst Other (sym (ap (λ y. in_front y rest) e ∙ in_block r v rest)) (record { got = refl; constant = λ gs t. refl })
   | is_loop r v e ↦ subst Other (sym (ap (λ y. in_front y rest) e ∙ in_loop r v rest)) (record { got = refl; constant = λ gs t. refl })
   | is_branch r v w e ↦ subst Other (sym (ap (λ y. in_front y rest) e ∙ in_if r v w rest)) (record { got = refl; constant = λ gs t. refl })

@@ -1,6 +1,7 @@
 -- The rules outside bodies, of the lists of a module.
 use Rattle.std.specs.Prelude.{ℕ, List, [], Option, Some, None, Bool, true, if◌then◌else◌}
 use Rattle.std.specs.List.{filter_map}
+use Rattle.wa_types.specs.declared.rules.Rule.TheVariants.{BadLimits, SecondInstance, NotConstant, DuplicateExport, StartType, SecondResult}
 use Rattle.wa_types.specs.declared.syntax.Export.{Export}
 use Rattle.wa_types.specs.declared.syntax.Space.{Space}
 use Rattle.wa_types.specs.Syntax.{Module}
@@ -19,12 +20,12 @@ abbrev pub option_all : {X : Type 0} → (X → Bool) → Option X → Bool
 option_all p None = true
 option_all p (Some x) = p x
 
--- those of the rules 11 to 16 that the module breaks, in rising number
+-- the numbers of the rules from that on limits on that the module breaks, rising
 abbrev pub later : Module → List ℕ
 later m =
-    unless (all_limits_fit m) 11
-    (unless (one_each m) 12
-    (unless (all_constant m) 13
-    (unless (names_differ m) 14
-    (unless (start_lawful m) 15
-    (unless (one_result m) 16 [])))))
+    unless (all_limits_fit m) BadLimits
+    (unless (one_each m) SecondInstance
+    (unless (all_constant m) NotConstant
+    (unless (names_differ m) DuplicateExport
+    (unless (start_lawful m) StartType
+    (unless (one_result m) SecondResult [])))))

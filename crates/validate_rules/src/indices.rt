@@ -1,4 +1,4 @@
-//! Rules 1 to 5 outside the bodies: indices in range.
+//! Indices outside the bodies: each names something.
 
 ghost use Rattle.std.specs.Prelude.{◌≡◌, ◌++◌, map, nat_lt};
 ghost use Rattle.std.specs.List.{flat_map, list_all};
@@ -65,7 +65,7 @@ fn elem_funcs_below(limit: usize, elems: &[Elem]) -> bool
     elems.iter().all(|elem| all_below(limit, &elem.funcs))
 }
 
-/// Rule 2: the functions that element segments, exports and the start name are there (standard, sections 3.4.5,
+/// The functions that element segments, exports and the start name are there (standard, sections 3.4.5,
 /// 3.4.7 and 3.4.8).
 #[tactic(auto, using(crate::proofs::OutsideLemmas::joining))]
 pub(crate) fn funcs_below(
@@ -92,7 +92,7 @@ fn elem_tables_below(limit: usize, elems: &[Elem]) -> bool
     elems.iter().all(|elem| (elem.table as usize) < limit)
 }
 
-/// Rule 3: the tables that element segments and exports name are there (standard, sections 3.4.5 and 3.4.8).
+/// The tables that element segments and exports name are there (standard, sections 3.4.5 and 3.4.8).
 #[tactic(auto, using(crate::proofs::OutsideLemmas::joining))]
 pub(crate) fn tables_below(limit: usize, exports: &[Export], elems: &[Elem]) -> bool
     ensures { result ≡ all_below limit (exported_in Table exports.now ++ map (λ (e : PlainElem). e.table) (map elem_of elems.now)) }
@@ -112,7 +112,7 @@ fn segment_memories_below(limit: usize, segments: &[Segment]) -> bool
         .all(|segment| (segment.memory as usize) < limit)
 }
 
-/// Rule 4: the memories that data segments and exports name are there (standard, sections 3.4.6 and 3.4.8).
+/// The memories that data segments and exports name are there (standard, sections 3.4.6 and 3.4.8).
 #[tactic(auto, using(crate::proofs::OutsideLemmas::joining))]
 pub(crate) fn memories_below(limit: usize, exports: &[Export], segments: &[Segment]) -> bool
     ensures { result ≡ all_below limit (exported_in Memory exports.now ++ map (λ (s : PlainSegment). s.memory) (map segment_of segments.now)) }
@@ -157,7 +157,7 @@ fn segment_offsets_below(limit: usize, segments: &[Segment]) -> bool
         .all(|segment| gets_below(limit, &segment.offset))
 }
 
-/// Rule 5: the globals that exports, and initialisers and offsets of one instruction, name are there (standard,
+/// The globals that exports, and initialisers and offsets of one instruction, name are there (standard,
 /// sections 3.4.8 and 3.3.3.4).
 #[tactic(auto, using(crate::proofs::OutsideLemmas::joining))]
 pub(crate) fn globals_below(

@@ -1,4 +1,4 @@
-//! Rules 11 to 16 outside the bodies.
+//! The rules outside the bodies on limits, constants, the start function and results.
 
 ghost use Rattle.std.specs.Prelude.{◌≡◌, ◌++◌, ◌^◌, ◌&&◌, ◌≤◌, map, length, take, nat_le, slice_get};
 ghost use Rattle.std.specs.List.{filter_map, list_all};
@@ -85,7 +85,7 @@ fn memories_fit(imports: &[Import], memories: &[Limits]) -> bool
     all_fit(65536, memories)
 }
 
-/// Rule 11: tables are within 2^32 entries, memories within 65,536 pages, and no maximum is below its minimum
+/// Tables are within 2^32 entries, memories within 65,536 pages, and no maximum is below its minimum
 /// (standard, sections 3.2.3 and 3.2.4).
 pub(crate) fn all_limits_fit(imports: &[Import], tables: &[Limits], memories: &[Limits]) -> bool
     ensures { result ≡ (list_all (limits_fit (2 ^ 32)) (filter_map (λ (i : ImportValue). imported_table i.kind) imports.now ++ tables.now)
@@ -97,7 +97,7 @@ pub(crate) fn all_limits_fit(imports: &[Import], tables: &[Limits], memories: &[
     memories_fit(imports, memories)
 }
 
-/// Rule 12: there is one table and one memory at most (standard, section 3.4.10).
+/// There is one table and one memory at most (standard, section 3.4.10).
 pub(crate) fn one_each(tables: usize, memories: usize) -> bool
     ensures { result ≡ (nat_le tables 1 && nat_le memories 1) }
 {
@@ -159,7 +159,7 @@ fn segment_offsets_constant(globals: &[GlobalType], segments: &[Segment]) -> boo
     segments.iter().all(|segment| is_constant(globals, ValType::I32, &segment.offset))
 }
 
-/// Rule 13: initialisers are constant, and name imported globals alone; offsets are constant, of type i32 (standard,
+/// Initialisers are constant, and name imported globals alone; offsets are constant, of type i32 (standard,
 /// sections 3.4.4 to 3.4.6 and 3.4.10). The first globals are the imported ones.
 pub(crate) fn all_constant(
     all: &[GlobalType],
@@ -182,7 +182,7 @@ pub(crate) fn all_constant(
     segment_offsets_constant(all, segments)
 }
 
-/// Rule 15: the start function is of type `[] -> []` (standard, section 3.4.7).
+/// The start function is of type `[] -> []` (standard, section 3.4.7).
 #[tactic(auto, using(crate::proofs::OutsideLemmas::looking))]
 pub(crate) fn start_fits(start: Option<u32>, sorts: &[u32], types: &[FuncType]) -> bool
     ensures { result ≡ start_fits start (map (λ s. or_empty (slice_get (map func_type_of types.now) s)) sorts.now) }
@@ -202,7 +202,7 @@ pub(crate) fn start_fits(start: Option<u32>, sorts: &[u32], types: &[FuncType]) 
     ty.results.is_empty()
 }
 
-/// Rule 16: a type has one result at most (standard, section 3.2.2).
+/// A type has one result at most (standard, section 3.2.2).
 #[tactic(auto, using(crate::proofs::OutsideLemmas::listing))]
 pub(crate) fn one_result(types: &[FuncType]) -> bool
     ensures { result ≡ list_all (λ (t : PlainType). nat_le (length t.results) 1) (map func_type_of types.now) }

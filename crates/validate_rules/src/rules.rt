@@ -1,6 +1,7 @@
 //! The rules outside the bodies of a module, in rising number.
 
 ghost use Rattle.std.specs.Prelude.{◌≡◌, [], Some, MatchOption, IfOk, slice_get};
+ghost use Rattle.wa_types.specs.Rules.{number};
 ghost use Rattle.wa_types.specs.Validity.{types_there, funcs_there, tables_there, memories_there, globals_there, all_limits_fit, one_each, all_constant, names_differ, start_lawful};
 ghost use Rattle.wa_types.specs.Validity.{one_result, broken_outside};
 ghost use Rattle.wa_types.specs.View.{module_of};
@@ -12,9 +13,9 @@ use crate::names::names_differ;
 use crate::outside::{all_constant, all_limits_fit, one_each, one_result, start_fits};
 use std::alloc::{AllocError, Global};
 use validate_table::Spaces;
-use wa_types::Module;
+use wa_types::{Module, Rule};
 
-/// Rule 1: the types of imported and defined functions are there (standard, sections 3.2.6, 3.4.1 and 3.4.9).
+/// The types of imported and defined functions are there (standard, sections 3.2.6, 3.4.1 and 3.4.9).
 fn types_there(module: &Module, spaces: &Spaces) -> bool
     requires { SpacesOf (module_of «module».now) spaces.now }
     ensures { result ≡ types_there (module_of «module».now) }
@@ -22,7 +23,7 @@ fn types_there(module: &Module, spaces: &Spaces) -> bool
     all_below(module.types.len(), &spaces.sorts)
 }
 
-/// Rule 2.
+/// The functions that are named are there.
 fn funcs_there(module: &Module, spaces: &Spaces) -> bool
     requires { SpacesOf (module_of «module».now) spaces.now }
     ensures { result ≡ funcs_there (module_of «module».now) }
@@ -31,7 +32,7 @@ fn funcs_there(module: &Module, spaces: &Spaces) -> bool
     funcs_below(limit, &module.exports, module.start, &module.elems)
 }
 
-/// Rule 3.
+/// The tables that are named are there.
 fn tables_there(module: &Module, spaces: &Spaces) -> bool
     requires { SpacesOf (module_of «module».now) spaces.now }
     ensures { result ≡ tables_there (module_of «module».now) }
@@ -39,7 +40,7 @@ fn tables_there(module: &Module, spaces: &Spaces) -> bool
     tables_below(spaces.tables, &module.exports, &module.elems)
 }
 
-/// Rule 4.
+/// The memories that are named are there.
 fn memories_there(module: &Module, spaces: &Spaces) -> bool
     requires { SpacesOf (module_of «module».now) spaces.now }
     ensures { result ≡ memories_there (module_of «module».now) }
@@ -47,7 +48,7 @@ fn memories_there(module: &Module, spaces: &Spaces) -> bool
     memories_below(spaces.memories, &module.exports, &module.segments)
 }
 
-/// Rule 5.
+/// The globals that are named are there.
 fn globals_there(module: &Module, spaces: &Spaces) -> bool
     requires { SpacesOf (module_of «module».now) spaces.now }
     ensures { result ≡ globals_there (module_of «module».now) }
@@ -62,14 +63,14 @@ fn globals_there(module: &Module, spaces: &Spaces) -> bool
     )
 }
 
-/// Rule 11.
+/// The limits of tables and memories are within their ranges.
 fn limits_fit(module: &Module) -> bool
     ensures { result ≡ all_limits_fit (module_of «module».now) }
 {
     all_limits_fit(&module.imports, &module.tables, &module.memories)
 }
 
-/// Rule 12.
+/// There is one table and one memory at most.
 fn single(module: &Module, spaces: &Spaces) -> bool
     requires { SpacesOf (module_of «module».now) spaces.now }
     ensures { result ≡ one_each (module_of «module».now) }
@@ -77,7 +78,7 @@ fn single(module: &Module, spaces: &Spaces) -> bool
     one_each(spaces.tables, spaces.memories)
 }
 
-/// Rule 13.
+/// Initialisers and offsets are constant.
 fn constants(module: &Module, spaces: &Spaces) -> bool
     requires { SpacesOf (module_of «module».now) spaces.now }
     ensures { result ≡ all_constant (module_of «module».now) }
@@ -91,14 +92,14 @@ fn constants(module: &Module, spaces: &Spaces) -> bool
     )
 }
 
-/// Rule 14.
+/// No two exports have one name.
 fn names(alloc: Global, module: &Module) -> Result<bool, AllocError>
     ensures { IfOk result (λ yes. yes ≡ names_differ (module_of «module».now)) }
 {
     names_differ(alloc, &module.exports)
 }
 
-/// Rule 15.
+/// The start function takes and gives nothing.
 fn start_lawful(module: &Module, spaces: &Spaces) -> bool
     requires { SpacesOf (module_of «module».now) spaces.now }
     ensures { result ≡ start_lawful (module_of «module».now) }
@@ -106,35 +107,35 @@ fn start_lawful(module: &Module, spaces: &Spaces) -> bool
     start_fits(module.start, &spaces.sorts, &module.types)
 }
 
-/// Rule 16.
+/// Types have one result at most.
 fn results(module: &Module) -> bool
     ensures { result ≡ one_result (module_of «module».now) }
 {
     one_result(&module.types)
 }
 
-/// The first of the rules 11 to 16 that fails outside the bodies, if one does.
-fn broken_later(alloc: Global, module: &Module, spaces: &Spaces) -> Result<Option<u8>, AllocError>
+/// The first of the rules on limits and those behind it that fails outside the bodies, if one does.
+fn broken_later(alloc: Global, module: &Module, spaces: &Spaces) -> Result<Option<Rule>, AllocError>
     requires { SpacesOf (module_of «module».now) spaces.now }
-    ensures { IfOk result (λ r. MatchOption r (later (module_of «module».now) ≡ []) (λ rule. slice_get (later (module_of «module».now)) 0 ≡ Some rule)) }
+    ensures { IfOk result (λ r. MatchOption r (later (module_of «module».now) ≡ []) (λ rule. slice_get (later (module_of «module».now)) 0 ≡ Some (number rule))) }
 {
     if !limits_fit(module) {
-        return Ok(Some(11));
+        return Ok(Some(Rule::BadLimits));
     }
     if !single(module, spaces) {
-        return Ok(Some(12));
+        return Ok(Some(Rule::SecondInstance));
     }
     if !constants(module, spaces) {
-        return Ok(Some(13));
+        return Ok(Some(Rule::NotConstant));
     }
     if !names(alloc, module)? {
-        return Ok(Some(14));
+        return Ok(Some(Rule::DuplicateExport));
     }
     if !start_lawful(module, spaces) {
-        return Ok(Some(15));
+        return Ok(Some(Rule::StartType));
     }
     if !results(module) {
-        return Ok(Some(16));
+        return Ok(Some(Rule::SecondResult));
     }
     Ok(None)
 }
@@ -144,24 +145,24 @@ pub fn broken_outside(
     alloc: Global,
     module: &Module,
     spaces: &Spaces,
-) -> Result<Option<u8>, AllocError>
+) -> Result<Option<Rule>, AllocError>
     requires { SpacesOf (module_of «module».now) spaces.now }
-    ensures { IfOk result (λ r. MatchOption r (broken_outside (module_of «module».now) ≡ []) (λ rule. slice_get (broken_outside (module_of «module».now)) 0 ≡ Some rule)) }
+    ensures { IfOk result (λ r. MatchOption r (broken_outside (module_of «module».now) ≡ []) (λ rule. slice_get (broken_outside (module_of «module».now)) 0 ≡ Some (number rule))) }
 {
     if !types_there(module, spaces) {
-        return Ok(Some(1));
+        return Ok(Some(Rule::UnknownType));
     }
     if !funcs_there(module, spaces) {
-        return Ok(Some(2));
+        return Ok(Some(Rule::UnknownFunc));
     }
     if !tables_there(module, spaces) {
-        return Ok(Some(3));
+        return Ok(Some(Rule::UnknownTable));
     }
     if !memories_there(module, spaces) {
-        return Ok(Some(4));
+        return Ok(Some(Rule::UnknownMemory));
     }
     if !globals_there(module, spaces) {
-        return Ok(Some(5));
+        return Ok(Some(Rule::UnknownGlobal));
     }
     broken_later(alloc, module, spaces)
 }

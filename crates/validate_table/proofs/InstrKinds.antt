@@ -13,38 +13,38 @@ use Rattle.wa_types.specs.FirstFault.{size, mid}
 use Rattle.wa_types.proofs.ViewLemmas.{in_block, in_loop, in_if, code_step, code_empty, code_none}
 use Rattle.validate_table.specs.Table.{plain_of}
 
-pub data Kind (x : Instr) : Type 0 where
-  is_block : (r : Option ValType) (v : Vec Instr Global) → x ≡ Block r v → Kind x
-  is_loop : (r : Option ValType) (v : Vec Instr Global) → x ≡ Loop r v → Kind x
-  is_branch : (r : Option ValType) (v w : Vec Instr Global) → x ≡ If r v w → Kind x
-  is_plain : (p : Plain) → plain_of x ≡ Some p → ((rest : Code) → in_front x rest ≡ plain p rest) → Kind x
+pub data LeafKind (x : Instr) : Type 0 where
+  is_block : (r : Option ValType) (v : Vec Instr Global) → x ≡ Block r v → LeafKind x
+  is_loop : (r : Option ValType) (v : Vec Instr Global) → x ≡ Loop r v → LeafKind x
+  is_branch : (r : Option ValType) (v w : Vec Instr Global) → x ≡ If r v w → LeafKind x
+  is_plain : (p : Plain) → plain_of x ≡ Some p → ((rest : Code) → in_front x rest ≡ plain p rest) → LeafKind x
 
-pub kind : (x : Instr) → Kind x
+pub leaf_kind : (x : Instr) → LeafKind x
 unfolding in_front plain_of
-kind Unreachable = is_plain _ refl (λ rest. refl)
-kind Nop = is_plain _ refl (λ rest. refl)
-kind Drop = is_plain _ refl (λ rest. refl)
-kind Select = is_plain _ refl (λ rest. refl)
-kind Return = is_plain _ refl (λ rest. refl)
-kind MemorySize = is_plain _ refl (λ rest. refl)
-kind MemoryGrow = is_plain _ refl (λ rest. refl)
-kind (Const v) = is_plain _ refl (λ rest. refl)
-kind (Num op) = is_plain _ refl (λ rest. refl)
-kind (Br l) = is_plain _ refl (λ rest. refl)
-kind (BrIf l) = is_plain _ refl (λ rest. refl)
-kind (BrTable ls l) = is_plain _ refl (λ rest. refl)
-kind (Call x) = is_plain _ refl (λ rest. refl)
-kind (CallIndirect x) = is_plain _ refl (λ rest. refl)
-kind (LocalGet x) = is_plain _ refl (λ rest. refl)
-kind (LocalSet x) = is_plain _ refl (λ rest. refl)
-kind (LocalTee x) = is_plain _ refl (λ rest. refl)
-kind (GlobalGet x) = is_plain _ refl (λ rest. refl)
-kind (GlobalSet x) = is_plain _ refl (λ rest. refl)
-kind (Load op align offset) = is_plain _ refl (λ rest. refl)
-kind (Store op align offset) = is_plain _ refl (λ rest. refl)
-kind (Block' r s k) = is_block r _ (sym (roll-out-Instr (Block' r s k)) ∙ ap roll-Instr (outs-Block' r s k) ∙ rolls-Block r _)
-kind (Loop' r s k) = is_loop r _ (sym (roll-out-Instr (Loop' r s k)) ∙ ap roll-Instr (outs-Loop' r s k) ∙ rolls-Loop r _)
-kind (If' r s k t l) = is_branch r _ _ (sym (roll-out-Instr (If' r s k t l)) ∙ ap roll-Instr (outs-If' r s k t l) ∙ rolls-If r _ _)
+leaf_kind Unreachable = is_plain _ refl (λ rest. refl)
+leaf_kind Nop = is_plain _ refl (λ rest. refl)
+leaf_kind Drop = is_plain _ refl (λ rest. refl)
+leaf_kind Select = is_plain _ refl (λ rest. refl)
+leaf_kind Return = is_plain _ refl (λ rest. refl)
+leaf_kind MemorySize = is_plain _ refl (λ rest. refl)
+leaf_kind MemoryGrow = is_plain _ refl (λ rest. refl)
+leaf_kind (Const v) = is_plain _ refl (λ rest. refl)
+leaf_kind (Num op) = is_plain _ refl (λ rest. refl)
+leaf_kind (Br l) = is_plain _ refl (λ rest. refl)
+leaf_kind (BrIf l) = is_plain _ refl (λ rest. refl)
+leaf_kind (BrTable ls l) = is_plain _ refl (λ rest. refl)
+leaf_kind (Call x) = is_plain _ refl (λ rest. refl)
+leaf_kind (CallIndirect x) = is_plain _ refl (λ rest. refl)
+leaf_kind (LocalGet x) = is_plain _ refl (λ rest. refl)
+leaf_kind (LocalSet x) = is_plain _ refl (λ rest. refl)
+leaf_kind (LocalTee x) = is_plain _ refl (λ rest. refl)
+leaf_kind (GlobalGet x) = is_plain _ refl (λ rest. refl)
+leaf_kind (GlobalSet x) = is_plain _ refl (λ rest. refl)
+leaf_kind (Load op align offset) = is_plain _ refl (λ rest. refl)
+leaf_kind (Store op align offset) = is_plain _ refl (λ rest. refl)
+leaf_kind (Block' r s k) = is_block r _ (sym (roll-out-Instr (Block' r s k)) ∙ ap roll-Instr (outs-Block' r s k) ∙ rolls-Block r _)
+leaf_kind (Loop' r s k) = is_loop r _ (sym (roll-out-Instr (Loop' r s k)) ∙ ap roll-Instr (outs-Loop' r s k) ∙ rolls-Loop r _)
+leaf_kind (If' r s k t l) = is_branch r _ _ (sym (roll-out-Instr (If' r s k t l)) ∙ ap roll-Instr (outs-If' r s k t l) ∙ rolls-If r _ _)
 
 pub size_plain : (p : Plain) (rest : Code) → size (plain p rest) ≡ 1 + size rest
 unfolding size
@@ -72,7 +72,7 @@ pub size_if : (r : Option ValType) (v w : Vec Instr Global) (rest : Code) → si
 size_if r v w rest = ap size (in_if r v w rest) ∙ size_branch r (code v.items) (code w.items) rest
 
 pub size_front : (x : Instr) (rest : Code) → size (in_front x rest) ≡ size (in_front x done) + size rest
-size_front x rest = elim (kind x) [
+size_front x rest = elim (leaf_kind x) [
   | is_block r v e ↦ subst (λ (y : Instr). size (in_front y rest) ≡ size (in_front y done) + size rest) (sym e) (omega (arith, size_block r v rest, size_block r v done, size_done))
   | is_loop r v e ↦ subst (λ (y : Instr). size (in_front y rest) ≡ size (in_front y done) + size rest) (sym e) (omega (arith, size_loop r v rest, size_loop r v done, size_done))
   | is_branch r v w e ↦ subst (λ (y : Instr). size (in_front y rest) ≡ size (in_front y done) + size rest) (sym e) (omega (arith, size_if r v w rest, size_if r v w done, size_done))
@@ -91,7 +91,7 @@ size_empty xs i h = ap size (code_empty xs i h) ∙ size_done
 
 -- an else is counted where its arm isn't empty
 pub mid_front : (x : Instr) (rest : Code) → mid (in_front x rest) ≡ 1
-mid_front x rest = elim (kind x) [
+mid_front x rest = elim (leaf_kind x) [
   | is_block r v e ↦ ap (λ (y : Instr). mid (in_front y rest)) e ∙ ap mid (in_block r v rest)
   | is_loop r v e ↦ ap (λ (y : Instr). mid (in_front y rest)) e ∙ ap mid (in_loop r v rest)
   | is_branch r v w e ↦ ap (λ (y : Instr). mid (in_front y rest)) e ∙ ap mid (in_if r v w rest)

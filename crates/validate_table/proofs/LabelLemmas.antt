@@ -5,7 +5,7 @@ use Rattle.std.proofs.lemmas.Bool.{lt-ltb}
 use Rattle.std.proofs.lemmas.Option.{slice_get-get_or, slice_get_past, slice_get_within}
 use Rattle.wa_types.specs.declared.values.ValType.{ValType}
 use Rattle.wa_types.specs.Typing.{listed, all_there, all_alike, agrees_with, same_result}
-use Rattle.wasm_tree.proofs.PruneLemmas.{block_unlike, loop_unlike, if_unlike}
+use Rattle.wa_types.proofs.LeafLemmas.{block_unlike, loop_unlike, if_unlike}
 
 pub label_is : (xs : List (Option ValType)) (l : ℕ) (d : Option ValType) → l < length xs → slice_get (reverse xs) l ≡ Some (get_or xs (length xs - 1 - l) d)
 label_is xs l d h = (let m : l < length (reverse xs) = omega (arith, length-reverse xs) in slice_get-get_or (reverse xs) l d m) ∙ ap Some (get_or-reverse xs l d h)

@@ -6,12 +6,12 @@ ghost use Rattle.wa_types.specs.declared.values.ValType.TheVariants.{I32};
 ghost use Rattle.wa_types.specs.declared.instrs.Instr.TheVariants as Instr;
 ghost use Rattle.wa_types.specs.Typing.{same_result, listed, sig, all_there, all_alike, jumps, jump, may_jump, calls, calls_at, gets, sets, tees, gets_global, sets_global, loads, stores};
 ghost use Rattle.wa_types.specs.Typing.{with_memory, moves, leaves};
-ghost use Rattle.wasm_tree.specs.Kinds.{is_leaf};
+ghost use Rattle.wa_types.specs.Leaves.{is_leaf};
 ghost use Rattle.validate_table.specs.Table.{plain_of, sig_of, Says};
 
 use instr_tables::{load_access, operands_of, result_of, same_types, store_access, type_of_value};
 use validate_spaces::Context;
-use wa_types::{Instr, ValType};
+use wa_types::{Instr, Rule, ValType};
 
 /// What an instruction asks of the operands, the deepest first, and whether an i32 lies on them; or the rule that it
 /// breaks, whatever the operands are.
@@ -30,10 +30,10 @@ pub enum Asks<'a> {
     },
     Drops,
     Selects,
-    Lacks(u8),
+    Lacks(Rule),
     /// Asks for operands, and then breaks a rule.
     Late {
-        rule: u8,
+        rule: Rule,
         ins: &'a [ValType],
         outs: &'a [ValType],
     },
@@ -101,13 +101,13 @@ fn jumping(labels: &[Option<ValType>], table: &[u32], last: u32) -> Asks<'static
     ensures { sig_of result ≡ jumps (reverse labels.now) table.now (slice_get (reverse labels.now) last) }
 {
     let Some(r) = label_at(labels, last) else {
-        return Asks::Lacks(7);
+        return Asks::Lacks(Rule::UnknownLabel);
     };
     if !all_alike(labels, r, table) {
         if !all_there(labels, table) {
-            return Asks::Lacks(7);
+            return Asks::Lacks(Rule::UnknownLabel);
         }
-        return Asks::Lacks(8);
+        return Asks::Lacks(Rule::StackTypes);
     }
     Asks::Leaves {
         test: true,
@@ -120,7 +120,7 @@ fn branching(labels: &[Option<ValType>], l: u32) -> Asks<'static>
     ensures { sig_of result ≡ jump (slice_get (reverse labels.now) l) }
 {
     let Some(r) = label_at(labels, l) else {
-        return Asks::Lacks(7);
+        return Asks::Lacks(Rule::UnknownLabel);
     };
     Asks::Leaves {
         test: false,
@@ -133,7 +133,7 @@ fn testing(labels: &[Option<ValType>], l: u32) -> Asks<'static>
     ensures { sig_of result ≡ may_jump (slice_get (reverse labels.now) l) }
 {
     let Some(r) = label_at(labels, l) else {
-        return Asks::Lacks(7);
+        return Asks::Lacks(Rule::UnknownLabel);
     };
     Asks::Moves {
         test: true,
@@ -147,7 +147,7 @@ fn calling<'m>(context: &Context<'m>, x: u32) -> Asks<'m>
     ensures { sig_of result ≡ calls (slice_get context.now.funcs x) }
 {
     let Some(ty) = context.func(x) else {
-        return Asks::Lacks(2);
+        return Asks::Lacks(Rule::UnknownFunc);
     };
     Asks::Moves {
         test: false,
@@ -161,10 +161,10 @@ fn calling_at<'m>(context: &Context<'m>, x: u32) -> Asks<'m>
     ensures { sig_of result ≡ calls_at context.now.table (slice_get context.now.types x) }
 {
     let Some(ty) = context.sort(x) else {
-        return Asks::Lacks(1);
+        return Asks::Lacks(Rule::UnknownType);
     };
     if !context.has_table() {
-        return Asks::Lacks(3);
+        return Asks::Lacks(Rule::UnknownTable);
     }
     Asks::Moves {
         test: true,
@@ -178,7 +178,7 @@ fn getting(local: Option<ValType>) -> Asks<'static>
     ensures { sig_of result ≡ gets local }
 {
     let Some(ty) = local else {
-        return Asks::Lacks(6);
+        return Asks::Lacks(Rule::UnknownLocal);
     };
     Asks::Moves {
         test: false,
@@ -192,7 +192,7 @@ fn setting(local: Option<ValType>) -> Asks<'static>
     ensures { sig_of result ≡ sets local }
 {
     let Some(ty) = local else {
-        return Asks::Lacks(6);
+        return Asks::Lacks(Rule::UnknownLocal);
     };
     Asks::Moves {
         test: false,
@@ -206,7 +206,7 @@ fn teeing(local: Option<ValType>) -> Asks<'static>
     ensures { sig_of result ≡ tees local }
 {
     let Some(ty) = local else {
-        return Asks::Lacks(6);
+        return Asks::Lacks(Rule::UnknownLocal);
     };
     Asks::Moves {
         test: false,
@@ -220,7 +220,7 @@ fn getting_global(context: &Context<'_>, x: u32) -> Asks<'static>
     ensures { sig_of result ≡ gets_global (slice_get context.now.globals x) }
 {
     let Some(global) = context.global(x) else {
-        return Asks::Lacks(5);
+        return Asks::Lacks(Rule::UnknownGlobal);
     };
     Asks::Moves {
         test: false,
@@ -234,11 +234,11 @@ fn setting_global(context: &Context<'_>, x: u32) -> Asks<'static>
     ensures { sig_of result ≡ sets_global (slice_get context.now.globals x) }
 {
     let Some(global) = context.global(x) else {
-        return Asks::Lacks(5);
+        return Asks::Lacks(Rule::UnknownGlobal);
     };
     if !global.mutable {
         return Asks::Late {
-            rule: 10,
+            rule: Rule::ConstantGlobal,
             ins: listing(Some(global.ty)),
             outs: listing(None),
         };
@@ -255,15 +255,19 @@ fn loading(memory: bool, op: u8, align: u32) -> Asks<'static>
     ensures { sig_of result ≡ loads memory align (load_row op) }
 {
     if !memory {
-        return Asks::Lacks(4);
+        return Asks::Lacks(Rule::UnknownMemory);
     }
     let Some(access) = load_access(op) else {
-        return Asks::Lacks(8);
+        return Asks::Lacks(Rule::StackTypes);
     };
     let ins = listing(Some(ValType::I32));
     let outs = listing(Some(access.ty));
     if align > access.natural {
-        return Asks::Late { rule: 9, ins, outs };
+        return Asks::Late {
+            rule: Rule::Alignment,
+            ins,
+            outs,
+        };
     }
     Asks::Moves {
         test: false,
@@ -287,15 +291,19 @@ fn storing(memory: bool, op: u8, align: u32) -> Asks<'static>
     ensures { sig_of result ≡ stores memory align (store_row op) }
 {
     if !memory {
-        return Asks::Lacks(4);
+        return Asks::Lacks(Rule::UnknownMemory);
     }
     let Some(access) = store_access(op) else {
-        return Asks::Lacks(8);
+        return Asks::Lacks(Rule::StackTypes);
     };
     let ins = address_and(access.ty);
     let outs = listing(None);
     if align > access.natural {
-        return Asks::Late { rule: 9, ins, outs };
+        return Asks::Late {
+            rule: Rule::Alignment,
+            ins,
+            outs,
+        };
     }
     Asks::Moves {
         test: false,
@@ -309,7 +317,7 @@ fn with_memory(memory: bool, ins: Option<ValType>, outs: Option<ValType>) -> Ask
     ensures { sig_of result ≡ with_memory memory (listed ins) (listed outs) }
 {
     if !memory {
-        return Asks::Lacks(4);
+        return Asks::Lacks(Rule::UnknownMemory);
     }
     Asks::Moves {
         test: false,

@@ -13,6 +13,8 @@ use Rattle.wa_types.specs.Accesses.{AccessRow, load_row, store_row}
 use Rattle.wa_types.specs.Encoding.{same_type}
 use Rattle.wa_types.specs.Memory.{Memory, pages_of, number_at, with_number as number_put, grown}
 use Rattle.wa_types.specs.Syntax.{Basic, nop, drop as a_drop, select, const, num, global_get, global_set, load, store, memory_size, memory_grow, Module}
+use Rattle.wa_types.specs.declared.rules.Rule.{Rule}
+use Rattle.wa_types.specs.declared.rules.Rule.TheVariants.{Alignment, ConstantGlobal}
 use Rattle.wa_types.specs.Typing.{GlobalType, Around, type_of, moves, late, gets_global, sets_global, loads, stores, with_memory as in_memory, basic_sig, Takes}
 use Rattle.wa_types.specs.Modules.{all_globals}
 use Rattle.wa_ops.specs.Operate.{operate, value_of, number_of}
@@ -155,7 +157,7 @@ module _ (m : Module) where
 -- ---- what typed instructions take
 
 -- a rule that holds where the instruction is typed
-moves_where : (b : Bool) (rule : ℕ) (ps rs ins outs : List ValType) → Takes (if b then moves ps rs else late rule ps rs) ins outs → Takes (moves ps rs) ins outs
+moves_where : (b : Bool) (rule : Rule) (ps rs ins outs : List ValType) → Takes (if b then moves ps rs else late rule ps rs) ins outs → Takes (moves ps rs) ins outs
 moves_where true rule ps rs ins outs h = h
 moves_where false rule ps rs ins outs h = absurd h
 
@@ -167,21 +169,21 @@ got_moves (Some g) ins outs h = (g, refl, h)
 -- there is a global, and its type is taken
 pub set_moves : (o : Option GlobalType) (ins outs : List ValType) → Takes (sets_global o) ins outs → (g : GlobalType) × (o ≡ Some g) × Takes (moves (g.ty ∷ []) []) ins outs
 set_moves None ins outs h = absurd h
-set_moves (Some g) ins outs h = (g, refl, moves_where g.mutable 10 (g.ty ∷ []) [] ins outs h)
+set_moves (Some g) ins outs h = (g, refl, moves_where g.mutable ConstantGlobal (g.ty ∷ []) [] ins outs h)
 
 -- there is a row of the load, and its type is given
 pub load_moves : (memory : Bool) (align : ℕ) (o : Option AccessRow) (ins outs : List ValType) → Takes (loads memory align o) ins outs
     → (row : AccessRow) × (o ≡ Some row) × Takes (moves (I32 ∷ []) (row.ty ∷ [])) ins outs
 load_moves false align o ins outs h = absurd h
 load_moves true align None ins outs h = absurd h
-load_moves true align (Some row) ins outs h = (row, refl, moves_where (nat_le align row.natural) 9 (I32 ∷ []) (row.ty ∷ []) ins outs h)
+load_moves true align (Some row) ins outs h = (row, refl, moves_where (nat_le align row.natural) Alignment (I32 ∷ []) (row.ty ∷ []) ins outs h)
 
 -- there is a row of the store, and its type is taken
 pub store_moves : (memory : Bool) (align : ℕ) (o : Option AccessRow) (ins outs : List ValType) → Takes (stores memory align o) ins outs
     → (row : AccessRow) × (o ≡ Some row) × Takes (moves (row.ty ∷ I32 ∷ []) []) ins outs
 store_moves false align o ins outs h = absurd h
 store_moves true align None ins outs h = absurd h
-store_moves true align (Some row) ins outs h = (row, refl, moves_where (nat_le align row.natural) 9 (row.ty ∷ I32 ∷ []) [] ins outs h)
+store_moves true align (Some row) ins outs h = (row, refl, moves_where (nat_le align row.natural) Alignment (row.ty ∷ I32 ∷ []) [] ins outs h)
 
 -- there is a memory
 pub memory_moves : (memory : Bool) (ps rs ins outs : List ValType) → Takes (in_memory memory ps rs) ins outs → Takes (moves ps rs) ins outs

@@ -13,6 +13,7 @@ use Rattle.wa_types.specs.Counts.{depth_of}
 use Rattle.wa_types.specs.Pruned.{is_last}
 use Rattle.wa_types.specs.Syntax.{Plain, basic, local_get, local_set, local_tee, br, br_if, br_table, return, unreachable, call, call_indirect, a_block, a_loop, Code, done, plain, nest}
 use Rattle.wa_types.specs.Syntax.{branch, FuncType, Func, Module}
+use Rattle.wa_types.specs.declared.rules.Rule.TheVariants.{UnknownLabel, StackTypes}
 use Rattle.wa_types.specs.Typing.{Around, Sig, moves, leaves, drops, selects, lacks, late, listed, type_of, same_result, all_there, agrees_with, all_alike, jump as jump_sig, may_jump, jumps}
 use Rattle.wa_types.specs.Typing.{calls, calls_at, gets, sets, tees, basic_sig, sig, Takes, Types}
 use Rattle.wa_types.specs.Validity.{Valid}
@@ -275,7 +276,7 @@ module _ (m : Module) (v : Valid m) (outs : List ValType) where
         br_table_fits ops labels results code own mids below targets last None e h eo st = absurd h
         br_table_fits ops labels results code own mids below targets last (Some r) e h eo st = by_there (all_there results targets) (all_alike results r targets) refl h
           where
-            by_there : (a b : Bool) → all_alike results r targets ≡ b → Takes (if a then (if b then leaves (I32 ∷ listed r) else lacks 8) else lacks 7) own mids
+            by_there : (a b : Bool) → all_alike results r targets ≡ b → Takes (if a then (if b then leaves (I32 ∷ listed r) else lacks StackTypes) else lacks UnknownLabel) own mids
                 → NextFits m outs (with_number ops (λ n lower. jump (length targets + 1) m s fn under ls lower labels (unwrap_or (slice_get targets n) last)))
             by_there false b z h' = absurd h'
             by_there true false z h' = absurd h'

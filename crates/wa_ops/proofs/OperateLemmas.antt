@@ -1,21 +1,18 @@
 -- Operands of an operator's types have an outcome, and a value that comes out is of its result's type.
-use Rattle.std.proofs.Common.{◌≡◌, ℕ, Bool, true, false, List, [], ◌∷◌, map, length, Option, Some, None, Result, Ok, Err, cond, refl, sym, ◌∙◌, ap, subst, arith}
+use Rattle.std.proofs.Common.{◌≡◌, ℕ, nat_eq, Bool, true, false, List, [], ◌∷◌, map, length, Option, Some, None, Result, Ok, Err, cond, refl, sym, ◌∙◌, ap, subst, arith}
 use Rattle.std.specs.Prelude.{IsSome, ◌&&◌}
 use Rattle.std.specs.Option.{option_map}
 use Rattle.std.proofs.lemmas.List.{length-map}
+use Rattle.std.proofs.lemmas.Bool.{eqb-true}
 use Rattle.wa_types.specs.declared.values.Trap.{Trap}
 use Rattle.wa_types.specs.declared.values.ValType.{ValType}
 use Rattle.wa_types.specs.declared.values.ValType.TheVariants.{I32, I64}
 use Rattle.wa_types.specs.declared.values.Value.{Value}
 use Rattle.wa_types.specs.declared.operators.NumOp.{NumOp}
-use Rattle.wa_types.specs.declared.operators.NumOp.TheVariants.{I32Eqz, I32Eq, I32Ne, I32LtS, I32LtU, I32GtS, I32GtU, I32LeS, I32LeU, I32GeS, I32GeU, I64Eqz, I64Eq, I64Ne, I64LtS, I64LtU}
-use Rattle.wa_types.specs.declared.operators.NumOp.TheVariants.{I64GtS, I64GtU, I64LeS, I64LeU, I64GeS, I64GeU, I32Clz, I32Ctz, I32Popcnt, I32Add, I32Sub, I32Mul, I32DivS, I32DivU, I32RemS}
-use Rattle.wa_types.specs.declared.operators.NumOp.TheVariants.{I32RemU, I32And, I32Or, I32Xor, I32Shl, I32ShrS, I32ShrU, I32Rotl, I32Rotr, I64Clz, I64Ctz, I64Popcnt, I64Add, I64Sub, I64Mul}
-use Rattle.wa_types.specs.declared.operators.NumOp.TheVariants.{I64DivS, I64DivU, I64RemS, I64RemU, I64And, I64Or, I64Xor, I64Shl, I64ShrS, I64ShrU, I64Rotl, I64Rotr, I32WrapI64}
-use Rattle.wa_types.specs.declared.operators.NumOp.TheVariants.{I64ExtendI32S, I64ExtendI32U}
 use Rattle.wa_types.specs.Operators.{operand_types, result_type}
 use Rattle.wa_types.specs.Encoding.{same_type}
 use Rattle.wa_types.specs.Typing.{type_of}
+use Rattle.wa_types.proofs.OperatorLemmas.{operators, each_operator}
 use Rattle.wa_ops.specs.Operate.{Meaning, unary, conversion, comparison, binary, meaning_of, number_of, value_of, are_of, applied, valued, operate}
 
 same_type-same : (t : ValType) → same_type t t ≡ true
@@ -34,68 +31,9 @@ arity (comparison f) = 2
 arity (binary f) = 2
 
 arity_is : (op : NumOp) → length (operand_types op) ≡ arity (meaning_of op)
-unfolding arity
-arity_is I32Eqz = refl
-arity_is I32Eq = refl
-arity_is I32Ne = refl
-arity_is I32LtS = refl
-arity_is I32LtU = refl
-arity_is I32GtS = refl
-arity_is I32GtU = refl
-arity_is I32LeS = refl
-arity_is I32LeU = refl
-arity_is I32GeS = refl
-arity_is I32GeU = refl
-arity_is I64Eqz = refl
-arity_is I64Eq = refl
-arity_is I64Ne = refl
-arity_is I64LtS = refl
-arity_is I64LtU = refl
-arity_is I64GtS = refl
-arity_is I64GtU = refl
-arity_is I64LeS = refl
-arity_is I64LeU = refl
-arity_is I64GeS = refl
-arity_is I64GeU = refl
-arity_is I32Clz = refl
-arity_is I32Ctz = refl
-arity_is I32Popcnt = refl
-arity_is I32Add = refl
-arity_is I32Sub = refl
-arity_is I32Mul = refl
-arity_is I32DivS = refl
-arity_is I32DivU = refl
-arity_is I32RemS = refl
-arity_is I32RemU = refl
-arity_is I32And = refl
-arity_is I32Or = refl
-arity_is I32Xor = refl
-arity_is I32Shl = refl
-arity_is I32ShrS = refl
-arity_is I32ShrU = refl
-arity_is I32Rotl = refl
-arity_is I32Rotr = refl
-arity_is I64Clz = refl
-arity_is I64Ctz = refl
-arity_is I64Popcnt = refl
-arity_is I64Add = refl
-arity_is I64Sub = refl
-arity_is I64Mul = refl
-arity_is I64DivS = refl
-arity_is I64DivU = refl
-arity_is I64RemS = refl
-arity_is I64RemU = refl
-arity_is I64And = refl
-arity_is I64Or = refl
-arity_is I64Xor = refl
-arity_is I64Shl = refl
-arity_is I64ShrS = refl
-arity_is I64ShrU = refl
-arity_is I64Rotl = refl
-arity_is I64Rotr = refl
-arity_is I32WrapI64 = refl
-arity_is I64ExtendI32S = refl
-arity_is I64ExtendI32U = refl
+unfolding operators arity
+arity_is op =
+    eqb-true (length (operand_types op)) (arity (meaning_of op)) (each_operator (λ (n : NumOp). nat_eq (length (operand_types n)) (arity (meaning_of n))) refl op)
 
 applied_to : (m : Meaning) (numbers : List ℕ) → length numbers ≡ arity m → IsSome (applied m numbers)
 unfolding arity

@@ -3,11 +3,12 @@ use Rattle.std.proofs.Common.{arith, ◌≡◌, ℕ, zero, suc, ◌+◌, ◌-◌
 use Rattle.wa_types.specs.declared.values.ValType.{ValType}
 use Rattle.wa_types.specs.Syntax.{unreachable, Code, done, plain, nest, branch}
 use Rattle.wa_types.specs.Typing.{Around, Sig, moves, leaves, drops, selects, lacks, late, listed, sig, Takes, label, Types}
+use Rattle.wa_types.specs.Rules.{above_all}
 use Rattle.wa_types.specs.FirstFault.{mid, size, Meets, UpTo, cut}
 use Rattle.wa_types.proofs.SigLemmas.{Lawful, lawful}
 
 -- where all rules hold of an instruction, it takes its operands to some
-met : (s : Sig) (ins : List ValType) → Lawful s → Meets 17 s ins → (outs : List ValType) × Takes s ins outs
+met : (s : Sig) (ins : List ValType) → Lawful s → Meets above_all s ins → (outs : List ValType) × Takes s ins outs
 met (moves ps rs) ins k (inl h) = absurd (omega arith)
 met (moves ps rs) ins k (inr h) = h
 met (leaves ps) ins k (inl h) = absurd (omega arith)
@@ -24,7 +25,7 @@ any_types : (c : Around) (ls : List (Option ValType)) (outs ins : List ValType) 
 unfolding Types
 any_types c ls outs ins = (outs, (ins, refl), refl)
 
-pub cut_typed : (c : Around) (ls : List (Option ValType)) (k : Code) (outs ins : List ValType) (n : ℕ) → UpTo 17 c ls k outs ins n → Types c ls (cut n k) outs ins
+pub cut_typed : (c : Around) (ls : List (Option ValType)) (k : Code) (outs ins : List ValType) (n : ℕ) → UpTo above_all c ls k outs ins n → Types c ls (cut n k) outs ins
 unfolding UpTo Types cut
 cut_typed c ls k outs ins zero h = any_types c ls outs ins
 cut_typed c ls done outs ins (suc n) (inl h) = absurd (omega (arith, h.1))

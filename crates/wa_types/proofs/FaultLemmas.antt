@@ -1,5 +1,7 @@
 -- A module has one first fault, and a valid one has none.
 use Rattle.std.proofs.Common.{arith, ◌≡◌, ℕ, suc, ◌+◌, ◌<◌, inl, inr, List, [], ◌∷◌, Option, Some, None, Bool, true, false, slice_get, refl, sym, ap, ◌∙◌, subst}
+use Rattle.wa_types.specs.declared.rules.Rule.{Rule}
+use Rattle.wa_types.specs.Rules.{above_all}
 use Rattle.wa_types.specs.Syntax.{Code, Func, Module}
 use Rattle.wa_types.specs.Typing.{Around, listed, Typed}
 use Rattle.wa_types.specs.Modules.{func_imports, around}
@@ -74,24 +76,24 @@ one_first_fault m (Some x) None r s at to f g = absurd (none_broken m s g.0 f.2)
 one_first_fault m (Some x) (Some y) r s at to f g =
     let e = one_func_fault m f.0 g.0 r s at to f.3 g.3 in (ap Some (f.1 ∙ ap (λ i. func_imports m + i) e.0 ∙ sym g.1), e.1.0, e.1.1)
 
-unless_true : (b : Bool) (r : ℕ) (more : List ℕ) → b ≡ true → unless b r more ≡ more
+unless_true : (b : Bool) (r : Rule) (more : List ℕ) → b ≡ true → unless b r more ≡ more
 unless_true true r more e = refl
 unless_true false r more e = cc
 
 -- A valid module breaks no rule outside its bodies.
 pub valid_outside : (m : Module) → Valid m → broken_outside m ≡ []
 valid_outside m v =
-    unless_true (types_there m) 1 _ v.sorts
-    ∙ unless_true (funcs_there m) 2 _ v.funcs
-    ∙ unless_true (tables_there m) 3 _ v.tables
-    ∙ unless_true (memories_there m) 4 _ v.memories
-    ∙ unless_true (globals_there m) 5 _ v.globals
-    ∙ unless_true (all_limits_fit m) 11 _ v.limits
-    ∙ unless_true (one_each m) 12 _ v.single
-    ∙ unless_true (all_constant m) 13 _ v.constants
-    ∙ unless_true (names_differ m) 14 _ v.names
-    ∙ unless_true (start_lawful m) 15 _ v.start
-    ∙ unless_true (one_result m) 16 [] v.types
+    unless_true (types_there m) _ _ v.sorts
+    ∙ unless_true (funcs_there m) _ _ v.funcs
+    ∙ unless_true (tables_there m) _ _ v.tables
+    ∙ unless_true (memories_there m) _ _ v.memories
+    ∙ unless_true (globals_there m) _ _ v.globals
+    ∙ unless_true (all_limits_fit m) _ _ v.limits
+    ∙ unless_true (one_each m) _ _ v.single
+    ∙ unless_true (all_constant m) _ _ v.constants
+    ∙ unless_true (names_differ m) _ _ v.names
+    ∙ unless_true (start_lawful m) _ _ v.start
+    ∙ unless_true (one_result m) _ [] v.types
 
 -- A valid module has no first fault.
 pub valid_no_fault : (m : Module) (x : Option ℕ) (r at : ℕ) → Valid m → FirstFault m x r at → ⊥
@@ -99,24 +101,24 @@ valid_no_fault m None r at v f = none_broken m r f.0 (valid_outside m v)
 valid_no_fault m (Some x) r at v f =
     fault_not_typed (around m f.3.func) f.3.func.body r at f.3.fault (v.bodies f.0 f.3.func f.3.found)
 
-unless_false : (b : Bool) (r : ℕ) (more : List ℕ) → unless b r more ≡ [] → (b ≡ true) × (more ≡ [])
+unless_false : (b : Bool) (r : Rule) (more : List ℕ) → unless b r more ≡ [] → (b ≡ true) × (more ≡ [])
 unless_false true r more e = (refl, e)
 unless_false false r more e = cc
 
 -- A module that breaks no rule outside its bodies and whose bodies are typed is valid.
 pub all_hold_valid : (m : Module) → broken_outside m ≡ [] → ((i : ℕ) → (f : Func) → slice_get m.funcs i ≡ Some f → Typed (around m f) f.body) → Valid m
 all_hold_valid m e bodies =
-    let a = unless_false (types_there m) 1 _ e in
-    let b = unless_false (funcs_there m) 2 _ a.1 in
-    let c = unless_false (tables_there m) 3 _ b.1 in
-    let d = unless_false (memories_there m) 4 _ c.1 in
-    let f = unless_false (globals_there m) 5 _ d.1 in
-    let g = unless_false (all_limits_fit m) 11 _ f.1 in
-    let h = unless_false (one_each m) 12 _ g.1 in
-    let i = unless_false (all_constant m) 13 _ h.1 in
-    let j = unless_false (names_differ m) 14 _ i.1 in
-    let k = unless_false (start_lawful m) 15 _ j.1 in
-    let l = unless_false (one_result m) 16 [] k.1 in
+    let a = unless_false (types_there m) _ _ e in
+    let b = unless_false (funcs_there m) _ _ a.1 in
+    let c = unless_false (tables_there m) _ _ b.1 in
+    let d = unless_false (memories_there m) _ _ c.1 in
+    let f = unless_false (globals_there m) _ _ d.1 in
+    let g = unless_false (all_limits_fit m) _ _ f.1 in
+    let h = unless_false (one_each m) _ _ g.1 in
+    let i = unless_false (all_constant m) _ _ h.1 in
+    let j = unless_false (names_differ m) _ _ i.1 in
+    let k = unless_false (start_lawful m) _ _ j.1 in
+    let l = unless_false (one_result m) _ [] k.1 in
     record {
       types = l.0;
       sorts = a.0;
@@ -135,6 +137,6 @@ all_hold_valid m e bodies =
 -- Before its fault a body is typed as far as it goes, and with it it isn't.
 pub fault_is_first : (c : Around) (body : Code) (r at : ℕ) → BodyFault c body r at → Typed c (cut at body) × (Typed c (cut (suc at) body) → ⊥)
 fault_is_first c body r at f = (
-  cut_typed c (c.result ∷ []) body (listed c.result) [] at (upto_less r 17 c (c.result ∷ []) body (listed c.result) [] at (suc at) (omega arith) f.before),
+  cut_typed c (c.result ∷ []) body (listed c.result) [] at (upto_less r above_all c (c.result ∷ []) body (listed c.result) [] at (suc at) (omega arith) f.before),
   λ h. f.fails (typed_cut (suc r) c (c.result ∷ []) body (listed c.result) [] (suc at) h),
 )

@@ -2,10 +2,12 @@ pub mod AccessLemmas
 pub mod Copying
 pub mod Cuts
 pub mod FaultLemmas
+pub mod LeafLemmas
 pub mod LebAnswers
 pub mod LebLemmas
 pub mod LiveLemmas
 pub mod MemoryLemmas
+pub mod OperatorLemmas
 pub mod PlaceLemmas
 pub mod PointLemmas
 pub mod SigLemmas

@@ -7,6 +7,7 @@ use Rattle.wa_types.specs.Accesses.{AccessRow, load_row, store_row}
 use Rattle.wa_types.specs.Syntax.{Basic, nop, drop as drop_operand, select, const, num, global_get, global_set, load, store, memory_size, memory_grow, Plain, basic, local_get, local_set}
 use Rattle.wa_types.specs.Syntax.{local_tee, br, br_if, br_table, return, unreachable, call, call_indirect, Code, done, plain, nest, branch, FuncType}
 use Rattle.wa_types.specs.Pruned.{is_last}
+use Rattle.wa_types.specs.declared.rules.Rule.TheVariants.{Alignment, ConstantGlobal}
 use Rattle.wa_types.specs.Typing.{GlobalType, Around, Sig, moves, leaves, drops, selects, lacks, late, listed, sig, basic_sig, may_jump, calls, calls_at, gets, sets, tees, gets_global}
 use Rattle.wa_types.specs.Typing.{sets_global, accesses, loads, stores, with_memory, Takes, label, Types}
 use Rattle.wa_types.specs.Points.{Unless, AtPoint, after, unless_last, points}
@@ -78,10 +79,10 @@ passes_gets_global (Some g) = tt
 
 passes_sets_global : (o : Option GlobalType) → Passes (sets_global o)
 passes_sets_global None = tt
-passes_sets_global (Some g) = passes_if g.mutable (moves (g.ty ∷ []) []) (late 10 (g.ty ∷ []) []) tt tt
+passes_sets_global (Some g) = passes_if g.mutable (moves (g.ty ∷ []) []) (late ConstantGlobal (g.ty ∷ []) []) tt tt
 
 passes_accesses : (align : ℕ) (row : AccessRow) (ins outs : List ValType) → Passes (accesses align row ins outs)
-passes_accesses align row ins outs = passes_if (nat_le align row.natural) (moves ins outs) (late 9 ins outs) tt tt
+passes_accesses align row ins outs = passes_if (nat_le align row.natural) (moves ins outs) (late Alignment ins outs) tt tt
 
 passes_loads : (b : Bool) (align : ℕ) (o : Option AccessRow) → Passes (loads b align o)
 passes_loads false align o = tt

@@ -1,18 +1,20 @@
 -- What holds of each row of the table of instructions.
-use Rattle.std.proofs.Common.{arith, ◌≡◌, ℕ, ◌≤◌, nat_le, List, [], ◌∷◌, Option, Some, None, Bool, true, false, if◌then◌else◌, slice_get}
+use Rattle.std.proofs.Common.{arith, ◌≡◌, ℕ, ◌<◌, ◌≤◌, nat_le, List, [], ◌∷◌, Option, Some, None, Bool, true, false, if◌then◌else◌, slice_get}
 use Rattle.wa_types.specs.declared.values.ValType.{ValType}
 use Rattle.wa_types.specs.declared.values.ValType.TheVariants.{I32}
 use Rattle.wa_types.specs.Accesses.{AccessRow, load_row, store_row}
 use Rattle.wa_types.specs.Syntax.{Basic, nop, drop, select, const, num, global_get, global_set, load, store, memory_size, memory_grow, Plain, basic, local_get, local_set, local_tee, br}
 use Rattle.wa_types.specs.Syntax.{br_if, br_table, return, unreachable, call, call_indirect, FuncType}
 use Rattle.wa_types.specs.Pruned.{is_last}
+use Rattle.wa_types.specs.Rules.{number, above_all}
+use Rattle.wa_types.specs.declared.rules.Rule.TheVariants.{UnknownLabel, StackTypes, Alignment, ConstantGlobal}
 use Rattle.wa_types.specs.Typing.{GlobalType, Around, Sig, moves, leaves, lacks, late, listed, sig, basic_sig, jump, may_jump, jumps, all_there, all_alike, calls, calls_at, gets, sets, tees}
 use Rattle.wa_types.specs.Typing.{gets_global, sets_global, accesses, loads, stores, with_memory, Takes}
 
--- a rule that operands can't mend is at most 8, and one that is asked behind them from 9 to 16
+-- a rule that operands can't mend is at most that on operands, and one that is asked behind them is above it
 abbrev pub Lawful : Sig → Type 0
-Lawful (lacks r) = r ≤ 8
-Lawful (late r ps rs) = (9 ≤ r) × (r ≤ 16)
+Lawful (lacks r) = number r ≤ number StackTypes
+Lawful (late r ps rs) = (number StackTypes < number r) × (number r < above_all)
 Lawful _ = Unit {0}
 
 lawful_if : (b : Bool) (s t : Sig) → Lawful s → Lawful t → Lawful (if b then s else t)
@@ -30,10 +32,10 @@ lawful_may_jump (Some r) = tt
 lawful_jumps : (ls : List (Option ValType)) (labels : List ℕ) (o : Option (Option ValType)) → Lawful (jumps ls labels o)
 lawful_jumps ls labels None = omega arith
 lawful_jumps ls labels (Some r) =
-    let seven : 7 ≤ 8 = omega arith in
-    let eight : 8 ≤ 8 = omega arith in
-    lawful_if (all_there ls labels) (if all_alike ls r labels then leaves (I32 ∷ listed r) else lacks 8) (lacks 7)
-    (lawful_if (all_alike ls r labels) (leaves (I32 ∷ listed r)) (lacks 8) tt eight) seven
+    let label_lawful : Lawful (lacks UnknownLabel) = omega arith in
+    let mismatch_lawful : Lawful (lacks StackTypes) = omega arith in
+    lawful_if (all_there ls labels) (if all_alike ls r labels then leaves (I32 ∷ listed r) else lacks StackTypes) (lacks UnknownLabel)
+    (lawful_if (all_alike ls r labels) (leaves (I32 ∷ listed r)) (lacks StackTypes) tt mismatch_lawful) label_lawful
 
 lawful_calls : (o : Option FuncType) → Lawful (calls o)
 lawful_calls None = omega arith
@@ -60,18 +62,18 @@ lawful_gets_global : (o : Option GlobalType) → Lawful (gets_global o)
 lawful_gets_global None = omega arith
 lawful_gets_global (Some g) = tt
 
-ten : (9 ≤ 10) × (10 ≤ 16)
-ten = (omega arith, omega arith)
+constant_late : (number StackTypes < number ConstantGlobal) × (number ConstantGlobal < above_all)
+constant_late = (omega arith, omega arith)
 
-nine : (9 ≤ 9) × (9 ≤ 16)
-nine = (omega arith, omega arith)
+alignment_late : (number StackTypes < number Alignment) × (number Alignment < above_all)
+alignment_late = (omega arith, omega arith)
 
 lawful_sets_global : (o : Option GlobalType) → Lawful (sets_global o)
 lawful_sets_global None = omega arith
-lawful_sets_global (Some g) = lawful_if g.mutable (moves (g.ty ∷ []) []) (late 10 (g.ty ∷ []) []) tt ten
+lawful_sets_global (Some g) = lawful_if g.mutable (moves (g.ty ∷ []) []) (late ConstantGlobal (g.ty ∷ []) []) tt constant_late
 
 lawful_accesses : (align : ℕ) (row : AccessRow) (ins outs : List ValType) → Lawful (accesses align row ins outs)
-lawful_accesses align row ins outs = lawful_if (nat_le align row.natural) (moves ins outs) (late 9 ins outs) tt nine
+lawful_accesses align row ins outs = lawful_if (nat_le align row.natural) (moves ins outs) (late Alignment ins outs) tt alignment_late
 
 lawful_loads : (b : Bool) (align : ℕ) (o : Option AccessRow) → Lawful (loads b align o)
 lawful_loads false align o = omega arith
@@ -128,8 +130,8 @@ ends_jump (Some r) ins mids outs h = h
 ends_jumps : (ls : List (Option ValType)) (labels : List ℕ) (o : Option (Option ValType)) → Ends (jumps ls labels o)
 ends_jumps ls labels None = λ ins mids outs h. h
 ends_jumps ls labels (Some r) =
-    ends_if (all_there ls labels) (if all_alike ls r labels then leaves (I32 ∷ listed r) else lacks 8) (lacks 7)
-    (ends_if (all_alike ls r labels) (leaves (I32 ∷ listed r)) (lacks 8) (λ ins mids outs h. h) (λ ins mids outs h. h)) (λ ins mids outs h. h)
+    ends_if (all_there ls labels) (if all_alike ls r labels then leaves (I32 ∷ listed r) else lacks StackTypes) (lacks UnknownLabel)
+    (ends_if (all_alike ls r labels) (leaves (I32 ∷ listed r)) (lacks StackTypes) (λ ins mids outs h. h) (λ ins mids outs h. h)) (λ ins mids outs h. h)
 
 pub last_ends : (c : Around) (ls : List (Option ValType)) (p : Plain) → is_last p ≡ true → Ends (sig c ls p)
 last_ends c ls (basic b) e = cc

@@ -40,38 +40,38 @@ unfolding in_front
 in_br_table v l rest = refl
 
 -- What an instruction is: a block, a loop, an if, or one that holds no other.
-pub data Kind (x : Instr) : Type 0 where
-  is_block : (r : Option ValType) (v : Vec Instr Global) → x ≡ Block r v → Kind x
-  is_loop : (r : Option ValType) (v : Vec Instr Global) → x ≡ Loop r v → Kind x
-  is_if : (r : Option ValType) (v w : Vec Instr Global) → x ≡ If r v w → Kind x
-  is_plain : (p : Plain) → ((rest : Code) → in_front x rest ≡ plain p rest) → Kind x
+pub data InstrKind (x : Instr) : Type 0 where
+  is_block : (r : Option ValType) (v : Vec Instr Global) → x ≡ Block r v → InstrKind x
+  is_loop : (r : Option ValType) (v : Vec Instr Global) → x ≡ Loop r v → InstrKind x
+  is_if : (r : Option ValType) (v w : Vec Instr Global) → x ≡ If r v w → InstrKind x
+  is_plain : (p : Plain) → ((rest : Code) → in_front x rest ≡ plain p rest) → InstrKind x
 
-pub kind : (x : Instr) → Kind x
+pub instr_kind : (x : Instr) → InstrKind x
 unfolding in_front
-kind Unreachable = is_plain unreachable (λ rest. refl)
-kind Nop = is_plain (basic nop) (λ rest. refl)
-kind Drop = is_plain (basic drop_operand) (λ rest. refl)
-kind Select = is_plain (basic select) (λ rest. refl)
-kind Return = is_plain return (λ rest. refl)
-kind MemorySize = is_plain (basic memory_size) (λ rest. refl)
-kind MemoryGrow = is_plain (basic memory_grow) (λ rest. refl)
-kind (Const v) = is_plain (basic (const v)) (λ rest. refl)
-kind (Num op) = is_plain (basic (num op)) (λ rest. refl)
-kind (Br l) = is_plain (br l) (λ rest. refl)
-kind (BrIf l) = is_plain (br_if l) (λ rest. refl)
-kind (BrTable ls l) = is_plain (br_table ls.items l) (λ rest. refl)
-kind (Call x) = is_plain (call x) (λ rest. refl)
-kind (CallIndirect x) = is_plain (call_indirect x) (λ rest. refl)
-kind (LocalGet x) = is_plain (local_get x) (λ rest. refl)
-kind (LocalSet x) = is_plain (local_set x) (λ rest. refl)
-kind (LocalTee x) = is_plain (local_tee x) (λ rest. refl)
-kind (GlobalGet x) = is_plain (basic (global_get x)) (λ rest. refl)
-kind (GlobalSet x) = is_plain (basic (global_set x)) (λ rest. refl)
-kind (Load op a o) = is_plain (basic (load op a o)) (λ rest. refl)
-kind (Store op a o) = is_plain (basic (store op a o)) (λ rest. refl)
-kind (Block' r s k) = is_block r _ (sym (roll-out-Instr (Block' r s k)) ∙ ap roll-Instr (outs-Block' r s k) ∙ rolls-Block r _)
-kind (Loop' r s k) = is_loop r _ (sym (roll-out-Instr (Loop' r s k)) ∙ ap roll-Instr (outs-Loop' r s k) ∙ rolls-Loop r _)
-kind (If' r s k t l) = is_if r _ _ (sym (roll-out-Instr (If' r s k t l)) ∙ ap roll-Instr (outs-If' r s k t l) ∙ rolls-If r _ _)
+instr_kind Unreachable = is_plain unreachable (λ rest. refl)
+instr_kind Nop = is_plain (basic nop) (λ rest. refl)
+instr_kind Drop = is_plain (basic drop_operand) (λ rest. refl)
+instr_kind Select = is_plain (basic select) (λ rest. refl)
+instr_kind Return = is_plain return (λ rest. refl)
+instr_kind MemorySize = is_plain (basic memory_size) (λ rest. refl)
+instr_kind MemoryGrow = is_plain (basic memory_grow) (λ rest. refl)
+instr_kind (Const v) = is_plain (basic (const v)) (λ rest. refl)
+instr_kind (Num op) = is_plain (basic (num op)) (λ rest. refl)
+instr_kind (Br l) = is_plain (br l) (λ rest. refl)
+instr_kind (BrIf l) = is_plain (br_if l) (λ rest. refl)
+instr_kind (BrTable ls l) = is_plain (br_table ls.items l) (λ rest. refl)
+instr_kind (Call x) = is_plain (call x) (λ rest. refl)
+instr_kind (CallIndirect x) = is_plain (call_indirect x) (λ rest. refl)
+instr_kind (LocalGet x) = is_plain (local_get x) (λ rest. refl)
+instr_kind (LocalSet x) = is_plain (local_set x) (λ rest. refl)
+instr_kind (LocalTee x) = is_plain (local_tee x) (λ rest. refl)
+instr_kind (GlobalGet x) = is_plain (basic (global_get x)) (λ rest. refl)
+instr_kind (GlobalSet x) = is_plain (basic (global_set x)) (λ rest. refl)
+instr_kind (Load op a o) = is_plain (basic (load op a o)) (λ rest. refl)
+instr_kind (Store op a o) = is_plain (basic (store op a o)) (λ rest. refl)
+instr_kind (Block' r s k) = is_block r _ (sym (roll-out-Instr (Block' r s k)) ∙ ap roll-Instr (outs-Block' r s k) ∙ rolls-Block r _)
+instr_kind (Loop' r s k) = is_loop r _ (sym (roll-out-Instr (Loop' r s k)) ∙ ap roll-Instr (outs-Loop' r s k) ∙ rolls-Loop r _)
+instr_kind (If' r s k t l) = is_if r _ _ (sym (roll-out-Instr (If' r s k t l)) ∙ ap roll-Instr (outs-If' r s k t l) ∙ rolls-If r _ _)
 
 -- the element at i, in front of those after it
 pub code_step : (xs : List Instr) (i : ℕ) (x : Instr) → i < length xs → x ≡ get_or xs i x → code (drop i xs) ≡ in_front x (code (drop (i + 1) xs))

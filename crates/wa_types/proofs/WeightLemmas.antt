@@ -23,7 +23,7 @@ use Rattle.wa_types.specs.View.{code, in_front, func_type_of, func_of, module_of
 use Rattle.wa_types.specs.Pruned.{is_last_instr, pruned}
 use Rattle.wa_types.specs.Modules.{declared_locals, imported_func, func_sorts, or_empty, type_at, func_type_at}
 use Rattle.wa_types.specs.Bounds.{code_weight}
-use Rattle.wa_types.proofs.ViewLemmas.{is_block, is_loop, is_if, is_plain, kind, in_block, in_loop, in_if, code_step, code_empty}
+use Rattle.wa_types.proofs.ViewLemmas.{is_block, is_loop, is_if, is_plain, instr_kind, in_block, in_loop, in_if, code_step, code_empty}
 
 is_construct : Code → Bool
 is_construct (nest s r body rest) = true
@@ -37,7 +37,7 @@ plain_not p e = cc
 -- what stands in front of code as a construct is one
 no_construct : (x : Instr) → ((r : Option ValType) (v : Vec Instr Global) → x ≡ Block r v → ⊥) → ((r : Option ValType) (v : Vec Instr Global) → x ≡ Loop r v → ⊥)
     → ((r : Option ValType) (v w : Vec Instr Global) → x ≡ If r v w → ⊥) → is_construct (in_front x done) ≡ true → ⊥
-no_construct x not_block not_loop not_if h = elim (kind x) [
+no_construct x not_block not_loop not_if h = elim (instr_kind x) [
   | is_block r v e ↦ not_block r v e
   | is_loop r v e ↦ not_loop r v e
   | is_if r v w e ↦ not_if r v w e

@@ -6,12 +6,12 @@ use Rattle.std.specs.Prelude.{if◌then◌else◌, IsUtf8}
 use Rattle.wa_types.specs.declared.leb.LebFault.TheVariants.{Short}
 use Rattle.wa_types.specs.Leb.{IsUnsigned, IsSigned, unsigned_at, signed_at}
 use Rattle.wa_types.specs.Encoding.{preamble}
-use Rattle.wa_types.specs.Opcodes.{Follows, no_operand, a_zero, an_index, an_index_and_zero, an_access, some_labels, a_constant, a_float, follows, is_value_type, is_block_type, is_nest}
+use Rattle.wa_types.specs.Opcodes.{Form, no_immediate, a_zero, an_index, an_index_and_zero, an_access, some_labels, a_constant, a_float, follows, is_value_type, is_block_type, is_nest}
 
 -- What a vector counts.
-pub data Kind : Type 0 where
-  some_types some_imports some_functions some_tables some_memories some_globals some_exports some_elements some_bodies some_segments : Kind
-  some_value_types some_runs some_indices some_bytes : Kind
+pub data EntryKind : Type 0 where
+  some_types some_imports some_functions some_tables some_memories some_globals some_exports some_elements some_bodies some_segments : EntryKind
+  some_value_types some_runs some_indices some_bytes : EntryKind
 
 -- What may come next.
 pub data Goal : Type 0 where
@@ -21,8 +21,8 @@ pub data Goal : Type 0 where
   head : (id end last owed : ℕ) → Goal  -- the first number of a section whose content ends there
   until : (end : ℕ) → Goal  -- a content is complete, and ends there
   rest : (end : ℕ) → Goal  -- any bytes up to there
-  entries : Kind → (n : ℕ) → Goal  -- so many entries
-  count : Kind → Goal  -- a number of entries, and the entries
+  entries : EntryKind → (n : ℕ) → Goal  -- so many entries
+  count : EntryKind → Goal  -- a number of entries, and the entries
   number name value_type block_type mutable import_kind space limits : Goal
   signed : (bits : ℕ) → Goal  -- a signed number
   name_bytes float_bytes : (n : ℕ) → Goal  -- the bytes of a name, or of a float
@@ -36,7 +36,7 @@ pub data Item : Type 0 where
   a_name a_constant_of : (n : ℕ) → Item
 
 -- the item that an entry begins with
-abbrev pub first_of : Kind → Item
+abbrev pub first_of : EntryKind → Item
 first_of some_types = a_byte
 first_of some_imports = an_unsigned
 first_of some_functions = an_unsigned
@@ -88,7 +88,7 @@ where_true true gs = Some gs
 where_true false gs = None
 
 -- so many entries
-abbrev pub some_of : Kind → ℕ → List Goal
+abbrev pub some_of : EntryKind → ℕ → List Goal
 some_of k n = if n == 0 then [] else entries k n ∷ []
 
 -- so many bytes of a name
@@ -103,7 +103,7 @@ behind_flag v =
     else None)
 
 -- behind the first item of an entry, of value v, that ends at this place (5.3, 5.5.4 to 5.5.14)
-abbrev pub entry : Kind → (v at : ℕ) → Option (List Goal)
+abbrev pub entry : EntryKind → (v at : ℕ) → Option (List Goal)
 entry some_types v at = where_true (v == 0x60) (count some_value_types ∷ count some_value_types ∷ [])
 entry some_imports v at = Some (name_of v ++ name ∷ import_kind ∷ [])
 entry some_functions v at = Some []
@@ -125,7 +125,7 @@ and_then None more = None
 and_then (Some gs) more = Some (gs ++ more)
 
 -- the entries that are left behind one of so many
-abbrev pub others : Kind → ℕ → List Goal
+abbrev pub others : EntryKind → ℕ → List Goal
 others k n = if nat_le n 1 then [] else entries k (n - 1) ∷ []
 
 -- a section may stand behind sections of ids up to `last`; the data section owes no body (5.5.15)
@@ -159,20 +159,20 @@ behind_kind v =
     else None)))
 
 -- what follows an opcode (5.4)
-abbrev pub operands : Follows → List Goal
-operands no_operand = []
-operands a_zero = exact 0x00 ∷ []
-operands an_index = number ∷ []
-operands an_index_and_zero = number ∷ exact 0x00 ∷ []
-operands an_access = number ∷ number ∷ []
-operands some_labels = count some_indices ∷ number ∷ []
-operands (a_constant bits) = signed bits ∷ []
-operands (a_float n) = float_bytes n ∷ []
+abbrev pub immediates : Form → List Goal
+immediates no_immediate = []
+immediates a_zero = exact 0x00 ∷ []
+immediates an_index = number ∷ []
+immediates an_index_and_zero = number ∷ exact 0x00 ∷ []
+immediates an_access = number ∷ number ∷ []
+immediates some_labels = count some_indices ∷ number ∷ []
+immediates (a_constant bits) = signed bits ∷ []
+immediates (a_float n) = float_bytes n ∷ []
 
 -- the goals of what follows an opcode, where it is one, and more behind (5.4)
-abbrev pub operands_of : Option Follows → List Goal → Option (List Goal)
-operands_of None more = None
-operands_of (Some f) more = Some (operands f ++ more)
+abbrev pub immediates_of : Option Form → List Goal → Option (List Goal)
+immediates_of None more = None
+immediates_of (Some f) more = Some (immediates f ++ more)
 
 -- behind an opcode (5.4.1, 5.4.6)
 abbrev pub behind_opcode : (first_arm : Bool) → (op : ℕ) → Option (List Goal)
@@ -181,7 +181,7 @@ behind_opcode first_arm op =
     else (if op == 0x05 then where_true first_arm (code false ∷ [])
     else (if is_nest op then Some (block_type ∷ code false ∷ code first_arm ∷ [])
     else (if op == 0x04 then Some (block_type ∷ code true ∷ code first_arm ∷ [])
-    else operands_of (follows op) (code first_arm ∷ []))))
+    else immediates_of (follows op) (code first_arm ∷ []))))
 
 -- What comes in the place of a goal, where its item has value v and ends at this place.
 unfoldable pub next : Goal → (v at : ℕ) → Option (List Goal)

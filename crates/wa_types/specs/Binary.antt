@@ -10,20 +10,20 @@ pub record Placed : Type 0 where
   pub byte : ℕ
 
 -- What follows an opcode, other than a construct's (5.4).
-pub data Operands : Type 0 where
-  nothing zero_byte : Operands
-  index index_and_zero : (x : ℕ) → Operands
-  access : (align offset : ℕ) → Operands
-  labels : (targets : List ℕ) → (last : ℕ) → Operands
-  constant : (bits n : ℕ) → Operands
-  float : (bytes : List ℕ) → Operands
+pub data Immediates : Type 0 where
+  nothing zero_byte : Immediates
+  index index_and_zero : (x : ℕ) → Immediates
+  access : (align offset : ℕ) → Immediates
+  labels : (targets : List ℕ) → (last : ℕ) → Immediates
+  constant : (bits n : ℕ) → Immediates
+  float : (bytes : List ℕ) → Immediates
 
 -- Instructions up to their end, each before the rest of its sequence (5.4.1, 5.4.6). The arms of an if are one
 -- sequence: its first arm ends, or goes over into the other by an else.
 pub data RawCode : Type 0 where
   ended : (place : ℕ) → RawCode
   otherwise : (place : ℕ) → (arm : RawCode) → RawCode
-  instr : (op : Placed) → Operands → (rest : RawCode) → RawCode
+  instr : (op : Placed) → Immediates → (rest : RawCode) → RawCode
   nested : (op result : Placed) → (body rest : RawCode) → RawCode
   branched : (op result : Placed) → (arms rest : RawCode) → RawCode
 

@@ -4,9 +4,7 @@ use Rattle.std.specs.Prelude.{ℕ, ◌+◌, suc, List, [], ◌∷◌, ◌++◌, 
 use Rattle.std.specs.List.{flat_map}
 use Rattle.std.specs.Prelude.{◌==◌}
 use Rattle.wa_types.specs.declared.values.ValType.{ValType}
-use Rattle.wa_types.specs.declared.values.Value.{Value}
 use Rattle.wa_types.specs.declared.values.ValType.TheVariants.{I32, I64}
-use Rattle.wa_types.specs.declared.values.Value.TheVariants.{I32 as value_32, I64 as value_64}
 use Rattle.wa_types.specs.declared.syntax.Run.{Run}
 use Rattle.wa_types.specs.declared.syntax.Limits.{Limits}
 use Rattle.wa_types.specs.declared.syntax.ImportKind.{ImportKind}
@@ -15,11 +13,10 @@ use Rattle.wa_types.specs.declared.syntax.Import.{Import}
 use Rattle.wa_types.specs.declared.syntax.Space.{Space}
 use Rattle.wa_types.specs.declared.syntax.Space.TheVariants.{Func as a_func, Table as a_table, Memory as a_memory, Global as a_global}
 use Rattle.wa_types.specs.declared.syntax.Export.{Export}
-use Rattle.wa_types.specs.Operators.{opcode_of}
 use Rattle.wa_types.specs.Leb.{shortest, shortest_signed}
-use Rattle.wa_types.specs.Syntax.{Basic, nop, drop, select, const, num, global_get, global_set, load, store, memory_size, memory_grow, Plain, basic, local_get, local_set, local_tee, br}
-use Rattle.wa_types.specs.Syntax.{br_if, br_table, return, unreachable, call, call_indirect, Shape, a_block, a_loop, Code, done, plain, nest, branch, FuncType, Func, GlobalDef, Elem}
-use Rattle.wa_types.specs.Syntax.{Segment, Custom, Module}
+use Rattle.wa_types.specs.Syntax.{Plain, Shape, a_block, a_loop, Code, done, plain, nest, branch, FuncType, Func, GlobalDef, Elem, Segment, Custom, Module}
+use Rattle.wa_types.specs.Binary.{Immediates, nothing, zero_byte, index, index_and_zero, access, labels, constant, float}
+use Rattle.wa_types.specs.Opcodes.{plain_opcode, plain_immediates}
 
 -- a list of items, with their number (5.1.3)
 abbrev pub vector : {X : Type 0} → (X → List ℕ) → List X → List ℕ
@@ -69,38 +66,20 @@ mutable_byte true = 0x01
 abbrev pub global_type_bytes : ValType → Bool → List ℕ
 global_type_bytes t mutable = type_byte t ∷ mutable_byte mutable ∷ []
 
--- a constant instruction (5.4.5)
-abbrev pub const_bytes : Value → List ℕ
-const_bytes (value_32 n) = 0x41 ∷ shortest_signed 32 n
-const_bytes (value_64 n) = 0x42 ∷ shortest_signed 64 n
+-- what follows an opcode (5.4)
+abbrev pub immediate_bytes : Immediates → List ℕ
+immediate_bytes nothing = []
+immediate_bytes zero_byte = 0x00 ∷ []
+immediate_bytes (index x) = shortest x
+immediate_bytes (index_and_zero x) = shortest x ++ 0x00 ∷ []
+immediate_bytes (access align offset) = shortest align ++ shortest offset
+immediate_bytes (labels targets last) = vector shortest targets ++ shortest last
+immediate_bytes (constant bits n) = shortest_signed bits n
+immediate_bytes (float bytes) = bytes
 
--- an instruction of operands and the store alone (5.4.2 to 5.4.5, and nop of 5.4.1)
-abbrev pub basic_bytes : Basic → List ℕ
-basic_bytes nop = 0x01 ∷ []
-basic_bytes drop = 0x1A ∷ []
-basic_bytes select = 0x1B ∷ []
-basic_bytes (const v) = const_bytes v
-basic_bytes (num op) = opcode_of op ∷ []
-basic_bytes (global_get x) = 0x23 ∷ shortest x
-basic_bytes (global_set x) = 0x24 ∷ shortest x
-basic_bytes (load op align offset) = op ∷ (shortest align ++ shortest offset)
-basic_bytes (store op align offset) = op ∷ (shortest align ++ shortest offset)
-basic_bytes memory_size = 0x3F ∷ 0x00 ∷ []
-basic_bytes memory_grow = 0x40 ∷ 0x00 ∷ []
-
--- an instruction that holds no other (5.4.1, 5.4.3)
+-- an instruction that holds no other (5.4.1 to 5.4.5)
 abbrev pub plain_bytes : Plain → List ℕ
-plain_bytes (basic b) = basic_bytes b
-plain_bytes (local_get x) = 0x20 ∷ shortest x
-plain_bytes (local_set x) = 0x21 ∷ shortest x
-plain_bytes (local_tee x) = 0x22 ∷ shortest x
-plain_bytes (br l) = 0x0C ∷ shortest l
-plain_bytes (br_if l) = 0x0D ∷ shortest l
-plain_bytes (br_table ls l) = 0x0E ∷ (vector shortest ls ++ shortest l)
-plain_bytes return = 0x0F ∷ []
-plain_bytes unreachable = 0x00 ∷ []
-plain_bytes (call x) = 0x10 ∷ shortest x
-plain_bytes (call_indirect x) = 0x11 ∷ (shortest x ++ 0x00 ∷ [])
+plain_bytes p = plain_opcode p ∷ immediate_bytes (plain_immediates p)
 
 -- the opcode of a block or a loop (5.4.1)
 abbrev pub shape_byte : Shape → ℕ

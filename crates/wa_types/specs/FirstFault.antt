@@ -1,8 +1,10 @@
 -- Where a module isn't valid: the first place such that the code up to there has no type, and the smallest
--- rule that fails there (standard, section 3.3; the rules' numbers stand in `Validity`).
+-- rule that fails there (standard, section 3.3; the rules' numbers stand in `Rules`).
 use Rattle.std.specs.Prelude.{◌≡◌, ℕ, zero, suc, ◌+◌, ◌-◌, ◌<◌, ◌≤◌, ◌⊎◌, ◌++◌, List, [], ◌∷◌, Option, Some, None, slice_get}
 use Rattle.wa_types.specs.declared.values.ValType.{ValType}
 use Rattle.wa_types.specs.declared.values.ValType.TheVariants.{I32}
+use Rattle.wa_types.specs.declared.rules.Rule.TheVariants.{StackTypes}
+use Rattle.wa_types.specs.Rules.{number}
 use Rattle.wa_types.specs.Syntax.{unreachable, Code, done, plain, nest, branch, Func, Module}
 use Rattle.wa_types.specs.Typing.{Around, Sig, moves, lacks, late, listed, sig, Takes, label, Typed}
 use Rattle.wa_types.specs.Modules.{func_imports, around}
@@ -20,11 +22,11 @@ size (plain p rest) = 1 + size rest
 size (nest s r body rest) = 2 + size body + size rest
 size (branch r a b rest) = 2 + size a + mid b + size b + size rest
 
--- The rules below q hold of an instruction at these operands.
+-- The rules of numbers below q hold of an instruction at these operands.
 abbrev pub Meets : ℕ → Sig → List ValType → Type 0
-Meets q (lacks r) ins = q ≤ r
-Meets q (late r ps rs) ins = (q ≤ 8) ⊎ ((q ≤ r) × ((below : List ValType) × (ins ≡ ps ++ below)))
-Meets q s ins = (q ≤ 8) ⊎ ((outs : List ValType) × Takes s ins outs)
+Meets q (lacks r) ins = q ≤ number r
+Meets q (late r ps rs) ins = (q ≤ number StackTypes) ⊎ ((q ≤ number r) × ((below : List ValType) × (ins ≡ ps ++ below)))
+Meets q s ins = (q ≤ number StackTypes) ⊎ ((outs : List ValType) × Takes s ins outs)
 
 -- nothing is asked of what lies behind the first n
 abbrev pub Within : ℕ → (ℕ → Type 0) → Type 0
@@ -35,7 +37,7 @@ Within (suc n) P = P n
 -- operands, where of the last of them only the rules below q are asked. It is `Types` with a count: each
 -- construct passes all n to its first part and what is left to the next.
 unfoldable pub UpTo : ℕ → Around → List (Option ValType) → Code → (outs ins : List ValType) → ℕ → Type 0
-UpTo q c ls done outs ins n = Within n (λ m. ((m ≡ 0) × (q ≤ 8)) ⊎ (ins ≡ outs))
+UpTo q c ls done outs ins n = Within n (λ m. ((m ≡ 0) × (q ≤ number StackTypes)) ⊎ (ins ≡ outs))
 UpTo q c ls (plain p rest) outs ins n =
     Within n (λ m. ((m ≡ 0) × Meets q (sig c ls p) ins) ⊎ ((mids : List ValType) × Takes (sig c ls p) ins mids × UpTo q c ls rest outs mids m))
 UpTo q c ls (nest s r body rest) outs ins n =

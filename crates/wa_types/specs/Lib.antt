@@ -8,6 +8,7 @@ pub mod Encoding
 pub mod FirstFault
 pub mod FrameLaws
 pub mod Frames
+pub mod Leaves
 pub mod Leb
 pub mod Liveness
 pub mod Marks
@@ -21,6 +22,7 @@ pub mod Pausing
 pub mod Points
 pub mod Pruned
 pub mod Reading
+pub mod Rules
 pub mod Runtime
 pub mod Sizes
 pub mod Spells

@@ -1,80 +1,19 @@
 -- Which module the sections of a file are, where they hold no float (standard, sections 2 and 5).
 use Rattle.std.specs.Prelude.{◌≡◌, ℕ, List, [], ◌∷◌, map, flat_map, IsTrue, option_to_list}
 use Rattle.wa_types.specs.declared.values.ValType.{ValType}
-use Rattle.wa_types.specs.declared.values.Value.TheVariants.{I32 as value_32, I64 as value_64}
 use Rattle.wa_types.specs.declared.syntax.Run.{Run}
 use Rattle.wa_types.specs.declared.syntax.ImportKind.{ImportKind}
 use Rattle.wa_types.specs.declared.syntax.ImportKind.TheVariants.{Func as a_func_import, Table as a_table_import, Memory as a_memory_import, Global as a_global_import}
 use Rattle.wa_types.specs.declared.syntax.Import.{Import}
 use Rattle.wa_types.specs.declared.syntax.Limits.{Limits}
 use Rattle.wa_types.specs.declared.syntax.Export.{Export}
-use Rattle.wa_types.specs.Operators.{opcode_of}
 use Rattle.wa_types.specs.Encoding.{type_byte, block_type_byte, shape_byte}
-use Rattle.wa_types.specs.Syntax.{Basic, nop, drop, select, const, num, global_get, global_set, load, store, memory_size, memory_grow, Plain, basic, local_get, local_set, local_tee, br}
-use Rattle.wa_types.specs.Syntax.{br_if, br_table, return, unreachable, call, call_indirect, Code, done, plain, nest, branch, FuncType, Func, GlobalDef, Elem, Segment, Custom, Module}
-use Rattle.wa_types.specs.Binary.{Placed, Operands, nothing, zero_byte, index, index_and_zero, access, labels, constant, RawCode, ended, otherwise, instr, nested, branched, RawType, RawKind}
+use Rattle.wa_types.specs.Syntax.{load, store, Plain, basic, Code, done, plain, nest, branch, FuncType, Func, GlobalDef, Elem, Segment, Custom, Module}
+use Rattle.wa_types.specs.Binary.{Placed, Immediates, RawCode, ended, otherwise, instr, nested, branched, RawType, RawKind}
 use Rattle.wa_types.specs.Binary.{raw_func, raw_table, raw_memory, raw_global, RawImport, RawGlobal, RawElem, RawRun, RawBody, RawSegment, Section, custom, types, imports, tables, memories}
 use Rattle.wa_types.specs.Binary.{globals, exports, start, elements, segments, section_id}
-use Rattle.wa_types.specs.Opcodes.{is_load_op, is_store_op}
+use Rattle.wa_types.specs.Opcodes.{plain_opcode, plain_immediates, is_load_op, is_store_op}
 use Rattle.wa_types.specs.Spells.{Spells, sorts_in, bodies_in}
-
--- the opcode of an instruction that touches only its own operands and the store (5.4)
-abbrev pub basic_opcode : Basic → ℕ
-basic_opcode nop = 0x01
-basic_opcode drop = 0x1A
-basic_opcode select = 0x1B
-basic_opcode (const (value_32 n)) = 0x41
-basic_opcode (const (value_64 n)) = 0x42
-basic_opcode (num op) = opcode_of op
-basic_opcode (global_get x) = 0x23
-basic_opcode (global_set x) = 0x24
-basic_opcode (load op align offset) = op
-basic_opcode (store op align offset) = op
-basic_opcode memory_size = 0x3F
-basic_opcode memory_grow = 0x40
-
--- the opcode of an instruction that holds no other (5.4)
-abbrev pub plain_opcode : Plain → ℕ
-plain_opcode (basic b) = basic_opcode b
-plain_opcode (local_get x) = 0x20
-plain_opcode (local_set x) = 0x21
-plain_opcode (local_tee x) = 0x22
-plain_opcode (br l) = 0x0C
-plain_opcode (br_if l) = 0x0D
-plain_opcode (br_table ls l) = 0x0E
-plain_opcode return = 0x0F
-plain_opcode unreachable = 0x00
-plain_opcode (call x) = 0x10
-plain_opcode (call_indirect x) = 0x11
-
--- what follows the opcode of an instruction that touches only its own operands and the store (5.4)
-abbrev pub basic_operands : Basic → Operands
-basic_operands nop = nothing
-basic_operands drop = nothing
-basic_operands select = nothing
-basic_operands (const (value_32 n)) = constant 32 n
-basic_operands (const (value_64 n)) = constant 64 n
-basic_operands (num op) = nothing
-basic_operands (global_get x) = index x
-basic_operands (global_set x) = index x
-basic_operands (load op align offset) = access align offset
-basic_operands (store op align offset) = access align offset
-basic_operands memory_size = zero_byte
-basic_operands memory_grow = zero_byte
-
--- what follows the opcode of an instruction that holds no other (5.4)
-abbrev pub plain_operands : Plain → Operands
-plain_operands (basic b) = basic_operands b
-plain_operands (local_get x) = index x
-plain_operands (local_set x) = index x
-plain_operands (local_tee x) = index x
-plain_operands (br l) = index l
-plain_operands (br_if l) = index l
-plain_operands (br_table ls l) = labels ls l
-plain_operands return = nothing
-plain_operands unreachable = nothing
-plain_operands (call x) = index x
-plain_operands (call_indirect x) = index_and_zero x
 
 -- a load or a store has an opcode of its own kind, on integers (5.4.4)
 abbrev pub HasKind : Plain → Type 0
@@ -83,16 +22,16 @@ HasKind (basic (store op align offset)) = IsTrue (is_store_op op)
 HasKind _ = Unit {0}
 
 -- the instruction of this opcode, followed by this (5.4)
-pub record IsPlain (op : Placed) (operands : Operands) (p : Plain) : Type 0 where
+pub record IsPlain (op : Placed) (immediates : Immediates) (p : Plain) : Type 0 where
   pub opcode : op.byte ≡ plain_opcode p
-  pub follows : operands ≡ plain_operands p
+  pub follows : immediates ≡ plain_immediates p
   pub kind : HasKind p
 
 -- the code that a sequence is up to its end, and, where that is an else, the code of the arm behind it (5.4.1)
 abbrev pub IsCode : RawCode → (code else_arm : Code) → Type 0
 IsCode (ended k) done else_arm = else_arm ≡ done
 IsCode (otherwise k arm) done else_arm = IsCode arm else_arm done
-IsCode (instr op operands rest) (plain p more) else_arm = IsPlain op operands p × IsCode rest more else_arm
+IsCode (instr op immediates rest) (plain p more) else_arm = IsPlain op immediates p × IsCode rest more else_arm
 IsCode (nested op result body rest) (nest s r inner more) else_arm =
     (op.byte ≡ shape_byte s) × (result.byte ≡ block_type_byte r) × IsCode body inner done × IsCode rest more else_arm
 IsCode (branched op result arms rest) (branch r a b more) else_arm =

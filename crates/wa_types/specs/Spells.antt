@@ -5,10 +5,10 @@ use Rattle.wa_types.specs.declared.syntax.Limits.{Limits}
 use Rattle.wa_types.specs.declared.syntax.Export.{Export}
 use Rattle.wa_types.specs.Leb.{IsUnsigned, IsSigned}
 use Rattle.wa_types.specs.Encoding.{space_byte, mutable_byte, preamble}
-use Rattle.wa_types.specs.Binary.{Placed, Operands, nothing, zero_byte, index, index_and_zero, access, labels, constant, float, RawCode, ended, otherwise, instr, nested, branched, RawType}
+use Rattle.wa_types.specs.Binary.{Placed, Immediates, nothing, zero_byte, index, index_and_zero, access, labels, constant, float, RawCode, ended, otherwise, instr, nested, branched, RawType}
 use Rattle.wa_types.specs.Binary.{RawKind, raw_func, raw_table, raw_memory, raw_global, RawImport, RawGlobal, RawElem, RawRun, RawBody, RawSegment, Section, custom, types, imports}
 use Rattle.wa_types.specs.Binary.{functions, tables, memories, globals, exports, start, elements, bodies, segments, section_id}
-use Rattle.wa_types.specs.Opcodes.{follows, shape, is_value_type, is_block_type, is_nest}
+use Rattle.wa_types.specs.Opcodes.{follows, form, is_value_type, is_block_type, is_nest}
 
 infixr 30 ◌▸◌
 -- one part, and another behind it
@@ -86,21 +86,21 @@ abbrev pub GlobalType : Placed → Bool → ℕ → List ℕ → Type 0
 GlobalType t mutable = ValueType t ▸ Exactly (mutable_byte mutable ∷ [])
 
 -- what follows an opcode (5.4.1 to 5.4.5)
-abbrev pub OperandsOf : Operands → ℕ → List ℕ → Type 0
-OperandsOf nothing = Exactly []
-OperandsOf zero_byte = Exactly (0x00 ∷ [])
-OperandsOf (index x) = Number x
-OperandsOf (index_and_zero x) = Number x ▸ Exactly (0x00 ∷ [])
-OperandsOf (access align offset) = Number align ▸ Number offset
-OperandsOf (labels targets last) = Vector Number targets ▸ Number last
-OperandsOf (constant bits n) = SignedNumber bits n
-OperandsOf (float bytes) = Exactly bytes
+abbrev pub ImmediatesOf : Immediates → ℕ → List ℕ → Type 0
+ImmediatesOf nothing = Exactly []
+ImmediatesOf zero_byte = Exactly (0x00 ∷ [])
+ImmediatesOf (index x) = Number x
+ImmediatesOf (index_and_zero x) = Number x ▸ Exactly (0x00 ∷ [])
+ImmediatesOf (access align offset) = Number align ▸ Number offset
+ImmediatesOf (labels targets last) = Vector Number targets ▸ Number last
+ImmediatesOf (constant bits n) = SignedNumber bits n
+ImmediatesOf (float bytes) = Exactly bytes
 
 -- instructions up to their end; an else stands only in the first arm of an if (5.4.1, 5.4.6)
 abbrev pub CodeOf : (first_arm : Bool) → RawCode → ℕ → List ℕ → Type 0
 CodeOf first_arm (ended k) at bytes = (at ≡ k) × (bytes ≡ 0x0B ∷ [])
 CodeOf first_arm (otherwise k arm) at bytes = (first_arm ≡ true) × (Byte (record { place = k; byte = 0x05 }) ▸ CodeOf false arm) at bytes
-CodeOf first_arm (instr op operands rest) at bytes = (follows op.byte ≡ Some (shape operands)) × (Byte op ▸ OperandsOf operands ▸ CodeOf first_arm rest) at bytes
+CodeOf first_arm (instr op immediates rest) at bytes = (follows op.byte ≡ Some (form immediates)) × (Byte op ▸ ImmediatesOf immediates ▸ CodeOf first_arm rest) at bytes
 CodeOf first_arm (nested op result body rest) at bytes = IsTrue (is_nest op.byte) × (Byte op ▸ BlockType result ▸ CodeOf false body ▸ CodeOf first_arm rest) at bytes
 CodeOf first_arm (branched op result arms rest) at bytes = (op.byte ≡ 0x04) × (Byte op ▸ BlockType result ▸ CodeOf true arms ▸ CodeOf first_arm rest) at bytes
 

@@ -7,6 +7,8 @@ use Rattle.wa_types.specs.declared.values.Value.TheVariants.{I32 as value_32, I6
 use Rattle.wa_types.specs.Operators.{operand_types, result_type}
 use Rattle.wa_types.specs.Accesses.{AccessRow, load_row, store_row}
 use Rattle.wa_types.specs.Encoding.{same_type}
+use Rattle.wa_types.specs.declared.rules.Rule.{Rule}
+use Rattle.wa_types.specs.declared.rules.Rule.TheVariants.{UnknownType, UnknownFunc, UnknownTable, UnknownMemory, UnknownGlobal, UnknownLocal, UnknownLabel, StackTypes, Alignment, ConstantGlobal}
 use Rattle.wa_types.specs.Syntax.{Basic, nop, drop, select, const, num, global_get, global_set, load, store, memory_size, memory_grow, Plain, basic, local_get, local_set, local_tee, br}
 use Rattle.wa_types.specs.Syntax.{br_if, br_table, return, unreachable, call, call_indirect, Shape, a_block, a_loop, Code, done, plain, nest, branch, FuncType}
 
@@ -27,7 +29,6 @@ pub record Around : Type 0 where
   pub result : Option ValType
 
 -- What an instruction asks of the operands, the topmost first, and what it leaves (3.3).
--- A rule that fails has its number by `Validity`.
 pub data Sig : Type 0 where
   -- takes these operands off and puts those on (3.3.1 to 3.3.5)
   moves : (ins outs : List ValType) → Sig
@@ -37,10 +38,10 @@ pub data Sig : Type 0 where
   drops : Sig
   -- takes an i32 and two operands of one type, and puts one of this type on (3.3.2.2)
   selects : Sig
-  -- whatever the operands, this rule fails, which is at most that on operands
-  lacks : (rule : ℕ) → Sig
+  -- whatever the operands, this rule fails, which is at most that on operands (`Rules`)
+  lacks : (rule : Rule) → Sig
   -- asks for these operands, and then this rule fails, which is above that on operands
-  late : (rule : ℕ) → (ins outs : List ValType) → Sig
+  late : (rule : Rule) → (ins outs : List ValType) → Sig
 
 -- a result type, as the list of its types (2.3.2)
 abbrev pub listed : Option ValType → List ValType
@@ -75,75 +76,75 @@ all_alike ls r (l ∷ labels) = agrees_with r (slice_get ls l) && all_alike ls r
 
 -- br (3.3.5.6)
 abbrev pub jump : Option (Option ValType) → Sig
-jump None = lacks 7
+jump None = lacks UnknownLabel
 jump (Some r) = leaves (listed r)
 
 -- br_if (3.3.5.7)
 abbrev pub may_jump : Option (Option ValType) → Sig
-may_jump None = lacks 7
+may_jump None = lacks UnknownLabel
 may_jump (Some r) = moves (I32 ∷ listed r) (listed r)
 
 -- br_table (3.3.5.8): all labels are there, and all take one result
 abbrev pub jumps : List (Option ValType) → List ℕ → Option (Option ValType) → Sig
-jumps ls labels None = lacks 7
+jumps ls labels None = lacks UnknownLabel
 jumps ls labels (Some r) =
-    if all_there ls labels then (if all_alike ls r labels then leaves (I32 ∷ listed r) else lacks 8) else lacks 7
+    if all_there ls labels then (if all_alike ls r labels then leaves (I32 ∷ listed r) else lacks StackTypes) else lacks UnknownLabel
 
 -- call (3.3.5.10)
 abbrev pub calls : Option FuncType → Sig
-calls None = lacks 2
+calls None = lacks UnknownFunc
 calls (Some t) = moves (reverse t.params) (reverse t.results)
 
 -- call_indirect (3.3.5.11)
 abbrev pub calls_at : Bool → Option FuncType → Sig
-calls_at table None = lacks 1
-calls_at false (Some t) = lacks 3
+calls_at table None = lacks UnknownType
+calls_at false (Some t) = lacks UnknownTable
 calls_at true (Some t) = moves (I32 ∷ reverse t.params) (reverse t.results)
 
 -- local.get (3.3.3.1)
 abbrev pub gets : Option ValType → Sig
-gets None = lacks 6
+gets None = lacks UnknownLocal
 gets (Some t) = moves [] (t ∷ [])
 
 -- local.set (3.3.3.2)
 abbrev pub sets : Option ValType → Sig
-sets None = lacks 6
+sets None = lacks UnknownLocal
 sets (Some t) = moves (t ∷ []) []
 
 -- local.tee (3.3.3.3)
 abbrev pub tees : Option ValType → Sig
-tees None = lacks 6
+tees None = lacks UnknownLocal
 tees (Some t) = moves (t ∷ []) (t ∷ [])
 
 -- global.get (3.3.3.4)
 abbrev pub gets_global : Option GlobalType → Sig
-gets_global None = lacks 5
+gets_global None = lacks UnknownGlobal
 gets_global (Some g) = moves [] (g.ty ∷ [])
 
 -- global.set (3.3.3.5)
 abbrev pub sets_global : Option GlobalType → Sig
-sets_global None = lacks 5
-sets_global (Some g) = if g.mutable then moves (g.ty ∷ []) [] else late 10 (g.ty ∷ []) []
+sets_global None = lacks UnknownGlobal
+sets_global (Some g) = if g.mutable then moves (g.ty ∷ []) [] else late ConstantGlobal (g.ty ∷ []) []
 
 -- an access of this alignment, in a module with a memory (3.3.4.1 to 3.3.4.4)
 abbrev pub accesses : ℕ → AccessRow → (ins outs : List ValType) → Sig
-accesses align row ins outs = if nat_le align row.natural then moves ins outs else late 9 ins outs
+accesses align row ins outs = if nat_le align row.natural then moves ins outs else late Alignment ins outs
 
 -- a load (3.3.4.1, 3.3.4.2); one whose opcode is none has no type
 abbrev pub loads : Bool → ℕ → Option AccessRow → Sig
-loads false align row = lacks 4
-loads true align None = lacks 8
+loads false align row = lacks UnknownMemory
+loads true align None = lacks StackTypes
 loads true align (Some row) = accesses align row (I32 ∷ []) (row.ty ∷ [])
 
 -- a store (3.3.4.3, 3.3.4.4)
 abbrev pub stores : Bool → ℕ → Option AccessRow → Sig
-stores false align row = lacks 4
-stores true align None = lacks 8
+stores false align row = lacks UnknownMemory
+stores true align None = lacks StackTypes
 stores true align (Some row) = accesses align row (row.ty ∷ I32 ∷ []) []
 
 -- memory.size and memory.grow (3.3.4.5, 3.3.4.6)
 abbrev pub with_memory : Bool → (ins outs : List ValType) → Sig
-with_memory false ins outs = lacks 4
+with_memory false ins outs = lacks UnknownMemory
 with_memory true ins outs = moves ins outs
 
 -- what an instruction that touches only its own operands and the store asks and leaves (3.3.1 to 3.3.4, and nop, 3.3.5.1)

@@ -4,6 +4,7 @@ use Rattle.wa_types.specs.declared.values.ValType.{ValType}
 use Rattle.wa_types.specs.Syntax.{Code, Func, Module}
 use Rattle.wa_types.specs.Pruned.{pruned}
 use Rattle.wa_types.specs.Typing.{Around, Types, Typed}
+use Rattle.wa_types.specs.Rules.{above_all}
 use Rattle.wa_types.specs.Modules.{around}
 use Rattle.wa_types.specs.Validity.{Valid, broken_outside}
 use Rattle.wa_types.specs.FirstFault.{UpTo, BodyFault, FirstFault, cut}
@@ -13,11 +14,11 @@ abbrev pub PrunedTypes : Type 0
 PrunedTypes =
     (c : Around) → (ls : List (Option ValType)) → (k : Code) → (outs ins : List ValType) → Types c ls k outs ins → Types c ls (pruned k) outs ins
 
--- Code has a type up to its first n items, all rules being asked of each (their numbers are below 17), exactly
+-- Code has a type up to its first n items, all rules being asked of each, exactly
 -- where these items, followed by `unreachable` and the ends that are owed, are typed.
 abbrev pub UpToIsCut : Type 0
 UpToIsCut =
-    (c : Around) → (ls : List (Option ValType)) → (k : Code) → (outs ins : List ValType) → (n : ℕ) → UpTo 17 c ls k outs ins n ↔ Types c ls (cut n k) outs ins
+    (c : Around) → (ls : List (Option ValType)) → (k : Code) → (outs ins : List ValType) → (n : ℕ) → UpTo above_all c ls k outs ins n ↔ Types c ls (cut n k) outs ins
 
 -- The place of a body's fault is the first such that the body up to there has no type.
 abbrev pub FaultIsFirst : Type 0

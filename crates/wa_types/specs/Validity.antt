@@ -1,19 +1,14 @@
--- Valid modules (standard, sections 3.2 and 3.4), by rules that have numbers:
---      1 type index                    9 alignment above natural
---      2 function index               10 `global.set` of a constant global
---      3 table index, or no table     11 limits
---      4 memory index, or no memory   12 second table or second memory
---      5 global index                 13 initialiser of a global, or offset of a segment
---      6 local index                  14 export name used twice
---      7 label                        15 start function not of type [] -> []
---      8 operands                     16 type with more than one result
--- `Typing` names rules 1 to 10 where an instruction breaks them. The rules below are asked outside the bodies.
--- Rules 1 to 5 look there at no index in an initialiser or an offset but that of a `global.get` that is its
--- only instruction.
+-- Valid modules (standard, sections 3.2 and 3.4), by rules that have numbers (`Rules`). `Typing` names the rule that an
+-- instruction breaks. The rules below are asked outside the bodies. Those on unknown indices look there at no index in an
+-- initialiser or an offset but that of a `global.get` that is its only instruction.
 use Rattle.std.specs.Prelude.{◌≡◌, ℕ, ◌^◌, ◌++◌, List, [], ◌∷◌, map, length, Option, Some, None, Bool, true, false, not, ◌&&◌, slice_get, nat_lt, nat_le, ◌==◌, if◌then◌else◌}
 use Rattle.std.specs.List.{filter_map, flat_map, list_all, list_any}
 use Rattle.wa_types.specs.declared.values.ValType.{ValType}
 use Rattle.wa_types.specs.declared.values.ValType.TheVariants.{I32}
+use Rattle.wa_types.specs.declared.rules.Rule.{Rule}
+use Rattle.wa_types.specs.declared.rules.Rule.TheVariants.{UnknownType, UnknownFunc, UnknownTable, UnknownMemory, UnknownGlobal, BadLimits, SecondInstance, NotConstant, DuplicateExport}
+use Rattle.wa_types.specs.declared.rules.Rule.TheVariants.{StartType, SecondResult}
+use Rattle.wa_types.specs.Rules.{number}
 use Rattle.wa_types.specs.declared.syntax.Limits.{Limits}
 use Rattle.wa_types.specs.declared.syntax.Export.{Export}
 use Rattle.wa_types.specs.declared.syntax.Space.{Space}
@@ -49,20 +44,20 @@ abbrev pub got_global : Code → List ℕ
 got_global (plain (basic (global_get x)) done) = x ∷ []
 got_global _ = []
 
--- Rule 1: the types of imported and defined functions are there (3.2.6, 3.4.1, 3.4.9).
+-- The types of imported and defined functions are there (3.2.6, 3.4.1, 3.4.9).
 abbrev pub types_there : Module → Bool
 types_there m = all_below (length m.types) (func_sorts m)
 
--- Rule 2: the functions that element segments, exports and the start name are there (3.4.5, 3.4.7, 3.4.8).
+-- The functions that element segments, exports and the start name are there (3.4.5, 3.4.7, 3.4.8).
 abbrev pub funcs_there : Module → Bool
 funcs_there m =
     all_below (length (func_sorts m)) (exported a_func m ++ start_indices m.start ++ flat_map (λ (e : Elem). e.funcs) m.elems)
 
--- Rule 3: the tables that element segments and exports name are there (3.4.5, 3.4.8).
+-- The tables that element segments and exports name are there (3.4.5, 3.4.8).
 abbrev pub tables_there : Module → Bool
 tables_there m = all_below (length (all_tables m)) (exported a_table m ++ map (λ (e : Elem). e.table) m.elems)
 
--- Rule 4: the memories that data segments and exports name are there (3.4.6, 3.4.8).
+-- The memories that data segments and exports name are there (3.4.6, 3.4.8).
 abbrev pub memories_there : Module → Bool
 memories_there m = all_below (length (all_memories m)) (exported a_memory m ++ map (λ (s : Segment). s.memory) m.segments)
 
@@ -70,7 +65,7 @@ memories_there m = all_below (length (all_memories m)) (exported a_memory m ++ m
 abbrev pub expressions : Module → List Code
 expressions m = map (λ (g : GlobalDef). g.init) m.globals ++ map (λ (e : Elem). e.offset) m.elems ++ map (λ (s : Segment). s.offset) m.segments
 
--- Rule 5: the globals that exports, and initialisers and offsets of one instruction, name are there (3.4.8, 3.3.3.4).
+-- The globals that exports, and initialisers and offsets of one instruction, name are there (3.4.8, 3.3.3.4).
 abbrev pub globals_there : Module → Bool
 globals_there m = all_below (length (all_globals m)) (exported a_global m ++ flat_map got_global (expressions m))
 
@@ -83,12 +78,12 @@ max_fits range low (Some high) = nat_le high range && nat_le low high
 abbrev pub limits_fit : ℕ → Limits → Bool
 limits_fit range l = nat_le l.min range && max_fits range l.min l.max
 
--- Rule 11: tables are within 2^32 entries, memories within 65,536 pages, and no maximum is below its minimum
+-- Tables are within 2^32 entries, memories within 65,536 pages, and no maximum is below its minimum
 -- (3.2.3, 3.2.4).
 abbrev pub all_limits_fit : Module → Bool
 all_limits_fit m = list_all (limits_fit (2 ^ 32)) (all_tables m) && list_all (limits_fit 65536) (all_memories m)
 
--- Rule 12: there is one table and one memory at most (3.4.10).
+-- There is one table and one memory at most (3.4.10).
 abbrev pub one_each : Module → Bool
 one_each m = nat_le (length (all_tables m)) 1 && nat_le (length (all_memories m)) 1
 
@@ -103,7 +98,7 @@ is_constant globals t (plain (basic (const v)) done) = same_type (type_of v) t
 is_constant globals t (plain (basic (global_get x)) done) = constant_of (slice_get globals x) t
 is_constant globals t _ = false
 
--- Rule 13: initialisers are constant, and name imported globals alone; offsets are constant, of type i32
+-- Initialisers are constant, and name imported globals alone; offsets are constant, of type i32
 -- (3.4.4 to 3.4.6, 3.4.10).
 abbrev pub all_constant : Module → Bool
 all_constant m =
@@ -122,7 +117,7 @@ abbrev pub all_differ : List (List ℕ) → Bool
 all_differ [] = true
 all_differ (x ∷ xs) = not (list_any (same_name x) xs) && all_differ xs
 
--- Rule 14: no two exports have one name (3.4.10).
+-- No two exports have one name (3.4.10).
 abbrev pub names_differ : Module → Bool
 names_differ m = all_differ (map (λ (e : Export). e.name) m.exports)
 
@@ -136,11 +131,11 @@ abbrev pub start_fits : Option ℕ → List FuncType → Bool
 start_fits None types = true
 start_fits (Some x) types = is_empty_type (slice_get types x)
 
--- Rule 15: the start function is of type [] -> [] (3.4.7).
+-- The start function is of type [] -> [] (3.4.7).
 abbrev pub start_lawful : Module → Bool
 start_lawful m = start_fits m.start (func_types m)
 
--- Rule 16: a type has one result at most (3.2.2).
+-- A type has one result at most (3.2.2).
 abbrev pub one_result : Module → Bool
 one_result m = list_all (λ (t : FuncType). nat_le (length t.results) 1) m.types
 
@@ -160,21 +155,21 @@ pub record Valid (m : Module) : Type 0 where
   pub names : names_differ m ≡ true
 
 -- a rule's number where the rule fails, in front of others
-abbrev pub unless : Bool → ℕ → List ℕ → List ℕ
+abbrev pub unless : Bool → Rule → List ℕ → List ℕ
 unless true rule more = more
-unless false rule more = rule ∷ more
+unless false rule more = number rule ∷ more
 
--- The rules that the module breaks outside its bodies, in rising number.
+-- The numbers of the rules that the module breaks outside its bodies, rising.
 abbrev pub broken_outside : Module → List ℕ
 broken_outside m =
-    unless (types_there m) 1
-    (unless (funcs_there m) 2
-    (unless (tables_there m) 3
-    (unless (memories_there m) 4
-    (unless (globals_there m) 5
-    (unless (all_limits_fit m) 11
-    (unless (one_each m) 12
-    (unless (all_constant m) 13
-    (unless (names_differ m) 14
-    (unless (start_lawful m) 15
-    (unless (one_result m) 16 []))))))))))
+    unless (types_there m) UnknownType
+    (unless (funcs_there m) UnknownFunc
+    (unless (tables_there m) UnknownTable
+    (unless (memories_there m) UnknownMemory
+    (unless (globals_there m) UnknownGlobal
+    (unless (all_limits_fit m) BadLimits
+    (unless (one_each m) SecondInstance
+    (unless (all_constant m) NotConstant
+    (unless (names_differ m) DuplicateExport
+    (unless (start_lawful m) StartType
+    (unless (one_result m) SecondResult []))))))))))

@@ -1,6 +1,7 @@
 //! Copies of modules, part by part.
 
-ghost use Rattle.std.specs.Prelude.{◌≡◌, IfOk, map};
+ghost use Rattle.std.specs.Prelude.{◌≡◌, IfOk, map, true};
+ghost use Rattle.wa_types.specs.Leaves.{is_leaf};
 ghost use Rattle.wa_types.specs.Syntax.{Code};
 ghost use Rattle.wa_types.specs.View.{in_front, code, func_type_of, func_of, global_of, elem_of, segment_of, custom_of, module_of};
 
@@ -13,10 +14,18 @@ use std::alloc::{AllocError, Global};
 pub fn copy_module(alloc: Global, module: &Module) -> Result<Module, AllocError>
     ensures { IfOk result (λ m. module_of m ≡ module_of «module».now) }
 {
+    let funcs = copy_funcs(alloc, &module.funcs)?;
+    copy_around(alloc, module, funcs)
+}
+
+/// A copy of the module with these functions in place of its own.
+pub fn copy_around(alloc: Global, module: &Module, funcs: Vec<Func>) -> Result<Module, AllocError>
+    ensures { IfOk result (λ m. module_of m ≡ record (module_of «module».now) { funcs = map func_of funcs.items }) }
+{
     Ok(Module {
         types: copy_types(alloc, &module.types)?,
         imports: copy_imports(alloc, &module.imports)?,
-        funcs: copy_funcs(alloc, &module.funcs)?,
+        funcs,
         tables: Vec::from_slice(alloc, &module.tables)?,
         memories: Vec::from_slice(alloc, &module.memories)?,
         globals: copy_globals(alloc, &module.globals)?,
@@ -63,13 +72,20 @@ fn copy_funcs(alloc: Global, funcs: &[Func]) -> Result<Vec<Func>, AllocError>
 {
     let mut out = Vec::with_capacity(alloc, funcs.len())?;
     for func in funcs {
-        out.push(Func {
-            sort: func.sort,
-            locals: Vec::from_slice(alloc, &func.locals)?,
-            body: copy_body(alloc, &func.body)?,
-        })?;
+        out.push(copy_func(alloc, func)?)?;
     }
     Ok(out)
+}
+
+/// An equal function.
+pub fn copy_func(alloc: Global, func: &Func) -> Result<Func, AllocError>
+    ensures { IfOk result (λ f. func_of f ≡ func_of func.now) }
+{
+    Ok(Func {
+        sort: func.sort,
+        locals: Vec::from_slice(alloc, &func.locals)?,
+        body: copy_body(alloc, &func.body)?,
+    })
 }
 
 #[tactic(auto, using(crate::proofs::Copying::mapping))]
@@ -156,7 +172,7 @@ fn copy_name(alloc: Global, name: &Name) -> Result<Name, AllocError>
 /// An equal body.
 #[cycle(copy)]
 #[tactic(auto, using(crate::proofs::Copying::copying))]
-fn copy_body(alloc: Global, body: &[Instr]) -> Result<Vec<Instr>, AllocError>
+pub fn copy_body(alloc: Global, body: &[Instr]) -> Result<Vec<Instr>, AllocError>
     ensures { IfOk result (λ v. code v.items ≡ code body.now) }
 {
     let mut out = Vec::with_capacity(alloc, body.len())?;
@@ -168,8 +184,36 @@ fn copy_body(alloc: Global, body: &[Instr]) -> Result<Vec<Instr>, AllocError>
 
 /// An equal instruction.
 #[cycle(copy)]
-#[tactic(auto, using(crate::proofs::ViewLemmas::constructs))]
+#[tactic(auto, using(crate::proofs::LeafLemmas::copying_one))]
 fn copy_instr(alloc: Global, instr: &Instr) -> Result<Instr, AllocError>
+    ensures { IfOk result (λ i. (rest : Code) → in_front i rest ≡ in_front instr.now rest) }
+{
+    match instr {
+        Instr::Block { result, body } => Ok(Instr::Block {
+            result: *result,
+            body: copy_body(alloc, body)?,
+        }),
+        Instr::Loop { result, body } => Ok(Instr::Loop {
+            result: *result,
+            body: copy_body(alloc, body)?,
+        }),
+        Instr::If {
+            result,
+            then_arm,
+            else_arm,
+        } => Ok(Instr::If {
+            result: *result,
+            then_arm: copy_body(alloc, then_arm)?,
+            else_arm: copy_body(alloc, else_arm)?,
+        }),
+        _ => copy_leaf(alloc, instr),
+    }
+}
+
+/// An equal instruction, of one that holds no other.
+#[tactic(auto, using(crate::proofs::LeafLemmas::copying_leaf))]
+pub fn copy_leaf(alloc: Global, instr: &Instr) -> Result<Instr, AllocError>
+    requires { is_leaf instr.now ≡ true }
     ensures { IfOk result (λ i. (rest : Code) → in_front i rest ≡ in_front instr.now rest) }
 {
     match instr {
@@ -190,11 +234,11 @@ fn copy_instr(alloc: Global, instr: &Instr) -> Result<Instr, AllocError>
         }),
         Instr::Call(func) => Ok(Instr::Call(*func)),
         Instr::CallIndirect(sort) => Ok(Instr::CallIndirect(*sort)),
-        Instr::LocalGet(local) => Ok(Instr::LocalGet(*local)),
-        Instr::LocalSet(local) => Ok(Instr::LocalSet(*local)),
-        Instr::LocalTee(local) => Ok(Instr::LocalTee(*local)),
-        Instr::GlobalGet(global) => Ok(Instr::GlobalGet(*global)),
-        Instr::GlobalSet(global) => Ok(Instr::GlobalSet(*global)),
+        Instr::LocalGet(x) => Ok(Instr::LocalGet(*x)),
+        Instr::LocalSet(x) => Ok(Instr::LocalSet(*x)),
+        Instr::LocalTee(x) => Ok(Instr::LocalTee(*x)),
+        Instr::GlobalGet(x) => Ok(Instr::GlobalGet(*x)),
+        Instr::GlobalSet(x) => Ok(Instr::GlobalSet(*x)),
         Instr::Load { op, align, offset } => Ok(Instr::Load {
             op: *op,
             align: *align,
@@ -205,22 +249,6 @@ fn copy_instr(alloc: Global, instr: &Instr) -> Result<Instr, AllocError>
             align: *align,
             offset: *offset,
         }),
-        Instr::Block { result, body } => Ok(Instr::Block {
-            result: *result,
-            body: copy_body(alloc, body)?,
-        }),
-        Instr::Loop { result, body } => Ok(Instr::Loop {
-            result: *result,
-            body: copy_body(alloc, body)?,
-        }),
-        Instr::If {
-            result,
-            then_arm,
-            else_arm,
-        } => Ok(Instr::If {
-            result: *result,
-            then_arm: copy_body(alloc, then_arm)?,
-            else_arm: copy_body(alloc, else_arm)?,
-        }),
+        Instr::Block { .. } | Instr::Loop { .. } | Instr::If { .. } => unreachable!(),
     }
 }

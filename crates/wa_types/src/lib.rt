@@ -17,13 +17,14 @@ mod instrs;
 mod leb;
 mod names;
 mod operators;
+mod rules;
 mod syntax;
 mod typing_laws;
 mod values;
 mod weights;
 
 pub use bounds::{Bounds, LimitKind};
-pub use copy::copy_module;
+pub use copy::{copy_around, copy_body, copy_func, copy_leaf, copy_module};
 pub use frame_laws::{live_is_path, one_each_call, slots_are_pairs};
 pub use instrs::Instr;
 pub use leb::{
@@ -32,6 +33,7 @@ pub use leb::{
 };
 pub use names::Name;
 pub use operators::NumOp;
+pub use rules::Rule;
 pub use syntax::{
     Custom, Elem, Export, Func, FuncType, GlobalDef, Import, ImportKind, Limits, Module, Run,
     Segment, Space,

@@ -116,7 +116,7 @@ map_append view [] t = refl
 map_append view (x ∷ s) t = ap (λ z. view x ∷ z) (map_append view s t)
 
 -- the item that comes next
-pub record Next {A X : Type 0} (view : A → X) (Spelled : X → ℕ → List ℕ → Type 0) (got : List A) (here end : Place) (xs : List X) : Type 0 where
+pub record NextEntry {A X : Type 0} (view : A → X) (Spelled : X → ℕ → List ℕ → Type 0) (got : List A) (here end : Place) (xs : List X) : Type 0 where
   pub item : X
   pub more : List X
   pub whole : map view got ++ item ∷ more ≡ xs
@@ -125,7 +125,7 @@ pub record Next {A X : Type 0} (view : A → X) (Spelled : X → ℕ → List �
   pub others : Between (Items Spelled more) middle end
 
 next_of : {A X : Type 0} (view : A → X) (Spelled : X → ℕ → List ℕ → Type 0) (got : List A) (here end : Place) (xs rest : List X) → map view got ++ rest ≡ xs
-    → Between (Items Spelled rest) here end → length got < length xs → Next view Spelled got here end xs
+    → Between (Items Spelled rest) here end → length got < length xs → NextEntry view Spelled got here end xs
 next_of view Spelled got here end xs [] e b k =
     absurd (let n : length (map view got) + 0 ≡ length xs = sym (length-append (map view got) []) ∙ ap length e in omega (arith, map_length view got, n))
 next_of view Spelled got here end xs (x ∷ more) e b k =
@@ -133,7 +133,7 @@ next_of view Spelled got here end xs (x ∷ more) e b k =
     record { item = x; more = more; whole = e; middle = p.middle; first = p.first; others = p.second }
 
 next : {A X : Type 0} (view : A → X) (Spelled : X → ℕ → List ℕ → Type 0) (count : ℕ) (got : List A) (here end : Place) (xs : List X) → Going view Spelled count got here end xs
-    → length got < count → Next view Spelled got here end xs
+    → length got < count → NextEntry view Spelled got here end xs
 next view Spelled count got here end xs g k = next_of view Spelled got here end xs g.rest g.whole g.between (let c = g.counted in omega (arith, c, k))
 
 pub keeps_more : {A X : Type 0} (view : A → X) (Spelled : X → ℕ → List ℕ → Type 0) (count : ℕ) (old here new : Place) (got more : List A) (a : A) → Keeps view Spelled count old got here

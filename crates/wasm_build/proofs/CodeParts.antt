@@ -4,18 +4,18 @@ use Rattle.wa_types.specs.declared.values.ValType.{ValType}
 use Rattle.wa_types.specs.declared.instrs.Instr.{Instr}
 use Rattle.wa_types.specs.Binary.{RawCode, ended, otherwise, instr, nested, branched}
 use Rattle.wa_types.specs.Encoding.{shape_byte}
-use Rattle.wa_types.specs.Opcodes.{Follows, follows, shape}
-use Rattle.wa_types.specs.Spells.{◌▸◌, BlockType, OperandsOf, CodeOf}
+use Rattle.wa_types.specs.Opcodes.{Form, follows, form}
+use Rattle.wa_types.specs.Spells.{◌▸◌, BlockType, ImmediatesOf, CodeOf}
 use Rattle.wa_types.specs.Syntax.{Plain, Shape, a_block, a_loop, Code, done, plain, nest, branch}
 use Rattle.wa_types.specs.View.{in_front, code, onto}
 use Rattle.wa_types.specs.Reading.{IsCode}
-use Rattle.wa_types.proofs.ViewLemmas.{in_block, in_loop, in_if, onto_done, is_block, is_loop, is_if, is_plain, kind}
+use Rattle.wa_types.proofs.ViewLemmas.{in_block, in_loop, in_if, onto_done, is_block, is_loop, is_if, is_plain, instr_kind}
 use Rattle.wasm_build.specs.declared.BuildFault.{BuildFault}
 use Rattle.wasm_build.specs.declared.BuildFault.TheVariants.{Memory}
 use Rattle.wasm_cursor.specs.Places.{Place}
 use Rattle.wasm_build.specs.Builds.{Between, Builds}
-use Rattle.wasm_build.specs.BuildsCode.{Next, an_instr, open_block, open_loop, open_if, an_else, an_end, SpelledCode, SpelledExpression, SpelledResult, SpelledConstruct, SpelledArms}
-use Rattle.wasm_build.specs.BuildsCode.{GivesNext, GivesNest, BuildsNext, IsOfOpcode, SpelledPlain, alone}
+use Rattle.wasm_build.specs.BuildsCode.{CodeItem, an_instr, open_block, open_loop, open_if, an_else, an_end, SpelledCode, SpelledExpression, SpelledResult, SpelledConstruct, SpelledArms}
+use Rattle.wasm_build.specs.BuildsCode.{GivesNext, GivesNest, BuildsNext, IsOfOpcode, SpelledPlain, code_of_one}
 use Rattle.wasm_build.proofs.Betweens.{Parts, parts, behind_first, nothing_between}
 
 -- What code begins with, by its first byte, and what stands behind that byte.
@@ -58,14 +58,14 @@ opened first_arm (otherwise k arm) (nest s r b m) else_arm at bytes e h = absurd
 opened first_arm (otherwise k arm) (branch r a b m) else_arm at bytes e h = absurd e
 opened first_arm (instr op operands raw) (plain p rest) else_arm at bytes e h =
     let g = h.1 in
-    let w = one_back op.byte at g.0 g.1 bytes (OperandsOf operands ▸ CodeOf first_arm raw) g.2 g.3.1 g.4 in
-    let is : IsOfOpcode op.byte p = record { opcode = e.0.opcode; operands = h.0 ∙ ap (λ z. Some (shape z)) e.0.follows; kind = e.0.kind } in
+    let w = one_back op.byte at g.0 g.1 bytes (ImmediatesOf operands ▸ CodeOf first_arm raw) g.2 g.3.1 g.4 in
+    let is : IsOfOpcode op.byte p = record { opcode = e.0.opcode; operands = h.0 ∙ ap (λ z. Some (form z)) e.0.follows; kind = e.0.kind } in
     let q = w.1 in
     record {
       byte = op.byte;
       back = g.1;
       whole = w.0;
-      opens = opens_plain p rest refl is (q.0, q.1, q.2, (p, refl, is, subst (λ o. OperandsOf o (at + 1) q.0) e.0.follows q.3), (raw, e.1, q.4));
+      opens = opens_plain p rest refl is (q.0, q.1, q.2, (p, refl, is, subst (λ o. ImmediatesOf o (at + 1) q.0) e.0.follows q.3), (raw, e.1, q.4));
     }
 opened first_arm (instr op operands raw) done else_arm at bytes e h = absurd e
 opened first_arm (instr op operands raw) (nest s r b m) else_arm at bytes e h = absurd e
@@ -126,7 +126,7 @@ pub whole_is : (got : List Instr) (rest body : Code) → onto got rest ≡ body 
 whole_is got rest body e f = sym (onto_done got) ∙ ap (onto got) (sym f) ∙ e
 
 -- what stands behind a first byte
-none_some : (f : Follows) → None ≡ Some f → ⊥
+none_some : (f : Form) → None ≡ Some f → ⊥
 none_some f e = cc
 
 no_plain : (v k : ℕ) (p : Plain) → follows k ≡ None → v ≡ k → IsOfOpcode v p → ⊥
@@ -276,7 +276,7 @@ next_else v old here r e = record {
 no_bytes : (v : ℕ) (xs ys : List ℕ) → [] ≡ (v ∷ xs) ++ ys → ⊥
 no_bytes v xs ys e = cc
 
-pub next_none : (q : Result Next BuildFault) (old here : Place) → old.left ≡ [] → BuildsNext q old here
+pub next_none : (q : Result CodeItem BuildFault) (old here : Place) → old.left ≡ [] → BuildsNext q old here
 next_none q old here e = record {
   built = λ first_arm body else_arm end b.
       let (raw, is, h) = b.spelled in
@@ -284,7 +284,7 @@ next_none q old here e = record {
       absurd (no_bytes o.byte o.back end.left (sym e ∙ b.left ∙ ap (λ z. z ++ end.left) o.whole));
 }
 
-next_fails : (q : Result Next BuildFault) (first_arm : Bool) (body else_arm : Code) (new end : Place) (d y : BuildFault) → q ≡ Err y → y ≡ d → d ≡ Memory → GivesNext q first_arm body else_arm new end
+next_fails : (q : Result CodeItem BuildFault) (first_arm : Bool) (body else_arm : Code) (new end : Place) (d y : BuildFault) → q ≡ Err y → y ≡ d → d ≡ Memory → GivesNext q first_arm body else_arm new end
 next_fails q first_arm body else_arm new end d y e f g = let P : Result _ BuildFault → Type 0 = λ z. GivesNext z first_arm body else_arm new end in subst P (sym e) (f ∙ g)
 
 -- the head of a construct, whose result was read or not
@@ -322,7 +322,7 @@ branch_parts v old here end first_arm body else_arm r e b =
       second = w.second;
     }
 
-pub nest_stop : (s : Shape) (v : ℕ) (old here new : Place) (d y : BuildFault) (q : Result Next BuildFault) → ByteRead v old here → v ≡ shape_byte s → q ≡ Err y → y ≡ d
+pub nest_stop : (s : Shape) (v : ℕ) (old here new : Place) (d y : BuildFault) (q : Result CodeItem BuildFault) → ByteRead v old here → v ≡ shape_byte s → q ≡ Err y → y ≡ d
     → Builds (λ (r : Option ValType). r) SpelledResult (Err d) here new → BuildsNext q old new
 nest_stop s v old here new d y q r e f g n = record {
   built = λ first_arm body else_arm end b.
@@ -330,7 +330,7 @@ nest_stop s v old here new d y q r e f g n = record {
       next_fails q first_arm body else_arm new end d y f g (n.built k.result k.head.middle k.head.first);
 }
 
-pub if_stop : (v : ℕ) (old here new : Place) (d y : BuildFault) (q : Result Next BuildFault) → ByteRead v old here → v ≡ 0x04 → q ≡ Err y → y ≡ d
+pub if_stop : (v : ℕ) (old here new : Place) (d y : BuildFault) (q : Result CodeItem BuildFault) → ByteRead v old here → v ≡ 0x04 → q ≡ Err y → y ≡ d
     → Builds (λ (r : Option ValType). r) SpelledResult (Err d) here new → BuildsNext q old new
 if_stop v old here new d y q r e f g n = record {
   built = λ first_arm body else_arm end b.
@@ -363,8 +363,8 @@ next_if v old here new r w e n = record {
       (k.arm, k.other, k.rest, k.middle, k.whole ∙ ap (λ z. branch z k.arm k.other k.rest) (sym g.0), behind_first _ _ here k.middle new k.head g.1, k.second);
 }
 
-pub plain_stop : (v : ℕ) (old here new : Place) (d y : BuildFault) (q : Result Next BuildFault) → ByteRead v old here → IsOther v → q ≡ Err y → y ≡ d
-    → Builds alone (SpelledPlain v) (Err d) here new → BuildsNext q old new
+pub plain_stop : (v : ℕ) (old here new : Place) (d y : BuildFault) (q : Result CodeItem BuildFault) → ByteRead v old here → IsOther v → q ≡ Err y → y ≡ d
+    → Builds code_of_one (SpelledPlain v) (Err d) here new → BuildsNext q old new
 plain_stop v old here new d y q r e f g n = record {
   built = λ first_arm body else_arm end b.
       let o = opens_here first_arm v body else_arm old here end r.left r.at b in
@@ -383,15 +383,15 @@ branch_not : (r : Option ValType) (c d : Code) (p : Plain) → branch r c d done
 branch_not r c d p e = cc
 
 -- an instruction that is this one alone is this one before whatever code
-alone_is : (i : Instr) (p : Plain) → alone i ≡ plain p done → (rest : Code) → in_front i rest ≡ plain p rest
-alone_is i p e rest = elim (kind i) [
+alone_is : (i : Instr) (p : Plain) → code_of_one i ≡ plain p done → (rest : Code) → in_front i rest ≡ plain p rest
+alone_is i p e rest = elim (instr_kind i) [
   | is_block r v f ↦ absurd (nest_not a_block r (code v.items) p (sym (in_block r v done) ∙ ap (λ z. in_front z done) (sym f) ∙ e))
   | is_loop r v f ↦ absurd (nest_not a_loop r (code v.items) p (sym (in_loop r v done) ∙ ap (λ z. in_front z done) (sym f) ∙ e))
   | is_if r v w f ↦ absurd (branch_not r (code v.items) (code w.items) p (sym (in_if r v w done) ∙ ap (λ z. in_front z done) (sym f) ∙ e))
   | is_plain q f ↦ f rest ∙ ap (λ z. plain z rest) (plain_same q p (sym (f done) ∙ e))
 ]
 
-pub next_plain : (v : ℕ) (old here new : Place) (i : Instr) → ByteRead v old here → IsOther v → Builds alone (SpelledPlain v) (Ok i) here new → BuildsNext (Ok (an_instr i)) old new
+pub next_plain : (v : ℕ) (old here new : Place) (i : Instr) → ByteRead v old here → IsOther v → Builds code_of_one (SpelledPlain v) (Ok i) here new → BuildsNext (Ok (an_instr i)) old new
 next_plain v old here new i r e n = record {
   built = λ first_arm body else_arm end b.
       let o = opens_here first_arm v body else_arm old here end r.left r.at b in

@@ -16,10 +16,10 @@ use Rattle.wasm_build.specs.declared.levels.Opened.TheVariants.{Block, Loop, The
 use Rattle.wasm_build.specs.declared.levels.Level.{Level}
 use Rattle.wasm_cursor.specs.Places.{Place}
 use Rattle.wasm_build.specs.Builds.{Between, Builds}
-use Rattle.wasm_build.specs.BuildsCode.{Next, an_instr, open_block, open_loop, open_if, an_else, an_end, SpelledCode, SpelledExpression, BuildsNext}
+use Rattle.wasm_build.specs.BuildsCode.{CodeItem, an_instr, open_block, open_loop, open_if, an_else, an_end, SpelledCode, SpelledExpression, SpelledPlain, code_of_one, Puts, BuildsNext}
 use Rattle.wasm_build.specs.BuildsLevels.{Inside, Ahead, Running, Turned, Turns, closed, IsTurned, IsLost}
 use Rattle.wasm_build.proofs.Betweens.{fails}
-use Rattle.wasm_build.proofs.CodeParts.{whole_is}
+use Rattle.wasm_build.proofs.CodeParts.{whole_is, ByteRead, IsOther, plain_stop, next_plain}
 use Rattle.wasm_build.proofs.Steps.{never}
 
 -- the rest of the innermost sequence, which may be exchanged
@@ -263,7 +263,7 @@ pub turned_memory : (q : Result Bool BuildFault) (d y : BuildFault) (old new : P
 turned_memory q d y old new levels body e f g = subst (λ z. Turned z old levels body new) (sym e) (memory_is old new y (f ∙ g))
 
 -- the head of a construct
-pub turn_open : (opened : Opened) (ty : Option ValType) (next : Next) (q : Result Bool BuildFault) (levels new_levels : List Level) (body new_body : Vec Instr Global) → IfOk q (λ ended. ended ≡ false)
+pub turn_open : (opened : Opened) (ty : Option ValType) (next : CodeItem) (q : Result Bool BuildFault) (levels new_levels : List Level) (body new_body : Vec Instr Global) → IfOk q (λ ended. ended ≡ false)
     → OnOk q (new_levels ≡ levels ++ (record { before = body; ty = ty; opened = opened }) ∷ []) → OnOk q (new_body.items ≡ []) → IfErr q (λ e. e ≡ Memory)
     → ((old here new : Place) → Running old levels body.items here → BuildsNext (Ok next) here new → new_body.items ≡ []
     → new_levels ≡ levels ++ (record { before = body; ty = ty; opened = opened }) ∷ [] → Running old new_levels new_body.items new)
@@ -303,3 +303,19 @@ turn_fails e f n = record { built = λ c end b. fails view _ c _ end _ _ e f (n.
 pub turned_stop : {old here new : Place} {levels : List Level} {got : List Instr} (new_levels : List Level) (body : Vec Instr Global) (q : Result Bool BuildFault) (y : BuildFault)
     → q ≡ Err y → BuildsNext (Err y) here new → Running old levels got here → Turned q old new_levels body new
 turned_stop {old = old} {new = new} new_levels body q y e n r = subst (λ z. Turned z old new_levels body new) (sym e) (next_stop r n refl refl)
+
+-- an instruction that holds no other
+pub turn_put : (op : ℕ) (q : Result Bool BuildFault) (old before here new : Place) (levels : List Level) (body new_body : Vec Instr Global) → ByteRead op before here → IsOther op
+    → Puts op q body.items new_body.items here new → Running old levels body.items before → Turned q old levels new_body new
+turn_put op (Ok ended) old before here new levels body new_body b o p r =
+    subst (λ z. Turned (Ok z) old levels new_body new) (sym p.1) (turn_instr levels body new_body p.0 p.2 old before new r (next_plain op before here new p.0 b o p.3))
+turn_put op (Err d) old before here new levels body new_body b o p r =
+    turned_stop levels new_body (Err d) d refl (plain_stop op before here new d d (Err d) b o refl refl p) r
+
+pub put_stops : (op : ℕ) (here there : Place) (d y : BuildFault) (q : Result Bool BuildFault) (got new : List Instr) → q ≡ Err y → y ≡ d → Builds code_of_one (SpelledPlain op) (Err d) here there
+    → Puts op q got new here there
+put_stops op here there d y q got new e f n =
+    subst (λ z. Puts op z got new here there) (sym e) (subst (λ z. Builds code_of_one (SpelledPlain op) (Err z) here there) (sym f) n)
+
+pub put_memory : (op : ℕ) (here there : Place) (y : BuildFault) (q : Result Bool BuildFault) (got new : List Instr) → q ≡ Err y → y ≡ Memory → Puts op q got new here there
+put_memory op here there y q got new e f = subst (λ z. Puts op z got new here there) (sym e) (record { built = λ c end b. f })

@@ -1,85 +1,19 @@
 -- Which instruction that holds no other has an opcode and what follows it.
-use Rattle.std.proofs.Common.{lit≤, ◌≡◌, ℕ, ◌<◌, ◌≤◌, Option, Some, refl, ap, sym, ◌∙◌, arith, cond, nat_eq}
+use Rattle.std.proofs.Common.{◌≡◌, ℕ, ◌<◌, ◌≤◌, Option, Some, refl, ap, sym, ◌∙◌, arith, cond, nat_eq}
 use Rattle.wa_types.specs.declared.instrs.Instr.{Instr}
 use Rattle.wa_types.specs.declared.instrs.Instr.TheVariants.{Num, Load, Store}
 use Rattle.wa_types.specs.declared.values.Value.TheVariants.{I32 as value_32, I64 as value_64}
 use Rattle.wa_types.specs.declared.operators.NumOp.{NumOp}
-use Rattle.wa_types.specs.declared.operators.NumOp.TheVariants.{I32Eqz, I32Eq, I32Ne, I32LtS, I32LtU, I32GtS, I32GtU, I32LeS, I32LeU, I32GeS, I32GeU, I64Eqz, I64Eq, I64Ne, I64LtS, I64LtU}
-use Rattle.wa_types.specs.declared.operators.NumOp.TheVariants.{I64GtS, I64GtU, I64LeS, I64LeU, I64GeS, I64GeU, I32Clz, I32Ctz, I32Popcnt, I32Add, I32Sub, I32Mul, I32DivS, I32DivU, I32RemS}
-use Rattle.wa_types.specs.declared.operators.NumOp.TheVariants.{I32RemU, I32And, I32Or, I32Xor, I32Shl, I32ShrS, I32ShrU, I32Rotl, I32Rotr, I64Clz, I64Ctz, I64Popcnt, I64Add, I64Sub, I64Mul}
-use Rattle.wa_types.specs.declared.operators.NumOp.TheVariants.{I64DivS, I64DivU, I64RemS, I64RemU, I64And, I64Or, I64Xor, I64Shl, I64ShrS, I64ShrU, I64Rotl, I64Rotr, I32WrapI64}
-use Rattle.wa_types.specs.declared.operators.NumOp.TheVariants.{I64ExtendI32S, I64ExtendI32U}
 use Rattle.wa_types.specs.Operators.{opcode_of}
 use Rattle.wa_types.specs.Binary.{nothing, zero_byte, index, access}
 use Rattle.wa_types.specs.Syntax.{nop, drop, select, const, num, global_get, global_set, load, store, memory_size, memory_grow, Plain, basic, local_get, local_set, local_tee, br, br_if}
 use Rattle.wa_types.specs.Syntax.{br_table, return, unreachable, call, call_indirect, done, plain}
 use Rattle.wa_types.specs.View.{in_front}
-use Rattle.wa_types.specs.Reading.{plain_opcode, plain_operands, HasKind}
+use Rattle.wa_types.specs.Reading.{HasKind}
+use Rattle.wa_types.specs.Opcodes.{plain_immediates, plain_opcode}
+use Rattle.wa_types.proofs.OperatorLemmas.{operator_low}
 use Rattle.file_laws.proofs.CodeWriting.{load_range, store_range}
-use Rattle.wasm_build.specs.BuildsCode.{alone, NamesPlain}
-
-num_low : (op : NumOp) → 0x45 ≤ opcode_of op
-num_low I32Eqz = lit≤ tt
-num_low I32Eq = lit≤ tt
-num_low I32Ne = lit≤ tt
-num_low I32LtS = lit≤ tt
-num_low I32LtU = lit≤ tt
-num_low I32GtS = lit≤ tt
-num_low I32GtU = lit≤ tt
-num_low I32LeS = lit≤ tt
-num_low I32LeU = lit≤ tt
-num_low I32GeS = lit≤ tt
-num_low I32GeU = lit≤ tt
-num_low I64Eqz = lit≤ tt
-num_low I64Eq = lit≤ tt
-num_low I64Ne = lit≤ tt
-num_low I64LtS = lit≤ tt
-num_low I64LtU = lit≤ tt
-num_low I64GtS = lit≤ tt
-num_low I64GtU = lit≤ tt
-num_low I64LeS = lit≤ tt
-num_low I64LeU = lit≤ tt
-num_low I64GeS = lit≤ tt
-num_low I64GeU = lit≤ tt
-num_low I32Clz = lit≤ tt
-num_low I32Ctz = lit≤ tt
-num_low I32Popcnt = lit≤ tt
-num_low I32Add = lit≤ tt
-num_low I32Sub = lit≤ tt
-num_low I32Mul = lit≤ tt
-num_low I32DivS = lit≤ tt
-num_low I32DivU = lit≤ tt
-num_low I32RemS = lit≤ tt
-num_low I32RemU = lit≤ tt
-num_low I32And = lit≤ tt
-num_low I32Or = lit≤ tt
-num_low I32Xor = lit≤ tt
-num_low I32Shl = lit≤ tt
-num_low I32ShrS = lit≤ tt
-num_low I32ShrU = lit≤ tt
-num_low I32Rotl = lit≤ tt
-num_low I32Rotr = lit≤ tt
-num_low I64Clz = lit≤ tt
-num_low I64Ctz = lit≤ tt
-num_low I64Popcnt = lit≤ tt
-num_low I64Add = lit≤ tt
-num_low I64Sub = lit≤ tt
-num_low I64Mul = lit≤ tt
-num_low I64DivS = lit≤ tt
-num_low I64DivU = lit≤ tt
-num_low I64RemS = lit≤ tt
-num_low I64RemU = lit≤ tt
-num_low I64And = lit≤ tt
-num_low I64Or = lit≤ tt
-num_low I64Xor = lit≤ tt
-num_low I64Shl = lit≤ tt
-num_low I64ShrS = lit≤ tt
-num_low I64ShrU = lit≤ tt
-num_low I64Rotl = lit≤ tt
-num_low I64Rotr = lit≤ tt
-num_low I32WrapI64 = lit≤ tt
-num_low I64ExtendI32S = lit≤ tt
-num_low I64ExtendI32U = lit≤ tt
+use Rattle.wasm_build.specs.BuildsCode.{code_of_one, NamesPlain}
 
 -- the instructions that an index follows
 abbrev pub index_at : ℕ → ℕ → Plain
@@ -90,7 +24,7 @@ index_at op x =
 index_same : (x y : ℕ) → index x ≡ index y → x ≡ y
 index_same x y e = cc
 
-index_again : (p : Plain) (x : ℕ) → plain_operands p ≡ index x → index_at (plain_opcode p) x ≡ p
+index_again : (p : Plain) (x : ℕ) → plain_immediates p ≡ index x → index_at (plain_opcode p) x ≡ p
 index_again (basic nop) x e = absurd (cc)
 index_again (basic drop) x e = absurd (cc)
 index_again (basic select) x e = absurd (cc)
@@ -114,7 +48,7 @@ index_again unreachable x e = absurd (cc)
 index_again (call y) x e = ap (λ k. call k) (sym (index_same y x e))
 index_again (call_indirect y) x e = absurd (cc)
 
-pub named_index : (i : Instr) (op k x : ℕ) → op ≡ k → alone i ≡ plain (index_at k x) done → NamesPlain op (index x) (Some i)
+pub named_index : (i : Instr) (op k x : ℕ) → op ≡ k → code_of_one i ≡ plain (index_at k x) done → NamesPlain op (index x) (Some i)
 named_index i op k x a b = record {
   named = λ p h e f. b ∙ ap (λ q. plain q done) (ap (λ n. index_at n x) (sym a ∙ e) ∙ index_again p x f);
 }
@@ -123,13 +57,13 @@ named_index i op k x a b = record {
 abbrev pub simple_at : ℕ → Plain
 simple_at op = cond (nat_eq op 0x00) unreachable (cond (nat_eq op 0x01) (basic nop) (cond (nat_eq op 0x0F) return (cond (nat_eq op 0x1A) (basic drop) (basic select))))
 
-simple_again : (p : Plain) → plain_opcode p < 0x45 → plain_operands p ≡ nothing → simple_at (plain_opcode p) ≡ p
+simple_again : (p : Plain) → plain_opcode p < 0x45 → plain_immediates p ≡ nothing → simple_at (plain_opcode p) ≡ p
 simple_again (basic nop) h e = refl
 simple_again (basic drop) h e = refl
 simple_again (basic select) h e = refl
 simple_again (basic (const (value_32 n))) h e = absurd (cc)
 simple_again (basic (const (value_64 n))) h e = absurd (cc)
-simple_again (basic (num op)) h e = absurd (omega (arith, h, num_low op))
+simple_again (basic (num op)) h e = absurd (omega (arith, h, operator_low op))
 simple_again (basic (global_get y)) h e = absurd (cc)
 simple_again (basic (global_set y)) h e = absurd (cc)
 simple_again (basic (load op align offset)) h e = absurd (cc)
@@ -147,7 +81,7 @@ simple_again unreachable h e = refl
 simple_again (call y) h e = absurd (cc)
 simple_again (call_indirect y) h e = absurd (cc)
 
-pub named_simple : (i : Instr) (op k : ℕ) → op ≡ k → k < 0x45 → alone i ≡ plain (simple_at k) done → NamesPlain op nothing (Some i)
+pub named_simple : (i : Instr) (op k : ℕ) → op ≡ k → k < 0x45 → code_of_one i ≡ plain (simple_at k) done → NamesPlain op nothing (Some i)
 named_simple i op k a small b = record {
   named = λ p h e f. let n = sym a ∙ e in b ∙ ap (λ q. plain q done) (ap simple_at n ∙ simple_again p (omega (arith, n, small)) f);
 }
@@ -156,7 +90,7 @@ some_injective : (m n : NumOp) (r : Option NumOp) → r ≡ Some m → r ≡ Som
 some_injective m n r e f = cc
 
 named_operator : (n : NumOp) (op : ℕ) (r : Option NumOp) → r ≡ Some n → ((m : NumOp) → op ≡ opcode_of m → r ≡ Some m) → (op ≡ 0x00 → ⊥) → (op ≡ 0x01 → ⊥) → (op ≡ 0x0F → ⊥) → (op ≡ 0x1A → ⊥)
-    → (op ≡ 0x1B → ⊥) → (p : Plain) → op ≡ plain_opcode p → plain_operands p ≡ nothing → alone (Num n) ≡ plain p done
+    → (op ≡ 0x1B → ⊥) → (p : Plain) → op ≡ plain_opcode p → plain_immediates p ≡ nothing → code_of_one (Num n) ≡ plain p done
 unfolding in_front
 named_operator n op r q f a b k d w (basic nop) e o = absurd (b e)
 named_operator n op r q f a b k d w (basic drop) e o = absurd (d e)
@@ -188,7 +122,7 @@ names_operator n op r q f a b k d w = record { named = λ p h e o. named_operato
 access_same : (a o c d : ℕ) → access a o ≡ access c d → (a ≡ c) × (o ≡ d)
 access_same a o c d e = ((let p : a ≡ c = cc in p), (let p : o ≡ d = cc in p))
 
-named_load : (op a o : ℕ) → op ≤ 0x35 → (p : Plain) → HasKind p → op ≡ plain_opcode p → plain_operands p ≡ access a o → alone (Load op a o) ≡ plain p done
+named_load : (op a o : ℕ) → op ≤ 0x35 → (p : Plain) → HasKind p → op ≡ plain_opcode p → plain_immediates p ≡ access a o → code_of_one (Load op a o) ≡ plain p done
 unfolding in_front
 named_load op a o small (basic nop) h e f = absurd (cc)
 named_load op a o small (basic drop) h e f = absurd (cc)
@@ -213,7 +147,7 @@ named_load op a o small unreachable h e f = absurd (cc)
 named_load op a o small (call y) h e f = absurd (cc)
 named_load op a o small (call_indirect y) h e f = absurd (cc)
 
-named_store : (op a o : ℕ) → 0x36 ≤ op → (p : Plain) → HasKind p → op ≡ plain_opcode p → plain_operands p ≡ access a o → alone (Store op a o) ≡ plain p done
+named_store : (op a o : ℕ) → 0x36 ≤ op → (p : Plain) → HasKind p → op ≡ plain_opcode p → plain_immediates p ≡ access a o → code_of_one (Store op a o) ≡ plain p done
 unfolding in_front
 named_store op a o big (basic nop) h e f = absurd (cc)
 named_store op a o big (basic drop) h e f = absurd (cc)
@@ -244,7 +178,7 @@ names_load op a o small = record { named = λ p h e f. named_load op a o small p
 pub names_store : (op a o : ℕ) → 0x36 ≤ op → NamesPlain op (access a o) (Some (Store op a o))
 names_store op a o big = record { named = λ p h e f. named_store op a o big p h e f }
 
-named_size : (op : ℕ) (p : Plain) → op ≡ 0x3F → op ≡ plain_opcode p → plain_operands p ≡ zero_byte → basic memory_size ≡ p
+named_size : (op : ℕ) (p : Plain) → op ≡ 0x3F → op ≡ plain_opcode p → plain_immediates p ≡ zero_byte → basic memory_size ≡ p
 named_size op (basic nop) a e f = absurd (cc)
 named_size op (basic drop) a e f = absurd (cc)
 named_size op (basic select) a e f = absurd (cc)
@@ -268,7 +202,7 @@ named_size op unreachable a e f = absurd (cc)
 named_size op (call y) a e f = absurd (cc)
 named_size op (call_indirect y) a e f = absurd (cc)
 
-named_grow : (op : ℕ) (p : Plain) → (op ≡ 0x3F → ⊥) → op ≡ plain_opcode p → plain_operands p ≡ zero_byte → basic memory_grow ≡ p
+named_grow : (op : ℕ) (p : Plain) → (op ≡ 0x3F → ⊥) → op ≡ plain_opcode p → plain_immediates p ≡ zero_byte → basic memory_grow ≡ p
 named_grow op (basic nop) a e f = absurd (cc)
 named_grow op (basic drop) a e f = absurd (cc)
 named_grow op (basic select) a e f = absurd (cc)
@@ -292,8 +226,8 @@ named_grow op unreachable a e f = absurd (cc)
 named_grow op (call y) a e f = absurd (cc)
 named_grow op (call_indirect y) a e f = absurd (cc)
 
-pub names_size : (i : Instr) (op : ℕ) → op ≡ 0x3F → alone i ≡ plain (basic memory_size) done → NamesPlain op zero_byte (Some i)
+pub names_size : (i : Instr) (op : ℕ) → op ≡ 0x3F → code_of_one i ≡ plain (basic memory_size) done → NamesPlain op zero_byte (Some i)
 names_size i op a b = record { named = λ p h e f. b ∙ ap (λ q. plain q done) (named_size op p a e f) }
 
-pub names_grow : (i : Instr) (op : ℕ) → (op ≡ 0x3F → ⊥) → alone i ≡ plain (basic memory_grow) done → NamesPlain op zero_byte (Some i)
+pub names_grow : (i : Instr) (op : ℕ) → (op ≡ 0x3F → ⊥) → code_of_one i ≡ plain (basic memory_grow) done → NamesPlain op zero_byte (Some i)
 names_grow i op a b = record { named = λ p h e f. b ∙ ap (λ q. plain q done) (named_grow op p a e f) }

@@ -1,17 +1,19 @@
 -- What the builder gives for bytes that spell code.
-use Rattle.std.specs.Prelude.{◌≡◌, ℕ, List, Bool, true, false, Option, Some, None, Result, Ok, Err}
+use Rattle.std.specs.Prelude.{◌≡◌, ℕ, List, [], ◌∷◌, ◌++◌, Bool, true, false, Option, Some, None, Result, Ok, Err}
 use Rattle.wa_types.specs.declared.values.ValType.{ValType}
 use Rattle.wa_types.specs.declared.instrs.Instr.{Instr}
+use Rattle.wa_types.specs.declared.instrs.Instr.TheVariants.{Num}
+use Rattle.wa_types.specs.declared.operators.NumOp.{NumOp}
 use Rattle.wa_types.specs.Syntax.{Plain, Shape, a_block, a_loop, Code, done, plain, nest, branch}
 use Rattle.wa_types.specs.View.{in_front}
-use Rattle.wa_types.specs.Binary.{Operands}
-use Rattle.wa_types.specs.Opcodes.{follows, shape}
-use Rattle.wa_types.specs.Spells.{◌▸◌, BlockType, OperandsOf, CodeOf}
-use Rattle.wa_types.specs.Reading.{plain_opcode, plain_operands, HasKind, IsCode}
+use Rattle.wa_types.specs.Binary.{Immediates, nothing}
+use Rattle.wa_types.specs.Opcodes.{follows, form, no_immediate, plain_immediates, plain_opcode}
+use Rattle.wa_types.specs.Spells.{◌▸◌, BlockType, ImmediatesOf, CodeOf}
+use Rattle.wa_types.specs.Reading.{HasKind, IsCode}
 use Rattle.wasm_build.specs.declared.BuildFault.{BuildFault}
 use Rattle.wasm_build.specs.declared.BuildFault.TheVariants.{Memory, NotSpelled}
 use Rattle.wasm_cursor.specs.Places.{Place}
-use Rattle.wasm_build.specs.Builds.{Between, SpelledAs, IsResult}
+use Rattle.wasm_build.specs.Builds.{Between, Builds, SpelledAs, IsResult}
 
 -- code up to its end, or up to an else and the other arm behind it
 abbrev pub SpelledCode : (first_arm : Bool) → (body else_arm : Code) → ℕ → List ℕ → Type 0
@@ -32,10 +34,10 @@ abbrev pub SpelledArms : Option ValType × Code × Code → ℕ → List ℕ →
 SpelledArms x = SpelledResult x.0 ▸ SpelledCode true x.1 x.2
 
 -- What stands next in a sequence: an instruction that holds no other, the head of a construct with its result, an else or an end.
-pub data Next : Type 0 where
-  an_instr : Instr → Next
-  open_block open_loop open_if : (ty : Option ValType) → Next
-  an_else an_end : Next
+pub data CodeItem : Type 0 where
+  an_instr : Instr → CodeItem
+  open_block open_loop open_if : (ty : Option ValType) → CodeItem
+  an_else an_end : CodeItem
 
 -- a block or a loop before the rest: its body is spelled from here to a place, and from there on the rest
 abbrev pub GivesNest : Shape → Option ValType → (first_arm : Bool) → (body else_arm : Code) → (new end : Place) → Type 0
@@ -48,7 +50,7 @@ GivesBranch r first_arm body else_arm new end =
     (arm other rest : Code) × (middle : Place) × (body ≡ branch r arm other rest) × Between (SpelledCode true arm other) new middle × Between (SpelledCode first_arm rest else_arm) middle end
 
 -- the next instruction before the rest, or the head of a construct, or the end, or the else before the other arm
-abbrev pub GivesNext : Result Next BuildFault → (first_arm : Bool) → (body else_arm : Code) → (new end : Place) → Type 0
+abbrev pub GivesNext : Result CodeItem BuildFault → (first_arm : Bool) → (body else_arm : Code) → (new end : Place) → Type 0
 GivesNext (Ok (an_instr i)) first_arm body else_arm new end =
     (rest : Code) × (body ≡ in_front i rest) × Between (SpelledCode first_arm rest else_arm) new end
 GivesNext (Ok (open_block r)) first_arm body else_arm new end = GivesNest a_block r first_arm body else_arm new end
@@ -59,31 +61,40 @@ GivesNext (Ok an_else) first_arm body else_arm new end =
     (body ≡ done) × (first_arm ≡ true) × Between (SpelledExpression else_arm) new end
 GivesNext (Err e) first_arm body else_arm new end = e ≡ Memory
 
-pub record BuildsNext (result : Result Next BuildFault) (old new : Place) : Type 0 where
+pub record BuildsNext (result : Result CodeItem BuildFault) (old new : Place) : Type 0 where
   pub built : (first_arm : Bool) (body else_arm : Code) (end : Place) → Between (SpelledCode first_arm body else_arm) old end → GivesNext result first_arm body else_arm new end
 
 -- an instruction of this opcode that holds no other, by what follows the opcode
 pub record IsOfOpcode (op : ℕ) (p : Plain) : Type 0 where
   pub opcode : op ≡ plain_opcode p
-  pub operands : follows op ≡ Some (shape (plain_operands p))
+  pub operands : follows op ≡ Some (form (plain_immediates p))
   pub kind : HasKind p
 
 abbrev pub SpelledPlain : (op : ℕ) → Code → ℕ → List ℕ → Type 0
-SpelledPlain op c at bytes = (p : Plain) × (c ≡ plain p done) × IsOfOpcode op p × OperandsOf (plain_operands p) at bytes
+SpelledPlain op c at bytes = (p : Plain) × (c ≡ plain p done) × IsOfOpcode op p × ImmediatesOf (plain_immediates p) at bytes
 
 -- the instruction alone
-abbrev pub alone : Instr → Code
-alone i = in_front i done
+abbrev pub code_of_one : Instr → Code
+code_of_one i = in_front i done
 
 abbrev pub IsNamed : Option Instr → Plain → Type 0
-IsNamed (Some i) p = alone i ≡ plain p done
+IsNamed (Some i) p = code_of_one i ≡ plain p done
 IsNamed None p = ⊥
 
 -- whatever instruction has this opcode and these operands is the result
-pub record NamesPlain (op : ℕ) (operands : Operands) (result : Option Instr) : Type 0 where
-  pub named : (p : Plain) → HasKind p → op ≡ plain_opcode p → plain_operands p ≡ operands → IsNamed result p
+pub record NamesPlain (op : ℕ) (operands : Immediates) (result : Option Instr) : Type 0 where
+  pub named : (p : Plain) → HasKind p → op ≡ plain_opcode p → plain_immediates p ≡ operands → IsNamed result p
 
 -- that instruction, where there is one
 abbrev pub FoundIn : Option Instr → Result Instr BuildFault → Type 0
 FoundIn (Some i) result = result ≡ Ok i
 FoundIn None result = result ≡ Err NotSpelled
+
+-- the instruction of this opcode stands behind those before it, and the expression goes on; or there is none
+abbrev pub Puts : (op : ℕ) → Result Bool BuildFault → (old new : List Instr) → (here there : Place) → Type 0
+Puts op (Ok ended) old new here there = (instr : Instr) × (ended ≡ false) × (new ≡ old ++ instr ∷ []) × Builds code_of_one (SpelledPlain op) (Ok instr) here there
+Puts op (Err e) old new here there = Builds code_of_one (SpelledPlain op) (Err e) here there
+
+-- the same of a numeric instruction, whatever opcode it has
+abbrev pub PutsNumber : NumOp → Result Bool BuildFault → (old new : List Instr) → Type 0
+PutsNumber n result old new = (op : ℕ) (here : Place) → follows op ≡ Some no_immediate → NamesPlain op nothing (Some (Num n)) → Puts op result old new here here

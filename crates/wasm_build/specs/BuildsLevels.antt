@@ -13,7 +13,7 @@ use Rattle.wasm_build.specs.declared.levels.Opened.TheVariants.{Block, Loop, The
 use Rattle.wasm_build.specs.declared.levels.Level.{Level}
 use Rattle.wasm_cursor.specs.Places.{Place}
 use Rattle.wasm_build.specs.Builds.{Between, Builds}
-use Rattle.wasm_build.specs.BuildsCode.{Next, SpelledCode, SpelledExpression, BuildsNext}
+use Rattle.wasm_build.specs.BuildsCode.{CodeItem, SpelledCode, SpelledExpression, BuildsNext}
 
 -- the construct before the rest, where this is its body
 abbrev pub closed : Opened → Option ValType → (body rest : Code) → Code
@@ -60,6 +60,6 @@ Turned (Ok true) old levels body new = Builds (λ (v : Vec Instr Global). code v
 Turned (Err d) old levels body new = Builds (λ (v : Vec Instr Global). code v.items) SpelledExpression (Err d) old new
 
 -- one turn, by what stands next
-abbrev pub Turns : Next → (levels : List Level) → (body : Vec Instr Global) → Result Bool BuildFault → (new_levels : List Level) → (new_body : Vec Instr Global) → Type 0
+abbrev pub Turns : CodeItem → (levels : List Level) → (body : Vec Instr Global) → Result Bool BuildFault → (new_levels : List Level) → (new_body : Vec Instr Global) → Type 0
 Turns next levels body result new_levels new_body =
     (old here new : Place) → Running old levels body.items here → BuildsNext (Ok next) here new → Turned result old new_levels new_body new

@@ -1,4 +1,5 @@
-// Constructs whose bodies are being read.
+//! Constructs whose bodies are being read (standard, section 5.4.1).
+
 ghost use Rattle.std.specs.Prelude.{◌≡◌, ◌++◌, [], ◌∷◌, false, OnOk, IfOk};
 ghost use Rattle.std.specs.Result.{IfErr};
 ghost use Rattle.wa_types.specs.Syntax.{Code};

@@ -23,6 +23,7 @@ use wasm_cursor::NotSpelled;
 /// Why nothing was built.
 #[derive(Clone, Copy, Debug, PartialEq, Eq, Error)]
 pub enum BuildFault {
+    /// Want of memory.
     #[error("out of memory")]
     Memory,
     /// The bytes don't spell a module.

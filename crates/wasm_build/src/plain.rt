@@ -5,14 +5,14 @@ ghost use Rattle.wa_types.specs.Binary.{nothing, zero_byte, index, access};
 ghost use Rattle.wa_types.specs.Operators.{opcode_of};
 ghost use Rattle.wa_types.specs.declared.operators.NumOp.{NumOp};
 ghost use Rattle.wasm_build.specs.Builds.{Builds};
-ghost use Rattle.wasm_build.specs.BuildsCode.{SpelledPlain, alone, NamesPlain, FoundIn};
+ghost use Rattle.wasm_build.specs.BuildsCode.{SpelledPlain, code_of_one, NamesPlain, FoundIn};
 
 use crate::BuildFault;
 use crate::entry::{Entry, vector};
 use crate::types::{IndexEntry, tag};
 use std::alloc::Global;
 use wa_types::{Instr, NumOp, Value};
-use wasm_cursor::{Cursor, Shape, operand_shape};
+use wasm_cursor::{Cursor, ImmediateForm, immediate_form};
 
 // The operators of the opcodes from 45 on, and of those from 67 on (standard, section 5.4.5).
 const COMPARISONS: [NumOp; 22] = [
@@ -79,13 +79,34 @@ const ARITHMETIC: [NumOp; 36] = [
     NumOp::I64Rotr,
 ];
 
+/// The operator of a comparison (standard, section 5.4.5).
+#[inline(always)]
+pub(crate) fn comparison(op: u8) -> NumOp
+    requires low { 0x45 ≤ op }
+    requires high { op ≤ 0x5A }
+    ensures { (n : NumOp) → op ≡ opcode_of n → result ≡ n }
+{
+    COMPARISONS[(op - 0x45) as usize]
+}
+
+/// The operator of an opcode from 67 to 8A (standard, section 5.4.5).
+#[inline(always)]
+pub(crate) fn arithmetic(op: u8) -> NumOp
+    requires low { 0x67 ≤ op }
+    requires high { op ≤ 0x8A }
+    ensures { (n : NumOp) → op ≡ opcode_of n → result ≡ n }
+{
+    ARITHMETIC[(op - 0x67) as usize]
+}
+
 // The numeric operator of an opcode (standard, section 5.4.5).
+#[inline(always)]
 fn operator(op: u8) -> Option<NumOp>
     ensures { (n : NumOp) → op ≡ opcode_of n → result ≡ Some n }
 {
     match op {
-        0x45..=0x5A => Some(COMPARISONS[(op - 0x45) as usize]),
-        0x67..=0x8A => Some(ARITHMETIC[(op - 0x67) as usize]),
+        0x45..=0x5A => Some(comparison(op)),
+        0x67..=0x8A => Some(arithmetic(op)),
         0xA7 => Some(NumOp::I32WrapI64),
         0xAC => Some(NumOp::I64ExtendI32S),
         0xAD => Some(NumOp::I64ExtendI32U),
@@ -94,6 +115,7 @@ fn operator(op: u8) -> Option<NumOp>
 }
 
 // The instruction of an opcode that nothing follows.
+#[inline(always)]
 fn simple(op: u8) -> Option<Instr>
     ensures { NamesPlain op nothing result }
 {
@@ -108,6 +130,7 @@ fn simple(op: u8) -> Option<Instr>
 }
 
 // The instruction of an opcode that a zero byte follows (standard, section 5.4.4).
+#[inline(always)]
 fn of_memory(op: u8) -> Instr
     ensures { NamesPlain op zero_byte (Some result) }
 {
@@ -119,6 +142,7 @@ fn of_memory(op: u8) -> Instr
 }
 
 // The instruction of an opcode that this index follows.
+#[inline(always)]
 fn indexed(op: u8, x: u32) -> Option<Instr>
     ensures { NamesPlain op (index x) result }
 {
@@ -136,6 +160,7 @@ fn indexed(op: u8, x: u32) -> Option<Instr>
 }
 
 // The load or store of this opcode; those of floats are left out (standard, section 5.4.4).
+#[inline(always)]
 fn accessed(op: u8, align: u32, offset: u32) -> Option<Instr>
     ensures { NamesPlain op (access align offset) result }
 {
@@ -149,44 +174,46 @@ fn accessed(op: u8, align: u32, offset: u32) -> Option<Instr>
 }
 
 /// An instruction that holds no other, behind its opcode (standard, section 5.4).
+#[inline(always)]
 pub(crate) fn plain(alloc: Global, input: &mut Cursor<'_>, op: u8) -> Result<Instr, BuildFault>
-    ensures built { Builds alone (SpelledPlain op) result input.old input.new }
+    ensures built { Builds code_of_one (SpelledPlain op) result input.old input.new }
     ensures left { length input.new.left ≤ length input.old.left }
 {
-    match operand_shape(op) {
-        Some(Shape::Nothing) => found(simple(op)),
-        Some(Shape::ZeroByte) => {
+    match immediate_form(op) {
+        Some(ImmediateForm::Nothing) => found(simple(op)),
+        Some(ImmediateForm::ZeroByte) => {
             tag(input, 0x00)?;
             Ok(of_memory(op))
         }
-        Some(Shape::Index) => {
+        Some(ImmediateForm::Index) => {
             let x = input.number()?;
             found(indexed(op, x))
         }
-        Some(Shape::IndexAndZero) => {
+        Some(ImmediateForm::IndexAndZero) => {
             let x = input.number()?;
             tag(input, 0x00)?;
             Ok(Instr::CallIndirect(x))
         }
-        Some(Shape::Access) => {
+        Some(ImmediateForm::Access) => {
             let align = input.number()?;
             let offset = input.number()?;
             found(accessed(op, align, offset))
         }
-        Some(Shape::Labels) => {
+        Some(ImmediateForm::Labels) => {
             let labels = vector::<IndexEntry>(alloc, input)?;
             let last = input.number()?;
             Ok(Instr::BrTable { labels, last })
         }
-        Some(Shape::Constant32) => Ok(Instr::Const(Value::I32(input.signed_32()?))),
-        Some(Shape::Constant64) => Ok(Instr::Const(Value::I64(input.signed_64()?))),
-        Some(Shape::Float4) => Err(BuildFault::NotSpelled),
-        Some(Shape::Float8) => Err(BuildFault::NotSpelled),
+        Some(ImmediateForm::Constant32) => Ok(Instr::Const(Value::I32(input.signed_32()?))),
+        Some(ImmediateForm::Constant64) => Ok(Instr::Const(Value::I64(input.signed_64()?))),
+        Some(ImmediateForm::Float4) => Err(BuildFault::NotSpelled),
+        Some(ImmediateForm::Float8) => Err(BuildFault::NotSpelled),
         None => Err(BuildFault::NotSpelled),
     }
 }
 
 // That instruction, where there is one.
+#[inline(always)]
 fn found(instr: Option<Instr>) -> Result<Instr, BuildFault>
     ensures { FoundIn instr result }
 {

@@ -1,204 +1,123 @@
--- The table of what follows an opcode, by ranges.
-use Rattle.std.proofs.Common.{◌≡◌, ℕ, ◌<◌, ◌≤◌, ◌⊎◌, inl, inr, Bool, true, false, Some, None, refl, arith, nat_eq, nat_le, ◌&&◌}
-use Rattle.std.proofs.lemmas.Bool.{le-leb}
-use Rattle.wa_types.specs.Opcodes.{no_operand, a_zero, an_index, an_access, follows, within}
+-- The table of what follows an opcode, by ranges: each is computed over all of its opcodes.
+use Rattle.std.proofs.Common.{◌≡◌, ℕ, zero, suc, ◌+◌, ◌<◌, ◌≤◌, ◌⊎◌, inl, inr, Bool, true, false, Option, Some, None, refl, subst, arith, nat_eq, nat_le, ◌&&◌}
+use Rattle.std.proofs.Math.Nat.{eq-or-lt_of_le}
+use Rattle.wa_types.specs.Opcodes.{Form, no_immediate, a_zero, an_index, an_access, follows, within}
+
+-- a test that so many numbers from this one on pass
+all_from : (ℕ → Bool) → (low n : ℕ) → Bool
+all_from p low zero = true
+all_from p low (suc n) = p low && all_from p (suc low) n
+
+first_holds : (a b : Bool) → (a && b) ≡ true → a ≡ true
+first_holds true b e = refl
+first_holds false b e = cc
+
+rest_holds : (a b : Bool) → (a && b) ≡ true → b ≡ true
+rest_holds true b e = e
+rest_holds false b e = cc
+
+passes : (p : ℕ → Bool) (low n op : ℕ) → low ≤ op → op < low + n → all_from p low n ≡ true → p op ≡ true
+unfolding all_from
+passes p low zero op h k e = absurd (omega (arith, h, k))
+passes p low (suc n) op h k e = elim (eq-or-lt_of_le {n = low} {m = op} h) [
+  | inl same ↦ subst (λ z. p z ≡ true) same (first_holds (p low) (all_from p (suc low) n) e)
+  | inr less ↦ passes p (suc low) n op less (omega (arith, k)) (rest_holds (p low) (all_from p (suc low) n) e)
+]
+
+-- two of the forms that ranges of opcodes have
+is : Option Form → Option Form → Bool
+is None None = true
+is (Some no_immediate) (Some no_immediate) = true
+is (Some a_zero) (Some a_zero) = true
+is (Some an_index) (Some an_index) = true
+is (Some an_access) (Some an_access) = true
+is _ _ = false
+
+same : (o x : Option Form) → is o x ≡ true → o ≡ x
+unfolding is
+same None None e = refl
+same (Some no_immediate) (Some no_immediate) e = refl
+same (Some a_zero) (Some a_zero) e = refl
+same (Some an_index) (Some an_index) e = refl
+same (Some an_access) (Some an_access) e = refl
+same _ _ e = cc
+
+row : (x : Option Form) (low n op : ℕ) → low ≤ op → op < low + n → all_from (λ k. is (follows k) x) low n ≡ true → follows op ≡ x
+row x low n op h k e = same (follows op) x (passes (λ j. is (follows j) x) low n op h k e)
+
+pub row_0 : (op : ℕ) → 0 ≤ op → op ≤ 1 → follows op ≡ Some no_immediate
+unfolding follows all_from is
+row_0 op h k = row (Some no_immediate) 0 2 op h (omega (arith, k)) refl
+
+pub row_12 : (op : ℕ) → 12 ≤ op → op ≤ 13 → follows op ≡ Some an_index
+unfolding follows all_from is
+row_12 op h k = row (Some an_index) 12 2 op h (omega (arith, k)) refl
+
+pub row_26 : (op : ℕ) → 26 ≤ op → op ≤ 27 → follows op ≡ Some no_immediate
+unfolding follows all_from is
+row_26 op h k = row (Some no_immediate) 26 2 op h (omega (arith, k)) refl
+
+pub row_32 : (op : ℕ) → 32 ≤ op → op ≤ 36 → follows op ≡ Some an_index
+unfolding follows all_from is
+row_32 op h k = row (Some an_index) 32 5 op h (omega (arith, k)) refl
+
+pub row_40 : (op : ℕ) → 40 ≤ op → op ≤ 62 → follows op ≡ Some an_access
+unfolding follows all_from is
+row_40 op h k = row (Some an_access) 40 23 op h (omega (arith, k)) refl
+
+pub row_63 : (op : ℕ) → 63 ≤ op → op ≤ 64 → follows op ≡ Some a_zero
+unfolding follows all_from is
+row_63 op h k = row (Some a_zero) 63 2 op h (omega (arith, k)) refl
+
+pub row_69 : (op : ℕ) → 69 ≤ op → op ≤ 191 → follows op ≡ Some no_immediate
+unfolding follows all_from is
+row_69 op h k = row (Some no_immediate) 69 123 op h (omega (arith, k)) refl
+
+pub gap_2 : (op : ℕ) → 2 ≤ op → op ≤ 11 → follows op ≡ None
+unfolding follows all_from is
+gap_2 op h k = row None 2 10 op h (omega (arith, k)) refl
+
+pub gap_18 : (op : ℕ) → 18 ≤ op → op ≤ 25 → follows op ≡ None
+unfolding follows all_from is
+gap_18 op h k = row None 18 8 op h (omega (arith, k)) refl
+
+pub gap_28 : (op : ℕ) → 28 ≤ op → op ≤ 31 → follows op ≡ None
+unfolding follows all_from is
+gap_28 op h k = row None 28 4 op h (omega (arith, k)) refl
+
+pub gap_37 : (op : ℕ) → 37 ≤ op → op ≤ 39 → follows op ≡ None
+unfolding follows all_from is
+gap_37 op h k = row None 37 3 op h (omega (arith, k)) refl
 
 past : (a b : ℕ) → b < a → nat_le a b ≡ false
 past a b h = grind (arith)
 
-other : (op k : ℕ) → (op < k) ⊎ (k < op) → nat_eq op k ≡ false
-other op k (inl h) = grind (arith)
-other op k (inr h) = grind (arith)
+other : (op k : ℕ) → k < op → nat_eq op k ≡ false
+other op k h = grind (arith)
 
 and_no : (b : Bool) → (b && false) ≡ false
 and_no true = refl
 and_no false = refl
 
-outside : (low high op : ℕ) → (op < low) ⊎ (high < op) → within low high op ≡ false
-outside low high op (inl h) = rw (past low op h) refl
-outside low high op (inr h) = rw (past op high h) (and_no (nat_le low op))
-
-inside : (low high op : ℕ) → low ≤ op → op ≤ high → within low high op ≡ true
-inside low high op h k = rw (le-leb low op h, le-leb op high k) refl
-
-pub row_0 : (op : ℕ) → 0 ≤ op → op ≤ 1 → follows op ≡ Some no_operand
-unfolding follows
-row_0 op h k = rw (inside 0 1 op h k) refl
-
-pub row_12 : (op : ℕ) → 12 ≤ op → op ≤ 13 → follows op ≡ Some an_index
-unfolding follows
-row_12 op h k = rw (outside 0 1 op (inr (omega arith)), inside 12 13 op h k) refl
-
-pub row_26 : (op : ℕ) → 26 ≤ op → op ≤ 27 → follows op ≡ Some no_operand
-unfolding follows
-row_26 op h k = rw (
-  outside 0 1 op (inr (omega arith)),
-  outside 12 13 op (inr (omega arith)),
-  other op 14 (inr (omega arith)),
-  other op 15 (inr (omega arith)),
-  other op 16 (inr (omega arith)),
-  other op 17 (inr (omega arith)),
-  inside 26 27 op h k,
-) refl
-
-pub row_32 : (op : ℕ) → 32 ≤ op → op ≤ 36 → follows op ≡ Some an_index
-unfolding follows
-row_32 op h k = rw (
-  outside 0 1 op (inr (omega arith)),
-  outside 12 13 op (inr (omega arith)),
-  other op 14 (inr (omega arith)),
-  other op 15 (inr (omega arith)),
-  other op 16 (inr (omega arith)),
-  other op 17 (inr (omega arith)),
-  outside 26 27 op (inr (omega arith)),
-  inside 32 36 op h k,
-) refl
-
-pub row_40 : (op : ℕ) → 40 ≤ op → op ≤ 62 → follows op ≡ Some an_access
-unfolding follows
-row_40 op h k = rw (
-  outside 0 1 op (inr (omega arith)),
-  outside 12 13 op (inr (omega arith)),
-  other op 14 (inr (omega arith)),
-  other op 15 (inr (omega arith)),
-  other op 16 (inr (omega arith)),
-  other op 17 (inr (omega arith)),
-  outside 26 27 op (inr (omega arith)),
-  outside 32 36 op (inr (omega arith)),
-  inside 40 62 op h k,
-) refl
-
-pub row_63 : (op : ℕ) → 63 ≤ op → op ≤ 64 → follows op ≡ Some a_zero
-unfolding follows
-row_63 op h k = rw (
-  outside 0 1 op (inr (omega arith)),
-  outside 12 13 op (inr (omega arith)),
-  other op 14 (inr (omega arith)),
-  other op 15 (inr (omega arith)),
-  other op 16 (inr (omega arith)),
-  other op 17 (inr (omega arith)),
-  outside 26 27 op (inr (omega arith)),
-  outside 32 36 op (inr (omega arith)),
-  outside 40 62 op (inr (omega arith)),
-  inside 63 64 op h k,
-) refl
-
-pub row_69 : (op : ℕ) → 69 ≤ op → op ≤ 191 → follows op ≡ Some no_operand
-unfolding follows
-row_69 op h k = rw (
-  outside 0 1 op (inr (omega arith)),
-  outside 12 13 op (inr (omega arith)),
-  other op 14 (inr (omega arith)),
-  other op 15 (inr (omega arith)),
-  other op 16 (inr (omega arith)),
-  other op 17 (inr (omega arith)),
-  outside 26 27 op (inr (omega arith)),
-  outside 32 36 op (inr (omega arith)),
-  outside 40 62 op (inr (omega arith)),
-  outside 63 64 op (inr (omega arith)),
-  other op 65 (inr (omega arith)),
-  other op 66 (inr (omega arith)),
-  other op 67 (inr (omega arith)),
-  other op 68 (inr (omega arith)),
-  inside 69 191 op h k,
-) refl
-
-pub gap_2 : (op : ℕ) → 2 ≤ op → op ≤ 11 → follows op ≡ None
-unfolding follows
-gap_2 op h k = rw (
-  outside 0 1 op (inr (omega arith)),
-  outside 12 13 op (inl (omega arith)),
-  other op 14 (inl (omega arith)),
-  other op 15 (inl (omega arith)),
-  other op 16 (inl (omega arith)),
-  other op 17 (inl (omega arith)),
-  outside 26 27 op (inl (omega arith)),
-  outside 32 36 op (inl (omega arith)),
-  outside 40 62 op (inl (omega arith)),
-  outside 63 64 op (inl (omega arith)),
-  other op 65 (inl (omega arith)),
-  other op 66 (inl (omega arith)),
-  other op 67 (inl (omega arith)),
-  other op 68 (inl (omega arith)),
-  outside 69 191 op (inl (omega arith)),
-) refl
-
-pub gap_18 : (op : ℕ) → 18 ≤ op → op ≤ 25 → follows op ≡ None
-unfolding follows
-gap_18 op h k = rw (
-  outside 0 1 op (inr (omega arith)),
-  outside 12 13 op (inr (omega arith)),
-  other op 14 (inr (omega arith)),
-  other op 15 (inr (omega arith)),
-  other op 16 (inr (omega arith)),
-  other op 17 (inr (omega arith)),
-  outside 26 27 op (inl (omega arith)),
-  outside 32 36 op (inl (omega arith)),
-  outside 40 62 op (inl (omega arith)),
-  outside 63 64 op (inl (omega arith)),
-  other op 65 (inl (omega arith)),
-  other op 66 (inl (omega arith)),
-  other op 67 (inl (omega arith)),
-  other op 68 (inl (omega arith)),
-  outside 69 191 op (inl (omega arith)),
-) refl
-
-pub gap_28 : (op : ℕ) → 28 ≤ op → op ≤ 31 → follows op ≡ None
-unfolding follows
-gap_28 op h k = rw (
-  outside 0 1 op (inr (omega arith)),
-  outside 12 13 op (inr (omega arith)),
-  other op 14 (inr (omega arith)),
-  other op 15 (inr (omega arith)),
-  other op 16 (inr (omega arith)),
-  other op 17 (inr (omega arith)),
-  outside 26 27 op (inr (omega arith)),
-  outside 32 36 op (inl (omega arith)),
-  outside 40 62 op (inl (omega arith)),
-  outside 63 64 op (inl (omega arith)),
-  other op 65 (inl (omega arith)),
-  other op 66 (inl (omega arith)),
-  other op 67 (inl (omega arith)),
-  other op 68 (inl (omega arith)),
-  outside 69 191 op (inl (omega arith)),
-) refl
-
-pub gap_37 : (op : ℕ) → 37 ≤ op → op ≤ 39 → follows op ≡ None
-unfolding follows
-gap_37 op h k = rw (
-  outside 0 1 op (inr (omega arith)),
-  outside 12 13 op (inr (omega arith)),
-  other op 14 (inr (omega arith)),
-  other op 15 (inr (omega arith)),
-  other op 16 (inr (omega arith)),
-  other op 17 (inr (omega arith)),
-  outside 26 27 op (inr (omega arith)),
-  outside 32 36 op (inr (omega arith)),
-  outside 40 62 op (inl (omega arith)),
-  outside 63 64 op (inl (omega arith)),
-  other op 65 (inl (omega arith)),
-  other op 66 (inl (omega arith)),
-  other op 67 (inl (omega arith)),
-  other op 68 (inl (omega arith)),
-  outside 69 191 op (inl (omega arith)),
-) refl
+above : (low high op : ℕ) → high < op → within low high op ≡ false
+above low high op h = rw (past op high h) (and_no (nat_le low op))
 
 pub gap_192 : (op : ℕ) → 192 ≤ op → follows op ≡ None
 unfolding follows
 gap_192 op h = rw (
-  outside 0 1 op (inr (omega arith)),
-  outside 12 13 op (inr (omega arith)),
-  other op 14 (inr (omega arith)),
-  other op 15 (inr (omega arith)),
-  other op 16 (inr (omega arith)),
-  other op 17 (inr (omega arith)),
-  outside 26 27 op (inr (omega arith)),
-  outside 32 36 op (inr (omega arith)),
-  outside 40 62 op (inr (omega arith)),
-  outside 63 64 op (inr (omega arith)),
-  other op 65 (inr (omega arith)),
-  other op 66 (inr (omega arith)),
-  other op 67 (inr (omega arith)),
-  other op 68 (inr (omega arith)),
-  outside 69 191 op (inr (omega arith)),
+  above 0 1 op (omega arith),
+  above 12 13 op (omega arith),
+  other op 14 (omega arith),
+  other op 15 (omega arith),
+  other op 16 (omega arith),
+  other op 17 (omega arith),
+  above 26 27 op (omega arith),
+  above 32 36 op (omega arith),
+  above 40 62 op (omega arith),
+  above 63 64 op (omega arith),
+  other op 65 (omega arith),
+  other op 66 (omega arith),
+  other op 67 (omega arith),
+  other op 68 (omega arith),
+  above 69 191 op (omega arith),
 ) refl

@@ -1,2 +1,2 @@
 pub mod Places
-pub mod Shapes
+pub mod Forms

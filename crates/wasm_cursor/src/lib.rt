@@ -9,4 +9,4 @@ mod numbers;
 mod opcodes;
 
 pub use front::{Cursor, NotSpelled};
-pub use opcodes::{Shape, operand_shape};
+pub use opcodes::{ImmediateForm, immediate_form};

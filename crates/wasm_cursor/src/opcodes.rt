@@ -1,12 +1,12 @@
-//! What follows an opcode, and which opcodes and types are floats (standard, sections 5.3.1 and 5.4).
+//! What follows an opcode (standard, sections 5.3.1 and 5.4).
 
 ghost use Rattle.std.specs.Prelude.{◌≡◌};
 ghost use Rattle.wa_types.specs.Opcodes.{follows};
-ghost use Rattle.wasm_cursor.specs.Shapes.{follows_of};
+ghost use Rattle.wasm_cursor.specs.Forms.{follows_of};
 
 /// What follows an opcode that is no construct's and no end (standard, sections 5.4.1 to 5.4.5).
 #[derive(Clone, Copy, Debug, PartialEq, Eq, Drop)]
-pub enum Shape {
+pub enum ImmediateForm {
     Nothing,
     /// One zero byte.
     ZeroByte,
@@ -29,25 +29,25 @@ pub enum Shape {
 
 /// What follows this opcode.
 #[inline(always)]
-pub fn operand_shape(op: u8) -> Option<Shape>
+pub fn immediate_form(op: u8) -> Option<ImmediateForm>
     ensures { follows_of result ≡ follows op }
 {
     match op {
-        0x00..=0x01 => Some(Shape::Nothing),
-        0x0C..=0x0D => Some(Shape::Index),
-        0x0E => Some(Shape::Labels),
-        0x0F => Some(Shape::Nothing),
-        0x10 => Some(Shape::Index),
-        0x11 => Some(Shape::IndexAndZero),
-        0x1A..=0x1B => Some(Shape::Nothing),
-        0x20..=0x24 => Some(Shape::Index),
-        0x28..=0x3E => Some(Shape::Access),
-        0x3F..=0x40 => Some(Shape::ZeroByte),
-        0x41 => Some(Shape::Constant32),
-        0x42 => Some(Shape::Constant64),
-        0x43 => Some(Shape::Float4),
-        0x44 => Some(Shape::Float8),
-        0x45..=0xBF => Some(Shape::Nothing),
+        0x00..=0x01 => Some(ImmediateForm::Nothing),
+        0x0C..=0x0D => Some(ImmediateForm::Index),
+        0x0E => Some(ImmediateForm::Labels),
+        0x0F => Some(ImmediateForm::Nothing),
+        0x10 => Some(ImmediateForm::Index),
+        0x11 => Some(ImmediateForm::IndexAndZero),
+        0x1A..=0x1B => Some(ImmediateForm::Nothing),
+        0x20..=0x24 => Some(ImmediateForm::Index),
+        0x28..=0x3E => Some(ImmediateForm::Access),
+        0x3F..=0x40 => Some(ImmediateForm::ZeroByte),
+        0x41 => Some(ImmediateForm::Constant32),
+        0x42 => Some(ImmediateForm::Constant64),
+        0x43 => Some(ImmediateForm::Float4),
+        0x44 => Some(ImmediateForm::Float8),
+        0x45..=0xBF => Some(ImmediateForm::Nothing),
         _ => None,
     }
 }

@@ -10,7 +10,7 @@ use Rattle.wa_types.specs.Leb.{shortest}
 use Rattle.wa_types.specs.Syntax.{Code, Shape, done, nest, branch, a_block, a_loop}
 use Rattle.wa_types.specs.View.{in_front, onto, code}
 use Rattle.wa_types.specs.Encoding.{vector, shape_byte, block_type_byte, code_bytes, else_bytes}
-use Rattle.wa_types.proofs.ViewLemmas.{kind, is_block, is_loop, is_if, is_plain, in_block, in_loop, in_if, in_br_table, code_step, code_empty}
+use Rattle.wa_types.proofs.ViewLemmas.{instr_kind, is_block, is_loop, is_if, is_plain, in_block, in_loop, in_if, in_br_table, code_step, code_empty}
 use Rattle.wasm_entries.specs.Instrs.{first_bytes, instr_bytes}
 
 nest_front : (s : Shape) (r : Option ValType) (body rest : Code) → code_bytes (nest s r body rest) ≡ first_bytes (nest s r body done) ++ code_bytes rest
@@ -42,7 +42,7 @@ branch_bytes r v w = ap first_bytes (in_if r v w done)
 front_bytes : (i : Instr) (rest : Code) → code_bytes (in_front i rest) ≡ instr_bytes i ++ code_bytes rest
 unfolding instr_bytes
 front_bytes i rest =
-    elim (kind i) [
+    elim (instr_kind i) [
       | is_block r v e ↦ rw e (rw (in_block r v rest, in_block r v done) (nest_front a_block r (code v.items) rest))
       | is_loop r v e ↦ rw e (rw (in_loop r v rest, in_loop r v done) (nest_front a_loop r (code v.items) rest))
       | is_if r v w e ↦ rw e (rw (in_if r v w rest, in_if r v w done) (branch_front r (code v.items) (code w.items) rest))
@@ -78,6 +78,11 @@ put_end xs i close old new whole h put before =
 
 pub ruleset putting = (put_step, put_end)
 
+-- what was written, with three parts more
+pub put_parts : (out head a b first new whole : List ℕ) → first ≡ out ++ head → new ≡ first ++ a ++ b → whole ≡ head ++ (a ++ b) → new ≡ out ++ whole
+put_parts out head a b first new whole begun put e =
+    put ∙ ap (λ s. s ++ a ++ b) begun ∙ append_assoc (out ++ head) a b ∙ append_assoc out head (a ++ b) ∙ ap (λ s. out ++ s) (sym e)
+
 -- an else arm is left out exactly where it is empty
 pub else_none : (xs : List Instr) (bytes : List ℕ) → length xs ≡ 0 → else_bytes (code xs) bytes ≡ []
 unfolding code onto
@@ -86,7 +91,7 @@ else_none (x ∷ xs) bytes h = absurd (omega arith)
 
 else_front : (x : Instr) (rest : Code) (bytes : List ℕ) → else_bytes (in_front x rest) bytes ≡ 0x05 ∷ bytes
 else_front x rest bytes =
-    elim (kind x) [
+    elim (instr_kind x) [
       | is_block r v e ↦ rw e (rw (in_block r v rest) refl)
       | is_loop r v e ↦ rw e (rw (in_loop r v rest) refl)
       | is_if r v w e ↦ rw e (rw (in_if r v w rest) refl)

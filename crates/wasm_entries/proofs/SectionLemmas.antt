@@ -8,6 +8,7 @@ use Rattle.wa_types.specs.Leb.{shortest}
 use Rattle.wa_types.specs.Syntax.{Custom}
 use Rattle.wa_types.specs.View.{custom_of}
 use Rattle.wa_types.specs.Encoding.{vector, sized, section, custom_bytes, customs_behind}
+use Rattle.wasm_entries.proofs.Codes.{put_parts}
 
 pub section_none : {X : Type 0} (id : ℕ) (f : X → List ℕ) (xs : List X) → length xs ≡ 0 → section id f xs ≡ []
 section_none id f [] h = refl
@@ -21,6 +22,12 @@ pub section_length : {X : Type 0} (id : ℕ) (f : X → List ℕ) (xs : List X) 
 section_length id f xs h = ap length (section_some id f xs h) ∙ omega (arith, length-append (shortest (length (vector f xs))) (vector f xs))
 
 pub ruleset measuring = (section_none, section_length)
+
+-- what was written, with a part more behind its length
+pub put_sized : (out head bytes first second new whole : List ℕ) (n : ℕ) → first ≡ out ++ head → second ≡ first ++ shortest n → n ≡ length bytes → new ≡ second ++ bytes
+    → whole ≡ head ++ sized bytes → new ≡ out ++ whole
+put_sized out head bytes first second new whole n begun number is put e =
+    put_parts out head (shortest (length bytes)) bytes first new whole begun (put ∙ ap (λ s. s ++ bytes) (number ∙ ap (λ k. first ++ shortest k) is)) e
 
 pub ruleset putting = (section_none, section_some, section_length, append_assoc)
 

@@ -5,12 +5,12 @@ use Rattle.std.specs.declared.alloc.Global.{Global}
 use Rattle.wa_types.specs.declared.values.ValType.{ValType}
 use Rattle.wa_types.specs.declared.instrs.Instr.{Instr}
 use Rattle.wa_types.specs.declared.instrs.Instr.TheVariants.{BrTable, Block, Loop, If}
-use Rattle.wa_types.specs.Leb.{shortest, shortest_signed}
+use Rattle.wa_types.specs.Binary.{Immediates as PlainImmediates, nothing, zero_byte, index, index_and_zero, access, constant}
 use Rattle.wa_types.specs.Syntax.{Code, done, plain, nest, branch}
 use Rattle.wa_types.specs.View.{in_front}
-use Rattle.wa_types.specs.Encoding.{plain_bytes, shape_byte, block_type_byte, code_bytes, else_bytes}
-use Rattle.wasm_entries.specs.declared.code.Operands.{Operands}
-use Rattle.wasm_entries.specs.declared.code.Operands.TheVariants.{Nothing, Zero, Index, IndexAndZero, Memory, Signed32, Signed64}
+use Rattle.wa_types.specs.Encoding.{immediate_bytes as bytes_behind, plain_bytes, shape_byte, block_type_byte, code_bytes, else_bytes}
+use Rattle.wasm_entries.specs.declared.code.Immediates.{Immediates}
+use Rattle.wasm_entries.specs.declared.code.Immediates.TheVariants.{Nothing, Zero, Index, IndexAndZero, Memory, Signed32, Signed64}
 
 -- the first instruction of a sequence
 unfoldable pub first_bytes : Code → List ℕ
@@ -23,15 +23,19 @@ first_bytes (branch r a b rest) = 0x04 ∷ block_type_byte r ∷ (code_bytes a +
 unfoldable pub instr_bytes : Instr → List ℕ
 instr_bytes i = first_bytes (in_front i done)
 
--- what follows an opcode
-abbrev pub operand_bytes : Operands → List ℕ
-operand_bytes Nothing = []
-operand_bytes Zero = 0x00 ∷ []
-operand_bytes (Index x) = shortest x
-operand_bytes (IndexAndZero x) = shortest x ++ 0x00 ∷ []
-operand_bytes (Memory align offset) = shortest align ++ shortest offset
-operand_bytes (Signed32 n) = shortest_signed 32 n
-operand_bytes (Signed64 n) = shortest_signed 64 n
+-- what follows an opcode, in the terms of the format
+abbrev pub immediates_of : Immediates → PlainImmediates
+immediates_of Nothing = nothing
+immediates_of Zero = zero_byte
+immediates_of (Index x) = index x
+immediates_of (IndexAndZero x) = index_and_zero x
+immediates_of (Memory align offset) = access align offset
+immediates_of (Signed32 n) = constant 32 n
+immediates_of (Signed64 n) = constant 64 n
+
+-- the same as it is written
+abbrev pub immediate_bytes : Immediates → List ℕ
+immediate_bytes immediates = bytes_behind (immediates_of immediates)
 
 -- behind the opcode stand two numbers at most: the instruction is no br_table, block, loop or if
 pub record IsSimple (i : Instr) : Type 0 where

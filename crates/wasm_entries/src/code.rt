@@ -3,7 +3,7 @@
 ghost use Rattle.std.specs.Prelude.{◌≡◌, ◌<◌, ◌≤◌, ◌^◌, ◌++◌, [], ◌∷◌, length, OnOk};
 ghost use Rattle.wa_types.specs.Encoding.{code_bytes, expression_bytes};
 ghost use Rattle.wa_types.specs.View.{code};
-ghost use Rattle.wasm_entries.specs.Instrs.{instr_bytes, operand_bytes, IsSimple};
+ghost use Rattle.wasm_entries.specs.Instrs.{instr_bytes, immediate_bytes, IsSimple};
 
 use crate::entry::{put_vector, vector_len};
 use crate::numbers::{put_signed, put_unsigned, signed_len, unsigned_len};
@@ -18,7 +18,7 @@ const ELSE: u8 = 0x05;
 
 /// What follows an opcode.
 #[derive(Clone, Copy)]
-pub enum Operands {
+pub enum Immediates {
     Nothing,
     /// The zero byte of `memory.size` and `memory.grow`.
     Zero,
@@ -33,37 +33,37 @@ pub enum Operands {
 /// The opcode of an instruction and what follows it (standard, section 5.4), but for `br_table` and those
 /// that hold others.
 #[tactic(auto, unfolding(crate::specs::Instrs::instr_bytes, crate::specs::Instrs::first_bytes, wa_types::specs::View::in_front))]
-fn opcode_and_operands(instr: &Instr) -> (u8, Operands)
+fn opcode_and_immediates(instr: &Instr) -> (u8, Immediates)
     requires { IsSimple instr.now }
-    ensures { instr_bytes instr.now ≡ result.0 ∷ operand_bytes result.1 }
+    ensures { instr_bytes instr.now ≡ result.0 ∷ immediate_bytes result.1 }
 {
     match instr {
-        Instr::Unreachable => (0x00, Operands::Nothing),
-        Instr::Nop => (0x01, Operands::Nothing),
-        Instr::Br(label) => (0x0C, Operands::Index(*label)),
-        Instr::BrIf(label) => (0x0D, Operands::Index(*label)),
-        Instr::Return => (0x0F, Operands::Nothing),
-        Instr::Call(func) => (0x10, Operands::Index(*func)),
-        Instr::CallIndirect(sort) => (0x11, Operands::IndexAndZero(*sort)),
-        Instr::Drop => (0x1A, Operands::Nothing),
-        Instr::Select => (0x1B, Operands::Nothing),
-        Instr::LocalGet(local) => (0x20, Operands::Index(*local)),
-        Instr::LocalSet(local) => (0x21, Operands::Index(*local)),
-        Instr::LocalTee(local) => (0x22, Operands::Index(*local)),
-        Instr::GlobalGet(global) => (0x23, Operands::Index(*global)),
-        Instr::GlobalSet(global) => (0x24, Operands::Index(*global)),
+        Instr::Unreachable => (0x00, Immediates::Nothing),
+        Instr::Nop => (0x01, Immediates::Nothing),
+        Instr::Br(label) => (0x0C, Immediates::Index(*label)),
+        Instr::BrIf(label) => (0x0D, Immediates::Index(*label)),
+        Instr::Return => (0x0F, Immediates::Nothing),
+        Instr::Call(func) => (0x10, Immediates::Index(*func)),
+        Instr::CallIndirect(sort) => (0x11, Immediates::IndexAndZero(*sort)),
+        Instr::Drop => (0x1A, Immediates::Nothing),
+        Instr::Select => (0x1B, Immediates::Nothing),
+        Instr::LocalGet(local) => (0x20, Immediates::Index(*local)),
+        Instr::LocalSet(local) => (0x21, Immediates::Index(*local)),
+        Instr::LocalTee(local) => (0x22, Immediates::Index(*local)),
+        Instr::GlobalGet(global) => (0x23, Immediates::Index(*global)),
+        Instr::GlobalSet(global) => (0x24, Immediates::Index(*global)),
         Instr::Load { op, align, offset } | Instr::Store { op, align, offset } => (
             *op,
-            Operands::Memory {
+            Immediates::Memory {
                 align: *align,
                 offset: *offset,
             },
         ),
-        Instr::MemorySize => (0x3F, Operands::Zero),
-        Instr::MemoryGrow => (0x40, Operands::Zero),
-        Instr::Const(Value::I32(n)) => (0x41, Operands::Signed32(*n)),
-        Instr::Const(Value::I64(n)) => (0x42, Operands::Signed64(*n)),
-        Instr::Num(op) => (op.opcode(), Operands::Nothing),
+        Instr::MemorySize => (0x3F, Immediates::Zero),
+        Instr::MemoryGrow => (0x40, Immediates::Zero),
+        Instr::Const(Value::I32(n)) => (0x41, Immediates::Signed32(*n)),
+        Instr::Const(Value::I64(n)) => (0x42, Immediates::Signed64(*n)),
+        Instr::Num(op) => (op.opcode(), Immediates::Nothing),
         Instr::BrTable { .. } | Instr::Block { .. } | Instr::Loop { .. } | Instr::If { .. } => {
             unreachable!()
         }
@@ -71,41 +71,41 @@ fn opcode_and_operands(instr: &Instr) -> (u8, Operands)
 }
 
 /// How many bytes stand behind an opcode.
-fn operands_len(operands: Operands) -> u64
-    ensures exact { result ≡ length (operand_bytes operands) }
+fn immediates_len(immediates: Immediates) -> u64
+    ensures exact { result ≡ length (immediate_bytes immediates) }
     ensures few { result ≤ 20 }
 {
-    match operands {
-        Operands::Nothing => 0,
-        Operands::Zero => 1,
-        Operands::Index(index) => unsigned_len(index as u64),
-        Operands::IndexAndZero(index) => unsigned_len(index as u64) + 1,
-        Operands::Memory { align, offset } => {
+    match immediates {
+        Immediates::Nothing => 0,
+        Immediates::Zero => 1,
+        Immediates::Index(index) => unsigned_len(index as u64),
+        Immediates::IndexAndZero(index) => unsigned_len(index as u64) + 1,
+        Immediates::Memory { align, offset } => {
             unsigned_len(align as u64) + unsigned_len(offset as u64)
         }
-        Operands::Signed32(n) => signed_len(n as u64, 32),
-        Operands::Signed64(n) => signed_len(n, 64),
+        Immediates::Signed32(n) => signed_len(n as u64, 32),
+        Immediates::Signed64(n) => signed_len(n, 64),
     }
 }
 
 /// Appends what stands behind an opcode.
-fn put_operands(out: &mut BytesMut, operands: Operands) -> Result<(), AllocError>
-    ensures { OnOk result (out.new.items ≡ out.old.items ++ operand_bytes operands) }
+fn put_immediates(out: &mut BytesMut, immediates: Immediates) -> Result<(), AllocError>
+    ensures { OnOk result (out.new.items ≡ out.old.items ++ immediate_bytes immediates) }
 {
-    match operands {
-        Operands::Nothing => Ok(()),
-        Operands::Zero => out.extend_from_slice(&[0x00]),
-        Operands::Index(index) => put_unsigned(out, index as u64),
-        Operands::IndexAndZero(index) => {
+    match immediates {
+        Immediates::Nothing => Ok(()),
+        Immediates::Zero => out.extend_from_slice(&[0x00]),
+        Immediates::Index(index) => put_unsigned(out, index as u64),
+        Immediates::IndexAndZero(index) => {
             put_unsigned(out, index as u64)?;
             out.extend_from_slice(&[0x00])
         }
-        Operands::Memory { align, offset } => {
+        Immediates::Memory { align, offset } => {
             put_unsigned(out, align as u64)?;
             put_unsigned(out, offset as u64)
         }
-        Operands::Signed32(n) => put_signed(out, n as u64, 32),
-        Operands::Signed64(n) => put_signed(out, n, 64),
+        Immediates::Signed32(n) => put_signed(out, n as u64, 32),
+        Immediates::Signed64(n) => put_signed(out, n, 64),
     }
 }
 
@@ -147,8 +147,8 @@ fn instr_len(instr: &Instr) -> u64
             }
         }
         _ => {
-            let (_, operands) = opcode_and_operands(instr);
-            1 + operands_len(operands)
+            let (_, immediates) = opcode_and_immediates(instr);
+            1 + immediates_len(immediates)
         }
     }
 }
@@ -198,9 +198,9 @@ fn put_instr(out: &mut BytesMut, instr: &Instr) -> Result<(), AllocError>
             }
         }
         _ => {
-            let (opcode, operands) = opcode_and_operands(instr);
+            let (opcode, immediates) = opcode_and_immediates(instr);
             out.extend_from_slice(&[opcode])?;
-            put_operands(out, operands)
+            put_immediates(out, immediates)
         }
     }
 }

@@ -1,16 +1,16 @@
 -- The goals of the grammar as the code keeps them.
 use Rattle.std.specs.Prelude.{Option, Some, None, List, [], ◌∷◌, ◌++◌, map, reverse}
 use Rattle.wa_types.specs.Begun.{Goal, exact, sections, size, head, until, rest, entries, count, number, name, value_type, block_type, mutable, import_kind, space, limits, signed}
-use Rattle.wa_types.specs.Begun.{name_bytes, float_bytes, code, Kind, some_types, some_imports, some_functions, some_tables, some_memories, some_globals, some_exports, some_elements}
+use Rattle.wa_types.specs.Begun.{name_bytes, float_bytes, code, EntryKind, some_types, some_imports, some_functions, some_tables, some_memories, some_globals, some_exports, some_elements}
 use Rattle.wa_types.specs.Begun.{some_bodies, some_segments, some_value_types, some_runs, some_indices, some_bytes}
-use Rattle.wasm_goals.specs.declared.goals.Kind.{Kind as Counted}
-use Rattle.wasm_goals.specs.declared.goals.Kind.TheVariants.{Types, Imports, Functions, Tables, Memories, Globals, Exports, Elements, Bodies, Segments, ValueTypes, Runs, Indices, Bytes}
+use Rattle.wasm_goals.specs.declared.goals.EntryKind.{EntryKind as Counted}
+use Rattle.wasm_goals.specs.declared.goals.EntryKind.TheVariants.{Types, Imports, Functions, Tables, Memories, Globals, Exports, Elements, Bodies, Segments, ValueTypes, Runs, Indices, Bytes}
 use Rattle.wasm_goals.specs.declared.goals.Goal.{Goal as Wanted}
 use Rattle.wasm_goals.specs.declared.goals.Goal.TheVariants.{Exact, Sections, Size, Head, Until, Rest, Entries, Count, Number, Name, ValueType, BlockType, Mutable, ImportKind, Space, Limits}
 use Rattle.wasm_goals.specs.declared.goals.Goal.TheVariants.{Signed32, Signed64, NameBytes, Float32, Float64, Code}
 
 -- what is counted
-abbrev pub kind_of : Counted → Kind
+abbrev pub kind_of : Counted → EntryKind
 kind_of Types = some_types
 kind_of Imports = some_imports
 kind_of Functions = some_functions

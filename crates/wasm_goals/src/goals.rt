@@ -4,7 +4,7 @@ ghost use Rattle.std.specs.Prelude.{◌<◌};
 
 /// What a vector counts (standard, section 5.1.3).
 #[derive(Clone, Copy, Debug, PartialEq, Eq)]
-pub enum Kind {
+pub enum EntryKind {
     Types,
     Imports,
     Functions,
@@ -56,9 +56,9 @@ pub enum Goal {
     /// Any bytes up to there.
     Rest(u64),
     /// So many entries.
-    Entries(Kind, u32),
+    Entries(EntryKind, u32),
     /// A number of entries, and the entries.
-    Count(Kind),
+    Count(EntryKind),
     /// An unsigned number of 32 bits.
     Number,
     /// The length of a name, and its bytes.

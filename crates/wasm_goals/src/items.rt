@@ -5,7 +5,7 @@ ghost use Rattle.wa_types.specs.Begun.{wants, first_of, a_byte, an_unsigned, a_s
 ghost use Rattle.wasm_goals.specs.Goals.{goal_of, kind_of};
 ghost use Rattle.wasm_goals.specs.Items.{item_of, unread, FrontIs};
 
-use crate::goals::{Goal, Kind, TextLen};
+use crate::goals::{EntryKind, Goal, TextLen};
 use wa_types::{LebFault, read_s32, read_s64, read_u32};
 
 /// An item: what is judged as one where it stands.
@@ -62,24 +62,24 @@ pub fn wants(goal: Goal) -> Item
 }
 
 // The item that an entry begins with.
-fn first_of(kind: Kind) -> Item
+fn first_of(kind: EntryKind) -> Item
     ensures { item_of result ≡ first_of (kind_of kind) }
 {
     match kind {
-        Kind::Imports
-        | Kind::Functions
-        | Kind::Exports
-        | Kind::Elements
-        | Kind::Bodies
-        | Kind::Segments
-        | Kind::Runs
-        | Kind::Indices => Item::Unsigned,
-        Kind::Types
-        | Kind::Tables
-        | Kind::Memories
-        | Kind::Globals
-        | Kind::ValueTypes
-        | Kind::Bytes => Item::Byte,
+        EntryKind::Imports
+        | EntryKind::Functions
+        | EntryKind::Exports
+        | EntryKind::Elements
+        | EntryKind::Bodies
+        | EntryKind::Segments
+        | EntryKind::Runs
+        | EntryKind::Indices => Item::Unsigned,
+        EntryKind::Types
+        | EntryKind::Tables
+        | EntryKind::Memories
+        | EntryKind::Globals
+        | EntryKind::ValueTypes
+        | EntryKind::Bytes => Item::Byte,
     }
 }
 

@@ -10,5 +10,5 @@ mod items;
 mod next;
 pub mod stack;
 
-pub use goals::{Goal, Kind, TextLen};
+pub use goals::{EntryKind, Goal, TextLen};
 pub use items::{Front, Item, read_item, wants};

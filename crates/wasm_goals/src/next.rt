@@ -1,13 +1,13 @@
 //! What comes in the place of a goal behind its item (standard, sections 5.3 to 5.5).
 
 ghost use Rattle.std.specs.Prelude.{◌≡◌, ℕ, ◌<◌, ◌^◌, Some, [], ◌∷◌};
-ghost use Rattle.wa_types.specs.Begun.{next, may_follow, name_of, some_of, others, and_then, entry, where_true, content, behind_flag, behind_kind, behind_opcode, operands_of, size as size_of};
+ghost use Rattle.wa_types.specs.Begun.{next, may_follow, name_of, some_of, others, and_then, entry, where_true, content, behind_flag, behind_kind, behind_opcode, immediates_of, size as size_of};
 ghost use Rattle.wa_types.specs.Opcodes.{within, follows, is_value_type};
-ghost use Rattle.wasm_cursor.specs.Shapes.{follows_of};
+ghost use Rattle.wasm_cursor.specs.Forms.{follows_of};
 ghost use Rattle.wasm_goals.specs.Goals.{goal_of, kind_of, list_of, few_of, new_of};
 
-use crate::goals::{Goal, Kind, TextLen};
-use wasm_cursor::{Shape, operand_shape};
+use crate::goals::{EntryKind, Goal, TextLen};
+use wasm_cursor::{ImmediateForm, immediate_form};
 
 /// Up to four goals, the first first.
 pub(crate) type Few = (Option<Goal>, Option<Goal>, Option<Goal>, Option<Goal>);
@@ -90,7 +90,7 @@ fn name_of(count: u32) -> Option<Goal>
 
 // So many entries.
 #[inline(always)]
-fn some_of(kind: Kind, n: u32) -> Option<Goal>
+fn some_of(kind: EntryKind, n: u32) -> Option<Goal>
     ensures { list_of result ≡ some_of (kind_of kind) n }
 {
     if n == 0 {
@@ -102,7 +102,7 @@ fn some_of(kind: Kind, n: u32) -> Option<Goal>
 
 // The entries that are left behind one of so many.
 #[inline(always)]
-fn others(kind: Kind, n: u32) -> Option<Goal>
+fn others(kind: EntryKind, n: u32) -> Option<Goal>
     ensures { list_of result ≡ others (kind_of kind) n }
 {
     if n <= 1 {
@@ -144,17 +144,17 @@ fn content(id: u8, last: u8, owed: u32, end: u64, value: u32) -> Option<Few>
             let more = Some(Goal::Sections { last, owed });
             Some((name_of(value), Some(Goal::Rest(end)), more, None))
         }
-        1 => Some((some_of(Kind::Types, value), until, more, None)),
-        2 => Some((some_of(Kind::Imports, value), until, more, None)),
+        1 => Some((some_of(EntryKind::Types, value), until, more, None)),
+        2 => Some((some_of(EntryKind::Imports, value), until, more, None)),
         3 => functions(end, value),
-        4 => Some((some_of(Kind::Tables, value), until, more, None)),
-        5 => Some((some_of(Kind::Memories, value), until, more, None)),
-        6 => Some((some_of(Kind::Globals, value), until, more, None)),
-        7 => Some((some_of(Kind::Exports, value), until, more, None)),
+        4 => Some((some_of(EntryKind::Tables, value), until, more, None)),
+        5 => Some((some_of(EntryKind::Memories, value), until, more, None)),
+        6 => Some((some_of(EntryKind::Globals, value), until, more, None)),
+        7 => Some((some_of(EntryKind::Exports, value), until, more, None)),
         8 => Some((until, more, None, None)),
-        9 => Some((some_of(Kind::Elements, value), until, more, None)),
+        9 => Some((some_of(EntryKind::Elements, value), until, more, None)),
         10 => bodies(owed, end, value),
-        11 => Some((some_of(Kind::Segments, value), until, more, None)),
+        11 => Some((some_of(EntryKind::Segments, value), until, more, None)),
         _ => None,
     }
 }
@@ -168,7 +168,7 @@ fn functions(end: u64, value: u32) -> Option<Few>
         owed: value,
     });
     Some((
-        some_of(Kind::Functions, value),
+        some_of(EntryKind::Functions, value),
         Some(Goal::Until(end)),
         more,
         None,
@@ -183,7 +183,7 @@ fn bodies(owed: u32, end: u64, value: u32) -> Option<Few>
         return None;
     }
     Some((
-        some_of(Kind::Bodies, value),
+        some_of(EntryKind::Bodies, value),
         Some(Goal::Until(end)),
         Some(Goal::Sections { last: 10, owed: 0 }),
         None,
@@ -192,37 +192,39 @@ fn bodies(owed: u32, end: u64, value: u32) -> Option<Few>
 
 // Behind the first item of an entry (standard, sections 5.3 and 5.5.4 to 5.5.14).
 #[inline(always)]
-fn entry(kind: Kind, n: u32, value: u32, at: u64) -> Option<Few>
+fn entry(kind: EntryKind, n: u32, value: u32, at: u64) -> Option<Few>
     requires { at < 2 ^ 63 }
     ensures { new_of result ≡ and_then (entry (kind_of kind) value at) (others (kind_of kind) n) }
 {
     let more = others(kind, n);
     let code = Some(Goal::Code { first_arm: false });
     match kind {
-        Kind::Types => {
-            let types = Some(Goal::Count(Kind::ValueTypes));
+        EntryKind::Types => {
+            let types = Some(Goal::Count(EntryKind::ValueTypes));
             if_so(value == 0x60, (types, types, None, more))
         }
-        Kind::Imports => {
+        EntryKind::Imports => {
             let imported = Some(Goal::ImportKind);
             Some((name_of(value), Some(Goal::Name), imported, more))
         }
-        Kind::Tables => if_so(value == 0x70, (Some(Goal::Limits), None, None, more)),
-        Kind::Memories => behind_flag(value, more),
-        Kind::Globals => {
+        EntryKind::Tables => if_so(value == 0x70, (Some(Goal::Limits), None, None, more)),
+        EntryKind::Memories => behind_flag(value, more),
+        EntryKind::Globals => {
             let is_type = is_value_type(value);
             if_so(is_type, (Some(Goal::Mutable), code, None, more))
         }
-        Kind::Exports => Some((name_of(value), Some(Goal::Space), Some(Goal::Number), more)),
-        Kind::Elements => Some((code, Some(Goal::Count(Kind::Indices)), None, more)),
-        Kind::Bodies => {
+        EntryKind::Exports => Some((name_of(value), Some(Goal::Space), Some(Goal::Number), more)),
+        EntryKind::Elements => Some((code, Some(Goal::Count(EntryKind::Indices)), None, more)),
+        EntryKind::Bodies => {
             let until = Some(Goal::Until(at + value as u64));
-            Some((Some(Goal::Count(Kind::Runs)), code, until, more))
+            Some((Some(Goal::Count(EntryKind::Runs)), code, until, more))
         }
-        Kind::Segments => Some((code, Some(Goal::Count(Kind::Bytes)), None, more)),
-        Kind::ValueTypes => if_so(is_value_type(value), (None, None, None, more)),
-        Kind::Runs => Some((Some(Goal::ValueType), None, None, more)),
-        Kind::Functions | Kind::Indices | Kind::Bytes => Some((None, None, None, more)),
+        EntryKind::Segments => Some((code, Some(Goal::Count(EntryKind::Bytes)), None, more)),
+        EntryKind::ValueTypes => if_so(is_value_type(value), (None, None, None, more)),
+        EntryKind::Runs => Some((Some(Goal::ValueType), None, None, more)),
+        EntryKind::Functions | EntryKind::Indices | EntryKind::Bytes => Some((
+            None, None, None, more,
+        )),
     }
 }
 
@@ -290,36 +292,36 @@ fn behind_opcode(first_arm: bool, op: u32) -> Option<Few>
         )),
         _ => match follows(op) {
             None => None,
-            Some(shape) => Some(operands_before(shape, code)),
+            Some(shape) => Some(immediates_before(shape, code)),
         },
     }
 }
 
 // What follows an opcode (standard, sections 5.4.1 to 5.4.5).
-fn follows(op: u32) -> Option<Shape>
+fn follows(op: u32) -> Option<ImmediateForm>
     ensures { follows_of result ≡ follows op }
 {
     if op > 0xFF {
         return None;
     }
-    operand_shape(op as u8)
+    immediate_form(op as u8)
 }
 
 // The operands of an opcode, and the rest of the code.
-fn operands_before(shape: Shape, code: Option<Goal>) -> Few
-    ensures { Some (few_of result) ≡ operands_of (follows_of (Some shape)) (list_of code) }
+fn immediates_before(shape: ImmediateForm, code: Option<Goal>) -> Few
+    ensures { Some (few_of result) ≡ immediates_of (follows_of (Some shape)) (list_of code) }
 {
     let number = Some(Goal::Number);
     match shape {
-        Shape::Nothing => (None, None, None, code),
-        Shape::ZeroByte => (Some(Goal::Exact(0x00)), None, None, code),
-        Shape::Index => (number, None, None, code),
-        Shape::IndexAndZero => (number, Some(Goal::Exact(0x00)), None, code),
-        Shape::Access => (number, number, None, code),
-        Shape::Labels => (Some(Goal::Count(Kind::Indices)), number, None, code),
-        Shape::Constant32 => (Some(Goal::Signed32), None, None, code),
-        Shape::Constant64 => (Some(Goal::Signed64), None, None, code),
-        Shape::Float4 => (Some(Goal::Float32), None, None, code),
-        Shape::Float8 => (Some(Goal::Float64), None, None, code),
+        ImmediateForm::Nothing => (None, None, None, code),
+        ImmediateForm::ZeroByte => (Some(Goal::Exact(0x00)), None, None, code),
+        ImmediateForm::Index => (number, None, None, code),
+        ImmediateForm::IndexAndZero => (number, Some(Goal::Exact(0x00)), None, code),
+        ImmediateForm::Access => (number, number, None, code),
+        ImmediateForm::Labels => (Some(Goal::Count(EntryKind::Indices)), number, None, code),
+        ImmediateForm::Constant32 => (Some(Goal::Signed32), None, None, code),
+        ImmediateForm::Constant64 => (Some(Goal::Signed64), None, None, code),
+        ImmediateForm::Float4 => (Some(Goal::Float32), None, None, code),
+        ImmediateForm::Float8 => (Some(Goal::Float64), None, None, code),
     }
 }

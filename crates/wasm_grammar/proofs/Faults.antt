@@ -5,7 +5,7 @@ use Rattle.std.proofs.Math.Seq.{take-add, take-append_seam}
 use Rattle.std.proofs.lemmas.List.{take_all, drop-drop}
 use Rattle.std.proofs.lemmas.Bool.{cases_lt, ne_eqb}
 use Rattle.std.specs.Option.{unwrap_or}
-use Rattle.wa_types.specs.Begun.{Goal, rest, entries, signed, Kind, some_types, some_imports, some_functions, some_tables, some_memories, some_globals, some_exports, some_elements}
+use Rattle.wa_types.specs.Begun.{Goal, rest, entries, signed, EntryKind, some_types, some_imports, some_functions, some_tables, some_memories, some_globals, some_exports, some_elements}
 use Rattle.wa_types.specs.Begun.{some_bodies, some_segments, some_value_types, some_runs, some_indices, some_bytes, first_of, wants, IsItem, IsPart, next, Steps, Leads, BegunFrom, part}
 use Rattle.wa_types.specs.Begun.{then, Inside, settled, start, Begun}
 use Rattle.file_laws.proofs.Items.{item_front, part_front, item_some, item_whole, one_item}
@@ -87,7 +87,7 @@ wrong_ends at g gs a no_part no_item (part t i) = no_part t
 wrong_ends at g gs a no_part no_item (then p q v ks e i t b) = no_item p q v e i
 
 -- the value that is told leads where the value does
-told_entry : (k : Kind) (v told : ℕ) → IsTold (first_of k) v told → v ≡ told
+told_entry : (k : EntryKind) (v told : ℕ) → IsTold (first_of k) v told → v ≡ told
 told_entry some_types v told h = h
 told_entry some_imports v told h = h
 told_entry some_functions v told h = h

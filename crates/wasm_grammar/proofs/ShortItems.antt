@@ -6,21 +6,21 @@ use Rattle.std.proofs.lemmas.List.{drop_more, append_assoc}
 use Rattle.std.proofs.lemmas.Bool.{le-ltb, cases_lt}
 use Rattle.std.proofs.Math.Pow.{pow_mono}
 use Rattle.wa_types.specs.Leb.{IsUnsigned, IsSigned, last_signed}
-use Rattle.wa_types.specs.Opcodes.{Follows, no_operand, an_index, an_access, a_constant, follows, is_block_type, is_float_op, is_float_type}
+use Rattle.wa_types.specs.Opcodes.{Form, no_immediate, an_index, an_access, a_constant, follows, is_block_type, is_float_op, is_float_type}
 use Rattle.wa_types.specs.Marks.{place_if}
 use Rattle.wa_types.specs.ModuleBounds.{ModuleBounds}
 use Rattle.wasm_marks.specs.declared.marks.Marks.{Marks}
 use Rattle.wasm_marks.specs.Showing.{nothing_seen, floats_seen, opens_seen, levels, shown, Noted}
 use Rattle.wasm_marks.proofs.Noting.{noted_none}
 use Rattle.wasm_marks.proofs.TellingCode.{opens_none}
-use Rattle.wa_types.specs.Begun.{Goal, code, block_type, value_type, number, signed, entries, Kind, some_runs, Item, a_byte, an_unsigned, a_signed, a_name, a_constant_of, wants, IsItem}
-use Rattle.wa_types.specs.Begun.{next, Inside, Steps, settled, operands, where_true, and_then, others}
+use Rattle.wa_types.specs.Begun.{Goal, code, block_type, value_type, number, signed, entries, EntryKind, some_runs, Item, a_byte, an_unsigned, a_signed, a_name, a_constant_of, wants, IsItem}
+use Rattle.wa_types.specs.Begun.{next, Inside, Steps, settled, immediates, where_true, and_then, others}
 use Rattle.file_laws.proofs.CodeReads.{refuted, none_nest}
 use Rattle.wasm_cursor.proofs.LowNumbers.{low_signed}
 use Rattle.wasm_goals.specs.Items.{IsTold, IsWholeItem}
 use Rattle.wasm_goals.specs.Ends.{IsReached}
 use Rattle.wasm_grammar.specs.Machine.{Stands}
-use Rattle.wasm_grammar.specs.Passing.{IsShort, AreShort, Below, Passes, Opens, Closes, PassesEntries, IsAlone, PassesRuns, IsShortRun}
+use Rattle.wasm_grammar.specs.Passing.{IsShort, AreShort, Below, Passes, Opens, Closes, PassesEntries, IsEntryByte, PassesRuns, IsShortRun}
 use Rattle.wasm_grammar.proofs.Faults.{between, length_between, front_between, Ready, goes_on}
 
 pub some_by : (o : Option ℕ) (P Q : ℕ → Type 0) → ((x : ℕ) → P x → Q x) → IfSome o P → IfSome o Q
@@ -44,7 +44,7 @@ pub below_code : (b : Bool) (gs : List Goal) (stop : ℕ) → Below stop gs → 
 unfolding Inside
 below_code b gs stop h j l = (tt, h j l)
 
-pub below_entries : (k : Kind) (n : ℕ) (gs : List Goal) (stop : ℕ) → Below stop gs → Below stop (entries k n ∷ gs)
+pub below_entries : (k : EntryKind) (n : ℕ) (gs : List Goal) (stop : ℕ) → Below stop gs → Below stop (entries k n ∷ gs)
 unfolding Inside
 below_entries k n gs stop h j l = (tt, h j l)
 
@@ -155,15 +155,15 @@ settled_value : (at : ℕ) (gs : List Goal) → settled at (value_type ∷ gs) �
 unfolding settled
 settled_value at gs = refl
 
-settled_entries : (at : ℕ) (k : Kind) (n : ℕ) (gs : List Goal) → settled at (entries k n ∷ gs) ≡ Some (entries k n ∷ gs)
+settled_entries : (at : ℕ) (k : EntryKind) (n : ℕ) (gs : List Goal) → settled at (entries k n ∷ gs) ≡ Some (entries k n ∷ gs)
 unfolding settled
 settled_entries at k n gs = refl
 
-plain_next : (first_arm : Bool) (op at : ℕ) (f : Follows) → follows op ≡ Some f → next (code first_arm) op at ≡ Some (operands f ++ code first_arm ∷ [])
+plain_next : (first_arm : Bool) (op at : ℕ) (f : Form) → follows op ≡ Some f → next (code first_arm) op at ≡ Some (immediates f ++ code first_arm ∷ [])
 unfolding next follows
 plain_next first_arm op at f e = rw (refuted op 0x0B f e refl, refuted op 0x05 f e refl, none_nest op f e, refuted op 0x04 f e refl, e) refl
 
-plain_shown : (bounds : ModuleBounds) (b : Bool) (gs : List Goal) (op at : ℕ) (f : Follows) → follows op ≡ Some f → is_float_op op ≡ false → shown bounds (code b) gs op at ≡ nothing_seen
+plain_shown : (bounds : ModuleBounds) (b : Bool) (gs : List Goal) (op at : ℕ) (f : Form) → follows op ≡ Some f → is_float_op op ≡ false → shown bounds (code b) gs op at ≡ nothing_seen
 plain_shown bounds b gs op at f e whole = rw (whole, opens_none op f e) refl
 
 -- a number behind an opcode
@@ -175,17 +175,17 @@ number_on {bounds = bounds} {m = m} bytes at end stop g gs ahead room fits short
     item_on m bytes at end stop number (g ∷ gs) [] (g ∷ gs) n.0 (omega (arith, ahead)) room fits (below_number (g ∷ gs) stop below) s n.1 refl (noted_none bounds m) t below
 
 -- an opcode, and what its numbers have to lead to
-opcode_on : {bounds : ModuleBounds} {m : Marks} (bytes : List ℕ) (at stop : ℕ) (f : Follows) (b : Bool) (gs : List Goal) → at + 1 < stop → stop ≤ length bytes
-    → Some f ≡ follows (get_or bytes at 0) → is_float_op (get_or bytes at 0) ≡ false → Below stop gs → settled (at + 1) (operands f ++ code b ∷ gs) ≡ Some (operands f ++ code b ∷ gs)
-    → Below stop (operands f ++ code b ∷ gs) → Stands bounds m bytes at (code b ∷ gs) → Stands bounds m bytes (at + 1) (operands f ++ code b ∷ gs)
+opcode_on : {bounds : ModuleBounds} {m : Marks} (bytes : List ℕ) (at stop : ℕ) (f : Form) (b : Bool) (gs : List Goal) → at + 1 < stop → stop ≤ length bytes
+    → Some f ≡ follows (get_or bytes at 0) → is_float_op (get_or bytes at 0) ≡ false → Below stop gs → settled (at + 1) (immediates f ++ code b ∷ gs) ≡ Some (immediates f ++ code b ∷ gs)
+    → Below stop (immediates f ++ code b ∷ gs) → Stands bounds m bytes at (code b ∷ gs) → Stands bounds m bytes (at + 1) (immediates f ++ code b ∷ gs)
 opcode_on {bounds = bounds} {m = m} bytes at stop f b gs room fits e whole below t inside s =
-    one_on m bytes at stop (code b) gs (operands f ++ code b ∷ []) (operands f ++ code b ∷ gs) (get_or bytes at 0) room fits (below_code b gs stop below) s refl (plain_next b _ (at + 1) f (sym e))
-    (subst (λ z. Noted bounds z m m) (sym (plain_shown bounds b gs _ at f (sym e) whole)) (noted_none bounds m)) (ap (settled (at + 1)) (append_assoc (operands f) (code b ∷ []) gs) ∙ t) inside
+    one_on m bytes at stop (code b) gs (immediates f ++ code b ∷ []) (immediates f ++ code b ∷ gs) (get_or bytes at 0) room fits (below_code b gs stop below) s refl (plain_next b _ (at + 1) f (sym e))
+    (subst (λ z. Noted bounds z m m) (sym (plain_shown bounds b gs _ at f (sym e) whole)) (noted_none bounds m)) (ap (settled (at + 1)) (append_assoc (immediates f) (code b ∷ []) gs) ∙ t) inside
 
-pub passes_nothing : (bytes : List ℕ) (at stop : ℕ) → at + 1 < stop → stop ≤ length bytes → Some no_operand ≡ follows (get_or bytes at 0) → is_float_op (get_or bytes at 0) ≡ false
+pub passes_nothing : (bytes : List ℕ) (at stop : ℕ) → at + 1 < stop → stop ≤ length bytes → Some no_immediate ≡ follows (get_or bytes at 0) → is_float_op (get_or bytes at 0) ≡ false
     → Passes bytes at (at + 1) stop
 passes_nothing bytes at stop room fits e whole bounds m b gs below s =
-    opcode_on bytes at stop no_operand b gs room fits e whole below (settled_code (at + 1) b gs) (below_code b gs stop below) s
+    opcode_on bytes at stop no_immediate b gs room fits e whole below (settled_code (at + 1) b gs) (below_code b gs stop below) s
 
 pub passes_index : (bytes : List ℕ) (at end stop : ℕ) → at + 1 < end → end < stop → stop ≤ length bytes → Some an_index ≡ follows (get_or bytes at 0)
     → is_float_op (get_or bytes at 0) ≡ false → IsShort 4 (between bytes (at + 1) end) → Passes bytes at end stop
@@ -262,7 +262,7 @@ closes_level bytes at stop room fits e bounds m inner b gs below s =
     (subst (λ z. Noted bounds (shown bounds (code inner) (code b ∷ gs) z at) m m) (sym e) (noted_none bounds m)) (settled_code (at + 1) b gs) outside
 
 -- entries
-pub passes_none : (bytes : List ℕ) (k : Kind) (n at stop : ℕ) → PassesEntries bytes k n at 0 stop
+pub passes_none : (bytes : List ℕ) (k : EntryKind) (n at stop : ℕ) → PassesEntries bytes k n at 0 stop
 passes_none bytes k n at stop bounds m gs below s =
     let place : at ≡ at + 0 = omega arith in
     let left : n ≡ n - 0 = omega arith in
@@ -271,10 +271,10 @@ passes_none bytes k n at stop bounds m gs below s =
 past : (a b : ℕ) → b < a → nat_le a b ≡ false
 past a b h = grind (arith)
 
-more_left : (k : Kind) (m : ℕ) → 1 < m → others k m ≡ entries k (m - 1) ∷ []
+more_left : (k : EntryKind) (m : ℕ) → 1 < m → others k m ≡ entries k (m - 1) ∷ []
 more_left k m h = rw (past m 1 h) refl
 
-pub passes_more : (bytes : List ℕ) (k : Kind) (n at i stop : ℕ) → at + i + 1 < stop → stop ≤ length bytes → i + 1 < n → IsAlone k (get_or bytes (at + i) 0)
+pub passes_more : (bytes : List ℕ) (k : EntryKind) (n at i stop : ℕ) → at + i + 1 < stop → stop ≤ length bytes → i + 1 < n → IsEntryByte k (get_or bytes (at + i) 0)
     → PassesEntries bytes k n at i stop → PassesEntries bytes k n at (i + 1) stop
 unfolding next
 passes_more bytes k n at i stop room fits more a before bounds m gs below s =
@@ -321,7 +321,7 @@ passes_one_run bytes n at i stop room fits more run before bounds m gs below s =
     subst (λ z. Stands bounds m bytes (at + 2 * (i + 1)) (entries some_runs z ∷ gs)) fewer (subst (λ z. Stands bounds m bytes z left) place two)
 
 -- the machine's goals
-pub entries_on : {bounds : ModuleBounds} {m : Marks} (bytes : List ℕ) (all popped new : List Goal) (g : Goal) (k : Kind) (n at passed stop : ℕ) → all ≡ g ∷ drop 1 all → g ≡ entries k n
+pub entries_on : {bounds : ModuleBounds} {m : Marks} (bytes : List ℕ) (all popped new : List Goal) (g : Goal) (k : EntryKind) (n at passed stop : ℕ) → all ≡ g ∷ drop 1 all → g ≡ entries k n
     → popped ≡ drop 1 all → new ≡ entries k (n - passed) ∷ popped → Stands bounds m bytes at all → Below stop all → PassesEntries bytes k n at passed stop
     → Stands bounds m bytes (at + passed) new
 entries_on {bounds = bounds} {m = m} bytes all popped new g k n at passed stop top is less more s below on =
@@ -329,7 +329,7 @@ entries_on {bounds = bounds} {m = m} bytes all popped new g k n at passed stop t
     subst (Stands bounds m bytes (at + passed)) (sym (more ∙ ap (λ z. entries k (n - passed) ∷ z) less))
     (on bounds m (drop 1 all) (below_more (entries k n) (drop 1 all) stop (subst (Below stop) whole below)) (subst (Stands bounds m bytes at) whole s))
 
-pub entries_below : (all popped new : List Goal) (g : Goal) (k : Kind) (n stop : ℕ) → all ≡ g ∷ drop 1 all → popped ≡ drop 1 all → new ≡ entries k n ∷ popped → Below stop all → Below stop new
+pub entries_below : (all popped new : List Goal) (g : Goal) (k : EntryKind) (n stop : ℕ) → all ≡ g ∷ drop 1 all → popped ≡ drop 1 all → new ≡ entries k n ∷ popped → Below stop all → Below stop new
 entries_below all popped new g k n stop top less more below =
     subst (Below stop) (sym (more ∙ ap (λ z. entries k n ∷ z) less)) (below_entries k n (drop 1 all) stop (below_more g (drop 1 all) stop (subst (Below stop) top below)))
 

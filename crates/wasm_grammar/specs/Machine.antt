@@ -44,6 +44,6 @@ abbrev pub IsCause : List ℕ → CheckFault → Type 0
 IsCause bytes Memory = Unit {0}
 IsCause bytes (Malformed k) = FaultAt bytes k
 
--- What is marked is what the file's sections are judged by, where it isn't too long.
+-- What is marked is what the file's sections are judged by, where the file has fewer than 2^32 bytes.
 abbrev pub AreMarks : ModuleBounds → List ℕ → Marks → Type 0
 AreMarks bounds bytes m = length bytes < 2 ^ 32 → (ss : List Section) → Spells bytes ss → MarksOf bounds ss m

@@ -3,7 +3,7 @@ use Rattle.std.specs.Prelude.{◌≡◌, ℕ, zero, suc, ◌+◌, ◌-◌, ◌*�
 use Rattle.wa_types.specs.Opcodes.{is_value_type, is_float_type}
 use Rattle.wa_types.specs.Marks.{place_if}
 use Rattle.wa_types.specs.ModuleBounds.{ModuleBounds}
-use Rattle.wa_types.specs.Begun.{Goal, code, entries, Kind, some_runs, first_of, IsItem, Inside, entry}
+use Rattle.wa_types.specs.Begun.{Goal, code, entries, EntryKind, some_runs, first_of, IsItem, Inside, entry}
 use Rattle.wasm_marks.specs.declared.marks.Marks.{Marks}
 use Rattle.wasm_marks.specs.Showing.{nothing_seen, opens_seen, levels, entry_shown, Noted}
 use Rattle.wasm_grammar.specs.Machine.{Stands}
@@ -49,12 +49,12 @@ Closes bytes at stop =
     → Stands bounds m bytes (at + 1) (code first_arm ∷ gs)
 
 -- so many of n entries
-abbrev pub PassesEntries : List ℕ → Kind → (n at passed stop : ℕ) → Type 0
+abbrev pub PassesEntries : List ℕ → EntryKind → (n at passed stop : ℕ) → Type 0
 PassesEntries bytes k n at passed stop =
     (bounds : ModuleBounds) (m : Marks) (gs : List Goal) → Below stop gs → Stands bounds m bytes at (entries k n ∷ gs) → Stands bounds m bytes (at + passed) (entries k (n - passed) ∷ gs)
 
 -- an entry of this kind is this byte alone, and shows nothing
-pub record IsAlone (k : Kind) (byte : ℕ) : Type 0 where
+pub record IsEntryByte (k : EntryKind) (byte : ℕ) : Type 0 where
   pub is_item : IsItem (first_of k) (byte ∷ []) byte
   pub leaves_none : (at : ℕ) → entry k byte at ≡ Some []
   pub shows_none : (at : ℕ) → entry_shown k byte at ≡ nothing_seen

@@ -16,13 +16,14 @@ use std::alloc::{AllocError, Global};
 use thiserror::Error;
 use wa_types::Bounds;
 use wasm_goals::stack::Goals;
-use wasm_goals::{Front, Goal, Kind, read_item, wants};
+use wasm_goals::{EntryKind, Front, Goal, read_item, wants};
 use wasm_marks::Marks;
 use wasm_window::Window;
 
 /// Why bytes are no file.
 #[derive(Clone, Copy, Debug, PartialEq, Eq, Error)]
 pub enum CheckFault {
+    /// Want of memory.
     #[error("out of memory")]
     Memory,
     /// The least number of bytes that begin no file, or all of them where they lack only more.
@@ -192,7 +193,7 @@ impl Machine {
             return Ok(());
         };
         match goal {
-            Goal::Entries(Kind::Runs, n) => self.pass_runs(alloc, bytes, stop, n),
+            Goal::Entries(EntryKind::Runs, n) => self.pass_runs(alloc, bytes, stop, n),
             Goal::Entries(kind, n) => self.pass_single(alloc, bytes, stop, kind, n),
             _ => Ok(()),
         }
@@ -204,7 +205,7 @@ impl Machine {
         alloc: Global,
         bytes: &Window<'_>,
         stop: usize,
-        kind: Kind,
+        kind: EntryKind,
         n: u32,
     ) -> Result<(), AllocError>
         requires from { bytes.now.base ≤ self.old.at }
@@ -247,7 +248,7 @@ impl Machine {
         }
         self.goals.pop();
         self.goals
-            .push(alloc, Goal::Entries(Kind::Runs, n - passed))?;
+            .push(alloc, Goal::Entries(EntryKind::Runs, n - passed))?;
         self.at += 2 * passed as usize;
         Ok(())
     }

@@ -1,4 +1,5 @@
-// What items show of that which a file is judged by besides its spelling.
+//! What items show of that which a file is judged by besides its spelling.
+
 ghost use Rattle.std.specs.Prelude.{◌≡◌, ◌∷◌, List, drop};
 ghost use Rattle.wa_types.specs.Begun.{some_value_types, Goal as Wanted};
 ghost use Rattle.wa_types.specs.ModuleBounds.{ModuleBounds};
@@ -7,7 +8,7 @@ ghost use Rattle.wasm_marks.specs.Showing.{Noted, await_results, count_shown, co
 
 use wa_types::Bounds;
 use wasm_goals::stack::Goals;
-use wasm_goals::{Goal, Kind};
+use wasm_goals::{EntryKind, Goal};
 use wasm_marks::Marks;
 
 /// Notes what an item of the first goal shows, of this value at this place.
@@ -53,23 +54,23 @@ fn opens_level(op: u32) -> bool
 }
 
 // The first item of an entry.
-fn note_entry(marks: &mut Marks, kind: Kind, value: u32, at: u64, bounds: &Bounds)
+fn note_entry(marks: &mut Marks, kind: EntryKind, value: u32, at: u64, bounds: &Bounds)
     ensures { Noted bounds.now (entry_shown (kind_of kind) value at) marks.old marks.new }
 {
     match kind {
-        Kind::Globals => marks.note_type(value, at),
-        Kind::ValueTypes => marks.note_type(value, at),
-        Kind::Bodies => marks.note_size(value, bounds),
+        EntryKind::Globals => marks.note_type(value, at),
+        EntryKind::ValueTypes => marks.note_type(value, at),
+        EntryKind::Bodies => marks.note_size(value, bounds),
         _ => {}
     }
 }
 
 // A number of entries, before this goal.
-fn note_count(marks: &mut Marks, kind: Kind, second: Option<Goal>, value: u32, bounds: &Bounds)
+fn note_count(marks: &mut Marks, kind: EntryKind, second: Option<Goal>, value: u32, bounds: &Bounds)
     ensures { (gs : List Wanted) → await_results (list_of second) ≡ await_results gs → Noted bounds.now (count_shown (kind_of kind) gs value) marks.old marks.new }
 {
     match kind {
-        Kind::ValueTypes => note_types(marks, awaits_results(second), value, bounds),
+        EntryKind::ValueTypes => note_types(marks, awaits_results(second), value, bounds),
         _ => {}
     }
 }
@@ -104,11 +105,11 @@ fn counts_types(goal: Goal) -> bool
 }
 
 // Whether value types are counted.
-fn is_types(kind: Kind) -> bool
+fn is_types(kind: EntryKind) -> bool
     ensures { result ≡ of_types (kind_of kind) }
 {
     match kind {
-        Kind::ValueTypes => true,
+        EntryKind::ValueTypes => true,
         _ => false,
     }
 }

@@ -1,12 +1,13 @@
-// Runs of short items, taken at once. They stop before the end of a content.
+//! Runs of short items, taken at once. They stop before the end of a content.
+
 ghost use Rattle.std.specs.Prelude.{ℕ, true, false, ◌≡◌, ◌+◌, ◌-◌, ◌*◌, ◌<◌, ◌≤◌, length, take, drop, get_or, IfSome};
 ghost use Rattle.std.specs.Bool.{OnTrue};
 ghost use Rattle.wa_types.specs.Opcodes.{is_block_type, is_float_op, is_float_type, is_value_type};
 ghost use Rattle.wasm_goals.specs.Goals.{kind_of};
-ghost use Rattle.wasm_grammar.specs.Passing.{IsShort, AreShort, Passes, Opens, Closes, PassesEntries, IsAlone, PassesRuns, IsShortRun};
+ghost use Rattle.wasm_grammar.specs.Passing.{IsShort, AreShort, Passes, Opens, Closes, PassesEntries, IsEntryByte, PassesRuns, IsShortRun};
 
-use wasm_cursor::{Shape, operand_shape};
-use wasm_goals::Kind;
+use wasm_cursor::{ImmediateForm, immediate_form};
+use wasm_goals::EntryKind;
 use wasm_window::Window;
 
 // The place behind a number of at most four bytes, which isn't judged: all of its bits are within its width.
@@ -83,12 +84,12 @@ fn short_end(bytes: &Window<'_>, at: usize, stop: usize) -> Option<usize>
     if !is_integer_op(op) {
         return None;
     }
-    match operand_shape(op)? {
-        Shape::Nothing => Some(at + 1),
-        Shape::Index => behind_number(bytes, at + 1, stop),
-        Shape::Constant32 => behind_number(bytes, at + 1, stop),
-        Shape::Constant64 => behind_number(bytes, at + 1, stop),
-        Shape::Access => behind_numbers(bytes, at + 1, stop),
+    match immediate_form(op)? {
+        ImmediateForm::Nothing => Some(at + 1),
+        ImmediateForm::Index => behind_number(bytes, at + 1, stop),
+        ImmediateForm::Constant32 => behind_number(bytes, at + 1, stop),
+        ImmediateForm::Constant64 => behind_number(bytes, at + 1, stop),
+        ImmediateForm::Access => behind_numbers(bytes, at + 1, stop),
         _ => None,
     }
 }
@@ -164,21 +165,27 @@ fn is_integer_type(byte: u8) -> bool
 
 // Whether an entry is this byte alone.
 #[inline(always)]
-fn is_alone(kind: Kind, byte: u8) -> bool
-    ensures { OnTrue result (IsAlone (kind_of kind) byte) }
+fn is_entry_byte(kind: EntryKind, byte: u8) -> bool
+    ensures { OnTrue result (IsEntryByte (kind_of kind) byte) }
 {
     match kind {
-        Kind::Bytes => true,
-        Kind::Indices => byte < 128,
-        Kind::Functions => byte < 128,
-        Kind::ValueTypes => is_integer_type(byte),
+        EntryKind::Bytes => true,
+        EntryKind::Indices => byte < 128,
+        EntryKind::Functions => byte < 128,
+        EntryKind::ValueTypes => is_integer_type(byte),
         _ => false,
     }
 }
 
 /// How many entries of so many can be passed over, each of one byte, with one left.
 #[inline]
-pub(crate) fn short_entries(kind: Kind, n: u32, bytes: &Window<'_>, at: usize, stop: usize) -> u32
+pub(crate) fn short_entries(
+    kind: EntryKind,
+    n: u32,
+    bytes: &Window<'_>,
+    at: usize,
+    stop: usize,
+) -> u32
     requires from { bytes.now.base ≤ at }
     requires stop { stop ≤ length bytes.now.all }
     ensures room { 0 < result → at + result < stop }
@@ -189,7 +196,7 @@ pub(crate) fn short_entries(kind: Kind, n: u32, bytes: &Window<'_>, at: usize, s
     let most = room.min(n.saturating_sub(1) as usize);
     for index in 0..most {
         let byte = bytes.at(at + index);
-        if !is_alone(kind, byte) {
+        if !is_entry_byte(kind, byte) {
             return index as u32;
         }
     }

@@ -2,7 +2,7 @@
 use Rattle.std.proofs.Common.{◌≡◌, ℕ, ◌+◌, ◌*◌, ◌^◌, ◌<◌, ◌≤◌, List, [], ◌∷◌, ◌++◌, Bool, true, false, cond, ◌&&◌, nat_le, nat_eq, refl, ap, sym, ◌∙◌, subst, arith, add-zero, append_assoc}
 use Rattle.std.proofs.Common.{append-nil, length, length-append}
 use Rattle.wa_types.specs.Opcodes.{is_float_type, is_float_op}
-use Rattle.wa_types.specs.Begun.{Goal, head, entries, count, value_type, block_type, import_kind, code, Kind, some_globals, some_bodies, some_value_types, IsItem, wants, Steps}
+use Rattle.wa_types.specs.Begun.{Goal, head, entries, count, value_type, block_type, import_kind, code, EntryKind, some_globals, some_bodies, some_value_types, IsItem, wants, Steps}
 use Rattle.wa_types.specs.Marks.{place_if}
 use Rattle.wa_types.specs.ModuleBounds.{ModuleBounds}
 use Rattle.file_laws.proofs.Items.{item_some, one_item, same_cut, place_of}
@@ -109,7 +109,7 @@ held_if : (t : Bool) (n at high : ℕ) → at < high → n < 2 ^ 32 → Held (co
 held_if true n at high h small = held_functions n at high h small
 held_if false n at high h small = held_nothing at high (omega (arith, h))
 
-held_entry : (k : Kind) (v at high : ℕ) → at < high → Held (entry_shown k v at) at high
+held_entry : (k : EntryKind) (v at high : ℕ) → at < high → Held (entry_shown k v at) at high
 held_entry some_globals v at high h = held_float (is_float_type v) at high h
 held_entry some_value_types v at high h = held_float (is_float_type v) at high h
 held_entry some_bodies v at high h = record { floats = omega (arith, h); opens = omega (arith, h); few = omega (arith, h, total_nothing) }
@@ -119,7 +119,7 @@ held_params : (t : Bool) (v at high : ℕ) → at < high → Held (let z : Seen 
 held_params true v at high h = record { floats = omega (arith, h); opens = omega (arith, h); few = omega (arith, h, total_nothing) }
 held_params false v at high h = held_nothing at high (omega (arith, h))
 
-held_count : (k : Kind) (gs : List Goal) (v at high : ℕ) → at < high → Held (count_shown k gs v) at high
+held_count : (k : EntryKind) (gs : List Goal) (v at high : ℕ) → at < high → Held (count_shown k gs v) at high
 held_count some_value_types gs v at high h = held_params (await_results gs) v at high h
 held_count _ gs v at high h = held_nothing at high (omega (arith, h))
 

@@ -7,7 +7,7 @@ use Rattle.wa_types.specs.declared.syntax.Limits.{Limits}
 use Rattle.wa_types.specs.Encoding.{space_byte, mutable_byte}
 use Rattle.wa_types.specs.Opcodes.{is_float_type}
 use Rattle.wa_types.specs.Binary.{Placed, RawKind, raw_func, raw_table, raw_memory, raw_global}
-use Rattle.wa_types.specs.Begun.{Goal, exact, sections, number, name, value_type, block_type, mutable, import_kind, space, limits, signed, name_bytes, until, count, entries, Kind, a_byte}
+use Rattle.wa_types.specs.Begun.{Goal, exact, sections, number, name, value_type, block_type, mutable, import_kind, space, limits, signed, name_bytes, until, count, entries, EntryKind, a_byte}
 use Rattle.wa_types.specs.Begun.{first_of, IsItem, wants, next, entry, others, and_then, some_of, name_of, where_true, closing, open_ended, settled, Inside, Steps, some_indices}
 use Rattle.wa_types.specs.Marks.{place_if, float_type}
 use Rattle.wa_types.specs.ModuleBounds.{ModuleBounds}
@@ -55,10 +55,10 @@ space_small a_table = refl
 space_small a_memory = refl
 space_small a_global = refl
 
-pub some_more : (k : Kind) (n : ℕ) → some_of k (suc n) ≡ entries k (suc n) ∷ []
+pub some_more : (k : EntryKind) (n : ℕ) → some_of k (suc n) ≡ entries k (suc n) ∷ []
 some_more k n = let e : nat_eq (suc n) 0 ≡ false = grind (arith) in rw e refl
 
-pub others_some : (k : Kind) (n : ℕ) → others k (suc n) ≡ some_of k n
+pub others_some : (k : EntryKind) (n : ℕ) → others k (suc n) ≡ some_of k n
 others_some k zero = refl
 others_some k (suc n) =
     let e : nat_le (suc (suc n)) 1 ≡ false = grind (arith) in
@@ -66,7 +66,7 @@ others_some k (suc n) =
     let g : others k (suc (suc n)) ≡ entries k (suc n) ∷ [] = rw (e, f) refl in
     g ∙ sym (some_more k n)
 
-pub entry_next : (k : Kind) (n v at : ℕ) → next (entries k n) v at ≡ and_then (entry k v at) (others k n)
+pub entry_next : (k : EntryKind) (n v at : ℕ) → next (entries k n) v at ≡ and_then (entry k v at) (others k n)
 unfolding next
 entry_next k n v at = refl
 
@@ -224,7 +224,7 @@ module _ (b : ModuleBounds) (last : ℕ) where
       (kind_byte 0x03 nothing_seen more (value_type ∷ mutable ∷ []) refl (λ at. refl) refl) (gives_global_type more x m)
 
   -- the first item of an entry
-  pub gives_entry : (k : Kind) (n : ℕ) (more es : List Goal) (F : ℕ → List ℕ → Type 0) (v : ℕ) (s : Seen) → ((at : ℕ) (a : List ℕ) → F at a → IsItem (first_of k) a v)
+  pub gives_entry : (k : EntryKind) (n : ℕ) (more es : List Goal) (F : ℕ → List ℕ → Type 0) (v : ℕ) (s : Seen) → ((at : ℕ) (a : List ℕ) → F at a → IsItem (first_of k) a v)
       → ((at end : ℕ) (a : List ℕ) → F at a → entry k v end ≡ Some es)
       → ((at : ℕ) (a : List ℕ) → F at a → entry_shown k v at ≡ s) → Gives (entries k n ∷ more) (es ++ (others k n ++ more)) F s
   gives_entry k n more es F v s item pushed see at a c t h w =
@@ -233,7 +233,7 @@ module _ (b : ModuleBounds) (last : ℕ) where
       (subst (λ z. Tells b last z (at + length a) c t) (sym (append_assoc es (others k n) more)) w))
 
   -- entries one behind another
-  pub gives_entries : {X : Type 0} (k : Kind) (F : X → ℕ → List ℕ → Type 0) (see : X → Seen) (more : List Goal) → ((n : ℕ) (x : X) → Gives (entries k n ∷ more) (others k n ++ more) (F x) (see x))
+  pub gives_entries : {X : Type 0} (k : EntryKind) (F : X → ℕ → List ℕ → Type 0) (see : X → Seen) (more : List Goal) → ((n : ℕ) (x : X) → Gives (entries k n ∷ more) (others k n ++ more) (F x) (see x))
       → (xs : List X) → Gives (some_of k (length xs) ++ more) more (Items F xs) (seen_in see xs)
   gives_entries k F see more one [] = gives_none more
   gives_entries k F see more one (x ∷ xs) =
@@ -242,7 +242,7 @@ module _ (b : ModuleBounds) (last : ℕ) where
       (gives_from (some_of k (length xs) ++ more) (others k (suc (length xs)) ++ more) more (Items F xs) (seen_in see xs) (ap (λ z. z ++ more) (sym (others_some k (length xs))))
       (gives_entries k F see more one xs)))
 
-  pub gives_count : {X : Type 0} (k : Kind) (F : X → ℕ → List ℕ → Type 0) (see : X → Seen) (more : List Goal) (shows : Seen) (xs : List X)
+  pub gives_count : {X : Type 0} (k : EntryKind) (F : X → ℕ → List ℕ → Type 0) (see : X → Seen) (more : List Goal) (shows : Seen) (xs : List X)
       → ((n : ℕ) (x : X) → Gives (entries k n ∷ more) (others k n ++ more) (F x) (see x))
       → count_shown k more (length xs) ≡ shows → Gives (count k ∷ more) more (Vector F xs) (both shows (seen_in see xs))
   unfolding next
@@ -252,7 +252,7 @@ module _ (b : ModuleBounds) (last : ℕ) where
       (gives_entries k F see more one xs)
 
   -- a vector of entries that show nothing
-  pub gives_silent : {X : Type 0} (k : Kind) (F : X → ℕ → List ℕ → Type 0) (more : List Goal) (xs : List X) → ((n : ℕ) (x : X) → Gives (entries k n ∷ more) (others k n ++ more) (F x) nothing_seen)
+  pub gives_silent : {X : Type 0} (k : EntryKind) (F : X → ℕ → List ℕ → Type 0) (more : List Goal) (xs : List X) → ((n : ℕ) (x : X) → Gives (entries k n ∷ more) (others k n ++ more) (F x) nothing_seen)
       → count_shown k more (length xs) ≡ nothing_seen → Gives (count k ∷ more) more (Vector F xs) nothing_seen
   gives_silent k F more xs one e =
       gives_same (count k ∷ more) more (Vector F xs) (seen_in (λ x. nothing_seen) xs) nothing_seen (silent_entries xs)

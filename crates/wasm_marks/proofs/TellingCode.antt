@@ -1,37 +1,37 @@
 -- What code shows.
 use Rattle.std.proofs.Common.{◌≡◌, ℕ, ◌+◌, ◌<◌, List, [], ◌∷◌, ◌++◌, Option, Some, None, refl, ap, sym, ◌∙◌, subst, arith, append_assoc, length, Bool, true, false, inl, inr, cond, nat_eq}
 use Rattle.std.proofs.Common.{nat_le, IsTrue, ◌&&◌}
-use Rattle.wa_types.specs.Opcodes.{Follows, no_operand, a_zero, an_index, an_index_and_zero, an_access, some_labels, a_constant, a_float, follows, shape, within, is_nest, is_float_op}
-use Rattle.wa_types.specs.Binary.{Placed, Operands, nothing, zero_byte, index, index_and_zero, access, labels, constant, float, RawCode, ended, otherwise, instr, nested, branched}
-use Rattle.wa_types.specs.Begun.{Goal, code, exact, number, block_type, count, some_indices, float_bytes, next, where_true, operands, behind_opcode}
+use Rattle.wa_types.specs.Opcodes.{Form, no_immediate, a_zero, an_index, an_index_and_zero, an_access, some_labels, a_constant, a_float, follows, form, within, is_nest, is_float_op}
+use Rattle.wa_types.specs.Binary.{Placed, Immediates, nothing, zero_byte, index, index_and_zero, access, labels, constant, float, RawCode, ended, otherwise, instr, nested, branched}
+use Rattle.wa_types.specs.Begun.{Goal, code, exact, number, block_type, count, some_indices, float_bytes, next, where_true, immediates, behind_opcode}
 use Rattle.wa_types.specs.Marks.{place_if, float_type, code_floats, code_opens}
 use Rattle.wa_types.specs.ModuleBounds.{ModuleBounds}
-use Rattle.wa_types.specs.Spells.{◌▸◌, Exactly, Number, Vector, Byte, BlockType, OperandsOf, CodeOf}
+use Rattle.wa_types.specs.Spells.{◌▸◌, Exactly, Number, Vector, Byte, BlockType, ImmediatesOf, CodeOf}
 use Rattle.file_laws.proofs.CodeReads.{nest_range, refuted, none_nest}
 use Rattle.wasm_marks.specs.Showing.{Seen, nothing_seen, opens_seen, both, shown, levels, opens_level}
 use Rattle.wasm_marks.proofs.Telling.{Tells, Gives, give, give_byte, gives_none, gives_then, gives_as, gives_same, gives_number, gives_numbers, gives_signed, gives_exact, gives_block_type}
 use Rattle.wasm_marks.proofs.Telling.{seen_placed}
 
 -- the table's floats have bytes
-HasBytes : Follows → Type 0
+HasBytes : Form → Type 0
 HasBytes (a_float n) = 0 < n
 HasBytes _ = Unit {0}
 
-Sized : Option Follows → Type 0
-Sized o = (f : Follows) → o ≡ Some f → HasBytes f
+Sized : Option Form → Type 0
+Sized o = (f : Form) → o ≡ Some f → HasBytes f
 
-either : (b : Bool) (x y : Option Follows) → Sized x → Sized y → Sized (cond b x y)
+either : (b : Bool) (x y : Option Form) → Sized x → Sized y → Sized (cond b x y)
 either true x y p q = p
 either false x y p q = q
 
-follows_same : (e f : Follows) → Some e ≡ Some f → e ≡ f
+follows_same : (e f : Form) → Some e ≡ Some f → e ≡ f
 follows_same e f p = cc
 
-sized : (e : Follows) → HasBytes e → Sized (Some e)
+sized : (e : Form) → HasBytes e → Sized (Some e)
 unfolding Sized
 sized e h f p = subst HasBytes (follows_same e f p) h
 
-not_followed : (f : Follows) → None ≡ Some f → ⊥
+not_followed : (f : Form) → None ≡ Some f → ⊥
 not_followed f e = cc
 
 unsized : Sized None
@@ -41,13 +41,13 @@ unsized f p = absurd (not_followed f p)
 follows_sized : (op : ℕ) → Sized (follows op)
 unfolding follows HasBytes
 follows_sized op =
-    either (within 0x00 0x01 op) _ _ (sized no_operand tt)
+    either (within 0x00 0x01 op) _ _ (sized no_immediate tt)
     (either (within 0x0C 0x0D op) _ _ (sized an_index tt)
     (either (nat_eq op 0x0E) _ _ (sized some_labels tt)
-    (either (nat_eq op 0x0F) _ _ (sized no_operand tt)
+    (either (nat_eq op 0x0F) _ _ (sized no_immediate tt)
     (either (nat_eq op 0x10) _ _ (sized an_index tt)
     (either (nat_eq op 0x11) _ _ (sized an_index_and_zero tt)
-    (either (within 0x1A 0x1B op) _ _ (sized no_operand tt)
+    (either (within 0x1A 0x1B op) _ _ (sized no_immediate tt)
     (either (within 0x20 0x24 op) _ _ (sized an_index tt)
     (either (within 0x28 0x3E op) _ _ (sized an_access tt)
     (either (within 0x3F 0x40 op) _ _ (sized a_zero tt)
@@ -55,18 +55,18 @@ follows_sized op =
     (either (nat_eq op 0x42) _ _ (sized (a_constant 64) tt)
     (either (nat_eq op 0x43) _ _ (sized (a_float 4) (omega arith))
     (either (nat_eq op 0x44) _ _ (sized (a_float 8) (omega arith))
-    (either (within 0x45 0xBF op) _ _ (sized no_operand tt) unsized))))))))))))))
+    (either (within 0x45 0xBF op) _ _ (sized no_immediate tt) unsized))))))))))))))
 
 float_some : (op n : ℕ) → follows op ≡ Some (a_float n) → 0 < n
 unfolding HasBytes Sized
 float_some op n e = follows_sized op (a_float n) e
 
 -- an instruction opens no level
-pub opens_none : (op : ℕ) (f : Follows) → follows op ≡ Some f → opens_level op ≡ false
+pub opens_none : (op : ℕ) (f : Form) → follows op ≡ Some f → opens_level op ≡ false
 unfolding follows
 opens_none op f e = rw (none_nest op f e, refuted op 0x04 f e refl) refl
 
-instr_next : (first_arm : Bool) (op : ℕ) (f : Follows) → follows op ≡ Some f → behind_opcode first_arm op ≡ Some (operands f ++ code first_arm ∷ [])
+instr_next : (first_arm : Bool) (op : ℕ) (f : Form) → follows op ≡ Some f → behind_opcode first_arm op ≡ Some (immediates f ++ code first_arm ∷ [])
 unfolding follows
 instr_next first_arm op f e = rw (refuted op 0x0B f e refl, refuted op 0x05 f e refl, none_nest op f e, refuted op 0x04 f e refl, e) refl
 
@@ -121,7 +121,7 @@ module _ (b : ModuleBounds) (last : ℕ) where
   unfolding next
   gives_float more xs some at a c t h k = give b last (float_bytes (length xs)) more [] at 0 a c t refl (some, ap length h, refl) refl k
 
-  gives_operands : (o : Operands) (op : ℕ) (more : List Goal) → follows op ≡ Some (shape o) → Gives b last (operands (shape o) ++ more) more (OperandsOf o) nothing_seen
+  gives_operands : (o : Immediates) (op : ℕ) (more : List Goal) → follows op ≡ Some (form o) → Gives b last (immediates (form o) ++ more) more (ImmediatesOf o) nothing_seen
   gives_operands nothing op more e = gives_none b last more
   gives_operands zero_byte op more e = gives_exact b last more 0x00
   gives_operands (index x) op more e = gives_number b last more x
@@ -168,14 +168,14 @@ module _ (b : ModuleBounds) (last : ℕ) where
       gives_then b last (code first_arm ∷ more) (code false ∷ more) more (Byte op) (CodeOf false arm) nothing_seen (seen_code b (levels more) arm)
       (gives_op first_arm more (code false ∷ []) op false false (ap (λ z. where_true z (code false ∷ [])) h.0) refl refl) (gives_code arm false more) at a c t h.1 w
   gives_code (instr op o rest) first_arm more at a c t h w =
-      let goals = operands (shape o) ++ (code first_arm ∷ more) in
+      let goals = immediates (form o) ++ (code first_arm ∷ more) in
       let here = op_seen op (is_float_op op.byte) false in
-      let same : (operands (shape o) ++ code first_arm ∷ []) ++ more ≡ goals = append_assoc (operands (shape o)) (code first_arm ∷ []) more in
-      let first = gives_op first_arm more (operands (shape o) ++ code first_arm ∷ []) op (is_float_op op.byte) false (instr_next first_arm op.byte (shape o) h.0) refl
-      (opens_none op.byte (shape o) h.0) in
-      gives_then b last (code first_arm ∷ more) goals more (Byte op) (OperandsOf o ▸ CodeOf first_arm rest) here (seen_code b (levels more) rest)
+      let same : (immediates (form o) ++ code first_arm ∷ []) ++ more ≡ goals = append_assoc (immediates (form o)) (code first_arm ∷ []) more in
+      let first = gives_op first_arm more (immediates (form o) ++ code first_arm ∷ []) op (is_float_op op.byte) false (instr_next first_arm op.byte (form o) h.0) refl
+      (opens_none op.byte (form o) h.0) in
+      gives_then b last (code first_arm ∷ more) goals more (Byte op) (ImmediatesOf o ▸ CodeOf first_arm rest) here (seen_code b (levels more) rest)
       (subst (λ z. Gives b last (code first_arm ∷ more) z (Byte op) here) same first)
-      (gives_then b last goals (code first_arm ∷ more) more (OperandsOf o) (CodeOf first_arm rest) nothing_seen (seen_code b (levels more) rest)
+      (gives_then b last goals (code first_arm ∷ more) more (ImmediatesOf o) (CodeOf first_arm rest) nothing_seen (seen_code b (levels more) rest)
       (gives_operands o op.byte (code first_arm ∷ more) h.0) (gives_code rest first_arm more))
       at a c t h.1 w
   gives_code (nested op result body rest) first_arm more at a c t h w =

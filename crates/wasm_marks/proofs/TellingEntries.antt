@@ -5,7 +5,7 @@ use Rattle.wa_types.specs.declared.syntax.Limits.{Limits}
 use Rattle.wa_types.specs.declared.syntax.Export.{Export}
 use Rattle.wa_types.specs.Encoding.{space_byte, mutable_byte}
 use Rattle.wa_types.specs.Binary.{Placed, RawCode, RawType, RawImport, RawGlobal, RawElem, RawRun, RawBody, RawSegment}
-use Rattle.wa_types.specs.Begun.{Goal, code, number, name, value_type, mutable, import_kind, space, limits, count, entries, until, name_of, others, where_true, Kind, some_types}
+use Rattle.wa_types.specs.Begun.{Goal, code, number, name, value_type, mutable, import_kind, space, limits, count, entries, until, name_of, others, where_true, EntryKind, some_types}
 use Rattle.wa_types.specs.Begun.{some_imports, some_functions, some_tables, some_memories, some_globals, some_exports, some_elements, some_bodies, some_segments, some_value_types, some_runs}
 use Rattle.wa_types.specs.Begun.{some_indices, some_bytes}
 use Rattle.wa_types.specs.Marks.{float_type, code_floats, code_opens, type_floats, body_floats}
@@ -23,14 +23,14 @@ pub record Calm (gs : List Goal) : Type 0 where
   pub flat : levels gs ≡ 0
   pub free : await_results gs ≡ false
 
-calm_others : (k : Kind) (n : ℕ) (more : List Goal) → Calm more → Calm (others k n ++ more)
+calm_others : (k : EntryKind) (n : ℕ) (more : List Goal) → Calm more → Calm (others k n ++ more)
 unfolding levels
 calm_others k n more c = by_test (nat_le n 1) where
   by_test : (t : Bool) → Calm (cond t [] (entries k (n - 1) ∷ []) ++ more)
   by_test true = c
   by_test false = record { flat = (let h = c.flat in omega (arith, h)); free = refl }
 
-count_flat : (k : Kind) (gs : List Goal) → levels gs ≡ 0 → levels (count k ∷ gs) ≡ 0
+count_flat : (k : EntryKind) (gs : List Goal) → levels gs ≡ 0 → levels (count k ∷ gs) ≡ 0
 unfolding levels
 count_flat k gs h = omega (arith, h)
 
@@ -70,7 +70,7 @@ as_bytes (x ∷ xs) at = (x ∷ [], xs, refl, refl, as_bytes xs (at + 1))
 
 module _ (b : ModuleBounds) (last : ℕ) where
   -- an entry of this kind shows this
-  abbrev pub Entry : Kind → (n : ℕ) → List Goal → (ℕ → List ℕ → Type 0) → Seen → Type 0
+  abbrev pub Entry : EntryKind → (n : ℕ) → List Goal → (ℕ → List ℕ → Type 0) → Seen → Type 0
   Entry k n more F s = Gives b last (entries k n ∷ more) (others k n ++ more) F s
 
   value_entry : (n : ℕ) (more : List Goal) (x : Placed) → Entry some_value_types n more (ValueType x) (seen_placed x)

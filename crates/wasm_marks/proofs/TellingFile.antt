@@ -5,7 +5,7 @@ use Rattle.std.specs.List.{flat_map}
 use Rattle.std.proofs.lemmas.Bool.{lt-ltb, ne_eqb}
 use Rattle.wa_types.specs.Encoding.{preamble}
 use Rattle.wa_types.specs.Binary.{Section, custom, types, imports, functions, tables, memories, globals, exports, start, elements, bodies, segments}
-use Rattle.wa_types.specs.Begun.{Goal, exact, sections, size, head, until, rest, Kind, some_types, some_imports, some_functions, some_tables, some_memories, some_globals, some_exports}
+use Rattle.wa_types.specs.Begun.{Goal, exact, sections, size, head, until, rest, EntryKind, some_types, some_imports, some_functions, some_tables, some_memories, some_globals, some_exports}
 use Rattle.wa_types.specs.Begun.{some_elements, some_bodies, some_segments, next, Inside, settled, where_true, some_of, others, entries, name_of, may_follow, content, start as start_goals}
 use Rattle.wa_types.specs.ModuleBounds.{ModuleBounds}
 use Rattle.wa_types.specs.Spells.{◌▸◌, Exactly, Number, Items, Vector, Sized, TextBytes, Text, FunctionType, LimitsOf, TableType, ImportOf, GlobalOf, ExportOf, ElementOf, BodyOf, SegmentOf}
@@ -100,7 +100,7 @@ module _ (b : ModuleBounds) (last : ℕ) where
       subst (λ y. Tells b last (sections lst owed ∷ []) at y (both (both u s) t)) bytes (subst (Tells b last (sections lst owed ∷ []) at (p ++ (q ++ (r ++ (x ++ c))))) (sym (both_assoc u s t)) whole)
 
   -- a section of entries
-  vector : {X : Type 0} (k : Kind) (F : X → ℕ → List ℕ → Type 0) (see : X → Seen) (id lst owed to_owed : ℕ) (xs : List X) (u : Seen) → may_follow id lst owed ≡ true
+  vector : {X : Type 0} (k : EntryKind) (F : X → ℕ → List ℕ → Type 0) (see : X → Seen) (id lst owed to_owed : ℕ) (xs : List X) (u : Seen) → may_follow id lst owed ≡ true
       → ((end : ℕ) → content id end lst owed (length xs) ≡ Some (some_of k (length xs) ++ until end ∷ sections id to_owed ∷ [])) → cond (nat_eq id 3) (functions_seen (length xs)) nothing_seen ≡ u
       → ((n : ℕ) (more : List Goal) → Calm more → (x : X) → Gives b last (entries k n ∷ more) (others k n ++ more) (F x) (see x))
       → Gives b last (sections lst owed ∷ []) (sections id to_owed ∷ []) (Exactly (id ∷ []) ▸ Sized (Vector F xs)) (both u (seen_in see xs))
@@ -111,7 +111,7 @@ module _ (b : ModuleBounds) (last : ℕ) where
       (tells_until b last end (sections id to_owed ∷ []) (at + length a) c t e w))
 
   -- .. that show nothing
-  quiet : {X : Type 0} (k : Kind) (F : X → ℕ → List ℕ → Type 0) (id lst owed to_owed : ℕ) (xs : List X) (u : Seen) → may_follow id lst owed ≡ true
+  quiet : {X : Type 0} (k : EntryKind) (F : X → ℕ → List ℕ → Type 0) (id lst owed to_owed : ℕ) (xs : List X) (u : Seen) → may_follow id lst owed ≡ true
       → ((end : ℕ) → content id end lst owed (length xs) ≡ Some (some_of k (length xs) ++ until end ∷ sections id to_owed ∷ [])) → cond (nat_eq id 3) (functions_seen (length xs)) nothing_seen ≡ u
       → ((n : ℕ) (more : List Goal) (x : X) → Gives b last (entries k n ∷ more) (others k n ++ more) (F x) nothing_seen)
       → Gives b last (sections lst owed ∷ []) (sections id to_owed ∷ []) (Exactly (id ∷ []) ▸ Sized (Vector F xs)) u

@@ -1,8 +1,9 @@
-// Which bytes are floats (standard, sections 5.3.1 and 5.4).
+//! Which bytes are floats (standard, sections 5.3.1 and 5.4).
+
 ghost use Rattle.std.specs.Prelude.{◌≡◌};
 ghost use Rattle.wa_types.specs.Opcodes.{is_float_op, is_float_type, within};
 
-/// Whether this is the opcode of an instruction on floats.
+/// Whether this is the opcode of an instruction on floats (standard, sections 5.4.4 and 5.4.5).
 #[inline(always)]
 pub fn is_float_op(op: u32) -> bool
     ensures { result ≡ is_float_op op }

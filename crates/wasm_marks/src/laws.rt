@@ -1,3 +1,5 @@
+//! The law that items show what sections hold. It is the contract of a function that does nothing.
+
 ghost use Rattle.std.specs.Prelude.{◌<◌, ◌^◌, ◌∷◌, [], ℕ, List, length};
 ghost use Rattle.wa_types.specs.Begun.{sections, start};
 ghost use Rattle.wa_types.specs.Binary.{Section};

@@ -1,3 +1,5 @@
+//! What was met along a file of that which it is judged by besides its spelling.
+
 ghost use Rattle.std.specs.Prelude.{◌≡◌, nat_le};
 ghost use Rattle.wa_types.specs.Marks.{place_if};
 ghost use Rattle.wa_types.specs.ModuleBounds.{ModuleBounds};

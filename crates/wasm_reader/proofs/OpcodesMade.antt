@@ -5,17 +5,15 @@ use Rattle.std.proofs.Math.Nat.{eq-or-lt_of_le}
 use Rattle.std.proofs.lemmas.Bool.{ltb-true, ltb-false, ne_eqb}
 use Rattle.wa_types.specs.declared.values.Value.TheVariants.{I32 as value_32, I64 as value_64}
 use Rattle.wa_types.specs.declared.operators.NumOp.{NumOp}
-use Rattle.wa_types.specs.declared.operators.NumOp.TheVariants.{I32Eqz, I32Eq, I32Ne, I32LtS, I32LtU, I32GtS, I32GtU, I32LeS, I32LeU, I32GeS, I32GeU, I64Eqz, I64Eq, I64Ne, I64LtS, I64LtU}
-use Rattle.wa_types.specs.declared.operators.NumOp.TheVariants.{I64GtS, I64GtU, I64LeS, I64LeU, I64GeS, I64GeU, I32Clz, I32Ctz, I32Popcnt, I32Add, I32Sub, I32Mul, I32DivS, I32DivU, I32RemS}
-use Rattle.wa_types.specs.declared.operators.NumOp.TheVariants.{I32RemU, I32And, I32Or, I32Xor, I32Shl, I32ShrS, I32ShrU, I32Rotl, I32Rotr, I64Clz, I64Ctz, I64Popcnt, I64Add, I64Sub, I64Mul}
-use Rattle.wa_types.specs.declared.operators.NumOp.TheVariants.{I64DivS, I64DivU, I64RemS, I64RemU, I64And, I64Or, I64Xor, I64Shl, I64ShrS, I64ShrU, I64Rotl, I64Rotr, I32WrapI64}
-use Rattle.wa_types.specs.declared.operators.NumOp.TheVariants.{I64ExtendI32S, I64ExtendI32U}
+use Rattle.wa_types.specs.declared.operators.NumOp.TheVariants.{I32Eqz}
 use Rattle.wa_types.specs.Operators.{opcode_of}
-use Rattle.wa_types.specs.Opcodes.{Follows, no_operand, a_zero, an_index, an_index_and_zero, an_access, some_labels, a_constant, a_float, follows, shape, is_float_op, is_load_op, is_store_op}
-use Rattle.wa_types.specs.Binary.{Placed, Operands, nothing, zero_byte, index, index_and_zero, access, labels, constant, float}
+use Rattle.wa_types.specs.Opcodes.{Form, no_immediate, a_zero, an_index, an_index_and_zero, an_access, some_labels, a_constant, a_float, follows, form, is_float_op, is_load_op, is_store_op}
+use Rattle.wa_types.specs.Binary.{Placed, Immediates, nothing, zero_byte, index, index_and_zero, access, labels, constant, float}
 use Rattle.wa_types.specs.Syntax.{nop, drop, select, const, num, global_get, global_set, load, store, memory_size, memory_grow, Plain, basic, local_get, local_set, local_tee, br, br_if}
 use Rattle.wa_types.specs.Syntax.{br_table, return, unreachable, call, call_indirect}
-use Rattle.wa_types.specs.Reading.{plain_opcode, plain_operands, HasKind, IsPlain}
+use Rattle.wa_types.specs.Reading.{HasKind, IsPlain}
+use Rattle.wa_types.specs.Opcodes.{plain_immediates, plain_opcode}
+use Rattle.wa_types.proofs.OperatorLemmas.{operators}
 use Rattle.file_laws.proofs.CodeWriting.{within_above}
 
 -- a test that all numbers below one pass
@@ -69,18 +67,11 @@ none_follows op h =
       within_above 0x45 0xBF op (omega (arith, h)),
     ) refl
 
-low : (op : ℕ) (f : Follows) → follows op ≡ Some f → op < 192
+low : (op : ℕ) (f : Form) → follows op ≡ Some f → op < 192
 low op f e = elim (by_test (nat_lt op 192)) [
   | inl less ↦ ltb-true op 192 less
   | inr past ↦ absurd (let g : None ≡ Some f = sym (none_follows op (ltb-false op 192 past)) ∙ e in cc)
 ]
-
--- all operators
-operators : List NumOp
-operators = I32Eqz ∷ I32Eq ∷ I32Ne ∷ I32LtS ∷ I32LtU ∷ I32GtS ∷ I32GtU ∷ I32LeS ∷ I32LeU ∷ I32GeS ∷ I32GeU ∷ I64Eqz ∷ I64Eq ∷ I64Ne ∷ I64LtS ∷ I64LtU ∷ I64GtS ∷ I64GtU ∷ I64LeS ∷ I64LeU
-    ∷ I64GeS ∷ I64GeU ∷ I32Clz ∷ I32Ctz ∷ I32Popcnt ∷ I32Add ∷ I32Sub ∷ I32Mul ∷ I32DivS ∷ I32DivU ∷ I32RemS ∷ I32RemU ∷ I32And ∷ I32Or ∷ I32Xor ∷ I32Shl ∷ I32ShrS ∷ I32ShrU ∷ I32Rotl
-    ∷ I32Rotr ∷ I64Clz ∷ I64Ctz ∷ I64Popcnt ∷ I64Add ∷ I64Sub ∷ I64Mul ∷ I64DivS ∷ I64DivU ∷ I64RemS ∷ I64RemU ∷ I64And ∷ I64Or ∷ I64Xor ∷ I64Shl ∷ I64ShrS ∷ I64ShrU ∷ I64Rotl ∷ I64Rotr
-    ∷ I32WrapI64 ∷ I64ExtendI32S ∷ I64ExtendI32U ∷ []
 
 -- the one of an opcode
 search_num : List NumOp → ℕ → NumOp
@@ -88,7 +79,7 @@ search_num [] op = I32Eqz
 search_num (n ∷ ns) op = cond (nat_eq (opcode_of n) op) n (search_num ns op)
 
 -- the instruction of an opcode and operands
-plain_of : ℕ → Operands → Plain
+plain_of : ℕ → Immediates → Plain
 plain_of op nothing =
     cond (nat_eq op 0x00) unreachable (cond (nat_eq op 0x01) (basic nop) (cond (nat_eq op 0x0F) return
     (cond (nat_eq op 0x1A) (basic drop) (cond (nat_eq op 0x1B) (basic select) (basic (num (search_num operators op)))))))
@@ -103,27 +94,27 @@ plain_of op (constant bits n) = cond (nat_eq op 0x41) (basic (const (value_32 n)
 plain_of op (float bytes) = basic nop
 
 -- a test where this follows an opcode
-if_bare : Option Follows → Bool → Bool
-if_bare (Some no_operand) t = t
+if_bare : Option Form → Bool → Bool
+if_bare (Some no_immediate) t = t
 if_bare _ t = true
 
-if_zero : Option Follows → Bool → Bool
+if_zero : Option Form → Bool → Bool
 if_zero (Some a_zero) t = t
 if_zero _ t = true
 
-if_index : Option Follows → Bool → Bool
+if_index : Option Form → Bool → Bool
 if_index (Some an_index) t = t
 if_index _ t = true
 
-if_index_zero : Option Follows → Bool → Bool
+if_index_zero : Option Form → Bool → Bool
 if_index_zero (Some an_index_and_zero) t = t
 if_index_zero _ t = true
 
-if_access : Option Follows → Bool → Bool
+if_access : Option Form → Bool → Bool
 if_access (Some an_access) t = t
 if_access _ t = true
 
-if_labels : Option Follows → Bool → Bool
+if_labels : Option Form → Bool → Bool
 if_labels (Some some_labels) t = t
 if_labels _ t = true
 
@@ -171,7 +162,7 @@ unfolding all_below test_labels if_labels follows
 all_labels = refl
 
 -- a constant of so many bits
-if_constant : Option Follows → (ℕ → Bool) → Bool
+if_constant : Option Form → (ℕ → Bool) → Bool
 if_constant (Some (a_constant bits)) t = t bits
 if_constant _ t = true
 
@@ -182,7 +173,7 @@ all_constant : all_below test_constant 192 ≡ true
 unfolding all_below test_constant if_constant follows
 all_constant = refl
 
-if_float : Option Follows → Bool → Bool
+if_float : Option Form → Bool → Bool
 if_float (Some (a_float n)) t = t
 if_float _ t = true
 
@@ -194,10 +185,10 @@ unfolding all_below test_float if_float follows
 all_float = refl
 
 -- an instruction with these operands
-FitsWith : Operands → Plain → Type 0
-FitsWith o p = (o ≡ plain_operands p) × HasKind p
+FitsWith : Immediates → Plain → Type 0
+FitsWith o p = (o ≡ plain_immediates p) × HasKind p
 
-either_fits : (o : Operands) (t : Bool) (p q : Plain) → FitsWith o p → FitsWith o q → FitsWith o (cond t p q)
+either_fits : (o : Immediates) (t : Bool) (p q : Plain) → FitsWith o p → FitsWith o q → FitsWith o (cond t p q)
 either_fits o true p q h k = h
 either_fits o false p q h k = k
 
@@ -219,35 +210,35 @@ index_fits op x =
     (either_fits (index x) (nat_eq op 0x23) _ _ (refl, tt) (refl, tt)))))))
 
 -- what a test says where it is asked
-bare_said : (o : Option Follows) (t : Bool) → o ≡ Some no_operand → if_bare o t ≡ true → t ≡ true
+bare_said : (o : Option Form) (t : Bool) → o ≡ Some no_immediate → if_bare o t ≡ true → t ≡ true
 unfolding if_bare
 bare_said o t e h = rw e at h
 
-zero_said : (o : Option Follows) (t : Bool) → o ≡ Some a_zero → if_zero o t ≡ true → t ≡ true
+zero_said : (o : Option Form) (t : Bool) → o ≡ Some a_zero → if_zero o t ≡ true → t ≡ true
 unfolding if_zero
 zero_said o t e h = rw e at h
 
-index_said : (o : Option Follows) (t : Bool) → o ≡ Some an_index → if_index o t ≡ true → t ≡ true
+index_said : (o : Option Form) (t : Bool) → o ≡ Some an_index → if_index o t ≡ true → t ≡ true
 unfolding if_index
 index_said o t e h = rw e at h
 
-index_zero_said : (o : Option Follows) (t : Bool) → o ≡ Some an_index_and_zero → if_index_zero o t ≡ true → t ≡ true
+index_zero_said : (o : Option Form) (t : Bool) → o ≡ Some an_index_and_zero → if_index_zero o t ≡ true → t ≡ true
 unfolding if_index_zero
 index_zero_said o t e h = rw e at h
 
-access_said : (o : Option Follows) (t : Bool) → o ≡ Some an_access → if_access o t ≡ true → t ≡ true
+access_said : (o : Option Form) (t : Bool) → o ≡ Some an_access → if_access o t ≡ true → t ≡ true
 unfolding if_access
 access_said o t e h = rw e at h
 
-labels_said : (o : Option Follows) (t : Bool) → o ≡ Some some_labels → if_labels o t ≡ true → t ≡ true
+labels_said : (o : Option Form) (t : Bool) → o ≡ Some some_labels → if_labels o t ≡ true → t ≡ true
 unfolding if_labels
 labels_said o t e h = rw e at h
 
-constant_said : (o : Option Follows) (bits : ℕ) (t : ℕ → Bool) → o ≡ Some (a_constant bits) → if_constant o t ≡ true → t bits ≡ true
+constant_said : (o : Option Form) (bits : ℕ) (t : ℕ → Bool) → o ≡ Some (a_constant bits) → if_constant o t ≡ true → t bits ≡ true
 unfolding if_constant
 constant_said o bits t e h = rw e at h
 
-float_said : (o : Option Follows) (n : ℕ) (t : Bool) → o ≡ Some (a_float n) → if_float o t ≡ true → t ≡ true
+float_said : (o : Option Form) (n : ℕ) (t : Bool) → o ≡ Some (a_float n) → if_float o t ≡ true → t ≡ true
 unfolding if_float
 float_said o n t e h = rw e at h
 
@@ -272,10 +263,10 @@ constant_is op bits n false b true false e f g h k = absurd (let w : false ≡ t
 constant_is op bits n false b false d e f g h k = absurd (let w : false ≡ true = k in cc)
 
 -- An opcode that is no float's is an instruction with what follows it.
-pub plain_made : (op : Placed) (o : Operands) → follows op.byte ≡ Some (shape o) → is_float_op op.byte ≡ false → (p : Plain) × IsPlain op o p
+pub plain_made : (op : Placed) (o : Immediates) → follows op.byte ≡ Some (form o) → is_float_op op.byte ≡ false → (p : Plain) × IsPlain op o p
 unfolding plain_of FitsWith test_bare test_zero test_index test_index_zero test_access test_labels test_constant test_float
 plain_made op nothing e f =
-    let t = bare_said (follows op.byte) _ e (passes test_bare 192 op.byte (low op.byte no_operand e) all_bare) in
+    let t = bare_said (follows op.byte) _ e (passes test_bare 192 op.byte (low op.byte no_immediate e) all_bare) in
     let k = bare_fits op.byte in
     (plain_of op.byte nothing, record { opcode = eqb-true op.byte _ (either_of _ _ t f); follows = k.0; kind = k.1 })
 plain_made op zero_byte e f =

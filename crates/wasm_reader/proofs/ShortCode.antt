@@ -7,8 +7,9 @@ use Rattle.wa_types.specs.Encoding.{vector, sized, code_bytes, plain_bytes, else
 use Rattle.wa_types.specs.Syntax.{nop, drop, select, const, num, global_get, global_set, load, store, memory_size, memory_grow, Plain, basic, local_get, local_set, local_tee, br, br_if}
 use Rattle.wa_types.specs.Syntax.{br_table, return, unreachable, call, call_indirect, Code, done, plain, nest, branch}
 use Rattle.wa_types.specs.Binary.{RawCode, ended, otherwise, instr, nested, branched}
-use Rattle.wa_types.specs.Spells.{Number, Items, Vector, OperandsOf, CodeOf}
-use Rattle.wa_types.specs.Reading.{plain_operands, IsCode, Each}
+use Rattle.wa_types.specs.Spells.{Number, Items, Vector, ImmediatesOf, CodeOf}
+use Rattle.wa_types.specs.Reading.{IsCode, Each}
+use Rattle.wa_types.specs.Opcodes.{plain_immediates}
 use Rattle.wasm_reader.proofs.ShortNumbers.{number_short, shortest_rises}
 use Rattle.wasm_reader.proofs.SpelledCodeSizes.{length_split}
 use Rattle.wasm_reader.proofs.SpelledSizes.{each_length}
@@ -53,7 +54,7 @@ pub sized_short : (bytes : List ℕ) (size : ℕ) (a b c : List ℕ) → a ≡ b
 sized_short bytes size a b c e n l k =
     omega (arith, length_split a b c e, length-append (shortest (length bytes)) bytes, number_short size b n, shortest_rises (length bytes) size k, l, k)
 
-operands_short : (p : Plain) (at : ℕ) (a : List ℕ) → OperandsOf (plain_operands p) at a → length (plain_bytes p) ≤ suc (length a)
+operands_short : (p : Plain) (at : ℕ) (a : List ℕ) → ImmediatesOf (plain_immediates p) at a → length (plain_bytes p) ≤ suc (length a)
 operands_short (basic nop) at a h = omega arith
 operands_short (basic drop) at a h = omega arith
 operands_short (basic select) at a h = omega arith
@@ -126,7 +127,7 @@ code_short (instr op o x) (plain p c) e first_arm at a h i =
       ap length t.3.1,
       length_split t.1 u.0 u.1 u.2,
       length-append (plain_bytes p) (code_bytes c),
-      operands_short p (at + length t.0) u.0 (subst (λ z. OperandsOf z (at + length t.0) u.0) i.0.follows u.3),
+      operands_short p (at + length t.0) u.0 (subst (λ z. ImmediatesOf z (at + length t.0) u.0) i.0.follows u.3),
       code_short x c e first_arm (at + length t.0 + length u.0) u.1 u.4 i.1,
     )
 code_short (instr op o x) done e first_arm at a h i = absurd i

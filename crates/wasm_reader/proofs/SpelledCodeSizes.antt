@@ -3,8 +3,9 @@ use Rattle.std.proofs.Common.{◌≡◌, ℕ, zero, suc, ◌+◌, ◌*◌, ◌<�
 use Rattle.std.proofs.lemmas.List.Elements.{All-head, All-tail}
 use Rattle.wa_types.specs.Syntax.{Plain, basic, local_get, local_set, local_tee, br, br_if, br_table, return, unreachable, call, call_indirect, Code, done, plain, nest, branch, FuncType, Module}
 use Rattle.wa_types.specs.Binary.{RawCode, ended, otherwise, instr, nested, branched}
-use Rattle.wa_types.specs.Spells.{Number, Items, Vector, OperandsOf, CodeOf}
-use Rattle.wa_types.specs.Reading.{plain_operands, IsCode}
+use Rattle.wa_types.specs.Spells.{Number, Items, Vector, ImmediatesOf, CodeOf}
+use Rattle.wa_types.specs.Reading.{IsCode}
+use Rattle.wa_types.specs.Opcodes.{plain_immediates}
 use Rattle.wa_types.specs.Sizes.{params_of_type, params_at_index, all_sorts, label_count, call_params, else_count, code_items, code_params, plain_lists, code_lists}
 
 -- the length of what is split
@@ -26,7 +27,7 @@ pub vector_takes : {X : Type 0} (f : X → ℕ → List ℕ → Type 0) → ((x 
 vector_takes f t xs at a h = omega (arith, length_split a h.0 h.1 h.2, number_takes (length xs) at h.0 h.3, items_take f t xs (at + length h.0) h.1 h.4)
 
 -- the labels of an instruction take no more bytes than its operands
-labels_take : (p : Plain) (at : ℕ) (a : List ℕ) → OperandsOf (plain_operands p) at a → label_count p ≤ length a
+labels_take : (p : Plain) (at : ℕ) (a : List ℕ) → ImmediatesOf (plain_immediates p) at a → label_count p ≤ length a
 labels_take (br_table targets last) at a h =
     omega (arith, length_split a h.0 h.1 h.2, vector_takes Number number_takes targets at h.0 h.3)
 labels_take (basic b) at a h = omega arith
@@ -120,7 +121,7 @@ code_holds m lists f (instr op o x) (plain p c) e first_arm at a h i l =
     let n = length_split a t.0 t.1 t.2 in
     let one : length t.0 ≡ 1 = ap length t.3.1 in
     let n2 = length_split t.1 u.0 u.1 u.2 in
-    let labels = labels_take p (at + length t.0) u.0 (subst (λ z. OperandsOf z (at + length t.0) u.0) i.0.follows u.3) in
+    let labels = labels_take p (at + length t.0) u.0 (subst (λ z. ImmediatesOf z (at + length t.0) u.0) i.0.follows u.3) in
     let v = code_holds m lists f x c e first_arm (at + length t.0 + length u.0) u.1 u.4 i.1 (omega (arith, n, n2, l)) in
     record {
       items = omega (arith, n, one, n2, labels, v.items);

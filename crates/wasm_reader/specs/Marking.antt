@@ -1,4 +1,4 @@
--- What is said of a file that was scanned.
+-- What is said of a file by what was marked along it.
 use Rattle.std.specs.Prelude.{ℕ, List, Option, Some, None}
 use Rattle.wa_types.specs.Binary.{Section}
 use Rattle.wa_types.specs.ModuleBounds.{ModuleBounds}

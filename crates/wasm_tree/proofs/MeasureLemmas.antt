@@ -10,11 +10,11 @@ use Rattle.wa_types.specs.declared.instrs.Instr.TheVariants.{Block, Loop, If}
 use Rattle.wa_types.specs.Syntax.{Code, done, plain, nest, branch}
 use Rattle.wa_types.specs.View.{code, in_front}
 use Rattle.wa_types.specs.Counts.{count_of, depth_of}
-use Rattle.wa_types.proofs.ViewLemmas.{is_block, is_loop, is_if, is_plain, kind, in_block, in_loop, in_if, code_step, code_empty}
+use Rattle.wa_types.proofs.ViewLemmas.{is_block, is_loop, is_if, is_plain, instr_kind, in_block, in_loop, in_if, code_step, code_empty}
 
 count_front : (x : Instr) (rest : Code) → count_of (in_front x rest) ≡ count_of (in_front x done) + count_of rest
 unfolding count_of
-count_front x rest = elim (kind x) [
+count_front x rest = elim (instr_kind x) [
   | is_block r v e ↦ ap (λ y. count_of (in_front y rest)) e ∙ ap count_of (in_block r v rest) ∙ omega (arith, ap (λ y. count_of (in_front y done)) e ∙ ap count_of (in_block r v done))
   | is_loop r v e ↦ ap (λ y. count_of (in_front y rest)) e ∙ ap count_of (in_loop r v rest) ∙ omega (arith, ap (λ y. count_of (in_front y done)) e ∙ ap count_of (in_loop r v done))
   | is_if r v w e ↦ ap (λ y. count_of (in_front y rest)) e ∙ ap count_of (in_if r v w rest) ∙ omega (arith, ap (λ y. count_of (in_front y done)) e ∙ ap count_of (in_if r v w done))
@@ -44,7 +44,7 @@ count_empty xs i h = ap count_of (code_empty xs i h)
 pub count_other : (x : Instr) → ((r : Option ValType) (v : Vec Instr Global) → x ≡ Block r v → ⊥) → ((r : Option ValType) (v : Vec Instr Global) → x ≡ Loop r v → ⊥)
     → ((r : Option ValType) (v w : Vec Instr Global) → x ≡ If r v w → ⊥) → 1 ≡ count_of (in_front x done)
 unfolding count_of
-count_other x not_block not_loop not_if = elim (kind x) [
+count_other x not_block not_loop not_if = elim (instr_kind x) [
   | is_block r v e ↦ absurd (not_block r v e)
   | is_loop r v e ↦ absurd (not_loop r v e)
   | is_if r v w e ↦ absurd (not_if r v w e)
@@ -55,7 +55,7 @@ pub ruleset counting = (count_step, count_empty, count_block, count_loop, count_
 
 depth_front : (x : Instr) (rest : Code) → depth_of (in_front x rest) ≡ max (depth_of (in_front x done)) (depth_of rest)
 unfolding depth_of
-depth_front x rest = elim (kind x) [
+depth_front x rest = elim (instr_kind x) [
   | is_block r v e ↦ ap (λ y. depth_of (in_front y rest)) e ∙ ap depth_of (in_block r v rest) ∙ omega (arith, ap (λ y. depth_of (in_front y done)) e ∙ ap depth_of (in_block r v done))
   | is_loop r v e ↦ ap (λ y. depth_of (in_front y rest)) e ∙ ap depth_of (in_loop r v rest) ∙ omega (arith, ap (λ y. depth_of (in_front y done)) e ∙ ap depth_of (in_loop r v done))
   | is_if r v w e ↦ ap (λ y. depth_of (in_front y rest)) e ∙ ap depth_of (in_if r v w rest) ∙ omega (arith, ap (λ y. depth_of (in_front y done)) e ∙ ap depth_of (in_if r v w done))
@@ -84,7 +84,7 @@ depth_empty xs i h = ap depth_of (code_empty xs i h)
 pub depth_other : (x : Instr) → ((r : Option ValType) (v : Vec Instr Global) → x ≡ Block r v → ⊥) → ((r : Option ValType) (v : Vec Instr Global) → x ≡ Loop r v → ⊥)
     → ((r : Option ValType) (v w : Vec Instr Global) → x ≡ If r v w → ⊥) → 0 ≡ depth_of (in_front x done)
 unfolding depth_of
-depth_other x not_block not_loop not_if = elim (kind x) [
+depth_other x not_block not_loop not_if = elim (instr_kind x) [
   | is_block r v e ↦ absurd (not_block r v e)
   | is_loop r v e ↦ absurd (not_loop r v e)
   | is_if r v w e ↦ absurd (not_if r v w e)

@@ -10,8 +10,9 @@ use Rattle.wa_types.specs.Syntax.{nop, drop as drop_operand, select, const, num,
 use Rattle.wa_types.specs.Syntax.{br, br_if, br_table, return, unreachable, call, call_indirect, a_block, a_loop, Code, done, plain, nest, branch}
 use Rattle.wa_types.specs.View.{code, onto, in_front}
 use Rattle.wa_types.specs.Pruned.{is_last, is_last_instr, pruned}
-use Rattle.wa_types.proofs.ViewLemmas.{Kind, is_block, is_loop, is_if, is_plain, kind, in_block, in_loop, in_if, in_br_table, code_step, code_empty, onto_append, onto_done, onto_none}
-use Rattle.wasm_tree.specs.Kinds.{is_leaf}
+use Rattle.wa_types.proofs.ViewLemmas.{in_block, in_loop, in_if, code_step, code_empty, onto_append, onto_done, onto_none}
+use Rattle.wa_types.specs.Leaves.{is_leaf}
+use Rattle.wa_types.proofs.LeafLemmas.{leaf_other}
 
 pub pruned_done : pruned done ≡ done
 unfolding pruned
@@ -83,45 +84,6 @@ as_leaf (Block' r s k) e = cc
 as_leaf (Loop' r s k) e = cc
 as_leaf (If' r s k t l) e = cc
 
-block_no_leaf : (r : Option ValType) (v : Vec Instr Global) → is_leaf (Block r v) ≡ false
-unfolding is_leaf
-block_no_leaf r v = refl
-
-loop_no_leaf : (r : Option ValType) (v : Vec Instr Global) → is_leaf (Loop r v) ≡ false
-unfolding is_leaf
-loop_no_leaf r v = refl
-
-if_no_leaf : (r : Option ValType) (v w : Vec Instr Global) → is_leaf (If r v w) ≡ false
-unfolding is_leaf
-if_no_leaf r v w = refl
-
--- what stands as one plain instruction holds no other
-plain_leaf : (x : Instr) (p : Plain) → in_front x done ≡ plain p done → is_leaf x ≡ true
-unfolding is_leaf in_front
-plain_leaf (Block' r s k) p e = cc
-plain_leaf (Loop' r s k) p e = cc
-plain_leaf (If' r s k t l) p e = cc
-plain_leaf _ p e = refl
-
-pub leaf_other : (x : Instr) → ((r : Option ValType) (v : Vec Instr Global) → x ≡ Block r v → ⊥) → ((r : Option ValType) (v : Vec Instr Global) → x ≡ Loop r v → ⊥)
-    → ((r : Option ValType) (v w : Vec Instr Global) → x ≡ If r v w → ⊥) → is_leaf x ≡ true
-leaf_other x not_block not_loop not_if = elim (kind x) [
-  | is_block r v e ↦ absurd (not_block r v e)
-  | is_loop r v e ↦ absurd (not_loop r v e)
-  | is_if r v w e ↦ absurd (not_if r v w e)
-  | is_plain p e ↦ plain_leaf x p (e done)
-]
-
--- no construct is a leaf
-pub block_unlike : (x : Instr) (r : Option ValType) (v : Vec Instr Global) → is_leaf x ≡ true → x ≡ Block r v → ⊥
-block_unlike x r v e f = let g : true ≡ false = sym e ∙ ap is_leaf f ∙ block_no_leaf r v in cc
-
-pub loop_unlike : (x : Instr) (r : Option ValType) (v : Vec Instr Global) → is_leaf x ≡ true → x ≡ Loop r v → ⊥
-loop_unlike x r v e f = let g : true ≡ false = sym e ∙ ap is_leaf f ∙ loop_no_leaf r v in cc
-
-pub if_unlike : (x : Instr) (r : Option ValType) (v w : Vec Instr Global) → is_leaf x ≡ true → x ≡ If r v w → ⊥
-if_unlike x r v w e f = let g : true ≡ false = sym e ∙ ap is_leaf f ∙ if_no_leaf r v w in cc
-
 prune_as : (x y : Instr) (rest : Code) → Leaf x → ((rest : Code) → in_front y rest ≡ in_front x rest) → pruned (in_front x rest) ≡ in_front y (if is_last_instr x then done else pruned rest)
 unfolding pruned
 prune_as x y rest (leaf p e l) same =
@@ -135,5 +97,3 @@ prune_leaf x y h same rest = prune_as x y rest (as_leaf x h) same
 pub ruleset pruning = (prune_step, prune_last, onto_none, onto_done, code_empty, pruned_done)
 
 pub ruleset pruning_one = (prune_block, prune_loop, prune_if, prune_leaf, leaf_other)
-
-pub ruleset copying = (in_br_table, block_unlike, loop_unlike, if_unlike)

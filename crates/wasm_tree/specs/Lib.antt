@@ -1,1 +1,1 @@
-pub mod Kinds
+-- no definitions of its own

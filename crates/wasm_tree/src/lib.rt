@@ -12,4 +12,4 @@ mod measures;
 mod pruning;
 
 pub use measures::{count, depth};
-pub use pruning::{copy_leaf, prune};
+pub use pruning::prune;

@@ -12,6 +12,7 @@ use Rattle.wa_types.specs.Syntax.{Basic, nop, drop as drop_operand, select, cons
 use Rattle.wa_types.specs.Syntax.{local_tee, br, br_if, br_table, return, unreachable, call, call_indirect, Shape, a_block, a_loop, Code, done, plain, nest, branch, FuncType}
 use Rattle.wa_types.specs.View.{in_front, code}
 use Rattle.wa_types.specs.Pruned.{is_last, is_last_instr}
+use Rattle.wa_types.specs.declared.rules.Rule.TheVariants.{Alignment, ConstantGlobal}
 use Rattle.wa_types.specs.Typing.{GlobalType, Around, Sig, moves, leaves, drops, selects, lacks, late, listed, sig, basic_sig, may_jump, calls, calls_at, gets, sets, tees, gets_global}
 use Rattle.wa_types.specs.Typing.{sets_global, accesses, loads, stores, with_memory, Takes, label, Types}
 use Rattle.wa_types.proofs.ViewLemmas.{in_block, in_loop, in_if, code_step}
@@ -26,9 +27,9 @@ use Rattle.wa_types.specs.View.{module_of, func_of}
 use Rattle.wa_types.specs.Modules.{around, defined_at, func_imports, imported_func}
 use Rattle.validate_modules.proofs.FuncLemmas.{func_at}
 use Rattle.wa_types.specs.Validity.{Valid}
-use Rattle.validate_modules.specs.Kinds.{is_leaf}
+use Rattle.wa_types.specs.Leaves.{is_leaf}
 use Rattle.validate_modules.specs.Walk.{Walk, outset, Stays, Inside, TypedAt}
-use Rattle.validate_modules.proofs.InstrKinds.{is_block, is_loop, is_branch, is_plain, kind}
+use Rattle.validate_modules.proofs.InstrKinds.{is_block, is_loop, is_branch, is_plain, leaf_kind}
 
 -- control may come behind it
 abbrev pub Passes : Sig → Type 0
@@ -70,10 +71,10 @@ passes_gets_global (Some g) = tt
 
 passes_sets_global : (o : Option GlobalType) → Passes (sets_global o)
 passes_sets_global None = tt
-passes_sets_global (Some g) = passes_if g.mutable (moves (g.ty ∷ []) []) (late 10 (g.ty ∷ []) []) tt tt
+passes_sets_global (Some g) = passes_if g.mutable (moves (g.ty ∷ []) []) (late ConstantGlobal (g.ty ∷ []) []) tt tt
 
 passes_accesses : (align : ℕ) (row : AccessRow) (ins outs : List ValType) → Passes (accesses align row ins outs)
-passes_accesses align row ins outs = passes_if (nat_le align row.natural) (moves ins outs) (late 9 ins outs) tt tt
+passes_accesses align row ins outs = passes_if (nat_le align row.natural) (moves ins outs) (late Alignment ins outs) tt tt
 
 passes_loads : (b : Bool) (align : ℕ) (o : Option AccessRow) → Passes (loads b align o)
 passes_loads false align o = tt
@@ -204,8 +205,8 @@ unfolding Types
 branch_arms c ls r a b rest outs ops h = ((listed r, h.2), (listed r, h.3))
 
 module _ (c : Around) (ls : List (Option ValType)) (x : Instr) (rest : Code) (ops : List ValType) (h : TypedOn c ls (in_front x rest) ops) where
-  pub alone : TypedOn c ls (in_front x done) ops
-  alone = elim (kind x) [
+  pub typed_alone : TypedOn c ls (in_front x done) ops
+  typed_alone = elim (leaf_kind x) [
     | is_block r v e ↦ (let g : (k : Code) → in_front x k ≡ nest a_block r (code v.items) k = λ k. ap (λ y. in_front y k) e ∙ in_block r v k in
         subst (λ (k : Code). TypedOn c ls k ops) (sym (g done)) (nest_alone c ls a_block r (code v.items) rest h.0 ops (subst (λ (k : Code). Types c ls k h.0 ops) (g rest) h.1)))
     | is_loop r v e ↦ (let g : (k : Code) → in_front x k ≡ nest a_loop r (code v.items) k = λ k. ap (λ y. in_front y k) e ∙ in_loop r v k in
@@ -216,7 +217,7 @@ module _ (c : Around) (ls : List (Option ValType)) (x : Instr) (rest : Code) (op
   ]
 
   pub onward : (new : List ValType) → Types c ls (in_front x done) new ops → is_last_instr x ≡ false → TypedOn c ls rest new
-  onward new w l = elim (kind x) [
+  onward new w l = elim (leaf_kind x) [
     | is_block r v e ↦ (let g : (k : Code) → in_front x k ≡ nest a_block r (code v.items) k = λ k. ap (λ y. in_front y k) e ∙ in_block r v k in
         (h.0, nest_once c ls a_block r (code v.items) rest h.0 ops new (subst (λ (k : Code). Types c ls k h.0 ops) (g rest) h.1) (subst (λ (k : Code). Types c ls k new ops) (g done) w)))
     | is_loop r v e ↦ (let g : (k : Code) → in_front x k ≡ nest a_loop r (code v.items) k = λ k. ap (λ y. in_front y k) e ∙ in_loop r v k in
@@ -252,7 +253,7 @@ stays_typed v w k ops s t =
 
 -- what `advance` asks, where the rest of the sequence is typed
 pub ahead : (w : Walk) (x : Instr) (rest : Code) → TypedAt w (in_front x rest) → TypedAt w (in_front x done)
-ahead w x rest h = alone w.around w.labels x rest w.own h
+ahead w x rest h = typed_alone w.around w.labels x rest w.own h
 
 -- the rest is typed where the walk stands then
 pub behind : (v w : Walk) (x : Instr) (rest : Code) → TypedAt v (in_front x rest) → Stays v w → Types v.around v.labels (in_front x done) w.own v.own → is_last_instr x ≡ false → TypedAt w rest

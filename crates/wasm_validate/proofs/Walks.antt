@@ -20,13 +20,13 @@ use Rattle.validate_modules.specs.Asks as D
 use Rattle.validate_modules.specs.Table.{sig_of, tested}
 use Rattle.validate_modules.specs.Table.{plain_of, Says}
 use Rattle.validate_modules.specs.Walk.{left_at, Walk, outset, Stays, Inside, CanTake, own_at, under_at, around_or, standing}
-use Rattle.validate_modules.specs.Kinds.{is_leaf}
+use Rattle.wa_types.specs.Leaves.{is_leaf}
 use Rattle.wa_types.specs.Modules.{around}
 use Rattle.wa_types.specs.Syntax.{Func}
 use Rattle.wa_types.specs.declared.syntax.Module.{Module as ModuleValue}
 use Rattle.wa_types.specs.View.{module_of}
 use Rattle.validate_modules.proofs.LabelLemmas.{reverse_listed}
-use Rattle.validate_modules.proofs.InstrKinds.{is_block, is_loop, is_branch, is_plain, kind}
+use Rattle.validate_modules.proofs.InstrKinds.{is_block, is_loop, is_branch, is_plain, leaf_kind}
 
 rest_of : (ys : List ValType) (n : ℕ) → n ≤ length ys → reverse (take (length ys - n) ys) ≡ drop n (reverse ys)
 rest_of ys n le =
@@ -141,7 +141,7 @@ module _ (c : Around) (ls : List (Option ValType)) (x : Instr) (ops : List ValTy
   module _ (not_block : (r : Option ValType) (v : Vec Instr Global) → x ≡ Block r v → ⊥) (not_loop : (r : Option ValType) (v : Vec Instr Global) → x ≡ Loop r v → ⊥)
       (not_if : (r : Option ValType) (v w : Vec Instr Global) → x ≡ If r v w → ⊥) (s : D.Asks) (says : Says (plain_of x) (λ p. sig_of s ≡ sig c ls p)) where
     pub can_walk : CanTake (sig_of s) ops
-    can_walk = elim (kind x) [
+    can_walk = elim (leaf_kind x) [
       | is_block r v e ↦ absurd (not_block r v e)
       | is_loop r v e ↦ absurd (not_loop r v e)
       | is_branch r v w e ↦ absurd (not_if r v w e)
@@ -151,7 +151,7 @@ module _ (c : Around) (ls : List (Option ValType)) (x : Instr) (ops : List ValTy
     ]
 
     pub walked : (new : List ValType) → Takes (sig_of s) ops new → Types c ls (in_front x done) new ops
-    walked new t = elim (kind x) [
+    walked new t = elim (leaf_kind x) [
       | is_block r v e ↦ absurd (not_block r v e)
       | is_loop r v e ↦ absurd (not_loop r v e)
       | is_branch r v w e ↦ absurd (not_if r v w e)
@@ -228,7 +228,7 @@ leaf_plain (If' r s a t b) p e = absurd (cc)
 
 pub no_other : (x : Instr) → ((r : Option ValType) (v : Vec Instr Global) → x ≡ Block r v → ⊥) → ((r : Option ValType) (v : Vec Instr Global) → x ≡ Loop r v → ⊥)
     → ((r : Option ValType) (v w : Vec Instr Global) → x ≡ If r v w → ⊥) → is_leaf x ≡ false → ⊥
-no_other x not_block not_loop not_if h = elim (kind x) [
+no_other x not_block not_loop not_if h = elim (leaf_kind x) [
   | is_block r v e ↦ not_block r v e
   | is_loop r v e ↦ not_loop r v e
   | is_branch r v w e ↦ not_if r v w e

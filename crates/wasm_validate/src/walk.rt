@@ -6,7 +6,7 @@ ghost use Rattle.wa_types.specs.Modules.{around, defined_at};
 ghost use Rattle.wa_types.specs.Syntax.{done, Func as PlainFunc};
 ghost use Rattle.wa_types.specs.Typing.{Takes, Types};
 ghost use Rattle.wa_types.specs.View.{func_type_of, in_front, module_of};
-ghost use Rattle.validate_modules.specs.Kinds.{is_leaf};
+ghost use Rattle.wa_types.specs.Leaves.{is_leaf};
 ghost use Rattle.validate_modules.specs.Table.{sig_of, tested};
 ghost use Rattle.validate_modules.specs.Walk.{left_at, outset, own_at, under_at, CanTake, Inside, Stays, TypedAt};
 

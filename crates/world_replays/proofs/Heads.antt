@@ -44,16 +44,16 @@ one_more done x c more e = calls_on done (x ∷ more) ∙ ap (λ (v : Event). ne
 abbrev pub Like : Note → Note → Type 0
 Like z y = (y.event ≡ z.event) × (y.store ≡ z.store) × (call_in y.event ≡ None → y ≡ z)
 
-abbrev Next : Program → List Outcome → List Note → Note → Type 0
-Next w pre done y = (z : Note) × (zs : List Note) × (protocol_story w pre ≡ done ++ z ∷ zs) × Like z y
+abbrev NextNote : Program → List Outcome → List Note → Note → Type 0
+NextNote w pre done y = (z : Note) × (zs : List Note) × (protocol_story w pre ≡ done ++ z ∷ zs) × Like z y
 
-next_like : (w : Program) (pre tail : List Outcome) (done : List Note) (y : Note) (n : List Note) → new_calls done ≡ length pre → protocol_story w (pre ++ tail) ≡ done ++ y ∷ n → Next w pre done y
+next_like : (w : Program) (pre tail : List Outcome) (done : List Note) (y : Note) (n : List Note) → new_calls done ≡ length pre → protocol_story w (pre ++ tail) ≡ done ++ y ∷ n → NextNote w pre done y
 next_like w pre tail done y n count e = by_way (story_forks w pre tail)
   where
     is_call : (c : Call) → call_in y.event ≡ Some c → call_in y.event ≡ None → ⊥
     is_call c e none = let bad : None ≡ Some c = sym none ∙ e in cc
 
-    at_fork : (f : StoryForks tail (length pre) (protocol_story w (pre ++ tail)) (protocol_story w pre)) (r : List Note) → f.before ≡ done ++ r → Next w pre done y
+    at_fork : (f : StoryForks tail (length pre) (protocol_story w (pre ++ tail)) (protocol_story w pre)) (r : List Note) → f.before ≡ done ++ r → NextNote w pre done y
     at_fork f [] b =
         let before : f.before ≡ done = b ∙ append-nil done in
         let first : protocol_story w pre ≡ done ++ f.here ∷ [] = f.first ∙ ap (λ (ns : List Note). ns ++ f.here ∷ []) before in
@@ -68,7 +68,7 @@ next_like w pre tail done y n count e = by_way (story_forks w pre tail)
         let same : y ≡ v = (front_same done n (r ++ f.there ∷ f.more) y v second).0 in
         (v, r ++ f.here ∷ [], first, (ap (λ (u : Note). u.event) same, ap (λ (u : Note). u.store) same, λ none. same))
 
-    by_way : (protocol_story w (pre ++ tail) ≡ protocol_story w pre) ⊎ StoryForks tail (length pre) (protocol_story w (pre ++ tail)) (protocol_story w pre) → Next w pre done y
+    by_way : (protocol_story w (pre ++ tail) ≡ protocol_story w pre) ⊎ StoryForks tail (length pre) (protocol_story w (pre ++ tail)) (protocol_story w pre) → NextNote w pre done y
     by_way (inl same) = (y, n, sym same ∙ e, (refl, refl, λ none. refl))
     by_way (inr f) =
         let c = f.count in

@@ -5,7 +5,7 @@ use Rattle.flat_bodies.proofs.BodyLemmas.{walked_first, one_typed, one_room, one
 use Rattle.flat_bodies.proofs.NestLemmas.{block_opens, loop_opens, if_opens, block_is, loop_is, if_is, if_some, inner, if_held, if_inside, if_first, if_second, if_room, if_fewer, if_done}
 use Rattle.flat_bodies.proofs.NestLemmas.{nest_inside, nest_fewer, nest_body, nest_room, asks_of, opened, one_label, closed, base_within, block_done, loop_done}
 use Rattle.flat_constructs.proofs.ConstructLemmas.{on_ok}
-use Rattle.wasm_tree.proofs.PruneLemmas.{leaf_other}
+use Rattle.wa_types.proofs.LeafLemmas.{leaf_other}
 use Rattle.wasm_validate.specs.Walk.{Walk, Stays}
 use Rattle.wa_types.specs.View.{code}
 use Rattle.wa_types.specs.Sizes.{code_items}

@@ -5,7 +5,7 @@ use Rattle.std.proofs.Common.{map}
 use Rattle.std.proofs.lemmas.Result.{IfOk-weaker}
 use Rattle.guard_form.specs.Guarded.{raise, raised}
 use Rattle.wa_types.specs.View.{code}
-use Rattle.wasm_tree.proofs.PruneLemmas.{leaf_other}
+use Rattle.wa_types.proofs.LeafLemmas.{leaf_other}
 use Rattle.flat_pieces.specs.Raising.{Raisable}
 use Rattle.flat_pieces.proofs.RaiseLemmas.{raisable_at, in_block_raisable, in_loop_raisable, in_if_raisable, raised_step, raised_end, raised_start, raised_br, raised_br_if, raised_table}
 use Rattle.flat_pieces.proofs.RaiseLemmas.{raised_block, raised_loop, raised_if, raised_other, small_br, small_br_if, small_table}

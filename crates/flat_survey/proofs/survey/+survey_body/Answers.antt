@@ -7,7 +7,7 @@ use Rattle.std.specs.List.{list_any}
 use Rattle.wa_types.specs.Sizes.{code_items}
 use Rattle.wa_types.specs.Frames.{pair_of, same_pair}
 use Rattle.wa_types.specs.Syntax.{a_block, a_loop}
-use Rattle.wasm_tree.proofs.PruneLemmas.{leaf_other}
+use Rattle.wa_types.proofs.LeafLemmas.{leaf_other}
 use Rattle.wasm_validate.specs.Walk.{Walk, Stays, TypedAt}
 use Rattle.flat_instrs.specs.Emitting.{SmallTypes}
 use Rattle.flat_names.specs.Numbers.{is_marked}

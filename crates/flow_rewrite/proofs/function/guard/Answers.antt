@@ -11,14 +11,14 @@ use Rattle.flow_rewrite.proofs.function.guard.Goals as goal
 
 pub guarded_body-requires : goal.guarded_body-requires
 guarded_body-requires c = λ h.
-    let g : Guards = record { alloc = c.args.alloc; numbers = c.in_ok-from_slice.field-0; state = c.args.state; index = c.len.result; alone = false } in
+    let g : Guards = record { alloc = c.args.alloc; numbers = c.in_ok-from_slice.field-0; state = c.args.state; index = c.len.result; one_call = false } in
     let f = flat_func_of c.args.func.now in
     part_raisable g f c.in_ok-part.part (subst (λ xs. IsPart (indices g) g.numbers.items 0 0 0 (stmts xs) c.in_ok-part.part) c.deref.ensures.value c.in_ok-part.ensures)
     (func_ready g f (c.len.ensures ∙ c.args.func.now.locals.ok.0) (subst Rises (sym c.in_ok-from_slice.ensures.items) c.requires.rises) c.requires.fits c.requires.few) h
 
 pub returns-clause-body : goal.returns-clause-body
 returns-clause-body c =
-    let g : Guards = record { alloc = c.args.alloc; numbers = c.in_ok-from_slice.field-0; state = c.args.state; index = c.len.result; alone = false } in
+    let g : Guards = record { alloc = c.args.alloc; numbers = c.in_ok-from_slice.field-0; state = c.args.state; index = c.len.result; one_call = false } in
     let f = flat_func_of c.args.func.now in
     whole_is g f c.in_ok-part.part (code c.in_ok-body.body.items) refl (c.len.ensures ∙ c.args.func.now.locals.ok.0)
     (subst (λ xs. IsPart (indices g) g.numbers.items 0 0 0 (stmts xs) c.in_ok-part.part) c.deref.ensures.value c.in_ok-part.ensures) c.in_ok-body.ensures

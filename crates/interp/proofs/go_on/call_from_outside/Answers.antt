@@ -16,7 +16,7 @@ use Rattle.interp.proofs.go_on.call_from_outside.Goals as goal
 
 pub returns-clause-calls : goal.returns-clause-calls
 returns-clause-calls c = λ v ok typed.
-    let m = module_of c.args.program.now.source.now in
+    let m = module_of c.args.program.now in
     let s = store_of c.args.store.now in
     let s' = store_of c.go_on.new.store in
     let x = c.args.func in
@@ -46,7 +46,7 @@ returns-clause-calls c = λ v ok typed.
 
 pub returns-clause-lacks : goal.returns-clause-lacks
 returns-clause-lacks c =
-    let m = module_of c.args.program.now.source.now in
+    let m = module_of c.args.program.now in
     let s = store_of c.args.store.now in
     let s' = store_of c.go_on.new.store in
     let x = c.args.func in

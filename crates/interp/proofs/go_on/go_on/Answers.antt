@@ -9,7 +9,7 @@ use Rattle.interp.proofs.go_on.go_on.Goals as goal
 
 pub returns-in-Returned-clause-turns : goal.returns-in-Returned-clause-turns
 returns-in-Returned-clause-turns c = λ v ok.
-    let m = module_of c.args.program.now.source.now in
+    let m = module_of c.args.program.now in
     let from = running_of (store_of c.args.store.now) c.args.stack in
     let to = running_of (store_of c.run-ran.new.store) c.run-ran.new.stack in
     let used = c.run-ran.new.steps.used - c.args.steps.now.used in
@@ -17,7 +17,7 @@ returns-in-Returned-clause-turns c = λ v ok.
 
 pub returns-in-Trapped-clause-turns : goal.returns-in-Trapped-clause-turns
 returns-in-Trapped-clause-turns c = λ v ok.
-    let m = module_of c.args.program.now.source.now in
+    let m = module_of c.args.program.now in
     let from = running_of (store_of c.args.store.now) c.args.stack in
     let to = running_of (store_of c.run-ran.new.store) c.run-ran.new.stack in
     let used = c.run-ran.new.steps.used - c.args.steps.now.used in
@@ -25,7 +25,7 @@ returns-in-Trapped-clause-turns c = λ v ok.
 
 pub returns-in-Asked-clause-turns : goal.returns-in-Asked-clause-turns
 returns-in-Asked-clause-turns c = λ v ok.
-    let m = module_of c.args.program.now.source.now in
+    let m = module_of c.args.program.now in
     let from = running_of (store_of c.args.store.now) c.args.stack in
     let to = running_of (store_of c.run-ran.new.store) c.run-ran.new.stack in
     let used = c.run-ran.new.steps.used - c.args.steps.now.used in
@@ -42,7 +42,7 @@ returns-in-Asked-clause-turns c = λ v ok.
 
 pub returns-clause-turns : goal.returns-clause-turns
 returns-clause-turns c = λ v ok.
-    let m = module_of c.args.program.now.source.now in
+    let m = module_of c.args.program.now in
     let from = running_of (store_of c.args.store.now) c.args.stack in
     let to = running_of (store_of c.run-ran.new.store) c.run-ran.new.stack in
     let used = c.run-ran.new.steps.used - c.args.steps.now.used in
@@ -51,7 +51,7 @@ returns-clause-turns c = λ v ok.
 
 pub returns-in_err-args-in-Asked-clause-lacks : goal.returns-in_err-args-in-Asked-clause-lacks
 returns-in_err-args-in-Asked-clause-lacks c =
-    let m = module_of c.args.program.now.source.now in
+    let m = module_of c.args.program.now in
     let from = running_of (store_of c.args.store.now) c.args.stack in
     let to = running_of (store_of c.run-ran.new.store) c.run-ran.new.stack in
     let used = c.run-ran.new.steps.used - c.args.steps.now.used in

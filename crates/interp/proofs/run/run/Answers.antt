@@ -12,7 +12,7 @@ use Rattle.interp.proofs.run.run.Goals as goal
 
 pub loop-steps-init : goal.loop-steps-init
 loop-steps-init c = record {
-  goes = no_step (module_of c.args.program.now.source.now) (running_of (store_of c.args.store.now) c.args.stack.now) _ (omega arith);
+  goes = no_step (module_of c.args.program.now) (running_of (store_of c.args.store.now) c.args.stack.now) _ (omega arith);
   sum = refl;
   grows =
       omega arith;
@@ -22,7 +22,7 @@ loop-steps-init c = record {
 
 pub loop-steps-preserved : goal.loop-steps-preserved
 loop-steps-preserved c =
-    let m = module_of c.args.program.now.source.now in
+    let m = module_of c.args.program.now in
     let from = running_of (store_of c.args.store.now) c.args.stack.now in
     let at = running_of (store_of c.loop-steps.store) c.loop-steps.stack in
     let to = running_of (store_of c.reduce.new.store) c.reduce.new.stack in
@@ -40,7 +40,7 @@ loop-steps-preserved c =
 
 pub returns-in-Returned-clause-runs : goal.returns-in-Returned-clause-runs
 returns-in-Returned-clause-runs c = λ v ok.
-    let m = module_of c.args.program.now.source.now in
+    let m = module_of c.args.program.now in
     let from = running_of (store_of c.args.store.now) c.args.stack.now in
     let at = running_of (store_of c.loop-steps.store) c.loop-steps.stack in
     let to = running_of (store_of c.reduce.new.store) c.reduce.new.stack in
@@ -56,7 +56,7 @@ returns-in-Returned-clause-runs c = λ v ok.
 
 pub returns-in-Trapped-clause-runs : goal.returns-in-Trapped-clause-runs
 returns-in-Trapped-clause-runs c = λ v ok.
-    let m = module_of c.args.program.now.source.now in
+    let m = module_of c.args.program.now in
     let from = running_of (store_of c.args.store.now) c.args.stack.now in
     let at = running_of (store_of c.loop-steps.store) c.loop-steps.stack in
     let to = running_of (store_of c.reduce.new.store) c.reduce.new.stack in
@@ -70,7 +70,7 @@ returns-in-Trapped-clause-runs c = λ v ok.
 
 pub returns-in-Asked-clause-runs : goal.returns-in-Asked-clause-runs
 returns-in-Asked-clause-runs c = λ v ok.
-    let m = module_of c.args.program.now.source.now in
+    let m = module_of c.args.program.now in
     let from = running_of (store_of c.args.store.now) c.args.stack.now in
     let at = running_of (store_of c.loop-steps.store) c.loop-steps.stack in
     let to = running_of (store_of c.reduce.new.store) c.reduce.new.stack in
@@ -85,7 +85,7 @@ returns-in-Asked-clause-runs c = λ v ok.
 
 pub returns-in-Spent-clause-runs : goal.returns-in-Spent-clause-runs
 returns-in-Spent-clause-runs c = λ v ok.
-    let m = module_of c.args.program.now.source.now in
+    let m = module_of c.args.program.now in
     let from = running_of (store_of c.args.store.now) c.args.stack.now in
     let at = running_of (store_of c.loop-steps.store) c.loop-steps.stack in
     let to = running_of (store_of c.reduce.new.store) c.reduce.new.stack in
@@ -96,7 +96,7 @@ returns-in-Spent-clause-runs c = λ v ok.
 
 pub returns-clause-runs : goal.returns-clause-runs
 returns-clause-runs c = λ v ok.
-    let m = module_of c.args.program.now.source.now in
+    let m = module_of c.args.program.now in
     let from = running_of (store_of c.args.store.now) c.args.stack.now in
     let at = running_of (store_of c.loop-steps.store) c.loop-steps.stack in
     let n = c.loop-steps.steps.used - c.args.steps.now.used in
@@ -110,7 +110,7 @@ returns-clause-runs c = λ v ok.
 
 pub returns-in_err-more-clause-lacks : goal.returns-in_err-more-clause-lacks
 returns-in_err-more-clause-lacks c =
-    let m = module_of c.args.program.now.source.now in
+    let m = module_of c.args.program.now in
     let from = running_of (store_of c.args.store.now) c.args.stack.now in
     let at = running_of (store_of c.loop-steps.store) c.loop-steps.stack in
     let n = c.loop-steps.steps.used - c.args.steps.now.used in

@@ -8,10 +8,10 @@ use Rattle.interp.proofs.run.run.Given as goal
 abbrev pub invariant-loop-steps : goal.invariant-loop-steps
 invariant-loop-steps l =
     record {
-      goes : Goes (module_of l.program.source.now) (running_of (store_of l.fn.store) l.fn.stack) (l.steps.used - l.fn.steps.used) (running_of (store_of l.store) l.stack);
+      goes : Goes (module_of l.program) (running_of (store_of l.fn.store) l.fn.stack) (l.steps.used - l.fn.steps.used) (running_of (store_of l.store) l.stack);
       sum : l.steps.left + l.steps.used ≡ l.fn.steps.left + l.fn.steps.used;
       grows : l.fn.steps.used ≤ l.steps.used;
-      room : StackRoom (module_of l.program.source.now) l.fn.stack → StackRoom (module_of l.program.source.now) l.stack;
+      room : StackRoom (module_of l.program) l.fn.stack → StackRoom (module_of l.program) l.stack;
       max : l.store.memory.max ≡ l.fn.store.memory.max;
     }
 

@@ -11,7 +11,7 @@ use Rattle.interp_jumps.proofs.branches.branch_by.Goals as goal
 
 pub returns-then-left-more-clause-tells : goal.returns-then-left-more-clause-tells
 returns-then-left-more-clause-tells c =
-    let m = module_of c.args.program.now.source.now in
+    let m = module_of c.args.program.now in
     let k = c.args.stack.now in
     let size = c.args.labels.now.ok.0 in
     let short : c.args.left ≤ length c.args.labels.now.items + 1 = omega arith in
@@ -23,7 +23,7 @@ returns-then-left-more-clause-tells c =
 
 pub returns-clause-tells : goal.returns-clause-tells
 returns-clause-tells c =
-    let m = module_of c.args.program.now.source.now in
+    let m = module_of c.args.program.now in
     let k = c.args.stack.now in
     let under = map waiting_of (reverse k.under.items) in
     let ls = k.here.locals.items in
@@ -49,7 +49,7 @@ returns-clause-holds c =
 
 pub returns-clause-lacks : goal.returns-clause-lacks
 returns-clause-lacks c =
-    let m = module_of c.args.program.now.source.now in
+    let m = module_of c.args.program.now in
     let k = c.args.stack.now in
     let under = map waiting_of (reverse k.under.items) in
     let ls = k.here.locals.items in

@@ -16,7 +16,7 @@ returns-then-test-ne0-clause-holds c =
 
 pub returns-then-test-ne0-clause-lacks : goal.returns-then-test-ne0-clause-lacks
 returns-then-test-ne0-clause-lacks c =
-    let m = module_of c.args.program.now.source.now in
+    let m = module_of c.args.program.now in
     let k = c.args.stack.now in
     let under = map waiting_of (reverse k.under.items) in
     let ls = k.here.locals.items in

@@ -15,7 +15,7 @@ returns-in-None-clause-holds c =
 
 pub returns-in-None-clause-lacks : goal.returns-in-None-clause-lacks
 returns-in-None-clause-lacks c =
-    let m = module_of c.args.program.now.source.now in
+    let m = module_of c.args.program.now in
     let k = c.args.stack.now in
     let under = map waiting_of (reverse k.under.items) in
     let ops = reverse k.here.operands.items in

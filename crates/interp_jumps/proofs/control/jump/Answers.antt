@@ -14,7 +14,7 @@ use Rattle.interp_jumps.proofs.control.jump.Goals as goal
 
 pub returns-in_ok-carry-in-Block-clause-tells : goal.returns-in_ok-carry-in-Block-clause-tells
 returns-in_ok-carry-in-Block-clause-tells c =
-    let m = module_of c.args.program.now.source.now in
+    let m = module_of c.args.program.now in
     let k = c.loop-entry.stack in
     let under = map waiting_of (reverse k.under.items) in
     let ls = k.here.locals.items in
@@ -34,7 +34,7 @@ returns-in_ok-carry-in-Block-clause-tells c =
 
 pub returns-in-Loop-clause-tells : goal.returns-in-Loop-clause-tells
 returns-in-Loop-clause-tells c =
-    let m = module_of c.args.program.now.source.now in
+    let m = module_of c.args.program.now in
     let k = c.loop-entry.stack in
     let under = map waiting_of (reverse k.under.items) in
     let ls = k.here.locals.items in
@@ -53,7 +53,7 @@ returns-in-Loop-clause-tells c =
 
 pub loop-entry-preserved : goal.loop-entry-preserved
 loop-entry-preserved c =
-    let m = module_of c.args.program.now.source.now in
+    let m = module_of c.args.program.now in
     let k = c.loop-entry.stack in
     let under = map waiting_of (reverse k.under.items) in
     let ls = k.here.locals.items in
@@ -77,7 +77,7 @@ loop-entry-preserved c =
 
 pub returns-clause-tells : goal.returns-clause-tells
 returns-clause-tells c =
-    let m = module_of c.args.program.now.source.now in
+    let m = module_of c.args.program.now in
     let k = c.loop-entry.stack in
     let under = map waiting_of (reverse k.under.items) in
     let ops = reverse k.here.operands.items in
@@ -99,7 +99,7 @@ returns-clause-holds c =
 
 pub returns-clause-lacks : goal.returns-clause-lacks
 returns-clause-lacks c =
-    let m = module_of c.args.program.now.source.now in
+    let m = module_of c.args.program.now in
     let k = c.loop-entry.stack in
     let under = map waiting_of (reverse k.under.items) in
     let ops = reverse k.here.operands.items in
@@ -117,7 +117,7 @@ returns-clause-lacks c =
 
 pub returns-in_err-carry-in-Block-clause-lacks : goal.returns-in_err-carry-in-Block-clause-lacks
 returns-in_err-carry-in-Block-clause-lacks c =
-    let m = module_of c.args.program.now.source.now in
+    let m = module_of c.args.program.now in
     let k = c.loop-entry.stack in
     let under = map waiting_of (reverse k.under.items) in
     let ls = k.here.locals.items in

@@ -8,7 +8,7 @@ use Rattle.interp_jumps.proofs.control.jump.Given as goal
 abbrev pub invariant-loop-entry : goal.invariant-loop-entry
 invariant-loop-entry l =
     record {
-      path : (s : Store) → jump_of (module_of l.program.source.now) s l.more l.stack l.passed ≡ jump_of (module_of l.program.source.now) s l.more l.fn.stack l.label;
+      path : (s : Store) → jump_of (module_of l.program) s l.more l.stack l.passed ≡ jump_of (module_of l.program) s l.more l.fn.stack l.label;
       roomier : Roomier l.fn.stack l.stack;
     }
 

@@ -9,7 +9,7 @@ use Rattle.interp_reduce.proofs.calls.call_indirect.Goals as goal
 
 pub returns-clause-tells : goal.returns-clause-tells
 returns-clause-tells c =
-    let m = module_of c.args.program.now.source.now in
+    let m = module_of c.args.program.now in
     let k = c.args.stack.now in
     let under = map waiting_of (reverse k.under.items) in
     let ops = reverse k.here.operands.items in
@@ -26,7 +26,7 @@ returns-clause-tells c =
 
 pub returns-clause-lacks : goal.returns-clause-lacks
 returns-clause-lacks c =
-    let m = module_of c.args.program.now.source.now in
+    let m = module_of c.args.program.now in
     let k = c.args.stack.now in
     let under = map waiting_of (reverse k.under.items) in
     let ops = reverse k.here.operands.items in

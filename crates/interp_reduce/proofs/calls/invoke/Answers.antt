@@ -1,6 +1,7 @@
-use Rattle.std.proofs.Common.{arith, ◌≡◌, ◌+◌, ◌-◌, ◌<◌, [], ◌∷◌, ◌++◌, length, map, reverse, take, drop, List, ap, sym, ◌∙◌, subst}
+use Rattle.std.proofs.Common.{arith, ◌≡◌, ◌+◌, ◌-◌, ◌<◌, [], ◌∷◌, ◌++◌, length, map, reverse, take, drop, List, ap, sym, ◌∙◌}
+use Rattle.std.proofs.lemmas.Bool.{ltb-true}
 use Rattle.std.proofs.lemmas.List.{length-reverse, length-map}
-use Rattle.wa_types.specs.Modules.{declared_locals}
+use Rattle.wa_types.specs.Modules.{declared_locals, func_imports}
 use Rattle.wa_types.specs.View.{code, func_of, module_of}
 use Rattle.wa_model.specs.Configuration as C
 use Rattle.wa_model.specs.Configuration.{Configuration, running, waiting}
@@ -11,15 +12,15 @@ use Rattle.interp_program.proofs.OperandLemmas.{top_first}
 use Rattle.interp_reduce.proofs.CallLemmas.{asked_at, entered_at, entered_runs}
 use Rattle.interp_reduce.proofs.calls.invoke.Goals as goal
 
-pub returns-then-func-program-clause-tells : goal.returns-then-func-program-clause-tells
-returns-then-func-program-clause-tells c =
-    let m = module_of c.args.program.now.source.now in
+pub returns-then-is_imported-clause-tells : goal.returns-then-is_imported-clause-tells
+returns-then-is_imported-clause-tells c =
+    let m = module_of c.args.program.now in
     let k = c.args.stack.now in
     let ops = reverse k.here.operands.items in
     λ s. (
       asked_at m s k.here.func (map waiting_of (reverse k.under.items)) k.here.locals.items ops (code k.here.code.now)
           (map label_of (reverse k.here.labels.items)) c.args.own c.args.params c.args.func c.in_default.ensures
-          (subst (λ i. c.args.func < i) c.args.program.now.imports_are c.if-func-program.true)
+          (ltb-true c.args.func (func_imports m) (sym c.is_imported.ensures ∙ c.if-is_imported.true))
           ∙ ap (λ p. asks c.args.params c.args.func (reverse (take p (drop c.args.own ops))) (taking (c.args.own + c.args.params) (running_of s k)))
           (let e : c.args.params ≡ c.args.own + c.args.params - c.args.own = omega arith in e),
       omega arith,
@@ -27,7 +28,7 @@ returns-then-func-program-clause-tells c =
 
 pub returns-clause-tells : goal.returns-clause-tells
 returns-clause-tells c =
-    let m = module_of c.args.program.now.source.now in
+    let m = module_of c.args.program.now in
     let k = c.args.stack.now in
     let under = map waiting_of (reverse k.under.items) in
     let ops = reverse k.here.operands.items in

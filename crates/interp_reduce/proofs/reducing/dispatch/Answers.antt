@@ -22,7 +22,7 @@ use Rattle.interp_reduce.proofs.reducing.dispatch.Goals as goal
 
 pub returns-in-Const-clause-tells : goal.returns-in-Const-clause-tells
 returns-in-Const-clause-tells c =
-    let m = module_of c.args.program.now.source.now in
+    let m = module_of c.args.program.now in
     let s = store_of c.args.store.now in
     let k = c.args.stack.now in
     let rest = code k.here.code.now in
@@ -31,7 +31,7 @@ returns-in-Const-clause-tells c =
 
 pub returns-in-Num-clause-tells : goal.returns-in-Num-clause-tells
 returns-in-Num-clause-tells c =
-    let m = module_of c.args.program.now.source.now in
+    let m = module_of c.args.program.now in
     let s = store_of c.args.store.now in
     let k = c.args.stack.now in
     let rest = code k.here.code.now in
@@ -40,7 +40,7 @@ returns-in-Num-clause-tells c =
 
 pub returns-in-Select-clause-tells : goal.returns-in-Select-clause-tells
 returns-in-Select-clause-tells c =
-    let m = module_of c.args.program.now.source.now in
+    let m = module_of c.args.program.now in
     let s = store_of c.args.store.now in
     let k = c.args.stack.now in
     let rest = code k.here.code.now in
@@ -49,7 +49,7 @@ returns-in-Select-clause-tells c =
 
 pub returns-in-Load-clause-tells : goal.returns-in-Load-clause-tells
 returns-in-Load-clause-tells c =
-    let m = module_of c.args.program.now.source.now in
+    let m = module_of c.args.program.now in
     let s = store_of c.args.store.now in
     let k = c.args.stack.now in
     let rest = code k.here.code.now in
@@ -59,7 +59,7 @@ returns-in-Load-clause-tells c =
 
 pub returns-in-MemorySize-clause-tells : goal.returns-in-MemorySize-clause-tells
 returns-in-MemorySize-clause-tells c =
-    let m = module_of c.args.program.now.source.now in
+    let m = module_of c.args.program.now in
     let s = store_of c.args.store.now in
     let k = c.args.stack.now in
     let rest = code k.here.code.now in
@@ -68,7 +68,7 @@ returns-in-MemorySize-clause-tells c =
 
 pub returns-in-GlobalGet-clause-tells : goal.returns-in-GlobalGet-clause-tells
 returns-in-GlobalGet-clause-tells c =
-    let m = module_of c.args.program.now.source.now in
+    let m = module_of c.args.program.now in
     let s = store_of c.args.store.now in
     let k = c.args.stack.now in
     let rest = code k.here.code.now in
@@ -77,7 +77,7 @@ returns-in-GlobalGet-clause-tells c =
 
 pub returns-in-Drop-clause-tells : goal.returns-in-Drop-clause-tells
 returns-in-Drop-clause-tells c =
-    let m = module_of c.args.program.now.source.now in
+    let m = module_of c.args.program.now in
     let s = store_of c.args.store.now in
     let k = c.args.stack.now in
     let rest = code k.here.code.now in
@@ -86,7 +86,7 @@ returns-in-Drop-clause-tells c =
 
 pub returns-in-Nop-clause-tells : goal.returns-in-Nop-clause-tells
 returns-in-Nop-clause-tells c =
-    let m = module_of c.args.program.now.source.now in
+    let m = module_of c.args.program.now in
     let s = store_of c.args.store.now in
     let k = c.args.stack.now in
     let rest = code k.here.code.now in
@@ -94,7 +94,7 @@ returns-in-Nop-clause-tells c =
 
 pub returns-in-Store-clause-tells : goal.returns-in-Store-clause-tells
 returns-in-Store-clause-tells c =
-    let m = module_of c.args.program.now.source.now in
+    let m = module_of c.args.program.now in
     let s = store_of c.args.store.now in
     let k = c.args.stack.now in
     let rest = code k.here.code.now in
@@ -104,7 +104,7 @@ returns-in-Store-clause-tells c =
 
 pub returns-in-GlobalSet-clause-tells : goal.returns-in-GlobalSet-clause-tells
 returns-in-GlobalSet-clause-tells c =
-    let m = module_of c.args.program.now.source.now in
+    let m = module_of c.args.program.now in
     let s = store_of c.args.store.now in
     let k = c.args.stack.now in
     let rest = code k.here.code.now in
@@ -114,7 +114,7 @@ returns-in-GlobalSet-clause-tells c =
 
 pub returns-in-MemoryGrow-clause-tells : goal.returns-in-MemoryGrow-clause-tells
 returns-in-MemoryGrow-clause-tells c =
-    let m = module_of c.args.program.now.source.now in
+    let m = module_of c.args.program.now in
     let s = store_of c.args.store.now in
     let k = c.args.stack.now in
     let rest = code k.here.code.now in
@@ -124,7 +124,7 @@ returns-in-MemoryGrow-clause-tells c =
 
 pub returns-in-LocalGet-clause-tells : goal.returns-in-LocalGet-clause-tells
 returns-in-LocalGet-clause-tells c =
-    let m = module_of c.args.program.now.source.now in
+    let m = module_of c.args.program.now in
     let s = store_of c.args.store.now in
     let k = c.args.stack.now in
     let rest = code k.here.code.now in
@@ -133,7 +133,7 @@ returns-in-LocalGet-clause-tells c =
 
 pub returns-in-BrIf-clause-tells : goal.returns-in-BrIf-clause-tells
 returns-in-BrIf-clause-tells c =
-    let m = module_of c.args.program.now.source.now in
+    let m = module_of c.args.program.now in
     let s = store_of c.args.store.now in
     let k = c.args.stack.now in
     let rest = code k.here.code.now in
@@ -142,7 +142,7 @@ returns-in-BrIf-clause-tells c =
 
 pub returns-in-Br-clause-tells : goal.returns-in-Br-clause-tells
 returns-in-Br-clause-tells c =
-    let m = module_of c.args.program.now.source.now in
+    let m = module_of c.args.program.now in
     let s = store_of c.args.store.now in
     let k = c.args.stack.now in
     let rest = code k.here.code.now in
@@ -151,7 +151,7 @@ returns-in-Br-clause-tells c =
 
 pub returns-in-BrTable-clause-tells : goal.returns-in-BrTable-clause-tells
 returns-in-BrTable-clause-tells c =
-    let m = module_of c.args.program.now.source.now in
+    let m = module_of c.args.program.now in
     let s = store_of c.args.store.now in
     let k = c.args.stack.now in
     let rest = code k.here.code.now in
@@ -161,7 +161,7 @@ returns-in-BrTable-clause-tells c =
 
 pub returns-in-Call-clause-tells : goal.returns-in-Call-clause-tells
 returns-in-Call-clause-tells c =
-    let m = module_of c.args.program.now.source.now in
+    let m = module_of c.args.program.now in
     let s = store_of c.args.store.now in
     let k = c.args.stack.now in
     let rest = code k.here.code.now in
@@ -170,7 +170,7 @@ returns-in-Call-clause-tells c =
 
 pub returns-in-CallIndirect-clause-tells : goal.returns-in-CallIndirect-clause-tells
 returns-in-CallIndirect-clause-tells c =
-    let m = module_of c.args.program.now.source.now in
+    let m = module_of c.args.program.now in
     let s = store_of c.args.store.now in
     let k = c.args.stack.now in
     let rest = code k.here.code.now in
@@ -179,7 +179,7 @@ returns-in-CallIndirect-clause-tells c =
 
 pub returns-in-Return-clause-tells : goal.returns-in-Return-clause-tells
 returns-in-Return-clause-tells c =
-    let m = module_of c.args.program.now.source.now in
+    let m = module_of c.args.program.now in
     let s = store_of c.args.store.now in
     let k = c.args.stack.now in
     let rest = code k.here.code.now in
@@ -189,7 +189,7 @@ returns-in-Return-clause-tells c =
 
 pub returns-in-LocalSet-clause-tells : goal.returns-in-LocalSet-clause-tells
 returns-in-LocalSet-clause-tells c =
-    let m = module_of c.args.program.now.source.now in
+    let m = module_of c.args.program.now in
     let s = store_of c.args.store.now in
     let k = c.args.stack.now in
     let rest = code k.here.code.now in
@@ -198,7 +198,7 @@ returns-in-LocalSet-clause-tells c =
 
 pub returns-in-LocalTee-clause-tells : goal.returns-in-LocalTee-clause-tells
 returns-in-LocalTee-clause-tells c =
-    let m = module_of c.args.program.now.source.now in
+    let m = module_of c.args.program.now in
     let s = store_of c.args.store.now in
     let k = c.args.stack.now in
     let rest = code k.here.code.now in
@@ -207,7 +207,7 @@ returns-in-LocalTee-clause-tells c =
 
 pub returns-in-Unreachable-clause-tells : goal.returns-in-Unreachable-clause-tells
 returns-in-Unreachable-clause-tells c =
-    let m = module_of c.args.program.now.source.now in
+    let m = module_of c.args.program.now in
     let s = store_of c.args.store.now in
     let k = c.args.stack.now in
     let rest = code k.here.code.now in
@@ -215,7 +215,7 @@ returns-in-Unreachable-clause-tells c =
 
 pub returns-in-Block-clause-tells : goal.returns-in-Block-clause-tells
 returns-in-Block-clause-tells c =
-    let m = module_of c.args.program.now.source.now in
+    let m = module_of c.args.program.now in
     let s = store_of c.args.store.now in
     let k = c.args.stack.now in
     let rest = code k.here.code.now in
@@ -225,7 +225,7 @@ returns-in-Block-clause-tells c =
 
 pub returns-in-Loop-clause-tells : goal.returns-in-Loop-clause-tells
 returns-in-Loop-clause-tells c =
-    let m = module_of c.args.program.now.source.now in
+    let m = module_of c.args.program.now in
     let s = store_of c.args.store.now in
     let k = c.args.stack.now in
     let rest = code k.here.code.now in
@@ -235,7 +235,7 @@ returns-in-Loop-clause-tells c =
 
 pub returns-in-If-clause-tells : goal.returns-in-If-clause-tells
 returns-in-If-clause-tells c =
-    let m = module_of c.args.program.now.source.now in
+    let m = module_of c.args.program.now in
     let s = store_of c.args.store.now in
     let k = c.args.stack.now in
     let rest = code k.here.code.now in
@@ -246,87 +246,87 @@ returns-in-If-clause-tells c =
 
 pub returns-in-Const-clause-holds : goal.returns-in-Const-clause-holds
 returns-in-Const-clause-holds c =
-    ok_any c.constant.result _ (operands_hold (module_of c.args.program.now.source.now) c.args.stack.now c.constant.new.operands c.constant.ensures.holds)
+    ok_any c.constant.result _ (operands_hold (module_of c.args.program.now) c.args.stack.now c.constant.new.operands c.constant.ensures.holds)
 
 pub returns-in-Num-clause-holds : goal.returns-in-Num-clause-holds
 returns-in-Num-clause-holds c =
-    ok_any c.numeric.result _ (operands_hold (module_of c.args.program.now.source.now) c.args.stack.now c.numeric.new.operands c.numeric.ensures.holds)
+    ok_any c.numeric.result _ (operands_hold (module_of c.args.program.now) c.args.stack.now c.numeric.new.operands c.numeric.ensures.holds)
 
 pub returns-in-Select-clause-holds : goal.returns-in-Select-clause-holds
 returns-in-Select-clause-holds c =
-    ok_any c.choose.result _ (operands_hold (module_of c.args.program.now.source.now) c.args.stack.now c.choose.new.operands c.choose.ensures.holds)
+    ok_any c.choose.result _ (operands_hold (module_of c.args.program.now) c.args.stack.now c.choose.new.operands c.choose.ensures.holds)
 
 pub returns-in-Load-clause-holds : goal.returns-in-Load-clause-holds
 returns-in-Load-clause-holds c =
-    ok_any c.load_at.result _ (operands_hold (module_of c.args.program.now.source.now) c.args.stack.now c.load_at.new.operands c.load_at.ensures.holds)
+    ok_any c.load_at.result _ (operands_hold (module_of c.args.program.now) c.args.stack.now c.load_at.new.operands c.load_at.ensures.holds)
 
 pub returns-in-MemorySize-clause-holds : goal.returns-in-MemorySize-clause-holds
 returns-in-MemorySize-clause-holds c =
-    ok_any c.memory_size.result _ (operands_hold (module_of c.args.program.now.source.now) c.args.stack.now c.memory_size.new.operands c.memory_size.ensures.holds)
+    ok_any c.memory_size.result _ (operands_hold (module_of c.args.program.now) c.args.stack.now c.memory_size.new.operands c.memory_size.ensures.holds)
 
 pub returns-in-GlobalGet-clause-holds : goal.returns-in-GlobalGet-clause-holds
 returns-in-GlobalGet-clause-holds c =
-    ok_any c.get_global.result _ (operands_hold (module_of c.args.program.now.source.now) c.args.stack.now c.get_global.new.operands c.get_global.ensures.holds)
+    ok_any c.get_global.result _ (operands_hold (module_of c.args.program.now) c.args.stack.now c.get_global.new.operands c.get_global.ensures.holds)
 
 pub returns-in-MemoryGrow-clause-holds : goal.returns-in-MemoryGrow-clause-holds
 returns-in-MemoryGrow-clause-holds c =
-    ok_any c.memory_grow.result _ (operands_hold (module_of c.args.program.now.source.now) c.args.stack.now c.memory_grow.new.operands c.memory_grow.ensures.holds)
+    ok_any c.memory_grow.result _ (operands_hold (module_of c.args.program.now) c.args.stack.now c.memory_grow.new.operands c.memory_grow.ensures.holds)
 
 pub returns-in-Store-clause-holds : goal.returns-in-Store-clause-holds
 returns-in-Store-clause-holds c =
-    operands_hold (module_of c.args.program.now.source.now) c.args.stack.now c.store_at.new.operands c.store_at.ensures.holds
+    operands_hold (module_of c.args.program.now) c.args.stack.now c.store_at.new.operands c.store_at.ensures.holds
 
 pub returns-in-GlobalSet-clause-holds : goal.returns-in-GlobalSet-clause-holds
 returns-in-GlobalSet-clause-holds c =
-    operands_hold (module_of c.args.program.now.source.now) c.args.stack.now c.set_global.new.operands c.set_global.ensures.holds
+    operands_hold (module_of c.args.program.now) c.args.stack.now c.set_global.new.operands c.set_global.ensures.holds
 
 pub returns-in-Drop-clause-holds : goal.returns-in-Drop-clause-holds
 returns-in-Drop-clause-holds c =
-    operands_hold (module_of c.args.program.now.source.now) c.args.stack.now c.drop_top.new.operands c.drop_top.ensures.holds
+    operands_hold (module_of c.args.program.now) c.args.stack.now c.drop_top.new.operands c.drop_top.ensures.holds
 
 pub returns-in-LocalGet-clause-holds : goal.returns-in-LocalGet-clause-holds
 returns-in-LocalGet-clause-holds c =
-    ok_any c.get_local.result _ (roomier (module_of c.args.program.now.source.now) c.args.stack.now c.get_local.new.stack c.get_local.ensures.holds)
+    ok_any c.get_local.result _ (roomier (module_of c.args.program.now) c.args.stack.now c.get_local.new.stack c.get_local.ensures.holds)
 
 pub returns-in-Block-clause-holds : goal.returns-in-Block-clause-holds
 returns-in-Block-clause-holds c =
-    ok_any c.enter_block.result _ (roomier (module_of c.args.program.now.source.now) c.args.stack.now c.enter_block.new.stack c.enter_block.ensures.holds)
+    ok_any c.enter_block.result _ (roomier (module_of c.args.program.now) c.args.stack.now c.enter_block.new.stack c.enter_block.ensures.holds)
 
 pub returns-in-Loop-clause-holds : goal.returns-in-Loop-clause-holds
 returns-in-Loop-clause-holds c =
-    ok_any c.enter_loop.result _ (roomier (module_of c.args.program.now.source.now) c.args.stack.now c.enter_loop.new.stack c.enter_loop.ensures.holds)
+    ok_any c.enter_loop.result _ (roomier (module_of c.args.program.now) c.args.stack.now c.enter_loop.new.stack c.enter_loop.ensures.holds)
 
 pub returns-in-If-clause-holds : goal.returns-in-If-clause-holds
 returns-in-If-clause-holds c =
-    ok_any c.enter_arm.result _ (roomier (module_of c.args.program.now.source.now) c.args.stack.now c.enter_arm.new.stack c.enter_arm.ensures.holds)
+    ok_any c.enter_arm.result _ (roomier (module_of c.args.program.now) c.args.stack.now c.enter_arm.new.stack c.enter_arm.ensures.holds)
 
 pub returns-in-LocalSet-clause-holds : goal.returns-in-LocalSet-clause-holds
 returns-in-LocalSet-clause-holds c =
-    roomier (module_of c.args.program.now.source.now) c.args.stack.now c.set_local.new.stack c.set_local.ensures.holds
+    roomier (module_of c.args.program.now) c.args.stack.now c.set_local.new.stack c.set_local.ensures.holds
 
 pub returns-in-LocalTee-clause-holds : goal.returns-in-LocalTee-clause-holds
 returns-in-LocalTee-clause-holds c =
-    roomier (module_of c.args.program.now.source.now) c.args.stack.now c.tee_local.new.stack c.tee_local.ensures.holds
+    roomier (module_of c.args.program.now) c.args.stack.now c.tee_local.new.stack c.tee_local.ensures.holds
 
 pub returns-in-Br-clause-holds : goal.returns-in-Br-clause-holds
 returns-in-Br-clause-holds c =
-    ok_any c.jump.result _ (c.jump.ensures.holds (module_of c.args.program.now.source.now))
+    ok_any c.jump.result _ (c.jump.ensures.holds (module_of c.args.program.now))
 
 pub returns-in-BrIf-clause-holds : goal.returns-in-BrIf-clause-holds
 returns-in-BrIf-clause-holds c =
-    ok_any c.branch_if.result _ (c.branch_if.ensures.holds (module_of c.args.program.now.source.now))
+    ok_any c.branch_if.result _ (c.branch_if.ensures.holds (module_of c.args.program.now))
 
 pub returns-in-BrTable-clause-holds : goal.returns-in-BrTable-clause-holds
 returns-in-BrTable-clause-holds c =
-    ok_any c.branch_by.result _ (c.branch_by.ensures.holds (module_of c.args.program.now.source.now))
+    ok_any c.branch_by.result _ (c.branch_by.ensures.holds (module_of c.args.program.now))
 
 pub returns-in-Return-clause-holds : goal.returns-in-Return-clause-holds
 returns-in-Return-clause-holds c =
-    ok_any c.leave.result _ (c.leave.ensures.holds (module_of c.args.program.now.source.now))
+    ok_any c.leave.result _ (c.leave.ensures.holds (module_of c.args.program.now))
 
 pub returns-in-Const-clause-lacks : goal.returns-in-Const-clause-lacks
 returns-in-Const-clause-lacks c =
-    let m = module_of c.args.program.now.source.now in
+    let m = module_of c.args.program.now in
     let s = store_of c.args.store.now in
     let k = c.args.stack.now in
     let rest = code k.here.code.now in
@@ -335,7 +335,7 @@ returns-in-Const-clause-lacks c =
 
 pub returns-in-MemorySize-clause-lacks : goal.returns-in-MemorySize-clause-lacks
 returns-in-MemorySize-clause-lacks c =
-    let m = module_of c.args.program.now.source.now in
+    let m = module_of c.args.program.now in
     let s = store_of c.args.store.now in
     let k = c.args.stack.now in
     let rest = code k.here.code.now in
@@ -344,7 +344,7 @@ returns-in-MemorySize-clause-lacks c =
 
 pub returns-in-GlobalGet-clause-lacks : goal.returns-in-GlobalGet-clause-lacks
 returns-in-GlobalGet-clause-lacks c =
-    let m = module_of c.args.program.now.source.now in
+    let m = module_of c.args.program.now in
     let s = store_of c.args.store.now in
     let k = c.args.stack.now in
     let rest = code k.here.code.now in
@@ -354,7 +354,7 @@ returns-in-GlobalGet-clause-lacks c =
 
 pub returns-in-LocalGet-clause-lacks : goal.returns-in-LocalGet-clause-lacks
 returns-in-LocalGet-clause-lacks c =
-    let m = module_of c.args.program.now.source.now in
+    let m = module_of c.args.program.now in
     let s = store_of c.args.store.now in
     let k = c.args.stack.now in
     let rest = code k.here.code.now in
@@ -375,7 +375,7 @@ returns-in-Load-clause-lacks c =
 
 pub returns-in-Block-clause-lacks : goal.returns-in-Block-clause-lacks
 returns-in-Block-clause-lacks c =
-    let m = module_of c.args.program.now.source.now in
+    let m = module_of c.args.program.now in
     let s = store_of c.args.store.now in
     let k = c.args.stack.now in
     let rest = code k.here.code.now in
@@ -386,7 +386,7 @@ returns-in-Block-clause-lacks c =
 
 pub returns-in-Loop-clause-lacks : goal.returns-in-Loop-clause-lacks
 returns-in-Loop-clause-lacks c =
-    let m = module_of c.args.program.now.source.now in
+    let m = module_of c.args.program.now in
     let s = store_of c.args.store.now in
     let k = c.args.stack.now in
     let rest = code k.here.code.now in
@@ -397,7 +397,7 @@ returns-in-Loop-clause-lacks c =
 
 pub returns-in-Br-clause-lacks : goal.returns-in-Br-clause-lacks
 returns-in-Br-clause-lacks c =
-    let m = module_of c.args.program.now.source.now in
+    let m = module_of c.args.program.now in
     let s = store_of c.args.store.now in
     let k = c.args.stack.now in
     let rest = code k.here.code.now in
@@ -406,7 +406,7 @@ returns-in-Br-clause-lacks c =
 
 pub returns-in-BrIf-clause-lacks : goal.returns-in-BrIf-clause-lacks
 returns-in-BrIf-clause-lacks c =
-    let m = module_of c.args.program.now.source.now in
+    let m = module_of c.args.program.now in
     let s = store_of c.args.store.now in
     let k = c.args.stack.now in
     let rest = code k.here.code.now in
@@ -415,7 +415,7 @@ returns-in-BrIf-clause-lacks c =
 
 pub returns-in-BrTable-clause-lacks : goal.returns-in-BrTable-clause-lacks
 returns-in-BrTable-clause-lacks c =
-    let m = module_of c.args.program.now.source.now in
+    let m = module_of c.args.program.now in
     let s = store_of c.args.store.now in
     let k = c.args.stack.now in
     let rest = code k.here.code.now in
@@ -424,7 +424,7 @@ returns-in-BrTable-clause-lacks c =
 
 pub returns-in-Return-clause-lacks : goal.returns-in-Return-clause-lacks
 returns-in-Return-clause-lacks c =
-    let m = module_of c.args.program.now.source.now in
+    let m = module_of c.args.program.now in
     let s = store_of c.args.store.now in
     let k = c.args.stack.now in
     let rest = code k.here.code.now in
@@ -433,7 +433,7 @@ returns-in-Return-clause-lacks c =
 
 pub returns-in-Call-clause-lacks : goal.returns-in-Call-clause-lacks
 returns-in-Call-clause-lacks c =
-    let m = module_of c.args.program.now.source.now in
+    let m = module_of c.args.program.now in
     let s = store_of c.args.store.now in
     let k = c.args.stack.now in
     let rest = code k.here.code.now in
@@ -442,7 +442,7 @@ returns-in-Call-clause-lacks c =
 
 pub returns-in-CallIndirect-clause-lacks : goal.returns-in-CallIndirect-clause-lacks
 returns-in-CallIndirect-clause-lacks c =
-    let m = module_of c.args.program.now.source.now in
+    let m = module_of c.args.program.now in
     let s = store_of c.args.store.now in
     let k = c.args.stack.now in
     let rest = code k.here.code.now in
@@ -451,7 +451,7 @@ returns-in-CallIndirect-clause-lacks c =
 
 pub returns-in-MemoryGrow-clause-lacks : goal.returns-in-MemoryGrow-clause-lacks
 returns-in-MemoryGrow-clause-lacks c =
-    let m = module_of c.args.program.now.source.now in
+    let m = module_of c.args.program.now in
     let s = store_of c.args.store.now in
     let k = c.args.stack.now in
     let rest = code k.here.code.now in
@@ -463,7 +463,7 @@ returns-in-MemoryGrow-clause-unchanged c =
 
 pub returns-in-If-clause-lacks : goal.returns-in-If-clause-lacks
 returns-in-If-clause-lacks c =
-    let m = module_of c.args.program.now.source.now in
+    let m = module_of c.args.program.now in
     let s = store_of c.args.store.now in
     let k = c.args.stack.now in
     let rest = code k.here.code.now in

@@ -15,7 +15,7 @@ use Rattle.interp_reduce.proofs.reducing.reduce.Goals as goal
 
 pub returns-in_default-clause-tells : goal.returns-in_default-clause-tells
 returns-in_default-clause-tells c =
-    let m = module_of c.args.program.now.source.now in
+    let m = module_of c.args.program.now in
     let s = store_of c.args.store.now in
     let k = c.args.stack.now in
     let none : code k.here.code.now ≡ done = ap code (nil_from_length _ c.in_default.ensures.cases) ∙ code_none in
@@ -25,7 +25,7 @@ returns-in_default-clause-tells c =
 
 pub returns-clause-tells : goal.returns-clause-tells
 returns-clause-tells c =
-    let m = module_of c.args.program.now.source.now in
+    let m = module_of c.args.program.now in
     let s = store_of c.args.store.now in
     let k = c.args.stack.now in
     let first = code_first k.here.code.now c.in-Some.instr.now c.in-Some.rest.now c.in-Some.ensures.cases.0 in
@@ -34,11 +34,11 @@ returns-clause-tells c =
     c.dispatch.ensures.tells
 
 pub returns-in_default-clause-holds : goal.returns-in_default-clause-holds
-returns-in_default-clause-holds c = ok_any c.finish.result _ (c.finish.ensures.holds (module_of c.args.program.now.source.now))
+returns-in_default-clause-holds c = ok_any c.finish.result _ (c.finish.ensures.holds (module_of c.args.program.now))
 
 pub returns-in_default-clause-lacks : goal.returns-in_default-clause-lacks
 returns-in_default-clause-lacks c =
-    let m = module_of c.args.program.now.source.now in
+    let m = module_of c.args.program.now in
     let s = store_of c.args.store.now in
     let k = c.args.stack.now in
     let none : code k.here.code.now ≡ done = ap code (nil_from_length _ c.in_default.ensures.cases) ∙ code_none in
@@ -48,12 +48,12 @@ returns-in_default-clause-lacks c =
 
 pub returns-clause-holds : goal.returns-clause-holds
 returns-clause-holds c =
-    let m = module_of c.args.program.now.source.now in
+    let m = module_of c.args.program.now in
     on_ok_weaker c.dispatch.result (λ f h. f (roomier m c.args.stack.now _ (record { func = refl; operands = omega arith; labels = omega arith; under = refl }) h)) c.dispatch.ensures.holds
 
 pub returns-clause-lacks : goal.returns-clause-lacks
 returns-clause-lacks c =
-    let m = module_of c.args.program.now.source.now in
+    let m = module_of c.args.program.now in
     let s = store_of c.args.store.now in
     let k = c.args.stack.now in
     let first = code_first k.here.code.now c.in-Some.instr.now c.in-Some.rest.now c.in-Some.ensures.cases.0 in

@@ -2,7 +2,7 @@ use Rattle.std.proofs.Common.{arith, ap, sym, refl, ◌∙◌}
 use Rattle.wa_types.specs.View.{code, in_front}
 use Rattle.wa_types.specs.Syntax.{done, a_block, a_loop, call, call_indirect}
 use Rattle.wa_types.specs.Pausing.{direct, indirect}
-use Rattle.wasm_tree.specs.Kinds.{is_leaf}
+use Rattle.wa_types.specs.Leaves.{is_leaf}
 use Rattle.wasm_validate.proofs.WalkUses.{leaf_block, leaf_loop, leaf_if, block_typed, loop_typed, arms_typed}
 use Rattle.point_visits.proofs.VisitLemmas.{went_first, went_end, went_last, went_next, next_typed, one_fewer, nest_items, branch_items, block_is, loop_is, if_is, nest_inside, branch_inside}
 use Rattle.point_visits.proofs.VisitLemmas.{call_inside, nothing_inside, quiet, ok_as}

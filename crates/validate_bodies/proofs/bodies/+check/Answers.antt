@@ -1,10 +1,12 @@
 use Rattle.std.proofs.Common.{rules, arith, ◌≡◌, ◌+◌, drop, refl, ap, sym, ◌∙◌, true, false, reverse, if◌then◌else◌}
+use Rattle.wa_types.specs.declared.rules.Rule.TheVariants.{StackTypes}
+use Rattle.wa_types.specs.Rules.{number}
 use Rattle.wa_types.specs.declared.instrs.Instr.{the_lemmas}
 use Rattle.wa_types.specs.View.{code}
 use Rattle.wa_types.specs.FirstFault.{size, mid}
 use Rattle.wa_types.specs.Typing.{listed}
 use Rattle.validate_bodies.specs.Running.{fine, fault}
-use Rattle.validate_table.proofs.PruneLemmas.{leaf_other}
+use Rattle.wa_types.proofs.LeafLemmas.{leaf_other}
 use Rattle.validate_bodies.proofs.Lists.{known_none}
 use Rattle.validate_bodies.proofs.Trees.{judged_err, judged_same, passed_by, passed_then, pushed_on, same_checks, moved_checks, labels_are, body_on, body_end, popped_none, popped_some}
 use Rattle.validate_bodies.proofs.Trees.{block_arm, loop_arm, if_arm, if_fault, plain_size, plain_is, go_on, stop_at, none_is, instrs, bodies}
@@ -30,12 +32,12 @@ check_body-returns-in_err-check_instr-clause-judged t c =
 pub check_body-returns-then-not-ends-clause-judged : goal.check_body-returns-then-not-ends-clause-judged
 check_body-returns-then-not-ends-clause-judged t c =
     body_end _ _ _ c.args.body.now c.loop-instr.instr-index _ _ _ _ _ (labels_are _ _ _ _ c.in_ok-push.ensures.items c.loop-instr.invariant.labels) c.loop-instr.invariant.judged (omega arith)
-    ∙ ap (λ b. if b then fine else fault 8 c.loop-instr.at) (sym c.if-not-ends.ensures.ended)
+    ∙ ap (λ b. if b then fine else fault (number StackTypes) c.loop-instr.at) (sym c.if-not-ends.ensures.ended)
 
 pub check_body-returns-clause-judged : goal.check_body-returns-clause-judged
 check_body-returns-clause-judged t c =
     body_end _ _ _ c.args.body.now c.loop-instr.instr-index _ _ _ _ _ (labels_are _ _ _ _ c.in_ok-push.ensures.items c.loop-instr.invariant.labels) c.loop-instr.invariant.judged (omega arith)
-    ∙ ap (λ b. if b then fine else fault 8 c.loop-instr.at) (sym c.if-not-ends.ensures.ended)
+    ∙ ap (λ b. if b then fine else fault (number StackTypes) c.loop-instr.at) (sym c.if-not-ends.ensures.ended)
 
 pub check_instr-check_body-requires : goal.check_instr-check_body-requires
 check_instr-check_body-requires t c = (search (rules, the_lemmas), grind (arith, instrs))

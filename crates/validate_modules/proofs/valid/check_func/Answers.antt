@@ -1,4 +1,4 @@
-use Rattle.std.proofs.Common.{arith, ◌<◌, ap, length, map, Some, ◌+◌}
+use Rattle.std.proofs.Common.{arith, ◌<◌, ap, sym, ◌∙◌, length, map, Some, ◌+◌}
 use Rattle.std.proofs.lemmas.List.{length-map}
 use Rattle.wa_types.specs.View.{module_of, func_of, code}
 use Rattle.validate_bodies.specs.Running.{fine, fault}
@@ -28,6 +28,7 @@ returns-in-Err-Invalid c =
     λ f e. (
       ap (λ n. Some (n + c.args.index)) c.requires.spaces.func_imports,
       verdict_of (module_of c.args.module.now) (map func_of c.args.module.now.funcs.items) c.args.index f
-          (func_of c.index.result.now) c.of-context.result (code c.deref.result.now) (fault c.in-Err-Invalid.rule c.in-Err-Invalid.at) g e
-          (c.of-context.ensures (func_of c.index.result.now) g) (ap code c.deref.ensures.value) (rw c.in-Err-Invalid.field-0-is at c.in-Err-Invalid.ensures),
+          (func_of c.index.result.now) c.of-context.result (code c.deref.result.now) (fault c.number.result c.in-Err-Invalid.at) g e
+          (c.of-context.ensures (func_of c.index.result.now) g) (ap code c.deref.ensures.value) (rw c.in-Err-Invalid.field-0-is at c.in-Err-Invalid.ensures
+          ∙ ap (λ n. fault n c.in-Err-Invalid.at) (sym c.number.ensures)),
     )

@@ -1,11 +1,10 @@
 use Rattle.std.proofs.Common.{arith, refl}
 use Rattle.std.proofs.lemmas.Result.{err_from_is_err_and}
 use Rattle.wa_types.specs.Syntax.{a_block, a_loop}
-use Rattle.wasm_build.specs.declared.BuildFault.TheVariants.{Memory}
 use Rattle.wasm_build.specs.declared.levels.Opened.TheVariants.{Block, Loop, Then}
 use Rattle.wasm_build.specs.BuildsCode.{open_block, open_loop, open_if}
-use Rattle.wasm_build.proofs.CodeParts.{next_end, next_else, next_none, nest_stop, next_block, next_loop, if_stop, next_if, plain_stop, next_plain}
-use Rattle.wasm_build.proofs.OpenLevels.{turned_stop, turned_memory, turn_instr, turn_open, run_block, run_loop, run_if}
+use Rattle.wasm_build.proofs.CodeParts.{next_end, next_else, next_none, nest_stop, next_block, next_loop, if_stop, next_if}
+use Rattle.wasm_build.proofs.OpenLevels.{turned_stop, turn_put, turn_open, run_block, run_loop, run_if}
 use Rattle.wasm_build.proofs.code.go_on.Goals as goal
 
 pub returns-in_err-op-clause-on : goal.returns-in_err-op-clause-on
@@ -58,21 +57,8 @@ returns-in_ok-ty-in-4-clause-on c = λ old r.
     (λ old here new r n f e. run_if old here new c.args.levels.now.items c.open-in-4.new.levels.items c.args.body.now c.open-in-4.new.body.items c.in_ok-ty-in-4.ty r f n e)
     old c.args.input.now _ r (next_if _ _ _ _ _ (record { left = c.in_ok-op.ensures.ok; at = c.in_ok-op.ensures.at }) c.in-4.is c.in_ok-ty-in-4.ensures.built)
 
-pub returns-in_err-instr-in_default-clause-on : goal.returns-in_err-instr-in_default-clause-on
-returns-in_err-instr-in_default-clause-on c = λ old r.
-    let p = err_from_is_err_and c.from_residual-in_err-instr-in_default.result c.from_residual-in_err-instr-in_default.ensures.1 in
-    turned_stop _ _ c.from_residual-in_err-instr-in_default.result p.0 p.1 (plain_stop _ _ _ _ _ _ _ (record { left = c.in_ok-op.ensures.ok; at = c.in_ok-op.ensures.at })
-    (record { not_end = λ h. omega arith; not_else = λ h. omega arith; not_block = λ h. omega arith; not_loop = λ h. omega arith; not_if = λ h. omega arith }) refl p.2
-    c.in_err-instr-in_default.ensures.built) r
-
-pub returns-in_err-push-in_default-clause-on : goal.returns-in_err-push-in_default-clause-on
-returns-in_err-push-in_default-clause-on c = λ old r.
-    let p = err_from_is_err_and c.from_residual-in_err-push-in_default.result c.from_residual-in_err-push-in_default.ensures.1 in
-    turned_memory c.from_residual-in_err-push-in_default.result Memory p.0 old _ c.args.levels.now.items c.push.new.self p.1 p.2 refl
-
-pub returns-in_ok-push-in_default-clause-on : goal.returns-in_ok-push-in_default-clause-on
-returns-in_ok-push-in_default-clause-on c = λ old r.
-    turn_instr c.args.levels.now.items c.args.body.now c.push.new.self c.in_ok-instr-in_default.instr c.in_ok-push-in_default.ensures.items old c.args.input.now _ r
-    (next_plain _ _ _ _ _ (record { left = c.in_ok-op.ensures.ok; at = c.in_ok-op.ensures.at })
+pub returns-in_default-clause-on : goal.returns-in_default-clause-on
+returns-in_default-clause-on c = λ old r.
+    turn_put c.in_ok-op.op c.put.result old _ _ _ c.args.levels.now.items c.args.body.now c.put.new.body (record { left = c.in_ok-op.ensures.ok; at = c.in_ok-op.ensures.at })
     (record { not_end = λ h. omega arith; not_else = λ h. omega arith; not_block = λ h. omega arith; not_loop = λ h. omega arith; not_if = λ h. omega arith })
-    c.in_ok-instr-in_default.ensures.built)
+    c.put.ensures.puts r

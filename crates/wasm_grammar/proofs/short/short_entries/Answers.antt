@@ -1,6 +1,6 @@
 use Rattle.std.proofs.Common.{◌≡◌, subst, arith}
 use Rattle.wasm_goals.specs.Goals.{kind_of}
-use Rattle.wasm_grammar.specs.Passing.{IsAlone, PassesEntries}
+use Rattle.wasm_grammar.specs.Passing.{IsEntryByte, PassesEntries}
 use Rattle.wasm_grammar.proofs.ShortItems.{passes_more}
 use Rattle.wasm_grammar.proofs.short.short_entries.Goals as goal
 
@@ -12,7 +12,7 @@ loop-index-preserved c =
     let all = c.saturating_sub.ensures in
     let some = c.saturating_sub-2.ensures in
     passes_more c.args.bytes.now.all (kind_of c.args.kind) c.args.n c.args.at c.loop-index.index c.args.stop (omega (arith, test, most, room, all)) c.requires.stop
-    (omega (arith, test, most, some)) (subst (IsAlone (kind_of c.args.kind)) c.at-byte.ensures c.if-not-is_alone.ensures) c.loop-index.invariant
+    (omega (arith, test, most, some)) (subst (IsEntryByte (kind_of c.args.kind)) c.at-byte.ensures c.if-not-is_entry_byte.ensures) c.loop-index.invariant
 
 pub returns-clause-passes : goal.returns-clause-passes
 returns-clause-passes c =

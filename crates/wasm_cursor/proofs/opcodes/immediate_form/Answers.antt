@@ -1,7 +1,7 @@
 use Rattle.std.proofs.Common.{◌≡◌, Some, refl, sym, ap, ◌∙◌, arith}
-use Rattle.wa_types.specs.Opcodes.{no_operand, an_index, an_index_and_zero, some_labels, a_constant, a_float, follows}
+use Rattle.wa_types.specs.Opcodes.{no_immediate, an_index, an_index_and_zero, some_labels, a_constant, a_float, follows}
 use Rattle.wasm_cursor.proofs.OpcodeRows.{row_0, row_12, row_26, row_32, row_40, row_63, row_69, gap_2, gap_18, gap_28, gap_37, gap_192}
-use Rattle.wasm_cursor.proofs.opcodes.operand_shape.Goals as goal
+use Rattle.wasm_cursor.proofs.opcodes.immediate_form.Goals as goal
 
 pub returns-in-0-to-1 : goal.returns-in-0-to-1
 returns-in-0-to-1 c = sym (row_0 _ (omega arith) (omega arith))
@@ -15,7 +15,7 @@ returns-in-14 c = let e : follows 14 ≡ Some some_labels = refl in sym (ap foll
 
 pub returns-in-15 : goal.returns-in-15
 unfolding follows
-returns-in-15 c = let e : follows 15 ≡ Some no_operand = refl in sym (ap follows c.in-15.is ∙ e)
+returns-in-15 c = let e : follows 15 ≡ Some no_immediate = refl in sym (ap follows c.in-15.is ∙ e)
 
 pub returns-in-16 : goal.returns-in-16
 unfolding follows
