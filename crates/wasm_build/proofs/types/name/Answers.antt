@@ -17,4 +17,4 @@ returns-in-Err-clause-built c =
     let t = turn (λ n. Exactly n ▸ Exactly []) (λ n at bytes k h. (bytes, [], sym (append-nil bytes), h.0, refl)) s in
     let u = step_taken (λ n. n) (λ n. Exactly []) c.in_ok-bytes.ensures.ok c.in_ok-bytes.ensures.len c.in_ok-bytes.ensures.at (λ n k. k.1) t in
     let P : List ℕ → Type 0 = λ s. IsUtf8 s in
-    never (λ n end b. c.in-Err.ensures.cases.0 (subst P (sym (u.known n end b).1) (s.ahead n end b).spelled.1))
+    never refl (λ more n end b none. c.in-Err.ensures.cases.0 (subst P (sym (u.known more n end b).1) (s.ahead more n end b).spelled.1))
