@@ -537,9 +537,6 @@ module _ (old new : Builder) (k : Entries) (n at : ℕ) (bytes : List ℕ) (from
     not_memory : NotSpelled ≡ Memory → ⊥
     not_memory x = cc
 
-pub entry_lost : (old new : Builder) (at : ℕ) (bytes : List ℕ) → Steps (Err Memory) old new at bytes
-entry_lost old new at bytes = record { steps = λ more m c. refl }
-
 -- the body at the front, and what is behind it
 record FirstBody (k : ℕ) (p q : State) (at : ℕ) (all : List ℕ) : Type 0 where
   func : Func

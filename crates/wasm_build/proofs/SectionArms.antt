@@ -174,9 +174,14 @@ entry_put {old = old} {new = new} {r = r} k view before after p whole same one i
           (one.built more (map view before ++ h.0 ∷ []) end (record { front = b.front; spelled = (h.0, refl, h.2); left = b.left; place = b.place }));
     })
 
-pub kept_by : {A B : Type 0} (r : Result (Unit {0}) BuildFault) → (A → B) → OnErr r A → OnErr r B
-kept_by (Ok u) f h = tt
-kept_by (Err d) f h = f h
+pub kept_all : {A : Type 0} (k : Entries) (view : A → Item k) (p : State) (before after : List A) (r : Result (Unit {0}) BuildFault) → OnErr r (after ≡ before)
+    → OnErr r (put_all k p (map view after) ≡ put_all k p (map view before))
+kept_all k view p before after (Ok u) h = tt
+kept_all k view p before after (Err d) h = ap (λ xs. put_all k p (map view xs)) h
+
+pub kept_same : (k : Entries) (p : State) (before after : List (Item k)) (r : Result (Unit {0}) BuildFault) → OnErr r (after ≡ before) → OnErr r (put_all k p after ≡ put_all k p before)
+kept_same k p before after (Ok u) h = tt
+kept_same k p before after (Err d) h = ap (put_all k p) h
 
 -- the start section
 start_arm : (p q : State) (s : Section) (at : ℕ) (bytes : List ℕ) → section_id s ≡ 8 → Adds s p q → Sized (ContentOf s) at bytes → SpelledStart p q at bytes
@@ -193,10 +198,10 @@ start_arm p q (elements es) at bytes e a h = absurd (omega (arith, e))
 start_arm p q (bodies bs) at bytes e a h = absurd (omega (arith, e))
 start_arm p q (segments ss) at bytes e a h = absurd (omega (arith, e))
 
-module _ {n : ℕ} {old here new : Place} (p whole : State) where
-  pub start_built : {x : ℕ} → ReadsNumber (IsUnsigned 32) (Ok n) old here → ReadsNumber (IsUnsigned 32) (Ok x) here new
+module _ {n : ℕ} {old : Place} (p whole : State) (here : Place) where
+  pub start_built : {x : ℕ} (new : Place) → ReadsNumber (IsUnsigned 32) (Ok n) old here → ReadsNumber (IsUnsigned 32) (Ok x) here new
       → whole ≡ record p { held = record p.held { start = Some x }; last = 8 } → Builds (λ (u : Unit {0}). whole) (SpelledStart p) (Ok tt) old new
-  start_built {x = x} r m is = record {
+  start_built {x = x} new r m is = record {
     built = λ more q end b.
         let h = b.spelled in
         let c = sized_parts {P = Number h.0} n old here more end r (record { front = b.front; spelled = h.2; left = b.left; place = b.place }) in
@@ -205,19 +210,19 @@ module _ {n : ℕ} {old here new : Place} (p whole : State) where
   }
 
   pub start_stop : {d : NotSpelled} {y : BuildFault} {q : Result (Unit {0}) BuildFault} (last : Place) → q ≡ Err y → ReadsNumber (IsUnsigned 32) (Ok n) old here
-      → ReadsNumber (IsUnsigned 32) (Err d) here new → Builds (λ (u : Unit {0}). whole) (SpelledStart p) q old last
+      → ReadsNumber (IsUnsigned 32) (Err d) here here → Builds (λ (u : Unit {0}). whole) (SpelledStart p) q old last
   start_stop {d = d} last e r m = never e (λ more q end b none.
       let h = b.spelled in
       let c = sized_parts {P = Number h.0} n old here more end r (record { front = b.front; spelled = h.2; left = b.left; place = b.place }) in
-      number_fails (IsUnsigned 32) d here new more end h.0 m c none)
+      number_fails (IsUnsigned 32) d here here more end h.0 m c none)
 
-pub start_unsized : {d : NotSpelled} {y : BuildFault} {old new : Place} {q : Result (Unit {0}) BuildFault} (p whole : State) (last : Place) → q ≡ Err y → ReadsNumber (IsUnsigned 32) (Err d) old new
+pub start_unsized : {d : NotSpelled} {y : BuildFault} {old : Place} {q : Result (Unit {0}) BuildFault} (p whole : State) (last : Place) → q ≡ Err y → ReadsNumber (IsUnsigned 32) (Err d) old old
     → Builds (λ (u : Unit {0}). whole) (SpelledStart p) q old last
-start_unsized {d = d} {old = old} {new = new} p whole last e m = never e (λ more q end b none.
+start_unsized {d = d} {old = old} p whole last e m = never e (λ more q end b none.
     let h = b.spelled in
     let z = h.2 in
     let k = parts (Number z.0) (Filling z.0 (Number h.0)) (with_more old more) end (record { front = b.front; spelled = z.1; left = b.left; place = b.place }) in
-    number_fails (IsUnsigned 32) d old new more k.middle z.0 m k.first none)
+    number_fails (IsUnsigned 32) d old old more k.middle z.0 m k.first none)
 
 -- a section behind its id
 pub record Behind (p q : State) (id : ℕ) (here end : Place) : Type 0 where

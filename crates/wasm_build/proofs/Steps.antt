@@ -85,15 +85,15 @@ pub never : {X B : Type 0} {Spelled : X → ℕ → List ℕ → Type 0} {whole 
 never {whole = whole} {y = y} e f = record { built = λ more x end b. lacks whole more _ x _ end y e (f more x end b) }
 
 pub stop_number : {X B : Type 0} {Spelled : X → ℕ → List ℕ → Type 0} {Known : X → Type 0} {Spells : List ℕ → ℕ → Type 0} {whole : B
-    → X} {old here new last : Place} {d : NotSpelled} {y : BuildFault} {q : Result B BuildFault} (part : X → ℕ) (Rest : X → ℕ → List ℕ → Type 0) → q ≡ Err y
-    → ReadsNumber Spells (Err d) here new → At Spelled old (λ x. (λ at bytes. Spells bytes (part x)) ▸ Rest x) Known here → Builds whole Spelled q old last
-stop_number {Spells = Spells} part Rest e r s =
-    never e (λ more x end b. let k = split (λ x at bytes. Spells bytes (part x)) Rest s more x end b in number_fails Spells _ _ _ more k.middle (part x) r k.first)
+    → X} {old here last : Place} {d : NotSpelled} {y : BuildFault} {q : Result B BuildFault} (part : X → ℕ) (Rest : X → ℕ → List ℕ → Type 0) → q ≡ Err y
+    → ReadsNumber Spells (Err d) here here → At Spelled old (λ x. (λ at bytes. Spells bytes (part x)) ▸ Rest x) Known here → Builds whole Spelled q old last
+stop_number {Spells = Spells} {here = here} part Rest e r s =
+    never e (λ more x end b. let k = split (λ x at bytes. Spells bytes (part x)) Rest s more x end b in number_fails Spells _ here here more k.middle (part x) r k.first)
 
 pub stop_last_number : {X B : Type 0} {Spelled : X → ℕ → List ℕ → Type 0} {Known : X → Type 0} {Spells : List ℕ → ℕ → Type 0} {whole : B
-    → X} {old here new last : Place} {d : NotSpelled} {y : BuildFault} {q : Result B BuildFault} (part : X → ℕ) → q ≡ Err y → ReadsNumber Spells (Err d) here new
+    → X} {old here last : Place} {d : NotSpelled} {y : BuildFault} {q : Result B BuildFault} (part : X → ℕ) → q ≡ Err y → ReadsNumber Spells (Err d) here here
     → At Spelled old (λ x at bytes. Spells bytes (part x)) Known here → Builds whole Spelled q old last
-stop_last_number {Spells = Spells} part e r s = never e (λ more x end b. number_fails Spells _ _ _ more end (part x) r (s.ahead more x end b))
+stop_last_number {Spells = Spells} {here = here} part e r s = never e (λ more x end b. number_fails Spells _ here here more end (part x) r (s.ahead more x end b))
 
 -- bytes that are passed over
 pub step_passed : {X : Type 0} {Spelled : X → ℕ → List ℕ → Type 0} {Known : X → Type 0} {First : ℕ → List ℕ → Type 0} {old here new : Place} {a : Unit {0}} (Rest : X → ℕ → List ℕ → Type 0)
@@ -132,20 +132,20 @@ step_byte part Rest e f s = record {
       (s.known more x end b, (byte_is _ (part x) _ _ k.middle (ap (λ z. z ++ more) e) f k.first).0);
 }
 
-pub more_left : {xs ys zs : List ℕ} (more : List ℕ) → xs ≡ ys ++ zs → xs ++ more ≡ ys ++ (zs ++ more)
-more_left {ys = ys} {zs = zs} more e = ap (λ z. z ++ more) e ∙ append_assoc ys zs more
+pub more_left : (xs ys zs more : List ℕ) → xs ≡ ys ++ zs → xs ++ more ≡ ys ++ (zs ++ more)
+more_left xs ys zs more e = ap (λ z. z ++ more) e ∙ append_assoc ys zs more
 
 -- so many bytes are taken
 pub step_taken : {X : Type 0} {Spelled : X → ℕ → List ℕ → Type 0} {Known : X → Type 0} {old here new : Place} {got : List ℕ} {count : ℕ} (part : X → List ℕ) (Rest : X → ℕ → List ℕ → Type 0)
     → here.left ≡ got ++ new.left → length got ≡ count → new.at ≡ here.at + count → ((x : X) → Known x → count ≡ length (part x))
     → At Spelled old (λ x. Exactly (part x) ▸ Rest x) Known here → At Spelled old Rest (λ x. Known x × (got ≡ part x)) new
-step_taken part Rest e f g h s = record {
+step_taken {here = here} {new = new} {got = got} part Rest e f g h s = record {
   ahead = λ more x end b.
       let k = split (λ x. Exactly (part x)) Rest s more x end b in
-      behind_first _ _ _ end _ k (taken_is _ _ (part x) _ _ k.middle (more_left more e) f g (h x (s.known more x end b)) k.first).1;
+      behind_first _ _ _ end _ k (taken_is got _ (part x) _ (with_more new more) k.middle (more_left here.left got new.left more e) f g (h x (s.known more x end b)) k.first).1;
   known = λ more x end b.
       let k = split (λ x. Exactly (part x)) Rest s more x end b in
-      (s.known more x end b, (taken_is _ _ (part x) _ _ k.middle (more_left more e) f g (h x (s.known more x end b)) k.first).0);
+      (s.known more x end b, (taken_is got _ (part x) _ (with_more new more) k.middle (more_left here.left got new.left more e) f g (h x (s.known more x end b)) k.first).0);
 }
 
 -- the end is reached

@@ -83,7 +83,7 @@ impl Sections {
 
     /// Adds the custom section or the start section that comes next (standard, sections 5.5.3 and 5.5.11).
     pub(crate) fn single(&mut self, alloc: Global, input: &mut Cursor<'_>) -> Result<(), BuildFault>
-        ensures built { Builds (λ (_ : Unit {0}). state_of self.new) (SpelledSingle (state_of self.old)) result input.old input.new }
+        ensures { Builds (λ (_ : Unit {0}). state_of self.new) (SpelledSingle (state_of self.old)) result input.old input.new }
     {
         let id = input.byte()?;
         if id == 0 {
@@ -96,7 +96,7 @@ impl Sections {
 
     // Adds the start section, from its size on.
     fn start(&mut self, input: &mut Cursor<'_>) -> Result<(), BuildFault>
-        ensures built { Builds (λ (_ : Unit {0}). state_of self.new) (SpelledStart (state_of self.old)) result input.old input.new }
+        ensures { Builds (λ (_ : Unit {0}). state_of self.new) (SpelledStart (state_of self.old)) result input.old input.new }
     {
         let _size = input.number()?;
         let x = input.number()?;

@@ -11,7 +11,8 @@ use Rattle.wa_types.proofs.UnsignedReads.{again}
 use Rattle.wa_types.proofs.SignedReads.{again as signed_again}
 use Rattle.file_laws.proofs.Items.{same_cut}
 use Rattle.file_laws.proofs.NumberReading.{unsigned_stays, signed_stays}
-use Rattle.wasm_cursor.specs.Places.{Place, place_from, place_at, with_more, behind, Onward}
+use Rattle.wasm_cursor.specs.Places.{Place, place_from, place_at, with_more, behind, GivesNumber, Onward}
+use Rattle.wasm_cursor.specs.declared.front.NotSpelled.{NotSpelled}
 
 pub first_place : (first : ℕ) (bytes : List ℕ) → place_from first bytes 0 ≡ place_at first bytes
 first_place first bytes = λ i. record { at = add-zero first i; left = bytes }
@@ -74,6 +75,10 @@ signed_lost first bits bytes at end d p v f = subst (Lost (IsSigned bits)) v (λ
     let g : (Err d, end) ≡ (Ok n, at + length front) = f ∙ ap (λ z. signed_at bits z at) (alone (drop at bytes) front rest more e none) ∙ signed_again bits front rest n at s in
     not_both n d (ap (λ q. q.0) g))
 
+-- where no number is read
+pub lost_gives : {y : NotSpelled} {q : Result ℕ NotSpelled} (n : ℕ) (new : Place) (more : List ℕ) (end : Place) → q ≡ Err y → (more ≡ [] → ⊥) → GivesNumber q n new more end
+lost_gives n new more end e f = subst (λ z. GivesNumber z n new more end) (sym e) f
+
 pub some_read : (n : ℕ) → Ok n ≡ Err Short → ⊥
 some_read n e = cc
 
@@ -81,7 +86,14 @@ pub either_grows : (b : Bool) (at : ℕ) (x y : Result ℕ LebFault × ℕ) → 
 either_grows true at x y h k = h
 either_grows false at x y h k = k
 
-pub unpast : (bits b : ℕ) (bs : List ℕ) (at : ℕ) → at + 1 ≤ (unsigned_at bits (b ∷ bs) at).1
+pub unsigned_grows : (bits : ℕ) (bytes : List ℕ) (at : ℕ) → at ≤ (unsigned_at bits bytes at).1
+unfolding unsigned_at
+unsigned_grows bits [] at = omega arith
+unsigned_grows bits (b ∷ bs) at =
+    let more = unsigned_grows (bits - 7) bs (at + 1) in
+    either_grows (nat_lt b 128) at _ _ (either_grows (nat_lt b (2 ^ bits)) at _ _ (omega arith) (omega arith)) (either_grows (nat_lt 7 bits) at _ _ (omega (arith, more)) (omega arith))
+
+past : (bits b : ℕ) (bs : List ℕ) (at : ℕ) → at + 1 ≤ (unsigned_at bits (b ∷ bs) at).1
 unfolding unsigned_at
 past bits b bs at =
     let more = unsigned_grows (bits - 7) bs (at + 1) in
@@ -99,13 +111,6 @@ pub unsigned_falls : (first bits : ℕ) (bytes : List ℕ) (at n end : ℕ) (p :
 unsigned_falls first bits bytes at n end p v f k =
     let some = read_past bits (drop at bytes) at n end (sym f) in
     omega (arith, some, k, length-drop end bytes, length-drop at bytes, ap (λ q. length q.left) v)
-
-signed_grows : (bits : ℕ) (bytes : List ℕ) (at : ℕ) → at ≤ (unsigned_at bits bytes at).1
-unfolding unsigned_at
-unsigned_grows bits [] at = omega arith
-unsigned_grows bits (b ∷ bs) at =
-    let more = unsigned_grows (bits - 7) bs (at + 1) in
-    either_grows (nat_lt b 128) at _ _ (either_grows (nat_lt b (2 ^ bits)) at _ _ (omega arith) (omega arith)) (either_grows (nat_lt 7 bits) at _ _ (omega (arith, more)) (omega arith))
 
 signed_grows : (bits : ℕ) (bytes : List ℕ) (at : ℕ) → at ≤ (signed_at bits bytes at).1
 unfolding signed_at

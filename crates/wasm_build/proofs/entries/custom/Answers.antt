@@ -3,7 +3,8 @@ use Rattle.std.proofs.lemmas.Result.{err_from_is_err_and}
 use Rattle.wa_types.specs.Spells.{Exactly, Text}
 use Rattle.wa_types.specs.View.{custom_of}
 use Rattle.wasm_build.proofs.Betweens.{parts, from_here, behind_first, fails, built_alone}
-use Rattle.wasm_build.proofs.SectionParts.{content, left_is}
+use Rattle.wasm_build.proofs.SectionParts.{content, cut_content, left_is}
+use Rattle.wasm_build.proofs.Steps.{never}
 use Rattle.wasm_build.proofs.entries.custom.Goals as goal
 
 pub returns-in_err-name-clause-built : goal.returns-in_err-name-clause-built
@@ -25,3 +26,8 @@ returns-clause-built c = record {
       let bytes = c.in_ok-bytes.ensures.items ∙ c.rest.ensures ∙ r in
       (λ i. record { after = sym k.behind i; name = g.0 i; bytes = bytes i }, k.ends);
 }
+
+pub returns-in_err-take-clause-built : goal.returns-in_err-take-clause-built
+returns-in_err-take-clause-built c =
+    let p = err_from_is_err_and c.from_residual-in_err-take.result c.from_residual-in_err-take.ensures.1 in
+    never p.1 (λ more x end b none. cut_content x _ _ _ _ more end c.in_ok-size.ensures.read c.in_err-take.ensures.err b none)
