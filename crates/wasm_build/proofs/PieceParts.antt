@@ -521,17 +521,17 @@ module _ (old new : Builder) (k : Entries) (n at : ℕ) (bytes : List ℕ) (from
   }
 
   -- an entry that isn't whole
-  pub entry_waits : {r : Result (Unit {0}) BuildFault} (whole : Builder) → r ≡ Err NotSpelled → Builds (λ (u : Unit {0}). state_of whole.sections) (SpelledEntry k (state_of old.sections)) r from here
+  pub entry_waits : (whole : Builder) (d : BuildFault) → d ≡ NotSpelled → Builds (λ (u : Unit {0}). state_of whole.sections) (SpelledEntry k (state_of old.sections)) (Err d) from here
       → new.stage ≡ old.stage → state_of new.sections ≡ state_of old.sections → Steps (Ok None) old new at bytes
-  entry_waits {r = r} whole lost builds stage kept = record {
+  entry_waits whole d lost builds stage kept = record {
     steps = λ more m c. (
       coming new old.stage (state_of old.sections) c.sum m at (bytes ++ more) stage kept c.is c.ahead,
       λ none.
           let p = state_of old.sections in
           let a = ahead_of old (Entry k n) m at (bytes ++ more) e c in
           let f = item_first k n p c.sum at (bytes ++ more) a.0 a.1 a.2 a.3 in
-          let built = subst (λ z. Builds (λ (u : Unit {0}). state_of whole.sections) (SpelledEntry k p) z from here) lost builds in
-          absurd (not_memory (built.built more (with_items k p (f.item ∷ [])) (record { at = at + length f.front; left = f.items ++ f.behind }) (entry_between k n p c.sum at bytes more from place f) none)),
+          absurd (not_memory (sym lost ∙ builds.built more (with_items k p (f.item ∷ [])) (record { at = at + length f.front; left = f.items ++ f.behind })
+          (entry_between k n p c.sum at bytes more from place f) none)),
     );
   } where
     not_memory : NotSpelled ≡ Memory → ⊥

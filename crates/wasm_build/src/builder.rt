@@ -207,15 +207,15 @@ impl Builder {
         ensures steps { Steps result self.old self.new first bytes.now }
     {
         let mut input = Cursor::new_at(first, bytes);
-        let built = self.sections.entry(alloc, &mut input, kind);
-        let read = bytes.len() - input.rest().len();
-        match built {
+        match self.sections.entry(alloc, &mut input, kind) {
             Ok(()) => {
+                let used = bytes.len() - input.rest().len();
                 self.stage = before_entries(kind, left.saturating_sub(1));
                 self.wanted = 0;
-                Ok(Some(read))
+                Ok(Some(used))
             }
             Err(BuildFault::NotSpelled) => {
+                let read = bytes.len() - input.rest().len();
                 self.wanted = bytes.len().saturating_add(read.saturating_sub(READ_AGAIN));
                 Ok(None)
             }
