@@ -198,7 +198,8 @@ run_last {here = here} v r e n = record {
 outside : (Outside : (Code → Code) → Place → Type 0) (f g : Code → Code) (middle new : Place) → ((more : Code) → g more ≡ f more) → new ≡ middle → Outside f middle → Outside g new
 outside Outside f g middle new h e a = subst (λ p. Outside g p) (sym e) (subst (λ k. Outside k middle) (λ i more. sym (h more) i) a)
 
-closed_in : (o : Opened) (ty : Option ValType) (before : List Instr) (Outside : (Code → Code) → Place → Type 0) (got more : List Instr) (here new : Place) (tail : List ℕ) → BuildsNext (Ok an_end) here new
+closed_in : (o : Opened) (ty : Option ValType) (before : List Instr) (Outside : (Code → Code) → Place → Type 0) (got more : List Instr) (here new : Place) (tail : List ℕ) → BuildsNext
+    (Ok an_end) here new
     → ((rest : Code) → onto more rest ≡ onto before (closed o ty (code got) rest))
     → Inside o ty before Outside (onto got) (with_more here tail) → Outside (onto more) (with_more new tail)
 closed_in Then ty before Outside got more here new tail n h a =
@@ -217,7 +218,8 @@ closed_in Loop ty before Outside got more here new tail n h a =
 closed_in (Else arm) ty before Outside got more here new tail n h a =
     let g = n.built tail false a.0 done a.1 a.2 in
     let p : onto got a.0 ≡ code got = ap (onto got) g.0 ∙ onto_done got in
-    outside Outside (λ k. onto before (branch ty (code arm.items) (onto got a.0) k)) (onto more) a.1 (with_more new tail) (λ k. h k ∙ ap (λ z. onto before (branch ty (code arm.items) z k)) (sym p)) g.2 a.3
+    outside Outside (λ k. onto before (branch ty (code arm.items) (onto got a.0) k)) (onto more) a.1 (with_more new tail) (λ k. h k ∙ ap (λ z. onto before (branch ty
+        (code arm.items) z k)) (sym p)) g.2 a.3
 
 pub run_close : (old here new : Place) (levels low : List Level) (l : Level) (got more : List Instr) → Running old levels got here → BuildsNext (Ok an_end) here new → levels ≡ low ++ l ∷ []
     → ((rest : Code) → onto more rest ≡ onto l.before.items (closed l.opened l.ty (code got) rest)) → Running old low more new
@@ -264,7 +266,8 @@ pub turned_memory : (q : Result Bool BuildFault) (d y : BuildFault) (old new : P
 turned_memory q d y old new levels body e f g = subst (λ z. Turned z old levels body new) (sym e) (memory_is old new y (f ∙ g))
 
 -- the head of a construct
-pub turn_open : (opened : Opened) (ty : Option ValType) (next : CodeItem) (q : Result Bool BuildFault) (levels new_levels : List Level) (body new_body : Vec Instr Global) → IfOk q (λ ended. ended ≡ false)
+pub turn_open : (opened : Opened) (ty : Option ValType) (next : CodeItem) (q : Result Bool BuildFault) (levels new_levels : List Level) (body new_body : Vec Instr Global) → IfOk q
+    (λ ended. ended ≡ false)
     → OnOk q (new_levels ≡ levels ++ (record { before = body; ty = ty; opened = opened }) ∷ []) → OnOk q (new_body.items ≡ []) → IfErr q (λ e. e ≡ Memory)
     → ((old here new : Place) → Running old levels body.items here → BuildsNext (Ok next) here new → new_body.items ≡ []
     → new_levels ≡ levels ++ (record { before = body; ty = ty; opened = opened }) ∷ [] → Running old new_levels new_body.items new)

@@ -1,5 +1,6 @@
 -- One step of building what comes: what is built stands at the front of the rest of the file, and the rest of that comes next.
-use Rattle.std.proofs.Common.{◌≡◌, ◌⊎◌, inl, inr, ℕ, suc, ◌+◌, ◌-◌, ◌<◌, ◌≤◌, List, [], ◌∷◌, ◌++◌, map, Option, Some, None, Result, Ok, Err, refl, ap, sym, ◌∙◌, subst, arith, append_assoc, append-nil, length}
+use Rattle.std.proofs.Common.{◌≡◌, ◌⊎◌, inl, inr, ℕ, suc, ◌+◌, ◌-◌, ◌<◌, ◌≤◌, List, [], ◌∷◌, ◌++◌, map}
+use Rattle.std.proofs.Common.{Option, Some, None, Result, Ok, Err, refl, ap, sym, ◌∙◌, subst, arith, append_assoc, append-nil, length}
 use Rattle.std.proofs.Common.{length-append, length-take-le, take, drop, get_or, cond, Bool, true, false, nat_lt, ltb-true, ltb-false, add-zero, length-drop, IfSome}
 use Rattle.wa_types.specs.Leb.{IsUnsigned}
 use Rattle.std.proofs.lemmas.List.{take-append-drop, drop_more, drop_all, drop-drop}
@@ -317,7 +318,8 @@ same_tail : (id : ℕ) (xs ys : List ℕ) → id ∷ xs ≡ id ∷ ys → xs ≡
 same_tail id xs ys e = (let p : xs ≡ ys = cc in p)
 
 module _ {X : Type 0} (Spelled : X → ℕ → List ℕ → Type 0) (put : List X → State) (Known : List X → Type 0) (old : Builder) (id : ℕ)
-    (arm : (s : PlainSection) (after : State) (at : ℕ) (bytes : List ℕ) → section_id s ≡ id → Adds s (state_of old.sections) after → Sized (ContentOf s) at bytes → Head Spelled put Known after at bytes) where
+    (arm : (s : PlainSection) (after : State) (at : ℕ) (bytes : List ℕ) → section_id s ≡ id → Adds s (state_of old.sections) after → Sized (ContentOf s) at bytes
+        → Head Spelled put Known after at bytes) where
   head_here : (q : State) (at : ℕ) (bytes more : List ℕ) → bytes ≡ id ∷ drop 1 bytes → SpelledSections (state_of old.sections) q at (bytes ++ more) → HeadHere Spelled put Known q at id bytes more
   head_here q at bytes more e a =
       let f = first_section (state_of old.sections) q at id bytes more e a in

@@ -395,7 +395,8 @@ const_32_is unreachable n e = absurd (cc)
 const_32_is (call y) n e = absurd (cc)
 const_32_is (call_indirect y) n e = absurd (cc)
 
-pub const_32_built : (op n : ℕ) (old new : Place) → follows op ≡ Some (a_constant 32) → ReadsNumber (IsSigned 32) (Ok n) old new → Builds code_of_one (SpelledPlain op) (Ok (Const (value_32 n))) old new
+pub const_32_built : (op n : ℕ) (old new : Place) → follows op ≡ Some (a_constant 32) → ReadsNumber (IsSigned 32) (Ok n) old new → Builds code_of_one (SpelledPlain op) (Ok (Const
+    (value_32 n))) old new
 const_32_built op n old new e m = by_found op (Some (Const (value_32 n))) (Ok (Const (value_32 n))) old new refl (λ more c end b.
     let s = constant_start 32 op old e in
     let k = s.known more c end b in
@@ -427,7 +428,8 @@ const_64_is unreachable n e = absurd (cc)
 const_64_is (call y) n e = absurd (cc)
 const_64_is (call_indirect y) n e = absurd (cc)
 
-pub const_64_built : (op n : ℕ) (old new : Place) → follows op ≡ Some (a_constant 64) → ReadsNumber (IsSigned 64) (Ok n) old new → Builds code_of_one (SpelledPlain op) (Ok (Const (value_64 n))) old new
+pub const_64_built : (op n : ℕ) (old new : Place) → follows op ≡ Some (a_constant 64) → ReadsNumber (IsSigned 64) (Ok n) old new → Builds code_of_one (SpelledPlain op) (Ok (Const
+    (value_64 n))) old new
 const_64_built op n old new e m = by_found op (Some (Const (value_64 n))) (Ok (Const (value_64 n))) old new refl (λ more c end b.
     let s = constant_start 64 op old e in
     let k = s.known more c end b in
