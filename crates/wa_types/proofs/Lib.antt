@@ -1,5 +1,4 @@
 pub mod AccessLemmas
-pub mod Copying
 pub mod Cuts
 pub mod FaultLemmas
 pub mod LeafLemmas

@@ -11,9 +11,9 @@
 
 mod bounds;
 mod control;
-mod copy;
 mod frame_laws;
 mod instrs;
+mod leaves;
 mod leb;
 mod names;
 mod operators;
@@ -24,9 +24,9 @@ mod values;
 mod weights;
 
 pub use bounds::{Bounds, LimitKind};
-pub use copy::{copy_around, copy_body, copy_func, copy_leaf, copy_module};
 pub use frame_laws::{live_is_path, one_each_call, slots_are_pairs};
 pub use instrs::Instr;
+pub use leaves::copy_leaf;
 pub use leb::{
     LebFault, Spelling, read_s32, read_s64, read_u32, signed_spelling_laws, unsigned_spelling_laws,
     write_s32, write_s64, write_u32,
