@@ -1,11 +1,11 @@
 //! Equal bodies and functions.
 
 ghost use Rattle.std.specs.Prelude.{◌≡◌, IfOk};
-ghost use Rattle.wa_types.specs.Syntax.{Code};
-ghost use Rattle.wa_types.specs.View.{code, in_front, func_of};
+ghost use Rattle.wa_types.specs.View.{code, func_of};
 
+use crate::levels::{Copying, close, copy_next};
 use std::alloc::{AllocError, Global};
-use wa_types::{Func, Instr, copy_leaf};
+use wa_types::{Func, Instr};
 
 /// An equal function.
 pub fn copy_func(alloc: Global, func: &Func) -> Result<Func, AllocError>
@@ -18,43 +18,25 @@ pub fn copy_func(alloc: Global, func: &Func) -> Result<Func, AllocError>
     })
 }
 
-/// An equal body.
-#[cycle(copy)]
-#[tactic(auto, using(crate::proofs::Copying::copying))]
+/// An equal body. Takes the same native stack however deep it nests.
 pub fn copy_body(alloc: Global, body: &[Instr]) -> Result<Vec<Instr>, AllocError>
     ensures { IfOk result (λ v. code v.items ≡ code body.now) }
 {
-    let mut out = Vec::with_capacity(alloc, body.len())?;
-    for instr in body {
-        out.push(copy_instr(alloc, instr)?)?;
-    }
-    Ok(out)
-}
-
-/// An equal instruction.
-#[cycle(copy)]
-#[tactic(auto, using(wa_types::proofs::LeafLemmas::copying_one))]
-fn copy_instr(alloc: Global, instr: &Instr) -> Result<Instr, AllocError>
-    ensures { IfOk result (λ i. (rest : Code) → in_front i rest ≡ in_front instr.now rest) }
-{
-    match instr {
-        Instr::Block { result, body } => Ok(Instr::Block {
-            result: *result,
-            body: copy_body(alloc, body)?,
-        }),
-        Instr::Loop { result, body } => Ok(Instr::Loop {
-            result: *result,
-            body: copy_body(alloc, body)?,
-        }),
-        Instr::If {
-            result,
-            then_arm,
-            else_arm,
-        } => Ok(Instr::If {
-            result: *result,
-            then_arm: copy_body(alloc, then_arm)?,
-            else_arm: copy_body(alloc, else_arm)?,
-        }),
-        _ => copy_leaf(alloc, instr),
+    let mut copying = Copying {
+        levels: Vec::new(alloc),
+        made: Vec::with_capacity(alloc, body.len())?,
+        left: body,
+    };
+    'left: loop {
+        match copying.left.split_first() {
+            Some((instr, behind)) => {
+                copying.left = behind;
+                copy_next(alloc, &mut copying, instr)?;
+            }
+            None => match copying.levels.pop() {
+                Some(level) => close(alloc, &mut copying, level)?,
+                None => return Ok(copying.made),
+            },
+        }
     }
 }

@@ -1,5 +1,6 @@
 pub mod AccessLemmas
 pub mod Cuts
+pub mod DropLemmas
 pub mod FaultLemmas
 pub mod LeafLemmas
 pub mod LebAnswers

@@ -11,6 +11,7 @@
 
 mod bounds;
 mod control;
+mod drops;
 mod frame_laws;
 mod instrs;
 mod leaves;
@@ -24,6 +25,7 @@ mod values;
 mod weights;
 
 pub use bounds::{Bounds, LimitKind};
+pub use drops::drop_body;
 pub use frame_laws::{live_is_path, one_each_call, slots_are_pairs};
 pub use instrs::Instr;
 pub use leaves::copy_leaf;

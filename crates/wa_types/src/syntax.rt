@@ -20,7 +20,7 @@ pub struct Run {
 
 /// A defined function (standard, section 2.5.3): the index of its type, its declared locals in runs, its
 /// body without the end.
-#[derive(Debug, Drop)]
+#[derive(Debug)]
 pub struct Func {
     pub sort: u32,
     pub locals: Vec<Run>,
@@ -35,7 +35,7 @@ pub struct Limits {
 }
 
 /// A defined global (standard, section 2.5.6); `init` is its initialiser without the end.
-#[derive(Debug, Drop)]
+#[derive(Debug)]
 pub struct GlobalDef {
     pub ty: ValType,
     pub mutable: bool,
@@ -78,7 +78,7 @@ pub struct Export {
 }
 
 /// An element segment (standard, section 2.5.7); `offset` is an expression without its end.
-#[derive(Debug, Drop)]
+#[derive(Debug)]
 pub struct Elem {
     pub table: u32,
     pub offset: Vec<Instr>,
@@ -86,7 +86,7 @@ pub struct Elem {
 }
 
 /// A data segment (standard, section 2.5.8); `offset` is an expression without its end.
-#[derive(Debug, Drop)]
+#[derive(Debug)]
 pub struct Segment {
     pub memory: u32,
     pub offset: Vec<Instr>,
@@ -103,7 +103,7 @@ pub struct Custom {
 }
 
 /// A module (standard, section 2.5). Its lists are in index order, imports before what is defined.
-#[derive(Debug, Drop)]
+#[derive(Debug)]
 pub struct Module {
     pub types: Vec<FuncType>,
     pub imports: Vec<Import>,
