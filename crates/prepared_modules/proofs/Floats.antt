@@ -5,6 +5,7 @@ use Rattle.std.specs.List.{flat_map}
 use Rattle.std.proofs.lemmas.Bool.{and_parts, cases_lt, leb-true, or_cases, or_left, or_right}
 use Rattle.std.proofs.lemmas.List.Elements.{All-nil, All-cons, All-head, All-tail}
 use Rattle.wa_types.specs.declared.operators.NumOp.{NumOp}
+use Rattle.wa_types.specs.declared.operators.NumOp.TheVariants.{I32Eqz}
 use Rattle.wa_types.specs.declared.values.Value.TheVariants as V
 use Rattle.wa_types.specs.declared.values.ValType.{ValType}
 use Rattle.wa_types.specs.declared.values.ValType.TheVariants.{I32, I64}
@@ -21,18 +22,13 @@ use Rattle.wa_types.specs.Reading.{globals_in, elements_in, segments_in, IsModul
 use Rattle.wa_types.specs.Spells.{bodies_in}
 use Rattle.wa_types.specs.Syntax.{Basic, nop, drop, select, const, num, global_get, global_set, load, store, memory_size, memory_grow, Plain, basic, local_get, local_set, local_tee, br}
 use Rattle.wa_types.specs.Syntax.{br_if, br_table, return, unreachable, call, call_indirect, Code, done, plain, nest, branch, FuncType, Func, GlobalDef, Elem, Segment, Module}
-use Rattle.wa_types.proofs.OperatorLemmas.{operators, each_operator}
 use Rattle.wasm_reader.proofs.ModulesMade.{join_clear}
 
 -- ---- opcodes
 
-clear : (b : Bool) → not b ≡ true → b ≡ false
-clear true e = cc
-clear false e = refl
-
 num_clear : (op : NumOp) → is_float_op (opcode_of op) ≡ false
-unfolding operators
-num_clear op = clear (is_float_op (opcode_of op)) (each_operator (λ (n : NumOp). not (is_float_op (opcode_of n))) refl op)
+num_clear I32Eqz = refl
+num_clear _ = refl
 
 first_of : (a b : Bool) → a && b ≡ true → a ≡ true
 first_of true b h = refl
