@@ -4,6 +4,7 @@ ghost use Rattle.std.specs.Prelude.{◌≡◌, [], ◌∷◌, length, reverse};
 ghost use Rattle.wa_types.specs.Operators.{operand_types, result_type};
 ghost use Rattle.wa_ops.specs.declared.class.OperatorClass.TheVariants.{Unary};
 ghost use Rattle.wa_ops.specs.Operate.{class_of};
+ghost use Rattle.instr_tables.specs.Types.{other_type};
 
 use wa_ops::{OperatorClass, operand_type};
 use wa_types::{NumOp, ValType};
@@ -71,6 +72,7 @@ fn unary_result(op: NumOp, ty: ValType) -> ValType
     }
 }
 
+// The other integer type.
 fn other_than(ty: ValType) -> ValType
     ensures { result ≡ other_type ty }
 {
