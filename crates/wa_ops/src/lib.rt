@@ -19,7 +19,7 @@ mod loads;
 mod narrow;
 mod wide;
 
-pub use class::OperatorClass;
+pub use class::{OperatorClass, operand_type};
 pub use loads::load_value;
 use wa_types::{NumOp, Trap, Value};
 

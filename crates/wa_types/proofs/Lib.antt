@@ -10,6 +10,7 @@ pub mod MemoryLemmas
 pub mod OperatorLemmas
 pub mod PlaceLemmas
 pub mod PointLemmas
+pub mod Ranges
 pub mod SigLemmas
 pub mod SignedReads
 pub mod SignedSpelling

@@ -34,7 +34,7 @@ pub use leb::{
     write_s32, write_s64, write_u32,
 };
 pub use names::Name;
-pub use operators::NumOp;
+pub use operators::{LAST_NUMERIC, NumOp};
 pub use rules::Rule;
 pub use syntax::{
     Custom, Elem, Export, Func, FuncType, GlobalDef, Import, ImportKind, Limits, Module, Run,

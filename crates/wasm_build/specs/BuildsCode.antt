@@ -97,4 +97,4 @@ Puts op (Err e) old new here there = Builds code_of_one (SpelledPlain op) (Err e
 
 -- the same of a numeric instruction, whatever opcode it has
 abbrev pub PutsNumber : NumOp → Result Bool BuildFault → (old new : List Instr) → Type 0
-PutsNumber n result old new = (op : ℕ) (here : Place) → follows op ≡ Some no_immediate → NamesPlain op nothing (Some (Num n)) → Puts op result old new here here
+PutsNumber n result old new = (op : ℕ) (here : Place) → op ≡ opcode_of n → Puts op result old new here here

@@ -9,7 +9,7 @@ ghost use Rattle.wasm_build.specs.BuildsLevels.{Running, Turned};
 
 use crate::BuildFault;
 use crate::levels::{Level, Opened, end, open, turn};
-use crate::plain::{arithmetic, comparison, plain};
+use crate::plain::plain;
 use crate::types::block_type;
 use std::alloc::Global;
 use wa_types::{Instr, NumOp};
@@ -133,10 +133,9 @@ fn put_numeric(
     ensures puts { Puts op result body.old.items body.new.items input.old input.new }
     ensures left { length input.new.left ≤ length input.old.left }
 {
-    match op {
-        0x45..=0x5A => put_number(body, comparison(op)),
-        0x67..=0x8A => put_number(body, arithmetic(op)),
-        _ => put_one(alloc, input, body, op),
+    match NumOp::of_opcode(op) {
+        Some(n) => put_number(body, n),
+        None => put_one(alloc, input, body, op),
     }
 }
 
