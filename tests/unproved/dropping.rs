@@ -1,0 +1,59 @@
+//! Trees that are dropped without recursion. The tests have so little stack that a tree of 3,008 levels doesn't fit when it is dropped level in level.
+
+use crate::limits::nested;
+use std::alloc::{AllocError, Global};
+use std::test::Fail;
+use wa_types::{Bounds, Instr, Module, drop_body};
+use wasm_reader::{ReadFault, Reader};
+
+/// So many constructs inside one another, each kind in turn, with an instruction before and behind each.
+fn deep(alloc: Global, levels: u32) -> Result<Vec<Instr>, AllocError> {
+    let mut body = Vec::new(alloc);
+    for level in 0..levels {
+        let other = vec![in alloc; Instr::Nop]?;
+        let around = match level % 4 {
+            0 => Instr::Block { result: None, body },
+            1 => Instr::Loop { result: None, body },
+            2 => Instr::If {
+                result: None,
+                then_arm: body,
+                else_arm: other,
+            },
+            _ => Instr::If {
+                result: None,
+                then_arm: other,
+                else_arm: body,
+            },
+        };
+        body = vec![in alloc; Instr::Nop, around, Instr::Drop]?;
+    }
+    Ok(body)
+}
+
+#[test]
+fn a_hundred_thousand_levels_are_dropped(rt: HostRuntime) -> Result<(), Fail> {
+    drop_body(deep(rt.alloc(), 100_000)?);
+    Ok(())
+}
+
+/// The module of this file, which comes in pieces.
+fn in_pieces(alloc: Global, file: &[u8]) -> Result<Module, ReadFault> {
+    let mut reader = Reader::new(alloc, Bounds::prepared());
+    for piece in file.chunks(1_000) {
+        reader.feed(piece)?;
+    }
+    reader.finish()
+}
+
+#[test]
+fn the_deepest_prepared_module_is_read_in_pieces_and_dropped(rt: HostRuntime) -> Result<(), Fail> {
+    let alloc = rt.alloc();
+    let file = nested(alloc, b"\x0A\xC5\x46\x01\xC2\x46\0", 3_008)?;
+    let Ok(module) = in_pieces(alloc, &file) else {
+        assert!(rt; false);
+        return Ok(());
+    };
+    assert_eq!(rt; module.funcs.len(), 1);
+    drop(module);
+    Ok(())
+}
