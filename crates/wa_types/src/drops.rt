@@ -1,8 +1,7 @@
-//! Modules and what holds code are dropped without recursion.
+//! Trees of instructions, dropped level by level.
 //!
-//! What a compiler writes to drop a tree of instructions goes as deep as its constructs nest. Here a body is taken apart level by level: the
-//! bodies that are begun wait in a list, at most two a level of nesting; where there is no memory for the list, a body that would wait is
-//! dropped as the compiler drops it.
+//! What a compiler writes to drop a tree goes as deep as its constructs nest. Here a body is taken apart: the bodies that are begun wait in a
+//! list, at most two a level of nesting; where there is no memory for the list, a body that would wait is dropped as the compiler drops it.
 
 ghost use Rattle.std.specs.Prelude.{◌≤◌, ◌+◌, ◌*◌};
 ghost use Rattle.wa_types.specs.Counts.{count_of};
@@ -11,70 +10,7 @@ ghost use Rattle.wa_types.specs.View.{code, in_front};
 ghost use Rattle.wa_types.specs.Dropping.{left};
 
 use crate::instrs::Instr;
-use crate::syntax::{Elem, Func, GlobalDef, Module, Segment};
 use std::mem;
-
-impl Drop for Func {
-    fn drop(self) {
-        let Func {
-            sort: _,
-            locals: _,
-            body,
-        } = self;
-        drop_body(body);
-    }
-}
-
-impl Drop for GlobalDef {
-    fn drop(self) {
-        let GlobalDef {
-            ty: _,
-            mutable: _,
-            init,
-        } = self;
-        drop_body(init);
-    }
-}
-
-impl Drop for Elem {
-    fn drop(self) {
-        let Elem {
-            table: _,
-            offset,
-            funcs: _,
-        } = self;
-        drop_body(offset);
-    }
-}
-
-impl Drop for Segment {
-    fn drop(self) {
-        let Segment {
-            memory: _,
-            offset,
-            bytes: _,
-        } = self;
-        drop_body(offset);
-    }
-}
-
-impl Drop for Module {
-    fn drop(self) {
-        let Module {
-            types: _,
-            imports: _,
-            funcs: _,
-            tables: _,
-            memories: _,
-            globals: _,
-            exports: _,
-            start: _,
-            elems: _,
-            segments: _,
-            customs: _,
-        } = self;
-    }
-}
 
 /// Drops a body. Takes the same native stack however deep it nests, and time linear in its size.
 pub fn drop_body(body: Vec<Instr>) {

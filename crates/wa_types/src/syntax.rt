@@ -1,5 +1,6 @@
 //! Modules and what they list: types, imports, functions, tables, memories, globals, exports, segments (standard, section 2.5).
 
+use crate::drops::drop_body;
 use crate::instrs::Instr;
 use crate::names::Name;
 use crate::values::ValType;
@@ -27,6 +28,17 @@ pub struct Func {
     pub body: Vec<Instr>,
 }
 
+impl Drop for Func {
+    fn drop(self) {
+        let Func {
+            sort: _,
+            locals: _,
+            body,
+        } = self;
+        drop_body(body);
+    }
+}
+
 /// The limits of a table in entries, or of a memory in pages of 65,536 bytes (standard, section 2.3.4).
 #[derive(Clone, Copy, Debug, PartialEq, Eq)]
 pub struct Limits {
@@ -40,6 +52,17 @@ pub struct GlobalDef {
     pub ty: ValType,
     pub mutable: bool,
     pub init: Vec<Instr>,
+}
+
+impl Drop for GlobalDef {
+    fn drop(self) {
+        let GlobalDef {
+            ty: _,
+            mutable: _,
+            init,
+        } = self;
+        drop_body(init);
+    }
 }
 
 /// What is imported (standard, section 2.5.11): a function by the index of its type, a table, a memory, or
@@ -85,12 +108,34 @@ pub struct Elem {
     pub funcs: Vec<u32>,
 }
 
+impl Drop for Elem {
+    fn drop(self) {
+        let Elem {
+            table: _,
+            offset,
+            funcs: _,
+        } = self;
+        drop_body(offset);
+    }
+}
+
 /// A data segment (standard, section 2.5.8); `offset` is an expression without its end.
 #[derive(Debug)]
 pub struct Segment {
     pub memory: u32,
     pub offset: Vec<Instr>,
     pub bytes: Vec<u8>,
+}
+
+impl Drop for Segment {
+    fn drop(self) {
+        let Segment {
+            memory: _,
+            offset,
+            bytes: _,
+        } = self;
+        drop_body(offset);
+    }
 }
 
 /// A custom section (standard, section 5.5.3). It stands behind all known sections of an id up to `after`;
@@ -116,4 +161,22 @@ pub struct Module {
     pub elems: Vec<Elem>,
     pub segments: Vec<Segment>,
     pub customs: Vec<Custom>,
+}
+
+impl Drop for Module {
+    fn drop(self) {
+        let Module {
+            types: _,
+            imports: _,
+            funcs: _,
+            tables: _,
+            memories: _,
+            globals: _,
+            exports: _,
+            start: _,
+            elems: _,
+            segments: _,
+            customs: _,
+        } = self;
+    }
 }
