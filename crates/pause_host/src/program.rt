@@ -168,7 +168,7 @@ impl<'m> Program<'m> {
         ensures again { IfOk result (λ event. (event_of event ≡ ended end) × (self.new ≡ record self.old { state = State.Failed end })) }
     {
         let told = copy_end(self.setting.alloc, &end)?;
-        self.state = State::Failed(end);
+        self.put_state(State::Failed(end));
         Ok(Event::Ended(told))
     }
 
@@ -197,7 +197,7 @@ impl<'m> Program<'m> {
     {
         let told = copy_end(self.setting.alloc, &end)?;
         let stage = Stage::Ended(end);
-        self.state = State::Live { instance, stage };
+        self.put_state(State::Live { instance, stage });
         Ok(Event::Ended(told))
     }
 
@@ -225,7 +225,7 @@ impl<'m> Program<'m> {
         )?;
         self.steps_left = steps.left;
         let stage = moved.stage;
-        self.state = State::Live { instance, stage };
+        self.put_state(State::Live { instance, stage });
         Ok(moved.event)
     }
 
@@ -253,8 +253,15 @@ impl<'m> Program<'m> {
         )?;
         self.steps_left = steps.left;
         let stage = moved.stage;
-        self.state = State::Live { instance, stage };
+        self.put_state(State::Live { instance, stage });
         Ok(moved.event)
+    }
+
+    // Where the program stands from here on. What it held there before is dropped.
+    fn put_state(&mut self, state: State<'m>)
+        ensures { self.new ≡ record self.old { state = state.entry } }
+    {
+        self.state = state;
     }
 
     /// Bytes of the memory. None exactly where the program has no instance or the range isn't inside its memory.
