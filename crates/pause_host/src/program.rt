@@ -32,7 +32,6 @@ pub(crate) enum State<'m> {
 }
 
 /// A program: a plan over a prepared module, on its way.
-#[derive(Drop)]
 pub struct Program<'m> {
     valid: &'m Valid,
     globals: Vec<Value>,
@@ -275,6 +274,21 @@ impl<'m> Program<'m> {
             None => None,
             Some(memory) => shown(memory, at, len),
         }
+    }
+}
+
+// Written out and not derived: who holds programs then calls it, and nothing of what a program consists of is dropped there.
+impl Drop for Program<'_> {
+    fn drop(self) {
+        let Program {
+            valid: _,
+            globals: _,
+            setting: _,
+            left: _,
+            answers: _,
+            steps_left: _,
+            state: _,
+        } = self;
     }
 }
 
