@@ -52,13 +52,13 @@ pub entering : (ls : List Level) (l : Level) (body : List Instr) (c : Code) (n :
     → to_close l.opened + 3 * count_of (code l.behind.now) + 3 * count_of (code body) < n → GoesOn (around ls (onto l.before.items c)) (owed ls + n) new
 entering ls l body c n new e is less = record {
   same =
-    ap (λ k. around k (onto new.made.items (code new.left.now))) e.opens ∙ around_last ls l (onto new.made.items (code new.left.now))
-    ∙ ap (λ b. around ls (onto l.before.items (closed l.opened l.ty b (code l.behind.now)))) (ap (λ s. onto s (code new.left.now)) e.none_made ∙ onto_none _ ∙ ap code e.comes)
-    ∙ ap (λ b. around ls (onto l.before.items b)) is;
+      ap (λ k. around k (onto new.made.items (code new.left.now))) e.opens ∙ around_last ls l (onto new.made.items (code new.left.now))
+      ∙ ap (λ b. around ls (onto l.before.items (closed l.opened l.ty b (code l.behind.now)))) (ap (λ s. onto s (code new.left.now)) e.none_made ∙ onto_none _ ∙ ap code e.comes)
+      ∙ ap (λ b. around ls (onto l.before.items b)) is;
   less =
-    let owes : owed new.levels.items ≡ owed ls + (to_close l.opened + 3 * count_of (code l.behind.now)) = ap owed e.opens ∙ owed_last ls l in
-    let comes : count_of (code new.left.now) ≡ count_of (code body) = ap (λ b. count_of (code b)) e.comes in
-    omega (arith, owes, comes, less)
+      let owes : owed new.levels.items ≡ owed ls + (to_close l.opened + 3 * count_of (code l.behind.now)) = ap owed e.opens ∙ owed_last ls l in
+      let comes : count_of (code new.left.now) ≡ count_of (code body) = ap (λ b. count_of (code b)) e.comes in
+      omega (arith, owes, comes, less);
 }
 
 -- an instruction that holds no other is put
@@ -67,9 +67,9 @@ pub putting : (old new : Copying) (x : Instr) → new.levels ≡ old.levels → 
 putting old new x levels left made = record {
   same = (λ j. around (levels j).items (onto new.made.items (code (left j).now))) ∙ ap (around old.levels.items) (made _);
   less =
-    let owes : owed new.levels.items ≡ owed old.levels.items = ap (λ v. owed v.items) levels in
-    let stays : count_of (code new.left.now) ≡ count_of (code old.left.now) = ap (λ s. count_of (code s.now)) left in
-    omega (arith, owes, stays, count_front x (code old.left.now))
+      let owes : owed new.levels.items ≡ owed old.levels.items = ap (λ v. owed v.items) levels in
+      let stays : count_of (code new.left.now) ≡ count_of (code old.left.now) = ap (λ s. count_of (code s.now)) left in
+      omega (arith, owes, stays, count_front x (code old.left.now));
 }
 
 -- a construct is put, whose body is made
@@ -77,11 +77,11 @@ pub closing : (ls : List Level) (l : Level) (y : Instr) (c : Code) (new : Copyin
     → in_front y (code l.behind.now) ≡ c → GoesOn (around ls (onto l.before.items c)) (owed (ls ++ l ∷ [])) new
 closing ls l y c new levels made left is = record {
   same =
-    (λ j. around (levels j) (onto (made j) (code (left j).now))) ∙ ap (around ls) (onto_append l.before.items y (code l.behind.now)) ∙ ap (λ b. around ls (onto l.before.items b)) is;
+      (λ j. around (levels j) (onto (made j) (code (left j).now))) ∙ ap (around ls) (onto_append l.before.items y (code l.behind.now)) ∙ ap (λ b. around ls (onto l.before.items b)) is;
   less =
-    let owes : owed new.levels.items ≡ owed ls = ap owed levels in
-    let stays : count_of (code new.left.now) ≡ count_of (code l.behind.now) = ap (λ s. count_of (code s.now)) left in
-    omega (arith, owes, stays, owed_last ls l, owes_some l.opened)
+      let owes : owed new.levels.items ≡ owed ls = ap owed levels in
+      let stays : count_of (code new.left.now) ≡ count_of (code l.behind.now) = ap (λ s. count_of (code s.now)) left in
+      omega (arith, owes, stays, owed_last ls l, owes_some l.opened);
 }
 
 -- a block, a loop or an if is opened
@@ -91,7 +91,7 @@ pub opening_block : (old new : Copying) (x : Instr) (r : Option ValType) (v : Ve
 unfolding count_of
 opening_block old new x r v body is b e =
     let same : in_front x (code old.left.now) ≡ nest a_block r (code body) (code old.left.now) =
-      ap (λ y. in_front y (code old.left.now)) is ∙ in_block r v (code old.left.now) ∙ ap (λ s. nest a_block r (code s) (code old.left.now)) (sym b) in
+    ap (λ y. in_front y (code old.left.now)) is ∙ in_block r v (code old.left.now) ∙ ap (λ s. nest a_block r (code s) (code old.left.now)) (sym b) in
     let counts : count_of (in_front x (code old.left.now)) ≡ 1 + count_of (code body) + count_of (code old.left.now) = ap count_of same in
     entering old.levels.items (record { before = old.made; ty = r; opened = Block; behind = old.left }) body (in_front x (code old.left.now)) _ new e (sym same) (omega (arith, counts))
 
@@ -101,7 +101,7 @@ pub opening_loop : (old new : Copying) (x : Instr) (r : Option ValType) (v : Vec
 unfolding count_of
 opening_loop old new x r v body is b e =
     let same : in_front x (code old.left.now) ≡ nest a_loop r (code body) (code old.left.now) =
-      ap (λ y. in_front y (code old.left.now)) is ∙ in_loop r v (code old.left.now) ∙ ap (λ s. nest a_loop r (code s) (code old.left.now)) (sym b) in
+    ap (λ y. in_front y (code old.left.now)) is ∙ in_loop r v (code old.left.now) ∙ ap (λ s. nest a_loop r (code s) (code old.left.now)) (sym b) in
     let counts : count_of (in_front x (code old.left.now)) ≡ 1 + count_of (code body) + count_of (code old.left.now) = ap count_of same in
     entering old.levels.items (record { before = old.made; ty = r; opened = Loop; behind = old.left }) body (in_front x (code old.left.now)) _ new e (sym same) (omega (arith, counts))
 
@@ -111,7 +111,7 @@ pub opening_if : (old new : Copying) (x : Instr) (r : Option ValType) (v w : Vec
 unfolding count_of
 opening_if old new x r v w body other is b o e =
     let same : in_front x (code old.left.now) ≡ branch r (code body) (code other.now) (code old.left.now) =
-      ap (λ y. in_front y (code old.left.now)) is ∙ in_if r v w (code old.left.now) ∙ (λ j. branch r (code (sym b j)) (code (sym o j)) (code old.left.now)) in
+    ap (λ y. in_front y (code old.left.now)) is ∙ in_if r v w (code old.left.now) ∙ (λ j. branch r (code (sym b j)) (code (sym o j)) (code old.left.now)) in
     let counts : count_of (in_front x (code old.left.now)) ≡ 1 + count_of (code body) + count_of (code other.now) + count_of (code old.left.now) = ap count_of same in
     entering old.levels.items (record { before = old.made; ty = r; opened = Then other; behind = old.left }) body (in_front x (code old.left.now)) _ new e (sym same) (omega (arith, counts))
 
@@ -122,13 +122,13 @@ pub turning : (ls : List Level) (level : Level) (before inner made : Vec Instr G
 turning ls level before inner made arm new b m is e =
     let rest : Code = code level.behind.now in
     let opens : branch level.ty (code inner.items) (code arm.now) rest ≡ closed level.opened level.ty (code made.items) rest =
-      ap (λ (v : Vec Instr Global). branch level.ty (code v.items) (code arm.now) rest) m ∙ ap (λ o. closed o level.ty (code made.items) rest) (sym is) in
+    ap (λ (v : Vec Instr Global). branch level.ty (code v.items) (code arm.now) rest) m ∙ ap (λ o. closed o level.ty (code made.items) rest) (sym is) in
     let pays : to_close level.opened ≡ 3 * count_of (code arm.now) + 2 = ap to_close is in
     let goes : GoesOn (around ls (onto before.items (closed level.opened level.ty (code made.items) rest))) (owed ls + (to_close level.opened + 3 * count_of rest)) new =
-      entering ls (record { before = before; ty = level.ty; opened = Else inner; behind = level.behind }) arm.now (closed level.opened level.ty (code made.items) rest) (to_close level.opened + 3 * count_of rest) new e
-        opens (omega (arith, pays)) in
+    entering ls (record { before = before; ty = level.ty; opened = Else inner; behind = level.behind }) arm.now (closed level.opened level.ty (code made.items) rest) (to_close level.opened + 3 * count_of rest) new e
+    opens (omega (arith, pays)) in
     subst (λ n. GoesOn (around ls (onto level.before.items (closed level.opened level.ty (code made.items) rest))) n new) (sym (owed_last ls level))
-      (subst (λ (v : Vec Instr Global). GoesOn (around ls (onto v.items (closed level.opened level.ty (code made.items) rest))) (owed ls + (to_close level.opened + 3 * count_of rest)) new) b goes)
+    (subst (λ (v : Vec Instr Global). GoesOn (around ls (onto v.items (closed level.opened level.ty (code made.items) rest))) (owed ls + (to_close level.opened + 3 * count_of rest)) new) b goes)
 
 -- what is made is what the innermost construct stands for
 pub closed_last : (ls rest : List Level) (level : Level) (made : List Instr) (left : List Instr) → ls ≡ rest ++ level ∷ [] → left ≡ []

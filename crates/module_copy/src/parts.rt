@@ -37,7 +37,10 @@ pub(crate) fn copy_imports(alloc: Global, imports: &[Import]) -> Result<Vec<Impo
 }
 
 #[tactic(auto, using(crate::proofs::Copying::mapping))]
-pub(crate) fn copy_globals(alloc: Global, globals: &[GlobalDef]) -> Result<Vec<GlobalDef>, AllocError>
+pub(crate) fn copy_globals(
+    alloc: Global,
+    globals: &[GlobalDef],
+) -> Result<Vec<GlobalDef>, AllocError>
     ensures { IfOk result (λ v. map global_of v.items ≡ map global_of globals.now) }
 {
     let mut out = Vec::with_capacity(alloc, globals.len())?;

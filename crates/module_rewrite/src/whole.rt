@@ -14,8 +14,8 @@ use crate::emitting::{FuncLayout, emit_funcs};
 use crate::fault::RewriteFault;
 use asyncify_runtime::{RuntimeFault, add_runtime, ids_behind, reserved};
 use call_graph::{Settings, listed_imports, may_pause};
-use std::alloc::Global;
 use module_copy::copy_around;
+use std::alloc::Global;
 use wa_types::Module;
 use wasm_validate::{Valid, ValidateFault, validate};
 

@@ -12,7 +12,7 @@ pub left-smaller-in_ok-copy_next-in-Some : goal.left-smaller-in_ok-copy_next-in-
 left-smaller-in_ok-copy_next-in-Some c =
     let first = code_first c.left.copying.left.now c.in-Some.instr.now c.in-Some.behind.now c.in-Some.ensures.cases.0 in
     let less : to_do c.copy_next.new.copying < to_do c.left.copying =
-      subst (λ k. to_do c.copy_next.new.copying < owed c.left.copying.levels.items + 3 * count_of k) (sym first) c.in_ok-copy_next-in-Some.ensures.less in
+    subst (λ k. to_do c.copy_next.new.copying < owed c.left.copying.levels.items + 3 * count_of k) (sym first) c.in_ok-copy_next-in-Some.ensures.less in
     less
 
 pub left-preserved-in_ok-copy_next-in-Some : goal.left-preserved-in_ok-copy_next-in-Some
@@ -29,5 +29,5 @@ left-preserved c =
 pub returns-in-None-pop : goal.returns-in-None-pop
 returns-in-None-pop c =
     ends c.left.copying.made.items c.left.copying.left.now c.left.copying.levels.items
-      (no_level c.left.copying.levels.items c.left.copying.levels.len c.left.copying.levels.ok.0 c.in-None-pop.ensures.cases.0) (none_left c.left.copying.left.now c.in-None.ensures.cases)
+    (no_level c.left.copying.levels.items c.left.copying.levels.len c.left.copying.levels.ok.0 c.in-None-pop.ensures.cases.0) (none_left c.left.copying.left.now c.in-None.ensures.cases)
     ∙ c.left.invariant

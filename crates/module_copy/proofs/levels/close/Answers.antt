@@ -10,8 +10,8 @@ use Rattle.module_copy.proofs.levels.close.Goals.{in-Block, in-Loop, in-Else}
 pub returns-in-Then : goal.returns-in-Then
 returns-in-Then c =
     on_ok_weaker c.enter.result
-      (turning c.args.copying.now.levels.items c.args.level c.replace-inner.new.dest c.replace-inner.result c.args.copying.now.made c.in-Then.else_arm c.enter.new.copying c.replace-inner.ensures.after
-        c.replace-inner.ensures.value c.in-Then.is) c.enter.ensures
+    (turning c.args.copying.now.levels.items c.args.level c.replace-inner.new.dest c.replace-inner.result c.args.copying.now.made c.in-Then.else_arm c.enter.new.copying c.replace-inner.ensures.after
+    c.replace-inner.ensures.value c.in-Then.is) c.enter.ensures
 
 pub returns : goal.returns
 returns c =
@@ -24,5 +24,5 @@ returns c =
           ∙ ap (λ o. closed o level.ty (code c.replace-inner.result.items) rest) (sym w.in-Else.is)
     ] in
     closing c.args.copying.now.levels.items level c.match-opened.construct (closed level.opened level.ty (code c.args.copying.now.made.items) rest) _ refl
-      (c.in_ok-push.ensures.items ∙ ap (λ (v : _). v.items ++ c.match-opened.construct ∷ []) c.replace-inner.ensures.after) refl
-      (is ∙ ap (λ (v : _). closed level.opened level.ty (code v.items) rest) c.replace-inner.ensures.value)
+    (c.in_ok-push.ensures.items ∙ ap (λ (v : _). v.items ++ c.match-opened.construct ∷ []) c.replace-inner.ensures.after) refl
+    (is ∙ ap (λ (v : _). closed level.opened level.ty (code v.items) rest) c.replace-inner.ensures.value)

@@ -13,13 +13,13 @@ returns-in-Block c =
 pub returns-in-Loop : goal.returns-in-Loop
 returns-in-Loop c =
     on_ok_weaker c.enter-in-Loop.result
-      (opening_loop c.args.copying.now c.enter-in-Loop.new.copying c.args.instr.now c.in-Loop.result c.in-Loop.body c.deref-in-Loop.result.now c.in-Loop.is c.deref-in-Loop.ensures.value) c.enter-in-Loop.ensures
+    (opening_loop c.args.copying.now c.enter-in-Loop.new.copying c.args.instr.now c.in-Loop.result c.in-Loop.body c.deref-in-Loop.result.now c.in-Loop.is c.deref-in-Loop.ensures.value) c.enter-in-Loop.ensures
 
 pub returns-in-If : goal.returns-in-If
 returns-in-If c =
     on_ok_weaker c.enter-in-If.result
-      (opening_if c.args.copying.now c.enter-in-If.new.copying c.args.instr.now c.in-If.result c.in-If.then_arm c.in-If.else_arm c.deref-in-If-2.result.now c.deref-in-If.result c.in-If.is
-        c.deref-in-If-2.ensures.value c.deref-in-If.ensures.value) c.enter-in-If.ensures
+    (opening_if c.args.copying.now c.enter-in-If.new.copying c.args.instr.now c.in-If.result c.in-If.then_arm c.in-If.else_arm c.deref-in-If-2.result.now c.deref-in-If.result c.in-If.is
+    c.deref-in-If-2.ensures.value c.deref-in-If.ensures.value) c.enter-in-If.ensures
 
 pub returns-in_default : goal.returns-in_default
 returns-in_default c =
