@@ -30,6 +30,7 @@ pub enum ImmediateForm {
 }
 
 /// What follows this opcode.
+#[tactic(auto, using(crate::proofs::OpcodeRows::row_numeric))]
 #[inline(always)]
 pub fn immediate_form(op: u8) -> Option<ImmediateForm>
     ensures { follows_of result ≡ follows op }
