@@ -130,3 +130,43 @@ fn too_many_bytes_pass_the_limit_before_they_are_looked_at(rt: HostRuntime) -> R
     assert_eq!(rt; reader.finish().err(), Some(fault));
     Ok(())
 }
+
+/// The greatest number of bytes that is held of a file that comes byte by byte.
+fn most_held(alloc: Global, file: &[u8]) -> Result<usize, ReadFault> {
+    let mut reader = Reader::new(alloc, Bounds::source());
+    let mut most = 0;
+    for piece in file.chunks(1) {
+        reader.feed(piece)?;
+        most = most.max(reader.held());
+    }
+    Ok(most)
+}
+
+#[test]
+fn of_a_data_section_one_segment_is_held(rt: HostRuntime) -> Result<(), Fail> {
+    let alloc = rt.alloc();
+    let mut file = Vec::from_slice(alloc, b"\0asm\x01\0\0\0\x0b\x8e\x04\x05")?;
+    for _segment in 0..5 {
+        file.extend_from_slice(b"\x00\x41\x00\x0b\x64")?;
+        file.extend_from_slice(&[7; 100])?;
+    }
+    assert_eq!(rt; most_held(alloc, &file), Ok(104));
+    let whole = read(alloc, &file, &Bounds::source());
+    assert!(rt; alike(alloc, in_pieces(alloc, &file, 1), whole));
+    Ok(())
+}
+
+#[test]
+fn of_long_elements_at_most_as_much_again_is_held(rt: HostRuntime) -> Result<(), Fail> {
+    let alloc = rt.alloc();
+    let mut file = Vec::from_slice(alloc, b"\0asm\x01\0\0\0\x09\xdd\x0f\x02")?;
+    for _segment in 0..2 {
+        file.extend_from_slice(b"\x00\x41\x00\x0b\xe8\x07")?;
+        file.extend_from_slice(&[7; 1_000])?;
+    }
+    let most = most_held(alloc, &file);
+    assert!(rt; most.is_ok_and(|most| most < 2_012), "{most:?}");
+    let whole = read(alloc, &file, &Bounds::source());
+    assert!(rt; alike(alloc, in_pieces(alloc, &file, 1), whole));
+    Ok(())
+}

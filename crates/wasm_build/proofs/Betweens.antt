@@ -6,9 +6,8 @@ use Rattle.wa_types.specs.Spells.{◌▸◌, Exactly, Number, Items, Vector}
 use Rattle.wa_types.specs.Reading.{Each}
 use Rattle.wasm_cursor.specs.declared.front.NotSpelled.{NotSpelled}
 use Rattle.wasm_build.specs.declared.BuildFault.{BuildFault}
-use Rattle.wasm_build.specs.declared.BuildFault.TheVariants.{Memory}
-use Rattle.wasm_cursor.specs.Places.{Place, behind, ReadsNumber}
-use Rattle.wasm_build.specs.Builds.{Between, SpelledAs, SpelledBehind, Gives, Builds}
+use Rattle.wasm_cursor.specs.Places.{Place, behind, with_more, ReadsNumber}
+use Rattle.wasm_build.specs.Builds.{Between, SpelledAs, SpelledBehind, SpelledOnto, IsWant, Gives, Builds}
 
 -- two parts, and the place between them
 pub record Parts (P Q : ℕ → List ℕ → Type 0) (from to : Place) : Type 0 where
@@ -50,21 +49,14 @@ here_is : (from to : Place) (front : List ℕ) → to.at ≡ from.at + length fr
 here_is from to front e = ap (λ k. record { at = k; left = to.left }) (sym e)
 
 -- a number that is read
-pub number_passed : (Spells : List ℕ → ℕ → Type 0) (r : Result ℕ NotSpelled) (old new end : Place) (n : ℕ) → ReadsNumber Spells r old new → Between (λ at bytes. Spells bytes n) old end
-    → (r ≡ Ok n) × (new ≡ end)
-number_passed Spells r old new end n f b =
-    let g = f n b.front end.left b.left b.spelled in (g.0, g.1 ∙ here_is old end b.front b.place)
+pub number_is : (Spells : List ℕ → ℕ → Type 0) (v : ℕ) (old new : Place) (more : List ℕ) (end : Place) (n : ℕ) → ReadsNumber Spells (Ok v) old new
+    → Between (λ at bytes. Spells bytes n) (with_more old more) end → (v ≡ n) × (with_more new more ≡ end)
+number_is Spells v old new more end n f b =
+    let g = f n b.front end.left more b.left b.spelled in (g.0, g.1 ∙ here_is old end b.front b.place)
 
-ok_injective : {A E : Type 0} (x y : A) (r : Result A E) → r ≡ Ok x → r ≡ Ok y → x ≡ y
-ok_injective x y r e f = cc
-
-pub number_is : (Spells : List ℕ → ℕ → Type 0) (v : ℕ) (old new end : Place) (n : ℕ) → ReadsNumber Spells (Ok v) old new → Between (λ at bytes. Spells bytes n) old end → (v ≡ n) × (new ≡ end)
-number_is Spells v old new end n f b =
-    let g = number_passed Spells (Ok v) old new end n f b in (ok_injective v n _ refl g.0, g.1)
-
-pub number_fails : (Spells : List ℕ → ℕ → Type 0) (d : NotSpelled) (old new end : Place) (n : ℕ) → ReadsNumber Spells (Err d) old new → Between (λ at bytes. Spells bytes n) old end → ⊥
-number_fails Spells d old new end n f b =
-    let g = number_passed Spells (Err d) old new end n f b in let e = g.0 in cc
+pub number_fails : (Spells : List ℕ → ℕ → Type 0) (d : NotSpelled) (old new : Place) (more : List ℕ) (end : Place) (n : ℕ) → ReadsNumber Spells (Err d) old new
+    → Between (λ at bytes. Spells bytes n) (with_more old more) end → more ≡ [] → ⊥
+number_fails Spells d old new more end n f b = f n b.front end.left more b.left b.spelled
 
 -- a byte that is read
 pub byte_is : (v k : ℕ) (old new end : Place) → old.left ≡ v ∷ new.left → new.at ≡ old.at + 1 → Between (Exactly (k ∷ [])) old end → (v ≡ k) × (new ≡ end)
@@ -79,8 +71,12 @@ no_byte k old end e b =
     let whole : [] ≡ k ∷ end.left = sym e ∙ b.left ∙ ap (λ z. z ++ end.left) b.spelled in cc
 
 -- the exit of a `?` with this error
-pub fails : {A X : Type 0} (view : A → X) (r : Result A BuildFault) (x : X) (new end : Place) (d y : BuildFault) → r ≡ Err y → y ≡ d → d ≡ Memory → Gives view r x new end
-fails view r x new end d y e f g = let P : Result _ BuildFault → Type 0 = λ q. Gives view q x new end in subst P (sym e) (f ∙ g)
+pub fails : {A X : Type 0} (view : A → X) (more : List ℕ) (r : Result A BuildFault) (x : X) (new end : Place) (d y : BuildFault) → r ≡ Err y → y ≡ d → IsWant more d → Gives view more r x new end
+fails view more r x new end d y e f g = let P : Result _ BuildFault → Type 0 = λ q. Gives view more q x new end in subst P (sym e) (λ none. f ∙ g none)
+
+-- the same where nothing was to be read unless more bytes follow
+pub lacks : {A X : Type 0} (view : A → X) (more : List ℕ) (r : Result A BuildFault) (x : X) (new end : Place) (y : BuildFault) → r ≡ Err y → (more ≡ [] → ⊥) → Gives view more r x new end
+lacks view more r x new end y e f = fails view more r x new end y y e refl (λ none. absurd (f none))
 
 -- These are read of the list, and the rest of it is spelled from here on.
 pub record Going {A X : Type 0} (view : A → X) (Spelled : X → ℕ → List ℕ → Type 0) (count : ℕ) (got : List A) (here end : Place) (xs : List X) : Type 0 where
@@ -91,19 +87,19 @@ pub record Going {A X : Type 0} (view : A → X) (Spelled : X → ℕ → List �
 
 -- For whatever vector is spelled, these are read of it.
 pub record Keeps {A X : Type 0} (view : A → X) (Spelled : X → ℕ → List ℕ → Type 0) (count : ℕ) (old : Place) (got : List A) (here : Place) : Type 0 where
-  pub going : (xs : List X) (end : Place) → Between (Vector Spelled xs) old end → Going view Spelled count got here end xs
+  pub going : (more : List ℕ) (xs : List X) (end : Place) → Between (Vector Spelled xs) (with_more old more) end → Going view Spelled count got (with_more here more) end xs
 
 pub keeps_none : {A X : Type 0} (view : A → X) (Spelled : X → ℕ → List ℕ → Type 0) (count : ℕ) (old new : Place) (got : List A) → ReadsNumber (IsUnsigned 32) (Ok count) old new → got ≡ []
     → Keeps view Spelled count old got new
 keeps_none view Spelled count old new got f e = record {
-  going = λ xs end b.
-      let k = parts (Number (length xs)) (Items Spelled xs) old end b in
-      let n = number_is (IsUnsigned 32) count old new k.middle (length xs) f k.first in
+  going = λ more xs end b.
+      let k = parts (Number (length xs)) (Items Spelled xs) (with_more old more) end b in
+      let n = number_is (IsUnsigned 32) count old new more k.middle (length xs) f k.first in
       record {
         counted = n.0;
         rest = xs;
         whole = ap (λ s. map view s ++ xs) e;
-        between = behind_first _ _ old end new k n.1;
+        between = behind_first _ _ (with_more old more) end (with_more new more) k n.1;
       };
 }
 
@@ -139,10 +135,10 @@ next view Spelled count got here end xs g k = next_of view Spelled got here end 
 pub keeps_more : {A X : Type 0} (view : A → X) (Spelled : X → ℕ → List ℕ → Type 0) (count : ℕ) (old here new : Place) (got more : List A) (a : A) → Keeps view Spelled count old got here
     → length got < count → Builds view Spelled (Ok a) here new → more ≡ got ++ a ∷ [] → Keeps view Spelled count old more new
 keeps_more view Spelled count old here new got more a k some read f = record {
-  going = λ xs end b.
-      let g = k.going xs end b in
-      let n = next view Spelled count got here end xs g some in
-      let r = read.built n.item n.middle n.first in
+  going = λ tail xs end b.
+      let g = k.going tail xs end b in
+      let n = next view Spelled count got (with_more here tail) end xs g some in
+      let r = read.built tail n.item n.middle n.first in
       record {
         counted = g.counted;
         rest = n.more;
@@ -153,10 +149,10 @@ keeps_more view Spelled count old here new got more a k some read f = record {
 }
 
 pub keeps_stop : {A X : Type 0} (view : A → X) (Spelled : X → ℕ → List ℕ → Type 0) (count : ℕ) (old here new : Place) (got : List A) (d : BuildFault) → Keeps view Spelled count old got here
-    → length got < count → Builds view Spelled (Err d) here new → (xs : List X) (end : Place) → Between (Vector Spelled xs) old end → d ≡ Memory
-keeps_stop view Spelled count old here new got d k some read xs end b =
-    let n = next view Spelled count got here end xs (k.going xs end b) some in
-    read.built n.item n.middle n.first
+    → length got < count → Builds view Spelled (Err d) here new → (more : List ℕ) (xs : List X) (end : Place) → Between (Vector Spelled xs) (with_more old more) end → IsWant more d
+keeps_stop view Spelled count old here new got d k some read more xs end b =
+    let n = next view Spelled count got (with_more here more) end xs (k.going more xs end b) some in
+    read.built more n.item n.middle n.first
 
 ends_of : {A X : Type 0} (view : A → X) (Spelled : X → ℕ → List ℕ → Type 0) (got : List A) (here end : Place) (xs rest : List X) → map view got ++ rest ≡ xs
     → Between (Items Spelled rest) here end → length got ≡ length xs → (map view got ≡ xs) × (here ≡ end)
@@ -169,10 +165,10 @@ ends_of view Spelled got here end xs (x ∷ more) e b k =
 
 -- all of them are read
 pub keeps_all : {A X : Type 0} (view : A → X) (Spelled : X → ℕ → List ℕ → Type 0) (count : ℕ) (old here : Place) (got : List A) → Keeps view Spelled count old got here → length got ≡ count
-    → (xs : List X) (end : Place) → Between (Vector Spelled xs) old end → (map view got ≡ xs) × (here ≡ end)
-keeps_all view Spelled count old here got k whole xs end b =
-    let g = k.going xs end b in
-    ends_of view Spelled got here end xs g.rest g.whole g.between (whole ∙ g.counted)
+    → (more : List ℕ) (xs : List X) (end : Place) → Between (Vector Spelled xs) (with_more old more) end → (map view got ≡ xs) × (with_more here more ≡ end)
+keeps_all view Spelled count old here got k whole more xs end b =
+    let g = k.going more xs end b in
+    ends_of view Spelled got (with_more here more) end xs g.rest g.whole g.between (whole ∙ g.counted)
 
 -- a vector of what the file spells is one of what is left of it
 as_items : {R X : Type 0} (Spelled : R → ℕ → List ℕ → Type 0) (Is : R → X → Type 0) (raws : List R) (xs : List X) (at : ℕ) (bytes : List ℕ) → Each Is raws xs → Items Spelled raws at bytes
@@ -193,10 +189,14 @@ pub as_vector : {R X : Type 0} (Spelled : R → ℕ → List ℕ → Type 0) (Is
 as_vector Spelled Is raws xs at bytes h b =
     (b.0, b.1, b.2, subst (IsUnsigned 32 b.0) (each_length Is raws xs h) b.3, as_items Spelled Is raws xs (at + length b.0) b.1 h b.4)
 
--- the exit of a `?` with this error, where it is want of memory
-pub exits : {A X : Type 0} (view : A → X) (Spelled : X → ℕ → List ℕ → Type 0) (r : Result A BuildFault) (old new : Place) (d y : BuildFault) → r ≡ Err y → y ≡ d
-    → ((x : X) (end : Place) → Between (Spelled x) old end → d ≡ Memory) → Builds view Spelled r old new
-exits view Spelled r old new d y e f g = record { built = λ x end b. fails view r x new end d y e f (g x end b) }
+-- nothing follows the bytes
+no_more : (p : Place) → with_more p [] ≡ p
+no_more p = λ i. record { at = p.at; left = append-nil p.left i }
+
+pub built_alone : {A X : Type 0} {view : A → X} {Spelled : X → ℕ → List ℕ → Type 0} {r : Result A BuildFault} {old new : Place} (x : X) (end : Place) → Builds view Spelled r old new
+    → Between (Spelled x) old end → Gives view [] r x new end
+built_alone {view = view} {Spelled = Spelled} {r = r} {old = old} {new = new} x end f b =
+    subst (λ p. Gives view [] r x p end) (no_more new) (f.built [] x end (subst (λ p. Between (Spelled x) p end) (sym (no_more old)) b))
 
 pub map_same : {A : Type 0} (s : List A) → map (λ x. x) s ≡ s
 map_same [] = refl
@@ -242,18 +242,18 @@ pub gotten_stop : {A X : Type 0} {view : A → X} {Spelled : X → ℕ → List 
     (Unit {0}) BuildFault} (after : List A) → Gotten view Spelled count old before items index here → index < count → q ≡ Err y → y ≡ d → Builds view Spelled (Err d) here new
     → Builds (λ (u : Unit {0}). map view after) (SpelledBehind Spelled (map view before)) q old new
 gotten_stop {view = view} after g some e f r = record {
-  built = λ ys end b.
+  built = λ more ys end b.
       let h = b.spelled in
-      fails (λ (u : Unit {0}). map view after) _ ys _ end _ _ e f
-      (keeps_stop _ _ _ _ _ _ _ _ g.keeps (let c = g.counted in omega (arith, c, some)) r h.0 end (record { front = b.front; spelled = h.2; left = b.left; place = b.place }));
+      fails (λ (u : Unit {0}). map view after) more _ ys _ end _ _ e f
+      (keeps_stop _ _ _ _ _ _ _ _ g.keeps (let c = g.counted in omega (arith, c, some)) r more h.0 end (record { front = b.front; spelled = h.2; left = b.left; place = b.place }));
 }
 
 pub gotten_all : {A X : Type 0} {view : A → X} {Spelled : X → ℕ → List ℕ → Type 0} {count : ℕ} {old here : Place} {before items : List A} {index : ℕ}
     → Gotten view Spelled count old before items index here → index ≡ count → Builds (λ (u : Unit {0}). map view items) (SpelledBehind Spelled (map view before)) (Ok tt) old here
 gotten_all {view = view} {before = before} {items = items} g all = record {
-  built = λ ys end b.
+  built = λ more ys end b.
       let h = b.spelled in
-      let k = keeps_all _ _ _ _ _ _ g.keeps (g.counted ∙ all) h.0 end (record { front = b.front; spelled = h.2; left = b.left; place = b.place }) in
+      let k = keeps_all _ _ _ _ _ _ g.keeps (g.counted ∙ all) more h.0 end (record { front = b.front; spelled = h.2; left = b.left; place = b.place }) in
       (ap (map view) g.items_are ∙ map_append view before g.got ∙ ap (λ s. map view before ++ s) k.0 ∙ sym h.1, k.1);
 }
 
@@ -261,8 +261,8 @@ gotten_all {view = view} {before = before} {items = items} g all = record {
 pub from_nothing : {A X B : Type 0} {Spelled : X → ℕ → List ℕ → Type 0} {old new : Place} {u : Unit {0}} (view : A → X) (v : List A) (none : List A) (whole : B → List X) (c : B) → none ≡ []
     → whole c ≡ map view v → Builds (λ (u : Unit {0}). map view v) (SpelledBehind Spelled (map view none)) (Ok u) old new → Builds whole (λ xs. Vector Spelled xs) (Ok c) old new
 from_nothing view v none whole c e f r = record {
-  built = λ xs end b.
-      let g = r.built xs end (record { front = b.front; spelled = (xs, sym (ap (λ z. map view z ++ xs) e), b.spelled); left = b.left; place = b.place }) in
+  built = λ more xs end b.
+      let g = r.built more xs end (record { front = b.front; spelled = (xs, sym (ap (λ z. map view z ++ xs) e), b.spelled); left = b.left; place = b.place }) in
       (f ∙ g.0, g.1);
 }
 
@@ -270,6 +270,24 @@ pub from_nothing_stop : {A X B : Type 0} {Spelled : X → ℕ → List ℕ → T
     (whole : B → List X) → none ≡ [] → q ≡ Err y → y ≡ d → Builds (λ (u : Unit {0}). map view v) (SpelledBehind Spelled (map view none)) (Err d) old new
     → Builds whole (λ xs. Vector Spelled xs) q old new
 from_nothing_stop view v none whole e f g r = record {
-  built = λ xs end b. fails whole _ xs _ end _ _ f g
-      (r.built xs end (record { front = b.front; spelled = (xs, sym (ap (λ z. map view z ++ xs) e), b.spelled); left = b.left; place = b.place }));
+  built = λ more xs end b. fails whole more _ xs _ end _ _ f g
+      (r.built more xs end (record { front = b.front; spelled = (xs, sym (ap (λ z. map view z ++ xs) e), b.spelled); left = b.left; place = b.place }));
+}
+
+-- one more is put behind these
+pub onto_built : {A X : Type 0} {view : A → X} {Spelled : X → ℕ → List ℕ → Type 0} {old new : Place} {u : Unit {0}} (before items : List A) (a : A) → items ≡ before ++ a ∷ []
+    → Builds view Spelled (Ok a) old new → Builds (λ (u : Unit {0}). map view items) (SpelledOnto Spelled (map view before)) (Ok u) old new
+onto_built {view = view} before items a e r = record {
+  built = λ more all end b.
+      let h = b.spelled in
+      let g = r.built more h.0 end (record { front = b.front; spelled = h.2; left = b.left; place = b.place }) in
+      (ap (map view) e ∙ map_append view before (a ∷ []) ∙ ap (λ y. map view before ++ y ∷ []) g.0 ∙ sym h.1, g.1);
+}
+
+pub onto_stop : {A X : Type 0} {view : A → X} {Spelled : X → ℕ → List ℕ → Type 0} {old new : Place} {d y : BuildFault} {q : Result (Unit {0}) BuildFault} (before items : List A) → q ≡ Err y → y ≡ d
+    → Builds view Spelled (Err d) old new → Builds (λ (u : Unit {0}). map view items) (SpelledOnto Spelled (map view before)) q old new
+onto_stop {view = view} before items e f r = record {
+  built = λ more all end b.
+      let h = b.spelled in
+      fails (λ (u : Unit {0}). map view items) more _ all _ end _ _ e f (r.built more h.0 end (record { front = b.front; spelled = h.2; left = b.left; place = b.place }));
 }

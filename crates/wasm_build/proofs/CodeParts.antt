@@ -11,9 +11,8 @@ use Rattle.wa_types.specs.View.{in_front, code, onto}
 use Rattle.wa_types.specs.Reading.{IsCode}
 use Rattle.wa_types.proofs.ViewLemmas.{in_block, in_loop, in_if, onto_done, is_block, is_loop, is_if, is_plain, instr_kind}
 use Rattle.wasm_build.specs.declared.BuildFault.{BuildFault}
-use Rattle.wasm_build.specs.declared.BuildFault.TheVariants.{Memory}
-use Rattle.wasm_cursor.specs.Places.{Place}
-use Rattle.wasm_build.specs.Builds.{Between, Builds}
+use Rattle.wasm_cursor.specs.Places.{Place, with_more}
+use Rattle.wasm_build.specs.Builds.{Between, IsWant, Builds}
 use Rattle.wasm_build.specs.BuildsCode.{CodeItem, an_instr, open_block, open_loop, open_if, an_else, an_end, SpelledCode, SpelledExpression, SpelledResult, SpelledConstruct, SpelledArms}
 use Rattle.wasm_build.specs.BuildsCode.{GivesNext, GivesNest, BuildsNext, IsOfOpcode, SpelledPlain, code_of_one}
 use Rattle.wasm_build.proofs.Betweens.{Parts, parts, behind_first, nothing_between}
@@ -236,6 +235,9 @@ pub record ByteRead (v : ℕ) (old here : Place) : Type 0 where
   pub left : old.left ≡ v ∷ here.left
   pub at : here.at ≡ old.at + 1
 
+read_more : (v : ℕ) (old here : Place) (more : List ℕ) → ByteRead v old here → ByteRead v (with_more old more) (with_more here more)
+read_more v old here more r = record { left = ap (λ z. z ++ more) r.left; at = r.at }
+
 -- what stands behind the opcode of a block or a loop
 record NestHead (s : Shape) (first_arm : Bool) (body else_arm : Code) (here end : Place) : Type 0 where
   result : Option ValType
@@ -259,16 +261,16 @@ record BranchHead (first_arm : Bool) (body else_arm : Code) (here end : Place) :
 
 pub next_end : (v : ℕ) (old here : Place) → ByteRead v old here → v ≡ 0x0B → BuildsNext (Ok an_end) old here
 next_end v old here r e = record {
-  built = λ first_arm body else_arm end b.
-      let o = opens_here first_arm v body else_arm old here end r.left r.at b in
+  built = λ more first_arm body else_arm end b.
+      let o = opens_here first_arm v body else_arm (with_more old more) (with_more here more) end (ap (λ z. z ++ more) r.left) r.at b in
       let k = end_of e o.opens in
-      (k.0, k.1, nothing_between here end (record { front = o.back; spelled = k.2; left = o.left; place = o.place }));
+      (k.0, k.1, nothing_between (with_more here more) end (record { front = o.back; spelled = k.2; left = o.left; place = o.place }));
 }
 
 pub next_else : (v : ℕ) (old here : Place) → ByteRead v old here → v ≡ 0x05 → BuildsNext (Ok an_else) old here
 next_else v old here r e = record {
-  built = λ first_arm body else_arm end b.
-      let o = opens_here first_arm v body else_arm old here end r.left r.at b in
+  built = λ more first_arm body else_arm end b.
+      let o = opens_here first_arm v body else_arm (with_more old more) (with_more here more) end (ap (λ z. z ++ more) r.left) r.at b in
       let k = else_of e o.opens in
       (k.0, k.1, record { front = o.back; spelled = k.2; left = o.left; place = o.place });
 }
@@ -276,16 +278,18 @@ next_else v old here r e = record {
 no_bytes : (v : ℕ) (xs ys : List ℕ) → [] ≡ (v ∷ xs) ++ ys → ⊥
 no_bytes v xs ys e = cc
 
-pub next_none : (q : Result CodeItem BuildFault) (old here : Place) → old.left ≡ [] → BuildsNext q old here
-next_none q old here e = record {
-  built = λ first_arm body else_arm end b.
+pub next_none : (d : BuildFault) (old here : Place) → old.left ≡ [] → BuildsNext (Err d) old here
+next_none d old here e = record {
+  built = λ more first_arm body else_arm end b.
       let (raw, is, h) = b.spelled in
       let o = opened first_arm raw body else_arm old.at b.front is h in
-      absurd (no_bytes o.byte o.back end.left (sym e ∙ b.left ∙ ap (λ z. z ++ end.left) o.whole));
+      λ none. absurd (no_bytes o.byte o.back end.left (sym (ap (λ z. z ++ more) e ∙ none) ∙ b.left ∙ ap (λ z. z ++ end.left) o.whole));
 }
 
-next_fails : (q : Result CodeItem BuildFault) (first_arm : Bool) (body else_arm : Code) (new end : Place) (d y : BuildFault) → q ≡ Err y → y ≡ d → d ≡ Memory → GivesNext q first_arm body else_arm new end
-next_fails q first_arm body else_arm new end d y e f g = let P : Result _ BuildFault → Type 0 = λ z. GivesNext z first_arm body else_arm new end in subst P (sym e) (f ∙ g)
+next_fails : (more : List ℕ) (q : Result CodeItem BuildFault) (first_arm : Bool) (body else_arm : Code) (new end : Place) (d y : BuildFault) → q ≡ Err y → y ≡ d → IsWant more d
+    → GivesNext more q first_arm body else_arm new end
+next_fails more q first_arm body else_arm new end d y e f g =
+    let P : Result _ BuildFault → Type 0 = λ z. GivesNext more z first_arm body else_arm new end in subst P (sym e) (λ none. f ∙ g none)
 
 -- the head of a construct, whose result was read or not
 head_parts : (s : Shape) (v : ℕ) (old here end : Place) (first_arm : Bool) (body else_arm : Code) → ByteRead v old here → v ≡ shape_byte s
@@ -325,52 +329,52 @@ branch_parts v old here end first_arm body else_arm r e b =
 pub nest_stop : (s : Shape) (v : ℕ) (old here new : Place) (d y : BuildFault) (q : Result CodeItem BuildFault) → ByteRead v old here → v ≡ shape_byte s → q ≡ Err y → y ≡ d
     → Builds (λ (r : Option ValType). r) SpelledResult (Err d) here new → BuildsNext q old new
 nest_stop s v old here new d y q r e f g n = record {
-  built = λ first_arm body else_arm end b.
-      let k = head_parts s v old here end first_arm body else_arm r e b in
-      next_fails q first_arm body else_arm new end d y f g (n.built k.result k.head.middle k.head.first);
+  built = λ more first_arm body else_arm end b.
+      let k = head_parts s v (with_more old more) (with_more here more) end first_arm body else_arm (read_more v old here more r) e b in
+      next_fails more q first_arm body else_arm (with_more new more) end d y f g (n.built more k.result k.head.middle k.head.first);
 }
 
 pub if_stop : (v : ℕ) (old here new : Place) (d y : BuildFault) (q : Result CodeItem BuildFault) → ByteRead v old here → v ≡ 0x04 → q ≡ Err y → y ≡ d
     → Builds (λ (r : Option ValType). r) SpelledResult (Err d) here new → BuildsNext q old new
 if_stop v old here new d y q r e f g n = record {
-  built = λ first_arm body else_arm end b.
-      let k = branch_parts v old here end first_arm body else_arm r e b in
-      next_fails q first_arm body else_arm new end d y f g (n.built k.result k.head.middle k.head.first);
+  built = λ more first_arm body else_arm end b.
+      let k = branch_parts v (with_more old more) (with_more here more) end first_arm body else_arm (read_more v old here more r) e b in
+      next_fails more q first_arm body else_arm (with_more new more) end d y f g (n.built more k.result k.head.middle k.head.first);
 }
 
-nest_given : (s : Shape) (v : ℕ) (old here new end : Place) (r : Option ValType) (first_arm : Bool) (body else_arm : Code) → ByteRead v old here → v ≡ shape_byte s
+nest_given : (s : Shape) (v : ℕ) (old here new : Place) (more : List ℕ) (end : Place) (r : Option ValType) (first_arm : Bool) (body else_arm : Code) → ByteRead v old here → v ≡ shape_byte s
     → Builds (λ (r : Option ValType). r) SpelledResult (Ok r) here new
-    → Between (SpelledCode first_arm body else_arm) old end → GivesNest s r first_arm body else_arm new end
-nest_given s v old here new end r first_arm body else_arm w e n b =
-    let k = head_parts s v old here end first_arm body else_arm w e b in
-    let g = n.built k.result k.head.middle k.head.first in
-    (k.inner, k.rest, k.middle, k.whole ∙ ap (λ z. nest s z k.inner k.rest) (sym g.0), behind_first _ _ here k.middle new k.head g.1, k.second)
+    → Between (SpelledCode first_arm body else_arm) (with_more old more) end → GivesNest s r first_arm body else_arm (with_more new more) end
+nest_given s v old here new more end r first_arm body else_arm w e n b =
+    let k = head_parts s v (with_more old more) (with_more here more) end first_arm body else_arm (read_more v old here more w) e b in
+    let g = n.built more k.result k.head.middle k.head.first in
+    (k.inner, k.rest, k.middle, k.whole ∙ ap (λ z. nest s z k.inner k.rest) (sym g.0), behind_first _ _ (with_more here more) k.middle (with_more new more) k.head g.1, k.second)
 
 pub next_block : (v : ℕ) (old here new : Place) (r : Option ValType) → ByteRead v old here → v ≡ 0x02 → Builds (λ (r : Option ValType). r) SpelledResult (Ok r) here new
     → BuildsNext (Ok (open_block r)) old new
-next_block v old here new r w e n = record { built = λ first_arm body else_arm end b. nest_given a_block v old here new end r first_arm body else_arm w e n b }
+next_block v old here new r w e n = record { built = λ more first_arm body else_arm end b. nest_given a_block v old here new more end r first_arm body else_arm w e n b }
 
 pub next_loop : (v : ℕ) (old here new : Place) (r : Option ValType) → ByteRead v old here → v ≡ 0x03 → Builds (λ (r : Option ValType). r) SpelledResult (Ok r) here new
     → BuildsNext (Ok (open_loop r)) old new
-next_loop v old here new r w e n = record { built = λ first_arm body else_arm end b. nest_given a_loop v old here new end r first_arm body else_arm w e n b }
+next_loop v old here new r w e n = record { built = λ more first_arm body else_arm end b. nest_given a_loop v old here new more end r first_arm body else_arm w e n b }
 
 pub next_if : (v : ℕ) (old here new : Place) (r : Option ValType) → ByteRead v old here → v ≡ 0x04 → Builds (λ (r : Option ValType). r) SpelledResult (Ok r) here new
     → BuildsNext (Ok (open_if r)) old new
 next_if v old here new r w e n = record {
-  built = λ first_arm body else_arm end b.
-      let k = branch_parts v old here end first_arm body else_arm w e b in
-      let g = n.built k.result k.head.middle k.head.first in
-      (k.arm, k.other, k.rest, k.middle, k.whole ∙ ap (λ z. branch z k.arm k.other k.rest) (sym g.0), behind_first _ _ here k.middle new k.head g.1, k.second);
+  built = λ more first_arm body else_arm end b.
+      let k = branch_parts v (with_more old more) (with_more here more) end first_arm body else_arm (read_more v old here more w) e b in
+      let g = n.built more k.result k.head.middle k.head.first in
+      (k.arm, k.other, k.rest, k.middle, k.whole ∙ ap (λ z. branch z k.arm k.other k.rest) (sym g.0), behind_first _ _ (with_more here more) k.middle (with_more new more) k.head g.1, k.second);
 }
 
 pub plain_stop : (v : ℕ) (old here new : Place) (d y : BuildFault) (q : Result CodeItem BuildFault) → ByteRead v old here → IsOther v → q ≡ Err y → y ≡ d
     → Builds code_of_one (SpelledPlain v) (Err d) here new → BuildsNext q old new
 plain_stop v old here new d y q r e f g n = record {
-  built = λ first_arm body else_arm end b.
-      let o = opens_here first_arm v body else_arm old here end r.left r.at b in
+  built = λ more first_arm body else_arm end b.
+      let o = opens_here first_arm v body else_arm (with_more old more) (with_more here more) end (ap (λ z. z ++ more) r.left) r.at b in
       let k = first_of_other e o.opens in
-      let w = onto_parts (SpelledPlain v (plain k.instr done)) (SpelledCode first_arm k.rest else_arm) here end o.back k.spelled o.left o.place in
-      next_fails q first_arm body else_arm new end d y f g (n.built (plain k.instr done) w.middle w.first);
+      let w = onto_parts (SpelledPlain v (plain k.instr done)) (SpelledCode first_arm k.rest else_arm) (with_more here more) end o.back k.spelled o.left o.place in
+      next_fails more q first_arm body else_arm (with_more new more) end d y f g (n.built more (plain k.instr done) w.middle w.first);
 }
 
 plain_same : (p q : Plain) → plain p done ≡ plain q done → p ≡ q
@@ -393,10 +397,10 @@ alone_is i p e rest = elim (instr_kind i) [
 
 pub next_plain : (v : ℕ) (old here new : Place) (i : Instr) → ByteRead v old here → IsOther v → Builds code_of_one (SpelledPlain v) (Ok i) here new → BuildsNext (Ok (an_instr i)) old new
 next_plain v old here new i r e n = record {
-  built = λ first_arm body else_arm end b.
-      let o = opens_here first_arm v body else_arm old here end r.left r.at b in
+  built = λ more first_arm body else_arm end b.
+      let o = opens_here first_arm v body else_arm (with_more old more) (with_more here more) end (ap (λ z. z ++ more) r.left) r.at b in
       let k = first_of_other e o.opens in
-      let w = onto_parts (SpelledPlain v (plain k.instr done)) (SpelledCode first_arm k.rest else_arm) here end o.back k.spelled o.left o.place in
-      let g = n.built (plain k.instr done) w.middle w.first in
-      (k.rest, k.whole ∙ sym (alone_is i k.instr g.0 k.rest), behind_first _ _ _ end new w g.1);
+      let w = onto_parts (SpelledPlain v (plain k.instr done)) (SpelledCode first_arm k.rest else_arm) (with_more here more) end o.back k.spelled o.left o.place in
+      let g = n.built more (plain k.instr done) w.middle w.first in
+      (k.rest, k.whole ∙ sym (alone_is i k.instr g.0 k.rest), behind_first _ _ _ end (with_more new more) w g.1);
 }

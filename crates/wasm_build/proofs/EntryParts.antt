@@ -82,6 +82,14 @@ pub with_high : (low : ℕ) (high : Option ℕ) (at : ℕ) (bytes : List ℕ) �
 with_high low None at bytes e h = absurd (omega (arith, e))
 with_high low (Some high) at bytes e h = h
 
+pub without_high : (low : ℕ) (high : Option ℕ) (at : ℕ) (bytes : List ℕ) → 0x00 ≡ flag_of high → LimitsTail low high at bytes → Number low at bytes
+without_high low None at bytes e h = h
+without_high low (Some high) at bytes e h = absurd (omega (arith, e))
+
+pub no_high : (high : Option ℕ) → 0x00 ≡ flag_of high → None ≡ high
+no_high None e = refl
+no_high (Some high) e = absurd (omega (arith, e))
+
 pub high_is : (n : ℕ) (high : Option ℕ) → 0x01 ≡ flag_of high → n ≡ high_in high → Some n ≡ high
 high_is n None e f = absurd (omega (arith, e))
 high_is n (Some high) e f = ap (λ z. Some z) f
@@ -109,6 +117,10 @@ kind_by (raw_global raw mutable) k at bytes e h =
 pub kind_parts : (k : ImportKind) (at : ℕ) (bytes : List ℕ) → SpelledKind k at bytes → (Exactly (kind_byte k ∷ []) ▸ KindTail k) at bytes
 kind_parts k at bytes (raw, is, h) = kind_by raw k at bytes is h
 
+abbrev pub sort_in : ImportKind → ℕ
+sort_in (a_func_import sort) = sort
+sort_in _ = 0
+
 abbrev pub limits_in : ImportKind → Limits
 limits_in (a_func_import sort) = record { min = sort; max = None }
 limits_in (a_table_import l) = l
@@ -120,6 +132,18 @@ global_in (a_func_import sort) = (I32, false)
 global_in (a_table_import l) = (I32, false)
 global_in (a_memory_import l) = (I32, false)
 global_in (a_global_import t mutable) = (t, mutable)
+
+pub func_tail : (k : ImportKind) (at : ℕ) (bytes : List ℕ) → 0x00 ≡ kind_byte k → KindTail k at bytes → Number (sort_in k) at bytes
+func_tail (a_func_import sort) at bytes e h = h
+func_tail (a_table_import l) at bytes e h = absurd (omega (arith, e))
+func_tail (a_memory_import l) at bytes e h = absurd (omega (arith, e))
+func_tail (a_global_import t mutable) at bytes e h = absurd (omega (arith, e))
+
+pub func_is : (v : ℕ) (k : ImportKind) → 0x00 ≡ kind_byte k → v ≡ sort_in k → a_func_import v ≡ k
+func_is v (a_func_import sort) e f = ap (λ z. a_func_import z) f
+func_is v (a_table_import l) e f = absurd (omega (arith, e))
+func_is v (a_memory_import l) e f = absurd (omega (arith, e))
+func_is v (a_global_import t mutable) e f = absurd (omega (arith, e))
 
 pub table_tail : (k : ImportKind) (at : ℕ) (bytes : List ℕ) → 0x01 ≡ kind_byte k → KindTail k at bytes → TableType (limits_in k) at bytes
 table_tail (a_func_import sort) at bytes e h = absurd (omega (arith, e))

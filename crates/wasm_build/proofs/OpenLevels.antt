@@ -14,7 +14,7 @@ use Rattle.wasm_build.specs.declared.BuildFault.TheVariants.{Memory, NotSpelled}
 use Rattle.wasm_build.specs.declared.levels.Opened.{Opened}
 use Rattle.wasm_build.specs.declared.levels.Opened.TheVariants.{Block, Loop, Then, Else}
 use Rattle.wasm_build.specs.declared.levels.Level.{Level}
-use Rattle.wasm_cursor.specs.Places.{Place}
+use Rattle.wasm_cursor.specs.Places.{Place, with_more}
 use Rattle.wasm_build.specs.Builds.{Between, Builds}
 use Rattle.wasm_build.specs.BuildsCode.{CodeItem, an_instr, open_block, open_loop, open_if, an_else, an_end, SpelledCode, SpelledExpression, SpelledPlain, code_of_one, Puts, BuildsNext}
 use Rattle.wasm_build.specs.BuildsLevels.{Inside, Ahead, Running, Turned, Turns, closed, IsTurned, IsLost}
@@ -72,16 +72,16 @@ focus (l ∷ ls) c end f here a = focus_in l.opened l.ty l.before.items (Ahead l
 
 pub run_start : (old : Place) (levels : List Level) (got : List Instr) → levels ≡ [] → got ≡ [] → Running old levels got old
 run_start old levels got e f = record {
-  going = λ c end b. subst (λ z. Ahead (reverse z) c end (onto got) old) (sym e) (c, ap (λ z. onto z c) f ∙ onto_none c, b);
+  going = λ tail c end b. subst (λ z. Ahead (reverse z) c end (onto got) (with_more old tail)) (sym e) (c, ap (λ z. onto z c) f ∙ onto_none c, b);
 }
 
 pub run_instr : (old here new : Place) (levels : List Level) (got more : List Instr) (i : Instr) → Running old levels got here → BuildsNext (Ok (an_instr i)) here new → more ≡ got ++ i ∷ []
     → Running old levels more new
 run_instr old here new levels got more i r n e = record {
-  going = λ c end b.
-      let f = focus (reverse levels) c end (onto got) here (r.going c end b) in
-      let g = n.built f.first_arm f.rest f.else_arm f.middle f.spelled in
-      f.back (onto more) g.0 new (ap (λ s. onto s g.0) e ∙ onto_append got i g.0 ∙ ap (onto got) (sym g.1)) g.2;
+  going = λ tail c end b.
+      let f = focus (reverse levels) c end (onto got) (with_more here tail) (r.going tail c end b) in
+      let g = n.built tail f.first_arm f.rest f.else_arm f.middle f.spelled in
+      f.back (onto more) g.0 (with_more new tail) (ap (λ s. onto s g.0) e ∙ onto_append got i g.0 ∙ ap (onto got) (sym g.1)) g.2;
 }
 
 -- a construct is opened
@@ -93,31 +93,31 @@ deeper levels new_levels l c end got here e f a =
 module _ (old here new : Place) (levels new_levels : List Level) (body : Vec Instr Global) (got : List Instr) (ty : Option ValType) (r : Running old levels body.items here) (none : got ≡ []) where
   pub run_block : BuildsNext (Ok (open_block ty)) here new → new_levels ≡ levels ++ (record { before = body; ty = ty; opened = Block }) ∷ [] → Running old new_levels got new
   run_block n e = record {
-    going = λ c end b.
-        let f = focus (reverse levels) c end (onto body.items) here (r.going c end b) in
-        let g = n.built f.first_arm f.rest f.else_arm f.middle f.spelled in
+    going = λ tail c end b.
+        let f = focus (reverse levels) c end (onto body.items) (with_more here tail) (r.going tail c end b) in
+        let g = n.built tail f.first_arm f.rest f.else_arm f.middle f.spelled in
         let back = f.back (λ more. onto body.items (nest a_block ty (onto [] g.0) more)) g.1 g.2 (ap (λ z. onto body.items (nest a_block ty z g.1)) (onto_none g.0)
         ∙ ap (onto body.items) (sym g.3)) g.5 in
-        deeper levels new_levels (record { before = body; ty = ty; opened = Block }) c end got new e none (g.0, g.2, g.4, back);
+        deeper levels new_levels (record { before = body; ty = ty; opened = Block }) c end got (with_more new tail) e none (g.0, g.2, g.4, back);
   }
 
   pub run_loop : BuildsNext (Ok (open_loop ty)) here new → new_levels ≡ levels ++ (record { before = body; ty = ty; opened = Loop }) ∷ [] → Running old new_levels got new
   run_loop n e = record {
-    going = λ c end b.
-        let f = focus (reverse levels) c end (onto body.items) here (r.going c end b) in
-        let g = n.built f.first_arm f.rest f.else_arm f.middle f.spelled in
+    going = λ tail c end b.
+        let f = focus (reverse levels) c end (onto body.items) (with_more here tail) (r.going tail c end b) in
+        let g = n.built tail f.first_arm f.rest f.else_arm f.middle f.spelled in
         let back = f.back (λ more. onto body.items (nest a_loop ty (onto [] g.0) more)) g.1 g.2 (ap (λ z. onto body.items (nest a_loop ty z g.1)) (onto_none g.0)
         ∙ ap (onto body.items) (sym g.3)) g.5 in
-        deeper levels new_levels (record { before = body; ty = ty; opened = Loop }) c end got new e none (g.0, g.2, g.4, back);
+        deeper levels new_levels (record { before = body; ty = ty; opened = Loop }) c end got (with_more new tail) e none (g.0, g.2, g.4, back);
   }
 
   pub run_if : BuildsNext (Ok (open_if ty)) here new → new_levels ≡ levels ++ (record { before = body; ty = ty; opened = Then }) ∷ [] → Running old new_levels got new
   run_if n e = record {
-    going = λ c end b.
-        let f = focus (reverse levels) c end (onto body.items) here (r.going c end b) in
-        let g = n.built f.first_arm f.rest f.else_arm f.middle f.spelled in
+    going = λ tail c end b.
+        let f = focus (reverse levels) c end (onto body.items) (with_more here tail) (r.going tail c end b) in
+        let g = n.built tail f.first_arm f.rest f.else_arm f.middle f.spelled in
         let back = f.back (λ more. onto body.items (branch ty (onto [] g.0) g.1 more)) g.2 g.3 (ap (λ z. onto body.items (branch ty z g.1 g.2)) (onto_none g.0) ∙ ap (onto body.items) (sym g.4)) g.6 in
-        deeper levels new_levels (record { before = body; ty = ty; opened = Then }) c end got new e none (g.0, g.1, g.3, g.5, back);
+        deeper levels new_levels (record { before = body; ty = ty; opened = Then }) c end got (with_more new tail) e none (g.0, g.1, g.3, g.5, back);
   }
 
 -- the innermost construct is the last of the stack
@@ -126,10 +126,10 @@ shown_last : (levels low : List Level) (l : Level) (c : Code) (end : Place) (f :
 shown_last levels low l c end f here e a = subst (λ z. Ahead z c end f here) (ap reverse e ∙ reverse-append low (l ∷ [])) a
 
 -- an else
-turned_in : (ty : Option ValType) (before : List Instr) (Outside : (Code → Code) → Place → Type 0) (body : Vec Instr Global) (here new : Place) → BuildsNext (Ok an_else) here new
-    → Inside Then ty before Outside (onto body.items) here → Inside (Else body) ty before Outside (onto []) new
-turned_in ty before Outside body here new n a =
-    let g = n.built true a.0 a.1 a.2 a.3 in
+turned_in : (ty : Option ValType) (before : List Instr) (Outside : (Code → Code) → Place → Type 0) (body : Vec Instr Global) (here new : Place) (tail : List ℕ) → BuildsNext (Ok an_else) here new
+    → Inside Then ty before Outside (onto body.items) (with_more here tail) → Inside (Else body) ty before Outside (onto []) (with_more new tail)
+turned_in ty before Outside body here new tail n a =
+    let g = n.built tail true a.0 a.1 a.2 a.3 in
     let p : onto body.items a.0 ≡ code body.items = ap (onto body.items) g.0 ∙ onto_done body.items in (
       a.1,
       a.2,
@@ -141,56 +141,56 @@ turned_in ty before Outside body here new n a =
 pub run_else : (old here new : Place) (levels low new_levels : List Level) (l : Level) (body : Vec Instr Global) (got : List Instr) → Running old levels body.items here
     → BuildsNext (Ok an_else) here new → levels ≡ low ++ l ∷ [] → IsTurned l low body new_levels → got ≡ [] → Running old new_levels got new
 run_else old here new levels low new_levels l body got r n e t none = record {
-  going = λ c end b.
-      let a = shown_last levels low l c end (onto body.items) here e (r.going c end b) in
-      let k = subst (λ o. Inside o l.ty l.before.items (Ahead (reverse low) c end) (onto body.items) here) t.first a in
-      deeper low new_levels (record l { opened = Else body }) c end got new t.turned none (turned_in l.ty l.before.items (Ahead (reverse low) c end) body here new n k);
+  going = λ tail c end b.
+      let a = shown_last levels low l c end (onto body.items) (with_more here tail) e (r.going tail c end b) in
+      let k = subst (λ o. Inside o l.ty l.before.items (Ahead (reverse low) c end) (onto body.items) (with_more here tail)) t.first a in
+      deeper low new_levels (record l { opened = Else body }) c end got (with_more new tail) t.turned none (turned_in l.ty l.before.items (Ahead (reverse low) c end) body here new tail n k);
 }
 
 no_arm : false ≡ true → ⊥
 no_arm e = cc
 
-else_in : (o : Opened) (ty : Option ValType) (before : List Instr) (Outside : (Code → Code) → Place → Type 0) (f : Code → Code) (here new : Place) → (o ≡ Then → ⊥)
-    → BuildsNext (Ok an_else) here new → Inside o ty before Outside f here → ⊥
-else_in Then ty before Outside f here new none n a = none refl
-else_in Block ty before Outside f here new none n a = no_arm (n.built false a.0 done a.1 a.2).1
-else_in Loop ty before Outside f here new none n a = no_arm (n.built false a.0 done a.1 a.2).1
-else_in (Else arm) ty before Outside f here new none n a = no_arm (n.built false a.0 done a.1 a.2).1
+else_in : (o : Opened) (ty : Option ValType) (before : List Instr) (Outside : (Code → Code) → Place → Type 0) (f : Code → Code) (here new : Place) (tail : List ℕ) → (o ≡ Then → ⊥)
+    → BuildsNext (Ok an_else) here new → Inside o ty before Outside f (with_more here tail) → ⊥
+else_in Then ty before Outside f here new tail none n a = none refl
+else_in Block ty before Outside f here new tail none n a = no_arm (n.built tail false a.0 done a.1 a.2).1
+else_in Loop ty before Outside f here new tail none n a = no_arm (n.built tail false a.0 done a.1 a.2).1
+else_in (Else arm) ty before Outside f here new tail none n a = no_arm (n.built tail false a.0 done a.1 a.2).1
 
-pub else_alone : {old here new last : Place} {levels : List Level} {got : List Instr} {q : Result (Vec Instr Global) BuildFault} → Running old levels got here → levels ≡ []
-    → BuildsNext (Ok an_else) here new → Builds (λ (v : Vec Instr Global). code v.items) SpelledExpression q old last
-else_alone {here = here} {got = got} r e n = never (λ c end b.
-    let a = subst (λ z. Ahead (reverse z) c end (onto got) here) e (r.going c end b) in
-    no_arm (n.built false a.0 done end a.2).1)
+pub else_alone : {old here new last : Place} {levels : List Level} {got : List Instr} {d : BuildFault} → Running old levels got here → levels ≡ []
+    → BuildsNext (Ok an_else) here new → Builds (λ (v : Vec Instr Global). code v.items) SpelledExpression (Err d) old last
+else_alone {here = here} {got = got} r e n = never refl (λ tail c end b none.
+    let a = subst (λ z. Ahead (reverse z) c end (onto got) (with_more here tail)) e (r.going tail c end b) in
+    no_arm (n.built tail false a.0 done end a.2).1)
 
 -- want of memory
 pub memory_stop : {old last : Place} {d y : BuildFault} {q : Result (Vec Instr Global) BuildFault} → q ≡ Err y → y ≡ d → d ≡ Memory
     → Builds (λ (v : Vec Instr Global). code v.items) SpelledExpression q old last
-memory_stop e f g = record { built = λ c end b. fails (λ (v : Vec Instr Global). code v.items) _ c _ end _ _ e f g }
+memory_stop e f g = record { built = λ tail c end b. fails (λ (v : Vec Instr Global). code v.items) tail _ c _ end _ _ e f (λ none. g) }
 
 -- an else that isn't taken
 pub turn_stop : {old here new last : Place} {levels : List Level} {got : List Instr} {y : BuildFault} {q : Result (Vec Instr Global) BuildFault} (low : List Level) (l : Level)
     (d : BuildFault) → Running old levels got here → BuildsNext (Ok an_else) here new → levels ≡ low ++ l ∷ [] → IsLost l d → q ≡ Err y → y ≡ d
     → Builds (λ (v : Vec Instr Global). code v.items) SpelledExpression q old last
 turn_stop low l Memory r n e h f g = memory_stop f g refl
-turn_stop {here = here} {new = new} {levels = levels} {got = got} low l NotSpelled r n e h f g = never (λ c end b.
-    else_in l.opened l.ty l.before.items (Ahead (reverse low) c end) (onto got) here new h n (shown_last levels low l c end (onto got) here e (r.going c end b)))
+turn_stop {here = here} {new = new} {levels = levels} {got = got} low l NotSpelled r n e h f g = never f (λ tail c end b none.
+    else_in l.opened l.ty l.before.items (Ahead (reverse low) c end) (onto got) here new tail h n (shown_last levels low l c end (onto got) (with_more here tail) e (r.going tail c end b)))
 
 pub next_stop : {old here new last : Place} {levels : List Level} {got : List Instr} {d y : BuildFault} {q : Result (Vec Instr Global) BuildFault} → Running old levels got here
     → BuildsNext (Err d) here new → q ≡ Err y → y ≡ d → Builds (λ (v : Vec Instr Global). code v.items) SpelledExpression q old last
 next_stop {here = here} {levels = levels} {got = got} r n e f = record {
-  built = λ c end b.
-      let k = focus (reverse levels) c end (onto got) here (r.going c end b) in
-      fails (λ (v : Vec Instr Global). code v.items) _ c _ end _ _ e f (n.built k.first_arm k.rest k.else_arm k.middle k.spelled);
+  built = λ tail c end b.
+      let k = focus (reverse levels) c end (onto got) (with_more here tail) (r.going tail c end b) in
+      fails (λ (v : Vec Instr Global). code v.items) tail _ c _ end _ _ e f (n.built tail k.first_arm k.rest k.else_arm k.middle k.spelled);
 }
 
 -- an end
 pub run_last : {old here new : Place} {levels : List Level} (v : Vec Instr Global) → Running old levels v.items here → levels ≡ [] → BuildsNext (Ok an_end) here new
     → Builds (λ (v : Vec Instr Global). code v.items) SpelledExpression (Ok v) old new
 run_last {here = here} v r e n = record {
-  built = λ c end b.
-      let a = subst (λ z. Ahead (reverse z) c end (onto v.items) here) e (r.going c end b) in
-      let g = n.built false a.0 done end a.2 in
+  built = λ tail c end b.
+      let a = subst (λ z. Ahead (reverse z) c end (onto v.items) (with_more here tail)) e (r.going tail c end b) in
+      let g = n.built tail false a.0 done end a.2 in
       (whole_is v.items a.0 c a.1 g.0, g.2);
 }
 
@@ -198,31 +198,34 @@ run_last {here = here} v r e n = record {
 outside : (Outside : (Code → Code) → Place → Type 0) (f g : Code → Code) (middle new : Place) → ((more : Code) → g more ≡ f more) → new ≡ middle → Outside f middle → Outside g new
 outside Outside f g middle new h e a = subst (λ p. Outside g p) (sym e) (subst (λ k. Outside k middle) (λ i more. sym (h more) i) a)
 
-closed_in : (o : Opened) (ty : Option ValType) (before : List Instr) (Outside : (Code → Code) → Place → Type 0) (got more : List Instr) (here new : Place) → BuildsNext (Ok an_end) here new
+closed_in : (o : Opened) (ty : Option ValType) (before : List Instr) (Outside : (Code → Code) → Place → Type 0) (got more : List Instr) (here new : Place) (tail : List ℕ) → BuildsNext
+    (Ok an_end) here new
     → ((rest : Code) → onto more rest ≡ onto before (closed o ty (code got) rest))
-    → Inside o ty before Outside (onto got) here → Outside (onto more) new
-closed_in Then ty before Outside got more here new n h a =
-    let g = n.built true a.0 a.1 a.2 a.3 in
+    → Inside o ty before Outside (onto got) (with_more here tail) → Outside (onto more) (with_more new tail)
+closed_in Then ty before Outside got more here new tail n h a =
+    let g = n.built tail true a.0 a.1 a.2 a.3 in
     let p : onto got a.0 ≡ code got = ap (onto got) g.0 ∙ onto_done got in
-    outside Outside (λ k. onto before (branch ty (onto got a.0) a.1 k)) (onto more) a.2 new
+    outside Outside (λ k. onto before (branch ty (onto got a.0) a.1 k)) (onto more) a.2 (with_more new tail)
     (λ k. h k ∙ ap (λ z. onto before (branch ty z done k)) (sym p) ∙ ap (λ z. onto before (branch ty (onto got a.0) z k)) (sym g.1)) g.2 a.4
-closed_in Block ty before Outside got more here new n h a =
-    let g = n.built false a.0 done a.1 a.2 in
+closed_in Block ty before Outside got more here new tail n h a =
+    let g = n.built tail false a.0 done a.1 a.2 in
     let p : onto got a.0 ≡ code got = ap (onto got) g.0 ∙ onto_done got in
-    outside Outside (λ k. onto before (nest a_block ty (onto got a.0) k)) (onto more) a.1 new (λ k. h k ∙ ap (λ z. onto before (nest a_block ty z k)) (sym p)) g.2 a.3
-closed_in Loop ty before Outside got more here new n h a =
-    let g = n.built false a.0 done a.1 a.2 in
+    outside Outside (λ k. onto before (nest a_block ty (onto got a.0) k)) (onto more) a.1 (with_more new tail) (λ k. h k ∙ ap (λ z. onto before (nest a_block ty z k)) (sym p)) g.2 a.3
+closed_in Loop ty before Outside got more here new tail n h a =
+    let g = n.built tail false a.0 done a.1 a.2 in
     let p : onto got a.0 ≡ code got = ap (onto got) g.0 ∙ onto_done got in
-    outside Outside (λ k. onto before (nest a_loop ty (onto got a.0) k)) (onto more) a.1 new (λ k. h k ∙ ap (λ z. onto before (nest a_loop ty z k)) (sym p)) g.2 a.3
-closed_in (Else arm) ty before Outside got more here new n h a =
-    let g = n.built false a.0 done a.1 a.2 in
+    outside Outside (λ k. onto before (nest a_loop ty (onto got a.0) k)) (onto more) a.1 (with_more new tail) (λ k. h k ∙ ap (λ z. onto before (nest a_loop ty z k)) (sym p)) g.2 a.3
+closed_in (Else arm) ty before Outside got more here new tail n h a =
+    let g = n.built tail false a.0 done a.1 a.2 in
     let p : onto got a.0 ≡ code got = ap (onto got) g.0 ∙ onto_done got in
-    outside Outside (λ k. onto before (branch ty (code arm.items) (onto got a.0) k)) (onto more) a.1 new (λ k. h k ∙ ap (λ z. onto before (branch ty (code arm.items) z k)) (sym p)) g.2 a.3
+    outside Outside (λ k. onto before (branch ty (code arm.items) (onto got a.0) k)) (onto more) a.1 (with_more new tail) (λ k. h k ∙ ap (λ z. onto before (branch ty
+        (code arm.items) z k)) (sym p)) g.2 a.3
 
 pub run_close : (old here new : Place) (levels low : List Level) (l : Level) (got more : List Instr) → Running old levels got here → BuildsNext (Ok an_end) here new → levels ≡ low ++ l ∷ []
     → ((rest : Code) → onto more rest ≡ onto l.before.items (closed l.opened l.ty (code got) rest)) → Running old low more new
 run_close old here new levels low l got more r n e h = record {
-  going = λ c end b. closed_in l.opened l.ty l.before.items (Ahead (reverse low) c end) got more here new n h (shown_last levels low l c end (onto got) here e (r.going c end b));
+  going = λ tail c end b. closed_in l.opened l.ty l.before.items (Ahead (reverse low) c end) got more here new tail n h
+      (shown_last levels low l c end (onto got) (with_more here tail) e (r.going tail c end b));
 }
 
 -- Turns.
@@ -257,13 +260,14 @@ err_by (Ok b) P Q f h = tt
 err_by (Err d) P Q f h = f d h
 
 memory_is : (old new : Place) (d : BuildFault) → d ≡ Memory → Builds view SpelledExpression (Err d) old new
-memory_is old new d e = record { built = λ c end b. e }
+memory_is old new d e = record { built = λ tail c end b none. e }
 
 pub turned_memory : (q : Result Bool BuildFault) (d y : BuildFault) (old new : Place) (levels : List Level) (body : Vec Instr Global) → q ≡ Err y → y ≡ d → d ≡ Memory → Turned q old levels body new
 turned_memory q d y old new levels body e f g = subst (λ z. Turned z old levels body new) (sym e) (memory_is old new y (f ∙ g))
 
 -- the head of a construct
-pub turn_open : (opened : Opened) (ty : Option ValType) (next : CodeItem) (q : Result Bool BuildFault) (levels new_levels : List Level) (body new_body : Vec Instr Global) → IfOk q (λ ended. ended ≡ false)
+pub turn_open : (opened : Opened) (ty : Option ValType) (next : CodeItem) (q : Result Bool BuildFault) (levels new_levels : List Level) (body new_body : Vec Instr Global) → IfOk q
+    (λ ended. ended ≡ false)
     → OnOk q (new_levels ≡ levels ++ (record { before = body; ty = ty; opened = opened }) ∷ []) → OnOk q (new_body.items ≡ []) → IfErr q (λ e. e ≡ Memory)
     → ((old here new : Place) → Running old levels body.items here → BuildsNext (Ok next) here new → new_body.items ≡ []
     → new_levels ≡ levels ++ (record { before = body; ty = ty; opened = opened }) ∷ [] → Running old new_levels new_body.items new)
@@ -297,7 +301,7 @@ turn_close q levels low l body new_body e on there err = λ old here new r n.
 -- an exit with the fault of a turn
 pub turn_fails : {old last : Place} {d y : BuildFault} {q : Result (Vec Instr Global) BuildFault} → q ≡ Err y → y ≡ d → Builds view SpelledExpression (Err d) old last
     → Builds view SpelledExpression q old last
-turn_fails e f n = record { built = λ c end b. fails view _ c _ end _ _ e f (n.built c end b) }
+turn_fails e f n = record { built = λ tail c end b. fails view tail _ c _ end _ _ e f (n.built tail c end b) }
 
 -- a fault of what stands next
 pub turned_stop : {old here new : Place} {levels : List Level} {got : List Instr} (new_levels : List Level) (body : Vec Instr Global) (q : Result Bool BuildFault) (y : BuildFault)
@@ -318,4 +322,4 @@ put_stops op here there d y q got new e f n =
     subst (λ z. Puts op z got new here there) (sym e) (subst (λ z. Builds code_of_one (SpelledPlain op) (Err z) here there) (sym f) n)
 
 pub put_memory : (op : ℕ) (here there : Place) (y : BuildFault) (q : Result Bool BuildFault) (got new : List Instr) → q ≡ Err y → y ≡ Memory → Puts op q got new here there
-put_memory op here there y q got new e f = subst (λ z. Puts op z got new here there) (sym e) (record { built = λ c end b. f })
+put_memory op here there y q got new e f = subst (λ z. Puts op z got new here there) (sym e) (record { built = λ tail c end b none. f })

@@ -1,5 +1,5 @@
 -- What follows an opcode is read.
-use Rattle.std.proofs.Common.{◌≡◌, ℕ, List, [], ◌∷◌, map, Option, Some, None, Result, Ok, refl, ap, sym, ◌∙◌, subst, arith, append-nil}
+use Rattle.std.proofs.Common.{◌≡◌, ℕ, List, [], ◌∷◌, map, Option, Some, None, Result, Ok, Err, refl, ap, sym, ◌∙◌, subst, arith, append-nil}
 use Rattle.std.specs.declared.vec.Vec.{Vec}
 use Rattle.std.specs.declared.alloc.Global.{Global}
 use Rattle.wa_types.specs.declared.instrs.Instr.{Instr}
@@ -15,7 +15,7 @@ use Rattle.wa_types.specs.View.{in_front}
 use Rattle.wasm_build.specs.declared.BuildFault.{BuildFault}
 use Rattle.wasm_cursor.specs.declared.opcodes.ImmediateForm.{ImmediateForm}
 use Rattle.wasm_cursor.specs.Forms.{follows_of, form_of}
-use Rattle.wasm_cursor.specs.Places.{Place, ReadsNumber}
+use Rattle.wasm_cursor.specs.Places.{Place, with_more, ReadsNumber}
 use Rattle.wasm_build.specs.Builds.{Between, Builds, Passes}
 use Rattle.wasm_build.specs.BuildsCode.{IsOfOpcode, SpelledPlain, code_of_one, IsNamed, NamesPlain, FoundIn}
 use Rattle.wasm_build.proofs.Betweens.{map_same, nothing_between, number_is}
@@ -73,10 +73,10 @@ followed op f c at bytes e (p, q, is, h) = record {
 
 pub operands_start : (op : ℕ) (f : Form) (old : Place) → follows op ≡ Some f → At (SpelledPlain op) old (λ c. ImmediatesOf (operands_in c)) (Followed op f) old
 operands_start op f old e = record {
-  ahead = λ c end b.
+  ahead = λ more c end b.
       let h = b.spelled in
       record { front = b.front; spelled = subst (λ z. ImmediatesOf (operands_in z) old.at b.front) (sym h.1) h.3; left = b.left; place = b.place };
-  known = λ c end b. followed op f c old.at b.front e b.spelled;
+  known = λ more c end b. followed op f c old.at b.front e b.spelled;
 }
 
 width_same : (v w : ℕ) → a_constant v ≡ a_constant w → v ≡ w
@@ -253,40 +253,41 @@ constant_start bits op old e = turn (λ c. SignedNumber bits (x_in (operands_in 
 
 -- The instruction that was found by its opcode.
 by_found : (op : ℕ) (o : Option Instr) (r : Result Instr BuildFault) (old new : Place) → FoundIn o r
-    → ((c : Code) (end : Place) → Between (SpelledPlain op c) old end → (p : Plain) × (c ≡ plain p done) × IsNamed o p × (new ≡ end)) → Builds code_of_one (SpelledPlain op) r old new
+    → ((more : List ℕ) (c : Code) (end : Place) → Between (SpelledPlain op c) (with_more old more) end → (p : Plain) × (c ≡ plain p done) × IsNamed o p × (with_more new more ≡ end))
+    → Builds code_of_one (SpelledPlain op) r old new
 by_found op (Some i) r old new f g =
-    subst (λ q. Builds code_of_one (SpelledPlain op) q old new) (sym f) (record { built = λ c end b. let k = g c end b in (k.2 ∙ sym k.1, k.3) })
-by_found op None r old new f g = never (λ c end b. (g c end b).2)
+    subst (λ q. Builds code_of_one (SpelledPlain op) q old new) (sym f) (record { built = λ more c end b. let k = g more c end b in (k.2 ∙ sym k.1, k.3) })
+by_found op None r old new f g = never f (λ more c end b none. (g more c end b).2)
 
 pub simple_found : (op : ℕ) (o : Option Instr) (r : Result Instr BuildFault) (here : Place) → follows op ≡ Some no_immediate → NamesPlain op nothing o → FoundIn o r
     → Builds code_of_one (SpelledPlain op) r here here
-simple_found op o r here e n f = by_found op o r here here f (λ c end b.
+simple_found op o r here e n f = by_found op o r here here f (λ more c end b.
     let s = nothing_start op here e in
-    let k = s.known c end b in
-    (k.instr, k.code_is, n.named k.instr k.is_of.kind k.is_of.opcode (k.operands_are ∙ nothing_are (operands_in c) k.shape_is), nothing_between here end (s.ahead c end b)))
+    let k = s.known more c end b in
+    (k.instr, k.code_is, n.named k.instr k.is_of.kind k.is_of.opcode (k.operands_are ∙ nothing_are (operands_in c) k.shape_is), nothing_between (with_more here more) end (s.ahead more c end b)))
 
 pub memory_built : (op : ℕ) (i : Instr) (u : Unit {0}) (old new : Place) → follows op ≡ Some a_zero → Passes (Exactly (0x00 ∷ [])) (Ok u) old new → NamesPlain op zero_byte (Some i)
     → Builds code_of_one (SpelledPlain op) (Ok i) old new
-memory_built op i u old new e r n = by_found op (Some i) (Ok i) old new refl (λ c end b.
+memory_built op i u old new e r n = by_found op (Some i) (Ok i) old new refl (λ more c end b.
     let s = step_passed (λ c. Exactly []) r (zero_start op old e) in
-    let k = s.known c end b in
-    (k.instr, k.code_is, n.named k.instr k.is_of.kind k.is_of.opcode (k.operands_are ∙ zero_are (operands_in c) k.shape_is), nothing_between new end (s.ahead c end b)))
+    let k = s.known more c end b in
+    (k.instr, k.code_is, n.named k.instr k.is_of.kind k.is_of.opcode (k.operands_are ∙ zero_are (operands_in c) k.shape_is), nothing_between (with_more new more) end (s.ahead more c end b)))
 
 pub index_found : (op x : ℕ) (o : Option Instr) (r : Result Instr BuildFault) (old new : Place) → follows op ≡ Some an_index → ReadsNumber (IsUnsigned 32) (Ok x) old new
     → NamesPlain op (index x) o → FoundIn o r → Builds code_of_one (SpelledPlain op) r old new
-index_found op x o r old new e m n f = by_found op o r old new f (λ c end b.
+index_found op x o r old new e m n f = by_found op o r old new f (λ more c end b.
     let s = index_start op old e in
-    let k = s.known c end b in
-    let g = number_is (IsUnsigned 32) x old new end (x_in (operands_in c)) m (s.ahead c end b) in
+    let k = s.known more c end b in
+    let g = number_is (IsUnsigned 32) x old new more end (x_in (operands_in c)) m (s.ahead more c end b) in
     (k.instr, k.code_is, n.named k.instr k.is_of.kind k.is_of.opcode (k.operands_are ∙ index_are (operands_in c) k.shape_is ∙ ap index (sym g.0)), g.1))
 
 pub access_found : (op x y : ℕ) (o : Option Instr) (r : Result Instr BuildFault) (old middle new : Place) → follows op ≡ Some an_access → ReadsNumber (IsUnsigned 32) (Ok x) old middle
     → ReadsNumber (IsUnsigned 32) (Ok y) middle new → NamesPlain op (access x y) o → FoundIn o r → Builds code_of_one (SpelledPlain op) r old new
-access_found op x y o r old middle new e l m n f = by_found op o r old new f (λ c end b.
+access_found op x y o r old middle new e l m n f = by_found op o r old new f (λ more c end b.
     let s = step_number (λ c. align_in (operands_in c)) (λ c. Number (offset_in (operands_in c))) l (access_start op old e) in
-    let w = s.known c end b in
+    let w = s.known more c end b in
     let k = w.0 in
-    let g = number_is (IsUnsigned 32) y middle new end (offset_in (operands_in c)) m (s.ahead c end b) in
+    let g = number_is (IsUnsigned 32) y middle new more end (offset_in (operands_in c)) m (s.ahead more c end b) in
     let both : access x y ≡ access (align_in (operands_in c)) (offset_in (operands_in c)) = λ i. access (w.1 i) (g.0 i) in
     (k.instr, k.code_is, n.named k.instr k.is_of.kind k.is_of.opcode (k.operands_are ∙ access_are (operands_in c) k.shape_is ∙ sym both), g.1))
 
@@ -317,11 +318,11 @@ call_is (call_indirect y) x e = let f : x ≡ y = cc in ap (λ z. plain (call_in
 
 pub call_built : (op x : ℕ) (u : Unit {0}) (old middle new : Place) → follows op ≡ Some an_index_and_zero → ReadsNumber (IsUnsigned 32) (Ok x) old middle
     → Passes (Exactly (0x00 ∷ [])) (Ok u) middle new → Builds code_of_one (SpelledPlain op) (Ok (CallIndirect x)) old new
-call_built op x u old middle new e m r = by_found op (Some (CallIndirect x)) (Ok (CallIndirect x)) old new refl (λ c end b.
+call_built op x u old middle new e m r = by_found op (Some (CallIndirect x)) (Ok (CallIndirect x)) old new refl (λ more c end b.
     let s = step_passed (λ c. Exactly []) r (step_number (λ c. x_in (operands_in c)) (λ c. Exactly (0x00 ∷ []) ▸ Exactly []) m (both_start op old e)) in
-    let w = s.known c end b in
+    let w = s.known more c end b in
     let k = w.0 in
-    (k.instr, k.code_is, call_is k.instr x (k.operands_are ∙ both_are (operands_in c) k.shape_is ∙ ap index_and_zero (sym w.1)), nothing_between new end (s.ahead c end b)))
+    (k.instr, k.code_is, call_is k.instr x (k.operands_are ∙ both_are (operands_in c) k.shape_is ∙ ap index_and_zero (sym w.1)), nothing_between (with_more new more) end (s.ahead more c end b)))
 
 labels_same : (ls ms : List ℕ) (l m : ℕ) → labels ls l ≡ labels ms m → (ls ≡ ms) × (l ≡ m)
 labels_same ls ms l m e = ((let p : ls ≡ ms = cc in p), (let p : l ≡ m = cc in p))
@@ -354,11 +355,11 @@ table_is (call_indirect y) v x e = absurd (cc)
 pub table_built : (op l : ℕ) (v : Vec ℕ Global) (old middle new : Place) → follows op ≡ Some some_labels
     → Builds (λ (v : Vec ℕ Global). map (λ x. x) v.items) (λ xs. Vector Number xs) (Ok v) old middle → ReadsNumber (IsUnsigned 32) (Ok l) middle new
     → Builds code_of_one (SpelledPlain op) (Ok (BrTable v l)) old new
-table_built op l v old middle new e r m = by_found op (Some (BrTable v l)) (Ok (BrTable v l)) old new refl (λ c end b.
+table_built op l v old middle new e r m = by_found op (Some (BrTable v l)) (Ok (BrTable v l)) old new refl (λ more c end b.
     let s = step (λ c. targets_in (operands_in c)) (λ c. Number (x_in (operands_in c))) r (labels_start op old e) in
-    let w = s.known c end b in
+    let w = s.known more c end b in
     let k = w.0 in
-    let g = number_is (IsUnsigned 32) l middle new end (x_in (operands_in c)) m (s.ahead c end b) in
+    let g = number_is (IsUnsigned 32) l middle new more end (x_in (operands_in c)) m (s.ahead more c end b) in
     let all : v.items ≡ targets_in (operands_in c) = sym (map_same v.items) ∙ w.1 in
     let both : labels v.items l ≡ labels (targets_in (operands_in c)) (x_in (operands_in c)) = λ i. labels (all i) (g.0 i) in
     (k.instr, k.code_is, table_is k.instr v l (k.operands_are ∙ labels_are (operands_in c) k.shape_is ∙ sym both), g.1))
@@ -394,11 +395,12 @@ const_32_is unreachable n e = absurd (cc)
 const_32_is (call y) n e = absurd (cc)
 const_32_is (call_indirect y) n e = absurd (cc)
 
-pub const_32_built : (op n : ℕ) (old new : Place) → follows op ≡ Some (a_constant 32) → ReadsNumber (IsSigned 32) (Ok n) old new → Builds code_of_one (SpelledPlain op) (Ok (Const (value_32 n))) old new
-const_32_built op n old new e m = by_found op (Some (Const (value_32 n))) (Ok (Const (value_32 n))) old new refl (λ c end b.
+pub const_32_built : (op n : ℕ) (old new : Place) → follows op ≡ Some (a_constant 32) → ReadsNumber (IsSigned 32) (Ok n) old new → Builds code_of_one (SpelledPlain op) (Ok (Const
+    (value_32 n))) old new
+const_32_built op n old new e m = by_found op (Some (Const (value_32 n))) (Ok (Const (value_32 n))) old new refl (λ more c end b.
     let s = constant_start 32 op old e in
-    let k = s.known c end b in
-    let g = number_is (IsSigned 32) n old new end (x_in (operands_in c)) m (s.ahead c end b) in
+    let k = s.known more c end b in
+    let g = number_is (IsSigned 32) n old new more end (x_in (operands_in c)) m (s.ahead more c end b) in
     (k.instr, k.code_is, const_32_is k.instr n (k.operands_are ∙ constant_are (operands_in c) 32 k.shape_is ∙ ap (constant 32) (sym g.0)), g.1))
 
 const_64_is : (p : Plain) (n : ℕ) → plain_immediates p ≡ constant 64 n → code_of_one (Const (value_64 n)) ≡ plain p done
@@ -426,11 +428,12 @@ const_64_is unreachable n e = absurd (cc)
 const_64_is (call y) n e = absurd (cc)
 const_64_is (call_indirect y) n e = absurd (cc)
 
-pub const_64_built : (op n : ℕ) (old new : Place) → follows op ≡ Some (a_constant 64) → ReadsNumber (IsSigned 64) (Ok n) old new → Builds code_of_one (SpelledPlain op) (Ok (Const (value_64 n))) old new
-const_64_built op n old new e m = by_found op (Some (Const (value_64 n))) (Ok (Const (value_64 n))) old new refl (λ c end b.
+pub const_64_built : (op n : ℕ) (old new : Place) → follows op ≡ Some (a_constant 64) → ReadsNumber (IsSigned 64) (Ok n) old new → Builds code_of_one (SpelledPlain op) (Ok (Const
+    (value_64 n))) old new
+const_64_built op n old new e m = by_found op (Some (Const (value_64 n))) (Ok (Const (value_64 n))) old new refl (λ more c end b.
     let s = constant_start 64 op old e in
-    let k = s.known c end b in
-    let g = number_is (IsSigned 64) n old new end (x_in (operands_in c)) m (s.ahead c end b) in
+    let k = s.known more c end b in
+    let g = number_is (IsSigned 64) n old new more end (x_in (operands_in c)) m (s.ahead more c end b) in
     (k.instr, k.code_is, const_64_is k.instr n (k.operands_are ∙ constant_are (operands_in c) 64 k.shape_is ∙ ap (constant 64) (sym g.0)), g.1))
 
 no_float : (p : Plain) (n : ℕ) → form (plain_immediates p) ≡ a_float n → ⊥
@@ -457,11 +460,11 @@ no_float unreachable k e = cc
 no_float (call y) k e = cc
 no_float (call_indirect y) k e = cc
 
-pub never_float : (op n : ℕ) (r : Result Instr BuildFault) (old new : Place) → follows op ≡ Some (a_float n) → Builds code_of_one (SpelledPlain op) r old new
-never_float op n r old new e = never (λ c end b. let h = b.spelled in no_float h.0 n (some_same _ _ (sym h.2.operands ∙ e)))
+pub never_float : (op n : ℕ) (d : BuildFault) (old new : Place) → follows op ≡ Some (a_float n) → Builds code_of_one (SpelledPlain op) (Err d) old new
+never_float op n d old new e = never refl (λ more c end b none. let h = b.spelled in no_float h.0 n (some_same _ _ (sym h.2.operands ∙ e)))
 
 none_some : (f : Form) → None ≡ Some f → ⊥
 none_some f e = cc
 
-pub never_none : (op : ℕ) (r : Result Instr BuildFault) (old new : Place) → follows op ≡ None → Builds code_of_one (SpelledPlain op) r old new
-never_none op r old new e = never (λ c end b. let h = b.spelled in none_some _ (sym e ∙ h.2.operands))
+pub never_none : (op : ℕ) (d : BuildFault) (old new : Place) → follows op ≡ None → Builds code_of_one (SpelledPlain op) (Err d) old new
+never_none op d old new e = never refl (λ more c end b none. let h = b.spelled in none_some _ (sym e ∙ h.2.operands))

@@ -1,238 +1,140 @@
 -- What a section adds, by its id.
-use Rattle.std.proofs.Common.{◌≡◌, ℕ, ◌+◌, ◌<◌, List, [], ◌∷◌, ◌++◌, map, Result, Ok, Err, refl, ap, sym, ◌∙◌, arith}
-use Rattle.wa_types.specs.declared.syntax.Limits.{Limits}
-use Rattle.wa_types.specs.declared.syntax.Import.{Import}
-use Rattle.wa_types.specs.declared.syntax.Export.{Export}
-use Rattle.wa_types.specs.declared.syntax.Func.{Func as FuncValue}
+use Rattle.std.proofs.Common.{◌≡◌, ◌⊎◌, inl, inr, ℕ, ◌+◌, List, [], ◌∷◌, ◌++◌, map, Option, Some, None, Result, Ok, Err, OnErr, refl, ap, sym, ◌∙◌, subst, arith}
+use Rattle.std.specs.Prelude.{◌==◌, if◌then◌else◌}
 use Rattle.wa_types.specs.declared.syntax.Custom.{Custom as CustomValue}
 use Rattle.wa_types.specs.Leb.{IsUnsigned}
 use Rattle.wa_types.specs.Binary.{Section, custom, types, imports, functions, tables, memories, globals, exports, start, elements, bodies, segments, section_id}
-use Rattle.wa_types.specs.Syntax.{FuncType, Func, GlobalDef, Elem, Segment, Custom}
-use Rattle.wa_types.specs.View.{func_of, custom_of}
-use Rattle.wa_types.specs.Spells.{Exactly, Number, Filling, Sized, Vector, ContentOf, FunctionType, ImportOf, TableType, LimitsOf, GlobalOf, ExportOf, ElementOf, BodyOf, SegmentOf}
+use Rattle.wa_types.specs.Syntax.{Func, Custom}
+use Rattle.wa_types.specs.View.{custom_of}
+use Rattle.wa_types.specs.Spells.{Exactly, Number, Filling, Sized, Vector, ContentOf, FunctionType, ImportOf, GlobalOf, ElementOf, BodyOf, SegmentOf}
 use Rattle.wa_types.specs.Reading.{IsFuncType, IsImport, IsGlobal, IsElem, IsBody, IsSegment}
 use Rattle.wasm_build.specs.declared.BuildFault.{BuildFault}
-use Rattle.wasm_cursor.specs.Places.{Place, ReadsNumber}
-use Rattle.wasm_build.specs.Builds.{Between, SpelledAs, SpelledBehind, Gives, Builds}
-use Rattle.wasm_build.specs.BuildsSections.{SpelledFunc, SpelledFuncs, SpelledCustom}
-use Rattle.wasm_build.specs.BuildsModule.{State, Adds, SpelledKnown, SpelledSection}
-use Rattle.wasm_build.proofs.Betweens.{map_append, parts, behind_first, as_vector, number_is, byte_is, fails}
+use Rattle.wasm_build.specs.declared.sections.Entries.{Entries}
+use Rattle.wasm_build.specs.declared.sections.Entries.TheVariants.{Types, Imports, Functions, Tables, Memories, Globals, Exports, Elements, Segments}
+use Rattle.wasm_cursor.specs.declared.front.NotSpelled.{NotSpelled}
+use Rattle.wasm_cursor.specs.Places.{Place, with_more, ReadsNumber}
+use Rattle.wasm_build.specs.Builds.{Between, SpelledOnto, Gives, Builds}
+use Rattle.wasm_build.specs.BuildsSections.{SpelledFunc, SpelledCustom}
+use Rattle.wasm_build.specs.BuildsModule.{State, Adds, SpelledStart, SpelledSingle}
+use Rattle.wasm_build.specs.BuildsEntries.{id_of, AreOf, IsOther, Item, SpelledItem, with_items, SpelledEntry}
+use Rattle.wasm_build.proofs.Betweens.{map_append, parts, behind_first, as_vector, number_is, number_fails, byte_is, no_byte, fails}
+use Rattle.wasm_build.proofs.Steps.{never}
 
-gives_by : {A X Y : Type 0} (view : A → X) (other : A → Y) (new end : Place) (x : X) (y : Y) (r : Result A BuildFault) → ((a : A) → view a ≡ x → other a ≡ y) → Gives view r x new end
-    → Gives other r y new end
-gives_by view other new end x y (Ok a) f g = (f a g.0, g.1)
-gives_by view other new end x y (Err e) f g = g
-
--- a vector that a section of this id holds, and the state that comes of what stands behind these
-pub record Arm {X : Type 0} (Spelled : X → ℕ → List ℕ → Type 0) (put : List X → State) (before : List X) (q : State) (at : ℕ) (bytes : List ℕ) : Type 0 where
-  pub xs : List X
-  pub state : q ≡ put (before ++ xs)
-  pub sized : Sized (Vector Spelled xs) at bytes
+gives_by : {A X Y : Type 0} (view : A → X) (other : A → Y) (more : List ℕ) (new end : Place) (x : X) (y : Y) (r : Result A BuildFault) → ((a : A) → view a ≡ x → other a ≡ y)
+    → Gives view more r x new end → Gives other more r y new end
+gives_by view other more new end x y (Ok a) f g = (f a g.0, g.1)
+gives_by view other more new end x y (Err e) f g = g
 
 -- where a section's content begins
-sized_parts : {P : ℕ → List ℕ → Type 0} (n : ℕ) (old here end : Place) → ReadsNumber (IsUnsigned 32) (Ok n) old here → Between (Sized P) old end → Between P here end
-sized_parts {P = P} n old here end r b =
+sized_parts : {P : ℕ → List ℕ → Type 0} (n : ℕ) (old here : Place) (more : List ℕ) (end : Place) → ReadsNumber (IsUnsigned 32) (Ok n) old here → Between (Sized P) (with_more old more) end
+    → Between P (with_more here more) end
+sized_parts {P = P} n old here more end r b =
     let h = b.spelled in
-    let k = parts (Number h.0) (Filling h.0 P) old end (record { front = b.front; spelled = h.1; left = b.left; place = b.place }) in
-    let m = number_is (IsUnsigned 32) n old here k.middle h.0 r k.first in
-    let rest = behind_first _ _ old end here k m.1 in
+    let k = parts (Number h.0) (Filling h.0 P) (with_more old more) end (record { front = b.front; spelled = h.1; left = b.left; place = b.place }) in
+    let m = number_is (IsUnsigned 32) n old here more k.middle h.0 r k.first in
+    let rest = behind_first _ _ (with_more old more) end (with_more here more) k m.1 in
     record { front = rest.front; spelled = rest.spelled.1; left = rest.left; place = rest.place }
 
-pub arm_built : {A X : Type 0} {Spelled : X → ℕ → List ℕ → Type 0} {old here new : Place} {n id k : ℕ} {p : State} (view : A → X) (before after : List A) (first : List X) (put : ℕ → List X
-    → State) (whole : State) (r : Result (Unit {0}) BuildFault) → id ≡ k → ReadsNumber (IsUnsigned 32) (Ok n) old here
-    → Builds (λ (u : Unit {0}). map view after) (SpelledBehind Spelled (map view before)) r here new → first ≡ map view before → whole ≡ put id (map view after)
-    → ((s : Section) (q : State) (at : ℕ) (bytes : List ℕ) → section_id s ≡ k → Adds s p q → Sized (ContentOf s) at bytes → Arm Spelled (put k) first q at bytes)
-    → Builds (λ (u : Unit {0}). whole) (SpelledKnown id p) r old new
-arm_built {Spelled = Spelled} {n = n} {id = id} view before after first put whole r same m built begins e f = record {
-  built = λ q end b.
-      let h = b.spelled in
-      let a = f h.0 q _ b.front (h.2 ∙ same) h.3 h.4 in
-      let c = sized_parts {P = Vector Spelled a.xs} n _ _ end m (record { front = b.front; spelled = a.sized; left = b.left; place = b.place }) in
-      let all : map view before ++ a.xs ≡ first ++ a.xs = ap (λ z. z ++ a.xs) (sym begins) in
-      gives_by (λ (u : Unit {0}). map view after) (λ (u : Unit {0}). whole) _ end (map view before ++ a.xs) q r (λ u g. e ∙ ap (λ z. put z (map view after)) same ∙ ap (put _) (g ∙ all) ∙ sym a.state)
-      (built.built (map view before ++ a.xs) end (record { front = c.front; spelled = (a.xs, refl, c.spelled); left = c.left; place = c.place }));
-}
+-- the state with these in the place of its entries
+abbrev pub put_all : (k : Entries) → State → List (Item k) → State
+put_all Types p xs = record p { held = record p.held { types = xs } }
+put_all Imports p xs = record p { held = record p.held { imports = xs } }
+put_all Functions p xs = record p { sorts = xs }
+put_all Tables p xs = record p { held = record p.held { tables = xs } }
+put_all Memories p xs = record p { held = record p.held { memories = xs } }
+put_all Globals p xs = record p { held = record p.held { globals = xs } }
+put_all Exports p xs = record p { held = record p.held { exports = xs } }
+put_all Elements p xs = record p { held = record p.held { elems = xs } }
+put_all Segments p xs = record p { held = record p.held { segments = xs } }
 
-abbrev pub put_types : State → ℕ → List FuncType → State
-put_types p id xs = record p { held = record p.held { types = xs }; last = id }
+-- the entries of the section with an id
+abbrev of_id : ℕ → Option Entries
+of_id n =
+    if n == 1 then Some Types
+    else (if n == 2 then Some Imports
+    else (if n == 3 then Some Functions
+    else (if n == 4 then Some Tables
+    else (if n == 5 then Some Memories
+    else (if n == 6 then Some Globals
+    else (if n == 7 then Some Exports
+    else (if n == 9 then Some Elements
+    else (if n == 11 then Some Segments
+    else None))))))))
 
-abbrev pub put_imports : State → ℕ → List Import → State
-put_imports p id xs = record p { held = record p.held { imports = xs }; last = id }
+of_own : (k : Entries) → of_id (id_of k) ≡ Some k
+of_own Types = refl
+of_own Imports = refl
+of_own Functions = refl
+of_own Tables = refl
+of_own Memories = refl
+of_own Globals = refl
+of_own Exports = refl
+of_own Elements = refl
+of_own Segments = refl
 
-abbrev pub put_sorts : State → ℕ → List ℕ → State
-put_sorts p id xs = record p { sorts = xs; last = id }
+the_same : (j k : Entries) → Some j ≡ Some k → j ≡ k
+the_same j k e = cc
 
-abbrev pub put_tables : State → ℕ → List Limits → State
-put_tables p id xs = record p { held = record p.held { tables = xs }; last = id }
+no_kind : (k : Entries) → None ≡ Some k → ⊥
+no_kind k e = cc
 
-abbrev pub put_memories : State → ℕ → List Limits → State
-put_memories p id xs = record p { held = record p.held { memories = xs }; last = id }
+same_kind : (j k : Entries) → id_of j ≡ id_of k → j ≡ k
+same_kind j k e = the_same j k (sym (of_own j) ∙ ap of_id e ∙ of_own k)
 
-abbrev pub put_globals : State → ℕ → List GlobalDef → State
-put_globals p id xs = record p { held = record p.held { globals = xs }; last = id }
+-- the entries of a section that is one vector
+pub record VectorArm (k : Entries) (p q : State) (at : ℕ) (bytes : List ℕ) : Type 0 where
+  pub xs : List (Item k)
+  pub state : q ≡ with_items k (record p { last = id_of k }) xs
+  pub sized : Sized (Vector (SpelledItem k) xs) at bytes
 
-abbrev pub put_exports : State → ℕ → List Export → State
-put_exports p id xs = record p { held = record p.held { exports = xs }; last = id }
-
-abbrev pub put_elements : State → ℕ → List Elem → State
-put_elements p id xs = record p { held = record p.held { elems = xs }; last = id }
-
-abbrev pub put_segments : State → ℕ → List Segment → State
-put_segments p id xs = record p { held = record p.held { segments = xs }; last = id }
-
-pub types_arm : (p : State) (s : Section) (q : State) (at : ℕ) (bytes : List ℕ) → section_id s ≡ 1 → Adds s p q → Sized (ContentOf s) at bytes
-    → Arm (SpelledAs FunctionType IsFuncType) (put_types p 1) p.held.types q at bytes
-types_arm p (custom name content) q at bytes e a h = absurd (omega (arith, e))
-types_arm p (types ts) q at bytes e a h = record {
+pub vector_arm : (k : Entries) (p : State) (s : Section) (q : State) (at : ℕ) (bytes : List ℕ) → section_id s ≡ id_of k → Adds s p q → Sized (ContentOf s) at bytes → VectorArm k p q at bytes
+vector_arm k p (custom name content) q at bytes e a h = absurd (no_kind k (ap of_id e ∙ of_own k))
+vector_arm k p (types ts) q at bytes e a h = subst (λ z. VectorArm z p q at bytes) (same_kind Types k e) (record {
   xs = a.0;
   state = a.2;
   sized = (h.0, (h.1.0, h.1.1, h.1.2, h.1.3, (h.1.4.0, as_vector FunctionType IsFuncType ts a.0 _ _ a.1 h.1.4.1)));
-}
-types_arm p (imports is) q at bytes e a h = absurd (omega (arith, e))
-types_arm p (functions xs) q at bytes e a h = absurd (omega (arith, e))
-types_arm p (tables xs) q at bytes e a h = absurd (omega (arith, e))
-types_arm p (memories xs) q at bytes e a h = absurd (omega (arith, e))
-types_arm p (globals gs) q at bytes e a h = absurd (omega (arith, e))
-types_arm p (exports xs) q at bytes e a h = absurd (omega (arith, e))
-types_arm p (start x) q at bytes e a h = absurd (omega (arith, e))
-types_arm p (elements es) q at bytes e a h = absurd (omega (arith, e))
-types_arm p (bodies bs) q at bytes e a h = absurd (omega (arith, e))
-types_arm p (segments ss) q at bytes e a h = absurd (omega (arith, e))
-
-pub imports_arm : (p : State) (s : Section) (q : State) (at : ℕ) (bytes : List ℕ) → section_id s ≡ 2 → Adds s p q → Sized (ContentOf s) at bytes
-    → Arm (SpelledAs ImportOf IsImport) (put_imports p 2) p.held.imports q at bytes
-imports_arm p (custom name content) q at bytes e a h = absurd (omega (arith, e))
-imports_arm p (types ts) q at bytes e a h = absurd (omega (arith, e))
-imports_arm p (imports is) q at bytes e a h = record {
+})
+vector_arm k p (imports is) q at bytes e a h = subst (λ z. VectorArm z p q at bytes) (same_kind Imports k e) (record {
   xs = a.0;
   state = a.2;
   sized = (h.0, (h.1.0, h.1.1, h.1.2, h.1.3, (h.1.4.0, as_vector ImportOf IsImport is a.0 _ _ a.1 h.1.4.1)));
-}
-imports_arm p (functions xs) q at bytes e a h = absurd (omega (arith, e))
-imports_arm p (tables xs) q at bytes e a h = absurd (omega (arith, e))
-imports_arm p (memories xs) q at bytes e a h = absurd (omega (arith, e))
-imports_arm p (globals gs) q at bytes e a h = absurd (omega (arith, e))
-imports_arm p (exports xs) q at bytes e a h = absurd (omega (arith, e))
-imports_arm p (start x) q at bytes e a h = absurd (omega (arith, e))
-imports_arm p (elements es) q at bytes e a h = absurd (omega (arith, e))
-imports_arm p (bodies bs) q at bytes e a h = absurd (omega (arith, e))
-imports_arm p (segments ss) q at bytes e a h = absurd (omega (arith, e))
-
-pub sorts_arm : (p : State) (s : Section) (q : State) (at : ℕ) (bytes : List ℕ) → section_id s ≡ 3 → Adds s p q → Sized (ContentOf s) at bytes → Arm Number (put_sorts p 3) p.sorts q at bytes
-sorts_arm p (custom name content) q at bytes e a h = absurd (omega (arith, e))
-sorts_arm p (types ts) q at bytes e a h = absurd (omega (arith, e))
-sorts_arm p (imports is) q at bytes e a h = absurd (omega (arith, e))
-sorts_arm p (functions xs) q at bytes e a h = record { xs = xs; state = a; sized = h }
-sorts_arm p (tables xs) q at bytes e a h = absurd (omega (arith, e))
-sorts_arm p (memories xs) q at bytes e a h = absurd (omega (arith, e))
-sorts_arm p (globals gs) q at bytes e a h = absurd (omega (arith, e))
-sorts_arm p (exports xs) q at bytes e a h = absurd (omega (arith, e))
-sorts_arm p (start x) q at bytes e a h = absurd (omega (arith, e))
-sorts_arm p (elements es) q at bytes e a h = absurd (omega (arith, e))
-sorts_arm p (bodies bs) q at bytes e a h = absurd (omega (arith, e))
-sorts_arm p (segments ss) q at bytes e a h = absurd (omega (arith, e))
-
-pub tables_arm : (p : State) (s : Section) (q : State) (at : ℕ) (bytes : List ℕ) → section_id s ≡ 4 → Adds s p q → Sized (ContentOf s) at bytes
-    → Arm TableType (put_tables p 4) p.held.tables q at bytes
-tables_arm p (custom name content) q at bytes e a h = absurd (omega (arith, e))
-tables_arm p (types ts) q at bytes e a h = absurd (omega (arith, e))
-tables_arm p (imports is) q at bytes e a h = absurd (omega (arith, e))
-tables_arm p (functions xs) q at bytes e a h = absurd (omega (arith, e))
-tables_arm p (tables xs) q at bytes e a h = record { xs = xs; state = a; sized = h }
-tables_arm p (memories xs) q at bytes e a h = absurd (omega (arith, e))
-tables_arm p (globals gs) q at bytes e a h = absurd (omega (arith, e))
-tables_arm p (exports xs) q at bytes e a h = absurd (omega (arith, e))
-tables_arm p (start x) q at bytes e a h = absurd (omega (arith, e))
-tables_arm p (elements es) q at bytes e a h = absurd (omega (arith, e))
-tables_arm p (bodies bs) q at bytes e a h = absurd (omega (arith, e))
-tables_arm p (segments ss) q at bytes e a h = absurd (omega (arith, e))
-
-pub memories_arm : (p : State) (s : Section) (q : State) (at : ℕ) (bytes : List ℕ) → section_id s ≡ 5 → Adds s p q → Sized (ContentOf s) at bytes
-    → Arm LimitsOf (put_memories p 5) p.held.memories q at bytes
-memories_arm p (custom name content) q at bytes e a h = absurd (omega (arith, e))
-memories_arm p (types ts) q at bytes e a h = absurd (omega (arith, e))
-memories_arm p (imports is) q at bytes e a h = absurd (omega (arith, e))
-memories_arm p (functions xs) q at bytes e a h = absurd (omega (arith, e))
-memories_arm p (tables xs) q at bytes e a h = absurd (omega (arith, e))
-memories_arm p (memories xs) q at bytes e a h = record { xs = xs; state = a; sized = h }
-memories_arm p (globals gs) q at bytes e a h = absurd (omega (arith, e))
-memories_arm p (exports xs) q at bytes e a h = absurd (omega (arith, e))
-memories_arm p (start x) q at bytes e a h = absurd (omega (arith, e))
-memories_arm p (elements es) q at bytes e a h = absurd (omega (arith, e))
-memories_arm p (bodies bs) q at bytes e a h = absurd (omega (arith, e))
-memories_arm p (segments ss) q at bytes e a h = absurd (omega (arith, e))
-
-pub globals_arm : (p : State) (s : Section) (q : State) (at : ℕ) (bytes : List ℕ) → section_id s ≡ 6 → Adds s p q → Sized (ContentOf s) at bytes
-    → Arm (SpelledAs GlobalOf IsGlobal) (put_globals p 6) p.held.globals q at bytes
-globals_arm p (custom name content) q at bytes e a h = absurd (omega (arith, e))
-globals_arm p (types ts) q at bytes e a h = absurd (omega (arith, e))
-globals_arm p (imports is) q at bytes e a h = absurd (omega (arith, e))
-globals_arm p (functions xs) q at bytes e a h = absurd (omega (arith, e))
-globals_arm p (tables xs) q at bytes e a h = absurd (omega (arith, e))
-globals_arm p (memories xs) q at bytes e a h = absurd (omega (arith, e))
-globals_arm p (globals gs) q at bytes e a h = record {
+})
+vector_arm k p (functions xs) q at bytes e a h = subst (λ z. VectorArm z p q at bytes) (same_kind Functions k e) (record { xs = xs; state = a; sized = h })
+vector_arm k p (tables xs) q at bytes e a h = subst (λ z. VectorArm z p q at bytes) (same_kind Tables k e) (record { xs = xs; state = a; sized = h })
+vector_arm k p (memories xs) q at bytes e a h = subst (λ z. VectorArm z p q at bytes) (same_kind Memories k e) (record { xs = xs; state = a; sized = h })
+vector_arm k p (globals gs) q at bytes e a h = subst (λ z. VectorArm z p q at bytes) (same_kind Globals k e) (record {
   xs = a.0;
   state = a.2;
   sized = (h.0, (h.1.0, h.1.1, h.1.2, h.1.3, (h.1.4.0, as_vector GlobalOf IsGlobal gs a.0 _ _ a.1 h.1.4.1)));
-}
-globals_arm p (exports xs) q at bytes e a h = absurd (omega (arith, e))
-globals_arm p (start x) q at bytes e a h = absurd (omega (arith, e))
-globals_arm p (elements es) q at bytes e a h = absurd (omega (arith, e))
-globals_arm p (bodies bs) q at bytes e a h = absurd (omega (arith, e))
-globals_arm p (segments ss) q at bytes e a h = absurd (omega (arith, e))
-
-pub exports_arm : (p : State) (s : Section) (q : State) (at : ℕ) (bytes : List ℕ) → section_id s ≡ 7 → Adds s p q → Sized (ContentOf s) at bytes
-    → Arm ExportOf (put_exports p 7) p.held.exports q at bytes
-exports_arm p (custom name content) q at bytes e a h = absurd (omega (arith, e))
-exports_arm p (types ts) q at bytes e a h = absurd (omega (arith, e))
-exports_arm p (imports is) q at bytes e a h = absurd (omega (arith, e))
-exports_arm p (functions xs) q at bytes e a h = absurd (omega (arith, e))
-exports_arm p (tables xs) q at bytes e a h = absurd (omega (arith, e))
-exports_arm p (memories xs) q at bytes e a h = absurd (omega (arith, e))
-exports_arm p (globals gs) q at bytes e a h = absurd (omega (arith, e))
-exports_arm p (exports xs) q at bytes e a h = record { xs = xs; state = a; sized = h }
-exports_arm p (start x) q at bytes e a h = absurd (omega (arith, e))
-exports_arm p (elements es) q at bytes e a h = absurd (omega (arith, e))
-exports_arm p (bodies bs) q at bytes e a h = absurd (omega (arith, e))
-exports_arm p (segments ss) q at bytes e a h = absurd (omega (arith, e))
-
-pub elements_arm : (p : State) (s : Section) (q : State) (at : ℕ) (bytes : List ℕ) → section_id s ≡ 9 → Adds s p q → Sized (ContentOf s) at bytes
-    → Arm (SpelledAs ElementOf IsElem) (λ (xs : List Elem). record p { held = record p.held { elems = xs }; last = 9 }) p.held.elems q at bytes
-elements_arm p (custom name content) q at bytes e a h = absurd (omega (arith, e))
-elements_arm p (types ts) q at bytes e a h = absurd (omega (arith, e))
-elements_arm p (imports is) q at bytes e a h = absurd (omega (arith, e))
-elements_arm p (functions xs) q at bytes e a h = absurd (omega (arith, e))
-elements_arm p (tables xs) q at bytes e a h = absurd (omega (arith, e))
-elements_arm p (memories xs) q at bytes e a h = absurd (omega (arith, e))
-elements_arm p (globals gs) q at bytes e a h = absurd (omega (arith, e))
-elements_arm p (exports xs) q at bytes e a h = absurd (omega (arith, e))
-elements_arm p (start x) q at bytes e a h = absurd (omega (arith, e))
-elements_arm p (elements es) q at bytes e a h = record {
+})
+vector_arm k p (exports xs) q at bytes e a h = subst (λ z. VectorArm z p q at bytes) (same_kind Exports k e) (record { xs = xs; state = a; sized = h })
+vector_arm k p (start x) q at bytes e a h = absurd (no_kind k (ap of_id e ∙ of_own k))
+vector_arm k p (elements es) q at bytes e a h = subst (λ z. VectorArm z p q at bytes) (same_kind Elements k e) (record {
   xs = a.0;
   state = a.2;
   sized = (h.0, (h.1.0, h.1.1, h.1.2, h.1.3, (h.1.4.0, as_vector ElementOf IsElem es a.0 _ _ a.1 h.1.4.1)));
-}
-elements_arm p (bodies bs) q at bytes e a h = absurd (omega (arith, e))
-elements_arm p (segments ss) q at bytes e a h = absurd (omega (arith, e))
-
-pub segments_arm : (p : State) (s : Section) (q : State) (at : ℕ) (bytes : List ℕ) → section_id s ≡ 11 → Adds s p q → Sized (ContentOf s) at bytes
-    → Arm (SpelledAs SegmentOf IsSegment) (put_segments p 11) p.held.segments q at bytes
-segments_arm p (custom name content) q at bytes e a h = absurd (omega (arith, e))
-segments_arm p (types ts) q at bytes e a h = absurd (omega (arith, e))
-segments_arm p (imports is) q at bytes e a h = absurd (omega (arith, e))
-segments_arm p (functions xs) q at bytes e a h = absurd (omega (arith, e))
-segments_arm p (tables xs) q at bytes e a h = absurd (omega (arith, e))
-segments_arm p (memories xs) q at bytes e a h = absurd (omega (arith, e))
-segments_arm p (globals gs) q at bytes e a h = absurd (omega (arith, e))
-segments_arm p (exports xs) q at bytes e a h = absurd (omega (arith, e))
-segments_arm p (start x) q at bytes e a h = absurd (omega (arith, e))
-segments_arm p (elements es) q at bytes e a h = absurd (omega (arith, e))
-segments_arm p (bodies bs) q at bytes e a h = absurd (omega (arith, e))
-segments_arm p (segments ss) q at bytes e a h = record {
+})
+vector_arm k p (bodies bs) q at bytes e a h = absurd (no_kind k (ap of_id e ∙ of_own k))
+vector_arm k p (segments ss) q at bytes e a h = subst (λ z. VectorArm z p q at bytes) (same_kind Segments k e) (record {
   xs = a.0;
   state = a.2;
   sized = (h.0, (h.1.0, h.1.1, h.1.2, h.1.3, (h.1.4.0, as_vector SegmentOf IsSegment ss a.0 _ _ a.1 h.1.4.1)));
-}
+})
+
+-- no other section
+pub no_section : (s : Section) (id : ℕ) → section_id s ≡ id → IsOther id → AreOf None id → ⊥
+no_section (custom name content) id e o n = o.not_custom (sym e)
+no_section (start x) id e o n = o.not_start (sym e)
+no_section (bodies bs) id e o n = o.not_code (sym e)
+no_section (types ts) id e o n = n Types (sym e)
+no_section (imports is) id e o n = n Imports (sym e)
+no_section (functions xs) id e o n = n Functions (sym e)
+no_section (tables xs) id e o n = n Tables (sym e)
+no_section (memories xs) id e o n = n Memories (sym e)
+no_section (globals gs) id e o n = n Globals (sym e)
+no_section (exports xs) id e o n = n Exports (sym e)
+no_section (elements es) id e o n = n Elements (sym e)
+no_section (segments ss) id e o n = n Segments (sym e)
 
 -- the code section
 pub record Coded (p q : State) (at : ℕ) (bytes : List ℕ) : Type 0 where
@@ -260,45 +162,107 @@ code_arm p (bodies bs) q at bytes e a h = record {
 }
 code_arm p (segments ss) q at bytes e a h = absurd (omega (arith, e))
 
-pub code_built : {n id : ℕ} {old here new : Place} (before after : List FuncValue) (sorts : List ℕ) (p whole : State) (r : Result (Unit {0}) BuildFault) → id ≡ 10
-    → ReadsNumber (IsUnsigned 32) (Ok n) old here → sorts ≡ p.sorts → p.held.funcs ≡ map func_of before
-    → Builds (λ (u : Unit {0}). map func_of after) (SpelledFuncs sorts (map func_of before)) r here new → whole ≡ record p { held = record p.held { funcs = map func_of after }; last = id }
-    → Builds (λ (u : Unit {0}). whole) (SpelledKnown id p) r old new
-code_built {n = n} {id = id} before after sorts p whole r same m listed funcs built e = record {
-  built = λ q end b.
+-- one entry is put behind those that there are
+pub entry_put : {A : Type 0} {old new : Place} {r : Result (Unit {0}) BuildFault} {kind : Entries} (k : Entries) (view : A → Item k) (before after : List A) (p whole : State) → kind ≡ k
+    → Builds (λ (u : Unit {0}). map view after) (SpelledOnto (SpelledItem k) (map view before)) r old new → whole ≡ put_all k p (map view after)
+    → ((x : Item k) → with_items k p (x ∷ []) ≡ put_all k p (map view before ++ x ∷ [])) → Builds (λ (u : Unit {0}). whole) (SpelledEntry kind p) r old new
+entry_put {old = old} {new = new} {r = r} k view before after p whole same one is joined =
+    subst (λ z. Builds (λ (u : Unit {0}). whole) (SpelledEntry z p) r old new) (sym same) (record {
+      built = λ more q end b.
+          let h = b.spelled in
+          gives_by (λ (u : Unit {0}). map view after) (λ (u : Unit {0}). whole) more _ end (map view before ++ h.0 ∷ []) q r (λ u g. is ∙ ap (put_all k p) g ∙ sym (joined h.0) ∙ sym h.1)
+          (one.built more (map view before ++ h.0 ∷ []) end (record { front = b.front; spelled = (h.0, refl, h.2); left = b.left; place = b.place }));
+    })
+
+pub kept_all : {A : Type 0} (k : Entries) (view : A → Item k) (p : State) (before after : List A) (r : Result (Unit {0}) BuildFault) → OnErr r (after ≡ before)
+    → OnErr r (put_all k p (map view after) ≡ put_all k p (map view before))
+kept_all k view p before after (Ok u) h = tt
+kept_all k view p before after (Err d) h = ap (λ xs. put_all k p (map view xs)) h
+
+pub kept_same : (k : Entries) (p : State) (before after : List (Item k)) (r : Result (Unit {0}) BuildFault) → OnErr r (after ≡ before) → OnErr r (put_all k p after ≡ put_all k p before)
+kept_same k p before after (Ok u) h = tt
+kept_same k p before after (Err d) h = ap (put_all k p) h
+
+-- the start section
+start_arm : (p q : State) (s : Section) (at : ℕ) (bytes : List ℕ) → section_id s ≡ 8 → Adds s p q → Sized (ContentOf s) at bytes → SpelledStart p q at bytes
+start_arm p q (start x) at bytes e a h = (x, a, h)
+start_arm p q (custom name content) at bytes e a h = absurd (omega (arith, e))
+start_arm p q (types ts) at bytes e a h = absurd (omega (arith, e))
+start_arm p q (imports is) at bytes e a h = absurd (omega (arith, e))
+start_arm p q (functions xs) at bytes e a h = absurd (omega (arith, e))
+start_arm p q (tables xs) at bytes e a h = absurd (omega (arith, e))
+start_arm p q (memories xs) at bytes e a h = absurd (omega (arith, e))
+start_arm p q (globals gs) at bytes e a h = absurd (omega (arith, e))
+start_arm p q (exports xs) at bytes e a h = absurd (omega (arith, e))
+start_arm p q (elements es) at bytes e a h = absurd (omega (arith, e))
+start_arm p q (bodies bs) at bytes e a h = absurd (omega (arith, e))
+start_arm p q (segments ss) at bytes e a h = absurd (omega (arith, e))
+
+module _ {n : ℕ} {old : Place} (p whole : State) (here : Place) where
+  pub start_built : {x : ℕ} (new : Place) → ReadsNumber (IsUnsigned 32) (Ok n) old here → ReadsNumber (IsUnsigned 32) (Ok x) here new
+      → whole ≡ record p { held = record p.held { start = Some x }; last = 8 } → Builds (λ (u : Unit {0}). whole) (SpelledStart p) (Ok tt) old new
+  start_built {x = x} new r m is = record {
+    built = λ more q end b.
+        let h = b.spelled in
+        let c = sized_parts {P = Number h.0} n old here more end r (record { front = b.front; spelled = h.2; left = b.left; place = b.place }) in
+        let g = number_is (IsUnsigned 32) x here new more end h.0 m c in
+        (is ∙ ap (λ z. record p { held = record p.held { start = Some z }; last = 8 }) g.0 ∙ sym h.1, g.1);
+  }
+
+  pub start_stop : {d : NotSpelled} {y : BuildFault} {q : Result (Unit {0}) BuildFault} (last : Place) → q ≡ Err y → ReadsNumber (IsUnsigned 32) (Ok n) old here
+      → ReadsNumber (IsUnsigned 32) (Err d) here here → Builds (λ (u : Unit {0}). whole) (SpelledStart p) q old last
+  start_stop {d = d} last e r m = never e (λ more q end b none.
       let h = b.spelled in
-      let a = code_arm p h.0 q _ b.front (h.2 ∙ same) h.3 h.4 in
-      let c = sized_parts {P = Vector SpelledFunc a.fs} n _ _ end m (record { front = b.front; spelled = a.sized; left = b.left; place = b.place }) in
-      let put : ℕ → List Func → State = λ (k : ℕ) (xs : List Func). record p { held = record p.held { funcs = xs }; last = k } in
-      let all : map func_of before ++ a.fs ≡ p.held.funcs ++ a.fs = ap (λ z. z ++ a.fs) (sym funcs) in
-      gives_by (λ (u : Unit {0}). map func_of after) (λ (u : Unit {0}). whole) _ end (map func_of before ++ a.fs) q r (λ u g. e ∙ ap (λ k. put k (map func_of after)) same
-      ∙ ap (put 10) (g ∙ all) ∙ sym a.state)
-      (built.built (map func_of before ++ a.fs) end (record { front = c.front; spelled = (a.fs, refl, a.sorted ∙ sym listed, c.spelled); left = c.left; place = c.place }));
-}
+      let c = sized_parts {P = Number h.0} n old here more end r (record { front = b.front; spelled = h.2; left = b.left; place = b.place }) in
+      number_fails (IsUnsigned 32) d here here more end h.0 m c none)
+
+pub start_unsized : {d : NotSpelled} {y : BuildFault} {old : Place} {q : Result (Unit {0}) BuildFault} (p whole : State) (last : Place) → q ≡ Err y → ReadsNumber (IsUnsigned 32) (Err d) old old
+    → Builds (λ (u : Unit {0}). whole) (SpelledStart p) q old last
+start_unsized {d = d} {old = old} p whole last e m = never e (λ more q end b none.
+    let h = b.spelled in
+    let z = h.2 in
+    let k = parts (Number z.0) (Filling z.0 (Number h.0)) (with_more old more) end (record { front = b.front; spelled = z.1; left = b.left; place = b.place }) in
+    number_fails (IsUnsigned 32) d old old more k.middle z.0 m k.first none)
 
 -- a section behind its id
 pub record Behind (p q : State) (id : ℕ) (here end : Place) : Type 0 where
   pub section : Section
   pub id_is : section_id section ≡ id
+  pub single : (section_id section ≡ 0) ⊎ (section_id section ≡ 8)
   pub adds : Adds section p q
   pub between : Between (Sized (ContentOf section)) here end
 
-pub behind_id : (p q : State) (id : ℕ) (old here end : Place) → old.left ≡ id ∷ here.left → here.at ≡ old.at + 1 → Between (SpelledSection p q) old end → Behind p q id here end
-behind_id p q id old here end e f b =
+pub behind_id : (p q : State) (id : ℕ) (old here : Place) (more : List ℕ) (end : Place) → old.left ≡ id ∷ here.left → here.at ≡ old.at + 1
+    → Between (SpelledSingle p q) (with_more old more) end → Behind p q id (with_more here more) end
+behind_id p q id old here more end e f b =
     let h = b.spelled in
-    let k = parts (Exactly (section_id h.0 ∷ [])) (Sized (ContentOf h.0)) old end (record { front = b.front; spelled = h.2; left = b.left; place = b.place }) in
-    let g = byte_is id (section_id h.0) old here k.middle e f k.first in
-    record { section = h.0; id_is = sym g.0; adds = h.1; between = behind_first _ _ old end here k g.1 }
+    let k = parts (Exactly (section_id h.0 ∷ [])) (Sized (ContentOf h.0)) (with_more old more) end (record { front = b.front; spelled = h.3; left = b.left; place = b.place }) in
+    let g = byte_is id (section_id h.0) (with_more old more) (with_more here more) k.middle (ap (λ z. z ++ more) e) f k.first in
+    record { section = h.0; id_is = sym g.0; single = h.1; adds = h.2; between = behind_first _ _ (with_more old more) end (with_more here more) k g.1 }
 
-pub known_built : {id : ℕ} {p whole : State} {old here new : Place} {r : Result (Unit {0}) BuildFault} → old.left ≡ id ∷ here.left → here.at ≡ old.at + 1 → (id ≡ 0 → ⊥)
-    → Builds (λ (u : Unit {0}). whole) (SpelledKnown id p) r here new → Builds (λ (u : Unit {0}). whole) (SpelledSection p) r old new
-known_built {id = id} {p = p} {old = old} {here = here} e f some r = record {
-  built = λ q end b.
-      let k = behind_id p q id old here end e f b in
+the_start : (id n : ℕ) → n ≡ id → (id ≡ 0 → ⊥) → (n ≡ 0) ⊎ (n ≡ 8) → n ≡ 8
+the_start id n e some (inl z) = absurd (some (sym e ∙ z))
+the_start id n e some (inr z) = z
+
+pub start_on : {id : ℕ} {p whole : State} {old here new : Place} {r : Result (Unit {0}) BuildFault} → old.left ≡ id ∷ here.left → here.at ≡ old.at + 1 → (id ≡ 0 → ⊥)
+    → Builds (λ (u : Unit {0}). whole) (SpelledStart p) r here new → Builds (λ (u : Unit {0}). whole) (SpelledSingle p) r old new
+start_on {id = id} {p = p} {old = old} {here = here} e f some r = record {
+  built = λ more q end b.
+      let k = behind_id p q id old here more end e f b in
       let c = k.between in
-      let least : 0 < id = omega (arith, some) in
-      r.built q end (record { front = c.front; spelled = (k.section, least, k.id_is, k.adds, c.spelled); left = c.left; place = c.place });
+      r.built more q end (record {
+        front = c.front;
+        spelled = start_arm p q k.section here.at c.front (the_start id (section_id k.section) k.id_is some k.single) k.adds c.spelled;
+        left = c.left;
+        place = c.place;
+      });
 }
+
+pub single_none : {p whole : State} {old last : Place} {y : BuildFault} {q : Result (Unit {0}) BuildFault} → q ≡ Err y → old.left ≡ [] → Builds (λ (u : Unit {0}). whole) (SpelledSingle p) q old last
+single_none {old = old} e empty = never e (λ more q end b none.
+    let h = b.spelled in
+    let k = parts (Exactly (section_id h.0 ∷ [])) (Sized (ContentOf h.0)) (with_more old more) end (record { front = b.front; spelled = h.3; left = b.left; place = b.place }) in
+    no_byte (section_id h.0) (with_more old more) k.middle (ap (λ z. z ++ more) empty ∙ none) k.first)
 
 -- a custom section
 pub record Customized (p q : State) (here end : Place) : Type 0 where
@@ -324,17 +288,18 @@ custom_arm p q (elements es) here end e a b = absurd (omega (arith, e))
 custom_arm p q (bodies bs) here end e a b = absurd (omega (arith, e))
 custom_arm p q (segments ss) here end e a b = absurd (omega (arith, e))
 
-pub customized : {id : ℕ} {old here : Place} (p q : State) (end : Place) → old.left ≡ id ∷ here.left → here.at ≡ old.at + 1 → id ≡ 0 → Between (SpelledSection p q) old end → Customized p q here end
-customized {id = id} {old = old} {here = here} p q end e f none b =
-    let k = behind_id p q id old here end e f b in
-    custom_arm p q k.section here end (k.id_is ∙ none) k.adds k.between
+pub customized : {id : ℕ} {old here : Place} (p q : State) (more : List ℕ) (end : Place) → old.left ≡ id ∷ here.left → here.at ≡ old.at + 1 → id ≡ 0
+    → Between (SpelledSingle p q) (with_more old more) end → Customized p q (with_more here more) end
+customized {id = id} {old = old} {here = here} p q more end e f none b =
+    let k = behind_id p q id old here more end e f b in
+    custom_arm p q k.section (with_more here more) end (k.id_is ∙ none) k.adds k.between
 
 pub custom_stop : {id : ℕ} {old here new : Place} {d y : BuildFault} (p whole : State) (q : Result (Unit {0}) BuildFault) → old.left ≡ id ∷ here.left → here.at ≡ old.at + 1 → id ≡ 0
-    → q ≡ Err y → y ≡ d → Builds custom_of (SpelledCustom p.last) (Err d) here new → Builds (λ (u : Unit {0}). whole) (SpelledSection p) q old new
+    → q ≡ Err y → y ≡ d → Builds custom_of (SpelledCustom p.last) (Err d) here new → Builds (λ (u : Unit {0}). whole) (SpelledSingle p) q old new
 custom_stop p whole q e f none g h r = record {
-  built = λ z end b.
-      let k = customized p z end e f none b in
-      fails (λ (u : Unit {0}). whole) q z _ end _ _ g h (r.built k.custom_is end k.between);
+  built = λ more z end b.
+      let k = customized p z more end e f none b in
+      fails (λ (u : Unit {0}). whole) more q z _ end _ _ g h (r.built more k.custom_is end k.between);
 }
 
 map_push : (xs : List CustomValue) (x : CustomValue) → map custom_of (xs ++ x ∷ []) ≡ map custom_of xs ++ custom_of x ∷ []
@@ -342,11 +307,11 @@ map_push xs x = map_append custom_of xs (x ∷ [])
 
 pub custom_put : {id : ℕ} {old here new : Place} (p whole : State) (items more : List CustomValue) (c : CustomValue) → old.left ≡ id ∷ here.left → here.at ≡ old.at + 1 → id ≡ 0
     → Builds custom_of (SpelledCustom p.last) (Ok c) here new → more ≡ items ++ c ∷ [] → p.held.customs ≡ map custom_of items
-    → whole ≡ record p { held = record p.held { customs = map custom_of more } } → Builds (λ (u : Unit {0}). whole) (SpelledSection p) (Ok tt) old new
+    → whole ≡ record p { held = record p.held { customs = map custom_of more } } → Builds (λ (u : Unit {0}). whole) (SpelledSingle p) (Ok tt) old new
 custom_put p whole items more c e f none r push customs is = record {
-  built = λ z end b.
-      let k = customized p z end e f none b in
-      let g = r.built k.custom_is end k.between in
+  built = λ tail z end b.
+      let k = customized p z tail end e f none b in
+      let g = r.built tail k.custom_is end k.between in
       let all : map custom_of more ≡ p.held.customs ++ k.custom_is ∷ [] = ap (map custom_of) push ∙ map_push items c ∙ ap (λ s. s ++ custom_of c ∷ []) (sym customs)
       ∙ ap (λ x. p.held.customs ++ x ∷ []) g.0 in
       (is ∙ ap (λ xs. record p { held = record p.held { customs = xs } }) all ∙ sym k.state, g.1);

@@ -11,9 +11,9 @@ use Rattle.wa_types.specs.Opcodes.{follows, form, plain_immediates, plain_opcode
 use Rattle.wa_types.specs.Spells.{◌▸◌, BlockType, ImmediatesOf, CodeOf}
 use Rattle.wa_types.specs.Reading.{HasKind, IsCode}
 use Rattle.wasm_build.specs.declared.BuildFault.{BuildFault}
-use Rattle.wasm_build.specs.declared.BuildFault.TheVariants.{Memory, NotSpelled}
-use Rattle.wasm_cursor.specs.Places.{Place}
-use Rattle.wasm_build.specs.Builds.{Between, Builds, SpelledAs, IsResult}
+use Rattle.wasm_build.specs.declared.BuildFault.TheVariants.{NotSpelled}
+use Rattle.wasm_cursor.specs.Places.{Place, with_more}
+use Rattle.wasm_build.specs.Builds.{Between, Builds, IsWant, SpelledAs, IsResult}
 
 -- code up to its end, or up to an else and the other arm behind it
 abbrev pub SpelledCode : (first_arm : Bool) → (body else_arm : Code) → ℕ → List ℕ → Type 0
@@ -49,20 +49,22 @@ abbrev pub GivesBranch : Option ValType → (first_arm : Bool) → (body else_ar
 GivesBranch r first_arm body else_arm new end =
     (arm other rest : Code) × (middle : Place) × (body ≡ branch r arm other rest) × Between (SpelledCode true arm other) new middle × Between (SpelledCode first_arm rest else_arm) middle end
 
--- the next instruction before the rest, or the head of a construct, or the end, or the else before the other arm
-abbrev pub GivesNext : Result CodeItem BuildFault → (first_arm : Bool) → (body else_arm : Code) → (new end : Place) → Type 0
-GivesNext (Ok (an_instr i)) first_arm body else_arm new end =
+-- the next instruction before the rest, or the head of a construct, or the end, or the else before the other arm; or a want
+abbrev pub GivesNext : (more : List ℕ) → Result CodeItem BuildFault → (first_arm : Bool) → (body else_arm : Code) → (new end : Place) → Type 0
+GivesNext more (Ok (an_instr i)) first_arm body else_arm new end =
     (rest : Code) × (body ≡ in_front i rest) × Between (SpelledCode first_arm rest else_arm) new end
-GivesNext (Ok (open_block r)) first_arm body else_arm new end = GivesNest a_block r first_arm body else_arm new end
-GivesNext (Ok (open_loop r)) first_arm body else_arm new end = GivesNest a_loop r first_arm body else_arm new end
-GivesNext (Ok (open_if r)) first_arm body else_arm new end = GivesBranch r first_arm body else_arm new end
-GivesNext (Ok an_end) first_arm body else_arm new end = (body ≡ done) × (else_arm ≡ done) × (new ≡ end)
-GivesNext (Ok an_else) first_arm body else_arm new end =
+GivesNext more (Ok (open_block r)) first_arm body else_arm new end = GivesNest a_block r first_arm body else_arm new end
+GivesNext more (Ok (open_loop r)) first_arm body else_arm new end = GivesNest a_loop r first_arm body else_arm new end
+GivesNext more (Ok (open_if r)) first_arm body else_arm new end = GivesBranch r first_arm body else_arm new end
+GivesNext more (Ok an_end) first_arm body else_arm new end = (body ≡ done) × (else_arm ≡ done) × (new ≡ end)
+GivesNext more (Ok an_else) first_arm body else_arm new end =
     (body ≡ done) × (first_arm ≡ true) × Between (SpelledExpression else_arm) new end
-GivesNext (Err e) first_arm body else_arm new end = e ≡ Memory
+GivesNext more (Err e) first_arm body else_arm new end = IsWant more e
 
+-- for whatever code stands next, whatever follows the bytes
 pub record BuildsNext (result : Result CodeItem BuildFault) (old new : Place) : Type 0 where
-  pub built : (first_arm : Bool) (body else_arm : Code) (end : Place) → Between (SpelledCode first_arm body else_arm) old end → GivesNext result first_arm body else_arm new end
+  pub built : (more : List ℕ) (first_arm : Bool) (body else_arm : Code) (end : Place) → Between (SpelledCode first_arm body else_arm) (with_more old more) end
+      → GivesNext more result first_arm body else_arm (with_more new more) end
 
 -- an instruction of this opcode that holds no other, by what follows the opcode
 pub record IsOfOpcode (op : ℕ) (p : Plain) : Type 0 where

@@ -1,5 +1,5 @@
 -- Constructs whose bodies are being read.
-use Rattle.std.specs.Prelude.{◌≡◌, List, [], ◌∷◌, ◌++◌, reverse, Option, Bool, true, false, Result, Ok, Err}
+use Rattle.std.specs.Prelude.{◌≡◌, ℕ, List, [], ◌∷◌, ◌++◌, reverse, Option, Bool, true, false, Result, Ok, Err}
 use Rattle.std.specs.declared.vec.Vec.{Vec}
 use Rattle.std.specs.declared.alloc.Global.{Global}
 use Rattle.wa_types.specs.declared.values.ValType.{ValType}
@@ -11,7 +11,7 @@ use Rattle.wasm_build.specs.declared.BuildFault.TheVariants.{Memory, NotSpelled}
 use Rattle.wasm_build.specs.declared.levels.Opened.{Opened}
 use Rattle.wasm_build.specs.declared.levels.Opened.TheVariants.{Block, Loop, Then, Else}
 use Rattle.wasm_build.specs.declared.levels.Level.{Level}
-use Rattle.wasm_cursor.specs.Places.{Place}
+use Rattle.wasm_cursor.specs.Places.{Place, with_more}
 use Rattle.wasm_build.specs.Builds.{Between, Builds}
 use Rattle.wasm_build.specs.BuildsCode.{CodeItem, SpelledCode, SpelledExpression, BuildsNext}
 
@@ -49,9 +49,9 @@ abbrev pub Ahead : List Level → (c : Code) → (end : Place) → (Code → Cod
 Ahead [] c end f here = (rest : Code) × (f rest ≡ c) × Between (SpelledExpression rest) here end
 Ahead (l ∷ ls) c end f here = Inside l.opened l.ty l.before.items (Ahead ls c end) f here
 
--- For whatever expression is spelled from the old place, this is ahead.
+-- For whatever expression is spelled from the old place, whatever follows the bytes, this is ahead.
 pub record Running (old : Place) (levels : List Level) (got : List Instr) (here : Place) : Type 0 where
-  pub going : (c : Code) (end : Place) → Between (SpelledExpression c) old end → Ahead (reverse levels) c end (onto got) here
+  pub going : (more : List ℕ) (c : Code) (end : Place) → Between (SpelledExpression c) (with_more old more) end → Ahead (reverse levels) c end (onto got) (with_more here more)
 
 -- what a turn answers: that more is ahead, or that the expression is this body, or that none is built
 abbrev pub Turned : Result Bool BuildFault → (old : Place) → (levels : List Level) → (body : Vec Instr Global) → (new : Place) → Type 0

@@ -1,11 +1,11 @@
 -- What the builder gives for bytes that spell sections, and a module.
-use Rattle.std.specs.Prelude.{◌≡◌, ℕ, ◌<◌, List, [], ◌∷◌, ◌++◌, map, Some, None, Result, Ok, Err}
+use Rattle.std.specs.Prelude.{◌≡◌, ◌⊎◌, ℕ, List, [], ◌∷◌, ◌++◌, map, Some, None, Result, Ok, Err}
 use Rattle.wa_types.specs.declared.syntax.Import.{Import}
 use Rattle.wa_types.specs.declared.syntax.Module.{Module as ModuleValue}
 use Rattle.wa_types.specs.Binary.{Section, custom, types, imports, functions, tables, memories, globals, exports, start, elements, bodies, segments, section_id}
 use Rattle.wa_types.specs.Syntax.{FuncType, Func, GlobalDef, Elem, Segment, Module}
 use Rattle.wa_types.specs.View.{module_of}
-use Rattle.wa_types.specs.Spells.{Items, Sized, ContentOf, SectionOf}
+use Rattle.wa_types.specs.Spells.{Number, Items, Sized, SectionOf}
 use Rattle.wa_types.specs.Reading.{Each, IsFuncType, IsImport, IsGlobal, IsElem, IsBody, IsSegment}
 use Rattle.wasm_build.specs.declared.BuildFault.{BuildFault}
 use Rattle.wasm_build.specs.declared.BuildFault.TheVariants.{Memory}
@@ -68,13 +68,13 @@ abbrev pub AddsAll : List Section → State → State → Type 0
 AddsAll [] p q = p ≡ q
 AddsAll (s ∷ ss) p q = (r : State) × Adds s p r × AddsAll ss r q
 
--- a known section, from its size on
-abbrev pub SpelledKnown : (id : ℕ) → (before after : State) → ℕ → List ℕ → Type 0
-SpelledKnown id p q at bytes = (s : Section) × (0 < id) × (section_id s ≡ id) × Adds s p q × Sized (ContentOf s) at bytes
+-- the start section, from its size on
+abbrev pub SpelledStart : (before after : State) → ℕ → List ℕ → Type 0
+SpelledStart p q at bytes = (x : ℕ) × (q ≡ record p { held = record p.held { start = Some x }; last = 8 }) × Sized (Number x) at bytes
 
--- a section
-abbrev pub SpelledSection : (before after : State) → ℕ → List ℕ → Type 0
-SpelledSection p q at bytes = (s : Section) × Adds s p q × SectionOf s at bytes
+-- a custom section or the start section: none has several entries
+abbrev pub SpelledSingle : (before after : State) → ℕ → List ℕ → Type 0
+SpelledSingle p q at bytes = (s : Section) × ((section_id s ≡ 0) ⊎ (section_id s ≡ 8)) × Adds s p q × SectionOf s at bytes
 
 -- sections one behind another
 abbrev pub SpelledSections : (before after : State) → ℕ → List ℕ → Type 0

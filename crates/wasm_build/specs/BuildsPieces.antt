@@ -8,8 +8,10 @@ use Rattle.wasm_build.specs.declared.BuildFault.{BuildFault}
 use Rattle.wasm_build.specs.declared.BuildFault.TheVariants.{Memory}
 use Rattle.wasm_build.specs.declared.builder.Builder.{Builder}
 use Rattle.wasm_build.specs.declared.builder.Stage.{Stage}
-use Rattle.wasm_build.specs.declared.builder.Stage.TheVariants.{Preamble, Section, Body}
+use Rattle.wasm_build.specs.declared.builder.Stage.TheVariants.{Preamble, Section, Entry, Body}
+use Rattle.wasm_build.specs.declared.sections.Entries.{Entries}
 use Rattle.wasm_build.specs.BuildsSections.{SpelledFunc}
+use Rattle.wasm_build.specs.BuildsEntries.{Item, SpelledItem, with_items}
 use Rattle.wasm_build.specs.BuildsModule.{State, state_of, SpelledSections}
 
 -- with these functions too
@@ -21,15 +23,25 @@ abbrev pub SpelledBodies : ℕ → (before after : State) → ℕ → List ℕ �
 SpelledBodies k p q at bytes =
     (fs : List Func) × (k < length p.sorts) × (map (λ (f : Func). f.sort) fs ≡ drop k p.sorts) × (Items SpelledFunc fs ▸ SpelledSections (with_funcs p fs) q) at bytes
 
+-- so many entries of a section, at least one, and the sections behind them
+abbrev pub SpelledEntries : (k : Entries) → ℕ → (before after : State) → ℕ → List ℕ → Type 0
+SpelledEntries k n p q at bytes =
+    (xs : List (Item k)) × (0 < n) × (length xs ≡ n) × (Items (SpelledItem k) xs ▸ SpelledSections (with_items k p xs) q) at bytes
+
 -- the rest of a file, by what comes next
 abbrev pub AheadOf : Stage → (before after : State) → ℕ → List ℕ → Type 0
 AheadOf Preamble p q = Exactly preamble ▸ SpelledSections p q
 AheadOf Section p q = SpelledSections p q
+AheadOf (Entry k n) p q = SpelledEntries k n p q
 AheadOf (Body k) p q = SpelledBodies k p q
 
 -- what comes behind so many bodies of functions of these types
 abbrev pub stage_behind : ℕ → List ℕ → Stage
 stage_behind read sorts = if nat_lt read (length sorts) then Body read else Section
+
+-- what comes where so many entries of a section are left
+abbrev pub stage_before : Entries → ℕ → Stage
+stage_before k left = if nat_lt 0 left then Entry k left else Section
 
 -- At this place these bytes are the rest of a file of this module.
 pub record Comes (b : Builder) (m : Module) (at : ℕ) (bytes : List ℕ) : Type 0 where

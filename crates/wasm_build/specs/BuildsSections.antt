@@ -1,10 +1,10 @@
 -- What the builder gives for bytes that spell entries of sections, and sections.
-use Rattle.std.specs.Prelude.{◌≡◌, ℕ, List, ◌++◌, map}
+use Rattle.std.specs.Prelude.{◌≡◌, ℕ, List}
 use Rattle.wa_types.specs.declared.syntax.Run.{Run}
 use Rattle.wa_types.specs.Binary.{RawBody}
 use Rattle.wa_types.specs.Syntax.{Code, Func, Custom}
 use Rattle.wa_types.specs.View.{code}
-use Rattle.wa_types.specs.Spells.{◌▸◌, Exactly, Sized, Text, Vector, BodyOf}
+use Rattle.wa_types.specs.Spells.{◌▸◌, Exactly, Sized, Text, BodyOf}
 use Rattle.wa_types.specs.Reading.{Each, IsRun, IsExpression, IsBody}
 use Rattle.wasm_build.specs.declared.entries.Body.{Body}
 use Rattle.wasm_build.specs.Builds.{SpelledAs}
@@ -34,8 +34,3 @@ SpelledCustom after c at bytes = (c.after ≡ after) × Sized (Text c.name ▸ E
 -- an entry of the code section, as a function whose type is known from elsewhere
 abbrev pub SpelledFunc : Func → ℕ → List ℕ → Type 0
 SpelledFunc = SpelledAs BodyOf IsBody
-
--- the bodies of functions of these types, which come behind those functions
-abbrev pub SpelledFuncs : (sorts : List ℕ) → (before : List Func) → List Func → ℕ → List ℕ → Type 0
-SpelledFuncs sorts before all at bytes =
-    (fs : List Func) × (all ≡ before ++ fs) × (map (λ (f : Func). f.sort) fs ≡ sorts) × Vector SpelledFunc fs at bytes

@@ -1,5 +1,6 @@
 pub mod Builds
 pub mod BuildsCode
+pub mod BuildsEntries
 pub mod BuildsLevels
 pub mod BuildsModule
 pub mod BuildsPieces

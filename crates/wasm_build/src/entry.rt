@@ -1,8 +1,8 @@
 //! How an entry of a vector is read, and vectors of such entries (standard, section 5.1.3).
 
-ghost use Rattle.std.specs.Prelude.{ℕ, ◌≤◌, List, length, map};
+ghost use Rattle.std.specs.Prelude.{◌≡◌, ℕ, ◌<◌, ◌≤◌, List, length, map, OnOk, OnErr};
 ghost use Rattle.wa_types.specs.Spells.{Vector};
-ghost use Rattle.wasm_build.specs.Builds.{Builds, SpelledBehind};
+ghost use Rattle.wasm_build.specs.Builds.{Builds, SpelledBehind, SpelledOnto};
 
 use crate::BuildFault;
 use std::alloc::Global;
@@ -23,7 +23,25 @@ pub(crate) trait Entry {
     /// The entry that begins here.
     fn read(alloc: Global, input: &mut Cursor<'_>) -> Result<Self::Item, BuildFault>
         ensures built { Builds view spelled result input.old input.new }
-        ensures left { length input.new.left ≤ length input.old.left };
+        ensures left { length input.new.left ≤ length input.old.left }
+        ensures falls { OnOk result (length input.new.left < length input.old.left) };
+}
+
+/// Appends the entry that begins here to these. After an `Err` they are as before.
+#[inline(always)]
+pub(crate) fn put<E: Entry>(
+    alloc: Global,
+    input: &mut Cursor<'_>,
+    items: &mut Vec<E::Item>,
+) -> Result<(), BuildFault>
+    ensures built { Builds (λ (_ : Unit {0}). map E.view items.new.items) (SpelledOnto E.spelled (map E.view items.old.items)) result input.old input.new }
+    ensures kept { OnErr result (items.new.items ≡ items.old.items) }
+    ensures left { length input.new.left ≤ length input.old.left }
+    ensures falls { OnOk result (length input.new.left < length input.old.left) }
+{
+    let item = E::read(alloc, input)?;
+    items.push(item)?;
+    Ok(())
 }
 
 /// Appends the entries of a vector (standard, section 5.1.3) to these. After an `Err` only some of them may be there.

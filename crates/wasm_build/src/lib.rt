@@ -1,8 +1,8 @@
 //! Builds a module from bytes that are known to spell one, as they come.
 //!
-//! `Builder` takes whole sections, and of the code section whole bodies, and keeps no byte of them (`specs/BuildsPieces.antt`). Sections are read
-//! entry by entry, and code in a loop over its instructions: constructs that are open wait on a stack. What each part builds is what the bytes
-//! from one place to another spell (`specs/Builds.antt`).
+//! `Builder` takes whole entries of sections, and keeps no byte of them (`specs/BuildsPieces.antt`). Code is read in a loop over its instructions:
+//! constructs that are open wait on a stack. What each part builds is what the bytes from one place to another spell, whatever follows them; where
+//! they end within a part, nothing is built of it (`specs/Builds.antt`).
 #![tactic(auto)]
 
 mod builder;

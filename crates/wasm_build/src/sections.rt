@@ -1,19 +1,52 @@
 //! Sections one behind another, and the module that they are (standard, sections 5.5.2 and 5.5.15).
 
-ghost use Rattle.std.specs.Prelude.{◌≡◌, ◌≤◌, ◌<◌, length, map, IfOk, OnOk};
-ghost use Rattle.wa_types.specs.Syntax.{Func as PlainFunc};
-ghost use Rattle.wa_types.specs.View.{func_of, module_of};
+ghost use Rattle.std.specs.Prelude.{◌≡◌, ◌≤◌, ◌<◌, length, OnOk, OnErr};
+ghost use Rattle.wa_types.specs.View.{module_of};
 ghost use Rattle.wasm_build.specs.Builds.{Builds};
-ghost use Rattle.wasm_build.specs.BuildsSections.{SpelledFuncs};
-ghost use Rattle.wasm_build.specs.BuildsModule.{state_of, nothing_yet, SpelledKnown, SpelledSection};
+ghost use Rattle.wasm_build.specs.BuildsEntries.{AreOf, SpelledEntry};
+ghost use Rattle.wasm_build.specs.BuildsModule.{state_of, nothing_yet, SpelledSingle, SpelledStart};
 
 use crate::BuildFault;
-use crate::entries::{Body, CodeEntry, DataEntry, ElementEntry, GlobalEntry, custom};
-use crate::entry::{Entry, fill};
+use crate::entries::{DataEntry, ElementEntry, GlobalEntry, custom};
+use crate::entry::put;
 use crate::types::{ExportEntry, ImportEntry, IndexEntry, MemoryEntry, TableEntry, TypeEntry};
 use std::alloc::Global;
-use wa_types::{Func, Module};
+use wa_types::Module;
 use wasm_cursor::Cursor;
+
+/// What a section holds that is one vector (standard, sections 5.5.4 to 5.5.14). Bodies, whose types are known from elsewhere, are apart.
+#[derive(Clone, Copy, Drop)]
+pub(crate) enum Entries {
+    Types,
+    Imports,
+    Functions,
+    Tables,
+    Memories,
+    Globals,
+    Exports,
+    Elements,
+    Segments,
+}
+
+impl Entries {
+    /// Those of the section with this id, if it is one vector of them.
+    pub(crate) fn of(id: u8) -> Option<Entries>
+        ensures { AreOf result id }
+    {
+        match id {
+            1 => Some(Entries::Types),
+            2 => Some(Entries::Imports),
+            3 => Some(Entries::Functions),
+            4 => Some(Entries::Tables),
+            5 => Some(Entries::Memories),
+            6 => Some(Entries::Globals),
+            7 => Some(Entries::Exports),
+            9 => Some(Entries::Elements),
+            11 => Some(Entries::Segments),
+            _ => None,
+        }
+    }
+}
 
 /// The sections that were read: the module so far, the types of its functions, and the id of the last known section.
 #[derive(Drop)]
@@ -48,11 +81,9 @@ impl Sections {
         }
     }
 
-    /// Adds the section that comes next (standard, section 5.5.2).
-    pub(crate) fn read(&mut self, alloc: Global, input: &mut Cursor<'_>) -> Result<(), BuildFault>
-        ensures built { Builds (λ (_ : Unit {0}). state_of self.new) (SpelledSection (state_of self.old)) result input.old input.new }
-        ensures left { length input.new.left ≤ length input.old.left }
-        ensures falls { OnOk result (length input.new.left < length input.old.left) }
+    /// Adds the custom section or the start section that comes next (standard, sections 5.5.3 and 5.5.11).
+    pub(crate) fn single(&mut self, alloc: Global, input: &mut Cursor<'_>) -> Result<(), BuildFault>
+        ensures { Builds (λ (_ : Unit {0}). state_of self.new) (SpelledSingle (state_of self.old)) result input.old input.new }
     {
         let id = input.byte()?;
         if id == 0 {
@@ -60,7 +91,44 @@ impl Sections {
             self.module.customs.push(custom)?;
             return Ok(());
         }
-        self.known(alloc, input, id)
+        self.start(input)
+    }
+
+    // Adds the start section, from its size on.
+    fn start(&mut self, input: &mut Cursor<'_>) -> Result<(), BuildFault>
+        ensures { Builds (λ (_ : Unit {0}). state_of self.new) (SpelledStart (state_of self.old)) result input.old input.new }
+    {
+        let _size = input.number()?;
+        let x = input.number()?;
+        self.module.start = Some(x);
+        self.last = 8;
+        Ok(())
+    }
+
+    /// Adds the entry that comes next. After an `Err` nothing is added.
+    #[inline(always)]
+    pub(crate) fn entry(
+        &mut self,
+        alloc: Global,
+        input: &mut Cursor<'_>,
+        kind: Entries,
+    ) -> Result<(), BuildFault>
+        ensures built { Builds (λ (_ : Unit {0}). state_of self.new) (SpelledEntry kind (state_of self.old)) result input.old input.new }
+        ensures kept { OnErr result (state_of self.new ≡ state_of self.old) }
+        ensures left { length input.new.left ≤ length input.old.left }
+        ensures falls { OnOk result (length input.new.left < length input.old.left) }
+    {
+        match kind {
+            Entries::Types => put::<TypeEntry>(alloc, input, &mut self.module.types),
+            Entries::Imports => put::<ImportEntry>(alloc, input, &mut self.module.imports),
+            Entries::Functions => put::<IndexEntry>(alloc, input, &mut self.sorts),
+            Entries::Tables => put::<TableEntry>(alloc, input, &mut self.module.tables),
+            Entries::Memories => put::<MemoryEntry>(alloc, input, &mut self.module.memories),
+            Entries::Globals => put::<GlobalEntry>(alloc, input, &mut self.module.globals),
+            Entries::Exports => put::<ExportEntry>(alloc, input, &mut self.module.exports),
+            Entries::Elements => put::<ElementEntry>(alloc, input, &mut self.module.elems),
+            Entries::Segments => put::<DataEntry>(alloc, input, &mut self.module.segments),
+        }
     }
 
     /// The module of these sections.
@@ -69,56 +137,4 @@ impl Sections {
     {
         self.module
     }
-
-    // Adds a known section, from its size on.
-    fn known(&mut self, alloc: Global, input: &mut Cursor<'_>, id: u8) -> Result<(), BuildFault>
-        ensures built { Builds (λ (_ : Unit {0}). state_of self.new) (SpelledKnown id (state_of self.old)) result input.old input.new }
-        ensures left { length input.new.left ≤ length input.old.left }
-    {
-        let _size = input.number()?;
-        self.last = id;
-        match id {
-            1 => fill::<TypeEntry>(alloc, input, &mut self.module.types),
-            2 => fill::<ImportEntry>(alloc, input, &mut self.module.imports),
-            3 => fill::<IndexEntry>(alloc, input, &mut self.sorts),
-            4 => fill::<TableEntry>(alloc, input, &mut self.module.tables),
-            5 => fill::<MemoryEntry>(alloc, input, &mut self.module.memories),
-            6 => fill::<GlobalEntry>(alloc, input, &mut self.module.globals),
-            7 => fill::<ExportEntry>(alloc, input, &mut self.module.exports),
-            8 => {
-                self.module.start = Some(input.number()?);
-                Ok(())
-            }
-            9 => fill::<ElementEntry>(alloc, input, &mut self.module.elems),
-            10 => functions(alloc, input, &self.sorts, &mut self.module.funcs),
-            11 => fill::<DataEntry>(alloc, input, &mut self.module.segments),
-            _ => Err(BuildFault::NotSpelled),
-        }
-    }
-}
-
-// Appends the functions of these types from the vector of their bodies (standard, section 5.5.13). After an `Err`
-// only some of them may be there.
-fn functions(
-    alloc: Global,
-    input: &mut Cursor<'_>,
-    sorts: &[u32],
-    funcs: &mut Vec<Func>,
-) -> Result<(), BuildFault>
-    ensures built { Builds (λ (_ : Unit {0}). map func_of funcs.new.items) (SpelledFuncs sorts.now (map func_of funcs.old.items)) result input.old input.new }
-    ensures left { length input.new.left ≤ length input.old.left }
-{
-    let count = input.number()?;
-    if count as usize != sorts.len() {
-        return Err(BuildFault::NotSpelled);
-    }
-    for sort in sorts {
-        let Body { locals, code } = CodeEntry::read(alloc, input)?;
-        funcs.push(Func {
-            sort: *sort,
-            locals,
-            body: code,
-        })?;
-    }
-    Ok(())
 }

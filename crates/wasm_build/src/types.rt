@@ -1,7 +1,7 @@
 //! Types and names from bytes, and entries of the type, import, table, memory and export sections (standard, sections 5.2.4, 5.3, 5.5.4,
 //! 5.5.5, 5.5.7, 5.5.8 and 5.5.10).
 
-ghost use Rattle.std.specs.Prelude.{◌≡◌, ℕ, ◌≤◌, ◌∷◌, [], List, Bool, length};
+ghost use Rattle.std.specs.Prelude.{◌≡◌, ℕ, ◌<◌, ◌≤◌, ◌∷◌, [], List, Bool, length, OnOk};
 ghost use Rattle.wa_types.specs.declared.values.ValType.{ValType};
 ghost use Rattle.wa_types.specs.declared.syntax.Limits.{Limits};
 ghost use Rattle.wa_types.specs.declared.syntax.Import.{Import};
@@ -24,6 +24,7 @@ use wasm_cursor::{Cursor, NotSpelled};
 pub(crate) fn tag(input: &mut Cursor<'_>, byte: u8) -> Result<(), NotSpelled>
     ensures passed { Passes (Exactly (byte ∷ [])) result input.old input.new }
     ensures left { length input.new.left ≤ length input.old.left }
+    ensures falls { OnOk result (length input.new.left < length input.old.left) }
 {
     if input.byte()? == byte {
         Ok(())
@@ -171,6 +172,7 @@ pub(crate) fn global_type(
 ) -> Result<(ValType, bool), BuildFault>
     ensures built { Builds (λ g. g) SpelledGlobalType result input.old input.new }
     ensures left { length input.new.left ≤ length input.old.left }
+    ensures falls { OnOk result (length input.new.left < length input.old.left) }
 {
     let ty = ValueTypeEntry::read(alloc, input)?;
     let mutable = mutability(input)?;
@@ -181,6 +183,7 @@ pub(crate) fn global_type(
 pub(crate) fn name(alloc: Global, input: &mut Cursor<'_>) -> Result<Name, BuildFault>
     ensures built { Builds (λ n. n) Text result input.old input.new }
     ensures left { length input.new.left ≤ length input.old.left }
+    ensures falls { OnOk result (length input.new.left < length input.old.left) }
 {
     let count = input.number()?;
     let bytes = input.take(count)?;

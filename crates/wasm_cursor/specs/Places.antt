@@ -1,5 +1,5 @@
 -- Places in bytes.
-use Rattle.std.specs.Prelude.{◌≡◌, ℕ, ◌+◌, ◌≤◌, List, ◌++◌, length, drop, Result, Ok}
+use Rattle.std.specs.Prelude.{◌≡◌, ℕ, ◌+◌, ◌≤◌, List, [], ◌++◌, length, drop, Result, Ok, Err}
 use Rattle.wasm_cursor.specs.declared.front.NotSpelled.{NotSpelled}
 
 -- A place in bytes: its offset, and the bytes from there on.
@@ -28,7 +28,16 @@ pub record Onward (from to : Place) : Type 0 where
   pub whole : to.at + length to.left ≡ from.at + length from.left
   pub left : length to.left ≤ length from.left
 
--- For whatever number the front spells, the answer is that, and the place is behind it.
+-- a place with these bytes behind those that are left
+abbrev pub with_more : Place → (more : List ℕ) → Place
+with_more p more = record { at = p.at; left = p.left ++ more }
+
+-- that number, and the place that is reached with those bytes behind; where none is read, there are some
+abbrev pub GivesNumber : Result ℕ NotSpelled → ℕ → (new : Place) → (more : List ℕ) → (end : Place) → Type 0
+GivesNumber (Ok v) n new more end = (v ≡ n) × (with_more new more ≡ end)
+GivesNumber (Err e) n new more end = more ≡ [] → ⊥
+
+-- For whatever number the front spells, whatever follows the bytes, the answer is that, and the place is behind it; or it isn't whole yet.
 abbrev pub ReadsNumber : (List ℕ → ℕ → Type 0) → Result ℕ NotSpelled → (old new : Place) → Type 0
 ReadsNumber Spells result old new =
-    (n : ℕ) (front rest : List ℕ) → old.left ≡ front ++ rest → Spells front n → (result ≡ Ok n) × (new ≡ behind old front rest)
+    (n : ℕ) (front rest more : List ℕ) → old.left ++ more ≡ front ++ rest → Spells front n → GivesNumber result n new more (behind old front rest)

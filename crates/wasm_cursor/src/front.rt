@@ -1,6 +1,6 @@
 //! `Cursor`: a place in bytes that are known to spell something, read on from there.
 
-ghost use Rattle.std.specs.Prelude.{◌≡◌, ℕ, ◌+◌, ◌<◌, ◌^◌, [], ◌∷◌, ◌++◌, length, IfOk, OnErr, IsTrue, ◌↔◌};
+ghost use Rattle.std.specs.Prelude.{◌≡◌, ℕ, ◌+◌, ◌<◌, ◌^◌, [], ◌∷◌, ◌++◌, length, IfOk, OnOk, OnErr, IsTrue, ◌↔◌};
 ghost use Rattle.wa_types.specs.Leb.{IsUnsigned, IsSigned};
 ghost use Rattle.wasm_cursor.specs.Places.{Onward, ReadsNumber, place_at, place_in};
 
@@ -96,6 +96,7 @@ impl<'a> Cursor<'a> {
     pub fn number(&mut self) -> Result<u32, NotSpelled>
         ensures read { ReadsNumber (IsUnsigned 32) result self.old self.new }
         ensures fits { IfOk result (λ n. n < 2 ^ 32) }
+        ensures falls { OnOk result (length self.new.left < length self.old.left) }
         ensures onward { Onward self.old self.new }
     {
         Ok(numbers::unsigned_32(self.bytes, &mut self.at)?)

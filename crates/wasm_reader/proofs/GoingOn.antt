@@ -80,6 +80,12 @@ comes_next b before bytes later more base m o k e held a s =
     subst (λ n. Comes k m n (bytes ++ (later ++ more))) held
     (subst (Comes k m (length before)) (append_assoc bytes later more) (subst (Awaits b before (bytes ++ later)) e a more m s))
 
+-- nothing is built, and what comes is the same
+pub builds_same : (o new : Option Builder) (deep : Bool) (base : ℕ) (bytes : List ℕ) → o ≡ new → BuildsOn o deep base bytes new 0
+builds_same o new deep base bytes e = subst (λ z. BuildsOn o deep base bytes z 0) e (record {
+  builds = λ b before later held d a. subst (λ z. Awaits b z (bytes ++ later) o) (sym (append-nil before)) a;
+})
+
 pub builds_none : (o : Option Builder) (deep : Bool) (base : ℕ) (bytes : List ℕ) → o ≡ None → BuildsOn o deep base bytes None 0
 builds_none o deep base bytes e = record {
   builds = λ b before later held d a. subst (Hopeless b) (sym (shifted before (bytes ++ later) 0)) (subst (Awaits b before (bytes ++ later)) e a);

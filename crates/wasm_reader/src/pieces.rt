@@ -23,7 +23,8 @@ use wasm_build::Builder;
 use wasm_grammar::{CheckFault, Machine, Marks, Passed, Window, check};
 
 /// Reads a module from a file that comes in pieces, one behind another. The pieces that were fed count as one input; of them only what isn't
-/// built yet is held: at most the section that is coming, and in the code section the body. Contracts see the bounds, the bytes so far, and the first fault that they met.
+/// built yet is held: at most the entry that is coming (a type, an import, a body, a segment, a custom section), and up to as much behind it of a
+/// long one whose end isn't known from its front. Contracts see the bounds, the bytes so far, and the first fault that they met.
 #[derive(Drop)]
 pub struct Reader {
     alloc: Global,
@@ -60,6 +61,13 @@ impl Reader {
             },
             fault: None,
         }
+    }
+
+    /// How many bytes are held: those that have come of what isn't built yet.
+    pub fn held(&self) -> usize
+        ensures { result ≤ length self.now.bytes }
+    {
+        self.progress.window.len()
     }
 
     /// Takes the next piece. `Limit` of `File` comes exactly where the bytes fed so far pass the bound, else `Malformed` exactly where

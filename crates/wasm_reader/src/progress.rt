@@ -104,8 +104,8 @@ fn read_on(
     }
 }
 
-// Builds what is whole of these bytes, which come next and whose items have been read, and tells how many bytes that is. Where nesting is too
-// deep, or the bytes spell no module, nothing more is built.
+// Builds what is whole of these bytes, which come next and whose items have been read, and tells how many bytes that is; nothing where the
+// builder wants more of them first. Where nesting is too deep, or the bytes spell no module, nothing more is built.
 fn build_on(
     alloc: Global,
     builder: Option<Builder>,
@@ -123,6 +123,9 @@ fn build_on(
     };
     if deep {
         return Ok((None, 0));
+    }
+    if bytes.len() < builder.wanted() {
+        return Ok((Some(builder), 0));
     }
     match builder.take(alloc, bytes, base) {
         Ok(used) => Ok((Some(builder), used)),

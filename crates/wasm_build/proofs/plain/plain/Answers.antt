@@ -10,31 +10,39 @@ use Rattle.wasm_build.proofs.plain.plain.Goals as goal
 
 pub returns-in_err-tag-in-Some-ZeroByte-clause-built : goal.returns-in_err-tag-in-Some-ZeroByte-clause-built
 returns-in_err-tag-in-Some-ZeroByte-clause-built c =
-    stop_passed (λ c. Exactly []) c.in_err-tag-in-Some-ZeroByte.ensures.passed (zero_start _ _ (table_says _ _ ZeroByte _ c.immediate_form.ensures c.in-Some-ZeroByte.is c.in-Some-ZeroByte.field-0-is))
+    let p = err_from_is_err_and c.from_residual.result c.from_residual.ensures.1 in
+    stop_passed (λ c. Exactly []) p.1 c.in_err-tag-in-Some-ZeroByte.ensures.passed (zero_start _ _
+        (table_says _ _ ZeroByte _ c.immediate_form.ensures c.in-Some-ZeroByte.is c.in-Some-ZeroByte.field-0-is))
 
 pub returns-in_err-x-in-Some-Index-clause-built : goal.returns-in_err-x-in-Some-Index-clause-built
 returns-in_err-x-in-Some-Index-clause-built c =
-    stop_last_number (λ c. x_in (operands_in c)) c.in_err-x-in-Some-Index.ensures.read (index_start _ _ (table_says _ _ Index _ c.immediate_form.ensures c.in-Some-Index.is c.in-Some-Index.field-0-is))
+    let p = err_from_is_err_and c.from_residual-in_err-x-in-Some-Index.result c.from_residual-in_err-x-in-Some-Index.ensures.1 in
+    stop_last_number (λ c. x_in (operands_in c)) p.1 c.in_err-x-in-Some-Index.ensures.read (index_start _ _
+        (table_says _ _ Index _ c.immediate_form.ensures c.in-Some-Index.is c.in-Some-Index.field-0-is))
 
 pub returns-in_err-x-in-Some-IndexAndZero-clause-built : goal.returns-in_err-x-in-Some-IndexAndZero-clause-built
 returns-in_err-x-in-Some-IndexAndZero-clause-built c =
-    stop_number (λ c. x_in (operands_in c)) (λ c. Exactly (0x00 ∷ []) ▸ Exactly []) c.in_err-x-in-Some-IndexAndZero.ensures.read
+    let p = err_from_is_err_and c.from_residual-in_err-x-in-Some-IndexAndZero.result c.from_residual-in_err-x-in-Some-IndexAndZero.ensures.1 in
+    stop_number (λ c. x_in (operands_in c)) (λ c. Exactly (0x00 ∷ []) ▸ Exactly []) p.1 c.in_err-x-in-Some-IndexAndZero.ensures.read
     (both_start _ _ (table_says _ _ IndexAndZero _ c.immediate_form.ensures c.in-Some-IndexAndZero.is c.in-Some-IndexAndZero.field-0-is))
 
 pub returns-in_err-tag-in-Some-IndexAndZero-clause-built : goal.returns-in_err-tag-in-Some-IndexAndZero-clause-built
 returns-in_err-tag-in-Some-IndexAndZero-clause-built c =
-    stop_passed (λ c. Exactly []) c.in_err-tag-in-Some-IndexAndZero.ensures.passed (step_number (λ c. x_in (operands_in c)) (λ c. Exactly (0x00 ∷ [])
+    let p = err_from_is_err_and c.from_residual-in_err-tag-in-Some-IndexAndZero.result c.from_residual-in_err-tag-in-Some-IndexAndZero.ensures.1 in
+    stop_passed (λ c. Exactly []) p.1 c.in_err-tag-in-Some-IndexAndZero.ensures.passed (step_number (λ c. x_in (operands_in c)) (λ c. Exactly (0x00 ∷ [])
     ▸ Exactly []) c.in_ok-x-in-Some-IndexAndZero.ensures.read
     (both_start _ _ (table_says _ _ IndexAndZero _ c.immediate_form.ensures c.in-Some-IndexAndZero.is c.in-Some-IndexAndZero.field-0-is)))
 
 pub returns-in_err-align-in-Some-Access-clause-built : goal.returns-in_err-align-in-Some-Access-clause-built
 returns-in_err-align-in-Some-Access-clause-built c =
-    stop_number (λ c. align_in (operands_in c)) (λ c. Number (offset_in (operands_in c))) c.in_err-align-in-Some-Access.ensures.read
+    let p = err_from_is_err_and c.from_residual-in_err-align-in-Some-Access.result c.from_residual-in_err-align-in-Some-Access.ensures.1 in
+    stop_number (λ c. align_in (operands_in c)) (λ c. Number (offset_in (operands_in c))) p.1 c.in_err-align-in-Some-Access.ensures.read
     (access_start _ _ (table_says _ _ Access _ c.immediate_form.ensures c.in-Some-Access.is c.in-Some-Access.field-0-is))
 
 pub returns-in_err-offset-in-Some-Access-clause-built : goal.returns-in_err-offset-in-Some-Access-clause-built
 returns-in_err-offset-in-Some-Access-clause-built c =
-    stop_last_number (λ c. offset_in (operands_in c)) c.in_err-offset-in-Some-Access.ensures.read
+    let p = err_from_is_err_and c.from_residual-in_err-offset-in-Some-Access.result c.from_residual-in_err-offset-in-Some-Access.ensures.1 in
+    stop_last_number (λ c. offset_in (operands_in c)) p.1 c.in_err-offset-in-Some-Access.ensures.read
     (step_number (λ c. align_in (operands_in c)) (λ c. Number (offset_in (operands_in c))) c.in_ok-align-in-Some-Access.ensures.read
     (access_start _ _ (table_says _ _ Access _ c.immediate_form.ensures c.in-Some-Access.is c.in-Some-Access.field-0-is)))
 
@@ -46,18 +54,21 @@ returns-in_err-labels-in-Some-Labels-clause-built c =
 
 pub returns-in_err-last-in-Some-Labels-clause-built : goal.returns-in_err-last-in-Some-Labels-clause-built
 returns-in_err-last-in-Some-Labels-clause-built c =
-    stop_last_number (λ c. x_in (operands_in c)) c.in_err-last-in-Some-Labels.ensures.read
+    let p = err_from_is_err_and c.from_residual-in_err-last-in-Some-Labels.result c.from_residual-in_err-last-in-Some-Labels.ensures.1 in
+    stop_last_number (λ c. x_in (operands_in c)) p.1 c.in_err-last-in-Some-Labels.ensures.read
     (step (λ c. targets_in (operands_in c)) (λ c. Number (x_in (operands_in c))) c.in_ok-labels-in-Some-Labels.ensures.built
     (labels_start _ _ (table_says _ _ Labels _ c.immediate_form.ensures c.in-Some-Labels.is c.in-Some-Labels.field-0-is)))
 
 pub returns-in_err-signed_32-in-Some-Constant32-clause-built : goal.returns-in_err-signed_32-in-Some-Constant32-clause-built
 returns-in_err-signed_32-in-Some-Constant32-clause-built c =
-    stop_last_number (λ c. x_in (operands_in c)) c.in_err-signed_32-in-Some-Constant32.ensures.read
+    let p = err_from_is_err_and c.from_residual-in_err-signed_32-in-Some-Constant32.result c.from_residual-in_err-signed_32-in-Some-Constant32.ensures.1 in
+    stop_last_number (λ c. x_in (operands_in c)) p.1 c.in_err-signed_32-in-Some-Constant32.ensures.read
     (constant_start 32 _ _ (table_says _ _ Constant32 _ c.immediate_form.ensures c.in-Some-Constant32.is c.in-Some-Constant32.field-0-is))
 
 pub returns-in_err-signed_64-in-Some-Constant64-clause-built : goal.returns-in_err-signed_64-in-Some-Constant64-clause-built
 returns-in_err-signed_64-in-Some-Constant64-clause-built c =
-    stop_last_number (λ c. x_in (operands_in c)) c.in_err-signed_64-in-Some-Constant64.ensures.read
+    let p = err_from_is_err_and c.from_residual-in_err-signed_64-in-Some-Constant64.result c.from_residual-in_err-signed_64-in-Some-Constant64.ensures.1 in
+    stop_last_number (λ c. x_in (operands_in c)) p.1 c.in_err-signed_64-in-Some-Constant64.ensures.read
     (constant_start 64 _ _ (table_says _ _ Constant64 _ c.immediate_form.ensures c.in-Some-Constant64.is c.in-Some-Constant64.field-0-is))
 
 pub returns-in-Some-Nothing-clause-built : goal.returns-in-Some-Nothing-clause-built

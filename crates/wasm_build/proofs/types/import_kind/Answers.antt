@@ -1,9 +1,9 @@
 use Rattle.std.proofs.Common.{[], ◌∷◌, sym, ◌∙◌}
 use Rattle.std.proofs.lemmas.Result.{err_from_is_err_and}
-use Rattle.wa_types.specs.Spells.{◌▸◌, Exactly, LimitsOf, TableType}
+use Rattle.wa_types.specs.Spells.{◌▸◌, Exactly, Number, LimitsOf, TableType}
 use Rattle.wasm_build.specs.Builds.{SpelledGlobalType}
-use Rattle.wasm_build.proofs.Steps.{start, step_byte, turn, last, stop_last}
-use Rattle.wasm_build.proofs.EntryParts.{kind_byte, KindTail, kind_parts, limits_in, global_in, table_tail, memory_tail, global_tail, table_is, memory_is, global_is}
+use Rattle.wasm_build.proofs.Steps.{start, step_byte, turn, last, last_number, stop_last}
+use Rattle.wasm_build.proofs.EntryParts.{kind_byte, KindTail, kind_parts, sort_in, func_tail, func_is, limits_in, global_in, table_tail, memory_tail, global_tail, table_is, memory_is, global_is}
 use Rattle.wasm_build.proofs.types.import_kind.Goals as goal
 
 pub returns-in_err-read-in-1-clause-built : goal.returns-in_err-read-in-1-clause-built
@@ -40,4 +40,10 @@ pub returns-in_ok-ty-in-3-clause-built : goal.returns-in_ok-ty-in-3-clause-built
 returns-in_ok-ty-in-3-clause-built c =
     last (λ k. k) _ global_in c.in_ok-ty-in-3.ensures.built (λ k w e. global_is _ k (sym c.in-3.is ∙ w.1) e)
     (turn (λ k. SpelledGlobalType (global_in k)) (λ k at bytes w h. global_tail k at bytes (sym c.in-3.is ∙ w.1) h)
+    (step_byte kind_byte KindTail c.in_ok-byte.ensures.ok c.in_ok-byte.ensures.at (start (λ k. Exactly (kind_byte k ∷ []) ▸ KindTail k) _ kind_parts)))
+
+pub returns-in_ok-number-in-0-clause-built : goal.returns-in_ok-number-in-0-clause-built
+returns-in_ok-number-in-0-clause-built c =
+    last_number (λ k. k) _ sort_in c.in_ok-number-in-0.ensures.read (λ k w e. func_is _ k (sym c.in-0.is ∙ w.1) e)
+    (turn (λ k. Number (sort_in k)) (λ k at bytes w h. func_tail k at bytes (sym c.in-0.is ∙ w.1) h)
     (step_byte kind_byte KindTail c.in_ok-byte.ensures.ok c.in_ok-byte.ensures.at (start (λ k. Exactly (kind_byte k ∷ []) ▸ KindTail k) _ kind_parts)))

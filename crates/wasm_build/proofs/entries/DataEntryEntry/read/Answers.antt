@@ -16,14 +16,16 @@ returns-in_err-offset-clause-built c =
 
 pub returns-in_err-count-clause-built : goal.returns-in_err-count-clause-built
 returns-in_err-count-clause-built c =
-    stop_number (λ s. length s.bytes) (λ s. Exactly s.bytes ▸ Exactly []) c.in_err-count.ensures.read
+    let p = err_from_is_err_and c.from_residual-in_err-count.result c.from_residual-in_err-count.ensures.1 in
+    stop_number (λ s. length s.bytes) (λ s. Exactly s.bytes ▸ Exactly []) p.1 c.in_err-count.ensures.read
     (step (λ s. s.offset) (λ s. Number (length s.bytes) ▸ (Exactly s.bytes ▸ Exactly [])) c.in_ok-offset.ensures.built
     (step_number (λ s. s.memory) (λ s. SpelledExpression s.offset ▸ (Number (length s.bytes) ▸ (Exactly s.bytes ▸ Exactly []))) c.in_ok-memory.ensures.read
     (start SegmentParts _ segment_parts)))
 
 pub returns-in_err-take-clause-built : goal.returns-in_err-take-clause-built
 returns-in_err-take-clause-built c =
-    stop_taken (λ s. s.bytes) (λ s. Exactly []) c.in_err-take.ensures.err (λ s k. k.1)
+    let p = err_from_is_err_and c.from_residual-in_err-take.result c.from_residual-in_err-take.ensures.1 in
+    stop_taken (λ s. s.bytes) (λ s. Exactly []) p.1 c.in_err-take.ensures.err (λ s k. k.1)
     (step_number (λ s. length s.bytes) (λ s. Exactly s.bytes ▸ Exactly []) c.in_ok-count.ensures.read
     (step (λ s. s.offset) (λ s. Number (length s.bytes) ▸ (Exactly s.bytes ▸ Exactly [])) c.in_ok-offset.ensures.built
     (step_number (λ s. s.memory) (λ s. SpelledExpression s.offset ▸ (Number (length s.bytes) ▸ (Exactly s.bytes ▸ Exactly []))) c.in_ok-memory.ensures.read

@@ -19,7 +19,8 @@ returns-in_err-space-clause-built c =
 
 pub returns-in_err-index-clause-built : goal.returns-in_err-index-clause-built
 returns-in_err-index-clause-built c =
-    stop_last_number (λ e. e.index) c.in_err-index.ensures.read (step (λ e. e.space) (λ e. Number e.index) c.in_ok-space.ensures.built
+    let p = err_from_is_err_and c.from_residual-in_err-index.result c.from_residual-in_err-index.ensures.1 in
+    stop_last_number (λ e. e.index) p.1 c.in_err-index.ensures.read (step (λ e. e.space) (λ e. Number e.index) c.in_ok-space.ensures.built
     (step (λ e. e.name) (λ e. Exactly (space_byte e.space ∷ []) ▸ Number e.index) c.in_ok-name.ensures.built
     (start (λ e. Text e.name ▸ (Exactly (space_byte e.space ∷ []) ▸ Number e.index)) _ (λ e at bytes h. h))))
 

@@ -7,7 +7,9 @@ use Rattle.wasm_build.proofs.EntryParts.{TypeResults, TypeVectors, TypeParts, ty
 use Rattle.wasm_build.proofs.types.TypeEntryEntry.read.Goals as goal
 
 pub returns-in_err-tag-clause-built : goal.returns-in_err-tag-clause-built
-returns-in_err-tag-clause-built c = stop_passed TypeVectors c.in_err-tag.ensures.passed (start TypeParts _ type_parts)
+returns-in_err-tag-clause-built c =
+    let p = err_from_is_err_and c.from_residual.result c.from_residual.ensures.1 in
+    stop_passed TypeVectors p.1 c.in_err-tag.ensures.passed (start TypeParts _ type_parts)
 
 pub returns-in_err-params-clause-built : goal.returns-in_err-params-clause-built
 returns-in_err-params-clause-built c =
