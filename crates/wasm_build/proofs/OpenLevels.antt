@@ -219,7 +219,7 @@ closed_in (Else arm) ty before Outside got more here new tail n h a =
     let g = n.built tail false a.0 done a.1 a.2 in
     let p : onto got a.0 ≡ code got = ap (onto got) g.0 ∙ onto_done got in
     outside Outside (λ k. onto before (branch ty (code arm.items) (onto got a.0) k)) (onto more) a.1 (with_more new tail) (λ k. h k ∙ ap (λ z. onto before (branch ty
-        (code arm.items) z k)) (sym p)) g.2 a.3
+    (code arm.items) z k)) (sym p)) g.2 a.3
 
 pub run_close : (old here new : Place) (levels low : List Level) (l : Level) (got more : List Instr) → Running old levels got here → BuildsNext (Ok an_end) here new → levels ≡ low ++ l ∷ []
     → ((rest : Code) → onto more rest ≡ onto l.before.items (closed l.opened l.ty (code got) rest)) → Running old low more new

@@ -319,7 +319,7 @@ same_tail id xs ys e = (let p : xs ≡ ys = cc in p)
 
 module _ {X : Type 0} (Spelled : X → ℕ → List ℕ → Type 0) (put : List X → State) (Known : List X → Type 0) (old : Builder) (id : ℕ)
     (arm : (s : PlainSection) (after : State) (at : ℕ) (bytes : List ℕ) → section_id s ≡ id → Adds s (state_of old.sections) after → Sized (ContentOf s) at bytes
-        → Head Spelled put Known after at bytes) where
+    → Head Spelled put Known after at bytes) where
   head_here : (q : State) (at : ℕ) (bytes more : List ℕ) → bytes ≡ id ∷ drop 1 bytes → SpelledSections (state_of old.sections) q at (bytes ++ more) → HeadHere Spelled put Known q at id bytes more
   head_here q at bytes more e a =
       let f = first_section (state_of old.sections) q at id bytes more e a in

@@ -12,13 +12,13 @@ pub returns-in_err-tag-in-Some-ZeroByte-clause-built : goal.returns-in_err-tag-i
 returns-in_err-tag-in-Some-ZeroByte-clause-built c =
     let p = err_from_is_err_and c.from_residual.result c.from_residual.ensures.1 in
     stop_passed (λ c. Exactly []) p.1 c.in_err-tag-in-Some-ZeroByte.ensures.passed (zero_start _ _
-        (table_says _ _ ZeroByte _ c.immediate_form.ensures c.in-Some-ZeroByte.is c.in-Some-ZeroByte.field-0-is))
+    (table_says _ _ ZeroByte _ c.immediate_form.ensures c.in-Some-ZeroByte.is c.in-Some-ZeroByte.field-0-is))
 
 pub returns-in_err-x-in-Some-Index-clause-built : goal.returns-in_err-x-in-Some-Index-clause-built
 returns-in_err-x-in-Some-Index-clause-built c =
     let p = err_from_is_err_and c.from_residual-in_err-x-in-Some-Index.result c.from_residual-in_err-x-in-Some-Index.ensures.1 in
     stop_last_number (λ c. x_in (operands_in c)) p.1 c.in_err-x-in-Some-Index.ensures.read (index_start _ _
-        (table_says _ _ Index _ c.immediate_form.ensures c.in-Some-Index.is c.in-Some-Index.field-0-is))
+    (table_says _ _ Index _ c.immediate_form.ensures c.in-Some-Index.is c.in-Some-Index.field-0-is))
 
 pub returns-in_err-x-in-Some-IndexAndZero-clause-built : goal.returns-in_err-x-in-Some-IndexAndZero-clause-built
 returns-in_err-x-in-Some-IndexAndZero-clause-built c =

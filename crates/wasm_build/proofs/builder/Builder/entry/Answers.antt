@@ -9,7 +9,7 @@ returns-in-Ok-clause-steps c =
     let n : c.saturating_sub.result ≡ c.args.left - 1 = omega arith in
     entry_built c.args.self.now _ c.args.kind c.args.left c.args.first c.args.bytes.now _ c.entry.new.input c.requires c.new_at-input.ensures _ _ refl c.in-Ok.ensures.built
     (ap (λ z. length c.args.bytes.now - length z) c.rest.ensures) (omega (arith, c.in-Ok.ensures.left, ap (λ (z : Place). length z.left) c.new_at-input.ensures))
-        (c.before_entries-self.ensures ∙ ap (stage_before c.args.kind) n)
+    (c.before_entries-self.ensures ∙ ap (stage_before c.args.kind) n)
 
 pub returns-in-Err-NotSpelled-clause-steps : goal.returns-in-Err-NotSpelled-clause-steps
 returns-in-Err-NotSpelled-clause-steps c =
