@@ -20,7 +20,7 @@ use wa_types::{Func, Module, copy_func};
 use wasm_validate::Valid;
 
 /// The frames of the numbered calls of a function, in order.
-#[derive(Debug, Drop)]
+#[derive(Drop)]
 pub struct FuncLayout {
     pub func: u32,
     pub calls: Vec<Layout>,

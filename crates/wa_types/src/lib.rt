@@ -25,7 +25,7 @@ mod weights;
 
 pub use bounds::{Bounds, LimitKind};
 pub use copy::{copy_around, copy_body, copy_func, copy_leaf, copy_module};
-pub use frame_laws::{live_is_path, one_each_call, slots_are_pairs};
+pub use frame_laws::slot_and_live_laws;
 pub use instrs::Instr;
 pub use leb::{
     LebFault, Spelling, read_s32, read_s64, read_u32, signed_spelling_laws, unsigned_spelling_laws,
