@@ -11,7 +11,7 @@ use std::alloc::{AllocError, Global};
 use wa_types::Instr;
 
 /// What a call goes to: a function by its index, or one of the table by the index of its type.
-#[derive(Clone, Copy, Debug)]
+#[derive(Clone, Copy)]
 pub(crate) enum Callee {
     Direct(u32),
     Indirect(u32),

@@ -21,7 +21,7 @@ use wa_types::{Func, Module};
 use wasm_validate::Valid;
 
 /// The frames of the numbered calls of a function, in order.
-#[derive(Debug, Drop)]
+#[derive(Drop)]
 pub struct FuncLayout {
     pub func: u32,
     pub calls: Vec<Layout>,

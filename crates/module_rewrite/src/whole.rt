@@ -21,7 +21,7 @@ use wasm_validate::{Valid, ValidateFault, validate};
 
 /// A module as it is rewritten, the frames of the functions that may pause, in index order, and which these are, by one answer
 /// a function, imports first.
-#[derive(Debug, Drop)]
+#[derive(Drop)]
 pub struct Rewritten {
     pub module: Valid,
     pub layouts: Vec<FuncLayout>,

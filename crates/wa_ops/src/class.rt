@@ -8,7 +8,7 @@ ghost use Rattle.wa_ops.specs.Operate.{class_of};
 use wa_types::{NumOp, ValType};
 
 /// Which of this crate's calls takes an operator (standard, section 2.4.1).
-#[derive(Clone, Copy, Debug, PartialEq, Eq)]
+#[derive(Clone, Copy)]
 pub enum OperatorClass {
     /// `unary`: counts of bits, and the test for zero.
     Unary,

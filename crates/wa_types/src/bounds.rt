@@ -7,7 +7,7 @@ use std::marker::Model;
 
 /// What a module may hold at most. There are two sets of bounds: those of a source module, and the wider ones of a
 /// prepared module, which has the runtime's parts.
-#[derive(Debug, Drop)]
+#[derive(Drop)]
 pub struct Bounds {
     file: u32,
     functions: u32,

@@ -25,8 +25,9 @@ mod values;
 mod weights;
 
 pub use bounds::{Bounds, LimitKind};
+pub use copy::{copy_around, copy_body, copy_func, copy_leaf, copy_module};
 pub use drops::drop_body;
-pub use frame_laws::{live_is_path, one_each_call, slots_are_pairs};
+pub use frame_laws::slot_and_live_laws;
 pub use instrs::Instr;
 pub use leaves::copy_leaf;
 pub use leb::{

@@ -13,7 +13,7 @@ pub struct FuncType {
 }
 
 /// So many locals of one type, one behind another (standard, section 5.5.13).
-#[derive(Clone, Copy, Debug, PartialEq, Eq)]
+#[derive(Clone, Copy, Debug)]
 pub struct Run {
     pub count: u32,
     pub ty: ValType,
@@ -40,7 +40,7 @@ impl Drop for Func {
 }
 
 /// The limits of a table in entries, or of a memory in pages of 65,536 bytes (standard, section 2.3.4).
-#[derive(Clone, Copy, Debug, PartialEq, Eq)]
+#[derive(Clone, Copy, Debug)]
 pub struct Limits {
     pub min: u32,
     pub max: Option<u32>,
@@ -67,7 +67,7 @@ impl Drop for GlobalDef {
 
 /// What is imported (standard, section 2.5.11): a function by the index of its type, a table, a memory, or
 /// a global by its type and whether it is mutable.
-#[derive(Clone, Copy, Debug, PartialEq, Eq)]
+#[derive(Clone, Copy, Debug)]
 pub enum ImportKind {
     Func(u32),
     Table(Limits),
@@ -84,7 +84,7 @@ pub struct Import {
 }
 
 /// The index space of an export (standard, section 2.5.1).
-#[derive(Clone, Copy, Debug, PartialEq, Eq)]
+#[derive(Clone, Copy, Debug)]
 pub enum Space {
     Func,
     Table,
