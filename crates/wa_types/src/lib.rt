@@ -25,7 +25,6 @@ mod values;
 mod weights;
 
 pub use bounds::{Bounds, LimitKind};
-pub use copy::{copy_around, copy_body, copy_func, copy_leaf, copy_module};
 pub use drops::drop_body;
 pub use frame_laws::slot_and_live_laws;
 pub use instrs::Instr;
