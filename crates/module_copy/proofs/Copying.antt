@@ -25,12 +25,4 @@ map_step f xs ys new i x y e same h at before =
 pub map_end : {X Y : Type 0} (f : X → Y) (xs ys : List X) (i : ℕ) → length xs ≤ i → map f ys ≡ map f (take i xs) → map f ys ≡ map f xs
 map_end f xs ys i h e = e ∙ ap (map f) (take_all i xs h)
 
-pub list_step : {X : Type 0} (xs ys new : List X) (i : ℕ) (x y : X) → new ≡ ys ++ y ∷ [] → y ≡ x → i < length xs → x ≡ get_or xs i x → ys ≡ take i xs → new ≡ take (i + 1) xs
-list_step xs ys new i x y e same h at before = e ∙ (λ j. before j ++ (same ∙ at) j ∷ []) ∙ sym (take_more xs i x h)
-
-pub list_end : {X : Type 0} (xs ys : List X) (i : ℕ) → length xs ≤ i → ys ≡ take i xs → ys ≡ xs
-list_end xs ys i h e = e ∙ take_all i xs h
-
 pub ruleset mapping = (map_step, map_end)
-
-pub ruleset listing = (list_step, list_end)

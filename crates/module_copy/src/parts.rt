@@ -1,117 +1,144 @@
-//! Equal entries of the sections other than the code section.
+//! Equal entries of a module's sections.
 
 ghost use Rattle.std.specs.Prelude.{◌≡◌, IfOk, map};
-ghost use Rattle.wa_types.specs.View.{func_type_of, global_of, elem_of, segment_of, custom_of};
+ghost use Rattle.wa_types.specs.declared.syntax.Import.{Import as ImportValue};
+ghost use Rattle.wa_types.specs.declared.syntax.Export.{Export as ExportValue};
+ghost use Rattle.wa_types.specs.Syntax.{FuncType as PlainType, Func as PlainFunc, GlobalDef as PlainGlobal, Elem as PlainElem, Segment as PlainSegment, Custom as PlainCustom};
+ghost use Rattle.wa_types.specs.View.{func_type_of, func_of, global_of, elem_of, segment_of, custom_of};
 
-use crate::bodies::copy_body;
+use crate::bodies::{copy_body, copy_func};
 use std::alloc::{AllocError, Global};
-use wa_types::{Custom, Elem, Export, FuncType, GlobalDef, Import, Name, Segment};
+use wa_types::{Custom, Elem, Export, Func, FuncType, GlobalDef, Import, Name, Segment};
 
+/// What a vector of a module holds, of which there are equal copies.
+pub(crate) trait Part: Drop {
+    // the part as plain data
+    ghost plain: { Type 0 };
+
+    ghost view: { Self → plain };
+
+    /// An equal part.
+    fn copied(&self, alloc: Global) -> Result<Self, AllocError>
+        ensures { IfOk result (λ part. view part ≡ view self.now) };
+}
+
+/// Equal parts, in their order.
 #[tactic(auto, using(crate::proofs::Copying::mapping))]
-pub(crate) fn copy_types(alloc: Global, types: &[FuncType]) -> Result<Vec<FuncType>, AllocError>
-    ensures { IfOk result (λ v. map func_type_of v.items ≡ map func_type_of types.now) }
+pub(crate) fn copy_each<P: Part>(alloc: Global, parts: &[P]) -> Result<Vec<P>, AllocError>
+    ensures { IfOk result (λ v. map P.view v.items ≡ map P.view parts.now) }
 {
-    let mut out = Vec::with_capacity(alloc, types.len())?;
-    for ty in types {
-        out.push(FuncType {
-            params: Vec::from_slice(alloc, &ty.params)?,
-            results: Vec::from_slice(alloc, &ty.results)?,
-        })?;
+    let mut out = Vec::with_capacity(alloc, parts.len())?;
+    for part in parts {
+        out.push(part.copied(alloc)?)?;
     }
     Ok(out)
 }
 
-#[tactic(auto, using(crate::proofs::Copying::listing))]
-pub(crate) fn copy_imports(alloc: Global, imports: &[Import]) -> Result<Vec<Import>, AllocError>
-    ensures { IfOk result (λ v. v.items ≡ imports.now) }
-{
-    let mut out = Vec::with_capacity(alloc, imports.len())?;
-    for import in imports {
-        out.push(Import {
-            module: copy_name(alloc, &import.module)?,
-            base: copy_name(alloc, &import.base)?,
-            kind: import.kind,
-        })?;
+impl Part for FuncType {
+    ghost plain = { PlainType };
+
+    ghost view = { func_type_of };
+
+    fn copied(&self, alloc: Global) -> Result<FuncType, AllocError> {
+        Ok(FuncType {
+            params: Vec::from_slice(alloc, &self.params)?,
+            results: Vec::from_slice(alloc, &self.results)?,
+        })
     }
-    Ok(out)
 }
 
-#[tactic(auto, using(crate::proofs::Copying::mapping))]
-pub(crate) fn copy_globals(
-    alloc: Global,
-    globals: &[GlobalDef],
-) -> Result<Vec<GlobalDef>, AllocError>
-    ensures { IfOk result (λ v. map global_of v.items ≡ map global_of globals.now) }
-{
-    let mut out = Vec::with_capacity(alloc, globals.len())?;
-    for global in globals {
-        out.push(GlobalDef {
-            ty: global.ty,
-            mutable: global.mutable,
-            init: copy_body(alloc, &global.init)?,
-        })?;
+impl Part for Import {
+    ghost plain = { ImportValue };
+
+    ghost view = { λ i. i };
+
+    fn copied(&self, alloc: Global) -> Result<Import, AllocError> {
+        Ok(Import {
+            module: copy_name(alloc, &self.module)?,
+            base: copy_name(alloc, &self.base)?,
+            kind: self.kind,
+        })
     }
-    Ok(out)
 }
 
-#[tactic(auto, using(crate::proofs::Copying::listing))]
-pub(crate) fn copy_exports(alloc: Global, exports: &[Export]) -> Result<Vec<Export>, AllocError>
-    ensures { IfOk result (λ v. v.items ≡ exports.now) }
-{
-    let mut out = Vec::with_capacity(alloc, exports.len())?;
-    for export in exports {
-        out.push(Export {
-            name: copy_name(alloc, &export.name)?,
-            space: export.space,
-            index: export.index,
-        })?;
+impl Part for Func {
+    ghost plain = { PlainFunc };
+
+    ghost view = { func_of };
+
+    fn copied(&self, alloc: Global) -> Result<Func, AllocError> {
+        copy_func(alloc, self)
     }
-    Ok(out)
 }
 
-#[tactic(auto, using(crate::proofs::Copying::mapping))]
-pub(crate) fn copy_elems(alloc: Global, elems: &[Elem]) -> Result<Vec<Elem>, AllocError>
-    ensures { IfOk result (λ v. map elem_of v.items ≡ map elem_of elems.now) }
-{
-    let mut out = Vec::with_capacity(alloc, elems.len())?;
-    for elem in elems {
-        out.push(Elem {
-            table: elem.table,
-            offset: copy_body(alloc, &elem.offset)?,
-            funcs: Vec::from_slice(alloc, &elem.funcs)?,
-        })?;
+impl Part for GlobalDef {
+    ghost plain = { PlainGlobal };
+
+    ghost view = { global_of };
+
+    fn copied(&self, alloc: Global) -> Result<GlobalDef, AllocError> {
+        Ok(GlobalDef {
+            ty: self.ty,
+            mutable: self.mutable,
+            init: copy_body(alloc, &self.init)?,
+        })
     }
-    Ok(out)
 }
 
-#[tactic(auto, using(crate::proofs::Copying::mapping))]
-pub(crate) fn copy_segments(alloc: Global, segments: &[Segment]) -> Result<Vec<Segment>, AllocError>
-    ensures { IfOk result (λ v. map segment_of v.items ≡ map segment_of segments.now) }
-{
-    let mut out = Vec::with_capacity(alloc, segments.len())?;
-    for segment in segments {
-        out.push(Segment {
-            memory: segment.memory,
-            offset: copy_body(alloc, &segment.offset)?,
-            bytes: Vec::from_slice(alloc, &segment.bytes)?,
-        })?;
+impl Part for Export {
+    ghost plain = { ExportValue };
+
+    ghost view = { λ e. e };
+
+    fn copied(&self, alloc: Global) -> Result<Export, AllocError> {
+        Ok(Export {
+            name: copy_name(alloc, &self.name)?,
+            space: self.space,
+            index: self.index,
+        })
     }
-    Ok(out)
 }
 
-#[tactic(auto, using(crate::proofs::Copying::mapping))]
-pub(crate) fn copy_customs(alloc: Global, customs: &[Custom]) -> Result<Vec<Custom>, AllocError>
-    ensures { IfOk result (λ v. map custom_of v.items ≡ map custom_of customs.now) }
-{
-    let mut out = Vec::with_capacity(alloc, customs.len())?;
-    for custom in customs {
-        out.push(Custom {
-            after: custom.after,
-            name: copy_name(alloc, &custom.name)?,
-            bytes: Vec::from_slice(alloc, &custom.bytes)?,
-        })?;
+impl Part for Elem {
+    ghost plain = { PlainElem };
+
+    ghost view = { elem_of };
+
+    fn copied(&self, alloc: Global) -> Result<Elem, AllocError> {
+        Ok(Elem {
+            table: self.table,
+            offset: copy_body(alloc, &self.offset)?,
+            funcs: Vec::from_slice(alloc, &self.funcs)?,
+        })
     }
-    Ok(out)
+}
+
+impl Part for Segment {
+    ghost plain = { PlainSegment };
+
+    ghost view = { segment_of };
+
+    fn copied(&self, alloc: Global) -> Result<Segment, AllocError> {
+        Ok(Segment {
+            memory: self.memory,
+            offset: copy_body(alloc, &self.offset)?,
+            bytes: Vec::from_slice(alloc, &self.bytes)?,
+        })
+    }
+}
+
+impl Part for Custom {
+    ghost plain = { PlainCustom };
+
+    ghost view = { custom_of };
+
+    fn copied(&self, alloc: Global) -> Result<Custom, AllocError> {
+        Ok(Custom {
+            after: self.after,
+            name: copy_name(alloc, &self.name)?,
+            bytes: Vec::from_slice(alloc, &self.bytes)?,
+        })
+    }
 }
 
 fn copy_name(alloc: Global, name: &Name) -> Result<Name, AllocError>
