@@ -1,6 +1,7 @@
-//! Trees that are dropped without recursion. The tests have so little stack that a tree of 3,008 levels doesn't fit when it is dropped level in level.
+//! Trees that are dropped and copied without recursion. The tests have so little stack that a tree of 3,008 levels doesn't fit when it is dropped level in level.
 
 use crate::limits::nested;
+use module_copy::copy_body;
 use std::alloc::{AllocError, Global};
 use std::test::Fail;
 use wa_types::{Bounds, Instr, Module, drop_body};
@@ -33,6 +34,17 @@ fn deep(alloc: Global, levels: u32) -> Result<Vec<Instr>, AllocError> {
 #[test]
 fn a_hundred_thousand_levels_are_dropped(rt: HostRuntime) -> Result<(), Fail> {
     drop_body(deep(rt.alloc(), 100_000)?);
+    Ok(())
+}
+
+#[test]
+fn a_hundred_thousand_levels_are_copied(rt: HostRuntime) -> Result<(), Fail> {
+    let alloc = rt.alloc();
+    let body = deep(alloc, 100_000)?;
+    let copy = copy_body(alloc, &body)?;
+    assert_eq!(rt; copy.len(), 3);
+    drop_body(body);
+    drop_body(copy);
     Ok(())
 }
 

@@ -40,6 +40,8 @@ fn levels_go_up_to_each_bound(rt: HostRuntime) -> Result<(), Fail> {
 #[test]
 fn prepared_modules_nest_3008_levels_at_most(rt: HostRuntime) -> Result<(), Fail> {
     let alloc = rt.alloc();
+    let deepest = nested(alloc, b"\x0A\xC5\x46\x01\xC2\x46\0", 3_008)?;
+    assert_eq!(rt; refused(alloc, &deepest, &Bounds::prepared()), None);
     let past = nested(alloc, b"\x0A\xC8\x46\x01\xC5\x46\0", 3_009)?;
     let deep = Some(ReadFault::Deep {
         at: 18 + 1 + 2 + 1 + 2 + 1 + 2 * 3_008,

@@ -1,7 +1,7 @@
 -- Goals of code.
-use Rattle.std.proofs.Common.{◌≡◌, ℕ, suc, zero, ◌+◌, ◌<◌, ◌≤◌, ◌⊎◌, List, [], ◌∷◌, ◌++◌, Option, Some, None, refl, ap, sym, ◌∙◌, subst, arith, append_assoc, length, length-append, Bool}
+use Rattle.std.proofs.Common.{◌≡◌, ℕ, suc, zero, ◌+◌, ◌≤◌, ◌⊎◌, List, [], ◌∷◌, ◌++◌, Option, Some, None, refl, ap, sym, ◌∙◌, subst, arith, append_assoc, length, length-append, Bool}
 use Rattle.std.proofs.Common.{true, false, inl, inr, cond, nat_eq, nat_le, eqb-true, IsTrue}
-use Rattle.wa_types.specs.Opcodes.{Form, no_immediate, a_zero, an_index, an_index_and_zero, an_access, some_labels, a_constant, a_float, follows, form, within, is_nest}
+use Rattle.wa_types.specs.Opcodes.{Form, no_immediate, a_zero, an_index, an_index_and_zero, an_access, some_labels, a_constant, a_float, follows, form, is_nest}
 use Rattle.wa_types.specs.Binary.{Placed, Immediates, nothing, zero_byte, index, index_and_zero, access, labels, constant, float, RawCode, ended, otherwise, instr, nested, branched}
 use Rattle.wa_types.specs.Begun.{Goal, code, exact, number, count, block_type, entries, some_indices, next, where_true, immediates, immediates_of, behind_opcode, an_unsigned}
 use Rattle.wa_types.specs.Spells.{◌▸◌, Exactly, Number, SignedNumber, Vector, Byte, BlockType, ImmediatesOf, CodeOf}

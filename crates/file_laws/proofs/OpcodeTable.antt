@@ -1,5 +1,5 @@
 -- The table of what follows an opcode: no operator is followed by anything, nothing stands above the numeric opcodes, and floats have bytes.
-use Rattle.std.proofs.Common.{◌≡◌, ℕ, suc, ◌+◌, ◌<◌, ◌≤◌, inl, inr, Bool, true, false, Option, Some, None, refl, sym, ◌∙◌, subst, arith, nat_le, nat_lt, ◌&&◌}
+use Rattle.std.proofs.Common.{◌≡◌, ℕ, suc, ◌+◌, ◌<◌, inl, inr, Bool, true, false, Option, Some, None, refl, sym, ◌∙◌, subst, arith, nat_le, nat_lt, ◌&&◌}
 use Rattle.std.proofs.lemmas.Bool.{cases_lt, lt-leb, ltb-true, ne_eqb}
 use Rattle.wa_types.specs.declared.operators.NumOp.{NumOp}
 use Rattle.wa_types.specs.declared.operators.NumOp.TheVariants.{I32Eqz}

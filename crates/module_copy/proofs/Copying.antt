@@ -1,17 +1,6 @@
 -- Lists copied item by item.
-use Rattle.std.proofs.Common.{◌≡◌, ℕ, ◌+◌, ◌<◌, ◌≤◌, List, [], ◌∷◌, ◌++◌, map, refl, ap, sym, ◌∙◌, length, get_or, take, drop}
+use Rattle.std.proofs.Common.{◌≡◌, ℕ, ◌+◌, ◌<◌, ◌≤◌, List, [], ◌∷◌, ◌++◌, map, refl, ap, sym, ◌∙◌, length, get_or, take}
 use Rattle.std.proofs.lemmas.List.{take_more, take_all}
-use Rattle.wa_types.specs.declared.instrs.Instr.{Instr}
-use Rattle.wa_types.specs.Syntax.{Code}
-use Rattle.wa_types.specs.View.{in_front, onto, code}
-use Rattle.wa_types.proofs.ViewLemmas.{code_step, code_empty, onto_append, onto_done, onto_none}
-
-pub copy_step : (xs new body : List Instr) (i : ℕ) (x y : Instr) (k : Code) → new ≡ xs ++ y ∷ [] → ((rest : Code) → in_front y rest ≡ in_front x rest) → i < length body
-    → x ≡ get_or body i x → onto xs (code (drop i body)) ≡ k → onto new (code (drop (i + 1) body)) ≡ k
-copy_step xs new body i x y k e same h at before =
-    ap (λ s. onto s (code (drop (i + 1) body))) e ∙ onto_append xs y _ ∙ ap (onto xs) (same _ ∙ sym (code_step body i x h at)) ∙ before
-
-pub ruleset copying = (copy_step, onto_none, onto_done, code_empty)
 
 map_append_one : {X Y : Type 0} (f : X → Y) (xs : List X) (x : X) → map f (xs ++ x ∷ []) ≡ map f xs ++ f x ∷ []
 map_append_one f [] x = refl

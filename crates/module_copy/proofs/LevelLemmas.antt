@@ -8,22 +8,23 @@ use Rattle.wa_types.specs.declared.instrs.Instr.TheVariants.{Block as BlockInstr
 use Rattle.wa_types.specs.Counts.{count_of}
 use Rattle.wa_types.specs.Syntax.{a_block, a_loop, Code, nest, branch}
 use Rattle.wa_types.specs.View.{code, onto, in_front}
-use Rattle.wa_types.proofs.ViewLemmas.{is_block, is_loop, is_if, is_plain, instr_kind, in_block, in_loop, in_if, onto_append, onto_none, onto_done, code_none}
+use Rattle.wa_types.proofs.DropLemmas.{count_front as front_counts, count_some}
+use Rattle.wa_types.proofs.ViewLemmas.{in_block, in_loop, in_if, onto_append, onto_none, onto_done, code_none}
 use Rattle.module_copy.specs.declared.levels.Opened.{Opened}
 use Rattle.module_copy.specs.declared.levels.Opened.TheVariants.{Block, Loop, Then, Else}
 use Rattle.module_copy.specs.declared.levels.Level.{Level}
 use Rattle.module_copy.specs.declared.levels.Copying.{Copying}
-use Rattle.module_copy.specs.Levels.{around, closed, owed, to_close, IsEntered, GoesOn}
+use Rattle.module_copy.specs.Levels.{enclosed, closed, owed, to_close, IsEntered, GoesOn}
 
 -- the innermost construct
-pub around_none : (c : Code) → around [] c ≡ c
-unfolding around
-around_none c = refl
+pub enclosed_none : (c : Code) → enclosed [] c ≡ c
+unfolding enclosed
+enclosed_none c = refl
 
-pub around_last : (ls : List Level) (l : Level) (c : Code) → around (ls ++ l ∷ []) c ≡ around ls (onto l.before.items (closed l.opened l.ty c (code l.behind.now)))
-unfolding around
-around_last [] l c = refl
-around_last (k ∷ ks) l c = ap (λ b. onto k.before.items (closed k.opened k.ty b (code k.behind.now))) (around_last ks l c)
+pub enclosed_last : (ls : List Level) (l : Level) (c : Code) → enclosed (ls ++ l ∷ []) c ≡ enclosed ls (onto l.before.items (closed l.opened l.ty c (code l.behind.now)))
+unfolding enclosed
+enclosed_last [] l c = refl
+enclosed_last (k ∷ ks) l c = ap (λ b. onto k.before.items (closed k.opened k.ty b (code k.behind.now))) (enclosed_last ks l c)
 
 owed_last : (ls : List Level) (l : Level) → owed (ls ++ l ∷ []) ≡ owed ls + (to_close l.opened + 3 * count_of (code l.behind.now))
 unfolding owed
@@ -39,22 +40,16 @@ owes_some (Else arm) = omega arith
 
 -- an instruction counts
 count_front : (x : Instr) (rest : Code) → 1 + count_of rest ≤ count_of (in_front x rest)
-unfolding count_of
-count_front x rest = elim (instr_kind x) [
-  | is_block r v e ↦ omega (arith, ap (λ y. count_of (in_front y rest)) e ∙ ap count_of (in_block r v rest))
-  | is_loop r v e ↦ omega (arith, ap (λ y. count_of (in_front y rest)) e ∙ ap count_of (in_loop r v rest))
-  | is_if r v w e ↦ omega (arith, ap (λ y. count_of (in_front y rest)) e ∙ ap count_of (in_if r v w rest))
-  | is_plain p e ↦ omega (arith, ap count_of (e rest))
-]
+count_front x rest = omega (arith, front_counts x rest, count_some x)
 
 -- a construct is opened: it stands behind these, as this code, and its size pays for what is owed for it
 pub entering : (ls : List Level) (l : Level) (body : List Instr) (c : Code) (n : ℕ) (new : Copying) → IsEntered ls l body new → closed l.opened l.ty (code body) (code l.behind.now) ≡ c
-    → to_close l.opened + 3 * count_of (code l.behind.now) + 3 * count_of (code body) < n → GoesOn (around ls (onto l.before.items c)) (owed ls + n) new
+    → to_close l.opened + 3 * count_of (code l.behind.now) + 3 * count_of (code body) < n → GoesOn (enclosed ls (onto l.before.items c)) (owed ls + n) new
 entering ls l body c n new e is less = record {
   same =
-      ap (λ k. around k (onto new.made.items (code new.left.now))) e.opens ∙ around_last ls l (onto new.made.items (code new.left.now))
-      ∙ ap (λ b. around ls (onto l.before.items (closed l.opened l.ty b (code l.behind.now)))) (ap (λ s. onto s (code new.left.now)) e.none_made ∙ onto_none _ ∙ ap code e.comes)
-      ∙ ap (λ b. around ls (onto l.before.items b)) is;
+      ap (λ k. enclosed k (onto new.made.items (code new.left.now))) e.opens ∙ enclosed_last ls l (onto new.made.items (code new.left.now))
+      ∙ ap (λ b. enclosed ls (onto l.before.items (closed l.opened l.ty b (code l.behind.now)))) (ap (λ s. onto s (code new.left.now)) e.none_made ∙ onto_none _ ∙ ap code e.comes)
+      ∙ ap (λ b. enclosed ls (onto l.before.items b)) is;
   less =
       let owes : owed new.levels.items ≡ owed ls + (to_close l.opened + 3 * count_of (code l.behind.now)) = ap owed e.opens ∙ owed_last ls l in
       let comes : count_of (code new.left.now) ≡ count_of (code body) = ap (λ b. count_of (code b)) e.comes in
@@ -63,9 +58,9 @@ entering ls l body c n new e is less = record {
 
 -- an instruction that holds no other is put
 pub putting : (old new : Copying) (x : Instr) → new.levels ≡ old.levels → new.left ≡ old.left → ((rest : Code) → onto new.made.items rest ≡ onto old.made.items (in_front x rest))
-    → GoesOn (around old.levels.items (onto old.made.items (in_front x (code old.left.now)))) (owed old.levels.items + 3 * count_of (in_front x (code old.left.now))) new
+    → GoesOn (enclosed old.levels.items (onto old.made.items (in_front x (code old.left.now)))) (owed old.levels.items + 3 * count_of (in_front x (code old.left.now))) new
 putting old new x levels left made = record {
-  same = (λ j. around (levels j).items (onto new.made.items (code (left j).now))) ∙ ap (around old.levels.items) (made _);
+  same = (λ j. enclosed (levels j).items (onto new.made.items (code (left j).now))) ∙ ap (enclosed old.levels.items) (made _);
   less =
       let owes : owed new.levels.items ≡ owed old.levels.items = ap (λ v. owed v.items) levels in
       let stays : count_of (code new.left.now) ≡ count_of (code old.left.now) = ap (λ s. count_of (code s.now)) left in
@@ -74,10 +69,10 @@ putting old new x levels left made = record {
 
 -- a construct is put, whose body is made
 pub closing : (ls : List Level) (l : Level) (y : Instr) (c : Code) (new : Copying) → new.levels.items ≡ ls → new.made.items ≡ l.before.items ++ y ∷ [] → new.left ≡ l.behind
-    → in_front y (code l.behind.now) ≡ c → GoesOn (around ls (onto l.before.items c)) (owed (ls ++ l ∷ [])) new
+    → in_front y (code l.behind.now) ≡ c → GoesOn (enclosed ls (onto l.before.items c)) (owed (ls ++ l ∷ [])) new
 closing ls l y c new levels made left is = record {
   same =
-      (λ j. around (levels j) (onto (made j) (code (left j).now))) ∙ ap (around ls) (onto_append l.before.items y (code l.behind.now)) ∙ ap (λ b. around ls (onto l.before.items b)) is;
+      (λ j. enclosed (levels j) (onto (made j) (code (left j).now))) ∙ ap (enclosed ls) (onto_append l.before.items y (code l.behind.now)) ∙ ap (λ b. enclosed ls (onto l.before.items b)) is;
   less =
       let owes : owed new.levels.items ≡ owed ls = ap owed levels in
       let stays : count_of (code new.left.now) ≡ count_of (code l.behind.now) = ap (λ s. count_of (code s.now)) left in
@@ -87,7 +82,7 @@ closing ls l y c new levels made left is = record {
 -- a block, a loop or an if is opened
 pub opening_block : (old new : Copying) (x : Instr) (r : Option ValType) (v : Vec Instr Global) (body : List Instr) → x ≡ BlockInstr r v → body ≡ v.items
     → IsEntered old.levels.items (record { before = old.made; ty = r; opened = Block; behind = old.left }) body new
-    → GoesOn (around old.levels.items (onto old.made.items (in_front x (code old.left.now)))) (owed old.levels.items + 3 * count_of (in_front x (code old.left.now))) new
+    → GoesOn (enclosed old.levels.items (onto old.made.items (in_front x (code old.left.now)))) (owed old.levels.items + 3 * count_of (in_front x (code old.left.now))) new
 unfolding count_of
 opening_block old new x r v body is b e =
     let same : in_front x (code old.left.now) ≡ nest a_block r (code body) (code old.left.now) =
@@ -97,7 +92,7 @@ opening_block old new x r v body is b e =
 
 pub opening_loop : (old new : Copying) (x : Instr) (r : Option ValType) (v : Vec Instr Global) (body : List Instr) → x ≡ LoopInstr r v → body ≡ v.items
     → IsEntered old.levels.items (record { before = old.made; ty = r; opened = Loop; behind = old.left }) body new
-    → GoesOn (around old.levels.items (onto old.made.items (in_front x (code old.left.now)))) (owed old.levels.items + 3 * count_of (in_front x (code old.left.now))) new
+    → GoesOn (enclosed old.levels.items (onto old.made.items (in_front x (code old.left.now)))) (owed old.levels.items + 3 * count_of (in_front x (code old.left.now))) new
 unfolding count_of
 opening_loop old new x r v body is b e =
     let same : in_front x (code old.left.now) ≡ nest a_loop r (code body) (code old.left.now) =
@@ -107,7 +102,7 @@ opening_loop old new x r v body is b e =
 
 pub opening_if : (old new : Copying) (x : Instr) (r : Option ValType) (v w : Vec Instr Global) (body : List Instr) (other : Bor (List Instr)) → x ≡ IfInstr r v w → body ≡ v.items → other.now ≡ w.items
     → IsEntered old.levels.items (record { before = old.made; ty = r; opened = Then other; behind = old.left }) body new
-    → GoesOn (around old.levels.items (onto old.made.items (in_front x (code old.left.now)))) (owed old.levels.items + 3 * count_of (in_front x (code old.left.now))) new
+    → GoesOn (enclosed old.levels.items (onto old.made.items (in_front x (code old.left.now)))) (owed old.levels.items + 3 * count_of (in_front x (code old.left.now))) new
 unfolding count_of
 opening_if old new x r v w body other is b o e =
     let same : in_front x (code old.left.now) ≡ branch r (code body) (code other.now) (code old.left.now) =
@@ -118,24 +113,25 @@ opening_if old new x r v w body other is b o e =
 -- the first arm of an if is made, and its second one comes
 pub turning : (ls : List Level) (level : Level) (before inner made : Vec Instr Global) (arm : Bor (List Instr)) (new : Copying) → before ≡ level.before → inner ≡ made → level.opened ≡ Then arm
     → IsEntered ls (record { before = before; ty = level.ty; opened = Else inner; behind = level.behind }) arm.now new
-    → GoesOn (around ls (onto level.before.items (closed level.opened level.ty (code made.items) (code level.behind.now)))) (owed (ls ++ level ∷ [])) new
+    → GoesOn (enclosed ls (onto level.before.items (closed level.opened level.ty (code made.items) (code level.behind.now)))) (owed (ls ++ level ∷ [])) new
 turning ls level before inner made arm new b m is e =
     let rest : Code = code level.behind.now in
     let opens : branch level.ty (code inner.items) (code arm.now) rest ≡ closed level.opened level.ty (code made.items) rest =
     ap (λ (v : Vec Instr Global). branch level.ty (code v.items) (code arm.now) rest) m ∙ ap (λ o. closed o level.ty (code made.items) rest) (sym is) in
     let pays : to_close level.opened ≡ 3 * count_of (code arm.now) + 2 = ap to_close is in
-    let goes : GoesOn (around ls (onto before.items (closed level.opened level.ty (code made.items) rest))) (owed ls + (to_close level.opened + 3 * count_of rest)) new =
-    entering ls (record { before = before; ty = level.ty; opened = Else inner; behind = level.behind }) arm.now (closed level.opened level.ty (code made.items) rest) (to_close level.opened + 3 * count_of rest) new e
+    let goes : GoesOn (enclosed ls (onto before.items (closed level.opened level.ty (code made.items) rest))) (owed ls + (to_close level.opened + 3 * count_of rest)) new =
+    entering ls (record { before = before; ty = level.ty; opened = Else inner; behind = level.behind }) arm.now
+    (closed level.opened level.ty (code made.items) rest) (to_close level.opened + 3 * count_of rest) new e
     opens (omega (arith, pays)) in
-    subst (λ n. GoesOn (around ls (onto level.before.items (closed level.opened level.ty (code made.items) rest))) n new) (sym (owed_last ls level))
-    (subst (λ (v : Vec Instr Global). GoesOn (around ls (onto v.items (closed level.opened level.ty (code made.items) rest))) (owed ls + (to_close level.opened + 3 * count_of rest)) new) b goes)
+    subst (λ n. GoesOn (enclosed ls (onto level.before.items (closed level.opened level.ty (code made.items) rest))) n new) (sym (owed_last ls level))
+    (subst (λ (v : Vec Instr Global). GoesOn (enclosed ls (onto v.items (closed level.opened level.ty (code made.items) rest))) (owed ls + (to_close level.opened + 3 * count_of rest)) new) b goes)
 
 -- what is made is what the innermost construct stands for
 pub closed_last : (ls rest : List Level) (level : Level) (made : List Instr) (left : List Instr) → ls ≡ rest ++ level ∷ [] → left ≡ []
-    → around rest (onto level.before.items (closed level.opened level.ty (code made) (code level.behind.now))) ≡ around ls (onto made (code left))
+    → enclosed rest (onto level.before.items (closed level.opened level.ty (code made) (code level.behind.now))) ≡ enclosed ls (onto made (code left))
 closed_last ls rest level made left e none =
-    sym (around_last rest level (code made)) ∙ ap (λ k. around k (code made)) (sym e)
-    ∙ ap (around ls) (sym (onto_done made) ∙ ap (onto made) (sym code_none) ∙ ap (λ s. onto made (code s)) (sym none))
+    sym (enclosed_last rest level (code made)) ∙ ap (λ k. enclosed k (code made)) (sym e)
+    ∙ ap (enclosed ls) (sym (onto_done made) ∙ ap (onto made) (sym code_none) ∙ ap (λ s. onto made (code s)) (sym none))
 
 -- no construct is open
 pub no_level : (levels : List Level) (n : ℕ) → n ≡ length levels → n ≡ 0 → levels ≡ []
@@ -148,12 +144,12 @@ unfolding code onto
 code_first xs x is e = ap code e
 
 -- at the beginning nothing is open and nothing is made, and at the end all is made
-pub begins : (body made : List Instr) (levels : List Level) → levels ≡ [] → made ≡ [] → around levels (onto made (code body)) ≡ code body
-begins body made levels e f = (λ j. around (e j) (onto (f j) (code body))) ∙ around_none (onto [] (code body)) ∙ onto_none (code body)
+pub begins : (body made : List Instr) (levels : List Level) → levels ≡ [] → made ≡ [] → enclosed levels (onto made (code body)) ≡ code body
+begins body made levels e f = (λ j. enclosed (e j) (onto (f j) (code body))) ∙ enclosed_none (onto [] (code body)) ∙ onto_none (code body)
 
-pub ends : (made left : List Instr) (levels : List Level) → levels ≡ [] → left ≡ [] → code made ≡ around levels (onto made (code left))
+pub ends : (made left : List Instr) (levels : List Level) → levels ≡ [] → left ≡ [] → code made ≡ enclosed levels (onto made (code left))
 ends made left levels e f =
-    sym ((λ j. around (e j) (onto made (code (f j)))) ∙ around_none (onto made (code [])) ∙ ap (onto made) code_none ∙ onto_done made)
+    sym ((λ j. enclosed (e j) (onto made (code (f j)))) ∙ enclosed_none (onto made (code [])) ∙ ap (onto made) code_none ∙ onto_done made)
 
 -- nothing is left
 pub none_left : (xs : List Instr) → length xs ≡ 0 → xs ≡ []

@@ -18,9 +18,9 @@ closed (Then arm) ty body rest = branch ty body (code arm.now) rest
 closed (Else arm) ty body rest = branch ty (code arm.items) body rest
 
 -- the whole body, where this is the innermost one; the outermost construct comes first
-unfoldable pub around : List Level → Code → Code
-around [] c = c
-around (l ∷ ls) c = onto l.before.items (closed l.opened l.ty (around ls c) (code l.behind.now))
+unfoldable pub enclosed : List Level → Code → Code
+enclosed [] c = c
+enclosed (l ∷ ls) c = onto l.before.items (closed l.opened l.ty (enclosed ls c) (code l.behind.now))
 
 -- how much is left to do for a construct, and for all that are open
 abbrev pub to_close : Opened → ℕ
@@ -33,7 +33,7 @@ owed (l ∷ ls) = to_close l.opened + 3 * count_of (code l.behind.now) + owed ls
 
 -- the body that is copied
 abbrev pub whole : Copying → Code
-whole c = around c.levels.items (onto c.made.items (code c.left.now))
+whole c = enclosed c.levels.items (onto c.made.items (code c.left.now))
 
 -- how much is left to do of it
 abbrev pub to_do : Copying → ℕ

@@ -1,11 +1,11 @@
-//! Constructs whose bodies are being copied (standard, section 2.4.8).
+//! Constructs whose bodies are being copied (standard, section 2.4.5).
 
 ghost use Rattle.std.specs.Prelude.{◌≡◌, ◌+◌, ◌*◌, ◌++◌, [], ◌∷◌, OnOk, true};
 ghost use Rattle.wa_types.specs.Counts.{count_of};
 ghost use Rattle.wa_types.specs.Leaves.{is_leaf};
 ghost use Rattle.wa_types.specs.Syntax.{Code};
 ghost use Rattle.wa_types.specs.View.{code, in_front, onto};
-ghost use Rattle.module_copy.specs.Levels.{around, closed, owed, GoesOn, IsEntered};
+ghost use Rattle.module_copy.specs.Levels.{enclosed, closed, owed, GoesOn, IsEntered};
 
 use std::alloc::{AllocError, Global};
 use std::mem;
@@ -48,7 +48,7 @@ pub(crate) fn copy_next<'m>(
     copying: &mut Copying<'m>,
     instr: &'m Instr,
 ) -> Result<(), AllocError>
-    ensures { OnOk result (GoesOn (around copying.old.levels.items (onto copying.old.made.items (in_front instr.now (code copying.old.left.now))))
+    ensures { OnOk result (GoesOn (enclosed copying.old.levels.items (onto copying.old.made.items (in_front instr.now (code copying.old.left.now))))
         (owed copying.old.levels.items + 3 * count_of (in_front instr.now (code copying.old.left.now))) copying.new) }
 {
     match instr {
@@ -108,8 +108,8 @@ pub(crate) fn close<'m>(
     level: Level<'m>,
 ) -> Result<(), AllocError>
     requires { copying.old.left.now ≡ [] }
-    ensures { OnOk result (GoesOn (around copying.old.levels.items (onto level.entry.before.items (closed level.entry.opened level.entry.ty (code copying.old.made.items) (code level.entry.behind.now))))
-        (owed (copying.old.levels.items ++ level.entry ∷ [])) copying.new) }
+    ensures { OnOk result (GoesOn (enclosed copying.old.levels.items (onto level.entry.before.items (closed level.entry.opened level.entry.ty
+        (code copying.old.made.items) (code level.entry.behind.now)))) (owed (copying.old.levels.items ++ level.entry ∷ [])) copying.new) }
 {
     let Level {
         before,

@@ -11,7 +11,7 @@ use Rattle.wa_types.specs.Counts.{count_of}
 use Rattle.wa_types.proofs.ViewLemmas.{is_block, is_loop, is_if, is_plain, instr_kind, in_block, in_loop, in_if}
 use Rattle.wa_types.specs.Dropping.{waiting}
 
-count_front : (x : Instr) (rest : Code) → count_of (in_front x rest) ≡ count_of (in_front x done) + count_of rest
+pub count_front : (x : Instr) (rest : Code) → count_of (in_front x rest) ≡ count_of (in_front x done) + count_of rest
 unfolding count_of
 count_front x rest = elim (instr_kind x) [
   | is_block r v e ↦ ap (λ y. count_of (in_front y rest)) e ∙ ap count_of (in_block r v rest) ∙ omega (arith, ap (λ y. count_of (in_front y done)) e ∙ ap count_of (in_block r v done))

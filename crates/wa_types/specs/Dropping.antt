@@ -12,5 +12,5 @@ waiting [] = 0
 waiting (v ∷ vs) = 3 * count_of (code v.items) + 1 + waiting vs
 
 -- of them and the body at hand
-abbrev pub left : List (Vec Instr Global) → List Instr → ℕ
-left begun body = 3 * count_of (code body) + waiting begun
+abbrev pub to_drop : List (Vec Instr Global) → List Instr → ℕ
+to_drop begun body = 3 * count_of (code body) + waiting begun

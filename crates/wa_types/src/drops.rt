@@ -7,12 +7,12 @@ ghost use Rattle.std.specs.Prelude.{◌≤◌, ◌+◌, ◌*◌};
 ghost use Rattle.wa_types.specs.Counts.{count_of};
 ghost use Rattle.wa_types.specs.Syntax.{done};
 ghost use Rattle.wa_types.specs.View.{code, in_front};
-ghost use Rattle.wa_types.specs.Dropping.{left};
+ghost use Rattle.wa_types.specs.Dropping.{to_drop};
 
 use crate::instrs::Instr;
 use std::mem;
 
-/// Drops a body. Takes the same native stack however deep it nests, and time linear in its size.
+/// Drops a body, in time linear in its size. Takes the same native stack however deep it nests, unless memory for the list is wanting.
 pub fn drop_body(body: Vec<Instr>) {
     let mut begun = Vec::new(*body.allocator());
     let mut body = body;
@@ -26,9 +26,10 @@ pub fn drop_body(body: Vec<Instr>) {
         }
     }
 }
+
 // Goes on in the bodies of an instruction that was taken from the end of a body.
 fn enter(begun: &mut Vec<Vec<Instr>>, body: &mut Vec<Instr>, instr: Instr)
-    ensures { left begun.new.items body.new.items + 1 ≤ left begun.old.items body.old.items + 3 * count_of (in_front instr done) }
+    ensures { to_drop begun.new.items body.new.items + 1 ≤ to_drop begun.old.items body.old.items + 3 * count_of (in_front instr done) }
 {
     match instr {
         Instr::Block { body: inner, .. } => go_into(begun, body, inner),
@@ -47,7 +48,7 @@ fn enter(begun: &mut Vec<Vec<Instr>>, body: &mut Vec<Instr>, instr: Instr)
 
 // Goes on in a body, behind which what is left of the outer one waits.
 fn go_into(begun: &mut Vec<Vec<Instr>>, body: &mut Vec<Instr>, inner: Vec<Instr>)
-    ensures { left begun.new.items body.new.items ≤ left begun.old.items body.old.items + 3 * count_of (code inner.items) + 1 }
+    ensures { to_drop begun.new.items body.new.items ≤ to_drop begun.old.items body.old.items + 3 * count_of (code inner.items) + 1 }
 {
     let outer = mem::replace(body, inner);
     if outer.is_empty() {

@@ -69,7 +69,7 @@ pub enum NumOp {
     I64ExtendI32U = 0xAD,
 }
 
-// All operators, by rising opcode (standard, section 5.4.5).
+// All operators, by rising opcode (standard, section 5.4.5). The last three are found by name below; proofs read the whole list.
 const OPERATORS: [NumOp; 61] = [
     NumOp::I32Eqz,
     NumOp::I32Eq,
@@ -145,12 +145,14 @@ impl NumOp {
     {
         self as u8
     }
+
     /// The operator of an opcode; None for that of another instruction (standard, section 5.4.5).
     #[inline(always)]
     pub fn of_opcode(op: u8) -> Option<NumOp>
         ensures named { (n : NumOp) → op ≡ opcode_of n → result ≡ Some n }
         ensures names { (n : NumOp) → result ≡ Some n → op ≡ opcode_of n }
     {
+        // In the array 22 operators stand before that of 0x67.
         match op {
             0x45..=0x5A => Some(OPERATORS[(op - 0x45) as usize]),
             0x67..=0x8A => Some(OPERATORS[(op - 0x51) as usize]),

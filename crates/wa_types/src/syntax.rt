@@ -163,6 +163,7 @@ pub struct Module {
     pub customs: Vec<Custom>,
 }
 
+// Written out and not derived: who holds a module then calls it, and nothing of what a module consists of is dropped there.
 impl Drop for Module {
     fn drop(self) {
         let Module {

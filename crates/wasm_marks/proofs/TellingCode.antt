@@ -1,7 +1,7 @@
 -- What code shows.
-use Rattle.std.proofs.Common.{◌≡◌, ℕ, ◌+◌, ◌<◌, List, [], ◌∷◌, ◌++◌, Option, Some, None, refl, ap, sym, ◌∙◌, subst, arith, append_assoc, length, Bool, true, false, inl, inr, cond, nat_eq}
+use Rattle.std.proofs.Common.{◌≡◌, ℕ, ◌+◌, ◌<◌, List, [], ◌∷◌, ◌++◌, Some, refl, ap, sym, ◌∙◌, subst, arith, append_assoc, length, Bool, true, false, inl, inr}
 use Rattle.std.proofs.Common.{nat_le, IsTrue, ◌&&◌}
-use Rattle.wa_types.specs.Opcodes.{Form, no_immediate, a_zero, an_index, an_index_and_zero, an_access, some_labels, a_constant, a_float, follows, form, within, is_nest, is_float_op}
+use Rattle.wa_types.specs.Opcodes.{Form, a_float, follows, form, is_nest, is_float_op}
 use Rattle.wa_types.specs.Binary.{Placed, Immediates, nothing, zero_byte, index, index_and_zero, access, labels, constant, float, RawCode, ended, otherwise, instr, nested, branched}
 use Rattle.wa_types.specs.Begun.{Goal, code, exact, number, block_type, count, some_indices, float_bytes, next, where_true, immediates, behind_opcode}
 use Rattle.wa_types.specs.Marks.{place_if, float_type, code_floats, code_opens}

@@ -1,7 +1,7 @@
 use Rattle.std.proofs.Common.{◌+◌, ◌*◌, ◌<◌, ap, sym, ◌∙◌, subst}
 use Rattle.wa_types.specs.Counts.{count_of}
 use Rattle.wa_types.specs.View.{onto}
-use Rattle.module_copy.specs.Levels.{around, owed, to_do}
+use Rattle.module_copy.specs.Levels.{enclosed, owed, to_do}
 use Rattle.module_copy.proofs.LevelLemmas.{begins, ends, closed_last, code_first, no_level, none_left}
 use Rattle.module_copy.proofs.bodies.copy_body.Goals as goal
 
@@ -18,12 +18,13 @@ left-smaller-in_ok-copy_next-in-Some c =
 pub left-preserved-in_ok-copy_next-in-Some : goal.left-preserved-in_ok-copy_next-in-Some
 left-preserved-in_ok-copy_next-in-Some c =
     let first = code_first c.left.copying.left.now c.in-Some.instr.now c.in-Some.behind.now c.in-Some.ensures.cases.0 in
-    c.in_ok-copy_next-in-Some.ensures.same ∙ ap (λ k. around c.left.copying.levels.items (onto c.left.copying.made.items k)) (sym first) ∙ c.left.invariant
+    c.in_ok-copy_next-in-Some.ensures.same ∙ ap (λ k. enclosed c.left.copying.levels.items (onto c.left.copying.made.items k)) (sym first) ∙ c.left.invariant
 
 pub left-preserved : goal.left-preserved
 left-preserved c =
     c.in_ok-close-in-Some-pop.ensures.same
-    ∙ closed_last c.left.copying.levels.items c.pop.new.self.items c.in-Some-pop.level c.left.copying.made.items c.left.copying.left.now c.in-Some-pop.ensures.items (none_left c.left.copying.left.now c.in-None.ensures.cases)
+    ∙ closed_last c.left.copying.levels.items c.pop.new.self.items c.in-Some-pop.level c.left.copying.made.items c.left.copying.left.now c.in-Some-pop.ensures.items
+    (none_left c.left.copying.left.now c.in-None.ensures.cases)
     ∙ c.left.invariant
 
 pub returns-in-None-pop : goal.returns-in-None-pop

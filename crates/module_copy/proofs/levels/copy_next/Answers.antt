@@ -8,12 +8,15 @@ copy_one-requires c = leaf_other c.args.instr.now c.in_default.not-Block c.in_de
 
 pub returns-in-Block : goal.returns-in-Block
 returns-in-Block c =
-    on_ok_weaker c.enter.result (opening_block c.args.copying.now c.enter.new.copying c.args.instr.now c.in-Block.result c.in-Block.body c.deref.result.now c.in-Block.is c.deref.ensures.value) c.enter.ensures
+    on_ok_weaker c.enter.result
+    (opening_block c.args.copying.now c.enter.new.copying c.args.instr.now c.in-Block.result c.in-Block.body c.deref.result.now c.in-Block.is c.deref.ensures.value)
+    c.enter.ensures
 
 pub returns-in-Loop : goal.returns-in-Loop
 returns-in-Loop c =
     on_ok_weaker c.enter-in-Loop.result
-    (opening_loop c.args.copying.now c.enter-in-Loop.new.copying c.args.instr.now c.in-Loop.result c.in-Loop.body c.deref-in-Loop.result.now c.in-Loop.is c.deref-in-Loop.ensures.value) c.enter-in-Loop.ensures
+    (opening_loop c.args.copying.now c.enter-in-Loop.new.copying c.args.instr.now c.in-Loop.result c.in-Loop.body c.deref-in-Loop.result.now c.in-Loop.is c.deref-in-Loop.ensures.value)
+    c.enter-in-Loop.ensures
 
 pub returns-in-If : goal.returns-in-If
 returns-in-If c =
