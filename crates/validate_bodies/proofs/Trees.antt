@@ -121,7 +121,8 @@ pub go_on : (n : StackAfter) (k : ℕ) (go : List (Option ValType) → Bool → 
 go_on (goes os' free') k go os free h = ap (λ z. go z free') (sym h.0) ∙ ap (go os) (sym h.1)
 go_on (stops r) k go os free h = absurd h
 
-pub stop_at : (n : StackAfter) (k : ℕ) (q : Rule) (go : List (Option ValType) → Bool → Verdict) (os : List (Option ValType)) (free : Bool) → Applied n (Some q) os free → onward n k go ≡ fault (number q) k
+pub stop_at : (n : StackAfter) (k : ℕ) (q : Rule) (go : List (Option ValType) → Bool → Verdict) (os : List (Option ValType)) (free : Bool)
+    → Applied n (Some q) os free → onward n k go ≡ fault (number q) k
 stop_at (goes os' free') k q go os free h = absurd h
 stop_at (stops r) k q go os free h = ap (λ z. fault (number z) k) (sym h)
 

@@ -25,7 +25,9 @@ impl Model for Bounds {
 
     ghost view = { λ b. record { file = b.file; functions = b.functions; parameters = b.parameters; body = b.body; nesting = b.nesting; locals = b.locals } };
 
-    ghost invariant = { λ b. (record { file = b.file; functions = b.functions; parameters = b.parameters; body = b.body; nesting = b.nesting; locals = b.locals } ≡ source_bounds) ⊎ (record { file = b.file; functions = b.functions; parameters = b.parameters; body = b.body; nesting = b.nesting; locals = b.locals } ≡ prepared_bounds) };
+    ghost invariant = { λ b.
+        (record { file = b.file; functions = b.functions; parameters = b.parameters; body = b.body; nesting = b.nesting; locals = b.locals } ≡ source_bounds)
+        ⊎ (record { file = b.file; functions = b.functions; parameters = b.parameters; body = b.body; nesting = b.nesting; locals = b.locals } ≡ prepared_bounds) };
 }
 
 impl Bounds {
