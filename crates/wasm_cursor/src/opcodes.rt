@@ -7,7 +7,7 @@ ghost use Rattle.wasm_cursor.specs.Forms.{follows_of};
 use wa_types::LAST_NUMERIC;
 
 /// What follows an opcode that is no construct's and no end (standard, sections 5.4.1 to 5.4.5).
-#[derive(Clone, Copy, Debug, PartialEq, Eq, Drop)]
+#[derive(Clone, Copy, Drop)]
 pub enum ImmediateForm {
     Nothing,
     /// One zero byte.
