@@ -1,6 +1,6 @@
 -- Each opcode that is no float's, with its operands, is an instruction.
-use Rattle.std.proofs.Common.{◌≡◌, ℕ, zero, suc, ◌<◌, ◌≤◌, ◌⊎◌, inl, inr, List, [], ◌∷◌, length, Option, Some, None, Bool, true, false, cond, ◌&&◌, ◌||◌, nat_eq, nat_lt, refl, ap, sym, ◌∙◌}
-use Rattle.std.proofs.Common.{subst, arith, eqb-true}
+use Rattle.std.proofs.Common.{◌≡◌, ℕ, suc, ◌⊎◌, inl, inr, length, Option, Some, Bool, true, false, cond, ◌&&◌, ◌||◌, nat_eq, refl, ap, sym, ◌∙◌}
+use Rattle.std.proofs.Common.{arith, eqb-true}
 use Rattle.wa_types.specs.declared.values.Value.TheVariants.{I32 as value_32, I64 as value_64}
 use Rattle.wa_types.specs.Operators.{last_numeric}
 use Rattle.wa_types.specs.Opcodes.{Form, no_immediate, a_zero, an_index, an_index_and_zero, an_access, some_labels, a_constant, a_float, follows, form, is_float_op, is_load_op, is_store_op}
