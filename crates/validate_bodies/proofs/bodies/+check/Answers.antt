@@ -152,7 +152,7 @@ check_body-loop-instr-preserved t c =
       level = level_on _ _ _ old.level new.level;
       place = omega (arith, old.place, new.place, size_step c.args.body.now c.loop-instr.instr-index c.instr-item.result (omega arith) c.instr-item.is);
       judged = turned _ _ _ c.args.body.now c.loop-instr.instr-index _ _ _ _ _ _ _ _ _ (ap reverse new.labels) (omega arith) c.instr-item.is old.judged
-      (new.judged (code (drop (c.loop-instr.instr-index + 1) c.args.body.now)) (listed c.args.gives));
+          (new.judged (code (drop (c.loop-instr.instr-index + 1) c.args.body.now)) (listed c.args.gives));
     }
 
 pub check_body-returns-clause-place : goal.check_body-returns-clause-place
