@@ -10,14 +10,20 @@ use wasm_reader::{ReadFault, read};
 pub fn nested(alloc: Global, head: &[u8], blocks: u32) -> Result<Vec<u8>, AllocError> {
     let mut bytes = Vec::from_slice(alloc, FUNC)?;
     bytes.extend_from_slice(head)?;
+    put_blocks(&mut bytes, blocks)?;
+    bytes.push(0x0B)?;
+    Ok(bytes)
+}
+
+/// Puts so many blocks inside one another behind these bytes.
+pub fn put_blocks(bytes: &mut Vec<u8>, blocks: u32) -> Result<(), AllocError> {
     for _index in 0..blocks {
         bytes.extend_from_slice(b"\x02\x40")?;
     }
     for _index in 0..blocks {
         bytes.push(0x0B)?;
     }
-    bytes.push(0x0B)?;
-    Ok(bytes)
+    Ok(())
 }
 
 /// Why a file isn't read within these bounds.
