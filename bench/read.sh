@@ -4,7 +4,8 @@
 # reading and writing the same file with a valid last body and `wasm-validate` (Debian's binaryen and wabt). Fails where a byte takes more than 1.3
 # times the time of one in the next smaller file, where the 8 MB take more than half of wasm-opt's time or more than 64 bytes
 # of memory a byte, or where blocks that never end are refused in more than twice the time of a file of that size of nested
-# blocks; says whether half of wasm-validate's time is kept too.
+# blocks; says whether half of wasm-validate's time is kept too. Then the least native stack in which files are read and dropped whose nesting is the
+# deepest of a source (a reserved name refuses it, status 7) and of a prepared module (bench/loops); fails where that is more than 64 KiB.
 . "$(dirname "$0")/common.sh"
 runs=${RUNS:-3}
 
@@ -68,4 +69,42 @@ make_module open 8 "$temp/in.wasm"
 read -r time kilobytes < <(measure 3 "$runs" "$asyncify" transform "$temp/in.wasm" "$temp/out.wasm")
 echo "blocks that never end: $(stat -c %s "$temp/in.wasm") bytes refused in $time s, $kilobytes kB"
 bar "$time <= 2 * $nested" "past twice the time of a file of that size"
+
+# A file of constructs nested so many levels deep, of each kind in turn, in a module with a reserved name.
+make_nested() {
+    python3 - "$1" "$2" <<'PY'
+import sys
+from wasm_bytes import module, section, sized
+
+code = b""
+for level in range(int(sys.argv[1])):
+    code = [b"\x02\x40\x01" + code + b"\x0b", b"\x03\x40" + code + b"\x01\x0b", b"\x41\x00\x04\x40\x01" + code + b"\x05\x01\x0b",
+            b"\x41\x00\x04\x40\x01\x05" + code + b"\x01\x0b"][level % 4]
+export = sized(b"asyncify_get_state") + b"\x00\x00"
+parts = section(1, [b"\x60\x00\x00"]), section(3, [b"\x00"]), section(7, [export]), section(10, [sized(b"\x00" + code + b"\x0b")])
+open(sys.argv[2], "wb").write(module(*parts))
+PY
+}
+
+# The least stack, in steps of 4 KiB up to 8 MiB, with which a command ends with a status: STATUS COMMAND [WORD ...]
+least_stack() {
+    local wanted=$1 low=0 high=2048 middle status
+    shift
+    while [ $((high - low)) -gt 1 ]; do
+        middle=$(((low + high) / 2)) status=0
+        { (ulimit -s $((4 * middle)) && exec "$@" >/dev/null 2>&1); } 2>/dev/null || status=$?
+        if [ "$status" = "$wanted" ]; then high=$middle; else low=$middle; fi
+    done
+    echo $((4 * high))
+}
+
+build_loops "$temp/loops"
+make_nested 1000 "$temp/in.wasm"
+kibibytes=$(least_stack 7 "$asyncify" transform "$temp/in.wasm" "$temp/out.wasm")
+echo "a source of 1,000 levels: read and dropped in $kibibytes KiB of stack"
+bar "$kibibytes <= 64" "past 64 KiB of stack"
+make_nested 3008 "$temp/in.wasm"
+kibibytes=$(least_stack 0 "$temp/loops" read "$temp/in.wasm")
+echo "a prepared module of 3,008 levels: read and dropped in $kibibytes KiB of stack"
+bar "$kibibytes <= 64" "past 64 KiB of stack"
 exit $failed

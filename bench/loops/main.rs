@@ -4,6 +4,8 @@
 //!   same as `bench/slice.rs`.
 //! - `encode IN OUT`, for `encode.sh`: reads the module in the file IN, within the bounds of prepared modules, and writes
 //!   it into the file OUT. Writes how many bytes it has.
+//! - `read IN`, for `read.sh`: reads the module in the file IN in pieces, within the bounds of prepared modules, and drops
+//!   it. Writes how many functions it defines.
 //! - `interp IN`, for `interp.sh`: calls the exported function `run` of the module in the file IN, with no arguments and
 //!   many steps. Writes what it returned as `wasm-interp` does, and then how many steps were used.
 //!
@@ -16,12 +18,13 @@ mod running;
 use anyhow::bail;
 use interp::Turn;
 use memory::sum_of;
+use module_files::read_file;
 use round_trip::rewrite;
 use running::run;
 use std::env;
 use std::rt::{Env, Files};
 use vault_port::{FileVault, fetch_whole, save_whole};
-use wa_types::Value;
+use wa_types::{Bounds, Value};
 
 /// The most bytes of a prepared module's file, and one more.
 const FETCH_LIMIT: u64 = 67_108_865;
@@ -39,11 +42,12 @@ fn main(rt: HostRuntime) -> anyhow::Result<()> {
         [] => each_once(&rt),
         [word, input] if word.as_str() == "memory" => loads(&rt, input.as_str().parse::<u64>()?),
         [word, input, output] if word.as_str() == "encode" => encodes(&rt, input, output),
+        [word, input] if word.as_str() == "read" => reads(&rt, input),
         [word, input] if word.as_str() == "interp" => {
             let bytes = fetched(&rt, input)?;
             runs(&rt, &bytes)
         }
-        _ => bail!("the words are memory ROUNDS, encode IN OUT or interp IN"),
+        _ => bail!("the words are memory ROUNDS, encode IN OUT, read IN or interp IN"),
     }
 }
 
@@ -78,6 +82,16 @@ fn encodes<R: Files + Print + AllocGlobal + Clone + Drop>(
     let mut vault = FileVault::new(rt.clone()?);
     save_whole(&mut vault, output, &written)?;
     println!(rt; "bytes {}", written.len())?;
+    Ok(())
+}
+
+/// Reads the module in a file in pieces, and drops it.
+fn reads<R: Files + Print + AllocGlobal + Clone + Drop>(rt: &R, input: &str) -> anyhow::Result<()> {
+    let mut vault = FileVault::new(rt.clone()?);
+    let module = read_file(rt.alloc(), &mut vault, input, Bounds::prepared())?;
+    let functions = module.funcs.len();
+    drop(module);
+    println!(rt; "functions {functions}")?;
     Ok(())
 }
 

@@ -1,9 +1,11 @@
 //! The modules that bytes spell, whole (standard, section 5).
 
 use crate::modules::{EACH_SECTION, FUNC, module};
+use module_copy::copy_module;
 use std::alloc::Global;
+use std::mem;
 use std::test::Fail;
-use wa_types::{Instr, copy_module};
+use wa_types::Instr;
 use wasm_reader::ReadFault;
 
 /// What those sections hold.
@@ -31,7 +33,7 @@ fn code_of(alloc: Global, code: &[u8]) -> Result<Vec<Instr>, ReadFault> {
     bytes.extend_from_slice(code)?;
     let mut module = module(alloc, &bytes)?;
     match module.funcs.pop() {
-        Some(func) => Ok(func.body),
+        Some(mut func) => Ok(mem::replace(&mut func.body, Vec::new(alloc))),
         None => Ok(Vec::new(alloc)),
     }
 }

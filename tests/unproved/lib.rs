@@ -11,6 +11,8 @@ mod commands;
 #[cfg(test)]
 mod driving;
 #[cfg(test)]
+mod dropping;
+#[cfg(test)]
 mod fetching;
 #[cfg(test)]
 mod flattening;

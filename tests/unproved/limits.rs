@@ -10,14 +10,20 @@ use wasm_reader::{ReadFault, read};
 pub fn nested(alloc: Global, head: &[u8], blocks: u32) -> Result<Vec<u8>, AllocError> {
     let mut bytes = Vec::from_slice(alloc, FUNC)?;
     bytes.extend_from_slice(head)?;
+    put_blocks(&mut bytes, blocks)?;
+    bytes.push(0x0B)?;
+    Ok(bytes)
+}
+
+/// Puts so many blocks inside one another behind these bytes.
+pub fn put_blocks(bytes: &mut Vec<u8>, blocks: u32) -> Result<(), AllocError> {
     for _index in 0..blocks {
         bytes.extend_from_slice(b"\x02\x40")?;
     }
     for _index in 0..blocks {
         bytes.push(0x0B)?;
     }
-    bytes.push(0x0B)?;
-    Ok(bytes)
+    Ok(())
 }
 
 /// Why a file isn't read within these bounds.
@@ -40,6 +46,8 @@ fn levels_go_up_to_each_bound(rt: HostRuntime) -> Result<(), Fail> {
 #[test]
 fn prepared_modules_nest_3008_levels_at_most(rt: HostRuntime) -> Result<(), Fail> {
     let alloc = rt.alloc();
+    let deepest = nested(alloc, b"\x0A\xC5\x46\x01\xC2\x46\0", 3_008)?;
+    assert_eq!(rt; refused(alloc, &deepest, &Bounds::prepared()), None);
     let past = nested(alloc, b"\x0A\xC8\x46\x01\xC5\x46\0", 3_009)?;
     let deep = Some(ReadFault::Deep {
         at: 18 + 1 + 2 + 1 + 2 + 1 + 2 * 3_008,

@@ -41,7 +41,7 @@ impl From<AllocError> for RuntimeFault {
 }
 
 /// A module with the appended parts, and their numbers.
-#[derive(Debug, Drop)]
+#[derive(Drop)]
 pub struct WithRuntime {
     pub module: Module,
     pub ids: RuntimeIds,

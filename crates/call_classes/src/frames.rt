@@ -3,28 +3,28 @@
 use wa_types::ValType;
 
 /// A local that frames keep, and its type.
-#[derive(Clone, Copy, Debug, PartialEq, Eq)]
+#[derive(Clone, Copy)]
 pub struct KeptLocal {
     pub local: u32,
     pub ty: ValType,
 }
 
 /// What the calls with these numbers keep.
-#[derive(Debug, Drop)]
+#[derive(Drop)]
 pub struct CallClass {
     pub calls: Vec<u32>,
     pub fields: Vec<KeptLocal>,
 }
 
 /// What all calls keep, or what some do.
-#[derive(Debug, Drop)]
+#[derive(Drop)]
 pub enum KeptPart {
     Every(Vec<KeptLocal>),
     These(CallClass),
 }
 
 /// The frames of a function: what its calls keep, part by part.
-#[derive(Debug, Drop)]
+#[derive(Drop)]
 pub struct FrameParts {
     pub parts: Vec<KeptPart>,
 }

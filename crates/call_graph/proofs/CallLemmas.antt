@@ -13,7 +13,6 @@ use Rattle.wa_types.specs.Pruned.{is_last_instr, pruned}
 use Rattle.wa_types.specs.Pausing.{Callee as PlainCallee, direct, indirect, calls_of}
 use Rattle.wa_types.proofs.ViewLemmas.{is_block, is_loop, is_if, is_plain, instr_kind, in_block, in_loop, in_if, code_step, code_empty}
 use Rattle.call_graph.specs.declared.calls.Callee.{Callee}
-use Rattle.call_graph.specs.declared.calls.Callee.TheVariants.{Direct, Indirect}
 use Rattle.call_graph.specs.Calls.{callee_of}
 
 -- the calls of pruned code that begins with an instruction
@@ -128,11 +127,5 @@ pub calls_other : (put : List PlainCallee) (x : Instr) → ((f : ℕ) → x ≡ 
     → ((r : Option ValType) (v : Vec Instr Global) → x ≡ Loop r v → ⊥) → ((r : Option ValType) (v w : Vec Instr Global) → x ≡ If r v w → ⊥) → put ≡ put ++ calls_of (pruned (in_front x done))
 calls_other put x no_call no_indirect not_block not_loop not_if =
     sym (append-nil put) ∙ ap (λ z. put ++ z) (sym (none_in x no_call no_indirect not_block not_loop not_if))
-
-pub put_direct : (xs new : List Callee) (x : ℕ) → new ≡ xs ++ Direct x ∷ [] → map callee_of new ≡ map callee_of xs ++ calls_of (pruned (in_front (Call x) done))
-put_direct xs new x e = callee_more xs new (Direct x) e ∙ ap (λ z. map callee_of xs ++ z) (sym (calls_direct x))
-
-pub put_indirect : (xs new : List Callee) (x : ℕ) → new ≡ xs ++ Indirect x ∷ [] → map callee_of new ≡ map callee_of xs ++ calls_of (pruned (in_front (CallIndirect x) done))
-put_indirect xs new x e = callee_more xs new (Indirect x) e ∙ ap (λ z. map callee_of xs ++ z) (sym (calls_indirect x))
 
 pub ruleset calling = (calls_step, calls_last, calls_end, callee_more, calls_direct, calls_indirect, calls_block, calls_loop, calls_if, append_assoc)

@@ -3,7 +3,7 @@
 ghost use Rattle.std.specs.Prelude.{◌≡◌, ◌<◌, ◌+◌, ◌↔◌, ℕ, ◌++◌, ◌∷◌, [], All, Contains, IfOk, OnOk, length, map, replicate, false};
 ghost use Rattle.std.specs.List.{list_any};
 ghost use Rattle.call_graph.specs.Calls.{IsThere, callee_of, pauses_alone};
-ghost use Rattle.call_graph.specs.Callers.{CallsGathered, Puts};
+ghost use Rattle.call_graph.specs.Callers.{CallsGathered, GatheredBelow, Puts};
 ghost use Rattle.call_graph.specs.Graph.{callers_at};
 ghost use Rattle.wa_types.specs.Modules.{func_imports};
 ghost use Rattle.wa_types.specs.Pausing.{direct};
@@ -39,13 +39,39 @@ impl Graph {
     {
         let mut callers = no_callers(alloc, listed.len() + module.funcs.len())?;
         let mut pauses = vec![in alloc; false; listed.len()]?;
-        for func in &module.funcs {
-            let calls = body_calls(alloc, &func.body)?;
-            put_caller(&mut callers, &calls, pauses.len() as u32)?;
-            pauses.push(any_pauses(&calls, listed, ignore_indirect))?;
-        }
+        gather(
+            alloc,
+            &mut callers,
+            &mut pauses,
+            module,
+            listed,
+            ignore_indirect,
+        )?;
         Ok(Graph { callers, pauses })
     }
+}
+
+/// Puts the calls of a module's functions to those that they call, and behind the imports whether they pause.
+fn gather(
+    alloc: Global,
+    callers: &mut [Vec<u32>],
+    pauses: &mut Vec<bool>,
+    module: &Module,
+    listed: &[bool],
+    ignore_indirect: bool,
+) -> Result<(), AllocError>
+    requires valid { Valid (module_of «module».now) }
+    requires sizes { SizeRule (module_of «module».now) }
+    requires calls { GatheredBelow (module_of «module».now) (func_imports (module_of «module».now)) callers.old }
+    requires own { pauses.old.items ≡ replicate (func_imports (module_of «module».now)) false }
+    ensures { OnOk result (CallsGathered (module_of «module».now) listed.now ignore_indirect callers.new pauses.new.items) }
+{
+    for func in &module.funcs {
+        let calls = body_calls(alloc, &func.body)?;
+        put_caller(callers, &calls, pauses.len() as u32)?;
+        pauses.push(any_pauses(&calls, listed, ignore_indirect))?;
+    }
+    Ok(())
 }
 
 /// So many functions that nobody calls.

@@ -1,6 +1,6 @@
 //! The calls of a body that can be reached: `call` with its function, `call_indirect` with its type.
 
-ghost use Rattle.std.specs.Prelude.{◌≡◌, ◌++◌, map, IfOk, OnOk};
+ghost use Rattle.std.specs.Prelude.{◌≡◌, ◌++◌, ◌∷◌, [], map, IfOk, OnOk};
 ghost use Rattle.call_graph.specs.Calls.{callee_of};
 ghost use Rattle.wa_types.specs.Pausing.{calls_of};
 ghost use Rattle.wa_types.specs.Pruned.{pruned};
@@ -11,7 +11,7 @@ use std::alloc::{AllocError, Global};
 use wa_types::Instr;
 
 /// What a call goes to: a function by its index, or one of the table by the index of its type.
-#[derive(Clone, Copy, Debug)]
+#[derive(Clone, Copy)]
 pub(crate) enum Callee {
     Direct(u32),
     Indirect(u32),
@@ -24,6 +24,14 @@ pub(crate) fn body_calls(alloc: Global, body: &[Instr]) -> Result<Vec<Callee>, A
     let mut calls = Vec::new(alloc);
     put_calls(&mut calls, body)?;
     Ok(calls)
+}
+
+/// Appends a call.
+fn put_call(out: &mut Vec<Callee>, call: Callee) -> Result<(), AllocError>
+    ensures { OnOk result (map callee_of out.new.items ≡ map callee_of out.old.items ++ callee_of call ∷ []) }
+{
+    out.push(call)?;
+    Ok(())
 }
 
 /// Appends the calls of a body that can be reached.
@@ -48,14 +56,8 @@ fn put_instr_calls(out: &mut Vec<Callee>, instr: &Instr) -> Result<(), AllocErro
     ensures { OnOk result (map callee_of out.new.items ≡ map callee_of out.old.items ++ calls_of (pruned (in_front instr.now done))) }
 {
     match instr {
-        Instr::Call(func) => {
-            out.push(Callee::Direct(*func))?;
-            Ok(())
-        }
-        Instr::CallIndirect(sort) => {
-            out.push(Callee::Indirect(*sort))?;
-            Ok(())
-        }
+        Instr::Call(func) => put_call(out, Callee::Direct(*func)),
+        Instr::CallIndirect(sort) => put_call(out, Callee::Indirect(*sort)),
         Instr::Block { result: _, body } => put_calls(out, body),
         Instr::Loop { result: _, body } => put_calls(out, body),
         Instr::If {

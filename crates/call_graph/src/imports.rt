@@ -1,13 +1,13 @@
 //! Which function imports of a module are listed, by their joined names.
 
 ghost use Rattle.std.specs.Prelude.{◌≡◌, ◌||◌, ℕ, List, IfOk, OnOk, false, is_some, nat_eq, true};
-ghost use Rattle.std.specs.List.{list_any, starts_with};
+ghost use Rattle.std.specs.List.{filter_map, list_any, starts_with};
 ghost use Rattle.std.specs.String.{string_bytes};
 ghost use Rattle.call_graph.specs.Entries.{entry_of};
 ghost use Rattle.call_graph.specs.Index.{indexed};
 ghost use Rattle.call_graph.specs.Settings.{choice_of, settings_of};
 ghost use Rattle.wa_types.specs.Modules.{imported_func};
-ghost use Rattle.wa_types.specs.Pausing.{Listed, is_listed, joined_name, names, of_list};
+ghost use Rattle.wa_types.specs.Pausing.{Choice as Selection, Listed, is_listed, joined_name, listed_import, names, of_list};
 ghost use Rattle.wa_types.specs.View.{module_of};
 
 use crate::lists::{Entry, ImportList};
@@ -106,7 +106,13 @@ pub fn listed_imports(
     ensures { IfOk result (λ v. v.items ≡ Listed (module_of valid.now) (settings_of settings.now)) }
 {
     let index = Index::of(alloc, &settings.choice)?;
-    let imports = &valid.module().imports;
+    marks_of(alloc, &index, &valid.module().imports)
+}
+
+/// Whether each function import is one of those in the index.
+fn marks_of(alloc: Global, index: &Index, imports: &[Import]) -> Result<Vec<bool>, AllocError>
+    ensures { IfOk result (λ v. (k : Selection) → ((name : List ℕ) → indexed index.now name ≡ is_listed k name) → v.items ≡ filter_map (λ i. listed_import k i (imported_func i.kind)) imports.now) }
+{
     let mut marks = Vec::new(alloc);
     for import in imports {
         if !is_func(import.kind) {

@@ -44,7 +44,7 @@ pub(crate) enum Entry {
 }
 
 /// A list of function imports by their joined names. Contracts see its entries.
-#[derive(Debug, Drop)]
+#[derive(Drop)]
 pub struct ImportList {
     entries: Vec<Entry>,
 }

@@ -3,7 +3,7 @@
 use crate::lists::ImportList;
 
 /// Which function imports are listed: every one, none, or those that a list names.
-#[derive(Debug, Drop)]
+#[derive(Drop)]
 pub enum Choice {
     Every,
     Nobody,
@@ -11,14 +11,14 @@ pub enum Choice {
 }
 
 /// Which locals a frame saves: all of them, or those that may still be read.
-#[derive(Clone, Copy, Debug, PartialEq, Eq)]
+#[derive(Clone, Copy)]
 pub enum Policy {
     All,
     Live,
 }
 
 /// How a module is rewritten: what may pause it, whether calls through the table count, and what frames save.
-#[derive(Debug, Drop)]
+#[derive(Drop)]
 pub struct Settings {
     pub choice: Choice,
     pub ignore_indirect: bool,

@@ -17,7 +17,7 @@ use std::alloc::Global;
 use thiserror::Error;
 
 /// A command, with its settings and the names of its files.
-#[derive(Debug, Drop)]
+#[derive(Drop)]
 pub enum Command<'w> {
     /// Rewrite the module in one file into another.
     Transform {

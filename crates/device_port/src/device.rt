@@ -27,7 +27,7 @@ impl From<AllocError> for DeviceFail {
 }
 
 /// What a device answers: a value, where it has one, and the ticks after which the program goes on.
-#[derive(Clone, Copy, Debug, PartialEq, Eq)]
+#[derive(Clone, Copy)]
 pub struct Reply {
     pub value: Option<Value>,
     pub ticks: u32,

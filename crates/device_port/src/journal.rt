@@ -9,7 +9,7 @@ use std::marker::Model;
 use wa_types::{Name, Value};
 
 /// An answered call: the import's base name, the arguments and the reply.
-#[derive(Debug, Drop)]
+#[derive(Drop)]
 pub struct Asked {
     pub base: Name,
     pub args: Vec<Value>,

@@ -9,7 +9,7 @@ use std::alloc::{AllocError, Global};
 use wa_model::Event;
 
 /// A part of a program's memory that is shown after its end: the program's number, the first byte and how many.
-#[derive(Clone, Copy, Debug, PartialEq, Eq)]
+#[derive(Clone, Copy)]
 pub struct Show {
     pub program: u32,
     pub at: u32,

@@ -1,10 +1,11 @@
 -- Goals of code.
-use Rattle.std.proofs.Common.{◌≡◌, ℕ, suc, zero, ◌+◌, ◌<◌, ◌≤◌, ◌⊎◌, List, [], ◌∷◌, ◌++◌, Option, Some, None, refl, ap, sym, ◌∙◌, subst, arith, append_assoc, length, length-append, Bool}
+use Rattle.std.proofs.Common.{◌≡◌, ℕ, suc, zero, ◌+◌, ◌≤◌, ◌⊎◌, List, [], ◌∷◌, ◌++◌, Option, Some, None, refl, ap, sym, ◌∙◌, subst, arith, append_assoc, length, length-append, Bool}
 use Rattle.std.proofs.Common.{true, false, inl, inr, cond, nat_eq, nat_le, eqb-true, IsTrue}
-use Rattle.wa_types.specs.Opcodes.{Form, no_immediate, a_zero, an_index, an_index_and_zero, an_access, some_labels, a_constant, a_float, follows, form, within, is_nest}
+use Rattle.wa_types.specs.Opcodes.{Form, no_immediate, a_zero, an_index, an_index_and_zero, an_access, some_labels, a_constant, a_float, follows, form, is_nest}
 use Rattle.wa_types.specs.Binary.{Placed, Immediates, nothing, zero_byte, index, index_and_zero, access, labels, constant, float, RawCode, ended, otherwise, instr, nested, branched}
 use Rattle.wa_types.specs.Begun.{Goal, code, exact, number, count, block_type, entries, some_indices, next, where_true, immediates, immediates_of, behind_opcode, an_unsigned}
 use Rattle.wa_types.specs.Spells.{◌▸◌, Exactly, Number, SignedNumber, Vector, Byte, BlockType, ImmediatesOf, CodeOf}
+use Rattle.file_laws.proofs.OpcodeTable.{HasBytes, has_bytes}
 use Rattle.file_laws.proofs.Runs.{some_same, not_none}
 use Rattle.file_laws.proofs.GoalReads.{Any, Reads, reads_none, reads_then, reads_as, Begins, reads_first, Goes, takes_one, gives_one, to_right, on_right}
 use Rattle.file_laws.proofs.Leaves.{reads_number, reads_signed, reads_exact, reads_float, reads_block_type, tested, alone, with_nothing}
@@ -25,10 +26,6 @@ Behind an_access = Any Number ▸ Any Number
 Behind some_labels = Any (Vector Number) ▸ Any Number
 Behind (a_constant bits) = Any (SignedNumber bits)
 Behind (a_float n) = λ at bytes. length bytes ≡ n
-
-HasBytes : Form → Type 0
-HasBytes (a_float n) = 0 < n
-HasBytes _ = Unit {0}
 
 reads_behind : (f : Form) → HasBytes f → Reads (immediates f) (Behind f)
 unfolding Behind HasBytes
@@ -62,51 +59,6 @@ from_behind an_access at a h = (access h.3.0 h.4.0, refl, (h.0, h.1, h.2, h.3.1,
 from_behind some_labels at a h = (labels h.3.0 h.4.0, refl, (h.0, h.1, h.2, h.3.1, h.4.1))
 from_behind (a_constant bits) at a h = (constant bits h.0, refl, h.1)
 from_behind (a_float n) at a h = (float a, ap a_float h, refl)
-
--- the table's floats have bytes
-Sized : Option Form → Type 0
-Sized o = (f : Form) → o ≡ Some f → HasBytes f
-
-either : (b : Bool) (x y : Option Form) → Sized x → Sized y → Sized (cond b x y)
-either true x y p q = p
-either false x y p q = q
-
-follows_same : (e f : Form) → Some e ≡ Some f → e ≡ f
-follows_same e f p = cc
-
-sized : (e : Form) → HasBytes e → Sized (Some e)
-unfolding Sized
-sized e h f p = subst HasBytes (follows_same e f p) h
-
-not_followed : (f : Form) → None ≡ Some f → ⊥
-not_followed f e = cc
-
-unsized : Sized None
-unfolding Sized
-unsized f p = absurd (not_followed f p)
-
-follows_sized : (op : ℕ) → Sized (follows op)
-unfolding follows HasBytes
-follows_sized op =
-    either (within 0x00 0x01 op) _ _ (sized no_immediate tt)
-    (either (within 0x0C 0x0D op) _ _ (sized an_index tt)
-    (either (nat_eq op 0x0E) _ _ (sized some_labels tt)
-    (either (nat_eq op 0x0F) _ _ (sized no_immediate tt)
-    (either (nat_eq op 0x10) _ _ (sized an_index tt)
-    (either (nat_eq op 0x11) _ _ (sized an_index_and_zero tt)
-    (either (within 0x1A 0x1B op) _ _ (sized no_immediate tt)
-    (either (within 0x20 0x24 op) _ _ (sized an_index tt)
-    (either (within 0x28 0x3E op) _ _ (sized an_access tt)
-    (either (within 0x3F 0x40 op) _ _ (sized a_zero tt)
-    (either (nat_eq op 0x41) _ _ (sized (a_constant 32) tt)
-    (either (nat_eq op 0x42) _ _ (sized (a_constant 64) tt)
-    (either (nat_eq op 0x43) _ _ (sized (a_float 4) (omega arith))
-    (either (nat_eq op 0x44) _ _ (sized (a_float 8) (omega arith))
-    (either (within 0x45 0xBF op) _ _ (sized no_immediate tt) unsized))))))))))))))
-
-has_bytes : (op : ℕ) (f : Form) → follows op ≡ Some f → HasBytes f
-unfolding Sized
-has_bytes op f e = follows_sized op f e
 
 -- what stands behind an opcode
 data Opcode (first_arm : Bool) (op : ℕ) (new : List Goal) : Type 0 where
@@ -271,6 +223,9 @@ nest_next first_arm op h = elim (nest_range op h) [
   | inl e ↦ subst (λ z. behind_opcode first_arm z ≡ Some (block_type ∷ code false ∷ code first_arm ∷ [])) (sym e) refl
   | inr e ↦ subst (λ z. behind_opcode first_arm z ≡ Some (block_type ∷ code false ∷ code first_arm ∷ [])) (sym e) refl
 ]
+
+not_followed : (f : Form) → None ≡ Some f → ⊥
+not_followed f e = cc
 
 pub refuted : (op k : ℕ) (f : Form) → follows op ≡ Some f → follows k ≡ None → nat_eq op k ≡ false
 refuted op k f e n = elim (tested op k) [

@@ -2,7 +2,7 @@
 use Rattle.std.proofs.Common.{◌≡◌, ℕ, suc, ◌+◌, ◌<◌, ◌≤◌, ◌^◌, ◌⊎◌, List, [], ◌∷◌, ◌++◌, Option, Some, None, Bool, true, false, refl, ap, sym, ◌∙◌, subst, arith, append_assoc, length}
 use Rattle.std.proofs.Common.{length-append, IsTrue, nat_eq, nat_lt, nat_le, ◌%◌, ◌/◌, cond, inl, inr, All, flat_map, ◌&&◌, ◌||◌}
 use Rattle.std.proofs.lemmas.List.Elements.{All-head, All-tail}
-use Rattle.std.proofs.lemmas.Bool.{leb-true, le-leb, lt-leb}
+use Rattle.std.proofs.lemmas.Bool.{leb-true, le-leb}
 use Rattle.wa_types.specs.declared.values.ValType.{ValType}
 use Rattle.wa_types.specs.declared.values.ValType.TheVariants.{I32, I64}
 use Rattle.wa_types.specs.declared.values.Value.TheVariants.{I32 as value_32, I64 as value_64}
@@ -15,8 +15,8 @@ use Rattle.wa_types.specs.Syntax.{Basic, nop, drop, select, const, num, global_g
 use Rattle.wa_types.specs.Syntax.{br_if, br_table, return, unreachable, call, call_indirect, Shape, a_block, a_loop, Code, done, plain, nest, branch}
 use Rattle.wa_types.specs.Reading.{HasKind, IsCode, Each}
 use Rattle.wa_types.specs.Sizes.{PlainFits, CodeFits}
-use Rattle.file_laws.proofs.NumOpcodes.{num_follows}
 use Rattle.file_laws.proofs.NumberWriting.{shortest_spells, shortest_signed_spells}
+use Rattle.file_laws.proofs.OpcodeTable.{num_follows, within_above}
 
 -- A value is written so: the bytes spell something that is the value.
 pub record Written {X Y : Type 0} (f : X → ℕ → List ℕ → Type 0) (R : X → Y → Type 0) (y : Y) (at : ℕ) (bytes : List ℕ) : Type 0 where
@@ -97,9 +97,6 @@ pub record PlainWritten (p : Plain) (at : ℕ) (bytes : List ℕ) : Type 0 where
   pub spelled : ImmediatesOf (plain_immediates p) (at + 1) back
   pub follows : follows (plain_opcode p) ≡ Some (form (plain_immediates p))
   pub kind : HasKind p
-
-pub within_above : (low high n : ℕ) → high < n → within low high n ≡ false
-within_above low high n h = elim (nat_le low n) as (λ t. (t && nat_le n high) ≡ false) [ true ↦ lt-leb n high h | false ↦ refl ]
 
 within_inside : (low high n : ℕ) → low ≤ n → n ≤ high → within low high n ≡ true
 within_inside low high n h k = rw (le-leb low n h, le-leb n high k) refl

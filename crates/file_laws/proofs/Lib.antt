@@ -8,11 +8,11 @@ pub mod FileWriting
 pub mod GoalReads
 pub mod Items
 pub mod Leaves
-pub mod NumOpcodes
 pub mod NumberReading
 pub mod NumberWriting
 pub mod OneFault
 pub mod OneModule
+pub mod OpcodeTable
 pub mod PlainOf
 pub mod Runs
 pub mod SectionReads

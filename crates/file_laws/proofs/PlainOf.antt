@@ -10,7 +10,8 @@ use Rattle.wa_types.specs.Syntax.{nop, drop, select, const, num, global_get, glo
 use Rattle.wa_types.specs.Syntax.{br_table, return, unreachable, call, call_indirect}
 use Rattle.wa_types.specs.Reading.{HasKind}
 use Rattle.wa_types.proofs.OperatorLemmas.{operator_at, operator_again, operator_low}
-use Rattle.file_laws.proofs.CodeWriting.{within_above, store_range}
+use Rattle.file_laws.proofs.CodeWriting.{store_range}
+use Rattle.file_laws.proofs.OpcodeTable.{within_above}
 
 -- the instruction of an opcode and operands
 pub plain_of : ℕ → Immediates → Plain
@@ -38,7 +39,7 @@ bare_at op n low is =
       ne_eqb op 0x1B (λ e. omega (arith, low, e)),
     ) (ap (λ k. basic (num k)) is)
 
-num_again : (op : NumOp) → plain_of (opcode_of op) nothing ≡ basic (num op)
+pub num_again : (op : NumOp) → plain_of (opcode_of op) nothing ≡ basic (num op)
 num_again op = bare_at (opcode_of op) op (operator_low op) (operator_again op)
 
 not_load : (op : ℕ) → 0x36 ≤ op → is_load_op op ≡ false

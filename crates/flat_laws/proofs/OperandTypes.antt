@@ -13,8 +13,8 @@ use Rattle.wa_types.specs.Typing.{GlobalType, Around, Sig, moves, leaves, drops,
 use Rattle.wa_types.specs.Typing.{accesses, loads, stores, with_memory, Takes}
 use Rattle.wa_types.specs.Points.{after}
 use Rattle.wa_types.specs.declared.operators.NumOp.{NumOp}
+use Rattle.wa_types.specs.declared.operators.NumOp.TheVariants.{I32Eqz}
 use Rattle.wa_types.specs.Operators.{operand_types}
-use Rattle.wa_types.proofs.OperatorLemmas.{operators, each_operator}
 use Rattle.wa_model.specs.Store.{takes}
 use Rattle.wa_model.proofs.FittingSteps.{takes_above}
 use Rattle.flat_laws.specs.Flatten.{Names}
@@ -115,8 +115,8 @@ passes c ls (call_indirect x) e = passes_calls_at c.table (slice_get c.types x)
 
 -- a numeric instruction takes two operands at most
 few_operands : (op : NumOp) → length (operand_types op) ≤ 3
-unfolding operators
-few_operands op = leb-true (length (operand_types op)) 3 (each_operator (λ (n : NumOp). nat_le (length (operand_types n)) 3) refl op)
+few_operands I32Eqz = leb-true _ 3 refl
+few_operands _ = leb-true _ 3 refl
 
 pub takes_few : (b : Basic) → takes b ≤ 3
 takes_few nop = omega arith

@@ -39,6 +39,12 @@ any_result d t w k = list_any (same_pair d t) (results_in (length w.labels) (pru
 abbrev pub found_count : Found → ℕ
 found_count f = length (pairs_in 0 f.slots.items) + length (pairs_in 0 f.results.items)
 
+-- These results are marked, and nothing else.
+pub record Marked (results : List Pair) (a b : Found) : Type 0 where
+  pub slots : b.slots.items ≡ a.slots.items
+  pub marked : (d : ℕ) (t : ValType) → is_marked b.results.items d t ≡ (list_any (same_pair d t) results || is_marked a.results.items d t)
+  pub few : length (pairs_in 0 b.results.items) ≤ length (pairs_in 0 a.results.items) + 1
+
 -- All of code is found, from where a walk stands.
 pub record Surveyed (v w : Walk) (k : Code) (a b : Found) : Type 0 where
   pub stays : Stays v w

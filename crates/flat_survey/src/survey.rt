@@ -3,16 +3,16 @@
 ghost use Rattle.std.specs.Prelude.{◌≡◌, ◌+◌, ◌<◌, ◌≤◌, ◌^◌, ◌||◌, ℕ, length, false, true, OnOk};
 ghost use Rattle.wa_types.specs.Pruned.{is_last_instr};
 ghost use Rattle.std.specs.List.{list_any};
-ghost use Rattle.wa_types.specs.Frames.{pair_of, same_pair};
+ghost use Rattle.wa_types.specs.Frames.{pair_of, same_pair, shape_pair};
 ghost use Rattle.wa_types.specs.Sizes.{code_items};
-ghost use Rattle.wa_types.specs.Syntax.{done};
+ghost use Rattle.wa_types.specs.Syntax.{branch, Code, done, nest, Shape};
 ghost use Rattle.wa_types.specs.View.{code, in_front};
 ghost use Rattle.wa_types.specs.declared.values.ValType.{ValType as AType};
 ghost use Rattle.wa_types.specs.Leaves.{is_leaf};
 ghost use Rattle.wasm_validate.specs.Walk.{Stays, TypedAt};
 ghost use Rattle.flat_instrs.specs.Emitting.{all_of, SmallTypes};
 ghost use Rattle.flat_names.specs.Numbers.{is_marked, pairs_in, same_at};
-ghost use Rattle.flat_survey.specs.Surveying.{is_top, Surveyed, SurveyedOne};
+ghost use Rattle.flat_survey.specs.Surveying.{is_top, Marked, Surveyed, SurveyedOne};
 
 use flat_names::{Seen, mark};
 use std::alloc::AllocError;
@@ -96,36 +96,74 @@ fn survey_instr(
     match instr {
         Instr::Block { result, body } => {
             visit_result(&mut found.results, depth, *result)?;
-            let base = typing.base();
-            typing.enter(instr)?;
-            survey_body(found, typing, depth + 1, body)?;
-            typing.leave(*result, base)?;
-            visit(&mut found.slots, typing)
+            survey_nest(found, typing, depth, instr, *result, body)
         }
-        Instr::Loop { result, body } => {
-            let base = typing.base();
-            typing.enter(instr)?;
-            survey_body(found, typing, depth + 1, body)?;
-            typing.leave(*result, base)?;
-            visit(&mut found.slots, typing)
-        }
+        Instr::Loop { result, body } => survey_nest(found, typing, depth, instr, *result, body),
         Instr::If {
             result,
             then_arm,
             else_arm,
         } => {
             visit_result(&mut found.results, depth, *result)?;
-            let base = typing.base();
-            typing.enter(instr)?;
-            survey_body(found, typing, depth + 1, then_arm)?;
-            typing.restart();
-            survey_body(found, typing, depth + 1, else_arm)?;
-            typing.leave(*result, base)?;
-            visit(&mut found.slots, typing)
+            survey_arms(found, typing, depth, instr, *result, then_arm, else_arm)
         }
         _ => {
             typing.advance(instr)?;
             visit(&mut found.slots, typing)
         }
     }
+}
+
+/// Finds what a block or loop adds whose own result is marked, where one is.
+#[cycle(survey_body)]
+fn survey_nest(
+    found: &mut Found,
+    typing: &mut Typing,
+    depth: usize,
+    instr: &Instr,
+    given: Option<ValType>,
+    body: &[Instr],
+) -> Result<(), AllocError>
+    requires opens { is_leaf instr.now ≡ false }
+    requires nest { (s : Shape) × ((rest : Code) → in_front instr.now rest ≡ nest s given (code body.now) rest) }
+    requires typed { TypedAt typing.old (in_front instr.now done) }
+    requires small { SmallTypes typing.old.around }
+    requires depth { depth ≡ length typing.old.labels }
+    requires room { depth + code_items (in_front instr.now done) < 2 ^ 64 }
+    ensures { OnOk result ((s : Shape) (a : Found) → ((rest : Code) → in_front instr.now rest ≡ nest s given (code body.now) rest) → Marked (shape_pair s depth given) a found.old
+        → SurveyedOne typing.old typing.new instr.now a found.new) }
+{
+    let base = typing.base();
+    typing.enter(instr)?;
+    survey_body(found, typing, depth + 1, body)?;
+    typing.leave(given, base)?;
+    visit(&mut found.slots, typing)
+}
+
+/// Finds what an if adds whose own result is marked.
+#[cycle(survey_body)]
+fn survey_arms(
+    found: &mut Found,
+    typing: &mut Typing,
+    depth: usize,
+    instr: &Instr,
+    given: Option<ValType>,
+    then_arm: &[Instr],
+    else_arm: &[Instr],
+) -> Result<(), AllocError>
+    requires opens { is_leaf instr.now ≡ false }
+    requires arms { (rest : Code) → in_front instr.now rest ≡ branch given (code then_arm.now) (code else_arm.now) rest }
+    requires typed { TypedAt typing.old (in_front instr.now done) }
+    requires small { SmallTypes typing.old.around }
+    requires depth { depth ≡ length typing.old.labels }
+    requires room { depth + code_items (in_front instr.now done) < 2 ^ 64 }
+    ensures { OnOk result ((a : Found) → Marked (pair_of depth given) a found.old → SurveyedOne typing.old typing.new instr.now a found.new) }
+{
+    let base = typing.base();
+    typing.enter(instr)?;
+    survey_body(found, typing, depth + 1, then_arm)?;
+    typing.restart();
+    survey_body(found, typing, depth + 1, else_arm)?;
+    typing.leave(given, base)?;
+    visit(&mut found.slots, typing)
 }

@@ -27,7 +27,7 @@ fn first_result(ty: &FuncType) -> Option<ValType>
 }
 
 /// A flat function, with the first local behind its parameters and declared locals, and the first behind its slots.
-#[derive(Debug, Drop)]
+#[derive(Drop)]
 pub struct Flattened {
     pub func: FlatFunc,
     pub first_slot: u32,

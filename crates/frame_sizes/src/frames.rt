@@ -21,14 +21,14 @@ use wasm_tree::prune;
 use wasm_validate::{Typing, Valid};
 
 /// A local that a frame saves.
-#[derive(Clone, Copy, Debug, PartialEq, Eq)]
+#[derive(Clone, Copy)]
 pub struct Place {
     pub local: usize,
     pub ty: ValType,
 }
 
 /// A suspended activation: its function, counted with the imported ones, and the place of the call where it stands.
-#[derive(Clone, Copy, Debug)]
+#[derive(Clone, Copy)]
 pub struct Suspended {
     pub func: u32,
     pub place: usize,

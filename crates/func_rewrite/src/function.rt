@@ -20,7 +20,7 @@ use wa_types::{Func, Module};
 use written_frames::{call_frames, chosen_frame, kept_locals, number_calls, saved_places};
 
 /// A function as it is written, and the frames of its numbered calls.
-#[derive(Debug, Drop)]
+#[derive(Drop)]
 pub struct Written {
     pub func: Func,
     pub frames: Vec<Layout>,

@@ -24,7 +24,7 @@ use vault_port::{PutFault, Sink, Vault, put_whole};
 const SINK_FAULT: u8 = 12;
 
 /// What was written and run: how many bytes the file has, how many of its area the pause used, and the value returned.
-#[derive(Clone, Copy, Debug)]
+#[derive(Clone, Copy)]
 struct Done {
     bytes: usize,
     used: u32,

@@ -22,7 +22,7 @@ use wa_types::{Module, Value};
 use wasm_validate::Valid;
 
 /// What a run told: how many bytes of its area the pause used, and the value that its entry returned.
-#[derive(Clone, Copy, Debug)]
+#[derive(Clone, Copy)]
 pub struct Played {
     pub used: u32,
     pub value: u32,

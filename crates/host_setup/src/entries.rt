@@ -4,8 +4,10 @@ ghost use Rattle.std.specs.Prelude.{◌≡◌, ◌<◌, ◌^◌, ◌++◌, [], �
 ghost use Rattle.std.specs.Option.{is_none, unwrap_or};
 ghost use Rattle.wa_types.specs.Modules.{func_imports, func_sorts};
 ghost use Rattle.wa_types.specs.Syntax.{Module as PlainModule};
+ghost use Rattle.wa_types.specs.declared.values.ValType.TheVariants.{I32};
 ghost use Rattle.wa_types.specs.View.{module_of};
-ghost use Rattle.host_setup.specs.SetUp.{all_told, args_fault, calls_fault, entries_fault, entry_func, entry_funcs, first_false, func_named, have_args, is_area_in, is_five, is_imported, is_there};
+ghost use Rattle.host_setup.specs.SetUp.{all_told, args_fault, calls_fault, entries_fault, entry_func, entry_funcs, first_false, func_named, have_args};
+ghost use Rattle.host_setup.specs.SetUp.{is_area_in, is_five, is_imported, is_there};
 ghost use Rattle.host_setup.specs.SetUp.{module_fault, needed, set_up, unless_fault};
 ghost use Rattle.host_setup.specs.Views.{IsTableOf, Reads, entry_of};
 
@@ -24,7 +26,7 @@ const PAGE: u64 = 65_536;
 const LEAST_AREA: u32 = 8;
 
 /// One entry call: the name of the export, and its arguments.
-#[derive(Debug, Drop)]
+#[derive(Drop)]
 pub struct Entry {
     pub name: Name,
     pub args: Vec<Value>,
@@ -59,7 +61,8 @@ fn is_area(area: Area, pages: u32) -> bool
 
 fn with_area(alloc: Global, module: &Module, entries: &[Entry]) -> Result<Vec<u32>, SetupFault>
     requires { length entries.now < 2 ^ 32 }
-    ensures { let p = module_of «module».now in let es = map entry_of entries.now in Reads (λ funcs. funcs.items) result (unless_fault (module_fault p es) (all_told (entry_funcs p es))) }
+    ensures { let p = module_of «module».now in let es = map entry_of entries.now in Reads (λ funcs. funcs.items) result
+        (unless_fault (module_fault p es) (all_told (entry_funcs p es))) }
 {
     let imports = imported_sorts(alloc, module)?.len();
     let sorts = all_sorts(alloc, module)?;
@@ -83,42 +86,10 @@ fn missing_export(
     ensures { result ≡ first_false (map (is_there (module_of «module».now)) needed) }
 {
     let is_there = [
-        is_there(
-            module,
-            sorts,
-            imports,
-            names,
-            "asyncify_start_unwind",
-            &[ValType::I32],
-            &[],
-        ),
-        is_there(
-            module,
-            sorts,
-            imports,
-            names,
-            "asyncify_stop_unwind",
-            &[],
-            &[],
-        ),
-        is_there(
-            module,
-            sorts,
-            imports,
-            names,
-            "asyncify_start_rewind",
-            &[ValType::I32],
-            &[],
-        ),
-        is_there(
-            module,
-            sorts,
-            imports,
-            names,
-            "asyncify_stop_rewind",
-            &[],
-            &[],
-        ),
+        is_start(module, sorts, imports, names, "asyncify_start_unwind"),
+        is_stop(module, sorts, imports, names, "asyncify_stop_unwind"),
+        is_start(module, sorts, imports, names, "asyncify_start_rewind"),
+        is_stop(module, sorts, imports, names, "asyncify_stop_rewind"),
         is_there(
             module,
             sorts,
@@ -131,6 +102,38 @@ fn missing_export(
     ];
     let missing = first_false(&is_there)?;
     Some(missing as u8)
+}
+
+// Whether a name exports a function that takes an address and has no result.
+fn is_start(
+    module: &Module,
+    sorts: &[u32],
+    imports: usize,
+    names: &BTreeMap<&str, Option<u32>>,
+    name: &str,
+) -> bool
+    requires sorts { sorts.now ≡ func_sorts (module_of «module».now) }
+    requires imports { imports ≡ func_imports (module_of «module».now) }
+    requires names { IsTableOf names.now («module».now).exports.items }
+    ensures { result ≡ is_there (module_of «module».now) (record { name = name.now; ty = record { params = I32 ∷ []; results = [] } }) }
+{
+    is_there(module, sorts, imports, names, name, &[ValType::I32], &[])
+}
+
+// Whether a name exports a function that takes nothing and has no result.
+fn is_stop(
+    module: &Module,
+    sorts: &[u32],
+    imports: usize,
+    names: &BTreeMap<&str, Option<u32>>,
+    name: &str,
+) -> bool
+    requires sorts { sorts.now ≡ func_sorts (module_of «module».now) }
+    requires imports { imports ≡ func_imports (module_of «module».now) }
+    requires names { IsTableOf names.now («module».now).exports.items }
+    ensures { result ≡ is_there (module_of «module».now) (record { name = name.now; ty = record { params = []; results = [] } }) }
+{
+    is_there(module, sorts, imports, names, name, &[], &[])
 }
 
 fn is_there(

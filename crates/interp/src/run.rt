@@ -15,7 +15,7 @@ use std::alloc::AllocError;
 use wa_types::{Trap, Value};
 
 /// The steps that are left to pay with, and those that were used.
-#[derive(Clone, Copy, Debug, PartialEq, Eq)]
+#[derive(Clone, Copy)]
 pub struct Steps {
     pub left: u64,
     pub used: u64,

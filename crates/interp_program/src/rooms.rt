@@ -15,7 +15,7 @@ use wa_types::{Func, Instr, Module};
 use wasm_tree::depth;
 
 /// What an activation reserves: the greatest height of its operands, and the greatest depth of its labels.
-#[derive(Clone, Copy, Debug, PartialEq, Eq)]
+#[derive(Clone, Copy)]
 pub struct Room {
     pub operands: usize,
     pub labels: usize,

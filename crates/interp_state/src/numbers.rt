@@ -1,7 +1,6 @@
 //! Numeric instructions over operands (standard, section 4.4.1).
 
-ghost use Rattle.std.specs.Prelude.{ℕ, ◌≡◌, ◌≤◌, vec_capacity, IsOk, List, [], ◌∷◌, Option, IfOk, reverse};
-ghost use Rattle.wa_types.specs.Operators.{operand_types};
+ghost use Rattle.std.specs.Prelude.{ℕ, ◌≡◌, ◌≤◌, vec_capacity, IsOk, Option, IfOk, reverse};
 ghost use Rattle.wa_types.specs.Syntax.{num};
 ghost use Rattle.wa_ops.specs.declared.class.OperatorClass.TheVariants.{Unary, Conversion, Comparison, Binary};
 ghost use Rattle.wa_ops.specs.Operate.{class_of};
@@ -11,8 +10,8 @@ ghost use Rattle.interp_state.specs.Effects.{effect, Shows};
 use crate::flow::Flow;
 use instr_tables::type_of_value;
 use std::alloc::AllocError;
-use wa_ops::{OperatorClass, binary, compare, convert, unary};
-use wa_types::{NumOp, ValType, Value};
+use wa_ops::{OperatorClass, binary, compare, convert, operand_type, unary};
+use wa_types::{NumOp, Value};
 
 /// A numeric instruction (standard, section 4.4.1).
 pub fn numeric(op: NumOp, operands: &mut Vec<Value>) -> Result<Flow, AllocError>
@@ -102,47 +101,5 @@ fn apply_binary(op: NumOp, operands: &mut Vec<Value>) -> Result<Flow, AllocError
             Ok(Flow::Moved { more: 0 })
         }
         Err(trap) => Ok(Flow::Trapped { more: 0, trap }),
-    }
-}
-
-/// The type of all operands of an operator (standard, section 2.4.1).
-fn operand_type(op: NumOp) -> ValType
-    ensures unary { class_of op ≡ Unary → operand_types op ≡ result ∷ [] }
-    ensures conversion { class_of op ≡ Conversion → operand_types op ≡ result ∷ [] }
-    ensures comparison { class_of op ≡ Comparison → operand_types op ≡ result ∷ result ∷ [] }
-    ensures binary { class_of op ≡ Binary → operand_types op ≡ result ∷ result ∷ [] }
-{
-    match op {
-        NumOp::I64Eqz
-        | NumOp::I64Eq
-        | NumOp::I64Ne
-        | NumOp::I64LtS
-        | NumOp::I64LtU
-        | NumOp::I64GtS
-        | NumOp::I64GtU
-        | NumOp::I64LeS
-        | NumOp::I64LeU
-        | NumOp::I64GeS
-        | NumOp::I64GeU => ValType::I64,
-        NumOp::I64Clz
-        | NumOp::I64Ctz
-        | NumOp::I64Popcnt
-        | NumOp::I64Add
-        | NumOp::I64Sub
-        | NumOp::I64Mul
-        | NumOp::I64DivS
-        | NumOp::I64DivU
-        | NumOp::I64RemS
-        | NumOp::I64RemU => ValType::I64,
-        NumOp::I64And
-        | NumOp::I64Or
-        | NumOp::I64Xor
-        | NumOp::I64Shl
-        | NumOp::I64ShrS
-        | NumOp::I64ShrU
-        | NumOp::I64Rotl
-        | NumOp::I64Rotr
-        | NumOp::I32WrapI64 => ValType::I64,
-        _ => ValType::I32,
     }
 }

@@ -1,26 +1,52 @@
 -- What is put behind a list of instructions, loop by loop.
-use Rattle.std.proofs.Common.{◌≡◌, ℕ, Bool, nat_eq, ◌+◌, ◌-◌, ◌<◌, ◌≤◌, List, [], ◌∷◌, length, take, drop, get_or, refl, sym, ap, ◌∙◌, arith}
+use Rattle.std.proofs.Common.{None, ◌≡◌, ℕ, Bool, nat_eq, ◌+◌, ◌-◌, ◌<◌, ◌≤◌, List, [], ◌∷◌, length, take, drop, get_or, ◌++◌, Result, refl, sym, ap, ◌∙◌, arith}
+use Rattle.std.specs.Result.{OnOk}
 use Rattle.std.proofs.lemmas.List.{take_all, drop_all}
+use Rattle.std.proofs.lemmas.Result.{on_ok_weaker}
 use Rattle.wa_types.specs.declared.instrs.Instr.{Instr}
-use Rattle.wa_types.specs.declared.operators.NumOp.TheVariants.{I32Or}
+use Rattle.wa_types.specs.declared.instrs.Instr.TheVariants.{GlobalGet, LocalTee, Num}
+use Rattle.wa_types.specs.declared.values.ValType.TheVariants.{I32}
+use Rattle.wa_types.specs.declared.operators.NumOp.TheVariants.{I32Or, I32Sub, I32GtU}
 use Rattle.wa_types.specs.declared.values.Value.TheVariants as V
-use Rattle.wa_types.specs.Syntax.{const, num, basic, local_get, local_set, Code, plain}
-use Rattle.wa_types.specs.View.{onto}
+use Rattle.wa_types.specs.Syntax.{const, num, basic, local_get, local_set, unreachable, Code, done, plain, branch}
+use Rattle.wa_types.specs.View.{onto, in_front}
 use Rattle.local_spill.specs.Putting.{Puts}
-use Rattle.local_spill.specs.Spilling.{stored_value, loaded_value}
+use Rattle.local_spill.specs.Spilling.{stored_value, loaded_value, location_of}
 use Rattle.frame_laws.specs.Layout.{fields_size, stores, loads}
 use Rattle.call_frames.specs.CallTests.{CallRow, at_row, row_test}
 use Rattle.call_frames.specs.FrameParts.{parts_stored, parts_loaded}
 use Rattle.call_frames.specs.PlainFrames.{SavedPart, rows_of, at_rows, parts_of}
 use Rattle.call_classes.specs.declared.frames.KeptLocal.{KeptLocal}
 use Rattle.call_classes.specs.declared.frames.KeptPart.{KeptPart}
-use Rattle.live_frames.specs.Putting.{rows_joined}
+use Rattle.live_frames.specs.Putting.{room_tested, rows_joined}
 use Rattle.call_classes.specs.Views.{fields_of, part_view, part_views}
 use Rattle.live_frames.proofs.PieceLemmas.{stored_more, loaded_more, joined_is, shared_bytes, part_stored, part_loaded}
 
 -- what is put, told otherwise
 pub put_same : {X : Type 0} (old new : List Instr) (f : X → Code → Code) (x y : X) → x ≡ y → Puts old new (f x) → Puts old new (f y)
 put_same old new f x y e h rest = h rest ∙ ap (λ z. onto old (f z rest)) e
+
+onto_all : (old xs : List Instr) (rest : Code) → onto (old ++ xs) rest ≡ onto old (onto xs rest)
+unfolding onto
+onto_all [] xs rest = refl
+onto_all (x ∷ old) xs rest = ap (in_front x) (onto_all old xs rest)
+
+pub put_these : (old new xs : List Instr) → new ≡ old ++ xs → Puts old new (onto xs)
+put_these old new xs e rest = ap (λ l. onto l rest) e ∙ onto_all old xs rest
+
+-- what put instructions stand for
+pub put_as : {E : Type 0} (r : Result (Unit {0}) E) (old new : List Instr) (f g : Code → Code) → ((rest : Code) → g rest ≡ f rest) → OnOk r (Puts old new g) → OnOk r (Puts old new f)
+put_as r old new f g same = on_ok_weaker r (λ h rest. h rest ∙ ap (onto old) (same rest))
+
+-- the test for room: l loads the end of the area, m the location, and x traps
+pub room_put : (adr sp : ℕ) (l m x : Instr) → ((k : Code) → in_front l k ≡ loaded_value I32 4 k) → ((k : Code) → in_front m k ≡ loaded_value I32 0 k)
+    → ((k : Code) → in_front x k ≡ branch None (plain unreachable done) done k) → (rest : Code)
+    → onto (GlobalGet adr ∷ l ∷ GlobalGet adr ∷ m ∷ LocalTee sp ∷ Num I32Sub ∷ Num I32GtU ∷ x ∷ []) rest ≡ room_tested adr sp rest
+unfolding onto in_front
+room_put adr sp l m x is_l is_m is_x rest =
+    ap (in_front (GlobalGet adr)) (is_l _)
+    ∙ ap (λ k. in_front (GlobalGet adr) (loaded_value I32 4 (in_front (GlobalGet adr) k))) (is_m _)
+    ∙ ap (λ k. in_front (GlobalGet adr) (loaded_value I32 4 (location_of adr (in_front (LocalTee sp) (in_front (Num I32Sub) (in_front (Num I32GtU) k)))))) (is_x rest)
 
 pub no_items : (xs : List ℕ) → length xs < 1 → [] ≡ xs
 no_items [] h = refl

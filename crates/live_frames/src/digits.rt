@@ -96,8 +96,7 @@ fn own_sizes(alloc: Global, parts: &[KeptPart], end: usize) -> Result<Vec<OwnSiz
     ensures length { IfOk result (λ v. length v.items ≡ end) }
     ensures sizes { IfOk result (λ v. (k : ℕ) → size_in v.items k ≡ weight_at k (part_weights (part_views parts.now)) % 2 ^ 32) }
 {
-    let mut sizes = Vec::with_capacity(alloc, end)?;
-    sizes.resize(end, OwnSize { bytes: 0, part: 0 })?;
+    let mut sizes = vec![in alloc; OwnSize { bytes: 0, part: 0 }; end]?;
     for number in 0..parts.len() {
         add_part(&mut sizes, number + 1, &parts[number]);
     }

@@ -11,7 +11,7 @@ ghost use Rattle.local_spill.specs.Spilling.{loaded_value};
 ghost use Rattle.call_classes.specs.Classes.{FewParts, part_fields};
 ghost use Rattle.call_classes.specs.Views.{fields_of, part_view, part_views};
 
-use crate::putting::{load_of, put_scratch_moved, shared_in, size_of, width};
+use crate::putting::{load_of, put_all, put_scratch_moved, shared_in, size_of, width};
 use crate::testing::put_under_test;
 use call_classes::{KeptLocal, KeptPart};
 use std::alloc::{AllocError, Global};
@@ -26,10 +26,14 @@ fn put_loaded(
 ) -> Result<(), AllocError>
     ensures { OnOk result (Puts out.old.items out.new.items (λ c. plain (local_get scratch) (loaded_value field.ty offset (plain (local_set field.local) c)))) }
 {
-    out.push(Instr::LocalGet(scratch))?;
-    out.push(load_of(field.ty, offset))?;
-    out.push(Instr::LocalSet(field.local))?;
-    Ok(())
+    put_all(
+        out,
+        [
+            Instr::LocalGet(scratch),
+            load_of(field.ty, offset),
+            Instr::LocalSet(field.local),
+        ],
+    )
 }
 
 /// Puts what loads these locals in a row, from an offset on.

@@ -5,21 +5,12 @@ ghost use Rattle.wa_types.specs.Syntax.{local_set, plain};
 ghost use Rattle.wa_types.specs.declared.values.ValType.TheVariants.{I32};
 ghost use Rattle.call_frames.specs.FrameParts.{location_lowered};
 ghost use Rattle.local_spill.specs.Putting.{Puts};
-ghost use Rattle.local_spill.specs.Spilling.{index_saved, loaded_value, location_of, location_raised};
+ghost use Rattle.local_spill.specs.Spilling.{index_saved, loaded_value, location_raised};
 ghost use Rattle.live_frames.specs.Putting.{location_noted, room_tested};
 
-use crate::putting::{load_of, store_of};
+use crate::putting::{load_of, put_all, store_of};
 use std::alloc::{AllocError, Global};
 use wa_types::{Instr, NumOp, ValType, Value};
-
-/// Puts what gets the location.
-fn put_location(out: &mut Vec<Instr>, address: u32) -> Result<(), AllocError>
-    ensures { OnOk result (Puts out.old.items out.new.items (location_of address)) }
-{
-    out.push(Instr::GlobalGet(address))?;
-    out.push(load_of(ValType::I32, 0))?;
-    Ok(())
-}
 
 /// Puts what traps where a frame of the size on top doesn't fit; else the scratch local becomes the location.
 pub(crate) fn put_room_test(
@@ -32,18 +23,23 @@ pub(crate) fn put_room_test(
 {
     let mut trap = Vec::new(alloc);
     trap.push(Instr::Unreachable)?;
-    out.push(Instr::GlobalGet(address))?;
-    out.push(load_of(ValType::I32, 4))?;
-    put_location(out, address)?;
-    out.push(Instr::LocalTee(scratch))?;
-    out.push(Instr::Num(NumOp::I32Sub))?;
-    out.push(Instr::Num(NumOp::I32GtU))?;
-    out.push(Instr::If {
-        result: None,
-        then_arm: trap,
-        else_arm: Vec::new(alloc),
-    })?;
-    Ok(())
+    put_all(
+        out,
+        [
+            Instr::GlobalGet(address),
+            load_of(ValType::I32, 4),
+            Instr::GlobalGet(address),
+            load_of(ValType::I32, 0),
+            Instr::LocalTee(scratch),
+            Instr::Num(NumOp::I32Sub),
+            Instr::Num(NumOp::I32GtU),
+            Instr::If {
+                result: None,
+                then_arm: trap,
+                else_arm: Vec::new(alloc),
+            },
+        ],
+    )
 }
 
 /// Puts what stores the call index.
@@ -55,10 +51,14 @@ pub(crate) fn put_index_saved(
 ) -> Result<(), AllocError>
     ensures { OnOk result (Puts out.old.items out.new.items (index_saved index scratch offset)) }
 {
-    out.push(Instr::LocalGet(scratch))?;
-    out.push(Instr::LocalGet(index))?;
-    out.push(store_of(ValType::I32, offset))?;
-    Ok(())
+    put_all(
+        out,
+        [
+            Instr::LocalGet(scratch),
+            Instr::LocalGet(index),
+            store_of(ValType::I32, offset),
+        ],
+    )
 }
 
 /// Puts what raises the location to the frame's end.
@@ -70,12 +70,16 @@ pub(crate) fn put_location_raised(
 ) -> Result<(), AllocError>
     ensures { OnOk result (Puts out.old.items out.new.items (location_raised address scratch size)) }
 {
-    out.push(Instr::GlobalGet(address))?;
-    out.push(Instr::LocalGet(scratch))?;
-    out.push(Instr::Const(Value::I32(size)))?;
-    out.push(Instr::Num(NumOp::I32Add))?;
-    out.push(store_of(ValType::I32, 0))?;
-    Ok(())
+    put_all(
+        out,
+        [
+            Instr::GlobalGet(address),
+            Instr::LocalGet(scratch),
+            Instr::Const(Value::I32(size)),
+            Instr::Num(NumOp::I32Add),
+            store_of(ValType::I32, 0),
+        ],
+    )
 }
 
 /// Puts what sets the scratch local to the location, lowered by so many bytes.
@@ -87,11 +91,16 @@ pub(crate) fn put_location_noted(
 ) -> Result<(), AllocError>
     ensures { OnOk result (Puts out.old.items out.new.items (location_noted address scratch size)) }
 {
-    put_location(out, address)?;
-    out.push(Instr::Const(Value::I32(size)))?;
-    out.push(Instr::Num(NumOp::I32Sub))?;
-    out.push(Instr::LocalTee(scratch))?;
-    Ok(())
+    put_all(
+        out,
+        [
+            Instr::GlobalGet(address),
+            load_of(ValType::I32, 0),
+            Instr::Const(Value::I32(size)),
+            Instr::Num(NumOp::I32Sub),
+            Instr::LocalTee(scratch),
+        ],
+    )
 }
 
 /// Puts what loads the call index from an offset behind the address on the stack.
@@ -115,8 +124,12 @@ pub(crate) fn put_location_lowered(
 ) -> Result<(), AllocError>
     ensures { OnOk result (Puts out.old.items out.new.items (location_lowered address scratch)) }
 {
-    out.push(Instr::GlobalGet(address))?;
-    out.push(Instr::LocalGet(scratch))?;
-    out.push(store_of(ValType::I32, 0))?;
-    Ok(())
+    put_all(
+        out,
+        [
+            Instr::GlobalGet(address),
+            Instr::LocalGet(scratch),
+            store_of(ValType::I32, 0),
+        ],
+    )
 }

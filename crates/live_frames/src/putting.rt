@@ -3,7 +3,7 @@
 ghost use Rattle.std.specs.Prelude.{◌≡◌, ◌≤◌, ◌∷◌, [], ℕ, length, OnOk};
 ghost use Rattle.wa_types.specs.Syntax.{Code};
 ghost use Rattle.wa_types.specs.Frames.{width};
-ghost use Rattle.wa_types.specs.View.{in_front};
+ghost use Rattle.wa_types.specs.View.{in_front, onto};
 ghost use Rattle.frame_laws.specs.Layout.{fields_size};
 ghost use Rattle.local_spill.specs.Putting.{Puts};
 ghost use Rattle.local_spill.specs.Spilling.{loaded_value, stored_value};
@@ -101,6 +101,17 @@ pub(crate) fn shared_of(parts: &[KeptPart]) -> u32
     size
 }
 
+/// Puts these instructions.
+pub(crate) fn put_all<const N: usize>(
+    out: &mut Vec<Instr>,
+    instrs: [Instr; N],
+) -> Result<(), AllocError>
+    requires { N ≤ 8 }
+    ensures { OnOk result (Puts out.old.items out.new.items (onto instrs.entry)) }
+{
+    out.extend(instrs)
+}
+
 /// Puts what moves the scratch local by so many bytes.
 pub(crate) fn put_scratch_moved(
     out: &mut Vec<Instr>,
@@ -110,9 +121,13 @@ pub(crate) fn put_scratch_moved(
 ) -> Result<(), AllocError>
     ensures { OnOk result (Puts out.old.items out.new.items (scratch_moved scratch size op)) }
 {
-    out.push(Instr::LocalGet(scratch))?;
-    out.push(Instr::Const(Value::I32(size)))?;
-    out.push(Instr::Num(op))?;
-    out.push(Instr::LocalSet(scratch))?;
-    Ok(())
+    put_all(
+        out,
+        [
+            Instr::LocalGet(scratch),
+            Instr::Const(Value::I32(size)),
+            Instr::Num(op),
+            Instr::LocalSet(scratch),
+        ],
+    )
 }

@@ -11,7 +11,7 @@ ghost use Rattle.live_frames.specs.Digits.{plane_views};
 
 use crate::digits::{Plane, digits_of};
 use crate::measuring::{parts_size, planes_size};
-use crate::putting::size_of;
+use crate::putting::{put_all, size_of};
 use crate::testing::put_test;
 use call_classes::KeptPart;
 use std::alloc::{AllocError, Global};
@@ -21,10 +21,14 @@ use wa_types::{Instr, NumOp, Value};
 fn put_weighed(out: &mut Vec<Instr>, size: u32) -> Result<(), AllocError>
     ensures { OnOk result (Puts out.old.items out.new.items (weighed size)) }
 {
-    out.push(Instr::Const(Value::I32(size)))?;
-    out.push(Instr::Num(NumOp::I32Mul))?;
-    out.push(Instr::Num(NumOp::I32Add))?;
-    Ok(())
+    put_all(
+        out,
+        [
+            Instr::Const(Value::I32(size)),
+            Instr::Num(NumOp::I32Mul),
+            Instr::Num(NumOp::I32Add),
+        ],
+    )
 }
 
 /// Puts what adds the size of a part, where the call keeps it and others don't.

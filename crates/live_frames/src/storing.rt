@@ -11,7 +11,7 @@ ghost use Rattle.local_spill.specs.Spilling.{stored_value};
 ghost use Rattle.call_classes.specs.Classes.{FewParts, part_fields};
 ghost use Rattle.call_classes.specs.Views.{fields_of, part_view, part_views};
 
-use crate::putting::{put_scratch_moved, shared_in, size_of, store_of, width};
+use crate::putting::{put_all, put_scratch_moved, shared_in, size_of, store_of, width};
 use crate::testing::put_under_test;
 use call_classes::{KeptLocal, KeptPart};
 use std::alloc::{AllocError, Global};
@@ -26,10 +26,14 @@ fn put_stored(
 ) -> Result<(), AllocError>
     ensures { OnOk result (Puts out.old.items out.new.items (λ c. plain (local_get scratch) (plain (local_get field.local) (stored_value field.ty offset c)))) }
 {
-    out.push(Instr::LocalGet(scratch))?;
-    out.push(Instr::LocalGet(field.local))?;
-    out.push(store_of(field.ty, offset))?;
-    Ok(())
+    put_all(
+        out,
+        [
+            Instr::LocalGet(scratch),
+            Instr::LocalGet(field.local),
+            store_of(field.ty, offset),
+        ],
+    )
 }
 
 /// Puts what stores these locals in a row, from an offset on.

@@ -10,6 +10,7 @@ ghost use Rattle.call_frames.specs.PlainFrames.{at_calls, at_rows, rows_of};
 ghost use Rattle.local_spill.specs.Putting.{Puts};
 ghost use Rattle.call_classes.specs.CallRows.{row_view};
 
+use crate::putting::put_all;
 use crate::words::{by_words, put_words};
 use call_classes::{RowAt, row_at};
 use std::alloc::{AllocError, Global};
@@ -19,10 +20,14 @@ use wa_types::{Instr, NumOp, Value};
 fn put_call_test(out: &mut Vec<Instr>, index: u32, call: u32) -> Result<(), AllocError>
     ensures { OnOk result (Puts out.old.items out.new.items (at_call index call)) }
 {
-    out.push(Instr::LocalGet(index))?;
-    out.push(Instr::Const(Value::I32(call)))?;
-    out.push(Instr::Num(NumOp::I32Eq))?;
-    Ok(())
+    put_all(
+        out,
+        [
+            Instr::LocalGet(index),
+            Instr::Const(Value::I32(call)),
+            Instr::Num(NumOp::I32Eq),
+        ],
+    )
 }
 
 /// Puts the test that a number is at most this one.
@@ -38,10 +43,14 @@ fn put_at_most(out: &mut Vec<Instr>, number: u32) -> Result<(), AllocError>
 fn put_difference(out: &mut Vec<Instr>, index: u32, number: u32) -> Result<(), AllocError>
     ensures { OnOk result (Puts out.old.items out.new.items (λ c. plain (local_get index) (plain (basic (const (value_32 number))) (plain (basic (num I32Sub)) c)))) }
 {
-    out.push(Instr::LocalGet(index))?;
-    out.push(Instr::Const(Value::I32(number)))?;
-    out.push(Instr::Num(NumOp::I32Sub))?;
-    Ok(())
+    put_all(
+        out,
+        [
+            Instr::LocalGet(index),
+            Instr::Const(Value::I32(number)),
+            Instr::Num(NumOp::I32Sub),
+        ],
+    )
 }
 
 /// Puts the test of a row.

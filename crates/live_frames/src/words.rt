@@ -8,6 +8,7 @@ ghost use Rattle.call_frames.specs.CallWords.{at_words, bit_taken, word_of};
 ghost use Rattle.call_frames.specs.PlainFrames.{by_words, calls_end, is_one_of, rows_of, words_behind};
 ghost use Rattle.local_spill.specs.Putting.{Puts};
 
+use crate::putting::put_all;
 use call_classes::row_at;
 use std::alloc::{AllocError, Global};
 use wa_types::{Instr, NumOp, Value};
@@ -78,8 +79,7 @@ fn told_calls(alloc: Global, calls: &[u32], count: usize) -> Result<Vec<bool>, A
     ensures size { IfOk result (λ v. length v.items ≡ count) }
     ensures calls { IfOk result (λ v. (j : ℕ) → get_or v.items j false ≡ is_one_of calls.now j) }
 {
-    let mut told = Vec::with_capacity(alloc, count)?;
-    told.resize(count, false)?;
+    let mut told = vec![in alloc; false; count]?;
     let mut left = calls.len();
     while left > 0 {
         left -= 1;
@@ -114,25 +114,33 @@ fn put_word(out: &mut Vec<Instr>, index: u32, word: u64, first: u32) -> Result<(
     ensures { OnOk result (Puts out.old.items out.new.items (λ c. plain (basic (const (value_64 word)))
         (plain (local_get index) (plain (basic (const (value_32 first))) (plain (basic (num I32LtU)) (plain (basic select) c)))))) }
 {
-    out.push(Instr::Const(Value::I64(word)))?;
-    out.push(Instr::LocalGet(index))?;
-    out.push(Instr::Const(Value::I32(first)))?;
-    out.push(Instr::Num(NumOp::I32LtU))?;
-    out.push(Instr::Select)?;
-    Ok(())
+    put_all(
+        out,
+        [
+            Instr::Const(Value::I64(word)),
+            Instr::LocalGet(index),
+            Instr::Const(Value::I32(first)),
+            Instr::Num(NumOp::I32LtU),
+            Instr::Select,
+        ],
+    )
 }
 
 /// Puts what takes the bit of the index in the word on top.
 fn put_bit_taken(out: &mut Vec<Instr>, index: u32) -> Result<(), AllocError>
     ensures { OnOk result (Puts out.old.items out.new.items (bit_taken index)) }
 {
-    out.push(Instr::LocalGet(index))?;
-    out.push(Instr::Num(NumOp::I64ExtendI32U))?;
-    out.push(Instr::Num(NumOp::I64ShrU))?;
-    out.push(Instr::Const(Value::I64(1)))?;
-    out.push(Instr::Num(NumOp::I64And))?;
-    out.push(Instr::Num(NumOp::I32WrapI64))?;
-    Ok(())
+    put_all(
+        out,
+        [
+            Instr::LocalGet(index),
+            Instr::Num(NumOp::I64ExtendI32U),
+            Instr::Num(NumOp::I64ShrU),
+            Instr::Const(Value::I64(1)),
+            Instr::Num(NumOp::I64And),
+            Instr::Num(NumOp::I32WrapI64),
+        ],
+    )
 }
 
 /// Puts the test of these calls by words.

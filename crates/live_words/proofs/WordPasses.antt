@@ -22,7 +22,7 @@ use Rattle.live_passes.proofs.SetLemmas.{tells_as, tells_none}
 use Rattle.live_passes.proofs.CodeLemmas.{code_end}
 use Rattle.live_passes.proofs.PassLemmas.{tells_before, block_tells, if_tells}
 use Rattle.live_words.specs.Words.{bit, world, told_in, WordsTell, WordsBefore, WordsPassed}
-use Rattle.live_words.specs.Heads.{deeper, loop_total, heads, Knows, Fresh, HeadsPut}
+use Rattle.live_words.specs.Heads.{deeper, loop_total, heads, Knows, Fresh, HeadsPut, WordsKept}
 use Rattle.live_words.proofs.WordLemmas.{bit_none, world_long, world_has}
 use Rattle.live_words.proofs.HeadLemmas.{knows_on, knows_as, set_there, loops_front, heads_front, heads_count}
 
@@ -230,7 +230,7 @@ module _ (x : Stmt) (r : ℕ) (outer : List (Vec Bool Global)) (inner : List (Ve
             (ap (λ ts. heads y i (deeper r) ts (has (world i a) y) body) (told_inside i il y lt)) (g.tell i y il lt)
 
         -- nothing is kept for the loop
-        pub heads_loop_left : HeadsPut r outer inner a one old between
+        heads_loop_left : HeadsPut r outer inner a one old between
         unfolding heads live code_of
         heads_loop_left = record {
           more = None ∷ g.more;
@@ -241,7 +241,7 @@ module _ (x : Stmt) (r : ℕ) (outer : List (Vec Bool Global)) (inner : List (Ve
               (sym (ap (heads y i r (told_in i outer inner y) (has (world i a) y)) is)) (inside_known i y il lt);
         }
 
-        pub heads_loop_kept : (w : Vec ℕ Global) (at : ℕ) (new : List (Option (Vec ℕ Global))) → w.items ≡ c → at ≡ length old → new ≡ set between at (Some w) → HeadsPut r outer inner a one old new
+        heads_loop_kept : (w : Vec ℕ Global) (at : ℕ) (new : List (Option (Vec ℕ Global))) → w.items ≡ c → at ≡ length old → new ≡ set between at (Some w) → HeadsPut r outer inner a one old new
         unfolding heads live code_of
         heads_loop_kept w at new ew ea en = record {
           more = Some w ∷ g.more;
@@ -251,6 +251,10 @@ module _ (x : Stmt) (r : ℕ) (outer : List (Vec Bool Global)) (inner : List (Ve
               (heads y i r (told_in i outer inner y) (has (world i a) y) one)
               (sym (ap (heads y i r (told_in i outer inner y) (has (world i a) y)) is)) (ap (λ s. has (world i s) y) ew ∙ head_each i il y lt, inside_known i y il lt);
         }
+
+        pub heads_loop : (at : ℕ) (new : List (Option (Vec ℕ Global))) → at ≡ length old → WordsKept at c between new → HeadsPut r outer inner a one old new
+        heads_loop at new ea (inl e) = subst (λ z. HeadsPut r outer inner a one old z) (sym e) heads_loop_left
+        heads_loop at new ea (inr k) = heads_loop_kept k.0 at new k.1 ea k.2
 
   module _ (o : Operand) (s t : Stmts) (v : Vec ℕ Global) (inside mid : List (Vec ℕ Global)) (a own : List ℕ) (is : one ≡ decides o s t no_more) (e : v.items ≡ a) (eo : own ≡ a)
       (ei : inside ≡ inner ++ v ∷ []) (em : mid ≡ inside) where
@@ -305,6 +309,11 @@ own_of r n m v e h = record { word = h.0; are = h.1 ∙ ap (λ k. replicate k h.
 pub put_as : (r2 r : ℕ) (outer : List (Vec Bool Global)) (inner : List (Vec ℕ Global)) (a : List ℕ) (s : Stmts) (es old new : List (Option (Vec ℕ Global))) → r2 ≡ r → es ≡ old
     → HeadsPut r2 outer inner a s es new → HeadsPut r outer inner a s old new
 put_as r2 r outer inner a s es old new e f h = subst (λ l. HeadsPut l outer inner a s old new) e (subst (λ o. HeadsPut r2 outer inner a s o new) f h)
+
+pub head_there : (r : ℕ) (outer : List (Vec Bool Global)) (inner : List (Vec ℕ Global)) (a : List ℕ) (s : Stmts) (old between : List (Option (Vec ℕ Global))) (at : ℕ) → at ≡ length old
+    → HeadsPut r outer inner a s (old ++ None ∷ []) between → at < length between
+head_there r outer inner a s old between at ea h =
+    let n = ap length h.is in let m = length-append (old ++ None ∷ []) h.more in let k = length-append old (None ∷ []) in omega (arith, ea, n, m, k)
 
 pub words_size : (outer : List (Vec Bool Global)) (inner : List (Vec ℕ Global)) (a b : List ℕ) (k : Code) → WordsBefore outer inner a b k → length b ≡ length a
 words_size outer inner a b k w = let n = world_long 0 a in let m = world_long 0 b in let s = (w 0 (omega arith)).size in omega (arith, n, m, s)

@@ -1,11 +1,11 @@
 -- What is read first from the heads of loops on, world by world.
-use Rattle.std.specs.Prelude.{◌≡◌, ◌<◌, ◌+◌, ◌++◌, ℕ, suc, List, [], ◌∷◌, length, Option, Some, None, Bool, false, Vec, nat_eq, nat_lt, if◌then◌else◌}
+use Rattle.std.specs.Prelude.{◌≡◌, ◌<◌, ◌+◌, ◌++◌, ℕ, suc, List, [], ◌∷◌, length, Option, Some, None, Bool, false, Vec, nat_eq, nat_lt, if◌then◌else◌, replicate, set, ◌⊎◌}
 use Rattle.std.specs.declared.alloc.Global.{Global}
 use Rattle.wa_types.specs.Syntax.{a_block, a_loop}
 use Rattle.wa_types.specs.Liveness.{live}
 use Rattle.wa_model.specs.Flat.{Stmts, no_more, computes, copies, calls, leaps, leaps_if, leaps_by, nests, decides, halts, code_of}
 use Rattle.live_passes.specs.Sets.{has}
-use Rattle.live_words.specs.Words.{world, told_in}
+use Rattle.live_words.specs.Words.{bit, world, told_in}
 
 -- one loop further inside; loops inside 64 others have no world of their own
 abbrev pub deeper : ℕ → ℕ
@@ -65,3 +65,16 @@ pub record HeadsPut (r : ℕ) (outer : List (Vec Bool Global)) (inner : List (Ve
   pub is : new ≡ old ++ more
   pub count : length more ≡ loop_total s
   pub tell : (i x : ℕ) → i < 64 → x < length behind → Knows i x more (heads x i r (told_in i outer inner x) (has (world i behind) x) s)
+
+-- A label is put behind others that tells these words.
+abbrev pub LabelPut : List ℕ → (old new : List (Vec ℕ Global)) → Type 0
+LabelPut words old new = (v : Vec ℕ Global) × (v.items ≡ words) × (new ≡ old ++ v ∷ [])
+
+-- A loop's label is put behind others: what it tells to what stands inside.
+abbrev pub OwnLabelPut : (level count : ℕ) → (old new : List (Vec ℕ Global)) → Type 0
+OwnLabelPut level count old new =
+    (v : Vec ℕ Global) × ((w : ℕ) × (v.items ≡ replicate count w) × ((i : ℕ) → i < 64 → bit i w ≡ nat_eq i (suc level))) × (new ≡ old ++ v ∷ [])
+
+-- These words are kept for the loop whose entry this is, or none are.
+abbrev pub WordsKept : (at : ℕ) → (words : List ℕ) → (old new : List (Option (Vec ℕ Global))) → Type 0
+WordsKept at words old new = (new ≡ old) ⊎ ((w : Vec ℕ Global) × (w.items ≡ words) × (new ≡ set old at (Some w)))

@@ -34,10 +34,7 @@ fn own_word(level: u32) -> u64
 pub(crate) fn label_told(alloc: Global, count: usize, level: u32) -> Result<Vec<u64>, AllocError>
     ensures { IfOk result (λ v. (w : ℕ) × (v.items ≡ replicate count w) × ((i : ℕ) → i < 64 → bit i w ≡ nat_eq i (suc level))) }
 {
-    let own = own_word(level);
-    let mut words = Vec::with_capacity(alloc, count)?;
-    words.resize(count, own)?;
-    Ok(words)
+    vec![in alloc; own_word(level); count]
 }
 
 /// A word in which the bit of a world tells what that of world 0 tells.

@@ -1,10 +1,10 @@
 //! What is read first from the front of statements on, and from the heads of the loops in them.
 
-ghost use Rattle.std.specs.Prelude.{OnOk};
+ghost use Rattle.std.specs.Prelude.{◌≡◌, ◌<◌, ◌++◌, ◌∷◌, [], length, None, OnOk};
 ghost use Rattle.wa_model.specs.Flat.{code_of, no_more};
 ghost use Rattle.wa_model.specs.FlatView.{stmt_in_front, stmts};
 ghost use Rattle.live_passes.specs.Ops.{OpsFit};
-ghost use Rattle.live_words.specs.Heads.{Fresh, HeadsPut};
+ghost use Rattle.live_words.specs.Heads.{Fresh, HeadsPut, LabelPut, OwnLabelPut, WordsKept};
 ghost use Rattle.live_words.specs.Words.{WordsPassed};
 
 use crate::levels::{inside, label_told, leave};
@@ -13,6 +13,47 @@ use crate::sizes::{is_kept, size_at};
 use crate::steps::pass_simple;
 use std::alloc::{AllocError, Global};
 use wa_model::Stmt;
+
+/// One more label, from whose target on a set is read first.
+fn push_label(alloc: Global, inner: &mut Vec<Vec<u64>>, set: &[u64]) -> Result<(), AllocError>
+    ensures { OnOk result (LabelPut set.now inner.old.items inner.new.items) }
+{
+    inner.push(copied(alloc, set)?)?;
+    Ok(())
+}
+
+/// An entry for a loop at this level, and what its label tells of so many locals to what stands in it.
+fn push_loop(
+    alloc: Global,
+    inner: &mut Vec<Vec<u64>>,
+    heads: &mut Vec<Option<Vec<u64>>>,
+    count: usize,
+    level: u32,
+) -> Result<(), AllocError>
+    ensures head { OnOk result (heads.new.items ≡ heads.old.items ++ None ∷ []) }
+    ensures label { OnOk result (OwnLabelPut level count inner.old.items inner.new.items) }
+{
+    heads.push(None)?;
+    inner.push(label_told(alloc, count, level)?)?;
+    Ok(())
+}
+
+/// Keeps words for the loop whose entry this is, where they are kept.
+fn keep_words(
+    alloc: Global,
+    heads: &mut Vec<Option<Vec<u64>>>,
+    at: usize,
+    words: &[u64],
+    kept: bool,
+) -> Result<(), AllocError>
+    requires { at < length heads.old.items }
+    ensures { OnOk result (WordsKept at words.now heads.old.items heads.new.items) }
+{
+    if kept {
+        heads[at] = Some(copied(alloc, words)?);
+    }
+    Ok(())
+}
 
 /// A body is passed over backwards in all worlds. `outer` tells for the labels around the nest of loops what is read first from
 /// their targets on, `inner` for those inside it; `level` loops of the nest stand around the body. For each loop in the body an
@@ -73,7 +114,7 @@ pub fn pass_stmt(
 {
     match stmt {
         Stmt::Block(body) => {
-            inner.push(copied(alloc, set)?)?;
+            push_label(alloc, inner, set)?;
             pass_body(alloc, outer, inner, level, sizes, around, heads, set, body)?;
             inner.pop();
             Ok(())
@@ -81,8 +122,7 @@ pub fn pass_stmt(
         Stmt::Loop(body) => {
             let at = heads.len();
             let size = size_at(sizes, at);
-            heads.push(None)?;
-            inner.push(label_told(alloc, set.len(), level)?)?;
+            push_loop(alloc, inner, heads, set.len(), level)?;
             pass_body(
                 alloc,
                 outer,
@@ -96,18 +136,15 @@ pub fn pass_stmt(
             )?;
             inner.pop();
             leave(set, level);
-            if is_kept(level, size, around) {
-                heads[at] = Some(copied(alloc, set)?);
-            }
-            Ok(())
+            keep_words(alloc, heads, at, set, is_kept(level, size, around))
         }
         Stmt::If {
             cond,
             then_arm,
             else_arm,
         } => {
+            push_label(alloc, inner, set)?;
             let mut other = copied(alloc, set)?;
-            inner.push(copied(alloc, set)?)?;
             pass_body(
                 alloc, outer, inner, level, sizes, around, heads, set, else_arm,
             )?;

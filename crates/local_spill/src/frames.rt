@@ -3,7 +3,7 @@
 use wa_types::ValType;
 
 /// A local that a frame keeps, and where it stands in the frame.
-#[derive(Clone, Copy, Debug, PartialEq, Eq)]
+#[derive(Clone, Copy)]
 pub struct Place {
     pub local: u32,
     pub ty: ValType,
@@ -11,7 +11,7 @@ pub struct Place {
 }
 
 /// The frame of a numbered call: the call's number, the bytes that the frame takes, and what it keeps.
-#[derive(Debug, Drop)]
+#[derive(Drop)]
 pub struct Layout {
     pub index: u32,
     pub size: u32,

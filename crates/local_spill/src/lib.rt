@@ -19,7 +19,7 @@ pub use laying::layout;
 pub use spilling::{epilogue, prologue};
 
 /// The numbers of the appended parts of a written module.
-#[derive(Clone, Copy, Debug, PartialEq, Eq)]
+#[derive(Clone, Copy)]
 pub struct RuntimeIds {
     /// The global of the state: 0 normal, 1 unwinding, 2 rewinding.
     pub state: u32,

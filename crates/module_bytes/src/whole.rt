@@ -21,7 +21,7 @@ use wasm_encode::encode_around;
 use wasm_validate::Valid;
 
 /// The bytes of a module as it is rewritten, and which functions may pause, by one answer a function, imports first.
-#[derive(Debug, Drop)]
+#[derive(Drop)]
 pub struct Emitted {
     pub text: BytesMut,
     pub instrumented: Vec<bool>,

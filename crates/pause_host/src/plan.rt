@@ -8,7 +8,7 @@ use wasm_validate::Valid;
 /// What a program is given: its module, which function imports are listed where that is told, for each function import the device
 /// to which it is bound where it is, its area, its number of steps, the values of the imported globals, its entries and its answer
 /// lines.
-#[derive(Debug, Drop)]
+#[derive(Drop)]
 pub struct Plan<'m> {
     pub module: &'m Valid,
     pub listed: Option<Vec<bool>>,

@@ -32,7 +32,6 @@ pub(crate) enum State<'m> {
 }
 
 /// A program: a plan over a prepared module, on its way.
-#[derive(Drop)]
 pub struct Program<'m> {
     valid: &'m Valid,
     globals: Vec<Value>,
@@ -168,7 +167,7 @@ impl<'m> Program<'m> {
         ensures again { IfOk result (λ event. (event_of event ≡ ended end) × (self.new ≡ record self.old { state = State.Failed end })) }
     {
         let told = copy_end(self.setting.alloc, &end)?;
-        self.state = State::Failed(end);
+        self.put_state(State::Failed(end));
         Ok(Event::Ended(told))
     }
 
@@ -197,7 +196,7 @@ impl<'m> Program<'m> {
     {
         let told = copy_end(self.setting.alloc, &end)?;
         let stage = Stage::Ended(end);
-        self.state = State::Live { instance, stage };
+        self.put_state(State::Live { instance, stage });
         Ok(Event::Ended(told))
     }
 
@@ -225,7 +224,7 @@ impl<'m> Program<'m> {
         )?;
         self.steps_left = steps.left;
         let stage = moved.stage;
-        self.state = State::Live { instance, stage };
+        self.put_state(State::Live { instance, stage });
         Ok(moved.event)
     }
 
@@ -253,8 +252,15 @@ impl<'m> Program<'m> {
         )?;
         self.steps_left = steps.left;
         let stage = moved.stage;
-        self.state = State::Live { instance, stage };
+        self.put_state(State::Live { instance, stage });
         Ok(moved.event)
+    }
+
+    // Where the program stands from here on. What it held there before is dropped.
+    fn put_state(&mut self, state: State<'m>)
+        ensures { self.new ≡ record self.old { state = state.entry } }
+    {
+        self.state = state;
     }
 
     /// Bytes of the memory. None exactly where the program has no instance or the range isn't inside its memory.
@@ -268,6 +274,21 @@ impl<'m> Program<'m> {
             None => None,
             Some(memory) => shown(memory, at, len),
         }
+    }
+}
+
+// Written out and not derived: who holds programs then calls it, and nothing of what a program consists of is dropped there.
+impl Drop for Program<'_> {
+    fn drop(self) {
+        let Program {
+            valid: _,
+            globals: _,
+            setting: _,
+            left: _,
+            answers: _,
+            steps_left: _,
+            state: _,
+        } = self;
     }
 }
 

@@ -1,10 +1,11 @@
 -- Sections that are a module hold no float.
-use Rattle.std.proofs.Common.{◌≡◌, ◌∙◌, ℕ, zero, suc, ◌+◌, ◌<◌, ◌≤◌, ◌⊎◌, inl, inr, List, [], ◌∷◌, ◌++◌, length, map, Bool, true, false, Option, Some, None, All, refl, sym, ap, subst, arith}
-use Rattle.std.specs.Prelude.{nat_le, ◌&&◌, ◌||◌, not, IsTrue}
+use Rattle.std.proofs.Common.{◌≡◌, ◌∙◌, ℕ, ◌+◌, ◌<◌, ◌≤◌, ◌⊎◌, inl, inr, List, [], ◌∷◌, ◌++◌, length, map, Bool, true, false, Option, Some, None, All, refl, sym, ap, arith}
+use Rattle.std.specs.Prelude.{nat_le, ◌||◌, not, IsTrue}
 use Rattle.std.specs.List.{flat_map}
-use Rattle.std.proofs.lemmas.Bool.{and_parts, cases_lt, leb-true, or_cases, or_left, or_right}
+use Rattle.std.proofs.lemmas.Bool.{and_parts, leb-true, or_cases, or_left, or_right}
 use Rattle.std.proofs.lemmas.List.Elements.{All-nil, All-cons, All-head, All-tail}
 use Rattle.wa_types.specs.declared.operators.NumOp.{NumOp}
+use Rattle.wa_types.specs.declared.operators.NumOp.TheVariants.{I32Eqz}
 use Rattle.wa_types.specs.declared.values.Value.TheVariants as V
 use Rattle.wa_types.specs.declared.values.ValType.{ValType}
 use Rattle.wa_types.specs.declared.values.ValType.TheVariants.{I32, I64}
@@ -21,45 +22,21 @@ use Rattle.wa_types.specs.Reading.{globals_in, elements_in, segments_in, IsModul
 use Rattle.wa_types.specs.Spells.{bodies_in}
 use Rattle.wa_types.specs.Syntax.{Basic, nop, drop, select, const, num, global_get, global_set, load, store, memory_size, memory_grow, Plain, basic, local_get, local_set, local_tee, br}
 use Rattle.wa_types.specs.Syntax.{br_if, br_table, return, unreachable, call, call_indirect, Code, done, plain, nest, branch, FuncType, Func, GlobalDef, Elem, Segment, Module}
-use Rattle.wa_types.proofs.OperatorLemmas.{operators, each_operator}
+use Rattle.wa_types.proofs.Ranges.{all_from, passes}
 use Rattle.wasm_reader.proofs.ModulesMade.{join_clear}
 
 -- ---- opcodes
 
-clear : (b : Bool) → not b ≡ true → b ≡ false
-clear true e = cc
-clear false e = refl
-
 num_clear : (op : NumOp) → is_float_op (opcode_of op) ≡ false
-unfolding operators
-num_clear op = clear (is_float_op (opcode_of op)) (each_operator (λ (n : NumOp). not (is_float_op (opcode_of n))) refl op)
-
-first_of : (a b : Bool) → a && b ≡ true → a ≡ true
-first_of true b h = refl
-first_of false b h = h
-
-second_of : (a b : Bool) → a && b ≡ true → b ≡ true
-second_of true b h = h
-second_of false b h = absurd (let g : false ≡ true = h in cc)
-
-below : (ℕ → Bool) → ℕ → Bool
-below p zero = true
-below p (suc n) = p n && below p n
-
-at_each : (p : ℕ → Bool) (n k : ℕ) → k < n → below p n ≡ true → p k ≡ true
-unfolding below
-at_each p zero k l e = absurd (omega (arith, l))
-at_each p (suc n) k l e = elim (cases_lt k n) [
-  | inl less ↦ at_each p n k less (second_of (p n) (below p n) e)
-  | inr most ↦ let same : n ≡ k = omega (arith, l, most) in subst (λ j. p j ≡ true) same (first_of (p n) (below p n) e)
-]
+num_clear I32Eqz = refl
+num_clear _ = refl
 
 -- an opcode of an access is none of a float
 access_test : ℕ → Bool
 access_test op = not (is_load_op op || is_store_op op) || not (is_float_op op)
 
-accesses_pass : below access_test 64 ≡ true
-unfolding below access_test
+accesses_pass : all_from access_test 0 64 ≡ true
+unfolding all_from access_test
 accesses_pass = refl
 
 load_small : (op : ℕ) → is_load_op op ≡ true → op < 64
@@ -76,7 +53,7 @@ store_small op h = elim (or_cases (within 0x36 0x37 op) (within 0x3A 0x3E op) h)
 
 access_clear : (op : ℕ) → op < 64 → is_load_op op || is_store_op op ≡ true → is_float_op op ≡ false
 unfolding access_test
-access_clear op small h = by (is_load_op op || is_store_op op) (is_float_op op) h (at_each access_test 64 op small accesses_pass)
+access_clear op small h = by (is_load_op op || is_store_op op) (is_float_op op) h (passes access_test 0 64 op (omega arith) small accesses_pass)
   where
     by : (a b : Bool) → a ≡ true → not a || not b ≡ true → b ≡ false
     by true true e h = absurd (let g : false ≡ true = h in cc)

@@ -11,11 +11,9 @@ use Rattle.wa_types.specs.declared.values.ValType.TheVariants.{I32, I64}
 use Rattle.wa_types.specs.declared.values.Value.{Value}
 use Rattle.wa_types.specs.declared.values.Value.TheVariants as V
 use Rattle.wa_types.specs.declared.operators.NumOp.{NumOp}
-use Rattle.wa_types.specs.declared.operators.NumOp.TheVariants.{I32Eqz, I32Eq, I32Ne, I32LtS, I32LtU, I32GtS, I32GtU, I32LeS, I32LeU, I32GeS, I32GeU, I64Eqz, I64Eq, I64Ne, I64LtS, I64LtU}
-use Rattle.wa_types.specs.declared.operators.NumOp.TheVariants.{I64GtS, I64GtU, I64LeS, I64LeU, I64GeS, I64GeU, I32Clz, I32Ctz, I32Popcnt, I32Add, I32Sub, I32Mul, I32DivS, I32DivU, I32RemS}
-use Rattle.wa_types.specs.declared.operators.NumOp.TheVariants.{I32RemU, I32And, I32Or, I32Xor, I32Shl, I32ShrS, I32ShrU, I32Rotl, I32Rotr, I64Clz, I64Ctz, I64Popcnt, I64Add, I64Sub, I64Mul}
-use Rattle.wa_types.specs.declared.operators.NumOp.TheVariants.{I64DivS, I64DivU, I64RemS, I64RemU, I64And, I64Or, I64Xor, I64Shl, I64ShrS, I64ShrU, I64Rotl, I64Rotr, I32WrapI64}
-use Rattle.wa_types.specs.declared.operators.NumOp.TheVariants.{I64ExtendI32S, I64ExtendI32U}
+use Rattle.wa_types.specs.declared.operators.NumOp.TheVariants.{I32Eqz, I64Eqz, I32Clz, I32Ctz, I32Popcnt, I32Add, I32Sub, I32Mul, I32DivS, I32DivU, I32RemS, I32RemU, I32And, I32Or, I32Xor}
+use Rattle.wa_types.specs.declared.operators.NumOp.TheVariants.{I32Shl, I32ShrS, I32ShrU, I32Rotl, I32Rotr, I64Clz, I64Ctz, I64Popcnt, I64Add, I64Sub, I64Mul, I64DivS, I64DivU, I64RemS, I64RemU}
+use Rattle.wa_types.specs.declared.operators.NumOp.TheVariants.{I64And, I64Or, I64Xor, I64Shl, I64ShrS, I64ShrU, I64Rotl, I64Rotr, I32WrapI64, I64ExtendI32S, I64ExtendI32U}
 use Rattle.wa_types.specs.Encoding.{same_type}
 use Rattle.wa_types.specs.Operators.{operand_types, result_type}
 use Rattle.wa_types.specs.Sizes.{value_fits}
@@ -45,29 +43,10 @@ MeaningIn _ _ _ = ⊥
 truth : (b : Bool) → cond b 1 0 < 2 ^ 32
 truth b = truth_in (2 ^ 32) (omega arith) b
 
+-- the comparisons are the last clause
 meaning_in : (op : NumOp) → MeaningIn (operand_types op) (result_type op) (meaning_of op)
 meaning_in I32Eqz = λ i h. truth _
-meaning_in I32Eq = λ i j h k. truth _
-meaning_in I32Ne = λ i j h k. truth _
-meaning_in I32LtS = λ i j h k. truth _
-meaning_in I32LtU = λ i j h k. truth _
-meaning_in I32GtS = λ i j h k. truth _
-meaning_in I32GtU = λ i j h k. truth _
-meaning_in I32LeS = λ i j h k. truth _
-meaning_in I32LeU = λ i j h k. truth _
-meaning_in I32GeS = λ i j h k. truth _
-meaning_in I32GeU = λ i j h k. truth _
 meaning_in I64Eqz = λ i h. truth _
-meaning_in I64Eq = λ i j h k. truth _
-meaning_in I64Ne = λ i j h k. truth _
-meaning_in I64LtS = λ i j h k. truth _
-meaning_in I64LtU = λ i j h k. truth _
-meaning_in I64GtS = λ i j h k. truth _
-meaning_in I64GtU = λ i j h k. truth _
-meaning_in I64LeS = λ i j h k. truth _
-meaning_in I64LeU = λ i j h k. truth _
-meaning_in I64GeS = λ i j h k. truth _
-meaning_in I64GeU = λ i j h k. truth _
 meaning_in I32Clz = λ i h. iclz_in 32 width_32 i
 meaning_in I32Ctz = λ i h. ictz_in 32 width_32 i
 meaning_in I32Popcnt = λ i h. ipopcnt_in 32 width_32 i
@@ -107,6 +86,7 @@ meaning_in I64Rotr = λ i j h k. rotr_in 64 width_64 i j h
 meaning_in I32WrapI64 = λ i h. mod_in 32 width_32 i
 meaning_in I64ExtendI32S = λ i h. extend_in 32 64 i (omega arith) (omega arith)
 meaning_in I64ExtendI32U = λ i h. omega arith
+meaning_in _ = λ i j h k. truth _
 
 -- numbers of these types, in order
 abbrev NumbersIn : List ValType → List ℕ → Type 0

@@ -3,7 +3,8 @@
 //! Code that a rewriter adds keeps the original's store: it writes in the area and its own globals alone. Along a stretch of
 //! such reductions a run shows no event and the old store at each cost on the way (`specs/Stretches.antt`), which is what the
 //! headline says of the moments between events. What is expected of a run grows with its cost, and nothing follows an end
-//! (`specs/Growing.antt`). Over stores that fit, machines stop only where all is over (`specs/Stopping.antt`). Its events and its touches of the memory stand in one list, in order (`specs/Seeing.antt`). The host finds the runtime's functions by their exports, and the size rule is kept with them
+//! (`specs/Growing.antt`). Over stores that fit, machines stop only where all is over (`specs/Stopping.antt`). Its events and its touches of the memory
+//! stand in one list, in order (`specs/Seeing.antt`). The host finds the runtime's functions by their exports, and the size rule is kept with them
 //! (`specs/RuntimeParts.antt`). `specs/RewrittenByHand.antt` has a module of four instructions rewritten by
 //! hand, that does what is expected, and wrong rewritings, each of which the definitions tell apart.
 #![tactic(auto)]

@@ -25,7 +25,7 @@ use wa_types::Name;
 use wasm_validate::Valid;
 
 /// A program's module, as it is hosted; and which of its function imports are listed, where it was rewritten.
-#[derive(Debug, Drop)]
+#[derive(Drop)]
 pub(crate) struct Loaded {
     pub valid: Valid,
     pub listed: Option<Vec<bool>>,

@@ -16,7 +16,7 @@ use wa_types::Name;
 use world_hosting::scripts_fit;
 
 /// A script's programs, all set up over their modules, and the devices that it takes out.
-#[derive(Debug, Drop)]
+#[derive(Drop)]
 pub struct Opened {
     pub programs: Programs,
     pub detaches: Vec<Detach>,

@@ -24,7 +24,7 @@ use wasm_validate::Valid;
 
 /// What is planned over a program's module: which of its function imports are listed, where that is told, the program's text, and
 /// what the set-up rules give it.
-#[derive(Debug, Drop)]
+#[derive(Drop)]
 pub struct Planned {
     pub listed: Option<Vec<bool>>,
     pub text: ProgramText,
@@ -32,7 +32,7 @@ pub struct Planned {
 }
 
 /// Programs in order: the module of each, and what is planned over it.
-#[derive(Debug, Drop)]
+#[derive(Drop)]
 pub struct Programs {
     pub modules: Vec<Valid>,
     pub planned: Vec<Planned>,

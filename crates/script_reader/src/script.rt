@@ -4,7 +4,7 @@ use wa_model::{AnswerLine, Area, Detach};
 use wa_types::{Name, Value};
 
 /// The value of the imported globals of a joined name, told at this line.
-#[derive(Debug, Drop)]
+#[derive(Drop)]
 pub struct GlobalText {
     pub line: u32,
     pub name: Name,
@@ -12,14 +12,14 @@ pub struct GlobalText {
 }
 
 /// The device to which the function imports of a joined name are bound.
-#[derive(Debug, Drop)]
+#[derive(Drop)]
 pub struct BindText {
     pub import: Name,
     pub device: Name,
 }
 
 /// One more entry call, told at this line.
-#[derive(Debug, Drop)]
+#[derive(Drop)]
 pub struct EntryText {
     pub line: u32,
     pub name: Name,
@@ -27,7 +27,7 @@ pub struct EntryText {
 }
 
 /// The memory that is shown after the end: its first byte and its length.
-#[derive(Debug, Drop)]
+#[derive(Drop)]
 pub struct ShowText {
     pub line: u32,
     pub at: u32,
@@ -37,7 +37,7 @@ pub struct ShowText {
 /// A program: the line at which it begins, the path of its module, its list of imports where it has one, whether none is
 /// listed, whether live locals alone are saved, its area and the line of it, its number of steps, and its lines of each
 /// kind in order.
-#[derive(Debug, Drop)]
+#[derive(Drop)]
 pub struct ProgramText {
     pub line: u32,
     pub path: Name,
@@ -55,7 +55,7 @@ pub struct ProgramText {
 }
 
 /// The programs of a script, and the devices that are taken out.
-#[derive(Debug, Drop)]
+#[derive(Drop)]
 pub struct Script {
     pub programs: Vec<ProgramText>,
     pub detaches: Vec<Detach>,

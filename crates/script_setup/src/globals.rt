@@ -22,7 +22,7 @@ use std::collections::BTreeMap;
 use wa_types::{Import, ImportKind, ValType, Value};
 
 /// Which types the imported globals of a joined name have.
-#[derive(Clone, Copy, Debug, PartialEq, Eq)]
+#[derive(Clone, Copy)]
 pub(crate) struct Types {
     pub narrow: bool,
     pub wide: bool,

@@ -21,7 +21,7 @@ use wa_types::{Import, Value};
 use wasm_validate::Valid;
 
 /// What a program is given: its entries, the functions that they call, and one value for each imported global.
-#[derive(Debug, Drop)]
+#[derive(Drop)]
 pub struct SetUp {
     pub entries: Vec<Entry>,
     pub funcs: Vec<u32>,
@@ -144,7 +144,7 @@ fn with_values(
 }
 
 /// A line and the rule that it breaks.
-#[derive(Clone, Copy, Debug, PartialEq, Eq)]
+#[derive(Clone, Copy)]
 pub(crate) struct Broken {
     pub line: u32,
     pub rule: u8,

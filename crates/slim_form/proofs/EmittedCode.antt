@@ -309,7 +309,8 @@ module _ (t : Terms) where
         by None q ih e = cc
         by (Some us) q ih e = let a : x ∷ us ≡ xs = cc in subst (λ ys. plain (local_get x) (all_got args c) ≡ slots_got ys c) a (ap (plain (local_get x)) (ih us c q))
 
-    put_ok : (to : ℕ) (pend base : List ℕ) (next : Emission) (c c' : Code) → Fine c next → Slots pend → put t to pend base next ≡ Some c' → L (fr base) (more 1 (shape pend)) (plain (local_set to) c) c'
+    put_ok : (to : ℕ) (pend base : List ℕ) (next : Emission) (c c' : Code) → Fine c next → Slots pend → put t to pend base next ≡ Some c'
+        → L (fr base) (more 1 (shape pend)) (plain (local_set to) c) c'
     put_ok to pend base next c c' fine so e = by (t.slot to) e
       where
         by : (b : Bool) → (if b then only_if (can_keep t to pend) (next (to ∷ pend) (without (to ∷ []) base)) else only_if (not (elem to pend))

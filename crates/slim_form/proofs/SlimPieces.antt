@@ -222,7 +222,8 @@ module _ (t : Terms) (small : (x : ℕ) → t.slot x ≡ true → x < t.size) wh
   pub parts_ok : (n : ℕ) (targets : List (List ℕ)) (out : Option (List ℕ)) (first : Stmts) (us : Units Stmts) → PiecesTold t n first us → Shown n targets out first us
   parts_ok n targets out first no_unit told pend base p so e = by (emit t targets out first pend base) refl e
     where
-      by : (o : Option Code) → emit t targets out first pend base ≡ o → lone_piece o ≡ Some p → Slims t n (map fr targets) (fb out) (fr base) (E.shape t pend) (followed_by (code_of first) done) (joined p)
+      by : (o : Option Code) → emit t targets out first pend base ≡ o → lone_piece o ≡ Some p
+          → Slims t n (map fr targets) (fb out) (fr base) (E.shape t pend) (followed_by (code_of first) done) (joined p)
       by None q e = cc
       by (Some c) q e =
           let a : record { first = c; units = no_unit } ≡ p = cc in

@@ -10,7 +10,7 @@ use std::alloc::AllocError;
 use wa_model::Event;
 
 /// When the program of a turn is due behind an event, and where the host then stands.
-#[derive(Clone, Copy, Debug, PartialEq, Eq)]
+#[derive(Clone, Copy)]
 pub(crate) struct Settled {
     pub due: Option<u64>,
     pub stage: Stage,

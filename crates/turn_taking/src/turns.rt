@@ -19,7 +19,7 @@ use std::alloc::{AllocError, Global};
 use wa_model::{Detach, Line};
 
 /// Where a host stands between two lines: behind whole turns, in a program's turn, or at the shows behind a program's end.
-#[derive(Clone, Copy, Debug, PartialEq, Eq)]
+#[derive(Clone, Copy)]
 pub(crate) enum Stage {
     Between,
     Telling(Turn),

@@ -1,7 +1,7 @@
 -- The operands as a list, and the vector that holds them.
 use Rattle.std.proofs.Common.{arith, ◌≡◌, ℕ, suc, ◌<◌, ◌≤◌, List, [], ◌∷◌, ◌++◌, length, take, drop, reverse, get_or, ◌-◌, Option, Some, None, Bool, true, false, if◌then◌else◌, refl, ap}
 use Rattle.std.proofs.Common.{sym, ◌∙◌, subst, length-drop}
-use Rattle.std.proofs.lemmas.List.{length-reverse, reverse-append, drop-append-le, drop_all}
+use Rattle.std.proofs.lemmas.List.{length-reverse, reverse-append, drop-append-le, drop_all, take_all}
 use Rattle.std.proofs.Math.Seq.{take-suc}
 use Rattle.wa_types.specs.declared.values.ValType.{ValType}
 use Rattle.validate_bodies.specs.Running.{may_be, pop1, pops, ended}
@@ -48,6 +48,11 @@ level_on a b d x y = record {
   kept = subst (λ n. take n d.types.items ≡ take n b.types.items) x.base y.kept ∙ x.kept;
   deep = y.deep;
 }
+
+-- behind a construct whose operands are gone the list is what it was before
+pub restored : (a b d : Operands) → b.types.items ≡ a.types.items → b.base ≡ length a.types.items → Level b d → length d.types.items ≡ b.base → d.types.items ≡ a.types.items
+restored a b d e f l n =
+    sym (take_all b.base d.types.items (omega (arith, n))) ∙ l.kept ∙ ap (take b.base) e ∙ take_all b.base a.types.items (omega (arith, f))
 
 pub ruleset levels = (known_more, known_none, level_on)
 

@@ -121,7 +121,8 @@ pub go_on : (n : StackAfter) (k : ℕ) (go : List (Option ValType) → Bool → 
 go_on (goes os' free') k go os free h = ap (λ z. go z free') (sym h.0) ∙ ap (go os) (sym h.1)
 go_on (stops r) k go os free h = absurd h
 
-pub stop_at : (n : StackAfter) (k : ℕ) (q : Rule) (go : List (Option ValType) → Bool → Verdict) (os : List (Option ValType)) (free : Bool) → Applied n (Some q) os free → onward n k go ≡ fault (number q) k
+pub stop_at : (n : StackAfter) (k : ℕ) (q : Rule) (go : List (Option ValType) → Bool → Verdict) (os : List (Option ValType)) (free : Bool)
+    → Applied n (Some q) os free → onward n k go ≡ fault (number q) k
 stop_at (goes os' free') k q go os free h = absurd h
 stop_at (stops r) k q go os free h = ap (λ z. fault (number z) k) (sym h)
 
@@ -157,6 +158,16 @@ module _ (c : Around) (ls ls' : List (Option ValType)) (body : List Instr) (i : 
 
   pub body_end : length body ≤ i → checks c ls (code body) outs [] false k0 ≡ (if ended outs os free then fine else fault (number StackTypes) k)
   body_end h = ap (λ z. checks c z (code body) outs [] false k0) (sym el) ∙ sym inv ∙ ap (λ z. checks c ls' z outs os free k) (code_empty body i h) ∙ checks_done c ls' outs os free k
+
+-- behind an instruction of a body, whose labels stay
+pub turned : (c : Around) (ls ls' : List (Option ValType)) (body : List Instr) (i : ℕ) (outs : List ValType) (os os' : List (Option ValType)) (free free' : Bool) (k k' k0 : ℕ) (x : Instr) → ls' ≡ ls
+    → i < length body → x ≡ get_or body i x → checks c ls (code (drop i body)) outs os free k ≡ checks c ls (code body) outs [] false k0
+    → checks c ls (in_front x (code (drop (i + 1) body))) outs os free k ≡ checks c ls (code (drop (i + 1) body)) outs os' free' k'
+    → checks c ls' (code (drop (i + 1) body)) outs os' free' k' ≡ checks c ls' (code body) outs [] false k0
+turned c ls ls' body i outs os os' free free' k k' k0 x el h e inv j =
+    ap (λ z. checks c z (code (drop (i + 1) body)) outs os' free' k') el
+    ∙ sym j ∙ sym (ap (λ z. checks c ls z outs os free k) (code_step body i x h e))
+    ∙ inv ∙ ap (λ z. checks c z (code body) outs [] false k0) (sym el)
 
 pub popped_none : (b : Bool) (x : Option (List (Option ValType))) (os : List (Option ValType)) → x ≡ popped b os → b ≡ false → x ≡ None
 popped_none b x os e f = e ∙ ap (λ z. popped z os) f

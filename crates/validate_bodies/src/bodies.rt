@@ -17,14 +17,14 @@ use wa_types::{Instr, Rule, ValType};
 
 /// Why a body wasn't found typed: the rule that fails first, and the number of the instruction, `else` or `end`
 /// where it fails.
-#[derive(Clone, Copy, Debug, PartialEq, Eq)]
+#[derive(Clone, Copy)]
 pub enum BodyFail {
     Memory,
     Invalid { rule: Rule, at: u64 },
 }
 
 /// The same without the place, where the check stops: small enough to be handed up in a register.
-#[derive(Clone, Copy, Debug, PartialEq, Eq)]
+#[derive(Clone, Copy)]
 enum Flaw {
     Memory,
     Breaks(Rule),

@@ -13,7 +13,7 @@ use std::alloc::{AllocError, Global};
 use wa_types::Name;
 
 /// A file with its name.
-#[derive(Debug, Drop)]
+#[derive(Drop)]
 pub struct NamedFile {
     pub name: Name,
     pub bytes: Vec<u8>,

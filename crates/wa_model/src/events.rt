@@ -10,7 +10,7 @@ pub struct Call {
 }
 
 /// What a program does that can be seen from outside.
-#[derive(Debug, Drop)]
+#[derive(Drop)]
 pub enum Event {
     /// It called an import.
     Called(Call),
@@ -27,7 +27,7 @@ pub enum Event {
 }
 
 /// An event of the program of this number, from 0, and the tick at which it began.
-#[derive(Debug, Drop)]
+#[derive(Drop)]
 pub struct Line {
     pub tick: u64,
     pub program: u32,

@@ -68,7 +68,7 @@ pub struct FlatFunc {
 }
 
 /// Flat functions, in index order.
-#[derive(Debug, Drop)]
+#[derive(Drop)]
 pub struct FlatModule {
     pub funcs: Vec<FlatFunc>,
 }

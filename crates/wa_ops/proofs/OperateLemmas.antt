@@ -1,18 +1,17 @@
 -- Operands of an operator's types have an outcome, and a value that comes out is of its result's type.
-use Rattle.std.proofs.Common.{◌≡◌, ℕ, nat_eq, Bool, true, false, List, [], ◌∷◌, map, length, Option, Some, None, Result, Ok, Err, cond, refl, sym, ◌∙◌, ap, subst, arith}
+use Rattle.std.proofs.Common.{◌≡◌, ℕ, Bool, true, false, List, [], ◌∷◌, map, length, Option, Some, None, Result, Ok, Err, cond, refl, sym, ◌∙◌, ap, subst, arith}
 use Rattle.std.specs.Prelude.{IsSome, ◌&&◌}
 use Rattle.std.specs.Option.{option_map}
 use Rattle.std.proofs.lemmas.List.{length-map}
-use Rattle.std.proofs.lemmas.Bool.{eqb-true}
 use Rattle.wa_types.specs.declared.values.Trap.{Trap}
 use Rattle.wa_types.specs.declared.values.ValType.{ValType}
 use Rattle.wa_types.specs.declared.values.ValType.TheVariants.{I32, I64}
 use Rattle.wa_types.specs.declared.values.Value.{Value}
 use Rattle.wa_types.specs.declared.operators.NumOp.{NumOp}
+use Rattle.wa_types.specs.declared.operators.NumOp.TheVariants.{I32Eqz}
 use Rattle.wa_types.specs.Operators.{operand_types, result_type}
 use Rattle.wa_types.specs.Encoding.{same_type}
 use Rattle.wa_types.specs.Typing.{type_of}
-use Rattle.wa_types.proofs.OperatorLemmas.{operators, each_operator}
 use Rattle.wa_ops.specs.Operate.{Meaning, unary, conversion, comparison, binary, meaning_of, number_of, value_of, are_of, applied, valued, operate}
 
 same_type-same : (t : ValType) → same_type t t ≡ true
@@ -31,9 +30,9 @@ arity (comparison f) = 2
 arity (binary f) = 2
 
 arity_is : (op : NumOp) → length (operand_types op) ≡ arity (meaning_of op)
-unfolding operators arity
-arity_is op =
-    eqb-true (length (operand_types op)) (arity (meaning_of op)) (each_operator (λ (n : NumOp). nat_eq (length (operand_types n)) (arity (meaning_of n))) refl op)
+unfolding arity
+arity_is I32Eqz = refl
+arity_is _ = refl
 
 applied_to : (m : Meaning) (numbers : List ℕ) → length numbers ≡ arity m → IsSome (applied m numbers)
 unfolding arity

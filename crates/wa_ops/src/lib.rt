@@ -1,7 +1,7 @@
 //! The numeric operators on integers (standard, section 4.3), each opcode at 32 or 64 bits.
 //!
-//! `OperatorClass::of` says which call takes an operator: `unary`, `convert`, `compare` or `binary`. Operands
-//! stand in the order in which they were pushed. The one law: each call answers what `operate` of
+//! `OperatorClass::of` says which call takes an operator: `unary`, `convert`, `compare` or `binary`; `operand_type` is the type of
+//! its operands. These stand in the order in which they were pushed. The one law: each call answers what `operate` of
 //! `specs/Operate.antt` says of the same operands, topmost first: a value of the operator's result type, or for
 //! `binary` a trap. What the operators mean stands once for both widths in `specs/Integers.antt`.
 //!
@@ -19,7 +19,7 @@ mod loads;
 mod narrow;
 mod wide;
 
-pub use class::OperatorClass;
+pub use class::{OperatorClass, operand_type};
 pub use loads::load_value;
 use wa_types::{NumOp, Trap, Value};
 

@@ -1,14 +1,14 @@
--- Instructions that hold no other, and equal constructs.
-use Rattle.std.proofs.Common.{Bool, true, false, ◌≡◌, List, refl, ap, sym, ◌∙◌, Option}
+-- Instructions that hold no other.
+use Rattle.std.proofs.Common.{Bool, true, false, ◌≡◌, refl, ap, sym, ◌∙◌, Option}
 use Rattle.std.specs.declared.vec.Vec.{Vec}
 use Rattle.std.specs.declared.alloc.Global.{Global}
 use Rattle.wa_types.specs.declared.values.ValType.{ValType}
 use Rattle.wa_types.specs.declared.instrs.Instr.{Instr}
 use Rattle.wa_types.specs.declared.instrs.Instr.TheVariants.{Block, Loop, If, Block', Loop', If'}
 use Rattle.wa_types.specs.Leaves.{is_leaf}
-use Rattle.wa_types.specs.Syntax.{a_block, a_loop, Plain, Code, done, plain, nest, branch}
-use Rattle.wa_types.specs.View.{code, in_front}
-use Rattle.wa_types.proofs.ViewLemmas.{InstrKind, is_block, is_loop, is_if, is_plain, instr_kind, in_block, in_loop, in_if, in_br_table}
+use Rattle.wa_types.specs.Syntax.{Plain, done, plain}
+use Rattle.wa_types.specs.View.{in_front}
+use Rattle.wa_types.proofs.ViewLemmas.{is_block, is_loop, is_if, is_plain, instr_kind, in_br_table}
 
 block_no_leaf : (r : Option ValType) (v : Vec Instr Global) → is_leaf (Block r v) ≡ false
 unfolding is_leaf
@@ -49,15 +49,4 @@ loop_unlike x r v e f = let g : true ≡ false = sym e ∙ ap is_leaf f ∙ loop
 pub if_unlike : (x : Instr) (r : Option ValType) (v w : Vec Instr Global) → is_leaf x ≡ true → x ≡ If r v w → ⊥
 if_unlike x r v w e f = let g : true ≡ false = sym e ∙ ap is_leaf f ∙ if_no_leaf r v w in cc
 
-pub copy_block : (r : Option ValType) (v w : Vec Instr Global) (rest : Code) → code w.items ≡ code v.items → in_front (Block r w) rest ≡ in_front (Block r v) rest
-copy_block r v w rest e = in_block r w rest ∙ ap (λ b. nest a_block r b rest) e ∙ sym (in_block r v rest)
-
-pub copy_loop : (r : Option ValType) (v w : Vec Instr Global) (rest : Code) → code w.items ≡ code v.items → in_front (Loop r w) rest ≡ in_front (Loop r v) rest
-copy_loop r v w rest e = in_loop r w rest ∙ ap (λ b. nest a_loop r b rest) e ∙ sym (in_loop r v rest)
-
-pub copy_if : (r : Option ValType) (v w x y : Vec Instr Global) (rest : Code) → code x.items ≡ code v.items → code y.items ≡ code w.items → in_front (If r x y) rest ≡ in_front (If r v w) rest
-copy_if r v w x y rest e f = in_if r x y rest ∙ ap (λ b. branch r b (code y.items) rest) e ∙ ap (λ b. branch r (code v.items) b rest) f ∙ sym (in_if r v w rest)
-
 pub ruleset copying_leaf = (in_br_table, block_unlike, loop_unlike, if_unlike)
-
-pub ruleset copying_one = (copy_block, copy_loop, copy_if, leaf_other)

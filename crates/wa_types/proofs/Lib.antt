@@ -1,6 +1,6 @@
 pub mod AccessLemmas
-pub mod Copying
 pub mod Cuts
+pub mod DropLemmas
 pub mod FaultLemmas
 pub mod LeafLemmas
 pub mod LebAnswers
@@ -10,6 +10,7 @@ pub mod MemoryLemmas
 pub mod OperatorLemmas
 pub mod PlaceLemmas
 pub mod PointLemmas
+pub mod Ranges
 pub mod SigLemmas
 pub mod SignedReads
 pub mod SignedSpelling

@@ -4,6 +4,7 @@ pub mod Begun
 pub mod Binary
 pub mod Bounds
 pub mod Counts
+pub mod Dropping
 pub mod Encoding
 pub mod FirstFault
 pub mod FrameLaws

@@ -2,7 +2,7 @@
 -- (standard, sections 5.3 and 5.4).
 use Rattle.std.specs.Prelude.{ℕ, length, Option, Some, None, Bool, nat_le, ◌==◌, ◌&&◌, ◌||◌, if◌then◌else◌}
 use Rattle.wa_types.specs.declared.values.Value.TheVariants.{I32 as value_32, I64 as value_64}
-use Rattle.wa_types.specs.Operators.{opcode_of}
+use Rattle.wa_types.specs.Operators.{opcode_of, first_numeric, last_numeric}
 use Rattle.wa_types.specs.Syntax.{Basic, nop, drop, select, const, num, global_get, global_set, load, store, memory_size, memory_grow, Plain, basic, local_get, local_set, local_tee, br}
 use Rattle.wa_types.specs.Syntax.{br_if, br_table, return, unreachable, call, call_indirect}
 use Rattle.wa_types.specs.Binary.{Immediates, nothing, zero_byte, index, index_and_zero, access, labels, constant, float}
@@ -93,7 +93,7 @@ follows op =
     else (if op == 0x42 then Some (a_constant 64)
     else (if op == 0x43 then Some (a_float 4)
     else (if op == 0x44 then Some (a_float 8)
-    else (if within 0x45 0xBF op then Some no_immediate
+    else (if within first_numeric last_numeric op then Some no_immediate
     else None))))))))))))))
 
 -- the form of what follows an opcode (5.4)

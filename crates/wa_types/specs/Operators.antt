@@ -90,3 +90,10 @@ operand_types op = (operator_row op).operands
 -- the type of its result (3.3.1)
 abbrev pub result_type : NumOp → ValType
 result_type op = (operator_row op).gives
+
+-- the least and the greatest opcode of a numeric instruction, on integers or floats (5.4.5)
+abbrev pub first_numeric : ℕ
+first_numeric = 0x45
+
+abbrev pub last_numeric : ℕ
+last_numeric = 0xBF

@@ -7,7 +7,7 @@ use std::marker::Model;
 
 /// What a module may hold at most. There are two sets of bounds: those of a source module, and the wider ones of a
 /// prepared module, which has the runtime's parts.
-#[derive(Debug, Drop)]
+#[derive(Drop)]
 pub struct Bounds {
     file: u32,
     functions: u32,
@@ -25,7 +25,9 @@ impl Model for Bounds {
 
     ghost view = { λ b. record { file = b.file; functions = b.functions; parameters = b.parameters; body = b.body; nesting = b.nesting; locals = b.locals } };
 
-    ghost invariant = { λ b. (record { file = b.file; functions = b.functions; parameters = b.parameters; body = b.body; nesting = b.nesting; locals = b.locals } ≡ source_bounds) ⊎ (record { file = b.file; functions = b.functions; parameters = b.parameters; body = b.body; nesting = b.nesting; locals = b.locals } ≡ prepared_bounds) };
+    ghost invariant = { λ b.
+        (record { file = b.file; functions = b.functions; parameters = b.parameters; body = b.body; nesting = b.nesting; locals = b.locals } ≡ source_bounds)
+        ⊎ (record { file = b.file; functions = b.functions; parameters = b.parameters; body = b.body; nesting = b.nesting; locals = b.locals } ≡ prepared_bounds) };
 }
 
 impl Bounds {

@@ -11,9 +11,10 @@
 
 mod bounds;
 mod control;
-mod copy;
+mod drops;
 mod frame_laws;
 mod instrs;
+mod leaves;
 mod leb;
 mod names;
 mod operators;
@@ -24,15 +25,16 @@ mod values;
 mod weights;
 
 pub use bounds::{Bounds, LimitKind};
-pub use copy::{copy_around, copy_body, copy_func, copy_leaf, copy_module};
-pub use frame_laws::{live_is_path, one_each_call, slots_are_pairs};
+pub use drops::drop_body;
+pub use frame_laws::slot_and_live_laws;
 pub use instrs::Instr;
+pub use leaves::copy_leaf;
 pub use leb::{
     LebFault, Spelling, read_s32, read_s64, read_u32, signed_spelling_laws, unsigned_spelling_laws,
     write_s32, write_s64, write_u32,
 };
 pub use names::Name;
-pub use operators::NumOp;
+pub use operators::{LAST_NUMERIC, NumOp};
 pub use rules::Rule;
 pub use syntax::{
     Custom, Elem, Export, Func, FuncType, GlobalDef, Import, ImportKind, Limits, Module, Run,

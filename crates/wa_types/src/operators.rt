@@ -1,7 +1,10 @@
 //! Numeric operators on integers, by their opcodes (standard, sections 2.4.1 and 5.4.5).
 
+/// The greatest opcode of a numeric instruction, on integers or floats (standard, section 5.4.5).
+pub const LAST_NUMERIC: u8 = 0xBF;
+
 /// A numeric operator (standard, sections 2.4.1 and 5.4.5); its number is its opcode.
-#[derive(Clone, Copy, Debug, PartialEq, Eq)]
+#[derive(Clone, Copy, Debug)]
 pub enum NumOp {
     I32Eqz = 0x45,
     I32Eq = 0x46,
@@ -66,8 +69,74 @@ pub enum NumOp {
     I64ExtendI32U = 0xAD,
 }
 
+// All operators, by rising opcode (standard, section 5.4.5). The last three are found by name below; proofs read the whole list.
+const OPERATORS: [NumOp; 61] = [
+    NumOp::I32Eqz,
+    NumOp::I32Eq,
+    NumOp::I32Ne,
+    NumOp::I32LtS,
+    NumOp::I32LtU,
+    NumOp::I32GtS,
+    NumOp::I32GtU,
+    NumOp::I32LeS,
+    NumOp::I32LeU,
+    NumOp::I32GeS,
+    NumOp::I32GeU,
+    NumOp::I64Eqz,
+    NumOp::I64Eq,
+    NumOp::I64Ne,
+    NumOp::I64LtS,
+    NumOp::I64LtU,
+    NumOp::I64GtS,
+    NumOp::I64GtU,
+    NumOp::I64LeS,
+    NumOp::I64LeU,
+    NumOp::I64GeS,
+    NumOp::I64GeU,
+    NumOp::I32Clz,
+    NumOp::I32Ctz,
+    NumOp::I32Popcnt,
+    NumOp::I32Add,
+    NumOp::I32Sub,
+    NumOp::I32Mul,
+    NumOp::I32DivS,
+    NumOp::I32DivU,
+    NumOp::I32RemS,
+    NumOp::I32RemU,
+    NumOp::I32And,
+    NumOp::I32Or,
+    NumOp::I32Xor,
+    NumOp::I32Shl,
+    NumOp::I32ShrS,
+    NumOp::I32ShrU,
+    NumOp::I32Rotl,
+    NumOp::I32Rotr,
+    NumOp::I64Clz,
+    NumOp::I64Ctz,
+    NumOp::I64Popcnt,
+    NumOp::I64Add,
+    NumOp::I64Sub,
+    NumOp::I64Mul,
+    NumOp::I64DivS,
+    NumOp::I64DivU,
+    NumOp::I64RemS,
+    NumOp::I64RemU,
+    NumOp::I64And,
+    NumOp::I64Or,
+    NumOp::I64Xor,
+    NumOp::I64Shl,
+    NumOp::I64ShrS,
+    NumOp::I64ShrU,
+    NumOp::I64Rotl,
+    NumOp::I64Rotr,
+    NumOp::I32WrapI64,
+    NumOp::I64ExtendI32S,
+    NumOp::I64ExtendI32U,
+];
+
 impl NumOp {
-    ghost use Rattle.std.specs.Prelude.{◌≡◌};
+    ghost use Rattle.std.specs.Prelude.{◌≡◌, Some};
+    ghost use Rattle.wa_types.specs.declared.operators.NumOp.{NumOp};
     ghost use Rattle.wa_types.specs.Operators.{opcode_of};
 
     /// The operator's opcode (standard, section 5.4.5).
@@ -75,5 +144,22 @@ impl NumOp {
         ensures { result ≡ opcode_of self }
     {
         self as u8
+    }
+
+    /// The operator of an opcode; None for that of another instruction (standard, section 5.4.5).
+    #[inline(always)]
+    pub fn of_opcode(op: u8) -> Option<NumOp>
+        ensures named { (n : NumOp) → op ≡ opcode_of n → result ≡ Some n }
+        ensures names { (n : NumOp) → result ≡ Some n → op ≡ opcode_of n }
+    {
+        // In the array 22 operators stand before that of 0x67.
+        match op {
+            0x45..=0x5A => Some(OPERATORS[(op - 0x45) as usize]),
+            0x67..=0x8A => Some(OPERATORS[(op - 0x51) as usize]),
+            0xA7 => Some(NumOp::I32WrapI64),
+            0xAC => Some(NumOp::I64ExtendI32S),
+            0xAD => Some(NumOp::I64ExtendI32U),
+            _ => None,
+        }
     }
 }

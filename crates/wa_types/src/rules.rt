@@ -1,7 +1,7 @@
 //! The rules of validity, by their numbers (standard, section 3).
 
 /// A rule of validity (standard, section 3), by what fails; its number is the one that is printed.
-#[derive(Clone, Copy, Debug, PartialEq, Eq)]
+#[derive(Clone, Copy, Debug)]
 pub enum Rule {
     UnknownType = 1,
     UnknownFunc = 2,

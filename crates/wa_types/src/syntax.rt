@@ -1,5 +1,6 @@
 //! Modules and what they list: types, imports, functions, tables, memories, globals, exports, segments (standard, section 2.5).
 
+use crate::drops::drop_body;
 use crate::instrs::Instr;
 use crate::names::Name;
 use crate::values::ValType;
@@ -12,7 +13,7 @@ pub struct FuncType {
 }
 
 /// So many locals of one type, one behind another (standard, section 5.5.13).
-#[derive(Clone, Copy, Debug, PartialEq, Eq)]
+#[derive(Clone, Copy, Debug)]
 pub struct Run {
     pub count: u32,
     pub ty: ValType,
@@ -20,31 +21,53 @@ pub struct Run {
 
 /// A defined function (standard, section 2.5.3): the index of its type, its declared locals in runs, its
 /// body without the end.
-#[derive(Debug, Drop)]
+#[derive(Debug)]
 pub struct Func {
     pub sort: u32,
     pub locals: Vec<Run>,
     pub body: Vec<Instr>,
 }
 
+impl Drop for Func {
+    fn drop(self) {
+        let Func {
+            sort: _,
+            locals: _,
+            body,
+        } = self;
+        drop_body(body);
+    }
+}
+
 /// The limits of a table in entries, or of a memory in pages of 65,536 bytes (standard, section 2.3.4).
-#[derive(Clone, Copy, Debug, PartialEq, Eq)]
+#[derive(Clone, Copy, Debug)]
 pub struct Limits {
     pub min: u32,
     pub max: Option<u32>,
 }
 
 /// A defined global (standard, section 2.5.6); `init` is its initialiser without the end.
-#[derive(Debug, Drop)]
+#[derive(Debug)]
 pub struct GlobalDef {
     pub ty: ValType,
     pub mutable: bool,
     pub init: Vec<Instr>,
 }
 
+impl Drop for GlobalDef {
+    fn drop(self) {
+        let GlobalDef {
+            ty: _,
+            mutable: _,
+            init,
+        } = self;
+        drop_body(init);
+    }
+}
+
 /// What is imported (standard, section 2.5.11): a function by the index of its type, a table, a memory, or
 /// a global by its type and whether it is mutable.
-#[derive(Clone, Copy, Debug, PartialEq, Eq)]
+#[derive(Clone, Copy, Debug)]
 pub enum ImportKind {
     Func(u32),
     Table(Limits),
@@ -61,7 +84,7 @@ pub struct Import {
 }
 
 /// The index space of an export (standard, section 2.5.1).
-#[derive(Clone, Copy, Debug, PartialEq, Eq)]
+#[derive(Clone, Copy, Debug)]
 pub enum Space {
     Func,
     Table,
@@ -78,19 +101,41 @@ pub struct Export {
 }
 
 /// An element segment (standard, section 2.5.7); `offset` is an expression without its end.
-#[derive(Debug, Drop)]
+#[derive(Debug)]
 pub struct Elem {
     pub table: u32,
     pub offset: Vec<Instr>,
     pub funcs: Vec<u32>,
 }
 
+impl Drop for Elem {
+    fn drop(self) {
+        let Elem {
+            table: _,
+            offset,
+            funcs: _,
+        } = self;
+        drop_body(offset);
+    }
+}
+
 /// A data segment (standard, section 2.5.8); `offset` is an expression without its end.
-#[derive(Debug, Drop)]
+#[derive(Debug)]
 pub struct Segment {
     pub memory: u32,
     pub offset: Vec<Instr>,
     pub bytes: Vec<u8>,
+}
+
+impl Drop for Segment {
+    fn drop(self) {
+        let Segment {
+            memory: _,
+            offset,
+            bytes: _,
+        } = self;
+        drop_body(offset);
+    }
 }
 
 /// A custom section (standard, section 5.5.3). It stands behind all known sections of an id up to `after`;
@@ -103,7 +148,7 @@ pub struct Custom {
 }
 
 /// A module (standard, section 2.5). Its lists are in index order, imports before what is defined.
-#[derive(Debug, Drop)]
+#[derive(Debug)]
 pub struct Module {
     pub types: Vec<FuncType>,
     pub imports: Vec<Import>,
@@ -116,4 +161,23 @@ pub struct Module {
     pub elems: Vec<Elem>,
     pub segments: Vec<Segment>,
     pub customs: Vec<Custom>,
+}
+
+// Written out and not derived: who holds a module then calls it, and nothing of what a module consists of is dropped there.
+impl Drop for Module {
+    fn drop(self) {
+        let Module {
+            types: _,
+            imports: _,
+            funcs: _,
+            tables: _,
+            memories: _,
+            globals: _,
+            exports: _,
+            start: _,
+            elems: _,
+            segments: _,
+            customs: _,
+        } = self;
+    }
 }

@@ -298,11 +298,6 @@ turn_close q levels low l body new_body e on there err = λ old here new r n.
     by_answer q old new low new_body on (ok_by q (λ h. run_close old here new levels low l body.items new_body.items r n e h) there)
     (err_by q (λ d. d ≡ Memory) (λ d. Builds view SpelledExpression (Err d) old new) (λ d e. memory_is old new d e) err)
 
--- an exit with the fault of a turn
-pub turn_fails : {old last : Place} {d y : BuildFault} {q : Result (Vec Instr Global) BuildFault} → q ≡ Err y → y ≡ d → Builds view SpelledExpression (Err d) old last
-    → Builds view SpelledExpression q old last
-turn_fails e f n = record { built = λ tail c end b. fails view tail _ c _ end _ _ e f (n.built tail c end b) }
-
 -- a fault of what stands next
 pub turned_stop : {old here new : Place} {levels : List Level} {got : List Instr} (new_levels : List Level) (body : Vec Instr Global) (q : Result Bool BuildFault) (y : BuildFault)
     → q ≡ Err y → BuildsNext (Err y) here new → Running old levels got here → Turned q old new_levels body new

@@ -6,10 +6,9 @@ use Rattle.wa_types.specs.Leb.{IsUnsigned}
 use Rattle.std.proofs.lemmas.List.{take-append-drop, drop_more, drop_all, drop-drop}
 use Rattle.wa_types.specs.declared.syntax.Func.{Func as FuncValue}
 use Rattle.wa_types.specs.Binary.{Section as PlainSection, section_id}
-use Rattle.wa_types.specs.Encoding.{preamble}
 use Rattle.wa_types.specs.Syntax.{Func, Module}
 use Rattle.wa_types.specs.View.{func_of}
-use Rattle.wa_types.specs.Spells.{◌▸◌, Exactly, Items, Sized, Vector, ContentOf, SectionOf}
+use Rattle.wa_types.specs.Spells.{◌▸◌, Items, Sized, Vector, ContentOf, SectionOf}
 use Rattle.file_laws.proofs.Items.{same_cut}
 use Rattle.wasm_cursor.specs.Places.{Place, with_more, place_at}
 use Rattle.wasm_build.specs.declared.BuildFault.{BuildFault}
@@ -25,7 +24,7 @@ use Rattle.wasm_build.specs.Builds.{Between, Builds}
 use Rattle.wasm_build.specs.BuildsModule.{State, state_of, nothing_yet, Adds, AddsAll, SpelledSingle, SpelledSections}
 use Rattle.wasm_build.specs.BuildsSections.{SpelledBody, SpelledFunc, body_of}
 use Rattle.wasm_build.specs.BuildsEntries.{id_of, AreOf, IsOther, Item, SpelledItem, with_items, SpelledEntry}
-use Rattle.wasm_build.specs.BuildsPieces.{with_funcs, SpelledBodies, SpelledEntries, AheadOf, stage_behind, stage_before, Comes, Coming, Stepped, Steps, Taken, Takes}
+use Rattle.wasm_build.specs.BuildsPieces.{with_funcs, SpelledBodies, AheadOf, stage_behind, stage_before, Comes, Coming, Stepped, Steps, Taken, Takes}
 use Rattle.wasm_build.specs.Extents.{Extent, NumberAt, NoNumberAt, EndsAt, NoEnd}
 use Rattle.wasm_build.proofs.Betweens.{map_append, built_alone}
 use Rattle.wasm_build.proofs.FuncParts.{plain_body, as_body}

@@ -1,5 +1,5 @@
 -- Which instruction that holds no other has an opcode and what follows it.
-use Rattle.std.proofs.Common.{◌≡◌, ℕ, ◌<◌, ◌≤◌, Option, Some, refl, ap, sym, ◌∙◌, arith, cond, nat_eq}
+use Rattle.std.proofs.Common.{◌≡◌, ℕ, ◌<◌, ◌≤◌, Some, refl, ap, sym, ◌∙◌, arith, cond, nat_eq}
 use Rattle.wa_types.specs.declared.instrs.Instr.{Instr}
 use Rattle.wa_types.specs.declared.instrs.Instr.TheVariants.{Num, Load, Store}
 use Rattle.wa_types.specs.declared.values.Value.TheVariants.{I32 as value_32, I64 as value_64}
@@ -13,6 +13,7 @@ use Rattle.wa_types.specs.Reading.{HasKind}
 use Rattle.wa_types.specs.Opcodes.{plain_immediates, plain_opcode}
 use Rattle.wa_types.proofs.OperatorLemmas.{operator_low}
 use Rattle.file_laws.proofs.CodeWriting.{load_range, store_range}
+use Rattle.file_laws.proofs.PlainOf.{plain_of, num_again, plain_again}
 use Rattle.wasm_build.specs.BuildsCode.{code_of_one, NamesPlain}
 
 -- the instructions that an index follows
@@ -86,38 +87,12 @@ named_simple i op k a small b = record {
   named = λ p h e f. let n = sym a ∙ e in b ∙ ap (λ q. plain q done) (ap simple_at n ∙ simple_again p (omega (arith, n, small)) f);
 }
 
-some_injective : (m n : NumOp) (r : Option NumOp) → r ≡ Some m → r ≡ Some n → m ≡ n
-some_injective m n r e f = cc
+named_operator : (n : NumOp) (op : ℕ) → op ≡ opcode_of n → (p : Plain) → HasKind p → op ≡ plain_opcode p → plain_immediates p ≡ nothing → basic (num n) ≡ p
+named_operator n op a p h e f = sym (num_again n) ∙ (λ i. plain_of ((sym a ∙ e) i) (sym f i)) ∙ plain_again p h
 
-named_operator : (n : NumOp) (op : ℕ) (r : Option NumOp) → r ≡ Some n → ((m : NumOp) → op ≡ opcode_of m → r ≡ Some m) → (op ≡ 0x00 → ⊥) → (op ≡ 0x01 → ⊥) → (op ≡ 0x0F → ⊥) → (op ≡ 0x1A → ⊥)
-    → (op ≡ 0x1B → ⊥) → (p : Plain) → op ≡ plain_opcode p → plain_immediates p ≡ nothing → code_of_one (Num n) ≡ plain p done
+pub names_operator : (n : NumOp) (op : ℕ) → op ≡ opcode_of n → NamesPlain op nothing (Some (Num n))
 unfolding in_front
-named_operator n op r q f a b k d w (basic nop) e o = absurd (b e)
-named_operator n op r q f a b k d w (basic drop) e o = absurd (d e)
-named_operator n op r q f a b k d w (basic select) e o = absurd (w e)
-named_operator n op r q f a b k d w (basic (const (value_32 v))) e o = absurd (cc)
-named_operator n op r q f a b k d w (basic (const (value_64 v))) e o = absurd (cc)
-named_operator n op r q f a b k d w (basic (num m)) e o = ap (λ z. plain (basic (num z)) done) (some_injective n m r q (f m e))
-named_operator n op r q f a b k d w (basic (global_get y)) e o = absurd (cc)
-named_operator n op r q f a b k d w (basic (global_set y)) e o = absurd (cc)
-named_operator n op r q f a b k d w (basic (load oc align offset)) e o = absurd (cc)
-named_operator n op r q f a b k d w (basic (store oc align offset)) e o = absurd (cc)
-named_operator n op r q f a b k d w (basic memory_size) e o = absurd (cc)
-named_operator n op r q f a b k d w (basic memory_grow) e o = absurd (cc)
-named_operator n op r q f a b k d w (local_get y) e o = absurd (cc)
-named_operator n op r q f a b k d w (local_set y) e o = absurd (cc)
-named_operator n op r q f a b k d w (local_tee y) e o = absurd (cc)
-named_operator n op r q f a b k d w (br y) e o = absurd (cc)
-named_operator n op r q f a b k d w (br_if y) e o = absurd (cc)
-named_operator n op r q f a b k d w (br_table targets l) e o = absurd (cc)
-named_operator n op r q f a b k d w return e o = absurd (k e)
-named_operator n op r q f a b k d w unreachable e o = absurd (a e)
-named_operator n op r q f a b k d w (call y) e o = absurd (cc)
-named_operator n op r q f a b k d w (call_indirect y) e o = absurd (cc)
-
-pub names_operator : (n : NumOp) (op : ℕ) (r : Option NumOp) → r ≡ Some n → ((m : NumOp) → op ≡ opcode_of m → r ≡ Some m) → (op ≡ 0x00 → ⊥) → (op ≡ 0x01 → ⊥) → (op ≡ 0x0F → ⊥)
-    → (op ≡ 0x1A → ⊥) → (op ≡ 0x1B → ⊥) → NamesPlain op nothing (Some (Num n))
-names_operator n op r q f a b k d w = record { named = λ p h e o. named_operator n op r q f a b k d w p e o }
+names_operator n op a = record { named = λ p h e f. ap (λ q. plain q done) (named_operator n op a p h e f) }
 
 access_same : (a o c d : ℕ) → access a o ≡ access c d → (a ≡ c) × (o ≡ d)
 access_same a o c d e = ((let p : a ≡ c = cc in p), (let p : o ≡ d = cc in p))

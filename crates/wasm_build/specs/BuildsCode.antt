@@ -2,12 +2,12 @@
 use Rattle.std.specs.Prelude.{◌≡◌, ℕ, List, [], ◌∷◌, ◌++◌, Bool, true, false, Option, Some, None, Result, Ok, Err}
 use Rattle.wa_types.specs.declared.values.ValType.{ValType}
 use Rattle.wa_types.specs.declared.instrs.Instr.{Instr}
-use Rattle.wa_types.specs.declared.instrs.Instr.TheVariants.{Num}
 use Rattle.wa_types.specs.declared.operators.NumOp.{NumOp}
 use Rattle.wa_types.specs.Syntax.{Plain, Shape, a_block, a_loop, Code, done, plain, nest, branch}
 use Rattle.wa_types.specs.View.{in_front}
-use Rattle.wa_types.specs.Binary.{Immediates, nothing}
-use Rattle.wa_types.specs.Opcodes.{follows, form, no_immediate, plain_immediates, plain_opcode}
+use Rattle.wa_types.specs.Binary.{Immediates}
+use Rattle.wa_types.specs.Operators.{opcode_of}
+use Rattle.wa_types.specs.Opcodes.{follows, form, plain_immediates, plain_opcode}
 use Rattle.wa_types.specs.Spells.{◌▸◌, BlockType, ImmediatesOf, CodeOf}
 use Rattle.wa_types.specs.Reading.{HasKind, IsCode}
 use Rattle.wasm_build.specs.declared.BuildFault.{BuildFault}
@@ -97,6 +97,6 @@ abbrev pub Puts : (op : ℕ) → Result Bool BuildFault → (old new : List Inst
 Puts op (Ok ended) old new here there = (instr : Instr) × (ended ≡ false) × (new ≡ old ++ instr ∷ []) × Builds code_of_one (SpelledPlain op) (Ok instr) here there
 Puts op (Err e) old new here there = Builds code_of_one (SpelledPlain op) (Err e) here there
 
--- the same of a numeric instruction, whatever opcode it has
+-- the same of the instruction of a numeric operator
 abbrev pub PutsNumber : NumOp → Result Bool BuildFault → (old new : List Instr) → Type 0
-PutsNumber n result old new = (op : ℕ) (here : Place) → follows op ≡ Some no_immediate → NamesPlain op nothing (Some (Num n)) → Puts op result old new here here
+PutsNumber n result old new = (op : ℕ) (here : Place) → op ≡ opcode_of n → Puts op result old new here here

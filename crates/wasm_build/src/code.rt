@@ -8,14 +8,15 @@ ghost use Rattle.wasm_build.specs.BuildsCode.{SpelledExpression, Puts, PutsNumbe
 ghost use Rattle.wasm_build.specs.BuildsLevels.{Running, Turned};
 
 use crate::BuildFault;
-use crate::levels::{Level, Opened, end, open, turn};
-use crate::plain::{arithmetic, comparison, plain};
+use crate::levels::{Level, Opened, discard, end, open, turn};
+use crate::plain::plain;
 use crate::types::block_type;
 use std::alloc::Global;
 use wa_types::{Instr, NumOp};
 use wasm_cursor::Cursor;
 
 /// An expression (standard, section 5.4.6): the instructions up to their end. Constructs that are open wait on a stack.
+/// Where it fails, `discard` drops what was built.
 pub(crate) fn expression(alloc: Global, input: &mut Cursor<'_>) -> Result<Vec<Instr>, BuildFault>
     ensures built { Builds (λ v. code v.items) SpelledExpression result input.old input.new }
     ensures left { length input.new.left ≤ length input.old.left }
@@ -24,8 +25,13 @@ pub(crate) fn expression(alloc: Global, input: &mut Cursor<'_>) -> Result<Vec<In
     // A level of one instruction takes room for no more.
     let mut body = Vec::with_capacity(alloc, 1)?;
     loop {
-        if go_on(alloc, input, &mut levels, &mut body)? {
-            return Ok(body);
+        match go_on(alloc, input, &mut levels, &mut body) {
+            Ok(true) => return Ok(body),
+            Ok(false) => {}
+            Err(fault) => {
+                discard(levels, body);
+                return Err(fault);
+            }
         }
     }
 }
@@ -133,10 +139,9 @@ fn put_numeric(
     ensures puts { Puts op result body.old.items body.new.items input.old input.new }
     ensures left { length input.new.left ≤ length input.old.left }
 {
-    match op {
-        0x45..=0x5A => put_number(body, comparison(op)),
-        0x67..=0x8A => put_number(body, arithmetic(op)),
-        _ => put_one(alloc, input, body, op),
+    match NumOp::of_opcode(op) {
+        Some(n) => put_number(body, n),
+        None => put_one(alloc, input, body, op),
     }
 }
 

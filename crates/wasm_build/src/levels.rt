@@ -11,7 +11,7 @@ ghost use Rattle.wasm_build.specs.BuildsLevels.{IsTurned, IsLost, Turns, closed}
 use crate::BuildFault;
 use std::alloc::Global;
 use std::mem;
-use wa_types::{Instr, ValType};
+use wa_types::{Instr, ValType, drop_body};
 
 /// Which body of a construct is being read.
 #[derive(Drop)]
@@ -152,5 +152,21 @@ fn construct(alloc: Global, ty: Option<ValType>, opened: Opened, inner: Vec<Inst
             then_arm,
             else_arm: inner,
         },
+    }
+}
+
+/// Drops what was built of an expression that isn't read to its end. Takes the same native stack however deep it nests.
+pub(crate) fn discard(levels: Vec<Level>, body: Vec<Instr>) {
+    drop_body(body);
+    for level in levels {
+        let Level {
+            before,
+            ty: _,
+            opened,
+        } = level;
+        drop_body(before);
+        if let Opened::Else(then_arm) = opened {
+            drop_body(then_arm);
+        }
     }
 }

@@ -1,28 +1,8 @@
 -- The table of what follows an opcode, by ranges: each is computed over all of its opcodes.
-use Rattle.std.proofs.Common.{◌≡◌, ℕ, zero, suc, ◌+◌, ◌<◌, ◌≤◌, ◌⊎◌, inl, inr, Bool, true, false, Option, Some, None, refl, subst, arith, nat_eq, nat_le, ◌&&◌}
-use Rattle.std.proofs.Math.Nat.{eq-or-lt_of_le}
-use Rattle.wa_types.specs.Opcodes.{Form, no_immediate, a_zero, an_index, an_access, follows, within}
-
--- a test that so many numbers from this one on pass
-all_from : (ℕ → Bool) → (low n : ℕ) → Bool
-all_from p low zero = true
-all_from p low (suc n) = p low && all_from p (suc low) n
-
-first_holds : (a b : Bool) → (a && b) ≡ true → a ≡ true
-first_holds true b e = refl
-first_holds false b e = cc
-
-rest_holds : (a b : Bool) → (a && b) ≡ true → b ≡ true
-rest_holds true b e = e
-rest_holds false b e = cc
-
-passes : (p : ℕ → Bool) (low n op : ℕ) → low ≤ op → op < low + n → all_from p low n ≡ true → p op ≡ true
-unfolding all_from
-passes p low zero op h k e = absurd (omega (arith, h, k))
-passes p low (suc n) op h k e = elim (eq-or-lt_of_le {n = low} {m = op} h) [
-  | inl same ↦ subst (λ z. p z ≡ true) same (first_holds (p low) (all_from p (suc low) n) e)
-  | inr less ↦ passes p (suc low) n op less (omega (arith, k)) (rest_holds (p low) (all_from p (suc low) n) e)
-]
+use Rattle.std.proofs.Common.{◌≡◌, ℕ, suc, ◌+◌, ◌-◌, ◌<◌, ◌≤◌, Bool, true, false, Option, Some, None, refl, arith}
+use Rattle.wa_types.specs.Operators.{first_numeric, last_numeric}
+use Rattle.wa_types.specs.Opcodes.{Form, no_immediate, a_zero, an_index, an_access, follows}
+use Rattle.wa_types.proofs.Ranges.{all_from, passes}
 
 -- two of the forms that ranges of opcodes have
 is : Option Form → Option Form → Bool
@@ -69,9 +49,9 @@ pub row_63 : (op : ℕ) → 63 ≤ op → op ≤ 64 → follows op ≡ Some a_ze
 unfolding follows all_from is
 row_63 op h k = row (Some a_zero) 63 2 op h (omega (arith, k)) refl
 
-pub row_69 : (op : ℕ) → 69 ≤ op → op ≤ 191 → follows op ≡ Some no_immediate
+pub row_numeric : (op : ℕ) → first_numeric ≤ op → op ≤ last_numeric → follows op ≡ Some no_immediate
 unfolding follows all_from is
-row_69 op h k = row (Some no_immediate) 69 123 op h (omega (arith, k)) refl
+row_numeric op h k = row (Some no_immediate) first_numeric (suc last_numeric - first_numeric) op h (omega (arith, k)) refl
 
 pub gap_2 : (op : ℕ) → 2 ≤ op → op ≤ 11 → follows op ≡ None
 unfolding follows all_from is
@@ -88,36 +68,3 @@ gap_28 op h k = row None 28 4 op h (omega (arith, k)) refl
 pub gap_37 : (op : ℕ) → 37 ≤ op → op ≤ 39 → follows op ≡ None
 unfolding follows all_from is
 gap_37 op h k = row None 37 3 op h (omega (arith, k)) refl
-
-past : (a b : ℕ) → b < a → nat_le a b ≡ false
-past a b h = grind (arith)
-
-other : (op k : ℕ) → k < op → nat_eq op k ≡ false
-other op k h = grind (arith)
-
-and_no : (b : Bool) → (b && false) ≡ false
-and_no true = refl
-and_no false = refl
-
-above : (low high op : ℕ) → high < op → within low high op ≡ false
-above low high op h = rw (past op high h) (and_no (nat_le low op))
-
-pub gap_192 : (op : ℕ) → 192 ≤ op → follows op ≡ None
-unfolding follows
-gap_192 op h = rw (
-  above 0 1 op (omega arith),
-  above 12 13 op (omega arith),
-  other op 14 (omega arith),
-  other op 15 (omega arith),
-  other op 16 (omega arith),
-  other op 17 (omega arith),
-  above 26 27 op (omega arith),
-  above 32 36 op (omega arith),
-  above 40 62 op (omega arith),
-  above 63 64 op (omega arith),
-  other op 65 (omega arith),
-  other op 66 (omega arith),
-  other op 67 (omega arith),
-  other op 68 (omega arith),
-  above 69 191 op (omega arith),
-) refl

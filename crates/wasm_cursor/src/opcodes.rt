@@ -4,8 +4,10 @@ ghost use Rattle.std.specs.Prelude.{◌≡◌};
 ghost use Rattle.wa_types.specs.Opcodes.{follows};
 ghost use Rattle.wasm_cursor.specs.Forms.{follows_of};
 
+use wa_types::LAST_NUMERIC;
+
 /// What follows an opcode that is no construct's and no end (standard, sections 5.4.1 to 5.4.5).
-#[derive(Clone, Copy, Debug, PartialEq, Eq, Drop)]
+#[derive(Clone, Copy, Drop)]
 pub enum ImmediateForm {
     Nothing,
     /// One zero byte.
@@ -28,6 +30,7 @@ pub enum ImmediateForm {
 }
 
 /// What follows this opcode.
+#[tactic(auto, using(crate::proofs::OpcodeRows::row_numeric))]
 #[inline(always)]
 pub fn immediate_form(op: u8) -> Option<ImmediateForm>
     ensures { follows_of result ≡ follows op }
@@ -47,7 +50,7 @@ pub fn immediate_form(op: u8) -> Option<ImmediateForm>
         0x42 => Some(ImmediateForm::Constant64),
         0x43 => Some(ImmediateForm::Float4),
         0x44 => Some(ImmediateForm::Float8),
-        0x45..=0xBF => Some(ImmediateForm::Nothing),
+        0x45..=LAST_NUMERIC => Some(ImmediateForm::Nothing),
         _ => None,
     }
 }

@@ -8,7 +8,7 @@ ghost use Rattle.wasm_goals.specs.Ends.{by_closing, lowered};
 use crate::goals::Goal;
 
 /// How a goal stands to a place in the file.
-#[derive(Clone, Copy, Debug, PartialEq, Eq)]
+#[derive(Clone, Copy)]
 pub(crate) enum Closing {
     /// It is still wanted there.
     Wanted,

@@ -3,7 +3,7 @@
 ghost use Rattle.std.specs.Prelude.{◌<◌};
 
 /// What a vector counts (standard, section 5.1.3).
-#[derive(Clone, Copy, Debug, PartialEq, Eq)]
+#[derive(Clone, Copy)]
 pub enum EntryKind {
     Types,
     Imports,
@@ -22,14 +22,14 @@ pub enum EntryKind {
 }
 
 /// The length of a name's bytes, where there are any.
-#[derive(Clone, Copy, Debug, PartialEq, Eq)]
+#[derive(Clone, Copy)]
 pub struct TextLen {
     pub count: u32,
     ghost some: { 0 < count },
 }
 
 /// What may come next in a file. Those of a sequence wait behind the first.
-#[derive(Clone, Copy, Debug, PartialEq, Eq)]
+#[derive(Clone, Copy)]
 pub enum Goal {
     /// This byte.
     Exact(u8),

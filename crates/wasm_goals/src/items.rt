@@ -9,7 +9,7 @@ use crate::goals::{EntryKind, Goal, TextLen};
 use wa_types::{LebFault, read_s32, read_s64, read_u32};
 
 /// An item: what is judged as one where it stands.
-#[derive(Clone, Copy, Debug, PartialEq, Eq)]
+#[derive(Clone, Copy)]
 pub enum Item {
     Byte,
     /// An unsigned number of 32 bits (standard, section 5.2.2).
@@ -24,7 +24,7 @@ pub enum Item {
 }
 
 /// What stands at the front of bytes.
-#[derive(Clone, Copy, Debug, PartialEq, Eq)]
+#[derive(Clone, Copy)]
 pub enum Front {
     /// A part of an item, and the end.
     Part,

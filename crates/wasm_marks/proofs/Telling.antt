@@ -252,7 +252,8 @@ module _ (b : ModuleBounds) (last : ℕ) where
       (gives_entries k F see more one xs)
 
   -- a vector of entries that show nothing
-  pub gives_silent : {X : Type 0} (k : EntryKind) (F : X → ℕ → List ℕ → Type 0) (more : List Goal) (xs : List X) → ((n : ℕ) (x : X) → Gives (entries k n ∷ more) (others k n ++ more) (F x) nothing_seen)
+  pub gives_silent : {X : Type 0} (k : EntryKind) (F : X → ℕ → List ℕ → Type 0) (more : List Goal) (xs : List X)
+      → ((n : ℕ) (x : X) → Gives (entries k n ∷ more) (others k n ++ more) (F x) nothing_seen)
       → count_shown k more (length xs) ≡ nothing_seen → Gives (count k ∷ more) more (Vector F xs) nothing_seen
   gives_silent k F more xs one e =
       gives_same (count k ∷ more) more (Vector F xs) (seen_in (λ x. nothing_seen) xs) nothing_seen (silent_entries xs)

@@ -1,65 +1,17 @@
 -- What code shows.
-use Rattle.std.proofs.Common.{◌≡◌, ℕ, ◌+◌, ◌<◌, List, [], ◌∷◌, ◌++◌, Option, Some, None, refl, ap, sym, ◌∙◌, subst, arith, append_assoc, length, Bool, true, false, inl, inr, cond, nat_eq}
+use Rattle.std.proofs.Common.{◌≡◌, ℕ, ◌+◌, ◌<◌, List, [], ◌∷◌, ◌++◌, Some, refl, ap, sym, ◌∙◌, subst, arith, append_assoc, length, Bool, true, false, inl, inr}
 use Rattle.std.proofs.Common.{nat_le, IsTrue, ◌&&◌}
-use Rattle.wa_types.specs.Opcodes.{Form, no_immediate, a_zero, an_index, an_index_and_zero, an_access, some_labels, a_constant, a_float, follows, form, within, is_nest, is_float_op}
+use Rattle.wa_types.specs.Opcodes.{Form, a_float, follows, form, is_nest, is_float_op}
 use Rattle.wa_types.specs.Binary.{Placed, Immediates, nothing, zero_byte, index, index_and_zero, access, labels, constant, float, RawCode, ended, otherwise, instr, nested, branched}
 use Rattle.wa_types.specs.Begun.{Goal, code, exact, number, block_type, count, some_indices, float_bytes, next, where_true, immediates, behind_opcode}
 use Rattle.wa_types.specs.Marks.{place_if, float_type, code_floats, code_opens}
 use Rattle.wa_types.specs.ModuleBounds.{ModuleBounds}
 use Rattle.wa_types.specs.Spells.{◌▸◌, Exactly, Number, Vector, Byte, BlockType, ImmediatesOf, CodeOf}
 use Rattle.file_laws.proofs.CodeReads.{nest_range, refuted, none_nest}
+use Rattle.file_laws.proofs.OpcodeTable.{HasBytes, has_bytes}
 use Rattle.wasm_marks.specs.Showing.{Seen, nothing_seen, opens_seen, both, shown, levels, opens_level}
 use Rattle.wasm_marks.proofs.Telling.{Tells, Gives, give, give_byte, gives_none, gives_then, gives_as, gives_same, gives_number, gives_numbers, gives_signed, gives_exact, gives_block_type}
 use Rattle.wasm_marks.proofs.Telling.{seen_placed}
-
--- the table's floats have bytes
-HasBytes : Form → Type 0
-HasBytes (a_float n) = 0 < n
-HasBytes _ = Unit {0}
-
-Sized : Option Form → Type 0
-Sized o = (f : Form) → o ≡ Some f → HasBytes f
-
-either : (b : Bool) (x y : Option Form) → Sized x → Sized y → Sized (cond b x y)
-either true x y p q = p
-either false x y p q = q
-
-follows_same : (e f : Form) → Some e ≡ Some f → e ≡ f
-follows_same e f p = cc
-
-sized : (e : Form) → HasBytes e → Sized (Some e)
-unfolding Sized
-sized e h f p = subst HasBytes (follows_same e f p) h
-
-not_followed : (f : Form) → None ≡ Some f → ⊥
-not_followed f e = cc
-
-unsized : Sized None
-unfolding Sized
-unsized f p = absurd (not_followed f p)
-
-follows_sized : (op : ℕ) → Sized (follows op)
-unfolding follows HasBytes
-follows_sized op =
-    either (within 0x00 0x01 op) _ _ (sized no_immediate tt)
-    (either (within 0x0C 0x0D op) _ _ (sized an_index tt)
-    (either (nat_eq op 0x0E) _ _ (sized some_labels tt)
-    (either (nat_eq op 0x0F) _ _ (sized no_immediate tt)
-    (either (nat_eq op 0x10) _ _ (sized an_index tt)
-    (either (nat_eq op 0x11) _ _ (sized an_index_and_zero tt)
-    (either (within 0x1A 0x1B op) _ _ (sized no_immediate tt)
-    (either (within 0x20 0x24 op) _ _ (sized an_index tt)
-    (either (within 0x28 0x3E op) _ _ (sized an_access tt)
-    (either (within 0x3F 0x40 op) _ _ (sized a_zero tt)
-    (either (nat_eq op 0x41) _ _ (sized (a_constant 32) tt)
-    (either (nat_eq op 0x42) _ _ (sized (a_constant 64) tt)
-    (either (nat_eq op 0x43) _ _ (sized (a_float 4) (omega arith))
-    (either (nat_eq op 0x44) _ _ (sized (a_float 8) (omega arith))
-    (either (within 0x45 0xBF op) _ _ (sized no_immediate tt) unsized))))))))))))))
-
-float_some : (op n : ℕ) → follows op ≡ Some (a_float n) → 0 < n
-unfolding HasBytes Sized
-float_some op n e = follows_sized op (a_float n) e
 
 -- an instruction opens no level
 pub opens_none : (op : ℕ) (f : Form) → follows op ≡ Some f → opens_level op ≡ false
@@ -122,6 +74,7 @@ module _ (b : ModuleBounds) (last : ℕ) where
   gives_float more xs some at a c t h k = give b last (float_bytes (length xs)) more [] at 0 a c t refl (some, ap length h, refl) refl k
 
   gives_operands : (o : Immediates) (op : ℕ) (more : List Goal) → follows op ≡ Some (form o) → Gives b last (immediates (form o) ++ more) more (ImmediatesOf o) nothing_seen
+  unfolding HasBytes
   gives_operands nothing op more e = gives_none b last more
   gives_operands zero_byte op more e = gives_exact b last more 0x00
   gives_operands (index x) op more e = gives_number b last more x
@@ -135,7 +88,7 @@ module _ (b : ModuleBounds) (last : ℕ) where
       gives_then b last (count some_indices ∷ number ∷ more) (number ∷ more) more (Vector Number targets) (Number other) nothing_seen nothing_seen
       (gives_numbers b last (number ∷ more) targets) (gives_number b last more other)
   gives_operands (constant bits n) op more e = gives_signed b last bits more n
-  gives_operands (float bytes) op more e = gives_float more bytes (float_some op (length bytes) e)
+  gives_operands (float bytes) op more e = gives_float more bytes (has_bytes op (a_float (length bytes)) e)
 
   gives_level : (c body rest : RawCode) (first_arm inner : Bool) (more : List Goal) (op result : Placed)
       → behind_opcode first_arm op.byte ≡ Some (block_type ∷ code inner ∷ code first_arm ∷ []) → is_float_op op.byte ≡ false → opens_level op.byte ≡ true

@@ -10,7 +10,7 @@ use crate::floats::{is_float_op, is_float_type};
 use wa_types::Bounds;
 
 /// What a file is judged by besides its spelling.
-#[derive(Clone, Copy, Debug, PartialEq, Eq, Drop)]
+#[derive(Clone, Copy, Drop)]
 pub struct Marks {
     /// The offset of the first float type or float opcode.
     pub float: Option<u64>,

@@ -1,25 +1,17 @@
 -- Each opcode that is no float's, with its operands, is an instruction.
-use Rattle.std.proofs.Common.{◌≡◌, ℕ, zero, suc, ◌<◌, ◌≤◌, ◌⊎◌, inl, inr, List, [], ◌∷◌, length, Option, Some, None, Bool, true, false, cond, ◌&&◌, ◌||◌, nat_eq, nat_lt, refl, ap, sym, ◌∙◌}
-use Rattle.std.proofs.Common.{subst, arith, eqb-true}
-use Rattle.std.proofs.Math.Nat.{eq-or-lt_of_le}
-use Rattle.std.proofs.lemmas.Bool.{ltb-true, ltb-false, ne_eqb}
+use Rattle.std.proofs.Common.{◌≡◌, ℕ, suc, ◌⊎◌, inl, inr, length, Option, Some, Bool, true, false, cond, ◌&&◌, ◌||◌, nat_eq, refl, ap, sym, ◌∙◌}
+use Rattle.std.proofs.Common.{arith, eqb-true}
 use Rattle.wa_types.specs.declared.values.Value.TheVariants.{I32 as value_32, I64 as value_64}
-use Rattle.wa_types.specs.declared.operators.NumOp.{NumOp}
-use Rattle.wa_types.specs.declared.operators.NumOp.TheVariants.{I32Eqz}
-use Rattle.wa_types.specs.Operators.{opcode_of}
+use Rattle.wa_types.specs.Operators.{last_numeric}
 use Rattle.wa_types.specs.Opcodes.{Form, no_immediate, a_zero, an_index, an_index_and_zero, an_access, some_labels, a_constant, a_float, follows, form, is_float_op, is_load_op, is_store_op}
 use Rattle.wa_types.specs.Binary.{Placed, Immediates, nothing, zero_byte, index, index_and_zero, access, labels, constant, float}
 use Rattle.wa_types.specs.Syntax.{nop, drop, select, const, num, global_get, global_set, load, store, memory_size, memory_grow, Plain, basic, local_get, local_set, local_tee, br, br_if}
 use Rattle.wa_types.specs.Syntax.{br_table, return, unreachable, call, call_indirect}
 use Rattle.wa_types.specs.Reading.{HasKind, IsPlain}
 use Rattle.wa_types.specs.Opcodes.{plain_immediates, plain_opcode}
-use Rattle.wa_types.proofs.OperatorLemmas.{operators}
-use Rattle.file_laws.proofs.CodeWriting.{within_above}
-
--- a test that all numbers below one pass
-all_below : (ℕ → Bool) → ℕ → Bool
-all_below p zero = true
-all_below p (suc n) = p n && all_below p n
+use Rattle.wa_types.proofs.OperatorLemmas.{operator_at, operator_in}
+use Rattle.wa_types.proofs.Ranges.{all_from, passes}
+use Rattle.file_laws.proofs.OpcodeTable.{known_low}
 
 pub by_test : (b : Bool) → (b ≡ true) ⊎ (b ≡ false)
 by_test true = inl refl
@@ -33,56 +25,19 @@ pub other_of_two : (a b : Bool) → a && b ≡ true → b ≡ true
 other_of_two true b e = e
 other_of_two false b e = absurd (let f : false ≡ true = e in cc)
 
-passes : (p : ℕ → Bool) (n k : ℕ) → k < n → all_below p n ≡ true → p k ≡ true
-unfolding all_below
-passes p zero k l e = absurd (omega (arith, l))
-passes p (suc n) k l e = elim (eq-or-lt_of_le {n = k} {m = n} (omega (arith, l))) [
-  | inl same ↦ subst (λ j. p j ≡ true) (sym same) (first_of_two (p n) (all_below p n) e)
-  | inr less ↦ passes p n k less (other_of_two (p n) (all_below p n) e)
-]
-
 pub either_of : (a b : Bool) → a || b ≡ true → a ≡ false → b ≡ true
 either_of true b e f = absurd (let g : true ≡ false = f in cc)
 either_of false b e f = e
 
--- the opcodes that something follows are few
-none_follows : (op : ℕ) → 192 ≤ op → follows op ≡ None
-unfolding follows
-none_follows op h =
-    rw (
-      within_above 0x00 0x01 op (omega (arith, h)),
-      within_above 0x0C 0x0D op (omega (arith, h)),
-      ne_eqb op 0x0E (λ e. omega (arith, h, e)),
-      ne_eqb op 0x0F (λ e. omega (arith, h, e)),
-      ne_eqb op 0x10 (λ e. omega (arith, h, e)),
-      ne_eqb op 0x11 (λ e. omega (arith, h, e)),
-      within_above 0x1A 0x1B op (omega (arith, h)),
-      within_above 0x20 0x24 op (omega (arith, h)),
-      within_above 0x28 0x3E op (omega (arith, h)),
-      within_above 0x3F 0x40 op (omega (arith, h)),
-      ne_eqb op 0x41 (λ e. omega (arith, h, e)),
-      ne_eqb op 0x42 (λ e. omega (arith, h, e)),
-      ne_eqb op 0x43 (λ e. omega (arith, h, e)),
-      ne_eqb op 0x44 (λ e. omega (arith, h, e)),
-      within_above 0x45 0xBF op (omega (arith, h)),
-    ) refl
-
-low : (op : ℕ) (f : Form) → follows op ≡ Some f → op < 192
-low op f e = elim (by_test (nat_lt op 192)) [
-  | inl less ↦ ltb-true op 192 less
-  | inr past ↦ absurd (let g : None ≡ Some f = sym (none_follows op (ltb-false op 192 past)) ∙ e in cc)
-]
-
--- the one of an opcode
-search_num : List NumOp → ℕ → NumOp
-search_num [] op = I32Eqz
-search_num (n ∷ ns) op = cond (nat_eq (opcode_of n) op) n (search_num ns op)
+-- how many opcodes there are up to the last that something follows
+abbrev opcodes : ℕ
+opcodes = suc last_numeric
 
 -- the instruction of an opcode and operands
 plain_of : ℕ → Immediates → Plain
 plain_of op nothing =
     cond (nat_eq op 0x00) unreachable (cond (nat_eq op 0x01) (basic nop) (cond (nat_eq op 0x0F) return
-    (cond (nat_eq op 0x1A) (basic drop) (cond (nat_eq op 0x1B) (basic select) (basic (num (search_num operators op)))))))
+    (cond (nat_eq op 0x1A) (basic drop) (cond (nat_eq op 0x1B) (basic select) (basic (num (operator_at op)))))))
 plain_of op zero_byte = cond (nat_eq op 0x3F) (basic memory_size) (basic memory_grow)
 plain_of op (index x) =
     cond (nat_eq op 0x0C) (br x) (cond (nat_eq op 0x0D) (br_if x) (cond (nat_eq op 0x10) (call x) (cond (nat_eq op 0x20) (local_get x) (cond (nat_eq op 0x21) (local_set x)
@@ -137,28 +92,28 @@ test_access op = if_access (follows op) (is_float_op op || (is_load_op op || is_
 test_labels : ℕ → Bool
 test_labels op = if_labels (follows op) (nat_eq op 0x0E)
 
-all_bare : all_below test_bare 192 ≡ true
-unfolding all_below test_bare if_bare follows plain_of operators search_num
+all_bare : all_from test_bare 0 opcodes ≡ true
+unfolding all_from test_bare if_bare follows plain_of operator_at operator_in
 all_bare = refl
 
-all_zero : all_below test_zero 192 ≡ true
-unfolding all_below test_zero if_zero follows plain_of
+all_zero : all_from test_zero 0 opcodes ≡ true
+unfolding all_from test_zero if_zero follows plain_of
 all_zero = refl
 
-all_index : (x : ℕ) → all_below (test_index x) 192 ≡ true
-unfolding all_below test_index if_index follows plain_of
+all_index : (x : ℕ) → all_from (test_index x) 0 opcodes ≡ true
+unfolding all_from test_index if_index follows plain_of
 all_index x = refl
 
-all_index_zero : all_below test_index_zero 192 ≡ true
-unfolding all_below test_index_zero if_index_zero follows
+all_index_zero : all_from test_index_zero 0 opcodes ≡ true
+unfolding all_from test_index_zero if_index_zero follows
 all_index_zero = refl
 
-all_access : all_below test_access 192 ≡ true
-unfolding all_below test_access if_access follows
+all_access : all_from test_access 0 opcodes ≡ true
+unfolding all_from test_access if_access follows
 all_access = refl
 
-all_labels : all_below test_labels 192 ≡ true
-unfolding all_below test_labels if_labels follows
+all_labels : all_from test_labels 0 opcodes ≡ true
+unfolding all_from test_labels if_labels follows
 all_labels = refl
 
 -- a constant of so many bits
@@ -169,8 +124,8 @@ if_constant _ t = true
 test_constant : ℕ → Bool
 test_constant op = if_constant (follows op) (λ bits. (nat_eq op 0x41 && nat_eq bits 32) || (nat_eq op 0x42 && nat_eq bits 64))
 
-all_constant : all_below test_constant 192 ≡ true
-unfolding all_below test_constant if_constant follows
+all_constant : all_from test_constant 0 opcodes ≡ true
+unfolding all_from test_constant if_constant follows
 all_constant = refl
 
 if_float : Option Form → Bool → Bool
@@ -180,8 +135,8 @@ if_float _ t = true
 test_float : ℕ → Bool
 test_float op = if_float (follows op) (is_float_op op)
 
-all_float : all_below test_float 192 ≡ true
-unfolding all_below test_float if_float follows
+all_float : all_from test_float 0 opcodes ≡ true
+unfolding all_from test_float if_float follows
 all_float = refl
 
 -- an instruction with these operands
@@ -266,31 +221,31 @@ constant_is op bits n false b false d e f g h k = absurd (let w : false ≡ true
 pub plain_made : (op : Placed) (o : Immediates) → follows op.byte ≡ Some (form o) → is_float_op op.byte ≡ false → (p : Plain) × IsPlain op o p
 unfolding plain_of FitsWith test_bare test_zero test_index test_index_zero test_access test_labels test_constant test_float
 plain_made op nothing e f =
-    let t = bare_said (follows op.byte) _ e (passes test_bare 192 op.byte (low op.byte no_immediate e) all_bare) in
+    let t = bare_said (follows op.byte) _ e (passes test_bare 0 opcodes op.byte (omega arith) (known_low op.byte no_immediate e) all_bare) in
     let k = bare_fits op.byte in
     (plain_of op.byte nothing, record { opcode = eqb-true op.byte _ (either_of _ _ t f); follows = k.0; kind = k.1 })
 plain_made op zero_byte e f =
-    let t = zero_said (follows op.byte) _ e (passes test_zero 192 op.byte (low op.byte a_zero e) all_zero) in
+    let t = zero_said (follows op.byte) _ e (passes test_zero 0 opcodes op.byte (omega arith) (known_low op.byte a_zero e) all_zero) in
     let k = zero_fits op.byte in
     (plain_of op.byte zero_byte, record { opcode = eqb-true op.byte _ t; follows = k.0; kind = k.1 })
 plain_made op (index x) e f =
-    let t = index_said (follows op.byte) _ e (passes (test_index x) 192 op.byte (low op.byte an_index e) (all_index x)) in
+    let t = index_said (follows op.byte) _ e (passes (test_index x) 0 opcodes op.byte (omega arith) (known_low op.byte an_index e) (all_index x)) in
     let k = index_fits op.byte x in
     (plain_of op.byte (index x), record { opcode = eqb-true op.byte _ t; follows = k.0; kind = k.1 })
 plain_made op (index_and_zero x) e f =
-    let t = index_zero_said (follows op.byte) _ e (passes test_index_zero 192 op.byte (low op.byte an_index_and_zero e) all_index_zero) in
+    let t = index_zero_said (follows op.byte) _ e (passes test_index_zero 0 opcodes op.byte (omega arith) (known_low op.byte an_index_and_zero e) all_index_zero) in
     (call_indirect x, record { opcode = eqb-true op.byte 0x11 t; follows = refl; kind = tt })
 plain_made op (access align offset) e f =
-    let t = access_said (follows op.byte) _ e (passes test_access 192 op.byte (low op.byte an_access e) all_access) in
+    let t = access_said (follows op.byte) _ e (passes test_access 0 opcodes op.byte (omega arith) (known_low op.byte an_access e) all_access) in
     let k = access_is op.byte align offset (is_load_op op.byte) (is_store_op op.byte) refl refl (either_of _ _ t f) in
     (cond (is_load_op op.byte) (basic (load op.byte align offset)) (basic (store op.byte align offset)), record { opcode = k.1; follows = k.0.0; kind = k.0.1 })
 plain_made op (labels targets last) e f =
-    let t = labels_said (follows op.byte) _ e (passes test_labels 192 op.byte (low op.byte some_labels e) all_labels) in
+    let t = labels_said (follows op.byte) _ e (passes test_labels 0 opcodes op.byte (omega arith) (known_low op.byte some_labels e) all_labels) in
     (br_table targets last, record { opcode = eqb-true op.byte 0x0E t; follows = refl; kind = tt })
 plain_made op (constant bits n) e f =
-    let t = constant_said (follows op.byte) bits _ e (passes test_constant 192 op.byte (low op.byte (a_constant bits) e) all_constant) in
+    let t = constant_said (follows op.byte) bits _ e (passes test_constant 0 opcodes op.byte (omega arith) (known_low op.byte (a_constant bits) e) all_constant) in
     let k = constant_is op.byte bits n (nat_eq op.byte 0x41) (nat_eq bits 32) (nat_eq op.byte 0x42) (nat_eq bits 64) refl refl refl refl t in
     (cond (nat_eq op.byte 0x41) (basic (const (value_32 n))) (basic (const (value_64 n))), record { opcode = k.1; follows = k.0.0; kind = k.0.1 })
 plain_made op (float bytes) e f =
-    let t = float_said (follows op.byte) (length bytes) _ e (passes test_float 192 op.byte (low op.byte (a_float (length bytes)) e) all_float) in
+    let t = float_said (follows op.byte) (length bytes) _ e (passes test_float 0 opcodes op.byte (omega arith) (known_low op.byte (a_float (length bytes)) e) all_float) in
     absurd (let g : true ≡ false = sym t ∙ f in cc)

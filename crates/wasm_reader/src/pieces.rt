@@ -9,7 +9,7 @@ ghost use Rattle.wa_types.specs.Sizes.{SizeRule, StrictSizeRule};
 ghost use Rattle.wa_types.specs.View.{module_of};
 ghost use Rattle.wasm_reader.specs.Answers.{IsAccepted, IsRefused};
 ghost use Rattle.wasm_grammar.specs.Machine.{AreMarks, IsCause};
-ghost use Rattle.wasm_reader.specs.Pieces.{IsFeedFault, begun_with, fed};
+ghost use Rattle.wasm_reader.specs.Pieces.{HoldsLast, IsFeedFault, begun_with, fed};
 ghost use Rattle.wasm_reader.specs.Progress.{Goes, IsGoing, bytes_of};
 ghost use Rattle.wasm_reader.specs.declared.read_fault.ReadFault.{ReadFault as FaultValue};
 
@@ -24,7 +24,8 @@ use wasm_grammar::{CheckFault, Machine, Marks, Passed, Window, check};
 
 /// Reads a module from a file that comes in pieces, one behind another. The pieces that were fed count as one input; of them only what isn't
 /// built yet is held: at most the entry that is coming (a type, an import, a body, a segment, a custom section), and up to as much behind it of a
-/// long one whose end isn't known from its front. Contracts see the bounds, the bytes so far, and the first fault that they met.
+/// long one whose end isn't known from its front. Contracts see the bounds, the bytes so far, those of them that are held, and the first fault that
+/// they met.
 #[derive(Drop)]
 pub struct Reader {
     alloc: Global,
@@ -39,7 +40,7 @@ impl Model for Reader {
 
     ghost Value = { Reading };
 
-    ghost view = { λ r. record { bounds = r.bounds; bytes = bytes_of r.progress; fault = r.fault } };
+    ghost view = { λ r. record { bounds = r.bounds; bytes = bytes_of r.progress; held = r.progress.window.items; fault = r.fault } };
 
     ghost invariant = { λ r. KeepsUp r.bounds r.progress r.fault };
 }
@@ -65,7 +66,8 @@ impl Reader {
 
     /// How many bytes are held: those that have come of what isn't built yet.
     pub fn held(&self) -> usize
-        ensures { result ≤ length self.now.bytes }
+        ensures count { result ≡ length self.now.held }
+        ensures last { HoldsLast self.now }
     {
         self.progress.window.len()
     }
@@ -74,7 +76,7 @@ impl Reader {
     /// they aren't the beginning of items in an order of the grammar (`Begun`), with the least number of first bytes that aren't.
     /// `Memory` may come in the place of any answer. After a fault that fault comes again, and nothing changes.
     pub fn feed(&mut self, piece: &[u8]) -> Result<(), ReadFault>
-        ensures fed { self.old.fault ≡ None → OnOk result (self.new ≡ fed self.old piece.now) }
+        ensures fed { self.old.fault ≡ None → OnOk result (self.new ≡ fed self.old piece.now self.new.held) }
         ensures begun { self.old.fault ≡ None → OnOk result (Begun (self.old.bytes ++ piece.now)) }
         ensures few { self.old.fault ≡ None → OnOk result (length (self.old.bytes ++ piece.now) ≤ self.old.bounds.file) }
         ensures fault { self.old.fault ≡ None → IfErr result (IsFeedFault self.old.bounds.file (self.old.bytes ++ piece.now)) }

@@ -1,6 +1,6 @@
 //! The programs that are set up, parted in what hosts them and what prints their lines.
 
-ghost use Rattle.std.specs.Prelude.{◌≡◌, ◌≤◌, ◌++◌, IfOk, OnOk, length, map};
+ghost use Rattle.std.specs.Prelude.{◌≡◌, ◌<◌, ◌≤◌, ◌^◌, ◌++◌, [], ◌∷◌, IfOk, OnOk, length, map};
 ghost use Rattle.world_hosting.specs.Parted.{AreParted, show_at};
 
 use crate::staging::Staged;
@@ -30,21 +30,37 @@ pub(crate) fn part_programs<'m>(
     let mut names = Vec::new(alloc);
     let mut shows = Vec::new(alloc);
     for one in staged {
-        let number = names.len() as u32;
-        let Staged {
-            program,
-            names: own,
-            shows: texts,
-        } = one;
-        put_shows(&mut shows, number, &texts)?;
-        names.push(own)?;
-        programs.push(program)?;
+        put_parts(&mut programs, &mut names, &mut shows, one)?;
     }
     Ok(Parted {
         programs,
         names,
         shows,
     })
+}
+
+// Puts a program's parts behind those of the programs before it.
+fn put_parts<'m>(
+    programs: &mut Vec<Program<'m>>,
+    names: &mut Vec<Names>,
+    shows: &mut Vec<Show>,
+    one: Staged<'m>,
+) -> Result<(), AllocError>
+    requires { length names.old.items < 2 ^ 32 }
+    ensures programs { OnOk result (programs.new.items ≡ programs.old.items ++ one.entry.program ∷ []) }
+    ensures names { OnOk result (names.new.items ≡ names.old.items ++ one.entry.names ∷ []) }
+    ensures shows { OnOk result (shows.new.items ≡ shows.old.items ++ map (show_at (length names.old.items)) one.entry.shows.items) }
+{
+    let number = names.len() as u32;
+    let Staged {
+        program,
+        names: own,
+        shows: texts,
+    } = one;
+    programs.push(program)?;
+    names.push(own)?;
+    put_shows(shows, number, &texts)?;
+    Ok(())
 }
 
 // What is shown of the memory of the program of this number.

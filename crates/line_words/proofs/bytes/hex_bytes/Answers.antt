@@ -14,7 +14,8 @@ returns-in_default-joined_digits c =
     (sym c.in_default-joined_digits.is ∙ c.joined_digits.ensures) c.loop-rest.invariant
 
 pub returns-then-not-is_empty : goal.returns-then-not-is_empty
-returns-then-not-is_empty c = one_digit c.loop-rest.bytes.items c.loop-rest.rest.now (hex_bytes c.args.digits.now) c.in_default.len_below (sym c.is_empty.ensures ∙ c.if-not-is_empty.true) c.loop-rest.invariant
+returns-then-not-is_empty c =
+    one_digit c.loop-rest.bytes.items c.loop-rest.rest.now (hex_bytes c.args.digits.now) c.in_default.len_below (sym c.is_empty.ensures ∙ c.if-not-is_empty.true) c.loop-rest.invariant
 
 pub returns : goal.returns
 returns c = no_digit c.loop-rest.bytes.items c.loop-rest.rest.now (hex_bytes c.args.digits.now) (eqb-true _ 0 (sym c.is_empty.ensures ∙ c.if-not-is_empty.false)) c.loop-rest.invariant

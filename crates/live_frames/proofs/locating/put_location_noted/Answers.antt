@@ -1,7 +1,9 @@
-use Rattle.local_spill.proofs.PutLemmas.{put_one, put_on, tee_is, const_is, num_is}
+use Rattle.std.proofs.Common.{ap, ◌∙◌}
+use Rattle.std.proofs.lemmas.Result.{on_ok_weaker}
+use Rattle.wa_types.specs.declared.instrs.Instr.TheVariants.{GlobalGet}
+use Rattle.wa_types.specs.View.{onto, in_front}
 use Rattle.live_frames.proofs.locating.put_location_noted.Goals as goal
 
 pub returns : goal.returns
-returns c =
-    put_on _ _ _ _ _ (put_on _ _ _ _ _ (put_on _ _ _ _ _ c.in_ok-put_location.ensures (put_one _ _ _ _ c.in_ok-push.ensures.items (const_is _)))
-    (put_one _ _ _ _ c.in_ok-push-2.ensures.items (num_is _))) (put_one _ _ _ _ c.in_ok-push-3.ensures.items (tee_is _))
+unfolding onto in_front
+returns c = on_ok_weaker c.put_all.result (λ h rest. h rest ∙ ap (onto c.args.out.now.items) (ap (in_front (GlobalGet c.args.address)) (c.load_of.ensures _))) c.put_all.ensures

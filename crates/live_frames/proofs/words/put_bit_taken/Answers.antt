@@ -1,8 +1,6 @@
-use Rattle.local_spill.proofs.PutLemmas.{put_one, put_on, get_is, const_is, num_is}
+use Rattle.wa_types.specs.View.{onto, in_front}
 use Rattle.live_frames.proofs.words.put_bit_taken.Goals as goal
 
 pub returns : goal.returns
-returns c =
-    put_on _ _ _ _ _ (put_on _ _ _ _ _ (put_on _ _ _ _ _ (put_on _ _ _ _ _ (put_on _ _ _ _ _ (put_one _ _ _ _ c.in_ok-push.ensures.items (get_is _))
-    (put_one _ _ _ _ c.in_ok-push-2.ensures.items (num_is _))) (put_one _ _ _ _ c.in_ok-push-3.ensures.items (num_is _))) (put_one _ _ _ _ c.in_ok-push-4.ensures.items (const_is _)))
-    (put_one _ _ _ _ c.in_ok-push-5.ensures.items (num_is _))) (put_one _ _ _ _ c.in_ok-push-6.ensures.items (num_is _))
+unfolding onto in_front
+returns c = c.put_all.ensures

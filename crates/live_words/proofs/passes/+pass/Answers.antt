@@ -1,4 +1,5 @@
 use Rattle.std.proofs.Common.{rules, arith, [], ◌∷◌, ◌++◌, ◌-◌, None, ap, length, refl, subst, sym, ◌∙◌}
+use Rattle.std.proofs.lemmas.Result.{on_ok_weaker}
 use Rattle.wa_types.specs.Syntax.{a_block, a_loop}
 use Rattle.wa_model.specs.Flat.{no_more, nests, decides, code_of}
 use Rattle.wa_model.specs.FlatView.{stmt_in_front, stmts}
@@ -8,8 +9,8 @@ use Rattle.live_passes.proofs.CodeLemmas.{ops_at}
 use Rattle.live_passes.proofs.PassLemmas.{nest_ops, then_ops, else_ops, holds_none}
 use Rattle.live_words.specs.Words.{WordsBefore}
 use Rattle.live_words.specs.Heads.{Fresh, deeper}
-use Rattle.live_words.proofs.WordPasses.{words_first, words_before, fresh_before, heads_before, heads_first, fresh_block, fresh_loop, words_block, heads_block, words_loop, heads_loop_left}
-use Rattle.live_words.proofs.WordPasses.{heads_loop_kept, words_if, heads_if, heads_none, no_loops, own_of, put_as, words_size, put_back_words}
+use Rattle.live_words.proofs.WordPasses.{words_first, words_before, fresh_before, heads_before, heads_first, fresh_block, fresh_loop, words_block, heads_block, words_loop, heads_loop}
+use Rattle.live_words.proofs.WordPasses.{head_there, words_if, heads_if, heads_none, no_loops, own_of, put_as, words_size, put_back_words}
 use Rattle.live_words.proofs.passes.+pass.Goals as goal
 
 pub pass_body-loop-left-init : goal.pass_body-loop-left-init
@@ -47,8 +48,8 @@ pass_stmt-pass_body-requires t c = (
   (
     nest_ops c.args.stmt.now [] a_block (stmts c.deref.result.now)
         (block_is c.args.stmt.now c.in-Block.body c.in-Block.is no_more ∙ ap (λ xs. nests a_block (stmts xs) no_more) (sym c.deref.ensures.value)) c.requires.ops,
-    fresh_block c.args.level c.args.outer.now c.args.inner.now.items c.push.new.self.items c.in_ok-copied-in-Block.field-0 c.args.set.now c.in_ok-copied-in-Block.ensures
-        c.in_ok-push-in-Block.ensures.items c.requires.fresh,
+    fresh_block c.args.level c.args.outer.now c.args.inner.now.items c.push_label.new.inner.items c.in_ok-push_label-in-Block.ensures.0 c.args.set.now c.in_ok-push_label-in-Block.ensures.1
+        c.in_ok-push_label-in-Block.ensures.2 c.requires.fresh,
   ),
 )
 
@@ -58,9 +59,9 @@ pass_stmt-pass_body-requires-in-Loop t c = (
   (
     nest_ops c.args.stmt.now [] a_loop (stmts c.deref-in-Loop.result.now)
         (loop_is c.args.stmt.now c.in-Loop.body c.in-Loop.is no_more ∙ ap (λ xs. nests a_loop (stmts xs) no_more) (sym c.deref-in-Loop.ensures.value)) c.requires.ops,
-    subst (λ l. Fresh l c.args.outer.now c.push-in-Loop-2.new.self.items c.args.set.now) (sym c.inside.ensures)
-        (fresh_loop c.args.level (length c.args.set.now) c.args.outer.now c.args.inner.now.items c.push-in-Loop-2.new.self.items c.in_ok-label_told-in-Loop.field-0 c.args.set.now
-        (own_of c.args.level (length c.args.set.now) (length c.args.set.now) c.in_ok-label_told-in-Loop.field-0 refl c.in_ok-label_told-in-Loop.ensures) c.in_ok-push-in-Loop-2.ensures.items
+    subst (λ l. Fresh l c.args.outer.now c.push_loop.new.inner.items c.args.set.now) (sym c.inside.ensures)
+        (fresh_loop c.args.level (length c.args.set.now) c.args.outer.now c.args.inner.now.items c.push_loop.new.inner.items c.in_ok-push_loop-in-Loop.ensures.label.0 c.args.set.now
+        (own_of c.args.level (length c.args.set.now) (length c.args.set.now) c.in_ok-push_loop-in-Loop.ensures.label.0 refl c.in_ok-push_loop-in-Loop.ensures.label.1) c.in_ok-push_loop-in-Loop.ensures.label.2
         c.requires.fresh),
   ),
 )
@@ -72,8 +73,8 @@ pass_stmt-pass_body-requires-in-If t c = (
     else_ops c.args.stmt.now [] c.in-If.cond (stmts c.in-If.then_arm.items) (stmts c.deref-in-If.result.now)
         (if_is c.args.stmt.now c.in-If.cond c.in-If.then_arm c.in-If.else_arm c.in-If.is no_more
         ∙ ap (λ xs. decides c.in-If.cond (stmts c.in-If.then_arm.items) (stmts xs) no_more) (sym c.deref-in-If.ensures.value)) c.requires.ops,
-    fresh_block c.args.level c.args.outer.now c.args.inner.now.items c.push-in-If.new.self.items c.in_ok-copied-in-If.field-0 c.args.set.now c.in_ok-copied-in-If.ensures
-        c.in_ok-push-in-If.ensures.items c.requires.fresh,
+    fresh_block c.args.level c.args.outer.now c.args.inner.now.items c.push_label-in-If.new.inner.items c.in_ok-push_label-in-If.ensures.0 c.args.set.now c.in_ok-push_label-in-If.ensures.1
+        c.in_ok-push_label-in-If.ensures.2 c.requires.fresh,
   ),
 )
 
@@ -86,8 +87,8 @@ pass_stmt-pass_body-requires-in-If-2 t c = (
         ∙ ap (λ xs. decides c.in-If.cond (stmts xs) (stmts c.in-If.else_arm.items) no_more) (sym c.deref-in-If-2.ensures.value)) c.requires.ops,
     subst (λ u. Fresh c.args.level c.args.outer.now c.pass_body-in-If.new.inner.items u) (sym (c.deref_mut.ensures.value ∙ c.in_ok-other-in-If.ensures))
         (subst (λ ts. Fresh c.args.level c.args.outer.now ts c.args.set.now) (sym c.in_ok-pass_body-in-If.ensures.passed.labels)
-        (fresh_block c.args.level c.args.outer.now c.args.inner.now.items c.push-in-If.new.self.items c.in_ok-copied-in-If.field-0 c.args.set.now c.in_ok-copied-in-If.ensures
-        c.in_ok-push-in-If.ensures.items c.requires.fresh)),
+        (fresh_block c.args.level c.args.outer.now c.args.inner.now.items c.push_label-in-If.new.inner.items c.in_ok-push_label-in-If.ensures.0 c.args.set.now c.in_ok-push_label-in-If.ensures.1
+        c.in_ok-push_label-in-If.ensures.2 c.requires.fresh)),
   ),
 )
 
@@ -96,59 +97,47 @@ pass_stmt-pass_simple-requires t c = record { ops = c.requires.ops; simple = hol
 
 pub pass_stmt-returns-in_ok-pass_body-in-Block-clause-passed : goal.pass_stmt-returns-in_ok-pass_body-in-Block-clause-passed
 pass_stmt-returns-in_ok-pass_body-in-Block-clause-passed t c = words_block c.args.stmt.now c.args.level c.args.outer.now c.args.inner.now.items
-    (stmts c.deref.result.now) c.in_ok-copied-in-Block.field-0 c.push.new.self.items c.args.set.now c.in_ok-push-in-Block.ensures.items
-    (block_is c.args.stmt.now c.in-Block.body c.in-Block.is no_more ∙ ap (λ xs. nests a_block (stmts xs) no_more) (sym c.deref.ensures.value)) c.in_ok-copied-in-Block.ensures
+    (stmts c.deref.result.now) c.in_ok-push_label-in-Block.ensures.0 c.push_label.new.inner.items c.args.set.now c.in_ok-push_label-in-Block.ensures.2
+    (block_is c.args.stmt.now c.in-Block.body c.in-Block.is no_more ∙ ap (λ xs. nests a_block (stmts xs) no_more) (sym c.deref.ensures.value)) c.in_ok-push_label-in-Block.ensures.1
     c.pass_body.new.inner c.pop.new.self.items c.pass_body.new.set c.in_ok-pass_body-in-Block.ensures.passed c.pop.ensures.rest
 
 pub pass_stmt-returns-in_ok-pass_body-in-Block-clause-heads : goal.pass_stmt-returns-in_ok-pass_body-in-Block-clause-heads
 pass_stmt-returns-in_ok-pass_body-in-Block-clause-heads t c = heads_block c.args.stmt.now c.args.level c.args.outer.now c.args.inner.now.items
-    (stmts c.deref.result.now) c.in_ok-copied-in-Block.field-0 c.push.new.self.items c.args.set.now c.in_ok-push-in-Block.ensures.items
-    (block_is c.args.stmt.now c.in-Block.body c.in-Block.is no_more ∙ ap (λ xs. nests a_block (stmts xs) no_more) (sym c.deref.ensures.value)) c.in_ok-copied-in-Block.ensures
+    (stmts c.deref.result.now) c.in_ok-push_label-in-Block.ensures.0 c.push_label.new.inner.items c.args.set.now c.in_ok-push_label-in-Block.ensures.2
+    (block_is c.args.stmt.now c.in-Block.body c.in-Block.is no_more ∙ ap (λ xs. nests a_block (stmts xs) no_more) (sym c.deref.ensures.value)) c.in_ok-push_label-in-Block.ensures.1
     c.args.heads.now.items c.pass_body.new.heads.items c.in_ok-pass_body-in-Block.ensures.heads
 
-pub pass_stmt-returns-in_ok-copied-in-Loop-clause-passed : goal.pass_stmt-returns-in_ok-copied-in-Loop-clause-passed
-pass_stmt-returns-in_ok-copied-in-Loop-clause-passed t c = words_loop c.args.stmt.now c.args.level c.args.outer.now c.args.inner.now.items
-    (stmts c.deref-in-Loop.result.now) c.in_ok-label_told-in-Loop.field-0 c.push-in-Loop-2.new.self.items c.args.set.now c.in_ok-push-in-Loop-2.ensures.items
+pub pass_stmt-returns-in_ok-pass_body-in-Loop-clause-passed : goal.pass_stmt-returns-in_ok-pass_body-in-Loop-clause-passed
+pass_stmt-returns-in_ok-pass_body-in-Loop-clause-passed t c = on_ok_weaker c.keep_words.result (λ k. words_loop c.args.stmt.now c.args.level c.args.outer.now c.args.inner.now.items
+    (stmts c.deref-in-Loop.result.now) c.in_ok-push_loop-in-Loop.ensures.label.0 c.push_loop.new.inner.items c.args.set.now c.in_ok-push_loop-in-Loop.ensures.label.2
     (loop_is c.args.stmt.now c.in-Loop.body c.in-Loop.is no_more ∙ ap (λ xs. nests a_loop (stmts xs) no_more) (sym c.deref-in-Loop.ensures.value))
-    (own_of c.args.level (length c.args.set.now) (length c.args.set.now) c.in_ok-label_told-in-Loop.field-0 refl c.in_ok-label_told-in-Loop.ensures)
+    (own_of c.args.level (length c.args.set.now) (length c.args.set.now) c.in_ok-push_loop-in-Loop.ensures.label.0 refl c.in_ok-push_loop-in-Loop.ensures.label.1)
     c.requires.fresh c.pass_body-in-Loop.new.inner c.pass_body-in-Loop.new.set c.leave.new.set c.in_ok-pass_body-in-Loop.ensures.passed c.leave.auto.set c.leave.ensures
-    c.pop-in-Loop.new.self.items c.pop-in-Loop.ensures.rest
+    c.pop-in-Loop.new.self.items c.pop-in-Loop.ensures.rest) c.keep_words.ensures
 
-pub pass_stmt-returns-in_ok-copied-in-Loop-clause-heads : goal.pass_stmt-returns-in_ok-copied-in-Loop-clause-heads
-pass_stmt-returns-in_ok-copied-in-Loop-clause-heads t c = heads_loop_kept c.args.stmt.now c.args.level c.args.outer.now c.args.inner.now.items
-    (stmts c.deref-in-Loop.result.now) c.in_ok-label_told-in-Loop.field-0 c.push-in-Loop-2.new.self.items c.args.set.now c.in_ok-push-in-Loop-2.ensures.items
+pub pass_stmt-returns-in_ok-pass_body-in-Loop-clause-heads : goal.pass_stmt-returns-in_ok-pass_body-in-Loop-clause-heads
+pass_stmt-returns-in_ok-pass_body-in-Loop-clause-heads t c = on_ok_weaker c.keep_words.result (λ k. heads_loop c.args.stmt.now c.args.level c.args.outer.now c.args.inner.now.items
+    (stmts c.deref-in-Loop.result.now) c.in_ok-push_loop-in-Loop.ensures.label.0 c.push_loop.new.inner.items c.args.set.now c.in_ok-push_loop-in-Loop.ensures.label.2
     (loop_is c.args.stmt.now c.in-Loop.body c.in-Loop.is no_more ∙ ap (λ xs. nests a_loop (stmts xs) no_more) (sym c.deref-in-Loop.ensures.value))
-    (own_of c.args.level (length c.args.set.now) (length c.args.set.now) c.in_ok-label_told-in-Loop.field-0 refl c.in_ok-label_told-in-Loop.ensures)
+    (own_of c.args.level (length c.args.set.now) (length c.args.set.now) c.in_ok-push_loop-in-Loop.ensures.label.0 refl c.in_ok-push_loop-in-Loop.ensures.label.1)
     c.requires.fresh c.pass_body-in-Loop.new.inner c.pass_body-in-Loop.new.set c.leave.new.set c.in_ok-pass_body-in-Loop.ensures.passed c.leave.auto.set c.leave.ensures
     c.args.heads.now.items c.pass_body-in-Loop.new.heads.items
-    (put_as c.inside.result (deeper c.args.level) c.args.outer.now c.push-in-Loop-2.new.self.items c.args.set.now (stmts c.deref-in-Loop.result.now) c.push-in-Loop.new.self.items
-    (c.args.heads.now.items ++ None ∷ []) c.pass_body-in-Loop.new.heads.items c.inside.ensures c.in_ok-push-in-Loop.ensures.items c.in_ok-pass_body-in-Loop.ensures.heads)
-    c.in_ok-copied-in-Loop.field-0 c.len-at.result _ c.in_ok-copied-in-Loop.ensures (c.len-at.ensures ∙ c.args.heads.now.ok.0) refl
+    (put_as c.inside.result (deeper c.args.level) c.args.outer.now c.push_loop.new.inner.items c.args.set.now (stmts c.deref-in-Loop.result.now) c.push_loop.new.heads.items
+    (c.args.heads.now.items ++ None ∷ []) c.pass_body-in-Loop.new.heads.items c.inside.ensures c.in_ok-push_loop-in-Loop.ensures.head c.in_ok-pass_body-in-Loop.ensures.heads)
+    c.len-at.result _ (c.len-at.ensures ∙ c.args.heads.now.ok.0) k) c.keep_words.ensures
 
-pub pass_stmt-returns-else-is_kept-clause-passed : goal.pass_stmt-returns-else-is_kept-clause-passed
-pass_stmt-returns-else-is_kept-clause-passed t c = words_loop c.args.stmt.now c.args.level c.args.outer.now c.args.inner.now.items
-    (stmts c.deref-in-Loop.result.now) c.in_ok-label_told-in-Loop.field-0 c.push-in-Loop-2.new.self.items c.args.set.now c.in_ok-push-in-Loop-2.ensures.items
-    (loop_is c.args.stmt.now c.in-Loop.body c.in-Loop.is no_more ∙ ap (λ xs. nests a_loop (stmts xs) no_more) (sym c.deref-in-Loop.ensures.value))
-    (own_of c.args.level (length c.args.set.now) (length c.args.set.now) c.in_ok-label_told-in-Loop.field-0 refl c.in_ok-label_told-in-Loop.ensures)
-    c.requires.fresh c.pass_body-in-Loop.new.inner c.pass_body-in-Loop.new.set c.leave.new.set c.in_ok-pass_body-in-Loop.ensures.passed c.leave.auto.set c.leave.ensures
-    c.pop-in-Loop.new.self.items c.pop-in-Loop.ensures.rest
-
-pub pass_stmt-returns-else-is_kept-clause-heads : goal.pass_stmt-returns-else-is_kept-clause-heads
-pass_stmt-returns-else-is_kept-clause-heads t c = heads_loop_left c.args.stmt.now c.args.level c.args.outer.now c.args.inner.now.items
-    (stmts c.deref-in-Loop.result.now) c.in_ok-label_told-in-Loop.field-0 c.push-in-Loop-2.new.self.items c.args.set.now c.in_ok-push-in-Loop-2.ensures.items
-    (loop_is c.args.stmt.now c.in-Loop.body c.in-Loop.is no_more ∙ ap (λ xs. nests a_loop (stmts xs) no_more) (sym c.deref-in-Loop.ensures.value))
-    (own_of c.args.level (length c.args.set.now) (length c.args.set.now) c.in_ok-label_told-in-Loop.field-0 refl c.in_ok-label_told-in-Loop.ensures)
-    c.requires.fresh c.pass_body-in-Loop.new.inner c.pass_body-in-Loop.new.set c.leave.new.set c.in_ok-pass_body-in-Loop.ensures.passed c.leave.auto.set c.leave.ensures
-    c.args.heads.now.items c.pass_body-in-Loop.new.heads.items
-    (put_as c.inside.result (deeper c.args.level) c.args.outer.now c.push-in-Loop-2.new.self.items c.args.set.now (stmts c.deref-in-Loop.result.now) c.push-in-Loop.new.self.items
-    (c.args.heads.now.items ++ None ∷ []) c.pass_body-in-Loop.new.heads.items c.inside.ensures c.in_ok-push-in-Loop.ensures.items c.in_ok-pass_body-in-Loop.ensures.heads)
+pub pass_stmt-keep_words-requires : goal.pass_stmt-keep_words-requires
+pass_stmt-keep_words-requires t c = head_there (deeper c.args.level) c.args.outer.now c.push_loop.new.inner.items c.args.set.now (stmts c.deref-in-Loop.result.now) c.args.heads.now.items
+    c.pass_body-in-Loop.new.heads.items c.len-at.result (c.len-at.ensures ∙ c.args.heads.now.ok.0)
+    (put_as c.inside.result (deeper c.args.level) c.args.outer.now c.push_loop.new.inner.items c.args.set.now (stmts c.deref-in-Loop.result.now) c.push_loop.new.heads.items
+    (c.args.heads.now.items ++ None ∷ []) c.pass_body-in-Loop.new.heads.items c.inside.ensures c.in_ok-push_loop-in-Loop.ensures.head c.in_ok-pass_body-in-Loop.ensures.heads)
 
 pub pass_stmt-returns-in_ok-pass_body-in-If-2-clause-passed : goal.pass_stmt-returns-in_ok-pass_body-in-If-2-clause-passed
 pass_stmt-returns-in_ok-pass_body-in-If-2-clause-passed t c = words_if c.args.stmt.now c.args.level c.args.outer.now c.args.inner.now.items c.in-If.cond (stmts c.deref-in-If-2.result.now)
-    (stmts c.deref-in-If.result.now) c.in_ok-copied-in-If.field-0 c.push-in-If.new.self.items c.pass_body-in-If.new.inner.items c.args.set.now c.deref_mut.result.now
+    (stmts c.deref-in-If.result.now) c.in_ok-push_label-in-If.ensures.0 c.push_label-in-If.new.inner.items c.pass_body-in-If.new.inner.items c.args.set.now c.deref_mut.result.now
     (if_is c.args.stmt.now c.in-If.cond c.in-If.then_arm c.in-If.else_arm c.in-If.is no_more
     ∙ (λ j. decides c.in-If.cond (stmts (sym c.deref-in-If-2.ensures.value j)) (stmts (sym c.deref-in-If.ensures.value j)) no_more))
-    c.in_ok-copied-in-If.ensures (c.deref_mut.ensures.value ∙ c.in_ok-other-in-If.ensures) c.in_ok-push-in-If.ensures.items c.in_ok-pass_body-in-If.ensures.passed.labels
+    c.in_ok-push_label-in-If.ensures.1 (c.deref_mut.ensures.value ∙ c.in_ok-other-in-If.ensures) c.in_ok-push_label-in-If.ensures.2 c.in_ok-pass_body-in-If.ensures.passed.labels
     c.pass_body-in-If-2.new.inner c.pop-in-If.new.self.items c.pass_body-in-If-2.new.set c.deref-in-If-3.result.now c.pass_body-in-If.new.set c.join.new.set c.read_operand.new.set
     (c.deref-in-If-3.ensures.value ∙ put_back_words c.pass_body-in-If-2.new.set c.in_ok-other-in-If.other.items c.in_ok-other-in-If.other.len
     (words_size c.args.outer.now c.pass_body-in-If.new.inner.items c.deref_mut.result.now c.pass_body-in-If-2.new.set
@@ -158,10 +147,10 @@ pass_stmt-returns-in_ok-pass_body-in-If-2-clause-passed t c = words_if c.args.st
 
 pub pass_stmt-returns-in_ok-pass_body-in-If-2-clause-heads : goal.pass_stmt-returns-in_ok-pass_body-in-If-2-clause-heads
 pass_stmt-returns-in_ok-pass_body-in-If-2-clause-heads t c = heads_if c.args.stmt.now c.args.level c.args.outer.now c.args.inner.now.items c.in-If.cond (stmts c.deref-in-If-2.result.now)
-    (stmts c.deref-in-If.result.now) c.in_ok-copied-in-If.field-0 c.push-in-If.new.self.items c.pass_body-in-If.new.inner.items c.args.set.now c.deref_mut.result.now
+    (stmts c.deref-in-If.result.now) c.in_ok-push_label-in-If.ensures.0 c.push_label-in-If.new.inner.items c.pass_body-in-If.new.inner.items c.args.set.now c.deref_mut.result.now
     (if_is c.args.stmt.now c.in-If.cond c.in-If.then_arm c.in-If.else_arm c.in-If.is no_more
     ∙ (λ j. decides c.in-If.cond (stmts (sym c.deref-in-If-2.ensures.value j)) (stmts (sym c.deref-in-If.ensures.value j)) no_more))
-    c.in_ok-copied-in-If.ensures (c.deref_mut.ensures.value ∙ c.in_ok-other-in-If.ensures) c.in_ok-push-in-If.ensures.items c.in_ok-pass_body-in-If.ensures.passed.labels
+    c.in_ok-push_label-in-If.ensures.1 (c.deref_mut.ensures.value ∙ c.in_ok-other-in-If.ensures) c.in_ok-push_label-in-If.ensures.2 c.in_ok-pass_body-in-If.ensures.passed.labels
     c.args.heads.now.items c.pass_body-in-If.new.heads.items c.pass_body-in-If-2.new.heads.items c.in_ok-pass_body-in-If.ensures.heads c.in_ok-pass_body-in-If-2.ensures.heads
 
 pub pass_stmt-returns-in_default : goal.pass_stmt-returns-in_default

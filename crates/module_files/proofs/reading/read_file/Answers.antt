@@ -78,7 +78,8 @@ fetching-preserved g c =
     let given = lent_back c.fetching.buffer.items buffer c.fetching.buffer.len long in
     let back = c.deref.ensures.value ∙ given in
     let piece = subst (λ f. WhereTold f (λ all. IsPiece (bytes_of all name) c.fetching.done count buffer)) i.kept c.in_ok-count.ensures.fetched in
-    let grown : c.feed.new.self ≡ fed c.fetching.reader (take count buffer) = subst (λ p. c.feed.new.self ≡ fed c.fetching.reader (take count p)) back (c.in_default.ensures.fed i.going) in
+    let grown : c.feed.new.self ≡ fed c.fetching.reader (take count buffer) c.feed.new.self.held =
+    subst (λ p. c.feed.new.self ≡ fed c.fetching.reader (take count p) c.feed.new.self.held) back (c.in_default.ensures.fed i.going) in
     let came : c.feed.new.self.bytes ≡ front ++ take count buffer = ap (λ (r : Reading). r.bytes) grown in
     let size = came_more front buffer c.fetching.done count i.done c.in_ok-count.ensures.count.0 in
     let few = subst (λ p. length (front ++ take count p) ≤ c.fetching.reader.bounds.file) back (c.in_default.ensures.few i.going) in

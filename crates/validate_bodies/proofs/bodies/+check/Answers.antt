@@ -7,8 +7,10 @@ use Rattle.wa_types.specs.FirstFault.{size, mid}
 use Rattle.wa_types.specs.Typing.{listed}
 use Rattle.validate_bodies.specs.Running.{fine, fault}
 use Rattle.wa_types.proofs.LeafLemmas.{leaf_other}
-use Rattle.validate_bodies.proofs.Lists.{known_none}
-use Rattle.validate_bodies.proofs.Trees.{judged_err, judged_same, passed_by, passed_then, pushed_on, same_checks, moved_checks, labels_are, body_on, body_end, popped_none, popped_some}
+use Rattle.validate_bodies.specs.Stack.{known_at}
+use Rattle.validate_bodies.proofs.Lists.{known_none, level_on, restored}
+use Rattle.validate_table.proofs.InstrKinds.{size_step, size_empty, size_block, size_loop, size_if, size_done}
+use Rattle.validate_bodies.proofs.Trees.{judged_err, judged_same, passed_by, passed_then, pushed_on, same_checks, moved_checks, labels_are, turned, body_on, body_end, popped_none, popped_some}
 use Rattle.validate_bodies.proofs.Trees.{block_arm, loop_arm, if_arm, if_fault, plain_size, plain_is, go_on, stop_at, none_is, instrs, bodies}
 use Rattle.validate_bodies.proofs.bodies.+check.Goals as goal
 
@@ -140,3 +142,37 @@ check_instr-returns-in-Some t c = record {
       plain_is _ _ outs _ _ _ _ rest c.in_default.not-Block c.in_default.not-Loop c.in_default.not-If c.asks_at.result (rw c.deref-in_default.ensures.value at c.asks_at.ensures)
       ∙ stop_at _ _ _ _ _ _ (rw c.in-Some.is at c.in_ok-rule-in_default.ensures.applied);
 }
+
+pub check_body-loop-instr-preserved : goal.check_body-loop-instr-preserved
+check_body-loop-instr-preserved t c =
+    let old = c.loop-instr.invariant in
+    let new = c.in_ok-check_instr.ensures in
+    record {
+      labels = new.labels ∙ old.labels;
+      level = level_on _ _ _ old.level new.level;
+      place = omega (arith, old.place, new.place, size_step c.args.body.now c.loop-instr.instr-index c.instr-item.result (omega arith) c.instr-item.is);
+      judged = turned _ _ _ c.args.body.now c.loop-instr.instr-index _ _ _ _ _ _ _ _ _ (ap reverse new.labels) (omega arith) c.instr-item.is old.judged
+          (new.judged (code (drop (c.loop-instr.instr-index + 1) c.args.body.now)) (listed c.args.gives));
+    }
+
+pub check_body-returns-clause-place : goal.check_body-returns-clause-place
+check_body-returns-clause-place t c = omega (arith, c.loop-instr.invariant.place, size_empty c.args.body.now c.loop-instr.instr-index (omega arith))
+
+pub check_instr-returns-in_ok-push_result-in-Block-clause-labels : goal.check_instr-returns-in_ok-push_result-in-Block-clause-labels
+check_instr-returns-in_ok-push_result-in-Block-clause-labels t c = c.in_ok-check_body-in-Block.ensures.labels
+
+pub check_instr-returns-in_ok-push_result-in-Block-clause-level : goal.check_instr-returns-in_ok-push_result-in-Block-clause-level
+check_instr-returns-in_ok-push_result-in-Block-clause-level t c = level_on _ _ _ c.in_ok-check_body-in-Block.ensures.level c.in_ok-push_result-in-Block.ensures.level
+
+pub check_instr-returns-in_ok-push_result-in-Loop-clause-labels : goal.check_instr-returns-in_ok-push_result-in-Loop-clause-labels
+check_instr-returns-in_ok-push_result-in-Loop-clause-labels t c = c.in_ok-check_body-in-Loop.ensures.labels
+
+pub check_instr-returns-in_ok-push_result-in-Loop-clause-level : goal.check_instr-returns-in_ok-push_result-in-Loop-clause-level
+check_instr-returns-in_ok-push_result-in-Loop-clause-level t c = level_on _ _ _ c.in_ok-check_body-in-Loop.ensures.level c.in_ok-push_result-in-Loop.ensures.level
+
+pub check_instr-returns-in_ok-push_result-in-If-clause-labels : goal.check_instr-returns-in_ok-push_result-in-If-clause-labels
+check_instr-returns-in_ok-push_result-in-If-clause-labels t c = c.in_ok-check_body-in-If-2.ensures.labels ∙ c.in_ok-check_body-in-If.ensures.labels
+
+pub check_instr-returns-in_ok-push_result-in-If-clause-level : goal.check_instr-returns-in_ok-push_result-in-If-clause-level
+check_instr-returns-in_ok-push_result-in-If-clause-level t c =
+    level_on _ _ _ (level_on _ _ _ (level_on _ _ _ c.pop.ensures.level c.in_ok-check_body-in-If.ensures.level) c.in_ok-check_body-in-If-2.ensures.level) c.in_ok-push_result-in-If.ensures.level

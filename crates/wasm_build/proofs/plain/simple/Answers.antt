@@ -1,4 +1,4 @@
-use Rattle.std.proofs.Common.{lit<, refl, arith}
+use Rattle.std.proofs.Common.{lit<, refl}
 use Rattle.wa_types.specs.View.{in_front}
 use Rattle.wasm_build.proofs.PlainNames.{named_simple, names_operator}
 use Rattle.wasm_build.proofs.plain.simple.Goals as goal
@@ -23,6 +23,5 @@ pub returns-in-27 : goal.returns-in-27
 unfolding in_front
 returns-in-27 c = named_simple _ _ 27 c.in-27.is (lit< tt) refl
 
-pub returns-in_ok-operator-in_default : goal.returns-in_ok-operator-in_default
-returns-in_ok-operator-in_default c =
-    names_operator _ _ _ c.in_ok-operator-in_default.was c.operator.ensures (λ h. omega arith) (λ h. omega arith) (λ h. omega arith) (λ h. omega arith) (λ h. omega arith)
+pub returns-in_ok-of_opcode-in_default : goal.returns-in_ok-of_opcode-in_default
+returns-in_ok-of_opcode-in_default c = names_operator _ _ (c.of_opcode.ensures.names _ c.in_ok-of_opcode-in_default.was)

@@ -1,6 +1,0 @@
-use Rattle.std.proofs.Common.{◌≡◌, drop}
-use Rattle.wa_types.specs.View.{code, onto}
-use Rattle.wa_types.proofs.copy.+copy.Given as goal
-
-abbrev pub invariant-copy_body-loop-instr : goal.invariant-copy_body-loop-instr
-invariant-copy_body-loop-instr l = onto l.out.items (code (drop l.instr-index l.body)) ≡ code l.body
