@@ -37,7 +37,7 @@ impl From<AllocError> for ListFault {
 }
 
 /// An entry: all joined names that begin so, or exactly one.
-#[derive(Debug, Drop)]
+#[derive(Drop)]
 pub(crate) enum Entry {
     Beginning(Name),
     Exactly(Name),

@@ -22,7 +22,7 @@ use wa_types::{Instr, ValType};
 /// A flat function with guards: its index, that of its type, its flat locals and behind them the call index and
 /// a scratch local of each type, the local of its result, and the code that stands between what restores a
 /// frame and what saves one, inside the function's block.
-#[derive(Debug, Drop)]
+#[derive(Drop)]
 pub struct GuardedFunc {
     pub func: u32,
     pub sort: u32,

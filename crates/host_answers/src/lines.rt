@@ -11,7 +11,7 @@ use wa_model::{Answer, AnswerLine, End};
 use wa_types::Name;
 
 /// What a call meets: an answer, or the end of its program.
-#[derive(Debug, Drop)]
+#[derive(Drop)]
 pub enum Met {
     Given(Answer),
     Refused(End),

@@ -5,7 +5,7 @@ use wa_model::Call;
 use wa_types::{Trap, Value};
 
 /// How a call of an instance turned out.
-#[derive(Debug, Drop)]
+#[derive(Drop)]
 pub enum Turn {
     /// The function that was called returned.
     Returned(Option<Value>),

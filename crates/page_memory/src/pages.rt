@@ -16,7 +16,7 @@ const MOST_PAGES: u32 = 1_024;
 
 /// A linear memory (standard, section 4.2.8). Contracts see its bytes, and the greatest number of pages that
 /// its type declares.
-#[derive(Debug, Drop)]
+#[derive(Drop)]
 pub struct Pages {
     bytes: Vec<u8>,
     max: Option<u32>,

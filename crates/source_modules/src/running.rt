@@ -18,7 +18,7 @@ use vault_port::Vault;
 use wasm_validate::Valid;
 
 /// A source as a host runs it: which of its function imports are listed, and the module, rewritten.
-#[derive(Debug, Drop)]
+#[derive(Drop)]
 pub struct Runnable {
     pub listed: Vec<bool>,
     pub module: Valid,

@@ -52,7 +52,7 @@ impl From<AllocError> for SourceFault {
 }
 
 /// What is written: the module's bytes, how many functions the source defines, and how many of them may pause.
-#[derive(Debug, Drop)]
+#[derive(Drop)]
 pub struct Written {
     pub functions: usize,
     pub instrumented: usize,

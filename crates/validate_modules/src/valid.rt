@@ -20,7 +20,7 @@ use validate_rules::broken_outside;
 use wa_types::{Module, ValType};
 
 /// A valid module (standard, section 3.4) that meets the size rule. Contracts see the module.
-#[derive(Debug, Drop)]
+#[derive(Drop)]
 pub struct Valid {
     module: Module,
     spaces: Spaces,

@@ -24,7 +24,7 @@ pub struct GlobalType {
 }
 
 /// What stands in a module under each index, imports first (standard, section 2.5.1).
-#[derive(Debug, Drop)]
+#[derive(Drop)]
 pub struct Spaces {
     /// The index of each function's type.
     pub sorts: Vec<u32>,

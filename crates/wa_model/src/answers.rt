@@ -3,7 +3,7 @@
 use wa_types::{Name, Value};
 
 /// Bytes that an answer puts into a program's memory from a place on.
-#[derive(Debug, Drop)]
+#[derive(Drop)]
 pub struct Poke {
     pub at: u32,
     pub bytes: Vec<u8>,
@@ -11,7 +11,7 @@ pub struct Poke {
 
 /// What an import's call is answered: a value where the import has a result, pokes in order, and ticks. With
 /// ticks of 1 or more the program pauses.
-#[derive(Debug, Drop)]
+#[derive(Drop)]
 pub struct Answer {
     pub value: Option<Value>,
     pub pokes: Vec<Poke>,
@@ -26,14 +26,14 @@ pub struct Area {
 }
 
 /// An answer for the import of a joined name.
-#[derive(Debug, Drop)]
+#[derive(Drop)]
 pub struct AnswerLine {
     pub import: Name,
     pub answer: Answer,
 }
 
 /// Before the event of this number, from 1, the first device of this name is taken out.
-#[derive(Debug, Drop)]
+#[derive(Drop)]
 pub struct Detach {
     pub device: Name,
     pub before: u64,

@@ -3,7 +3,7 @@
 use wa_types::{Name, Trap, Value};
 
 /// A call of a function import: the import's index among the functions, and its arguments in order.
-#[derive(Debug, Drop)]
+#[derive(Drop)]
 pub struct Call {
     pub import: u32,
     pub args: Vec<Value>,
@@ -35,7 +35,7 @@ pub struct Line {
 }
 
 /// How a program ends.
-#[derive(Debug, Drop)]
+#[derive(Drop)]
 pub enum End {
     /// All entries have returned.
     Done,

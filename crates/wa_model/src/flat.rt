@@ -3,14 +3,14 @@
 use wa_types::{Instr, ValType, Value};
 
 /// What a flat statement takes in: a local or a constant.
-#[derive(Clone, Copy, Debug, PartialEq, Eq)]
+#[derive(Clone, Copy)]
 pub enum Operand {
     Local(u32),
     Const(Value),
 }
 
 /// A statement of a flat function: between two statements no operand stands on the stack.
-#[derive(Debug, Drop)]
+#[derive(Drop)]
 pub enum Stmt {
     /// The operands in order, then `op`, which is neither a call nor control, then `local.set` of `to` where
     /// `op` has a result.
@@ -58,7 +58,7 @@ pub enum Stmt {
 /// A function whose operands stand in locals: a block around `body`, then `local.get` of `result` where told.
 /// `func` is the function's index, `sort` that of its type; `locals` are its parameters, declared locals,
 /// slots and result locals.
-#[derive(Debug, Drop)]
+#[derive(Drop)]
 pub struct FlatFunc {
     pub func: u32,
     pub sort: u32,

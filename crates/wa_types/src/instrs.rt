@@ -4,7 +4,7 @@ use crate::operators::NumOp;
 use crate::values::{ValType, Value};
 
 /// An instruction (standard, section 2.4). A construct holds its bodies, without their ends.
-#[derive(Debug, Drop)]
+#[derive(Drop)]
 pub enum Instr {
     Unreachable,
     Nop,

@@ -6,14 +6,14 @@ use crate::names::Name;
 use crate::values::ValType;
 
 /// A function type (standard, section 2.3.3).
-#[derive(Debug, Drop)]
+#[derive(Drop)]
 pub struct FuncType {
     pub params: Vec<ValType>,
     pub results: Vec<ValType>,
 }
 
 /// So many locals of one type, one behind another (standard, section 5.5.13).
-#[derive(Clone, Copy, Debug)]
+#[derive(Clone, Copy)]
 pub struct Run {
     pub count: u32,
     pub ty: ValType,
@@ -21,7 +21,6 @@ pub struct Run {
 
 /// A defined function (standard, section 2.5.3): the index of its type, its declared locals in runs, its
 /// body without the end.
-#[derive(Debug)]
 pub struct Func {
     pub sort: u32,
     pub locals: Vec<Run>,
@@ -40,14 +39,13 @@ impl Drop for Func {
 }
 
 /// The limits of a table in entries, or of a memory in pages of 65,536 bytes (standard, section 2.3.4).
-#[derive(Clone, Copy, Debug)]
+#[derive(Clone, Copy)]
 pub struct Limits {
     pub min: u32,
     pub max: Option<u32>,
 }
 
 /// A defined global (standard, section 2.5.6); `init` is its initialiser without the end.
-#[derive(Debug)]
 pub struct GlobalDef {
     pub ty: ValType,
     pub mutable: bool,
@@ -67,7 +65,7 @@ impl Drop for GlobalDef {
 
 /// What is imported (standard, section 2.5.11): a function by the index of its type, a table, a memory, or
 /// a global by its type and whether it is mutable.
-#[derive(Clone, Copy, Debug)]
+#[derive(Clone, Copy)]
 pub enum ImportKind {
     Func(u32),
     Table(Limits),
@@ -76,7 +74,7 @@ pub enum ImportKind {
 }
 
 /// An import under its two names (standard, section 2.5.11).
-#[derive(Debug, Drop)]
+#[derive(Drop)]
 pub struct Import {
     pub module: Name,
     pub base: Name,
@@ -93,7 +91,7 @@ pub enum Space {
 }
 
 /// An export (standard, section 2.5.10).
-#[derive(Debug, Drop)]
+#[derive(Drop)]
 pub struct Export {
     pub name: Name,
     pub space: Space,
@@ -101,7 +99,6 @@ pub struct Export {
 }
 
 /// An element segment (standard, section 2.5.7); `offset` is an expression without its end.
-#[derive(Debug)]
 pub struct Elem {
     pub table: u32,
     pub offset: Vec<Instr>,
@@ -120,7 +117,6 @@ impl Drop for Elem {
 }
 
 /// A data segment (standard, section 2.5.8); `offset` is an expression without its end.
-#[derive(Debug)]
 pub struct Segment {
     pub memory: u32,
     pub offset: Vec<Instr>,
@@ -140,7 +136,7 @@ impl Drop for Segment {
 
 /// A custom section (standard, section 5.5.3). It stands behind all known sections of an id up to `after`;
 /// 0 is before all of them.
-#[derive(Debug, Drop)]
+#[derive(Drop)]
 pub struct Custom {
     pub after: u8,
     pub name: Name,
@@ -148,7 +144,6 @@ pub struct Custom {
 }
 
 /// A module (standard, section 2.5). Its lists are in index order, imports before what is defined.
-#[derive(Debug)]
 pub struct Module {
     pub types: Vec<FuncType>,
     pub imports: Vec<Import>,
