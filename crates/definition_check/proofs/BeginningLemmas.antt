@@ -5,8 +5,8 @@ use Rattle.std.proofs.lemmas.Bool.{lt-ltb, le-ltb, ltb-true, ltb-false, ne_eqb}
 use Rattle.std.proofs.lemmas.List.{take-append-drop}
 use Rattle.std.proofs.lemmas.Str.{IsUtf8-from_is_utf8, is_utf8-from_IsUtf8}
 use Rattle.std.specs.Str.{is_utf8}
-use Rattle.wa_types.specs.declared.leb.LebFault.{LebFault}
-use Rattle.wa_types.specs.declared.leb.LebFault.TheVariants.{Short, Long, Bits}
+use Rattle.wa_types.specs.LebFault.{LebFault}
+use Rattle.wa_types.specs.LebFault.TheVariants.{Short, Long, Bits}
 use Rattle.wa_types.specs.Leb.{unsigned_at, signed_at}
 use Rattle.wa_types.specs.Begun.{Goal, Item, a_byte, an_unsigned, a_signed, a_name, a_constant_of, IsItem, IsPart, size, head, until, rest, entries, count, exact, number, name, value_type}
 use Rattle.wa_types.specs.Begun.{block_type, mutable, import_kind, space, limits, signed, name_bytes, float_bytes, code, wants, next, settled, end_of, IsBefore, Inside, Steps, Leads}

@@ -5,8 +5,8 @@ use Rattle.std.proofs.lemmas.Bool.{ltb-true, ltb-false}
 use Rattle.std.proofs.lemmas.Nat.{pow-add}
 use Rattle.std.proofs.Math.Pow.{pow_mono}
 use Rattle.std.proofs.lemmas.List.Elements.{All-head, All-tail, All-cons, All-append}
-use Rattle.wa_types.specs.declared.leb.LebFault.{LebFault}
-use Rattle.wa_types.specs.declared.leb.LebFault.TheVariants.{Bits}
+use Rattle.wa_types.specs.LebFault.{LebFault}
+use Rattle.wa_types.specs.LebFault.TheVariants.{Bits}
 use Rattle.wa_types.specs.declared.values.Value.TheVariants.{I32 as value_32, I64 as value_64}
 use Rattle.wa_types.specs.declared.syntax.Limits.{Limits}
 use Rattle.wa_types.specs.declared.syntax.ImportKind.{ImportKind}

@@ -3,8 +3,8 @@
 -- and puts in its place what has to follow.
 use Rattle.std.specs.Prelude.{◌≡◌, ℕ, ◌+◌, ◌-◌, ◌<◌, ◌≤◌, ◌⊎◌, ◌==◌, ◌&&◌, ◌||◌, nat_le, nat_lt, List, [], ◌∷◌, ◌++◌, map, length, take, Option, Some, None, Err, Bool, true, false, not}
 use Rattle.std.specs.Prelude.{if◌then◌else◌, IsUtf8}
-use Rattle.wa_types.specs.declared.leb.LebFault.TheVariants.{Short}
-use Rattle.wa_types.specs.Leb.{IsUnsigned, IsSigned, unsigned_at, signed_at}
+use Rattle.wa_types.specs.LebFault.TheVariants.{Short}
+use Rattle.leb_numbers.specs.Leb.{IsUnsigned, IsSigned, unsigned_at, signed_at}
 use Rattle.wa_types.specs.Encoding.{preamble}
 use Rattle.wa_types.specs.Opcodes.{Form, no_immediate, a_zero, an_index, an_index_and_zero, an_access, some_labels, a_constant, a_float, follows, is_value_type, is_block_type, is_nest}
 

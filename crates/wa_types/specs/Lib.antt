@@ -1,3 +1,5 @@
+pub use Rattle.leb_numbers.specs.Leb
+pub use Rattle.leb_numbers.specs.declared.leb.LebFault
 pub mod Accesses
 pub mod Base
 pub mod Begun
@@ -10,7 +12,6 @@ pub mod FirstFault
 pub mod FrameLaws
 pub mod Frames
 pub mod Leaves
-pub mod Leb
 pub mod Liveness
 pub mod Marks
 pub mod Memory

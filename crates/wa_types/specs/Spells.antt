@@ -3,7 +3,7 @@
 use Rattle.std.specs.Prelude.{◌≡◌, ℕ, ◌+◌, ◌<◌, List, [], ◌∷◌, ◌++◌, length, Option, Some, None, Bool, true, false, IsTrue, IsUtf8, flat_map}
 use Rattle.wa_types.specs.declared.syntax.Limits.{Limits}
 use Rattle.wa_types.specs.declared.syntax.Export.{Export}
-use Rattle.wa_types.specs.Leb.{IsUnsigned, IsSigned}
+use Rattle.leb_numbers.specs.Leb.{IsUnsigned, IsSigned}
 use Rattle.wa_types.specs.Encoding.{space_byte, mutable_byte, preamble}
 use Rattle.wa_types.specs.Binary.{Placed, Immediates, nothing, zero_byte, index, index_and_zero, access, labels, constant, float, RawCode, ended, otherwise, instr, nested, branched, RawType}
 use Rattle.wa_types.specs.Binary.{RawKind, raw_func, raw_table, raw_memory, raw_global, RawImport, RawGlobal, RawElem, RawRun, RawBody, RawSegment, Section, custom, types, imports}

@@ -15,7 +15,6 @@ mod drops;
 mod frame_laws;
 mod instrs;
 mod leaves;
-mod leb;
 mod names;
 mod operators;
 mod rules;
@@ -29,7 +28,7 @@ pub use drops::drop_body;
 pub use frame_laws::slot_and_live_laws;
 pub use instrs::Instr;
 pub use leaves::copy_leaf;
-pub use leb::{
+pub use leb_numbers::{
     LebFault, Spelling, read_s32, read_s64, read_u32, signed_spelling_laws, unsigned_spelling_laws,
     write_s32, write_s64, write_u32,
 };

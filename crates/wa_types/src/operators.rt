@@ -4,7 +4,7 @@
 pub const LAST_NUMERIC: u8 = 0xBF;
 
 /// A numeric operator (standard, sections 2.4.1 and 5.4.5); its number is its opcode.
-#[derive(Clone, Copy, Debug)]
+#[derive(Clone, Copy)]
 pub enum NumOp {
     I32Eqz = 0x45,
     I32Eq = 0x46,

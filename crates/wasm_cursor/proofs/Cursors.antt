@@ -4,8 +4,8 @@ use Rattle.std.proofs.Common.{length-drop, length-append, length-take-le, append
 use Rattle.std.proofs.lemmas.List.{drop_all, drop-drop, take-append-drop}
 use Rattle.std.proofs.lemmas.Bool.{eqb-true, eq-eqb}
 use Rattle.std.proofs.Math.Seq.{drop-append_seam}
-use Rattle.wa_types.specs.declared.leb.LebFault.{LebFault}
-use Rattle.wa_types.specs.declared.leb.LebFault.TheVariants.{Short}
+use Rattle.wa_types.specs.LebFault.{LebFault}
+use Rattle.wa_types.specs.LebFault.TheVariants.{Short}
 use Rattle.wa_types.specs.Leb.{IsUnsigned, IsSigned, unsigned_at, signed_at}
 use Rattle.wa_types.proofs.UnsignedReads.{again}
 use Rattle.wa_types.proofs.SignedReads.{again as signed_again}

@@ -48,7 +48,7 @@ pub fn put_section<E: Entry>(
 }
 
 /// How many bytes the start section takes (standard, section 5.5.11): none where there is no start.
-#[tactic(auto, using(wa_types::proofs::UnsignedSpelling::shortest_length))]
+#[tactic(auto, using(leb_numbers::proofs::UnsignedSpelling::shortest_length))]
 pub fn start_len(start: Option<u32>) -> u64
     ensures { result ≡ length (start_section start) }
 {

@@ -2,8 +2,8 @@
 use Rattle.std.proofs.Common.{◌≡◌, ℕ, suc, ◌+◌, ◌-◌, ◌^◌, ◌<◌, ◌≤◌, ◌⊎◌, inl, inr, List, [], ◌∷◌, ◌++◌, Result, Ok, Err, refl, ap, sym, ◌∙◌, subst, arith, length, length-append}
 use Rattle.std.proofs.Common.{length-take-le, take, drop, get_or, nat_lt, true, false, Bool, cond, IsUtf8, append-nil, append_assoc}
 use Rattle.std.proofs.lemmas.List.{take-append-drop}
-use Rattle.wa_types.specs.declared.leb.LebFault.{LebFault}
-use Rattle.wa_types.specs.declared.leb.LebFault.TheVariants.{Short, Long, Bits}
+use Rattle.wa_types.specs.LebFault.{LebFault}
+use Rattle.wa_types.specs.LebFault.TheVariants.{Short, Long, Bits}
 use Rattle.wa_types.specs.Leb.{unsigned_at, signed_at, last_signed, above}
 use Rattle.wa_types.specs.Begun.{Item, a_byte, an_unsigned, a_signed, a_name, a_constant_of, IsItem, IsPart}
 use Rattle.file_laws.proofs.NumberReading.{unsigned_stays, signed_stays, unsigned_ends, signed_ends, unsigned_again, signed_again}
