@@ -5,7 +5,8 @@ use Rattle.wa_types.specs.declared.values.Value.TheVariants as V
 use Rattle.wa_types.specs.Syntax.{Module}
 use Rattle.wa_model.specs.View.{answer_line_of}
 use Rattle.host_setup.specs.SetUp.{NamedEntry}
-use Rattle.pause_host.specs.Programs.{named_entries, none_bound, source_of}
+use Rattle.pause_host.specs.Programs.{named_entries, source_of}
+use Rattle.pause_host.specs.Settings.{none_bound}
 use Rattle.pause_host.specs.declared.plan.Plan.{Plan}
 use Rattle.generated_runs.specs.Playing.{sleep_answer}
 

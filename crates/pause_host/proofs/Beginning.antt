@@ -40,7 +40,7 @@ use Rattle.host_stages.specs.Moves.{IsSetting, PlaceFits, HasShortPokes}
 use Rattle.pause_host.specs.declared.plan.Plan.{Plan}
 use Rattle.pause_host.specs.declared.program.Program.{Program}
 use Rattle.pause_host.specs.declared.program.State.TheVariants.{Fresh}
-use Rattle.pause_host.specs.Settings.{calls_of, MakesSetting}
+use Rattle.plan_parts.specs.Settings.{calls_of, MakesSetting}
 use Rattle.pause_host.specs.Programs.{source_of, named_entries, IsPlan, BindsAs, world_program, before, place_of, RunsCode, FollowsAt, Follows}
 use Rattle.pause_host.proofs.Making.{SetUpFine, set_up_fine}
 

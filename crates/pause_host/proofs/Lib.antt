@@ -2,4 +2,3 @@ pub mod Advancing
 pub mod Beginning
 pub mod Binds
 pub mod Making
-pub mod Parts

@@ -29,7 +29,7 @@ use Rattle.host_turns.specs.Stories.{IsAt}
 use Rattle.host_turns.specs.Supplies.{Supply, Takes}
 use Rattle.host_stages.specs.Views.{exports_in, left_of, lines_in, place_in}
 use Rattle.host_stages.specs.Moves.{IsSetting, PlaceFits, HasShortPokes}
-use Rattle.pause_host.specs.Settings.{calls_of}
+use Rattle.plan_parts.specs.Settings.{calls_of}
 use Rattle.pause_host.specs.declared.plan.Plan.{Plan}
 use Rattle.pause_host.specs.declared.program.State.{State}
 use Rattle.pause_host.specs.declared.program.State.TheVariants.{Fresh, Live, Failed, Lost}
@@ -71,10 +71,6 @@ world_program x funcs looks binds = record {
 -- the imports are bound as the plan has it; one beyond a list is bound to none
 abbrev pub BindsAs : Plan → List (Option (List ℕ)) → Type 0
 BindsAs x binds = (import : ℕ) → unwrap_or (slice_get binds import) None ≡ unwrap_or (slice_get x.binds.items import) None
-
--- no import of a module is bound
-abbrev pub none_bound : Module → List (Option (List ℕ))
-none_bound p = map (λ sort. None) (imported imported_func p)
 
 -- ---- a program
 

@@ -8,13 +8,10 @@
 //! same devices; of a program alone, without devices, more is known (`FollowsAlone`).
 #![tactic(auto)]
 
-mod bindings;
-mod entries;
 mod plan;
 mod program;
-mod setting;
 
-pub use bindings::unbound;
 pub use host_setup::{Entry, SetupFault};
 pub use plan::Plan;
+pub use plan_parts::unbound;
 pub use program::Program;

@@ -4,14 +4,13 @@ ghost use Rattle.std.specs.Prelude.{◌≡◌, ◌<◌, ◌≤◌, ◌+◌, ◌+
 ghost use Rattle.std.specs.Option.{option_copied};
 ghost use Rattle.wa_model.specs.World.{bytes_shown};
 
-use crate::entries::entry_calls;
 use crate::plan::Plan;
-use crate::setting::setting_of;
 use device_port::Devices;
 use host_moves::{next_event, start};
 use host_setup::{SetupFault, set_up};
 use host_stages::{Left, Setting, Stage, copy_end};
 use interp::{Instance, MakeFault, Steps};
+use plan_parts::{entry_calls, setting_of};
 use std::alloc::{AllocError, Global};
 use std::collections::VecDeque;
 use std::mem;

@@ -1,10 +1,8 @@
 pub use Rattle.many_host.proofs.Making
 pub mod Begun
-pub mod Bound
 pub mod Printed
 pub mod ScriptPlans
 pub mod ScriptPrograms
 pub mod SetUp
 pub mod Starts
-pub mod Texts
 pub mod TurnCounts

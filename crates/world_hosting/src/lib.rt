@@ -6,10 +6,7 @@
 //! devices are those that the run leaves. That each program of a script is one that can be staged is the law `scripts_fit`.
 #![tactic(auto)]
 
-mod binding;
-mod fitting;
 mod laws;
-mod lines;
 mod parting;
 mod staging;
 mod telling;

@@ -7,7 +7,7 @@ ghost use Rattle.script_setup.specs.Views.{set_up_of};
 ghost use Rattle.world_hosting.specs.Worlds.{FitsPlan, IsListing, part};
 ghost use Rattle.world_hosting.specs.Views.{IsStaged, Suits, listing};
 
-use crate::binding::bindings;
+use device_bindings::bindings;
 use many_host::{Plan, Program};
 use script_reader::{ProgramText, ShowText};
 use script_setup::{SetUp, program_names};

@@ -15,11 +15,11 @@ ghost use Rattle.world_hosting.specs.Parted.{CanHost};
 ghost use Rattle.world_hosting.specs.Views.{AreStaged};
 ghost use Rattle.world_hosting.specs.Worlds.{Part, Tells, TellsPart, part_names, world_programs};
 
-use crate::lines::{put_last, put_line};
 use crate::parting::{Parted, part_programs};
 use crate::staging::Staged;
 use device_port::{Device, Devices};
 use many_host::Host;
+use printing::{put_last, put_line};
 use std::alloc::Global;
 use transcript::Names;
 use vault_port::{PutFault, Sink};
