@@ -3,7 +3,6 @@
 ghost use Rattle.std.specs.Prelude.{◌≡◌, ◌++◌, [], ◌∷◌, ℕ, List, IfOk, OnOk, Some, map, if◌then◌else◌};
 ghost use Rattle.std.specs.List.{filter_map};
 ghost use Rattle.std.specs.Str.{bytes_eq};
-ghost use Rattle.std.specs.String.{string_bytes};
 ghost use Rattle.wa_types.specs.Modules.{imported_func};
 ghost use Rattle.wa_types.specs.Pausing.{joined_name};
 ghost use Rattle.wa_types.specs.View.{module_of};
@@ -13,6 +12,7 @@ ghost use Rattle.device_bindings.specs.Bindings.{bindings, bound_imports, where_
 ghost use Rattle.device_bindings.specs.Places.{TellsDevices, device_at, place_in};
 
 use script_reader::BindText;
+use script_setup::joined_text;
 use std::alloc::{AllocError, Global};
 use std::collections::BTreeMap;
 use wa_types::{Import, ImportKind, Module, Name};
@@ -127,14 +127,4 @@ fn device_of(alloc: Global, binds: &[BindText], place: usize) -> Result<Option<N
         }
         None => Ok(None),
     }
-}
-
-// The import's module name, a dot and its base name.
-fn joined_text(alloc: Global, import: &Import) -> Result<String, AllocError>
-    ensures { IfOk result (λ text. string_bytes text ≡ joined_name import.now) }
-{
-    let mut joined = String::from_str(alloc, import.module.as_str())?;
-    joined.push_str(".")?;
-    joined.push_str(import.base.as_str())?;
-    Ok(joined)
 }

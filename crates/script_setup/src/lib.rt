@@ -12,5 +12,5 @@ mod names;
 mod setting;
 
 pub use fault::RuleFault;
-pub use names::program_names;
+pub use names::{joined_text, program_names};
 pub use setting::{SetUp, set_up_program};

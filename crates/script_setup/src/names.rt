@@ -66,7 +66,7 @@ fn joined(alloc: Global, import: &Import) -> Result<Name, AllocError>
 }
 
 /// The import's module name, a dot and its base name.
-pub(crate) fn joined_text(alloc: Global, import: &Import) -> Result<String, AllocError>
+pub fn joined_text(alloc: Global, import: &Import) -> Result<String, AllocError>
     ensures { IfOk result (λ text. string_bytes text ≡ joined_name import.now) }
 {
     let mut joined = String::from_str(alloc, import.module.as_str())?;
