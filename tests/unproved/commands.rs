@@ -2,9 +2,9 @@
 
 use asyncify_app::asyncify;
 use device_port::{Device, FaultAt};
+use memory_vaults::{MemSink, MemVault, NamedFile, SureSink, SureVault};
 use std::alloc::{AllocError, Global};
 use std::test::Fail;
-use vault_port::{MemSink, MemVault, NamedFile, SureSink, SureVault};
 use wa_types::Name;
 
 /// The preamble alone.

@@ -1,9 +1,11 @@
 //! Files and output, in memory and real.
 
+use memory_vaults::{MemSink, MemVault, NamedFile, SureSink, SureVault};
 use std::alloc::{AllocError, Global};
 use std::fmt::Display;
 use std::test::Fail;
 use std::{env, fs, io, process};
+use system_vaults::{FileVault, OutSink};
 use vault_port::*;
 use wa_types::Name;
 

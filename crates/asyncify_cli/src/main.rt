@@ -9,7 +9,7 @@ use std::env;
 use std::io::ErrorKind;
 use std::process::ExitCode;
 use std::rt::{Env, Files};
-use vault_port::{FileVault, OutSink};
+use system_vaults::{FileVault, OutSink};
 use wa_types::Name;
 
 /// The status of want of memory.

@@ -1,7 +1,7 @@
 -- What is known of the devices in memory.
 use Rattle.std.specs.Prelude.{ℕ, List}
 use Rattle.wa_model.specs.World.{Device}
-use Rattle.vault_port.specs.Schedule.{one_more}
+use Rattle.vault_port.specs.Counts.{one_more}
 use Rattle.device_port.specs.declared.counter.Counter.{Counter}
 use Rattle.device_port.specs.declared.echo.Echo.{Echo}
 use Rattle.device_port.specs.declared.fault_at.FaultAt.{FaultAt}

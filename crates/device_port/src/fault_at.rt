@@ -1,7 +1,7 @@
 //! `FaultAt`: a counting device in memory that fails at chosen calls.
 
 ghost use Rattle.std.specs.Prelude.{◌≡◌, ◌≢◌, ◌≤◌, ◌↔◌, [], map, Contains, IfOk, OnErr, IsErrOf};
-ghost use Rattle.vault_port.specs.Schedule.{one_more};
+ghost use Rattle.vault_port.specs.Counts.{one_more};
 ghost use Rattle.device_port.specs.Journals.{entry, with_entry};
 ghost use Rattle.device_port.specs.Answers.{counted};
 ghost use Rattle.device_port.specs.Kept.{asked_of};

@@ -1,7 +1,7 @@
 //! Which calls of an object fail, by their numbers.
 
 ghost use Rattle.std.specs.Prelude.{◌≡◌, ◌↔◌, [], IsTrue, Contains};
-ghost use Rattle.vault_port.specs.Schedule.{failing, next_call, one_more};
+ghost use Rattle.memory_vaults.specs.Schedule.{failing, next_call};
 
 /// Which calls of an object fail, by their numbers from 1, and how many there were. The number stands still at
 /// `u64::MAX`, so that each call from that one on has it.
@@ -26,14 +26,7 @@ impl Schedule {
         ensures counted { self.new.calls ≡ next_call self.old }
         ensures same { failing self.new ≡ failing self.old }
     {
-        self.calls = one_more(self.calls);
+        self.calls = self.calls.saturating_add(1);
         self.fail.contains(&self.calls)
     }
-}
-
-/// One more; at the greatest u64 the same.
-pub(crate) fn one_more(count: u64) -> u64
-    ensures { result ≡ one_more count }
-{
-    count.saturating_add(1)
 }

@@ -1,12 +1,11 @@
 //! `FileVault`: the files of the system.
 
 ghost use Rattle.std.specs.Prelude.{◌≡◌, ◌≢◌, ◌≤◌, None, IfOk, OnOk, OnErr, length};
-ghost use Rattle.vault_port.specs.Schedule.{one_more};
+ghost use Rattle.vault_port.specs.Counts.{one_more};
 
-use crate::schedule::one_more;
-use crate::{Vault, VaultFail};
 use std::fs::{Files, OpenFile, OpenOptions};
 use std::io::{self, ErrorKind, Read, Seek, SeekFrom, Write};
+use vault_port::{Vault, VaultFail};
 
 /// The files of the system, by path. It doesn't tell what they hold. Each call opens its file anew, which costs
 /// little beside a piece of 64 KiB.
@@ -18,7 +17,7 @@ pub struct FileVault<R: Files + Drop> {
 }
 
 impl<R: Files + Drop> FileVault<R> {
-    ghost use Rattle.vault_port.specs.Real.{file_fetch_faults, file_save_faults};
+    ghost use Rattle.system_vaults.specs.Real.{file_fetch_faults, file_save_faults};
 
     /// The files that this runtime reaches.
     pub fn new(rt: R) -> FileVault<R>
@@ -34,7 +33,7 @@ impl<R: Files + Drop> FileVault<R> {
 }
 
 impl<R: Files + Drop> Vault for FileVault<R> {
-    ghost use Rattle.vault_port.specs.Real.{file_fetch_faults, file_save_faults};
+    ghost use Rattle.system_vaults.specs.Real.{file_fetch_faults, file_save_faults};
 
     ghost files = { λ _. None };
 
@@ -54,7 +53,7 @@ impl<R: Files + Drop> Vault for FileVault<R> {
         match read_at(&self.rt, name, from, buf) {
             Ok(count) => Ok(count),
             Err(error) => {
-                self.fetch_faults = one_more(self.fetch_faults);
+                self.fetch_faults = self.fetch_faults.saturating_add(1);
                 Err(match error.kind() {
                     ErrorKind::NotFound => VaultFail::Absent,
                     _ => VaultFail::Failed,
@@ -77,7 +76,7 @@ impl<R: Files + Drop> Vault for FileVault<R> {
         match write_at(&self.rt, name, from, piece) {
             Ok(count) if count > 0 || piece.is_empty() => Ok(count),
             _ => {
-                self.save_faults = one_more(self.save_faults);
+                self.save_faults = self.save_faults.saturating_add(1);
                 Err(VaultFail::Failed)
             }
         }

@@ -2,12 +2,12 @@
 use Rattle.std.specs.Prelude.{ℕ, ◌<◌, ◌≡◌, List, [], ◌∷◌, length, take, slice_index_or, Some, None, if◌then◌else◌}
 use Rattle.std.specs.Str.{bytes_eq}
 use Rattle.vault_port.specs.Files.{Files}
-use Rattle.vault_port.specs.declared.sure_vault.NamedFile.{NamedFile}
-use Rattle.vault_port.specs.declared.sure_vault.SureVault.{SureVault}
-use Rattle.vault_port.specs.declared.mem_vault.MemVault.{MemVault}
-use Rattle.vault_port.specs.declared.mem_sink.SureSink.{SureSink}
-use Rattle.vault_port.specs.declared.mem_sink.MemSink.{MemSink}
-use Rattle.vault_port.specs.declared.schedule.Schedule.{Schedule}
+use Rattle.memory_vaults.specs.declared.sure_vault.NamedFile.{NamedFile}
+use Rattle.memory_vaults.specs.declared.sure_vault.SureVault.{SureVault}
+use Rattle.memory_vaults.specs.declared.mem_vault.MemVault.{MemVault}
+use Rattle.memory_vaults.specs.declared.mem_sink.SureSink.{SureSink}
+use Rattle.memory_vaults.specs.declared.mem_sink.MemSink.{MemSink}
+use Rattle.memory_vaults.specs.declared.schedule.Schedule.{Schedule}
 
 -- what a list of files holds under each name: the first file of that name
 abbrev pub files_of : List NamedFile → Files

@@ -1,12 +1,13 @@
 //! `MemVault`: files in memory, whose calls fail where chosen.
 
 ghost use Rattle.std.specs.Prelude.{◌≡◌, ◌≢◌, ◌⊎◌, ◌≤◌, ◌↔◌, ◌++◌, ℕ, List, length, take, Some, None, Contains, option_map, IsSome, IfOk, OnErr, IsErrOf};
-ghost use Rattle.vault_port.specs.Counts.{HasRisen};
+ghost use Rattle.vault_port.specs.Counts.{HasRisen, one_more};
 ghost use Rattle.vault_port.specs.Files.{Files, bytes_of, IsFetched, ChangesOnly, ChangesAtMost};
 
-use crate::schedule::{Schedule, one_more};
-use crate::{NamedFile, SureVault, Vault, VaultFail};
+use crate::schedule::Schedule;
+use crate::{NamedFile, SureVault};
 use std::alloc::Global;
+use vault_port::{Vault, VaultFail};
 
 /// Files in memory. The calls whose numbers, from 1 over all calls, are in a list that it was made with fail, but
 /// for fetches of an absent file.
@@ -19,8 +20,8 @@ pub struct MemVault {
 }
 
 impl MemVault {
-    ghost use Rattle.vault_port.specs.InMemory.{files_of, mem_files, vault_schedule, failed_fetches, failed_saves};
-    ghost use Rattle.vault_port.specs.Schedule.{failing, next_call};
+    ghost use Rattle.memory_vaults.specs.InMemory.{files_of, mem_files, vault_schedule, failed_fetches, failed_saves};
+    ghost use Rattle.memory_vaults.specs.Schedule.{failing, next_call};
 
     /// A vault with these files. Of several with one name it has the first.
     pub fn new(alloc: Global, files: Vec<NamedFile>, fail: Vec<u64>) -> MemVault
@@ -47,8 +48,8 @@ impl MemVault {
 }
 
 impl Vault for MemVault {
-    ghost use Rattle.vault_port.specs.InMemory.{mem_files, vault_schedule, failed_fetches, failed_saves};
-    ghost use Rattle.vault_port.specs.Schedule.{failing, next_call, one_more, GoesOn};
+    ghost use Rattle.memory_vaults.specs.InMemory.{mem_files, vault_schedule, failed_fetches, failed_saves};
+    ghost use Rattle.memory_vaults.specs.Schedule.{failing, next_call, GoesOn};
 
     ghost files = { λ vault. Some (mem_files vault) };
 
@@ -78,7 +79,7 @@ impl Vault for MemVault {
     {
         let fails = self.schedule.next_fails();
         if fails && self.kept.file(name).is_some() {
-            self.fetch_faults = one_more(self.fetch_faults);
+            self.fetch_faults = self.fetch_faults.saturating_add(1);
             return Err(VaultFail::Failed);
         }
         self.kept.fetch(name, from, buf)
@@ -107,7 +108,7 @@ impl Vault for MemVault {
         ensures fetches { failed_fetches self.new ≡ failed_fetches self.old }
     {
         if self.schedule.next_fails() {
-            self.save_faults = one_more(self.save_faults);
+            self.save_faults = self.save_faults.saturating_add(1);
             return Err(VaultFail::Failed);
         }
         self.kept.save(name, from, piece)

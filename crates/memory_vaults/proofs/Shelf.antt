@@ -4,9 +4,9 @@ use Rattle.std.specs.Option.{option_or}
 use Rattle.std.specs.Str.{bytes_eq}
 use Rattle.std.proofs.lemmas.Slice.Eq.{bytes_eq-Decides}
 use Rattle.std.proofs.lemmas.List.{take_more, set_split, set-get_or}
-use Rattle.vault_port.specs.declared.sure_vault.NamedFile.{NamedFile}
+use Rattle.memory_vaults.specs.declared.sure_vault.NamedFile.{NamedFile}
 use Rattle.vault_port.specs.Files.{bytes_of, ChangesOnly}
-use Rattle.vault_port.specs.InMemory.{files_of, IsFirstOf}
+use Rattle.memory_vaults.specs.InMemory.{files_of, IsFirstOf}
 
 pick : {A : Type 0} (b : Bool) (x : A) (p q r : Option A) → p ≡ option_or q r → cond b (Some x) p ≡ option_or (cond b (Some x) q) r
 pick true x p q r is = refl

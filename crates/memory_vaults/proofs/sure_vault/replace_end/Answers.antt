@@ -1,10 +1,10 @@
 use Rattle.std.proofs.Common.{refl, sym, ap, ◌∙◌, ◌≡◌, ◌++◌, ℕ, List, get_or, set, take}
-use Rattle.vault_port.specs.declared.sure_vault.NamedFile.{NamedFile}
+use Rattle.memory_vaults.specs.declared.sure_vault.NamedFile.{NamedFile}
 use Rattle.vault_port.specs.Files.{bytes_of, ChangesOnly}
-use Rattle.vault_port.specs.InMemory.{files_of, IsFirstOf}
-use Rattle.vault_port.proofs.Shelf.{ChangesOnly_set, bytes_at}
+use Rattle.memory_vaults.specs.InMemory.{files_of, IsFirstOf}
+use Rattle.memory_vaults.proofs.Shelf.{ChangesOnly_set, bytes_at}
 use Rattle.vault_port.proofs.Telling.{OnErr_by}
-use Rattle.vault_port.proofs.sure_vault.replace_end.Goals as goal
+use Rattle.memory_vaults.proofs.sure_vault.replace_end.Goals as goal
 
 -- the file at the place, cut and with a piece behind
 replaced : (files : List NamedFile) (place from : ℕ) (piece cut : List ℕ) (old new : NamedFile) → old ≡ get_or files place old → new.name ≡ old.name → cut ≡ take from old.bytes.items

@@ -6,10 +6,10 @@ ghost use Rattle.vault_port.specs.declared.vault.VaultFail.TheVariants.{Memory};
 ghost use Rattle.vault_port.specs.Counts.{HasRisen};
 ghost use Rattle.vault_port.specs.Told.{WhereTold, Becomes};
 ghost use Rattle.vault_port.specs.Files.{Files, bytes_of, IsFetched, ChangesOnly, ChangesAtMost};
-ghost use Rattle.vault_port.specs.InMemory.{files_of, IsFirstOf};
+ghost use Rattle.memory_vaults.specs.InMemory.{files_of, IsFirstOf};
 
-use crate::{Vault, VaultFail};
 use std::alloc::{AllocError, Global};
+use vault_port::{Vault, VaultFail};
 use wa_types::Name;
 
 /// A file with its name.
@@ -27,7 +27,7 @@ pub struct SureVault {
 }
 
 impl SureVault {
-    ghost use Rattle.vault_port.specs.InMemory.{sure_files};
+    ghost use Rattle.memory_vaults.specs.InMemory.{sure_files};
 
     /// A vault with these files. Of several with one name it has the first.
     pub fn new(alloc: Global, files: Vec<NamedFile>) -> SureVault
@@ -45,7 +45,7 @@ impl SureVault {
 }
 
 impl Vault for SureVault {
-    ghost use Rattle.vault_port.specs.InMemory.{sure_files};
+    ghost use Rattle.memory_vaults.specs.InMemory.{sure_files};
 
     ghost files = { λ vault. Some (sure_files vault) };
 

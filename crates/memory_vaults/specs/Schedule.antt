@@ -1,10 +1,7 @@
 -- Calls that fail by their number.
-use Rattle.std.specs.Prelude.{ℕ, ◌≡◌, ◌+◌, ◌-◌, ◌^◌, min, List}
-use Rattle.vault_port.specs.declared.schedule.Schedule.{Schedule}
-
--- one more; a u64 stands still at its greatest
-abbrev pub one_more : ℕ → ℕ
-one_more count = min (count + 1) (2 ^ 64 - 1)
+use Rattle.std.specs.Prelude.{ℕ, ◌≡◌, List}
+use Rattle.vault_port.specs.Counts.{one_more}
+use Rattle.memory_vaults.specs.declared.schedule.Schedule.{Schedule}
 
 -- the numbers of the calls that fail
 abbrev pub failing : Schedule → List ℕ

@@ -1,10 +1,9 @@
 //! `OutSink`: standard output.
 
 ghost use Rattle.std.specs.Prelude.{◌≡◌, ◌≢◌, ◌≤◌, None, IfOk, OnOk, OnErr, length};
-ghost use Rattle.vault_port.specs.Schedule.{one_more};
+ghost use Rattle.vault_port.specs.Counts.{one_more};
 
-use crate::schedule::one_more;
-use crate::{Sink, SinkFail};
+use vault_port::{Sink, SinkFail};
 
 /// Standard output. It doesn't tell what was printed, and takes no memory.
 #[derive(Drop)]
@@ -14,7 +13,7 @@ pub struct OutSink<R: Print + Drop> {
 }
 
 impl<R: Print + Drop> OutSink<R> {
-    ghost use Rattle.vault_port.specs.Real.{out_faults};
+    ghost use Rattle.system_vaults.specs.Real.{out_faults};
 
     /// The output of this runtime.
     pub fn new(rt: R) -> OutSink<R>
@@ -25,7 +24,7 @@ impl<R: Print + Drop> OutSink<R> {
 }
 
 impl<R: Print + Drop> Sink for OutSink<R> {
-    ghost use Rattle.vault_port.specs.Real.{out_faults};
+    ghost use Rattle.system_vaults.specs.Real.{out_faults};
 
     ghost taken = { λ _. None };
 
@@ -42,7 +41,7 @@ impl<R: Print + Drop> Sink for OutSink<R> {
         match self.rt.write_some(piece) {
             Ok(count) if count > 0 || piece.is_empty() => Ok(count),
             _ => {
-                self.faults = one_more(self.faults);
+                self.faults = self.faults.saturating_add(1);
                 Err(SinkFail::Failed)
             }
         }

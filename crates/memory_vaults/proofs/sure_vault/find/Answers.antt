@@ -1,5 +1,5 @@
-use Rattle.vault_port.proofs.Shelf.{files_of-at}
-use Rattle.vault_port.proofs.sure_vault.find.Goals as goal
+use Rattle.memory_vaults.proofs.Shelf.{files_of-at}
+use Rattle.memory_vaults.proofs.sure_vault.find.Goals as goal
 
 pub returns : goal.returns
 returns c =

@@ -3,9 +3,9 @@
 ghost use Rattle.std.specs.Prelude.{◌≡◌, ◌≢◌, ◌≤◌, ◌↔◌, ◌++◌, [], ℕ, List, length, take, Some, Contains, IfOk, OnErr, IsErrOf};
 ghost use Rattle.vault_port.specs.declared.sink.SinkFail.TheVariants.{Memory};
 
-use crate::schedule::{Schedule, one_more};
-use crate::{Sink, SinkFail};
+use crate::schedule::Schedule;
 use std::alloc::Global;
+use vault_port::{Sink, SinkFail};
 
 /// Output kept in memory. No call fails but for want of memory.
 #[derive(Drop)]
@@ -14,7 +14,7 @@ pub struct SureSink {
 }
 
 impl SureSink {
-    ghost use Rattle.vault_port.specs.InMemory.{sure_bytes};
+    ghost use Rattle.memory_vaults.specs.InMemory.{sure_bytes};
 
     /// A sink that has taken nothing.
     pub fn new(alloc: Global) -> SureSink
@@ -34,7 +34,7 @@ impl SureSink {
 }
 
 impl Sink for SureSink {
-    ghost use Rattle.vault_port.specs.InMemory.{sure_bytes};
+    ghost use Rattle.memory_vaults.specs.InMemory.{sure_bytes};
 
     ghost taken = { λ sink. Some (sure_bytes sink) };
 
@@ -60,8 +60,8 @@ pub struct MemSink {
 }
 
 impl MemSink {
-    ghost use Rattle.vault_port.specs.InMemory.{mem_bytes, sink_schedule, failed_puts};
-    ghost use Rattle.vault_port.specs.Schedule.{failing, next_call};
+    ghost use Rattle.memory_vaults.specs.InMemory.{mem_bytes, sink_schedule, failed_puts};
+    ghost use Rattle.memory_vaults.specs.Schedule.{failing, next_call};
 
     /// A sink that has taken nothing.
     pub fn new(alloc: Global, fail: Vec<u64>) -> MemSink
@@ -86,8 +86,9 @@ impl MemSink {
 }
 
 impl Sink for MemSink {
-    ghost use Rattle.vault_port.specs.InMemory.{mem_bytes, sink_schedule, failed_puts};
-    ghost use Rattle.vault_port.specs.Schedule.{failing, next_call, one_more, GoesOn};
+    ghost use Rattle.memory_vaults.specs.InMemory.{mem_bytes, sink_schedule, failed_puts};
+    ghost use Rattle.memory_vaults.specs.Schedule.{failing, next_call, GoesOn};
+    ghost use Rattle.vault_port.specs.Counts.{one_more};
 
     ghost taken = { λ sink. Some (mem_bytes sink) };
 
@@ -109,7 +110,7 @@ impl Sink for MemSink {
         ensures rising { failed_puts self.old ≤ failed_puts self.new }
     {
         if self.schedule.next_fails() {
-            self.faults = one_more(self.faults);
+            self.faults = self.faults.saturating_add(1);
             return Err(SinkFail::Failed);
         }
         self.kept.put(piece)

@@ -1,7 +1,7 @@
 use Rattle.std.proofs.Common.{◌≡◌, false}
 use Rattle.std.specs.Str.{bytes_eq}
-use Rattle.vault_port.proofs.Shelf.{files_of-more}
-use Rattle.vault_port.proofs.sure_vault.place_of.Goals as goal
+use Rattle.memory_vaults.proofs.Shelf.{files_of-more}
+use Rattle.memory_vaults.proofs.sure_vault.place_of.Goals as goal
 
 pub loop-place-preserved : goal.loop-place-preserved
 loop-place-preserved c =

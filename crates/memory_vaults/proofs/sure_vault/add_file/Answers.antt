@@ -1,5 +1,5 @@
-use Rattle.vault_port.proofs.Shelf.{ChangesOnly_push}
-use Rattle.vault_port.proofs.sure_vault.add_file.Goals as goal
+use Rattle.memory_vaults.proofs.Shelf.{ChangesOnly_push}
+use Rattle.memory_vaults.proofs.sure_vault.add_file.Goals as goal
 
 pub returns-clause-ok : goal.returns-clause-ok
 returns-clause-ok c = λ none.
