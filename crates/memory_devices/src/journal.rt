@@ -1,9 +1,10 @@
 //! Journals of devices: the calls that were answered, in order.
 
-ghost use Rattle.std.specs.Prelude.{◌≡◌, [], ◌∷◌, ◌++◌, map, length, OnOk, OnErr};
+ghost use Rattle.std.specs.Prelude.{◌≡◌, [], ◌∷◌, ◌++◌, map, length, IfOk, OnOk, OnErr};
 ghost use Rattle.device_port.specs.Journals.{entry};
+ghost use Rattle.memory_devices.specs.Kept.{asked_of};
 
-use crate::Reply;
+use device_port::Reply;
 use std::alloc::{AllocError, Global};
 use std::marker::Model;
 use wa_types::{Name, Value};
@@ -26,7 +27,7 @@ pub struct Journal {
 impl Model for Journal {
     ghost use Rattle.std.specs.Prelude.{List, map};
     ghost use Rattle.wa_model.specs.World.{Asked};
-    ghost use Rattle.device_port.specs.Kept.{asked_of};
+    ghost use Rattle.memory_devices.specs.Kept.{asked_of};
 
     ghost Value = { List Asked };
 
@@ -34,8 +35,6 @@ impl Model for Journal {
 }
 
 impl Journal {
-    ghost use Rattle.device_port.specs.Kept.{asked_of};
-
     /// No calls.
     pub(crate) fn new(alloc: Global) -> Journal
         ensures { result ≡ [] }
@@ -65,13 +64,19 @@ impl Journal {
         ensures added { OnOk result (self.new ≡ self.old ++ entry base.now args.now reply ∷ []) }
         ensures kept { OnErr result (self.new ≡ self.old) }
     {
-        let mut held = Vec::new(self.alloc);
-        held.extend_from_slice(args)?;
-        self.entries.push(Asked {
-            base: Name::new(self.alloc, base)?,
-            args: held,
-            reply,
-        })?;
+        let call = answered(self.alloc, base, args, reply)?;
+        self.entries.push(call)?;
         Ok(())
     }
+}
+
+/// An answered call.
+fn answered(alloc: Global, base: &str, args: &[Value], reply: Reply) -> Result<Asked, AllocError>
+    ensures { IfOk result (λ call. asked_of call ≡ entry base.now args.now reply) }
+{
+    Ok(Asked {
+        base: Name::new(alloc, base)?,
+        args: Vec::from_slice(alloc, args)?,
+        reply,
+    })
 }
