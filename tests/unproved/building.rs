@@ -1,6 +1,7 @@
 //! The modules that bytes spell, whole (standard, section 5).
 
 use crate::modules::{EACH_SECTION, FUNC, module};
+use crate::showing::shown;
 use module_copy::copy_module;
 use std::alloc::Global;
 use std::mem;
@@ -67,12 +68,9 @@ const CONSTRUCTS_READ: &str = "\
 fn each_section_is_read_and_copied(rt: HostRuntime) -> Result<(), Fail> {
     let alloc = rt.alloc();
     let module = module(alloc, EACH_SECTION)?;
-    assert_eq!(rt;
-        format!(in alloc; "{module:?}")?.as_str(),
-        EACH_SECTION_READ
-    );
+    assert_eq!(rt; shown(alloc, &module)?.as_str(), EACH_SECTION_READ);
     let copy = copy_module(alloc, &module)?;
-    assert_eq!(rt; format!(in alloc; "{copy:?}")?.as_str(), EACH_SECTION_READ);
+    assert_eq!(rt; shown(alloc, &copy)?.as_str(), EACH_SECTION_READ);
     Ok(())
 }
 
@@ -81,7 +79,7 @@ fn each_kind_of_instruction_is_read(rt: HostRuntime) -> Result<(), Fail> {
     let alloc = rt.alloc();
     for (bytes, wanted) in [(PLAIN, PLAIN_READ), (CONSTRUCTS, CONSTRUCTS_READ)] {
         let code = code_of(alloc, bytes)?;
-        assert_eq!(rt; format!(in alloc; "{code:?}")?.as_str(), wanted);
+        assert_eq!(rt; shown(alloc, &code)?.as_str(), wanted);
     }
     Ok(())
 }

@@ -2,10 +2,11 @@
 
 use crate::pieces::alike;
 use crate::worked::WORKED;
+use memory_vaults::{MemVault, NamedFile, SureVault};
 use module_files::{ModuleFault, read_file};
 use std::alloc::{AllocError, Global};
 use std::test::Fail;
-use vault_port::{MemVault, NamedFile, SureVault, Vault, VaultFail};
+use vault_port::{Vault, VaultFail};
 use wa_types::{Bounds, LimitKind, Module, Name};
 use wasm_reader::{ReadFault, read};
 

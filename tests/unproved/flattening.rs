@@ -2,6 +2,7 @@
 
 use crate::limits::nested;
 use crate::modules::{FUNC, LoadFault, valid};
+use crate::showing::shown;
 use flatten::{FlatFault, flatten};
 use std::alloc::{AllocError, Global};
 use std::test::Fail;
@@ -195,7 +196,7 @@ fn each_operand_gets_its_slot(rt: HostRuntime) -> Result<(), Fail> {
         let flat = flattened(alloc, bytes, which)?;
         let func = &flat.funcs[0];
         assert_eq!(rt; flat.funcs.len(), 1);
-        assert_eq!(rt; format!(in alloc; "{func:?}")?.as_str(), wanted);
+        assert_eq!(rt; shown(alloc, func)?.as_str(), wanted);
     }
     Ok(())
 }
@@ -332,17 +333,17 @@ fn a_result_goes_out_of_1000_levels(rt: HostRuntime) -> Result<(), Fail> {
     let mut body = &func.body;
     let mut depth = 1;
     while let Some(Stmt::Block(inner)) = body.first() {
-        let arrival = format!(in alloc; "{:?}", body.get(1))?;
-        let wanted = format!(in alloc; "Some(Move {{ to: 0, from: Local({depth}) }})")?;
+        let arrival = shown(alloc, &body[1])?;
+        let wanted = format!(in alloc; "Move {{ to: 0, from: Local({depth}) }}")?;
         assert_eq!(rt; arrival.as_str(), wanted.as_str());
-        let carried = format!(in alloc; "{:?}", inner.last())?;
-        let wanted = format!(in alloc; "Some(Move {{ to: {depth}, from: Local(0) }})")?;
+        let carried = shown(alloc, &inner[inner.len() - 1])?;
+        let wanted = format!(in alloc; "Move {{ to: {depth}, from: Local(0) }}")?;
         assert_eq!(rt; carried.as_str(), wanted.as_str());
         body = inner;
         depth += 1;
     }
     let innermost =
         "[Plain { op: Const(I32(5)), args: [], to: Some(0) }, Move { to: 1000, from: Local(0) }]";
-    assert_eq!(rt; format!(in alloc; "{body:?}")?.as_str(), innermost);
+    assert_eq!(rt; shown(alloc, body)?.as_str(), innermost);
     Ok(())
 }

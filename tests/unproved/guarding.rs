@@ -1,6 +1,7 @@
 //! Guarded functions, whole, against instructions written out by hand: each form of a piece and of a unit.
 
 use crate::flattening::{COUNTDOWN, SELECTOR, flattened};
+use crate::showing::shown;
 use flow_rewrite::guard;
 use std::alloc::{AllocError, Global};
 use std::test::Fail;
@@ -61,7 +62,7 @@ fn flat_functions_are_guarded(rt: HostRuntime) -> Result<(), Fail> {
     for (bytes, wanted) in [(COUNTDOWN, COUNTDOWN_GUARDED), (SELECTOR, SELECTOR_GUARDED)] {
         let flat = flattened(alloc, bytes, &[false, true])?;
         let guarded = guard(alloc, &flat.funcs[0], &[0], 0)?;
-        assert_eq!(rt; format!(in alloc; "{guarded:?}")?.as_str(), wanted);
+        assert_eq!(rt; shown(alloc, &guarded)?.as_str(), wanted);
     }
     Ok(())
 }
@@ -175,7 +176,7 @@ fn an_if_goes_by_the_index_of_its_calls(rt: HostRuntime) -> Result<(), Fail> {
     let alloc = rt.alloc();
     let guarded = guard(alloc, &four_calls(alloc)?, &[0, 2, 3], 7)?;
     assert_eq!(rt;
-        format!(in alloc; "{guarded:?}")?.as_str(),
+        shown(alloc, &guarded)?.as_str(),
         FOUR_CALLS_GUARDED
     );
     Ok(())
@@ -207,7 +208,7 @@ fn calls_without_a_number_stand_in_pieces(rt: HostRuntime) -> Result<(), Fail> {
     let alloc = rt.alloc();
     let guarded = guard(alloc, &four_calls(alloc)?, &[2], 7)?;
     assert_eq!(rt;
-        format!(in alloc; "{guarded:?}")?.as_str(),
+        shown(alloc, &guarded)?.as_str(),
         ONE_CALL_GUARDED
     );
     Ok(())

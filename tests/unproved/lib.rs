@@ -39,6 +39,8 @@ mod runtime;
 #[cfg(test)]
 mod saving;
 #[cfg(test)]
+mod showing;
+#[cfg(test)]
 mod texts;
 #[cfg(test)]
 mod trees;

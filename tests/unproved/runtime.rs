@@ -1,6 +1,7 @@
 //! The parts that are appended to a module, and the numbers that they get.
 
 use crate::modules::{EACH_SECTION, module};
+use crate::showing::shown;
 use asyncify_runtime::{ReservedAt, RuntimeFault, add_runtime, reserved};
 use std::alloc::{AllocError, Global};
 use std::test::Fail;
@@ -45,7 +46,7 @@ fn parts_stand_behind_those_of_the_module(rt: HostRuntime) -> Result<(), Fail> {
         "asyncify_start_unwind=Func3 asyncify_stop_unwind=Func4 asyncify_start_rewind=Func5 \
          asyncify_stop_rewind=Func6 asyncify_get_state=Func7 "
     );
-    let body = format!(in alloc; "{:?}", with.module.funcs[2].body)?;
+    let body = shown(alloc, &with.module.funcs[2].body)?;
     assert_eq!(rt;
         body.as_str(),
         "[Const(I32(1)), GlobalSet(2), LocalGet(0), GlobalSet(3), GlobalGet(3), \

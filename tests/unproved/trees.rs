@@ -1,5 +1,6 @@
 //! Trees of instructions.
 
+use crate::showing::shown;
 use std::alloc::{AllocError, Global};
 use std::test::Fail;
 use wa_types::{Instr, Value};
@@ -29,7 +30,7 @@ fn with_dead_code(alloc: Global) -> Result<Vec<Instr>, AllocError> {
 fn each_sequence_is_pruned(rt: HostRuntime) -> Result<(), Fail> {
     let alloc = rt.alloc();
     let kept = prune(alloc, &with_dead_code(alloc)?)?;
-    let text = format!(in alloc; "{kept:?}")?;
+    let text = shown(alloc, &kept)?;
     let want = "[Loop { result: None, body: [If { result: None, then_arm: [Nop, Return], \
                 else_arm: [BrTable { labels: [0], last: 1 }] }, BrIf(0)] }, Unreachable]";
     assert_eq!(rt; text.as_str(), want);

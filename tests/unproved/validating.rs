@@ -1,6 +1,7 @@
 //! Valid modules, and the types of operands at each point of a body (standard, section 3).
 
 use crate::modules::{EACH_SECTION, module, valid};
+use crate::showing::shown;
 use std::alloc::{AllocError, Global};
 use std::test::Fail;
 use wa_types::{Instr, ValType};
@@ -102,8 +103,8 @@ fn a_valid_module_is_given_back(rt: HostRuntime) -> Result<(), Fail> {
     own.start = None;
     own.funcs[1].body.clear();
     own.funcs[1].body.push(Instr::Unreachable)?;
-    let text = format!(in alloc; "{own:?}")?;
+    let text = shown(alloc, &own)?;
     let given = validate(alloc, own)?.into_module();
-    assert_eq!(rt; format!(in alloc; "{given:?}")?.as_str(), text.as_str());
+    assert_eq!(rt; shown(alloc, &given)?.as_str(), text.as_str());
     Ok(())
 }

@@ -1,6 +1,7 @@
 //! Modules written in their one spelling (standard, section 5), and read again.
 
 use crate::modules::{EACH_SECTION, module};
+use crate::showing::shown;
 use std::test::Fail;
 use wasm_encode::encode;
 
@@ -95,7 +96,7 @@ fn what_is_written_is_the_same_module(rt: HostRuntime) -> Result<(), Fail> {
     let alloc = rt.alloc();
     let read = module(alloc, EACH_SECTION)?;
     let again = module(alloc, &encode(alloc, &read)?)?;
-    let text = format!(in alloc; "{read:?}")?;
-    assert_eq!(rt; format!(in alloc; "{again:?}")?.as_str(), text.as_str());
+    let text = shown(alloc, &read)?;
+    assert_eq!(rt; shown(alloc, &again)?.as_str(), text.as_str());
     Ok(())
 }

@@ -4,12 +4,13 @@
 #![tactic(auto)]
 
 use asyncify_app::asyncify;
-use device_port::{Counter, Device, Echo};
+use device_port::Device;
+use memory_devices::{Counter, Echo};
 use std::env;
 use std::io::ErrorKind;
 use std::process::ExitCode;
 use std::rt::{Env, Files};
-use vault_port::{FileVault, OutSink};
+use system_vaults::{FileVault, OutSink};
 use wa_types::Name;
 
 /// The status of want of memory.

@@ -1,6 +1,3 @@
 pub use Rattle.vault_port.specs.Counts
-pub mod Answers
-pub mod InMemory
 pub mod Journals
-pub mod Kept
 pub mod Listed

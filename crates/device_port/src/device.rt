@@ -10,7 +10,7 @@ use thiserror::Error;
 use wa_types::Value;
 
 /// Why a device did not answer a call.
-#[derive(Clone, Copy, Debug, PartialEq, Eq, Error)]
+#[derive(Clone, Copy, Debug, Error)]
 pub enum DeviceFail {
     #[error("the device failed")]
     Fault,

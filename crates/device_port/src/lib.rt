@@ -10,20 +10,11 @@
 //! `Devices` lends a caller's list of boxed devices: it finds the first of a name, asks one and takes one out, and its
 //! clauses say what that is in a world: `journaled` and `taken_out` (`specs/Listed.antt`).
 //!
-//! `Counter`, `Echo` and `FaultAt` keep their journals in memory. The first two never answer `Fault`; the third does
-//! exactly at the calls whose numbers it was made with (`specs/Answers.antt`).
+//! Devices that keep their journals in memory stand in `memory_devices`.
 #![tactic(auto)]
 
-mod counter;
 mod device;
 mod devices;
-mod echo;
-mod fault_at;
-mod journal;
 
-pub use counter::Counter;
 pub use device::{Device, DeviceFail, Reply};
 pub use devices::Devices;
-pub use echo::Echo;
-pub use fault_at::FaultAt;
-pub use journal::Asked;

@@ -16,7 +16,7 @@ pub struct Refusal {
 }
 
 /// Why a command is refused. Places and lengths are in bytes.
-#[derive(Drop)]
+#[derive(Debug, Drop)]
 pub enum RefusalKind {
     /// The words spell no command.
     Usage,

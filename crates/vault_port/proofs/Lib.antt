@@ -1,3 +1,3 @@
+pub mod Fetching
 pub mod Pieces
-pub mod Shelf
 pub mod Telling

@@ -1,8 +1,8 @@
 -- Bytes that come in several pieces.
 use Rattle.std.proofs.Common.{◌≡◌, ◌⊎◌, ◌≤◌, ◌+◌, ◌-◌, ℕ, List, [], ◌++◌, length, take, drop, Some, refl, sym, ap, ◌∙◌, inl, inr, append_assoc, unwrap_or, length-append, arith}
-use Rattle.std.proofs.lemmas.List.{take-append-drop, take-take, drop-take, take_at, length-take-le, length-drop}
+use Rattle.std.proofs.lemmas.List.{take-append-drop, take-take, drop-take, take_all, take_at, length-take-le, length-drop}
 use borrow.Rule.Slice.PartMut.{put_mid, post_of}
-use Rattle.vault_port.specs.Files.{Files, bytes_of, ChangesOnly, KeepsOthers, IsFetched, FetchesMore}
+use Rattle.vault_port.specs.Files.{Files, bytes_of, ChangesOnly, ChangesAtMost, HoldsFrontAtMost, KeepsOthers, IsFetched, FetchesMore}
 use Rattle.vault_port.specs.Taken.{Appends}
 
 pub take-add : (m n : ℕ) (xs : List ℕ) → take (m + n) xs ≡ take m xs ++ take n (drop m xs)
@@ -55,6 +55,36 @@ HasFront_more name bytes piece done n rest old mid new front saved =
     record {
       changed = saved.changed ∙ ap Some joined;
       others = others_since name bytes done old mid new front saved.others;
+    }
+
+-- the file has these first bytes at least
+pub HasFront_within : (name bytes : List ℕ) (done : ℕ) → done ≤ length bytes → (old new : Files) → HasFront name bytes done old new → done ≤ length (bytes_of new name)
+HasFront_within name bytes done within old new (inl changes) =
+    omega (arith, ap length (holds name (take done bytes) new changes.changed), length-take-le done bytes within)
+HasFront_within name bytes done within old new (inr same) = omega (arith, same.0)
+
+-- the last piece saved behind the first bytes
+pub HasFront_all : (name bytes piece : List ℕ) (done n : ℕ) → piece ≡ drop done bytes → length bytes ≤ done + n → (old mid new : Files) → HasFront name bytes done old mid
+    → ChangesOnly name (take done (bytes_of mid name) ++ take n piece) mid new → ChangesOnly name bytes old new
+HasFront_all name bytes piece done n rest over old mid new front saved =
+    let now = HasFront_more name bytes piece done n rest old mid new front saved in
+    record { changed = now.changed ∙ ap Some (take_all (done + n) bytes over); others = now.others }
+
+as_before : (name bytes : List ℕ) (done : ℕ) (old mid new : Files) → HasFront name bytes done old mid → new name ≡ mid name
+    → ((n : ℕ) × (new name ≡ Some (take n bytes))) ⊎ (new name ≡ old name)
+as_before name bytes done old mid new (inl changes) is = inl (done, is ∙ changes.changed)
+as_before name bytes done old mid new (inr same) is = inr (is ∙ ap (λ files. files name) same.1)
+
+-- nothing, or no more than the first bytes, is left of a piece that was refused
+pub HasFront_cut : (name bytes : List ℕ) (done : ℕ) (old mid new : Files) → HasFront name bytes done old mid → ChangesAtMost name (take done (bytes_of mid name)) mid new
+    → HoldsFrontAtMost name bytes old new
+HasFront_cut name bytes done old mid new front cut =
+    record {
+      changed = elim cut.changed [
+        | inl is ↦ inl (done, is ∙ ap Some (front_is name bytes done old mid front))
+        | inr same ↦ as_before name bytes done old mid new front same
+      ];
+      others = others_since name bytes done old mid new front cut.others;
     }
 
 -- one piece fetched behind the first bytes: k is the length of the buffer's part behind them, which was `old`

@@ -11,6 +11,18 @@ Becomes_then R S T joins (Some x) None q r s = absurd r
 Becomes_then R S T joins (Some x) (Some y) None r s = s
 Becomes_then R S T joins (Some x) (Some y) (Some z) r s = joins x y z r s
 
+-- no change
+pub Becomes_same : {A : Type 0} (R : A → A → Type 0) → ((x : A) → R x x) → (o : Option A) → Becomes o o R
+Becomes_same R same None = tt
+Becomes_same R same (Some x) = same x
+
+-- what is told after a change
+pub told_since : {A : Type 0} (R : A → A → Type 0) (P : A → Type 0) → ((x y : A) → R x y → P y) → (o p : Option A) → Becomes o p R → WhereTold p P
+told_since R P since None None r = tt
+told_since R P since None (Some y) r = absurd r
+told_since R P since (Some x) None r = tt
+told_since R P since (Some x) (Some y) r = since x y r
+
 -- less said of what is told
 pub told_weaker : {A : Type 0} (P Q : A → Type 0) → ((x : A) → P x → Q x) → (o : Option A) → WhereTold o P → WhereTold o Q
 told_weaker P Q weaker None p = tt

@@ -19,26 +19,13 @@
 //! say for each answer what was read, what a file holds and what was printed; these are what a program calls. Want
 //! of memory is the one error without a cause.
 //!
-//! `SureVault` and `SureSink` keep all in memory and never fail but for want of it. `MemVault` and `MemSink` fail
-//! exactly at the calls whose numbers they were made with. `FileVault` and `OutSink` stand over real files and
-//! standard output: that they keep the traits is proved, and what reaches the system is shown by tests.
+//! Vaults and sinks stand in `memory_vaults` and `system_vaults`.
 #![tactic(auto)]
 
-mod file_vault;
-mod mem_sink;
-mod mem_vault;
-mod out_sink;
-mod schedule;
 mod sink;
-mod sure_vault;
 mod vault;
 mod whole;
 
-pub use file_vault::FileVault;
-pub use mem_sink::{MemSink, SureSink};
-pub use mem_vault::MemVault;
-pub use out_sink::OutSink;
 pub use sink::{Sink, SinkFail};
-pub use sure_vault::{NamedFile, SureVault};
 pub use vault::{Vault, VaultFail};
 pub use whole::{FetchFault, PutFault, SaveFault, fetch_whole, put_whole, save_whole};

@@ -12,7 +12,7 @@ use std::alloc::{AllocError, Global};
 use thiserror::Error;
 
 /// Why a file was not read.
-#[derive(Clone, Copy, Debug, PartialEq, Eq, Error)]
+#[derive(Clone, Copy, Debug, Error)]
 pub enum FetchFault {
     #[error("the file could not be read")]
     Read,
@@ -29,7 +29,7 @@ impl From<AllocError> for FetchFault {
 }
 
 /// Why a file was not written.
-#[derive(Clone, Copy, Debug, PartialEq, Eq, Error)]
+#[derive(Clone, Copy, Debug, Error)]
 pub enum SaveFault {
     #[error("the file could not be written")]
     Write,
@@ -38,7 +38,7 @@ pub enum SaveFault {
 }
 
 /// Why output was not taken.
-#[derive(Clone, Copy, Debug, PartialEq, Eq, Error)]
+#[derive(Clone, Copy, Debug, Error)]
 pub enum PutFault {
     #[error("the output could not be written")]
     Fault,

@@ -1,0 +1,103 @@
+//! `FileVault`: the files of the system.
+
+ghost use Rattle.std.specs.Prelude.{◌≡◌, ◌≢◌, ◌≤◌, None, IfOk, OnOk, OnErr, length};
+ghost use Rattle.vault_port.specs.Counts.{one_more};
+
+use std::fs::{Files, OpenFile, OpenOptions};
+use std::io::{self, ErrorKind, Read, Seek, SeekFrom, Write};
+use vault_port::{Vault, VaultFail};
+
+/// The files of the system, by path. It doesn't tell what they hold. Each call opens its file anew, which costs
+/// little beside a piece of 64 KiB.
+#[derive(Drop)]
+pub struct FileVault<R: Files + Drop> {
+    rt: R,
+    fetch_faults: u64,
+    save_faults: u64,
+}
+
+impl<R: Files + Drop> FileVault<R> {
+    ghost use Rattle.system_vaults.specs.Real.{file_fetch_faults, file_save_faults};
+
+    /// The files that this runtime reaches.
+    pub fn new(rt: R) -> FileVault<R>
+        ensures fetches { file_fetch_faults result ≡ 0 }
+        ensures saves { file_save_faults result ≡ 0 }
+    {
+        FileVault {
+            rt,
+            fetch_faults: 0,
+            save_faults: 0,
+        }
+    }
+}
+
+impl<R: Files + Drop> Vault for FileVault<R> {
+    ghost use Rattle.system_vaults.specs.Real.{file_fetch_faults, file_save_faults};
+
+    ghost files = { λ _. None };
+
+    ghost fetch_faults = { λ vault. file_fetch_faults vault };
+
+    ghost save_faults = { λ vault. file_save_faults vault };
+
+    fn fetch(&mut self, name: &str, from: u64, buf: &mut [u8]) -> Result<usize, VaultFail>
+        ensures count { IfOk result (λ n. n ≤ length buf.old) }
+        ensures rises { OnErr result
+            (file_fetch_faults self.new ≡ one_more (file_fetch_faults self.old)) }
+        ensures stays { OnOk result (file_fetch_faults self.new ≡ file_fetch_faults self.old) }
+        ensures faults { file_fetch_faults self.old ≤ file_fetch_faults self.new }
+        ensures saves { file_save_faults self.new ≡ file_save_faults self.old }
+        ensures no_memory { result ≢ Err VaultFail.Memory }
+    {
+        match read_at(&self.rt, name, from, buf) {
+            Ok(count) => Ok(count),
+            Err(error) => {
+                self.fetch_faults = self.fetch_faults.saturating_add(1);
+                Err(match error.kind() {
+                    ErrorKind::NotFound => VaultFail::Absent,
+                    _ => VaultFail::Failed,
+                })
+            }
+        }
+    }
+
+    fn save(&mut self, name: &str, from: u64, piece: &[u8]) -> Result<usize, VaultFail>
+        ensures count { IfOk result (λ n. n ≤ length piece.now) }
+        ensures some { IfOk result (λ n. n ≡ 0 → length piece.now ≡ 0) }
+        ensures rises { OnErr result
+            (file_save_faults self.new ≡ one_more (file_save_faults self.old)) }
+        ensures stays { OnOk result (file_save_faults self.new ≡ file_save_faults self.old) }
+        ensures faults { file_save_faults self.old ≤ file_save_faults self.new }
+        ensures fetches { file_fetch_faults self.new ≡ file_fetch_faults self.old }
+        ensures no_memory { result ≢ Err VaultFail.Memory }
+        ensures not_absent { result ≢ Err VaultFail.Absent }
+    {
+        match write_at(&self.rt, name, from, piece) {
+            Ok(count) if count > 0 || piece.is_empty() => Ok(count),
+            _ => {
+                self.save_faults = self.save_faults.saturating_add(1);
+                Err(VaultFail::Failed)
+            }
+        }
+    }
+}
+
+/// Reads from a place of a file on.
+fn read_at<R: Files>(rt: &R, name: &str, from: u64, buf: &mut [u8]) -> io::Result<usize>
+    ensures { IfOk result (λ count. count ≤ length buf.new) }
+{
+    let mut file = OpenOptions::new().read(true).open(rt, name)?;
+    file.seek(SeekFrom::Start(from))?;
+    file.read(buf)
+}
+
+/// Cuts a file at a place, making it where it is absent, and writes a piece there.
+fn write_at<R: Files>(rt: &R, name: &str, from: u64, piece: &[u8]) -> io::Result<usize>
+    ensures { IfOk result (λ count. count ≤ length piece.now) }
+{
+    let mut file = OpenOptions::new().write(true).create(true).open(rt, name)?;
+    file.set_len(from)?;
+    file.seek(SeekFrom::Start(from))?;
+    file.write(piece)
+}

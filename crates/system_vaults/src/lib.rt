@@ -1,0 +1,10 @@
+//! The files of the system and standard output, as a vault and a sink.
+//!
+//! That they keep the traits is proved, and what reaches the system is shown by tests.
+#![tactic(auto)]
+
+mod file_vault;
+mod out_sink;
+
+pub use file_vault::FileVault;
+pub use out_sink::OutSink;

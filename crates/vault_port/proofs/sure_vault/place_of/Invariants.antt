@@ -1,6 +1,0 @@
-use Rattle.std.proofs.Common.{◌≡◌, take, None}
-use Rattle.vault_port.specs.InMemory.{files_of}
-use Rattle.vault_port.proofs.sure_vault.place_of.Given as goal
-
-abbrev pub invariant-loop-place : goal.invariant-loop-place
-invariant-loop-place l = files_of (take l.place l.files) l.name ≡ None
