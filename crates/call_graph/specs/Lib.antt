@@ -1,7 +1,4 @@
 pub mod Callers
 pub mod Calls
-pub mod Entries
 pub mod Graph
-pub mod Index
-pub mod Lists
-pub mod Settings
+pub use Rattle.import_lists.specs.Settings

@@ -1,6 +1,7 @@
 -- What a call takes and makes.
 use Rattle.std.proofs.Common.{arith, ◌≡◌, ℕ, zero, suc, ◌+◌, ◌-◌, ◌<◌, ◌≤◌, List, [], ◌∷◌, ◌++◌, length, map, replicate, reverse, take, drop, get_or, Some, None, if◌then◌else◌, lt-ltb, refl}
-use Rattle.std.proofs.Common.{ap, sym, ◌∙◌, append_assoc}
+use Rattle.std.proofs.Common.{ap, sym, ◌∙◌, append_assoc, Result, Ok, Err}
+use Rattle.std.specs.Prelude.{IsErr, OnOk}
 use Rattle.std.proofs.lemmas.List.{reverse-reverse, length-take-le, drop-take, take_all, take_more, map-append, append-nil, drop-drop, take-take, take-append-drop}
 use Rattle.std.proofs.lemmas.Grind.{flat_map-append}
 use Rattle.wa_types.specs.declared.values.ValType.{ValType}
@@ -104,3 +105,7 @@ entered_runs s a x args f under e =
     ∙ ap (λ v. running s x under (args ++ map zero_of (declared_locals f.locals)) (reverse v) (code a.code.now) (map label_of (reverse a.labels.items))) e.operands
     ∙ ap (λ v. running s x under (args ++ map zero_of (declared_locals f.locals)) [] v (map label_of (reverse a.labels.items))) e.code_is
     ∙ ap (λ v. running s x under (args ++ map zero_of (declared_locals f.locals)) [] f.body (map label_of (reverse v))) e.labels
+
+pub on_ok_from_err : {T E : Type 0} (r : Result T E) (P : Type 0) → IsErr r → OnOk r P
+on_ok_from_err (Ok x) P e = cc
+on_ok_from_err (Err y) P e = tt

@@ -1,7 +1,7 @@
 -- The operands as a list, and the vector that holds them.
 use Rattle.std.proofs.Common.{arith, ◌≡◌, ℕ, suc, ◌<◌, ◌≤◌, List, [], ◌∷◌, ◌++◌, length, take, drop, reverse, get_or, ◌-◌, Option, Some, None, Bool, true, false, if◌then◌else◌, refl, ap}
-use Rattle.std.proofs.Common.{sym, ◌∙◌, subst, length-drop}
-use Rattle.std.proofs.lemmas.List.{length-reverse, reverse-append, drop-append-le, drop_all, take_all}
+use Rattle.std.proofs.Common.{sym, ◌∙◌, subst, length-append, length-drop}
+use Rattle.std.proofs.lemmas.List.{length-reverse, reverse-append, drop-append-le, take-append-le, drop_all, take_all}
 use Rattle.std.proofs.Math.Seq.{take-suc}
 use Rattle.wa_types.specs.declared.values.ValType.{ValType}
 use Rattle.validate_bodies.specs.Running.{may_be, pop1, pops, ended}
@@ -53,6 +53,12 @@ level_on a b d x y = record {
 pub restored : (a b d : Operands) → b.types.items ≡ a.types.items → b.base ≡ length a.types.items → Level b d → length d.types.items ≡ b.base → d.types.items ≡ a.types.items
 restored a b d e f l n =
     sym (take_all b.base d.types.items (omega (arith, n))) ∙ l.kept ∙ ap (take b.base) e ∙ take_all b.base a.types.items (omega (arith, f))
+
+-- a list whose last one is taken off is what it was before that one was put on
+pub popped_back : (old now new : List (Option ValType)) (l : Option ValType) (n : ℕ) → now ≡ old ++ l ∷ [] → new ≡ take (n - 1) now → n ≡ length now → new ≡ old
+popped_back old now new l n e r h =
+    let k : n - 1 ≡ length old = omega (arith, h, ap length e, length-append old (l ∷ [])) in
+    r ∙ ap (take (n - 1)) e ∙ ap (λ m. take m (old ++ l ∷ [])) k ∙ take-append-le (length old) old (l ∷ []) (omega arith) ∙ take_all (length old) old (omega arith)
 
 pub ruleset levels = (known_more, known_none, level_on)
 

@@ -40,6 +40,10 @@ pub judged_err : {B : Type 0} (res : Result B Flaw) (e : Flaw) (k : ℕ) (v w x 
 judged_err (Ok u) e k v w x y i j h = absurd i
 judged_err (Err f) e k v w x y i j h = blames_on f k v w y (subst (λ (g : Flaw). Blames g k v) (sym i) j) h
 
+pub judged_memory : {B : Type 0} (res : Result B Flaw) (k : ℕ) (v w : Verdict) → IsErrAnd res (λ f. f ≡ Memory) → Judged res k v w
+judged_memory (Ok u) k v w i = absurd i
+judged_memory (Err f) k v w i = subst (λ (g : Flaw). Blames g k v) (sym i) tt
+
 at_number : (c : Around) (ls : List (Option ValType)) (k : Code) (outs : List ValType) (os : List (Option ValType)) (free : Bool) (m n : ℕ) → m ≡ n
     → checks c ls k outs os free m ≡ checks c ls k outs os free n
 at_number c ls k outs os free m n e = ap (checks c ls k outs os free) e
@@ -112,6 +116,18 @@ plain_size x not_block not_loop not_if = elim (leaf_kind x) [
   | is_branch r v w e ↦ absurd (not_if r v w e)
   | is_plain p e f ↦ ap size (f done) ∙ size_plain p done ∙ ap (λ n. 1 + n) size_done
 ]
+
+module _ (x : Instr) (r : Option ValType) (v : Vec Instr Global) (xs : List Instr) (f : xs ≡ v.items) where
+  pub size_of_block : x ≡ Block r v → size (in_front x done) ≡ 2 + size (code xs)
+  size_of_block e = ap (λ y. size (in_front y done)) e ∙ size_block r v done ∙ ap (λ n. 2 + size (code v.items) + n) size_done ∙ (let g = ap (λ y. size (code y)) f in omega arith)
+
+  pub size_of_loop : x ≡ Loop r v → size (in_front x done) ≡ 2 + size (code xs)
+  size_of_loop e = ap (λ y. size (in_front y done)) e ∙ size_loop r v done ∙ ap (λ n. 2 + size (code v.items) + n) size_done ∙ (let g = ap (λ y. size (code y)) f in omega arith)
+
+  pub size_of_if : (w : Vec Instr Global) (ys : List Instr) → ys ≡ w.items → x ≡ If r v w → size (in_front x done) ≡ 2 + size (code xs) + mid (code ys) + size (code ys)
+  size_of_if w ys h e =
+      ap (λ y. size (in_front y done)) e ∙ size_if r v w done ∙ ap (λ n. 2 + size (code v.items) + mid (code w.items) + size (code w.items) + n) size_done
+      ∙ (let g = ap (λ y. size (code y)) f in let i = ap (λ y. size (code y)) h in let j = ap (λ y. mid (code y)) h in omega arith)
 
 pub none_is : {A : Type 0} (o : Option A) → ((q : A) → o ≡ Some q → ⊥) → o ≡ None
 none_is None f = refl

@@ -117,3 +117,27 @@ take_front (suc n) (x ∷ xs) ys e = ap (λ z. x ∷ z) (take_front n xs ys (ome
 -- the first ones of a list that is mapped
 pub taken : {X Y : Type 0} (f : X → Y) (n : ℕ) (all : List X) (xs ys : List Y) → map f all ≡ xs ++ ys → n ≡ length xs → map f (take n all) ≡ xs
 taken f n all xs ys e h = map_take f n all ∙ ap (take n) e ∙ take_front n xs ys h
+
+and_pairs : (a b c d : Bool) → ((a && c) && (b && d)) ≡ ((a && b) && (c && d))
+and_pairs false b c d = refl
+and_pairs true false false d = refl
+and_pairs true false true d = refl
+and_pairs true true c d = refl
+
+all_both : {X : Type 0} (p q : X → Bool) (xs : List X) → (list_all p xs && list_all q xs) ≡ list_all (λ x. p x && q x) xs
+all_both p q [] = refl
+all_both p q (x ∷ xs) = and_pairs (p x) (q x) (list_all p xs) (list_all q xs) ∙ ap (λ b. (p x && q x) && b) (all_both p q xs)
+
+-- two tests of what some of a list's items tell
+pub filtered_both : {X Y : Type 0} (p q : Y → Bool) (f g : X → Option Y) (xs : List X)
+    → (list_all p (filter_map f xs) && list_all q (filter_map g xs)) ≡ list_all (λ x. option_all p (f x) && option_all q (g x)) xs
+filtered_both p q f g xs =
+    ap (λ b. b && list_all q (filter_map g xs)) (all_filtered p f xs) ∙ ap (λ b. list_all (λ x. option_all p (f x)) xs && b) (all_filtered q g xs)
+    ∙ all_both (λ x. option_all p (f x)) (λ x. option_all q (g x)) xs
+
+-- two tests of two lists, the first parts of both first
+pub first_parts : {X : Type 0} (p q : X → Bool) (xs ys us vs : List X)
+    → (list_all p (xs ++ ys) && list_all q (us ++ vs)) ≡ ((list_all p xs && list_all q us) && (list_all p ys && list_all q vs))
+first_parts p q xs ys us vs =
+    ap (λ b. b && list_all q (us ++ vs)) (list_all-append p xs ys) ∙ ap (λ b. (list_all p xs && list_all p ys) && b) (list_all-append q us vs)
+    ∙ and_pairs (list_all p xs) (list_all q us) (list_all p ys) (list_all q vs)

@@ -2,15 +2,13 @@
 
 ghost use Rattle.std.specs.Prelude.{◌≡◌, ◌++◌, map, nat_lt};
 ghost use Rattle.std.specs.List.{flat_map, list_all};
-ghost use Rattle.wa_types.specs.declared.syntax.Elem.{Elem as ElemValue};
-ghost use Rattle.wa_types.specs.declared.syntax.GlobalDef.{GlobalDef as GlobalValue};
-ghost use Rattle.wa_types.specs.declared.syntax.Segment.{Segment as SegmentValue};
 ghost use Rattle.wa_types.specs.declared.syntax.Space.TheVariants.{Func, Table, Memory, Global};
 ghost use Rattle.wa_types.specs.Syntax.{Elem as PlainElem, GlobalDef as PlainGlobal, Segment as PlainSegment};
 ghost use Rattle.wa_types.specs.Validity.{all_below, got_global, same_space, start_indices};
 ghost use Rattle.wa_types.specs.View.{code, elem_of, global_of, segment_of};
 ghost use Rattle.validate_rules.specs.Outside.{exported_in, index_in, option_all};
 
+use crate::holders::Holder;
 use wa_types::{Elem, Export, GlobalDef, Instr, Segment, Space};
 
 /// Whether each of the indices is below this number of things.
@@ -137,24 +135,13 @@ fn gets_below(limit: usize, body: &[Instr]) -> bool
     }
 }
 
-fn inits_below(limit: usize, globals: &[GlobalDef]) -> bool
-    ensures { result ≡ list_all (λ (g : GlobalValue). all_below limit (got_global (code g.init.items))) globals.now }
+/// Whether the globals that initialisers or offsets of one instruction name are below this number.
+fn all_get_below<T: Holder>(limit: usize, holders: &[T]) -> bool
+    ensures { result ≡ list_all (λ x. all_below limit (got_global (T.held x))) holders.now }
 {
-    globals.iter().all(|global| gets_below(limit, &global.init))
-}
-
-fn elem_offsets_below(limit: usize, elems: &[Elem]) -> bool
-    ensures { result ≡ list_all (λ (e : ElemValue). all_below limit (got_global (code e.offset.items))) elems.now }
-{
-    elems.iter().all(|elem| gets_below(limit, &elem.offset))
-}
-
-fn segment_offsets_below(limit: usize, segments: &[Segment]) -> bool
-    ensures { result ≡ list_all (λ (s : SegmentValue). all_below limit (got_global (code s.offset.items))) segments.now }
-{
-    segments
+    holders
         .iter()
-        .all(|segment| gets_below(limit, &segment.offset))
+        .all(|holder| gets_below(limit, holder.expression()))
 }
 
 /// The globals that exports, and initialisers and offsets of one instruction, name are there (standard,
@@ -174,11 +161,11 @@ pub(crate) fn globals_below(
     if !exported_below(limit, Space::Global, exports) {
         return false;
     }
-    if !inits_below(limit, globals) {
+    if !all_get_below(limit, globals) {
         return false;
     }
-    if !elem_offsets_below(limit, elems) {
+    if !all_get_below(limit, elems) {
         return false;
     }
-    segment_offsets_below(limit, segments)
+    all_get_below(limit, segments)
 }

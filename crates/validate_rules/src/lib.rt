@@ -3,6 +3,7 @@
 //! Each list's rules stand in `indices`, `outside` and `names`, in their order in `rules`.
 #![tactic(auto)]
 
+mod holders;
 mod indices;
 mod names;
 mod outside;

@@ -1,18 +1,19 @@
 //! The rules outside the bodies on limits, constants, the start function and results.
 
-ghost use Rattle.std.specs.Prelude.{◌≡◌, ◌++◌, ◌^◌, ◌&&◌, ◌≤◌, map, length, take, nat_le, slice_get};
+ghost use Rattle.std.specs.Prelude.{◌≡◌, ◌++◌, ◌^◌, ◌&&◌, ◌≤◌, Some, map, length, take, nat_le, slice_get};
 ghost use Rattle.std.specs.List.{filter_map, list_all};
 ghost use Rattle.wa_types.specs.declared.syntax.Import.{Import as ImportValue};
 ghost use Rattle.wa_types.specs.declared.values.ValType.TheVariants.{I32};
 ghost use Rattle.wa_types.specs.Modules.{imported_table, imported_memory, or_empty};
 ghost use Rattle.wa_types.specs.Syntax.{FuncType as PlainType, Elem as PlainElem, GlobalDef as PlainGlobal, Segment as PlainSegment};
-ghost use Rattle.wa_types.specs.Validity.{constant_of, is_constant, limits_fit, start_fits};
+ghost use Rattle.wa_types.specs.Validity.{constant_of, is_constant, is_empty_type, limits_fit, start_fits};
 ghost use Rattle.wa_types.specs.View.{code, func_type_of, elem_of, global_of, segment_of};
 ghost use Rattle.validate_rules.specs.Outside.{option_all};
 ghost use Rattle.validate_table.specs.Spaces.{global_type_of};
 
-use validate_table::{GlobalType, imported_memory, imported_table, same_types, type_of_value};
-use wa_types::{Elem, FuncType, GlobalDef, Import, Instr, Limits, Segment, ValType};
+use crate::holders::Holder;
+use validate_table::{GlobalType, same_types, type_of_value};
+use wa_types::{Elem, FuncType, GlobalDef, Import, ImportKind, Instr, Limits, Segment, ValType};
 
 /// Whether limits are within a range (standard, section 3.2.1).
 fn limits_fit(range: u64, limits: Limits) -> bool
@@ -32,57 +33,28 @@ fn limits_fit(range: u64, limits: Limits) -> bool
     }
 }
 
-fn told_fit(range: u64, limits: Option<Limits>) -> bool
-    ensures { result ≡ option_all (limits_fit range) limits }
-{
-    match limits {
-        None => true,
-        Some(limits) => limits_fit(range, limits),
-    }
-}
-
 fn all_fit(range: u64, limits: &[Limits]) -> bool
     ensures { result ≡ list_all (limits_fit range) limits.now }
 {
     limits.iter().all(|limits| limits_fit(range, *limits))
 }
 
-#[tactic(auto, using(crate::proofs::OutsideLemmas::listing))]
-fn imported_tables_fit(imports: &[Import]) -> bool
-    ensures { result ≡ list_all (limits_fit (2 ^ 32)) (filter_map (λ (i : ImportValue). imported_table i.kind) imports.now) }
+/// Whether the limits of an import, if it is a table or a memory, are within its range.
+fn import_fits(kind: ImportKind) -> bool
+    ensures { result ≡ (option_all (limits_fit (2 ^ 32)) (imported_table kind) && option_all (limits_fit 65536) (imported_memory kind)) }
 {
-    imports
-        .iter()
-        .all(|import| told_fit(1 << 32, imported_table(import.kind)))
-}
-
-#[tactic(auto, using(crate::proofs::OutsideLemmas::listing))]
-fn imported_memories_fit(imports: &[Import]) -> bool
-    ensures { result ≡ list_all (limits_fit 65536) (filter_map (λ (i : ImportValue). imported_memory i.kind) imports.now) }
-{
-    imports
-        .iter()
-        .all(|import| told_fit(65536, imported_memory(import.kind)))
-}
-
-#[tactic(auto, using(crate::proofs::OutsideLemmas::joining))]
-fn tables_fit(imports: &[Import], tables: &[Limits]) -> bool
-    ensures { result ≡ list_all (limits_fit (2 ^ 32)) (filter_map (λ (i : ImportValue). imported_table i.kind) imports.now ++ tables.now) }
-{
-    if !imported_tables_fit(imports) {
-        return false;
+    match kind {
+        ImportKind::Table(limits) => limits_fit(1 << 32, limits),
+        ImportKind::Memory(limits) => limits_fit(65536, limits),
+        _ => true,
     }
-    all_fit(1 << 32, tables)
 }
 
-#[tactic(auto, using(crate::proofs::OutsideLemmas::joining))]
-fn memories_fit(imports: &[Import], memories: &[Limits]) -> bool
-    ensures { result ≡ list_all (limits_fit 65536) (filter_map (λ (i : ImportValue). imported_memory i.kind) imports.now ++ memories.now) }
+fn imports_fit(imports: &[Import]) -> bool
+    ensures { result ≡ (list_all (limits_fit (2 ^ 32)) (filter_map (λ (i : ImportValue). imported_table i.kind) imports.now)
+        && list_all (limits_fit 65536) (filter_map (λ (i : ImportValue). imported_memory i.kind) imports.now)) }
 {
-    if !imported_memories_fit(imports) {
-        return false;
-    }
-    all_fit(65536, memories)
+    imports.iter().all(|import| import_fits(import.kind))
 }
 
 /// Tables are within 2^32 entries, memories within 65,536 pages, and no maximum is below its minimum
@@ -91,10 +63,13 @@ pub(crate) fn all_limits_fit(imports: &[Import], tables: &[Limits], memories: &[
     ensures { result ≡ (list_all (limits_fit (2 ^ 32)) (filter_map (λ (i : ImportValue). imported_table i.kind) imports.now ++ tables.now)
         && list_all (limits_fit 65536) (filter_map (λ (i : ImportValue). imported_memory i.kind) imports.now ++ memories.now)) }
 {
-    if !tables_fit(imports, tables) {
+    if !imports_fit(imports) {
         return false;
     }
-    memories_fit(imports, memories)
+    if !all_fit(1 << 32, tables) {
+        return false;
+    }
+    all_fit(65536, memories)
 }
 
 /// There is one table and one memory at most (standard, section 3.4.10).
@@ -137,30 +112,16 @@ fn is_constant(globals: &[GlobalType], ty: ValType, body: &[Instr]) -> bool
     }
 }
 
-fn inits_constant(imported: &[GlobalType], globals: &[GlobalDef]) -> bool
-    ensures { result ≡ list_all (λ (g : PlainGlobal). is_constant (map global_type_of imported.now) g.ty g.init) (map global_of globals.now) }
+/// Whether the initialisers or offsets are constant, of their types.
+fn are_constant<T: Holder>(globals: &[GlobalType], holders: &[T]) -> bool
+    ensures { result ≡ list_all (λ x. is_constant (map global_type_of globals.now) (T.sort x) (T.held x)) holders.now }
 {
-    globals
-        .iter()
-        .all(|global| is_constant(imported, global.ty, &global.init))
-}
-
-fn elem_offsets_constant(globals: &[GlobalType], elems: &[Elem]) -> bool
-    ensures { result ≡ list_all (λ (e : PlainElem). is_constant (map global_type_of globals.now) I32 e.offset) (map elem_of elems.now) }
-{
-    elems
-        .iter()
-        .all(|elem| is_constant(globals, ValType::I32, &elem.offset))
-}
-
-fn segment_offsets_constant(globals: &[GlobalType], segments: &[Segment]) -> bool
-    ensures { result ≡ list_all (λ (s : PlainSegment). is_constant (map global_type_of globals.now) I32 s.offset) (map segment_of segments.now) }
-{
-    segments.iter().all(|segment| is_constant(globals, ValType::I32, &segment.offset))
+    holders.iter().all(|holder| is_constant(globals, holder.ty(), holder.expression()))
 }
 
 /// Initialisers are constant, and name imported globals alone; offsets are constant, of type i32 (standard,
 /// sections 3.4.4 to 3.4.6 and 3.4.10). The first globals are the imported ones.
+#[tactic(auto, using(crate::proofs::OutsideLemmas::listing))]
 pub(crate) fn all_constant(
     all: &[GlobalType],
     imported: usize,
@@ -173,13 +134,27 @@ pub(crate) fn all_constant(
         && list_all (λ (e : PlainElem). is_constant (map global_type_of all.now) I32 e.offset) (map elem_of elems.now)
         && list_all (λ (s : PlainSegment). is_constant (map global_type_of all.now) I32 s.offset) (map segment_of segments.now)) }
 {
-    if !inits_constant(&all[..imported], globals) {
+    if !are_constant(&all[..imported], globals) {
         return false;
     }
-    if !elem_offsets_constant(all, elems) {
+    if !are_constant(all, elems) {
         return false;
     }
-    segment_offsets_constant(all, segments)
+    are_constant(all, segments)
+}
+
+/// Whether the type of this index, which counts as empty if it isn't there, takes and gives nothing.
+#[tactic(auto, using(crate::proofs::OutsideLemmas::looking))]
+fn is_empty_at(types: &[FuncType], sort: u32) -> bool
+    ensures { result ≡ is_empty_type (Some (or_empty (slice_get (map func_type_of types.now) sort))) }
+{
+    let Some(ty) = types.get(sort as usize) else {
+        return true;
+    };
+    if !ty.params.is_empty() {
+        return false;
+    }
+    ty.results.is_empty()
 }
 
 /// The start function is of type `[] -> []` (standard, section 3.4.7).
@@ -193,13 +168,7 @@ pub(crate) fn start_fits(start: Option<u32>, sorts: &[u32], types: &[FuncType]) 
     let Some(sort) = sorts.get(x as usize) else {
         return false;
     };
-    let Some(ty) = types.get(*sort as usize) else {
-        return true;
-    };
-    if !ty.params.is_empty() {
-        return false;
-    }
-    ty.results.is_empty()
+    is_empty_at(types, *sort)
 }
 
 /// A type has one result at most (standard, section 3.2.2).

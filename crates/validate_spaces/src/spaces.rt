@@ -17,7 +17,7 @@ use wa_types::{Func, GlobalDef, Import, ImportKind, Limits, Module, Run, ValType
 pub(crate) const FEW_RUNS: usize = 4;
 
 /// A global type (standard, section 2.3.7).
-#[derive(Clone, Copy, Debug, PartialEq, Eq)]
+#[derive(Clone, Copy)]
 pub struct GlobalType {
     pub ty: ValType,
     pub mutable: bool,

@@ -10,56 +10,48 @@ use Rattle.interp_jumps.specs.Stacks.{code_of}
 use Rattle.interp_jumps.specs.Told.{Tells}
 use Rattle.interp_program.specs.View.{store_of, running_of}
 use Rattle.interp_jumps.proofs.ReduceLemmas.{code_first}
-use Rattle.interp_jumps.proofs.RoomKept.{TakesUnpaid, ok_any, roomier}
+use Rattle.interp_jumps.proofs.RoomKept.{TakesUnpaid, err_any, ok_any, roomier}
 use Rattle.interp_reduce.proofs.reducing.reduce.Goals as goal
 
-pub returns-in_default-clause-tells : goal.returns-in_default-clause-tells
-returns-in_default-clause-tells c =
+pub returns-in_default : goal.returns-in_default
+returns-in_default c =
     let m = module_of c.args.program.now in
     let s = store_of c.args.store.now in
     let k = c.args.stack.now in
     let none : code k.here.code.now ≡ done = ap code (nil_from_length _ c.in_default.ensures.cases) ∙ code_none in
-    IfOk-weaker c.finish.result _ _
-    (λ f told. subst (λ d. Tells s (code_of m s k d) c.args.left f (running_of s c.finish.new.stack)) (sym none) (told s c.args.left c.requires.paid))
-    c.finish.ensures.tells
+    record {
+      tells =
+          IfOk-weaker c.finish.result _ _
+          (λ f told. subst (λ d. Tells s (code_of m s k d) c.args.left f (running_of s c.finish.new.stack)) (sym none) (told s c.args.left c.requires.paid))
+          c.finish.ensures.tells;
+      max = refl;
+      holds = ok_any c.finish.result _ (c.finish.ensures.holds (module_of c.args.program.now));
+      lacks =
+          IfErr-weaker c.finish.result _ _
+          (λ e f outs h v fits. absurd (f s outs h (subst (λ d. NextFits m outs (code_of m s k d)) none (steps_fit m outs (running_of s k) v fits))))
+          c.finish.ensures.lacks;
+      unchanged = err_any c.finish.result _ (λ e. refl);
+    }
 
-pub returns-clause-tells : goal.returns-clause-tells
-returns-clause-tells c =
+pub returns : goal.returns
+returns c =
     let m = module_of c.args.program.now in
     let s = store_of c.args.store.now in
     let k = c.args.stack.now in
     let first = code_first k.here.code.now c.in-Some.instr.now c.in-Some.rest.now c.in-Some.ensures.cases.0 in
-    IfOk-weaker c.dispatch.result _ _
-    (λ f told. subst (λ d. Tells s (code_of m s k d) c.args.left f (running_of (store_of c.dispatch.new.store) c.dispatch.new.stack)) (sym first) told)
-    c.dispatch.ensures.tells
-
-pub returns-in_default-clause-holds : goal.returns-in_default-clause-holds
-returns-in_default-clause-holds c = ok_any c.finish.result _ (c.finish.ensures.holds (module_of c.args.program.now))
-
-pub returns-in_default-clause-lacks : goal.returns-in_default-clause-lacks
-returns-in_default-clause-lacks c =
-    let m = module_of c.args.program.now in
-    let s = store_of c.args.store.now in
-    let k = c.args.stack.now in
-    let none : code k.here.code.now ≡ done = ap code (nil_from_length _ c.in_default.ensures.cases) ∙ code_none in
-    IfErr-weaker c.finish.result _ _
-    (λ e f outs h v fits. absurd (f s outs h (subst (λ d. NextFits m outs (code_of m s k d)) none (steps_fit m outs (running_of s k) v fits))))
-    c.finish.ensures.lacks
-
-pub returns-clause-holds : goal.returns-clause-holds
-returns-clause-holds c =
-    let m = module_of c.args.program.now in
-    on_ok_weaker c.dispatch.result (λ f h. f (roomier m c.args.stack.now _ (record { func = refl; operands = omega arith; labels = omega arith; under = refl }) h)) c.dispatch.ensures.holds
-
-pub returns-clause-lacks : goal.returns-clause-lacks
-returns-clause-lacks c =
-    let m = module_of c.args.program.now in
-    let s = store_of c.args.store.now in
-    let k = c.args.stack.now in
-    let first = code_first k.here.code.now c.in-Some.instr.now c.in-Some.rest.now c.in-Some.ensures.cases.0 in
-    IfErr-weaker c.dispatch.result _ _
-    (λ e f outs h v fits.
-    subst (TakesUnpaid m s k) (sym first)
-    (f outs (roomier m k _ (record { func = refl; operands = omega arith; labels = omega arith; under = refl }) h)
-    (subst (λ d. NextFits m outs (code_of m s k d)) first (steps_fit m outs (running_of s k) v fits))))
-    c.dispatch.ensures.lacks
+    record {
+      tells =
+          IfOk-weaker c.dispatch.result _ _
+          (λ f told. subst (λ d. Tells s (code_of m s k d) c.args.left f (running_of (store_of c.dispatch.new.store) c.dispatch.new.stack)) (sym first) told)
+          c.dispatch.ensures.tells;
+      max = c.dispatch.ensures.max;
+      holds = on_ok_weaker c.dispatch.result (λ f h. f (roomier m c.args.stack.now _ (record { func = refl; operands = omega arith; labels = omega arith; under = refl }) h)) c.dispatch.ensures.holds;
+      lacks =
+          IfErr-weaker c.dispatch.result _ _
+          (λ e f outs h v fits.
+          subst (TakesUnpaid m s k) (sym first)
+          (f outs (roomier m k _ (record { func = refl; operands = omega arith; labels = omega arith; under = refl }) h)
+          (subst (λ d. NextFits m outs (code_of m s k d)) first (steps_fit m outs (running_of s k) v fits))))
+          c.dispatch.ensures.lacks;
+      unchanged = c.dispatch.ensures.unchanged;
+    }

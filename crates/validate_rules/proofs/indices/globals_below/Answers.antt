@@ -5,24 +5,24 @@ use Rattle.validate_rules.specs.Outside.{exported_in}
 use Rattle.validate_rules.proofs.OutsideLemmas.{in_globals, in_elems, in_segments, expressions_below, four_second, four_third, four_fourth}
 use Rattle.validate_rules.proofs.indices.globals_below.Goals as goal
 
-pub returns-then-not-inits_below : goal.returns-then-not-inits_below
-returns-then-not-inits_below c =
+pub returns-then-not-all_get_below : goal.returns-then-not-all_get_below
+returns-then-not-all_get_below c =
     four_second (all_below c.args.limit (exported_in Global c.args.exports.now)) (in_globals c.args.limit c.args.globals.now c.args.elems.now c.args.segments.now)
     (in_elems c.args.limit c.args.globals.now c.args.elems.now c.args.segments.now)
-    (in_segments c.args.limit c.args.globals.now c.args.elems.now c.args.segments.now) c.if-not-exported_below.ensures c.if-not-inits_below.ensures
+    (in_segments c.args.limit c.args.globals.now c.args.elems.now c.args.segments.now) c.if-not-exported_below.ensures c.if-not-all_get_below.ensures
     ∙ sym (expressions_below c.args.limit c.args.globals.now c.args.elems.now c.args.segments.now (exported_in Global c.args.exports.now))
 
-pub returns-then-not-elem_offsets_below : goal.returns-then-not-elem_offsets_below
-returns-then-not-elem_offsets_below c =
+pub returns-then-not-all_get_below-2 : goal.returns-then-not-all_get_below-2
+returns-then-not-all_get_below-2 c =
     four_third (all_below c.args.limit (exported_in Global c.args.exports.now)) (in_globals c.args.limit c.args.globals.now c.args.elems.now c.args.segments.now)
     (in_elems c.args.limit c.args.globals.now c.args.elems.now c.args.segments.now)
-    (in_segments c.args.limit c.args.globals.now c.args.elems.now c.args.segments.now) c.if-not-exported_below.ensures c.if-not-inits_below.ensures c.if-not-elem_offsets_below.ensures
+    (in_segments c.args.limit c.args.globals.now c.args.elems.now c.args.segments.now) c.if-not-exported_below.ensures c.if-not-all_get_below.ensures c.if-not-all_get_below-2.ensures
     ∙ sym (expressions_below c.args.limit c.args.globals.now c.args.elems.now c.args.segments.now (exported_in Global c.args.exports.now))
 
 pub returns : goal.returns
 returns c =
     four_fourth (all_below c.args.limit (exported_in Global c.args.exports.now)) (in_globals c.args.limit c.args.globals.now c.args.elems.now c.args.segments.now)
     (in_elems c.args.limit c.args.globals.now c.args.elems.now c.args.segments.now)
-    (in_segments c.args.limit c.args.globals.now c.args.elems.now c.args.segments.now) _ c.if-not-exported_below.ensures c.if-not-inits_below.ensures c.if-not-elem_offsets_below.ensures
-    c.segment_offsets_below.ensures
+    (in_segments c.args.limit c.args.globals.now c.args.elems.now c.args.segments.now) _ c.if-not-exported_below.ensures c.if-not-all_get_below.ensures c.if-not-all_get_below-2.ensures
+    c.all_get_below-3.ensures
     ∙ sym (expressions_below c.args.limit c.args.globals.now c.args.elems.now c.args.segments.now (exported_in Global c.args.exports.now))

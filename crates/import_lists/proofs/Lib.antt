@@ -1,0 +1,4 @@
+pub mod EntryLemmas
+pub mod IndexLemmas
+pub mod ListLemmas
+pub mod ParseLemmas
