@@ -16,6 +16,7 @@ mod spilling;
 
 pub use frames::{Layout, Place};
 pub use laying::layout;
+pub use putting::put_all;
 pub use spilling::{epilogue, prologue};
 
 /// The numbers of the appended parts of a written module.
