@@ -9,7 +9,7 @@ use std::alloc::AllocError;
 use wa_types::{Instr, NumOp, ValType, Value};
 
 /// Puts what raises the location to the frame's end.
-pub(crate) fn put_location_raised(
+pub fn put_location_raised(
     out: &mut Vec<Instr>,
     address: u32,
     scratch: u32,

@@ -11,7 +11,7 @@ use std::alloc::AllocError;
 use wa_types::{Instr, ValType};
 
 /// The store of a value of this type.
-pub(crate) fn store_of(ty: ValType, offset: u32) -> Instr
+pub fn store_of(ty: ValType, offset: u32) -> Instr
     ensures { (rest : Code) → in_front result rest ≡ stored_value ty offset rest }
 {
     match ty {
@@ -29,7 +29,7 @@ pub(crate) fn store_of(ty: ValType, offset: u32) -> Instr
 }
 
 /// The load of a value of this type.
-pub(crate) fn load_of(ty: ValType, offset: u32) -> Instr
+pub fn load_of(ty: ValType, offset: u32) -> Instr
     ensures { (rest : Code) → in_front result rest ≡ loaded_value ty offset rest }
 {
     match ty {
@@ -54,8 +54,8 @@ pub fn put_all<const N: usize>(out: &mut Vec<Instr>, instrs: [Instr; N]) -> Resu
     out.extend(instrs)
 }
 
-/// Puts what stores a local at its offset.
-pub(crate) fn put_stored(out: &mut Vec<Instr>, scratch: u32, place: Place) -> Result<(), AllocError>
+/// Puts what stores a local at its offset behind the address in the scratch local.
+pub fn put_stored(out: &mut Vec<Instr>, scratch: u32, place: Place) -> Result<(), AllocError>
     ensures { OnOk result (Puts out.old.items out.new.items (λ c. plain (local_get scratch) (plain (local_get place.local) (stored_value place.ty place.offset c)))) }
 {
     put_all(
@@ -68,8 +68,8 @@ pub(crate) fn put_stored(out: &mut Vec<Instr>, scratch: u32, place: Place) -> Re
     )
 }
 
-/// Puts what loads a local from its offset.
-pub(crate) fn put_loaded(out: &mut Vec<Instr>, scratch: u32, place: Place) -> Result<(), AllocError>
+/// Puts what loads a local from its offset behind the address in the scratch local.
+pub fn put_loaded(out: &mut Vec<Instr>, scratch: u32, place: Place) -> Result<(), AllocError>
     ensures { OnOk result (Puts out.old.items out.new.items (λ c. plain (local_get scratch) (loaded_value place.ty place.offset (plain (local_set place.local) c)))) }
 {
     put_all(
