@@ -1,6 +1,6 @@
 //! The runtime's parts, appended behind a module's own: types, globals, functions and exports, and a memory where there is none.
 
-ghost use Rattle.std.specs.Prelude.{◌≡◌, ◌<◌, ◌^◌, ◌+◌, ◌++◌, ◌↔◌, length, map, count_by, is_some, IfOk, OnOk, IsErrOf, Some};
+ghost use Rattle.std.specs.Prelude.{◌≡◌, ◌<◌, ◌^◌, ◌+◌, ◌++◌, ◌∷◌, [], ◌↔◌, length, map, count_by, is_some, IfOk, OnOk, IsErrOf, Some};
 ghost use Rattle.wa_types.specs.View.{code, onto, module_of, func_of, global_of, func_type_of};
 ghost use Rattle.std.specs.List.{filter_map, list_any};
 ghost use Rattle.wa_types.specs.Modules.{imported_func, imported_memory, imported_global};
@@ -12,7 +12,7 @@ ghost use Rattle.asyncify_runtime.specs.Reserved.{reserved_at};
 ghost use Rattle.asyncify_runtime.specs.declared.adding.RuntimeFault.TheVariants.{Reserved};
 
 use crate::reserving::{ReservedAt, reserved};
-use local_spill::RuntimeIds;
+use local_spill::{RuntimeIds, put_all};
 use std::alloc::{AllocError, Global};
 use thiserror::Error;
 use wa_types::{
@@ -154,24 +154,52 @@ fn push_types(alloc: Global, types: &mut Vec<FuncType>) -> Result<(), AllocError
     Ok(())
 }
 
-// A mutable i32 that begins as 0.
-#[tactic(auto, using(crate::proofs::Bodies::bodies))]
-fn zero_global(alloc: Global) -> Result<GlobalDef, AllocError>
-    ensures { IfOk result (λ g. global_of g ≡ zero_global) }
-{
-    Ok(GlobalDef {
-        ty: ValType::I32,
-        mutable: true,
-        init: vec![in alloc; Instr::Const(Value::I32(0))]?,
-    })
-}
-
 // The state and the address.
 fn push_globals(alloc: Global, globals: &mut Vec<GlobalDef>) -> Result<(), AllocError>
     ensures { OnOk result (map global_of globals.new.items ≡ map global_of globals.old.items ++ runtime_globals) }
 {
-    globals.push(zero_global(alloc)?)?;
-    globals.push(zero_global(alloc)?)?;
+    push_zero_global(alloc, globals)?;
+    push_zero_global(alloc, globals)
+}
+
+// A mutable i32 that begins as 0.
+fn push_zero_global(alloc: Global, globals: &mut Vec<GlobalDef>) -> Result<(), AllocError>
+    ensures { OnOk result (map global_of globals.new.items ≡ map global_of globals.old.items ++ zero_global ∷ []) }
+{
+    globals.push(GlobalDef {
+        ty: ValType::I32,
+        mutable: true,
+        init: vec![in alloc; Instr::Const(Value::I32(0))]?,
+    })?;
+    Ok(())
+}
+
+// The five exports.
+fn push_exports(alloc: Global, exports: &mut Vec<Export>, first: u32) -> Result<(), AllocError>
+    requires { first < 2 ^ 31 }
+    ensures { OnOk result (exports.new.items ≡ exports.old.items ++ runtime_exports first) }
+{
+    push_export(alloc, exports, "asyncify_start_unwind", first)?;
+    push_export(alloc, exports, "asyncify_stop_unwind", first + 1)?;
+    push_export(alloc, exports, "asyncify_start_rewind", first + 2)?;
+    push_export(alloc, exports, "asyncify_stop_rewind", first + 3)?;
+    push_export(alloc, exports, "asyncify_get_state", first + 4)
+}
+
+// An export of this function.
+fn push_export(
+    alloc: Global,
+    exports: &mut Vec<Export>,
+    name: &str,
+    index: u32,
+) -> Result<(), AllocError>
+    ensures { OnOk result (exports.new.items ≡ exports.old.items ++ func_export name.now index ∷ []) }
+{
+    exports.push(Export {
+        name: Name::new(alloc, name)?,
+        space: Space::Func,
+        index,
+    })?;
     Ok(())
 }
 
@@ -185,110 +213,95 @@ fn push_funcs(
     requires { first_type < 2 ^ 31 }
     ensures { OnOk result (map func_of funcs.new.items ≡ map func_of funcs.old.items ++ runtime_funcs first_type ids.state ids.address) }
 {
-    funcs.push(start_func(alloc, first_type, 1, ids.state, ids.address)?)?;
-    funcs.push(stop_func(alloc, first_type + 1, ids.state, ids.address)?)?;
-    funcs.push(start_func(alloc, first_type, 2, ids.state, ids.address)?)?;
-    funcs.push(stop_func(alloc, first_type + 1, ids.state, ids.address)?)?;
-    funcs.push(state_func(alloc, first_type + 2, ids.state)?)?;
-    Ok(())
-}
-
-// An export of this function.
-fn func_export(alloc: Global, name: &str, index: u32) -> Result<Export, AllocError>
-    ensures { IfOk result (λ e. e ≡ func_export name.now index) }
-{
-    Ok(Export {
-        name: Name::new(alloc, name)?,
-        space: Space::Func,
-        index,
-    })
-}
-
-// The five exports.
-fn push_exports(alloc: Global, exports: &mut Vec<Export>, first: u32) -> Result<(), AllocError>
-    requires { first < 2 ^ 31 }
-    ensures { OnOk result (exports.new.items ≡ exports.old.items ++ runtime_exports first) }
-{
-    exports.push(func_export(alloc, "asyncify_start_unwind", first)?)?;
-    exports.push(func_export(alloc, "asyncify_stop_unwind", first + 1)?)?;
-    exports.push(func_export(alloc, "asyncify_start_rewind", first + 2)?)?;
-    exports.push(func_export(alloc, "asyncify_stop_rewind", first + 3)?)?;
-    exports.push(func_export(alloc, "asyncify_get_state", first + 4)?)?;
-    Ok(())
+    push_start(alloc, funcs, first_type, 1, ids)?;
+    push_stop(alloc, funcs, first_type + 1, ids)?;
+    push_start(alloc, funcs, first_type, 2, ids)?;
+    push_stop(alloc, funcs, first_type + 1, ids)?;
+    push_func(
+        alloc,
+        funcs,
+        first_type + 2,
+        vec![in alloc; Instr::GlobalGet(ids.state)]?,
+    )
 }
 
 // asyncify_start_unwind and asyncify_start_rewind, which set the state to this number.
-#[tactic(auto, using(crate::proofs::Bodies::appended))]
-fn start_func(
+fn push_start(
     alloc: Global,
+    funcs: &mut Vec<Func>,
     sort: u32,
     number: u32,
-    state: u32,
-    address: u32,
-) -> Result<Func, AllocError>
-    ensures { IfOk result (λ f. func_of f ≡ runtime_func sort (start_code number state address)) }
+    ids: RuntimeIds,
+) -> Result<(), AllocError>
+    ensures { OnOk result (map func_of funcs.new.items ≡ map func_of funcs.old.items ++ runtime_func sort (start_code number ids.state ids.address) ∷ []) }
 {
     let set = vec![in alloc;
         Instr::Const(Value::I32(number)),
-        Instr::GlobalSet(state),
+        Instr::GlobalSet(ids.state),
         Instr::LocalGet(0),
-        Instr::GlobalSet(address),
+        Instr::GlobalSet(ids.address),
     ]?;
-    Ok(Func {
-        sort,
-        locals: Vec::new(alloc),
-        body: with_test(alloc, set, address)?,
-    })
+    push_func(alloc, funcs, sort, with_test(alloc, set, ids.address)?)
 }
 
 // asyncify_stop_unwind and asyncify_stop_rewind.
-#[tactic(auto, using(crate::proofs::Bodies::appended))]
-fn stop_func(alloc: Global, sort: u32, state: u32, address: u32) -> Result<Func, AllocError>
-    ensures { IfOk result (λ f. func_of f ≡ runtime_func sort (stop_code state address)) }
+fn push_stop(
+    alloc: Global,
+    funcs: &mut Vec<Func>,
+    sort: u32,
+    ids: RuntimeIds,
+) -> Result<(), AllocError>
+    ensures { OnOk result (map func_of funcs.new.items ≡ map func_of funcs.old.items ++ runtime_func sort (stop_code ids.state ids.address) ∷ []) }
 {
-    let set = vec![in alloc; Instr::Const(Value::I32(0)), Instr::GlobalSet(state)]?;
-    Ok(Func {
-        sort,
-        locals: Vec::new(alloc),
-        body: with_test(alloc, set, address)?,
-    })
+    let set = vec![in alloc; Instr::Const(Value::I32(0)), Instr::GlobalSet(ids.state)]?;
+    push_func(alloc, funcs, sort, with_test(alloc, set, ids.address)?)
 }
 
-// asyncify_get_state.
-#[tactic(auto, using(crate::proofs::Bodies::appended))]
-fn state_func(alloc: Global, sort: u32, state: u32) -> Result<Func, AllocError>
-    ensures { IfOk result (λ f. func_of f ≡ runtime_func sort (state_code state)) }
+// A function of this type and body.
+fn push_func(
+    alloc: Global,
+    funcs: &mut Vec<Func>,
+    sort: u32,
+    body: Vec<Instr>,
+) -> Result<(), AllocError>
+    ensures { OnOk result (map func_of funcs.new.items ≡ map func_of funcs.old.items ++ runtime_func sort (code body.items) ∷ []) }
 {
-    Ok(Func {
+    funcs.push(Func {
         sort,
         locals: Vec::new(alloc),
-        body: vec![in alloc; Instr::GlobalGet(state)]?,
-    })
+        body,
+    })?;
+    Ok(())
 }
 
 // The body with the test of the location behind it.
-#[tactic(auto, using(crate::proofs::Bodies::appended))]
 fn with_test(alloc: Global, body: Vec<Instr>, address: u32) -> Result<Vec<Instr>, AllocError>
     ensures { IfOk result (λ v. code v.items ≡ onto body.items (test_code address)) }
 {
     let mut body = body;
-    body.push(Instr::GlobalGet(address))?;
-    body.push(Instr::Load {
-        op: 0x28,
-        align: 2,
-        offset: 0,
-    })?;
-    body.push(Instr::GlobalGet(address))?;
-    body.push(Instr::Load {
-        op: 0x28,
-        align: 2,
-        offset: 4,
-    })?;
-    body.push(Instr::Num(NumOp::I32GtU))?;
-    body.push(Instr::If {
-        result: None,
-        then_arm: vec![in alloc; Instr::Unreachable]?,
-        else_arm: Vec::new(alloc),
-    })?;
+    let trap = vec![in alloc; Instr::Unreachable]?;
+    put_all(
+        &mut body,
+        [
+            Instr::GlobalGet(address),
+            Instr::Load {
+                op: 0x28,
+                align: 2,
+                offset: 0,
+            },
+            Instr::GlobalGet(address),
+            Instr::Load {
+                op: 0x28,
+                align: 2,
+                offset: 4,
+            },
+            Instr::Num(NumOp::I32GtU),
+            Instr::If {
+                result: None,
+                then_arm: trap,
+                else_arm: Vec::new(alloc),
+            },
+        ],
+    )?;
     Ok(body)
 }

@@ -8,7 +8,7 @@ use wa_types::{Export, Import, Module};
 
 /// What makes a module reserved: an import from the module `asyncify`, or an export under one of the five
 /// names, by its place in the list.
-#[derive(Clone, Copy, Debug, PartialEq, Eq)]
+#[derive(Clone, Copy, Debug)]
 pub enum ReservedAt {
     Import(u32),
     Export(u32),

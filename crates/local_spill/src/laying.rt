@@ -9,7 +9,7 @@ use std::alloc::{AllocError, Global};
 use wa_types::ValType;
 
 /// The bytes that a value takes.
-fn width(ty: ValType) -> u32
+pub fn width(ty: ValType) -> u32
     ensures { result ≡ width ty }
 {
     match ty {

@@ -15,7 +15,9 @@ mod room;
 mod spilling;
 
 pub use frames::{Layout, Place};
-pub use laying::layout;
+pub use laying::{layout, width};
+pub use location::put_location_raised;
+pub use putting::{load_of, put_all, put_loaded, put_stored, store_of};
 pub use spilling::{epilogue, prologue};
 
 /// The numbers of the appended parts of a written module.

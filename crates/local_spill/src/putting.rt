@@ -1,17 +1,17 @@
 //! Code that stores and loads what a frame keeps.
 
-ghost use Rattle.std.specs.Prelude.{◌≡◌, OnOk};
+ghost use Rattle.std.specs.Prelude.{◌≡◌, ◌≤◌, OnOk};
 ghost use Rattle.wa_types.specs.Syntax.{Code, local_get, local_set, plain};
-ghost use Rattle.wa_types.specs.View.{in_front};
+ghost use Rattle.wa_types.specs.View.{in_front, onto};
 ghost use Rattle.local_spill.specs.Putting.{Puts};
-ghost use Rattle.local_spill.specs.Spilling.{index_restored, index_saved, loaded_value, locals_loaded, locals_stored, stored_value};
+ghost use Rattle.local_spill.specs.Spilling.{loaded_value, locals_loaded, locals_stored, stored_value};
 
 use crate::frames::Place;
 use std::alloc::AllocError;
 use wa_types::{Instr, ValType};
 
 /// The store of a value of this type.
-pub(crate) fn store_of(ty: ValType, offset: u32) -> Instr
+pub fn store_of(ty: ValType, offset: u32) -> Instr
     ensures { (rest : Code) → in_front result rest ≡ stored_value ty offset rest }
 {
     match ty {
@@ -29,7 +29,7 @@ pub(crate) fn store_of(ty: ValType, offset: u32) -> Instr
 }
 
 /// The load of a value of this type.
-pub(crate) fn load_of(ty: ValType, offset: u32) -> Instr
+pub fn load_of(ty: ValType, offset: u32) -> Instr
     ensures { (rest : Code) → in_front result rest ≡ loaded_value ty offset rest }
 {
     match ty {
@@ -46,24 +46,40 @@ pub(crate) fn load_of(ty: ValType, offset: u32) -> Instr
     }
 }
 
-/// Puts what stores a local at its offset.
-fn put_stored(out: &mut Vec<Instr>, scratch: u32, place: Place) -> Result<(), AllocError>
-    ensures { OnOk result (Puts out.old.items out.new.items (λ c. plain (local_get scratch) (plain (local_get place.local) (stored_value place.ty place.offset c)))) }
+/// Puts these instructions behind those that are there.
+pub fn put_all<const N: usize>(out: &mut Vec<Instr>, instrs: [Instr; N]) -> Result<(), AllocError>
+    requires { N ≤ 16 }
+    ensures { OnOk result (Puts out.old.items out.new.items (onto instrs.entry)) }
 {
-    out.push(Instr::LocalGet(scratch))?;
-    out.push(Instr::LocalGet(place.local))?;
-    out.push(store_of(place.ty, place.offset))?;
-    Ok(())
+    out.extend(instrs)
 }
 
-/// Puts what loads a local from its offset.
-fn put_loaded(out: &mut Vec<Instr>, scratch: u32, place: Place) -> Result<(), AllocError>
+/// Puts what stores a local at its offset behind the address in the scratch local.
+pub fn put_stored(out: &mut Vec<Instr>, scratch: u32, place: Place) -> Result<(), AllocError>
+    ensures { OnOk result (Puts out.old.items out.new.items (λ c. plain (local_get scratch) (plain (local_get place.local) (stored_value place.ty place.offset c)))) }
+{
+    put_all(
+        out,
+        [
+            Instr::LocalGet(scratch),
+            Instr::LocalGet(place.local),
+            store_of(place.ty, place.offset),
+        ],
+    )
+}
+
+/// Puts what loads a local from its offset behind the address in the scratch local.
+pub fn put_loaded(out: &mut Vec<Instr>, scratch: u32, place: Place) -> Result<(), AllocError>
     ensures { OnOk result (Puts out.old.items out.new.items (λ c. plain (local_get scratch) (loaded_value place.ty place.offset (plain (local_set place.local) c)))) }
 {
-    out.push(Instr::LocalGet(scratch))?;
-    out.push(load_of(place.ty, place.offset))?;
-    out.push(Instr::LocalSet(place.local))?;
-    Ok(())
+    put_all(
+        out,
+        [
+            Instr::LocalGet(scratch),
+            load_of(place.ty, place.offset),
+            Instr::LocalSet(place.local),
+        ],
+    )
 }
 
 /// Puts what stores each of these locals at its offset.
@@ -91,35 +107,5 @@ pub(crate) fn put_locals_loaded(
     for place in places {
         put_loaded(out, scratch, *place)?;
     }
-    Ok(())
-}
-
-/// Puts what stores the call index.
-pub(crate) fn put_index_saved(
-    out: &mut Vec<Instr>,
-    index: u32,
-    scratch: u32,
-    offset: u32,
-) -> Result<(), AllocError>
-    ensures { OnOk result (Puts out.old.items out.new.items (index_saved index scratch offset)) }
-{
-    out.push(Instr::LocalGet(scratch))?;
-    out.push(Instr::LocalGet(index))?;
-    out.push(store_of(ValType::I32, offset))?;
-    Ok(())
-}
-
-/// Puts what loads the call index.
-pub(crate) fn put_index_restored(
-    out: &mut Vec<Instr>,
-    index: u32,
-    scratch: u32,
-    offset: u32,
-) -> Result<(), AllocError>
-    ensures { OnOk result (Puts out.old.items out.new.items (index_restored index scratch offset)) }
-{
-    out.push(Instr::LocalGet(scratch))?;
-    out.push(load_of(ValType::I32, offset))?;
-    out.push(Instr::LocalSet(index))?;
     Ok(())
 }

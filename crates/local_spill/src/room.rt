@@ -4,8 +4,7 @@ ghost use Rattle.std.specs.Prelude.{OnOk};
 ghost use Rattle.local_spill.specs.Putting.{Puts};
 ghost use Rattle.local_spill.specs.Spilling.{room_tested};
 
-use crate::location::put_location;
-use crate::putting::load_of;
+use crate::putting::{load_of, put_all};
 use std::alloc::{AllocError, Global};
 use wa_types::{Instr, NumOp, ValType, Value};
 
@@ -21,17 +20,22 @@ pub(crate) fn put_room_test(
 {
     let mut trap = Vec::new(alloc);
     trap.push(Instr::Unreachable)?;
-    out.push(Instr::GlobalGet(address))?;
-    out.push(load_of(ValType::I32, 4))?;
-    put_location(out, address)?;
-    out.push(Instr::LocalTee(scratch))?;
-    out.push(Instr::Num(NumOp::I32Sub))?;
-    out.push(Instr::Const(Value::I32(size)))?;
-    out.push(Instr::Num(NumOp::I32LtU))?;
-    out.push(Instr::If {
-        result: None,
-        then_arm: trap,
-        else_arm: Vec::new(alloc),
-    })?;
-    Ok(())
+    put_all(
+        out,
+        [
+            Instr::GlobalGet(address),
+            load_of(ValType::I32, 4),
+            Instr::GlobalGet(address),
+            load_of(ValType::I32, 0),
+            Instr::LocalTee(scratch),
+            Instr::Num(NumOp::I32Sub),
+            Instr::Const(Value::I32(size)),
+            Instr::Num(NumOp::I32LtU),
+            Instr::If {
+                result: None,
+                then_arm: trap,
+                else_arm: Vec::new(alloc),
+            },
+        ],
+    )
 }

@@ -2,18 +2,31 @@
 
 ghost use Rattle.std.specs.Prelude.{◌≡◌, ◌≤◌, ◌-◌, IfOk, OnOk, slice_get};
 ghost use Rattle.wa_types.specs.Syntax.{Code};
+ghost use Rattle.wa_types.specs.declared.values.ValType.TheVariants.{I32};
 ghost use Rattle.wa_types.specs.View.{code, onto};
 ghost use Rattle.local_spill.specs.Laying.{AreAlike};
 ghost use Rattle.local_spill.specs.Putting.{Puts};
 ghost use Rattle.local_spill.specs.Spilling.{epilogue_code, prologue_code, restoring, saving, spill_indices, unless_normal};
 
 use crate::RuntimeIds;
-use crate::frames::Layout;
+use crate::frames::{Layout, Place};
 use crate::location::{put_location_raised, put_location_taken};
-use crate::putting::{put_index_restored, put_index_saved, put_locals_loaded, put_locals_stored};
+use crate::putting::{put_all, put_loaded, put_locals_loaded, put_locals_stored, put_stored};
 use crate::room::put_room_test;
 use std::alloc::{AllocError, Global};
-use wa_types::Instr;
+use wa_types::{Instr, ValType};
+
+/// Where a frame keeps the call index: in its last four bytes.
+fn index_place(layout: &Layout, base: u32) -> Place
+    requires { 4 ≤ layout.now.size }
+    ensures { result ≡ record { local = base; ty = I32; offset = layout.now.size - 4 } }
+{
+    Place {
+        local: base,
+        ty: ValType::I32,
+        offset: layout.size - 4,
+    }
+}
 
 /// What saves a frame.
 fn saving(
@@ -30,7 +43,7 @@ fn saving(
     let scratch = base + 1;
     put_room_test(alloc, &mut out, ids.address, scratch, layout.size)?;
     put_locals_stored(&mut out, scratch, &layout.places)?;
-    put_index_saved(&mut out, base, scratch, layout.size - 4)?;
+    put_stored(&mut out, scratch, index_place(layout, base))?;
     put_location_raised(&mut out, ids.address, scratch, layout.size)?;
     Ok(out)
 }
@@ -50,7 +63,7 @@ fn restoring(
     let scratch = base + 1;
     put_location_taken(&mut out, ids.address, scratch, layout.size)?;
     put_locals_loaded(&mut out, scratch, &layout.places)?;
-    put_index_restored(&mut out, base, scratch, layout.size - 4)?;
+    put_loaded(&mut out, scratch, index_place(layout, base))?;
     Ok(out)
 }
 
@@ -59,12 +72,17 @@ fn unless_normal(alloc: Global, state: u32, arm: Vec<Instr>) -> Result<Vec<Instr
     ensures { IfOk result (λ v. (rest : Code) → onto v.items rest ≡ unless_normal state (code arm.items) rest) }
 {
     let mut out = Vec::new(alloc);
-    out.push(Instr::GlobalGet(state))?;
-    out.push(Instr::If {
-        result: None,
-        then_arm: arm,
-        else_arm: Vec::new(alloc),
-    })?;
+    put_all(
+        &mut out,
+        [
+            Instr::GlobalGet(state),
+            Instr::If {
+                result: None,
+                then_arm: arm,
+                else_arm: Vec::new(alloc),
+            },
+        ],
+    )?;
     Ok(out)
 }
 

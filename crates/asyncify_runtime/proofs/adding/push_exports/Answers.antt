@@ -1,18 +1,10 @@
 -- The five exports, one behind another.
-use Rattle.std.proofs.Common.{append_assoc}
+use Rattle.std.proofs.lemmas.Result.{on_ok_weaker}
+use Rattle.asyncify_runtime.proofs.Bodies.{five_behind}
 use Rattle.asyncify_runtime.proofs.adding.push_exports.Goals as goal
 
 pub returns : goal.returns
-returns c = simp (
-  c.in_ok-push-5.ensures.items,
-  c.in_ok-push-4.ensures.items,
-  c.in_ok-push-3.ensures.items,
-  c.in_ok-push-2.ensures.items,
-  c.in_ok-push.ensures.items,
-  c.in_ok-func_export.ensures,
-  c.in_ok-func_export-2.ensures,
-  c.in_ok-func_export-3.ensures,
-  c.in_ok-func_export-4.ensures,
-  c.in_ok-func_export-5.ensures,
-  append_assoc,
-)
+returns c =
+    on_ok_weaker c.push_export-5.result
+    (five_behind _ _ _ _ _ _ _ _ _ _ _ c.in_ok-push_export.ensures c.in_ok-push_export-2.ensures c.in_ok-push_export-3.ensures c.in_ok-push_export-4.ensures)
+    c.push_export-5.ensures

@@ -1,25 +1,16 @@
--- The six instructions, one behind another.
-use Rattle.asyncify_runtime.proofs.Bodies.{code_is, onto_cons, onto_nil, of_num, of_global_get, of_load, of_unreachable}
-use Rattle.wa_types.proofs.ViewLemmas.{in_if, onto_append}
+use Rattle.std.proofs.Common.{ap, ◌∙◌}
+use Rattle.local_spill.proofs.PutLemmas.{if_is, no_code}
+use Rattle.wa_types.specs.declared.instrs.Instr.TheVariants.{GlobalGet, Load, Num}
+use Rattle.wa_types.specs.declared.operators.NumOp.TheVariants.{I32GtU}
+use Rattle.wa_types.specs.Syntax.{done}
+use Rattle.wa_types.specs.View.{onto, in_front}
+use Rattle.asyncify_runtime.proofs.Bodies.{code_is, trap_code}
 use Rattle.asyncify_runtime.proofs.adding.with_test.Goals as goal
 
 pub returns : goal.returns
-returns c = simp (
-  c.in_ok-push-6.ensures.items,
-  c.in_ok-push-5.ensures.items,
-  c.in_ok-push-4.ensures.items,
-  c.in_ok-push-3.ensures.items,
-  c.in_ok-push-2.ensures.items,
-  c.in_ok-push.ensures.items,
-  code_is,
-  onto_append,
-  in_if,
-  c.in_ok-vec.ensures.items,
-  c.new.ensures.items,
-  onto_cons,
-  onto_nil,
-  of_num,
-  of_global_get,
-  of_load,
-  of_unreachable,
-)
+unfolding onto in_front
+returns c =
+    let a = c.args.address in
+    code_is _ ∙ c.in_ok-put_all.ensures done
+    ∙ ap (λ k. onto c.args.body.items (in_front (GlobalGet a) (in_front (Load 0x28 2 0) (in_front (GlobalGet a) (in_front (Load 0x28 2 4) (in_front (Num I32GtU) k))))))
+    (if_is _ _ _ _ (trap_code _ c.in_ok-trap.ensures.items) (no_code _ c.new.ensures.items) done)

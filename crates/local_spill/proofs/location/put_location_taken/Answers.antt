@@ -1,8 +1,5 @@
-use Rattle.local_spill.proofs.PutLemmas.{put_one, put_on, tee_is, global_is, const_is, num_is}
+use Rattle.local_spill.proofs.PutLemmas.{put_as, taken_put}
 use Rattle.local_spill.proofs.location.put_location_taken.Goals as goal
 
 pub returns : goal.returns
-returns c =
-    put_on _ _ _ _ _ (put_on _ _ _ _ _ (put_on _ _ _ _ _ (put_on _ _ _ _ _ (put_on _ _ _ _ _ (put_one _ _ _ _ c.in_ok-push.ensures.items (global_is _)) (c.in_ok-put_location.ensures))
-    (put_one _ _ _ _ c.in_ok-push-2.ensures.items (const_is _))) (put_one _ _ _ _ c.in_ok-push-3.ensures.items (num_is _)))
-    (put_one _ _ _ _ c.in_ok-push-4.ensures.items (tee_is _))) (put_one _ _ _ _ c.in_ok-push-5.ensures.items c.store_of.ensures)
+returns c = put_as c.put_all.result _ _ _ _ (taken_put _ _ _ _ _ c.load_of.ensures c.store_of.ensures) c.put_all.ensures

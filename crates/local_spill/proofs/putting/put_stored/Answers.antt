@@ -1,7 +1,9 @@
-use Rattle.local_spill.proofs.PutLemmas.{put_one, put_on, get_is}
+use Rattle.std.proofs.Common.{ap}
+use Rattle.wa_types.specs.declared.instrs.Instr.TheVariants.{LocalGet}
+use Rattle.wa_types.specs.View.{onto, in_front}
+use Rattle.local_spill.proofs.PutLemmas.{put_as}
 use Rattle.local_spill.proofs.putting.put_stored.Goals as goal
 
 pub returns : goal.returns
-returns c =
-    put_on _ _ _ _ _ (put_on _ _ _ _ _ (put_one _ _ _ _ c.in_ok-push.ensures.items (get_is _)) (put_one _ _ _ _ c.in_ok-push-2.ensures.items (get_is _)))
-    (put_one _ _ _ _ c.in_ok-push-3.ensures.items c.store_of.ensures)
+unfolding onto in_front
+returns c = put_as c.put_all.result _ _ _ _ (λ rest. ap (λ k. in_front (LocalGet c.args.scratch) (in_front (LocalGet c.args.place.local) k)) (c.store_of.ensures rest)) c.put_all.ensures

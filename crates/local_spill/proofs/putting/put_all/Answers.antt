@@ -3,8 +3,8 @@ use Rattle.std.specs.Array.Iter.{array_into_iter_items, array_steps}
 use Rattle.std.proofs.lemmas.Iterator.{YieldsList}
 use Rattle.std.proofs.lemmas.Iterator.Adapters.{fact_from_extend}
 use Rattle.std.proofs.lemmas.Iterator.Consumers.{YieldsList-from_shown}
-use Rattle.live_frames.proofs.PutSteps.{put_these}
-use Rattle.live_frames.proofs.putting.put_all.Goals as goal
+use Rattle.local_spill.proofs.PutLemmas.{put_these}
+use Rattle.local_spill.proofs.putting.put_all.Goals as goal
 
 pub returns : goal.returns
 returns g c =

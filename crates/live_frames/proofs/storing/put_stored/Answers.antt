@@ -1,9 +1,0 @@
-use Rattle.std.proofs.Common.{ap, ◌∙◌}
-use Rattle.std.proofs.lemmas.Result.{on_ok_weaker}
-use Rattle.wa_types.specs.declared.instrs.Instr.TheVariants.{LocalGet}
-use Rattle.wa_types.specs.View.{onto, in_front}
-use Rattle.live_frames.proofs.storing.put_stored.Goals as goal
-
-pub returns : goal.returns
-unfolding onto in_front
-returns c = on_ok_weaker c.put_all.result (λ h rest. h rest ∙ ap (onto c.args.out.now.items) (ap (λ k. in_front (LocalGet c.args.scratch) (in_front (LocalGet c.args.field.local) k)) (c.store_of.ensures rest))) c.put_all.ensures

@@ -1,6 +1,0 @@
-use Rattle.local_spill.proofs.PutLemmas.{put_one, put_on, global_is}
-use Rattle.local_spill.proofs.location.put_location.Goals as goal
-
-pub returns : goal.returns
-returns c =
-    put_on _ _ _ _ _ (put_one _ _ _ _ c.in_ok-push.ensures.items (global_is _)) (put_one _ _ _ _ c.in_ok-push-2.ensures.items c.load_of.ensures)

@@ -1,7 +1,0 @@
-use Rattle.local_spill.proofs.PutLemmas.{put_one, put_on, get_is, set_is}
-use Rattle.local_spill.proofs.putting.put_index_restored.Goals as goal
-
-pub returns : goal.returns
-returns c =
-    put_on _ _ _ _ _ (put_on _ _ _ _ _ (put_one _ _ _ _ c.in_ok-push.ensures.items (get_is _)) (put_one _ _ _ _ c.in_ok-push-2.ensures.items c.load_of.ensures))
-    (put_one _ _ _ _ c.in_ok-push-3.ensures.items (set_is _))

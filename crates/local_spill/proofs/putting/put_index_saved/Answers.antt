@@ -1,7 +1,0 @@
-use Rattle.local_spill.proofs.PutLemmas.{put_one, put_on, get_is}
-use Rattle.local_spill.proofs.putting.put_index_saved.Goals as goal
-
-pub returns : goal.returns
-returns c =
-    put_on _ _ _ _ _ (put_on _ _ _ _ _ (put_one _ _ _ _ c.in_ok-push.ensures.items (get_is _)) (put_one _ _ _ _ c.in_ok-push-2.ensures.items (get_is _)))
-    (put_one _ _ _ _ c.in_ok-push-3.ensures.items c.store_of.ensures)
