@@ -1,13 +1,5 @@
-pub mod Betweens
-pub mod CodeParts
-pub mod EntryParts
 pub mod FuncParts
 pub mod ModuleSums
-pub mod OpenLevels
 pub mod PieceParts
-pub mod PlainNames
-pub mod PlainParts
 pub mod SectionArms
-pub mod SectionParts
 pub mod SizedParts
-pub mod Steps

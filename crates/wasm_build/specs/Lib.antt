@@ -1,8 +1,5 @@
-pub mod Builds
-pub mod BuildsCode
+pub use Rattle.build_types.specs.declared.BuildFault
 pub mod BuildsEntries
-pub mod BuildsLevels
 pub mod BuildsModule
 pub mod BuildsPieces
-pub mod BuildsSections
 pub mod Extents

@@ -2,14 +2,12 @@
 
 ghost use Rattle.std.specs.Prelude.{◌≡◌, ◌≤◌, ◌<◌, length, OnOk, OnErr};
 ghost use Rattle.wa_types.specs.View.{module_of};
-ghost use Rattle.wasm_build.specs.Builds.{Builds};
+ghost use Rattle.build_types.specs.Builds.{Builds};
 ghost use Rattle.wasm_build.specs.BuildsEntries.{AreOf, SpelledEntry};
 ghost use Rattle.wasm_build.specs.BuildsModule.{state_of, nothing_yet, SpelledSingle, SpelledStart};
 
-use crate::BuildFault;
-use crate::entries::{DataEntry, ElementEntry, GlobalEntry, custom};
-use crate::entry::put;
-use crate::types::{ExportEntry, ImportEntry, IndexEntry, MemoryEntry, TableEntry, TypeEntry};
+use build_entries::{DataEntry, ElementEntry, ExportEntry, GlobalEntry, ImportEntry, custom};
+use build_types::{BuildFault, IndexEntry, MemoryEntry, TableEntry, TypeEntry, put};
 use std::alloc::Global;
 use wa_types::Module;
 use wasm_cursor::Cursor;

@@ -1,0 +1,2 @@
+pub mod CodeParts
+pub mod OpenLevels

@@ -1,0 +1,2 @@
+pub mod BuildsCode
+pub mod BuildsLevels

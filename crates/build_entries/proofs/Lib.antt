@@ -1,0 +1,3 @@
+pub mod CodeEntries
+pub mod KindParts
+pub mod SectionParts
