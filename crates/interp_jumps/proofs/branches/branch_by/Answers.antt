@@ -18,9 +18,9 @@ returns-then-left-more c =
     record {
       tells =
           λ s. (
-          table_unpaid m s (length c.args.labels.now.items + 1) k.here.func (map waiting_of (reverse k.under.items)) k.here.locals.items (reverse k.here.operands.items)
-          (map label_of (reverse k.here.labels.items)) (λ n. unwrap_or (slice_get c.args.labels.now.items n) c.args.last) c.args.left short,
-          refl,
+            table_unpaid m s (length c.args.labels.now.items + 1) k.here.func (map waiting_of (reverse k.under.items)) k.here.locals.items (reverse k.here.operands.items)
+                (map label_of (reverse k.here.labels.items)) (λ n. unwrap_or (slice_get c.args.labels.now.items n) c.args.last) c.args.left short,
+            refl,
           );
       holds = λ m h. h;
       lacks = tt;

@@ -27,11 +27,11 @@ returns-in_ok-carry-in-Block c =
     record {
       tells =
           λ s left paid. (
-          sym (c.loop-entry.invariant.path s)
-          ∙ at_block m s c.args.more k.here.func under ls ops
-          labels c.pop.new.self.items c.in-Some.entry.now c.in-Block.height c.loop-entry.passed c.in-Block.carries c.in-Block.rest c.in-Block.skipped (reverse c.carry.new.operands.items)
-          split c.in-Block.is c.if-passed-eq0.true c.in_ok-carry-in-Block.ensures.keeps,
-          paid,
+            sym (c.loop-entry.invariant.path s)
+                ∙ at_block m s c.args.more k.here.func under ls ops
+                labels c.pop.new.self.items c.in-Some.entry.now c.in-Block.height c.loop-entry.passed c.in-Block.carries c.in-Block.rest c.in-Block.skipped (reverse c.carry.new.operands.items)
+                split c.in-Block.is c.if-passed-eq0.true c.in_ok-carry-in-Block.ensures.keeps,
+            paid,
           );
       holds = λ m h. roomier m c.args.stack.now _ (record { func = c.loop-entry.invariant.roomier.func; operands = omega (arith, c.loop-entry.invariant.roomier.operands, c.carry.ensures.holds); labels = omega (arith, c.loop-entry.invariant.roomier.labels, c.pop.ensures.capacity); under = c.loop-entry.invariant.roomier.under }) h;
       lacks = tt;
@@ -51,11 +51,11 @@ returns-in-Loop c =
     record {
       tells =
           λ s left paid. (
-          sym (c.loop-entry.invariant.path s)
-          ∙ at_loop m s c.args.more k.here.func under ls ops
-          labels (take (length labels - 1) labels) c.in-Some.entry.now c.in-Loop.height c.loop-entry.passed c.in-Loop.body c.in-Loop.rest (reverse c.truncate.new.self.items)
-          split c.in-Loop.is c.if-passed-eq0.true kept,
-          paid,
+            sym (c.loop-entry.invariant.path s)
+                ∙ at_loop m s c.args.more k.here.func under ls ops
+                labels (take (length labels - 1) labels) c.in-Some.entry.now c.in-Loop.height c.loop-entry.passed c.in-Loop.body c.in-Loop.rest (reverse c.truncate.new.self.items)
+                split c.in-Loop.is c.if-passed-eq0.true kept,
+            paid,
           );
       holds = λ m h. roomier m c.args.stack.now _ (record { func = c.loop-entry.invariant.roomier.func; operands = omega (arith, c.loop-entry.invariant.roomier.operands, c.truncate.ensures.capacity); labels = c.loop-entry.invariant.roomier.labels; under = c.loop-entry.invariant.roomier.under }) h;
       lacks = tt;

@@ -26,12 +26,12 @@ returns-then-is_imported c =
     record {
       tells =
           λ s. (
-          asked_at m s k.here.func (map waiting_of (reverse k.under.items)) k.here.locals.items ops (code k.here.code.now)
-          (map label_of (reverse k.here.labels.items)) c.args.own c.args.params c.args.func c.in_default.ensures
-          (ltb-true c.args.func (func_imports m) (sym c.is_imported.ensures ∙ c.if-is_imported.true))
-          ∙ ap (λ p. asks c.args.params c.args.func (reverse (take p (drop c.args.own ops))) (taking (c.args.own + c.args.params) (running_of s k)))
-          (let e : c.args.params ≡ c.args.own + c.args.params - c.args.own = omega arith in e),
-          omega arith,
+            asked_at m s k.here.func (map waiting_of (reverse k.under.items)) k.here.locals.items ops (code k.here.code.now)
+                (map label_of (reverse k.here.labels.items)) c.args.own c.args.params c.args.func c.in_default.ensures
+                (ltb-true c.args.func (func_imports m) (sym c.is_imported.ensures ∙ c.if-is_imported.true))
+                ∙ ap (λ p. asks c.args.params c.args.func (reverse (take p (drop c.args.own ops))) (taking (c.args.own + c.args.params) (running_of s k)))
+                (let e : c.args.params ≡ c.args.own + c.args.params - c.args.own = omega arith in e),
+            omega arith,
           );
       holds = λ h. h;
       lacks = tt;
@@ -65,16 +65,16 @@ returns c =
           ∙ ap (λ a. here c.replace-caller.new.dest (waiting_of (record { activation = a; taken = n }) ∷ under)) c.replace-caller.ensures.value
           ∙ ap (λ h. here h (w ∷ under)) c.replace-caller.ensures.after
           ∙ entered_runs s c.in_ok-entered.entered c.args.func args f (w ∷ under) c.in_ok-entered.ensures.entered in (
-          entered_at m s k.here.func under k.here.locals.items ops rest labels c.args.own c.args.params c.args.func f ls c.in-Some.ensures room locals
-          ∙ ap (steps c.args.params) (sym after),
-          omega arith,
+            entered_at m s k.here.func under k.here.locals.items ops rest labels c.args.own c.args.params c.args.func f ls c.in-Some.ensures room locals
+                ∙ ap (steps c.args.params) (sym after),
+            omega arith,
           );
       holds =
           λ h. record {
-          here = entered_room m c.replace-caller.new.dest c.args.func f (ap (λ a. a.func) after ∙ entered.entered.func_is) c.in-Some.ensures
-          (subst (λ (a : Activation). Reserves a (room_of m f)) (sym after) entered.reserves);
-          under = subst (Each (λ (w : Waiting). HasRoom m w.activation)) (sym c.in_ok-push.ensures.items)
-          (each_more (λ (w : Waiting). HasRoom m w.activation) k.under.items _ h.under (subst (HasRoom m) (sym c.replace-caller.ensures.value) h.here));
+            here = entered_room m c.replace-caller.new.dest c.args.func f (ap (λ a. a.func) after ∙ entered.entered.func_is) c.in-Some.ensures
+                (subst (λ (a : Activation). Reserves a (room_of m f)) (sym after) entered.reserves);
+            under = subst (Each (λ (w : Waiting). HasRoom m w.activation)) (sym c.in_ok-push.ensures.items)
+                (each_more (λ (w : Waiting). HasRoom m w.activation) k.under.items _ h.under (subst (HasRoom m) (sym c.replace-caller.ensures.value) h.here));
           };
       lacks = tt;
     }

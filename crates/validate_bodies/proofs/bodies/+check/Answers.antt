@@ -231,7 +231,7 @@ pub check_instr-returns-in_ok-push_result-in-If : goal.check_instr-returns-in_ok
 check_instr-returns-in_ok-push_result-in-If t c = record {
   labels = c.in_ok-check_body-in-If-2.ensures.labels ∙ c.in_ok-check_body-in-If.ensures.labels;
   level = level_on _ _ _ (level_on _ _ _ (level_on _ _ _ c.pop.ensures.level c.in_ok-check_body-in-If.ensures.level) c.in_ok-check_body-in-If-2.ensures.level) c.in_ok-push_result-in-If.ensures.level;
-  place = 
+  place =
       let m = ap (λ z. mid (code z)) (c.deref-in-If-2.ensures.value ∙ sym c.deref-in-If-3.ensures.value) in
       omega (arith, m, c.middle.ensures, c.in_ok-check_body-in-If.ensures.place, c.in_ok-check_body-in-If-2.ensures.place, size_of_if _ _ _ c.deref-in-If.result.now c.deref-in-If.ensures.value _ c.deref-in-If-3.result.now c.deref-in-If-3.ensures.value c.in-If.is);
   judged =
