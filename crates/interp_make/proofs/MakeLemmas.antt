@@ -1,6 +1,7 @@
 -- What an instance is made of.
 use Rattle.std.proofs.Common.{arith, ◌≡◌, ℕ, suc, ◌+◌, ◌<◌, ◌≤◌, List, [], ◌∷◌, ◌++◌, length, map, get_or, take, drop, Option, Some, None, Bool, true, false, nat_le, if◌then◌else◌, refl, ap}
-use Rattle.std.proofs.Common.{sym, ◌∙◌, drop-cons, add-one}
+use Rattle.std.proofs.Common.{sym, ◌∙◌, drop-cons, add-one, subst, Result, Ok, Err, IsErrAnd}
+use Rattle.std.specs.Prelude.{IfErr}
 use Rattle.std.proofs.lemmas.List.{drop_all, nil_from_length, length-append, length-take-le, length-drop}
 use Rattle.std.proofs.lemmas.Bool.{leb-true}
 use Rattle.wa_types.specs.declared.values.Value.{Value}
@@ -16,7 +17,10 @@ use Rattle.wa_model.specs.Store.{value_at}
 use Rattle.wa_types.specs.Memory.{overwritten, with_piece}
 use Rattle.std.specs.Bool.{OnTrue, OnFalse}
 use Rattle.wa_model.specs.declared.events.End.TheVariants.{ElementsOut, BytesOut}
-use Rattle.wa_model.specs.Instantiation.{Piece, constant_value, first_out, put_piece, put_pieces, filled, elems_checked, bytes_checked, fails_as, opens}
+use Rattle.interp_make.specs.declared.make.MakeFault.{MakeFault}
+use Rattle.interp_make.specs.declared.make.MakeFault.TheVariants.{Memory}
+use Rattle.interp_make.specs.Faults.{FailsAs}
+use Rattle.wa_model.specs.Instantiation.{Opening, Piece, constant_value, first_out, put_piece, put_pieces, filled, elems_checked, bytes_checked, fails_as, opens}
 
 -- ---- constant expressions
 
@@ -192,3 +196,8 @@ module _ (globals : List Value) (memory : List ℕ) (table : List (Option ℕ)) 
   pub filled_all : first_out (length table) 0 elems ≡ None → first_out (length memory) 0 bytes ≡ None
       → filled globals memory table elems bytes ≡ opens (record { globals = globals; memory = put_pieces memory bytes; table = put_pieces table elems })
   filled_all e f = ap (elems_checked globals memory table elems bytes) e ∙ ap (bytes_checked globals memory table elems bytes) f
+
+-- want of memory may come always
+pub fails_memory : {T : Type 0} (r : Result T MakeFault) (o : Opening) → IsErrAnd r (λ e. e ≡ Memory) → IfErr r (FailsAs o)
+fails_memory (Ok x) o i = tt
+fails_memory (Err e) o i = subst (FailsAs o) (sym i) tt

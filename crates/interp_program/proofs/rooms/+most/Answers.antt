@@ -4,8 +4,8 @@ use Rattle.wa_types.specs.Counts.{count_of}
 use Rattle.wa_types.specs.Syntax.{done}
 use Rattle.wa_types.specs.View.{code, in_front, module_of}
 use Rattle.wasm_tree.proofs.MeasureLemmas.{count_step, count_block, count_loop, count_if}
-use Rattle.wa_model.specs.Heights.{most_operands}
-use Rattle.interp_program.proofs.RoomLemmas.{behind_few, count_some, most_reached, most_step}
+use Rattle.wa_model.specs.Heights.{behind, most_operands}
+use Rattle.interp_program.proofs.RoomLemmas.{behind_few, count_some, most_block, most_empty, most_last, most_loop, most_other, most_reached, most_step}
 use Rattle.interp_program.proofs.rooms.+most.Goals as goal
 
 pub most_inside-most_operands-requires : goal.most_inside-most_operands-requires
@@ -53,3 +53,37 @@ most_operands-loop-instr-preserved t c =
       reached = omega (arith, greater, c.behind-here.ensures, c.most_inside.ensures, most_reached m x here goes);
       fits = omega (arith, counted, count_some x, c.behind-here.ensures, behind_few m x here, c.loop-instr.invariant.fits);
     }
+
+pub most_operands-returns-then-is_last : goal.most_operands-returns-then-is_last
+most_operands-returns-then-is_last t c =
+    let last = sym c.is_last.ensures ∙ c.if-is_last.true in
+    let ends = most_last (module_of c.args.source.now) c.args.body.now c.loop-instr.instr-index c.instr-item.result c.loop-instr.here (omega (arith, c.loop-instr-test.true)) c.instr-item.is last in
+    omega (arith, ends, c.loop-instr.invariant.whole, c.loop-instr.invariant.reached)
+
+pub most_operands-returns : goal.most_operands-returns
+most_operands-returns t c =
+    let ends = most_empty (module_of c.args.source.now) c.args.body.now c.loop-instr.instr-index c.loop-instr.here (omega (arith, c.loop-instr-test.false)) in
+    omega (arith, ends, c.loop-instr.invariant.whole, c.loop-instr.invariant.reached)
+
+pub most_inside-returns-in-Block : goal.most_inside-returns-in-Block
+most_inside-returns-in-Block t c =
+    let m = module_of c.args.source.now in
+    let h = c.args.height in
+    let whole = ap (λ i. most_operands m (in_front i done) h) c.in-Block.is ∙ most_block m c.in-Block.result c.in-Block.body h in
+    let after = ap (λ i. behind m (in_front i done) h) c.in-Block.is in
+    let inner = ap (λ b. most_operands m (code b) h) c.deref.ensures.value in
+    omega (arith, c.max.ensures, c.most_operands.ensures, c.behind-after.ensures, whole, after, inner)
+
+pub most_inside-returns-in-Loop : goal.most_inside-returns-in-Loop
+most_inside-returns-in-Loop t c =
+    let m = module_of c.args.source.now in
+    let h = c.args.height in
+    let whole = ap (λ i. most_operands m (in_front i done) h) c.in-Loop.is ∙ most_loop m c.in-Loop.result c.in-Loop.body h in
+    let after = ap (λ i. behind m (in_front i done) h) c.in-Loop.is in
+    let inner = ap (λ b. most_operands m (code b) h) c.deref-in-Loop.ensures.value in
+    omega (arith, c.max-in-Loop.ensures, c.most_operands-in-Loop.ensures, c.behind-after.ensures, whole, after, inner)
+
+pub most_inside-returns-in_default : goal.most_inside-returns-in_default
+most_inside-returns-in_default t c =
+    let whole = most_other (module_of c.args.source.now) c.args.instr.now c.args.height c.in_default.not-Block c.in_default.not-Loop c.in_default.not-If in
+    omega (arith, c.max-in_default.ensures, c.behind-after.ensures, whole)
