@@ -14,10 +14,13 @@ pub fn transform_line<'w>(alloc: Global) -> Result<Command<'w>, AllocError>
     ensures shape { IfOk result (λ c. shape_of c ≡ command_shape transform_words) }
     ensures local { IfOk result (λ c. (out-Command c).has_globals ≡ false) }
 {
-    let line = with_option(alloc, Command::new(alloc, "transform"), "imports")?;
-    let line = with_flag(alloc, line, "ignore-imports")?;
-    let line = with_flag(alloc, line, "ignore-indirect")?;
-    let line = with_option(alloc, line, "save")?;
+    let line = with_arg(
+        Command::new(alloc, "transform"),
+        option_arg(alloc, "imports"),
+    )?;
+    let line = with_arg(line, flag_arg(alloc, "ignore-imports"))?;
+    let line = with_arg(line, flag_arg(alloc, "ignore-indirect"))?;
+    let line = with_arg(line, option_arg(alloc, "save"))?;
     with_places(alloc, line, "input", "output")
 }
 
@@ -37,23 +40,13 @@ pub fn gen_line<'w>(alloc: Global) -> Result<Command<'w>, AllocError>
     with_places(alloc, Command::new(alloc, "gen"), "number", "output")
 }
 
-/// A command with an option more that has a value.
-fn with_option<'w>(
-    alloc: Global,
-    line: Command<'w>,
-    name: &'w str,
-) -> Result<Command<'w>, AllocError>
-    ensures shape { IfOk result (λ c. app_of c ≡ with_rule (app_of line.entry) (option_rule name.now)) }
+/// A command with an argument more.
+fn with_arg<'w>(line: Command<'w>, arg: Arg<'w>) -> Result<Command<'w>, AllocError>
+    requires { arg.global ≡ false }
+    ensures shape { IfOk result (λ c. app_of c ≡ with_rule (app_of line.entry) (rule_of arg.entry)) }
     ensures local { IfOk result (λ c. (out-Command c).has_globals ≡ ((out-Command line.entry).has_globals || false)) }
 {
-    line.arg(option_arg(alloc, name))
-}
-
-fn with_flag<'w>(alloc: Global, line: Command<'w>, name: &'w str) -> Result<Command<'w>, AllocError>
-    ensures shape { IfOk result (λ c. app_of c ≡ with_rule (app_of line.entry) (flag_rule name.now)) }
-    ensures local { IfOk result (λ c. (out-Command c).has_globals ≡ ((out-Command line.entry).has_globals || false)) }
-{
-    line.arg(flag_arg(alloc, name))
+    line.arg(arg)
 }
 
 /// A command with two places.
@@ -66,8 +59,8 @@ fn with_places<'w>(
     ensures shape { IfOk result (λ c. app_of c ≡ with_rule (with_rule (app_of line.entry) (placed_rule first.now)) (placed_rule second.now)) }
     ensures local { IfOk result (λ c. (out-Command c).has_globals ≡ (((out-Command line.entry).has_globals || false) || false)) }
 {
-    line.arg(placed_arg(alloc, first))?
-        .arg(placed_arg(alloc, second))
+    let line = with_arg(line, placed_arg(alloc, first))?;
+    with_arg(line, placed_arg(alloc, second))
 }
 
 /// An option with a value.
