@@ -3,12 +3,16 @@ use Rattle.std.proofs.Common.{◌∙◌, ap, codes}
 use Rattle.std.proofs.lemmas.Result.{IfOk-weaker}
 use Rattle.clap.specs.Simple.{App, with_subcommand}
 use Rattle.word_grammar.specs.Grammar.{command_shape, gen_words, transform_words}
-use Rattle.command_line.specs.Line.{script_shape}
+use Rattle.command_shapes.specs.Scripts.{script_shape}
 use Rattle.command_line.proofs.line.command_line.Goals as goal
 
 pub returns : goal.returns
 returns c =
-    let first = c.in_ok-line.ensures ∙ ap (λ (a : App). with_subcommand a (command_shape transform_words)) c.bare_line.ensures in
-    let second = c.in_ok-line-2.ensures ∙ ap (λ (a : App). with_subcommand a (script_shape (codes "host"))) first in
-    let third = c.in_ok-line-3.ensures ∙ ap (λ (a : App). with_subcommand a (script_shape (codes "run"))) second in
-    IfOk-weaker c.with_gen.result _ _ (λ r h. h ∙ ap (λ (a : App). with_subcommand a (command_shape gen_words)) third) c.with_gen.ensures
+    let transform = command_shape transform_words in
+    let host = script_shape (codes "host") in
+    let run = script_shape (codes "run") in
+    let gen = command_shape gen_words in
+    let first = c.in_ok-line.ensures transform c.transform_line.ensures.shape ∙ ap (λ (a : App). with_subcommand a transform) c.bare_line.ensures in
+    let second = c.in_ok-line-2.ensures host c.script_line.ensures.shape ∙ ap (λ (a : App). with_subcommand a host) first in
+    let third = c.in_ok-line-3.ensures run c.script_line-2.ensures.shape ∙ ap (λ (a : App). with_subcommand a run) second in
+    IfOk-weaker c.with_command-4.result _ _ (λ r h. h ∙ ap (λ (a : App). with_subcommand a gen) third) (c.with_command-4.ensures gen c.gen_line.ensures.shape)

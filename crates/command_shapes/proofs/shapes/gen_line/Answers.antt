@@ -3,7 +3,7 @@ use Rattle.std.proofs.Common.{◌∙◌, ◌||◌, Bool, false, ap, codes}
 use Rattle.std.proofs.lemmas.Result.{IfOk-weaker}
 use Rattle.clap.specs.Simple.{App, with_rule}
 use Rattle.word_grammar.specs.Grammar.{placed_rule}
-use Rattle.command_line.proofs.line.gen_line.Goals as goal
+use Rattle.command_shapes.proofs.shapes.gen_line.Goals as goal
 
 pub returns-clause-shape : goal.returns-clause-shape
 returns-clause-shape c =

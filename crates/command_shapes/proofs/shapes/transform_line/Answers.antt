@@ -1,16 +1,16 @@
 -- A `transform` has two options, two flags and two files.
-use Rattle.std.proofs.Common.{◌∙◌, ◌||◌, Bool, false, ap, codes}
+use Rattle.std.proofs.Common.{◌∙◌, ◌||◌, Bool, false, ap, ap₂, codes}
 use Rattle.std.proofs.lemmas.Result.{IfOk-weaker}
 use Rattle.clap.specs.Simple.{App, with_rule}
-use Rattle.word_grammar.specs.Grammar.{flag_rule, option_rule, placed_rule}
-use Rattle.command_line.proofs.line.transform_line.Goals as goal
+use Rattle.word_grammar.specs.Grammar.{placed_rule}
+use Rattle.command_shapes.proofs.shapes.transform_line.Goals as goal
 
 pub returns-clause-shape : goal.returns-clause-shape
 returns-clause-shape c =
-    let first = c.in_ok-line.ensures.shape ∙ ap (λ (a : App). with_rule a (option_rule (codes "imports"))) c.new.ensures.app in
-    let second = c.in_ok-line-2.ensures.shape ∙ ap (λ (a : App). with_rule a (flag_rule (codes "ignore-imports"))) first in
-    let third = c.in_ok-line-3.ensures.shape ∙ ap (λ (a : App). with_rule a (flag_rule (codes "ignore-indirect"))) second in
-    let fourth = c.in_ok-line-4.ensures.shape ∙ ap (λ (a : App). with_rule a (option_rule (codes "save"))) third in
+    let first = c.in_ok-line.ensures.shape ∙ ap₂ with_rule c.new.ensures.app c.option_arg.ensures.rule in
+    let second = c.in_ok-line-2.ensures.shape ∙ ap₂ with_rule first c.flag_arg.ensures.rule in
+    let third = c.in_ok-line-3.ensures.shape ∙ ap₂ with_rule second c.flag_arg-2.ensures.rule in
+    let fourth = c.in_ok-line-4.ensures.shape ∙ ap₂ with_rule third c.option_arg-2.ensures.rule in
     IfOk-weaker c.with_places.result _ _ (λ r h. ap (λ (a : App). a.top) (h ∙ ap (λ (a : App). with_rule (with_rule a (placed_rule (codes "input"))) (placed_rule (codes "output"))) fourth))
     c.with_places.ensures.shape
 
