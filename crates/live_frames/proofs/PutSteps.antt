@@ -26,18 +26,6 @@ use Rattle.live_frames.proofs.PieceLemmas.{stored_more, loaded_more, joined_is, 
 pub put_same : {X : Type 0} (old new : List Instr) (f : X → Code → Code) (x y : X) → x ≡ y → Puts old new (f x) → Puts old new (f y)
 put_same old new f x y e h rest = h rest ∙ ap (λ z. onto old (f z rest)) e
 
-onto_all : (old xs : List Instr) (rest : Code) → onto (old ++ xs) rest ≡ onto old (onto xs rest)
-unfolding onto
-onto_all [] xs rest = refl
-onto_all (x ∷ old) xs rest = ap (in_front x) (onto_all old xs rest)
-
-pub put_these : (old new xs : List Instr) → new ≡ old ++ xs → Puts old new (onto xs)
-put_these old new xs e rest = ap (λ l. onto l rest) e ∙ onto_all old xs rest
-
--- what put instructions stand for
-pub put_as : {E : Type 0} (r : Result (Unit {0}) E) (old new : List Instr) (f g : Code → Code) → ((rest : Code) → g rest ≡ f rest) → OnOk r (Puts old new g) → OnOk r (Puts old new f)
-put_as r old new f g same = on_ok_weaker r (λ h rest. h rest ∙ ap (onto old) (same rest))
-
 -- the test for room: l loads the end of the area, m the location, and x traps
 pub room_put : (adr sp : ℕ) (l m x : Instr) → ((k : Code) → in_front l k ≡ loaded_value I32 4 k) → ((k : Code) → in_front m k ≡ loaded_value I32 0 k)
     → ((k : Code) → in_front x k ≡ branch None (plain unreachable done) done k) → (rest : Code)

@@ -1,12 +1,8 @@
-//! Single instructions, and pieces that move the scratch local.
+//! The sizes of what is kept, and what moves the scratch local.
 
 ghost use Rattle.std.specs.Prelude.{◌≡◌, ◌≤◌, ◌∷◌, [], ℕ, length, OnOk};
-ghost use Rattle.wa_types.specs.Syntax.{Code};
-ghost use Rattle.wa_types.specs.Frames.{width};
-ghost use Rattle.wa_types.specs.View.{in_front, onto};
 ghost use Rattle.frame_laws.specs.Layout.{fields_size};
 ghost use Rattle.local_spill.specs.Putting.{Puts};
-ghost use Rattle.local_spill.specs.Spilling.{loaded_value, stored_value};
 ghost use Rattle.live_frames.specs.Putting.{scratch_moved};
 ghost use Rattle.call_frames.specs.FrameParts.{shared_size};
 ghost use Rattle.call_frames.specs.PlainFrames.{parts_of};
@@ -14,52 +10,18 @@ ghost use Rattle.call_classes.specs.Classes.{FewParts, part_fields};
 ghost use Rattle.call_classes.specs.Views.{fields_of, part_view, part_views};
 
 use call_classes::{KeptLocal, KeptPart};
+use local_spill::{Place, put_all, width};
 use std::alloc::AllocError;
-use wa_types::{Instr, NumOp, ValType, Value};
+use wa_types::{Instr, NumOp, Value};
 
-/// The store of a value of this type.
-pub(crate) fn store_of(ty: ValType, offset: u32) -> Instr
-    ensures { (rest : Code) → in_front result rest ≡ stored_value ty offset rest }
+/// A field at an offset in the frame.
+pub(crate) fn field_at(field: KeptLocal, offset: u32) -> Place
+    ensures { result ≡ record { local = field.local; ty = field.ty; offset = offset } }
 {
-    match ty {
-        ValType::I32 => Instr::Store {
-            op: 0x36,
-            align: 2,
-            offset,
-        },
-        ValType::I64 => Instr::Store {
-            op: 0x37,
-            align: 3,
-            offset,
-        },
-    }
-}
-
-/// The load of a value of this type.
-pub(crate) fn load_of(ty: ValType, offset: u32) -> Instr
-    ensures { (rest : Code) → in_front result rest ≡ loaded_value ty offset rest }
-{
-    match ty {
-        ValType::I32 => Instr::Load {
-            op: 0x28,
-            align: 2,
-            offset,
-        },
-        ValType::I64 => Instr::Load {
-            op: 0x29,
-            align: 3,
-            offset,
-        },
-    }
-}
-
-/// The bytes that a value takes.
-pub(crate) fn width(ty: ValType) -> u32
-    ensures { result ≡ width ty }
-{
-    match ty {
-        ValType::I32 => 4,
-        ValType::I64 => 8,
+    Place {
+        local: field.local,
+        ty: field.ty,
+        offset,
     }
 }
 
@@ -99,17 +61,6 @@ pub(crate) fn shared_of(parts: &[KeptPart]) -> u32
         size += shared_in(part);
     }
     size
-}
-
-/// Puts these instructions.
-pub(crate) fn put_all<const N: usize>(
-    out: &mut Vec<Instr>,
-    instrs: [Instr; N],
-) -> Result<(), AllocError>
-    requires { N ≤ 8 }
-    ensures { OnOk result (Puts out.old.items out.new.items (onto instrs.entry)) }
-{
-    out.extend(instrs)
 }
 
 /// Puts what moves the scratch local by so many bytes.

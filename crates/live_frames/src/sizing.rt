@@ -11,9 +11,10 @@ ghost use Rattle.live_frames.specs.Digits.{plane_views};
 
 use crate::digits::{Plane, digits_of};
 use crate::measuring::{parts_size, planes_size};
-use crate::putting::{put_all, size_of};
+use crate::putting::size_of;
 use crate::testing::put_test;
 use call_classes::KeptPart;
+use local_spill::put_all;
 use std::alloc::{AllocError, Global};
 use wa_types::{Instr, NumOp, Value};
 

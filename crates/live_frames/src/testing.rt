@@ -10,9 +10,9 @@ ghost use Rattle.call_frames.specs.PlainFrames.{at_calls, at_rows, rows_of};
 ghost use Rattle.local_spill.specs.Putting.{Puts};
 ghost use Rattle.call_classes.specs.CallRows.{row_view};
 
-use crate::putting::put_all;
 use crate::words::{by_words, put_words};
 use call_classes::{RowAt, row_at};
+use local_spill::put_all;
 use std::alloc::{AllocError, Global};
 use wa_types::{Instr, NumOp, Value};
 

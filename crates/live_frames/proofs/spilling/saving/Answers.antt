@@ -20,5 +20,5 @@ returns c count rest =
     let parts = put_same _ _ (λ ps. parts_stored sp 0 (parts_of base (part_views ps))) _ _ c.deref-3.ensures.value c.in_ok-put_parts_stored.ensures in
     put_first _ _ _ c.new-out.ensures.items
     (put_on _ _ _ _ _ (put_on _ _ _ _ _ (put_on _ _ _ _ _ (put_on _ _ _ _ _
-    sizes c.in_ok-put_room_test.ensures) parts) c.in_ok-put_index_saved.ensures) c.in_ok-put_location_raised.ensures) rest
+    sizes c.in_ok-put_room_test.ensures) parts) c.in_ok-put_stored.ensures) c.in_ok-put_location_raised.ensures) rest
     ∙ ap (λ n. saved_with base c.args.address (part_views c.args.parts.now.parts.items) n rest) size
