@@ -10,10 +10,9 @@ ghost use Rattle.call_classes.specs.Views.{parts_view, told_frames};
 
 use crate::loading::put_parts_loaded;
 use crate::locating::{put_index_loaded, put_location_lowered, put_location_noted, put_room_test};
-use crate::putting::shared_of;
-use crate::sizing::put_size;
 use crate::storing::put_parts_stored;
 use call_classes::FrameParts;
+use call_sizes::{put_size, shared_of};
 use local_spill::{Place, put_location_raised, put_stored};
 use std::alloc::{AllocError, Global};
 use wa_types::{Instr, ValType};

@@ -10,9 +10,10 @@ ghost use Rattle.local_spill.specs.Putting.{Puts};
 ghost use Rattle.call_classes.specs.Classes.{FewParts, part_fields};
 ghost use Rattle.call_classes.specs.Views.{fields_of, part_view, part_views};
 
-use crate::putting::{field_at, put_scratch_moved, shared_in, size_of};
-use crate::testing::put_under_test;
+use crate::putting::{field_at, put_scratch_moved};
 use call_classes::{KeptLocal, KeptPart};
+use call_sizes::{shared_in, size_of};
+use call_tests::put_under_test;
 use local_spill::{put_stored, width};
 use std::alloc::{AllocError, Global};
 use wa_types::{Instr, NumOp};
