@@ -1,5 +1,5 @@
 -- Counting the imports of one kind.
-use Rattle.std.proofs.Common.{◌≡◌, ℕ, ◌+◌, ◌++◌, List, [], ◌∷◌, refl, ap, sym, ◌∙◌, arith, length, Option, Some, None, Bool, true, false, cond, count_by, not, length-append, ◌<◌}
+use Rattle.std.proofs.Common.{◌≡◌, ◌+◌, ◌++◌, List, [], ◌∷◌, refl, sym, arith, length, Option, Some, None, true, false, cond, count_by, length-append, ◌<◌}
 use Rattle.std.proofs.lemmas.List.{length-map, append-nil}
 use Rattle.std.proofs.lemmas.List.Recursion.{is_count_by}
 use Rattle.std.specs.Prelude.{is_some}

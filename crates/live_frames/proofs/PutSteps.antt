@@ -1,42 +1,28 @@
 -- What is put behind a list of instructions, loop by loop.
-use Rattle.std.proofs.Common.{None, ◌≡◌, ℕ, Bool, nat_eq, ◌+◌, ◌-◌, ◌<◌, ◌≤◌, List, [], ◌∷◌, length, take, drop, get_or, ◌++◌, Result, refl, sym, ap, ◌∙◌, arith}
-use Rattle.std.specs.Result.{OnOk}
+use Rattle.std.proofs.Common.{None, ◌≡◌, ℕ, ◌+◌, ◌-◌, ◌<◌, ◌≤◌, List, [], ◌∷◌, length, take, drop, get_or, sym, ap, ◌∙◌, arith}
 use Rattle.std.proofs.lemmas.List.{take_all, drop_all}
-use Rattle.std.proofs.lemmas.Result.{on_ok_weaker}
 use Rattle.wa_types.specs.declared.instrs.Instr.{Instr}
 use Rattle.wa_types.specs.declared.instrs.Instr.TheVariants.{GlobalGet, LocalTee, Num}
 use Rattle.wa_types.specs.declared.values.ValType.TheVariants.{I32}
-use Rattle.wa_types.specs.declared.operators.NumOp.TheVariants.{I32Or, I32Sub, I32GtU}
+use Rattle.wa_types.specs.declared.operators.NumOp.TheVariants.{I32Sub, I32GtU}
 use Rattle.wa_types.specs.declared.values.Value.TheVariants as V
-use Rattle.wa_types.specs.Syntax.{const, num, basic, local_get, local_set, unreachable, Code, done, plain, branch}
+use Rattle.wa_types.specs.Syntax.{local_get, local_set, unreachable, Code, done, plain, branch}
 use Rattle.wa_types.specs.View.{onto, in_front}
 use Rattle.local_spill.specs.Putting.{Puts}
 use Rattle.local_spill.specs.Spilling.{stored_value, loaded_value, location_of}
 use Rattle.frame_laws.specs.Layout.{fields_size, stores, loads}
-use Rattle.call_frames.specs.CallTests.{CallRow, at_row, row_test}
 use Rattle.call_frames.specs.FrameParts.{parts_stored, parts_loaded}
-use Rattle.call_frames.specs.PlainFrames.{SavedPart, rows_of, at_rows, parts_of}
+use Rattle.call_frames.specs.PlainFrames.{SavedPart, parts_of}
 use Rattle.call_classes.specs.declared.frames.KeptLocal.{KeptLocal}
 use Rattle.call_classes.specs.declared.frames.KeptPart.{KeptPart}
-use Rattle.live_frames.specs.Putting.{room_tested, rows_joined}
+use Rattle.live_frames.specs.Putting.{room_tested}
 use Rattle.call_classes.specs.Views.{fields_of, part_view, part_views}
-use Rattle.live_frames.proofs.PieceLemmas.{stored_more, loaded_more, joined_is, shared_bytes, part_stored, part_loaded}
+use Rattle.live_frames.proofs.PieceLemmas.{stored_more, loaded_more, part_stored, part_loaded}
+use Rattle.call_sizes.proofs.FieldSteps.{shared_bytes}
 
 -- what is put, told otherwise
 pub put_same : {X : Type 0} (old new : List Instr) (f : X → Code → Code) (x y : X) → x ≡ y → Puts old new (f x) → Puts old new (f y)
 put_same old new f x y e h rest = h rest ∙ ap (λ z. onto old (f z rest)) e
-
-onto_all : (old xs : List Instr) (rest : Code) → onto (old ++ xs) rest ≡ onto old (onto xs rest)
-unfolding onto
-onto_all [] xs rest = refl
-onto_all (x ∷ old) xs rest = ap (in_front x) (onto_all old xs rest)
-
-pub put_these : (old new xs : List Instr) → new ≡ old ++ xs → Puts old new (onto xs)
-put_these old new xs e rest = ap (λ l. onto l rest) e ∙ onto_all old xs rest
-
--- what put instructions stand for
-pub put_as : {E : Type 0} (r : Result (Unit {0}) E) (old new : List Instr) (f g : Code → Code) → ((rest : Code) → g rest ≡ f rest) → OnOk r (Puts old new g) → OnOk r (Puts old new f)
-put_as r old new f g same = on_ok_weaker r (λ h rest. h rest ∙ ap (onto old) (same rest))
 
 -- the test for room: l loads the end of the area, m the location, and x traps
 pub room_put : (adr sp : ℕ) (l m x : Instr) → ((k : Code) → in_front l k ≡ loaded_value I32 4 k) → ((k : Code) → in_front m k ≡ loaded_value I32 0 k)
@@ -47,14 +33,6 @@ room_put adr sp l m x is_l is_m is_x rest =
     ap (in_front (GlobalGet adr)) (is_l _)
     ∙ ap (λ k. in_front (GlobalGet adr) (loaded_value I32 4 (in_front (GlobalGet adr) k))) (is_m _)
     ∙ ap (λ k. in_front (GlobalGet adr) (loaded_value I32 4 (location_of adr (in_front (LocalTee sp) (in_front (Num I32Sub) (in_front (Num I32GtU) k)))))) (is_x rest)
-
-pub no_items : (xs : List ℕ) → length xs < 1 → [] ≡ xs
-no_items [] h = refl
-no_items (x ∷ xs) h = absurd (omega (arith, h))
-
-pub items_are : (xs : List ℕ) → 1 ≤ length xs → xs ≡ get_or xs 0 0 ∷ take (length xs - 1) (drop 1 xs)
-items_are [] h = absurd (omega (arith, h))
-items_are (x ∷ xs) h = ap (λ ys. x ∷ ys) (sym (take_all (length (x ∷ xs) - 1) xs (omega arith)))
 
 -- ---- fields
 
@@ -75,38 +53,6 @@ loaded_step old mid new sp off o xs i d lt e h k rest =
 
 pub loaded_end : (old new : List Instr) (sp off : ℕ) (xs : List KeptLocal) (i : ℕ) → length xs ≤ i → Puts old new (loads sp off (fields_of (take i xs))) → Puts old new (loads sp off (fields_of xs))
 loaded_end old new sp off xs i le h rest = h rest ∙ ap (λ ys. onto old (loads sp off (fields_of ys) rest)) (take_all i xs le)
-
--- ---- tests
-
--- the test of a row, its case told
-pub row_put : (old new : List Instr) (index : ℕ) (r : CallRow) (one from_0 : Bool) → nat_eq r.more 0 ≡ one → nat_eq r.first 0 ≡ from_0 → Puts old new (row_test one from_0 index r.first r.more)
-    → Puts old new (at_row index r)
-row_put old new index r one from_0 e f h rest =
-    h rest ∙ ap (λ b. onto old (row_test b from_0 index r.first r.more rest)) (sym e) ∙ ap (λ b. onto old (row_test (nat_eq r.more 0) b index r.first r.more rest)) (sym f)
-
--- What is put, with the tests of the rows from a place on, is that of all rows.
-abbrev pub Owes : (old new : List Instr) → (index : ℕ) → (calls : List ℕ) → (at : ℕ) → Type 0
-Owes old new index calls at = (rest : Code) → onto new (rows_joined index (rows_of (drop at calls)) rest) ≡ onto old (at_rows index (rows_of calls) rest)
-
-pub row_first : (old new : List Instr) (index : ℕ) (calls : List ℕ) (r : CallRow) (end : ℕ) → rows_of (drop 0 calls) ≡ r ∷ rows_of (drop end calls) → Puts old new (at_row index r)
-    → Owes old new index calls end
-row_first old new index calls r end is h rest =
-    h (rows_joined index (rows_of (drop end calls)) rest)
-    ∙ ap (onto old) (sym (joined_is index (rows_of (drop end calls)) (at_row index r) rest))
-    ∙ ap (λ rs. onto old (at_rows index rs rest)) (sym is)
-
-pub row_next : (old mid mid2 new : List Instr) (index : ℕ) (calls : List ℕ) (at : ℕ) (r : CallRow) (end : ℕ) → rows_of (drop at calls) ≡ r ∷ rows_of (drop end calls)
-    → Puts mid mid2 (at_row index r) → Puts mid2 new (λ c. plain (basic (num I32Or)) c) → Owes old mid index calls at → Owes old new index calls end
-row_next old mid mid2 new index calls at r end is h o before rest =
-    let others : Code = rows_joined index (rows_of (drop end calls)) rest in
-    o others ∙ h (plain (basic (num I32Or)) others) ∙ ap (λ rs. onto mid (rows_joined index rs rest)) (sym is) ∙ before rest
-
-pub rows_end : (old new : List Instr) (index : ℕ) (calls : List ℕ) (at : ℕ) → length calls ≤ at → Owes old new index calls at → Puts old new (at_rows index (rows_of calls))
-rows_end old new index calls at le h rest = ap (λ js. onto new (rows_joined index (rows_of js) rest)) (sym (drop_all at calls le)) ∙ h rest
-
-pub none_put : (old new : List Instr) (index : ℕ) (calls : List ℕ) → length calls ≡ 0 → Puts old new (λ c. plain (basic (const (V.I32 0))) c) → Puts old new (at_rows index (rows_of calls))
-none_put old new index [] e h rest = h rest
-none_put old new index (k ∷ ks) e h rest = absurd (omega (arith, e))
 
 -- ---- parts
 

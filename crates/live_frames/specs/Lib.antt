@@ -1,3 +1,2 @@
 pub use Rattle.frame_laws.specs.Layout
-pub mod Digits
 pub mod Putting

@@ -1,16 +1,10 @@
 -- Pieces of the codes that stand between the parts.
-use Rattle.std.specs.Prelude.{ℕ, List, [], ◌∷◌, None}
+use Rattle.std.specs.Prelude.{ℕ, None}
 use Rattle.wa_types.specs.declared.operators.NumOp.{NumOp}
-use Rattle.wa_types.specs.declared.operators.NumOp.TheVariants.{I32Or, I32Sub, I32GtU}
+use Rattle.wa_types.specs.declared.operators.NumOp.TheVariants.{I32Sub, I32GtU}
 use Rattle.wa_types.specs.declared.values.Value.TheVariants as V
 use Rattle.wa_types.specs.Syntax.{const, num, global_get, load, basic, local_get, local_set, local_tee, unreachable, Code, done, plain, branch}
 use Rattle.local_spill.specs.Spilling.{location_of}
-use Rattle.call_frames.specs.CallTests.{CallRow, at_row}
-
--- the tests of more rows, each joined with what stands
-abbrev pub rows_joined : (index : ℕ) → List CallRow → Code → Code
-rows_joined index [] next = next
-rows_joined index (r ∷ rs) next = at_row index r (plain (basic (num I32Or)) (rows_joined index rs next))
 
 -- the scratch local is moved by so many bytes
 abbrev pub scratch_moved : (scratch n : ℕ) → NumOp → Code → Code

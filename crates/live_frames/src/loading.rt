@@ -1,40 +1,22 @@
 //! Code that loads what frames keep.
 
 ghost use Rattle.std.specs.Prelude.{◌≡◌, ◌≤◌, ◌∷◌, [], length, OnOk, IfOk};
-ghost use Rattle.wa_types.specs.Syntax.{local_get, local_set, plain, done};
+ghost use Rattle.wa_types.specs.Syntax.{done};
 ghost use Rattle.wa_types.specs.View.{code};
 ghost use Rattle.frame_laws.specs.Layout.{fields_size, loads};
 ghost use Rattle.call_frames.specs.FrameParts.{parts_loaded, scratch_lowered, shared_size};
 ghost use Rattle.call_frames.specs.PlainFrames.{parts_of};
 ghost use Rattle.local_spill.specs.Putting.{Puts};
-ghost use Rattle.local_spill.specs.Spilling.{loaded_value};
 ghost use Rattle.call_classes.specs.Classes.{FewParts, part_fields};
 ghost use Rattle.call_classes.specs.Views.{fields_of, part_view, part_views};
 
-use crate::putting::{load_of, put_all, put_scratch_moved, shared_in, size_of, width};
-use crate::testing::put_under_test;
+use crate::putting::{field_at, put_scratch_moved};
 use call_classes::{KeptLocal, KeptPart};
+use call_sizes::{shared_in, size_of};
+use call_tests::put_under_test;
+use local_spill::{put_loaded, width};
 use std::alloc::{AllocError, Global};
 use wa_types::{Instr, NumOp};
-
-/// Puts what loads a local from its offset.
-fn put_loaded(
-    out: &mut Vec<Instr>,
-    scratch: u32,
-    offset: u32,
-    field: KeptLocal,
-) -> Result<(), AllocError>
-    ensures { OnOk result (Puts out.old.items out.new.items (λ c. plain (local_get scratch) (loaded_value field.ty offset (plain (local_set field.local) c)))) }
-{
-    put_all(
-        out,
-        [
-            Instr::LocalGet(scratch),
-            load_of(field.ty, offset),
-            Instr::LocalSet(field.local),
-        ],
-    )
-}
 
 /// Puts what loads these locals in a row, from an offset on.
 pub(crate) fn put_fields_loaded(
@@ -49,7 +31,7 @@ pub(crate) fn put_fields_loaded(
 {
     let mut place = offset;
     for field in fields {
-        put_loaded(out, scratch, place, *field)?;
+        put_loaded(out, scratch, field_at(*field, place))?;
         place += width(field.ty);
     }
     Ok(())

@@ -5,10 +5,10 @@ ghost use Rattle.wa_types.specs.Syntax.{local_set, plain};
 ghost use Rattle.wa_types.specs.declared.values.ValType.TheVariants.{I32};
 ghost use Rattle.call_frames.specs.FrameParts.{location_lowered};
 ghost use Rattle.local_spill.specs.Putting.{Puts};
-ghost use Rattle.local_spill.specs.Spilling.{index_saved, loaded_value, location_raised};
+ghost use Rattle.local_spill.specs.Spilling.{loaded_value};
 ghost use Rattle.live_frames.specs.Putting.{location_noted, room_tested};
 
-use crate::putting::{load_of, put_all, store_of};
+use local_spill::{load_of, put_all, store_of};
 use std::alloc::{AllocError, Global};
 use wa_types::{Instr, NumOp, ValType, Value};
 
@@ -38,46 +38,6 @@ pub(crate) fn put_room_test(
                 then_arm: trap,
                 else_arm: Vec::new(alloc),
             },
-        ],
-    )
-}
-
-/// Puts what stores the call index.
-pub(crate) fn put_index_saved(
-    out: &mut Vec<Instr>,
-    index: u32,
-    scratch: u32,
-    offset: u32,
-) -> Result<(), AllocError>
-    ensures { OnOk result (Puts out.old.items out.new.items (index_saved index scratch offset)) }
-{
-    put_all(
-        out,
-        [
-            Instr::LocalGet(scratch),
-            Instr::LocalGet(index),
-            store_of(ValType::I32, offset),
-        ],
-    )
-}
-
-/// Puts what raises the location to the frame's end.
-pub(crate) fn put_location_raised(
-    out: &mut Vec<Instr>,
-    address: u32,
-    scratch: u32,
-    size: u32,
-) -> Result<(), AllocError>
-    ensures { OnOk result (Puts out.old.items out.new.items (location_raised address scratch size)) }
-{
-    put_all(
-        out,
-        [
-            Instr::GlobalGet(address),
-            Instr::LocalGet(scratch),
-            Instr::Const(Value::I32(size)),
-            Instr::Num(NumOp::I32Add),
-            store_of(ValType::I32, 0),
         ],
     )
 }

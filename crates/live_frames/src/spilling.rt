@@ -9,16 +9,13 @@ ghost use Rattle.call_classes.specs.Classes.{FewParts};
 ghost use Rattle.call_classes.specs.Views.{parts_view, told_frames};
 
 use crate::loading::put_parts_loaded;
-use crate::locating::{
-    put_index_loaded, put_index_saved, put_location_lowered, put_location_noted,
-    put_location_raised, put_room_test,
-};
-use crate::putting::shared_of;
-use crate::sizing::put_size;
+use crate::locating::{put_index_loaded, put_location_lowered, put_location_noted, put_room_test};
 use crate::storing::put_parts_stored;
 use call_classes::FrameParts;
+use call_sizes::{put_size, shared_of};
+use local_spill::{Place, put_location_raised, put_stored};
 use std::alloc::{AllocError, Global};
-use wa_types::Instr;
+use wa_types::{Instr, ValType};
 
 /// The code that saves the frame of the call that the index tells, at the location, which is raised to the frame's end. A frame that
 /// doesn't fit traps before anything is written. The call index is local `base`, and the scratch local stands behind it.
@@ -38,7 +35,12 @@ pub fn saving(
     put_size(alloc, &mut out, base, shared + 4, &parts.parts)?;
     put_room_test(alloc, &mut out, address, scratch)?;
     put_parts_stored(alloc, &mut out, base, scratch, &parts.parts)?;
-    put_index_saved(&mut out, base, scratch, shared)?;
+    let index = Place {
+        local: base,
+        ty: ValType::I32,
+        offset: shared,
+    };
+    put_stored(&mut out, scratch, index)?;
     put_location_raised(&mut out, address, scratch, shared + 4)?;
     Ok(out)
 }

@@ -1,40 +1,22 @@
 //! Code that stores what frames keep.
 
 ghost use Rattle.std.specs.Prelude.{◌≡◌, ◌≤◌, ◌∷◌, [], length, OnOk, IfOk};
-ghost use Rattle.wa_types.specs.Syntax.{local_get, plain, done};
+ghost use Rattle.wa_types.specs.Syntax.{done};
 ghost use Rattle.wa_types.specs.View.{code};
 ghost use Rattle.frame_laws.specs.Layout.{fields_size, stores};
 ghost use Rattle.call_frames.specs.FrameParts.{parts_stored, scratch_raised};
 ghost use Rattle.call_frames.specs.PlainFrames.{parts_of};
 ghost use Rattle.local_spill.specs.Putting.{Puts};
-ghost use Rattle.local_spill.specs.Spilling.{stored_value};
 ghost use Rattle.call_classes.specs.Classes.{FewParts, part_fields};
 ghost use Rattle.call_classes.specs.Views.{fields_of, part_view, part_views};
 
-use crate::putting::{put_all, put_scratch_moved, shared_in, size_of, store_of, width};
-use crate::testing::put_under_test;
+use crate::putting::{field_at, put_scratch_moved};
 use call_classes::{KeptLocal, KeptPart};
+use call_sizes::{shared_in, size_of};
+use call_tests::put_under_test;
+use local_spill::{put_stored, width};
 use std::alloc::{AllocError, Global};
 use wa_types::{Instr, NumOp};
-
-/// Puts what stores a local at its offset.
-fn put_stored(
-    out: &mut Vec<Instr>,
-    scratch: u32,
-    offset: u32,
-    field: KeptLocal,
-) -> Result<(), AllocError>
-    ensures { OnOk result (Puts out.old.items out.new.items (λ c. plain (local_get scratch) (plain (local_get field.local) (stored_value field.ty offset c)))) }
-{
-    put_all(
-        out,
-        [
-            Instr::LocalGet(scratch),
-            Instr::LocalGet(field.local),
-            store_of(field.ty, offset),
-        ],
-    )
-}
 
 /// Puts what stores these locals in a row, from an offset on.
 pub(crate) fn put_fields_stored(
@@ -49,7 +31,7 @@ pub(crate) fn put_fields_stored(
 {
     let mut place = offset;
     for field in fields {
-        put_stored(out, scratch, place, *field)?;
+        put_stored(out, scratch, field_at(*field, place))?;
         place += width(field.ty);
     }
     Ok(())

@@ -1,5 +1,6 @@
 use Rattle.local_spill.proofs.PutLemmas.{if_is, no_code, trap_is}
-use Rattle.live_frames.proofs.PutSteps.{put_as, room_put}
+use Rattle.local_spill.proofs.PutLemmas.{put_as}
+use Rattle.live_frames.proofs.PutSteps.{room_put}
 use Rattle.live_frames.proofs.locating.put_room_test.Goals as goal
 
 pub returns : goal.returns

@@ -1,6 +1,9 @@
 use Rattle.std.proofs.Common.{◌+◌, arith}
-use Rattle.live_frames.proofs.PieceLemmas.{part_most, size_step}
-use Rattle.live_frames.proofs.PutSteps.{stored_step, stored_end}
+use Rattle.wa_types.specs.Syntax.{local_get, plain}
+use Rattle.local_spill.specs.Spilling.{stored_value}
+use Rattle.local_spill.specs.declared.frames.Place.{Place}
+use Rattle.call_sizes.proofs.FieldSteps.{part_most, size_step}
+use Rattle.live_frames.proofs.PutSteps.{put_same, stored_step, stored_end}
 use Rattle.live_frames.proofs.storing.put_fields_stored.Goals as goal
 
 pub overflow_add-place : goal.overflow_add-place
@@ -13,7 +16,8 @@ overflow_add-place c =
 pub loop-field-preserved : goal.loop-field-preserved
 loop-field-preserved c = (
   size_step c.args.fields.now c.loop-field.field-index _ c.args.offset c.loop-field.place c.width-place.result (omega (arith, c.loop-field-test.true)) c.loop-field.invariant.0 c.width-place.ensures,
-  stored_step _ _ _ _ _ _ c.args.fields.now c.loop-field.field-index _ (omega (arith, c.loop-field-test.true)) c.loop-field.invariant.0 c.loop-field.invariant.1 c.in_ok-put_stored.ensures,
+  stored_step _ _ _ _ _ _ c.args.fields.now c.loop-field.field-index _ (omega (arith, c.loop-field-test.true)) c.loop-field.invariant.0 c.loop-field.invariant.1
+      (put_same _ _ (λ (p : Place) k. plain (local_get c.args.scratch) (plain (local_get p.local) (stored_value p.ty p.offset k))) _ _ c.field_at.ensures c.in_ok-put_stored.ensures),
 )
 
 pub returns : goal.returns

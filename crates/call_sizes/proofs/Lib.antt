@@ -1,0 +1,4 @@
+pub mod DigitSteps
+pub mod FieldSteps
+pub mod MeasureSteps
+pub mod WeightSteps
