@@ -10,7 +10,7 @@
 known="asyncify_app asyncify_cli asyncify_runtime call_graph interp validate_rules wa_model wa_types
     wasm_build wasm_entries wasm_goals wasm_validate"
 old="wa_types file_laws wa_ops page_memory wa_model instr_tables validate_spaces validate_table validate_bodies validate_rules validate_modules
-    interp_state interp_program interp_make interp_jumps interp_reduce wasm_tree module_copy wasm_window wasm_cursor wasm_goals wasm_grammar wasm_marks build_types build_instrs build_code build_entries wasm_build wasm_reader wasm_validate wasm_entries wasm_encode import_lists call_graph asyncify_runtime
+    interp_state interp_program interp_make interp_jumps interp_reduce wasm_tree module_copy wasm_window wasm_cursor wasm_goals wasm_grammar wasm_marks build_types build_instrs build_code build_entries wasm_build wasm_reader wasm_validate encode_types encode_code wasm_entries wasm_encode import_lists call_graph asyncify_runtime
     leb_numbers vault_port memory_vaults system_vaults interp asyncify_app asyncify_cli command_words printing source_modules round_trip
     definition_check"
 mkdir -p "$bench/out"

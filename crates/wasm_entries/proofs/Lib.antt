@@ -1,4 +1,3 @@
-pub mod Codes
+pub use Rattle.encode_types.proofs.Vectors
 pub mod Runs
 pub mod SectionLemmas
-pub mod Vectors

@@ -8,7 +8,7 @@ use Rattle.wa_types.specs.Leb.{shortest}
 use Rattle.wa_types.specs.Syntax.{Custom}
 use Rattle.wa_types.specs.View.{custom_of}
 use Rattle.wa_types.specs.Encoding.{vector, sized, section, custom_bytes, customs_behind}
-use Rattle.wasm_entries.proofs.Codes.{put_parts}
+use Rattle.encode_code.proofs.Codes.{put_parts}
 
 pub section_none : {X : Type 0} (id : ℕ) (f : X → List ℕ) (xs : List X) → length xs ≡ 0 → section id f xs ≡ []
 section_none id f [] h = refl

@@ -5,9 +5,8 @@ ghost use Rattle.wa_types.specs.Encoding.{vector, merged, run_bytes};
 ghost use Rattle.wa_types.specs.declared.syntax.Run.{Run};
 ghost use Rattle.wasm_entries.specs.Locals.{local_count, in_front_of, StandApart, Joins};
 
-use crate::numbers::{put_unsigned, unsigned_len};
-use crate::types::val_type_byte;
 use bytes::BytesMut;
+use encode_types::{put_unsigned, unsigned_len, val_type_byte};
 use std::alloc::AllocError;
 use wa_types::{Run, ValType};
 

@@ -4,9 +4,10 @@ ghost use Rattle.std.specs.Prelude.{◌≡◌, ◌<◌, ◌≤◌, ◌^◌, ◌+
 ghost use Rattle.wa_types.specs.View.{custom_of};
 ghost use Rattle.wa_types.specs.Encoding.{section, start_section, custom_bytes, customs_behind};
 
-use crate::entry::{Entry, put_vector, vector_len};
-use crate::numbers::{name_len, put_name, put_unsigned, sized_len, unsigned_len};
 use bytes::BytesMut;
+use encode_types::{
+    Entry, name_len, put_name, put_unsigned, put_vector, sized_len, unsigned_len, vector_len,
+};
 use std::alloc::AllocError;
 use wa_types::Custom;
 

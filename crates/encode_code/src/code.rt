@@ -3,12 +3,13 @@
 ghost use Rattle.std.specs.Prelude.{◌≡◌, ◌<◌, ◌≤◌, ◌^◌, ◌++◌, [], ◌∷◌, length, OnOk};
 ghost use Rattle.wa_types.specs.Encoding.{code_bytes, expression_bytes};
 ghost use Rattle.wa_types.specs.View.{code};
-ghost use Rattle.wasm_entries.specs.Instrs.{instr_bytes, immediate_bytes, IsSimple};
+ghost use Rattle.encode_code.specs.Instrs.{instr_bytes, immediate_bytes, IsSimple};
 
-use crate::entry::{put_vector, vector_len};
-use crate::numbers::{put_signed, put_unsigned, signed_len, unsigned_len};
-use crate::types::{IndexEntry, result_byte};
 use bytes::BytesMut;
+use encode_types::{
+    IndexEntry, put_signed, put_unsigned, put_vector, result_byte, signed_len, unsigned_len,
+    vector_len,
+};
 use std::alloc::AllocError;
 use wa_types::{Instr, Value};
 

@@ -3,9 +3,9 @@ use Rattle.std.proofs.lemmas.Result.{IfOk-weaker, on_ok_weaker}
 use Rattle.wa_types.specs.Leb.{shortest}
 use Rattle.wa_types.specs.Encoding.{block_type_byte, code_bytes, vector}
 use Rattle.wa_types.specs.View.{code}
-use Rattle.wasm_entries.specs.Instrs.{instr_bytes, immediate_bytes}
-use Rattle.wasm_entries.proofs.Codes.{block_bytes, loop_bytes, put_end, put_parts, put_step, table_bytes}
-use Rattle.wasm_entries.proofs.code.+put_code.Goals as goal
+use Rattle.encode_code.specs.Instrs.{instr_bytes, immediate_bytes}
+use Rattle.encode_code.proofs.Codes.{block_bytes, loop_bytes, put_end, put_parts, put_step, table_bytes}
+use Rattle.encode_code.proofs.code.+put_code.Goals as goal
 
 pub put_code-loop-instr-preserved : goal.put_code-loop-instr-preserved
 put_code-loop-instr-preserved t c =

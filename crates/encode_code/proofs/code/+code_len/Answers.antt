@@ -3,9 +3,9 @@ use Rattle.wa_types.specs.Leb.{shortest}
 use Rattle.wa_types.specs.Encoding.{vector, code_bytes}
 use Rattle.wa_types.specs.View.{code}
 use Rattle.wa_types.specs.declared.instrs.Instr.{the_lemmas}
-use Rattle.wasm_entries.specs.Instrs.{instr_bytes}
-use Rattle.wasm_entries.proofs.Codes.{branch_length_le, instr_length, instr_none_length, measuring_one, table_length}
-use Rattle.wasm_entries.proofs.code.+code_len.Goals as goal
+use Rattle.encode_code.specs.Instrs.{instr_bytes}
+use Rattle.encode_code.proofs.Codes.{branch_length_le, instr_length, instr_none_length, measuring_one, table_length}
+use Rattle.encode_code.proofs.code.+code_len.Goals as goal
 
 pub code_len-instr_len-len-requires : goal.code_len-instr_len-len-requires
 code_len-instr_len-len-requires t c = (

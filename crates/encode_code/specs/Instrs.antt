@@ -9,8 +9,8 @@ use Rattle.wa_types.specs.Binary.{Immediates as PlainImmediates, nothing, zero_b
 use Rattle.wa_types.specs.Syntax.{Code, done, plain, nest, branch}
 use Rattle.wa_types.specs.View.{in_front}
 use Rattle.wa_types.specs.Encoding.{immediate_bytes as bytes_behind, plain_bytes, shape_byte, block_type_byte, code_bytes, else_bytes}
-use Rattle.wasm_entries.specs.declared.code.Immediates.{Immediates}
-use Rattle.wasm_entries.specs.declared.code.Immediates.TheVariants.{Nothing, Zero, Index, IndexAndZero, Memory, Signed32, Signed64}
+use Rattle.encode_code.specs.declared.code.Immediates.{Immediates}
+use Rattle.encode_code.specs.declared.code.Immediates.TheVariants.{Nothing, Zero, Index, IndexAndZero, Memory, Signed32, Signed64}
 
 -- the first instruction of a sequence
 unfoldable pub first_bytes : Code → List ℕ

@@ -11,7 +11,7 @@ use Rattle.wa_types.specs.Syntax.{Code, Shape, done, nest, branch, a_block, a_lo
 use Rattle.wa_types.specs.View.{in_front, onto, code}
 use Rattle.wa_types.specs.Encoding.{vector, shape_byte, block_type_byte, code_bytes, else_bytes}
 use Rattle.wa_types.proofs.ViewLemmas.{instr_kind, is_block, is_loop, is_if, is_plain, in_block, in_loop, in_if, in_br_table, code_step, code_empty}
-use Rattle.wasm_entries.specs.Instrs.{first_bytes, instr_bytes}
+use Rattle.encode_code.specs.Instrs.{first_bytes, instr_bytes}
 
 nest_front : (s : Shape) (r : Option ValType) (body rest : Code) → code_bytes (nest s r body rest) ≡ first_bytes (nest s r body done) ++ code_bytes rest
 unfolding code_bytes first_bytes

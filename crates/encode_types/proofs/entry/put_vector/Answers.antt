@@ -2,8 +2,8 @@ use Rattle.std.proofs.Common.{◌++◌, ◌∙◌, ap, append_assoc, length}
 use Rattle.std.specs.List.{flat_map}
 use Rattle.wa_types.specs.Leb.{shortest}
 use Rattle.wa_types.specs.Encoding.{vector}
-use Rattle.wasm_entries.proofs.Vectors.{put_none, put_step}
-use Rattle.wasm_entries.proofs.entry.put_vector.Goals as goal
+use Rattle.encode_types.proofs.Vectors.{put_none, put_step}
+use Rattle.encode_types.proofs.entry.put_vector.Goals as goal
 
 pub loop-item-init : goal.loop-item-init
 loop-item-init g c =

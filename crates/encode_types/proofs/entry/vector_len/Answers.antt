@@ -2,8 +2,8 @@ use Rattle.std.proofs.Common.{◌≡◌, ◌+◌, arith, length, length-append}
 use Rattle.std.specs.List.{flat_map}
 use Rattle.wa_types.specs.Leb.{shortest}
 use Rattle.wa_types.specs.Encoding.{vector}
-use Rattle.wasm_entries.proofs.Vectors.{entry_le, entry_length, entry_none_length}
-use Rattle.wasm_entries.proofs.entry.vector_len.Goals as goal
+use Rattle.encode_types.proofs.Vectors.{entry_le, entry_length, entry_none_length}
+use Rattle.encode_types.proofs.entry.vector_len.Goals as goal
 
 pub loop-item-init : goal.loop-item-init
 loop-item-init g c =
