@@ -6,7 +6,7 @@ ghost use Rattle.std.specs.List.{filter_map, list_any};
 ghost use Rattle.wa_types.specs.Modules.{imported_func, imported_memory, imported_global};
 ghost use Rattle.wa_types.specs.Base.{added_memories};
 ghost use Rattle.wa_types.specs.Runtime.{with_runtime, func_space, global_space, runtime_types, runtime_globals, runtime_funcs, runtime_func, runtime_exports, func_export, zero_global};
-ghost use Rattle.wa_types.specs.Runtime.{start_code, stop_code, state_code, test_code};
+ghost use Rattle.wa_types.specs.Runtime.{start_code, stop_code, test_code};
 ghost use Rattle.asyncify_runtime.specs.Ids.{ids_behind};
 ghost use Rattle.asyncify_runtime.specs.Reserved.{reserved_at};
 ghost use Rattle.asyncify_runtime.specs.declared.adding.RuntimeFault.TheVariants.{Reserved};

@@ -1,11 +1,10 @@
 -- What is put behind a list of instructions, loop by loop.
-use Rattle.std.proofs.Common.{None, ◌≡◌, ℕ, ◌+◌, ◌-◌, ◌<◌, ◌≤◌, List, [], ◌∷◌, length, take, drop, get_or, sym, ap, ◌∙◌, arith}
+use Rattle.std.proofs.Common.{None, ◌≡◌, ℕ, ◌+◌, ◌<◌, ◌≤◌, List, [], ◌∷◌, length, take, drop, get_or, sym, ap, ◌∙◌, arith}
 use Rattle.std.proofs.lemmas.List.{take_all, drop_all}
 use Rattle.wa_types.specs.declared.instrs.Instr.{Instr}
 use Rattle.wa_types.specs.declared.instrs.Instr.TheVariants.{GlobalGet, LocalTee, Num}
 use Rattle.wa_types.specs.declared.values.ValType.TheVariants.{I32}
 use Rattle.wa_types.specs.declared.operators.NumOp.TheVariants.{I32Sub, I32GtU}
-use Rattle.wa_types.specs.declared.values.Value.TheVariants as V
 use Rattle.wa_types.specs.Syntax.{local_get, local_set, unreachable, Code, done, plain, branch}
 use Rattle.wa_types.specs.View.{onto, in_front}
 use Rattle.local_spill.specs.Putting.{Puts}

@@ -2,7 +2,7 @@
 use Rattle.std.specs.Prelude.{◌≡◌, ◌<◌, ◌≤◌, ◌^◌, ◌++◌, ℕ, List, [], ◌∷◌, length, map, Option, Some, None, All, Bool, Result, Ok, Err, slice_get}
 use Rattle.std.specs.Option.{option_map, unwrap_or}
 use Rattle.wa_types.specs.Syntax.{Module}
-use Rattle.wa_types.specs.Modules.{imported, imported_func, imported_global, func_imports}
+use Rattle.wa_types.specs.Modules.{imported, imported_global, func_imports}
 use Rattle.wa_types.specs.View.{module_of}
 use Rattle.wa_model.specs.declared.events.End.{End}
 use Rattle.wa_model.specs.declared.events.Event.{Event as EventValue}

@@ -10,7 +10,7 @@ use host_stages::EntryCall;
 use std::alloc::{AllocError, Global};
 use std::collections::VecDeque;
 
-/// The entry calls of a plan, of these functions.
+/// The entry calls of a plan, of these functions, one each. Want of memory, too, where there are fewer entries.
 pub fn entry_calls(
     alloc: Global,
     entries: Vec<Entry>,

@@ -1,4 +1,5 @@
-//! What is made of a plan when a program is set up: what stays of its module and its settings on the way, and the calls of its entries.
+//! What a program is made of when its plan is set up: what the host has to know of its module all along (`setting_of`), and the calls of
+//! its entries. `unbound` is what a plan says of devices where it has none.
 #![tactic(auto)]
 
 mod bindings;

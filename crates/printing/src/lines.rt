@@ -15,7 +15,8 @@ use transcript::{Names, line as line_text};
 use vault_port::{PutFault, Sink, put_whole};
 use wa_model::Line;
 
-/// Prints the line of an event of one of several programs with these names. After an error less of it was printed.
+/// Prints the line of an event of one of several programs with these names. After an error less of it was printed. Want of memory, too,
+/// where a name isn't there or ticks don't fit.
 pub fn put_line<S: Sink>(
     alloc: Global,
     out: &mut S,
