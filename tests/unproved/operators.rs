@@ -1,5 +1,6 @@
 //! Integer operators, with values that another engine gave (V8, standard, section 4.3).
 
+use crate::showing::name_of;
 use Value::{I32, I64};
 use wa_ops::{binary, compare, convert, load_value, unary};
 use wa_types::{NumOp, Trap, ValType, Value};
@@ -634,17 +635,19 @@ const CONVERT: [(NumOp, Value, Value); 6] = [
 #[test]
 fn two_operands_give_one(rt: HostRuntime) {
     for (op, a, b, wanted) in BINARY_32 {
+        let name = name_of(op);
         assert_eq!(rt;
             binary(op, I32(a), I32(b)),
             wanted.map(I32),
-            "{op:?} {a} {b}"
+            "{name} {a} {b}"
         );
     }
     for (op, a, b, wanted) in BINARY_64 {
+        let name = name_of(op);
         assert_eq!(rt;
             binary(op, I64(a), I64(b)),
             wanted.map(I64),
-            "{op:?} {a} {b}"
+            "{name} {a} {b}"
         );
     }
 }
@@ -652,20 +655,24 @@ fn two_operands_give_one(rt: HostRuntime) {
 #[test]
 fn two_operands_are_compared(rt: HostRuntime) {
     for (op, a, b, wanted) in COMPARE_32 {
-        assert_eq!(rt; compare(op, I32(a), I32(b)), I32(wanted), "{op:?} {a} {b}");
+        let name = name_of(op);
+        assert_eq!(rt; compare(op, I32(a), I32(b)), I32(wanted), "{name} {a} {b}");
     }
     for (op, a, b, wanted) in COMPARE_64 {
-        assert_eq!(rt; compare(op, I64(a), I64(b)), I32(wanted), "{op:?} {a} {b}");
+        let name = name_of(op);
+        assert_eq!(rt; compare(op, I64(a), I64(b)), I32(wanted), "{name} {a} {b}");
     }
 }
 
 #[test]
 fn one_operand_gives_one(rt: HostRuntime) {
     for (op, a, wanted) in UNARY {
-        assert_eq!(rt; unary(op, a), wanted, "{op:?} {a:?}");
+        let name = name_of(op);
+        assert_eq!(rt; unary(op, a), wanted, "{name} {a:?}");
     }
     for (op, a, wanted) in CONVERT {
-        assert_eq!(rt; convert(op, a), wanted, "{op:?} {a:?}");
+        let name = name_of(op);
+        assert_eq!(rt; convert(op, a), wanted, "{name} {a:?}");
     }
 }
 

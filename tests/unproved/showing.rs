@@ -7,7 +7,7 @@ use std::fmt::Write;
 use wa_model::{FlatFunc, Operand, Stmt};
 use wa_types::{
     Custom, Elem, Export, Func, FuncType, GlobalDef, Import, ImportKind, Instr, Limits, Module,
-    Run, Segment, ValType,
+    NumOp, Run, Segment, ValType,
 };
 
 /// What is shown in the form of a derived `Debug`.
@@ -79,7 +79,7 @@ fn show_leaf(out: &mut String, leaf: &Instr) -> Result<(), AllocError> {
         Instr::MemorySize => out.push_str("MemorySize"),
         Instr::MemoryGrow => out.push_str("MemoryGrow"),
         Instr::Const(value) => write!(out, "Const({value:?})"),
-        Instr::Num(op) => write!(out, "Num({op:?})"),
+        Instr::Num(op) => write!(out, "Num({})", name_of(*op)),
         Instr::Br(label) => write!(out, "Br({label})"),
         Instr::BrIf(label) => write!(out, "BrIf({label})"),
         Instr::BrTable { labels, last } => {
@@ -99,6 +99,32 @@ fn show_leaf(out: &mut String, leaf: &Instr) -> Result<(), AllocError> {
             write!(out, "Store {{ op: {op}, align: {align}, offset: {offset} }}")
         }
         Instr::Block { .. } | Instr::Loop { .. } | Instr::If { .. } => Ok(()),
+    }
+}
+
+/// The tests and comparisons, from opcode 0x45 on.
+const COMPARISONS: [&str; 22] = [
+    "I32Eqz", "I32Eq", "I32Ne", "I32LtS", "I32LtU", "I32GtS", "I32GtU", "I32LeS", "I32LeU", "I32GeS", "I32GeU",
+    "I64Eqz", "I64Eq", "I64Ne", "I64LtS", "I64LtU", "I64GtS", "I64GtU", "I64LeS", "I64LeU", "I64GeS", "I64GeU",
+];
+
+/// The arithmetic, from opcode 0x67 on.
+const ARITHMETIC: [&str; 36] = [
+    "I32Clz", "I32Ctz", "I32Popcnt", "I32Add", "I32Sub", "I32Mul", "I32DivS", "I32DivU", "I32RemS",
+    "I32RemU", "I32And", "I32Or", "I32Xor", "I32Shl", "I32ShrS", "I32ShrU", "I32Rotl", "I32Rotr",
+    "I64Clz", "I64Ctz", "I64Popcnt", "I64Add", "I64Sub", "I64Mul", "I64DivS", "I64DivU", "I64RemS",
+    "I64RemU", "I64And", "I64Or", "I64Xor", "I64Shl", "I64ShrS", "I64ShrU", "I64Rotl", "I64Rotr",
+];
+
+/// An operator's name.
+pub fn name_of(op: NumOp) -> &'static str {
+    let code = op.opcode() as usize;
+    match code {
+        0x45..=0x5A => COMPARISONS[code - 0x45],
+        0x67..=0x8A => ARITHMETIC[code - 0x67],
+        0xA7 => "I32WrapI64",
+        0xAC => "I64ExtendI32S",
+        _ => "I64ExtendI32U",
     }
 }
 
