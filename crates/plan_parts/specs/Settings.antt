@@ -1,5 +1,5 @@
 -- What is made of a plan when a program is set up.
-use Rattle.std.specs.Prelude.{◌≡◌, ℕ, List, [], ◌∷◌, map, Option, Bool, slice_get}
+use Rattle.std.specs.Prelude.{◌≡◌, ℕ, List, [], ◌∷◌, map, Option, None, Bool, slice_get}
 use Rattle.std.specs.Global.{Vec}
 use Rattle.wa_types.specs.Syntax.{Module}
 use Rattle.wa_types.specs.Modules.{imported, imported_func, type_at}
