@@ -4,7 +4,7 @@ use Rattle.std.proofs.Common.{drop, take, ◌<◌, ltb-true, ◌≡◌, ◌⊎�
 use Rattle.std.proofs.Common.{None, All, Contains, refl, sym, ap, ◌∙◌, subst, arith, length-append}
 use Rattle.std.proofs.lemmas.List.{length-map}
 use Rattle.std.specs.Prelude.{slice_get}
-use Rattle.std.proofs.lemmas.List.Elements.{All-nil, All-cons, All-weaker}
+use Rattle.std.proofs.lemmas.List.Elements.{All-nil, All-cons, All-head, All-tail, All-weaker}
 use Rattle.wa_types.specs.declared.values.Value.{Value}
 use Rattle.wa_types.specs.declared.values.ValType.{ValType}
 use Rattle.wa_types.specs.Base.{Base}
@@ -27,7 +27,7 @@ use Rattle.wa_model.specs.Blocking.{inside, outermost, store_at, stack_at, in_st
 use Rattle.wa_model.specs.Blocking.{enter_next, start_called, blocking, all_left, started, begun, continued, Blocking}
 use Rattle.wa_model.specs.Behaves.{StandsNumbered, PauseNumbered}
 use Rattle.wa_model.specs.LawfulStacks.{LeadsTo, Chained}
-use Rattle.stack_laws.specs.Standing.{IsRoot, CallChained, StacksChained, PauseTold, PausesTold, ListedNumbered, CallsAtNumbers, PausesAtNumbers, onward, returned_by, EntryStack, PausesOfEntries}
+use Rattle.stack_laws.specs.Standing.{IsRoot, CallChained, StacksChained, PauseTold, PausesTold, ListedNumbered, CallsAtNumbers, PausesAtNumbers, IsHeeded, PauseHeeded, HeededAtNumbers, onward, returned_by, EntryStack, PausesOfEntries}
 use Rattle.stack_laws.proofs.StandingStates.{calls_from, CallersAt, ConfigurationAt, WaitingAt, NextAt}
 use Rattle.stack_laws.proofs.Counted.{behind_all, AllAt, at_place, all_of, TurnCounts, after_counts}
 use Rattle.stack_laws.proofs.StandingSteps.{body_stands, waited_stands, step_stands}
@@ -476,3 +476,58 @@ pauses_at_numbers m s which plan os n tells counted listed =
     All-weaker (Whole m plan) (λ (x : Note). PauseNumbered m s which x.stack x.pause)
     (λ x h. pause_numbered m s which plan tells counted listed x.event x.stack x.pause (call_numbered m s which plan tells counted x.event x.store x.stack h.0) h.1)
     (Blocking m plan os n).events (whole_in m plan os n)
+
+module _ (m : Module) (s : Settings) (which : List Bool) (tells : TellsMayPause m s which) (table : List (Option ℕ)) (root : ℕ) where
+  heeded_numbered : (c : Callee) (ops : List Value) (x : ℕ) → LeadsTo m table c ops x
+      → (slice_get (Listed m s) x ≡ Some true) ⊎ (slice_get which x ≡ Some true)
+      → ((sort : ℕ) → c ≡ indirect sort → s.ignore_indirect ≡ false) → has_number m s which c ≡ true
+  heeded_numbered (direct y) ops x g (inl e) i = ap (λ (o : Option Bool). is_told o || is_told (slice_get which y)) (ap (slice_get (Listed m s)) g ∙ e)
+  heeded_numbered (direct y) ops x g (inr e) i = by_first (is_told (slice_get (Listed m s) y)) (ap (slice_get which) g ∙ e)
+    where
+      by_first : (b : Bool) → slice_get which y ≡ Some true → (b || is_told (slice_get which y)) ≡ true
+      by_first true e = refl
+      by_first false e = ap is_told e
+  heeded_numbered (indirect sort) ops x g p i = ap not (i sort refl)
+
+  heeded_pauses : (c : Callee) (ops : List Value) (x fn : ℕ) (f : Func) (place : ℕ) → LeadsTo m table c ops x
+      → (slice_get (Listed m s) x ≡ Some true) ⊎ (slice_get which x ≡ Some true)
+      → ((sort : ℕ) → c ≡ indirect sort → s.ignore_indirect ≡ false)
+      → defined_at m fn ≡ Some f → slice_get (calls_in f) place ≡ Some c → MayPause m s fn
+  heeded_pauses (direct y) ops x fn f place g (inl e) i is at = calls_listed fn f place y is at (ap (slice_get (Listed m s)) g ∙ e)
+  heeded_pauses (direct y) ops x fn f place g (inr e) i is at = calls_pausing fn f place y is at ((tells.each y).0 (ap (slice_get which) g ∙ e))
+  heeded_pauses (indirect sort) ops x fn f place g p i is at = calls_indirectly fn f place sort is at (i sort refl)
+
+  chain_heeded : (x : ℕ) (stack : List Suspended) → (slice_get (Listed m s) x ≡ Some true) ⊎ (slice_get which x ≡ Some true)
+      → Chained m table root x stack → All (IsHeeded m s) stack → All (StandsNumbered m s which) stack
+  chain_heeded x [] p h heeds = All-nil (StandsNumbered m s which)
+  chain_heeded x (a ∷ stack) p h heeds =
+      let f = h.0 in
+      let c = h.1 in
+      let here : IsHeeded m s a = All-head (IsHeeded m s) a stack heeds in
+      let i : (sort : ℕ) → c ≡ indirect sort → s.ignore_indirect ≡ false = λ sort e. here f sort h.2 (h.3 ∙ ap Some e) in
+      let told : slice_get which a.func ≡ Some true = (tells.each a.func).1 (heeded_pauses c a.operands x a.func f a.place h.4 p i h.2 h.3) in
+      let from_zero : 0 + a.place ≡ a.place = omega arith in
+      let number : Contains (Numbered m s which f) a.place =
+      subst (λ (k : ℕ). Contains (Numbered m s which f) k) from_zero (place_listed (has_number m s which) 0 (calls_in f) a.place c h.3 (heeded_numbered c a.operands x h.4 p i)) in
+      All-cons (StandsNumbered m s which) a stack (record { instrumented = told; numbered = (f, h.2, number) }) (chain_heeded a.func stack (inr told) h.5 (All-tail (IsHeeded m s) a stack heeds))
+
+module _ (m : Module) (s : Settings) (which : List Bool) (plan : Plan) (tells : TellsMayPause m s which) where
+  pause_heeded : plan.listed ≡ Some (Listed m s) → (e : Event) (at : Store) (stack : List Suspended) (pause : Option ℕ)
+      → CallChained m (IsRoot m plan) e at stack → PauseTold plan e pause → PauseHeeded m s stack pause → PauseNumbered m s which stack pause
+  pause_heeded l e at stack None h k d = tt
+  pause_heeded l (called c) at stack (Some ticks) h k d = chain_heeded m s which tells at.table h.0 c.import stack (inl (k (Listed m s) l)) h.2 d
+  pause_heeded l (answered value) at stack (Some ticks) h k d = absurd k
+  pause_heeded l (paused t used) at stack (Some ticks) h k d = absurd k
+  pause_heeded l (returned entry value) at stack (Some ticks) h k d = absurd k
+  pause_heeded l (ended how) at stack (Some ticks) h k d = absurd k
+  pause_heeded l (shown at' bytes) at stack (Some ticks) h k d = absurd k
+
+both_weaker : {X : Type 0} (P Q R : X → Type 0) → ((x : X) → P x → Q x → R x) → (xs : List X) → All P xs → All Q xs → All R xs
+both_weaker P Q R f [] ps qs = All-nil R
+both_weaker P Q R f (x ∷ xs) ps qs = All-cons R x xs (f x (All-head P x xs ps) (All-head Q x xs qs)) (both_weaker P Q R f xs (All-tail P x xs ps) (All-tail Q x xs qs))
+
+pub heeded_at_numbers : HeededAtNumbers
+heeded_at_numbers m s which plan os n tells listed heeds =
+    both_weaker (Whole m plan) (λ (x : Note). PauseHeeded m s x.stack x.pause) (λ (x : Note). PauseNumbered m s which x.stack x.pause)
+    (λ x h d. pause_heeded m s which plan tells listed x.event x.store x.stack x.pause h.0 h.1 d)
+    (Blocking m plan os n).events (whole_in m plan os n) heeds

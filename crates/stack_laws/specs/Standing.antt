@@ -1,9 +1,9 @@
 -- How the stack at each call of a run leads from what the host called to the import, and where its activations stand.
 use Rattle.std.specs.Prelude.{◌≡◌, ◌<◌, ◌≤◌, ◌⊎◌, ℕ, suc, List, [], ◌∷◌, length, take, Option, Some, None, Bool, true, false, All, Contains, slice_get}
 use Rattle.wa_types.specs.Frames.{Suspended}
-use Rattle.wa_types.specs.Pausing.{Settings, Listed, TellsMayPause}
-use Rattle.wa_types.specs.Syntax.{Module}
-use Rattle.wa_types.specs.Modules.{func_imports}
+use Rattle.wa_types.specs.Pausing.{Settings, Listed, TellsMayPause, calls_in, indirect}
+use Rattle.wa_types.specs.Syntax.{Func, Module}
+use Rattle.wa_types.specs.Modules.{func_imports, defined_at}
 use Rattle.wa_model.specs.Outside.{Call, Event, called, returned}
 use Rattle.wa_model.specs.Store.{Store}
 use Rattle.wa_model.specs.Plan.{Entry, Plan, Outcome}
@@ -53,6 +53,22 @@ abbrev pub PausesAtNumbers : Type 0
 PausesAtNumbers =
     (m : Module) (s : Settings) (which : List Bool) (plan : Plan) (os : List Outcome) (n : ℕ)
     → TellsMayPause m s which → s.ignore_indirect ≡ false → plan.listed ≡ Some (Listed m s) → PausesNumbered m s which (Blocking m plan os n).events
+
+-- an activation that stands at an indirect call does so where these aren't ignored: where they are, it stands at none
+abbrev pub IsHeeded : Module → Settings → Suspended → Type 0
+IsHeeded m s a = (f : Func) (sort : ℕ) → defined_at m a.func ≡ Some f → slice_get (calls_in f) a.place ≡ Some (indirect sort) → s.ignore_indirect ≡ false
+
+-- at a pause every activation of the stack is such
+abbrev pub PauseHeeded : Module → Settings → List Suspended → Option ℕ → Type 0
+PauseHeeded m s stack None = Unit {0}
+PauseHeeded m s stack (Some ticks) = All (IsHeeded m s) stack
+
+-- Where no suspended activation stands at an indirect call that is ignored, each stands at a numbered call.
+abbrev pub HeededAtNumbers : Type 0
+HeededAtNumbers =
+    (m : Module) (s : Settings) (which : List Bool) (plan : Plan) (os : List Outcome) (n : ℕ)
+    → TellsMayPause m s which → plan.listed ≡ Some (Listed m s) → All (λ (x : Note). PauseHeeded m s x.stack x.pause) (Blocking m plan os n).events
+    → PausesNumbered m s which (Blocking m plan os n).events
 
 -- ---- which entry a pause suspends
 

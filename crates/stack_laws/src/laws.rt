@@ -1,7 +1,7 @@
 //! Laws of suspended stacks. Each is the contract of a function that does nothing.
 
 ghost use Rattle.stack_laws.specs.Lawful.{CodeStandsBehind, PausesAreLawful, StacksAreLawful};
-ghost use Rattle.stack_laws.specs.Standing.{CallsAtNumbers, PausesAtNumbers, PausesOfEntries, PausesTold, StacksChained};
+ghost use Rattle.stack_laws.specs.Standing.{CallsAtNumbers, PausesAtNumbers, HeededAtNumbers, PausesOfEntries, PausesTold, StacksChained};
 
 /// At each call of an import the stack leads, call by call, from what the host called to the import, and has 4,096
 /// activations at most. A pause is at a call of an import that the plan tells as listed, and suspends the stack of the entry
@@ -17,6 +17,7 @@ pub fn stacks_are_chained()
 pub fn activations_stand_at_numbers()
     ensures calls { CallsAtNumbers }
     ensures pauses { PausesAtNumbers }
+    ensures heeded { HeededAtNumbers }
 {}
 
 /// Each activation of the stack at a call of an import stands at a call of its pruned body, with what stands behind that
