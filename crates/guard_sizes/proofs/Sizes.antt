@@ -46,7 +46,7 @@ module _ (m : Module) where
   plain_counts : (p : Plain) → 1 ≤ plain_weight m p
   plain_counts p = let e = plain_weighs p in omega arith
 
-  counts : (c : Code) → count_of c ≤ code_weight m c
+  pub counts : (c : Code) → count_of c ≤ code_weight m c
   unfolding count_of code_weight
   counts done = omega arith
   counts (plain p c) = let e = plain_counts p in let ih = counts c in omega arith

@@ -65,7 +65,7 @@ live_resumes : (c d : Configuration) (s : Store) (vs : List Value) → SameLive 
 live_resumes _ _ s vs (alike h us) = alike h us
 
 -- activations that wait, the innermost first
-stack_same : (c d : Configuration) → SameLive c d → SameUnder (c.here ∷ c.under) (d.here ∷ d.under)
+pub stack_same : (c d : Configuration) → SameLive c d → SameUnder (c.here ∷ c.under) (d.here ∷ d.under)
 stack_same _ _ (alike h us) = also h us
 
 module _ (m : Module) (s : Settings) (which : List Bool) (b : Module) where
@@ -88,7 +88,7 @@ module _ (m : Module) (s : Settings) (which : List Bool) (b : Module) where
 -- ---- what frames want
 
 -- each place passes
-abbrev Each : (Place → Type 0) → List Place → Type 0
+abbrev pub Each : (Place → Type 0) → List Place → Type 0
 Each P [] = Unit {0}
 Each P (q ∷ qs) = P q × Each P qs
 
@@ -97,7 +97,7 @@ each_on P [] qs h g = g
 each_on P (p ∷ ps) qs h g = (h.0, each_on P ps qs h.1 g)
 
 -- a saved parameter or declared local passes the test
-abbrev OwnPasses : (keep : ℕ → Bool) (own : ℕ) → Place → Type 0
+abbrev pub OwnPasses : (keep : ℕ → Bool) (own : ℕ) → Place → Type 0
 OwnPasses keep own q = q.local < own → keep q.local ≡ true
 
 named_pass : (keep : ℕ → Bool) (own x : ℕ) (ts : List ValType) → Each (OwnPasses keep own) (named_places keep x ts)
@@ -116,7 +116,7 @@ slots_pass keep keep_slot own x (p ∷ ps) le = by (keep_slot p) (slots_pass kee
     by true h = (λ lt. absurd (omega (arith, le, lt)), h)
     by false h = h
 
-saved_pass : (m : Module) (f : Func) (at : ℕ) → Each (OwnPasses (is_live_after f at) (length (locals_of m f))) (Saved m save_live f at)
+pub saved_pass : (m : Module) (f : Func) (at : ℕ) → Each (OwnPasses (is_live_after f at) (length (locals_of m f))) (Saved m save_live f at)
 saved_pass m f at =
     let keep = is_live_after f at in
     let own = length (locals_of m f) in
@@ -191,7 +191,7 @@ module _ (m : Module) (s : Settings) (which : List Bool) (policy : s.policy ≡ 
         by true z = cc
         by false z = refl
 
-    wants_same : (f : Func) → defined_at m fn ≡ Some f → (q : Place) → OwnPasses (is_live_after f new.place) (length (locals_of m f)) q → wanted m f new q ≡ wanted m f old q
+    pub wants_same : (f : Func) → defined_at m fn ≡ Some f → (q : Place) → OwnPasses (is_live_after f new.place) (length (locals_of m f)) q → wanted m f new q ≡ wanted m f old q
     wants_same f e q pass = ⊎_elim
         (λ lt.
         let w = some_at q.local (slice_get (behind_calls [] (pruned f.body)) new.place) (pass lt) in
