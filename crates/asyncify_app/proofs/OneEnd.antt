@@ -5,9 +5,9 @@ use Rattle.vault_port.specs.Files.{Files, ChangesOnly, HoldsFrontAtMost}
 use Rattle.vault_port.specs.Told.{Becomes}
 use Rattle.wa_types.specs.Encoding.{Enc}
 use Rattle.wa_types.specs.Pausing.{Settings}
-use Rattle.wa_model.specs.Command.{Command, transform, OnTransform}
-use Rattle.wa_model.specs.Spelled.{Spelled, rewrites, hosts, runs, generates}
-use Rattle.wa_model.specs.Transcript.{refusal_line, write_fault}
+use Rattle.script_model.specs.Command.{Command, transform, OnTransform}
+use Rattle.script_model.specs.Spelled.{Spelled, rewrites, hosts, runs, generates}
+use Rattle.script_model.specs.Transcript.{refusal_line, write_fault}
 use Rattle.printing.specs.Refused.{EndsInMemory, Prints, PrintsMemory}
 use Rattle.printing.proofs.Printed.{memory_alone}
 use Rattle.gen_module.specs.Generated.{generated}

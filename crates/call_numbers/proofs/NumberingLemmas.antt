@@ -13,8 +13,8 @@ use Rattle.wa_model.specs.declared.flat.Operand.{Operand}
 use Rattle.wa_model.specs.declared.flat.Stmt.{Stmt, roll-Stmt, roll-out-Stmt}
 use Rattle.wa_model.specs.declared.flat.Stmt.TheVariants.{Plain as PlainStmt, Move, Call as CallStmt, Br as BrStmt, BrIf as BrIfStmt, BrTable as BrTableStmt, Block, Loop, If}
 use Rattle.wa_model.specs.declared.flat.Stmt.TheVariants.{Unreachable as UnreachableStmt, Block', Loop', If', rolls-Block, rolls-Loop, rolls-If, outs-Block', outs-Loop', outs-If'}
-use Rattle.wa_model.specs.Flat.{Stmts, no_more, computes, copies, calls, leaps, leaps_if, leaps_by, nests, decides, halts}
-use Rattle.wa_model.specs.FlatView.{stmt_in_front, stmts}
+use Rattle.run_theory.specs.Flat.{Stmts, no_more, computes, copies, calls, leaps, leaps_if, leaps_by, nests, decides, halts}
+use Rattle.run_theory.specs.FlatView.{stmt_in_front, stmts}
 use Rattle.guard_form.specs.Pieces.{call_total, sole_callee}
 use Rattle.flat_pieces.specs.Statements.{with_rest}
 use Rattle.call_numbers.specs.Numbering.{callees}

@@ -2,8 +2,8 @@
 use Rattle.std.specs.Prelude.{◌≡◌, ℕ, ◌++◌, ◌||◌, List, [], ◌∷◌, Option, Some, None, Bool, false, not, slice_get}
 use Rattle.wa_types.specs.Pausing.{Callee, direct, indirect, Settings, Listed, calls_of, calls_in, is_told, places_from, Numbered}
 use Rattle.wa_types.specs.Syntax.{Func, Module}
-use Rattle.wa_model.specs.Flat.{Stmts, no_more, computes, copies, calls, leaps, leaps_if, leaps_by, nests, decides, halts, code_of}
-use Rattle.wa_model.specs.FlatFits.{StmtsFit}
+use Rattle.run_theory.specs.Flat.{Stmts, no_more, computes, copies, calls, leaps, leaps_if, leaps_by, nests, decides, halts, code_of}
+use Rattle.run_theory.specs.FlatFits.{StmtsFit}
 use Rattle.guard_form.specs.Pieces.{sole_callee}
 
 -- what the calls go to, in order of code

@@ -5,8 +5,8 @@ ghost use Rattle.std.specs.Prelude.{slice_get};
 ghost use Rattle.wa_types.specs.Pausing.{is_told, places_from};
 ghost use Rattle.wa_types.specs.Syntax.{done};
 ghost use Rattle.wa_types.specs.View.{in_front};
-ghost use Rattle.wa_model.specs.FlatView.{flat_func_of, stmts, stmt_in_front};
-ghost use Rattle.wa_model.specs.Flat.{no_more};
+ghost use Rattle.run_theory.specs.FlatView.{flat_func_of, stmts, stmt_in_front};
+ghost use Rattle.run_theory.specs.Flat.{no_more};
 ghost use Rattle.guard_form.specs.Pieces.{call_total, sole_callee};
 ghost use Rattle.call_numbers.specs.Numbering.{callees, gets_number};
 

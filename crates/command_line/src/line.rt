@@ -6,7 +6,7 @@ ghost use Rattle.clap.specs.Simple.{Shape};
 ghost use Rattle.clap.specs.Words.{app_of, kind_of, shape_of, subcommand_rows_of, with_subcommand};
 ghost use Rattle.clap.specs.declared.builder.command.Command.TheViews.{out-Command};
 ghost use Rattle.clap.specs.declared.error.kind.ErrorKind.TheVariants.{OutOfMemory};
-ghost use Rattle.wa_model.specs.Spelled.{spelled};
+ghost use Rattle.script_model.specs.Spelled.{spelled};
 ghost use Rattle.word_grammar.specs.Grammar.{MatchesSpell, line};
 ghost use Rattle.command_line.specs.Line.{bare_line};
 

@@ -8,7 +8,7 @@ use Rattle.clap.specs.Matches.{subcommand_name_of}
 use Rattle.clap.specs.declared.parser.matches.ArgMatches.{ArgMatches}
 use Rattle.clap.specs.declared.parser.matches.SubCommand.{SubCommand}
 use Rattle.clap.specs.declared.parser.matches.ArgMatches.TheViews.{out-ArgMatches, out-SubCommand}
-use Rattle.wa_model.specs.Spelled.{Spelled}
+use Rattle.script_model.specs.Spelled.{Spelled}
 use Rattle.word_grammar.specs.Grammar.{Kind, MatchesSpell, name_of, read_of}
 use Rattle.word_grammar.proofs.Meanings.{command_read, name_in, rows_in}
 

@@ -5,8 +5,8 @@ use Rattle.std.specs.Str.{is_utf8, chars}
 use Rattle.std.proofs.Math.Utf8.{encode}
 use Rattle.std.specs.Fmt.{digits}
 use Rattle.wa_types.specs.Pausing.{Policy, every, save_all, save_live}
-use Rattle.wa_model.specs.Command.{transform}
-use Rattle.wa_model.specs.Spelled.{Spelled, spelled, rewrites, hosts, runs, generates}
+use Rattle.script_model.specs.Command.{transform}
+use Rattle.script_model.specs.Spelled.{Spelled, spelled, rewrites, hosts, runs, generates}
 
 -- ---- a script alone
 

@@ -3,8 +3,8 @@ use Rattle.std.specs.Prelude.{◌≡◌, ◌≤◌, List, ℕ, Option, Some, Non
 use Rattle.std.specs.Option.{option_map}
 use denote.Ref.{Bor}
 use Rattle.call_graph.specs.Settings.{settings_of}
-use Rattle.wa_model.specs.Command.{transform}
-use Rattle.wa_model.specs.Spelled.{Spelled, rewrites, hosts, runs, generates}
+use Rattle.script_model.specs.Command.{transform}
+use Rattle.script_model.specs.Spelled.{Spelled, rewrites, hosts, runs, generates}
 use Rattle.command_words.specs.declared.words.Command.{Command as CommandValue}
 use Rattle.command_words.specs.declared.words.Command.TheVariants.{Transform, Host, Run, Gen}
 use Rattle.command_words.specs.declared.words.WordsFault.{WordsFault}

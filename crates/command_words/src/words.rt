@@ -3,7 +3,7 @@
 ghost use Rattle.std.specs.Prelude.{◌≡◌, Option, map, IfOk};
 ghost use Rattle.std.specs.String.{string_bytes};
 ghost use Rattle.clap.specs.Words.{subcommand_rows_of};
-ghost use Rattle.wa_model.specs.Spelled.{Spelled, spelled};
+ghost use Rattle.script_model.specs.Spelled.{Spelled, spelled};
 ghost use Rattle.word_grammar.specs.Grammar.{MatchesSpell};
 ghost use Rattle.command_words.specs.Words.{HasFewFunctions, Reads, spelled_of};
 

@@ -13,8 +13,8 @@ use Rattle.std.proofs.lemmas.Option.{slice_get-map, slice_get_read}
 use Rattle.wa_types.specs.declared.syntax.Import.{Import}
 use Rattle.wa_types.specs.Modules.{imported_func}
 use Rattle.wa_types.specs.Pausing.{joined_name}
-use Rattle.wa_model.specs.Script.{BindText}
-use Rattle.wa_model.specs.ScriptLines.{or_else}
+use Rattle.script_model.specs.Script.{BindText}
+use Rattle.script_model.specs.ScriptLines.{or_else}
 use Rattle.script_reader.specs.declared.script.BindText.{BindText as BindValue}
 use Rattle.script_reader.specs.Views.{bind_of}
 use Rattle.device_bindings.specs.Bindings.{bound_imports, last_device, where_func}

@@ -6,8 +6,8 @@ use Rattle.wa_types.specs.declared.syntax.Import.{Import}
 use Rattle.wa_types.specs.Modules.{imported_func}
 use Rattle.wa_types.specs.Pausing.{joined_name}
 use Rattle.wa_types.specs.Syntax.{Module}
-use Rattle.wa_model.specs.Script.{BindText}
-use Rattle.wa_model.specs.ScriptLines.{or_else}
+use Rattle.script_model.specs.Script.{BindText}
+use Rattle.script_model.specs.ScriptLines.{or_else}
 
 -- the device that the last line of a name tells
 abbrev pub last_device : (name : List ℕ) → List BindText → Option (List ℕ)

@@ -5,7 +5,7 @@ use Rattle.std.specs.BTreeMap.{BTreeMap, get_by}
 use Rattle.std.specs.Cmp.Lexicographic.{slice_cmp}
 use Rattle.std.specs.Option.{option_map}
 use Rattle.std.specs.Ordering.{nat_cmp}
-use Rattle.wa_model.specs.Script.{BindText}
+use Rattle.script_model.specs.Script.{BindText}
 use Rattle.device_bindings.specs.Bindings.{last_device}
 
 -- the place under a name

@@ -6,7 +6,7 @@ ghost use Rattle.std.specs.Str.{bytes_eq};
 ghost use Rattle.wa_types.specs.Modules.{imported_func};
 ghost use Rattle.wa_types.specs.Pausing.{joined_name};
 ghost use Rattle.wa_types.specs.View.{module_of};
-ghost use Rattle.wa_model.specs.Script.{BindText as PlainBind};
+ghost use Rattle.script_model.specs.Script.{BindText as PlainBind};
 ghost use Rattle.script_reader.specs.Views.{bind_of};
 ghost use Rattle.device_bindings.specs.Bindings.{bindings, bound_imports, where_func};
 ghost use Rattle.device_bindings.specs.Places.{TellsDevices, device_at, place_in};

@@ -14,7 +14,7 @@ use Rattle.wa_types.specs.Points.{after}
 use Rattle.wa_types.specs.Typing.{Around, listed, sig, label}
 use Rattle.wa_model.specs.declared.flat.Operand.{Operand}
 use Rattle.wa_model.specs.declared.flat.Operand.TheVariants.{Local, Const}
-use Rattle.wa_model.specs.Flat.{Stmts, no_more, computes, copies, calls, leaps, leaps_if, leaps_by, nests, decides, halts, followed_by, got, all_got, set_to, slots_got, last_of, code_of, result_got}
+use Rattle.run_theory.specs.Flat.{Stmts, no_more, computes, copies, calls, leaps, leaps_if, leaps_by, nests, decides, halts, followed_by, got, all_got, set_to, slots_got, last_of, code_of, result_got}
 use Rattle.rewrite_form.specs.Flatten.{Names, top, carry_to, carry, carry_all, arrive, flat_plain, flat}
 use Rattle.rewrite_form.specs.Layout.{FrameField, kept, gap, fields_size, placed, Layout, save_code, restore_code}
 use Rattle.local_spill.specs.Spilling.{stored_value, loaded_value, locals_stored, locals_loaded}

@@ -19,7 +19,7 @@ use Rattle.wa_types.specs.Sizes.{label_count, FuncSizes, StrictSizeRule}
 use Rattle.wa_types.specs.Syntax.{Basic, nop, drop, select, const, num, global_get, global_set, load, store, memory_size, memory_grow, basic, local_get, local_set, local_tee, br, br_if}
 use Rattle.wa_types.specs.Syntax.{br_table, return, unreachable, call, call_indirect, Plain, Code, done, plain, nest, branch, Func, Module}
 use Rattle.wa_types.proofs.SizeBounds.{weight_fits}
-use Rattle.wa_model.specs.FlatFits.{one_run}
+use Rattle.run_theory.specs.FlatFits.{one_run}
 use Rattle.wa_model.specs.Rewrites.{instructions_and_labels}
 use Rattle.rewrite_form.specs.FlatModule.{extra_types}
 use Rattle.wasm_entries.specs.Locals.{local_count}

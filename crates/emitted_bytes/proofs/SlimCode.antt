@@ -1,7 +1,7 @@
 -- What slim code and slim units have of the numbers of flat ones.
 use Rattle.std.proofs.Common.{List, [], ◌∷◌, Some, None, ℕ}
 use Rattle.wa_types.specs.Syntax.{Code, done}
-use Rattle.wa_model.specs.Flat.{followed_by, got}
+use Rattle.run_theory.specs.Flat.{followed_by, got}
 use Rattle.wa_model.specs.Store.{gives}
 use Rattle.rewrite_form.specs.Pieces.{Units}
 use Rattle.rewrite_form.specs.Slim as S

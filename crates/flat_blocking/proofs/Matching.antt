@@ -7,8 +7,8 @@ use Rattle.wa_model.specs.Machine.{Turn, stops, goes, Ran, after, run, CostsMore
 use Rattle.wa_model.specs.Blocking.{Note, State, events_of, store_of}
 use Rattle.wa_model.specs.Outside.{Event}
 use Rattle.wa_model.specs.Store.{Store}
-use Rattle.wa_model.specs.Touches.{trace, Seen, seen_at, seen_note, made}
-use Rattle.wa_model.proofs.Runs.{one_move, too_dear, no_move}
+use Rattle.run_theory.specs.Touches.{trace, Seen, seen_at, seen_note, made}
+use Rattle.run_theory.proofs.Runs.{one_move, too_dear, no_move}
 use Rattle.run_laws.proofs.Seeing.{one_seen, no_further}
 use Rattle.std.proofs.lemmas.List.Sums.{sum_by-append, sum_by-cons}
 

@@ -12,12 +12,12 @@ use Rattle.wa_model.specs.Store.{Store}
 use Rattle.wa_model.specs.Plan.{Entry, Plan, Outcome, EntryFits, Fits}
 use Rattle.wa_model.specs.Instantiation.{Opening, fails_as, opens, opening}
 use Rattle.wa_model.specs.Blocking.{Note, State, Left, events_of, begun, started, all_left, blocking, on_to}
-use Rattle.wa_model.specs.Laws.{start_of}
-use Rattle.wa_model.specs.Touches.{trace, seen_at, seen_note}
-use Rattle.wa_model.specs.Fitting.{types_of, global_types, StoreFits}
-use Rattle.wa_model.proofs.BaseValid.{base_valid}
-use Rattle.wa_model.proofs.FittingNames.{func_found}
-use Rattle.wa_model.proofs.FittingOpenings.{openings_fit}
+use Rattle.run_theory.specs.Laws.{start_of}
+use Rattle.run_theory.specs.Touches.{trace, seen_at, seen_note}
+use Rattle.run_theory.specs.Fitting.{types_of, global_types, StoreFits}
+use Rattle.run_theory.proofs.BaseValid.{base_valid}
+use Rattle.run_theory.proofs.FittingNames.{func_found}
+use Rattle.run_theory.proofs.FittingOpenings.{openings_fit}
 use Rattle.stack_laws.proofs.SpotRuns.{listed_typed, start_takes_none}
 use Rattle.flat_laws.specs.FlatModule.{flat_module, Flattened}
 use Rattle.flat_laws.proofs.RuntimeModules.{base_is_flattened}

@@ -8,9 +8,9 @@ use Rattle.wa_types.specs.Validity.{Valid}
 use Rattle.wa_model.specs.Machine.{Turn, stops, goes}
 use Rattle.wa_model.specs.Plan.{Plan, Outcome, Fits}
 use Rattle.wa_model.specs.Blocking.{Note, State, runs, events_of, blocking, Blocking, store_of}
-use Rattle.wa_model.specs.Laws.{start_of}
-use Rattle.wa_model.specs.Touches.{trace, Touches}
-use Rattle.wa_model.specs.Flat.{body_of}
+use Rattle.run_theory.specs.Laws.{start_of}
+use Rattle.run_theory.specs.Touches.{trace, Touches}
+use Rattle.run_theory.specs.Flat.{body_of}
 use Rattle.flat_laws.specs.Flatten.{flattened}
 use Rattle.flat_laws.specs.FlatModule.{flat_module}
 use Rattle.flat_runs.specs.Beside.{first_of}

@@ -11,8 +11,8 @@ use Rattle.wa_types.proofs.ViewLemmas.{is_block, is_loop, is_if, is_plain, instr
 use Rattle.wasm_validate.specs.Walk.{Walk, Stays, TypedAt}
 use Rattle.wasm_validate.proofs.WalkUses.{typed_alone, onward}
 use Rattle.wa_model.specs.declared.flat.Stmt.{Stmt}
-use Rattle.wa_model.specs.Flat.{Stmts, no_more}
-use Rattle.wa_model.specs.FlatView.{stmt_in_front, stmts}
+use Rattle.run_theory.specs.Flat.{Stmts, no_more}
+use Rattle.run_theory.specs.FlatView.{stmt_in_front, stmts}
 use Rattle.flat_laws.specs.Flatten.{Names, slots, flat, top}
 use Rattle.flat_instrs.specs.declared.position.Position.{Position}
 use Rattle.flat_instrs.specs.Emitting.{onto_stmts, all_of, flat_at, carried_to, label_locals, Ready, Put, PutLast, SmallTypes}

@@ -17,8 +17,8 @@ use Rattle.wa_types.specs.Leaves.{is_leaf}
 use Rattle.wasm_validate.specs.Walk.{Walk, Stays, Inside, TypedAt, left_at}
 use Rattle.wa_model.specs.declared.flat.Stmt.{Stmt}
 use Rattle.wa_model.specs.declared.flat.Operand.TheVariants.{Local}
-use Rattle.wa_model.specs.Flat.{Stmts, nests, decides}
-use Rattle.wa_model.specs.FlatView.{stmts}
+use Rattle.run_theory.specs.Flat.{Stmts, nests, decides}
+use Rattle.run_theory.specs.FlatView.{stmts}
 use Rattle.flat_laws.specs.Flatten.{Names, slots, top, arrive, flat}
 use Rattle.flat_instrs.specs.declared.position.Position.{Position}
 use Rattle.flat_instrs.specs.Emitting.{onto_stmts, all_of, flat_at, label_locals, result_at, ArrivesAt, HeldToo, PutBlock, PutLoop, PutIf, Put, Ready, SmallTypes}

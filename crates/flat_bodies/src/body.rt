@@ -5,7 +5,7 @@ ghost use Rattle.wa_types.specs.Pruned.{is_last_instr};
 ghost use Rattle.wa_types.specs.Sizes.{code_items};
 ghost use Rattle.wa_types.specs.Syntax.{done};
 ghost use Rattle.wa_types.specs.View.{code, in_front};
-ghost use Rattle.wa_model.specs.FlatView.{stmts};
+ghost use Rattle.run_theory.specs.FlatView.{stmts};
 ghost use Rattle.wa_types.specs.Leaves.{is_leaf};
 ghost use Rattle.wasm_validate.specs.Walk.{Stays, TypedAt};
 ghost use Rattle.flat_instrs.specs.Emitting.{flat_at, Put, Ready, SmallTypes};

@@ -3,7 +3,7 @@
 ghost use Rattle.std.specs.Prelude.{◌≡◌, ◌+◌, ◌<◌, ◌^◌, ◌∷◌, [], length, IfOk};
 ghost use Rattle.wa_types.specs.Sizes.{code_items};
 ghost use Rattle.wa_types.specs.View.{code};
-ghost use Rattle.wa_model.specs.FlatView.{stmts};
+ghost use Rattle.run_theory.specs.FlatView.{stmts};
 ghost use Rattle.wasm_validate.specs.Walk.{TypedAt};
 ghost use Rattle.flat_instrs.specs.Emitting.{flat_at, Ready, SmallTypes};
 

@@ -10,8 +10,8 @@ use Rattle.wa_model.specs.declared.flat.Stmt.{Stmt, Row_of-Stmt, end_of-Stmt, mo
 use Rattle.wa_model.specs.declared.flat.Stmt.TheBlock.{hidden-the_row-Stmt-0}
 use Rattle.wa_model.specs.declared.flat.Stmt.TheVariants.{Move, Block, Loop, If}
 use Rattle.wa_model.specs.declared.flat.Operand.TheVariants.{Local}
-use Rattle.wa_model.specs.Flat.{Stmts, copies, nests, decides}
-use Rattle.wa_model.specs.FlatView.{stmt_in_front, row_stmts, stmts}
+use Rattle.run_theory.specs.Flat.{Stmts, copies, nests, decides}
+use Rattle.run_theory.specs.FlatView.{stmt_in_front, row_stmts, stmts}
 use Rattle.flat_laws.specs.Flatten.{Names, slot, slots, top, result_local, arrive}
 use Rattle.flat_instrs.specs.declared.position.Position.{Position}
 use Rattle.flat_instrs.specs.Emitting.{onto_stmts, all_of, HoldsBelow, ArrivesAt, Closed, PutBlock, PutLoop, PutIf}

@@ -17,10 +17,10 @@ use Rattle.wa_types.specs.Modules.{or_empty, func_sorts, func_types, func_type_a
 use Rattle.wa_types.specs.Frames.{SlotPairs, ResultPairs}
 use Rattle.wa_model.specs.declared.flat.Operand.TheVariants.{Local}
 use Rattle.wa_model.specs.Store.{takes, gives}
-use Rattle.wa_model.specs.Flat.{Stmts, no_more, leaps, leaps_if, leaps_by, decides}
-use Rattle.wa_model.specs.FlatFits.{OperandFits, ToFits, TellsResult, StmtsFit, CalleesInRange, ResultsTold}
-use Rattle.wa_model.proofs.FittingNames.{func_found}
-use Rattle.wa_model.proofs.HeightLemmas.{basic_height}
+use Rattle.run_theory.specs.Flat.{Stmts, no_more, leaps, leaps_if, leaps_by, decides}
+use Rattle.run_theory.specs.FlatFits.{OperandFits, ToFits, TellsResult, StmtsFit, CalleesInRange, ResultsTold}
+use Rattle.run_theory.proofs.FittingNames.{func_found}
+use Rattle.run_theory.proofs.HeightLemmas.{basic_height}
 use Rattle.flat_laws.specs.Flatten.{Names, names, place, slots, top, top_of, carry_to, carry, carry_all, arrive, flat, flat_plain}
 use Rattle.flat_laws.specs.Placed.{AllIn, HasResult, GoesOn, Good}
 use Rattle.flat_laws.proofs.OperandTypes.{after_all, good_in, take_few, takes_few}

@@ -13,8 +13,8 @@ use Rattle.wa_types.specs.Frames.{Pair, Count, SlotPairs, ResultPairs}
 use Rattle.wa_types.specs.Modules.{func_imports, type_at, defined_at, locals_of, around}
 use Rattle.wa_types.specs.Validity.{Valid}
 use Rattle.wa_types.proofs.SizeBounds.{weight_fits}
-use Rattle.wa_model.specs.Flat.{code_of, body_of}
-use Rattle.wa_model.specs.FlatFits.{ToFits, TellsResult, StmtsFit}
+use Rattle.run_theory.specs.Flat.{code_of, body_of}
+use Rattle.run_theory.specs.FlatFits.{ToFits, TellsResult, StmtsFit}
 use Rattle.flat_laws.specs.Flatten.{names, result_of, flattened}
 use Rattle.flat_laws.specs.Placed.{HasResult}
 use Rattle.flat_laws.proofs.Depths.{flat_is_flat}

@@ -6,8 +6,8 @@ use Rattle.wa_types.specs.Sizes.{StrictSizeRule}
 use Rattle.wa_types.specs.Pausing.{calls_of, calls_in}
 use Rattle.wa_types.specs.Frames.{Count}
 use Rattle.wa_types.specs.Validity.{Valid}
-use Rattle.wa_model.specs.Flat.{code_of}
-use Rattle.wa_model.specs.FlatFits.{FlatFits, FlatOf, CalleesInRange}
+use Rattle.run_theory.specs.Flat.{code_of}
+use Rattle.run_theory.specs.FlatFits.{FlatFits, FlatOf, CalleesInRange}
 use Rattle.flat_laws.specs.Flatten.{flattened}
 
 -- The flat function of this index can be rewritten, it stands for the function, and it names functions of the module alone.

@@ -13,8 +13,8 @@ use Rattle.wa_types.specs.Leaves.{is_leaf}
 use Rattle.wasm_validate.specs.Walk.{Walk, TypedAt}
 use Rattle.wa_model.specs.declared.flat.Stmt.{Stmt}
 use Rattle.wa_model.specs.declared.flat.Stmt.TheVariants.{Call as Calls}
-use Rattle.wa_model.specs.Flat.{Stmts, calls}
-use Rattle.wa_model.specs.FlatView.{stmt_in_front}
+use Rattle.run_theory.specs.Flat.{Stmts, calls}
+use Rattle.run_theory.specs.FlatView.{stmt_in_front}
 use Rattle.flat_laws.specs.Flatten.{Names, slots, top_of}
 use Rattle.flat_instrs.specs.Emitting.{onto_stmts, all_of, CallAt, Changed, SmallTypes}
 use Rattle.flat_names.specs.Numbers.{bit}

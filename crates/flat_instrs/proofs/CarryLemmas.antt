@@ -6,8 +6,8 @@ use Rattle.wa_types.specs.declared.values.ValType.{ValType}
 use Rattle.wa_model.specs.declared.flat.Stmt.{Stmt}
 use Rattle.wa_model.specs.declared.flat.Stmt.TheVariants.{Move}
 use Rattle.wa_model.specs.declared.flat.Operand.TheVariants.{Local}
-use Rattle.wa_model.specs.Flat.{Stmts}
-use Rattle.wa_model.specs.FlatView.{stmt_in_front}
+use Rattle.run_theory.specs.Flat.{Stmts}
+use Rattle.run_theory.specs.FlatView.{stmt_in_front}
 use Rattle.flat_laws.specs.Flatten.{Names, top, carry, carry_all, carry_to}
 use Rattle.flat_instrs.specs.Emitting.{onto_stmts, carried_to, all_carried, label_locals}
 use Rattle.flat_instrs.proofs.OntoLemmas.{onto_more}

@@ -18,8 +18,8 @@ use Rattle.std.specs.declared.alloc.Global.{Global}
 use Rattle.wa_model.specs.Store.{takes, gives}
 use Rattle.wa_model.specs.declared.flat.Operand.{Operand}
 use Rattle.wa_model.specs.declared.flat.Operand.TheVariants.{Local}
-use Rattle.wa_model.specs.Flat.{Stmts, computes, copies, leaps_if}
-use Rattle.wa_model.specs.FlatView.{stmt_in_front}
+use Rattle.run_theory.specs.Flat.{Stmts, computes, copies, leaps_if}
+use Rattle.run_theory.specs.FlatView.{stmt_in_front}
 use Rattle.flat_laws.specs.Flatten.{Names, slots, top, top_of, carry, flat, flat_plain}
 use Rattle.flat_laws.proofs.OperandTypes.{after_all}
 use Rattle.flat_instrs.proofs.OntoLemmas.{onto_more}

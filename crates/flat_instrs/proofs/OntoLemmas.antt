@@ -1,8 +1,8 @@
 -- Lists of statements before others.
 use Rattle.std.proofs.Common.{◌≡◌, ◌++◌, List, [], ◌∷◌, refl, ap}
 use Rattle.wa_model.specs.declared.flat.Stmt.{Stmt}
-use Rattle.wa_model.specs.Flat.{Stmts}
-use Rattle.wa_model.specs.FlatView.{stmt_in_front}
+use Rattle.run_theory.specs.Flat.{Stmts}
+use Rattle.run_theory.specs.FlatView.{stmt_in_front}
 use Rattle.flat_instrs.specs.Emitting.{onto_stmts}
 
 pub onto_more : (xs : List Stmt) (s : Stmt) (k : Stmts) → onto_stmts (xs ++ s ∷ []) k ≡ onto_stmts xs (stmt_in_front s k)

@@ -11,7 +11,7 @@ use Rattle.wa_types.specs.Syntax.{Basic, nop, drop as a_drop, select, const, num
 use Rattle.wa_types.specs.Typing.{Around, basic_sig, calls, calls_at, moves, Takes, type_of}
 use Rattle.wa_types.specs.Modules.{or_empty}
 use Rattle.wa_model.specs.Store.{takes, gives}
-use Rattle.wa_model.proofs.FittingActs.{got_moves, set_moves, load_moves, store_moves, memory_moves}
+use Rattle.run_theory.proofs.FittingActs.{got_moves, set_moves, load_moves, store_moves, memory_moves}
 use Rattle.flat_laws.specs.Flatten.{Names, slots}
 use Rattle.flat_laws.proofs.GotLemmas.{last_reverse}
 use Rattle.flat_instrs.specs.Emitting.{all_of, Given, Changed, HoldsBut}

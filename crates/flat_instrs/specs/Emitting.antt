@@ -11,8 +11,8 @@ use Rattle.wa_types.specs.Modules.{or_empty}
 use Rattle.wasm_validate.specs.Walk.{Walk, Stays}
 use Rattle.wa_model.specs.declared.flat.Stmt.{Stmt}
 use Rattle.wa_model.specs.declared.flat.Operand.TheVariants.{Local}
-use Rattle.wa_model.specs.Flat.{Stmts, no_more, copies, calls, nests, decides}
-use Rattle.wa_model.specs.FlatView.{stmt_in_front, stmts}
+use Rattle.run_theory.specs.Flat.{Stmts, no_more, copies, calls, nests, decides}
+use Rattle.run_theory.specs.FlatView.{stmt_in_front, stmts}
 use Rattle.flat_laws.specs.Flatten.{Names, slots, top_of, arrive, result_local, flat, flat_plain}
 use Rattle.flat_instrs.specs.declared.position.Position.{Position}
 use Rattle.flat_names.specs.Numbers.{bit}

@@ -3,7 +3,7 @@
 ghost use Rattle.std.specs.Prelude.{◌≡◌, ◌<◌, ◌++◌, ◌∷◌, [], drop, length, reverse, slice_get, IfOk, OnOk};
 ghost use Rattle.flat_laws.specs.Flatten.{top};
 ghost use Rattle.flat_instrs.specs.Emitting.{all_of, carried_to, first_or, onto_stmts, HoldsBelow};
-ghost use Rattle.wa_model.specs.Flat.{Stmts};
+ghost use Rattle.run_theory.specs.Flat.{Stmts};
 
 use flat_names::Names;
 use std::alloc::{AllocError, Global};

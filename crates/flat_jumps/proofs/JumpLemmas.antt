@@ -14,8 +14,8 @@ use Rattle.wasm_validate.specs.Walk.{Walk}
 use Rattle.wa_model.specs.declared.flat.Stmt.{Stmt}
 use Rattle.wa_model.specs.declared.flat.Stmt.TheVariants.{Br as Jump, BrTable as JumpBy, Unreachable as Halt}
 use Rattle.wa_model.specs.declared.flat.Operand.TheVariants.{Local}
-use Rattle.wa_model.specs.Flat.{Stmts, no_more, leaps, leaps_by, halts}
-use Rattle.wa_model.specs.FlatView.{stmt_in_front}
+use Rattle.run_theory.specs.Flat.{Stmts, no_more, leaps, leaps_by, halts}
+use Rattle.run_theory.specs.FlatView.{stmt_in_front}
 use Rattle.flat_laws.specs.Flatten.{Names, top, carry, carry_all, flat, flat_plain}
 use Rattle.flat_laws.proofs.TableLabels.{AllLabels, table_typed}
 use Rattle.flat_instrs.specs.Emitting.{onto_stmts, all_of, flat_at, carried_to, all_carried, label_locals}

@@ -7,7 +7,7 @@ ghost use Rattle.wa_types.specs.View.{in_front};
 ghost use Rattle.wa_types.specs.declared.instrs.Instr.TheVariants.{Br, BrTable, Return, Unreachable};
 ghost use Rattle.wasm_validate.specs.Walk.{TypedAt};
 ghost use Rattle.flat_instrs.specs.Emitting.{all_carried, onto_stmts, PutLast, Ready};
-ghost use Rattle.wa_model.specs.Flat.{Stmts};
+ghost use Rattle.run_theory.specs.Flat.{Stmts};
 
 use flat_instrs::{Position, put_carry, top_slot};
 use flat_names::Names;

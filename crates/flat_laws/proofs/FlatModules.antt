@@ -15,10 +15,10 @@ use Rattle.wa_types.specs.Pausing.{is_told}
 use Rattle.wa_types.specs.Validity.{Valid, all_below, exported, start_indices, start_fits}
 use Rattle.wa_types.specs.Modules.{imported, imported_func, func_imports, func_sorts, func_types, type_at, or_empty, declared_locals, defined_at, locals_of, around}
 use Rattle.wa_types.specs.Frames.{Pair, SlotPairs, ResultPairs}
-use Rattle.wa_model.specs.Flat.{FlatFunc}
-use Rattle.wa_model.specs.FlatFits.{func_of_flat, flat_or, funcs_with_flat, one_run}
-use Rattle.wa_model.specs.FlatTyped.{StmtsTyped}
-use Rattle.wa_model.proofs.FittingNames.{type_small, func_type_small}
+use Rattle.run_theory.specs.Flat.{FlatFunc}
+use Rattle.run_theory.specs.FlatFits.{func_of_flat, flat_or, funcs_with_flat, one_run}
+use Rattle.run_theory.specs.FlatTyped.{StmtsTyped}
+use Rattle.run_theory.proofs.FittingNames.{type_small, func_type_small}
 use Rattle.flat_laws.specs.Flatten.{flattened}
 use Rattle.flat_laws.specs.FlatModule.{extra_types, flat_func, flat_told, flat_module, IsFlat, IsPlaced, Flattened}
 use Rattle.flat_laws.proofs.Typing.{wide, body_types, body_stmts}

@@ -16,7 +16,7 @@ use Rattle.wa_types.specs.declared.operators.NumOp.{NumOp}
 use Rattle.wa_types.specs.declared.operators.NumOp.TheVariants.{I32Eqz}
 use Rattle.wa_types.specs.Operators.{operand_types}
 use Rattle.wa_model.specs.Store.{takes}
-use Rattle.wa_model.proofs.FittingSteps.{takes_above}
+use Rattle.run_theory.proofs.FittingSteps.{takes_above}
 use Rattle.flat_laws.specs.Flatten.{Names}
 use Rattle.flat_laws.specs.Placed.{AllIn, Good}
 

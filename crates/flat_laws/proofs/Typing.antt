@@ -21,12 +21,12 @@ use Rattle.wa_types.specs.Modules.{or_empty, func_type_at, type_at, locals_of, a
 use Rattle.wa_types.specs.Frames.{Pair, same_pair, SlotPairs, ResultPairs}
 use Rattle.wa_model.specs.declared.flat.Operand.TheVariants.{Local}
 use Rattle.wa_model.specs.Store.{takes, gives}
-use Rattle.wa_model.specs.Flat.{Stmts, no_more, copies, calls, leaps, leaps_if, leaps_by, decides, halts, followed_by, all_got, set_to, code_of, result_got, body_of}
-use Rattle.wa_model.proofs.FittingNames.{same_true}
+use Rattle.run_theory.specs.Flat.{Stmts, no_more, copies, calls, leaps, leaps_if, leaps_by, decides, halts, followed_by, all_got, set_to, code_of, result_got, body_of}
+use Rattle.run_theory.proofs.FittingNames.{same_true}
 use Rattle.flat_laws.specs.Flatten.{Names, names, past, place, slot, slots, result_local, top, top_of, carry_to, carry, carry_all, arrive, flat, flat_plain, result_of, flattened}
 use Rattle.flat_laws.specs.Placed.{AllIn, HasResult, GoesOn, Good}
 use Rattle.flat_laws.specs.FlatModule.{extra_types}
-use Rattle.wa_model.specs.FlatTyped.{StmtsTyped}
+use Rattle.run_theory.specs.FlatTyped.{StmtsTyped}
 use Rattle.flat_laws.proofs.OperandTypes.{after_all, good_in}
 use Rattle.flat_laws.proofs.GotLemmas.{all_got_on, args_got}
 use Rattle.flat_laws.proofs.TableLabels.{AllLabels, table_typed}

@@ -9,8 +9,8 @@ use Rattle.wa_types.specs.Counts.{depth_of}
 use Rattle.wa_types.proofs.ViewLemmas.{is_block, is_loop, is_if, is_plain, instr_kind, in_block, in_loop, in_if, onto_done}
 use Rattle.wa_model.specs.declared.flat.Operand.{Operand}
 use Rattle.wa_model.specs.declared.flat.Operand.TheVariants.{Local, Const}
-use Rattle.wa_model.specs.Flat.{Stmts, no_more, computes, copies, calls, leaps, leaps_if, leaps_by, nests, decides, halts, followed_by, got, all_got, set_to, slots_got, last_of, code_of}
-use Rattle.wa_model.specs.FlatFits.{StmtsFit}
+use Rattle.run_theory.specs.Flat.{Stmts, no_more, computes, copies, calls, leaps, leaps_if, leaps_by, nests, decides, halts, followed_by, got, all_got, set_to, slots_got, last_of, code_of}
+use Rattle.run_theory.specs.FlatFits.{StmtsFit}
 use Rattle.flat_pieces.specs.Raising.{LabelsBelow, Raisable}
 use Rattle.flat_pieces.specs.Statements.{with_rest, one_code, Fits}
 use Rattle.flat_pieces.specs.Putting.{Puts}

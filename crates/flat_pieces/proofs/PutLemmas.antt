@@ -11,7 +11,7 @@ use Rattle.wa_types.specs.View.{in_front, onto, code}
 use Rattle.wa_types.proofs.ViewLemmas.{is_block, is_loop, is_if, is_plain, instr_kind, in_block, in_loop, in_if, onto_append, onto_done, onto_none}
 use Rattle.wa_model.specs.declared.flat.Operand.{Operand}
 use Rattle.wa_model.specs.declared.flat.Operand.TheVariants.{Local, Const}
-use Rattle.wa_model.specs.Flat.{followed_by, got, all_got, set_to, slots_got}
+use Rattle.run_theory.specs.Flat.{followed_by, got, all_got, set_to, slots_got}
 use Rattle.guard_form.specs.Guarded.{index_noted}
 use Rattle.flat_pieces.specs.Putting.{Puts}
 

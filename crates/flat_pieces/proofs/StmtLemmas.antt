@@ -14,9 +14,9 @@ use Rattle.wa_model.specs.declared.flat.Stmt.{Stmt, Row_of-Stmt, end_of-Stmt, mo
 use Rattle.wa_model.specs.declared.flat.Stmt.TheBlock.{hidden-the_row-Stmt-0}
 use Rattle.wa_model.specs.declared.flat.Stmt.TheVariants.{Plain as PlainStmt, Move, Call, Br as BrStmt, BrIf as BrIfStmt, BrTable as BrTableStmt, Block, Loop, If}
 use Rattle.wa_model.specs.declared.flat.Stmt.TheVariants.{Unreachable as UnreachableStmt, Block', Loop', If'}
-use Rattle.wa_model.specs.Flat.{Stmts, no_more, computes, copies, calls, leaps, leaps_if, leaps_by, nests, decides, halts, followed_by, got, set_to, slots_got, last_of, code_of}
-use Rattle.wa_model.specs.FlatView.{stmt_in_front, row_stmts, stmts}
-use Rattle.wa_model.specs.FlatFits.{StmtsFit, ComputesFit}
+use Rattle.run_theory.specs.Flat.{Stmts, no_more, computes, copies, calls, leaps, leaps_if, leaps_by, nests, decides, halts, followed_by, got, set_to, slots_got, last_of, code_of}
+use Rattle.run_theory.specs.FlatView.{stmt_in_front, row_stmts, stmts}
+use Rattle.run_theory.specs.FlatFits.{StmtsFit, ComputesFit}
 use Rattle.guard_form.specs.Pieces.{call_total, numbered, holds_call, piece_call, first_piece, unit_call, units}
 use Rattle.flat_pieces.specs.Statements.{with_rest, one_code, one_place, one_holds}
 

@@ -3,8 +3,8 @@ use Rattle.std.specs.Prelude.{◌≡◌, ◌<◌, ◌^◌, ◌+◌, ◌||◌, �
 use Rattle.std.specs.Option.{is_some}
 use Rattle.wa_types.specs.Syntax.{local_set, br, br_if, br_table, unreachable, Plain, Code, done, plain, nest, branch}
 use Rattle.wa_types.specs.Counts.{depth_of}
-use Rattle.wa_model.specs.Flat.{Stmts, no_more, computes, copies, calls, leaps, leaps_if, leaps_by, nests, decides, halts, followed_by, got, all_got, set_to, slots_got, last_of, code_of}
-use Rattle.wa_model.specs.FlatFits.{StmtsFit}
+use Rattle.run_theory.specs.Flat.{Stmts, no_more, computes, copies, calls, leaps, leaps_if, leaps_by, nests, decides, halts, followed_by, got, all_got, set_to, slots_got, last_of, code_of}
+use Rattle.run_theory.specs.FlatFits.{StmtsFit}
 use Rattle.guard_form.specs.Pieces.{call_total, numbered, holds_call}
 
 -- the first statement, in front of others

@@ -4,7 +4,7 @@ ghost use Rattle.std.specs.Prelude.{◌≡◌, ◌+◌, suc, true, OnOk};
 ghost use Rattle.wa_types.specs.declared.values.Value.TheVariants as V;
 ghost use Rattle.wa_types.specs.Syntax.{const, num, global_get, basic, local_get, local_set, br_if, done, plain, branch};
 ghost use Rattle.wa_types.specs.View.{code, in_front};
-ghost use Rattle.wa_model.specs.Flat.{followed_by, got, all_got, set_to, slots_got};
+ghost use Rattle.run_theory.specs.Flat.{followed_by, got, all_got, set_to, slots_got};
 ghost use Rattle.wa_types.specs.Leaves.{is_leaf};
 ghost use Rattle.guard_form.specs.Guarded.{index_noted};
 ghost use Rattle.flat_pieces.specs.Putting.{Puts};

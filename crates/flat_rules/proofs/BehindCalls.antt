@@ -14,7 +14,7 @@ use Rattle.wa_types.specs.Liveness.{Label, goes_behind, goes_again, Position, po
 use Rattle.wa_types.specs.Modules.{locals_of, around}
 use Rattle.wa_model.specs.declared.flat.Operand.{Operand}
 use Rattle.wa_model.specs.declared.flat.Operand.TheVariants.{Local, Const}
-use Rattle.wa_model.specs.Flat.{Stmts, no_more, computes, copies, calls, leaps, leaps_if, leaps_by, decides, halts, followed_by, all_got, set_to, slots_got, last_of, code_of, result_got}
+use Rattle.run_theory.specs.Flat.{Stmts, no_more, computes, copies, calls, leaps, leaps_if, leaps_by, decides, halts, followed_by, all_got, set_to, slots_got, last_of, code_of, result_got}
 use Rattle.flat_laws.specs.Flatten.{Names, names, slots, result_local, top, carry_to, carry, carry_all, arrive, flat, flat_plain, result_of, flattened}
 use Rattle.flat_laws.specs.FlatModule.{stacks_in}
 use Rattle.flat_laws.specs.Placed.{GoesOn, Good}

@@ -17,7 +17,7 @@ use Rattle.wa_types.specs.Liveness.{told_at, live_plain, live}
 use Rattle.wa_types.specs.Modules.{or_empty, func_types, func_type_at, type_at, locals_of, around}
 use Rattle.wa_model.specs.declared.flat.Operand.TheVariants.{Local}
 use Rattle.wa_model.specs.Store.{takes, gives}
-use Rattle.wa_model.specs.Flat.{Stmts, no_more, copies, calls, leaps, leaps_if, leaps_by, followed_by, all_got, set_to, slots_got, last_of, code_of}
+use Rattle.run_theory.specs.Flat.{Stmts, no_more, copies, calls, leaps, leaps_if, leaps_by, followed_by, all_got, set_to, slots_got, last_of, code_of}
 use Rattle.flat_laws.specs.Flatten.{Names, names, slot, slots, result_local, top, top_of, carry_to, carry, carry_all, arrive, flat, flat_plain}
 use Rattle.flat_laws.specs.Placed.{GoesOn, Good}
 use Rattle.flat_laws.proofs.OperandTypes.{after_all}

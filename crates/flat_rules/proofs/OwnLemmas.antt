@@ -17,8 +17,8 @@ use Rattle.wa_types.specs.Validity.{Valid}
 use Rattle.wa_types.specs.Modules.{or_empty, func_types, defined_at, locals_of, around}
 use Rattle.wa_model.specs.declared.flat.Operand.TheVariants.{Local}
 use Rattle.wa_model.specs.Store.{takes, gives}
-use Rattle.wa_model.specs.Flat.{Stmts, no_more, copies, leaps, leaps_if, leaps_by, followed_by, all_got, set_to, slots_got, last_of, code_of}
-use Rattle.wa_model.proofs.HeightLemmas.{basic_height}
+use Rattle.run_theory.specs.Flat.{Stmts, no_more, copies, leaps, leaps_if, leaps_by, followed_by, all_got, set_to, slots_got, last_of, code_of}
+use Rattle.run_theory.proofs.HeightLemmas.{basic_height}
 use Rattle.flat_laws.specs.Flatten.{Names, names, slot, slots, result_local, top, top_of, carry_to, carry, carry_all, arrive, flat, flat_plain, flattened}
 use Rattle.flat_laws.specs.Placed.{GoesOn, Good}
 use Rattle.flat_laws.proofs.OperandTypes.{after_all}

@@ -10,7 +10,7 @@ use Rattle.wa_types.specs.Modules.{or_empty}
 use Rattle.wa_model.specs.declared.flat.Operand.{Operand}
 use Rattle.wa_model.specs.declared.flat.Operand.TheVariants.{Local, Const}
 use Rattle.wa_model.specs.Store.{takes, gives}
-use Rattle.wa_model.specs.Flat.{Stmts, no_more, computes, leaps, leaps_if, leaps_by, followed_by, all_got, set_to, slots_got, last_of, code_of, result_got}
+use Rattle.run_theory.specs.Flat.{Stmts, no_more, computes, leaps, leaps_if, leaps_by, followed_by, all_got, set_to, slots_got, last_of, code_of, result_got}
 use Rattle.flat_laws.specs.Flatten.{Names, slot, slots, result_local, top, top_of, carry_to, carry, carry_all, arrive, flat, flat_plain}
 
 -- all of the code can be reached

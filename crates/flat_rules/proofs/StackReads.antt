@@ -8,7 +8,7 @@ use Rattle.wa_types.specs.Liveness.{Label, goes_behind, behind_calls, LiveAfter}
 use Rattle.wa_types.specs.Validity.{Valid}
 use Rattle.wa_types.specs.Modules.{defined_at, locals_of, around}
 use Rattle.wa_types.proofs.LiveLemmas.{reads_live}
-use Rattle.wa_model.specs.Flat.{code_of, result_got, body_of}
+use Rattle.run_theory.specs.Flat.{code_of, result_got, body_of}
 use Rattle.flat_laws.specs.Flatten.{names, result_of, flattened}
 use Rattle.flat_laws.specs.FlatModule.{stacks_in, flat_func}
 use Rattle.flat_laws.proofs.ValidModules.{facts, good_func}

@@ -4,7 +4,7 @@ use Rattle.wa_types.specs.Syntax.{Plain, basic, local_get, local_set, local_tee,
 use Rattle.wa_types.specs.Pruned.{pruned}
 use Rattle.wa_types.specs.Validity.{Valid}
 use Rattle.wa_types.specs.Modules.{defined_at, locals_of}
-use Rattle.wa_model.specs.Flat.{code_of}
+use Rattle.run_theory.specs.Flat.{code_of}
 use Rattle.flat_laws.specs.Flatten.{flattened}
 
 -- an instruction in front of code, where told

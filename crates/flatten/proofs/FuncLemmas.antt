@@ -16,7 +16,7 @@ use Rattle.wa_types.specs.View.{code, func_of, func_type_of, module_of}
 use Rattle.wa_types.specs.Validity.{Valid as IsValid}
 use Rattle.wa_types.specs.Sizes.{code_items, params_of_type, FuncSizes, SizeRule, StrictSizeRule}
 use Rattle.wa_types.specs.Modules.{around, locals_of, declared_locals, defined_at, func_imports, func_sorts, func_types, or_empty, type_at}
-use Rattle.wa_model.proofs.FittingNames.{type_small, func_type_small}
+use Rattle.run_theory.proofs.FittingNames.{type_small, func_type_small}
 use Rattle.wasm_validate.specs.Walk.{outset, TypedAt, Walk}
 use Rattle.wasm_validate.proofs.ContextLemmas.{sort_there}
 use Rattle.wasm_validate.proofs.FuncLemmas.{func_at, number_fits}
@@ -24,7 +24,7 @@ use Rattle.wasm_validate.proofs.WalkUses.{outset_typed}
 use Rattle.flat_survey.specs.Emitting.{SmallTypes, result_at, flat_at}
 use Rattle.wa_types.specs.declared.values.ValType.{ValType}
 use Rattle.flat_laws.specs.Flatten.{Names, names, flattened, result_of}
-use Rattle.wa_model.specs.Flat.{FlatFunc, Stmts}
+use Rattle.run_theory.specs.Flat.{FlatFunc, Stmts}
 use Rattle.flat_survey.specs.Surveying.{names_at}
 use Rattle.wa_types.specs.Frames.{Pair, Count}
 

@@ -1,7 +1,7 @@
 //! The flat function of a defined function, and those of a whole module.
 
 ghost use Rattle.std.specs.Prelude.{◌≡◌, ◌+◌, ◌<◌, ◌∷◌, ◌++◌, [], length, map, slice_get, Some, OnOk};
-ghost use Rattle.wa_model.specs.FlatView.{flat_func_of};
+ghost use Rattle.run_theory.specs.FlatView.{flat_func_of};
 ghost use Rattle.wa_types.specs.Modules.{func_imports};
 ghost use Rattle.wa_types.specs.Sizes.{StrictSizeRule};
 ghost use Rattle.wa_types.specs.Syntax.{Func as PlainFunc};

@@ -9,7 +9,7 @@ use Rattle.wa_types.specs.Syntax.{a_block, Code, done, nest}
 use Rattle.wa_types.specs.Counts.{depth_of}
 use Rattle.wa_types.specs.View.{in_front, onto, code}
 use Rattle.wa_types.proofs.ViewLemmas.{is_block, is_loop, is_if, is_plain, instr_kind, in_block, in_loop, in_if, onto_append, onto_done, onto_none}
-use Rattle.wa_model.specs.Flat.{Stmts, no_more}
+use Rattle.run_theory.specs.Flat.{Stmts, no_more}
 use Rattle.guard_form.specs.Pieces.{no_unit, numbers_in, call_total, holds_call, first_piece, units}
 use Rattle.guard_form.specs.Guarded.{each_end, GuardIndices, by_state, raised, guarded, front}
 use Rattle.flow_calls.specs.declared.sequence.Sequence.{Sequence}

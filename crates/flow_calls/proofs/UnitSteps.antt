@@ -12,8 +12,8 @@ use Rattle.wa_types.specs.Syntax.{const, num, global_get, local_get, local_set, 
 use Rattle.wa_types.specs.View.{onto, code}
 use Rattle.wa_types.specs.Pausing.{Callee, direct, indirect}
 use Rattle.wa_types.proofs.ViewLemmas.{onto_done, onto_none}
-use Rattle.wa_model.specs.Flat.{Stmts, no_more, calls, followed_by, set_to, slots_got, last_of}
-use Rattle.wa_model.specs.FlatFits.{IsCallCode}
+use Rattle.run_theory.specs.Flat.{Stmts, no_more, calls, followed_by, set_to, slots_got, last_of}
+use Rattle.run_theory.specs.FlatFits.{IsCallCode}
 use Rattle.guard_form.specs.Pieces.{numbers_in, call_to, call_total, sole_callee, numbered, holds_call, piece_call, first_piece, unit_call, units}
 use Rattle.guard_form.specs.Guarded.{each_end, GuardIndices, index_with, raised, sought, index_noted, noted, front}
 use Rattle.guard_form.specs.Grouping.{is_place}

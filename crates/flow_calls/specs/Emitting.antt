@@ -5,8 +5,8 @@ use Rattle.wa_types.specs.declared.operators.NumOp.TheVariants.{I32LtU}
 use Rattle.wa_types.specs.declared.values.Value.TheVariants as V
 use Rattle.wa_types.specs.View.{onto, code}
 use Rattle.wa_model.specs.declared.flat.Stmt.{Stmt}
-use Rattle.wa_model.specs.Flat.{Stmts, no_more, code_of}
-use Rattle.wa_model.specs.FlatView.{stmt_in_front}
+use Rattle.run_theory.specs.Flat.{Stmts, no_more, code_of}
+use Rattle.run_theory.specs.FlatView.{stmt_in_front}
 use Rattle.guard_form.specs.Pieces.{numbers_in, call_total, holds_call, first_piece, units}
 use Rattle.guard_form.specs.Guarded.{each_end, GuardIndices, raised, index_with, front}
 use Rattle.flat_pieces.specs.Statements.{Fits}

@@ -2,7 +2,7 @@
 
 ghost use Rattle.std.specs.Prelude.{◌≡◌, IfOk, OnOk, if◌then◌else◌};
 ghost use Rattle.wa_types.specs.View.{code};
-ghost use Rattle.wa_model.specs.Flat.{no_more};
+ghost use Rattle.run_theory.specs.Flat.{no_more};
 ghost use Rattle.flow_calls.specs.Emitting.{indices, written_with, Good, Settled};
 
 use crate::guards::{Guards, put_guarded};

@@ -3,7 +3,7 @@
 ghost use Rattle.std.specs.Prelude.{◌≡◌, ◌≤◌, ◌<◌, ◌+◌, ◌^◌, length, true, false, OnOk};
 ghost use Rattle.wa_types.specs.Syntax.{done};
 ghost use Rattle.wa_types.specs.View.{in_front};
-ghost use Rattle.wa_model.specs.Flat.{calls, last_of, no_more};
+ghost use Rattle.run_theory.specs.Flat.{calls, last_of, no_more};
 ghost use Rattle.guard_form.specs.Grouping.{is_place};
 ghost use Rattle.wa_types.specs.Leaves.{is_leaf};
 ghost use Rattle.flat_pieces.specs.Statements.{Fits};

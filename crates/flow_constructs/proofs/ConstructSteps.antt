@@ -7,7 +7,7 @@ use Rattle.wa_types.specs.Syntax.{a_block, Shape, Code, done, nest}
 use Rattle.wa_types.specs.View.{in_front, onto, code}
 use Rattle.wa_types.proofs.ViewLemmas.{in_block, in_loop, in_if, onto_done, onto_none}
 use Rattle.wa_model.specs.declared.flat.Operand.{Operand}
-use Rattle.wa_model.specs.Flat.{Stmts, no_more, computes, copies, calls, leaps, leaps_if, leaps_by, nests, decides, halts, followed_by, got, last_of, code_of}
+use Rattle.run_theory.specs.Flat.{Stmts, no_more, computes, copies, calls, leaps, leaps_if, leaps_by, nests, decides, halts, followed_by, got, last_of, code_of}
 use Rattle.guard_form.specs.Pieces.{no_unit, nest_unit, if_unit, numbers_in, call_total, numbered, holds_call, first_piece, unit_call, units, flat_units}
 use Rattle.guard_form.specs.Guarded.{each_end, GuardIndices, raised, guarded, arm, front}
 use Rattle.guard_form.proofs.CodeLemmas.{then_done}

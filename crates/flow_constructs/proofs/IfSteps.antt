@@ -7,7 +7,7 @@ use Rattle.wa_types.specs.Syntax.{global_get, basic, a_block, Code, done, plain,
 use Rattle.wa_types.specs.View.{in_front, onto, code}
 use Rattle.wa_types.proofs.ViewLemmas.{onto_done, onto_none}
 use Rattle.wa_model.specs.declared.flat.Operand.{Operand}
-use Rattle.wa_model.specs.Flat.{Stmts, no_more, decides, followed_by, got}
+use Rattle.run_theory.specs.Flat.{Stmts, no_more, decides, followed_by, got}
 use Rattle.guard_form.specs.Pieces.{Units, no_unit, if_unit, numbers_in, call_total, holds_call, first_piece, units}
 use Rattle.guard_form.specs.Guarded.{each_end, GuardIndices, raised, choice, arm, front}
 use Rattle.guard_form.proofs.UnitLemmas.{Some_unit, choice_is, choice_one, choice_two}

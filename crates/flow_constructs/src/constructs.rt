@@ -3,8 +3,8 @@
 ghost use Rattle.std.specs.Prelude.{◌≡◌, ◌<◌, ◌+◌, suc, ◌||◌, IfOk, OnOk};
 ghost use Rattle.wa_types.specs.Syntax.{a_block, a_loop};
 ghost use Rattle.wa_types.specs.View.{code};
-ghost use Rattle.wa_model.specs.Flat.{nests, decides, no_more};
-ghost use Rattle.wa_model.specs.FlatView.{stmts};
+ghost use Rattle.run_theory.specs.Flat.{nests, decides, no_more};
+ghost use Rattle.run_theory.specs.FlatView.{stmts};
 ghost use Rattle.flat_pieces.specs.Statements.{Fits};
 ghost use Rattle.flow_calls.specs.Emitting.{choice_code, indices, Good, IsPart, Stepped};
 

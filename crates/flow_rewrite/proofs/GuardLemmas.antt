@@ -5,8 +5,8 @@ use Rattle.wa_types.specs.declared.instrs.Instr.{Instr}
 use Rattle.wa_types.specs.Syntax.{Code, done}
 use Rattle.wa_types.specs.View.{onto, code}
 use Rattle.wa_types.proofs.ViewLemmas.{onto_done, onto_none}
-use Rattle.wa_model.specs.Flat.{FlatFunc}
-use Rattle.wa_model.specs.FlatFits.{StmtsFit, FlatFits}
+use Rattle.run_theory.specs.Flat.{FlatFunc}
+use Rattle.run_theory.specs.FlatFits.{StmtsFit, FlatFits}
 use Rattle.guard_form.specs.Pieces.{call_total, first_piece, units}
 use Rattle.guard_form.specs.Guarded.{each_end, GuardIndices, guarded, guarded_code, front}
 use Rattle.flow_calls.specs.declared.guards.Guards.{Guards}

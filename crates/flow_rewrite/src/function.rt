@@ -4,9 +4,9 @@ ghost use Rattle.std.specs.Prelude.{◌≡◌, ◌≤◌, ◌<◌, ◌^◌, ◌�
 ghost use Rattle.wa_types.specs.declared.values.ValType.TheVariants.{I32, I64};
 ghost use Rattle.wa_types.specs.Syntax.{done};
 ghost use Rattle.wa_types.specs.View.{code};
-ghost use Rattle.wa_model.specs.Flat.{code_of};
-ghost use Rattle.wa_model.specs.FlatView.{flat_func_of};
-ghost use Rattle.wa_model.specs.FlatFits.{FlatFits};
+ghost use Rattle.run_theory.specs.Flat.{code_of};
+ghost use Rattle.run_theory.specs.FlatView.{flat_func_of};
+ghost use Rattle.run_theory.specs.FlatFits.{FlatFits};
 ghost use Rattle.guard_form.specs.Bounds.{reads, reads_bound};
 ghost use Rattle.guard_form.specs.Guarded.{guarded, guarded_code};
 ghost use Rattle.guard_form.specs.Pieces.{call_total};

@@ -1,8 +1,8 @@
 //! The walk over statements.
 
 ghost use Rattle.std.specs.Prelude.{◌≡◌, IfOk, OnOk};
-ghost use Rattle.wa_model.specs.Flat.{no_more};
-ghost use Rattle.wa_model.specs.FlatView.{stmt_in_front, stmts};
+ghost use Rattle.run_theory.specs.Flat.{no_more};
+ghost use Rattle.run_theory.specs.FlatView.{stmt_in_front, stmts};
 ghost use Rattle.flat_pieces.specs.Statements.{one_code, IsSimple};
 ghost use Rattle.flat_pieces.specs.Putting.{Puts};
 ghost use Rattle.flow_calls.specs.Emitting.{indices, IsPart, Ready, ReadyAt, Stepped};

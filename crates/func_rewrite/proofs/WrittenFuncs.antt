@@ -13,9 +13,9 @@ use Rattle.wa_types.specs.Runtime.{global_space}
 use Rattle.wa_types.specs.Sizes.{StrictSizeRule}
 use Rattle.wa_types.specs.Syntax.{Code, done, Func, Module}
 use Rattle.wa_types.specs.Validity.{Valid}
-use Rattle.wa_model.specs.Flat.{FlatFunc, code_of, result_got}
-use Rattle.wa_model.specs.FlatFits.{FlatFits, one_run}
-use Rattle.wa_model.specs.FlatView.{flat_func_of}
+use Rattle.run_theory.specs.Flat.{FlatFunc, code_of, result_got}
+use Rattle.run_theory.specs.FlatFits.{FlatFits, one_run}
+use Rattle.run_theory.specs.FlatView.{flat_func_of}
 use Rattle.flat_fits.proofs.Calls.{calls_stay}
 use Rattle.flat_fits.proofs.Whole.{meets, counted}
 use Rattle.flat_laws.specs.Flatten.{flattened}

@@ -3,8 +3,8 @@
 ghost use Rattle.std.specs.Prelude.{◌≡◌, ◌≤◌, ◌<◌, ◌^◌, ◌-◌, length, IfOk, OnOk};
 ghost use Rattle.wa_types.specs.Syntax.{Code, Func as PlainFunc, Module as PlainModule, done};
 ghost use Rattle.wa_types.specs.View.{code, onto};
-ghost use Rattle.wa_model.specs.FlatFits.{FlatFits};
-ghost use Rattle.wa_model.specs.FlatView.{flat_func_of};
+ghost use Rattle.run_theory.specs.FlatFits.{FlatFits};
+ghost use Rattle.run_theory.specs.FlatView.{flat_func_of};
 ghost use Rattle.local_spill.specs.Putting.{Puts};
 ghost use Rattle.local_spill.specs.Spilling.{restoring, saving, spill_indices, unless_normal};
 ghost use Rattle.guard_form.specs.Pieces.{call_total};

@@ -6,7 +6,7 @@ use Rattle.vault_port.specs.Taken.{Appends, AppendsLess}
 use Rattle.vault_port.specs.Told.{Becomes}
 use Rattle.wa_types.specs.Encoding.{Enc}
 use Rattle.wa_types.specs.Syntax.{Module}
-use Rattle.wa_model.specs.Transcript.{refusal_line, write_fault}
+use Rattle.script_model.specs.Transcript.{refusal_line, write_fault}
 use Rattle.printing.specs.Refused.{EndsInMemory, PrintsMemory}
 use Rattle.printing.proofs.Printed.{memory_alone}
 use Rattle.gen_module.specs.Generated.{generated}

@@ -6,7 +6,7 @@ ghost use Rattle.vault_port.specs.Counts.{HasRisen};
 ghost use Rattle.vault_port.specs.Files.{ChangesOnly, HoldsFrontAtMost};
 ghost use Rattle.vault_port.specs.Taken.{Appends, AppendsLess};
 ghost use Rattle.vault_port.specs.Told.{Becomes};
-ghost use Rattle.wa_model.specs.Transcript.{refusal_line, write_fault};
+ghost use Rattle.script_model.specs.Transcript.{refusal_line, write_fault};
 ghost use Rattle.wa_types.specs.Encoding.{Enc};
 ghost use Rattle.printing.specs.Refused.{Prints, PrintsMemory};
 ghost use Rattle.gen_module.specs.Generated.{generated};

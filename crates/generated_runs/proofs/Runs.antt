@@ -16,7 +16,7 @@ use Rattle.wa_model.specs.declared.answers.Area.{Area}
 use Rattle.wa_model.specs.declared.events.End.{End}
 use Rattle.wa_model.specs.Outside.{AnswerLine, Event}
 use Rattle.wa_model.specs.Blocking.{Note, events_of}
-use Rattle.wa_model.specs.Fitting.{global_types, types_of}
+use Rattle.run_theory.specs.Fitting.{global_types, types_of}
 use Rattle.wa_model.specs.Rewrites.{Rewrites}
 use Rattle.wa_model.specs.View.{answer_line_of, event_of}
 use Rattle.wa_model.specs.declared.events.Event.{Event as EventValue}

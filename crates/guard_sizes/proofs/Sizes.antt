@@ -5,7 +5,7 @@ use Rattle.wa_types.specs.Counts.{count_of, depth_of}
 use Rattle.wa_types.specs.Pruned.{pruned}
 use Rattle.wa_types.specs.Sizes.{label_count}
 use Rattle.wa_types.specs.Syntax.{Plain, basic, local_get, local_set, local_tee, br, br_if, br_table, return, unreachable, call, call_indirect, Code, done, plain, nest, branch, Func, Module}
-use Rattle.wa_model.specs.Flat.{FlatFunc, code_of, body_of}
+use Rattle.run_theory.specs.Flat.{FlatFunc, code_of, body_of}
 use Rattle.wa_model.specs.Rewrites.{instructions_and_labels}
 use Rattle.flat_laws.specs.Flatten.{flattened}
 use Rattle.guard_form.specs.Guarded.{each_end, GuardIndices, guard_indices, guarded_code}

@@ -4,11 +4,11 @@ use Rattle.std.specs.Prelude.{nat_eq, ◌&&◌, if◌then◌else◌, slice_get}
 use Rattle.std.specs.List.{filter}
 use Rattle.std.specs.Str.Lines.{lines}
 use Rattle.std.proofs.lemmas.Bool.{eqb-false}
-use Rattle.wa_model.specs.Script.{ProgramText, Script, ScriptFault, breaks, too_many}
-use Rattle.wa_model.specs.ScriptLines.{Statement, begins_program, lists_imports, ignores_imports, saves, has_area, has_steps, sets_global, binds, enters, answers, shows, detaches, line_says}
-use Rattle.wa_model.specs.ScriptText.{AreaText, Group, Numbered, area_of, fault_of, grouped, grouped_with, has_bad_list}
-use Rattle.wa_model.specs.ScriptText.{in_program, is_early, is_one_too_many, is_program, is_repeated, lines_by, onto}
-use Rattle.wa_model.specs.ScriptText.{program_of, programs_of, script_of, script_text, statements, told_by, detach_of, unless_fault, with_line, with_program, with_programs}
+use Rattle.script_model.specs.Script.{ProgramText, Script, ScriptFault, breaks, too_many}
+use Rattle.script_model.specs.ScriptLines.{Statement, begins_program, lists_imports, ignores_imports, saves, has_area, has_steps, sets_global, binds, enters, answers, shows, detaches, line_says}
+use Rattle.script_model.specs.ScriptText.{AreaText, Group, Numbered, area_of, fault_of, grouped, grouped_with, has_bad_list}
+use Rattle.script_model.specs.ScriptText.{in_program, is_early, is_one_too_many, is_program, is_repeated, lines_by, onto}
+use Rattle.script_model.specs.ScriptText.{program_of, programs_of, script_of, script_text, statements, told_by, detach_of, unless_fault, with_line, with_program, with_programs}
 use Rattle.host_files.specs.Scripts.{IsScript}
 
 -- ---- lines of programs

@@ -5,8 +5,8 @@ use Rattle.std.specs.Result.{IfErr}
 use Rattle.std.proofs.lemmas.List.{take_all, length-take}
 use Rattle.vault_port.specs.Files.{Files, bytes_of}
 use Rattle.vault_port.specs.Told.{WhereTold}
-use Rattle.wa_model.specs.Script as T
-use Rattle.wa_model.specs.Transcript.{Refusal, usage, out_of_memory, malformed, float, nesting, invalid, limit, reserved, script, read_fault, write_fault}
+use Rattle.script_model.specs.Script as T
+use Rattle.script_model.specs.Transcript.{Refusal, usage, out_of_memory, malformed, float, nesting, invalid, limit, reserved, script, read_fault, write_fault}
 use Rattle.transcript.specs.Printing.{refusal_of}
 use Rattle.module_files.specs.Held.{Holds}
 use Rattle.module_files.proofs.Held.{holds_own}

@@ -1,9 +1,9 @@
 -- Which scripts commands take, and why others are refused.
 use Rattle.std.specs.Prelude.{◌≡◌, ◌⊎◌, ℕ, suc, ◌<◌, ◌≤◌, List, length, Ok, Err}
 use Rattle.wa_types.specs.declared.bounds.LimitKind.TheVariants.{Script as a_script, Programs as some_programs}
-use Rattle.wa_model.specs.Script.{Script, ScriptFault, breaks, too_many}
-use Rattle.wa_model.specs.ScriptText.{script_text}
-use Rattle.wa_model.specs.Transcript.{Refusal, limit, script}
+use Rattle.script_model.specs.Script.{Script, ScriptFault, breaks, too_many}
+use Rattle.script_model.specs.ScriptText.{script_text}
+use Rattle.script_model.specs.Transcript.{Refusal, limit, script}
 
 -- a script has at most so many bytes
 abbrev pub most_bytes : ℕ

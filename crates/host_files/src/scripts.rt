@@ -6,7 +6,7 @@ ghost use Rattle.vault_port.specs.Counts.{HasRisen};
 ghost use Rattle.vault_port.specs.Files.{IsMissing};
 ghost use Rattle.vault_port.specs.Told.{WhereTold};
 ghost use Rattle.wa_types.specs.declared.bounds.LimitKind.TheVariants.{Programs as some_programs};
-ghost use Rattle.wa_model.specs.Transcript.{limit};
+ghost use Rattle.script_model.specs.Transcript.{limit};
 ghost use Rattle.transcript.specs.Printing.{refusal_of};
 ghost use Rattle.script_reader.specs.Views.{script_of};
 ghost use Rattle.host_modules.specs.Prepared.{IsOfContent};

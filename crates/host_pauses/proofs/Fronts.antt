@@ -8,7 +8,7 @@ use Rattle.wa_types.specs.Typing.{type_of}
 use Rattle.wa_model.specs.Store.{Store}
 use Rattle.wa_model.specs.Configuration.{Activation}
 use Rattle.wa_model.specs.Blocking.{resumed}
-use Rattle.wa_model.specs.Fitting.{types_of, ActFits, Fits}
+use Rattle.run_theory.specs.Fitting.{types_of, ActFits, Fits}
 use Rattle.interp.specs.Instance.{inside, Awaits}
 
 -- what waits may be given values, where it fits with them

@@ -7,7 +7,7 @@ use Rattle.wa_model.specs.declared.events.Event.TheVariants as V
 use Rattle.wa_types.specs.Syntax.{Module}
 use Rattle.wa_model.specs.Outside.{ended}
 use Rattle.wa_model.specs.View.{event_of}
-use Rattle.wa_model.specs.Fitting.{StoreFits}
+use Rattle.run_theory.specs.Fitting.{StoreFits}
 use Rattle.std.proofs.lemmas.List.Elements.{All-head}
 use Rattle.run_laws.specs.FittingStates.{HeldFits, EntryTyped}
 use Rattle.wa_model.specs.Store.{Store}

@@ -10,7 +10,7 @@ use Rattle.wa_model.specs.Outside.{Answer, answered}
 use Rattle.wa_model.specs.View.{answer_of, event_of}
 use Rattle.wa_model.specs.Store.{Store}
 use Rattle.wa_model.specs.Configuration.{Activation, Configuration}
-use Rattle.wa_model.specs.Fitting.{types_of, StoreFits}
+use Rattle.run_theory.specs.Fitting.{types_of, StoreFits}
 use Rattle.wa_model.specs.Blocking.{Note, note, Left, Task, resumed, the_start, an_entry, done_notes}
 use Rattle.wa_model.specs.Protocol.{exports_of, is_running, Held, busy, calling, give_zero, held_on, with_words}
 use Rattle.wa_model.specs.World.{Program}

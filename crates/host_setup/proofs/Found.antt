@@ -12,7 +12,7 @@ use Rattle.std.proofs.lemmas.Map.Text.{btree_map_updates_str}
 use Rattle.std.proofs.lemmas.Slice.Eq.{bytes_eq-Decides}
 use Rattle.wa_types.specs.declared.syntax.Export.{Export}
 use Rattle.wa_types.specs.Validity.{same_name}
-use Rattle.wa_model.specs.ScriptLines.{or_else}
+use Rattle.script_model.specs.ScriptLines.{or_else}
 use Rattle.wasm_validate.proofs.NameLemmas.{same-pointwise}
 use Rattle.host_setup.specs.SetUp.{func_of}
 use Rattle.host_setup.specs.Views.{named_in}

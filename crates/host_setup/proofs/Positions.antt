@@ -7,7 +7,7 @@ use Rattle.wa_types.specs.Syntax.{Module}
 use Rattle.wa_model.specs.declared.answers.Area.{Area}
 use Rattle.host_setup.specs.declared.entries.Entry.{Entry}
 use Rattle.host_setup.specs.declared.faults.SetupFault.{SetupFault}
-use Rattle.wa_model.specs.ScriptLines.{or_else}
+use Rattle.script_model.specs.ScriptLines.{or_else}
 use Rattle.host_setup.specs.SetUp.{NamedEntry, Fault, area_bad, is_area_in, least_pages, entry_func, entry_funcs, all_told, entries_fault, module_fault, unless_fault, set_up}
 use Rattle.host_setup.specs.Views.{Reads, entry_of}
 

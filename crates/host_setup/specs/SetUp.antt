@@ -15,7 +15,7 @@ use Rattle.wa_types.specs.Validity.{same_name}
 use Rattle.wa_ops.specs.Operate.{are_of}
 use Rattle.wa_model.specs.declared.answers.Area.{Area}
 use Rattle.wa_model.specs.Instantiation.{least_of}
-use Rattle.wa_model.specs.ScriptLines.{or_else}
+use Rattle.script_model.specs.ScriptLines.{or_else}
 use Rattle.wa_model.specs.Step.{same_func_type}
 use Rattle.std.specs.Str.{bytes_eq}
 

@@ -2,7 +2,7 @@
 
 ghost use Rattle.std.specs.Prelude.{◌≡◌, ℕ, List, IfOk, OnOk, None, Some, if◌then◌else◌};
 ghost use Rattle.wa_types.specs.Validity.{same_name};
-ghost use Rattle.wa_model.specs.ScriptLines.{or_else};
+ghost use Rattle.script_model.specs.ScriptLines.{or_else};
 ghost use Rattle.host_setup.specs.SetUp.{func_of, is_func};
 ghost use Rattle.host_setup.specs.Views.{IsTableOf, named_in};
 

@@ -10,7 +10,7 @@ use Rattle.wa_model.specs.declared.events.End.TheVariants as E
 use Rattle.wa_model.specs.Store.{Store}
 use Rattle.wa_model.specs.Step.{entered}
 use Rattle.wa_model.specs.Blocking.{Left}
-use Rattle.wa_model.specs.Fitting.{types_of}
+use Rattle.run_theory.specs.Fitting.{types_of}
 use Rattle.wa_model.specs.Protocol.{Phase, Then, calling, trap_end}
 use Rattle.wa_model.specs.World.{Program}
 use Rattle.run_laws.specs.FittingStates.{Callable}

@@ -2,7 +2,7 @@
 
 ghost use Rattle.std.specs.Prelude.{◌≡◌, ◌<◌, ◌≤◌, ◌+◌, ◌-◌, ◌^◌, IfOk};
 ghost use Rattle.std.specs.Option.{option_to_list};
-ghost use Rattle.wa_model.specs.Fitting.{StoreFits, types_of};
+ghost use Rattle.run_theory.specs.Fitting.{StoreFits, types_of};
 ghost use Rattle.wa_model.specs.Protocol.{Phase, is_state, trap_end};
 ghost use Rattle.wa_model.specs.World.{Program};
 ghost use Rattle.run_laws.specs.FittingStates.{Callable};

@@ -7,7 +7,7 @@ use Rattle.wa_model.specs.Plan.{Entry, Plan, Outcome}
 use Rattle.wa_model.specs.Instantiation.{Opening, fails_as, opens, opening}
 use Rattle.wa_model.specs.Blocking.{Note, Left, with_outcomes, all_left}
 use Rattle.wa_model.specs.Protocol.{Held, free, starting, busy, calling, aside, entering, over, held_on, exports_of, protocol, held_begun, Protocol, store_held}
-use Rattle.wa_model.proofs.Runs.{leads_on, leads_run, too_dear, no_move}
+use Rattle.run_theory.proofs.Runs.{leads_on, leads_run, too_dear, no_move}
 use Rattle.host_turns.specs.Stretch.{meeting, Stretch, IsSpent}
 use Rattle.host_turns.specs.Stories.{opened}
 use Rattle.host_turns.specs.Laws.{StretchesCompose}

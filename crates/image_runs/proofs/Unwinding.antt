@@ -4,7 +4,7 @@ use Rattle.std.specs.Option.{option_to_list}
 use Rattle.wa_types.specs.Modules.{func_type_at}
 use Rattle.wa_types.specs.declared.values.Value.{Value}
 use Rattle.wa_types.specs.declared.values.Value.TheVariants as V
-use Rattle.wa_model.proofs.Runs.{leads_on}
+use Rattle.run_theory.proofs.Runs.{leads_on}
 use Rattle.wa_model.specs.Behaves.{PausesNumbered, StandsNumbered}
 use Rattle.wa_model.specs.Blocking.{Left, Note, State, an_entry, call_note, fault_of, go_on, inside, note, pause_of, poked, resumed, runs, with_outcomes}
 use Rattle.wa_model.specs.Configuration.{Configuration, stack_of}

@@ -8,7 +8,7 @@ use Rattle.wa_types.specs.View.{code}
 use Rattle.wa_model.specs.Store.{Store}
 use Rattle.wa_model.specs.Configuration.{running}
 use Rattle.wa_model.specs.Step.{steps}
-use Rattle.wa_model.specs.Fitting.{types_of, StoreFits}
+use Rattle.run_theory.specs.Fitting.{types_of, StoreFits}
 use Rattle.interp_reduce.specs.Stack.{Stack}
 use Rattle.interp.specs.declared.turns.Wait.TheVariants as WV
 use Rattle.interp.specs.Instance.{Awaits, ResumeLacks, waits_of}

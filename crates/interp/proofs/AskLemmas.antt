@@ -11,7 +11,7 @@ use Rattle.wa_model.specs.Store.{Store, Did, works, fails, lacks, takes, act}
 use Rattle.wa_model.specs.Configuration.{Label, block_label, loop_label, Activation, Configuration, running, waiting}
 use Rattle.wa_model.specs.Step.{Next, steps, asks, returns, traps, stuck, result_count, leave, jump, finish, did, with_top, with_number, choose, entered, invoke, param_count, same_func_type}
 use Rattle.wa_model.specs.Step.{through, memory_max, step_plain, step_at, step}
-use Rattle.wa_model.specs.Alone.{Finish, it_asks, FinishesAt, EndsAs, by_finish, by_steps}
+use Rattle.run_theory.specs.Alone.{Finish, it_asks, FinishesAt, EndsAs, by_finish, by_steps}
 use Rattle.interp_reduce.specs.StackRooms.{TakesMemory, paid_for}
 use Rattle.interp.specs.Runs.{LacksAt}
 

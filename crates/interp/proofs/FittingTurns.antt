@@ -11,10 +11,10 @@ use Rattle.wa_types.specs.Modules.{func_imports, func_sorts, func_type_at, defin
 use Rattle.wa_model.specs.Store.{Store}
 use Rattle.wa_model.specs.Configuration.{Configuration, running, waiting}
 use Rattle.wa_model.specs.Step.{entered}
-use Rattle.wa_model.specs.Alone.{it_returned, it_trapped, it_asks, it_spent}
-use Rattle.wa_model.specs.Fitting.{types_of, results_of, StoreFits, Fits}
-use Rattle.wa_model.proofs.FittingNames.{not_defined}
-use Rattle.wa_model.proofs.FittingRuns.{calls_fit, answers_fit, ends_fit}
+use Rattle.run_theory.specs.Alone.{it_returned, it_trapped, it_asks, it_spent}
+use Rattle.run_theory.specs.Fitting.{types_of, results_of, StoreFits, Fits}
+use Rattle.run_theory.proofs.FittingNames.{not_defined}
+use Rattle.run_theory.proofs.FittingRuns.{calls_fit, answers_fit, ends_fit}
 use Rattle.interp_reduce.specs.Stack.{Stack}
 use Rattle.interp.specs.declared.turns.Turn.{Turn}
 use Rattle.interp.specs.declared.turns.Wait.TheVariants as WV

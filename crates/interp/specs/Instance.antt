@@ -10,8 +10,8 @@ use Rattle.wa_model.specs.Store.{Store}
 use Rattle.wa_model.specs.Configuration.{Activation, Configuration, waiting}
 use Rattle.wa_model.specs.Step.{entered}
 use Rattle.wa_model.specs.Blocking.{resumed}
-use Rattle.wa_model.specs.Alone.{it_returned, it_trapped, it_asks, it_spent, EndsAs}
-use Rattle.wa_model.specs.Fitting.{types_of, results_of, StoreFits, CallersFit}
+use Rattle.run_theory.specs.Alone.{it_returned, it_trapped, it_asks, it_spent, EndsAs}
+use Rattle.run_theory.specs.Fitting.{types_of, results_of, StoreFits, CallersFit}
 use Rattle.interp.specs.declared.turns.Turn.{Turn}
 use Rattle.interp.specs.declared.turns.Turn.TheVariants.{Returned, Trapped, Waiting, StepsSpent}
 use Rattle.interp.specs.declared.turns.Wait as W

@@ -5,7 +5,7 @@ use Rattle.wa_types.specs.Syntax.{Module}
 use Rattle.wa_model.specs.Store.{Store}
 use Rattle.wa_model.specs.Configuration.{Configuration}
 use Rattle.wa_model.specs.Step.{step}
-use Rattle.wa_model.specs.Alone.{Goes, it_returned, it_trapped, it_asks, it_spent, EndsAs}
+use Rattle.run_theory.specs.Alone.{Goes, it_returned, it_trapped, it_asks, it_spent, EndsAs}
 use Rattle.interp.specs.declared.run.Stop.{Stop}
 use Rattle.interp.specs.declared.run.Stop.TheVariants.{Returned, Trapped, Asked, Spent}
 use Rattle.interp_reduce.specs.StackRooms.{TakesMemory, paid_for}

@@ -6,7 +6,7 @@ ghost use Rattle.wa_types.specs.Modules.{func_type_at};
 ghost use Rattle.wa_types.specs.Validity.{Valid};
 ghost use Rattle.wa_types.specs.View.{module_of};
 ghost use Rattle.wa_model.specs.Step.{memory_max};
-ghost use Rattle.wa_model.specs.Fitting.{types_of, Fits, StoreFits};
+ghost use Rattle.run_theory.specs.Fitting.{types_of, Fits, StoreFits};
 ghost use Rattle.interp.specs.Instance.{CallLacks, Calls, Turns, waits_of};
 ghost use Rattle.interp_reduce.specs.StackRooms.{StackRoom};
 ghost use Rattle.interp.specs.WaitRooms.{WaitRoom};

@@ -39,7 +39,7 @@ impl<'m> Instance<'m> {
     ghost use Rattle.interp.specs.Instance.{Awaits, CallLacks, Calls, FitsAgain, ResumeLacks, Resumes, nothing, waits_of};
     ghost use Rattle.interp_make.specs.Faults.{FailsAs};
     ghost use Rattle.wa_types.specs.Modules.{func_sorts, func_type_at, imported, imported_global};
-    ghost use Rattle.wa_model.specs.Fitting.{types_of, global_types, results_of, StoreFits};
+    ghost use Rattle.run_theory.specs.Fitting.{types_of, global_types, results_of, StoreFits};
     ghost use Rattle.wa_types.specs.declared.values.ValType.{ValType};
     ghost use Rattle.wa_model.specs.Instantiation.{opening, opens};
     ghost use Rattle.interp_reduce.specs.Rooms.{HasFewInstrs};

@@ -16,10 +16,10 @@ use Rattle.wa_model.specs.Store.{Store, Did, works, fails, lacks, act}
 use Rattle.wa_model.specs.Configuration.{Configuration, running, waiting, block_label}
 use Rattle.wa_model.specs.Configuration as C
 use Rattle.wa_model.specs.Step.{Next, steps, traps, leave, did, choose, entered, invoke, arity_of, memory_max, step_at}
-use Rattle.wa_model.specs.Heights.{most_operands}
-use Rattle.wa_model.specs.Growth.{Each}
-use Rattle.wa_model.specs.Fitting.{types_of, Fits, NextFits}
-use Rattle.wa_model.proofs.FittingSteps.{heights_within}
+use Rattle.run_theory.specs.Heights.{most_operands}
+use Rattle.run_theory.specs.Growth.{Each}
+use Rattle.run_theory.specs.Fitting.{types_of, Fits, NextFits}
+use Rattle.run_theory.proofs.FittingSteps.{heights_within}
 use Rattle.interp_program.specs.Activation.{Activation}
 use Rattle.interp_program.specs.Stack.{Stack}
 use Rattle.interp_program.specs.Waiting.{Waiting}

@@ -4,8 +4,8 @@ use Rattle.std.specs.Prelude.{ℕ, suc, List, [], ◌∷◌, ◌≡◌, ◌≤�
 use Rattle.wa_types.specs.Counts.{depth_of}
 use Rattle.wa_types.specs.Modules.{defined_at}
 use Rattle.wa_types.specs.Syntax.{basic, call, call_indirect, memory_grow, Code, plain, Func, Module}
-use Rattle.wa_model.specs.Growth.{Each}
-use Rattle.wa_model.specs.Heights.{most_operands}
+use Rattle.run_theory.specs.Growth.{Each}
+use Rattle.run_theory.specs.Heights.{most_operands}
 use Rattle.wa_model.specs.Step.{Next, asks}
 use Rattle.interp_program.specs.Activation.{Activation}
 use Rattle.interp_program.specs.Stack.{Stack}

@@ -7,7 +7,7 @@ ghost use Rattle.wa_types.specs.View.{code, module_of};
 ghost use Rattle.wa_model.specs.Store.{Store};
 ghost use Rattle.interp_jumps.specs.Stacks.{LacksNumber, code_of, plain_of};
 ghost use Rattle.wa_types.specs.declared.values.ValType.{ValType};
-ghost use Rattle.wa_model.specs.Fitting.{NextFits};
+ghost use Rattle.run_theory.specs.Fitting.{NextFits};
 ghost use Rattle.interp_jumps.specs.StackRooms.{Roomier, StackRoom};
 ghost use Rattle.interp_jumps.specs.Told.{Tells};
 ghost use Rattle.interp_program.specs.View.{running_of};

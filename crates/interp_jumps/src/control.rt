@@ -8,7 +8,7 @@ ghost use Rattle.wa_model.specs.Blocking.{value_of_results};
 ghost use Rattle.interp_jumps.specs.Stacks.{leave_of, jump_of, finish_of};
 ghost use Rattle.wa_types.specs.Syntax.{Module};
 ghost use Rattle.wa_types.specs.declared.values.ValType.{ValType};
-ghost use Rattle.wa_model.specs.Fitting.{NextFits};
+ghost use Rattle.run_theory.specs.Fitting.{NextFits};
 ghost use Rattle.interp_jumps.specs.StackRooms.{StackRoom};
 ghost use Rattle.interp_jumps.specs.Told.{Tells};
 ghost use Rattle.interp_program.specs.View.{count_of, running_of};

@@ -26,9 +26,9 @@ use Rattle.wa_types.proofs.ViewLemmas.{is_block, is_loop, is_if, is_plain, instr
 use Rattle.wasm_tree.proofs.MeasureLemmas.{count_step, count_empty, count_block, count_loop, count_if}
 use Rattle.wa_model.specs.Store.{gives}
 use Rattle.wa_model.specs.Step.{arity_of}
-use Rattle.wa_model.proofs.HeightLemmas.{most_least}
+use Rattle.run_theory.proofs.HeightLemmas.{most_least}
 use Rattle.interp_program.specs.declared.rooms.Room.{Room}
-use Rattle.wa_model.specs.Heights.{behind, behind_plain, most_operands}
+use Rattle.run_theory.specs.Heights.{behind, behind_plain, most_operands}
 use Rattle.interp_program.specs.Rooms.{room_of, room_at, HasFewInstrs}
 use Rattle.interp_program.proofs.MapLemmas.{map_map}
 

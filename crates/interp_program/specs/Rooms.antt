@@ -4,7 +4,7 @@ use Rattle.wa_types.specs.declared.syntax.Func.{Func as FuncValue}
 use Rattle.wa_types.specs.Counts.{count_of, depth_of}
 use Rattle.wa_types.specs.Syntax.{Func, Module}
 use Rattle.wa_types.specs.View.{func_of}
-use Rattle.wa_model.specs.Heights.{most_operands}
+use Rattle.run_theory.specs.Heights.{most_operands}
 use Rattle.interp_program.specs.declared.rooms.Room.{Room}
 
 -- what the activations of a function reserve

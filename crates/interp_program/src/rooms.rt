@@ -5,7 +5,7 @@ ghost use Rattle.wa_types.specs.Counts.{count_of};
 ghost use Rattle.wa_types.specs.Modules.{func_sorts};
 ghost use Rattle.wa_types.specs.Syntax.{done};
 ghost use Rattle.wa_types.specs.View.{code, in_front, module_of};
-ghost use Rattle.wa_model.specs.Heights.{behind, most_operands};
+ghost use Rattle.run_theory.specs.Heights.{behind, most_operands};
 ghost use Rattle.interp_program.specs.Rooms.{room_at, HasFewInstrs};
 
 use crate::types::{func_params, func_results, sort_params, sort_results};

@@ -8,7 +8,7 @@ ghost use Rattle.interp_jumps.specs.StackRooms.{StackRoom, TakesMemory, paid_for
 ghost use Rattle.interp_jumps.specs.Told.{Tells};
 ghost use Rattle.wa_types.specs.declared.values.ValType.{ValType};
 ghost use Rattle.wa_types.specs.Validity.{Valid};
-ghost use Rattle.wa_model.specs.Fitting.{Fits, NextFits};
+ghost use Rattle.run_theory.specs.Fitting.{Fits, NextFits};
 ghost use Rattle.interp_program.specs.View.{store_of, running_of};
 
 use crate::calls::{call, call_indirect};

@@ -10,7 +10,7 @@ use Rattle.std.proofs.lemmas.Bool.{false≢true, le-leb, lt-leb, ltb-true, ltb-f
 use Rattle.std.proofs.lemmas.Str.Parse.{IsNumeralModel, numerals_by_fold, parse_plain}
 use Rattle.std.proofs.lemmas.Fmt.{decimal-digits_value, first_decimal, decimal_digit}
 use Rattle.std.proofs.lemmas.Slice.Eq.{bytes_eq-Decides}
-use Rattle.wa_model.specs.ScriptLines.{is_digit, digits_value, if_within, number_within, integer_in, negative}
+use Rattle.script_model.specs.ScriptLines.{is_digit, digits_value, if_within, number_within, integer_in, negative}
 use Rattle.line_words.specs.Reading.{begins_plainly}
 
 own : IsNumeralModel (λ ds. list_all is_digit ds ≡ true) (digits_value 0)

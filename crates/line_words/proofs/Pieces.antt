@@ -10,7 +10,7 @@ use Rattle.wa_types.specs.declared.names.Name.{Name}
 use Rattle.line_words.proofs.Texts.{is_no_utf8}
 use Rattle.std.proofs.lemmas.List.{drop_all}
 use Rattle.std.proofs.Math.Seq.{drop-cons}
-use Rattle.wa_model.specs.ScriptLines.{has_bytes, word_text, is_blank, is_comment, line_words, onto, all_told}
+use Rattle.script_model.specs.ScriptLines.{has_bytes, word_text, is_blank, is_comment, line_words, onto, all_told}
 use Rattle.line_words.specs.declared.faults.LineFault.{LineFault}
 use Rattle.line_words.specs.declared.faults.LineFault.TheVariants.{Memory, Rule}
 use Rattle.line_words.specs.Reading.{Reads, Blames, or_breaks, told_words, behind_words}

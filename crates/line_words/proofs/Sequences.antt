@@ -3,7 +3,7 @@ use Rattle.std.proofs.Common.{arith, ◌≡◌, ℕ, ◌-◌, ◌<◌, ◌≤◌
 use Rattle.std.proofs.Common.{append-nil, refl, ◌==◌, false}
 use Rattle.std.proofs.lemmas.Bool.{false≢true}
 use Rattle.std.proofs.lemmas.List.{take_all}
-use Rattle.wa_model.specs.ScriptLines.{onto, hex_value, joined_digits, hex_bytes}
+use Rattle.script_model.specs.ScriptLines.{onto, hex_value, joined_digits, hex_bytes}
 use Rattle.line_words.specs.declared.faults.LineFault.{LineFault}
 use Rattle.line_words.specs.declared.faults.LineFault.TheVariants.{Memory, Rule}
 use Rattle.line_words.specs.Reading.{Blames, or_breaks}

@@ -8,7 +8,7 @@ use Rattle.std.specs.List.{slice_split, onto_first}
 use Rattle.std.proofs.lemmas.List.{take_all}
 use Rattle.std.proofs.lemmas.Str.{IsUtf8-from_is_utf8, is_utf8-from_IsUtf8}
 use Rattle.std.proofs.lemmas.List.Splits.{slice_split-cons_yes, slice_split-cons_no}
-use Rattle.wa_model.specs.ScriptLines.{hex_value, joined_digits, behind_byte, both, all_escaped, unescaped_parts, if_utf8}
+use Rattle.script_model.specs.ScriptLines.{hex_value, joined_digits, behind_byte, both, all_escaped, unescaped_parts, if_utf8}
 use Rattle.line_words.specs.Reading.{or_breaks}
 
 -- ---- UTF-8

@@ -3,7 +3,7 @@ use Rattle.std.specs.Prelude.{◌≡◌, ℕ, ◌==◌, not, if◌then◌else◌
 use Rattle.std.specs.Prelude.{map, ◌++◌}
 use Rattle.std.specs.List.{filter}
 use Rattle.std.specs.Option.{option_map}
-use Rattle.wa_model.specs.ScriptLines.{all_told, has_bytes, word_text}
+use Rattle.script_model.specs.ScriptLines.{all_told, has_bytes, word_text}
 use Rattle.line_words.specs.declared.faults.LineFault.{LineFault}
 use Rattle.line_words.specs.declared.faults.LineFault.TheVariants.{Memory, Rule}
 

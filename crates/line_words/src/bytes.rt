@@ -1,7 +1,7 @@
 //! Bytes in hexadecimal digits.
 
 ghost use Rattle.std.specs.Prelude.{◌≡◌, ◌≤◌, length, IfOk};
-ghost use Rattle.wa_model.specs.ScriptLines.{hex_bytes, hex_in};
+ghost use Rattle.script_model.specs.ScriptLines.{hex_bytes, hex_in};
 ghost use Rattle.line_words.specs.Reading.{Reads, or_breaks};
 
 use crate::faults::LineFault;

@@ -1,7 +1,7 @@
 //! Numbers and values in decimal, as words spell them.
 
 ghost use Rattle.std.specs.Prelude.{◌≡◌, ◌<◌, ◌^◌, ◌-◌};
-ghost use Rattle.wa_model.specs.ScriptLines.{integer_in, number_within, u32_in, value_in};
+ghost use Rattle.script_model.specs.ScriptLines.{integer_in, number_within, u32_in, value_in};
 ghost use Rattle.line_words.specs.Reading.{Reads, begins_plainly, or_breaks};
 
 use wa_types::Value;

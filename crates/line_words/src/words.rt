@@ -2,7 +2,7 @@
 
 ghost use Rattle.std.specs.Prelude.{◌≡◌, ◌==◌, ◌∷◌, ◌++◌, [], OnOk, Some, if◌then◌else◌};
 ghost use Rattle.std.specs.List.{slice_split};
-ghost use Rattle.wa_model.specs.ScriptLines.{hex_value, if_utf8, is_blank, is_comment, joined_digits, line_words, unescaped_parts, word_text};
+ghost use Rattle.script_model.specs.ScriptLines.{hex_value, if_utf8, is_blank, is_comment, joined_digits, line_words, unescaped_parts, word_text};
 ghost use Rattle.line_words.specs.Reading.{Reads, behind_words, or_breaks, told_words};
 
 use crate::faults::LineFault;

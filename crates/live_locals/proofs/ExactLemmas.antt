@@ -11,9 +11,9 @@ use Rattle.wa_types.specs.Liveness.{Label, goes_behind, goes_again, Position, po
 use Rattle.wa_types.proofs.LiveLemmas.{live_reads, reads_live}
 use Rattle.wa_model.specs.declared.flat.Operand.{Operand}
 use Rattle.wa_model.specs.declared.flat.Operand.TheVariants.{Local, Const}
-use Rattle.wa_model.specs.Flat.{Stmts, no_more, computes, copies, calls, leaps, leaps_if, leaps_by, nests, decides, halts, FlatFunc, followed_by, got, all_got, set_to, slots_got, last_of}
-use Rattle.wa_model.specs.Flat.{code_of, result_got, body_of}
-use Rattle.wa_model.specs.FlatFits.{IsCallCode}
+use Rattle.run_theory.specs.Flat.{Stmts, no_more, computes, copies, calls, leaps, leaps_if, leaps_by, nests, decides, halts, FlatFunc, followed_by, got, all_got, set_to, slots_got, last_of}
+use Rattle.run_theory.specs.Flat.{code_of, result_got, body_of}
+use Rattle.run_theory.specs.FlatFits.{IsCallCode}
 use Rattle.guard_form.specs.Grouping.{is_place}
 use Rattle.flat_laws.specs.FlatModule.{stacks_in}
 use Rattle.flat_rules.specs.Behind.{Among}

@@ -10,8 +10,8 @@ use Rattle.wa_types.specs.Syntax.{a_block, a_loop}
 use Rattle.wa_types.specs.Liveness.{live}
 use Rattle.wa_model.specs.declared.flat.Operand.{Operand}
 use Rattle.wa_model.specs.declared.flat.Stmt.{Stmt}
-use Rattle.wa_model.specs.Flat.{Stmts, no_more, nests, decides, code_of}
-use Rattle.wa_model.specs.FlatView.{stmt_in_front, stmts}
+use Rattle.run_theory.specs.Flat.{Stmts, no_more, nests, decides, code_of}
+use Rattle.run_theory.specs.FlatView.{stmt_in_front, stmts}
 use Rattle.flat_pieces.proofs.StmtLemmas.{stmts_step, stmts_end}
 use Rattle.live_passes.specs.Sets.{has, told_of, told_by, TellsBefore, Passed}
 use Rattle.live_passes.proofs.SetLemmas.{told_more, or_none}

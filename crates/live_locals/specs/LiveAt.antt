@@ -2,7 +2,7 @@
 use Rattle.std.specs.Prelude.{◌≡◌, ◌↔◌, ◌⊎◌, ◌<◌, ℕ, List, [], length, map, get_or, Some, Bool, true, slice_get, Vec}
 use Rattle.std.specs.declared.alloc.Global.{Global}
 use Rattle.wa_types.specs.Liveness.{Position, ReadsFirst, behind_calls}
-use Rattle.wa_model.specs.Flat.{FlatFunc, body_of}
+use Rattle.run_theory.specs.Flat.{FlatFunc, body_of}
 use Rattle.flat_laws.specs.FlatModule.{stacks_in}
 use Rattle.flat_rules.specs.Behind.{Among}
 use Rattle.live_passes.specs.Sets.{has}

@@ -3,7 +3,7 @@ use Rattle.std.specs.Prelude.{◌≡◌, ◌<◌, ◌≤◌, ◌+◌, ◌++◌, 
 use Rattle.std.specs.declared.alloc.Global.{Global}
 use Rattle.wa_types.specs.Syntax.{Shape, a_block, a_loop, Code, done}
 use Rattle.wa_types.specs.Liveness.{live}
-use Rattle.wa_model.specs.Flat.{Stmts, no_more, computes, copies, calls, leaps, leaps_if, leaps_by, nests, decides, halts, set_to, slots_got, code_of}
+use Rattle.run_theory.specs.Flat.{Stmts, no_more, computes, copies, calls, leaps, leaps_if, leaps_by, nests, decides, halts, set_to, slots_got, code_of}
 use Rattle.guard_form.specs.Grouping.{is_place}
 use Rattle.guard_form.specs.Pieces.{call_total}
 use Rattle.flow_rewrite.specs.Emitting.{Rises}

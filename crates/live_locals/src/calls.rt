@@ -1,9 +1,9 @@
 //! The sets of a function's numbered calls.
 
 ghost use Rattle.std.specs.Prelude.{◌≡◌, ◌<◌, ◌≤◌, ◌+◌, ◌^◌, All, List, map, Vec, Bool, IfOk};
-ghost use Rattle.wa_model.specs.Flat.{no_more};
-ghost use Rattle.wa_model.specs.FlatView.{flat_func_of, stmt_in_front, stmts};
-ghost use Rattle.wa_model.specs.FlatFits.{FlatFits};
+ghost use Rattle.run_theory.specs.Flat.{no_more};
+ghost use Rattle.run_theory.specs.FlatView.{flat_func_of, stmt_in_front, stmts};
+ghost use Rattle.run_theory.specs.FlatFits.{FlatFits};
 ghost use Rattle.guard_form.specs.Pieces.{call_total};
 ghost use Rattle.flow_rewrite.specs.Emitting.{Rises};
 ghost use Rattle.live_locals.specs.LiveAt.{LiveAtCalls, lists_of};

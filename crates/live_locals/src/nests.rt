@@ -3,8 +3,8 @@
 ghost use Rattle.std.specs.Prelude.{◌≡◌, ◌<◌, ◌≤◌, ◌∷◌, ◌++◌, [], ℕ, suc, List, Vec, Bool, Option, Some, length, drop, reverse, replicate, IfOk, OnOk};
 ghost use Rattle.std.specs.declared.alloc.Global.{Global};
 ghost use Rattle.wa_types.specs.Syntax.{a_loop};
-ghost use Rattle.wa_model.specs.Flat.{Stmts, code_of, no_more, nests};
-ghost use Rattle.wa_model.specs.FlatView.{stmt_in_front, stmts};
+ghost use Rattle.run_theory.specs.Flat.{Stmts, code_of, no_more, nests};
+ghost use Rattle.run_theory.specs.FlatView.{stmt_in_front, stmts};
 ghost use Rattle.live_passes.specs.Ops.{OpsFit};
 ghost use Rattle.live_passes.specs.Sets.{told_by, Passed, TellsBefore};
 ghost use Rattle.live_words.specs.Heads.{loop_total};

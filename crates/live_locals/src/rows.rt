@@ -1,8 +1,8 @@
 //! The sets of the numbered calls of statements.
 
 ghost use Rattle.std.specs.Prelude.{◌≡◌, drop, reverse, IfOk, OnOk};
-ghost use Rattle.wa_model.specs.Flat.{code_of, no_more};
-ghost use Rattle.wa_model.specs.FlatView.{stmt_in_front, stmts};
+ghost use Rattle.run_theory.specs.Flat.{code_of, no_more};
+ghost use Rattle.run_theory.specs.FlatView.{stmt_in_front, stmts};
 ghost use Rattle.guard_form.specs.Grouping.{is_place};
 ghost use Rattle.flow_rewrite.specs.Emitting.{Rises};
 ghost use Rattle.live_words.specs.Heads.{loop_total};

@@ -11,8 +11,8 @@ use Rattle.wa_model.specs.declared.flat.Stmt.{Stmt}
 use Rattle.wa_model.specs.declared.flat.Stmt.TheVariants.{Plain as PlainStmt, Move, Call as CallStmt, Br as BrStmt, BrIf as BrIfStmt, BrTable as BrTableStmt, Block, Loop, If}
 use Rattle.wa_model.specs.declared.flat.Stmt.TheVariants.{Unreachable as UnreachableStmt, Block', Loop', If', rolls-Block, rolls-Loop, rolls-If, outs-Block', outs-Loop', outs-If'}
 use Rattle.wa_model.specs.declared.flat.Stmt.{roll-Stmt, roll-out-Stmt}
-use Rattle.wa_model.specs.Flat.{Stmts, no_more, nests, decides, followed_by, got, code_of}
-use Rattle.wa_model.specs.FlatView.{stmt_in_front, stmts}
+use Rattle.run_theory.specs.Flat.{Stmts, no_more, nests, decides, followed_by, got, code_of}
+use Rattle.run_theory.specs.FlatView.{stmt_in_front, stmts}
 use Rattle.live_passes.specs.Ops.{OpsFit, HoldsNone}
 use Rattle.live_passes.specs.Sets.{has, told_of, told_by, TellsBefore, TellsAnywhere, Passed}
 use Rattle.live_passes.proofs.SetLemmas.{tells_then, tells_as, tells_none, told_more}

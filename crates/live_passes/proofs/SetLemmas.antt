@@ -13,7 +13,7 @@ use Rattle.std.proofs.Math.Seq.{take-append_seam}
 use Rattle.wa_types.specs.Pausing.{is_told}
 use Rattle.wa_types.specs.Syntax.{local_get, local_set, br, br_if, br_table, unreachable, Code, done, plain, nest, branch}
 use Rattle.wa_types.specs.Liveness.{live, live_plain, shape_live, told_at}
-use Rattle.wa_model.specs.Flat.{followed_by}
+use Rattle.run_theory.specs.Flat.{followed_by}
 use Rattle.live_passes.specs.Sets.{has, told_of, told_by, TellsBefore, TellsAnywhere, Joined}
 
 -- ---- booleans

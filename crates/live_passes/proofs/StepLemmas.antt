@@ -15,9 +15,9 @@ use Rattle.wa_model.specs.declared.flat.Operand.TheVariants.{Local, Const}
 use Rattle.wa_model.specs.declared.flat.Stmt.{Stmt}
 use Rattle.wa_model.specs.declared.flat.Stmt.TheVariants.{Plain as PlainStmt, Move, Call as CallStmt, Br as BrStmt, BrIf as BrIfStmt, BrTable as BrTableStmt, Block', Loop', If'}
 use Rattle.wa_model.specs.declared.flat.Stmt.TheVariants.{Unreachable as UnreachableStmt}
-use Rattle.wa_model.specs.Flat.{Stmts, no_more, followed_by, got, all_got, set_to, slots_got, last_of, code_of, result_got}
-use Rattle.wa_model.specs.FlatView.{stmt_in_front}
-use Rattle.wa_model.specs.FlatFits.{IsCallCode}
+use Rattle.run_theory.specs.Flat.{Stmts, no_more, followed_by, got, all_got, set_to, slots_got, last_of, code_of, result_got}
+use Rattle.run_theory.specs.FlatView.{stmt_in_front}
+use Rattle.run_theory.specs.FlatFits.{IsCallCode}
 use Rattle.flat_pieces.proofs.StmtLemmas.{call_is}
 use Rattle.live_passes.proofs.StmtViews.{as_plain, as_move, as_br, as_br_if, as_table, as_halt}
 use Rattle.live_passes.specs.Ops.{IsComputation, OpsFit, HoldsNone}

@@ -8,8 +8,8 @@ use Rattle.wa_types.specs.View.{in_front}
 use Rattle.wa_model.specs.declared.flat.Operand.{Operand}
 use Rattle.wa_model.specs.declared.flat.Stmt.{Stmt}
 use Rattle.wa_model.specs.declared.flat.Stmt.TheVariants.{Plain as PlainStmt, Move, Br as BrStmt, BrIf as BrIfStmt, BrTable as BrTableStmt, Unreachable as UnreachableStmt}
-use Rattle.wa_model.specs.Flat.{Stmts, computes, copies, leaps, leaps_if, leaps_by, halts}
-use Rattle.wa_model.specs.FlatView.{stmt_in_front}
+use Rattle.run_theory.specs.Flat.{Stmts, computes, copies, leaps, leaps_if, leaps_by, halts}
+use Rattle.run_theory.specs.FlatView.{stmt_in_front}
 
 pub as_plain : (x : Stmt) (op : Instr) (args : Vec Operand Global) (to : Option ℕ) → x ≡ PlainStmt op args to → (s : Stmts)
     → stmt_in_front x s ≡ computes (in_front op done) args.items to s

@@ -1,7 +1,7 @@
 -- What is asked of the instructions of statements.
 use Rattle.wa_types.specs.Syntax.{basic, local_get, local_set, local_tee, Code, done, plain}
-use Rattle.wa_model.specs.Flat.{Stmts, no_more, computes, copies, calls, leaps, leaps_if, leaps_by, nests, decides, halts}
-use Rattle.wa_model.specs.FlatFits.{IsCallCode}
+use Rattle.run_theory.specs.Flat.{Stmts, no_more, computes, copies, calls, leaps, leaps_if, leaps_by, nests, decides, halts}
+use Rattle.run_theory.specs.FlatFits.{IsCallCode}
 
 -- the instruction of a computation is neither a call nor control
 abbrev pub IsComputation : Code → Type 0

@@ -1,8 +1,8 @@
 //! What is read first from the front of statements on.
 
 ghost use Rattle.std.specs.Prelude.{OnOk};
-ghost use Rattle.wa_model.specs.Flat.{code_of, no_more};
-ghost use Rattle.wa_model.specs.FlatView.{stmt_in_front, stmts};
+ghost use Rattle.run_theory.specs.Flat.{code_of, no_more};
+ghost use Rattle.run_theory.specs.FlatView.{stmt_in_front, stmts};
 ghost use Rattle.live_passes.specs.Ops.{OpsFit};
 ghost use Rattle.live_passes.specs.Sets.{Passed};
 

@@ -3,8 +3,8 @@
 ghost use Rattle.std.specs.Prelude.{◌≡◌, length};
 ghost use Rattle.wa_types.specs.Syntax.{br, br_if, br_table, done, plain};
 ghost use Rattle.wa_types.specs.View.{in_front};
-ghost use Rattle.wa_model.specs.Flat.{code_of, got, last_of, no_more, slots_got};
-ghost use Rattle.wa_model.specs.FlatView.{stmt_in_front};
+ghost use Rattle.run_theory.specs.Flat.{code_of, got, last_of, no_more, slots_got};
+ghost use Rattle.run_theory.specs.FlatView.{stmt_in_front};
 ghost use Rattle.live_passes.specs.Ops.{HoldsNone, IsComputation, OpsFit};
 ghost use Rattle.live_passes.specs.Sets.{told_by, TellsAnywhere, TellsBefore};
 

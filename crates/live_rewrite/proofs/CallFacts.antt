@@ -8,7 +8,7 @@ use Rattle.wa_types.specs.Pausing.{Listed, Numbered, Settings, calls_in, has_num
 use Rattle.wa_types.specs.Sizes.{StrictSizeRule}
 use Rattle.wa_types.specs.Syntax.{Func, Module}
 use Rattle.wa_types.specs.Validity.{Valid}
-use Rattle.wa_model.specs.FlatView.{flat_func_of}
+use Rattle.run_theory.specs.FlatView.{flat_func_of}
 use Rattle.func_rewrite.specs.Flattened.{Flattened}
 use Rattle.save_laws.specs.Numbering.{callees, gets_number}
 use Rattle.save_laws.proofs.NumberingLemmas.{callees_count}

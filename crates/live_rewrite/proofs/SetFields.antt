@@ -9,8 +9,8 @@ use Rattle.wa_types.specs.Frames.{Place, Saved, named_places, place_onto}
 use Rattle.wa_types.specs.Pausing.{Numbered, Settings, calls_in, has_number, places_from, save_live}
 use Rattle.wa_types.specs.Syntax.{Func, Module}
 use Rattle.wa_types.specs.Validity.{Valid}
-use Rattle.wa_model.specs.Flat.{FlatFunc}
-use Rattle.wa_model.specs.FlatView.{flat_func_of}
+use Rattle.run_theory.specs.Flat.{FlatFunc}
+use Rattle.run_theory.specs.FlatView.{flat_func_of}
 use Rattle.flat_laws.specs.Flatten.{flattened}
 use Rattle.func_rewrite.specs.Flattened.{Flattened}
 use Rattle.live_frames.specs.Layout.{FrameField, kept, kept_count}

@@ -19,7 +19,7 @@ use Rattle.wa_types.specs.declared.values.Value.TheVariants as V
 use Rattle.wa_types.proofs.LiveLemmas.{reads_live}
 use Rattle.wa_types.proofs.SlotLemmas.{own_pair, reverse_left, reverse_top, same_self}
 use Rattle.wa_model.specs.Configuration.{Activation, place_of}
-use Rattle.wa_model.specs.Fitting.{types_of}
+use Rattle.run_theory.specs.Fitting.{types_of}
 use Rattle.wa_model.specs.Store.{value_at}
 use Rattle.live_laws.proofs.SpotSteps.{WaitsAtSpot}
 use Rattle.live_laws.proofs.SpotPlaces.{at_call}

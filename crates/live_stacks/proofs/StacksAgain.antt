@@ -5,8 +5,8 @@ use Rattle.wa_types.specs.Pausing.{is_told}
 use Rattle.wa_types.specs.Syntax.{Code, Func, Module}
 use Rattle.wa_types.specs.declared.values.Value.{Value}
 use Rattle.wa_model.specs.Configuration.{Activation, Label, waiting}
-use Rattle.wa_model.specs.Fitting.{results_of, types_of}
-use Rattle.wa_model.specs.Flat.{code_of, set_to}
+use Rattle.run_theory.specs.Fitting.{results_of, types_of}
+use Rattle.run_theory.specs.Flat.{code_of, set_to}
 use Rattle.wa_model.specs.Step.{result_count}
 use Rattle.live_laws.proofs.SpotSteps.{CallersAtSpots}
 use Rattle.flat_laws.specs.Flatten.{names, top_of}

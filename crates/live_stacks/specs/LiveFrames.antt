@@ -6,7 +6,7 @@ use Rattle.wa_types.specs.Pausing.{is_told, save_live}
 use Rattle.wa_types.specs.Syntax.{Func, Module}
 use Rattle.wa_types.specs.declared.values.Value.{Value}
 use Rattle.wa_model.specs.Configuration.{Activation, place_of}
-use Rattle.wa_model.specs.Fitting.{types_of}
+use Rattle.run_theory.specs.Fitting.{types_of}
 use Rattle.wa_model.specs.Store.{value_at}
 use Rattle.live_laws.proofs.SpotSteps.{CallersAtSpots, WaitsAtSpot}
 use Rattle.flat_runs.specs.Beside.{Callers, Locals}

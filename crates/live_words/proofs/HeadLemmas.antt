@@ -7,8 +7,8 @@ use Rattle.std.proofs.lemmas.List.{append-nil, append_assoc}
 use Rattle.wa_types.specs.Syntax.{a_block, a_loop}
 use Rattle.wa_types.specs.Liveness.{live}
 use Rattle.wa_model.specs.declared.flat.Stmt.{Stmt}
-use Rattle.wa_model.specs.Flat.{Stmts, no_more, computes, copies, calls, leaps, leaps_if, leaps_by, nests, decides, halts, code_of}
-use Rattle.wa_model.specs.FlatView.{stmt_in_front, stmts}
+use Rattle.run_theory.specs.Flat.{Stmts, no_more, computes, copies, calls, leaps, leaps_if, leaps_by, nests, decides, halts, code_of}
+use Rattle.run_theory.specs.FlatView.{stmt_in_front, stmts}
 use Rattle.flat_pieces.specs.Statements.{with_rest}
 use Rattle.flat_pieces.proofs.StmtLemmas.{in_front_is}
 use Rattle.live_words.specs.Heads.{deeper, loop_total, heads, Knows}

@@ -1,8 +1,8 @@
 //! What is read first from the front of statements on, and from the heads of the loops in them.
 
 ghost use Rattle.std.specs.Prelude.{◌≡◌, ◌<◌, ◌++◌, ◌∷◌, [], length, None, OnOk};
-ghost use Rattle.wa_model.specs.Flat.{code_of, no_more};
-ghost use Rattle.wa_model.specs.FlatView.{stmt_in_front, stmts};
+ghost use Rattle.run_theory.specs.Flat.{code_of, no_more};
+ghost use Rattle.run_theory.specs.FlatView.{stmt_in_front, stmts};
 ghost use Rattle.live_passes.specs.Ops.{OpsFit};
 ghost use Rattle.live_words.specs.Heads.{Fresh, HeadsPut, LabelPut, OwnLabelPut, WordsKept};
 ghost use Rattle.live_words.specs.Words.{WordsPassed};

@@ -2,7 +2,7 @@
 
 ghost use Rattle.std.specs.Prelude.{◌≡◌, ◌<◌, ◌∷◌, ◌||◌, [], ℕ, length, IfOk};
 ghost use Rattle.wa_types.specs.Syntax.{local_get, local_set, unreachable, done, plain};
-ghost use Rattle.wa_model.specs.Flat.{got, all_got, set_to, slots_got};
+ghost use Rattle.run_theory.specs.Flat.{got, all_got, set_to, slots_got};
 ghost use Rattle.live_passes.specs.Sets.{has};
 ghost use Rattle.live_words.specs.Words.{world, WordsJoined, WordsTell};
 

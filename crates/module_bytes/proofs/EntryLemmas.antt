@@ -17,7 +17,7 @@ use Rattle.wa_types.specs.View.{func_of, module_of}
 use Rattle.wa_types.specs.declared.syntax.Func.{Func as FuncValue}
 use Rattle.wa_types.specs.declared.syntax.Module.{Module as ModuleValue}
 use Rattle.wa_types.specs.Validity.{Valid}
-use Rattle.wa_model.specs.Flat.{FlatFunc}
+use Rattle.run_theory.specs.Flat.{FlatFunc}
 use Rattle.flat_laws.specs.Flatten.{flattened}
 use Rattle.module_rewrite.specs.FlattenWhole.{FlatAnswer}
 use Rattle.module_rewrite.specs.Flattened.{Flattened}

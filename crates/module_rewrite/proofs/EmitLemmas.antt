@@ -9,8 +9,8 @@ use Rattle.wa_types.specs.Pausing.{Settings, is_told}
 use Rattle.wa_types.specs.declared.syntax.Func.{Func as FuncValue}
 use Rattle.wa_types.specs.Syntax.{Func, Module}
 use Rattle.wa_types.specs.View.{func_of}
-use Rattle.wa_model.specs.Flat.{FlatFunc}
-use Rattle.wa_model.specs.FlatView.{flat_func_of}
+use Rattle.run_theory.specs.Flat.{FlatFunc}
+use Rattle.run_theory.specs.FlatView.{flat_func_of}
 use Rattle.flat_laws.specs.Flatten.{flattened}
 use Rattle.flat_laws.proofs.FlatModules.{dropped_at}
 use Rattle.live_rewrite.specs.Whole.{FlatAnswer}

@@ -14,7 +14,7 @@ use Rattle.wa_types.specs.Runtime.{runtime_funcs, global_space, with_runtime}
 use Rattle.wa_types.specs.Pausing.{Settings}
 use Rattle.wa_types.specs.Bounds.{Bound}
 use Rattle.wa_types.specs.Validity.{all_below, exported, start_indices, start_fits, Valid}
-use Rattle.wa_model.specs.FlatFits.{one_run}
+use Rattle.run_theory.specs.FlatFits.{one_run}
 use Rattle.wa_model.specs.Machine.{Ran}
 use Rattle.wa_model.specs.Plan.{Plan, Outcome}
 use Rattle.wa_model.specs.Outside.{Event}

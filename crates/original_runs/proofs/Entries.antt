@@ -18,13 +18,13 @@ use Rattle.wa_types.specs.Sizes.{value_fits}
 use Rattle.wa_types.specs.Syntax.{Elem, Func, FuncType, Module}
 use Rattle.wa_types.specs.Validity.{exported, start_indices}
 use Rattle.wa_model.specs.declared.answers.Area.{Area}
-use Rattle.wa_model.specs.Growth.{Each}
+use Rattle.run_theory.specs.Growth.{Each}
 use Rattle.wa_model.specs.Instantiation.{least_of}
 use Rattle.wa_model.specs.Plan.{AreaFits, Entry, EntryFits}
 use Rattle.wa_model.specs.Rewrites.{Rewrites}
-use Rattle.wa_model.proofs.FittingNames.{defined_type, not_defined}
-use Rattle.wa_model.proofs.GrownSteps.{front}
-use Rattle.wa_model.proofs.NamedModules.{each_below}
+use Rattle.run_theory.proofs.FittingNames.{defined_type, not_defined}
+use Rattle.run_theory.proofs.GrownSteps.{front}
+use Rattle.run_theory.proofs.NamedModules.{each_below}
 use Rattle.run_laws.specs.FittingStates.{EntryTyped}
 use Rattle.run_laws.proofs.Exported.{exports_free}
 use Rattle.host_setup.specs.SetUp.{NamedEntry, all_told, entry_func, entry_funcs, func_in, is_area_in, is_five, least_pages}

@@ -7,9 +7,9 @@ use Rattle.wa_types.specs.Modules.{imported, imported_global}
 use Rattle.wa_types.specs.Sizes.{value_fits}
 use Rattle.wa_types.specs.Syntax.{Module}
 use Rattle.wa_types.specs.Typing.{GlobalType}
-use Rattle.wa_model.specs.Fitting.{types_of, global_types}
+use Rattle.run_theory.specs.Fitting.{types_of, global_types}
 use Rattle.wa_model.specs.Plan.{EntryFits, Fits, Plan}
-use Rattle.wa_model.specs.ScriptLines.{or_else}
+use Rattle.script_model.specs.ScriptLines.{or_else}
 use Rattle.wa_model.specs.World.{Actor, Original}
 use Rattle.world_laws.specs.Originals.{MayRun, Orderly, StandsIn, met}
 use Rattle.world_laws.proofs.Stories.{none_ignored}

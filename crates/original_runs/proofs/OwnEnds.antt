@@ -21,7 +21,7 @@ use Rattle.wa_model.specs.Blocking.{Note, note, no_store, call_note, value_of_re
 use Rattle.wa_model.specs.Blocking.{fault_of, pause_of, poked, done_notes, Task, the_start, an_entry, Left, with_outcomes, Asker, inside, outermost}
 use Rattle.wa_model.specs.Blocking.{store_at, stack_at, in_start, State, between, begins, runs, halts, on_to, task_back, go_on, tested, asked}
 use Rattle.wa_model.specs.Blocking.{by_step, enters, enter_next, start_called, next_entry, blocking, all_left, begun, Blocking}
-use Rattle.wa_model.proofs.Invariants.{TurnKeeps, RanKeeps, after_keeps}
+use Rattle.run_theory.proofs.Invariants.{TurnKeeps, RanKeeps, after_keeps}
 
 -- ends that come of the host's protocol, or of the number of steps
 abbrev pub is_hosts : End → Bool

@@ -18,9 +18,9 @@ use Rattle.wa_types.specs.Syntax.{Module}
 use Rattle.wa_types.specs.Typing.{GlobalType, type_of}
 use Rattle.wa_ops.specs.Operate.{are_of}
 use Rattle.wa_model.specs.declared.answers.Area.{Area}
-use Rattle.wa_model.specs.Fitting.{types_of}
-use Rattle.wa_model.specs.Script.{GlobalText, ProgramText, ShowText}
-use Rattle.wa_model.specs.ScriptLines.{or_else}
+use Rattle.run_theory.specs.Fitting.{types_of}
+use Rattle.script_model.specs.Script.{GlobalText, ProgramText, ShowText}
+use Rattle.script_model.specs.ScriptLines.{or_else}
 use Rattle.wa_model.specs.Step.{zero_of}
 use Rattle.host_setup.specs.SetUp as H
 use Rattle.script_setup.specs.SetUpRules.{SetUp, bad_global, bad_show, global_line, global_values, last_value, named_entry, overlaps}

@@ -9,7 +9,7 @@ use Rattle.wa_types.specs.Pausing.{Callee, direct}
 use Rattle.wa_types.specs.Runtime.{with_runtime}
 use Rattle.wa_types.specs.Syntax.{num, basic, call, done, plain, Func, Module}
 use Rattle.wa_model.specs.Blocking.{Left}
-use Rattle.wa_model.specs.Flat.{Stmts, no_more, computes, copies, calls}
+use Rattle.run_theory.specs.Flat.{Stmts, no_more, computes, copies, calls}
 use Rattle.wa_model.specs.Outside.{Answer}
 use Rattle.wa_model.specs.Plan.{Entry, Plan}
 use Rattle.wa_model.specs.Protocol.{exports_of}

@@ -13,7 +13,7 @@ use Rattle.wa_model.specs.Outside.{Answer, Call, AnswerLine, Event, called, answ
 use Rattle.wa_model.specs.View.{answer_of}
 use Rattle.wa_model.specs.Store.{Store}
 use Rattle.wa_model.specs.Plan.{Outcome, given, refused}
-use Rattle.wa_model.specs.Fitting.{types_of, global_types}
+use Rattle.run_theory.specs.Fitting.{types_of, global_types}
 use Rattle.wa_types.specs.Modules.{imported, imported_global, all_memories}
 use Rattle.wa_types.specs.declared.values.Value.{Value}
 use Rattle.wa_model.specs.declared.answers.Area.{Area}

@@ -17,14 +17,14 @@ use Rattle.wa_types.specs.View.{module_of}
 use Rattle.wa_model.specs.declared.answers.Area.{Area}
 use Rattle.wa_model.specs.Plan.{Entry}
 use Rattle.wa_model.specs.Instantiation.{least_of, opening}
-use Rattle.wa_model.specs.Fitting.{types_of, global_types}
+use Rattle.run_theory.specs.Fitting.{types_of, global_types}
 use Rattle.wa_model.specs.Blocking.{Left, all_left}
 use Rattle.wa_model.specs.Protocol.{held_begun}
 use Rattle.wa_model.specs.World as W
 use Rattle.wa_model.specs.World.{Look}
-use Rattle.wa_model.proofs.FittingNames.{type_small}
-use Rattle.wa_model.proofs.FittingOpenings.{openings_fit}
-use Rattle.wa_model.proofs.NamedModules.{valid_instance}
+use Rattle.run_theory.proofs.FittingNames.{type_small}
+use Rattle.run_theory.proofs.FittingOpenings.{openings_fit}
+use Rattle.run_theory.proofs.NamedModules.{valid_instance}
 use Rattle.run_laws.proofs.SpotRuns.{start_takes_none}
 use Rattle.run_laws.specs.FittingStates.{HeldFits}
 use Rattle.run_laws.proofs.ProtocolStopping.{begun_fits}

@@ -19,11 +19,11 @@ use Rattle.wa_types.specs.Modules.{func_imports, func_sorts, func_type_at, defin
 use Rattle.wa_types.specs.Validity.{Valid, all_below, exported, same_space, same_name, start_indices}
 use Rattle.wa_ops.specs.Operate.{are_of}
 use Rattle.wa_model.specs.declared.answers.Area.{Area}
-use Rattle.wa_model.specs.ScriptLines.{or_else}
+use Rattle.script_model.specs.ScriptLines.{or_else}
 use Rattle.wa_model.specs.Step.{same_func_type}
-use Rattle.wa_model.specs.Fitting.{types_of}
+use Rattle.run_theory.specs.Fitting.{types_of}
 use Rattle.wa_model.specs.Protocol.{exported_as, index_of}
-use Rattle.wa_model.proofs.FittingNames.{same_true, func_types_true, not_defined}
+use Rattle.run_theory.proofs.FittingNames.{same_true, func_types_true, not_defined}
 use Rattle.run_laws.specs.FittingStates.{Callable, EntryTyped, ExportsTyped}
 use Rattle.host_setup.specs.SetUp.{NamedEntry, Fault, no_export, entry_missing, entry_is_import, arg_types, Needed, module_fault, first_fault, func_in, func_named, is_func, is_defined_as}
 use Rattle.host_setup.specs.SetUp.{is_there, needed, is_five, entry_func, is_imported, are_args, fault_at, first_false, entry_funcs, have_args, all_told, unless_fault, set_up, area_bad}

@@ -16,7 +16,7 @@ use Rattle.wa_model.specs.Plan.{Outcome}
 use Rattle.wa_model.specs.Protocol.{Held, held_begun}
 use Rattle.wa_model.specs.World as W
 use Rattle.wa_model.specs.World.{CallsMeet, Device, Look, call_in, is_end}
-use Rattle.wa_model.specs.Fitting.{types_of, global_types}
+use Rattle.run_theory.specs.Fitting.{types_of, global_types}
 use Rattle.device_port.specs.declared.devices.Devices.{Devices}
 use Rattle.device_port.specs.Listed.{of_all}
 use Rattle.interp.specs.Host.{code_in, memory_of, store_in, waits_in}

@@ -14,7 +14,7 @@ use Rattle.vault_port.proofs.Telling.{Becomes_then}
 use Rattle.transcript.specs.declared.events.Names.{Names as NamesValue}
 use Rattle.transcript.specs.Printing.{names_of}
 use Rattle.wa_model.specs.Outside.{Line}
-use Rattle.wa_model.specs.Transcript.{Names, event_lines, event_line, event_text, last_line, line_end, names_at, no_names}
+use Rattle.script_model.specs.Transcript.{Names, event_lines, event_line, event_text, last_line, line_end, names_at, no_names}
 
 lines_append : (names : List Names) (front bs : List Line) → event_lines names (front ++ bs) ≡ event_lines names front ++ event_lines names bs
 lines_append names [] bs = refl

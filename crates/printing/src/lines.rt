@@ -6,7 +6,7 @@ ghost use Rattle.vault_port.specs.Counts.{HasRisen};
 ghost use Rattle.vault_port.specs.Taken.{Appends, AppendsLess};
 ghost use Rattle.vault_port.specs.Told.{Becomes};
 ghost use Rattle.transcript.specs.Printing.{names_of};
-ghost use Rattle.wa_model.specs.Transcript.{event_line, last_line, names_at};
+ghost use Rattle.script_model.specs.Transcript.{event_line, last_line, names_at};
 ghost use Rattle.wa_model.specs.View.{line_of};
 
 use crate::fitting::fits;

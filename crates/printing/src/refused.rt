@@ -2,7 +2,7 @@
 
 ghost use Rattle.std.specs.Prelude.{◌≡◌, ◌≢◌, ◌⊎◌, ◌≤◌, None};
 ghost use Rattle.vault_port.specs.Told.{Becomes};
-ghost use Rattle.wa_model.specs.Transcript.{read_fault, refusal_line, write_fault};
+ghost use Rattle.script_model.specs.Transcript.{read_fault, refusal_line, write_fault};
 ghost use Rattle.transcript.specs.Printing.{refusal_of};
 ghost use Rattle.printing.specs.Refused.{EndsInMemory, Prints, PrintsMemory, status_of};
 

@@ -26,7 +26,7 @@ use Rattle.range_laws.proofs.Steps.{func_in, entered_in, step_in}
 use Rattle.range_laws.proofs.Openings.{openings_in}
 use Rattle.range_laws.proofs.Host.{store_lower, store_whole, poked_store_in, FaultIn, fault_in, fault_pokes, refusal_in, note_in, call_note_in, one_note, two_notes, done_in, stack_in}
 use Rattle.range_laws.proofs.Host.{asker_store, ticks_in, result_in, optional_in, resumed_in, waits_in}
-use Rattle.wa_model.proofs.Invariants.{TurnKeeps, RanKeeps, after_keeps, leads_keeps, later_keeps}
+use Rattle.run_theory.proofs.Invariants.{TurnKeeps, RanKeeps, after_keeps, leads_keeps, later_keeps}
 
 -- a store as an answer leaves it
 pub answered_in : (low : ℕ) (s : Store) (a : Answer) → AnswerFits a → All (PokeInside (length s.memory)) a.pokes → StoreIn low s → StoreIn low (poked s a.pokes)

@@ -18,7 +18,7 @@ use Rattle.wa_model.specs.Configuration.{Activation, Configuration, suspended}
 use Rattle.wa_model.specs.Plan.{Entry, Plan, PokeFits, AnswerFits, ValueFits, IsRefusal}
 use Rattle.wa_model.specs.Blocking.{Note, note, call_note, answers, overlap, poke_fits, bad_poke, is_unlisted, bad_pause, or_else, fault_of, pause_of, poked_memory, poked, resumed}
 use Rattle.wa_model.specs.Blocking.{done_notes, value_of_results, Asker, inside, outermost, store_at, stack_at}
-use Rattle.wa_model.specs.LawfulStacks.{SuspendedIn}
+use Rattle.run_theory.specs.LawfulStacks.{SuspendedIn}
 use Rattle.range_laws.specs.Ranges.{ValuesIn, MemoryIn, StoreIn, ActivationIn, ConfigurationIn, EndIn, EventIn, TicksIn, NoteIn, AskerIn, PokeInside, WaitsIn}
 use Rattle.range_laws.proofs.Acts.{none_in, more_in, first_in}
 use Rattle.range_laws.proofs.Bytes.{overwritten_in}

@@ -31,7 +31,7 @@ use Rattle.wa_model.specs.Protocol.{Exports, exports_of, Phase, is_running, unwi
 use Rattle.wa_model.specs.Protocol.{starting, busy, calling, aside, entering, over, put_word, with_words, used_of, protocol, broken, held_on, held_back, held_given, held_ends, held_pauses}
 use Rattle.wa_model.specs.Protocol.{held_tested, held_asked, trap_end, busy_step, is_state, zeros_of, answer_note, aside_back, aside_step, busy_enters, held_next, aside_called, held_start}
 use Rattle.wa_model.specs.Protocol.{held_started, held_begun, held_continued, store_held}
-use Rattle.wa_model.specs.LawfulStacks.{SuspendedIn}
+use Rattle.run_theory.specs.LawfulStacks.{SuspendedIn}
 use Rattle.range_laws.specs.Ranges.{byte_in, CodesIn, ValuesIn, MemoryIn, StoreIn, ActivationIn, NextIn, EndIn, TicksIn, NoteIn, EntryIn, LeftIn, AskerIn, PokeInside, PhaseIn, ThenIn}
 use Rattle.range_laws.specs.Ranges.{HeldIn, HeldFrom, OpeningIn, ProtocolIn, ProtocolHoldsArea, ProtocolMemoryGrows, ProtocolLater, FitsIn, FitsAreas, ComparedIn}
 use Rattle.range_laws.proofs.Acts.{none_in, more_in}
@@ -40,7 +40,7 @@ use Rattle.range_laws.proofs.Steps.{func_in, entered_in, step_in, zeros_in}
 use Rattle.range_laws.proofs.Openings.{openings_in}
 use Rattle.range_laws.proofs.Host.{store_lower, store_whole, notes_lower, poked_store_in, FaultIn, fault_in, fault_pokes, refusal_in, note_in, call_note_in, one_note, two_notes, done_in}
 use Rattle.range_laws.proofs.Host.{stack_in, asker_store, ticks_in, result_in, optional_in, resumed_in, waits_in}
-use Rattle.wa_model.proofs.Invariants.{TurnKeeps, run_keeps, after_keeps, leads_keeps, later_keeps}
+use Rattle.run_theory.proofs.Invariants.{TurnKeeps, run_keeps, after_keeps, leads_keeps, later_keeps}
 use Rattle.range_laws.proofs.BlockingRuns.{answered_in, left_outcomes, left_entries, no_store_in, well_formed_in, blocking_in}
 
 -- ---- the area

@@ -6,11 +6,11 @@ use Rattle.wa_model.specs.Machine.{Leads}
 use Rattle.wa_model.specs.Configuration.{Configuration}
 use Rattle.wa_model.specs.Step.{Next, steps, asks, returns, traps, stuck, step}
 use Rattle.wa_model.specs.Blocking.{Note}
-use Rattle.wa_model.specs.Alone.{alone, alone_next, Finish, FinishesAt, EndsAs, by_finish, by_steps}
+use Rattle.run_theory.specs.Alone.{alone, alone_next, Finish, FinishesAt, EndsAs, by_finish, by_steps}
 use Rattle.range_laws.specs.Ranges.{CodesIn, ActivationIn, ConfigurationIn, NextIn, FinishIn, StretchesIn, EndsIn, CallsIn, AnswersIn}
 use Rattle.range_laws.proofs.Steps.{func_in, entered_in, step_in}
 use Rattle.range_laws.proofs.Host.{resumed_in, waits_in}
-use Rattle.wa_model.proofs.Invariants.{TurnKeeps, leads_keeps}
+use Rattle.run_theory.proofs.Invariants.{TurnKeeps, leads_keeps}
 
 module _ (m : Module) (w : CodesIn m) (low : ℕ) where
   alone_keeps : (o : Next) → NextIn low o → TurnKeeps (alone (λ c. true) m) (ConfigurationIn low) (λ (x : Note). Unit {0}) (alone_next true o)

@@ -11,7 +11,7 @@ use Rattle.wa_types.specs.Pausing.{Settings, is_told}
 use Rattle.wa_types.specs.Runtime.{global_space, runtime_funcs, with_runtime}
 use Rattle.wa_types.specs.Syntax.{Func, FuncType, Module}
 use Rattle.wa_types.specs.Typing.{Around}
-use Rattle.wa_model.proofs.GrownSteps.{front}
+use Rattle.run_theory.proofs.GrownSteps.{front}
 use Rattle.rewrite_form.specs.EmittedBy.{FrameCode, written_by, func_by, funcs_by, asyncified_by}
 
 abbrev pub sort_of : Func → ℕ

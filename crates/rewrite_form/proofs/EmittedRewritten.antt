@@ -14,11 +14,11 @@ use Rattle.wa_types.specs.Runtime.{with_runtime, runtime_exports}
 use Rattle.wa_types.specs.Syntax.{Func, Elem, Module}
 use Rattle.wa_types.specs.Typing.{Typed}
 use Rattle.wa_types.specs.Validity.{Valid, all_below, start_fits, exported, start_indices}
-use Rattle.wa_model.specs.Quiet.{FreeOfNames}
+use Rattle.run_theory.specs.Quiet.{FreeOfNames}
 use Rattle.wa_model.specs.Rewrites.{SameFunc, RewrittenFunc}
-use Rattle.wa_model.proofs.GrownSteps.{front}
-use Rattle.wa_model.proofs.NamedModules.{valid_named}
-use Rattle.wa_model.proofs.RuntimeValid.{behind, runtime_valid}
+use Rattle.run_theory.proofs.GrownSteps.{front}
+use Rattle.run_theory.proofs.NamedModules.{valid_named}
+use Rattle.run_theory.proofs.RuntimeValid.{behind, runtime_valid}
 use Rattle.rewrite_form.specs.CodesHold.{AllCodesHold}
 use Rattle.rewrite_form.specs.Emitted.{layout_codes}
 use Rattle.rewrite_form.specs.EmittedBy.{FrameCode, func_by}

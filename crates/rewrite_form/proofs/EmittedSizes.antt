@@ -19,12 +19,12 @@ use Rattle.wa_types.specs.Sizes.{params_of_type, kind_sorts, all_sorts, params_a
 use Rattle.wa_types.specs.Syntax.{basic, local_get, local_set, local_tee, br, br_if, br_table, return, unreachable, call, call_indirect, Plain, Code, done, plain, nest, branch, Func, Module}
 use Rattle.wa_types.specs.Validity.{Valid}
 use Rattle.wa_types.proofs.SizeBounds.{weight_fits}
-use Rattle.wa_model.specs.Flat.{code_of, body_of, followed_by}
+use Rattle.run_theory.specs.Flat.{code_of, body_of, followed_by}
 use Rattle.slim_modules.specs.Pieces.{first_piece, flat_units, units}
 use Rattle.slim_modules.specs.SlimModule.{Pieces, flat_terms}
 use Rattle.slim_modules.proofs.UnitsSlim.{units_law}
-use Rattle.wa_model.specs.FlatFits.{one_run}
-use Rattle.wa_model.specs.Growth.{Each}
+use Rattle.run_theory.specs.FlatFits.{one_run}
+use Rattle.run_theory.specs.Growth.{Each}
 use Rattle.wa_model.specs.Rewrites.{instructions_and_labels}
 use Rattle.slim_modules.proofs.Calls.{calls_stay}
 use Rattle.slim_modules.proofs.Whole.{meets}
@@ -32,8 +32,8 @@ use Rattle.slim_modules.specs.Flatten.{flattened}
 use Rattle.slim_modules.specs.FlatModule.{extra_types}
 use Rattle.slim_modules.specs.Functions.{indices_of}
 use Rattle.slim_modules.proofs.Grouped.{joins_law}
-use Rattle.wa_model.proofs.GrownSteps.{front}
-use Rattle.wa_model.proofs.RuntimeValid.{behind}
+use Rattle.run_theory.proofs.GrownSteps.{front}
+use Rattle.run_theory.proofs.RuntimeValid.{behind}
 use Rattle.run_laws.proofs.Sizes.{one_more, params_more, runtime_keeps_sizes}
 use Rattle.rewrite_form.specs.CodesHold.{AllCodesHold, AllCodesSmall, CodeQuiet, CodesHold, codes_size, three}
 use Rattle.rewrite_form.specs.Emitted.{layout_codes}

@@ -11,8 +11,8 @@ use Rattle.wa_types.specs.Pausing.{Callee, callee, callee_onto, calls_of}
 use Rattle.wa_types.specs.Sizes.{plain_lists, code_lists}
 use Rattle.wa_model.specs.declared.flat.Operand.{Operand}
 use Rattle.wa_model.specs.declared.flat.Operand.TheVariants.{Local, Const}
-use Rattle.wa_model.specs.Flat.{followed_by, got, set_to, slots_got, result_got}
-use Rattle.wa_model.specs.Growth.{Each}
+use Rattle.run_theory.specs.Flat.{followed_by, got, set_to, slots_got, result_got}
+use Rattle.run_theory.specs.Growth.{Each}
 use Rattle.local_spill.specs.declared.frames.Place.{Place}
 use Rattle.local_spill.specs.Spilling.{SpillIndices, location_of, room_tested, stored_value, loaded_value, locals_stored, locals_loaded, saving, restoring}
 use Rattle.wa_model.specs.Store.{gives}

@@ -14,7 +14,7 @@ use Rattle.wa_types.specs.Typing.{Around, listed, sig, label}
 use Rattle.wa_types.specs.Points.{after}
 use Rattle.wa_model.specs.Rewrites.{instructions_and_labels}
 use Rattle.wa_model.specs.declared.flat.Operand.TheVariants.{Local}
-use Rattle.wa_model.specs.Flat.{Stmts, no_more, leaps, leaps_if, leaps_by, followed_by, code_of, body_of, result_got}
+use Rattle.run_theory.specs.Flat.{Stmts, no_more, leaps, leaps_if, leaps_by, followed_by, code_of, body_of, result_got}
 use Rattle.slim_modules.specs.Flatten.{Names, names, top, carry_to, carry, carry_all, arrive, flat_plain, flat, flattened}
 use Rattle.slim_modules.proofs.Depths.{flat_is_flat}
 use Rattle.slim_modules.proofs.Sizes.{flat_is_small}

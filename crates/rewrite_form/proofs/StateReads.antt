@@ -11,10 +11,10 @@ use Rattle.wa_types.specs.Runtime.{global_space}
 use Rattle.wa_types.specs.Syntax.{Plain, global_get, basic, a_block, Code, done, plain, nest, branch, Func, Module}
 use Rattle.wa_types.specs.Typing.{Typed, listed}
 use Rattle.wa_types.specs.Validity.{Valid}
-use Rattle.wa_model.specs.Flat.{Stmts, code_of, followed_by, result_got}
-use Rattle.wa_model.specs.Growth.{CodeNamed, PlainNamed, Spaces, spaces_of}
-use Rattle.wa_model.proofs.FittingNames.{type_small, func_type_small}
-use Rattle.wa_model.proofs.NamedModules.{typed_named, valid_named}
+use Rattle.run_theory.specs.Flat.{Stmts, code_of, followed_by, result_got}
+use Rattle.run_theory.specs.Growth.{CodeNamed, PlainNamed, Spaces, spaces_of}
+use Rattle.run_theory.proofs.FittingNames.{type_small, func_type_small}
+use Rattle.run_theory.proofs.NamedModules.{typed_named, valid_named}
 use Rattle.local_spill.specs.Spilling.{index_restored, index_saved, location_raised, locals_loaded, locals_stored}
 use Rattle.local_spill.specs.declared.frames.Place.{Place}
 use Rattle.frame_laws.specs.Layout.{Layout, fields_size, placed, restore_code, save_code}

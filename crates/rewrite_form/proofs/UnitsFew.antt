@@ -2,7 +2,7 @@
 use Rattle.std.proofs.Common.{ℕ, suc, ◌+◌, ◌≤◌, List, Option, Some, None, Bool, true, false, arith}
 use Rattle.std.specs.Prelude.{◌||◌, if◌then◌else◌}
 use Rattle.wa_types.specs.Pausing.{Callee}
-use Rattle.wa_model.specs.Flat.{Stmts, no_more, computes, copies, calls, leaps, leaps_if, leaps_by, nests, decides, halts, last_of}
+use Rattle.run_theory.specs.Flat.{Stmts, no_more, computes, copies, calls, leaps, leaps_if, leaps_by, nests, decides, halts, last_of}
 use Rattle.slim_modules.specs.Bounds.{unit_count}
 use Rattle.slim_modules.specs.Pieces.{nest_unit, if_unit, numbered, holds_call, call_total, first_piece, unit_call, units}
 

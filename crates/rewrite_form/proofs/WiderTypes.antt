@@ -13,14 +13,14 @@ use Rattle.wa_types.specs.Runtime.{func_space, global_space, runtime_types, runt
 use Rattle.wa_types.specs.Syntax.{Plain, local_get, local_set, local_tee, Code, done, plain, nest, branch, br, br_if, br_table, FuncType, Func, Module}
 use Rattle.wa_types.specs.Typing.{Around, Sig, listed, gets, sets, tees, sig, Takes, label, Types}
 use Rattle.wa_types.specs.Validity.{Valid}
-use Rattle.wa_model.specs.Flat.{Stmts, no_more, computes, copies, calls, leaps, leaps_if, leaps_by, nests, decides, halts, followed_by, got, all_got, set_to, slots_got, last_of}
-use Rattle.wa_model.specs.FlatTyped.{StmtsTyped}
-use Rattle.wa_model.specs.Growth.{grown_module}
-use Rattle.wa_model.proofs.BaseValid.{base_valid, base_wider}
-use Rattle.wa_model.proofs.GrownSteps.{ModuleNamed, front, sort_stays, type_stays}
-use Rattle.wa_model.proofs.NamedModules.{valid_named}
-use Rattle.wa_model.proofs.RuntimeValid.{behind}
-use Rattle.wa_model.proofs.WiderTyping.{Wider, types_wider, state_type}
+use Rattle.run_theory.specs.Flat.{Stmts, no_more, computes, copies, calls, leaps, leaps_if, leaps_by, nests, decides, halts, followed_by, got, all_got, set_to, slots_got, last_of}
+use Rattle.run_theory.specs.FlatTyped.{StmtsTyped}
+use Rattle.run_theory.specs.Growth.{grown_module}
+use Rattle.run_theory.proofs.BaseValid.{base_valid, base_wider}
+use Rattle.run_theory.proofs.GrownSteps.{ModuleNamed, front, sort_stays, type_stays}
+use Rattle.run_theory.proofs.NamedModules.{valid_named}
+use Rattle.run_theory.proofs.RuntimeValid.{behind}
+use Rattle.run_theory.proofs.WiderTyping.{Wider, types_wider, state_type}
 
 -- ---- more locals
 

@@ -14,12 +14,12 @@ use Rattle.wa_types.specs.Runtime.{global_space, with_runtime}
 use Rattle.wa_types.specs.Syntax.{a_block, Code, nest, Func, Module}
 use Rattle.wa_types.specs.Typing.{Around, listed, Types, Typed}
 use Rattle.wa_types.specs.Validity.{Valid}
-use Rattle.wa_model.specs.Flat.{code_of, result_got}
-use Rattle.wa_model.specs.FlatFits.{one_run}
-use Rattle.wa_model.specs.FlatTyped.{StmtsTyped}
-use Rattle.wa_model.proofs.BaseValid.{base_has_memory}
-use Rattle.wa_model.proofs.FittingNames.{type_small, func_type_small}
-use Rattle.wa_model.proofs.RuntimeValid.{behind}
+use Rattle.run_theory.specs.Flat.{code_of, result_got}
+use Rattle.run_theory.specs.FlatFits.{one_run}
+use Rattle.run_theory.specs.FlatTyped.{StmtsTyped}
+use Rattle.run_theory.proofs.BaseValid.{base_has_memory}
+use Rattle.run_theory.proofs.FittingNames.{type_small, func_type_small}
+use Rattle.run_theory.proofs.RuntimeValid.{behind}
 use Rattle.slim_modules.specs.Flatten.{flattened}
 use Rattle.slim_modules.specs.FlatModule.{extra_types}
 use Rattle.slim_modules.proofs.Typing.{wide, body_types, body_stmts}

@@ -10,7 +10,7 @@ use Rattle.wa_types.specs.Pausing.{save_all, Settings}
 use Rattle.wa_types.specs.Pruned.{pruned}
 use Rattle.wa_types.specs.Syntax.{Code, done, Func, Module}
 use Rattle.wa_types.specs.Validity.{Valid}
-use Rattle.wa_model.specs.Growth.{Each}
+use Rattle.run_theory.specs.Growth.{Each}
 use Rattle.wa_model.specs.Rewrites.{instructions_and_labels}
 use Rattle.frame_laws.specs.Layout.{kept, gap, kept_count, Layout, fields_size, placed, spilled_by, restore_code, save_code}
 use Rattle.frame_laws.proofs.FrameSizes.{function_size, function_depth}

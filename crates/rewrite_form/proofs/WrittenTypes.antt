@@ -11,8 +11,8 @@ use Rattle.wa_types.specs.Pausing.{save_all, Settings}
 use Rattle.wa_types.specs.Runtime.{global_space}
 use Rattle.wa_types.specs.Syntax.{done, Func, Module}
 use Rattle.wa_types.specs.Typing.{Around, Types}
-use Rattle.wa_model.proofs.GrownSteps.{front}
-use Rattle.wa_model.proofs.RuntimeValid.{behind}
+use Rattle.run_theory.proofs.GrownSteps.{front}
+use Rattle.run_theory.proofs.RuntimeValid.{behind}
 use Rattle.slim_modules.specs.Flatten.{flattened}
 use Rattle.frame_laws.specs.Layout.{kept, gap, restore_code, save_code}
 use Rattle.frame_laws.specs.Typed.{FieldsTyped, LayoutTyped}

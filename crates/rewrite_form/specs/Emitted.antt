@@ -6,7 +6,7 @@ use Rattle.wa_types.specs.Modules.{locals_of}
 use Rattle.wa_types.specs.Pausing.{save_all, Settings, Numbered}
 use Rattle.wa_types.specs.Runtime.{global_space}
 use Rattle.wa_types.specs.Syntax.{done, Func, Module}
-use Rattle.wa_model.specs.Flat.{FlatFunc}
+use Rattle.run_theory.specs.Flat.{FlatFunc}
 use Rattle.slim_modules.specs.Flatten.{flattened}
 use Rattle.slim_modules.specs.FlatModule.{stacks_in}
 use Rattle.frame_laws.specs.Layout.{FrameField, kept, gap, Layout, save_code, restore_code}

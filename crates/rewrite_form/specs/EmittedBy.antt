@@ -5,7 +5,7 @@ use Rattle.wa_types.specs.Modules.{func_imports}
 use Rattle.wa_types.specs.Pausing.{Settings, is_told}
 use Rattle.wa_types.specs.Runtime.{global_space, with_runtime}
 use Rattle.wa_types.specs.Syntax.{Code, Func, Module}
-use Rattle.wa_model.specs.FlatFits.{one_run}
+use Rattle.run_theory.specs.FlatFits.{one_run}
 use Rattle.slim_modules.specs.Flatten.{flattened}
 use Rattle.slim_modules.specs.FlatModule.{extra_types}
 use Rattle.slim_modules.specs.Functions.{GuardedFunc, with_guards, written_code}

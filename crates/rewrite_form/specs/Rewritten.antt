@@ -7,7 +7,7 @@ use Rattle.wa_types.specs.Runtime.{with_runtime}
 use Rattle.wa_types.specs.Syntax.{Func, Module}
 use Rattle.wa_types.specs.Validity.{Valid}
 use Rattle.wa_model.specs.Behaves.{Behaves}
-use Rattle.wa_model.specs.Quiet.{FreeOfNames}
+use Rattle.run_theory.specs.Quiet.{FreeOfNames}
 use Rattle.wa_model.specs.Rewrites.{SameFunc, RewrittenFunc, Rewrites}
 use Rattle.slim_modules.specs.SlimModule.{Pieces}
 use Rattle.rewrite_form.specs.CodesHold.{AllSlim}

@@ -15,8 +15,8 @@ use Rattle.wa_types.specs.Modules.{imported, imported_func, func_imports, define
 use Rattle.wa_types.specs.Validity.{Valid, same_name, all_differ}
 use Rattle.wa_types.specs.Runtime.{func_space, global_space, runtime_funcs, runtime_exports, runtime_names, with_runtime}
 use Rattle.wa_model.specs.Protocol.{index_of, exported_as}
-use Rattle.wa_model.specs.Quiet.{FreeOfNames}
-use Rattle.wa_model.proofs.Runs.{lt_false}
+use Rattle.run_theory.specs.Quiet.{FreeOfNames}
+use Rattle.run_theory.proofs.Runs.{lt_false}
 use Rattle.run_laws.specs.RuntimeParts.{RuntimeExported, RuntimeIsExported, RewrittenIsExported}
 
 same_is : (xs ys : List ℕ) → same_name xs ys ≡ true → xs ≡ ys

@@ -24,12 +24,12 @@ use Rattle.wa_model.specs.Step.{Next, steps, asks, returns, traps, stuck, result
 use Rattle.wa_model.specs.Step.{same_func_type, through, memory_max, step_at, step}
 use Rattle.wa_model.specs.Plan.{Plan}
 use Rattle.wa_model.specs.Blocking.{Note, Left, State, runs, by_step, blocking, store_of}
-use Rattle.wa_model.specs.Keeping.{in_area, keeps_basic, keeps_code, keeps}
+use Rattle.run_theory.specs.Keeping.{in_area, keeps_basic, keeps_code, keeps}
 use Rattle.run_laws.specs.Stretches.{KeptWhileBusy, KeptAside, KeptBlocking}
 use Rattle.wa_model.specs.Protocol.{Exports, Phase, is_running, unwinds, rewinds, busy, aside, busy_step, aside_step, Held, protocol, store_held}
-use Rattle.wa_model.specs.Alone.{alone_next, alone}
+use Rattle.run_theory.specs.Alone.{alone_next, alone}
 use Rattle.wa_model.specs.Expected.{SameEnd}
-use Rattle.wa_model.proofs.Runs.{one_move, too_dear}
+use Rattle.run_theory.proofs.Runs.{one_move, too_dear}
 
 -- ---- lists
 

@@ -23,13 +23,13 @@ use Rattle.wa_model.specs.Protocol.{Exports, exports_of, Phase, is_running, unwi
 use Rattle.wa_model.specs.Protocol.{starting, busy, calling, aside, entering, over, with_words, used_of, broken, held_on, held_back, held_given, held_pauses, held_tested, held_asked}
 use Rattle.wa_model.specs.Protocol.{trap_end, busy_step, is_state, zeros_of, answer_note, aside_back, aside_step, busy_enters, held_next, aside_called, held_start, protocol, held_started}
 use Rattle.wa_model.specs.Protocol.{held_begun, held_continued, Protocol}
-use Rattle.wa_model.specs.Fitting.{types_of, results_of, global_types, StoreFits, CallersFit, WaitingFits, NextFits}
-use Rattle.wa_model.proofs.Invariants.{TurnKeeps, RanKeeps, after_keeps, leads_keeps}
-use Rattle.wa_model.proofs.FittingNames.{not_defined, results_are, zeros_typed}
-use Rattle.wa_model.proofs.FittingSteps.{steps_fit}
-use Rattle.wa_model.proofs.FittingRuns.{calls_fit, answers_fit}
-use Rattle.wa_model.proofs.FittingOpenings.{openings_fit}
-use Rattle.wa_model.proofs.NamedModules.{valid_instance}
+use Rattle.run_theory.specs.Fitting.{types_of, results_of, global_types, StoreFits, CallersFit, WaitingFits, NextFits}
+use Rattle.run_theory.proofs.Invariants.{TurnKeeps, RanKeeps, after_keeps, leads_keeps}
+use Rattle.run_theory.proofs.FittingNames.{not_defined, results_are, zeros_typed}
+use Rattle.run_theory.proofs.FittingSteps.{steps_fit}
+use Rattle.run_theory.proofs.FittingRuns.{calls_fit, answers_fit}
+use Rattle.run_theory.proofs.FittingOpenings.{openings_fit}
+use Rattle.run_theory.proofs.NamedModules.{valid_instance}
 use Rattle.stack_laws.proofs.SpotRuns.{answer_typed, or_else_first, test_passed, listed_typed, start_takes_none}
 use Rattle.stack_laws.proofs.StandingPauses.{fault_outside}
 use Rattle.run_laws.specs.FittingStates.{Callable, EntryTyped, LeftTyped, SomeLeft, TaskTyped, AnswerTyped, PhaseTyped, ThenFits, HeldFits, ExportsTyped}

@@ -15,10 +15,10 @@ use Rattle.wa_model.specs.Machine.{goes, stays, moves}
 use Rattle.wa_model.specs.Store.{Store, Did, works, fails, lacks, takes, act, computed, Access}
 use Rattle.wa_model.specs.Configuration.{Label, block_label, loop_label, Activation, Configuration, running}
 use Rattle.wa_model.specs.Step.{Next, steps, asks, returns, traps, stuck, result_count, leave, jump, finish, did, with_top, with_number, choose, arity_of, memory_max, step_at, step}
-use Rattle.wa_model.specs.Alone.{alone_next}
+use Rattle.run_theory.specs.Alone.{alone_next}
 use Rattle.wa_model.specs.Blocking.{Note, overlap}
 use Rattle.wa_model.specs.Untouched.{StaysOff, next_access}
-use Rattle.wa_model.specs.Keeping.{keeps_basic, keeps_code, silent_basic, silent_code, silent, stays_off}
+use Rattle.run_theory.specs.Keeping.{keeps_basic, keeps_code, silent_basic, silent_code, silent, stays_off}
 use Rattle.run_laws.specs.Stretches.{SilentIsKept, SilentStoresStay, CalmIsCalm}
 
 -- ---- silence is kept

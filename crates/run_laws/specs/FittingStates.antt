@@ -11,7 +11,7 @@ use Rattle.wa_model.specs.Plan.{Entry}
 use Rattle.wa_model.specs.Blocking.{Task, the_start, an_entry, Left, State, between, begins, runs, halts}
 use Rattle.wa_model.specs.Protocol.{exports_of, Phase, is_running, unwinds, rewinds, Then, give_zero, test_unwound, pause_there, call_again, test_rewound, give_answer, Held, free, starting}
 use Rattle.wa_model.specs.Protocol.{busy, calling, aside, entering, over}
-use Rattle.wa_model.specs.Fitting.{types_of, results_of, StoreFits, CallersFit, Fits}
+use Rattle.run_theory.specs.Fitting.{types_of, results_of, StoreFits, CallersFit, Fits}
 
 -- a defined function that takes operands of these types
 abbrev pub Callable : Module → ℕ → List ValType → Type 0

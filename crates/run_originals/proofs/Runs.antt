@@ -7,10 +7,10 @@ use Rattle.vault_port.specs.Files.{Files}
 use Rattle.wa_types.specs.declared.syntax.Import.{Import}
 use Rattle.wa_types.specs.Modules.{imported_func}
 use Rattle.wa_types.specs.Pausing.{Choice, Policy, joined_name, Settings}
-use Rattle.wa_model.specs.Command.{choice_said}
+use Rattle.script_model.specs.Command.{choice_said}
 use Rattle.wa_model.specs.World.{name_if}
-use Rattle.wa_model.specs.Script.{EntryText, ProgramText}
-use Rattle.wa_model.specs.Transcript.{Names, Transcript}
+use Rattle.script_model.specs.Script.{EntryText, ProgramText}
+use Rattle.script_model.specs.Transcript.{Names, Transcript}
 use Rattle.script_setup.specs.SetUpRules.{program_names}
 use Rattle.script_opening.specs.Playing.{IsStage, Play, policy_for}
 use Rattle.script_opening.specs.declared.way.Way.TheVariants.{Run}

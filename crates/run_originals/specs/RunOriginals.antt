@@ -2,7 +2,7 @@
 use Rattle.std.specs.Prelude.{◌≡◌, ℕ, List, [], ◌∷◌, length, Option, Some}
 use Rattle.std.specs.List.{AllZip}
 use Rattle.vault_port.specs.Files.{Files}
-use Rattle.wa_model.specs.Transcript.{Names, Transcript}
+use Rattle.script_model.specs.Transcript.{Names, Transcript}
 use Rattle.wa_model.specs.World.{BlockingWorld}
 use Rattle.event_order.specs.Left.{Counted}
 use Rattle.turn_taking.specs.Calls.{devices_of}

@@ -19,8 +19,8 @@ use Rattle.wa_types.specs.Validity.{Valid}
 use Rattle.wa_types.proofs.LiveLemmas.{live_reads, reads_live}
 use Rattle.wa_types.proofs.PlaceLemmas.{point_each}
 use Rattle.wa_types.proofs.SlotLemmas.{same_true, same_self}
-use Rattle.wa_model.proofs.FittingSteps.{body_typed}
-use Rattle.wa_model.specs.Flat.{FlatFunc, code_of, body_of, result_got}
+use Rattle.run_theory.proofs.FittingSteps.{body_typed}
+use Rattle.run_theory.specs.Flat.{FlatFunc, code_of, body_of, result_got}
 use Rattle.flat_laws.specs.Flatten.{Names, names, place, slot, slots, result_local, result_of, flattened}
 use Rattle.flat_laws.specs.FlatModule.{flat_func, stacks_in}
 use Rattle.flat_laws.proofs.Sizes.{stacks_are_slots}

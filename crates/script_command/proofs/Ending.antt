@@ -7,7 +7,7 @@ use Rattle.vault_port.specs.Told.{Becomes}
 use Rattle.vault_port.specs.declared.whole.PutFault.{PutFault}
 use Rattle.vault_port.specs.declared.whole.PutFault.TheVariants.{Fault, Memory}
 use Rattle.wa_model.specs.declared.answers.Detach.{Detach}
-use Rattle.wa_model.specs.Transcript.{refusal_line, read_fault}
+use Rattle.script_model.specs.Transcript.{refusal_line, read_fault}
 use Rattle.event_order.specs.Left.{Counted}
 use Rattle.printing.specs.Refused.{status_of, EndsInMemory, Prints, PrintsMemory, memory_line}
 use Rattle.printing.proofs.Printed.{memory_alone}

@@ -4,7 +4,7 @@ use Rattle.vault_port.specs.Counts.{HasRisen}
 use Rattle.vault_port.specs.Files.{Files, IsMissing}
 use Rattle.vault_port.specs.Taken.{Appends, AppendsLess}
 use Rattle.vault_port.specs.Told.{Becomes}
-use Rattle.wa_model.specs.Transcript.{read_fault, refusal_line}
+use Rattle.script_model.specs.Transcript.{read_fault, refusal_line}
 use Rattle.event_order.specs.Left.{Counted}
 use Rattle.printing.specs.Refused.{status_of, Prints, PrintsMemory}
 use Rattle.script_verdicts.specs.Way.{Way}

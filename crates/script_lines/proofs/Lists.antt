@@ -3,7 +3,7 @@ use Rattle.std.proofs.Common.{arith, ◌≡◌, ℕ, ◌+◌, ◌-◌, ◌<◌, 
 use Rattle.std.proofs.Common.{append-nil, refl}
 use Rattle.std.proofs.Math.Seq.{drop-cons}
 use Rattle.std.proofs.lemmas.List.{take_all, map-append}
-use Rattle.wa_model.specs.ScriptLines.{onto, value_in, all_values, hex_in, u32_in, poke_of, all_pokes}
+use Rattle.script_model.specs.ScriptLines.{onto, value_in, all_values, hex_in, u32_in, poke_of, all_pokes}
 use Rattle.wa_model.specs.Outside.{Poke}
 use Rattle.wa_model.specs.declared.answers.Poke.{Poke as PokeValue}
 use Rattle.wa_model.specs.View.{poke_of as view_of}

@@ -1,6 +1,6 @@
 -- What reading a part of a line answers, and the words of pokes.
 use Rattle.std.specs.Prelude.{List, ℕ, [], ◌∷◌}
-use Rattle.wa_model.specs.ScriptLines.{PokeWords}
+use Rattle.script_model.specs.ScriptLines.{PokeWords}
 pub use Rattle.line_words.specs.Reading.{Blames, Reads, begins_plainly, behind_words, or_breaks, told_words}
 
 -- words by threes, the first of each aside: the places and bytes of pokes

@@ -3,9 +3,9 @@ use Rattle.std.specs.Prelude.{Option, List, ℕ}
 use Rattle.std.specs.List.{find}
 use Rattle.std.specs.Option.{option_map}
 use Rattle.std.specs.Str.{bytes_eq}
-use Rattle.wa_model.specs.ScriptLines.{Statement, begins_program, lists_imports, ignores_imports, saves, has_area, has_steps, sets_global, binds, enters, answers, shows, detaches}
-use Rattle.wa_model.specs.ScriptLines.{Keyword, program_word, imports_word, ignore_imports_word, save_word, area_word, steps_word, global_word, device_word, enter_word, answer_word}
-use Rattle.wa_model.specs.ScriptLines.{show_word, detach_word, Spelling}
+use Rattle.script_model.specs.ScriptLines.{Statement, begins_program, lists_imports, ignores_imports, saves, has_area, has_steps, sets_global, binds, enters, answers, shows, detaches}
+use Rattle.script_model.specs.ScriptLines.{Keyword, program_word, imports_word, ignore_imports_word, save_word, area_word, steps_word, global_word, device_word, enter_word, answer_word}
+use Rattle.script_model.specs.ScriptLines.{show_word, detach_word, Spelling}
 use Rattle.wa_model.specs.View.{answer_line_of}
 use Rattle.script_lines.specs.declared.statements.Statement.{Statement as StatementValue}
 use Rattle.script_lines.specs.declared.statements.Statement.TheVariants as S

@@ -1,7 +1,7 @@
 //! Lines that answer a call of an import: its result, its ticks and its pokes.
 
 ghost use Rattle.std.specs.Prelude.{◌≡◌, ◌∷◌, ◌++◌, [], OnOk, None, Some, false, map, true};
-ghost use Rattle.wa_model.specs.ScriptLines.{all_pokes, answer_of, answer_with, answer_word, pokes_in, result_in, says, says_answer, u32_in};
+ghost use Rattle.script_model.specs.ScriptLines.{all_pokes, answer_of, answer_with, answer_word, pokes_in, result_in, says, says_answer, u32_in};
 ghost use Rattle.wa_model.specs.View.{poke_of};
 ghost use Rattle.line_words.specs.Reading.{Reads, or_breaks};
 ghost use Rattle.script_lines.specs.Reading.{triples};

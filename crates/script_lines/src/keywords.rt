@@ -2,7 +2,7 @@
 
 ghost use Rattle.std.specs.Prelude.{◌≡◌, drop};
 ghost use Rattle.std.specs.Option.{option_map};
-ghost use Rattle.wa_model.specs.ScriptLines.{keyword_in, keywords};
+ghost use Rattle.script_model.specs.ScriptLines.{keyword_in, keywords};
 ghost use Rattle.script_lines.specs.Statements.{keyword_among, keyword_of};
 
 /// The first word of a line.

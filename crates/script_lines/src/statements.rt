@@ -1,7 +1,7 @@
 //! Statements: what a line says, by its first word and those behind it.
 
-ghost use Rattle.wa_model.specs.ScriptLines.{all_values, area_word, detach_word, device_word, enter_word, global_word, ignore_imports_word, imports_word, line_says, program_word, save_word};
-ghost use Rattle.wa_model.specs.ScriptLines.{says, says_policy, says_with, show_word, steps_word, words_say};
+ghost use Rattle.script_model.specs.ScriptLines.{all_values, area_word, detach_word, device_word, enter_word, global_word, ignore_imports_word, imports_word, line_says, program_word, save_word};
+ghost use Rattle.script_model.specs.ScriptLines.{says, says_policy, says_with, show_word, steps_word, words_say};
 ghost use Rattle.std.specs.Prelude.{◌≡◌, ◌∷◌, ◌++◌, [], IfOk, OnOk, Some};
 ghost use Rattle.std.specs.Option.{option_map};
 ghost use Rattle.line_words.specs.Reading.{Reads, or_breaks};

@@ -9,7 +9,7 @@ use Rattle.vault_port.specs.Counts.{HasRisen}
 use Rattle.vault_port.specs.Files.{Files, IsMissing}
 use Rattle.wa_types.specs.View.{module_of}
 use Rattle.wa_types.specs.declared.syntax.Module.{Module as ModuleValue}
-use Rattle.wa_model.specs.Script.{ProgramText, ScriptFault, breaks}
+use Rattle.script_model.specs.Script.{ProgramText, ScriptFault, breaks}
 use Rattle.transcript.specs.Printing.{refusal_of}
 use Rattle.script_reader.specs.declared.script.ProgramText.{ProgramText as ProgramValue}
 use Rattle.script_reader.specs.Views.{program_of}

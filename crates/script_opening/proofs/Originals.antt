@@ -7,8 +7,8 @@ use Rattle.wa_types.specs.Modules.{imported_func}
 use Rattle.wa_types.specs.Pausing.{Settings}
 use Rattle.wa_types.specs.Syntax.{Module}
 use Rattle.wa_types.specs.View.{module_of}
-use Rattle.wa_model.specs.Script.{ProgramText}
-use Rattle.wa_model.specs.Transcript.{Refusal}
+use Rattle.script_model.specs.Script.{ProgramText}
+use Rattle.script_model.specs.Transcript.{Refusal}
 use Rattle.transcript.specs.Printing.{refusal_of}
 use Rattle.call_graph.proofs.GraphLemmas.{listed_count}
 use Rattle.source_modules.specs.Refusals as U

@@ -5,7 +5,7 @@ use Rattle.std.proofs.lemmas.List.{length-map}
 use Rattle.vault_port.specs.Counts.{HasRisen}
 use Rattle.vault_port.specs.Files.{Files, IsMissing}
 use Rattle.wa_model.specs.declared.answers.Detach.{Detach}
-use Rattle.wa_model.specs.Script.{ProgramText, Script}
+use Rattle.script_model.specs.Script.{ProgramText, Script}
 use Rattle.host_files.specs.Scripts.{IsScript}
 use Rattle.host_files.specs.Held.{Holds}
 use Rattle.host_files.proofs.Counts.{few_programs}

@@ -4,10 +4,10 @@ use Rattle.std.specs.Option.{option_map}
 use Rattle.vault_port.specs.Files.{Files}
 use Rattle.wa_types.specs.Pausing.{Choice, Policy, Settings, save_all, save_live}
 use Rattle.wa_types.specs.Syntax.{Module}
-use Rattle.wa_model.specs.Command.{choice_said}
+use Rattle.script_model.specs.Command.{choice_said}
 use Rattle.wa_model.specs.declared.answers.Detach.{Detach}
-use Rattle.wa_model.specs.Script.{DetachText, ProgramText, Script, breaks}
-use Rattle.wa_model.specs.Transcript.{Refusal, script}
+use Rattle.script_model.specs.Script.{DetachText, ProgramText, Script, breaks}
+use Rattle.script_model.specs.Transcript.{Refusal, script}
 use Rattle.host_modules.specs.Prepared.{IsPrepared, IsUnprepared}
 use Rattle.host_files.specs.Scripts.{IsScript, IsNoScript}
 use Rattle.host_files.specs.Held.{Holds}

@@ -5,7 +5,7 @@ use Rattle.vault_port.specs.Counts.{HasRisen}
 use Rattle.vault_port.specs.Files.{Files, IsMissing}
 use Rattle.wa_types.specs.View.{module_of}
 use Rattle.wa_types.specs.declared.syntax.Module.{Module as ModuleValue}
-use Rattle.wa_model.specs.Script.{ProgramText, ScriptFault, breaks}
+use Rattle.script_model.specs.Script.{ProgramText, ScriptFault, breaks}
 use Rattle.transcript.specs.Printing.{refusal_of}
 use Rattle.transcript.specs.declared.refusals.RefusalKind.{RefusalKind}
 use Rattle.host_files.specs.declared.fault.FileFault.{FileFault}

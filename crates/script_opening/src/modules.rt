@@ -8,7 +8,7 @@ ghost use Rattle.vault_port.specs.Counts.{HasRisen};
 ghost use Rattle.vault_port.specs.Files.{IsMissing};
 ghost use Rattle.wa_types.specs.Pausing.{list_of};
 ghost use Rattle.wa_types.specs.View.{module_of};
-ghost use Rattle.wa_model.specs.Command.{choice_said};
+ghost use Rattle.script_model.specs.Command.{choice_said};
 ghost use Rattle.script_reader.specs.Views.{program_of};
 ghost use Rattle.script_opening.specs.declared.way.Way.TheVariants.{Host, Run};
 ghost use Rattle.script_opening.specs.Playing.{policy_for, settings_for};

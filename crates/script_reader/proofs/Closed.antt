@@ -1,10 +1,10 @@
 -- Programs that are told statement by statement are the programs that groups of statements tell.
 use Rattle.std.proofs.Common.{◌≡◌, ℕ, ◌||◌, Bool, true, false, Option, Some, None, Result, Ok, Err, List, [], ◌∷◌, ◌++◌, map, sym, ap, ◌∙◌, refl, append_assoc, append-nil, slice_get}
 use Rattle.std.specs.List.{list_any}
-use Rattle.wa_model.specs.Script.{ProgramText, ScriptFault, breaks}
-use Rattle.wa_model.specs.ScriptLines.{Statement, begins_program, lists_imports, ignores_imports, saves, has_area, has_steps, sets_global, binds, enters, answers, shows, detaches, or_else}
-use Rattle.wa_model.specs.ScriptText.{Numbered, Group, AreaText, told_by, lines_by, list_of_statement, is_ignore, live_of_statement, area_of, steps_of, global_of, bind_of, entry_of}
-use Rattle.wa_model.specs.ScriptText.{answer_of, show_of, with_program, programs_of}
+use Rattle.script_model.specs.Script.{ProgramText, ScriptFault, breaks}
+use Rattle.script_model.specs.ScriptLines.{Statement, begins_program, lists_imports, ignores_imports, saves, has_area, has_steps, sets_global, binds, enters, answers, shows, detaches, or_else}
+use Rattle.script_model.specs.ScriptText.{Numbered, Group, AreaText, told_by, lines_by, list_of_statement, is_ignore, live_of_statement, area_of, steps_of, global_of, bind_of, entry_of}
+use Rattle.script_model.specs.ScriptText.{answer_of, show_of, with_program, programs_of}
 use Rattle.script_reader.specs.Drafts.{Draft, begun, more_told, told_with, one_more, closed}
 
 abbrev pub folded : Draft → List Numbered → Draft

@@ -5,12 +5,12 @@ use Rattle.std.specs.Option.{is_some}
 use Rattle.std.specs.List.{filter, list_any, cons_option}
 use Rattle.std.specs.Str.Lines.{lines}
 use Rattle.std.proofs.lemmas.Bool.{leb-true, leb-false, eq-eqb, ne_eqb}
-use Rattle.wa_model.specs.Script.{DetachText, Script, ScriptFault, breaks, too_many}
-use Rattle.wa_model.specs.ScriptLines.{Statement, begins_program, lists_imports, ignores_imports, saves, has_area, has_steps, sets_global, binds, enters, answers, shows, detaches, or_else}
-use Rattle.wa_model.specs.ScriptLines.{line_says}
-use Rattle.wa_model.specs.ScriptText.{is_program, is_detach, tells_imports, tells_policy, tells_area, tells_steps, in_program, is_repeated, has_bad_list, is_early, is_one_too_many, fault_of}
-use Rattle.wa_model.specs.ScriptText.{Numbered, onto, unless_fault, with_line as with_told, statements}
-use Rattle.wa_model.specs.ScriptText.{Grouped, grouped_with, grouped, told_by, detach_of, with_programs, script_of, script_text, most_programs}
+use Rattle.script_model.specs.Script.{DetachText, Script, ScriptFault, breaks, too_many}
+use Rattle.script_model.specs.ScriptLines.{Statement, begins_program, lists_imports, ignores_imports, saves, has_area, has_steps, sets_global, binds, enters, answers, shows, detaches, or_else}
+use Rattle.script_model.specs.ScriptLines.{line_says}
+use Rattle.script_model.specs.ScriptText.{is_program, is_detach, tells_imports, tells_policy, tells_area, tells_steps, in_program, is_repeated, has_bad_list, is_early, is_one_too_many, fault_of}
+use Rattle.script_model.specs.ScriptText.{Numbered, onto, unless_fault, with_line as with_told, statements}
+use Rattle.script_model.specs.ScriptText.{Grouped, grouped_with, grouped, told_by, detach_of, with_programs, script_of, script_text, most_programs}
 use Rattle.script_reader.specs.Drafts.{Draft, begun, more_told, repeats, fault_in, closed_last, Reading, nothing_read, or_fault, with_program, on_program, with_current}
 use Rattle.script_reader.specs.Drafts.{with_statement, with_line, and_then, read_on}
 use Rattle.script_reader.proofs.Closed.{folded, of_group, all_closed, programs_are}

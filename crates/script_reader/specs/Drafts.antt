@@ -2,10 +2,10 @@
 use Rattle.std.specs.Prelude.{ℕ, suc, ◌+◌, nat_le, ◌||◌, if◌then◌else◌, List, [], ◌∷◌, ◌++◌, Option, Some, None, Bool, true, false, Result, Ok, Err}
 use Rattle.std.specs.Option.{unwrap_or, is_some}
 use Rattle.wa_model.specs.Outside.{AnswerLine}
-use Rattle.wa_model.specs.Script.{GlobalText, BindText, EntryText, ShowText, DetachText, ProgramText, Script, ScriptFault, breaks, too_many}
-use Rattle.wa_model.specs.ScriptLines.{Statement, begins_program, lists_imports, ignores_imports, saves, has_area, has_steps, sets_global, binds, enters, answers, shows, detaches, or_else}
-use Rattle.wa_model.specs.ScriptLines.{line_says}
-use Rattle.wa_model.specs.ScriptText.{AreaText, default_steps, most_programs, has_bad_list, with_programs}
+use Rattle.script_model.specs.Script.{GlobalText, BindText, EntryText, ShowText, DetachText, ProgramText, Script, ScriptFault, breaks, too_many}
+use Rattle.script_model.specs.ScriptLines.{Statement, begins_program, lists_imports, ignores_imports, saves, has_area, has_steps, sets_global, binds, enters, answers, shows, detaches, or_else}
+use Rattle.script_model.specs.ScriptLines.{line_says}
+use Rattle.script_model.specs.ScriptText.{AreaText, default_steps, most_programs, has_bad_list, with_programs}
 
 -- A program, as far as it is told.
 pub record Draft : Type 0 where

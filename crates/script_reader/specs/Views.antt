@@ -3,8 +3,8 @@ use Rattle.std.specs.Prelude.{◌≡◌, ℕ, [], ◌∷◌, ◌++◌, List, Opt
 use Rattle.std.specs.Option.{option_map}
 use Rattle.wa_model.specs.declared.answers.Detach.{Detach}
 use Rattle.wa_model.specs.View.{answer_line_of}
-use Rattle.wa_model.specs.ScriptText.{AreaText}
-use Rattle.wa_model.specs.Script as T
+use Rattle.script_model.specs.ScriptText.{AreaText}
+use Rattle.script_model.specs.Script as T
 use Rattle.script_reader.specs.declared.faults.ScriptFault.{ScriptFault}
 use Rattle.script_reader.specs.declared.faults.ScriptFault.TheVariants.{Memory, Rule, TooMany}
 use Rattle.script_reader.specs.declared.script.GlobalText.{GlobalText}

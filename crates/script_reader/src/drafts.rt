@@ -2,9 +2,9 @@
 
 ghost use Rattle.std.specs.Prelude.{◌≡◌, ◌∷◌, ◌++◌, [], OnOk, Result, Some, ℕ, None, List, if◌then◌else◌};
 ghost use Rattle.wa_types.specs.Pausing.{list_of};
-ghost use Rattle.wa_model.specs.Script.{ProgramText as PlainProgram, breaks};
-ghost use Rattle.wa_model.specs.ScriptLines.{answers, binds, enters, has_area, has_steps, ignores_imports, lists_imports, saves, sets_global, shows};
-ghost use Rattle.wa_model.specs.ScriptText.{is_error};
+ghost use Rattle.script_model.specs.Script.{ProgramText as PlainProgram, breaks};
+ghost use Rattle.script_model.specs.ScriptLines.{answers, binds, enters, has_area, has_steps, ignores_imports, lists_imports, saves, sets_global, shows};
+ghost use Rattle.script_model.specs.ScriptText.{is_error};
 ghost use Rattle.wa_model.specs.View.{answer_line_of};
 ghost use Rattle.script_lines.specs.Statements.{statement_of};
 ghost use Rattle.script_reader.specs.Drafts.{begun, on_program, one_more, or_fault};

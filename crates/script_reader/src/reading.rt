@@ -2,8 +2,8 @@
 
 ghost use Rattle.std.specs.Prelude.{◌≡◌, ◌≤◌, length, OnOk};
 ghost use Rattle.std.specs.Option.{option_map};
-ghost use Rattle.wa_model.specs.ScriptLines.{line_says};
-ghost use Rattle.wa_model.specs.ScriptText.{script_text};
+ghost use Rattle.script_model.specs.ScriptLines.{line_says};
+ghost use Rattle.script_model.specs.ScriptText.{script_text};
 ghost use Rattle.script_lines.specs.Statements.{line_of, statement_of};
 ghost use Rattle.script_reader.specs.Drafts.{closed, closed_last, ended, nothing_read, with_line, with_program, with_statement};
 ghost use Rattle.script_reader.specs.Views.{Reads, draft_of, programs_of, reading_of, script_of};

@@ -23,8 +23,8 @@ use Rattle.wa_types.specs.Encoding.{same_type}
 use Rattle.wa_types.specs.Modules.{imported_global}
 use Rattle.wa_types.specs.Pausing.{joined_name}
 use Rattle.wa_types.specs.Typing.{GlobalType, type_of}
-use Rattle.wa_model.specs.Script.{GlobalText}
-use Rattle.wa_model.specs.ScriptLines.{or_else}
+use Rattle.script_model.specs.Script.{GlobalText}
+use Rattle.script_model.specs.ScriptLines.{or_else}
 use Rattle.script_reader.specs.declared.script.GlobalText.{GlobalText as GlobalValue}
 use Rattle.script_reader.specs.Views.{global_of}
 use Rattle.script_setup.specs.declared.globals.Types.{Types}

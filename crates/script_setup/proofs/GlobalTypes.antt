@@ -15,9 +15,9 @@ use Rattle.wa_types.specs.Modules.{imported, imported_global}
 use Rattle.wa_types.specs.Pausing.{joined_name}
 use Rattle.wa_types.specs.Syntax.{Module}
 use Rattle.wa_types.specs.Typing.{GlobalType, type_of}
-use Rattle.wa_model.specs.Fitting.{types_of, global_types}
-use Rattle.wa_model.specs.Script.{GlobalText, ProgramText, ScriptFault}
-use Rattle.wa_model.specs.ScriptLines.{or_else}
+use Rattle.run_theory.specs.Fitting.{types_of, global_types}
+use Rattle.script_model.specs.Script.{GlobalText, ProgramText, ScriptFault}
+use Rattle.script_model.specs.ScriptLines.{or_else}
 use Rattle.wa_model.specs.Step.{zero_of}
 use Rattle.host_setup.specs.SetUp as H
 use Rattle.script_setup.specs.SetUpRules.{SetUp, has_type, is_global, imports_global, is_set, other_type, bad_global, last_value, value_or_zero, global_values, told_at, global_line}

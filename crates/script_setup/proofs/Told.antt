@@ -8,7 +8,7 @@ use Rattle.std.proofs.lemmas.List.{length-map}
 use Rattle.wa_types.specs.Syntax.{Module}
 use Rattle.wa_types.specs.declared.syntax.Import.{Import}
 use Rattle.wa_model.specs.declared.answers.Area.{Area}
-use Rattle.wa_model.specs.Script.{GlobalText, ProgramText, ScriptFault, breaks}
+use Rattle.script_model.specs.Script.{GlobalText, ProgramText, ScriptFault, breaks}
 use Rattle.host_setup.specs.declared.faults.SetupFault.{SetupFault}
 use Rattle.host_setup.specs.declared.faults.SetupFault.TheVariants as S
 use Rattle.host_setup.specs.SetUp as H

@@ -13,10 +13,10 @@ use Rattle.wa_types.specs.Modules.{imported_global}
 use Rattle.wa_types.specs.Pausing.{joined_name}
 use Rattle.wa_types.specs.Typing.{GlobalType, type_of}
 use Rattle.wa_model.specs.declared.answers.Area.{Area}
-use Rattle.wa_model.specs.Script.{GlobalText, EntryText, ShowText, ProgramText, ScriptFault, breaks}
-use Rattle.wa_model.specs.ScriptLines.{or_else}
+use Rattle.script_model.specs.Script.{GlobalText, EntryText, ShowText, ProgramText, ScriptFault, breaks}
+use Rattle.script_model.specs.ScriptLines.{or_else}
 use Rattle.wa_model.specs.Step.{zero_of}
-use Rattle.wa_model.specs.Transcript.{Names}
+use Rattle.script_model.specs.Transcript.{Names}
 use Rattle.wa_model.specs.World.{import_names}
 use Rattle.host_setup.specs.SetUp.{NamedEntry, Fault, area_bad, no_export, entry_missing, entry_is_import, arg_types, set_up}
 

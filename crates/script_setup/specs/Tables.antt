@@ -13,7 +13,7 @@ use Rattle.wa_types.specs.declared.values.Value.TheVariants as V
 use Rattle.wa_types.specs.declared.syntax.Import.{Import}
 use Rattle.wa_types.specs.Encoding.{same_type}
 use Rattle.wa_types.specs.Typing.{GlobalType}
-use Rattle.wa_model.specs.Script.{GlobalText}
+use Rattle.script_model.specs.Script.{GlobalText}
 use Rattle.script_setup.specs.declared.globals.Types.{Types}
 use Rattle.script_setup.specs.SetUpRules.{imports_global, last_value}
 

@@ -1,6 +1,6 @@
 -- Set-ups and their faults as the program has them.
 use Rattle.std.specs.Prelude.{◌≡◌, Result, Ok, Err}
-use Rattle.wa_model.specs.Script as T
+use Rattle.script_model.specs.Script as T
 use Rattle.host_setup.specs.declared.faults.SetupFault.{SetupFault}
 use Rattle.host_setup.specs.declared.faults.SetupFault.TheVariants as S
 use Rattle.script_setup.specs.declared.fault.RuleFault.{RuleFault}

@@ -9,7 +9,7 @@ ghost use Rattle.wa_types.specs.declared.values.ValType.TheVariants.{I32, I64};
 ghost use Rattle.wa_types.specs.Encoding.{same_type};
 ghost use Rattle.wa_types.specs.Modules.{imported_global};
 ghost use Rattle.wa_types.specs.Pausing.{joined_name};
-ghost use Rattle.wa_model.specs.Script.{GlobalText as PlainGlobal};
+ghost use Rattle.script_model.specs.Script.{GlobalText as PlainGlobal};
 ghost use Rattle.wa_model.specs.Step.{zero_of};
 ghost use Rattle.script_reader.specs.Views.{global_of};
 ghost use Rattle.script_setup.specs.SetUpRules.{bad_global, global_values, value_or_zero};

@@ -5,7 +5,7 @@ ghost use Rattle.std.specs.Option.{option_map};
 ghost use Rattle.wa_types.specs.View.{module_of};
 ghost use Rattle.host_setup.specs.SetUp.{set_up};
 ghost use Rattle.host_setup.specs.Views.{entry_of as named_entry_of};
-ghost use Rattle.wa_model.specs.ScriptLines.{or_else};
+ghost use Rattle.script_model.specs.ScriptLines.{or_else};
 ghost use Rattle.script_reader.specs.Views.{program_of, show_of};
 ghost use Rattle.script_setup.specs.SetUpRules.{bad_show, entry_line, global_line, global_values, named_entry, overlaps, set_up_rules, show_line, told_funcs, told_at, with_lines};
 ghost use Rattle.script_setup.specs.Views.{Reads, broken_of, rule_fault, set_up_of};

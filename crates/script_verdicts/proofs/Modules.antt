@@ -5,8 +5,8 @@ use Rattle.wa_types.specs.declared.bounds.LimitKind.{LimitKind}
 use Rattle.wa_types.specs.declared.bounds.LimitKind.TheVariants.{File}
 use Rattle.wa_types.specs.Pausing.{Settings}
 use Rattle.wa_types.specs.Syntax.{Module}
-use Rattle.wa_model.specs.Script.{ProgramText}
-use Rattle.wa_model.specs.Transcript.{Refusal}
+use Rattle.script_model.specs.Script.{ProgramText}
+use Rattle.script_model.specs.Transcript.{Refusal}
 use Rattle.host_files.proofs.Held.{own_bytes}
 use Rattle.host_modules.specs.Prepared.{IsPrepared, IsUnprepared}
 use Rattle.script_opening.specs.Running.{RunsAs}

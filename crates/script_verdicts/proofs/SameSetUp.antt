@@ -6,8 +6,8 @@ use Rattle.wa_types.specs.Modules.{func_imports, func_type_at, imported, importe
 use Rattle.wa_types.specs.Syntax.{FuncType, Func, Module}
 use Rattle.wa_ops.specs.Operate.{are_of}
 use Rattle.wa_model.specs.declared.answers.Area.{Area}
-use Rattle.wa_model.specs.Script.{ProgramText}
-use Rattle.wa_model.specs.ScriptLines.{or_else}
+use Rattle.script_model.specs.Script.{ProgramText}
+use Rattle.script_model.specs.ScriptLines.{or_else}
 use Rattle.wa_model.specs.Step.{same_func_type}
 use Rattle.host_setup.specs.SetUp.{NamedEntry, Fault, all_told, area_bad, are_args, entries_fault, entry_func, entry_funcs, fault_at, first_false, func_named, have_args}
 use Rattle.host_setup.specs.SetUp.{is_area_in, is_defined_as, is_there, least_pages, needed, no_export, set_up, unless_fault}

@@ -4,8 +4,8 @@ use Rattle.std.specs.Prelude.{All}
 use Rattle.std.proofs.lemmas.List.Elements.{All-nil, All-cons, All-head, All-tail}
 use Rattle.vault_port.specs.Files.{Files, bytes_of}
 use Rattle.wa_types.specs.Syntax.{Module}
-use Rattle.wa_model.specs.Script.{ProgramText, Script, ScriptFault, breaks}
-use Rattle.wa_model.specs.Transcript.{Refusal}
+use Rattle.script_model.specs.Script.{ProgramText, Script, ScriptFault, breaks}
+use Rattle.script_model.specs.Transcript.{Refusal}
 use Rattle.host_files.specs.Scripts.{IsNoScript, IsScript, refusal_for}
 use Rattle.host_files.proofs.Held.{own_bytes}
 use Rattle.script_setup.specs.SetUpRules.{SetUp, set_up_rules}

@@ -11,8 +11,8 @@ use Rattle.wa_types.proofs.FaultLemmas.{one_first_fault, valid_no_fault}
 use Rattle.slot_laws.proofs.Closed.{one_list}
 use Rattle.asyncify_runtime.specs.declared.reserving.ReservedAt.{ReservedAt}
 use Rattle.asyncify_runtime.specs.Reserved.{reserved_at}
-use Rattle.wa_model.specs.Transcript as T
-use Rattle.wa_model.specs.Transcript.{Refusal}
+use Rattle.script_model.specs.Transcript as T
+use Rattle.script_model.specs.Transcript.{Refusal}
 use Rattle.wasm_reader.specs.declared.read_fault.ReadFault.{ReadFault}
 use Rattle.wasm_reader.specs.declared.read_fault.ReadFault.TheVariants.{Memory, Malformed, Float, Deep, Limit}
 use Rattle.wasm_reader.specs.Answers.{IsAccepted, IsRefused}

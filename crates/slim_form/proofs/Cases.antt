@@ -6,7 +6,7 @@ use Rattle.wa_types.specs.declared.operators.NumOp.TheVariants.{I32Add, I32Mul}
 use Rattle.wa_types.specs.Syntax.{drop, const, num, basic, local_get, local_set, local_tee, br_if, call, a_block, a_loop, done, plain, nest}
 use Rattle.wa_types.specs.Pausing.{direct, calls_of}
 use Rattle.wa_model.specs.declared.flat.Operand.TheVariants.{Local}
-use Rattle.wa_model.specs.Flat.{Stmts, no_more, computes, copies, calls, leaps_if, nests, followed_by, code_of}
+use Rattle.run_theory.specs.Flat.{Stmts, no_more, computes, copies, calls, leaps_if, nests, followed_by, code_of}
 use Rattle.slim_form.specs.Slim.{Terms}
 use Rattle.slim_form.specs.Emit.{emit}
 use Rattle.slim_form.specs.Parts.{no_unit, call_unit, emit_units}

@@ -9,7 +9,7 @@ use Rattle.wa_types.specs.Pausing.{calls_of}
 use Rattle.wa_model.specs.declared.flat.Operand.{Operand}
 use Rattle.wa_model.specs.declared.flat.Operand.TheVariants.{Local, Const}
 use Rattle.wa_model.specs.Store.{takes, gives}
-use Rattle.wa_model.specs.Flat.{Stmts, no_more, computes, copies, calls, leaps, leaps_if, leaps_by, nests, decides, halts, followed_by, got, all_got, set_to, slots_got, last_of, code_of}
+use Rattle.run_theory.specs.Flat.{Stmts, no_more, computes, copies, calls, leaps, leaps_if, leaps_by, nests, decides, halts, followed_by, got, all_got, set_to, slots_got, last_of, code_of}
 use Rattle.slim_form.specs.Slim as S
 use Rattle.wa_types.specs.Syntax as Y
 use Rattle.slim_form.specs.Slim.{Held, Free, Covers, CoversBut, StackShape, more, Takes, takes_none, takes_same, takes_one, Rises, rises, rises_below, Lacks, lacks_all, lacks_held, lacks_slot}

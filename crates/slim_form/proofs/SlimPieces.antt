@@ -5,7 +5,7 @@ use Rattle.wa_types.specs.Syntax.{Plain, Basic, basic, local_get, local_set, loc
 use Rattle.wa_types.specs.Syntax.{a_block, a_loop}
 use Rattle.wa_types.specs.Syntax as Y
 use Rattle.wa_types.specs.Pausing.{Callee, direct, indirect, callee, callee_onto, calls_of}
-use Rattle.wa_model.specs.Flat.{Stmts, followed_by, set_to, slots_got, code_of, result_got}
+use Rattle.run_theory.specs.Flat.{Stmts, followed_by, set_to, slots_got, code_of, result_got}
 use Rattle.slim_form.specs.Slim as S
 use Rattle.slim_form.specs.Slim.{Held, Free, Covers, more, takes_same, lacks_all, Plainly, plainly, plainly_held, Terms, Slims, ends, does, keeps, uses, saves, narrows, forgets}
 use Rattle.slim_form.specs.Emit.{elem, all_in, without, free_by, free_behind, can_keep, end_of, Told, emit}

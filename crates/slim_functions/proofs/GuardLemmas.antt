@@ -2,8 +2,8 @@
 use Rattle.std.proofs.Common.{ℕ, ◌+◌, ◌<◌, ◌^◌, List, [], ◌∷◌, length, refl, ap, subst, arith}
 use Rattle.wa_types.specs.Counts.{depth_of}
 use Rattle.wa_types.specs.Syntax.{Code}
-use Rattle.wa_model.specs.Flat.{FlatFunc, code_of, followed_by}
-use Rattle.wa_model.specs.FlatFits.{FlatFits}
+use Rattle.run_theory.specs.Flat.{FlatFunc, code_of, followed_by}
+use Rattle.run_theory.specs.FlatFits.{FlatFits}
 use Rattle.guard_form.specs.Pieces.{first_piece, flat_units, numbers_in, units}
 use Rattle.guard_form.proofs.Grouped.{joins}
 use Rattle.flat_pieces.specs.Raising.{LabelsBelow, Raisable}

@@ -7,8 +7,8 @@ use Rattle.wa_types.specs.declared.values.ValType.{ValType}
 use Rattle.wa_types.specs.Frames.{Pair, ResultPairs, SlotPairs}
 use Rattle.wa_types.specs.Modules.{around, locals_of}
 use Rattle.wa_types.specs.Syntax.{Code, Func, Module}
-use Rattle.wa_model.specs.Flat.{FlatFunc}
-use Rattle.wa_model.specs.FlatFits.{FlatFits}
+use Rattle.run_theory.specs.Flat.{FlatFunc}
+use Rattle.run_theory.specs.FlatFits.{FlatFits}
 use Rattle.guard_form.specs.Guarded.{has_one_call, guarded_body, guarded_code}
 use Rattle.flat_laws.specs.FlatModule.{stacks_in}
 use Rattle.flat_laws.specs.Flatten.{flattened, names, place, result_of}

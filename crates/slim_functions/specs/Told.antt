@@ -3,7 +3,7 @@ use Rattle.std.specs.Prelude.{◌≡◌, ℕ, List, length}
 use Rattle.wa_types.specs.Frames.{SlotPairs}
 use Rattle.wa_types.specs.Modules.{locals_of}
 use Rattle.wa_types.specs.Syntax.{Code, Func, Module}
-use Rattle.wa_model.specs.Flat.{FlatFunc}
+use Rattle.run_theory.specs.Flat.{FlatFunc}
 use Rattle.guard_form.specs.Guarded.{guard_indices, guarded_body}
 use Rattle.flat_laws.specs.Flatten.{flattened}
 use Rattle.slim_modules.specs.SlimModule.{Pieces, SlimPieces}

@@ -2,8 +2,8 @@
 
 ghost use Rattle.std.specs.Prelude.{◌<◌, ◌^◌, IfOk};
 ghost use Rattle.wa_types.specs.View.{code};
-ghost use Rattle.wa_model.specs.FlatFits.{FlatFits};
-ghost use Rattle.wa_model.specs.FlatView.{flat_func_of};
+ghost use Rattle.run_theory.specs.FlatFits.{FlatFits};
+ghost use Rattle.run_theory.specs.FlatView.{flat_func_of};
 ghost use Rattle.guard_form.specs.Pieces.{call_total};
 ghost use Rattle.flow_calls.specs.Emitting.{Rises};
 ghost use Rattle.slim_functions.specs.Told.{GuardedTold};

@@ -12,9 +12,9 @@ use Rattle.wa_types.specs.Pausing.{is_told}
 use Rattle.wa_types.specs.Syntax.{a_block, Code, Elem, Func, FuncType, Module, nest}
 use Rattle.wa_types.specs.Typing.{Around, Typed}
 use Rattle.wa_types.specs.Validity.{Valid, all_below, exported, start_indices, start_fits}
-use Rattle.wa_model.specs.Flat.{body_of, result_got}
+use Rattle.run_theory.specs.Flat.{body_of, result_got}
 use Rattle.wa_model.specs.Step.{param_count}
-use Rattle.wa_model.proofs.FittingNames.{defined_type}
+use Rattle.run_theory.proofs.FittingNames.{defined_type}
 use Rattle.flat_laws.specs.FlatModule.{extra_types, flat_func, flat_module}
 use Rattle.flat_laws.specs.Flatten.{flattened}
 use Rattle.flat_laws.proofs.FlatModules.{defined_in, found, is_flat, sorts_stay, told_as, valid_is_flattened, valid_stays}

@@ -3,7 +3,7 @@ use Rattle.std.specs.Prelude.{◌≡◌, ℕ, zero, suc, ◌+◌, ◌-◌, ◌++
 use Rattle.wa_types.specs.Modules.{defined_at, func_imports, locals_of}
 use Rattle.wa_types.specs.Pausing.{is_told}
 use Rattle.wa_types.specs.Syntax.{a_block, Code, done, Func, Module, nest}
-use Rattle.wa_model.specs.Flat.{FlatFunc, followed_by, result_got}
+use Rattle.run_theory.specs.Flat.{FlatFunc, followed_by, result_got}
 use Rattle.flat_laws.specs.FlatModule.{flat_module, stacks_in}
 use Rattle.flat_laws.specs.Flatten.{Names, flattened, names}
 use Rattle.slim_units.specs.Grouping.{is_place}

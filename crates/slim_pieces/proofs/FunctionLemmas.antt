@@ -1,7 +1,7 @@
 -- Whole functions.
 use Rattle.std.proofs.Common.{◌≡◌, ℕ, zero, suc, ◌<◌, ◌^◌, List, [], ◌∷◌, length, take, sym, ap, ◌∙◌, subst, arith}
-use Rattle.wa_model.specs.Flat.{FlatFunc}
-use Rattle.wa_model.specs.FlatFits.{FlatFits}
+use Rattle.run_theory.specs.Flat.{FlatFunc}
+use Rattle.run_theory.specs.FlatFits.{FlatFits}
 use Rattle.guard_form.specs.Pieces.{call_total, first_piece, units}
 use Rattle.slim_form.specs.Emit.{free_by}
 use Rattle.slim_form.specs.Slim.{Free, Covers, Reaches, Terms}

@@ -5,9 +5,9 @@ use Rattle.wa_types.specs.View.{code, onto}
 use Rattle.wa_types.proofs.ViewLemmas.{onto_none}
 use Rattle.wa_model.specs.declared.flat.Operand.{Operand}
 use Rattle.wa_model.specs.declared.flat.Stmt.{Stmt}
-use Rattle.wa_model.specs.Flat.{Stmts, no_more, computes, copies, calls, leaps, leaps_if, leaps_by, nests, decides, halts}
-use Rattle.wa_model.specs.FlatFits.{StmtsFit}
-use Rattle.wa_model.specs.FlatView.{stmt_in_front, stmts}
+use Rattle.run_theory.specs.Flat.{Stmts, no_more, computes, copies, calls, leaps, leaps_if, leaps_by, nests, decides, halts}
+use Rattle.run_theory.specs.FlatFits.{StmtsFit}
+use Rattle.run_theory.specs.FlatView.{stmt_in_front, stmts}
 use Rattle.guard_form.specs.Pieces.{Units, call_total, first_piece, units}
 use Rattle.flat_pieces.specs.Statements.{with_rest, one_place}
 use Rattle.flat_pieces.proofs.StmtLemmas.{fits_one, in_front_is, stmts_end, stmts_step, total_with}

@@ -1,6 +1,6 @@
 -- What is asked of the slim pieces of a function.
 use Rattle.std.specs.Prelude.{◌≡◌, ◌≤◌, ◌+◌, ◌-◌, ℕ, List, [], ◌∷◌, Option, Some, None, Bool, not, ◌&&◌, nat_lt}
-use Rattle.wa_model.specs.Flat.{FlatFunc}
+use Rattle.run_theory.specs.Flat.{FlatFunc}
 use Rattle.guard_form.specs.Pieces.{first_piece, units}
 use Rattle.slim_form.specs.Emit.{free_by}
 use Rattle.slim_form.specs.Slim.{Terms}

@@ -2,8 +2,8 @@
 
 ghost use Rattle.std.specs.Prelude.{◌≡◌, ◌<◌, ◌^◌, [], length, true, false, IfOk};
 ghost use Rattle.wa_model.specs.declared.flat.Operand.TheVariants.{Local};
-ghost use Rattle.wa_model.specs.Flat.{decides, no_more};
-ghost use Rattle.wa_model.specs.FlatView.{stmt_in_front, stmts};
+ghost use Rattle.run_theory.specs.Flat.{decides, no_more};
+ghost use Rattle.run_theory.specs.FlatView.{stmt_in_front, stmts};
 ghost use Rattle.flow_calls.specs.Emitting.{Rises};
 ghost use Rattle.slim_walk.specs.Walking.{Good};
 ghost use Rattle.slim_steps.specs.Coming.{Ready};

@@ -12,8 +12,8 @@ use Rattle.wa_types.specs.Syntax.{call, call_indirect, Plain, Code, done, plain}
 use Rattle.wa_types.specs.Leaves.{is_leaf}
 use Rattle.flat_pieces.proofs.StmtLemmas.{leaf_of}
 use Rattle.wa_types.specs.View.{in_front}
-use Rattle.wa_model.specs.Flat.{no_more, calls, followed_by, last_of, set_to, slots_got}
-use Rattle.wa_model.specs.FlatFits.{IsCallCode}
+use Rattle.run_theory.specs.Flat.{no_more, calls, followed_by, last_of, set_to, slots_got}
+use Rattle.run_theory.specs.FlatFits.{IsCallCode}
 use Rattle.guard_form.specs.Grouping.{is_place}
 use Rattle.guard_form.specs.Pieces.{call_unit, call_to, first_piece, flat_units, piece_call, unit_call, units}
 use Rattle.guard_form.proofs.Counting.{calls_set}

@@ -3,7 +3,7 @@ use Rattle.std.proofs.Common.{◌≡◌, ℕ, ◌+◌, List, [], length, drop, B
 use Rattle.wa_types.specs.Pausing.{calls_of}
 use Rattle.wa_types.specs.Syntax.{Code, done}
 use Rattle.wa_types.specs.View.{onto}
-use Rattle.wa_model.specs.Flat.{Stmts, no_more}
+use Rattle.run_theory.specs.Flat.{Stmts, no_more}
 use Rattle.guard_form.specs.Pieces.{Units, no_unit, first_piece, units, flat_units}
 use Rattle.flat_pieces.specs.Putting.{Puts}
 use Rattle.flat_pieces.specs.Statements.{with_rest, one_code, one_holds, one_place}

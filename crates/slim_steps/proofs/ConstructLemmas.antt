@@ -4,7 +4,7 @@ use Rattle.std.proofs.Math.Seq.{take-length}
 use Rattle.wa_types.specs.Pausing.{calls_of}
 use Rattle.wa_types.specs.Syntax.{a_block, a_loop, Shape as Nesting, Code, nest}
 use Rattle.wa_types.specs.View.{onto}
-use Rattle.wa_model.specs.Flat.{Stmts, no_more, nests, code_of, followed_by}
+use Rattle.run_theory.specs.Flat.{Stmts, no_more, nests, code_of, followed_by}
 use Rattle.guard_form.specs.Bounds.{unit_count}
 use Rattle.guard_form.specs.Pieces.{Units, no_unit, nest_unit, call_total, holds_call, first_piece, flat_units, units, StartsGot}
 use Rattle.guard_form.proofs.CodeLemmas.{then_done}

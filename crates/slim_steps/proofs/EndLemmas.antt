@@ -3,7 +3,7 @@ use Rattle.std.proofs.Common.{◌≡◌, ℕ, ◌+◌, List, length, take, Bool,
 use Rattle.wa_types.specs.Pausing.{calls_of}
 use Rattle.wa_types.specs.Syntax.{done}
 use Rattle.wa_types.proofs.ViewLemmas.{onto_done}
-use Rattle.wa_model.specs.Flat.{no_more}
+use Rattle.run_theory.specs.Flat.{no_more}
 use Rattle.guard_form.specs.Pieces.{no_unit, flat_units}
 use Rattle.slim_form.specs.Emit.{free_by}
 use Rattle.slim_form.specs.Slim.{Free, Covers, ends, plainly, Slims, Terms}

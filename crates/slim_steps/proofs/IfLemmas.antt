@@ -10,7 +10,7 @@ use Rattle.wa_types.specs.Pausing.{calls_of}
 use Rattle.wa_types.specs.Syntax.{local_get, local_set, Code, done, plain, branch}
 use Rattle.wa_types.specs.View.{onto}
 use Rattle.wa_model.specs.declared.flat.Operand.TheVariants.{Local}
-use Rattle.wa_model.specs.Flat.{Stmts, no_more, decides, code_of, followed_by, slots_got}
+use Rattle.run_theory.specs.Flat.{Stmts, no_more, decides, code_of, followed_by, slots_got}
 use Rattle.guard_form.specs.Bounds.{unit_count}
 use Rattle.guard_form.specs.Pieces.{Units, no_unit, if_unit, call_total, holds_call, first_piece, flat_units, units, StartsGot}
 use Rattle.flat_pieces.specs.Putting.{Puts}

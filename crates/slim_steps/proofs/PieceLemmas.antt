@@ -6,8 +6,8 @@ use Rattle.wa_types.specs.Pausing.{Callee, direct, indirect, calls_of}
 use Rattle.wa_types.specs.Syntax.{basic, br_if, br_table, local_get, local_set, local_tee, call, call_indirect, Code, done, plain, branch}
 use Rattle.wa_model.specs.declared.flat.Operand.{Operand}
 use Rattle.wa_model.specs.declared.flat.Operand.TheVariants.{Local, Const}
-use Rattle.wa_model.specs.Flat.{Stmts, no_more, computes, copies, calls, leaps, leaps_if, leaps_by, nests, decides, halts, followed_by, got, all_got, set_to, slots_got, last_of, code_of}
-use Rattle.wa_model.specs.FlatFits.{ComputesFit, IsCallCode}
+use Rattle.run_theory.specs.Flat.{Stmts, no_more, computes, copies, calls, leaps, leaps_if, leaps_by, nests, decides, halts, followed_by, got, all_got, set_to, slots_got, last_of, code_of}
+use Rattle.run_theory.specs.FlatFits.{ComputesFit, IsCallCode}
 use Rattle.guard_form.specs.Bounds.{unit_count}
 use Rattle.guard_form.specs.Grouping.{is_place}
 use Rattle.guard_form.specs.Pieces.{Units, no_unit, call_unit, nest_unit, if_unit, call_to, call_total, sole_callee, numbered, holds_call, first_piece, unit_call, units, flat_units}

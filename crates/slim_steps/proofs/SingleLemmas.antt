@@ -8,9 +8,9 @@ use Rattle.wa_types.specs.View.{in_front}
 use Rattle.wa_model.specs.declared.flat.Operand.{Operand}
 use Rattle.wa_model.specs.declared.flat.Stmt.{Stmt}
 use Rattle.wa_model.specs.declared.flat.Stmt.TheVariants.{Plain, Move, Br, BrIf, BrTable, Unreachable}
-use Rattle.wa_model.specs.Flat.{Stmts, no_more, computes, copies, leaps, leaps_if, leaps_by, halts}
-use Rattle.wa_model.specs.FlatFits.{ComputesFit, StmtsFit}
-use Rattle.wa_model.specs.FlatView.{stmt_in_front}
+use Rattle.run_theory.specs.Flat.{Stmts, no_more, computes, copies, leaps, leaps_if, leaps_by, halts}
+use Rattle.run_theory.specs.FlatFits.{ComputesFit, StmtsFit}
+use Rattle.run_theory.specs.FlatView.{stmt_in_front}
 use Rattle.wa_types.specs.Leaves.{is_leaf}
 use Rattle.flat_pieces.specs.Statements.{one_code}
 use Rattle.flat_pieces.proofs.StmtLemmas.{leaf_of, one_plain}

@@ -4,7 +4,7 @@ use Rattle.wa_types.specs.Pausing.{calls_of}
 use Rattle.wa_types.specs.Syntax.{Code, done}
 use Rattle.wa_types.specs.View.{code, onto}
 use Rattle.wa_types.proofs.ViewLemmas.{onto_done, onto_none}
-use Rattle.wa_model.specs.Flat.{Stmts}
+use Rattle.run_theory.specs.Flat.{Stmts}
 use Rattle.guard_form.specs.Pieces.{Units, first_piece, units, flat_units, StartsGot}
 use Rattle.slim_form.specs.Slim.{Free, ends, plainly, Slims, Terms}
 use Rattle.slim_walk.specs.declared.stack.Walk.{Walk}

@@ -4,8 +4,8 @@ use Rattle.wa_types.specs.Pausing.{calls_of}
 use Rattle.wa_types.specs.Syntax.{Code, done}
 use Rattle.wa_types.specs.View.{onto}
 use Rattle.wa_model.specs.declared.flat.Operand.{Operand}
-use Rattle.wa_model.specs.Flat.{Stmts, no_more, computes, copies, calls, leaps, leaps_if, leaps_by, nests, decides, halts, followed_by, got, code_of}
-use Rattle.wa_model.specs.FlatFits.{StmtsFit}
+use Rattle.run_theory.specs.Flat.{Stmts, no_more, computes, copies, calls, leaps, leaps_if, leaps_by, nests, decides, halts, followed_by, got, code_of}
+use Rattle.run_theory.specs.FlatFits.{StmtsFit}
 use Rattle.guard_form.specs.Grouping.{is_place}
 use Rattle.guard_form.specs.Pieces.{Units, no_unit, if_unit, call_total, first_piece, flat_units, units, StartsGot}
 use Rattle.slim_form.specs.Emit.{free_by}

@@ -6,7 +6,7 @@ use Rattle.wa_types.specs.declared.instrs.Instr.{Instr}
 use Rattle.wa_types.specs.Syntax.{local_get, local_set, Shape as Nesting, Code, plain, nest, branch}
 use Rattle.wa_types.specs.View.{code}
 use Rattle.wa_model.specs.declared.flat.Operand.TheVariants.{Local}
-use Rattle.wa_model.specs.Flat.{Stmts, no_more}
+use Rattle.run_theory.specs.Flat.{Stmts, no_more}
 use Rattle.guard_form.specs.Bounds.{unit_count}
 use Rattle.guard_form.specs.Pieces.{Units, no_unit, nest_unit, if_unit, call_total, first_piece, units}
 use Rattle.flat_pieces.specs.Putting.{Puts}

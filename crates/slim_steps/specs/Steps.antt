@@ -2,7 +2,7 @@
 use Rattle.std.specs.Prelude.{◌≡◌, ℕ, List, [], Option, Some, None, true}
 use Rattle.wa_types.specs.Syntax.{Code, done, plain}
 use Rattle.wa_types.specs.View.{code}
-use Rattle.wa_model.specs.Flat.{Stmts, no_more}
+use Rattle.run_theory.specs.Flat.{Stmts, no_more}
 use Rattle.guard_form.specs.Grouping.{is_place}
 use Rattle.guard_form.specs.Pieces.{Units, call_to}
 use Rattle.flat_pieces.specs.Statements.{one_place}

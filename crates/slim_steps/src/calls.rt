@@ -3,7 +3,7 @@
 ghost use Rattle.std.specs.Prelude.{◌≡◌, ◌≤◌, ◌<◌, ◌+◌, ◌^◌, ℕ, List, length, true, false, IfOk};
 ghost use Rattle.wa_types.specs.Syntax.{done};
 ghost use Rattle.wa_types.specs.View.{in_front};
-ghost use Rattle.wa_model.specs.Flat.{calls, no_more};
+ghost use Rattle.run_theory.specs.Flat.{calls, no_more};
 ghost use Rattle.guard_form.specs.Grouping.{is_place};
 ghost use Rattle.flow_calls.specs.Emitting.{Rises};
 ghost use Rattle.slim_walk.specs.Walking.{Good};

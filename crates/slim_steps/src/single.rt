@@ -1,8 +1,8 @@
 //! Statements that are neither calls nor constructs.
 
 ghost use Rattle.std.specs.Prelude.{◌≡◌, ℕ, List, true, false, IfOk};
-ghost use Rattle.wa_model.specs.Flat.{no_more};
-ghost use Rattle.wa_model.specs.FlatView.{stmt_in_front};
+ghost use Rattle.run_theory.specs.Flat.{no_more};
+ghost use Rattle.run_theory.specs.FlatView.{stmt_in_front};
 ghost use Rattle.slim_walk.specs.Walking.{Good};
 ghost use Rattle.slim_steps.specs.Coming.{Ready};
 ghost use Rattle.slim_steps.specs.Steps.{Put};

@@ -1,7 +1,7 @@
 -- Slim units are no larger, nest no deeper, and read a global as often.
 use Rattle.std.proofs.Common.{◌≡◌, ◌≤◌, ℕ, ◌+◌, List, [], ◌∷◌, Some, None, refl, ap, arith}
 use Rattle.wa_types.specs.Syntax.{basic, Code}
-use Rattle.wa_model.specs.Flat.{followed_by}
+use Rattle.run_theory.specs.Flat.{followed_by}
 use Rattle.wa_model.specs.Rewrites.{instructions_and_labels}
 use Rattle.wa_model.specs.Store.{takes, gives}
 use Rattle.guard_form.specs.Bounds.{plain_reads, reads}

@@ -2,7 +2,7 @@
 use Rattle.std.proofs.Common.{◌≡◌, ℕ, suc, ◌+◌, List, [], ◌∷◌, Some, None, false, refl, ap, arith, ◌⊎◌, inl, inr, ⊎_elim}
 use Rattle.wa_types.specs.Pausing.{Callee}
 use Rattle.wa_types.specs.Syntax.{Code, done}
-use Rattle.wa_model.specs.Flat.{followed_by, got}
+use Rattle.run_theory.specs.Flat.{followed_by, got}
 use Rattle.wa_model.specs.Store.{gives}
 use Rattle.guard_form.specs.Functions.{Calls, HasUnit, PiecesCall}
 use Rattle.guard_form.specs.Pieces.{Units, no_unit, call_unit, nest_unit, if_unit}

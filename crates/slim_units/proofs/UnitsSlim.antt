@@ -4,7 +4,7 @@ use Rattle.wa_types.specs.Pausing.{Callee, direct, indirect, calls_of}
 use Rattle.wa_types.specs.Syntax.{basic, br, br_if, br_table, call, call_indirect, const, local_get, local_set, local_tee, return, unreachable, Code, done, plain, nest, branch}
 use Rattle.wa_model.specs.declared.flat.Operand.{Operand}
 use Rattle.wa_model.specs.declared.flat.Operand.TheVariants.{Local, Const}
-use Rattle.wa_model.specs.Flat.{followed_by, got, result_got, set_to, slots_got}
+use Rattle.run_theory.specs.Flat.{followed_by, got, result_got, set_to, slots_got}
 use Rattle.guard_form.specs.Pieces.{Units, call_unit, call_to, flat_units}
 use Rattle.guard_form.proofs.CodeLemmas.{then_done}
 use Rattle.guard_form.proofs.Grouped.{then_got, then_then}

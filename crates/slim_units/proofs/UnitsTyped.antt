@@ -6,7 +6,7 @@ use Rattle.wa_types.specs.declared.values.ValType.TheVariants.{I32}
 use Rattle.wa_types.specs.Pausing.{Callee}
 use Rattle.wa_types.specs.Syntax.{Code, done, local_set, plain}
 use Rattle.wa_types.specs.Typing.{Around, Takes, sets, Types}
-use Rattle.wa_model.specs.Flat.{followed_by, got, set_to, slots_got}
+use Rattle.run_theory.specs.Flat.{followed_by, got, set_to, slots_got}
 use Rattle.guard_form.specs.Pieces.{Units, call_to}
 use Rattle.guard_form.specs.Typed.{UnitsTyped, UnitsTypedFrom}
 use Rattle.guard_form.proofs.FrontTypes.{from_none}

@@ -5,7 +5,7 @@ use Rattle.wa_types.specs.Counts.{depth_of}
 use Rattle.wa_types.specs.Pausing.{Callee}
 use Rattle.wa_types.specs.Syntax.{a_block, Code, nest}
 use Rattle.wa_types.specs.Typing.{Around}
-use Rattle.wa_model.specs.Flat.{followed_by, result_got}
+use Rattle.run_theory.specs.Flat.{followed_by, result_got}
 use Rattle.wa_model.specs.Rewrites.{instructions_and_labels}
 use Rattle.guard_form.specs.Bounds.{passing, reads, unit_count}
 use Rattle.guard_form.specs.Functions.{ArmsHold, Calls, PiecesCall}

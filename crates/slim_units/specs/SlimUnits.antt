@@ -4,7 +4,7 @@ use Rattle.wa_types.specs.Syntax.{a_block, a_loop, Code, done}
 use Rattle.wa_types.specs.Pausing.{Callee, calls_of}
 use Rattle.wa_model.specs.declared.flat.Operand.{Operand}
 use Rattle.wa_model.specs.declared.flat.Operand.TheVariants.{Local, Const}
-use Rattle.wa_model.specs.Flat.{followed_by, got, set_to}
+use Rattle.run_theory.specs.Flat.{followed_by, got, set_to}
 use Rattle.guard_form.specs.Pieces.{Units, no_unit, call_unit, nest_unit, if_unit, flat_units, StartsGot}
 use Rattle.slim_form.specs.Slim.{Free, Covers, CoversBut, Held, StackShape, Slims, Terms}
 use Rattle.slim_form.specs.Parts.{goes_on}

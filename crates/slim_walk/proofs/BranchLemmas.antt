@@ -11,8 +11,8 @@ use Rattle.wa_types.specs.Syntax.{br, br_if, br_table, unreachable, call, call_i
 use Rattle.wa_types.specs.View.{onto}
 use Rattle.wa_model.specs.declared.flat.Operand.{Operand}
 use Rattle.wa_model.specs.declared.flat.Operand.TheVariants.{Local}
-use Rattle.wa_model.specs.Flat.{all_got, followed_by, got, set_to, slots_got}
-use Rattle.wa_model.specs.FlatFits.{IsCallCode}
+use Rattle.run_theory.specs.Flat.{all_got, followed_by, got, set_to, slots_got}
+use Rattle.run_theory.specs.FlatFits.{IsCallCode}
 use Rattle.flat_pieces.specs.Putting.{Puts}
 use Rattle.slim_form.specs.Emit.{elem, free_by}
 use Rattle.slim_form.specs.Slim as S

@@ -12,7 +12,7 @@ use Rattle.wa_types.specs.declared.instrs.Instr.TheVariants.{LocalTee}
 use Rattle.wa_types.specs.View.{in_front, onto}
 use Rattle.wa_model.specs.declared.flat.Operand.{Operand}
 use Rattle.wa_model.specs.declared.flat.Operand.TheVariants.{Local}
-use Rattle.wa_model.specs.Flat.{all_got, got}
+use Rattle.run_theory.specs.Flat.{all_got, got}
 use Rattle.flat_pieces.specs.Putting.{Puts}
 use Rattle.slim_form.specs.Emit.{elem, free_by}
 use Rattle.slim_form.specs.Slim.{copies, gets, Lacks, more, sets, takes_one, takes_none, Terms, Slims}

@@ -15,7 +15,7 @@ use Rattle.wa_types.specs.Syntax.{local_get, local_set, Code, plain}
 use Rattle.wa_types.specs.View.{onto}
 use Rattle.wa_model.specs.declared.flat.Operand.{Operand}
 use Rattle.wa_model.specs.declared.flat.Operand.TheVariants.{Local}
-use Rattle.wa_model.specs.Flat.{all_got, slots_got}
+use Rattle.run_theory.specs.Flat.{all_got, slots_got}
 use Rattle.flat_pieces.specs.Putting.{Puts}
 use Rattle.flat_pieces.proofs.PutLemmas.{put_one, set_is}
 use Rattle.slim_form.specs.Emit.{elem}

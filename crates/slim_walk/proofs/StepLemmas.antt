@@ -13,9 +13,9 @@ use Rattle.wa_types.specs.View.{onto}
 use Rattle.wa_types.specs.Syntax.{nop, drop as drop_operand, select, const, num, global_get, global_set, load, store, memory_size, memory_grow, Basic, basic, local_get, local_set, local_tee}
 use Rattle.wa_types.specs.Syntax.{Code, done, plain}
 use Rattle.wa_model.specs.declared.flat.Operand.{Operand}
-use Rattle.wa_model.specs.FlatFits.{ComputesFit, TellsResult}
+use Rattle.run_theory.specs.FlatFits.{ComputesFit, TellsResult}
 use Rattle.wa_model.specs.Store.{gives}
-use Rattle.wa_model.specs.Flat.{all_got, followed_by, set_to, slots_got}
+use Rattle.run_theory.specs.Flat.{all_got, followed_by, set_to, slots_got}
 use Rattle.flat_pieces.specs.Putting.{Puts}
 use Rattle.slim_form.specs.Emit.{all_in, count, elem, free_by}
 use Rattle.slim_form.specs.Slim.{Free, CoversBut, StackShape, more, Takes, takes_none, takes_one, Rises, rises, rises_below, Lacks, lacks_all, lacks_slot, Terms, Slims, does, gets, sets, tees}

@@ -4,7 +4,7 @@ use Rattle.wa_types.specs.Pausing.{calls_of}
 use Rattle.wa_types.specs.Syntax.{basic, local_get, local_set, local_tee, Code, done, plain}
 use Rattle.wa_types.specs.View.{onto}
 use Rattle.wa_model.specs.declared.flat.Operand.{Operand}
-use Rattle.wa_model.specs.Flat.{all_got, slots_got}
+use Rattle.run_theory.specs.Flat.{all_got, slots_got}
 use Rattle.wa_model.specs.Store.{takes}
 use Rattle.flat_pieces.specs.Putting.{Puts}
 use Rattle.slim_form.specs.Emit.{elem, free_by}

@@ -4,8 +4,8 @@ ghost use Rattle.std.specs.Prelude.{◌≡◌, ◌≤◌, length, map, true, fal
 ghost use Rattle.wa_types.specs.Syntax.{br, br_if, br_table, unreachable, done, plain};
 ghost use Rattle.wa_types.specs.View.{in_front};
 ghost use Rattle.wa_model.specs.declared.flat.Operand.TheVariants as O;
-ghost use Rattle.wa_model.specs.Flat.{followed_by, got, last_of, set_to, slots_got};
-ghost use Rattle.wa_model.specs.FlatFits.{IsCallCode};
+ghost use Rattle.run_theory.specs.Flat.{followed_by, got, last_of, set_to, slots_got};
+ghost use Rattle.run_theory.specs.FlatFits.{IsCallCode};
 ghost use Rattle.wa_types.specs.Leaves.{is_leaf};
 ghost use Rattle.slim_walk.specs.Walking.{Ended, Good, Stepped};
 

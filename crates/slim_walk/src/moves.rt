@@ -3,8 +3,8 @@
 ghost use Rattle.std.specs.Prelude.{◌≡◌, ℕ, true, false, IfOk};
 ghost use Rattle.wa_types.specs.Syntax.{local_get, local_set, done, plain};
 ghost use Rattle.wa_types.specs.View.{in_front};
-ghost use Rattle.wa_model.specs.Flat.{all_got, followed_by, got, set_to};
-ghost use Rattle.wa_model.specs.FlatFits.{ComputesFit};
+ghost use Rattle.run_theory.specs.Flat.{all_got, followed_by, got, set_to};
+ghost use Rattle.run_theory.specs.FlatFits.{ComputesFit};
 ghost use Rattle.wa_types.specs.Leaves.{is_leaf};
 ghost use Rattle.slim_walk.specs.Walking.{slot_in, Assigned, Good, KeptTold, Stepped};
 

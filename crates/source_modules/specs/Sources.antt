@@ -16,8 +16,8 @@ use Rattle.wa_types.specs.Pausing.{Settings, TellsMayPause}
 use Rattle.wa_types.specs.Syntax.{Func, Module}
 use Rattle.wa_types.specs.Validity.{Valid}
 use Rattle.wa_model.specs.Rewrites.{Rewrites}
-use Rattle.wa_model.specs.Transcript as T
-use Rattle.wa_model.specs.Transcript.{Refusal}
+use Rattle.script_model.specs.Transcript as T
+use Rattle.script_model.specs.Transcript.{Refusal}
 use Rattle.wasm_reader.specs.declared.read_fault.ReadFault.TheVariants.{Malformed, Float, Deep, Limit}
 use Rattle.wasm_reader.specs.Answers.{IsAccepted, IsRefused}
 use Rattle.module_files.specs.Held.{Holds}

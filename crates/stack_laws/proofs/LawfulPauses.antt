@@ -5,7 +5,7 @@ use Rattle.std.proofs.lemmas.List.Elements.{All-head, All-tail}
 use Rattle.wa_model.specs.Plan.{EntryFits}
 use Rattle.wa_model.specs.Blocking.{Note, Blocking}
 use Rattle.wa_model.specs.Behaves.{PauseNumbered}
-use Rattle.wa_model.specs.LawfulStacks.{LawfulActivation}
+use Rattle.run_theory.specs.LawfulStacks.{LawfulActivation}
 use Rattle.stack_laws.specs.Lawful.{PausesAreLawful}
 use Rattle.stack_laws.proofs.StandingPauses.{pauses_of_entries}
 use Rattle.stack_laws.proofs.SpotRuns.{stacks_lawful}

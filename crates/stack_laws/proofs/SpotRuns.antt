@@ -30,14 +30,14 @@ use Rattle.wa_model.specs.Instantiation.{Opening, fails_as, opens, opening}
 use Rattle.wa_model.specs.Blocking.{Note, note, call_note, answers, or_else, fault_of, pause_of, poked, done_notes, Task, the_start, an_entry, Left, with_outcomes, Asker, inside, outermost}
 use Rattle.wa_model.specs.Blocking.{store_at, stack_at, in_start, State, between, begins, runs, halts, on_to, next_entry, task_back, go_on, tested, asked, by_step, enters, enter_next}
 use Rattle.wa_model.specs.Blocking.{start_called, blocking, all_left, started, begun, continued, Blocking}
-use Rattle.wa_model.specs.Fitting.{types_of, results_of, global_types, StoreFits}
-use Rattle.wa_model.specs.LawfulStacks.{SuspendedIn, LawfulActivation}
-use Rattle.wa_model.proofs.Invariants.{TurnKeeps, RanKeeps, after_keeps}
-use Rattle.wa_model.proofs.FittingNames.{same_true, results_are}
-use Rattle.wa_model.proofs.FittingSteps.{body_typed}
-use Rattle.wa_model.proofs.FittingOpenings.{openings_fit}
-use Rattle.wa_model.proofs.BaseValid.{base_valid, base_wider}
-use Rattle.wa_model.proofs.WiderTyping.{Wider, takes_wider}
+use Rattle.run_theory.specs.Fitting.{types_of, results_of, global_types, StoreFits}
+use Rattle.run_theory.specs.LawfulStacks.{SuspendedIn, LawfulActivation}
+use Rattle.run_theory.proofs.Invariants.{TurnKeeps, RanKeeps, after_keeps}
+use Rattle.run_theory.proofs.FittingNames.{same_true, results_are}
+use Rattle.run_theory.proofs.FittingSteps.{body_typed}
+use Rattle.run_theory.proofs.FittingOpenings.{openings_fit}
+use Rattle.run_theory.proofs.BaseValid.{base_valid, base_wider}
+use Rattle.run_theory.proofs.WiderTyping.{Wider, takes_wider}
 use Rattle.range_laws.specs.Ranges.{NoteIn}
 use Rattle.range_laws.proofs.BlockingRuns.{well_formed_in, blocking_in}
 use Rattle.range_laws.proofs.ProtocolRuns.{fits_in}

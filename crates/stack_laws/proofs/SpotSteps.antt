@@ -21,11 +21,11 @@ use Rattle.wa_model.specs.Store.{Store, value_at, Did, works, fails, lacks as la
 use Rattle.wa_model.specs.Configuration.{Label, block_label, loop_label, Activation, Configuration, running, waiting}
 use Rattle.wa_model.specs.Step.{Next, steps, asks, returns, traps, stuck, keep, result_count, leave, jump, finish, did, with_top, with_number, choose, arity_of, zero_of, entered, invoke}
 use Rattle.wa_model.specs.Step.{param_count, same_func_type, through, memory_max, step_at, step}
-use Rattle.wa_model.specs.Fitting.{types_of, results_of, StoreFits}
-use Rattle.wa_model.proofs.FittingNames.{split_types, carried_types, kept_types, reversed_types, value_typed, set_typed, zeros_typed, func_types_true, one_reversed, func_type_small}
-use Rattle.wa_model.proofs.FittingNames.{results_are, count_is, defined_type, func_found}
-use Rattle.wa_model.proofs.FittingActs.{DidFits, act_fits}
-use Rattle.wa_model.proofs.FittingSteps.{takes_above, chosen_alike, body_typed}
+use Rattle.run_theory.specs.Fitting.{types_of, results_of, StoreFits}
+use Rattle.run_theory.proofs.FittingNames.{split_types, carried_types, kept_types, reversed_types, value_typed, set_typed, zeros_typed, func_types_true, one_reversed, func_type_small}
+use Rattle.run_theory.proofs.FittingNames.{results_are, count_is, defined_type, func_found}
+use Rattle.run_theory.proofs.FittingActs.{DidFits, act_fits}
+use Rattle.run_theory.proofs.FittingSteps.{takes_above, chosen_alike, body_typed}
 use Rattle.stack_laws.proofs.Spots.{Spot, at_start, past, in_block, in_loop, in_arm, in_else, retyped, placed}
 
 -- An activation that runs, over operands of these types, stands at a spot of its body.

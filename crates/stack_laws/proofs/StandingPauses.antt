@@ -26,7 +26,7 @@ use Rattle.wa_model.specs.Blocking.{Note, call_note, bad_poke, bad_pause, is_unl
 use Rattle.wa_model.specs.Blocking.{inside, outermost, store_at, stack_at, in_start, State, between, begins, runs, halts, on_to, next_entry, task_back, go_on, tested, asked, by_step, enters}
 use Rattle.wa_model.specs.Blocking.{enter_next, start_called, blocking, all_left, started, begun, continued, Blocking}
 use Rattle.wa_model.specs.Behaves.{StandsNumbered, PauseNumbered}
-use Rattle.wa_model.specs.LawfulStacks.{LeadsTo, Chained}
+use Rattle.run_theory.specs.LawfulStacks.{LeadsTo, Chained}
 use Rattle.stack_laws.specs.Standing.{IsRoot, CallChained, StacksChained, PauseTold, PausesTold, ListedNumbered, CallsAtNumbers, PausesAtNumbers, IsHeeded, PauseHeeded, HeededAtNumbers, onward, returned_by, EntryStack, PausesOfEntries}
 use Rattle.stack_laws.proofs.StandingStates.{calls_from, CallersAt, ConfigurationAt, WaitingAt, NextAt}
 use Rattle.stack_laws.proofs.Counted.{behind_all, AllAt, at_place, all_of, TurnCounts, after_counts}

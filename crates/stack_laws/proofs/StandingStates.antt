@@ -6,7 +6,7 @@ use Rattle.wa_types.specs.Syntax.{Code, Func, Module}
 use Rattle.wa_types.specs.Modules.{func_imports, defined_at}
 use Rattle.wa_model.specs.Configuration.{Label, block_label, loop_label, Activation, Configuration, calls_behind}
 use Rattle.wa_model.specs.Step.{Next, steps, asks, returns, traps, stuck}
-use Rattle.wa_model.specs.LawfulStacks.{LeadsTo}
+use Rattle.run_theory.specs.LawfulStacks.{LeadsTo}
 
 -- all calls from code on
 abbrev pub calls_from : Code → List Label → List Callee

@@ -22,7 +22,7 @@ use Rattle.wa_types.specs.Encoding.{same_type}
 use Rattle.wa_types.specs.Memory.{Memory, number_at, with_number as number_put, grown}
 use Rattle.wa_types.specs.Typing.{type_of}
 use Rattle.wa_model.specs.Operate.{operate, number_of}
-use Rattle.wa_model.specs.LawfulStacks.{LeadsTo}
+use Rattle.run_theory.specs.LawfulStacks.{LeadsTo}
 use Rattle.stack_laws.proofs.StandingStates.{calls_from, Remains, LabelsRemain, StandsAt, WaitsAt, CallersAt, ConfigurationAt, NextAt}
 
 -- a part more stands before

@@ -15,7 +15,7 @@ use Rattle.wa_model.specs.Plan.{Entry, Plan, Outcome, OutcomeFits, Fits}
 use Rattle.wa_model.specs.Blocking.{Note, Task, Left, runs, Blocking}
 use Rattle.wa_model.specs.Outside.{Call, called}
 use Rattle.wa_model.specs.Behaves.{Compared, PausesNumbered}
-use Rattle.wa_model.specs.LawfulStacks.{LawfulActivation, LawfulStack}
+use Rattle.run_theory.specs.LawfulStacks.{LawfulActivation, LawfulStack}
 use Rattle.stack_laws.specs.Standing.{returned_by}
 use Rattle.stack_laws.specs.Sites.{continuation}
 

@@ -9,7 +9,7 @@ use Rattle.wa_model.specs.Store.{Store}
 use Rattle.wa_model.specs.Plan.{Entry, Plan, Outcome}
 use Rattle.wa_model.specs.Blocking.{Note, Blocking}
 use Rattle.wa_model.specs.Behaves.{StandsNumbered, PausesNumbered}
-use Rattle.wa_model.specs.LawfulStacks.{Chained}
+use Rattle.run_theory.specs.LawfulStacks.{Chained}
 
 -- ---- suspended stacks
 

@@ -5,7 +5,7 @@ use Rattle.wa_model.specs.declared.events.Event.TheVariants.{Called, Answered, P
 use Rattle.wa_model.specs.declared.events.Line.{Line}
 use Rattle.wa_model.specs.declared.events.End.{End}
 use Rattle.wa_model.specs.declared.events.End.TheVariants.{NoAnswer, OtherImport, BadAnswer, UnlistedPause, PauseInStart, DeviceFault, NoDevice}
-use Rattle.wa_model.specs.Transcript as T
+use Rattle.script_model.specs.Transcript as T
 use Rattle.transcript.specs.declared.events.Names.{Names}
 use Rattle.transcript.specs.declared.refusals.RefusalKind.{RefusalKind}
 use Rattle.transcript.specs.declared.refusals.RefusalKind.TheVariants.{Usage, Malformed, Float, Invalid, Limit, Nesting, Reserved, Script, OutOfMemory, ReadFault, WriteFault}

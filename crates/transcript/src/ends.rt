@@ -1,7 +1,7 @@
 //! The texts of ends.
 
 ghost use Rattle.std.specs.Prelude.{◌≡◌, ◌++◌, [], OnOk, codes};
-ghost use Rattle.wa_model.specs.Transcript.{area_text, end_text, name_at, trap_text};
+ghost use Rattle.script_model.specs.Transcript.{area_text, end_text, name_at, trap_text};
 ghost use Rattle.wa_model.specs.declared.events.End.TheVariants.{HostLimit, OtherImport};
 ghost use Rattle.transcript.specs.Printing.{EndFits, IsImport, of_imports};
 

@@ -3,7 +3,7 @@
 ghost use Rattle.std.specs.Prelude.{◌≡◌, ◌++◌, IfOk, OnOk, codes};
 ghost use Rattle.std.specs.Fmt.{decimal};
 ghost use Rattle.std.specs.Option.{option_map};
-ghost use Rattle.wa_model.specs.Transcript.{event_line, event_text, pause_text, printed_name, returned_value, shown_bytes};
+ghost use Rattle.script_model.specs.Transcript.{event_line, event_text, pause_text, printed_name, returned_value, shown_bytes};
 ghost use Rattle.wa_model.specs.View.{event_of, line_of};
 ghost use Rattle.transcript.specs.Printing.{EventFits, LineFits, names_of};
 

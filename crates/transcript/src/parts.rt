@@ -2,7 +2,7 @@
 
 ghost use Rattle.std.specs.Prelude.{◌≡◌, ◌++◌, ◌<◌, OnOk};
 ghost use Rattle.std.specs.Fmt.{decimal};
-ghost use Rattle.wa_model.specs.Transcript.{behind_spaces, hex_digit, hex_pair, is_plain_byte, name_byte, printed_bytes, printed_name, printed_value, value_or_none};
+ghost use Rattle.script_model.specs.Transcript.{behind_spaces, hex_digit, hex_pair, is_plain_byte, name_byte, printed_bytes, printed_name, printed_value, value_or_none};
 
 use std::alloc::{AllocError, Global};
 use wa_types::Value;

@@ -1,7 +1,7 @@
 //! The lines of refusals.
 
 ghost use Rattle.std.specs.Prelude.{◌≡◌, ◌++◌, IfOk, OnOk};
-ghost use Rattle.wa_model.specs.Transcript.{invalid, limit_word, program_text, refusal_line, refusal_text, script};
+ghost use Rattle.script_model.specs.Transcript.{invalid, limit_word, program_text, refusal_line, refusal_text, script};
 ghost use Rattle.transcript.specs.Printing.{refusal_of};
 
 use crate::parts::{put, put_number, put_with_name, put_with_number};

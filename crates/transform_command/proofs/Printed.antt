@@ -1,7 +1,7 @@
 -- What was printed, piece after piece.
 use Rattle.std.proofs.Common.{ℕ, List, Option, Some, None, refl, sym, ◌∙◌, ◌≡◌, ◌⊎◌, inl, inr, arith}
 use Rattle.vault_port.specs.Told.{Becomes, WhereTold}
-use Rattle.wa_model.specs.Transcript.{refusal_line, read_fault}
+use Rattle.script_model.specs.Transcript.{refusal_line, read_fault}
 use Rattle.printing.specs.Refused.{status_of, EndsInMemory, Prints}
 use Rattle.printing.proofs.Printed.{memory_alone}
 use Rattle.transform_command.specs.Ends.{IsRefusal}

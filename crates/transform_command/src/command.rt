@@ -5,7 +5,7 @@ ghost use Rattle.call_graph.specs.Settings.{settings_of};
 ghost use Rattle.vault_port.specs.Counts.{HasRisen};
 ghost use Rattle.vault_port.specs.Files.{bytes_of, IsMissing};
 ghost use Rattle.vault_port.specs.Told.{WhereTold, Becomes};
-ghost use Rattle.wa_model.specs.Transcript.{read_fault, refusal_line, write_fault};
+ghost use Rattle.script_model.specs.Transcript.{read_fault, refusal_line, write_fault};
 ghost use Rattle.printing.specs.Refused.{Prints};
 ghost use Rattle.transform_command.specs.Ends.{IsRefusal};
 ghost use Rattle.transform_command.specs.Transforms.{HasCause, HoldsSource, IsCutShort, IsTransformed, PrintsRefusal, PrintsDone, PrintsLess, RunsOutOfMemory};

@@ -5,7 +5,7 @@ use Rattle.wa_types.specs.Pausing.{Callee}
 use Rattle.wa_types.specs.Syntax.{a_block, Code, done, nest, plain}
 use Rattle.wa_types.specs.View.{onto, code}
 use Rattle.wa_types.proofs.ViewLemmas.{onto_done, onto_none}
-use Rattle.wa_model.specs.Flat.{set_to, slots_got}
+use Rattle.run_theory.specs.Flat.{set_to, slots_got}
 use Rattle.guard_form.specs.Guarded.{GuardIndices, call_front, call_guarded, guarded, last_piece, noted, own_block, raised, sought}
 use Rattle.guard_form.specs.Pieces.{call_to}
 use Rattle.guard_form.proofs.CodeLemmas.{raised_none}

@@ -10,7 +10,7 @@ use Rattle.wa_types.specs.View.{in_front, onto, code}
 use Rattle.wa_types.proofs.ViewLemmas.{is_block, is_loop, is_if, is_plain, instr_kind, in_block, in_loop, in_if, onto_done}
 use Rattle.wa_model.specs.declared.flat.Operand.{Operand}
 use Rattle.wa_model.specs.declared.flat.Operand.TheVariants.{Local, Const}
-use Rattle.wa_model.specs.Flat.{followed_by, got, set_to, slots_got}
+use Rattle.run_theory.specs.Flat.{followed_by, got, set_to, slots_got}
 use Rattle.guard_form.specs.Pieces.{call_to, got_any}
 use Rattle.guard_form.specs.Guarded.{GuardIndices, index_with, raised_plain, raised, sought, index_noted, noted}
 use Rattle.guard_form.proofs.CodeLemmas.{then_done}

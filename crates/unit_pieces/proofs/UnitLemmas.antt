@@ -11,7 +11,7 @@ use Rattle.wa_types.specs.Syntax.{a_block, a_loop, Plain, Shape, Code, plain, ne
 use Rattle.wa_types.specs.View.{code}
 use Rattle.wa_types.proofs.ViewLemmas.{code_none}
 use Rattle.wa_model.specs.declared.flat.Operand.{Operand}
-use Rattle.wa_model.specs.Flat.{followed_by, set_to}
+use Rattle.run_theory.specs.Flat.{followed_by, set_to}
 use Rattle.guard_form.specs.Pieces.{Units, no_unit, call_unit, nest_unit, if_unit, any_unit, call_to, got_any, flat_units, numbers_in}
 use Rattle.guard_form.specs.Bounds.{unit_count}
 use Rattle.guard_form.specs.Guarded.{Exit, each_end, its_end, by_label, nowhere, exit_behind, exit_inside}

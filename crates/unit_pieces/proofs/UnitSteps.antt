@@ -6,7 +6,7 @@ use Rattle.wa_types.specs.Syntax.{global_get, basic, a_block, Shape, Code, done,
 use Rattle.wa_types.specs.View.{in_front, onto, code}
 use Rattle.wa_types.proofs.ViewLemmas.{code_none, onto_none}
 use Rattle.wa_model.specs.declared.flat.Operand.{Operand}
-use Rattle.wa_model.specs.Flat.{followed_by}
+use Rattle.run_theory.specs.Flat.{followed_by}
 use Rattle.guard_form.specs.Pieces.{Units, no_unit, call_unit, nest_unit, if_unit, any_unit, numbers_in, got_any}
 use Rattle.std.specs.Prelude.{if◌then◌else◌}
 use Rattle.guard_form.proofs.UnitLemmas.{last_none}

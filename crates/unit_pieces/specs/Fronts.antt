@@ -5,7 +5,7 @@ use Rattle.wa_types.specs.declared.values.ValType.TheVariants.{I32}
 use Rattle.wa_types.specs.Syntax.{basic, global_get, Code, done, plain, branch}
 use Rattle.wa_types.specs.View.{onto, code}
 use Rattle.wa_model.specs.declared.flat.Operand.{Operand}
-use Rattle.wa_model.specs.Flat.{followed_by}
+use Rattle.run_theory.specs.Flat.{followed_by}
 use Rattle.guard_form.specs.Pieces.{Units, no_unit, call_unit, nest_unit, if_unit, any_unit, numbers_in, got_any}
 use Rattle.guard_form.specs.Bounds.{unit_count}
 use Rattle.guard_form.specs.Guarded.{GuardIndices, raised, choice, arm, Exit, front}

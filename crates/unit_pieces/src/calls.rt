@@ -3,7 +3,7 @@
 ghost use Rattle.std.specs.Prelude.{◌≡◌, ◌<◌, ◌^◌, false, OnOk};
 ghost use Rattle.wa_types.specs.Syntax.{Code, done, plain};
 ghost use Rattle.wa_types.specs.View.{code, onto};
-ghost use Rattle.wa_model.specs.Flat.{set_to, slots_got};
+ghost use Rattle.run_theory.specs.Flat.{set_to, slots_got};
 ghost use Rattle.guard_form.specs.Guarded.{call_front, call_guarded, noted, own_block, raised, sought};
 ghost use Rattle.guard_form.specs.Pieces.{call_to};
 ghost use Rattle.flat_pieces.specs.Putting.{Puts};

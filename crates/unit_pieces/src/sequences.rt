@@ -2,7 +2,7 @@
 
 ghost use Rattle.std.specs.Prelude.{◌≡◌, ◌<◌, ◌^◌, true, IfOk, OnOk};
 ghost use Rattle.wa_types.specs.View.{code, onto};
-ghost use Rattle.wa_model.specs.Flat.{followed_by};
+ghost use Rattle.run_theory.specs.Flat.{followed_by};
 ghost use Rattle.guard_form.specs.Guarded.{guarded_body, last_piece};
 ghost use Rattle.guard_form.specs.Pieces.{flat_units, no_unit, numbers_in};
 ghost use Rattle.flat_pieces.specs.Raising.{Raisable};

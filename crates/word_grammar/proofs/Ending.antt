@@ -10,8 +10,8 @@ use Rattle.clap.specs.Faults.{check_fault, default_fault, defaults_fault, given_
 use Rattle.clap.specs.declared.error.kind.ErrorKind.TheVariants as kind
 use Rattle.clap.specs.declared.parser.matches.ValueSource.TheVariants.{DefaultValue}
 use Rattle.wa_types.specs.Pausing.{Choice, Policy}
-use Rattle.wa_model.specs.Command.{Said, Place, anywhere, behind_imports, behind_save, behind_options, nothing_said, said, choice_said, policy_said, transform_at, with_files}
-use Rattle.wa_model.specs.Spelled.{Spelled, rewrites, hosts, runs, is_plain, number_and_file, one_file}
+use Rattle.script_model.specs.Command.{Said, Place, anywhere, behind_imports, behind_save, behind_options, nothing_said, said, choice_said, policy_said, transform_at, with_files}
+use Rattle.script_model.specs.Spelled.{Spelled, rewrites, hosts, runs, is_plain, number_and_file, one_file}
 use Rattle.word_grammar.specs.Grammar.{Kind, transform_words, host_words, run_words, gen_words, rules, shape, flag_of, is_true, TellsFlag, TellsFlags, read_of}
 use Rattle.word_grammar.proofs.Telling.{Bare, HasNone, Valued, list_option, save_option, agrees, bare_at, is_owed, spells, tell_at, told}
 use Rattle.word_grammar.proofs.Rows.{Slot, list_slot, save_slot, imports_slot, indirect_slot, input_slot, output_slot, id_of, option_id}

@@ -13,8 +13,8 @@ use Rattle.clap.specs.Faults.{settle_fault, step_fault, turn_fault, walk_fault, 
 use Rattle.clap.specs.declared.error.kind.ErrorKind.TheVariants as kind
 use Rattle.clap.proofs.FaultLemmas.{stopped_fault}
 use Rattle.clap.proofs.WalkLemmas.{walk_stopped}
-use Rattle.wa_model.specs.Command.{nothing_said, said, transform_said}
-use Rattle.wa_model.specs.Spelled.{Spelled, spelled, rewrites, hosts, runs, files_alone, one_file, number_and_file}
+use Rattle.script_model.specs.Command.{nothing_said, said, transform_said}
+use Rattle.script_model.specs.Spelled.{Spelled, spelled, rewrites, hosts, runs, files_alone, one_file, number_and_file}
 use Rattle.word_grammar.specs.Grammar.{Kind, transform_words, host_words, run_words, gen_words, MatchesSpell, line, line_shape, name_of, rules, shape}
 use Rattle.word_grammar.proofs.Views.{View, is_end, is_list, is_save, is_imports, is_indirect, is_list_with, is_save_with, is_named, is_long, is_short, view, same_is, differ, clash}
 use Rattle.word_grammar.proofs.Telling.{spells}

@@ -8,7 +8,7 @@ use Rattle.clap.specs.Values.{kind_of}
 use Rattle.clap.specs.declared.error.Error.{Error}
 use Rattle.clap.specs.declared.error.kind.ErrorKind.TheVariants.{OutOfMemory}
 use Rattle.clap.specs.declared.parser.matches.ArgMatches.{ArgMatches}
-use Rattle.wa_model.specs.Spelled.{Spelled, spelled}
+use Rattle.script_model.specs.Spelled.{Spelled, spelled}
 use Rattle.word_grammar.specs.Grammar.{Kind, transform_words, host_words, run_words, gen_words, MatchesSpell, TellsFlags, line, name_of, read_of}
 use Rattle.word_grammar.proofs.Exact.{exact, line_is_free, line_is_simple}
 use Rattle.word_grammar.proofs.Views.{clash}

@@ -6,7 +6,7 @@ use Rattle.clap.specs.Walk.{Held, Row, Rule, Text, Walk, Waiting, arg_by_index, 
 use Rattle.clap.specs.Kinds.{or_else}
 use Rattle.clap.specs.Faults.{positional_fault, repeat_fault, settle_fault, step_fault, stray_fault, use_fault}
 use Rattle.clap.specs.declared.error.kind.ErrorKind.TheVariants as kind
-use Rattle.wa_model.specs.Command.{Said, Place, anywhere, behind_imports, behind_save, behind_options}
+use Rattle.script_model.specs.Command.{Said, Place, anywhere, behind_imports, behind_save, behind_options}
 use Rattle.word_grammar.specs.Grammar.{Kind, transform_words, host_words, run_words, gen_words, rules, shape}
 use Rattle.word_grammar.proofs.Telling.{tell_file}
 use Rattle.word_grammar.proofs.Rows.{Slot, list_slot, save_slot, imports_slot, indirect_slot, input_slot, output_slot, id_of, input_id, same_slot, said_at, Tells, taken}

@@ -6,7 +6,7 @@ use Rattle.clap.specs.Faults.{repeat_fault, settle_fault, step_fault, turn_fault
 use Rattle.clap.specs.declared.builder.value_parser.Reading.TheVariants.{AsWritten}
 use Rattle.clap.specs.declared.parser.matches.ValueSource.TheVariants.{CommandLine}
 use Rattle.clap.specs.declared.error.kind.ErrorKind.TheVariants as kind
-use Rattle.wa_model.specs.Command.{Said, Place, anywhere, behind_imports, behind_save, behind_options, word_of, unknown_word, say_imports, say_save, say_ignore_imports, say_ignore_indirect}
+use Rattle.script_model.specs.Command.{Said, Place, anywhere, behind_imports, behind_save, behind_options, word_of, unknown_word, say_imports, say_save, say_ignore_imports, say_ignore_indirect}
 use Rattle.word_grammar.specs.Grammar.{Kind, transform_words, host_words, run_words, gen_words, rules, shape}
 use Rattle.word_grammar.proofs.Views.{View, is_end, is_list, is_save, is_imports, is_indirect, is_list_with, is_save_with, is_named, is_long, is_short, IsName, IsUnknown}
 use Rattle.word_grammar.proofs.Telling.{tell_at, tell_file, tell_value, tell_word, say_value, Valued, list_option, save_option}

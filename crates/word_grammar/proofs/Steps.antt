@@ -10,7 +10,7 @@ use Rattle.clap.specs.Kinds.{Kinds, or_else}
 use Rattle.clap.specs.Faults.{bundle_fault, flag_word_fault, flags_fault, long_fault, other_fault, bundle_step_fault, short_fault, settle_fault, step_fault, turn_fault, word_fault}
 use Rattle.clap.specs.declared.error.kind.ErrorKind.{ErrorKind}
 use Rattle.clap.specs.declared.error.kind.ErrorKind.TheVariants as kind
-use Rattle.wa_model.specs.Command.{Said, Place, behind_imports, behind_save, behind_options, say_file}
+use Rattle.script_model.specs.Command.{Said, Place, behind_imports, behind_save, behind_options, say_file}
 use Rattle.word_grammar.specs.Grammar.{Kind, transform_words, host_words, run_words, gen_words, rules, shape, option_rule, flag_rule, placed_rule}
 use Rattle.word_grammar.proofs.Views.{IsUnknown, Strange}
 use Rattle.word_grammar.proofs.Telling.{tell_file, one_at_most, Valued, list_option, save_option}

@@ -4,11 +4,11 @@ use Rattle.std.proofs.Common.{◌≡◌, ◌∙◌, ℕ, List, [], ◌∷◌, Op
 use Rattle.std.proofs.Common.{true≢false, ◌||◌}
 use Rattle.std.proofs.lemmas.Slice.Eq.{bytes_eq-Decides}
 use Rattle.wa_types.specs.Pausing.{Choice}
-use Rattle.wa_model.specs.Command.{Said, Place, anywhere, behind_imports, behind_save, behind_options, Word}
-use Rattle.wa_model.specs.Command.{imports_word, save_word, ignore_imports_word, ignore_indirect_word, end_word, unknown_word, imports_with, save_with}
-use Rattle.wa_model.specs.Command.{name_word, word_of, is_hyphened, said, say_at, say_word, say_imports, say_save, say_ignore_imports, say_ignore_indirect, say_file, transform_said, transform_at}
-use Rattle.wa_model.specs.Command.{with_files, choice_said, policy_said}
-use Rattle.wa_model.specs.Spelled.{Spelled, rewrites, hosts, runs, files_alone, is_plain, one_file, number_and_file}
+use Rattle.script_model.specs.Command.{Said, Place, anywhere, behind_imports, behind_save, behind_options, Word}
+use Rattle.script_model.specs.Command.{imports_word, save_word, ignore_imports_word, ignore_indirect_word, end_word, unknown_word, imports_with, save_with}
+use Rattle.script_model.specs.Command.{name_word, word_of, is_hyphened, said, say_at, say_word, say_imports, say_save, say_ignore_imports, say_ignore_indirect, say_file, transform_said, transform_at}
+use Rattle.script_model.specs.Command.{with_files, choice_said, policy_said}
+use Rattle.script_model.specs.Spelled.{Spelled, rewrites, hosts, runs, files_alone, is_plain, one_file, number_and_file}
 use Rattle.word_grammar.specs.Grammar.{Kind, transform_words, host_words, run_words, gen_words}
 
 abbrev pub one_at_most : Option (List ℕ) → List ℕ → Said → Option Said

@@ -6,7 +6,7 @@ use Rattle.std.proofs.lemmas.Str.{encode_ascii, encodes-chars, IsUtf8-past_char}
 use Rattle.clap.specs.Lexer.{long_of, long_of_rest, short_of, short_of_rest, strip_byte, name_and_value}
 use Rattle.clap.proofs.CutLemmas.{Lacks}
 use Rattle.clap.proofs.LexerLemmas.{name_and_value-at, name_and_value-without}
-use Rattle.wa_model.specs.Command.{Word, imports_word, save_word, ignore_imports_word, ignore_indirect_word, end_word, unknown_word, name_word, word_of, is_hyphened, behind, named_word, with_value}
+use Rattle.script_model.specs.Command.{Word, imports_word, save_word, ignore_imports_word, ignore_indirect_word, end_word, unknown_word, name_word, word_of, is_hyphened, behind, named_word, with_value}
 
 abbrev pub Text : Type 0
 Text = List ℕ

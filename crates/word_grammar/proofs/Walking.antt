@@ -7,7 +7,7 @@ use Rattle.clap.specs.Walk.{Held, Row, Rule, Text, Walk, Waiting, arg_by_index, 
 use Rattle.clap.specs.Kinds.{Kinds, or_else}
 use Rattle.clap.specs.Faults.{long_fault, option_fault, positional_fault, react_fault, settle_fault, step_fault, stray_fault, turn_fault, walk_fault, word_fault}
 use Rattle.clap.specs.declared.error.kind.ErrorKind.TheVariants as kind
-use Rattle.wa_model.specs.Command.{Said}
+use Rattle.script_model.specs.Command.{Said}
 use Rattle.word_grammar.specs.Grammar.{Kind, transform_words, host_words, run_words, gen_words, rules, shape}
 use Rattle.word_grammar.proofs.Views.{View, is_end, is_list, is_save, is_imports, is_indirect, is_list_with, is_save_with, is_named, is_long, is_short, view}
 use Rattle.word_grammar.proofs.Telling.{told, told_none, tell_at}

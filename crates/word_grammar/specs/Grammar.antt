@@ -4,8 +4,8 @@ use Rattle.std.specs.Str.{bytes_eq}
 use Rattle.clap.specs.Walk.{Row, Rule, Text, first_of, one_of}
 use Rattle.clap.specs.Simple.{App, Shape, new_rule, new_shape, with_subcommand, filled_from}
 use Rattle.clap.specs.declared.builder.action.ArgAction.TheVariants.{SetTrue}
-use Rattle.wa_model.specs.Command.{choice_said, policy_said, with_files}
-use Rattle.wa_model.specs.Spelled.{Spelled, rewrites, hosts, runs, number_and_file}
+use Rattle.script_model.specs.Command.{choice_said, policy_said, with_files}
+use Rattle.script_model.specs.Spelled.{Spelled, rewrites, hosts, runs, number_and_file}
 
 -- the commands, by their first words
 pub data Kind : Type 0 where

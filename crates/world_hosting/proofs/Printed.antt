@@ -11,8 +11,8 @@ use Rattle.wa_model.specs.declared.answers.Detach.{Detach}
 use Rattle.wa_model.specs.declared.events.Line.{Line as LineValue}
 use Rattle.wa_model.specs.Outside.{Event, Line}
 use Rattle.wa_model.specs.View.{line_of}
-use Rattle.wa_model.specs.Transcript as T
-use Rattle.wa_model.specs.Transcript.{event_line, event_lines, last_line, names_at}
+use Rattle.script_model.specs.Transcript as T
+use Rattle.script_model.specs.Transcript.{event_line, event_lines, last_line, names_at}
 use Rattle.wa_model.specs.World.{Device, Program, ProtocolWorld}
 use Rattle.device_port.specs.declared.devices.Devices.{Devices}
 use Rattle.device_port.specs.Listed.{of_all}

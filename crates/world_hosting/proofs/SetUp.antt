@@ -16,7 +16,7 @@ use Rattle.many_host.specs.Hosts.{AreSetUp}
 use Rattle.script_reader.specs.declared.script.ShowText.{ShowText}
 use Rattle.script_reader.specs.Views.{show_of}
 use Rattle.transcript.specs.Printing.{names_of}
-use Rattle.wa_model.specs.Transcript as T
+use Rattle.script_model.specs.Transcript as T
 use Rattle.world_hosting.specs.declared.parting.Parted.{Parted}
 use Rattle.world_hosting.specs.declared.staging.Staged.{Staged}
 use Rattle.world_hosting.specs.Parted.{AreParted, CanHost, show_at, shows_from}

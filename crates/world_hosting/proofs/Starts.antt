@@ -6,10 +6,10 @@ use Rattle.wa_types.specs.declared.values.Value.{Value}
 use Rattle.std.proofs.lemmas.List.{length-map}
 use Rattle.wa_types.specs.Syntax.{Module}
 use Rattle.wa_model.specs.declared.answers.Area.{Area}
-use Rattle.wa_model.specs.Fitting.{types_of}
+use Rattle.run_theory.specs.Fitting.{types_of}
 use Rattle.wa_model.specs.Outside.{AnswerLine}
 use Rattle.wa_model.specs.Plan.{Entry}
-use Rattle.wa_model.specs.Script.{ProgramText}
+use Rattle.script_model.specs.Script.{ProgramText}
 use Rattle.wa_model.specs.View.{answer_line_of}
 use Rattle.wa_model.specs.World as W
 use Rattle.host_setup.specs.SetUp.{NamedEntry, Fault, set_up}

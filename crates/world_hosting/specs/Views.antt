@@ -5,8 +5,8 @@ use Rattle.std.specs.Option.{option_map}
 use Rattle.std.specs.Global.{Vec}
 use Rattle.wa_types.specs.Modules.{imported, imported_global}
 use Rattle.wa_types.specs.Syntax.{Module}
-use Rattle.wa_model.specs.Fitting.{global_types, types_of}
-use Rattle.wa_model.specs.Script.{ProgramText}
+use Rattle.run_theory.specs.Fitting.{global_types, types_of}
+use Rattle.script_model.specs.Script.{ProgramText}
 use Rattle.host_setup.specs.SetUp.{set_up}
 use Rattle.host_setup.specs.Views.{entry_of as named_entry_of}
 use Rattle.many_host.specs.Programs.{Follows, lines_left}

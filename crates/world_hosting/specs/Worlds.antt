@@ -6,8 +6,8 @@ use Rattle.wa_types.specs.Syntax.{Module}
 use Rattle.wa_model.specs.declared.answers.Detach.{Detach}
 use Rattle.wa_model.specs.Outside.{AnswerLine, Line}
 use Rattle.wa_model.specs.Plan.{AnswerFits}
-use Rattle.wa_model.specs.Script.{EntryText, GlobalText, ProgramText, ShowText}
-use Rattle.wa_model.specs.Transcript.{Names, Transcript, event_lines}
+use Rattle.script_model.specs.Script.{EntryText, GlobalText, ProgramText, ShowText}
+use Rattle.script_model.specs.Transcript.{Names, Transcript, event_lines}
 use Rattle.wa_model.specs.World.{Device, Look, Program, ProtocolWorld}
 use Rattle.event_order.specs.Left.{Counted}
 use Rattle.many_host.specs.Moves.{HasShortPokes}

@@ -29,7 +29,7 @@ use Rattle.wa_model.specs.Expected.{pause_note, trap_note, shown_at, shown}
 use Rattle.wa_model.specs.Behaves.{expected_notes}
 use Rattle.wa_model.specs.World.{Device, Look, Program, bytes_shown, put_off, turn_of, behind_turn, protocol_story, BlockingStory, whole, spent, looks_after, look_events, events_with_looks}
 use Rattle.wa_model.specs.World.{line_at, Actor, Events, no_event, an_event, StartsHeld, Original}
-use Rattle.wa_model.proofs.Invariants.{TurnKeeps, RanKeeps, after_keeps}
+use Rattle.run_theory.proofs.Invariants.{TurnKeeps, RanKeeps, after_keeps}
 use Rattle.world_laws.specs.Originals.{StandsIn, MayRun, new_calls, met, Orderly, SameMoment}
 use Rattle.world_laws.proofs.Meeting.{AnswersFit, Met, EachMet, events_met}
 use Rattle.world_laws.proofs.Stories.{stories_of_originals}

@@ -15,9 +15,9 @@ use Rattle.wa_types.specs.Syntax.{Shape}
 use Rattle.wa_model.specs.declared.flat.Operand.{Operand}
 use Rattle.wa_model.specs.declared.flat.Stmt.{Stmt}
 use Rattle.wa_model.specs.declared.flat.Stmt.TheVariants.{Call as CallStmt, Block, Loop, If}
-use Rattle.wa_model.specs.Flat.{Stmts, no_more, computes, copies, calls, leaps, leaps_if, leaps_by, nests, decides, halts, FlatFunc}
-use Rattle.wa_model.specs.FlatView.{stmt_in_front, stmts}
-use Rattle.wa_model.specs.Growth.{Each}
+use Rattle.run_theory.specs.Flat.{Stmts, no_more, computes, copies, calls, leaps, leaps_if, leaps_by, nests, decides, halts, FlatFunc}
+use Rattle.run_theory.specs.FlatView.{stmt_in_front, stmts}
+use Rattle.run_theory.specs.Growth.{Each}
 use Rattle.flat_laws.specs.FlatModule.{stacks_in}
 use Rattle.guard_form.specs.Grouping.{is_place}
 use Rattle.guard_form.specs.Pieces.{call_total}

@@ -1,8 +1,8 @@
 -- The stacks of numbered calls, as they are marked.
 use Rattle.std.specs.Prelude.{◌≡◌, ◌<◌, ◌^◌, ◌+◌, ◌&&◌, ◌||◌, ℕ, suc, List, [], ◌∷◌, length, get_or, Bool, false, All, nat_eq}
 use Rattle.std.specs.List.{list_any}
-use Rattle.wa_model.specs.Flat.{Stmts}
-use Rattle.wa_model.specs.Growth.{Each}
+use Rattle.run_theory.specs.Flat.{Stmts}
+use Rattle.run_theory.specs.Growth.{Each}
 use Rattle.flat_laws.specs.FlatModule.{stacks_in}
 use Rattle.guard_form.specs.Grouping.{is_place}
 use Rattle.guard_form.specs.Pieces.{call_total}

@@ -2,8 +2,8 @@
 
 ghost use Rattle.std.specs.Prelude.{◌≡◌, ◌<◌, ◌≤◌, ◌+◌, ◌^◌, ◌||◌, ◌&&◌, ℕ, All, length, get_or, false, nat_eq, nat_lt, IfOk};
 ghost use Rattle.std.specs.List.{list_any};
-ghost use Rattle.wa_model.specs.Flat.{no_more};
-ghost use Rattle.wa_model.specs.FlatView.{flat_func_of, stmts, stmt_in_front};
+ghost use Rattle.run_theory.specs.Flat.{no_more};
+ghost use Rattle.run_theory.specs.FlatView.{flat_func_of, stmts, stmt_in_front};
 ghost use Rattle.guard_form.specs.Grouping.{is_place};
 ghost use Rattle.guard_form.specs.Pieces.{call_total};
 ghost use Rattle.flow_rewrite.specs.Emitting.{Rises};

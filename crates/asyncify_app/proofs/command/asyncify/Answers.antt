@@ -2,9 +2,9 @@
 use Rattle.std.proofs.Common.{◌≡◌, ◌∙◌, Err, None, Some, ap, map, refl, subst}
 use Rattle.std.specs.String.{string_bytes}
 use Rattle.call_graph.specs.Settings.{settings_of}
-use Rattle.wa_model.specs.Command.{transform}
-use Rattle.wa_model.specs.Spelled.{rewrites, spelled}
-use Rattle.wa_model.specs.Transcript.{refusal_line, usage}
+use Rattle.script_model.specs.Command.{transform}
+use Rattle.script_model.specs.Spelled.{rewrites, spelled}
+use Rattle.script_model.specs.Transcript.{refusal_line, usage}
 use Rattle.command_words.specs.declared.words.WordsFault.{WordsFault}
 use Rattle.command_words.specs.declared.words.Command.{Command}
 use Rattle.command_words.specs.Words.{Reads, spelled_of}

@@ -1,7 +1,7 @@
 use Rattle.std.proofs.Common.{rules, arith, ap, sym, ◌∙◌}
 use Rattle.wa_types.specs.Syntax.{a_block, a_loop}
-use Rattle.wa_model.specs.Flat.{no_more, nests, decides}
-use Rattle.wa_model.specs.FlatView.{stmts}
+use Rattle.run_theory.specs.Flat.{no_more, nests, decides}
+use Rattle.run_theory.specs.FlatView.{stmts}
 use Rattle.wa_model.specs.declared.flat.Stmt.{the_lemmas}
 use Rattle.call_numbers.specs.Numbering.{gets_number}
 use Rattle.call_numbers.proofs.NumberingLemmas.{room_at, numbers_next, numbers_end, call_place, call_items, nest_room, nest_done, if_room, else_room, if_done, none_place, none_items}

@@ -1,6 +1,6 @@
 use Rattle.std.proofs.Common.{◌≡◌, ◌+◌, ◌++◌, drop}
 use Rattle.wa_types.specs.Pausing.{places_from}
-use Rattle.wa_model.specs.FlatView.{stmts}
+use Rattle.run_theory.specs.FlatView.{stmts}
 use Rattle.guard_form.specs.Pieces.{call_total}
 use Rattle.call_numbers.specs.Numbering.{callees, gets_number}
 use Rattle.call_numbers.proofs.numbering.+number.Given as goal

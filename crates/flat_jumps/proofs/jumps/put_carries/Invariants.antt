@@ -1,5 +1,5 @@
 use Rattle.std.proofs.Common.{◌≡◌, drop, reverse}
-use Rattle.wa_model.specs.Flat.{Stmts}
+use Rattle.run_theory.specs.Flat.{Stmts}
 use Rattle.flat_instrs.specs.Emitting.{all_carried, onto_stmts}
 use Rattle.flat_jumps.proofs.jumps.put_carries.Given as goal
 

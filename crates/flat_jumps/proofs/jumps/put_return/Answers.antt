@@ -1,6 +1,6 @@
 use Rattle.std.proofs.Common.{ap, arith, ◌≡◌, ◌-◌, ◌∙◌, length, reverse, List, ℕ, Option}
 use Rattle.wa_types.specs.Syntax.{return}
-use Rattle.wa_model.specs.Flat.{leaps, no_more}
+use Rattle.run_theory.specs.Flat.{leaps, no_more}
 use Rattle.flat_laws.specs.Flatten.{carry}
 use Rattle.flat_instrs.specs.Emitting.{all_of, first_or, onto_stmts}
 use Rattle.flat_instrs.proofs.LeafLemmas.{labels_long, top_slot_is}

@@ -1,5 +1,5 @@
 use Rattle.std.proofs.Common.{take}
-use Rattle.wa_model.specs.Flat.{all_got}
+use Rattle.run_theory.specs.Flat.{all_got}
 use Rattle.flat_pieces.specs.Putting.{Puts}
 use Rattle.flat_pieces.proofs.put.put_operands.Given as goal
 

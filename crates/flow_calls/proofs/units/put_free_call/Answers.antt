@@ -1,7 +1,7 @@
 use Rattle.std.proofs.Common.{ap, refl, ◌∙◌}
 use Rattle.wa_types.specs.Syntax.{done}
 use Rattle.wa_types.specs.View.{in_front, onto}
-use Rattle.wa_model.specs.Flat.{followed_by, set_to, slots_got}
+use Rattle.run_theory.specs.Flat.{followed_by, set_to, slots_got}
 use Rattle.flow_calls.proofs.UnitSteps.{free_stepped}
 use Rattle.flow_calls.proofs.units.put_free_call.Goals as goal
 

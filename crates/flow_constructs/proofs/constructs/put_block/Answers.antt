@@ -2,7 +2,7 @@ use Rattle.std.proofs.Common.{ap, refl, ◌∙◌, None}
 use Rattle.wa_types.specs.Syntax.{a_block}
 use Rattle.wa_types.specs.View.{onto, code}
 use Rattle.wa_types.proofs.ViewLemmas.{in_block}
-use Rattle.wa_model.specs.FlatView.{stmts}
+use Rattle.run_theory.specs.FlatView.{stmts}
 use Rattle.guard_form.specs.Guarded.{guarded}
 use Rattle.flow_calls.specs.Emitting.{indices}
 use Rattle.flow_calls.proofs.SequenceLemmas.{from_not_true, from_not_false}

@@ -1,7 +1,7 @@
 use Rattle.std.proofs.Common.{ap, refl, sym, subst, ◌∙◌, None}
 use Rattle.wa_types.specs.View.{code}
 use Rattle.wa_types.proofs.ViewLemmas.{in_if}
-use Rattle.wa_model.specs.FlatView.{stmts}
+use Rattle.run_theory.specs.FlatView.{stmts}
 use Rattle.guard_form.specs.Guarded.{raised}
 use Rattle.flat_pieces.specs.Raising.{Raisable}
 use Rattle.flow_constructs.proofs.ConstructSteps.{condition_raisable}

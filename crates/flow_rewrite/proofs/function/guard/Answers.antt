@@ -2,7 +2,7 @@ use Rattle.guard_form.specs.Bounds.{reads, reads_bound}
 use Rattle.guard_form.proofs.UnitCounts.{guarded_reads}
 use Rattle.std.proofs.Common.{◌≤◌, false, refl, sym, subst, ap, ◌∙◌}
 use Rattle.wa_types.specs.View.{code}
-use Rattle.wa_model.specs.FlatView.{flat_func_of, stmts}
+use Rattle.run_theory.specs.FlatView.{flat_func_of, stmts}
 use Rattle.guard_form.specs.Guarded.{guarded_code}
 use Rattle.flow_calls.specs.declared.guards.Guards.{Guards}
 use Rattle.flow_calls.specs.Emitting.{indices, IsPart, Rises}

@@ -1,5 +1,5 @@
 use Rattle.std.proofs.Common.{drop}
-use Rattle.wa_model.specs.FlatView.{stmts}
+use Rattle.run_theory.specs.FlatView.{stmts}
 use Rattle.flow_calls.specs.Emitting.{Walked}
 use Rattle.flow_rewrite.proofs.write.+write.Given as goal
 

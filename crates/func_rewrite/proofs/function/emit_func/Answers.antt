@@ -1,11 +1,11 @@
 use Rattle.std.proofs.Common.{arith, refl, ap, sym, subst, length, get_or, take, drop, map, Bool, false, All, ◌∙◌, ◌≡◌, ◌+◌, ◌<◌, ◌++◌, ◌∷◌, []}
 use Rattle.wa_types.specs.declared.values.ValType.TheVariants.{I32, I64}
-use Rattle.wa_model.specs.FlatFits.{one_run}
+use Rattle.run_theory.specs.FlatFits.{one_run}
 use Rattle.local_spill.specs.Laying.{in_a_row, row_size}
 use Rattle.written_frames.specs.Frames.{numbered_places}
 use Rattle.wa_types.specs.Pausing.{places_from}
 use Rattle.wa_types.specs.View.{code, func_of, module_of}
-use Rattle.wa_model.specs.FlatView.{flat_func_of}
+use Rattle.run_theory.specs.FlatView.{flat_func_of}
 use Rattle.call_graph.specs.Settings.{settings_of}
 use Rattle.written_frames.specs.Numbering.{callees, gets_number}
 use Rattle.written_frames.specs.Emitting.{Rises}

@@ -4,7 +4,7 @@ use Rattle.written_frames.specs.Frames.{numbered_places, AllFrames}
 use Rattle.written_frames.proofs.NumberingLemmas.{callees_count}
 use Rattle.wa_types.specs.Pausing.{places_from}
 use Rattle.wa_types.specs.View.{func_of, module_of}
-use Rattle.wa_model.specs.FlatView.{flat_func_of}
+use Rattle.run_theory.specs.FlatView.{flat_func_of}
 use Rattle.call_graph.specs.Settings.{settings_of}
 use Rattle.written_frames.specs.Numbering.{callees, gets_number}
 use Rattle.func_rewrite.proofs.CallNumbers.{places_few as places_few_of}

@@ -1,6 +1,6 @@
 use Rattle.std.proofs.Common.{arith, ◌≡◌, ◌-◌, [], IfOk, length, drop, length-drop, map, refl, sym, ap, ◌∙◌, subst}
 use Rattle.wa_types.specs.Modules.{func_type_at}
-use Rattle.wa_model.specs.Fitting.{types_of, StoreFits}
+use Rattle.run_theory.specs.Fitting.{types_of, StoreFits}
 use Rattle.interp.specs.Host.{code_in, store_in, waits_in}
 use Rattle.interp.specs.Instance.{Calls}
 use Rattle.host_stages.specs.Views.{entry_of, left_of, supply_in}

@@ -1,6 +1,6 @@
 use Rattle.std.proofs.Common.{arith, ◌≡◌, ◌+◌, ◌-◌, IfOk, refl, sym, ap, ◌∙◌, subst}
 use Rattle.std.specs.Option.{option_to_list}
-use Rattle.wa_model.specs.Fitting.{types_of, StoreFits}
+use Rattle.run_theory.specs.Fitting.{types_of, StoreFits}
 use Rattle.wa_model.specs.Blocking.{the_start, an_entry}
 use Rattle.wa_model.specs.Protocol.{exports_of, busy}
 use Rattle.interp.specs.Host.{store_in, waits_in}

@@ -1,6 +1,6 @@
 use Rattle.std.proofs.Common.{arith, ◌≡◌, ◌≤◌, ◌<◌, ◌+◌, ◌-◌, [], IfOk, sym, ap, ◌∙◌, subst}
 use Rattle.wa_types.specs.Modules.{func_imports, func_type_at}
-use Rattle.wa_model.specs.Fitting.{StoreFits}
+use Rattle.run_theory.specs.Fitting.{StoreFits}
 use Rattle.wa_model.specs.Protocol.{starting}
 use Rattle.interp.specs.Host.{code_in, store_in, waits_in}
 use Rattle.interp.specs.Instance.{Calls}

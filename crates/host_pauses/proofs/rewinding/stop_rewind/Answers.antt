@@ -1,6 +1,6 @@
 use Rattle.std.proofs.Common.{◌-◌, [], map, refl, sym, ap, ◌∙◌, subst}
 use Rattle.std.specs.Option.{option_to_list}
-use Rattle.wa_model.specs.Fitting.{types_of}
+use Rattle.run_theory.specs.Fitting.{types_of}
 use Rattle.wa_model.specs.Blocking.{poked}
 use Rattle.wa_model.specs.Protocol.{exports_of, calling, give_answer}
 use Rattle.wa_model.specs.View.{poke_of}

@@ -1,7 +1,7 @@
 use Rattle.std.proofs.Common.{◌-◌, [], refl, sym, ap, ◌∙◌, subst}
 use Rattle.std.specs.Option.{option_to_list}
 use Rattle.wa_model.specs.declared.events.End.TheVariants as E
-use Rattle.wa_model.specs.Fitting.{types_of}
+use Rattle.run_theory.specs.Fitting.{types_of}
 use Rattle.wa_model.specs.Protocol.{exports_of, calling, test_rewound, give_answer}
 use Rattle.run_laws.specs.FittingStates.{Callable}
 use Rattle.interp.specs.Host.{store_in, waits_in}

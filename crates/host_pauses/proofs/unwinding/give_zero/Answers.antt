@@ -1,7 +1,7 @@
 use Rattle.std.proofs.Common.{◌-◌, [], sym, ap, ◌∙◌, subst}
 use Rattle.std.specs.Option.{option_to_list}
 use Rattle.wa_model.specs.declared.events.End.TheVariants as E
-use Rattle.wa_model.specs.Fitting.{types_of, StoreFits}
+use Rattle.run_theory.specs.Fitting.{types_of, StoreFits}
 use Rattle.wa_model.specs.Blocking.{resumed}
 use Rattle.wa_model.specs.Protocol.{exports_of, busy, calling, test_unwound, trap_end, zeros_of}
 use Rattle.interp.specs.Host.{code_in, store_in, waits_in}

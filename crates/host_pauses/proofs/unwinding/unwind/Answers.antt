@@ -1,7 +1,7 @@
 use Rattle.std.proofs.Common.{◌-◌, [], ◌∷◌, IfOk, sym, ap, ◌∙◌, subst}
 use Rattle.std.specs.Option.{option_to_list}
 use Rattle.wa_types.specs.declared.values.Value.TheVariants as V
-use Rattle.wa_model.specs.Fitting.{types_of, StoreFits}
+use Rattle.run_theory.specs.Fitting.{types_of, StoreFits}
 use Rattle.wa_model.specs.Blocking.{resumed}
 use Rattle.wa_model.specs.Protocol.{exports_of, busy, calling, give_zero, zeros_of, with_words}
 use Rattle.run_laws.specs.FittingStates.{Callable}

@@ -1,6 +1,6 @@
 use Rattle.std.proofs.Common.{◌-◌, sym, ap, ◌∙◌, subst}
 use Rattle.wa_model.specs.declared.events.End.TheVariants as E
-use Rattle.wa_model.specs.Fitting.{StoreFits}
+use Rattle.run_theory.specs.Fitting.{StoreFits}
 use Rattle.wa_model.specs.Protocol.{calling, trap_end}
 use Rattle.interp.specs.Host.{code_in, store_in, CallsAside}
 use Rattle.host_stages.specs.Moves.{EndsAt}

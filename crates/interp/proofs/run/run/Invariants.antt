@@ -1,6 +1,6 @@
 use Rattle.std.proofs.Common.{◌≡◌, ◌+◌, ◌-◌, ◌≤◌}
 use Rattle.wa_types.specs.View.{module_of}
-use Rattle.wa_model.specs.Alone.{Goes}
+use Rattle.run_theory.specs.Alone.{Goes}
 use Rattle.interp_reduce.specs.StackRooms.{StackRoom}
 use Rattle.interp_reduce.specs.View.{store_of, running_of}
 use Rattle.interp.proofs.run.run.Given as goal

@@ -1,7 +1,7 @@
 use Rattle.std.proofs.Common.{arith, ◌≡◌, ◌+◌, ◌≤◌, length, map, reverse, refl, slice_get, unwrap_or, ap, sym, ◌∙◌, subst}
 use Rattle.std.proofs.lemmas.Result.{IfOk-weaker, IfErr-weaker}
 use Rattle.wa_types.specs.View.{module_of}
-use Rattle.wa_model.specs.Fitting.{NextFits}
+use Rattle.run_theory.specs.Fitting.{NextFits}
 use Rattle.wa_model.specs.Step.{jump, with_number}
 use Rattle.interp_jumps.specs.Told.{Tells}
 use Rattle.interp_program.specs.View.{label_of, waiting_of, running_of}

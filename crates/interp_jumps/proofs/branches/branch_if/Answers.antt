@@ -3,7 +3,7 @@ use Rattle.std.proofs.lemmas.Result.{IfOk-weaker, IfErr-weaker}
 use Rattle.wa_types.specs.Syntax.{br_if}
 use Rattle.wa_types.specs.View.{code, module_of}
 use Rattle.wa_model.specs.Configuration.{running}
-use Rattle.wa_model.specs.Fitting.{NextFits}
+use Rattle.run_theory.specs.Fitting.{NextFits}
 use Rattle.wa_model.specs.Step.{steps, jump, choose, with_number}
 use Rattle.interp_jumps.specs.Stacks.{plain_of}
 use Rattle.interp_jumps.specs.Told.{Tells}

@@ -2,7 +2,7 @@ use Rattle.std.proofs.Common.{arith, ◌≡◌, map, reverse, refl, ap, sym, ◌
 use Rattle.std.proofs.lemmas.Result.{IfOk-weaker, IfErr-weaker}
 use Rattle.std.proofs.lemmas.List.{nil_from_length}
 use Rattle.wa_types.specs.View.{module_of}
-use Rattle.wa_model.specs.Fitting.{NextFits}
+use Rattle.run_theory.specs.Fitting.{NextFits}
 use Rattle.wa_model.specs.Step.{leave, finish}
 use Rattle.interp_jumps.specs.Stacks.{leave_of, finish_of}
 use Rattle.interp_jumps.specs.Told.{Tells}

@@ -2,7 +2,7 @@ use Rattle.std.proofs.Common.{arith, ◌<◌, ◌++◌, vec_capacity, ◌≡◌,
 use Rattle.wa_types.specs.View.{code, module_of}
 use Rattle.std.proofs.lemmas.Result.{IfOk-from_err, IfOk-weaker, IfErr-weaker}
 use Rattle.wa_model.specs.Configuration.{running}
-use Rattle.wa_model.specs.Fitting.{NextFits}
+use Rattle.run_theory.specs.Fitting.{NextFits}
 use Rattle.wa_model.specs.Step.{keep, leave}
 use Rattle.interp_jumps.specs.Stacks.{leave_of, jump_of}
 use Rattle.interp_jumps.specs.Told.{Tells}

@@ -1,7 +1,7 @@
 use Rattle.std.proofs.Common.{◌≡◌, ◌+◌, ◌≤◌, max, drop}
 use Rattle.wa_types.specs.View.{code, module_of}
 use Rattle.wa_types.specs.Counts.{count_of}
-use Rattle.wa_model.specs.Heights.{most_operands}
+use Rattle.run_theory.specs.Heights.{most_operands}
 use Rattle.interp_program.proofs.rooms.+most.Given as goal
 
 abbrev pub invariant-most_operands-loop-instr : goal.invariant-most_operands-loop-instr

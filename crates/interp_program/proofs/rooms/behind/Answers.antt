@@ -1,7 +1,7 @@
 use Rattle.std.proofs.Common.{arith, ap, sym, ◌∙◌}
 use Rattle.wa_types.specs.Syntax.{done}
 use Rattle.wa_types.specs.View.{in_front, module_of}
-use Rattle.wa_model.specs.Heights.{behind}
+use Rattle.run_theory.specs.Heights.{behind}
 use Rattle.interp_program.proofs.RoomLemmas.{after_get, after_global_get, after_const, after_size, after_num, after_select, after_load, after_grow, after_set, after_global_set, after_drop, after_br_if, after_store, after_tee, after_nop, after_br, after_br_table, after_return, after_unreachable}
 use Rattle.interp_program.proofs.rooms.behind.Goals as goal
 

@@ -7,7 +7,7 @@ use Rattle.wa_types.specs.View.{code, func_of, module_of}
 use Rattle.wa_model.specs.Configuration as C
 use Rattle.wa_model.specs.Configuration.{Configuration, running, waiting}
 use Rattle.wa_model.specs.Step.{steps, asks, zero_of}
-use Rattle.wa_model.specs.Growth.{Each}
+use Rattle.run_theory.specs.Growth.{Each}
 use Rattle.interp_program.specs.Activation.{Activation}
 use Rattle.interp_program.specs.Rooms.{room_of}
 use Rattle.interp_program.specs.Waiting.{Waiting}

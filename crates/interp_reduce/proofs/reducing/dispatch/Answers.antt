@@ -7,7 +7,7 @@ use Rattle.wa_types.specs.Syntax.{basic, nop, drop as drop_operand, select, cons
 use Rattle.wa_types.specs.Syntax.{br_if, br_table, return, unreachable, call, call_indirect, plain, nest, branch, a_block, a_loop}
 use Rattle.wa_types.specs.View.{code, module_of}
 use Rattle.wa_types.proofs.ViewLemmas.{in_block, in_loop, in_if, in_br_table}
-use Rattle.wa_model.specs.Fitting.{NextFits}
+use Rattle.run_theory.specs.Fitting.{NextFits}
 use Rattle.wa_model.specs.Step.{memory_max, leave}
 use Rattle.interp_program.specs.Flow.TheVariants.{Moved, Trapped}
 use Rattle.interp_program.specs.Effects.{Shows, effect}

@@ -4,8 +4,8 @@ use Rattle.std.proofs.lemmas.List.{nil_from_length}
 use Rattle.wa_types.specs.Syntax.{done}
 use Rattle.wa_types.specs.View.{code, module_of}
 use Rattle.wa_types.proofs.ViewLemmas.{code_none}
-use Rattle.wa_model.specs.Fitting.{NextFits}
-use Rattle.wa_model.proofs.FittingSteps.{steps_fit}
+use Rattle.run_theory.specs.Fitting.{NextFits}
+use Rattle.run_theory.proofs.FittingSteps.{steps_fit}
 use Rattle.interp_jumps.specs.Stacks.{code_of}
 use Rattle.interp_jumps.specs.Told.{Tells}
 use Rattle.interp_program.specs.View.{store_of, running_of}

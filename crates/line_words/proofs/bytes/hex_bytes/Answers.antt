@@ -1,5 +1,5 @@
 use Rattle.std.proofs.Common.{eqb-true, sym, ◌∙◌}
-use Rattle.wa_model.specs.ScriptLines.{hex_bytes}
+use Rattle.script_model.specs.ScriptLines.{hex_bytes}
 use Rattle.line_words.proofs.Sequences.{byte_step, no_byte, one_digit, no_digit}
 use Rattle.line_words.proofs.bytes.hex_bytes.Goals as goal
 

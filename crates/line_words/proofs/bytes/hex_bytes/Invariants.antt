@@ -1,5 +1,5 @@
 use Rattle.std.proofs.Common.{◌≡◌, length}
-use Rattle.wa_model.specs.ScriptLines.{hex_bytes}
+use Rattle.script_model.specs.ScriptLines.{hex_bytes}
 use Rattle.line_words.proofs.Sequences.{appended}
 use Rattle.line_words.proofs.bytes.hex_bytes.Given as goal
 

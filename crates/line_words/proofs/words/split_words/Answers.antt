@@ -4,7 +4,7 @@ use Rattle.std.proofs.lemmas.List.{length_push}
 use Rattle.std.proofs.lemmas.Iterator.Consumers.{YieldsList-turn, YieldsList-end}
 use Rattle.std.proofs.lemmas.Iterator.Splits.{YieldsList-from_slice_split}
 use Rattle.wa_types.specs.declared.names.Name.{Name}
-use Rattle.wa_model.specs.ScriptLines.{is_blank}
+use Rattle.script_model.specs.ScriptLines.{is_blank}
 use Rattle.line_words.specs.Reading.{behind_words, or_breaks, told_words}
 use Rattle.line_words.proofs.Pieces.{handed_on, piece_read, piece_fails, pieces_read}
 use Rattle.line_words.proofs.words.split_words.Goals as goal

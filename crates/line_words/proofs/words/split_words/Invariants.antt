@@ -1,6 +1,6 @@
 use Rattle.std.proofs.Common.{◌≡◌, length, drop}
 use Rattle.std.specs.List.{slice_split}
-use Rattle.wa_model.specs.ScriptLines.{is_blank}
+use Rattle.script_model.specs.ScriptLines.{is_blank}
 use Rattle.line_words.specs.Reading.{behind_words, told_words}
 use Rattle.line_words.proofs.words.split_words.Given as goal
 

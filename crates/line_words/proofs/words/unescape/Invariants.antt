@@ -1,5 +1,5 @@
 use Rattle.std.proofs.Common.{◌≡◌, length, Some}
-use Rattle.wa_model.specs.ScriptLines.{both}
+use Rattle.script_model.specs.ScriptLines.{both}
 use Rattle.line_words.proofs.Texts.{unescaped}
 use Rattle.line_words.proofs.words.unescape.Given as goal
 

@@ -1,5 +1,5 @@
 use Rattle.std.proofs.Common.{arith, [], ◌∷◌, ◌++◌, ◌+◌, ◌∙◌, ap, false, length, replicate, sym}
-use Rattle.wa_model.specs.FlatView.{flat_func_of, stmts}
+use Rattle.run_theory.specs.FlatView.{flat_func_of, stmts}
 use Rattle.guard_form.specs.Pieces.{call_total}
 use Rattle.live_passes.proofs.SetLemmas.{put_back}
 use Rattle.live_locals.proofs.WholeLemmas.{whole_countable, sets_are}

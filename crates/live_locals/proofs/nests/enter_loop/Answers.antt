@@ -1,6 +1,6 @@
 use Rattle.std.proofs.Common.{◌∙◌, ap, arith, length, refl, reverse, subst, sym}
 use Rattle.std.proofs.lemmas.Result.{IfOk-weaker}
-use Rattle.wa_model.specs.FlatView.{stmts}
+use Rattle.run_theory.specs.FlatView.{stmts}
 use Rattle.live_locals.specs.Nests.{AtLoop}
 use Rattle.live_locals.proofs.NestLemmas.{at_known, head_tells, if_on_ok, nest_inside}
 use Rattle.live_locals.proofs.nests.enter_loop.Goals as goal

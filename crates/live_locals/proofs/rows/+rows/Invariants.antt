@@ -1,6 +1,6 @@
 use Rattle.std.proofs.Common.{◌≡◌, ◌≤◌, drop, length, reverse}
-use Rattle.wa_model.specs.Flat.{code_of}
-use Rattle.wa_model.specs.FlatView.{stmts}
+use Rattle.run_theory.specs.Flat.{code_of}
+use Rattle.run_theory.specs.FlatView.{stmts}
 use Rattle.live_passes.specs.Sets.{Passed}
 use Rattle.live_words.specs.Heads.{loop_total}
 use Rattle.live_locals.specs.Rows.{RowsPut}

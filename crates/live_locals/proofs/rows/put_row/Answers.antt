@@ -1,6 +1,6 @@
 use Rattle.std.proofs.Common.{◌∙◌, [], ap, length, subst, sym}
 use Rattle.wa_types.specs.Syntax.{done}
-use Rattle.wa_model.specs.Flat.{slots_got}
+use Rattle.run_theory.specs.Flat.{slots_got}
 use Rattle.guard_form.specs.Grouping.{is_place}
 use Rattle.live_passes.specs.Sets.{TellsAnywhere}
 use Rattle.live_passes.proofs.SetLemmas.{put_back}

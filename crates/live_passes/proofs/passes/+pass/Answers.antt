@@ -1,7 +1,7 @@
 use Rattle.std.proofs.Common.{rules, arith, [], ◌-◌, ap, length, sym, ◌∙◌}
 use Rattle.wa_types.specs.Syntax.{a_block, a_loop}
-use Rattle.wa_model.specs.Flat.{no_more, nests, decides}
-use Rattle.wa_model.specs.FlatView.{stmts}
+use Rattle.run_theory.specs.Flat.{no_more, nests, decides}
+use Rattle.run_theory.specs.FlatView.{stmts}
 use Rattle.wa_model.specs.declared.flat.Stmt.{the_lemmas}
 use Rattle.flat_pieces.proofs.StmtLemmas.{block_is, loop_is, if_is}
 use Rattle.live_passes.proofs.SetLemmas.{put_back}

@@ -1,6 +1,6 @@
 use Rattle.std.proofs.Common.{◌≤◌, drop, length}
 use Rattle.wa_types.specs.Syntax.{done}
-use Rattle.wa_model.specs.Flat.{all_got}
+use Rattle.run_theory.specs.Flat.{all_got}
 use Rattle.live_passes.specs.Sets.{TellsAnywhere}
 use Rattle.live_passes.proofs.sets.read_operands.Given as goal
 

@@ -1,7 +1,7 @@
 use Rattle.std.proofs.Common.{All, ap, arith, length, subst, sym, ◌<◌, ◌+◌, ◌∙◌, ◌≡◌}
 use Rattle.wa_types.specs.Pausing.{places_from}
 use Rattle.wa_types.specs.View.{func_of, module_of}
-use Rattle.wa_model.specs.FlatView.{flat_func_of}
+use Rattle.run_theory.specs.FlatView.{flat_func_of}
 use Rattle.call_graph.specs.Settings.{settings_of}
 use Rattle.save_laws.specs.Numbering.{callees, gets_number}
 use Rattle.save_laws.proofs.NumberingLemmas.{callees_count}

@@ -2,7 +2,7 @@ use Rattle.std.proofs.Common.{arith, ap, length, drop, map, subst, sym, ◌∙�
 use Rattle.wa_types.specs.declared.values.ValType.TheVariants.{I32, I64}
 use Rattle.wa_types.specs.Syntax.{done}
 use Rattle.wa_types.specs.View.{code, func_of, module_of}
-use Rattle.wa_model.specs.FlatFits.{one_run}
+use Rattle.run_theory.specs.FlatFits.{one_run}
 use Rattle.call_graph.specs.Settings.{settings_of}
 use Rattle.call_frames.specs.FrameParts.{restoring_by_call, saving_by_call}
 use Rattle.call_frames.specs.PlainFrames.{frames_of}

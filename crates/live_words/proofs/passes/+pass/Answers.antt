@@ -1,8 +1,8 @@
 use Rattle.std.proofs.Common.{rules, arith, [], ◌∷◌, ◌++◌, ◌-◌, None, ap, length, refl, subst, sym, ◌∙◌}
 use Rattle.std.proofs.lemmas.Result.{on_ok_weaker}
 use Rattle.wa_types.specs.Syntax.{a_block, a_loop}
-use Rattle.wa_model.specs.Flat.{no_more, nests, decides, code_of}
-use Rattle.wa_model.specs.FlatView.{stmt_in_front, stmts}
+use Rattle.run_theory.specs.Flat.{no_more, nests, decides, code_of}
+use Rattle.run_theory.specs.FlatView.{stmt_in_front, stmts}
 use Rattle.wa_model.specs.declared.flat.Stmt.{the_lemmas}
 use Rattle.flat_pieces.proofs.StmtLemmas.{block_is, loop_is, if_is}
 use Rattle.live_passes.proofs.CodeLemmas.{ops_at}

@@ -1,6 +1,6 @@
 use Rattle.std.proofs.Common.{◌≤◌, drop, length}
-use Rattle.wa_model.specs.Flat.{code_of}
-use Rattle.wa_model.specs.FlatView.{stmts}
+use Rattle.run_theory.specs.Flat.{code_of}
+use Rattle.run_theory.specs.FlatView.{stmts}
 use Rattle.live_words.specs.Words.{WordsPassed}
 use Rattle.live_words.specs.Heads.{HeadsPut}
 use Rattle.live_words.proofs.passes.+pass.Given as goal

@@ -1,6 +1,6 @@
 use Rattle.std.proofs.Common.{◌≤◌, drop, length}
 use Rattle.wa_types.specs.Syntax.{done}
-use Rattle.wa_model.specs.Flat.{slots_got}
+use Rattle.run_theory.specs.Flat.{slots_got}
 use Rattle.live_words.specs.Words.{WordsTell}
 use Rattle.live_words.proofs.sets.read_slots.Given as goal
 

@@ -2,7 +2,7 @@ use Rattle.std.proofs.Common.{subst}
 use Rattle.std.specs.Prelude.{OnErr, OnOk}
 use Rattle.vault_port.specs.Taken.{Appends, AppendsLess}
 use Rattle.vault_port.specs.Told.{Becomes}
-use Rattle.wa_model.specs.Transcript.{Names, event_line}
+use Rattle.script_model.specs.Transcript.{Names, event_line}
 use Rattle.wa_model.specs.View.{line_of}
 use Rattle.printing.proofs.LineTexts.{line_some, nothing_printed, own_names}
 use Rattle.printing.proofs.lines.put_line.Goals as goal

@@ -1,6 +1,6 @@
 use Rattle.std.proofs.Common.{ap, sym, ◌∙◌, map, Vec, Global, List, ℕ, subst}
 use Rattle.wa_model.specs.declared.answers.Poke.{Poke}
-use Rattle.wa_model.specs.ScriptLines.{all_pokes, u32_in, hex_in}
+use Rattle.script_model.specs.ScriptLines.{all_pokes, u32_in, hex_in}
 use Rattle.wa_model.specs.View.{poke_of}
 use Rattle.line_words.specs.Reading.{Blames, or_breaks}
 use Rattle.script_lines.specs.Reading.{triples}

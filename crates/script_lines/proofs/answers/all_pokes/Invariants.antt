@@ -1,5 +1,5 @@
 use Rattle.std.proofs.Common.{◌≡◌, length, map}
-use Rattle.wa_model.specs.ScriptLines.{all_pokes}
+use Rattle.script_model.specs.ScriptLines.{all_pokes}
 use Rattle.wa_model.specs.View.{poke_of}
 use Rattle.script_lines.specs.Reading.{triples}
 use Rattle.line_words.proofs.Sequences.{appended}

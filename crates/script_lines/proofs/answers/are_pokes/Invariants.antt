@@ -1,5 +1,5 @@
 use Rattle.std.proofs.Common.{◌≡◌, length, None, Some}
-use Rattle.wa_model.specs.ScriptLines.{pokes_in}
+use Rattle.script_model.specs.ScriptLines.{pokes_in}
 use Rattle.script_lines.specs.Reading.{triples}
 use Rattle.script_lines.proofs.answers.are_pokes.Given as goal
 

@@ -1,5 +1,5 @@
 use Rattle.std.proofs.Common.{◌≡◌, drop}
-use Rattle.wa_model.specs.ScriptLines.{all_values}
+use Rattle.script_model.specs.ScriptLines.{all_values}
 use Rattle.line_words.proofs.Sequences.{appended}
 use Rattle.script_lines.proofs.statements.all_values.Given as goal
 

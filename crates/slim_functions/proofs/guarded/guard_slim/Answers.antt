@@ -1,7 +1,7 @@
 use Rattle.std.proofs.Common.{arith, subst, Some, ◌∙◌}
 use Rattle.std.proofs.lemmas.Result.{IfOk-weaker}
 use Rattle.wa_types.specs.View.{code}
-use Rattle.wa_model.specs.FlatView.{flat_func_of}
+use Rattle.run_theory.specs.FlatView.{flat_func_of}
 use Rattle.flow_constructs.proofs.ConstructSteps.{numbers_few}
 use Rattle.slim_pieces.specs.Functions.{SlimTold}
 use Rattle.slim_functions.proofs.GuardLemmas.{labels_raised, units_few}

@@ -1,5 +1,5 @@
 use Rattle.std.proofs.Common.{refl, subst, sym, ◌∙◌}
-use Rattle.wa_model.specs.FlatView.{flat_func_of, stmts}
+use Rattle.run_theory.specs.FlatView.{flat_func_of, stmts}
 use Rattle.slim_walk.specs.declared.stack.Walk.{Walk}
 use Rattle.slim_steps.specs.Inside.{IsWritten, WrittenTold}
 use Rattle.slim_pieces.proofs.FunctionLemmas.{function_slim}

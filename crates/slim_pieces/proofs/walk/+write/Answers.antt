@@ -3,8 +3,8 @@ use Rattle.std.proofs.lemmas.Result.{IfOk-weaker}
 use Rattle.wa_types.specs.Syntax.{a_block, a_loop, done}
 use Rattle.wa_types.specs.View.{in_front}
 use Rattle.wa_model.specs.declared.flat.Operand.TheVariants.{Local}
-use Rattle.wa_model.specs.Flat.{no_more, calls, nests, decides}
-use Rattle.wa_model.specs.FlatView.{stmt_in_front, stmts}
+use Rattle.run_theory.specs.Flat.{no_more, calls, nests, decides}
+use Rattle.run_theory.specs.FlatView.{stmt_in_front, stmts}
 use Rattle.flat_pieces.proofs.StmtLemmas.{block_is, call_is, if_is, loop_is}
 use Rattle.slim_steps.specs.Coming.{Ready}
 use Rattle.slim_steps.specs.Inside.{ConditionTold, InsideTold, Left, WrittenTold}

@@ -1,7 +1,7 @@
 use Rattle.std.proofs.Common.{◌≡◌, ◌+◌, ◌-◌, ◌*◌, drop}
 use Rattle.wa_model.specs.declared.flat.Operand.TheVariants.{Local}
-use Rattle.wa_model.specs.Flat.{decides, no_more}
-use Rattle.wa_model.specs.FlatView.{stmt_in_front, stmts}
+use Rattle.run_theory.specs.Flat.{decides, no_more}
+use Rattle.run_theory.specs.FlatView.{stmt_in_front, stmts}
 use Rattle.slim_pieces.proofs.WalkLemmas.{Walked, weight}
 use Rattle.slim_pieces.proofs.walk.+write.Given as goal
 

@@ -2,7 +2,7 @@ use Rattle.std.proofs.Common.{false, subst}
 use Rattle.std.proofs.lemmas.Result.{IfOk-weaker}
 use Rattle.wa_types.specs.Syntax.{br_table, done, plain}
 use Rattle.wa_types.specs.View.{in_front}
-use Rattle.wa_model.specs.Flat.{all_got, followed_by, got, set_to}
+use Rattle.run_theory.specs.Flat.{all_got, followed_by, got, set_to}
 use Rattle.slim_walk.specs.Walking.{Ended, Stepped}
 use Rattle.slim_steps.proofs.SingleLemmas.{br_if_put, br_put, halt_put, move_put, plain_fits, plain_leaf, plain_put, table_put}
 use Rattle.slim_steps.proofs.single.put_single.Goals as goal

@@ -4,7 +4,7 @@ use Rattle.std.proofs.lemmas.Result.{IfOk-weaker}
 use Rattle.wa_types.specs.Syntax.{done}
 use Rattle.wa_types.specs.View.{in_front}
 use Rattle.wa_model.specs.declared.flat.Operand.TheVariants.{Local}
-use Rattle.wa_model.specs.Flat.{last_of}
+use Rattle.run_theory.specs.Flat.{last_of}
 use Rattle.slim_walk.proofs.BranchLemmas.{call_stepped}
 use Rattle.slim_walk.proofs.branches.put_free_call.Goals as goal
 

@@ -1,7 +1,7 @@
 -- What stays of the two files and of the lines, by status.
 use Rattle.std.proofs.Common.{◌≡◌, ◌⊎◌, None, subst}
 use Rattle.vault_port.specs.Told.{Becomes}
-use Rattle.wa_model.specs.Transcript.{Refusal, refusal_line}
+use Rattle.script_model.specs.Transcript.{Refusal, refusal_line}
 use Rattle.printing.specs.Refused.{status_of, Prints}
 use Rattle.source_modules.specs.Refusals.{cause_of}
 use Rattle.transform_command.specs.Refusals.{IsToldRefusal}

@@ -4,7 +4,7 @@ use Rattle.wa_types.specs.declared.values.ValType.TheVariants.{I32}
 use Rattle.wa_types.specs.Syntax.{a_block, a_loop, basic, branch, done, global_get, plain}
 use Rattle.wa_types.specs.View.{code, onto}
 use Rattle.wa_types.proofs.ViewLemmas.{in_block, in_loop, in_if}
-use Rattle.wa_model.specs.Flat.{followed_by}
+use Rattle.run_theory.specs.Flat.{followed_by}
 use Rattle.guard_form.specs.Bounds.{unit_count}
 use Rattle.guard_form.specs.Pieces.{no_unit, call_unit, nest_unit, if_unit, numbers_in, got_any}
 use Rattle.guard_form.specs.Guarded.{arm, choice, front, raised}

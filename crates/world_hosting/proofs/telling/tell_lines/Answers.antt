@@ -3,7 +3,7 @@ use Rattle.std.proofs.Common.{arith, [], ℕ, List, length, map, refl, ◌∙◌
 use Rattle.std.specs.Prelude.{OnErr, OnOk}
 use Rattle.vault_port.specs.Taken.{Appends, AppendsLess}
 use Rattle.vault_port.specs.Told.{Becomes}
-use Rattle.wa_model.specs.Transcript.{last_line}
+use Rattle.script_model.specs.Transcript.{last_line}
 use Rattle.wa_model.specs.View.{line_of}
 use Rattle.many_host.specs.Calls.{devices_of}
 use Rattle.transcript.specs.Printing.{names_of}

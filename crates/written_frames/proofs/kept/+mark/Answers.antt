@@ -3,8 +3,8 @@ use Rattle.std.specs.Prelude.{◌||◌, ◌&&◌, nat_eq, get_or, false}
 use Rattle.std.specs.List.{list_any}
 use Rattle.guard_form.specs.Grouping.{is_place}
 use Rattle.wa_types.specs.Syntax.{a_block, a_loop}
-use Rattle.wa_model.specs.Flat.{no_more, nests, decides}
-use Rattle.wa_model.specs.FlatView.{stmts}
+use Rattle.run_theory.specs.Flat.{no_more, nests, decides}
+use Rattle.run_theory.specs.FlatView.{stmts}
 use Rattle.wa_model.specs.declared.flat.Stmt.{the_lemmas}
 use Rattle.flat_pieces.proofs.StmtLemmas.{block_is, loop_is, if_is}
 use Rattle.written_frames.proofs.MarkLemmas.{going_first, going_one, going_next, going_end, call_fits, call_place, call_marked, nest_ready, nest_place, nest_marked, if_ready, else_ready}

@@ -1,5 +1,5 @@
 use Rattle.std.proofs.Common.{drop}
-use Rattle.wa_model.specs.FlatView.{stmts}
+use Rattle.run_theory.specs.FlatView.{stmts}
 use Rattle.written_frames.proofs.MarkLemmas.{Going}
 use Rattle.written_frames.proofs.kept.+mark.Given as goal
 

@@ -1,5 +1,5 @@
 use Rattle.std.proofs.Common.{arith, ap, sym, subst, length, get_or, take, drop, false, ◌≡◌, ◌++◌, ◌∙◌}
-use Rattle.wa_model.specs.FlatView.{flat_func_of, stmts}
+use Rattle.run_theory.specs.FlatView.{flat_func_of, stmts}
 use Rattle.written_frames.specs.Marking.{Markable, Marked}
 use Rattle.written_frames.proofs.MarkLemmas.{kept_is, put_back}
 use Rattle.written_frames.proofs.kept.kept_locals.Goals as goal

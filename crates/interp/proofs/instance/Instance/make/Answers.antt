@@ -2,8 +2,8 @@ use Rattle.std.proofs.Common.{◌≡◌, IfErr, sym, subst}
 use Rattle.wa_types.specs.Modules.{imported, imported_global}
 use Rattle.wa_types.specs.View.{module_of}
 use Rattle.wa_model.specs.Instantiation.{opening, opens}
-use Rattle.wa_model.specs.Fitting.{types_of, global_types, StoreFits}
-use Rattle.wa_model.proofs.FittingOpenings.{openings_fit}
+use Rattle.run_theory.specs.Fitting.{types_of, global_types, StoreFits}
+use Rattle.run_theory.proofs.FittingOpenings.{openings_fit}
 use Rattle.interp_make.specs.Faults.{FailsAs}
 use Rattle.interp.specs.Host.{code_in, store_in}
 use Rattle.interp.proofs.FittingTurns.{both_ok}

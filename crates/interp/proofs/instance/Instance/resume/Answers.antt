@@ -1,6 +1,6 @@
 use Rattle.std.proofs.Common.{◌-◌, ◌∙◌, sym, subst}
 use Rattle.std.specs.Option.{option_to_list}
-use Rattle.wa_model.specs.Fitting.{types_of}
+use Rattle.run_theory.specs.Fitting.{types_of}
 use Rattle.interp.specs.Host.{code_in, store_in}
 use Rattle.interp.specs.Instance.{Awaits, ResumeLacks, Resumes, waits_of}
 use Rattle.interp.specs.WaitRooms.{WaitRoom}

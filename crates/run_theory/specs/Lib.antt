@@ -1,0 +1,14 @@
+pub mod Alone
+pub mod Fitting
+pub mod Flat
+pub mod FlatFits
+pub mod FlatTyped
+pub mod FlatView
+pub mod Growth
+pub mod Heights
+pub mod Keeping
+pub mod LawfulStacks
+pub mod Laws
+pub mod Pruning
+pub mod Quiet
+pub mod Touches
