@@ -80,7 +80,7 @@ pub made_follows : (n : ℕ) (p : Module) (x : Plan) (program : Program) → Rew
 made_follows n p x program r h s =
     let same : set_up p x.area (run_entry ∷ []) ≡ Ok s.0 = sym (ap (λ (z : Module). set_up z x.area (named_entries x)) h.source ∙ ap (λ (es : List NamedEntry). set_up p x.area es) h.entries) ∙ s.1 in
     let bound : BindsAs x [] = λ import. sym (ap (λ bs. unwrap_or (slice_get bs import) None) h.binds ∙ none_at p import) in
-    subst (λ (w : W.Program). FollowsAlone w [] program) (is_run_program n p x s.0 h (func_entered n p x.area s.0 r.exports same))
+    subst (λ (w : W.Program). FollowsAlone w [] program) (is_run_program n p x s.0 h (func_entered n p x.area s.0 r.parts.exports same))
     (starts_alone (world_program x s.0 [] []) program (s.2 [] [] bound) s.3)
 
 -- ---- what is asked of the plan
@@ -88,7 +88,7 @@ made_follows n p x program r h s =
 -- a generated module, rewritten, has the one import
 pub imports_as : (n : ℕ) (m p : Module) → m ≡ generated n → Rewrites m all_listed p → p.imports ≡ sleep ∷ []
 unfolding generated
-imports_as n m p e r = r.imports ∙ ap (λ (z : Module). z.imports) e
+imports_as n m p e r = r.parts.imports ∙ ap (λ (z : Module). z.imports) e
 
 one_import : (p : Module) → p.imports ≡ sleep ∷ [] → func_imports p ≡ 1
 one_import p i = ap (λ (is : List Import). length (filter_map (λ (x : Import). imported_func x.kind) is)) i

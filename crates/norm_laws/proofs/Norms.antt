@@ -23,7 +23,7 @@ use Rattle.wa_model.specs.Blocking.{Note, events_of, Blocking}
 use Rattle.wa_model.specs.Protocol.{Held, Protocol, store_held}
 use Rattle.wa_model.specs.Expected.{SameEnd}
 use Rattle.wa_model.specs.Behaves.{IsPrefix, pause_stacks, expected_notes, without_pauses, IsMoment, BehavesOn}
-use Rattle.wa_model.specs.Rewrites.{SameFunc, RewrittenFunc}
+use Rattle.wa_model.specs.Rewrites.{RewritesButRuns, SameFunc, RewrittenFunc}
 use Rattle.norm_laws.specs.Bare.{one_by_one, bare}
 use Rattle.norm_laws.specs.NormLaws.{NormBlocking, NormProtocol, NormIsValid, NormIsRewritten}
 use Rattle.norm_laws.proofs.Locals.{merged_keeps, merged_once}
@@ -168,9 +168,9 @@ module _ (m : Module) (s : Settings) (p : Module) where
     size = h.size;
   }
 
-pub norm_rewritten : NormIsRewritten
+but_runs : (m : Module) (s : Settings) (p : Module) → RewritesButRuns SameFunc m s p → RewritesButRuns SameFunc m s (Norm p)
 unfolding Norm
-norm_rewritten m s p r = record {
+but_runs m s p r = record {
   valid = r.valid;
   valid_rewritten = norm_valid p r.valid_rewritten;
   types = r.types;
@@ -187,5 +187,10 @@ norm_rewritten m s p r = record {
   unchanged = λ i f g e h quiet. let k = from_merged p.funcs i g h in subst (SameFunc f) (sym k.2) (unchanged_kept m s p f k.0 (r.unchanged i f k.0 e k.1 quiet));
   rewritten = λ i f g which e h tells pauses.
       let k = from_merged p.funcs i g h in subst (RewrittenFunc m s (Norm p) which f) (sym k.2) (rewritten_kept m s p which f k.0 (r.rewritten i f k.0 which e k.1 tells pauses));
+}
+
+pub norm_rewritten : NormIsRewritten
+norm_rewritten m s p r = record {
+  parts = but_runs m s p r.parts;
   behaves = λ w which tells plan os n compared numbered. behaves_on m s p plan os n which (expected_notes m s plan os n) (r.behaves w which tells plan os n compared numbered);
 }

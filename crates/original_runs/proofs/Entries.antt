@@ -61,34 +61,34 @@ behind_imports q x f e = by (nat_lt x (func_imports q)) refl e where
 
 module _ (m p : Module) (settings : Settings) (rw : Rewrites m settings p) (which : List Bool) (tells : TellsMayPause m settings which) where
   count_same : func_imports p ≡ func_imports m
-  count_same = ap (λ (is : List Import). length (filter_map (λ (i : Import). imported_func i.kind) is)) rw.imports
+  count_same = ap (λ (is : List Import). length (filter_map (λ (i : Import). imported_func i.kind) is)) rw.parts.imports
 
   types_grow : p.types ≡ m.types ++ runtime_types
   unfolding with_runtime
-  types_grow = rw.types
+  types_grow = rw.parts.types
 
   exports_grow : p.exports ≡ m.exports ++ runtime_exports (func_space m)
   unfolding with_runtime
-  exports_grow = rw.exports
+  exports_grow = rw.parts.exports
 
   memories_same : all_memories p ≡ all_memories (Base m)
   unfolding Base with_runtime
   memories_same =
-      ap (λ (is : List Import). filter_map (λ (i : Import). imported_memory i.kind) is ++ p.memories) rw.imports
-      ∙ ap (λ (ms : List Limits). filter_map (λ (i : Import). imported_memory i.kind) m.imports ++ ms) rw.memories
+      ap (λ (is : List Import). filter_map (λ (i : Import). imported_memory i.kind) is ++ p.memories) rw.parts.imports
+      ∙ ap (λ (ms : List Limits). filter_map (λ (i : Import). imported_memory i.kind) m.imports ++ ms) rw.parts.memories
 
   same_sort : (i : ℕ) (f g : Func) → slice_get m.funcs i ≡ Some f → slice_get p.funcs i ≡ Some g → g.sort ≡ f.sort
   same_sort i f g fe ge = by (slice_get which (func_imports m + i)) refl where
     by : (o : Option Bool) → slice_get which (func_imports m + i) ≡ o → g.sort ≡ f.sort
-    by (Some true) e = (rw.rewritten i f g which fe ge tells ((tells.each (func_imports m + i)).0 e)).sort
-    by (Some false) e = (rw.unchanged i f g fe ge (λ may. let z : ◌≡◌ {A = Option Bool} (Some false) (Some true) = sym e ∙ (tells.each (func_imports m + i)).1 may in cc)).sort
-    by None e = (rw.unchanged i f g fe ge (λ may. let z : ◌≡◌ {A = Option Bool} None (Some true) = sym e ∙ (tells.each (func_imports m + i)).1 may in cc)).sort
+    by (Some true) e = (rw.parts.rewritten i f g which fe ge tells ((tells.each (func_imports m + i)).0 e)).sort
+    by (Some false) e = (rw.parts.unchanged i f g fe ge (λ may. let z : ◌≡◌ {A = Option Bool} (Some false) (Some true) = sym e ∙ (tells.each (func_imports m + i)).1 may in cc)).sort
+    by None e = (rw.parts.unchanged i f g fe ge (λ may. let z : ◌≡◌ {A = Option Bool} None (Some true) = sym e ∙ (tells.each (func_imports m + i)).1 may in cc)).sort
 
   same_type_at : (x : ℕ) (f g : Func) → defined_at m x ≡ Some f → defined_at p x ≡ Some g → func_type_at p x ≡ func_type_at m x
   same_type_at x f g fe ge =
       let f_at : slice_get m.funcs (x - func_imports m) ≡ Some f = inner_at m x f fe in
       let g_at : slice_get p.funcs (x - func_imports m) ≡ Some g = ap (λ (k : ℕ). slice_get p.funcs (x - k)) (sym count_same) ∙ inner_at p x g ge in
-      let sorts : Each (λ x. x < length m.types) (func_sorts m) = each_below (length m.types) (func_sorts m) rw.valid.sorts in
+      let sorts : Each (λ x. x < length m.types) (func_sorts m) = each_below (length m.types) (func_sorts m) rw.parts.valid.sorts in
       let own : Each (λ x. x < length m.types) (map (λ (h : Func). h.sort) m.funcs) =
       each_behind (length m.types) (imported imported_func m) (map (λ (h : Func). h.sort) m.funcs) sorts in
       let there : f.sort < length m.types = sort_below (length m.types) m.funcs (x - func_imports m) f own f_at in
@@ -103,7 +103,7 @@ module _ (m p : Module) (settings : Settings) (rw : Rewrites m settings p) (whic
   below_space : (name : List ℕ) (x : ℕ) → Found name m.exports x → x < length (func_sorts m)
   below_space name x found =
       let n : ℕ = length (func_sorts m) in
-      let all : Each (λ x. x < n) (exported Sp.Func m ++ start_indices m.start ++ flat_map (λ (e : Elem). e.funcs) m.elems) = each_below n _ rw.valid.funcs in
+      let all : Each (λ x. x < n) (exported Sp.Func m ++ start_indices m.start ++ flat_map (λ (e : Elem). e.funcs) m.elems) = each_below n _ rw.parts.valid.funcs in
       let split = append_assoc (exported Sp.Func m) (start_indices m.start) (flat_map (λ (e : Elem). e.funcs) m.elems) in
       subst (λ (k : ℕ). k < n) found.index
       (below_found (named name) n m.exports (start_indices m.start ++ flat_map (λ (e : Elem). e.funcs) m.elems) found.export (subst (Each (λ x. x < n)) split all) found.found found.space)
@@ -129,7 +129,7 @@ module _ (m p : Module) (settings : Settings) (rw : Rewrites m settings p) (whic
         let there : Contains m.exports found.export = contains_found (named name) m.exports found.export found.found in
         let f = defined found in
         let free : Contains runtime_names found.export.name → ⊥ =
-        All-contains (λ (y : Export). Contains runtime_names y.name → ⊥) m.exports found.export (exports_free m p rw.exports rw.valid_rewritten) there in
+        All-contains (λ (y : Export). Contains runtime_names y.name → ⊥) m.exports found.export (exports_free m p rw.parts.exports rw.parts.valid_rewritten) there in
         record {
           defined = f;
           exported = (found.export, there, record { space = found.space; index = found.index; name = free });

@@ -67,12 +67,12 @@ module _ (x : Source) (y : Part) (is : IsRewritten x y) where
   fits =
       let given = given_by_rules true y.source y.text y.given is.set_up in
       let kept = kept_by_rules y.source y.text y.given is.set_up in
-      let fine = set_up_fine y.source is.rewrites.valid_rewritten y.text.area es y.given.funcs given.funcs in
+      let fine = set_up_fine y.source is.rewrites.parts.valid_rewritten y.text.area es y.given.funcs given.funcs in
       let all = entries_fit m y.source x.settings is.rewrites is.which is.tells es (none_missing y.source y.text.area es y.given.funcs given.funcs)
       (subst (λ (fs : List ℕ). All (EntryTyped y.source) (calls_of es fs)) fine.funcs_are fine.entries)
       (All-map (λ (e : NamedEntry). All value_fits e.args) named_entry y.text.entries is.ranges.entries) in
       let types : types_of y.given.globals ≡ map (λ (g : GlobalType). g.ty) (imported imported_global m) =
-      given.globals ∙ ap (λ (imports : List Import). global_types (filter_map (λ (i : Import). imported_global i.kind) imports)) is.rewrites.imports in
+      given.globals ∙ ap (λ (imports : List Import). global_types (filter_map (λ (i : Import). imported_global i.kind) imports)) is.rewrites.parts.imports in
       record {
         globals = record {
           typed = are_typed (map (λ (g : GlobalType). g.ty) (imported imported_global m)) y.given.globals types;
@@ -100,7 +100,7 @@ module _ (x : Source) (y : Part) (is : IsRewritten x y) where
     plan = ap planned is.listed;
     steps = refl;
     answers = refl;
-    binds = ap (λ (imports : List Import). bound_imports imports y.text.binds) is.rewrites.imports;
+    binds = ap (λ (imports : List Import). bound_imports imports y.text.binds) is.rewrites.parts.imports;
     looks = refl;
   }
 

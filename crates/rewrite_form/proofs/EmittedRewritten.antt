@@ -15,14 +15,14 @@ use Rattle.wa_types.specs.Syntax.{Func, Elem, Module}
 use Rattle.wa_types.specs.Typing.{Typed}
 use Rattle.wa_types.specs.Validity.{Valid, all_below, start_fits, exported, start_indices}
 use Rattle.run_theory.specs.Quiet.{FreeOfNames}
-use Rattle.wa_model.specs.Rewrites.{SameFunc, RewrittenFunc}
+use Rattle.wa_model.specs.Rewrites.{RewritesButRuns, SameFunc, RewrittenFunc}
 use Rattle.run_theory.proofs.GrownSteps.{front}
 use Rattle.run_theory.proofs.NamedModules.{valid_named}
 use Rattle.run_theory.proofs.RuntimeValid.{behind, runtime_valid}
 use Rattle.rewrite_form.specs.CodesHold.{AllCodesHold}
 use Rattle.rewrite_form.specs.Emitted.{layout_codes}
 use Rattle.rewrite_form.specs.EmittedBy.{FrameCode, func_by}
-use Rattle.rewrite_form.specs.Rewritten.{RewritesButRuns, EmittedIsValid, EmittedIsRewritten, RewritesByRuns}
+use Rattle.rewrite_form.specs.Rewritten.{EmittedIsValid, EmittedIsRewritten}
 use Rattle.rewrite_form.proofs.EmittedBy.{defined_of, sort_of, inner, emitted, runtime, told, not_told, same_length, inner_at, emitted_at, runtime_behind, own_sorts, all_sorts, all_types, same_around}
 use Rattle.rewrite_form.proofs.WrittenBy.{written_typed, written_length}
 use Rattle.rewrite_form.proofs.SizesBy.{written_size, written_depth}
@@ -141,7 +141,7 @@ module _ (m : Module) (s : Settings) (which : List Bool) (codes : (index : ℕ) 
           size = let z = written_size m s which codes x f owed.slim in omega arith;
         }))
 
-    pub rewritten_but_runs : FreeOfNames m → RewritesButRuns m s (emitted m s which codes)
+    pub rewritten_but_runs : FreeOfNames m → RewritesButRuns SameFunc m s (emitted m s which codes)
     unfolding with_runtime
     rewritten_but_runs free = record {
       valid = v;
@@ -166,23 +166,3 @@ valid_law m s which pieces v slim free = emitted_valid m s which (layout_codes m
 
 pub rewritten_law : EmittedIsRewritten
 rewritten_law m s which pieces v slim free tells = rewritten_but_runs m s which (layout_codes m s which pieces) v (layouts_hold m s which pieces v slim) tells free
-
-pub runs_law : RewritesByRuns
-runs_law m s p r runs = record {
-  valid = r.valid;
-  valid_rewritten = r.valid_rewritten;
-  types = r.types;
-  imports = r.imports;
-  tables = r.tables;
-  memories = r.memories;
-  globals = r.globals;
-  exports = r.exports;
-  start = r.start;
-  elems = r.elems;
-  segments = r.segments;
-  customs = r.customs;
-  runtime = r.runtime;
-  unchanged = r.unchanged;
-  rewritten = r.rewritten;
-  behaves = runs;
-}

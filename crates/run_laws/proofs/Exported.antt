@@ -131,4 +131,4 @@ parts_exported m p imports exports runtime valid =
     exported m p (take (length m.funcs) p.funcs) (exports_free m p exports valid) same (taken_length (length m.funcs) p.funcs _ _ behind) funcs (exports ∙ grown_exports m)
 
 pub rewritten_exported : RewrittenIsExported
-rewritten_exported m s p r = parts_exported m p r.imports r.exports r.runtime r.valid_rewritten
+rewritten_exported m s p r = let parts = r.parts in parts_exported m p parts.imports parts.exports parts.runtime parts.valid_rewritten

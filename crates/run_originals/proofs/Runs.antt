@@ -92,7 +92,7 @@ same_names [] [] h = refl
 same_names [] (y ∷ ys) h = absurd h
 same_names (x ∷ xs) [] h = absurd h
 same_names (x ∷ xs) (y ∷ ys) h =
-    let one : part_names y ≡ program_names x.original y.text = ap (names_over y.text) h.0.rewrites.imports in
+    let one : part_names y ≡ program_names x.original y.text = ap (names_over y.text) h.0.rewrites.parts.imports in
     ap (λ (n : Names). n ∷ map part_names ys) one ∙ ap (λ (ns : List Names). program_names x.original y.text ∷ ns) (same_names xs ys h.1)
 
 as_many : (xs : List Source) (ys : List Part) → AllZip IsRewritten xs ys → length ys ≡ length xs

@@ -25,21 +25,23 @@ same_func f = record { sort = refl; locals = refl; body = refl }
 pub quiet_rewritten : (m : Module) (s : Settings) → Valid m → FreeOfNames m → NeverPauses m s → Rewrites m s (with_runtime m)
 unfolding with_runtime
 quiet_rewritten m s valid free never = record {
-  valid = valid;
-  valid_rewritten = runtime_valid m valid free;
-  types = refl;
-  imports = refl;
-  tables = refl;
-  memories = refl;
-  globals = refl;
-  exports = refl;
-  start = refl;
-  elems = refl;
-  segments = refl;
-  customs = refl;
-  runtime = refl;
-  unchanged = λ i f g e h no_pause. subst (SameFunc f) (func_stays m i f g e h) (same_func f);
-  rewritten = λ i f g which e h tells may. absurd (never _ may);
+  parts = record {
+    valid = valid;
+    valid_rewritten = runtime_valid m valid free;
+    types = refl;
+    imports = refl;
+    tables = refl;
+    memories = refl;
+    globals = refl;
+    exports = refl;
+    start = refl;
+    elems = refl;
+    segments = refl;
+    customs = refl;
+    runtime = refl;
+    unchanged = λ i f g e h no_pause. subst (SameFunc f) (func_stays m i f g e h) (same_func f);
+    rewritten = λ i f g which e h tells may. absurd (never _ may);
+  };
   behaves = quiet_behaves m s valid never;
 }
 

@@ -35,7 +35,7 @@ pub runs_listing : (s : Settings) (bytes : List ℕ) (listed : List Bool) (p : M
 runs_listing s bytes listed p r = λ l e.
     let same : listed ≡ l = cc in
     ap (λ (bs : List Bool). length bs) (sym same ∙ r.listed_is) ∙ listed_count r.source s
-    ∙ ap (λ (is : List Import). length (filter_map (λ (i : Import). imported_func i.kind) is)) (sym r.rewrites.imports)
+    ∙ ap (λ (is : List Import). length (filter_map (λ (i : Import). imported_func i.kind) is)) (sym r.rewrites.parts.imports)
 
 -- what isn't written isn't refused for its length
 unwritten : (refusal : SourceRefusal) → U.IsUnwritten (S.Refused refusal) → IsUnwritten (cause_of refusal)

@@ -41,8 +41,8 @@ pub record RewrittenFunc (m : Module) (s : Settings) (p : Module) (which : List 
   pub nesting : depth_of g.body ≤ 3 * depth_of (pruned f.body) + 8
   pub size : instructions_and_labels g.body ≤ 128 * (Weight m f + 4) + frames_size m s.policy f (Numbered m s which f)
 
--- p is the module m rewritten under the settings s.
-pub record Rewrites (m : Module) (s : Settings) (p : Module) : Type 0 where
+-- p is the module m rewritten under the settings s, but for its runs: a function that can't pause stays so.
+pub record RewritesButRuns (Stays : Func → Func → Type 0) (m : Module) (s : Settings) (p : Module) : Type 0 where
   pub valid : Valid m
   pub valid_rewritten : Valid p
   -- the runtime's parts stand behind the original's, which stay
@@ -59,7 +59,11 @@ pub record Rewrites (m : Module) (s : Settings) (p : Module) : Type 0 where
   pub customs : (Norm p).customs ≡ (Norm (record p { customs = m.customs })).customs
   pub runtime : drop (length m.funcs) p.funcs ≡ drop (length m.funcs) (with_runtime m).funcs
   -- functions, by their number among the defined ones
-  pub unchanged : (i : ℕ) (f g : Func) → slice_get m.funcs i ≡ Some f → slice_get p.funcs i ≡ Some g → ¬ MayPause m s (func_imports m + i) → SameFunc f g
+  pub unchanged : (i : ℕ) (f g : Func) → slice_get m.funcs i ≡ Some f → slice_get p.funcs i ≡ Some g → ¬ MayPause m s (func_imports m + i) → Stays f g
   pub rewritten : (i : ℕ) (f g : Func) (which : List Bool) → slice_get m.funcs i ≡ Some f → slice_get p.funcs i ≡ Some g → TellsMayPause m s which → MayPause m s (func_imports m + i)
       → RewrittenFunc m s p which f g
+
+-- p is the module m rewritten under the settings s.
+pub record Rewrites (m : Module) (s : Settings) (p : Module) : Type 0 where
+  pub parts : RewritesButRuns SameFunc m s p
   pub behaves : Behaves m s p

@@ -1,4 +1,4 @@
-use Rattle.rewrite_form.proofs.EmittedRewritten.{rewritten_law, runs_law, valid_law}
+use Rattle.rewrite_form.proofs.EmittedRewritten.{rewritten_law, valid_law}
 use Rattle.rewrite_form.proofs.laws.emitted_module_is_rewritten.Goals as goal
 
 pub returns-clause-valid : goal.returns-clause-valid
@@ -6,6 +6,3 @@ returns-clause-valid c = valid_law
 
 pub returns-clause-rewritten : goal.returns-clause-rewritten
 returns-clause-rewritten c = rewritten_law
-
-pub returns-clause-by_runs : goal.returns-clause-by_runs
-returns-clause-by_runs c = runs_law
