@@ -2,11 +2,10 @@
 
 use crate::modules::{EACH_SECTION, FUNC, module};
 use crate::showing::shown;
-use module_copy::copy_module;
+use wa_types::{Instr, copy_module};
 use std::alloc::Global;
 use std::mem;
 use std::test::Fail;
-use wa_types::Instr;
 use wasm_reader::ReadFault;
 
 /// What those sections hold.

@@ -1,6 +1,6 @@
 -- The parts of sections.
 use Rattle.std.proofs.Common.{◌≡◌, ℕ, ◌+◌, ◌<◌, List, [], ◌++◌, Ok, refl, ap, sym, ◌∙◌, arith, append-nil, length, length-append}
-use Rattle.wa_types.specs.Leb.{IsUnsigned}
+use Rattle.leb_numbers.specs.Leb.{IsUnsigned}
 use Rattle.wa_types.specs.Syntax.{Custom}
 use Rattle.wa_types.specs.Spells.{◌▸◌, Exactly, Number, Filling, Text}
 use Rattle.wasm_cursor.specs.Places.{Place, place_in, with_more, ReadsNumber}

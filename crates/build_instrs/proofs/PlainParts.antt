@@ -5,12 +5,11 @@ use Rattle.std.specs.declared.alloc.Global.{Global}
 use Rattle.wa_types.specs.declared.instrs.Instr.{Instr}
 use Rattle.wa_types.specs.declared.instrs.Instr.TheVariants.{Const, BrTable, CallIndirect}
 use Rattle.wa_types.specs.declared.values.Value.TheVariants.{I32 as value_32, I64 as value_64}
-use Rattle.wa_types.specs.Leb.{IsUnsigned, IsSigned}
+use Rattle.leb_numbers.specs.Leb.{IsUnsigned, IsSigned}
 use Rattle.wa_types.specs.Binary.{Immediates, nothing, zero_byte, index, index_and_zero, access, labels, constant, float}
 use Rattle.wa_types.specs.Opcodes.{Form, follows, form, no_immediate, a_zero, an_index, an_index_and_zero, an_access, some_labels, a_constant, a_float, plain_immediates}
 use Rattle.wa_types.specs.Spells.{◌▸◌, Exactly, Number, SignedNumber, Vector, ImmediatesOf}
-use Rattle.wa_types.specs.Syntax.{nop, drop, select, const, num, global_get, global_set, load, store, memory_size, memory_grow, Plain, basic, local_get, local_set, local_tee, br, br_if}
-use Rattle.wa_types.specs.Syntax.{br_table, return, unreachable, call, call_indirect, Code, done, plain}
+use Rattle.wa_types.specs.Syntax.{nop, drop, select, const, num, global_get, global_set, load, store, memory_size, memory_grow, Plain, basic, local_get, local_set, local_tee, br, br_if, br_table, return, unreachable, call, call_indirect, Code, done, plain}
 use Rattle.wa_types.specs.View.{in_front}
 use Rattle.build_types.specs.declared.BuildFault.{BuildFault}
 use Rattle.build_types.specs.declared.BuildFault.TheVariants.{Memory}

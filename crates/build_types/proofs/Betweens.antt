@@ -1,7 +1,7 @@
 -- Parts of what a front spells, one behind another.
 use Rattle.std.proofs.Common.{◌≡◌, ℕ, suc, ◌+◌, ◌<◌, List, [], ◌∷◌, ◌++◌, map, Result, Ok, Err, refl, ap, sym, ◌∙◌, subst, arith, append_assoc, append-nil, length, length-append}
 use Rattle.file_laws.proofs.Items.{same_cut}
-use Rattle.wa_types.specs.Leb.{IsUnsigned}
+use Rattle.leb_numbers.specs.Leb.{IsUnsigned}
 use Rattle.wa_types.specs.Spells.{◌▸◌, Exactly, Number, Items, Vector}
 use Rattle.wa_types.specs.Reading.{Each}
 use Rattle.wasm_cursor.specs.declared.front.NotSpelled.{NotSpelled}

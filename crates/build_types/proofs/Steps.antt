@@ -1,6 +1,6 @@
 -- Reading part by part: what is spelled from where the code is, for whatever is spelled from where it began.
 use Rattle.std.proofs.Common.{◌≡◌, ℕ, ◌+◌, ◌<◌, List, [], ◌∷◌, ◌++◌, Result, Ok, Err, length, ap, ◌∙◌, arith, length-append, append_assoc}
-use Rattle.wa_types.specs.Leb.{IsUnsigned}
+use Rattle.leb_numbers.specs.Leb.{IsUnsigned}
 use Rattle.wa_types.specs.Spells.{◌▸◌, Exactly, Number}
 use Rattle.wasm_cursor.specs.declared.front.NotSpelled.{NotSpelled}
 use Rattle.build_types.specs.declared.BuildFault.{BuildFault}

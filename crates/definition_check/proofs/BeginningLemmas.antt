@@ -1,22 +1,18 @@
 -- What is computed of a file's beginnings is so.
-use Rattle.std.proofs.Common.{◌≡◌, ℕ, zero, suc, ◌+◌, ◌<◌, ◌≤◌, ◌⊎◌, inl, inr, List, [], ◌∷◌, ◌++◌, ◌&&◌, map, Option, Some, None, Result, Ok, Err, Bool, true, false, cond, nat_lt, nat_eq}
-use Rattle.std.proofs.Common.{refl, ap, sym, ◌∙◌, subst, arith, eqb-true, length, length-append, length-take-le, take, drop, get_or, IsUtf8}
+use Rattle.std.proofs.Common.{◌≡◌, ℕ, zero, suc, ◌+◌, ◌<◌, ◌≤◌, ◌⊎◌, inl, inr, List, [], ◌∷◌, ◌++◌, ◌&&◌, map, Option, Some, None, Result, Ok, Err, Bool, true, false, cond, nat_lt, nat_eq, refl, ap, sym, ◌∙◌, subst, arith, eqb-true, length, length-append, length-take-le, take, drop, get_or, IsUtf8}
 use Rattle.std.proofs.lemmas.Bool.{lt-ltb, le-ltb, ltb-true, ltb-false, ne_eqb}
 use Rattle.std.proofs.lemmas.List.{take-append-drop}
 use Rattle.std.proofs.lemmas.Str.{IsUtf8-from_is_utf8, is_utf8-from_IsUtf8}
 use Rattle.std.specs.Str.{is_utf8}
-use Rattle.wa_types.specs.LebFault.{LebFault}
-use Rattle.wa_types.specs.LebFault.TheVariants.{Short, Long, Bits}
-use Rattle.wa_types.specs.Leb.{unsigned_at, signed_at}
-use Rattle.wa_types.specs.Begun.{Goal, Item, a_byte, an_unsigned, a_signed, a_name, a_constant_of, IsItem, IsPart, size, head, until, rest, entries, count, exact, number, name, value_type}
-use Rattle.wa_types.specs.Begun.{block_type, mutable, import_kind, space, limits, signed, name_bytes, float_bytes, code, wants, next, settled, end_of, IsBefore, Inside, Steps, Leads}
-use Rattle.wa_types.specs.Begun.{arrived, item, BegunFrom, ends, part, then, sections, start, Begun, IsWhole}
-use Rattle.wa_types.proofs.UnsignedReads.{again, takes}
-use Rattle.wa_types.proofs.SignedReads.{again as signed_again, takes as signed_takes}
+use Rattle.leb_numbers.specs.declared.leb.LebFault.{LebFault}
+use Rattle.leb_numbers.specs.declared.leb.LebFault.TheVariants.{Short, Long, Bits}
+use Rattle.leb_numbers.specs.Leb.{unsigned_at, signed_at}
+use Rattle.wa_types.specs.Begun.{Goal, Item, a_byte, an_unsigned, a_signed, a_name, a_constant_of, IsItem, IsPart, size, head, until, rest, entries, count, exact, number, name, value_type, block_type, mutable, import_kind, space, limits, signed, name_bytes, float_bytes, code, wants, next, settled, end_of, IsBefore, Inside, Steps, Leads, arrived, item, BegunFrom, ends, part, then, sections, start, Begun, IsWhole}
+use Rattle.leb_numbers.proofs.UnsignedReads.{again, takes}
+use Rattle.leb_numbers.proofs.SignedReads.{again as signed_again, takes as signed_takes}
 use Rattle.file_laws.proofs.Items.{item_some}
 use Rattle.wa_types.proofs.TypingLemmas.{less_on}
-use Rattle.definition_check.specs.Beginnings.{Front, a_part, wrong, whole, of_number, of_bytes, of_byte, front_of, on_front, on_goals, is_before, is_inside, walks, is_none, part_left}
-use Rattle.definition_check.specs.Beginnings.{owes_none, is_end, nothing_left, is_begun, is_whole, or_else, search, at_the_end, fault_place, FaultFound}
+use Rattle.definition_check.specs.Beginnings.{Front, a_part, wrong, whole, of_number, of_bytes, of_byte, front_of, on_front, on_goals, is_before, is_inside, walks, is_none, part_left, owes_none, is_end, nothing_left, is_begun, is_whole, or_else, search, at_the_end, fault_place, FaultFound}
 use Rattle.definition_check.specs.Files.{File, AllFound}
 use Rattle.std.specs.List.{list_all}
 

@@ -1,6 +1,6 @@
 -- A file with a float instruction, spelled part by part.
 use Rattle.std.proofs.Common.{ℕ, ◌<◌, inl, [], ◌∷◌, refl, arith}
-use Rattle.wa_types.specs.Leb.{IsUnsigned}
+use Rattle.leb_numbers.specs.Leb.{IsUnsigned}
 use Rattle.wa_types.specs.Encoding.{preamble}
 use Rattle.wa_types.specs.Opcodes.{follows}
 use Rattle.wa_types.specs.Binary.{functions}

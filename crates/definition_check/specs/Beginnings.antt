@@ -1,9 +1,9 @@
 -- Whether bytes begin a file, whether they are one, and where others fail, computed item by item.
 use Rattle.std.specs.Prelude.{ℕ, zero, suc, ◌+◌, ◌++◌, ◌==◌, ◌&&◌, nat_lt, List, [], ◌∷◌, length, take, drop, slice_index, ◌<◌, Option, Some, None, Result, Ok, Err, Bool, true, false, if◌then◌else◌}
 use Rattle.std.specs.Str.{is_utf8}
-use Rattle.wa_types.specs.LebFault.{LebFault}
-use Rattle.wa_types.specs.LebFault.TheVariants.{Short, Long, Bits}
-use Rattle.wa_types.specs.Leb.{unsigned_at, signed_at}
+use Rattle.leb_numbers.specs.declared.leb.LebFault.{LebFault}
+use Rattle.leb_numbers.specs.declared.leb.LebFault.TheVariants.{Short, Long, Bits}
+use Rattle.leb_numbers.specs.Leb.{unsigned_at, signed_at}
 use Rattle.wa_types.specs.Begun.{Goal, sections, Item, a_byte, an_unsigned, a_signed, a_name, a_constant_of, wants, next, settled, end_of, start, IsWhole, FaultAt}
 
 -- what stands at the front of bytes: a part of an item, none whatever follows, or one of this value and so many bytes

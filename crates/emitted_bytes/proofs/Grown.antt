@@ -2,10 +2,9 @@
 use Rattle.std.proofs.Common.{◌≡◌, ℕ, suc, ◌+◌, ◌≤◌, List, [], ◌∷◌, ◌++◌, refl, ap, sym, subst, length, length-append, arith}
 use Rattle.std.specs.List.{flat_map}
 use Rattle.wa_types.specs.declared.syntax.Limits.{Limits}
-use Rattle.wa_types.specs.Leb.{shortest}
+use Rattle.leb_numbers.specs.Leb.{shortest}
 use Rattle.wa_types.specs.Syntax.{Func, Custom, Module}
-use Rattle.wa_types.specs.Encoding.{Enc, sections, with_customs, customs_behind, section, start_section, func_type_bytes, import_bytes, table_bytes, limits_bytes, global_bytes, export_bytes}
-use Rattle.wa_types.specs.Encoding.{elem_bytes, segment_bytes, sized, body_bytes, code_bytes, preamble}
+use Rattle.wa_types.specs.Encoding.{Enc, sections, with_customs, customs_behind, section, start_section, func_type_bytes, import_bytes, table_bytes, limits_bytes, global_bytes, export_bytes, elem_bytes, segment_bytes, sized, body_bytes, code_bytes, preamble}
 use Rattle.wa_types.specs.Base.{added_memories}
 use Rattle.wa_types.specs.Modules.{all_memories}
 use Rattle.wa_types.specs.Runtime.{with_runtime, runtime_types, runtime_globals, runtime_funcs, runtime_exports, runtime_func, func_space, global_space, start_code, stop_code, state_code, test_code}

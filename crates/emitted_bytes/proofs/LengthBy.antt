@@ -11,13 +11,12 @@ use Rattle.wa_types.specs.declared.values.Value.TheVariants as V
 use Rattle.wa_types.specs.Bounds.{code_weight}
 use Rattle.wa_types.specs.Encoding.{Enc, sections, type_byte, vector, sized, same_type, plain_bytes, else_bytes, code_bytes, expression_bytes, run_onto, merged, run_bytes, body_bytes}
 use Rattle.wa_types.specs.Frames.{Pair, SlotPairs, ResultPairs, Count}
-use Rattle.wa_types.specs.Leb.{shortest}
+use Rattle.leb_numbers.specs.Leb.{shortest}
 use Rattle.wa_types.specs.Modules.{defined_at, func_imports, locals_of}
 use Rattle.wa_types.specs.Pausing.{Numbered, Settings, is_told}
 use Rattle.wa_types.specs.Pruned.{pruned}
 use Rattle.wa_types.specs.Sizes.{label_count, FuncSizes, StrictSizeRule}
-use Rattle.wa_types.specs.Syntax.{Basic, nop, drop, select, const, num, global_get, global_set, load, store, memory_size, memory_grow, basic, local_get, local_set, local_tee, br, br_if}
-use Rattle.wa_types.specs.Syntax.{br_table, return, unreachable, call, call_indirect, Plain, Code, done, plain, nest, branch, Func, Module}
+use Rattle.wa_types.specs.Syntax.{Basic, nop, drop, select, const, num, global_get, global_set, load, store, memory_size, memory_grow, basic, local_get, local_set, local_tee, br, br_if, br_table, return, unreachable, call, call_indirect, Plain, Code, done, plain, nest, branch, Func, Module}
 use Rattle.wa_types.proofs.SizeBounds.{weight_fits}
 use Rattle.run_theory.specs.FlatFits.{one_run}
 use Rattle.wa_model.specs.Rewrites.{instructions_and_labels}
@@ -27,11 +26,10 @@ use Rattle.wasm_encode.specs.Modules.{FewLocals}
 use Rattle.wasm_encode.proofs.AroundLemmas.{same_sort_bytes}
 use Rattle.rewrite_form.specs.EmittedBy.{FrameCode, written_by, func_by, funcs_by, asyncified_by}
 use Rattle.rewrite_form.specs.Sizes.{FewWritten}
-use Rattle.rewrite_form.proofs.EmittedBy.{inner, told, not_told, same_sorts}
+use Rattle.rewrite_form.proofs.EmittedBy.{inner, told, not_told, same_sorts, defined_of}
 use Rattle.rewrite_form.proofs.SizesBy.{written_size}
 use Rattle.rewrite_form.specs.SlimModule.{SlimPieces}
 use Rattle.rewrite_form.specs.CodesHold.{AllCodesSlim, codes_size, three}
-use Rattle.rewrite_form.proofs.EmittedBy.{defined_of}
 use Rattle.emitted_bytes.proofs.FitsBy.{one_of_all}
 use Rattle.emitted_bytes.proofs.GrownFits.{grown_locals}
 use Rattle.emitted_bytes.proofs.Grown.{customs_total, enc_length, with_runtime_length}

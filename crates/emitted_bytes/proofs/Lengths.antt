@@ -1,12 +1,11 @@
 -- How long what is written is.
-use Rattle.std.proofs.Common.{ℕ, zero, suc, ◌+◌, ◌-◌, ◌*◌, ◌/◌, ◌%◌, ◌≤◌, ◌^◌, min, List, [], ◌∷◌, ◌++◌, Bool, true, false, cond, ap, sym, subst, length, length-append, arith, nat_lt}
-use Rattle.std.proofs.Common.{nat_le, inl, inr}
+use Rattle.std.proofs.Common.{ℕ, zero, suc, ◌+◌, ◌-◌, ◌*◌, ◌/◌, ◌%◌, ◌≤◌, ◌^◌, min, List, [], ◌∷◌, ◌++◌, Bool, true, false, cond, ap, sym, subst, length, length-append, arith, nat_lt, nat_le, inl, inr}
 use Rattle.std.specs.List.{All, flat_map}
 use Rattle.std.proofs.lemmas.Bool.{cases_lt}
 use Rattle.std.proofs.lemmas.List.Concat.{flat_map-append}
 use Rattle.std.proofs.lemmas.List.Elements.{All-head, All-tail}
-use Rattle.wa_types.proofs.UnsignedSpelling.{spelled_low, spelled_high}
-use Rattle.wa_types.specs.Leb.{spelled, shortest, signed_spelled, shortest_signed}
+use Rattle.leb_numbers.proofs.UnsignedSpelling.{spelled_low, spelled_high}
+use Rattle.leb_numbers.specs.Leb.{spelled, shortest, signed_spelled, shortest_signed}
 use Rattle.wa_types.specs.Encoding.{vector, sized, section}
 
 -- so many bytes at most

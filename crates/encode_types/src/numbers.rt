@@ -1,7 +1,7 @@
 //! Numbers, sizes and names as bytes (standard, sections 5.2.2 and 5.2.4).
 
 ghost use Rattle.std.specs.Prelude.{◌≡◌, ◌≤◌, ◌<◌, ◌^◌, ◌++◌, ◌+◌, length, OnOk};
-ghost use Rattle.wa_types.specs.Leb.{shortest, shortest_signed};
+ghost use Rattle.leb_numbers.specs.Leb.{shortest, shortest_signed};
 ghost use Rattle.wa_types.specs.Encoding.{name_bytes};
 
 use bytes::BytesMut;

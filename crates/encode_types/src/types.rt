@@ -2,7 +2,7 @@
 //! 5.5.8 and 5.5.10).
 
 ghost use Rattle.std.specs.Prelude.{◌≡◌, ◌≤◌, ◌++◌, [], ◌∷◌, length, OnOk, ⊤};
-ghost use Rattle.wa_types.specs.Leb.{shortest};
+ghost use Rattle.leb_numbers.specs.Leb.{shortest};
 ghost use Rattle.wa_types.specs.View.{func_type_of};
 ghost use Rattle.wa_types.specs.Encoding.{type_byte, block_type_byte, func_type_bytes, limits_bytes, table_bytes, global_type_bytes, import_kind_bytes, import_bytes, space_byte, export_bytes};
 

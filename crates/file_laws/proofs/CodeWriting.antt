@@ -1,18 +1,16 @@
 -- The bytes that code is written as spell it.
-use Rattle.std.proofs.Common.{◌≡◌, ℕ, suc, ◌+◌, ◌<◌, ◌≤◌, ◌^◌, ◌⊎◌, List, [], ◌∷◌, ◌++◌, Option, Some, None, Bool, true, false, refl, ap, sym, ◌∙◌, subst, arith, append_assoc, length}
-use Rattle.std.proofs.Common.{length-append, IsTrue, nat_eq, nat_lt, nat_le, ◌%◌, ◌/◌, cond, inl, inr, All, flat_map, ◌&&◌, ◌||◌}
+use Rattle.std.proofs.Common.{◌≡◌, ℕ, suc, ◌+◌, ◌<◌, ◌≤◌, ◌^◌, ◌⊎◌, List, [], ◌∷◌, ◌++◌, Option, Some, None, Bool, true, false, refl, ap, sym, ◌∙◌, subst, arith, append_assoc, length, length-append, IsTrue, nat_eq, nat_lt, nat_le, ◌%◌, ◌/◌, cond, inl, inr, All, flat_map, ◌&&◌, ◌||◌}
 use Rattle.std.proofs.lemmas.List.Elements.{All-head, All-tail}
 use Rattle.std.proofs.lemmas.Bool.{leb-true, le-leb}
 use Rattle.wa_types.specs.declared.values.ValType.{ValType}
 use Rattle.wa_types.specs.declared.values.ValType.TheVariants.{I32, I64}
 use Rattle.wa_types.specs.declared.values.Value.TheVariants.{I32 as value_32, I64 as value_64}
-use Rattle.wa_types.specs.Leb.{spelled, shortest, shortest_signed}
+use Rattle.leb_numbers.specs.Leb.{spelled, shortest, shortest_signed}
 use Rattle.wa_types.specs.Encoding.{vector, type_byte, block_type_byte, plain_bytes, shape_byte, else_bytes, code_bytes, expression_bytes}
 use Rattle.wa_types.specs.Opcodes.{an_access, follows, form, within, is_nest, is_load_op, is_store_op, plain_opcode, plain_immediates}
 use Rattle.wa_types.specs.Binary.{Placed, RawCode, ended, otherwise, instr, nested, branched}
 use Rattle.wa_types.specs.Spells.{Number, Items, Vector, ValueType, BlockType, ImmediatesOf, CodeOf}
-use Rattle.wa_types.specs.Syntax.{Basic, nop, drop, select, const, num, global_get, global_set, load, store, memory_size, memory_grow, Plain, basic, local_get, local_set, local_tee, br}
-use Rattle.wa_types.specs.Syntax.{br_if, br_table, return, unreachable, call, call_indirect, Shape, a_block, a_loop, Code, done, plain, nest, branch}
+use Rattle.wa_types.specs.Syntax.{Basic, nop, drop, select, const, num, global_get, global_set, load, store, memory_size, memory_grow, Plain, basic, local_get, local_set, local_tee, br, br_if, br_table, return, unreachable, call, call_indirect, Shape, a_block, a_loop, Code, done, plain, nest, branch}
 use Rattle.wa_types.specs.Reading.{HasKind, IsCode, Each}
 use Rattle.wa_types.specs.Sizes.{PlainFits, CodeFits}
 use Rattle.file_laws.proofs.NumberWriting.{shortest_spells, shortest_signed_spells}

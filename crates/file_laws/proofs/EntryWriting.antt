@@ -7,9 +7,8 @@ use Rattle.wa_types.specs.declared.syntax.ImportKind.{ImportKind}
 use Rattle.wa_types.specs.declared.syntax.ImportKind.TheVariants.{Func as a_func_import, Table as a_table_import, Memory as a_memory_import, Global as a_global_import}
 use Rattle.wa_types.specs.declared.syntax.Import.{Import}
 use Rattle.wa_types.specs.declared.syntax.Export.{Export}
-use Rattle.wa_types.specs.Leb.{shortest}
-use Rattle.wa_types.specs.Encoding.{vector, sized, name_bytes, type_byte, func_type_bytes, max_bytes, limits_bytes, table_bytes, mutable_byte, global_type_bytes, expression_bytes}
-use Rattle.wa_types.specs.Encoding.{import_kind_bytes, import_bytes, global_bytes, space_byte, export_bytes, elem_bytes, segment_bytes, run_bytes, merged, body_bytes}
+use Rattle.leb_numbers.specs.Leb.{shortest}
+use Rattle.wa_types.specs.Encoding.{vector, sized, name_bytes, type_byte, func_type_bytes, max_bytes, limits_bytes, table_bytes, mutable_byte, global_type_bytes, expression_bytes, import_kind_bytes, import_bytes, global_bytes, space_byte, export_bytes, elem_bytes, segment_bytes, run_bytes, merged, body_bytes}
 use Rattle.wa_types.specs.Syntax.{FuncType, Func, GlobalDef, Elem, Segment}
 use Rattle.wa_types.specs.Binary.{raw_func, raw_table, raw_memory, raw_global}
 use Rattle.wa_types.specs.Spells.{Vector, Text, ValueType, FunctionType, Maximum, LimitsOf, TableType, ImportKindOf, ImportOf, GlobalOf, ExportOf, ElementOf, RunOf, BodyOf, SegmentOf}

@@ -1,28 +1,22 @@
 -- The bytes that a module is written as spell it.
-use Rattle.std.proofs.Common.{◌≡◌, ℕ, suc, ◌+◌, ◌<◌, ◌^◌, ◌⊎◌, List, [], ◌∷◌, ◌++◌, map, Option, Some, None, Bool, true, false, refl, ap, sym, ◌∙◌, subst, arith, add-zero, append_assoc}
-use Rattle.std.proofs.Common.{append-nil, length, length-append, All, flat_map, cond, nat_eq, eqb-true, inl, inr, min, option_to_list, sum_by}
+use Rattle.std.proofs.Common.{◌≡◌, ℕ, suc, ◌+◌, ◌<◌, ◌^◌, ◌⊎◌, List, [], ◌∷◌, ◌++◌, map, Option, Some, None, Bool, true, false, refl, ap, sym, ◌∙◌, subst, arith, add-zero, append_assoc, append-nil, length, length-append, All, flat_map, cond, nat_eq, eqb-true, inl, inr, min, option_to_list, sum_by}
 use Rattle.std.proofs.lemmas.List.Elements.{All-head, All-tail, All-cons, All-filter}
 use Rattle.std.proofs.lemmas.List.Concat.{flat_map-append}
 use Rattle.std.proofs.lemmas.List.Sums.{sum_by-cons}
 use Rattle.wa_types.specs.declared.syntax.Run.{Run}
 use Rattle.wa_types.specs.declared.syntax.Limits.{Limits}
 use Rattle.wa_types.specs.declared.syntax.Export.{Export}
-use Rattle.wa_types.specs.Leb.{shortest}
-use Rattle.wa_types.specs.Encoding.{vector, sized, name_bytes, func_type_bytes, limits_bytes, table_bytes, import_bytes, global_bytes, export_bytes, elem_bytes, segment_bytes, run_onto}
-use Rattle.wa_types.specs.Encoding.{same_type, merged, body_bytes, section, start_section, custom_bytes, customs_behind, preamble, sections, with_customs, Enc}
+use Rattle.leb_numbers.specs.Leb.{shortest}
+use Rattle.wa_types.specs.Encoding.{vector, sized, name_bytes, func_type_bytes, limits_bytes, table_bytes, import_bytes, global_bytes, export_bytes, elem_bytes, segment_bytes, run_onto, same_type, merged, body_bytes, section, start_section, custom_bytes, customs_behind, preamble, sections, with_customs, Enc}
 use Rattle.wa_types.specs.Norm.{has_some, has_start, written_flags, placed_at, placed_behind, lowered, Norm}
 use Rattle.wa_types.specs.Sizes.{CodeFits, LimitsFit, ImportFits, FuncFits, ExportFits, ElemFits, SegmentFits, CustomFits, StartFits, WellFormed}
 use Rattle.wa_types.specs.Syntax.{Func, GlobalDef, Custom, Module}
-use Rattle.wa_types.specs.Binary.{RawType, RawImport, RawGlobal, RawElem, RawBody, RawSegment, Section, custom, types, imports, functions, tables, memories, globals, exports, start}
-use Rattle.wa_types.specs.Binary.{elements, bodies, segments, section_id}
-use Rattle.wa_types.specs.Spells.{◌▸◌, Exactly, Number, Items, Vector, Sized, FunctionType, LimitsOf, TableType, ImportOf, GlobalOf, ExportOf, ElementOf, BodyOf, SegmentOf, SectionOf}
-use Rattle.wa_types.specs.Spells.{Rising, sorts_in, bodies_in}
-use Rattle.wa_types.specs.Reading.{Each, IsFuncType, IsImport, IsGlobal, IsElem, IsBody, IsSegment, types_in, imports_in, tables_in, memories_in, globals_in, exports_in, starts_in}
-use Rattle.wa_types.specs.Reading.{elements_in, segments_in, customs_of, IsModule, SpellsModule}
+use Rattle.wa_types.specs.Binary.{RawType, RawImport, RawGlobal, RawElem, RawBody, RawSegment, Section, custom, types, imports, functions, tables, memories, globals, exports, start, elements, bodies, segments, section_id}
+use Rattle.wa_types.specs.Spells.{◌▸◌, Exactly, Number, Items, Vector, Sized, FunctionType, LimitsOf, TableType, ImportOf, GlobalOf, ExportOf, ElementOf, BodyOf, SegmentOf, SectionOf, Rising, sorts_in, bodies_in}
+use Rattle.wa_types.specs.Reading.{Each, IsFuncType, IsImport, IsGlobal, IsElem, IsBody, IsSegment, types_in, imports_in, tables_in, memories_in, globals_in, exports_in, starts_in, elements_in, segments_in, customs_of, IsModule, SpellsModule}
 use Rattle.file_laws.proofs.NumberWriting.{shortest_spells}
 use Rattle.file_laws.proofs.CodeWriting.{Written, write_vector, number_some, Itself, each_itself, each_length}
-use Rattle.file_laws.proofs.EntryWriting.{write_func_type, write_limits, write_table, write_import, write_global, write_export, write_elem, write_segment, BodyFits, merged_func, write_body}
-use Rattle.file_laws.proofs.EntryWriting.{name_spelled, func_type_some, limits_some, table_some, import_some, global_some, export_some, elem_some, segment_some, body_some}
+use Rattle.file_laws.proofs.EntryWriting.{write_func_type, write_limits, write_table, write_import, write_global, write_export, write_elem, write_segment, BodyFits, merged_func, write_body, name_spelled, func_type_some, limits_some, table_some, import_some, global_some, export_some, elem_some, segment_some, body_some}
 
 -- a section of entries, where there are some
 abbrev pub of_entries : {X : Type 0} → (List X → Section) → List X → List Section

@@ -16,8 +16,7 @@ use call_graph::Policy;
 use live_behind::is_live_behind;
 use point_visits::{Pair, Visits, slots, stands_in, visit_body};
 use std::alloc::{AllocError, Global};
-use wa_types::{ImportKind, Instr, Module, ValType};
-use wasm_tree::prune;
+use wa_types::{ImportKind, Instr, Module, ValType, prune};
 use wasm_validate::{Typing, Valid};
 
 /// A local that a frame saves.

@@ -1,6 +1,5 @@
 -- How high operands stand, instruction by instruction.
-use Rattle.std.proofs.Common.{◌≡◌, ℕ, ◌+◌, ◌-◌, ◌^◌, ◌<◌, ◌≤◌, max, min, nat_lt, if◌then◌else◌, Bool, true, false, List, [], ◌∷◌, map, All, ap, sym, ◌∙◌, arith, refl, Option, Some, None}
-use Rattle.std.proofs.Common.{slice_get, length, get_or, drop}
+use Rattle.std.proofs.Common.{◌≡◌, ℕ, ◌+◌, ◌-◌, ◌^◌, ◌<◌, ◌≤◌, max, min, nat_lt, if◌then◌else◌, Bool, true, false, List, [], ◌∷◌, map, All, ap, sym, ◌∙◌, arith, refl, Option, Some, None, slice_get, length, get_or, drop}
 use Rattle.std.specs.Option.{option_map}
 use Rattle.std.proofs.lemmas.List.Elements.{All-nil, All-cons, All-head, All-tail}
 use Rattle.std.proofs.lemmas.Option.{slice_get-map, get_or_from_slice_get}
@@ -11,19 +10,17 @@ use Rattle.wa_types.specs.declared.values.ValType.{ValType}
 use Rattle.wa_types.specs.declared.values.Value.{Value}
 use Rattle.wa_types.specs.declared.operators.NumOp.{NumOp}
 use Rattle.wa_types.specs.declared.instrs.Instr.{Instr}
-use Rattle.wa_types.specs.declared.instrs.Instr.TheVariants.{Unreachable, Nop, Drop, Select, Return, MemorySize, MemoryGrow, Const, Num, Br, BrIf, BrTable, Call, CallIndirect, LocalGet}
-use Rattle.wa_types.specs.declared.instrs.Instr.TheVariants.{LocalSet, LocalTee, GlobalGet, GlobalSet, Load, Store, Block, Loop, If, Block', Loop', If'}
+use Rattle.wa_types.specs.declared.instrs.Instr.TheVariants.{Unreachable, Nop, Drop, Select, Return, MemorySize, MemoryGrow, Const, Num, Br, BrIf, BrTable, Call, CallIndirect, LocalGet, LocalSet, LocalTee, GlobalGet, GlobalSet, Load, Store, Block, Loop, If, Block', Loop', If'}
 use Rattle.wa_types.specs.Counts.{count_of}
 use Rattle.wa_types.specs.Modules.{type_at, func_type_at, func_imports, defined_at}
 use Rattle.wa_types.specs.Operators.{operand_types}
 use Rattle.wa_types.specs.Pruned.{is_last, is_last_instr}
-use Rattle.wa_types.specs.Syntax.{Module, Basic, nop, drop as drop_operand, select, const, num, global_get, global_set, load, store, memory_size, memory_grow, Plain, basic, local_get}
-use Rattle.wa_types.specs.Syntax.{local_set, local_tee, br, br_if, br_table, return, unreachable, call, call_indirect, Code, done, plain, Func}
+use Rattle.wa_types.specs.Syntax.{Module, Basic, nop, drop as drop_operand, select, const, num, global_get, global_set, load, store, memory_size, memory_grow, Plain, basic, local_get, local_set, local_tee, br, br_if, br_table, return, unreachable, call, call_indirect, Code, done, plain, Func}
 use Rattle.wa_types.specs.Sizes.{FuncSizes}
 use Rattle.wa_types.specs.View.{code, in_front, func_of}
 use Rattle.wa_types.proofs.SizeBounds.{count_fits}
 use Rattle.wa_types.proofs.ViewLemmas.{is_block, is_loop, is_if, is_plain, instr_kind, in_block, in_loop, in_if, code_step, code_empty}
-use Rattle.wasm_tree.proofs.MeasureLemmas.{count_step, count_empty, count_block, count_loop, count_if}
+use Rattle.wa_types.proofs.MeasureLemmas.{count_step, count_empty, count_block, count_loop, count_if}
 use Rattle.wa_model.specs.Store.{gives}
 use Rattle.wa_model.specs.Step.{arity_of}
 use Rattle.run_theory.proofs.HeightLemmas.{most_least}

@@ -11,8 +11,7 @@ ghost use Rattle.interp_program.specs.Rooms.{room_at, HasFewInstrs};
 use crate::types::{func_params, func_results, sort_params, sort_results};
 use interp_state::operand_count;
 use std::alloc::{AllocError, Global};
-use wa_types::{Func, Instr, Module};
-use wasm_tree::depth;
+use wa_types::{Func, Instr, Module, depth};
 
 /// What an activation reserves: the greatest height of its operands, and the greatest depth of its labels.
 #[derive(Clone, Copy)]

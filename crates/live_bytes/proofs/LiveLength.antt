@@ -4,7 +4,7 @@ use Rattle.std.specs.Prelude.{if◌then◌else◌}
 use Rattle.std.specs.List.{flat_map, sum_by}
 use Rattle.std.proofs.lemmas.List.Sums.{sum_by-cons}
 use Rattle.wa_types.specs.Encoding.{Enc, body_bytes, code_bytes, else_bytes, expression_bytes, plain_bytes, run_bytes, merged, vector}
-use Rattle.wa_types.specs.Leb.{shortest}
+use Rattle.leb_numbers.specs.Leb.{shortest}
 use Rattle.wa_types.specs.Pausing.{Callee, Numbered, Settings, callee, callee_onto, calls_in, calls_of, has_number}
 use Rattle.wa_types.specs.Pruned.{is_last, pruned}
 use Rattle.wa_types.specs.Syntax.{basic, local_get, local_set, local_tee, br, br_if, br_table, return, unreachable, call, call_indirect, Plain, Code, done, plain, nest, branch, Func, Module}

@@ -14,9 +14,8 @@ use crate::emitting::{FuncLayout, emit_funcs};
 use crate::fault::RewriteFault;
 use asyncify_runtime::{RuntimeFault, add_runtime, ids_behind, reserved};
 use call_graph::{Settings, listed_imports, may_pause};
-use module_copy::copy_around;
+use wa_types::{Module, copy_around};
 use std::alloc::Global;
-use wa_types::Module;
 use wasm_validate::{Valid, ValidateFault, validate};
 
 /// A module as it is rewritten, the frames of the functions that may pause, in index order, and which these are, by one answer

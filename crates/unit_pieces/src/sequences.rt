@@ -17,9 +17,8 @@ use crate::exits::{ExitTo, at_call, inside_block, inside_loop};
 use crate::pieces::{Pieces, Unit};
 use flat_pieces::put_raised;
 use flow_calls::{Guards, put_guarded};
-use module_copy::copy_body;
+use wa_types::{Instr, copy_body};
 use std::alloc::AllocError;
-use wa_types::Instr;
 
 /// The code of a sequence, and the number of the next numbered call.
 #[derive(Drop)]

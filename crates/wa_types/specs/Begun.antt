@@ -1,9 +1,8 @@
 -- Which bytes begin a file: items in an order that the grammar allows, and a part of one more (standard,
 -- section 5). The grammar is a stack of goals, which say what may come next; an item takes the first goal away
 -- and puts in its place what has to follow.
-use Rattle.std.specs.Prelude.{◌≡◌, ℕ, ◌+◌, ◌-◌, ◌<◌, ◌≤◌, ◌⊎◌, ◌==◌, ◌&&◌, ◌||◌, nat_le, nat_lt, List, [], ◌∷◌, ◌++◌, map, length, take, Option, Some, None, Err, Bool, true, false, not}
-use Rattle.std.specs.Prelude.{if◌then◌else◌, IsUtf8}
-use Rattle.wa_types.specs.LebFault.TheVariants.{Short}
+use Rattle.std.specs.Prelude.{◌≡◌, ℕ, ◌+◌, ◌-◌, ◌<◌, ◌≤◌, ◌⊎◌, ◌==◌, ◌&&◌, ◌||◌, nat_le, nat_lt, List, [], ◌∷◌, ◌++◌, map, length, take, Option, Some, None, Err, Bool, true, false, not, if◌then◌else◌, IsUtf8}
+use Rattle.leb_numbers.specs.declared.leb.LebFault.TheVariants.{Short}
 use Rattle.leb_numbers.specs.Leb.{IsUnsigned, IsSigned, unsigned_at, signed_at}
 use Rattle.wa_types.specs.Encoding.{preamble}
 use Rattle.wa_types.specs.Opcodes.{Form, no_immediate, a_zero, an_index, an_index_and_zero, an_access, some_labels, a_constant, a_float, follows, is_value_type, is_block_type, is_nest}

@@ -1,5 +1,4 @@
-pub use Rattle.leb_numbers.specs.Leb
-pub use Rattle.leb_numbers.specs.declared.leb.LebFault
+-- no definitions of its own
 pub mod Accesses
 pub mod Base
 pub mod Begun
@@ -12,6 +11,7 @@ pub mod FirstFault
 pub mod FrameLaws
 pub mod Frames
 pub mod Leaves
+pub mod Levels
 pub mod Liveness
 pub mod Marks
 pub mod Memory

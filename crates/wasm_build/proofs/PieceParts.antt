@@ -1,8 +1,6 @@
 -- One step of building what comes: what is built stands at the front of the rest of the file, and the rest of that comes next.
-use Rattle.std.proofs.Common.{◌≡◌, ◌⊎◌, inl, inr, ℕ, suc, ◌+◌, ◌-◌, ◌<◌, ◌≤◌, List, [], ◌∷◌, ◌++◌, map}
-use Rattle.std.proofs.Common.{Option, Some, None, Result, Ok, Err, refl, ap, sym, ◌∙◌, subst, arith, append_assoc, append-nil, length}
-use Rattle.std.proofs.Common.{length-append, length-take-le, take, drop, get_or, cond, Bool, true, false, nat_lt, ltb-true, ltb-false, add-zero, length-drop, IfSome}
-use Rattle.wa_types.specs.Leb.{IsUnsigned}
+use Rattle.std.proofs.Common.{◌≡◌, ◌⊎◌, inl, inr, ℕ, suc, ◌+◌, ◌-◌, ◌<◌, ◌≤◌, List, [], ◌∷◌, ◌++◌, map, Option, Some, None, Result, Ok, Err, refl, ap, sym, ◌∙◌, subst, arith, append_assoc, append-nil, length, length-append, length-take-le, take, drop, get_or, cond, Bool, true, false, nat_lt, ltb-true, ltb-false, add-zero, length-drop, IfSome}
+use Rattle.leb_numbers.specs.Leb.{IsUnsigned}
 use Rattle.std.proofs.lemmas.List.{take-append-drop, drop_more, drop_all, drop-drop}
 use Rattle.wa_types.specs.declared.syntax.Func.{Func as FuncValue}
 use Rattle.wa_types.specs.Binary.{Section as PlainSection, section_id}

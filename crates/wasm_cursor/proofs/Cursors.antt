@@ -1,14 +1,13 @@
 -- Numbers at the front of a place.
-use Rattle.std.proofs.Common.{◌≡◌, ℕ, ◌+◌, ◌-◌, ◌^◌, ◌<◌, ◌≤◌, List, [], ◌∷◌, ◌++◌, Bool, true, false, cond, Result, Ok, Err, ap, sym, ◌∙◌, subst, arith, length, take, drop, nat_lt, nat_eq, IsTrue}
-use Rattle.std.proofs.Common.{length-drop, length-append, length-take-le, append-nil, append_assoc, add-zero}
+use Rattle.std.proofs.Common.{◌≡◌, ℕ, ◌+◌, ◌-◌, ◌^◌, ◌<◌, ◌≤◌, List, [], ◌∷◌, ◌++◌, Bool, true, false, cond, Result, Ok, Err, ap, sym, ◌∙◌, subst, arith, length, take, drop, nat_lt, nat_eq, IsTrue, length-drop, length-append, length-take-le, append-nil, append_assoc, add-zero}
 use Rattle.std.proofs.lemmas.List.{drop_all, drop-drop, take-append-drop}
 use Rattle.std.proofs.lemmas.Bool.{eqb-true, eq-eqb}
 use Rattle.std.proofs.Math.Seq.{drop-append_seam}
-use Rattle.wa_types.specs.LebFault.{LebFault}
-use Rattle.wa_types.specs.LebFault.TheVariants.{Short}
-use Rattle.wa_types.specs.Leb.{IsUnsigned, IsSigned, unsigned_at, signed_at}
-use Rattle.wa_types.proofs.UnsignedReads.{again}
-use Rattle.wa_types.proofs.SignedReads.{again as signed_again}
+use Rattle.leb_numbers.specs.declared.leb.LebFault.{LebFault}
+use Rattle.leb_numbers.specs.declared.leb.LebFault.TheVariants.{Short}
+use Rattle.leb_numbers.specs.Leb.{IsUnsigned, IsSigned, unsigned_at, signed_at}
+use Rattle.leb_numbers.proofs.UnsignedReads.{again}
+use Rattle.leb_numbers.proofs.SignedReads.{again as signed_again}
 use Rattle.file_laws.proofs.Items.{same_cut}
 use Rattle.file_laws.proofs.NumberReading.{unsigned_stays, signed_stays}
 use Rattle.wasm_cursor.specs.Places.{Place, place_from, place_at, with_more, behind, GivesNumber, Onward}

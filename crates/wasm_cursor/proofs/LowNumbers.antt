@@ -2,7 +2,7 @@
 use Rattle.std.proofs.Common.{◌≡◌, ℕ, ◌-◌, ◌^◌, ◌<◌, ◌≤◌, Ok, refl, arith}
 use Rattle.std.proofs.lemmas.Bool.{lt-ltb}
 use Rattle.std.proofs.Math.Pow.{pow_mono}
-use Rattle.wa_types.specs.Leb.{last_signed}
+use Rattle.leb_numbers.specs.Leb.{last_signed}
 
 -- a signed number of one byte that isn't negative
 pub low_signed : (bits b : ℕ) → 7 < bits → b < 64 → last_signed bits b ≡ Ok b

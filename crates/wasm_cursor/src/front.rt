@@ -1,7 +1,7 @@
 //! `Cursor`: a place in bytes that are known to spell something, read on from there.
 
 ghost use Rattle.std.specs.Prelude.{◌≡◌, ℕ, ◌+◌, ◌<◌, ◌^◌, [], ◌∷◌, ◌++◌, length, IfOk, OnOk, OnErr, IsTrue, ◌↔◌};
-ghost use Rattle.wa_types.specs.Leb.{IsUnsigned, IsSigned};
+ghost use Rattle.leb_numbers.specs.Leb.{IsUnsigned, IsSigned};
 ghost use Rattle.wasm_cursor.specs.Places.{Onward, ReadsNumber, place_at, place_in};
 
 use crate::numbers;

@@ -2,7 +2,7 @@
 
 ghost use Rattle.std.specs.Prelude.{◌≡◌, ◌<◌, ◌≤◌, ◌^◌, length, drop, IfOk};
 ghost use Rattle.std.specs.Int.{w32, w64};
-ghost use Rattle.wa_types.specs.Leb.{unsigned_at, signed_at, in_bits};
+ghost use Rattle.leb_numbers.specs.Leb.{unsigned_at, signed_at, in_bits};
 
 use wa_types::{LebFault, read_s32, read_s64, read_u32};
 

@@ -4,7 +4,7 @@ use Rattle.std.proofs.lemmas.List.{drop_all, get_or_default, get_or-map, length-
 use Rattle.std.specs.List.{flat_map, All}
 use Rattle.wa_types.specs.declared.syntax.Func.{Func as FuncValue}
 use Rattle.wa_types.specs.declared.syntax.Module.{Module as ModuleValue}
-use Rattle.wa_types.specs.Leb.{shortest}
+use Rattle.leb_numbers.specs.Leb.{shortest}
 use Rattle.wa_types.specs.Syntax.{Func, Custom, Module}
 use Rattle.wa_types.specs.View.{func_of, module_of}
 use Rattle.wa_types.specs.Encoding.{vector, sized, section, sections, body_bytes, customs_behind, with_customs, preamble, Enc}

@@ -2,7 +2,7 @@
 use Rattle.std.specs.Prelude.{◌≡◌, ◌<◌, ◌^◌, ℕ, zero, suc, List, [], ◌∷◌, ◌++◌, length, map, if◌then◌else◌, ◌==◌}
 use Rattle.std.specs.List.{flat_map}
 use Rattle.wa_types.specs.Encoding.{Enc, body_bytes, sized}
-use Rattle.wa_types.specs.Leb.{shortest}
+use Rattle.leb_numbers.specs.Leb.{shortest}
 use Rattle.wa_types.specs.Syntax.{Func, Module}
 use Rattle.wasm_encode.specs.declared.EncodeFault.{EncodeFault}
 use Rattle.wasm_encode.specs.declared.EncodeFault.TheVariants.{Memory, TooLong}

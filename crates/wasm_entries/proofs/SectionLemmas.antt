@@ -1,10 +1,9 @@
 -- Sections of entries, and custom sections at their places.
-use Rattle.std.proofs.Common.{◌≡◌, ◌≢◌, ℕ, zero, suc, ◌+◌, ◌<◌, ◌≤◌, ◌^◌, List, [], ◌∷◌, ◌++◌, Bool, true, false, inl, inr, refl, ap, sym, ◌∙◌, arith, min, map, filter, eqb, cond, add-one}
-use Rattle.std.proofs.Common.{append_assoc, append-nil, length, length-append, get_or, drop, drop-cons}
+use Rattle.std.proofs.Common.{◌≡◌, ◌≢◌, ℕ, zero, suc, ◌+◌, ◌<◌, ◌≤◌, ◌^◌, List, [], ◌∷◌, ◌++◌, Bool, true, false, inl, inr, refl, ap, sym, ◌∙◌, arith, min, map, filter, eqb, cond, add-one, append_assoc, append-nil, length, length-append, get_or, drop, drop-cons}
 use Rattle.std.proofs.lemmas.List.{drop_all}
 use Rattle.std.proofs.lemmas.Bool.{eq-eqb, ne_eqb}
 use Rattle.wa_types.specs.declared.syntax.Custom.{Custom as CustomValue}
-use Rattle.wa_types.specs.Leb.{shortest}
+use Rattle.leb_numbers.specs.Leb.{shortest}
 use Rattle.wa_types.specs.Syntax.{Custom}
 use Rattle.wa_types.specs.View.{custom_of}
 use Rattle.wa_types.specs.Encoding.{vector, sized, section, custom_bytes, customs_behind}

@@ -1,7 +1,7 @@
 //! Entries of the function, global, element, code and data sections (standard, sections 5.5.6, 5.5.9 and 5.5.12 to 5.5.14).
 
 ghost use Rattle.std.specs.Prelude.{◌≡◌, ◌<◌, ◌^◌, ◌++◌, length, OnOk, ⊤};
-ghost use Rattle.wa_types.specs.Leb.{shortest};
+ghost use Rattle.leb_numbers.specs.Leb.{shortest};
 ghost use Rattle.wa_types.specs.View.{func_of, global_of, elem_of, segment_of};
 ghost use Rattle.wa_types.specs.Encoding.{body_bytes, elem_bytes, global_bytes, segment_bytes, sized};
 ghost use Rattle.wasm_entries.specs.Locals.{local_count};

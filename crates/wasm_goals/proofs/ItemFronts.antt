@@ -1,14 +1,13 @@
 -- What stands at the front of bytes is read: numbers, texts and floats.
-use Rattle.std.proofs.Common.{◌≡◌, ℕ, suc, ◌+◌, ◌-◌, ◌^◌, ◌<◌, ◌≤◌, ◌⊎◌, inl, inr, List, [], ◌∷◌, ◌++◌, Result, Ok, Err, refl, ap, sym, ◌∙◌, subst, arith, length, length-append}
-use Rattle.std.proofs.Common.{length-take-le, take, drop, get_or, nat_lt, true, false, Bool, cond, IsUtf8, append-nil, append_assoc}
+use Rattle.std.proofs.Common.{◌≡◌, ℕ, suc, ◌+◌, ◌-◌, ◌^◌, ◌<◌, ◌≤◌, ◌⊎◌, inl, inr, List, [], ◌∷◌, ◌++◌, Result, Ok, Err, refl, ap, sym, ◌∙◌, subst, arith, length, length-append, length-take-le, take, drop, get_or, nat_lt, true, false, Bool, cond, IsUtf8, append-nil, append_assoc}
 use Rattle.std.proofs.lemmas.List.{take-append-drop}
-use Rattle.wa_types.specs.LebFault.{LebFault}
-use Rattle.wa_types.specs.LebFault.TheVariants.{Short, Long, Bits}
-use Rattle.wa_types.specs.Leb.{unsigned_at, signed_at, last_signed, above}
+use Rattle.leb_numbers.specs.declared.leb.LebFault.{LebFault}
+use Rattle.leb_numbers.specs.declared.leb.LebFault.TheVariants.{Short, Long, Bits}
+use Rattle.leb_numbers.specs.Leb.{unsigned_at, signed_at, last_signed, above}
 use Rattle.wa_types.specs.Begun.{Item, a_byte, an_unsigned, a_signed, a_name, a_constant_of, IsItem, IsPart}
 use Rattle.file_laws.proofs.NumberReading.{unsigned_stays, signed_stays, unsigned_ends, signed_ends, unsigned_again, signed_again}
-use Rattle.wa_types.proofs.UnsignedReads.{takes}
-use Rattle.wa_types.proofs.SignedReads.{takes as signed_takes}
+use Rattle.leb_numbers.proofs.UnsignedReads.{takes}
+use Rattle.leb_numbers.proofs.SignedReads.{takes as signed_takes}
 use Rattle.wasm_goals.specs.Items.{IsWholeItem, IsWrong, IsTold, FrontIs, unread}
 
 above_is_short : (b : ℕ) (r : Result ℕ LebFault) → above b r ≡ Err Short → r ≡ Err Short

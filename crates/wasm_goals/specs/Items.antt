@@ -1,7 +1,7 @@
 -- What stands at the front of bytes where an item is wanted.
 use Rattle.std.specs.Prelude.{◌≡◌, ℕ, ◌-◌, ◌<◌, ◌≤◌, List, ◌++◌, length, take}
-use Rattle.wa_types.specs.LebFault.{LebFault}
-use Rattle.wa_types.specs.LebFault.TheVariants.{Short, Long, Bits}
+use Rattle.leb_numbers.specs.declared.leb.LebFault.{LebFault}
+use Rattle.leb_numbers.specs.declared.leb.LebFault.TheVariants.{Short, Long, Bits}
 use Rattle.wa_types.specs.Begun.{Item, a_byte, an_unsigned, a_signed, a_name, a_constant_of, IsItem, IsPart}
 use Rattle.wasm_goals.specs.declared.items.Item.{Item as Wanted}
 use Rattle.wasm_goals.specs.declared.items.Item.TheVariants.{Byte, Unsigned, Signed32, Signed64, Text, Float32, Float64}

@@ -1,11 +1,10 @@
 -- No spelling of code is shorter than the one that it is written in.
 use Rattle.std.proofs.Common.{◌≡◌, ℕ, suc, ◌+◌, ◌≤◌, List, [], ◌∷◌, ◌++◌, flat_map, length, refl, ap, sym, subst, arith, length-append, Bool, true, false}
-use Rattle.wa_types.proofs.SignedSpelling.{shortest_signed_least}
+use Rattle.leb_numbers.proofs.SignedSpelling.{shortest_signed_least}
 use Rattle.wa_types.specs.declared.values.Value.TheVariants.{I32 as value_32, I64 as value_64}
-use Rattle.wa_types.specs.Leb.{shortest}
+use Rattle.leb_numbers.specs.Leb.{shortest}
 use Rattle.wa_types.specs.Encoding.{vector, sized, code_bytes, plain_bytes, else_bytes, expression_bytes}
-use Rattle.wa_types.specs.Syntax.{nop, drop, select, const, num, global_get, global_set, load, store, memory_size, memory_grow, Plain, basic, local_get, local_set, local_tee, br, br_if}
-use Rattle.wa_types.specs.Syntax.{br_table, return, unreachable, call, call_indirect, Code, done, plain, nest, branch}
+use Rattle.wa_types.specs.Syntax.{nop, drop, select, const, num, global_get, global_set, load, store, memory_size, memory_grow, Plain, basic, local_get, local_set, local_tee, br, br_if, br_table, return, unreachable, call, call_indirect, Code, done, plain, nest, branch}
 use Rattle.wa_types.specs.Binary.{RawCode, ended, otherwise, instr, nested, branched}
 use Rattle.wa_types.specs.Spells.{Number, Items, Vector, ImmediatesOf, CodeOf}
 use Rattle.wa_types.specs.Reading.{IsCode, Each}

@@ -1,19 +1,15 @@
 -- No spelling of a file is shorter than the one that its module is written in.
-use Rattle.std.proofs.Common.{◌≡◌, ℕ, zero, suc, ◌+◌, ◌<◌, ◌≤◌, ◌⊎◌, inl, inr, List, [], ◌∷◌, ◌++◌, map, flat_map, length, min, Option, Some, None, option_to_list, refl, ap, sym, subst}
-use Rattle.std.proofs.Common.{arith, length-append, Bool, true, false, cond, nat_eq, eqb-true, filter}
+use Rattle.std.proofs.Common.{◌≡◌, ℕ, zero, suc, ◌+◌, ◌<◌, ◌≤◌, ◌⊎◌, inl, inr, List, [], ◌∷◌, ◌++◌, map, flat_map, length, min, Option, Some, None, option_to_list, refl, ap, sym, subst, arith, length-append, Bool, true, false, cond, nat_eq, eqb-true, filter}
 use Rattle.std.proofs.lemmas.Bool.{ne_eqb, eqb-false}
 use Rattle.wa_types.specs.declared.syntax.Limits.{Limits}
 use Rattle.wa_types.specs.declared.syntax.Import.{Import}
 use Rattle.wa_types.specs.declared.syntax.Export.{Export}
-use Rattle.wa_types.specs.Leb.{shortest}
-use Rattle.wa_types.specs.Encoding.{Enc, vector, sized, name_bytes, func_type_bytes, limits_bytes, table_bytes, body_bytes, import_bytes, global_bytes, export_bytes, elem_bytes}
-use Rattle.wa_types.specs.Encoding.{segment_bytes, section, start_section, custom_bytes, customs_behind, preamble, sections, with_customs}
+use Rattle.leb_numbers.specs.Leb.{shortest}
+use Rattle.wa_types.specs.Encoding.{Enc, vector, sized, name_bytes, func_type_bytes, limits_bytes, table_bytes, body_bytes, import_bytes, global_bytes, export_bytes, elem_bytes, segment_bytes, section, start_section, custom_bytes, customs_behind, preamble, sections, with_customs}
 use Rattle.wa_types.specs.Syntax.{FuncType, Func, GlobalDef, Elem, Segment, Custom, Module}
 use Rattle.wa_types.specs.Binary.{Section, custom, types, imports, functions, tables, memories, globals, exports, start, elements, bodies, segments, section_id}
-use Rattle.wa_types.specs.Spells.{◌▸◌, Exactly, Number, Items, Vector, Sized, FunctionType, LimitsOf, TableType, ImportOf, GlobalOf, ExportOf, ElementOf, BodyOf, SegmentOf, SectionOf}
-use Rattle.wa_types.specs.Spells.{Rising, sorts_in, bodies_in}
-use Rattle.wa_types.specs.Reading.{Each, IsFuncType, IsImport, IsGlobal, IsElem, IsBody, IsSegment, types_in, imports_in, tables_in, memories_in, globals_in, exports_in, starts_in}
-use Rattle.wa_types.specs.Reading.{elements_in, segments_in, customs_of, SpellsModule}
+use Rattle.wa_types.specs.Spells.{◌▸◌, Exactly, Number, Items, Vector, Sized, FunctionType, LimitsOf, TableType, ImportOf, GlobalOf, ExportOf, ElementOf, BodyOf, SegmentOf, SectionOf, Rising, sorts_in, bodies_in}
+use Rattle.wa_types.specs.Reading.{Each, IsFuncType, IsImport, IsGlobal, IsElem, IsBody, IsSegment, types_in, imports_in, tables_in, memories_in, globals_in, exports_in, starts_in, elements_in, segments_in, customs_of, SpellsModule}
 use Rattle.wasm_reader.proofs.ModulesMade.{join_clear}
 use Rattle.wasm_reader.proofs.ShortNumbers.{by_test, number_short}
 use Rattle.wasm_reader.proofs.ShortCode.{vector_short, Same, each_same, index_short, sized_short}

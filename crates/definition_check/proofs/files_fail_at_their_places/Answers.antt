@@ -1,7 +1,7 @@
 use Rattle.std.proofs.Common.{refl}
 use Rattle.std.specs.Str.{is_utf8, chars}
 use Rattle.wa_types.specs.Opcodes.{follows}
-use Rattle.wa_types.specs.Leb.{unsigned_at, signed_at}
+use Rattle.leb_numbers.specs.Leb.{unsigned_at, signed_at}
 use Rattle.wa_types.specs.Begun.{next, settled}
 use Rattle.definition_check.specs.Beginnings.{is_inside, walks, search}
 use Rattle.definition_check.specs.Files.{files}

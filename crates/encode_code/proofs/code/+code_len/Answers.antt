@@ -1,5 +1,5 @@
 use Rattle.std.proofs.Common.{◌≡◌, ◌<◌, ◌^◌, ◌∙◌, ap, length, rules, arith}
-use Rattle.wa_types.specs.Leb.{shortest}
+use Rattle.leb_numbers.specs.Leb.{shortest}
 use Rattle.wa_types.specs.Encoding.{vector, code_bytes}
 use Rattle.wa_types.specs.View.{code}
 use Rattle.wa_types.specs.declared.instrs.Instr.{the_lemmas}

@@ -1,6 +1,6 @@
 use Rattle.std.proofs.Common.{[], ◌∷◌, ◌++◌, ◌∙◌, ap, append_assoc, sym}
 use Rattle.std.proofs.lemmas.Result.{IfOk-weaker, on_ok_weaker}
-use Rattle.wa_types.specs.Leb.{shortest}
+use Rattle.leb_numbers.specs.Leb.{shortest}
 use Rattle.wa_types.specs.Encoding.{block_type_byte, code_bytes, vector}
 use Rattle.wa_types.specs.View.{code}
 use Rattle.encode_code.specs.Instrs.{instr_bytes, immediate_bytes}

@@ -1,6 +1,6 @@
 use Rattle.std.proofs.Common.{◌++◌, ◌∙◌, ap, append_assoc, length}
 use Rattle.std.specs.List.{flat_map}
-use Rattle.wa_types.specs.Leb.{shortest}
+use Rattle.leb_numbers.specs.Leb.{shortest}
 use Rattle.wa_types.specs.Encoding.{vector}
 use Rattle.encode_types.proofs.Vectors.{put_none, put_step}
 use Rattle.encode_types.proofs.entry.put_vector.Goals as goal

@@ -1,6 +1,6 @@
 use Rattle.std.proofs.Common.{◌≡◌, ◌+◌, arith, length, length-append}
 use Rattle.std.specs.List.{flat_map}
-use Rattle.wa_types.specs.Leb.{shortest}
+use Rattle.leb_numbers.specs.Leb.{shortest}
 use Rattle.wa_types.specs.Encoding.{vector}
 use Rattle.encode_types.proofs.Vectors.{entry_le, entry_length, entry_none_length}
 use Rattle.encode_types.proofs.entry.vector_len.Goals as goal

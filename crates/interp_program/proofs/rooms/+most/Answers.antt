@@ -3,7 +3,7 @@ use Rattle.wa_types.specs.declared.instrs.Instr.{the_lemmas}
 use Rattle.wa_types.specs.Counts.{count_of}
 use Rattle.wa_types.specs.Syntax.{done}
 use Rattle.wa_types.specs.View.{code, in_front, module_of}
-use Rattle.wasm_tree.proofs.MeasureLemmas.{count_step, count_block, count_loop, count_if}
+use Rattle.wa_types.proofs.MeasureLemmas.{count_step, count_block, count_loop, count_if}
 use Rattle.run_theory.specs.Heights.{behind, most_operands}
 use Rattle.interp_program.proofs.RoomLemmas.{behind_few, count_some, most_block, most_empty, most_last, most_loop, most_other, most_reached, most_step}
 use Rattle.interp_program.proofs.rooms.+most.Goals as goal

@@ -1,6 +1,6 @@
 use Rattle.std.proofs.Common.{w64, Ok, ◌+◌, get_or, sym, ap, ◌∙◌, arith}
 use Rattle.std.proofs.lemmas.Int.{of_z-to_z}
-use Rattle.wa_types.proofs.LebLemmas.{s_last}
+use Rattle.leb_numbers.proofs.LebLemmas.{s_last}
 use Rattle.wasm_cursor.proofs.LowNumbers.{low_signed}
 use Rattle.wasm_cursor.proofs.numbers.signed_64.Goals as goal
 

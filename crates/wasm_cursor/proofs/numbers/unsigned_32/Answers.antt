@@ -1,5 +1,5 @@
 use Rattle.std.proofs.Common.{sym, arith}
-use Rattle.wa_types.proofs.LebLemmas.{at_last}
+use Rattle.leb_numbers.proofs.LebLemmas.{at_last}
 use Rattle.wasm_cursor.proofs.numbers.unsigned_32.Goals as goal
 
 pub returns-then-byte-lt128-clause-exact : goal.returns-then-byte-lt128-clause-exact

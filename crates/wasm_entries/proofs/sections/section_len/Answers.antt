@@ -1,6 +1,6 @@
 use Rattle.std.proofs.Common.{◌<◌, ◌^◌, ap, arith, length, sym}
 use Rattle.std.proofs.lemmas.Bool.{eqb-false}
-use Rattle.wa_types.specs.Leb.{shortest}
+use Rattle.leb_numbers.specs.Leb.{shortest}
 use Rattle.wa_types.specs.Encoding.{vector}
 use Rattle.wasm_entries.proofs.SectionLemmas.{section_length}
 use Rattle.wasm_entries.proofs.sections.section_len.Goals as goal

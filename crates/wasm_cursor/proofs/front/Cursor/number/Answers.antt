@@ -1,7 +1,7 @@
 use Rattle.wasm_cursor.proofs.Cursors.{lost_gives, some_read, unsigned_given, unsigned_lost, unsigned_falls, unsigned_on}
 use Rattle.std.proofs.Common.{refl}
 use Rattle.std.proofs.lemmas.Result.{err_from_is_err_and}
-use Rattle.wa_types.proofs.LebAnswers.{ok-injective}
+use Rattle.leb_numbers.proofs.LebAnswers.{ok-injective}
 use Rattle.wasm_cursor.proofs.front.Cursor.number.Goals as goal
 
 pub returns-in_err-unsigned_32-clause-read : goal.returns-in_err-unsigned_32-clause-read

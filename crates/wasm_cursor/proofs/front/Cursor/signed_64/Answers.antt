@@ -2,7 +2,7 @@ use Rattle.std.proofs.Common.{refl, ap, ◌∙◌}
 use Rattle.std.specs.Int.{w64, cast_unsigned, cast_signed}
 use Rattle.std.proofs.lemmas.Result.{err_from_is_err_and}
 use Rattle.std.proofs.lemmas.Int.{of_z-to_z}
-use Rattle.wa_types.proofs.LebAnswers.{ok-injective}
+use Rattle.leb_numbers.proofs.LebAnswers.{ok-injective}
 use Rattle.file_laws.proofs.SpelledFits.{signed_fits}
 use Rattle.wasm_cursor.proofs.Cursors.{lost_gives, some_read, signed_given, signed_lost, signed_on}
 use Rattle.wasm_cursor.proofs.front.Cursor.signed_64.Goals as goal

@@ -1,5 +1,5 @@
 use Rattle.std.proofs.Common.{◌≡◌, ◌<◌, ◌^◌, ◌++◌, ◌∙◌, ap, length, arith, length-append}
-use Rattle.wa_types.specs.Leb.{shortest}
+use Rattle.leb_numbers.specs.Leb.{shortest}
 use Rattle.wa_types.specs.View.{elem_of, code}
 use Rattle.wa_types.specs.Encoding.{vector, expression_bytes, elem_bytes}
 use Rattle.wasm_entries.proofs.entries.ElementEntryEntry.size.Goals as goal
