@@ -18,7 +18,7 @@ mod values;
 
 pub use activation::{Activation, Label, Stack, Waiting};
 pub use flow::Flow;
-pub use instr_tables::operand_count;
+pub use wa_ops::operand_count;
 pub use memory::{get_global, load_at, memory_grow, memory_size, set_global, store_at};
 pub use numbers::numeric;
 pub use operands::{choose, constant, drop_top};

@@ -5,7 +5,7 @@ ghost use Rattle.wa_types.specs.View.{in_front};
 ghost use Rattle.slim_walk.specs.Walking.{TakesTold};
 
 use crate::stack::{Walk, is_slot};
-use instr_tables::operand_count;
+use wa_ops::operand_count;
 use wa_types::Instr;
 
 /// How many operands an instruction takes, where it is neither control nor an access to a slot.

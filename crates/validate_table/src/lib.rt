@@ -3,6 +3,6 @@
 
 mod table;
 
-pub use instr_tables::{same_types, type_of_value};
+pub use wa_ops::{same_types, type_of_value};
 pub use table::{Asks, asks_at, listing};
 pub use validate_spaces::{Context, GlobalType, Spaces, imported_memory, imported_table};

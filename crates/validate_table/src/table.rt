@@ -9,7 +9,7 @@ ghost use Rattle.wa_types.specs.Typing.{with_memory, moves, leaves};
 ghost use Rattle.wa_types.specs.Leaves.{is_leaf};
 ghost use Rattle.validate_table.specs.Table.{plain_of, sig_of, Says};
 
-use instr_tables::{load_access, operands_of, result_of, same_types, store_access, type_of_value};
+use wa_ops::{load_access, operands_of, result_of, same_types, store_access, type_of_value};
 use validate_spaces::Context;
 use wa_types::{Instr, Rule, ValType};
 

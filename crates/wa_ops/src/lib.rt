@@ -6,7 +6,24 @@
 //! `binary` a trap. What the operators mean stands once for both widths in `specs/Integers.antt`.
 //!
 //! `load_value` is the same for what a load reads. No call takes memory.
+//!
+//! `access`, `operators`, `types`: Tables of operators, loads and stores, and of types, that validation and the interpreter read: an operator's operands and result,
+//! and a row each of the loads and stores (standard, sections 2.4.1 and 2.4.4).
 #![tactic(auto)]
+
+mod access;
+mod class;
+mod loads;
+mod narrow;
+mod operators;
+mod types;
+mod wide;
+
+pub use access::{Access, load_access, store_access};
+pub use class::{OperatorClass, operand_type};
+pub use loads::load_value;
+pub use operators::{operand_count, operands_of, result_of};
+pub use types::{same_types, type_of_value};
 
 ghost use Rattle.std.specs.Prelude.{◌≡◌, [], ◌∷◌, Some, Ok};
 ghost use Rattle.wa_types.specs.Operators.{operand_types};
@@ -14,13 +31,7 @@ ghost use Rattle.wa_types.specs.Typing.{type_of};
 ghost use Rattle.wa_ops.specs.declared.class.OperatorClass.TheVariants.{Unary, Conversion, Comparison, Binary};
 ghost use Rattle.wa_ops.specs.Operate.{operate, class_of};
 
-mod class;
-mod loads;
-mod narrow;
-mod wide;
 
-pub use class::{OperatorClass, operand_type};
-pub use loads::load_value;
 use wa_types::{NumOp, Trap, Value};
 
 /// The value of an operator with one operand: the counts of bits and the test for zero (standard, section

@@ -4,9 +4,9 @@ ghost use Rattle.std.specs.Prelude.{◌≡◌, [], ◌∷◌, length, reverse};
 ghost use Rattle.wa_types.specs.Operators.{operand_types, result_type};
 ghost use Rattle.wa_ops.specs.declared.class.OperatorClass.TheVariants.{Unary};
 ghost use Rattle.wa_ops.specs.Operate.{class_of};
-ghost use Rattle.instr_tables.specs.Types.{other_type};
+ghost use Rattle.wa_ops.specs.Types.{other_type};
 
-use wa_ops::{OperatorClass, operand_type};
+use crate::class::{OperatorClass, operand_type};
 use wa_types::{NumOp, ValType};
 
 /// The types of an operator's operands, the deepest first (standard, section 3.3.1).

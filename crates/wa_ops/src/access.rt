@@ -15,7 +15,7 @@ pub struct Access {
     pub signed: bool,
 }
 
-ghost use Rattle.instr_tables.specs.Access.{row_of};
+ghost use Rattle.wa_ops.specs.Access.{row_of};
 
 /// The load of this opcode (standard, section 5.4.4).
 pub fn load_access(op: u8) -> Option<Access>
