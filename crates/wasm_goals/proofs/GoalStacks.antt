@@ -1,6 +1,5 @@
 -- The stack of goals, whose top is the last of a list, and the least ends beside it.
-use Rattle.std.proofs.Common.{◌≡◌, ℕ, ◌+◌, ◌-◌, ◌<◌, ◌≤◌, List, [], ◌∷◌, ◌++◌, Option, Some, None, refl, ap, sym, ◌∙◌, subst, arith, length, length-take-le, take, drop, reverse, map, get_or}
-use Rattle.std.proofs.Common.{min, Bool, true, false, nat_lt, MatchBool}
+use Rattle.std.proofs.Common.{◌≡◌, ℕ, ◌+◌, ◌-◌, ◌<◌, ◌≤◌, List, [], ◌∷◌, ◌++◌, Option, Some, None, refl, ap, sym, ◌∙◌, subst, arith, length, length-take-le, take, drop, reverse, map, get_or, min, Bool, true, false, nat_lt, MatchBool}
 use Rattle.std.proofs.lemmas.List.{length-map, length-reverse, reverse-append, take_more, take_all, drop-map, drop-drop, get_or-take}
 use Rattle.std.proofs.lemmas.Bool.{ltb-true, ltb-false}
 use Rattle.std.specs.Option.{is_some}
@@ -10,7 +9,7 @@ use Rattle.wasm_goals.specs.declared.goals.Goal.{Goal as Wanted}
 use Rattle.wasm_goals.specs.Goals.{goal_of, stack_of}
 use Rattle.wasm_goals.specs.declared.ends.Closing.{Closing}
 use Rattle.wasm_goals.specs.Ends.{lowered, least_ends, by_closing, NoStep}
-use Rattle.wasm_marks.specs.Showing.{level_of, levels}
+use Rattle.file_laws.specs.Showing.{level_of, levels}
 
 pub stack_push : (xs : List Wanted) (x : Wanted) → stack_of (xs ++ x ∷ []) ≡ goal_of x ∷ stack_of xs
 stack_push xs x = ap (map goal_of) (reverse-append xs (x ∷ []))

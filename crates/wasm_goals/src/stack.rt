@@ -5,7 +5,7 @@ ghost use Rattle.std.specs.Bool.{OnTrue, OnFalse};
 ghost use Rattle.wa_types.specs.Begun.{settled, start, Steps};
 ghost use Rattle.wasm_goals.specs.Goals.{goal_of, list_of, few_of, stack_of};
 ghost use Rattle.wasm_goals.specs.Ends.{IsLeastEnd, least_ends, NoStep, IsReached, is_end, owes_none};
-ghost use Rattle.wasm_marks.specs.Showing.{level_of, levels};
+ghost use Rattle.file_laws.specs.Showing.{level_of, levels};
 
 use crate::ends::{Closing, closing_at, end_of, least_with};
 use crate::goals::Goal;
@@ -28,7 +28,7 @@ impl Model for Goals {
     ghost use Rattle.wa_types.specs.Begun.{Goal as Wanted};
     ghost use Rattle.wasm_goals.specs.Goals.{stack_of};
     ghost use Rattle.wasm_goals.specs.Ends.{least_ends};
-    ghost use Rattle.wasm_marks.specs.Showing.{levels};
+    ghost use Rattle.file_laws.specs.Showing.{levels};
 
     ghost Value = { List Wanted };
 

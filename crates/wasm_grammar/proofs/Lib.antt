@@ -3,4 +3,4 @@ pub mod Marking
 pub mod ShortItems
 pub mod PieceEnds
 pub mod WholeOpcodes
-pub use Rattle.wasm_marks.proofs.Judged
+pub use Rattle.file_laws.proofs.Judged

@@ -8,10 +8,10 @@ use Rattle.leb_numbers.specs.Leb.{IsUnsigned, IsSigned, last_signed}
 use Rattle.wa_types.specs.Opcodes.{Form, no_immediate, an_index, an_access, a_constant, follows, is_block_type, is_float_op, is_float_type}
 use Rattle.wa_types.specs.Marks.{place_if}
 use Rattle.wa_types.specs.ModuleBounds.{ModuleBounds}
-use Rattle.wasm_marks.specs.declared.marks.Marks.{Marks}
-use Rattle.wasm_marks.specs.Showing.{nothing_seen, floats_seen, opens_seen, levels, shown, Noted}
-use Rattle.wasm_marks.proofs.Noting.{noted_none}
-use Rattle.wasm_marks.proofs.TellingCode.{opens_none}
+use Rattle.file_laws.specs.declared.marks.Marks.{Marks}
+use Rattle.file_laws.specs.Showing.{nothing_seen, floats_seen, opens_seen, levels, shown, Noted}
+use Rattle.file_laws.proofs.Noting.{noted_none}
+use Rattle.file_laws.proofs.TellingCode.{opens_none}
 use Rattle.wa_types.specs.Begun.{Goal, code, block_type, value_type, number, signed, entries, EntryKind, some_runs, Item, a_byte, an_unsigned, a_signed, a_name, a_constant_of, wants, IsItem, next, Inside, Steps, settled, immediates, where_true, and_then, others}
 use Rattle.file_laws.proofs.CodeReads.{refuted, none_nest}
 use Rattle.wasm_cursor.proofs.LowNumbers.{low_signed}

@@ -1,4 +1,4 @@
 pub mod Machine
 pub mod Passing
-pub use Rattle.wasm_marks.specs.Found
+pub use Rattle.file_laws.specs.Found
 pub use Rattle.wasm_window.specs.Input

@@ -10,5 +10,5 @@ mod notes;
 mod short;
 
 pub use machine::{CheckFault, Machine, check};
-pub use wasm_marks::Marks;
+pub use file_laws::Marks;
 pub use wasm_window::{Passed, Piece, Window};

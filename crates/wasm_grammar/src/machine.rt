@@ -6,7 +6,7 @@ ghost use Rattle.wa_types.specs.Begun.{Begun, IsWhole, wants, Inside, code, entr
 ghost use Rattle.wasm_goals.specs.Goals.{goal_of, kind_of};
 ghost use Rattle.wasm_goals.specs.Items.{FrontIs};
 ghost use Rattle.wa_types.specs.ModuleBounds.{ModuleBounds};
-ghost use Rattle.wasm_marks.specs.declared.marks.Marks.{Marks as MarksValue};
+ghost use Rattle.file_laws.specs.declared.marks.Marks.{Marks as MarksValue};
 ghost use Rattle.wasm_grammar.specs.Machine.{Stands, Waits, IsFault, IsCause, AreMarks};
 ghost use Rattle.wasm_grammar.specs.Passing.{Below, Moves};
 
@@ -17,7 +17,7 @@ use thiserror::Error;
 use wa_types::Bounds;
 use wasm_goals::stack::Goals;
 use wasm_goals::{EntryKind, Front, Goal, read_item, wants};
-use wasm_marks::Marks;
+use file_laws::Marks;
 use wasm_window::Window;
 
 /// Why bytes are no file.

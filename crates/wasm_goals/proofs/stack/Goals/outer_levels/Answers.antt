@@ -1,6 +1,6 @@
 use Rattle.std.proofs.Common.{◌∙◌, ap, drop}
 use Rattle.wasm_goals.specs.Goals.{goal_of}
-use Rattle.wasm_marks.specs.Showing.{levels}
+use Rattle.file_laws.specs.Showing.{levels}
 use Rattle.wasm_goals.proofs.GoalStacks.{level_popped, levels_behind_none}
 use Rattle.wasm_goals.proofs.stack.Goals.outer_levels.Goals as goal
 

@@ -2,7 +2,7 @@ use Rattle.std.proofs.Common.{◌∙◌, sym, ap}
 use Rattle.wa_types.specs.Begun.{end_of}
 use Rattle.wasm_goals.specs.Goals.{goal_of, stack_of}
 use Rattle.wasm_goals.specs.Ends.{least_ends}
-use Rattle.wasm_marks.specs.Showing.{levels}
+use Rattle.file_laws.specs.Showing.{levels}
 use Rattle.wasm_goals.proofs.GoalStacks.{end_popped, none_popped, level_popped, stack_push, with_end, without_end}
 use Rattle.wasm_goals.proofs.stack.Goals.pop.Goals as goal
 

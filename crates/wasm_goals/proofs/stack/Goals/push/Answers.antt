@@ -1,7 +1,7 @@
 use Rattle.std.proofs.Common.{◌∙◌, sym, ap, Some, reverse, [], ◌∷◌, length, length-append, arith}
 use Rattle.wasm_goals.specs.Goals.{goal_of, stack_of}
 use Rattle.wasm_goals.specs.Ends.{least_ends, lowered}
-use Rattle.wasm_marks.specs.Showing.{levels}
+use Rattle.file_laws.specs.Showing.{levels}
 use Rattle.wasm_goals.proofs.GoalStacks.{end_pushed, none_pushed, stack_push, level_pushed, level_one, levels_fit, end_pushed_flat}
 use Rattle.wasm_goals.proofs.stack.Goals.push.Goals as goal
 

@@ -1,21 +1,19 @@
 -- From goals on, bytes lead to the end of a file and show something. What is spelled in front of that shows its own part.
-use Rattle.std.proofs.Common.{◌≡◌, ℕ, suc, zero, ◌+◌, ◌-◌, List, [], ◌∷◌, ◌++◌, Option, Some, None, refl, ap, sym, ◌∙◌, subst, arith, append_assoc, append-nil, length, length-append, Bool}
-use Rattle.std.proofs.Common.{true, false, nat_eq, nat_le, IsTrue, IsUtf8}
+use Rattle.std.proofs.Common.{◌≡◌, ℕ, suc, zero, ◌+◌, ◌-◌, List, [], ◌∷◌, ◌++◌, Option, Some, None, refl, ap, sym, ◌∙◌, subst, arith, append_assoc, append-nil, length, length-append, Bool, true, false, nat_eq, nat_le, IsTrue, IsUtf8}
 use Rattle.wa_types.specs.declared.syntax.Space.{Space}
 use Rattle.wa_types.specs.declared.syntax.Space.TheVariants.{Func as a_func, Table as a_table, Memory as a_memory, Global as a_global}
 use Rattle.wa_types.specs.declared.syntax.Limits.{Limits}
 use Rattle.wa_types.specs.Encoding.{space_byte, mutable_byte}
 use Rattle.wa_types.specs.Opcodes.{is_float_type}
 use Rattle.wa_types.specs.Binary.{Placed, RawKind, raw_func, raw_table, raw_memory, raw_global}
-use Rattle.wa_types.specs.Begun.{Goal, exact, sections, number, name, value_type, block_type, mutable, import_kind, space, limits, signed, name_bytes, until, count, entries, EntryKind, a_byte}
-use Rattle.wa_types.specs.Begun.{first_of, IsItem, wants, next, entry, others, and_then, some_of, name_of, where_true, closing, open_ended, settled, Inside, Steps, some_indices}
+use Rattle.wa_types.specs.Begun.{Goal, exact, sections, number, name, value_type, block_type, mutable, import_kind, space, limits, signed, name_bytes, until, count, entries, EntryKind, a_byte, first_of, IsItem, wants, next, entry, others, and_then, some_of, name_of, where_true, closing, open_ended, settled, Inside, Steps, some_indices}
 use Rattle.wa_types.specs.Marks.{place_if, float_type}
 use Rattle.wa_types.specs.ModuleBounds.{ModuleBounds}
 use Rattle.wa_types.specs.Spells.{◌▸◌, Exactly, Number, SignedNumber, Items, Vector, TextBytes, Text, ValueType, BlockType, Maximum, LimitsOf, TableType, GlobalType, ImportKindOf}
 use Rattle.file_laws.proofs.Items.{item_some}
 use Rattle.file_laws.proofs.Runs.{steps_inside}
-use Rattle.wasm_marks.specs.Showing.{Seen, nothing_seen, floats_seen, functions_seen, both, shown, entry_shown, count_shown, Shows, shows_item}
-use Rattle.wasm_marks.proofs.Noting.{both_assoc}
+use Rattle.file_laws.specs.Showing.{Seen, nothing_seen, floats_seen, functions_seen, both, shown, entry_shown, count_shown, Shows, shows_item}
+use Rattle.file_laws.proofs.Noting.{both_assoc}
 
 -- From these goals, settled at this place, the bytes lead to the end of a file, and show this.
 pub record Tells (b : ModuleBounds) (last : ℕ) (gs : List Goal) (at : ℕ) (bytes : List ℕ) (s : Seen) : Type 0 where

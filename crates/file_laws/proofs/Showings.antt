@@ -1,6 +1,5 @@
 -- Items that show something: one more, that bytes show one thing, and that offsets rise.
-use Rattle.std.proofs.Common.{◌≡◌, ℕ, ◌+◌, ◌*◌, ◌^◌, ◌<◌, ◌≤◌, List, [], ◌∷◌, ◌++◌, Bool, true, false, cond, ◌&&◌, nat_le, nat_eq, refl, ap, sym, ◌∙◌, subst, arith, add-zero, append_assoc}
-use Rattle.std.proofs.Common.{append-nil, length, length-append}
+use Rattle.std.proofs.Common.{◌≡◌, ℕ, ◌+◌, ◌*◌, ◌^◌, ◌<◌, ◌≤◌, List, [], ◌∷◌, ◌++◌, Bool, true, false, cond, ◌&&◌, nat_le, nat_eq, refl, ap, sym, ◌∙◌, subst, arith, add-zero, append_assoc, append-nil, length, length-append}
 use Rattle.wa_types.specs.Opcodes.{is_float_type, is_float_op}
 use Rattle.wa_types.specs.Begun.{Goal, head, entries, count, value_type, block_type, import_kind, code, EntryKind, some_globals, some_bodies, some_value_types, IsItem, wants, Steps}
 use Rattle.wa_types.specs.Marks.{place_if}
@@ -8,10 +7,9 @@ use Rattle.wa_types.specs.ModuleBounds.{ModuleBounds}
 use Rattle.file_laws.proofs.Items.{item_some, one_item, same_cut, place_of}
 use Rattle.file_laws.proofs.Runs.{one_step}
 use Rattle.file_laws.proofs.SpelledFits.{unsigned_fits}
-use Rattle.wasm_marks.specs.declared.marks.Marks.{Marks}
-use Rattle.wasm_marks.specs.Showing.{Seen, nothing_seen, functions_seen, both, total, shown, entry_shown, count_shown, await_results, levels, opens_level, Shows, shows_none, shows_item}
-use Rattle.wasm_marks.specs.Showing.{Noted, no_marks, MarksAlong}
-use Rattle.wasm_marks.proofs.Noting.{noted_none, noted_both, both_none, both_assoc, total_both}
+use Rattle.file_laws.specs.declared.marks.Marks.{Marks}
+use Rattle.file_laws.specs.Showing.{Seen, nothing_seen, functions_seen, both, total, shown, entry_shown, count_shown, await_results, levels, opens_level, Shows, shows_none, shows_item, Noted, no_marks, MarksAlong}
+use Rattle.file_laws.proofs.Noting.{noted_none, noted_both, both_none, both_assoc, total_both}
 
 -- one more item
 pub shows_more : (b : ModuleBounds) (at : ℕ) (gs : List Goal) (a : List ℕ) (g : Goal) (hs ks : List Goal) (s : Seen) → Shows b at gs a (g ∷ hs) s

@@ -1,6 +1,5 @@
 -- What code shows.
-use Rattle.std.proofs.Common.{◌≡◌, ℕ, ◌+◌, ◌<◌, List, [], ◌∷◌, ◌++◌, Some, refl, ap, sym, ◌∙◌, subst, arith, append_assoc, length, Bool, true, false, inl, inr}
-use Rattle.std.proofs.Common.{nat_le, IsTrue, ◌&&◌}
+use Rattle.std.proofs.Common.{◌≡◌, ℕ, ◌+◌, ◌<◌, List, [], ◌∷◌, ◌++◌, Some, refl, ap, sym, ◌∙◌, subst, arith, append_assoc, length, Bool, true, false, inl, inr, nat_le, IsTrue, ◌&&◌}
 use Rattle.wa_types.specs.Opcodes.{Form, a_float, follows, form, is_nest, is_float_op}
 use Rattle.wa_types.specs.Binary.{Placed, Immediates, nothing, zero_byte, index, index_and_zero, access, labels, constant, float, RawCode, ended, otherwise, instr, nested, branched}
 use Rattle.wa_types.specs.Begun.{Goal, code, exact, number, block_type, count, some_indices, float_bytes, next, where_true, immediates, behind_opcode}
@@ -9,9 +8,8 @@ use Rattle.wa_types.specs.ModuleBounds.{ModuleBounds}
 use Rattle.wa_types.specs.Spells.{◌▸◌, Exactly, Number, Vector, Byte, BlockType, ImmediatesOf, CodeOf}
 use Rattle.file_laws.proofs.CodeReads.{nest_range, refuted, none_nest}
 use Rattle.file_laws.proofs.OpcodeTable.{HasBytes, has_bytes}
-use Rattle.wasm_marks.specs.Showing.{Seen, nothing_seen, opens_seen, both, shown, levels, opens_level}
-use Rattle.wasm_marks.proofs.Telling.{Tells, Gives, give, give_byte, gives_none, gives_then, gives_as, gives_same, gives_number, gives_numbers, gives_signed, gives_exact, gives_block_type}
-use Rattle.wasm_marks.proofs.Telling.{seen_placed}
+use Rattle.file_laws.specs.Showing.{Seen, nothing_seen, opens_seen, both, shown, levels, opens_level}
+use Rattle.file_laws.proofs.Telling.{Tells, Gives, give, give_byte, gives_none, gives_then, gives_as, gives_same, gives_number, gives_numbers, gives_signed, gives_exact, gives_block_type, seen_placed}
 
 -- an instruction opens no level
 pub opens_none : (op : ℕ) (f : Form) → follows op ≡ Some f → opens_level op ≡ false

@@ -5,7 +5,7 @@ use Rattle.wa_types.specs.Begun.{Goal, head, entries, count, value_type, block_t
 use Rattle.wa_types.specs.Marks.{place_if, first_above}
 use Rattle.wa_types.specs.ModuleBounds.{ModuleBounds}
 use Rattle.wa_types.specs.Opcodes.{is_float_type, is_float_op, is_nest}
-use Rattle.wasm_marks.specs.declared.marks.Marks.{Marks}
+use Rattle.file_laws.specs.declared.marks.Marks.{Marks}
 
 -- The offsets of floats and of opcodes that open a level past the bound, how many functions stand there and there, the numbers
 -- of the types' parameters, and the bodies' declared sizes.

@@ -5,9 +5,9 @@ ghost use Rattle.wa_types.specs.Begun.{sections, start};
 ghost use Rattle.wa_types.specs.Binary.{Section};
 ghost use Rattle.wa_types.specs.ModuleBounds.{ModuleBounds};
 ghost use Rattle.wa_types.specs.Spells.{Spells};
-ghost use Rattle.wasm_marks.specs.Found.{MarksOf};
-ghost use Rattle.wasm_marks.specs.Showing.{MarksAlong};
-ghost use Rattle.wasm_marks.specs.declared.marks.Marks.{Marks as MarksValue};
+ghost use Rattle.file_laws.specs.Found.{MarksOf};
+ghost use Rattle.file_laws.specs.Showing.{MarksAlong};
+ghost use Rattle.file_laws.specs.declared.marks.Marks.{Marks as MarksValue};
 
 /// Law: what is marked along all items of a file is what its sections are judged by.
 pub fn items_show_the_sections()

@@ -2,8 +2,8 @@
 use Rattle.std.proofs.Common.{◌≡◌, ℕ, ◌+◌, List, [], ◌∷◌, ◌++◌, Option, Some, None, Bool, true, false, nat_lt, refl, ap, sym, ◌∙◌, arith, append_assoc, append-nil}
 use Rattle.wa_types.specs.Marks.{first_above}
 use Rattle.wa_types.specs.ModuleBounds.{ModuleBounds}
-use Rattle.wasm_marks.specs.declared.marks.Marks.{Marks}
-use Rattle.wasm_marks.specs.Showing.{Seen, nothing_seen, both, first_of, above_of, total, Noted}
+use Rattle.file_laws.specs.declared.marks.Marks.{Marks}
+use Rattle.file_laws.specs.Showing.{Seen, nothing_seen, both, first_of, above_of, total, Noted}
 
 first_none : (o : Option ℕ) → first_of o [] ≡ o
 first_none None = refl

@@ -5,18 +5,13 @@ use Rattle.wa_types.specs.declared.syntax.Limits.{Limits}
 use Rattle.wa_types.specs.declared.syntax.Export.{Export}
 use Rattle.wa_types.specs.Encoding.{space_byte, mutable_byte}
 use Rattle.wa_types.specs.Binary.{Placed, RawCode, RawType, RawImport, RawGlobal, RawElem, RawRun, RawBody, RawSegment}
-use Rattle.wa_types.specs.Begun.{Goal, code, number, name, value_type, mutable, import_kind, space, limits, count, entries, until, name_of, others, where_true, EntryKind, some_types}
-use Rattle.wa_types.specs.Begun.{some_imports, some_functions, some_tables, some_memories, some_globals, some_exports, some_elements, some_bodies, some_segments, some_value_types, some_runs}
-use Rattle.wa_types.specs.Begun.{some_indices, some_bytes}
+use Rattle.wa_types.specs.Begun.{Goal, code, number, name, value_type, mutable, import_kind, space, limits, count, entries, until, name_of, others, where_true, EntryKind, some_types, some_imports, some_functions, some_tables, some_memories, some_globals, some_exports, some_elements, some_bodies, some_segments, some_value_types, some_runs, some_indices, some_bytes}
 use Rattle.wa_types.specs.Marks.{float_type, code_floats, code_opens, type_floats, body_floats}
 use Rattle.wa_types.specs.ModuleBounds.{ModuleBounds}
-use Rattle.wa_types.specs.Spells.{◌▸◌, Exactly, Number, Items, Vector, TextBytes, Text, ValueType, FunctionType, LimitsOf, TableType, GlobalType, ImportKindOf, ImportOf, GlobalOf, ExportOf}
-use Rattle.wa_types.specs.Spells.{Expression, ElementOf, RunOf, BodyOf, SegmentOf}
-use Rattle.wasm_marks.specs.Showing.{Seen, nothing_seen, floats_seen, parameters_seen, size_seen, both, levels, await_results}
-use Rattle.wasm_marks.proofs.Telling.{Tells, Gives, give, tells_until, entry_next, gives_then, gives_as, gives_same, gives_number, gives_numbers, gives_value_type, gives_mutable}
-use Rattle.wasm_marks.proofs.Telling.{gives_space, gives_maximum, gives_limits, gives_name_bytes, gives_text, gives_kind, gives_entry, gives_count, gives_silent, seen_placed, seen_kind}
-use Rattle.wasm_marks.proofs.Telling.{seen_in}
-use Rattle.wasm_marks.proofs.TellingCode.{seen_code, gives_code}
+use Rattle.wa_types.specs.Spells.{◌▸◌, Exactly, Number, Items, Vector, TextBytes, Text, ValueType, FunctionType, LimitsOf, TableType, GlobalType, ImportKindOf, ImportOf, GlobalOf, ExportOf, Expression, ElementOf, RunOf, BodyOf, SegmentOf}
+use Rattle.file_laws.specs.Showing.{Seen, nothing_seen, floats_seen, parameters_seen, size_seen, both, levels, await_results}
+use Rattle.file_laws.proofs.Telling.{Tells, Gives, give, tells_until, entry_next, gives_then, gives_as, gives_same, gives_number, gives_numbers, gives_value_type, gives_mutable, gives_space, gives_maximum, gives_limits, gives_name_bytes, gives_text, gives_kind, gives_entry, gives_count, gives_silent, seen_placed, seen_kind, seen_in}
+use Rattle.file_laws.proofs.TellingCode.{seen_code, gives_code}
 
 -- goals that hold no code, and no number of results first
 pub record Calm (gs : List Goal) : Type 0 where

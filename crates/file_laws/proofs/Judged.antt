@@ -1,26 +1,23 @@
 -- What the marks of a file are, by its sections.
-use Rattle.std.proofs.Common.{take, drop, Some}
+use Rattle.std.proofs.Common.{take, drop, Some, ◌≡◌, ℕ, ◌+◌, ◌<◌, ◌≤◌, ◌^◌, List, [], ◌∷◌, ◌++◌, map, Option, None, refl, ap, sym, ◌∙◌, subst, arith, append_assoc, length, length-append}
 use Rattle.std.proofs.lemmas.List.{take-append-drop}
-use Rattle.std.proofs.Common.{◌≡◌, ℕ, ◌+◌, ◌<◌, ◌≤◌, ◌^◌, List, [], ◌∷◌, ◌++◌, map, Option, None, refl, ap, sym, ◌∙◌, subst, arith, append_assoc, length, length-append}
 use Rattle.std.specs.List.{All, flat_map}
 use Rattle.std.proofs.lemmas.List.Concat.{flat_map_single}
 use Rattle.std.proofs.lemmas.List.Elements.{All-nil, All-cons}
 use Rattle.wa_types.specs.Begun.{Goal, sections, start as start_goals}
-use Rattle.wa_types.specs.Binary.{RawType, RawKind, raw_func, raw_table, raw_memory, raw_global, RawImport, RawGlobal, RawElem, RawBody, RawSegment, Section, types, imports, functions}
-use Rattle.wa_types.specs.Binary.{globals, elements, bodies, segments}
+use Rattle.wa_types.specs.Binary.{RawType, RawKind, raw_func, raw_table, raw_memory, raw_global, RawImport, RawGlobal, RawElem, RawBody, RawSegment, Section, types, imports, functions, globals, elements, bodies, segments}
 use Rattle.wa_types.specs.Spells.{Spells, sorts_in, bodies_in}
 use Rattle.wa_types.specs.Reading.{types_in, imports_in}
-use Rattle.wa_types.specs.Marks.{float_type, code_floats, type_floats, kind_floats, body_floats, kind_sorts, code_opens, section_floats, section_opens, floats, opens, imported_sorts}
-use Rattle.wa_types.specs.Marks.{function_count, parameter_counts, body_sizes, first_above}
+use Rattle.wa_types.specs.Marks.{float_type, code_floats, type_floats, kind_floats, body_floats, kind_sorts, code_opens, section_floats, section_opens, floats, opens, imported_sorts, function_count, parameter_counts, body_sizes, first_above}
 use Rattle.wa_types.specs.ModuleBounds.{ModuleBounds}
-use Rattle.wasm_marks.specs.declared.marks.Marks.{Marks}
-use Rattle.wasm_marks.specs.Showing.{Seen, nothing_seen, both, first_of, total, Noted, no_marks, MarksAlong}
-use Rattle.wasm_marks.specs.Found.{IsFirst, MarksOf}
-use Rattle.wasm_marks.proofs.Noting.{total_both}
-use Rattle.wasm_marks.proofs.Showings.{Within, held_along, one_showing, shows_front}
-use Rattle.wasm_marks.proofs.Telling.{seen_in, seen_kind}
-use Rattle.wasm_marks.proofs.TellingEntries.{seen_type, seen_import, seen_global, seen_element, seen_body, seen_segment}
-use Rattle.wasm_marks.proofs.TellingFile.{seen_section, file_shows}
+use Rattle.file_laws.specs.declared.marks.Marks.{Marks}
+use Rattle.file_laws.specs.Showing.{Seen, nothing_seen, both, first_of, total, Noted, no_marks, MarksAlong}
+use Rattle.file_laws.specs.Found.{IsFirst, MarksOf}
+use Rattle.file_laws.proofs.Noting.{total_both}
+use Rattle.file_laws.proofs.Showings.{Within, held_along, one_showing, shows_front}
+use Rattle.file_laws.proofs.Telling.{seen_in, seen_kind}
+use Rattle.file_laws.proofs.TellingEntries.{seen_type, seen_import, seen_global, seen_element, seen_body, seen_segment}
+use Rattle.file_laws.proofs.TellingFile.{seen_section, file_shows}
 
 all_above : (ks : List ℕ) (low high k : ℕ) → k ≤ low → Within low high ks → All (λ j. k ≤ j) ks
 all_above [] low high k e h = All-nil (λ j. k ≤ j)

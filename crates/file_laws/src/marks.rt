@@ -4,7 +4,7 @@ ghost use Rattle.std.specs.Prelude.{◌≡◌, nat_le};
 ghost use Rattle.wa_types.specs.Marks.{place_if};
 ghost use Rattle.wa_types.specs.ModuleBounds.{ModuleBounds};
 ghost use Rattle.wa_types.specs.Opcodes.{is_float_op, is_float_type};
-ghost use Rattle.wasm_marks.specs.Showing.{Noted, floats_seen, functions_seen, no_marks, opens_seen, parameters_seen, size_seen};
+ghost use Rattle.file_laws.specs.Showing.{Noted, floats_seen, functions_seen, no_marks, opens_seen, parameters_seen, size_seen};
 
 use crate::floats::{is_float_op, is_float_type};
 use wa_types::Bounds;

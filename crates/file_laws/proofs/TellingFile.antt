@@ -1,24 +1,19 @@
 -- What sections show, and whole files.
-use Rattle.std.proofs.Common.{◌≡◌, ℕ, suc, zero, ◌+◌, ◌<◌, ◌≤◌, List, [], ◌∷◌, ◌++◌, map, Some, refl, ap, sym, ◌∙◌, subst, arith, add-zero, append_assoc, append-nil, length, length-append}
-use Rattle.std.proofs.Common.{true, cond, nat_eq, nat_lt, ◌&&◌}
+use Rattle.std.proofs.Common.{◌≡◌, ℕ, suc, zero, ◌+◌, ◌<◌, ◌≤◌, List, [], ◌∷◌, ◌++◌, map, Some, refl, ap, sym, ◌∙◌, subst, arith, add-zero, append_assoc, append-nil, length, length-append, true, cond, nat_eq, nat_lt, ◌&&◌}
 use Rattle.std.specs.List.{flat_map}
 use Rattle.std.proofs.lemmas.Bool.{lt-ltb, ne_eqb}
 use Rattle.wa_types.specs.Encoding.{preamble}
 use Rattle.wa_types.specs.Binary.{Section, custom, types, imports, functions, tables, memories, globals, exports, start, elements, bodies, segments}
-use Rattle.wa_types.specs.Begun.{Goal, exact, sections, size, head, until, rest, EntryKind, some_types, some_imports, some_functions, some_tables, some_memories, some_globals, some_exports}
-use Rattle.wa_types.specs.Begun.{some_elements, some_bodies, some_segments, next, Inside, settled, where_true, some_of, others, entries, name_of, may_follow, content, start as start_goals}
+use Rattle.wa_types.specs.Begun.{Goal, exact, sections, size, head, until, rest, EntryKind, some_types, some_imports, some_functions, some_tables, some_memories, some_globals, some_exports, some_elements, some_bodies, some_segments, next, Inside, settled, where_true, some_of, others, entries, name_of, may_follow, content, start as start_goals}
 use Rattle.wa_types.specs.ModuleBounds.{ModuleBounds}
-use Rattle.wa_types.specs.Spells.{◌▸◌, Exactly, Number, Items, Vector, Sized, TextBytes, Text, FunctionType, LimitsOf, TableType, ImportOf, GlobalOf, ExportOf, ElementOf, BodyOf, SegmentOf}
-use Rattle.wa_types.specs.Spells.{SectionOf, Rising, Spells, sorts_in, bodies_in}
+use Rattle.wa_types.specs.Spells.{◌▸◌, Exactly, Number, Items, Vector, Sized, TextBytes, Text, FunctionType, LimitsOf, TableType, ImportOf, GlobalOf, ExportOf, ElementOf, BodyOf, SegmentOf, SectionOf, Rising, Spells, sorts_in, bodies_in}
 use Rattle.file_laws.proofs.GoalReads.{to_right}
 use Rattle.file_laws.proofs.Runs.{some_same}
 use Rattle.file_laws.proofs.SectionReads.{Balanced}
-use Rattle.wasm_marks.specs.Showing.{Seen, nothing_seen, functions_seen, both, levels, Shows, shows_none}
-use Rattle.wasm_marks.proofs.Noting.{both_none, both_assoc}
-use Rattle.wasm_marks.proofs.Telling.{Tells, Gives, give, give_byte, give_settled, tells_until, same_number, gives_none, gives_then, gives_as, gives_same, gives_exact, gives_name_bytes}
-use Rattle.wasm_marks.proofs.Telling.{gives_entries, seen_in}
-use Rattle.wasm_marks.proofs.TellingEntries.{Calm, type_entry, import_entry, function_entry, table_entry, memory_entry, global_entry, export_entry, element_entry, body_entry, segment_entry}
-use Rattle.wasm_marks.proofs.TellingEntries.{seen_type, seen_import, seen_global, seen_element, seen_body, seen_segment}
+use Rattle.file_laws.specs.Showing.{Seen, nothing_seen, functions_seen, both, levels, Shows, shows_none}
+use Rattle.file_laws.proofs.Noting.{both_none, both_assoc}
+use Rattle.file_laws.proofs.Telling.{Tells, Gives, give, give_byte, give_settled, tells_until, same_number, gives_none, gives_then, gives_as, gives_same, gives_exact, gives_name_bytes, gives_entries, seen_in}
+use Rattle.file_laws.proofs.TellingEntries.{Calm, type_entry, import_entry, function_entry, table_entry, memory_entry, global_entry, export_entry, element_entry, body_entry, segment_entry, seen_type, seen_import, seen_global, seen_element, seen_body, seen_segment}
 
 abbrev pub seen_section : ModuleBounds → Section → Seen
 seen_section b (types ts) = seen_in seen_type ts

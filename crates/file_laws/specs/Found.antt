@@ -3,7 +3,7 @@ use Rattle.std.specs.Prelude.{◌≡◌, ℕ, List, [], Option, Some, None}
 use Rattle.wa_types.specs.Binary.{Section}
 use Rattle.wa_types.specs.Marks.{floats, opens, IsLeast, function_count, parameter_counts, body_sizes, first_above}
 use Rattle.wa_types.specs.ModuleBounds.{ModuleBounds}
-use Rattle.wasm_marks.specs.declared.marks.Marks.{Marks}
+use Rattle.file_laws.specs.declared.marks.Marks.{Marks}
 
 -- the least of these offsets, or none where there is none
 abbrev pub IsFirst : Option ℕ → List ℕ → Type 0
