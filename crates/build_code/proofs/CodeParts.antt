@@ -11,11 +11,10 @@ use Rattle.wa_types.specs.View.{in_front, code, onto}
 use Rattle.wa_types.specs.Reading.{IsCode}
 use Rattle.wa_types.proofs.ViewLemmas.{in_block, in_loop, in_if, onto_done, is_block, is_loop, is_if, is_plain, instr_kind}
 use Rattle.build_types.specs.declared.BuildFault.{BuildFault}
-use Rattle.wasm_cursor.specs.Places.{Place, with_more}
+use Rattle.wasm_grammar.specs.Places.{Place, with_more}
 use Rattle.build_types.specs.Builds.{Between, IsWant, Builds}
-use Rattle.build_code.specs.BuildsCode.{CodeItem, an_instr, open_block, open_loop, open_if, an_else, an_end, SpelledCode, SpelledExpression, SpelledResult, SpelledConstruct, SpelledArms}
+use Rattle.build_code.specs.BuildsCode.{CodeItem, an_instr, open_block, open_loop, open_if, an_else, an_end, SpelledCode, SpelledExpression, SpelledResult, SpelledConstruct, SpelledArms, GivesNext, GivesNest, BuildsNext}
 use Rattle.build_instrs.specs.BuildsPlain.{IsOfOpcode, SpelledPlain, code_of_one}
-use Rattle.build_code.specs.BuildsCode.{GivesNext, GivesNest, BuildsNext}
 use Rattle.build_types.proofs.Betweens.{Parts, parts, behind_first, nothing_between}
 
 -- What code begins with, by its first byte, and what stands behind that byte.

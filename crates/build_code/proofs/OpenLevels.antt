@@ -14,7 +14,7 @@ use Rattle.build_types.specs.declared.BuildFault.TheVariants.{Memory, NotSpelled
 use Rattle.build_code.specs.declared.levels.Opened.{Opened}
 use Rattle.build_code.specs.declared.levels.Opened.TheVariants.{Block, Loop, Then, Else}
 use Rattle.build_code.specs.declared.levels.Level.{Level}
-use Rattle.wasm_cursor.specs.Places.{Place, with_more}
+use Rattle.wasm_grammar.specs.Places.{Place, with_more}
 use Rattle.build_types.specs.Builds.{Between, Builds}
 use Rattle.build_instrs.specs.BuildsPlain.{SpelledPlain, code_of_one, Puts}
 use Rattle.build_code.specs.BuildsCode.{CodeItem, an_instr, open_block, open_loop, open_if, an_else, an_end, SpelledCode, SpelledExpression, BuildsNext}

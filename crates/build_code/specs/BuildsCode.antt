@@ -7,7 +7,7 @@ use Rattle.wa_types.specs.View.{in_front}
 use Rattle.wa_types.specs.Spells.{◌▸◌, BlockType, CodeOf}
 use Rattle.wa_types.specs.Reading.{IsCode}
 use Rattle.build_types.specs.declared.BuildFault.{BuildFault}
-use Rattle.wasm_cursor.specs.Places.{Place, with_more}
+use Rattle.wasm_grammar.specs.Places.{Place, with_more}
 use Rattle.build_types.specs.Builds.{Between, IsWant, SpelledAs, IsResult}
 
 -- code up to its end, or up to an else and the other arm behind it

@@ -11,7 +11,7 @@ use Rattle.build_types.specs.declared.BuildFault.TheVariants.{Memory, NotSpelled
 use Rattle.build_code.specs.declared.levels.Opened.{Opened}
 use Rattle.build_code.specs.declared.levels.Opened.TheVariants.{Block, Loop, Then, Else}
 use Rattle.build_code.specs.declared.levels.Level.{Level}
-use Rattle.wasm_cursor.specs.Places.{Place, with_more}
+use Rattle.wasm_grammar.specs.Places.{Place, with_more}
 use Rattle.build_types.specs.Builds.{Between, Builds}
 use Rattle.build_code.specs.BuildsCode.{CodeItem, SpelledCode, SpelledExpression, BuildsNext}
 

@@ -2,7 +2,7 @@
 
 ghost use Rattle.std.specs.Prelude.{◌<◌, ◌≤◌, length, IfOk};
 ghost use Rattle.wa_types.specs.View.{code};
-ghost use Rattle.wasm_cursor.specs.Places.{Place};
+ghost use Rattle.wasm_grammar.specs.Places.{Place};
 ghost use Rattle.build_types.specs.Builds.{Builds};
 ghost use Rattle.build_code.specs.BuildsCode.{SpelledExpression};
 ghost use Rattle.build_code.specs.BuildsLevels.{Running, Turned};
@@ -12,7 +12,7 @@ use build_instrs::put;
 use build_types::{BuildFault, block_type};
 use std::alloc::Global;
 use wa_types::Instr;
-use wasm_cursor::Cursor;
+use wasm_grammar::Cursor;
 
 /// An expression (standard, section 5.4.6): the instructions up to their end. Constructs that are open wait on a stack.
 /// Where it fails, `discard` drops what was built.

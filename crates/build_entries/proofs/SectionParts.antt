@@ -3,7 +3,7 @@ use Rattle.std.proofs.Common.{◌≡◌, ℕ, ◌+◌, ◌<◌, List, [], ◌++�
 use Rattle.leb_numbers.specs.Leb.{IsUnsigned}
 use Rattle.wa_types.specs.Syntax.{Custom}
 use Rattle.wa_types.specs.Spells.{◌▸◌, Exactly, Number, Filling, Text}
-use Rattle.wasm_cursor.specs.Places.{Place, place_in, with_more, ReadsNumber}
+use Rattle.wasm_grammar.specs.Places.{Place, place_in, with_more, ReadsNumber}
 use Rattle.build_types.specs.Builds.{Between}
 use Rattle.build_entries.specs.BuildsSections.{SpelledCustom}
 use Rattle.build_types.proofs.Betweens.{parts, behind_first, number_is, taken_is}

@@ -13,7 +13,7 @@ use build_code::expression;
 use build_types::{BuildFault, Entry, IndexEntry, RunEntry, global_type, name, vector};
 use std::alloc::Global;
 use wa_types::{Custom, Elem, GlobalDef, Instr, Run, Segment};
-use wasm_cursor::Cursor;
+use wasm_grammar::Cursor;
 
 /// A defined global (standard, section 5.5.9).
 pub struct GlobalEntry;

@@ -11,7 +11,7 @@ ghost use Rattle.build_types.specs.Builds.{Builds, SpelledAs};
 use build_types::{BuildFault, Entry, MemoryEntry, TableEntry, global_type, name};
 use std::alloc::Global;
 use wa_types::{Export, Import, ImportKind, Space};
-use wasm_cursor::Cursor;
+use wasm_grammar::Cursor;
 
 // What is imported (standard, section 5.5.5).
 fn import_kind(alloc: Global, input: &mut Cursor<'_>) -> Result<ImportKind, BuildFault>

@@ -13,9 +13,9 @@ use Rattle.wa_types.specs.Syntax.{nop, drop, select, const, num, global_get, glo
 use Rattle.wa_types.specs.View.{in_front}
 use Rattle.build_types.specs.declared.BuildFault.{BuildFault}
 use Rattle.build_types.specs.declared.BuildFault.TheVariants.{Memory}
-use Rattle.wasm_cursor.specs.declared.opcodes.ImmediateForm.{ImmediateForm}
-use Rattle.wasm_cursor.specs.Forms.{follows_of, form_of}
-use Rattle.wasm_cursor.specs.Places.{Place, with_more, ReadsNumber}
+use Rattle.wasm_grammar.specs.declared.opcodes.ImmediateForm.{ImmediateForm}
+use Rattle.wasm_grammar.specs.Forms.{follows_of, form_of}
+use Rattle.wasm_grammar.specs.Places.{Place, with_more, ReadsNumber}
 use Rattle.build_types.specs.Builds.{Between, Builds, Passes}
 use Rattle.build_instrs.specs.BuildsPlain.{IsOfOpcode, SpelledPlain, code_of_one, IsNamed, NamesPlain, FoundIn, Puts}
 use Rattle.build_types.proofs.Betweens.{map_same, nothing_between, number_is}

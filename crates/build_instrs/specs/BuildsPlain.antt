@@ -11,7 +11,7 @@ use Rattle.wa_types.specs.Spells.{ImmediatesOf}
 use Rattle.wa_types.specs.Reading.{HasKind}
 use Rattle.build_types.specs.declared.BuildFault.{BuildFault}
 use Rattle.build_types.specs.declared.BuildFault.TheVariants.{NotSpelled}
-use Rattle.wasm_cursor.specs.Places.{Place}
+use Rattle.wasm_grammar.specs.Places.{Place}
 use Rattle.build_types.specs.Builds.{Builds}
 
 -- an instruction of this opcode that holds no other, by what follows the opcode

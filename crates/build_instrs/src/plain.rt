@@ -8,7 +8,7 @@ ghost use Rattle.build_instrs.specs.BuildsPlain.{SpelledPlain, code_of_one, Name
 use build_types::{BuildFault, IndexEntry, tag, vector};
 use std::alloc::Global;
 use wa_types::{Instr, NumOp, Value};
-use wasm_cursor::{Cursor, ImmediateForm, immediate_form};
+use wasm_grammar::{Cursor, ImmediateForm, immediate_form};
 
 // The instruction of an opcode that nothing follows.
 #[inline(always)]

@@ -7,7 +7,7 @@ use crate::plain::plain;
 use build_types::BuildFault;
 use std::alloc::Global;
 use wa_types::{Instr, NumOp};
-use wasm_cursor::Cursor;
+use wasm_grammar::Cursor;
 
 /// Puts the instruction of this opcode, which holds no other, behind the body.
 // Each kind that is common has a call of its own, so that the compiler keeps a copy of `put_one` for it that reads and writes this kind alone.

@@ -4,9 +4,9 @@ use Rattle.file_laws.proofs.Items.{same_cut}
 use Rattle.leb_numbers.specs.Leb.{IsUnsigned}
 use Rattle.wa_types.specs.Spells.{◌▸◌, Exactly, Number, Items, Vector}
 use Rattle.wa_types.specs.Reading.{Each}
-use Rattle.wasm_cursor.specs.declared.front.NotSpelled.{NotSpelled}
+use Rattle.wasm_grammar.specs.declared.front.NotSpelled.{NotSpelled}
 use Rattle.build_types.specs.declared.BuildFault.{BuildFault}
-use Rattle.wasm_cursor.specs.Places.{Place, behind, with_more, ReadsNumber}
+use Rattle.wasm_grammar.specs.Places.{Place, behind, with_more, ReadsNumber}
 use Rattle.build_types.specs.Builds.{Between, SpelledAs, SpelledBehind, SpelledOnto, IsWant, Gives, Builds}
 
 -- two parts, and the place between them

@@ -2,9 +2,9 @@
 use Rattle.std.proofs.Common.{◌≡◌, ℕ, ◌+◌, ◌<◌, List, [], ◌∷◌, ◌++◌, Result, Ok, Err, length, ap, ◌∙◌, arith, length-append, append_assoc}
 use Rattle.leb_numbers.specs.Leb.{IsUnsigned}
 use Rattle.wa_types.specs.Spells.{◌▸◌, Exactly, Number}
-use Rattle.wasm_cursor.specs.declared.front.NotSpelled.{NotSpelled}
+use Rattle.wasm_grammar.specs.declared.front.NotSpelled.{NotSpelled}
 use Rattle.build_types.specs.declared.BuildFault.{BuildFault}
-use Rattle.wasm_cursor.specs.Places.{Place, with_more, ReadsNumber}
+use Rattle.wasm_grammar.specs.Places.{Place, with_more, ReadsNumber}
 use Rattle.build_types.specs.Builds.{Between, Builds, Passes}
 use Rattle.build_types.proofs.Betweens.{Parts, parts, behind_first, spelled_so, number_is, number_fails, byte_is, no_byte, taken_is, nothing_between, fails, lacks}
 

@@ -5,8 +5,8 @@ use Rattle.wa_types.specs.Binary.{Placed}
 use Rattle.wa_types.specs.Encoding.{block_type_byte}
 use Rattle.wa_types.specs.Spells.{Vector, GlobalType}
 use Rattle.wa_types.specs.Reading.{IsValueType}
-use Rattle.wasm_cursor.specs.Places.{Place, with_more}
-use Rattle.wasm_cursor.specs.declared.front.NotSpelled.{NotSpelled}
+use Rattle.wasm_grammar.specs.Places.{Place, with_more}
+use Rattle.wasm_grammar.specs.declared.front.NotSpelled.{NotSpelled}
 use Rattle.build_types.specs.declared.BuildFault.{BuildFault}
 use Rattle.build_types.specs.declared.BuildFault.TheVariants.{Memory}
 

@@ -6,7 +6,7 @@ ghost use Rattle.build_types.specs.Builds.{Builds, SpelledBehind, SpelledOnto};
 
 use crate::BuildFault;
 use std::alloc::Global;
-use wasm_cursor::Cursor;
+use wasm_grammar::Cursor;
 
 /// How one entry of a vector is read.
 pub trait Entry {

@@ -14,7 +14,7 @@ pub use types::{
     IndexEntry, MemoryEntry, RunEntry, TableEntry, TypeEntry, ValueTypeEntry, block_type,
     global_type, name, tag,
 };
-use wasm_cursor::NotSpelled;
+use wasm_grammar::NotSpelled;
 
 /// Why nothing was built.
 #[derive(Clone, Copy, Debug, PartialEq, Eq, Error)]

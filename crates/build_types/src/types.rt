@@ -16,7 +16,7 @@ use crate::BuildFault;
 use crate::entry::{Entry, vector};
 use std::alloc::Global;
 use wa_types::{FuncType, Limits, Name, Run, ValType};
-use wasm_cursor::{Cursor, NotSpelled};
+use wasm_grammar::{Cursor, NotSpelled};
 
 /// This byte.
 pub fn tag(input: &mut Cursor<'_>, byte: u8) -> Result<(), NotSpelled>

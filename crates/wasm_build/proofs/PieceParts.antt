@@ -8,7 +8,7 @@ use Rattle.wa_types.specs.Syntax.{Func, Module}
 use Rattle.wa_types.specs.View.{func_of}
 use Rattle.wa_types.specs.Spells.{◌▸◌, Items, Sized, Vector, ContentOf, SectionOf}
 use Rattle.file_laws.proofs.Items.{same_cut}
-use Rattle.wasm_cursor.specs.Places.{Place, with_more, place_at}
+use Rattle.wasm_grammar.specs.Places.{Place, with_more, place_at}
 use Rattle.build_types.specs.declared.BuildFault.{BuildFault}
 use Rattle.build_types.specs.declared.BuildFault.TheVariants.{Memory, NotSpelled}
 use Rattle.wasm_build.specs.declared.builder.Builder.{Builder}

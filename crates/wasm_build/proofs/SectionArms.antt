@@ -11,8 +11,8 @@ use Rattle.wa_types.specs.Reading.{IsFuncType, IsImport, IsGlobal, IsElem, IsBod
 use Rattle.build_types.specs.declared.BuildFault.{BuildFault}
 use Rattle.wasm_build.specs.declared.sections.Entries.{Entries}
 use Rattle.wasm_build.specs.declared.sections.Entries.TheVariants.{Types, Imports, Functions, Tables, Memories, Globals, Exports, Elements, Segments}
-use Rattle.wasm_cursor.specs.declared.front.NotSpelled.{NotSpelled}
-use Rattle.wasm_cursor.specs.Places.{Place, with_more, ReadsNumber}
+use Rattle.wasm_grammar.specs.declared.front.NotSpelled.{NotSpelled}
+use Rattle.wasm_grammar.specs.Places.{Place, with_more, ReadsNumber}
 use Rattle.build_types.specs.Builds.{Between, SpelledOnto, Gives, Builds}
 use Rattle.build_entries.specs.BuildsSections.{SpelledFunc, SpelledCustom}
 use Rattle.wasm_build.specs.BuildsModule.{State, Adds, SpelledStart, SpelledSingle}

@@ -4,7 +4,7 @@ use Rattle.leb_numbers.specs.declared.leb.LebFault.{LebFault}
 use Rattle.leb_numbers.specs.declared.leb.LebFault.TheVariants.{Short}
 use Rattle.leb_numbers.specs.Leb.{unsigned_at}
 use Rattle.file_laws.proofs.NumberReading.{unsigned_stays, unsigned_again}
-use Rattle.wasm_cursor.proofs.Cursors.{unsigned_grows, either_grows}
+use Rattle.wasm_grammar.proofs.Cursors.{unsigned_grows, either_grows}
 use Rattle.wasm_build.specs.Extents.{NumberAt, NoNumberAt, EndsAt, NoEnd}
 
 past : (bits b : ℕ) (bs : List ℕ) (at : ℕ) → at + 1 ≤ (unsigned_at bits (b ∷ bs) at).1

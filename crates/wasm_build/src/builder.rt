@@ -12,7 +12,7 @@ use build_entries::{Body, CodeEntry};
 use build_types::{BuildFault, Entry};
 use std::alloc::Global;
 use wa_types::{Func, Module};
-use wasm_cursor::Cursor;
+use wasm_grammar::Cursor;
 
 // So many bytes are read again for each piece; what takes more waits till there is as much more.
 const READ_AGAIN: usize = 64;

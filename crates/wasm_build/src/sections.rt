@@ -10,7 +10,7 @@ use build_entries::{DataEntry, ElementEntry, ExportEntry, GlobalEntry, ImportEnt
 use build_types::{BuildFault, IndexEntry, MemoryEntry, TableEntry, TypeEntry, put};
 use std::alloc::Global;
 use wa_types::Module;
-use wasm_cursor::Cursor;
+use wasm_grammar::Cursor;
 
 /// What a section holds that is one vector (standard, sections 5.5.4 to 5.5.14). Bodies, whose types are known from elsewhere, are apart.
 #[derive(Clone, Copy, Drop)]

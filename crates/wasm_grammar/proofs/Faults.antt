@@ -7,9 +7,9 @@ use Rattle.std.specs.Option.{unwrap_or}
 use Rattle.wa_types.specs.Begun.{Goal, rest, entries, signed, EntryKind, some_types, some_imports, some_functions, some_tables, some_memories, some_globals, some_exports, some_elements, some_bodies, some_segments, some_value_types, some_runs, some_indices, some_bytes, first_of, wants, IsItem, IsPart, next, Steps, Leads, BegunFrom, part, then, Inside, settled, start, Begun}
 use Rattle.file_laws.proofs.Items.{item_front, part_front, item_some, item_whole, one_item}
 use Rattle.file_laws.proofs.Runs.{leads_on, leads_only, leads_more, inside_less, begun_front}
-use Rattle.wasm_goals.proofs.ItemFronts.{byte_whole}
-use Rattle.wasm_goals.specs.Items.{IsTold, IsWholeItem, IsWrong}
-use Rattle.wasm_goals.specs.Ends.{NoStep, IsReached}
+use Rattle.wasm_grammar.proofs.ItemFronts.{byte_whole}
+use Rattle.wasm_grammar.specs.Items.{IsTold, IsWholeItem, IsWrong}
+use Rattle.wasm_grammar.specs.Ends.{NoStep, IsReached}
 use Rattle.wa_types.specs.ModuleBounds.{ModuleBounds}
 use Rattle.file_laws.specs.declared.marks.Marks.{Marks}
 use Rattle.file_laws.specs.Showing.{shown, Noted, MarksAlong}

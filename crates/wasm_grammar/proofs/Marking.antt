@@ -4,8 +4,8 @@ use Rattle.wa_types.specs.Begun.{Goal, some_value_types}
 use Rattle.wa_types.specs.Marks.{place_if}
 use Rattle.wa_types.specs.ModuleBounds.{ModuleBounds}
 use Rattle.wa_types.specs.Opcodes.{is_float_op}
-use Rattle.wasm_goals.specs.declared.goals.Goal.{Goal as Wanted}
-use Rattle.wasm_goals.specs.Goals.{goal_of, list_of}
+use Rattle.wasm_grammar.specs.declared.goals.Goal.{Goal as Wanted}
+use Rattle.wasm_grammar.specs.Goals.{goal_of, list_of}
 use Rattle.file_laws.specs.declared.marks.Marks.{Marks}
 use Rattle.file_laws.specs.Showing.{nothing_seen, floats_seen, opens_seen, parameters_seen, both, opens_level, await_results, op_shown, count_shown, Noted}
 use Rattle.file_laws.proofs.Noting.{noted_none, noted_both}

@@ -5,7 +5,7 @@ use Rattle.std.proofs.Math.Seq.{take-add}
 use Rattle.wa_types.specs.Begun.{Goal, sections, wants, IsPart, Leads, arrived, item, BegunFrom, ends, part, Inside, start, Begun, IsWhole, FaultAt}
 use Rattle.file_laws.proofs.Items.{item_some, item_whole}
 use Rattle.file_laws.proofs.Runs.{leads_on, leads_only, leads_through, begun_front}
-use Rattle.wasm_goals.specs.Ends.{owes_none, is_end}
+use Rattle.wasm_grammar.specs.Ends.{owes_none, is_end}
 use Rattle.wa_types.specs.ModuleBounds.{ModuleBounds}
 use Rattle.file_laws.specs.declared.marks.Marks.{Marks}
 use Rattle.file_laws.specs.Showing.{no_marks, MarksAlong}

@@ -14,9 +14,9 @@ use Rattle.file_laws.proofs.Noting.{noted_none}
 use Rattle.file_laws.proofs.TellingCode.{opens_none}
 use Rattle.wa_types.specs.Begun.{Goal, code, block_type, value_type, number, signed, entries, EntryKind, some_runs, Item, a_byte, an_unsigned, a_signed, a_name, a_constant_of, wants, IsItem, next, Inside, Steps, settled, immediates, where_true, and_then, others}
 use Rattle.file_laws.proofs.CodeReads.{refuted, none_nest}
-use Rattle.wasm_cursor.proofs.LowNumbers.{low_signed}
-use Rattle.wasm_goals.specs.Items.{IsTold, IsWholeItem}
-use Rattle.wasm_goals.specs.Ends.{IsReached}
+use Rattle.wasm_grammar.proofs.LowNumbers.{low_signed}
+use Rattle.wasm_grammar.specs.Items.{IsTold, IsWholeItem}
+use Rattle.wasm_grammar.specs.Ends.{IsReached}
 use Rattle.wasm_grammar.specs.Machine.{Stands}
 use Rattle.wasm_grammar.specs.Passing.{IsShort, AreShort, Below, Passes, Opens, Closes, PassesEntries, IsEntryByte, PassesRuns, IsShortRun}
 use Rattle.wasm_grammar.proofs.Faults.{between, length_between, front_between, Ready, goes_on}

@@ -9,7 +9,7 @@ ghost use Rattle.wa_types.specs.ModuleBounds.{prepared_bounds, source_bounds};
 ghost use Rattle.wa_types.specs.Sizes.{SizeRule, StrictSizeRule};
 ghost use Rattle.wa_types.specs.View.{module_of};
 ghost use Rattle.wasm_reader.specs.Answers.{IsAccepted, IsFile, IsRefused};
-ghost use Rattle.wasm_grammar.specs.Found.{MarksOf};
+ghost use Rattle.file_laws.specs.Found.{MarksOf};
 ghost use Rattle.wasm_grammar.specs.Machine.{AreMarks};
 ghost use Rattle.wasm_reader.specs.Marking.{IsJudged};
 ghost use Rattle.wasm_reader.specs.Progress.{GivesLeft, IsLeft};

@@ -1,11 +1,9 @@
 use Rattle.std.proofs.Common.{[], ◌∷◌}
 use Rattle.std.proofs.lemmas.Result.{err_from_is_err_and}
 use Rattle.wa_types.specs.Spells.{◌▸◌, Exactly, Number}
-use Rattle.wasm_cursor.specs.declared.opcodes.ImmediateForm.TheVariants.{Nothing, ZeroByte, Index, IndexAndZero, Access, Labels, Constant32, Constant64, Float4, Float8}
+use Rattle.wasm_grammar.specs.declared.opcodes.ImmediateForm.TheVariants.{Nothing, ZeroByte, Index, IndexAndZero, Access, Labels, Constant32, Constant64, Float4, Float8}
 use Rattle.build_types.proofs.Steps.{step, step_number, stop, stop_number, stop_last_number, stop_passed}
-use Rattle.build_instrs.proofs.PlainParts.{table_says, table_is_silent, operands_in, x_in, align_in, offset_in, targets_in, zero_start, index_start, both_start, access_start, labels_start}
-use Rattle.build_instrs.proofs.PlainParts.{constant_start, simple_found, memory_built, index_found, access_found, call_built, table_built, const_32_built, const_64_built, never_float}
-use Rattle.build_instrs.proofs.PlainParts.{never_none}
+use Rattle.build_instrs.proofs.PlainParts.{table_says, table_is_silent, operands_in, x_in, align_in, offset_in, targets_in, zero_start, index_start, both_start, access_start, labels_start, constant_start, simple_found, memory_built, index_found, access_found, call_built, table_built, const_32_built, const_64_built, never_float, never_none}
 use Rattle.build_instrs.proofs.plain.plain.Goals as goal
 
 pub returns-in_err-tag-in-Some-ZeroByte-clause-built : goal.returns-in_err-tag-in-Some-ZeroByte-clause-built
