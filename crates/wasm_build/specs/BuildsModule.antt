@@ -7,8 +7,8 @@ use Rattle.wa_types.specs.Syntax.{FuncType, Func, GlobalDef, Elem, Segment, Modu
 use Rattle.wa_types.specs.View.{module_of}
 use Rattle.wa_types.specs.Spells.{Number, Items, Sized, SectionOf}
 use Rattle.wa_types.specs.Reading.{Each, IsFuncType, IsImport, IsGlobal, IsElem, IsBody, IsSegment}
-use Rattle.build_types.specs.declared.BuildFault.{BuildFault}
-use Rattle.build_types.specs.declared.BuildFault.TheVariants.{Memory}
+use Rattle.wasm_build.specs.declared.build_types.BuildFault.{BuildFault}
+use Rattle.wasm_build.specs.declared.build_types.BuildFault.TheVariants.{Memory}
 use Rattle.wasm_build.specs.declared.sections.Sections.{Sections}
 
 -- What the sections up to a place hold.

@@ -8,8 +8,9 @@ ghost use Rattle.wasm_build.specs.declared.builder.Stage as Stage;
 
 use crate::extents::{number, sized_end};
 use crate::sections::{Entries, Sections};
-use build_entries::{Body, CodeEntry};
-use build_types::{BuildFault, Entry};
+use crate::entries::{Body, CodeEntry};
+use crate::build_types::BuildFault;
+use crate::entry::Entry;
 use std::alloc::Global;
 use wa_types::{Func, Module};
 use wasm_grammar::Cursor;

@@ -2,12 +2,15 @@
 
 ghost use Rattle.std.specs.Prelude.{◌≡◌, ◌≤◌, ◌<◌, length, OnOk, OnErr};
 ghost use Rattle.wa_types.specs.View.{module_of};
-ghost use Rattle.build_types.specs.Builds.{Builds};
+ghost use Rattle.wasm_build.specs.Builds.{Builds};
 ghost use Rattle.wasm_build.specs.BuildsEntries.{AreOf, SpelledEntry};
 ghost use Rattle.wasm_build.specs.BuildsModule.{state_of, nothing_yet, SpelledSingle, SpelledStart};
 
-use build_entries::{DataEntry, ElementEntry, ExportEntry, GlobalEntry, ImportEntry, custom};
-use build_types::{BuildFault, IndexEntry, MemoryEntry, TableEntry, TypeEntry, put};
+use crate::entries::{DataEntry, ElementEntry, GlobalEntry, custom};
+use crate::imports::{ExportEntry, ImportEntry};
+use crate::build_types::BuildFault;
+use crate::types::{IndexEntry, MemoryEntry, TableEntry, TypeEntry};
+use crate::entry::put;
 use std::alloc::Global;
 use wa_types::Module;
 use wasm_grammar::Cursor;

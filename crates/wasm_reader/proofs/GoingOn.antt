@@ -11,8 +11,8 @@ use Rattle.wa_types.specs.ModuleBounds.{ModuleBounds}
 use Rattle.wa_types.specs.Reading.{IsModule, SpellsModule}
 use Rattle.wa_types.specs.Syntax.{Module}
 use Rattle.wa_types.specs.View.{module_of}
-use Rattle.wasm_build.specs.BuildFault.{BuildFault}
-use Rattle.wasm_build.specs.BuildFault.TheVariants.{Memory, NotSpelled}
+use Rattle.wasm_build.specs.declared.build_types.BuildFault.{BuildFault}
+use Rattle.wasm_build.specs.declared.build_types.BuildFault.TheVariants.{Memory, NotSpelled}
 use Rattle.wasm_build.specs.declared.builder.Builder.{Builder}
 use Rattle.wasm_build.specs.BuildsModule.{GivesModule}
 use Rattle.wasm_build.specs.BuildsPieces.{Comes, Coming, Holds, Takes}

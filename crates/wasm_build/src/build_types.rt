@@ -1,0 +1,50 @@
+//! Parts of a module that hold no code, from bytes that are known to spell it: types, names, indices and vectors (standard, sections 5.2 and 5.3).
+//!
+//! What each part builds is what the bytes from one place to another spell, whatever follows them; where they end within a part, nothing is built of
+//! it (`specs/Builds.antt`). `Entry` says how an entry of a vector is read, so that each vector is proved once.
+
+use std::alloc::{AllocError, AllocFailed};
+use thiserror::Error;
+use wasm_grammar::NotSpelled;
+
+/// Why nothing was built.
+#[derive(Clone, Copy, Debug, PartialEq, Eq, Error)]
+pub enum BuildFault {
+    /// Want of memory.
+    #[error("out of memory")]
+    Memory,
+    /// The bytes don't spell a module.
+    #[error("not spelled")]
+    NotSpelled,
+}
+
+impl From<AllocError> for BuildFault {
+    ghost use Rattle.std.specs.Prelude.{◌≡◌};
+    ghost use Rattle.wasm_build.specs.declared.build_types.BuildFault.TheVariants.{Memory};
+
+    ghost from_gives = { λ _ fault. fault ≡ Memory };
+
+    fn from(_error: AllocError) -> BuildFault {
+        BuildFault::Memory
+    }
+}
+
+impl<T> From<AllocFailed<T>> for BuildFault
+where
+    T: Drop,
+{
+    ghost use Rattle.std.specs.Prelude.{◌≡◌};
+    ghost use Rattle.wasm_build.specs.declared.build_types.BuildFault.TheVariants.{Memory};
+
+    ghost from_gives = { λ _ fault. fault ≡ Memory };
+
+    fn from(_error: AllocFailed<T>) -> BuildFault {
+        BuildFault::Memory
+    }
+}
+
+impl From<NotSpelled> for BuildFault {
+    fn from(_error: NotSpelled) -> BuildFault {
+        BuildFault::NotSpelled
+    }
+}
