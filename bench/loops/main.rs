@@ -18,7 +18,7 @@ mod running;
 use anyhow::bail;
 use interp::Turn;
 use memory::sum_of;
-use module_files::read_file;
+use wasm_reader::read_file;
 use round_trip::rewrite;
 use running::run;
 use std::env;

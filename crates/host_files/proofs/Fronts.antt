@@ -8,8 +8,8 @@ use Rattle.vault_port.specs.Told.{WhereTold}
 use Rattle.script_model.specs.Script as T
 use Rattle.script_model.specs.Transcript.{Refusal, usage, out_of_memory, malformed, float, nesting, invalid, limit, reserved, script, read_fault, write_fault}
 use Rattle.transcript.specs.Printing.{refusal_of}
-use Rattle.module_files.specs.Held.{Holds}
-use Rattle.module_files.proofs.Held.{holds_own}
+use Rattle.wasm_reader.specs.Held.{Holds}
+use Rattle.wasm_reader.proofs.Held.{holds_own}
 use Rattle.host_modules.specs.declared.reading.PreparedFault.{PreparedFault}
 use Rattle.host_modules.specs.declared.reading.PreparedFault.TheVariants as P
 use Rattle.host_modules.specs.Faults.{IsToldFault}

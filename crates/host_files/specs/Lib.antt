@@ -1,3 +1,3 @@
-pub use Rattle.module_files.specs.Held
+pub use Rattle.wasm_reader.specs.Held
 pub mod Scripts
 pub mod Views

@@ -2,7 +2,7 @@
 use Rattle.std.specs.Prelude.{ℕ, List, Option}
 use Rattle.vault_port.specs.Files.{Files}
 use Rattle.transcript.specs.Printing.{refusal_of}
-use Rattle.module_files.specs.Held.{Holds}
+use Rattle.wasm_reader.specs.Held.{Holds}
 use Rattle.host_modules.specs.declared.reading.PreparedFault.{PreparedFault}
 use Rattle.host_modules.specs.declared.reading.PreparedFault.TheVariants as P
 use Rattle.host_modules.specs.Prepared.{IsOfContent, IsUnprepared}

@@ -7,7 +7,7 @@ ghost use Rattle.vault_port.specs.Files.{IsMissing};
 ghost use Rattle.vault_port.specs.Told.{WhereTold};
 ghost use Rattle.wa_types.specs.View.{module_of};
 ghost use Rattle.host_modules.specs.Prepared.{IsPrepared};
-ghost use Rattle.module_files.specs.Held.{Holds};
+ghost use Rattle.wasm_reader.specs.Held.{Holds};
 ghost use Rattle.host_files.specs.Views.{IsContentFault, IsToldUnprepared, file_fault};
 
 use crate::fault::FileFault;

@@ -10,7 +10,7 @@ ghost use Rattle.script_model.specs.Transcript.{limit};
 ghost use Rattle.transcript.specs.Printing.{refusal_of};
 ghost use Rattle.script_reader.specs.Views.{script_of};
 ghost use Rattle.host_modules.specs.Prepared.{IsOfContent};
-ghost use Rattle.module_files.specs.Held.{Holds};
+ghost use Rattle.wasm_reader.specs.Held.{Holds};
 ghost use Rattle.host_files.specs.Scripts.{IsScript};
 ghost use Rattle.host_files.specs.Views.{IsContentFault, IsNoScriptFor, IsToldNoScript};
 

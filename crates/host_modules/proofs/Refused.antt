@@ -5,10 +5,10 @@ use Rattle.wa_types.specs.ModuleBounds.{prepared_bounds}
 use Rattle.wasm_reader.specs.declared.read_fault.ReadFault.{ReadFault}
 use Rattle.wasm_reader.specs.declared.read_fault.ReadFault.TheVariants.{Memory, Malformed, Float, Deep, Limit}
 use Rattle.wasm_reader.specs.Answers.{IsRefused}
-use Rattle.module_files.specs.Held as H
-use Rattle.module_files.specs.Held.{Holds}
-use Rattle.module_files.specs.declared.fault.ModuleFault.{ModuleFault}
-use Rattle.module_files.specs.declared.fault.ModuleFault.TheVariants as M
+use Rattle.wasm_reader.specs.Held as H
+use Rattle.wasm_reader.specs.Held.{Holds}
+use Rattle.wasm_reader.specs.declared.fault.ModuleFault.{ModuleFault}
+use Rattle.wasm_reader.specs.declared.fault.ModuleFault.TheVariants as M
 use Rattle.host_modules.specs.declared.reading.PreparedFault.{PreparedFault}
 use Rattle.host_modules.specs.declared.reading.PreparedFault.TheVariants as P
 use Rattle.host_modules.specs.Faults.{IsFaultOf, IsOfFile, IsOfRead, IsToldFault}

@@ -3,9 +3,9 @@ use Rattle.std.specs.Prelude.{◌≡◌, ℕ, List, Option}
 use Rattle.vault_port.specs.Files.{Files}
 use Rattle.wasm_reader.specs.declared.read_fault.ReadFault.{ReadFault}
 use Rattle.wasm_reader.specs.declared.read_fault.ReadFault.TheVariants.{Memory as read_memory, Malformed as read_malformed, Float as read_float, Deep as read_deep, Limit as read_limit}
-use Rattle.module_files.specs.Held.{Holds}
-use Rattle.module_files.specs.declared.fault.ModuleFault.{ModuleFault}
-use Rattle.module_files.specs.declared.fault.ModuleFault.TheVariants.{Memory as file_memory, Read as file_read, Refused as file_refused}
+use Rattle.wasm_reader.specs.Held.{Holds}
+use Rattle.wasm_reader.specs.declared.fault.ModuleFault.{ModuleFault}
+use Rattle.wasm_reader.specs.declared.fault.ModuleFault.TheVariants.{Memory as file_memory, Read as file_read, Refused as file_refused}
 use Rattle.transcript.specs.declared.refusals.RefusalKind.TheVariants.{Malformed, Float, Nesting, Limit}
 use Rattle.transcript.specs.Printing.{refusal_of}
 use Rattle.host_modules.specs.declared.reading.PreparedFault.{PreparedFault}

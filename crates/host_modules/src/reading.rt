@@ -8,17 +8,16 @@ ghost use Rattle.wa_types.specs.ModuleBounds.{prepared_bounds};
 ghost use Rattle.wa_types.specs.Sizes.{SizeRule};
 ghost use Rattle.wa_types.specs.View.{module_of};
 ghost use Rattle.wasm_reader.specs.Answers.{IsAccepted};
-ghost use Rattle.module_files.specs.Held.{Holds};
+ghost use Rattle.wasm_reader.specs.Held.{Holds};
 ghost use Rattle.host_modules.specs.Faults.{IsFaultOf, IsOfFile, IsOfRead, IsToldFault};
 ghost use Rattle.host_modules.specs.Prepared.{IsPrepared};
 
-use module_files::{ModuleFault, read_file};
+use wasm_reader::{ModuleFault, ReadFault, read_file};
 use std::alloc::Global;
 use thiserror::Error;
 use transcript::RefusalKind;
 use vault_port::Vault;
 use wa_types::{Bounds, Module};
-use wasm_reader::ReadFault;
 use wasm_validate::{Valid, ValidateFault, validate};
 
 /// Why there is no prepared module.

@@ -3,10 +3,10 @@ use Rattle.std.proofs.Common.{◌≡◌, ℕ, List, Option, sym, subst}
 use Rattle.vault_port.specs.Files.{Files}
 use Rattle.wa_types.specs.ModuleBounds.{source_bounds}
 use Rattle.wa_types.specs.Pausing.{Settings}
-use Rattle.module_files.specs.Held as H
-use Rattle.module_files.specs.Held.{Holds}
-use Rattle.module_files.specs.declared.fault.ModuleFault.{ModuleFault}
-use Rattle.module_files.specs.declared.fault.ModuleFault.TheVariants as M
+use Rattle.wasm_reader.specs.Held as H
+use Rattle.wasm_reader.specs.Held.{Holds}
+use Rattle.wasm_reader.specs.declared.fault.ModuleFault.{ModuleFault}
+use Rattle.wasm_reader.specs.declared.fault.ModuleFault.TheVariants as M
 use Rattle.source_modules.specs.declared.source.SourceFault.{SourceFault}
 use Rattle.source_modules.specs.declared.source.SourceFault.TheVariants.{Memory, Read, Refused}
 use Rattle.source_modules.specs.Refusals.{IsFaultOf, IsOfFile, IsToldFault}

@@ -1,6 +1,6 @@
 pub use Rattle.module_bytes.specs.EmittedAs
 pub use Rattle.module_bytes.specs.PolicyLaws
-pub use Rattle.module_files.specs.Held
+pub use Rattle.wasm_reader.specs.Held
 pub mod Refusals
 pub mod Sources
 pub mod Running

@@ -3,9 +3,9 @@ use Rattle.std.specs.Prelude.{◌≡◌, List, Option, ℕ}
 use Rattle.vault_port.specs.Files.{Files}
 use Rattle.wasm_reader.specs.declared.read_fault.ReadFault.{ReadFault}
 use Rattle.wasm_reader.specs.declared.read_fault.ReadFault.TheVariants.{Memory as read_memory, Malformed as read_malformed, Float as read_float, Deep as read_deep, Limit as read_limit}
-use Rattle.module_files.specs.Held.{Holds}
-use Rattle.module_files.specs.declared.fault.ModuleFault.{ModuleFault}
-use Rattle.module_files.specs.declared.fault.ModuleFault.TheVariants.{Memory as file_memory, Read as file_read, Refused as file_refused}
+use Rattle.wasm_reader.specs.Held.{Holds}
+use Rattle.wasm_reader.specs.declared.fault.ModuleFault.{ModuleFault}
+use Rattle.wasm_reader.specs.declared.fault.ModuleFault.TheVariants.{Memory as file_memory, Read as file_read, Refused as file_refused}
 use Rattle.module_bytes.specs.RewriteFault.{RewriteFault}
 use Rattle.module_bytes.specs.RewriteFault.TheVariants.{Memory as rewrite_memory, Locals as rewrite_locals, Reserved as rewrite_reserved}
 use Rattle.module_bytes.specs.declared.fault.EmitFault.{EmitFault}

@@ -6,7 +6,7 @@ ghost use Rattle.call_graph.specs.Settings.{settings_of};
 ghost use Rattle.vault_port.specs.Counts.{HasRisen};
 ghost use Rattle.vault_port.specs.Files.{IsMissing};
 ghost use Rattle.wa_types.specs.View.{module_of};
-ghost use Rattle.module_files.specs.Held.{Holds};
+ghost use Rattle.wasm_reader.specs.Held.{Holds};
 ghost use Rattle.source_modules.specs.Refusals.{IsToldFault, IsUnwritten};
 ghost use Rattle.source_modules.specs.Running.{RunsAs};
 

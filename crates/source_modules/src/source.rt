@@ -11,7 +11,7 @@ ghost use Rattle.wa_types.specs.Sizes.{SizeRule};
 ghost use Rattle.wa_types.specs.View.{module_of};
 ghost use Rattle.wasm_reader.specs.Answers.{IsAccepted};
 ghost use Rattle.asyncify_runtime.specs.Reserved.{reserved_at};
-ghost use Rattle.module_files.specs.Held.{Holds};
+ghost use Rattle.wasm_reader.specs.Held.{Holds};
 ghost use Rattle.source_modules.specs.declared.source.SourceFault.TheVariants.{Memory};
 ghost use Rattle.source_modules.specs.Refusals.{IsFaultOf, IsOfEmit, IsOfFile, IsOfRead, IsOfRewrite, IsToldFault, IsUnreserved, IsUnwritten};
 ghost use Rattle.source_modules.specs.Sources.{HoldsValidSource, IsRewritten, IsValidSource, reserved_name};
@@ -21,12 +21,11 @@ use asyncify_runtime::{ReservedAt, reserved};
 use bytes::BytesMut;
 use call_graph::Settings;
 use module_bytes::{EmitFault, RewriteFault, emit_module};
-use module_files::{ModuleFault, read_file};
+use wasm_reader::{ModuleFault, ReadFault, read_file};
 use std::alloc::{AllocError, Global};
 use thiserror::Error;
 use vault_port::Vault;
 use wa_types::{Bounds, Module, Name};
-use wasm_reader::ReadFault;
 use wasm_validate::{Valid, ValidateFault, validate};
 
 /// Why no module was written.

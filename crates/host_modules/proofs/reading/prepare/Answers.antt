@@ -3,7 +3,7 @@ use Rattle.std.proofs.Common.{subst}
 use Rattle.std.proofs.lemmas.Result.{IfErr-weaker, IfOk-weaker}
 use Rattle.wa_types.specs.View.{module_of}
 use Rattle.wasm_reader.specs.Answers.{IsAccepted}
-use Rattle.module_files.specs.Held.{IsToldFault}
+use Rattle.wasm_reader.specs.Held.{IsToldFault}
 use Rattle.host_modules.proofs.Refused.{told_fault, told_unread}
 use Rattle.host_modules.proofs.reading.prepare.Goals as goal
 

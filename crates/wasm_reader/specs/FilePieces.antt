@@ -4,8 +4,8 @@ use Rattle.vault_port.specs.Files.{Files, bytes_of}
 use Rattle.vault_port.specs.Told.{WhereTold}
 use Rattle.wa_types.specs.ModuleBounds.{ModuleBounds}
 use Rattle.wasm_reader.specs.Answers.{IsRefused}
-use Rattle.module_files.specs.declared.fault.ModuleFault.{ModuleFault}
-use Rattle.module_files.specs.declared.fault.ModuleFault.TheVariants.{Memory, Read, Refused}
+use Rattle.wasm_reader.specs.declared.fault.ModuleFault.{ModuleFault}
+use Rattle.wasm_reader.specs.declared.fault.ModuleFault.TheVariants.{Memory, Read, Refused}
 
 -- n bytes of a file stand at the front of the buffer, those behind its first ones; none only where it has no more
 pub record IsPiece (bytes : List ℕ) (done n : ℕ) (buffer : List ℕ) : Type 0 where

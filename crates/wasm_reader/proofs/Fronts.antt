@@ -1,6 +1,5 @@
 -- The first bytes of a file, and what they say of all of it.
-use Rattle.std.proofs.Common.{◌≡◌, ◌≤◌, ◌<◌, ◌+◌, ◌-◌, ◌^◌, ℕ, List, ◌++◌, Option, Some, None, length, take, drop, inl, sym, ap, ◌∙◌, subst, arith}
-use Rattle.std.proofs.Common.{length-append}
+use Rattle.std.proofs.Common.{◌≡◌, ◌≤◌, ◌<◌, ◌+◌, ◌-◌, ◌^◌, ℕ, List, ◌++◌, Option, Some, None, length, take, drop, inl, sym, ap, ◌∙◌, subst, arith, length-append}
 use Rattle.std.specs.Prelude.{All, IsSome, replicate}
 use Rattle.std.proofs.lemmas.List.Elements.{All-append, All-take}
 use Rattle.std.proofs.Math.Seq.{take-length}
@@ -15,11 +14,11 @@ use Rattle.wasm_reader.specs.declared.read_fault.ReadFault.{ReadFault}
 use Rattle.wasm_reader.specs.declared.read_fault.ReadFault.TheVariants as R
 use Rattle.wasm_reader.specs.Answers.{IsRefused}
 use Rattle.wasm_reader.specs.Pieces.{IsFeedFault}
-use Rattle.module_files.specs.Held.{Holds, IsToldFault}
-use Rattle.module_files.specs.Pieces.{BeginsWith, IsFaultOf, IsFront, IsPiece}
-use Rattle.module_files.specs.declared.fault.ModuleFault.{ModuleFault}
-use Rattle.module_files.specs.declared.fault.ModuleFault.TheVariants as M
-use Rattle.module_files.proofs.Held.{holds_own}
+use Rattle.wasm_reader.specs.Held.{Holds, IsToldFault}
+use Rattle.wasm_reader.specs.FilePieces.{BeginsWith, IsFaultOf, IsFront, IsPiece}
+use Rattle.wasm_reader.specs.declared.fault.ModuleFault.{ModuleFault}
+use Rattle.wasm_reader.specs.declared.fault.ModuleFault.TheVariants as M
+use Rattle.wasm_reader.proofs.Held.{holds_own}
 
 -- one more piece
 front_at : (file front buffer : List ℕ) (done n : ℕ) → done ≡ length front → front ≡ take (length front) file → IsPiece file done n buffer

@@ -2,7 +2,7 @@
 
 use std::alloc::AllocError;
 use thiserror::Error;
-use wasm_reader::ReadFault;
+use crate::read_fault::ReadFault;
 
 /// Why a file gave no module.
 #[derive(Clone, Copy, Debug, PartialEq, Eq, Error)]
@@ -18,7 +18,7 @@ pub enum ModuleFault {
 
 impl From<AllocError> for ModuleFault {
     ghost use Rattle.std.specs.Prelude.{◌≡◌};
-    ghost use Rattle.module_files.specs.declared.fault.ModuleFault.TheVariants.{Memory};
+    ghost use Rattle.wasm_reader.specs.declared.fault.ModuleFault.TheVariants.{Memory};
 
     ghost from_gives = { λ _ fault. fault ≡ Memory };
 

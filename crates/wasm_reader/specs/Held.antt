@@ -5,8 +5,8 @@ use Rattle.vault_port.specs.Told.{WhereTold}
 use Rattle.wa_types.specs.ModuleBounds.{ModuleBounds}
 use Rattle.wa_types.specs.Syntax.{Module}
 use Rattle.wasm_reader.specs.Answers.{IsAccepted, IsRefused}
-use Rattle.module_files.specs.declared.fault.ModuleFault.{ModuleFault}
-use Rattle.module_files.specs.declared.fault.ModuleFault.TheVariants.{Memory, Read, Refused}
+use Rattle.wasm_reader.specs.declared.fault.ModuleFault.{ModuleFault}
+use Rattle.wasm_reader.specs.declared.fault.ModuleFault.TheVariants.{Memory, Read, Refused}
 
 -- where the files are told, this one is there and holds these bytes
 abbrev pub Holds : Option Files → (name bytes : List ℕ) → Type 0

@@ -3,7 +3,7 @@ use Rattle.std.proofs.Common.{◌≡◌, ℕ, List, [], Option, Some, None, refl
 use Rattle.std.specs.Prelude.{IsSome, unwrap_or}
 use Rattle.vault_port.specs.Files.{Files, bytes_of}
 use Rattle.vault_port.specs.Told.{WhereTold}
-use Rattle.module_files.specs.Held.{Holds}
+use Rattle.wasm_reader.specs.Held.{Holds}
 
 present : (o : Option (List ℕ)) → IsSome o → o ≡ Some (unwrap_or o [])
 present None h = cc

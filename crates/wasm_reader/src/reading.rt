@@ -10,14 +10,15 @@ ghost use Rattle.wa_types.specs.Sizes.{SizeRule};
 ghost use Rattle.wa_types.specs.View.{module_of};
 ghost use Rattle.wasm_reader.specs.Answers.{IsAccepted};
 ghost use Rattle.wasm_reader.specs.Pieces.{IsFeedFault};
-ghost use Rattle.module_files.specs.Held.{HoldsModule, IsToldFault};
-ghost use Rattle.module_files.specs.Pieces.{BeginsWith, IsFaultOf, IsPiece};
+ghost use Rattle.wasm_reader.specs.Held.{HoldsModule, IsToldFault};
+ghost use Rattle.wasm_reader.specs.FilePieces.{BeginsWith, IsFaultOf, IsPiece};
 
 use crate::fault::ModuleFault;
 use std::alloc::Global;
 use vault_port::{Vault, VaultFail};
 use wa_types::{Bounds, LimitKind, Module};
-use wasm_reader::{ReadFault, Reader};
+use crate::read_fault::ReadFault;
+use crate::pieces::Reader;
 
 /// The most bytes that are fetched at once.
 const PIECE: usize = 65_536;

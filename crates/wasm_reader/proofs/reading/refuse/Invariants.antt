@@ -1,7 +1,7 @@
 use Rattle.std.proofs.Common.{◌≡◌, ◌≤◌, ◌<◌, ◌+◌, ◌-◌, length}
 use Rattle.vault_port.specs.Files.{bytes_of}
 use Rattle.vault_port.specs.Told.{WhereTold}
-use Rattle.module_files.proofs.reading.refuse.Given as goal
+use Rattle.wasm_reader.proofs.reading.refuse.Given as goal
 
 abbrev pub invariant-fetching : goal.invariant-fetching
 invariant-fetching g l =

@@ -1,6 +1,6 @@
 use Rattle.std.proofs.Common.{◌≡◌, ◌≤◌, ◌<◌, ◌^◌, ◌-◌, All, None, length}
-use Rattle.module_files.specs.Pieces.{IsFront}
-use Rattle.module_files.proofs.reading.read_file.Given as goal
+use Rattle.wasm_reader.specs.FilePieces.{IsFront}
+use Rattle.wasm_reader.proofs.reading.read_file.Given as goal
 
 abbrev pub invariant-fetching : goal.invariant-fetching
 invariant-fetching g l =

@@ -8,10 +8,10 @@ use Rattle.wa_types.specs.ModuleBounds.{ModuleBounds}
 use Rattle.wa_types.specs.View.{module_of}
 use Rattle.wasm_reader.specs.Answers.{IsAccepted}
 use Rattle.wasm_reader.specs.Pieces.{Reading, IsFeedFault, fed}
-use Rattle.module_files.specs.Held.{IsToldFault}
-use Rattle.module_files.specs.Pieces.{IsFaultOf, IsFront, IsPiece}
-use Rattle.module_files.proofs.Fronts.{are_bytes_more, came_more, front_more, holds_front, lent_back, told_fault}
-use Rattle.module_files.proofs.reading.read_file.Goals as goal
+use Rattle.wasm_reader.specs.Held.{IsToldFault}
+use Rattle.wasm_reader.specs.FilePieces.{IsFaultOf, IsFront, IsPiece}
+use Rattle.wasm_reader.proofs.Fronts.{are_bytes_more, came_more, front_more, holds_front, lent_back, told_fault}
+use Rattle.wasm_reader.proofs.reading.read_file.Goals as goal
 
 pub returns-then-count-eq0-clause-ok : goal.returns-then-count-eq0-clause-ok
 returns-then-count-eq0-clause-ok g c =

@@ -2,9 +2,9 @@
 use Rattle.std.proofs.Common.{arith, subst}
 use Rattle.vault_port.specs.Files.{bytes_of}
 use Rattle.vault_port.specs.Told.{WhereTold}
-use Rattle.module_files.specs.Pieces.{IsPiece}
-use Rattle.module_files.proofs.Fronts.{refused_whole, refused_long}
-use Rattle.module_files.proofs.reading.refuse.Goals as goal
+use Rattle.wasm_reader.specs.FilePieces.{IsPiece}
+use Rattle.wasm_reader.proofs.Fronts.{refused_whole, refused_long}
+use Rattle.wasm_reader.proofs.reading.refuse.Goals as goal
 
 pub returns-in-Ok-eq0-clause-refused : goal.returns-in-Ok-eq0-clause-refused
 returns-in-Ok-eq0-clause-refused g c = λ b same.
