@@ -10,7 +10,7 @@ use Rattle.wa_types.specs.Sizes.{FuncSizes, StrictSizeRule}
 use Rattle.wa_types.specs.Syntax.{Func, Module}
 use Rattle.wa_types.specs.Validity.{Valid}
 use Rattle.wa_types.proofs.SizeBounds.{weight_fits}
-use Rattle.wasm_entries.specs.Locals.{local_count}
+use Rattle.wasm_encode.specs.Locals.{local_count}
 use Rattle.wasm_encode.specs.Modules.{FewLocals}
 use Rattle.rewrite_form.specs.CodesHold.{AllSlim}
 use Rattle.rewrite_form.specs.SlimModule.{Pieces, SlimPieces}

@@ -7,10 +7,9 @@ use Rattle.wa_types.specs.declared.syntax.Limits.{Limits}
 use Rattle.wa_types.specs.Syntax.{Code, Func, GlobalDef, Module}
 use Rattle.wa_types.specs.Base.{added_memories, one_page}
 use Rattle.wa_types.specs.Modules.{all_memories}
-use Rattle.wa_types.specs.Runtime.{with_runtime, runtime_func, runtime_funcs, runtime_globals, runtime_exports, zero_global, func_export, start_code, stop_code, state_code, test_code}
-use Rattle.wa_types.specs.Runtime.{func_space, global_space}
+use Rattle.wa_types.specs.Runtime.{with_runtime, runtime_func, runtime_funcs, runtime_globals, runtime_exports, zero_global, func_export, start_code, stop_code, state_code, test_code, func_space, global_space}
 use Rattle.wa_types.specs.Sizes.{CodeFits, LimitsFit, FuncFits, ExportFits, WellFormed}
-use Rattle.wasm_entries.specs.Locals.{local_count}
+use Rattle.wasm_encode.specs.Locals.{local_count}
 use Rattle.wasm_encode.specs.Modules.{FewLocals}
 
 test_fits : (address : ℕ) → address < 2 ^ 32 → CodeFits (test_code address)

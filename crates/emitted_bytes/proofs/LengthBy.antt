@@ -21,7 +21,7 @@ use Rattle.wa_types.proofs.SizeBounds.{weight_fits}
 use Rattle.run_theory.specs.FlatFits.{one_run}
 use Rattle.wa_model.specs.Rewrites.{instructions_and_labels}
 use Rattle.rewrite_form.specs.FlatModule.{extra_types}
-use Rattle.wasm_entries.specs.Locals.{local_count}
+use Rattle.wasm_encode.specs.Locals.{local_count}
 use Rattle.wasm_encode.specs.Modules.{FewLocals}
 use Rattle.wasm_encode.proofs.AroundLemmas.{same_sort_bytes}
 use Rattle.rewrite_form.specs.EmittedBy.{FrameCode, written_by, func_by, funcs_by, asyncified_by}

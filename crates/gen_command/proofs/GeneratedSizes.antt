@@ -6,7 +6,7 @@ use Rattle.leb_numbers.specs.Leb.{shortest}
 use Rattle.wa_types.specs.Syntax.{Func, Module}
 use Rattle.wa_types.specs.Encoding.{Enc, body_bytes, code_bytes, export_bytes, expression_bytes, import_bytes, func_type_bytes, merged, run_bytes, section, sized, vector}
 use Rattle.wa_model.specs.Rewrites.{instructions_and_labels}
-use Rattle.wasm_entries.specs.Locals.{local_count}
+use Rattle.wasm_encode.specs.Locals.{local_count}
 use Rattle.wasm_encode.specs.Modules.{FewLocals}
 use Rattle.emitted_bytes.proofs.LengthBy.{code_length}
 use Rattle.emitted_bytes.proofs.Grown.{enc_length}

@@ -10,7 +10,7 @@ use Rattle.wa_types.specs.Reading.{SpellsModule}
 use Rattle.wa_types.specs.Sizes.{StrictSizeRule, WellFormed}
 use Rattle.wa_types.specs.Syntax.{Func, Module}
 use Rattle.wa_types.specs.Validity.{Valid}
-use Rattle.wasm_entries.specs.Locals.{local_count}
+use Rattle.wasm_encode.specs.Locals.{local_count}
 use Rattle.wasm_encode.specs.Around.{code_entry}
 use Rattle.wasm_encode.specs.Modules.{FewLocals}
 use Rattle.wasm_reader.specs.Answers.{IsAccepted}

@@ -1,6 +1,5 @@
 -- Functions put as entries, one after the other.
-use Rattle.std.proofs.Common.{◌≡◌, ◌∙◌, ℕ, zero, suc, ◌+◌, ◌-◌, ◌<◌, ◌≤◌, ◌^◌, List, [], ◌∷◌, ◌++◌, length, get_or, drop, Some, Bool, true, false, Ok, Err, refl, sym, ap, subst, arith}
-use Rattle.std.proofs.Common.{append_assoc, length-append}
+use Rattle.std.proofs.Common.{◌≡◌, ◌∙◌, ℕ, zero, suc, ◌+◌, ◌-◌, ◌<◌, ◌≤◌, ◌^◌, List, [], ◌∷◌, ◌++◌, length, get_or, drop, Some, Bool, true, false, Ok, Err, refl, sym, ap, subst, arith, append_assoc, length-append}
 use Rattle.std.specs.Prelude.{slice_get}
 use Rattle.std.specs.List.{flat_map}
 use Rattle.std.specs.Vec.{vec_len}
@@ -25,7 +24,7 @@ use Rattle.module_rewrite.specs.FlatFault.{FlatFault}
 use Rattle.module_rewrite.specs.FlatFault.TheVariants as F
 use Rattle.module_rewrite.proofs.ToldLemmas.{Sofar, sofar_first, sofar_done, go_skip, go_put, go_stop}
 use Rattle.module_rewrite.specs.Frames.{IsFlattened}
-use Rattle.wasm_entries.specs.Locals.{local_count}
+use Rattle.wasm_encode.specs.Locals.{local_count}
 use Rattle.wasm_validate.proofs.FuncLemmas.{func_at}
 use Rattle.wasm_encode.specs.Around.{code_entry}
 use Rattle.live_bytes.proofs.EmittedBy.{defined_of}

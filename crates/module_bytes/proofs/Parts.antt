@@ -20,7 +20,7 @@ use Rattle.module_rewrite.specs.FlattenWhole.{NonePasses}
 use Rattle.live_bytes.proofs.BytesByPolicy.{short_as}
 use Rattle.live_bytes.specs.EmittedAs.{AreEmitted, EmittedAs, IsEmittedWhere, IsWrittenUnder}
 use Rattle.live_bytes.proofs.PolicyCases.{functions_law}
-use Rattle.wasm_entries.specs.Locals.{local_count}
+use Rattle.wasm_encode.specs.Locals.{local_count}
 use Rattle.wasm_encode.specs.Around.{code_entry, IsAround, IsUnwritten}
 use Rattle.wasm_encode.specs.Modules.{FewLocals}
 use Rattle.wasm_encode.specs.declared.EncodeFault.{EncodeFault}

@@ -15,7 +15,7 @@ ghost use Rattle.module_rewrite.specs.Frames.{IsFlattened};
 ghost use Rattle.live_bytes.specs.PolicyBytes.{IsShortEntry};
 ghost use Rattle.live_bytes.specs.EmittedAs.{IsWritten};
 ghost use Rattle.wa_types.specs.Syntax.{Func as PlainFunc};
-ghost use Rattle.wasm_entries.specs.Locals.{local_count};
+ghost use Rattle.wasm_encode.specs.Locals.{local_count};
 ghost use Rattle.module_bytes.specs.Emitting.{value_entries, Emits, PutsWritten};
 
 use crate::fault::EmitFault;
@@ -25,7 +25,7 @@ use local_spill::RuntimeIds;
 use module_rewrite::{Flattened, emit_by_policy, flatten_func};
 use std::alloc::{AllocError, Global};
 use wa_types::{Func, Module};
-use wasm_entries::put_func;
+use wasm_encode::put_func;
 use wasm_validate::Valid;
 
 /// Entries of the code section, one behind the other.

@@ -16,7 +16,7 @@ use Rattle.file_laws.proofs.OneModule.{one_spelled}
 use Rattle.file_laws.proofs.SpelledFits.{spelled_fits}
 use Rattle.wasm_encode.specs.declared.EncodeFault.{EncodeFault}
 use Rattle.wasm_encode.specs.declared.EncodeFault.TheVariants.{Memory as unwritten, TooLong as too_long}
-use Rattle.wasm_entries.specs.Locals.{local_count}
+use Rattle.wasm_encode.specs.Locals.{local_count}
 use Rattle.wasm_encode.specs.Modules.{FewLocals}
 use Rattle.wasm_reader.specs.Answers.{IsAccepted, IsRefused}
 use Rattle.wasm_reader.specs.Locals.{func_locals}

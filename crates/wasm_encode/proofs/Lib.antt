@@ -1,2 +1,6 @@
 pub mod AroundLemmas
+pub mod Codes
 pub mod ModuleLemmas
+pub mod Runs
+pub mod SectionLemmas
+pub mod Vectors

@@ -13,7 +13,8 @@ use crate::{EncodeFault, LONGEST};
 use bytes::BytesMut;
 use std::alloc::{AllocError, Global};
 use wa_types::Module;
-use wasm_entries::{LAST_ID, customs_len, put_customs, put_unsigned, sized_len, unsigned_len};
+use crate::sections::{LAST_ID, customs_len, put_customs};
+use crate::numbers::{put_unsigned, sized_len, unsigned_len};
 
 const CODE_ID: u8 = 10;
 

@@ -11,10 +11,33 @@
 //!
 //! `encode_around` writes a module around the entries of its code section, which were written beforehand, so that its functions
 //! needn't be in memory together; the law is the same.
+//!
+//! `entry`, `numbers`, `types`: Numbers, names, types and vectors as bytes, each in the one form that `Enc` of wa_types defines (standard, sections 5.2, 5.3 and 5.1.3).
+//!
+//! Whatever is written can be measured first, without memory: the length and the bytes of each part stand side by side, and the
+//! one is the length of the other. `Entry` says how an entry of a vector is written, so that each vector is proved once.
+//!
+//! `code`: Expressions as bytes, and how many they are, each in the one form that `Enc` of wa_types defines (standard, section 5.4).
+//!
+//! `entries`, `locals`, `sections`: The sections of a module as bytes, each entry in the one form that `Enc` of wa_types defines (standard, section 5).
+//!
+//! Whatever is written can be measured first, without memory: the length and the bytes of each part stand side by side, and the
+//! one is the length of the other. `Entry` of `encode_types` says how an entry of a vector is written, so that each section of
+//! entries is proved once.
 #![tactic(auto)]
 
 mod around;
+mod code;
+mod entries;
+mod entry;
+mod locals;
 mod module;
+mod numbers;
+mod sections;
+mod types;
+
+pub use around::encode_around;
+pub use entries::{body_len, put_func};
 
 ghost use Rattle.std.specs.Prelude.{◌≡◌, ◌<◌, ◌≤◌, ◌^◌, ◌↔◌, length, IfOk, ℕ, Err};
 ghost use Rattle.wa_types.specs.View.{module_of};
@@ -22,7 +45,6 @@ ghost use Rattle.wa_types.specs.Encoding.{Enc};
 ghost use Rattle.wasm_encode.specs.Modules.{FewLocals};
 
 use crate::module::{module_len, put_module};
-pub use around::encode_around;
 use bytes::BytesMut;
 use std::alloc::{AllocError, Global};
 use thiserror::Error;

@@ -1,8 +1,8 @@
 use Rattle.std.proofs.Common.{◌<◌, ◌^◌, arith, refl, subst, sym}
 use Rattle.wa_types.specs.declared.syntax.Func.{Func as FuncValue}
 use Rattle.wa_types.specs.View.{func_of}
-use Rattle.wasm_entries.specs.Locals.{local_count}
-use Rattle.wasm_entries.proofs.Vectors.{entry_length, put_step, put_none}
+use Rattle.wasm_encode.specs.Locals.{local_count}
+use Rattle.wasm_encode.proofs.Vectors.{entry_length, put_step, put_none}
 use Rattle.wasm_encode.specs.Around.{code_entry}
 use Rattle.module_bytes.proofs.emitting.put_funcs.Goals as goal
 
