@@ -11,7 +11,7 @@ use crate::rooms::{Room, all_rooms};
 use crate::types;
 use std::alloc::{AllocError, Global};
 use std::marker::Model;
-use validate_spaces::{all_sorts, imported_sorts};
+use validate_bodies::{all_sorts, imported_sorts};
 use wa_types::{Func, Module, ValType};
 
 /// A module with what is looked up at calls: the index of each function's type, imports first, how many functions are

@@ -5,7 +5,7 @@ ghost use Rattle.wa_types.specs.Modules.{imported_table, imported_memory, import
 ghost use Rattle.wa_types.specs.View.{module_of};
 
 use std::alloc::{AllocError, Global};
-use validate_spaces::{imported_memory, imported_table};
+use validate_bodies::{imported_memory, imported_table};
 use wa_types::{Limits, Module};
 
 fn imported_memories(alloc: Global, source: &Module) -> Result<Vec<Limits>, AllocError>

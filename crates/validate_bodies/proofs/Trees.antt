@@ -1,6 +1,5 @@
 -- What the validator computes of the code of a list of instructions.
-use Rattle.std.proofs.Common.{arith, ◌≡◌, ℕ, suc, ◌+◌, ◌<◌, ◌≤◌, List, [], ◌∷◌, ◌++◌, length, drop, reverse, get_or, Option, Some, None, Bool, true, false, if◌then◌else◌, refl, ap, sym, ◌∙◌}
-use Rattle.std.proofs.Common.{subst, Result, Ok, Err, IsErrAnd}
+use Rattle.std.proofs.Common.{arith, ◌≡◌, ℕ, suc, ◌+◌, ◌<◌, ◌≤◌, List, [], ◌∷◌, ◌++◌, length, drop, reverse, get_or, Option, Some, None, Bool, true, false, if◌then◌else◌, refl, ap, sym, ◌∙◌, subst, Result, Ok, Err, IsErrAnd}
 use Rattle.std.proofs.lemmas.List.{reverse-append}
 use Rattle.std.specs.declared.vec.Vec.{Vec}
 use Rattle.std.specs.declared.alloc.Global.{Global}
@@ -18,12 +17,11 @@ use Rattle.wa_types.specs.FirstFault.{size, mid}
 use Rattle.wa_types.proofs.ViewLemmas.{in_block, in_loop, in_if, code_step, code_empty}
 use Rattle.validate_bodies.specs.declared.bodies.Flaw.{Flaw}
 use Rattle.validate_bodies.specs.declared.bodies.Flaw.TheVariants.{Memory, Breaks}
-use Rattle.validate_table.specs.declared.table.Asks as D
+use Rattle.validate_bodies.specs.declared.table.Asks as D
 use Rattle.validate_bodies.specs.Running.{StackAfter, goes, stops, next, Verdict, fine, fault, both, onward, ended, knows, pop1, checks, body_verdict}
 use Rattle.validate_bodies.specs.Stack.{Applied, popped}
-use Rattle.validate_table.specs.Table.{sig_of}
-use Rattle.validate_table.specs.Table.{plain_of, Says}
-use Rattle.validate_table.proofs.InstrKinds.{is_block, is_loop, is_branch, is_plain, leaf_kind, size_plain, size_done, size_block, size_loop, size_if, size_step, size_empty}
+use Rattle.validate_bodies.specs.Table.{sig_of, plain_of, Says}
+use Rattle.validate_bodies.proofs.InstrKinds.{is_block, is_loop, is_branch, is_plain, leaf_kind, size_plain, size_done, size_block, size_loop, size_if, size_step, size_empty}
 use Rattle.validate_bodies.specs.Judging.{Judged, Blames}
 
 -- what the validator computes

@@ -12,7 +12,8 @@ ghost use Rattle.validate_bodies.specs.Stack.{known, Deep, Level};
 
 use crate::stack::{Operands, apply, ends, pop, push_result};
 use std::alloc::{AllocError, AllocFailed, Global};
-use validate_table::{Context, asks_at};
+use crate::context::Context;
+use crate::table::asks_at;
 use wa_types::{Instr, Rule, ValType};
 
 /// Why a body wasn't found typed: the rule that fails first, and the number of the instruction, `else` or `end`
@@ -52,7 +53,7 @@ impl From<AllocFailed<Option<ValType>>> for Flaw {
     }
 }
 
-#[tactic(auto, using(validate_table::proofs::InstrKinds::middling))]
+#[tactic(auto, using(crate::proofs::InstrKinds::middling))]
 fn middle(arm: &[Instr]) -> u64
     ensures { result ≡ mid (code arm.now) }
 {

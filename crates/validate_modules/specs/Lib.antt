@@ -1,4 +1,4 @@
-pub use Rattle.validate_bodies.specs.Asks
+pub use Rattle.validate_bodies.specs.declared.table.Asks
 pub use Rattle.validate_bodies.specs.Laws
 pub use Rattle.validate_bodies.specs.Running
 pub use Rattle.validate_bodies.specs.Table

@@ -3,16 +3,14 @@ use Rattle.std.proofs.Common.{arith, ◌≡◌, ℕ, List, [], ◌∷◌, length
 use Rattle.wa_types.specs.declared.values.ValType.{ValType}
 use Rattle.wa_types.specs.declared.values.Value.{Value}
 use Rattle.wa_types.specs.declared.instrs.Instr.{Instr}
-use Rattle.wa_types.specs.declared.instrs.Instr.TheVariants.{Unreachable, Nop, Drop, Select, Return, MemorySize, MemoryGrow, Const, Num, Br, BrIf, BrTable, Call, CallIndirect, LocalGet}
-use Rattle.wa_types.specs.declared.instrs.Instr.TheVariants.{LocalSet, LocalTee, GlobalGet, GlobalSet, Load, Store, Block', Loop', If'}
-use Rattle.wa_types.specs.Syntax.{nop, drop, select, const, num, global_get, global_set, load, store, memory_size, memory_grow, Plain, basic, local_get, local_set, local_tee, br, br_if}
-use Rattle.wa_types.specs.Syntax.{br_table, return, unreachable, call, call_indirect, Code, done, plain, nest, branch}
+use Rattle.wa_types.specs.declared.instrs.Instr.TheVariants.{Unreachable, Nop, Drop, Select, Return, MemorySize, MemoryGrow, Const, Num, Br, BrIf, BrTable, Call, CallIndirect, LocalGet, LocalSet, LocalTee, GlobalGet, GlobalSet, Load, Store, Block', Loop', If'}
+use Rattle.wa_types.specs.Syntax.{nop, drop, select, const, num, global_get, global_set, load, store, memory_size, memory_grow, Plain, basic, local_get, local_set, local_tee, br, br_if, br_table, return, unreachable, call, call_indirect, Code, done, plain, nest, branch}
 use Rattle.wa_types.specs.View.{in_front, onto, code}
 use Rattle.wa_types.specs.Typing.{GlobalType}
 use Rattle.wa_types.specs.Validity.{got_global, is_constant}
 use Rattle.wa_types.specs.FirstFault.{mid}
 use Rattle.wa_types.proofs.ViewLemmas.{in_block, in_loop, in_if}
-use Rattle.validate_table.proofs.InstrKinds.{is_block, is_loop, is_branch, is_plain, leaf_kind, code_cons, mid_front}
+use Rattle.validate_bodies.proofs.InstrKinds.{is_block, is_loop, is_branch, is_plain, leaf_kind, code_cons, mid_front}
 
 -- it names no global, and is no constant
 pub record Other (k : Code) : Type 0 where

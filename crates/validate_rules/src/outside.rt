@@ -9,10 +9,10 @@ ghost use Rattle.wa_types.specs.Syntax.{FuncType as PlainType, Elem as PlainElem
 ghost use Rattle.wa_types.specs.Validity.{constant_of, is_constant, is_empty_type, limits_fit, start_fits};
 ghost use Rattle.wa_types.specs.View.{code, func_type_of, elem_of, global_of, segment_of};
 ghost use Rattle.validate_rules.specs.Outside.{option_all};
-ghost use Rattle.validate_table.specs.Spaces.{global_type_of};
+ghost use Rattle.validate_bodies.specs.Spaces.{global_type_of};
 
 use crate::holders::Holder;
-use validate_table::{GlobalType, same_types, type_of_value};
+use validate_bodies::{GlobalType, same_types, type_of_value};
 use wa_types::{Elem, FuncType, GlobalDef, Import, ImportKind, Instr, Limits, Segment, ValType};
 
 /// Whether limits are within a range (standard, section 3.2.1).

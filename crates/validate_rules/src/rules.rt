@@ -2,17 +2,16 @@
 
 ghost use Rattle.std.specs.Prelude.{◌≡◌, [], Some, MatchOption, IfOk, slice_get};
 ghost use Rattle.wa_types.specs.Rules.{number};
-ghost use Rattle.wa_types.specs.Validity.{types_there, funcs_there, tables_there, memories_there, globals_there, all_limits_fit, one_each, all_constant, names_differ, start_lawful};
-ghost use Rattle.wa_types.specs.Validity.{one_result, broken_outside};
+ghost use Rattle.wa_types.specs.Validity.{types_there, funcs_there, tables_there, memories_there, globals_there, all_limits_fit, one_each, all_constant, names_differ, start_lawful, one_result, broken_outside};
 ghost use Rattle.wa_types.specs.View.{module_of};
 ghost use Rattle.validate_rules.specs.Outside.{later};
-ghost use Rattle.validate_table.specs.Spaces.{SpacesOf};
+ghost use Rattle.validate_bodies.specs.Spaces.{SpacesOf};
 
 use crate::indices::{all_below, funcs_below, globals_below, memories_below, tables_below};
 use crate::names::names_differ;
 use crate::outside::{all_constant, all_limits_fit, one_each, one_result, start_fits};
 use std::alloc::{AllocError, Global};
-use validate_table::Spaces;
+use validate_bodies::Spaces;
 use wa_types::{Module, Rule};
 
 /// The types of imported and defined functions are there (standard, sections 3.2.6, 3.4.1 and 3.4.9).

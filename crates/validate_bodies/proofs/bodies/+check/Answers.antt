@@ -10,9 +10,8 @@ use Rattle.validate_bodies.specs.Running.{fine, fault}
 use Rattle.wa_types.proofs.LeafLemmas.{leaf_other}
 use Rattle.validate_bodies.specs.Stack.{known_at}
 use Rattle.validate_bodies.proofs.Lists.{known_none, level_on, popped_back, restored}
-use Rattle.validate_table.proofs.InstrKinds.{size_step, size_empty}
-use Rattle.validate_bodies.proofs.Trees.{judged_err, judged_memory, judged_same, size_of_block, size_of_loop, size_of_if, passed_by, passed_then, pushed_on, same_checks, moved_checks, labels_are, turned, body_on, body_end, popped_none, popped_some}
-use Rattle.validate_bodies.proofs.Trees.{block_arm, loop_arm, if_arm, if_fault, plain_size, plain_is, go_on, stop_at, none_is, instrs, bodies}
+use Rattle.validate_bodies.proofs.InstrKinds.{size_step, size_empty}
+use Rattle.validate_bodies.proofs.Trees.{judged_err, judged_memory, judged_same, size_of_block, size_of_loop, size_of_if, passed_by, passed_then, pushed_on, same_checks, moved_checks, labels_are, turned, body_on, body_end, popped_none, popped_some, block_arm, loop_arm, if_arm, if_fault, plain_size, plain_is, go_on, stop_at, none_is, instrs, bodies}
 use Rattle.validate_bodies.proofs.bodies.+check.Goals as goal
 
 pub check_body-loop-instr-init : goal.check_body-loop-instr-init

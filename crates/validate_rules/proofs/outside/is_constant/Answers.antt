@@ -1,6 +1,6 @@
 use Rattle.std.proofs.Common.{ap, sym, map, ◌∙◌}
 use Rattle.wa_types.specs.Validity.{is_constant}
-use Rattle.validate_table.specs.Spaces.{global_type_of}
+use Rattle.validate_bodies.specs.Spaces.{global_type_of}
 use Rattle.validate_rules.proofs.ExpressionLemmas.{no_single, single_other, single_get}
 use Rattle.validate_rules.proofs.outside.is_constant.Goals as goal
 

@@ -1,7 +1,7 @@
 use Rattle.std.proofs.Common.{◌≡◌, map, take}
 use Rattle.wa_types.specs.Modules.{imported, imported_global}
 use Rattle.wa_types.specs.View.{module_of}
-use Rattle.validate_table.specs.Spaces.{global_type_of}
+use Rattle.validate_bodies.specs.Spaces.{global_type_of}
 use Rattle.validate_rules.proofs.OutsideLemmas.{taken}
 use Rattle.validate_rules.proofs.rules.constants.Goals as goal
 

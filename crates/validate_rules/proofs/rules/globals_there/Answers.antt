@@ -2,7 +2,7 @@ use Rattle.std.proofs.Common.{rules, ◌≡◌, ◌∙◌, ap, sym, length}
 use Rattle.std.proofs.lemmas.List.{length-map}
 use Rattle.wa_types.specs.Modules.{all_globals}
 use Rattle.wa_types.specs.View.{module_of}
-use Rattle.validate_table.specs.Spaces.{global_type_of}
+use Rattle.validate_bodies.specs.Spaces.{global_type_of}
 use Rattle.validate_rules.proofs.rules.globals_there.Goals as goal
 
 pub returns : goal.returns
