@@ -12,10 +12,10 @@ known="asyncify_app asyncify_cli asyncify_runtime wasm_build call_classes call_g
     host_pauses host_setup import_lists interp interp_jumps interp_make interp_program interp_reduce interp_state line_words live_locals live_passes
     live_rewrite live_words many_host module_bytes wa_types wasm_reader module_rewrite pause_host plan_parts script_command script_lines
     script_opening script_reader script_setup slim_guesses slim_pieces slim_steps slim_walk source_modules transcript transform_command turn_taking
-    unit_pieces validate_bodies validate_rules vault_port wa_model wa_ops wasm_encode wasm_grammar
-    wasm_validate world_hosting"
-old="wa_types file_laws wa_ops page_memory wa_model validate_bodies validate_rules validate_modules
-    interp_state interp_program interp_make interp_jumps interp_reduce wasm_grammar wasm_build wasm_reader wasm_validate wasm_encode import_lists call_graph asyncify_runtime
+    unit_pieces validate_bodies wasm_validate vault_port wa_model wa_ops wasm_encode wasm_grammar
+    world_hosting"
+old="wa_types file_laws wa_ops page_memory wa_model validate_bodies wasm_validate 
+    interp_state interp_program interp_make interp_jumps interp_reduce wasm_grammar wasm_build wasm_reader wasm_encode import_lists call_graph asyncify_runtime
     leb_numbers vault_port memory_vaults system_vaults interp asyncify_app asyncify_cli command_words printing source_modules round_trip
     definition_check"
 mkdir -p "$bench/out"

@@ -1,9 +1,9 @@
 -- What is computed of a module is to be said of it.
 use Rattle.std.proofs.Common.{◌≡◌, List, [], ◌∷◌, map, subst}
-use Rattle.wasm_validate.specs.Running.{Answer, module_answer}
-use Rattle.wasm_validate.specs.Laws.{Says}
+use Rattle.validate_bodies.specs.Running.{Answer, module_answer}
+use Rattle.validate_bodies.specs.Laws.{Says}
 use Rattle.definition_check.specs.Faults.{Case, AllSay}
-use Rattle.wasm_validate.proofs.Decided.{module_decided}
+use Rattle.validate_bodies.proofs.Decided.{module_decided}
 
 -- the answers on some modules
 abbrev pub answers : List Case → List Answer

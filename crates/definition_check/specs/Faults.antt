@@ -11,10 +11,9 @@ use Rattle.wa_types.specs.declared.syntax.ImportKind.TheVariants.{Func as a_func
 use Rattle.wa_types.specs.declared.syntax.Export.{Export}
 use Rattle.wa_types.specs.declared.syntax.Space.{Space}
 use Rattle.wa_types.specs.declared.syntax.Space.TheVariants.{Func as a_func, Table as a_table, Global as a_global}
-use Rattle.wa_types.specs.Syntax.{drop, select, const, num, global_get, global_set, load, store, memory_size, basic, local_get, br, br_if, br_table, unreachable, call, call_indirect}
-use Rattle.wa_types.specs.Syntax.{a_block, a_loop, Code, done, plain, nest, branch, FuncType, GlobalDef, Elem, Segment, Module}
-use Rattle.wasm_validate.specs.Running.{Answer, valid, invalid}
-use Rattle.wasm_validate.specs.Laws.{Says}
+use Rattle.wa_types.specs.Syntax.{drop, select, const, num, global_get, global_set, load, store, memory_size, basic, local_get, br, br_if, br_table, unreachable, call, call_indirect, a_block, a_loop, Code, done, plain, nest, branch, FuncType, GlobalDef, Elem, Segment, Module}
+use Rattle.validate_bodies.specs.Running.{Answer, valid, invalid}
+use Rattle.validate_bodies.specs.Laws.{Says}
 
 -- a function type
 abbrev pub type_of : List ValType → List ValType → FuncType

@@ -7,7 +7,7 @@
 ghost use Rattle.definition_check.specs.Analysis.{OnlySleeperPauses};
 ghost use Rattle.definition_check.specs.Beginnings.{EachFileDecided};
 ghost use Rattle.definition_check.specs.Files.{AllFound, FloatFound, beginnings, files};
-ghost use Rattle.wasm_validate.specs.Laws.{EachModuleDecided, VerdictIsTyping};
+ghost use Rattle.validate_bodies.specs.Laws.{EachModuleDecided, VerdictIsTyping};
 ghost use Rattle.definition_check.specs.Faults.{AllSay, body_cases, module_cases, valid_cases};
 ghost use Rattle.definition_check.specs.Lists.{Listings, Lists};
 ghost use Rattle.definition_check.specs.Images.{Images, NoImages, OneCallImage};

@@ -1,6 +1,5 @@
 -- Functions of valid modules, flattened.
-use Rattle.std.proofs.Common.{◌≡◌, ℕ, ◌++◌, List, [], ◌∷◌, map, length, Option, None, Some, slice_get, refl, ap, sym, ◌∙◌, subst, get_or, nat_lt, if◌then◌else◌, Bool, true, false, replicate}
-use Rattle.std.proofs.Common.{length-append, ◌<◌, ◌≤◌, ◌-◌, ◌+◌, ◌^◌, zero, suc, arith}
+use Rattle.std.proofs.Common.{◌≡◌, ℕ, ◌++◌, List, [], ◌∷◌, map, length, Option, None, Some, slice_get, refl, ap, sym, ◌∙◌, subst, get_or, nat_lt, if◌then◌else◌, Bool, true, false, replicate, length-append, ◌<◌, ◌≤◌, ◌-◌, ◌+◌, ◌^◌, zero, suc, arith}
 use Rattle.std.specs.Option.{option_map}
 use Rattle.std.specs.List.{sum_by}
 use Rattle.std.proofs.lemmas.List.Sums.{sum_by-cons}
@@ -18,7 +17,7 @@ use Rattle.wa_types.specs.Sizes.{code_items, params_of_type, FuncSizes, SizeRule
 use Rattle.wa_types.specs.Modules.{around, locals_of, declared_locals, defined_at, func_imports, func_sorts, func_types, or_empty, type_at}
 use Rattle.run_theory.proofs.FittingNames.{type_small, func_type_small}
 use Rattle.wasm_validate.specs.Walk.{outset, TypedAt, Walk}
-use Rattle.wasm_validate.proofs.ContextLemmas.{sort_there}
+use Rattle.validate_bodies.proofs.ContextLemmas.{sort_there}
 use Rattle.wasm_validate.proofs.FuncLemmas.{func_at, number_fits}
 use Rattle.wasm_validate.proofs.WalkUses.{outset_typed}
 use Rattle.flat_survey.specs.Emitting.{SmallTypes, result_at, flat_at}

@@ -1,35 +1,29 @@
 -- How a walk goes over a typed body: what a caller needs at each instruction.
-use Rattle.std.proofs.Common.{◌≡◌, ℕ, ◌+◌, ◌<◌, ◌++◌, length, drop, get_or, List, [], ◌∷◌, Option, Some, None, Bool, true, false, if◌then◌else◌, refl, ap, sym, ◌∙◌, subst, slice_get, nat_le}
+use Rattle.std.proofs.Common.{◌≡◌, ℕ, ◌+◌, ◌<◌, ◌++◌, length, drop, get_or, List, [], ◌∷◌, Option, Some, None, Bool, true, false, if◌then◌else◌, refl, ap, sym, ◌∙◌, subst, slice_get, nat_le, arith, nat_lt, ◌-◌}
 use Rattle.std.specs.declared.vec.Vec.{Vec}
 use Rattle.std.specs.declared.alloc.Global.{Global}
 use Rattle.wa_types.specs.declared.values.ValType.{ValType}
 use Rattle.wa_types.specs.declared.values.ValType.TheVariants.{I32}
 use Rattle.wa_types.specs.declared.instrs.Instr.{Instr}
-use Rattle.wa_types.specs.declared.instrs.Instr.TheVariants.{Unreachable, Nop, Drop, Select, Return, MemorySize, MemoryGrow, Const, Num, Br, BrIf, BrTable, Call, CallIndirect, LocalGet}
-use Rattle.wa_types.specs.declared.instrs.Instr.TheVariants.{LocalSet, LocalTee, GlobalGet, GlobalSet, Load, Store, Block, Loop, If, Block', Loop', If'}
+use Rattle.wa_types.specs.declared.instrs.Instr.TheVariants.{Unreachable, Nop, Drop, Select, Return, MemorySize, MemoryGrow, Const, Num, Br, BrIf, BrTable, Call, CallIndirect, LocalGet, LocalSet, LocalTee, GlobalGet, GlobalSet, Load, Store, Block, Loop, If, Block', Loop', If'}
 use Rattle.wa_types.specs.Accesses.{AccessRow, load_row, store_row}
-use Rattle.wa_types.specs.Syntax.{Basic, nop, drop as drop_operand, select, const, num, global_get, global_set, load, store, memory_size, memory_grow, Plain, basic, local_get, local_set}
-use Rattle.wa_types.specs.Syntax.{local_tee, br, br_if, br_table, return, unreachable, call, call_indirect, Shape, a_block, a_loop, Code, done, plain, nest, branch, FuncType}
-use Rattle.wa_types.specs.View.{in_front, code}
+use Rattle.wa_types.specs.Syntax.{Basic, nop, drop as drop_operand, select, const, num, global_get, global_set, load, store, memory_size, memory_grow, Plain, basic, local_get, local_set, local_tee, br, br_if, br_table, return, unreachable, call, call_indirect, Shape, a_block, a_loop, Code, done, plain, nest, branch, FuncType, Func, Module}
+use Rattle.wa_types.specs.View.{in_front, code, module_of, func_of}
 use Rattle.wa_types.specs.Pruned.{is_last, is_last_instr}
 use Rattle.wa_types.specs.declared.rules.Rule.TheVariants.{Alignment, ConstantGlobal}
-use Rattle.wa_types.specs.Typing.{GlobalType, Around, Sig, moves, leaves, drops, selects, lacks, late, listed, sig, basic_sig, may_jump, calls, calls_at, gets, sets, tees, gets_global}
-use Rattle.wa_types.specs.Typing.{sets_global, accesses, loads, stores, with_memory, Takes, label, Types}
+use Rattle.wa_types.specs.Typing.{GlobalType, Around, Sig, moves, leaves, drops, selects, lacks, late, listed, sig, basic_sig, may_jump, calls, calls_at, gets, sets, tees, gets_global, sets_global, accesses, loads, stores, with_memory, Takes, label, Types}
 use Rattle.wa_types.proofs.ViewLemmas.{in_block, in_loop, in_if, code_step}
-use Rattle.validate_modules.specs.Table.{plain_of}
-use Rattle.wa_types.specs.Syntax.{Func, Module}
-use Rattle.std.proofs.Common.{arith, nat_lt, ◌-◌}
+use Rattle.validate_bodies.specs.Table.{plain_of}
 use Rattle.std.specs.List.{filter_map}
 use Rattle.wa_types.specs.declared.syntax.Import.{Import}
 use Rattle.wa_types.specs.declared.syntax.Func.{Func as FuncValue}
 use Rattle.wa_types.specs.declared.syntax.Module.{Module as ModuleValue}
-use Rattle.wa_types.specs.View.{module_of, func_of}
 use Rattle.wa_types.specs.Modules.{around, defined_at, func_imports, imported_func}
-use Rattle.validate_modules.proofs.FuncLemmas.{func_at}
+use Rattle.wasm_validate.proofs.FuncLemmas.{func_at}
 use Rattle.wa_types.specs.Validity.{Valid}
 use Rattle.wa_types.specs.Leaves.{is_leaf}
-use Rattle.validate_modules.specs.Walk.{Walk, outset, Stays, Inside, TypedAt}
-use Rattle.validate_modules.proofs.InstrKinds.{is_block, is_loop, is_branch, is_plain, leaf_kind}
+use Rattle.wasm_validate.specs.Walk.{Walk, outset, Stays, Inside, TypedAt}
+use Rattle.validate_bodies.proofs.InstrKinds.{is_block, is_loop, is_branch, is_plain, leaf_kind}
 
 -- control may come behind it
 abbrev pub Passes : Sig → Type 0

@@ -1,32 +1,26 @@
 -- The types on a walk.
-use Rattle.std.proofs.Common.{arith, ◌≡◌, ℕ, zero, suc, ◌+◌, ◌-◌, ◌≤◌, ◌++◌, length, take, drop, reverse, List, [], ◌∷◌, Option, Some, None, Bool, true, false, if◌then◌else◌, refl, ap, sym}
-use Rattle.std.proofs.Common.{◌∙◌, subst, length-drop, length-append, slice_get}
+use Rattle.std.proofs.Common.{arith, ◌≡◌, ℕ, zero, suc, ◌+◌, ◌-◌, ◌≤◌, ◌++◌, length, take, drop, reverse, List, [], ◌∷◌, Option, Some, None, Bool, true, false, if◌then◌else◌, refl, ap, sym, ◌∙◌, subst, length-drop, length-append, slice_get, Result, Ok, Err}
 use Rattle.std.proofs.lemmas.List.{length-take-le, length-reverse, reverse-append, take-append-drop, take-append-le, drop-append-le, drop-take, drop_all, take_all, reverse-reverse}
 use Rattle.std.proofs.Math.Seq.{drop-append_seam, take-append_seam}
-use Rattle.std.proofs.Common.{Result, Ok, Err}
 use Rattle.std.specs.Result.{OnErr}
 use Rattle.std.specs.declared.vec.Vec.{Vec}
 use Rattle.std.specs.declared.alloc.Global.{Global}
 use Rattle.wa_types.specs.declared.values.ValType.{ValType}
 use Rattle.wa_types.specs.declared.values.ValType.TheVariants.{I32}
 use Rattle.wa_types.specs.declared.instrs.Instr.{Instr}
-use Rattle.wa_types.specs.declared.instrs.Instr.TheVariants.{Unreachable, Nop, Drop, Select, Return, MemorySize, MemoryGrow, Const, Num, Br, BrIf, BrTable, Call, CallIndirect, LocalGet}
-use Rattle.wa_types.specs.declared.instrs.Instr.TheVariants.{LocalSet, LocalTee, GlobalGet, GlobalSet, Load, Store, Block, Loop, If, Block', Loop', If'}
-use Rattle.wa_types.specs.Syntax.{Plain, Shape, a_block, a_loop, Code, done, plain, nest, branch}
-use Rattle.wa_types.specs.View.{in_front, code}
+use Rattle.wa_types.specs.declared.instrs.Instr.TheVariants.{Unreachable, Nop, Drop, Select, Return, MemorySize, MemoryGrow, Const, Num, Br, BrIf, BrTable, Call, CallIndirect, LocalGet, LocalSet, LocalTee, GlobalGet, GlobalSet, Load, Store, Block, Loop, If, Block', Loop', If'}
+use Rattle.wa_types.specs.Syntax.{Plain, Shape, a_block, a_loop, Code, done, plain, nest, branch, Func}
+use Rattle.wa_types.specs.View.{in_front, code, module_of}
 use Rattle.wa_types.specs.Typing.{Around, Types, sig, listed, Sig, moves, leaves, drops, selects, Takes}
 use Rattle.wa_types.proofs.ViewLemmas.{in_block, in_loop, in_if}
-use Rattle.validate_modules.specs.Asks as D
-use Rattle.validate_modules.specs.Table.{sig_of, tested}
-use Rattle.validate_modules.specs.Table.{plain_of, Says}
-use Rattle.validate_modules.specs.Walk.{left_at, Walk, outset, Stays, Inside, CanTake, own_at, under_at, around_or, standing}
+use Rattle.validate_bodies.specs.declared.table.Asks as D
+use Rattle.validate_bodies.specs.Table.{sig_of, tested, plain_of, Says}
+use Rattle.wasm_validate.specs.Walk.{left_at, Walk, outset, Stays, Inside, CanTake, own_at, under_at, around_or, standing}
 use Rattle.wa_types.specs.Leaves.{is_leaf}
 use Rattle.wa_types.specs.Modules.{around}
-use Rattle.wa_types.specs.Syntax.{Func}
 use Rattle.wa_types.specs.declared.syntax.Module.{Module as ModuleValue}
-use Rattle.wa_types.specs.View.{module_of}
-use Rattle.validate_modules.proofs.LabelLemmas.{reverse_listed}
-use Rattle.validate_modules.proofs.InstrKinds.{is_block, is_loop, is_branch, is_plain, leaf_kind}
+use Rattle.validate_bodies.proofs.LabelLemmas.{reverse_listed}
+use Rattle.validate_bodies.proofs.InstrKinds.{is_block, is_loop, is_branch, is_plain, leaf_kind}
 
 rest_of : (ys : List ValType) (n : ℕ) → n ≤ length ys → reverse (take (length ys - n) ys) ≡ drop n (reverse ys)
 rest_of ys n le =

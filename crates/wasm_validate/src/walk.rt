@@ -7,12 +7,13 @@ ghost use Rattle.wa_types.specs.Syntax.{done, Func as PlainFunc};
 ghost use Rattle.wa_types.specs.Typing.{Takes, Types};
 ghost use Rattle.wa_types.specs.View.{func_type_of, in_front, module_of};
 ghost use Rattle.wa_types.specs.Leaves.{is_leaf};
-ghost use Rattle.validate_modules.specs.Table.{sig_of, tested};
-ghost use Rattle.validate_modules.specs.Walk.{left_at, outset, own_at, under_at, CanTake, Inside, Stays, TypedAt};
+ghost use Rattle.validate_bodies.specs.Table.{sig_of, tested};
+ghost use Rattle.wasm_validate.specs.Walk.{left_at, outset, own_at, under_at, CanTake, Inside, Stays, TypedAt};
 
 use std::alloc::{AllocError, Global};
 use std::marker::Model;
-use validate_modules::{Asks, Valid, asks_at, listing};
+use validate_bodies::{Asks, asks_at, listing};
+use crate::valid::Valid;
 use wa_types::{FuncType, Instr, ValType};
 
 /// A walk of the types of operands over the pruned body of a function. Contracts see where it stands: what stands
@@ -29,7 +30,7 @@ pub struct Typing<'m> {
 
 impl<'m> Model for Typing<'m> {
     ghost use Rattle.std.specs.Prelude.{◌<◌, ◌≤◌, length};
-    ghost use Rattle.validate_modules.specs.Walk.{standing, Walk};
+    ghost use Rattle.wasm_validate.specs.Walk.{standing, Walk};
 
     ghost Value = { Walk };
 

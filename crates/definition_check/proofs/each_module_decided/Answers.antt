@@ -1,4 +1,4 @@
-use Rattle.wasm_validate.proofs.Decided.{module_decided}
+use Rattle.validate_bodies.proofs.Decided.{module_decided}
 use Rattle.definition_check.proofs.each_module_decided.Goals as goal
 
 pub returns : goal.returns

@@ -1,7 +1,7 @@
 use Rattle.definition_check.specs.Faults.{module_cases}
 use Rattle.std.proofs.Common.{refl}
 use Rattle.wa_types.specs.FirstFault.{size}
-use Rattle.wasm_validate.specs.Running.{checks}
+use Rattle.validate_bodies.specs.Running.{checks}
 use Rattle.definition_check.proofs.CaseLemmas.{all_say}
 use Rattle.definition_check.proofs.rules_outside_bodies.Goals as goal
 

@@ -1,4 +1,4 @@
-use Rattle.wasm_validate.proofs.BodyVerdicts.{passes_typed, fails_fault}
+use Rattle.validate_bodies.proofs.BodyVerdicts.{passes_typed, fails_fault}
 use Rattle.definition_check.proofs.verdict_is_typing.Goals as goal
 
 pub returns : goal.returns

@@ -2,7 +2,7 @@ use Rattle.std.proofs.Common.{sym, ◌∙◌}
 use Rattle.wa_types.specs.declared.syntax.Import.{Import}
 use Rattle.wa_types.specs.Modules.{imported_func}
 use Rattle.wa_types.specs.Pausing.{listed_import, joined_name}
-use Rattle.wasm_validate.proofs.SpaceLemmas.{fm_some, fm_none, fm_end}
+use Rattle.validate_bodies.proofs.SpaceLemmas.{fm_some, fm_none, fm_end}
 use Rattle.import_lists.proofs.IndexLemmas.{marked, unmarked}
 use Rattle.import_lists.proofs.imports.marks_of.Goals as goal
 
