@@ -1,13 +1,14 @@
 //! Which functions of a module may pause.
 
 ghost use Rattle.std.specs.Prelude.{IfOk};
-ghost use Rattle.import_lists.specs.Settings.{settings_of};
+ghost use Rattle.call_graph.specs.Settings.{settings_of};
 ghost use Rattle.wa_types.specs.Pausing.{TellsMayPause};
 ghost use Rattle.wa_types.specs.View.{module_of};
 
 use crate::callers::Graph;
 use crate::spread::spread;
-use import_lists::{Settings, listed_imports};
+use crate::settings::Settings;
+use crate::imports::listed_imports;
 use std::alloc::{AllocError, Global};
 use wasm_validate::Valid;
 

@@ -6,7 +6,7 @@ use Rattle.wa_types.specs.declared.syntax.Module.{Module as ModuleValue}
 use Rattle.wa_types.specs.View.{module_of}
 use Rattle.wa_types.specs.Modules.{func_imports}
 use Rattle.wa_types.specs.Pausing.{TellsMayPause}
-use Rattle.import_lists.specs.Settings.{settings_of}
+use Rattle.call_graph.specs.Settings.{settings_of}
 use Rattle.call_graph.specs.Graph.{callers_at, Reached}
 use Rattle.call_graph.specs.Callers.{CallsGathered}
 use Rattle.call_graph.proofs.GraphLemmas.{listed_count, caller_within, reached_may_pause}
