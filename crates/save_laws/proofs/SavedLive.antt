@@ -1,6 +1,5 @@
 -- What a flat function's call keeps is what the policy `live` saves.
-use Rattle.std.proofs.Common.{◌≡◌, ◌∙◌, ℕ, zero, suc, ◌+◌, ◌<◌, ◌≤◌, ◌↔◌, ◌⊎◌, inl, inr, List, [], ◌∷◌, ◌++◌, length, map, reverse, get_or, Option, Some, None, Bool, true, false, ◌||◌, refl}
-use Rattle.std.proofs.Common.{sym, ap, subst, arith, length-append}
+use Rattle.std.proofs.Common.{◌≡◌, ◌∙◌, ℕ, zero, suc, ◌+◌, ◌<◌, ◌≤◌, ◌↔◌, ◌⊎◌, inl, inr, List, [], ◌∷◌, ◌++◌, length, map, reverse, get_or, Option, Some, None, Bool, true, false, ◌||◌, refl, sym, ap, subst, arith, length-append}
 use Rattle.std.specs.Prelude.{slice_get, nat_eq}
 use Rattle.std.specs.Option.{option_map}
 use Rattle.std.proofs.lemmas.Bool.{ne_eqb}
@@ -29,8 +28,8 @@ use Rattle.flat_rules.specs.OwnUses.{uses}
 use Rattle.flat_rules.proofs.OwnLemmas.{own_uses}
 use Rattle.flat_rules.proofs.PrunedFlat.{whole_flat, whole_result}
 use Rattle.flat_rules.proofs.StackReads.{stack_reads}
-use Rattle.live_behind.specs.Lives.{lives}
-use Rattle.live_behind.proofs.LiveLemmas.{told_calls}
+use Rattle.frame_sizes.specs.Lives.{lives}
+use Rattle.frame_sizes.proofs.LiveLemmas.{told_calls}
 use Rattle.slot_laws.proofs.SavedOperands.{operands_saved, slots_once}
 use Rattle.live_locals.specs.LiveAt.{KeepsAt, OnStack, ReadBehind}
 use Rattle.save_laws.specs.LiveSaved.{LiveIsSaved}
