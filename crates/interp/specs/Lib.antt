@@ -1,4 +1,4 @@
-pub use Rattle.interp_make.specs.Faults
+pub use Rattle.interp_state.specs.Faults
 pub mod Host
 pub mod Instance
 pub mod Runs

@@ -14,7 +14,7 @@ ghost use Rattle.interp.specs.WaitRooms.{WaitRoom, wait_prop};
 use crate::go_on::{call_from_outside, go_on};
 use crate::run::Steps;
 use crate::turns::{Turn, Wait};
-use interp_make::{MakeFault, open};
+use interp_state::{MakeFault, open};
 use interp_reduce::{Program, Store, all_memories, make_program};
 use std::alloc::{AllocError, Global};
 use std::mem;
@@ -37,7 +37,7 @@ pub struct Instance<'m> {
 
 impl<'m> Instance<'m> {
     ghost use Rattle.interp.specs.Instance.{Awaits, CallLacks, Calls, FitsAgain, ResumeLacks, Resumes, nothing, waits_of};
-    ghost use Rattle.interp_make.specs.Faults.{FailsAs};
+    ghost use Rattle.interp_state.specs.Faults.{FailsAs};
     ghost use Rattle.wa_types.specs.Modules.{func_sorts, func_type_at, imported, imported_global};
     ghost use Rattle.run_theory.specs.Fitting.{types_of, global_types, results_of, StoreFits};
     ghost use Rattle.wa_types.specs.declared.values.ValType.{ValType};

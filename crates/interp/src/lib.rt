@@ -25,6 +25,6 @@ mod run;
 mod turns;
 
 pub use instance::Instance;
-pub use interp_make::MakeFault;
+pub use interp_state::MakeFault;
 pub use run::Steps;
 pub use turns::Turn;

@@ -9,10 +9,10 @@ use Rattle.wa_model.specs.Configuration.{Activation, running}
 use Rattle.wa_model.specs.Configuration as C
 use Rattle.wa_model.specs.Step.{Next, steps, keep, leave, jump, result_count, with_number}
 use Rattle.interp_jumps.specs.Told.{IsUnpaid}
-use Rattle.interp_program.specs.Label.{Label}
-use Rattle.interp_program.specs.Label.TheVariants as L
-use Rattle.interp_program.specs.View.{count_of, label_of}
-use Rattle.interp_program.proofs.OperandLemmas.{carried, handed, keep_is, none_carried, top_first, top_value}
+use Rattle.interp_state.specs.declared.activation.Label.{Label}
+use Rattle.interp_state.specs.declared.activation.Label.TheVariants as L
+use Rattle.interp_state.specs.View.{count_of, label_of}
+use Rattle.interp_state.proofs.OperandLemmas.{carried, handed, keep_is, none_carried, top_first, top_value}
 
 leave_unpaid : (more : ℕ) (s : Store) (ops : List Value) (arity : ℕ) (under : List Activation) (left : ℕ) → left ≤ more → IsUnpaid (leave more s ops arity under) left
 leave_unpaid more s ops arity [] left h = h

@@ -10,7 +10,7 @@ use Rattle.wa_model.specs.Store.{Store}
 use Rattle.wa_model.specs.Configuration.{Label, Activation}
 use Rattle.wa_model.specs.Step.{Next, stuck, traps, with_number, through, invoke, param_count, same_func_type, step_plain}
 use Rattle.interp_jumps.specs.Stacks.{HasNumber, LacksNumber}
-use Rattle.interp_program.proofs.OperandLemmas.{last_is, top_first}
+use Rattle.interp_state.proofs.OperandLemmas.{last_is, top_first}
 
 first_number : (ops : List Value) (n : ℕ) → slice_get ops 0 ≡ Some (V.I32 n) → ops ≡ V.I32 n ∷ drop 1 ops
 first_number [] n e = cc

@@ -7,12 +7,12 @@ use Rattle.wa_types.specs.View.{in_front, onto, code}
 use Rattle.wa_model.specs.Store.{Store, Did, works, fails, lacks, takes, act}
 use Rattle.wa_model.specs.Configuration.{Label, Activation, Configuration, running}
 use Rattle.wa_model.specs.Step.{Next, steps, traps, stuck, did, memory_max, step_plain}
-use Rattle.interp_program.specs.Flow.{Flow}
-use Rattle.interp_program.specs.Flow.TheVariants.{Moved, Asked, Returned, Trapped, Spent}
-use Rattle.interp_program.specs.Effects.{Effect, worked, trapped, nothing, effect_over, effect, Shows, Unmoved}
-use Rattle.interp_program.specs.Stack.{Stack}
+use Rattle.interp_state.specs.declared.flow.Flow.{Flow}
+use Rattle.interp_state.specs.declared.flow.Flow.TheVariants.{Moved, Asked, Returned, Trapped, Spent}
+use Rattle.interp_state.specs.Effects.{Effect, worked, trapped, nothing, effect_over, effect, Shows, Unmoved}
+use Rattle.interp_state.specs.declared.activation.Stack.{Stack}
 use Rattle.interp_jumps.specs.Stacks.{code_of}
-use Rattle.interp_program.specs.View.{waiting_of, label_of, running_of}
+use Rattle.interp_state.specs.View.{waiting_of, label_of, running_of}
 use Rattle.interp_jumps.specs.Told.{IsUnpaid, Tells}
 
 -- the first instruction of a list

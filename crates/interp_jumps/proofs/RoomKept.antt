@@ -1,6 +1,5 @@
 -- What keeps the room of a stack's activations, and what refutes that room was lacking.
-use Rattle.std.proofs.Common.{arith, ◌≡◌, ℕ, zero, suc, ◌+◌, ◌<◌, ◌≤◌, nat_lt, if◌then◌else◌, Bool, true, false, List, [], ◌∷◌, ◌++◌, length, map, reverse, take, drop, Option, Some, Result}
-use Rattle.std.proofs.Common.{Ok, Err, IfErr, OnOk, IsOk, Vec, Global, vec_capacity, vec_len, refl, sym, ap, ◌∙◌, subst}
+use Rattle.std.proofs.Common.{arith, ◌≡◌, ℕ, zero, suc, ◌+◌, ◌<◌, ◌≤◌, nat_lt, if◌then◌else◌, Bool, true, false, List, [], ◌∷◌, ◌++◌, length, map, reverse, take, drop, Option, Some, Result, Ok, Err, IfErr, OnOk, IsOk, Vec, Global, vec_capacity, vec_len, refl, sym, ap, ◌∙◌, subst}
 use Rattle.std.proofs.lemmas.List.{length-map, length-reverse}
 use Rattle.wa_types.specs.declared.values.ValType.{ValType}
 use Rattle.wa_types.specs.declared.values.Value.{Value}
@@ -20,14 +19,14 @@ use Rattle.run_theory.specs.Heights.{most_operands}
 use Rattle.run_theory.specs.Growth.{Each}
 use Rattle.run_theory.specs.Fitting.{types_of, Fits, NextFits}
 use Rattle.run_theory.proofs.FittingSteps.{heights_within}
-use Rattle.interp_program.specs.Activation.{Activation}
-use Rattle.interp_program.specs.Stack.{Stack}
-use Rattle.interp_program.specs.Waiting.{Waiting}
-use Rattle.interp_program.specs.Rooms.{room_of}
+use Rattle.interp_state.specs.declared.activation.Activation.{Activation}
+use Rattle.interp_state.specs.declared.activation.Stack.{Stack}
+use Rattle.interp_state.specs.declared.activation.Waiting.{Waiting}
+use Rattle.interp_state.specs.Rooms.{room_of}
 use Rattle.interp_jumps.specs.StackRooms.{HasRoom, Reserves, Roomier, StackRoom, TakesMemory, paid_for}
 use Rattle.interp_jumps.specs.Stacks.{leave_of, code_of}
-use Rattle.interp_program.specs.View.{label_of, waiting_of}
-use Rattle.interp_program.proofs.OperandLemmas.{top_first}
+use Rattle.interp_state.specs.View.{label_of, waiting_of}
+use Rattle.interp_state.proofs.OperandLemmas.{top_first}
 use Rattle.interp_jumps.proofs.ReduceLemmas.{with_operands}
 
 abbrev pub WaitsRoom : Module → Waiting → Type 0

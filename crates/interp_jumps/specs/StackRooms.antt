@@ -7,10 +7,10 @@ use Rattle.wa_types.specs.Syntax.{basic, call, call_indirect, memory_grow, Code,
 use Rattle.run_theory.specs.Growth.{Each}
 use Rattle.run_theory.specs.Heights.{most_operands}
 use Rattle.wa_model.specs.Step.{Next, asks}
-use Rattle.interp_program.specs.Activation.{Activation}
-use Rattle.interp_program.specs.Stack.{Stack}
-use Rattle.interp_program.specs.Waiting.{Waiting}
-use Rattle.interp_program.specs.declared.rooms.Room.{Room}
+use Rattle.interp_state.specs.declared.activation.Activation.{Activation}
+use Rattle.interp_state.specs.declared.activation.Stack.{Stack}
+use Rattle.interp_state.specs.declared.activation.Waiting.{Waiting}
+use Rattle.interp_state.specs.declared.rooms.Room.{Room}
 
 -- an activation that has reserved this much
 pub record Reserves (a : Activation) (r : Room) : Type 0 where

@@ -7,9 +7,9 @@ use Rattle.wa_types.specs.Modules.{declared_locals, defined_at}
 use Rattle.wa_types.specs.View.{code}
 use Rattle.wa_model.specs.Store.{Store}
 use Rattle.wa_model.specs.Step.{Next, zero_of, jump, finish, leave, stuck, invoke, with_number, step_plain, step_at}
-use Rattle.interp_program.specs.Activation.{Activation}
-use Rattle.interp_program.specs.Stack.{Stack}
-use Rattle.interp_program.specs.View.{label_of, waiting_of}
+use Rattle.interp_state.specs.declared.activation.Activation.{Activation}
+use Rattle.interp_state.specs.declared.activation.Stack.{Stack}
+use Rattle.interp_state.specs.View.{label_of, waiting_of}
 
 -- the results go to the caller
 abbrev pub leave_of : Store → ℕ → Stack → ℕ → Next

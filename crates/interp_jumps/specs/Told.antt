@@ -5,9 +5,9 @@ use Rattle.wa_model.specs.Store.{Store}
 use Rattle.wa_model.specs.Configuration.{Configuration}
 use Rattle.wa_model.specs.Step.{Next, steps, asks, returns, traps, stuck}
 use Rattle.wa_model.specs.Blocking.{value_of_results}
-use Rattle.interp_program.specs.Flow.{Flow}
-use Rattle.interp_program.specs.Flow.TheVariants.{Moved, Asked, Returned, Trapped, Spent}
-use Rattle.interp_program.specs.View.{taking}
+use Rattle.interp_state.specs.declared.flow.Flow.{Flow}
+use Rattle.interp_state.specs.declared.flow.Flow.TheVariants.{Moved, Asked, Returned, Trapped, Spent}
+use Rattle.interp_state.specs.View.{taking}
 
 -- what comes next costs more than is left, or nothing comes
 abbrev pub IsUnpaid : Next → (left : ℕ) → Type 0

@@ -10,10 +10,10 @@ ghost use Rattle.wa_types.specs.declared.values.ValType.{ValType};
 ghost use Rattle.run_theory.specs.Fitting.{NextFits};
 ghost use Rattle.interp_jumps.specs.StackRooms.{Roomier, StackRoom};
 ghost use Rattle.interp_jumps.specs.Told.{Tells};
-ghost use Rattle.interp_program.specs.View.{running_of};
+ghost use Rattle.interp_state.specs.View.{running_of};
 
 use crate::control::jump;
-use interp_program::{Flow, Label, Program, Stack};
+use interp_state::{Flow, Label, Program, Stack};
 use std::alloc::AllocError;
 use wa_types::{Instr, ValType, Value};
 

@@ -11,9 +11,9 @@ ghost use Rattle.wa_types.specs.declared.values.ValType.{ValType};
 ghost use Rattle.run_theory.specs.Fitting.{NextFits};
 ghost use Rattle.interp_jumps.specs.StackRooms.{StackRoom};
 ghost use Rattle.interp_jumps.specs.Told.{Tells};
-ghost use Rattle.interp_program.specs.View.{count_of, running_of};
+ghost use Rattle.interp_state.specs.View.{count_of, running_of};
 
-use interp_program::{Flow, Label, Program, Stack};
+use interp_state::{Flow, Label, Program, Stack};
 use std::alloc::AllocError;
 use std::mem;
 use wa_types::Value;

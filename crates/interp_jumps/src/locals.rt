@@ -6,9 +6,9 @@ ghost use Rattle.wa_model.specs.Store.{Store};
 ghost use Rattle.interp_jumps.specs.Stacks.{plain_of};
 ghost use Rattle.interp_jumps.specs.StackRooms.{Roomier};
 ghost use Rattle.interp_jumps.specs.Told.{Tells};
-ghost use Rattle.interp_program.specs.View.{running_of};
+ghost use Rattle.interp_state.specs.View.{running_of};
 
-use interp_program::{Flow, Stack, set_at, value_at};
+use interp_state::{Flow, Stack, set_at, value_at};
 use std::alloc::AllocError;
 
 /// `local.get` (standard, section 4.4.3.1).

@@ -1,6 +1,5 @@
 -- What a call takes and makes.
-use Rattle.std.proofs.Common.{arith, ◌≡◌, ℕ, zero, suc, ◌+◌, ◌-◌, ◌<◌, ◌≤◌, List, [], ◌∷◌, ◌++◌, length, map, replicate, reverse, take, drop, get_or, Some, None, if◌then◌else◌, lt-ltb, refl}
-use Rattle.std.proofs.Common.{ap, sym, ◌∙◌, append_assoc, Result, Ok, Err}
+use Rattle.std.proofs.Common.{arith, ◌≡◌, ℕ, zero, suc, ◌+◌, ◌-◌, ◌<◌, ◌≤◌, List, [], ◌∷◌, ◌++◌, length, map, replicate, reverse, take, drop, get_or, Some, None, if◌then◌else◌, lt-ltb, refl, ap, sym, ◌∙◌, append_assoc, Result, Ok, Err}
 use Rattle.std.specs.Prelude.{IsErr, OnOk}
 use Rattle.std.proofs.lemmas.List.{reverse-reverse, length-take-le, drop-take, take_all, take_more, map-append, append-nil, drop-drop, take-take, take-append-drop}
 use Rattle.std.proofs.lemmas.Grind.{flat_map-append}
@@ -14,10 +13,10 @@ use Rattle.wa_model.specs.Store.{Store}
 use Rattle.wa_model.specs.Configuration.{Label, Activation, running, waiting}
 use Rattle.wa_model.specs.Step.{steps, asks, traps, stuck, entered, invoke, zero_of}
 use Rattle.wa_types.specs.View.{code}
-use Rattle.interp_program.specs.Activation.{Activation as Entered}
+use Rattle.interp_state.specs.declared.activation.Activation.{Activation as Entered}
 use Rattle.interp_jumps.specs.Stacks.{IsEntered}
-use Rattle.interp_program.specs.View.{taking, label_of}
-use Rattle.interp_program.proofs.OperandLemmas.{first_reversed, rest_reversed}
+use Rattle.interp_state.specs.View.{taking, label_of}
+use Rattle.interp_state.proofs.OperandLemmas.{first_reversed, rest_reversed}
 
 -- the operands between two places
 pub between : (xs : List Value) (own params : ℕ) → take (length xs - own - (length xs - own - params)) (drop (length xs - own - params) xs) ≡ reverse (take params (drop own (reverse xs)))

@@ -1,5 +1,5 @@
 pub use Rattle.interp_jumps.proofs.RoomKept
-pub use Rattle.interp_program.proofs.OperandLemmas
-pub use Rattle.interp_program.proofs.RoomLemmas
+pub use Rattle.interp_state.proofs.OperandLemmas
+pub use Rattle.interp_state.proofs.RoomLemmas
 pub mod CallLemmas
 pub mod Fronts

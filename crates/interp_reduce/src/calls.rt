@@ -6,13 +6,13 @@ ghost use Rattle.wa_types.specs.Syntax.{call, call_indirect};
 ghost use Rattle.wa_types.specs.View.{func_of, module_of};
 ghost use Rattle.wa_model.specs.Store.{Store};
 ghost use Rattle.wa_model.specs.Step.{zero_of};
-ghost use Rattle.interp_program.specs.Rooms.{room_of};
+ghost use Rattle.interp_state.specs.Rooms.{room_of};
 ghost use Rattle.interp_jumps.specs.StackRooms.{Reserves, StackRoom, paid_for};
 ghost use Rattle.interp_jumps.specs.Stacks.{IsEntered, HasNumber, LacksNumber, invoke_of, plain_of};
 ghost use Rattle.interp_jumps.specs.Told.{Tells};
-ghost use Rattle.interp_program.specs.View.{running_of, store_of};
+ghost use Rattle.interp_state.specs.View.{running_of, store_of};
 
-use interp_program::{Activation, Flow, Program, Stack, Waiting};
+use interp_state::{Activation, Flow, Program, Stack, Waiting};
 use std::alloc::{AllocError, Global};
 use std::mem;
 use wa_types::{Func, Run, Trap, ValType, Value};

@@ -12,5 +12,5 @@ mod calls;
 mod reducing;
 
 pub use calls::{args_of, enter};
-pub use interp_program::{Flow, Program, Stack, Store, all_memories, make_program};
+pub use interp_state::{Flow, Program, Stack, Store, all_memories, make_program};
 pub use reducing::reduce;

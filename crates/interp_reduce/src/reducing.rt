@@ -9,17 +9,14 @@ ghost use Rattle.interp_jumps.specs.Told.{Tells};
 ghost use Rattle.wa_types.specs.declared.values.ValType.{ValType};
 ghost use Rattle.wa_types.specs.Validity.{Valid};
 ghost use Rattle.run_theory.specs.Fitting.{Fits, NextFits};
-ghost use Rattle.interp_program.specs.View.{store_of, running_of};
+ghost use Rattle.interp_state.specs.View.{store_of, running_of};
 
 use crate::calls::{call, call_indirect};
 use interp_jumps::{
     branch_by, branch_if, enter_arm, enter_block, enter_loop, finish, get_local, jump, leave,
     set_local, tee_local,
 };
-use interp_program::{
-    Flow, Program, Stack, Store, choose, constant, drop_top, get_global, load_at, memory_grow,
-    memory_size, numeric, set_global, store_at,
-};
+use interp_state::{Flow, Program, Stack, Store, choose, constant, drop_top, get_global, load_at, memory_grow, memory_size, numeric, set_global, store_at};
 use std::alloc::AllocError;
 use wa_types::{Instr, Trap};
 

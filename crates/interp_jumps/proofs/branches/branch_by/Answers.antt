@@ -4,7 +4,7 @@ use Rattle.wa_types.specs.View.{module_of}
 use Rattle.run_theory.specs.Fitting.{NextFits}
 use Rattle.wa_model.specs.Step.{jump, with_number}
 use Rattle.interp_jumps.specs.Told.{Tells}
-use Rattle.interp_program.specs.View.{label_of, waiting_of, running_of}
+use Rattle.interp_state.specs.View.{label_of, waiting_of, running_of}
 use Rattle.interp_jumps.proofs.JumpLemmas.{table_unpaid}
 use Rattle.interp_jumps.proofs.RoomKept.{roomier}
 use Rattle.interp_jumps.proofs.branches.branch_by.Goals as goal

@@ -7,7 +7,7 @@ use Rattle.run_theory.specs.Fitting.{NextFits}
 use Rattle.wa_model.specs.Step.{steps, jump, choose, with_number}
 use Rattle.interp_jumps.specs.Stacks.{plain_of}
 use Rattle.interp_jumps.specs.Told.{Tells}
-use Rattle.interp_program.specs.View.{label_of, waiting_of, running_of}
+use Rattle.interp_state.specs.View.{label_of, waiting_of, running_of}
 use Rattle.interp_jumps.proofs.RoomKept.{choose_first, roomier}
 use Rattle.interp_jumps.proofs.branches.branch_if.Goals as goal
 

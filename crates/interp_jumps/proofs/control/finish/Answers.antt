@@ -6,7 +6,7 @@ use Rattle.run_theory.specs.Fitting.{NextFits}
 use Rattle.wa_model.specs.Step.{leave, finish}
 use Rattle.interp_jumps.specs.Stacks.{leave_of, finish_of}
 use Rattle.interp_jumps.specs.Told.{Tells}
-use Rattle.interp_program.specs.View.{label_of, waiting_of, running_of}
+use Rattle.interp_state.specs.View.{label_of, waiting_of, running_of}
 use Rattle.interp_jumps.proofs.RoomKept.{roomier}
 use Rattle.interp_jumps.proofs.control.finish.Goals as goal
 

@@ -1,6 +1,6 @@
 use Rattle.std.proofs.Common.{arith, ◌≡◌, ◌-◌, ◌++◌, reverse, take, drop, length, ap, ◌∙◌}
 use Rattle.std.proofs.lemmas.List.{take_all, length-drop}
-use Rattle.interp_program.proofs.OperandLemmas.{handed}
+use Rattle.interp_state.proofs.OperandLemmas.{handed}
 use Rattle.interp_jumps.proofs.control.hand_over.Goals as goal
 
 pub returns-clause-puts : goal.returns-clause-puts

@@ -6,8 +6,8 @@ use Rattle.run_theory.specs.Fitting.{NextFits}
 use Rattle.wa_model.specs.Step.{keep, leave}
 use Rattle.interp_jumps.specs.Stacks.{leave_of, jump_of}
 use Rattle.interp_jumps.specs.Told.{Tells}
-use Rattle.interp_program.specs.View.{count_of, label_of, waiting_of, running_of}
-use Rattle.interp_program.proofs.OperandLemmas.{last_split, keep_is, none_last}
+use Rattle.interp_state.specs.View.{count_of, label_of, waiting_of, running_of}
+use Rattle.interp_state.proofs.OperandLemmas.{last_split, keep_is, none_last}
 use Rattle.interp_jumps.proofs.JumpLemmas.{at_block, at_loop, at_next, at_none}
 use Rattle.interp_jumps.proofs.RoomKept.{err_any, operands_within, roomier}
 use Rattle.interp_jumps.proofs.control.jump.Goals as goal

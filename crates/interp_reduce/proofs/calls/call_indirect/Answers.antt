@@ -3,7 +3,7 @@ use Rattle.std.proofs.lemmas.Result.{IfErr-weaker, IfOk-weaker}
 use Rattle.wa_types.specs.View.{code, module_of}
 use Rattle.interp_jumps.specs.StackRooms.{paid_for}
 use Rattle.interp_jumps.specs.Told.{Tells}
-use Rattle.interp_program.specs.View.{label_of, waiting_of, running_of}
+use Rattle.interp_state.specs.View.{label_of, waiting_of, running_of}
 use Rattle.interp_jumps.proofs.NumberLemmas.{indirect_invokes}
 use Rattle.interp_reduce.proofs.calls.call_indirect.Goals as goal
 

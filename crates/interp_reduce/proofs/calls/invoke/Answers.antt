@@ -8,11 +8,11 @@ use Rattle.wa_model.specs.Configuration as C
 use Rattle.wa_model.specs.Configuration.{Configuration, running, waiting}
 use Rattle.wa_model.specs.Step.{steps, asks, zero_of}
 use Rattle.run_theory.specs.Growth.{Each}
-use Rattle.interp_program.specs.Activation.{Activation}
-use Rattle.interp_program.specs.Rooms.{room_of}
-use Rattle.interp_program.specs.Waiting.{Waiting}
-use Rattle.interp_program.specs.View.{label_of, waiting_of, running_of, taking}
-use Rattle.interp_program.proofs.OperandLemmas.{top_first}
+use Rattle.interp_state.specs.declared.activation.Activation.{Activation}
+use Rattle.interp_state.specs.Rooms.{room_of}
+use Rattle.interp_state.specs.declared.activation.Waiting.{Waiting}
+use Rattle.interp_state.specs.View.{label_of, waiting_of, running_of, taking}
+use Rattle.interp_state.proofs.OperandLemmas.{top_first}
 use Rattle.interp_jumps.specs.StackRooms.{HasRoom, Reserves}
 use Rattle.interp_jumps.proofs.RoomKept.{call_unpaid, each_more, entered_room, err_any}
 use Rattle.interp_reduce.proofs.CallLemmas.{asked_at, entered_at, entered_runs, on_ok_from_err}

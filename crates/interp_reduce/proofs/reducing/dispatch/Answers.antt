@@ -1,21 +1,18 @@
 use Rattle.std.proofs.Common.{ap, sym, ◌∙◌, refl, map, reverse, subst}
 use Rattle.std.proofs.lemmas.Result.{IfOk-weaker, IfErr-weaker}
 use Rattle.wa_types.specs.declared.values.Trap.TheVariants as T
-use Rattle.wa_types.specs.declared.instrs.Instr.TheVariants.{Unreachable, Nop, Drop, Select, Return, MemorySize, MemoryGrow, Const, Num, Br, BrIf, BrTable, Call, CallIndirect, LocalGet}
-use Rattle.wa_types.specs.declared.instrs.Instr.TheVariants.{LocalSet, LocalTee, GlobalGet, GlobalSet, Load, Store, Block, Loop, If}
-use Rattle.wa_types.specs.Syntax.{basic, nop, drop as drop_operand, select, const, num, global_get, global_set, load, store, memory_size, memory_grow, local_get, local_set, local_tee, br}
-use Rattle.wa_types.specs.Syntax.{br_if, br_table, return, unreachable, call, call_indirect, plain, nest, branch, a_block, a_loop}
+use Rattle.wa_types.specs.declared.instrs.Instr.TheVariants.{Unreachable, Nop, Drop, Select, Return, MemorySize, MemoryGrow, Const, Num, Br, BrIf, BrTable, Call, CallIndirect, LocalGet, LocalSet, LocalTee, GlobalGet, GlobalSet, Load, Store, Block, Loop, If}
+use Rattle.wa_types.specs.Syntax.{basic, nop, drop as drop_operand, select, const, num, global_get, global_set, load, store, memory_size, memory_grow, local_get, local_set, local_tee, br, br_if, br_table, return, unreachable, call, call_indirect, plain, nest, branch, a_block, a_loop}
 use Rattle.wa_types.specs.View.{code, module_of}
 use Rattle.wa_types.proofs.ViewLemmas.{in_block, in_loop, in_if, in_br_table}
 use Rattle.run_theory.specs.Fitting.{NextFits}
 use Rattle.wa_model.specs.Step.{memory_max, leave}
-use Rattle.interp_program.specs.Flow.TheVariants.{Moved, Trapped}
-use Rattle.interp_program.specs.Effects.{Shows, effect}
+use Rattle.interp_state.specs.declared.flow.Flow.TheVariants.{Moved, Trapped}
+use Rattle.interp_state.specs.Effects.{Shows, effect}
 use Rattle.interp_jumps.specs.Stacks.{code_of}
 use Rattle.interp_jumps.specs.Told.{Tells}
-use Rattle.interp_program.specs.View.{store_of, running_of, waiting_of}
-use Rattle.interp_reduce.proofs.Fronts.{front_unreachable, front_nop, front_drop, front_select, front_return, front_size, front_grow, front_const, front_num, front_br, front_br_if}
-use Rattle.interp_reduce.proofs.Fronts.{front_call, front_indirect, front_local_get, front_local_set, front_local_tee, front_global_get, front_global_set, front_load, front_store}
+use Rattle.interp_state.specs.View.{store_of, running_of, waiting_of}
+use Rattle.interp_reduce.proofs.Fronts.{front_unreachable, front_nop, front_drop, front_select, front_return, front_size, front_grow, front_const, front_num, front_br, front_br_if, front_call, front_indirect, front_local_get, front_local_set, front_local_tee, front_global_get, front_global_set, front_load, front_store}
 use Rattle.interp_jumps.proofs.ReduceLemmas.{code_arm, basic_arm, if_ok_both}
 use Rattle.interp_jumps.proofs.RoomKept.{arm_lacked, err_any, grow_unpaid, labels_lacked, never_err, ok_any, operands_hold, operands_lacked, refuted_arm, roomier, taking_arm}
 use Rattle.interp_reduce.proofs.reducing.dispatch.Goals as goal

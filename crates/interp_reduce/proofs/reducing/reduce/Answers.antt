@@ -8,7 +8,7 @@ use Rattle.run_theory.specs.Fitting.{NextFits}
 use Rattle.run_theory.proofs.FittingSteps.{steps_fit}
 use Rattle.interp_jumps.specs.Stacks.{code_of}
 use Rattle.interp_jumps.specs.Told.{Tells}
-use Rattle.interp_program.specs.View.{store_of, running_of}
+use Rattle.interp_state.specs.View.{store_of, running_of}
 use Rattle.interp_jumps.proofs.ReduceLemmas.{code_first}
 use Rattle.interp_jumps.proofs.RoomKept.{TakesUnpaid, err_any, ok_any, roomier}
 use Rattle.interp_reduce.proofs.reducing.reduce.Goals as goal
