@@ -9,14 +9,14 @@
 . "$(dirname "$0")/common.sh"
 known="asyncify_app asyncify_cli asyncify_runtime wasm_build call_classes call_graph call_sizes command_line command_shapes command_words
     flat_bodies flat_instrs flat_jumps flat_names flat_pieces flatten frame_sizes func_rewrite gen_command gen_module generated_runs host_moves
-    host_pauses host_setup interp interp_jumps interp_state interp_reduce line_words live_locals live_passes
+    host_pauses host_setup interp interp_state line_words live_locals live_passes
     live_rewrite live_words many_host module_bytes wa_types wasm_reader module_rewrite pause_host plan_parts script_command script_lines
     script_opening script_reader script_setup slim_guesses slim_pieces slim_steps slim_walk source_modules transcript transform_command turn_taking
     unit_pieces validate_bodies wasm_validate vault_port wa_model wa_ops wasm_encode wasm_grammar
     world_hosting"
 old="wa_types file_laws wa_ops page_memory wa_model validate_bodies wasm_validate 
-    interp_state interp_jumps interp_reduce wasm_grammar wasm_build wasm_reader wasm_encode call_graph asyncify_runtime
-    leb_numbers vault_port memory_vaults system_vaults interp asyncify_app asyncify_cli command_words printing source_modules round_trip
+    interp_state interp wasm_grammar wasm_build wasm_reader wasm_encode call_graph asyncify_runtime
+    leb_numbers vault_port memory_vaults system_vaults asyncify_app asyncify_cli command_words printing source_modules round_trip
     definition_check"
 mkdir -p "$bench/out"
 log=$bench/out/gate.log

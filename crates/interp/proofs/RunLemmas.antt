@@ -19,7 +19,7 @@ use Rattle.run_theory.specs.Fitting.{results_of, Fits, NextFits}
 use Rattle.run_theory.proofs.Runs.{leads_on}
 use Rattle.run_theory.proofs.FittingSteps.{steps_fit}
 use Rattle.run_theory.proofs.FittingRuns.{leads_fit, listed_few, outs_few}
-use Rattle.interp_reduce.specs.Told.{IsUnpaid}
+use Rattle.interp.specs.Told.{IsUnpaid}
 
 one_told : (values : List Value) (value : Option Value) → length values ≤ 1 → value ≡ value_of_results values → values ≡ option_to_list value
 one_told [] value h e = ap option_to_list (sym e)

@@ -8,7 +8,7 @@ use Rattle.wa_types.specs.View.{module_of}
 use Rattle.wa_model.specs.Store.{Store, with_memory}
 use Rattle.interp.specs.declared.instance.Instance.{Instance}
 use Rattle.interp.specs.declared.turns.Turn.{Turn}
-use Rattle.interp_reduce.specs.View.{store_of}
+use Rattle.interp_state.specs.View.{store_of}
 use Rattle.interp.specs.Instance.{Waits, waits_of, Calls}
 
 -- its module

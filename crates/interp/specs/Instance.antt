@@ -17,7 +17,7 @@ use Rattle.interp.specs.declared.turns.Turn.TheVariants.{Returned, Trapped, Wait
 use Rattle.interp.specs.declared.turns.Wait as W
 use Rattle.interp.specs.declared.turns.Wait.TheVariants as WV
 use Rattle.interp.specs.Runs.{LacksAt}
-use Rattle.interp_reduce.specs.View.{label_of, waiting_of}
+use Rattle.interp_state.specs.View.{label_of, waiting_of}
 
 -- What waits for the answer of an import: nothing, the host, which called it itself, or an activation with those below it.
 pub data Waits : Type 0 where

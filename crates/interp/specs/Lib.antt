@@ -1,5 +1,7 @@
-pub use Rattle.interp_state.specs.Faults
 pub mod Host
 pub mod Instance
 pub mod Runs
+pub mod StackRooms
+pub mod Stacks
+pub mod Told
 pub mod WaitRooms

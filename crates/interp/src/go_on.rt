@@ -8,14 +8,15 @@ ghost use Rattle.wa_types.specs.View.{module_of};
 ghost use Rattle.wa_model.specs.Step.{memory_max};
 ghost use Rattle.run_theory.specs.Fitting.{types_of, Fits, StoreFits};
 ghost use Rattle.interp.specs.Instance.{CallLacks, Calls, Turns, waits_of};
-ghost use Rattle.interp_reduce.specs.StackRooms.{StackRoom};
+ghost use Rattle.interp.specs.StackRooms.{StackRoom};
 ghost use Rattle.interp.specs.WaitRooms.{WaitRoom};
 ghost use Rattle.interp.specs.Runs.{LacksAt};
-ghost use Rattle.interp_reduce.specs.View.{store_of, running_of};
+ghost use Rattle.interp_state.specs.View.{store_of, running_of};
 
 use crate::run::{Steps, Stop, pay, run};
 use crate::turns::{Turn, Wait};
-use interp_reduce::{Program, Stack, Store, args_of, enter};
+use interp_state::{Program, Stack, Store};
+use crate::calls::{args_of, enter};
 use std::alloc::AllocError;
 use wa_model::Call;
 use wa_types::Value;

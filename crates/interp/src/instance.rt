@@ -14,8 +14,7 @@ ghost use Rattle.interp.specs.WaitRooms.{WaitRoom, wait_prop};
 use crate::go_on::{call_from_outside, go_on};
 use crate::run::Steps;
 use crate::turns::{Turn, Wait};
-use interp_state::{MakeFault, open};
-use interp_reduce::{Program, Store, all_memories, make_program};
+use interp_state::{MakeFault, Program, Store, all_memories, make_program, open};
 use std::alloc::{AllocError, Global};
 use std::mem;
 use wa_types::{Module, Value};
@@ -42,7 +41,7 @@ impl<'m> Instance<'m> {
     ghost use Rattle.run_theory.specs.Fitting.{types_of, global_types, results_of, StoreFits};
     ghost use Rattle.wa_types.specs.declared.values.ValType.{ValType};
     ghost use Rattle.wa_model.specs.Instantiation.{opening, opens};
-    ghost use Rattle.interp_reduce.specs.Rooms.{HasFewInstrs};
+    ghost use Rattle.interp_state.specs.Rooms.{HasFewInstrs};
     ghost use Rattle.interp.specs.Host.{code_in, store_in, waits_in, memory_of, CallsAside, Pokes};
 
     /// An instance of a module whose imported globals have these values, one each of its type, before its start function

@@ -17,10 +17,33 @@
 //! reductions had come, of which all but an import's call is unpaid.
 //!
 //! Read in the order `turns`, `run`, `go_on`, `instance`.
+//!
+//! `branches`, `control`, `locals`: Reductions of the interpreter that touch the running activation's locals, labels and code, or return from it (standard,
+//! sections 4.4.3 and 4.4.5 to 4.4.7).
+//!
+//! A reduction's flow tells what came next, with what it costs past 1 (`specs/Told.antt`). No configuration that fits goes
+//! past the room of its activations (`specs/StackRooms.antt`; `heights_within` of `wa_model`), so none of these takes memory
+//! there.
+//!
+//! Read in the order `locals`, `control`, `branches`.
+//!
+//! `calls`, `reducing`: One reduction of the interpreter (standard, section 4.4).
+//!
+//! `reduce` does one reduction: its flow tells what came next, with what it costs past 1. It answers `Flow::Spent` also where no
+//! reduction is defined; no configuration that fits comes there (`reductions_fit` of `wa_model`). A call leaves what it took on the
+//! caller's operands and counts it, so that a stack that waits shows the operands just before the call. Of code that fits, calls of
+//! defined functions and `memory.grow` alone take memory.
+//!
+//! Read in the order `calls`, `reducing`.
 #![tactic(auto)]
 
+mod branches;
+mod calls;
+mod control;
 mod go_on;
 mod instance;
+mod locals;
+mod reducing;
 mod run;
 mod turns;
 

@@ -51,7 +51,7 @@ impl<'m> Program<'m> {
     ghost use Rattle.wa_model.specs.World.{Device, Program as WorldProgram};
     ghost use Rattle.wa_types.specs.View.{module_of};
     ghost use Rattle.wa_model.specs.Instantiation.{opening, opens};
-    ghost use Rattle.interp.specs.Faults.{FailsAs};
+    ghost use Rattle.interp_state.specs.Faults.{FailsAs};
     ghost use Rattle.interp.specs.Host.{code_in, store_in};
     ghost use Rattle.device_port.specs.Listed.{of_all};
     ghost use Rattle.host_turns.specs.Places.{stands};

@@ -7,7 +7,7 @@ use Rattle.run_theory.proofs.FittingOpenings.{openings_fit}
 use Rattle.interp_state.specs.Faults.{FailsAs}
 use Rattle.interp.specs.Host.{code_in, store_in}
 use Rattle.interp.proofs.FittingTurns.{both_ok}
-use Rattle.interp_reduce.proofs.RoomLemmas.{all_few}
+use Rattle.interp_state.proofs.RoomLemmas.{all_few}
 use Rattle.interp.proofs.instance.Instance.make.Goals as goal
 
 pub returns-clause-err : goal.returns-clause-err

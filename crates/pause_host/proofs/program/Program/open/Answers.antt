@@ -1,7 +1,7 @@
 use Rattle.std.proofs.Common.{sym, ap, ◌∙◌, subst}
 use Rattle.wa_types.specs.View.{module_of}
 use Rattle.wa_model.specs.Instantiation.{opening}
-use Rattle.interp.specs.Faults.{FailsAs}
+use Rattle.interp_state.specs.Faults.{FailsAs}
 use Rattle.pause_host.proofs.program.Program.open.Goals as goal
 
 pub returns-in-Ok-clause-next : goal.returns-in-Ok-clause-next
