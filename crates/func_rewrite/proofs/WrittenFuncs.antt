@@ -16,8 +16,8 @@ use Rattle.wa_types.specs.Validity.{Valid}
 use Rattle.run_theory.specs.Flat.{FlatFunc, code_of, result_got}
 use Rattle.run_theory.specs.FlatFits.{FlatFits, one_run}
 use Rattle.run_theory.specs.FlatView.{flat_func_of}
-use Rattle.flat_fits.proofs.Calls.{calls_stay}
-use Rattle.flat_fits.proofs.Whole.{meets, counted}
+use Rattle.flat_laws.proofs.Calls.{calls_stay}
+use Rattle.flat_laws.proofs.Whole.{meets, counted}
 use Rattle.flat_laws.specs.Flatten.{flattened}
 use Rattle.flat_laws.specs.FlatModule.{extra_types}
 use Rattle.flatten.specs.declared.whole.Flattened.{Flattened}

@@ -1,6 +1,5 @@
 -- What is kept at calls, told exactly.
-use Rattle.std.proofs.Common.{◌≡◌, ◌∙◌, ℕ, zero, suc, ◌-◌, ◌+◌, ◌<◌, ◌≤◌, ◌↔◌, ◌⊎◌, inl, inr, List, [], ◌∷◌, ◌++◌, length, map, get_or, Option, Some, None, Bool, true, false}
-use Rattle.std.proofs.Common.{◌||◌, All, refl, sym, ap, arith, subst}
+use Rattle.std.proofs.Common.{◌≡◌, ◌∙◌, ℕ, zero, suc, ◌-◌, ◌+◌, ◌<◌, ◌≤◌, ◌↔◌, ◌⊎◌, inl, inr, List, [], ◌∷◌, ◌++◌, length, map, get_or, Option, Some, None, Bool, true, false, ◌||◌, All, refl, sym, ap, arith, subst}
 use Rattle.std.specs.Prelude.{Vec, if◌then◌else◌, nat_eq, slice_get}
 use Rattle.std.specs.List.{list_any}
 use Rattle.std.specs.declared.alloc.Global.{Global}
@@ -11,12 +10,11 @@ use Rattle.wa_types.specs.Liveness.{Label, goes_behind, goes_again, Position, po
 use Rattle.wa_types.proofs.LiveLemmas.{live_reads, reads_live}
 use Rattle.wa_model.specs.declared.flat.Operand.{Operand}
 use Rattle.wa_model.specs.declared.flat.Operand.TheVariants.{Local, Const}
-use Rattle.run_theory.specs.Flat.{Stmts, no_more, computes, copies, calls, leaps, leaps_if, leaps_by, nests, decides, halts, FlatFunc, followed_by, got, all_got, set_to, slots_got, last_of}
-use Rattle.run_theory.specs.Flat.{code_of, result_got, body_of}
+use Rattle.run_theory.specs.Flat.{Stmts, no_more, computes, copies, calls, leaps, leaps_if, leaps_by, nests, decides, halts, FlatFunc, followed_by, got, all_got, set_to, slots_got, last_of, code_of, result_got, body_of}
 use Rattle.run_theory.specs.FlatFits.{IsCallCode}
 use Rattle.guard_form.specs.Grouping.{is_place}
 use Rattle.flat_laws.specs.FlatModule.{stacks_in}
-use Rattle.flat_rules.specs.Behind.{Among}
+use Rattle.flat_laws.specs.Behind.{Among}
 use Rattle.flow_rewrite.specs.Emitting.{Rises}
 use Rattle.live_passes.specs.Ops.{IsComputation, OpsFit}
 use Rattle.live_passes.specs.Sets.{has}

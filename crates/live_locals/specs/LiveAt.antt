@@ -4,7 +4,7 @@ use Rattle.std.specs.declared.alloc.Global.{Global}
 use Rattle.wa_types.specs.Liveness.{Position, ReadsFirst, behind_calls}
 use Rattle.run_theory.specs.Flat.{FlatFunc, body_of}
 use Rattle.flat_laws.specs.FlatModule.{stacks_in}
-use Rattle.flat_rules.specs.Behind.{Among}
+use Rattle.flat_laws.specs.Behind.{Among}
 use Rattle.live_passes.specs.Sets.{has}
 
 -- the sets as lists

@@ -23,11 +23,11 @@ use Rattle.run_theory.specs.Flat.{FlatFunc, code_of, body_of, result_got}
 use Rattle.flat_laws.specs.Flatten.{Names, names, place, slot, slots, result_local, result_of, flattened}
 use Rattle.flat_laws.specs.FlatModule.{flat_func, stacks_in}
 use Rattle.flat_laws.proofs.Sizes.{stacks_are_slots}
-use Rattle.flat_rules.specs.Behind.{Among}
-use Rattle.flat_rules.specs.OwnUses.{uses}
-use Rattle.flat_rules.proofs.OwnLemmas.{own_uses}
-use Rattle.flat_rules.proofs.PrunedFlat.{whole_flat, whole_result}
-use Rattle.flat_rules.proofs.StackReads.{stack_reads}
+use Rattle.flat_laws.specs.Behind.{Among}
+use Rattle.flat_laws.specs.OwnUses.{uses}
+use Rattle.flat_laws.proofs.OwnLemmas.{own_uses}
+use Rattle.flat_laws.proofs.PrunedFlat.{whole_flat, whole_result}
+use Rattle.flat_laws.proofs.StackReads.{stack_reads}
 use Rattle.frame_sizes.specs.Lives.{lives}
 use Rattle.frame_sizes.proofs.LiveLemmas.{told_calls}
 use Rattle.slot_laws.proofs.SavedOperands.{operands_saved, slots_once}
@@ -35,7 +35,7 @@ use Rattle.live_locals.specs.LiveAt.{KeepsAt, OnStack, ReadBehind}
 use Rattle.save_laws.specs.LiveSaved.{LiveIsSaved}
 use Rattle.save_laws.proofs.UsesLive.{uses_lives}
 use Rattle.save_laws.proofs.StackSlots.{pair_at, place_found, place_within, slot_among, among_slot, from_reversed}
-use Rattle.flat_rules.proofs.LiveFlat.{among_reversed}
+use Rattle.flat_laws.proofs.LiveFlat.{among_reversed}
 
 -- ---- lists of places
 

@@ -1,6 +1,5 @@
 -- Which slots a call's stack has.
-use Rattle.std.proofs.Common.{◌≡◌, ◌∙◌, ℕ, zero, suc, ◌+◌, ◌<◌, ◌≤◌, ◌⊎◌, inl, inr, List, [], ◌∷◌, ◌++◌, length, reverse, Option, Some, None, Bool, true, false, ◌&&◌, refl, sym, ap, subst}
-use Rattle.std.proofs.Common.{arith, ⊎_elim}
+use Rattle.std.proofs.Common.{◌≡◌, ◌∙◌, ℕ, zero, suc, ◌+◌, ◌<◌, ◌≤◌, ◌⊎◌, inl, inr, List, [], ◌∷◌, ◌++◌, length, reverse, Option, Some, None, Bool, true, false, ◌&&◌, refl, sym, ap, subst, arith, ⊎_elim}
 use Rattle.std.specs.Prelude.{slice_get, nat_eq}
 use Rattle.std.proofs.lemmas.Bool.{cases_lt, eq-eqb}
 use Rattle.std.proofs.lemmas.List.{reverse-append, reverse-reverse, length-reverse}
@@ -10,8 +9,8 @@ use Rattle.wa_types.specs.Encoding.{same_type}
 use Rattle.wa_types.specs.Frames.{Pair, same_pair}
 use Rattle.wa_types.proofs.SlotLemmas.{same_self, reverse_left, reverse_top, own_pair}
 use Rattle.flat_laws.specs.Flatten.{Names, past, place, slot, slots}
-use Rattle.flat_rules.specs.Behind.{Among}
-use Rattle.flat_rules.proofs.LiveFlat.{among_reversed}
+use Rattle.flat_laws.specs.Behind.{Among}
+use Rattle.flat_laws.proofs.LiveFlat.{among_reversed}
 
 -- ---- where a pair stands
 

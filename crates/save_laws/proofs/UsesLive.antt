@@ -7,7 +7,7 @@ use Rattle.wa_types.specs.Pausing.{Callee, callee, is_told}
 use Rattle.wa_types.specs.Syntax.{Plain, basic, local_get, local_set, local_tee, br, br_if, br_table, return, unreachable, call, call_indirect, Shape, a_block, a_loop, Code, done, plain, nest, branch}
 use Rattle.wa_types.specs.Liveness.{live, live_plain, shape_live, told_at}
 use Rattle.frame_sizes.specs.Lives.{lives, label_live, if_called}
-use Rattle.flat_rules.specs.OwnUses.{keep_if, uses, uses_plain}
+use Rattle.flat_laws.specs.OwnUses.{keep_if, uses, uses_plain}
 
 module _ (first y : ℕ) (own_local : y < first) where
   -- the same is told for each label

@@ -4,8 +4,7 @@ use Rattle.std.specs.Prelude.{slice_get, nat_eq}
 use Rattle.std.proofs.lemmas.Bool.{eqb-true}
 use Rattle.std.proofs.lemmas.List.{append_assoc}
 use Rattle.wa_types.specs.declared.values.ValType.{ValType}
-use Rattle.wa_types.specs.Syntax.{Plain, basic, local_get, local_set, local_tee, br, br_if, br_table, return, unreachable, call, call_indirect, a_block, a_loop, Code, done, plain, nest}
-use Rattle.wa_types.specs.Syntax.{branch, Func, Module}
+use Rattle.wa_types.specs.Syntax.{Plain, basic, local_get, local_set, local_tee, br, br_if, br_table, return, unreachable, call, call_indirect, a_block, a_loop, Code, done, plain, nest, branch, Func, Module}
 use Rattle.wa_types.specs.Pruned.{is_last}
 use Rattle.wa_types.specs.Typing.{Around, listed, sig, Takes}
 use Rattle.wa_types.specs.Points.{after}
@@ -20,8 +19,8 @@ use Rattle.flat_laws.specs.FlatModule.{stacks_in}
 use Rattle.flat_laws.specs.Placed.{GoesOn, Good}
 use Rattle.flat_laws.proofs.OperandTypes.{after_all}
 use Rattle.flat_laws.proofs.ValidModules.{Facts}
-use Rattle.flat_rules.specs.Behind.{Among}
-use Rattle.flat_rules.proofs.LiveFlat.{among_reversed, S, AtLabel, Conds, Ends, code_live, call_behind, indirect_behind, arrive_live, inner_conds, label_deeper}
+use Rattle.flat_laws.specs.Behind.{Among}
+use Rattle.flat_laws.proofs.LiveFlat.{among_reversed, S, AtLabel, Conds, Ends, code_live, call_behind, indirect_behind, arrive_live, inner_conds, label_deeper}
 
 -- ---- code without calls
 

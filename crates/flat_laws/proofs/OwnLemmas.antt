@@ -1,6 +1,5 @@
 -- Flat code accesses own locals where its original does.
-use Rattle.std.proofs.Common.{◌≡◌, ◌∙◌, ℕ, zero, suc, ◌+◌, ◌-◌, ◌≤◌, ◌<◌, List, [], ◌∷◌, ◌++◌, length, map, take, drop, reverse, Option, Some, None, Bool, true, false, ◌⊎◌, inl, inr, All}
-use Rattle.std.proofs.Common.{refl, sym, ap, subst, arith, length-append}
+use Rattle.std.proofs.Common.{◌≡◌, ◌∙◌, ℕ, zero, suc, ◌+◌, ◌-◌, ◌≤◌, ◌<◌, List, [], ◌∷◌, ◌++◌, length, map, take, drop, reverse, Option, Some, None, Bool, true, false, ◌⊎◌, inl, inr, All, refl, sym, ap, subst, arith, length-append}
 use Rattle.std.specs.Prelude.{slice_get, if◌then◌else◌}
 use Rattle.std.proofs.lemmas.Bool.{le-ltb, lt-ltb}
 use Rattle.std.proofs.lemmas.List.{append_assoc, reverse-append, length-reverse}
@@ -8,8 +7,7 @@ use Rattle.std.proofs.lemmas.List.Elements.{All-nil, All-cons, All-head, All-tai
 use Rattle.std.proofs.lemmas.Option.{slice_get_within}
 use Rattle.wa_types.specs.declared.values.ValType.{ValType}
 use Rattle.wa_types.specs.declared.values.ValType.TheVariants.{I32}
-use Rattle.wa_types.specs.Syntax.{Basic, Plain, basic, local_get, local_set, local_tee, br, br_if, br_table, return, unreachable, call, call_indirect, a_block, a_loop, Code, done, plain}
-use Rattle.wa_types.specs.Syntax.{nest, branch, FuncType, Func, Module}
+use Rattle.wa_types.specs.Syntax.{Basic, Plain, basic, local_get, local_set, local_tee, br, br_if, br_table, return, unreachable, call, call_indirect, a_block, a_loop, Code, done, plain, nest, branch, FuncType, Func, Module}
 use Rattle.wa_types.specs.Pruned.{is_last, pruned}
 use Rattle.wa_types.specs.Typing.{Around, listed, sig, jump as jump_sig, may_jump, jumps as jumps_sig, calls as calls_sig, calls_at, gets, sets, tees, Takes}
 use Rattle.wa_types.specs.Points.{after}
@@ -24,7 +22,7 @@ use Rattle.flat_laws.specs.Placed.{GoesOn, Good}
 use Rattle.flat_laws.proofs.OperandTypes.{after_all}
 use Rattle.flat_laws.proofs.TableLabels.{AllLabels, table_typed}
 use Rattle.flat_laws.proofs.ValidModules.{good_func}
-use Rattle.flat_rules.specs.OwnUses.{keep_if, uses}
+use Rattle.flat_laws.specs.OwnUses.{keep_if, uses}
 
 all_reversed : (P : ℕ → Type 0) (xs : List ℕ) → All P xs → All P (reverse xs)
 all_reversed P [] a = All-nil P

@@ -12,9 +12,9 @@ use Rattle.run_theory.specs.Flat.{code_of, result_got, body_of}
 use Rattle.flat_laws.specs.Flatten.{names, result_of, flattened}
 use Rattle.flat_laws.specs.FlatModule.{stacks_in, flat_func}
 use Rattle.flat_laws.proofs.ValidModules.{facts, good_func}
-use Rattle.flat_rules.specs.Behind.{Among}
-use Rattle.flat_rules.proofs.PrunedFlat.{whole_flat, whole_result}
-use Rattle.flat_rules.proofs.BehindCalls.{paired_at, body_paired}
+use Rattle.flat_laws.specs.Behind.{Among}
+use Rattle.flat_laws.proofs.PrunedFlat.{whole_flat, whole_result}
+use Rattle.flat_laws.proofs.BehindCalls.{paired_at, body_paired}
 
 no_calls : (ls : List Label) (to : Option ℕ) → behind_calls ls (result_got to) ≡ []
 unfolding behind_calls

@@ -1,7 +1,7 @@
 //! Laws of the locals that flat code accesses. Each is the contract of a function that does nothing.
 
-ghost use Rattle.flat_rules.specs.Behind.{StackAloneIsRead};
-ghost use Rattle.flat_rules.specs.OwnUses.{OwnUsesStay};
+ghost use Rattle.flat_laws.specs.Behind.{StackAloneIsRead};
+ghost use Rattle.flat_laws.specs.OwnUses.{OwnUsesStay};
 
 /// Each access of a parameter or declared local has its place in flat code, among the calls and under the same control, and
 /// there is no other.

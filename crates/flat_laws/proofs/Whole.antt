@@ -20,10 +20,10 @@ use Rattle.flat_laws.specs.Placed.{HasResult}
 use Rattle.flat_laws.proofs.Depths.{flat_is_flat}
 use Rattle.flat_laws.proofs.Sizes.{flat_is_small}
 use Rattle.flat_laws.proofs.ValidModules.{good_func, own_result}
-use Rattle.flat_fits.specs.FlatMeets.{Meets}
-use Rattle.flat_fits.proofs.Calls.{calls_stay}
-use Rattle.flat_fits.proofs.Items.{items_weigh, depth_few, calls_few, body_lists, lists_wider}
-use Rattle.flat_fits.proofs.Statements.{code_fits}
+use Rattle.flat_laws.specs.FlatMeets.{Meets}
+use Rattle.flat_laws.proofs.Calls.{calls_stay}
+use Rattle.flat_laws.proofs.Items.{items_weigh, depth_few, calls_few, body_lists, lists_wider}
+use Rattle.flat_laws.proofs.Statements.{code_fits}
 
 one_of_all : {X : Type 0} (P : X → Type 0) (xs : List X) (i : ℕ) (x : X) → All P xs → slice_get xs i ≡ Some x → P x
 one_of_all P [] i x h e = cc

@@ -1,6 +1,5 @@
 -- What flat code may read before it writes it: slots of the operands that stand there.
-use Rattle.std.proofs.Common.{◌≡◌, ◌∙◌, ℕ, zero, suc, ◌-◌, ◌≤◌, List, [], ◌∷◌, ◌++◌, length, map, take, drop, reverse, Option, Some, None, Bool, true, false, ◌||◌, ◌⊎◌, inl, inr, refl, sym}
-use Rattle.std.proofs.Common.{ap, subst, arith, ⊎_elim}
+use Rattle.std.proofs.Common.{◌≡◌, ◌∙◌, ℕ, zero, suc, ◌-◌, ◌≤◌, List, [], ◌∷◌, ◌++◌, length, map, take, drop, reverse, Option, Some, None, Bool, true, false, ◌||◌, ◌⊎◌, inl, inr, refl, sym, ap, subst, arith, ⊎_elim}
 use Rattle.std.specs.Prelude.{slice_get, nat_eq, not}
 use Rattle.std.specs.List.{list_any}
 use Rattle.std.proofs.lemmas.Bool.{eqb-true, eq-eqb, and_parts}
@@ -8,8 +7,7 @@ use Rattle.std.proofs.lemmas.List.{append_assoc, reverse-append, length-reverse}
 use Rattle.std.proofs.lemmas.Option.{slice_get_within}
 use Rattle.wa_types.specs.declared.values.ValType.{ValType}
 use Rattle.wa_types.specs.declared.values.ValType.TheVariants.{I32}
-use Rattle.wa_types.specs.Syntax.{Basic, Plain, basic, local_get, local_set, local_tee, br, br_if, br_table, return, unreachable, call, call_indirect, a_block, a_loop, Code, done, plain}
-use Rattle.wa_types.specs.Syntax.{nest, branch, FuncType, Func, Module}
+use Rattle.wa_types.specs.Syntax.{Basic, Plain, basic, local_get, local_set, local_tee, br, br_if, br_table, return, unreachable, call, call_indirect, a_block, a_loop, Code, done, plain, nest, branch, FuncType, Func, Module}
 use Rattle.wa_types.specs.Pruned.{is_last}
 use Rattle.wa_types.specs.Typing.{Around, listed, sig, basic_sig, jump as jump_sig, may_jump, jumps as jumps_sig, calls as calls_sig, calls_at, gets, sets, tees, Takes}
 use Rattle.wa_types.specs.Points.{after}
@@ -23,7 +21,7 @@ use Rattle.flat_laws.specs.Placed.{GoesOn, Good}
 use Rattle.flat_laws.proofs.OperandTypes.{after_all}
 use Rattle.flat_laws.proofs.TableLabels.{AllLabels, table_typed}
 use Rattle.flat_laws.proofs.Typing.{exactly, sized}
-use Rattle.flat_rules.specs.Behind.{Among}
+use Rattle.flat_laws.specs.Behind.{Among}
 
 -- ---- lists
 

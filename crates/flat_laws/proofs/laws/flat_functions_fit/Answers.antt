@@ -1,6 +1,6 @@
-use Rattle.flat_fits.proofs.Calls as C
-use Rattle.flat_fits.proofs.Whole as W
-use Rattle.flat_fits.proofs.laws.flat_functions_fit.Goals as goal
+use Rattle.flat_laws.proofs.Calls as C
+use Rattle.flat_laws.proofs.Whole as W
+use Rattle.flat_laws.proofs.laws.flat_functions_fit.Goals as goal
 
 pub returns-clause-meets : goal.returns-clause-meets
 returns-clause-meets c = λ m x f v sizes is few. W.meets m x f v sizes is few

@@ -1,15 +1,12 @@
 -- The statements of good code are in range.
-use Rattle.std.proofs.Common.{◌≡◌, ◌∙◌, ℕ, zero, suc, ◌+◌, ◌-◌, ◌≤◌, ◌<◌, List, [], ◌∷◌, ◌++◌, length, map, take, drop, reverse, Option, Some, None, Bool, true, false, refl, sym, ap, subst}
-use Rattle.std.proofs.Common.{arith, length-append}
+use Rattle.std.proofs.Common.{◌≡◌, ◌∙◌, ℕ, zero, suc, ◌+◌, ◌-◌, ◌≤◌, ◌<◌, List, [], ◌∷◌, ◌++◌, length, map, take, drop, reverse, Option, Some, None, Bool, true, false, refl, sym, ap, subst, arith, length-append}
 use Rattle.std.specs.Prelude.{slice_get, All}
-use Rattle.std.proofs.lemmas.List.{length-reverse, length-map, append_assoc}
+use Rattle.std.proofs.lemmas.List.{length-reverse, length-map, append_assoc, reverse-append}
 use Rattle.std.proofs.lemmas.Option.{slice_get_within}
 use Rattle.std.proofs.lemmas.List.Elements.{All-append, All-take, All-nil, All-cons, All-head, All-tail}
-use Rattle.std.proofs.lemmas.List.{reverse-append}
 use Rattle.wa_types.specs.declared.values.ValType.{ValType}
 use Rattle.wa_types.specs.declared.values.ValType.TheVariants.{I32}
-use Rattle.wa_types.specs.Syntax.{Basic, Plain, basic, local_get, local_set, local_tee, br, br_if, br_table, return, unreachable, call, call_indirect, Shape, a_block, a_loop, Code, done}
-use Rattle.wa_types.specs.Syntax.{plain, nest, branch, FuncType, Func, Module}
+use Rattle.wa_types.specs.Syntax.{Basic, Plain, basic, local_get, local_set, local_tee, br, br_if, br_table, return, unreachable, call, call_indirect, Shape, a_block, a_loop, Code, done, plain, nest, branch, FuncType, Func, Module}
 use Rattle.wa_types.specs.Pruned.{is_last}
 use Rattle.wa_types.specs.Typing.{Around, listed, sig, basic_sig, label, jump as jump_sig, may_jump, jumps as jumps_sig, calls as calls_sig, calls_at, gets, sets, tees, Takes}
 use Rattle.wa_types.specs.Points.{after}
@@ -26,7 +23,7 @@ use Rattle.flat_laws.specs.Placed.{AllIn, HasResult, GoesOn, Good}
 use Rattle.flat_laws.proofs.OperandTypes.{after_all, good_in, take_few, takes_few}
 use Rattle.flat_laws.proofs.TableLabels.{AllLabels, table_typed}
 use Rattle.flat_laws.proofs.Typing.{Have, have_one}
-use Rattle.flat_fits.proofs.Heights.{operands_few}
+use Rattle.flat_laws.proofs.Heights.{operands_few}
 
 all_reversed : (P : ℕ → Type 0) (xs : List ℕ) → All P xs → All P (reverse xs)
 all_reversed P [] a = All-nil P
