@@ -1,4 +1,4 @@
-pub use Rattle.flat_runs.proofs.Whole
+pub use Rattle.flat_laws.proofs.Whole
 pub use Rattle.live_laws.proofs.LiveRelation
 pub use Rattle.live_laws.proofs.SpotSteps
 pub use Rattle.live_laws.proofs.StandingStates

@@ -2,11 +2,11 @@ pub use Rattle.flat_laws.proofs.Depths
 pub use Rattle.flat_laws.proofs.Sizes
 pub use Rattle.flat_laws.proofs.Typing
 pub use Rattle.flat_laws.proofs.ValidModules
-pub use Rattle.flat_runs.proofs.Calls
+pub use Rattle.flat_laws.proofs.Calls
 pub use Rattle.flat_runs.proofs.Slots
 pub use Rattle.flat_runs.proofs.Stretches
 pub use Rattle.flat_runs.proofs.WaitingCalls
-pub use Rattle.flat_runs.proofs.Whole
+pub use Rattle.flat_laws.proofs.Whole
 pub use Rattle.slim_runs.proofs.KeptSizes
 pub use Rattle.slim_runs.proofs.Running
 pub use Rattle.slim_units.proofs.FrontTypes

@@ -10,8 +10,8 @@ use Rattle.wa_model.specs.Blocking.{Note, State, blocking}
 use Rattle.run_theory.specs.Laws.{start_of}
 use Rattle.run_laws.proofs.Seeing.{no_further}
 use Rattle.flat_runs.specs.Beside.{first_of}
-use Rattle.flat_blocking.specs.FlatBlocking.{counts, turn_cost, cost_if, lean_next, LeanCost}
-use Rattle.flat_blocking.proofs.Matching.{lean, lean_on}
+use Rattle.flat_runs.specs.FlatBlocking.{counts, turn_cost, cost_if, lean_next, LeanCost}
+use Rattle.flat_runs.proofs.Matching.{lean, lean_on}
 use Rattle.std.proofs.lemmas.List.Sums.{sum_by-cons}
 
 once_at_most : (b : Bool) (k : ℕ) → sum (cost_if b k) ≤ k

@@ -1,8 +1,8 @@
-use Rattle.flat_blocking.proofs.Lean as L
-use Rattle.flat_blocking.proofs.Whole as W
+use Rattle.flat_runs.proofs.Lean as L
+use Rattle.flat_runs.proofs.Whole as W
 use Rattle.flat_laws.proofs.Sizes as S
 use Rattle.std.proofs.Common.{arith}
-use Rattle.flat_blocking.proofs.laws.runs_are_followed.Goals as goal
+use Rattle.flat_runs.proofs.whole_runs.runs_are_followed.Goals as goal
 
 pub returns-clause-follows : goal.returns-clause-follows
 returns-clause-follows c = λ m which plan os n v fits. W.flat_follows m which plan os v fits n

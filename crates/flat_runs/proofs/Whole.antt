@@ -22,9 +22,9 @@ use Rattle.stack_laws.proofs.SpotRuns.{listed_typed, start_takes_none}
 use Rattle.flat_laws.specs.FlatModule.{flat_module, Flattened}
 use Rattle.flat_laws.proofs.RuntimeModules.{base_is_flattened}
 use Rattle.flat_runs.specs.Beside.{first_of}
-use Rattle.flat_blocking.specs.FlatBlocking.{lean_next, LeanCost, StandAlike}
-use Rattle.flat_blocking.proofs.Matching.{Alike, follows, reaches, events_on}
-use Rattle.flat_blocking.proofs.Standing.{Both, b_between, b_begins, b_halts, EntryTyped, LeftTyped, both_follow}
+use Rattle.flat_runs.specs.FlatBlocking.{lean_next, LeanCost, StandAlike}
+use Rattle.flat_runs.proofs.Matching.{Alike, follows, reaches, events_on}
+use Rattle.flat_runs.proofs.Standing.{Both, b_between, b_begins, b_halts, EntryTyped, LeftTyped, both_follow}
 
 module _ (m : Module) (which : List Bool) (plan : Plan) (os : List Outcome) (v : Valid m) (fits : Fits m plan) where
   abbrev p : Module
