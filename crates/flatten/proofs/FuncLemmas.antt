@@ -20,11 +20,11 @@ use Rattle.wasm_validate.specs.Walk.{outset, TypedAt, Walk}
 use Rattle.validate_bodies.proofs.ContextLemmas.{sort_there}
 use Rattle.wasm_validate.proofs.FuncLemmas.{func_at, number_fits}
 use Rattle.wasm_validate.proofs.WalkUses.{outset_typed}
-use Rattle.flat_survey.specs.Emitting.{SmallTypes, result_at, flat_at}
+use Rattle.flatten.specs.Emitting.{SmallTypes, result_at, flat_at}
 use Rattle.wa_types.specs.declared.values.ValType.{ValType}
 use Rattle.flat_laws.specs.Flatten.{Names, names, flattened, result_of}
 use Rattle.run_theory.specs.Flat.{FlatFunc, Stmts}
-use Rattle.flat_survey.specs.Surveying.{names_at}
+use Rattle.flatten.specs.Surveying.{names_at}
 use Rattle.wa_types.specs.Frames.{Pair, Count}
 
 -- ---- a function of a valid module

@@ -9,8 +9,10 @@ ghost use Rattle.wa_types.specs.View.{module_of};
 ghost use Rattle.flatten.specs.Whole.{FlatAnswer, Flattens};
 
 use crate::fault::FlatFault;
-use flat_names::{all_locals, count_runs};
-use flat_survey::{find_names, flat_body, label_local};
+use crate::locals::{all_locals, count_runs};
+use crate::find::find_names;
+use crate::start::flat_body;
+use crate::constructs::label_local;
 use std::alloc::{AllocError, Global};
 use wa_model::{FlatFunc, FlatModule};
 use wa_types::{FuncType, ValType};

@@ -1,16 +1,14 @@
-use Rattle.std.proofs.Common.{arith, ap, sym, subst, refl, ◌≡◌, ◌+◌, ◌∙◌, length, get_or, [], ◌∷◌}
+use Rattle.std.proofs.Common.{arith, ap, sym, subst, refl, ◌≡◌, ◌+◌, ◌∙◌, length, get_or, [], ◌∷◌, length-append, ◌≤◌}
 use Rattle.wa_types.specs.declared.syntax.Module.{Module as ModuleValue}
 use Rattle.wa_types.specs.Validity.{Valid as IsValid}
 use Rattle.wa_types.specs.Sizes.{SizeRule, code_items}
 use Rattle.wasm_validate.specs.Walk.{Walk, TypedAt}
-use Rattle.flat_survey.specs.Emitting.{SmallTypes}
-use Rattle.std.proofs.Common.{length-append, ◌≤◌}
+use Rattle.flatten.specs.Emitting.{SmallTypes}
 use Rattle.wa_types.specs.Syntax.{Func, FuncType}
 use Rattle.wa_types.specs.Modules.{declared_locals, defined_at, locals_of, type_at}
 use Rattle.wa_types.specs.Frames.{SlotPairs}
 use Rattle.wa_types.specs.View.{module_of, func_of, code}
-use Rattle.flatten.proofs.FuncLemmas.{sort_below, all_few, number_few, defined, begins_typed, small_types, result_is, func_there, type_is, same_names, same_flat, same_result, same_locals}
-use Rattle.flatten.proofs.FuncLemmas.{answered, counted, refused, same_one}
+use Rattle.flatten.proofs.FuncLemmas.{sort_below, all_few, number_few, defined, begins_typed, small_types, result_is, func_there, type_is, same_names, same_flat, same_result, same_locals, answered, counted, refused, same_one}
 use Rattle.flat_laws.specs.Flatten.{Names}
 use Rattle.flatten.proofs.whole.flatten_func.Goals as goal
 

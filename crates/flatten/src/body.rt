@@ -1,0 +1,120 @@
+//! The statements of a body or an arm, instruction by instruction and construct by construct.
+
+ghost use Rattle.std.specs.Prelude.{◌≡◌, ◌+◌, ◌<◌, ◌^◌, [], length, false, true, IfOk, OnOk};
+ghost use Rattle.wa_types.specs.Pruned.{is_last_instr};
+ghost use Rattle.wa_types.specs.Sizes.{code_items};
+ghost use Rattle.wa_types.specs.Syntax.{done};
+ghost use Rattle.wa_types.specs.View.{code, in_front};
+ghost use Rattle.run_theory.specs.FlatView.{stmts};
+ghost use Rattle.wa_types.specs.Leaves.{is_leaf};
+ghost use Rattle.wasm_validate.specs.Walk.{Stays, TypedAt};
+ghost use Rattle.flatten.specs.Emitting.{flat_at, Put, Ready, SmallTypes};
+
+use crate::constructs::{close, open, put_block, put_if, put_loop, restart};
+use crate::position::{Position, pop_slot, put_carry, top_slot};
+use crate::leaves::{basic_result, put_basic, put_br_if, put_get, put_set, put_tee};
+use crate::calls::{put_call, put_call_indirect};
+use crate::jumps::put_last;
+use crate::numbers::Names;
+use std::alloc::AllocError;
+use wa_model::Stmt;
+use wa_types::Instr;
+
+/// The statements of a body, or of an arm.
+#[cycle(body_stmts)]
+pub fn body_stmts(names: &Names, at: &mut Position, body: &[Instr]) -> Result<Vec<Stmt>, AllocError>
+    requires typed { TypedAt at.old.typing (code body.now) }
+    requires ready { Ready names.now at.old }
+    requires small { SmallTypes at.old.typing.around }
+    requires room { length at.old.labels.items + code_items (code body.now) < 2 ^ 32 }
+    requires inside { 0 < length at.old.labels.items }
+    ensures ready { OnOk result (Ready names.now at.new) }
+    ensures stays { OnOk result (Stays at.old.typing at.new.typing) }
+    ensures stmts { IfOk result (λ v. stmts v.items ≡ flat_at names.now at.old.typing (code body.now)) }
+{
+    let mut out = Vec::new(at.alloc);
+    for instr in body {
+        if instr.is_last() {
+            put_last(&mut out, names, at, instr)?;
+            return Ok(out);
+        }
+        put_instr(&mut out, names, at, instr)?;
+    }
+    let from = top_slot(&at.slots);
+    put_carry(&mut out, &at.labels, 0, from)?;
+    Ok(out)
+}
+
+/// Puts what an instruction stands for behind which control goes on.
+#[cycle(body_stmts)]
+fn put_instr(
+    out: &mut Vec<Stmt>,
+    names: &Names,
+    at: &mut Position,
+    instr: &Instr,
+) -> Result<(), AllocError>
+    requires goes_on { is_last_instr instr.now ≡ false }
+    requires typed { TypedAt at.old.typing (in_front instr.now done) }
+    requires ready { Ready names.now at.old }
+    requires small { SmallTypes at.old.typing.around }
+    requires room { length at.old.labels.items + code_items (in_front instr.now done) < 2 ^ 32 }
+    requires inside { 0 < length at.old.labels.items }
+    ensures { OnOk result (Put names.now at.old at.new instr.now out.old.items out.new.items) }
+{
+    match instr {
+        Instr::Block { result, body } => {
+            let outer = open(names, at, instr, *result)?;
+            let inner = body_stmts(names, at, body)?;
+            close(at, *result, outer)?;
+            put_block(out, names, at, inner, *result)
+        }
+        Instr::Loop { result, body } => {
+            let outer = open(names, at, instr, None)?;
+            let inner = body_stmts(names, at, body)?;
+            close(at, *result, outer)?;
+            put_loop(out, names, at, inner, *result)
+        }
+        Instr::If {
+            result,
+            then_arm,
+            else_arm,
+        } => {
+            let cond = pop_slot(&mut at.slots);
+            let outer = open(names, at, instr, *result)?;
+            let first = body_stmts(names, at, then_arm)?;
+            restart(at, outer);
+            let second = body_stmts(names, at, else_arm)?;
+            close(at, *result, outer)?;
+            put_if(out, names, at, cond, first, second, *result)
+        }
+        _ => put_leaf(out, names, at, instr),
+    }
+}
+
+/// Puts what an instruction stands for that holds no other.
+fn put_leaf(
+    out: &mut Vec<Stmt>,
+    names: &Names,
+    at: &mut Position,
+    instr: &Instr,
+) -> Result<(), AllocError>
+    requires leaf { is_leaf instr.now ≡ true }
+    requires goes_on { is_last_instr instr.now ≡ false }
+    requires typed { TypedAt at.old.typing (in_front instr.now done) }
+    requires ready { Ready names.now at.old }
+    requires small { SmallTypes at.old.typing.around }
+    ensures { OnOk result (Put names.now at.old at.new instr.now out.old.items out.new.items) }
+{
+    match instr {
+        Instr::LocalGet(x) => put_get(out, names, at, instr, *x),
+        Instr::LocalSet(x) => put_set(out, names, at, instr, *x),
+        Instr::LocalTee(x) => put_tee(out, names, at, instr, *x),
+        Instr::BrIf(label) => put_br_if(out, names, at, instr, *label),
+        Instr::Call(func) => put_call(out, names, at, instr, *func),
+        Instr::CallIndirect(sort) => put_call_indirect(out, names, at, instr, *sort),
+        _ => match basic_result(instr) {
+            Some(given) => put_basic(out, names, at, instr, given),
+            None => unreachable!(),
+        },
+    }
+}
