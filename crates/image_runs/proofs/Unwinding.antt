@@ -14,8 +14,8 @@ use Rattle.wa_model.specs.Plan.{AnswerFits, Entry, Outcome, given}
 use Rattle.wa_model.specs.Protocol.{Held, busy, calling, give_zero, held_tested, is_running, unwinds, with_words}
 use Rattle.wa_model.specs.Step.{asks, step}
 use Rattle.wa_model.specs.Store.{Store}
-use Rattle.guard_frames.proofs.StoppedStacks.{stops_law}
-use Rattle.guard_frames.specs.Stopped.{Stopped}
+use Rattle.guard_runs.proofs.StoppedStacks.{stops_law}
+use Rattle.guard_runs.specs.Stopped.{Stopped}
 use Rattle.headline_laws.specs.FlatLaw.{AllLocalsFit, FlatAsks, FlatLaw, FlatNext}
 use Rattle.headline_laws.specs.Given.{LetsPause}
 use Rattle.headline_laws.specs.Halts.{PausesKnown}
