@@ -7,7 +7,7 @@
 # minutes together; where all of it passes 300, of the 360 that a run of three hours has on two processors; or where the proof
 # of a crate passes 60 seconds that isn't among those that are known to. The bars hold for a run of all crates.
 . "$(dirname "$0")/common.sh"
-known="asyncify_app asyncify_cli asyncify_runtime wasm_build call_classes call_graph call_sizes command_line command_shapes command_words
+known="asyncify_app asyncify_cli local_spill wasm_build call_classes call_graph call_sizes command_line command_shapes command_words
     flatten flat_pieces frame_sizes func_rewrite gen_command gen_module generated_runs host_moves
     host_pauses host_setup interp interp_state line_words live_locals live_passes
     live_rewrite live_words many_host module_bytes wa_types wasm_reader module_rewrite pause_host plan_parts script_command script_lines
@@ -15,7 +15,7 @@ known="asyncify_app asyncify_cli asyncify_runtime wasm_build call_classes call_g
     unit_pieces validate_bodies wasm_validate vault_port wa_model wa_ops wasm_encode wasm_grammar
     world_hosting"
 old="wa_types file_laws wa_ops page_memory wa_model validate_bodies wasm_validate 
-    interp_state interp wasm_grammar wasm_build wasm_reader wasm_encode call_graph asyncify_runtime
+    interp_state interp wasm_grammar wasm_build wasm_reader wasm_encode call_graph local_spill
     leb_numbers vault_port memory_vaults system_vaults asyncify_app asyncify_cli command_words printing source_modules round_trip
     definition_check"
 mkdir -p "$bench/out"

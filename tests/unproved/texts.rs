@@ -1,6 +1,6 @@
 //! The texts of faults.
 
-use asyncify_runtime::RuntimeFault;
+use local_spill::RuntimeFault;
 use std::test::Fail;
 use wa_types::LimitKind;
 use wasm_encode::EncodeFault;

@@ -21,7 +21,7 @@ use Rattle.flat_laws.proofs.Whole.{meets, counted}
 use Rattle.flat_laws.specs.Flatten.{flattened}
 use Rattle.flat_laws.specs.FlatModule.{extra_types}
 use Rattle.flatten.specs.declared.whole.Flattened.{Flattened}
-use Rattle.asyncify_runtime.specs.Ids.{ids_behind}
+use Rattle.local_spill.specs.Ids.{ids_behind}
 use Rattle.local_spill.specs.Laying.{in_a_row, row_size, saved_local}
 use Rattle.local_spill.specs.Spilling.{SpillIndices, spill_indices, restoring, saving}
 use Rattle.local_spill.specs.declared.RuntimeIds.{RuntimeIds}

@@ -8,7 +8,7 @@ ghost use Rattle.wa_types.specs.Frames.{Count};
 ghost use Rattle.wa_types.specs.Sizes.{StrictSizeRule};
 ghost use Rattle.wa_types.specs.Validity.{Valid as IsValid};
 ghost use Rattle.wa_types.specs.View.{module_of};
-ghost use Rattle.asyncify_runtime.specs.Reserved.{reserved_at};
+ghost use Rattle.local_spill.specs.Reserved.{reserved_at};
 ghost use Rattle.gen_module.specs.Generated.{generated, sleep};
 ghost use Rattle.pause_host.specs.Programs.{FollowsAlone};
 ghost use Rattle.generated_runs.specs.Plans.{PlansRun, run_entry};

@@ -14,7 +14,7 @@ use Rattle.run_theory.specs.FlatFits.{one_run}
 use Rattle.run_theory.specs.FlatView.{flat_func_of}
 use Rattle.flat_laws.specs.Flatten.{flattened}
 use Rattle.func_rewrite.specs.Flattened.{Flattened}
-use Rattle.asyncify_runtime.specs.Ids.{ids_behind}
+use Rattle.local_spill.specs.Ids.{ids_behind}
 use Rattle.local_spill.specs.declared.RuntimeIds.{RuntimeIds}
 use Rattle.guard_form.specs.Guarded.{guard_indices, guarded_body, function_body}
 use Rattle.call_frames.specs.FrameParts.{restoring_by_call, saving_by_call}

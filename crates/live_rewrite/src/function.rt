@@ -9,7 +9,7 @@ ghost use Rattle.wa_types.specs.View.{code, func_of, module_of};
 ghost use Rattle.run_theory.specs.FlatFits.{FlatFits};
 ghost use Rattle.run_theory.specs.FlatView.{flat_func_of};
 ghost use Rattle.call_graph.specs.Settings.{settings_of};
-ghost use Rattle.asyncify_runtime.specs.Ids.{ids_behind};
+ghost use Rattle.local_spill.specs.Ids.{ids_behind};
 ghost use Rattle.call_frames.specs.FrameParts.{restoring_by_call, saving_by_call};
 ghost use Rattle.call_frames.specs.PlainFrames.{frames_of};
 ghost use Rattle.save_laws.specs.Emitting.{Rises};

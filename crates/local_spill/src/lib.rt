@@ -5,19 +5,39 @@
 //! that saves them (`epilogue`); `specs/Spilling.antt` has both instruction by instruction. They go by the places that they
 //! are given, at any offsets: a place that is left out is neither stored nor loaded, and the frame keeps its size.
 //! What this code does stands in `frame_laws`.
+//!
+//! `adding`, `reserving`: The parts that a written module has behind those of the original.
+//!
+//! `add_runtime` appends three types, two globals, five functions and their exports, and a memory where the
+//! module has none. The five functions stand behind the module's own, of which there are `func_space`:
+//!
+//! ```text
+//! asyncify_start_unwind(address)   state 1, address set, test
+//! asyncify_stop_unwind()           state 0, test
+//! asyncify_start_rewind(address)   state 2, address set, test
+//! asyncify_stop_rewind()           state 0, test
+//! asyncify_get_state() -> i32      the state
+//! ```
+//!
+//! The test executes `unreachable` where the location word is greater than the end word. All that the module
+//! had keeps its place and its index. The answer is `with_runtime` of the module (wa_types, specs/Runtime).
 #![tactic(auto)]
 
+mod adding;
 mod frames;
 mod laying;
 mod location;
 mod putting;
+mod reserving;
 mod room;
 mod spilling;
 
+pub use adding::{RuntimeFault, WithRuntime, add_runtime, ids_behind};
 pub use frames::{Layout, Place};
 pub use laying::{layout, width};
 pub use location::put_location_raised;
 pub use putting::{load_of, put_all, put_loaded, put_stored, store_of};
+pub use reserving::{ReservedAt, reserved};
 pub use spilling::{epilogue, prologue};
 
 /// The numbers of the appended parts of a written module.

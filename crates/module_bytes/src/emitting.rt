@@ -10,7 +10,7 @@ ghost use Rattle.wa_types.specs.Validity.{Valid as IsValid};
 ghost use Rattle.wa_types.specs.View.{func_of, module_of};
 ghost use Rattle.wa_types.specs.declared.syntax.Func.{Func as FuncValue};
 ghost use Rattle.call_graph.specs.Settings.{settings_of};
-ghost use Rattle.asyncify_runtime.specs.Ids.{ids_behind};
+ghost use Rattle.local_spill.specs.Ids.{ids_behind};
 ghost use Rattle.module_rewrite.specs.Frames.{IsFlattened};
 ghost use Rattle.live_bytes.specs.PolicyBytes.{IsShortEntry};
 ghost use Rattle.live_bytes.specs.EmittedAs.{IsWritten};

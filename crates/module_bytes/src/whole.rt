@@ -5,14 +5,14 @@ ghost use Rattle.wa_types.specs.Encoding.{Enc};
 ghost use Rattle.wa_types.specs.Runtime.{func_space, global_space, with_runtime};
 ghost use Rattle.wa_types.specs.Sizes.{StrictSizeRule};
 ghost use Rattle.wa_types.specs.View.{module_of};
-ghost use Rattle.asyncify_runtime.specs.Reserved.{reserved_at};
+ghost use Rattle.local_spill.specs.Reserved.{reserved_at};
 ghost use Rattle.call_graph.specs.Settings.{settings_of};
 ghost use Rattle.module_bytes.specs.declared.fault.EmitFault.TheVariants.{Memory};
 ghost use Rattle.module_bytes.specs.Whole.{EmitsModule};
 
 use crate::emitting::{emit_funcs, put_funcs};
 use crate::fault::EmitFault;
-use asyncify_runtime::{RuntimeFault, add_runtime, ids_behind};
+use local_spill::{RuntimeFault, add_runtime, ids_behind};
 use bytes::BytesMut;
 use call_graph::{Settings, listed_imports, may_pause};
 use std::alloc::Global;

@@ -14,7 +14,7 @@ use Rattle.live_rewrite.specs.Whole.{NonePasses}
 use Rattle.live_rewrite.specs.Sizes.{FewWritten}
 use Rattle.live_rewrite.proofs.EmittedBy.{sort_of}
 use Rattle.live_rewrite.specs.EmittedAs.{AreEmitted}
-use Rattle.asyncify_runtime.specs.Reserved.{reserved_at}
+use Rattle.local_spill.specs.Reserved.{reserved_at}
 use Rattle.module_rewrite.specs.Emitting.{Emits}
 use Rattle.module_rewrite.specs.Whole.{Asyncifies}
 use Rattle.module_rewrite.specs.declared.fault.RewriteFault.{RewriteFault}

@@ -5,7 +5,7 @@ use Rattle.wa_types.specs.Pausing.{Settings, TellsMayPause}
 use Rattle.wa_types.specs.Syntax.{Module}
 use Rattle.wa_types.specs.View.{module_of}
 use Rattle.wa_model.specs.Rewrites.{Rewrites}
-use Rattle.asyncify_runtime.specs.Reserved.{reserved_at}
+use Rattle.local_spill.specs.Reserved.{reserved_at}
 use Rattle.live_rewrite.specs.Whole.{NonePasses, FirstPasses}
 use Rattle.live_rewrite.specs.EmittedAs.{EmittedAs}
 use Rattle.live_rewrite.specs.PolicyLaws.{EachReadsFew}

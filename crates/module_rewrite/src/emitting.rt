@@ -6,7 +6,7 @@ ghost use Rattle.wa_types.specs.Pausing.{Listed};
 ghost use Rattle.wa_types.specs.Sizes.{StrictSizeRule};
 ghost use Rattle.wa_types.specs.View.{func_of, module_of};
 ghost use Rattle.call_graph.specs.Settings.{settings_of};
-ghost use Rattle.asyncify_runtime.specs.Ids.{ids_behind};
+ghost use Rattle.local_spill.specs.Ids.{ids_behind};
 ghost use Rattle.live_rewrite.specs.Frames.{IsFlattened};
 ghost use Rattle.wa_types.specs.Validity.{Valid as IsValid};
 ghost use Rattle.module_rewrite.specs.Emitting.{Emits, PutKept, PutWritten};

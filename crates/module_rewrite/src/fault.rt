@@ -1,6 +1,6 @@
 //! Why a module wasn't rewritten.
 
-use asyncify_runtime::ReservedAt;
+use local_spill::ReservedAt;
 use live_rewrite::FlatFault;
 use std::alloc::AllocError;
 use thiserror::Error;

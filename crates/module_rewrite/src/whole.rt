@@ -5,14 +5,14 @@ ghost use Rattle.wa_types.specs.Runtime.{func_space, global_space, with_runtime}
 ghost use Rattle.wa_types.specs.Sizes.{SizeRule, StrictSizeRule};
 ghost use Rattle.wa_types.specs.Validity.{Valid as IsValid};
 ghost use Rattle.wa_types.specs.View.{module_of};
-ghost use Rattle.asyncify_runtime.specs.Reserved.{reserved_at};
+ghost use Rattle.local_spill.specs.Reserved.{reserved_at};
 ghost use Rattle.call_graph.specs.Settings.{settings_of};
 ghost use Rattle.module_rewrite.specs.declared.fault.RewriteFault.TheVariants.{Memory};
 ghost use Rattle.module_rewrite.specs.Whole.{Asyncifies};
 
 use crate::emitting::{FuncLayout, emit_funcs};
 use crate::fault::RewriteFault;
-use asyncify_runtime::{RuntimeFault, add_runtime, ids_behind, reserved};
+use local_spill::{RuntimeFault, add_runtime, ids_behind, reserved};
 use call_graph::{Settings, listed_imports, may_pause};
 use wa_types::{Module, copy_around};
 use std::alloc::Global;

@@ -9,15 +9,14 @@ use Rattle.wa_types.specs.Pausing.{Settings, TellsMayPause}
 use Rattle.wa_types.specs.Syntax.{Module}
 use Rattle.wa_types.proofs.FaultLemmas.{one_first_fault, valid_no_fault}
 use Rattle.slot_laws.proofs.Closed.{one_list}
-use Rattle.asyncify_runtime.specs.declared.reserving.ReservedAt.{ReservedAt}
-use Rattle.asyncify_runtime.specs.Reserved.{reserved_at}
+use Rattle.local_spill.specs.declared.reserving.ReservedAt.{ReservedAt}
+use Rattle.local_spill.specs.Reserved.{reserved_at}
 use Rattle.script_model.specs.Transcript as T
 use Rattle.script_model.specs.Transcript.{Refusal}
 use Rattle.wasm_reader.specs.declared.read_fault.ReadFault.{ReadFault}
 use Rattle.wasm_reader.specs.declared.read_fault.ReadFault.TheVariants.{Memory, Malformed, Float, Deep, Limit}
 use Rattle.wasm_reader.specs.Answers.{IsAccepted, IsRefused}
-use Rattle.script_opening.specs.Sources.{Cause, malformed, float, deep, limit, reserved, invalid, rewritten_locals, long_output}
-use Rattle.script_opening.specs.Sources.{IsFree, IsRefusedFor, IsValidSource, refusal_for, reserved_name, rewritten_counts}
+use Rattle.script_opening.specs.Sources.{Cause, malformed, float, deep, limit, reserved, invalid, rewritten_locals, long_output, IsFree, IsRefusedFor, IsValidSource, refusal_for, reserved_name, rewritten_counts}
 use Rattle.script_opening.specs.Playing.{IsUnwritten}
 use Rattle.script_verdicts.proofs.OneRead.{accepted_passes, one_accepted, one_read_fault}
 use Rattle.script_verdicts.proofs.Prepared.{refusal_of_read}

@@ -26,7 +26,7 @@ use Rattle.module_bytes.proofs.BytesByPolicy.{prepared_as, spelled_as}
 use Rattle.module_bytes.specs.EmittedAs.{EmittedAs}
 use Rattle.module_bytes.specs.PolicyLaws.{CanBeEmitted}
 use Rattle.module_bytes.proofs.Numbers.{functions_counted}
-use Rattle.asyncify_runtime.specs.Reserved.{reserved_at}
+use Rattle.local_spill.specs.Reserved.{reserved_at}
 use Rattle.module_bytes.specs.RewriteFault.{RewriteFault}
 use Rattle.module_bytes.specs.RewriteFault.TheVariants.{Memory as rewrite_memory, Locals as rewrite_locals, Reserved as rewrite_reserved}
 use Rattle.module_bytes.specs.ModuleWhole.{Asyncifies}

@@ -21,9 +21,9 @@ use Rattle.script_model.specs.Transcript.{Refusal}
 use Rattle.wasm_reader.specs.declared.read_fault.ReadFault.TheVariants.{Malformed, Float, Deep, Limit}
 use Rattle.wasm_reader.specs.Answers.{IsAccepted, IsRefused}
 use Rattle.wasm_reader.specs.Held.{Holds}
-use Rattle.asyncify_runtime.specs.declared.reserving.ReservedAt.{ReservedAt}
-use Rattle.asyncify_runtime.specs.declared.reserving.ReservedAt.TheVariants.{Import as at_import, Export as at_export}
-use Rattle.asyncify_runtime.specs.Reserved.{reserved_at}
+use Rattle.local_spill.specs.declared.reserving.ReservedAt.{ReservedAt}
+use Rattle.local_spill.specs.declared.reserving.ReservedAt.TheVariants.{Import as at_import, Export as at_export}
+use Rattle.local_spill.specs.Reserved.{reserved_at}
 use Rattle.module_bytes.specs.EmittedAs.{EmittedAs}
 
 -- The bytes spell this module, without a float and within the limits of a source module, under no reserved name.

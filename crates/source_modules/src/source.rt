@@ -10,14 +10,14 @@ ghost use Rattle.wa_types.specs.Pausing.{Settings as Chosen};
 ghost use Rattle.wa_types.specs.Sizes.{SizeRule};
 ghost use Rattle.wa_types.specs.View.{module_of};
 ghost use Rattle.wasm_reader.specs.Answers.{IsAccepted};
-ghost use Rattle.asyncify_runtime.specs.Reserved.{reserved_at};
+ghost use Rattle.local_spill.specs.Reserved.{reserved_at};
 ghost use Rattle.wasm_reader.specs.Held.{Holds};
 ghost use Rattle.source_modules.specs.declared.source.SourceFault.TheVariants.{Memory};
 ghost use Rattle.source_modules.specs.Refusals.{IsFaultOf, IsOfEmit, IsOfFile, IsOfRead, IsOfRewrite, IsToldFault, IsUnreserved, IsUnwritten};
 ghost use Rattle.source_modules.specs.Sources.{HoldsValidSource, IsRewritten, IsValidSource, reserved_name};
 
 use crate::refusals::Refusal;
-use asyncify_runtime::{ReservedAt, reserved};
+use local_spill::{ReservedAt, reserved};
 use bytes::BytesMut;
 use call_graph::Settings;
 use module_bytes::{EmitFault, RewriteFault, emit_module};

@@ -20,9 +20,8 @@ use Rattle.file_laws.proofs.OneFault.{fault_spells_none}
 use Rattle.file_laws.proofs.OneModule.{one_module}
 use Rattle.file_laws.proofs.UniqueCode.{one_file}
 use Rattle.wasm_reader.specs.Answers.{IsFile, HasNoFloat, IsAccepted}
-use Rattle.asyncify_runtime.specs.Reserved.{reserved_at}
-use Rattle.source_modules.specs.Sources.{IsFree, IsValidSource, rewritten_counts, IsRewritable, Cause, malformed, float, deep, limit, reserved, invalid, rewritten_locals, long_output}
-use Rattle.source_modules.specs.Sources.{IsRefusedFor, refusal_for}
+use Rattle.local_spill.specs.Reserved.{reserved_at}
+use Rattle.source_modules.specs.Sources.{IsFree, IsValidSource, rewritten_counts, IsRewritable, Cause, malformed, float, deep, limit, reserved, invalid, rewritten_locals, long_output, IsRefusedFor, refusal_for}
 use Rattle.printing.specs.Refused.{status_of}
 use Rattle.transform_command.specs.Ends.{IsLong}
 

@@ -6,7 +6,7 @@ use Rattle.wa_types.specs.Syntax.{Func, Module}
 use Rattle.wa_types.specs.Validity.{Valid}
 use Rattle.wa_types.specs.View.{module_of}
 use Rattle.wa_model.specs.Rewrites.{Rewrites}
-use Rattle.asyncify_runtime.specs.Reserved.{reserved_at}
+use Rattle.local_spill.specs.Reserved.{reserved_at}
 use Rattle.gen_module.proofs.GeneratedModules.{is_small, is_valid}
 use Rattle.generated_runs.specs.Playing.{all_listed}
 use Rattle.generated_runs.proofs.GeneratedLocals.{few_locals, none_reserved}

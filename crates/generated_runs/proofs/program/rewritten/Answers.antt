@@ -3,7 +3,7 @@ use Rattle.wa_types.specs.declared.syntax.Module.{Module as ModuleValue}
 use Rattle.wa_types.specs.View.{module_of}
 use Rattle.wa_types.proofs.FaultLemmas.{valid_no_fault}
 use Rattle.wasm_validate.specs.Validated.{Validates}
-use Rattle.asyncify_runtime.specs.Reserved.{reserved_at}
+use Rattle.local_spill.specs.Reserved.{reserved_at}
 use Rattle.module_rewrite.specs.Whole.{Asyncifies, FirstTooMany, IsAsyncified}
 use Rattle.generated_runs.specs.Playing.{all_listed}
 use Rattle.generated_runs.proofs.Rewritten.{none_too_many, strict_is_wide}

@@ -6,7 +6,7 @@ use Rattle.wa_types.specs.Sizes.{SizeRule}
 use Rattle.wa_types.specs.Validity.{Valid}
 use Rattle.wa_types.specs.View.{func_of, module_of}
 use Rattle.wa_model.specs.Rewrites.{Rewrites}
-use Rattle.asyncify_runtime.specs.Reserved.{reserved_at}
+use Rattle.local_spill.specs.Reserved.{reserved_at}
 use Rattle.call_graph.specs.Settings.{settings_of}
 use Rattle.live_rewrite.specs.EmittedAs.{EmittedAs}
 use Rattle.live_rewrite.specs.PolicyLaws.{CanBeEmitted, EachReadsFew}

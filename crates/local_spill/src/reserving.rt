@@ -2,7 +2,7 @@
 
 ghost use Rattle.std.specs.Prelude.{◌≡◌, ◌<◌, ◌^◌, length};
 ghost use Rattle.wa_types.specs.View.{module_of};
-ghost use Rattle.asyncify_runtime.specs.Reserved.{is_runtime_name, reserved_at, reserved_export, reserved_import};
+ghost use Rattle.local_spill.specs.Reserved.{is_runtime_name, reserved_at, reserved_export, reserved_import};
 
 use wa_types::{Export, Import, Module};
 

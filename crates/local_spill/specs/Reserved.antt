@@ -6,8 +6,8 @@ use Rattle.wa_types.specs.declared.syntax.Import.{Import}
 use Rattle.wa_types.specs.declared.syntax.Export.{Export}
 use Rattle.wa_types.specs.Syntax.{Module}
 use Rattle.wa_types.specs.Runtime.{runtime_names}
-use Rattle.asyncify_runtime.specs.declared.reserving.ReservedAt.{ReservedAt}
-use Rattle.asyncify_runtime.specs.declared.reserving.ReservedAt.TheVariants.{Import as at_import, Export as at_export}
+use Rattle.local_spill.specs.declared.reserving.ReservedAt.{ReservedAt}
+use Rattle.local_spill.specs.declared.reserving.ReservedAt.TheVariants.{Import as at_import, Export as at_export}
 
 -- one of the five names of the exports
 abbrev pub is_runtime_name : List ℕ → Bool

@@ -7,7 +7,7 @@ use Rattle.wa_types.specs.Syntax.{FuncType, Func, GlobalDef, Module}
 use Rattle.wa_types.specs.Modules.{all_memories}
 use Rattle.wa_types.specs.Runtime.{with_runtime, runtime_types, runtime_funcs, runtime_globals, runtime_exports}
 use Rattle.wa_types.specs.Base.{added_memories}
-use Rattle.asyncify_runtime.specs.Ids.{ids_behind}
+use Rattle.local_spill.specs.Ids.{ids_behind}
 
 pub grown : (m : Module) (types : List FuncType) (funcs : List Func) (memories : List Limits) (globals : List GlobalDef) (exports : List Export) (ids : RuntimeIds) (first_type : ℕ) →
     ids ≡ ids_behind m → first_type ≡ length m.types

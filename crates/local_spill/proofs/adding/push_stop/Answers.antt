@@ -2,7 +2,7 @@ use Rattle.std.proofs.Common.{[], ◌∷◌, ◌++◌, map, ap, ◌∙◌}
 use Rattle.std.proofs.lemmas.Result.{on_ok_weaker}
 use Rattle.wa_types.specs.Runtime.{runtime_func, test_code}
 use Rattle.wa_types.specs.View.{func_of, onto, in_front}
-use Rattle.asyncify_runtime.proofs.adding.push_stop.Goals as goal
+use Rattle.local_spill.proofs.adding.push_stop.Goals as goal
 
 pub returns : goal.returns
 unfolding onto in_front

@@ -1,8 +1,8 @@
 use Rattle.std.proofs.Common.{ap}
 use Rattle.wa_types.specs.View.{code, func_of}
 use Rattle.wa_types.specs.Syntax.{Func}
-use Rattle.asyncify_runtime.proofs.Bodies.{map_one}
-use Rattle.asyncify_runtime.proofs.adding.push_func.Goals as goal
+use Rattle.local_spill.proofs.Bodies.{map_one}
+use Rattle.local_spill.proofs.adding.push_func.Goals as goal
 
 pub returns : goal.returns
 returns c =

@@ -1,7 +1,7 @@
 -- The five exports, one behind another.
 use Rattle.std.proofs.lemmas.Result.{on_ok_weaker}
-use Rattle.asyncify_runtime.proofs.Bodies.{five_behind}
-use Rattle.asyncify_runtime.proofs.adding.push_exports.Goals as goal
+use Rattle.local_spill.proofs.Bodies.{five_behind}
+use Rattle.local_spill.proofs.adding.push_exports.Goals as goal
 
 pub returns : goal.returns
 returns c =

@@ -2,8 +2,8 @@ use Rattle.std.proofs.Common.{true, ap}
 use Rattle.wa_types.specs.declared.values.ValType.TheVariants.{I32}
 use Rattle.wa_types.specs.View.{global_of}
 use Rattle.wa_types.specs.Syntax.{GlobalDef}
-use Rattle.asyncify_runtime.proofs.Bodies.{map_one, zero_code}
-use Rattle.asyncify_runtime.proofs.adding.push_zero_global.Goals as goal
+use Rattle.local_spill.proofs.Bodies.{map_one, zero_code}
+use Rattle.local_spill.proofs.adding.push_zero_global.Goals as goal
 
 pub returns : goal.returns
 returns c =

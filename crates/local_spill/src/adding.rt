@@ -5,14 +5,14 @@ ghost use Rattle.wa_types.specs.View.{code, onto, module_of, func_of, global_of,
 ghost use Rattle.std.specs.List.{filter_map, list_any};
 ghost use Rattle.wa_types.specs.Modules.{imported_func, imported_memory, imported_global};
 ghost use Rattle.wa_types.specs.Base.{added_memories};
-ghost use Rattle.wa_types.specs.Runtime.{with_runtime, func_space, global_space, runtime_types, runtime_globals, runtime_funcs, runtime_func, runtime_exports, func_export, zero_global};
-ghost use Rattle.wa_types.specs.Runtime.{start_code, stop_code, test_code};
-ghost use Rattle.asyncify_runtime.specs.Ids.{ids_behind};
-ghost use Rattle.asyncify_runtime.specs.Reserved.{reserved_at};
-ghost use Rattle.asyncify_runtime.specs.declared.adding.RuntimeFault.TheVariants.{Reserved};
+ghost use Rattle.wa_types.specs.Runtime.{with_runtime, func_space, global_space, runtime_types, runtime_globals, runtime_funcs, runtime_func, runtime_exports, func_export, zero_global, start_code, stop_code, test_code};
+ghost use Rattle.local_spill.specs.Ids.{ids_behind};
+ghost use Rattle.local_spill.specs.Reserved.{reserved_at};
+ghost use Rattle.local_spill.specs.declared.adding.RuntimeFault.TheVariants.{Reserved};
 
 use crate::reserving::{ReservedAt, reserved};
-use local_spill::{RuntimeIds, put_all};
+use crate::RuntimeIds;
+use crate::putting::put_all;
 use std::alloc::{AllocError, Global};
 use thiserror::Error;
 use wa_types::{
@@ -31,7 +31,7 @@ pub enum RuntimeFault {
 
 impl From<AllocError> for RuntimeFault {
     ghost use Rattle.std.specs.Prelude.{◌≡◌};
-    ghost use Rattle.asyncify_runtime.specs.declared.adding.RuntimeFault.TheVariants.{Memory};
+    ghost use Rattle.local_spill.specs.declared.adding.RuntimeFault.TheVariants.{Memory};
 
     ghost from_gives = { λ _ e. e ≡ Memory };
 

@@ -3,8 +3,8 @@ use Rattle.std.proofs.Common.{◌≡◌, ◌∙◌, sym, length, arith, ◌<◌}
 use Rattle.std.proofs.lemmas.Grind.{common_steps}
 use Rattle.wa_types.specs.declared.syntax.Import.{Import}
 use Rattle.wa_types.specs.Modules.{imported_memory}
-use Rattle.asyncify_runtime.proofs.Counts.{kept_defined, kept_imported, got_one}
-use Rattle.asyncify_runtime.proofs.adding.add_memory.Goals as goal
+use Rattle.local_spill.proofs.Counts.{kept_defined, kept_imported, got_one}
+use Rattle.local_spill.proofs.adding.add_memory.Goals as goal
 
 pub returns-then-not-is_empty : goal.returns-then-not-is_empty
 returns-then-not-is_empty c =

@@ -4,8 +4,8 @@ use Rattle.wa_types.specs.declared.instrs.Instr.TheVariants.{GlobalGet, Load, Nu
 use Rattle.wa_types.specs.declared.operators.NumOp.TheVariants.{I32GtU}
 use Rattle.wa_types.specs.Syntax.{done}
 use Rattle.wa_types.specs.View.{onto, in_front}
-use Rattle.asyncify_runtime.proofs.Bodies.{code_is, trap_code}
-use Rattle.asyncify_runtime.proofs.adding.with_test.Goals as goal
+use Rattle.local_spill.proofs.Bodies.{code_is, trap_code}
+use Rattle.local_spill.proofs.adding.with_test.Goals as goal
 
 pub returns : goal.returns
 unfolding onto in_front

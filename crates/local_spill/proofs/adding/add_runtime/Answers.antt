@@ -3,8 +3,8 @@ use Rattle.std.proofs.Common.{ap, arith, ◌∙◌, sym}
 use Rattle.std.proofs.lemmas.List.{length-map}
 use Rattle.local_spill.specs.declared.RuntimeIds.{RuntimeIds}
 use Rattle.wa_types.specs.View.{module_of, func_type_of}
-use Rattle.asyncify_runtime.proofs.Grown.{grown}
-use Rattle.asyncify_runtime.proofs.adding.add_runtime.Goals as goal
+use Rattle.local_spill.proofs.Grown.{grown}
+use Rattle.local_spill.proofs.adding.add_runtime.Goals as goal
 
 pub returns-clause-added : goal.returns-clause-added
 returns-clause-added c =

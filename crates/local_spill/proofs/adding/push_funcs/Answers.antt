@@ -3,8 +3,8 @@ use Rattle.std.proofs.Common.{[], ◌∷◌, ◌+◌, ◌++◌, map, ap, ◌∙�
 use Rattle.std.proofs.lemmas.Result.{on_ok_weaker}
 use Rattle.wa_types.specs.View.{func_of}
 use Rattle.wa_types.specs.Runtime.{runtime_func}
-use Rattle.asyncify_runtime.proofs.Bodies.{five_behind, state_code_is}
-use Rattle.asyncify_runtime.proofs.adding.push_funcs.Goals as goal
+use Rattle.local_spill.proofs.Bodies.{five_behind, state_code_is}
+use Rattle.local_spill.proofs.adding.push_funcs.Goals as goal
 
 pub returns : goal.returns
 returns c =
