@@ -8,11 +8,11 @@
 # of a crate passes 60 seconds that isn't among those that are known to. The bars hold for a run of all crates.
 . "$(dirname "$0")/common.sh"
 known="asyncify_app asyncify_cli local_spill wasm_build call_classes call_graph call_sizes command_line command_shapes command_words
-    flatten flat_pieces frame_sizes func_rewrite gen_command gen_module generated_runs host_moves
+    flatten flow_rewrite frame_sizes func_rewrite gen_command gen_module generated_runs host_moves
     host_pauses host_setup interp interp_state line_words live_locals live_passes
     live_rewrite live_words many_host module_bytes wa_types wasm_reader module_rewrite pause_host plan_parts script_command script_lines
     script_opening script_reader script_setup slim_guesses slim_pieces slim_steps slim_walk source_modules transcript transform_command turn_taking
-    unit_pieces validate_bodies wasm_validate vault_port wa_model wa_ops wasm_encode wasm_grammar
+    validate_bodies wasm_validate vault_port wa_model wa_ops wasm_encode wasm_grammar
     world_hosting"
 old="wa_types file_laws wa_ops page_memory wa_model validate_bodies wasm_validate 
     interp_state interp wasm_grammar wasm_build wasm_reader wasm_encode call_graph local_spill

@@ -9,14 +9,14 @@ use Rattle.run_theory.specs.Flat.{FlatFunc}
 use Rattle.run_theory.specs.FlatFits.{StmtsFit, FlatFits}
 use Rattle.guard_form.specs.Pieces.{call_total, first_piece, units}
 use Rattle.guard_form.specs.Guarded.{each_end, GuardIndices, guarded, guarded_code, front}
-use Rattle.flow_calls.specs.declared.guards.Guards.{Guards}
-use Rattle.flow_calls.specs.declared.sequence.Part.{Part}
-use Rattle.flat_pieces.specs.Raising.{Raisable}
-use Rattle.flat_pieces.specs.Putting.{Puts}
-use Rattle.flow_calls.specs.Emitting.{Rises, indices, IsPart, Ready}
-use Rattle.flat_pieces.proofs.StmtLemmas.{if_true, if_false}
-use Rattle.flow_constructs.proofs.ConstructSteps.{part_held, part_plain, part_none, first_is}
-use Rattle.flat_pieces.proofs.FitLemmas.{whole_raisable}
+use Rattle.flow_rewrite.specs.declared.guards.Guards.{Guards}
+use Rattle.flow_rewrite.specs.declared.sequence.Part.{Part}
+use Rattle.flow_rewrite.specs.Raising.{Raisable}
+use Rattle.flow_rewrite.specs.Putting.{Puts}
+use Rattle.flow_rewrite.specs.CallsEmitting.{Rises, indices, IsPart, Ready}
+use Rattle.flow_rewrite.proofs.StmtLemmas.{if_true, if_false}
+use Rattle.flow_rewrite.proofs.ConstructSteps.{part_held, part_plain, part_none, first_is}
+use Rattle.flow_rewrite.proofs.FitLemmas.{whole_raisable}
 
 pub func_ready : (g : Guards) (f : FlatFunc) → g.index ≡ length f.locals → Rises g.numbers.items → FlatFits f → call_total f.body < 2 ^ 32 → Ready g 0 0 0 f.body
 func_ready g f e rises fits room =

@@ -1,6 +1,5 @@
 -- Along the statements of a sequence.
-use Rattle.std.proofs.Common.{◌≡◌, ℕ, suc, ◌+◌, ◌<◌, ◌≤◌, ◌^◌, ◌∷◌, List, [], length, get_or, drop, Option, Some, None, Bool, true, false, Result, Ok, Err, OnOk, IfOk, max, refl, sym, ap}
-use Rattle.std.proofs.Common.{◌∙◌, subst, arith}
+use Rattle.std.proofs.Common.{◌≡◌, ℕ, suc, ◌+◌, ◌<◌, ◌≤◌, ◌^◌, ◌∷◌, List, [], length, get_or, drop, Option, Some, None, Bool, true, false, Result, Ok, Err, OnOk, IfOk, max, refl, sym, ap, ◌∙◌, subst, arith}
 use Rattle.std.specs.Prelude.{◌||◌, if◌then◌else◌}
 use Rattle.std.specs.declared.vec.Vec.{Vec}
 use Rattle.std.specs.declared.alloc.Global.{Global}
@@ -12,24 +11,23 @@ use Rattle.wa_types.proofs.ViewLemmas.{onto_done, onto_none}
 use Rattle.wa_model.specs.declared.flat.Operand.{Operand}
 use Rattle.wa_model.specs.declared.flat.Operand.TheVariants.{Local, Const}
 use Rattle.wa_model.specs.declared.flat.Stmt.{Stmt, roll-Stmt, roll-out-Stmt}
-use Rattle.wa_model.specs.declared.flat.Stmt.TheVariants.{Plain as PlainStmt, Move, Call, Br as BrStmt, BrIf as BrIfStmt, BrTable as BrTableStmt, Block, Loop, If}
-use Rattle.wa_model.specs.declared.flat.Stmt.TheVariants.{Unreachable as UnreachableStmt, Block', Loop', If', rolls-Block, rolls-Loop, rolls-If, outs-Block', outs-Loop', outs-If'}
+use Rattle.wa_model.specs.declared.flat.Stmt.TheVariants.{Plain as PlainStmt, Move, Call, Br as BrStmt, BrIf as BrIfStmt, BrTable as BrTableStmt, Block, Loop, If, Unreachable as UnreachableStmt, Block', Loop', If', rolls-Block, rolls-Loop, rolls-If, outs-Block', outs-Loop', outs-If'}
 use Rattle.run_theory.specs.Flat.{Stmts, no_more, computes, copies, calls, leaps, leaps_if, leaps_by, nests, decides, halts, followed_by, got, all_got, set_to, slots_got, last_of, code_of}
 use Rattle.run_theory.specs.FlatView.{stmt_in_front, stmts}
 use Rattle.run_theory.specs.FlatFits.{StmtsFit}
 use Rattle.wa_types.specs.Leaves.{is_leaf}
-use Rattle.flow_calls.proofs.UnitSteps.{callee_of}
+use Rattle.flow_rewrite.proofs.UnitSteps.{callee_of}
 use Rattle.guard_form.specs.Pieces.{call_to, numbers_in, call_total, holds_call, first_piece, units}
 use Rattle.guard_form.specs.Guarded.{each_end, raised, front}
-use Rattle.flow_calls.specs.declared.guards.Guards.{Guards}
-use Rattle.flow_calls.specs.declared.sequence.Sequence.{Sequence}
-use Rattle.flow_calls.specs.declared.sequence.Part.{Part}
-use Rattle.flat_pieces.specs.Statements.{with_rest, one_code, one_place, one_holds, IsSimple, Fits}
-use Rattle.flat_pieces.specs.Putting.{Puts}
-use Rattle.flow_calls.specs.Emitting.{indices, first_of, written_with, Same, IsPart, Stepped, Ready, ReadyAt, Walked}
-use Rattle.flat_pieces.proofs.StmtLemmas.{if_true, if_false, in_front_is, fits_one, one_plain, leaf_of, stmts_step, stmts_end, call_is, total_with}
-use Rattle.flow_calls.proofs.SequenceLemmas.{raisable_none}
-use Rattle.flow_constructs.proofs.ConstructSteps.{first_is, piece_stepped, numbers_few}
+use Rattle.flow_rewrite.specs.declared.guards.Guards.{Guards}
+use Rattle.flow_rewrite.specs.declared.sequence.Sequence.{Sequence}
+use Rattle.flow_rewrite.specs.declared.sequence.Part.{Part}
+use Rattle.flow_rewrite.specs.Statements.{with_rest, one_code, one_place, one_holds, IsSimple, Fits}
+use Rattle.flow_rewrite.specs.Putting.{Puts}
+use Rattle.flow_rewrite.specs.CallsEmitting.{indices, first_of, written_with, Same, IsPart, Stepped, Ready, ReadyAt, Walked}
+use Rattle.flow_rewrite.proofs.StmtLemmas.{if_true, if_false, in_front_is, fits_one, one_plain, leaf_of, stmts_step, stmts_end, call_is, total_with}
+use Rattle.flow_rewrite.proofs.SequenceLemmas.{raisable_none}
+use Rattle.flow_rewrite.proofs.ConstructSteps.{first_is, piece_stepped, numbers_few}
 
 -- an answer's clause, changed
 pub on_ok : {X E : Type 0} (r : Result X E) (P Q : Type 0) → (P → Q) → OnOk r P → OnOk r Q

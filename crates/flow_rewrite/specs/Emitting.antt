@@ -1,2 +1,2 @@
 -- The places of numbered calls rise.
-pub use Rattle.flow_calls.specs.Emitting.{Rises}
+pub use Rattle.flow_rewrite.specs.CallsEmitting.{Rises}

@@ -10,11 +10,12 @@ ghost use Rattle.run_theory.specs.FlatFits.{FlatFits};
 ghost use Rattle.guard_form.specs.Bounds.{reads, reads_bound};
 ghost use Rattle.guard_form.specs.Guarded.{guarded, guarded_code};
 ghost use Rattle.guard_form.specs.Pieces.{call_total};
-ghost use Rattle.flat_pieces.specs.Raising.{Raisable};
-ghost use Rattle.flow_calls.specs.Emitting.{indices, Rises};
+ghost use Rattle.flow_rewrite.specs.Raising.{Raisable};
+ghost use Rattle.flow_rewrite.specs.CallsEmitting.{indices, Rises};
 
 use crate::write::write_sequence;
-use flow_calls::{Guards, Part, put_guarded};
+use crate::guards::{Guards, put_guarded};
+use crate::sequence::Part;
 use std::alloc::{AllocError, Global};
 use wa_model::FlatFunc;
 use wa_types::{Instr, ValType};

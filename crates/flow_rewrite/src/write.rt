@@ -3,13 +3,15 @@
 ghost use Rattle.std.specs.Prelude.{◌≡◌, IfOk, OnOk};
 ghost use Rattle.run_theory.specs.Flat.{no_more};
 ghost use Rattle.run_theory.specs.FlatView.{stmt_in_front, stmts};
-ghost use Rattle.flat_pieces.specs.Statements.{one_code, IsSimple};
-ghost use Rattle.flat_pieces.specs.Putting.{Puts};
-ghost use Rattle.flow_calls.specs.Emitting.{indices, IsPart, Ready, ReadyAt, Stepped};
+ghost use Rattle.flow_rewrite.specs.Statements.{one_code, IsSimple};
+ghost use Rattle.flow_rewrite.specs.Putting.{Puts};
+ghost use Rattle.flow_rewrite.specs.CallsEmitting.{indices, IsPart, Ready, ReadyAt, Stepped};
 
-use flat_pieces::{put_copy, put_operand, put_operands, put_to};
-use flow_calls::{Guards, Part, Sequence, finish, put_call};
-use flow_constructs::{put_block, put_if, put_loop};
+use crate::put::{put_copy, put_operand, put_operands, put_to};
+use crate::guards::Guards;
+use crate::sequence::{Part, Sequence, finish};
+use crate::units::put_call;
+use crate::constructs::{put_block, put_if, put_loop};
 use std::alloc::{AllocError, Global};
 use wa_model::Stmt;
 use wa_types::Instr;

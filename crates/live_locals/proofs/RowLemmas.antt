@@ -1,6 +1,5 @@
 -- The sets of numbered calls, statement by statement.
-use Rattle.std.proofs.Common.{◌≡◌, ◌∙◌, ℕ, zero, suc, ◌-◌, ◌+◌, ◌<◌, ◌≤◌, List, [], ◌∷◌, ◌++◌, length, reverse, drop, get_or, Option, Bool, true, false, All, refl, sym, ap}
-use Rattle.std.proofs.Common.{arith, subst, length-append}
+use Rattle.std.proofs.Common.{◌≡◌, ◌∙◌, ℕ, zero, suc, ◌-◌, ◌+◌, ◌<◌, ◌≤◌, List, [], ◌∷◌, ◌++◌, length, reverse, drop, get_or, Option, Bool, true, false, All, refl, sym, ap, arith, subst, length-append}
 use Rattle.std.specs.Prelude.{Vec, if◌then◌else◌}
 use Rattle.std.specs.declared.alloc.Global.{Global}
 use Rattle.std.proofs.lemmas.List.{append-nil, append_assoc, map-append, reverse-append}
@@ -9,16 +8,14 @@ use Rattle.wa_types.specs.declared.instrs.Instr.{Instr}
 use Rattle.wa_types.specs.Syntax.{a_block, a_loop, done}
 use Rattle.wa_types.specs.Liveness.{live}
 use Rattle.wa_model.specs.declared.flat.Operand.{Operand}
-use Rattle.wa_model.specs.declared.flat.Stmt.{Stmt}
-use Rattle.wa_model.specs.declared.flat.Stmt.TheVariants.{Plain as PlainStmt, Move, Call as CallStmt, Br as BrStmt, BrIf as BrIfStmt, BrTable as BrTableStmt, Block, Loop, If}
-use Rattle.wa_model.specs.declared.flat.Stmt.TheVariants.{Unreachable as UnreachableStmt, Block', Loop', If', rolls-Block, rolls-Loop, rolls-If, outs-Block', outs-Loop', outs-If'}
-use Rattle.wa_model.specs.declared.flat.Stmt.{roll-Stmt, roll-out-Stmt}
+use Rattle.wa_model.specs.declared.flat.Stmt.{Stmt, roll-Stmt, roll-out-Stmt}
+use Rattle.wa_model.specs.declared.flat.Stmt.TheVariants.{Plain as PlainStmt, Move, Call as CallStmt, Br as BrStmt, BrIf as BrIfStmt, BrTable as BrTableStmt, Block, Loop, If, Unreachable as UnreachableStmt, Block', Loop', If', rolls-Block, rolls-Loop, rolls-If, outs-Block', outs-Loop', outs-If'}
 use Rattle.run_theory.specs.Flat.{Stmts, no_more, computes, copies, calls, leaps, leaps_if, leaps_by, nests, decides, halts, set_to, slots_got, code_of}
 use Rattle.run_theory.specs.FlatView.{stmt_in_front, stmts}
 use Rattle.guard_form.specs.Grouping.{is_place}
 use Rattle.guard_form.specs.Pieces.{call_total}
-use Rattle.flat_pieces.specs.Statements.{with_rest}
-use Rattle.flat_pieces.proofs.StmtLemmas.{in_front_is, stmts_step, stmts_end, total_with, call_is}
+use Rattle.flow_rewrite.specs.Statements.{with_rest}
+use Rattle.flow_rewrite.proofs.StmtLemmas.{in_front_is, stmts_step, stmts_end, total_with, call_is}
 use Rattle.live_passes.specs.Ops.{OpsFit}
 use Rattle.live_passes.specs.Sets.{has, told_of, told_by, TellsBefore, TellsAnywhere, Passed}
 use Rattle.live_locals.specs.Rows.{label_tells, kept, chosen, numbered_from, column, Countable, RowPut, RowsPut}

@@ -10,8 +10,8 @@ use Rattle.wa_model.specs.declared.flat.Operand.TheVariants.{Local, Const}
 use Rattle.wa_model.specs.declared.flat.Stmt.{Stmt}
 use Rattle.run_theory.specs.Flat.{Stmts, no_more, computes, copies, calls, leaps, leaps_if, leaps_by, nests, decides, halts, followed_by, got, all_got, set_to, slots_got, last_of, code_of}
 use Rattle.run_theory.specs.FlatView.{stmt_in_front, stmts}
-use Rattle.flat_pieces.specs.Statements.{with_rest}
-use Rattle.flat_pieces.proofs.StmtLemmas.{in_front_is, stmts_step, stmts_end}
+use Rattle.flow_rewrite.specs.Statements.{with_rest}
+use Rattle.flow_rewrite.proofs.StmtLemmas.{in_front_is, stmts_step, stmts_end}
 use Rattle.live_passes.specs.Ops.{OpsFit}
 use Rattle.live_passes.proofs.SetLemmas.{or_turn}
 

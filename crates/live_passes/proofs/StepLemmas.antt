@@ -4,21 +4,18 @@ use Rattle.std.specs.Prelude.{Vec}
 use Rattle.std.specs.declared.alloc.Global.{Global}
 use Rattle.std.proofs.lemmas.List.{drop_all, get_or_default, take_rest}
 use Rattle.wa_types.specs.declared.instrs.Instr.{Instr}
-use Rattle.wa_types.specs.declared.instrs.Instr.TheVariants.{Unreachable as UnreachableInstr, Nop, Drop, Select, Return, MemorySize, MemoryGrow, Const as ConstInstr, Num, Br as BrInstr}
-use Rattle.wa_types.specs.declared.instrs.Instr.TheVariants.{BrIf as BrIfInstr, BrTable as BrTableInstr, Call as CallInstr, CallIndirect, LocalGet, LocalSet, LocalTee, GlobalGet, GlobalSet}
-use Rattle.wa_types.specs.declared.instrs.Instr.TheVariants.{Load, Store, Block' as BlockInstr', Loop' as LoopInstr', If' as IfInstr'}
+use Rattle.wa_types.specs.declared.instrs.Instr.TheVariants.{Unreachable as UnreachableInstr, Nop, Drop, Select, Return, MemorySize, MemoryGrow, Const as ConstInstr, Num, Br as BrInstr, BrIf as BrIfInstr, BrTable as BrTableInstr, Call as CallInstr, CallIndirect, LocalGet, LocalSet, LocalTee, GlobalGet, GlobalSet, Load, Store, Block' as BlockInstr', Loop' as LoopInstr', If' as IfInstr'}
 use Rattle.wa_types.specs.Syntax.{basic, local_get, local_set, local_tee, br, br_if, br_table, unreachable, call, call_indirect, Code, done, plain}
 use Rattle.wa_types.specs.View.{in_front}
 use Rattle.wa_types.specs.Liveness.{live}
 use Rattle.wa_model.specs.declared.flat.Operand.{Operand}
 use Rattle.wa_model.specs.declared.flat.Operand.TheVariants.{Local, Const}
 use Rattle.wa_model.specs.declared.flat.Stmt.{Stmt}
-use Rattle.wa_model.specs.declared.flat.Stmt.TheVariants.{Plain as PlainStmt, Move, Call as CallStmt, Br as BrStmt, BrIf as BrIfStmt, BrTable as BrTableStmt, Block', Loop', If'}
-use Rattle.wa_model.specs.declared.flat.Stmt.TheVariants.{Unreachable as UnreachableStmt}
+use Rattle.wa_model.specs.declared.flat.Stmt.TheVariants.{Plain as PlainStmt, Move, Call as CallStmt, Br as BrStmt, BrIf as BrIfStmt, BrTable as BrTableStmt, Block', Loop', If', Unreachable as UnreachableStmt}
 use Rattle.run_theory.specs.Flat.{Stmts, no_more, followed_by, got, all_got, set_to, slots_got, last_of, code_of, result_got}
 use Rattle.run_theory.specs.FlatView.{stmt_in_front}
 use Rattle.run_theory.specs.FlatFits.{IsCallCode}
-use Rattle.flat_pieces.proofs.StmtLemmas.{call_is}
+use Rattle.flow_rewrite.proofs.StmtLemmas.{call_is}
 use Rattle.live_passes.proofs.StmtViews.{as_plain, as_move, as_br, as_br_if, as_table, as_halt}
 use Rattle.live_passes.specs.Ops.{IsComputation, OpsFit, HoldsNone}
 use Rattle.live_passes.specs.Sets.{TellsBefore, TellsAnywhere}

@@ -1,6 +1,5 @@
 -- The entries for the loops of statements.
-use Rattle.std.proofs.Common.{◌≡◌, ◌∙◌, ℕ, zero, suc, ◌+◌, List, [], ◌∷◌, ◌++◌, length, drop, set, Option, Some, None, Bool, false, refl, sym, ap, arith, subst}
-use Rattle.std.proofs.Common.{length-append}
+use Rattle.std.proofs.Common.{◌≡◌, ◌∙◌, ℕ, zero, suc, ◌+◌, List, [], ◌∷◌, ◌++◌, length, drop, set, Option, Some, None, Bool, false, refl, sym, ap, arith, subst, length-append}
 use Rattle.std.specs.Prelude.{Vec, nat_eq}
 use Rattle.std.specs.declared.alloc.Global.{Global}
 use Rattle.std.proofs.lemmas.List.{append-nil, append_assoc}
@@ -9,8 +8,8 @@ use Rattle.wa_types.specs.Liveness.{live}
 use Rattle.wa_model.specs.declared.flat.Stmt.{Stmt}
 use Rattle.run_theory.specs.Flat.{Stmts, no_more, computes, copies, calls, leaps, leaps_if, leaps_by, nests, decides, halts, code_of}
 use Rattle.run_theory.specs.FlatView.{stmt_in_front, stmts}
-use Rattle.flat_pieces.specs.Statements.{with_rest}
-use Rattle.flat_pieces.proofs.StmtLemmas.{in_front_is}
+use Rattle.flow_rewrite.specs.Statements.{with_rest}
+use Rattle.flow_rewrite.proofs.StmtLemmas.{in_front_is}
 use Rattle.live_words.specs.Heads.{deeper, loop_total, heads, Knows}
 
 -- ---- entries

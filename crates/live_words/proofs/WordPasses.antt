@@ -1,7 +1,5 @@
 -- Bodies and constructs, passed over backwards in all worlds.
-use Rattle.std.proofs.Common.{◌≡◌, ◌∙◌, ℕ, suc, ◌-◌, ◌+◌, ◌<◌, ◌≤◌, inl, inr, List, [], ◌∷◌, ◌++◌, length, map, take, drop, get_or, set, replicate, Option, Some, None}
-use Rattle.std.proofs.Common.{Bool, false}
-use Rattle.std.proofs.Common.{◌||◌, refl, sym, ap, arith, subst, length-append}
+use Rattle.std.proofs.Common.{◌≡◌, ◌∙◌, ℕ, suc, ◌-◌, ◌+◌, ◌<◌, ◌≤◌, inl, inr, List, [], ◌∷◌, ◌++◌, length, map, take, drop, get_or, set, replicate, Option, Some, None, Bool, false, ◌||◌, refl, sym, ap, arith, subst, length-append}
 use Rattle.std.specs.Prelude.{Vec, nat_eq, if◌then◌else◌}
 use Rattle.std.specs.declared.alloc.Global.{Global}
 use Rattle.std.proofs.lemmas.Bool.{cases_eq, cases_lt, eq-eqb, ne_eqb, lt-ltb, le-ltb}
@@ -10,13 +8,11 @@ use Rattle.std.proofs.Math.Seq.{take-append_seam}
 use Rattle.wa_types.specs.Syntax.{a_block, a_loop, Code, done, nest}
 use Rattle.wa_types.specs.Liveness.{live}
 use Rattle.wa_model.specs.declared.flat.Operand.{Operand}
-use Rattle.wa_model.specs.declared.flat.Stmt.{Stmt}
-use Rattle.wa_model.specs.declared.flat.Stmt.TheVariants.{Plain as PlainStmt, Move, Call as CallStmt, Br as BrStmt, BrIf as BrIfStmt, BrTable as BrTableStmt, Block, Loop, If}
-use Rattle.wa_model.specs.declared.flat.Stmt.TheVariants.{Unreachable as UnreachableStmt, Block', Loop', If', rolls-Block, rolls-Loop, rolls-If, outs-Block', outs-Loop', outs-If'}
-use Rattle.wa_model.specs.declared.flat.Stmt.{roll-Stmt, roll-out-Stmt}
+use Rattle.wa_model.specs.declared.flat.Stmt.{Stmt, roll-Stmt, roll-out-Stmt}
+use Rattle.wa_model.specs.declared.flat.Stmt.TheVariants.{Plain as PlainStmt, Move, Call as CallStmt, Br as BrStmt, BrIf as BrIfStmt, BrTable as BrTableStmt, Block, Loop, If, Unreachable as UnreachableStmt, Block', Loop', If', rolls-Block, rolls-Loop, rolls-If, outs-Block', outs-Loop', outs-If'}
 use Rattle.run_theory.specs.Flat.{Stmts, no_more, nests, decides, got, code_of}
 use Rattle.run_theory.specs.FlatView.{stmt_in_front, stmts}
-use Rattle.flat_pieces.proofs.StmtLemmas.{stmts_step, stmts_end}
+use Rattle.flow_rewrite.proofs.StmtLemmas.{stmts_step, stmts_end}
 use Rattle.live_passes.specs.Sets.{has, told_of, TellsBefore}
 use Rattle.live_passes.proofs.SetLemmas.{tells_as, tells_none}
 use Rattle.live_passes.proofs.CodeLemmas.{code_end}

@@ -6,8 +6,8 @@ use Rattle.run_theory.specs.Flat.{FlatFunc, code_of, followed_by}
 use Rattle.run_theory.specs.FlatFits.{FlatFits}
 use Rattle.guard_form.specs.Pieces.{first_piece, flat_units, numbers_in, units}
 use Rattle.guard_form.proofs.Grouped.{joins}
-use Rattle.flat_pieces.specs.Raising.{LabelsBelow, Raisable}
-use Rattle.flat_pieces.proofs.FitLemmas.{whole_raisable}
+use Rattle.flow_rewrite.specs.Raising.{LabelsBelow, Raisable}
+use Rattle.flow_rewrite.proofs.FitLemmas.{whole_raisable}
 use Rattle.slim_form.specs.Emit.{free_by}
 use Rattle.slim_form.specs.Slim as S
 use Rattle.slim_form.specs.Slim.{Free, StackShape, Slims, Terms}
@@ -15,7 +15,7 @@ use Rattle.slim_units.specs.SlimUnits.{SlimUnits}
 use Rattle.slim_units.proofs.UnitSizes.{slimmer_law}
 use Rattle.slim_units.proofs.UnitsAlike.{alike_law}
 use Rattle.slim_units.proofs.UnitsSlim.{units_law}
-use Rattle.unit_pieces.specs.declared.pieces.Pieces.{Pieces}
+use Rattle.flow_rewrite.specs.declared.pieces.Pieces.{Pieces}
 use Rattle.slim_pieces.specs.Functions.{is_between, AreSlim}
 use Rattle.slim_pieces.specs.Inside.{first_code, units_in}
 use Rattle.slim_pieces.proofs.InsideLemmas.{nothing_fixed}

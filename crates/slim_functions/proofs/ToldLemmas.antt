@@ -15,7 +15,7 @@ use Rattle.flat_laws.specs.Flatten.{flattened, names, place, result_of}
 use Rattle.slim_form.specs.Emit.{free_by}
 use Rattle.slim_form.specs.Slim.{Free, Terms}
 use Rattle.slim_units.specs.Laws.{ToHeld}
-use Rattle.unit_pieces.specs.declared.pieces.Pieces.{Pieces}
+use Rattle.flow_rewrite.specs.declared.pieces.Pieces.{Pieces}
 use Rattle.slim_pieces.specs.Functions.{is_between, AreSlim, SlimTold}
 use Rattle.slim_pieces.specs.Inside.{first_code, units_in}
 use Rattle.slim_modules.specs.SlimModule.{SlimPieces, flat_terms, is_slot, plain_pieces}

@@ -5,14 +5,12 @@ ghost use Rattle.wa_types.specs.View.{code};
 ghost use Rattle.run_theory.specs.FlatFits.{FlatFits};
 ghost use Rattle.run_theory.specs.FlatView.{flat_func_of};
 ghost use Rattle.guard_form.specs.Pieces.{call_total};
-ghost use Rattle.flow_calls.specs.Emitting.{Rises};
+ghost use Rattle.flow_rewrite.specs.CallsEmitting.{Rises};
 ghost use Rattle.slim_functions.specs.Told.{GuardedTold};
 
-use flow_calls::Guards;
-use flow_rewrite::guard;
+use flow_rewrite::{Guards, guard, guarded_pieces, has_one_call};
 use slim_pieces::slim_pieces;
 use std::alloc::{AllocError, Global};
-use unit_pieces::{guarded_pieces, has_one_call};
 use wa_model::FlatFunc;
 use wa_types::Instr;
 

@@ -9,8 +9,8 @@ use Rattle.run_theory.specs.Flat.{Stmts, no_more, computes, copies, calls, leaps
 use Rattle.run_theory.specs.FlatFits.{StmtsFit}
 use Rattle.run_theory.specs.FlatView.{stmt_in_front, stmts}
 use Rattle.guard_form.specs.Pieces.{Units, call_total, first_piece, units}
-use Rattle.flat_pieces.specs.Statements.{with_rest, one_place}
-use Rattle.flat_pieces.proofs.StmtLemmas.{fits_one, in_front_is, stmts_end, stmts_step, total_with}
+use Rattle.flow_rewrite.specs.Statements.{with_rest, one_place}
+use Rattle.flow_rewrite.proofs.StmtLemmas.{fits_one, in_front_is, stmts_end, stmts_step, total_with}
 use Rattle.slim_form.specs.Slim.{Free, Terms}
 use Rattle.slim_walk.specs.declared.stack.Walk.{Walk}
 use Rattle.slim_walk.specs.Walking.{Alike, Among, Good}

@@ -5,7 +5,7 @@ use Rattle.guard_form.specs.Pieces.{first_piece, units}
 use Rattle.slim_form.specs.Emit.{free_by}
 use Rattle.slim_form.specs.Slim.{Terms}
 use Rattle.slim_units.specs.SlimUnits.{SlimUnits}
-use Rattle.unit_pieces.specs.declared.pieces.Pieces.{Pieces}
+use Rattle.flow_rewrite.specs.declared.pieces.Pieces.{Pieces}
 use Rattle.slim_steps.specs.Coming.{CallsFixed}
 use Rattle.slim_steps.specs.Inside.{first_code, units_in}
 

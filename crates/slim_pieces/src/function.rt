@@ -4,14 +4,14 @@ ghost use Rattle.std.specs.Prelude.{◌≡◌, ◌<◌, ◌^◌, IfOk};
 ghost use Rattle.run_theory.specs.FlatFits.{FlatFits};
 ghost use Rattle.run_theory.specs.FlatView.{flat_func_of};
 ghost use Rattle.guard_form.specs.Pieces.{call_total};
-ghost use Rattle.flow_calls.specs.Emitting.{Rises};
+ghost use Rattle.flow_rewrite.specs.CallsEmitting.{Rises};
 ghost use Rattle.slim_pieces.specs.Functions.{SlimTold};
 
 use crate::walk::write_sequence;
 use slim_guesses::heights_apart;
 use slim_walk::Walk;
 use std::alloc::{AllocError, Global};
-use unit_pieces::Pieces;
+use flow_rewrite::Pieces;
 use wa_model::FlatFunc;
 
 /// A flat function in pieces and units with slim pieces, where the calls at these places are numbered and so many locals

@@ -4,7 +4,7 @@ ghost use Rattle.std.specs.Prelude.{◌≡◌, ◌<◌, ◌^◌, [], length, tru
 ghost use Rattle.wa_model.specs.declared.flat.Operand.TheVariants.{Local};
 ghost use Rattle.run_theory.specs.Flat.{decides, no_more};
 ghost use Rattle.run_theory.specs.FlatView.{stmt_in_front, stmts};
-ghost use Rattle.flow_calls.specs.Emitting.{Rises};
+ghost use Rattle.flow_rewrite.specs.CallsEmitting.{Rises};
 ghost use Rattle.slim_walk.specs.Walking.{Good};
 ghost use Rattle.slim_steps.specs.Coming.{Ready};
 ghost use Rattle.slim_steps.specs.Inside.{InsideTold, WrittenTold};

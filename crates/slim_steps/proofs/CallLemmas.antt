@@ -10,14 +10,14 @@ use Rattle.wa_types.specs.declared.instrs.Instr.{Instr}
 use Rattle.wa_types.specs.declared.instrs.Instr.TheVariants.{Call as CallInstr, CallIndirect}
 use Rattle.wa_types.specs.Syntax.{call, call_indirect, Plain, Code, done, plain}
 use Rattle.wa_types.specs.Leaves.{is_leaf}
-use Rattle.flat_pieces.proofs.StmtLemmas.{leaf_of}
+use Rattle.flow_rewrite.proofs.StmtLemmas.{leaf_of}
 use Rattle.wa_types.specs.View.{in_front}
 use Rattle.run_theory.specs.Flat.{no_more, calls, followed_by, last_of, set_to, slots_got}
 use Rattle.run_theory.specs.FlatFits.{IsCallCode}
 use Rattle.guard_form.specs.Grouping.{is_place}
 use Rattle.guard_form.specs.Pieces.{call_unit, call_to, first_piece, flat_units, piece_call, unit_call, units}
 use Rattle.guard_form.proofs.Counting.{calls_set}
-use Rattle.flat_pieces.specs.Statements.{one_code}
+use Rattle.flow_rewrite.specs.Statements.{one_code}
 use Rattle.slim_form.specs.Emit.{elem, free_by}
 use Rattle.slim_form.specs.Slim.{Free, Covers, Held, Terms}
 use Rattle.slim_form.proofs.EmittedCode as E
@@ -28,8 +28,8 @@ use Rattle.slim_walk.proofs.BranchLemmas.{bare_shape, flushed_full}
 use Rattle.slim_walk.proofs.MoveLemmas.{held_by}
 use Rattle.slim_walk.proofs.StackLemmas.{cut_below, cut_good, elem_here}
 use Rattle.slim_walk.proofs.StepLemmas.{alike_then, among_next, elem_drop, elem_take, small_of}
-use Rattle.unit_pieces.specs.declared.pieces.Target.{Target}
-use Rattle.unit_pieces.specs.UnitView.{callee_of}
+use Rattle.flow_rewrite.specs.declared.pieces.Target.{Target}
+use Rattle.flow_rewrite.specs.UnitView.{callee_of}
 use Rattle.slim_steps.specs.declared.sequence.Head.TheVariants.{Call}
 use Rattle.slim_steps.specs.declared.sequence.Sequence.{Sequence}
 use Rattle.slim_steps.specs.Coming.{FixedFor}

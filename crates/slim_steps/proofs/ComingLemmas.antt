@@ -5,9 +5,9 @@ use Rattle.wa_types.specs.Syntax.{Code, done}
 use Rattle.wa_types.specs.View.{onto}
 use Rattle.run_theory.specs.Flat.{Stmts, no_more}
 use Rattle.guard_form.specs.Pieces.{Units, no_unit, first_piece, units, flat_units}
-use Rattle.flat_pieces.specs.Putting.{Puts}
-use Rattle.flat_pieces.specs.Statements.{with_rest, one_code, one_holds, one_place}
-use Rattle.flat_pieces.proofs.StmtLemmas.{first_with as first_of, units_with as units_of_one}
+use Rattle.flow_rewrite.specs.Putting.{Puts}
+use Rattle.flow_rewrite.specs.Statements.{with_rest, one_code, one_holds, one_place}
+use Rattle.flow_rewrite.proofs.StmtLemmas.{first_with as first_of, units_with as units_of_one}
 use Rattle.slim_form.specs.Parts.{goes_on}
 use Rattle.slim_form.specs.Slim.{Free, Slims, Terms}
 use Rattle.slim_units.specs.SlimUnits.{SlimUnits, alone}

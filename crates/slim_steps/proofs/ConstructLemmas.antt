@@ -9,8 +9,8 @@ use Rattle.guard_form.specs.Bounds.{unit_count}
 use Rattle.guard_form.specs.Pieces.{Units, no_unit, nest_unit, call_total, holds_call, first_piece, flat_units, units, StartsGot}
 use Rattle.guard_form.proofs.CodeLemmas.{then_done}
 use Rattle.guard_form.proofs.Grouped.{joins}
-use Rattle.flat_pieces.specs.Putting.{Puts}
-use Rattle.flat_pieces.proofs.StmtLemmas.{if_true}
+use Rattle.flow_rewrite.specs.Putting.{Puts}
+use Rattle.flow_rewrite.proofs.StmtLemmas.{if_true}
 use Rattle.slim_form.specs.Emit.{free_by}
 use Rattle.slim_form.specs.Slim as S
 use Rattle.slim_form.specs.Slim.{Free, Covers, plainly, Slims, Terms}

@@ -13,8 +13,8 @@ use Rattle.wa_model.specs.declared.flat.Operand.TheVariants.{Local}
 use Rattle.run_theory.specs.Flat.{Stmts, no_more, decides, code_of, followed_by, slots_got}
 use Rattle.guard_form.specs.Bounds.{unit_count}
 use Rattle.guard_form.specs.Pieces.{Units, no_unit, if_unit, call_total, holds_call, first_piece, flat_units, units, StartsGot}
-use Rattle.flat_pieces.specs.Putting.{Puts}
-use Rattle.flat_pieces.proofs.StmtLemmas.{if_true}
+use Rattle.flow_rewrite.specs.Putting.{Puts}
+use Rattle.flow_rewrite.proofs.StmtLemmas.{if_true}
 use Rattle.slim_form.specs.Emit.{elem, free_by}
 use Rattle.slim_form.specs.Slim as S
 use Rattle.slim_form.specs.Slim.{Free, Covers, gets, more, narrows, plainly, plainly_held, Slims, Terms}

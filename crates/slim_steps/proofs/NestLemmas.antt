@@ -7,16 +7,16 @@ use Rattle.std.proofs.lemmas.List.{length-take-le}
 use Rattle.wa_types.specs.declared.instrs.Instr.{Instr}
 use Rattle.wa_types.specs.Syntax.{local_set, plain}
 use Rattle.wa_model.specs.declared.flat.Operand.TheVariants.{Local}
-use Rattle.flat_pieces.specs.Putting.{Puts}
+use Rattle.flow_rewrite.specs.Putting.{Puts}
 use Rattle.guard_form.specs.Bounds.{unit_count}
 use Rattle.guard_form.specs.Pieces.{no_unit}
 use Rattle.slim_walk.specs.declared.stack.Walk.{Walk}
 use Rattle.slim_walk.specs.Walking.{Alike, Flushed, Good, IsTop}
 use Rattle.slim_walk.proofs.StackLemmas.{cut_below, good_by}
 use Rattle.slim_walk.proofs.StepLemmas.{alike_piece, alike_same, alike_then, with_piece}
-use Rattle.unit_pieces.specs.declared.pieces.Unit.{Unit}
-use Rattle.unit_pieces.specs.UnitView.{units_of}
-use Rattle.unit_pieces.proofs.UnitLemmas.{units_empty, units_some}
+use Rattle.flow_rewrite.specs.declared.pieces.Unit.{Unit}
+use Rattle.flow_rewrite.specs.UnitView.{units_of}
+use Rattle.flow_rewrite.proofs.UnitLemmas.{units_empty, units_some}
 use Rattle.slim_steps.specs.declared.sequence.Written.{Written}
 use Rattle.slim_steps.specs.Inside.{units_in, AreFree, Conditioned, Same, SetAgain}
 use Rattle.slim_steps.proofs.PieceLemmas.{counted}

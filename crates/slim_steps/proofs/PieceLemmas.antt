@@ -14,8 +14,8 @@ use Rattle.guard_form.specs.Pieces.{Units, no_unit, call_unit, nest_unit, if_uni
 use Rattle.guard_form.proofs.Counting.{calls_done, calls_then}
 use Rattle.guard_form.proofs.Grouped.{has_unit, joins, then_all_got, then_got, then_set, then_slots, then_then}
 use Rattle.guard_form.proofs.UnitLemmas.{Some_unit}
-use Rattle.flat_pieces.specs.Statements.{with_rest, one_code, one_place}
-use Rattle.flat_pieces.proofs.StmtLemmas.{if_false}
+use Rattle.flow_rewrite.specs.Statements.{with_rest, one_code, one_place}
+use Rattle.flow_rewrite.proofs.StmtLemmas.{if_false}
 use Rattle.slim_form.specs.Parts.{goes_on}
 use Rattle.slim_form.specs.Slim.{Terms}
 use Rattle.slim_steps.specs.Coming.{calls_in, with_left, CallsFixed, Goes}

@@ -9,8 +9,8 @@ use Rattle.guard_form.specs.Pieces.{Units, no_unit}
 use Rattle.slim_walk.specs.declared.stack.Walk.{Walk}
 use Rattle.slim_walk.specs.Walking.{Good}
 use Rattle.slim_walk.proofs.StepLemmas.{alike_piece, alike_same, with_piece}
-use Rattle.unit_pieces.specs.declared.pieces.Unit.{Unit}
-use Rattle.unit_pieces.specs.UnitView.{unit_in_front, units_of}
+use Rattle.flow_rewrite.specs.declared.pieces.Unit.{Unit}
+use Rattle.flow_rewrite.specs.UnitView.{unit_in_front, units_of}
 use Rattle.slim_steps.specs.declared.sequence.Head.{Head}
 use Rattle.slim_steps.specs.declared.sequence.Sequence.{Sequence}
 use Rattle.slim_steps.specs.SequenceView.{first_where, head_in_front, open_where, units_onto}

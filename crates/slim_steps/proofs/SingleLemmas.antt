@@ -12,8 +12,8 @@ use Rattle.run_theory.specs.Flat.{Stmts, no_more, computes, copies, leaps, leaps
 use Rattle.run_theory.specs.FlatFits.{ComputesFit, StmtsFit}
 use Rattle.run_theory.specs.FlatView.{stmt_in_front}
 use Rattle.wa_types.specs.Leaves.{is_leaf}
-use Rattle.flat_pieces.specs.Statements.{one_code}
-use Rattle.flat_pieces.proofs.StmtLemmas.{leaf_of, one_plain}
+use Rattle.flow_rewrite.specs.Statements.{one_code}
+use Rattle.flow_rewrite.proofs.StmtLemmas.{leaf_of, one_plain}
 use Rattle.slim_walk.specs.declared.stack.Walk.{Walk}
 use Rattle.slim_walk.specs.Walking.{Ended, Stepped}
 use Rattle.slim_steps.specs.declared.sequence.Sequence.{Sequence}

@@ -3,8 +3,8 @@ use Rattle.std.specs.Prelude.{List, [], ◌∷◌, Option, Some, None, Bool, tru
 use Rattle.wa_types.specs.Syntax.{a_block, a_loop, Code}
 use Rattle.wa_types.specs.View.{code}
 use Rattle.guard_form.specs.Pieces.{Units, call_unit, nest_unit, if_unit}
-use Rattle.unit_pieces.specs.declared.pieces.Unit.{Unit}
-use Rattle.unit_pieces.specs.UnitView.{callee_of, unit_in_front, units_of}
+use Rattle.flow_rewrite.specs.declared.pieces.Unit.{Unit}
+use Rattle.flow_rewrite.specs.UnitView.{callee_of, unit_in_front, units_of}
 use Rattle.slim_steps.specs.declared.sequence.Head.{Head}
 use Rattle.slim_steps.specs.declared.sequence.Head.TheVariants.{Call, Block, Loop, If}
 use Rattle.slim_steps.specs.declared.sequence.Sequence.{Sequence}

@@ -5,12 +5,12 @@ use Rattle.wa_types.specs.View.{code}
 use Rattle.run_theory.specs.Flat.{Stmts, no_more}
 use Rattle.guard_form.specs.Grouping.{is_place}
 use Rattle.guard_form.specs.Pieces.{Units, call_to}
-use Rattle.flat_pieces.specs.Statements.{one_place}
+use Rattle.flow_rewrite.specs.Statements.{one_place}
 use Rattle.slim_form.specs.Slim.{Free, Terms}
 use Rattle.slim_walk.specs.declared.stack.Walk.{Walk}
 use Rattle.slim_walk.specs.Walking.{Alike, Among, Good}
-use Rattle.unit_pieces.specs.declared.pieces.Target.{Target}
-use Rattle.unit_pieces.specs.UnitView.{callee_of}
+use Rattle.flow_rewrite.specs.declared.pieces.Target.{Target}
+use Rattle.flow_rewrite.specs.UnitView.{callee_of}
 use Rattle.slim_steps.specs.declared.sequence.Head.{Head}
 use Rattle.slim_steps.specs.declared.sequence.Sequence.{Sequence}
 use Rattle.slim_steps.specs.Coming.{Around, CallsFixed, Comes}

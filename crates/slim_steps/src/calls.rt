@@ -1,22 +1,21 @@
 //! Calls, with a number and without.
 
 ghost use Rattle.std.specs.Prelude.{◌≡◌, ◌≤◌, ◌<◌, ◌+◌, ◌^◌, ℕ, List, length, true, false, IfOk};
-ghost use Rattle.wa_types.specs.Syntax.{done};
+ghost use Rattle.wa_types.specs.Syntax.{done, plain};
 ghost use Rattle.wa_types.specs.View.{in_front};
 ghost use Rattle.run_theory.specs.Flat.{calls, no_more};
 ghost use Rattle.guard_form.specs.Grouping.{is_place};
-ghost use Rattle.flow_calls.specs.Emitting.{Rises};
+ghost use Rattle.flow_rewrite.specs.CallsEmitting.{Rises};
 ghost use Rattle.slim_walk.specs.Walking.{Good};
-ghost use Rattle.unit_pieces.specs.UnitView.{callee_of};
+ghost use Rattle.flow_rewrite.specs.UnitView.{callee_of};
 ghost use Rattle.guard_form.specs.Pieces.{call_to};
-ghost use Rattle.wa_types.specs.Syntax.{plain};
 ghost use Rattle.slim_steps.specs.Coming.{Ready};
 ghost use Rattle.slim_steps.specs.Steps.{Calls, Put, PutNumbered};
 
 use crate::sequence::{Head, Sequence, open_unit};
 use slim_walk::{Walk, flush, keep_told, put_free_call};
 use std::alloc::AllocError;
-use unit_pieces::Target;
+use flow_rewrite::Target;
 use wa_types::Instr;
 
 /// Whether the call at this place is numbered.

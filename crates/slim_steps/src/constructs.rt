@@ -3,13 +3,13 @@
 ghost use Rattle.std.specs.Prelude.{◌≡◌, ◌&&◌, ℕ, true, not, Some, IfOk, OnOk};
 ghost use Rattle.wa_types.specs.Syntax.{a_block, a_loop, branch};
 ghost use Rattle.wa_types.specs.View.{code};
-ghost use Rattle.flat_pieces.specs.Putting.{Puts};
+ghost use Rattle.flow_rewrite.specs.Putting.{Puts};
 ghost use Rattle.slim_walk.specs.Walking.{Good};
 ghost use Rattle.slim_steps.specs.SequenceView.{call_open};
 ghost use Rattle.slim_steps.specs.Inside.{condition_got, AreFree, Claimed, ConditionTold, Decided, Entered, Left, Nested, Same, SetAgain};
 
 use crate::sequence::{Head, Sequence, Written, open_unit};
-use flat_pieces::put_operand;
+use flow_rewrite::put_operand;
 use slim_walk::{Walk, flush, is_top, keep};
 use std::alloc::AllocError;
 use std::mem;

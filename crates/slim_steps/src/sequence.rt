@@ -5,7 +5,7 @@ ghost use Rattle.wa_types.specs.Syntax.{Code};
 ghost use Rattle.wa_types.specs.View.{code};
 ghost use Rattle.guard_form.specs.Pieces.{no_unit, Units};
 ghost use Rattle.slim_walk.specs.Walking.{Good};
-ghost use Rattle.unit_pieces.specs.UnitView.{unit_in_front, units_of};
+ghost use Rattle.flow_rewrite.specs.UnitView.{unit_in_front, units_of};
 ghost use Rattle.slim_steps.specs.SequenceView.{first_where, head_in_front, open_where, units_onto};
 ghost use Rattle.slim_steps.specs.Inside.{Completed, Finished};
 ghost use Rattle.slim_steps.specs.Steps.{Opened};
@@ -13,7 +13,7 @@ ghost use Rattle.slim_steps.specs.Steps.{Opened};
 use slim_walk::{Walk, flush};
 use std::alloc::AllocError;
 use std::mem;
-use unit_pieces::{Pieces, Target, Unit};
+use flow_rewrite::{Pieces, Target, Unit};
 use wa_model::Operand;
 use wa_types::Instr;
 

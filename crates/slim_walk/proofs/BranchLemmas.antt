@@ -13,7 +13,7 @@ use Rattle.wa_model.specs.declared.flat.Operand.{Operand}
 use Rattle.wa_model.specs.declared.flat.Operand.TheVariants.{Local}
 use Rattle.run_theory.specs.Flat.{all_got, followed_by, got, set_to, slots_got}
 use Rattle.run_theory.specs.FlatFits.{IsCallCode}
-use Rattle.flat_pieces.specs.Putting.{Puts}
+use Rattle.flow_rewrite.specs.Putting.{Puts}
 use Rattle.slim_form.specs.Emit.{elem, free_by}
 use Rattle.slim_form.specs.Slim as S
 use Rattle.slim_form.specs.Slim.{Free, Covers, Held, more, keeps, takes_same, lacks_all, Plainly, plainly, plainly_held, Reaches, Terms, Slims}

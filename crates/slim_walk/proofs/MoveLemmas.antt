@@ -1,9 +1,8 @@
 -- Moves in slim code.
-use Rattle.std.proofs.Common.{◌≡◌, ℕ, suc, ◌-◌, List, ◌∷◌, [], ◌++◌, length, take, drop, Some, Bool, true, false, refl, sym, ap, ◌∙◌, subst}
+use Rattle.std.proofs.Common.{◌≡◌, ℕ, suc, ◌-◌, List, ◌∷◌, [], ◌++◌, length, take, drop, Some, Bool, true, false, refl, sym, ap, ◌∙◌, subst, arith}
 use Rattle.std.proofs.Math.Seq.{drop-cons}
 use Rattle.std.specs.Prelude.{not, ◌&&◌}
 use Rattle.std.proofs.lemmas.List.{drop_all}
-use Rattle.std.proofs.Common.{arith}
 use Rattle.std.specs.declared.vec.Vec.{Vec}
 use Rattle.std.specs.declared.alloc.Global.{Global}
 use Rattle.wa_types.specs.declared.instrs.Instr.{Instr}
@@ -13,14 +12,13 @@ use Rattle.wa_types.specs.View.{in_front, onto}
 use Rattle.wa_model.specs.declared.flat.Operand.{Operand}
 use Rattle.wa_model.specs.declared.flat.Operand.TheVariants.{Local}
 use Rattle.run_theory.specs.Flat.{all_got, got}
-use Rattle.flat_pieces.specs.Putting.{Puts}
+use Rattle.flow_rewrite.specs.Putting.{Puts}
 use Rattle.slim_form.specs.Emit.{elem, free_by}
 use Rattle.slim_form.specs.Slim.{copies, gets, Lacks, more, sets, takes_one, takes_none, Terms, Slims}
 use Rattle.slim_walk.specs.declared.stack.Walk.{Walk}
 use Rattle.slim_walk.specs.Walking.{slot_in, kept_onto, unstacked, free_at, shape_at, Assigned, Flushed, Good, IsKeptTop, Kept, Stepped, Taken, TakenBy, from_stack, from_slots}
 use Rattle.slim_walk.proofs.BranchLemmas.{flushed_full}
-use Rattle.slim_walk.proofs.StepLemmas.{Way, in_place, put_back, alike_piece, alike_same, alike_then, among_next, drop_split, flushed_slim, kept_join, kept_slim, no_slot_at, slots_of}
-use Rattle.slim_walk.proofs.StepLemmas.{small_of, taken_slim, with_piece}
+use Rattle.slim_walk.proofs.StepLemmas.{Way, in_place, put_back, alike_piece, alike_same, alike_then, among_next, drop_split, flushed_slim, kept_join, kept_slim, no_slot_at, slots_of, small_of, taken_slim, with_piece}
 
 -- ---- a local is set
 

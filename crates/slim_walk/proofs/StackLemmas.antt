@@ -1,6 +1,5 @@
 -- The stack of slots.
-use Rattle.std.proofs.Common.{◌≡◌, ◌≢◌, ℕ, zero, suc, ◌+◌, ◌-◌, ◌<◌, ◌≤◌, List, [], ◌∷◌, ◌++◌, length, get_or, take, drop, set, Bool, true, false, not, refl, sym, ap, ◌∙◌, subst, arith, ◌⊎◌}
-use Rattle.std.proofs.Common.{inl, inr, length-drop}
+use Rattle.std.proofs.Common.{◌≡◌, ◌≢◌, ℕ, zero, suc, ◌+◌, ◌-◌, ◌<◌, ◌≤◌, List, [], ◌∷◌, ◌++◌, length, get_or, take, drop, set, Bool, true, false, not, refl, sym, ap, ◌∙◌, subst, arith, ◌⊎◌, inl, inr, length-drop, length-append}
 use Rattle.std.specs.Prelude.{nat_eq, nat_lt, ◌||◌, ◌&&◌}
 use Rattle.std.proofs.lemmas.Bool.{ltb-true, ltb-false}
 use Rattle.std.proofs.lemmas.Bool.Decides.{eqb_tells}
@@ -8,7 +7,6 @@ use Rattle.std.proofs.lemmas.List.{get_or-set_same, get_or-set_other, take-appen
 use Rattle.std.proofs.Math.ListN.{get_or-append}
 use Rattle.std.proofs.Math.Seq.{get_or-append_seam, take-length}
 use Rattle.std.proofs.Math.Nat.{eq-or-lt_of_le, le_of_lt}
-use Rattle.std.proofs.Common.{length-append}
 use Rattle.wa_types.specs.declared.instrs.Instr.{Instr}
 use Rattle.wa_types.specs.declared.instrs.Instr.TheVariants.{LocalSet}
 use Rattle.wa_types.specs.Syntax.{local_get, local_set, Code, plain}
@@ -16,8 +14,8 @@ use Rattle.wa_types.specs.View.{onto}
 use Rattle.wa_model.specs.declared.flat.Operand.{Operand}
 use Rattle.wa_model.specs.declared.flat.Operand.TheVariants.{Local}
 use Rattle.run_theory.specs.Flat.{all_got, slots_got}
-use Rattle.flat_pieces.specs.Putting.{Puts}
-use Rattle.flat_pieces.proofs.PutLemmas.{put_one, set_is}
+use Rattle.flow_rewrite.specs.Putting.{Puts}
+use Rattle.flow_rewrite.proofs.PutLemmas.{put_one, set_is}
 use Rattle.slim_form.specs.Emit.{elem}
 use Rattle.slim_form.proofs.EmittedCode.{both_true}
 use Rattle.slim_walk.specs.declared.stack.Walk.{Walk}

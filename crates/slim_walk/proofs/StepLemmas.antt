@@ -1,25 +1,21 @@
 -- What steps do to slim code.
-use Rattle.std.proofs.Common.{◌≡◌, ℕ, zero, suc, ◌+◌, ◌-◌, ◌<◌, ◌≤◌, List, [], ◌∷◌, ◌++◌, length, get_or, take, drop, Option, Some, None, Bool, true, false, not, refl, sym, ap, ◌∙◌, subst}
-use Rattle.std.proofs.Common.{arith, ◌≢◌, ◌⊎◌, inl, inr}
+use Rattle.std.proofs.Common.{◌≡◌, ℕ, zero, suc, ◌+◌, ◌-◌, ◌<◌, ◌≤◌, List, [], ◌∷◌, ◌++◌, length, get_or, take, drop, Option, Some, None, Bool, true, false, not, refl, sym, ap, ◌∙◌, subst, arith, ◌≢◌, ◌⊎◌, inl, inr, length-drop}
 use Rattle.std.specs.Prelude.{◌||◌, ◌&&◌, nat_eq}
 use Rattle.std.proofs.lemmas.Bool.Decides.{eqb_tells}
 use Rattle.std.proofs.Math.Seq.{take-length}
 use Rattle.std.proofs.lemmas.List.{take-append-drop, take-append-le, drop-append-le, drop_all, length-take-le, get_or-drop}
-use Rattle.std.proofs.Common.{length-drop}
 use Rattle.std.specs.declared.vec.Vec.{Vec}
 use Rattle.std.specs.declared.alloc.Global.{Global}
 use Rattle.wa_types.specs.declared.instrs.Instr.{Instr}
 use Rattle.wa_types.specs.View.{onto}
-use Rattle.wa_types.specs.Syntax.{nop, drop as drop_operand, select, const, num, global_get, global_set, load, store, memory_size, memory_grow, Basic, basic, local_get, local_set, local_tee}
-use Rattle.wa_types.specs.Syntax.{Code, done, plain}
+use Rattle.wa_types.specs.Syntax.{nop, drop as drop_operand, select, const, num, global_get, global_set, load, store, memory_size, memory_grow, Basic, basic, local_get, local_set, local_tee, Code, done, plain}
 use Rattle.wa_model.specs.declared.flat.Operand.{Operand}
 use Rattle.run_theory.specs.FlatFits.{ComputesFit, TellsResult}
 use Rattle.wa_model.specs.Store.{gives}
 use Rattle.run_theory.specs.Flat.{all_got, followed_by, set_to, slots_got}
-use Rattle.flat_pieces.specs.Putting.{Puts}
+use Rattle.flow_rewrite.specs.Putting.{Puts}
 use Rattle.slim_form.specs.Emit.{all_in, count, elem, free_by}
-use Rattle.slim_form.specs.Slim.{Free, CoversBut, StackShape, more, Takes, takes_none, takes_one, Rises, rises, rises_below, Lacks, lacks_all, lacks_slot, Terms, Slims, does, gets, sets, tees}
-use Rattle.slim_form.specs.Slim.{keeps, uses, saves, narrows}
+use Rattle.slim_form.specs.Slim.{Free, CoversBut, StackShape, more, Takes, takes_none, takes_one, Rises, rises, rises_below, Lacks, lacks_all, lacks_slot, Terms, Slims, does, gets, sets, tees, keeps, uses, saves, narrows}
 use Rattle.slim_form.proofs.EmittedCode as E
 use Rattle.slim_walk.specs.declared.stack.Walk.{Walk}
 use Rattle.slim_walk.specs.Walking.{slot_in, kept_onto, unstacked, free_at, shape_at, Alike, Among, Good, Kept, KeptTold, OpTakes, Stepped, Taken, TakenBy, from_stack, from_slots}

@@ -6,7 +6,7 @@ use Rattle.wa_types.specs.View.{onto}
 use Rattle.wa_model.specs.declared.flat.Operand.{Operand}
 use Rattle.run_theory.specs.Flat.{all_got, slots_got}
 use Rattle.wa_model.specs.Store.{takes}
-use Rattle.flat_pieces.specs.Putting.{Puts}
+use Rattle.flow_rewrite.specs.Putting.{Puts}
 use Rattle.slim_form.specs.Emit.{elem, free_by}
 use Rattle.slim_form.specs.Slim.{Free, more, Reaches, StackShape, Slims, Terms}
 use Rattle.slim_walk.specs.declared.stack.Walk.{Walk}

@@ -11,7 +11,7 @@ ghost use Rattle.slim_walk.specs.Walking.{Ended, Good, Stepped};
 
 use crate::moves::keep_told;
 use crate::stack::{Walk, flush, take};
-use flat_pieces::put_copy;
+use flow_rewrite::put_copy;
 use std::alloc::{AllocError, Global};
 use wa_model::Operand;
 use wa_types::Instr;

@@ -10,7 +10,7 @@ ghost use Rattle.slim_walk.specs.Walking.{slot_in, Assigned, Good, KeptTold, Ste
 
 use crate::operators::taken_by;
 use crate::stack::{Walk, flush, is_kept_top, is_slot, keep, stands, take};
-use flat_pieces::put_copy;
+use flow_rewrite::put_copy;
 use std::alloc::AllocError;
 use wa_model::Operand;
 use wa_types::Instr;

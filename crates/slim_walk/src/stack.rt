@@ -4,7 +4,7 @@ ghost use Rattle.std.specs.Prelude.{◌≡◌, true, false, IfOk, OnOk};
 ghost use Rattle.slim_form.specs.Emit.{elem};
 ghost use Rattle.slim_walk.specs.Walking.{slot_in, Flushed, Good, IsKeptTop, IsTop, Kept, Taken};
 
-use flat_pieces::put_operands;
+use flow_rewrite::put_operands;
 use std::alloc::{AllocError, Global};
 use wa_model::Operand;
 use wa_types::Instr;

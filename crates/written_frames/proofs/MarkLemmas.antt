@@ -1,6 +1,5 @@
 -- The stacks of numbered calls, marked statement by statement.
-use Rattle.std.proofs.Common.{◌≡◌, ℕ, zero, suc, ◌+◌, ◌<◌, ◌≤◌, List, [], ◌∷◌, ◌++◌, length, get_or, drop, take, Option, ◌⊎◌, inl, inr, Bool, true, false, refl, sym, ap, subst, ◌∙◌, arith}
-use Rattle.std.proofs.Common.{All, append_assoc, length-append, set}
+use Rattle.std.proofs.Common.{◌≡◌, ℕ, zero, suc, ◌+◌, ◌<◌, ◌≤◌, List, [], ◌∷◌, ◌++◌, length, get_or, drop, take, Option, ◌⊎◌, inl, inr, Bool, true, false, refl, sym, ap, subst, ◌∙◌, arith, All, append_assoc, length-append, set}
 use Rattle.std.specs.Prelude.{◌≢◌, ◌||◌, ◌&&◌, nat_eq, nat_lt, slice_get}
 use Rattle.std.specs.List.{list_any}
 use Rattle.std.proofs.lemmas.Bool.{cases_eq, cases_lt, eq-eqb, le-ltb, ne_eqb}
@@ -22,8 +21,8 @@ use Rattle.flat_laws.specs.FlatModule.{stacks_in}
 use Rattle.guard_form.specs.Grouping.{is_place}
 use Rattle.guard_form.specs.Pieces.{call_total}
 use Rattle.flow_rewrite.proofs.NumberingLemmas.{none_place}
-use Rattle.flat_pieces.specs.Statements.{with_rest}
-use Rattle.flat_pieces.proofs.StmtLemmas.{in_front_is, stmts_step, stmts_end, call_is}
+use Rattle.flow_rewrite.specs.Statements.{with_rest}
+use Rattle.flow_rewrite.proofs.StmtLemmas.{in_front_is, stmts_step, stmts_end, call_is}
 use Rattle.rewrite_form.specs.Emitted.{or_none, holds_operand}
 use Rattle.written_frames.specs.Marking.{is_held, StacksFit, Markable, Marked}
 

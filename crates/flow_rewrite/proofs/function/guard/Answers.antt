@@ -4,8 +4,8 @@ use Rattle.std.proofs.Common.{◌≤◌, false, refl, sym, subst, ap, ◌∙◌}
 use Rattle.wa_types.specs.View.{code}
 use Rattle.run_theory.specs.FlatView.{flat_func_of, stmts}
 use Rattle.guard_form.specs.Guarded.{guarded_code}
-use Rattle.flow_calls.specs.declared.guards.Guards.{Guards}
-use Rattle.flow_calls.specs.Emitting.{indices, IsPart, Rises}
+use Rattle.flow_rewrite.specs.declared.guards.Guards.{Guards}
+use Rattle.flow_rewrite.specs.CallsEmitting.{indices, IsPart, Rises}
 use Rattle.flow_rewrite.proofs.GuardLemmas.{part_raisable, func_ready, whole_is}
 use Rattle.flow_rewrite.proofs.function.guard.Goals as goal
 

@@ -1,6 +1,6 @@
 use Rattle.std.proofs.Common.{sym, ◌∙◌}
-use Rattle.flow_calls.specs.Emitting.{indices}
-use Rattle.flat_pieces.proofs.StmtLemmas.{if_false}
+use Rattle.flow_rewrite.specs.CallsEmitting.{indices}
+use Rattle.flow_rewrite.proofs.StmtLemmas.{if_false}
 use Rattle.flow_rewrite.proofs.GuardLemmas.{alone_is}
 use Rattle.flow_rewrite.proofs.function.guarded_body.Goals as goal
 

@@ -3,10 +3,9 @@ use Rattle.wa_types.specs.Syntax.{a_block, a_loop}
 use Rattle.wa_model.specs.declared.flat.Stmt.{the_lemmas}
 use Rattle.run_theory.specs.Flat.{no_more, nests, decides}
 use Rattle.run_theory.specs.FlatView.{stmt_in_front, stmts}
-use Rattle.flat_pieces.specs.Statements.{Fits}
-use Rattle.flat_pieces.proofs.StmtLemmas.{block_is, loop_is, if_is}
-use Rattle.flow_rewrite.proofs.WalkSteps.{on_ok, stepped_as, simple_of, simple_stepped, call_fits, call_leaf, call_room, call_as, nest_ready, if_ready, else_ready, walked_start}
-use Rattle.flow_rewrite.proofs.WalkSteps.{walked_ready, walked_next, walked_end}
+use Rattle.flow_rewrite.specs.Statements.{Fits}
+use Rattle.flow_rewrite.proofs.StmtLemmas.{block_is, loop_is, if_is}
+use Rattle.flow_rewrite.proofs.WalkSteps.{on_ok, stepped_as, simple_of, simple_stepped, call_fits, call_leaf, call_room, call_as, nest_ready, if_ready, else_ready, walked_start, walked_ready, walked_next, walked_end}
 use Rattle.flow_rewrite.proofs.write.+write.Goals as goal
 
 pub write_sequence-loop-stmt-init : goal.write_sequence-loop-stmt-init

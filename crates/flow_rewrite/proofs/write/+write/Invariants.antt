@@ -1,6 +1,6 @@
 use Rattle.std.proofs.Common.{drop}
 use Rattle.run_theory.specs.FlatView.{stmts}
-use Rattle.flow_calls.specs.Emitting.{Walked}
+use Rattle.flow_rewrite.specs.CallsEmitting.{Walked}
 use Rattle.flow_rewrite.proofs.write.+write.Given as goal
 
 abbrev pub invariant-write_sequence-loop-stmt : goal.invariant-write_sequence-loop-stmt

@@ -3,8 +3,8 @@ use Rattle.wa_types.specs.Syntax.{local_set, br_if, br_table, done, plain}
 use Rattle.wa_types.specs.View.{in_front, onto}
 use Rattle.wa_types.proofs.ViewLemmas.{in_br_table}
 use Rattle.run_theory.specs.Flat.{no_more, followed_by, all_got, set_to}
-use Rattle.flat_pieces.specs.Statements.{one_code}
-use Rattle.flat_pieces.proofs.PutLemmas.{put_one, set_is, br_is, br_if_is, unreachable_is}
+use Rattle.flow_rewrite.specs.Statements.{one_code}
+use Rattle.flow_rewrite.proofs.PutLemmas.{put_one, set_is, br_is, br_if_is, unreachable_is}
 use Rattle.flow_rewrite.proofs.WalkSteps.{simple_leaf, only_simple, as_plain, as_move, as_br, as_br_if, as_table, as_halt}
 use Rattle.flow_rewrite.proofs.write.put_simple.Goals as goal
 

@@ -3,7 +3,7 @@ use Rattle.wa_types.specs.Syntax.{a_block, a_loop}
 use Rattle.run_theory.specs.Flat.{no_more, nests, decides}
 use Rattle.run_theory.specs.FlatView.{stmts}
 use Rattle.wa_model.specs.declared.flat.Stmt.{the_lemmas}
-use Rattle.flat_pieces.proofs.StmtLemmas.{block_is, loop_is, if_is}
+use Rattle.flow_rewrite.proofs.StmtLemmas.{block_is, loop_is, if_is}
 use Rattle.live_passes.proofs.SetLemmas.{put_back}
 use Rattle.live_passes.proofs.CodeLemmas.{ops_at}
 use Rattle.live_passes.proofs.PassLemmas.{passed_first, passed_before, nest_ops, then_ops, else_ops, holds_none, block_passed, loop_passed, if_passed}

@@ -4,13 +4,12 @@ use Rattle.wa_types.specs.Syntax.{a_block, a_loop}
 use Rattle.run_theory.specs.Flat.{no_more, nests, decides, code_of}
 use Rattle.run_theory.specs.FlatView.{stmt_in_front, stmts}
 use Rattle.wa_model.specs.declared.flat.Stmt.{the_lemmas}
-use Rattle.flat_pieces.proofs.StmtLemmas.{block_is, loop_is, if_is}
+use Rattle.flow_rewrite.proofs.StmtLemmas.{block_is, loop_is, if_is}
 use Rattle.live_passes.proofs.CodeLemmas.{ops_at}
 use Rattle.live_passes.proofs.PassLemmas.{nest_ops, then_ops, else_ops, holds_none}
 use Rattle.live_words.specs.Words.{WordsBefore}
 use Rattle.live_words.specs.Heads.{Fresh, deeper}
-use Rattle.live_words.proofs.WordPasses.{words_first, words_before, fresh_before, heads_before, heads_first, fresh_block, fresh_loop, words_block, heads_block, words_loop, heads_loop}
-use Rattle.live_words.proofs.WordPasses.{head_there, words_if, heads_if, heads_none, no_loops, own_of, put_as, words_size, put_back_words}
+use Rattle.live_words.proofs.WordPasses.{words_first, words_before, fresh_before, heads_before, heads_first, fresh_block, fresh_loop, words_block, heads_block, words_loop, heads_loop, head_there, words_if, heads_if, heads_none, no_loops, own_of, put_as, words_size, put_back_words}
 use Rattle.live_words.proofs.passes.+pass.Goals as goal
 
 pub pass_body-loop-left-init : goal.pass_body-loop-left-init

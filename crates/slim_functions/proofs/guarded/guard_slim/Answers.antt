@@ -2,7 +2,7 @@ use Rattle.std.proofs.Common.{arith, subst, Some, ◌∙◌}
 use Rattle.std.proofs.lemmas.Result.{IfOk-weaker}
 use Rattle.wa_types.specs.View.{code}
 use Rattle.run_theory.specs.FlatView.{flat_func_of}
-use Rattle.flow_constructs.proofs.ConstructSteps.{numbers_few}
+use Rattle.flow_rewrite.proofs.ConstructSteps.{numbers_few}
 use Rattle.slim_pieces.specs.Functions.{SlimTold}
 use Rattle.slim_functions.proofs.GuardLemmas.{labels_raised, units_few}
 use Rattle.slim_functions.proofs.ToldLemmas.{guarded_plain, guarded_slim, pieces_told}

@@ -5,7 +5,7 @@ use Rattle.wa_types.specs.View.{in_front}
 use Rattle.wa_model.specs.declared.flat.Operand.TheVariants.{Local}
 use Rattle.run_theory.specs.Flat.{no_more, calls, nests, decides}
 use Rattle.run_theory.specs.FlatView.{stmt_in_front, stmts}
-use Rattle.flat_pieces.proofs.StmtLemmas.{block_is, call_is, if_is, loop_is}
+use Rattle.flow_rewrite.proofs.StmtLemmas.{block_is, call_is, if_is, loop_is}
 use Rattle.slim_steps.specs.Coming.{Ready}
 use Rattle.slim_steps.specs.Inside.{ConditionTold, InsideTold, Left, WrittenTold}
 use Rattle.slim_steps.proofs.ConstructLemmas.{block_put, flushed_put, loop_put}

@@ -1,5 +1,5 @@
 use Rattle.std.proofs.Common.{◌∙◌}
-use Rattle.flow_calls.proofs.NumberLemmas.{place_found}
+use Rattle.flow_rewrite.proofs.CallIsNumbered.{place_found}
 use Rattle.slim_steps.proofs.calls.is_numbered.Goals as goal
 
 pub returns : goal.returns

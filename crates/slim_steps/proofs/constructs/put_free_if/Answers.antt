@@ -2,7 +2,7 @@ use Rattle.std.proofs.Common.{None, ap, sym, ◌∙◌}
 use Rattle.wa_types.specs.Syntax.{branch}
 use Rattle.wa_types.specs.View.{code, onto}
 use Rattle.wa_types.proofs.ViewLemmas.{in_if}
-use Rattle.flat_pieces.proofs.PutLemmas.{put_one}
+use Rattle.flow_rewrite.proofs.PutLemmas.{put_one}
 use Rattle.slim_steps.specs.Inside.{condition_got}
 use Rattle.slim_steps.proofs.constructs.put_free_if.Goals as goal
 

@@ -1,6 +1,6 @@
 use Rattle.std.proofs.Common.{None, refl}
 use Rattle.wa_types.proofs.ViewLemmas.{in_loop}
-use Rattle.flat_pieces.proofs.PutLemmas.{put_one}
+use Rattle.flow_rewrite.proofs.PutLemmas.{put_one}
 use Rattle.slim_steps.specs.Inside.{in_piece, as_unit}
 use Rattle.slim_steps.specs.declared.sequence.Head.TheVariants.{Loop}
 use Rattle.slim_steps.proofs.NestLemmas.{none_in, on_ok, same_piece, some_in}

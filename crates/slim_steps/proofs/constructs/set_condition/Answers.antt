@@ -1,4 +1,4 @@
-use Rattle.flat_pieces.proofs.PutLemmas.{put_one, set_is}
+use Rattle.flow_rewrite.proofs.PutLemmas.{put_one, set_is}
 use Rattle.slim_steps.proofs.NestLemmas.{set_one}
 use Rattle.slim_steps.proofs.constructs.set_condition.Goals as goal
 

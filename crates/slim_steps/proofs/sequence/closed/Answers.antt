@@ -1,6 +1,6 @@
 use Rattle.std.proofs.Common.{refl, sym, ap, ◌∙◌}
 use Rattle.wa_types.specs.View.{code}
-use Rattle.unit_pieces.proofs.UnitLemmas.{call_is, block_is, loop_is, if_is}
+use Rattle.flow_rewrite.proofs.UnitLemmas.{call_is, block_is, loop_is, if_is}
 use Rattle.slim_steps.specs.SequenceView.{head_in_front}
 use Rattle.slim_steps.proofs.sequence.closed.Goals as goal
 

@@ -1,4 +1,4 @@
-use Rattle.flat_pieces.proofs.PutLemmas.{put_one, br_is}
+use Rattle.flow_rewrite.proofs.PutLemmas.{put_one, br_is}
 use Rattle.slim_walk.proofs.BranchLemmas.{br_ended}
 use Rattle.slim_walk.proofs.branches.put_br.Goals as goal
 

@@ -1,5 +1,5 @@
 use Rattle.std.proofs.Common.{refl, ◌∷◌, []}
-use Rattle.flat_pieces.proofs.PutLemmas.{put_one, br_if_is}
+use Rattle.flow_rewrite.proofs.PutLemmas.{put_one, br_if_is}
 use Rattle.slim_walk.proofs.BranchLemmas.{br_if_stepped}
 use Rattle.slim_walk.proofs.branches.put_br_if.Goals as goal
 

@@ -2,7 +2,7 @@ use Rattle.std.proofs.Common.{ap, refl, ◌∙◌, ◌∷◌, []}
 use Rattle.wa_types.specs.Syntax.{br_table, plain}
 use Rattle.wa_types.specs.View.{onto}
 use Rattle.wa_types.proofs.ViewLemmas.{in_br_table}
-use Rattle.flat_pieces.proofs.PutLemmas.{put_one}
+use Rattle.flow_rewrite.proofs.PutLemmas.{put_one}
 use Rattle.slim_walk.proofs.BranchLemmas.{table_ended}
 use Rattle.slim_walk.proofs.branches.put_br_table.Goals as goal
 

@@ -1,6 +1,6 @@
 use Rattle.std.proofs.Common.{sym, ◌∙◌}
 use Rattle.std.proofs.lemmas.Result.{IfOk-weaker}
-use Rattle.flat_pieces.proofs.PutLemmas.{put_one, get_is}
+use Rattle.flow_rewrite.proofs.PutLemmas.{put_one, get_is}
 use Rattle.slim_walk.proofs.MoveLemmas.{again_stepped}
 use Rattle.slim_walk.proofs.moves.get_again.Goals as goal
 

@@ -1,5 +1,5 @@
 use Rattle.std.proofs.Common.{sym, ◌∙◌}
-use Rattle.flat_pieces.proofs.PutLemmas.{put_one}
+use Rattle.flow_rewrite.proofs.PutLemmas.{put_one}
 use Rattle.slim_walk.proofs.MoveLemmas.{tee_is, tee_stepped}
 use Rattle.slim_walk.proofs.moves.move_again.Goals as goal
 

@@ -1,5 +1,5 @@
 use Rattle.std.proofs.lemmas.Result.{IfOk-weaker}
-use Rattle.flat_pieces.proofs.PutLemmas.{put_one, get_is}
+use Rattle.flow_rewrite.proofs.PutLemmas.{put_one, get_is}
 use Rattle.slim_walk.proofs.MoveLemmas.{local_stepped}
 use Rattle.slim_walk.proofs.moves.move_local.Goals as goal
 

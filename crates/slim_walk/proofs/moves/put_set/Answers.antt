@@ -1,6 +1,6 @@
 use Rattle.std.proofs.Common.{sym, ◌∙◌}
 use Rattle.std.proofs.lemmas.Result.{IfOk-weaker}
-use Rattle.flat_pieces.proofs.PutLemmas.{put_one, set_is}
+use Rattle.flow_rewrite.proofs.PutLemmas.{put_one, set_is}
 use Rattle.slim_walk.proofs.MoveLemmas.{kept_assigned, set_assigned}
 use Rattle.slim_walk.proofs.moves.put_set.Goals as goal
 

@@ -6,9 +6,8 @@ use Rattle.wa_types.specs.Syntax.{a_block, a_loop}
 use Rattle.run_theory.specs.Flat.{no_more, nests, decides}
 use Rattle.run_theory.specs.FlatView.{stmts}
 use Rattle.wa_model.specs.declared.flat.Stmt.{the_lemmas}
-use Rattle.flat_pieces.proofs.StmtLemmas.{block_is, loop_is, if_is}
-use Rattle.written_frames.proofs.MarkLemmas.{going_first, going_one, going_next, going_end, call_fits, call_place, call_marked, nest_ready, nest_place, nest_marked, if_ready, else_ready}
-use Rattle.written_frames.proofs.MarkLemmas.{if_place, if_marked, none_marked}
+use Rattle.flow_rewrite.proofs.StmtLemmas.{block_is, loop_is, if_is}
+use Rattle.written_frames.proofs.MarkLemmas.{going_first, going_one, going_next, going_end, call_fits, call_place, call_marked, nest_ready, nest_place, nest_marked, if_ready, else_ready, if_place, if_marked, none_marked}
 use Rattle.written_frames.proofs.kept.+mark.Goals as goal
 
 pub mark_body-loop-stmt-init : goal.mark_body-loop-stmt-init

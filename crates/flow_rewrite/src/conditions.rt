@@ -1,0 +1,78 @@
+//! Conditions of ifs with numbered calls.
+
+ghost use Rattle.std.specs.Prelude.{◌≡◌, ◌+◌, IfOk, OnOk};
+ghost use Rattle.wa_types.specs.View.{code};
+ghost use Rattle.guard_form.specs.Guarded.{choice};
+ghost use Rattle.guard_form.specs.Pieces.{got_any, numbers_in};
+ghost use Rattle.flow_rewrite.specs.Putting.{Puts};
+ghost use Rattle.flow_rewrite.specs.Raising.{Raisable};
+ghost use Rattle.flow_rewrite.specs.CallsEmitting.{indices};
+ghost use Rattle.flow_rewrite.specs.Fronts.{condition_code};
+ghost use Rattle.flow_rewrite.specs.UnitView.{units_of};
+
+use crate::pieces::Unit;
+use crate::put::{put_index, put_operand, put_test};
+use crate::labels::raised;
+use crate::guards::Guards;
+use std::alloc::AllocError;
+use wa_model::Operand;
+use wa_types::{Instr, NumOp, ValType, Value};
+
+/// Which arm is gone into in a state that isn't 0, where the else arm's first number is this.
+fn choose(
+    guards: &Guards,
+    then_units: &[Unit],
+    else_units: &[Unit],
+    _first: u32,
+    number: u32,
+) -> Result<Vec<Instr>, AllocError>
+    requires { number ≡ _first + numbers_in (units_of then_units.now) }
+    ensures { IfOk result (λ v. code v.items ≡ choice (indices guards.now) _first (units_of then_units.now) (units_of else_units.now)) }
+{
+    let mut out = Vec::new(guards.alloc);
+    if else_units.is_empty() {
+        out.push(Instr::Const(Value::I32(1)))?;
+        return Ok(out);
+    }
+    if then_units.is_empty() {
+        out.push(Instr::Const(Value::I32(0)))?;
+        return Ok(out);
+    }
+    put_index(&mut out, guards.index, number, NumOp::I32LtU)?;
+    Ok(out)
+}
+
+/// Puts an operand, where one is told.
+fn put_any(out: &mut Vec<Instr>, cond: Option<Operand>) -> Result<(), AllocError>
+    ensures { OnOk result (Puts out.old.items out.new.items (got_any cond)) }
+{
+    match cond {
+        None => Ok(()),
+        Some(operand) => {
+            put_operand(out, operand)?;
+            Ok(())
+        }
+    }
+}
+
+/// Puts the condition of an `if` behind the piece in front of it, or in a state that isn't 0 the choice of the arm.
+pub(crate) fn put_condition(
+    guards: &Guards,
+    out: &mut Vec<Instr>,
+    piece: &[Instr],
+    cond: Option<Operand>,
+    then_units: &[Unit],
+    else_units: &[Unit],
+    _first: u32,
+    number: u32,
+) -> Result<(), AllocError>
+    requires piece { Raisable 0 2 (code piece.now) }
+    requires number { number ≡ _first + numbers_in (units_of then_units.now) }
+    ensures { OnOk result (Puts out.old.items out.new.items (condition_code (indices guards.now) _first (code piece.now) cond (units_of then_units.now) (units_of else_units.now))) }
+{
+    let sought = choose(guards, then_units, else_units, _first, number)?;
+    let mut inside = raised(guards.alloc, 0, 1, piece)?;
+    put_any(&mut inside, cond)?;
+    put_test(out, guards.state, Some(ValType::I32), sought, inside)?;
+    Ok(())
+}

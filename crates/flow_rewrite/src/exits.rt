@@ -1,0 +1,55 @@
+//! Where runs go that have passed a sequence's calls.
+
+ghost use Rattle.std.specs.Prelude.{◌≡◌, ◌^◌, if◌then◌else◌};
+ghost use Rattle.wa_types.specs.Syntax.{a_block, a_loop};
+ghost use Rattle.guard_form.specs.Guarded.{exit_inside, its_end};
+ghost use Rattle.flow_rewrite.specs.Exits.{exit_of, LabelBelow};
+
+/// Where a run in a state that isn't 0 goes that has passed the calls of a sequence: to its end, or out by a label; or no such run
+/// passes it.
+#[derive(Clone, Copy)]
+pub enum ExitTo {
+    End,
+    Label(u32),
+    Nowhere,
+}
+
+/// The exit inside a block or an arm, with more units behind it or none.
+pub(crate) fn inside_block(exit: ExitTo, more: bool) -> ExitTo
+    requires { LabelBelow (2 ^ 31) (exit_of exit) }
+    ensures { exit_of result ≡ exit_inside (exit_of exit) a_block more }
+{
+    if more {
+        return ExitTo::Label(0);
+    }
+    match exit {
+        ExitTo::End => ExitTo::Label(0),
+        ExitTo::Label(label) => ExitTo::Label(label + 1),
+        ExitTo::Nowhere => ExitTo::Nowhere,
+    }
+}
+
+/// The exit inside a loop.
+pub(crate) fn inside_loop(exit: ExitTo, more: bool) -> ExitTo
+    requires { LabelBelow (2 ^ 31) (exit_of exit) }
+    ensures { exit_of result ≡ exit_inside (exit_of exit) a_loop more }
+{
+    if more {
+        return ExitTo::End;
+    }
+    match exit {
+        ExitTo::End => ExitTo::End,
+        ExitTo::Label(label) => ExitTo::Label(label + 1),
+        ExitTo::Nowhere => ExitTo::Nowhere,
+    }
+}
+
+/// The exit at a call: with more units behind it, to the end of its own block.
+pub(crate) fn at_call(exit: ExitTo, more: bool) -> ExitTo
+    ensures { exit_of result ≡ (if more then its_end else exit_of exit) }
+{
+    if more {
+        return ExitTo::End;
+    }
+    exit
+}

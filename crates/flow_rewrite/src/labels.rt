@@ -1,0 +1,96 @@
+//! Code with the labels raised that leave it.
+
+ghost use Rattle.std.specs.Prelude.{◌≡◌, ◌≤◌, ◌<◌, ◌^◌, ◌+◌, All, map, IfOk, OnOk};
+ghost use Rattle.wa_types.specs.Syntax.{Code, done};
+ghost use Rattle.wa_types.specs.View.{code, in_front, onto};
+ghost use Rattle.guard_form.specs.Guarded.{raise, raised};
+ghost use Rattle.flow_rewrite.specs.Raising.{Raisable};
+
+use std::alloc::{AllocError, Global};
+use wa_types::{Instr, copy_leaf};
+
+/// The label raised by so much, where it leads out of so many constructs.
+fn raise(inside: u32, by: u32, label: u32) -> u32
+    requires { (label < 2 ^ 31) × (by ≤ 2) }
+    ensures { result ≡ raise inside by label }
+{
+    if label < inside {
+        return label;
+    }
+    label + by
+}
+
+/// The labels, raised.
+fn raise_each(alloc: Global, inside: u32, by: u32, labels: &[u32]) -> Result<Vec<u32>, AllocError>
+    requires { (All (λ l. l < 2 ^ 31) labels.now) × (by ≤ 2) }
+    ensures { IfOk result (λ v. v.items ≡ map (raise inside by) labels.now) }
+{
+    let mut out = Vec::with_capacity(alloc, labels.len())?;
+    for label in labels {
+        out.push(raise(inside, by, *label))?;
+    }
+    Ok(out)
+}
+
+/// Code that stands inside so many constructs of its own, with each label that leaves them raised.
+#[cycle(raised)]
+pub fn raised(alloc: Global, inside: u32, by: u32, body: &[Instr]) -> Result<Vec<Instr>, AllocError>
+    requires { Raisable inside by (code body.now) }
+    ensures { IfOk result (λ v. code v.items ≡ raised inside by (code body.now)) }
+{
+    let mut out = Vec::with_capacity(alloc, body.len())?;
+    for instr in body {
+        out.push(raised_instr(alloc, inside, by, instr)?)?;
+    }
+    Ok(out)
+}
+
+/// The instruction, with its labels raised.
+#[cycle(raised)]
+fn raised_instr(alloc: Global, inside: u32, by: u32, instr: &Instr) -> Result<Instr, AllocError>
+    requires { Raisable inside by (in_front instr.now done) }
+    ensures { IfOk result (λ i. (rest : Code) → in_front i (raised inside by rest) ≡ raised inside by (in_front instr.now rest)) }
+{
+    match instr {
+        Instr::Br(label) => Ok(Instr::Br(raise(inside, by, *label))),
+        Instr::BrIf(label) => Ok(Instr::BrIf(raise(inside, by, *label))),
+        Instr::BrTable { labels, last } => Ok(Instr::BrTable {
+            labels: raise_each(alloc, inside, by, labels)?,
+            last: raise(inside, by, *last),
+        }),
+        Instr::Block { result, body } => Ok(Instr::Block {
+            result: *result,
+            body: raised(alloc, inside + 1, by, body)?,
+        }),
+        Instr::Loop { result, body } => Ok(Instr::Loop {
+            result: *result,
+            body: raised(alloc, inside + 1, by, body)?,
+        }),
+        Instr::If {
+            result,
+            then_arm,
+            else_arm,
+        } => Ok(Instr::If {
+            result: *result,
+            then_arm: raised(alloc, inside + 1, by, then_arm)?,
+            else_arm: raised(alloc, inside + 1, by, else_arm)?,
+        }),
+        _ => copy_leaf(alloc, instr),
+    }
+}
+
+/// Puts code with each label that leaves it raised by so much, as the last thing behind what stands there.
+pub fn put_raised(
+    alloc: Global,
+    out: &mut Vec<Instr>,
+    by: u32,
+    body: &[Instr],
+) -> Result<(), AllocError>
+    requires { Raisable 0 by (code body.now) }
+    ensures { OnOk result (code out.new.items ≡ onto out.old.items (raised 0 by (code body.now))) }
+{
+    for instr in body {
+        out.push(raised_instr(alloc, 0, by, instr)?)?;
+    }
+    Ok(())
+}
