@@ -20,18 +20,18 @@ use Rattle.wa_types.specs.Syntax.{basic, local_get, local_set, local_tee, br, br
 use Rattle.wa_types.specs.Validity.{Valid}
 use Rattle.wa_types.proofs.SizeBounds.{weight_fits}
 use Rattle.run_theory.specs.Flat.{code_of, body_of, followed_by}
-use Rattle.slim_modules.specs.Pieces.{first_piece, flat_units, units}
-use Rattle.slim_modules.specs.SlimModule.{Pieces, flat_terms}
-use Rattle.slim_modules.proofs.UnitsSlim.{units_law}
+use Rattle.guard_form.specs.Pieces.{first_piece, flat_units, units}
+use Rattle.slim_laws.specs.SlimModule.{Pieces, flat_terms}
+use Rattle.slim_laws.proofs.UnitsSlim.{units_law}
 use Rattle.run_theory.specs.FlatFits.{one_run}
 use Rattle.run_theory.specs.Growth.{Each}
 use Rattle.wa_model.specs.Rewrites.{instructions_and_labels}
-use Rattle.slim_modules.proofs.Calls.{calls_stay}
-use Rattle.slim_modules.proofs.Whole.{meets}
-use Rattle.slim_modules.specs.Flatten.{flattened}
-use Rattle.slim_modules.specs.FlatModule.{extra_types}
-use Rattle.slim_modules.specs.Functions.{indices_of}
-use Rattle.slim_modules.proofs.Grouped.{joins_law}
+use Rattle.flat_laws.proofs.Calls.{calls_stay}
+use Rattle.flat_laws.proofs.Whole.{meets}
+use Rattle.flat_laws.specs.Flatten.{flattened}
+use Rattle.flat_laws.specs.FlatModule.{extra_types}
+use Rattle.guard_form.specs.Functions.{indices_of}
+use Rattle.guard_form.proofs.Grouped.{joins_law}
 use Rattle.run_theory.proofs.GrownSteps.{front}
 use Rattle.run_theory.proofs.RuntimeValid.{behind}
 use Rattle.run_laws.proofs.Sizes.{one_more, params_more, runtime_keeps_sizes}

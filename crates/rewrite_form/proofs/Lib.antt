@@ -1,6 +1,6 @@
-pub use Rattle.slim_modules.proofs.Calls
-pub use Rattle.slim_modules.proofs.UnitsAlike
-pub use Rattle.slim_modules.proofs.Whole
+pub use Rattle.flat_laws.proofs.Calls
+pub use Rattle.slim_laws.proofs.UnitsAlike
+pub use Rattle.flat_laws.proofs.Whole
 pub mod EmittedBy
 pub mod EmittedRewritten
 pub mod EmittedSizes

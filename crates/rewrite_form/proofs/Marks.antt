@@ -4,8 +4,7 @@ use Rattle.std.proofs.lemmas.List.{append-nil, length-map}
 use Rattle.wa_types.specs.declared.values.ValType.{ValType}
 use Rattle.wa_types.specs.declared.values.ValType.TheVariants.{I32, I64}
 use Rattle.wa_types.specs.declared.values.Value.TheVariants as V
-use Rattle.wa_types.specs.Syntax.{Basic, const, num, global_get, load, store, basic, local_get, local_set, local_tee, br, br_if, br_table, return, unreachable, call, call_indirect, Plain}
-use Rattle.wa_types.specs.Syntax.{a_block, Code, done, plain, nest, branch}
+use Rattle.wa_types.specs.Syntax.{Basic, const, num, global_get, load, store, basic, local_get, local_set, local_tee, br, br_if, br_table, return, unreachable, call, call_indirect, Plain, a_block, Code, done, plain, nest, branch}
 use Rattle.wa_types.specs.declared.operators.NumOp.TheVariants.{I32Ne, I32LtU, I32Add, I32Sub}
 use Rattle.wa_types.specs.Pausing.{Callee, callee, callee_onto, calls_of}
 use Rattle.wa_types.specs.Sizes.{plain_lists, code_lists}
@@ -16,11 +15,10 @@ use Rattle.run_theory.specs.Growth.{Each}
 use Rattle.local_spill.specs.declared.frames.Place.{Place}
 use Rattle.local_spill.specs.Spilling.{SpillIndices, location_of, room_tested, stored_value, loaded_value, locals_stored, locals_loaded, saving, restoring}
 use Rattle.wa_model.specs.Store.{gives}
-use Rattle.slim_modules.specs.Slim as S
-use Rattle.slim_modules.specs.Slim.{Free, Slims, Terms}
-use Rattle.slim_modules.specs.Pieces.{Units, no_unit, call_unit, nest_unit, if_unit, any_unit, numbers_in, call_to, got_any, flat_units}
-use Rattle.slim_modules.specs.Guarded.{raise, raised_plain, raised, GuardIndices, by_state, index_with, guarded, sought, one_more, index_noted, noted, call_guarded, choice, arm, Exit}
-use Rattle.slim_modules.specs.Guarded.{each_end, its_end, by_label, nowhere, exit_inside, last_piece, call_front, body_exit, guarded_body, front, written_body}
+use Rattle.slim_laws.specs.Slim as S
+use Rattle.slim_laws.specs.Slim.{Free, Slims, Terms}
+use Rattle.guard_form.specs.Pieces.{Units, no_unit, call_unit, nest_unit, if_unit, any_unit, numbers_in, call_to, got_any, flat_units}
+use Rattle.guard_form.specs.Guarded.{raise, raised_plain, raised, GuardIndices, by_state, index_with, guarded, sought, one_more, index_noted, noted, call_guarded, choice, arm, Exit, each_end, its_end, by_label, nowhere, exit_inside, last_piece, call_front, body_exit, guarded_body, front, written_body}
 
 -- ---- marks
 

@@ -15,21 +15,21 @@ use Rattle.wa_types.specs.Points.{after}
 use Rattle.wa_model.specs.Rewrites.{instructions_and_labels}
 use Rattle.wa_model.specs.declared.flat.Operand.TheVariants.{Local}
 use Rattle.run_theory.specs.Flat.{Stmts, no_more, leaps, leaps_if, leaps_by, followed_by, code_of, body_of, result_got}
-use Rattle.slim_modules.specs.Flatten.{Names, names, top, carry_to, carry, carry_all, arrive, flat_plain, flat, flattened}
-use Rattle.slim_modules.proofs.Depths.{flat_is_flat}
-use Rattle.slim_modules.proofs.Sizes.{flat_is_small}
-use Rattle.slim_modules.proofs.ValidModules.{flat_pruned}
+use Rattle.flat_laws.specs.Flatten.{Names, names, top, carry_to, carry, carry_all, arrive, flat_plain, flat, flattened}
+use Rattle.flat_laws.proofs.Depths.{flat_is_flat}
+use Rattle.flat_laws.proofs.Sizes.{flat_is_small}
+use Rattle.flat_laws.proofs.ValidModules.{flat_pruned}
 use Rattle.frame_laws.specs.Sizes.{result_size}
-use Rattle.slim_modules.specs.Bounds.{unit_count}
-use Rattle.slim_modules.specs.Functions.{GuardedFunc, indices_of}
-use Rattle.slim_modules.specs.Guarded.{body_exit, guarded_body, function_body}
-use Rattle.slim_modules.specs.Pieces.{Units, first_piece, flat_units, units}
-use Rattle.slim_modules.specs.SlimModule.{SlimPieces, flat_terms}
-use Rattle.slim_modules.specs.SlimLaws.{SlimmerUnits}
-use Rattle.slim_modules.proofs.UnitSizes.{slimmer_law}
-use Rattle.slim_modules.proofs.UnitsAlike.{units_alike}
-use Rattle.slim_modules.proofs.Grouped.{joins_law}
-use Rattle.slim_modules.proofs.GuardSizes.{depth_law, size_law}
+use Rattle.guard_form.specs.Bounds.{unit_count}
+use Rattle.guard_form.specs.Functions.{GuardedFunc, indices_of}
+use Rattle.guard_form.specs.Guarded.{body_exit, guarded_body, function_body}
+use Rattle.guard_form.specs.Pieces.{Units, first_piece, flat_units, units}
+use Rattle.slim_laws.specs.SlimModule.{SlimPieces, flat_terms}
+use Rattle.slim_laws.specs.Laws.{SlimmerUnits}
+use Rattle.slim_laws.proofs.UnitSizes.{slimmer_law}
+use Rattle.slim_laws.proofs.UnitsAlike.{units_alike}
+use Rattle.guard_form.proofs.Grouped.{joins_law}
+use Rattle.guard_form.proofs.Sizes.{depth_law, size_law}
 use Rattle.rewrite_form.proofs.UnitsFew.{calls_and_constructs, units_are_few}
 use Rattle.rewrite_form.specs.CodesHold.{codes_size}
 use Rattle.rewrite_form.specs.EmittedBy.{FrameCode, guarded_by, written_by}

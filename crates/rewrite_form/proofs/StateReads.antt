@@ -19,18 +19,18 @@ use Rattle.local_spill.specs.Spilling.{index_restored, index_saved, location_rai
 use Rattle.local_spill.specs.declared.frames.Place.{Place}
 use Rattle.frame_laws.specs.Layout.{Layout, fields_size, placed, restore_code, save_code}
 use Rattle.guard_form.proofs.UnitCounts.{counted_law}
-use Rattle.slim_modules.specs.Bounds.{plain_reads, reads, reads_bound, unit_count}
-use Rattle.slim_modules.specs.Flatten.{flattened}
-use Rattle.slim_modules.specs.Functions.{GuardedFunc, indices_of}
-use Rattle.slim_modules.specs.Guarded.{GuardIndices, body_exit, written_body}
-use Rattle.slim_modules.specs.Pieces.{Units, first_piece, flat_units, units}
-use Rattle.slim_modules.specs.SlimModule.{SlimPieces, flat_terms}
-use Rattle.slim_modules.proofs.Grouped.{joins_law}
-use Rattle.slim_modules.proofs.GuardSizes.{one_read, reads_law}
-use Rattle.slim_modules.proofs.Typing.{wide, body_types}
-use Rattle.slim_modules.proofs.UnitSizes.{slimmer_law}
-use Rattle.slim_modules.proofs.UnitsAlike.{units_alike}
-use Rattle.slim_modules.proofs.ValidModules.{good_body, own_result}
+use Rattle.guard_form.specs.Bounds.{plain_reads, reads, reads_bound, unit_count}
+use Rattle.flat_laws.specs.Flatten.{flattened}
+use Rattle.guard_form.specs.Functions.{GuardedFunc, indices_of}
+use Rattle.guard_form.specs.Guarded.{GuardIndices, body_exit, written_body}
+use Rattle.guard_form.specs.Pieces.{Units, first_piece, flat_units, units}
+use Rattle.slim_laws.specs.SlimModule.{SlimPieces, flat_terms}
+use Rattle.guard_form.proofs.Grouped.{joins_law}
+use Rattle.guard_form.proofs.Sizes.{one_read, reads_law}
+use Rattle.flat_laws.proofs.Typing.{wide, body_types}
+use Rattle.slim_laws.proofs.UnitSizes.{slimmer_law}
+use Rattle.slim_laws.proofs.UnitsAlike.{units_alike}
+use Rattle.flat_laws.proofs.ValidModules.{good_body, own_result}
 use Rattle.rewrite_form.specs.EmittedBy.{FrameCode, guarded_by, written_by}
 use Rattle.rewrite_form.proofs.EmittedBy.{defined_where}
 

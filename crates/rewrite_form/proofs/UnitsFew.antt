@@ -3,8 +3,8 @@ use Rattle.std.proofs.Common.{ℕ, suc, ◌+◌, ◌≤◌, List, Option, Some, 
 use Rattle.std.specs.Prelude.{◌||◌, if◌then◌else◌}
 use Rattle.wa_types.specs.Pausing.{Callee}
 use Rattle.run_theory.specs.Flat.{Stmts, no_more, computes, copies, calls, leaps, leaps_if, leaps_by, nests, decides, halts, last_of}
-use Rattle.slim_modules.specs.Bounds.{unit_count}
-use Rattle.slim_modules.specs.Pieces.{nest_unit, if_unit, numbered, holds_call, call_total, first_piece, unit_call, units}
+use Rattle.guard_form.specs.Bounds.{unit_count}
+use Rattle.guard_form.specs.Pieces.{nest_unit, if_unit, numbered, holds_call, call_total, first_piece, unit_call, units}
 
 -- the calls and constructs of statements
 abbrev pub calls_and_constructs : Stmts → ℕ

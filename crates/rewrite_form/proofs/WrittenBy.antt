@@ -20,17 +20,17 @@ use Rattle.run_theory.specs.FlatTyped.{StmtsTyped}
 use Rattle.run_theory.proofs.BaseValid.{base_has_memory}
 use Rattle.run_theory.proofs.FittingNames.{type_small, func_type_small}
 use Rattle.run_theory.proofs.RuntimeValid.{behind}
-use Rattle.slim_modules.specs.Flatten.{flattened}
-use Rattle.slim_modules.specs.FlatModule.{extra_types}
-use Rattle.slim_modules.proofs.Typing.{wide, body_types, body_stmts}
-use Rattle.slim_modules.proofs.ValidModules.{good_body, own_result}
-use Rattle.slim_modules.specs.Functions.{GuardedFunc, indices_of}
-use Rattle.slim_modules.proofs.FrontTypes.{body_from_law}
-use Rattle.slim_modules.proofs.PieceTypes.{pieces_law}
-use Rattle.slim_modules.specs.Pieces.{first_piece, units}
-use Rattle.slim_modules.specs.Typed.{types_same}
-use Rattle.slim_modules.specs.SlimModule.{SlimPieces, flat_terms}
-use Rattle.slim_modules.proofs.UnitsTyped.{typed_law}
+use Rattle.flat_laws.specs.Flatten.{flattened}
+use Rattle.flat_laws.specs.FlatModule.{extra_types}
+use Rattle.flat_laws.proofs.Typing.{wide, body_types, body_stmts}
+use Rattle.flat_laws.proofs.ValidModules.{good_body, own_result}
+use Rattle.guard_form.specs.Functions.{GuardedFunc, indices_of}
+use Rattle.guard_form.proofs.FrontTypes.{body_from_law}
+use Rattle.guard_form.proofs.PieceTypes.{pieces_law}
+use Rattle.guard_form.specs.Pieces.{first_piece, units}
+use Rattle.slim_laws.specs.Typed.{types_same}
+use Rattle.slim_laws.specs.SlimModule.{SlimPieces, flat_terms}
+use Rattle.slim_laws.proofs.UnitsTyped.{typed_law}
 use Rattle.rewrite_form.specs.CodesHold.{CodeTyped, three}
 use Rattle.rewrite_form.specs.EmittedBy.{FrameCode, guarded_by, written_by}
 use Rattle.rewrite_form.proofs.EmittedBy.{emitted, same_around}

@@ -20,7 +20,7 @@ use Rattle.rewrite_form.specs.Emitted.{is_kept, field_where, frame_layout, layou
 use Rattle.rewrite_form.proofs.EmittedBy.{defined_where}
 use Rattle.rewrite_form.proofs.Marks.{Marking, marks_of, marks_saving, marks_restoring, call_marking, calls_are, table_marking, lists_few}
 use Rattle.rewrite_form.proofs.SizesBy.{body_size, code_weighs, counts_less, inner_depths}
-use Rattle.slim_modules.specs.SlimModule.{Pieces}
+use Rattle.slim_laws.specs.SlimModule.{Pieces}
 use Rattle.rewrite_form.proofs.WrittenTypes.{restoring_typed, saving_typed}
 
 -- ---- saved locals

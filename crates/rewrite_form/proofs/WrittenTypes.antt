@@ -13,7 +13,7 @@ use Rattle.wa_types.specs.Syntax.{done, Func, Module}
 use Rattle.wa_types.specs.Typing.{Around, Types}
 use Rattle.run_theory.proofs.GrownSteps.{front}
 use Rattle.run_theory.proofs.RuntimeValid.{behind}
-use Rattle.slim_modules.specs.Flatten.{flattened}
+use Rattle.flat_laws.specs.Flatten.{flattened}
 use Rattle.frame_laws.specs.Layout.{kept, gap, restore_code, save_code}
 use Rattle.frame_laws.specs.Typed.{FieldsTyped, LayoutTyped}
 use Rattle.frame_laws.proofs.FrameTypes.{save_typed, restore_typed}

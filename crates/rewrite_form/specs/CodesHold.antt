@@ -11,8 +11,8 @@ use Rattle.wa_types.specs.Sizes.{code_lists}
 use Rattle.wa_types.specs.Syntax.{Code, Func, Module}
 use Rattle.wa_types.specs.Typing.{Around, Types}
 use Rattle.wa_model.specs.Rewrites.{frames_size, instructions_and_labels}
-use Rattle.slim_modules.specs.Flatten.{flattened}
-use Rattle.slim_modules.specs.SlimModule.{Pieces, SlimPieces}
+use Rattle.flat_laws.specs.Flatten.{flattened}
+use Rattle.slim_laws.specs.SlimModule.{Pieces, SlimPieces}
 use Rattle.rewrite_form.specs.EmittedBy.{FrameCode}
 
 -- behind the flat locals: the call index, and a scratch local of each type

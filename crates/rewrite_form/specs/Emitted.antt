@@ -7,10 +7,10 @@ use Rattle.wa_types.specs.Pausing.{save_all, Settings, Numbered}
 use Rattle.wa_types.specs.Runtime.{global_space}
 use Rattle.wa_types.specs.Syntax.{done, Func, Module}
 use Rattle.run_theory.specs.Flat.{FlatFunc}
-use Rattle.slim_modules.specs.Flatten.{flattened}
-use Rattle.slim_modules.specs.FlatModule.{stacks_in}
+use Rattle.flat_laws.specs.Flatten.{flattened}
+use Rattle.flat_laws.specs.FlatModule.{stacks_in}
 use Rattle.frame_laws.specs.Layout.{FrameField, kept, gap, Layout, save_code, restore_code}
-use Rattle.slim_modules.specs.SlimModule.{Pieces, SlimPieces}
+use Rattle.slim_laws.specs.SlimModule.{Pieces, SlimPieces}
 use Rattle.rewrite_form.specs.EmittedBy.{FrameCode, asyncified_by, written_by}
 
 -- ---- frames

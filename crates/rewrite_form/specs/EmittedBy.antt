@@ -6,10 +6,10 @@ use Rattle.wa_types.specs.Pausing.{Settings, is_told}
 use Rattle.wa_types.specs.Runtime.{global_space, with_runtime}
 use Rattle.wa_types.specs.Syntax.{Code, Func, Module}
 use Rattle.run_theory.specs.FlatFits.{one_run}
-use Rattle.slim_modules.specs.Flatten.{flattened}
-use Rattle.slim_modules.specs.FlatModule.{extra_types}
-use Rattle.slim_modules.specs.Functions.{GuardedFunc, with_guards, written_code}
-use Rattle.slim_modules.specs.SlimModule.{Pieces}
+use Rattle.flat_laws.specs.Flatten.{flattened}
+use Rattle.flat_laws.specs.FlatModule.{extra_types}
+use Rattle.guard_form.specs.Functions.{GuardedFunc, with_guards, written_code}
+use Rattle.slim_laws.specs.SlimModule.{Pieces}
 
 -- What a function is written from: its pieces, and the codes that restore and that save its frame.
 pub record FrameCode : Type 0 where

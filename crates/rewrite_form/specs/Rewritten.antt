@@ -5,7 +5,7 @@ use Rattle.wa_types.specs.Syntax.{Module}
 use Rattle.wa_types.specs.Validity.{Valid}
 use Rattle.run_theory.specs.Quiet.{FreeOfNames}
 use Rattle.wa_model.specs.Rewrites.{RewritesButRuns, SameFunc}
-use Rattle.slim_modules.specs.SlimModule.{Pieces}
+use Rattle.slim_laws.specs.SlimModule.{Pieces}
 use Rattle.rewrite_form.specs.CodesHold.{AllSlim}
 use Rattle.rewrite_form.specs.Emitted.{asyncified}
 

@@ -6,7 +6,7 @@ use Rattle.wa_types.specs.Pausing.{Settings, is_told}
 use Rattle.wa_types.specs.Sizes.{SizeRule, StrictSizeRule}
 use Rattle.wa_types.specs.Syntax.{Func, Module}
 use Rattle.wa_types.specs.Validity.{Valid}
-use Rattle.slim_modules.specs.SlimModule.{Pieces}
+use Rattle.slim_laws.specs.SlimModule.{Pieces}
 use Rattle.rewrite_form.specs.CodesHold.{AllSlim}
 use Rattle.rewrite_form.specs.Emitted.{asyncified}
 

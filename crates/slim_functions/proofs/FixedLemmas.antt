@@ -7,9 +7,9 @@ use Rattle.guard_form.specs.Grouping.{is_place}
 use Rattle.guard_form.specs.Pieces.{call_total}
 use Rattle.guard_form.proofs.PlacesOfCalls.{total_is}
 use Rattle.flat_laws.specs.FlatModule.{stacks_in}
-use Rattle.slim_form.specs.Slim.{Free, Held, Terms}
+use Rattle.slim_laws.specs.Slim.{Free, Held, Terms}
 use Rattle.slim_pieces.specs.Coming.{calls_in, CallsFixed, FixedFor}
-use Rattle.slim_modules.specs.SlimModule.{fixed_at, fixed_where, locals_below}
+use Rattle.slim_laws.specs.SlimModule.{fixed_at, fixed_where, locals_below}
 
 -- ---- lists
 

@@ -8,13 +8,13 @@ use Rattle.guard_form.specs.Pieces.{first_piece, flat_units, numbers_in, units}
 use Rattle.guard_form.proofs.Grouped.{joins}
 use Rattle.flow_rewrite.specs.Raising.{LabelsBelow, Raisable}
 use Rattle.flow_rewrite.proofs.FitLemmas.{whole_raisable}
-use Rattle.slim_form.specs.Emit.{free_by}
-use Rattle.slim_form.specs.Slim as S
-use Rattle.slim_form.specs.Slim.{Free, StackShape, Slims, Terms}
-use Rattle.slim_units.specs.SlimUnits.{SlimUnits}
-use Rattle.slim_units.proofs.UnitSizes.{slimmer_law}
-use Rattle.slim_units.proofs.UnitsAlike.{alike_law}
-use Rattle.slim_units.proofs.UnitsSlim.{units_law}
+use Rattle.slim_laws.specs.Emit.{free_by}
+use Rattle.slim_laws.specs.Slim as S
+use Rattle.slim_laws.specs.Slim.{Free, StackShape, Slims, Terms}
+use Rattle.slim_laws.specs.SlimUnits.{SlimUnits}
+use Rattle.slim_laws.proofs.UnitSizes.{slimmer_law}
+use Rattle.slim_laws.proofs.UnitsAlike.{alike_law}
+use Rattle.slim_laws.proofs.UnitsSlim.{units_law}
 use Rattle.flow_rewrite.specs.declared.pieces.Pieces.{Pieces}
 use Rattle.slim_pieces.specs.Functions.{is_between, AreSlim}
 use Rattle.slim_pieces.specs.Inside.{first_code, units_in}

@@ -12,14 +12,14 @@ use Rattle.run_theory.specs.FlatFits.{FlatFits}
 use Rattle.guard_form.specs.Guarded.{has_one_call, guarded_body, guarded_code}
 use Rattle.flat_laws.specs.FlatModule.{stacks_in}
 use Rattle.flat_laws.specs.Flatten.{flattened, names, place, result_of}
-use Rattle.slim_form.specs.Emit.{free_by}
-use Rattle.slim_form.specs.Slim.{Free, Terms}
-use Rattle.slim_units.specs.Laws.{ToHeld}
+use Rattle.slim_laws.specs.Emit.{free_by}
+use Rattle.slim_laws.specs.Slim.{Free, Terms}
+use Rattle.slim_laws.specs.Laws.{ToHeld}
 use Rattle.flow_rewrite.specs.declared.pieces.Pieces.{Pieces}
 use Rattle.slim_pieces.specs.Functions.{is_between, AreSlim, SlimTold}
 use Rattle.slim_pieces.specs.Inside.{first_code, units_in}
-use Rattle.slim_modules.specs.SlimModule.{SlimPieces, flat_terms, is_slot, plain_pieces}
-use Rattle.slim_modules.proofs.SlimModules.{plain_slim}
+use Rattle.slim_laws.specs.SlimModule.{SlimPieces, flat_terms, is_slot, plain_pieces}
+use Rattle.slim_laws.proofs.SlimModules.{plain_slim}
 use Rattle.slim_functions.specs.Told.{GuardedTold}
 use Rattle.slim_functions.proofs.FixedLemmas.{all_fixed, stacks_count}
 

@@ -6,7 +6,7 @@ use Rattle.wa_types.specs.Syntax.{Code, Func, Module}
 use Rattle.run_theory.specs.Flat.{FlatFunc}
 use Rattle.guard_form.specs.Guarded.{guard_indices, guarded_body}
 use Rattle.flat_laws.specs.Flatten.{flattened}
-use Rattle.slim_modules.specs.SlimModule.{Pieces, SlimPieces}
+use Rattle.slim_laws.specs.SlimModule.{Pieces, SlimPieces}
 
 -- This is guarded code of slim pieces of a function.
 pub record GuardedSlim (m : Module) (places : List ℕ) (state x : ℕ) (f : Func) (c : Code) : Type 0 where

@@ -3,10 +3,10 @@ use Rattle.std.proofs.Common.{◌≡◌, ℕ, zero, suc, ◌<◌, ◌^◌, List,
 use Rattle.run_theory.specs.Flat.{FlatFunc}
 use Rattle.run_theory.specs.FlatFits.{FlatFits}
 use Rattle.guard_form.specs.Pieces.{call_total, first_piece, units}
-use Rattle.slim_form.specs.Emit.{free_by}
-use Rattle.slim_form.specs.Slim.{Free, Covers, Reaches, Terms}
-use Rattle.slim_form.proofs.EmittedCode as E
-use Rattle.slim_units.specs.SlimUnits.{SlimUnits}
+use Rattle.slim_laws.specs.Emit.{free_by}
+use Rattle.slim_laws.specs.Slim.{Free, Covers, Reaches, Terms}
+use Rattle.slim_laws.proofs.EmittedCode as E
+use Rattle.slim_laws.specs.SlimUnits.{SlimUnits}
 use Rattle.slim_walk.specs.declared.stack.Walk.{Walk}
 use Rattle.slim_walk.specs.Walking.{free_at, shape_at, Among, Good}
 use Rattle.slim_walk.proofs.BranchLemmas.{bare_shape}

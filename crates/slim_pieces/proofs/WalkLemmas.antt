@@ -11,7 +11,7 @@ use Rattle.run_theory.specs.FlatView.{stmt_in_front, stmts}
 use Rattle.guard_form.specs.Pieces.{Units, call_total, first_piece, units}
 use Rattle.flow_rewrite.specs.Statements.{with_rest, one_place}
 use Rattle.flow_rewrite.proofs.StmtLemmas.{fits_one, in_front_is, stmts_end, stmts_step, total_with}
-use Rattle.slim_form.specs.Slim.{Free, Terms}
+use Rattle.slim_laws.specs.Slim.{Free, Terms}
 use Rattle.slim_walk.specs.declared.stack.Walk.{Walk}
 use Rattle.slim_walk.specs.Walking.{Alike, Among, Good}
 use Rattle.slim_walk.proofs.StepLemmas.{alike_same, alike_then, among_next}

@@ -2,9 +2,9 @@
 use Rattle.std.specs.Prelude.{◌≡◌, ◌≤◌, ◌+◌, ◌-◌, ℕ, List, [], ◌∷◌, Option, Some, None, Bool, not, ◌&&◌, nat_lt}
 use Rattle.run_theory.specs.Flat.{FlatFunc}
 use Rattle.guard_form.specs.Pieces.{first_piece, units}
-use Rattle.slim_form.specs.Emit.{free_by}
-use Rattle.slim_form.specs.Slim.{Terms}
-use Rattle.slim_units.specs.SlimUnits.{SlimUnits}
+use Rattle.slim_laws.specs.Emit.{free_by}
+use Rattle.slim_laws.specs.Slim.{Terms}
+use Rattle.slim_laws.specs.SlimUnits.{SlimUnits}
 use Rattle.flow_rewrite.specs.declared.pieces.Pieces.{Pieces}
 use Rattle.slim_steps.specs.Coming.{CallsFixed}
 use Rattle.slim_steps.specs.Inside.{first_code, units_in}

@@ -18,10 +18,10 @@ use Rattle.guard_form.specs.Grouping.{is_place}
 use Rattle.guard_form.specs.Pieces.{call_unit, call_to, first_piece, flat_units, piece_call, unit_call, units}
 use Rattle.guard_form.proofs.Counting.{calls_set}
 use Rattle.flow_rewrite.specs.Statements.{one_code}
-use Rattle.slim_form.specs.Emit.{elem, free_by}
-use Rattle.slim_form.specs.Slim.{Free, Covers, Held, Terms}
-use Rattle.slim_form.proofs.EmittedCode as E
-use Rattle.slim_units.specs.SlimUnits.{before_call, has_none, is_kept, ResultSlim}
+use Rattle.slim_laws.specs.Emit.{elem, free_by}
+use Rattle.slim_laws.specs.Slim.{Free, Covers, Held, Terms}
+use Rattle.slim_laws.proofs.EmittedCode as E
+use Rattle.slim_laws.specs.SlimUnits.{before_call, has_none, is_kept, ResultSlim}
 use Rattle.slim_walk.specs.declared.stack.Walk.{Walk}
 use Rattle.slim_walk.specs.Walking.{free_at, kept_onto, shape_at, Alike, Among, Flushed, Good, KeptTold, Stepped}
 use Rattle.slim_walk.proofs.BranchLemmas.{bare_shape, flushed_full}

@@ -8,9 +8,9 @@ use Rattle.guard_form.specs.Pieces.{Units, no_unit, first_piece, units, flat_uni
 use Rattle.flow_rewrite.specs.Putting.{Puts}
 use Rattle.flow_rewrite.specs.Statements.{with_rest, one_code, one_holds, one_place}
 use Rattle.flow_rewrite.proofs.StmtLemmas.{first_with as first_of, units_with as units_of_one}
-use Rattle.slim_form.specs.Parts.{goes_on}
-use Rattle.slim_form.specs.Slim.{Free, Slims, Terms}
-use Rattle.slim_units.specs.SlimUnits.{SlimUnits, alone}
+use Rattle.slim_laws.specs.Parts.{goes_on}
+use Rattle.slim_laws.specs.Slim.{Free, Slims, Terms}
+use Rattle.slim_laws.specs.SlimUnits.{SlimUnits, alone}
 use Rattle.slim_walk.specs.declared.stack.Walk.{Walk}
 use Rattle.slim_walk.specs.Walking.{free_at, shape_at, unstacked, Alike, Among, Ended, Flushed, Good, Stepped}
 use Rattle.slim_walk.proofs.BranchLemmas.{bare_shape, flushed_full}

@@ -11,11 +11,11 @@ use Rattle.guard_form.proofs.CodeLemmas.{then_done}
 use Rattle.guard_form.proofs.Grouped.{joins}
 use Rattle.flow_rewrite.specs.Putting.{Puts}
 use Rattle.flow_rewrite.proofs.StmtLemmas.{if_true}
-use Rattle.slim_form.specs.Emit.{free_by}
-use Rattle.slim_form.specs.Slim as S
-use Rattle.slim_form.specs.Slim.{Free, Covers, plainly, Slims, Terms}
-use Rattle.slim_units.specs.SlimUnits.{SlimUnits, before_block, before_loop}
-use Rattle.slim_units.proofs.UnitsSlim.{units_law}
+use Rattle.slim_laws.specs.Emit.{free_by}
+use Rattle.slim_laws.specs.Slim as S
+use Rattle.slim_laws.specs.Slim.{Free, Covers, plainly, Slims, Terms}
+use Rattle.slim_laws.specs.SlimUnits.{SlimUnits, before_block, before_loop}
+use Rattle.slim_laws.proofs.UnitsSlim.{units_law}
 use Rattle.slim_walk.specs.declared.stack.Walk.{Walk}
 use Rattle.slim_walk.specs.Walking.{free_at, shape_at, Alike, Among, Flushed, Good}
 use Rattle.slim_walk.proofs.BranchLemmas.{bare_shape}

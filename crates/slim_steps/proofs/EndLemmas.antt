@@ -5,9 +5,9 @@ use Rattle.wa_types.specs.Syntax.{done}
 use Rattle.wa_types.proofs.ViewLemmas.{onto_done}
 use Rattle.run_theory.specs.Flat.{no_more}
 use Rattle.guard_form.specs.Pieces.{no_unit, flat_units}
-use Rattle.slim_form.specs.Emit.{free_by}
-use Rattle.slim_form.specs.Slim.{Free, Covers, ends, plainly, Slims, Terms}
-use Rattle.slim_units.specs.SlimUnits.{alone}
+use Rattle.slim_laws.specs.Emit.{free_by}
+use Rattle.slim_laws.specs.Slim.{Free, Covers, ends, plainly, Slims, Terms}
+use Rattle.slim_laws.specs.SlimUnits.{alone}
 use Rattle.slim_walk.specs.declared.stack.Walk.{Walk}
 use Rattle.slim_walk.specs.Walking.{free_at, Flushed, Good}
 use Rattle.slim_walk.proofs.BranchLemmas.{bare_shape}

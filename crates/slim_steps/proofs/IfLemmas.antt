@@ -15,11 +15,11 @@ use Rattle.guard_form.specs.Bounds.{unit_count}
 use Rattle.guard_form.specs.Pieces.{Units, no_unit, if_unit, call_total, holds_call, first_piece, flat_units, units, StartsGot}
 use Rattle.flow_rewrite.specs.Putting.{Puts}
 use Rattle.flow_rewrite.proofs.StmtLemmas.{if_true}
-use Rattle.slim_form.specs.Emit.{elem, free_by}
-use Rattle.slim_form.specs.Slim as S
-use Rattle.slim_form.specs.Slim.{Free, Covers, gets, more, narrows, plainly, plainly_held, Slims, Terms}
-use Rattle.slim_form.proofs.EmittedCode as E
-use Rattle.slim_units.specs.SlimUnits.{SlimUnits, before_if, before_kept_if}
+use Rattle.slim_laws.specs.Emit.{elem, free_by}
+use Rattle.slim_laws.specs.Slim as S
+use Rattle.slim_laws.specs.Slim.{Free, Covers, gets, more, narrows, plainly, plainly_held, Slims, Terms}
+use Rattle.slim_laws.proofs.EmittedCode as E
+use Rattle.slim_laws.specs.SlimUnits.{SlimUnits, before_if, before_kept_if}
 use Rattle.slim_walk.specs.declared.stack.Walk.{Walk}
 use Rattle.slim_walk.specs.Walking.{free_at, shape_at, unstacked, Alike, Among, Flushed, Good, IsTop, Taken, from_stack}
 use Rattle.slim_walk.proofs.BranchLemmas.{bare_shape}

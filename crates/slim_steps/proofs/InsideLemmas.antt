@@ -7,11 +7,11 @@ use Rattle.run_theory.specs.Flat.{Stmts, no_more, computes, copies, calls, leaps
 use Rattle.guard_form.specs.Bounds.{unit_count}
 use Rattle.guard_form.specs.Grouping.{is_place}
 use Rattle.guard_form.specs.Pieces.{call_total, first_piece, units}
-use Rattle.slim_form.specs.Emit.{elem, free_by}
-use Rattle.slim_form.specs.Slim.{Free, Covers, Held, Reaches, Terms}
-use Rattle.slim_form.proofs.EmittedCode as E
-use Rattle.slim_units.specs.SlimUnits.{SlimUnits}
-use Rattle.slim_units.proofs.UnitsAlike.{alike_law}
+use Rattle.slim_laws.specs.Emit.{elem, free_by}
+use Rattle.slim_laws.specs.Slim.{Free, Covers, Held, Reaches, Terms}
+use Rattle.slim_laws.proofs.EmittedCode as E
+use Rattle.slim_laws.specs.SlimUnits.{SlimUnits}
+use Rattle.slim_laws.proofs.UnitsAlike.{alike_law}
 use Rattle.slim_walk.specs.declared.stack.Walk.{Walk}
 use Rattle.slim_walk.specs.Walking.{slot_in, free_at, shape_at, Among, Good, Kept}
 use Rattle.slim_walk.proofs.BranchLemmas.{bare_shape, reaches_at}

@@ -16,8 +16,8 @@ use Rattle.guard_form.proofs.Grouped.{has_unit, joins, then_all_got, then_got, t
 use Rattle.guard_form.proofs.UnitLemmas.{Some_unit}
 use Rattle.flow_rewrite.specs.Statements.{with_rest, one_code, one_place}
 use Rattle.flow_rewrite.proofs.StmtLemmas.{if_false}
-use Rattle.slim_form.specs.Parts.{goes_on}
-use Rattle.slim_form.specs.Slim.{Terms}
+use Rattle.slim_laws.specs.Parts.{goes_on}
+use Rattle.slim_laws.specs.Slim.{Terms}
 use Rattle.slim_steps.specs.Coming.{calls_in, with_left, CallsFixed, Goes}
 
 -- ---- which sequences have units

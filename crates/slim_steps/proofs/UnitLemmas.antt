@@ -6,7 +6,7 @@ use Rattle.wa_types.specs.View.{code, onto}
 use Rattle.wa_types.proofs.ViewLemmas.{onto_done, onto_none}
 use Rattle.run_theory.specs.Flat.{Stmts}
 use Rattle.guard_form.specs.Pieces.{Units, first_piece, units, flat_units, StartsGot}
-use Rattle.slim_form.specs.Slim.{Free, ends, plainly, Slims, Terms}
+use Rattle.slim_laws.specs.Slim.{Free, ends, plainly, Slims, Terms}
 use Rattle.slim_walk.specs.declared.stack.Walk.{Walk}
 use Rattle.slim_walk.specs.Walking.{free_at, shape_at}
 use Rattle.slim_steps.specs.declared.sequence.Head.{Head}

@@ -8,10 +8,10 @@ use Rattle.run_theory.specs.Flat.{Stmts, no_more, computes, copies, calls, leaps
 use Rattle.run_theory.specs.FlatFits.{StmtsFit}
 use Rattle.guard_form.specs.Grouping.{is_place}
 use Rattle.guard_form.specs.Pieces.{Units, no_unit, if_unit, call_total, first_piece, flat_units, units, StartsGot}
-use Rattle.slim_form.specs.Emit.{free_by}
-use Rattle.slim_form.specs.Parts.{goes_on}
-use Rattle.slim_form.specs.Slim.{Free, Held, Reaches, StackShape, Slims, Terms}
-use Rattle.slim_units.specs.SlimUnits.{SlimUnits}
+use Rattle.slim_laws.specs.Emit.{free_by}
+use Rattle.slim_laws.specs.Parts.{goes_on}
+use Rattle.slim_laws.specs.Slim.{Free, Held, Reaches, StackShape, Slims, Terms}
+use Rattle.slim_laws.specs.SlimUnits.{SlimUnits}
 use Rattle.slim_walk.specs.declared.stack.Walk.{Walk}
 use Rattle.slim_walk.specs.Walking.{free_at, shape_at}
 use Rattle.slim_steps.specs.declared.sequence.Sequence.{Sequence}

@@ -10,8 +10,8 @@ use Rattle.run_theory.specs.Flat.{Stmts, no_more}
 use Rattle.guard_form.specs.Bounds.{unit_count}
 use Rattle.guard_form.specs.Pieces.{Units, no_unit, nest_unit, if_unit, call_total, first_piece, units}
 use Rattle.flow_rewrite.specs.Putting.{Puts}
-use Rattle.slim_form.specs.Slim.{Free, Covers, Terms}
-use Rattle.slim_units.specs.SlimUnits.{SlimUnits}
+use Rattle.slim_laws.specs.Slim.{Free, Covers, Terms}
+use Rattle.slim_laws.specs.SlimUnits.{SlimUnits}
 use Rattle.slim_walk.specs.declared.stack.Walk.{Walk}
 use Rattle.slim_walk.specs.Walking.{free_at, shape_at, unstacked, Alike, Among, Good, IsTop}
 use Rattle.flow_rewrite.specs.declared.pieces.Pieces.{Pieces}

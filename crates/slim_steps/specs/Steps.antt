@@ -6,7 +6,7 @@ use Rattle.run_theory.specs.Flat.{Stmts, no_more}
 use Rattle.guard_form.specs.Grouping.{is_place}
 use Rattle.guard_form.specs.Pieces.{Units, call_to}
 use Rattle.flow_rewrite.specs.Statements.{one_place}
-use Rattle.slim_form.specs.Slim.{Free, Terms}
+use Rattle.slim_laws.specs.Slim.{Free, Terms}
 use Rattle.slim_walk.specs.declared.stack.Walk.{Walk}
 use Rattle.slim_walk.specs.Walking.{Alike, Among, Good}
 use Rattle.flow_rewrite.specs.declared.pieces.Target.{Target}

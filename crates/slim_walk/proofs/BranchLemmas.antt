@@ -14,10 +14,10 @@ use Rattle.wa_model.specs.declared.flat.Operand.TheVariants.{Local}
 use Rattle.run_theory.specs.Flat.{all_got, followed_by, got, set_to, slots_got}
 use Rattle.run_theory.specs.FlatFits.{IsCallCode}
 use Rattle.flow_rewrite.specs.Putting.{Puts}
-use Rattle.slim_form.specs.Emit.{elem, free_by}
-use Rattle.slim_form.specs.Slim as S
-use Rattle.slim_form.specs.Slim.{Free, Covers, Held, more, keeps, takes_same, lacks_all, Plainly, plainly, plainly_held, Reaches, Terms, Slims}
-use Rattle.slim_form.proofs.EmittedCode as E
+use Rattle.slim_laws.specs.Emit.{elem, free_by}
+use Rattle.slim_laws.specs.Slim as S
+use Rattle.slim_laws.specs.Slim.{Free, Covers, Held, more, keeps, takes_same, lacks_all, Plainly, plainly, plainly_held, Reaches, Terms, Slims}
+use Rattle.slim_laws.proofs.EmittedCode as E
 use Rattle.slim_walk.specs.declared.stack.Walk.{Walk}
 use Rattle.slim_walk.specs.Walking.{kept_onto, unstacked, free_at, shape_at, Alike, Among, Ended, Flushed, Good, KeptTold, Stepped, Taken, TakenBy, from_stack, from_slots}
 use Rattle.slim_walk.proofs.StackLemmas.{cut_below, slot_same}

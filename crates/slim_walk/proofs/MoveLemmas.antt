@@ -13,8 +13,8 @@ use Rattle.wa_model.specs.declared.flat.Operand.{Operand}
 use Rattle.wa_model.specs.declared.flat.Operand.TheVariants.{Local}
 use Rattle.run_theory.specs.Flat.{all_got, got}
 use Rattle.flow_rewrite.specs.Putting.{Puts}
-use Rattle.slim_form.specs.Emit.{elem, free_by}
-use Rattle.slim_form.specs.Slim.{copies, gets, Lacks, more, sets, takes_one, takes_none, Terms, Slims}
+use Rattle.slim_laws.specs.Emit.{elem, free_by}
+use Rattle.slim_laws.specs.Slim.{copies, gets, Lacks, more, sets, takes_one, takes_none, Terms, Slims}
 use Rattle.slim_walk.specs.declared.stack.Walk.{Walk}
 use Rattle.slim_walk.specs.Walking.{slot_in, kept_onto, unstacked, free_at, shape_at, Assigned, Flushed, Good, IsKeptTop, Kept, Stepped, Taken, TakenBy, from_stack, from_slots}
 use Rattle.slim_walk.proofs.BranchLemmas.{flushed_full}

@@ -16,8 +16,8 @@ use Rattle.wa_model.specs.declared.flat.Operand.TheVariants.{Local}
 use Rattle.run_theory.specs.Flat.{all_got, slots_got}
 use Rattle.flow_rewrite.specs.Putting.{Puts}
 use Rattle.flow_rewrite.proofs.PutLemmas.{put_one, set_is}
-use Rattle.slim_form.specs.Emit.{elem}
-use Rattle.slim_form.proofs.EmittedCode.{both_true}
+use Rattle.slim_laws.specs.Emit.{elem}
+use Rattle.slim_laws.proofs.EmittedCode.{both_true}
 use Rattle.slim_walk.specs.declared.stack.Walk.{Walk}
 use Rattle.slim_walk.specs.Walking.{slot_in, unstacked, Flushed, Good, IsTop, Kept}
 

@@ -14,9 +14,9 @@ use Rattle.run_theory.specs.FlatFits.{ComputesFit, TellsResult}
 use Rattle.wa_model.specs.Store.{gives}
 use Rattle.run_theory.specs.Flat.{all_got, followed_by, set_to, slots_got}
 use Rattle.flow_rewrite.specs.Putting.{Puts}
-use Rattle.slim_form.specs.Emit.{all_in, count, elem, free_by}
-use Rattle.slim_form.specs.Slim.{Free, CoversBut, StackShape, more, Takes, takes_none, takes_one, Rises, rises, rises_below, Lacks, lacks_all, lacks_slot, Terms, Slims, does, gets, sets, tees, keeps, uses, saves, narrows}
-use Rattle.slim_form.proofs.EmittedCode as E
+use Rattle.slim_laws.specs.Emit.{all_in, count, elem, free_by}
+use Rattle.slim_laws.specs.Slim.{Free, CoversBut, StackShape, more, Takes, takes_none, takes_one, Rises, rises, rises_below, Lacks, lacks_all, lacks_slot, Terms, Slims, does, gets, sets, tees, keeps, uses, saves, narrows}
+use Rattle.slim_laws.proofs.EmittedCode as E
 use Rattle.slim_walk.specs.declared.stack.Walk.{Walk}
 use Rattle.slim_walk.specs.Walking.{slot_in, kept_onto, unstacked, free_at, shape_at, Alike, Among, Good, Kept, KeptTold, OpTakes, Stepped, Taken, TakenBy, from_stack, from_slots}
 use Rattle.slim_walk.proofs.StackLemmas.{elem_here, not_elem, cut_below, slot_low, slot_same}

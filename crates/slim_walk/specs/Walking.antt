@@ -7,8 +7,8 @@ use Rattle.wa_model.specs.declared.flat.Operand.{Operand}
 use Rattle.run_theory.specs.Flat.{all_got, slots_got}
 use Rattle.wa_model.specs.Store.{takes}
 use Rattle.flow_rewrite.specs.Putting.{Puts}
-use Rattle.slim_form.specs.Emit.{elem, free_by}
-use Rattle.slim_form.specs.Slim.{Free, more, Reaches, StackShape, Slims, Terms}
+use Rattle.slim_laws.specs.Emit.{elem, free_by}
+use Rattle.slim_laws.specs.Slim.{Free, more, Reaches, StackShape, Slims, Terms}
 use Rattle.slim_walk.specs.declared.stack.Walk.{Walk}
 
 -- a local that holds operands

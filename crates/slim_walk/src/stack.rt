@@ -1,7 +1,7 @@
 //! The slots of operands.
 
 ghost use Rattle.std.specs.Prelude.{◌≡◌, true, false, IfOk, OnOk};
-ghost use Rattle.slim_form.specs.Emit.{elem};
+ghost use Rattle.slim_laws.specs.Emit.{elem};
 ghost use Rattle.slim_walk.specs.Walking.{slot_in, Flushed, Good, IsKeptTop, IsTop, Kept, Taken};
 
 use flow_rewrite::put_operands;
