@@ -11,7 +11,7 @@ known="asyncify_app asyncify_cli local_spill wasm_build call_classes call_graph 
     flatten flow_rewrite frame_sizes func_rewrite gen_command gen_module generated_runs host_moves
     host_pauses host_setup interp interp_state line_words live_locals live_passes
     live_rewrite live_words many_host module_bytes wa_types wasm_reader module_rewrite pause_host plan_parts script_command script_lines
-    script_opening script_reader script_setup slim_guesses slim_pieces slim_steps slim_walk source_modules transcript transform_command turn_taking
+    script_opening script_reader script_setup slim_rewrite source_modules transcript transform_command turn_taking
     validate_bodies wasm_validate vault_port wa_model wa_ops wasm_encode wasm_grammar
     world_hosting"
 old="wa_types file_laws wa_ops page_memory wa_model validate_bodies wasm_validate 

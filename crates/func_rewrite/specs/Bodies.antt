@@ -4,7 +4,7 @@ use Rattle.wa_types.specs.Syntax.{local_get, Code, Func, Module, plain}
 use Rattle.run_theory.specs.Flat.{result_got}
 use Rattle.guard_form.specs.Guarded.{function_body}
 use Rattle.flat_laws.specs.Flatten.{flattened}
-use Rattle.slim_functions.specs.Told.{GuardedSlim}
+use Rattle.slim_rewrite.specs.Told.{GuardedSlim}
 
 -- what gets a function's result
 abbrev pub body_got : Option ℕ → Code → Code

@@ -14,7 +14,7 @@ ghost use Rattle.func_rewrite.specs.Frames.{IsFlattened};
 
 use flatten::Flattened;
 use local_spill::{Layout, RuntimeIds, epilogue, prologue};
-use slim_functions::guard_slim;
+use slim_rewrite::guard_slim;
 use std::alloc::{AllocError, Global};
 use wa_types::Instr;
 

@@ -1,0 +1,7 @@
+pub mod Coming
+pub mod Functions
+pub mod Inside
+pub mod SequenceView
+pub mod Steps
+pub mod Told
+pub mod Walking

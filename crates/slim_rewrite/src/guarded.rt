@@ -1,0 +1,44 @@
+//! Guarded code from slim pieces.
+
+ghost use Rattle.std.specs.Prelude.{◌<◌, ◌^◌, IfOk};
+ghost use Rattle.wa_types.specs.View.{code};
+ghost use Rattle.run_theory.specs.FlatFits.{FlatFits};
+ghost use Rattle.run_theory.specs.FlatView.{flat_func_of};
+ghost use Rattle.guard_form.specs.Pieces.{call_total};
+ghost use Rattle.flow_rewrite.specs.CallsEmitting.{Rises};
+ghost use Rattle.slim_rewrite.specs.Told.{GuardedTold};
+
+use flow_rewrite::{Guards, guard, guarded_pieces, has_one_call};
+use crate::function::slim_pieces;
+use std::alloc::{AllocError, Global};
+use wa_model::FlatFunc;
+use wa_types::Instr;
+
+/// The guarded code of a flat function, of slim pieces with its units, under tests of this global, the state. The calls at these
+/// places are numbered, and so many locals from `low` on are slots.
+pub fn guard_slim(
+    alloc: Global,
+    func: &FlatFunc,
+    numbers: &[u32],
+    state: u32,
+    low: u32,
+    slots: usize,
+) -> Result<Vec<Instr>, AllocError>
+    requires fits { FlatFits (flat_func_of func.now) }
+    requires rises { Rises numbers.now }
+    requires few { call_total (flat_func_of func.now).body < 2 ^ 32 }
+    ensures { IfOk result (λ v. GuardedTold numbers.now low slots state (flat_func_of func.now) (code v.items)) }
+{
+    let Some(pieces) = slim_pieces(alloc, func, numbers, low, slots)? else {
+        let plain = guard(alloc, func, numbers, state)?;
+        return Ok(plain.body);
+    };
+    let guards = Guards {
+        alloc,
+        numbers: Vec::new(alloc),
+        state,
+        index: func.locals.len() as u32,
+        one_call: has_one_call(&pieces),
+    };
+    guarded_pieces(&guards, &pieces)
+}
