@@ -9,10 +9,10 @@ use Rattle.frame_laws.specs.Layout.{FrameField, kept, gap, fields_size}
 use Rattle.call_frames.specs.FrameParts.{shared_size}
 use Rattle.call_frames.specs.PlainFrames.{SavedPart, at_every, at_these, parts_of}
 use Rattle.call_frames.proofs.FieldRows.{join_size}
-use Rattle.call_classes.specs.declared.frames.KeptLocal.{KeptLocal}
-use Rattle.call_classes.specs.declared.frames.KeptPart.{KeptPart}
-use Rattle.call_classes.specs.Classes.{FewParts, part_fields, shared_fields}
-use Rattle.call_classes.specs.Views.{kept_field, fields_of, part_view, part_views}
+use Rattle.call_frames.specs.declared.frames.KeptLocal.{KeptLocal}
+use Rattle.call_frames.specs.declared.frames.KeptPart.{KeptPart}
+use Rattle.call_frames.specs.Classes.{FewParts, part_fields, shared_fields}
+use Rattle.call_frames.specs.Views.{kept_field, fields_of, part_view, part_views}
 
 -- ---- sizes
 

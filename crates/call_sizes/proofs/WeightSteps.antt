@@ -8,8 +8,8 @@ use Rattle.wa_types.specs.View.{onto}
 use Rattle.local_spill.specs.Putting.{Puts}
 use Rattle.frame_laws.specs.Layout.{fields_size}
 use Rattle.call_frames.specs.PlainFrames.{SavedPart, at_every, at_these, at_calls, is_one_of, part_weights, weighed, WeighedCalls, weight_at, weights_added, weights_end, weights_size}
-use Rattle.call_classes.specs.declared.frames.KeptPart.{KeptPart}
-use Rattle.call_classes.specs.Views.{part_view, part_views}
+use Rattle.call_frames.specs.declared.frames.KeptPart.{KeptPart}
+use Rattle.call_frames.specs.Views.{part_view, part_views}
 use Rattle.call_sizes.specs.declared.digits.Plane.{Plane}
 use Rattle.call_sizes.specs.Digits.{plane_view, plane_views}
 

@@ -3,12 +3,12 @@
 ghost use Rattle.std.specs.Prelude.{◌≡◌, ◌≤◌, ◌<◌, ◌^◌, ◌+◌, ◌%◌, ◌++◌, ◌∷◌, [], ℕ, length, nat_eq, OnOk, IfOk, if◌then◌else◌};
 ghost use Rattle.std.specs.Int.{bit_at};
 ghost use Rattle.call_frames.specs.PlainFrames.{calls_end, calls_with, digits_of, part_weights, planes, weight_at, weights_end, weights_size, with_weight};
-ghost use Rattle.call_classes.specs.Classes.{FewParts, part_fields};
-ghost use Rattle.call_classes.specs.Views.{part_view, part_views};
+ghost use Rattle.call_frames.specs.Classes.{FewParts, part_fields};
+ghost use Rattle.call_frames.specs.Views.{part_view, part_views};
 ghost use Rattle.call_sizes.specs.Digits.{HoldSums, plane_views, size_in, Sums, summed};
 
 use crate::fields::size_of;
-use call_classes::KeptPart;
+use call_frames::KeptPart;
 use call_tests::calls_end;
 use std::alloc::{AllocError, Global};
 

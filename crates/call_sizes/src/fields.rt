@@ -4,10 +4,10 @@ ghost use Rattle.std.specs.Prelude.{◌≡◌, ◌≤◌, ◌∷◌, [], ℕ, le
 ghost use Rattle.frame_laws.specs.Layout.{fields_size};
 ghost use Rattle.call_frames.specs.FrameParts.{shared_size};
 ghost use Rattle.call_frames.specs.PlainFrames.{parts_of};
-ghost use Rattle.call_classes.specs.Classes.{FewParts, part_fields};
-ghost use Rattle.call_classes.specs.Views.{fields_of, part_view, part_views};
+ghost use Rattle.call_frames.specs.Classes.{FewParts, part_fields};
+ghost use Rattle.call_frames.specs.Views.{fields_of, part_view, part_views};
 
-use call_classes::{KeptLocal, KeptPart};
+use call_frames::{KeptLocal, KeptPart};
 use local_spill::width;
 
 /// The bytes that fields take.

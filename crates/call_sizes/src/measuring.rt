@@ -2,12 +2,12 @@
 
 ghost use Rattle.std.specs.Prelude.{◌≡◌, ◌+◌, ◌∷◌, []};
 ghost use Rattle.call_frames.specs.PlainFrames.{calls_size, part_weights, weights_size};
-ghost use Rattle.call_classes.specs.Views.{part_view, part_views};
+ghost use Rattle.call_frames.specs.Views.{part_view, part_views};
 ghost use Rattle.call_tests.specs.Rows.{saturated};
 ghost use Rattle.call_sizes.specs.Digits.{plane_views};
 
 use crate::digits::Plane;
-use call_classes::KeptPart;
+use call_frames::KeptPart;
 use call_tests::calls_size;
 
 /// How many instructions add what these calls add.

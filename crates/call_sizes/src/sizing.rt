@@ -5,14 +5,14 @@ ghost use Rattle.wa_types.specs.Syntax.{basic, const, plain};
 ghost use Rattle.wa_types.specs.declared.values.Value.TheVariants.{I32 as value_32};
 ghost use Rattle.call_frames.specs.PlainFrames.{own_weights, part_weights, weighed, weights_added};
 ghost use Rattle.local_spill.specs.Putting.{Puts};
-ghost use Rattle.call_classes.specs.Classes.{FewParts, part_fields};
-ghost use Rattle.call_classes.specs.Views.{part_view, part_views};
+ghost use Rattle.call_frames.specs.Classes.{FewParts, part_fields};
+ghost use Rattle.call_frames.specs.Views.{part_view, part_views};
 ghost use Rattle.call_sizes.specs.Digits.{plane_views};
 
 use crate::digits::{Plane, digits_of};
 use crate::fields::size_of;
 use crate::measuring::{parts_size, planes_size};
-use call_classes::KeptPart;
+use call_frames::KeptPart;
 use call_tests::put_test;
 use local_spill::put_all;
 use std::alloc::{AllocError, Global};

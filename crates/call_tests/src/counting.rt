@@ -5,7 +5,7 @@ ghost use Rattle.call_frames.specs.PlainFrames.{calls_size, rows_of, rows_size};
 ghost use Rattle.call_tests.specs.Rows.{saturated};
 
 use crate::words::{by_words, words_behind};
-use call_classes::{row_at, row_size};
+use call_frames::{row_at, row_size};
 
 /// How many instructions the test of these calls has row by row.
 fn rows_size(calls: &[u32]) -> u64

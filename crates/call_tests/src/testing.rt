@@ -8,10 +8,10 @@ ghost use Rattle.wa_types.specs.View.{code};
 ghost use Rattle.call_frames.specs.CallTests.{at_call, at_most, at_row};
 ghost use Rattle.call_frames.specs.PlainFrames.{at_calls, at_rows, rows_of};
 ghost use Rattle.local_spill.specs.Putting.{Puts};
-ghost use Rattle.call_classes.specs.CallRows.{row_view};
+ghost use Rattle.call_frames.specs.CallRows.{row_view};
 
 use crate::words::{by_words, put_words};
-use call_classes::{RowAt, row_at};
+use call_frames::{RowAt, row_at};
 use local_spill::put_all;
 use std::alloc::{AllocError, Global};
 use wa_types::{Instr, NumOp, Value};

@@ -8,7 +8,7 @@ ghost use Rattle.call_frames.specs.CallWords.{at_words, bit_taken, word_of};
 ghost use Rattle.call_frames.specs.PlainFrames.{by_words, calls_end, is_one_of, rows_of, words_behind};
 ghost use Rattle.local_spill.specs.Putting.{Puts};
 
-use call_classes::row_at;
+use call_frames::row_at;
 use local_spill::put_all;
 use std::alloc::{AllocError, Global};
 use wa_types::{Instr, NumOp, Value};

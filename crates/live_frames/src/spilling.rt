@@ -5,13 +5,13 @@ ghost use Rattle.wa_types.specs.Syntax.{Code};
 ghost use Rattle.wa_types.specs.View.{onto};
 ghost use Rattle.call_frames.specs.FrameParts.{restoring_by_call, saving_by_call};
 ghost use Rattle.call_frames.specs.PlainFrames.{frames_of};
-ghost use Rattle.call_classes.specs.Classes.{FewParts};
-ghost use Rattle.call_classes.specs.Views.{parts_view, told_frames};
+ghost use Rattle.call_frames.specs.Classes.{FewParts};
+ghost use Rattle.call_frames.specs.Views.{parts_view, told_frames};
 
 use crate::loading::put_parts_loaded;
 use crate::locating::{put_index_loaded, put_location_lowered, put_location_noted, put_room_test};
 use crate::storing::put_parts_stored;
-use call_classes::FrameParts;
+use call_frames::FrameParts;
 use call_sizes::{put_size, shared_of};
 use local_spill::{Place, put_location_raised, put_stored};
 use std::alloc::{AllocError, Global};

@@ -21,9 +21,9 @@ use Rattle.call_frames.specs.FrameParts.{restoring_by_call, saving_by_call}
 use Rattle.call_frames.specs.PlainFrames.{SavedParts, frames_of}
 use Rattle.live_form.specs.SlimModule.{Pieces, SlimPieces}
 use Rattle.save_laws.specs.LiveAt.{LiveAtCalls}
-use Rattle.call_classes.specs.declared.frames.FrameParts.{FrameParts}
-use Rattle.call_classes.specs.Classes.{KeepCheaply, NumbersBelow}
-use Rattle.call_classes.specs.Views.{parts_view, told_frames}
+use Rattle.call_frames.specs.declared.frames.FrameParts.{FrameParts}
+use Rattle.call_frames.specs.Classes.{KeepCheaply, NumbersBelow}
+use Rattle.call_frames.specs.Views.{parts_view, told_frames}
 use Rattle.live_form.specs.EmittedAs.{IsLiveWritten, live_written}
 use Rattle.live_form.specs.LiveParts.{LiveParts}
 use Rattle.func_rewrite.specs.Bodies.{IsSlimBody}

@@ -18,7 +18,7 @@ use Rattle.live_form.specs.LiveFrames.{fields_at}
 use Rattle.save_laws.specs.LiveAt.{KeepsAt, LiveAtCalls}
 use Rattle.live_passes.specs.Sets.{has}
 use Rattle.save_laws.proofs.SavedLive.{live_is_saved}
-use Rattle.call_classes.specs.Views.{fields_in, kept_total, kept_where}
+use Rattle.call_frames.specs.Views.{fields_in, kept_total, kept_where}
 use Rattle.live_form.specs.LiveParts.{saved_total}
 use Rattle.func_rewrite.specs.Frames.{IsFlattened}
 

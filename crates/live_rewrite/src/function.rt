@@ -17,13 +17,13 @@ ghost use Rattle.func_rewrite.specs.Bodies.{IsSlimBody};
 ghost use Rattle.func_rewrite.specs.Frames.{FramesUnder, IsFlattened};
 ghost use Rattle.guard_form.specs.Pieces.{call_total};
 ghost use Rattle.live_form.specs.EmittedAs.{IsLiveWritten};
-ghost use Rattle.call_classes.specs.Classes.{FewParts};
-ghost use Rattle.call_classes.specs.Views.{parts_view, told_frames};
+ghost use Rattle.call_frames.specs.Classes.{FewParts};
+ghost use Rattle.call_frames.specs.Views.{parts_view, told_frames};
 ghost use Rattle.live_rewrite.specs.Calls.{AreLiveCalls};
 
 use crate::calls::{LiveCalls, live_calls};
 use crate::layouts::set_layouts;
-use call_classes::{FrameParts, saved_parts};
+use call_frames::{FrameParts, saved_parts};
 use call_graph::Settings;
 use func_rewrite::{Flattened, Written, body_around, unless_normal, written_locals};
 use live_frames::{restoring, saving};

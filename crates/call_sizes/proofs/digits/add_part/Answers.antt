@@ -1,6 +1,6 @@
 use Rattle.std.proofs.Common.{[], ◌∷◌, ap, ◌∙◌, sym}
 use Rattle.frame_laws.specs.Layout.{fields_size}
-use Rattle.call_classes.specs.Views.{fields_of}
+use Rattle.call_frames.specs.Views.{fields_of}
 use Rattle.call_sizes.proofs.DigitSteps.{holds_begin, holds_part}
 use Rattle.call_sizes.proofs.WeightSteps.{weights_of}
 use Rattle.call_sizes.proofs.digits.add_part.Goals as goal

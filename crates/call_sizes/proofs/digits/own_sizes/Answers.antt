@@ -1,8 +1,8 @@
 use Rattle.std.proofs.Common.{◌≤◌, ℕ, ◌+◌, get_or, take, ap, ◌∙◌, arith, subst, sym}
 use Rattle.call_frames.specs.PlainFrames.{weight_at, weights_end}
-use Rattle.call_classes.specs.declared.frames.KeptPart.{KeptPart}
-use Rattle.call_classes.specs.Classes.{part_fields}
-use Rattle.call_classes.specs.Views.{part_view}
+use Rattle.call_frames.specs.declared.frames.KeptPart.{KeptPart}
+use Rattle.call_frames.specs.Classes.{part_fields}
+use Rattle.call_frames.specs.Views.{part_view}
 use Rattle.call_sizes.proofs.DigitSteps.{sums_same}
 use Rattle.call_sizes.proofs.FieldSteps.{few_at}
 use Rattle.call_sizes.proofs.WeightSteps.{at_split, part_end_within, weights_in, weights_more, weights_of}

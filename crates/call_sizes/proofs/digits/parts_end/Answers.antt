@@ -1,6 +1,6 @@
 use Rattle.std.proofs.Common.{◌<◌, get_or, length, take, ap, arith}
 use Rattle.call_frames.specs.PlainFrames.{weights_end}
-use Rattle.call_classes.specs.declared.frames.KeptPart.{KeptPart}
+use Rattle.call_frames.specs.declared.frames.KeptPart.{KeptPart}
 use Rattle.call_sizes.proofs.WeightSteps.{end_split, weights_in, weights_more, weights_of}
 use Rattle.call_sizes.proofs.digits.parts_end.Goals as goal
 

@@ -1,7 +1,7 @@
 use Rattle.std.proofs.Common.{◌≤◌, ◌∷◌, [], ap, arith, subst, sym}
-use Rattle.call_classes.specs.declared.frames.KeptPart.{KeptPart}
-use Rattle.call_classes.specs.Classes.{part_fields}
-use Rattle.call_classes.specs.Views.{part_view}
+use Rattle.call_frames.specs.declared.frames.KeptPart.{KeptPart}
+use Rattle.call_frames.specs.Classes.{part_fields}
+use Rattle.call_frames.specs.Views.{part_view}
 use Rattle.call_sizes.proofs.FieldSteps.{few_at, shared_bytes, shared_next, shared_small}
 use Rattle.call_sizes.proofs.fields.shared_of.Goals as goal
 

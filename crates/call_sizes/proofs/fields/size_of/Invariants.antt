@@ -1,6 +1,6 @@
 use Rattle.std.proofs.Common.{◌≡◌, take}
 use Rattle.frame_laws.specs.Layout.{fields_size}
-use Rattle.call_classes.specs.Views.{fields_of}
+use Rattle.call_frames.specs.Views.{fields_of}
 use Rattle.call_sizes.proofs.fields.size_of.Given as goal
 
 abbrev pub invariant-loop-field : goal.invariant-loop-field

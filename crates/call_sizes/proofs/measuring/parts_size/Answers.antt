@@ -1,6 +1,6 @@
 use Rattle.std.proofs.Common.{◌+◌, ◌<◌, get_or, length, take, ap, arith, ◌∙◌}
 use Rattle.call_frames.specs.PlainFrames.{weights_size}
-use Rattle.call_classes.specs.declared.frames.KeptPart.{KeptPart}
+use Rattle.call_frames.specs.declared.frames.KeptPart.{KeptPart}
 use Rattle.call_tests.specs.Rows.{saturated}
 use Rattle.call_sizes.proofs.MeasureSteps.{size_more}
 use Rattle.call_sizes.proofs.WeightSteps.{weights_in, weights_more, weights_of}

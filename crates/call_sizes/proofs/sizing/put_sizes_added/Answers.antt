@@ -1,8 +1,8 @@
 use Rattle.std.proofs.Common.{◌<◌, ◌≤◌, length, take, get_or, ap, arith, subst, sym}
 use Rattle.std.proofs.lemmas.List.{take_all}
-use Rattle.call_classes.specs.declared.frames.KeptPart.{KeptPart}
-use Rattle.call_classes.specs.Classes.{part_fields}
-use Rattle.call_classes.specs.Views.{part_view}
+use Rattle.call_frames.specs.declared.frames.KeptPart.{KeptPart}
+use Rattle.call_frames.specs.Classes.{part_fields}
+use Rattle.call_frames.specs.Views.{part_view}
 use Rattle.call_sizes.proofs.FieldSteps.{few_at}
 use Rattle.call_sizes.proofs.WeightSteps.{added_same, added_step, weights_in, weights_more, weights_of}
 use Rattle.call_sizes.proofs.sizing.put_sizes_added.Goals as goal

@@ -1,5 +1,5 @@
 use Rattle.std.proofs.Common.{arith, eqb-true, sym, ◌∙◌}
-use Rattle.call_classes.specs.CallRows.{row_view}
+use Rattle.call_frames.specs.CallRows.{row_view}
 use Rattle.call_tests.proofs.CountSteps.{counts_first, counts_last, counts_next, no_rows}
 use Rattle.call_tests.proofs.counting.rows_size.Goals as goal
 

@@ -1,7 +1,7 @@
 use Rattle.std.proofs.Common.{eq-eqb, ne_eqb, true, false}
 use Rattle.std.proofs.lemmas.Result.{on_ok_weaker}
 use Rattle.local_spill.proofs.PutLemmas.{put_one, put_on, get_is}
-use Rattle.call_classes.specs.CallRows.{row_view}
+use Rattle.call_frames.specs.CallRows.{row_view}
 use Rattle.call_tests.proofs.RowSteps.{row_put}
 use Rattle.call_tests.proofs.testing.put_row.Goals as goal
 

@@ -1,6 +1,6 @@
 use Rattle.std.proofs.Common.{arith, eqb-true, sym, ◌∙◌}
 use Rattle.local_spill.proofs.PutLemmas.{put_one, const_is, num_is}
-use Rattle.call_classes.specs.CallRows.{row_view}
+use Rattle.call_frames.specs.CallRows.{row_view}
 use Rattle.call_tests.proofs.RowSteps.{none_put, row_first, row_next, rows_end}
 use Rattle.call_tests.proofs.testing.put_rows.Goals as goal
 

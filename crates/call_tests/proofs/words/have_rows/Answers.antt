@@ -1,5 +1,5 @@
 use Rattle.std.proofs.Common.{arith}
-use Rattle.call_classes.specs.CallRows.{row_view}
+use Rattle.call_frames.specs.CallRows.{row_view}
 use Rattle.call_tests.proofs.WordSteps.{rows_begin, rows_more, rows_few, rows_enough}
 use Rattle.call_tests.proofs.words.have_rows.Goals as goal
 

@@ -6,7 +6,7 @@ use Rattle.local_spill.specs.Spilling.{unless_normal}
 use Rattle.local_spill.proofs.PutLemmas.{whole}
 use Rattle.call_frames.specs.FrameParts.{restoring_by_call, saving_by_call}
 use Rattle.call_frames.specs.PlainFrames.{frames_of}
-use Rattle.call_classes.specs.Views.{told_frames}
+use Rattle.call_frames.specs.Views.{told_frames}
 use Rattle.live_rewrite.proofs.function.live_body.Goals as goal
 
 pub returns : goal.returns

@@ -9,8 +9,8 @@ use Rattle.call_frames.specs.PlainFrames.{frames_of}
 use Rattle.save_laws.specs.Emitting.{Rises}
 use Rattle.func_rewrite.specs.Bodies.{IsSlimBody}
 use Rattle.func_rewrite.proofs.WrittenFuncs.{few_calls, fits, slots_told}
-use Rattle.call_classes.specs.Classes.{KeepCheaply}
-use Rattle.call_classes.specs.Views.{parts_view, sets_of, told_frames}
+use Rattle.call_frames.specs.Classes.{KeepCheaply}
+use Rattle.call_frames.specs.Views.{parts_view, sets_of, told_frames}
 use Rattle.save_laws.specs.LiveAt.{lists_of}
 use Rattle.live_rewrite.proofs.CallFacts.{SetsSized, numbers_rise, set_sizes, sets_few, types_few}
 use Rattle.live_rewrite.proofs.PartsOwed.{live_is}

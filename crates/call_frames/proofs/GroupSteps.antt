@@ -1,0 +1,227 @@
+-- Groups, parts and their sizes as the program makes them.
+use Rattle.std.proofs.Common.{◌≡◌, ◌∙◌, ℕ, zero, suc, ◌+◌, ◌-◌, ◌*◌, ◌<◌, ◌≤◌, List, [], ◌∷◌, ◌++◌, length, get_or, map, take, Bool, true, false, not, All, refl, sym, ap, arith}
+use Rattle.std.specs.Prelude.{◌==◌, if◌then◌else◌, slice_set, Vec}
+use Rattle.std.proofs.lemmas.Bool.{eqb-false}
+use Rattle.std.specs.declared.alloc.Global.{Global}
+use Rattle.std.proofs.lemmas.List.{append-nil, append_assoc, map_more, map-append, take_all, take_more, length-map, length-take-le}
+use Rattle.std.proofs.lemmas.List.Elements.{All-head, All-tail}
+use Rattle.wa_types.specs.declared.values.ValType.{ValType}
+use Rattle.frame_laws.specs.Layout.{FrameField, kept}
+use Rattle.call_frames.specs.PlainFrames.{SavedPart, at_every, at_these, test_size}
+use Rattle.call_frames.specs.PlainLaws.{tests_cost}
+use Rattle.call_frames.specs.declared.frames.CallClass.{CallClass}
+use Rattle.call_frames.specs.declared.frames.KeptPart.{KeptPart}
+use Rattle.call_frames.specs.CallParts.{keeps, keepers, same_calls, with_field, with_kept, grouped, parts_length, kept_by_sets}
+use Rattle.call_frames.specs.Classes.{set_keepers}
+use Rattle.call_frames.specs.Views.{class_part, class_parts, fields_in, fields_of, part_view, part_views, sets_of}
+use Rattle.call_frames.proofs.FoundClasses.{all_kept}
+use Rattle.call_frames.proofs.GroupLemmas.{Rows, keeps_in}
+use Rattle.call_frames.proofs.SizedSets.{Sized}
+
+-- ---- the calls that keep a local
+
+keepers_more : (x j : ℕ) (sets : List (List Bool)) (s : List Bool) → set_keepers x j (sets ++ s ∷ []) ≡ set_keepers x j sets ++ (if get_or s x false then (j + length sets) ∷ [] else [])
+keepers_more x j [] s = let z : j ≡ j + 0 = omega arith in append-nil (if get_or s x false then j ∷ [] else []) ∙ ap (λ n. if get_or s x false then n ∷ [] else []) z
+keepers_more x j (t ∷ sets) s =
+    let own : List ℕ = if get_or t x false then j ∷ [] else [] in
+    let z : suc j + length sets ≡ j + suc (length sets) = omega arith in
+    ap (λ ks. own ++ ks) (keepers_more x (suc j) sets s ∙ ap (λ n. set_keepers x (suc j) sets ++ (if get_or s x false then n ∷ [] else [])) z)
+    ∙ sym (append_assoc own (set_keepers x (suc j) sets) (if get_or s x false then (j + suc (length sets)) ∷ [] else []))
+
+get_same : (xs : List Bool) (i : ℕ) (d e : Bool) → i < length xs → get_or xs i d ≡ get_or xs i e
+get_same [] i d e lt = absurd (omega (arith, lt))
+get_same (x ∷ xs) zero d e lt = refl
+get_same (x ∷ xs) (suc i) d e lt = get_same xs i d e (omega (arith, lt))
+
+pub keepers_step : (x : ℕ) (sets : List (Vec Bool Global)) (i : ℕ) (d : Vec Bool Global) (e b : Bool) (old new : List ℕ) → i < length sets → x < length (get_or sets i d).items
+    → b ≡ get_or (get_or sets i d).items x e → old ≡ set_keepers x 0 (sets_of (take i sets)) → new ≡ old ++ (if b then i ∷ [] else []) → new ≡ set_keepers x 0 (sets_of (take (i + 1) sets))
+keepers_step x sets i d e b old new lt there is before more =
+    let n : length (sets_of (take i sets)) ≡ i = length-map (take i sets) (λ (s : Vec Bool Global). s.items) ∙ length-take-le i sets (omega (arith, lt)) in
+    let z : i ≡ 0 + length (sets_of (take i sets)) = omega (arith, n) in
+    let set = (get_or sets i d).items in
+    more ∙ ap (λ ks. ks ++ (if b then i ∷ [] else [])) before
+    ∙ ap (λ c. set_keepers x 0 (sets_of (take i sets)) ++ (if c then i ∷ [] else [])) (is ∙ get_same set x e false there)
+    ∙ ap (λ k. set_keepers x 0 (sets_of (take i sets)) ++ (if get_or set x false then k ∷ [] else [])) z
+    ∙ sym (keepers_more x 0 (sets_of (take i sets)) set)
+    ∙ ap (set_keepers x 0) (sym (map_more (λ (s : Vec Bool Global). s.items) sets i d lt))
+
+pub set_within : (x : ℕ) (sets : List (Vec Bool Global)) (i : ℕ) (d : Vec Bool Global) → All (λ (set : Vec Bool Global). x < length set.items) sets → i < length sets
+    → x < length (get_or sets i d).items
+set_within x [] i d h lt = absurd (omega (arith, lt))
+set_within x (s ∷ sets) zero d h lt = All-head (λ (set : Vec Bool Global). x < length set.items) s sets h
+set_within x (s ∷ sets) (suc i) d h lt = set_within x sets i d (All-tail (λ (set : Vec Bool Global). x < length set.items) s sets h) (omega (arith, lt))
+
+pub same_keepers : (types : List ValType) (x j : ℕ) (sets : List (List Bool)) → Sized types sets → x < length types → keepers x j (kept_by_sets types sets) ≡ set_keepers x j sets
+same_keepers types x j [] sized lt = refl
+same_keepers types x j (s ∷ sets) sized lt =
+    let e = All-head (λ (z : List Bool). length z ≡ length types) s sets sized in
+    let z : x ≡ 0 + x = omega arith in
+    ap (λ b. (if b then j ∷ [] else []) ++ keepers x (suc j) (kept_by_sets types sets)) (ap (λ y. keeps y (fields_in 0 s types)) z ∙ keeps_in 0 s types x (omega (arith, e, lt)) e)
+    ∙ ap (λ ks. (if get_or s x false then j ∷ [] else []) ++ ks) (same_keepers types x (suc j) sets (All-tail (λ (z : List Bool). length z ≡ length types) s sets sized) lt)
+
+-- ---- one more local
+
+pub no_calls : (ks : List ℕ) (f : FrameField) (ps : List SavedPart) → length ks ≡ 0 → ps ≡ with_kept ks f ps
+no_calls [] f ps e = refl
+no_calls (k ∷ ks) f ps e = absurd (omega (arith, e))
+
+some_calls : (ks : List ℕ) (f : FrameField) (ps : List SavedPart) → 1 ≤ length ks → with_field ks f ps ≡ with_kept ks f ps
+some_calls [] f ps le = absurd (omega (arith, le))
+some_calls (k ∷ ks) f ps le = refl
+
+pub first_group : (ks : List ℕ) (f : FrameField) (cs : List CallClass) → 1 ≤ length ks → length cs ≡ 0 → class_parts cs ++ at_these ks (f ∷ []) ∷ [] ≡ with_kept ks f (class_parts cs)
+first_group ks f [] le e = some_calls ks f [] le
+first_group ks f (c ∷ cs) le e = absurd (omega (arith, e))
+
+field_apart : (ks : List ℕ) (f : FrameField) (cs : List CallClass) (i : ℕ) (d : CallClass) → i + 1 ≡ length cs → same_calls (get_or cs i d).calls.items ks ≡ false
+    → class_parts cs ++ at_these ks (f ∷ []) ∷ [] ≡ with_field ks f (class_parts cs)
+field_apart ks f [] i d e other = absurd (omega (arith, e))
+field_apart ks f (c ∷ []) zero d e other = ap (λ b. if b then at_these c.calls.items (fields_of c.fields.items ++ f ∷ []) ∷ [] else class_part c ∷ at_these ks (f ∷ []) ∷ []) (sym other)
+field_apart ks f (c ∷ []) (suc i) d e other = absurd (omega (arith, e))
+field_apart ks f (c ∷ b ∷ cs) zero d e other = absurd (omega (arith, e))
+field_apart ks f (c ∷ b ∷ cs) (suc i) d e other = ap (λ ps. class_part c ∷ ps) (field_apart ks f (b ∷ cs) i d (omega (arith, e)) other)
+
+pub next_group : (ks : List ℕ) (f : FrameField) (cs : List CallClass) (i : ℕ) (d : CallClass) → 1 ≤ length ks → i + 1 ≡ length cs → same_calls (get_or cs i d).calls.items ks ≡ false
+    → class_parts cs ++ at_these ks (f ∷ []) ∷ [] ≡ with_kept ks f (class_parts cs)
+next_group ks f cs i d le e other = field_apart ks f cs i d e other ∙ some_calls ks f (class_parts cs) le
+
+field_joins : (ks : List ℕ) (f : FrameField) (cs : List CallClass) (i : ℕ) (d x : CallClass) → i + 1 ≡ length cs → same_calls (get_or cs i d).calls.items ks ≡ true
+    → x.calls ≡ (get_or cs i d).calls → fields_of x.fields.items ≡ fields_of (get_or cs i d).fields.items ++ f ∷ []
+    → class_parts (slice_set cs i x) ≡ with_field ks f (class_parts cs)
+field_joins ks f [] i d x e same ec ef = absurd (omega (arith, e))
+field_joins ks f (c ∷ []) zero d x e same ec ef =
+    ap (λ (v : Vec ℕ Global). at_these v.items (fields_of x.fields.items) ∷ []) ec ∙ ap (λ fs. at_these c.calls.items fs ∷ []) ef
+    ∙ ap (λ b. if b then at_these c.calls.items (fields_of c.fields.items ++ f ∷ []) ∷ [] else class_part c ∷ at_these ks (f ∷ []) ∷ []) (sym same)
+field_joins ks f (c ∷ []) (suc i) d x e same ec ef = absurd (omega (arith, e))
+field_joins ks f (c ∷ b ∷ cs) zero d x e same ec ef = absurd (omega (arith, e))
+field_joins ks f (c ∷ b ∷ []) (suc zero) d x e same ec ef = ap (λ ps. class_part c ∷ ps) (field_joins ks f (b ∷ []) zero d x refl same ec ef)
+field_joins ks f (c ∷ b ∷ []) (suc (suc i)) d x e same ec ef = absurd (omega (arith, e))
+field_joins ks f (c ∷ b ∷ a ∷ cs) (suc i) d x e same ec ef = ap (λ ps. class_part c ∷ ps) (field_joins ks f (b ∷ a ∷ cs) i d x (omega (arith, e)) same ec ef)
+
+pub class_any : (cs : List CallClass) (i : ℕ) (d e : CallClass) → i < length cs → get_or cs i d ≡ get_or cs i e
+class_any [] i d e lt = absurd (omega (arith, lt))
+class_any (c ∷ cs) zero d e lt = refl
+class_any (c ∷ cs) (suc i) d e lt = class_any cs i d e (omega (arith, lt))
+
+pub same_group : (ks : List ℕ) (f : FrameField) (cs : List CallClass) (i : ℕ) (d x : CallClass) → 1 ≤ length ks → i + 1 ≡ length cs → same_calls (get_or cs i d).calls.items ks ≡ true
+    → x.calls ≡ (get_or cs i d).calls → fields_of x.fields.items ≡ fields_of (get_or cs i d).fields.items ++ f ∷ []
+    → class_parts (slice_set cs i x) ≡ with_kept ks f (class_parts cs)
+same_group ks f cs i d x le e same ec ef = field_joins ks f cs i d x e same ec ef ∙ some_calls ks f (class_parts cs) le
+
+grouped_more : (x : ℕ) (ts : List ValType) (t : ValType) (rows : Rows) (ps : List SavedPart)
+    → grouped x (ts ++ t ∷ []) rows ps ≡ with_kept (keepers (x + length ts) 0 rows) (kept (x + length ts) t) (grouped x ts rows ps)
+grouped_more x [] t rows ps = let z : x ≡ x + 0 = omega arith in ap (λ y. with_kept (keepers y 0 rows) (kept y t) ps) z
+grouped_more x (u ∷ ts) t rows ps =
+    let z : suc x + length ts ≡ x + suc (length ts) = omega arith in
+    let next : List SavedPart = with_kept (keepers x 0 rows) (kept x u) ps in
+    grouped_more (suc x) ts t rows next ∙ ap (λ y. with_kept (keepers y 0 rows) (kept y t) (grouped (suc x) ts rows next)) z
+
+pub grouped_step : (types : List ValType) (rows : Rows) (i : ℕ) (d : ValType) (ks : List ℕ) (f : FrameField) (old new : List SavedPart) → i < length types → ks ≡ keepers i 0 rows
+    → f ≡ kept i (get_or types i d) → old ≡ grouped 0 (take i types) rows [] → new ≡ with_kept ks f old → new ≡ grouped 0 (take (i + 1) types) rows []
+grouped_step types rows i d ks f old new lt ek ef before is =
+    let n : length (take i types) ≡ i = length-take-le i types (omega (arith, lt)) in
+    let z : i ≡ 0 + length (take i types) = omega (arith, n) in
+    let t = get_or types i d in
+    is ∙ ap (λ js. with_kept js f old) ek ∙ ap (λ g. with_kept (keepers i 0 rows) g old) ef ∙ ap (with_kept (keepers i 0 rows) (kept i t)) before
+    ∙ ap (λ y. with_kept (keepers y 0 rows) (kept y t) (grouped 0 (take i types) rows [])) z
+    ∙ sym (grouped_more 0 (take i types) t rows []) ∙ ap (λ ts. grouped 0 ts rows []) (sym (take_more types i d lt))
+
+pub grouped_end : (types : List ValType) (rows : Rows) (i : ℕ) (ps : List SavedPart) → length types ≤ i → ps ≡ grouped 0 (take i types) rows [] → ps ≡ grouped 0 types rows []
+grouped_end types rows i ps le h = h ∙ ap (λ ts. grouped 0 ts rows []) (take_all i types le)
+
+pub all_within : (types : List ValType) (x : ℕ) (sets : List (Vec Bool Global)) → All (λ (set : Vec Bool Global). length set.items ≡ length types) sets → x < length types
+    → All (λ (set : Vec Bool Global). x < length set.items) sets
+all_within types x sets h lt k d l = let e = h k d l in omega (arith, e, lt)
+
+pub some_items : (v : Vec ℕ Global) (r : Bool) → r ≡ (v.len == 0) → r ≡ false → 1 ≤ length v.items
+some_items v r e f = by (length v.items) refl
+  where
+    by : (m : ℕ) → length v.items ≡ m → 1 ≤ length v.items
+    by zero q = absurd (eqb-false v.len 0 (sym e ∙ f) (v.ok.0 ∙ q))
+    by (suc m) q = omega (arith, q)
+
+pub last_place : (v : Vec CallClass Global) (n : ℕ) → n ≡ v.len → (n ≡ 0 → ⊥) → (n - 1) + 1 ≡ length v.items
+last_place v n e f = by n refl
+  where
+    by : (m : ℕ) → n ≡ m → (n - 1) + 1 ≡ length v.items
+    by zero q = absurd (f q)
+    by (suc m) q = let l = v.ok.0 in omega (arith, q, l, e)
+
+-- the calls compared
+pub calls_where : (xs ys : List ℕ) (r : Bool) → r ≡ not (same_calls xs ys) → r ≡ false → same_calls xs ys ≡ true
+calls_where xs ys r e f = by (same_calls xs ys) (sym e ∙ f)
+  where
+    by : (b : Bool) → not b ≡ false → b ≡ true
+    by true h = refl
+    by false h = let bad : ⊥ = cc in absurd bad
+
+pub calls_other : (xs ys : List ℕ) (r : Bool) → r ≡ not (same_calls xs ys) → r ≡ true → same_calls xs ys ≡ false
+calls_other xs ys r e f = by (same_calls xs ys) (sym e ∙ f)
+  where
+    by : (b : Bool) → not b ≡ true → b ≡ false
+    by true h = let bad : ⊥ = cc in absurd bad
+    by false h = refl
+
+-- ---- parts made of a list that is walked
+
+pub nothing_left : {X : Type 0} (xs : List X) → length xs ≡ 0 → xs ≡ []
+nothing_left [] e = refl
+nothing_left (x ∷ xs) e = absurd (omega (arith, e))
+
+module _ (f : CallClass → SavedPart) (all : List CallClass) where
+  pub part_next : (c : CallClass) (rest left : List CallClass) (p : KeptPart) (old new : List KeptPart) → left ≡ c ∷ rest → new ≡ old ++ p ∷ [] → part_view p ≡ f c
+      → part_views old ++ map f left ≡ map f all → part_views new ++ map f rest ≡ map f all
+  part_next c rest left p old new el en ep h =
+      ap (λ ps. part_views ps ++ map f rest) en ∙ ap (λ ps. ps ++ map f rest) (map-append part_view old (p ∷ []))
+      ∙ ap (λ q. (part_views old ++ q ∷ []) ++ map f rest) ep ∙ append_assoc (part_views old) (f c ∷ []) (map f rest)
+      ∙ ap (λ cs. part_views old ++ map f cs) (sym el) ∙ h
+
+  pub parts_end : (left : List CallClass) (ps : List KeptPart) → left ≡ [] → part_views ps ++ map f left ≡ map f all → part_views ps ≡ map f all
+  parts_end left ps e h = sym (append-nil (part_views ps)) ∙ ap (λ cs. part_views ps ++ map f cs) (sym e) ∙ h
+
+pub two_maps : (f : CallClass → SavedPart) (g : SavedPart → SavedPart) (cs : List CallClass) → map (λ (c : CallClass). g (f c)) cs ≡ map g (map f cs)
+two_maps f g [] = refl
+two_maps f g (c ∷ cs) = ap (λ ps. g (f c) ∷ ps) (two_maps f g cs)
+
+-- ---- sizes
+
+pub one_length : (c : CallClass) → parts_length (class_part c ∷ []) ≡ 3 * test_size c.calls.items + 13 + 6 * length c.fields.items
+one_length c = let n = all_kept c.fields.items in omega (arith, n)
+
+length_join : (ps qs : List SavedPart) → parts_length (ps ++ qs) ≡ parts_length ps + parts_length qs
+length_join [] qs = omega arith
+length_join (at_every fs ∷ ps) qs = let ih = length_join ps qs in omega (arith, ih)
+length_join (at_these ks fs ∷ ps) qs = let ih = length_join ps qs in omega (arith, ih)
+
+cost_join : (ps qs : List SavedPart) → tests_cost (ps ++ qs) ≡ tests_cost ps + tests_cost qs
+cost_join [] qs = omega arith
+cost_join (at_every fs ∷ ps) qs = cost_join ps qs
+cost_join (at_these ks fs ∷ ps) qs = let ih = cost_join ps qs in omega (arith, ih)
+
+-- a sum over parts, one more at a time
+module _ (sum : List SavedPart → ℕ) (join : (ps qs : List SavedPart) → sum (ps ++ qs) ≡ sum ps + sum qs) (ps : List KeptPart) where
+  pub sum_next : (i : ℕ) (d : KeptPart) → i < length ps → sum (part_views (take (i + 1) ps)) ≡ sum (part_views (take i ps)) + sum (part_view (get_or ps i d) ∷ [])
+  sum_next i d lt = ap sum (map_more part_view ps i d lt) ∙ join (part_views (take i ps)) (part_view (get_or ps i d) ∷ [])
+
+take_least : (sum : List SavedPart → ℕ) (join : (ps qs : List SavedPart) → sum (ps ++ qs) ≡ sum ps + sum qs) (ps : List KeptPart) (i : ℕ) → sum (part_views (take i ps)) ≤ sum (part_views ps)
+take_least sum join [] zero = omega arith
+take_least sum join [] (suc i) = omega arith
+take_least sum join (p ∷ ps) zero =
+    let a = join [] (part_views (p ∷ ps)) in omega (arith, a)
+take_least sum join (p ∷ ps) (suc i) =
+    let a = join (part_view p ∷ []) (part_views (take i ps)) in
+    let b = join (part_view p ∷ []) (part_views ps) in
+    let ih = take_least sum join ps i in omega (arith, a, b, ih)
+
+module _ (ps : List KeptPart) (i : ℕ) (d : KeptPart) (lt : i < length ps) where
+  pub length_next : parts_length (part_views (take (i + 1) ps)) ≡ parts_length (part_views (take i ps)) + parts_length (part_view (get_or ps i d) ∷ [])
+  length_next = sum_next parts_length length_join ps i d lt
+
+  pub length_within : parts_length (part_views (take (i + 1) ps)) ≤ parts_length (part_views ps)
+  length_within = take_least parts_length length_join ps (i + 1)
+
+  pub cost_next : tests_cost (part_views (take (i + 1) ps)) ≡ tests_cost (part_views (take i ps)) + tests_cost (part_view (get_or ps i d) ∷ [])
+  cost_next = sum_next tests_cost cost_join ps i d lt
+
+  pub cost_within : tests_cost (part_views (take (i + 1) ps)) ≤ tests_cost (part_views ps)
+  cost_within = take_least tests_cost cost_join ps (i + 1)

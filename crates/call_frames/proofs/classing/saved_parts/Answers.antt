@@ -1,0 +1,107 @@
+use Rattle.std.proofs.Common.{◌<◌, ◌^◌, length, sym, subst, true, false}
+use Rattle.call_frames.specs.CallParts.{parts_length, tests_most}
+use Rattle.call_frames.specs.Views.{part_views}
+use Rattle.call_frames.proofs.Chosen.{are_made, classes_fit, groups_fit, taken_alike, taken_few, taken_keep, told_better}
+use Rattle.call_frames.proofs.classing.saved_parts.Goals as goal
+
+pub are_better-requires-clause-groups : goal.are_better-requires-clause-groups
+are_better-requires-clause-groups c =
+    let types = c.args.types.now in
+    let sets = c.args.sets.now in
+    let gs = c.in_ok-groups.groups.items in
+    let cs = c.in_ok-classes.classes.items in
+    let own = c.in_ok-classes_of.ensures in
+    let made = are_made types sets gs cs c.in_ok-groups_of.field-0.items c.in_ok-classes_of.field-0.items c.in_ok-groups.ensures c.in_ok-groups_of.ensures
+    c.in_ok-classes.ensures own.keep own.few in
+    subst (λ ps. parts_length (part_views ps) < 2 ^ 60) (sym c.deref.ensures.value)
+    (groups_fit types sets c.requires.sizes c.requires.few c.requires.calls gs cs made)
+
+pub are_better-requires-clause-classes : goal.are_better-requires-clause-classes
+are_better-requires-clause-classes c =
+    let types = c.args.types.now in
+    let sets = c.args.sets.now in
+    let gs = c.in_ok-groups.groups.items in
+    let cs = c.in_ok-classes.classes.items in
+    let own = c.in_ok-classes_of.ensures in
+    let made = are_made types sets gs cs c.in_ok-groups_of.field-0.items c.in_ok-classes_of.field-0.items c.in_ok-groups.ensures c.in_ok-groups_of.ensures
+    c.in_ok-classes.ensures own.keep own.few in
+    subst (λ ps. parts_length (part_views ps) < 2 ^ 60) (sym c.deref-2.ensures.value)
+    (classes_fit types sets c.requires.sizes c.requires.few c.requires.calls gs cs made)
+
+pub returns-then-are_better-clause-keep : goal.returns-then-are_better-clause-keep
+returns-then-are_better-clause-keep c =
+    let types = c.args.types.now in
+    let sets = c.args.sets.now in
+    let gs = c.in_ok-groups.groups.items in
+    let cs = c.in_ok-classes.classes.items in
+    let own = c.in_ok-classes_of.ensures in
+    let made = are_made types sets gs cs c.in_ok-groups_of.field-0.items c.in_ok-classes_of.field-0.items c.in_ok-groups.ensures c.in_ok-groups_of.ensures
+    c.in_ok-classes.ensures own.keep own.few in
+    let is = told_better (tests_most (length types) (length sets)) gs cs c.deref.result.now c.deref-2.result.now c.are_better.result true c.deref.ensures.value
+    c.deref-2.ensures.value c.are_better.ensures c.if-are_better.true in
+    taken_keep types sets c.requires.sizes c.requires.few c.requires.calls gs cs made true is
+
+pub returns-then-are_better-clause-alike : goal.returns-then-are_better-clause-alike
+returns-then-are_better-clause-alike c =
+    let types = c.args.types.now in
+    let sets = c.args.sets.now in
+    let gs = c.in_ok-groups.groups.items in
+    let cs = c.in_ok-classes.classes.items in
+    let own = c.in_ok-classes_of.ensures in
+    let made = are_made types sets gs cs c.in_ok-groups_of.field-0.items c.in_ok-classes_of.field-0.items c.in_ok-groups.ensures c.in_ok-groups_of.ensures
+    c.in_ok-classes.ensures own.keep own.few in
+    let is = told_better (tests_most (length types) (length sets)) gs cs c.deref.result.now c.deref-2.result.now c.are_better.result true c.deref.ensures.value
+    c.deref-2.ensures.value c.are_better.ensures c.if-are_better.true in
+    taken_alike types sets c.requires.sizes c.requires.few c.requires.calls gs cs made true is
+
+pub returns-then-are_better-clause-few : goal.returns-then-are_better-clause-few
+returns-then-are_better-clause-few c =
+    let types = c.args.types.now in
+    let sets = c.args.sets.now in
+    let gs = c.in_ok-groups.groups.items in
+    let cs = c.in_ok-classes.classes.items in
+    let own = c.in_ok-classes_of.ensures in
+    let made = are_made types sets gs cs c.in_ok-groups_of.field-0.items c.in_ok-classes_of.field-0.items c.in_ok-groups.ensures c.in_ok-groups_of.ensures
+    c.in_ok-classes.ensures own.keep own.few in
+    let is = told_better (tests_most (length types) (length sets)) gs cs c.deref.result.now c.deref-2.result.now c.are_better.result true c.deref.ensures.value
+    c.deref-2.ensures.value c.are_better.ensures c.if-are_better.true in
+    taken_few types sets c.requires.sizes c.requires.few c.requires.calls gs cs made true is
+
+pub returns-clause-keep : goal.returns-clause-keep
+returns-clause-keep c =
+    let types = c.args.types.now in
+    let sets = c.args.sets.now in
+    let gs = c.in_ok-groups.groups.items in
+    let cs = c.in_ok-classes.classes.items in
+    let own = c.in_ok-classes_of.ensures in
+    let made = are_made types sets gs cs c.in_ok-groups_of.field-0.items c.in_ok-classes_of.field-0.items c.in_ok-groups.ensures c.in_ok-groups_of.ensures
+    c.in_ok-classes.ensures own.keep own.few in
+    let is = told_better (tests_most (length types) (length sets)) gs cs c.deref.result.now c.deref-2.result.now c.are_better.result false c.deref.ensures.value
+    c.deref-2.ensures.value c.are_better.ensures c.if-are_better.false in
+    taken_keep types sets c.requires.sizes c.requires.few c.requires.calls gs cs made false is
+
+pub returns-clause-alike : goal.returns-clause-alike
+returns-clause-alike c =
+    let types = c.args.types.now in
+    let sets = c.args.sets.now in
+    let gs = c.in_ok-groups.groups.items in
+    let cs = c.in_ok-classes.classes.items in
+    let own = c.in_ok-classes_of.ensures in
+    let made = are_made types sets gs cs c.in_ok-groups_of.field-0.items c.in_ok-classes_of.field-0.items c.in_ok-groups.ensures c.in_ok-groups_of.ensures
+    c.in_ok-classes.ensures own.keep own.few in
+    let is = told_better (tests_most (length types) (length sets)) gs cs c.deref.result.now c.deref-2.result.now c.are_better.result false c.deref.ensures.value
+    c.deref-2.ensures.value c.are_better.ensures c.if-are_better.false in
+    taken_alike types sets c.requires.sizes c.requires.few c.requires.calls gs cs made false is
+
+pub returns-clause-few : goal.returns-clause-few
+returns-clause-few c =
+    let types = c.args.types.now in
+    let sets = c.args.sets.now in
+    let gs = c.in_ok-groups.groups.items in
+    let cs = c.in_ok-classes.classes.items in
+    let own = c.in_ok-classes_of.ensures in
+    let made = are_made types sets gs cs c.in_ok-groups_of.field-0.items c.in_ok-classes_of.field-0.items c.in_ok-groups.ensures c.in_ok-groups_of.ensures
+    c.in_ok-classes.ensures own.keep own.few in
+    let is = told_better (tests_most (length types) (length sets)) gs cs c.deref.result.now c.deref-2.result.now c.are_better.result false c.deref.ensures.value
+    c.deref-2.ensures.value c.are_better.ensures c.if-are_better.false in
+    taken_few types sets c.requires.sizes c.requires.few c.requires.calls gs cs made false is
