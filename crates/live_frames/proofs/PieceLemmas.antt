@@ -11,7 +11,7 @@ use Rattle.call_frames.specs.PlainFrames.{SavedPart, at_every, at_these, at_call
 use Rattle.call_frames.specs.declared.frames.KeptLocal.{KeptLocal}
 use Rattle.call_frames.specs.declared.frames.KeptPart.{KeptPart}
 use Rattle.call_frames.specs.Views.{kept_field, fields_of, part_view, part_views}
-use Rattle.call_sizes.proofs.FieldSteps.{shared_bytes}
+use Rattle.live_frames.proofs.FieldSteps.{shared_bytes}
 
 -- ---- fields
 

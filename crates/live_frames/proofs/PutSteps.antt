@@ -17,7 +17,7 @@ use Rattle.call_frames.specs.declared.frames.KeptPart.{KeptPart}
 use Rattle.live_frames.specs.Putting.{room_tested}
 use Rattle.call_frames.specs.Views.{fields_of, part_view, part_views}
 use Rattle.live_frames.proofs.PieceLemmas.{stored_more, loaded_more, part_stored, part_loaded}
-use Rattle.call_sizes.proofs.FieldSteps.{shared_bytes}
+use Rattle.live_frames.proofs.FieldSteps.{shared_bytes}
 
 -- what is put, told otherwise
 pub put_same : {X : Type 0} (old new : List Instr) (f : X → Code → Code) (x y : X) → x ≡ y → Puts old new (f x) → Puts old new (f y)

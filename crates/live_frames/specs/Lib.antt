@@ -1,2 +1,3 @@
-pub use Rattle.frame_laws.specs.Layout
+pub mod Digits
 pub mod Putting
+pub mod Rows

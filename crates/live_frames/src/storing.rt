@@ -12,8 +12,8 @@ ghost use Rattle.call_frames.specs.Views.{fields_of, part_view, part_views};
 
 use crate::putting::{field_at, put_scratch_moved};
 use call_frames::{KeptLocal, KeptPart};
-use call_sizes::{shared_in, size_of};
-use call_tests::put_under_test;
+use crate::fields::{shared_in, size_of};
+use crate::testing::put_under_test;
 use local_spill::{put_stored, width};
 use std::alloc::{AllocError, Global};
 use wa_types::{Instr, NumOp};

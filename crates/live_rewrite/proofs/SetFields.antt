@@ -13,7 +13,7 @@ use Rattle.run_theory.specs.Flat.{FlatFunc}
 use Rattle.run_theory.specs.FlatView.{flat_func_of}
 use Rattle.flat_laws.specs.Flatten.{flattened}
 use Rattle.func_rewrite.specs.Flattened.{Flattened}
-use Rattle.live_frames.specs.Layout.{FrameField, kept, kept_count}
+use Rattle.frame_laws.specs.Layout.{FrameField, kept, kept_count}
 use Rattle.live_form.specs.LiveFrames.{fields_at}
 use Rattle.save_laws.specs.LiveAt.{KeepsAt, LiveAtCalls}
 use Rattle.live_passes.specs.Sets.{has}

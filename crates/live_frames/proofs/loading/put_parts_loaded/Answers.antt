@@ -5,7 +5,7 @@ use Rattle.local_spill.specs.Putting.{Puts}
 use Rattle.call_frames.specs.declared.frames.KeptPart.{KeptPart}
 use Rattle.call_frames.specs.Classes.{part_fields}
 use Rattle.call_frames.specs.Views.{part_view, part_views}
-use Rattle.call_sizes.proofs.FieldSteps.{few_at, shared_bytes, shared_next, shared_small}
+use Rattle.live_frames.proofs.FieldSteps.{few_at, shared_bytes, shared_next, shared_small}
 use Rattle.live_frames.proofs.PutSteps.{part_loaded_end, part_loaded_step, part_same}
 use Rattle.live_frames.proofs.loading.put_parts_loaded.Goals as goal
 
