@@ -16,11 +16,11 @@ use Rattle.guard_form.specs.Grouping.{is_place}
 use Rattle.flat_laws.specs.FlatModule.{stacks_in}
 use Rattle.flat_laws.specs.Behind.{Among}
 use Rattle.flow_rewrite.specs.Emitting.{Rises}
-use Rattle.live_passes.specs.Ops.{IsComputation, OpsFit}
-use Rattle.live_passes.specs.Sets.{has}
+use Rattle.live_locals.specs.Ops.{IsComputation, OpsFit}
+use Rattle.live_locals.specs.Sets.{has}
 use Rattle.live_locals.specs.Rows.{kept, chosen, column}
 use Rattle.live_locals.specs.LiveAt.{lists_of, KeepsAt}
-use Rattle.live_passes.proofs.CodeLemmas.{live_slots}
+use Rattle.live_locals.proofs.CodeLemmas.{live_slots}
 
 -- ---- places that rise
 

@@ -11,14 +11,14 @@ use Rattle.wa_model.specs.declared.flat.Stmt.{Stmt}
 use Rattle.run_theory.specs.Flat.{Stmts, no_more, nests, decides, code_of}
 use Rattle.run_theory.specs.FlatView.{stmt_in_front, stmts}
 use Rattle.flow_rewrite.proofs.StmtLemmas.{stmts_step, stmts_end}
-use Rattle.live_passes.specs.Sets.{has, told_of, told_by, TellsBefore, Passed}
-use Rattle.live_passes.proofs.SetLemmas.{told_more, or_none}
-use Rattle.live_passes.proofs.PassLemmas.{popped}
-use Rattle.live_words.specs.Words.{bit, world, meets, WordsPassed}
-use Rattle.live_words.specs.Heads.{deeper, loop_total, heads, Knows, HeadsPut}
-use Rattle.live_words.proofs.WordLemmas.{world_long, world_has}
-use Rattle.live_words.proofs.LevelLemmas.{meets_first}
-use Rattle.live_words.proofs.HeadLemmas.{knows_on, knows_left, knows_right, knows_as, loops_front, heads_front, heads_count, heads_tail}
+use Rattle.live_locals.specs.Sets.{has, told_of, told_by, TellsBefore, Passed}
+use Rattle.live_locals.proofs.SetLemmas.{told_more, or_none}
+use Rattle.live_locals.proofs.PassLemmas.{popped}
+use Rattle.live_locals.specs.Words.{bit, world, meets, WordsPassed}
+use Rattle.live_locals.specs.Heads.{deeper, loop_total, heads, Knows, HeadsPut}
+use Rattle.live_locals.proofs.WordLemmas.{world_long, world_has}
+use Rattle.live_locals.proofs.LevelLemmas.{meets_first}
+use Rattle.live_locals.proofs.HeadLemmas.{knows_on, knows_left, knows_right, knows_as, loops_front, heads_front, heads_count, heads_tail}
 use Rattle.live_locals.specs.Nests.{joined, in_some, told_in_some, Around, NestOf, Nest, AtLoop, Enters}
 use Rattle.live_locals.proofs.UnionLemmas.{live_in_some, told_again, some_again, told_cons, some_same, none_in_some, up_more}
 

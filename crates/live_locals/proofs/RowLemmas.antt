@@ -16,11 +16,11 @@ use Rattle.guard_form.specs.Grouping.{is_place}
 use Rattle.guard_form.specs.Pieces.{call_total}
 use Rattle.flow_rewrite.specs.Statements.{with_rest}
 use Rattle.flow_rewrite.proofs.StmtLemmas.{in_front_is, stmts_step, stmts_end, total_with, call_is}
-use Rattle.live_passes.specs.Ops.{OpsFit}
-use Rattle.live_passes.specs.Sets.{has, told_of, told_by, TellsBefore, TellsAnywhere, Passed}
+use Rattle.live_locals.specs.Ops.{OpsFit}
+use Rattle.live_locals.specs.Sets.{has, told_of, told_by, TellsBefore, TellsAnywhere, Passed}
 use Rattle.live_locals.specs.Rows.{label_tells, kept, chosen, numbered_from, column, Countable, RowPut, RowsPut}
-use Rattle.live_passes.proofs.SetLemmas.{live_followed, told_more}
-use Rattle.live_passes.proofs.CodeLemmas.{slots_then, slots_set, ops_at}
+use Rattle.live_locals.proofs.SetLemmas.{live_followed, told_more}
+use Rattle.live_locals.proofs.CodeLemmas.{slots_then, slots_set, ops_at}
 
 -- ---- lists by places
 

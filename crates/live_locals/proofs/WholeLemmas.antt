@@ -11,11 +11,11 @@ use Rattle.run_theory.specs.Flat.{Stmts, no_more, computes, copies, calls, leaps
 use Rattle.run_theory.specs.FlatFits.{StmtsFit, ComputesFit}
 use Rattle.guard_form.specs.Pieces.{call_total}
 use Rattle.flow_rewrite.specs.Emitting.{Rises}
-use Rattle.live_passes.specs.Ops.{IsComputation, OpsFit}
-use Rattle.live_passes.specs.Sets.{has, told_of, TellsAnywhere}
+use Rattle.live_locals.specs.Ops.{IsComputation, OpsFit}
+use Rattle.live_locals.specs.Sets.{has, told_of, TellsAnywhere}
 use Rattle.live_locals.specs.Rows.{kept, chosen, numbered_from, column, Countable, RowsPut}
 use Rattle.live_locals.specs.LiveAt.{lists_of, KeepsAt, LiveAtCalls}
-use Rattle.live_passes.proofs.SetLemmas.{none_has}
+use Rattle.live_locals.proofs.SetLemmas.{none_has}
 use Rattle.live_locals.proofs.RowLemmas.{chosen_count, kept_count}
 use Rattle.live_locals.proofs.ExactLemmas.{chosen_is, column_at, told_exactly}
 

@@ -5,7 +5,7 @@ use Rattle.wa_types.specs.Liveness.{Position, ReadsFirst, behind_calls}
 use Rattle.run_theory.specs.Flat.{FlatFunc, body_of}
 use Rattle.flat_laws.specs.FlatModule.{stacks_in}
 use Rattle.flat_laws.specs.Behind.{Among}
-use Rattle.live_passes.specs.Sets.{has}
+use Rattle.live_locals.specs.Sets.{has}
 
 -- the sets as lists
 abbrev pub lists_of : List (Vec Bool Global) → List (List Bool)

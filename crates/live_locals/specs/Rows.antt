@@ -7,8 +7,8 @@ use Rattle.run_theory.specs.Flat.{Stmts, no_more, computes, copies, calls, leaps
 use Rattle.guard_form.specs.Grouping.{is_place}
 use Rattle.guard_form.specs.Pieces.{call_total}
 use Rattle.flow_rewrite.specs.Emitting.{Rises}
-use Rattle.live_passes.specs.Ops.{OpsFit}
-use Rattle.live_passes.specs.Sets.{has, told_of}
+use Rattle.live_locals.specs.Ops.{OpsFit}
+use Rattle.live_locals.specs.Sets.{has, told_of}
 
 -- what is told of a construct's own label
 abbrev pub label_tells : ℕ → Shape → List Bool → (behind : Bool) → Code → Bool

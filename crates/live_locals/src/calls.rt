@@ -9,7 +9,7 @@ ghost use Rattle.flow_rewrite.specs.Emitting.{Rises};
 ghost use Rattle.live_locals.specs.LiveAt.{LiveAtCalls, lists_of};
 
 use crate::rows::put_body_rows;
-use live_passes::{copied, none_of, read_told};
+use crate::sets::{copied, none_of, read_told};
 use std::alloc::{AllocError, Global};
 use wa_model::{FlatFunc, Stmt};
 

@@ -5,13 +5,15 @@ ghost use Rattle.std.specs.declared.alloc.Global.{Global};
 ghost use Rattle.wa_types.specs.Syntax.{a_loop};
 ghost use Rattle.run_theory.specs.Flat.{Stmts, code_of, no_more, nests};
 ghost use Rattle.run_theory.specs.FlatView.{stmt_in_front, stmts};
-ghost use Rattle.live_passes.specs.Ops.{OpsFit};
-ghost use Rattle.live_passes.specs.Sets.{told_by, Passed, TellsBefore};
-ghost use Rattle.live_words.specs.Heads.{loop_total};
+ghost use Rattle.live_locals.specs.Ops.{OpsFit};
+ghost use Rattle.live_locals.specs.Sets.{told_by, Passed, TellsBefore};
+ghost use Rattle.live_locals.specs.Heads.{loop_total};
 ghost use Rattle.live_locals.specs.Nests.{AtLoop, Enters, Nest};
 
-use live_passes::pass_stmt;
-use live_words::{broadcast, entered, loop_sizes, met, pass_words};
+use crate::passes::pass_stmt;
+use crate::levels::{broadcast, entered, met};
+use crate::sizes::loop_sizes;
+use crate::word_passes::pass_stmt as pass_words;
 use std::alloc::{AllocError, Global};
 use wa_model::Stmt;
 

@@ -5,13 +5,14 @@ ghost use Rattle.run_theory.specs.Flat.{code_of, no_more};
 ghost use Rattle.run_theory.specs.FlatView.{stmt_in_front, stmts};
 ghost use Rattle.guard_form.specs.Grouping.{is_place};
 ghost use Rattle.flow_rewrite.specs.Emitting.{Rises};
-ghost use Rattle.live_words.specs.Heads.{loop_total};
+ghost use Rattle.live_locals.specs.Heads.{loop_total};
 ghost use Rattle.live_locals.specs.Nests.{Nest};
 ghost use Rattle.live_locals.specs.Rows.{Countable, RowPut, RowsPut};
-ghost use Rattle.live_passes.specs.Sets.{Passed};
+ghost use Rattle.live_locals.specs.Sets.{Passed};
 
 use crate::nests::enter_loop;
-use live_passes::{copied, join, pass_simple, read_operand, read_slots, read_taken, write_told};
+use crate::sets::{copied, join, read_operand, read_slots, write_told};
+use crate::steps::{pass_simple, read_taken};
 use std::alloc::{AllocError, Global};
 use wa_model::Stmt;
 

@@ -10,10 +10,10 @@ use Rattle.wa_types.specs.Syntax.{Func, Module}
 use Rattle.wa_types.specs.Validity.{Valid}
 use Rattle.run_theory.specs.FlatView.{flat_func_of}
 use Rattle.func_rewrite.specs.Flattened.{Flattened}
-use Rattle.save_laws.specs.Numbering.{callees, gets_number}
-use Rattle.save_laws.proofs.NumberingLemmas.{callees_count}
-use Rattle.save_laws.specs.Emitting.{Rises}
-use Rattle.save_laws.specs.LiveAt.{LiveAtCalls, lists_of}
+use Rattle.flow_rewrite.specs.Numbering.{callees, gets_number}
+use Rattle.flow_rewrite.proofs.NumberingLemmas.{callees_count}
+use Rattle.flow_rewrite.specs.Emitting.{Rises}
+use Rattle.live_locals.specs.LiveAt.{LiveAtCalls, lists_of}
 use Rattle.func_rewrite.specs.Frames.{IsFlattened}
 use Rattle.func_rewrite.proofs.CallNumbers.{places_few, places_rise}
 use Rattle.func_rewrite.proofs.WrittenFuncs.{few_calls, fits, numbers}

@@ -10,7 +10,7 @@ use Rattle.wa_types.specs.Syntax.{Func, Module}
 use Rattle.local_spill.specs.Laying.{SizedAsSaved, in_a_row, saved_local}
 use Rattle.local_spill.specs.declared.frames.Layout.{Layout}
 use Rattle.local_spill.specs.declared.frames.Place.{Place}
-use Rattle.live_passes.specs.Sets.{has}
+use Rattle.live_locals.specs.Sets.{has}
 use Rattle.func_rewrite.specs.Frames.{FramesAt}
 use Rattle.live_rewrite.specs.Layouts.{IsSetFrame, SetFrames}
 

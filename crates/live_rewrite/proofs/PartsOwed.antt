@@ -20,7 +20,7 @@ use Rattle.guard_form.specs.Guarded.{guard_indices, guarded_body, function_body}
 use Rattle.call_frames.specs.FrameParts.{restoring_by_call, saving_by_call}
 use Rattle.call_frames.specs.PlainFrames.{SavedParts, frames_of}
 use Rattle.live_form.specs.SlimModule.{Pieces, SlimPieces}
-use Rattle.save_laws.specs.LiveAt.{LiveAtCalls}
+use Rattle.live_locals.specs.LiveAt.{LiveAtCalls}
 use Rattle.call_frames.specs.declared.frames.FrameParts.{FrameParts}
 use Rattle.call_frames.specs.Classes.{KeepCheaply, NumbersBelow}
 use Rattle.call_frames.specs.Views.{parts_view, told_frames}

@@ -4,7 +4,7 @@ use Rattle.wa_types.specs.Pausing.{Settings, Numbered}
 use Rattle.wa_types.specs.Syntax.{Func, Module}
 use Rattle.run_theory.specs.FlatView.{flat_func_of}
 use Rattle.func_rewrite.specs.Flattened.{Flattened}
-use Rattle.save_laws.specs.LiveAt.{LiveAtCalls, lists_of}
+use Rattle.live_locals.specs.LiveAt.{LiveAtCalls, lists_of}
 use Rattle.live_rewrite.specs.declared.calls.LiveCalls.{LiveCalls}
 
 -- The numbered calls of this function, and exactly what each keeps.

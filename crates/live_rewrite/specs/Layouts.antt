@@ -6,7 +6,7 @@ use Rattle.wa_types.specs.Pausing.{Policy}
 use Rattle.wa_types.specs.Syntax.{Func, Module}
 use Rattle.local_spill.specs.Laying.{in_a_row, saved_local}
 use Rattle.local_spill.specs.declared.frames.Layout.{Layout}
-use Rattle.live_passes.specs.Sets.{has}
+use Rattle.live_locals.specs.Sets.{has}
 
 -- The frame of the call of this number: the locals of its set in a row, and the size that the definitions give where they are what is
 -- saved.

@@ -11,7 +11,7 @@ ghost use Rattle.live_rewrite.specs.Calls.{AreLiveCalls};
 
 use call_graph::Settings;
 use func_rewrite::Flattened;
-use save_laws::{live_at, number_calls};
+use live_locals::{live_at, number_calls};
 use std::alloc::{AllocError, Global};
 use wa_types::{Func, Module};
 

@@ -12,7 +12,7 @@ ghost use Rattle.call_graph.specs.Settings.{settings_of};
 ghost use Rattle.local_spill.specs.Ids.{ids_behind};
 ghost use Rattle.call_frames.specs.FrameParts.{restoring_by_call, saving_by_call};
 ghost use Rattle.call_frames.specs.PlainFrames.{frames_of};
-ghost use Rattle.save_laws.specs.Emitting.{Rises};
+ghost use Rattle.flow_rewrite.specs.Emitting.{Rises};
 ghost use Rattle.func_rewrite.specs.Bodies.{IsSlimBody};
 ghost use Rattle.func_rewrite.specs.Frames.{FramesUnder, IsFlattened};
 ghost use Rattle.guard_form.specs.Pieces.{call_total};

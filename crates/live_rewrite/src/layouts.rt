@@ -4,8 +4,8 @@ ghost use Rattle.std.specs.Prelude.{◌≡◌, ◌≤◌, ◌<◌, ◌^◌, ◌+
 ghost use Rattle.std.specs.declared.alloc.Global.{Global as AGlobal};
 ghost use Rattle.wa_types.specs.Frames.{named_places};
 ghost use Rattle.local_spill.specs.Laying.{saved_local};
-ghost use Rattle.save_laws.specs.LiveAt.{lists_of};
-ghost use Rattle.live_passes.specs.Sets.{has};
+ghost use Rattle.live_locals.specs.LiveAt.{lists_of};
+ghost use Rattle.live_locals.specs.Sets.{has};
 ghost use Rattle.live_rewrite.specs.Layouts.{SetFrames};
 
 use local_spill::{Layout, Place, layout};

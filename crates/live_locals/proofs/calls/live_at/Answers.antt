@@ -1,7 +1,7 @@
 use Rattle.std.proofs.Common.{arith, [], ◌∷◌, ◌++◌, ◌+◌, ◌∙◌, ap, false, length, replicate, sym}
 use Rattle.run_theory.specs.FlatView.{flat_func_of, stmts}
 use Rattle.guard_form.specs.Pieces.{call_total}
-use Rattle.live_passes.proofs.SetLemmas.{put_back}
+use Rattle.live_locals.proofs.SetLemmas.{put_back}
 use Rattle.live_locals.proofs.WholeLemmas.{whole_countable, sets_are}
 use Rattle.live_locals.proofs.calls.live_at.Goals as goal
 

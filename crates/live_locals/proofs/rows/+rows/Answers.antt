@@ -4,12 +4,12 @@ use Rattle.run_theory.specs.Flat.{no_more, nests, decides, code_of}
 use Rattle.run_theory.specs.FlatView.{stmt_in_front, stmts}
 use Rattle.wa_model.specs.declared.flat.Stmt.{the_lemmas}
 use Rattle.flow_rewrite.proofs.StmtLemmas.{block_is, loop_is, if_is, call_is}
-use Rattle.live_passes.specs.Sets.{told_by, TellsBefore}
-use Rattle.live_passes.proofs.SetLemmas.{put_back}
-use Rattle.live_passes.proofs.StepLemmas.{call_arm}
-use Rattle.live_passes.proofs.PassLemmas.{passed_first, passed_before, holds_none, block_passed, if_passed}
-use Rattle.live_words.specs.Heads.{loop_total}
-use Rattle.live_words.proofs.WordPasses.{no_loops}
+use Rattle.live_locals.specs.Sets.{told_by, TellsBefore}
+use Rattle.live_locals.proofs.SetLemmas.{put_back}
+use Rattle.live_locals.proofs.StepLemmas.{call_arm}
+use Rattle.live_locals.proofs.PassLemmas.{passed_first, passed_before, holds_none, block_passed, if_passed}
+use Rattle.live_locals.specs.Heads.{loop_total}
+use Rattle.live_locals.proofs.WordPasses.{no_loops}
 use Rattle.live_locals.specs.Nests.{Nest}
 use Rattle.live_locals.proofs.NestLemmas.{nest_stmt, nest_block, nest_else, nest_then, nest_as, left_first, left_before, left_end, left_as, left_two, loops_of, loops_in_block, loops_in_loop, loops_in_if, loop_passed_by}
 use Rattle.live_locals.proofs.RowLemmas.{rows_first, rows_before, countable_before, call_room, call_rows, block_rows, loop_rows, if_rows, nest_countable, else_countable, then_countable, simple_rows}

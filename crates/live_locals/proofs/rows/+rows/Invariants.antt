@@ -1,8 +1,8 @@
 use Rattle.std.proofs.Common.{◌≡◌, ◌≤◌, drop, length, reverse}
 use Rattle.run_theory.specs.Flat.{code_of}
 use Rattle.run_theory.specs.FlatView.{stmts}
-use Rattle.live_passes.specs.Sets.{Passed}
-use Rattle.live_words.specs.Heads.{loop_total}
+use Rattle.live_locals.specs.Sets.{Passed}
+use Rattle.live_locals.specs.Heads.{loop_total}
 use Rattle.live_locals.specs.Rows.{RowsPut}
 use Rattle.live_locals.proofs.rows.+rows.Given as goal
 

@@ -2,8 +2,8 @@ use Rattle.std.proofs.Common.{◌∙◌, [], ap, length, subst, sym}
 use Rattle.wa_types.specs.Syntax.{done}
 use Rattle.run_theory.specs.Flat.{slots_got}
 use Rattle.guard_form.specs.Grouping.{is_place}
-use Rattle.live_passes.specs.Sets.{TellsAnywhere}
-use Rattle.live_passes.proofs.SetLemmas.{put_back}
+use Rattle.live_locals.specs.Sets.{TellsAnywhere}
+use Rattle.live_locals.proofs.SetLemmas.{put_back}
 use Rattle.live_locals.proofs.RowLemmas.{row_put}
 use Rattle.live_locals.proofs.rows.put_row.Goals as goal
 

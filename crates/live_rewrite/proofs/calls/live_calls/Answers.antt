@@ -3,13 +3,13 @@ use Rattle.wa_types.specs.Pausing.{places_from}
 use Rattle.wa_types.specs.View.{func_of, module_of}
 use Rattle.run_theory.specs.FlatView.{flat_func_of}
 use Rattle.call_graph.specs.Settings.{settings_of}
-use Rattle.save_laws.specs.Numbering.{callees, gets_number}
-use Rattle.save_laws.proofs.NumberingLemmas.{callees_count}
-use Rattle.save_laws.specs.Emitting.{Rises}
+use Rattle.flow_rewrite.specs.Numbering.{callees, gets_number}
+use Rattle.flow_rewrite.proofs.NumberingLemmas.{callees_count}
+use Rattle.flow_rewrite.specs.Emitting.{Rises}
 use Rattle.guard_form.specs.Pieces.{call_total}
 use Rattle.func_rewrite.proofs.CallNumbers.{places_rise}
 use Rattle.func_rewrite.proofs.WrittenFuncs.{few_calls, fits, numbers}
-use Rattle.save_laws.specs.LiveAt.{LiveAtCalls, lists_of}
+use Rattle.live_locals.specs.LiveAt.{LiveAtCalls, lists_of}
 use Rattle.live_rewrite.proofs.SetFields.{places_below}
 use Rattle.live_rewrite.proofs.calls.live_calls.Goals as goal
 

@@ -6,12 +6,12 @@ use Rattle.run_theory.specs.FlatFits.{one_run}
 use Rattle.call_graph.specs.Settings.{settings_of}
 use Rattle.call_frames.specs.FrameParts.{restoring_by_call, saving_by_call}
 use Rattle.call_frames.specs.PlainFrames.{frames_of}
-use Rattle.save_laws.specs.Emitting.{Rises}
+use Rattle.flow_rewrite.specs.Emitting.{Rises}
 use Rattle.func_rewrite.specs.Bodies.{IsSlimBody}
 use Rattle.func_rewrite.proofs.WrittenFuncs.{few_calls, fits, slots_told}
 use Rattle.call_frames.specs.Classes.{KeepCheaply}
 use Rattle.call_frames.specs.Views.{parts_view, sets_of, told_frames}
-use Rattle.save_laws.specs.LiveAt.{lists_of}
+use Rattle.live_locals.specs.LiveAt.{lists_of}
 use Rattle.live_rewrite.proofs.CallFacts.{SetsSized, numbers_rise, set_sizes, sets_few, types_few}
 use Rattle.live_rewrite.proofs.PartsOwed.{live_is}
 use Rattle.live_rewrite.proofs.function.live_func.Goals as goal

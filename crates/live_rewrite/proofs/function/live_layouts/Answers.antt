@@ -3,7 +3,7 @@ use Rattle.wa_types.specs.Pausing.{save_live}
 use Rattle.wa_types.specs.View.{func_of, module_of}
 use Rattle.call_graph.specs.Settings.{settings_of}
 use Rattle.func_rewrite.specs.Frames.{FramesAt}
-use Rattle.save_laws.specs.LiveAt.{lists_of}
+use Rattle.live_locals.specs.LiveAt.{lists_of}
 use Rattle.live_rewrite.specs.Layouts.{SetFrames}
 use Rattle.live_rewrite.proofs.CallFacts.{SetsSized, set_sizes, sets_few, types_few}
 use Rattle.live_rewrite.proofs.LayoutSteps.{frames_under}

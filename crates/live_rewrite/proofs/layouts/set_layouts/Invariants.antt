@@ -1,5 +1,5 @@
 use Rattle.std.proofs.Common.{take}
-use Rattle.save_laws.specs.LiveAt.{lists_of}
+use Rattle.live_locals.specs.LiveAt.{lists_of}
 use Rattle.live_rewrite.specs.Layouts.{SetFrames}
 use Rattle.live_rewrite.proofs.layouts.set_layouts.Given as goal
 

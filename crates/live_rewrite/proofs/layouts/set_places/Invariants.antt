@@ -1,7 +1,7 @@
 use Rattle.std.proofs.Common.{◌≡◌, map, take}
 use Rattle.wa_types.specs.Frames.{named_places}
 use Rattle.local_spill.specs.Laying.{saved_local}
-use Rattle.live_passes.specs.Sets.{has}
+use Rattle.live_locals.specs.Sets.{has}
 use Rattle.live_rewrite.proofs.layouts.set_places.Given as goal
 
 abbrev pub invariant-loop-local : goal.invariant-loop-local
