@@ -1,8 +1,8 @@
 pub use Rattle.func_rewrite.proofs.EmittedBy
 pub use Rattle.func_rewrite.proofs.ToldLemmas
-pub use Rattle.live_form.proofs.FitsBy
-pub use Rattle.live_form.proofs.PolicyCases
-pub use Rattle.live_form.proofs.PolicyReads
+pub use Rattle.rewrite_runs.proofs.FitsBy
+pub use Rattle.live_laws.proofs.PolicyCases
+pub use Rattle.live_laws.proofs.PolicyReads
 pub mod CallFacts
 pub mod LayoutSteps
 pub mod PartsOwed

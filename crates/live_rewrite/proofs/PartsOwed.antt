@@ -19,13 +19,13 @@ use Rattle.local_spill.specs.declared.RuntimeIds.{RuntimeIds}
 use Rattle.guard_form.specs.Guarded.{guard_indices, guarded_body, function_body}
 use Rattle.call_frames.specs.FrameParts.{restoring_by_call, saving_by_call}
 use Rattle.call_frames.specs.PlainFrames.{SavedParts, frames_of}
-use Rattle.live_form.specs.SlimModule.{Pieces, SlimPieces}
+use Rattle.flat_guards.specs.SlimModule.{Pieces, SlimPieces}
 use Rattle.live_locals.specs.LiveAt.{LiveAtCalls}
 use Rattle.call_frames.specs.declared.frames.FrameParts.{FrameParts}
 use Rattle.call_frames.specs.Classes.{KeepCheaply, NumbersBelow}
 use Rattle.call_frames.specs.Views.{parts_view, told_frames}
-use Rattle.live_form.specs.EmittedAs.{IsLiveWritten, live_written}
-use Rattle.live_form.specs.LiveParts.{LiveParts}
+use Rattle.live_laws.specs.EmittedAs.{IsLiveWritten, live_written}
+use Rattle.live_laws.specs.LiveParts.{LiveParts}
 use Rattle.func_rewrite.specs.Bodies.{IsSlimBody}
 use Rattle.func_rewrite.specs.Frames.{IsFlattened}
 use Rattle.func_rewrite.proofs.WrittenFuncs.{func_is, mk_func, runs_same}

@@ -3,7 +3,7 @@ pub use Rattle.func_rewrite.specs.Flattened
 pub use Rattle.func_rewrite.specs.Frames
 pub use Rattle.func_rewrite.specs.Sizes
 pub use Rattle.func_rewrite.specs.Whole
-pub use Rattle.live_form.specs.EmittedAs
-pub use Rattle.live_form.specs.PolicyLaws
+pub use Rattle.live_laws.specs.EmittedAs
+pub use Rattle.live_laws.specs.PolicyLaws
 pub mod Calls
 pub mod Layouts

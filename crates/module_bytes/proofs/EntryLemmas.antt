@@ -27,13 +27,13 @@ use Rattle.module_rewrite.specs.Frames.{IsFlattened}
 use Rattle.wasm_encode.specs.Locals.{local_count}
 use Rattle.wasm_validate.proofs.FuncLemmas.{func_at}
 use Rattle.wasm_encode.specs.Around.{code_entry}
-use Rattle.live_bytes.proofs.EmittedBy.{defined_of}
-use Rattle.live_bytes.proofs.FitsBy.{one_of_all}
-use Rattle.live_bytes.proofs.Grown.{enc_length}
-use Rattle.live_bytes.proofs.Lengths.{entries_within}
-use Rattle.live_bytes.specs.PolicyBytes.{IsShortEntry}
-use Rattle.live_bytes.proofs.BytesByPolicy.{written_short}
-use Rattle.live_bytes.specs.EmittedAs.{AreEmitted, IsEmitted, IsEmittedWhere, IsWritten}
+use Rattle.emitted_bytes.proofs.EmittedBy.{defined_of}
+use Rattle.emitted_bytes.proofs.FitsBy.{one_of_all}
+use Rattle.emitted_bytes.proofs.Grown.{enc_length}
+use Rattle.emitted_bytes.proofs.Lengths.{entries_within}
+use Rattle.live_laws.specs.PolicyBytes.{IsShortEntry}
+use Rattle.live_laws.proofs.BytesByPolicy.{written_short}
+use Rattle.live_laws.specs.EmittedAs.{AreEmitted, IsEmitted, IsEmittedWhere, IsWritten}
 use Rattle.module_bytes.specs.Emitting.{AllEmitted, Emits, PutsWritten}
 use Rattle.module_bytes.specs.Faults.{of_flat}
 

@@ -1,6 +1,6 @@
-pub use Rattle.live_bytes.proofs.BytesByPolicy
-pub use Rattle.live_bytes.proofs.Numbers
-pub use Rattle.live_bytes.proofs.CodeAlone
-pub use Rattle.live_bytes.proofs.PolicyCases
+pub use Rattle.live_laws.proofs.BytesByPolicy
+pub use Rattle.live_laws.proofs.Numbers
+pub use Rattle.live_laws.proofs.CodeAlone
+pub use Rattle.live_laws.proofs.PolicyCases
 pub mod EntryLemmas
 pub mod Parts

@@ -17,15 +17,15 @@ use Rattle.wa_types.specs.View.{func_of, module_of}
 use Rattle.wa_types.specs.declared.syntax.Module.{Module as ModuleValue}
 use Rattle.wa_model.specs.Rewrites.{Rewrites}
 use Rattle.module_rewrite.specs.FlattenWhole.{NonePasses}
-use Rattle.live_bytes.proofs.BytesByPolicy.{short_as}
-use Rattle.live_bytes.specs.EmittedAs.{AreEmitted, EmittedAs, IsEmittedWhere, IsWrittenUnder}
-use Rattle.live_bytes.proofs.PolicyCases.{functions_law}
+use Rattle.live_laws.proofs.BytesByPolicy.{short_as}
+use Rattle.live_laws.specs.EmittedAs.{AreEmitted, EmittedAs, IsEmittedWhere, IsWrittenUnder}
+use Rattle.live_laws.proofs.PolicyCases.{functions_law}
 use Rattle.wasm_encode.specs.Locals.{local_count}
 use Rattle.wasm_encode.specs.Around.{code_entry, IsAround, IsUnwritten}
 use Rattle.wasm_encode.specs.Modules.{FewLocals}
 use Rattle.wasm_encode.specs.declared.EncodeFault.{EncodeFault}
 use Rattle.wasm_encode.specs.declared.EncodeFault.TheVariants.{Memory, TooLong}
-use Rattle.live_bytes.proofs.GrownFits.{grown_locals}
+use Rattle.emitted_bytes.proofs.GrownFits.{grown_locals}
 use Rattle.module_rewrite.proofs.WholeLemmas.{few_written}
 use Rattle.module_bytes.specs.Emitting.{value_entries}
 use Rattle.module_bytes.specs.Faults.{of_encode}

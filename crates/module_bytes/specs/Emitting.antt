@@ -7,7 +7,7 @@ use Rattle.wa_types.specs.Syntax.{Func, Module}
 use Rattle.wa_types.specs.View.{func_of}
 use Rattle.wa_types.specs.declared.syntax.Func.{Func as FuncValue}
 use Rattle.module_rewrite.specs.FlattenWhole.{NonePasses, FirstPasses}
-use Rattle.live_bytes.specs.EmittedAs.{AreEmitted, IsWritten}
+use Rattle.live_laws.specs.EmittedAs.{AreEmitted, IsWritten}
 use Rattle.wasm_encode.specs.Around.{code_entry}
 use Rattle.module_bytes.specs.declared.emitting.Entries.{Entries}
 use Rattle.module_bytes.specs.declared.fault.EmitFault.{EmitFault}

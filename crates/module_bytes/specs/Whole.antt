@@ -6,8 +6,8 @@ use Rattle.wa_types.specs.Pausing.{Settings, TellsMayPause}
 use Rattle.wa_types.specs.Syntax.{Module}
 use Rattle.wa_model.specs.Rewrites.{Rewrites}
 use Rattle.module_rewrite.specs.FlattenWhole.{NonePasses}
-use Rattle.live_bytes.specs.EmittedAs.{EmittedAs}
-use Rattle.live_bytes.specs.PolicyLaws.{EachReadsFew}
+use Rattle.live_laws.specs.EmittedAs.{EmittedAs}
+use Rattle.live_laws.specs.PolicyLaws.{EachReadsFew}
 use Rattle.module_rewrite.specs.Whole.{FirstTooMany}
 use Rattle.module_bytes.specs.declared.fault.EmitFault.{EmitFault}
 use Rattle.module_bytes.specs.declared.fault.EmitFault.TheVariants.{Memory, Locals, TooLong}
