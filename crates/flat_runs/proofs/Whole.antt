@@ -18,7 +18,7 @@ use Rattle.run_theory.specs.Fitting.{types_of, global_types, StoreFits}
 use Rattle.run_theory.proofs.BaseValid.{base_valid}
 use Rattle.run_theory.proofs.FittingNames.{func_found}
 use Rattle.run_theory.proofs.FittingOpenings.{openings_fit}
-use Rattle.stack_laws.proofs.SpotRuns.{listed_typed, start_takes_none}
+use Rattle.run_laws.proofs.SpotRuns.{listed_typed, start_takes_none}
 use Rattle.flat_laws.specs.FlatModule.{flat_module, Flattened}
 use Rattle.flat_laws.proofs.RuntimeModules.{base_is_flattened}
 use Rattle.flat_runs.specs.Beside.{first_of}

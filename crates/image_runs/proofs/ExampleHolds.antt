@@ -18,7 +18,7 @@ use Rattle.run_theory.proofs.GrownSteps.{front}
 use Rattle.wa_model.specs.Configuration.{stack_of}
 use Rattle.wa_model.specs.Expected.{SameEnd}
 use Rattle.run_theory.specs.Fitting.{StoreFits}
-use Rattle.range_laws.specs.Ranges.{StoreIn, byte_in}
+use Rattle.run_laws.specs.Ranges.{StoreIn, byte_in}
 use Rattle.image_runs.specs.Example.{HandWrittenDont, HandWrittenHolds, area_of, area_there, page_of, sample, saving_all, store_of, waits_there}
 use Rattle.image_runs.proofs.SameStores.{got_back}
 

@@ -10,7 +10,7 @@ use Rattle.wa_types.specs.Runtime.{with_runtime}
 use Rattle.wa_model.specs.Configuration.{Configuration, waiting}
 use Rattle.wa_model.specs.Plan.{Plan}
 use Rattle.wa_model.specs.Store.{Store}
-use Rattle.range_laws.specs.Ranges.{byte_in}
+use Rattle.run_laws.specs.Ranges.{byte_in}
 use Rattle.image_runs.specs.Image.{HoldsPause}
 
 -- Calls the import with its parameter and 1 more: at the call the lower of two slots holds the argument, the upper one nothing.

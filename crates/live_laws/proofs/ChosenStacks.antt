@@ -10,7 +10,7 @@ use Rattle.wa_types.specs.declared.values.Value.{Value}
 use Rattle.wa_model.specs.Configuration.{Activation, waiting}
 use Rattle.run_theory.specs.Fitting.{CallersFit, results_of, types_of}
 use Rattle.wa_model.specs.Store.{Store}
-use Rattle.range_laws.specs.Ranges.{ActivationIn}
+use Rattle.run_laws.specs.Ranges.{ActivationIn}
 use Rattle.headline_laws.proofs.SpotSteps.{CallersAtSpots}
 use Rattle.headline_laws.proofs.StandingStates.{CallersAt}
 use Rattle.flat_runs.specs.Beside.{Callers, above, above_same, host}

@@ -1,7 +1,7 @@
 -- For the policy `live`, the emitted module behaves like its original.
 use Rattle.std.proofs.Common.{subst}
 use Rattle.wa_types.specs.Base.{Base}
-use Rattle.range_laws.proofs.BlockingRuns.{base_codes, well_formed_in}
+use Rattle.run_laws.proofs.BlockingRuns.{base_codes, well_formed_in}
 use Rattle.slot_laws.proofs.Closed.{one_list}
 use Rattle.flat_guards.specs.Core.{Core, world_of}
 use Rattle.flat_guards.specs.Links as N

@@ -7,7 +7,7 @@ use Rattle.wa_types.specs.Syntax.{done, Func, Module}
 use Rattle.wa_types.specs.Validity.{Valid}
 use Rattle.wa_model.specs.Behaves.{Behaves}
 use Rattle.run_theory.specs.Quiet.{FreeOfNames}
-use Rattle.range_laws.proofs.BlockingRuns.{well_formed_in}
+use Rattle.run_laws.proofs.BlockingRuns.{well_formed_in}
 use Rattle.call_frames.specs.PlainFrames.{SavedParts, frames_of}
 use Rattle.headline_laws.specs.Joined.{one_frame}
 use Rattle.flat_guards.specs.SlimModule.{Pieces}

@@ -3,7 +3,7 @@ use Rattle.std.specs.Prelude.{◌≡◌, ℕ, List, Bool}
 use Rattle.wa_types.specs.Pausing.{Settings, TellsMayPause, save_live}
 use Rattle.wa_types.specs.Syntax.{Module}
 use Rattle.wa_types.specs.Validity.{Valid}
-use Rattle.range_laws.specs.Ranges.{CodesIn}
+use Rattle.run_laws.specs.Ranges.{CodesIn}
 use Rattle.flat_guards.specs.Emitted.{Emitted, Framing}
 use Rattle.flat_guards.specs.Given.{BehavesGiven}
 use Rattle.live_laws.specs.LiveFraming.{LiveFraming}

@@ -17,12 +17,8 @@ use Rattle.wa_model.specs.Store.{Store}
 use Rattle.wa_model.specs.Step.{Next, steps, asks, returns, traps, stuck, step}
 use Rattle.wa_model.specs.Plan.{Entry, EntryFits, Plan, Outcome, given, refused}
 use Rattle.wa_model.specs.Instantiation.{Opening, fails_as, opens, opening}
-use Rattle.wa_model.specs.Blocking.{Note, note, no_store, value_of_results, answers, fault_of, pause_of, poked, done_notes, Task, the_start, an_entry, Left, with_outcomes, Asker, inside}
-use Rattle.wa_model.specs.Blocking.{outermost, store_at, in_start, stack_at, call_note, next_entry, all_left}
-use Rattle.wa_model.specs.Protocol.{Exports, exports_of, Phase, is_running, unwinds, rewinds, Then, give_zero, test_unwound, pause_there, call_again, test_rewound, give_answer, Held, free}
-use Rattle.wa_model.specs.Protocol.{starting, busy, calling, aside, entering, over, with_words, used_of, broken, held_on, held_back, held_given, held_pauses, held_tested, held_asked}
-use Rattle.wa_model.specs.Protocol.{trap_end, busy_step, is_state, zeros_of, answer_note, aside_back, aside_step, busy_enters, held_next, aside_called, held_start, protocol, held_started}
-use Rattle.wa_model.specs.Protocol.{held_begun, held_continued, Protocol}
+use Rattle.wa_model.specs.Blocking.{Note, note, no_store, value_of_results, answers, fault_of, pause_of, poked, done_notes, Task, the_start, an_entry, Left, with_outcomes, Asker, inside, outermost, store_at, in_start, stack_at, call_note, next_entry, all_left}
+use Rattle.wa_model.specs.Protocol.{Exports, exports_of, Phase, is_running, unwinds, rewinds, Then, give_zero, test_unwound, pause_there, call_again, test_rewound, give_answer, Held, free, starting, busy, calling, aside, entering, over, with_words, used_of, broken, held_on, held_back, held_given, held_pauses, held_tested, held_asked, trap_end, busy_step, is_state, zeros_of, answer_note, aside_back, aside_step, busy_enters, held_next, aside_called, held_start, protocol, held_started, held_begun, held_continued, Protocol}
 use Rattle.run_theory.specs.Fitting.{types_of, results_of, global_types, StoreFits, CallersFit, WaitingFits, NextFits}
 use Rattle.run_theory.proofs.Invariants.{TurnKeeps, RanKeeps, after_keeps, leads_keeps}
 use Rattle.run_theory.proofs.FittingNames.{not_defined, results_are, zeros_typed}
@@ -30,8 +26,8 @@ use Rattle.run_theory.proofs.FittingSteps.{steps_fit}
 use Rattle.run_theory.proofs.FittingRuns.{calls_fit, answers_fit}
 use Rattle.run_theory.proofs.FittingOpenings.{openings_fit}
 use Rattle.run_theory.proofs.NamedModules.{valid_instance}
-use Rattle.stack_laws.proofs.SpotRuns.{answer_typed, or_else_first, test_passed, listed_typed, start_takes_none}
-use Rattle.stack_laws.proofs.StandingPauses.{fault_outside}
+use Rattle.run_laws.proofs.SpotRuns.{answer_typed, or_else_first, test_passed, listed_typed, start_takes_none}
+use Rattle.run_laws.proofs.StandingPauses.{fault_outside}
 use Rattle.run_laws.specs.FittingStates.{Callable, EntryTyped, LeftTyped, SomeLeft, TaskTyped, AnswerTyped, PhaseTyped, ThenFits, HeldFits, ExportsTyped}
 use Rattle.run_laws.specs.Stopping.{ProtocolStatesStop, ProtocolStatesStay, ProtocolRunsFit, ProtocolStopsOver}
 use Rattle.run_laws.proofs.Stopping.{start_there}

@@ -18,9 +18,7 @@ use Rattle.wa_model.specs.Store.{Store}
 use Rattle.wa_model.specs.Step.{Next, steps, asks, returns, traps, stuck, step}
 use Rattle.wa_model.specs.Plan.{Entry, EntryFits, Plan, Outcome, given, refused}
 use Rattle.wa_model.specs.Instantiation.{Opening, fails_as, opens, opening}
-use Rattle.wa_model.specs.Blocking.{Note, note, no_store, value_of_results, answers, fault_of, pause_of, poked, done_notes, Task, the_start, an_entry, Left, with_outcomes, Asker, inside}
-use Rattle.wa_model.specs.Blocking.{outermost, store_at, in_start, stack_at, call_note, State, between, begins, runs, halts, on_to, next_entry, task_back, go_on, tested, asked, by_step}
-use Rattle.wa_model.specs.Blocking.{enters, enter_next, start_called, blocking, all_left, started, begun, continued, Blocking}
+use Rattle.wa_model.specs.Blocking.{Note, note, no_store, value_of_results, answers, fault_of, pause_of, poked, done_notes, Task, the_start, an_entry, Left, with_outcomes, Asker, inside, outermost, store_at, in_start, stack_at, call_note, State, between, begins, runs, halts, on_to, next_entry, task_back, go_on, tested, asked, by_step, enters, enter_next, start_called, blocking, all_left, started, begun, continued, Blocking}
 use Rattle.run_theory.specs.Fitting.{types_of, results_of, global_types, StoreFits, CallersFit, WaitingFits, NextFits}
 use Rattle.run_theory.specs.Growth.{Each}
 use Rattle.run_theory.proofs.Invariants.{TurnKeeps, RanKeeps, after_keeps, leads_keeps}
@@ -30,7 +28,7 @@ use Rattle.run_theory.proofs.FittingRuns.{calls_fit, answers_fit}
 use Rattle.run_theory.proofs.FittingOpenings.{openings_fit}
 use Rattle.run_theory.proofs.NamedModules.{valid_instance}
 use Rattle.run_theory.proofs.BaseValid.{base_valid}
-use Rattle.stack_laws.proofs.SpotRuns.{answer_typed, or_else_first, test_passed, listed_typed, start_takes_none, base_globals, base_type, base_defined}
+use Rattle.run_laws.proofs.SpotRuns.{answer_typed, or_else_first, test_passed, listed_typed, start_takes_none, base_globals, base_type, base_defined}
 use Rattle.run_laws.specs.FittingStates.{EntryTyped, LeftTyped, SomeLeft, StateFits}
 use Rattle.run_laws.specs.Stopping.{BlockingStatesStop, BlockingStatesStay, BlockingRunsFit, BlockingStopsOver}
 
