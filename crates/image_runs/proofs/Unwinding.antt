@@ -16,16 +16,16 @@ use Rattle.wa_model.specs.Step.{asks, step}
 use Rattle.wa_model.specs.Store.{Store}
 use Rattle.guard_runs.proofs.StoppedStacks.{stops_law}
 use Rattle.guard_runs.specs.Stopped.{Stopped}
-use Rattle.headline_laws.specs.FlatLaw.{AllLocalsFit, FlatAsks, FlatLaw, FlatNext}
-use Rattle.headline_laws.specs.Given.{LetsPause}
-use Rattle.headline_laws.specs.Halts.{PausesKnown}
-use Rattle.headline_laws.specs.StoreLaws.{StoreLaws}
-use Rattle.headline_laws.specs.World.{World, WorldFits, base, setting}
-use Rattle.headline_laws.specs.WrittenRuns.{WrittenLaw}
-use Rattle.headline_laws.proofs.Asks.{Called, answer_fits, left_fits, pause_allowed, tested_now, to_call, went_on}
-use Rattle.headline_laws.proofs.FlatStretches.{pr, xp}
-use Rattle.headline_laws.proofs.Reductions.{Allowed, LeftFits, Link, TopOf, allowed_on, nb}
-use Rattle.headline_laws.proofs.Simulation.{known_along}
+use Rattle.headline.specs.FlatLaw.{AllLocalsFit, FlatAsks, FlatLaw, FlatNext}
+use Rattle.headline.specs.Given.{LetsPause}
+use Rattle.headline.specs.Halts.{PausesKnown}
+use Rattle.headline.specs.StoreLaws.{StoreLaws}
+use Rattle.headline.specs.World.{World, WorldFits, base, setting}
+use Rattle.headline.specs.WrittenRuns.{WrittenLaw}
+use Rattle.headline.proofs.Asks.{Called, answer_fits, left_fits, pause_allowed, tested_now, to_call, went_on}
+use Rattle.headline.proofs.FlatStretches.{pr, xp}
+use Rattle.headline.proofs.Reductions.{Allowed, LeftFits, Link, TopOf, allowed_on, nb}
+use Rattle.headline.proofs.Simulation.{known_along}
 
 module _ (w : World) (ft : WorldFits w) (sl : StoreLaws w) (L : (top spare : ℕ) → Configuration → Configuration → Type 0) (W : ℕ → ℕ → Configuration → Configuration → Type 0) (G : Store
     → Type 0) (law : FlatLaw w (λ c d. c ≡ d) L W G) (Known : Held → Type 0) where

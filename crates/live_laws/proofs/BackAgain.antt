@@ -20,14 +20,14 @@ use Rattle.wa_types.proofs.SlotLemmas.{own_pair, reverse_left, reverse_top, same
 use Rattle.wa_model.specs.Configuration.{Activation, place_of}
 use Rattle.run_theory.specs.Fitting.{types_of}
 use Rattle.wa_model.specs.Store.{value_at}
-use Rattle.headline_laws.proofs.SpotSteps.{WaitsAtSpot}
-use Rattle.headline_laws.proofs.SpotPlaces.{at_call}
+use Rattle.run_laws.proofs.SpotSteps.{WaitsAtSpot}
+use Rattle.run_laws.proofs.SpotPlaces.{at_call}
 use Rattle.flat_laws.specs.Flatten.{Names, names, past}
 use Rattle.flat_laws.specs.Flatten as F
 use Rattle.flat_runs.specs.Beside.{Holds, Locals}
 use Rattle.flat_runs.proofs.Slots.{extra_got}
-use Rattle.headline_laws.specs.FrameMemory.{IsKept}
-use Rattle.headline_laws.specs.Layout.{FrameField, kept}
+use Rattle.frame_laws.specs.FrameMemory.{IsKept}
+use Rattle.frame_laws.specs.Layout.{FrameField, kept}
 use Rattle.live_laws.specs.SameLive.{SameLocals, place}
 use Rattle.live_laws.specs.LiveFrames.{ComesBack, LiveComesBack, fields_at}
 

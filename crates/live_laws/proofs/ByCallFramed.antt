@@ -15,11 +15,11 @@ use Rattle.frame_laws.specs.Function.{FrameCodes}
 use Rattle.guard_form.specs.Functions.{GuardedFunc, indices_of}
 use Rattle.guard_form.specs.Guarded.{guarded_body}
 use Rattle.guard_form.specs.Pieces.{first_piece, units}
-use Rattle.headline_laws.specs.Joined.{CallFrame, written_of}
+use Rattle.guard_runs.specs.Joined.{CallFrame, written_of}
 use Rattle.live_laws.specs.LiveFrames.{fields_at}
-use Rattle.flat_guards.specs.SlimModule.{Pieces}
-use Rattle.flat_guards.specs.Emitted.{Framing}
-use Rattle.flat_guards.proofs.WantedFields.{number_is}
+use Rattle.slim_laws.specs.SlimModule.{Pieces}
+use Rattle.headline.specs.EmittedModule.{Framing}
+use Rattle.headline.proofs.WantedFields.{number_is}
 use Rattle.live_laws.specs.ByCallFraming.{FramesByCallAreLive, PartsKeepLive, call_frame, framing_by_call}
 use Rattle.live_laws.specs.LiveFraming.{LiveFrame}
 

@@ -11,10 +11,10 @@ use Rattle.wa_model.specs.Configuration.{Activation, waiting}
 use Rattle.run_theory.specs.Fitting.{CallersFit, results_of, types_of}
 use Rattle.wa_model.specs.Store.{Store}
 use Rattle.run_laws.specs.Ranges.{ActivationIn}
-use Rattle.headline_laws.proofs.SpotSteps.{CallersAtSpots}
-use Rattle.headline_laws.proofs.StandingStates.{CallersAt}
+use Rattle.run_laws.proofs.SpotSteps.{CallersAtSpots}
+use Rattle.run_laws.proofs.StandingStates.{CallersAt}
 use Rattle.flat_runs.specs.Beside.{Callers, above, above_same, host}
-use Rattle.flat_guards.proofs.WaitsAgain.{AllMore}
+use Rattle.headline.proofs.WaitsAgain.{AllMore}
 use Rattle.live_laws.specs.SameLive.{SameLive, SameUnder, alike, also, none}
 
 the_func : (x y : Func) → Some x ≡ Some y → x ≡ y

@@ -23,33 +23,33 @@ use Rattle.run_laws.specs.Ranges.{ActivationIn, CodesIn}
 use Rattle.flat_laws.specs.FlatModule.{flat_module}
 use Rattle.flat_runs.specs.Beside.{Callers}
 use Rattle.frame_laws.specs.FrameMemory.{IsKept}
-use Rattle.flat_guards.specs.Given.{Given}
-use Rattle.flat_guards.specs.Beside.{Unders, moved}
-use Rattle.flat_guards.proofs.MovedStacks.{AllAgain, callers_moved, fits_moved, moved_all, unders_moved}
-use Rattle.flat_guards.proofs.SlimStacks.{w as sides_here}
+use Rattle.headline.specs.Given.{Given}
+use Rattle.slim_laws.specs.Beside.{Unders, moved}
+use Rattle.headline.proofs.MovedStacks.{AllAgain, callers_moved, fits_moved, moved_all, unders_moved}
+use Rattle.headline.proofs.SlimStacks.{w as sides_here}
 use Rattle.frame_laws.specs.Layout.{kept}
-use Rattle.headline_laws.specs.Returned.{AllSameFlat, SameFlat}
-use Rattle.headline_laws.specs.Stopped.{Stopped}
-use Rattle.headline_laws.specs.FlatLaw.{AllLocalsFit, FlatAgain, LocalsFit}
-use Rattle.headline_laws.specs.World.{setting}
-use Rattle.flat_guards.specs.Core.{Core, world_of}
-use Rattle.flat_guards.specs.Links.{GoodStore, LinkedWaits, StandsLaw}
-use Rattle.flat_guards.specs.Links as N
-use Rattle.flat_guards.specs.CoreOf.{RunsBeside, WaitsBeside, call_place, core_of}
-use Rattle.flat_guards.specs.Emitted.{Emitted, Framing}
-use Rattle.flat_guards.proofs.CallPoints.{base_saved}
-use Rattle.flat_guards.proofs.NumberedStacks.{AllAtNumbers, AtNumber}
-use Rattle.flat_guards.proofs.PairedFlat.{base_defined}
-use Rattle.flat_guards.proofs.PairedStacks.{AllPairs, PairAt, call_frame_is, pairs}
-use Rattle.flat_guards.proofs.WaitsAgain.{AllMore, flat_again, front_same, numbers, numbers_at, pairs_at, stands, written_fit}
-use Rattle.flat_guards.proofs.WrittenLocals.{written_locals}
+use Rattle.guard_runs.specs.Returned.{AllSameFlat, SameFlat}
+use Rattle.guard_runs.specs.Stopped.{Stopped}
+use Rattle.headline.specs.FlatLaw.{AllLocalsFit, FlatAgain, LocalsFit}
+use Rattle.headline.specs.World.{setting}
+use Rattle.headline.specs.Core.{Core, world_of}
+use Rattle.headline.specs.Links.{GoodStore, LinkedWaits, StandsLaw}
+use Rattle.headline.specs.Links as N
+use Rattle.headline.specs.CoreOf.{RunsBeside, WaitsBeside, call_place, core_of}
+use Rattle.headline.specs.EmittedModule.{Emitted, Framing}
+use Rattle.headline.proofs.CallPoints.{base_saved}
+use Rattle.headline.proofs.NumberedStacks.{AllAtNumbers, AtNumber}
+use Rattle.headline.proofs.PairedFlat.{base_defined}
+use Rattle.headline.proofs.PairedStacks.{AllPairs, PairAt, call_frame_is, pairs}
+use Rattle.headline.proofs.WaitsAgain.{AllMore, flat_again, front_same, numbers, numbers_at, pairs_at, stands, written_fit}
+use Rattle.headline.proofs.WrittenLocals.{written_locals}
 use Rattle.live_laws.specs.SameLive.{SameLive, SameUnder}
 use Rattle.live_laws.specs.LiveFrames.{AllFramed, AllTold, fields_at}
 use Rattle.live_laws.proofs.StacksAgain.{stacks_come_back}
 use Rattle.live_laws.specs.LiveFraming.{LiveFraming}
 use Rattle.live_laws.proofs.ChosenStacks.{callers_ranged, callers_typed, chosen_count, chosen_fits, chosen_in, chosen_spots, chosen_stands, chosen_live}
 use Rattle.live_laws.proofs.LiveFramed.{live_framed}
-use Rattle.headline_laws.specs.Joined.{CallFrame}
+use Rattle.guard_runs.specs.Joined.{CallFrame}
 use Rattle.run_theory.specs.Growth.{ConfigNamed, spaces_of}
 
 the_func : (x y : Func) → Some x ≡ Some y → x ≡ y
@@ -249,7 +249,7 @@ module _ (m : Module) (s : Settings) (which : List Bool) (frames : (index : ℕ)
       let flat = flat_again m s which frames plan p valid tells em plan_fits codes i d f a us l nums same more in
       let be = l.beside in
       let v = be.between in
-      let told = Rattle.flat_guards.proofs.WaitsAgain.all_told m s which frames plan p valid tells em plan_fits codes d.store.table i (d.here ∷ d.under) at in
+      let told = Rattle.headline.proofs.WaitsAgain.all_told m s which frames plan p valid tells em plan_fits codes d.store.table i (d.here ∷ d.under) at in
       let pv = pairs (Base m) which i (d.here ∷ d.under) (v.here ∷ v.under) (be.asked).waits told in
       let stood = callers_moved (Base m) which i (d.here ∷ d.under) (v.here ∷ v.under) (f.here ∷ f.under) (be.asked).waits told (again_before (d.here ∷ d.under) (f.here ∷ f.under) ps) in
       let back = stacks_come_back (Base m) which k.lay i (d.here ∷ d.under) (moved_all (v.here ∷ v.under) (f.here ∷ f.under)) (moved_all (v.here ∷ v.under) (a ∷ us)) stood l.spots.waits

@@ -3,11 +3,11 @@ use Rattle.std.proofs.Common.{subst}
 use Rattle.wa_types.specs.Base.{Base}
 use Rattle.run_laws.proofs.BlockingRuns.{base_codes, well_formed_in}
 use Rattle.slot_laws.proofs.Closed.{one_list}
-use Rattle.flat_guards.specs.Core.{Core, world_of}
-use Rattle.flat_guards.specs.Links as N
-use Rattle.flat_guards.specs.CoreOf.{RunsBeside, WaitsBeside, core_of}
-use Rattle.flat_guards.specs.Emitted.{Emitted}
-use Rattle.flat_guards.proofs.Behaving.{says_with}
+use Rattle.headline.specs.Core.{Core, world_of}
+use Rattle.headline.specs.Links as N
+use Rattle.headline.specs.CoreOf.{RunsBeside, WaitsBeside, core_of}
+use Rattle.headline.specs.EmittedModule.{Emitted}
+use Rattle.headline.proofs.Behaving.{says_with}
 use Rattle.live_laws.specs.SameLive.{SameLive}
 use Rattle.live_laws.proofs.LiveRelation.{live_stands}
 use Rattle.live_laws.specs.Laws.{LiveEmittedBehaves}

@@ -11,14 +11,14 @@ use Rattle.wa_types.specs.Validity.{Valid}
 use Rattle.run_theory.specs.Flat.{FlatFunc}
 use Rattle.flat_laws.specs.Flatten.{flattened, names, slots}
 use Rattle.guard_form.specs.Pieces.{first_piece, units}
-use Rattle.flat_guards.specs.SlimModule.{AllSlimPieces, flat_terms}
-use Rattle.flat_guards.proofs.UnitsPassed.{passing_law}
+use Rattle.slim_laws.specs.SlimModule.{AllSlimPieces, flat_terms}
+use Rattle.slim_laws.proofs.UnitsPassed.{passing_law}
 use Rattle.flat_laws.proofs.RuntimeModules.{base_flattened}
 use Rattle.frame_laws.specs.Layout.{kept}
-use Rattle.flat_guards.specs.Emitted.{Framing, fields_of, pieces_in, places_in}
-use Rattle.flat_guards.specs.Framed.{Framed, FramedCalls}
-use Rattle.flat_guards.proofs.CallPoints.{base_saved}
-use Rattle.flat_guards.proofs.PairedFlat.{base_defined}
+use Rattle.headline.specs.EmittedModule.{Framing, fields_of, pieces_in, places_in}
+use Rattle.headline.specs.Framed.{Framed, FramedCalls}
+use Rattle.headline.proofs.CallPoints.{base_saved}
+use Rattle.headline.proofs.PairedFlat.{base_defined}
 use Rattle.live_laws.specs.LiveFraming.{LiveFraming}
 use Rattle.live_laws.proofs.PassingWeight.{passing_few}
 

@@ -30,7 +30,7 @@ use Rattle.call_frames.proofs.PlainHeld.{depth_law, held_law}
 use Rattle.call_frames.proofs.PlainTold.{calls_small as named_small, fields_law, tell_law}
 use Rattle.call_frames.proofs.PlainTypes.{restore_law, save_law}
 use Rattle.live_laws.specs.LiveFrames as Live
-use Rattle.flat_guards.specs.SlimModule.{Pieces, SlimPieces}
+use Rattle.slim_laws.specs.SlimModule.{Pieces, SlimPieces}
 use Rattle.rewrite_runs.specs.Bounds.{reads}
 use Rattle.rewrite_runs.specs.EmittedBy.{FrameCode}
 use Rattle.rewrite_runs.specs.CodesHold.{codes_size, CodeTyped, CodesHold, three}

@@ -15,7 +15,7 @@ use Rattle.emitted_bytes.proofs.Grown.{enc_length}
 use Rattle.emitted_bytes.proofs.Lengths.{entries_within}
 use Rattle.emitted_bytes.proofs.LengthBy.{AllCodesShort, emitted_few, emitted_short, entry}
 use Rattle.live_laws.proofs.Prepared.{prepared_by}
-use Rattle.flat_guards.specs.SlimModule.{Pieces}
+use Rattle.slim_laws.specs.SlimModule.{Pieces}
 use Rattle.live_laws.specs.LiveModuleLaws.{LiveRewriting}
 use Rattle.live_laws.specs.LiveParts.{live_asyncified, live_codes}
 use Rattle.live_laws.proofs.LiveModules.{few_codes, hold, well_formed_law}

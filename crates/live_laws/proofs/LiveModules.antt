@@ -9,17 +9,17 @@ use Rattle.wa_model.specs.Behaves.{Behaves}
 use Rattle.run_theory.specs.Quiet.{FreeOfNames}
 use Rattle.run_laws.proofs.BlockingRuns.{well_formed_in}
 use Rattle.call_frames.specs.PlainFrames.{SavedParts, frames_of}
-use Rattle.headline_laws.specs.Joined.{one_frame}
-use Rattle.flat_guards.specs.SlimModule.{Pieces}
-use Rattle.flat_guards.specs.Emitted.{Emitted, Framing}
+use Rattle.guard_runs.specs.Joined.{one_frame}
+use Rattle.slim_laws.specs.SlimModule.{Pieces}
+use Rattle.headline.specs.EmittedModule.{Emitted, Framing}
 use Rattle.rewrite_runs.specs.CodesHold.{AllCodesHold, AllCodesSmall, codes_size}
 use Rattle.rewrite_runs.specs.EmittedBy.{FrameCode}
 use Rattle.rewrite_runs.proofs.EmittedRewritten.{emitted_valid, rewritten_but_runs}
 use Rattle.rewrite_runs.proofs.EmittedSizes.{emitted_sizes}
 use Rattle.rewrite_runs.proofs.FitsBy.{AllCodesFit, emitted_fits}
 use Rattle.rewrite_runs.proofs.EmittedSo.{HaveCodes, emitted_so}
-use Rattle.flat_guards.specs.Given.{BehavesGiven}
-use Rattle.flat_guards.proofs.GivenPlans.{behaves_given}
+use Rattle.headline.specs.Given.{BehavesGiven}
+use Rattle.headline.proofs.GivenPlans.{behaves_given}
 use Rattle.live_laws.specs.ByCallFraming.{framing_by_call}
 use Rattle.live_laws.specs.LiveFraming.{LiveFraming}
 use Rattle.live_laws.proofs.ByCallFramed.{by_call_framed}

@@ -21,14 +21,14 @@ use Rattle.wa_model.specs.Configuration.{Activation, Configuration, Label, place
 use Rattle.wa_model.specs.Store.{Store, value_at}
 use Rattle.wa_model.specs.Untouched.{next_access}
 use Rattle.wa_model.specs.Blocking.{resumed}
-use Rattle.headline_laws.specs.Layout.{FrameField, gap, kept}
-use Rattle.headline_laws.specs.Stack.{Level}
-use Rattle.headline_laws.specs.Suspended.{AllStandFor, Lays, StandsFor, Tells}
-use Rattle.headline_laws.proofs.SpotSteps.{CallersAtSpots, WaitingAtSpots, WaitsAtSpot}
-use Rattle.headline_laws.proofs.SpotPlaces.{at_call}
-use Rattle.headline_laws.specs.FlatLaw.{AllWeigh}
-use Rattle.headline_laws.specs.LiveLaw.{LiveLaw}
-use Rattle.headline_laws.specs.World.{World, base}
+use Rattle.frame_laws.specs.Layout.{FrameField, gap, kept}
+use Rattle.frame_laws.specs.Stack.{Level}
+use Rattle.frame_laws.specs.Suspended.{AllStandFor, Lays, StandsFor, Tells}
+use Rattle.run_laws.proofs.SpotSteps.{CallersAtSpots, WaitingAtSpots, WaitsAtSpot}
+use Rattle.run_laws.proofs.SpotPlaces.{at_call}
+use Rattle.headline.specs.FlatLaw.{AllWeigh}
+use Rattle.headline.specs.LiveLaw.{LiveLaw}
+use Rattle.headline.specs.World.{World, base}
 use Rattle.live_laws.specs.SameLive.{AgreeAt, LiveLocalsStand, SameLive, SameLocals, SameUnder, WaitsThere, alike, also, leads_to, none, place}
 use Rattle.live_laws.proofs.LiveSteps.{live_suffices}
 

@@ -1,20 +1,18 @@
 -- One reduction of configurations that differ in locals that aren't read before they are written.
-use Rattle.std.proofs.Common.{◌≡◌, ◌≢◌, ℕ, zero, suc, ◌+◌, ◌≤◌, inl, inr, List, [], ◌∷◌, ◌++◌, length, map, take, drop, reverse, Option, Some, None, Bool, true, false, eq-eqb, refl, sym, ap}
-use Rattle.std.proofs.Common.{◌∙◌, subst, arith, eqb-true, get_or-set_other, length-set}
+use Rattle.std.proofs.Common.{◌≡◌, ◌≢◌, ℕ, zero, suc, ◌+◌, ◌≤◌, inl, inr, List, [], ◌∷◌, ◌++◌, length, map, take, drop, reverse, Option, Some, None, Bool, true, false, eq-eqb, refl, sym, ap, ◌∙◌, subst, arith, eqb-true, get_or-set_other, length-set}
 use Rattle.std.specs.Prelude.{nat_eq, nat_lt, slice_get, slice_set, unwrap_or, if◌then◌else◌}
 use Rattle.wa_types.specs.Liveness.{Position, ReadsFirst, SomeTarget, ends_here, goes_on, goes_again, goes_behind, position, target, Leads, writes}
 use Rattle.wa_types.specs.Liveness as L
 use Rattle.wa_types.specs.Modules.{defined_at, func_imports, func_type_at, type_at}
 use Rattle.wa_types.specs.Pruned.{pruned}
-use Rattle.wa_types.specs.Syntax.{Code, Func, Module, Plain, a_block, a_loop, basic, br, br_if, br_table, branch, call, call_indirect, done, local_get, local_set, local_tee, nest, plain}
-use Rattle.wa_types.specs.Syntax.{return, unreachable}
+use Rattle.wa_types.specs.Syntax.{Code, Func, Module, Plain, a_block, a_loop, basic, br, br_if, br_table, branch, call, call_indirect, done, local_get, local_set, local_tee, nest, plain, return, unreachable}
 use Rattle.wa_types.specs.declared.values.Value.{Value}
 use Rattle.wa_types.specs.declared.values.Value.TheVariants as V
 use Rattle.wa_types.specs.declared.values.Trap.TheVariants.{StackExhausted, TypeMismatch}
 use Rattle.wa_model.specs.Configuration.{Activation, Label, block_label, loop_label, running, waiting}
 use Rattle.wa_model.specs.Step.{arity_of, asks, did, entered, finish, invoke, jump, leave, memory_max, param_count, result_count, same_func_type, step_at, step_plain, steps, stuck, through, traps}
 use Rattle.wa_model.specs.Store.{Did, Store, act, fails, lacks, takes, value_at, works}
-use Rattle.headline_laws.specs.LiveLaw.{LiveNext, live_asks, live_returns, live_steps, live_stuck, live_traps}
+use Rattle.headline.specs.LiveLaw.{LiveNext, live_asks, live_returns, live_steps, live_stuck, live_traps}
 use Rattle.live_laws.specs.SameLive.{AgreeAt, LiveLocalsSuffice, SameLive, SameLocals, SameUnder, alike, also, leads_to, none, place}
 
 module _ (m : Module) where

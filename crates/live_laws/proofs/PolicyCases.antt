@@ -11,8 +11,8 @@ use Rattle.wa_types.specs.Validity.{Valid}
 use Rattle.wa_model.specs.Rewrites.{Rewrites, RewritesButRuns, SameFunc}
 use Rattle.rewrite_runs.specs.Pieces.{no_unit}
 use Rattle.call_frames.specs.PlainFrames.{SavedParts}
-use Rattle.flat_guards.specs.Given.{BehavesGiven}
-use Rattle.flat_guards.specs.SlimModule.{Pieces, SlimPieces}
+use Rattle.headline.specs.Given.{BehavesGiven}
+use Rattle.slim_laws.specs.SlimModule.{Pieces, SlimPieces}
 use Rattle.rewrite_runs.specs.Emitted.{IsAllWritten, layout_codes}
 use Rattle.rewrite_runs.specs.EmittedBy.{FrameCode, funcs_by, written_by}
 use Rattle.rewrite_runs.proofs.EmittedRewritten as Rewritten

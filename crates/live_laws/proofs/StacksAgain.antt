@@ -8,12 +8,12 @@ use Rattle.wa_model.specs.Configuration.{Activation, Label, waiting}
 use Rattle.run_theory.specs.Fitting.{results_of, types_of}
 use Rattle.run_theory.specs.Flat.{code_of, set_to}
 use Rattle.wa_model.specs.Step.{result_count}
-use Rattle.headline_laws.proofs.SpotSteps.{CallersAtSpots}
+use Rattle.run_laws.proofs.SpotSteps.{CallersAtSpots}
 use Rattle.flat_laws.specs.Flatten.{names, top_of}
 use Rattle.flat_runs.specs.Beside.{Callers, above, above_same, host}
-use Rattle.headline_laws.specs.FrameMemory.{IsKept}
-use Rattle.headline_laws.specs.Joined.{CallFrame}
-use Rattle.headline_laws.specs.Returned.{AllSameFlat}
+use Rattle.frame_laws.specs.FrameMemory.{IsKept}
+use Rattle.guard_runs.specs.Joined.{CallFrame}
+use Rattle.guard_runs.specs.Returned.{AllSameFlat}
 use Rattle.live_laws.specs.SameLive.{also, none}
 use Rattle.live_laws.specs.LiveFrames.{AllFramed, AllTold, LiveStacksComeBack, StackComesBack}
 use Rattle.live_laws.proofs.BackAgain.{comes_back}

@@ -10,9 +10,9 @@ use Rattle.call_frames.specs.FrameParts.{CallFrames, layout_at, restore_bound_at
 use Rattle.call_frames.specs.FrameParts as Parts
 use Rattle.flat_laws.specs.Flatten.{flattened}
 use Rattle.live_laws.specs.LiveFrames.{fields_at}
-use Rattle.headline_laws.specs.Joined.{CallFrame}
-use Rattle.flat_guards.specs.SlimModule.{Pieces}
-use Rattle.flat_guards.specs.Emitted.{Framing}
+use Rattle.guard_runs.specs.Joined.{CallFrame}
+use Rattle.slim_laws.specs.SlimModule.{Pieces}
+use Rattle.headline.specs.EmittedModule.{Framing}
 use Rattle.live_laws.specs.LiveFraming.{LiveFrame}
 
 -- the frame of call k, with what its codes cost there

@@ -5,7 +5,7 @@ use Rattle.wa_types.specs.Pausing.{Numbered, Policy, Settings, is_told, save_all
 use Rattle.wa_types.specs.Runtime.{with_runtime}
 use Rattle.wa_types.specs.Syntax.{Func, Module}
 use Rattle.call_frames.specs.PlainFrames.{SavedParts}
-use Rattle.flat_guards.specs.SlimModule.{Pieces, SlimPieces}
+use Rattle.slim_laws.specs.SlimModule.{Pieces, SlimPieces}
 use Rattle.rewrite_runs.specs.CodesHold.{AllSlim}
 use Rattle.rewrite_runs.specs.Emitted.{IsAllWritten, asyncified}
 use Rattle.rewrite_runs.specs.EmittedBy.{written_by}

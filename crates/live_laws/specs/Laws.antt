@@ -4,8 +4,8 @@ use Rattle.wa_types.specs.Pausing.{Settings, TellsMayPause, save_live}
 use Rattle.wa_types.specs.Syntax.{Module}
 use Rattle.wa_types.specs.Validity.{Valid}
 use Rattle.run_laws.specs.Ranges.{CodesIn}
-use Rattle.flat_guards.specs.Emitted.{Emitted, Framing}
-use Rattle.flat_guards.specs.Given.{BehavesGiven}
+use Rattle.headline.specs.EmittedModule.{Emitted, Framing}
+use Rattle.headline.specs.Given.{BehavesGiven}
 use Rattle.live_laws.specs.LiveFraming.{LiveFraming}
 
 -- A valid emitted module behaves like its original, pauses included, where its frames keep what the policy saves at each call.

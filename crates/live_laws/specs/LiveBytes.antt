@@ -10,7 +10,7 @@ use Rattle.wa_types.specs.Syntax.{Module}
 use Rattle.wasm_encode.specs.Modules.{FewLocals}
 use Rattle.wasm_reader.specs.Answers.{IsAccepted}
 use Rattle.call_frames.specs.PlainFrames.{SavedParts}
-use Rattle.flat_guards.specs.SlimModule.{Pieces}
+use Rattle.slim_laws.specs.SlimModule.{Pieces}
 use Rattle.live_laws.specs.LiveModuleLaws.{LiveRewriting}
 use Rattle.live_laws.specs.LiveParts.{live_asyncified}
 

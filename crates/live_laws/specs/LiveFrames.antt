@@ -8,12 +8,12 @@ use Rattle.wa_types.specs.declared.values.Value.{Value}
 use Rattle.wa_model.specs.Configuration.{Activation, place_of}
 use Rattle.run_theory.specs.Fitting.{types_of}
 use Rattle.wa_model.specs.Store.{value_at}
-use Rattle.headline_laws.proofs.SpotSteps.{CallersAtSpots, WaitsAtSpot}
+use Rattle.run_laws.proofs.SpotSteps.{CallersAtSpots, WaitsAtSpot}
 use Rattle.flat_runs.specs.Beside.{Callers, Locals}
-use Rattle.headline_laws.specs.FrameMemory.{IsKept}
-use Rattle.headline_laws.specs.Layout.{FrameField, kept}
-use Rattle.headline_laws.specs.Joined.{CallFrame}
-use Rattle.headline_laws.specs.Returned.{AllSameFlat}
+use Rattle.frame_laws.specs.FrameMemory.{IsKept}
+use Rattle.frame_laws.specs.Layout.{FrameField, kept}
+use Rattle.guard_runs.specs.Joined.{CallFrame}
+use Rattle.guard_runs.specs.Returned.{AllSameFlat}
 use Rattle.live_laws.specs.SameLive.{SameLocals, SameUnder}
 
 -- the frame of the call at this place keeps each local that the policy saves there

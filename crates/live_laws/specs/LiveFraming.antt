@@ -7,9 +7,9 @@ use Rattle.wa_types.specs.Runtime.{global_space}
 use Rattle.wa_types.specs.Syntax.{Func, Module}
 use Rattle.flat_laws.specs.Flatten.{flattened}
 use Rattle.frame_laws.specs.Function.{FrameCodes}
-use Rattle.headline_laws.specs.Joined.{written_of}
+use Rattle.guard_runs.specs.Joined.{written_of}
 use Rattle.live_laws.specs.LiveFrames.{fields_at}
-use Rattle.flat_guards.specs.Emitted.{Framing, guarded_of}
+use Rattle.headline.specs.EmittedModule.{Framing, guarded_of}
 
 module _ (m : Module) (s : Settings) (which : List Bool) (frames : (index : ℕ) → Framing) where
   -- At call k, which has this place, the codes of the function save and restore the frame; it keeps what the policy saves there, behind the

@@ -7,7 +7,7 @@ use Rattle.wa_types.specs.Validity.{Valid}
 use Rattle.run_theory.specs.Quiet.{FreeOfNames}
 use Rattle.wa_model.specs.Rewrites.{Rewrites, RewritesButRuns, SameFunc}
 use Rattle.call_frames.specs.PlainFrames.{SavedParts}
-use Rattle.flat_guards.specs.SlimModule.{Pieces}
+use Rattle.slim_laws.specs.SlimModule.{Pieces}
 use Rattle.rewrite_runs.specs.Sizes.{FewWritten}
 use Rattle.rewrite_runs.specs.CodesHold.{AllSlim}
 use Rattle.live_laws.specs.LiveParts.{AllLiveParts, live_asyncified}

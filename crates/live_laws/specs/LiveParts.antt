@@ -13,7 +13,7 @@ use Rattle.call_frames.specs.FrameParts.{restoring_by_call, saving_by_call}
 use Rattle.call_frames.specs.PlainFrames.{SavedParts, call_fields, frames_of}
 use Rattle.call_frames.specs.PlainLaws.{NameCalls, parts_size, sizes_size, tests_cost}
 use Rattle.live_laws.specs.LiveFrames.{fields_at}
-use Rattle.flat_guards.specs.SlimModule.{Pieces}
+use Rattle.slim_laws.specs.SlimModule.{Pieces}
 use Rattle.rewrite_runs.specs.EmittedBy.{FrameCode, asyncified_by}
 
 -- ---- the module

@@ -11,7 +11,7 @@ use Rattle.wa_model.specs.Rewrites.{Rewrites, RewritesButRuns, SameFunc}
 use Rattle.flat_laws.specs.Flatten.{flattened}
 use Rattle.rewrite_runs.specs.Bounds.{reads, reads_bound}
 use Rattle.rewrite_runs.specs.Sizes.{FewWritten}
-use Rattle.flat_guards.specs.Given.{BehavesGiven}
+use Rattle.headline.specs.Given.{BehavesGiven}
 use Rattle.live_laws.specs.EmittedAs.{EmittedAs, IsWritten}
 
 -- A valid module under the strict size rule, and the functions of it that may pause, each with at most 50,000 locals as it is written.

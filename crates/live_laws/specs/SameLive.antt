@@ -9,9 +9,9 @@ use Rattle.wa_types.specs.declared.values.Value.{Value}
 use Rattle.wa_model.specs.Configuration.{Activation, Configuration, Label, block_label, loop_label, waiting}
 use Rattle.wa_model.specs.Step.{step}
 use Rattle.wa_model.specs.Store.{Store, value_at}
-use Rattle.headline_laws.proofs.SpotSteps.{WaitingAtSpots}
-use Rattle.headline_laws.specs.LiveLaw.{LiveLaw, LiveNext}
-use Rattle.headline_laws.specs.World.{World, base}
+use Rattle.run_laws.proofs.SpotSteps.{WaitingAtSpots}
+use Rattle.headline.specs.LiveLaw.{LiveLaw, LiveNext}
+use Rattle.headline.specs.World.{World, base}
 
 -- where a label leads, in pruned code
 abbrev pub leads_to : Label → L.Label

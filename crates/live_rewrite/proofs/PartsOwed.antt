@@ -19,7 +19,7 @@ use Rattle.local_spill.specs.declared.RuntimeIds.{RuntimeIds}
 use Rattle.guard_form.specs.Guarded.{guard_indices, guarded_body, function_body}
 use Rattle.call_frames.specs.FrameParts.{restoring_by_call, saving_by_call}
 use Rattle.call_frames.specs.PlainFrames.{SavedParts, frames_of}
-use Rattle.flat_guards.specs.SlimModule.{Pieces, SlimPieces}
+use Rattle.slim_laws.specs.SlimModule.{Pieces, SlimPieces}
 use Rattle.live_locals.specs.LiveAt.{LiveAtCalls}
 use Rattle.call_frames.specs.declared.frames.FrameParts.{FrameParts}
 use Rattle.call_frames.specs.Classes.{KeepCheaply, NumbersBelow}
