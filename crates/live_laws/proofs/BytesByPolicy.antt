@@ -15,13 +15,13 @@ use Rattle.wa_types.specs.Validity.{Valid}
 use Rattle.file_laws.proofs.FileWriting.{written_spells}
 use Rattle.wasm_encode.specs.Modules.{FewLocals}
 use Rattle.wasm_reader.specs.Answers.{IsAccepted}
-use Rattle.emitted_bytes.specs.Emitted.{IsAllWritten, asyncified}
-use Rattle.emitted_bytes.proofs.EmittedBy.{defined_where}
-use Rattle.emitted_bytes.proofs.EmittedFits.{emitted_fits}
-use Rattle.emitted_bytes.proofs.EmittedLength as All
-use Rattle.emitted_bytes.proofs.FitsBy.{one_of_all}
-use Rattle.emitted_bytes.proofs.LengthBy.{entry}
-use Rattle.emitted_bytes.proofs.LengthBy as By
+use Rattle.rewrite_form.specs.Emitted.{IsAllWritten, asyncified}
+use Rattle.rewrite_form.proofs.EmittedBy.{defined_where}
+use Rattle.rewrite_form.proofs.EmittedFits.{emitted_fits}
+use Rattle.rewrite_form.proofs.EmittedLength as All
+use Rattle.rewrite_form.proofs.FitsBy.{one_of_all}
+use Rattle.rewrite_form.proofs.LengthBy.{entry}
+use Rattle.rewrite_form.proofs.LengthBy as By
 use Rattle.live_laws.proofs.Prepared.{emitted_prepared}
 use Rattle.live_laws.specs.EmittedAs.{EmittedUnder, IsLiveWritten, IsWrittenUnder}
 use Rattle.live_laws.specs.LiveParts.{live_codes}

@@ -13,8 +13,8 @@ use Rattle.wa_types.specs.Syntax.{Code, done, plain, nest, branch, Func, Module}
 use Rattle.wa_types.specs.declared.values.ValType.{ValType}
 use Rattle.wa_types.proofs.SlotLemmas.{or_left, or_right}
 use Rattle.wa_model.specs.Rewrites.{instructions_and_labels}
-use Rattle.rewrite_runs.proofs.SizesBy.{code_weighs}
-use Rattle.rewrite_runs.proofs.EmittedSo.{numbered_few}
+use Rattle.rewrite_form.proofs.SizesBy.{code_weighs}
+use Rattle.rewrite_form.proofs.EmittedSo.{numbered_few}
 use Rattle.live_laws.specs.LiveParts.{saved_total}
 
 -- ---- calls

@@ -6,8 +6,8 @@ use Rattle.wa_types.specs.Modules.{func_imports, imported, imported_func}
 use Rattle.wa_types.specs.Pausing.{Policy, Settings, is_told, save_all, save_live}
 use Rattle.wa_types.specs.Runtime.{global_space, runtime_exports, runtime_funcs, with_runtime}
 use Rattle.wa_types.specs.Syntax.{done, Func, Module}
-use Rattle.rewrite_runs.specs.Emitted.{layout_codes}
-use Rattle.rewrite_runs.specs.EmittedBy.{FrameCode, asyncified_by, func_by, funcs_by, written_by}
+use Rattle.rewrite_form.specs.Emitted.{layout_codes}
+use Rattle.rewrite_form.specs.EmittedBy.{FrameCode, asyncified_by, func_by, funcs_by, written_by}
 use Rattle.live_laws.specs.EmittedAs.{EmittedUnder}
 use Rattle.live_laws.specs.LiveParts.{live_codes}
 use Rattle.live_laws.specs.PolicyLaws.{EmittedDifferInCode, without_code}

@@ -31,15 +31,15 @@ use Rattle.call_frames.proofs.PlainTold.{calls_small as named_small, fields_law,
 use Rattle.call_frames.proofs.PlainTypes.{restore_law, save_law}
 use Rattle.live_laws.specs.LiveFrames as Live
 use Rattle.slim_laws.specs.SlimModule.{Pieces, SlimPieces}
-use Rattle.rewrite_runs.specs.Bounds.{reads}
-use Rattle.rewrite_runs.specs.EmittedBy.{FrameCode}
-use Rattle.rewrite_runs.specs.CodesHold.{codes_size, CodeTyped, CodesHold, three}
-use Rattle.rewrite_runs.proofs.EmittedBy.{defined_where}
-use Rattle.rewrite_runs.proofs.SizesBy.{code_weighs, counts_less}
-use Rattle.rewrite_runs.proofs.WrittenTypes.{fields_typed, places_written}
-use Rattle.rewrite_runs.proofs.BasicCode.{fits_basic}
-use Rattle.rewrite_runs.proofs.FitsBy.{CodesFit, one_of_all}
-use Rattle.rewrite_runs.proofs.Spaces.{globals_counted}
+use Rattle.guard_form.specs.Bounds.{reads}
+use Rattle.rewrite_form.specs.EmittedBy.{FrameCode}
+use Rattle.rewrite_form.specs.CodesHold.{codes_size, CodeTyped, CodesHold, three}
+use Rattle.rewrite_form.proofs.EmittedBy.{defined_where}
+use Rattle.rewrite_form.proofs.SizesBy.{code_weighs, counts_less}
+use Rattle.rewrite_form.proofs.WrittenTypes.{fields_typed, places_written}
+use Rattle.rewrite_form.proofs.BasicCode.{fits_basic}
+use Rattle.rewrite_form.proofs.FitsBy.{CodesFit, one_of_all}
+use Rattle.rewrite_form.proofs.Spaces.{globals_counted}
 use Rattle.live_laws.specs.ByCallFraming.{PartsKeepLive}
 use Rattle.live_laws.specs.LiveParts.{LiveParts, live_codes, saved_total}
 use Rattle.live_laws.proofs.CallCounts.{numbers_few, saved_few, total_few}

@@ -10,10 +10,10 @@ use Rattle.wa_types.specs.Pruned.{is_last, pruned}
 use Rattle.wa_types.specs.Syntax.{basic, local_get, local_set, local_tee, br, br_if, br_table, return, unreachable, call, call_indirect, Plain, Code, done, plain, nest, branch, Func, Module}
 use Rattle.file_laws.proofs.FileWriting.{written_spells}
 use Rattle.call_frames.specs.PlainFrames.{SavedParts}
-use Rattle.rewrite_runs.proofs.EmittedSo.{numbered_few}
-use Rattle.emitted_bytes.proofs.Grown.{enc_length}
-use Rattle.emitted_bytes.proofs.Lengths.{entries_within}
-use Rattle.emitted_bytes.proofs.LengthBy.{AllCodesShort, emitted_few, emitted_short, entry}
+use Rattle.rewrite_form.proofs.EmittedSo.{numbered_few}
+use Rattle.rewrite_form.proofs.Grown.{enc_length}
+use Rattle.rewrite_form.proofs.Lengths.{entries_within}
+use Rattle.rewrite_form.proofs.LengthBy.{AllCodesShort, emitted_few, emitted_short, entry}
 use Rattle.live_laws.proofs.Prepared.{prepared_by}
 use Rattle.slim_laws.specs.SlimModule.{Pieces}
 use Rattle.live_laws.specs.LiveModuleLaws.{LiveRewriting}

@@ -12,12 +12,12 @@ use Rattle.call_frames.specs.PlainFrames.{SavedParts, frames_of}
 use Rattle.guard_runs.specs.Joined.{one_frame}
 use Rattle.slim_laws.specs.SlimModule.{Pieces}
 use Rattle.headline.specs.EmittedModule.{Emitted, Framing}
-use Rattle.rewrite_runs.specs.CodesHold.{AllCodesHold, AllCodesSmall, codes_size}
-use Rattle.rewrite_runs.specs.EmittedBy.{FrameCode}
-use Rattle.rewrite_runs.proofs.EmittedRewritten.{emitted_valid, rewritten_but_runs}
-use Rattle.rewrite_runs.proofs.EmittedSizes.{emitted_sizes}
-use Rattle.rewrite_runs.proofs.FitsBy.{AllCodesFit, emitted_fits}
-use Rattle.rewrite_runs.proofs.EmittedSo.{HaveCodes, emitted_so}
+use Rattle.rewrite_form.specs.CodesHold.{AllCodesHold, AllCodesSmall, codes_size}
+use Rattle.rewrite_form.specs.EmittedBy.{FrameCode}
+use Rattle.rewrite_form.proofs.EmittedRewritten.{emitted_valid, rewritten_but_runs}
+use Rattle.rewrite_form.proofs.EmittedSizes.{emitted_sizes}
+use Rattle.rewrite_form.proofs.FitsBy.{AllCodesFit, emitted_fits}
+use Rattle.rewrite_form.proofs.EmittedSo.{HaveCodes, emitted_so}
 use Rattle.headline.specs.Given.{BehavesGiven}
 use Rattle.headline.proofs.GivenPlans.{behaves_given}
 use Rattle.live_laws.specs.ByCallFraming.{framing_by_call}

@@ -9,15 +9,15 @@ use Rattle.wa_types.specs.Sizes.{SizeRule}
 use Rattle.wa_types.specs.Syntax.{done, Func, Module}
 use Rattle.wa_types.specs.Validity.{Valid}
 use Rattle.wa_model.specs.Rewrites.{Rewrites, RewritesButRuns, SameFunc}
-use Rattle.rewrite_runs.specs.Pieces.{no_unit}
+use Rattle.guard_form.specs.Pieces.{no_unit}
 use Rattle.call_frames.specs.PlainFrames.{SavedParts}
 use Rattle.headline.specs.Given.{BehavesGiven}
 use Rattle.slim_laws.specs.SlimModule.{Pieces, SlimPieces}
-use Rattle.rewrite_runs.specs.Emitted.{IsAllWritten, layout_codes}
-use Rattle.rewrite_runs.specs.EmittedBy.{FrameCode, funcs_by, written_by}
-use Rattle.rewrite_runs.proofs.EmittedRewritten as Rewritten
-use Rattle.rewrite_runs.proofs.EmittedSizes as Sized
-use Rattle.rewrite_runs.proofs.Asyncified.{asyncified_given, asyncified_law}
+use Rattle.rewrite_form.specs.Emitted.{IsAllWritten, layout_codes}
+use Rattle.rewrite_form.specs.EmittedBy.{FrameCode, funcs_by, written_by}
+use Rattle.rewrite_form.proofs.EmittedRewritten as Rewritten
+use Rattle.rewrite_form.proofs.EmittedSizes as Sized
+use Rattle.rewrite_form.proofs.Asyncified.{asyncified_given, asyncified_law}
 use Rattle.live_laws.specs.EmittedAs.{AreEmitted, EmittedUnder, FunctionsAreEmitted, IsAllAsyncified, IsEmittedWhere, IsLiveAsyncified, IsLiveWritten, IsWritten, IsWrittenUnder}
 use Rattle.live_laws.specs.LiveModuleLaws.{LiveRewriting}
 use Rattle.live_laws.specs.LiveParts.{LiveParts, live_codes}

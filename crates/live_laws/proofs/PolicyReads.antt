@@ -5,11 +5,11 @@ use Rattle.wa_types.specs.Modules.{func_imports}
 use Rattle.wa_types.specs.Pausing.{MayPause, Policy, Settings, is_told, save_all, save_live}
 use Rattle.wa_types.specs.Runtime.{global_space}
 use Rattle.wa_types.specs.Syntax.{Func, Module}
-use Rattle.rewrite_runs.specs.Bounds.{reads}
-use Rattle.rewrite_runs.specs.Emitted.{frame_layout, layout_codes}
-use Rattle.rewrite_runs.specs.EmittedBy.{FrameCode, func_by}
-use Rattle.rewrite_runs.proofs.EmittedBy.{defined_of, emitted, emitted_at, not_told, told}
-use Rattle.rewrite_runs.proofs.StateReads.{own_unread, restore_unread, save_unread, written_few}
+use Rattle.guard_form.specs.Bounds.{reads}
+use Rattle.rewrite_form.specs.Emitted.{frame_layout, layout_codes}
+use Rattle.rewrite_form.specs.EmittedBy.{FrameCode, func_by}
+use Rattle.rewrite_form.proofs.EmittedBy.{defined_of, emitted, emitted_at, not_told, told}
+use Rattle.rewrite_form.proofs.StateReads.{own_unread, restore_unread, save_unread, written_few}
 use Rattle.live_laws.specs.EmittedAs.{EmittedUnder, IsEmittedWhere, IsWrittenUnder}
 use Rattle.live_laws.specs.LiveParts.{live_codes}
 use Rattle.live_laws.specs.PolicyLaws.{EmittedAsReadsFew, ReadsFew, WrittenAsReadsFew}

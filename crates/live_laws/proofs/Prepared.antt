@@ -24,17 +24,17 @@ use Rattle.wasm_reader.specs.Answers.{IsAccepted}
 use Rattle.wasm_reader.specs.Locals.{counts_of, func_locals}
 use Rattle.wasm_reader.proofs.SpelledSizes.{none_above, spelled_locals}
 use Rattle.norm_laws.proofs.Locals.{merged_keeps}
-use Rattle.emitted_bytes.specs.CodesHold.{AllCodesHold}
-use Rattle.emitted_bytes.specs.Emitted.{layout_codes}
-use Rattle.emitted_bytes.specs.EmittedBy.{FrameCode, written_by, func_by, funcs_by, asyncified_by}
-use Rattle.emitted_bytes.specs.Sizes.{FewWritten}
-use Rattle.emitted_bytes.proofs.EmittedBy.{inner, told, not_told, same_length, same_around, defined_of}
-use Rattle.emitted_bytes.proofs.EmittedRewritten.{sort_there}
-use Rattle.emitted_bytes.proofs.SizesBy.{written_depth}
-use Rattle.emitted_bytes.proofs.WrittenBy.{written_length}
-use Rattle.emitted_bytes.proofs.WrittenSizes.{layouts_hold}
-use Rattle.emitted_bytes.proofs.WiderTypes.{same_locals}
-use Rattle.emitted_bytes.proofs.FitsBy.{one_of_all}
+use Rattle.rewrite_form.specs.CodesHold.{AllCodesHold}
+use Rattle.rewrite_form.specs.Emitted.{layout_codes}
+use Rattle.rewrite_form.specs.EmittedBy.{FrameCode, written_by, func_by, funcs_by, asyncified_by}
+use Rattle.rewrite_form.specs.Sizes.{FewWritten}
+use Rattle.rewrite_form.proofs.EmittedBy.{inner, told, not_told, same_length, same_around, defined_of}
+use Rattle.rewrite_form.proofs.EmittedRewritten.{sort_there}
+use Rattle.rewrite_form.proofs.SizesBy.{written_depth}
+use Rattle.rewrite_form.proofs.WrittenBy.{written_length}
+use Rattle.rewrite_form.proofs.WrittenSizes.{layouts_hold}
+use Rattle.rewrite_form.proofs.WiderTypes.{same_locals}
+use Rattle.rewrite_form.proofs.FitsBy.{one_of_all}
 use Rattle.live_laws.specs.Prepared.{EmittedIsPrepared}
 use Rattle.live_laws.proofs.Floats.{no_floats}
 use Rattle.live_laws.proofs.Levels.{Levels, levels_of, opens_of}

@@ -6,9 +6,9 @@ use Rattle.wa_types.specs.Runtime.{with_runtime}
 use Rattle.wa_types.specs.Syntax.{Func, Module}
 use Rattle.call_frames.specs.PlainFrames.{SavedParts}
 use Rattle.slim_laws.specs.SlimModule.{Pieces, SlimPieces}
-use Rattle.rewrite_runs.specs.CodesHold.{AllSlim}
-use Rattle.rewrite_runs.specs.Emitted.{IsAllWritten, asyncified}
-use Rattle.rewrite_runs.specs.EmittedBy.{written_by}
+use Rattle.rewrite_form.specs.CodesHold.{AllSlim}
+use Rattle.rewrite_form.specs.Emitted.{IsAllWritten, asyncified}
+use Rattle.rewrite_form.specs.EmittedBy.{written_by}
 use Rattle.live_laws.specs.LiveParts.{AllLiveParts, LiveParts, live_asyncified, live_codes}
 
 -- ---- one function

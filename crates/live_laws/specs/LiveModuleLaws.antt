@@ -8,8 +8,8 @@ use Rattle.run_theory.specs.Quiet.{FreeOfNames}
 use Rattle.wa_model.specs.Rewrites.{Rewrites, RewritesButRuns, SameFunc}
 use Rattle.call_frames.specs.PlainFrames.{SavedParts}
 use Rattle.slim_laws.specs.SlimModule.{Pieces}
-use Rattle.rewrite_runs.specs.Sizes.{FewWritten}
-use Rattle.rewrite_runs.specs.CodesHold.{AllSlim}
+use Rattle.rewrite_form.specs.Sizes.{FewWritten}
+use Rattle.rewrite_form.specs.CodesHold.{AllSlim}
 use Rattle.live_laws.specs.LiveParts.{AllLiveParts, live_asyncified}
 
 -- A valid module under the strict size rule, the functions of it that may pause, each with at most 50,000 locals as it is written, and

@@ -14,7 +14,7 @@ use Rattle.call_frames.specs.PlainFrames.{SavedParts, call_fields, frames_of}
 use Rattle.call_frames.specs.PlainLaws.{NameCalls, parts_size, sizes_size, tests_cost}
 use Rattle.live_laws.specs.LiveFrames.{fields_at}
 use Rattle.slim_laws.specs.SlimModule.{Pieces}
-use Rattle.rewrite_runs.specs.EmittedBy.{FrameCode, asyncified_by}
+use Rattle.rewrite_form.specs.EmittedBy.{FrameCode, asyncified_by}
 
 -- ---- the module
 

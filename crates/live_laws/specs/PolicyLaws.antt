@@ -9,8 +9,8 @@ use Rattle.wa_types.specs.Validity.{Valid}
 use Rattle.run_theory.specs.Quiet.{FreeOfNames}
 use Rattle.wa_model.specs.Rewrites.{Rewrites, RewritesButRuns, SameFunc}
 use Rattle.flat_laws.specs.Flatten.{flattened}
-use Rattle.rewrite_runs.specs.Bounds.{reads, reads_bound}
-use Rattle.rewrite_runs.specs.Sizes.{FewWritten}
+use Rattle.guard_form.specs.Bounds.{reads, reads_bound}
+use Rattle.rewrite_form.specs.Sizes.{FewWritten}
 use Rattle.headline.specs.Given.{BehavesGiven}
 use Rattle.live_laws.specs.EmittedAs.{EmittedAs, IsWritten}
 

@@ -8,10 +8,10 @@ use Rattle.wa_types.specs.Reading.{SpellsModule}
 use Rattle.wa_types.specs.Syntax.{Module}
 use Rattle.wa_types.specs.Validity.{Valid}
 use Rattle.wasm_reader.specs.Answers.{IsAccepted}
-use Rattle.emitted_bytes.specs.CodesHold.{AllSlim}
-use Rattle.emitted_bytes.specs.Emitted.{asyncified}
-use Rattle.emitted_bytes.specs.SlimModule.{Pieces}
-use Rattle.emitted_bytes.specs.Sizes.{FewWritten}
+use Rattle.rewrite_form.specs.CodesHold.{AllSlim}
+use Rattle.rewrite_form.specs.Emitted.{asyncified}
+use Rattle.slim_laws.specs.SlimModule.{Pieces}
+use Rattle.rewrite_form.specs.Sizes.{FewWritten}
 
 -- Of a valid source module the emitted one, where its bytes spell it and aren't too many, has no float and passes no bound of
 -- a prepared module.

@@ -1,6 +1,6 @@
 pub use Rattle.func_rewrite.proofs.EmittedBy
 pub use Rattle.func_rewrite.proofs.ToldLemmas
-pub use Rattle.rewrite_runs.proofs.FitsBy
+pub use Rattle.rewrite_form.proofs.FitsBy
 pub use Rattle.live_laws.proofs.PolicyCases
 pub use Rattle.live_laws.proofs.PolicyReads
 pub mod CallFacts

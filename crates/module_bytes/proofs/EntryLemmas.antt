@@ -27,10 +27,10 @@ use Rattle.module_rewrite.specs.Frames.{IsFlattened}
 use Rattle.wasm_encode.specs.Locals.{local_count}
 use Rattle.wasm_validate.proofs.FuncLemmas.{func_at}
 use Rattle.wasm_encode.specs.Around.{code_entry}
-use Rattle.emitted_bytes.proofs.EmittedBy.{defined_of}
-use Rattle.emitted_bytes.proofs.FitsBy.{one_of_all}
-use Rattle.emitted_bytes.proofs.Grown.{enc_length}
-use Rattle.emitted_bytes.proofs.Lengths.{entries_within}
+use Rattle.rewrite_form.proofs.EmittedBy.{defined_of}
+use Rattle.rewrite_form.proofs.FitsBy.{one_of_all}
+use Rattle.rewrite_form.proofs.Grown.{enc_length}
+use Rattle.rewrite_form.proofs.Lengths.{entries_within}
 use Rattle.live_laws.specs.PolicyBytes.{IsShortEntry}
 use Rattle.live_laws.proofs.BytesByPolicy.{written_short}
 use Rattle.live_laws.specs.EmittedAs.{AreEmitted, IsEmitted, IsEmittedWhere, IsWritten}

@@ -25,7 +25,7 @@ use Rattle.wasm_encode.specs.Around.{code_entry, IsAround, IsUnwritten}
 use Rattle.wasm_encode.specs.Modules.{FewLocals}
 use Rattle.wasm_encode.specs.declared.EncodeFault.{EncodeFault}
 use Rattle.wasm_encode.specs.declared.EncodeFault.TheVariants.{Memory, TooLong}
-use Rattle.emitted_bytes.proofs.GrownFits.{grown_locals}
+use Rattle.rewrite_form.proofs.GrownFits.{grown_locals}
 use Rattle.module_rewrite.proofs.WholeLemmas.{few_written}
 use Rattle.module_bytes.specs.Emitting.{value_entries}
 use Rattle.module_bytes.specs.Faults.{of_encode}

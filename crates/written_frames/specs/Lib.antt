@@ -2,6 +2,6 @@ pub use Rattle.flow_rewrite.specs.Emitting
 pub use Rattle.flow_rewrite.specs.Numbering
 pub use Rattle.rewrite_form.specs.Emitted
 pub use Rattle.rewrite_form.specs.Sizes
-pub use Rattle.rewrite_form.specs.SlimModule
+pub use Rattle.slim_laws.specs.SlimModule
 pub mod Frames
 pub mod Marking

@@ -1,9 +1,9 @@
 use Rattle.std.proofs.Common.{arith}
 use Rattle.file_laws.proofs.FileWriting.{written_spells}
 use Rattle.rewrite_form.specs.Emitted.{asyncified}
-use Rattle.emitted_bytes.proofs.EmittedFits.{emitted_fits}
-use Rattle.emitted_bytes.proofs.EmittedLength.{emitted_few}
-use Rattle.emitted_bytes.proofs.laws.emitted_modules_are_spelled.Goals as goal
+use Rattle.rewrite_form.proofs.EmittedFits.{emitted_fits}
+use Rattle.rewrite_form.proofs.EmittedLength.{emitted_few}
+use Rattle.rewrite_form.proofs.emitted_bytes.emitted_modules_are_spelled.Goals as goal
 
 pub returns-clause-numbers : goal.returns-clause-numbers
 returns-clause-numbers c = λ m s which pieces v slim w strict few. emitted_fits m s which pieces v slim w strict few

@@ -20,7 +20,7 @@ use Rattle.wa_types.specs.Syntax.{Basic, nop, drop, select, const, num, global_g
 use Rattle.wa_types.proofs.SizeBounds.{weight_fits}
 use Rattle.run_theory.specs.FlatFits.{one_run}
 use Rattle.wa_model.specs.Rewrites.{instructions_and_labels}
-use Rattle.rewrite_form.specs.FlatModule.{extra_types}
+use Rattle.flat_laws.specs.FlatModule.{extra_types}
 use Rattle.wasm_encode.specs.Locals.{local_count}
 use Rattle.wasm_encode.specs.Modules.{FewLocals}
 use Rattle.wasm_encode.proofs.AroundLemmas.{same_sort_bytes}
@@ -28,12 +28,12 @@ use Rattle.rewrite_form.specs.EmittedBy.{FrameCode, written_by, func_by, funcs_b
 use Rattle.rewrite_form.specs.Sizes.{FewWritten}
 use Rattle.rewrite_form.proofs.EmittedBy.{inner, told, not_told, same_sorts, defined_of}
 use Rattle.rewrite_form.proofs.SizesBy.{written_size}
-use Rattle.rewrite_form.specs.SlimModule.{SlimPieces}
+use Rattle.slim_laws.specs.SlimModule.{SlimPieces}
 use Rattle.rewrite_form.specs.CodesHold.{AllCodesSlim, codes_size, three}
-use Rattle.emitted_bytes.proofs.FitsBy.{one_of_all}
-use Rattle.emitted_bytes.proofs.GrownFits.{grown_locals}
-use Rattle.emitted_bytes.proofs.Grown.{customs_total, enc_length, with_runtime_length}
-use Rattle.emitted_bytes.proofs.Lengths.{shortest_length, shortest_signed_length, vector_length, sized_length, entries_within, section_length}
+use Rattle.rewrite_form.proofs.FitsBy.{one_of_all}
+use Rattle.rewrite_form.proofs.GrownFits.{grown_locals}
+use Rattle.rewrite_form.proofs.Grown.{customs_total, enc_length, with_runtime_length}
+use Rattle.rewrite_form.proofs.Lengths.{shortest_length, shortest_signed_length, vector_length, sized_length, entries_within, section_length}
 
 -- ---- code
 

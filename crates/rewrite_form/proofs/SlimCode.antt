@@ -3,11 +3,11 @@ use Rattle.std.proofs.Common.{List, [], ◌∷◌, Some, None, ℕ}
 use Rattle.wa_types.specs.Syntax.{Code, done}
 use Rattle.run_theory.specs.Flat.{followed_by, got}
 use Rattle.wa_model.specs.Store.{gives}
-use Rattle.rewrite_form.specs.Pieces.{Units}
-use Rattle.rewrite_form.specs.Slim as S
-use Rattle.rewrite_form.specs.Slim.{Free, StackShape, Slims, Terms, more, ends, does, keeps, uses, saves, narrows, forgets}
-use Rattle.rewrite_form.specs.SlimUnits.{SlimUnits, untouched, alone, before_call, before_block, before_loop, before_if, before_kept_if}
-use Rattle.emitted_bytes.proofs.BasicCode.{followed_fits, got_fits, BasicsFit, UnitsBasic}
+use Rattle.guard_form.specs.Pieces.{Units}
+use Rattle.slim_laws.specs.Slim as S
+use Rattle.slim_laws.specs.Slim.{Free, StackShape, Slims, Terms, more, ends, does, keeps, uses, saves, narrows, forgets}
+use Rattle.slim_laws.specs.SlimUnits.{SlimUnits, untouched, alone, before_call, before_block, before_loop, before_if, before_kept_if}
+use Rattle.rewrite_form.proofs.BasicCode.{followed_fits, got_fits, BasicsFit, UnitsBasic}
 
 module _ (t : Terms) where
   pub code_slim : (n : ℕ) (ts : List Free) (out f : Free) (sh : StackShape) (code code' : Code) → Slims t n ts out f sh code code' → BasicsFit code → BasicsFit code'

@@ -12,7 +12,7 @@ use Rattle.wa_types.specs.Sizes.{PlainFits, CodeFits}
 use Rattle.wa_types.specs.Syntax.{basic, local_get, local_set, local_tee, br, br_if, br_table, return, unreachable, call, call_indirect, Plain, Code, done, plain, nest, branch, FuncType}
 use Rattle.wa_types.specs.declared.rules.Rule.TheVariants.{UnknownLabel, StackTypes}
 use Rattle.wa_types.specs.Typing.{Around, leaves, lacks, all_there, all_alike, jump, may_jump, jumps, calls, calls_at, gets, sets, tees, Takes, sig, listed, label, Types}
-use Rattle.emitted_bytes.proofs.BasicCode.{PlainBasic, BasicsFit}
+use Rattle.rewrite_form.proofs.BasicCode.{PlainBasic, BasicsFit}
 
 -- few functions, types and locals stand around code
 pub record AroundFew (c : Around) : Type 0 where

@@ -8,7 +8,7 @@ use Rattle.wa_types.specs.Encoding.{Enc, sections, with_customs, customs_behind,
 use Rattle.wa_types.specs.Base.{added_memories}
 use Rattle.wa_types.specs.Modules.{all_memories}
 use Rattle.wa_types.specs.Runtime.{with_runtime, runtime_types, runtime_globals, runtime_funcs, runtime_exports, runtime_func, func_space, global_space, start_code, stop_code, state_code, test_code}
-use Rattle.emitted_bytes.proofs.Lengths.{section_grows, shortest_length, shortest_signed_length, sized_length}
+use Rattle.rewrite_form.proofs.Lengths.{section_grows, shortest_length, shortest_signed_length, sized_length}
 
 types_bytes : length (flat_map func_type_bytes runtime_types) ≤ 90
 types_bytes = simp length-append (omega (arith, shortest_length 0, shortest_length 1))

@@ -1,5 +1,5 @@
-use Rattle.emitted_bytes.proofs.EmittedLength.{emitted_few, emitted_short}
-use Rattle.emitted_bytes.proofs.laws.emitted_modules_are_short.Goals as goal
+use Rattle.rewrite_form.proofs.EmittedLength.{emitted_few, emitted_short}
+use Rattle.rewrite_form.proofs.emitted_bytes.emitted_modules_are_short.Goals as goal
 
 pub returns-clause-locals : goal.returns-clause-locals
 returns-clause-locals c = λ m s which pieces v slim strict few. emitted_few m s which pieces v slim strict few

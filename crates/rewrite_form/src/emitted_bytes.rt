@@ -1,6 +1,6 @@
 //! Laws of what is written of an emitted module. Each is the contract of a function that does nothing.
 
-ghost use Rattle.emitted_bytes.specs.Written.{EmittedHasFewLocals, EmittedIsShort, EmittedIsSpelled, EmittedIsWellFormed};
+ghost use Rattle.rewrite_form.specs.Written.{EmittedHasFewLocals, EmittedIsShort, EmittedIsSpelled, EmittedIsWellFormed};
 
 /// The emitted module of a valid one within the bounds of a source has few locals and not too many bytes.
 pub fn emitted_modules_are_short()

@@ -13,14 +13,14 @@ use Rattle.wa_types.proofs.SizeBounds.{weight_fits}
 use Rattle.wasm_encode.specs.Locals.{local_count}
 use Rattle.wasm_encode.specs.Modules.{FewLocals}
 use Rattle.rewrite_form.specs.CodesHold.{AllSlim}
-use Rattle.rewrite_form.specs.SlimModule.{Pieces, SlimPieces}
+use Rattle.slim_laws.specs.SlimModule.{Pieces, SlimPieces}
 use Rattle.rewrite_form.specs.Emitted.{asyncified, layout_codes, written_func}
 use Rattle.rewrite_form.specs.Sizes.{FewWritten}
 use Rattle.rewrite_form.proofs.EmittedBy.{defined_where}
 use Rattle.rewrite_form.proofs.WrittenSizes.{layout_size}
-use Rattle.emitted_bytes.proofs.FitsBy.{one_of_all}
-use Rattle.emitted_bytes.proofs.LengthBy.{AllCodesShort, entry, most}
-use Rattle.emitted_bytes.proofs.LengthBy as By
+use Rattle.rewrite_form.proofs.FitsBy.{one_of_all}
+use Rattle.rewrite_form.proofs.LengthBy.{AllCodesShort, entry, most}
+use Rattle.rewrite_form.proofs.LengthBy as By
 
 -- ---- a written function
 

@@ -6,8 +6,7 @@ use Rattle.wa_types.specs.declared.values.ValType.TheVariants.{I32, I64}
 use Rattle.wa_types.specs.declared.values.Value.TheVariants as V
 use Rattle.wa_types.specs.declared.operators.NumOp.TheVariants.{I32LtU, I32Sub}
 use Rattle.wa_types.specs.Sizes.{value_fits, BasicFits, PlainFits, CodeFits}
-use Rattle.wa_types.specs.Syntax.{basic, num, const, global_get, local_get, local_set, local_tee, br, br_if, br_table, return, unreachable, call, call_indirect, Plain, a_block, Code, done}
-use Rattle.wa_types.specs.Syntax.{plain, nest, branch}
+use Rattle.wa_types.specs.Syntax.{basic, num, const, global_get, local_get, local_set, local_tee, br, br_if, br_table, return, unreachable, call, call_indirect, Plain, a_block, Code, done, plain, nest, branch}
 use Rattle.wa_types.specs.Frames.{width}
 use Rattle.wa_types.specs.Pausing.{Callee, direct, indirect}
 use Rattle.wa_types.specs.Points.{after}
@@ -15,14 +14,12 @@ use Rattle.wa_types.specs.Typing.{Around, listed, sig, label}
 use Rattle.wa_model.specs.declared.flat.Operand.{Operand}
 use Rattle.wa_model.specs.declared.flat.Operand.TheVariants.{Local, Const}
 use Rattle.run_theory.specs.Flat.{Stmts, no_more, computes, copies, calls, leaps, leaps_if, leaps_by, nests, decides, halts, followed_by, got, all_got, set_to, slots_got, last_of, code_of, result_got}
-use Rattle.rewrite_form.specs.Flatten.{Names, top, carry_to, carry, carry_all, arrive, flat_plain, flat}
-use Rattle.rewrite_form.specs.Layout.{FrameField, kept, gap, fields_size, placed, Layout, save_code, restore_code}
+use Rattle.flat_laws.specs.Flatten.{Names, top, carry_to, carry, carry_all, arrive, flat_plain, flat}
+use Rattle.frame_laws.specs.Layout.{FrameField, kept, gap, fields_size, placed, Layout, save_code, restore_code}
 use Rattle.local_spill.specs.Spilling.{stored_value, loaded_value, locals_stored, locals_loaded}
 use Rattle.local_spill.specs.Spilling as Spilling
-use Rattle.rewrite_form.specs.Pieces.{Units, no_unit, call_unit, nest_unit, if_unit, any_unit, numbers_in, call_to, got_any, numbered, holds_call, call_total, piece_call, first_piece}
-use Rattle.rewrite_form.specs.Pieces.{unit_call, units}
-use Rattle.rewrite_form.specs.Guarded.{GuardIndices, raised_plain, raised, guarded, sought, one_more, index_noted, noted, call_guarded, choice, arm, Exit, each_end, its_end, by_label}
-use Rattle.rewrite_form.specs.Guarded.{nowhere, exit_inside, last_piece, call_front, front}
+use Rattle.guard_form.specs.Pieces.{Units, no_unit, call_unit, nest_unit, if_unit, any_unit, numbers_in, call_to, got_any, numbered, holds_call, call_total, piece_call, first_piece, unit_call, units}
+use Rattle.guard_form.specs.Guarded.{GuardIndices, raised_plain, raised, guarded, sought, one_more, index_noted, noted, call_guarded, choice, arm, Exit, each_end, its_end, by_label, nowhere, exit_inside, last_piece, call_front, front}
 
 -- what a basic instruction holds is in range
 abbrev pub PlainBasic : Plain → Type 0

@@ -9,16 +9,16 @@ use Rattle.wa_types.specs.Runtime.{global_space}
 use Rattle.wa_types.specs.Sizes.{WellFormed, StrictSizeRule}
 use Rattle.wa_types.specs.Syntax.{Module}
 use Rattle.wa_types.specs.Validity.{Valid}
-use Rattle.rewrite_form.specs.Layout.{kept, gap, field_width, fields_size, Layout}
+use Rattle.frame_laws.specs.Layout.{kept, gap, field_width, fields_size, Layout}
 use Rattle.rewrite_form.specs.CodesHold.{AllSlim}
-use Rattle.rewrite_form.specs.SlimModule.{Pieces}
+use Rattle.slim_laws.specs.SlimModule.{Pieces}
 use Rattle.rewrite_form.specs.Emitted.{is_kept, field_where, frame_layout, layout_codes, asyncified}
 use Rattle.rewrite_form.specs.Sizes.{FewWritten}
 use Rattle.rewrite_form.proofs.WrittenSizes.{layouts_hold, saved_count}
-use Rattle.emitted_bytes.proofs.BasicCode.{save_fits, restore_fits}
-use Rattle.emitted_bytes.proofs.FitsBy.{AllCodesFit}
-use Rattle.emitted_bytes.proofs.FitsBy as By
-use Rattle.emitted_bytes.proofs.Spaces.{globals_counted}
+use Rattle.rewrite_form.proofs.BasicCode.{save_fits, restore_fits}
+use Rattle.rewrite_form.proofs.FitsBy.{AllCodesFit}
+use Rattle.rewrite_form.proofs.FitsBy as By
+use Rattle.rewrite_form.proofs.Spaces.{globals_counted}
 
 fields_few : (keep : ℕ → Bool) (ps : List Place) → fields_size (map (field_where keep) ps) ≤ 8 * length ps
 fields_few keep [] = omega arith

@@ -1,6 +1,5 @@
 -- The numbers of an emitted module are in range, where those of the codes of its frames are.
-use Rattle.std.proofs.Common.{◌≡◌, ◌∙◌, ℕ, zero, suc, ◌+◌, ◌-◌, ◌<◌, ◌≤◌, ◌^◌, List, [], ◌∷◌, ◌++◌, length, map, drop, Option, Some, None, Bool, true, false, All, refl, sym, ap, subst}
-use Rattle.std.proofs.Common.{arith, length-append}
+use Rattle.std.proofs.Common.{◌≡◌, ◌∙◌, ℕ, zero, suc, ◌+◌, ◌-◌, ◌<◌, ◌≤◌, ◌^◌, List, [], ◌∷◌, ◌++◌, length, map, drop, Option, Some, None, Bool, true, false, All, refl, sym, ap, subst, arith, length-append}
 use Rattle.std.specs.Prelude.{slice_get, ◌||◌, if◌then◌else◌}
 use Rattle.std.proofs.lemmas.List.{append_assoc, length-map, map-append}
 use Rattle.std.proofs.lemmas.List.Elements.{All-nil, All-cons, All-head, All-tail, All-append}
@@ -22,11 +21,11 @@ use Rattle.wa_model.specs.declared.flat.Operand.TheVariants.{Local}
 use Rattle.run_theory.specs.Flat.{Stmts, no_more, computes, copies, calls, leaps, leaps_if, leaps_by, nests, decides, halts, last_of}
 use Rattle.run_theory.specs.FlatFits.{one_run}
 use Rattle.wa_model.specs.Rewrites.{instructions_and_labels}
-use Rattle.rewrite_form.specs.Flatten.{Names, names, top, carry_to, carry, carry_all, arrive, flat_plain, flat, flattened}
-use Rattle.rewrite_form.specs.FlatModule.{extra_types}
-use Rattle.rewrite_form.specs.Functions.{GuardedFunc, indices_of}
-use Rattle.rewrite_form.specs.Guarded.{body_exit}
-use Rattle.rewrite_form.specs.Pieces.{Units, nest_unit, if_unit, numbers_in, numbered, holds_call, call_total, first_piece, unit_call, units}
+use Rattle.flat_laws.specs.Flatten.{Names, names, top, carry_to, carry, carry_all, arrive, flat_plain, flat, flattened}
+use Rattle.flat_laws.specs.FlatModule.{extra_types}
+use Rattle.guard_form.specs.Functions.{GuardedFunc, indices_of}
+use Rattle.guard_form.specs.Guarded.{body_exit}
+use Rattle.guard_form.specs.Pieces.{Units, nest_unit, if_unit, numbers_in, numbered, holds_call, call_total, first_piece, unit_call, units}
 use Rattle.rewrite_form.specs.CodesHold.{AllCodesHold, CodesHold, three}
 use Rattle.rewrite_form.specs.EmittedBy.{FrameCode, guarded_by, written_by, func_by, funcs_by, asyncified_by}
 use Rattle.rewrite_form.specs.Sizes.{FewWritten}
@@ -34,13 +33,13 @@ use Rattle.rewrite_form.proofs.EmittedBy.{defined_of, inner, emitted, told, not_
 use Rattle.rewrite_form.proofs.EmittedRewritten.{sort_there}
 use Rattle.rewrite_form.proofs.SizesBy.{code_weighs, written_depth}
 use Rattle.rewrite_form.proofs.WrittenBy.{written_length, written_typed}
-use Rattle.emitted_bytes.proofs.BasicCode.{BasicsFit, StmtsBasic, fits_basic, flat_fits, first_fits, units_fit, result_fits, front_fits}
-use Rattle.emitted_bytes.proofs.GrownFits.{grown_fits}
-use Rattle.emitted_bytes.proofs.SlimCode.{units_basic}
-use Rattle.rewrite_form.specs.SlimModule.{flat_terms}
-use Rattle.rewrite_form.proofs.UnitsAlike.{units_alike}
-use Rattle.emitted_bytes.proofs.Spaces.{funcs_counted, globals_counted}
-use Rattle.emitted_bytes.proofs.TypedCode.{AroundFew, typed_fits}
+use Rattle.rewrite_form.proofs.BasicCode.{BasicsFit, StmtsBasic, fits_basic, flat_fits, first_fits, units_fit, result_fits, front_fits}
+use Rattle.rewrite_form.proofs.GrownFits.{grown_fits}
+use Rattle.rewrite_form.proofs.SlimCode.{units_basic}
+use Rattle.slim_laws.specs.SlimModule.{flat_terms}
+use Rattle.slim_laws.proofs.UnitsAlike.{units_alike}
+use Rattle.rewrite_form.proofs.Spaces.{funcs_counted, globals_counted}
+use Rattle.rewrite_form.proofs.TypedCode.{AroundFew, typed_fits}
 
 -- ---- how many calls get a number
 

@@ -9,7 +9,7 @@ use Rattle.wa_types.specs.Syntax.{Module}
 use Rattle.wa_types.specs.Validity.{Valid}
 use Rattle.wasm_encode.specs.Modules.{FewLocals}
 use Rattle.rewrite_form.specs.CodesHold.{AllSlim}
-use Rattle.rewrite_form.specs.SlimModule.{Pieces}
+use Rattle.slim_laws.specs.SlimModule.{Pieces}
 use Rattle.rewrite_form.specs.Emitted.{asyncified}
 use Rattle.rewrite_form.specs.Sizes.{FewWritten}
 
