@@ -1,0 +1,16 @@
+pub mod AssertLinks
+pub mod AssertedBehaving
+pub mod AssertedFunctions
+pub mod AssertedHalts
+pub mod AssertedPairs
+pub mod AssertedPlaces
+pub mod AssertedStacks
+pub mod Carrying
+pub mod FrameCalls
+pub mod GuardedAsserts
+pub mod Running
+pub mod StateKept
+pub mod StepTable
+pub mod TestMet
+pub mod TestedCalls
+pub mod TestedCode

@@ -1,0 +1,4 @@
+pub mod AssertedRoles
+pub mod AssertedUnits
+pub mod Beside
+pub mod Links
