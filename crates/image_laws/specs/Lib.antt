@@ -1,0 +1,4 @@
+pub mod Example
+pub mod Image
+pub mod Laws
+pub mod Unpaused
