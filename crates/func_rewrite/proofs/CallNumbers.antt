@@ -11,10 +11,10 @@ use Rattle.run_theory.specs.FlatFits.{ComputesFit, IsCallCode, StmtsFit}
 use Rattle.run_theory.specs.Growth.{Each}
 use Rattle.flat_laws.specs.FlatModule.{stacks_in}
 use Rattle.guard_form.specs.Pieces.{sole_callee, call_total}
-use Rattle.written_frames.specs.Numbering.{callees, gets_number}
-use Rattle.written_frames.proofs.NumberingLemmas.{callees_count}
-use Rattle.written_frames.specs.Emitting.{Rises}
-use Rattle.written_frames.specs.Marking.{StacksFit}
+use Rattle.flow_rewrite.specs.Numbering.{callees, gets_number}
+use Rattle.flow_rewrite.proofs.NumberingLemmas.{callees_count}
+use Rattle.flow_rewrite.specs.Emitting.{Rises}
+use Rattle.func_rewrite.specs.Marking.{StacksFit}
 
 -- ---- calls of statements
 

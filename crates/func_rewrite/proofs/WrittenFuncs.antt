@@ -30,11 +30,11 @@ use Rattle.local_spill.specs.declared.frames.Place.{Place}
 use Rattle.frame_laws.specs.Layout.{FrameField, Layout as FrameLayout, fields_size, placed, spilled_by}
 use Rattle.guard_form.specs.Guarded.{guard_indices, guarded_body, function_body}
 use Rattle.guard_form.specs.Pieces.{call_total}
-use Rattle.written_frames.specs.Numbering.{callees, gets_number}
-use Rattle.written_frames.specs.Emitted.{IsAllWritten, holds_operand, is_kept, field_where, frame_layout, written_func}
-use Rattle.written_frames.specs.SlimModule.{Pieces, SlimPieces}
-use Rattle.written_frames.specs.Frames.{numbered_places, AllFrames}
-use Rattle.written_frames.specs.Marking.{StacksFit}
+use Rattle.flow_rewrite.specs.Numbering.{callees, gets_number}
+use Rattle.rewrite_form.specs.Emitted.{IsAllWritten, holds_operand, is_kept, field_where, frame_layout, written_func}
+use Rattle.slim_laws.specs.SlimModule.{Pieces, SlimPieces}
+use Rattle.func_rewrite.specs.WrittenFrames.{numbered_places, AllFrames}
+use Rattle.func_rewrite.specs.Marking.{StacksFit}
 use Rattle.func_rewrite.specs.Bodies.{IsSlimBody}
 use Rattle.func_rewrite.specs.Frames.{IsFlattened, FramesUnder}
 use Rattle.func_rewrite.proofs.CallNumbers.{total_is, numbers_are, stacks_fit}

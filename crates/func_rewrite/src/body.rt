@@ -8,7 +8,7 @@ ghost use Rattle.run_theory.specs.FlatView.{flat_func_of};
 ghost use Rattle.local_spill.specs.Putting.{Puts};
 ghost use Rattle.local_spill.specs.Spilling.{restoring, saving, spill_indices, unless_normal};
 ghost use Rattle.guard_form.specs.Pieces.{call_total};
-ghost use Rattle.written_frames.specs.Emitting.{Rises};
+ghost use Rattle.flow_rewrite.specs.Emitting.{Rises};
 ghost use Rattle.func_rewrite.specs.Bodies.{IsSlimBody, body_got};
 ghost use Rattle.func_rewrite.specs.Frames.{IsFlattened};
 

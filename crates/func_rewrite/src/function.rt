@@ -7,7 +7,7 @@ ghost use Rattle.wa_types.specs.Validity.{Valid as IsValid};
 ghost use Rattle.wa_types.specs.View.{func_of, module_of};
 ghost use Rattle.call_graph.specs.Settings.{settings_of};
 ghost use Rattle.local_spill.specs.Ids.{ids_behind};
-ghost use Rattle.written_frames.specs.Emitted.{IsAllWritten};
+ghost use Rattle.rewrite_form.specs.Emitted.{IsAllWritten};
 ghost use Rattle.func_rewrite.specs.Frames.{IsFlattened, FramesUnder};
 
 use crate::body::written_body;
@@ -17,7 +17,9 @@ use flatten::Flattened;
 use local_spill::{Layout, RuntimeIds, layout};
 use std::alloc::{AllocError, Global};
 use wa_types::{Func, Module};
-use written_frames::{call_frames, chosen_frame, kept_locals, number_calls, saved_places};
+use crate::frames::{call_frames, chosen_frame, saved_places};
+use crate::kept::kept_locals;
+use flow_rewrite::number_calls;
 
 /// A function as it is written, and the frames of its numbered calls.
 #[derive(Drop)]

@@ -13,14 +13,14 @@ use Rattle.run_theory.specs.Flat.{FlatFunc}
 use Rattle.run_theory.specs.FlatView.{flat_func_of}
 use Rattle.flat_laws.specs.Flatten.{flattened}
 use Rattle.flat_laws.proofs.FlatModules.{dropped_at}
-use Rattle.live_rewrite.specs.Whole.{FlatAnswer}
-use Rattle.live_rewrite.specs.Flattened.{Flattened}
-use Rattle.live_rewrite.specs.FlatFault.{FlatFault}
-use Rattle.live_rewrite.specs.FlatFault.TheVariants as F
-use Rattle.live_rewrite.proofs.ToldLemmas.{Sofar, sofar_first, sofar_done, go_skip, go_put, go_stop}
-use Rattle.live_rewrite.specs.Frames.{IsFlattened}
-use Rattle.live_rewrite.specs.EmittedAs.{AreEmitted, IsEmitted, IsEmittedWhere, IsWritten}
-use Rattle.live_rewrite.proofs.EmittedBy.{defined_of}
+use Rattle.flatten.specs.Whole.{FlatAnswer}
+use Rattle.flatten.specs.declared.whole.Flattened.{Flattened}
+use Rattle.flatten.specs.declared.fault.FlatFault.{FlatFault}
+use Rattle.flatten.specs.declared.fault.FlatFault.TheVariants as F
+use Rattle.flatten.proofs.ToldLemmas.{Sofar, sofar_first, sofar_done, go_skip, go_put, go_stop}
+use Rattle.func_rewrite.specs.Frames.{IsFlattened}
+use Rattle.live_laws.specs.EmittedAs.{AreEmitted, IsEmitted, IsEmittedWhere, IsWritten}
+use Rattle.rewrite_form.proofs.EmittedBy.{defined_of}
 use Rattle.module_rewrite.specs.Emitting.{LaidOut, PutKept, PutWritten, AllEmitted, Emits}
 use Rattle.module_rewrite.specs.Faults.{of_flat}
 use Rattle.module_rewrite.specs.declared.emitting.Emitted.{Emitted}

@@ -1,5 +1,5 @@
-pub use Rattle.live_rewrite.proofs.FitsBy
-pub use Rattle.live_rewrite.proofs.ToldLemmas
+pub use Rattle.rewrite_form.proofs.FitsBy
+pub use Rattle.flatten.proofs.ToldLemmas
 pub mod EmitLemmas
 pub mod FreeNames
 pub mod Spaces

@@ -10,10 +10,10 @@ use Rattle.wa_types.specs.Runtime.{func_space, global_space}
 use Rattle.wa_types.specs.Sizes.{StrictSizeRule}
 use Rattle.wa_types.specs.Syntax.{Func, Module}
 use Rattle.flat_laws.proofs.FlatModules.{dropped_at}
-use Rattle.live_rewrite.specs.Whole.{NonePasses}
-use Rattle.live_rewrite.specs.Sizes.{FewWritten}
-use Rattle.live_rewrite.proofs.EmittedBy.{sort_of}
-use Rattle.live_rewrite.specs.EmittedAs.{AreEmitted}
+use Rattle.flatten.specs.Whole.{NonePasses}
+use Rattle.rewrite_form.specs.Sizes.{FewWritten}
+use Rattle.rewrite_form.proofs.EmittedBy.{sort_of}
+use Rattle.live_laws.specs.EmittedAs.{AreEmitted}
 use Rattle.local_spill.specs.Reserved.{reserved_at}
 use Rattle.module_rewrite.specs.Emitting.{Emits}
 use Rattle.module_rewrite.specs.Whole.{Asyncifies}

@@ -4,9 +4,9 @@ use Rattle.wa_types.specs.Modules.{func_imports}
 use Rattle.wa_types.specs.Pausing.{Settings}
 use Rattle.wa_types.specs.Syntax.{Func, Module}
 use Rattle.wa_types.specs.View.{func_of}
-use Rattle.live_rewrite.specs.Whole.{NonePasses, FirstPasses}
-use Rattle.live_rewrite.specs.Frames.{FramesOf}
-use Rattle.live_rewrite.specs.EmittedAs.{AreEmitted, IsWritten}
+use Rattle.flatten.specs.Whole.{NonePasses, FirstPasses}
+use Rattle.func_rewrite.specs.Frames.{FramesOf}
+use Rattle.live_laws.specs.EmittedAs.{AreEmitted, IsWritten}
 use Rattle.module_rewrite.specs.declared.emitting.Emitted.{Emitted}
 use Rattle.module_rewrite.specs.declared.emitting.FuncLayout.{FuncLayout}
 use Rattle.module_rewrite.specs.declared.fault.RewriteFault.{RewriteFault}

@@ -1,7 +1,7 @@
-pub use Rattle.live_rewrite.specs.FlatFault
-pub use Rattle.live_rewrite.specs.Flattened
-pub use Rattle.live_rewrite.specs.Frames
-pub use Rattle.live_rewrite.specs.Whole as FlattenWhole
+pub use Rattle.flatten.specs.declared.fault.FlatFault
+pub use Rattle.flatten.specs.declared.whole.Flattened
+pub use Rattle.func_rewrite.specs.Frames
+pub use Rattle.flatten.specs.Whole as FlattenWhole
 pub mod Emitting
 pub mod Faults
 pub mod Whole

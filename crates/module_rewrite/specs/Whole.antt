@@ -6,9 +6,9 @@ use Rattle.wa_types.specs.Syntax.{Module}
 use Rattle.wa_types.specs.View.{module_of}
 use Rattle.wa_model.specs.Rewrites.{Rewrites}
 use Rattle.local_spill.specs.Reserved.{reserved_at}
-use Rattle.live_rewrite.specs.Whole.{NonePasses, FirstPasses}
-use Rattle.live_rewrite.specs.EmittedAs.{EmittedAs}
-use Rattle.live_rewrite.specs.PolicyLaws.{EachReadsFew}
+use Rattle.flatten.specs.Whole.{NonePasses, FirstPasses}
+use Rattle.live_laws.specs.EmittedAs.{EmittedAs}
+use Rattle.live_laws.specs.PolicyLaws.{EachReadsFew}
 use Rattle.module_rewrite.specs.Emitting.{LaidOut}
 use Rattle.module_rewrite.specs.declared.fault.RewriteFault.{RewriteFault}
 use Rattle.module_rewrite.specs.declared.fault.RewriteFault.TheVariants.{Memory, Locals, Reserved}

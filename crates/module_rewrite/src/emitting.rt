@@ -7,13 +7,13 @@ ghost use Rattle.wa_types.specs.Sizes.{StrictSizeRule};
 ghost use Rattle.wa_types.specs.View.{func_of, module_of};
 ghost use Rattle.call_graph.specs.Settings.{settings_of};
 ghost use Rattle.local_spill.specs.Ids.{ids_behind};
-ghost use Rattle.live_rewrite.specs.Frames.{IsFlattened};
+ghost use Rattle.func_rewrite.specs.Frames.{IsFlattened};
 ghost use Rattle.wa_types.specs.Validity.{Valid as IsValid};
 ghost use Rattle.module_rewrite.specs.Emitting.{Emits, PutKept, PutWritten};
 
 use crate::fault::RewriteFault;
 use call_graph::Settings;
-use live_rewrite::{Flattened, flatten_func, write_by_policy};
+use func_rewrite::{Flattened, flatten_func, write_by_policy};
 use local_spill::{Layout, RuntimeIds};
 use wa_types::{Func, Module, copy_func};
 use std::alloc::{AllocError, Global};

@@ -9,5 +9,5 @@ mod whole;
 
 pub use emitting::FuncLayout;
 pub use fault::RewriteFault;
-pub use live_rewrite::{FlatFault, Flattened, emit_by_policy, flatten_func};
+pub use func_rewrite::{FlatFault, Flattened, emit_by_policy, flatten_func};
 pub use whole::{Rewritten, asyncify_module};

@@ -2,15 +2,15 @@ use Rattle.std.proofs.Common.{arith, refl, ap, sym, subst, length, get_or, take,
 use Rattle.wa_types.specs.declared.values.ValType.TheVariants.{I32, I64}
 use Rattle.run_theory.specs.FlatFits.{one_run}
 use Rattle.local_spill.specs.Laying.{in_a_row, row_size}
-use Rattle.written_frames.specs.Frames.{numbered_places}
+use Rattle.func_rewrite.specs.WrittenFrames.{numbered_places}
 use Rattle.wa_types.specs.Pausing.{places_from}
 use Rattle.wa_types.specs.View.{code, func_of, module_of}
 use Rattle.run_theory.specs.FlatView.{flat_func_of}
 use Rattle.call_graph.specs.Settings.{settings_of}
-use Rattle.written_frames.specs.Numbering.{callees, gets_number}
-use Rattle.written_frames.specs.Emitting.{Rises}
+use Rattle.flow_rewrite.specs.Numbering.{callees, gets_number}
+use Rattle.flow_rewrite.specs.Emitting.{Rises}
 use Rattle.local_spill.specs.declared.frames.Place.{Place}
-use Rattle.written_frames.specs.Emitted.{is_kept}
+use Rattle.rewrite_form.specs.Emitted.{is_kept}
 use Rattle.func_rewrite.proofs.CallNumbers.{places_rise}
 use Rattle.func_rewrite.proofs.WrittenFuncs.{fits, few_calls, stacks, numbers, own_few, saved_few, places_few, row_fits, kept_is, slots_told, is_written}
 use Rattle.func_rewrite.proofs.function.emit_func.Goals as goal

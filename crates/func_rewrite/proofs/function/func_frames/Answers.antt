@@ -1,12 +1,12 @@
 use Rattle.std.proofs.Common.{arith, ap, subst, length, take, ◌∙◌, ◌≡◌}
 use Rattle.std.specs.Vec.{vec_len}
-use Rattle.written_frames.specs.Frames.{numbered_places, AllFrames}
-use Rattle.written_frames.proofs.NumberingLemmas.{callees_count}
+use Rattle.func_rewrite.specs.WrittenFrames.{numbered_places, AllFrames}
+use Rattle.flow_rewrite.proofs.NumberingLemmas.{callees_count}
 use Rattle.wa_types.specs.Pausing.{places_from}
 use Rattle.wa_types.specs.View.{func_of, module_of}
 use Rattle.run_theory.specs.FlatView.{flat_func_of}
 use Rattle.call_graph.specs.Settings.{settings_of}
-use Rattle.written_frames.specs.Numbering.{callees, gets_number}
+use Rattle.flow_rewrite.specs.Numbering.{callees, gets_number}
 use Rattle.func_rewrite.proofs.CallNumbers.{places_few as places_few_of}
 use Rattle.func_rewrite.proofs.WrittenFuncs.{few_calls, numbers, saved_few, places_few, frames_are}
 use Rattle.func_rewrite.proofs.function.func_frames.Goals as goal

@@ -5,7 +5,7 @@ use Rattle.wa_types.specs.declared.syntax.Module.{Module as ModuleValue}
 use Rattle.wa_types.specs.Modules.{func_imports}
 use Rattle.wa_types.specs.View.{func_of, module_of}
 use Rattle.call_graph.specs.Settings.{settings_of}
-use Rattle.live_rewrite.specs.Frames.{IsFlattened}
+use Rattle.func_rewrite.specs.Frames.{IsFlattened}
 use Rattle.wasm_validate.proofs.FuncLemmas.{func_at}
 use Rattle.module_rewrite.specs.Emitting.{Emits, PutWritten}
 use Rattle.module_rewrite.proofs.EmitLemmas.{going_first, going_keep, going_written, going_end, going_stop, is_flattened}

@@ -8,10 +8,10 @@ use Rattle.wa_types.specs.View.{func_of, module_of}
 use Rattle.wa_model.specs.Rewrites.{Rewrites}
 use Rattle.local_spill.specs.Reserved.{reserved_at}
 use Rattle.call_graph.specs.Settings.{settings_of}
-use Rattle.live_rewrite.specs.EmittedAs.{EmittedAs}
-use Rattle.live_rewrite.specs.PolicyLaws.{CanBeEmitted, EachReadsFew}
-use Rattle.live_rewrite.proofs.PolicyCases.{functions_law, rewrites_as, sizes_as, valid_as}
-use Rattle.live_rewrite.proofs.PolicyReads.{emitted_reads}
+use Rattle.live_laws.specs.EmittedAs.{EmittedAs}
+use Rattle.live_laws.specs.PolicyLaws.{CanBeEmitted, EachReadsFew}
+use Rattle.live_laws.proofs.PolicyCases.{functions_law, rewrites_as, sizes_as, valid_as}
+use Rattle.live_laws.proofs.PolicyReads.{emitted_reads}
 use Rattle.module_rewrite.specs.Emitting.{Emits, AllEmitted}
 use Rattle.module_rewrite.specs.Whole.{Asyncifies}
 use Rattle.module_rewrite.proofs.FreeNames.{unreserved_is_free}
