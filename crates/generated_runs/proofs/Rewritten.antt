@@ -4,9 +4,8 @@ use Rattle.std.proofs.lemmas.List.Elements.{All-nil, All-cons, All-head, All-tai
 use Rattle.wa_types.specs.Frames.{Count}
 use Rattle.wa_types.specs.Modules.{func_imports}
 use Rattle.wa_types.specs.Sizes.{ElemSizes, FuncSizes, SegmentSizes, SizeRule, StrictSizeRule, TypeSizes, code_lists, plain_lists}
-use Rattle.wa_types.specs.Syntax.{Code, Func, GlobalDef, Module, Plain, basic, br, br_if, br_table, branch, call, call_indirect, done}
-use Rattle.wa_types.specs.Syntax.{local_get, local_set, local_tee, nest, plain, return, unreachable}
-use Rattle.module_rewrite.specs.FlattenWhole.{FirstPasses}
+use Rattle.wa_types.specs.Syntax.{Code, Func, GlobalDef, Module, Plain, basic, br, br_if, br_table, branch, call, call_indirect, done, local_get, local_set, local_tee, nest, plain, return, unreachable}
+use Rattle.flatten.specs.Whole.{FirstPasses}
 use Rattle.module_rewrite.specs.Whole.{FirstTooMany}
 use Rattle.generated_runs.specs.Playing.{all_listed}
 

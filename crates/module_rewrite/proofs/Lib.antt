@@ -1,6 +1,6 @@
-pub use Rattle.rewrite_form.proofs.FitsBy
-pub use Rattle.flatten.proofs.ToldLemmas
 pub mod EmitLemmas
+pub mod EntryLemmas
 pub mod FreeNames
+pub mod Parts
 pub mod Spaces
 pub mod WholeLemmas

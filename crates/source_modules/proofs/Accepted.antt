@@ -20,19 +20,19 @@ use Rattle.wasm_reader.specs.declared.read_fault.ReadFault.TheVariants.{Memory, 
 use Rattle.wasm_reader.specs.Answers.{IsAccepted, IsRefused}
 use Rattle.wasm_reader.proofs.Accepting.{accepted_spelled, accepted_strictly}
 use Rattle.wasm_reader.proofs.ShortFile.{written_short}
-use Rattle.module_bytes.specs.FlattenWhole.{NonePasses, FirstPasses}
-use Rattle.module_bytes.specs.Sizes.{FewWritten}
-use Rattle.module_bytes.proofs.BytesByPolicy.{prepared_as, spelled_as}
-use Rattle.module_bytes.specs.EmittedAs.{EmittedAs}
-use Rattle.module_bytes.specs.PolicyLaws.{CanBeEmitted}
-use Rattle.module_bytes.proofs.Numbers.{functions_counted}
+use Rattle.flatten.specs.Whole.{NonePasses, FirstPasses}
+use Rattle.rewrite_form.specs.Sizes.{FewWritten}
+use Rattle.live_laws.proofs.BytesByPolicy.{prepared_as, spelled_as}
+use Rattle.live_laws.specs.EmittedAs.{EmittedAs}
+use Rattle.live_laws.specs.PolicyLaws.{CanBeEmitted}
+use Rattle.live_laws.proofs.Numbers.{functions_counted}
 use Rattle.local_spill.specs.Reserved.{reserved_at}
-use Rattle.module_bytes.specs.RewriteFault.{RewriteFault}
-use Rattle.module_bytes.specs.RewriteFault.TheVariants.{Memory as rewrite_memory, Locals as rewrite_locals, Reserved as rewrite_reserved}
-use Rattle.module_bytes.specs.ModuleWhole.{Asyncifies}
-use Rattle.module_bytes.specs.declared.fault.EmitFault.{EmitFault}
-use Rattle.module_bytes.specs.declared.fault.EmitFault.TheVariants.{Memory as emit_memory, Locals as emit_locals, TooLong as emit_too_long}
-use Rattle.module_bytes.specs.Whole.{EmitsModule}
+use Rattle.module_rewrite.specs.declared.fault.RewriteFault.{RewriteFault}
+use Rattle.module_rewrite.specs.declared.fault.RewriteFault.TheVariants.{Memory as rewrite_memory, Locals as rewrite_locals, Reserved as rewrite_reserved}
+use Rattle.module_rewrite.specs.Whole.{Asyncifies}
+use Rattle.module_rewrite.specs.declared.byte_fault.EmitFault.{EmitFault}
+use Rattle.module_rewrite.specs.declared.byte_fault.EmitFault.TheVariants.{Memory as emit_memory, Locals as emit_locals, TooLong as emit_too_long}
+use Rattle.module_rewrite.specs.WholeBytes.{EmitsModule}
 use Rattle.source_modules.specs.declared.source.SourceFault.{SourceFault}
 use Rattle.source_modules.specs.Sources.{IsValidSource, told_counts, rewritten_counts}
 use Rattle.source_modules.specs.Refusals.{IsFaultOf, IsOfRead, IsOfEmit, IsOfRewrite, IsUnreserved}

@@ -1,5 +1,5 @@
-pub use Rattle.module_bytes.specs.EmittedAs
-pub use Rattle.module_bytes.specs.PolicyLaws
+pub use Rattle.live_laws.specs.EmittedAs
+pub use Rattle.live_laws.specs.PolicyLaws
 pub use Rattle.wasm_reader.specs.Held
 pub mod Refusals
 pub mod Sources

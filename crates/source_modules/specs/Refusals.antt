@@ -6,10 +6,10 @@ use Rattle.wasm_reader.specs.declared.read_fault.ReadFault.TheVariants.{Memory a
 use Rattle.wasm_reader.specs.Held.{Holds}
 use Rattle.wasm_reader.specs.declared.fault.ModuleFault.{ModuleFault}
 use Rattle.wasm_reader.specs.declared.fault.ModuleFault.TheVariants.{Memory as file_memory, Read as file_read, Refused as file_refused}
-use Rattle.module_bytes.specs.RewriteFault.{RewriteFault}
-use Rattle.module_bytes.specs.RewriteFault.TheVariants.{Memory as rewrite_memory, Locals as rewrite_locals, Reserved as rewrite_reserved}
-use Rattle.module_bytes.specs.declared.fault.EmitFault.{EmitFault}
-use Rattle.module_bytes.specs.declared.fault.EmitFault.TheVariants.{Memory as emit_memory, Locals as emit_locals, TooLong as emit_too_long}
+use Rattle.module_rewrite.specs.declared.fault.RewriteFault.{RewriteFault}
+use Rattle.module_rewrite.specs.declared.fault.RewriteFault.TheVariants.{Memory as rewrite_memory, Locals as rewrite_locals, Reserved as rewrite_reserved}
+use Rattle.module_rewrite.specs.declared.byte_fault.EmitFault.{EmitFault}
+use Rattle.module_rewrite.specs.declared.byte_fault.EmitFault.TheVariants.{Memory as emit_memory, Locals as emit_locals, TooLong as emit_too_long}
 use Rattle.source_modules.specs.declared.refusals.Refusal.{Refusal}
 use Rattle.source_modules.specs.declared.refusals.Refusal.TheVariants.{Malformed, Float, Deep, Limit, Reserved, Invalid, RewrittenLocals, Output}
 use Rattle.source_modules.specs.declared.source.SourceFault.{SourceFault}

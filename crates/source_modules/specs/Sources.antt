@@ -24,7 +24,7 @@ use Rattle.wasm_reader.specs.Held.{Holds}
 use Rattle.local_spill.specs.declared.reserving.ReservedAt.{ReservedAt}
 use Rattle.local_spill.specs.declared.reserving.ReservedAt.TheVariants.{Import as at_import, Export as at_export}
 use Rattle.local_spill.specs.Reserved.{reserved_at}
-use Rattle.module_bytes.specs.EmittedAs.{EmittedAs}
+use Rattle.live_laws.specs.EmittedAs.{EmittedAs}
 
 -- The bytes spell this module, without a float and within the limits of a source module, under no reserved name.
 pub record IsFree (bytes : List ℕ) (m : Module) : Type 0 where

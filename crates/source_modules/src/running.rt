@@ -12,7 +12,7 @@ ghost use Rattle.source_modules.specs.Running.{RunsAs};
 
 use crate::source::{SourceFault, rewrite_fault, source};
 use call_graph::{Settings, listed_imports};
-use module_bytes::asyncify_module;
+use module_rewrite::asyncify_module;
 use std::alloc::Global;
 use vault_port::Vault;
 use wasm_validate::Valid;

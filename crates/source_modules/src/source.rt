@@ -20,7 +20,7 @@ use crate::refusals::Refusal;
 use local_spill::{ReservedAt, reserved};
 use bytes::BytesMut;
 use call_graph::Settings;
-use module_bytes::{EmitFault, RewriteFault, emit_module};
+use module_rewrite::{EmitFault, RewriteFault, emit_module};
 use wasm_reader::{ModuleFault, ReadFault, read_file};
 use std::alloc::{AllocError, Global};
 use thiserror::Error;

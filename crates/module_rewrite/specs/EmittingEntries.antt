@@ -6,12 +6,12 @@ use Rattle.wa_types.specs.Pausing.{Settings}
 use Rattle.wa_types.specs.Syntax.{Func, Module}
 use Rattle.wa_types.specs.View.{func_of}
 use Rattle.wa_types.specs.declared.syntax.Func.{Func as FuncValue}
-use Rattle.module_rewrite.specs.FlattenWhole.{NonePasses, FirstPasses}
+use Rattle.flatten.specs.Whole.{NonePasses, FirstPasses}
 use Rattle.live_laws.specs.EmittedAs.{AreEmitted, IsWritten}
 use Rattle.wasm_encode.specs.Around.{code_entry}
-use Rattle.module_bytes.specs.declared.emitting.Entries.{Entries}
-use Rattle.module_bytes.specs.declared.fault.EmitFault.{EmitFault}
-use Rattle.module_bytes.specs.declared.fault.EmitFault.TheVariants.{Memory, Locals, TooLong}
+use Rattle.module_rewrite.specs.declared.entries.Entries.{Entries}
+use Rattle.module_rewrite.specs.declared.byte_fault.EmitFault.{EmitFault}
+use Rattle.module_rewrite.specs.declared.byte_fault.EmitFault.TheVariants.{Memory, Locals, TooLong}
 
 -- the entries of these functions
 abbrev pub value_entries : List FuncValue → List ℕ

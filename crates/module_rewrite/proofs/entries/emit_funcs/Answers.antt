@@ -7,12 +7,12 @@ use Rattle.wa_types.specs.Syntax.{Func}
 use Rattle.wa_types.specs.Validity.{Valid}
 use Rattle.wa_types.specs.View.{func_of, module_of}
 use Rattle.call_graph.specs.Settings.{settings_of}
-use Rattle.module_rewrite.specs.Frames.{IsFlattened}
+use Rattle.func_rewrite.specs.Frames.{IsFlattened}
 use Rattle.live_laws.specs.PolicyBytes.{IsShortEntry}
 use Rattle.live_laws.specs.EmittedAs.{IsWritten}
-use Rattle.module_bytes.specs.Emitting.{Emits, PutsWritten}
-use Rattle.module_bytes.proofs.EntryLemmas.{here, going_first, going_keep, going_written, going_end, going_stop, is_flattened, written_is_short, entry_short, locals_small}
-use Rattle.module_bytes.proofs.emitting.emit_funcs.Goals as goal
+use Rattle.module_rewrite.specs.EmittingEntries.{Emits, PutsWritten}
+use Rattle.module_rewrite.proofs.EntryLemmas.{here, going_first, going_keep, going_written, going_end, going_stop, is_flattened, written_is_short, entry_short, locals_small}
+use Rattle.module_rewrite.proofs.entries.emit_funcs.Goals as goal
 
 pub loop-index-init : goal.loop-index-init
 loop-index-init c = going_first (module_of c.args.valid.now) (settings_of c.args.settings.now) c.args.which.now _ c.new-out.ensures.items

@@ -7,11 +7,11 @@ ghost use Rattle.wa_types.specs.Sizes.{StrictSizeRule};
 ghost use Rattle.wa_types.specs.View.{module_of};
 ghost use Rattle.local_spill.specs.Reserved.{reserved_at};
 ghost use Rattle.call_graph.specs.Settings.{settings_of};
-ghost use Rattle.module_bytes.specs.declared.fault.EmitFault.TheVariants.{Memory};
-ghost use Rattle.module_bytes.specs.Whole.{EmitsModule};
+ghost use Rattle.module_rewrite.specs.declared.byte_fault.EmitFault.TheVariants.{Memory};
+ghost use Rattle.module_rewrite.specs.WholeBytes.{EmitsModule};
 
-use crate::emitting::{emit_funcs, put_funcs};
-use crate::fault::EmitFault;
+use crate::entries::{emit_funcs, put_funcs};
+use crate::byte_fault::EmitFault;
 use local_spill::{RuntimeFault, add_runtime, ids_behind};
 use bytes::BytesMut;
 use call_graph::{Settings, listed_imports, may_pause};

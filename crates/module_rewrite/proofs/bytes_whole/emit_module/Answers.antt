@@ -12,10 +12,10 @@ use Rattle.live_laws.proofs.PolicyCases.{functions_law, rewrites_as}
 use Rattle.live_laws.proofs.PolicyReads.{emitted_reads}
 use Rattle.module_rewrite.proofs.FreeNames.{unreserved_is_free}
 use Rattle.module_rewrite.proofs.WholeLemmas.{few_written, globals_small, space_small}
-use Rattle.module_bytes.specs.Emitting.{AllEmitted}
-use Rattle.module_bytes.specs.Whole.{EmitsModule}
-use Rattle.module_bytes.proofs.Parts.{parts_around, parts_locals, parts_short, text_fault}
-use Rattle.module_bytes.proofs.whole.emit_module.Goals as goal
+use Rattle.module_rewrite.specs.EmittingEntries.{AllEmitted}
+use Rattle.module_rewrite.specs.WholeBytes.{EmitsModule}
+use Rattle.module_rewrite.proofs.Parts.{parts_around, parts_locals, parts_short, text_fault}
+use Rattle.module_rewrite.proofs.bytes_whole.emit_module.Goals as goal
 
 pub ids_behind-ids-requires-clause-funcs : goal.ids_behind-ids-requires-clause-funcs
 ids_behind-ids-requires-clause-funcs c =

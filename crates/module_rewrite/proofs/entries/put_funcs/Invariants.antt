@@ -1,6 +1,6 @@
 use Rattle.std.proofs.Common.{◌≡◌, ◌≤◌, ◌++◌, drop, length}
-use Rattle.module_bytes.specs.Emitting.{value_entries}
-use Rattle.module_bytes.proofs.emitting.put_funcs.Given as goal
+use Rattle.module_rewrite.specs.EmittingEntries.{value_entries}
+use Rattle.module_rewrite.proofs.entries.put_funcs.Given as goal
 
 abbrev pub invariant-loop-index : goal.invariant-loop-index
 invariant-loop-index l = record {

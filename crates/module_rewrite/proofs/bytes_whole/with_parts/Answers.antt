@@ -1,5 +1,5 @@
 use Rattle.std.proofs.Common.{◌∙◌, sym}
-use Rattle.module_bytes.proofs.whole.with_parts.Goals as goal
+use Rattle.module_rewrite.proofs.bytes_whole.with_parts.Goals as goal
 
 pub unreachable-requires : goal.unreachable-requires
 unreachable-requires c =

@@ -1,6 +1,6 @@
 //! Why the bytes of a rewritten module weren't written.
 
-use module_rewrite::FlatFault;
+use func_rewrite::FlatFault;
 use std::alloc::AllocError;
 use thiserror::Error;
 use wasm_encode::EncodeFault;
@@ -20,7 +20,7 @@ pub enum EmitFault {
 
 impl From<AllocError> for EmitFault {
     ghost use Rattle.std.specs.Prelude.{◌≡◌};
-    ghost use Rattle.module_bytes.specs.declared.fault.EmitFault.TheVariants.{Memory};
+    ghost use Rattle.module_rewrite.specs.declared.byte_fault.EmitFault.TheVariants.{Memory};
 
     ghost from_gives = { λ _ fault. fault ≡ Memory };
 
@@ -31,7 +31,7 @@ impl From<AllocError> for EmitFault {
 
 impl From<FlatFault> for EmitFault {
     ghost use Rattle.std.specs.Prelude.{◌≡◌};
-    ghost use Rattle.module_bytes.specs.Faults.{of_flat};
+    ghost use Rattle.module_rewrite.specs.ByteFaults.{of_flat};
 
     ghost from_gives = { λ f fault. fault ≡ of_flat f };
 
@@ -45,7 +45,7 @@ impl From<FlatFault> for EmitFault {
 
 impl From<EncodeFault> for EmitFault {
     ghost use Rattle.std.specs.Prelude.{◌≡◌};
-    ghost use Rattle.module_bytes.specs.Faults.{of_encode};
+    ghost use Rattle.module_rewrite.specs.ByteFaults.{of_encode};
 
     ghost from_gives = { λ e fault. fault ≡ of_encode e };
 

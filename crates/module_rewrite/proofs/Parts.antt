@@ -16,7 +16,7 @@ use Rattle.wa_types.specs.Validity.{Valid}
 use Rattle.wa_types.specs.View.{func_of, module_of}
 use Rattle.wa_types.specs.declared.syntax.Module.{Module as ModuleValue}
 use Rattle.wa_model.specs.Rewrites.{Rewrites}
-use Rattle.module_rewrite.specs.FlattenWhole.{NonePasses}
+use Rattle.flatten.specs.Whole.{NonePasses}
 use Rattle.live_laws.proofs.BytesByPolicy.{short_as}
 use Rattle.live_laws.specs.EmittedAs.{AreEmitted, EmittedAs, IsEmittedWhere, IsWrittenUnder}
 use Rattle.live_laws.proofs.PolicyCases.{functions_law}
@@ -27,10 +27,10 @@ use Rattle.wasm_encode.specs.declared.EncodeFault.{EncodeFault}
 use Rattle.wasm_encode.specs.declared.EncodeFault.TheVariants.{Memory, TooLong}
 use Rattle.rewrite_form.proofs.GrownFits.{grown_locals}
 use Rattle.module_rewrite.proofs.WholeLemmas.{few_written}
-use Rattle.module_bytes.specs.Emitting.{value_entries}
-use Rattle.module_bytes.specs.Faults.{of_encode}
-use Rattle.module_bytes.specs.Whole.{CanBeWritten, EmitsModule}
-use Rattle.module_bytes.proofs.EntryLemmas.{entries_short}
+use Rattle.module_rewrite.specs.EmittingEntries.{value_entries}
+use Rattle.module_rewrite.specs.ByteFaults.{of_encode}
+use Rattle.module_rewrite.specs.WholeBytes.{CanBeWritten, EmitsModule}
+use Rattle.module_rewrite.proofs.EntryLemmas.{entries_short}
 
 -- ---- a list of functions, as they are seen
 

@@ -5,13 +5,13 @@ use Rattle.wa_types.specs.Modules.{func_imports}
 use Rattle.wa_types.specs.Pausing.{Settings, TellsMayPause}
 use Rattle.wa_types.specs.Syntax.{Module}
 use Rattle.wa_model.specs.Rewrites.{Rewrites}
-use Rattle.module_rewrite.specs.FlattenWhole.{NonePasses}
+use Rattle.flatten.specs.Whole.{NonePasses}
 use Rattle.live_laws.specs.EmittedAs.{EmittedAs}
 use Rattle.live_laws.specs.PolicyLaws.{EachReadsFew}
 use Rattle.module_rewrite.specs.Whole.{FirstTooMany}
-use Rattle.module_bytes.specs.declared.fault.EmitFault.{EmitFault}
-use Rattle.module_bytes.specs.declared.fault.EmitFault.TheVariants.{Memory, Locals, TooLong}
-use Rattle.module_bytes.specs.declared.whole.Emitted.{Emitted}
+use Rattle.module_rewrite.specs.declared.byte_fault.EmitFault.{EmitFault}
+use Rattle.module_rewrite.specs.declared.byte_fault.EmitFault.TheVariants.{Memory, Locals, TooLong}
+use Rattle.module_rewrite.specs.declared.bytes_whole.Emitted.{Emitted}
 
 -- These are the functions that may pause, none of which has too many locals when it is written.
 pub record CanBeWritten (m : Module) (s : Settings) (which : List Bool) : Type 0 where

@@ -18,12 +18,12 @@ use Rattle.wa_types.specs.declared.syntax.Module.{Module as ModuleValue}
 use Rattle.wa_types.specs.Validity.{Valid}
 use Rattle.run_theory.specs.Flat.{FlatFunc}
 use Rattle.flat_laws.specs.Flatten.{flattened}
-use Rattle.module_rewrite.specs.FlattenWhole.{FlatAnswer}
-use Rattle.module_rewrite.specs.Flattened.{Flattened}
-use Rattle.module_rewrite.specs.FlatFault.{FlatFault}
-use Rattle.module_rewrite.specs.FlatFault.TheVariants as F
-use Rattle.module_rewrite.proofs.ToldLemmas.{Sofar, sofar_first, sofar_done, go_skip, go_put, go_stop}
-use Rattle.module_rewrite.specs.Frames.{IsFlattened}
+use Rattle.flatten.specs.Whole.{FlatAnswer}
+use Rattle.flatten.specs.declared.whole.Flattened.{Flattened}
+use Rattle.flatten.specs.declared.fault.FlatFault.{FlatFault}
+use Rattle.flatten.specs.declared.fault.FlatFault.TheVariants as F
+use Rattle.flatten.proofs.ToldLemmas.{Sofar, sofar_first, sofar_done, go_skip, go_put, go_stop}
+use Rattle.func_rewrite.specs.Frames.{IsFlattened}
 use Rattle.wasm_encode.specs.Locals.{local_count}
 use Rattle.wasm_validate.proofs.FuncLemmas.{func_at}
 use Rattle.wasm_encode.specs.Around.{code_entry}
@@ -34,8 +34,8 @@ use Rattle.rewrite_form.proofs.Lengths.{entries_within}
 use Rattle.live_laws.specs.PolicyBytes.{IsShortEntry}
 use Rattle.live_laws.proofs.BytesByPolicy.{written_short}
 use Rattle.live_laws.specs.EmittedAs.{AreEmitted, IsEmitted, IsEmittedWhere, IsWritten}
-use Rattle.module_bytes.specs.Emitting.{AllEmitted, Emits, PutsWritten}
-use Rattle.module_bytes.specs.Faults.{of_flat}
+use Rattle.module_rewrite.specs.EmittingEntries.{AllEmitted, Emits, PutsWritten}
+use Rattle.module_rewrite.specs.ByteFaults.{of_flat}
 
 -- ---- entries are no longer than all the bytes
 

@@ -1,10 +1,10 @@
 -- Faults of flattening and of writing, as those of emitting.
-use Rattle.module_rewrite.specs.FlatFault.{FlatFault}
-use Rattle.module_rewrite.specs.FlatFault.TheVariants as F
+use Rattle.flatten.specs.declared.fault.FlatFault.{FlatFault}
+use Rattle.flatten.specs.declared.fault.FlatFault.TheVariants as F
 use Rattle.wasm_encode.specs.declared.EncodeFault.{EncodeFault}
 use Rattle.wasm_encode.specs.declared.EncodeFault.TheVariants as E
-use Rattle.module_bytes.specs.declared.fault.EmitFault.{EmitFault}
-use Rattle.module_bytes.specs.declared.fault.EmitFault.TheVariants.{Memory, Locals, TooLong}
+use Rattle.module_rewrite.specs.declared.byte_fault.EmitFault.{EmitFault}
+use Rattle.module_rewrite.specs.declared.byte_fault.EmitFault.TheVariants.{Memory, Locals, TooLong}
 
 -- a fault of flattening
 abbrev pub of_flat : FlatFault → EmitFault

@@ -4,7 +4,7 @@ use Rattle.wa_types.specs.View.{func_of}
 use Rattle.wasm_encode.specs.Locals.{local_count}
 use Rattle.wasm_encode.proofs.Vectors.{entry_length, put_step, put_none}
 use Rattle.wasm_encode.specs.Around.{code_entry}
-use Rattle.module_bytes.proofs.emitting.put_funcs.Goals as goal
+use Rattle.module_rewrite.proofs.entries.put_funcs.Goals as goal
 
 pub loop-index-init : goal.loop-index-init
 loop-index-init c = record { put = refl; left = omega arith }

@@ -1,6 +1,6 @@
 use Rattle.std.proofs.lemmas.Result.{on_ok_weaker}
 use Rattle.wa_types.specs.View.{func_of}
-use Rattle.module_bytes.proofs.emitting.put_written.Goals as goal
+use Rattle.module_rewrite.proofs.entries.put_written.Goals as goal
 
 pub put_func-requires-clause-locals : goal.put_func-requires-clause-locals
 put_func-requires-clause-locals c = (c.requires.short (func_of c.in_ok-written.written) c.in_ok-written.ensures).locals
