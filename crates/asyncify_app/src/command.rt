@@ -11,7 +11,7 @@ ghost use Rattle.script_model.specs.Transcript.{read_fault, refusal_line, usage,
 ghost use Rattle.printing.specs.Refused.{Prints, PrintsMemory};
 ghost use Rattle.script_command.specs.TransformEnds.{IsRefusal};
 ghost use Rattle.script_command.specs.Transforms.{HasCause, HoldsSource, IsCutShort, IsTransformed, PrintsRefusal, PrintsDone, PrintsLess, RunsOutOfMemory};
-ghost use Rattle.host_turns.specs.Supplies.{IsLent};
+ghost use Rattle.host_laws.specs.Supplies.{IsLent};
 ghost use Rattle.asyncify_app.specs.Devices.{counted_boxes};
 ghost use Rattle.asyncify_app.specs.Ends.{HasOneEnd, OffScript, OnScript, rewriting};
 

@@ -10,7 +10,7 @@ use Rattle.wa_model.specs.Plan.{Outcome, given, refused}
 use Rattle.wa_model.specs.Blocking.{Note}
 use Rattle.wa_model.specs.World.{Asked, Device, Program, base_names, import_names, is_named, name_at, MeetsLine, MeetsBound, Meets}
 use Rattle.event_order.specs.Left.{Counted}
-use Rattle.host_turns.specs.Supplies.{Answers, Counts, bound_to}
+use Rattle.host_laws.specs.Supplies.{Answers, Counts, bound_to}
 use Rattle.turn_taking.specs.Calls.{devices_of, faults_of}
 use Rattle.turn_taking.specs.Telling.{supply}
 use Rattle.world_replays.specs.Replays.{is_device_fault, is_fault}

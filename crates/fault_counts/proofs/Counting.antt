@@ -1,6 +1,5 @@
 -- Line by line: the devices that the lines' calls left beside those of the world's run.
-use Rattle.std.proofs.Common.{arith, ◌≡◌, ◌≤◌, ◌<◌, ◌+◌, ◌⊎◌, inl, inr, ℕ, zero, suc, List, [], ◌∷◌, ◌++◌, length, map, Option, Some, None, Bool}
-use Rattle.std.proofs.Common.{true, false, refl, sym, ap, ◌∙◌, subst, append-nil, length-append}
+use Rattle.std.proofs.Common.{arith, ◌≡◌, ◌≤◌, ◌<◌, ◌+◌, ◌⊎◌, inl, inr, ℕ, zero, suc, List, [], ◌∷◌, ◌++◌, length, map, Option, Some, None, Bool, true, false, refl, sym, ap, ◌∙◌, subst, append-nil, length-append}
 use Rattle.std.specs.Prelude.{if◌then◌else◌, nat_eq, slice_get, slice_set}
 use Rattle.std.specs.List.{AllZip}
 use Rattle.std.proofs.lemmas.Bool.{ne_eqb}
@@ -9,15 +8,14 @@ use Rattle.wa_model.specs.Outside.{Call, AnswerLine, Event, called, answered, pa
 use Rattle.wa_model.specs.Store.{Store}
 use Rattle.wa_model.specs.Plan.{Outcome}
 use Rattle.wa_model.specs.Blocking.{Note}
-use Rattle.wa_model.specs.World.{Actor, CallsMeet, Meets, Device, Events, Look, Program, StartsHeld, an_event, behind_turn, bytes_shown, call_in}
-use Rattle.wa_model.specs.World.{detached, ends_turn, events_with_looks, is_end, line_at, look_events, no_event, protocol_story, put_off, turn_of}
+use Rattle.wa_model.specs.World.{Actor, CallsMeet, Meets, Device, Events, Look, Program, StartsHeld, an_event, behind_turn, bytes_shown, call_in, detached, ends_turn, events_with_looks, is_end, line_at, look_events, no_event, protocol_story, put_off, turn_of}
 use Rattle.world_laws.specs.Originals.{new_calls}
 use Rattle.world_laws.proofs.Counting.{Ends}
 use Rattle.world_laws.proofs.Meeting.{EachMet, Met, events_met}
 use Rattle.world_runs.proofs.StoryParts.{story_ends}
 use Rattle.world_replays.proofs.Faults.{Fine, Inner, OpensIf, story_told}
 use Rattle.event_order.specs.Left.{Counted, left_before}
-use Rattle.host_turns.specs.Supplies.{Supply, Takes}
+use Rattle.host_laws.specs.Supplies.{Supply, Takes}
 use Rattle.turn_taking.specs.Calls.{IsShown, TakesCall, devices_of, faults_of, left_at}
 use Rattle.turn_taking.specs.Telling.{supply}
 use Rattle.world_hosting.specs.Counts.{IsBegunBy, Took, turns_at}

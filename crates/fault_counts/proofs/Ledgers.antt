@@ -1,6 +1,5 @@
 -- Devices as the lines' calls left them, as a world's run has them, and with the faults that are told, side by side.
-use Rattle.std.proofs.Common.{arith, ◌≡◌, ◌≤◌, ◌+◌, ◌-◌, ◌^◌, ◌⊎◌, inl, inr, ℕ, zero, suc, List, [], ◌∷◌, ◌++◌, length, Option, Some, Bool}
-use Rattle.std.proofs.Common.{true, false, refl, sym, ap, ◌∙◌, subst, length-append}
+use Rattle.std.proofs.Common.{arith, ◌≡◌, ◌≤◌, ◌+◌, ◌-◌, ◌^◌, ◌⊎◌, inl, inr, ℕ, zero, suc, List, [], ◌∷◌, ◌++◌, length, Option, Some, Bool, true, false, refl, sym, ap, ◌∙◌, subst, length-append}
 use Rattle.std.specs.Prelude.{MatchBool, if◌then◌else◌, nat_eq, take, slice_get, slice_set, ◌||◌}
 use Rattle.std.specs.List.{list_any, AllZip}
 use Rattle.wa_types.specs.Validity.{same_name}
@@ -11,7 +10,7 @@ use Rattle.wa_model.specs.World.{Asked, Device, is_named, taken_out, detached_if
 use Rattle.vault_port.specs.Counts.{HasRisen}
 use Rattle.device_port.specs.Listed.{ChangesAt, IsFirstOf}
 use Rattle.event_order.specs.Left.{Counted, without, without_if, left_before}
-use Rattle.host_turns.specs.Supplies.{Counts, none_asked, one_asked}
+use Rattle.host_laws.specs.Supplies.{Counts, none_asked, one_asked}
 use Rattle.turn_taking.specs.Calls.{devices_of, faults_of}
 use Rattle.fault_counts.specs.FaultCounts.{CountsTo, one_more}
 

@@ -7,7 +7,7 @@ use Rattle.wa_model.specs.declared.events.End.TheVariants.{DeviceFault}
 use Rattle.wa_model.specs.Outside.{Event, ended, shown, Line}
 use Rattle.wa_model.specs.World.{Program, is_named}
 use Rattle.event_order.specs.Left.{Counted}
-use Rattle.host_turns.specs.Supplies.{bound_to}
+use Rattle.host_laws.specs.Supplies.{bound_to}
 use Rattle.turn_taking.specs.Calls.{left_at}
 use Rattle.world_hosting.specs.Counts.{turns_at}
 use Rattle.world_hosting.specs.Worlds.{AreTold, Part, world_programs}

@@ -22,11 +22,11 @@ use Rattle.wa_model.specs.View.{answer_line_of, event_of}
 use Rattle.wa_model.specs.declared.events.Event.{Event as EventValue}
 use Rattle.wa_model.specs.World as W
 use Rattle.wa_model.specs.World.{Look}
-use Rattle.host_answers.specs.Answering.{IsShort}
+use Rattle.host_laws.specs.Answering.{IsShort}
 use Rattle.host_stages.specs.Moves.{HasShortPokes}
 use Rattle.host_setup.specs.Views.{entry_of}
 use Rattle.host_setup.specs.SetUp.{Fault, NamedEntry, all_told, entry_funcs, first_fault, func_in, set_up, unless_fault}
-use Rattle.host_turns.specs.Stories.{IsStory}
+use Rattle.host_laws.specs.Stories.{IsStory}
 use Rattle.gen_module.specs.Generated.{generated, sleep}
 use Rattle.pause_host.specs.declared.plan.Plan.{Plan}
 use Rattle.pause_host.specs.declared.program.Program.{Program}

@@ -9,7 +9,7 @@ use Rattle.wa_model.specs.Outside.{Call, called, answered, paused, returned, end
 use Rattle.wa_model.specs.Blocking.{Note, events_of}
 use Rattle.wa_model.specs.Rewrites.{Rewrites}
 use Rattle.wa_model.specs.World as W
-use Rattle.host_turns.specs.Stories.{IsStory}
+use Rattle.host_laws.specs.Stories.{IsStory}
 use Rattle.gen_module.specs.Generated.{generated}
 
 -- each import is listed, no call through the table is ignored, and frames save all locals

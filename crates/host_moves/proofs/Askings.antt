@@ -19,10 +19,10 @@ use Rattle.wa_model.specs.World.{Program}
 use Rattle.host_pauses.proofs.StandingPauses.{fault_outside}
 use Rattle.interp.specs.Instance as I
 use Rattle.interp.specs.Instance.{Waits}
-use Rattle.host_turns.specs.Supplies.{Supply, Answers}
-use Rattle.host_turns.specs.Stretch.{meeting}
-use Rattle.host_turns.specs.Places.{stands, nowhere, goes_on}
-use Rattle.host_turns.proofs.Stretches.{on_last}
+use Rattle.host_laws.specs.Supplies.{Supply, Answers}
+use Rattle.host_laws.specs.Stretch.{meeting}
+use Rattle.host_laws.specs.Places.{stands, nowhere, goes_on}
+use Rattle.host_laws.proofs.Stretches.{on_last}
 use Rattle.host_stages.specs.declared.stages.Moved.{Moved}
 use Rattle.host_stages.specs.declared.stages.Stage.TheVariants as S
 use Rattle.host_stages.specs.declared.stages.Task.{Task}

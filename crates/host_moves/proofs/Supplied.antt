@@ -12,8 +12,8 @@ use Rattle.wa_model.specs.declared.events.End.TheVariants.{DeviceFault, NoAnswer
 use Rattle.wa_model.specs.Outside.{Answer, AnswerLine, Call}
 use Rattle.wa_model.specs.Plan.{Outcome, given, refused, ValueFits}
 use Rattle.wa_model.specs.World.{Program, Device, Reply, base_names, import_names, name_at, is_named, journaled, MeetsLine, MeetsDevice, MeetsBound}
-use Rattle.host_answers.specs.Answering.{IsShort}
-use Rattle.host_turns.specs.Supplies.{Supply, Counts, none_asked, bound_to, Answers}
+use Rattle.host_laws.specs.Answering.{IsShort}
+use Rattle.host_laws.specs.Supplies.{Supply, Counts, none_asked, bound_to, Answers}
 use Rattle.host_stages.specs.declared.stages.HostImport.{HostImport}
 use Rattle.host_stages.specs.declared.stages.Setting.{Setting}
 use Rattle.host_stages.specs.Moves.{IsSetting, HasShortPokes}

@@ -1,1 +1,1 @@
-pub use Rattle.host_answers.specs.Answering
+pub use Rattle.host_laws.specs.Answering

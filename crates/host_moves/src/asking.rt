@@ -4,13 +4,13 @@ ghost use Rattle.std.specs.Prelude.{◌≡◌, IfOk, None, Some, slice_get};
 ghost use Rattle.std.specs.Option.{option_map, unwrap_or};
 ghost use Rattle.wa_model.specs.View.{call_of};
 ghost use Rattle.wa_model.specs.World.{Program};
-ghost use Rattle.host_answers.specs.Answering.{outcome_of};
-ghost use Rattle.host_turns.specs.Supplies.{Answers};
+ghost use Rattle.host_laws.specs.Answering.{outcome_of};
+ghost use Rattle.host_laws.specs.Supplies.{Answers};
 ghost use Rattle.host_stages.specs.Moves.{IsSetting};
 ghost use Rattle.host_stages.specs.Views.{supply_in};
 
 use device_port::Devices;
-use host_answers::{Met, device_outcome, next_answer};
+use host_laws::{Met, device_outcome, next_answer};
 use host_stages::{HostImport, Setting};
 use std::alloc::AllocError;
 use std::collections::VecDeque;

@@ -11,14 +11,14 @@ ghost use Rattle.wa_model.specs.World.{Program};
 ghost use Rattle.host_pauses.specs.FittingStates.{HeldFits};
 ghost use Rattle.interp.specs.Host.{code_in, store_in, waits_in};
 ghost use Rattle.interp.specs.Instance.{Calls};
-ghost use Rattle.host_answers.specs.Answering.{IsShort, listed_of};
-ghost use Rattle.host_turns.specs.Supplies.{Supply};
+ghost use Rattle.host_laws.specs.Answering.{IsShort, listed_of};
+ghost use Rattle.host_laws.specs.Supplies.{Supply};
 ghost use Rattle.host_stages.specs.Moves.{Asks, Comes, ComesFrom, HasShortPokes, IsAsking, IsSetting, IsTask, PlaceFits, TaskTurn};
 ghost use Rattle.host_stages.specs.Views.{entry_of, free_place, left_of, lines_in, place_in, stage_after, stage_told, starts, supply_in};
 
 use crate::asking::next_outcome;
 use device_port::Devices;
-use host_answers::{Met, answer_fault};
+use host_laws::{Met, answer_fault};
 use host_stages::{
     EntryCall, HostImport, Left, Moved, Pause, Setting, Stage, Task, ended, write_pokes,
 };

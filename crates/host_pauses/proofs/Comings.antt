@@ -15,10 +15,10 @@ use Rattle.wa_model.specs.World.{Program}
 use Rattle.interp.specs.Instance.{Waits}
 use Rattle.run_laws.specs.FittingStates.{HeldFits, ExportsTyped}
 use Rattle.run_laws.proofs.ProtocolStopping.{protocol_states_stay}
-use Rattle.host_turns.specs.Supplies.{Supply}
-use Rattle.host_turns.specs.Stretch.{meeting, Stretch, IsSpent}
-use Rattle.host_turns.specs.Places.{Place, stands, has_ended, Lands, goes_on, ends, spends}
-use Rattle.host_turns.proofs.Stretches.{compose}
+use Rattle.host_laws.specs.Supplies.{Supply}
+use Rattle.host_laws.specs.Stretch.{meeting, Stretch, IsSpent}
+use Rattle.host_laws.specs.Places.{Place, stands, has_ended, Lands, goes_on, ends, spends}
+use Rattle.host_laws.proofs.Stretches.{compose}
 use Rattle.host_stages.specs.declared.stages.Moved.{Moved}
 use Rattle.host_stages.specs.declared.stages.Stage.TheVariants as S
 use Rattle.host_stages.specs.Views.{place_in}

@@ -19,10 +19,10 @@ use Rattle.wa_model.specs.World.{Program}
 use Rattle.interp.specs.declared.turns.Turn.TheVariants as U
 use Rattle.interp.specs.Instance as I
 use Rattle.interp.specs.Instance.{Waits}
-use Rattle.host_turns.specs.Supplies.{Supply}
-use Rattle.host_turns.specs.Stretch.{Stretch}
-use Rattle.host_turns.specs.Places.{stands, ends}
-use Rattle.host_turns.proofs.Stretches.{nowhere_on}
+use Rattle.host_laws.specs.Supplies.{Supply}
+use Rattle.host_laws.specs.Stretch.{Stretch}
+use Rattle.host_laws.specs.Places.{stands, ends}
+use Rattle.host_laws.proofs.Stretches.{nowhere_on}
 use Rattle.host_stages.specs.declared.stages.EntryCall.{EntryCall}
 use Rattle.host_stages.specs.declared.exports.Exported.{Exported}
 use Rattle.host_stages.specs.declared.exports.Work.{Work}

@@ -18,9 +18,9 @@ use Rattle.run_laws.specs.FittingStates.{HeldFits}
 use Rattle.interp.specs.declared.turns.Turn.{Turn}
 use Rattle.interp.specs.Instance as I
 use Rattle.interp.specs.Instance.{Waits, Awaits, Resumes, Turns}
-use Rattle.host_turns.specs.Supplies.{Supply}
-use Rattle.host_turns.specs.Places.{Place, stands, nowhere, goes_on}
-use Rattle.host_turns.proofs.Stretches.{nowhere_on}
+use Rattle.host_laws.specs.Supplies.{Supply}
+use Rattle.host_laws.specs.Places.{Place, stands, nowhere, goes_on}
+use Rattle.host_laws.proofs.Stretches.{nowhere_on}
 use Rattle.host_stages.specs.declared.stages.Moved.{Moved}
 use Rattle.host_stages.specs.declared.stages.Pause.{Pause}
 use Rattle.host_stages.specs.declared.stages.Task as TV

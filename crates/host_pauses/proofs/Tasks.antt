@@ -26,10 +26,10 @@ use Rattle.interp.specs.declared.turns.Turn.{Turn}
 use Rattle.interp.specs.declared.turns.Turn.TheVariants.{Returned, Trapped, Waiting, StepsSpent}
 use Rattle.interp.specs.Instance as I
 use Rattle.interp.specs.Instance.{Waits, Turns, Calls, CallsAs}
-use Rattle.host_turns.specs.Supplies.{Supply}
-use Rattle.host_turns.specs.Stretch.{meeting, Stretch}
-use Rattle.host_turns.specs.Places.{stands, goes_on, ends}
-use Rattle.host_turns.proofs.Stretches.{compose, on_last, nowhere_on}
+use Rattle.host_laws.specs.Supplies.{Supply}
+use Rattle.host_laws.specs.Stretch.{meeting, Stretch}
+use Rattle.host_laws.specs.Places.{stands, goes_on, ends}
+use Rattle.host_laws.proofs.Stretches.{compose, on_last, nowhere_on}
 use Rattle.host_stages.specs.declared.stages.Moved.{Moved}
 use Rattle.host_stages.specs.declared.stages.Stage.TheVariants as S
 use Rattle.host_stages.specs.Views.{place_in, free_place}

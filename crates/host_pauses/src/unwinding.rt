@@ -13,7 +13,7 @@ ghost use Rattle.wa_model.specs.World.{Program};
 ghost use Rattle.run_laws.specs.FittingStates.{HeldFits};
 ghost use Rattle.interp.specs.Host.{code_in, store_in, waits_in};
 ghost use Rattle.interp.specs.Instance.{inside};
-ghost use Rattle.host_turns.specs.Supplies.{Supply};
+ghost use Rattle.host_laws.specs.Supplies.{Supply};
 ghost use Rattle.host_stages.specs.Moves.{Comes, ComesFrom, IsSetting, PlaceFits};
 ghost use Rattle.host_stages.specs.Views.{entry_of, pausing, unwinding};
 

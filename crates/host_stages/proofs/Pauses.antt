@@ -20,16 +20,15 @@ use Rattle.wa_model.specs.Configuration.{Activation, Configuration}
 use Rattle.wa_model.specs.Step.{asks, returns, entered}
 use Rattle.wa_model.specs.Plan.{Entry, Outcome}
 use Rattle.wa_model.specs.Blocking.{note, Left, with_outcomes, resumed, poked, an_entry}
-use Rattle.wa_model.specs.Protocol.{Exports, exports_of, Phase, is_running, give_zero, test_unwound, pause_there, call_again, test_rewound, give_answer, Held, busy, calling, entering, over}
-use Rattle.wa_model.specs.Protocol.{trap_end, is_state, zeros_of, used_of, answer_note, busy_step, busy_enters}
+use Rattle.wa_model.specs.Protocol.{Exports, exports_of, Phase, is_running, give_zero, test_unwound, pause_there, call_again, test_rewound, give_answer, Held, busy, calling, entering, over, trap_end, is_state, zeros_of, used_of, answer_note, busy_step, busy_enters}
 use Rattle.wa_model.specs.World.{Program}
 use Rattle.interp.specs.declared.turns.Turn.{Turn}
 use Rattle.interp.specs.declared.turns.Turn.TheVariants.{Returned, Trapped, Waiting, StepsSpent}
 use Rattle.interp.specs.Instance.{Waits, inside, Turns, Calls, CallsAs}
-use Rattle.host_answers.specs.Supplies.{Supply}
-use Rattle.host_answers.specs.Stretch.{Stretch, IsSpent}
-use Rattle.host_answers.specs.Places.{goes_on}
-use Rattle.host_answers.proofs.Stretches.{compose}
+use Rattle.host_laws.specs.Supplies.{Supply}
+use Rattle.host_laws.specs.Stretch.{Stretch, IsSpent}
+use Rattle.host_laws.specs.Places.{goes_on}
+use Rattle.host_laws.proofs.Stretches.{compose}
 use Rattle.host_stages.specs.declared.stages.Moved.{Moved}
 use Rattle.host_stages.specs.declared.stages.Pause.{Pause}
 use Rattle.host_stages.specs.declared.stages.Stage.TheVariants as S

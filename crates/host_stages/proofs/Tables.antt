@@ -18,7 +18,7 @@ use Rattle.wa_types.specs.Validity.{same_name}
 use Rattle.wa_model.specs.declared.events.End.TheVariants.{NoAnswer, OtherImport}
 use Rattle.wa_model.specs.Plan.{given, refused}
 use Rattle.interp.specs.Host.{memory_of}
-use Rattle.host_answers.specs.Answering.{IsShort}
+use Rattle.host_laws.specs.Answering.{IsShort}
 use Rattle.wa_types.specs.declared.values.ValType.{ValType}
 use Rattle.wa_model.specs.Step.{zero_of}
 use Rattle.wa_model.specs.Protocol.{zeros_of}

@@ -2,9 +2,8 @@
 use Rattle.std.specs.Prelude.{◌≡◌, ◌≤◌, ℕ, suc, ◌+◌, ◌-◌, List, [], ◌∷◌, length, map, Some, None, true, All, nat_lt, slice_get}
 use Rattle.std.specs.Option.{option_map, option_to_list, unwrap_or}
 use Rattle.wa_types.specs.declared.values.Value.{Value}
-use Rattle.wa_types.specs.Syntax.{Func}
+use Rattle.wa_types.specs.Syntax.{Func, Module}
 use Rattle.wa_types.specs.Modules.{all_memories, defined_at, func_imports, func_type_at}
-use Rattle.wa_types.specs.Syntax.{Module}
 use Rattle.wa_types.specs.Validity.{Valid}
 use Rattle.wa_model.specs.declared.events.End.{End}
 use Rattle.wa_model.specs.declared.events.End.TheVariants as E
@@ -26,10 +25,10 @@ use Rattle.interp.specs.declared.turns.Turn.{Turn}
 use Rattle.interp.specs.declared.turns.Turn.TheVariants.{StepsSpent}
 use Rattle.interp.specs.Instance as I
 use Rattle.interp.specs.Instance.{Waits}
-use Rattle.host_answers.specs.Answering.{IsShort}
-use Rattle.host_answers.specs.Stretch.{meeting, Stretch, IsSpent}
-use Rattle.host_answers.specs.Supplies.{Supply, bound_to}
-use Rattle.host_answers.specs.Places.{Place, stands, has_ended, nowhere, TellsFrom}
+use Rattle.host_laws.specs.Answering.{IsShort}
+use Rattle.host_laws.specs.Stretch.{meeting, Stretch, IsSpent}
+use Rattle.host_laws.specs.Supplies.{Supply, bound_to}
+use Rattle.host_laws.specs.Places.{Place, stands, has_ended, nowhere, TellsFrom}
 use Rattle.host_stages.specs.declared.exports.Exported.{Exported}
 use Rattle.host_stages.specs.declared.exports.Exported.TheVariants as X
 use Rattle.host_stages.specs.declared.exports.Work.{Work}

@@ -17,12 +17,12 @@ use Rattle.wa_model.specs.Blocking.{note, poked, resumed, the_start, an_entry, A
 use Rattle.wa_model.specs.Protocol as P
 use Rattle.wa_model.specs.Protocol.{Phase, is_running, unwinds, rewinds, give_zero, call_again, busy, calling, over, held_on, with_words}
 use Rattle.wa_model.specs.World.{Device}
-use Rattle.host_answers.specs.Devices.{Devices}
-use Rattle.host_answers.specs.Listed.{of_all}
+use Rattle.device_port.specs.declared.devices.Devices.{Devices}
+use Rattle.device_port.specs.Listed.{of_all}
 use Rattle.interp.specs.Instance as I
 use Rattle.interp.specs.Instance.{Waits}
-use Rattle.host_answers.specs.Supplies.{Supply}
-use Rattle.host_answers.specs.Places.{Place, stands, has_ended, nowhere}
+use Rattle.host_laws.specs.Supplies.{Supply}
+use Rattle.host_laws.specs.Places.{Place, stands, has_ended, nowhere}
 use Rattle.host_stages.specs.declared.stages.Exports.{Exports}
 use Rattle.host_stages.specs.declared.stages.EntryCall.{EntryCall}
 use Rattle.host_stages.specs.declared.stages.Left.{Left}

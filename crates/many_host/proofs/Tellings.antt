@@ -12,10 +12,10 @@ use Rattle.wa_model.specs.View.{event_of}
 use Rattle.wa_model.specs.Blocking.{Note}
 use Rattle.wa_model.specs.World.{Device, call_in, is_end, protocol_story}
 use Rattle.wa_model.specs.World as W
-use Rattle.host_turns.specs.Places.{Place, stands, has_ended as at_end, nowhere}
-use Rattle.host_turns.specs.Stories.{IsAt}
-use Rattle.host_turns.specs.Supplies.{Takes}
-use Rattle.host_turns.proofs.Tellings.{place_begins, place_whole}
+use Rattle.host_laws.specs.Places.{Place, stands, has_ended as at_end, nowhere}
+use Rattle.host_laws.specs.Stories.{IsAt}
+use Rattle.host_laws.specs.Supplies.{Takes}
+use Rattle.host_laws.proofs.Tellings.{place_begins, place_whole}
 use Rattle.event_order.specs.declared.shows.Show.{Show}
 use Rattle.turn_taking.specs.Turns.{Teller, ends_program, starting}
 use Rattle.turn_taking.specs.Notes.{OnStory}

@@ -4,7 +4,7 @@ ghost use Rattle.std.specs.Prelude.{◌≡◌, ◌≤◌, List, [], IfOk, MatchO
 ghost use Rattle.wa_model.specs.Outside.{Line as WorldLine};
 ghost use Rattle.wa_model.specs.World.{Device, Program as WorldProgram};
 ghost use Rattle.device_port.specs.Listed.{of_all};
-ghost use Rattle.host_turns.specs.Supplies.{IsLent};
+ghost use Rattle.host_laws.specs.Supplies.{IsLent};
 ghost use Rattle.event_order.specs.Dues.{HaveEnded};
 ghost use Rattle.turn_taking.specs.Calls.{BegunNext, TakesNext, left_at};
 ghost use Rattle.turn_taking.specs.Standing.{InRange, LooksOut};

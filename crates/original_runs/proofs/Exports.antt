@@ -11,7 +11,7 @@ use Rattle.wa_types.specs.declared.syntax.Space.TheVariants as Sp
 use Rattle.wa_types.specs.Runtime.{runtime_exports}
 use Rattle.wa_types.specs.Validity.{same_name, same_space}
 use Rattle.run_theory.specs.Growth.{Each}
-use Rattle.host_answers.proofs.MetLines.{same_bytes}
+use Rattle.host_laws.proofs.MetLines.{same_bytes}
 use Rattle.host_setup.specs.SetUp.{Needed, needed, is_five, is_func, func_in}
 
 abbrev pub named : List ℕ → Export → Bool

@@ -28,11 +28,11 @@ use Rattle.wa_model.specs.World as W
 use Rattle.wa_model.specs.World.{CallsMeet, MeetsBound, MeetsLine, name_at, import_names, call_in, is_end, protocol_story}
 use Rattle.wa_model.specs.Behaves.{IsPrefix}
 use Rattle.run_laws.specs.FittingStates.{HeldFits, ExportsTyped}
-use Rattle.host_turns.specs.Places.{Place, stands, has_ended, nowhere, Lands, goes_on, ends, spends}
-use Rattle.host_turns.specs.Stories.{IsAt, BeginsStory, IsStory}
-use Rattle.host_turns.specs.Supplies.{Supply, bound_to, Takes}
-use Rattle.host_turns.proofs.Stretches.{nowhere_on}
-use Rattle.host_turns.proofs.Tellings.{one_more_told, one_more_met, place_begins, place_whole, still_none}
+use Rattle.host_laws.specs.Places.{Place, stands, has_ended, nowhere, Lands, goes_on, ends, spends}
+use Rattle.host_laws.specs.Stories.{IsAt, BeginsStory, IsStory}
+use Rattle.host_laws.specs.Supplies.{Supply, bound_to, Takes}
+use Rattle.host_laws.proofs.Stretches.{nowhere_on}
+use Rattle.host_laws.proofs.Tellings.{one_more_told, one_more_met, place_begins, place_whole, still_none}
 use Rattle.host_stages.specs.Moves.{Moves, IsSetting, PlaceFits, HasShortPokes}
 use Rattle.host_stages.specs.declared.stages.Stage.{Stage}
 use Rattle.host_stages.specs.declared.stages.Stage.TheVariants as S

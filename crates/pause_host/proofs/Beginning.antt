@@ -30,9 +30,9 @@ use Rattle.run_laws.specs.FittingStates.{HeldFits}
 use Rattle.run_laws.proofs.ProtocolStopping.{begun_fits}
 use Rattle.run_laws.proofs.Stopping.{start_there}
 use Rattle.host_setup.specs.SetUp.{is_area_in, set_up}
-use Rattle.host_turns.specs.Places.{Place, stands}
-use Rattle.host_turns.specs.Stories.{opened, IsAt}
-use Rattle.host_turns.proofs.Tellings.{nothing_told_yet}
+use Rattle.host_laws.specs.Places.{Place, stands}
+use Rattle.host_laws.specs.Stories.{opened, IsAt}
+use Rattle.host_laws.proofs.Tellings.{nothing_told_yet}
 use Rattle.host_stages.specs.declared.stages.HostImport.{HostImport}
 use Rattle.host_stages.specs.declared.stages.Setting.{Setting}
 use Rattle.host_stages.specs.Views.{entry_of, left_of, lines_in}

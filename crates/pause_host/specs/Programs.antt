@@ -24,9 +24,9 @@ use Rattle.host_setup.specs.declared.faults.SetupFault.{SetupFault}
 use Rattle.host_setup.specs.SetUp.{NamedEntry, set_up}
 use Rattle.host_setup.specs.Views as S
 use Rattle.host_setup.specs.Views.{Blames}
-use Rattle.host_turns.specs.Places.{Place, stands, has_ended, nowhere}
-use Rattle.host_turns.specs.Stories.{IsAt}
-use Rattle.host_turns.specs.Supplies.{Supply, Takes}
+use Rattle.host_laws.specs.Places.{Place, stands, has_ended, nowhere}
+use Rattle.host_laws.specs.Stories.{IsAt}
+use Rattle.host_laws.specs.Supplies.{Supply, Takes}
 use Rattle.host_stages.specs.Views.{exports_in, left_of, lines_in, place_in}
 use Rattle.host_stages.specs.Moves.{IsSetting, PlaceFits, HasShortPokes}
 use Rattle.plan_parts.specs.Settings.{calls_of}

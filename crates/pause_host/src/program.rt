@@ -54,8 +54,8 @@ impl<'m> Program<'m> {
     ghost use Rattle.interp_state.specs.Faults.{FailsAs};
     ghost use Rattle.interp.specs.Host.{code_in, store_in};
     ghost use Rattle.device_port.specs.Listed.{of_all};
-    ghost use Rattle.host_turns.specs.Places.{stands};
-    ghost use Rattle.host_turns.specs.Supplies.{IsLent};
+    ghost use Rattle.host_laws.specs.Places.{stands};
+    ghost use Rattle.host_laws.specs.Supplies.{IsLent};
     ghost use Rattle.host_stages.specs.Views.{end_of, left_of};
     ghost use Rattle.pause_host.specs.Programs.{Advances, AdvancesAlone, Follows, FollowsAlone, FollowsAt, IsPlan, RunsCode, SetsUp, ended_as, memory_in, place_of, supply_of, supply_with};
 

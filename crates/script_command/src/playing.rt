@@ -3,7 +3,7 @@
 ghost use Rattle.std.specs.Prelude.{◌≡◌, ◌≤◌, ℕ, List, Option, length};
 ghost use Rattle.vault_port.specs.Files.{Files};
 ghost use Rattle.event_order.specs.Left.{Counted};
-ghost use Rattle.host_turns.specs.Supplies.{IsLent};
+ghost use Rattle.host_laws.specs.Supplies.{IsLent};
 ghost use Rattle.script_verdicts.specs.Playing.{Play, detaches_in};
 ghost use Rattle.script_verdicts.specs.Views.{Blames, CanPlay, Opens};
 ghost use Rattle.script_verdicts.specs.Way.{Way as WayValue};

@@ -15,8 +15,8 @@ use Rattle.told_notes.proofs.Places.{set_here, set_there}
 use Rattle.told_notes.specs.Notes.{TellsOn}
 use Rattle.told_notes.proofs.Notes.{ends_none, off_none}
 use Rattle.told_notes.proofs.Further.{turn_goes_on, turn_ends}
-use Rattle.host_turns.specs.Supplies.{Takes}
-use Rattle.host_turns.proofs.Tellings.{one_more_met}
+use Rattle.host_laws.specs.Supplies.{Takes}
+use Rattle.host_laws.proofs.Tellings.{one_more_met}
 use Rattle.turn_taking.specs.declared.turns.Stage.{Stage}
 use Rattle.turn_taking.specs.declared.turns.Stage.TheVariants.{Telling}
 use Rattle.turn_taking.specs.Telling.{TellsNote, supply}

@@ -7,7 +7,7 @@ use Rattle.wa_model.specs.Plan.{Outcome}
 use Rattle.wa_model.specs.View.{line_of}
 use Rattle.wa_model.specs.World.{Device, Program, call_in}
 use Rattle.event_order.specs.Left.{Counted, left_before}
-use Rattle.host_turns.specs.Supplies.{Takes}
+use Rattle.host_laws.specs.Supplies.{Takes}
 use Rattle.turn_taking.specs.declared.turns.Stage.{Stage}
 use Rattle.turn_taking.specs.declared.turns.Stage.TheVariants.{Between, Telling, Showing}
 use Rattle.turn_taking.specs.Telling.{supply}

@@ -8,7 +8,7 @@ ghost use Rattle.wa_model.specs.Blocking.{Note};
 ghost use Rattle.wa_model.specs.View.{event_of};
 ghost use Rattle.wa_model.specs.World.{Program, bytes_shown};
 ghost use Rattle.device_port.specs.Listed.{of_all};
-ghost use Rattle.host_turns.specs.Supplies.{IsLent};
+ghost use Rattle.host_laws.specs.Supplies.{IsLent};
 ghost use Rattle.turn_taking.specs.Telling.{TellsNote, supply};
 
 use device_port::Devices;

@@ -1,12 +1,11 @@
 //! `Turns`: programs that share a list of devices, told line by line.
 
-ghost use Rattle.std.specs.Prelude.{◌≡◌, ◌≤◌, ◌<◌, List, ◌∷◌, [], ◌++◌, IfOk, length};
+ghost use Rattle.std.specs.Prelude.{◌≡◌, ◌≤◌, ◌<◌, List, ◌∷◌, [], ◌++◌, IfOk, length, map, MatchOption, Some};
 ghost use Rattle.wa_model.specs.Outside.{Line as WorldLine};
 ghost use Rattle.wa_model.specs.View.{line_of};
 ghost use Rattle.wa_model.specs.World.{Device, Program};
 ghost use Rattle.device_port.specs.Listed.{of_all};
-ghost use Rattle.host_turns.specs.Supplies.{IsLent};
-ghost use Rattle.std.specs.Prelude.{map, MatchOption, Some};
+ghost use Rattle.host_laws.specs.Supplies.{IsLent};
 ghost use Rattle.event_order.specs.Dues.{HaveEnded};
 ghost use Rattle.turn_taking.specs.Calls.{BegunNext, TakesCall, TakesNext, left_at};
 ghost use Rattle.turn_taking.specs.Standing.{AllStart, AllTold, InRange, LooksOut, Standing, TellsNext, held_of};

@@ -5,7 +5,7 @@ ghost use Rattle.std.specs.Result.{IfErr};
 ghost use Rattle.vault_port.specs.Counts.{HasRisen};
 ghost use Rattle.vault_port.specs.Told.{Becomes};
 ghost use Rattle.wa_model.specs.declared.answers.Detach.{Detach as DetachValue};
-ghost use Rattle.host_turns.specs.Supplies.{IsLent};
+ghost use Rattle.host_laws.specs.Supplies.{IsLent};
 ghost use Rattle.transcript.specs.Printing.{names_of};
 ghost use Rattle.many_host.specs.Calls.{devices_of};
 ghost use Rattle.many_host.specs.Standing.{InRange};

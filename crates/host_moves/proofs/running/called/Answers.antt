@@ -2,18 +2,16 @@ use Rattle.host_stages.specs.declared.stages.Moved.{Moved}
 use Rattle.std.proofs.Common.{length, refl, sym, ap, ◌∙◌, subst}
 use Rattle.wa_types.specs.Modules.{func_type_at}
 use Rattle.wa_model.specs.declared.events.Event.TheVariants as EV
-use Rattle.wa_model.specs.Blocking.{fault_of}
+use Rattle.wa_model.specs.Blocking.{fault_of, store_at}
 use Rattle.wa_model.specs.View.{answer_of, call_of}
 use Rattle.interp.specs.Host.{code_in, store_in, waits_in}
-use Rattle.host_stages.specs.Views.{supply_in, stage_after}
+use Rattle.host_stages.specs.Views.{supply_in, stage_after, starts}
 use Rattle.host_stages.specs.declared.stages.Stage.TheVariants as S
 use Rattle.host_stages.proofs.Tables.{found_at, size_told}
 use Rattle.host_moves.proofs.Supplied.{short_answer}
 use Rattle.host_moves.proofs.Askings.{asking_store, asking_start, told_refused, told_answer}
-use Rattle.host_turns.specs.Supplies.{Answers}
-use Rattle.wa_model.specs.Blocking.{store_at}
-use Rattle.host_answers.specs.Answering.{outcome_of}
-use Rattle.host_stages.specs.Views.{starts}
+use Rattle.host_laws.specs.Supplies.{Answers}
+use Rattle.host_laws.specs.Answering.{outcome_of}
 use Rattle.host_moves.proofs.running.called.Goals as goal
 
 pub returns-in-Refused-clause-comes : goal.returns-in-Refused-clause-comes

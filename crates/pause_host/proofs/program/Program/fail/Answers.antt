@@ -3,7 +3,7 @@ use Rattle.wa_model.specs.declared.events.Event.TheVariants as EV
 use Rattle.wa_model.specs.Outside.{ended}
 use Rattle.wa_model.specs.Blocking.{note, no_store}
 use Rattle.wa_model.specs.Protocol.{over}
-use Rattle.host_turns.specs.Places.{stands, has_ended}
+use Rattle.host_laws.specs.Places.{stands, has_ended}
 use Rattle.pause_host.specs.declared.program.Program.{Program}
 use Rattle.pause_host.specs.declared.program.State.TheVariants.{Failed}
 use Rattle.pause_host.specs.Programs.{Advances, supply_with}

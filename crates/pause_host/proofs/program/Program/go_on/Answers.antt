@@ -6,7 +6,7 @@ use Rattle.host_stages.specs.Views.{left_of, lines_in, place_in}
 use Rattle.pause_host.specs.declared.program.Program.{Program}
 use Rattle.pause_host.specs.declared.program.State.TheVariants.{Live}
 use Rattle.pause_host.specs.Programs.{Advances, FollowsAt, supply_of}
-use Rattle.host_turns.specs.Supplies.{Supply}
+use Rattle.host_laws.specs.Supplies.{Supply}
 use Rattle.device_port.specs.Listed.{of_all}
 use Rattle.pause_host.proofs.Advancing.{advanced, same_place, memory_told}
 use Rattle.pause_host.proofs.program.Program.go_on.Goals as goal

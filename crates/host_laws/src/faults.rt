@@ -1,0 +1,121 @@
+//! The tests of an answer: its value, its pokes, and whether it may pause there.
+
+ghost use Rattle.std.specs.Prelude.{◌≡◌, ◌<◌, ◌^◌, ◌+◌, ◌&&◌, List, All, Bool, not, length, map};
+ghost use Rattle.std.specs.Option.{option_copied, option_to_list};
+ghost use Rattle.std.specs.List.{find};
+ghost use Rattle.wa_model.specs.Plan.{Plan};
+ghost use Rattle.wa_model.specs.Blocking.{answers, bad_pause, bad_poke, fault_of, is_unlisted, overlap, poke_fits};
+ghost use Rattle.wa_model.specs.View.{answer_of, poke_of};
+ghost use Rattle.host_laws.specs.Answering.{IsShort, listed_of};
+
+use wa_model::{Answer, Area, End, Poke};
+use wa_types::{ValType, Value};
+
+/// The first test that an answer fails: its value is of the import's result type; every poke lies inside the memory and off the
+/// area; where it pauses, the call isn't inside the start function, and the import isn't told as unlisted.
+pub fn answer_fault(
+    result_type: Option<ValType>,
+    size: u64,
+    area: Area,
+    listed: Option<&[bool]>,
+    in_start: bool,
+    import: u32,
+    answer: &Answer,
+) -> Option<End>
+    ensures { (plan : Plan) → plan.area ≡ area → plan.listed ≡ listed_of listed.entry → All IsShort (map poke_of answer.now.pokes.items)
+        → result ≡ fault_of (option_to_list result_type) size plan in_start import (answer_of answer.now) }
+{
+    if !is_result(result_type, answer.value) {
+        return Some(End::BadAnswer {
+            import,
+            value: answer.value,
+        });
+    }
+    match bad_poke(size, area, &answer.pokes) {
+        Some(end) => Some(end),
+        None => bad_pause(in_start, is_unlisted(listed, import), import, answer.ticks),
+    }
+}
+
+// Whether a value is of a result type.
+fn is_result(result_type: Option<ValType>, value: Option<Value>) -> bool
+    ensures { result ≡ answers (option_to_list result_type) value }
+{
+    match result_type {
+        None => value.is_none(),
+        Some(ty) => match value {
+            None => false,
+            Some(Value::I32(_)) => ty == ValType::I32,
+            Some(Value::I64(_)) => ty == ValType::I64,
+        },
+    }
+}
+
+// The end by the first poke that reaches past the memory or into the area.
+fn bad_poke(size: u64, area: Area, pokes: &[Poke]) -> Option<End>
+    ensures { All IsShort (map poke_of pokes.now) → result ≡ bad_poke size area (map poke_of pokes.now) }
+{
+    match first_bad(size, area, pokes) {
+        None => None,
+        Some(poke) => Some(End::BadPoke {
+            at: poke.at,
+            len: u32::try_from(poke.bytes.len()).unwrap_or(u32::MAX),
+        }),
+    }
+}
+
+fn first_bad(size: u64, area: Area, pokes: &[Poke]) -> Option<&Poke>
+    ensures { option_copied result ≡ find (λ poke. not (poke_fits size area (poke_of poke))) pokes.now }
+{
+    pokes.iter().find(|poke| !poke_fits(size, area, poke))
+}
+
+// Whether a poke lies inside a memory of this size and off the area.
+fn poke_fits(size: u64, area: Area, poke: &Poke) -> bool
+    ensures { result ≡ poke_fits size area (poke_of poke.now) }
+{
+    let len = poke.bytes.len() as u64;
+    if len > size {
+        return false;
+    }
+    let at = u64::from(poke.at);
+    at + len <= size && !overlap(at, len, area)
+}
+
+// Whether some bytes of a range are bytes of the area.
+fn overlap(at: u64, len: u64, area: Area) -> bool
+    requires { at + len < 2 ^ 64 }
+    ensures { result ≡ overlap at len area.at area.len }
+{
+    let area_at = u64::from(area.at);
+    let area_end = area_at + u64::from(area.len);
+    0 < len && 0 < area.len && at < area_end && area_at < at + len
+}
+
+// Whether it is told which imports are listed, and this one isn't.
+fn is_unlisted(listed: Option<&[bool]>, import: u32) -> bool
+    ensures { result ≡ is_unlisted (listed_of listed.entry) import }
+{
+    match listed {
+        None => false,
+        Some(listed) => match listed.get(import as usize) {
+            Some(told) => !*told,
+            None => true,
+        },
+    }
+}
+
+// Why a call may not pause.
+fn bad_pause(in_start: bool, unlisted: bool, import: u32, ticks: u32) -> Option<End>
+    ensures { result ≡ bad_pause in_start unlisted import ticks }
+{
+    if ticks == 0 {
+        None
+    } else if in_start {
+        Some(End::PauseInStart(import))
+    } else if unlisted {
+        Some(End::UnlistedPause(import))
+    } else {
+        None
+    }
+}
