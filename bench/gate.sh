@@ -8,9 +8,9 @@
 # of a crate passes 60 seconds that isn't among those that are known to. The bars hold for a run of all crates.
 . "$(dirname "$0")/common.sh"
 known="asyncify_app asyncify_cli local_spill wasm_build call_frames call_graph live_frames command_line command_shapes command_words
-    flatten flow_rewrite frame_sizes func_rewrite gen_command gen_module generated_runs host_moves
-    host_pauses host_setup interp interp_state line_words live_locals 
-    many_host module_rewrite wa_types wasm_reader pause_host plan_parts script_command script_lines
+    flatten flow_rewrite frame_sizes func_rewrite gen_command gen_module generated_runs pause_host
+    host_setup interp interp_state line_words live_locals 
+    many_host module_rewrite wa_types wasm_reader script_command script_lines
     script_opening script_reader script_setup slim_rewrite source_modules transcript transform_command turn_taking
     validate_bodies wasm_validate vault_port wa_model wa_ops wasm_encode wasm_grammar
     world_hosting"

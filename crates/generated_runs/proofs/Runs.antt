@@ -23,7 +23,7 @@ use Rattle.wa_model.specs.declared.events.Event.{Event as EventValue}
 use Rattle.wa_model.specs.World as W
 use Rattle.wa_model.specs.World.{Look}
 use Rattle.host_laws.specs.Answering.{IsShort}
-use Rattle.host_stages.specs.Moves.{HasShortPokes}
+use Rattle.pause_host.specs.Moves.{HasShortPokes}
 use Rattle.host_setup.specs.Views.{entry_of}
 use Rattle.host_setup.specs.SetUp.{Fault, NamedEntry, all_told, entry_funcs, first_fault, func_in, set_up, unless_fault}
 use Rattle.host_laws.specs.Stories.{IsStory}

@@ -1,4 +1,4 @@
-pub use Rattle.pause_host.specs.Answering
+pub use Rattle.host_laws.specs.Answering
 pub use Rattle.pause_host.specs.Moves
 pub use Rattle.pause_host.specs.Programs
 pub use Rattle.pause_host.specs.Settings

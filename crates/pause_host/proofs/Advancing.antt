@@ -33,13 +33,13 @@ use Rattle.host_laws.specs.Stories.{IsAt, BeginsStory, IsStory}
 use Rattle.host_laws.specs.Supplies.{Supply, bound_to, Takes}
 use Rattle.host_laws.proofs.Stretches.{nowhere_on}
 use Rattle.host_laws.proofs.Tellings.{one_more_told, one_more_met, place_begins, place_whole, still_none}
-use Rattle.host_stages.specs.Moves.{Moves, IsSetting, PlaceFits, HasShortPokes}
-use Rattle.host_stages.specs.declared.stages.Stage.{Stage}
-use Rattle.host_stages.specs.declared.stages.Stage.TheVariants as S
-use Rattle.host_stages.specs.declared.stages.Task.{Task}
-use Rattle.host_stages.specs.declared.stages.Task.TheVariants as T
-use Rattle.host_stages.specs.Views.{exports_in, entry_of, with_asker, answering, giving, place_in, end_of}
-use Rattle.host_moves.proofs.Comings.{fits_on}
+use Rattle.pause_host.specs.Moves.{Moves, IsSetting, PlaceFits, HasShortPokes}
+use Rattle.pause_host.specs.declared.stages.Stage.{Stage}
+use Rattle.pause_host.specs.declared.stages.Stage.TheVariants as S
+use Rattle.pause_host.specs.declared.stages.Task.{Task}
+use Rattle.pause_host.specs.declared.stages.Task.TheVariants as T
+use Rattle.pause_host.specs.Views.{exports_in, entry_of, with_asker, answering, giving, place_in, end_of}
+use Rattle.pause_host.proofs.Comings.{fits_on}
 use Rattle.pause_host.specs.declared.program.Program.{Program}
 use Rattle.pause_host.specs.declared.program.State.{State}
 use Rattle.pause_host.specs.declared.program.State.TheVariants.{Live}

@@ -33,14 +33,14 @@ use Rattle.host_setup.specs.SetUp.{is_area_in, set_up}
 use Rattle.host_laws.specs.Places.{Place, stands}
 use Rattle.host_laws.specs.Stories.{opened, IsAt}
 use Rattle.host_laws.proofs.Tellings.{nothing_told_yet}
-use Rattle.host_stages.specs.declared.stages.HostImport.{HostImport}
-use Rattle.host_stages.specs.declared.stages.Setting.{Setting}
-use Rattle.host_stages.specs.Views.{entry_of, left_of, lines_in}
-use Rattle.host_stages.specs.Moves.{IsSetting, PlaceFits, HasShortPokes}
+use Rattle.pause_host.specs.declared.stages.HostImport.{HostImport}
+use Rattle.pause_host.specs.declared.stages.Setting.{Setting}
+use Rattle.pause_host.specs.Views.{entry_of, left_of, lines_in}
+use Rattle.pause_host.specs.Moves.{IsSetting, PlaceFits, HasShortPokes}
 use Rattle.pause_host.specs.declared.plan.Plan.{Plan}
 use Rattle.pause_host.specs.declared.program.Program.{Program}
 use Rattle.pause_host.specs.declared.program.State.TheVariants.{Fresh}
-use Rattle.plan_parts.specs.Settings.{calls_of, MakesSetting}
+use Rattle.pause_host.specs.Settings.{calls_of, MakesSetting}
 use Rattle.pause_host.specs.Programs.{source_of, named_entries, IsPlan, BindsAs, world_program, before, place_of, RunsCode, FollowsAt, Follows}
 use Rattle.pause_host.proofs.Making.{SetUpFine, set_up_fine}
 

@@ -1,4 +1,16 @@
 pub mod Advancing
+pub mod Askings
 pub mod Beginning
 pub mod Binds
+pub mod Comings
+pub mod Fronts
 pub mod Making
+pub mod Outcomes
+pub mod Parts
+pub mod Pauses
+pub mod Results
+pub mod Stagings
+pub mod Supplied
+pub mod Tables
+pub mod Tasks
+pub mod Ways

@@ -25,10 +25,8 @@ use Rattle.run_theory.specs.Fitting.{types_of}
 use Rattle.wa_model.specs.Protocol.{exported_as, index_of}
 use Rattle.run_theory.proofs.FittingNames.{same_true, func_types_true, not_defined}
 use Rattle.run_laws.specs.FittingStates.{Callable, EntryTyped, ExportsTyped}
-use Rattle.host_setup.specs.SetUp.{NamedEntry, Fault, no_export, entry_missing, entry_is_import, arg_types, Needed, module_fault, first_fault, func_in, func_named, is_func, is_defined_as}
-use Rattle.host_setup.specs.SetUp.{is_there, needed, is_five, entry_func, is_imported, are_args, fault_at, first_false, entry_funcs, have_args, all_told, unless_fault, set_up, area_bad}
-use Rattle.host_setup.specs.SetUp.{is_area_in, least_pages}
-use Rattle.plan_parts.specs.Settings.{calls_of}
+use Rattle.host_setup.specs.SetUp.{NamedEntry, Fault, no_export, entry_missing, entry_is_import, arg_types, Needed, module_fault, first_fault, func_in, func_named, is_func, is_defined_as, is_there, needed, is_five, entry_func, is_imported, are_args, fault_at, first_false, entry_funcs, have_args, all_told, unless_fault, set_up, area_bad, is_area_in, least_pages}
+use Rattle.pause_host.specs.Settings.{calls_of}
 
 both : (a b : Bool) → (a && b) ≡ true → (a ≡ true) × (b ≡ true)
 both true true h = (refl, refl)

@@ -27,9 +27,9 @@ use Rattle.host_setup.specs.Views.{Blames}
 use Rattle.host_laws.specs.Places.{Place, stands, has_ended, nowhere}
 use Rattle.host_laws.specs.Stories.{IsAt}
 use Rattle.host_laws.specs.Supplies.{Supply, Takes}
-use Rattle.host_stages.specs.Views.{exports_in, left_of, lines_in, place_in}
-use Rattle.host_stages.specs.Moves.{IsSetting, PlaceFits, HasShortPokes}
-use Rattle.plan_parts.specs.Settings.{calls_of}
+use Rattle.pause_host.specs.Views.{exports_in, left_of, lines_in, place_in}
+use Rattle.pause_host.specs.Moves.{IsSetting, PlaceFits, HasShortPokes}
+use Rattle.pause_host.specs.Settings.{calls_of}
 use Rattle.pause_host.specs.declared.plan.Plan.{Plan}
 use Rattle.pause_host.specs.declared.program.State.{State}
 use Rattle.pause_host.specs.declared.program.State.TheVariants.{Fresh, Live, Failed, Lost}

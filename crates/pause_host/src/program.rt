@@ -6,11 +6,14 @@ ghost use Rattle.wa_model.specs.World.{bytes_shown};
 
 use crate::plan::Plan;
 use device_port::Devices;
-use host_moves::{next_event, start};
+use crate::events::next_event;
+use crate::running::start;
 use host_setup::{SetupFault, set_up};
-use host_stages::{Left, Setting, Stage, copy_end};
+use crate::stages::{Left, Setting, Stage};
+use crate::ends::copy_end;
 use interp::{Instance, MakeFault, Steps};
-use plan_parts::{entry_calls, setting_of};
+use crate::entries::entry_calls;
+use crate::setting::setting_of;
 use std::alloc::{AllocError, Global};
 use std::collections::VecDeque;
 use std::mem;
@@ -56,7 +59,7 @@ impl<'m> Program<'m> {
     ghost use Rattle.device_port.specs.Listed.{of_all};
     ghost use Rattle.host_laws.specs.Places.{stands};
     ghost use Rattle.host_laws.specs.Supplies.{IsLent};
-    ghost use Rattle.host_stages.specs.Views.{end_of, left_of};
+    ghost use Rattle.pause_host.specs.Views.{end_of, left_of};
     ghost use Rattle.pause_host.specs.Programs.{Advances, AdvancesAlone, Follows, FollowsAlone, FollowsAt, IsPlan, RunsCode, SetsUp, ended_as, memory_in, place_of, supply_of, supply_with};
 
     /// A program of a plan, before its instantiation, or the first fault of the plan.

@@ -1,6 +1,6 @@
 use Rattle.std.proofs.Common.{sym, ap, ◌∙◌, subst}
 use Rattle.interp.specs.Host.{store_in, waits_in}
-use Rattle.host_stages.specs.Views.{exports_in, left_of}
+use Rattle.pause_host.specs.Views.{exports_in, left_of}
 use Rattle.pause_host.specs.Programs.{RunsCode, FollowsAt, place_of, end_at}
 use Rattle.pause_host.specs.declared.program.State.TheVariants.{Live}
 use Rattle.pause_host.proofs.Advancing.{in_state, ended_stage}

@@ -1,8 +1,8 @@
 use Rattle.std.proofs.Common.{◌-◌, refl, sym, ◌∙◌, subst, arith}
 use Rattle.wa_model.specs.Protocol.{exports_of}
 use Rattle.interp.specs.Host.{store_in, waits_in}
-use Rattle.host_stages.specs.Moves.{Moves}
-use Rattle.host_stages.specs.Views.{left_of, lines_in, place_in}
+use Rattle.pause_host.specs.Moves.{Moves}
+use Rattle.pause_host.specs.Views.{left_of, lines_in, place_in}
 use Rattle.pause_host.specs.declared.program.Program.{Program}
 use Rattle.pause_host.specs.declared.program.State.TheVariants.{Live}
 use Rattle.pause_host.specs.Programs.{Advances, FollowsAt, supply_of}

@@ -4,7 +4,7 @@ use Rattle.wa_types.specs.View.{module_of}
 use Rattle.wa_model.specs.View.{answer_line_of}
 use Rattle.host_setup.specs.SetUp.{set_up}
 use Rattle.host_setup.specs.Views.{entry_of as named_of}
-use Rattle.plan_parts.specs.Settings.{MakesSetting, calls_of}
+use Rattle.pause_host.specs.Settings.{MakesSetting, calls_of}
 use Rattle.pause_host.proofs.Beginning.{follows}
 use Rattle.pause_host.proofs.program.Program.new.Goals as goal
 

@@ -3,7 +3,7 @@ use Rattle.wa_types.specs.View.{module_of}
 use Rattle.wa_model.specs.Instantiation.{opens}
 use Rattle.wa_model.specs.Protocol.{held_begun}
 use Rattle.interp.specs.Host.{store_in}
-use Rattle.host_stages.specs.Views.{left_of}
+use Rattle.pause_host.specs.Views.{left_of}
 use Rattle.pause_host.specs.Programs.{FollowsAt, before}
 use Rattle.pause_host.proofs.program.Program.opened.Goals as goal
 

@@ -1,1 +1,0 @@
-pub use Rattle.host_laws.specs.Answering

@@ -1,0 +1,95 @@
+use Rattle.std.proofs.Common.{arith, ◌≡◌, ◌-◌, IfOk, Some, None, sym, ap, ◌∙◌, subst}
+use Rattle.wa_model.specs.Protocol.{exports_of}
+use Rattle.interp.specs.Host.{store_in, waits_in}
+use Rattle.pause_host.specs.Views.{end_of, left_of, supply_in, place_in}
+use Rattle.pause_host.specs.Moves.{ComesFrom, PlaceFits}
+use Rattle.pause_host.specs.declared.stages.Stage.TheVariants as S
+use Rattle.pause_host.proofs.Results.{ending_ok}
+use Rattle.pause_host.specs.declared.stages.Stage.{Stage}
+use Rattle.pause_host.proofs.events.next_event.Goals as goal
+
+pub returns-in-Free-clause-comes : goal.returns-in-Free-clause-comes
+returns-in-Free-clause-comes g c = λ w is code pokes f more.
+    let s = store_in c.args.instance.now in
+    let waits = waits_in c.args.instance.now in
+    let l = left_of c.args.left.now in
+    let old = supply_in (λ z. (goal.Device-dyn g z).seen z.1) (λ z. (goal.Device-dyn g z).faults z.1) c.args.answers.now.items c.args.devices.now in
+    let new = supply_in (λ z. (goal.Device-dyn g z).seen z.1) (λ z. (goal.Device-dyn g z).faults z.1) c.call_next.new.answers.items c.call_next.new.devices in
+    let left = c.args.steps.now.left in
+    let from = λ (z : Stage). place_in (exports_of w.source) w.plan.area l s waits z in
+    let f' = subst (λ z. PlaceFits w (from z)) c.in-Free.is f in
+    subst (λ z. IfOk c.call_next.result (λ m. ComesFrom w (from z) left (c.call_next.new.steps.used - c.args.steps.now.used) m old new (left_of c.call_next.new.left)
+    (store_in c.call_next.new.instance) (waits_in c.call_next.new.instance))) (sym c.in-Free.is)
+    (c.call_next.ensures.comes w is code pokes f')
+
+pub returns-in-Answering-clause-comes : goal.returns-in-Answering-clause-comes
+returns-in-Answering-clause-comes g c = λ w is code pokes f more.
+    let s = store_in c.args.instance.now in
+    let waits = waits_in c.args.instance.now in
+    let l = left_of c.args.left.now in
+    let old = supply_in (λ z. (goal.Device-dyn g z).seen z.1) (λ z. (goal.Device-dyn g z).faults z.1) c.args.answers.now.items c.args.devices.now in
+    let left = c.args.steps.now.left in
+    let from = λ (z : Stage). place_in (exports_of w.source) w.plan.area l s waits z in
+    let f' = subst (λ z. PlaceFits w (from z)) c.in-Answering.is f in
+    subst (λ z. IfOk c.tell_answer.result (λ m. ComesFrom w (from z) left (c.args.steps.now.used - c.args.steps.now.used) m old old (left_of c.args.left.now)
+    (store_in c.tell_answer.new.instance) (waits_in c.tell_answer.new.instance))) (sym c.in-Answering.is)
+    (let none : 0 ≡ c.args.steps.now.used - c.args.steps.now.used = omega arith in
+    subst (λ n. IfOk c.tell_answer.result (λ m. ComesFrom w (from (S.Answering c.in-Answering.task c.in-Answering.answer)) left n m old old l (store_in c.tell_answer.new.instance)
+    (waits_in c.tell_answer.new.instance))) none
+    (c.tell_answer.ensures.comes w l old left f'))
+
+pub returns-in-Giving-clause-comes : goal.returns-in-Giving-clause-comes
+returns-in-Giving-clause-comes g c = λ w is code pokes f more.
+    let s = store_in c.args.instance.now in
+    let waits = waits_in c.args.instance.now in
+    let l = left_of c.args.left.now in
+    let old = supply_in (λ z. (goal.Device-dyn g z).seen z.1) (λ z. (goal.Device-dyn g z).faults z.1) c.args.answers.now.items c.args.devices.now in
+    let new = supply_in (λ z. (goal.Device-dyn g z).seen z.1) (λ z. (goal.Device-dyn g z).faults z.1) c.give.new.answers.items c.give.new.devices in
+    let left = c.args.steps.now.left in
+    let from = λ (z : Stage). place_in (exports_of w.source) w.plan.area l s waits z in
+    let f' = subst (λ z. PlaceFits w (from z)) c.in-Giving.is f in
+    subst (λ z. IfOk c.give.result (λ m. ComesFrom w (from z) left (c.give.new.steps.used - c.args.steps.now.used) m old new (left_of c.give.new.left) (store_in c.give.new.instance)
+    (waits_in c.give.new.instance))) (sym c.in-Giving.is)
+    (c.give.ensures.comes w is code pokes f')
+
+pub returns-in-Pausing-clause-comes : goal.returns-in-Pausing-clause-comes
+returns-in-Pausing-clause-comes g c = λ w is code pokes f more.
+    let s = store_in c.args.instance.now in
+    let waits = waits_in c.args.instance.now in
+    let l = left_of c.args.left.now in
+    let old = supply_in (λ z. (goal.Device-dyn g z).seen z.1) (λ z. (goal.Device-dyn g z).faults z.1) c.args.answers.now.items c.args.devices.now in
+    let left = c.args.steps.now.left in
+    let from = λ (z : Stage). place_in (exports_of w.source) w.plan.area l s waits z in
+    let f' = subst (λ z. PlaceFits w (from z)) c.in-Pausing.is f in
+    subst (λ z. IfOk c.unwind.result (λ m. ComesFrom w (from z) left (c.unwind.new.steps.used - c.args.steps.now.used) m old old (left_of c.args.left.now) (store_in c.unwind.new.instance)
+    (waits_in c.unwind.new.instance))) (sym c.in-Pausing.is)
+    (c.unwind.ensures.comes w l old is code f')
+
+pub returns-in-Paused-clause-comes : goal.returns-in-Paused-clause-comes
+returns-in-Paused-clause-comes g c = λ w is code pokes f more.
+    let s = store_in c.args.instance.now in
+    let waits = waits_in c.args.instance.now in
+    let l = left_of c.args.left.now in
+    let old = supply_in (λ z. (goal.Device-dyn g z).seen z.1) (λ z. (goal.Device-dyn g z).faults z.1) c.args.answers.now.items c.args.devices.now in
+    let left = c.args.steps.now.left in
+    let from = λ (z : Stage). place_in (exports_of w.source) w.plan.area l s waits z in
+    let f' = subst (λ z. PlaceFits w (from z)) c.in-Paused.is f in
+    subst (λ z. IfOk c.rewind.result (λ m. ComesFrom w (from z) left (c.rewind.new.steps.used - c.args.steps.now.used) m old old (left_of c.args.left.now) (store_in c.rewind.new.instance)
+    (waits_in c.rewind.new.instance))) (sym c.in-Paused.is)
+    (c.rewind.ensures.comes w l old is code f')
+
+pub returns-in-Ending-clause-comes : goal.returns-in-Ending-clause-comes
+returns-in-Ending-clause-comes g c = λ w is code pokes f more.
+    let s = store_in c.args.instance.now in
+    let waits = waits_in c.args.instance.now in
+    let l = left_of c.args.left.now in
+    let old = supply_in (λ z. (goal.Device-dyn g z).seen z.1) (λ z. (goal.Device-dyn g z).faults z.1) c.args.answers.now.items c.args.devices.now in
+    let left = c.args.steps.now.left in
+    let from = λ (z : Stage). place_in (exports_of w.source) w.plan.area l s waits z in
+    let f' = subst (λ z. PlaceFits w (from z)) c.in-Ending.is f in
+    subst (λ z. IfOk c.ended.result (λ m. ComesFrom w (from z) left (c.args.steps.now.used - c.args.steps.now.used) m old old (left_of c.args.left.now) (store_in c.args.instance.now)
+    (waits_in c.args.instance.now))) (sym c.in-Ending.is)
+    (ending_ok w c.in-Ending.end s left _ c.ended.result old l waits (omega arith) c.ended.ensures.event c.ended.ensures.stage)
+
+pub returns-in-Ended-clause-comes : goal.returns-in-Ended-clause-comes
+returns-in-Ended-clause-comes g c = λ w is code pokes f more. let no : Some c.in-Ended.end ≡ None = sym (ap end_of c.in-Ended.is) ∙ more in cc

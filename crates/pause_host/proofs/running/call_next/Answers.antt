@@ -1,0 +1,42 @@
+use Rattle.std.proofs.Common.{arith, ◌≡◌, ◌-◌, [], IfOk, length, drop, length-drop, map, refl, sym, ap, ◌∙◌, subst}
+use Rattle.wa_types.specs.Modules.{func_type_at}
+use Rattle.run_theory.specs.Fitting.{types_of, StoreFits}
+use Rattle.interp.specs.Host.{code_in, store_in, waits_in}
+use Rattle.interp.specs.Instance.{Calls}
+use Rattle.pause_host.specs.Views.{entry_of, left_of, supply_in}
+use Rattle.pause_host.specs.Moves.{ComesFrom}
+use Rattle.pause_host.proofs.Results.{done_ok, free_is, free_fits, none_left}
+use Rattle.pause_host.proofs.Tasks.{entry_turn}
+use Rattle.wa_model.specs.Protocol.{free}
+use Rattle.pause_host.proofs.running.call_next.Goals as goal
+
+pub returns-in-None-clause-comes : goal.returns-in-None-clause-comes
+returns-in-None-clause-comes g c = λ w is code pokes f.
+    let old = supply_in (λ z. (goal.Device-dyn g z).seen z.1) (λ z. (goal.Device-dyn g z).faults z.1) c.args.answers.now.items c.args.devices.now in
+    done_ok w (left_of c.args.left.now) (store_in c.args.instance.now) c.args.steps.now.left _ c.ended.result old _ (waits_in c.args.instance.now)
+    (none_left c.args.left.now.entries.items
+    (let e : length c.args.left.now.entries.items ≡ length (drop 1 c.args.left.now.entries.items) = ap length (c.in-None.ensures.items ∙ c.in-None.ensures.rest) in
+    omega (arith, e, length-drop 1 c.args.left.now.entries.items))) (omega arith) c.ended.ensures.event c.ended.ensures.stage
+
+pub returns-in_ok-turn-in-Some-clause-comes : goal.returns-in_ok-turn-in-Some-clause-comes
+returns-in_ok-turn-in-Some-clause-comes g c = λ w is code pokes f.
+    let old = supply_in (λ z. (goal.Device-dyn g z).seen z.1) (λ z. (goal.Device-dyn g z).faults z.1) c.args.answers.now.items c.args.devices.now in
+    let new = supply_in (λ z. (goal.Device-dyn g z).seen z.1) (λ z. (goal.Device-dyn g z).faults z.1) c.entry_ran.new.answers.items c.entry_ran.new.devices in
+    let s = store_in c.args.instance.now in
+    let s' = store_in c.begin.new.self in
+    let w' = waits_in c.begin.new.self in
+    let left = c.args.steps.now.left in
+    let used = c.begin.new.steps.used - c.args.steps.now.used in
+    let m = code_in c.args.instance.now in
+    let l = left_of c.args.left.now in
+    let e = entry_of c.in-Some.entry in
+    let rest = map entry_of c.pop_front.new.self.items in
+    let entries = ap (map entry_of) c.in-Some.ensures.items in
+    let fits = free_fits w.source s l e rest entries f in
+    let typed = ap types_of c.deref.ensures.value ∙ fits.1.1 ∙ ap (λ z. (func_type_at z e.func).params) (sym code) in
+    let told = c.in_ok-turn-in-Some.ensures.calls (subst (λ z. StoreFits z s) (sym code) fits.0) typed in
+    let calls = subst (λ z. Calls z s e.func e.args left used c.in_ok-turn-in-Some.turn s' w') code
+    (subst (λ vs. Calls m s e.func vs left used c.in_ok-turn-in-Some.turn s' w') c.deref.ensures.value told) in
+    let ran = entry_turn w l (record { number = l.number; entries = rest; outcomes = [] }) e rest fits.1.0.0 s left used c.in_ok-turn-in-Some.turn s' w' entries refl refl fits.1.0.1 calls in
+    subst (λ z. IfOk c.entry_ran.result (λ m. ComesFrom w z left used m old new (left_of c.entry_ran.new.left) s' w')) (sym (free_is s l e rest entries))
+    (c.entry_ran.ensures.comes w is (c.begin.ensures.code ∙ code) pokes (free s l) left used ran)

@@ -1,0 +1,63 @@
+use Rattle.std.proofs.Common.{arith, ◌≡◌, ◌+◌, ◌-◌, IfOk, refl, sym, ap, ◌∙◌, subst}
+use Rattle.std.specs.Option.{option_to_list}
+use Rattle.run_theory.specs.Fitting.{types_of, StoreFits}
+use Rattle.wa_model.specs.Blocking.{the_start, an_entry, resumed}
+use Rattle.wa_model.specs.Protocol.{exports_of, busy, is_running}
+use Rattle.interp.specs.Host.{store_in, waits_in}
+use Rattle.interp.specs.Instance.{Resumes, Awaits}
+use Rattle.pause_host.specs.Views.{entry_of, left_of, supply_in, place_in}
+use Rattle.pause_host.specs.Moves.{Comes, ComesFrom, PlaceFits}
+use Rattle.pause_host.specs.declared.stages.Stage.TheVariants as S
+use Rattle.pause_host.specs.declared.stages.Task.TheVariants as T
+use Rattle.pause_host.proofs.Stagings.{gives, gives_awaits, gives_store, gives_turn}
+use Rattle.pause_host.proofs.running.give.Goals as goal
+
+pub returns-in-Entry-clause-comes : goal.returns-in-Entry-clause-comes
+returns-in-Entry-clause-comes g c = λ w is code pokes f.
+    let old = supply_in (λ z. (goal.Device-dyn g z).seen z.1) (λ z. (goal.Device-dyn g z).faults z.1) c.args.answers.now.items c.args.devices.now in
+    let new = supply_in (λ z. (goal.Device-dyn g z).seen z.1) (λ z. (goal.Device-dyn g z).faults z.1) c.entry_ran.new.answers.items c.entry_ran.new.devices in
+    let s = store_in c.args.instance.now in
+    let waits = waits_in c.args.instance.now in
+    let s' = store_in c.resume.new.self in
+    let w' = waits_in c.resume.new.self in
+    let left = c.args.steps.now.left in
+    let used = c.resume.new.steps.used - c.args.steps.now.used in
+    let l = left_of c.args.left.now in
+    let f' = subst (λ z. PlaceFits w (place_in (exports_of w.source) w.plan.area l s waits (S.Giving z c.args.value))) c.in-Entry.is f in
+    let g = gives w (T.Entry c.in-Entry.entry) (an_entry (entry_of c.in-Entry.entry)) waits l c.args.value s refl f' in
+    let awaits = gives_awaits w (T.Entry c.in-Entry.entry) (an_entry (entry_of c.in-Entry.entry)) waits l c.args.value s g in
+    let told = c.in_ok-turn.ensures.resumes g.fits.0 (subst (λ z. StoreFits z s) (sym code)
+    (gives_store w (T.Entry c.in-Entry.entry) (an_entry (entry_of c.in-Entry.entry)) waits l c.args.value s g))
+    (subst (λ z. Awaits z g.fits.0 (types_of (option_to_list c.args.value)) waits) (sym code) awaits) in
+    let ran = gives_turn w (T.Entry c.in-Entry.entry) (an_entry (entry_of c.in-Entry.entry)) waits l c.args.value s g left used c.in_ok-turn.turn s' w'
+    (subst (λ z. Resumes z s waits c.args.value left used c.in_ok-turn.turn s' w') code told) in
+    let h = busy (is_running (an_entry (entry_of c.in-Entry.entry))) (resumed (record { store = s; here = g.here; under = g.under }) s (option_to_list c.args.value)) l in
+    let place = ap (λ z. place_in (exports_of w.source) w.plan.area l s waits (S.Giving z c.args.value)) c.in-Entry.is ∙ g.place_is in
+    subst (λ z. IfOk c.entry_ran.result (λ m. ComesFrom w z left used m old new (left_of c.entry_ran.new.left) s' w')) (sym place)
+    (c.entry_ran.ensures.comes w is (c.resume.ensures.code ∙ code) pokes h left used ran)
+
+pub returns-in-Start-clause-comes : goal.returns-in-Start-clause-comes
+returns-in-Start-clause-comes g c = λ w is code pokes f.
+    let old = supply_in (λ z. (goal.Device-dyn g z).seen z.1) (λ z. (goal.Device-dyn g z).faults z.1) c.args.answers.now.items c.args.devices.now in
+    let new = supply_in (λ z. (goal.Device-dyn g z).seen z.1) (λ z. (goal.Device-dyn g z).faults z.1) c.start_ran.new.answers.items c.start_ran.new.devices in
+    let s = store_in c.args.instance.now in
+    let waits = waits_in c.args.instance.now in
+    let s' = store_in c.resume.new.self in
+    let w' = waits_in c.resume.new.self in
+    let left = c.args.steps.now.left in
+    let used = c.resume.new.steps.used - c.args.steps.now.used in
+    let l = left_of c.args.left.now in
+    let f' = subst (λ z. PlaceFits w (place_in (exports_of w.source) w.plan.area l s waits (S.Giving z c.args.value))) c.in-Start.is f in
+    let g = gives w T.Start the_start waits l c.args.value s refl f' in
+    let awaits = gives_awaits w T.Start the_start waits l c.args.value s g in
+    let told = c.in_ok-turn.ensures.resumes g.fits.0 (subst (λ z. StoreFits z s) (sym code) (gives_store w T.Start the_start waits l c.args.value s g))
+    (subst (λ z. Awaits z g.fits.0 (types_of (option_to_list c.args.value)) waits) (sym code) awaits) in
+    let ran = gives_turn w T.Start the_start waits l c.args.value s g left used c.in_ok-turn.turn s' w' (subst (λ z. Resumes z s waits c.args.value left used c.in_ok-turn.turn s' w') code told) in
+    let h = busy (is_running the_start) (resumed (record { store = s; here = g.here; under = g.under }) s (option_to_list c.args.value)) l in
+    let place = ap (λ z. place_in (exports_of w.source) w.plan.area l s waits (S.Giving z c.args.value)) c.in-Start.is ∙ g.place_is in
+    let sum : c.resume.new.steps.left + used ≡ left = omega (arith, c.resume.ensures.sum, c.resume.ensures.grows) in
+    let total : used + (c.start_ran.new.steps.used - c.resume.new.steps.used) ≡ c.start_ran.new.steps.used - c.args.steps.now.used = omega (arith, c.resume.ensures.grows, c.start_ran.ensures.grows) in
+    subst (λ z. IfOk c.start_ran.result (λ m. ComesFrom w z left (c.start_ran.new.steps.used - c.args.steps.now.used) m old new (left_of c.start_ran.new.left)
+    (store_in c.start_ran.new.instance) (waits_in c.start_ran.new.instance))) (sym place)
+    (subst (λ n. IfOk c.start_ran.result (λ m. Comes w h left n m old new (left_of c.start_ran.new.left) (store_in c.start_ran.new.instance) (waits_in c.start_ran.new.instance))) total
+    (c.start_ran.ensures.comes w is (c.resume.ensures.code ∙ code) pokes h left used ran sum g.fits))

@@ -1,0 +1,47 @@
+use Rattle.std.proofs.Common.{arith, ◌≡◌, ◌≤◌, ◌<◌, ◌+◌, ◌-◌, [], IfOk, sym, ap, ◌∙◌, subst}
+use Rattle.wa_types.specs.Modules.{func_imports, func_type_at}
+use Rattle.run_theory.specs.Fitting.{StoreFits}
+use Rattle.wa_model.specs.Protocol.{starting}
+use Rattle.interp.specs.Host.{code_in, store_in, waits_in}
+use Rattle.interp.specs.Instance.{Calls}
+use Rattle.pause_host.specs.Views.{left_of, supply_in}
+use Rattle.pause_host.specs.Moves.{Comes}
+use Rattle.pause_host.proofs.Tasks.{start_turn, start_defined}
+use Rattle.pause_host.proofs.running.start.Goals as goal
+
+pub returns-then-func-len-clause-comes : goal.returns-then-func-len-clause-comes
+returns-then-func-len-clause-comes g c = λ w is code pokes f.
+    let s = store_in c.args.instance.now in
+    let s' = store_in c.begin.new.self in
+    let w' = waits_in c.begin.new.self in
+    let left = c.args.steps.now.left in
+    let used = c.begin.new.steps.used - c.args.steps.now.used in
+    let m = code_in c.args.instance.now in
+    let l = left_of c.args.left.now in
+    let typed = sym f.1.0 ∙ ap (λ z. (func_type_at z c.args.func).params) (sym code) in
+    let told = c.in_ok-turn.ensures.calls (subst (λ z. StoreFits z s) (sym code) f.0) typed in
+    let calls = subst (λ z. Calls z s c.args.func [] left used c.in_ok-turn.turn s' w') code told in
+    c.start_asked.ensures.comes w is (c.begin.ensures.code ∙ code) pokes s c.args.func l left used
+    (let lt : c.args.func < func_imports w.source = omega (arith, c.len.ensures, c.args.setting.now.imports.ok.0, is.all, c.if-func-len.true) in lt) calls
+
+pub returns-clause-comes : goal.returns-clause-comes
+returns-clause-comes g c = λ w is code pokes f.
+    let old = supply_in (λ z. (goal.Device-dyn g z).seen z.1) (λ z. (goal.Device-dyn g z).faults z.1) c.args.answers.now.items c.args.devices.now in
+    let new = supply_in (λ z. (goal.Device-dyn g z).seen z.1) (λ z. (goal.Device-dyn g z).faults z.1) c.start_ran.new.answers.items c.start_ran.new.devices in
+    let s = store_in c.args.instance.now in
+    let s' = store_in c.begin.new.self in
+    let w' = waits_in c.begin.new.self in
+    let left = c.args.steps.now.left in
+    let used = c.begin.new.steps.used - c.args.steps.now.used in
+    let m = code_in c.args.instance.now in
+    let l = left_of c.args.left.now in
+    let typed = sym f.1.0 ∙ ap (λ z. (func_type_at z c.args.func).params) (sym code) in
+    let told = c.in_ok-turn.ensures.calls (subst (λ z. StoreFits z s) (sym code) f.0) typed in
+    let calls = subst (λ z. Calls z s c.args.func [] left used c.in_ok-turn.turn s' w') code told in
+    let there = start_defined w c.args.func f.1.1 (let le : func_imports w.source ≤ c.args.func = omega (arith, c.len.ensures, c.args.setting.now.imports.ok.0, is.all, c.if-func-len.false) in le) in
+    let ran = start_turn w l c.args.func there.0 s left used c.in_ok-turn.turn s' w' there.1 calls in
+    let sum : c.begin.new.steps.left + used ≡ left = omega (arith, c.begin.ensures.sum, c.begin.ensures.grows) in
+    let total : used + (c.start_ran.new.steps.used - c.begin.new.steps.used) ≡ c.start_ran.new.steps.used - c.args.steps.now.used = omega (arith, c.begin.ensures.grows, c.start_ran.ensures.grows) in
+    subst (λ n. IfOk c.start_ran.result (λ m. Comes w (starting c.args.func s l) left n m old new (left_of c.start_ran.new.left) (store_in c.start_ran.new.instance)
+    (waits_in c.start_ran.new.instance))) total
+    (c.start_ran.ensures.comes w is (c.begin.ensures.code ∙ code) pokes (starting c.args.func s l) left used ran sum f)

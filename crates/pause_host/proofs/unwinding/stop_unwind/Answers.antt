@@ -1,0 +1,33 @@
+use Rattle.std.proofs.Common.{◌-◌, [], refl, sym, ap, ◌∙◌, subst}
+use Rattle.wa_model.specs.Protocol.{exports_of, calling, pause_there, used_of}
+use Rattle.run_laws.specs.FittingStates.{Callable}
+use Rattle.interp.specs.Host.{store_in, waits_in}
+use Rattle.pause_host.specs.Views.{unwinding}
+use Rattle.pause_host.specs.declared.exports.Work.TheVariants.{Unwinding}
+use Rattle.pause_host.proofs.Results.{ended_ok, export_got}
+use Rattle.pause_host.proofs.Pauses.{stopped_unwind}
+use Rattle.pause_host.proofs.unwinding.stop_unwind.Goals as goal
+
+pub returns-in-Ended-clause-comes : goal.returns-in-Ended-clause-comes
+returns-in-Ended-clause-comes c = λ w l lines is code f.
+    let s = store_in c.args.instance.now in
+    let s' = store_in c.call_export.new.instance in
+    let left = c.args.steps.now.left in
+    let used = c.call_export.new.steps.used - c.args.steps.now.used in
+    let e = ap (λ x. x.stop_unwind) is.exports in
+    let told = c.in_ok-end.ensures.exports w is code f.0 (subst (λ n. Callable w.source n []) (sym e) f.1) in
+    let got = export_got w Unwinding s s' c.args.setting.now.exports.stop_unwind (exports_of w.source).stop_unwind [] [] left used c.in_ok-end.field-0 _ e refl c.in-Ended.is told in
+    ended_ok w (calling (unwinding c.args.pause) s (exports_of w.source).stop_unwind [] pause_there l) left used c.in-Ended.end s' c.ended.result lines l (waits_in c.call_export.new.instance)
+    c.ended.ensures.event c.ended.ensures.stage (got (unwinding c.args.pause) pause_there l tt)
+
+pub returns-in_ok-used-in-Returned-clause-comes : goal.returns-in_ok-used-in-Returned-clause-comes
+returns-in_ok-used-in-Returned-clause-comes c = λ w l lines is code f.
+    let s = store_in c.args.instance.now in
+    let s' = store_in c.call_export.new.instance in
+    let left = c.args.steps.now.left in
+    let used = c.call_export.new.steps.used - c.args.steps.now.used in
+    let e = ap (λ x. x.stop_unwind) is.exports in
+    let told = c.in_ok-end.ensures.exports w is code f.0 (subst (λ n. Callable w.source n []) (sym e) f.1) in
+    let got = export_got w Unwinding s s' c.args.setting.now.exports.stop_unwind (exports_of w.source).stop_unwind [] [] left used c.in_ok-end.field-0 _ e refl c.in-Returned.is told in
+    stopped_unwind w c.args.pause l s left used _ s' (exports_of w.source).stop_unwind [] _ c.in_ok-used-in-Returned.used lines (waits_in c.call_export.new.instance)
+    (c.in_ok-used-in-Returned.ensures ∙ ap (used_of s') (sym is.area)) refl refl got

@@ -1,0 +1,378 @@
+//! What comes of each stage but the pauses: the start function, entries, and calls of imports with their answers.
+
+ghost use Rattle.std.specs.Prelude.{◌≡◌, ◌<◌, ◌≤◌, ◌+◌, ◌-◌, ◌^◌, ℕ, List, [], ◌∷◌, All, IfOk, OnOk, None, map, slice_get};
+ghost use Rattle.std.specs.Option.{option_map, option_to_list};
+ghost use Rattle.wa_types.specs.Modules.{func_imports};
+ghost use Rattle.wa_model.specs.Store.{Store};
+ghost use Rattle.wa_model.specs.View.{answer_of};
+ghost use Rattle.wa_model.specs.Blocking.{Asker, Left as PlainLeft, Task as PlainTask, an_entry, fault_of, next_entry, the_start};
+ghost use Rattle.wa_model.specs.Protocol.{Held, exports_of, starting};
+ghost use Rattle.wa_model.specs.World.{Program};
+ghost use Rattle.run_laws.specs.FittingStates.{HeldFits};
+ghost use Rattle.interp.specs.Host.{code_in, store_in, waits_in};
+ghost use Rattle.interp.specs.Instance.{Calls};
+ghost use Rattle.host_laws.specs.Answering.{IsShort, listed_of};
+ghost use Rattle.host_laws.specs.Supplies.{Supply};
+ghost use Rattle.pause_host.specs.Moves.{Asks, Comes, ComesFrom, HasShortPokes, IsAsking, IsSetting, IsTask, PlaceFits, TaskTurn};
+ghost use Rattle.pause_host.specs.Views.{entry_of, free_place, left_of, lines_in, place_in, stage_after, stage_told, starts, supply_in};
+
+use crate::asking::next_outcome;
+use device_port::Devices;
+use host_laws::{Met, answer_fault};
+use crate::stages::{EntryCall, HostImport, Left, Moved, Pause, Setting, Stage, Task};
+use crate::ends::ended;
+use crate::memory::write_pokes;
+use interp::{Instance, Steps, Turn};
+use std::alloc::AllocError;
+use std::collections::VecDeque;
+use wa_model::{Answer, AnswerLine, Call, End, Event};
+use wa_types::Value;
+
+/// Calls the start function, which may be an import.
+pub fn start(
+    setting: &Setting,
+    instance: &mut Instance<'_>,
+    left: &mut Left,
+    answers: &mut VecDeque<AnswerLine>,
+    devices: &mut Devices<'_>,
+    steps: &mut Steps,
+    func: u32,
+) -> Result<Moved, AllocError>
+    requires { steps.old.left + steps.old.used < 2 ^ 64 }
+    ensures comes { (w : Program) → IsSetting w setting.now → code_in instance.old ≡ w.source → All HasShortPokes (lines_in answers.old.items)
+        → HeldFits w.source (starting func (store_in instance.old) (left_of left.old))
+        → IfOk result (λ m. Comes w (starting func (store_in instance.old) (left_of left.old)) steps.old.left (steps.new.used - steps.old.used) m
+        (supply_in seen faults answers.old.items devices.old) (supply_in seen faults answers.new.items devices.new) (left_of left.new) (store_in instance.new) (waits_in instance.new)) }
+    ensures code { code_in instance.new ≡ code_in instance.old }
+    ensures sum { steps.new.left + steps.new.used ≡ steps.old.left + steps.old.used }
+    ensures grows { steps.old.used ≤ steps.new.used }
+    ensures same_list { devices.new.list.ghost_name ≡ devices.old.list.ghost_name }
+{
+    let turn = instance.begin(func, &[], steps)?;
+    if (func as usize) < setting.imports.len() {
+        return start_asked(setting, instance, answers, devices, turn);
+    }
+    start_ran(setting, instance, left, answers, devices, steps, turn)
+}
+
+// The start function is an import.
+fn start_asked(
+    setting: &Setting,
+    instance: &Instance<'_>,
+    answers: &mut VecDeque<AnswerLine>,
+    devices: &mut Devices<'_>,
+    turn: Turn,
+) -> Result<Moved, AllocError>
+    ensures comes { (w : Program) → IsSetting w setting.now → code_in instance.now ≡ w.source → All HasShortPokes (lines_in answers.old.items)
+        → (s : Store) (func : ℕ) (l : PlainLeft) (left_then used : ℕ) → func < func_imports w.source
+        → Calls w.source s func [] left_then used turn (store_in instance.now) (waits_in instance.now)
+        → IfOk result (λ m. Comes w (starting func s l) left_then used m (supply_in seen faults answers.old.items devices.old) (supply_in seen faults answers.new.items devices.new) l
+        (store_in instance.now) (waits_in instance.now)) }
+    ensures same_list { devices.new.list.ghost_name ≡ devices.old.list.ghost_name }
+{
+    match turn {
+        Turn::Waiting(call) => return called(
+            setting,
+            instance,
+            answers,
+            devices,
+            Task::Outermost,
+            call,
+        ),
+        Turn::StepsSpent => return ended(setting.alloc, End::StepsSpent(setting.steps)),
+        _ => return Err(AllocError),
+    }
+}
+
+// The start function ran: the entries come next.
+fn start_ran(
+    setting: &Setting,
+    instance: &mut Instance<'_>,
+    left: &mut Left,
+    answers: &mut VecDeque<AnswerLine>,
+    devices: &mut Devices<'_>,
+    steps: &mut Steps,
+    turn: Turn,
+) -> Result<Moved, AllocError>
+    requires { steps.old.left + steps.old.used < 2 ^ 64 }
+    ensures comes { (w : Program) → IsSetting w setting.now → code_in instance.old ≡ w.source → All HasShortPokes (lines_in answers.old.items) → (h : Held) (left_then used : ℕ)
+        → TaskTurn w h (left_of left.old) the_start left_then used turn (store_in instance.old) (waits_in instance.old) → steps.old.left + used ≡ left_then → HeldFits w.source h
+        → IfOk result (λ m. Comes w h left_then (used + (steps.new.used - steps.old.used)) m (supply_in seen faults answers.old.items devices.old)
+        (supply_in seen faults answers.new.items devices.new) (left_of left.new) (store_in instance.new) (waits_in instance.new)) }
+    ensures code { code_in instance.new ≡ code_in instance.old }
+    ensures sum { steps.new.left + steps.new.used ≡ steps.old.left + steps.old.used }
+    ensures grows { steps.old.used ≤ steps.new.used }
+    ensures same_list { devices.new.list.ghost_name ≡ devices.old.list.ghost_name }
+{
+    match turn {
+        Turn::Returned(_) => call_next(setting, instance, left, answers, devices, steps),
+        other => stopped(setting, instance, answers, devices, Task::Start, other),
+    }
+}
+
+/// Calls the next entry; behind the last one the program is done.
+pub(crate) fn call_next(
+    setting: &Setting,
+    instance: &mut Instance<'_>,
+    left: &mut Left,
+    answers: &mut VecDeque<AnswerLine>,
+    devices: &mut Devices<'_>,
+    steps: &mut Steps,
+) -> Result<Moved, AllocError>
+    requires { steps.old.left + steps.old.used < 2 ^ 64 }
+    ensures comes { (w : Program) → IsSetting w setting.now → code_in instance.old ≡ w.source → All HasShortPokes (lines_in answers.old.items)
+        → PlaceFits w (free_place (left_of left.old) (store_in instance.old)) → IfOk result
+        (λ m. ComesFrom w (free_place (left_of left.old) (store_in instance.old)) steps.old.left (steps.new.used - steps.old.used) m (supply_in seen faults answers.old.items devices.old)
+        (supply_in seen faults answers.new.items devices.new) (left_of left.new) (store_in instance.new) (waits_in instance.new)) }
+    ensures code { code_in instance.new ≡ code_in instance.old }
+    ensures sum { steps.new.left + steps.new.used ≡ steps.old.left + steps.old.used }
+    ensures grows { steps.old.used ≤ steps.new.used }
+    ensures same_list { devices.new.list.ghost_name ≡ devices.old.list.ghost_name }
+{
+    match left.entries.pop_front() {
+        None => ended(setting.alloc, End::Done),
+        Some(entry) => {
+            let turn = instance.begin(entry.func, &entry.args, steps)?;
+            entry_ran(setting, instance, left, answers, devices, entry, turn)
+        }
+    }
+}
+
+// An entry ran.
+fn entry_ran(
+    setting: &Setting,
+    instance: &Instance<'_>,
+    left: &mut Left,
+    answers: &mut VecDeque<AnswerLine>,
+    devices: &mut Devices<'_>,
+    entry: EntryCall,
+    turn: Turn,
+) -> Result<Moved, AllocError>
+    ensures comes { (w : Program) → IsSetting w setting.now → code_in instance.now ≡ w.source → All HasShortPokes (lines_in answers.old.items) → (h : Held) (left_then used : ℕ)
+        → TaskTurn w h (left_of left.old) (an_entry (entry_of entry)) left_then used turn (store_in instance.now) (waits_in instance.now)
+        → IfOk result (λ m. Comes w h left_then used m (supply_in seen faults answers.old.items devices.old) (supply_in seen faults answers.new.items devices.new) (left_of left.new)
+        (store_in instance.now) (waits_in instance.now)) }
+    ensures same_list { devices.new.list.ghost_name ≡ devices.old.list.ghost_name }
+{
+    match turn {
+        Turn::Returned(value) => returned(left, value),
+        other => stopped(
+            setting,
+            instance,
+            answers,
+            devices,
+            Task::Entry(entry),
+            other,
+        ),
+    }
+}
+
+// An entry returned.
+fn returned(left: &mut Left, value: Option<Value>) -> Result<Moved, AllocError>
+    ensures event { IfOk result (λ m. m.event ≡ Event.Returned left.old.number value) }
+    ensures stage { IfOk result (λ m. m.stage ≡ Stage.Free) }
+    ensures left { OnOk result (left_of left.new ≡ next_entry (left_of left.old)) }
+{
+    let entry = left.number;
+    let Some(next) = entry.checked_add(1) else {
+        return Err(AllocError);
+    };
+    left.number = next;
+    let event = Event::Returned { entry, value };
+    let stage = Stage::Free;
+    Ok(Moved { event, stage })
+}
+
+// What runs for a task stopped before it returned.
+fn stopped(
+    setting: &Setting,
+    instance: &Instance<'_>,
+    answers: &mut VecDeque<AnswerLine>,
+    devices: &mut Devices<'_>,
+    task: Task,
+    turn: Turn,
+) -> Result<Moved, AllocError>
+    ensures comes { (w : Program) → IsSetting w setting.now → code_in instance.now ≡ w.source → All HasShortPokes (lines_in answers.old.items)
+        → (t : PlainTask) (h : Held) (l : PlainLeft) (left_then used : ℕ) → IsTask task t → TaskTurn w h l t left_then used turn (store_in instance.now) (waits_in instance.now)
+        → IfOk result (λ m. Comes w h left_then used m (supply_in seen faults answers.old.items devices.old) (supply_in seen faults answers.new.items devices.new) l (store_in instance.now)
+        (waits_in instance.now)) }
+    ensures same_list { devices.new.list.ghost_name ≡ devices.old.list.ghost_name }
+{
+    match turn {
+        Turn::Returned(_) => return Err(AllocError),
+        Turn::Trapped(trap) => return ended(setting.alloc, End::Trapped(trap)),
+        Turn::Waiting(call) => return called(setting, instance, answers, devices, task, call),
+        Turn::StepsSpent => return ended(setting.alloc, End::StepsSpent(setting.steps)),
+    }
+}
+
+// A new call of an import is told, and meets an outcome.
+fn called(
+    setting: &Setting,
+    instance: &Instance<'_>,
+    answers: &mut VecDeque<AnswerLine>,
+    devices: &mut Devices<'_>,
+    task: Task,
+    call: Call,
+) -> Result<Moved, AllocError>
+    ensures comes { (w : Program) → IsSetting w setting.now → code_in instance.now ≡ w.source → All HasShortPokes (lines_in answers.old.items)
+        → (who : Asker) (h : Held) (l : PlainLeft) (left_then used : ℕ) → Asks w h used call.import call.args.items who l → used ≤ left_then
+        → IsAsking task (waits_in instance.now) (store_in instance.now) who → IfOk result
+        (λ m. Comes w h left_then used m (supply_in seen faults answers.old.items devices.old) (supply_in seen faults answers.new.items devices.new) l (store_in instance.now)
+        (waits_in instance.now)) }
+    ensures same_list { devices.new.list.ghost_name ≡ devices.old.list.ghost_name }
+{
+    let Some(import) = setting.imports.get(call.import as usize) else {
+        return Err(AllocError);
+    };
+    let Some(memory) = instance.memory() else {
+        return Err(AllocError);
+    };
+    let size = memory.len() as u64;
+    match next_outcome(setting, import, &call, answers, devices)? {
+        Met::Refused(end) => {
+            let stage = Stage::Ending(end);
+            let event = Event::Called(call);
+            return Ok(Moved { event, stage });
+        }
+        Met::Given(answer) => {
+            let stage = answered(setting, import, size, task, call.import, answer);
+            let event = Event::Called(call);
+            return Ok(Moved { event, stage });
+        }
+    }
+}
+
+// Where an answer leads: to an end by the first test that it fails, to a pause, or to itself.
+fn answered(
+    setting: &Setting,
+    import: &HostImport,
+    size: u64,
+    task: Task,
+    number: u32,
+    answer: Answer,
+) -> Stage
+    ensures { (w : Program) → IsSetting w setting.now → All IsShort (answer_of answer).pokes
+        → result ≡ stage_after (fault_of (option_to_list import.now.result) size w.plan (starts task) number (answer_of answer)) answer.ticks task number answer }
+{
+    let listed = listed_in(setting);
+    let in_start = is_start(&task);
+    match answer_fault(
+        import.result,
+        size,
+        setting.area,
+        listed,
+        in_start,
+        number,
+        &answer,
+    ) {
+        Some(end) => Stage::Ending(end),
+        None => passed(task, number, answer),
+    }
+}
+
+// Which function imports are listed, where that is told.
+fn listed_in(setting: &Setting) -> Option<&[bool]>
+    ensures { listed_of result ≡ option_map (λ l. l.items) setting.now.listed }
+{
+    match &setting.listed {
+        None => None,
+        Some(listed) => Some(listed.as_slice()),
+    }
+}
+
+// Whether a call for the task is inside the start function, or is it.
+fn is_start(task: &Task) -> bool
+    ensures { result ≡ starts task.now }
+{
+    match task {
+        Task::Entry(_) => false,
+        _ => true,
+    }
+}
+
+// An answer that passes its tests.
+fn passed(task: Task, import: u32, answer: Answer) -> Stage
+    ensures { result ≡ stage_after None answer.ticks task import answer }
+{
+    if answer.ticks == 0 {
+        return Stage::Answering { task, answer };
+    }
+    match task {
+        Task::Entry(entry) => Stage::Pausing(Pause {
+            entry,
+            import,
+            answer,
+        }),
+        _ => Stage::Ending(End::PauseInStart(import)),
+    }
+}
+
+/// An answer is told, with what it writes into the memory.
+pub(crate) fn tell_answer(
+    instance: &mut Instance<'_>,
+    task: Task,
+    answer: Answer,
+) -> Result<Moved, AllocError>
+    ensures comes { (w : Program) (l : PlainLeft) (supply : Supply) (left_then : ℕ) → PlaceFits w
+        (place_in (exports_of w.source) w.plan.area l (store_in instance.old) (waits_in instance.old) (Stage.Answering task answer))
+        → IfOk result (λ m. ComesFrom w (place_in (exports_of w.source) w.plan.area l (store_in instance.old) (waits_in instance.old) (Stage.Answering task answer)) left_then 0 m supply
+        supply l (store_in instance.new) (waits_in instance.new)) }
+    ensures code { code_in instance.new ≡ code_in instance.old }
+{
+    write_pokes(instance, &answer.pokes)?;
+    let value = answer.value;
+    let event = Event::Answered(value);
+    let stage = told(task, value);
+    Ok(Moved { event, stage })
+}
+
+// Where a program stands behind an answer that was told.
+fn told(task: Task, value: Option<Value>) -> Stage
+    ensures { result ≡ stage_told task value }
+{
+    match task {
+        Task::Outermost => Stage::Free,
+        Task::Start => Stage::Giving {
+            task: Task::Start,
+            value,
+        },
+        Task::Entry(entry) => Stage::Giving {
+            task: Task::Entry(entry),
+            value,
+        },
+    }
+}
+
+/// A value that was told is given to what waits for it.
+pub(crate) fn give(
+    setting: &Setting,
+    instance: &mut Instance<'_>,
+    left: &mut Left,
+    answers: &mut VecDeque<AnswerLine>,
+    devices: &mut Devices<'_>,
+    steps: &mut Steps,
+    task: Task,
+    value: Option<Value>,
+) -> Result<Moved, AllocError>
+    requires { steps.old.left + steps.old.used < 2 ^ 64 }
+    ensures comes { (w : Program) → IsSetting w setting.now → code_in instance.old ≡ w.source → All HasShortPokes (lines_in answers.old.items)
+        → PlaceFits w (place_in (exports_of w.source) w.plan.area (left_of left.old) (store_in instance.old) (waits_in instance.old) (Stage.Giving task value))
+        → IfOk result (λ m. ComesFrom w (place_in (exports_of w.source) w.plan.area (left_of left.old) (store_in instance.old) (waits_in instance.old) (Stage.Giving task value))
+        steps.old.left (steps.new.used - steps.old.used) m (supply_in seen faults answers.old.items devices.old) (supply_in seen faults answers.new.items devices.new) (left_of left.new)
+        (store_in instance.new) (waits_in instance.new)) }
+    ensures code { code_in instance.new ≡ code_in instance.old }
+    ensures sum { steps.new.left + steps.new.used ≡ steps.old.left + steps.old.used }
+    ensures grows { steps.old.used ≤ steps.new.used }
+    ensures same_list { devices.new.list.ghost_name ≡ devices.old.list.ghost_name }
+{
+    if !instance.is_waiting() {
+        return Err(AllocError);
+    }
+    let turn = instance.resume(value, steps)?;
+    match task {
+        Task::Entry(entry) => entry_ran(setting, instance, left, answers, devices, entry, turn),
+        Task::Start => start_ran(setting, instance, left, answers, devices, steps, turn),
+        Task::Outermost => Err(AllocError),
+    }
+}
