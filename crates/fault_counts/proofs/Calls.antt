@@ -11,8 +11,8 @@ use Rattle.wa_model.specs.Blocking.{Note}
 use Rattle.wa_model.specs.World.{Asked, Device, Program, base_names, import_names, is_named, name_at, MeetsLine, MeetsBound, Meets}
 use Rattle.event_order.specs.Left.{Counted}
 use Rattle.host_laws.specs.Supplies.{Answers, Counts, bound_to}
-use Rattle.turn_taking.specs.Calls.{devices_of, faults_of}
-use Rattle.turn_taking.specs.Telling.{supply}
+use Rattle.many_host.specs.Calls.{devices_of, faults_of}
+use Rattle.many_host.specs.Telling.{supply}
 use Rattle.world_replays.specs.Replays.{is_device_fault, is_fault}
 use Rattle.world_replays.proofs.Faults.{FaultIs, Opens, OpensIf}
 use Rattle.world_replays.proofs.Journals.{Replied}

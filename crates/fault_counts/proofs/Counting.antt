@@ -16,8 +16,8 @@ use Rattle.world_runs.proofs.StoryParts.{story_ends}
 use Rattle.world_replays.proofs.Faults.{Fine, Inner, OpensIf, story_told}
 use Rattle.event_order.specs.Left.{Counted, left_before}
 use Rattle.host_laws.specs.Supplies.{Supply, Takes}
-use Rattle.turn_taking.specs.Calls.{IsShown, TakesCall, devices_of, faults_of, left_at}
-use Rattle.turn_taking.specs.Telling.{supply}
+use Rattle.many_host.specs.Calls.{IsShown, TakesCall, devices_of, faults_of, left_at}
+use Rattle.many_host.specs.Telling.{supply}
 use Rattle.world_hosting.specs.Counts.{IsBegunBy, Took, turns_at}
 use Rattle.world_hosting.specs.Worlds.{turn_count, world_programs}
 use Rattle.fault_counts.specs.FaultCounts.{CountsTo, FaultsAreCounted, event_at, failed_as, failed_in, one_more_if, with_told}

@@ -11,7 +11,7 @@ use Rattle.vault_port.specs.Counts.{HasRisen}
 use Rattle.device_port.specs.Listed.{ChangesAt, IsFirstOf}
 use Rattle.event_order.specs.Left.{Counted, without, without_if, left_before}
 use Rattle.host_laws.specs.Supplies.{Counts, none_asked, one_asked}
-use Rattle.turn_taking.specs.Calls.{devices_of, faults_of}
+use Rattle.many_host.specs.Calls.{devices_of, faults_of}
 use Rattle.fault_counts.specs.FaultCounts.{CountsTo, one_more}
 
 -- a count and a journal together

@@ -8,7 +8,7 @@ use Rattle.wa_model.specs.Outside.{Event, ended, shown, Line}
 use Rattle.wa_model.specs.World.{Program, is_named}
 use Rattle.event_order.specs.Left.{Counted}
 use Rattle.host_laws.specs.Supplies.{bound_to}
-use Rattle.turn_taking.specs.Calls.{left_at}
+use Rattle.many_host.specs.Calls.{left_at}
 use Rattle.world_hosting.specs.Counts.{turns_at}
 use Rattle.world_hosting.specs.Worlds.{AreTold, Part, world_programs}
 

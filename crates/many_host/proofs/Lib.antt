@@ -1,6 +1,18 @@
-pub use Rattle.pause_host.proofs.Making
-pub use Rattle.turn_taking.proofs.Counts
-pub use Rattle.turn_taking.proofs.ToldPlaces as Places
-pub use Rattle.turn_taking.proofs.Worlds as ToldWorlds
+pub mod Beginning
+pub mod Begun
+pub mod Completed
+pub mod Counted
+pub mod Counts
+pub mod Further
+pub mod Notes
+pub mod Places
+pub mod Showing
+pub mod Starting
+pub mod Stories
+pub mod Telling
 pub mod Tellings
+pub mod TurnNotes
+pub mod TurnPlaces
+pub mod Turns
+pub mod WorldBegun
 pub mod Worlds

@@ -17,12 +17,12 @@ use Rattle.host_laws.specs.Stories.{IsAt}
 use Rattle.host_laws.specs.Supplies.{Takes}
 use Rattle.host_laws.proofs.Tellings.{place_begins, place_whole}
 use Rattle.event_order.specs.declared.shows.Show.{Show}
-use Rattle.turn_taking.specs.Turns.{Teller, ends_program, starting}
-use Rattle.turn_taking.specs.Notes.{OnStory}
+use Rattle.many_host.specs.Turns.{Teller, ends_program, starting}
+use Rattle.many_host.specs.Notes.{OnStory}
 use Rattle.pause_host.specs.declared.program.Program.{Program}
 use Rattle.pause_host.specs.Programs.{Advances, Follows, end_at, end_in, ended_as, lines_left, place_of, supply_with}
-use Rattle.turn_taking.specs.Telling.{TellsNote, supply}
-use Rattle.turn_taking.specs.Standing.{AllStart, IsHeld}
+use Rattle.many_host.specs.Telling.{TellsNote, supply}
+use Rattle.many_host.specs.Standing.{AllStart, IsHeld}
 use Rattle.many_host.specs.declared.hosted.Hosted.{Hosted}
 use Rattle.many_host.specs.Hosts.{AreSetUp, follows, has_ended, memory_of}
 

@@ -7,14 +7,14 @@ use Rattle.wa_model.specs.declared.events.Line.{Line as LineValue}
 use Rattle.wa_model.specs.Outside.{Line}
 use Rattle.wa_model.specs.World.{Device, Program, ProtocolWorld}
 use Rattle.event_order.specs.Dues.{HaveEnded}
-use Rattle.turn_taking.specs.Turns.{Teller}
-use Rattle.turn_taking.proofs.ToldPlaces.{item, zipped}
-use Rattle.turn_taking.specs.Notes.{OnStory}
-use Rattle.turn_taking.specs.Laws.{BeginsWorld}
-use Rattle.turn_taking.proofs.Worlds.{begun_begins, told_begins, told_whole}
-use Rattle.turn_taking.specs.declared.turns.Stage.{Stage}
-use Rattle.turn_taking.specs.declared.turns.Stage.TheVariants.{Between, Telling, Showing}
-use Rattle.turn_taking.specs.Standing.{AllTold, Held, Standing, TellsNext, held_of}
+use Rattle.many_host.specs.Turns.{Teller}
+use Rattle.many_host.proofs.Places.{item, zipped}
+use Rattle.many_host.specs.Notes.{OnStory}
+use Rattle.many_host.specs.ToldNotes.{BeginsWorld}
+use Rattle.many_host.proofs.WorldBegun.{begun_begins, told_begins, told_whole}
+use Rattle.many_host.specs.declared.turn_taking.Stage.{Stage}
+use Rattle.many_host.specs.declared.turn_taking.Stage.TheVariants.{Between, Telling, Showing}
+use Rattle.many_host.specs.Standing.{AllTold, Held, Standing, TellsNext, held_of}
 use Rattle.many_host.specs.declared.hosted.Hosted.{Hosted}
 use Rattle.many_host.specs.declared.host.Host.{Host}
 use Rattle.many_host.specs.Hosts.{HostNext, follows, has_ended, memory_of}

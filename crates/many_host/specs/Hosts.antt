@@ -13,7 +13,7 @@ use Rattle.event_order.specs.declared.shows.Show.{Show}
 use Rattle.event_order.specs.Looks.{looks_of}
 use Rattle.pause_host.specs.declared.program.Program.{Program}
 use Rattle.pause_host.specs.Programs.{Follows, ended_as, lines_left, memory_in}
-use Rattle.turn_taking.specs.Standing.{Standing, held_of}
+use Rattle.many_host.specs.Standing.{Standing, held_of}
 use Rattle.many_host.specs.declared.hosted.Hosted.{Hosted}
 use Rattle.many_host.specs.declared.host.Host.{Host}
 

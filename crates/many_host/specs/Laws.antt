@@ -3,7 +3,7 @@ use Rattle.std.specs.Prelude.{List}
 use Rattle.wa_model.specs.declared.answers.Detach.{Detach}
 use Rattle.wa_model.specs.Outside.{Line}
 use Rattle.wa_model.specs.World.{Device, Program}
-use Rattle.turn_taking.specs.Laws.{BeginsWorld}
+use Rattle.many_host.specs.ToldNotes.{BeginsWorld}
 use Rattle.many_host.specs.declared.host.Host.{Host}
 use Rattle.many_host.specs.Hosts.{HostTold}
 

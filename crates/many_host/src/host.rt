@@ -6,8 +6,8 @@ ghost use Rattle.wa_model.specs.World.{Device, Program as WorldProgram};
 ghost use Rattle.device_port.specs.Listed.{of_all};
 ghost use Rattle.host_laws.specs.Supplies.{IsLent};
 ghost use Rattle.event_order.specs.Dues.{HaveEnded};
-ghost use Rattle.turn_taking.specs.Calls.{BegunNext, TakesNext, left_at};
-ghost use Rattle.turn_taking.specs.Standing.{InRange, LooksOut};
+ghost use Rattle.many_host.specs.Calls.{BegunNext, TakesNext, left_at};
+ghost use Rattle.many_host.specs.Standing.{InRange, LooksOut};
 ghost use Rattle.many_host.specs.Hosts.{AreSetUp, HostNext, HostTold};
 
 use crate::hosted::Hosted;
@@ -15,7 +15,7 @@ use device_port::Devices;
 use event_order::Show;
 use pause_host::Program;
 use std::alloc::{AllocError, Global};
-use turn_taking::Turns;
+use crate::turn_taking::Turns;
 use wa_model::{Detach, Line};
 
 /// Several programs on one thread.

@@ -3,7 +3,7 @@
 use device_port::Devices;
 use pause_host::Program;
 use std::alloc::AllocError;
-use turn_taking::Teller;
+use crate::teller::Teller;
 use wa_model::Event;
 
 /// A program of a host.

@@ -5,7 +5,7 @@ use Rattle.vault_port.specs.Files.{Files}
 use Rattle.script_model.specs.Transcript.{Names, Transcript}
 use Rattle.wa_model.specs.World.{BlockingWorld}
 use Rattle.event_order.specs.Left.{Counted}
-use Rattle.turn_taking.specs.Calls.{devices_of}
+use Rattle.many_host.specs.Calls.{devices_of}
 use Rattle.script_opening.specs.Sources.{IsValidSource}
 use Rattle.host_files.specs.Held.{Holds}
 use Rattle.script_setup.specs.SetUpRules.{program_names}

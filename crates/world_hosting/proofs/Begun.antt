@@ -9,10 +9,10 @@ use Rattle.wa_model.specs.World.{Device}
 use Rattle.event_order.specs.declared.shows.Show.{Show}
 use Rattle.many_host.specs.Turns.{Teller, starting}
 use Rattle.many_host.proofs.Places.{item, zipped}
-use Rattle.many_host.specs.ToldLaws.{BeginsWorld}
+use Rattle.many_host.specs.ToldNotes.{BeginsWorld}
 use Rattle.many_host.specs.Notes.{OnStory}
-use Rattle.many_host.proofs.ToldWorlds.{told_begins}
-use Rattle.many_host.specs.Program.{Program}
+use Rattle.many_host.proofs.WorldBegun.{told_begins}
+use Rattle.pause_host.specs.declared.program.Program.{Program}
 use Rattle.many_host.specs.declared.hosted.Hosted.{Hosted}
 use Rattle.many_host.specs.Hosts.{AreSetUp}
 use Rattle.many_host.proofs.Tellings.{all_start, on_story}

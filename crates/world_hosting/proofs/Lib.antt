@@ -1,4 +1,4 @@
-pub use Rattle.many_host.proofs.Making
+pub use Rattle.pause_host.proofs.Making
 pub mod Begun
 pub mod Printed
 pub mod ScriptPlans

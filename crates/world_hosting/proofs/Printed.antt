@@ -18,9 +18,9 @@ use Rattle.device_port.specs.declared.devices.Devices.{Devices}
 use Rattle.device_port.specs.Listed.{of_all}
 use Rattle.event_order.specs.Dues.{HaveEnded}
 use Rattle.event_order.specs.Left.{Counted}
-use Rattle.many_host.specs.ToldLaws.{BeginsWorld}
+use Rattle.many_host.specs.ToldNotes.{BeginsWorld}
 use Rattle.many_host.specs.Calls.{BegunBy, BegunNext, TakesCall, TakesNext, devices_of, left_at}
-use Rattle.many_host.specs.Stage.{Stage}
+use Rattle.many_host.specs.declared.turn_taking.Stage.{Stage}
 use Rattle.many_host.specs.Standing.{LooksOut}
 use Rattle.many_host.proofs.Counts.{counted_devices}
 use Rattle.many_host.specs.declared.host.Host.{Host}

@@ -1,6 +1,5 @@
 -- What the lines of a script tell of a program fits a plan.
-use Rattle.std.proofs.Common.{pow_pos, option_map, ◌==◌, ◌∙◌, arith, ◌≡◌, ℕ, ◌+◌, ◌-◌, ◌*◌, ◌<◌, ◌≤◌, ◌^◌, ◌&&◌, nat_le, Bool}
-use Rattle.std.proofs.Common.{true, false, Option, Some, None, Ok, Err, List, [], ◌∷◌, length, subst, refl, if◌then◌else◌, codes, All}
+use Rattle.std.proofs.Common.{pow_pos, option_map, ◌==◌, ◌∙◌, arith, ◌≡◌, ℕ, ◌+◌, ◌-◌, ◌*◌, ◌<◌, ◌≤◌, ◌^◌, ◌&&◌, nat_le, Bool, true, false, Option, Some, None, Ok, Err, List, [], ◌∷◌, length, subst, refl, if◌then◌else◌, codes, All}
 use Rattle.std.specs.Str.{bytes_eq}
 use Rattle.std.proofs.lemmas.Bool.{leb-true}
 use Rattle.std.proofs.lemmas.List.Elements.{All-nil, All-cons, All-weaker}
@@ -10,15 +9,10 @@ use Rattle.wa_types.specs.declared.values.Value.TheVariants as V
 use Rattle.script_model.specs.Command.{behind}
 use Rattle.wa_model.specs.Plan.{AnswerFits, PokeFits, ValueFits}
 use Rattle.wa_model.specs.Outside.{Poke}
-use Rattle.script_model.specs.ScriptLines.{Statement, begins_program, lists_imports, ignores_imports, saves, has_area, has_steps, sets_global, binds, enters, answers, shows, detaches}
-use Rattle.script_model.specs.ScriptLines.{Keyword, program_word, imports_word, ignore_imports_word, save_word, area_word, steps_word}
-use Rattle.script_model.specs.ScriptLines.{global_word, device_word, enter_word, answer_word, show_word, detach_word}
+use Rattle.script_model.specs.ScriptLines.{Statement, begins_program, lists_imports, ignores_imports, saves, has_area, has_steps, sets_global, binds, enters, answers, shows, detaches, Keyword, program_word, imports_word, ignore_imports_word, save_word, area_word, steps_word, global_word, device_word, enter_word, answer_word, show_word, detach_word, Said, PokeWords, hex_value, joined_digits, hex_bytes, hex_in, if_within, number_in, number_within, integer_in, negative, i32_in, i64_in, u32_in, all_values, value_in, unless_none, says_two, says_policy, pokes_in, poke_of, all_pokes, result_in, answer_with, says_answer, says, says_with, keyword_in, words_say, line_words, line_says}
 use Rattle.script_model.specs.ScriptLines as L
-use Rattle.script_model.specs.ScriptLines.{Said, PokeWords, hex_value, joined_digits, hex_bytes, hex_in, if_within, number_in, number_within, integer_in}
-use Rattle.script_model.specs.ScriptLines.{negative, i32_in, i64_in, u32_in, all_values, value_in, unless_none, says_two, says_policy}
-use Rattle.script_model.specs.ScriptLines.{pokes_in, poke_of, all_pokes, result_in, answer_with, says_answer, says, says_with, keyword_in, words_say, line_words, line_says}
-use Rattle.many_host.specs.Answering.{IsShort}
-use Rattle.many_host.specs.Moves.{HasShortPokes}
+use Rattle.host_laws.specs.Answering.{IsShort}
+use Rattle.pause_host.specs.Moves.{HasShortPokes}
 
 -- ---- what a statement tells
 

@@ -9,12 +9,10 @@ use Rattle.std.proofs.lemmas.List.Sums.{count_by-le-length}
 use Rattle.wa_model.specs.Outside.{AnswerLine}
 use Rattle.script_model.specs.Script.{EntryText, GlobalText, ProgramText, Script, ScriptFault}
 use Rattle.script_model.specs.ScriptLines.{Statement, begins_program, lists_imports, ignores_imports, saves, has_area, has_steps, sets_global, binds, enters, answers, shows, detaches, line_says}
-use Rattle.script_model.specs.ScriptText.{Numbered, Group, Grouped, AreaText, fault_of, unless_fault, with_line, statements, grouped_with, grouped}
-use Rattle.script_model.specs.ScriptText.{default_steps, steps_of, entry_of, global_of, answer_of, area_of, detach_of, told_by}
-use Rattle.script_model.specs.ScriptText.{lines_by, program_of, with_program, programs_of, with_programs, script_of, script_text}
+use Rattle.script_model.specs.ScriptText.{Numbered, Group, Grouped, AreaText, fault_of, unless_fault, with_line, statements, grouped_with, grouped, default_steps, steps_of, entry_of, global_of, answer_of, area_of, detach_of, told_by, lines_by, program_of, with_program, programs_of, with_programs, script_of, script_text}
 use Rattle.wa_types.specs.Sizes.{value_fits}
 use Rattle.wa_model.specs.Plan.{AnswerFits}
-use Rattle.many_host.specs.Moves.{HasShortPokes}
+use Rattle.pause_host.specs.Moves.{HasShortPokes}
 use Rattle.world_hosting.specs.Worlds.{FitsPlan, HasRanges}
 use Rattle.world_hosting.specs.Laws.{ScriptsFit, ScriptsInRange}
 use Rattle.world_hosting.proofs.ScriptPlans.{SaysFit, line_fits}

@@ -1,6 +1,5 @@
 -- Programs that are set up can be hosted.
-use Rattle.std.proofs.Common.{◌≡◌, ℕ, zero, suc, ◌+◌, ◌<◌, List, [], ◌∷◌, ◌++◌, length, map}
-use Rattle.std.proofs.Common.{Option, Some, None, Bool, true, false, if◌then◌else◌, nat_eq, slice_get, get_or, take, append_assoc, refl, sym, ap, ◌∙◌, subst, arith}
+use Rattle.std.proofs.Common.{◌≡◌, ℕ, zero, suc, ◌+◌, ◌<◌, List, [], ◌∷◌, ◌++◌, length, map, Option, Some, None, Bool, true, false, if◌then◌else◌, nat_eq, slice_get, get_or, take, append_assoc, refl, sym, ap, ◌∙◌, subst, arith}
 use Rattle.std.specs.List.{cons_option}
 use Rattle.std.proofs.lemmas.Bool.Decides.{nat_tests}
 use Rattle.std.proofs.lemmas.List.{append-nil, length-map, map_more}
@@ -10,8 +9,8 @@ use Rattle.wa_model.specs.World.{Look}
 use Rattle.event_order.specs.declared.shows.Show.{Show}
 use Rattle.event_order.specs.Looks.{looks_of}
 use Rattle.event_order.specs.Looks as E
-use Rattle.many_host.specs.Program.{Program}
-use Rattle.many_host.specs.Programs.{Follows, lines_left}
+use Rattle.pause_host.specs.declared.program.Program.{Program}
+use Rattle.pause_host.specs.Programs.{Follows, lines_left}
 use Rattle.many_host.specs.Hosts.{AreSetUp}
 use Rattle.script_reader.specs.declared.script.ShowText.{ShowText}
 use Rattle.script_reader.specs.Views.{show_of}

@@ -14,12 +14,12 @@ use Rattle.wa_model.specs.View.{answer_line_of}
 use Rattle.wa_model.specs.World as W
 use Rattle.host_setup.specs.SetUp.{NamedEntry, Fault, set_up}
 use Rattle.host_setup.specs.Views.{entry_of as named_entry_of}
-use Rattle.many_host.specs.Moves.{HasShortPokes}
-use Rattle.many_host.specs.Plan.{Plan}
-use Rattle.many_host.specs.Program.{Program}
-use Rattle.many_host.specs.Programs.{Follows, IsPlan, SetsUp, lines_left, named_entries, source_of}
-use Rattle.many_host.specs.Programs as P
-use Rattle.many_host.specs.Settings.{calls_of}
+use Rattle.pause_host.specs.Moves.{HasShortPokes}
+use Rattle.pause_host.specs.declared.plan.Plan.{Plan}
+use Rattle.pause_host.specs.declared.program.Program.{Program}
+use Rattle.pause_host.specs.Programs.{Follows, IsPlan, SetsUp, lines_left, named_entries, source_of}
+use Rattle.pause_host.specs.Programs as P
+use Rattle.pause_host.specs.Settings.{calls_of}
 use Rattle.script_setup.specs.declared.setting.SetUp.{SetUp as SetUpValue}
 use Rattle.script_setup.specs.SetUpRules.{named_entry, set_up_rules}
 use Rattle.script_setup.specs.Views.{set_up_of}

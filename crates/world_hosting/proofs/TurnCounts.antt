@@ -8,8 +8,8 @@ use Rattle.wa_model.specs.World.{Device, Look, Program, ends_turn, events_with_l
 use Rattle.event_order.specs.Looks.{looks_of}
 use Rattle.many_host.specs.Notes.{GoesOn, TellsOn}
 use Rattle.many_host.specs.Turns.{EndsOnce, Teller, Tells}
-use Rattle.many_host.specs.Stage.{Stage}
-use Rattle.many_host.specs.Stage.TheVariants.{Between, Telling, Showing}
+use Rattle.many_host.specs.declared.turn_taking.Stage.{Stage}
+use Rattle.many_host.specs.declared.turn_taking.Stage.TheVariants.{Between, Telling, Showing}
 use Rattle.many_host.specs.Calls.{BegunBy}
 use Rattle.many_host.specs.Standing.{LooksOut, StandsAt, held_of, looks_at}
 use Rattle.many_host.specs.declared.host.Host.{Host}

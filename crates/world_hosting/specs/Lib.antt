@@ -1,5 +1,5 @@
 pub use Rattle.device_bindings.specs.Bindings
-pub use Rattle.many_host.specs.Settings
+pub use Rattle.pause_host.specs.Settings
 pub mod Counts
 pub mod Laws
 pub mod Parted

@@ -9,7 +9,7 @@ use Rattle.run_theory.specs.Fitting.{global_types, types_of}
 use Rattle.script_model.specs.Script.{ProgramText}
 use Rattle.host_setup.specs.SetUp.{set_up}
 use Rattle.host_setup.specs.Views.{entry_of as named_entry_of}
-use Rattle.many_host.specs.Programs.{Follows, lines_left}
+use Rattle.pause_host.specs.Programs.{Follows, lines_left}
 use Rattle.script_reader.specs.Views.{show_of}
 use Rattle.script_setup.specs.declared.setting.SetUp.{SetUp}
 use Rattle.script_setup.specs.SetUpRules.{named_entry}

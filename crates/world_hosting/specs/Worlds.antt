@@ -10,8 +10,8 @@ use Rattle.script_model.specs.Script.{EntryText, GlobalText, ProgramText, ShowTe
 use Rattle.script_model.specs.Transcript.{Names, Transcript, event_lines}
 use Rattle.wa_model.specs.World.{Device, Look, Program, ProtocolWorld}
 use Rattle.event_order.specs.Left.{Counted}
-use Rattle.many_host.specs.Moves.{HasShortPokes}
-use Rattle.many_host.specs.Settings.{calls_of}
+use Rattle.pause_host.specs.Moves.{HasShortPokes}
+use Rattle.pause_host.specs.Settings.{calls_of}
 use Rattle.script_setup.specs.SetUpRules.{SetUp, named_entry, program_names}
 use Rattle.many_host.specs.Calls.{devices_of}
 use Rattle.vault_port.specs.declared.whole.PutFault.{PutFault}

@@ -3,7 +3,7 @@ use Rattle.std.specs.Borrow.{Bor}
 use Rattle.std.specs.Global.{Vec}
 use Rattle.wa_types.specs.declared.syntax.Module.{Module as ModuleValue}
 use Rattle.wa_types.specs.View.{module_of}
-use Rattle.many_host.specs.Plan.{Plan}
+use Rattle.pause_host.specs.declared.plan.Plan.{Plan}
 use Rattle.script_reader.specs.declared.script.ProgramText.{ProgramText}
 use Rattle.script_reader.specs.Views.{bind_of, program_of}
 use Rattle.script_setup.specs.declared.setting.SetUp.{SetUp}

@@ -1,0 +1,175 @@
+-- What was told, as the first lines of a world's run.
+use Rattle.std.proofs.Common.{arith, ◌≡◌, ◌<◌, ℕ, suc, zero, List, [], ◌∷◌, ◌++◌, length, map, Some, Bool, true, false, slice_get, slice_set, refl, sym, ap, ◌∙◌, subst, append_assoc, append-nil}
+use Rattle.std.specs.Prelude.{MatchBool}
+use Rattle.std.specs.List.{AllZip}
+use Rattle.std.proofs.lemmas.List.{map-append}
+use Rattle.std.proofs.lemmas.Option.{same_Some}
+use Rattle.wa_model.specs.declared.answers.Detach.{Detach}
+use Rattle.wa_model.specs.Outside.{Line}
+use Rattle.wa_model.specs.Plan.{Outcome}
+use Rattle.wa_model.specs.Blocking.{Note, events_of}
+use Rattle.wa_model.specs.World.{Device, Program, CallsMeet, ProtocolWorld, behind_turn, detached, events_with_looks, line_at, protocol_story, turn_of}
+use Rattle.world_laws.proofs.Counting.{Ends}
+use Rattle.world_runs.proofs.GoingOn.{worlds_go_on}
+use Rattle.world_runs.proofs.LineCalls.{turn_parts}
+use Rattle.event_order.specs.Dues.{IsLeast}
+use Rattle.many_host.specs.Turns.{Teller, due_of, ends_program, having_told, Tells, TellsTurn, IsRest, HasStory}
+use Rattle.many_host.proofs.Telling.{all_told_is_world, told_is_world}
+use Rattle.many_host.proofs.Places.{set_here}
+use Rattle.many_host.specs.Notes.{OnStory, TellsOn}
+use Rattle.many_host.specs.ToldNotes.{BeginsWorld, BegunBegins, ToldBegins, ToldWhole}
+use Rattle.many_host.proofs.Notes.{calls_more, ends_none}
+use Rattle.many_host.proofs.Counted.{Counted, counted, counted_on}
+use Rattle.many_host.proofs.Completed.{Front, calls_front, ends_behind, looks_behind, once_behind, turn_once, turn_rest}
+use Rattle.many_host.proofs.Stories.{Further, further}
+
+-- ---- stories of programs that were told in part
+
+some_rest : (xs : List Note) → Ends xs → 0 < length xs
+some_rest [] h = absurd h
+some_rest (x ∷ xs) h = omega arith
+
+had : (w : Program) (t : Teller) → Counted t → OnStory w t → HasStory w t
+had w t count on = by t.has_ended refl on.whole where
+  is_rest : (b c : Bool) (rest : List Note) → b ≡ c → IsRest c rest → IsRest b rest
+  is_rest b c rest e r = subst (λ (x : Bool). IsRest x rest) (sym e) r
+
+  by : (b : Bool) → t.has_ended ≡ b → MatchBool b (t.told ≡ protocol_story w t.met) (ends_program t.told ≡ false) → HasStory w t
+  by true e whole =
+      record { rest = []; more = []; story = ap (protocol_story w) (append-nil t.met) ∙ sym whole ∙ sym (append-nil t.told); is_rest = is_rest t.has_ended true [] e refl }
+  by false e live =
+      let from = on.begins [] in
+      let f = further w t.met t.told [] [] count live [] from.0 from.1 in
+      record { rest = f.full; more = f.outcomes; story = f.story; is_rest = is_rest t.has_ended false f.full e (some_rest f.full f.ends) }
+
+all_had : (ws : List Program) (tellers : List Teller) → ((j : ℕ) (t : Teller) → slice_get tellers j ≡ Some t → Counted t) → AllZip OnStory ws tellers → AllZip HasStory ws tellers
+all_had [] [] c h = tt
+all_had [] (t ∷ tellers) c h = absurd h
+all_had (w ∷ ws) [] c h = absurd h
+all_had (w ∷ ws) (t ∷ tellers) c h = (had w t (c 0 t refl) h.0, all_had ws tellers (λ j. c (suc j)) h.1)
+
+-- ---- whole turns
+
+begins_by : (programs : List Program) (detaches : List Detach) (ds ds' : List Device) (number : ℕ) (lines : List Line) (tellers : List Teller)
+    → Tells programs detaches ds number lines tellers ds' → AllZip HasStory programs tellers → BeginsWorld programs detaches ds lines
+begins_by programs detaches ds ds' number lines tellers tells all = worlds_go_on programs detaches ds ds' number lines (told_is_world programs detaches ds ds' number lines tellers tells all)
+
+pub told_begins : ToldBegins
+told_begins programs detaches ds ds' number lines tellers tells all =
+    begins_by programs detaches ds ds' number lines tellers tells (all_had programs tellers (counted programs detaches ds number lines tellers ds' tells) all)
+
+pub told_whole : ToldWhole
+told_whole programs detaches ds ds' number lines tellers tells all ended =
+    all_told_is_world programs detaches ds ds' number lines tellers tells (all_had programs tellers (counted programs detaches ds number lines tellers ds' tells) all) ended
+
+-- ---- a turn that has begun
+
+zip_at : (ws : List Program) (ts : List Teller) (i : ℕ) (w : Program) (t : Teller) → AllZip OnStory ws ts → slice_get ws i ≡ Some w → slice_get ts i ≡ Some t → OnStory w t
+zip_at [] [] i w t h ew et = cc
+zip_at [] (u ∷ ts) i w t h ew et = absurd h
+zip_at (v ∷ ws) [] i w t h ew et = absurd h
+zip_at (v ∷ ws) (u ∷ ts) zero w t h ew et = subst (λ (x : Program). OnStory x t) (same_Some v w ew) (subst (λ (x : Teller). OnStory v x) (same_Some u t et) h.0)
+zip_at (v ∷ ws) (u ∷ ts) (suc i) w t h ew et = zip_at ws ts i w t h.1 ew et
+
+zip_set : (ws : List Program) (ts : List Teller) (i : ℕ) (w : Program) (u v : Teller) → slice_get ws i ≡ Some w → AllZip HasStory ws (slice_set ts i u) → HasStory w v
+    → AllZip HasStory ws (slice_set ts i v)
+zip_set [] [] i w u v ew h s = tt
+zip_set [] (t ∷ ts) zero w u v ew h s = absurd h
+zip_set [] (t ∷ ts) (suc i) w u v ew h s = absurd h
+zip_set (x ∷ ws) [] i w u v ew h s = absurd h
+zip_set (x ∷ ws) (t ∷ ts) zero w u v ew h s = (subst (λ (y : Program). HasStory y v) (sym (same_Some x w ew)) s, h.1)
+zip_set (x ∷ ws) (t ∷ ts) (suc i) w u v ew h s = (h.0, zip_set ws ts i w u v ew h.1 s)
+
+module _ (programs : List Program) (detaches : List Detach) (ds ds' : List Device) (number i due : ℕ) (lines : List Line) (tellers : List Teller)
+    (on : TellsOn programs detaches ds number i due lines tellers ds') (all : AllZip OnStory programs tellers) where
+  abbrev now : Teller
+  now = having_told on.t on.turn on.met on.answers
+
+  abbrev count : (j : ℕ) (t : Teller) → slice_get tellers j ≡ Some t → Counted t
+  count = counted_on programs detaches ds number i due lines tellers ds' on
+
+  there : slice_get tellers i ≡ Some now
+  there = ap (λ (l : List Teller). slice_get l i) on.after ∙ set_here on.mid i now on.t on.there
+
+  live_by : (b : Bool) → b ≡ false → MatchBool b (now.told ≡ protocol_story on.w now.met) (ends_program now.told ≡ false) → ends_program now.told ≡ false
+  live_by true e h = cc
+  live_by false e h = h
+
+  story : OnStory on.w now
+  story = zip_at programs tellers i on.w now all on.program there
+
+  abbrev f : Further on.w now.met now.told on.answers ds'
+  f =
+      further on.w now.met now.told on.answers ds' (count i now there) (live_by now.has_ended (ends_none on.turn on.goes_on) story.whole) []
+      (story.begins []).0 (story.begins []).1
+
+  front : Front on.w (turn_of f.full) f.outcomes on.answers ds'
+  front =
+      calls_front on.w (turn_of f.full) (behind_turn f.full) f.outcomes on.answers f.left ds' f.last
+      (subst (λ (l : List Note). CallsMeet on.w l f.outcomes on.answers ds' [] f.left f.last) (sym (turn_parts f.full)) f.meets)
+
+  abbrev turn : List Note
+  turn = on.turn ++ turn_of f.full
+
+  abbrev last : Teller
+  last = having_told on.t turn (on.met ++ front.first) front.answers
+
+  last_story : HasStory on.w last
+  last_story =
+      record {
+        rest = behind_turn f.full;
+        more = front.more;
+        story =
+            ap (protocol_story on.w) ((λ k. sym (append_assoc on.t.met on.met front.first) k ++ front.more) ∙ append_assoc now.met front.first front.more
+            ∙ ap (λ (l : List Outcome). now.met ++ l) (sym front.all))
+            ∙ f.story
+            ∙ ap (λ (l : List Note). now.told ++ l) (sym (turn_parts f.full))
+            ∙ sym (append_assoc now.told (turn_of f.full) (behind_turn f.full))
+            ∙ (λ k. append_assoc on.t.told on.turn (turn_of f.full) k ++ behind_turn f.full);
+        is_rest = subst (λ (b : Bool). IsRest b (behind_turn f.full)) (sym (ends_behind on.turn (turn_of f.full) on.goes_on)) (turn_rest f.full f.ends);
+      }
+
+  abbrev rest_lines : List Line
+  rest_lines = map (line_at due i) (events_with_looks on.w.looks (turn_of f.full))
+
+  told_turn : TellsTurn programs detaches (suc number) on.mid on.es (map (line_at due i) (events_of on.turn) ++ rest_lines) (slice_set on.mid i last) front.devices
+  told_turn =
+      record {
+        i = i;
+        w = on.w;
+        t = on.t;
+        program = on.program;
+        there = on.there;
+        unfinished = on.unfinished;
+        next = subst (λ (n : ℕ). IsLeast (map due_of on.mid) i n) (sym on.due_is) on.next;
+        turn = turn;
+        whole = once_behind on.turn (turn_of f.full) on.goes_on (turn_once f.full f.ends);
+        met = on.met ++ front.first;
+        answers = front.answers;
+        calls = calls_more on.w on.turn (turn_of f.full) on.met front.first on.t.answers on.answers front.answers (detached (suc number) detaches on.es) ds' front.devices on.calls front.calls;
+        made =
+            sym (map-append (line_at due i) (events_of on.turn) (events_with_looks on.w.looks (turn_of f.full)))
+            ∙ ap (map (line_at due i)) (sym (looks_behind on.w.looks on.turn (turn_of f.full) on.goes_on))
+            ∙ ap (λ (n : ℕ). map (line_at n i) (events_with_looks on.w.looks turn)) (sym on.due_is);
+        after = refl;
+      }
+
+  whole : Tells programs detaches ds (suc number) (lines ++ rest_lines) (slice_set on.mid i last) front.devices
+  whole = (
+    on.before,
+    map (line_at due i) (events_of on.turn) ++ rest_lines,
+    on.mid,
+    on.es,
+    on.whole,
+    told_turn,
+    ap (λ (l : List Line). l ++ rest_lines) on.made ∙ append_assoc on.before (map (line_at due i) (events_of on.turn)) rest_lines,
+  )
+
+  pub begins_on : BeginsWorld programs detaches ds lines
+  begins_on =
+      let have = zip_set programs on.mid i on.w now last on.program (subst (AllZip HasStory programs) on.after (all_had programs tellers count all)) last_story in
+      let run = begins_by programs detaches ds front.devices (suc number) (lines ++ rest_lines) (slice_set on.mid i last) whole have in
+      (rest_lines ++ run.0, run.1, subst (λ (l : List Line). ProtocolWorld programs detaches ds l run.1) (append_assoc lines rest_lines run.0) run.2)
+
+pub begun_begins : BegunBegins
+begun_begins programs detaches ds ds' number i due lines tellers on all = begins_on programs detaches ds ds' number i due lines tellers on all

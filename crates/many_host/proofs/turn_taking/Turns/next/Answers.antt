@@ -1,0 +1,52 @@
+use Rattle.std.proofs.Common.{subst, sym}
+use Rattle.std.specs.Prelude.{IfOk}
+use Rattle.wa_model.specs.View.{line_of}
+use Rattle.many_host.proofs.Counts.{left_kept, taken_of}
+use Rattle.many_host.specs.declared.turn_taking.Stage.{Stage}
+use Rattle.many_host.specs.Calls.{BegunBy, BegunNext}
+use Rattle.many_host.specs.Standing.{held_of}
+use Rattle.many_host.proofs.Beginning.{standing}
+use Rattle.many_host.proofs.turn_taking.Turns.next.Goals as goal
+
+pub returns-in-Between-clause-told : goal.returns-in-Between-clause-told
+returns-in-Between-clause-told g c = λ programs detaches ds lines s.
+    c.begin.ensures.told programs detaches ds lines
+    (standing g.T.Teller.follows g.T.Teller.has_ended g.T.Teller.memory programs detaches ds lines (held_of c.args.self.now) _ c.args.self.now.stage _ c.in-Between.is s)
+
+pub returns-in_ok-tell-in-Telling-clause-told : goal.returns-in_ok-tell-in-Telling-clause-told
+returns-in_ok-tell-in-Telling-clause-told g c = λ programs detaches ds lines s.
+    c.in_ok-tell-in-Telling.ensures.told programs detaches ds lines
+    (standing g.T.Teller.follows g.T.Teller.has_ended g.T.Teller.memory programs detaches ds lines (held_of c.args.self.now) _ c.args.self.now.stage _ c.in-Telling.is s)
+
+pub returns-in-Showing-clause-told : goal.returns-in-Showing-clause-told
+returns-in-Showing-clause-told g c = λ programs detaches ds lines s.
+    c.show.ensures.told programs detaches ds lines
+    (standing g.T.Teller.follows g.T.Teller.has_ended g.T.Teller.memory programs detaches ds lines (held_of c.args.self.now) _ c.args.self.now.stage _ c.in-Showing.is s)
+
+pub returns-in-Between-clause-calls : goal.returns-in-Between-clause-calls
+returns-in-Between-clause-calls g c = λ programs detaches ds lines s.
+    c.begin.ensures.calls programs detaches ds lines
+    (standing g.T.Teller.follows g.T.Teller.has_ended g.T.Teller.memory programs detaches ds lines (held_of c.args.self.now) _ c.args.self.now.stage _ c.in-Between.is s)
+
+pub returns-in-Showing-clause-calls : goal.returns-in-Showing-clause-calls
+returns-in-Showing-clause-calls g c = λ programs detaches ds lines s.
+    c.show.ensures.calls programs detaches ds lines
+    (standing g.T.Teller.follows g.T.Teller.has_ended g.T.Teller.memory programs detaches ds lines (held_of c.args.self.now) _ c.args.self.now.stage _ c.in-Showing.is s)
+
+pub returns-in_ok-tell-in-Telling-clause-calls : goal.returns-in_ok-tell-in-Telling-clause-calls
+returns-in_ok-tell-in-Telling-clause-calls g c = λ programs detaches ds lines s.
+    taken_of programs (line_of c.in_ok-tell-in-Telling.field-0) _ _ _ (left_kept c.args.self.now.begun c.tell.new.self.begun detaches _ c.tell.ensures.begun)
+    (c.in_ok-tell-in-Telling.ensures.calls programs detaches ds lines
+    (standing g.T.Teller.follows g.T.Teller.has_ended g.T.Teller.memory programs detaches ds lines (held_of c.args.self.now) _ c.args.self.now.stage _ c.in-Telling.is s))
+
+pub returns-in-Between-clause-begun : goal.returns-in-Between-clause-begun
+returns-in-Between-clause-begun g c =
+    subst (λ (stage : Stage). IfOk c.begin.result (λ r. BegunNext stage c.args.self.now.begun c.begin.new.self.begun r)) (sym c.in-Between.is) c.begin.ensures.begun
+
+pub returns-in_ok-tell-in-Telling-clause-begun : goal.returns-in_ok-tell-in-Telling-clause-begun
+returns-in_ok-tell-in-Telling-clause-begun g c =
+    subst (λ (stage : Stage). BegunBy stage c.args.self.now.begun c.tell.new.self.begun (line_of c.in_ok-tell-in-Telling.field-0).event) (sym c.in-Telling.is) c.tell.ensures.begun
+
+pub returns-in-Showing-clause-begun : goal.returns-in-Showing-clause-begun
+returns-in-Showing-clause-begun g c =
+    subst (λ (stage : Stage). IfOk c.show.result (λ r. BegunNext stage c.args.self.now.begun c.show.new.self.begun r)) (sym c.in-Showing.is) c.show.ensures.begun

@@ -1,0 +1,112 @@
+-- Several programs of a world, as they are held between two lines.
+use Rattle.std.specs.Prelude.{◌≡◌, ◌≤◌, ◌<◌, ℕ, suc, ◌+◌, List, [], ◌∷◌, ◌++◌, length, map, drop, Option, Some, Bool, MatchOption, slice_get}
+use Rattle.wa_model.specs.declared.answers.Detach.{Detach}
+use Rattle.wa_model.specs.declared.events.Line.{Line as LineValue}
+use Rattle.wa_model.specs.Outside.{AnswerLine, Event, paused, ended, shown, Line}
+use Rattle.wa_model.specs.Plan.{Outcome}
+use Rattle.wa_model.specs.View.{line_of}
+use Rattle.wa_model.specs.Blocking.{Note}
+use Rattle.wa_model.specs.World.{Device, Look, Program, bytes_shown, is_end, line_at, ticks_in}
+use Rattle.event_order.specs.declared.shows.Show.{Show}
+use Rattle.event_order.specs.declared.turns.Turn.{Turn}
+use Rattle.event_order.specs.Dues.{HaveEnded}
+use Rattle.event_order.specs.Looks.{looks_of}
+use Rattle.many_host.specs.Turns.{Teller, starting, unless, due_of, ends_program, Tells}
+use Rattle.many_host.specs.Notes.{TellsOn}
+use Rattle.many_host.specs.declared.turn_taking.Stage.{Stage}
+use Rattle.many_host.specs.declared.turn_taking.Stage.TheVariants.{Between, Telling, Showing}
+use Rattle.many_host.specs.declared.turn_taking.Turns.{Turns}
+
+-- The programs, when each is due, the devices to be taken out, what is shown behind ends, and how many turns have begun.
+pub record Held (X : Type 0) : Type 0 where
+  pub programs : List X
+  pub dues : List (Option ℕ)
+  pub detaches : List Detach
+  pub shows : List Show
+  pub begun : ℕ
+
+-- what is held
+abbrev pub held_of : {X : Type 0} → Turns X → Held X
+held_of h = record { programs = h.programs.items; dues = h.dues.items; detaches = h.detaches.items; shows = h.shows.items; begun = h.begun }
+
+-- A program of a world is held so: it has told what the teller has, and has ended where that has; its looks are its shows.
+pub record IsHeld {X : Type 0} (follows : X → Program → List Note → List Outcome → List AnswerLine → Type 0) (over : X → Bool) (shows : List Show) (i : ℕ) (w : Program) (t : Teller)
+    (x : X) : Type 0 where
+  pub follow : follows x w t.told t.met t.answers
+  pub ended_is : over x ≡ t.has_ended
+  pub told_end : ends_program t.told ≡ t.has_ended
+  pub looks : w.looks ≡ looks_of i shows
+
+-- the events of looks at a memory
+abbrev pub looks_at : List ℕ → List Look → List Event
+looks_at memory looks = map (λ (k : Look). shown k.at (bytes_shown memory k)) looks
+
+-- Whole turns are told; or a turn has begun; or whole turns but for what is still to be shown of a program's memory.
+abbrev pub StandsAt : {X : Type 0} → (X → List ℕ) → List Program → List Detach → List Device → List Line → List Teller → Held X → List Device → Stage → Type 0
+StandsAt memory programs detaches ds lines tellers h ds' Between = Tells programs detaches ds h.begun lines tellers ds'
+StandsAt memory programs detaches ds lines tellers h ds' (Telling turn) = (number : ℕ) × (h.begun ≡ suc number) × TellsOn programs detaches ds number turn.program turn.due lines tellers ds'
+StandsAt {X} memory programs detaches ds lines tellers h ds' (Showing turn from) =
+    (x : X) × (slice_get h.programs turn.program ≡ Some x)
+    × Tells programs detaches ds h.begun (lines ++ map (line_at turn.due turn.program) (looks_at (memory x) (looks_of turn.program (drop from h.shows)))) tellers ds'
+
+-- These lines of a world of the programs have been told, and these devices are there now.
+pub record Standing {X : Type 0} (follows : X → Program → List Note → List Outcome → List AnswerLine → Type 0) (over : X → Bool) (memory : X → List ℕ)
+    (programs : List Program) (detaches : List Detach) (ds : List Device) (lines : List Line) (h : Held X) (ds' : List Device) (stage : Stage) : Type 0 where
+  pub tellers : List Teller
+  pub wide : length tellers ≡ length programs
+  pub as_many : length h.programs ≡ length programs
+  pub each : (i : ℕ) (w : Program) (t : Teller) (x : X) → slice_get programs i ≡ Some w → slice_get tellers i ≡ Some t → slice_get h.programs i ≡ Some x → IsHeld follows over h.shows i w t x
+  pub dues : h.dues ≡ map due_of tellers
+  pub detaches_are : h.detaches ≡ detaches
+  pub at : StandsAt memory programs detaches ds lines tellers h ds' stage
+
+-- All programs have ended, and all their looks are out.
+pub record AllTold {X : Type 0} (follows : X → Program → List Note → List Outcome → List AnswerLine → Type 0) (over : X → Bool) (memory : X → List ℕ)
+    (programs : List Program) (detaches : List Detach) (ds : List Device) (lines : List Line) (h : Held X) (ds' : List Device) : Type 0 where
+  pub stands : Standing follows over memory programs detaches ds lines h ds' Between
+  pub have_ended : HaveEnded h.dues
+
+-- One line more is told, or there is none more.
+abbrev pub TellsNext : {X : Type 0} → (X → Program → List Note → List Outcome → List AnswerLine → Type 0) → (X → Bool) → (X → List ℕ)
+    → List Program → List Detach → List Device → List Line → Turns X → List Device → Option LineValue → Type 0
+TellsNext follows over memory programs detaches ds lines h ds' result =
+    MatchOption result (AllTold follows over memory programs detaches ds lines (held_of h) ds')
+    (λ line. Standing follows over memory programs detaches ds (lines ++ line_of line ∷ []) (held_of h) ds' h.stage)
+
+-- The programs of a world, of which none has told anything yet.
+pub record AllStart {X : Type 0} (follows : X → Program → List Note → List Outcome → List AnswerLine → Type 0) (over : X → Bool) (shows : List Show) (programs : List Program)
+    (xs : List X) : Type 0 where
+  pub wide : length xs ≡ length programs
+  pub each : (i : ℕ) (w : Program) (x : X) → slice_get programs i ≡ Some w → slice_get xs i ≡ Some x → IsHeld follows over shows i w (starting w) x
+
+-- nothing is still to be shown
+abbrev pub LooksOut : List Show → Stage → Type 0
+LooksOut shows Between = Unit {0}
+LooksOut shows (Telling turn) = ⊥
+LooksOut shows (Showing turn from) = looks_of turn.program (drop from shows) ≡ []
+
+-- ---- what an event leads to
+
+-- when the program of a turn is due behind this event
+abbrev pub due_behind : (due : ℕ) → Event → Option ℕ
+due_behind due e = unless (is_end e) (due + ticks_in e)
+
+-- where the host then stands
+abbrev pub stage_behind : Turn → Event → Stage
+stage_behind turn (paused ticks used) = Between
+stage_behind turn (ended how) = Showing turn 0
+stage_behind turn _ = Telling turn
+
+-- ---- numbers in range
+
+-- where the host stands, the program is one of so many
+abbrev pub PlaceFits : (count : ℕ) → Stage → Type 0
+PlaceFits count Between = Unit {0}
+PlaceFits count (Telling turn) = turn.program < count
+PlaceFits count (Showing turn from) = turn.program < count
+
+-- There are at most 16 programs, each with the tick at which it is due.
+pub record InRange {X : Type 0} (h : Turns X) : Type 0 where
+  pub few : length h.programs.items ≤ 16
+  pub wide : length h.dues.items ≡ length h.programs.items
+  pub place : PlaceFits (length h.programs.items) h.stage

@@ -1,0 +1,206 @@
+//! `Turns`: programs that share a list of devices, told line by line.
+
+ghost use Rattle.std.specs.Prelude.{◌≡◌, ◌≤◌, ◌<◌, List, ◌∷◌, [], ◌++◌, IfOk, length, map, MatchOption, Some};
+ghost use Rattle.wa_model.specs.Outside.{Line as WorldLine};
+ghost use Rattle.wa_model.specs.View.{line_of};
+ghost use Rattle.wa_model.specs.World.{Device, Program};
+ghost use Rattle.device_port.specs.Listed.{of_all};
+ghost use Rattle.host_laws.specs.Supplies.{IsLent};
+ghost use Rattle.event_order.specs.Dues.{HaveEnded};
+ghost use Rattle.many_host.specs.Calls.{BegunNext, TakesCall, TakesNext, left_at};
+ghost use Rattle.many_host.specs.Standing.{AllStart, AllTold, InRange, LooksOut, Standing, TellsNext, held_of};
+
+use crate::settling::settle;
+use crate::teller::Teller;
+use device_port::Devices;
+use event_order::{Show, Turn, detach_before, next_show, next_turn, show_event};
+use std::alloc::{AllocError, Global};
+use wa_model::{Detach, Line};
+
+/// Where a host stands between two lines: behind whole turns, in a program's turn, or at the shows behind a program's end.
+#[derive(Clone, Copy)]
+pub(crate) enum Stage {
+    Between,
+    Telling(Turn),
+    Showing { turn: Turn, from: usize },
+}
+
+/// Programs that share a list of devices and take turns.
+#[derive(Drop)]
+pub struct Turns<T> {
+    alloc: Global,
+    programs: Vec<T>,
+    dues: Vec<Option<u64>>,
+    detaches: Vec<Detach>,
+    shows: Vec<Show>,
+    begun: u64,
+    stage: Stage,
+}
+
+impl<T: Teller + Drop> Turns<T> {
+    /// Programs of which none has told anything yet, all due at tick 0.
+    pub fn new(
+        alloc: Global,
+        programs: Vec<T>,
+        detaches: Vec<Detach>,
+        shows: Vec<Show>,
+    ) -> Result<Turns<T>, AllocError>
+        requires few { length programs.items ≤ 16 }
+        ensures range { IfOk result (λ h. InRange h) }
+        ensures begun { IfOk result (λ h. h.begun ≡ 0) }
+        ensures stands { (ws : List Program) (ds : List Device) → AllStart T.follows T.has_ended shows.items ws programs.items
+            → IfOk result (λ h. Standing T.follows T.has_ended T.memory ws detaches.items ds [] (held_of h) ds h.stage) }
+    {
+        let dues = first_dues(alloc, &programs)?;
+        Ok(Turns {
+            alloc,
+            programs,
+            dues,
+            detaches,
+            shows,
+            begun: 0,
+            stage: Stage::Between,
+        })
+    }
+
+    /// How many turns have begun.
+    pub fn events(&self) -> u64
+        ensures { result ≡ (held_of self.now).begun }
+    {
+        self.begun
+    }
+
+    /// The next line; None where all programs have ended and all shows are out. After want of memory it isn't called again.
+    pub fn next(&mut self, devices: &mut Devices<'_>) -> Result<Option<Line>, AllocError>
+        requires lent { IsLent }
+        requires range { InRange self.old }
+        ensures range { IfOk result (λ line. InRange self.new) }
+        ensures same_list { devices.new.list.ghost_name ≡ devices.old.list.ghost_name }
+        ensures told { (programs : List Program) (detaches : List Detach) (ds : List Device) (lines : List WorldLine)
+            → Standing T.follows T.has_ended T.memory programs detaches ds lines (held_of self.old) (of_all seen devices.old) self.old.stage
+            → IfOk result (TellsNext T.follows T.has_ended T.memory programs detaches ds lines self.new (of_all seen devices.new)) }
+        ensures none { IfOk result (λ line. MatchOption line (HaveEnded self.old.dues.items × LooksOut self.old.shows.items self.old.stage)
+            (λ l. HaveEnded self.old.dues.items → LooksOut self.old.shows.items self.old.stage → ⊥)) }
+        ensures begun { IfOk result (λ line. BegunNext self.old.stage self.old.begun self.new.begun line) }
+        ensures calls { (programs : List Program) (detaches : List Detach) (ds : List Device) (lines : List WorldLine)
+            → Standing T.follows T.has_ended T.memory programs detaches ds lines (held_of self.old) (of_all seen devices.old) self.old.stage
+            → IfOk result (λ line. TakesNext programs line (of_all (λ d. record { device = seen d; faults = faults d }) devices.old)
+            (left_at self.old.begun self.new.begun detaches (of_all (λ d. record { device = seen d; faults = faults d }) devices.old))
+            (of_all (λ d. record { device = seen d; faults = faults d }) devices.new)) }
+    {
+        match self.stage {
+            Stage::Between => self.begin(devices),
+            Stage::Telling(turn) => Ok(Some(self.tell(turn, devices)?)),
+            Stage::Showing { turn, from } => self.show(turn, from, devices),
+        }
+    }
+
+    // The next turn, behind whole ones, from its first line on.
+    fn begin(&mut self, devices: &mut Devices<'_>) -> Result<Option<Line>, AllocError>
+        requires lent { IsLent }
+        requires range { InRange self.old }
+        ensures range { IfOk result (λ line. InRange self.new) }
+        ensures same_list { devices.new.list.ghost_name ≡ devices.old.list.ghost_name }
+        ensures told { (programs : List Program) (detaches : List Detach) (ds : List Device) (lines : List WorldLine)
+            → Standing T.follows T.has_ended T.memory programs detaches ds lines (held_of self.old) (of_all seen devices.old) Stage.Between
+            → IfOk result (TellsNext T.follows T.has_ended T.memory programs detaches ds lines self.new (of_all seen devices.new)) }
+        ensures none { IfOk result (λ line. MatchOption line (HaveEnded self.old.dues.items) (λ l. HaveEnded self.old.dues.items → ⊥)) }
+        ensures begun { IfOk result (λ line. BegunNext Stage.Between self.old.begun self.new.begun line) }
+        ensures calls { (programs : List Program) (detaches : List Detach) (ds : List Device) (lines : List WorldLine)
+            → Standing T.follows T.has_ended T.memory programs detaches ds lines (held_of self.old) (of_all seen devices.old) Stage.Between
+            → IfOk result (λ line. TakesNext programs line (of_all (λ d. record { device = seen d; faults = faults d }) devices.old)
+            (left_at self.old.begun self.new.begun detaches (of_all (λ d. record { device = seen d; faults = faults d }) devices.old))
+            (of_all (λ d. record { device = seen d; faults = faults d }) devices.new)) }
+    {
+        let Some(turn) = next_turn(&self.dues) else {
+            return Ok(None);
+        };
+        let Some(begun) = self.begun.checked_add(1) else {
+            return Err(AllocError);
+        };
+        self.begun = begun;
+        detach_before(devices, &self.detaches, begun);
+        Ok(Some(self.tell(turn, devices)?))
+    }
+
+    // The next line of a turn.
+    fn tell(&mut self, turn: Turn, devices: &mut Devices<'_>) -> Result<Line, AllocError>
+        requires lent { IsLent }
+        requires few { length self.old.programs.items ≤ 16 }
+        requires wide { length self.old.dues.items ≡ length self.old.programs.items }
+        requires place { turn.program < length self.old.programs.items }
+        ensures range { IfOk result (λ line. InRange self.new) }
+        ensures same_list { devices.new.list.ghost_name ≡ devices.old.list.ghost_name }
+        ensures told { (programs : List Program) (detaches : List Detach) (ds : List Device) (lines : List WorldLine)
+            → Standing T.follows T.has_ended T.memory programs detaches ds lines (held_of self.old) (of_all seen devices.old) (Stage.Telling turn)
+            → IfOk result (λ line. Standing T.follows T.has_ended T.memory programs detaches ds (lines ++ line_of line ∷ []) (held_of self.new) (of_all seen devices.new) self.new.stage) }
+        ensures calls { (programs : List Program) (detaches : List Detach) (ds : List Device) (lines : List WorldLine)
+            → Standing T.follows T.has_ended T.memory programs detaches ds lines (held_of self.old) (of_all seen devices.old) (Stage.Telling turn)
+            → IfOk result (λ line. TakesCall programs (line_of line) (of_all (λ d. record { device = seen d; faults = faults d }) devices.old)
+            (of_all (λ d. record { device = seen d; faults = faults d }) devices.new)) }
+        ensures begun { self.new.begun ≡ self.old.begun }
+    {
+        let event = self.programs[turn.program].advance(devices)?;
+        let next = settle(turn, &event)?;
+        self.dues[turn.program] = next.due;
+        self.stage = next.stage;
+        Ok(Line {
+            tick: turn.due,
+            program: turn.program as u32,
+            event,
+        })
+    }
+
+    // The next show behind a program's end, or the next turn.
+    fn show(
+        &mut self,
+        turn: Turn,
+        from: usize,
+        devices: &mut Devices<'_>,
+    ) -> Result<Option<Line>, AllocError>
+        requires lent { IsLent }
+        requires range { InRange self.old }
+        requires place { turn.program < length self.old.programs.items }
+        ensures range { IfOk result (λ line. InRange self.new) }
+        ensures same_list { devices.new.list.ghost_name ≡ devices.old.list.ghost_name }
+        ensures told { (programs : List Program) (detaches : List Detach) (ds : List Device) (lines : List WorldLine)
+            → Standing T.follows T.has_ended T.memory programs detaches ds lines (held_of self.old) (of_all seen devices.old) (Stage.Showing turn from)
+            → IfOk result (TellsNext T.follows T.has_ended T.memory programs detaches ds lines self.new (of_all seen devices.new)) }
+        ensures none { IfOk result (λ line. MatchOption line (HaveEnded self.old.dues.items × LooksOut self.old.shows.items (Stage.Showing turn from))
+            (λ l. HaveEnded self.old.dues.items → LooksOut self.old.shows.items (Stage.Showing turn from) → ⊥)) }
+        ensures begun { IfOk result (λ line. BegunNext (Stage.Showing turn from) self.old.begun self.new.begun line) }
+        ensures calls { (programs : List Program) (detaches : List Detach) (ds : List Device) (lines : List WorldLine)
+            → Standing T.follows T.has_ended T.memory programs detaches ds lines (held_of self.old) (of_all seen devices.old) (Stage.Showing turn from)
+            → IfOk result (λ line. TakesNext programs line (of_all (λ d. record { device = seen d; faults = faults d }) devices.old)
+            (left_at self.old.begun self.new.begun detaches (of_all (λ d. record { device = seen d; faults = faults d }) devices.old))
+            (of_all (λ d. record { device = seen d; faults = faults d }) devices.new)) }
+    {
+        let program = turn.program as u32;
+        let Some(place) = next_show(&self.shows, from, program) else {
+            return self.begin(devices);
+        };
+        let show = self.shows[place];
+        let bytes = self.programs[turn.program].show(show.at, show.len);
+        let event = show_event(self.alloc, &show, bytes)?;
+        self.stage = Stage::Showing {
+            turn,
+            from: place + 1,
+        };
+        Ok(Some(Line {
+            tick: turn.due,
+            program,
+            event,
+        }))
+    }
+}
+
+// A program is due at tick 0 at first.
+fn first_dues<T>(alloc: Global, programs: &[T]) -> Result<Vec<Option<u64>>, AllocError>
+    ensures { IfOk result (λ dues. dues.items ≡ map (λ x. Some 0) programs.now) }
+{
+    let mut dues = Vec::new(alloc);
+    for _ in programs {
+        dues.push(Some(0))?;
+    }
+    Ok(dues)
+}
