@@ -13,9 +13,9 @@ use Rattle.event_order.specs.Left.{Counted}
 use Rattle.host_laws.specs.Supplies.{Answers, Counts, bound_to}
 use Rattle.many_host.specs.Calls.{devices_of, faults_of}
 use Rattle.many_host.specs.Telling.{supply}
-use Rattle.world_replays.specs.Replays.{is_device_fault, is_fault}
-use Rattle.world_replays.proofs.Faults.{FaultIs, Opens, OpensIf}
-use Rattle.world_replays.proofs.Journals.{Replied}
+use Rattle.world_laws.specs.Replays.{is_device_fault, is_fault}
+use Rattle.world_laws.proofs.Faults.{FaultIs, Opens, OpensIf}
+use Rattle.world_laws.proofs.Journals.{Replied}
 use Rattle.fault_counts.specs.FaultCounts.{failed_as, one_more, one_more_if}
 use Rattle.fault_counts.proofs.Ledgers.{Beside, OneGains, all_keep, counts_rise, failed_beside, failer_gains, kept_beside, paid_beside, replied_beside, replier_gains, there_same}
 

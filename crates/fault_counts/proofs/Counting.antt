@@ -12,8 +12,8 @@ use Rattle.wa_model.specs.World.{Actor, CallsMeet, Meets, Device, Events, Look, 
 use Rattle.world_laws.specs.Originals.{new_calls}
 use Rattle.world_laws.proofs.Counting.{Ends}
 use Rattle.world_laws.proofs.Meeting.{EachMet, Met, events_met}
-use Rattle.world_runs.proofs.StoryParts.{story_ends}
-use Rattle.world_replays.proofs.Faults.{Fine, Inner, OpensIf, story_told}
+use Rattle.world_laws.proofs.StoryParts.{story_ends}
+use Rattle.world_laws.proofs.Faults.{Fine, Inner, OpensIf, story_told}
 use Rattle.event_order.specs.Left.{Counted, left_before}
 use Rattle.host_laws.specs.Supplies.{Supply, Takes}
 use Rattle.many_host.specs.Calls.{IsShown, TakesCall, devices_of, faults_of, left_at}

@@ -12,9 +12,9 @@ use Rattle.wa_model.specs.World.{Device, Program, Reply, CallsMeet, Meets, Meets
 use Rattle.world_laws.specs.Originals.{new_calls}
 use Rattle.world_laws.proofs.CallLists.{call_list, ListMeet, from_list, list_calls, list_length, list_more, list_on, none_listed}
 use Rattle.world_laws.proofs.Counting.{Ends, calls_on}
-use Rattle.world_runs.proofs.LineCalls.{bound_to, list_by_lines}
-use Rattle.world_runs.proofs.Openings.{Closed, Open, call_listed, left_of}
-use Rattle.world_runs.proofs.StoryParts.{story_ends}
+use Rattle.world_laws.proofs.LineCalls.{bound_to, list_by_lines}
+use Rattle.world_laws.proofs.Openings.{Closed, Open, call_listed, left_of}
+use Rattle.world_laws.proofs.StoryParts.{story_ends}
 use Rattle.many_host.specs.Turns.{ends_program}
 
 or_right : (a b : Bool) → (a || b) ≡ false → b ≡ false

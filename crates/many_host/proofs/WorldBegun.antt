@@ -10,8 +10,8 @@ use Rattle.wa_model.specs.Plan.{Outcome}
 use Rattle.wa_model.specs.Blocking.{Note, events_of}
 use Rattle.wa_model.specs.World.{Device, Program, CallsMeet, ProtocolWorld, behind_turn, detached, events_with_looks, line_at, protocol_story, turn_of}
 use Rattle.world_laws.proofs.Counting.{Ends}
-use Rattle.world_runs.proofs.GoingOn.{worlds_go_on}
-use Rattle.world_runs.proofs.LineCalls.{turn_parts}
+use Rattle.world_laws.proofs.GoingOn.{worlds_go_on}
+use Rattle.world_laws.proofs.LineCalls.{turn_parts}
 use Rattle.event_order.specs.Dues.{IsLeast}
 use Rattle.many_host.specs.Turns.{Teller, due_of, ends_program, having_told, Tells, TellsTurn, IsRest, HasStory}
 use Rattle.many_host.proofs.Telling.{all_told_is_world, told_is_world}

@@ -13,7 +13,7 @@ use Rattle.world_laws.proofs.Meeting.{AnswersFit, EachMet, Met, events_met}
 use Rattle.world_laws.proofs.Stories.{stories_of_originals}
 use Rattle.world_laws.proofs.Tails.{story_tailed}
 use Rattle.world_laws.proofs.Worlds.{take_first}
-use Rattle.world_runs.specs.Bounded.{ends_astray}
+use Rattle.world_laws.specs.Bounded.{ends_astray}
 use Rattle.world_hosting.specs.Worlds.{Part, world_program, world_programs}
 use Rattle.original_runs.specs.Endings.{ToldEnds, ends_spent, ends_unwound, tells_any}
 use Rattle.original_runs.specs.OriginalRuns.{IsRewritten, Source, StaysOff, original_for, originals_for}

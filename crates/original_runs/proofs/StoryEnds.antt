@@ -18,9 +18,9 @@ use Rattle.wa_model.specs.Blocking.{Note, note, Blocking}
 use Rattle.wa_model.specs.Expected.{pause_note, trap_note, shown as expected_of, shown_at}
 use Rattle.wa_model.specs.Behaves.{expected_notes}
 use Rattle.wa_model.specs.World.{Actor, BlockingStory, Device, Events, IsOver, Look, Original, Program, an_event, behind_turn, bytes_shown, events_with_looks, line_at, look_events, looks_after, no_event, put_off, spent, turn_of, whole}
-use Rattle.world_runs.specs.Bounded.{ends_astray, is_astray}
-use Rattle.world_runs.proofs.Bounded.{bounded_are_whole}
-use Rattle.world_runs.proofs.LineCalls.{turn_parts}
+use Rattle.world_laws.specs.Bounded.{ends_astray, is_astray}
+use Rattle.world_laws.proofs.Bounded.{bounded_are_whole}
+use Rattle.world_laws.proofs.LineCalls.{turn_parts}
 use Rattle.many_host.proofs.Places.{set_here, set_there}
 use Rattle.original_runs.specs.Endings.{IsBounded, PassesArea, ends_spent, ends_unwound, is_spent, is_unwound, tells_any}
 use Rattle.original_runs.proofs.OwnEnds.{Own, blocking_own, ends_hosts, is_hosts}

@@ -12,7 +12,7 @@ use Rattle.wa_model.specs.Blocking.{Note, Blocking}
 use Rattle.wa_model.specs.Behaves.{expected_notes, pause_stacks}
 use Rattle.wa_model.specs.World.{Actor, Device, Original, ProtocolWorld, is_end}
 use Rattle.world_laws.specs.Originals.{met}
-use Rattle.world_runs.specs.Bounded.{ends_astray}
+use Rattle.world_laws.specs.Bounded.{ends_astray}
 use Rattle.world_hosting.specs.Worlds.{Part, world_programs}
 use Rattle.original_runs.specs.OriginalRuns.{IsRewritten, Source, StaysOff, originals_for}
 

@@ -12,7 +12,7 @@ use Rattle.script_model.specs.Script.{BindText}
 use Rattle.wa_model.specs.World.{Device, ProtocolWorld}
 use Rattle.world_laws.specs.AloneLines.{Unbound, own_lines}
 use Rattle.world_laws.proofs.AloneLines.{own_lines_alone}
-use Rattle.world_replays.proofs.Replays.{unbound_fix_lines}
+use Rattle.world_laws.proofs.Replays.{unbound_fix_lines}
 use Rattle.many_host.specs.Calls.{devices_of}
 use Rattle.world_hosting.specs.Bindings.{bound_imports, where_func}
 use Rattle.world_hosting.specs.Worlds.{world_program, world_programs}

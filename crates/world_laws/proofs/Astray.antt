@@ -1,0 +1,336 @@
+-- No rewritten module that runs orderly breaks the protocol.
+use Rattle.std.proofs.Common.{arith, ◌≡◌, ◌≤◌, ◌+◌, ℕ, zero, suc, ◌*◌, List, [], ◌∷◌, ◌++◌, length, take, map, replicate, Option, Some, None, Bool, true, false, All, refl, sym, ap, ◌∙◌, subst}
+use Rattle.std.specs.Prelude.{nat_lt, if◌then◌else◌, slice_get, slice_set}
+use Rattle.std.specs.List.{AllZip}
+use Rattle.std.proofs.lemmas.List.Elements.{All-nil, All-cons, All-head, All-tail, All-append, All-take}
+use Rattle.wa_types.specs.declared.values.ValType.{ValType}
+use Rattle.wa_types.specs.declared.values.Value.{Value}
+use Rattle.wa_types.specs.Base.{Base}
+use Rattle.wa_types.specs.Syntax.{Func, Module}
+use Rattle.wa_types.specs.Memory.{page_size}
+use Rattle.wa_types.specs.Modules.{all_memories, all_tables, func_imports, func_type_at, defined_at}
+use Rattle.wa_types.specs.Pausing.{Settings}
+use Rattle.wa_types.specs.Frames.{Suspended, Room, Fit}
+use Rattle.wa_types.specs.Runtime.{global_space}
+use Rattle.wa_model.specs.declared.answers.Area.{Area}
+use Rattle.wa_model.specs.declared.answers.Detach.{Detach}
+use Rattle.wa_model.specs.declared.events.End.{End}
+use Rattle.wa_model.specs.declared.events.End.TheVariants.{Done, Trapped, BadAnswer, BadPoke, RewindTrap, Broken, StepsSpent}
+use Rattle.wa_model.specs.Outside.{Poke, Answer, Event, called, answered, paused, returned, ended, shown as was_shown, Line}
+use Rattle.wa_model.specs.Machine.{Turn, stops}
+use Rattle.wa_model.specs.Store.{Store}
+use Rattle.wa_model.specs.Step.{Next, steps, asks, returns, traps, stuck, step}
+use Rattle.wa_model.specs.Plan.{Entry, Plan, Outcome, given, refused, OutcomeFits, IsRefusal}
+use Rattle.wa_model.specs.Instantiation.{Piece, elem_piece, byte_piece, first_out, all_values, least_of, bytes_checked, elems_checked, opened_by, Opening, fails_as, opens, opening}
+use Rattle.wa_model.specs.Blocking.{Note, note, no_store, call_note, value_of_results, answers, poke_fits, bad_poke, is_unlisted, bad_pause, or_else, fault_of, pause_of, poked, done_notes, Task, the_start, an_entry, Left, with_outcomes, Asker, inside, outermost, store_at, stack_at, in_start, State, between, begins, runs, halts, on_to, task_back, go_on, tested, asked, by_step, enters, enter_next, start_called, next_entry, blocking, all_left, begun, Blocking}
+use Rattle.wa_model.specs.Expected.{pause_note, trap_note, shown_at, shown}
+use Rattle.wa_model.specs.Behaves.{expected_notes}
+use Rattle.wa_model.specs.World.{Device, Look, Program, bytes_shown, put_off, turn_of, behind_turn, protocol_story, BlockingStory, whole, spent, looks_after, look_events, events_with_looks, line_at, Actor, Events, no_event, an_event, StartsHeld, Original}
+use Rattle.run_theory.proofs.Invariants.{TurnKeeps, RanKeeps, after_keeps}
+use Rattle.world_laws.specs.Originals.{StandsIn, MayRun, new_calls, met, Orderly, SameMoment}
+use Rattle.world_laws.proofs.Meeting.{AnswersFit, Met, EachMet, events_met}
+use Rattle.world_laws.proofs.Stories.{stories_of_originals}
+use Rattle.world_laws.proofs.Tails.{story_tailed}
+use Rattle.world_laws.proofs.Worlds.{take_first}
+use Rattle.world_laws.specs.Bounded.{is_astray, ends_astray, NoneAstray}
+use Rattle.world_laws.proofs.LineCalls.{turn_parts}
+
+abbrev Right : Note → Type 0
+Right x = ends_astray x.event ≡ false
+
+-- ---- ends of a run with blocking imports
+
+abbrev RightEnd : Option End → Type 0
+RightEnd None = Unit {0}
+RightEnd (Some e) = is_astray e ≡ false
+
+pokes_right : (size : ℕ) (area : Area) (ps : List Poke) → RightEnd (bad_poke size area ps)
+pokes_right size area [] = tt
+pokes_right size area (p ∷ ps) = by_fit (poke_fits size area p) (pokes_right size area ps)
+  where
+    by_fit : (b : Bool) → RightEnd (bad_poke size area ps) → RightEnd (if b then bad_poke size area ps else Some (BadPoke p.at (length p.bytes)))
+    by_fit true h = h
+    by_fit false h = refl
+
+pause_right : (start unlisted : Bool) (import ticks : ℕ) → RightEnd (bad_pause start unlisted import ticks)
+pause_right start unlisted import zero = tt
+pause_right true unlisted import (suc ticks) = refl
+pause_right false true import (suc ticks) = refl
+pause_right false false import (suc ticks) = tt
+
+else_right : (a b : Option End) → RightEnd a → RightEnd b → RightEnd (or_else a b)
+else_right None b x y = y
+else_right (Some e) b x y = x
+
+fault_right : (results : List ValType) (size : ℕ) (plan : Plan) (start : Bool) (import : ℕ) (a : Answer) → RightEnd (fault_of results size plan start import a)
+fault_right results size plan start import a =
+    else_right (if answers results a.value then None else Some (BadAnswer import a.value))
+    (or_else (bad_poke size plan.area a.pokes) (bad_pause start (is_unlisted plan.listed import) import a.ticks))
+    (by_value (answers results a.value))
+    (else_right (bad_poke size plan.area a.pokes) (bad_pause start (is_unlisted plan.listed import) import a.ticks) (pokes_right size plan.area a.pokes)
+    (pause_right start (is_unlisted plan.listed import) import a.ticks))
+  where
+    by_value : (b : Bool) → RightEnd (if b then None else Some (BadAnswer import a.value))
+    by_value true = tt
+    by_value false = refl
+
+refusal_right : (e : End) → IsRefusal e → is_astray e ≡ false
+refusal_right (RewindTrap trap) h = absurd h
+refusal_right (Broken rule) h = absurd h
+refusal_right _ h = refl
+
+abbrev Lawful : State → Type 0
+Lawful (between s l) = All OutcomeFits l.outcomes
+Lawful (begins x s l) = All OutcomeFits l.outcomes
+Lawful (runs task c l) = All OutcomeFits l.outcomes
+Lawful (halts s) = Unit {0}
+
+no_notes : All Right []
+no_notes = All-nil Right
+
+one_note : (x : Note) → Right x → All Right (x ∷ [])
+one_note x h = All-cons Right x [] h no_notes
+
+two_notes : (x y : Note) → Right x → Right y → All Right (x ∷ y ∷ [])
+two_notes x y h k = All-cons Right x (y ∷ []) h (one_note y k)
+
+done_right : (s : Store) (es : List Entry) → All Right (done_notes s es)
+done_right s [] = one_note (note (ended Done) s) refl
+done_right s (e ∷ es) = no_notes
+
+abbrev RightOpening : Opening → Type 0
+RightOpening (fails_as e) = is_astray e ≡ false
+RightOpening (opens s) = Unit {0}
+
+bytes_right : (globals : List Value) (memory : List ℕ) (table : List (Option ℕ)) (elems : List (Piece (Option ℕ))) (bytes : List (Piece ℕ)) (o : Option ℕ)
+    → RightOpening (bytes_checked globals memory table elems bytes o)
+bytes_right globals memory table elems bytes None = tt
+bytes_right globals memory table elems bytes (Some i) = refl
+
+elems_right : (globals : List Value) (memory : List ℕ) (table : List (Option ℕ)) (elems : List (Piece (Option ℕ))) (bytes : List (Piece ℕ)) (o : Option ℕ)
+    → RightOpening (elems_checked globals memory table elems bytes o)
+elems_right globals memory table elems bytes None = bytes_right globals memory table elems bytes (first_out (length memory) 0 bytes)
+elems_right globals memory table elems bytes (Some i) = refl
+
+opened_right : (m : Module) (globals : List Value) (pages entries : ℕ) (a b : Bool) → RightOpening (opened_by m globals pages entries a b)
+opened_right m globals pages entries true b = refl
+opened_right m globals pages entries false true = refl
+opened_right m globals pages entries false false =
+    elems_right globals (replicate (pages * page_size) 0) (replicate entries None) (map (elem_piece globals) m.elems) (map (byte_piece globals) m.segments)
+    (first_out (length (replicate entries None)) 0 (map (elem_piece globals) m.elems))
+
+opening_right : (m : Module) (imports : List Value) → RightOpening (opening m imports)
+opening_right m imports =
+    opened_right m (all_values imports m) (least_of (all_memories m)) (least_of (all_tables m)) (nat_lt 1024 (least_of (all_memories m))) (nat_lt 100000 (least_of (all_tables m)))
+
+module _ (m : Module) (plan : Plan) where
+  abbrev Keeps : Turn State Note → Type 0
+  Keeps t = TurnKeeps (blocking m plan) Lawful Right t
+
+  on_lawful : (s : Store) (l : Left) (es : List Entry) → All OutcomeFits l.outcomes → Lawful (on_to s l es)
+  on_lawful s l [] h = tt
+  on_lawful s l (e ∷ es) h = h
+
+  back_keeps : (k : ℕ) (task : Task) (results : List Value) (s : Store) (l : Left) → All OutcomeFits l.outcomes → Keeps (task_back k task results s l)
+  back_keeps k the_start results s l h = (done_right s l.entries, on_lawful s l l.entries h)
+  back_keeps k (an_entry e) results s l h =
+      (All-cons Right (note (returned l.number (value_of_results results)) s) (done_notes s l.entries) refl (done_right s l.entries), on_lawful s (next_entry l) l.entries h)
+
+  given_keeps : (k import : ℕ) (args : List Value) (who : Asker) (l : Left) (a : Answer) (pause : Option ℕ) → All OutcomeFits l.outcomes
+      → Keeps (go_on k (call_note import args (store_at who) (stack_at m who) pause) a (poked (store_at who) a.pokes) l who)
+  given_keeps k import args (inside task c) l a pause h =
+      (two_notes (call_note import args c.store (stack_at m (inside task c)) pause) (note (answered a.value) (poked c.store a.pokes)) refl refl, h)
+  given_keeps k import args (outermost old) l a pause h = (
+    All-cons Right (call_note import args old [] pause) (note (answered a.value) (poked old a.pokes) ∷ done_notes (poked old a.pokes) l.entries) refl
+        (All-cons Right (note (answered a.value) (poked old a.pokes)) (done_notes (poked old a.pokes) l.entries) refl (done_right (poked old a.pokes) l.entries)),
+    on_lawful (poked old a.pokes) l l.entries h,
+  )
+
+  tested_keeps : (k import : ℕ) (args : List Value) (who : Asker) (l : Left) (a : Answer) (o : Option End) → All OutcomeFits l.outcomes → RightEnd o → Keeps (tested m k import args who l a o)
+  tested_keeps k import args who l a (Some e) h r =
+      (two_notes (call_note import args (store_at who) (stack_at m who) None) (note (ended e) (store_at who)) refl r, tt)
+  tested_keeps k import args who l a None h r = given_keeps k import args who l a (pause_of a.ticks) h
+
+  asked_keeps : (k import : ℕ) (args : List Value) (who : Asker) (l : Left) (os : List Outcome) → All OutcomeFits os → Keeps (asked m plan k import args who l os)
+  asked_keeps k import args who l [] h = (one_note (call_note import args (store_at who) (stack_at m who) None) refl, tt)
+  asked_keeps k import args who l (refused e ∷ os) h =
+      (two_notes (call_note import args (store_at who) (stack_at m who) None) (note (ended e) (store_at who)) refl (refusal_right e (All-head OutcomeFits (refused e) os h)), tt)
+  asked_keeps k import args who l (given a ∷ os) h =
+      tested_keeps k import args who (with_outcomes l os) a (fault_of (func_type_at m import).results (length (store_at who).memory) plan (in_start who) import a)
+      (All-tail OutcomeFits (given a) os h) (fault_right (func_type_at m import).results (length (store_at who).memory) plan (in_start who) import a)
+
+  step_keeps : (task : Task) (l : Left) (o : Next) → All OutcomeFits l.outcomes → Keeps (by_step m plan task l o)
+  step_keeps task l (steps k d) h = (no_notes, h)
+  step_keeps task l (asks k import args d) h = asked_keeps k import args (inside task d) l l.outcomes h
+  step_keeps task l (returns k results s) h = back_keeps k task results s l h
+  step_keeps task l (traps k trap s) h = (one_note (note (ended (Trapped trap)) s) refl, tt)
+  step_keeps task l stuck h = tt
+
+  enters_keeps : (e : Entry) (s : Store) (l : Left) (o : Option Func) → All OutcomeFits l.outcomes → Keeps (enters e s l o)
+  enters_keeps e s l None h = tt
+  enters_keeps e s l (Some f) h = (no_notes, h)
+
+  next_keeps : (s : Store) (l : Left) (es : List Entry) → All OutcomeFits l.outcomes → Keeps (enter_next m s l es)
+  next_keeps s l [] h = tt
+  next_keeps s l (e ∷ es) h = enters_keeps e s (record { number = l.number; entries = es; outcomes = l.outcomes }) (defined_at m e.func) h
+
+  start_keeps : (x : ℕ) (s : Store) (l : Left) (o : Option Func) → All OutcomeFits l.outcomes → Keeps (start_called m plan x s l o)
+  start_keeps x s l (Some f) h = (no_notes, h)
+  start_keeps x s l None h = by_import (nat_lt x (func_imports m))
+    where
+      by_import : (b : Bool) → Keeps (if b then asked m plan 0 x [] (outermost s) l l.outcomes else stops)
+      by_import true = asked_keeps 0 x [] (outermost s) l l.outcomes h
+      by_import false = tt
+
+  turn_keeps : (t : State) → Lawful t → Keeps (blocking m plan t)
+  turn_keeps (between s l) h = next_keeps s l l.entries h
+  turn_keeps (begins x s l) h = start_keeps x s l (defined_at m x) h
+  turn_keeps (runs task c l) h = step_keeps task l (step m c) h
+  turn_keeps (halts s) h = tt
+
+  begun_keeps : (start : Option ℕ) (l : Left) (o : Opening) → RightOpening o → All OutcomeFits l.outcomes → RanKeeps (blocking m plan) Lawful Right (begun start l o)
+  begun_keeps start l (fails_as e) r h = (one_note (note (ended e) no_store) r, tt)
+  begun_keeps None l (opens s) r h = (done_right s l.entries, on_lawful s l l.entries h)
+  begun_keeps (Some x) l (opens s) r h = (no_notes, h)
+
+blocking_right : (m : Module) (plan : Plan) (os : List Outcome) (n : ℕ) → All OutcomeFits os → All Right (Blocking m plan os n).events
+blocking_right m plan os n h =
+    let b : Module = Base m in
+    (after_keeps (blocking b plan) Lawful Right (turn_keeps b plan) n (begun b.start (all_left plan os) (opening b plan.globals))
+    (begun_keeps b plan b.start (all_left plan os) (opening b plan.globals) (opening_right b plan.globals) h)).0
+
+-- ---- stories
+
+module _ (room fit : List Suspended → ℕ) (len : ℕ) where
+  shown_right : (es : List Note) → All Right es → All Right (shown room fit len es)
+  shown_right [] h = no_notes
+  shown_right (x ∷ es) h = by_pause x.pause (shown_right es (All-tail Right x es h))
+    where
+      here : Right x
+      here = All-head Right x es h
+
+      by_room : (ticks : ℕ) (b : Bool) → All Right (shown room fit len es)
+          → All Right (x ∷ (if b then trap_note (fit x.stack) len x.store ∷ [] else pause_note ticks (room x.stack) x.store x.stack ∷ shown room fit len es))
+      by_room ticks true g = two_notes x (trap_note (fit x.stack) len x.store) here refl
+      by_room ticks false g =
+          All-cons Right x (pause_note ticks (room x.stack) x.store x.stack ∷ shown room fit len es) here
+          (All-cons Right (pause_note ticks (room x.stack) x.store x.stack) (shown room fit len es) refl g)
+
+      by_pause : (o : Option ℕ) → All Right (shown room fit len es) → All Right (shown_at room fit len x o (shown room fit len es))
+      by_pause None g = All-cons Right x (shown room fit len es) here g
+      by_pause (Some ticks) g = by_room ticks (nat_lt len (room x.stack)) g
+
+expected_right : (m : Module) (s : Settings) (plan : Plan) (os : List Outcome) (n : ℕ) → All OutcomeFits os → All Right (expected_notes m s plan os n)
+expected_right m s plan os n h = shown_right (Room m s.policy) (λ stack. Fit m s.policy stack plan.area.len) plan.area.len (Blocking m plan os n).events (blocking_right m plan os n h)
+
+story_right : (s : Settings) (w : Program) (os : List Outcome) (notes : List Note) → BlockingStory s w os notes → All OutcomeFits os → All Right notes
+story_right s w os notes (whole x before ns e f g) h = subst (All Right) (sym e) (expected_right w.source s w.plan os w.steps h)
+story_right s w os notes (spent j before ns at e f lives uncertain moment g) h =
+    subst (All Right) (sym g)
+    (All-append Right before (note (ended (StepsSpent w.steps)) at ∷ [])
+    (subst (All Right) (sym e) (All-take Right j (expected_notes w.source s w.plan os w.steps) (expected_right w.source s w.plan os w.steps h)))
+    (one_note (note (ended (StepsSpent w.steps)) at) refl))
+
+beside_right : (globals : ℕ) (area : Area) (xs ys : List Note) → AllZip (SameMoment globals area) xs ys → All Right xs → All Right ys
+beside_right globals area [] [] h k = no_notes
+beside_right globals area [] (y ∷ ys) h k = absurd h
+beside_right globals area (x ∷ xs) [] h k = absurd h
+beside_right globals area (x ∷ xs) (y ∷ ys) h k =
+    let e : SameMoment globals area x y = h.0 in
+    All-cons Right y ys (ap ends_astray (sym e.event) ∙ All-head Right x xs k) (beside_right globals area xs ys h.1 (All-tail Right x xs k))
+
+actor_right : (o : Original) (w : Program) (a : Actor) → StandsIn o w → MayRun o → StartsHeld w a → Met a → Orderly o (met a) → All Right a.notes
+actor_right o w a st may held meets ord =
+    let fit : AnswersFit a.answers = subst AnswersFit (sym (held.starts.answers ∙ st.answers)) may.answers in
+    let t = meets.2 in
+    let used : List Outcome = t.0 in
+    let rest : List Outcome = meets.0 in
+    let in_range = t.3 fit in
+    let is_met : met a ≡ used = ap (take (new_calls a.notes)) t.1 ∙ take_first used rest (new_calls a.notes) t.2 in
+    let whole_story : a.notes ≡ protocol_story w (used ++ rest) = held.story ∙ ap (protocol_story w) t.1 in
+    let few : new_calls (protocol_story w (used ++ rest)) ≤ length used = let e = ap new_calls whole_story in omega (arith, t.2, e) in
+    let story : a.notes ≡ protocol_story w used = whole_story ∙ story_tailed w used rest few in
+    let enough : new_calls (protocol_story w used) ≤ length used = let e = ap new_calls story in omega (arith, t.2, e) in
+    let r = stories_of_originals o w used st may in_range.0 enough (subst (Orderly o) is_met ord) in
+    subst (All Right) (sym story)
+    (beside_right (global_space o.program.source) o.program.plan.area r.0 (protocol_story w used) r.2 (story_right o.settings o.program used r.0 r.1 in_range.0))
+
+-- ---- lines
+
+abbrev RightLine : Line → Type 0
+RightLine l = ends_astray l.event ≡ false
+
+abbrev RightEvent : Event → Type 0
+RightEvent e = ends_astray e ≡ false
+
+looks_right : (s : Store) (looks : List Look) → All RightEvent (look_events s looks)
+looks_right s [] = All-nil RightEvent
+looks_right s (l ∷ ls) = All-cons RightEvent (was_shown l.at (bytes_shown s.memory l)) (look_events s ls) refl (looks_right s ls)
+
+after_right : (looks : List Look) (x : Note) (e : Event) → All RightEvent (looks_after looks x e)
+after_right looks x (called c) = All-nil RightEvent
+after_right looks x (answered v) = All-nil RightEvent
+after_right looks x (paused t u) = All-nil RightEvent
+after_right looks x (returned i v) = All-nil RightEvent
+after_right looks x (ended how) = looks_right x.store looks
+after_right looks x (was_shown at bytes) = All-nil RightEvent
+
+events_right : (looks : List Look) (xs : List Note) → All Right xs → All RightEvent (events_with_looks looks xs)
+events_right looks [] h = All-nil RightEvent
+events_right looks (x ∷ xs) h =
+    All-append RightEvent (x.event ∷ looks_after looks x x.event) (events_with_looks looks xs)
+    (All-cons RightEvent x.event (looks_after looks x x.event) (All-head Right x xs h) (after_right looks x x.event)) (events_right looks xs (All-tail Right x xs h))
+
+lines_right : (due number : ℕ) (es : List Event) → All RightEvent es → All RightLine (map (line_at due number) es)
+lines_right due number [] h = All-nil RightLine
+lines_right due number (e ∷ es) h = All-cons RightLine (line_at due number e) (map (line_at due number) es) (All-head RightEvent e es h) (lines_right due number es (All-tail RightEvent e es h))
+
+front_right : (xs ys : List Note) → All Right (xs ++ ys) → All Right xs × All Right ys
+front_right [] ys h = (no_notes, h)
+front_right (x ∷ xs) ys h =
+    let r = front_right xs ys (All-tail Right x (xs ++ ys) h) in
+    (All-cons Right x xs (All-head Right x (xs ++ ys) h) r.0, r.1)
+
+abbrev EachRight : List Actor → Type 0
+EachRight [] = Unit {0}
+EachRight (a ∷ acts) = All Right a.notes × EachRight acts
+
+right_at : (acts : List Actor) (i : ℕ) (a : Actor) → EachRight acts → slice_get acts i ≡ Some a → All Right a.notes
+right_at [] i a h e = cc
+right_at (c ∷ acts) zero a h e = subst (λ (z : Actor). All Right z.notes) (actor_same c a e) h.0
+  where
+    actor_same : (x y : Actor) → Some x ≡ Some y → x ≡ y
+    actor_same x y e = cc
+right_at (c ∷ acts) (suc i) a h e = right_at acts i a h.1 e
+
+right_set : (acts : List Actor) (i : ℕ) (b : Actor) → EachRight acts → All Right b.notes → EachRight (slice_set acts i b)
+right_set [] i b h r = tt
+right_set (c ∷ acts) zero b h r = (r, h.1)
+right_set (c ∷ acts) (suc i) b h r = (h.0, right_set acts i b h.1 r)
+
+run_right : (ws : List Program) (detaches : List Detach) (number : ℕ) (acts last : List Actor) (ds ds' : List Device) (lines : List Line) → Events ws detaches number acts ds lines last ds'
+    → EachRight acts → All RightLine lines
+run_right ws detaches number acts last ds ds' lines no_event h = All-nil RightLine
+run_right ws detaches number acts last ds ds' lines (an_event {actors' = mid} {ds' = es} {lines = first} {more = more} play rest e) h =
+    let here : All Right play.a.notes = right_at acts play.i play.a h play.next.there in
+    let parts = front_right (turn_of play.a.notes) (behind_turn play.a.notes) (subst (All Right) (sym (turn_parts play.a.notes)) here) in
+    let told : All RightLine first = subst (All RightLine) (sym play.made)
+    (lines_right play.a.due play.i (events_with_looks play.w.looks (turn_of play.a.notes)) (events_right play.w.looks (turn_of play.a.notes) parts.0)) in
+    let on : EachRight mid = subst EachRight (sym play.after)
+    (right_set acts play.i (record { due = play.a.due + put_off (turn_of play.a.notes); notes = behind_turn play.a.notes; outcomes = play.outcomes; answers = play.answers }) h parts.1) in
+    subst (All RightLine) (sym e) (All-append RightLine first more told (run_right ws detaches (suc number) mid last es ds' more rest on))
+
+all_right : (os : List Original) (ws : List Program) (acts : List Actor) → AllZip StandsIn os ws → All MayRun os → AllZip StartsHeld ws acts → EachMet acts
+    → AllZip (λ (o : Original) (a : Actor). Orderly o (met a)) os acts → EachRight acts
+all_right [] [] [] st may held meets ord = tt
+all_right (o ∷ os) (w ∷ ws) (a ∷ acts) st may held meets ord =
+    (actor_right o w a st.0 (All-head MayRun o os may) held.0 meets.0 ord.0, all_right os ws acts st.1 (All-tail MayRun o os may) held.1 meets.1 ord.1)
+all_right [] (w ∷ ws) acts st may held meets ord = absurd st
+all_right (o ∷ os) [] acts st may held meets ord = absurd st
+all_right [] [] (a ∷ acts) st may held meets ord = absurd held
+all_right (o ∷ os) (w ∷ ws) [] st may held meets ord = absurd held
+
+pub none_astray : NoneAstray
+none_astray os ws detaches ds ds' lines st may world ord =
+    let meets = events_met ws detaches 1 world.actors ds lines world.last ds' world.events world.over in
+    run_right ws detaches 1 world.actors world.last ds ds' lines world.events (all_right os ws world.actors st may world.starts meets ord)
