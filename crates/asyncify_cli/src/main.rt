@@ -4,8 +4,7 @@
 #![tactic(auto)]
 
 use asyncify_app::asyncify;
-use device_port::Device;
-use memory_devices::{Counter, Echo};
+use device_port::{Counter, Device, Echo};
 use std::env;
 use std::io::ErrorKind;
 use std::process::ExitCode;

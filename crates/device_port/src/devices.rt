@@ -9,7 +9,7 @@ ghost use Rattle.vault_port.specs.Counts.{HasRisen};
 ghost use Rattle.device_port.specs.Journals.{entry, with_entry, replied};
 ghost use Rattle.device_port.specs.Listed.{of_each, IsFirstOf, ChangesAt};
 
-use crate::{Device, DeviceFail, Reply};
+use crate::device::{Device, DeviceFail, Reply};
 use wa_types::Value;
 
 /// A caller's list of boxed devices, lent.

@@ -11,10 +11,23 @@
 //! clauses say what that is in a world: `journaled` and `taken_out` (`specs/Listed.antt`).
 //!
 //! Devices that keep their journals in memory stand in `memory_devices`.
+//!
+//! `counter`, `echo`, `fault_at`, `journal`: Devices in memory, whose journals are told.
+//!
+//! `Counter` and `Echo` never answer `Fault`; `FaultAt` does exactly at the calls whose numbers it was made with. What each
+//! answers stands in `specs/Answers.antt`.
 #![tactic(auto)]
 
+mod counter;
 mod device;
 mod devices;
+mod echo;
+mod fault_at;
+mod journal;
 
+pub use counter::Counter;
 pub use device::{Device, DeviceFail, Reply};
 pub use devices::Devices;
+pub use echo::Echo;
+pub use fault_at::FaultAt;
+pub use journal::Asked;

@@ -5,7 +5,7 @@ use Rattle.wa_model.specs.declared.events.End.TheVariants.{DeviceFault}
 use Rattle.wa_model.specs.Outside.{Call, AnswerLine}
 use Rattle.wa_model.specs.Plan.{Outcome, refused}
 use Rattle.wa_model.specs.World.{Program, Device, Meets}
-use Rattle.device_port.specs.Counts.{HasRisen}
+use Rattle.vault_port.specs.Counts.{HasRisen}
 use Rattle.device_port.specs.Listed.{IsFirstOf, ChangesAt}
 
 -- The answer lines that are left, the devices, and of each device the count of its faults.

@@ -3,11 +3,12 @@
 ghost use Rattle.std.specs.Prelude.{◌≡◌, ◌≢◌, ◌≤◌, ◌↔◌, [], map, Contains, IfOk, OnErr, IsErrOf};
 ghost use Rattle.vault_port.specs.Counts.{one_more};
 ghost use Rattle.device_port.specs.Journals.{entry, with_entry};
-ghost use Rattle.memory_devices.specs.Answers.{counted};
-ghost use Rattle.memory_devices.specs.Kept.{asked_of};
+ghost use Rattle.device_port.specs.Answers.{counted};
+ghost use Rattle.device_port.specs.Kept.{asked_of};
 
-use crate::{Asked, Counter};
-use device_port::{Device, DeviceFail, Reply};
+use crate::journal::Asked;
+use crate::counter::Counter;
+use crate::device::{Device, DeviceFail, Reply};
 use std::alloc::Global;
 use wa_types::{Name, Value};
 
@@ -22,7 +23,7 @@ pub struct FaultAt {
 }
 
 impl FaultAt {
-    ghost use Rattle.memory_devices.specs.InMemory.{fault_at, fault_ticks, failing, next_call, failed};
+    ghost use Rattle.device_port.specs.InMemory.{fault_at, fault_ticks, failing, next_call, failed};
 
     /// A device that was not called yet.
     pub fn new(alloc: Global, name: Name, ticks: u32, fail: Vec<u64>) -> FaultAt
@@ -50,7 +51,7 @@ impl FaultAt {
 }
 
 impl Device for FaultAt {
-    ghost use Rattle.memory_devices.specs.InMemory.{fault_at, fault_ticks, failing, next_call, failed};
+    ghost use Rattle.device_port.specs.InMemory.{fault_at, fault_ticks, failing, next_call, failed};
 
     ghost seen = { fault_at };
 

@@ -2,9 +2,9 @@
 
 ghost use Rattle.std.specs.Prelude.{◌≡◌, [], ◌∷◌, ◌++◌, map, length, IfOk, OnOk, OnErr};
 ghost use Rattle.device_port.specs.Journals.{entry};
-ghost use Rattle.memory_devices.specs.Kept.{asked_of};
+ghost use Rattle.device_port.specs.Kept.{asked_of};
 
-use device_port::Reply;
+use crate::device::Reply;
 use std::alloc::{AllocError, Global};
 use std::marker::Model;
 use wa_types::{Name, Value};
@@ -27,7 +27,7 @@ pub struct Journal {
 impl Model for Journal {
     ghost use Rattle.std.specs.Prelude.{List, map};
     ghost use Rattle.wa_model.specs.World.{Asked};
-    ghost use Rattle.memory_devices.specs.Kept.{asked_of};
+    ghost use Rattle.device_port.specs.Kept.{asked_of};
 
     ghost Value = { List Asked };
 

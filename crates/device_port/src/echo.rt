@@ -2,11 +2,11 @@
 
 ghost use Rattle.std.specs.Prelude.{◌≡◌, ◌≢◌, [], map, option_map, IfOk, OnErr};
 ghost use Rattle.device_port.specs.Journals.{entry, with_entry};
-ghost use Rattle.memory_devices.specs.Answers.{ticks_named, echoed};
-ghost use Rattle.memory_devices.specs.Kept.{asked_of};
+ghost use Rattle.device_port.specs.Answers.{ticks_named, echoed};
+ghost use Rattle.device_port.specs.Kept.{asked_of};
 
 use crate::journal::{Asked, Journal};
-use device_port::{Device, DeviceFail, Reply};
+use crate::device::{Device, DeviceFail, Reply};
 use std::alloc::Global;
 use wa_types::{Name, Value};
 
@@ -18,7 +18,7 @@ pub struct Echo {
 }
 
 impl Echo {
-    ghost use Rattle.memory_devices.specs.InMemory.{echo};
+    ghost use Rattle.device_port.specs.InMemory.{echo};
 
     /// An echo that has answered nothing.
     pub fn new(alloc: Global, name: Name) -> Echo
@@ -40,7 +40,7 @@ impl Echo {
 }
 
 impl Device for Echo {
-    ghost use Rattle.memory_devices.specs.InMemory.{echo};
+    ghost use Rattle.device_port.specs.InMemory.{echo};
 
     ghost seen = { echo };
 

@@ -2,11 +2,11 @@
 
 ghost use Rattle.std.specs.Prelude.{◌≡◌, ◌≢◌, [], map, IfOk, OnErr};
 ghost use Rattle.device_port.specs.Journals.{entry, with_entry};
-ghost use Rattle.memory_devices.specs.Answers.{counted};
-ghost use Rattle.memory_devices.specs.Kept.{asked_of};
+ghost use Rattle.device_port.specs.Answers.{counted};
+ghost use Rattle.device_port.specs.Kept.{asked_of};
 
 use crate::journal::{Asked, Journal};
-use device_port::{Device, DeviceFail, Reply};
+use crate::device::{Device, DeviceFail, Reply};
 use std::alloc::Global;
 use wa_types::{Name, Value};
 
@@ -22,7 +22,7 @@ pub struct Counter {
 }
 
 impl Counter {
-    ghost use Rattle.memory_devices.specs.InMemory.{counter, ticks_of};
+    ghost use Rattle.device_port.specs.InMemory.{counter, ticks_of};
 
     /// A counter that has answered nothing.
     pub fn new(alloc: Global, name: Name, ticks: u32) -> Counter
@@ -46,7 +46,7 @@ impl Counter {
 }
 
 impl Device for Counter {
-    ghost use Rattle.memory_devices.specs.InMemory.{counter, ticks_of};
+    ghost use Rattle.device_port.specs.InMemory.{counter, ticks_of};
 
     ghost seen = { counter };
 

@@ -1,6 +1,6 @@
 -- A journal's entry that a device in memory keeps.
 use Rattle.wa_model.specs.World as world
-use Rattle.memory_devices.specs.declared.journal.Asked.{Asked}
+use Rattle.device_port.specs.declared.journal.Asked.{Asked}
 use Rattle.device_port.specs.Journals.{entry}
 
 -- a call that was answered, as a world has it

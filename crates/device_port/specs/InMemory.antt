@@ -2,9 +2,9 @@
 use Rattle.std.specs.Prelude.{ℕ, List}
 use Rattle.wa_model.specs.World.{Device}
 use Rattle.vault_port.specs.Counts.{one_more}
-use Rattle.memory_devices.specs.declared.counter.Counter.{Counter}
-use Rattle.memory_devices.specs.declared.echo.Echo.{Echo}
-use Rattle.memory_devices.specs.declared.fault_at.FaultAt.{FaultAt}
+use Rattle.device_port.specs.declared.counter.Counter.{Counter}
+use Rattle.device_port.specs.declared.echo.Echo.{Echo}
+use Rattle.device_port.specs.declared.fault_at.FaultAt.{FaultAt}
 
 -- a counter as a world sees it
 abbrev pub counter : Counter → Device
