@@ -5,8 +5,7 @@ use std::alloc::{AllocError, Global};
 use std::fmt::Display;
 use std::test::Fail;
 use std::{env, fs, io, process};
-use system_vaults::{FileVault, OutSink};
-use vault_port::*;
+use vault_port::{*, FileVault, OutSink};
 use wa_types::Name;
 
 fn named(alloc: Global, name: &str, bytes: &[u8]) -> Result<NamedFile, AllocError> {

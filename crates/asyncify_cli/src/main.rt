@@ -9,7 +9,7 @@ use std::env;
 use std::io::ErrorKind;
 use std::process::ExitCode;
 use std::rt::{Env, Files};
-use system_vaults::{FileVault, OutSink};
+use vault_port::{FileVault, OutSink};
 use wa_types::Name;
 
 /// The status of want of memory.

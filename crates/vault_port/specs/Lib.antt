@@ -1,4 +1,5 @@
 pub mod Counts
 pub mod Files
+pub mod Real
 pub mod Taken
 pub mod Told

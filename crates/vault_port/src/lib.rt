@@ -20,12 +20,20 @@
 //! of memory is the one error without a cause.
 //!
 //! Vaults and sinks stand in `memory_vaults` and `system_vaults`.
+//!
+//! `file_vault`, `out_sink`: The files of the system and standard output, as a vault and a sink.
+//!
+//! That they keep the traits is proved, and what reaches the system is shown by tests.
 #![tactic(auto)]
 
+mod file_vault;
+mod out_sink;
 mod sink;
 mod vault;
 mod whole;
 
+pub use file_vault::FileVault;
+pub use out_sink::OutSink;
 pub use sink::{Sink, SinkFail};
 pub use vault::{Vault, VaultFail};
 pub use whole::{FetchFault, PutFault, SaveFault, fetch_whole, put_whole, save_whole};

@@ -3,7 +3,7 @@
 ghost use Rattle.std.specs.Prelude.{◌≡◌, ◌≢◌, ◌≤◌, None, IfOk, OnOk, OnErr, length};
 ghost use Rattle.vault_port.specs.Counts.{one_more};
 
-use vault_port::{Sink, SinkFail};
+use crate::sink::{Sink, SinkFail};
 
 /// Standard output. It doesn't tell what was printed, and takes no memory.
 #[derive(Drop)]
@@ -13,7 +13,7 @@ pub struct OutSink<R: Print + Drop> {
 }
 
 impl<R: Print + Drop> OutSink<R> {
-    ghost use Rattle.system_vaults.specs.Real.{out_faults};
+    ghost use Rattle.vault_port.specs.Real.{out_faults};
 
     /// The output of this runtime.
     pub fn new(rt: R) -> OutSink<R>
@@ -24,7 +24,7 @@ impl<R: Print + Drop> OutSink<R> {
 }
 
 impl<R: Print + Drop> Sink for OutSink<R> {
-    ghost use Rattle.system_vaults.specs.Real.{out_faults};
+    ghost use Rattle.vault_port.specs.Real.{out_faults};
 
     ghost taken = { λ _. None };
 

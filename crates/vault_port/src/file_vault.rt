@@ -5,7 +5,7 @@ ghost use Rattle.vault_port.specs.Counts.{one_more};
 
 use std::fs::{Files, OpenFile, OpenOptions};
 use std::io::{self, ErrorKind, Read, Seek, SeekFrom, Write};
-use vault_port::{Vault, VaultFail};
+use crate::vault::{Vault, VaultFail};
 
 /// The files of the system, by path. It doesn't tell what they hold. Each call opens its file anew, which costs
 /// little beside a piece of 64 KiB.
@@ -17,7 +17,7 @@ pub struct FileVault<R: Files + Drop> {
 }
 
 impl<R: Files + Drop> FileVault<R> {
-    ghost use Rattle.system_vaults.specs.Real.{file_fetch_faults, file_save_faults};
+    ghost use Rattle.vault_port.specs.Real.{file_fetch_faults, file_save_faults};
 
     /// The files that this runtime reaches.
     pub fn new(rt: R) -> FileVault<R>
@@ -33,7 +33,7 @@ impl<R: Files + Drop> FileVault<R> {
 }
 
 impl<R: Files + Drop> Vault for FileVault<R> {
-    ghost use Rattle.system_vaults.specs.Real.{file_fetch_faults, file_save_faults};
+    ghost use Rattle.vault_port.specs.Real.{file_fetch_faults, file_save_faults};
 
     ghost files = { λ _. None };
 
