@@ -9,7 +9,7 @@ ghost use Rattle.command_words.specs.Words.{HasFewFunctions, Reads, spelled_of, 
 use crate::matches::text_at;
 use crate::words::{Command, WordsFault};
 use clap::ArgMatches;
-use line_words::number_within;
+use script_reader::number_within;
 
 /// The most functions of a generated module.
 const MOST_FUNCTIONS: u64 = 4_000;

@@ -1,4 +1,9 @@
-pub mod Cut
 pub mod Closed
-pub mod Told
+pub mod Cut
+mod Lists
+pub mod Numerals
+pub mod Pieces
+pub mod Sequences
 pub mod Steps
+mod Texts
+pub mod Told

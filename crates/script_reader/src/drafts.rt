@@ -6,14 +6,14 @@ ghost use Rattle.script_model.specs.Script.{ProgramText as PlainProgram, breaks}
 ghost use Rattle.script_model.specs.ScriptLines.{answers, binds, enters, has_area, has_steps, ignores_imports, lists_imports, saves, sets_global, shows};
 ghost use Rattle.script_model.specs.ScriptText.{is_error};
 ghost use Rattle.wa_model.specs.View.{answer_line_of};
-ghost use Rattle.script_lines.specs.Statements.{statement_of};
+ghost use Rattle.script_reader.specs.Statements.{statement_of};
 ghost use Rattle.script_reader.specs.Drafts.{begun, on_program, one_more, or_fault};
 ghost use Rattle.script_reader.specs.Views.{Reads, draft_of, finished_as};
 
 use crate::faults::ScriptFault;
 use crate::script::{BindText, EntryText, GlobalText, ProgramText, ShowText};
 use call_graph::{ImportList, ListFault};
-use script_lines::Statement;
+use crate::statements::Statement;
 use std::alloc::{AllocError, Global};
 use wa_model::{AnswerLine, Area};
 use wa_types::{Name, Value};

@@ -4,7 +4,7 @@ ghost use Rattle.std.specs.Prelude.{◌≡◌, ◌≤◌, length, OnOk};
 ghost use Rattle.std.specs.Option.{option_map};
 ghost use Rattle.script_model.specs.ScriptLines.{line_says};
 ghost use Rattle.script_model.specs.ScriptText.{script_text};
-ghost use Rattle.script_lines.specs.Statements.{line_of, statement_of};
+ghost use Rattle.script_reader.specs.Statements.{line_of, statement_of};
 ghost use Rattle.script_reader.specs.Drafts.{closed, closed_last, ended, nothing_read, with_line, with_program, with_statement};
 ghost use Rattle.script_reader.specs.Views.{Reads, draft_of, programs_of, reading_of, script_of};
 
@@ -12,7 +12,8 @@ use crate::drafts::{Draft, begin_draft, finished, put, put_statement as put_into
 use crate::faults::ScriptFault;
 use crate::lines::first_line;
 use crate::script::{ProgramText, Script};
-use script_lines::{LineFault, Statement, read_line as read_statement};
+use crate::word_fault::LineFault;
+use crate::statements::{Statement, read_line as read_statement};
 use std::alloc::{AllocError, Global};
 use wa_model::Detach;
 use wa_types::Name;
