@@ -1,4 +1,5 @@
+pub mod Bound
 pub mod Gathered
 pub mod GlobalTables
-pub mod Told
 pub mod GlobalTypes
+pub mod Told

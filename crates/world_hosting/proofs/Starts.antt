@@ -24,10 +24,10 @@ use Rattle.script_setup.specs.declared.setting.SetUp.{SetUp as SetUpValue}
 use Rattle.script_setup.specs.SetUpRules.{named_entry, set_up_rules}
 use Rattle.script_setup.specs.Views.{set_up_of}
 use Rattle.script_setup.proofs.GlobalTypes.{given_by_rules}
-use Rattle.device_bindings.specs.Bindings.{bindings}
+use Rattle.script_setup.specs.Bindings.{bindings}
 use Rattle.world_hosting.specs.Worlds.{FitsPlan, IsListing, look_at, part, world_program}
 use Rattle.world_hosting.specs.Views.{Suits, listing}
-use Rattle.device_bindings.proofs.Bound.{bound_each}
+use Rattle.script_setup.proofs.Bound.{bound_each}
 
 -- what is made by the rules suits
 pub suits_by_rules : (runs : Bool) (p : Module) (t : ProgramText) (made : SetUpValue) → set_up_rules runs p t ≡ Ok (set_up_of made)

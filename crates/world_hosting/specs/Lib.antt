@@ -1,4 +1,4 @@
-pub use Rattle.device_bindings.specs.Bindings
+pub use Rattle.script_setup.specs.Bindings
 pub use Rattle.pause_host.specs.Settings
 pub mod Counts
 pub mod Laws

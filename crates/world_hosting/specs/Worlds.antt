@@ -17,7 +17,7 @@ use Rattle.many_host.specs.Calls.{devices_of}
 use Rattle.vault_port.specs.declared.whole.PutFault.{PutFault}
 use Rattle.vault_port.specs.declared.whole.PutFault.TheVariants.{Fault, Memory}
 use Rattle.vault_port.specs.Taken.{Appends, AppendsLess}
-use Rattle.device_bindings.specs.Bindings.{bindings}
+use Rattle.script_setup.specs.Bindings.{bindings}
 use Rattle.world_hosting.specs.Counts.{Took, turns_at}
 
 -- ---- what is asked of a program

@@ -8,7 +8,7 @@ use Rattle.script_reader.specs.declared.script.ProgramText.{ProgramText}
 use Rattle.script_reader.specs.Views.{bind_of, program_of}
 use Rattle.script_setup.specs.declared.setting.SetUp.{SetUp}
 use Rattle.script_setup.specs.SetUpRules.{program_names}
-use Rattle.device_bindings.specs.Bindings.{bindings}
+use Rattle.script_setup.specs.Bindings.{bindings}
 use Rattle.world_hosting.proofs.Starts.{begins, is_plan}
 use Rattle.world_hosting.proofs.staging.stage_program.Goals as goal
 

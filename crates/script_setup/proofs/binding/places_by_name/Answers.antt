@@ -1,6 +1,6 @@
-use Rattle.device_bindings.specs.Places.{place_in}
-use Rattle.device_bindings.proofs.Bound.{all_places, next_places}
-use Rattle.device_bindings.proofs.binding.places_by_name.Goals as goal
+use Rattle.script_setup.specs.Places.{place_in}
+use Rattle.script_setup.proofs.Bound.{all_places, next_places}
+use Rattle.script_setup.proofs.binding.places_by_name.Goals as goal
 
 pub loop-place-preserved : goal.loop-place-preserved
 loop-place-preserved c =

@@ -8,11 +8,11 @@ ghost use Rattle.wa_types.specs.Pausing.{joined_name};
 ghost use Rattle.wa_types.specs.View.{module_of};
 ghost use Rattle.script_model.specs.Script.{BindText as PlainBind};
 ghost use Rattle.script_reader.specs.Views.{bind_of};
-ghost use Rattle.device_bindings.specs.Bindings.{bindings, bound_imports, where_func};
-ghost use Rattle.device_bindings.specs.Places.{TellsDevices, device_at, place_in};
+ghost use Rattle.script_setup.specs.Bindings.{bindings, bound_imports, where_func};
+ghost use Rattle.script_setup.specs.Places.{TellsDevices, device_at, place_in};
 
 use script_reader::BindText;
-use script_setup::joined_text;
+use crate::names::joined_text;
 use std::alloc::{AllocError, Global};
 use std::collections::BTreeMap;
 use wa_types::{Import, ImportKind, Module, Name};

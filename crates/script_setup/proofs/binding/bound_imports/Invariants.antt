@@ -4,9 +4,9 @@ use Rattle.wa_types.specs.declared.syntax.Import.{Import}
 use Rattle.wa_types.specs.Modules.{imported_func}
 use Rattle.wa_types.specs.Pausing.{joined_name}
 use Rattle.script_reader.specs.Views.{bind_of}
-use Rattle.device_bindings.specs.Bindings.{where_func}
-use Rattle.device_bindings.specs.Places.{device_at, place_in}
-use Rattle.device_bindings.proofs.binding.bound_imports.Given as goal
+use Rattle.script_setup.specs.Bindings.{where_func}
+use Rattle.script_setup.specs.Places.{device_at, place_in}
+use Rattle.script_setup.proofs.binding.bound_imports.Given as goal
 
 abbrev pub invariant-loop-import : goal.invariant-loop-import
 invariant-loop-import l =

@@ -17,8 +17,8 @@ use Rattle.script_model.specs.Script.{BindText}
 use Rattle.script_model.specs.ScriptLines.{or_else}
 use Rattle.script_reader.specs.declared.script.BindText.{BindText as BindValue}
 use Rattle.script_reader.specs.Views.{bind_of}
-use Rattle.device_bindings.specs.Bindings.{bound_imports, last_device, where_func}
-use Rattle.device_bindings.specs.Places.{device_at, place_in}
+use Rattle.script_setup.specs.Bindings.{bound_imports, last_device, where_func}
+use Rattle.script_setup.specs.Places.{device_at, place_in}
 
 -- ---- one for each function import
 

@@ -6,7 +6,7 @@ use Rattle.std.specs.Cmp.Lexicographic.{slice_cmp}
 use Rattle.std.specs.Option.{option_map}
 use Rattle.std.specs.Ordering.{nat_cmp}
 use Rattle.script_model.specs.Script.{BindText}
-use Rattle.device_bindings.specs.Bindings.{last_device}
+use Rattle.script_setup.specs.Bindings.{last_device}
 
 -- the place under a name
 abbrev pub place_in : BTreeMap (Bor (List ℕ)) ℕ → List ℕ → Option ℕ

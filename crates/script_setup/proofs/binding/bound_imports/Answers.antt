@@ -4,10 +4,10 @@ use Rattle.wa_types.specs.Modules.{imported_func}
 use Rattle.wa_types.specs.Pausing.{joined_name}
 use Rattle.script_reader.specs.Views.{bind_of}
 use Rattle.script_setup.proofs.Gathered.{filter_all, filter_next}
-use Rattle.device_bindings.specs.Bindings.{last_device, where_func}
-use Rattle.device_bindings.specs.Places.{device_at, place_in}
-use Rattle.device_bindings.proofs.Bound.{same_devices}
-use Rattle.device_bindings.proofs.binding.bound_imports.Goals as goal
+use Rattle.script_setup.specs.Bindings.{last_device, where_func}
+use Rattle.script_setup.specs.Places.{device_at, place_in}
+use Rattle.script_setup.proofs.Bound.{same_devices}
+use Rattle.script_setup.proofs.binding.bound_imports.Goals as goal
 
 pub loop-import-preserved : goal.loop-import-preserved
 loop-import-preserved c =
