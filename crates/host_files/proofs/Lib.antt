@@ -1,3 +1,3 @@
-pub use Rattle.wasm_reader.proofs.Held
 pub mod Counts
 pub mod Fronts
+pub mod Refused

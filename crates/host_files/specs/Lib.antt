@@ -1,3 +1,4 @@
-pub use Rattle.wasm_reader.specs.Held
+pub mod Faults
+pub mod Prepared
 pub mod Scripts
 pub mod Views

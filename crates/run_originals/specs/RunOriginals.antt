@@ -7,7 +7,7 @@ use Rattle.wa_model.specs.World.{BlockingWorld}
 use Rattle.event_order.specs.Left.{Counted}
 use Rattle.many_host.specs.Calls.{devices_of}
 use Rattle.script_opening.specs.Sources.{IsValidSource}
-use Rattle.host_files.specs.Held.{Holds}
+use Rattle.wasm_reader.specs.Held.{Holds}
 use Rattle.script_setup.specs.SetUpRules.{program_names}
 use Rattle.script_opening.specs.Playing.{Play, detaches_in, settings_for}
 use Rattle.script_opening.specs.declared.way.Way.TheVariants.{Run}

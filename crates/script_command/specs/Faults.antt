@@ -1,6 +1,6 @@
 -- Faults of which a line is printed.
 use Rattle.transcript.specs.Printing.{refusal_of}
-use Rattle.host_modules.specs.Prepared.{IsOfContent}
+use Rattle.host_files.specs.Prepared.{IsOfContent}
 use Rattle.script_verdicts.specs.OpenFault.{OpenFault}
 use Rattle.script_verdicts.specs.OpenFault.TheVariants.{Memory, Read, Script, Module, Rule}
 

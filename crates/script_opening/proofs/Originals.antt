@@ -21,7 +21,7 @@ use Rattle.source_modules.specs.declared.source.SourceFault.{SourceFault}
 use Rattle.source_modules.specs.declared.source.SourceFault.TheVariants as S
 use Rattle.host_files.specs.declared.fault.FileFault.{FileFault}
 use Rattle.host_files.specs.declared.fault.FileFault.TheVariants.{Memory, Read, Refused}
-use Rattle.host_files.specs.Held.{Holds}
+use Rattle.wasm_reader.specs.Held.{Holds}
 use Rattle.host_files.specs.Views.{IsToldUnprepared}
 use Rattle.world_hosting.specs.Worlds.{IsListing}
 use Rattle.world_hosting.specs.Views.{listing}

@@ -8,9 +8,9 @@ use Rattle.script_model.specs.Command.{choice_said}
 use Rattle.wa_model.specs.declared.answers.Detach.{Detach}
 use Rattle.script_model.specs.Script.{DetachText, ProgramText, Script, breaks}
 use Rattle.script_model.specs.Transcript.{Refusal, script}
-use Rattle.host_modules.specs.Prepared.{IsPrepared, IsUnprepared}
+use Rattle.host_files.specs.Prepared.{IsPrepared, IsUnprepared}
 use Rattle.host_files.specs.Scripts.{IsScript, IsNoScript}
-use Rattle.host_files.specs.Held.{Holds}
+use Rattle.wasm_reader.specs.Held.{Holds}
 use Rattle.source_modules.specs.Running.{RunsAs}
 use Rattle.source_modules.specs.Sources.{IsRefusedFor, refusal_for}
 use Rattle.source_modules.specs.Sources as S

@@ -7,8 +7,8 @@ use Rattle.wa_types.specs.Pausing.{Settings}
 use Rattle.wa_types.specs.Syntax.{Module}
 use Rattle.script_model.specs.Script.{ProgramText}
 use Rattle.script_model.specs.Transcript.{Refusal}
-use Rattle.host_files.proofs.Held.{own_bytes}
-use Rattle.host_modules.specs.Prepared.{IsPrepared, IsUnprepared}
+use Rattle.wasm_reader.proofs.Held.{own_bytes}
+use Rattle.host_files.specs.Prepared.{IsPrepared, IsUnprepared}
 use Rattle.script_opening.specs.Running.{RunsAs}
 use Rattle.script_opening.specs.Sources.{Cause, malformed, float, deep, limit, reserved, invalid, rewritten_locals, long_output, IsRefusedFor}
 use Rattle.transform_command.specs.PolicyLaws.{without_code}

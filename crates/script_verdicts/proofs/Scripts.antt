@@ -7,13 +7,12 @@ use Rattle.wa_types.specs.Syntax.{Module}
 use Rattle.script_model.specs.Script.{ProgramText, Script, ScriptFault, breaks}
 use Rattle.script_model.specs.Transcript.{Refusal}
 use Rattle.host_files.specs.Scripts.{IsNoScript, IsScript, refusal_for}
-use Rattle.host_files.proofs.Held.{own_bytes}
+use Rattle.wasm_reader.proofs.Held.{own_bytes}
 use Rattle.script_setup.specs.SetUpRules.{SetUp, set_up_rules}
 use Rattle.script_opening.specs.Worlds.{Part}
 use Rattle.script_opening.specs.declared.way.Way.{Way}
 use Rattle.script_opening.specs.declared.way.Way.TheVariants.{Host, Run}
-use Rattle.script_opening.specs.Playing.{AreStages, BreaksRule, Cause, HasScript, IsBadModule, IsModule, IsRead, IsReached, IsRefused, IsStage, Play, Reaches}
-use Rattle.script_opening.specs.Playing.{asks_all, bad_line, bad_module, bad_script}
+use Rattle.script_opening.specs.Playing.{AreStages, BreaksRule, Cause, HasScript, IsBadModule, IsModule, IsRead, IsReached, IsRefused, IsStage, Play, Reaches, asks_all, bad_line, bad_module, bad_script}
 use Rattle.script_verdicts.specs.Laws.{CausesAreOne, PlayedIsNotRefused}
 use Rattle.script_verdicts.proofs.Modules.{not_bad, one_module, one_refused}
 use Rattle.script_verdicts.proofs.SameSetUp.{same_rules}
