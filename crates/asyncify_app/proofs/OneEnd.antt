@@ -8,8 +8,8 @@ use Rattle.wa_types.specs.Pausing.{Settings}
 use Rattle.script_model.specs.Command.{Command, transform, OnTransform}
 use Rattle.script_model.specs.Spelled.{Spelled, rewrites, hosts, runs, generates}
 use Rattle.script_model.specs.Transcript.{refusal_line, write_fault}
-use Rattle.printing.specs.Refused.{EndsInMemory, Prints, PrintsMemory}
-use Rattle.printing.proofs.Printed.{memory_alone}
+use Rattle.transcript.specs.Refused.{EndsInMemory, Prints, PrintsMemory}
+use Rattle.transcript.proofs.Printed.{memory_alone}
 use Rattle.gen_module.specs.Generated.{generated}
 use Rattle.gen_command.specs.Printed as G
 use Rattle.script_command.specs.Way.TheVariants.{Host, Run}

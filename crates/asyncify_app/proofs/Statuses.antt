@@ -2,7 +2,7 @@
 use Rattle.std.proofs.Common.{◌≡◌, ◌⊎◌, inl, inr, ℕ, [], None, arith}
 use Rattle.wa_types.specs.declared.bounds.LimitKind.TheVariants.{File}
 use Rattle.script_command.specs.Sources.{Cause, malformed, float, deep, limit, reserved, invalid, rewritten_locals, long_output, refusal_for}
-use Rattle.printing.specs.Refused.{status_of}
+use Rattle.transcript.specs.Refused.{status_of}
 use Rattle.script_command.specs.TransformEnds.{IsRefusal}
 use Rattle.script_command.specs.Way.{Way}
 use Rattle.script_command.specs.Ends.{IsStatus}

@@ -9,7 +9,7 @@ use Rattle.script_model.specs.Command.{Command, transform}
 use Rattle.script_model.specs.Spelled.{Spelled, rewrites, hosts, runs, generates}
 use Rattle.script_model.specs.Transcript.{refusal_line, write_fault}
 use Rattle.event_order.specs.Left.{Counted}
-use Rattle.printing.specs.Refused.{Prints}
+use Rattle.transcript.specs.Refused.{Prints}
 use Rattle.gen_module.specs.Generated.{generated}
 use Rattle.gen_command.specs.Printed as G
 use Rattle.script_command.specs.Way.{Way}

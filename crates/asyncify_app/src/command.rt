@@ -8,7 +8,7 @@ ghost use Rattle.vault_port.specs.Told.{WhereTold, Becomes};
 ghost use Rattle.script_model.specs.Command.{OnTransform};
 ghost use Rattle.script_model.specs.Spelled.{spelled};
 ghost use Rattle.script_model.specs.Transcript.{read_fault, refusal_line, usage, write_fault};
-ghost use Rattle.printing.specs.Refused.{Prints, PrintsMemory};
+ghost use Rattle.transcript.specs.Refused.{Prints, PrintsMemory};
 ghost use Rattle.script_command.specs.TransformEnds.{IsRefusal};
 ghost use Rattle.script_command.specs.Transforms.{HasCause, HoldsSource, IsCutShort, IsTransformed, PrintsRefusal, PrintsDone, PrintsLess, RunsOutOfMemory};
 ghost use Rattle.host_laws.specs.Supplies.{IsLent};
@@ -19,10 +19,9 @@ use crate::playing::play_with;
 use command_words::{Command, WordsFault, read_words};
 use device_port::Device;
 use gen_command::run_generated;
-use printing::{out_of_memory, refuse};
+use transcript::{RefusalKind, out_of_memory, refuse};
 use script_command::{Way, run_transform};
 use std::alloc::Global;
-use transcript::RefusalKind;
 use vault_port::{Sink, Vault};
 
 /// Runs the command that the words spell, without the program's own name, over a vault of files, a sink for what it prints, and

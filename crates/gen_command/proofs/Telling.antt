@@ -7,8 +7,8 @@ use Rattle.vault_port.specs.Told.{Becomes}
 use Rattle.wa_types.specs.Encoding.{Enc}
 use Rattle.wa_types.specs.Syntax.{Module}
 use Rattle.script_model.specs.Transcript.{refusal_line, write_fault}
-use Rattle.printing.specs.Refused.{EndsInMemory, PrintsMemory}
-use Rattle.printing.proofs.Printed.{memory_alone}
+use Rattle.transcript.specs.Refused.{EndsInMemory, PrintsMemory}
+use Rattle.transcript.proofs.Printed.{memory_alone}
 use Rattle.gen_module.specs.Generated.{generated}
 use Rattle.generated_runs.specs.Playing.{PlaysGenerated}
 use Rattle.gen_command.specs.Printed.{PrintsGenerated, PrintsLess, RunsOutOfMemory, three_lines}

@@ -4,7 +4,7 @@ use Rattle.std.specs.Fmt.{decimal}
 use Rattle.vault_port.specs.Taken.{Appends, AppendsLess}
 use Rattle.wa_types.specs.Encoding.{Enc}
 use Rattle.script_model.specs.Transcript.{refusal_line, write_fault, line_end}
-use Rattle.printing.specs.Refused.{PrintsMemory}
+use Rattle.transcript.specs.Refused.{PrintsMemory}
 use Rattle.gen_module.specs.Generated.{generated}
 use Rattle.generated_runs.specs.Playing.{PlaysGenerated}
 

@@ -8,7 +8,7 @@ ghost use Rattle.vault_port.specs.Taken.{Appends, AppendsLess};
 ghost use Rattle.vault_port.specs.Told.{Becomes};
 ghost use Rattle.script_model.specs.Transcript.{refusal_line, write_fault};
 ghost use Rattle.wa_types.specs.Encoding.{Enc};
-ghost use Rattle.printing.specs.Refused.{Prints, PrintsMemory};
+ghost use Rattle.transcript.specs.Refused.{Prints, PrintsMemory};
 ghost use Rattle.gen_module.specs.Generated.{generated};
 ghost use Rattle.generated_runs.specs.Playing.{PlaysGenerated};
 ghost use Rattle.gen_command.specs.Printed.{PrintsGenerated, PrintsLess, RunsOutOfMemory, three_lines};
@@ -16,7 +16,7 @@ ghost use Rattle.gen_command.specs.Printed.{PrintsGenerated, PrintsLess, RunsOut
 use crate::writing::{GenFault, write_module};
 use gen_module::generate;
 use generated_runs::play_generated;
-use printing::{out_of_memory, refuse_write};
+use transcript::{out_of_memory, refuse_write};
 use std::alloc::{AllocError, Global};
 use vault_port::{PutFault, Sink, Vault, put_whole};
 

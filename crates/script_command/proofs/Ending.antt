@@ -9,8 +9,8 @@ use Rattle.vault_port.specs.declared.whole.PutFault.TheVariants.{Fault, Memory}
 use Rattle.wa_model.specs.declared.answers.Detach.{Detach}
 use Rattle.script_model.specs.Transcript.{refusal_line, read_fault}
 use Rattle.event_order.specs.Left.{Counted}
-use Rattle.printing.specs.Refused.{status_of, EndsInMemory, Prints, PrintsMemory, memory_line}
-use Rattle.printing.proofs.Printed.{memory_alone}
+use Rattle.transcript.specs.Refused.{status_of, EndsInMemory, Prints, PrintsMemory, memory_line}
+use Rattle.transcript.proofs.Printed.{memory_alone}
 use Rattle.script_verdicts.specs.Way.{Way}
 use Rattle.script_verdicts.specs.Playing.{Play, Cause, IsRefused, IsRead, detaches_in, refusal_of_cause}
 use Rattle.script_verdicts.specs.Worlds.{AreBegun, AreTold, Part, Tells, TellsPart}

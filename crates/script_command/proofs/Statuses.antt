@@ -6,7 +6,7 @@ use Rattle.script_model.specs.Transcript.{Refusal, usage, out_of_memory, malform
 use Rattle.host_files.specs.Prepared.{IsOfContent, IsUnprepared}
 use Rattle.host_files.specs.Scripts as H
 use Rattle.host_files.specs.Scripts.{IsNoScript}
-use Rattle.printing.specs.Refused.{status_of}
+use Rattle.transcript.specs.Refused.{status_of}
 use Rattle.script_verdicts.specs.Sources as S
 use Rattle.script_verdicts.specs.Sources.{refusal_for}
 use Rattle.script_verdicts.specs.Way.{Way}

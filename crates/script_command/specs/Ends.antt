@@ -6,7 +6,7 @@ use Rattle.vault_port.specs.Taken.{Appends, AppendsLess}
 use Rattle.vault_port.specs.Told.{Becomes}
 use Rattle.script_model.specs.Transcript.{read_fault, refusal_line}
 use Rattle.event_order.specs.Left.{Counted}
-use Rattle.printing.specs.Refused.{status_of, Prints, PrintsMemory}
+use Rattle.transcript.specs.Refused.{status_of, Prints, PrintsMemory}
 use Rattle.script_verdicts.specs.Way.{Way}
 use Rattle.script_verdicts.specs.Way.TheVariants.{Run}
 use Rattle.script_verdicts.specs.Playing.{Cause, bad_module, Play, IsRefused, IsRead, refusal_of_cause}

@@ -15,10 +15,9 @@ ghost use Rattle.script_command.specs.Faults.{IsToldFault};
 
 use crate::staging::stage_all;
 use device_port::{Device, Devices};
-use printing::{out_of_memory, refuse, refuse_program};
+use transcript::{RefusalKind, out_of_memory, refuse, refuse_program};
 use script_verdicts::{OpenFault, Opened, Programs, Staged, Way, host_programs, open_script};
 use std::alloc::Global;
-use transcript::RefusalKind;
 use vault_port::{PutFault, Sink, Vault};
 use wa_model::Detach;
 

@@ -2,8 +2,8 @@
 use Rattle.std.proofs.Common.{ℕ, List, Option, Some, None, refl, sym, ◌∙◌, ◌≡◌, ◌⊎◌, inl, inr, arith}
 use Rattle.vault_port.specs.Told.{Becomes, WhereTold}
 use Rattle.script_model.specs.Transcript.{refusal_line, read_fault}
-use Rattle.printing.specs.Refused.{status_of, EndsInMemory, Prints}
-use Rattle.printing.proofs.Printed.{memory_alone}
+use Rattle.transcript.specs.Refused.{status_of, EndsInMemory, Prints}
+use Rattle.transcript.proofs.Printed.{memory_alone}
 use Rattle.transform_command.specs.Ends.{IsRefusal}
 use Rattle.transform_command.specs.Transforms.{HasCause, PrintsRefusal, RunsOutOfMemory}
 use Rattle.source_modules.specs.Sources.{Cause, malformed, float, deep, limit, reserved, invalid, rewritten_locals, long_output, IsRefusedFor, refusal_for}

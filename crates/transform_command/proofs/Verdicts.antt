@@ -22,7 +22,7 @@ use Rattle.file_laws.proofs.UniqueCode.{one_file}
 use Rattle.wasm_reader.specs.Answers.{IsFile, HasNoFloat, IsAccepted}
 use Rattle.local_spill.specs.Reserved.{reserved_at}
 use Rattle.source_modules.specs.Sources.{IsFree, IsValidSource, rewritten_counts, IsRewritable, Cause, malformed, float, deep, limit, reserved, invalid, rewritten_locals, long_output, IsRefusedFor, refusal_for}
-use Rattle.printing.specs.Refused.{status_of}
+use Rattle.transcript.specs.Refused.{status_of}
 use Rattle.transform_command.specs.Ends.{IsLong}
 
 -- how far bytes come

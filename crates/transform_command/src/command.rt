@@ -6,14 +6,14 @@ ghost use Rattle.vault_port.specs.Counts.{HasRisen};
 ghost use Rattle.vault_port.specs.Files.{bytes_of, IsMissing};
 ghost use Rattle.vault_port.specs.Told.{WhereTold, Becomes};
 ghost use Rattle.script_model.specs.Transcript.{read_fault, refusal_line, write_fault};
-ghost use Rattle.printing.specs.Refused.{Prints};
+ghost use Rattle.transcript.specs.Refused.{Prints};
 ghost use Rattle.transform_command.specs.Ends.{IsRefusal};
 ghost use Rattle.transform_command.specs.Transforms.{HasCause, HoldsSource, IsCutShort, IsTransformed, PrintsRefusal, PrintsDone, PrintsLess, RunsOutOfMemory};
 
 use crate::report::report;
 use crate::transform::{TransformFault, transform};
 use call_graph::Settings;
-use printing::{out_of_memory, refuse, refuse_read, refuse_write};
+use transcript::{out_of_memory, refuse, refuse_read, refuse_write};
 use source_modules::refusal_kind;
 use std::alloc::Global;
 use vault_port::{Sink, Vault};

@@ -5,11 +5,11 @@ ghost use Rattle.std.specs.String.{string_bytes};
 ghost use Rattle.vault_port.specs.Counts.{HasRisen};
 ghost use Rattle.vault_port.specs.Told.{Becomes};
 ghost use Rattle.vault_port.specs.Taken.{Appends, AppendsLess};
-ghost use Rattle.printing.specs.Refused.{PrintsMemory};
+ghost use Rattle.transcript.specs.Refused.{PrintsMemory};
 ghost use Rattle.transform_command.specs.Transforms.{done_line};
 
 use crate::transform::Done;
-use printing::out_of_memory;
+use transcript::out_of_memory;
 use std::alloc::{AllocError, Global};
 use vault_port::{PutFault, Sink, put_whole};
 

@@ -31,7 +31,7 @@ use Rattle.transcript.specs.Printing.{names_of}
 use Rattle.world_hosting.specs.Counts.{IsBegunBy, Took, counted, turns_at}
 use Rattle.world_hosting.specs.Worlds.{AreBegun, AreTold, Part, PrintsPart, Tells, TellsPart, part_names, turn_count, world_programs}
 use Rattle.world_hosting.proofs.TurnCounts.{begun_next, turns_begun}
-use Rattle.printing.proofs.LineTexts.{becomes_by, becomes_same, line_more, then_less, then_printed}
+use Rattle.transcript.proofs.LineTexts.{becomes_by, becomes_same, line_more, then_less, then_printed}
 
 part_of : (fault : PutFault) (text x y : List ℕ) → AppendsLess text x y → PrintsPart fault text x y
 part_of Fault text x y p = p

@@ -8,7 +8,7 @@ use Rattle.script_model.specs.Transcript.{refusal_line, usage}
 use Rattle.command_words.specs.declared.words.WordsFault.{WordsFault}
 use Rattle.command_words.specs.declared.words.Command.{Command}
 use Rattle.command_words.specs.Words.{Reads, spelled_of}
-use Rattle.printing.proofs.Printed.{memory_alone}
+use Rattle.transcript.proofs.Printed.{memory_alone}
 use Rattle.asyncify_app.proofs.OneEnd.{memory_ends, memory_unread_words, spelled_ends}
 use Rattle.asyncify_app.proofs.Statuses.{script_status}
 use Rattle.script_command.specs.Way.TheVariants.{Host, Run}

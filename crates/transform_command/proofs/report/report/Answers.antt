@@ -1,4 +1,4 @@
-use Rattle.printing.proofs.Printed.{memory_alone}
+use Rattle.transcript.proofs.Printed.{memory_alone}
 use Rattle.transform_command.proofs.report.report.Goals as goal
 
 pub returns-in_default-clause-memory : goal.returns-in_default-clause-memory

@@ -9,9 +9,8 @@ use Rattle.many_host.specs.Calls.{devices_of}
 use Rattle.transcript.specs.Printing.{names_of}
 use Rattle.world_hosting.specs.Counts.{counted}
 use Rattle.world_hosting.specs.Worlds.{world_programs}
-use Rattle.world_hosting.proofs.Printed.{host_counted, host_seen, if_err, line_begins, line_takes, line_told, none_left, none_takes, none_told, on_ok}
-use Rattle.world_hosting.proofs.Printed.{told_less, told_less_last, told_on, told_so_far, told_whole, world_counted}
-use Rattle.printing.proofs.LineTexts.{nothing_yet}
+use Rattle.world_hosting.proofs.Printed.{host_counted, host_seen, if_err, line_begins, line_takes, line_told, none_left, none_takes, none_told, on_ok, told_less, told_less_last, told_on, told_so_far, told_whole, world_counted}
+use Rattle.transcript.proofs.LineTexts.{nothing_yet}
 use Rattle.world_hosting.proofs.telling.tell_lines.Goals as goal
 
 pub telling-init : goal.telling-init

@@ -2,7 +2,7 @@
 use Rattle.std.proofs.Common.{append_assoc}
 use Rattle.std.proofs.lemmas.Result.{IfOk-weaker}
 use Rattle.script_model.specs.Transcript.{last_line}
-use Rattle.printing.proofs.lines.last_line.Goals as goal
+use Rattle.transcript.proofs.lines.last_line.Goals as goal
 
 pub returns : goal.returns
 unfolding last_line

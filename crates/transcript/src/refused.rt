@@ -4,10 +4,10 @@ ghost use Rattle.std.specs.Prelude.{◌≡◌, ◌≢◌, ◌⊎◌, ◌≤◌, 
 ghost use Rattle.vault_port.specs.Told.{Becomes};
 ghost use Rattle.script_model.specs.Transcript.{read_fault, refusal_line, write_fault};
 ghost use Rattle.transcript.specs.Printing.{refusal_of};
-ghost use Rattle.printing.specs.Refused.{EndsInMemory, Prints, PrintsMemory, status_of};
+ghost use Rattle.transcript.specs.Refused.{EndsInMemory, Prints, PrintsMemory, status_of};
 
 use std::alloc::Global;
-use transcript::{Refusal, RefusalKind, fault_line};
+use crate::refusals::{Refusal, RefusalKind, fault_line};
 use vault_port::{PutFault, Sink, put_whole};
 use wa_types::Name;
 

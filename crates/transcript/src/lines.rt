@@ -11,7 +11,7 @@ ghost use Rattle.wa_model.specs.View.{line_of};
 
 use crate::fitting::fits;
 use std::alloc::{AllocError, Global};
-use transcript::{Names, line as line_text};
+use crate::events::{Names, line as line_text};
 use vault_port::{PutFault, Sink, put_whole};
 use wa_model::Line;
 

@@ -3,7 +3,7 @@
 ghost use Rattle.std.specs.Prelude.{◌≡◌, true};
 ghost use Rattle.transcript.specs.Printing.{EndFits, IsImport, LineFits};
 
-use transcript::Names;
+use crate::events::Names;
 use wa_model::{End, Event, Line};
 use wa_types::Name;
 

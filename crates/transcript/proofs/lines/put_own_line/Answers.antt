@@ -1,5 +1,5 @@
-use Rattle.printing.proofs.LineTexts.{line_some, nothing_printed}
-use Rattle.printing.proofs.lines.put_own_line.Goals as goal
+use Rattle.transcript.proofs.LineTexts.{line_some, nothing_printed}
+use Rattle.transcript.proofs.lines.put_own_line.Goals as goal
 
 pub returns-then-not-fits-clause-less : goal.returns-then-not-fits-clause-less
 returns-then-not-fits-clause-less g c = nothing_printed _ _ (line_some _ _)

@@ -2,8 +2,8 @@ use Rattle.std.proofs.Common.{List, ℕ, sym, subst}
 use Rattle.std.specs.Prelude.{OnOk, OnErr}
 use Rattle.vault_port.specs.Told.{Becomes}
 use Rattle.vault_port.specs.Taken.{Appends, AppendsLess}
-use Rattle.printing.proofs.Printed.{either_way, ends_whole, ends_less, memory_text}
-use Rattle.printing.proofs.refused.out_of_memory.Goals as goal
+use Rattle.transcript.proofs.Printed.{either_way, ends_whole, ends_less, memory_text}
+use Rattle.transcript.proofs.refused.out_of_memory.Goals as goal
 
 pub returns-clause-printed : goal.returns-clause-printed
 returns-clause-printed g c =

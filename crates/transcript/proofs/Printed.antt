@@ -5,7 +5,7 @@ use Rattle.std.proofs.lemmas.List.{append-nil, take_all}
 use Rattle.vault_port.specs.Told.{Becomes}
 use Rattle.vault_port.specs.Taken.{Appends, AppendsLess}
 use Rattle.script_model.specs.Transcript.{refusal_line, out_of_memory}
-use Rattle.printing.specs.Refused.{EndsInMemory, PrintsMemory, memory_line}
+use Rattle.transcript.specs.Refused.{EndsInMemory, PrintsMemory, memory_line}
 
 pub memory_text : memory_line ≡ codes "out of memory\n"
 unfolding refusal_line
