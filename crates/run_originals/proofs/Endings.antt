@@ -1,5 +1,5 @@
 -- What is run ends as its originals do.
-use Rattle.original_runs.proofs.Endings.{told_ends}
+use Rattle.world_hosting.proofs.Endings.{told_ends}
 use Rattle.run_originals.specs.Completeness.{BoundedProgramsAreWhole}
 use Rattle.run_originals.proofs.Runs.{in_range, sources_of}
 

@@ -1,5 +1,5 @@
 -- Told faults are counted, whatever is played.
-use Rattle.fault_counts.proofs.Counting.{faults_are_counted}
+use Rattle.world_hosting.proofs.Counting.{faults_are_counted}
 use Rattle.script_opening.specs.Playing.{detaches_in}
 use Rattle.run_originals.specs.PlayedFaults.{PlayedFaultsAreCounted}
 

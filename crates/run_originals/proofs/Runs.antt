@@ -16,8 +16,8 @@ use Rattle.script_opening.specs.Playing.{IsStage, Play, policy_for}
 use Rattle.script_opening.specs.declared.way.Way.TheVariants.{Run}
 use Rattle.script_opening.specs.Worlds.{HasRanges, Part, part_names, turn_count}
 use Rattle.script_opening.proofs.ScriptPrograms.{scripts_are_in_range}
-use Rattle.original_runs.specs.OriginalRuns.{IsRewritten, Source}
-use Rattle.original_runs.proofs.Originals.{told_of_originals}
+use Rattle.world_hosting.specs.OriginalRuns.{IsRewritten, Source}
+use Rattle.world_hosting.proofs.Originals.{told_of_originals}
 use Rattle.run_originals.specs.RunOriginals.{IsSource, RunsAreOfOriginals, original_names}
 
 -- ---- the script

@@ -8,8 +8,8 @@ use Rattle.event_order.specs.Left.{Counted}
 use Rattle.script_opening.specs.Playing.{Play, detaches_in}
 use Rattle.script_opening.specs.declared.way.Way.TheVariants.{Run}
 use Rattle.script_opening.specs.Worlds.{AreTold}
-use Rattle.original_runs.specs.Endings.{EndsAs}
-use Rattle.original_runs.specs.OriginalRuns.{Source, StaysOff, originals_for}
+use Rattle.world_hosting.specs.Endings.{EndsAs}
+use Rattle.world_hosting.specs.OriginalRuns.{Source, StaysOff, originals_for}
 use Rattle.run_originals.specs.RunOriginals.{IsSource}
 
 -- What is told under `run` has originals, and each program whose original touches no byte of its area, with the outcomes that its calls

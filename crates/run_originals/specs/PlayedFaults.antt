@@ -6,7 +6,7 @@ use Rattle.event_order.specs.Left.{Counted}
 use Rattle.script_opening.specs.Playing.{Play, detaches_in}
 use Rattle.script_opening.specs.declared.way.Way.{Way}
 use Rattle.script_opening.specs.Worlds.{AreTold, world_programs}
-use Rattle.fault_counts.specs.FaultCounts.{CountsTo, with_told}
+use Rattle.world_hosting.specs.FaultCounts.{CountsTo, with_told}
 
 -- Of what is told to the end, under `host` and under `run`: the count of each device that is left is at least its old one and the number
 -- of lines `end device fault` of calls to it, or stands at the greatest u64.

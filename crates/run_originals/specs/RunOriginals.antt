@@ -12,7 +12,7 @@ use Rattle.script_setup.specs.SetUpRules.{program_names}
 use Rattle.script_opening.specs.Playing.{Play, detaches_in, settings_for}
 use Rattle.script_opening.specs.declared.way.Way.TheVariants.{Run}
 use Rattle.script_opening.specs.Worlds.{AreTold, Part, turn_count}
-use Rattle.original_runs.specs.OriginalRuns.{Source, StaysOff, originals_for}
+use Rattle.world_hosting.specs.OriginalRuns.{Source, StaysOff, originals_for}
 
 -- The program's file spells this valid module, and these are the settings of its lines.
 pub record IsSource (files : Option Files) (x : Source) (y : Part) : Type 0 where

@@ -1,7 +1,9 @@
-pub use Rattle.script_setup.specs.Bindings
-pub use Rattle.pause_host.specs.Settings
 pub mod Counts
+pub mod Endings
+pub mod FaultCounts
 pub mod Laws
+pub mod OriginalRuns
 pub mod Parted
+pub mod ToldAlone
 pub mod Views
 pub mod Worlds

@@ -4,13 +4,36 @@
 //! up to sixteen of them to their ends, line by line as they come, and then the last line. What is printed are the lines of a run of
 //! the protocol world (`specs/Worlds.antt`), in which each import that a `device` line names asks the device of that line, and the
 //! devices are those that the run leaves. That each program of a script is one that can be staged is the law `scripts_fit`.
+//!
+//! `fault_counts`: The counts of the devices' faults, beside the lines that tell them.
+//!
+//! Each line `end device fault` of a script that is played stands for a fault that the asked device has counted
+//! (`specs/FaultCounts.antt`).
+//!
+//! `originals_told`: What is told of rewritten modules, as a run of their originals with blocking imports.
+//!
+//! A script's programs are run over their modules, rewritten. Where no original touches a byte of its area, the lines that were told
+//! are those of a run of the blocking world of the originals, with the same devices (`specs/OriginalRuns.antt`): each program, set up
+//! by the rules, is a plan that fits its original.
+//! Each program whose original does so ends as that does (`specs/Endings.antt`).
+//!
+//! `told_alone`: What is told of a program whose imports are bound to no device, among others and alone.
+//!
+//! Whatever the other programs of a script do, and whatever devices there are, it has the lines that it would have alone, its number
+//! aside (`specs/ToldAlone.antt`).
 #![tactic(auto)]
 
+mod fault_counts;
 mod laws;
+mod originals_told;
 mod parting;
 mod staging;
 mod telling;
+mod told_alone;
 
+pub use fault_counts::told_faults_are_counted;
 pub use laws::{scripts_fit, scripts_in_range};
+pub use originals_told::{told_of_originals, told_programs_end_as_originals};
 pub use staging::{Staged, stage_program};
 pub use telling::host_programs;
+pub use told_alone::unbound_programs_are_told_alone;
