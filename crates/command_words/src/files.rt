@@ -3,7 +3,7 @@
 ghost use Rattle.std.specs.Prelude.{◌≡◌, Some, IfOk};
 ghost use Rattle.clap.specs.Words.{found_of, rows_of};
 ghost use Rattle.script_model.specs.Spelled.{hosts, number_and_file, runs};
-ghost use Rattle.word_grammar.specs.Grammar.{gen_words, host_words, read_of, run_words};
+ghost use Rattle.command_words.specs.Grammar.{gen_words, host_words, read_of, run_words};
 ghost use Rattle.command_words.specs.Words.{HasFewFunctions, Reads, spelled_of, text_of};
 
 use crate::matches::text_at;

@@ -6,7 +6,7 @@ ghost use Rattle.clap.specs.Words.{found_of, rows_of};
 ghost use Rattle.call_graph.specs.Settings.{choice_of, policy_of};
 ghost use Rattle.script_model.specs.Command.{choice_said, policy_said, with_files};
 ghost use Rattle.script_model.specs.Spelled.{rewrites};
-ghost use Rattle.word_grammar.specs.Grammar.{TellsFlags, read_of, transform_words};
+ghost use Rattle.command_words.specs.Grammar.{TellsFlags, read_of, transform_words};
 ghost use Rattle.command_words.specs.Words.{HasFewFunctions, Reads, spelled_of, text_of};
 
 use crate::matches::{flag_at, text_at};

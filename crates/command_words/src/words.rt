@@ -4,7 +4,7 @@ ghost use Rattle.std.specs.Prelude.{◌≡◌, Option, map, IfOk};
 ghost use Rattle.std.specs.String.{string_bytes};
 ghost use Rattle.clap.specs.Words.{subcommand_rows_of};
 ghost use Rattle.script_model.specs.Spelled.{Spelled, spelled};
-ghost use Rattle.word_grammar.specs.Grammar.{MatchesSpell};
+ghost use Rattle.command_words.specs.Grammar.{MatchesSpell};
 ghost use Rattle.command_words.specs.Words.{HasFewFunctions, Reads, spelled_of};
 
 use crate::files::{generate_from, script_from};
@@ -12,7 +12,7 @@ use crate::matches::parse_fault;
 use crate::transforms::transform_from;
 use call_graph::Settings;
 use clap::ArgMatches;
-use command_line::parse_line;
+use crate::line::parse_line;
 use std::alloc::Global;
 use thiserror::Error;
 

@@ -1,7 +1,7 @@
 -- The matches of a `host` or a `run` say its script.
 use Rattle.std.proofs.Common.{◌∙◌, refl}
 use Rattle.clap.specs.Words.{found_of, rows_of}
-use Rattle.word_grammar.specs.Grammar.{host_words, run_words}
+use Rattle.command_words.specs.Grammar.{host_words, run_words}
 use Rattle.command_words.proofs.CommandMet.{met_spells}
 use Rattle.command_words.proofs.words.command_from.Goals as goal
 
