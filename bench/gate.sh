@@ -11,12 +11,12 @@ known="asyncify_app asyncify_cli local_spill wasm_build call_frames call_graph l
     flatten flow_rewrite frame_sizes func_rewrite gen_command gen_module generated_runs pause_host
     host_setup interp interp_state script_reader live_locals 
     many_host module_rewrite wa_types wasm_reader script_command 
-    script_opening script_setup slim_rewrite source_modules transcript transform_command 
+    script_opening script_setup slim_rewrite transform_command transcript  
     validate_bodies wasm_validate vault_port wa_model wa_ops wasm_encode wasm_grammar
     world_hosting"
 old="wa_types file_laws wa_ops page_memory wa_model validate_bodies wasm_validate 
     interp_state interp wasm_grammar wasm_build wasm_reader wasm_encode call_graph local_spill
-    leb_numbers vault_port memory_vaults asyncify_app asyncify_cli command_words transcript source_modules round_trip
+    leb_numbers vault_port memory_vaults asyncify_app asyncify_cli command_words transcript transform_command round_trip
     definition_check"
 mkdir -p "$bench/out"
 log=$bench/out/gate.log

@@ -11,14 +11,14 @@ use Rattle.script_model.specs.Script.{ProgramText}
 use Rattle.script_model.specs.Transcript.{Refusal}
 use Rattle.transcript.specs.Printing.{refusal_of}
 use Rattle.call_graph.proofs.GraphLemmas.{listed_count}
-use Rattle.source_modules.specs.Refusals as U
-use Rattle.source_modules.specs.Refusals.{cause_of}
-use Rattle.source_modules.specs.Running.{RunsAs}
-use Rattle.source_modules.specs.Sources.{IsRefusedFor, refusal_for}
-use Rattle.source_modules.specs.declared.refusals.Refusal.{Refusal as SourceRefusal}
-use Rattle.source_modules.specs.declared.refusals.Refusal.TheVariants as R
-use Rattle.source_modules.specs.declared.source.SourceFault.{SourceFault}
-use Rattle.source_modules.specs.declared.source.SourceFault.TheVariants as S
+use Rattle.transform_command.specs.SourceRefusals as U
+use Rattle.transform_command.specs.SourceRefusals.{cause_of}
+use Rattle.transform_command.specs.Running.{RunsAs}
+use Rattle.transform_command.specs.Sources.{IsRefusedFor, refusal_for}
+use Rattle.transform_command.specs.declared.refusals.Refusal.{Refusal as SourceRefusal}
+use Rattle.transform_command.specs.declared.refusals.Refusal.TheVariants as R
+use Rattle.transform_command.specs.declared.source.SourceFault.{SourceFault}
+use Rattle.transform_command.specs.declared.source.SourceFault.TheVariants as S
 use Rattle.host_files.specs.declared.fault.FileFault.{FileFault}
 use Rattle.host_files.specs.declared.fault.FileFault.TheVariants.{Memory, Read, Refused}
 use Rattle.wasm_reader.specs.Held.{Holds}

@@ -1,5 +1,5 @@
-pub use Rattle.source_modules.specs.Running
-pub use Rattle.source_modules.specs.Sources
+pub use Rattle.transform_command.specs.Running
+pub use Rattle.transform_command.specs.Sources
 pub use Rattle.world_hosting.specs.Counts
 pub use Rattle.world_hosting.specs.Views as WorldViews
 pub use Rattle.world_hosting.specs.Worlds

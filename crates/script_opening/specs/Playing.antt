@@ -11,9 +11,9 @@ use Rattle.script_model.specs.Transcript.{Refusal, script}
 use Rattle.host_files.specs.Prepared.{IsPrepared, IsUnprepared}
 use Rattle.host_files.specs.Scripts.{IsScript, IsNoScript}
 use Rattle.wasm_reader.specs.Held.{Holds}
-use Rattle.source_modules.specs.Running.{RunsAs}
-use Rattle.source_modules.specs.Sources.{IsRefusedFor, refusal_for}
-use Rattle.source_modules.specs.Sources as S
+use Rattle.transform_command.specs.Running.{RunsAs}
+use Rattle.transform_command.specs.Sources.{IsRefusedFor, refusal_for}
+use Rattle.transform_command.specs.Sources as S
 use Rattle.script_setup.specs.SetUpRules.{set_up_rules}
 use Rattle.world_hosting.specs.Worlds.{Part}
 use Rattle.script_opening.specs.declared.way.Way.{Way}

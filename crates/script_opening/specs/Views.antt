@@ -10,10 +10,10 @@ use Rattle.transcript.specs.Printing.{refusal_of}
 use Rattle.transcript.specs.declared.refusals.RefusalKind.{RefusalKind}
 use Rattle.host_files.specs.declared.fault.FileFault.{FileFault}
 use Rattle.host_files.specs.declared.fault.FileFault.TheVariants as F
-use Rattle.source_modules.specs.Refusals.{cause_of}
-use Rattle.source_modules.specs.Sources.{refusal_for}
-use Rattle.source_modules.specs.declared.source.SourceFault.{SourceFault}
-use Rattle.source_modules.specs.declared.source.SourceFault.TheVariants as U
+use Rattle.transform_command.specs.SourceRefusals.{cause_of}
+use Rattle.transform_command.specs.Sources.{refusal_for}
+use Rattle.transform_command.specs.declared.source.SourceFault.{SourceFault}
+use Rattle.transform_command.specs.declared.source.SourceFault.TheVariants as U
 use Rattle.script_reader.specs.Views.{program_of}
 use Rattle.script_setup.specs.SetUpRules.{SetUp}
 use Rattle.script_setup.specs.Views.{set_up_of}
@@ -26,8 +26,7 @@ use Rattle.script_opening.specs.declared.programs.Programs.{Programs}
 use Rattle.script_opening.specs.declared.opening.Opened.{Opened}
 use Rattle.script_opening.specs.declared.opening.OpenFault.{OpenFault}
 use Rattle.script_opening.specs.declared.opening.OpenFault.TheVariants.{Memory, Read, Script, Module, Rule}
-use Rattle.script_opening.specs.Playing.{AreStages, BreaksRule, IsBadModule, IsModule, IsReached, IsRead}
-use Rattle.script_opening.specs.Playing.{IsRefused, IsStage, Play, bad_line, bad_module, bad_script, detaches_in}
+use Rattle.script_opening.specs.Playing.{AreStages, BreaksRule, IsBadModule, IsModule, IsReached, IsRead, IsRefused, IsStage, Play, bad_line, bad_module, bad_script, detaches_in}
 
 -- a module of a program of this text, which is told of each function import whether it is listed where it is told at all
 pub record Loads (way : Way) (files : Option Files) (t : ProgramText) (l : Loaded) : Type 0 where

@@ -18,7 +18,7 @@ use crate::way::Way;
 use call_graph::{Choice, ImportList, Policy, Settings};
 use host_files::{FileFault, fetch_prepared};
 use script_reader::ProgramText;
-use source_modules::{SourceFault, refusal_kind, rewritten};
+use transform_command::{SourceFault, refusal_kind, rewritten};
 use std::alloc::{AllocError, Global};
 use vault_port::Vault;
 use wa_types::Name;

@@ -11,7 +11,7 @@ use Rattle.wasm_reader.proofs.Held.{own_bytes}
 use Rattle.host_files.specs.Prepared.{IsPrepared, IsUnprepared}
 use Rattle.script_opening.specs.Running.{RunsAs}
 use Rattle.script_opening.specs.Sources.{Cause, malformed, float, deep, limit, reserved, invalid, rewritten_locals, long_output, IsRefusedFor}
-use Rattle.transform_command.specs.PolicyLaws.{without_code}
+use Rattle.live_laws.specs.PolicyLaws.{without_code}
 use Rattle.transform_command.proofs.Verdicts as V
 use Rattle.script_opening.specs.declared.way.Way.{Way}
 use Rattle.script_opening.specs.declared.way.Way.TheVariants.{Host, Run}

@@ -9,10 +9,9 @@ use Rattle.wa_model.specs.declared.answers.Area.{Area}
 use Rattle.script_model.specs.Script.{ProgramText}
 use Rattle.script_model.specs.ScriptLines.{or_else}
 use Rattle.wa_model.specs.Step.{same_func_type}
-use Rattle.host_setup.specs.SetUp.{NamedEntry, Fault, all_told, area_bad, are_args, entries_fault, entry_func, entry_funcs, fault_at, first_false, func_named, have_args}
-use Rattle.host_setup.specs.SetUp.{is_area_in, is_defined_as, is_there, least_pages, needed, no_export, set_up, unless_fault}
+use Rattle.host_setup.specs.SetUp.{NamedEntry, Fault, all_told, area_bad, are_args, entries_fault, entry_func, entry_funcs, fault_at, first_false, func_named, have_args, is_area_in, is_defined_as, is_there, least_pages, needed, no_export, set_up, unless_fault}
 use Rattle.script_setup.specs.SetUpRules.{named_entry, set_up_rules, told_funcs, with_lines}
-use Rattle.transform_command.specs.PolicyLaws.{without_code}
+use Rattle.live_laws.specs.PolicyLaws.{without_code}
 
 abbrev sort_of : Func → ℕ
 sort_of f = f.sort

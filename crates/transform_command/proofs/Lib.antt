@@ -1,3 +1,5 @@
+pub mod Accepted
+pub mod Files
 pub mod OneEnd
 pub mod Printed
 pub mod Transforming

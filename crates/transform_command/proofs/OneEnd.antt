@@ -5,7 +5,7 @@ use Rattle.vault_port.specs.Counts.{HasRisen}
 use Rattle.vault_port.specs.Files.{Files, bytes_of, IsMissing}
 use Rattle.vault_port.specs.Told.{WhereTold, Becomes}
 use Rattle.wa_types.specs.Pausing.{Settings}
-use Rattle.source_modules.specs.Sources.{Cause, malformed, float, deep, limit, reserved, invalid, rewritten_locals, long_output, IsRefusedFor, refusal_for}
+use Rattle.transform_command.specs.Sources.{Cause, malformed, float, deep, limit, reserved, invalid, rewritten_locals, long_output, IsRefusedFor, refusal_for}
 use Rattle.transcript.specs.Refused.{status_of}
 use Rattle.transform_command.specs.Transforms.{HasCause, HoldsRewritable, HoldsSource, IsTransformed}
 use Rattle.transform_command.specs.Ends.{End, done, memory, read_fault, write_fault, sink_fault, refused, Call, CanBeLong, IsLong, IsWhy, ToldThat, NothingFails, HasOneEnd, status_of_end, IsRefusal}

@@ -6,7 +6,7 @@ use Rattle.transcript.specs.Refused.{status_of, EndsInMemory, Prints}
 use Rattle.transcript.proofs.Printed.{memory_alone}
 use Rattle.transform_command.specs.Ends.{IsRefusal}
 use Rattle.transform_command.specs.Transforms.{HasCause, PrintsRefusal, RunsOutOfMemory}
-use Rattle.source_modules.specs.Sources.{Cause, malformed, float, deep, limit, reserved, invalid, rewritten_locals, long_output, IsRefusedFor, refusal_for}
+use Rattle.transform_command.specs.Sources.{Cause, malformed, float, deep, limit, reserved, invalid, rewritten_locals, long_output, IsRefusedFor, refusal_for}
 use Rattle.vault_port.specs.Files.{Files, bytes_of}
 use Rattle.wa_types.specs.Pausing.{Settings}
 

@@ -7,8 +7,8 @@ use Rattle.vault_port.specs.Told.{WhereTold, Becomes}
 use Rattle.wa_types.specs.Syntax.{Module}
 use Rattle.wa_types.specs.Encoding.{Enc}
 use Rattle.wa_types.specs.Pausing.{Settings}
-use Rattle.source_modules.specs.Sources.{IsSource, Cause, IsRefusedFor, IsRewritten}
-use Rattle.source_modules.proofs.Held.{own_bytes}
+use Rattle.transform_command.specs.Sources.{IsSource, Cause, IsRefusedFor, IsRewritten}
+use Rattle.wasm_reader.proofs.Held.{own_bytes}
 use Rattle.transform_command.specs.Transforms.{HoldsSource, IsTransformed, IsCutShort, IsCount}
 
 -- what was read is of the file

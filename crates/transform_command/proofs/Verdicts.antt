@@ -11,9 +11,9 @@ use Rattle.wa_types.specs.Reading.{IsModule}
 use Rattle.wa_types.specs.FirstFault.{FirstFault}
 use Rattle.wa_types.specs.Pausing.{Settings, TellsMayPause}
 use Rattle.slot_laws.proofs.Closed.{one_list}
-use Rattle.source_modules.specs.EmittedAs.{EmittedAs}
-use Rattle.source_modules.specs.PolicyLaws.{without_code}
-use Rattle.source_modules.proofs.CodeAlone.{code_alone}
+use Rattle.live_laws.specs.EmittedAs.{EmittedAs}
+use Rattle.live_laws.specs.PolicyLaws.{without_code}
+use Rattle.live_laws.proofs.CodeAlone.{code_alone}
 use Rattle.wa_types.specs.Syntax.{Module}
 use Rattle.wa_types.proofs.FaultLemmas.{valid_no_fault}
 use Rattle.file_laws.proofs.OneFault.{fault_spells_none}
@@ -21,7 +21,7 @@ use Rattle.file_laws.proofs.OneModule.{one_module}
 use Rattle.file_laws.proofs.UniqueCode.{one_file}
 use Rattle.wasm_reader.specs.Answers.{IsFile, HasNoFloat, IsAccepted}
 use Rattle.local_spill.specs.Reserved.{reserved_at}
-use Rattle.source_modules.specs.Sources.{IsFree, IsValidSource, rewritten_counts, IsRewritable, Cause, malformed, float, deep, limit, reserved, invalid, rewritten_locals, long_output, IsRefusedFor, refusal_for}
+use Rattle.transform_command.specs.Sources.{IsFree, IsValidSource, rewritten_counts, IsRewritable, Cause, malformed, float, deep, limit, reserved, invalid, rewritten_locals, long_output, IsRefusedFor, refusal_for}
 use Rattle.transcript.specs.Refused.{status_of}
 use Rattle.transform_command.specs.Ends.{IsLong}
 

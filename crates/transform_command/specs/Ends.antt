@@ -5,7 +5,7 @@ use Rattle.vault_port.specs.Files.{Files, bytes_of, IsMissing}
 use Rattle.vault_port.specs.Told.{WhereTold, Becomes}
 use Rattle.wa_types.specs.Pausing.{Settings}
 use Rattle.transcript.specs.Refused.{status_of}
-use Rattle.source_modules.specs.Sources.{Cause, IsRefusedFor, long_output, refusal_for}
+use Rattle.transform_command.specs.Sources.{Cause, IsRefusedFor, long_output, refusal_for}
 use Rattle.transform_command.specs.Transforms.{HoldsRewritable, HoldsSource, IsTransformed}
 
 -- How a call ends.

@@ -1,4 +1,6 @@
-pub use Rattle.source_modules.specs.PolicyLaws
 pub mod Ends
 pub mod Refusals
+pub mod Running
+pub mod SourceRefusals
+pub mod Sources
 pub mod Transforms

@@ -3,8 +3,8 @@ use Rattle.std.specs.Prelude.{List, ℕ, Option}
 use Rattle.wa_types.specs.Pausing.{Settings}
 use Rattle.vault_port.specs.Files.{Files, bytes_of}
 use Rattle.vault_port.specs.Told.{WhereTold}
-use Rattle.source_modules.specs.Refusals.{cause_of}
-use Rattle.source_modules.specs.Sources.{IsRefusedFor}
+use Rattle.transform_command.specs.SourceRefusals.{cause_of}
+use Rattle.transform_command.specs.Sources.{IsRefusedFor}
 use Rattle.transform_command.specs.declared.transform.TransformFault.{TransformFault}
 use Rattle.transform_command.specs.declared.transform.TransformFault.TheVariants.{Refused as transform_refused}
 

@@ -13,7 +13,7 @@ use Rattle.wasm_reader.specs.Answers.{IsAccepted}
 use Rattle.wa_model.specs.Rewrites.{Rewrites}
 use Rattle.script_model.specs.Transcript.{refusal_line, read_fault, write_fault, line_end}
 use Rattle.transcript.specs.Refused.{status_of, Prints, PrintsMemory}
-use Rattle.source_modules.specs.Sources.{IsRewritable, IsSource, Cause, IsRefusedFor, refusal_for}
+use Rattle.transform_command.specs.Sources.{IsRewritable, IsSource, Cause, IsRefusedFor, refusal_for}
 
 -- what `transform` prints: how many functions the module defines, how many of them are instrumented, and how
 -- many bytes were written

@@ -14,7 +14,7 @@ use crate::report::report;
 use crate::transform::{TransformFault, transform};
 use call_graph::Settings;
 use transcript::{out_of_memory, refuse, refuse_read, refuse_write};
-use source_modules::refusal_kind;
+use crate::refusals::refusal_kind;
 use std::alloc::Global;
 use vault_port::{Sink, Vault};
 

@@ -10,7 +10,8 @@ ghost use Rattle.transform_command.specs.Transforms.{HoldsSource, IsCount, IsCut
 ghost use Rattle.std.specs.Result.{IfErr};
 
 use call_graph::Settings;
-use source_modules::{Refusal, SourceFault, rewrite};
+use crate::refusals::Refusal;
+use crate::source::{SourceFault, rewrite};
 use std::alloc::Global;
 use thiserror::Error;
 use vault_port::{SaveFault, Vault, save_whole};

@@ -3,7 +3,7 @@ use Rattle.std.proofs.Common.{◌≡◌, ◌⊎◌, None, subst}
 use Rattle.vault_port.specs.Told.{Becomes}
 use Rattle.script_model.specs.Transcript.{Refusal, refusal_line}
 use Rattle.transcript.specs.Refused.{status_of, Prints}
-use Rattle.source_modules.specs.Refusals.{cause_of}
+use Rattle.transform_command.specs.SourceRefusals.{cause_of}
 use Rattle.transform_command.specs.Refusals.{IsToldRefusal}
 use Rattle.call_graph.specs.Settings.{settings_of}
 use Rattle.transform_command.proofs.Printed.{memory_any, refusal_printed, refused_has_cause}

@@ -5,10 +5,10 @@ use Rattle.wa_types.specs.Modules.{func_imports}
 use Rattle.wa_types.specs.Syntax.{Module}
 use Rattle.wa_types.specs.View.{module_of}
 use Rattle.call_graph.specs.Settings.{settings_of}
-use Rattle.source_modules.specs.Sources.{rewritten_counts}
-use Rattle.source_modules.proofs.Accepted.{strict, none_passes, none_reserved, rewrite_refused, well}
-use Rattle.source_modules.proofs.Files.{told_fault}
-use Rattle.source_modules.proofs.running.rewritten.Goals as goal
+use Rattle.transform_command.specs.Sources.{rewritten_counts}
+use Rattle.transform_command.proofs.Accepted.{strict, none_passes, none_reserved, rewrite_refused, well}
+use Rattle.transform_command.proofs.Files.{told_fault}
+use Rattle.transform_command.proofs.running.rewritten.Goals as goal
 
 pub asyncify_module-requires : goal.asyncify_module-requires
 asyncify_module-requires g c = let h = c.in-Ok.ensures.source in record { sizes = strict h.bytes (module_of c.in-Ok.valid) h.source }

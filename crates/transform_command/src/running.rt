@@ -7,8 +7,8 @@ ghost use Rattle.vault_port.specs.Counts.{HasRisen};
 ghost use Rattle.vault_port.specs.Files.{IsMissing};
 ghost use Rattle.wa_types.specs.View.{module_of};
 ghost use Rattle.wasm_reader.specs.Held.{Holds};
-ghost use Rattle.source_modules.specs.Refusals.{IsToldFault, IsUnwritten};
-ghost use Rattle.source_modules.specs.Running.{RunsAs};
+ghost use Rattle.transform_command.specs.SourceRefusals.{IsToldFault, IsUnwritten};
+ghost use Rattle.transform_command.specs.Running.{RunsAs};
 
 use crate::source::{SourceFault, rewrite_fault, source};
 use call_graph::{Settings, listed_imports};

@@ -4,8 +4,8 @@ use Rattle.std.proofs.lemmas.Result.{IfErr-weaker, IfOk-weaker}
 use Rattle.wa_types.specs.View.{module_of}
 use Rattle.wasm_reader.specs.Answers.{IsAccepted}
 use Rattle.wasm_reader.specs.Held.{IsToldFault}
-use Rattle.source_modules.proofs.Files.{told_fault, told_unread}
-use Rattle.source_modules.proofs.source.source.Goals as goal
+use Rattle.transform_command.proofs.Files.{told_fault, told_unread}
+use Rattle.transform_command.proofs.source.source.Goals as goal
 
 pub returns-in-Ok-clause-source : goal.returns-in-Ok-clause-source
 returns-in-Ok-clause-source g c =

@@ -33,9 +33,9 @@ use Rattle.module_rewrite.specs.Whole.{Asyncifies}
 use Rattle.module_rewrite.specs.declared.byte_fault.EmitFault.{EmitFault}
 use Rattle.module_rewrite.specs.declared.byte_fault.EmitFault.TheVariants.{Memory as emit_memory, Locals as emit_locals, TooLong as emit_too_long}
 use Rattle.module_rewrite.specs.WholeBytes.{EmitsModule}
-use Rattle.source_modules.specs.declared.source.SourceFault.{SourceFault}
-use Rattle.source_modules.specs.Sources.{IsValidSource, told_counts, rewritten_counts}
-use Rattle.source_modules.specs.Refusals.{IsFaultOf, IsOfRead, IsOfEmit, IsOfRewrite, IsUnreserved}
+use Rattle.transform_command.specs.declared.source.SourceFault.{SourceFault}
+use Rattle.transform_command.specs.Sources.{IsValidSource, told_counts, rewritten_counts}
+use Rattle.transform_command.specs.SourceRefusals.{IsFaultOf, IsOfRead, IsOfEmit, IsOfRewrite, IsUnreserved}
 
 -- ---- locals
 

@@ -2,8 +2,8 @@
 
 ghost use Rattle.std.specs.Prelude.{◌≡◌};
 ghost use Rattle.transcript.specs.Printing.{refusal_of};
-ghost use Rattle.source_modules.specs.Refusals.{cause_of};
-ghost use Rattle.source_modules.specs.Sources.{refusal_for};
+ghost use Rattle.transform_command.specs.SourceRefusals.{cause_of};
+ghost use Rattle.transform_command.specs.Sources.{refusal_for};
 
 use thiserror::Error;
 use transcript::RefusalKind;

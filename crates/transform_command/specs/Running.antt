@@ -5,7 +5,7 @@ use Rattle.wa_types.specs.Sizes.{WellFormed}
 use Rattle.wa_types.specs.Syntax.{Module}
 use Rattle.wa_model.specs.Rewrites.{Rewrites}
 use Rattle.live_laws.specs.EmittedAs.{EmittedAs}
-use Rattle.source_modules.specs.Sources.{IsRewritable}
+use Rattle.transform_command.specs.Sources.{IsRewritable}
 
 -- The bytes are a source that can be rewritten; these of its function imports are listed, and this is the module, rewritten: under
 -- the host's protocol it behaves like the source.

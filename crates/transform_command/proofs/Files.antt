@@ -7,10 +7,10 @@ use Rattle.wasm_reader.specs.Held as H
 use Rattle.wasm_reader.specs.Held.{Holds}
 use Rattle.wasm_reader.specs.declared.fault.ModuleFault.{ModuleFault}
 use Rattle.wasm_reader.specs.declared.fault.ModuleFault.TheVariants as M
-use Rattle.source_modules.specs.declared.source.SourceFault.{SourceFault}
-use Rattle.source_modules.specs.declared.source.SourceFault.TheVariants.{Memory, Read, Refused}
-use Rattle.source_modules.specs.Refusals.{IsFaultOf, IsOfFile, IsToldFault}
-use Rattle.source_modules.proofs.Accepted.{read_refused}
+use Rattle.transform_command.specs.declared.source.SourceFault.{SourceFault}
+use Rattle.transform_command.specs.declared.source.SourceFault.TheVariants.{Memory, Read, Refused}
+use Rattle.transform_command.specs.SourceRefusals.{IsFaultOf, IsOfFile, IsToldFault}
+use Rattle.transform_command.proofs.Accepted.{read_refused}
 
 -- a file is refused for what its bytes are
 pub told_fault : (s : Settings) (files : Option Files) (name bytes : List ℕ) (fault : SourceFault) → Holds files name bytes → IsFaultOf s bytes fault → IsToldFault s files name fault

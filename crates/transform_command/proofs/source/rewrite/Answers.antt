@@ -8,10 +8,10 @@ use Rattle.wa_types.specs.Syntax.{Module}
 use Rattle.wa_types.specs.View.{module_of}
 use Rattle.call_graph.specs.Settings.{settings_of}
 use Rattle.norm_laws.proofs.Norms.{norm_rewritten}
-use Rattle.source_modules.specs.Sources.{rewritten_counts}
-use Rattle.source_modules.proofs.Accepted.{strict, few_bytes, few_functions, none_passes, emit_refused, source_prepared}
-use Rattle.source_modules.proofs.Files.{told_fault}
-use Rattle.source_modules.proofs.source.rewrite.Goals as goal
+use Rattle.transform_command.specs.Sources.{rewritten_counts}
+use Rattle.transform_command.proofs.Accepted.{strict, few_bytes, few_functions, none_passes, emit_refused, source_prepared}
+use Rattle.transform_command.proofs.Files.{told_fault}
+use Rattle.transform_command.proofs.source.rewrite.Goals as goal
 
 pub emit_module-requires-clause-sizes : goal.emit_module-requires-clause-sizes
 emit_module-requires-clause-sizes g c = let h = c.in-Ok.ensures.source in strict h.bytes (module_of c.in-Ok.valid) h.source

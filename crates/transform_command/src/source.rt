@@ -12,9 +12,9 @@ ghost use Rattle.wa_types.specs.View.{module_of};
 ghost use Rattle.wasm_reader.specs.Answers.{IsAccepted};
 ghost use Rattle.local_spill.specs.Reserved.{reserved_at};
 ghost use Rattle.wasm_reader.specs.Held.{Holds};
-ghost use Rattle.source_modules.specs.declared.source.SourceFault.TheVariants.{Memory};
-ghost use Rattle.source_modules.specs.Refusals.{IsFaultOf, IsOfEmit, IsOfFile, IsOfRead, IsOfRewrite, IsToldFault, IsUnreserved, IsUnwritten};
-ghost use Rattle.source_modules.specs.Sources.{HoldsValidSource, IsRewritten, IsValidSource, reserved_name};
+ghost use Rattle.transform_command.specs.declared.source.SourceFault.TheVariants.{Memory};
+ghost use Rattle.transform_command.specs.SourceRefusals.{IsFaultOf, IsOfEmit, IsOfFile, IsOfRead, IsOfRewrite, IsToldFault, IsUnreserved, IsUnwritten};
+ghost use Rattle.transform_command.specs.Sources.{HoldsValidSource, IsRewritten, IsValidSource, reserved_name};
 
 use crate::refusals::Refusal;
 use local_spill::{ReservedAt, reserved};
@@ -41,7 +41,7 @@ pub enum SourceFault {
 
 impl From<AllocError> for SourceFault {
     ghost use Rattle.std.specs.Prelude.{◌≡◌};
-    ghost use Rattle.source_modules.specs.declared.source.SourceFault.TheVariants.{Memory};
+    ghost use Rattle.transform_command.specs.declared.source.SourceFault.TheVariants.{Memory};
 
     ghost from_gives = { λ _ fault. fault ≡ Memory };
 

@@ -10,12 +10,12 @@ use Rattle.module_rewrite.specs.declared.fault.RewriteFault.{RewriteFault}
 use Rattle.module_rewrite.specs.declared.fault.RewriteFault.TheVariants.{Memory as rewrite_memory, Locals as rewrite_locals, Reserved as rewrite_reserved}
 use Rattle.module_rewrite.specs.declared.byte_fault.EmitFault.{EmitFault}
 use Rattle.module_rewrite.specs.declared.byte_fault.EmitFault.TheVariants.{Memory as emit_memory, Locals as emit_locals, TooLong as emit_too_long}
-use Rattle.source_modules.specs.declared.refusals.Refusal.{Refusal}
-use Rattle.source_modules.specs.declared.refusals.Refusal.TheVariants.{Malformed, Float, Deep, Limit, Reserved, Invalid, RewrittenLocals, Output}
-use Rattle.source_modules.specs.declared.source.SourceFault.{SourceFault}
-use Rattle.source_modules.specs.declared.source.SourceFault.TheVariants.{Memory, Read, Refused}
+use Rattle.transform_command.specs.declared.refusals.Refusal.{Refusal}
+use Rattle.transform_command.specs.declared.refusals.Refusal.TheVariants.{Malformed, Float, Deep, Limit, Reserved, Invalid, RewrittenLocals, Output}
+use Rattle.transform_command.specs.declared.source.SourceFault.{SourceFault}
+use Rattle.transform_command.specs.declared.source.SourceFault.TheVariants.{Memory, Read, Refused}
 use Rattle.wa_types.specs.Pausing.{Settings}
-use Rattle.source_modules.specs.Sources.{Cause, malformed, float, deep, limit, reserved, invalid, rewritten_locals, long_output, IsRefusedFor}
+use Rattle.transform_command.specs.Sources.{Cause, malformed, float, deep, limit, reserved, invalid, rewritten_locals, long_output, IsRefusedFor}
 
 -- the cause that a refusal names
 abbrev pub cause_of : Refusal → Cause

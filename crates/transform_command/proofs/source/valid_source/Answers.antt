@@ -1,7 +1,7 @@
 -- What was read, free of reserved names and valid is a source.
 use Rattle.std.proofs.Common.{◌∙◌, sym}
-use Rattle.source_modules.proofs.Accepted.{made_source}
-use Rattle.source_modules.proofs.source.valid_source.Goals as goal
+use Rattle.transform_command.proofs.Accepted.{made_source}
+use Rattle.transform_command.proofs.source.valid_source.Goals as goal
 
 pub returns-in-Ok-clause-source : goal.returns-in-Ok-clause-source
 returns-in-Ok-clause-source c = λ bytes read.
