@@ -11,7 +11,7 @@ known="asyncify_app asyncify_cli local_spill wasm_build call_frames call_graph l
     flatten flow_rewrite frame_sizes func_rewrite gen_command gen_module generated_runs pause_host
     host_setup interp interp_state script_reader live_locals 
     many_host module_rewrite wa_types wasm_reader script_command 
-    script_opening script_setup slim_rewrite transform_command transcript  
+    script_setup slim_rewrite transform_command transcript  
     validate_bodies wasm_validate vault_port wa_model wa_ops wasm_encode wasm_grammar
     world_hosting"
 old="wa_types file_laws wa_ops page_memory wa_model validate_bodies wasm_validate 

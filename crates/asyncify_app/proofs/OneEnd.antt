@@ -12,13 +12,13 @@ use Rattle.transcript.specs.Refused.{EndsInMemory, Prints, PrintsMemory}
 use Rattle.transcript.proofs.Printed.{memory_alone}
 use Rattle.gen_module.specs.Generated.{generated}
 use Rattle.gen_command.specs.Printed as G
-use Rattle.script_command.specs.Way.TheVariants.{Host, Run}
+use Rattle.script_command.specs.declared.way.Way.TheVariants.{Host, Run}
 use Rattle.script_command.proofs.Answering.{one_end}
 use Rattle.script_command.proofs.Ending.{out_of_memory_alone}
-use Rattle.script_command.specs.TransformEnds as T
-use Rattle.script_command.specs.Transforms.{RunsOutOfMemory}
-use Rattle.script_command.proofs.OneEnd as TransformEnds
-use Rattle.script_command.proofs.Printed.{memory_any}
+use Rattle.transform_command.specs.Ends as T
+use Rattle.transform_command.specs.Transforms.{RunsOutOfMemory}
+use Rattle.transform_command.proofs.OneEnd as TransformEnds
+use Rattle.transform_command.proofs.Printed.{memory_any}
 use Rattle.asyncify_app.specs.Ends.{Call, EndsBy, GeneratesOnce, HasOneEnd, rewriting, transform_call, script_call}
 
 -- The words spell this.

@@ -1,10 +1,10 @@
 -- The statuses of the commands are those of a call.
 use Rattle.std.proofs.Common.{◌≡◌, ◌⊎◌, inl, inr, ℕ, [], None, arith}
 use Rattle.wa_types.specs.declared.bounds.LimitKind.TheVariants.{File}
-use Rattle.script_command.specs.Sources.{Cause, malformed, float, deep, limit, reserved, invalid, rewritten_locals, long_output, refusal_for}
+use Rattle.transform_command.specs.Sources.{Cause, malformed, float, deep, limit, reserved, invalid, rewritten_locals, long_output, refusal_for}
 use Rattle.transcript.specs.Refused.{status_of}
-use Rattle.script_command.specs.TransformEnds.{IsRefusal}
-use Rattle.script_command.specs.Way.{Way}
+use Rattle.transform_command.specs.Ends.{IsRefusal}
+use Rattle.script_command.specs.declared.way.Way.{Way}
 use Rattle.script_command.specs.Ends.{IsStatus}
 
 abbrev IsOne : ℕ → Type 0

@@ -12,11 +12,11 @@ use Rattle.event_order.specs.Left.{Counted}
 use Rattle.transcript.specs.Refused.{Prints}
 use Rattle.gen_module.specs.Generated.{generated}
 use Rattle.gen_command.specs.Printed as G
-use Rattle.script_command.specs.Way.{Way}
-use Rattle.script_command.specs.Way.TheVariants.{Host, Run}
+use Rattle.script_command.specs.declared.way.Way.{Way}
+use Rattle.script_command.specs.declared.way.Way.TheVariants.{Host, Run}
 use Rattle.script_command.specs.Answers as A
 use Rattle.script_command.specs.Ends as P
-use Rattle.script_command.specs.TransformEnds as T
+use Rattle.transform_command.specs.Ends as T
 
 -- the `transform` that words ask for
 abbrev pub rewriting : Option Spelled → Option Command

@@ -2,8 +2,8 @@
 use Rattle.std.proofs.Common.{◌≡◌, ◌⊎◌, inl, inr, ℕ, List, Option, Some, None, refl, sym, ap, ◌∙◌, subst}
 use Rattle.vault_port.specs.Counts.{HasRisen}
 use Rattle.vault_port.specs.Files.{Files, IsMissing}
-use Rattle.script_verdicts.specs.Playing.{Cause, IsRead, IsRefused, Play}
-use Rattle.script_verdicts.proofs.Scripts.{IsThere, one_cause, played_not_refused, played_reads, refused_reads}
+use Rattle.script_command.specs.Playing.{Cause, IsRead, IsRefused, Play}
+use Rattle.script_command.proofs.WholeScripts.{IsThere, one_cause, played_not_refused, played_reads, refused_reads}
 use Rattle.script_command.specs.Ends.{Call, End, done, memory, sink_fault, refused, read_fault_of, HasEnd, IsWhy, status_of_end}
 use Rattle.script_command.specs.Answers.{HasOneEnd, IsReadFault, NothingFails}
 

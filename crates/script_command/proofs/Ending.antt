@@ -11,9 +11,9 @@ use Rattle.script_model.specs.Transcript.{refusal_line, read_fault}
 use Rattle.event_order.specs.Left.{Counted}
 use Rattle.transcript.specs.Refused.{status_of, EndsInMemory, Prints, PrintsMemory, memory_line}
 use Rattle.transcript.proofs.Printed.{memory_alone}
-use Rattle.script_verdicts.specs.Way.{Way}
-use Rattle.script_verdicts.specs.Playing.{Play, Cause, IsRefused, IsRead, detaches_in, refusal_of_cause}
-use Rattle.script_verdicts.specs.Worlds.{AreBegun, AreTold, Part, Tells, TellsPart}
+use Rattle.script_command.specs.declared.way.Way.{Way}
+use Rattle.script_command.specs.Playing.{Play, Cause, IsRefused, IsRead, detaches_in, refusal_of_cause}
+use Rattle.world_hosting.specs.Worlds.{AreBegun, AreTold, Part, Tells, TellsPart}
 use Rattle.script_command.specs.Ends.{Call, call, done, memory, sink_fault, refused, read_fault_of, cause_line, HasEnd, IsLine}
 use Rattle.script_command.specs.Transcripts.{IsTranscript, IsBeginning}
 

@@ -2,12 +2,12 @@
 use Rattle.std.proofs.Common.{◌≡◌, ◌≤◌, ◌<◌, ℕ, zero, suc, List, [], ◌∷◌, ◌++◌, length, drop, get_or, refl, sym, ap, ◌∙◌, subst, arith, append_assoc, length-append}
 use Rattle.std.specs.List.{AllZip}
 use Rattle.wa_types.specs.declared.syntax.Module.{Module}
-use Rattle.script_verdicts.specs.Planned.{Planned}
-use Rattle.script_verdicts.specs.Opened.{Opened}
-use Rattle.script_verdicts.specs.Views.{CanPlay, CanStage, part_of, parts_of}
-use Rattle.script_verdicts.specs.Worlds.{Part}
-use Rattle.script_verdicts.specs.WorldViews.{AreStaged, IsStaged}
-use Rattle.script_verdicts.specs.Staged.{Staged}
+use Rattle.script_command.specs.declared.programs.Planned.{Planned}
+use Rattle.script_command.specs.declared.opening.Opened.{Opened}
+use Rattle.script_command.specs.Views.{CanPlay, CanStage, part_of, parts_of}
+use Rattle.world_hosting.specs.Worlds.{Part}
+use Rattle.world_hosting.specs.Views.{AreStaged, IsStaged}
+use Rattle.world_hosting.specs.declared.staging.Staged.{Staged}
 
 -- Of the programs that are planned over these modules some are staged, and the others are to come.
 pub record Staging (modules : List Module) (planned rest : List Planned) (staged : List Staged) : Type 0 where

@@ -7,15 +7,15 @@ use Rattle.host_files.specs.Prepared.{IsOfContent, IsUnprepared}
 use Rattle.host_files.specs.Scripts as H
 use Rattle.host_files.specs.Scripts.{IsNoScript}
 use Rattle.transcript.specs.Refused.{status_of}
-use Rattle.script_verdicts.specs.Sources as S
-use Rattle.script_verdicts.specs.Sources.{refusal_for}
-use Rattle.script_verdicts.specs.Way.{Way}
-use Rattle.script_verdicts.specs.Way.TheVariants.{Host, Run}
-use Rattle.script_verdicts.specs.OpenFault.{OpenFault}
-use Rattle.script_verdicts.specs.OpenFault.TheVariants.{Memory, Read, Script, Module, Rule}
+use Rattle.transform_command.specs.Sources as S
+use Rattle.transform_command.specs.Sources.{refusal_for}
+use Rattle.script_command.specs.declared.way.Way.{Way}
+use Rattle.script_command.specs.declared.way.Way.TheVariants.{Host, Run}
+use Rattle.script_command.specs.declared.opening.OpenFault.{OpenFault}
+use Rattle.script_command.specs.declared.opening.OpenFault.TheVariants.{Memory, Read, Script, Module, Rule}
 use Rattle.script_command.specs.Ends.{Call, End, done, memory, sink_fault, refused, read_fault_of, status_of_end, HasEnd, IsWhy, IsStatus}
-use Rattle.script_verdicts.specs.Playing.{Cause, bad_script, bad_module, bad_line, IsBadModule, IsRefused, refusal_of_cause}
-use Rattle.script_verdicts.specs.Views.{Blames}
+use Rattle.script_command.specs.Playing.{Cause, bad_script, bad_module, bad_line, IsBadModule, IsRefused, refusal_of_cause}
+use Rattle.script_command.specs.Views.{Blames}
 use Rattle.script_command.specs.Faults.{IsToldFault}
 
 -- ---- refusals of contents

@@ -2,7 +2,7 @@
 use Rattle.std.specs.Prelude.{◌≡◌, ◌⊎◌, ℕ, Some}
 use Rattle.vault_port.specs.Counts.{HasRisen}
 use Rattle.vault_port.specs.Files.{Files}
-use Rattle.script_verdicts.specs.Playing.{Cause, IsRefused, Play}
+use Rattle.script_command.specs.Playing.{Cause, IsRefused, Play}
 use Rattle.script_command.specs.Ends.{Call, End, HasEnd, done, memory, refused, read_fault_of}
 
 -- no count of faults has risen

@@ -7,9 +7,9 @@ use Rattle.vault_port.specs.Told.{Becomes}
 use Rattle.script_model.specs.Transcript.{read_fault, refusal_line}
 use Rattle.event_order.specs.Left.{Counted}
 use Rattle.transcript.specs.Refused.{status_of, Prints, PrintsMemory}
-use Rattle.script_verdicts.specs.Way.{Way}
-use Rattle.script_verdicts.specs.Way.TheVariants.{Run}
-use Rattle.script_verdicts.specs.Playing.{Cause, bad_module, Play, IsRefused, IsRead, refusal_of_cause}
+use Rattle.script_command.specs.declared.way.Way.{Way}
+use Rattle.script_command.specs.declared.way.Way.TheVariants.{Run}
+use Rattle.script_command.specs.Playing.{Cause, bad_module, Play, IsRefused, IsRead, refusal_of_cause}
 use Rattle.script_command.specs.Transcripts.{IsTranscript, IsBeginning}
 
 -- A call: its way and its script; the files; the counts of faults, what the sink has taken and the devices, with their counts, before and after it. (The

@@ -1,8 +1,8 @@
 -- Faults of which a line is printed.
 use Rattle.transcript.specs.Printing.{refusal_of}
 use Rattle.host_files.specs.Prepared.{IsOfContent}
-use Rattle.script_verdicts.specs.OpenFault.{OpenFault}
-use Rattle.script_verdicts.specs.OpenFault.TheVariants.{Memory, Read, Script, Module, Rule}
+use Rattle.script_command.specs.declared.opening.OpenFault.{OpenFault}
+use Rattle.script_command.specs.declared.opening.OpenFault.TheVariants.{Memory, Read, Script, Module, Rule}
 
 -- what is printed of the fault is a refusal of what a file holds, or of reading it
 abbrev pub IsToldFault : OpenFault → Type 0

@@ -1,8 +1,11 @@
-pub use Rattle.script_verdicts.specs.Ends as TransformEnds
-pub use Rattle.script_verdicts.specs.Sources
-pub use Rattle.script_verdicts.specs.Transforms
-pub use Rattle.script_verdicts.specs.Way
 pub mod Answers
+pub mod Completeness
 pub mod Ends
 pub mod Faults
+pub mod HostedOriginals
+pub mod Laws
+pub mod PlayedFaults
+pub mod Playing
+pub mod RunOriginals
 pub mod Transcripts
+pub mod Views

@@ -2,9 +2,9 @@
 use Rattle.std.specs.Prelude.{◌⊎◌, ℕ, List, Option}
 use Rattle.vault_port.specs.Files.{Files}
 use Rattle.event_order.specs.Left.{Counted}
-use Rattle.script_verdicts.specs.Way.{Way}
-use Rattle.script_verdicts.specs.Playing.{Play, detaches_in}
-use Rattle.script_verdicts.specs.Worlds.{AreBegun, AreTold}
+use Rattle.script_command.specs.declared.way.Way.{Way}
+use Rattle.script_command.specs.Playing.{Play, detaches_in}
+use Rattle.world_hosting.specs.Worlds.{AreBegun, AreTold}
 
 -- The text is the transcript of what is played: a whole run of the protocol world of its programs, from these devices, with their counts
 -- of faults, to those.

@@ -2,10 +2,11 @@
 
 ghost use Rattle.std.specs.Prelude.{◌≡◌, IfOk};
 ghost use Rattle.std.specs.List.{AllZip};
-ghost use Rattle.script_verdicts.specs.Views.{CanStage, parts_of};
-ghost use Rattle.script_verdicts.specs.WorldViews.{AreStaged};
+ghost use Rattle.script_command.specs.Views.{CanStage, parts_of};
+ghost use Rattle.world_hosting.specs.Views.{AreStaged};
 
-use script_verdicts::{Planned, Staged, stage_program};
+use crate::programs::Planned;
+use world_hosting::{Staged, stage_program};
 use std::alloc::{AllocError, Global};
 use wasm_validate::Valid;
 

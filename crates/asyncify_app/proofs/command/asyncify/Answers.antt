@@ -11,8 +11,8 @@ use Rattle.command_words.specs.Words.{Reads, spelled_of}
 use Rattle.transcript.proofs.Printed.{memory_alone}
 use Rattle.asyncify_app.proofs.OneEnd.{memory_ends, memory_unread_words, spelled_ends}
 use Rattle.asyncify_app.proofs.Statuses.{script_status}
-use Rattle.script_command.specs.Way.TheVariants.{Host, Run}
-use Rattle.script_command.proofs.OneEnd.{transform_ends}
+use Rattle.script_command.specs.declared.way.Way.TheVariants.{Host, Run}
+use Rattle.transform_command.proofs.OneEnd.{transform_ends}
 use Rattle.asyncify_app.proofs.command.asyncify.Goals as goal
 
 pub returns-in-Err-Memory-clause-prints_usage_memory : goal.returns-in-Err-Memory-clause-prints_usage_memory

@@ -2,7 +2,7 @@
 use Rattle.std.proofs.Common.{List, sym, subst}
 use Rattle.std.specs.List.{AllZip}
 use Rattle.wa_types.specs.declared.syntax.Module.{Module}
-use Rattle.script_verdicts.specs.Views.{CanStage}
+use Rattle.script_command.specs.Views.{CanStage}
 use Rattle.script_command.specs.Ends.{call}
 use Rattle.script_command.proofs.Ending.{out_of_memory_alone}
 use Rattle.script_command.proofs.StagedParts.{few_staged, staged_parts}

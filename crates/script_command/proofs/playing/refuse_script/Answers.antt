@@ -1,8 +1,8 @@
 -- The end that a fault is.
 use Rattle.std.proofs.Common.{refl, subst}
 use Rattle.transcript.specs.Printing.{refusal_of}
-use Rattle.script_verdicts.specs.Playing.{bad_line, bad_module, bad_script}
-use Rattle.script_verdicts.specs.Views.{Blames}
+use Rattle.script_command.specs.Playing.{bad_line, bad_module, bad_script}
+use Rattle.script_command.specs.Views.{Blames}
 use Rattle.script_command.specs.Ends.{call}
 use Rattle.script_command.proofs.Ending.{out_of_memory_alone, refused_for, unread}
 use Rattle.script_command.proofs.playing.refuse_script.Goals as goal

@@ -1,0 +1,195 @@
+-- Programs that are opened one after another, and why one isn't.
+use Rattle.std.proofs.Common.{◌≡◌, ◌⊎◌, ◌+◌, ◌≤◌, inl, inr, ℕ, List, [], ◌∷◌, ◌++◌, length, map, Option, Result, Ok, Err, refl, sym, ap, ◌∙◌, subst, arith, append_assoc}
+use Rattle.std.specs.Prelude.{All, Bool, OnOk}
+use Rattle.std.specs.List.{AllZip}
+use Rattle.std.specs.Result.{IfErr}
+use Rattle.std.proofs.lemmas.List.{length-map, length-append, map-append}
+use Rattle.std.proofs.lemmas.List.Elements.{All-nil, All-cons, All-append, All-head, All-tail}
+use Rattle.vault_port.specs.Counts.{HasRisen}
+use Rattle.vault_port.specs.Files.{Files, IsMissing}
+use Rattle.wa_types.specs.View.{module_of}
+use Rattle.wa_types.specs.declared.syntax.Module.{Module as ModuleValue}
+use Rattle.script_model.specs.Script.{ProgramText, ScriptFault, breaks}
+use Rattle.transcript.specs.Printing.{refusal_of}
+use Rattle.script_reader.specs.declared.script.ProgramText.{ProgramText as ProgramValue}
+use Rattle.script_reader.specs.Views.{program_of}
+use Rattle.wa_types.specs.Syntax.{Module}
+use Rattle.host_setup.specs.Views.{entry_of as named_entry_of}
+use Rattle.script_setup.specs.declared.setting.SetUp.{SetUp as SetUpValue}
+use Rattle.script_setup.specs.SetUpRules.{SetUp, named_entry, set_up_rules}
+use Rattle.script_setup.specs.Views.{set_up_of}
+use Rattle.world_hosting.specs.Worlds.{FitsPlan, IsListing, Part}
+use Rattle.world_hosting.specs.Views.{listing}
+use Rattle.world_hosting.proofs.Starts.{suits_by_rules}
+use Rattle.script_command.specs.declared.modules.Loaded.{Loaded}
+use Rattle.script_command.specs.declared.way.Way.{Way}
+use Rattle.script_command.specs.declared.programs.Planned.{Planned}
+use Rattle.script_command.specs.declared.programs.Programs.{Programs}
+use Rattle.script_command.specs.declared.opening.OpenFault.{OpenFault}
+use Rattle.script_command.specs.declared.opening.OpenFault.TheVariants.{Memory, Read, Script as a_script, Module as a_module, Rule as a_rule}
+use Rattle.script_command.specs.Playing.{IsBadModule, IsModule, IsReached, IsStage, BreaksRule, asks_all}
+use Rattle.script_command.specs.Views.{AreOpened, BlamesLine, BlamesNext, CanStage, IsUnread, OpensNext, part_of, parts_of}
+
+-- ---- lists in step
+
+zip_more : {A B : Type 0} (R : A → B → Type 0) (xs : List A) (ys : List B) (x : A) (y : B) → AllZip R xs ys → R x y → AllZip R (xs ++ x ∷ []) (ys ++ y ∷ [])
+zip_more R [] [] x y h r = (r, tt)
+zip_more R [] (b ∷ ys) x y h r = absurd h
+zip_more R (a ∷ xs) [] x y h r = absurd h
+zip_more R (a ∷ xs) (b ∷ ys) x y h r = (h.0, zip_more R xs ys x y h.1 r)
+
+parts_more : (vs : List ModuleValue) (ps : List Planned) (v : ModuleValue) (p : Planned) → AllZip CanStage vs ps → parts_of (vs ++ v ∷ []) (ps ++ p ∷ []) ≡ parts_of vs ps ++ part_of v p ∷ []
+parts_more [] [] v p h = refl
+parts_more [] (q ∷ ps) v p h = absurd h
+parts_more (w ∷ vs) [] v p h = absurd h
+parts_more (w ∷ vs) (q ∷ ps) v p h = ap (λ (xs : List Part). part_of w q ∷ xs) (parts_more vs ps v p h.1)
+
+abbrev pub text_in : Planned → ProgramText
+text_in p = program_of p.text
+
+pub texts_of_parts : (vs : List ModuleValue) (ps : List Planned) → AllZip CanStage vs ps → map (λ (x : Part). x.text) (parts_of vs ps) ≡ map text_in ps
+texts_of_parts [] [] h = refl
+texts_of_parts [] (q ∷ ps) h = absurd h
+texts_of_parts (w ∷ vs) [] h = absurd h
+texts_of_parts (w ∷ vs) (q ∷ ps) h = ap (λ (ts : List ProgramText). program_of q.text ∷ ts) (texts_of_parts vs ps h.1)
+
+pub none_left : {A : Type 0} (xs : List A) → length xs ≡ 0 → xs ≡ []
+none_left [] e = refl
+none_left (x ∷ xs) e = absurd (omega (arith, e))
+
+-- ---- programs so far
+
+-- These are set up over their modules, and the texts to come stand behind theirs.
+pub record SoFar (way : Way) (files : Option Files) (ps : Programs) (rest texts : List ProgramText) : Type 0 where
+  pub texts_are : map text_in ps.planned.items ++ rest ≡ texts
+  pub stages : All (IsStage way files) (parts_of ps.modules.items ps.planned.items)
+  pub each : AllZip CanStage ps.modules.items ps.planned.items
+
+module _ (way : Way) (files : Option Files) where
+  pub none_so_far : (texts : List ProgramText) (ps : Programs) → ps.modules.items ≡ [] → ps.planned.items ≡ [] → SoFar way files ps texts texts
+  none_so_far texts ps m p = record {
+    texts_are = ap (λ (xs : List Planned). map text_in xs ++ texts) p;
+    stages = subst (λ (xs : List ModuleValue). All (IsStage way files) (parts_of xs ps.planned.items)) (sym m) (All-nil (IsStage way files));
+    each = subst (λ (xs : List ModuleValue). AllZip CanStage xs ps.planned.items) (sym m) (subst (λ (xs : List Planned). AllZip CanStage [] xs) (sym p) tt);
+  }
+
+  pub one_more : (old new : Programs) (t : ProgramText) (rest texts : List ProgramText) → SoFar way files old (t ∷ rest) texts → OpensNext way files t old new → SoFar way files new rest texts
+  one_more old new t rest texts s o =
+      let ms = old.modules.items in
+      let ps = old.planned.items in
+      record {
+        texts_are = ap (λ (xs : List Planned). map text_in xs ++ rest) o.planned_are ∙ ap (λ (ts : List ProgramText). ts ++ rest) (map-append text_in ps (o.planned ∷ []))
+            ∙ append_assoc (map text_in ps) (text_in o.planned ∷ []) rest ∙ ap (λ (u : ProgramText). map text_in ps ++ u ∷ rest) o.text_is ∙ s.texts_are;
+        stages = subst (λ (xs : List ModuleValue). All (IsStage way files) (parts_of xs new.planned.items)) (sym o.modules_are)
+            (subst (λ (xs : List Planned). All (IsStage way files) (parts_of (ms ++ o.valid ∷ []) xs)) (sym o.planned_are)
+            (subst (All (IsStage way files)) (sym (parts_more ms ps o.valid o.planned s.each))
+            (All-append (IsStage way files) (parts_of ms ps) (part_of o.valid o.planned ∷ []) s.stages
+            (All-cons (IsStage way files) (part_of o.valid o.planned) [] o.stage (All-nil (IsStage way files))))));
+        each = subst (λ (xs : List ModuleValue). AllZip CanStage xs new.planned.items) (sym o.modules_are)
+            (subst (λ (xs : List Planned). AllZip CanStage (ms ++ o.valid ∷ []) xs) (sym o.planned_are) (zip_more CanStage ms ps o.valid o.planned s.each o.can));
+      }
+
+  -- the texts to come, as they are held
+  pub turned : (ps : Programs) (rest behind : List ProgramValue) (t : ProgramValue) (texts : List ProgramText) → rest ≡ t ∷ behind → SoFar way files ps (map program_of rest) texts
+      → SoFar way files ps (program_of t ∷ map program_of behind) texts
+  turned ps rest behind t texts e s = subst (λ (ts : List ProgramValue). SoFar way files ps (map program_of ts) texts) e s
+
+  pub ended : (ps : Programs) (rest : List ProgramValue) (texts : List ProgramText) → rest ≡ [] → SoFar way files ps (map program_of rest) texts → SoFar way files ps [] texts
+  ended ps rest texts e s = subst (λ (ts : List ProgramValue). SoFar way files ps (map program_of ts) texts) e s
+
+  -- the next fits a plan, where all do
+  pub next_fits : (ps : Programs) (t : ProgramText) (rest texts : List ProgramText) → SoFar way files ps (t ∷ rest) texts → All FitsPlan texts → FitsPlan t
+  next_fits ps t rest texts s all = one_of (map text_in ps.planned.items) (subst (All FitsPlan) (sym s.texts_are) all) where
+    one_of : (before : List ProgramText) → All FitsPlan (before ++ t ∷ rest) → FitsPlan t
+    one_of [] h = All-head FitsPlan t rest h
+    one_of (u ∷ us) h = one_of us (All-tail FitsPlan u (us ++ t ∷ rest) h)
+
+  pub all_opened : (ps : Programs) (texts : List ProgramText) → SoFar way files ps [] texts → AreOpened way files texts ps
+  all_opened ps texts s =
+      record { stages = record { texts_are = texts_of_parts ps.modules.items ps.planned.items s.each ∙ none_behind (map text_in ps.planned.items) ∙ s.texts_are; each = s.stages }; each = s.each }
+    where
+      none_behind : (ts : List ProgramText) → ts ≡ ts ++ []
+      none_behind [] = refl
+      none_behind (t ∷ ts) = ap (λ (us : List ProgramText). t ∷ us) (none_behind ts)
+
+  -- the next is reached
+  pub reached : (ps : Programs) (t : ProgramText) (rest texts : List ProgramText) → SoFar way files ps (t ∷ rest) texts → IsReached way files texts (length ps.planned.items) t
+  reached ps t rest texts s = record {
+    before = map text_in ps.planned.items;
+    behind = rest;
+    parted = sym s.texts_are;
+    number_is = sym (length-map ps.planned.items text_in);
+    parts = parts_of ps.modules.items ps.planned.items;
+    stages = record { texts_are = texts_of_parts ps.modules.items ps.planned.items s.each; each = s.stages };
+  }
+
+  -- so many are there at most
+  pub few_so_far : (ps : Programs) (t : ProgramText) (rest texts : List ProgramText) → SoFar way files ps (t ∷ rest) texts → length texts ≤ 16 → length ps.planned.items + 1 ≤ 16
+  few_so_far ps t rest texts s few =
+      let n = length-map ps.planned.items text_in in
+      let l = ap (λ (ts : List ProgramText). length ts) s.texts_are in
+      let a = length-append (map text_in ps.planned.items) (t ∷ rest) in
+      omega (arith, n, l, a, few)
+
+-- ---- one program more
+
+pub risen_since : (a b c : ℕ) → a ≤ b → HasRisen b c → HasRisen a c
+risen_since a b c le h = elim h [ inl lt ↦ inl (omega (arith, le, lt)) | inr most ↦ inr most ]
+
+-- a file that couldn't be read
+pub unread_module : (way : Way) (files : Option Files) (f f' number : ℕ) (t : ProgramText) (fault : OpenFault) → IsUnread t.path fault → HasRisen f f' ⊎ IsMissing files t.path
+    → BlamesNext way files f f' number t fault
+unread_module way files f f' number t Memory is why = tt
+unread_module way files f f' number t (Read read) is why = (is, subst (λ (n : List ℕ). HasRisen f f' ⊎ IsMissing files n) (sym is) why)
+unread_module way files f f' number t (a_script kind) is why = absurd is
+unread_module way files f f' number t (a_module n kind) is why = absurd is
+unread_module way files f f' number t (a_rule line rule) is why = absurd is
+
+-- a line that breaks a rule
+pub line_blamed : (way : Way) (files : Option Files) (f f' number : ℕ) (t : ProgramText) (told : Result SetUp ScriptFault) (fault : OpenFault)
+    → BlamesLine told fault → ((line rule : ℕ) → told ≡ Err (breaks line rule) → BreaksRule way files t line rule) → BlamesNext way files f f' number t fault
+line_blamed way files f f' number t told Memory b why = tt
+line_blamed way files f f' number t told (a_rule line rule) b why = why line rule b
+line_blamed way files f f' number t told (Read read) b why = absurd b
+line_blamed way files f f' number t told (a_script kind) b why = absurd b
+line_blamed way files f f' number t told (a_module n kind) b why = absurd b
+
+-- what is blamed of the next program is, over the files and the counts at first
+pub next_blamed : (way : Way) (files mid : Option Files) (f g h number : ℕ) (t : ProgramText) (fault : OpenFault) → mid ≡ files → f ≤ g
+    → BlamesNext way mid g h number t fault → BlamesNext way files f h number t fault
+next_blamed way files mid f g h number t Memory same le b = tt
+next_blamed way files mid f g h number t (Read read) same le b =
+    (b.0, elim b.1 [ inl risen ↦ inl (risen_since f g h le risen) | inr missing ↦ inr (subst (λ (all : Option Files). IsMissing all read) same missing) ])
+next_blamed way files mid f g h number t (a_script kind) same le b = absurd b
+next_blamed way files mid f g h number t (a_module n kind) same le b = (b.0, subst (λ (all : Option Files). IsBadModule way all t (refusal_of kind)) same b.1)
+next_blamed way files mid f g h number t (a_rule line rule) same le b = subst (λ (all : Option Files). BreaksRule way all t line rule) same b
+
+-- ---- set-up rules
+
+pub rules_asked : (asked all : Bool) (p : Module) (t : ProgramText) (told : Result SetUp ScriptFault) → asked ≡ all → set_up_rules asked p t ≡ told → set_up_rules all p t ≡ told
+rules_asked asked all p t told e h = sym (ap (λ (b : Bool). set_up_rules b p t) e) ∙ h
+
+on_both : {A B C : Type 0} (r : Result (Unit {0}) OpenFault) → OnOk r A → OnOk r B → (A → B → C) → OnOk r C
+on_both (Ok x) a b f = f a b
+on_both (Err e) a b f = tt
+
+pub plans_next : (way : Way) (files : Option Files) (l : Loaded) (text : ProgramValue) (given : SetUpValue) (asked : Bool) → asked ≡ asks_all way → FitsPlan (program_of text)
+    → IsListing (module_of l.valid) (listing l.listed) → IsModule way files (program_of text) (module_of l.valid) (listing l.listed)
+    → set_up_rules asked (module_of l.valid) (program_of text) ≡ Ok (set_up_of given) → map named_entry_of given.entries.items ≡ map named_entry (program_of text).entries
+    → (old new : Programs) (r : Result (Unit {0}) OpenFault) → OnOk r (new.modules.items ≡ old.modules.items ++ l.valid ∷ [])
+    → OnOk r (new.planned.items ≡ old.planned.items ++ record { listed = l.listed; text = text; given = given } ∷ []) → OnOk r (OpensNext way files (program_of text) old new)
+plans_next way files l text given asked asks fits told is made entries old new r ms ps =
+    on_both r ms ps
+    (λ m p. record {
+      valid = l.valid;
+      planned = record { listed = l.listed; text = text; given = given };
+      modules_are = m;
+      planned_are = p;
+      text_is = refl;
+      stage = record { module_is = is; set_up = rules_asked asked (asks_all way) (module_of l.valid) (program_of text) (Ok (set_up_of given)) asks made };
+      can = record { fits = fits; listing = told; suits = suits_by_rules asked (module_of l.valid) (program_of text) given made entries };
+    })
+
+pub memory_blamed : (told : Result SetUp ScriptFault) (r : Result (Unit {0}) OpenFault) → IfErr r (λ fault. fault ≡ Memory) → IfErr r (λ fault. BlamesLine told fault)
+memory_blamed told (Ok x) h = tt
+memory_blamed told (Err fault) h = subst (BlamesLine told) (sym h) tt

@@ -1,0 +1,164 @@
+//! The module of a program: a prepared one as it is, or an original that is rewritten.
+
+ghost use Rattle.std.specs.Prelude.{◌≡◌, ◌⊎◌, ◌≤◌, IfOk, IsErrOf, IsSome, None, Some};
+ghost use Rattle.std.specs.Option.{option_map};
+ghost use Rattle.std.specs.Result.{IfErr};
+ghost use Rattle.call_graph.specs.Settings.{choice_of, policy_of, settings_of};
+ghost use Rattle.vault_port.specs.Counts.{HasRisen};
+ghost use Rattle.vault_port.specs.Files.{IsMissing};
+ghost use Rattle.wa_types.specs.Pausing.{list_of};
+ghost use Rattle.wa_types.specs.View.{module_of};
+ghost use Rattle.script_model.specs.Command.{choice_said};
+ghost use Rattle.script_reader.specs.Views.{program_of};
+ghost use Rattle.script_command.specs.declared.way.Way.TheVariants.{Host, Run};
+ghost use Rattle.script_command.specs.Playing.{policy_for, settings_for};
+ghost use Rattle.script_command.specs.Views.{IsBadModuleFor, IsOfSource, Loads};
+
+use crate::way::Way;
+use call_graph::{Choice, ImportList, Policy, Settings};
+use host_files::{FileFault, fetch_prepared};
+use script_reader::ProgramText;
+use transform_command::{SourceFault, refusal_kind, rewritten};
+use std::alloc::{AllocError, Global};
+use vault_port::Vault;
+use wa_types::Name;
+use wasm_validate::Valid;
+
+/// A program's module, as it is hosted; and which of its function imports are listed, where it was rewritten.
+#[derive(Drop)]
+pub(crate) struct Loaded {
+    pub valid: Valid,
+    pub listed: Option<Vec<bool>>,
+}
+
+/// The module of a program. No file changes.
+pub(crate) fn fetch_module<V: Vault>(
+    alloc: Global,
+    vault: &mut V,
+    way: Way,
+    text: &ProgramText,
+) -> Result<Loaded, FileFault>
+    ensures loaded { IfOk result (λ l. Loads way (V.files vault.old) (program_of text.now) l) }
+    ensures refused { IfErr result (λ fault. IsBadModuleFor way (V.files vault.old) (program_of text.now) fault) }
+    ensures read { IsErrOf result FileFault.Read
+        → HasRisen (V.fetch_faults vault.old) (V.fetch_faults vault.new)
+        ⊎ IsMissing (V.files vault.old) text.now.path }
+    ensures kept { V.files vault.new ≡ V.files vault.old }
+    ensures faults { V.fetch_faults vault.old ≤ V.fetch_faults vault.new }
+    ensures saves { V.save_faults vault.new ≡ V.save_faults vault.old }
+{
+    match way {
+        Way::Host => fetch_as_it_is(alloc, vault, text),
+        Way::Run => fetch_rewritten(alloc, vault, text),
+    }
+}
+
+fn fetch_as_it_is<V: Vault>(
+    alloc: Global,
+    vault: &mut V,
+    text: &ProgramText,
+) -> Result<Loaded, FileFault>
+    ensures loaded { IfOk result (λ l. Loads Host (V.files vault.old) (program_of text.now) l) }
+    ensures refused { IfErr result (λ fault. IsBadModuleFor Host (V.files vault.old) (program_of text.now) fault) }
+    ensures read { IsErrOf result FileFault.Read
+        → HasRisen (V.fetch_faults vault.old) (V.fetch_faults vault.new)
+        ⊎ IsMissing (V.files vault.old) text.now.path }
+    ensures kept { V.files vault.new ≡ V.files vault.old }
+    ensures faults { V.fetch_faults vault.old ≤ V.fetch_faults vault.new }
+    ensures saves { V.save_faults vault.new ≡ V.save_faults vault.old }
+{
+    match fetch_prepared(alloc, vault, text.path.as_str()) {
+        Ok(valid) => Ok(Loaded {
+            valid,
+            listed: None,
+        }),
+        Err(fault) => Err(fault),
+    }
+}
+
+fn fetch_rewritten<V: Vault>(
+    alloc: Global,
+    vault: &mut V,
+    text: &ProgramText,
+) -> Result<Loaded, FileFault>
+    ensures loaded { IfOk result (λ l. Loads Run (V.files vault.old) (program_of text.now) l) }
+    ensures refused { IfErr result (λ fault. IsBadModuleFor Run (V.files vault.old) (program_of text.now) fault) }
+    ensures read { IsErrOf result FileFault.Read
+        → HasRisen (V.fetch_faults vault.old) (V.fetch_faults vault.new)
+        ⊎ IsMissing (V.files vault.old) text.now.path }
+    ensures kept { V.files vault.new ≡ V.files vault.old }
+    ensures faults { V.fetch_faults vault.old ≤ V.fetch_faults vault.new }
+    ensures saves { V.save_faults vault.new ≡ V.save_faults vault.old }
+{
+    let Ok(settings) = settings_for(alloc, text) else {
+        return Err(FileFault::Memory);
+    };
+    match rewritten(alloc, vault, text.path.as_str(), &settings) {
+        Ok(runnable) => Ok(Loaded {
+            valid: runnable.module,
+            listed: Some(runnable.listed),
+        }),
+        Err(fault) => Err(source_fault(fault)),
+    }
+}
+
+// Why a program's original is refused.
+fn source_fault(fault: SourceFault) -> FileFault
+    ensures { IsOfSource fault result }
+{
+    match fault {
+        SourceFault::Memory => FileFault::Memory,
+        SourceFault::Read => FileFault::Read,
+        SourceFault::Refused(refusal) => FileFault::Refused(refusal_kind(refusal)),
+    }
+}
+
+// The settings by which a program's original is rewritten.
+fn settings_for(alloc: Global, text: &ProgramText) -> Result<Settings, AllocError>
+    ensures settings { IfOk result (λ s. settings_for (program_of text.now) ≡ Some (settings_of s)) }
+{
+    let choice = choice_for(alloc, &text.list, text.ignore_imports)?;
+    Ok(Settings {
+        choice,
+        ignore_indirect: false,
+        policy: policy_for(text.policy_live),
+    })
+}
+
+fn policy_for(live: bool) -> Policy
+    ensures { policy_of result ≡ policy_for live }
+{
+    if live { Policy::Live } else { Policy::All }
+}
+
+fn choice_for(
+    alloc: Global,
+    list: &Option<Name>,
+    ignore_imports: bool,
+) -> Result<Choice, AllocError>
+    ensures { IfOk result (λ choice. choice_said list.now ignore_imports ≡ Some (choice_of choice)) }
+{
+    match list {
+        None => Ok(plain_choice(ignore_imports)),
+        Some(text) => {
+            // A script has a LIST that is one, and then doesn't ignore imports too.
+            if ignore_imports {
+                return Err(AllocError);
+            }
+            match ImportList::parse(alloc, text.as_str()) {
+                Ok(list) => Ok(Choice::Listed(list)),
+                Err(_) => Err(AllocError),
+            }
+        }
+    }
+}
+
+fn plain_choice(ignore_imports: bool) -> Choice
+    ensures { choice_said None ignore_imports ≡ Some (choice_of result) }
+{
+    if ignore_imports {
+        Choice::Nobody
+    } else {
+        Choice::Every
+    }
+}
