@@ -11,7 +11,7 @@ use Rattle.wasm_encode.specs.Modules.{FewLocals}
 use Rattle.rewrite_form.proofs.LengthBy.{code_length}
 use Rattle.rewrite_form.proofs.Grown.{enc_length}
 use Rattle.rewrite_form.proofs.Lengths.{entries_length, section_length, shortest_length, sized_length}
-use Rattle.generated_runs.proofs.GeneratedLocals.{each}
+use Rattle.gen_command.proofs.GeneratedLocals.{each}
 use Rattle.gen_module.specs.Generated.{first_code, func_by, func_with, generated, generated_func, generated_funcs, one_local, one_to_one, run_export, sleep}
 
 func_count : (n : ℕ) → length (generated_funcs n) ≡ n

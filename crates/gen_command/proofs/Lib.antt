@@ -1,2 +1,5 @@
+pub mod GeneratedLocals
 pub mod GeneratedSizes
+pub mod Rewritten
+pub mod Runs
 pub mod Telling

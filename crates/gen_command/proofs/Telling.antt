@@ -10,7 +10,7 @@ use Rattle.script_model.specs.Transcript.{refusal_line, write_fault}
 use Rattle.transcript.specs.Refused.{EndsInMemory, PrintsMemory}
 use Rattle.transcript.proofs.Printed.{memory_alone}
 use Rattle.gen_module.specs.Generated.{generated}
-use Rattle.generated_runs.specs.Playing.{PlaysGenerated}
+use Rattle.gen_command.specs.Playing.{PlaysGenerated}
 use Rattle.gen_command.specs.Printed.{PrintsGenerated, PrintsLess, RunsOutOfMemory, three_lines}
 
 -- a file that is as before

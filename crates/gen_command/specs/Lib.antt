@@ -1,1 +1,4 @@
+pub mod Plans
+pub mod Playing
 pub mod Printed
+pub mod Telling

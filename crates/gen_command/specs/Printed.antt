@@ -6,7 +6,7 @@ use Rattle.wa_types.specs.Encoding.{Enc}
 use Rattle.script_model.specs.Transcript.{refusal_line, write_fault, line_end}
 use Rattle.transcript.specs.Refused.{PrintsMemory}
 use Rattle.gen_module.specs.Generated.{generated}
-use Rattle.generated_runs.specs.Playing.{PlaysGenerated}
+use Rattle.gen_command.specs.Playing.{PlaysGenerated}
 
 -- three lines: how many functions were generated, and how many bytes written; how much of its area a pause used; and a result
 unfoldable pub three_lines : (number bytes used value : ℕ) → List ℕ

@@ -10,12 +10,12 @@ ghost use Rattle.script_model.specs.Transcript.{refusal_line, write_fault};
 ghost use Rattle.wa_types.specs.Encoding.{Enc};
 ghost use Rattle.transcript.specs.Refused.{Prints, PrintsMemory};
 ghost use Rattle.gen_module.specs.Generated.{generated};
-ghost use Rattle.generated_runs.specs.Playing.{PlaysGenerated};
+ghost use Rattle.gen_command.specs.Playing.{PlaysGenerated};
 ghost use Rattle.gen_command.specs.Printed.{PrintsGenerated, PrintsLess, RunsOutOfMemory, three_lines};
 
 use crate::writing::{GenFault, write_module};
 use gen_module::generate;
-use generated_runs::play_generated;
+use crate::playing::play_generated;
 use transcript::{out_of_memory, refuse_write};
 use std::alloc::{AllocError, Global};
 use vault_port::{PutFault, Sink, Vault, put_whole};

@@ -5,9 +5,9 @@ use Rattle.wa_types.proofs.FaultLemmas.{valid_no_fault}
 use Rattle.wasm_validate.specs.Validated.{Validates}
 use Rattle.local_spill.specs.Reserved.{reserved_at}
 use Rattle.module_rewrite.specs.Whole.{Asyncifies, FirstTooMany, IsAsyncified}
-use Rattle.generated_runs.specs.Playing.{all_listed}
-use Rattle.generated_runs.proofs.Rewritten.{none_too_many, strict_is_wide}
-use Rattle.generated_runs.proofs.program.rewritten.Goals as goal
+use Rattle.gen_command.specs.Playing.{all_listed}
+use Rattle.gen_command.proofs.Rewritten.{none_too_many, strict_is_wide}
+use Rattle.gen_command.proofs.program.rewritten.Goals as goal
 
 pub validate-requires : goal.validate-requires
 validate-requires c = strict_is_wide (module_of c.args.module) c.requires.sizes

@@ -8,7 +8,7 @@ use Rattle.host_setup.specs.SetUp.{NamedEntry}
 use Rattle.pause_host.specs.Programs.{named_entries, source_of}
 use Rattle.pause_host.specs.Settings.{none_bound}
 use Rattle.pause_host.specs.declared.plan.Plan.{Plan}
-use Rattle.generated_runs.specs.Playing.{sleep_answer}
+use Rattle.gen_command.specs.Playing.{sleep_answer}
 
 -- `run` is entered with 7
 abbrev pub run_entry : NamedEntry

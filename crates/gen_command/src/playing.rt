@@ -11,8 +11,8 @@ ghost use Rattle.wa_types.specs.declared.values.Value.{Value as PlainValue};
 ghost use Rattle.wa_types.specs.declared.values.Value.TheVariants as V;
 ghost use Rattle.gen_module.specs.Generated.{generated, sleep};
 ghost use Rattle.pause_host.specs.Programs.{FollowsAlone, ended_as};
-ghost use Rattle.generated_runs.specs.Playing.{PausesOnce, PlaysGenerated, all_listed, run_program};
-ghost use Rattle.generated_runs.specs.Telling.{TellsNext};
+ghost use Rattle.gen_command.specs.Playing.{PausesOnce, PlaysGenerated, all_listed, run_program};
+ghost use Rattle.gen_command.specs.Telling.{TellsNext};
 
 use crate::program::{program_of, rewritten};
 use pause_host::Program;

@@ -1,10 +1,10 @@
 use Rattle.std.proofs.Common.{ℕ, ap}
 use Rattle.wa_model.specs.Outside.{paused}
 use Rattle.wa_model.specs.View.{event_of}
-use Rattle.generated_runs.specs.Telling.{TellsNext}
-use Rattle.generated_runs.proofs.Runs.{given, refused, tells}
-use Rattle.generated_runs.proofs.playing.hear_pause.Goals as goal
-use Rattle.generated_runs.proofs.playing.hear_pause.Goals.{in-Paused, in_default}
+use Rattle.gen_command.specs.Telling.{TellsNext}
+use Rattle.gen_command.proofs.Runs.{given, refused, tells}
+use Rattle.gen_command.proofs.playing.hear_pause.Goals as goal
+use Rattle.gen_command.proofs.playing.hear_pause.Goals.{in-Paused, in_default}
 
 pub returns : goal.returns
 returns c = λ w notes f none. elim c.match-branch-2.branch [

@@ -3,8 +3,8 @@ use Rattle.std.proofs.lemmas.Result.{on_ok_weaker}
 use Rattle.wa_model.specs.declared.events.End.TheVariants.{Done}
 use Rattle.wa_model.specs.Outside.{ended}
 use Rattle.wa_model.specs.View.{event_of}
-use Rattle.generated_runs.proofs.Runs.{tells}
-use Rattle.generated_runs.proofs.playing.hear_end.Goals as goal
+use Rattle.gen_command.proofs.Runs.{tells}
+use Rattle.gen_command.proofs.playing.hear_end.Goals as goal
 
 pub returns-in-Ended : goal.returns-in-Ended
 returns-in-Ended c = λ w notes f none.

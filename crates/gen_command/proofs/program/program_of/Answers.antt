@@ -1,6 +1,6 @@
 use Rattle.wa_types.specs.View.{module_of}
-use Rattle.generated_runs.proofs.Runs.{is_plan, made_follows}
-use Rattle.generated_runs.proofs.program.program_of.Goals as goal
+use Rattle.gen_command.proofs.Runs.{is_plan, made_follows}
+use Rattle.gen_command.proofs.program.program_of.Goals as goal
 
 pub new-requires : goal.new-requires
 new-requires c = is_plan (module_of c.args.module.now) c.in_ok-plan.plan c.requires c.in_ok-plan.ensures

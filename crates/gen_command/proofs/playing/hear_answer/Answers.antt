@@ -2,10 +2,10 @@ use Rattle.std.proofs.Common.{Option, ap}
 use Rattle.wa_types.specs.declared.values.Value.{Value}
 use Rattle.wa_model.specs.Outside.{answered}
 use Rattle.wa_model.specs.View.{event_of}
-use Rattle.generated_runs.specs.Telling.{TellsNext}
-use Rattle.generated_runs.proofs.Runs.{given, refused, tells}
-use Rattle.generated_runs.proofs.playing.hear_answer.Goals as goal
-use Rattle.generated_runs.proofs.playing.hear_answer.Goals.{in-Answered, in_default}
+use Rattle.gen_command.specs.Telling.{TellsNext}
+use Rattle.gen_command.proofs.Runs.{given, refused, tells}
+use Rattle.gen_command.proofs.playing.hear_answer.Goals as goal
+use Rattle.gen_command.proofs.playing.hear_answer.Goals.{in-Answered, in_default}
 
 pub returns : goal.returns
 returns c = λ w notes f none. elim c.match-branch-2.branch [

@@ -34,9 +34,9 @@ use Rattle.pause_host.specs.Settings.{calls_of}
 use Rattle.pause_host.specs.Programs.{AdvancesAlone, BindsAs, FollowsAlone, IsPlan, SetsUp, end_in, ended_as, named_entries, world_program}
 use Rattle.pause_host.proofs.Advancing.{runs_first, starts_alone, story_told as story_of}
 use Rattle.pause_host.proofs.Binds.{none_at, none_for_each}
-use Rattle.generated_runs.specs.Plans.{PlansRun, run_entry}
-use Rattle.generated_runs.specs.Playing.{all_listed, run_program, sleep_answer}
-use Rattle.generated_runs.specs.Telling.{TellsNext}
+use Rattle.gen_command.specs.Plans.{PlansRun, run_entry}
+use Rattle.gen_command.specs.Playing.{all_listed, run_program, sleep_answer}
+use Rattle.gen_command.specs.Telling.{TellsNext}
 
 -- ---- the function that is entered
 

@@ -2,10 +2,10 @@ use Rattle.std.proofs.Common.{ℕ, Some, ap, ◌∙◌}
 use Rattle.wa_types.specs.declared.values.Value.TheVariants as V
 use Rattle.wa_model.specs.Outside.{returned}
 use Rattle.wa_model.specs.View.{event_of}
-use Rattle.generated_runs.specs.Telling.{TellsNext}
-use Rattle.generated_runs.proofs.Runs.{handed, refused, tells}
-use Rattle.generated_runs.proofs.playing.hear_return.Goals as goal
-use Rattle.generated_runs.proofs.playing.hear_return.Goals.{in-Returned, in_default}
+use Rattle.gen_command.specs.Telling.{TellsNext}
+use Rattle.gen_command.proofs.Runs.{handed, refused, tells}
+use Rattle.gen_command.proofs.playing.hear_return.Goals as goal
+use Rattle.gen_command.proofs.playing.hear_return.Goals.{in-Returned, in_default}
 
 pub returns : goal.returns
 returns c = λ w notes f none. elim c.match-branch-2.branch [

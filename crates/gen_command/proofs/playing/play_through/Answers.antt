@@ -2,8 +2,8 @@ use Rattle.std.proofs.Common.{Some, [], ◌∷◌}
 use Rattle.wa_types.specs.declared.values.Value.TheVariants as V
 use Rattle.wa_model.specs.declared.events.End.TheVariants.{Done}
 use Rattle.wa_model.specs.Outside.{answered, called, ended, paused, returned}
-use Rattle.generated_runs.proofs.Runs.{events_told, not_ended, story_told}
-use Rattle.generated_runs.proofs.playing.play_through.Goals as goal
+use Rattle.gen_command.proofs.Runs.{events_told, not_ended, story_told}
+use Rattle.gen_command.proofs.playing.play_through.Goals as goal
 
 pub returns : goal.returns
 returns c = λ w f.

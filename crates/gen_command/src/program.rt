@@ -11,8 +11,8 @@ ghost use Rattle.wa_types.specs.View.{module_of};
 ghost use Rattle.local_spill.specs.Reserved.{reserved_at};
 ghost use Rattle.gen_module.specs.Generated.{generated, sleep};
 ghost use Rattle.pause_host.specs.Programs.{FollowsAlone};
-ghost use Rattle.generated_runs.specs.Plans.{PlansRun, run_entry};
-ghost use Rattle.generated_runs.specs.Playing.{all_listed, run_program, sleep_answer};
+ghost use Rattle.gen_command.specs.Plans.{PlansRun, run_entry};
+ghost use Rattle.gen_command.specs.Playing.{all_listed, run_program, sleep_answer};
 
 use call_graph::{Choice, Policy, Settings};
 use module_rewrite::{RewriteFault, asyncify_module};

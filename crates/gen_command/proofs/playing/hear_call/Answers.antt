@@ -1,8 +1,8 @@
 use Rattle.std.proofs.Common.{ap}
 use Rattle.wa_model.specs.Outside.{called}
 use Rattle.wa_model.specs.View.{call_of, event_of}
-use Rattle.generated_runs.proofs.Runs.{tells}
-use Rattle.generated_runs.proofs.playing.hear_call.Goals as goal
+use Rattle.gen_command.proofs.Runs.{tells}
+use Rattle.gen_command.proofs.playing.hear_call.Goals as goal
 
 pub returns-in-Called : goal.returns-in-Called
 returns-in-Called c = λ w notes f none.

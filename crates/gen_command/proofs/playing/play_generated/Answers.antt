@@ -8,10 +8,10 @@ use Rattle.wa_types.specs.View.{module_of}
 use Rattle.wa_model.specs.Rewrites.{Rewrites}
 use Rattle.local_spill.specs.Reserved.{reserved_at}
 use Rattle.gen_module.proofs.GeneratedModules.{is_small, is_valid}
-use Rattle.generated_runs.specs.Playing.{all_listed}
-use Rattle.generated_runs.proofs.GeneratedLocals.{few_locals, none_reserved}
-use Rattle.generated_runs.proofs.Runs.{imports_as}
-use Rattle.generated_runs.proofs.playing.play_generated.Goals as goal
+use Rattle.gen_command.specs.Playing.{all_listed}
+use Rattle.gen_command.proofs.GeneratedLocals.{few_locals, none_reserved}
+use Rattle.gen_command.proofs.Runs.{imports_as}
+use Rattle.gen_command.proofs.playing.play_generated.Goals as goal
 
 pub rewritten-requires-clause-valid : goal.rewritten-requires-clause-valid
 rewritten-requires-clause-valid c = subst Valid (sym c.requires.2) (is_valid c.requires.0)
