@@ -16,8 +16,8 @@ known="asyncify_app asyncify_cli local_spill wasm_build call_frames call_graph l
     world_hosting"
 old="wa_types file_laws wa_ops page_memory wa_model validate_bodies wasm_validate 
     interp_state interp wasm_grammar wasm_build wasm_reader wasm_encode call_graph local_spill
-    leb_numbers vault_port memory_vaults asyncify_app asyncify_cli command_words transcript transform_command round_trip
-    definition_check"
+    leb_numbers vault_port memory_vaults asyncify_app asyncify_cli command_words transcript transform_command checks
+    "
 mkdir -p "$bench/out"
 log=$bench/out/gate.log
 

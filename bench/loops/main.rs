@@ -19,7 +19,7 @@ use anyhow::bail;
 use interp::Turn;
 use memory::sum_of;
 use wasm_reader::read_file;
-use round_trip::rewrite;
+use checks::rewrite;
 use running::run;
 use std::env;
 use std::rt::{Env, Files};

@@ -1,0 +1,14 @@
+//! `definition_check`: Checks that the definitions mean what they should, on small modules.
+//!
+//! Each function here does nothing: its contract is a fact on modules that are written out, which the prover
+//! computes from the definitions. So a definition that says another thing than meant shows here.
+//!
+//! `round_trip`: The law of the round trip: what is written is read back as the same module, its runs merged and its custom sections in
+//! their written order; and reading and writing makes the shortest spelling of what the bytes spell.
+#![tactic(auto)]
+
+mod definition_check;
+mod round_trip;
+
+pub use definition_check::{a_float_in_dead_code_is_marked, beginnings_of_a_module, each_file_decided, each_module_decided, files_fail_at_their_places, images, listings, lists, measures, no_images, one_call_image, only_sleeper_pauses, rooms, rules_in_bodies, rules_outside_bodies, saved_locals, valid_modules, verdict_is_typing};
+pub use round_trip::{AgainFault, read_again, rewrite};
