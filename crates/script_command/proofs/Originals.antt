@@ -19,10 +19,10 @@ use Rattle.transform_command.specs.declared.refusals.Refusal.{Refusal as SourceR
 use Rattle.transform_command.specs.declared.refusals.Refusal.TheVariants as R
 use Rattle.transform_command.specs.declared.source.SourceFault.{SourceFault}
 use Rattle.transform_command.specs.declared.source.SourceFault.TheVariants as S
-use Rattle.host_files.specs.declared.fault.FileFault.{FileFault}
-use Rattle.host_files.specs.declared.fault.FileFault.TheVariants.{Memory, Read, Refused}
+use Rattle.script_setup.specs.declared.file_fault.FileFault.{FileFault}
+use Rattle.script_setup.specs.declared.file_fault.FileFault.TheVariants.{Memory, Read, Refused}
 use Rattle.wasm_reader.specs.Held.{Holds}
-use Rattle.host_files.specs.Views.{IsToldUnprepared}
+use Rattle.script_setup.specs.FaultViews.{IsToldUnprepared}
 use Rattle.world_hosting.specs.Worlds.{IsListing}
 use Rattle.world_hosting.specs.Views.{listing}
 use Rattle.script_command.specs.declared.way.Way.TheVariants.{Host, Run}

@@ -8,7 +8,7 @@ use Rattle.script_model.specs.Transcript.{Refusal, usage, out_of_memory, malform
 use Rattle.wasm_reader.specs.declared.read_fault.ReadFault.{ReadFault}
 use Rattle.wasm_reader.specs.declared.read_fault.ReadFault.TheVariants.{Memory, Malformed, Float, Deep, Limit}
 use Rattle.wasm_reader.specs.Answers.{IsAccepted, IsRefused}
-use Rattle.host_files.specs.Prepared.{IsPrepared, IsUnprepared}
+use Rattle.script_setup.specs.Prepared.{IsPrepared, IsUnprepared}
 use Rattle.script_command.proofs.OneRead.{accepted_passes, one_accepted, one_read_fault}
 
 -- what is told of a cause for which reading refuses bytes

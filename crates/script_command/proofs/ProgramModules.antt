@@ -8,7 +8,7 @@ use Rattle.wa_types.specs.Syntax.{Module}
 use Rattle.script_model.specs.Script.{ProgramText}
 use Rattle.script_model.specs.Transcript.{Refusal}
 use Rattle.wasm_reader.proofs.Held.{own_bytes}
-use Rattle.host_files.specs.Prepared.{IsPrepared, IsUnprepared}
+use Rattle.script_setup.specs.Prepared.{IsPrepared, IsUnprepared}
 use Rattle.transform_command.specs.Running.{RunsAs}
 use Rattle.transform_command.specs.Sources.{Cause, malformed, float, deep, limit, reserved, invalid, rewritten_locals, long_output, IsRefusedFor}
 use Rattle.live_laws.specs.PolicyLaws.{without_code}

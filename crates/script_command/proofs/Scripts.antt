@@ -6,9 +6,9 @@ use Rattle.vault_port.specs.Counts.{HasRisen}
 use Rattle.vault_port.specs.Files.{Files, IsMissing}
 use Rattle.wa_model.specs.declared.answers.Detach.{Detach}
 use Rattle.script_model.specs.Script.{ProgramText, Script}
-use Rattle.host_files.specs.Scripts.{IsScript}
+use Rattle.script_setup.specs.Scripts.{IsScript}
 use Rattle.wasm_reader.specs.Held.{Holds}
-use Rattle.host_files.proofs.Counts.{few_programs}
+use Rattle.script_setup.proofs.Counts.{few_programs}
 use Rattle.script_reader.specs.declared.script.Script.{Script as ScriptValue}
 use Rattle.script_reader.specs.Views.{detach_of, program_of, script_of}
 use Rattle.world_hosting.specs.Worlds.{FitsPlan}

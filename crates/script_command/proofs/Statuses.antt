@@ -3,9 +3,9 @@ use Rattle.std.proofs.Common.{◌≡◌, ◌≢◌, inl, inr, ℕ, List, Option,
 use Rattle.vault_port.specs.Files.{Files}
 use Rattle.script_model.specs.Script.{ProgramText, ScriptFault, breaks, too_many}
 use Rattle.script_model.specs.Transcript.{Refusal, usage, out_of_memory, malformed, float, nesting, invalid, limit, reserved, script, read_fault, write_fault}
-use Rattle.host_files.specs.Prepared.{IsOfContent, IsUnprepared}
-use Rattle.host_files.specs.Scripts as H
-use Rattle.host_files.specs.Scripts.{IsNoScript}
+use Rattle.script_setup.specs.Prepared.{IsOfContent, IsUnprepared}
+use Rattle.script_setup.specs.Scripts as H
+use Rattle.script_setup.specs.Scripts.{IsNoScript}
 use Rattle.transcript.specs.Refused.{status_of}
 use Rattle.transform_command.specs.Sources as S
 use Rattle.transform_command.specs.Sources.{refusal_for}

@@ -6,7 +6,7 @@ use Rattle.vault_port.specs.Files.{Files, bytes_of}
 use Rattle.wa_types.specs.Syntax.{Module}
 use Rattle.script_model.specs.Script.{ProgramText, Script, ScriptFault, breaks}
 use Rattle.script_model.specs.Transcript.{Refusal}
-use Rattle.host_files.specs.Scripts.{IsNoScript, IsScript, refusal_for}
+use Rattle.script_setup.specs.Scripts.{IsNoScript, IsScript, refusal_for}
 use Rattle.wasm_reader.proofs.Held.{own_bytes}
 use Rattle.script_setup.specs.SetUpRules.{SetUp, set_up_rules}
 use Rattle.world_hosting.specs.Worlds.{Part}

@@ -1,6 +1,6 @@
 -- Faults of which a line is printed.
 use Rattle.transcript.specs.Printing.{refusal_of}
-use Rattle.host_files.specs.Prepared.{IsOfContent}
+use Rattle.script_setup.specs.Prepared.{IsOfContent}
 use Rattle.script_command.specs.declared.opening.OpenFault.{OpenFault}
 use Rattle.script_command.specs.declared.opening.OpenFault.TheVariants.{Memory, Read, Script, Module, Rule}
 

@@ -8,8 +8,8 @@ use Rattle.script_model.specs.Command.{choice_said}
 use Rattle.wa_model.specs.declared.answers.Detach.{Detach}
 use Rattle.script_model.specs.Script.{DetachText, ProgramText, Script, breaks}
 use Rattle.script_model.specs.Transcript.{Refusal, script}
-use Rattle.host_files.specs.Prepared.{IsPrepared, IsUnprepared}
-use Rattle.host_files.specs.Scripts.{IsScript, IsNoScript}
+use Rattle.script_setup.specs.Prepared.{IsPrepared, IsUnprepared}
+use Rattle.script_setup.specs.Scripts.{IsScript, IsNoScript}
 use Rattle.wasm_reader.specs.Held.{Holds}
 use Rattle.transform_command.specs.Running.{RunsAs}
 use Rattle.transform_command.specs.Sources.{IsRefusedFor, refusal_for}

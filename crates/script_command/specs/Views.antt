@@ -8,8 +8,8 @@ use Rattle.wa_types.specs.declared.syntax.Module.{Module as ModuleValue}
 use Rattle.script_model.specs.Script.{ProgramText, ScriptFault, breaks}
 use Rattle.transcript.specs.Printing.{refusal_of}
 use Rattle.transcript.specs.declared.refusals.RefusalKind.{RefusalKind}
-use Rattle.host_files.specs.declared.fault.FileFault.{FileFault}
-use Rattle.host_files.specs.declared.fault.FileFault.TheVariants as F
+use Rattle.script_setup.specs.declared.file_fault.FileFault.{FileFault}
+use Rattle.script_setup.specs.declared.file_fault.FileFault.TheVariants as F
 use Rattle.transform_command.specs.SourceRefusals.{cause_of}
 use Rattle.transform_command.specs.Sources.{refusal_for}
 use Rattle.transform_command.specs.declared.source.SourceFault.{SourceFault}

@@ -16,7 +16,7 @@ ghost use Rattle.script_command.specs.Views.{IsBadModuleFor, IsOfSource, Loads};
 
 use crate::way::Way;
 use call_graph::{Choice, ImportList, Policy, Settings};
-use host_files::{FileFault, fetch_prepared};
+use script_setup::{FileFault, fetch_prepared};
 use script_reader::ProgramText;
 use transform_command::{SourceFault, refusal_kind, rewritten};
 use std::alloc::{AllocError, Global};

@@ -6,7 +6,7 @@ ghost use Rattle.script_command.specs.Views.{Blames, CanPlay, Opens};
 
 use crate::programs::{Programs, open_programs, unread};
 use crate::way::Way;
-use host_files::{FileFault, fetch_script};
+use script_setup::{FileFault, fetch_script};
 use std::alloc::{AllocError, Global};
 use thiserror::Error;
 use transcript::RefusalKind;

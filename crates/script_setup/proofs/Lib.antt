@@ -1,5 +1,8 @@
 pub mod Bound
+pub mod Counts
+pub mod Fronts
 pub mod Gathered
 pub mod GlobalTables
 pub mod GlobalTypes
+pub mod Refused
 pub mod Told

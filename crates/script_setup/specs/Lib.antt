@@ -1,5 +1,9 @@
 pub mod Bindings
+pub mod FaultViews
+pub mod Faults
 pub mod Places
+pub mod Prepared
+pub mod Scripts
 pub mod SetUpRules
 pub mod Tables
 pub mod Views

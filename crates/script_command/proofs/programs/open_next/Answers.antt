@@ -1,5 +1,5 @@
 -- A program more, or why it isn't set up.
-use Rattle.host_files.proofs.Fronts.{if_err_weaker}
+use Rattle.script_setup.proofs.Fronts.{if_err_weaker}
 use Rattle.wa_types.specs.View.{module_of}
 use Rattle.script_reader.specs.Views.{program_of}
 use Rattle.world_hosting.specs.Views.{listing}

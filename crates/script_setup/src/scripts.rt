@@ -9,12 +9,12 @@ ghost use Rattle.wa_types.specs.declared.bounds.LimitKind.TheVariants.{Programs 
 ghost use Rattle.script_model.specs.Transcript.{limit};
 ghost use Rattle.transcript.specs.Printing.{refusal_of};
 ghost use Rattle.script_reader.specs.Views.{script_of};
-ghost use Rattle.host_files.specs.Prepared.{IsOfContent};
+ghost use Rattle.script_setup.specs.Prepared.{IsOfContent};
 ghost use Rattle.wasm_reader.specs.Held.{Holds};
-ghost use Rattle.host_files.specs.Scripts.{IsScript};
-ghost use Rattle.host_files.specs.Views.{IsContentFault, IsNoScriptFor, IsToldNoScript};
+ghost use Rattle.script_setup.specs.Scripts.{IsScript};
+ghost use Rattle.script_setup.specs.FaultViews.{IsContentFault, IsNoScriptFor, IsToldNoScript};
 
-use crate::fault::FileFault;
+use crate::file_fault::FileFault;
 use script_reader::{Script, ScriptFault, read_script};
 use std::alloc::Global;
 use transcript::RefusalKind;

@@ -4,8 +4,8 @@ use Rattle.std.proofs.lemmas.Result.{IfErr-weaker, IfOk-weaker}
 use Rattle.wa_types.specs.View.{module_of}
 use Rattle.wasm_reader.specs.Answers.{IsAccepted}
 use Rattle.wasm_reader.specs.Held.{IsToldFault}
-use Rattle.host_files.proofs.Refused.{told_fault, told_unread}
-use Rattle.host_files.proofs.reading.prepare.Goals as goal
+use Rattle.script_setup.proofs.Refused.{told_fault, told_unread}
+use Rattle.script_setup.proofs.reading.prepare.Goals as goal
 
 pub returns-in-Ok-clause-prepared : goal.returns-in-Ok-clause-prepared
 returns-in-Ok-clause-prepared g c =

@@ -10,14 +10,14 @@ use Rattle.script_model.specs.Transcript.{Refusal, usage, out_of_memory, malform
 use Rattle.transcript.specs.Printing.{refusal_of}
 use Rattle.wasm_reader.specs.Held.{Holds}
 use Rattle.wasm_reader.proofs.Held.{holds_own}
-use Rattle.host_files.specs.declared.reading.PreparedFault.{PreparedFault}
-use Rattle.host_files.specs.declared.reading.PreparedFault.TheVariants as P
-use Rattle.host_files.specs.Faults.{IsToldFault}
-use Rattle.host_files.specs.Prepared.{IsOfContent, IsUnprepared}
-use Rattle.host_files.specs.declared.fault.FileFault.{FileFault}
-use Rattle.host_files.specs.declared.fault.FileFault.TheVariants.{Memory, Read, Refused}
-use Rattle.host_files.specs.Scripts.{IsScript, IsNoScript, HasFault}
-use Rattle.host_files.specs.Views.{IsContentFault, IsNoScriptFor, IsToldNoScript, IsToldUnprepared, file_fault}
+use Rattle.script_setup.specs.declared.reading.PreparedFault.{PreparedFault}
+use Rattle.script_setup.specs.declared.reading.PreparedFault.TheVariants as P
+use Rattle.script_setup.specs.Faults.{IsToldFault}
+use Rattle.script_setup.specs.Prepared.{IsOfContent, IsUnprepared}
+use Rattle.script_setup.specs.declared.file_fault.FileFault.{FileFault}
+use Rattle.script_setup.specs.declared.file_fault.FileFault.TheVariants.{Memory, Read, Refused}
+use Rattle.script_setup.specs.Scripts.{IsScript, IsNoScript, HasFault}
+use Rattle.script_setup.specs.FaultViews.{IsContentFault, IsNoScriptFor, IsToldNoScript, IsToldUnprepared, file_fault}
 
 -- ---- scripts
 

@@ -9,9 +9,9 @@ use Rattle.wasm_reader.specs.Held as H
 use Rattle.wasm_reader.specs.Held.{Holds}
 use Rattle.wasm_reader.specs.declared.fault.ModuleFault.{ModuleFault}
 use Rattle.wasm_reader.specs.declared.fault.ModuleFault.TheVariants as M
-use Rattle.host_files.specs.declared.reading.PreparedFault.{PreparedFault}
-use Rattle.host_files.specs.declared.reading.PreparedFault.TheVariants as P
-use Rattle.host_files.specs.Faults.{IsFaultOf, IsOfFile, IsOfRead, IsToldFault}
+use Rattle.script_setup.specs.declared.reading.PreparedFault.{PreparedFault}
+use Rattle.script_setup.specs.declared.reading.PreparedFault.TheVariants as P
+use Rattle.script_setup.specs.Faults.{IsFaultOf, IsOfFile, IsOfRead, IsToldFault}
 
 pub read_refused : (bytes : List ℕ) (fault : ReadFault) (told : PreparedFault) → IsRefused prepared_bounds bytes fault → IsOfRead fault told → IsFaultOf bytes told
 read_refused bytes Memory told h e = subst (IsFaultOf bytes) (sym e) tt

@@ -6,10 +6,8 @@ use Rattle.std.specs.Str.Lines.{lines}
 use Rattle.std.proofs.lemmas.Bool.{eqb-false}
 use Rattle.script_model.specs.Script.{ProgramText, Script, ScriptFault, breaks, too_many}
 use Rattle.script_model.specs.ScriptLines.{Statement, begins_program, lists_imports, ignores_imports, saves, has_area, has_steps, sets_global, binds, enters, answers, shows, detaches, line_says}
-use Rattle.script_model.specs.ScriptText.{AreaText, Group, Numbered, area_of, fault_of, grouped, grouped_with, has_bad_list}
-use Rattle.script_model.specs.ScriptText.{in_program, is_early, is_one_too_many, is_program, is_repeated, lines_by, onto}
-use Rattle.script_model.specs.ScriptText.{program_of, programs_of, script_of, script_text, statements, told_by, detach_of, unless_fault, with_line, with_program, with_programs}
-use Rattle.host_files.specs.Scripts.{IsScript}
+use Rattle.script_model.specs.ScriptText.{AreaText, Group, Numbered, area_of, fault_of, grouped, grouped_with, has_bad_list, in_program, is_early, is_one_too_many, is_program, is_repeated, lines_by, onto, program_of, programs_of, script_of, script_text, statements, told_by, detach_of, unless_fault, with_line, with_program, with_programs}
+use Rattle.script_setup.specs.Scripts.{IsScript}
 
 -- ---- lines of programs
 

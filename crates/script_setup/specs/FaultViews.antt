@@ -3,12 +3,12 @@ use Rattle.std.specs.Prelude.{ℕ, List, Option}
 use Rattle.vault_port.specs.Files.{Files}
 use Rattle.transcript.specs.Printing.{refusal_of}
 use Rattle.wasm_reader.specs.Held.{Holds}
-use Rattle.host_files.specs.declared.reading.PreparedFault.{PreparedFault}
-use Rattle.host_files.specs.declared.reading.PreparedFault.TheVariants as P
-use Rattle.host_files.specs.Prepared.{IsOfContent, IsUnprepared}
-use Rattle.host_files.specs.declared.fault.FileFault.{FileFault}
-use Rattle.host_files.specs.declared.fault.FileFault.TheVariants.{Memory, Read, Refused}
-use Rattle.host_files.specs.Scripts.{IsNoScript}
+use Rattle.script_setup.specs.declared.reading.PreparedFault.{PreparedFault}
+use Rattle.script_setup.specs.declared.reading.PreparedFault.TheVariants as P
+use Rattle.script_setup.specs.Prepared.{IsOfContent, IsUnprepared}
+use Rattle.script_setup.specs.declared.file_fault.FileFault.{FileFault}
+use Rattle.script_setup.specs.declared.file_fault.FileFault.TheVariants.{Memory, Read, Refused}
+use Rattle.script_setup.specs.Scripts.{IsNoScript}
 
 -- a refusal for which the bytes are no script
 abbrev pub IsNoScriptFor : List ℕ → FileFault → Type 0

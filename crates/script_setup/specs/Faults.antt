@@ -8,9 +8,9 @@ use Rattle.wasm_reader.specs.declared.fault.ModuleFault.{ModuleFault}
 use Rattle.wasm_reader.specs.declared.fault.ModuleFault.TheVariants.{Memory as file_memory, Read as file_read, Refused as file_refused}
 use Rattle.transcript.specs.declared.refusals.RefusalKind.TheVariants.{Malformed, Float, Nesting, Limit}
 use Rattle.transcript.specs.Printing.{refusal_of}
-use Rattle.host_files.specs.declared.reading.PreparedFault.{PreparedFault}
-use Rattle.host_files.specs.declared.reading.PreparedFault.TheVariants.{Memory, Read, Refused}
-use Rattle.host_files.specs.Prepared.{IsUnprepared}
+use Rattle.script_setup.specs.declared.reading.PreparedFault.{PreparedFault}
+use Rattle.script_setup.specs.declared.reading.PreparedFault.TheVariants.{Memory, Read, Refused}
+use Rattle.script_setup.specs.Prepared.{IsUnprepared}
 
 -- want of memory, or a refusal for which the bytes are refused
 abbrev pub IsFaultOf : List ℕ → PreparedFault → Type 0

@@ -1,10 +1,10 @@
 use Rattle.std.proofs.Common.{List, subst, ℕ}
 use Rattle.std.proofs.lemmas.Result.{IfOk-weaker}
 use Rattle.script_reader.specs.Views.{script_of}
-use Rattle.host_files.specs.Scripts.{IsScript}
-use Rattle.host_files.specs.Views.{IsNoScriptFor}
-use Rattle.host_files.proofs.Fronts.{if_err_weaker, no_script_of, script_of_file}
-use Rattle.host_files.proofs.scripts.fetch_script.Goals as goal
+use Rattle.script_setup.specs.Scripts.{IsScript}
+use Rattle.script_setup.specs.FaultViews.{IsNoScriptFor}
+use Rattle.script_setup.proofs.Fronts.{if_err_weaker, no_script_of, script_of_file}
+use Rattle.script_setup.proofs.scripts.fetch_script.Goals as goal
 
 pub returns-clause-script : goal.returns-clause-script
 returns-clause-script g c =

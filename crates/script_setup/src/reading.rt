@@ -9,8 +9,8 @@ ghost use Rattle.wa_types.specs.Sizes.{SizeRule};
 ghost use Rattle.wa_types.specs.View.{module_of};
 ghost use Rattle.wasm_reader.specs.Answers.{IsAccepted};
 ghost use Rattle.wasm_reader.specs.Held.{Holds};
-ghost use Rattle.host_files.specs.Faults.{IsFaultOf, IsOfFile, IsOfRead, IsToldFault};
-ghost use Rattle.host_files.specs.Prepared.{IsPrepared};
+ghost use Rattle.script_setup.specs.Faults.{IsFaultOf, IsOfFile, IsOfRead, IsToldFault};
+ghost use Rattle.script_setup.specs.Prepared.{IsPrepared};
 
 use wasm_reader::{ModuleFault, ReadFault, read_file};
 use std::alloc::Global;

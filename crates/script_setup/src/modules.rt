@@ -6,11 +6,11 @@ ghost use Rattle.vault_port.specs.Counts.{HasRisen};
 ghost use Rattle.vault_port.specs.Files.{IsMissing};
 ghost use Rattle.vault_port.specs.Told.{WhereTold};
 ghost use Rattle.wa_types.specs.View.{module_of};
-ghost use Rattle.host_files.specs.Prepared.{IsPrepared};
+ghost use Rattle.script_setup.specs.Prepared.{IsPrepared};
 ghost use Rattle.wasm_reader.specs.Held.{Holds};
-ghost use Rattle.host_files.specs.Views.{IsContentFault, IsToldUnprepared, file_fault};
+ghost use Rattle.script_setup.specs.FaultViews.{IsContentFault, IsToldUnprepared, file_fault};
 
-use crate::fault::FileFault;
+use crate::file_fault::FileFault;
 use crate::reading::{PreparedFault, prepare};
 use std::alloc::Global;
 use vault_port::Vault;

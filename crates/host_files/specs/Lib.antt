@@ -1,4 +1,0 @@
-pub mod Faults
-pub mod Prepared
-pub mod Scripts
-pub mod Views
