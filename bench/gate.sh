@@ -8,7 +8,7 @@
 # of a crate passes 60 seconds that isn't among those that are known to. The bars hold for a run of all crates.
 . "$(dirname "$0")/common.sh"
 known="asyncify_app asyncify_cli local_spill wasm_build call_frames call_graph live_frames command_words 
-    flatten flow_rewrite frame_sizes func_rewrite gen_command gen_module pause_host
+    flatten flow_rewrite frame_sizes func_rewrite gen_module pause_host
     host_setup interp interp_state script_reader live_locals 
     many_host module_rewrite wa_types wasm_reader script_command 
     script_setup slim_rewrite transform_command transcript  

@@ -11,7 +11,7 @@ use Rattle.script_model.specs.Transcript.{refusal_line, write_fault}
 use Rattle.transcript.specs.Refused.{EndsInMemory, Prints, PrintsMemory}
 use Rattle.transcript.proofs.Printed.{memory_alone}
 use Rattle.gen_module.specs.Generated.{generated}
-use Rattle.gen_command.specs.Printed as G
+use Rattle.asyncify_app.specs.Printed as G
 use Rattle.script_command.specs.declared.way.Way.TheVariants.{Host, Run}
 use Rattle.script_command.proofs.Answering.{one_end}
 use Rattle.script_command.proofs.Ending.{out_of_memory_alone}

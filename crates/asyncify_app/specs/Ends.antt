@@ -11,7 +11,7 @@ use Rattle.script_model.specs.Transcript.{refusal_line, write_fault}
 use Rattle.event_order.specs.Left.{Counted}
 use Rattle.transcript.specs.Refused.{Prints}
 use Rattle.gen_module.specs.Generated.{generated}
-use Rattle.gen_command.specs.Printed as G
+use Rattle.asyncify_app.specs.Printed as G
 use Rattle.script_command.specs.declared.way.Way.{Way}
 use Rattle.script_command.specs.declared.way.Way.TheVariants.{Host, Run}
 use Rattle.script_command.specs.Answers as A

@@ -1,2 +1,6 @@
 pub mod Devices
 pub mod Ends
+pub mod Plans
+pub mod Playing
+pub mod Printed
+pub mod Telling

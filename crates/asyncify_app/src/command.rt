@@ -18,7 +18,7 @@ ghost use Rattle.asyncify_app.specs.Ends.{HasOneEnd, OffScript, OnScript, rewrit
 use crate::playing::play_with;
 use command_words::{Command, WordsFault, read_words};
 use device_port::Device;
-use gen_command::run_generated;
+use crate::generating::run_generated;
 use transcript::{RefusalKind, out_of_memory, refuse};
 use script_command::{Way, run_transform};
 use std::alloc::Global;

@@ -1,4 +1,0 @@
-pub mod Plans
-pub mod Playing
-pub mod Printed
-pub mod Telling
