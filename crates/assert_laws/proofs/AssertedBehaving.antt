@@ -125,8 +125,14 @@ module _ (m : Module) (s : Settings) (which : List Bool) (pieces : (index : ℕ)
     typed = runtime_typed m p written_valid (same.types ∙ em.types) (parts_exported m p (same.imports ∙ em.imports) (same.exports ∙ em.exports) (same.runtime ∙ em.runtime) written_valid)
 
     written_fits : LetsPause plan → L.Fits p plan
-    written_fits lets = plans_fit_parts m p plan valid (record { types = same.types ∙ em.types; imports = same.imports ∙ em.imports; memories = same.memories ∙ em.memories; exports = same.exports
-        ∙ em.exports; sorts = same.sorts ∙ em.sorts }) (given_fits m plan plan_fits lets)
+    written_fits lets = plans_fit_parts m p plan valid (record {
+      types = same.types ∙ em.types;
+      imports = same.imports ∙ em.imports;
+      memories = same.memories ∙ em.memories;
+      exports = same.exports
+          ∙ em.exports;
+      sorts = same.sorts ∙ em.sorts;
+    }) (given_fits m plan plan_fits lets)
 
     area : LetsPause plan → AreaFits p plan.area
     area lets = fits_areas m p plan (same.imports ∙ em.imports) (same.memories ∙ em.memories) (given_fits m plan plan_fits lets)

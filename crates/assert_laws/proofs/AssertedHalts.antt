@@ -259,8 +259,11 @@ module _ (m : Module) (s : Settings) (which : List Bool) (frames : (index : ℕ)
           (arms_law ps 0 body) in
           let same : asserted_guards ask (global_space m) (guarded_of m s which frames x f) ≡ f2 = the_guards (asserted_guards ask (global_space m) (guarded_of m s which frames x f)) f2 e in (
             subst (λ (z : GuardedFunc). ArmsHold z.body) same (arms_too ask (global_space m) (frames x).pieces.units arms),
-            (td, subst (λ (z : GuardedFunc). UnitsNumbered (has_number m s which) z.body) same
-                (units_numbered (has_number m s which) ask (global_space m) (frames x).pieces.units (own_numbered x f is td))),
+            (
+              td,
+              subst (λ (z : GuardedFunc). UnitsNumbered (has_number m s which) z.body) same
+                  (units_numbered (has_number m s which) ask (global_space m) (frames x).pieces.units (own_numbered x f is td)),
+            ),
           )
 
   -- who stands at numbered calls, of slim activations

@@ -16,4 +16,7 @@ mod tested_runs;
 
 pub use laws::guarded_code_is_asserted;
 pub use tested_links::{stretches_are_followed, tests_are_met};
-pub use tested_runs::{answers_go_on, asserted_code_is_tested, calls_begin, steps_are_followed, waiting_stands_at_tests};
+pub use tested_runs::{
+    answers_go_on, asserted_code_is_tested, calls_begin, steps_are_followed,
+    waiting_stands_at_tests,
+};

@@ -15,13 +15,13 @@ ghost use Rattle.host_laws.specs.Supplies.{IsLent};
 ghost use Rattle.asyncify_app.specs.Devices.{counted_boxes};
 ghost use Rattle.asyncify_app.specs.Ends.{HasOneEnd, OffScript, OnScript, rewriting};
 
+use crate::generating::run_generated;
 use crate::playing::play_with;
 use command_words::{Command, WordsFault, read_words};
 use device_port::Device;
-use crate::generating::run_generated;
-use transcript::{RefusalKind, out_of_memory, refuse};
 use script_command::{Way, run_transform};
 use std::alloc::Global;
+use transcript::{RefusalKind, out_of_memory, refuse};
 use vault_port::{Sink, Vault};
 
 /// Runs the command that the words spell, without the program's own name, over a vault of files, a sink for what it prints, and

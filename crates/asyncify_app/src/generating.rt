@@ -13,11 +13,11 @@ ghost use Rattle.gen_module.specs.Generated.{generated};
 ghost use Rattle.asyncify_app.specs.Playing.{PlaysGenerated};
 ghost use Rattle.asyncify_app.specs.Printed.{PrintsGenerated, PrintsLess, RunsOutOfMemory, three_lines};
 
+use crate::generated_runs::play_generated;
 use crate::writing::{GenFault, write_module};
 use gen_module::generate;
-use crate::generated_runs::play_generated;
-use transcript::{out_of_memory, refuse_write};
 use std::alloc::{AllocError, Global};
+use transcript::{out_of_memory, refuse_write};
 use vault_port::{PutFault, Sink, Vault, put_whole};
 
 /// The status of a sink that failed while the lines were printed.

@@ -6,9 +6,9 @@ ghost use Rattle.wa_types.specs.Pausing.{TellsMayPause};
 ghost use Rattle.wa_types.specs.View.{module_of};
 
 use crate::callers::Graph;
-use crate::spread::spread;
-use crate::settings::Settings;
 use crate::imports::listed_imports;
+use crate::settings::Settings;
+use crate::spread::spread;
 use std::alloc::{AllocError, Global};
 use wasm_validate::Valid;
 

@@ -10,5 +10,10 @@
 mod definition_check;
 mod round_trip;
 
-pub use definition_check::{a_float_in_dead_code_is_marked, beginnings_of_a_module, each_file_decided, each_module_decided, files_fail_at_their_places, images, listings, lists, measures, no_images, one_call_image, only_sleeper_pauses, rooms, rules_in_bodies, rules_outside_bodies, saved_locals, valid_modules, verdict_is_typing};
+pub use definition_check::{
+    a_float_in_dead_code_is_marked, beginnings_of_a_module, each_file_decided, each_module_decided,
+    files_fail_at_their_places, images, listings, lists, measures, no_images, one_call_image,
+    only_sleeper_pauses, rooms, rules_in_bodies, rules_outside_bodies, saved_locals, valid_modules,
+    verdict_is_typing,
+};
 pub use round_trip::{AgainFault, read_again, rewrite};

@@ -10,8 +10,8 @@ ghost use Rattle.script_model.specs.Spelled.{spelled};
 ghost use Rattle.command_words.specs.Grammar.{MatchesSpell, line};
 ghost use Rattle.command_words.specs.Line.{bare_line};
 
-use clap::{ArgMatches, Command, Error};
 use crate::shapes::{gen_line, script_line, transform_line};
+use clap::{ArgMatches, Command, Error};
 use std::alloc::{AllocError, Global};
 
 /// What `clap` makes of the words. An error other than want of memory says that they spell nothing.

@@ -8,11 +8,11 @@ ghost use Rattle.command_words.specs.Grammar.{MatchesSpell};
 ghost use Rattle.command_words.specs.Words.{HasFewFunctions, Reads, spelled_of};
 
 use crate::files::{generate_from, script_from};
+use crate::line::parse_line;
 use crate::matches::parse_fault;
 use crate::transforms::transform_from;
 use call_graph::Settings;
 use clap::ArgMatches;
-use crate::line::parse_line;
 use std::alloc::Global;
 use thiserror::Error;
 

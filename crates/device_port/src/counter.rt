@@ -5,8 +5,8 @@ ghost use Rattle.device_port.specs.Journals.{entry, with_entry};
 ghost use Rattle.device_port.specs.Answers.{counted};
 ghost use Rattle.device_port.specs.Kept.{asked_of};
 
-use crate::journal::{Asked, Journal};
 use crate::device::{Device, DeviceFail, Reply};
+use crate::journal::{Asked, Journal};
 use std::alloc::Global;
 use wa_types::{Name, Value};
 

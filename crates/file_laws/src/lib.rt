@@ -16,6 +16,9 @@ mod mark_laws;
 mod marks;
 
 pub use floats::{is_float_op, is_float_type};
-pub use laws::{beginnings_are_begun, cut_preambles_fail, faults_spell_nothing, one_file_is_spelled, one_module_is_spelled, spelled_is_well_formed, whole_is_spelled, written_is_spelled};
+pub use laws::{
+    beginnings_are_begun, cut_preambles_fail, faults_spell_nothing, one_file_is_spelled,
+    one_module_is_spelled, spelled_is_well_formed, whole_is_spelled, written_is_spelled,
+};
 pub use mark_laws::items_show_the_sections;
 pub use marks::Marks;

@@ -10,12 +10,12 @@ ghost use Rattle.wa_types.specs.Leaves.{is_leaf};
 ghost use Rattle.wasm_validate.specs.Walk.{Stays, TypedAt};
 ghost use Rattle.flatten.specs.Emitting.{flat_at, Put, Ready, SmallTypes};
 
-use crate::constructs::{close, open, put_block, put_if, put_loop, restart};
-use crate::position::{Position, pop_slot, put_carry, top_slot};
-use crate::leaves::{basic_result, put_basic, put_br_if, put_get, put_set, put_tee};
 use crate::calls::{put_call, put_call_indirect};
+use crate::constructs::{close, open, put_block, put_if, put_loop, restart};
 use crate::jumps::put_last;
+use crate::leaves::{basic_result, put_basic, put_br_if, put_get, put_set, put_tee};
 use crate::numbers::Names;
+use crate::position::{Position, pop_slot, put_carry, top_slot};
 use std::alloc::AllocError;
 use wa_model::Stmt;
 use wa_types::Instr;

@@ -9,8 +9,8 @@ ghost use Rattle.wasm_validate.specs.Walk.{TypedAt};
 ghost use Rattle.flatten.specs.Emitting.{CallAt, Put, Ready, SmallTypes};
 
 use crate::leaves::put_to;
-use crate::position::Position;
 use crate::numbers::Names;
+use crate::position::Position;
 use std::alloc::AllocError;
 use wa_model::Stmt;
 use wa_types::{Instr, copy_leaf};

@@ -7,8 +7,8 @@ ghost use Rattle.wa_types.specs.Leaves.{is_leaf};
 ghost use Rattle.wasm_validate.specs.Walk.{left_at, Inside, TypedAt};
 ghost use Rattle.flatten.specs.Emitting.{result_at, ArrivesAt, Closed, PutBlock, PutIf, PutLoop};
 
-use crate::position::{Position, push_slot};
 use crate::numbers::Names;
+use crate::position::{Position, push_slot};
 use std::alloc::AllocError;
 use wa_model::{Operand, Stmt};
 use wa_types::{Instr, ValType};

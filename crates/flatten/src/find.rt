@@ -7,9 +7,9 @@ ghost use Rattle.wasm_validate.specs.Walk.{TypedAt};
 ghost use Rattle.flatten.specs.Emitting.{SmallTypes};
 ghost use Rattle.flatten.specs.Surveying.{names_at};
 
-use crate::survey::{Found, survey_body, visit_result};
-use crate::numbers::Names;
 use crate::marks::numbered;
+use crate::numbers::Names;
+use crate::survey::{Found, survey_body, visit_result};
 use std::alloc::{AllocError, Global};
 use wa_types::{Instr, ValType};
 use wasm_validate::Typing;

@@ -9,8 +9,8 @@ ghost use Rattle.wasm_validate.specs.Walk.{TypedAt};
 ghost use Rattle.flatten.specs.Emitting.{all_carried, onto_stmts, PutLast, Ready};
 ghost use Rattle.run_theory.specs.Flat.{Stmts};
 
-use crate::position::{Position, put_carry, top_slot};
 use crate::numbers::Names;
+use crate::position::{Position, put_carry, top_slot};
 use std::alloc::AllocError;
 use wa_model::{Operand, Stmt};
 use wa_types::Instr;

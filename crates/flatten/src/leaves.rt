@@ -11,8 +11,8 @@ ghost use Rattle.flat_laws.specs.Flatten.{slots, top_of};
 ghost use Rattle.wa_model.specs.Store.{gives};
 ghost use Rattle.wa_model.specs.declared.flat.Operand.TheVariants.{Local};
 
-use crate::position::{Position, pop_slot, push_slot, put_carry, top_slot};
 use crate::numbers::Names;
+use crate::position::{Position, pop_slot, push_slot, put_carry, top_slot};
 use std::alloc::{AllocError, Global};
 use wa_model::{Operand, Stmt};
 use wa_types::{Instr, copy_leaf};

@@ -9,8 +9,8 @@ ghost use Rattle.flatten.specs.Emitting.{flat_at, Ready, SmallTypes};
 
 use crate::body::body_stmts;
 use crate::constructs::label_local;
-use crate::position::Position;
 use crate::numbers::Names;
+use crate::position::Position;
 use std::alloc::{AllocError, Global};
 use wa_model::Stmt;
 use wa_types::{Instr, ValType};

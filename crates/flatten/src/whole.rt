@@ -8,11 +8,11 @@ ghost use Rattle.wa_types.specs.Syntax.{Func as PlainFunc};
 ghost use Rattle.wa_types.specs.View.{module_of};
 ghost use Rattle.flatten.specs.Whole.{FlatAnswer, Flattens};
 
-use crate::fault::FlatFault;
-use crate::locals::{all_locals, count_runs};
-use crate::find::find_names;
-use crate::start::flat_body;
 use crate::constructs::label_local;
+use crate::fault::FlatFault;
+use crate::find::find_names;
+use crate::locals::{all_locals, count_runs};
+use crate::start::flat_body;
 use std::alloc::{AllocError, Global};
 use wa_model::{FlatFunc, FlatModule};
 use wa_types::{FuncType, ValType};

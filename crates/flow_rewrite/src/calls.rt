@@ -13,10 +13,10 @@ ghost use Rattle.flow_rewrite.specs.Exits.{exit_of, LabelBelow};
 ghost use Rattle.flow_rewrite.specs.UnitView.{callee_of};
 
 use crate::exits::ExitTo;
+use crate::guards::{Guards, put_guarded};
+use crate::labels::{put_raised, raised};
 use crate::pieces::Target;
 use crate::put::{put_index, put_noted, put_slots, put_test, put_to};
-use crate::labels::{put_raised, raised};
-use crate::guards::{Guards, put_guarded};
 use std::alloc::AllocError;
 use wa_types::{Instr, NumOp};
 

@@ -10,10 +10,10 @@ ghost use Rattle.flow_rewrite.specs.CallsEmitting.{indices};
 ghost use Rattle.flow_rewrite.specs.Fronts.{condition_code};
 ghost use Rattle.flow_rewrite.specs.UnitView.{units_of};
 
+use crate::guards::Guards;
+use crate::labels::raised;
 use crate::pieces::Unit;
 use crate::put::{put_index, put_operand, put_test};
-use crate::labels::raised;
-use crate::guards::Guards;
 use std::alloc::AllocError;
 use wa_model::Operand;
 use wa_types::{Instr, NumOp, ValType, Value};

@@ -8,9 +8,9 @@ ghost use Rattle.run_theory.specs.FlatView.{stmts};
 ghost use Rattle.flow_rewrite.specs.Statements.{Fits};
 ghost use Rattle.flow_rewrite.specs.CallsEmitting.{choice_code, indices, Good, IsPart, Stepped};
 
-use crate::put::{put_index, put_operand, put_test};
-use crate::labels::raised;
 use crate::guards::{Guards, put_guarded};
+use crate::labels::raised;
+use crate::put::{put_index, put_operand, put_test};
 use crate::sequence::{Part, Sequence, settle};
 use std::alloc::AllocError;
 use wa_model::{Operand, Stmt};

@@ -13,9 +13,9 @@ ghost use Rattle.guard_form.specs.Pieces.{call_total};
 ghost use Rattle.flow_rewrite.specs.Raising.{Raisable};
 ghost use Rattle.flow_rewrite.specs.CallsEmitting.{indices, Rises};
 
-use crate::write::write_sequence;
 use crate::guards::{Guards, put_guarded};
 use crate::sequence::Part;
+use crate::write::write_sequence;
 use std::alloc::{AllocError, Global};
 use wa_model::FlatFunc;
 use wa_types::{Instr, ValType};

@@ -8,8 +8,8 @@ ghost use Rattle.flow_rewrite.specs.Putting.{Puts};
 ghost use Rattle.flow_rewrite.specs.CallsEmitting.{indices, Rises};
 ghost use Rattle.flow_rewrite.specs.Raising.{Raisable};
 
-use crate::put::put_test;
 use crate::labels::raised;
+use crate::put::put_test;
 use std::alloc::{AllocError, Global};
 use wa_types::Instr;
 

@@ -14,11 +14,11 @@ ghost use Rattle.flow_rewrite.specs.UnitView.{unit_in_front, units_of};
 use crate::calls::put_call;
 use crate::conditions::put_condition;
 use crate::exits::{ExitTo, at_call, inside_block, inside_loop};
-use crate::pieces::{Pieces, Unit};
-use crate::labels::put_raised;
 use crate::guards::{Guards, put_guarded};
-use wa_types::{Instr, copy_body};
+use crate::labels::put_raised;
+use crate::pieces::{Pieces, Unit};
 use std::alloc::AllocError;
+use wa_types::{Instr, copy_body};
 
 /// The code of a sequence, and the number of the next numbered call.
 #[derive(Drop)]

@@ -10,9 +10,9 @@ ghost use Rattle.flow_rewrite.specs.Statements.{Fits};
 ghost use Rattle.flow_rewrite.specs.CallsEmitting.{Good, Rises, Stepped};
 
 use crate::guards::{Guards, is_numbered};
-use crate::sequence::{Sequence, settle};
-use crate::put::{put_copy, put_index, put_noted, put_slots, put_test, put_to};
 use crate::labels::raised;
+use crate::put::{put_copy, put_index, put_noted, put_slots, put_test, put_to};
+use crate::sequence::{Sequence, settle};
 use std::alloc::AllocError;
 use wa_types::{Instr, NumOp};
 

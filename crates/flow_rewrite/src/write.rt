@@ -7,11 +7,11 @@ ghost use Rattle.flow_rewrite.specs.Statements.{one_code, IsSimple};
 ghost use Rattle.flow_rewrite.specs.Putting.{Puts};
 ghost use Rattle.flow_rewrite.specs.CallsEmitting.{indices, IsPart, Ready, ReadyAt, Stepped};
 
-use crate::put::{put_copy, put_operand, put_operands, put_to};
+use crate::constructs::{put_block, put_if, put_loop};
 use crate::guards::Guards;
+use crate::put::{put_copy, put_operand, put_operands, put_to};
 use crate::sequence::{Part, Sequence, finish};
 use crate::units::put_call;
-use crate::constructs::{put_block, put_if, put_loop};
 use std::alloc::{AllocError, Global};
 use wa_model::Stmt;
 use wa_types::Instr;

@@ -11,11 +11,11 @@ ghost use Rattle.frame_sizes.specs.Frames.{keep_local, keep_slot, places_of, sus
 ghost use Rattle.frame_sizes.specs.Points.{lists_of};
 ghost use Rattle.frame_sizes.specs.Slots.{pair_of, pairs_of};
 
-use crate::locals::locals;
-use call_graph::Policy;
 use crate::liveness::is_live_behind;
-use crate::slot_pairs::{Pair, slots, stands_in};
+use crate::locals::locals;
 use crate::points::{Visits, visit_body};
+use crate::slot_pairs::{Pair, slots, stands_in};
+use call_graph::Policy;
 use std::alloc::{AllocError, Global};
 use wa_types::{ImportKind, Instr, Module, ValType, prune};
 use wasm_validate::{Typing, Valid};

@@ -11,15 +11,15 @@ ghost use Rattle.rewrite_form.specs.Emitted.{IsAllWritten};
 ghost use Rattle.func_rewrite.specs.Frames.{IsFlattened, FramesUnder};
 
 use crate::body::written_body;
+use crate::frames::{call_frames, chosen_frame, saved_places};
+use crate::kept::kept_locals;
 use crate::locals::written_locals;
 use call_graph::Settings;
 use flatten::Flattened;
+use flow_rewrite::number_calls;
 use local_spill::{Layout, RuntimeIds, layout};
 use std::alloc::{AllocError, Global};
 use wa_types::{Func, Module};
-use crate::frames::{call_frames, chosen_frame, saved_places};
-use crate::kept::kept_locals;
-use flow_rewrite::number_calls;
 
 /// A function as it is written, and the frames of its numbered calls.
 #[derive(Drop)]

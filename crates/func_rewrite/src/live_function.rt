@@ -21,14 +21,14 @@ ghost use Rattle.call_frames.specs.Classes.{FewParts};
 ghost use Rattle.call_frames.specs.Views.{parts_view, told_frames};
 ghost use Rattle.func_rewrite.specs.Calls.{AreLiveCalls};
 
+use crate::body::{body_around, unless_normal};
 use crate::calls::{LiveCalls, live_calls};
+use crate::function::Written;
 use crate::layouts::set_layouts;
+use crate::locals::written_locals;
 use call_frames::{FrameParts, saved_parts};
 use call_graph::Settings;
 use flatten::Flattened;
-use crate::function::Written;
-use crate::body::{body_around, unless_normal};
-use crate::locals::written_locals;
 use live_frames::{restoring, saving};
 use local_spill::{Layout, RuntimeIds};
 use std::alloc::{AllocError, Global};

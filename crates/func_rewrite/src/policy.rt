@@ -10,10 +10,10 @@ ghost use Rattle.local_spill.specs.Ids.{ids_behind};
 ghost use Rattle.func_rewrite.specs.Frames.{FramesOf, IsFlattened};
 ghost use Rattle.live_laws.specs.EmittedAs.{IsWritten};
 
+use crate::function::{Written, emit_func, write_func};
 use crate::live_function::{emit_live_func, write_live_func};
 use call_graph::{Policy, Settings};
 use flatten::Flattened;
-use crate::function::{Written, emit_func, write_func};
 use local_spill::RuntimeIds;
 use std::alloc::{AllocError, Global};
 use wa_types::{Func, Module};

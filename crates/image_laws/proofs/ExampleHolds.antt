@@ -43,9 +43,55 @@ area_bytes : (free : ℕ) → free < 256 → All byte_in (area_of 0x18 7 8 free 
 area_bytes free lt =
     let zero_in : 0 < 256 = omega arith in let four_in : 4 < 256 = omega arith in
     let low : 0x18 < 256 = omega arith in let end : 0x40 < 256 = omega arith in let seven_in : 7 < 256 = omega arith in let eight_in : 8 < 256 = omega arith in
-    All-from_recursion byte_in (area_of 0x18 7 8 free 0)
-    (low, (four_in, (zero_in, (zero_in, (end, (four_in, (zero_in, (zero_in, (seven_in, (zero_in, (zero_in, (zero_in, (eight_in, (zero_in, (zero_in, (zero_in,
-    (lt, (lt, (lt, (lt, (zero_in, (zero_in, (zero_in, (zero_in, recursion_from_All byte_in (replicate 40 free) (All-replicate byte_in 40 free lt)))))))))))))))))))))))))
+    All-from_recursion byte_in (area_of 0x18 7 8 free 0) (
+      low,
+      (
+        four_in,
+        (
+          zero_in,
+          (
+            zero_in,
+            (
+              end,
+              (
+                four_in,
+                (
+                  zero_in,
+                  (
+                    zero_in,
+                    (
+                      seven_in,
+                      (
+                        zero_in,
+                        (
+                          zero_in,
+                          (
+                            zero_in,
+                            (
+                              eight_in,
+                              (
+                                zero_in,
+                                (
+                                  zero_in,
+                                  (
+                                    zero_in,
+                                    (lt, (lt, (lt, (lt, (zero_in, (zero_in, (zero_in, (zero_in, recursion_from_All byte_in (replicate 40 free) (All-replicate byte_in 40 free lt))))))))),
+                                  ),
+                                ),
+                              ),
+                            ),
+                          ),
+                        ),
+                      ),
+                    ),
+                  ),
+                ),
+              ),
+            ),
+          ),
+        ),
+      ),
+    )
 
 same_below : (area area2 above : List ℕ) (x : ℕ) → x < 1024 → slice_get (page_of area above) x ≡ slice_get (page_of area2 above) x
 same_below area area2 above x lt =

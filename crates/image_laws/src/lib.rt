@@ -16,5 +16,8 @@
 mod laws;
 mod unpaused_runs;
 
-pub use laws::{bounds_join, entry_is_numbered, image_goes_on, one_saves_another_goes_on, pauses_hold, stores_hold_a_pause, whole_bound};
+pub use laws::{
+    bounds_join, entry_is_numbered, image_goes_on, one_saves_another_goes_on, pauses_hold,
+    stores_hold_a_pause, whole_bound,
+};
 pub use unpaused_runs::{emitted_modules_run_unpaused, modules_run_unpaused};

@@ -13,10 +13,10 @@ ghost use Rattle.interp.specs.WaitRooms.{WaitRoom};
 ghost use Rattle.interp.specs.Runs.{LacksAt};
 ghost use Rattle.interp_state.specs.View.{store_of, running_of};
 
+use crate::calls::{args_of, enter};
 use crate::run::{Steps, Stop, pay, run};
 use crate::turns::{Turn, Wait};
 use interp_state::{Program, Stack, Store};
-use crate::calls::{args_of, enter};
 use std::alloc::AllocError;
 use wa_model::Call;
 use wa_types::Value;

@@ -11,11 +11,14 @@ ghost use Rattle.wa_types.specs.Validity.{Valid};
 ghost use Rattle.run_theory.specs.Fitting.{Fits, NextFits};
 ghost use Rattle.interp_state.specs.View.{store_of, running_of};
 
-use crate::calls::{call, call_indirect};
 use crate::branches::{branch_by, branch_if, enter_arm, enter_block, enter_loop};
+use crate::calls::{call, call_indirect};
 use crate::control::{finish, jump, leave};
 use crate::locals::{get_local, set_local, tee_local};
-use interp_state::{Flow, Program, Stack, Store, choose, constant, drop_top, get_global, load_at, memory_grow, memory_size, numeric, set_global, store_at};
+use interp_state::{
+    Flow, Program, Stack, Store, choose, constant, drop_top, get_global, load_at, memory_grow,
+    memory_size, numeric, set_global, store_at,
+};
 use std::alloc::AllocError;
 use wa_types::{Instr, Trap};
 

@@ -10,8 +10,8 @@ ghost use Rattle.interp.specs.StackRooms.{StackRoom};
 ghost use Rattle.interp.specs.Runs.{LacksAt, RunsTo};
 ghost use Rattle.interp_state.specs.View.{store_of, running_of};
 
-use interp_state::{Flow, Program, Stack, Store};
 use crate::reducing::reduce;
+use interp_state::{Flow, Program, Stack, Store};
 use std::alloc::AllocError;
 use wa_types::{Trap, Value};
 

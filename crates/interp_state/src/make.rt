@@ -10,9 +10,9 @@ ghost use Rattle.interp_state.specs.Faults.{FailsAs};
 ghost use Rattle.interp_state.specs.View.{store_of};
 
 use crate::segments::{defined_values, elem_out, put_elems, put_segments, segment_out};
-use page_memory::Pages;
-use crate::store::Store;
 use crate::spaces::all_tables;
+use crate::store::Store;
+use page_memory::Pages;
 use std::alloc::{AllocError, Global};
 use thiserror::Error;
 use wa_types::{Limits, Module, Value};

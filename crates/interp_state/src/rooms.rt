@@ -9,8 +9,8 @@ ghost use Rattle.run_theory.specs.Heights.{behind, most_operands};
 ghost use Rattle.interp_state.specs.Rooms.{room_at, HasFewInstrs};
 
 use crate::types::{func_params, func_results, sort_params, sort_results};
-use wa_ops::operand_count;
 use std::alloc::{AllocError, Global};
+use wa_ops::operand_count;
 use wa_types::{Func, Instr, Module, depth};
 
 /// What an activation reserves: the greatest height of its operands, and the greatest depth of its labels.

@@ -5,8 +5,8 @@ ghost use Rattle.wa_types.specs.View.{code};
 ghost use Rattle.wa_model.specs.Instantiation.{constant_value, place_at, first_out, put_piece, put_pieces};
 ghost use Rattle.interp_state.specs.Making.{elem_piece_of, byte_piece_of, value_of_global};
 
-use page_memory::Pages;
 use crate::values::value_at;
+use page_memory::Pages;
 use std::alloc::{AllocError, Global};
 use wa_types::{Elem, GlobalDef, Instr, Segment, Value};
 

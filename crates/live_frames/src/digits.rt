@@ -8,8 +8,8 @@ ghost use Rattle.call_frames.specs.Views.{part_view, part_views};
 ghost use Rattle.live_frames.specs.Digits.{HoldSums, plane_views, size_in, Sums, summed};
 
 use crate::fields::size_of;
-use call_frames::KeptPart;
 use crate::words::calls_end;
+use call_frames::KeptPart;
 use std::alloc::{AllocError, Global};
 
 /// The bytes of a call's frame so far, and the number of the part that was added last.

@@ -10,10 +10,10 @@ ghost use Rattle.local_spill.specs.Putting.{Puts};
 ghost use Rattle.call_frames.specs.Classes.{FewParts, part_fields};
 ghost use Rattle.call_frames.specs.Views.{fields_of, part_view, part_views};
 
-use crate::putting::{field_at, put_scratch_moved};
-use call_frames::{KeptLocal, KeptPart};
 use crate::fields::{shared_in, size_of};
+use crate::putting::{field_at, put_scratch_moved};
 use crate::testing::put_under_test;
+use call_frames::{KeptLocal, KeptPart};
 use local_spill::{put_loaded, width};
 use std::alloc::{AllocError, Global};
 use wa_types::{Instr, NumOp};

@@ -6,9 +6,9 @@ ghost use Rattle.call_frames.specs.Views.{part_view, part_views};
 ghost use Rattle.live_frames.specs.Rows.{saturated};
 ghost use Rattle.live_frames.specs.Digits.{plane_views};
 
+use crate::counting::calls_size;
 use crate::digits::Plane;
 use call_frames::KeptPart;
-use crate::counting::calls_size;
 
 /// How many instructions add what these calls add.
 fn weight_size(calls: &[u32]) -> u64

@@ -8,12 +8,12 @@ ghost use Rattle.call_frames.specs.PlainFrames.{frames_of};
 ghost use Rattle.call_frames.specs.Classes.{FewParts};
 ghost use Rattle.call_frames.specs.Views.{parts_view, told_frames};
 
+use crate::fields::shared_of;
 use crate::loading::put_parts_loaded;
 use crate::locating::{put_index_loaded, put_location_lowered, put_location_noted, put_room_test};
+use crate::sizing::put_size;
 use crate::storing::put_parts_stored;
 use call_frames::FrameParts;
-use crate::sizing::put_size;
-use crate::fields::shared_of;
 use local_spill::{Place, put_location_raised, put_stored};
 use std::alloc::{AllocError, Global};
 use wa_types::{Instr, ValType};

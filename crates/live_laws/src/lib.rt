@@ -35,8 +35,17 @@ mod stacks_again;
 pub use laws::{live_locals_stand, live_locals_suffice};
 pub use live_bytes::{live_modules_are_prepared, live_modules_are_short, live_modules_are_spelled};
 pub use live_emitted::{frames_by_call_are_live, live_emitted_behave};
-pub use live_modules::{live_module_is_rewritten, live_module_is_valid, live_module_is_well_formed, live_module_keeps_sizes, live_module_rewrites};
-pub use policies::{emitted_behaves_given, emitted_differ_in_code, emitted_is_rewritten, emitted_is_valid, emitted_keeps_sizes, emitted_reads_few, emitted_rewrites, functions_are_emitted, written_reads_few};
-pub use policy_bytes::{emitted_is_prepared, emitted_is_short, emitted_is_spelled, written_functions_are_short};
+pub use live_modules::{
+    live_module_is_rewritten, live_module_is_valid, live_module_is_well_formed,
+    live_module_keeps_sizes, live_module_rewrites,
+};
+pub use policies::{
+    emitted_behaves_given, emitted_differ_in_code, emitted_is_rewritten, emitted_is_valid,
+    emitted_keeps_sizes, emitted_reads_few, emitted_rewrites, functions_are_emitted,
+    written_reads_few,
+};
+pub use policy_bytes::{
+    emitted_is_prepared, emitted_is_short, emitted_is_spelled, written_functions_are_short,
+};
 pub use prepared_modules::emitted_modules_are_prepared;
 pub use stacks_again::{live_comes_back, live_stacks_come_back};

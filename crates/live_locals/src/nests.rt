@@ -10,8 +10,8 @@ ghost use Rattle.live_locals.specs.Sets.{told_by, Passed, TellsBefore};
 ghost use Rattle.live_locals.specs.Heads.{loop_total};
 ghost use Rattle.live_locals.specs.Nests.{AtLoop, Enters, Nest};
 
-use crate::passes::pass_stmt;
 use crate::levels::{broadcast, entered, met};
+use crate::passes::pass_stmt;
 use crate::sizes::loop_sizes;
 use crate::word_passes::pass_stmt as pass_words;
 use std::alloc::{AllocError, Global};

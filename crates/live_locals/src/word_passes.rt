@@ -8,8 +8,8 @@ ghost use Rattle.live_locals.specs.Heads.{Fresh, HeadsPut, LabelPut, OwnLabelPut
 ghost use Rattle.live_locals.specs.Words.{WordsPassed};
 
 use crate::levels::{inside, label_told, leave};
-use crate::word_sets::{copied, join, read_operand};
 use crate::sizes::{is_kept, size_at};
+use crate::word_sets::{copied, join, read_operand};
 use crate::word_steps::pass_simple;
 use std::alloc::{AllocError, Global};
 use wa_model::Stmt;

@@ -8,7 +8,10 @@ ghost use Rattle.run_theory.specs.FlatView.{stmt_in_front};
 ghost use Rattle.live_locals.specs.Ops.{HoldsNone, IsComputation, OpsFit};
 ghost use Rattle.live_locals.specs.Words.{WordsBefore, WordsTell};
 
-use crate::word_sets::{empty, join_label, join_labels, read, read_operand, read_operands, read_slots, write, write_told};
+use crate::word_sets::{
+    empty, join_label, join_labels, read, read_operand, read_operands, read_slots, write,
+    write_told,
+};
 use wa_model::{Operand, Stmt};
 use wa_types::Instr;
 

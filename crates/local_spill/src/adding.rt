@@ -10,9 +10,9 @@ ghost use Rattle.local_spill.specs.Ids.{ids_behind};
 ghost use Rattle.local_spill.specs.Reserved.{reserved_at};
 ghost use Rattle.local_spill.specs.declared.adding.RuntimeFault.TheVariants.{Reserved};
 
-use crate::reserving::{ReservedAt, reserved};
 use crate::RuntimeIds;
 use crate::putting::put_all;
+use crate::reserving::{ReservedAt, reserved};
 use std::alloc::{AllocError, Global};
 use thiserror::Error;
 use wa_types::{

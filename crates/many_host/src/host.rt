@@ -11,11 +11,11 @@ ghost use Rattle.many_host.specs.Standing.{InRange, LooksOut};
 ghost use Rattle.many_host.specs.Hosts.{AreSetUp, HostNext, HostTold};
 
 use crate::hosted::Hosted;
+use crate::turn_taking::Turns;
 use device_port::Devices;
 use event_order::Show;
 use pause_host::Program;
 use std::alloc::{AllocError, Global};
-use crate::turn_taking::Turns;
 use wa_model::{Detach, Line};
 
 /// Several programs on one thread.

@@ -1,9 +1,9 @@
 //! A program of a host, as one that takes turns.
 
+use crate::teller::Teller;
 use device_port::Devices;
 use pause_host::Program;
 use std::alloc::AllocError;
-use crate::teller::Teller;
 use wa_model::Event;
 
 /// A program of a host.

@@ -10,11 +10,11 @@ ghost use Rattle.call_graph.specs.Settings.{settings_of};
 ghost use Rattle.module_rewrite.specs.declared.byte_fault.EmitFault.TheVariants.{Memory};
 ghost use Rattle.module_rewrite.specs.WholeBytes.{EmitsModule};
 
-use crate::entries::{emit_funcs, put_funcs};
 use crate::byte_fault::EmitFault;
-use local_spill::{RuntimeFault, add_runtime, ids_behind};
+use crate::entries::{emit_funcs, put_funcs};
 use bytes::BytesMut;
 use call_graph::{Settings, listed_imports, may_pause};
+use local_spill::{RuntimeFault, add_runtime, ids_behind};
 use std::alloc::Global;
 use wa_types::Module;
 use wasm_encode::encode_around;

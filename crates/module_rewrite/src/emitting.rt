@@ -15,8 +15,8 @@ use crate::fault::RewriteFault;
 use call_graph::Settings;
 use func_rewrite::{Flattened, flatten_func, write_by_policy};
 use local_spill::{Layout, RuntimeIds};
-use wa_types::{Func, Module, copy_func};
 use std::alloc::{AllocError, Global};
+use wa_types::{Func, Module, copy_func};
 use wasm_validate::Valid;
 
 /// The frames of the numbered calls of a function, in order.

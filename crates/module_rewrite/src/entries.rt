@@ -21,8 +21,8 @@ ghost use Rattle.module_rewrite.specs.EmittingEntries.{value_entries, Emits, Put
 use crate::byte_fault::EmitFault;
 use bytes::BytesMut;
 use call_graph::Settings;
-use local_spill::RuntimeIds;
 use func_rewrite::{Flattened, emit_by_policy, flatten_func};
+use local_spill::RuntimeIds;
 use std::alloc::{AllocError, Global};
 use wa_types::{Func, Module};
 use wasm_encode::put_func;

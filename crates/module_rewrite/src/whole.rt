@@ -12,10 +12,10 @@ ghost use Rattle.module_rewrite.specs.Whole.{Asyncifies};
 
 use crate::emitting::{FuncLayout, emit_funcs};
 use crate::fault::RewriteFault;
-use local_spill::{RuntimeFault, add_runtime, ids_behind, reserved};
 use call_graph::{Settings, listed_imports, may_pause};
-use wa_types::{Module, copy_around};
+use local_spill::{RuntimeFault, add_runtime, ids_behind, reserved};
 use std::alloc::Global;
+use wa_types::{Module, copy_around};
 use wasm_validate::{Valid, ValidateFault, validate};
 
 /// A module as it is rewritten, the frames of the functions that may pause, in index order, and which these are, by one answer

@@ -9,9 +9,9 @@ ghost use Rattle.host_laws.specs.Supplies.{Answers};
 ghost use Rattle.pause_host.specs.Moves.{IsSetting};
 ghost use Rattle.pause_host.specs.Views.{supply_in};
 
+use crate::stages::{HostImport, Setting};
 use device_port::Devices;
 use host_laws::{Met, device_outcome, next_answer};
-use crate::stages::{HostImport, Setting};
 use std::alloc::AllocError;
 use std::collections::VecDeque;
 use wa_model::{AnswerLine, Call};

@@ -5,8 +5,8 @@ ghost use Rattle.host_setup.specs.Views.{entry_of as named_of};
 ghost use Rattle.pause_host.specs.Views.{entry_of};
 ghost use Rattle.pause_host.specs.Settings.{calls_of};
 
-use host_setup::Entry;
 use crate::stages::EntryCall;
+use host_setup::Entry;
 use std::alloc::{AllocError, Global};
 use std::collections::VecDeque;
 

@@ -7,12 +7,12 @@ ghost use Rattle.interp.specs.Host.{code_in, store_in, waits_in};
 ghost use Rattle.pause_host.specs.Moves.{ComesFrom, HasShortPokes, IsSetting, PlaceFits};
 ghost use Rattle.pause_host.specs.Views.{end_of, left_of, lines_in, place_in, supply_in};
 
-use crate::running::{call_next, give, tell_answer};
-use device_port::Devices;
-use crate::rewinding::rewind;
-use crate::unwinding::unwind;
-use crate::stages::{Left, Moved, Setting, Stage};
 use crate::ends::ended;
+use crate::rewinding::rewind;
+use crate::running::{call_next, give, tell_answer};
+use crate::stages::{Left, Moved, Setting, Stage};
+use crate::unwinding::unwind;
+use device_port::Devices;
 use interp::{Instance, Steps};
 use std::alloc::AllocError;
 use std::collections::VecDeque;

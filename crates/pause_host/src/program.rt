@@ -4,16 +4,16 @@ ghost use Rattle.std.specs.Prelude.{◌≡◌, ◌<◌, ◌≤◌, ◌+◌, ◌+
 ghost use Rattle.std.specs.Option.{option_copied};
 ghost use Rattle.wa_model.specs.World.{bytes_shown};
 
-use crate::plan::Plan;
-use device_port::Devices;
-use crate::events::next_event;
-use crate::running::start;
-use host_setup::{SetupFault, set_up};
-use crate::stages::{Left, Setting, Stage};
 use crate::ends::copy_end;
-use interp::{Instance, MakeFault, Steps};
 use crate::entries::entry_calls;
+use crate::events::next_event;
+use crate::plan::Plan;
+use crate::running::start;
 use crate::setting::setting_of;
+use crate::stages::{Left, Setting, Stage};
+use device_port::Devices;
+use host_setup::{SetupFault, set_up};
+use interp::{Instance, MakeFault, Steps};
 use std::alloc::{AllocError, Global};
 use std::collections::VecDeque;
 use std::mem;

@@ -15,10 +15,10 @@ ghost use Rattle.host_laws.specs.Supplies.{Supply};
 ghost use Rattle.pause_host.specs.Moves.{Comes, IsSetting};
 ghost use Rattle.pause_host.specs.Views.{entry_of, rewinding};
 
-use crate::exports::{Exported, Work, call_export, is_state, trap_end};
-use crate::stages::{Moved, Pause, Setting, Stage, Task};
 use crate::ends::ended;
+use crate::exports::{Exported, Work, call_export, is_state, trap_end};
 use crate::memory::write_pokes;
+use crate::stages::{Moved, Pause, Setting, Stage, Task};
 use interp::{Instance, Steps, Turn};
 use std::alloc::AllocError;
 use wa_model::{End, Event};

@@ -17,11 +17,11 @@ ghost use Rattle.pause_host.specs.Moves.{Asks, Comes, ComesFrom, HasShortPokes, 
 ghost use Rattle.pause_host.specs.Views.{entry_of, free_place, left_of, lines_in, place_in, stage_after, stage_told, starts, supply_in};
 
 use crate::asking::next_outcome;
-use device_port::Devices;
-use host_laws::{Met, answer_fault};
-use crate::stages::{EntryCall, HostImport, Left, Moved, Pause, Setting, Stage, Task};
 use crate::ends::ended;
 use crate::memory::write_pokes;
+use crate::stages::{EntryCall, HostImport, Left, Moved, Pause, Setting, Stage, Task};
+use device_port::Devices;
+use host_laws::{Met, answer_fault};
 use interp::{Instance, Steps, Turn};
 use std::alloc::AllocError;
 use std::collections::VecDeque;

@@ -17,10 +17,10 @@ ghost use Rattle.host_laws.specs.Supplies.{Supply};
 ghost use Rattle.pause_host.specs.Moves.{Comes, ComesFrom, IsSetting, PlaceFits};
 ghost use Rattle.pause_host.specs.Views.{entry_of, pausing, unwinding};
 
-use crate::exports::{Exported, Work, call_export, is_state, trap_end};
-use crate::stages::{Moved, Pause, Setting, Stage};
 use crate::ends::ended;
+use crate::exports::{Exported, Work, call_export, is_state, trap_end};
 use crate::memory::{used_of, write_words};
+use crate::stages::{Moved, Pause, Setting, Stage};
 use interp::{Instance, Steps, Turn};
 use std::alloc::AllocError;
 use wa_model::{End, Event};

@@ -37,11 +37,24 @@ mod stretch_laws;
 mod suspended_stacks;
 mod touch_laws;
 
-pub use by_hand::{frames_cut_numbers, rewritten_by_hand_as_expected, wrong_rewritings_are_told_apart};
-pub use cost_laws::{compared_at_lower_costs, ends_are_last, expected_notes_grow, runs_stop_over, states_stay_fitting};
-pub use laws::{area_stays_inside, calls_in_range, memory_never_shrinks, openings_in_range, operators_in_range, plans_in_range, reductions_in_range, runs_in_range};
-pub use listed_pauses::{blocking_runs_are_as_told, modules_behave_untold, modules_behave_where_listed, protocol_runs_are_as_told};
+pub use by_hand::{
+    frames_cut_numbers, rewritten_by_hand_as_expected, wrong_rewritings_are_told_apart,
+};
+pub use cost_laws::{
+    compared_at_lower_costs, ends_are_last, expected_notes_grow, runs_stop_over,
+    states_stay_fitting,
+};
+pub use laws::{
+    area_stays_inside, calls_in_range, memory_never_shrinks, openings_in_range, operators_in_range,
+    plans_in_range, reductions_in_range, runs_in_range,
+};
+pub use listed_pauses::{
+    blocking_runs_are_as_told, modules_behave_untold, modules_behave_where_listed,
+    protocol_runs_are_as_told,
+};
 pub use runtime_parts::{plans_fit_runtime_parts, runtime_is_exported, runtime_keeps_sizes};
 pub use stretch_laws::{calm_stays_off, silent_reductions_are_kept, stretches_are_kept};
-pub use suspended_stacks::{activations_stand_at_numbers, pauses_are_lawful, stacks_are_chained, stacks_are_lawful};
+pub use suspended_stacks::{
+    activations_stand_at_numbers, pauses_are_lawful, stacks_are_chained, stacks_are_lawful,
+};
 pub use touch_laws::touches_go_with_moves;

@@ -35,7 +35,9 @@ mod verdicts;
 mod way;
 
 pub use laws::hosts_are_of_originals;
-pub use originals_run::{bounded_programs_are_whole, played_faults_are_counted, runs_are_of_originals};
+pub use originals_run::{
+    bounded_programs_are_whole, played_faults_are_counted, runs_are_of_originals,
+};
 pub use playing::play_script;
 pub use transform_command::run_transform;
 pub use verdicts::{causes_are_one, played_is_not_refused};

@@ -16,10 +16,10 @@ ghost use Rattle.script_command.specs.Views.{IsBadModuleFor, IsOfSource, Loads};
 
 use crate::way::Way;
 use call_graph::{Choice, ImportList, Policy, Settings};
-use script_setup::{FileFault, fetch_prepared};
 use script_reader::ProgramText;
-use transform_command::{SourceFault, refusal_kind, rewritten};
+use script_setup::{FileFault, fetch_prepared};
 use std::alloc::{AllocError, Global};
+use transform_command::{SourceFault, refusal_kind, rewritten};
 use vault_port::Vault;
 use wa_types::Name;
 use wasm_validate::Valid;

@@ -13,16 +13,16 @@ ghost use Rattle.script_command.specs.Answers.{HasOneEnd};
 ghost use Rattle.script_command.specs.Ends.{HasEnd, IsStatus, call};
 ghost use Rattle.script_command.specs.Faults.{IsToldFault};
 
-use crate::staging::stage_all;
-use device_port::{Device, Devices};
-use transcript::{RefusalKind, out_of_memory, refuse, refuse_program};
 use crate::opening::{OpenFault, Opened, open_script};
 use crate::programs::Programs;
-use world_hosting::{Staged, host_programs};
+use crate::staging::stage_all;
 use crate::way::Way;
+use device_port::{Device, Devices};
 use std::alloc::Global;
+use transcript::{RefusalKind, out_of_memory, refuse, refuse_program};
 use vault_port::{PutFault, Sink, Vault};
 use wa_model::Detach;
+use world_hosting::{Staged, host_programs};
 
 /// The status of a sink that failed while a transcript was printed.
 const SINK_FAULT: u8 = 12;

@@ -14,8 +14,8 @@ ghost use Rattle.script_command.specs.Views.{AreOpened, BlamesLine, BlamesNext, 
 use crate::modules::{Loaded, fetch_module};
 use crate::opening::OpenFault;
 use crate::way::Way;
-use script_setup::{FileFault, RuleFault, SetUp, set_up_program};
 use script_reader::ProgramText;
+use script_setup::{FileFault, RuleFault, SetUp, set_up_program};
 use std::alloc::{AllocError, Global};
 use vault_port::Vault;
 use wa_types::Name;

@@ -6,9 +6,9 @@ ghost use Rattle.script_command.specs.Views.{CanStage, parts_of};
 ghost use Rattle.world_hosting.specs.Views.{AreStaged};
 
 use crate::programs::Planned;
-use world_hosting::{Staged, stage_program};
 use std::alloc::{AllocError, Global};
 use wasm_validate::Valid;
+use world_hosting::{Staged, stage_program};
 
 /// The programs that are planned over these modules, of which none has told anything.
 pub(crate) fn stage_all<'m>(

@@ -7,10 +7,10 @@ ghost use Rattle.script_reader.specs.Reading.{Reads, or_breaks};
 ghost use Rattle.script_reader.specs.ReadingParts.{triples};
 ghost use Rattle.script_reader.specs.Statements.{statement_of};
 
-use crate::statements::{Statement, copied, told};
-use crate::word_fault::LineFault;
 use crate::bytes::hex_in;
 use crate::numbers::{u32_in, value_in};
+use crate::statements::{Statement, copied, told};
+use crate::word_fault::LineFault;
 use std::alloc::{AllocError, Global};
 use wa_model::{Answer, AnswerLine, Poke};
 use wa_types::{Name, Value};

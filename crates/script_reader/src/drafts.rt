@@ -12,8 +12,8 @@ ghost use Rattle.script_reader.specs.Views.{Reads, draft_of, finished_as};
 
 use crate::faults::ScriptFault;
 use crate::script::{BindText, EntryText, GlobalText, ProgramText, ShowText};
-use call_graph::{ImportList, ListFault};
 use crate::statements::Statement;
+use call_graph::{ImportList, ListFault};
 use std::alloc::{AllocError, Global};
 use wa_model::{AnswerLine, Area};
 use wa_types::{Name, Value};

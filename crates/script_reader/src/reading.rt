@@ -12,8 +12,8 @@ use crate::drafts::{Draft, begin_draft, finished, put, put_statement as put_into
 use crate::faults::ScriptFault;
 use crate::lines::first_line;
 use crate::script::{ProgramText, Script};
-use crate::word_fault::LineFault;
 use crate::statements::{Statement, read_line as read_statement};
+use crate::word_fault::LineFault;
 use std::alloc::{AllocError, Global};
 use wa_model::Detach;
 use wa_types::Name;

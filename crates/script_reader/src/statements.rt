@@ -8,8 +8,8 @@ ghost use Rattle.script_reader.specs.Statements.{keyword_of, line_of, statement_
 
 use crate::answers::answer_line;
 use crate::keywords::{Keyword, keyword_in};
-use crate::word_fault::LineFault;
 use crate::numbers::{number_within, u32_in, value_in};
+use crate::word_fault::LineFault;
 use crate::words::read_words;
 use std::alloc::{AllocError, Global};
 use wa_model::{AnswerLine, Area, Detach};

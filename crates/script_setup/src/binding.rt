@@ -11,8 +11,8 @@ ghost use Rattle.script_reader.specs.Views.{bind_of};
 ghost use Rattle.script_setup.specs.Bindings.{bindings, bound_imports, where_func};
 ghost use Rattle.script_setup.specs.Places.{TellsDevices, device_at, place_in};
 
-use script_reader::BindText;
 use crate::names::joined_text;
+use script_reader::BindText;
 use std::alloc::{AllocError, Global};
 use std::collections::BTreeMap;
 use wa_types::{Import, ImportKind, Module, Name};

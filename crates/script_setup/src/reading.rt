@@ -12,12 +12,12 @@ ghost use Rattle.wasm_reader.specs.Held.{Holds};
 ghost use Rattle.script_setup.specs.Faults.{IsFaultOf, IsOfFile, IsOfRead, IsToldFault};
 ghost use Rattle.script_setup.specs.Prepared.{IsPrepared};
 
-use wasm_reader::{ModuleFault, ReadFault, read_file};
 use std::alloc::Global;
 use thiserror::Error;
 use transcript::RefusalKind;
 use vault_port::Vault;
 use wa_types::{Bounds, Module};
+use wasm_reader::{ModuleFault, ReadFault, read_file};
 use wasm_validate::{Valid, ValidateFault, validate};
 
 /// Why there is no prepared module.

@@ -12,12 +12,12 @@ ghost use Rattle.guard_form.specs.Pieces.{call_to};
 ghost use Rattle.slim_rewrite.specs.Coming.{Ready};
 ghost use Rattle.slim_rewrite.specs.Steps.{Calls, Put, PutNumbered};
 
+use crate::branches::put_free_call;
+use crate::moves::keep_told;
 use crate::sequence::{Head, Sequence, open_unit};
 use crate::stack::{Walk, flush};
-use crate::moves::keep_told;
-use crate::branches::put_free_call;
-use std::alloc::AllocError;
 use flow_rewrite::Target;
+use std::alloc::AllocError;
 use wa_types::Instr;
 
 /// Whether the call at this place is numbered.

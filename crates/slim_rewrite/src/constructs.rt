@@ -9,8 +9,8 @@ ghost use Rattle.slim_rewrite.specs.SequenceView.{call_open};
 ghost use Rattle.slim_rewrite.specs.Inside.{condition_got, AreFree, Claimed, ConditionTold, Decided, Entered, Left, Nested, Same, SetAgain};
 
 use crate::sequence::{Head, Sequence, Written, open_unit};
-use flow_rewrite::put_operand;
 use crate::stack::{Walk, flush, is_top, keep};
+use flow_rewrite::put_operand;
 use std::alloc::AllocError;
 use std::mem;
 use wa_model::Operand;

@@ -7,11 +7,11 @@ ghost use Rattle.guard_form.specs.Pieces.{call_total};
 ghost use Rattle.flow_rewrite.specs.CallsEmitting.{Rises};
 ghost use Rattle.slim_rewrite.specs.Functions.{SlimTold};
 
-use crate::walk::write_sequence;
 use crate::guesses::heights_apart;
 use crate::stack::Walk;
-use std::alloc::{AllocError, Global};
+use crate::walk::write_sequence;
 use flow_rewrite::Pieces;
+use std::alloc::{AllocError, Global};
 use wa_model::FlatFunc;
 
 /// A flat function in pieces and units with slim pieces, where the calls at these places are numbered and so many locals

@@ -8,8 +8,8 @@ ghost use Rattle.guard_form.specs.Pieces.{call_total};
 ghost use Rattle.flow_rewrite.specs.CallsEmitting.{Rises};
 ghost use Rattle.slim_rewrite.specs.Told.{GuardedTold};
 
-use flow_rewrite::{Guards, guard, guarded_pieces, has_one_call};
 use crate::function::slim_pieces;
+use flow_rewrite::{Guards, guard, guarded_pieces, has_one_call};
 use std::alloc::{AllocError, Global};
 use wa_model::FlatFunc;
 use wa_types::Instr;

@@ -11,9 +11,9 @@ ghost use Rattle.slim_rewrite.specs.Inside.{Completed, Finished};
 ghost use Rattle.slim_rewrite.specs.Steps.{Opened};
 
 use crate::stack::{Walk, flush};
+use flow_rewrite::{Pieces, Target, Unit};
 use std::alloc::AllocError;
 use std::mem;
-use flow_rewrite::{Pieces, Target, Unit};
 use wa_model::Operand;
 use wa_types::Instr;
 

@@ -7,10 +7,10 @@ ghost use Rattle.slim_rewrite.specs.Walking.{Good};
 ghost use Rattle.slim_rewrite.specs.Coming.{Ready};
 ghost use Rattle.slim_rewrite.specs.Steps.{Put};
 
-use crate::sequence::Sequence;
-use crate::stack::Walk;
 use crate::branches::{put_br, put_br_if, put_br_table, put_unreachable};
 use crate::moves::{put_move, put_plain};
+use crate::sequence::Sequence;
+use crate::stack::Walk;
 use std::alloc::AllocError;
 use wa_model::Stmt;
 

@@ -10,10 +10,12 @@ ghost use Rattle.slim_rewrite.specs.Coming.{Ready};
 ghost use Rattle.slim_rewrite.specs.Inside.{InsideTold, WrittenTold};
 ghost use Rattle.slim_rewrite.specs.Steps.{Put};
 
+use crate::calls::put_call;
+use crate::constructs::{
+    claim, enter, leave, put_block, put_if, put_loop, stays, take_condition, unreached,
+};
 use crate::guesses::{following, reads_again, taken_behind};
 use crate::sequence::{Sequence, Written, finish};
-use crate::constructs::{claim, enter, leave, put_block, put_if, put_loop, stays, take_condition, unreached};
-use crate::calls::put_call;
 use crate::single::put_single;
 use crate::stack::{Walk, flush};
 use std::alloc::AllocError;

@@ -9,9 +9,9 @@ ghost use Rattle.transcript.specs.Printing.{names_of};
 ghost use Rattle.script_model.specs.Transcript.{event_line, last_line, names_at};
 ghost use Rattle.wa_model.specs.View.{line_of};
 
+use crate::events::{Names, line as line_text};
 use crate::fitting::fits;
 use std::alloc::{AllocError, Global};
-use crate::events::{Names, line as line_text};
 use vault_port::{PutFault, Sink, put_whole};
 use wa_model::Line;
 

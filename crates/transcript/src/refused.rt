@@ -6,8 +6,8 @@ ghost use Rattle.script_model.specs.Transcript.{read_fault, refusal_line, write_
 ghost use Rattle.transcript.specs.Printing.{refusal_of};
 ghost use Rattle.transcript.specs.Refused.{EndsInMemory, Prints, PrintsMemory, status_of};
 
-use std::alloc::Global;
 use crate::refusals::{Refusal, RefusalKind, fault_line};
+use std::alloc::Global;
 use vault_port::{PutFault, Sink, put_whole};
 use wa_types::Name;
 

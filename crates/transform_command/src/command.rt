@@ -10,12 +10,12 @@ ghost use Rattle.transcript.specs.Refused.{Prints};
 ghost use Rattle.transform_command.specs.Ends.{IsRefusal};
 ghost use Rattle.transform_command.specs.Transforms.{HasCause, HoldsSource, IsCutShort, IsTransformed, PrintsRefusal, PrintsDone, PrintsLess, RunsOutOfMemory};
 
+use crate::refusals::refusal_kind;
 use crate::report::report;
 use crate::transform::{TransformFault, transform};
 use call_graph::Settings;
-use transcript::{out_of_memory, refuse, refuse_read, refuse_write};
-use crate::refusals::refusal_kind;
 use std::alloc::Global;
+use transcript::{out_of_memory, refuse, refuse_read, refuse_write};
 use vault_port::{Sink, Vault};
 
 /// `transform IN OUT`: rewrites the module in one file into another, prints a line and answers the status: 0 done; 3 to 7 by why the

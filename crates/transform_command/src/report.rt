@@ -9,8 +9,8 @@ ghost use Rattle.transcript.specs.Refused.{PrintsMemory};
 ghost use Rattle.transform_command.specs.Transforms.{done_line};
 
 use crate::transform::Done;
-use transcript::out_of_memory;
 use std::alloc::{AllocError, Global};
+use transcript::out_of_memory;
 use vault_port::{PutFault, Sink, put_whole};
 
 /// The status of a sink that failed while accepted output was printed.

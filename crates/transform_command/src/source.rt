@@ -17,15 +17,15 @@ ghost use Rattle.transform_command.specs.SourceRefusals.{IsFaultOf, IsOfEmit, Is
 ghost use Rattle.transform_command.specs.Sources.{HoldsValidSource, IsRewritten, IsValidSource, reserved_name};
 
 use crate::refusals::Refusal;
-use local_spill::{ReservedAt, reserved};
 use bytes::BytesMut;
 use call_graph::Settings;
+use local_spill::{ReservedAt, reserved};
 use module_rewrite::{EmitFault, RewriteFault, emit_module};
-use wasm_reader::{ModuleFault, ReadFault, read_file};
 use std::alloc::{AllocError, Global};
 use thiserror::Error;
 use vault_port::Vault;
 use wa_types::{Bounds, Module, Name};
+use wasm_reader::{ModuleFault, ReadFault, read_file};
 use wasm_validate::{Valid, ValidateFault, validate};
 
 /// Why no module was written.

@@ -9,9 +9,9 @@ ghost use Rattle.transform_command.specs.Refusals.{IsOfSource, IsToldRefusal};
 ghost use Rattle.transform_command.specs.Transforms.{HoldsSource, IsCount, IsCutShort, IsTransformed};
 ghost use Rattle.std.specs.Result.{IfErr};
 
-use call_graph::Settings;
 use crate::refusals::Refusal;
 use crate::source::{SourceFault, rewrite};
+use call_graph::Settings;
 use std::alloc::Global;
 use thiserror::Error;
 use vault_port::{SaveFault, Vault, save_whole};

@@ -10,10 +10,10 @@ ghost use Rattle.validate_bodies.specs.Judging.{Finds, Judged};
 ghost use Rattle.validate_bodies.specs.Running.{body_verdict, checks, fine};
 ghost use Rattle.validate_bodies.specs.Stack.{known, Deep, Level};
 
-use crate::stack::{Operands, apply, ends, pop, push_result};
-use std::alloc::{AllocError, AllocFailed, Global};
 use crate::context::Context;
+use crate::stack::{Operands, apply, ends, pop, push_result};
 use crate::table::asks_at;
+use std::alloc::{AllocError, AllocFailed, Global};
 use wa_types::{Instr, Rule, ValType};
 
 /// Why a body wasn't found typed: the rule that fails first, and the number of the instruction, `else` or `end`

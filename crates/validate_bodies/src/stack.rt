@@ -6,8 +6,8 @@ ghost use Rattle.validate_bodies.specs.Running.{pop1, pops, knows, ended, next, 
 ghost use Rattle.validate_bodies.specs.Stack.{known, Deep, Level, Applied, popped, passed};
 ghost use Rattle.validate_bodies.specs.Table.{sig_of, tested};
 
-use std::alloc::{AllocError, AllocFailed};
 use crate::table::{Asks, listing};
+use std::alloc::{AllocError, AllocFailed};
 use wa_ops::same_types;
 use wa_types::{Rule, ValType};
 

@@ -8,8 +8,8 @@ ghost use Rattle.wa_types.specs.Typing.{same_result, listed, sig, all_there, all
 ghost use Rattle.wa_types.specs.Leaves.{is_leaf};
 ghost use Rattle.validate_bodies.specs.Table.{plain_of, sig_of, Says};
 
-use wa_ops::{load_access, operands_of, result_of, same_types, store_access, type_of_value};
 use crate::context::Context;
+use wa_ops::{load_access, operands_of, result_of, same_types, store_access, type_of_value};
 use wa_types::{Instr, Rule, ValType};
 
 /// What an instruction asks of the operands, the deepest first, and whether an i32 lies on them; or the rule that it

@@ -3,9 +3,9 @@
 ghost use Rattle.std.specs.Prelude.{◌≡◌, ◌≢◌, ◌≤◌, None, IfOk, OnOk, OnErr, length};
 ghost use Rattle.vault_port.specs.Counts.{one_more};
 
+use crate::vault::{Vault, VaultFail};
 use std::fs::{Files, OpenFile, OpenOptions};
 use std::io::{self, ErrorKind, Read, Seek, SeekFrom, Write};
-use crate::vault::{Vault, VaultFail};
 
 /// The files of the system, by path. It doesn't tell what they hold. Each call opens its file anew, which costs
 /// little beside a piece of 64 KiB.

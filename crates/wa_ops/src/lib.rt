@@ -19,19 +19,17 @@ mod operators;
 mod types;
 mod wide;
 
-pub use access::{Access, load_access, store_access};
-pub use class::{OperatorClass, operand_type};
-pub use loads::load_value;
-pub use operators::{operand_count, operands_of, result_of};
-pub use types::{same_types, type_of_value};
-
 ghost use Rattle.std.specs.Prelude.{◌≡◌, [], ◌∷◌, Some, Ok};
 ghost use Rattle.wa_types.specs.Operators.{operand_types};
 ghost use Rattle.wa_types.specs.Typing.{type_of};
 ghost use Rattle.wa_ops.specs.declared.class.OperatorClass.TheVariants.{Unary, Conversion, Comparison, Binary};
 ghost use Rattle.wa_ops.specs.Operate.{operate, class_of};
 
-
+pub use access::{Access, load_access, store_access};
+pub use class::{OperatorClass, operand_type};
+pub use loads::load_value;
+pub use operators::{operand_count, operands_of, result_of};
+pub use types::{same_types, type_of_value};
 use wa_types::{NumOp, Trap, Value};
 
 /// The value of an operator with one operand: the counts of bits and the test for zero (standard, section

@@ -3,10 +3,10 @@
 ghost use Rattle.std.specs.Prelude.{◌≡◌, IfOk};
 ghost use Rattle.wa_types.specs.View.{code, func_of};
 
-use crate::levels::{Copying, close, copy_next};
-use std::alloc::{AllocError, Global};
-use crate::syntax::Func;
 use crate::instrs::Instr;
+use crate::levels::{Copying, close, copy_next};
+use crate::syntax::Func;
+use std::alloc::{AllocError, Global};
 
 /// An equal function.
 pub fn copy_func(alloc: Global, func: &Func) -> Result<Func, AllocError>

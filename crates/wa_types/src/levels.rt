@@ -7,11 +7,11 @@ ghost use Rattle.wa_types.specs.Syntax.{Code};
 ghost use Rattle.wa_types.specs.View.{code, in_front, onto};
 ghost use Rattle.wa_types.specs.Levels.{enclosed, closed, owed, GoesOn, IsEntered};
 
+use crate::instrs::Instr;
+use crate::leaves::copy_leaf;
+use crate::values::ValType;
 use std::alloc::{AllocError, Global};
 use std::mem;
-use crate::instrs::Instr;
-use crate::values::ValType;
-use crate::leaves::copy_leaf;
 
 /// Which body of a construct is being copied.
 #[derive(Drop)]

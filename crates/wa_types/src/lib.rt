@@ -47,14 +47,23 @@ pub use drops::drop_body;
 pub use frame_laws::slot_and_live_laws;
 pub use instrs::Instr;
 pub use leaves::copy_leaf;
-pub use leb_numbers::{LebFault, Spelling, read_s32, read_s64, read_u32, signed_spelling_laws, unsigned_spelling_laws, write_s32, write_s64, write_u32};
+pub use leb_numbers::{
+    LebFault, Spelling, read_s32, read_s64, read_u32, signed_spelling_laws, unsigned_spelling_laws,
+    write_s32, write_s64, write_u32,
+};
 pub use measures::{count, depth};
 pub use names::Name;
 pub use operators::{LAST_NUMERIC, NumOp};
 pub use pruning::prune;
 pub use rules::Rule;
-pub use syntax::{Custom, Elem, Export, Func, FuncType, GlobalDef, Import, ImportKind, Limits, Module, Run, Segment, Space};
-pub use typing_laws::{fault_is_first, one_first_fault, pruned_types, up_to_is_cut, valid_has_no_fault, valid_is_all_hold};
+pub use syntax::{
+    Custom, Elem, Export, Func, FuncType, GlobalDef, Import, ImportKind, Limits, Module, Run,
+    Segment, Space,
+};
+pub use typing_laws::{
+    fault_is_first, one_first_fault, pruned_types, up_to_is_cut, valid_has_no_fault,
+    valid_is_all_hold,
+};
 pub use values::{Trap, ValType, Value};
 pub use weights::weight;
 pub use whole::{copy_around, copy_module};

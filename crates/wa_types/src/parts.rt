@@ -7,9 +7,9 @@ ghost use Rattle.wa_types.specs.Syntax.{FuncType as PlainType, Func as PlainFunc
 ghost use Rattle.wa_types.specs.View.{func_type_of, func_of, global_of, elem_of, segment_of, custom_of};
 
 use crate::bodies::{copy_body, copy_func};
-use std::alloc::{AllocError, Global};
-use crate::syntax::{Custom, Elem, Export, Func, FuncType, GlobalDef, Import, Segment};
 use crate::names::Name;
+use crate::syntax::{Custom, Elem, Export, Func, FuncType, GlobalDef, Import, Segment};
+use std::alloc::{AllocError, Global};
 
 /// What a vector of a module holds, of which there are equal copies.
 pub(crate) trait Part: Drop {

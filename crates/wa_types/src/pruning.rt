@@ -5,9 +5,9 @@ ghost use Rattle.wa_types.specs.View.{code, in_front};
 ghost use Rattle.wa_types.specs.Syntax.{Code, done};
 ghost use Rattle.wa_types.specs.Pruned.{is_last_instr, pruned};
 
-use std::alloc::{AllocError, Global};
 use crate::instrs::Instr;
 use crate::leaves::copy_leaf;
+use std::alloc::{AllocError, Global};
 
 /// The body without what follows a `br`, `br_table`, `return` or `unreachable`, in each sequence.
 #[cycle(prune)]

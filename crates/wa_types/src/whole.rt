@@ -4,8 +4,8 @@ ghost use Rattle.std.specs.Prelude.{◌≡◌, IfOk, map};
 ghost use Rattle.wa_types.specs.View.{func_of, module_of};
 
 use crate::parts::copy_each;
-use std::alloc::{AllocError, Global};
 use crate::syntax::{Func, Module};
+use std::alloc::{AllocError, Global};
 
 /// An equal module. Takes the same native stack however deep its bodies nest.
 pub fn copy_module(alloc: Global, module: &Module) -> Result<Module, AllocError>

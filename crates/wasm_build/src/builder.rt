@@ -6,11 +6,11 @@ ghost use Rattle.wasm_build.specs.BuildsEntries.{IsOther};
 ghost use Rattle.wasm_build.specs.BuildsPieces.{Coming, Holds, Steps, Takes, stage_behind, stage_before};
 ghost use Rattle.wasm_build.specs.declared.builder.Stage as Stage;
 
+use crate::build_types::BuildFault;
+use crate::entries::{Body, CodeEntry};
+use crate::entry::Entry;
 use crate::extents::{number, sized_end};
 use crate::sections::{Entries, Sections};
-use crate::entries::{Body, CodeEntry};
-use crate::build_types::BuildFault;
-use crate::entry::Entry;
 use std::alloc::Global;
 use wa_types::{Func, Module};
 use wasm_grammar::Cursor;

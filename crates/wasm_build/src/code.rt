@@ -7,9 +7,9 @@ ghost use Rattle.wasm_build.specs.Builds.{Builds};
 ghost use Rattle.wasm_build.specs.BuildsCode.{SpelledExpression};
 ghost use Rattle.wasm_build.specs.BuildsLevels.{Running, Turned};
 
+use crate::build_types::BuildFault;
 use crate::levels::{Level, Opened, discard, end, open, turn};
 use crate::putting::put;
-use crate::build_types::BuildFault;
 use crate::types::block_type;
 use std::alloc::Global;
 use wa_types::Instr;

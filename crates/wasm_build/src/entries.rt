@@ -9,8 +9,8 @@ ghost use Rattle.wa_types.specs.Reading.{IsGlobal, IsElem, IsSegment};
 ghost use Rattle.wasm_build.specs.Builds.{Builds, SpelledAs};
 ghost use Rattle.wasm_build.specs.BuildsSections.{PlainBody, SpelledBody, body_of, SpelledCustom};
 
-use crate::code::expression;
 use crate::build_types::BuildFault;
+use crate::code::expression;
 use crate::entry::{Entry, vector};
 use crate::types::{IndexEntry, RunEntry, global_type, name};
 use std::alloc::Global;

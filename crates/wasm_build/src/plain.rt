@@ -6,8 +6,8 @@ ghost use Rattle.wasm_build.specs.Builds.{Builds};
 ghost use Rattle.wasm_build.specs.BuildsPlain.{SpelledPlain, code_of_one, NamesPlain, FoundIn};
 
 use crate::build_types::BuildFault;
-use crate::types::{IndexEntry, tag};
 use crate::entry::vector;
+use crate::types::{IndexEntry, tag};
 use std::alloc::Global;
 use wa_types::{Instr, NumOp, Value};
 use wasm_grammar::{Cursor, ImmediateForm, immediate_form};

@@ -3,8 +3,8 @@
 ghost use Rattle.std.specs.Prelude.{◌<◌, ◌≤◌, length};
 ghost use Rattle.wasm_build.specs.BuildsPlain.{Puts, PutsNumber};
 
-use crate::plain::plain;
 use crate::build_types::BuildFault;
+use crate::plain::plain;
 use std::alloc::Global;
 use wa_types::{Instr, NumOp};
 use wasm_grammar::Cursor;

@@ -6,11 +6,11 @@ ghost use Rattle.wasm_build.specs.Builds.{Builds};
 ghost use Rattle.wasm_build.specs.BuildsEntries.{AreOf, SpelledEntry};
 ghost use Rattle.wasm_build.specs.BuildsModule.{state_of, nothing_yet, SpelledSingle, SpelledStart};
 
-use crate::entries::{DataEntry, ElementEntry, GlobalEntry, custom};
-use crate::imports::{ExportEntry, ImportEntry};
 use crate::build_types::BuildFault;
-use crate::types::{IndexEntry, MemoryEntry, TableEntry, TypeEntry};
+use crate::entries::{DataEntry, ElementEntry, GlobalEntry, custom};
 use crate::entry::put;
+use crate::imports::{ExportEntry, ImportEntry};
+use crate::types::{IndexEntry, MemoryEntry, TableEntry, TypeEntry};
 use std::alloc::Global;
 use wa_types::Module;
 use wasm_grammar::Cursor;

@@ -9,12 +9,12 @@ ghost use Rattle.wasm_encode.specs.Around.{code_section, section_around, IsAroun
 ghost use Rattle.wasm_encode.specs.Modules.{known_section, FewLocals};
 
 use crate::module::{PREAMBLE, known_len, put_known};
+use crate::numbers::{put_unsigned, sized_len, unsigned_len};
+use crate::sections::{LAST_ID, customs_len, put_customs};
 use crate::{EncodeFault, LONGEST};
 use bytes::BytesMut;
 use std::alloc::{AllocError, Global};
 use wa_types::Module;
-use crate::sections::{LAST_ID, customs_len, put_customs};
-use crate::numbers::{put_unsigned, sized_len, unsigned_len};
 
 const CODE_ID: u8 = 10;
 

@@ -5,10 +5,10 @@ ghost use Rattle.wa_types.specs.Encoding.{code_bytes, expression_bytes};
 ghost use Rattle.wa_types.specs.View.{code};
 ghost use Rattle.wasm_encode.specs.Instrs.{instr_bytes, immediate_bytes, IsSimple};
 
-use bytes::BytesMut;
-use crate::types::{IndexEntry, result_byte};
-use crate::numbers::{put_signed, put_unsigned, signed_len, unsigned_len};
 use crate::entry::{put_vector, vector_len};
+use crate::numbers::{put_signed, put_unsigned, signed_len, unsigned_len};
+use crate::types::{IndexEntry, result_byte};
+use bytes::BytesMut;
 use std::alloc::AllocError;
 use wa_types::{Instr, Value};
 

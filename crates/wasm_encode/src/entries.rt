@@ -6,12 +6,12 @@ ghost use Rattle.wa_types.specs.View.{func_of, global_of, elem_of, segment_of};
 ghost use Rattle.wa_types.specs.Encoding.{body_bytes, elem_bytes, global_bytes, segment_bytes, sized};
 ghost use Rattle.wasm_encode.specs.Locals.{local_count};
 
-use crate::locals::{locals_len, put_locals};
-use bytes::BytesMut;
 use crate::code::{expression_len, put_expression};
 use crate::entry::{Entry, put_vector, vector_len};
-use crate::types::{IndexEntry, put_global_type};
+use crate::locals::{locals_len, put_locals};
 use crate::numbers::{put_unsigned, sized_len, unsigned_len};
+use crate::types::{IndexEntry, put_global_type};
+use bytes::BytesMut;
 use std::alloc::AllocError;
 use wa_types::{Elem, Func, GlobalDef, Segment};
 

@@ -36,16 +36,15 @@ mod numbers;
 mod sections;
 mod types;
 
-pub use around::encode_around;
-pub use entries::{body_len, put_func};
-
 ghost use Rattle.std.specs.Prelude.{◌≡◌, ◌<◌, ◌≤◌, ◌^◌, ◌↔◌, length, IfOk, ℕ, Err};
 ghost use Rattle.wa_types.specs.View.{module_of};
 ghost use Rattle.wa_types.specs.Encoding.{Enc};
 ghost use Rattle.wasm_encode.specs.Modules.{FewLocals};
 
 use crate::module::{module_len, put_module};
+pub use around::encode_around;
 use bytes::BytesMut;
+pub use entries::{body_len, put_func};
 use std::alloc::{AllocError, Global};
 use thiserror::Error;
 use wa_types::Module;

@@ -5,9 +5,9 @@ ghost use Rattle.wa_types.specs.Encoding.{vector, merged, run_bytes};
 ghost use Rattle.wa_types.specs.declared.syntax.Run.{Run};
 ghost use Rattle.wasm_encode.specs.Locals.{local_count, in_front_of, StandApart, Joins};
 
-use bytes::BytesMut;
 use crate::numbers::{put_unsigned, unsigned_len};
 use crate::types::val_type_byte;
+use bytes::BytesMut;
 use std::alloc::AllocError;
 use wa_types::{Run, ValType};
 

@@ -4,9 +4,9 @@ ghost use Rattle.std.specs.Prelude.{◌≡◌, ◌<◌, ◌≤◌, ◌^◌, ◌+
 ghost use Rattle.wa_types.specs.View.{custom_of};
 ghost use Rattle.wa_types.specs.Encoding.{section, start_section, custom_bytes, customs_behind};
 
-use bytes::BytesMut;
 use crate::entry::{Entry, put_vector, vector_len};
 use crate::numbers::{name_len, put_name, put_unsigned, sized_len, unsigned_len};
+use bytes::BytesMut;
 use std::alloc::AllocError;
 use wa_types::Custom;
 

@@ -10,16 +10,16 @@ ghost use Rattle.file_laws.specs.declared.marks.Marks.{Marks as MarksValue};
 ghost use Rattle.wasm_grammar.specs.Machine.{Stands, Waits, IsFault, IsCause, AreMarks};
 ghost use Rattle.wasm_grammar.specs.Passing.{Below, Moves};
 
+use crate::goals::{EntryKind, Goal};
+use crate::items::{Front, read_item, wants};
 use crate::notes::note;
 use crate::short::{closes, opened, pass_short, short_entries, short_runs};
+use crate::stack::Goals;
+use crate::window::Window;
+use file_laws::Marks;
 use std::alloc::{AllocError, Global};
 use thiserror::Error;
 use wa_types::Bounds;
-use crate::stack::Goals;
-use crate::goals::{EntryKind, Goal};
-use crate::items::{Front, read_item, wants};
-use file_laws::Marks;
-use crate::window::Window;
 
 /// Why bytes are no file.
 #[derive(Clone, Copy, Debug, PartialEq, Eq, Error)]

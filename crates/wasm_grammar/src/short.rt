@@ -6,8 +6,8 @@ ghost use Rattle.wa_types.specs.Opcodes.{is_block_type, is_float_op, is_float_ty
 ghost use Rattle.wasm_grammar.specs.Goals.{kind_of};
 ghost use Rattle.wasm_grammar.specs.Passing.{IsShort, AreShort, Passes, Opens, Closes, PassesEntries, IsEntryByte, PassesRuns, IsShortRun};
 
-use crate::opcodes::{ImmediateForm, immediate_form};
 use crate::goals::EntryKind;
+use crate::opcodes::{ImmediateForm, immediate_form};
 use crate::window::Window;
 
 // The place behind a number of at most four bytes, which isn't judged: all of its bits are within its width.

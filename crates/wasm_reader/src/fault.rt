@@ -1,8 +1,8 @@
 //! Why a file gave no module.
 
+use crate::read_fault::ReadFault;
 use std::alloc::AllocError;
 use thiserror::Error;
-use crate::read_fault::ReadFault;
 
 /// Why a file gave no module.
 #[derive(Clone, Copy, Debug, PartialEq, Eq, Error)]

@@ -14,11 +14,11 @@ ghost use Rattle.wasm_reader.specs.Held.{HoldsModule, IsToldFault};
 ghost use Rattle.wasm_reader.specs.FilePieces.{BeginsWith, IsFaultOf, IsPiece};
 
 use crate::fault::ModuleFault;
+use crate::pieces::Reader;
+use crate::read_fault::ReadFault;
 use std::alloc::Global;
 use vault_port::{Vault, VaultFail};
 use wa_types::{Bounds, LimitKind, Module};
-use crate::read_fault::ReadFault;
-use crate::pieces::Reader;
 
 /// The most bytes that are fetched at once.
 const PIECE: usize = 65_536;

@@ -12,11 +12,11 @@ ghost use Rattle.validate_bodies.specs.Spaces.{SpacesOf};
 ghost use Rattle.wasm_validate.specs.Validated.{Answers, Tells, Validates};
 ghost use Rattle.wasm_validate.specs.Walk.{around_or};
 
+use crate::rules::broken_outside;
 use std::alloc::{AllocError, Global};
 use std::marker::Model;
 use thiserror::Error;
 use validate_bodies::{BodyFail, Context, Operands, Spaces, check_whole};
-use crate::rules::broken_outside;
 use wa_types::{Module, ValType};
 
 /// A valid module (standard, section 3.4) that meets the size rule. Contracts see the module.

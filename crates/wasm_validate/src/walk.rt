@@ -10,10 +10,10 @@ ghost use Rattle.wa_types.specs.Leaves.{is_leaf};
 ghost use Rattle.validate_bodies.specs.Table.{sig_of, tested};
 ghost use Rattle.wasm_validate.specs.Walk.{left_at, outset, own_at, under_at, CanTake, Inside, Stays, TypedAt};
 
+use crate::valid::Valid;
 use std::alloc::{AllocError, Global};
 use std::marker::Model;
 use validate_bodies::{Asks, asks_at, listing};
-use crate::valid::Valid;
 use wa_types::{FuncType, Instr, ValType};
 
 /// A walk of the types of operands over the pruned body of a function. Contracts see where it stands: what stands

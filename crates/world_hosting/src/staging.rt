@@ -7,9 +7,9 @@ ghost use Rattle.script_setup.specs.Views.{set_up_of};
 ghost use Rattle.world_hosting.specs.Worlds.{FitsPlan, IsListing, part};
 ghost use Rattle.world_hosting.specs.Views.{IsStaged, Suits, listing};
 
-use script_setup::{SetUp, bindings, program_names};
 use many_host::{Plan, Program};
 use script_reader::{ProgramText, ShowText};
+use script_setup::{SetUp, bindings, program_names};
 use std::alloc::{AllocError, Global};
 use transcript::Names;
 use wasm_validate::Valid;

@@ -19,8 +19,8 @@ use crate::parting::{Parted, part_programs};
 use crate::staging::Staged;
 use device_port::{Device, Devices};
 use many_host::Host;
-use transcript::{Names, put_last, put_line};
 use std::alloc::Global;
+use transcript::{Names, put_last, put_line};
 use vault_port::{PutFault, Sink};
 use wa_model::Detach;
 
