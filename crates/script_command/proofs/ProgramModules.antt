@@ -1,4 +1,4 @@
--- A program has one module but for its code, or is refused for one cause.
+-- A program has one module but for its code and custom sections, or is refused for one cause.
 use Rattle.std.proofs.Common.{arith, ◌≡◌, ℕ, suc, ◌≤◌, List, Option, Some, Bool, sym, ap, ◌∙◌, subst}
 use Rattle.vault_port.specs.Files.{Files, bytes_of}
 use Rattle.wa_types.specs.declared.bounds.LimitKind.{LimitKind}
@@ -11,7 +11,7 @@ use Rattle.wasm_reader.proofs.Held.{own_bytes}
 use Rattle.script_setup.specs.Prepared.{IsPrepared, IsUnprepared}
 use Rattle.transform_command.specs.Running.{RunsAs}
 use Rattle.transform_command.specs.Sources.{Cause, malformed, float, deep, limit, reserved, invalid, rewritten_locals, long_output, IsRefusedFor}
-use Rattle.live_laws.specs.PolicyLaws.{without_code}
+use Rattle.transform_command.proofs.Outlines.{outline}
 use Rattle.transform_command.proofs.Verdicts as V
 use Rattle.script_command.specs.declared.way.Way.{Way}
 use Rattle.script_command.specs.declared.way.Way.TheVariants.{Host, Run}
@@ -44,9 +44,9 @@ run_passes s bytes listed p c r u h =
     let le = early c u in
     V.stops s bytes c h (V.below s bytes 7 (suc (V.stage c)) (omega (arith, le)) (r.source, r.which, r.rewritable))
 
--- runs of one original differ in code alone
-one_run : (s : Settings) (bytes : List ℕ) (l k : List Bool) (p q : Module) → RunsAs s bytes l p → RunsAs s bytes k q → without_code p ≡ without_code q
-one_run s bytes l k p q a b = V.one_written s bytes a.source b.source a.which b.which p q a.rewritable b.rewritable a.written b.written
+-- runs of one original have one outline
+one_run : (s : Settings) (bytes : List ℕ) (l k : List Bool) (p q : Module) → RunsAs s bytes l p → RunsAs s bytes k q → outline p ≡ outline q
+one_run s bytes l k p q a b = V.one_written s bytes a.source b.source a.which b.which p q a.rewritable b.rewritable a.rewrites b.rewrites
 
 -- ---- modules
 
@@ -55,10 +55,10 @@ module _ (files : Files) (t : ProgramText) where
   own : (P : List ℕ → Type 0) (bytes : List ℕ) → files t.path ≡ Some bytes → P bytes → P (bytes_of files t.path)
   own P bytes e h = subst P (own_bytes files t.path bytes e) h
 
-  -- modules of a program differ in code alone
-  pub one_module : (way : Way) (p q : Module) (l k : Option (List Bool)) → IsModule way (Some files) t p l → IsModule way (Some files) t q k → without_code p ≡ without_code q
+  -- modules of a program have one outline
+  pub one_module : (way : Way) (p q : Module) (l k : Option (List Bool)) → IsModule way (Some files) t p l → IsModule way (Some files) t q k → outline p ≡ outline q
   one_module Host p q l k a b =
-      ap (λ (x : Module). without_code x) (one_prepared (bytes_of files t.path) p q (own (λ (bs : List ℕ). IsPrepared bs p) a.0 a.1 a.2) (own (λ (bs : List ℕ). IsPrepared bs q) b.0 b.1 b.2))
+      ap (λ (x : Module). outline x) (one_prepared (bytes_of files t.path) p q (own (λ (bs : List ℕ). IsPrepared bs p) a.0 a.1 a.2) (own (λ (bs : List ℕ). IsPrepared bs q) b.0 b.1 b.2))
   one_module Run p q l k a b =
       let s = one_settings t a.3.0 b.3.0 a.3.1 b.3.1 in
       one_run b.3.0 (bytes_of files t.path) a.1 b.1 p q

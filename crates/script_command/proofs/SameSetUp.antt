@@ -11,7 +11,7 @@ use Rattle.script_model.specs.ScriptLines.{or_else}
 use Rattle.wa_model.specs.Step.{same_func_type}
 use Rattle.host_setup.specs.SetUp.{NamedEntry, Fault, all_told, area_bad, are_args, entries_fault, entry_func, entry_funcs, fault_at, first_false, func_named, have_args, is_area_in, is_defined_as, is_there, least_pages, needed, no_export, set_up, unless_fault}
 use Rattle.script_setup.specs.SetUpRules.{named_entry, set_up_rules, told_funcs, with_lines}
-use Rattle.live_laws.specs.PolicyLaws.{without_code}
+use Rattle.transform_command.proofs.Outlines.{outline}
 
 abbrev sort_of : Func → ℕ
 sort_of f = f.sort
@@ -21,18 +21,18 @@ map_same f g same [] = refl
 map_same f g same (x ∷ xs) = ap (λ y. y ∷ map f xs) (same x) ∙ ap (λ ys. g x ∷ ys) (map_same f g same xs)
 
 module _ (p : Module) where
-  sorts_same : (fs : List Func) → map sort_of fs ≡ map sort_of (without_code (record p { funcs = fs })).funcs
+  sorts_same : (fs : List Func) → map sort_of fs ≡ map sort_of (outline (record p { funcs = fs })).funcs
   sorts_same [] = refl
   sorts_same (f ∷ fs) = ap (λ ns. f.sort ∷ ns) (sorts_same fs)
 
-  type_same : (x : ℕ) → func_type_at p x ≡ func_type_at (without_code p) x
+  type_same : (x : ℕ) → func_type_at p x ≡ func_type_at (outline p) x
   type_same x = ap (λ sorts. or_empty (slice_get (map (type_at p) (imported imported_func p ++ sorts)) x)) (sorts_same p.funcs)
 
-  defined_same : (ty : FuncType) (o : Option ℕ) → is_defined_as p ty o ≡ is_defined_as (without_code p) ty o
+  defined_same : (ty : FuncType) (o : Option ℕ) → is_defined_as p ty o ≡ is_defined_as (outline p) ty o
   defined_same ty None = refl
   defined_same ty (Some x) = ap (λ t. nat_le (func_imports p) x && same_func_type t ty) (type_same x)
 
-  args_same : (args : List Value) (o : Option ℕ) → are_args p args o ≡ are_args (without_code p) args o
+  args_same : (args : List Value) (o : Option ℕ) → are_args p args o ≡ are_args (outline p) args o
   args_same args None = refl
   args_same args (Some x) = ap (λ (t : FuncType). are_of t.params args) (type_same x)
 
@@ -44,17 +44,17 @@ module _ (p : Module) where
       (or_else (fault_at no_export (first_false there)) (entries_fault (func_imports p) (entry_funcs p entries) have)))
       (all_told (entry_funcs p entries))
 
-  set_up_same : (area : Area) (entries : List NamedEntry) → set_up p area entries ≡ set_up (without_code p) area entries
+  set_up_same : (area : Area) (entries : List NamedEntry) → set_up p area entries ≡ set_up (outline p) area entries
   set_up_same area entries =
       ap (λ there. by_tests area entries there (have_args p entries))
-      (map_same (is_there p) (is_there (without_code p)) (λ n. defined_same n.ty (func_named p n.name)) needed)
-      ∙ ap (λ have. by_tests area entries (map (is_there (without_code p)) needed) have)
-      (map_same (λ (e : NamedEntry). are_args p e.args (entry_func p e.name)) (λ (e : NamedEntry). are_args (without_code p) e.args (entry_func p e.name))
+      (map_same (is_there p) (is_there (outline p)) (λ n. defined_same n.ty (func_named p n.name)) needed)
+      ∙ ap (λ have. by_tests area entries (map (is_there (outline p)) needed) have)
+      (map_same (λ (e : NamedEntry). are_args p e.args (entry_func p e.name)) (λ (e : NamedEntry). are_args (outline p) e.args (entry_func p e.name))
       (λ (e : NamedEntry). args_same e.args (entry_func p e.name)) entries)
 
-  rules_same : (runs : Bool) (t : ProgramText) → set_up_rules runs p t ≡ set_up_rules runs (without_code p) t
+  rules_same : (runs : Bool) (t : ProgramText) → set_up_rules runs p t ≡ set_up_rules runs (outline p) t
   rules_same runs t = ap (λ funcs. with_lines runs p.imports t (told_funcs t funcs)) (set_up_same t.area (map named_entry t.entries))
 
--- Modules that differ in code alone have one set-up.
-pub same_rules : (runs : Bool) (p q : Module) (t : ProgramText) → without_code p ≡ without_code q → set_up_rules runs p t ≡ set_up_rules runs q t
+-- Modules that have one outline have one set-up.
+pub same_rules : (runs : Bool) (p q : Module) (t : ProgramText) → outline p ≡ outline q → set_up_rules runs p t ≡ set_up_rules runs q t
 same_rules runs p q t e = rules_same p runs t ∙ ap (λ (m : Module). set_up_rules runs m t) e ∙ sym (rules_same q runs t)

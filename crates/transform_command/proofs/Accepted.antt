@@ -174,7 +174,6 @@ emit_refused s bytes m (emit_too_long len) r src h e =
       h.which,
       h.written,
       record { accepted = src; tells = h.can.tells; few = few },
-      h.emitted,
       h.is,
       h.over,
       h.rewrites,

@@ -11,9 +11,8 @@ use Rattle.wa_types.specs.Reading.{IsModule}
 use Rattle.wa_types.specs.FirstFault.{FirstFault}
 use Rattle.wa_types.specs.Pausing.{Settings, TellsMayPause}
 use Rattle.slot_laws.proofs.Closed.{one_list}
-use Rattle.live_laws.specs.EmittedAs.{EmittedAs}
-use Rattle.live_laws.specs.PolicyLaws.{without_code}
-use Rattle.live_laws.proofs.CodeAlone.{code_alone}
+use Rattle.wa_types.specs.Runtime.{with_runtime}
+use Rattle.wa_model.specs.Rewrites.{Rewrites}
 use Rattle.wa_types.specs.Syntax.{Module}
 use Rattle.wa_types.proofs.FaultLemmas.{valid_no_fault}
 use Rattle.file_laws.proofs.OneFault.{fault_spells_none}
@@ -22,6 +21,7 @@ use Rattle.file_laws.proofs.UniqueCode.{one_file}
 use Rattle.wasm_reader.specs.Answers.{IsFile, HasNoFloat, IsAccepted}
 use Rattle.local_spill.specs.Reserved.{reserved_at}
 use Rattle.transform_command.specs.Sources.{IsFree, IsValidSource, rewritten_counts, IsRewritable, Cause, malformed, float, deep, limit, reserved, invalid, rewritten_locals, long_output, IsRefusedFor, refusal_for}
+use Rattle.transform_command.proofs.Outlines.{outline, outlined}
 use Rattle.transcript.specs.Refused.{status_of}
 use Rattle.transform_command.specs.Ends.{IsLong}
 
@@ -100,13 +100,13 @@ same_module bytes m n a b =
     let e = same_sections bytes b.sections m b.within.before.before.before.before.before.file a in
     one_module b.sections m n (subst (λ (ss : List Section). IsModule ss m) e a.is_module) b.is_module
 
--- modules that are emitted of a source differ in code alone
+-- modules that are a source, rewritten, have one outline
 pub one_written : (s : Settings) (bytes : List ℕ) (m n : Module) (which others : List Bool) (p q : Module) → IsRewritable s bytes m which → IsRewritable s bytes n others
-    → EmittedAs m s which p → EmittedAs n s others q → without_code p ≡ without_code q
+    → Rewrites m s p → Rewrites n s q → outline p ≡ outline q
 one_written s bytes m n which others p q a b h k =
-    let e = same_module bytes m n a.accepted.unreserved.read b.accepted.unreserved.read in
-    let t = one_list n s which others (subst (λ (m : Module). TellsMayPause m s which) e a.tells) b.tells in
-    code_alone n s others p q (subst (λ which. EmittedAs n s which p) t (subst (λ (m : Module). EmittedAs m s which p) e h)) k
+    outlined m s p h.parts which a.tells
+    ∙ ap (λ (x : Module). outline (with_runtime x)) (same_module bytes m n a.accepted.unreserved.read b.accepted.unreserved.read)
+    ∙ sym (outlined n s q k.parts others b.tells)
 
 pub stops : (s : Settings) (bytes : List ℕ) (c : Cause) → IsRefusedFor s bytes c → Reached s bytes (suc (stage c)) → ⊥
 stops s bytes (malformed at) h r = fault_spells_none bytes at r.0 h.1 r.1.spells

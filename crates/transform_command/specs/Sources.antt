@@ -24,7 +24,6 @@ use Rattle.wasm_reader.specs.Held.{Holds}
 use Rattle.local_spill.specs.declared.reserving.ReservedAt.{ReservedAt}
 use Rattle.local_spill.specs.declared.reserving.ReservedAt.TheVariants.{Import as at_import, Export as at_export}
 use Rattle.local_spill.specs.Reserved.{reserved_at}
-use Rattle.live_laws.specs.EmittedAs.{EmittedAs}
 
 -- The bytes spell this module, without a float and within the limits of a source module, under no reserved name.
 pub record IsFree (bytes : List ℕ) (m : Module) : Type 0 where
@@ -60,10 +59,10 @@ pub record IsRewritable (s : Settings) (bytes : List ℕ) (m : Module) (which : 
   pub tells : TellsMayPause m s which
   pub few : first_above 50000 (rewritten_counts m which) ≡ None
 
--- .. and what is written, the bytes of the other module, which is emitted of it by the policy of the settings, isn't too long
+-- .. and what is written, the bytes of the other module, which is it, rewritten, isn't too long
 pub record IsSource (s : Settings) (bytes : List ℕ) (m : Module) (which : List Bool) (p : Module) : Type 0 where
   pub rewritable : IsRewritable s bytes m which
-  pub emitted : EmittedAs m s which p
+  pub rewrites : Rewrites m s p
   pub short : length (Enc p) ≤ 67108864
 
 -- the joined name of an import
@@ -101,7 +100,7 @@ IsRefusedFor s bytes (invalid func rule at) = (m : Module) × IsFree bytes m × 
 IsRefusedFor s bytes (rewritten_locals found) =
     (m : Module) × (which : List Bool) × IsValidSource bytes m × TellsMayPause m s which × (first_above 50000 (rewritten_counts m which) ≡ Some found)
 IsRefusedFor s bytes (long_output found) =
-    (m : Module) × (which : List Bool) × (p : Module) × IsRewritable s bytes m which × EmittedAs m s which p × (found ≡ length (Enc p)) × (67108864 < found) × Rewrites m s p
+    (m : Module) × (which : List Bool) × (p : Module) × IsRewritable s bytes m which × (found ≡ length (Enc p)) × (67108864 < found) × Rewrites m s p
 
 -- the refusal that is told
 abbrev pub refusal_for : Cause → Refusal
@@ -114,7 +113,7 @@ refusal_for (invalid func rule at) = T.invalid func rule at
 refusal_for (rewritten_locals found) = T.limit Locals found
 refusal_for (long_output found) = T.limit Output found
 
--- The bytes are an accepted source of so many functions, so many of which may pause; the text is that of the module that is emitted, and
+-- The bytes are an accepted source of so many functions, so many of which may pause; the text is that of the rewritten module, and
 -- spells one that is within the bounds of a prepared module, and is the source's, rewritten.
 abbrev pub IsRewritten : Settings → List ℕ → (functions instrumented : ℕ) → List ℕ → Type 0
 IsRewritten s bytes functions instrumented text =

@@ -40,7 +40,6 @@ returns-in-Ok-asyncify_module-clause-done g c =
         rewritable = record { accepted = h.source; tells = e.tells; few = few };
         well_formed = well h.bytes m h.source h.are_bytes;
         listed_is = c.in_ok-listed.ensures;
-        written = e.emitted;
         rewrites = e.rewrites;
       },
     )

@@ -47,7 +47,7 @@ returns-clause-done g c =
         m,
         which,
         e.written,
-        record { rewritable = record { accepted = h.source; tells = e.can.tells; few = few }; emitted = e.emitted; short = e.short },
+        record { rewritable = record { accepted = h.source; tells = e.can.tells; few = few }; rewrites = e.rewrites; short = e.short },
         functions,
         count,
         e.text,
