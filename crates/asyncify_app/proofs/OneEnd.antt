@@ -6,7 +6,7 @@ use Rattle.vault_port.specs.Told.{Becomes}
 use Rattle.wa_types.specs.Encoding.{Enc}
 use Rattle.wa_types.specs.Pausing.{Settings}
 use Rattle.script_model.specs.Command.{Command, transform, OnTransform}
-use Rattle.script_model.specs.Spelled.{Spelled, rewrites, hosts, runs, generates}
+use Rattle.script_model.specs.Spelled.{Spelled, rewriting, rewrites, hosts, runs, generates}
 use Rattle.script_model.specs.Transcript.{refusal_line, write_fault}
 use Rattle.transcript.specs.Refused.{EndsInMemory, Prints, PrintsMemory}
 use Rattle.transcript.proofs.Printed.{memory_alone}
@@ -19,7 +19,7 @@ use Rattle.transform_command.specs.Ends as T
 use Rattle.transform_command.specs.Transforms.{RunsOutOfMemory}
 use Rattle.transform_command.proofs.OneEnd as TransformEnds
 use Rattle.transform_command.proofs.Printed.{memory_any}
-use Rattle.asyncify_app.specs.Ends.{Call, EndsBy, GeneratesOnce, HasOneEnd, rewriting, transform_call, script_call}
+use Rattle.asyncify_app.specs.Ends.{Call, EndsBy, GeneratesOnce, HasOneEnd, transform_call, script_call}
 
 -- The words spell this.
 pub spelled_ends : (c : Call) (status : ℕ) (o : Option Spelled) → c.spelled ≡ o → EndsBy c o status → HasOneEnd c status

@@ -5,7 +5,7 @@ use Rattle.vault_port.specs.Files.{Files, ChangesOnly, HoldsFrontAtMost}
 use Rattle.vault_port.specs.Told.{Becomes}
 use Rattle.wa_types.specs.Encoding.{Enc}
 use Rattle.wa_types.specs.Pausing.{Settings}
-use Rattle.script_model.specs.Command.{Command, transform}
+use Rattle.script_model.specs.Command.{transform}
 use Rattle.script_model.specs.Spelled.{Spelled, rewrites, hosts, runs, generates}
 use Rattle.script_model.specs.Transcript.{refusal_line, write_fault}
 use Rattle.event_order.specs.Left.{Counted}
@@ -17,11 +17,6 @@ use Rattle.script_command.specs.declared.way.Way.TheVariants.{Host, Run}
 use Rattle.script_command.specs.Answers as A
 use Rattle.script_command.specs.Ends as P
 use Rattle.transform_command.specs.Ends as T
-
--- the `transform` that words ask for
-abbrev pub rewriting : Option Spelled → Option Command
-rewriting (Some (rewrites command)) = Some command
-rewriting _ = None
 
 -- this holds where words play a script
 abbrev pub OnScript : Option Spelled → Type 0 → Type 0

@@ -6,14 +6,14 @@ ghost use Rattle.vault_port.specs.Counts.{HasRisen};
 ghost use Rattle.vault_port.specs.Files.{bytes_of, IsMissing};
 ghost use Rattle.vault_port.specs.Told.{WhereTold, Becomes};
 ghost use Rattle.script_model.specs.Command.{OnTransform};
-ghost use Rattle.script_model.specs.Spelled.{spelled};
+ghost use Rattle.script_model.specs.Spelled.{rewriting, spelled};
 ghost use Rattle.script_model.specs.Transcript.{read_fault, refusal_line, usage, write_fault};
 ghost use Rattle.transcript.specs.Refused.{Prints, PrintsMemory};
 ghost use Rattle.transform_command.specs.Ends.{IsRefusal};
 ghost use Rattle.transform_command.specs.Transforms.{HasCause, HoldsSource, IsCutShort, IsTransformed, PrintsRefusal, PrintsDone, PrintsLess, RunsOutOfMemory};
 ghost use Rattle.host_laws.specs.Supplies.{IsLent};
 ghost use Rattle.asyncify_app.specs.Devices.{counted_boxes};
-ghost use Rattle.asyncify_app.specs.Ends.{HasOneEnd, OffScript, OnScript, rewriting};
+ghost use Rattle.asyncify_app.specs.Ends.{HasOneEnd, OffScript, OnScript};
 
 use crate::generating::run_generated;
 use crate::playing::play_with;

@@ -41,3 +41,8 @@ spelled (word ∷ words) =
     else (if bytes_eq word (codes "run") then files_alone (one_file runs) (said (Some nothing_said) words)
     else (if bytes_eq word (codes "gen") then files_alone number_and_file (said (Some nothing_said) words)
     else option_map rewrites (command (word ∷ words))))
+
+-- the `transform` that words ask for
+abbrev pub rewriting : Option Spelled → Option Command
+rewriting (Some (rewrites command)) = Some command
+rewriting _ = None
