@@ -1,13 +1,15 @@
-//! Laws of the grammar of modules: what is whole is spelled, bytes spell one file and one module, and what a module is written
-//! as spells it.
+//! Laws of the binary format; they stand apart from `wa_types`, as their proofs are longer than its definitions.
 //!
-//! Each is the contract of a function with an empty body over the definitions of `wa_types`. The lemmas behind them take more text
-//! than those definitions, and few crates need them, so they stand here.
+//! What is whole is spelled, bytes spell one file and one module, and what a module is written as spells it. Each law is the
+//! contract of a function with an empty body over the definitions of `wa_types`.
 //!
-//! `floats`, `mark_laws`, `marks`: What a file is judged by besides its spelling: the first float, the numbers that limits bound, and how deep code nests.
+//! Beside them stands what a file is judged by besides its spelling: its first float, the numbers that limits bound, and how deep
+//! its code nests. Each item of a file shows a part of that by its goal, its value and its place (`Shows` of `specs/Showing.antt`),
+//! and `Marks` keeps what was shown so far. That all items together show what the sections hold (`MarksOf` of `specs/Found.antt`)
+//! is the law `items_show_the_sections`.
 //!
-//! Each item of a file shows a part of it by its goal, its value and its place (`Shows` of `specs/Showing.antt`), and `Marks` keeps what was
-//! shown so far. That all items together show what the sections hold (`MarksOf` of `specs/Found.antt`) is the law `items_show_the_sections`.
+//! - `laws`: spelling, reading and writing.
+//! - `floats`, `marks`, `mark_laws`: which bytes are floats, what was met along a file, and that nothing was missed.
 #![tactic(auto)]
 
 mod floats;

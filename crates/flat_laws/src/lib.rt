@@ -1,8 +1,15 @@
-//! Flattening, as a definition: each operand lives in a slot. Flat bodies are typed, small and shallow, and the flat module is valid.
+//! Flattening as a definition, in which each operand lives in a slot, and the laws of flat code that need no run.
 //!
-//! `laws`: What the calls that take a flat function ask of it, of each flat function of a valid module.
+//! The definition is the simplest one: nothing is forwarded, nothing is dropped (`specs/Flatten.antt`). `flatten` computes it, and
+//! what flat code does when it runs is `flat_runs`.
 //!
-//! `local_rules`: Which locals flat code reads and writes: own locals where the original does, slots of operands that stand on its stack.
+//! A caller may rely on this: the flat code of a valid module's function is typed, small and shallow, and the module in which some
+//! functions are flat is valid (`specs/FlatModule.antt`).
+//!
+//! - `module_laws`: of flat bodies and the flat module.
+//! - `laws`: what the calls that take a flat function ask of it (`specs/FlatMeets.antt`).
+//! - `local_rules`: which locals flat code reads and writes: own locals where the original does, and of the slots those of operands that
+//!   stand on its stack (`specs/OwnUses.antt`, `specs/Behind.antt`).
 #![tactic(auto)]
 
 mod laws;

@@ -1,19 +1,15 @@
 //! What a suspended program keeps in its frames, computed for any valid module.
 //!
-//! `saved` lists the locals that the frame of a call saves, and `room` says how many bytes of the area a suspended stack takes,
-//! under both policies. Their answers are those of the definitions (`wa_types/specs/Frames.antt`). They go over a function's
-//! pruned body anew for each question, and take time of the product of its size and its locals or its greatest height: they
-//! serve to look at a function, and not to rewrite a module.
+//! `saved` lists the locals that the frame of a call saves, and `room` says how many bytes of the area a suspended stack takes, under
+//! both policies. Their answers are those of the definitions (`wa_types/specs/Frames.antt`).
 //!
-//! `points`, `slot_pairs`: What operands stand at the points of a body and just before its calls, and which slots they make.
+//! They serve to look at a function, and not to rewrite a module: they go over its pruned body anew for each question, by recursion,
+//! and take time of the product of its size and its locals or its greatest height. Rewriting uses `live_locals` and `live_frames`.
 //!
-//! A walk of operand types goes over a pruned body and notes its operands at each point and at each call (`points`). A slot is a
-//! height and a type that stand together at some point (`slot_pairs`).
-//!
-//! `liveness`: Whether a local is read before it is written, from just after a call of a body on.
-//!
-//! It is the definition's own walk (`wa_types/specs/Liveness.antt`), written as a recursion over code: it serves to look at a
-//! function, and not to rewrite a module.
+//! - `locals`, `points`, `slot_pairs`: the types of a function's locals; its operands at each point and just before each call, noted
+//!   by a walk of types; and its slots, the heights and types that stand together at some point.
+//! - `liveness`: whether a local is read before it is written, from just after a call on (`wa_types/specs/Liveness.antt`).
+//! - `frames`: `saved` and `room`.
 #![tactic(auto)]
 
 mod frames;

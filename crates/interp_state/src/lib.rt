@@ -1,24 +1,20 @@
-//! What the interpreter's configurations are made of: the store, activations with their operands, labels and locals; and the
-//! instructions that touch operands and the store alone (standard, section 4.4).
+//! What the interpreter's configurations are made of, and the instructions that touch operands and the store alone.
 //!
-//! A `Stack` is viewed as the activations of a configuration (`specs/View.antt`). Code and labels are slices borrowed from the
-//! module's tree: nothing of it is copied. What an instruction does to all operands and to the store is its effect
-//! (`specs/Effects.antt`), told by a `Flow`.
-//!
-//! Read in the order `store`, `activation`, `flow`, `values`, `operands`, `numbers`, `memory`.
-//!
-//! `program`, `rooms`, `spaces`, `types`: A module with what the interpreter looks up in it: the types of functions, and what their activations reserve.
+//! A `Stack` is viewed as the activations of a configuration (`specs/View.antt`; standard, section 4.2). Code and labels are slices
+//! borrowed from the module's tree: nothing of it is copied. What an instruction does to all operands and to the store is its effect
+//! (`specs/Effects.antt`), told by a `Flow`. Labels, calls and locals are `interp`'s.
 //!
 //! An activation has room for the greatest height of its operands and depth of its labels (`specs/Rooms.antt`), which are computed
-//! once a function when its `Program` is made.
+//! once a function when its `Program` is made, so that instructions push operands without taking memory.
 //!
-//! Read in the order `spaces`, `types`, `rooms`, `program`.
+//! `open` makes the store of a new instance, which is instantiation before start, of the module itself (standard, section 4.5.4): it
+//! writes all segments where all of them fit, and else answers how instantiation ends (`specs/Faults.antt`).
 //!
-//! `make`, `segments`: The store of a new instance: instantiation before start, of the module itself (standard, section 4.5.4).
-//!
-//! `open` writes all segments where all of them fit, and else answers how instantiation ends (`specs/Faults.antt`).
-//!
-//! Read in the order `segments`, `make`.
+//! - `store`, `activation`, `flow`: the store, activations with their labels, and what comes of a reduction.
+//! - `values`, `operands`, `numbers`, `memory`: values by index, constants and parametric instructions, numeric ones, and those of
+//!   memory and globals.
+//! - `spaces`, `types`, `rooms`, `program`: limits and types by index, what an activation reserves, and a module with both looked up.
+//! - `segments`, `make`: segments tested and written, and the store of a new instance.
 #![tactic(auto)]
 
 mod activation;

@@ -1,8 +1,9 @@
-//! Laws of what a written module spells. A module's bytes spell its norm: runs of locals merged, custom sections in order.
+//! Laws of what a written module spells; alone, as what is said of written bytes needs them and nothing else does.
 //!
-//! No run sees the difference. `specs/Bare.antt` says what a run sees of a module: its locals declared one by one, and no
-//! custom section. So the norm of a module makes the same runs, with blocking imports and under the protocol; it is valid
-//! where the module is; and where a module is a rewritten one, so is its norm (`specs/NormLaws.antt`).
+//! A module's bytes spell its norm: runs of locals merged, custom sections in order. No run sees the difference. `specs/Bare.antt`
+//! says what a run sees of a module: its locals declared one by one, and no custom section. So the norm of a module makes the same
+//! runs, with blocking imports and under the protocol; it is valid where the module is; and where a module is a rewritten one, so is
+//! its norm (`specs/NormLaws.antt`). All of them stand in `laws`.
 #![tactic(auto)]
 
 mod laws;

@@ -1,14 +1,20 @@
 //! Whether a body has its type, and if not, its first fault (standard, section 3.3).
 //!
-//! A body is checked from front to back over a stack of types, some of them unknown (`stack`, `bodies`). What that computes
-//! stands in `specs/Running.antt`, and `proofs/BodyVerdicts.antt` shows that it is the typing relation, or the first fault.
+//! A body is checked from front to back over a stack of operand types, some of them unknown behind code that can't be reached:
 //!
-//! `context`, `spaces`: What a module has under each index, imports first (standard, section 2.5.1), and what stands around a body (standard,
-//! section 3.1.1).
+//! ```text
+//! i32.const 1      i32
+//! br 0             unknown
+//! i64.add          i64, unknown below
+//! ```
 //!
-//! The index spaces are gathered once (`spaces`), and a body's context is lent from them (`context`).
+//! What `check_whole` computes stands in `specs/Running.antt`, and `proofs/BodyVerdicts.antt` shows that it is the typing relation of
+//! `wa_types`, or the first fault. The rules outside the bodies are `wasm_validate`'s.
 //!
-//! `table`: What an instruction that holds no other asks of the operands (standard, section 3.3): its type in a context, as a table.
+//! - `spaces`, `context`: what a module has under each index, imports first, gathered once (standard, section 2.5.1), and what stands
+//!   around a body, lent from it (standard, section 3.1.1).
+//! - `table`: what an instruction that holds no other takes off the operands and puts on.
+//! - `stack`, `bodies`: the operand types, and the check.
 #![tactic(auto)]
 
 mod bodies;

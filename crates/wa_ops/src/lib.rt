@@ -1,14 +1,17 @@
-//! The numeric operators on integers (standard, section 4.3), each opcode at 32 or 64 bits.
+//! The operators on integers, each opcode at 32 or 64 bits, and the tables of what instructions take and give.
 //!
-//! `OperatorClass::of` says which call takes an operator: `unary`, `convert`, `compare` or `binary`; `operand_type` is the type of
-//! its operands. These stand in the order in which they were pushed. The one law: each call answers what `operate` of
-//! `specs/Operate.antt` says of the same operands, topmost first: a value of the operator's result type, or for
-//! `binary` a trap. What the operators mean stands once for both widths in `specs/Integers.antt`.
+//! `OperatorClass::of` says which call takes an operator (standard, section 4.3): `unary`, `convert`, `compare` or `binary`.
+//! Operands stand in the order in which they were pushed. The one law: each call answers what `operate` of `specs/Operate.antt` says
+//! of the same operands, topmost first: a value of the operator's result type, or for `binary` a trap. What the operators mean
+//! stands once for both widths in `specs/Integers.antt`. `load_value` is the same for what a load reads.
 //!
-//! `load_value` is the same for what a load reads. No call takes memory.
+//! Validation and the interpreter read one table: an operator's operands and result, and a row for each load and store.
 //!
-//! `access`, `operators`, `types`: Tables of operators, loads and stores, and of types, that validation and the interpreter read: an operator's operands and result,
-//! and a row each of the loads and stores (standard, sections 2.4.1 and 2.4.4).
+//! No call takes memory, and none touches an operand stack: that is `interp_state`.
+//!
+//! - `class`, `operators`: an operator's class, and the types of its operands and result.
+//! - `types`, `access`: equal types and the type of a value; loads and stores by opcode.
+//! - `narrow`, `wide`: the operators at 32 and at 64 bits; `loads`: the value that a load makes of bytes.
 #![tactic(auto)]
 
 mod access;

@@ -1,24 +1,28 @@
-//! The types of WebAssembly modules and what they mean.
+//! Modules of WebAssembly as trees of plain values, and the definitions of what they mean.
 //!
-//! A module is a tree of plain Rust values (`Module`, `Func`, `Instr`). Contracts speak of it through a view
-//! into plain data of the same shape, `specs/Syntax.antt` with `specs/View.antt`, in which two modules are
-//! equal where they hold the same things, whatever memory their vectors have. On that data stand the
-//! definitions that every crate above cites: how a number is spelled (`specs/Leb.antt`), which bytes spell a
-//! file (`specs/Spells.antt` over `specs/Binary.antt`) and a module (`specs/Reading.antt`), which bytes begin one
-//! (`specs/Begun.antt`), and which bytes a module is written as (`specs/Encoding.antt`). Their laws are the
-//! contracts of functions with an empty body.
+//! A module is a tree (`Module`, `Func`, `Instr`). Contracts speak of it through a view into data of the same shape
+//! (`specs/Syntax.antt`, `specs/View.antt`), in which two modules are equal where they hold the same things, whatever memory their
+//! vectors have. On that data stand the definitions that every crate above cites:
 //!
-//! `bodies`, `levels`, `parts`, `whole`: Copies of modules and of their parts. Each is equal to what it was made from, whatever memory its vectors have.
-//! A body is copied level by level: the constructs that are open wait in a list, and no call goes deeper for a deeper body.
+//! - which bytes spell a file (`specs/Spells.antt` over `specs/Binary.antt`) and a module (`specs/Reading.antt`), which bytes
+//!   begin one (`specs/Begun.antt`), and which bytes a module is written as (`specs/Encoding.antt`);
+//! - which modules are valid (`specs/Validity.antt` over `specs/Typing.antt` and `specs/Rules.antt`), and the first fault of the others;
+//! - which functions may pause, what frames hold, and what a rewritten program may cost (`specs/Pausing.antt`,
+//!   `specs/Frames.antt`, `specs/Bounds.antt`).
 //!
-//! `measures`, `pruning`: Trees of instructions: what of them can be reached, how many there are, how deep they nest.
+//! `prune` leaves out what follows an instruction behind which control never goes on, as `i32.const 1` in `br 0; i32.const 1`: its
+//! answer is `pruned` of the body. A body and its pruned body have the same type and the same runs, so every analysis above this
+//! crate looks at pruned bodies alone. Copies are equal to what they were made from. Trees are copied and dropped level by level:
+//! the constructs that are open wait in a list, and no call goes deeper for a deeper body.
 //!
-//! `prune` leaves out what follows an instruction after which control never goes on, as `i32.const 1` in
-//! `br 0; i32.const 1`. A body and its pruned body have the same type and the same runs, so every analysis
-//! above this crate looks at pruned bodies alone.
+//! Laws are the contracts of functions with an empty body. Numbers in LEB128 come from `leb_numbers`. Nothing here reads, checks or
+//! runs a module.
 //!
-//! The one law: the answer of `prune` is `pruned` of the body, whatever memory its vectors have. A call goes
-//! no deeper than the body nests, and looks at each instruction once.
+//! - `values`, `names`, `operators`, `instrs`, `syntax`: the tree, from values to modules; `control`: what never goes on.
+//! - `measures`, `weights`: how many instructions a body has, how deep it nests, and its weight; `pruning`: what can be reached.
+//! - `leaves`, `levels`, `bodies`, `parts`, `whole`: copies of instructions, bodies, sections and modules; `drops`: bodies dropped.
+//! - `bounds`, `rules`: which limit is passed, which rule of validity is broken.
+//! - `typing_laws`, `frame_laws`: laws of the typing relation and first faults, of slots and live locals.
 #![tactic(auto)]
 
 mod bodies;

@@ -1,7 +1,4 @@
-//! Parts of a module that hold no code, from bytes that are known to spell it: types, names, indices and vectors (standard, sections 5.2 and 5.3).
-//!
-//! What each part builds is what the bytes from one place to another spell, whatever follows them; where they end within a part, nothing is built of
-//! it (`specs/Builds.antt`). `Entry` says how an entry of a vector is read, so that each vector is proved once.
+//! Why nothing was built of a module.
 
 use std::alloc::{AllocError, AllocFailed};
 use thiserror::Error;

@@ -1,29 +1,22 @@
-//! Modules as the bytes of a file.
+//! Writes modules as the bytes of a file (standard, section 5).
 //!
-//! `encode` writes every module in the one form that `Enc` of wa_types defines (standard, section 5): each
-//! number in its shortest spelling, known sections in rising id with those of no entries left out, adjacent
-//! runs of locals merged, and each custom section behind the known sections of the ids up to its place.
+//! `encode` writes every module in the one form that `Enc` of `wa_types` defines: each number in its shortest spelling, known
+//! sections in rising id with those of no entries left out, adjacent runs of locals merged, and each custom section behind the known
+//! sections of the ids up to its place.
 //!
-//! The law: the answer is exactly `Enc` of the module, or `TooLong` exactly where that passes 67,108,864
-//! bytes, or `Memory`. The length is computed first, without memory, so that nothing is written of a module
-//! that is too long, and every size stands in front of its content without a byte being moved. The work is
-//! linear in the module, and no recursion is deeper than its nesting.
+//! The law: the answer is exactly `Enc` of the module, or `TooLong` exactly where that passes 67,108,864 bytes, or `Memory`.
+//! `encode_around` has the same law; it writes a module around entries of the code section that were written beforehand, so that its
+//! functions needn't be in memory together.
 //!
-//! `encode_around` writes a module around the entries of its code section, which were written beforehand, so that its functions
-//! needn't be in memory together; the law is the same.
+//! Whatever is written can be measured first, without memory: for each part its length and its bytes stand side by side, and the one
+//! is the length of the other. So nothing is written of a module that is too long, and every size stands in front of its content
+//! without a byte being moved. The work is linear in the module, and no recursion is deeper than its nesting. A module isn't
+//! checked: one that isn't valid is written too.
 //!
-//! `entry`, `numbers`, `types`: Numbers, names, types and vectors as bytes, each in the one form that `Enc` of wa_types defines (standard, sections 5.2, 5.3 and 5.1.3).
-//!
-//! Whatever is written can be measured first, without memory: the length and the bytes of each part stand side by side, and the
-//! one is the length of the other. `Entry` says how an entry of a vector is written, so that each vector is proved once.
-//!
-//! `code`: Expressions as bytes, and how many they are, each in the one form that `Enc` of wa_types defines (standard, section 5.4).
-//!
-//! `entries`, `locals`, `sections`: The sections of a module as bytes, each entry in the one form that `Enc` of wa_types defines (standard, section 5).
-//!
-//! Whatever is written can be measured first, without memory: the length and the bytes of each part stand side by side, and the
-//! one is the length of the other. `Entry` of `encode_types` says how an entry of a vector is written, so that each section of
-//! entries is proved once.
+//! - `numbers`, `entry`: numbers, sizes and names; how an entry of a vector is written, so that each vector is proved once.
+//! - `types`, `code`, `locals`: types, instructions and expressions, declared locals.
+//! - `entries`, `sections`: entries of the sections with code and data, and sections.
+//! - `module`, `around`: whole modules.
 #![tactic(auto)]
 
 mod around;

@@ -1,23 +1,27 @@
 //! The grammar of the binary format (standard, section 5): which bytes are a file's, and where others fail.
 //!
-//! The machine holds a stack of goals (`wasm_goals`), and takes the items of a file one behind another. It never recurses, and takes
-//! the bytes in pieces. As it goes it notes the first float, the numbers that limits bound and how deep code nests (`wasm_marks`).
-//! `specs/Machine.antt` says where it stands, waits and stops; short items are passed over at once (`specs/Passing.antt`).
+//! A `Machine` holds a stack of goals, what is owed from here to the end of the file. It takes the items of the file one behind
+//! another; each puts other goals in the place of the first one. Here a 2 comes at the front of a body, two runs of locals:
 //!
-//! `front`, `numbers`, `opcodes`: A place in the bytes of a module, and what is read there: numbers, and what follows an opcode.
+//! ```text
+//! before the 2:  Count(Runs), Code, Until(end of the body), ..
+//! behind it:     Entries(Runs, 2), Code, Until(end of the body), ..
+//! ```
 //!
-//! A `Cursor` goes over bytes that are known to spell something. Contracts see its offset and the bytes from there on (`specs/Places.antt`). `immediate_form` tells
-//! what follows an opcode, in one table for all that read code (`specs/Forms.antt`).
+//! It never recurses, takes the bytes in pieces, and keeps none. As it goes it notes what a file is judged by besides its spelling
+//! (`Marks` of `file_laws`): the first float, the numbers that limits bound, how deep code nests.
 //!
-//! `passed`, `window`: A file of which only a stretch is held: the bytes from a place on, and where they stand.
+//! A caller may rely on `specs/Machine.antt`: where the machine stands, waits and stops; so `check` answers the marks of a file, or
+//! the place at which no file goes on. What goals mean is `Begun` of `wa_types`. Short items are passed over at once
+//! (`specs/Passing.antt`), with the same answer. No module is built: `wasm_build` does that from bytes that passed.
 //!
-//! `Window` tells bytes by their places in the whole file. What came before the stretch is known to proofs alone (`Passed`), so contracts
-//! speak of the file from its first byte on, and nothing of it is kept.
-//!
-//! `ends`, `goals`, `items`, `next`, `stack`: The goals of the grammar (standard, section 5): what may follow in a file, item by item.
-//!
-//! A goal says which item comes next (`items`), what it leads to (`next`), and where a stretch of known length ends (`ends`); `stack` holds those that are owed. What
-//! they mean is `Begun` of `wa_types`.
+//! - `passed`, `window`: a file of which only a stretch is held. Bytes are told by their places in the whole file; what came before
+//!   is known to proofs alone, so contracts speak of the file from its first byte on.
+//! - `front`, `numbers`, `opcodes`: a `Cursor`, a place in bytes that are known to spell something, and what is read there
+//!   (`specs/Places.antt`). `immediate_form` tells what follows an opcode, in one table for all that read code (`specs/Forms.antt`).
+//! - `goals`, `items`, `next`, `ends`, `stack`: what may come next, the item that it wants, what it leads to, where a content of known
+//!   length ends, and the goals that are owed.
+//! - `notes`, `short`, `machine`: what an item shows, runs of short items, and the machine.
 #![tactic(auto)]
 
 mod ends;
