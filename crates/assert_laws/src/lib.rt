@@ -1,13 +1,16 @@
-//! `laws`: Guarded code with asserts: to assert the pieces is to assert what is written of them. Each law is the contract of a function that
-//! does nothing.
+//! Laws of modules with asserts; alone, as no program writes asserts so far.
 //!
-//! `tested_runs`: What a module with asserts does, beside the one without: in state 0 each reduction is one of both, with a test behind a return or
-//! an answer. Each law is the contract of a function that does nothing.
+//! An assert is a test behind a call without number, which traps where the state is 1 (`guard_form`). So an unwind that meets an
+//! activation which stands at no numbered call ends there.
 //!
-//! `tested_links`: The floor between slim flat code and written code: flat code with asserts. What flattening owes the headline is owed of it too.
-//! Each law is the contract of a function that does nothing.
+//! To assert the pieces is to assert what is written of them (`specs/AssertedUnits.antt`). In state 0 each reduction is one of the module
+//! with asserts and of the one without, with a test behind a return or an answer (`specs/Beside.antt`). So what flattening owes the
+//! headline is owed of flat code with asserts too, which stands between slim flat code and written code (`specs/Links.antt`).
+//! Suspended stacks of activations with asserts stand as frames, come back, and an unwind that meets a test ends there.
 //!
-//! Suspended stacks of activations with asserts: they stand as frames, come back, and an unwind that meets a test ends there.
+//! - `laws`: asserted pieces make the asserted code.
+//! - `tested_runs`: runs in state 0.
+//! - `tested_links`: what carries over to flat code with asserts.
 #![tactic(auto)]
 
 mod laws;

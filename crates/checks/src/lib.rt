@@ -1,10 +1,13 @@
-//! `definition_check`: Checks that the definitions mean what they should, on small modules.
+//! Checks that definitions mean what they should, and that reading undoes writing; apart, as no other crate needs them.
 //!
-//! Each function here does nothing: its contract is a fact on modules that are written out, which the prover
-//! computes from the definitions. So a definition that says another thing than meant shows here.
+//! Each function of `definition_check` does nothing: its contract is a fact on modules that are written out, which the prover computes
+//! from the definitions. So a definition that says another thing than meant shows here.
 //!
-//! `round_trip`: The law of the round trip: what is written is read back as the same module, its runs merged and its custom sections in
-//! their written order; and reading and writing makes the shortest spelling of what the bytes spell.
+//! What is written is read back as the same module, its runs merged and its custom sections in their written order (`read_again`); and
+//! reading and writing makes the shortest spelling of what the bytes spell (`rewrite`).
+//!
+//! - `definition_check`: facts on small modules.
+//! - `round_trip`: reading behind writing, and writing behind reading.
 #![tactic(auto)]
 
 mod definition_check;

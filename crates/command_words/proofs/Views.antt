@@ -1,4 +1,4 @@
--- What a word is, for `clap` and for the commands of wa_model at once.
+-- What a word is, for `clap` and for the commands of script_model at once.
 use Rattle.std.proofs.Common.{◌≡◌, ◌⊎◌, ◌∙◌, ◌==◌, ℕ, zero, suc, List, [], ◌∷◌, ◌++◌, Option, Some, None, Bool, true, false, not, ◌&&◌, ◌||◌, inl, inr, refl, sym, ap, subst, codes, bytes_eq}
 use Rattle.std.proofs.Common.{if◌then◌else◌, true≢false, eqb-true, eq-eqb, arith, slice_get, chars, is_some, unwrap_or, encode_utf8, encode_utf8_all, IsUtf8, option_and_then}
 use Rattle.std.proofs.lemmas.Slice.Eq.{bytes_eq-Decides}

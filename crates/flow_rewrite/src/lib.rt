@@ -1,34 +1,25 @@
-//! Guards: the body of a flat function with a test of the state before each piece without numbered calls.
+//! Guards: writes the body of a flat function with a test of the state before each piece without numbered calls.
 //!
-//! The form and its laws stand in `guard_form` and `guard_runs`; this crate writes it, exactly. It goes over the
-//! statements once: a piece is gathered with its labels as they are, and put under its test, or behind its
-//! call, once it is known what comes next. So each instruction is copied once more, and the time is linear.
-//! Sequences and calls are written in `flow_calls`, blocks, loops and ifs in `flow_constructs`.
+//! The form and its laws stand in `guard_form`; here it is written, exactly, in time linear in the function. Two calls write it:
 //!
-//! `labels`, `put`: The code of flat statements, put behind what stands there: operands, moves, tests of the state, and code with its labels
-//! raised.
+//! - `guard` from flat statements. It goes over them once: a piece is gathered with its labels as they are, and put under its test, or
+//!   behind its call, once it is known what comes next; so each instruction is copied once more.
+//! - `guarded_pieces` from a function that stands in pieces and units already, as `slim_rewrite` makes them. `specs/UnitView.antt`
+//!   says which units of `guard_form` these are. It goes over the units of a sequence once, each beside the piece in front of it.
 //!
-//! Contracts are of one form (`specs/Putting.antt`): with whatever behind it, the new list stands for the old one with this
-//! code behind it; so what calls put in a row composes. `specs/Statements.antt` has the code of one statement.
+//! Contracts are of one form (`specs/Putting.antt`): with whatever behind it, the new list stands for the old one with this code behind
+//! it; so what calls put in a row composes. No frame is written here, and no statement is left out.
 //!
-//! `laws`, `numbering`: Which calls of a flat function get a number: the places of those at which it may pause.
-//!
-//! `guards`, `sequence`, `units`: Sequences of guarded code, and calls in them, with a number and without.
-//!
-//! A piece without numbered calls is put under a test of the state (`guards`); a sequence gathers its next piece until it is
-//! known what comes behind it (`sequence`); a call is one of its piece, or begins the block in which a numbered call waits
-//! (`units`).
-//!
-//! `constructs`: Blocks, loops and ifs of guarded code, with their bodies as they are written.
-//!
-//! A construct that holds no numbered call is one instruction of its piece. Any other stands by itself, behind its piece; the
-//! arm of an if is picked by the saved index of the call while the stack is rewound.
-//!
-//! `calls`, `conditions`, `counts`, `exits`, `pieces`, `sequences`: Functions in pieces and units, and their guarded code.
-//!
-//! A piece is code without numbered calls; a unit is a numbered call, or a construct that holds one. `specs/UnitView.antt` says
-//! which units of `guard_form` these stand for; `sequences` writes the guarded code of those, exactly. It goes over the units
-//! of a sequence once, each beside the piece in front of it, and recurs into constructs alone.
+//! - `laws`, `numbering`: which calls of a flat function get a number, the places of those at which it may pause.
+//! - `labels`, `put`, `guards`: labels raised, single instructions, and the guard of a piece.
+//! - `sequence`, `units`: a sequence, which gathers its next piece until it is known what comes behind it; a call, which is one of its
+//!   piece, or begins the block in which a numbered call waits.
+//! - `constructs`: blocks, loops and ifs. One that holds no numbered call is an instruction of its piece, any other a unit; the arm of
+//!   an if is picked by the saved index of the call while the stack is rewound.
+//! - `write`, `function`: the walk over statements, and `guard`.
+//! - `pieces`, `counts`, `exits`: a function in pieces and units, whether it has one numbered call alone, and where runs go that have
+//!   passed a sequence's calls.
+//! - `calls`, `conditions`, `sequences`: numbered calls, conditions of ifs, and `guarded_pieces`.
 #![tactic(auto)]
 
 mod calls;

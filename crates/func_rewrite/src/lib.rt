@@ -1,17 +1,26 @@
-//! One function as it is written under the policy `all`: flat, in slim pieces, guarded, with the code that restores and saves its frame,
-//! and its frames. What doesn't look at the policy, the body around that code and the locals, serves `live_rewrite` too.
+//! One function as it is written by the policy of the settings: flat, in slim pieces, guarded, with the code of its frames.
 //!
-//! `frames`, `kept`: Which locals the frames of a function keep, and the frames of its numbered calls.
+//! ```text
+//! where the state isn't 0: restore the frame
+//! block  guarded pieces; a call that returned with the state 1 leaves here  end
+//! where the state isn't 0: save the frame
+//! ```
 //!
-//! A frame has a place for each parameter, declared local and slot. The written code goes over the parameters, the declared
-//! locals and the slots that hold an operand at some numbered call (`kept_locals`); the places of others stay as gaps
-//! (`chosen_frame`).
+//! `write_by_policy` writes a function from its flat code (`flatten`), with its pieces and guards from `slim_rewrite`, and answers it with
+//! the frames of its numbered calls; `emit_by_policy` answers it without these.
 //!
-//! `calls`, `live_function`, `layouts`, `policy`: One function as it is written by the policy of the settings.
+//! Under `all` a frame has a place for each parameter, declared local and slot. The written code goes over the parameters, the
+//! declared locals and the slots that hold an operand at some numbered call (`kept_locals`); the places of others stay as gaps
+//! (`chosen_frame`), and the code is that of `local_spill`. Under `live` the sets of locals that the numbered calls keep
+//! (`live_locals`) make the parts of the frames (`call_frames`), and these their code (`live_frames`).
 //!
-//! Under `live` it is flat, in slim pieces, guarded, with the code that restores and saves its frame, which differs by call, and its frames: the
-//! sets of locals that its numbered calls keep (`live_locals`) make the parts of its frames (`call_classes`), and these its code
-//! (`live_frames`).
+//! The law: the function is one that the definition of the emitted module asks for (`IsWritten` of `live_laws/specs/EmittedAs.antt`), or
+//! memory is lacking. Which functions are written, and the module around them, are `module_rewrite`'s matter.
+//!
+//! - `locals`, `body`: declared locals, and the body around guarded pieces, for both policies.
+//! - `kept`, `frames`, `function`: under `all` which locals frames keep, the frames of calls, and the function.
+//! - `calls`, `layouts`, `live_function`: the same under `live`.
+//! - `policy`: by the settings.
 #![tactic(auto)]
 
 mod body;

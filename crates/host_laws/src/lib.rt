@@ -1,18 +1,18 @@
-//! `laws`: Laws of what a program tells under the host's protocol, event by event.
+//! What a program tells under the host's protocol, event by event, and what answers its calls; below `pause_host`, as it runs nothing.
 //!
-//! A host doesn't know which outcomes a program's later calls will meet, so a stretch of its run is told for all of them
-//! (`specs/Stretch.antt`). Between two events a program stands at a place: notes that were made and not told yet, and where the
-//! run is behind them (`specs/Places.antt`). A new call meets an answer line or a device, and a device's fault comes only with one more
-//! in its count (`specs/Supplies.antt`). What a program has told begins a story of the protocol world, and is the whole one once the
-//! end is told (`specs/Stories.antt`, `specs/Laws.antt`): nothing is known of what other programs ask of the devices between its
-//! events; of a program that is alone also its run as a world is. Nothing here speaks of an interpreter.
+//! Nothing here speaks of an interpreter. A host doesn't know which outcomes a program's later calls will meet, so a stretch of its run
+//! is told for all of them (`specs/Stretch.antt`). Between two events a program stands at a place: notes that were made and not told
+//! yet, and where the run is behind them (`specs/Places.antt`). What a program has told begins a story of the protocol world, and is the
+//! whole one once the end is told (`specs/Stories.antt`, `specs/Laws.antt`): nothing is known of what other programs ask of the devices
+//! between its events; of a program that is alone also its run as a world is.
 //!
-//! `device`, `faults`, `lines`: What a new call of an import meets among a program's answer lines or from a device, and the tests that an answer has to pass.
+//! A new call meets an answer line or a device, and a device's fault comes only with one more in its count (`specs/Supplies.antt`).
+//! `next_answer` takes the line that answers the call, or tells why none does. `device_outcome` asks the device to which an import is
+//! bound, or tells that there is none or that it failed. `answer_fault` is the first test that the answer fails: its value, its pokes in
+//! order, and whether it may pause there. `wa_model` has all three as definitions (`MeetsLine`, `MeetsDevice`, `fault_of`).
 //!
-//! `next_answer` takes the line that answers the call, or tells why none does. `device_outcome` asks the device to which an import
-//! is bound, or tells that there is none or that it failed (`MeetsDevice` of `wa_model`). `answer_fault` is the first test that the answer
-//! fails: its value, its pokes in order, and whether it may pause there. `wa_model` has both as definitions (`MeetsLine`,
-//! `fault_of`).
+//! - `laws`: laws of stretches and of what is told.
+//! - `lines`, `device`, `faults`: answer lines, devices, and the tests of an answer.
 #![tactic(auto)]
 
 mod device;

@@ -1,26 +1,22 @@
-//! What a local's value is doesn't matter where no path reads it before it is written: the step in between that the policy `live`
-//! puts between a run that was paused and one that wasn't.
+//! The module that rewriting emits by the policy of the settings, and the headline for `live`; alone, as writers and promises rest on it.
 //!
-//! `prepared_modules`: What is written of a source module is a prepared module: it has no float, and is within the wider bounds.
+//! What a local's value is doesn't matter where no path reads it before it is written (`specs/SameLive.antt`). So a stack that comes back
+//! from frames of the policy `live` differs from the one that was suspended only in locals that no path reads first, with the same
+//! operands in their slots: that is the step in between that this policy puts between a run that was paused and one that wasn't.
 //!
-//! `stacks_again`: What comes back of an activation's flat locals from a frame of the policy `live`: the locals of an activation of the original that
-//! differs from the one that was suspended only where no path reads first, with the same operands in their slots.
+//! `specs/EmittedAs.antt` says what is emitted: functions are written from some slim pieces, and under `live` with frames that differ by
+//! call (`specs/LiveParts.antt`), under `all` as `rewrite_form` says. A caller may rely on this: the emitted module of a valid one is
+//! valid, is its original, rewritten, and behaves like it, whatever pauses; its bytes spell it, and of a source it is a prepared module,
+//! which has no float and is within the wider bounds.
 //!
-//! `live_emitted`: The headline for the policy `live`: a valid emitted module whose frames keep at each call what the policy saves there behaves
-//! like its original, whatever pauses.
+//! `module_rewrite` writes that module; nothing is computed here, each law is the contract of a function that does nothing.
 //!
-//! `specs/LiveFraming.antt` says what frames owe. `proofs/LiveFramed.antt` has that they stand for suspended stacks as the laws on
-//! stacks want it, `proofs/ChosenStacks.antt` and `proofs/LiveAgain.antt` that what came back stands beside a stack that differs
-//! from the suspended one only in locals that no path reads first.
-//!
-//! `live_modules`, `policies`: The module that rewriting emits for the policy `live`, as a definition, and that it is its original, rewritten.
-//!
-//! Each function that may pause is flat, guarded and with frames that differ by call, `specs/LiveParts.antt` saying what their parts
-//! owe; `specs/EmittedAs.antt` says what is emitted by the policy of the settings. Laws of both are contracts of functions that do
-//! nothing.
-//!
-//! `live_bytes`, `policy_bytes`: What is written of an emitted module: its bytes spell it, and of a source it is a prepared module; for the policy `live`, and by the
-//! policy of the settings.
+//! - `laws`, `stacks_again`: live locals suffice; what comes back of a stack from frames of the policy `live` (`specs/LiveFrames.antt`).
+//! - `live_emitted`: the headline for the policy `live`. `specs/LiveFraming.antt` says what frames owe. `proofs/LiveFramed.antt` has that
+//!   they stand for suspended stacks as the laws on stacks want it, `proofs/ChosenStacks.antt` and `proofs/LiveAgain.antt` that what
+//!   came back stands beside such a stack.
+//! - `live_modules`, `policies`: the emitted module under `live`, and by the policy of the settings.
+//! - `prepared_modules`, `live_bytes`, `policy_bytes`: what is written of it.
 #![tactic(auto)]
 
 mod laws;

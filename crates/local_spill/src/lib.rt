@@ -1,15 +1,12 @@
-//! How the locals of a suspended function are saved in memory and restored.
+//! What a written module has that its original hasn't: the code that saves and restores a frame, and the runtime's parts.
 //!
-//! A frame has the function's locals in a row and behind them the number of the call at which the function waits
-//! (`layout`). The function begins with code that restores them where the state isn't 0 (`prologue`), and ends with code
-//! that saves them (`epilogue`); `specs/Spilling.antt` has both instruction by instruction. They go by the places that they
-//! are given, at any offsets: a place that is left out is neither stored nor loaded, and the frame keeps its size.
-//! What this code does stands in `frame_laws`.
+//! A frame has the function's locals in a row and behind them the number of the call at which the function waits (`layout`). The
+//! function begins with code that restores them where the state isn't 0 (`prologue`), and ends with code that saves them
+//! (`epilogue`); `specs/Spilling.antt` has both instruction by instruction. They go by the places that they are given, at any offsets:
+//! a place that is left out is neither stored nor loaded, and the frame keeps its size. What this code does is said by `frame_laws`;
+//! frames that differ by call are `live_frames`.
 //!
-//! `adding`, `reserving`: The parts that a written module has behind those of the original.
-//!
-//! `add_runtime` appends three types, two globals, five functions and their exports, and a memory where the
-//! module has none. The five functions stand behind the module's own, of which there are `func_space`:
+//! `add_runtime` appends three types, two globals, five functions and their exports, and a memory where the module has none:
 //!
 //! ```text
 //! asyncify_start_unwind(address)   state 1, address set, test
@@ -19,8 +16,13 @@
 //! asyncify_get_state() -> i32      the state
 //! ```
 //!
-//! The test executes `unreachable` where the location word is greater than the end word. All that the module
-//! had keeps its place and its index. The answer is `with_runtime` of the module (wa_types, specs/Runtime).
+//! The test executes `unreachable` where the location word is greater than the end word. All that the module had keeps its place and
+//! its index. The answer is `with_runtime` of the module (`wa_types/specs/Runtime.antt`). A module that imports from `asyncify` or exports
+//! one of the five names isn't rewritten: `reserved` tells the first such.
+//!
+//! - `frames`, `laying`: what a frame keeps, and where.
+//! - `putting`, `location`, `room`, `spilling`: stores and loads, the location moved, the test whether a frame fits, and both codes.
+//! - `reserving`, `adding`: reserved names, and the runtime's parts.
 #![tactic(auto)]
 
 mod adding;

@@ -1,10 +1,12 @@
-//! The module that rewriting emits, as a definition: functions that may pause are flat, guarded and with frames, all others
-//! stay, and the runtime's parts stand behind. Laws of it are contracts of functions that do nothing.
+//! The module that rewriting emits under the policy `all`, as a definition with its laws; alone, as both policies build on it.
 //!
-//! `emitted_bytes`: What is written of an emitted module: its numbers are in range, its functions declare few locals, and its bytes, which are
-//! not too many, spell its norm.
+//! Functions that may pause are flat, in some slim pieces, guarded and with frames, all others stay, and the runtime's parts stand
+//! behind (`specs/Emitted.antt`, and for any codes of frames `specs/EmittedBy.antt`). It meets what the headline asks: it is its original,
+//! rewritten, runs and pauses included. What is written of it: its numbers are in range, its functions declare few locals, and its
+//! bytes, which are not too many, spell its norm (`specs/Written.antt`). `module_rewrite` computes it.
 //!
-//! `emitted_runs`: The emitted module of `rewrite_form` meets what the headline asks: it is its original, rewritten, runs and pauses included.
+//! - `laws`, `emitted_runs`: it is its original, rewritten, but for its runs, and then with them.
+//! - `emitted_bytes`: what is written of it.
 #![tactic(auto)]
 
 mod emitted_bytes;

@@ -1,31 +1,27 @@
-//! Laws of runs that the proof on rewritten modules rests on, and a module rewritten by hand.
+//! Laws of runs that the proof on rewritten modules rests on; apart from `run_theory`, as the interpreter needs that alone.
 //!
-//! Code that a rewriter adds keeps the original's store: it writes in the area and its own globals alone. Along a stretch of
-//! such reductions a run shows no event and the old store at each cost on the way (`specs/Stretches.antt`), which is what the
-//! headline says of the moments between events. What is expected of a run grows with its cost, and nothing follows an end
-//! (`specs/Growing.antt`). Over stores that fit, machines stop only where all is over (`specs/Stopping.antt`). Its events and its touches of the memory
-//! stand in one list, in order (`specs/Seeing.antt`). The host finds the runtime's functions by their exports, and the size rule is kept with them
-//! (`specs/RuntimeParts.antt`). `specs/RewrittenByHand.antt` has a module of four instructions rewritten by
-//! hand, that does what is expected, and wrong rewritings, each of which the definitions tell apart.
+//! Code that a rewriter adds keeps the original's store: it writes in the area and its own globals alone. Along a stretch of such
+//! reductions a run shows no event and the old store at each cost on the way (`specs/Stretches.antt`), which is what the headline says
+//! of the moments between events. What is expected of a run grows with its cost, and nothing follows an end (`specs/Growing.antt`).
 //!
-//! `laws`: Laws of ranges: along each run the values lie in the ranges of their types, bytes are bytes, and a memory is whole pages,
-//! 1,024 of them at most, which never grow fewer.
+//! Values lie in the ranges of their types, bytes are bytes, and a memory is whole pages, 1,024 of them at most, which never grow
+//! fewer (`specs/Ranges.antt`). An original may be told any number as an argument or an answer of a plan that fits it, and frames are
+//! bytes: what passes through one comes back the same only because it lies in its range. The area, which lies inside the memory as it
+//! is declared (`plans_in_range`), stays inside it (`area_stays_inside`).
 //!
-//! An original may be told any number as an argument or an answer of a plan that fits it, and frames are bytes: what passes
-//! through one comes back the same only because it lies in its range. `runs_in_range` says so of every note of both machines,
-//! of `Blocking` over an original and of `Protocol` over what it becomes; `area_stays_inside` says that the area, which lies
-//! inside the memory as it is declared (`plans_in_range`), stays inside it. `specs/Ranges.antt` has the words.
+//! At every call of an import the stack is a chain. Each activation stands at a call of its function's pruned body that leads to the
+//! next one inwards, the innermost to the import, and the outermost is what the host called. So where `call_indirect` isn't ignored, a
+//! pause finds each activation at a numbered call (`specs/Standing.antt`), and what it suspends is a lawful stack of the entry that runs
+//! (`specs/Lawful.antt`): operands of the types found just before the call, and behind it what the pruned body has there.
 //!
-//! `suspended_stacks`: Laws of suspended stacks: where each activation stands when a run calls an import, and what it then holds.
-//!
-//! At every call of an import the stack is a chain. Each activation stands at a call of its function's pruned body that leads
-//! to the next one inwards, the innermost to the import, and the outermost is what the host called. So where
-//! `call_indirect` isn't ignored, a pause finds each activation at a numbered call (`specs/Standing.antt`). In a valid module
-//! it stands over operands of the types that the typing of its body finds just before that call, and behind it stands what
-//! the pruned body has there. So what a pause suspends is a lawful stack of the entry that runs (`specs/Lawful.antt`).
-//!
-//! `listed_pauses`: Laws of pauses at listed imports: a run all of whose pauses are there is the same whether its plan tells the list or not. So a
-//! prepared module, whose plan tells none, behaves like its original (`specs/ListedPauses.antt`).
+//! - `stretch_laws`, `cost_laws`, `touch_laws`: stretches that keep the store, runs at greater and lower costs, and events with touches of
+//!   the memory in one list (`specs/Seeing.antt`).
+//! - `laws`, `suspended_stacks`: ranges and memories; stacks at calls of imports.
+//! - `runtime_parts`: the host finds the runtime's functions by their exports, and the size rule is kept with them.
+//! - `listed_pauses`: a run all of whose pauses are at listed imports is the same whether its plan tells the list or not; so a prepared
+//!   module, whose plan tells none, behaves like its original (`specs/ListedPauses.antt`).
+//! - `by_hand`: a module of four instructions rewritten by hand that does what is expected, and wrong rewritings, each of which the
+//!   definitions tell apart (`specs/RewrittenByHand.antt`).
 #![tactic(auto)]
 
 mod by_hand;

@@ -7,22 +7,17 @@
 //! answer env.sleep i32:42 ticks 5
 //! ```
 //!
-//! The text is cut into lines (`lines`), each of which is read by `script_lines`. Statements are put one after another into the
-//! program that is being told (`drafts`), and programs behind one another (`reading`): one pass over the bytes, which copies a
-//! word where it is kept. The answer is `script_text` of wa_model, with the line and the rule of the first fault.
+//! The law: the answer is `script_text` of `script_model`, with the line and the rule of the first fault. Whether a module has such
+//! entries or imports isn't asked: that is `script_setup`.
 //!
-//! `bytes`, `word_fault`, `numbers`, `words`: The words of a line of a script, and the numbers, values and bytes that words spell.
+//! The text is read in one pass, which copies a word where it is kept. Each line goes through four steps (`line_says` of `script_model`,
+//! the least rule where more are broken): it is UTF-8, and is cut into words at spaces and tabs, in which `%hh` stands for a byte; its
+//! first word is one of twelve; the words behind it are of that line's form; and their numbers, values and bytes are of theirs.
 //!
-//! A line is UTF-8 and is cut into words at spaces and tabs, in which `%hh` stands for a byte (`words`). A word may spell a
-//! number or a value of 32 or 64 bits in decimal (`numbers`), or bytes in hexadecimal digits (`bytes`). What breaks rule 1 or
-//! 4 of scripts is told as a `LineFault`.
-//!
-//! `answers`, `keywords`, `statements`: What a line of a script says, or which of the first four rules of scripts it breaks.
-//!
-//! A line is read in four steps, each of which goes over it once: it is UTF-8, and is cut into words (both in `line_words`);
-//! its first word is one of twelve (`keywords`); the words behind it are of that line's form, and their numbers, values and
-//! bytes of theirs (`statements`, `answers`, and `line_words`). What is answered is `line_says` of wa_model, the least rule
-//! where more are broken.
+//! - `word_fault`, `words`, `numbers`, `bytes`: why a line says nothing; words, numbers and values in decimal, bytes in hexadecimal digits.
+//! - `keywords`, `answers`, `statements`: first words, lines that answer a call, and what a line says.
+//! - `script`, `drafts`: a script as it was read, and the program that is being told.
+//! - `faults`, `lines`, `reading`: why a text is no script, its lines, and `read_script`.
 #![tactic(auto)]
 
 mod answers;

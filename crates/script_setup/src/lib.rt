@@ -1,22 +1,18 @@
-//! Sets up a program of a script over its module.
+//! Sets up the programs of a script: their files, their modules, and what each is given.
 //!
-//! What is asked of a program's lines once its module is there (`specs/SetUpRules.antt`): the area, the five exports and the
-//! entries, as `host_setup` asks; each `global` line sets imported globals of its value's type; and, for `run`, no memory is shown
-//! that overlaps the area. `set_up_program` answers what the program is given, or the line and the rule of its first fault.
+//! `fetch_script` answers the script in a file (`specs/Scripts.antt`), `fetch_prepared` the prepared module in a file; both tell why there
+//! is none. A host takes a module as it is, if its file spells one, without a float and within the limits of a prepared module, and it
+//! is valid (`specs/Prepared.antt`).
 //!
-//! `binding`: The devices to which a script's lines bind a program's imports.
+//! `set_up_program` answers what the program is given, or the line and the rule of its first fault. What is asked of its lines once the
+//! module is there (`specs/SetUpRules.antt`): the area, the five exports and the entries, as `host_setup` asks; each `global` line sets
+//! imported globals of its value's type; and, for `run`, no memory is shown that overlaps the area. `bindings` tells which device answers
+//! each import: that of the last `device` line with its joined name (`specs/Bindings.antt`). Nothing runs here.
 //!
-//! The last `device` line of an import's joined name tells its device (`specs/Bindings.antt`).
-//!
-//! `file_fault`, `modules`, `reading`, `scripts`: The files that hosting commands read: scripts and prepared modules.
-//!
-//! `fetch_script` answers the script in a file (`specs/Scripts.antt`), `fetch_prepared` the prepared module in a file. Both tell
-//! why there is none.
-//!
-//! `reading`: Prepared modules, from their files.
-//!
-//! A host takes a module as it is, if its file spells one, without a float and within the limits of a prepared module, and it is
-//! valid (`specs/Prepared.antt`); `prepare` answers it, or what its file is refused for.
+//! - `file_fault`, `scripts`, `reading`, `modules`: why a file's content isn't there; scripts; modules in files, or their refusal.
+//! - `fault`, `names`, `entries`: why a program isn't set up, the names in its lines, and its entries.
+//! - `globals`, `binding`: imported globals and the lines that set them, imports and the devices of lines.
+//! - `setting`: `set_up_program`.
 #![tactic(auto)]
 
 mod binding;

@@ -1,28 +1,29 @@
-//! `emit_laws`, `part_laws`, `size_laws`, `type_laws`: Slim code: flat code that leaves out sets and gets of slots, since it keeps their values on the operand stack.
+//! Slim code as a definition, and its laws: flat code that keeps operands on the operand stack, where flat code has them in slots.
 //!
-//! `specs/Slim.antt` tells which code is slim beside which flat code, `specs/Emit.antt` and `specs/Parts.antt` the code that is
-//! written for flat statements, and for those in pieces between numbered calls. What is written is slim, and slim code has the
-//! type of the flat code, its calls in their order, and no more instructions or depth. That it does the same is shown by the
-//! crate above, `slim_runs`. Each law is the contract of a function that does nothing.
+//! ```text
+//! flat                                                   slim
+//! local.get 0  local.set s0                              local.get 0
+//! i32.const 1  local.set s1                              i32.const 1
+//! local.get s0  local.get s1  i32.add  local.set s0      i32.add
+//! local.get s0  call $f                                  local.set s0  local.get s0  call $f
+//! ```
 //!
-//! `step_laws`: What slim code does, beside the flat code that it stands for.
+//! `specs/Slim.antt` tells which code is slim beside which flat code, `specs/Emit.antt` and `specs/Parts.antt` the code that is written
+//! for flat statements, and for those in pieces between numbered calls. What is written is slim, and slim code has the type of the
+//! flat code, its calls in their order, and no more instructions or depth.
 //!
-//! Both run in the same store, with equal operand stacks at each branch, construct and call (`specs/Beside.antt`). The slim side
-//! makes each reduction of the flat one or none, and sets locals at most before it; so it costs no more than the flat side in
-//! sum, and no less than what the flat side pays apart from its slots. At a call that waits, locals agree where the call's frame
-//! holds them. Each law is the contract of a function that does nothing.
+//! When both run they have the same store, with equal operand stacks at each branch, construct and call (`specs/Beside.antt`). The
+//! slim side makes each reduction of the flat one or none, and sets locals at most before it; so it costs no more than the flat side
+//! in sum, and no less than what the flat side pays apart from its slots. At a call that waits, locals agree where the call's frame
+//! holds them.
 //!
-//! `laws`: Guarded functions with slim pieces: units as they stand in the flat code, and the same units with pieces that keep operands on the
-//! operand stack.
+//! Whoever writes a function in slim code owes `SlimPieces` (`specs/SlimModule.antt`) and no more; `slim_rewrite` does. Then the module
+//! is valid and stands beside the flat one as the laws ask.
 //!
-//! `specs/SlimUnits.antt` says which units belong together, piece by piece; a program that writes slim pieces owes no more than this.
-//! Their code is slim as a whole, so that the law of slim code holds of it; they have the type that guarded code is made from, the
-//! same calls and numbers, and are no larger. Each law is the contract of a function that does nothing.
-//!
-//! `slim_module`: The module in which flat code is slim, as a definition: each function that is told has slim pieces between its units.
-//!
-//! `specs/SlimModule.antt` says what is asked of pieces (`SlimPieces`): whoever writes a function in slim code owes that and no more. The
-//! module is valid and stands beside the flat one as the laws of slim code ask. Each law is the contract of a function that does nothing.
+//! - `emit_laws`, `type_laws`, `size_laws`, `part_laws`: code that is written, its type and size, and functions in pieces and units.
+//! - `step_laws`: both sides as they run.
+//! - `laws`: units beside the same units with slim pieces (`specs/SlimUnits.antt`): slim as a whole, alike in calls and numbers, typed.
+//! - `slim_module`: the module in which flat code is slim.
 #![tactic(auto)]
 
 mod emit_laws;

@@ -1,30 +1,25 @@
-//! `guesses`: Guesses at which operands stay on the stack of a flat function's slots, for the walk of `slim_pieces`.
+//! Writes slim code: the pieces of flat functions with operands left on the operand stack instead of in their slots, and guards around.
+//!
+//! `guard_slim` writes each flat function of a module with slim pieces; what is asked of these is `SlimPieces` of `slim_laws`
+//! (`specs/Functions.antt`). A function whose statements don't use slots as a stack keeps its plain pieces.
+//!
+//! The walk goes over the statements of a sequence once. Its state is a stack of the slots of all operands, the lowest first: up to a
+//! place they hold their operands, those behind it stand on the operand stack of the slim code. Whether a slot is on the stack is told
+//! at once by a table of places. A numbered call, or a construct that holds one, opens a unit, which is held until the piece behind it
+//! is complete. In front of a unit, and at each end, all slots are set, but for the condition of an `if`, which may stay on the
+//! operand stack.
+//!
+//! What a step does to code is said for whatever comes (`specs/Walking.antt`), and for all statements that may follow
+//! (`specs/Coming.antt`): what these come to from there, all come to from here.
 //!
 //! A move pops its operand or doesn't, and a flat statement doesn't tell which: it is guessed from the statement behind it. A wrong
 //! guess costs the slim code of a function, and no more.
 //!
-//! `branches`, `moves`, `operators`, `stack`: Slim code of single flat statements: the topmost operands stay on the operand stack where the flat code sets their slots
-//! and gets them again.
-//!
-//! The walk's state is a stack of the slots of all operands, the lowest first (`stack`): up to a place they hold their operands,
-//! those behind it stand on the operand stack of the slim code. Whether a slot is on the stack is told at once by a table
-//! of places. What the steps do to code is said for whatever comes (`specs/Walking.antt`).
-//!
-//! `calls`, `constructs`, `sequence`, `single`: Steps of the walk that writes a function in pieces and units with slim pieces.
-//!
-//! Single statements are put by `slim_walk`; a numbered call, or a construct that holds one, opens a unit, which is held until
-//! the piece behind it is complete (`sequence`). In front of a unit, and at each end, all slots are set, but for the condition of an
-//! `if`, which may stay on the operand stack. What a step does is said for all statements that may follow (`specs/Coming.antt`):
-//! what these come to from there, all come to from here.
-//!
-//! `function`, `walk`: Functions in pieces and units with slim pieces, from flat statements.
-//!
-//! The walk goes over the statements of a sequence once, by the steps of `slim_steps`. Where statements don't use slots as a
-//! stack there is no answer.
-//!
-//! `guarded`: The flat functions of a module with slim pieces: what `slim_pieces` writes of a function is what is asked of it in the module in which
-//! flat code is slim, and its guarded code is written from that. A function whose statements don't use slots as a stack keeps
-//! its plain pieces.
+//! - `guesses`: what is guessed.
+//! - `stack`, `operators`, `moves`, `branches`: the walk's state, what instructions take, plain statements and moves, branches and calls
+//!   without number.
+//! - `sequence`, `single`, `calls`, `constructs`: a sequence so far, single statements, numbered calls, and constructs.
+//! - `walk`, `function`, `guarded`: the walk, a function in pieces and units, and guarded code from it.
 #![tactic(auto)]
 
 mod branches;

@@ -1,12 +1,15 @@
 //! The lines that commands print: one for each event of a program, and one for each refusal.
 //!
-//! What is printed is told by `Transcript` of wa_model. A line is built in one vector, part by part (`parts`); names are
-//! escaped so that a line has no blanks but those between its words.
+//! What is printed is told by `Transcript` of `script_model`. A line is built in one vector, part by part; names are escaped so that a line
+//! has no blanks but those between its words.
 //!
-//! `fitting`, `lines`, `refused`: What a command prints over a sink that may fail: the lines of a transcript, and what ends it.
+//! Each refusal has its status and its line. A fault of the sink leaves a refusal's status; want of memory is printed without memory,
+//! as far as the sink takes it, and its status is 9. Which events come is `world_hosting`'s matter.
 //!
-//! Each refusal has its status and its line (`Transcript` of wa_model). A fault of the sink leaves a refusal's status; want
-//! of memory is printed without memory, as far as the sink takes it, and its status is 9.
+//! - `parts`: words, numbers, names, bytes and values.
+//! - `ends`, `events`, `fitting`: the texts of ends, the lines of events, and whether their names are there.
+//! - `refusals`: the lines of refusals.
+//! - `lines`, `refused`: single lines and refusals, over a sink that may fail.
 #![tactic(auto)]
 
 mod ends;

@@ -1,26 +1,24 @@
 //! Hosts the programs of a script, which share a list of devices, and prints what they tell.
 //!
-//! `stage_program` makes a program over its module once its lines keep the set-up rules; it has told nothing yet. `host_programs` tells
-//! up to sixteen of them to their ends, line by line as they come, and then the last line. What is printed are the lines of a run of
-//! the protocol world (`specs/Worlds.antt`), in which each import that a `device` line names asks the device of that line, and the
-//! devices are those that the run leaves. That each program of a script is one that can be staged is the law `scripts_fit`.
+//! `stage_program` makes a program over its module once its lines keep the set-up rules; it has told nothing yet. `host_programs` tells up
+//! to sixteen of them to their ends, line by line as they come, and then the last line. What is printed are the lines of a run of the
+//! protocol world (`specs/Worlds.antt`), in which each import that a `device` line names asks the device of that line, and the devices
+//! are those that the run leaves. That each program of a script is one that can be staged is the law `scripts_fit`.
 //!
-//! `fault_counts`: The counts of the devices' faults, beside the lines that tell them.
+//! More is known of what was told:
 //!
-//! Each line `end device fault` of a script that is played stands for a fault that the asked device has counted
-//! (`specs/FaultCounts.antt`).
+//! - Over modules that are rewritten, and where no original touches a byte of its area, the lines are those of a run of the blocking
+//!   world of the originals, with the same devices (`specs/OriginalRuns.antt`); each program whose original does so ends as that does
+//!   (`specs/Endings.antt`).
+//! - A program whose imports are bound to no device has the lines that it would have alone, its number aside (`specs/ToldAlone.antt`).
+//! - Each line `end device fault` stands for a fault that the asked device has counted (`specs/FaultCounts.antt`).
 //!
-//! `originals_told`: What is told of rewritten modules, as a run of their originals with blocking imports.
+//! Scripts aren't read here, and modules neither fetched nor rewritten: that is `script_command`.
 //!
-//! A script's programs are run over their modules, rewritten. Where no original touches a byte of its area, the lines that were told
-//! are those of a run of the blocking world of the originals, with the same devices (`specs/OriginalRuns.antt`): each program, set up
-//! by the rules, is a plan that fits its original.
-//! Each program whose original does so ends as that does (`specs/Endings.antt`).
-//!
-//! `told_alone`: What is told of a program whose imports are bound to no device, among others and alone.
-//!
-//! Whatever the other programs of a script do, and whatever devices there are, it has the lines that it would have alone, its number
-//! aside (`specs/ToldAlone.antt`).
+//! - `staging`, `parting`, `telling`: a program made over its module, the programs parted in what hosts them and what prints their lines,
+//!   and `host_programs`.
+//! - `laws`: scripts can be staged.
+//! - `originals_told`, `told_alone`, `fault_counts`: the laws above.
 #![tactic(auto)]
 
 mod fault_counts;
