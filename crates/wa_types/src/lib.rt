@@ -12,8 +12,8 @@
 //!
 //! `prune` leaves out what follows an instruction behind which control never goes on, as `i32.const 1` in `br 0; i32.const 1`: its
 //! answer is `pruned` of the body. A body and its pruned body have the same type and the same runs, so every analysis above this
-//! crate looks at pruned bodies alone. Copies are equal to what they were made from. Trees are copied and dropped level by level:
-//! the constructs that are open wait in a list, and no call goes deeper for a deeper body.
+//! crate looks at pruned bodies alone. Copies are equal to what they were made from. Bodies are copied level by level: the constructs
+//! that are open wait in a list, and no call goes deeper for a deeper body. So they are dropped, too, while there is memory for a list.
 //!
 //! Laws are the contracts of functions with an empty body. Numbers in LEB128 come from `leb_numbers`. Nothing here reads, checks or
 //! runs a module.
