@@ -1,21 +1,16 @@
-//! The commands.
+//! The program's one call: a command from its words to its status.
 //!
-//! `asyncify` runs the command that its words spell, over a vault of files and a sink for what it prints: `transform`, which
-//! rewrites a module; `host` and `run`, which play a script with the devices that the caller lends; and `gen`, which writes a
-//! generated module and runs it.
+//! `asyncify` runs the command that its words spell, over a vault of files, a sink for what it prints and devices that the caller lends:
+//! `transform`, which rewrites a module (`transform_command`); `host` and `run`, which play a script (`script_command`); and `gen`, which
+//! writes a generated module (`gen_module`), has it rewritten and run through its one pause, and prints three lines on it
+//! (`specs/Printed.antt`).
 //!
-//! A caller may rely on this: a call has one end, by its status, with its reason, what it printed and what became of the devices
-//! (`specs/Ends.antt`).
+//! A caller may rely on this: a call has one end, by its status, with its reason, what it printed and what became of the files and the
+//! devices (`specs/Ends.antt`). What real files and a real terminal do with that stands in `asyncify_cli`.
 //!
-//! `generating`, `generated_runs`, `program`, `writing`: The command `gen`: a large input from a number.
-//!
-//! `run_generated` writes the generated module of so many functions into a file, has it rewritten and run through its one pause
-//! (`generated_runs`), and prints three lines on it (`specs/Printed.antt`).
-//!
-//! `playing`, `program`: Generated modules, rewritten and run.
-//!
-//! `play_generated` rewrites a generated module with its import listed, runs it under the host's protocol through its one pause, and
-//! tells what the pause used and what came back. That is of a story of the protocol world (`specs/Playing.antt`).
+//! - `command`, `playing`: the call, and scripts.
+//! - `generating`, `writing`, `program`, `generated_runs`: the command `gen`; the module written into a file; the program over it,
+//!   rewritten; and its run, event by event (`specs/Playing.antt`).
 #![tactic(auto)]
 
 mod command;
