@@ -79,7 +79,7 @@ doubled() {
     make_module "$1" "$(($2 * 2))" "$3" "$temp/twice.wasm"
     local once twice
     read -r once _ < <(measure 0 5 "$temp/loops" interp "$temp/once.wasm")
-    read -r twice _ < <(measure 0 5 "$temp/loops" "$temp/twice.wasm")
+    read -r twice _ < <(measure 0 5 "$temp/loops" interp "$temp/twice.wasm")
     echo "$1: $2 in $once s, $(($2 * 2)) in $twice s"
     grep -q '^run() => i32:' "$temp/printed" || { echo "$1: $(head -1 "$temp/printed")"; failed=1; }
     bar "$twice <= 2.6 * $once" "$1: more than 2.6 times the time"
