@@ -13,6 +13,7 @@ use Rattle.wa_types.specs.ModuleBounds.{source_bounds, prepared_bounds}
 use Rattle.wa_types.specs.Modules.{func_imports}
 use Rattle.wa_types.specs.Norm.{Norm}
 use Rattle.wa_types.specs.Pausing.{Settings, TellsMayPause}
+use Rattle.wa_types.specs.Sizes.{WellFormed}
 use Rattle.wa_types.specs.Syntax.{Func, Module}
 use Rattle.wa_types.specs.Validity.{Valid}
 use Rattle.wa_model.specs.Rewrites.{Rewrites}
@@ -59,9 +60,10 @@ pub record IsRewritable (s : Settings) (bytes : List ℕ) (m : Module) (which : 
   pub tells : TellsMayPause m s which
   pub few : first_above 50000 (rewritten_counts m which) ≡ None
 
--- .. and what is written, the bytes of the other module, which is it, rewritten, isn't too long
+-- .. its numbers are in their ranges; and what is written, the bytes of the other module, which is it, rewritten, isn't too long
 pub record IsSource (s : Settings) (bytes : List ℕ) (m : Module) (which : List Bool) (p : Module) : Type 0 where
   pub rewritable : IsRewritable s bytes m which
+  pub well_formed : WellFormed m
   pub rewrites : Rewrites m s p
   pub short : length (Enc p) ≤ 67108864
 

@@ -9,7 +9,7 @@ use Rattle.wa_types.specs.View.{module_of}
 use Rattle.call_graph.specs.Settings.{settings_of}
 use Rattle.norm_laws.proofs.Norms.{norm_rewritten}
 use Rattle.transform_command.specs.Sources.{rewritten_counts}
-use Rattle.transform_command.proofs.Accepted.{strict, few_bytes, few_functions, none_passes, emit_refused, source_prepared}
+use Rattle.transform_command.proofs.Accepted.{strict, few_bytes, few_functions, none_passes, emit_refused, source_prepared, well}
 use Rattle.transform_command.proofs.Files.{told_fault}
 use Rattle.transform_command.proofs.source.rewrite.Goals as goal
 
@@ -47,7 +47,7 @@ returns-clause-done g c =
         m,
         which,
         e.written,
-        record { rewritable = record { accepted = h.source; tells = e.can.tells; few = few }; rewrites = e.rewrites; short = e.short },
+        record { rewritable = record { accepted = h.source; tells = e.can.tells; few = few }; well_formed = well h.bytes m h.source h.are_bytes; rewrites = e.rewrites; short = e.short },
         functions,
         count,
         e.text,
