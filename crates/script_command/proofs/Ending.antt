@@ -16,6 +16,9 @@ use Rattle.script_command.specs.Playing.{Play, Cause, IsRefused, IsRead, detache
 use Rattle.world_hosting.specs.Worlds.{AreBegun, AreTold, Part, Tells, TellsPart}
 use Rattle.script_command.specs.Ends.{Call, call, done, memory, sink_fault, refused, read_fault_of, cause_line, HasEnd, IsLine}
 use Rattle.script_command.specs.Transcripts.{IsTranscript, IsBeginning}
+use Rattle.script_command.specs.OfOriginals.{IsToldOf}
+use Rattle.script_command.proofs.OfOriginals.{of_originals}
+use Rattle.script_command.proofs.Played.{played_faults}
 
 becomes_by : (P Q : List ℕ → List ℕ → Type 0) → ((x y : List ℕ) → P x y → Q x y) → (old new : Option (List ℕ)) → Becomes old new P → Becomes old new Q
 becomes_by P Q f None None h = tt
@@ -26,7 +29,7 @@ becomes_by P Q f (Some x) None h = h
 -- ---- ends
 
 played : (c : Call) (status : ℕ) → status ≡ 0 → (play : Play c.way c.files c.name)
-    → Becomes c.taken c.taken' (λ old new. (text : List ℕ) × IsTranscript play c.devices c.devices' text × Appends text old new) → HasEnd c status
+    → Becomes c.taken c.taken' (λ old new. (text : List ℕ) × IsToldOf play c.devices c.devices' text × Appends text old new) → HasEnd c status
 played c status zero play h = record { which = done; by_status = zero; why = (play, h) }
 
 cut_off : (c : Call) (status : ℕ) → status ≡ 12 → HasRisen c.sink_faults c.sink_faults' → (play : Play c.way c.files c.name)
@@ -75,6 +78,11 @@ module _ (way : Way) (name : List ℕ) (files : Option Files) (fetched fetched' 
   told_so : (text : List ℕ) → AreTold play.parts detaches ds ds' text → IsTranscript play ds ds' text
   told_so text h = subst (λ (l : List Detach). AreTold play.parts l ds ds' text) (sym same) h
 
+  of_it : (text : List ℕ) → AreTold play.parts detaches ds ds' text → IsToldOf play ds ds' text
+  of_it text h =
+      let told = told_so text h in
+      record { told = told; originals = of_originals way files name play ds ds' text told; faults = played_faults way files name play ds ds' text told }
+
   begun_so : (text : List ℕ) → AreBegun play.parts detaches ds text ⊎ AreTold play.parts detaches ds ds' text → IsBeginning play ds text
   begun_so text h = elim h [
     | inl begun ↦ inl (subst (λ (l : List Detach). AreBegun play.parts l ds text) (sym same) begun)
@@ -84,7 +92,7 @@ module _ (way : Way) (name : List ℕ) (files : Option Files) (fetched fetched' 
   pub programs_told : (old new : Option (List ℕ)) → Becomes old new (Tells play.parts detaches ds ds') → HasEnd (call way name files fetched fetched' put put' old new ds ds') 0
   programs_told old new h =
       played (call way name files fetched fetched' put put' old new ds ds') 0 refl play
-      (becomes_by (Tells play.parts detaches ds ds') (λ x y. (text : List ℕ) × IsTranscript play ds ds' text × Appends text x y) (λ x y t. (t.0, told_so t.0 t.1, t.2)) old new h)
+      (becomes_by (Tells play.parts detaches ds ds') (λ x y. (text : List ℕ) × IsToldOf play ds ds' text × Appends text x y) (λ x y t. (t.0, of_it t.0 t.1, t.2)) old new h)
 
   -- the sink failed
   pub programs_cut : (old new : Option (List ℕ)) → HasRisen put put' → Becomes old new (TellsPart Fault play.parts detaches ds ds')

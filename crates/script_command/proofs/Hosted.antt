@@ -28,7 +28,7 @@ stands_in x y listed h =
       plan = ap planned listed;
       steps = refl;
       answers = refl;
-      binds = ap (λ (imports : List Import). Rattle.script_setup.specs.Bindings.bound_imports imports y.text.binds) rw_of.imports;
+      binds = ap (λ (imports : List Import). Rattle.script_setup.specs.Bindings.bound_imports imports y.text.binds) rw_of.parts.imports;
       looks = refl;
     }
 

@@ -2,6 +2,7 @@ pub mod Answering
 pub mod Ending
 pub mod Endings
 mod Hosted
+pub mod OfOriginals
 pub mod OneRead
 pub mod Openings
 pub mod Originals

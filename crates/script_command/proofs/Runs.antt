@@ -87,7 +87,7 @@ names_over t is = record {
   len = t.area.len;
 }
 
-same_names : (xs : List Source) (ys : List Part) → AllZip IsRewritten xs ys → map part_names ys ≡ original_names xs ys
+pub same_names : (xs : List Source) (ys : List Part) → AllZip IsRewritten xs ys → map part_names ys ≡ original_names xs ys
 same_names [] [] h = refl
 same_names [] (y ∷ ys) h = absurd h
 same_names (x ∷ xs) [] h = absurd h
@@ -95,7 +95,7 @@ same_names (x ∷ xs) (y ∷ ys) h =
     let one : part_names y ≡ program_names x.original y.text = ap (names_over y.text) h.0.rewrites.parts.imports in
     ap (λ (n : Names). n ∷ map part_names ys) one ∙ ap (λ (ns : List Names). program_names x.original y.text ∷ ns) (same_names xs ys h.1)
 
-as_many : (xs : List Source) (ys : List Part) → AllZip IsRewritten xs ys → length ys ≡ length xs
+pub as_many : (xs : List Source) (ys : List Part) → AllZip IsRewritten xs ys → length ys ≡ length xs
 as_many [] [] h = refl
 as_many [] (y ∷ ys) h = absurd h
 as_many (x ∷ xs) [] h = absurd h

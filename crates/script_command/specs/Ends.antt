@@ -10,7 +10,8 @@ use Rattle.transcript.specs.Refused.{status_of, Prints, PrintsMemory}
 use Rattle.script_command.specs.declared.way.Way.{Way}
 use Rattle.script_command.specs.declared.way.Way.TheVariants.{Run}
 use Rattle.script_command.specs.Playing.{Cause, bad_module, Play, IsRefused, IsRead, refusal_of_cause}
-use Rattle.script_command.specs.Transcripts.{IsTranscript, IsBeginning}
+use Rattle.script_command.specs.Transcripts.{IsBeginning}
+use Rattle.script_command.specs.OfOriginals.{IsToldOf}
 
 -- A call: its way and its script; the files; the counts of faults, what the sink has taken and the devices, with their counts, before and after it. (The
 -- files stay as they are.)
@@ -74,10 +75,10 @@ IsLine c line =
     ⊎ ((read : List ℕ) × IsRead c.way c.files c.name read × (line ≡ refusal_line None (read_fault read)))
 
 -- Why a call has this end, what was printed, and what became of the devices: what is played takes them from those that were there to
--- those that are left, and a refusal leaves them as they were.
+-- those that are left, and is told of the programs' originals; a refusal leaves them as they were.
 abbrev pub IsWhy : Call → End → Type 0
 IsWhy c done =
-    (play : Play c.way c.files c.name) × Becomes c.taken c.taken' (λ old new. (text : List ℕ) × IsTranscript play c.devices c.devices' text × Appends text old new)
+    (play : Play c.way c.files c.name) × Becomes c.taken c.taken' (λ old new. (text : List ℕ) × IsToldOf play c.devices c.devices' text × Appends text old new)
 IsWhy c (refused cause) =
     IsRefused c.way c.files c.name cause × Becomes c.taken c.taken' (Prints (cause_line cause) c.sink_faults c.sink_faults') × (c.devices' ≡ c.devices)
 IsWhy c memory = Becomes c.taken c.taken' (λ old new. (line : List ℕ) × IsLine c line × PrintsMemory line old new)

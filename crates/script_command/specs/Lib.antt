@@ -4,6 +4,7 @@ pub mod Ends
 pub mod Faults
 pub mod HostedOriginals
 pub mod Laws
+pub mod OfOriginals
 pub mod PlayedFaults
 pub mod Playing
 pub mod RunOriginals
