@@ -5,6 +5,7 @@
 
 mod file_vault;
 mod out_sink;
+mod stream;
 
 pub use file_vault::FileVault;
 pub use out_sink::OutSink;
