@@ -4,8 +4,9 @@
 use crate::unmatched::{tell_list, tell_script};
 use crate::wrong::wrong_in;
 use command_words::{Command, read_words};
-use std::fs::Files;
+use std::env;
 use std::io::Error;
+use std::rt::{Env, Files};
 
 /// The commands with their options. `./asyncify` prints them from here where the program isn't there yet.
 const HELP: &str = "\
@@ -21,8 +22,10 @@ Options stand anywhere behind the command, and -- ends them. More: docs/COMMAND.
 ";
 
 /// Tells more of words that are no command: which of them isn't, and what would be one.
-pub(crate) fn tell_usage<R: AllocGlobal + Eprint>(rt: &R, words: &[String]) {
-    if let Some(wrong) = wrong_in(rt.alloc(), words) {
+pub(crate) fn tell_usage<R: Env + AllocGlobal + Eprint>(rt: &R, words: &[String]) {
+    if words.is_empty() && env::args(rt).is_err() {
+        let _ = eprintln!(rt; "asyncify: a word isn't UTF-8");
+    } else if let Some(wrong) = wrong_in(rt.alloc(), words) {
         let _ = eprintln!(rt; "asyncify: {wrong}");
     }
     let _ = eprint!(rt; "{HELP}");
