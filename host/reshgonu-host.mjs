@@ -81,6 +81,7 @@ class Host {
   #instance;
   #memory;
   #area;
+  #head;
   #signal;
   #onpause;
   /** The entry that is under way. */
@@ -168,9 +169,9 @@ class Host {
       throw refusal;
     }
     const { at, length } = this.#area;
-    const words = new DataView(this.#memory.buffer);
-    words.setUint32(at, at + AREA_HEAD, true);
-    words.setUint32(at + 4, at + length, true);
+    const words = this.#words();
+    words.setUint32(0, at + AREA_HEAD, true);
+    words.setUint32(4, at + length, true);
     this.#pause = pause;
     this.#phase = "unwinding";
     this.#instance.asyncify_start_unwind(at);
@@ -208,9 +209,15 @@ class Host {
     return answer;
   }
 
+  /** The two words of the area. When the memory has grown it has another buffer, and the one before has no bytes any more. */
+  #words() {
+    if (!this.#head || this.#head.buffer.byteLength === 0) this.#head = new DataView(this.#memory.buffer, this.#area.at, AREA_HEAD);
+    return this.#head;
+  }
+
   /** How much of the area is in use, by its first word. */
   #used() {
-    return new DataView(this.#memory.buffer).getUint32(this.#area.at, true) - this.#area.at;
+    return this.#words().getUint32(0, true) - this.#area.at;
   }
 
   /** Calls an export until it has returned for good. */

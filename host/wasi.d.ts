@@ -1,4 +1,4 @@
-import type { Imports, Program } from "./reshgonu-host.mjs";
+import type { Imports, Program } from "./reshgonu-host.js";
 
 /** Takes what the program prints. Where it returns a promise, `fd_write` pauses, and has to be among the listed imports. */
 export type Sink = (bytes: Uint8Array) => unknown;

@@ -21,7 +21,7 @@ export class Browser {
     const { targetId } = await browser.#send("Target.createTarget", { url: "about:blank" });
     const { sessionId } = await browser.#send("Target.attachToTarget", { targetId, flatten: true });
     browser.#session = sessionId;
-    await browser.#send("Emulation.setDeviceMetricsOverride", { width: 760, height: 640, deviceScaleFactor: 1, mobile: false });
+    await browser.#send("Emulation.setDeviceMetricsOverride", { width: 760, height: 660, deviceScaleFactor: 1, mobile: false });
     await browser.#send("Page.navigate", { url });
     return browser;
   }

@@ -53,6 +53,12 @@ __attribute__((noinline)) static int below(int depth) {
 /* A pause with a stack of this many activations below the entry's. */
 EXPORT("deep") int deep(int depth) { return below(depth); }
 
+/* The sum of what is read, this many activations below the entry's. */
+__attribute__((noinline)) static int sum_below(int depth, int count) {
+    return depth == 0 ? sum(count) : sum_below(depth - 1, count) * 2 + depth;
+}
+EXPORT("deep_sum") int deep_sum(int depth, int count) { return sum_below(depth, count); }
+
 typedef int (*step)(int);
 static int slow(int n) { return read_number(n) + 1; }
 static int quick(int n) { return n + 2; }
