@@ -1,8 +1,8 @@
 #!/usr/bin/env bash
 # Rewrites examples/story.wasm, runs it with Node under examples/host.mjs, each read and sleep a pause, and compares what it prints with what
-# the original prints with imports that answer at once; then under mistakes that the host has to tell. Without Node it says so, and does
-# nothing more. First it runs ask.script and turns.script, and looks whether README shows the files of the first as they are, and
-# docs/COMMAND.md those of the second.
+# the original prints with imports that answer at once, then under mistakes that the host has to tell; and ask.wasm under ask.mjs, by the
+# host library. Without Node it says so, and does nothing more. First it runs ask.script and turns.script, and looks whether README shows
+# the files of the first as they are, and docs/COMMAND.md those of the second.
 cd "$(dirname "$0")" || exit 1
 for script in ask turns; do
     ../asyncify run $script.script | diff $script.lines - || { echo "examples: $script.script prints other lines"; exit 1; }
@@ -14,6 +14,8 @@ done
 command -v node >/dev/null || { echo "examples: no node, not run"; exit 0; }
 out=$(mktemp -d)
 trap 'rm -rf "$out"' EXIT
+../asyncify transform --imports env.read ask.wasm "$out/ask.wasm" || exit 1
+[ "$(node ask.mjs "$out/ask.wasm" 5)" = 510 ] || { echo "examples: ask.mjs prints another sum"; exit 1; }
 ../asyncify transform --imports env.read,env.sleep story.wasm "$out/story.wasm" || exit 1
 for depth in 0 1 4; do
     node host.mjs --blocking story.wasm "$depth" > "$out/wanted" || exit 1
