@@ -117,6 +117,31 @@ test("tells each pause, with the import and the bytes of stack", async () => {
   assert.deepEqual(pauses, Array(2).fill({ import: "env.read", used: 36, length: 1024 }));
 });
 
+test("keeps the stack in a memory that is imported, in an area that is told", async () => {
+  let asked = 0;
+  const used = new Set();
+  const env = { memory: new WebAssembly.Memory({ initial: 2 }), sleep: async () => asked++ };
+  const options = { area: { at: 120_000, length: 4096 }, onpause: (pause) => used.add(pause.used) };
+  const { exports } = await instantiate(rewritten("compiled"), { env }, options);
+  assert.equal(await exports.run(1000), 499_500); // 0 to 999
+  assert.deepEqual([asked, [...used]], [1000, [56]]);
+});
+
+test("goes on in a memory that the host has grown during a pause", async () => {
+  const program = await start("calls", "all", () => ({
+    ...promises(),
+    read: async (which) => (await soon(), program.instance.exports.memory.grow(1), which),
+  }));
+  assert.equal(await program.exports.deep(3), await (await start("calls", "all", () => ({ ...answers(), read: (which) => which }))).exports.deep(3));
+  assert.equal(await program.exports.sum(5), 10);
+  assert.equal(program.instance.exports.memory.buffer.byteLength, (2 + 6) * 65536);
+});
+
+test("lets the engine tell of an import that isn't there", async () => {
+  await assert.rejects(instantiate(rewritten("ask"), {}), { name: "LinkError", message: /read/ });
+  await assert.rejects(instantiate(rewritten("ask"), { env: { read: 5 } }), { name: "LinkError", message: /read/ });
+});
+
 test("leaves what isn't a function as it is", async () => {
   const { exports, instance } = await start("calls", "all", promises);
   assert.ok(instance.exports.memory instanceof WebAssembly.Memory);
