@@ -30,8 +30,10 @@ describe("no-area", () => {
   it("comes when an import is to pause, where the module tells none", async () => {
     const area = { at: 0, length: 64 };
     const { exports } = await instantiate(rewritten("countdown"), { env: { pause: () => soon(1) } });
-    await refused(exports.run(3), "no-area", /env.pause returned a promise.* export functions 'area' and 'area_size'/, { import: "env.pause" });
-    await refused(instantiate(rewritten("countdown"), { env: { pause: never } }, { area }), "no-area", /memory is neither exported nor imported/);
+    const words = /env.pause returned a promise.* export functions 'area' and 'area_size'/;
+    await refused(exports.run(3), "no-area", words, { import: "env.pause" });
+    const told = instantiate(rewritten("countdown"), { env: { pause: never } }, { area });
+    await refused(told, "no-area", /memory, in which the area is, is neither exported nor imported/);
   });
 
   it("doesn't come where nothing pauses", async () => {
@@ -151,7 +153,8 @@ describe("unlisted-pause", () => {
 
 test("pause-in-start", async () => {
   const start = (pause) => instantiate(rewritten("start"), { env: { pause } });
-  await refused(start(() => soon(1)), "pause-in-start", /env.pause returned a promise in the module's start function/, { import: "env.pause" });
+  const words = /env.pause returned a promise in the module's start function/;
+  await refused(start(() => soon(1)), "pause-in-start", words, { import: "env.pause" });
   await refused(start(() => Promise.reject(new Error("nobody hears it"))), "pause-in-start", /start function/);
   await start(() => 1);
 });
@@ -193,7 +196,13 @@ describe("busy", () => {
 
 describe("an import that fails", () => {
   const failure = new RangeError("no such number");
-  const kinds = { rejects: () => Promise.reject(failure), "rejects later": () => soon().then(() => Promise.reject(failure)), throws: () => { throw failure; } };
+  const kinds = {
+    rejects: () => Promise.reject(failure),
+    "rejects later": () => soon().then(() => Promise.reject(failure)),
+    throws: () => {
+      throw failure;
+    },
+  };
   for (const [kind, read] of Object.entries(kinds)) {
     it(`that ${kind} fails the call with its error, and spends the instance`, async () => {
       const { exports } = await calls({}, { read });

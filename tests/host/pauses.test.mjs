@@ -90,7 +90,8 @@ for (const { by, skip } of rewriters) {
 
     it("runs a story in which a tree, a table and 64-bit numbers pause", async () => {
       const printed = [[], []];
-      const env = (which) => () => ({ read: async (at) => number(at), sleep: () => soon(), print: (value) => void printed[which].push(value) });
+      const print = (which) => (value) => void printed[which].push(value);
+      const env = (which) => () => ({ read: async (at) => number(at), sleep: () => soon(), print: print(which) });
       const { exports } = await start("story", by, env(0));
       const blocking = await WebAssembly.instantiate(original("story"), { env: { ...env(1)(), read: number, sleep: () => {} } });
       assert.equal(await exports.run(4), blocking.instance.exports.run(4));
@@ -132,7 +133,8 @@ test("goes on in a memory that the host has grown during a pause", async () => {
     ...promises(),
     read: async (which) => (await soon(), program.instance.exports.memory.grow(1), which),
   }));
-  assert.equal(await program.exports.deep(3), await (await start("calls", "all", () => ({ ...answers(), read: (which) => which }))).exports.deep(3));
+  const { exports } = await start("calls", "all", () => ({ ...answers(), read: (which) => which }));
+  assert.equal(await program.exports.deep(3), await exports.deep(3));
   assert.equal(await program.exports.sum(5), 10);
   assert.equal(program.instance.exports.memory.buffer.byteLength, (2 + 6) * 65536);
 });
