@@ -137,9 +137,9 @@ class Host {
 
   #checkArea({ at, length }) {
     const wrong = (why) => new AsyncifyError("no-area", `the area of ${length} bytes at ${at} ${why}`, { length });
-    if (!this.#memory) throw new AsyncifyError("no-area", "the module's memory is neither exported nor imported, so there is no area in it");
+    if (!this.#memory) throw new AsyncifyError("no-area", "the memory, in which the area is, is neither exported nor imported");
     if (!Number.isInteger(at) || at < 0 || at % 4 !== 0) throw wrong("doesn't begin at a multiple of 4");
-    if (!Number.isInteger(length) || length < AREA_HEAD) throw wrong(`is too small for the two words that it begins with: it needs ${AREA_HEAD} bytes`);
+    if (!Number.isInteger(length) || length < AREA_HEAD) throw wrong(`needs ${AREA_HEAD} bytes for its first two words`);
     if (at + length > this.#memory.buffer.byteLength) throw wrong(`reaches past the memory of ${this.#memory.buffer.byteLength} bytes`);
     this.#area = { at, length };
   }
@@ -182,11 +182,13 @@ class Host {
   #refusal(name, caller) {
     const asked = `${name} returned a promise`;
     if (this.#phase === "starting") {
-      return new AsyncifyError("pause-in-start", `${asked} in the module's start function, which can't be paused: do it in an export`, { import: name });
+      const message = `${asked} in the module's start function, which can't be paused: do it in an export`;
+      return new AsyncifyError("pause-in-start", message, { import: name });
     }
     if (this.#phase !== "running" || caller !== undefined) {
       const where = caller === undefined ? "of 'instance.exports'" : `that the import ${caller} made`;
-      return new AsyncifyError("no-entry", `${asked} in a call ${where}: only calls of the 'exports' that 'instantiate' gave can pause`, { import: name });
+      const message = `${asked} in a call ${where}: only calls of the 'exports' that 'instantiate' gave can pause`;
+      return new AsyncifyError("no-entry", message, { import: name });
     }
     if (!this.#area || !this.#memory) {
       const wanted = "export functions 'area' and 'area_size' (and the memory) from the module, or give the option 'area'";
@@ -199,7 +201,9 @@ class Host {
   #replay(name, args) {
     const { import: paused, args: wanted, answer } = this.#pause;
     if (name !== paused) throw this.#unlisted(`the program called ${name} where it should have come back to ${paused}`);
-    if (!sameArguments(args, wanted)) throw this.#unlisted(`the program came back to ${name} with other arguments (${args}) than it had (${wanted})`);
+    if (!sameArguments(args, wanted)) {
+      throw this.#unlisted(`the program came back to ${name} with other arguments (${args}) than it had (${wanted})`);
+    }
     if (this.#instance.asyncify_get_state() !== REWINDING || this.#used() !== AREA_HEAD) {
       throw this.#unlisted(`the program called ${name} before its stack was rewound`);
     }
@@ -250,7 +254,8 @@ class Host {
     }
     if (this.#phase !== "idle") {
       const where = this.#pause ? ` (paused in ${this.#pause.import})` : "";
-      throw new AsyncifyError("busy", `${name} was called while ${this.#entry} is under way${where}: await that call first, or make another instance`);
+      const message = `${name} was called while ${this.#entry} is under way${where}: await that call first, or make another instance`;
+      throw new AsyncifyError("busy", message);
     }
     this.checkSignal();
   }

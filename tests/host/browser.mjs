@@ -73,7 +73,9 @@ export class Browser {
   async until(expression) {
     const end = Date.now() + PATIENCE;
     while (!(await this.value(expression).catch(() => false))) {
-      if (Date.now() > end) throw new Error(`the page didn't come to ${expression}; it shows:\n${await this.value("document.body.innerText")}`);
+      if (Date.now() > end) {
+        throw new Error(`the page didn't come to ${expression}; it shows:\n${await this.value("document.body.innerText")}`);
+      }
       await new Promise((done) => setTimeout(done, 20));
     }
   }

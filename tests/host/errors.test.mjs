@@ -1,5 +1,6 @@
 // Each error of the library, by a program or a host that makes the mistake.
 import assert from "node:assert/strict";
+import { getEventListeners } from "node:events";
 import { describe, it, test } from "node:test";
 import { AsyncifyError, instantiate } from "../../host/reshgonu-host.mjs";
 import { original, rewritten, rewriters, withoutBinaryen } from "./rewriting.mjs";
@@ -29,8 +30,10 @@ describe("no-area", () => {
   it("comes when an import is to pause, where the module tells none", async () => {
     const area = { at: 0, length: 64 };
     const { exports } = await instantiate(rewritten("countdown"), { env: { pause: () => soon(1) } });
-    await refused(exports.run(3), "no-area", /env.pause returned a promise.* export functions 'area' and 'area_size'/, { import: "env.pause" });
-    await refused(instantiate(rewritten("countdown"), { env: { pause: never } }, { area }), "no-area", /memory is neither exported nor imported/);
+    const words = /env.pause returned a promise.* export functions 'area' and 'area_size'/;
+    await refused(exports.run(3), "no-area", words, { import: "env.pause" });
+    const told = instantiate(rewritten("countdown"), { env: { pause: never } }, { area });
+    await refused(told, "no-area", /memory, in which the area is, is neither exported nor imported/);
   });
 
   it("doesn't come where nothing pauses", async () => {
@@ -86,6 +89,19 @@ describe("area-too-small", () => {
     }
   });
 
+  it("tells exactly what is wanted where the stack was written past the area", { skip: withoutBinaryen }, async () => {
+    const wanted = await usedBelow(9, "binaryen");
+    const { exports } = await instantiate(rewritten("calls", "binaryen"), { env }, { area: { at: 1024, length: 8 } });
+    await refused(exports.deep(9), "area-too-small", /at least/, { wanted, used: wanted, length: 8 });
+  });
+
+  it("lets the promise that nobody waits for fail unheard", async () => {
+    const read = async () => (await soon(), Promise.reject(new Error("nobody hears it")));
+    const { exports } = await calls({ area: { at: 1024, length: 8 } }, { read });
+    await refused(exports.sum(1), "area-too-small", /env.read/);
+    await soon();
+  });
+
   it("comes for ask.c with 35 bytes, and not with 36", async () => {
     const ask = (length) => instantiate(rewritten("ask"), { env }, { area: { at: 1024, length } });
     assert.equal(await (await ask(36)).exports.run(3), 3);
@@ -137,7 +153,8 @@ describe("unlisted-pause", () => {
 
 test("pause-in-start", async () => {
   const start = (pause) => instantiate(rewritten("start"), { env: { pause } });
-  await refused(start(() => soon(1)), "pause-in-start", /env.pause returned a promise in the module's start function/, { import: "env.pause" });
+  const words = /env.pause returned a promise in the module's start function/;
+  await refused(start(() => soon(1)), "pause-in-start", words, { import: "env.pause" });
   await refused(start(() => Promise.reject(new Error("nobody hears it"))), "pause-in-start", /start function/);
   await start(() => 1);
 });
@@ -166,17 +183,26 @@ describe("busy", () => {
   });
 
   it("comes for a call out of an import", async () => {
-    let nested;
-    const program = await calls({}, { plain: (value) => ((nested = program.exports.sum(1)), value) });
-    const first = program.exports.quiet(1);
-    await refused(nested, "busy", /sum was called while quiet is under way:/);
-    assert.equal(await first, 2);
+    const nested = [];
+    const program = await calls({}, { plain: () => nested.push(program.exports.sum(1).catch((error) => error)) });
+    await program.exports.mixed(2); // calls env.plain in front of a pause and behind it
+    assert.equal(nested.length, 3);
+    for (const error of await Promise.all(nested)) {
+      assert.equal(error.code, "busy");
+      assert.match(error.message, /sum was called while mixed is under way:/);
+    }
   });
 });
 
 describe("an import that fails", () => {
   const failure = new RangeError("no such number");
-  const kinds = { rejects: () => Promise.reject(failure), "rejects later": () => soon().then(() => Promise.reject(failure)), throws: () => { throw failure; } };
+  const kinds = {
+    rejects: () => Promise.reject(failure),
+    "rejects later": () => soon().then(() => Promise.reject(failure)),
+    throws: () => {
+      throw failure;
+    },
+  };
   for (const [kind, read] of Object.entries(kinds)) {
     it(`that ${kind} fails the call with its error, and spends the instance`, async () => {
       const { exports } = await calls({}, { read });
@@ -200,6 +226,14 @@ describe("aborted", () => {
     setImmediate(() => controller.abort("enough"));
     await refused(call, "aborted", /aborted/, { cause: "enough" });
     await refused(exports.quiet(1), "spent", /new instance/);
+  });
+
+  it("isn't listened for when the pause is over", async () => {
+    const { signal } = new AbortController();
+    const { exports } = await calls({ signal });
+    assert.equal(await exports.sum(3), 3);
+    await soon();
+    assert.equal(getEventListeners(signal, "abort").length, 0);
   });
 
   it("comes before a call, before an instance, and at the next pause", async () => {

@@ -90,7 +90,8 @@ for (const { by, skip } of rewriters) {
 
     it("runs a story in which a tree, a table and 64-bit numbers pause", async () => {
       const printed = [[], []];
-      const env = (which) => () => ({ read: async (at) => number(at), sleep: () => soon(), print: (value) => void printed[which].push(value) });
+      const print = (which) => (value) => void printed[which].push(value);
+      const env = (which) => () => ({ read: async (at) => number(at), sleep: () => soon(), print: print(which) });
       const { exports } = await start("story", by, env(0));
       const blocking = await WebAssembly.instantiate(original("story"), { env: { ...env(1)(), read: number, sleep: () => {} } });
       assert.equal(await exports.run(4), blocking.instance.exports.run(4));
@@ -115,6 +116,32 @@ test("tells each pause, with the import and the bytes of stack", async () => {
   assert.equal(await exports.run(2), 10);
   // Two words, three parameters, locals and operands each of 4 bytes more, as README's transcript has it: area 36 of 1024.
   assert.deepEqual(pauses, Array(2).fill({ import: "env.read", used: 36, length: 1024 }));
+});
+
+test("keeps the stack in a memory that is imported, in an area that is told", async () => {
+  let asked = 0;
+  const used = new Set();
+  const env = { memory: new WebAssembly.Memory({ initial: 2 }), sleep: async () => asked++ };
+  const options = { area: { at: 120_000, length: 4096 }, onpause: (pause) => used.add(pause.used) };
+  const { exports } = await instantiate(rewritten("compiled"), { env }, options);
+  assert.equal(await exports.run(1000), 499_500); // 0 to 999
+  assert.deepEqual([asked, [...used]], [1000, [56]]);
+});
+
+test("goes on in a memory that the host has grown during a pause", async () => {
+  const program = await start("calls", "all", () => ({
+    ...promises(),
+    read: async (which) => (await soon(), program.instance.exports.memory.grow(1), which),
+  }));
+  const { exports } = await start("calls", "all", () => ({ ...answers(), read: (which) => which }));
+  assert.equal(await program.exports.deep(3), await exports.deep(3));
+  assert.equal(await program.exports.sum(5), 10);
+  assert.equal(program.instance.exports.memory.buffer.byteLength, (2 + 6) * 65536);
+});
+
+test("lets the engine tell of an import that isn't there", async () => {
+  await assert.rejects(instantiate(rewritten("ask"), {}), { name: "LinkError", message: /read/ });
+  await assert.rejects(instantiate(rewritten("ask"), { env: { read: 5 } }), { name: "LinkError", message: /read/ });
 });
 
 test("leaves what isn't a function as it is", async () => {

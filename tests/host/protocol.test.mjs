@@ -31,7 +31,8 @@ const runs = {
   },
   repl: async ({ instantiate }, bytes) => {
     let printed = "";
-    const system = new Wasi({ stdin: ["5\n", "7", "0\nwait 1\nquit\n"], stdout: (text) => void (printed += new TextDecoder().decode(text)) });
+    const stdout = (text) => void (printed += new TextDecoder().decode(text));
+    const system = new Wasi({ stdin: ["5\n", "7", "0\nwait 1\nquit\n"], stdout });
     return [await system.start(await instantiate(bytes, system.imports)), printed];
   },
 };

@@ -12,13 +12,13 @@ const hasBinaryen = spawnSync("wasm-opt", ["--version"]).status === 0;
 /** Where Binaryen's pass isn't installed, why its tests are skipped; else false. */
 export const withoutBinaryen = hasBinaryen ? false : "wasm-opt is not installed";
 
-export const originals = {
+const originals = {
   ask: "examples/ask.wasm",
   story: "examples/story.wasm",
   repl: "examples/repl.wasm",
   calls: "tests/host/programs/calls.wasm",
   broken: "tests/host/programs/broken.wasm",
-  recursion: "tests/rows/deepest_recursion/given/recursion.wasm",
+  compiled: "tests/rows/compiled_program_pauses_often/given/compiled.wasm",
   start: "tests/rows/pauses_that_may_not_be/given/start_sleeps.wasm",
   countdown: "tests/rows/pauses_that_may_not_be/given/countdown.wasm",
 };
@@ -29,7 +29,7 @@ const listed = {
   story: "env.read,env.sleep",
   repl: "wasi_snapshot_preview1.fd_read,wasi_snapshot_preview1.poll_oneoff",
   calls: "env.read,env.wide,env.sleep,env.fill",
-  recursion: "env.pause",
+  compiled: "env.sleep",
   start: "env.pause",
   countdown: "env.pause",
 };

@@ -164,6 +164,7 @@ describe("poll_oneoff", () => {
     setTimeout(() => come("x"), 5);
     assert.deepEqual(await poll(given, 2), [[1n, 0, 1]]);
     assert.equal(given.view.getBigUint64(1024 + 16, true), 1n);
+    assert.ok(!process.getActiveResourcesInfo().includes("Timeout"), "the timer is left");
   });
 
   it("answers at once for what can be written, and for a file that isn't there", async () => {
