@@ -7,9 +7,10 @@ cd "$(dirname "$0")" || exit 1
 for script in ask turns; do
     ../asyncify run $script.script | diff $script.lines - || { echo "examples: $script.script prints other lines"; exit 1; }
 done
-for shown in README.md:ask.c README.md:ask.script README.md:ask.lines docs/COMMAND.md:turns.script docs/COMMAND.md:turns.lines; do
+for shown in README.md:ask.c README.md:ask.mjs README.md:ask.script README.md:ask.lines docs/HOSTING.md:ask.mjs docs/COMMAND.md:turns.script docs/COMMAND.md:turns.lines; do
     file=${shown#*:} document=${shown%:*}
-    python3 -c "import sys; sys.exit(open('$file').read() not in open('../$document').read())" || { echo "examples: $document has another $file"; exit 1; }
+    # (without the comment that says what the file is)
+    grep -v '^// Runs' "$file" | python3 -c "import sys; sys.exit(sys.stdin.read() not in open('../$document').read())" || { echo "examples: $document has another $file"; exit 1; }
 done
 command -v node >/dev/null || { echo "examples: no node, not run"; exit 0; }
 out=$(mktemp -d)
