@@ -7,11 +7,10 @@ trap 'rm -rf "$temp"' EXIT
 failed=0
 export PYTHONPATH=$bench PYTHONDONTWRITEBYTECODE=1
 
-# The program `asyncify`, which is built first where it isn't there or is older than its sources.
+# The program `asyncify`, which is proved and built first where it isn't there or is older than its sources.
 asyncify=$bench/../crates/asyncify_cli/out/asyncify_cli
 build_asyncify() {
-    "$bench/../asyncify" >/dev/null || true
-    [ -x "$asyncify" ]
+    "$bench/../asyncify" --prove
 }
 
 # Proves and builds the loops of bench/loops, which are no crate of the repository, in a copy of it that has one crate more, and puts

@@ -7,8 +7,7 @@ ghost use Rattle.vault_port.specs.Told.{WhereTold, Becomes};
 ghost use Rattle.vault_port.specs.Files.{bytes_of, IsMissing, FetchesMore, ChangesOnly, HoldsFrontAtMost};
 ghost use Rattle.vault_port.specs.Taken.{Appends, AppendsLess};
 
-use crate::sink::{Sink, SinkFail};
-use crate::vault::{Vault, VaultFail};
+use crate::{Sink, SinkFail, Vault, VaultFail};
 use std::alloc::{AllocError, Global};
 use thiserror::Error;
 

@@ -1,7 +1,7 @@
 -- What is known of the adapters over real files and standard output.
 use Rattle.std.specs.Prelude.{ℕ}
-use Rattle.vault_port.specs.declared.file_vault.FileVault.{FileVault}
-use Rattle.vault_port.specs.declared.out_sink.OutSink.{OutSink}
+use Rattle.system_vaults.specs.declared.file_vault.FileVault.{FileVault}
+use Rattle.system_vaults.specs.declared.out_sink.OutSink.{OutSink}
 
 -- how many fetches of a FileVault have failed; File and Dir are the runtime's types of opened files
 abbrev pub file_fetch_faults : {R File Dir : Type 0} → FileVault R File Dir → ℕ

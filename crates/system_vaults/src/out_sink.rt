@@ -3,28 +3,39 @@
 ghost use Rattle.std.specs.Prelude.{◌≡◌, ◌≢◌, ◌≤◌, None, IfOk, OnOk, OnErr, length};
 ghost use Rattle.vault_port.specs.Counts.{one_more};
 
-use crate::sink::{Sink, SinkFail};
+use std::io::Error;
+use vault_port::{Sink, SinkFail};
 
 /// Standard output. It doesn't tell what was printed, and takes no memory.
 #[derive(Drop)]
 pub struct OutSink<R: Print + Drop> {
     rt: R,
+    cause: Option<Error>,
     faults: u64,
 }
 
 impl<R: Print + Drop> OutSink<R> {
-    ghost use Rattle.vault_port.specs.Real.{out_faults};
+    ghost use Rattle.system_vaults.specs.Real.{out_faults};
 
     /// The output of this runtime.
     pub fn new(rt: R) -> OutSink<R>
         ensures { out_faults result ≡ 0 }
     {
-        OutSink { rt, faults: 0 }
+        OutSink {
+            rt,
+            cause: None,
+            faults: 0,
+        }
+    }
+
+    /// Why the last call that failed did, as the system says it.
+    pub fn cause(&self) -> Option<Error> {
+        self.cause
     }
 }
 
 impl<R: Print + Drop> Sink for OutSink<R> {
-    ghost use Rattle.vault_port.specs.Real.{out_faults};
+    ghost use Rattle.system_vaults.specs.Real.{out_faults};
 
     ghost taken = { λ _. None };
 
@@ -40,7 +51,8 @@ impl<R: Print + Drop> Sink for OutSink<R> {
     {
         match self.rt.write_some(piece) {
             Ok(count) if count > 0 || piece.is_empty() => Ok(count),
-            _ => {
+            fault => {
+                self.cause = fault.err();
                 self.faults = self.faults.saturating_add(1);
                 Err(SinkFail::Failed)
             }
