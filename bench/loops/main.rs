@@ -23,7 +23,8 @@ use checks::rewrite;
 use running::run;
 use std::env;
 use std::rt::{Env, Files};
-use vault_port::{FileVault, fetch_whole, save_whole};
+use system_vaults::FileVault;
+use vault_port::{fetch_whole, save_whole};
 use wa_types::{Bounds, Value};
 
 /// The most bytes of a prepared module's file, and one more.

@@ -5,7 +5,8 @@ use std::alloc::{AllocError, Global};
 use std::fmt::Display;
 use std::test::Fail;
 use std::{env, fs, io, process};
-use vault_port::{*, FileVault, OutSink};
+use system_vaults::{FileVault, OutSink};
+use vault_port::*;
 use wa_types::Name;
 
 fn named(alloc: Global, name: &str, bytes: &[u8]) -> Result<NamedFile, AllocError> {
