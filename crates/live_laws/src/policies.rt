@@ -23,7 +23,7 @@ pub fn emitted_rewrites()
     ensures { EmittedAsRewrites }
 {}
 
-/// It behaves like it too where the plan lets no import pause, whatever its area.
+/// It behaves like it too where the plan lets no import pause, whatever its area inside the memory.
 pub fn emitted_behaves_given()
     ensures { EmittedAsBehavesGiven }
 {}

@@ -11,7 +11,9 @@ use Rattle.script_command.specs.declared.way.Way.TheVariants.{Host}
 use Rattle.world_hosting.specs.Worlds.{Part, world_program, world_programs}
 use Rattle.world_laws.specs.UntoldWorlds.{MayRunUntold}
 use Rattle.world_laws.proofs.Untold.{worlds_untold}
-use Rattle.script_command.specs.HostedOriginals.{HostsAreOfOriginals, IsHosted, Source, hosted_for, hosted_originals}
+use Rattle.script_command.specs.HostedOriginals.{HostsAreOfOriginals, IsHosted, hosted_for, hosted_originals}
+use Rattle.world_hosting.specs.OriginalRuns.{Source}
+use Rattle.script_command.proofs.Runs.{SameImports, text_of_originals}
 
 -- a hosted module tells no list
 listed_none : (files : Option Files) (y : Part) → IsStage Host files y → y.listed ≡ None
@@ -44,7 +46,15 @@ all_may_run [] ys h = All-nil MayRunUntold
 all_may_run (x ∷ xs) [] h = absurd h
 all_may_run (x ∷ xs) (y ∷ ys) h = let first = h.0 in All-cons MayRunUntold (hosted_for x y) (hosted_originals xs ys) first.may (all_may_run xs ys h.1)
 
+same_imports : (xs : List Source) (ys : List Part) → AllZip IsHosted xs ys → AllZip SameImports xs ys
+same_imports [] [] h = tt
+same_imports [] (y ∷ ys) h = absurd h
+same_imports (x ∷ xs) [] h = absurd h
+same_imports (x ∷ xs) (y ∷ ys) h = let first = h.0 in (first.rewrites.parts.imports, same_imports xs ys h.1)
+
 pub hosts_of_originals : HostsAreOfOriginals
-hosts_of_originals files name play sources h old new text told orderly =
-    worlds_untold (hosted_originals sources play.parts) (world_programs play.parts) _ _ _ told.lines (all_stand_in files sources play.parts play.stages.each h)
-    (all_may_run sources play.parts h) told.world orderly
+hosts_of_originals files name play sources h old new text told orderly = (
+  worlds_untold (hosted_originals sources play.parts) (world_programs play.parts) _ _ _ told.lines (all_stand_in files sources play.parts play.stages.each h)
+      (all_may_run sources play.parts h) told.world orderly,
+  text_of_originals sources play.parts text told.lines (same_imports sources play.parts h) told.text_is,
+)

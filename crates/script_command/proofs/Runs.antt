@@ -8,6 +8,7 @@ use Rattle.wa_types.specs.declared.syntax.Import.{Import}
 use Rattle.wa_types.specs.Modules.{imported_func}
 use Rattle.wa_types.specs.Pausing.{Choice, Policy, joined_name, Settings}
 use Rattle.script_model.specs.Command.{choice_said}
+use Rattle.wa_model.specs.Outside.{Line}
 use Rattle.wa_model.specs.World.{name_if}
 use Rattle.script_model.specs.Script.{EntryText, ProgramText}
 use Rattle.script_model.specs.Transcript.{Names, Transcript}
@@ -87,19 +88,36 @@ names_over t is = record {
   len = t.area.len;
 }
 
-pub same_names : (xs : List Source) (ys : List Part) → AllZip IsRewritten xs ys → map part_names ys ≡ original_names xs ys
+-- each program's module has its original's imports
+abbrev pub SameImports : Source → Part → Type 0
+SameImports x y = y.source.imports ≡ x.original.imports
+
+pub same_names : (xs : List Source) (ys : List Part) → AllZip SameImports xs ys → map part_names ys ≡ original_names xs ys
 same_names [] [] h = refl
 same_names [] (y ∷ ys) h = absurd h
 same_names (x ∷ xs) [] h = absurd h
 same_names (x ∷ xs) (y ∷ ys) h =
-    let one : part_names y ≡ program_names x.original y.text = ap (names_over y.text) h.0.rewrites.parts.imports in
+    let one : part_names y ≡ program_names x.original y.text = ap (names_over y.text) h.0 in
     ap (λ (n : Names). n ∷ map part_names ys) one ∙ ap (λ (ns : List Names). program_names x.original y.text ∷ ns) (same_names xs ys h.1)
 
-pub as_many : (xs : List Source) (ys : List Part) → AllZip IsRewritten xs ys → length ys ≡ length xs
+pub as_many : (xs : List Source) (ys : List Part) → AllZip SameImports xs ys → length ys ≡ length xs
 as_many [] [] h = refl
 as_many [] (y ∷ ys) h = absurd h
 as_many (x ∷ xs) [] h = absurd h
 as_many (x ∷ xs) (y ∷ ys) h = ap suc (as_many xs ys h.1)
+
+same_imports : (xs : List Source) (ys : List Part) → AllZip IsRewritten xs ys → AllZip SameImports xs ys
+same_imports [] [] h = tt
+same_imports [] (y ∷ ys) h = absurd h
+same_imports (x ∷ xs) [] h = absurd h
+same_imports (x ∷ xs) (y ∷ ys) h = (h.0.rewrites.parts.imports, same_imports xs ys h.1)
+
+-- a text of these programs, by the names of their originals
+pub text_of_originals : (xs : List Source) (ys : List Part) (text : List ℕ) (lines : List Line) → AllZip SameImports xs ys
+    → text ≡ Transcript (map part_names ys) (length ys) (turn_count lines) lines → text ≡ Transcript (original_names xs ys) (length xs) (turn_count lines) lines
+text_of_originals xs ys text lines same is =
+    is ∙ ap (λ (ns : List Names). Transcript ns (length ys) (turn_count lines) lines) (same_names xs ys same)
+    ∙ ap (λ (n : ℕ). Transcript (original_names xs ys) n (turn_count lines) lines) (as_many xs ys same)
 
 pub runs_of_originals : RunsAreOfOriginals
 runs_of_originals files name play =
@@ -108,7 +126,6 @@ runs_of_originals files name play =
       have.are_sources,
       λ old new text told calm. (
         told_of_originals have.sources play.parts _ _ _ told.lines have.rewritten told.world calm,
-        told.text_is ∙ ap (λ (ns : List Names). Transcript ns (length play.parts) (turn_count told.lines) told.lines) (same_names have.sources play.parts have.rewritten)
-            ∙ ap (λ (n : ℕ). Transcript (original_names have.sources play.parts) n (turn_count told.lines) told.lines) (as_many have.sources play.parts have.rewritten),
+        text_of_originals have.sources play.parts text told.lines (same_imports have.sources play.parts have.rewritten) told.text_is,
       ),
     )

@@ -1,9 +1,8 @@
 -- What `host` tells of a script's programs over rewritten modules, as a run of their originals.
-use Rattle.std.specs.Prelude.{ℕ, List, [], ◌∷◌, Option, None}
+use Rattle.std.specs.Prelude.{◌≡◌, ℕ, List, [], ◌∷◌, length, Option, None}
 use Rattle.std.specs.List.{AllZip}
 use Rattle.vault_port.specs.Files.{Files}
-use Rattle.wa_types.specs.Pausing.{Settings}
-use Rattle.wa_types.specs.Syntax.{Module}
+use Rattle.script_model.specs.Transcript.{Transcript}
 use Rattle.wa_model.specs.Rewrites.{Rewrites}
 use Rattle.wa_model.specs.World.{Actor, BlockingWorld, Original}
 use Rattle.world_laws.specs.Originals.{met}
@@ -11,13 +10,10 @@ use Rattle.event_order.specs.Left.{Counted}
 use Rattle.many_host.specs.Calls.{devices_of}
 use Rattle.script_command.specs.Playing.{Play, detaches_in}
 use Rattle.script_command.specs.declared.way.Way.TheVariants.{Host}
-use Rattle.world_hosting.specs.Worlds.{AreTold, Part, part, world_program}
+use Rattle.script_command.specs.RunOriginals.{original_names}
+use Rattle.world_hosting.specs.OriginalRuns.{Source}
+use Rattle.world_hosting.specs.Worlds.{AreTold, Part, part, turn_count, world_program}
 use Rattle.world_laws.specs.UntoldWorlds.{MayRunUntold, OrderlyUntold}
-
--- A module before it was rewritten, and by which settings it was.
-pub record Source : Type 0 where
-  pub original : Module
-  pub settings : Settings
 
 -- the original for which a program stands: no list is told
 abbrev pub hosted_for : Source → Part → Original
@@ -39,10 +35,11 @@ abbrev pub RunsOrderly : Original → Actor → Type 0
 RunsOrderly o a = OrderlyUntold o (met a)
 
 -- What is told under `host` of programs over rewritten modules are the lines of a run of the blocking world of their originals, with the
--- same devices, where each original runs orderly.
+-- same devices, and the text is its transcript, with the originals' own names, where each original runs orderly.
 abbrev pub HostsAreOfOriginals : Type 0
 HostsAreOfOriginals =
     (files : Option Files) (name : List ℕ) (play : Play Host files name) (sources : List Source) → AllZip IsHosted sources play.parts
     → (old new : List Counted) (text : List ℕ) (told : AreTold play.parts (detaches_in play.whole) old new text)
     → AllZip RunsOrderly (hosted_originals sources play.parts) told.world.actors
     → BlockingWorld (hosted_originals sources play.parts) (detaches_in play.whole) (devices_of old) told.lines (devices_of new)
+    × (text ≡ Transcript (original_names sources play.parts) (length sources) (turn_count told.lines) told.lines)

@@ -15,7 +15,6 @@ use Rattle.script_command.specs.declared.way.Way.{Way}
 use Rattle.script_command.specs.declared.way.Way.TheVariants.{Host, Run}
 use Rattle.script_command.specs.Playing.{Play, detaches_in}
 use Rattle.script_command.specs.HostedOriginals.{IsHosted, RunsOrderly, hosted_originals}
-use Rattle.script_command.specs.HostedOriginals as H
 use Rattle.script_command.specs.RunOriginals.{IsSource, original_names}
 use Rattle.script_command.specs.Transcripts.{IsTranscript}
 
@@ -33,12 +32,13 @@ pub record RunsOriginals (files : Option Files) (name : List ℕ) (play : Play R
       → StaysOff o a → EndsAs o (met a) number told.lines
 
 -- Under `host` the lines are those of a run of the blocking world of any originals of which the programs' modules are rewritten, with the
--- same devices, where each original runs orderly.
+-- same devices, and the text is its transcript, with the originals' own names, where each original runs orderly.
 abbrev pub HostsOriginals : (files : Option Files) (name : List ℕ) (play : Play Host files name) (old new : List Counted) (text : List ℕ)
     → AreTold play.parts (detaches_in play.whole) old new text → Type 0
 HostsOriginals files name play old new text told =
-    (sources : List H.Source) → AllZip IsHosted sources play.parts → AllZip RunsOrderly (hosted_originals sources play.parts) told.world.actors
+    (sources : List Source) → AllZip IsHosted sources play.parts → AllZip RunsOrderly (hosted_originals sources play.parts) told.world.actors
     → BlockingWorld (hosted_originals sources play.parts) (detaches_in play.whole) (devices_of old) told.lines (devices_of new)
+    × (text ≡ Transcript (original_names sources play.parts) (length sources) (turn_count told.lines) told.lines)
 
 -- by the command
 abbrev pub OfOriginals : (way : Way) (files : Option Files) (name : List ℕ) (play : Play way files name) (old new : List Counted) (text : List ℕ)

@@ -20,7 +20,7 @@ mod parts;
 mod refusals;
 mod refused;
 
-pub use events::Names;
+pub use events::{Names, line};
 pub use lines::{put_last, put_line};
-pub use refusals::RefusalKind;
+pub use refusals::{Refusal, RefusalKind, fault_line};
 pub use refused::{out_of_memory, refuse, refuse_program, refuse_read, refuse_write};

@@ -56,7 +56,7 @@ pub record NothingFails (c : Call) : Type 0 where
   pub saves : HasRisen c.save_faults c.save_faults' → ⊥
   pub puts : HasRisen c.sink_faults c.sink_faults' → ⊥
 
--- a module that is emitted of IN is too long; another needn't be
+-- a module that is that of IN, rewritten, is too long; another needn't be
 abbrev pub IsLong : Cause → Type 0
 IsLong (long_output found) = Unit {0}
 IsLong _ = ⊥
@@ -67,7 +67,7 @@ CanBeLong c = ToldThat c.files (λ all. (found : ℕ) × IsRefusedFor c.settings
 
 -- The call has one end, by its status, and the reason for it. Where the content of IN is told, a cause for which it is refused has
 -- that status, and a source that can be rewritten is written where nothing fails: all but for want of memory, for a fault of reading,
--- which comes first, and for a module that is too long where another that can be emitted isn't.
+-- which comes first, and for a rewritten module that is too long where another isn't.
 pub record HasOneEnd (c : Call) (status : ℕ) : Type 0 where
   pub which : End
   pub by_status : status ≡ status_of_end which

@@ -21,7 +21,7 @@ unfoldable pub done_line : (functions instrumented bytes : ℕ) → List ℕ
 done_line functions instrumented bytes =
     codes "ok functions " ++ decimal functions ++ codes " instrumented " ++ decimal instrumented ++ codes " bytes " ++ decimal bytes ++ line_end
 
--- OUT holds the bytes of the module that is emitted of that of IN by these settings. They spell a valid module without a float, which passes
+-- OUT holds the bytes of a module that is that of IN, rewritten by these settings. They spell a valid module without a float, which passes
 -- no bound of a prepared module, and under the host's protocol behaves like the original. The other files are as before.
 pub record IsTransformed (s : Settings) (input output : List ℕ) (old new : Files) : Type 0 where
   pub «module» : Module
