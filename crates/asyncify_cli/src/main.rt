@@ -19,17 +19,22 @@ use std::rt::{Env, Files};
 use system_vaults::{FileVault, OutSink};
 use wa_types::Name;
 
-/// The statuses of what was done, of words that are no command, of want of memory, and of what the system failed.
+/// The status of what was done.
 const DONE: u8 = 0;
 
+/// Of words that are no command.
 const USAGE: u8 = 2;
 
+/// Of want of memory.
 const MEMORY: u8 = 9;
 
+/// Of a file that couldn't be read.
 const READ: u8 = 10;
 
+/// Of one that couldn't be written.
 const WRITE: u8 = 11;
 
+/// Of standard output that failed.
 const OUTPUT: u8 = 12;
 
 /// The ticks after which a program goes on that has asked the counter.

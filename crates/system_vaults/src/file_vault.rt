@@ -166,9 +166,10 @@ fn write_on<R: Files>(
     ensures { IfOk result (λ count. count ≤ length piece.now) }
 {
     if from == 0 {
-        *stream = Some(Stream::open(rt, OpenOptions::new().write(true), name)?);
+        let opened = Stream::open(rt, OpenOptions::new().write(true), name)?;
         // Where standard output was closed, what was opened now may stand in its place.
         check_output(rt, found)?;
+        *stream = Some(opened);
     }
     match stream {
         Some(stream) if stream.stands_at(found, from) => stream.write(piece),
