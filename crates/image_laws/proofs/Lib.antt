@@ -9,7 +9,10 @@ pub mod ChosenStacks
 pub mod Emitted
 mod EmptyAreas
 pub mod Entries
+pub mod ExampleBack
 pub mod ExampleHolds
+pub mod ExampleModule
+pub mod ExampleRuns
 pub mod FromPair
 pub mod GoesOn
 mod HonestRuns

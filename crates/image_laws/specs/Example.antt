@@ -1,85 +1,154 @@
--- Stores that hold a pause of a small module, written by hand, and some that don't.
-use Rattle.std.specs.Prelude.{◌≡◌, ◌<◌, ◌^◌, ℕ, List, [], ◌∷◌, ◌++◌, length, replicate, None, true, false, All}
+-- A pause of a small module, stores that hold it, written by hand, and some that don't.
+use Rattle.std.specs.Prelude.{◌<◌, ◌^◌, ℕ, List, [], ◌∷◌, ◌++◌, Some, None, true, false, Bool, replicate, codes}
 use Rattle.wa_types.specs.declared.values.ValType.TheVariants.{I32}
 use Rattle.wa_types.specs.declared.values.Value.TheVariants as V
 use Rattle.wa_types.specs.declared.operators.NumOp.TheVariants.{I32Add}
-use Rattle.wa_types.specs.declared.syntax.ImportKind.TheVariants.{Func as a_func_import}
-use Rattle.wa_types.specs.Syntax.{const, num, basic, local_get, call, done, plain, Func, Module}
-use Rattle.wa_types.specs.Pausing.{Settings, every, save_all}
-use Rattle.wa_types.specs.Runtime.{with_runtime}
-use Rattle.wa_model.specs.Configuration.{Configuration, waiting}
-use Rattle.wa_model.specs.Plan.{Plan}
+use Rattle.wa_types.specs.declared.syntax.ImportKind.TheVariants as K
+use Rattle.wa_types.specs.declared.syntax.Space.TheVariants as Sp
+use Rattle.wa_types.specs.Memory.{page_size}
+use Rattle.wa_types.specs.Syntax.{const, num, basic, local_get, call, Code, done, plain, Func, Module}
+use Rattle.wa_types.specs.Pausing.{Policy, Settings, every, save_all, save_live}
+use Rattle.wa_model.specs.declared.events.End.TheVariants.{Done}
+use Rattle.wa_model.specs.Behaves.{IsPrefix}
+use Rattle.wa_model.specs.Blocking.{events_of}
+use Rattle.wa_model.specs.Configuration.{running, waiting}
+use Rattle.wa_model.specs.Outside.{Answer, answered, ended, returned}
+use Rattle.wa_model.specs.Plan.{Entry, Outcome, Plan, given}
 use Rattle.wa_model.specs.Store.{Store}
-use Rattle.run_laws.specs.Ranges.{byte_in}
-use Rattle.image_laws.specs.Image.{HoldsPause}
+use Rattle.live_laws.specs.EmittedAs.{EmittedAs}
+use Rattle.image_laws.specs.Image.{GoesOnFrom, HoldsPause, Pause, RestBound, held_rest, held_there, stack_there}
 
--- Calls the import with its parameter and 1 more: at the call the lower of two slots holds the argument, the upper one nothing.
+-- ---- a run that pauses
+
+-- what stands behind the call, and the call
+abbrev pub behind_call : Code
+behind_call = plain (basic (num I32Add)) done
+
+abbrev pub at_call : Code
+at_call = plain (call 0) behind_call
+
+-- 5 + pause(x + 1), x being the parameter. At the call the lowest of three slots holds 5, the next one the argument, the highest nothing.
 abbrev pub adding : Func
-adding = record { sort = 0; locals = []; body = plain (local_get 0) (plain (basic (const (V.I32 1))) (plain (basic (num I32Add)) (plain (call 0) done))) }
+adding = record { sort = 0; locals = []; body = plain (basic (const (V.I32 5))) (plain (local_get 0) (plain (basic (const (V.I32 1))) (plain (basic (num I32Add)) at_call))) }
 
+-- the import `env.pause`, and that function, exported as `run`
 abbrev pub sample : Module
 sample = record {
   types = record { params = I32 ∷ []; results = I32 ∷ [] } ∷ [];
-  imports = record { «module» = []; base = []; kind = a_func_import 0 } ∷ [];
+  imports = record { «module» = codes "env"; base = codes "pause"; kind = K.Func 0 } ∷ [];
   funcs = adding ∷ [];
   tables = [];
   memories = [];
   globals = [];
-  exports = [];
+  exports = record { name = codes "run"; space = Sp.Func; index = 1 } ∷ [];
   start = None;
   elems = [];
   segments = [];
   customs = [];
 }
 
-abbrev pub saving_all : Settings
-saving_all = record { choice = every; ignore_indirect = false; policy = save_all }
+abbrev pub saving : Policy → Settings
+saving policy = record { choice = every; ignore_indirect = false; policy = policy }
 
--- with 64 bytes from 1024 on as its area
-abbrev pub area_there : Plan
-area_there = record { globals = []; entries = []; area = record { at = 1024; len = 64 }; listed = None }
+-- the function may pause
+abbrev pub may_pause : List Bool
+may_pause = false ∷ true ∷ []
 
--- one page: the bytes below the area, those of the area, and those above it
-abbrev pub page_of : (area above : List ℕ) → List ℕ
-page_of area above = replicate 1024 0 ++ (area ++ above)
+abbrev pub called_with_7 : Entry
+called_with_7 = record { func = 1; args = V.I32 7 ∷ [] }
 
--- the function waits with 7 as its parameter, and 8 as the argument
-abbrev pub waits_there : (above : List ℕ) → Configuration
-waits_there above = record {
-  store = record { globals = []; memory = page_of (replicate 64 0) above; table = [] };
-  here = waiting 1 (V.I32 7 ∷ []) [] (V.I32 8 ∷ []) done [];
-  under = [];
+-- with 64 bytes from 1024 on as the area
+abbrev pub plan_there : Plan
+plan_there = record { globals = []; entries = called_with_7 ∷ []; area = record { at = 1024; len = 64 }; listed = Some (true ∷ []) }
+
+-- the answer is 42, after 5 ticks
+abbrev pub answer_42 : Answer
+answer_42 = record { value = Some (V.I32 42); pokes = []; ticks = 5 }
+
+abbrev pub outcomes_there : List Outcome
+outcomes_there = given answer_42 ∷ []
+
+abbrev pub fresh : Store
+fresh = record { globals = []; memory = replicate page_size 0; table = [] }
+
+-- the run waits in the function, with 5 below and 8 as the argument
+abbrev pub pause_there : Pause
+pause_there = record {
+  cost = 6;
+  notes = [];
+  entry = called_with_7;
+  left = record { number = 0; entries = []; outcomes = outcomes_there };
+  calls = running fresh 1 [] (V.I32 7 ∷ []) (V.I32 8 ∷ V.I32 5 ∷ []) at_call [];
+  own_cost = 1;
+  waits = record { store = fresh; here = waiting 1 (V.I32 7 ∷ []) (V.I32 5 ∷ []) (V.I32 8 ∷ []) behind_call []; under = [] };
+  import = 0;
+  args = V.I32 8 ∷ [];
+  answer = answer_42;
+  ticks = 5;
+  outcomes = [];
 }
 
--- the location's low byte, 1088 as the end, and a frame: the parameter, the slot of the argument, the other slot, and the number of
--- the call; and bytes behind the frames
-abbrev pub area_of : (location parameter argument free number : ℕ) → List ℕ
-area_of location parameter argument free number =
-    location ∷ 4 ∷ 0 ∷ 0 ∷ 0x40 ∷ 4 ∷ 0 ∷ 0 ∷ parameter ∷ 0 ∷ 0 ∷ 0 ∷ argument ∷ 0 ∷ 0 ∷ 0 ∷ free ∷ free ∷ free ∷ free ∷ number ∷ 0 ∷ 0 ∷ 0 ∷ replicate 40 free
+-- ---- stores
+
+-- one page: this area, and zeros around it
+abbrev pub page_of : (area : List ℕ) → List ℕ
+page_of area = replicate 1024 0 ++ (area ++ replicate 64448 0)
 
 -- a store with this state and address
-abbrev pub store_of : (state address : ℕ) → (area above : List ℕ) → Store
-store_of state address area above = record { globals = V.I32 state ∷ V.I32 address ∷ []; memory = page_of area above; table = [] }
+abbrev pub store_of : (state address : ℕ) → (area : List ℕ) → Store
+store_of state address area = record { globals = V.I32 state ∷ V.I32 address ∷ []; memory = page_of area; table = [] }
 
--- such a store holds the pause
-abbrev pub Holds : Store → (above : List ℕ) → Type 0
-Holds t above = HoldsPause sample (with_runtime sample) saving_all (false ∷ true ∷ []) area_there (waits_there above) t
+-- The location's low byte, 1088 as the end, and a frame of the policy `all`: the parameter, the slots of the operand below and of the
+-- argument, the highest slot, and the number of the call; and bytes behind the frame.
+abbrev pub area_of : (location parameter below argument free number : ℕ) → List ℕ
+area_of location parameter below argument free number =
+    location ∷ 4 ∷ 0 ∷ 0 ∷ 0x40 ∷ 4 ∷ 0 ∷ 0 ∷ parameter ∷ 0 ∷ 0 ∷ 0 ∷ below ∷ 0 ∷ 0 ∷ 0 ∷ argument ∷ 0 ∷ 0 ∷ 0 ∷ free ∷ free ∷ free ∷ free ∷ number ∷ 0 ∷ 0 ∷ 0 ∷ replicate 36 free
 
--- The frame's end is 1048. Whatever stands in the free slot and behind the frames, above the area on both sides, and in the address global:
--- this store holds the pause.
+-- the same with a frame of the policy `live`: the parameter is dead behind the call, and only the slots of operands are kept
+abbrev pub live_area_of : (location below argument free number : ℕ) → List ℕ
+live_area_of location below argument free number =
+    location ∷ 4 ∷ 0 ∷ 0 ∷ 0x40 ∷ 4 ∷ 0 ∷ 0 ∷ below ∷ 0 ∷ 0 ∷ 0 ∷ argument ∷ 0 ∷ 0 ∷ 0 ∷ number ∷ 0 ∷ 0 ∷ 0 ∷ replicate 44 free
+
+-- the area by the policy, with a frame's end of 1052 or 1044
+abbrev pub image_with : Policy → (free : ℕ) → List ℕ
+image_with save_all free = area_of 0x1c 7 5 8 free 0
+image_with save_live free = live_area_of 0x14 5 8 free 0
+
+-- such a store of a module holds the pause
+abbrev pub Holds : Policy → Module → Store → Type 0
+Holds policy q t = HoldsPause sample q (saving policy) may_pause plan_there pause_there.waits t
+
+-- Whatever stands in the free slot, behind the frame, and in the address global: this store holds the pause.
 abbrev pub HandWrittenHolds : Type 0
 HandWrittenHolds =
-    (free address : ℕ) (above : List ℕ) → free < 256 → address < 2 ^ 32 → length above ≡ 64448 → All byte_in above → Holds (store_of 0 address (area_of 0x18 7 8 free 0) above) above
+    (policy : Policy) (q : Module) → EmittedAs sample (saving policy) may_pause q → (free address : ℕ) → free < 256 → address < 2 ^ 32
+    → Holds policy q (store_of 0 address (image_with policy free))
 
--- Others don't: a location in front of the frame, another parameter, another argument, another number of the call; nor the state of an
--- unwind, or another byte below the area.
-pub record OthersDont (free address : ℕ) (above : List ℕ) : Type 0 where
-  pub location : Holds (store_of 0 address (area_of 0x08 7 8 free 0) above) above → ⊥
-  pub parameter : Holds (store_of 0 address (area_of 0x18 6 8 free 0) above) above → ⊥
-  pub argument : Holds (store_of 0 address (area_of 0x18 7 9 free 0) above) above → ⊥
-  pub number : Holds (store_of 0 address (area_of 0x18 7 8 free 1) above) above → ⊥
-  pub state : Holds (store_of 1 address (area_of 0x18 7 8 free 0) above) above → ⊥
-  pub below : Holds (record { globals = V.I32 0 ∷ V.I32 address ∷ []; memory = 1 ∷ replicate 1023 0 ++ (area_of 0x18 7 8 free 0 ++ above); table = [] }) above → ⊥
+-- Others don't: a location in front of the frame, another parameter, another operand below, another argument, another number of the call;
+-- nor the state of an unwind, or another byte below the area; nor the frame of the other policy.
+pub record OthersDont (q : Module) (free address : ℕ) : Type 0 where
+  pub location : Holds save_all q (store_of 0 address (area_of 0x08 7 5 8 free 0)) → ⊥
+  pub parameter : Holds save_all q (store_of 0 address (area_of 0x1c 6 5 8 free 0)) → ⊥
+  pub operand : Holds save_all q (store_of 0 address (area_of 0x1c 7 6 8 free 0)) → ⊥
+  pub argument : Holds save_all q (store_of 0 address (area_of 0x1c 7 5 9 free 0)) → ⊥
+  pub number : Holds save_all q (store_of 0 address (area_of 0x1c 7 5 8 free 1)) → ⊥
+  pub state : Holds save_all q (store_of 1 address (area_of 0x1c 7 5 8 free 0)) → ⊥
+  pub below : Holds save_all q (record { globals = V.I32 0 ∷ V.I32 address ∷ []; memory = 1 ∷ replicate 1023 0 ++ (area_of 0x1c 7 5 8 free 0 ++ replicate 64448 0); table = [] }) → ⊥
+  pub policy : Holds save_all q (store_of 0 address (image_with save_live free)) → ⊥
 
 abbrev pub HandWrittenDont : Type 0
-HandWrittenDont = (free address : ℕ) (above : List ℕ) → OthersDont free address above
+HandWrittenDont = (q : Module) (free address : ℕ) → OthersDont q free address
+
+-- ---- what comes back
+
+-- From such a store q does what the original does from the answer on, for any cost: the answer is given, 47 is returned, and that is all.
+pub record ComesBack (policy : Policy) (q : Module) (t : Store) : Type 0 where
+  pub goes_on : (n : ℕ) → GoesOnFrom sample (saving policy) q plan_there may_pause n pause_there t
+  pub events : IsPrefix (answered (Some (V.I32 42)) ∷ returned 0 (Some (V.I32 47)) ∷ ended Done ∷ [])
+      (events_of (held_rest q plan_there (held_there q plan_there pause_there t) (RestBound sample 2 (stack_there sample pause_there) [])).events)
+
+-- Whatever is emitted of the module, by either policy, comes back from the store that is written by hand.
+abbrev pub HandWrittenComesBack : Type 0
+HandWrittenComesBack =
+    (policy : Policy) (q : Module) → EmittedAs sample (saving policy) may_pause q → (free address : ℕ) → free < 256 → address < 2 ^ 32
+    → ComesBack policy q (store_of 0 address (image_with policy free))

@@ -1,6 +1,6 @@
 //! Laws of stores that hold a pause. Each is the contract of a function that does nothing.
 
-ghost use Rattle.image_laws.specs.Example.{HandWrittenDont, HandWrittenHolds};
+ghost use Rattle.image_laws.specs.Example.{HandWrittenComesBack, HandWrittenDont, HandWrittenHolds};
 ghost use Rattle.image_laws.specs.Laws.{BoundsJoin, EntryIsNumbered, ImageGoesOn, OneSavesAnotherGoesOn, PausesHold, WholeBound};
 
 /// Where the original waits at a pause, the emitted module goes on from any store that holds the pause, whatever wrote it: rewound, it
@@ -36,8 +36,13 @@ pub fn entry_is_numbered()
 {}
 
 /// A store that is written by hand holds a pause, whatever stands where nothing is wanted; with the location before the frame, with another value,
-/// another number of the call or another state, or with a byte changed below the area it holds none.
+/// another number of the call or another state, with a byte changed below the area, or with the frame of the other policy it holds none.
 pub fn stores_hold_a_pause()
     ensures written { HandWrittenHolds }
     ensures others { HandWrittenDont }
+{}
+
+/// Whatever is emitted of that module goes on from such a store: it is answered, returns what the original returns, and is done.
+pub fn hand_written_store_comes_back()
+    ensures { HandWrittenComesBack }
 {}
