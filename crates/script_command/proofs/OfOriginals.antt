@@ -8,8 +8,9 @@ use Rattle.script_command.specs.declared.way.Way.TheVariants.{Host, Run}
 use Rattle.script_command.specs.Playing.{Play, detaches_in}
 use Rattle.script_command.specs.OfOriginals.{OfOriginals}
 use Rattle.world_hosting.proofs.Endings.{told_ends}
+use Rattle.world_hosting.proofs.Originals.{told_of_originals}
 use Rattle.script_command.specs.OfOriginals.{RunsOriginals}
-use Rattle.script_command.proofs.Runs.{in_range, runs_of_originals, sources_of}
+use Rattle.script_command.proofs.Runs.{in_range, same_imports, sources_of, text_of_originals}
 use Rattle.script_command.proofs.Hosted.{hosts_of_originals}
 
 -- the programs' originals, with their world and their ends
@@ -17,11 +18,13 @@ runs_originals : (files : Option Files) (name : List ℕ) (play : Play Run files
     (told : AreTold play.parts (detaches_in play.whole) old new text) → RunsOriginals files name play old new text told
 runs_originals files name play old new text told =
     let have = sources_of files play.parts play.stages.each (in_range files name play) in
-    let world = (runs_of_originals files name play).2 in
     record {
       sources = have.sources;
       are_sources = have.are_sources;
-      world = world old new text told;
+      world = λ calm. (
+        told_of_originals have.sources play.parts _ _ _ told.lines have.rewritten told.world calm,
+        text_of_originals have.sources play.parts text told.lines (same_imports have.sources play.parts have.rewritten) told.text_is,
+      );
       ends = λ number o a there at calm. told_ends have.sources play.parts _ _ _ told.lines number o a have.rewritten told.world there at calm;
     }
 

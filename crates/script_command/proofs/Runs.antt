@@ -106,7 +106,7 @@ as_many [] (y ∷ ys) h = absurd h
 as_many (x ∷ xs) [] h = absurd h
 as_many (x ∷ xs) (y ∷ ys) h = ap suc (as_many xs ys h.1)
 
-same_imports : (xs : List Source) (ys : List Part) → AllZip IsRewritten xs ys → AllZip SameImports xs ys
+pub same_imports : (xs : List Source) (ys : List Part) → AllZip IsRewritten xs ys → AllZip SameImports xs ys
 same_imports [] [] h = tt
 same_imports [] (y ∷ ys) h = absurd h
 same_imports (x ∷ xs) [] h = absurd h
