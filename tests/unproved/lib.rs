@@ -13,6 +13,8 @@ mod driving;
 #[cfg(test)]
 mod dropping;
 #[cfg(test)]
+mod faults;
+#[cfg(test)]
 mod fetching;
 #[cfg(test)]
 mod flattening;
