@@ -1,6 +1,6 @@
 //! The public calls that no command reaches, or not at this edge, with values from outside: each allocating call with
 //! ample memory, worked numbers and operators, flat and guarded functions, written modules driven as a host does, files and
-//! outputs that fail in the middle.
+//! outputs that fail in the middle, and under every command each call of files, output and devices failing in turn.
 //! `tests/run` runs it; nothing here is proved.
 #![tactic(auto)]
 
@@ -12,6 +12,8 @@ mod commands;
 mod driving;
 #[cfg(test)]
 mod dropping;
+#[cfg(test)]
+mod faults;
 #[cfg(test)]
 mod fetching;
 #[cfg(test)]
