@@ -3,6 +3,7 @@ pub mod Behaving
 pub mod CallPoints
 pub mod CallSlots
 pub mod CallWeights
+pub mod EmptyAreas
 pub mod FlatStretches
 pub mod FrameFacts
 pub mod FromOpenings
@@ -11,6 +12,7 @@ pub mod GivenPlans
 pub mod Halting
 pub mod Halves
 pub mod Headline
+pub mod HonestRuns
 pub mod KeptFields
 pub mod LiveSteps
 pub mod LocalsTyped
@@ -26,10 +28,15 @@ pub mod PairedStacks
 pub mod PauseCosts
 pub mod Pauses
 pub mod PlaceSlots
+pub mod Poked
+pub mod PokedAreas
 pub mod ProperFlat
+pub mod QuietRewritten
 pub mod QuietSteps
+pub mod ReachedCall
 pub mod Reductions
 pub mod Rooms
+pub mod SamePlans
 pub mod Simulation
 pub mod Sizes
 pub mod SlimLinks
@@ -43,6 +50,7 @@ pub mod Staying
 pub mod StoresTogether
 pub mod ToldMoves
 pub mod TrapStores
+pub mod UnpausedRuns
 pub mod WaitsAgain
 pub mod WantedFields
 pub mod WorldParts

@@ -1,4 +1,3 @@
 pub mod Example
 pub mod Image
 pub mod Laws
-pub mod Unpaused

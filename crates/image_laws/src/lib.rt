@@ -1,4 +1,4 @@
-//! Laws of images of suspended stacks, and of runs without a pause; alone, as they are promises that nothing else rests on.
+//! Laws of images of suspended stacks; alone, as they are promises that nothing else rests on.
 //!
 //! A store that holds the image of a suspended stack comes back: from there an emitted module does what its original does from its
 //! answer on, whatever wrote the store. `specs/Image.antt` says what a store holds at a pause and what the rest of a run owes,
@@ -7,19 +7,11 @@
 //! chooses every other kept slot as what the memory has there, and `proofs/ChosenStacks.antt` has that a flat stack with such slots
 //! stands beside the same original. From any related pair whose original asks an import that pauses, `proofs/ToPause.antt` has the way
 //! to the pause, and `proofs/AtPause.antt` the way back over any store that holds it; `proofs/Emitted.antt` has both policies.
-//!
-//! Where nothing pauses, what is emitted of a module does what the module does, whatever the area, and over the whole memory
-//! (`specs/Unpaused.antt`): so also where the module has a memory of no page, or uses all of its first one.
-//!
-//! - `laws`: images.
-//! - `unpaused_runs`: runs in which nothing pauses.
 #![tactic(auto)]
 
 mod laws;
-mod unpaused_runs;
 
 pub use laws::{
     bounds_join, entry_is_numbered, hand_written_store_comes_back, image_goes_on,
     one_saves_another_goes_on, pauses_hold, stores_hold_a_pause, whole_bound,
 };
-pub use unpaused_runs::{emitted_modules_run_unpaused, modules_run_unpaused};

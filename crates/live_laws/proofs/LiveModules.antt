@@ -20,6 +20,7 @@ use Rattle.rewrite_form.proofs.FitsBy.{AllCodesFit, emitted_fits}
 use Rattle.rewrite_form.proofs.EmittedSo.{HaveCodes, emitted_so}
 use Rattle.headline.specs.Given.{BehavesGiven}
 use Rattle.headline.proofs.GivenPlans.{behaves_given}
+use Rattle.headline.proofs.UnpausedRuns.{runs_unpaused}
 use Rattle.live_laws.specs.ByCallFraming.{framing_by_call}
 use Rattle.live_laws.specs.LiveFraming.{LiveFraming}
 use Rattle.live_laws.proofs.ByCallFramed.{by_call_framed}
@@ -90,7 +91,11 @@ pub rewritten_law : LiveIsRewritten
 rewritten_law m s which pieces parts r free = rewritten_but_runs m s which (live_codes pieces parts) r.valid (hold m s which pieces parts r) r.tells free
 
 pub rewrites_law : LiveRewrites
-rewrites_law m s which pieces parts r free = record { parts = rewritten_law m s which pieces parts r free; behaves = live_behaves m s which pieces parts r free }
+rewrites_law m s which pieces parts r free = record {
+  parts = rewritten_law m s which pieces parts r free;
+  behaves = live_behaves m s which pieces parts r free;
+  unpaused = runs_unpaused m s (live_asyncified m s which pieces parts) which (live_given m s which pieces parts r free) r.tells;
+}
 
 pub sizes_law : LiveKeepsSizes
 sizes_law m s which pieces parts r = emitted_sizes m s which (live_codes pieces parts) r.valid r.sizes (hold m s which pieces parts r) (small m s which pieces parts r) r.few

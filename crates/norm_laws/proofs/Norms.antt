@@ -22,7 +22,7 @@ use Rattle.wa_model.specs.Store.{Store}
 use Rattle.wa_model.specs.Blocking.{Note, events_of, Blocking}
 use Rattle.wa_model.specs.Protocol.{Held, Protocol, store_held}
 use Rattle.wa_model.specs.Expected.{SameEnd}
-use Rattle.wa_model.specs.Behaves.{IsPrefix, pause_stacks, expected_notes, without_pauses, IsMoment, BehavesOn}
+use Rattle.wa_model.specs.Behaves.{IsPrefix, pause_stacks, expected_notes, without_pauses, IsMoment, BehavesOn, RunsAlike, SameWhole}
 use Rattle.wa_model.specs.Rewrites.{RewritesButRuns, SameFunc, RewrittenFunc}
 use Rattle.norm_laws.specs.Bare.{one_by_one, bare}
 use Rattle.norm_laws.specs.NormLaws.{NormBlocking, NormProtocol, NormIsValid, NormIsRewritten}
@@ -168,6 +168,17 @@ module _ (m : Module) (s : Settings) (p : Module) where
     size = h.size;
   }
 
+  runs_alike : (plan : Plan) (os : List Outcome) (n : ℕ) → RunsAlike m p plan os n → RunsAlike m (Norm p) plan os n
+  runs_alike plan os n r =
+      let xs : List Event = events_of (Blocking m plan os n).events in
+      record {
+        reaches = subst (λ (q : Ran Held Note). IsPrefix xs (events_of q.events)) (sym (norm_protocol p plan os (Bound m n []))) r.reaches;
+        follows = subst (λ (q : Ran Held Note). IsPrefix (events_of q.events) xs) (sym (norm_protocol p plan os n)) r.follows;
+        notes = λ i y e. r.notes i y (subst (λ (q : Ran Held Note). slice_get q.events i ≡ Some y) (norm_protocol p plan os n) e);
+        moments = subst (λ (q : Ran Held Note). (events : List Event) × (at : Store) × IsMoment m plan os n events at
+            × (events ≡ events_of q.events) × SameWhole (global_space m) at (store_held q.last)) (sym (norm_protocol p plan os n)) r.moments;
+      }
+
 but_runs : (m : Module) (s : Settings) (p : Module) → RewritesButRuns SameFunc m s p → RewritesButRuns SameFunc m s (Norm p)
 unfolding Norm
 but_runs m s p r = record {
@@ -193,4 +204,5 @@ pub norm_rewritten : NormIsRewritten
 norm_rewritten m s p r = record {
   parts = but_runs m s p r.parts;
   behaves = λ w which tells plan os n compared numbered. behaves_on m s p plan os n which (expected_notes m s plan os n) (r.behaves w which tells plan os n compared numbered);
+  unpaused = λ w plan os n g. runs_alike m s p plan os n (r.unpaused w plan os n g);
 }

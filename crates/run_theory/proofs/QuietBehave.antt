@@ -1,9 +1,11 @@
 -- A module of which nothing may pause behaves like itself with the runtime's parts behind its own.
-use Rattle.std.proofs.Common.{◌≡◌, ℕ, zero, suc, ◌+◌, ◌-◌, ◌*◌, ◌≤◌, inl, List, [], ◌∷◌, Option, Some, None, Bool, refl, sym, ap, ◌∙◌, subst, length, arith}
+use Rattle.std.proofs.Common.{◌≡◌, ℕ, zero, suc, ◌+◌, ◌-◌, ◌*◌, ◌≤◌, inl, List, [], ◌∷◌, Option, Some, None, Bool, All, refl, sym, ap, ◌∙◌, subst, length, map, arith}
 use Rattle.std.specs.Prelude.{slice_get}
 use Rattle.std.specs.List.{filter_map, sum_by}
 use Rattle.std.proofs.lemmas.List.{append-nil, map-append}
 use Rattle.wa_types.specs.Syntax.{Module}
+use Rattle.wa_types.specs.Modules.{imported, imported_global}
+use Rattle.wa_types.specs.Typing.{GlobalType}
 use Rattle.wa_types.specs.Pausing.{Settings, TellsMayPause}
 use Rattle.wa_types.specs.Frames.{Suspended, Room, Fit, Image}
 use Rattle.wa_types.specs.Bounds.{Bound, activation_bound}
@@ -12,11 +14,11 @@ use Rattle.wa_types.specs.Validity.{Valid}
 use Rattle.wa_model.specs.declared.answers.Area.{Area}
 use Rattle.wa_model.specs.Outside.{Event, called, answered, paused, returned, ended, shown as was_shown}
 use Rattle.wa_model.specs.Store.{Store}
-use Rattle.wa_model.specs.Plan.{Plan, Outcome}
+use Rattle.wa_model.specs.Plan.{AreLawful, EntryFits, Plan, Outcome, OutcomeFits}
 use Rattle.wa_model.specs.Blocking.{Note, events_of, Blocking, store_of}
 use Rattle.wa_model.specs.Protocol.{Held, exports_of, protocol, Protocol, store_held}
 use Rattle.wa_model.specs.Expected.{shown_at, shown, SameEnd}
-use Rattle.wa_model.specs.Behaves.{IsPrefix, pause_stacks, PausesNumbered, Compared, expected_notes, protocol_notes, AtPaused, AreaKept, SameNote, unless_pause, without_pauses, BehavesOn, Behaves}
+use Rattle.wa_model.specs.Behaves.{IsPrefix, pause_stacks, PausesNumbered, expected_notes, protocol_notes, AtPaused, AreaKept, SameNote, unless_pause, without_pauses, BehavesOn, Behaves}
 use Rattle.run_theory.specs.Laws.{held_start_of}
 use Rattle.run_theory.specs.Quiet.{NeverPauses}
 use Rattle.run_theory.proofs.Runs.{prefix_of_longer, prefix_on}
@@ -83,7 +85,8 @@ protocol_grows p plan os n more =
     prefix_on Held Note (protocol p (exports_of p) plan) (held_start_of p plan os).events _ _ (prefix_of_longer Held Note (protocol p (exports_of p) plan) n n more (held_start_of p plan os).last le)
 
 module _ (m : Module) (s : Settings) (valid : Valid m) (never : NeverPauses m s) (which : List Bool) (tells : TellsMayPause m s which) (plan : Plan) (os : List Outcome) (n : ℕ)
-    (c : Compared m s plan os n) (pauses : PausesNumbered m s which (Blocking m plan os n).events) where
+    (globals : AreLawful (map (λ (g : GlobalType). g.ty) (imported imported_global m)) plan.globals) (lawful : All (EntryFits m) plan.entries) (outcomes : All OutcomeFits os)
+    (pauses : PausesNumbered m s which (Blocking m plan os n).events) where
   abbrev p : Module
   p = with_runtime m
 
@@ -97,7 +100,7 @@ module _ (m : Module) (s : Settings) (valid : Valid m) (never : NeverPauses m s)
   ys = (Protocol p plan os n).events
 
   alike : Alike (NoteAgrees g) xs ys
-  alike = (agree m s valid never which tells plan os n c pauses).0
+  alike = (agree m s valid never which tells plan os n globals lawful outcomes pauses).0
 
   expected_are : expected_notes m s plan os n ≡ xs
   expected_are = shown_plain g (Room m s.policy) (λ stack. Fit m s.policy stack plan.area.len) plan.area.len xs ys alike
@@ -141,9 +144,9 @@ module _ (m : Module) (s : Settings) (valid : Valid m) (never : NeverPauses m s)
       store_of (Blocking m plan os n).last,
       inl (n, omega arith, refl, refl),
       none_left_out g xs ys alike,
-      same_end g plan.area (store_of (Blocking m plan os n).last) (store_held (Protocol p plan os n).last) (agree m s valid never which tells plan os n c pauses).1,
+      same_end g plan.area (store_of (Blocking m plan os n).last) (store_held (Protocol p plan os n).last) (agree m s valid never which tells plan os n globals lawful outcomes pauses).1,
     );
   }
 
 pub quiet_behaves : (m : Module) (s : Settings) → Valid m → NeverPauses m s → Behaves m s (with_runtime m)
-quiet_behaves m s valid never = λ sizes which tells plan os n c pauses. behaves_on m s valid never which tells plan os n c pauses
+quiet_behaves m s valid never = λ sizes which tells plan os n c pauses. let f = c.fits in behaves_on m s valid never which tells plan os n f.globals f.entries c.outcomes pauses

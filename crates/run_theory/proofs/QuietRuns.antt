@@ -18,11 +18,11 @@ use Rattle.wa_model.specs.declared.events.End.TheVariants.{Done}
 use Rattle.wa_model.specs.Outside.{ended}
 use Rattle.wa_model.specs.Machine.{Ran, after, still, run}
 use Rattle.wa_model.specs.Store.{Store}
-use Rattle.wa_model.specs.Plan.{Entry, Plan, Outcome, OutcomeFits, EntryFits}
+use Rattle.wa_model.specs.Plan.{AreLawful, Entry, Plan, Outcome, OutcomeFits, EntryFits}
 use Rattle.wa_model.specs.Instantiation.{Opening, fails_as, opens, opening}
 use Rattle.wa_model.specs.Blocking.{Note, note, Left, State, between, begins, runs, halts, done_notes, on_to, no_store, all_left, begun, continued, blocking, Blocking, store_of}
 use Rattle.wa_model.specs.Protocol.{Held, over, exports_of, protocol, held_on, held_begun, held_continued, Protocol, store_held}
-use Rattle.wa_model.specs.Behaves.{StandsNumbered, PauseNumbered, PausesNumbered, Compared, unless_pause}
+use Rattle.wa_model.specs.Behaves.{StandsNumbered, PauseNumbered, PausesNumbered, unless_pause}
 use Rattle.run_theory.specs.Growth.{grown_module, spaces_of, Each, grown_store}
 use Rattle.run_theory.specs.Quiet.{NeverPauses}
 use Rattle.run_theory.proofs.Runs.{no_move}
@@ -151,7 +151,8 @@ unfolding Base
 base_count m = refl
 
 module _ (m : Module) (s : Settings) (valid : Valid m) (never : NeverPauses m s) (which : List Bool) (tells : TellsMayPause m s which) (plan : Plan) (os : List Outcome) (n : ℕ)
-    (c : Compared m s plan os n) (pauses : PausesNumbered m s which (Blocking m plan os n).events) where
+    (globals : AreLawful (map (λ (g : GlobalType). g.ty) (imported imported_global m)) plan.globals) (lawful : All (EntryFits m) plan.entries) (outcomes : All OutcomeFits os)
+    (pauses : PausesNumbered m s which (Blocking m plan os n).events) where
   abbrev q : Module
   q = with_runtime m
 
@@ -178,9 +179,9 @@ module _ (m : Module) (s : Settings) (valid : Valid m) (never : NeverPauses m s)
       let b : Module = Base m in
       let big : Module = grown_module b ts fs gs es in
       let named : InstanceNamed b = base_instance m (valid_instance m valid) in
-      let entries : Each (EntryThere b) plan.entries = each_weaker (EntryFits m) (EntryThere b) plan.entries (base_entry m) (each_of_all (EntryFits m) plan.entries (c.fits).entries) in
-      let left : LeftNamed b (all_left plan os) = record { entries = entries; outcomes = each_of_all OutcomeFits os c.outcomes } in
-      let opened = opening_stays b ts fs gs es plan.globals (base_globals m plan.globals ((c.fits).globals).typed) named in
+      let entries : Each (EntryThere b) plan.entries = each_weaker (EntryFits m) (EntryThere b) plan.entries (base_entry m) (each_of_all (EntryFits m) plan.entries lawful) in
+      let left : LeftNamed b (all_left plan os) = record { entries = entries; outcomes = each_of_all OutcomeFits os outcomes } in
+      let opened = opening_stays b ts fs gs es plan.globals (base_globals m plan.globals globals.typed) named in
       let r : AgreeOn (spaces_of b).globals (Blocking m plan os n) (Protocol big plan os n) =
       by_opening b ts fs gs es (base_named m (valid_named m valid)) plan n (all_left plan os) b.start (opening b plan.globals) (opening big plan.globals) opened left named.start idle in
       subst (λ x. AgreeOn (global_space m) (Blocking m plan os n) (Protocol x plan os n)) (sym (is_grown m))

@@ -21,4 +21,4 @@ pub use laws::{
     moves_add_up, one_next_configuration, pruned_runs_are_the_same, reductions_end_one_way,
     runs_are_determined, runs_are_moves, runs_grow,
 };
-pub use quiet_laws::{none_told_is_quiet, quiet_modules_are_rewritten, runtime_is_valid};
+pub use quiet_laws::{none_told_is_quiet, quiet_modules_behave, runtime_is_valid};

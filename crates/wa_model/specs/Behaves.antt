@@ -1,19 +1,20 @@
 -- What a rewritten module owes its original: the headline's relation on runs.
-use Rattle.std.specs.Prelude.{◌≡◌, ℕ, suc, ◌+◌, ◌≤◌, ◌<◌, ◌⊎◌, ◌++◌, List, take, Option, Some, None, Bool, true, false, All, Contains, slice_get}
+use Rattle.std.specs.Prelude.{◌≡◌, ℕ, suc, ◌+◌, ◌≤◌, ◌<◌, ◌⊎◌, ◌++◌, List, [], map, take, Option, Some, None, Bool, true, false, All, Contains, slice_get}
 use Rattle.std.specs.List.{filter_map}
 use Rattle.wa_types.specs.Syntax.{Func, Module}
-use Rattle.wa_types.specs.Modules.{defined_at}
+use Rattle.wa_types.specs.Modules.{imported, imported_global, defined_at}
 use Rattle.wa_types.specs.Sizes.{WellFormed}
 use Rattle.wa_types.specs.Pausing.{Settings, Listed, TellsMayPause, Numbered}
 use Rattle.wa_types.specs.Frames.{Suspended, HoldsBytes, word, Image}
 use Rattle.wa_types.specs.Bounds.{Bound}
+use Rattle.wa_types.specs.Typing.{GlobalType}
 use Rattle.wa_types.specs.Runtime.{global_space}
 use Rattle.wa_model.specs.declared.answers.Area.{Area}
 use Rattle.wa_model.specs.declared.events.End.{End}
 use Rattle.wa_model.specs.declared.events.End.TheVariants.{UnwindTrap}
 use Rattle.wa_model.specs.Outside.{Event, paused, ended}
 use Rattle.wa_model.specs.Store.{Store}
-use Rattle.wa_model.specs.Plan.{Plan, Outcome, OutcomeFits, Fits}
+use Rattle.wa_model.specs.Plan.{AreLawful, EntryFits, Plan, Outcome, given, refused, OutcomeFits, Fits}
 use Rattle.wa_model.specs.Blocking.{Note, events_of, Blocking, store_of}
 use Rattle.wa_model.specs.Untouched.{Untouched}
 use Rattle.wa_model.specs.Protocol.{Protocol, store_held}
@@ -128,3 +129,39 @@ abbrev pub Behaves : Module → Settings → Module → Type 0
 Behaves m s p =
     WellFormed m → (which : List Bool) → TellsMayPause m s which → (plan : Plan) (os : List Outcome) (n : ℕ)
     → Compared m s plan os n → PausesNumbered m s which (Blocking m plan os n).events → BehavesOn m s p plan os n which (expected_notes m s plan os n)
+
+-- ---- runs in which nothing pauses
+
+-- an answer doesn't pause
+abbrev pub NoTicks : Outcome → Type 0
+NoTicks (given a) = a.ticks ≡ 0
+NoTicks (refused e) = Unit {0}
+
+-- A plan's values and entries fit the original; outcomes are in range, and none pauses. Of the area nothing is asked.
+pub record GivenUnpaused (m : Module) (plan : Plan) (os : List Outcome) : Type 0 where
+  pub globals : AreLawful (map (λ (g : GlobalType). g.ty) (imported imported_global m)) plan.globals
+  pub entries : All (EntryFits m) plan.entries
+  pub outcomes : All OutcomeFits os
+  pub unpaused : All NoTicks os
+
+-- the original's globals, of which there are so many, and the whole memory are equal
+pub record SameWhole (globals : ℕ) (s s' : Store) : Type 0 where
+  pub globals_same : (x : ℕ) → x < globals → slice_get s.globals x ≡ slice_get s'.globals x
+  pub memory : s.memory ≡ s'.memory
+
+-- one event, and such stores
+pub record SameAt (globals : ℕ) (x y : Note) : Type 0 where
+  pub event : x.event ≡ y.event
+  pub stores : SameWhole globals x.store y.store
+
+-- The rewritten module does what its original does with blocking imports, for one plan, outcomes and cost: fields as those of `BehavesOn`.
+pub record RunsAlike (m p : Module) (plan : Plan) (os : List Outcome) (n : ℕ) : Type 0 where
+  pub reaches : IsPrefix (events_of (Blocking m plan os n).events) (events_of (protocol_notes p plan os (Bound m n [])))
+  pub follows : IsPrefix (events_of (protocol_notes p plan os n)) (events_of (Blocking m plan os n).events)
+  pub notes : (i : ℕ) (y : Note) → slice_get (protocol_notes p plan os n) i ≡ Some y → (x : Note) × (slice_get (Blocking m plan os n).events i ≡ Some x) × SameAt (global_space m) x y
+  pub moments : (events : List Event) × (at : Store) × IsMoment m plan os n events at × (events ≡ events_of (protocol_notes p plan os n))
+      × SameWhole (global_space m) at (store_held (Protocol p plan os n).last)
+
+-- Where nothing pauses it does so under any area, whatever the program touches, with a memory or without.
+abbrev pub BehavesUnpaused : Module → Module → Type 0
+BehavesUnpaused m p = WellFormed m → (plan : Plan) (os : List Outcome) (n : ℕ) → GivenUnpaused m plan os → RunsAlike m p plan os n

@@ -14,7 +14,7 @@ use Rattle.wa_types.specs.Runtime.{with_runtime}
 use Rattle.wa_types.specs.Pausing.{Policy, save_all, save_live, Settings, MayPause, TellsMayPause, Numbered}
 use Rattle.wa_types.specs.Frames.{Count, Saved}
 use Rattle.wa_types.specs.Bounds.{Weight}
-use Rattle.wa_model.specs.Behaves.{Behaves}
+use Rattle.wa_model.specs.Behaves.{Behaves, BehavesUnpaused}
 
 -- the instructions of code, and the labels of its branch tables
 unfoldable pub instructions_and_labels : Code → ℕ
@@ -67,3 +67,4 @@ pub record RewritesButRuns (Stays : Func → Func → Type 0) (m : Module) (s : 
 pub record Rewrites (m : Module) (s : Settings) (p : Module) : Type 0 where
   pub parts : RewritesButRuns SameFunc m s p
   pub behaves : Behaves m s p
+  pub unpaused : BehavesUnpaused m p

@@ -17,13 +17,12 @@ use Rattle.wa_model.specs.Blocking.{Note, State, between, begins, runs, halts, e
 use Rattle.wa_model.specs.Protocol.{Protocol, store_held}
 use Rattle.wa_model.specs.Untouched.{IsCalm, StaysOff, next_access}
 use Rattle.wa_model.specs.Expected.{SameEnd, shown, shown_at}
-use Rattle.wa_model.specs.Behaves.{BehavesOn, IsPrefix, PauseNumbered, expected_notes, pause_stacks, protocol_notes, stack_if, unless_pause, without_pauses}
+use Rattle.wa_model.specs.Behaves.{BehavesOn, IsPrefix, PauseNumbered, expected_notes, pause_stacks, protocol_notes, stack_if, unless_pause, without_pauses, GivenUnpaused, RunsAlike, SameWhole}
 use Rattle.run_laws.specs.Standing.{PauseTold}
 use Rattle.run_laws.proofs.StandingPauses.{pauses_told}
 use Rattle.headline.specs.Given.{BehavesGiven, ComparedGiven, LetsPause}
-use Rattle.image_laws.specs.Unpaused.{GivenUnpaused, RunsAlike, SameWhole}
-use Rattle.image_laws.proofs.HonestRuns.{honest_run}
-use Rattle.image_laws.proofs.HonestRuns as H
+use Rattle.headline.proofs.HonestRuns.{honest_run}
+use Rattle.headline.proofs.HonestRuns as H
 
 -- an area of no byte
 abbrev pub nowhere : Area

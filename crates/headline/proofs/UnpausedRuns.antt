@@ -10,12 +10,11 @@ use Rattle.wa_model.specs.Store.{Store}
 use Rattle.wa_model.specs.Plan.{Plan, Outcome}
 use Rattle.wa_model.specs.Blocking.{Note, State, events_of, store_of, Blocking}
 use Rattle.wa_model.specs.Protocol.{Held, Protocol, store_held}
-use Rattle.wa_model.specs.Behaves.{IsMoment, IsPrefix, protocol_notes}
-use Rattle.live_laws.proofs.PolicyCases.{given_as}
-use Rattle.image_laws.specs.Unpaused.{EmittedRunsUnpaused, RunsAlike, RunsUnpaused, SameAt, SameWhole}
-use Rattle.image_laws.proofs.EmptyAreas.{alike, emptied}
-use Rattle.image_laws.proofs.SamePlans.{Calm, Poking, find_poking, same_blocking, same_protocol}
-use Rattle.image_laws.proofs.Poked.{poked_alike}
+use Rattle.wa_model.specs.Behaves.{IsMoment, IsPrefix, protocol_notes, RunsAlike, SameAt, SameWhole}
+use Rattle.headline.specs.Given.{RunsUnpaused}
+use Rattle.headline.proofs.EmptyAreas.{alike, emptied}
+use Rattle.headline.proofs.SamePlans.{Calm, Poking, find_poking, same_blocking, same_protocol}
+use Rattle.headline.proofs.Poked.{poked_alike}
 
 module _ (m p : Module) (plan : Plan) (os : List Outcome) (n : ℕ) (calm : All (Calm plan) os) where
   abbrev plan' : Plan
@@ -55,11 +54,8 @@ module _ (m p : Module) (plan : Plan) (os : List Outcome) (n : ℕ) (calm : All 
       }
 
 pub runs_unpaused : RunsUnpaused
-runs_unpaused m s p which behaves wf tells plan os n g = by (find_poking plan os g.unpaused)
+runs_unpaused m s p which behaves tells wf plan os n g = by (find_poking plan os g.unpaused)
   where
     by : All (Calm plan) os ⊎ Poking plan os → RunsAlike m p plan os n
     by (inl calm) = so_anyway m p plan os n calm (alike m s p which behaves wf tells plan os n g)
     by (inr b) = poked_alike m p plan b.bad b.rest b.us os b.unpaused b.poking b.is b.calm (λ j. alike m s p which behaves wf tells plan os j g) n
-
-pub emitted_runs_unpaused : EmittedRunsUnpaused
-emitted_runs_unpaused m s which q c free em wf plan os n g = runs_unpaused m s q which (given_as m s which q c free em) wf c.tells plan os n g

@@ -19,9 +19,9 @@ use Rattle.wa_model.specs.Store.{Store}
 use Rattle.wa_model.specs.Step.{Next, steps, asks, returns, traps, stuck, step}
 use Rattle.wa_model.specs.Blocking.{Note, note, call_note, answers, bad_poke, bad_pause, fault_of, is_unlisted, or_else, pause_of, poked, poke_fits, resumed, Task, the_start, an_entry, Left, with_outcomes, Asker, inside, outermost, store_at, stack_at, in_start, State, between, begins, runs, halts, on_to, go_on, tested, asked, task_back, by_step, done_notes, next_entry, enters, enter_next, start_called, blocking, begun, all_left, store_of, Blocking}
 use Rattle.wa_model.specs.Protocol.{Exports, exports_of, is_running, unwinds, rewinds, Held, free, starting, busy, calling, aside, entering, over, held_on, held_back, held_given, held_tested, held_asked, busy_step, busy_enters, held_next, held_start, protocol, held_begun, store_held, Protocol}
-use Rattle.image_laws.proofs.EmptyAreas.{emptied, nowhere}
-use Rattle.image_laws.proofs.SamePlans.{Calm, none_paused, same_fault}
-use Rattle.image_laws.proofs.ReachedCall.{calls, Fork, told, GoesAt, TurnAt, TurnParts, RunAt, after_at, run_at}
+use Rattle.headline.proofs.EmptyAreas.{emptied, nowhere}
+use Rattle.headline.proofs.SamePlans.{Calm, none_paused, same_fault}
+use Rattle.headline.proofs.ReachedCall.{calls, Fork, told, GoesAt, TurnAt, TurnParts, RunAt, after_at, run_at}
 
 -- ---- the end at the call
 

@@ -18,8 +18,8 @@ use Rattle.wa_model.specs.Store.{Store}
 use Rattle.wa_model.specs.Step.{Next, steps, asks, returns, traps, stuck, step}
 use Rattle.wa_model.specs.Blocking.{Note, call_note, answers, bad_poke, bad_pause, fault_of, is_unlisted, or_else, overlap, pause_of, poked, poke_fits, Task, the_start, an_entry, Left, with_outcomes, Asker, inside, outermost, store_at, stack_at, in_start, State, between, begins, runs, halts, on_to, go_on, tested, asked, task_back, by_step, enters, enter_next, start_called, blocking, begun, all_left, Blocking}
 use Rattle.wa_model.specs.Protocol.{Exports, exports_of, is_running, unwinds, rewinds, Held, free, starting, busy, calling, aside, entering, over, held_on, held_back, held_given, held_tested, held_asked, busy_step, busy_enters, held_next, held_start, protocol, held_begun, Protocol}
-use Rattle.image_laws.specs.Unpaused.{NoTicks}
-use Rattle.image_laws.proofs.EmptyAreas.{emptied, nowhere, off_nowhere}
+use Rattle.wa_model.specs.Behaves.{NoTicks}
+use Rattle.headline.proofs.EmptyAreas.{emptied, nowhere, off_nowhere}
 
 -- its pokes lie off a range
 abbrev pub PokesOff : Area → Outcome → Type 0

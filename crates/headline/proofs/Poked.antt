@@ -15,14 +15,13 @@ use Rattle.wa_model.specs.Plan.{Plan, Outcome, given}
 use Rattle.wa_model.specs.Instantiation.{opening}
 use Rattle.wa_model.specs.Blocking.{Note, State, note, all_left, bad_poke, begun, blocking, events_of, store_of, Blocking}
 use Rattle.wa_model.specs.Protocol.{Held, Protocol, store_held}
-use Rattle.wa_model.specs.Behaves.{IsMoment, IsPrefix}
+use Rattle.wa_model.specs.Behaves.{IsMoment, IsPrefix, RunsAlike, SameAt, SameWhole}
 use Rattle.run_theory.proofs.GrownSteps.{front}
 use Rattle.run_theory.proofs.Runs.{prefix_of_longer, prefix_on}
-use Rattle.image_laws.specs.Unpaused.{RunsAlike, SameAt, SameWhole}
-use Rattle.image_laws.proofs.EmptyAreas.{emptied}
-use Rattle.image_laws.proofs.SamePlans.{Calm}
-use Rattle.image_laws.proofs.ReachedCall.{Fork, calls, calls_of_events, one_call}
-use Rattle.image_laws.proofs.PokedAreas.{blocking_at, protocol_at, why}
+use Rattle.headline.proofs.EmptyAreas.{emptied}
+use Rattle.headline.proofs.SamePlans.{Calm}
+use Rattle.headline.proofs.ReachedCall.{Fork, calls, calls_of_events, one_call}
+use Rattle.headline.proofs.PokedAreas.{blocking_at, protocol_at, why}
 
 -- ---- lists of events, and the calls in them
 
