@@ -3,3 +3,4 @@ pub mod CaseLemmas
 pub mod FloatFile
 pub mod PauseLemmas
 pub mod RoundTrips
+pub mod SureEnds

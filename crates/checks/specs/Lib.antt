@@ -6,3 +6,4 @@ pub mod Files
 pub mod Images
 pub mod Lists
 pub mod Rows
+pub mod SureCommands

@@ -8,10 +8,12 @@
 //!
 //! - `definition_check`: facts on small modules.
 //! - `round_trip`: reading behind writing, and writing behind reading.
+//! - `sure_commands`: the command over files and output that never fail.
 #![tactic(auto)]
 
 mod definition_check;
 mod round_trip;
+mod sure_commands;
 
 pub use definition_check::{
     a_float_in_dead_code_is_marked, beginnings_of_a_module, each_file_decided, each_module_decided,
@@ -20,3 +22,4 @@ pub use definition_check::{
     verdict_is_typing,
 };
 pub use round_trip::{AgainFault, read_again, rewrite};
+pub use sure_commands::over_sure;

@@ -1,5 +1,5 @@
--- What a rewritten module is: the original with the runtime's parts, its functions that may pause rewritten, and a behaviour
--- that is the original's.
+-- What a rewritten module is: the original with the runtime's parts, its functions that may pause rewritten, and a behaviour that is the
+-- original's, also where nothing pauses.
 use Rattle.std.specs.Prelude.{◌≡◌, ℕ, ◌+◌, ◌*◌, ◌≤◌, List, length, drop, Some, Bool, slice_get}
 use Rattle.std.specs.List.{sum_by}
 use Rattle.wa_types.specs.Encoding.{merged}
@@ -41,7 +41,7 @@ pub record RewrittenFunc (m : Module) (s : Settings) (p : Module) (which : List 
   pub nesting : depth_of g.body ≤ 3 * depth_of (pruned f.body) + 8
   pub size : instructions_and_labels g.body ≤ 128 * (Weight m f + 4) + frames_size m s.policy f (Numbered m s which f)
 
--- p is the module m rewritten under the settings s, but for its runs: a function that can't pause stays so.
+-- p is the module m rewritten under the settings s, but for its runs. `Stays` relates a function that can't pause to what became of it.
 pub record RewritesButRuns (Stays : Func → Func → Type 0) (m : Module) (s : Settings) (p : Module) : Type 0 where
   pub valid : Valid m
   pub valid_rewritten : Valid p
