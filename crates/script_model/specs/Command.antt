@@ -7,8 +7,7 @@ use Rattle.wa_types.specs.Pausing.{Choice, every, nobody, of_list, Entry, ListEr
 pub data Command : Type 0 where
   transform : (settings : Settings) → (input output : List ℕ) → Command
 
--- What a word is where an option may stand: `--imports` or `--save`, either with `=` and its value, a flag, the end of
--- options, a name, or none of these.
+-- What a word is where an option may stand: an option, one with `=` and its value, a flag, the end of options, a name, or none of these.
 pub data Word : Type 0 where
   imports_word save_word ignore_imports_word ignore_indirect_word end_word unknown_word : Word
   imports_with save_with name_word : (text : List ℕ) → Word

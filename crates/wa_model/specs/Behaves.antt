@@ -47,8 +47,7 @@ stack_if stack (Some ticks) = Some stack
 abbrev pub pause_stacks : List Note → List (List Suspended)
 pause_stacks notes = filter_map (λ (x : Note). stack_if x.stack x.pause) notes
 
--- The runs that are compared: the plan fits the original and tells the listed imports, outcomes are in range, and up to a
--- cost of n the run with blocking imports doesn't touch the area.
+-- The compared runs: the plan fits the original and tells the listed imports, outcomes are in range, and up to a cost of n the area is untouched.
 pub record Compared (m : Module) (s : Settings) (plan : Plan) (os : List Outcome) (n : ℕ) : Type 0 where
   pub fits : Fits m plan
   pub listed : plan.listed ≡ Some (Listed m s)
@@ -73,9 +72,8 @@ pub record AreaKept (area : Area) (at_pause now : Store) : Type 0 where
   pub location : HoldsBytes now.memory area.at (word (area.at + 8))
   pub others : (x : ℕ) → area.at + 4 ≤ x → x < area.at + area.len → slice_get now.memory x ≡ slice_get at_pause.memory x
 
--- What a note of the rewritten module owes the expected note beside it, which shows this stack: it has the same event; the
--- stores agree; at a pause the area holds the image of the stack; and an answer behind a pause has read the frames, and has
--- changed nothing else of the area.
+-- What a note of the rewritten module owes the expected note beside it, which shows the stack: one event; stores agree; at a pause the area
+-- holds the stack's image; and an answer behind a pause has read the frames, and has changed nothing else of the area.
 pub record SameNote (m : Module) (s : Settings) (which : List Bool) (area : Area) (x y : Note) : Type 0 where
   pub event : x.event ≡ y.event
   pub ends : SameEnd (global_space m) area x.store y.store
@@ -102,15 +100,13 @@ unless_pause e = Some e
 abbrev pub without_pauses : List Event → List Event
 without_pauses events = filter_map unless_pause events
 
--- A moment of a run with blocking imports within a cost of n, at which these events have been made: where it stands after
--- some cost, or at one of its events.
+-- A moment of a run with blocking imports within a cost of n, with these events made: where it stands after some cost, or at an event.
 abbrev pub IsMoment : Module → Plan → List Outcome → ℕ → List Event → Store → Type 0
 IsMoment m plan os n events s =
     ((j : ℕ) × (j ≤ n) × (events ≡ events_of (Blocking m plan os j).events) × (s ≡ store_of (Blocking m plan os j).last))
     ⊎ ((i : ℕ) × (x : Note) × (slice_get (Blocking m plan os n).events i ≡ Some x) × (events ≡ events_of (take (suc i) (Blocking m plan os n).events)) × (s ≡ x.store))
 
--- The rewritten module p behaves like its original m, for one plan, outcomes and cost, where these notes are expected of it
--- for the run of m within that cost. `which` tells the functions that may pause.
+-- The rewritten p behaves like m, for one plan, outcomes and cost, where these notes are expected of m's run; `which` tells what may pause.
 pub record BehavesOn (m : Module) (s : Settings) (p : Module) (plan : Plan) (os : List Outcome) (n : ℕ) (which : List Bool) (expected : List Note) : Type 0 where
   -- it gets as far, within the bound
   pub reaches : IsPrefix (events_of expected) (events_of (protocol_notes p plan os (Bound m n (pause_stacks (Blocking m plan os n).events))))
@@ -122,9 +118,8 @@ pub record BehavesOn (m : Module) (s : Settings) (p : Module) (plan : Plan) (os 
   pub moments : (events : List Event) × (at : Store) × IsMoment m plan os n events at × (events ≡ without_pauses (events_of (protocol_notes p plan os n)))
       × SameEnd (global_space m) plan.area at (store_held (Protocol p plan os n).last)
 
--- For every plan, list of outcomes and cost at which each pause finds its activations at numbered calls, the rewritten module
--- behaves like its original. The original's numbers lie in the ranges of their types: else what passes through a frame
--- comes back changed.
+-- For every plan, outcomes and cost at which each pause finds its activations at numbered calls, the rewritten module behaves like its
+-- original, whose numbers lie in the ranges of their types: else what passes through a frame comes back changed.
 abbrev pub Behaves : Module → Settings → Module → Type 0
 Behaves m s p =
     WellFormed m → (which : List Bool) → TellsMayPause m s which → (plan : Plan) (os : List Outcome) (n : ℕ)

@@ -22,8 +22,7 @@ use Rattle.wa_model.specs.Plan.{Entry, Plan, Outcome, given, refused}
 use Rattle.wa_types.specs.Base.{Base}
 use Rattle.wa_model.specs.Instantiation.{Opening, fails_as, opens, opening}
 
--- An event, the store at it, and, for a call, the stack just before it and, where its answer pauses, the ticks. An answer
--- behind a pause tells the store of that pause.
+-- An event and the store at it; of a call the stack just before it, and the ticks where it pauses; of an answer behind a pause its store.
 pub record Note : Type 0 where
   pub event : Event
   pub store : Store
@@ -80,8 +79,7 @@ abbrev pub or_else : Option End → Option End → Option End
 or_else None second = second
 or_else (Some e) second = Some e
 
--- The first test that an answer fails: its value is of the import's result type; every poke lies inside the memory and
--- off the area; where it pauses, the call isn't inside the start function, and the import isn't told as unlisted.
+-- The first test that an answer fails: the value's type; pokes inside the memory and off the area; no pause in start, or of an unlisted import.
 abbrev pub fault_of : List ValType → (size : ℕ) → Plan → (in_start : Bool) → (import : ℕ) → Answer → Option End
 fault_of results size plan in_start import a =
     or_else (if answers results a.value then None else Some (BadAnswer import a.value))
@@ -258,8 +256,7 @@ continued m plan n r = after r.events (run (blocking m plan) n r.last)
 abbrev pub blocking_run : Module → Plan → List Outcome → ℕ → Ran State Note
 blocking_run m plan os n = continued m plan n (begun m.start (all_left plan os) (opening m plan.globals))
 
--- The notes of a run with blocking imports up to a total cost of n, and where it then stands: instantiation, the start
--- function and the entries in order, each call of an import being one step.
+-- The notes of a run with blocking imports up to a cost of n, and where it then stands: instantiation, start, and the entries in order.
 abbrev pub Blocking : Module → Plan → List Outcome → ℕ → Ran State Note
 Blocking m plan os n = blocking_run (Base m) plan os n
 

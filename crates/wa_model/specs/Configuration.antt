@@ -8,8 +8,7 @@ use Rattle.wa_types.specs.Pausing.{Callee, calls_of, calls_in}
 use Rattle.wa_types.specs.Frames.{Suspended}
 use Rattle.wa_model.specs.Store.{Store}
 
--- A label: what a branch to it goes on with, and the instructions left behind it (4.2.12). `height` is the number
--- of the function's operands below the construct.
+-- A label: what a branch to it goes on with, and what is left behind it (4.2.12). `height` counts the operands below the construct.
 pub data Label : Type 0 where
   -- of a block or an if: a branch carries so many values and goes on behind the construct. `skipped` is the arm that
   -- stands behind the one that runs.
@@ -17,9 +16,8 @@ pub data Label : Type 0 where
   -- of a loop: a branch carries none and begins the body again
   loop_label : (height : ℕ) → (body rest : Code) → Label
 
--- An activation of a defined function (4.2.12): the function's index, its locals, its operands, the topmost first,
--- the operands that the call took at which it waits, the code that stands next, and the labels around it, the
--- innermost first.
+-- An activation of a defined function (4.2.12): its index, locals and operands, the topmost first, those that the call took at which it
+-- waits, the code that stands next, and the labels around it, the innermost first.
 pub record Activation : Type 0 where
   pub func : ℕ
   pub locals : List Value

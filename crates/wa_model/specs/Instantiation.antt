@@ -84,8 +84,7 @@ opened_by m globals pages entries false true = fails_as (HostLimit true entries)
 opened_by m globals pages entries false false =
     filled globals (replicate (pages * page_size) 0) (replicate entries None) (map (elem_piece globals) m.elems) (map (byte_piece globals) m.segments)
 
--- The instance of a module whose imported globals have these values, before its start function runs (4.5.4). A memory is
--- zeros of its declared minimum, a table has none of its elements initialised.
+-- The instance with these imported globals, before start runs (4.5.4): a memory of zeros, a table without elements, of their declared minimum.
 abbrev pub opening : Module → List Value → Opening
 opening m imports =
     opened_by m (all_values imports m) (least_of (all_memories m)) (least_of (all_tables m))

@@ -23,8 +23,7 @@ pub record Entry : Type 0 where
   pub func : ℕ
   pub args : List Value
 
--- A plan: the values of the imported globals, the entries, the range that is kept for suspended stacks, and, where
--- told, which function imports are listed.
+-- A plan: the values of imported globals, the entries, the range kept for suspended stacks, and, where told, which imports are listed.
 pub record Plan : Type 0 where
   pub globals : List Value
   pub entries : List Entry

@@ -72,8 +72,7 @@ pub data Then : Type 0 where
   -- after stop_rewind the answer is given
   give_answer : (waits : Configuration) → Then
 
--- Where a run under the protocol stands: an entry is to be called, the start function is, code runs in a phase, an export is
--- to be called by the host, an export runs on a fresh stack, the entry is to be called again, or all is over.
+-- Where a run under the protocol stands. The host is `calling` an export, which runs `aside`, and is `entering` the entry again to rewind.
 pub data Held : Type 0 where
   free : (store : Store) → (left : Left) → Held
   starting : (func : ℕ) → (store : Store) → (left : Left) → Held

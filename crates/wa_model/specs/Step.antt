@@ -88,8 +88,7 @@ zero_of t = value_of t 0
 abbrev pub entered : Store → List Activation → (args : List Value) → ℕ → Func → Configuration
 entered s under args x f = running s x under (args ++ map zero_of (declared_locals f.locals)) [] f.body []
 
--- A call of the function of this index, which takes so many arguments, below the operands that the instruction took
--- itself (4.4.7.1). One that would make activation 4,097 traps. A call of an import is no activation.
+-- A call of this function, its arguments below the instruction's own operands (4.4.7.1). Activation 4,097 traps; an import makes none.
 abbrev pub invoke : Module → Store → ℕ → List Activation → (ls own ops : List Value) → Code → List Label → (params x : ℕ) → Option Func → Next
 invoke m s fn under ls own ops rest labels params x (Some f) =
     if nat_lt (length under + 1) 4096

@@ -21,8 +21,7 @@ use Rattle.wa_ops.specs.declared.class.OperatorClass.TheVariants.{Unary, Convers
 use Rattle.wa_ops.specs.Integers.{iclz, ictz, ipopcnt, ieqz, iadd, isub, imul, idiv_u, idiv_s, irem_u, irem_s, iand, ior, ixor, ishl, ishr_u, ishr_s, irotl, irotr, ieq, ine, ilt_u, ilt_s}
 use Rattle.wa_ops.specs.Integers.{igt_u, igt_s, ile_u, ile_s, ige_u, ige_s, wrap, extend_u, extend_s}
 
--- What an operator makes of the numbers of its operands: of one (unop and testop, cvtop), or of a first and a second one
--- (relop, binop). Only a binop is partial, and it traps where it isn't defined.
+-- What an operator makes of its operands' numbers: of one (unop, testop, cvtop), or of two (relop, binop). A binop may trap.
 pub data Meaning : Type 0 where
   unary : (of_one : ℕ → ℕ) → Meaning
   conversion : (of_one : ℕ → ℕ) → Meaning

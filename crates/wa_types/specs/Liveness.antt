@@ -10,8 +10,7 @@ pub data Label : Type 0 where
   goes_behind : (rest : Code) → Label
   goes_again : (body rest : Code) → Label
 
--- A place in a function's code: what stands from there on in its sequence, and the labels around it, the
--- innermost first, without the function's own.
+-- A place in code: what stands from there on in its sequence, and the labels around it, the innermost first, without the function's own.
 pub record Position : Type 0 where
   pub here : Code
   pub labels : List Label
@@ -103,9 +102,8 @@ behind_calls ls (branch r a b rest) =
 abbrev pub LiveAfter : Func → ℕ → ℕ → Type 0
 LiveAfter f place x = (at : Position) × (slice_get (behind_calls [] (pruned f.body)) place ≡ Some at) × ReadsFirst x at
 
--- Whether x is read before it is written, computed from the end backwards: `tos` tells it for the target of
--- each label, `out` for what stands behind the sequence. A path that comes to a loop's start again reads x no
--- sooner than one that begins there, so a loop's own label counts as one where x isn't read.
+-- Whether x is read before it is written, from the end backwards: `tos` tells it for each label's target, `out` for what stands behind. A path
+-- that comes to a loop's start again reads x no sooner than one that begins there, so a loop's own label counts as one where x isn't read.
 abbrev pub told_at : List Bool → ℕ → Bool
 told_at tos l = is_told (slice_get tos l)
 

@@ -28,8 +28,7 @@ placed_at place c = record c { after = place }
 abbrev pub placed_behind : ℕ → List Custom → List Custom
 placed_behind id cs = filter (λ c. min c.after 11 == id) cs
 
--- Custom sections as they are written behind sections of ids from this one on, the last written one of a lower id
--- being `last`: each at the greatest id, not above its place, whose section is written.
+-- Custom sections behind sections of ids from this one on, behind `last`, the last written one: each at the greatest written id up to its place.
 abbrev pub lowered : (id last : ℕ) → List Bool → List Custom → List Custom
 lowered id last [] cs = []
 lowered id last (written ∷ rest) cs =

@@ -38,10 +38,6 @@ IsCode (branched op result arms rest) (branch r a b more) else_arm =
     (result.byte ≡ block_type_byte r) × IsCode arms a b × IsCode rest more else_arm
 IsCode _ _ else_arm = ⊥
 
--- the code that an expression is (5.4.6)
-abbrev pub IsExpression : RawCode → Code → Type 0
-IsExpression raw c = IsCode raw c done
-
 -- two lists of a length, whose items are each the other's
 abbrev pub Each : {X Y : Type 0} → (X → Y → Type 0) → List X → List Y → Type 0
 Each R [] [] = Unit {0}
@@ -74,12 +70,12 @@ pub record IsImport (raw : RawImport) (i : Import) : Type 0 where
 pub record IsGlobal (raw : RawGlobal) (g : GlobalDef) : Type 0 where
   pub ty : IsValueType raw.ty g.ty
   pub mutable : g.mutable ≡ raw.mutable
-  pub init : IsExpression raw.init g.init
+  pub init : IsCode raw.init g.init done
 
 -- an element segment (5.5.12)
 pub record IsElem (raw : RawElem) (e : Elem) : Type 0 where
   pub table : e.table ≡ raw.table
-  pub offset : IsExpression raw.offset e.offset
+  pub offset : IsCode raw.offset e.offset done
   pub funcs : e.funcs ≡ raw.funcs
 
 -- so many locals of one type (5.5.13)
@@ -90,12 +86,12 @@ pub record IsRun (raw : RawRun) (r : Run) : Type 0 where
 -- a function, by its body (5.5.13)
 pub record IsBody (raw : RawBody) (f : Func) : Type 0 where
   pub locals : Each IsRun raw.locals f.locals
-  pub body : IsExpression raw.code f.body
+  pub body : IsCode raw.code f.body done
 
 -- a data segment (5.5.14)
 pub record IsSegment (raw : RawSegment) (s : Segment) : Type 0 where
   pub memory : s.memory ≡ raw.memory
-  pub offset : IsExpression raw.offset s.offset
+  pub offset : IsCode raw.offset s.offset done
   pub bytes : s.bytes ≡ raw.bytes
 
 -- the types of a section, where it is of that kind (5.5.4)

@@ -17,8 +17,7 @@ pub record GlobalType : Type 0 where
   pub ty : ValType
   pub mutable : Bool
 
--- What stands around a body (3.1.1, the context): the types, functions and globals of the module by index,
--- whether it has a table and a memory, the locals, parameters first, and the result.
+-- What stands around a body (3.1.1): types, functions and globals by index, whether a table and a memory are there, locals, and the result.
 pub record Around : Type 0 where
   pub types : List FuncType
   pub funcs : List FuncType
@@ -161,8 +160,7 @@ basic_sig c (store op align offset) = stores c.memory align (store_row op)
 basic_sig c memory_size = with_memory c.memory [] (I32 ∷ [])
 basic_sig c memory_grow = with_memory c.memory (I32 ∷ []) (I32 ∷ [])
 
--- What an instruction asks and leaves under these labels (3.3.1 to 3.3.5), the innermost first. Each label is the result that
--- a branch to it takes; the last one is the function's own.
+-- What an instruction asks and leaves under these labels (3.3.1 to 3.3.5), each the result that a branch takes, the function's own the last.
 abbrev pub sig : Around → List (Option ValType) → Plain → Sig
 sig c ls (basic b) = basic_sig c b
 sig c ls (local_get x) = gets (slice_get c.locals x)
@@ -190,8 +188,7 @@ abbrev pub label : Shape → Option ValType → Option ValType
 label a_block r = r
 label a_loop r = None
 
--- The code takes the operands `ins` to exactly the results `outs` (3.3.6, 3.3.5.3 to 3.3.5.5). A construct's
--- body begins without operands of its own.
+-- The code takes operands `ins` to exactly the results `outs` (3.3.6, 3.3.5.3 to 3.3.5.5). A construct's body begins without operands.
 unfoldable pub Types : Around → List (Option ValType) → Code → (outs ins : List ValType) → Type 0
 Types c ls done outs ins = ins ≡ outs
 Types c ls (plain p rest) outs ins = (mids : List ValType) × Takes (sig c ls p) ins mids × Types c ls rest outs mids

@@ -78,8 +78,7 @@ max_fits range low (Some high) = nat_le high range && nat_le low high
 abbrev pub limits_fit : ℕ → Limits → Bool
 limits_fit range l = nat_le l.min range && max_fits range l.min l.max
 
--- Tables are within 2^32 entries, memories within 65,536 pages, and no maximum is below its minimum
--- (3.2.3, 3.2.4).
+-- Tables are within 2^32 entries, memories within 65,536 pages, and no maximum is below its minimum (3.2.3, 3.2.4).
 abbrev pub all_limits_fit : Module → Bool
 all_limits_fit m = list_all (limits_fit (2 ^ 32)) (all_tables m) && list_all (limits_fit 65536) (all_memories m)
 
@@ -98,8 +97,7 @@ is_constant globals t (plain (basic (const v)) done) = same_type (type_of v) t
 is_constant globals t (plain (basic (global_get x)) done) = constant_of (slice_get globals x) t
 is_constant globals t _ = false
 
--- Initialisers are constant, and name imported globals alone; offsets are constant, of type i32
--- (3.4.4 to 3.4.6, 3.4.10).
+-- Initialisers are constant, and name imported globals alone; offsets are constant, of type i32 (3.4.4 to 3.4.6, 3.4.10).
 abbrev pub all_constant : Module → Bool
 all_constant m =
     list_all (λ (g : GlobalDef). is_constant (imported imported_global m) g.ty g.init) m.globals
