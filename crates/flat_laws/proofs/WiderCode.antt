@@ -12,7 +12,8 @@ use Rattle.run_theory.specs.Flat.{Stmts, calls, nests, decides}
 use Rattle.wa_model.specs.declared.flat.Operand.TheVariants.{Local}
 use Rattle.run_theory.proofs.WiderTyping.{Wider, takes_wider}
 use Rattle.flat_laws.specs.Flatten.{Names, slots, top, top_of, arrive, flat, flat_plain}
-use Rattle.flat_laws.proofs.OperandTypes.{after_all, takes_after, passes}
+use Rattle.wa_types.proofs.PointLemmas.{takes_after, passes}
+use Rattle.flat_laws.proofs.OperandTypes.{after_all}
 
 module _ (c d : Around) (w : Wider c d) where
   -- ---- points

@@ -16,6 +16,7 @@ pub mod NotEach
 pub mod Numbers
 pub mod Openings
 pub mod Operators
+pub mod OwnEnds
 pub mod PlanParts
 mod ProtocolForks
 pub mod ProtocolRuns

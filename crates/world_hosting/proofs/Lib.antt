@@ -7,7 +7,6 @@ pub mod Entries
 pub mod Exports
 pub mod Ledgers
 pub mod Originals
-pub mod OwnEnds
 pub mod Printed
 pub mod ScriptPlans
 pub mod ScriptPrograms

@@ -23,7 +23,7 @@ use Rattle.world_laws.proofs.Bounded.{bounded_are_whole}
 use Rattle.world_laws.proofs.LineCalls.{turn_parts}
 use Rattle.many_host.proofs.Places.{set_here, set_there}
 use Rattle.world_hosting.specs.Endings.{IsBounded, PassesArea, ends_spent, ends_unwound, is_spent, is_unwound, tells_any}
-use Rattle.world_hosting.proofs.OwnEnds.{Own, blocking_own, ends_hosts, is_hosts}
+use Rattle.run_laws.proofs.OwnEnds.{Own, blocking_own, ends_hosts, is_hosts}
 
 or_false : (b : Bool) → b || false ≡ b
 or_false true = refl

@@ -1,32 +1,25 @@
 -- No rewritten module that runs orderly breaks the protocol.
-use Rattle.std.proofs.Common.{arith, ◌≡◌, ◌≤◌, ◌+◌, ℕ, zero, suc, ◌*◌, List, [], ◌∷◌, ◌++◌, length, take, map, replicate, Option, Some, None, Bool, true, false, All, refl, sym, ap, ◌∙◌, subst}
+use Rattle.std.proofs.Common.{arith, ◌≡◌, ◌≤◌, ◌+◌, ℕ, zero, suc, ◌*◌, List, [], ◌∷◌, ◌++◌, length, take, map, Option, Some, None, Bool, true, false, All, refl, sym, ap, ◌∙◌, subst}
 use Rattle.std.specs.Prelude.{nat_lt, if◌then◌else◌, slice_get, slice_set}
 use Rattle.std.specs.List.{AllZip}
-use Rattle.std.proofs.lemmas.List.Elements.{All-nil, All-cons, All-head, All-tail, All-append, All-take}
-use Rattle.wa_types.specs.declared.values.ValType.{ValType}
-use Rattle.wa_types.specs.declared.values.Value.{Value}
-use Rattle.wa_types.specs.Base.{Base}
-use Rattle.wa_types.specs.Syntax.{Func, Module}
-use Rattle.wa_types.specs.Memory.{page_size}
-use Rattle.wa_types.specs.Modules.{all_memories, all_tables, func_imports, func_type_at, defined_at}
+use Rattle.std.proofs.lemmas.List.Elements.{All-nil, All-cons, All-head, All-tail, All-append, All-take, All-weaker}
+use Rattle.wa_types.specs.Syntax.{Module}
 use Rattle.wa_types.specs.Pausing.{Settings}
 use Rattle.wa_types.specs.Frames.{Suspended, Room, Fit}
 use Rattle.wa_types.specs.Runtime.{global_space}
 use Rattle.wa_model.specs.declared.answers.Area.{Area}
 use Rattle.wa_model.specs.declared.answers.Detach.{Detach}
 use Rattle.wa_model.specs.declared.events.End.{End}
-use Rattle.wa_model.specs.declared.events.End.TheVariants.{Done, Trapped, BadAnswer, BadPoke, RewindTrap, Broken, StepsSpent}
-use Rattle.wa_model.specs.Outside.{Poke, Answer, Event, called, answered, paused, returned, ended, shown as was_shown, Line}
-use Rattle.wa_model.specs.Machine.{Turn, stops}
+use Rattle.wa_model.specs.declared.events.End.TheVariants.{RewindTrap, Broken, StepsSpent}
+use Rattle.wa_model.specs.Outside.{Event, called, answered, paused, returned, ended, shown as was_shown, Line}
 use Rattle.wa_model.specs.Store.{Store}
-use Rattle.wa_model.specs.Step.{Next, steps, asks, returns, traps, stuck, step}
-use Rattle.wa_model.specs.Plan.{Entry, Plan, Outcome, given, refused, OutcomeFits, IsRefusal}
-use Rattle.wa_model.specs.Instantiation.{Piece, elem_piece, byte_piece, first_out, all_values, least_of, bytes_checked, elems_checked, opened_by, Opening, fails_as, opens, opening}
-use Rattle.wa_model.specs.Blocking.{Note, note, no_store, call_note, value_of_results, answers, poke_fits, bad_poke, is_unlisted, bad_pause, or_else, fault_of, pause_of, poked, done_notes, Task, the_start, an_entry, Left, with_outcomes, Asker, inside, outermost, store_at, stack_at, in_start, State, between, begins, runs, halts, on_to, task_back, go_on, tested, asked, by_step, enters, enter_next, start_called, next_entry, blocking, all_left, begun, Blocking}
+use Rattle.wa_model.specs.Step.{steps}
+use Rattle.wa_model.specs.Plan.{Plan, Outcome, OutcomeFits}
+use Rattle.wa_model.specs.Blocking.{Note, note, answers, runs, Blocking}
 use Rattle.wa_model.specs.Expected.{pause_note, trap_note, shown_at, shown}
 use Rattle.wa_model.specs.Behaves.{expected_notes}
 use Rattle.wa_model.specs.World.{Device, Look, Program, bytes_shown, put_off, turn_of, behind_turn, protocol_story, BlockingStory, whole, spent, looks_after, look_events, events_with_looks, line_at, Actor, Events, no_event, an_event, StartsHeld, Original}
-use Rattle.run_theory.proofs.Invariants.{TurnKeeps, RanKeeps, after_keeps}
+use Rattle.run_laws.proofs.OwnEnds.{Own, blocking_own, ends_hosts, is_hosts}
 use Rattle.world_laws.specs.Originals.{StandsIn, MayRun, new_calls, met, Orderly, SameMoment}
 use Rattle.world_laws.proofs.Meeting.{AnswersFit, Met, EachMet, events_met}
 use Rattle.world_laws.proofs.Stories.{stories_of_originals}
@@ -38,52 +31,7 @@ use Rattle.world_laws.proofs.LineCalls.{turn_parts}
 abbrev Right : Note → Type 0
 Right x = ends_astray x.event ≡ false
 
--- ---- ends of a run with blocking imports
-
-abbrev RightEnd : Option End → Type 0
-RightEnd None = Unit {0}
-RightEnd (Some e) = is_astray e ≡ false
-
-pokes_right : (size : ℕ) (area : Area) (ps : List Poke) → RightEnd (bad_poke size area ps)
-pokes_right size area [] = tt
-pokes_right size area (p ∷ ps) = by_fit (poke_fits size area p) (pokes_right size area ps)
-  where
-    by_fit : (b : Bool) → RightEnd (bad_poke size area ps) → RightEnd (if b then bad_poke size area ps else Some (BadPoke p.at (length p.bytes)))
-    by_fit true h = h
-    by_fit false h = refl
-
-pause_right : (start unlisted : Bool) (import ticks : ℕ) → RightEnd (bad_pause start unlisted import ticks)
-pause_right start unlisted import zero = tt
-pause_right true unlisted import (suc ticks) = refl
-pause_right false true import (suc ticks) = refl
-pause_right false false import (suc ticks) = tt
-
-else_right : (a b : Option End) → RightEnd a → RightEnd b → RightEnd (or_else a b)
-else_right None b x y = y
-else_right (Some e) b x y = x
-
-fault_right : (results : List ValType) (size : ℕ) (plan : Plan) (start : Bool) (import : ℕ) (a : Answer) → RightEnd (fault_of results size plan start import a)
-fault_right results size plan start import a =
-    else_right (if answers results a.value then None else Some (BadAnswer import a.value))
-    (or_else (bad_poke size plan.area a.pokes) (bad_pause start (is_unlisted plan.listed import) import a.ticks))
-    (by_value (answers results a.value))
-    (else_right (bad_poke size plan.area a.pokes) (bad_pause start (is_unlisted plan.listed import) import a.ticks) (pokes_right size plan.area a.pokes)
-    (pause_right start (is_unlisted plan.listed import) import a.ticks))
-  where
-    by_value : (b : Bool) → RightEnd (if b then None else Some (BadAnswer import a.value))
-    by_value true = tt
-    by_value false = refl
-
-refusal_right : (e : End) → IsRefusal e → is_astray e ≡ false
-refusal_right (RewindTrap trap) h = absurd h
-refusal_right (Broken rule) h = absurd h
-refusal_right _ h = refl
-
-abbrev Lawful : State → Type 0
-Lawful (between s l) = All OutcomeFits l.outcomes
-Lawful (begins x s l) = All OutcomeFits l.outcomes
-Lawful (runs task c l) = All OutcomeFits l.outcomes
-Lawful (halts s) = Unit {0}
+-- ---- runs
 
 no_notes : All Right []
 no_notes = All-nil Right
@@ -94,110 +42,18 @@ one_note x h = All-cons Right x [] h no_notes
 two_notes : (x y : Note) → Right x → Right y → All Right (x ∷ y ∷ [])
 two_notes x y h k = All-cons Right x (y ∷ []) h (one_note y k)
 
-done_right : (s : Store) (es : List Entry) → All Right (done_notes s es)
-done_right s [] = one_note (note (ended Done) s) refl
-done_right s (e ∷ es) = no_notes
+-- an end that a host doesn't make isn't astray
+own_end : (e : End) → is_hosts e ≡ false → is_astray e ≡ false
+own_end (RewindTrap trap) h = cc
+own_end (Broken rule) h = cc
+own_end _ h = refl
 
-abbrev RightOpening : Opening → Type 0
-RightOpening (fails_as e) = is_astray e ≡ false
-RightOpening (opens s) = Unit {0}
-
-bytes_right : (globals : List Value) (memory : List ℕ) (table : List (Option ℕ)) (elems : List (Piece (Option ℕ))) (bytes : List (Piece ℕ)) (o : Option ℕ)
-    → RightOpening (bytes_checked globals memory table elems bytes o)
-bytes_right globals memory table elems bytes None = tt
-bytes_right globals memory table elems bytes (Some i) = refl
-
-elems_right : (globals : List Value) (memory : List ℕ) (table : List (Option ℕ)) (elems : List (Piece (Option ℕ))) (bytes : List (Piece ℕ)) (o : Option ℕ)
-    → RightOpening (elems_checked globals memory table elems bytes o)
-elems_right globals memory table elems bytes None = bytes_right globals memory table elems bytes (first_out (length memory) 0 bytes)
-elems_right globals memory table elems bytes (Some i) = refl
-
-opened_right : (m : Module) (globals : List Value) (pages entries : ℕ) (a b : Bool) → RightOpening (opened_by m globals pages entries a b)
-opened_right m globals pages entries true b = refl
-opened_right m globals pages entries false true = refl
-opened_right m globals pages entries false false =
-    elems_right globals (replicate (pages * page_size) 0) (replicate entries None) (map (elem_piece globals) m.elems) (map (byte_piece globals) m.segments)
-    (first_out (length (replicate entries None)) 0 (map (elem_piece globals) m.elems))
-
-opening_right : (m : Module) (imports : List Value) → RightOpening (opening m imports)
-opening_right m imports =
-    opened_right m (all_values imports m) (least_of (all_memories m)) (least_of (all_tables m)) (nat_lt 1024 (least_of (all_memories m))) (nat_lt 100000 (least_of (all_tables m)))
-
-module _ (m : Module) (plan : Plan) where
-  abbrev Keeps : Turn State Note → Type 0
-  Keeps t = TurnKeeps (blocking m plan) Lawful Right t
-
-  on_lawful : (s : Store) (l : Left) (es : List Entry) → All OutcomeFits l.outcomes → Lawful (on_to s l es)
-  on_lawful s l [] h = tt
-  on_lawful s l (e ∷ es) h = h
-
-  back_keeps : (k : ℕ) (task : Task) (results : List Value) (s : Store) (l : Left) → All OutcomeFits l.outcomes → Keeps (task_back k task results s l)
-  back_keeps k the_start results s l h = (done_right s l.entries, on_lawful s l l.entries h)
-  back_keeps k (an_entry e) results s l h =
-      (All-cons Right (note (returned l.number (value_of_results results)) s) (done_notes s l.entries) refl (done_right s l.entries), on_lawful s (next_entry l) l.entries h)
-
-  given_keeps : (k import : ℕ) (args : List Value) (who : Asker) (l : Left) (a : Answer) (pause : Option ℕ) → All OutcomeFits l.outcomes
-      → Keeps (go_on k (call_note import args (store_at who) (stack_at m who) pause) a (poked (store_at who) a.pokes) l who)
-  given_keeps k import args (inside task c) l a pause h =
-      (two_notes (call_note import args c.store (stack_at m (inside task c)) pause) (note (answered a.value) (poked c.store a.pokes)) refl refl, h)
-  given_keeps k import args (outermost old) l a pause h = (
-    All-cons Right (call_note import args old [] pause) (note (answered a.value) (poked old a.pokes) ∷ done_notes (poked old a.pokes) l.entries) refl
-        (All-cons Right (note (answered a.value) (poked old a.pokes)) (done_notes (poked old a.pokes) l.entries) refl (done_right (poked old a.pokes) l.entries)),
-    on_lawful (poked old a.pokes) l l.entries h,
-  )
-
-  tested_keeps : (k import : ℕ) (args : List Value) (who : Asker) (l : Left) (a : Answer) (o : Option End) → All OutcomeFits l.outcomes → RightEnd o → Keeps (tested m k import args who l a o)
-  tested_keeps k import args who l a (Some e) h r =
-      (two_notes (call_note import args (store_at who) (stack_at m who) None) (note (ended e) (store_at who)) refl r, tt)
-  tested_keeps k import args who l a None h r = given_keeps k import args who l a (pause_of a.ticks) h
-
-  asked_keeps : (k import : ℕ) (args : List Value) (who : Asker) (l : Left) (os : List Outcome) → All OutcomeFits os → Keeps (asked m plan k import args who l os)
-  asked_keeps k import args who l [] h = (one_note (call_note import args (store_at who) (stack_at m who) None) refl, tt)
-  asked_keeps k import args who l (refused e ∷ os) h =
-      (two_notes (call_note import args (store_at who) (stack_at m who) None) (note (ended e) (store_at who)) refl (refusal_right e (All-head OutcomeFits (refused e) os h)), tt)
-  asked_keeps k import args who l (given a ∷ os) h =
-      tested_keeps k import args who (with_outcomes l os) a (fault_of (func_type_at m import).results (length (store_at who).memory) plan (in_start who) import a)
-      (All-tail OutcomeFits (given a) os h) (fault_right (func_type_at m import).results (length (store_at who).memory) plan (in_start who) import a)
-
-  step_keeps : (task : Task) (l : Left) (o : Next) → All OutcomeFits l.outcomes → Keeps (by_step m plan task l o)
-  step_keeps task l (steps k d) h = (no_notes, h)
-  step_keeps task l (asks k import args d) h = asked_keeps k import args (inside task d) l l.outcomes h
-  step_keeps task l (returns k results s) h = back_keeps k task results s l h
-  step_keeps task l (traps k trap s) h = (one_note (note (ended (Trapped trap)) s) refl, tt)
-  step_keeps task l stuck h = tt
-
-  enters_keeps : (e : Entry) (s : Store) (l : Left) (o : Option Func) → All OutcomeFits l.outcomes → Keeps (enters e s l o)
-  enters_keeps e s l None h = tt
-  enters_keeps e s l (Some f) h = (no_notes, h)
-
-  next_keeps : (s : Store) (l : Left) (es : List Entry) → All OutcomeFits l.outcomes → Keeps (enter_next m s l es)
-  next_keeps s l [] h = tt
-  next_keeps s l (e ∷ es) h = enters_keeps e s (record { number = l.number; entries = es; outcomes = l.outcomes }) (defined_at m e.func) h
-
-  start_keeps : (x : ℕ) (s : Store) (l : Left) (o : Option Func) → All OutcomeFits l.outcomes → Keeps (start_called m plan x s l o)
-  start_keeps x s l (Some f) h = (no_notes, h)
-  start_keeps x s l None h = by_import (nat_lt x (func_imports m))
-    where
-      by_import : (b : Bool) → Keeps (if b then asked m plan 0 x [] (outermost s) l l.outcomes else stops)
-      by_import true = asked_keeps 0 x [] (outermost s) l l.outcomes h
-      by_import false = tt
-
-  turn_keeps : (t : State) → Lawful t → Keeps (blocking m plan t)
-  turn_keeps (between s l) h = next_keeps s l l.entries h
-  turn_keeps (begins x s l) h = start_keeps x s l (defined_at m x) h
-  turn_keeps (runs task c l) h = step_keeps task l (step m c) h
-  turn_keeps (halts s) h = tt
-
-  begun_keeps : (start : Option ℕ) (l : Left) (o : Opening) → RightOpening o → All OutcomeFits l.outcomes → RanKeeps (blocking m plan) Lawful Right (begun start l o)
-  begun_keeps start l (fails_as e) r h = (one_note (note (ended e) no_store) r, tt)
-  begun_keeps None l (opens s) r h = (done_right s l.entries, on_lawful s l l.entries h)
-  begun_keeps (Some x) l (opens s) r h = (no_notes, h)
+own_event : (e : Event) → ends_hosts e ≡ false → ends_astray e ≡ false
+own_event (ended how) h = own_end how h
+own_event _ h = refl
 
 blocking_right : (m : Module) (plan : Plan) (os : List Outcome) (n : ℕ) → All OutcomeFits os → All Right (Blocking m plan os n).events
-blocking_right m plan os n h =
-    let b : Module = Base m in
-    (after_keeps (blocking b plan) Lawful Right (turn_keeps b plan) n (begun b.start (all_left plan os) (opening b plan.globals))
-    (begun_keeps b plan b.start (all_left plan os) (opening b plan.globals) (opening_right b plan.globals) h)).0
+blocking_right m plan os n h = All-weaker Own Right (λ x k. own_event x.event k) (Blocking m plan os n).events (blocking_own m plan os n h)
 
 -- ---- stories
 

@@ -1,4 +1,4 @@
--- A run with blocking imports ends by its own reductions, its answers or its instantiation, and never by what a host does.
+-- A run with blocking imports ends by its own reductions, its answers or its instantiation, and never by what a host does; nor is it paused.
 use Rattle.std.proofs.Common.{◌≡◌, ℕ, zero, suc, ◌*◌, List, [], ◌∷◌, length, map, replicate, Option, Some, None, Bool, true, false, All, refl}
 use Rattle.std.specs.Prelude.{nat_lt, if◌then◌else◌}
 use Rattle.std.proofs.lemmas.List.Elements.{All-nil, All-cons, All-head, All-tail}
@@ -11,7 +11,7 @@ use Rattle.wa_types.specs.Modules.{all_memories, all_tables, func_imports, func_
 use Rattle.wa_model.specs.declared.answers.Area.{Area}
 use Rattle.wa_model.specs.declared.events.End.{End}
 use Rattle.wa_model.specs.declared.events.End.TheVariants.{Done, Trapped, UnwindTrap, RewindTrap, BadAnswer, BadPoke, StepsSpent, Broken}
-use Rattle.wa_model.specs.Outside.{Poke, Answer, Event, answered, returned, ended}
+use Rattle.wa_model.specs.Outside.{Poke, Answer, Event, answered, paused, returned, ended}
 use Rattle.wa_model.specs.Machine.{Turn, stops}
 use Rattle.wa_model.specs.Store.{Store}
 use Rattle.wa_model.specs.Step.{Next, steps, asks, returns, traps, stuck, step}
@@ -31,8 +31,10 @@ is_hosts (StepsSpent n) = true
 is_hosts (Broken rule) = true
 is_hosts _ = false
 
+-- an event of the protocol, or such an end
 abbrev pub ends_hosts : Event → Bool
 ends_hosts (ended how) = is_hosts how
+ends_hosts (paused ticks used) = true
 ends_hosts _ = false
 
 abbrev pub Own : Note → Type 0
