@@ -1,4 +1,5 @@
-//! Checks that definitions mean what they should, and that reading undoes writing; apart, as no other crate needs them.
+//! Checks that definitions mean what they should, that reading undoes writing, and what a command comes to where nothing fails; apart, as
+//! no other crate needs them.
 //!
 //! Each function of `definition_check` does nothing: its contract is a fact on modules that are written out, which the prover computes
 //! from the definitions. So a definition that says another thing than meant shows here.
