@@ -7,7 +7,7 @@ use Rattle.wa_types.specs.declared.syntax.Run.{Run}
 use Rattle.wa_types.specs.declared.syntax.Limits.{Limits}
 use Rattle.wa_types.specs.declared.syntax.Export.{Export}
 use Rattle.leb_numbers.specs.Leb.{shortest}
-use Rattle.wa_types.specs.Encoding.{vector, sized, name_bytes, func_type_bytes, limits_bytes, table_bytes, import_bytes, global_bytes, export_bytes, elem_bytes, segment_bytes, run_onto, same_type, merged, body_bytes, section, start_section, custom_bytes, customs_behind, preamble, sections, with_customs, Enc}
+use Rattle.wa_types.specs.Encoding.{vector, sized, func_type_bytes, limits_bytes, table_bytes, import_bytes, global_bytes, export_bytes, elem_bytes, segment_bytes, run_onto, same_type, merged, body_bytes, section, start_section, custom_bytes, customs_behind, preamble, sections, with_customs, Enc}
 use Rattle.wa_types.specs.Norm.{has_some, has_start, written_flags, placed_at, placed_behind, lowered, Norm}
 use Rattle.wa_types.specs.Sizes.{CodeFits, LimitsFit, ImportFits, FuncFits, ExportFits, ElemFits, SegmentFits, CustomFits, StartFits, WellFormed}
 use Rattle.wa_types.specs.Syntax.{Func, GlobalDef, Custom, Module}
@@ -54,7 +54,7 @@ SpelledFrom at id _ _ cs = ⊥
 
 custom_spelled : (c : Custom) → CustomFits c → length (custom_bytes c) < 2 ^ 32 → (at : ℕ) → SectionOf (custom c.name c.bytes) at (custom_bytes c)
 custom_spelled c h l at =
-    let n = name_bytes c.name in
+    let n = sized c.name in
     let content = n ++ c.bytes in
     let size = shortest (length content) in
     let len : length size + (length n + length c.bytes) < 2 ^ 32 = omega (arith, l, length-append size content, length-append n c.bytes) in (

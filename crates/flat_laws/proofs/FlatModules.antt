@@ -7,12 +7,13 @@ use Rattle.std.proofs.lemmas.Bool.{eq-eqb, ne_eqb, ltb-false}
 use Rattle.std.proofs.lemmas.List.{append_assoc, length-map}
 use Rattle.std.proofs.lemmas.Option.{slice_get_within}
 use Rattle.std.proofs.Math.Seq.{drop-append_seam}
+use Rattle.std.specs.Option.{option_to_list}
 use Rattle.wa_types.specs.declared.values.ValType.{ValType}
 use Rattle.wa_types.specs.declared.syntax.Space.TheVariants.{Func as a_func}
 use Rattle.wa_types.specs.Syntax.{FuncType, Func, Elem, Module}
 use Rattle.wa_types.specs.Typing.{Around, Typed}
 use Rattle.wa_types.specs.Pausing.{is_told}
-use Rattle.wa_types.specs.Validity.{Valid, all_below, exported, start_indices, start_fits}
+use Rattle.wa_types.specs.Validity.{Valid, all_below, exported, start_fits}
 use Rattle.wa_types.specs.Modules.{imported, imported_func, func_imports, func_sorts, func_types, type_at, or_empty, declared_locals, defined_at, locals_of, around}
 use Rattle.wa_types.specs.Frames.{Pair, SlotPairs, ResultPairs}
 use Rattle.run_theory.specs.Flat.{FlatFunc}
@@ -207,7 +208,7 @@ module _ (m : Module) where
       globals = v.globals;
       tables = v.tables;
       memories = v.memories;
-      funcs = ap (λ sorts. all_below (length sorts) (exported a_func m ++ start_indices m.start ++ flat_map (λ (e : Elem). e.funcs) m.elems)) (sorts_stay which) ∙ v.funcs;
+      funcs = ap (λ sorts. all_below (length sorts) (exported a_func m ++ option_to_list m.start ++ flat_map (λ (e : Elem). e.funcs) m.elems)) (sorts_stay which) ∙ v.funcs;
       start = ap (start_fits m.start) (types_stay which) ∙ v.start;
       names = v.names;
     }

@@ -10,7 +10,7 @@ pub fn rewritten_is_small()
     ensures { RewrittenIsSmall }
 {}
 
-/// A module that behaves like its original under given plans does what it does where nothing pauses, whatever the area.
+/// A module that behaves like its original under given plans does what its original does where nothing pauses, whatever the area.
 pub fn modules_run_unpaused()
     ensures { RunsUnpaused }
 {}

@@ -1,4 +1,4 @@
--- Sets of locals: reads, writes and joins.
+-- Sets of locals: reads, writes, joins, and branches to labels.
 use Rattle.std.proofs.Common.{◌≡◌, ◌∙◌, ℕ, ◌+◌, ◌-◌, ◌<◌, ◌≤◌, ◌⊎◌, List, [], ◌∷◌, ◌++◌, length, map, reverse, get_or, take, drop, set, Some, Bool, true, false, not, ◌&&◌, ◌||◌, inl, inr, refl, sym, ap, arith, subst}
 use Rattle.std.specs.Prelude.{nat_eq, replicate, Vec}
 use Rattle.std.specs.declared.alloc.Global.{Global}

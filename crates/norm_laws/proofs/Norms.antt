@@ -3,6 +3,7 @@ use Rattle.std.proofs.Common.{◌≡◌, ℕ, zero, suc, ◌+◌, List, [], ◌�
 use Rattle.std.specs.Prelude.{slice_get}
 use Rattle.std.specs.List.{flat_map}
 use Rattle.std.proofs.Math.Seq.{drop-append_seam}
+use Rattle.std.specs.Option.{option_to_list}
 use Rattle.wa_types.specs.declared.values.ValType.{ValType}
 use Rattle.wa_types.specs.declared.syntax.Space.TheVariants.{Func as a_func}
 use Rattle.wa_types.specs.Syntax.{Func, Elem, Module}
@@ -13,7 +14,7 @@ use Rattle.wa_types.specs.Modules.{imported, imported_func, func_sorts, type_at,
 use Rattle.wa_types.specs.Runtime.{runtime_funcs, global_space, with_runtime}
 use Rattle.wa_types.specs.Pausing.{Settings}
 use Rattle.wa_types.specs.Bounds.{Bound}
-use Rattle.wa_types.specs.Validity.{all_below, exported, start_indices, start_fits, Valid}
+use Rattle.wa_types.specs.Validity.{all_below, exported, start_fits, Valid}
 use Rattle.run_theory.specs.FlatFits.{one_run}
 use Rattle.wa_model.specs.Machine.{Ran}
 use Rattle.wa_model.specs.Plan.{Plan, Outcome}
@@ -103,7 +104,7 @@ norm_valid m v =
       globals = v.globals;
       tables = v.tables;
       memories = v.memories;
-      funcs = ap (λ (xs : List ℕ). all_below (length xs) (exported a_func m ++ start_indices m.start ++ flat_map (λ (e : Elem). e.funcs) m.elems)) sorts ∙ v.funcs;
+      funcs = ap (λ (xs : List ℕ). all_below (length xs) (exported a_func m ++ option_to_list m.start ++ flat_map (λ (e : Elem). e.funcs) m.elems)) sorts ∙ v.funcs;
       start = ap (λ (xs : List ℕ). start_fits m.start (map (type_at m) xs)) sorts ∙ v.start;
       names = v.names;
     }

@@ -6,6 +6,7 @@ use Rattle.std.specs.Option.{is_none, unwrap_or}
 use Rattle.std.proofs.lemmas.Bool.{leb-true, ltb-false, ltb-true}
 use Rattle.std.proofs.lemmas.List.Elements.{All-nil, All-cons}
 use Rattle.std.proofs.lemmas.List.Folds.{list_all-append}
+use Rattle.std.specs.Option.{option_to_list}
 use Rattle.wa_types.specs.declared.values.ValType.{ValType}
 use Rattle.wa_types.specs.declared.values.ValType.TheVariants.{I32}
 use Rattle.wa_types.specs.declared.values.Value.{Value}
@@ -16,7 +17,7 @@ use Rattle.wa_types.specs.Syntax.{FuncType, Func, Module}
 use Rattle.wa_types.specs.Encoding.{same_type}
 use Rattle.wa_types.specs.Typing.{type_of}
 use Rattle.wa_types.specs.Modules.{func_imports, func_sorts, func_type_at, defined_at}
-use Rattle.wa_types.specs.Validity.{Valid, all_below, exported, same_space, same_name, start_indices}
+use Rattle.wa_types.specs.Validity.{Valid, all_below, exported, same_space, same_name}
 use Rattle.wa_ops.specs.Operate.{are_of}
 use Rattle.wa_model.specs.declared.answers.Area.{Area}
 use Rattle.script_model.specs.ScriptLines.{or_else}
@@ -73,7 +74,7 @@ module _ (p : Module) (v : Valid p) where
       let n : ℕ = length (func_sorts p) in
       let low : ℕ → Bool = λ k. nat_lt k n in
       let all = v.funcs in
-      named_below n name p.exports x (fronts (exported Sp.Func p) (start_indices p.start) _ all) e
+      named_below n name p.exports x (fronts (exported Sp.Func p) (option_to_list p.start) _ all) e
     where
       fronts : (a b c : List ℕ) → all_below (length (func_sorts p)) (a ++ b ++ c) ≡ true → all_below (length (func_sorts p)) a ≡ true
       fronts a b c h =

@@ -6,6 +6,7 @@ use Rattle.std.specs.Option.{option_map}
 use Rattle.std.proofs.lemmas.Bool.{cases_lt}
 use Rattle.std.proofs.lemmas.Option.{slice_get-map, slice_get_within}
 use Rattle.std.proofs.Math.Seq.{drop-append_seam}
+use Rattle.std.specs.Option.{option_to_list}
 use Rattle.wa_types.specs.declared.syntax.Export.{Export}
 use Rattle.wa_types.specs.declared.syntax.Space.TheVariants.{Func as a_func}
 use Rattle.wa_types.specs.Modules.{imported, imported_func, func_imports, around}
@@ -13,7 +14,7 @@ use Rattle.wa_types.specs.Pausing.{Settings, MayPause, TellsMayPause, is_told}
 use Rattle.wa_types.specs.Runtime.{with_runtime, runtime_exports}
 use Rattle.wa_types.specs.Syntax.{Func, Elem, Module}
 use Rattle.wa_types.specs.Typing.{Typed}
-use Rattle.wa_types.specs.Validity.{Valid, all_below, start_fits, exported, start_indices}
+use Rattle.wa_types.specs.Validity.{Valid, all_below, start_fits, exported}
 use Rattle.run_theory.specs.Quiet.{FreeOfNames}
 use Rattle.wa_model.specs.Rewrites.{RewritesButRuns, SameFunc, RewrittenFunc}
 use Rattle.run_theory.proofs.GrownSteps.{front}
@@ -95,7 +96,7 @@ module _ (m : Module) (s : Settings) (which : List Bool) (codes : (index : ℕ) 
       globals = w.globals;
       tables = w.tables;
       memories = w.memories;
-      funcs = ap (λ sorts. all_below (length sorts) (exported a_func (with_runtime m) ++ start_indices m.start ++ flat_map (λ (e : Elem). e.funcs) m.elems)) (all_sorts m s which codes) ∙ w.funcs;
+      funcs = ap (λ sorts. all_below (length sorts) (exported a_func (with_runtime m) ++ option_to_list m.start ++ flat_map (λ (e : Elem). e.funcs) m.elems)) (all_sorts m s which codes) ∙ w.funcs;
       start = ap (start_fits m.start) (all_types m s which codes) ∙ w.start;
       names = w.names;
     }

@@ -8,7 +8,7 @@ use Rattle.wa_types.specs.declared.values.ValType.{ValType}
 use Rattle.wa_types.specs.declared.values.Value.{Value}
 use Rattle.wa_types.specs.Base.{Base}
 use Rattle.wa_types.specs.Syntax.{FuncType, Func, Module}
-use Rattle.wa_types.specs.Validity.{start_indices, Valid}
+use Rattle.wa_types.specs.Validity.{Valid}
 use Rattle.wa_types.specs.Modules.{imported, imported_global, func_imports, func_sorts, func_type_at, defined_at}
 use Rattle.wa_model.specs.declared.events.End.{End}
 use Rattle.wa_model.specs.declared.events.End.TheVariants.{Trapped}
@@ -173,7 +173,7 @@ module _ (b : Module) (v : Valid b) (plan : Plan) where
   stops_over (runs task c l) h e = absurd (step_goes task l h.0 (step b c) (steps_fit b h.0 c v h.1) e)
   stops_over (halts s) h e = (s, refl)
 
-pub start_there : (b : Module) (x : ℕ) (o : Option ℕ) → Each (λ y. y < length (func_sorts b)) (start_indices o) → o ≡ Some x → x < length (func_sorts b)
+pub start_there : (b : Module) (x : ℕ) (o : Option ℕ) → Each (λ y. y < length (func_sorts b)) (option_to_list o) → o ≡ Some x → x < length (func_sorts b)
 start_there b x None h e = cc
 start_there b x (Some y) h e = let z : y ≡ x = cc in subst (λ n. n < length (func_sorts b)) z h.0
 

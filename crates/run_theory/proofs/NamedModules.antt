@@ -7,12 +7,13 @@ use Rattle.std.proofs.lemmas.List.{length-map}
 use Rattle.std.proofs.lemmas.List.Concat.{flat_map-append}
 use Rattle.std.proofs.lemmas.List.Folds.{list_all-append}
 use Rattle.std.proofs.lemmas.Option.{slice_get_within}
+use Rattle.std.specs.Option.{option_to_list}
 use Rattle.wa_types.specs.declared.values.ValType.{ValType}
 use Rattle.wa_types.specs.declared.syntax.Space.TheVariants.{Func as a_func, Global as a_global}
 use Rattle.wa_types.specs.Syntax.{global_get, global_set, Plain, basic, call, call_indirect, Code, done, plain, nest, branch, FuncType, GlobalDef, Elem, Segment, Module}
 use Rattle.wa_types.specs.Typing.{GlobalType, Around, listed, label, calls, calls_at, gets_global, sets_global, sig, Takes, Types}
 use Rattle.wa_types.specs.Modules.{func_sorts, type_at, all_globals, around}
-use Rattle.wa_types.specs.Validity.{all_below, exported, start_indices, got_global, expressions, Valid}
+use Rattle.wa_types.specs.Validity.{all_below, exported, got_global, expressions, Valid}
 use Rattle.run_theory.specs.Growth.{Spaces, Each, PlainNamed, CodeNamed}
 use Rattle.run_theory.proofs.GrownSteps.{ModuleNamed}
 
@@ -93,7 +94,7 @@ pub record InstanceNamed (m : Module) : Type 0 where
   pub elem_offsets : Each (λ (e : Elem). Each (λ x. x < length (all_globals m)) (got_global e.offset)) m.elems
   pub segment_offsets : Each (λ (s : Segment). Each (λ x. x < length (all_globals m)) (got_global s.offset)) m.segments
   pub elem_funcs : Each (λ (e : Elem). Each (λ x. x < length (func_sorts m)) e.funcs) m.elems
-  pub start : Each (λ x. x < length (func_sorts m)) (start_indices m.start)
+  pub start : Each (λ x. x < length (func_sorts m)) (option_to_list m.start)
 
 pub valid_instance : (m : Module) → Valid m → InstanceNamed m
 valid_instance m v =
@@ -107,10 +108,10 @@ valid_instance m v =
     flat_map-append got_global (inits ++ elems) segments ∙ ap (λ xs. xs ++ flat_map got_global segments) (flat_map-append got_global inits elems) in
     let b = below_parts g (flat_map got_global inits ++ flat_map got_global elems) (flat_map got_global segments) (ap (all_below g) (sym split) ∙ a) in
     let c = below_parts g (flat_map got_global inits) (flat_map got_global elems) b.0 in
-    let d = below_parts f (exported a_func m ++ start_indices m.start) (flat_map (λ (e : Elem). e.funcs) m.elems) v.funcs in
+    let d = below_parts f (exported a_func m ++ option_to_list m.start) (flat_map (λ (e : Elem). e.funcs) m.elems) v.funcs in
     record {
       elem_offsets = each_mapped g (λ (e : Elem). e.offset) m.elems c.1;
       segment_offsets = each_mapped g (λ (s : Segment). s.offset) m.segments b.1;
       elem_funcs = each_given f (λ (e : Elem). e.funcs) m.elems d.1;
-      start = each_below f (start_indices m.start) (below_parts f (exported a_func m) (start_indices m.start) d.0).1;
+      start = each_below f (option_to_list m.start) (below_parts f (exported a_func m) (option_to_list m.start) d.0).1;
     }

@@ -3,6 +3,7 @@ use Rattle.std.proofs.Common.{◌≡◌, ℕ, ◌+◌, ◌<◌, ◌++◌, List, 
 use Rattle.std.specs.Prelude.{slice_get}
 use Rattle.std.proofs.lemmas.List.{map-append}
 use Rattle.std.proofs.lemmas.List.Elements.{All-head, All-tail}
+use Rattle.std.specs.Option.{option_to_list}
 use Rattle.wa_types.specs.declared.values.Value.{Value}
 use Rattle.wa_types.specs.declared.syntax.Export.{Export}
 use Rattle.wa_types.specs.Syntax.{FuncType, Func, GlobalDef, Module}
@@ -12,7 +13,7 @@ use Rattle.wa_types.specs.Pausing.{Settings, TellsMayPause}
 use Rattle.wa_types.specs.Frames.{Suspended}
 use Rattle.wa_types.specs.Runtime.{global_space, func_space, runtime_types, runtime_funcs, runtime_globals, runtime_exports, with_runtime}
 use Rattle.wa_types.specs.Typing.{GlobalType}
-use Rattle.wa_types.specs.Validity.{Valid, start_indices}
+use Rattle.wa_types.specs.Validity.{Valid}
 use Rattle.wa_ops.specs.Operate.{are_of}
 use Rattle.wa_model.specs.declared.events.End.TheVariants.{Done}
 use Rattle.wa_model.specs.Outside.{ended}
@@ -87,7 +88,7 @@ module _ (m : Module) (ts : List FuncType) (fs : List Func) (gs : List GlobalDef
       subst (AgreeOn count (after xs r)) (sym (whole ∙ ap (λ ys. record { events = ys; last = held_of more r.last }) (sym (map-append (grown_note more) xs r.events))))
       (notes_agree more count (xs ++ r.events) (each_append (IsPlainNote count) xs r.events h t.2), state_agrees more m r.last t.1)
 
-  by_opening : (k : ℕ) (l : Left) (start : Option ℕ) (o o' : Opening) → OpeningStays more (spaces_of m) o o' → LeftNamed m l → Each (λ x. x < (spaces_of m).funcs) (start_indices start)
+  by_opening : (k : ℕ) (l : Left) (start : Option ℕ) (o o' : Opening) → OpeningStays more (spaces_of m) o o' → LeftNamed m l → Each (λ x. x < (spaces_of m).funcs) (option_to_list start)
       → Each SuspendsNone (continued m plan k (begun start l o)).events → AgreeOn count (continued m plan k (begun start l o)) (held_continued p plan k (held_begun start l o'))
   by_opening k l start (fails_as e) o' h lo st idle =
       let x : Note = note (ended e) no_store in

@@ -10,6 +10,7 @@ use Rattle.std.proofs.lemmas.List.Concat.{flat_map-append}
 use Rattle.std.proofs.lemmas.List.Elements.{All-head, All-tail, filter_map-append}
 use Rattle.std.proofs.lemmas.List.Folds.{list_all-append, list_any-append}
 use Rattle.std.proofs.lemmas.Option.{slice_get-map, slice_get_within}
+use Rattle.std.specs.Option.{option_to_list}
 use Rattle.wa_types.specs.declared.values.ValType.{ValType}
 use Rattle.wa_types.specs.declared.values.ValType.TheVariants.{I32}
 use Rattle.wa_types.specs.declared.syntax.Space.{Space}
@@ -20,7 +21,7 @@ use Rattle.wa_types.specs.Typing.{GlobalType, listed, Types, Typed}
 use Rattle.wa_types.specs.Base.{Base}
 use Rattle.wa_types.specs.Modules.{imported, imported_func, imported_global, global_type, func_sorts, func_types, func_imports, type_at, or_empty, all_tables, all_memories, all_globals}
 use Rattle.wa_types.specs.Modules.{declared_locals, around}
-use Rattle.wa_types.specs.Validity.{all_below, same_space, exported, start_indices, got_global, types_there, funcs_there, tables_there, memories_there, expressions, globals_there}
+use Rattle.wa_types.specs.Validity.{all_below, same_space, exported, got_global, types_there, funcs_there, tables_there, memories_there, expressions, globals_there}
 use Rattle.wa_types.specs.Validity.{constant_of, is_constant, all_constant, same_name, all_differ, names_differ, is_empty_type, start_fits, start_lawful, Valid}
 use Rattle.wa_types.specs.Runtime.{func_space, global_space, runtime_types, runtime_globals, start_code, stop_code, state_code, runtime_func, runtime_funcs, runtime_exports, runtime_names}
 use Rattle.wa_types.specs.Runtime.{with_runtime}
@@ -284,7 +285,7 @@ module _ (m : Module) (v : Valid m) (has_memory : nat_lt 0 (length (all_memories
       let k : ℕ = length (func_sorts p) in
       let c = sorts_length in
       let elems : List ℕ = flat_map (λ (e : Elem). e.funcs) m.elems in
-      let start : List ℕ = start_indices m.start in
+      let start : List ℕ = option_to_list m.start in
       let below : ℕ → Bool = λ x. nat_lt x k in
       let old = below_more n.funcs k ((exported a_func m ++ start) ++ elems) (omega arith) v.funcs in
       let parts = all_parts below (exported a_func m ++ start) elems old in
@@ -297,7 +298,7 @@ module _ (m : Module) (v : Valid m) (has_memory : nat_lt 0 (length (all_memories
   start_holds : start_lawful p ≡ true
   start_holds = by_start m.start v.start (valid_instance m v).start
     where
-      by_start : (o : Option ℕ) → start_fits o (func_types m) ≡ true → Each (λ x. x < n.funcs) (start_indices o) → start_fits o (func_types p) ≡ true
+      by_start : (o : Option ℕ) → start_fits o (func_types m) ≡ true → Each (λ x. x < n.funcs) (option_to_list o) → start_fits o (func_types p) ≡ true
       by_start None h i = refl
       by_start (Some x) h i = ap is_empty_type (found_stays x i.0) ∙ h
 

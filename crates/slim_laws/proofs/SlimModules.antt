@@ -4,6 +4,7 @@ use Rattle.std.specs.Prelude.{slice_get, nat_lt, ◌&&◌, if◌then◌else◌}
 use Rattle.std.specs.List.{flat_map}
 use Rattle.std.specs.Option.{option_map}
 use Rattle.std.proofs.lemmas.Bool.{ltb-false}
+use Rattle.std.specs.Option.{option_to_list}
 use Rattle.wa_types.specs.declared.values.ValType.{ValType}
 use Rattle.wa_types.specs.declared.syntax.Space.TheVariants.{Func as a_func}
 use Rattle.wa_types.specs.Frames.{Pair, SlotPairs, ResultPairs}
@@ -11,7 +12,7 @@ use Rattle.wa_types.specs.Modules.{around, declared_locals, defined_at, func_imp
 use Rattle.wa_types.specs.Pausing.{is_told}
 use Rattle.wa_types.specs.Syntax.{a_block, Code, Elem, Func, FuncType, Module, nest}
 use Rattle.wa_types.specs.Typing.{Around, Typed}
-use Rattle.wa_types.specs.Validity.{Valid, all_below, exported, start_indices, start_fits}
+use Rattle.wa_types.specs.Validity.{Valid, all_below, exported, start_fits}
 use Rattle.run_theory.specs.Flat.{body_of, result_got}
 use Rattle.wa_model.specs.Step.{param_count}
 use Rattle.run_theory.proofs.FittingNames.{defined_type}
@@ -170,7 +171,7 @@ module _ (m : Module) (which : List Bool) (places : (index : ℕ) → Func → L
           globals = v.globals;
           tables = v.tables;
           memories = v.memories;
-          funcs = ap (λ sorts. all_below (length sorts) (exported a_func m ++ start_indices m.start ++ flat_map (λ (e : Elem). e.funcs) m.elems)) sorts_of_flat ∙ v.funcs;
+          funcs = ap (λ sorts. all_below (length sorts) (exported a_func m ++ option_to_list m.start ++ flat_map (λ (e : Elem). e.funcs) m.elems)) sorts_of_flat ∙ v.funcs;
           start = ap (start_fits m.start) types_of_flat ∙ v.start;
           names = v.names;
         }

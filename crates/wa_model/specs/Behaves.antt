@@ -47,7 +47,8 @@ stack_if stack (Some ticks) = Some stack
 abbrev pub pause_stacks : List Note → List (List Suspended)
 pause_stacks notes = filter_map (λ (x : Note). stack_if x.stack x.pause) notes
 
--- The compared runs: the plan fits the original and tells the listed imports, outcomes are in range, and up to a cost of n the area is untouched.
+-- The runs that are compared: the plan fits the original and tells the listed imports, outcomes are in range, and up to a cost of n the run with
+-- blocking imports doesn't touch the area.
 pub record Compared (m : Module) (s : Settings) (plan : Plan) (os : List Outcome) (n : ℕ) : Type 0 where
   pub fits : Fits m plan
   pub listed : plan.listed ≡ Some (Listed m s)
@@ -132,7 +133,7 @@ abbrev pub NoTicks : Outcome → Type 0
 NoTicks (given a) = a.ticks ≡ 0
 NoTicks (refused e) = Unit {0}
 
--- A plan's values and entries fit the original; outcomes are in range, and none pauses. Of the area nothing is asked.
+-- A plan's values and entries fit the original; outcomes are in range, and none pauses. Of the area nothing is asked: it only bounds pokes.
 pub record GivenUnpaused (m : Module) (plan : Plan) (os : List Outcome) : Type 0 where
   pub globals : AreLawful (map (λ (g : GlobalType). g.ty) (imported imported_global m)) plan.globals
   pub entries : All (EntryFits m) plan.entries
@@ -157,6 +158,6 @@ pub record RunsAlike (m p : Module) (plan : Plan) (os : List Outcome) (n : ℕ) 
   pub moments : (events : List Event) × (at : Store) × IsMoment m plan os n events at × (events ≡ events_of (protocol_notes p plan os n))
       × SameWhole (global_space m) at (store_held (Protocol p plan os n).last)
 
--- Where nothing pauses it does so under any area, whatever the program touches, with a memory or without.
+-- Where nothing pauses it does so under any area, whatever the program touches. A module without a memory is compared over the page of `Base`.
 abbrev pub BehavesUnpaused : Module → Module → Type 0
 BehavesUnpaused m p = WellFormed m → (plan : Plan) (os : List Outcome) (n : ℕ) → GivenUnpaused m plan os → RunsAlike m p plan os n

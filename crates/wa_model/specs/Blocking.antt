@@ -22,7 +22,7 @@ use Rattle.wa_model.specs.Plan.{Entry, Plan, Outcome, given, refused}
 use Rattle.wa_types.specs.Base.{Base}
 use Rattle.wa_model.specs.Instantiation.{Opening, fails_as, opens, opening}
 
--- An event and the store at it; of a call the stack just before it, and the ticks where it pauses; of an answer behind a pause its store.
+-- An event and the store at it; of a call the stack just before it, and the ticks where it pauses; of an answer behind a pause that pause's store.
 pub record Note : Type 0 where
   pub event : Event
   pub store : Store
@@ -79,7 +79,7 @@ abbrev pub or_else : Option End → Option End → Option End
 or_else None second = second
 or_else (Some e) second = Some e
 
--- The first test that an answer fails: the value's type; pokes inside the memory and off the area; no pause in start, or of an unlisted import.
+-- The first test that an answer fails: the value's type; pokes inside the memory, off the area; no pause in start, or of one told as unlisted.
 abbrev pub fault_of : List ValType → (size : ℕ) → Plan → (in_start : Bool) → (import : ℕ) → Answer → Option End
 fault_of results size plan in_start import a =
     or_else (if answers results a.value then None else Some (BadAnswer import a.value))
@@ -256,7 +256,8 @@ continued m plan n r = after r.events (run (blocking m plan) n r.last)
 abbrev pub blocking_run : Module → Plan → List Outcome → ℕ → Ran State Note
 blocking_run m plan os n = continued m plan n (begun m.start (all_left plan os) (opening m plan.globals))
 
--- The notes of a run with blocking imports up to a cost of n, and where it then stands: instantiation, start, and the entries in order.
+-- The notes of a run with blocking imports up to a total cost of n, and where it then stands: instantiation, start and entries in order; a call of
+-- an import is one step.
 abbrev pub Blocking : Module → Plan → List Outcome → ℕ → Ran State Note
 Blocking m plan os n = blocking_run (Base m) plan os n
 

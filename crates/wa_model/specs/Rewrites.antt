@@ -1,5 +1,5 @@
--- What a rewritten module is: the original with the runtime's parts, its functions that may pause rewritten, and a behaviour that is the
--- original's, also where nothing pauses.
+-- What a rewritten module is: the original with the runtime's parts, its functions that may pause rewritten, and the original's behaviour: with
+-- pauses over an area that it doesn't touch, without pauses under any.
 use Rattle.std.specs.Prelude.{◌≡◌, ℕ, ◌+◌, ◌*◌, ◌≤◌, List, length, drop, Some, Bool, slice_get}
 use Rattle.std.specs.List.{sum_by}
 use Rattle.wa_types.specs.Encoding.{merged}

@@ -17,7 +17,8 @@ use Rattle.wa_ops.specs.Operate.{operate, value_of, number_of}
 use Rattle.wa_types.specs.Encoding.{same_type}
 use Rattle.wa_types.specs.Typing.{type_of}
 
--- Globals, the bytes of the memory, and the table: the function's index of each initialised element (4.2.3, 4.2.7 to 4.2.9); or none.
+-- The globals' values, the memory's bytes, and the table: the function's index for each initialised element (4.2.3, 4.2.7 to 4.2.9). Without a
+-- memory or a table its list is empty.
 pub record Store : Type 0 where
   pub globals : List Value
   pub memory : List ℕ
@@ -115,7 +116,7 @@ abbrev pub grew : Store → Option Memory → Did
 grew s None = works s (V.I32 4294967295 ∷ [])
 grew s (Some m) = works (with_memory s m.bytes) (V.I32 (pages_of s.memory) ∷ [])
 
--- What an instruction does with exactly its operands, the topmost first, where the memory may have so many pages (4.4.1 to 4.4.4).
+-- What an instruction does with exactly its operands, the topmost first, where the memory may have so many pages at most (4.4.1 to 4.4.4).
 abbrev pub act : Option ℕ → Basic → Store → List Value → Did
 act most nop s [] = works s []
 act most drop s (v ∷ []) = works s []

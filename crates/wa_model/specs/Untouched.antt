@@ -29,6 +29,6 @@ IsCalm area (begins x s l) = Unit {0}
 IsCalm area (runs task c l) = StaysOff area (length c.store.memory) (next_access c)
 IsCalm area (halts s) = Unit {0}
 
--- No load or store within a cost of n that doesn't trap overlaps the area. It costs 1, so it begins where the run stands at a lower cost.
+-- No load or store that the run makes within a cost of n, and that doesn't trap, overlaps the area. Each costs 1, so it begins at a lower cost.
 abbrev pub Untouched : Module → Plan → List Outcome → ℕ → Type 0
 Untouched m plan os n = (j : ℕ) → j < n → IsCalm plan.area (Blocking m plan os j).last

@@ -21,7 +21,7 @@ use Rattle.wa_ops.specs.declared.class.OperatorClass.TheVariants.{Unary, Convers
 use Rattle.wa_ops.specs.Integers.{iclz, ictz, ipopcnt, ieqz, iadd, isub, imul, idiv_u, idiv_s, irem_u, irem_s, iand, ior, ixor, ishl, ishr_u, ishr_s, irotl, irotr, ieq, ine, ilt_u, ilt_s}
 use Rattle.wa_ops.specs.Integers.{igt_u, igt_s, ile_u, ile_s, ige_u, ige_s, wrap, extend_u, extend_s}
 
--- What an operator makes of its operands' numbers: of one (unop, testop, cvtop), or of two (relop, binop). A binop may trap.
+-- What an operator makes of its operands' numbers: of one (unop, testop, cvtop), or of two (relop, binop). Only a binop may trap.
 pub data Meaning : Type 0 where
   unary : (of_one : ℕ → ℕ) → Meaning
   conversion : (of_one : ℕ → ℕ) → Meaning

@@ -22,13 +22,9 @@ use Rattle.wa_types.specs.Opcodes.{plain_opcode, plain_immediates}
 abbrev pub vector : {X : Type 0} → (X → List ℕ) → List X → List ℕ
 vector item xs = shortest (length xs) ++ flat_map item xs
 
--- bytes behind their number (5.5.2)
+-- bytes behind their number, as a name has them too (5.2.4, 5.5.2)
 abbrev pub sized : List ℕ → List ℕ
 sized bytes = shortest (length bytes) ++ bytes
-
--- a name (5.2.4)
-abbrev pub name_bytes : List ℕ → List ℕ
-name_bytes name = sized name
 
 -- a value type (5.3.1)
 abbrev pub type_byte : ValType → ℕ
@@ -136,7 +132,7 @@ import_kind_bytes (a_global_import t mutable) = 0x03 ∷ global_type_bytes t mut
 
 -- an import (5.5.5)
 abbrev pub import_bytes : Import → List ℕ
-import_bytes i = name_bytes i.module ++ name_bytes i.base ++ import_kind_bytes i.kind
+import_bytes i = sized i.module ++ sized i.base ++ import_kind_bytes i.kind
 
 -- a defined global (5.5.9)
 abbrev pub global_bytes : GlobalDef → List ℕ
@@ -151,7 +147,7 @@ space_byte a_global = 0x03
 
 -- an export (5.5.10)
 abbrev pub export_bytes : Export → List ℕ
-export_bytes e = name_bytes e.name ++ space_byte e.space ∷ shortest e.index
+export_bytes e = sized e.name ++ space_byte e.space ∷ shortest e.index
 
 -- an element segment (5.5.12)
 abbrev pub elem_bytes : Elem → List ℕ
@@ -173,7 +169,7 @@ start_section (Some x) = 0x08 ∷ sized (shortest x)
 
 -- a custom section (5.5.3)
 abbrev pub custom_bytes : Custom → List ℕ
-custom_bytes c = 0x00 ∷ sized (name_bytes c.name ++ c.bytes)
+custom_bytes c = 0x00 ∷ sized (sized c.name ++ c.bytes)
 
 -- the custom sections whose place is behind the sections of ids up to this one (5.5.3); 11 is the last
 abbrev pub customs_behind : ℕ → List Custom → List ℕ

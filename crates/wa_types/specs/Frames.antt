@@ -113,7 +113,7 @@ is_on_stack None p = false
 is_on_stack (Some ops) p = stands_at p.number p.ty ops
 
 -- The locals that the frame of the call at this place saves, by index. Policy `all`: parameters, declared locals and slots. Policy `live`: each
--- parameter or declared local that a path from just after the call reads before it writes it, and each slot of an operand just before it.
+-- parameter or declared local that a path from just after the call reads before it writes it, and each slot of an operand on the stack there.
 abbrev pub Saved : Module → Policy → Func → ℕ → List Place
 Saved m save_all f place = places m f (λ x. true) (λ p. true)
 Saved m save_live f place = places m f (is_live_after f place) (is_on_stack (slice_get (func_call_points m f) place))

@@ -102,7 +102,7 @@ behind_calls ls (branch r a b rest) =
 abbrev pub LiveAfter : Func → ℕ → ℕ → Type 0
 LiveAfter f place x = (at : Position) × (slice_get (behind_calls [] (pruned f.body)) place ≡ Some at) × ReadsFirst x at
 
--- Whether x is read before it is written, from the end backwards: `tos` tells it for each label's target, `out` for what stands behind. A path
+-- Whether x is read before it is written, computed backwards: `tos` tells it for each label's target, `out` for what stands behind. A path
 -- that comes to a loop's start again reads x no sooner than one that begins there, so a loop's own label counts as one where x isn't read.
 abbrev pub told_at : List Bool → ℕ → Bool
 told_at tos l = is_told (slice_get tos l)

@@ -28,7 +28,8 @@ placed_at place c = record c { after = place }
 abbrev pub placed_behind : ℕ → List Custom → List Custom
 placed_behind id cs = filter (λ c. min c.after 11 == id) cs
 
--- Custom sections behind sections of ids from this one on, behind `last`, the last written one: each at the greatest written id up to its place.
+-- Custom sections as they are written behind sections of ids from this one on, `last` being the written one below: each at the greatest written
+-- id that isn't above its place.
 abbrev pub lowered : (id last : ℕ) → List Bool → List Custom → List Custom
 lowered id last [] cs = []
 lowered id last (written ∷ rest) cs =

@@ -44,7 +44,7 @@ plain_opcode p = (plain_row p).0
 abbrev pub plain_immediates : Plain → Immediates
 plain_immediates p = (plain_row p).1
 
--- What may follow an opcode (5.4): nothing, a zero byte, an index, both, an access, labels, a number of so many bits, or a float's bytes.
+-- What may follow an opcode (5.4): nothing, a zero byte, an index, both, alignment and offset, labels, a signed number of so many bits, or a float.
 pub data Form : Type 0 where
   no_immediate a_zero an_index an_index_and_zero an_access some_labels : Form
   a_constant : (bits : ℕ) → Form

@@ -129,7 +129,8 @@ calls_of (branch r a b rest) = calls_of a ++ calls_of b ++ calls_of rest
 abbrev pub calls_in : Func → List Callee
 calls_in f = calls_of (pruned f.body)
 
--- A defined function may pause: its pruned body calls a listed import, has a `call_indirect` that isn't ignored, or calls one that may.
+-- A defined function may pause: its pruned body calls a listed import, has a `call_indirect` that isn't ignored, or calls one that may. This is
+-- the least such set.
 pub data MayPause (m : Module) (s : Settings) : ℕ → Type 0 where
   calls_listed : (x : ℕ) → (f : Func) → (place i : ℕ) → defined_at m x ≡ Some f → slice_get (calls_in f) place ≡ Some (direct i) → slice_get (Listed m s) i ≡ Some true → MayPause m s x
   calls_indirectly : (x : ℕ) → (f : Func) → (place sort : ℕ) → defined_at m x ≡ Some f → slice_get (calls_in f) place ≡ Some (indirect sort) → s.ignore_indirect ≡ false → MayPause m s x

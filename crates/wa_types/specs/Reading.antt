@@ -66,7 +66,7 @@ pub record IsImport (raw : RawImport) (i : Import) : Type 0 where
   pub base : i.base ≡ raw.base
   pub kind : IsKind raw.kind i.kind
 
--- a defined global (5.5.9)
+-- a defined global, with its expression (5.4.6, 5.5.9)
 pub record IsGlobal (raw : RawGlobal) (g : GlobalDef) : Type 0 where
   pub ty : IsValueType raw.ty g.ty
   pub mutable : g.mutable ≡ raw.mutable

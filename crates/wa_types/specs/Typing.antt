@@ -17,7 +17,7 @@ pub record GlobalType : Type 0 where
   pub ty : ValType
   pub mutable : Bool
 
--- What stands around a body (3.1.1): types, functions and globals by index, whether a table and a memory are there, locals, and the result.
+-- The context of a body (3.1.1): types, functions and globals by index; whether there is a table, a memory; locals, parameters first; the result.
 pub record Around : Type 0 where
   pub types : List FuncType
   pub funcs : List FuncType

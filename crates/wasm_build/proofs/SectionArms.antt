@@ -1,4 +1,4 @@
--- What a section adds, by its id.
+-- What a section adds, by its id, and that nothing is built where its size or content can't be read.
 use Rattle.std.proofs.Common.{◌≡◌, ◌⊎◌, inl, inr, ℕ, ◌+◌, List, [], ◌∷◌, ◌++◌, map, Option, Some, None, Result, Ok, Err, OnErr, refl, ap, sym, ◌∙◌, subst, arith}
 use Rattle.std.specs.Prelude.{◌==◌, if◌then◌else◌}
 use Rattle.wa_types.specs.declared.syntax.Custom.{Custom as CustomValue}

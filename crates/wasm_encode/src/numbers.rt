@@ -2,7 +2,7 @@
 
 ghost use Rattle.std.specs.Prelude.{◌≡◌, ◌≤◌, ◌<◌, ◌^◌, ◌++◌, ◌+◌, length, OnOk};
 ghost use Rattle.leb_numbers.specs.Leb.{shortest, shortest_signed};
-ghost use Rattle.wa_types.specs.Encoding.{name_bytes};
+ghost use Rattle.wa_types.specs.Encoding.{sized};
 
 use bytes::BytesMut;
 use std::alloc::AllocError;
@@ -54,15 +54,15 @@ pub fn sized_len(len: u64) -> u64
 
 /// How many bytes a name takes (standard, section 5.2.4).
 pub fn name_len(name: &Name) -> u64
-    requires { length (name_bytes name.now) < 2 ^ 64 }
-    ensures { result ≡ length (name_bytes name.now) }
+    requires { length (sized name.now) < 2 ^ 64 }
+    ensures { result ≡ length (sized name.now) }
 {
     sized_len(name.as_str().len() as u64)
 }
 
 /// Appends a name (standard, section 5.2.4).
 pub fn put_name(out: &mut BytesMut, name: &Name) -> Result<(), AllocError>
-    ensures { OnOk result (out.new.items ≡ out.old.items ++ name_bytes name.now) }
+    ensures { OnOk result (out.new.items ≡ out.old.items ++ sized name.now) }
 {
     let text = name.as_str().as_bytes();
     put_unsigned(out, text.len() as u64)?;

@@ -8,7 +8,7 @@ use Rattle.wa_types.specs.declared.syntax.Import.{Import}
 use Rattle.wa_types.specs.declared.syntax.Export.{Export}
 use Rattle.wa_types.specs.declared.syntax.Run.{Run}
 use Rattle.leb_numbers.specs.Leb.{spelled, shortest}
-use Rattle.wa_types.specs.Encoding.{vector, sized, name_bytes, type_byte, func_type_bytes, max_bytes, limits_bytes, table_bytes, global_type_bytes, expression_bytes, same_type, run_onto, merged, run_bytes, body_bytes, import_kind_bytes, import_bytes, global_bytes, space_byte, export_bytes, elem_bytes, segment_bytes}
+use Rattle.wa_types.specs.Encoding.{vector, sized, type_byte, func_type_bytes, max_bytes, limits_bytes, table_bytes, global_type_bytes, expression_bytes, same_type, run_onto, merged, run_bytes, body_bytes, import_kind_bytes, import_bytes, global_bytes, space_byte, export_bytes, elem_bytes, segment_bytes}
 use Rattle.wa_types.specs.Syntax.{FuncType, Func, GlobalDef, Elem, Segment}
 use Rattle.wa_types.specs.Binary.{Placed, RawType, RawKind, raw_func, raw_table, raw_memory, raw_global, RawImport, RawGlobal, RawElem, RawRun, RawBody, RawSegment}
 use Rattle.wa_types.specs.Spells.{Text, Vector, ValueType, FunctionType, Maximum, LimitsOf, TableType, ImportKindOf, ImportOf, GlobalOf, ExportOf, ElementOf, RunOf, BodyOf, SegmentOf}
@@ -49,7 +49,7 @@ table_short x y at a h e = omega (arith, length_split a h.0 h.1 h.2, ap length h
 same_limits : (x : Limits) → Same x x
 same_limits x = refl
 
-pub text_short : (n : List ℕ) (at : ℕ) (a : List ℕ) → Text n at a → length (name_bytes n) ≤ length a
+pub text_short : (n : List ℕ) (at : ℕ) (a : List ℕ) → Text n at a → length (sized n) ≤ length a
 text_short n at a h = omega (arith, length_split a h.0 h.1 h.2, length-append (shortest (length n)) n, number_short (length n) h.0 h.3, ap length h.4.0)
 
 kind_short : (x : RawKind) (k : ImportKind) (at : ℕ) (a : List ℕ) → ImportKindOf x at a → IsKind x k → length (import_kind_bytes k) ≤ length a
@@ -69,10 +69,10 @@ import_short x y at a h i =
       arith,
       length_split a h.0 h.1 h.2,
       length_split h.1 g.0 g.1 g.2,
-      length-append (name_bytes y.«module» ++ name_bytes y.base) (import_kind_bytes y.kind),
-      length-append (name_bytes y.«module») (name_bytes y.base),
-      ap (λ z. length (name_bytes z)) i.module_name,
-      ap (λ z. length (name_bytes z)) i.base,
+      length-append (sized y.«module» ++ sized y.base) (import_kind_bytes y.kind),
+      length-append (sized y.«module») (sized y.base),
+      ap (λ z. length (sized z)) i.module_name,
+      ap (λ z. length (sized z)) i.base,
       text_short x.module_name at h.0 h.3,
       text_short x.base (at + length h.0) g.0 g.3,
       kind_short x.kind y.kind (at + length h.0 + length g.0) g.1 g.4 i.kind,
@@ -100,7 +100,7 @@ export_short x y at a h e =
       length_split a h.0 h.1 h.2,
       length_split h.1 g.0 g.1 g.2,
       ap length g.3,
-      length-append (name_bytes x.name) (space_byte x.space ∷ shortest x.index),
+      length-append (sized x.name) (space_byte x.space ∷ shortest x.index),
       text_short x.name at h.0 h.3,
       number_short x.index g.1 g.4,
     ))

@@ -5,7 +5,7 @@ use Rattle.wa_types.specs.declared.syntax.Limits.{Limits}
 use Rattle.wa_types.specs.declared.syntax.Import.{Import}
 use Rattle.wa_types.specs.declared.syntax.Export.{Export}
 use Rattle.leb_numbers.specs.Leb.{shortest}
-use Rattle.wa_types.specs.Encoding.{Enc, vector, sized, name_bytes, func_type_bytes, limits_bytes, table_bytes, body_bytes, import_bytes, global_bytes, export_bytes, elem_bytes, segment_bytes, section, start_section, custom_bytes, customs_behind, preamble, sections, with_customs}
+use Rattle.wa_types.specs.Encoding.{Enc, vector, sized, func_type_bytes, limits_bytes, table_bytes, body_bytes, import_bytes, global_bytes, export_bytes, elem_bytes, segment_bytes, section, start_section, custom_bytes, customs_behind, preamble, sections, with_customs}
 use Rattle.wa_types.specs.Syntax.{FuncType, Func, GlobalDef, Elem, Segment, Custom, Module}
 use Rattle.wa_types.specs.Binary.{Section, custom, types, imports, functions, tables, memories, globals, exports, start, elements, bodies, segments, section_id}
 use Rattle.wa_types.specs.Spells.{◌▸◌, Exactly, Number, Items, Vector, Sized, FunctionType, LimitsOf, TableType, ImportOf, GlobalOf, ExportOf, ElementOf, BodyOf, SegmentOf, SectionOf, Rising, sorts_in, bodies_in}
@@ -258,15 +258,15 @@ customs_short last (custom n b ∷ ss) at a h =
     let z = s.4.1 in
     let v = z.4.1 in
     let c : Custom = record { after = last; name = n; bytes = b } in
-    let content : length (name_bytes n ++ b) ≤ s.4.0 = omega (
+    let content : length (sized n ++ b) ≤ s.4.0 = omega (
       arith,
       length_split z.1 v.0 v.1 v.2,
-      length-append (name_bytes n) b,
+      length-append (sized n) b,
       text_short n (at + length s.0 + length z.0) v.0 v.3,
       ap length v.4,
       z.4.0,
     ) in
-    let w = sized_short (name_bytes n ++ b) s.4.0 s.1 z.0 z.1 z.2 z.3 z.4.0 content in
+    let w = sized_short (sized n ++ b) s.4.0 s.1 z.0 z.1 z.2 z.3 z.4.0 content in
     omega (arith, length-append (custom_bytes c) (flat_map custom_bytes (customs_of last ss)), length_split h.0 s.0 s.1 s.2, ap length s.3, w, customs_short last ss (at + length h.0) h.1 h.4)
 customs_short last (types xs ∷ ss) at a h = omega (arith, customs_short 1 ss (at + length h.0) h.1 h.4)
 customs_short last (imports xs ∷ ss) at a h = omega (arith, customs_short 2 ss (at + length h.0) h.1 h.4)

@@ -2,9 +2,10 @@
 
 ghost use Rattle.std.specs.Prelude.{◌≡◌, ◌++◌, map, nat_lt};
 ghost use Rattle.std.specs.List.{flat_map, list_all};
+ghost use Rattle.std.specs.Option.{option_to_list};
 ghost use Rattle.wa_types.specs.declared.syntax.Space.TheVariants.{Func, Table, Memory, Global};
 ghost use Rattle.wa_types.specs.Syntax.{Elem as PlainElem, GlobalDef as PlainGlobal, Segment as PlainSegment};
-ghost use Rattle.wa_types.specs.Validity.{all_below, got_global, same_space, start_indices};
+ghost use Rattle.wa_types.specs.Validity.{all_below, got_global, same_space};
 ghost use Rattle.wa_types.specs.View.{code, elem_of, global_of, segment_of};
 ghost use Rattle.wasm_validate.specs.Outside.{exported_in, index_in, option_all};
 
@@ -48,7 +49,7 @@ fn exported_below(limit: usize, space: Space, exports: &[Export]) -> bool
 }
 
 fn start_below(limit: usize, start: Option<u32>) -> bool
-    ensures { result ≡ all_below limit (start_indices start) }
+    ensures { result ≡ all_below limit (option_to_list start) }
 {
     match start {
         None => true,
@@ -72,7 +73,7 @@ pub(crate) fn funcs_below(
     start: Option<u32>,
     elems: &[Elem],
 ) -> bool
-    ensures { result ≡ all_below limit (exported_in Func exports.now ++ start_indices start ++ flat_map (λ (e : PlainElem). e.funcs) (map elem_of elems.now)) }
+    ensures { result ≡ all_below limit (exported_in Func exports.now ++ option_to_list start ++ flat_map (λ (e : PlainElem). e.funcs) (map elem_of elems.now)) }
 {
     if !exported_below(limit, Space::Func, exports) {
         return false;

@@ -3,6 +3,7 @@ use Rattle.std.proofs.Common.{◌≡◌, ℕ, zero, suc, ◌+◌, ◌-◌, ◌*�
 use Rattle.std.specs.List.{filter_map, find, flat_map}
 use Rattle.std.specs.Option.{unwrap_or}
 use Rattle.std.proofs.lemmas.List.Elements.{All-nil, All-cons, All-head, All-tail, All-contains}
+use Rattle.std.specs.Option.{option_to_list}
 use Rattle.wa_types.specs.declared.syntax.Export.{Export}
 use Rattle.wa_types.specs.declared.syntax.Import.{Import}
 use Rattle.wa_types.specs.declared.syntax.Limits.{Limits}
@@ -15,7 +16,7 @@ use Rattle.wa_types.specs.Pausing.{Settings, TellsMayPause}
 use Rattle.wa_types.specs.Runtime.{func_space, runtime_exports, runtime_names, runtime_types, with_runtime}
 use Rattle.wa_types.specs.Sizes.{value_fits}
 use Rattle.wa_types.specs.Syntax.{Elem, Func, FuncType, Module}
-use Rattle.wa_types.specs.Validity.{exported, start_indices}
+use Rattle.wa_types.specs.Validity.{exported}
 use Rattle.wa_model.specs.declared.answers.Area.{Area}
 use Rattle.run_theory.specs.Growth.{Each}
 use Rattle.wa_model.specs.Instantiation.{least_of}
@@ -102,10 +103,10 @@ module _ (m p : Module) (settings : Settings) (rw : Rewrites m settings p) (whic
   below_space : (name : List ℕ) (x : ℕ) → Found name m.exports x → x < length (func_sorts m)
   below_space name x found =
       let n : ℕ = length (func_sorts m) in
-      let all : Each (λ x. x < n) (exported Sp.Func m ++ start_indices m.start ++ flat_map (λ (e : Elem). e.funcs) m.elems) = each_below n _ rw.parts.valid.funcs in
-      let split = append_assoc (exported Sp.Func m) (start_indices m.start) (flat_map (λ (e : Elem). e.funcs) m.elems) in
+      let all : Each (λ x. x < n) (exported Sp.Func m ++ option_to_list m.start ++ flat_map (λ (e : Elem). e.funcs) m.elems) = each_below n _ rw.parts.valid.funcs in
+      let split = append_assoc (exported Sp.Func m) (option_to_list m.start) (flat_map (λ (e : Elem). e.funcs) m.elems) in
       subst (λ (k : ℕ). k < n) found.index
-      (below_found (named name) n m.exports (start_indices m.start ++ flat_map (λ (e : Elem). e.funcs) m.elems) found.export (subst (Each (λ x. x < n)) split all) found.found found.space)
+      (below_found (named name) n m.exports (option_to_list m.start ++ flat_map (λ (e : Elem). e.funcs) m.elems) found.export (subst (Each (λ x. x < n)) split all) found.found found.space)
 
   abbrev entry : ℕ → List Value → Entry
   entry x args = record { func = x; args = args }
