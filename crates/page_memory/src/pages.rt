@@ -3,7 +3,7 @@
 ghost use Rattle.std.specs.Prelude.{◌≡◌, ◌+◌, ◌*◌, ◌^◌, ◌<◌, ◌≤◌, ◌⊎◌, ◌↔◌, IsSome, IfOk, IfSome, IfNone, OnSome, OnErr, length, replicate, Some, None};
 ghost use Rattle.std.specs.Bool.{OnTrue, OnFalse};
 ghost use Rattle.std.specs.Option.{SomeIff};
-ghost use Rattle.wa_types.specs.Memory.{page_size, pages_of, number_at, bytes_at, with_piece, with_number, page_bound, grown};
+ghost use Rattle.wa_types.specs.Memory.{page_size, pages_of, number_at, bytes_at, with_piece, with_number, copied, filled_with, page_bound, grown};
 
 use std::alloc::{AllocError, Global};
 use std::marker::Model;
@@ -106,6 +106,41 @@ impl Pages {
             return false;
         };
         self.bytes[at..at + piece.len()].copy_from_slice(piece);
+        true
+    }
+
+    /// Copies `len` bytes to one address from another, as they stood before. False exactly where either range
+    /// reaches past the end, and then nothing changes (standard, version 2.0, section 4.4.7).
+    pub fn copy(&mut self, to: u64, from: u64, len: u64) -> bool
+        ensures ok { OnTrue result (copied self.old.bytes to from len ≡ Some self.new.bytes) }
+        ensures past_end { OnFalse result (copied self.old.bytes to from len ≡ None) }
+        ensures unchanged { OnFalse result (self.new ≡ self.old) }
+        ensures max { self.new.max ≡ self.old.max }
+    {
+        let len = len as usize;
+        let Some(source) = self.place(from, len) else {
+            return false;
+        };
+        let Some(target) = self.place(to, len) else {
+            return false;
+        };
+        self.bytes.copy_within(source..source + len, target);
+        true
+    }
+
+    /// Writes one byte all over `len` bytes at an address. False exactly where they reach past the end, and
+    /// then nothing changes (standard, version 2.0, section 4.4.7).
+    pub fn fill(&mut self, to: u64, byte: u8, len: u64) -> bool
+        ensures ok { OnTrue result (filled_with self.old.bytes to byte len ≡ Some self.new.bytes) }
+        ensures past_end { OnFalse result (filled_with self.old.bytes to byte len ≡ None) }
+        ensures unchanged { OnFalse result (self.new ≡ self.old) }
+        ensures max { self.new.max ≡ self.old.max }
+    {
+        let len = len as usize;
+        let Some(at) = self.place(to, len) else {
+            return false;
+        };
+        self.bytes[at..at + len].fill(byte);
         true
     }
 

@@ -1,4 +1,4 @@
--- Memories as lists of bytes, and what loads, stores and growth do to them (standard, sections 4.2.8 and 4.4.4).
+-- Memories as lists of bytes, and what loads, stores, copies, fills and growth do to them (standard, sections 4.2.8 and 4.4.4).
 use Rattle.std.specs.Prelude.{◌≡◌, ◌≤◌, ℕ, ◌+◌, ◌*◌, ◌/◌, ◌%◌, min, nat_le, if◌then◌else◌, List, [], ◌∷◌, ◌++◌, length, take, drop, replicate, Option, Some, None}
 use Rattle.std.specs.Int.{bytes_low_first}
 
@@ -53,6 +53,16 @@ with_piece bytes at piece = if nat_le (at + length piece) (length bytes) then So
 -- the bytes after a store of the low bytes of a number (4.4.4.2)
 abbrev pub with_number : List ℕ → ℕ → ℕ → ℕ → Option (List ℕ)
 with_number bytes at width n = with_piece bytes at (bytes_of width n)
+
+-- ---- copies and fills (version 2.0, 4.4.7), taken without wrapping; None past the end
+
+-- the bytes after a copy of one range over another of that length, as it stood before; both lie inside (memory.copy)
+abbrev pub copied : List ℕ → (to from len : ℕ) → Option (List ℕ)
+copied bytes to from len = if nat_le (from + len) (length bytes) then with_piece bytes to (bytes_at bytes from len) else None
+
+-- the bytes after one byte is written all over a range (memory.fill)
+abbrev pub filled_with : List ℕ → (at byte len : ℕ) → Option (List ℕ)
+filled_with bytes at byte len = with_piece bytes at (replicate len byte)
 
 -- ---- growth (4.4.4.4 memory.grow), within the type's greatest number of pages and 1,024
 
