@@ -124,7 +124,12 @@ pub fn name_of(op: NumOp) -> &'static str {
         0x67..=0x8A => ARITHMETIC[code - 0x67],
         0xA7 => "I32WrapI64",
         0xAC => "I64ExtendI32S",
-        _ => "I64ExtendI32U",
+        0xAD => "I64ExtendI32U",
+        0xC0 => "I32Extend8S",
+        0xC1 => "I32Extend16S",
+        0xC2 => "I64Extend8S",
+        0xC3 => "I64Extend16S",
+        _ => "I64Extend32S",
     }
 }
 

@@ -11,14 +11,14 @@ use Rattle.wa_types.specs.declared.values.ValType.TheVariants.{I32, I64}
 use Rattle.wa_types.specs.declared.values.Value.{Value}
 use Rattle.wa_types.specs.declared.values.Value.TheVariants as V
 use Rattle.wa_types.specs.declared.operators.NumOp.{NumOp}
-use Rattle.wa_types.specs.declared.operators.NumOp.TheVariants.{I32Eqz, I64Eqz, I32Clz, I32Ctz, I32Popcnt, I32Add, I32Sub, I32Mul, I32DivS, I32DivU, I32RemS, I32RemU, I32And, I32Or, I32Xor, I32Shl, I32ShrS, I32ShrU, I32Rotl, I32Rotr, I64Clz, I64Ctz, I64Popcnt, I64Add, I64Sub, I64Mul, I64DivS, I64DivU, I64RemS, I64RemU, I64And, I64Or, I64Xor, I64Shl, I64ShrS, I64ShrU, I64Rotl, I64Rotr, I32WrapI64, I64ExtendI32S, I64ExtendI32U}
+use Rattle.wa_types.specs.declared.operators.NumOp.TheVariants.{I32Eqz, I64Eqz, I32Clz, I32Ctz, I32Popcnt, I32Add, I32Sub, I32Mul, I32DivS, I32DivU, I32RemS, I32RemU, I32And, I32Or, I32Xor, I32Shl, I32ShrS, I32ShrU, I32Rotl, I32Rotr, I64Clz, I64Ctz, I64Popcnt, I64Add, I64Sub, I64Mul, I64DivS, I64DivU, I64RemS, I64RemU, I64And, I64Or, I64Xor, I64Shl, I64ShrS, I64ShrU, I64Rotl, I64Rotr, I32WrapI64, I64ExtendI32S, I64ExtendI32U, I32Extend8S, I32Extend16S, I64Extend8S, I64Extend16S, I64Extend32S}
 use Rattle.wa_types.specs.Encoding.{same_type}
 use Rattle.wa_types.specs.Operators.{operand_types, result_type}
 use Rattle.wa_types.specs.Sizes.{value_fits}
 use Rattle.wa_types.specs.Typing.{type_of}
 use Rattle.wa_model.specs.Operate.{Meaning, unary, conversion, comparison, binary, meaning_of, number_of, value_of, are_of, applied, valued}
 use Rattle.run_laws.specs.Ranges.{GivenIn, OperatorsIn}
-use Rattle.run_laws.proofs.Numbers.{OkBelow, truth_in, width_32, width_64, iclz_in, ictz_in, ipopcnt_in, mod_in, div_u_in, div_s_in, rem_u_in, rem_s_in, shr_u_in, shr_s_in, rotl_in, rotr_in, extend_in}
+use Rattle.run_laws.proofs.Numbers.{OkBelow, truth_in, width_32, width_64, iclz_in, ictz_in, ipopcnt_in, mod_in, div_u_in, div_s_in, rem_u_in, rem_s_in, shr_u_in, shr_s_in, rotl_in, rotr_in, extend_in, iextend_in}
 
 -- the numbers of a type
 abbrev pub size : ValType → ℕ
@@ -83,6 +83,11 @@ meaning_in I64Rotr = λ i j h k. rotr_in 64 width_64 i j h
 meaning_in I32WrapI64 = λ i h. mod_in 32 width_32 i
 meaning_in I64ExtendI32S = λ i h. extend_in 32 64 i (omega arith) (omega arith)
 meaning_in I64ExtendI32U = λ i h. omega arith
+meaning_in I32Extend8S = λ i h. iextend_in 8 32 i (omega arith)
+meaning_in I32Extend16S = λ i h. iextend_in 16 32 i (omega arith)
+meaning_in I64Extend8S = λ i h. iextend_in 8 64 i (omega arith)
+meaning_in I64Extend16S = λ i h. iextend_in 16 64 i (omega arith)
+meaning_in I64Extend32S = λ i h. iextend_in 32 64 i (omega arith)
 meaning_in _ = λ i j h k. truth _
 
 -- numbers of these types, in order

@@ -35,8 +35,8 @@ pub use operators::{operand_count, operands_of, result_of};
 pub use types::{same_types, type_of_value};
 use wa_types::{NumOp, Trap, Value};
 
-/// The value of an operator with one operand: the counts of bits and the test for zero (standard, section
-/// 4.3.2). `clz` and `ctz` of 0 are the width.
+/// The value of an operator with one operand: the counts of bits, the test for zero and the sign extensions (standard, section
+/// 4.3.2). `clz` and `ctz` of 0 are the width; an extension takes the low 8, 16 or 32 bits as a signed number.
 pub fn unary(op: NumOp, a: Value) -> Value
     requires class { class_of op ≡ Unary }
     requires types { operand_types op ≡ type_of a ∷ [] }
@@ -51,6 +51,21 @@ pub fn unary(op: NumOp, a: Value) -> Value
         (NumOp::I64Clz, Value::I64(i)) => Value::I64(u64::from(i.leading_zeros())),
         (NumOp::I64Ctz, Value::I64(i)) => Value::I64(u64::from(i.trailing_zeros())),
         (NumOp::I64Popcnt, Value::I64(i)) => Value::I64(u64::from(i.count_ones())),
+        (NumOp::I32Extend8S, Value::I32(i)) => {
+            Value::I32(i32::from(((i % (1 << 8)) as u8).cast_signed()).cast_unsigned())
+        }
+        (NumOp::I32Extend16S, Value::I32(i)) => {
+            Value::I32(i32::from(((i % (1 << 16)) as u16).cast_signed()).cast_unsigned())
+        }
+        (NumOp::I64Extend8S, Value::I64(i)) => {
+            Value::I64(i64::from(((i % (1 << 8)) as u8).cast_signed()).cast_unsigned())
+        }
+        (NumOp::I64Extend16S, Value::I64(i)) => {
+            Value::I64(i64::from(((i % (1 << 16)) as u16).cast_signed()).cast_unsigned())
+        }
+        (NumOp::I64Extend32S, Value::I64(i)) => {
+            Value::I64(i64::from(((i % (1 << 32)) as u32).cast_signed()).cast_unsigned())
+        }
         _ => unreachable!(),
     }
 }

@@ -60,7 +60,7 @@ pub fn result_of(op: NumOp) -> ValType
     }
 }
 
-// The type of the result of a count of bits, or of the test for zero.
+// The type of the result of a count of bits, of the test for zero, or of a sign extension.
 fn unary_result(op: NumOp, ty: ValType) -> ValType
     requires class { class_of op ≡ Unary }
     requires operand { operand_types op ≡ ty ∷ [] }
