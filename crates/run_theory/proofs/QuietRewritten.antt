@@ -63,4 +63,4 @@ false_at (y ∷ xs) (suc x) e = false_at xs x e
 
 pub none_tells : (m : Module) (s : Settings) → NeverPauses m s → (which : List Bool) × TellsMayPause m s which
 none_tells m s never =
-    (map (λ y. false) (func_sorts m), record { len = length-map (func_sorts m); each = λ x. (λ e. absurd (false_at (func_sorts m) x e), λ may. absurd (never x may)) })
+    (map (λ y. false) (func_sorts m), record { len = length-map (func_sorts m) (λ y. false); each = λ x. (λ e. absurd (false_at (func_sorts m) x e), λ may. absurd (never x may)) })
