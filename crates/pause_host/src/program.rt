@@ -1,6 +1,6 @@
 //! `Program`: a plan over a prepared module, advanced from event to event.
 
-ghost use Rattle.std.specs.Prelude.{◌≡◌, ◌<◌, ◌≤◌, ◌+◌, ◌++◌, ◌^◌, [], ◌∷◌, ℕ, List, IfOk, IfErr, None, Some, length, map};
+ghost use Rattle.std.specs.Prelude.{◌≡◌, ◌<◌, ◌≤◌, ◌+◌, ◌++◌, ◌^◌, [], ◌∷◌, ℕ, List, IfOk, IsErr, IfErr, None, Some, length, map};
 ghost use Rattle.std.specs.Option.{option_copied};
 ghost use Rattle.wa_model.specs.World.{bytes_shown};
 
@@ -99,6 +99,7 @@ impl<'m> Program<'m> {
         ensures next { (w : WorldProgram) (notes : List Note) (os : List Outcome) → Follows w notes os self.old → ended_as self.old ≡ None
             → IfOk result (λ event. Advances w notes os event (supply_of seen faults self.old devices.old) (supply_of seen faults self.new devices.new) self.new) }
         ensures again { (how : End) → ended_as self.old ≡ Some how → IfOk result (λ event. (event_of event ≡ ended how) × (self.new ≡ self.old) × (devices.new ≡ devices.old)) }
+        ensures kept { IsErr result → of_all seen devices.new ≡ of_all seen devices.old }
         ensures same_list { devices.new.list.ghost_name ≡ devices.old.list.ghost_name }
     {
         match mem::replace(&mut self.state, State::Lost) {
@@ -122,6 +123,7 @@ impl<'m> Program<'m> {
     fn open(&mut self, devices: &mut Devices<'_>) -> Result<Event, AllocError>
         ensures next { (w : WorldProgram) (notes : List Note) (os : List Outcome) → FollowsAt w notes os self.old (place_of self.old State.Fresh)
             → IfOk result (λ event. Advances w notes os event (supply_of seen faults self.old devices.old) (supply_of seen faults self.new devices.new) self.new) }
+        ensures kept { IsErr result → of_all seen devices.new ≡ of_all seen devices.old }
         ensures same_list { devices.new.list.ghost_name ≡ devices.old.list.ghost_name }
     {
         match Instance::make(self.setting.alloc, self.valid, &self.globals) {
@@ -138,6 +140,7 @@ impl<'m> Program<'m> {
         ensures next { (w : WorldProgram) (notes : List Note) (os : List Outcome) → code_in instance.entry ≡ module_of self.old.valid.now
             → opening (module_of self.old.valid.now) self.old.globals.items ≡ opens (store_in instance.entry) → FollowsAt w notes os self.old (place_of self.old State.Fresh)
             → IfOk result (λ event. Advances w notes os event (supply_of seen faults self.old devices.old) (supply_of seen faults self.new devices.new) self.new) }
+        ensures kept { IsErr result → of_all seen devices.new ≡ of_all seen devices.old }
         ensures same_list { devices.new.list.ghost_name ≡ devices.old.list.ghost_name }
     {
         match self.valid.module().start {
@@ -184,6 +187,7 @@ impl<'m> Program<'m> {
             → IfOk result (λ event. Advances w notes os event (supply_of seen faults self.old devices.old) (supply_of seen faults self.new devices.new) self.new) }
         ensures again { (how : End) → end_of stage ≡ Some how → IfOk result (λ event. (event_of event ≡ ended how)
             × (self.new ≡ record self.old { state = (State.Live instance.entry stage) }) × (devices.new ≡ devices.old)) }
+        ensures kept { IsErr result → of_all seen devices.new ≡ of_all seen devices.old }
         ensures same_list { devices.new.list.ghost_name ≡ devices.old.list.ghost_name }
     {
         match stage {
@@ -212,6 +216,7 @@ impl<'m> Program<'m> {
         ensures next { (w : WorldProgram) (notes : List Note) (os : List Outcome) → FollowsAt w notes os self.old (place_of self.old (State.Live instance.entry stage))
             → RunsCode w.source (State.Live instance.entry stage) → end_of stage ≡ None
             → IfOk result (λ event. Advances w notes os event (supply_of seen faults self.old devices.old) (supply_of seen faults self.new devices.new) self.new) }
+        ensures kept { IsErr result → of_all seen devices.new ≡ of_all seen devices.old }
         ensures same_list { devices.new.list.ghost_name ≡ devices.old.list.ghost_name }
     {
         let mut steps = unused(self.steps_left);
@@ -240,6 +245,7 @@ impl<'m> Program<'m> {
         ensures next { (w : WorldProgram) (notes : List Note) (os : List Outcome) → code_in instance.entry ≡ w.source
             → FollowsAt w notes os self.old (stands [] (starting func (store_in instance.entry) (left_of self.old.left)))
             → IfOk result (λ event. Advances w notes os event (supply_of seen faults self.old devices.old) (supply_of seen faults self.new devices.new) self.new) }
+        ensures kept { IsErr result → of_all seen devices.new ≡ of_all seen devices.old }
         ensures same_list { devices.new.list.ghost_name ≡ devices.old.list.ghost_name }
     {
         let mut steps = unused(self.steps_left);

@@ -1,6 +1,6 @@
 //! What comes of each stage but the pauses: the start function, entries, and calls of imports with their answers.
 
-ghost use Rattle.std.specs.Prelude.{◌≡◌, ◌<◌, ◌≤◌, ◌+◌, ◌-◌, ◌^◌, ℕ, List, [], ◌∷◌, All, IfOk, OnOk, None, map, slice_get};
+ghost use Rattle.std.specs.Prelude.{◌≡◌, ◌<◌, ◌≤◌, ◌+◌, ◌-◌, ◌^◌, ℕ, List, [], ◌∷◌, All, IfOk, IsErr, OnOk, None, map, slice_get};
 ghost use Rattle.std.specs.Option.{option_map, option_to_list};
 ghost use Rattle.wa_types.specs.Modules.{func_imports};
 ghost use Rattle.wa_model.specs.Store.{Store};
@@ -11,6 +11,7 @@ ghost use Rattle.wa_model.specs.World.{Program};
 ghost use Rattle.run_laws.specs.FittingStates.{HeldFits};
 ghost use Rattle.interp.specs.Host.{code_in, store_in, waits_in};
 ghost use Rattle.interp.specs.Instance.{Calls};
+ghost use Rattle.device_port.specs.Listed.{of_all};
 ghost use Rattle.host_laws.specs.Answering.{IsShort, listed_of};
 ghost use Rattle.host_laws.specs.Supplies.{Supply};
 ghost use Rattle.pause_host.specs.Moves.{Asks, Comes, ComesFrom, HasShortPokes, IsAsking, IsSetting, IsTask, PlaceFits, TaskTurn};
@@ -46,6 +47,7 @@ pub fn start(
     ensures code { code_in instance.new ≡ code_in instance.old }
     ensures sum { steps.new.left + steps.new.used ≡ steps.old.left + steps.old.used }
     ensures grows { steps.old.used ≤ steps.new.used }
+    ensures kept { IsErr result → of_all seen devices.new ≡ of_all seen devices.old }
     ensures same_list { devices.new.list.ghost_name ≡ devices.old.list.ghost_name }
 {
     let turn = instance.begin(func, &[], steps)?;
@@ -68,6 +70,7 @@ fn start_asked(
         → Calls w.source s func [] left_then used turn (store_in instance.now) (waits_in instance.now)
         → IfOk result (λ m. Comes w (starting func s l) left_then used m (supply_in seen faults answers.old.items devices.old) (supply_in seen faults answers.new.items devices.new) l
         (store_in instance.now) (waits_in instance.now)) }
+    ensures kept { IsErr result → of_all seen devices.new ≡ of_all seen devices.old }
     ensures same_list { devices.new.list.ghost_name ≡ devices.old.list.ghost_name }
 {
     match turn {
@@ -102,6 +105,7 @@ fn start_ran(
     ensures code { code_in instance.new ≡ code_in instance.old }
     ensures sum { steps.new.left + steps.new.used ≡ steps.old.left + steps.old.used }
     ensures grows { steps.old.used ≤ steps.new.used }
+    ensures kept { IsErr result → of_all seen devices.new ≡ of_all seen devices.old }
     ensures same_list { devices.new.list.ghost_name ≡ devices.old.list.ghost_name }
 {
     match turn {
@@ -127,6 +131,7 @@ pub(crate) fn call_next(
     ensures code { code_in instance.new ≡ code_in instance.old }
     ensures sum { steps.new.left + steps.new.used ≡ steps.old.left + steps.old.used }
     ensures grows { steps.old.used ≤ steps.new.used }
+    ensures kept { IsErr result → of_all seen devices.new ≡ of_all seen devices.old }
     ensures same_list { devices.new.list.ghost_name ≡ devices.old.list.ghost_name }
 {
     match left.entries.pop_front() {
@@ -152,6 +157,7 @@ fn entry_ran(
         → TaskTurn w h (left_of left.old) (an_entry (entry_of entry)) left_then used turn (store_in instance.now) (waits_in instance.now)
         → IfOk result (λ m. Comes w h left_then used m (supply_in seen faults answers.old.items devices.old) (supply_in seen faults answers.new.items devices.new) (left_of left.new)
         (store_in instance.now) (waits_in instance.now)) }
+    ensures kept { IsErr result → of_all seen devices.new ≡ of_all seen devices.old }
     ensures same_list { devices.new.list.ghost_name ≡ devices.old.list.ghost_name }
 {
     match turn {
@@ -196,6 +202,7 @@ fn stopped(
         → (t : PlainTask) (h : Held) (l : PlainLeft) (left_then used : ℕ) → IsTask task t → TaskTurn w h l t left_then used turn (store_in instance.now) (waits_in instance.now)
         → IfOk result (λ m. Comes w h left_then used m (supply_in seen faults answers.old.items devices.old) (supply_in seen faults answers.new.items devices.new) l (store_in instance.now)
         (waits_in instance.now)) }
+    ensures kept { IsErr result → of_all seen devices.new ≡ of_all seen devices.old }
     ensures same_list { devices.new.list.ghost_name ≡ devices.old.list.ghost_name }
 {
     match turn {
@@ -220,6 +227,7 @@ fn called(
         → IsAsking task (waits_in instance.now) (store_in instance.now) who → IfOk result
         (λ m. Comes w h left_then used m (supply_in seen faults answers.old.items devices.old) (supply_in seen faults answers.new.items devices.new) l (store_in instance.now)
         (waits_in instance.now)) }
+    ensures kept { IsErr result → of_all seen devices.new ≡ of_all seen devices.old }
     ensures same_list { devices.new.list.ghost_name ≡ devices.old.list.ghost_name }
 {
     let Some(import) = setting.imports.get(call.import as usize) else {
@@ -364,6 +372,7 @@ pub(crate) fn give(
     ensures code { code_in instance.new ≡ code_in instance.old }
     ensures sum { steps.new.left + steps.new.used ≡ steps.old.left + steps.old.used }
     ensures grows { steps.old.used ≤ steps.new.used }
+    ensures kept { IsErr result → of_all seen devices.new ≡ of_all seen devices.old }
     ensures same_list { devices.new.list.ghost_name ≡ devices.old.list.ghost_name }
 {
     if !instance.is_waiting() {
