@@ -42,6 +42,10 @@ module _ {X : Type 0} (follows : X → Program → List Note → List Outcome �
   held : IsHeld follows over h.shows i on.w now x
   held = s.each i on.w now x on.program teller_there there
 
+  -- what it has told so far
+  pub follows_now : (w : Program) × (notes : List Note) × (os : List Outcome) × (answers : List AnswerLine) × follows x w notes os answers
+  follows_now = (on.w, now.told, now.met, now.answers, held.follow)
+
   pub runs : over x ≡ false
   runs = held.ended_is ∙ ends_none on.turn on.goes_on
 

@@ -60,6 +60,15 @@ pub record Standing {X : Type 0} (follows : X → Program → List Note → List
   pub detaches_are : h.detaches ≡ detaches
   pub at : StandsAt memory programs detaches ds lines tellers h ds' stage
 
+-- Lines of some world of programs have been told.
+pub record IsTelling {X : Type 0} (follows : X → Program → List Note → List Outcome → List AnswerLine → Type 0) (over : X → Bool) (memory : X → List ℕ) (h : Held X) (ds' : List Device)
+    (stage : Stage) : Type 0 where
+  pub programs : List Program
+  pub detaches : List Detach
+  pub devices : List Device
+  pub lines : List Line
+  pub stands : Standing follows over memory programs detaches devices lines h ds' stage
+
 -- All programs have ended, and all their looks are out.
 pub record AllTold {X : Type 0} (follows : X → Program → List Note → List Outcome → List AnswerLine → Type 0) (over : X → Bool) (memory : X → List ℕ)
     (programs : List Program) (detaches : List Detach) (ds : List Device) (lines : List Line) (h : Held X) (ds' : List Device) : Type 0 where

@@ -7,8 +7,8 @@ ghost use Rattle.device_port.specs.Listed.{of_all};
 ghost use Rattle.host_laws.specs.Supplies.{IsLent};
 ghost use Rattle.event_order.specs.Dues.{HaveEnded};
 ghost use Rattle.many_host.specs.Calls.{BegunNext, TakesNext, left_at};
-ghost use Rattle.many_host.specs.Standing.{InRange, LooksOut};
-ghost use Rattle.many_host.specs.Hosts.{AreSetUp, HostNext, HostTold};
+ghost use Rattle.many_host.specs.Standing.{InRange, IsTelling, LooksOut, held_of};
+ghost use Rattle.many_host.specs.Hosts.{AreSetUp, HostNext, HostTold, follows, has_ended, memory_of};
 
 use crate::hosted::Hosted;
 use crate::turn_taking::Turns;
@@ -50,6 +50,7 @@ impl<'m> Host<'m> {
     pub fn next(&mut self, devices: &mut Devices<'_>) -> Result<Option<Line>, AllocError>
         requires lent { IsLent }
         requires range { InRange self.old.turns }
+        requires tells { IsTelling follows has_ended memory_of (held_of self.old.turns) (of_all seen devices.old) self.old.turns.stage }
         ensures range { IfOk result (λ line. InRange self.new.turns) }
         ensures same_list { devices.new.list.ghost_name ≡ devices.old.list.ghost_name }
         ensures told { (programs : List WorldProgram) (detaches : List Detach) (ds : List Device) (lines : List WorldLine)

@@ -29,6 +29,7 @@ pub trait Teller {
     /// Its next event, before its end.
     fn advance(&mut self, devices: &mut Devices<'_>) -> Result<Event, AllocError>
         requires lent { IsLent }
+        requires goes { (w : Program) × (notes : List Note) × (os : List Outcome) × (answers : List AnswerLine) × follows self.old w notes os answers }
         ensures same_list { devices.new.list.ghost_name ≡ devices.old.list.ghost_name }
         ensures told { (w : Program) (notes : List Note) (os : List Outcome) (answers : List AnswerLine) → follows self.old w notes os answers → has_ended self.old ≡ false
             → IfOk result (λ event. TellsNote (follows self.new w) (has_ended self.new) (memory self.new) w notes os

@@ -8,7 +8,7 @@ ghost use Rattle.device_port.specs.Listed.{of_all};
 ghost use Rattle.host_laws.specs.Supplies.{IsLent};
 ghost use Rattle.event_order.specs.Dues.{HaveEnded};
 ghost use Rattle.many_host.specs.Calls.{BegunNext, TakesCall, TakesNext, left_at};
-ghost use Rattle.many_host.specs.Standing.{AllStart, AllTold, InRange, LooksOut, Standing, TellsNext, held_of};
+ghost use Rattle.many_host.specs.Standing.{AllStart, AllTold, InRange, IsTelling, LooksOut, Standing, TellsNext, held_of};
 
 use crate::settling::settle;
 use crate::teller::Teller;
@@ -74,6 +74,7 @@ impl<T: Teller + Drop> Turns<T> {
     pub fn next(&mut self, devices: &mut Devices<'_>) -> Result<Option<Line>, AllocError>
         requires lent { IsLent }
         requires range { InRange self.old }
+        requires tells { IsTelling T.follows T.has_ended T.memory (held_of self.old) (of_all seen devices.old) self.old.stage }
         ensures range { IfOk result (λ line. InRange self.new) }
         ensures same_list { devices.new.list.ghost_name ≡ devices.old.list.ghost_name }
         ensures told { (programs : List Program) (detaches : List Detach) (ds : List Device) (lines : List WorldLine)
@@ -99,6 +100,7 @@ impl<T: Teller + Drop> Turns<T> {
     fn begin(&mut self, devices: &mut Devices<'_>) -> Result<Option<Line>, AllocError>
         requires lent { IsLent }
         requires range { InRange self.old }
+        requires tells { IsTelling T.follows T.has_ended T.memory (held_of self.old) (of_all seen devices.old) Stage.Between }
         ensures range { IfOk result (λ line. InRange self.new) }
         ensures same_list { devices.new.list.ghost_name ≡ devices.old.list.ghost_name }
         ensures told { (programs : List Program) (detaches : List Detach) (ds : List Device) (lines : List WorldLine)
@@ -129,6 +131,7 @@ impl<T: Teller + Drop> Turns<T> {
         requires few { length self.old.programs.items ≤ 16 }
         requires wide { length self.old.dues.items ≡ length self.old.programs.items }
         requires place { turn.program < length self.old.programs.items }
+        requires tells { IsTelling T.follows T.has_ended T.memory (held_of self.old) (of_all seen devices.old) (Stage.Telling turn) }
         ensures range { IfOk result (λ line. InRange self.new) }
         ensures same_list { devices.new.list.ghost_name ≡ devices.old.list.ghost_name }
         ensures told { (programs : List Program) (detaches : List Detach) (ds : List Device) (lines : List WorldLine)
@@ -161,6 +164,7 @@ impl<T: Teller + Drop> Turns<T> {
         requires lent { IsLent }
         requires range { InRange self.old }
         requires place { turn.program < length self.old.programs.items }
+        requires tells { IsTelling T.follows T.has_ended T.memory (held_of self.old) (of_all seen devices.old) (Stage.Showing turn from) }
         ensures range { IfOk result (λ line. InRange self.new) }
         ensures same_list { devices.new.list.ghost_name ≡ devices.old.list.ghost_name }
         ensures told { (programs : List Program) (detaches : List Detach) (ds : List Device) (lines : List WorldLine)

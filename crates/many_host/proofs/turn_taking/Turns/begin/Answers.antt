@@ -41,3 +41,16 @@ returns-clause-calls g c = λ programs detaches ds lines s.
 
 pub returns-clause-begun : goal.returns-clause-begun
 returns-clause-begun g c = c.tell.ensures.begun ∙ c.in-Some-checked_add.ensures.1
+
+pub tell-requires-clause-tells : goal.tell-requires-clause-tells
+tell-requires-clause-tells g c =
+    let t = c.requires.tells in
+    record {
+      programs = t.programs;
+      detaches = t.detaches;
+      devices = t.devices;
+      lines = t.lines;
+      stands = begun_at g.T.Teller.follows g.T.Teller.has_ended g.T.Teller.memory t.programs t.detaches t.devices t.lines (held_of c.args.self.now) _ c.in-Some.turn t.stands
+          (subst (λ (l : List (Option ℕ)). IsLeast l c.in-Some.turn.program c.in-Some.turn.due) c.deref.ensures.value c.in-Some.ensures)
+          c.in-Some-checked_add.begun c.deref-2.result.now _ c.in-Some-checked_add.ensures.1 c.deref-2.ensures.value c.detach_before.ensures.devices;
+    }

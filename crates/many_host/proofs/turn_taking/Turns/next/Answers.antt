@@ -50,3 +50,36 @@ returns-in_ok-tell-in-Telling-clause-begun g c =
 pub returns-in-Showing-clause-begun : goal.returns-in-Showing-clause-begun
 returns-in-Showing-clause-begun g c =
     subst (λ (stage : Stage). IfOk c.show.result (λ r. BegunNext stage c.args.self.now.begun c.show.new.self.begun r)) (sym c.in-Showing.is) c.show.ensures.begun
+
+pub begin-requires-clause-tells : goal.begin-requires-clause-tells
+begin-requires-clause-tells g c =
+    let t = c.requires.tells in
+    record {
+      programs = t.programs;
+      detaches = t.detaches;
+      devices = t.devices;
+      lines = t.lines;
+      stands = standing g.T.Teller.follows g.T.Teller.has_ended g.T.Teller.memory t.programs t.detaches t.devices t.lines (held_of c.args.self.now) _ c.args.self.now.stage _ c.in-Between.is t.stands;
+    }
+
+pub tell-requires-clause-tells : goal.tell-requires-clause-tells
+tell-requires-clause-tells g c =
+    let t = c.requires.tells in
+    record {
+      programs = t.programs;
+      detaches = t.detaches;
+      devices = t.devices;
+      lines = t.lines;
+      stands = standing g.T.Teller.follows g.T.Teller.has_ended g.T.Teller.memory t.programs t.detaches t.devices t.lines (held_of c.args.self.now) _ c.args.self.now.stage _ c.in-Telling.is t.stands;
+    }
+
+pub show-requires-clause-tells : goal.show-requires-clause-tells
+show-requires-clause-tells g c =
+    let t = c.requires.tells in
+    record {
+      programs = t.programs;
+      detaches = t.detaches;
+      devices = t.devices;
+      lines = t.lines;
+      stands = standing g.T.Teller.follows g.T.Teller.has_ended g.T.Teller.memory t.programs t.detaches t.devices t.lines (held_of c.args.self.now) _ c.args.self.now.stage _ c.in-Showing.is t.stands;
+    }

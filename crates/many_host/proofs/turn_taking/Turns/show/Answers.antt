@@ -60,3 +60,15 @@ returns-in_default-clause-begun g c = IfOk-weaker c.begin.result _ _ (λ r h. be
 
 pub returns-clause-begun : goal.returns-clause-begun
 returns-clause-begun g c = inr (refl, subst IsShown (sym c.in_ok-event.ensures) tt)
+
+pub begin-requires-clause-tells : goal.begin-requires-clause-tells
+begin-requires-clause-tells g c =
+    let t = c.requires.tells in
+    record {
+      programs = t.programs;
+      detaches = t.detaches;
+      devices = t.devices;
+      lines = t.lines;
+      stands = all_shown g.T.Teller.follows g.T.Teller.has_ended g.T.Teller.memory t.programs t.detaches t.devices t.lines (held_of c.args.self.now) _ c.args.turn c.args.from t.stands
+          (ap (λ (l : List Show). looks_of c.args.turn.program (drop c.args.from l)) (sym c.deref.ensures.value) ∙ c.in_default.ensures);
+    }

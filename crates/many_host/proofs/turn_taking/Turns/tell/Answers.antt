@@ -1,7 +1,7 @@
 use Rattle.wa_model.specs.View.{event_of}
 use Rattle.many_host.specs.Standing.{held_of}
 use Rattle.many_host.proofs.Counts.{counted_devices, counted_faults}
-use Rattle.many_host.proofs.TurnNotes.{call_on, told_on}
+use Rattle.many_host.proofs.TurnNotes.{call_on, follows_now, told_on}
 use Rattle.many_host.proofs.TurnPlaces.{stands_at}
 use Rattle.many_host.proofs.turn_taking.Turns.tell.Goals as goal
 
@@ -20,3 +20,9 @@ returns-clause-calls g c = λ programs detaches ds lines s.
     (counted_faults (λ z. (goal.Device-dyn g z).seen z.1) (λ z. (goal.Device-dyn g z).faults z.1) c.args.devices.now)
     (counted_devices (λ z. (goal.Device-dyn g z).seen z.1) (λ z. (goal.Device-dyn g z).faults z.1) c.advance.new.devices)
     (counted_faults (λ z. (goal.Device-dyn g z).seen z.1) (λ z. (goal.Device-dyn g z).faults z.1) c.advance.new.devices)
+
+pub advance-requires-clause-goes : goal.advance-requires-clause-goes
+advance-requires-clause-goes g c =
+    let t = c.requires.tells in
+    let there = stands_at c.args.self.now.programs.items c.args.turn.program c.index_mut.result.now c.requires.place c.index_mut.ensures.value in
+    follows_now g.T.Teller.follows g.T.Teller.has_ended g.T.Teller.memory t.programs t.detaches t.devices t.lines (held_of c.args.self.now) _ c.args.turn t.stands c.index_mut.result.now there
