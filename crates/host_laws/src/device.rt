@@ -1,6 +1,6 @@
 //! What a device answers to a new call of an import that is bound to it.
 
-ghost use Rattle.std.specs.Prelude.{◌≡◌, [], ◌∷◌, IfOk, Some};
+ghost use Rattle.std.specs.Prelude.{◌≡◌, [], ◌∷◌, IfOk, IsErr, Some};
 ghost use Rattle.wa_model.specs.World.{MeetsDevice};
 ghost use Rattle.device_port.specs.Journals.{replied};
 ghost use Rattle.device_port.specs.Listed.{of_all};
@@ -24,6 +24,7 @@ pub fn device_outcome(
     devices: &mut Devices<'_>,
 ) -> Result<Met, AllocError>
     requires { IsLent }
+    ensures kept { IsErr result → of_all seen devices.new ≡ of_all seen devices.old }
     ensures same_list { devices.new.list.ghost_name ≡ devices.old.list.ghost_name }
     ensures meets { IfOk result (λ met. MeetsDevice import base.now name.now args.now (of_all seen devices.old) (outcome_of met) (of_all seen devices.new)) }
     ensures counts { IfOk result (λ met. Counts import (Some name.now) (of_all seen devices.old) (outcome_of met) (of_all faults devices.old) (of_all faults devices.new)) }

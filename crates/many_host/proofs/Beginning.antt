@@ -15,7 +15,7 @@ use Rattle.many_host.specs.Notes.{TellsOn}
 use Rattle.many_host.proofs.Begun.{turn_begins}
 use Rattle.many_host.specs.declared.turn_taking.Stage.{Stage}
 use Rattle.many_host.specs.declared.turn_taking.Stage.TheVariants.{Between, Telling}
-use Rattle.many_host.specs.Standing.{Held, Standing}
+use Rattle.many_host.specs.Standing.{Held, Standing, StandsAt}
 
 -- who is due is there
 pub due_within : (dues : List (Option ℕ)) (count i due : ℕ) → length dues ≡ count → IsLeast dues i due → i < count
@@ -36,14 +36,19 @@ module _ {X : Type 0} (follows : X → Program → List Note → List Outcome �
   abbrev begun_now : ℕ → Held X
   begun_now begun = record { programs = h.programs; dues = h.dues; detaches = h.detaches; shows = h.shows; begun = begun }
 
-  pub begun_at : (begun : ℕ) (own : List Detach) (es : List Device) → begun ≡ h.begun + 1 → own ≡ h.detaches → es ≡ detached begun own ds'
+  pub begun_on : (begun : ℕ) (own : List Detach) (es : List Device) → begun ≡ h.begun + 1 → own ≡ h.detaches → es ≡ detached begun own ds'
+      → (begun ≡ suc h.begun) × TellsOn programs detaches ds h.begun turn.program turn.due lines s.tellers es
+  begun_on begun own es is own_is out =
+      let number : begun ≡ suc h.begun = omega (arith, is) in
+      let out_is : detached (suc h.begun) detaches ds' ≡ es = (λ k. detached (sym number k) (sym (own_is ∙ s.detaches_are) k) ds') ∙ sym out in (
+        number,
+        subst (λ (d : List Device). TellsOn programs detaches ds h.begun turn.program turn.due lines s.tellers d) out_is
+            (turn_begins programs detaches ds ds' h.begun turn.program turn.due lines s.tellers w.0 s.at w.1 least_is),
+      )
+
+  abbrev pub begun_at : (begun : ℕ) (own : List Detach) (es : List Device) → begun ≡ h.begun + 1 → own ≡ h.detaches → es ≡ detached begun own ds'
       → Standing follows over memory programs detaches ds lines (begun_now begun) es (Telling turn)
   begun_at begun own es is own_is out =
-      let number : begun ≡ suc h.begun = omega (arith, is) in
-      let out_is : detached (suc h.begun) detaches ds' ≡ es = (λ k. detached (sym number k) (sym (own_is ∙ s.detaches_are) k) ds') ∙ sym out in
-      let on : TellsOn programs detaches ds h.begun turn.program turn.due lines s.tellers es =
-      subst (λ (d : List Device). TellsOn programs detaches ds h.begun turn.program turn.due lines s.tellers d) out_is
-      (turn_begins programs detaches ds ds' h.begun turn.program turn.due lines s.tellers w.0 s.at w.1 least_is) in
       record {
         tellers = s.tellers;
         wide = s.wide;
@@ -51,11 +56,20 @@ module _ {X : Type 0} (follows : X → Program → List Note → List Outcome �
         each = s.each;
         dues = s.dues;
         detaches_are = s.detaches_are;
-        at = (h.begun, number, on);
+        at = (h.begun, (begun_on begun own es is own_is out).0, (begun_on begun own es is own_is out).1);
       }
 
 -- where it is known to stand
-pub standing : {X : Type 0} (follows : X → Program → List Note → List Outcome → List AnswerLine → Type 0) (over : X → Bool) (memory : X → List ℕ) (programs : List Program) (detaches : List Detach)
-    (ds : List Device) (lines : List Line) (h : Held X) (ds' : List Device) (stage stage' : Stage) → stage ≡ stage' → Standing follows over memory programs detaches ds lines h ds' stage
-    → Standing follows over memory programs detaches ds lines h ds' stage'
-standing follows over memory programs detaches ds lines h ds' stage stage' is s = subst (λ (g : Stage). Standing follows over memory programs detaches ds lines h ds' g) is s
+abbrev pub standing : {X : Type 0} (follows : X → Program → List Note → List Outcome → List AnswerLine → Type 0) (over : X → Bool) (memory : X → List ℕ) (programs : List Program)
+    (detaches : List Detach) (ds : List Device) (lines : List Line) (h : Held X) (ds' : List Device) (stage stage' : Stage) → stage ≡ stage'
+    → Standing follows over memory programs detaches ds lines h ds' stage → Standing follows over memory programs detaches ds lines h ds' stage'
+standing follows over memory programs detaches ds lines h ds' stage stage' is s =
+    record {
+      tellers = s.tellers;
+      wide = s.wide;
+      as_many = s.as_many;
+      each = s.each;
+      dues = s.dues;
+      detaches_are = s.detaches_are;
+      at = subst (λ (g : Stage). StandsAt memory programs detaches ds lines s.tellers h ds' g) is s.at;
+    }

@@ -1,18 +1,26 @@
 -- Devices with their counts, at a line.
-use Rattle.std.proofs.Common.{arith, ◌≡◌, ◌+◌, inl, ℕ, List, [], ◌∷◌, length, map, Option, Some, None, Bool, true, false, if◌then◌else◌, nat_eq, slice_get, refl, sym, ap, ◌∙◌, subst}
+use Rattle.std.proofs.Common.{arith, ◌≡◌, ◌+◌, inl, inr, ℕ, suc, List, [], ◌∷◌, ◌++◌, length, map, Option, Some, None, Bool, true, false, if◌then◌else◌, nat_eq, slice_get, refl, sym, ap, ◌∙◌, subst, append-nil}
 use Rattle.std.proofs.lemmas.Bool.Decides.{nat_tests}
-use Rattle.std.proofs.lemmas.Option.{slice_get_within}
+use Rattle.std.proofs.lemmas.Option.{same_Some, slice_get_within}
 use Rattle.wa_model.specs.declared.answers.Detach.{Detach}
 use Rattle.wa_model.specs.declared.events.Line.{Line as LineValue}
-use Rattle.wa_model.specs.Outside.{Event, Line, shown}
-use Rattle.wa_model.specs.World.{Device, Program, line_at}
+use Rattle.wa_model.specs.Outside.{AnswerLine, Event, Line, shown}
+use Rattle.wa_model.specs.Plan.{Outcome}
+use Rattle.wa_model.specs.Blocking.{Note}
+use Rattle.wa_model.specs.World.{Device, Program, detached, line_at}
 use Rattle.device_port.specs.declared.devices.Devices.{Devices}
 use Rattle.device_port.specs.Listed.{of_all}
 use Rattle.event_order.specs.Left.{Counted, left_before}
 use Rattle.event_order.specs.declared.turns.Turn.{Turn}
 use Rattle.many_host.proofs.Places.{item}
+use Rattle.many_host.specs.declared.turn_taking.Stage.{Stage}
 use Rattle.many_host.specs.declared.turn_taking.Stage.TheVariants.{Between, Showing}
-use Rattle.many_host.specs.Calls.{BegunNext, TakesCall, devices_of, faults_of, left_at}
+use Rattle.many_host.specs.Calls.{AreLeft, BegunNext, TakesCall, devices_of, faults_of, left_at}
+use Rattle.many_host.specs.Standing.{Held, TellsLine}
+use Rattle.many_host.specs.Turns.{MeetMore, Teller}
+
+abbrev the_none : List Outcome
+the_none = []
 
 maps : {A B C : Type 0} (p : B → C) (q : A → B) (xs : List A) → map p (map q xs) ≡ map (λ (x : A). p (q x)) xs
 maps p q [] = refl
@@ -46,17 +54,42 @@ left_began b n b' own detaches cs es next e is out =
 
 -- what is shown takes nothing
 pub shown_takes : {X : Type 0} (programs : List Program) (xs : List X) (x : X) (due i at : ℕ) (bytes : Option (List ℕ)) (cs : List Counted) → length xs ≡ length programs → slice_get xs i ≡ Some x
-    → TakesCall programs (line_at due i (shown at bytes)) cs cs
+    → TakesCall programs (line_at due i (shown at bytes)) [] cs cs
 shown_takes programs xs x due i at bytes cs wide there =
     let w = item programs i (omega (arith, slice_get_within xs i x there, wide)) in
-    record { w = w.0; program = w.1; answers = []; left = []; met = []; takes = (refl, refl) }
+    record { w = w.0; program = w.1; answers = []; left = []; takes = (refl, refl) }
 
--- by what is known of the devices or of the event
-pub taken_of : (programs : List Program) (line : Line) (old old' new : List Counted) → old ≡ old' → TakesCall programs line old new → TakesCall programs line old' new
-taken_of programs line old old' new is t = subst (λ (l : List Counted). TakesCall programs line l new) is t
+-- by what is known of the event
+pub taken_by : (programs : List Program) (due i : ℕ) (v v' : Event) (met : List Outcome) (old new : List Counted) → v' ≡ v → TakesCall programs (line_at due i v) met old new
+    → TakesCall programs (line_at due i v') met old new
+taken_by programs due i v v' met old new is t = subst (λ (e : Event). TakesCall programs (line_at due i e) met old new) (sym is) t
 
-pub taken_by : (programs : List Program) (due i : ℕ) (v v' : Event) (old new : List Counted) → v' ≡ v → TakesCall programs (line_at due i v) old new → TakesCall programs (line_at due i v') old new
-taken_by programs due i v v' old new is t = subst (λ (e : Event). TakesCall programs (line_at due i e) old new) (sym is) t
+-- by what is known of the devices
+taken_of : (programs : List Program) (line : Line) (met : List Outcome) (old old' new : List Counted) → old ≡ old' → TakesCall programs line met old new → TakesCall programs line met old' new
+taken_of programs line met old old' new is t = subst (λ (l : List Counted). TakesCall programs line met l new) is t
+
+pub line_from : {X : Type 0} {follows : X → Program → List Note → List Outcome → List AnswerLine → Type 0} {over : X → Bool} {memory : X → List ℕ} {programs : List Program}
+    {detaches : List Detach} {ds : List Device} {lines : List Line} {tellers : List Teller} {old old' new : List Counted} {line : Line} {h : Held X} {ds' : List Device} {stage : Stage}
+    → old ≡ old' → TellsLine follows over memory programs detaches ds lines tellers old new line h ds' stage
+    → TellsLine follows over memory programs detaches ds lines tellers old' new line h ds' stage
+line_from is t = record { stands = t.stands; met = t.met; meets = t.meets; takes = taken_of _ _ _ _ _ _ is t.takes }
+
+-- where the next event began
+pub left_when_begun : (b n : ℕ) (own detaches : List Detach) (ds es fs : List Device) → n ≡ b + 1 → own ≡ detaches → es ≡ detached n own ds → fs ≡ es → AreLeft b detaches ds fs
+left_when_begun b n own detaches ds es fs next is out kept =
+    let number : n ≡ suc b = omega (arith, next) in
+    inr (kept ∙ out ∙ (λ k. detached (number k) (is k) ds))
+
+-- ---- what calls have met
+
+none_if : (b : Bool) → (if b then [] else []) ≡ the_none
+none_if true = refl
+none_if false = refl
+
+-- no call was told
+pub meets_none : (program : ℕ) (tellers : List Teller) → MeetMore program [] tellers tellers
+meets_none program tellers i t t' et et' =
+    ap (λ (x : Teller). x.met) (same_Some t' t (sym et' ∙ et)) ∙ sym (append-nil t.met) ∙ ap (λ (l : List Outcome). t.met ++ l) (sym (none_if (nat_eq i program)))
 
 -- a turn that begins behind what was shown of memory
 pub begun_behind : (turn : Turn) (from b b' : ℕ) (r : Option LineValue) → BegunNext Between b b' r → BegunNext (Showing turn from) b b' r

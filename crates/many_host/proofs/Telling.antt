@@ -13,8 +13,8 @@ use Rattle.wa_model.specs.Blocking.{Note}
 use Rattle.wa_model.specs.World.{Device, Program, Actor, CallsMeet, Plays, IsNext, HasNotes, Starts, StartsHeld, IsOver, detached, turn_of, behind_turn, put_off, line_at, events_with_looks, protocol_story, ProtocolWorld}
 use Rattle.event_order.specs.Dues.{HaveEnded}
 use Rattle.world_laws.specs.Played.{ProtocolWorldUpTo}
-use Rattle.world_laws.proofs.Played.{next_event, played_is_whole}
-use Rattle.many_host.specs.Turns.{Teller, starting, unless, due_of, having_told, TellsTurn, Tells, IsRest, HasStory}
+use Rattle.world_laws.proofs.Played.{as_events, one_more}
+use Rattle.many_host.specs.Turns.{HaveMet, Teller, starting, unless, due_of, having_told, TellsTurn, Tells, IsRest, HasStory}
 use Rattle.many_host.specs.ToldTurns.{ToldIsWorld, AllToldIsWorld}
 use Rattle.many_host.proofs.Places.{item, set_here, set_there, set_same, zipped}
 use Rattle.many_host.proofs.Turns.{turn_whole, behind_whole, some_note, calls_behind}
@@ -168,8 +168,12 @@ module _ (programs : List Program) (detaches : List Detach) (wholes : List Whole
 
   -- ---- all turns
 
+  -- an actor at its start will meet the outcomes of the whole
+  abbrev SameMet : List Actor → Type 0
+  SameMet starts = (i : ℕ) (h : Whole) (a : Actor) → slice_get wholes i ≡ Some h → slice_get starts i ≡ Some a → a.outcomes ≡ h.outcomes
+
   abbrev Reaches : (number : ℕ) (ds : List Device) (lines : List Line) (ds' : List Device) → List Actor → Type 0
-  Reaches number ds lines ds' actors = (world : ProtocolWorldUpTo programs detaches ds number lines ds') × (world.now ≡ actors)
+  Reaches number ds lines ds' actors = (world : ProtocolWorldUpTo programs detaches ds number lines ds') × (world.now ≡ actors) × SameMet world.actors
 
   module _ (stories : (i : ℕ) (w : Program) (h : Whole) → slice_get programs i ≡ Some w → slice_get wholes i ≡ Some h → h.notes ≡ protocol_story w h.outcomes) where
     start : (tellers : List Teller) (actors : List Actor) → tellers ≡ map starting programs → Foretold wholes tellers actors → AllZip StartsHeld programs actors
@@ -187,18 +191,35 @@ module _ (programs : List Program) (detaches : List Detach) (wholes : List Whole
             story = tie.notes ∙ stories i w h.0 ew h.1 ∙ ap (protocol_story w) (sym tie.outcomes);
           }
 
+    start_met : (tellers : List Teller) (actors : List Actor) → tellers ≡ map starting programs → Foretold wholes tellers actors → SameMet actors
+    start_met tellers actors is fore i h a eh ea =
+        let within : i < length programs = omega (arith, slice_get_within actors i a ea, fore.long, ap (λ (l : List Teller). length l) is, length-map programs starting) in
+        let w = item programs i within in
+        let et : slice_get tellers i ≡ Some (starting w.0) = ap (λ (l : List Teller). slice_get l i) is ∙ slice_get-map starting programs i ∙ ap (option_map starting) w.1 in
+        let tie = fore.each i (starting w.0) h a et eh ea in
+        tie.outcomes
+
     reaches : (number : ℕ) (ds ds' : List Device) (lines : List Line) (tellers : List Teller) (actors : List Actor) → Tells programs detaches ds number lines tellers ds'
         → Foretold wholes tellers actors → Reaches number ds lines ds' actors
     reaches zero ds ds' lines tellers actors tells fore =
-        (record { actors = actors; now = actors; starts = start tellers actors tells.1 fore; played = (tells.0, refl, tells.2) }, refl)
+        (record { actors = actors; now = actors; starts = start tellers actors tells.1 fore; played = (tells.0, refl, tells.2) }, refl, start_met tellers actors tells.1 fore)
     reaches (suc number) ds ds' lines tellers actors tells fore =
         let play = tells.5 in
         let on = reaches number ds tells.3 tells.0 tells.2 (acts (suc number) tells.2 tellers tells.3 ds' tells.1 actors play fore) tells.4
         (fore_before (suc number) tells.2 tellers tells.3 ds' tells.1 actors play fore) in
         let turn : Plays programs detaches (suc number) on.0.now tells.3 tells.1 actors ds' =
         subst (λ (l : List Actor). Plays programs detaches (suc number) l tells.3 tells.1 actors ds') (sym on.1) (plays (suc number) tells.2 tellers tells.3 ds' tells.1 actors play fore) in
-        let more = next_event programs detaches ds tells.3 ds' number tells.0 tells.1 actors on.0 turn in
-        subst (λ (l : List Line). Reaches (suc number) ds l ds' actors) (sym tells.6) (more.0, more.1)
+        let next : suc number ≡ 1 + number = omega arith in
+        subst (λ (l : List Line). Reaches (suc number) ds l ds' actors) (sym tells.6) (
+          record {
+            actors = on.0.actors;
+            now = actors;
+            starts = on.0.starts;
+            played = one_more programs detaches number 1 (suc number) on.0.actors on.0.now actors ds tells.3 ds' tells.0 tells.1 next on.0.played turn;
+          },
+          refl,
+          on.2,
+        )
 
 -- ---- what is still to come
 
@@ -242,16 +263,51 @@ prepared (w ∷ programs) (t ∷ tellers) all =
         (subst (λ (x : Program). t.told ++ s.rest ≡ protocol_story x (t.met ++ s.more)) (same_Some _ _ ew) (sym s.story))
     stories s on (suc i) w' h' ew eh = on.stories i w' h' ew eh
 
-pub told_is_world : ToldIsWorld
-told_is_world programs detaches ds ds' number lines tellers tells all =
-    let p = prepared programs tellers all in
-    (reaches programs detaches p.wholes p.stories number ds ds' lines tellers p.actors tells p.fore).0
+-- Since its start each program's actor has met what the program has.
+abbrev pub MetTo : List Teller → (starts now : List Actor) → Type 0
+MetTo tellers starts now =
+    (i : ℕ) (t : Teller) (a n : Actor) → slice_get tellers i ≡ Some t → slice_get starts i ≡ Some a → slice_get now i ≡ Some n → a.outcomes ≡ t.met ++ n.outcomes
 
-pub all_told_is_world : AllToldIsWorld
-all_told_is_world programs detaches ds ds' number lines tellers tells all ended =
+met_to : (programs : List Program) (tellers : List Teller) (p : Prepared programs tellers) (starts now : List Actor) → now ≡ p.actors
+    → ((i : ℕ) (h : Whole) (a : Actor) → slice_get p.wholes i ≡ Some h → slice_get starts i ≡ Some a → a.outcomes ≡ h.outcomes) → MetTo tellers starts now
+met_to programs tellers p starts now is same i t a n et ea en =
+    let h = item p.wholes i (omega (arith, slice_get_within tellers i t et, p.fore.wide)) in
+    let tie = p.fore.each i t h.0 n et h.1 (ap (λ (l : List Actor). slice_get l i) (sym is) ∙ en) in
+    same i h.0 a h.1 ea ∙ sym tie.outcomes
+
+pub told_is_world_met : (programs : List Program) (detaches : List Detach) (ds ds' : List Device) (number : ℕ) (lines : List Line) (tellers : List Teller)
+    → Tells programs detaches ds number lines tellers ds' → AllZip HasStory programs tellers
+    → (world : ProtocolWorldUpTo programs detaches ds number lines ds') × MetTo tellers world.actors world.now
+told_is_world_met programs detaches ds ds' number lines tellers tells all =
     let p = prepared programs tellers all in
     let on = reaches programs detaches p.wholes p.stories number ds ds' lines tellers p.actors tells p.fore in
-    played_is_whole programs detaches ds ds' number lines on.0 (subst (λ (l : List Actor). IsOver l) (sym on.1) (over p))
+    (on.0, met_to programs tellers p on.0.actors on.0.now on.1 on.2)
+
+pub told_is_world : ToldIsWorld
+told_is_world programs detaches ds ds' number lines tellers tells all = (told_is_world_met programs detaches ds ds' number lines tellers tells all).0
+
+-- what the program has met its actor meets first
+met_from : (tellers : List Teller) (starts now : List Actor) → length now ≡ length tellers → MetTo tellers starts now → HaveMet tellers starts
+met_from tellers starts now long met i t a et ea =
+    let n = item now i (omega (arith, slice_get_within tellers i t et, long)) in
+    (n.0.outcomes, met i t a n.0 et ea n.1)
+
+pub all_told_met : (programs : List Program) (detaches : List Detach) (ds ds' : List Device) (number : ℕ) (lines : List Line) (tellers : List Teller)
+    → Tells programs detaches ds number lines tellers ds' → AllZip HasStory programs tellers → HaveEnded (map due_of tellers)
+    → (world : ProtocolWorld programs detaches ds lines ds') × HaveMet tellers world.actors
+all_told_met programs detaches ds ds' number lines tellers tells all ended =
+    let p = prepared programs tellers all in
+    let on = reaches programs detaches p.wholes p.stories number ds ds' lines tellers p.actors tells p.fore in
+    let long : length on.0.now ≡ length tellers = ap (λ (l : List Actor). length l) on.1 ∙ p.fore.long in (
+      record {
+        actors = on.0.actors;
+        last = on.0.now;
+        starts = on.0.starts;
+        events = as_events programs detaches number 1 on.0.actors on.0.now ds ds' lines on.0.played;
+        over = subst (λ (l : List Actor). IsOver l) (sym on.1) (over p);
+      },
+      met_from tellers on.0.actors on.0.now long (met_to programs tellers p on.0.actors on.0.now on.1 on.2),
+    )
   where
     has_ended : (b : Bool) (due : ℕ) → (unless b due ≡ Some due → ⊥) → b ≡ true
     has_ended true due never = refl
@@ -265,3 +321,6 @@ all_told_is_world programs detaches ds ds' number lines tellers tells all ended 
         let tie = p.fore.each k t.0 h.0 a t.1 h.1 (slice_get-get_or p.actors k d within) in
         let is : t.0.has_ended ≡ true = has_ended t.0.has_ended t.0.due (λ e. ended k t.0.due (slice_get-map due_of tellers k ∙ ap (option_map due_of) t.1 ∙ ap (λ (o : Option ℕ). Some o) e)) in
         subst (λ (b : Bool). IsRest b a.notes) is tie.is_rest
+
+pub all_told_is_world : AllToldIsWorld
+all_told_is_world programs detaches ds ds' number lines tellers tells all ended = (all_told_met programs detaches ds ds' number lines tellers tells all ended).0

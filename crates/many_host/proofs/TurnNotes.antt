@@ -1,27 +1,27 @@
 -- A program tells one note more of its turn.
-use Rattle.std.proofs.Common.{arith, ◌≡◌, ◌⊎◌, inl, inr, ℕ, suc, List, [], ◌∷◌, ◌++◌, map, Option, Some, Bool, true, false, slice_get, slice_set, refl, sym, ap, ◌∙◌, subst, length-set, append_assoc}
-use Rattle.std.proofs.lemmas.Bool.{cases_eq}
+use Rattle.std.proofs.Common.{arith, ◌≡◌, ◌⊎◌, inl, inr, ℕ, suc, List, [], ◌∷◌, ◌++◌, map, Option, Some, None, Bool, true, false, if◌then◌else◌, nat_eq, slice_get, slice_set, refl, sym, ap, ◌∙◌, subst, length-set, append_assoc, append-nil}
+use Rattle.std.proofs.lemmas.Bool.{cases_eq, eq-eqb, ne_eqb}
 use Rattle.std.proofs.lemmas.Option.{same_Some}
 use Rattle.wa_model.specs.declared.answers.Detach.{Detach}
-use Rattle.wa_model.specs.Outside.{AnswerLine, Event, called, answered, paused, returned, ended, shown, Line}
+use Rattle.wa_model.specs.Outside.{AnswerLine, Call, Event, called, answered, paused, returned, ended, shown, Line}
 use Rattle.wa_model.specs.Plan.{Outcome}
 use Rattle.wa_model.specs.Blocking.{Note}
 use Rattle.wa_model.specs.World.{Device, Program, CallsMeet, call_in, ends_turn, is_end, line_at, looks_after}
 use Rattle.event_order.specs.declared.turns.Turn.{Turn}
 use Rattle.event_order.specs.Left.{Counted}
 use Rattle.event_order.specs.Looks.{looks_of}
-use Rattle.many_host.specs.Turns.{Teller, unless, due_of, having_told, Tells}
+use Rattle.many_host.specs.Turns.{MeetMore, Teller, unless, due_of, having_told, Tells}
 use Rattle.many_host.proofs.Places.{set_here, set_there}
 use Rattle.many_host.specs.Notes.{TellsOn}
 use Rattle.many_host.proofs.Notes.{ends_none, off_none}
 use Rattle.many_host.proofs.Further.{turn_goes_on, turn_ends}
-use Rattle.host_laws.specs.Supplies.{Takes}
+use Rattle.host_laws.specs.Supplies.{Supply, Takes}
 use Rattle.host_laws.proofs.Tellings.{one_more_met}
 use Rattle.many_host.specs.declared.turn_taking.Stage.{Stage}
 use Rattle.many_host.specs.declared.turn_taking.Stage.TheVariants.{Telling}
 use Rattle.many_host.specs.Telling.{TellsNote, supply}
 use Rattle.many_host.specs.Calls.{TakesCall, devices_of, faults_of}
-use Rattle.many_host.specs.Standing.{Held, IsHeld, Standing, StandsAt, due_behind, looks_at, stage_behind}
+use Rattle.many_host.specs.Standing.{Held, IsHeld, Standing, StandsAt, TellsLine, due_behind, looks_at, stage_behind}
 use Rattle.many_host.proofs.TurnPlaces.{or_false, ends_on, dues_set}
 
 module _ {X : Type 0} (follows : X → Program → List Note → List Outcome → List AnswerLine → Type 0) (over : X → Bool) (memory : X → List ℕ)
@@ -41,6 +41,10 @@ module _ {X : Type 0} (follows : X → Program → List Note → List Outcome �
 
   held : IsHeld follows over h.shows i on.w now x
   held = s.each i on.w now x on.program teller_there there
+
+  -- what it has told so far
+  pub follows_now : (w : Program) × (notes : List Note) × (os : List Outcome) × (answers : List AnswerLine) × follows x w notes os answers
+  follows_now = (on.w, now.told, now.met, now.answers, held.follow)
 
   pub runs : over x ≡ false
   runs = held.ended_is ∙ ends_none on.turn on.goes_on
@@ -136,7 +140,7 @@ module _ {X : Type 0} (follows : X → Program → List Note → List Outcome �
             (λ k. lines ++ line (ended how) ∷ map line (looks_at (n.memory_is k) (held.looks k)))
             ∙ sym (append_assoc lines (line (ended how) ∷ []) (map line (looks_at (memory x') (looks_of i h.shows))))
 
-    pub told_on : (due : Option ℕ) (stage : Stage) → due ≡ due_behind turn.due e → stage ≡ stage_behind turn e
+    abbrev told_on : (due : Option ℕ) (stage : Stage) → due ≡ due_behind turn.due e → stage ≡ stage_behind turn e
         → Standing follows over memory programs detaches ds (lines ++ line_at turn.due i e ∷ []) (held_now due) ds'' stage
     told_on due stage due_is stage_is =
         record {
@@ -149,15 +153,26 @@ module _ {X : Type 0} (follows : X → Program → List Note → List Outcome �
           at = subst (λ (g : Stage). StandsAt memory programs detaches ds (lines ++ line e ∷ []) after (held_now due) ds'' g) (sym stage_is) (stands due e refl);
         }
 
+    -- what the call met
+    meets : MeetMore i n.met s.tellers after
+    meets j t t' et et' = by (cases_eq j i) where
+      by : (j ≡ i) ⊎ (j ≡ i → ⊥) → t'.met ≡ t.met ++ (if nat_eq j i then n.met else [])
+      by (inr other) =
+          let same : t' ≡ t = same_Some t' t (sym et' ∙ set_there s.tellers i j next other ∙ et) in
+          ap (λ (x : Teller). x.met) same ∙ sym (append-nil t.met) ∙ ap (λ (b : Bool). t.met ++ (if b then n.met else [])) (sym (ne_eqb j i other))
+      by (inl is) =
+          let was : t ≡ now = same_Some t now (sym et ∙ ap (slice_get s.tellers) is ∙ teller_there) in
+          let then_is : t' ≡ next = same_Some t' next (sym et' ∙ ap (slice_get after) is ∙ set_here s.tellers i next now teller_there) in
+          ap (λ (x : Teller). x.met) then_is ∙ ap (λ (x : Teller). x.met ++ n.met) (sym was) ∙ ap (λ (b : Bool). t.met ++ (if b then n.met else [])) (sym (eq-eqb j i is))
+
     -- what the call took
-    pub call_on : (old new : List Counted) → devices_of old ≡ ds' → faults_of old ≡ faults → devices_of new ≡ ds'' → faults_of new ≡ faults' → TakesCall programs (line_at turn.due i e) old new
+    call_on : (old new : List Counted) → devices_of old ≡ ds' → faults_of old ≡ faults → devices_of new ≡ ds'' → faults_of new ≡ faults' → TakesCall programs (line_at turn.due i e) n.met old new
     call_on old new d f d' f' =
         record {
           w = on.w;
           program = on.program;
           answers = now.answers;
           left = n.answers;
-          met = n.met;
           takes =
               subst (λ (v : Event). Takes on.w (call_in v) (supply now.answers (devices_of old) (faults_of old)) n.met (supply n.answers (devices_of new) (faults_of new))) n.event_is
               (subst (λ (l : List Device). Takes on.w (call_in n.note.event) (supply now.answers l (faults_of old)) n.met (supply n.answers (devices_of new) (faults_of new))) (sym d)
@@ -165,3 +180,14 @@ module _ {X : Type 0} (follows : X → Program → List Note → List Outcome �
               (subst (λ (l : List Device). Takes on.w (call_in n.note.event) (supply now.answers ds' faults) n.met (supply n.answers l (faults_of new))) (sym d')
               (subst (λ (l : List ℕ). Takes on.w (call_in n.note.event) (supply now.answers ds' faults) n.met (supply n.answers ds'' l)) (sym f') n.takes))));
         }
+
+    pub line_told : (due : Option ℕ) (stage : Stage) → due ≡ due_behind turn.due e → stage ≡ stage_behind turn e → (old new : List Counted) → devices_of old ≡ ds' → faults_of old ≡ faults
+        → devices_of new ≡ ds'' → faults_of new ≡ faults' → TellsLine follows over memory programs detaches ds lines s.tellers old new (line_at turn.due i e) (held_now due) ds'' stage
+    line_told due stage due_is stage_is old new d f d' f' =
+        record { stands = told_on due stage due_is stage_is; met = n.met; meets = meets; takes = call_on old new d f d' f' }
+
+    -- an event without a call leaves the devices
+    pub kept_on : call_in e ≡ None → ds'' ≡ ds'
+    kept_on none =
+        let same = subst (λ (c : Option Call). Takes on.w c (supply now.answers ds' faults) n.met (supply n.answers ds'' faults')) (ap call_in n.event_is ∙ none) n.takes in
+        ap (λ (u : Supply). u.devices) same.1

@@ -1,21 +1,24 @@
 -- What was told, as the first lines of a world's run.
-use Rattle.std.proofs.Common.{arith, ◌≡◌, ◌<◌, ℕ, suc, zero, List, [], ◌∷◌, ◌++◌, length, map, Some, Bool, true, false, slice_get, slice_set, refl, sym, ap, ◌∙◌, subst, append_assoc, append-nil}
+use Rattle.std.proofs.Common.{arith, ◌≡◌, ◌<◌, ◌⊎◌, inl, inr, ℕ, suc, zero, List, [], ◌∷◌, ◌++◌, length, map, Some, Bool, true, false, slice_get, slice_set, refl, sym, ap, ◌∙◌, subst, append_assoc, append-nil}
 use Rattle.std.specs.Prelude.{MatchBool}
 use Rattle.std.specs.List.{AllZip}
+use Rattle.std.proofs.lemmas.Bool.{cases_eq}
 use Rattle.std.proofs.lemmas.List.{map-append}
 use Rattle.std.proofs.lemmas.Option.{same_Some}
 use Rattle.wa_model.specs.declared.answers.Detach.{Detach}
 use Rattle.wa_model.specs.Outside.{Line}
 use Rattle.wa_model.specs.Plan.{Outcome}
 use Rattle.wa_model.specs.Blocking.{Note, events_of}
-use Rattle.wa_model.specs.World.{Device, Program, CallsMeet, ProtocolWorld, behind_turn, detached, events_with_looks, line_at, protocol_story, turn_of}
+use Rattle.wa_model.specs.Behaves.{IsPrefix}
+use Rattle.wa_model.specs.World.{Actor, Device, Program, CallsMeet, ProtocolWorld, behind_turn, detached, events_with_looks, line_at, protocol_story, turn_of}
 use Rattle.world_laws.proofs.Counting.{Ends}
-use Rattle.world_laws.proofs.GoingOn.{worlds_go_on}
+use Rattle.world_laws.proofs.GoingOn.{front_same, gone_on}
+use Rattle.world_laws.proofs.Replaying.{Quads, Twice, quad_of}
 use Rattle.world_laws.proofs.LineCalls.{turn_parts}
-use Rattle.event_order.specs.Dues.{IsLeast}
-use Rattle.many_host.specs.Turns.{Teller, due_of, ends_program, having_told, Tells, TellsTurn, IsRest, HasStory}
-use Rattle.many_host.proofs.Telling.{all_told_is_world, told_is_world}
-use Rattle.many_host.proofs.Places.{set_here}
+use Rattle.event_order.specs.Dues.{HaveEnded, IsLeast}
+use Rattle.many_host.specs.Turns.{HaveMet, Teller, due_of, ends_program, having_told, Tells, TellsTurn, IsRest, HasStory}
+use Rattle.many_host.proofs.Telling.{MetTo, all_told_met, told_is_world_met}
+use Rattle.many_host.proofs.Places.{set_here, set_there}
 use Rattle.many_host.specs.Notes.{OnStory, TellsOn}
 use Rattle.many_host.specs.ToldNotes.{BeginsWorld, BegunBegins, ToldBegins, ToldWhole}
 use Rattle.many_host.proofs.Notes.{calls_more, ends_none}
@@ -50,17 +53,46 @@ all_had (w ∷ ws) (t ∷ tellers) c h = (had w t (c 0 t refl) h.0, all_had ws t
 
 -- ---- whole turns
 
-begins_by : (programs : List Program) (detaches : List Detach) (ds ds' : List Device) (number : ℕ) (lines : List Line) (tellers : List Teller)
-    → Tells programs detaches ds number lines tellers ds' → AllZip HasStory programs tellers → BeginsWorld programs detaches ds lines
-begins_by programs detaches ds ds' number lines tellers tells all = worlds_go_on programs detaches ds ds' number lines (told_is_world programs detaches ds ds' number lines tellers tells all)
+-- Some run of the world has these first lines, in which each program's calls meet first what they have met.
+abbrev pub BeginsMet : List Program → List Detach → List Device → List Line → List Teller → Type 0
+BeginsMet programs detaches ds lines tellers =
+    (more : List Line) × (last : List Device) × (world : ProtocolWorld programs detaches ds (lines ++ more) last) × HaveMet tellers world.actors
 
-pub told_begins : ToldBegins
-told_begins programs detaches ds ds' number lines tellers tells all =
+met_again : (tellers : List Teller) (starts now again ahead : List Actor) → MetTo tellers starts now → Quads starts now again ahead → HaveMet tellers again
+met_again tellers starts now again ahead met quads i t b et eb =
+    let q = quad_of starts now again ahead quads i b eb in
+    let twice : Twice q.0 q.1 b q.2 = q.5 in
+    let used : twice.since.used ≡ t.met = front_same twice.since.used t.met q.1.outcomes (sym twice.since.outcomes ∙ met i t q.0 q.1 et q.3 q.4) in
+    (q.2.outcomes, twice.outcomes ∙ ap (λ (os : List Outcome). os ++ q.2.outcomes) used)
+
+begins_by : (programs : List Program) (detaches : List Detach) (ds ds' : List Device) (number : ℕ) (lines : List Line) (tellers : List Teller)
+    → Tells programs detaches ds number lines tellers ds' → AllZip HasStory programs tellers → BeginsMet programs detaches ds lines tellers
+begins_by programs detaches ds ds' number lines tellers tells all =
+    let up = told_is_world_met programs detaches ds ds' number lines tellers tells all in
+    let whole = gone_on programs detaches ds ds' number lines up.0 in
+    (whole.more, whole.last, whole.world, met_again tellers up.0.actors up.0.now whole.world.actors whole.ahead up.1 whole.again)
+
+pub turns_begin : (programs : List Program) (detaches : List Detach) (ds ds' : List Device) (number : ℕ) (lines : List Line) (tellers : List Teller)
+    → Tells programs detaches ds number lines tellers ds' → AllZip OnStory programs tellers → BeginsMet programs detaches ds lines tellers
+turns_begin programs detaches ds ds' number lines tellers tells all =
     begins_by programs detaches ds ds' number lines tellers tells (all_had programs tellers (counted programs detaches ds number lines tellers ds' tells) all)
 
+pub turns_whole : (programs : List Program) (detaches : List Detach) (ds ds' : List Device) (number : ℕ) (lines : List Line) (tellers : List Teller)
+    → Tells programs detaches ds number lines tellers ds' → AllZip OnStory programs tellers → HaveEnded (map due_of tellers)
+    → (world : ProtocolWorld programs detaches ds lines ds') × HaveMet tellers world.actors
+turns_whole programs detaches ds ds' number lines tellers tells all ended =
+    all_told_met programs detaches ds ds' number lines tellers tells (all_had programs tellers (counted programs detaches ds number lines tellers ds' tells) all) ended
+
+-- its lines alone
+pub lines_begin : (programs : List Program) (detaches : List Detach) (ds : List Device) (lines : List Line) (tellers : List Teller) → BeginsMet programs detaches ds lines tellers
+    → BeginsWorld programs detaches ds lines
+lines_begin programs detaches ds lines tellers b = (b.0, b.1, b.2)
+
+pub told_begins : ToldBegins
+told_begins programs detaches ds ds' number lines tellers tells all = lines_begin programs detaches ds lines tellers (turns_begin programs detaches ds ds' number lines tellers tells all)
+
 pub told_whole : ToldWhole
-told_whole programs detaches ds ds' number lines tellers tells all ended =
-    all_told_is_world programs detaches ds ds' number lines tellers tells (all_had programs tellers (counted programs detaches ds number lines tellers ds' tells) all) ended
+told_whole programs detaches ds ds' number lines tellers tells all ended = (turns_whole programs detaches ds ds' number lines tellers tells all ended).0
 
 -- ---- a turn that has begun
 
@@ -165,11 +197,30 @@ module _ (programs : List Program) (detaches : List Detach) (ds ds' : List Devic
     ap (λ (l : List Line). l ++ rest_lines) on.made ∙ append_assoc on.before (map (line_at due i) (events_of on.turn)) rest_lines,
   )
 
-  pub begins_on : BeginsWorld programs detaches ds lines
+  -- what is told of the turn begins what is told of it to its end
+  front_met : (actors : List Actor) → HaveMet (slice_set on.mid i last) actors → HaveMet tellers actors
+  front_met actors met j t a et ea = by (cases_eq j i) where
+    by : (j ≡ i) ⊎ (j ≡ i → ⊥) → IsPrefix t.met a.outcomes
+    by (inr other) =
+        let was : slice_get on.mid j ≡ Some t = sym (set_there on.mid i j now other) ∙ ap (λ (l : List Teller). slice_get l j) (sym on.after) ∙ et in
+        met j t a (set_there on.mid i j last other ∙ was) ea
+    by (inl is) =
+        let here : now ≡ t = same_Some now t (sym there ∙ ap (slice_get tellers) (sym is) ∙ et) in
+        let its : slice_get (slice_set on.mid i last) j ≡ Some last = ap (slice_get (slice_set on.mid i last)) is ∙ set_here on.mid i last on.t on.there in
+        let more = met j last a its ea in (
+          front.first ++ more.0,
+          more.1 ∙ ap (λ (l : List Outcome). l ++ more.0) (sym (append_assoc on.t.met on.met front.first))
+              ∙ append_assoc now.met front.first more.0
+              ∙ ap (λ (x : Teller). x.met ++ (front.first ++ more.0)) here,
+        )
+
+  pub begins_on : BeginsMet programs detaches ds lines tellers
   begins_on =
       let have = zip_set programs on.mid i on.w now last on.program (subst (AllZip HasStory programs) on.after (all_had programs tellers count all)) last_story in
       let run = begins_by programs detaches ds front.devices (suc number) (lines ++ rest_lines) (slice_set on.mid i last) whole have in
-      (rest_lines ++ run.0, run.1, subst (λ (l : List Line). ProtocolWorld programs detaches ds l run.1) (append_assoc lines rest_lines run.0) run.2)
+      let both = subst (λ (l : List Line). (world : ProtocolWorld programs detaches ds l run.1) × HaveMet tellers world.actors) (append_assoc lines rest_lines run.0)
+      (run.2, front_met run.2.actors run.3) in
+      (rest_lines ++ run.0, run.1, both.0, both.1)
 
 pub begun_begins : BegunBegins
-begun_begins programs detaches ds ds' number i due lines tellers on all = begins_on programs detaches ds ds' number i due lines tellers on all
+begun_begins programs detaches ds ds' number i due lines tellers on all = lines_begin programs detaches ds lines tellers (begins_on programs detaches ds ds' number i due lines tellers on all)

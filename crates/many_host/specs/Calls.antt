@@ -1,11 +1,11 @@
 -- What a line's call took of the devices.
-use Rattle.std.specs.Prelude.{◌≡◌, ◌⊎◌, ◌+◌, ℕ, List, map, Some, nat_eq, if◌then◌else◌, Option, MatchOption, slice_get}
+use Rattle.std.specs.Prelude.{◌≡◌, ◌⊎◌, ◌+◌, ℕ, suc, List, map, Some, nat_eq, if◌then◌else◌, Option, MatchOption, slice_get}
 use Rattle.wa_model.specs.declared.answers.Detach.{Detach}
 use Rattle.wa_model.specs.declared.events.Line.{Line as LineValue}
 use Rattle.wa_model.specs.Outside.{AnswerLine, Event, Line, shown}
 use Rattle.wa_model.specs.Plan.{Outcome}
 use Rattle.wa_model.specs.View.{line_of}
-use Rattle.wa_model.specs.World.{Device, Program, call_in}
+use Rattle.wa_model.specs.World.{Device, Program, call_in, detached}
 use Rattle.event_order.specs.Left.{Counted, left_before}
 use Rattle.host_laws.specs.Supplies.{Takes}
 use Rattle.many_host.specs.declared.turn_taking.Stage.{Stage}
@@ -20,23 +20,22 @@ devices_of cs = map (λ (c : Counted). c.device) cs
 abbrev pub faults_of : List Counted → List ℕ
 faults_of cs = map (λ (c : Counted). c.faults) cs
 
--- Where the line tells a new call, that met an outcome, of the devices or of the program's answer lines, and left these devices and
--- counts; nothing else changed any.
-pub record TakesCall (programs : List Program) (line : Line) (old new : List Counted) : Type 0 where
+-- Where the line tells a new call, that met this outcome, of the devices or of the program's answer lines, and left these devices and
+-- counts; nothing else met one, or changed any.
+pub record TakesCall (programs : List Program) (line : Line) (met : List Outcome) (old new : List Counted) : Type 0 where
   pub w : Program
   pub program : slice_get programs line.program ≡ Some w
   pub answers : List AnswerLine
   pub left : List AnswerLine
-  pub met : List Outcome
   pub takes : Takes w (call_in line.event) (supply answers (devices_of old) (faults_of old)) met (supply left (devices_of new) (faults_of new))
 
 -- the devices at a line: those that are left, where an event began with it
 abbrev pub left_at : (begun begun' : ℕ) → List Detach → List Counted → List Counted
 left_at begun begun' detaches cs = if nat_eq begun begun' then cs else left_before begun' detaches cs
 
--- a line took what it took, and where there is none nothing changed
-abbrev pub TakesNext : List Program → Option LineValue → (old left new : List Counted) → Type 0
-TakesNext programs result old left new = MatchOption result (new ≡ old) (λ line. TakesCall programs (line_of line) left new)
+-- Where no line came the devices are as they were, or as they are when the next event begins.
+abbrev pub AreLeft : (begun : ℕ) → List Detach → (ds ds' : List Device) → Type 0
+AreLeft begun detaches ds ds' = (ds' ≡ ds) ⊎ (ds' ≡ detached (suc begun) detaches ds)
 
 -- ---- how many turns have begun
 

@@ -1,5 +1,5 @@
 -- What a host of several programs has told.
-use Rattle.std.specs.Prelude.{◌≡◌, ℕ, List, [], ◌∷◌, ◌++◌, length, Option, Some, Bool, MatchOption, slice_get}
+use Rattle.std.specs.Prelude.{◌≡◌, ℕ, List, [], length, Option, Some, Bool, MatchOption, slice_get}
 use Rattle.std.specs.Option.{is_some}
 use Rattle.wa_model.specs.declared.answers.Detach.{Detach}
 use Rattle.wa_model.specs.declared.events.Line.{Line as LineValue}
@@ -13,7 +13,9 @@ use Rattle.event_order.specs.declared.shows.Show.{Show}
 use Rattle.event_order.specs.Looks.{looks_of}
 use Rattle.pause_host.specs.declared.program.Program.{Program}
 use Rattle.pause_host.specs.Programs.{Follows, ended_as, lines_left, memory_in}
-use Rattle.many_host.specs.Standing.{Standing, held_of}
+use Rattle.event_order.specs.Left.{Counted}
+use Rattle.many_host.specs.Standing.{Standing, TellsLine, held_of}
+use Rattle.many_host.specs.Turns.{HaveMet, Teller}
 use Rattle.many_host.specs.declared.hosted.Hosted.{Hosted}
 use Rattle.many_host.specs.declared.host.Host.{Host}
 
@@ -43,7 +45,9 @@ pub record AreSetUp (ws : List W.Program) (shows : List Show) (xs : List Program
 abbrev pub HostTold : List W.Program → List Detach → List Device → List Line → Host → List Device → Type 0
 HostTold programs detaches ds lines h ds' = Standing follows has_ended memory_of programs detaches ds lines (held_of h.turns) ds' h.turns.stage
 
--- It told one line more; or there is none, and what was told is a whole run of the world, which leaves these devices.
-abbrev pub HostNext : List W.Program → List Detach → List Device → List Line → Host → List Device → Option LineValue → Type 0
-HostNext programs detaches ds lines h ds' result =
-    MatchOption result (ProtocolWorld programs detaches ds lines ds') (λ line. HostTold programs detaches ds (lines ++ line_of line ∷ []) h ds')
+-- It told one line more, with what its call met and took; or there is none, and what was told is a whole run of the world, whose calls
+-- met what the programs' calls did, and which leaves these devices, as they were.
+abbrev pub HostNext : List W.Program → List Detach → List Device → List Line → List Teller → (old left new : List Counted) → Host → List Device → Option LineValue → Type 0
+HostNext programs detaches ds lines tellers old left new h ds' result =
+    MatchOption result ((world : ProtocolWorld programs detaches ds lines ds') × HaveMet tellers world.actors × (new ≡ old))
+    (λ line. TellsLine follows has_ended memory_of programs detaches ds lines tellers left new (line_of line) (held_of h.turns) ds' h.turns.stage)

@@ -10,8 +10,10 @@ use Rattle.wa_model.specs.World.{Device, Look, Program, bytes_shown, is_end, lin
 use Rattle.event_order.specs.declared.shows.Show.{Show}
 use Rattle.event_order.specs.declared.turns.Turn.{Turn}
 use Rattle.event_order.specs.Dues.{HaveEnded}
+use Rattle.event_order.specs.Left.{Counted}
 use Rattle.event_order.specs.Looks.{looks_of}
-use Rattle.many_host.specs.Turns.{Teller, starting, unless, due_of, ends_program, Tells}
+use Rattle.many_host.specs.Calls.{TakesCall}
+use Rattle.many_host.specs.Turns.{MeetMore, Teller, starting, unless, due_of, ends_program, Tells}
 use Rattle.many_host.specs.Notes.{TellsOn}
 use Rattle.many_host.specs.declared.turn_taking.Stage.{Stage}
 use Rattle.many_host.specs.declared.turn_taking.Stage.TheVariants.{Between, Telling, Showing}
@@ -60,18 +62,38 @@ pub record Standing {X : Type 0} (follows : X → Program → List Note → List
   pub detaches_are : h.detaches ≡ detaches
   pub at : StandsAt memory programs detaches ds lines tellers h ds' stage
 
--- All programs have ended, and all their looks are out.
-pub record AllTold {X : Type 0} (follows : X → Program → List Note → List Outcome → List AnswerLine → Type 0) (over : X → Bool) (memory : X → List ℕ)
-    (programs : List Program) (detaches : List Detach) (ds : List Device) (lines : List Line) (h : Held X) (ds' : List Device) : Type 0 where
-  pub stands : Standing follows over memory programs detaches ds lines h ds' Between
-  pub have_ended : HaveEnded h.dues
+-- Lines of some world of programs have been told.
+pub record IsTelling {X : Type 0} (follows : X → Program → List Note → List Outcome → List AnswerLine → Type 0) (over : X → Bool) (memory : X → List ℕ) (h : Held X) (ds' : List Device)
+    (stage : Stage) : Type 0 where
+  pub programs : List Program
+  pub detaches : List Detach
+  pub devices : List Device
+  pub lines : List Line
+  pub stands : Standing follows over memory programs detaches devices lines h ds' stage
 
--- One line more is told, or there is none more.
+-- All programs have ended, which have told and met no more than they had, and all their looks are out; the devices are as they were.
+pub record AllTold {X : Type 0} (follows : X → Program → List Note → List Outcome → List AnswerLine → Type 0) (over : X → Bool) (memory : X → List ℕ)
+    (programs : List Program) (detaches : List Detach) (ds : List Device) (lines : List Line) (tellers : List Teller) (old new : List Counted) (h : Held X) (ds' : List Device) : Type 0 where
+  pub stands : Standing follows over memory programs detaches ds lines h ds' Between
+  pub tellers_are : stands.tellers ≡ tellers
+  pub have_ended : HaveEnded h.dues
+  pub kept : new ≡ old
+
+-- The host tells this line more; its call met these outcomes, and left these devices and counts.
+pub record TellsLine {X : Type 0} (follows : X → Program → List Note → List Outcome → List AnswerLine → Type 0) (over : X → Bool) (memory : X → List ℕ)
+    (programs : List Program) (detaches : List Detach) (ds : List Device) (lines : List Line) (tellers : List Teller) (old new : List Counted) (line : Line) (h : Held X) (ds' : List Device)
+    (stage : Stage) : Type 0 where
+  pub stands : Standing follows over memory programs detaches ds (lines ++ line ∷ []) h ds' stage
+  pub met : List Outcome
+  pub meets : MeetMore line.program met tellers stands.tellers
+  pub takes : TakesCall programs line met old new
+
+-- One line more is told, by devices that were these or, where an event began with it, those that are left; or there is none more.
 abbrev pub TellsNext : {X : Type 0} → (X → Program → List Note → List Outcome → List AnswerLine → Type 0) → (X → Bool) → (X → List ℕ)
-    → List Program → List Detach → List Device → List Line → Turns X → List Device → Option LineValue → Type 0
-TellsNext follows over memory programs detaches ds lines h ds' result =
-    MatchOption result (AllTold follows over memory programs detaches ds lines (held_of h) ds')
-    (λ line. Standing follows over memory programs detaches ds (lines ++ line_of line ∷ []) (held_of h) ds' h.stage)
+    → List Program → List Detach → List Device → List Line → List Teller → (old left new : List Counted) → Turns X → List Device → Option LineValue → Type 0
+TellsNext follows over memory programs detaches ds lines tellers old left new h ds' result =
+    MatchOption result (AllTold follows over memory programs detaches ds lines tellers old new (held_of h) ds')
+    (λ line. TellsLine follows over memory programs detaches ds lines tellers left new (line_of line) (held_of h) ds' h.stage)
 
 -- The programs of a world, of which none has told anything yet.
 pub record AllStart {X : Type 0} (follows : X → Program → List Note → List Outcome → List AnswerLine → Type 0) (over : X → Bool) (shows : List Show) (programs : List Program)

@@ -1,10 +1,11 @@
 -- A world as it is told, turn by turn.
-use Rattle.std.specs.Prelude.{◌≡◌, ℕ, zero, suc, ◌+◌, ◌<◌, List, [], ◌∷◌, ◌++◌, length, map, Option, Some, None, Bool, true, false, ◌||◌, MatchBool, slice_get, slice_set}
+use Rattle.std.specs.Prelude.{◌≡◌, ℕ, zero, suc, ◌+◌, ◌<◌, List, [], ◌∷◌, ◌++◌, length, map, Option, Some, None, Bool, true, false, ◌||◌, if◌then◌else◌, nat_eq, MatchBool, slice_get, slice_set}
 use Rattle.wa_model.specs.declared.answers.Detach.{Detach}
 use Rattle.wa_model.specs.Outside.{AnswerLine, Line}
 use Rattle.wa_model.specs.Plan.{Outcome}
 use Rattle.wa_model.specs.Blocking.{Note}
-use Rattle.wa_model.specs.World.{Device, Program, detached, CallsMeet, ends_turn, is_end, put_off, line_at, events_with_looks, protocol_story}
+use Rattle.wa_model.specs.Behaves.{IsPrefix}
+use Rattle.wa_model.specs.World.{Actor, Device, Program, detached, CallsMeet, ends_turn, is_end, put_off, line_at, events_with_looks, protocol_story}
 use Rattle.event_order.specs.Dues.{IsLeast}
 
 -- What is known of a program: the tick at which it is due, whether it has ended, its answer lines left, the notes that it has
@@ -81,3 +82,14 @@ pub record HasStory (w : Program) (t : Teller) : Type 0 where
   pub more : List Outcome
   pub story : protocol_story w (t.met ++ more) ≡ t.told ++ rest
   pub is_rest : IsRest t.has_ended rest
+
+-- ---- what calls have met
+
+-- Each program's calls have met what they had, and those of the program of this number these outcomes behind.
+abbrev pub MeetMore : (program : ℕ) → List Outcome → (tellers tellers' : List Teller) → Type 0
+MeetMore program met tellers tellers' =
+    (i : ℕ) (t t' : Teller) → slice_get tellers i ≡ Some t → slice_get tellers' i ≡ Some t' → t'.met ≡ t.met ++ (if nat_eq i program then met else [])
+
+-- What each program's calls have met are the first outcomes of its actor.
+abbrev pub HaveMet : List Teller → List Actor → Type 0
+HaveMet tellers actors = (i : ℕ) (t : Teller) (a : Actor) → slice_get tellers i ≡ Some t → slice_get actors i ≡ Some a → IsPrefix t.met a.outcomes

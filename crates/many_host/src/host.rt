@@ -1,14 +1,14 @@
 //! `Host`: several programs on one thread, told line by line.
 
-ghost use Rattle.std.specs.Prelude.{◌≡◌, ◌≤◌, List, [], IfOk, MatchOption, length, map};
+ghost use Rattle.std.specs.Prelude.{◌≡◌, ◌≤◌, List, [], IfOk, IsErr, MatchOption, length, map};
 ghost use Rattle.wa_model.specs.Outside.{Line as WorldLine};
 ghost use Rattle.wa_model.specs.World.{Device, Program as WorldProgram};
 ghost use Rattle.device_port.specs.Listed.{of_all};
 ghost use Rattle.host_laws.specs.Supplies.{IsLent};
 ghost use Rattle.event_order.specs.Dues.{HaveEnded};
-ghost use Rattle.many_host.specs.Calls.{BegunNext, TakesNext, left_at};
-ghost use Rattle.many_host.specs.Standing.{InRange, LooksOut};
-ghost use Rattle.many_host.specs.Hosts.{AreSetUp, HostNext, HostTold};
+ghost use Rattle.many_host.specs.Calls.{BegunNext, left_at, AreLeft};
+ghost use Rattle.many_host.specs.Standing.{InRange, IsTelling, LooksOut, held_of};
+ghost use Rattle.many_host.specs.Hosts.{AreSetUp, HostNext, HostTold, follows, has_ended, memory_of};
 
 use crate::hosted::Hosted;
 use crate::turn_taking::Turns;
@@ -50,16 +50,17 @@ impl<'m> Host<'m> {
     pub fn next(&mut self, devices: &mut Devices<'_>) -> Result<Option<Line>, AllocError>
         requires lent { IsLent }
         requires range { InRange self.old.turns }
+        requires tells { IsTelling follows has_ended memory_of (held_of self.old.turns) (of_all seen devices.old) self.old.turns.stage }
         ensures range { IfOk result (λ line. InRange self.new.turns) }
         ensures same_list { devices.new.list.ghost_name ≡ devices.old.list.ghost_name }
         ensures told { (programs : List WorldProgram) (detaches : List Detach) (ds : List Device) (lines : List WorldLine)
-            → HostTold programs detaches ds lines self.old (of_all seen devices.old)
-            → IfOk result (HostNext programs detaches ds lines self.new (of_all seen devices.new)) }
-        ensures calls { (programs : List WorldProgram) (detaches : List Detach) (ds : List Device) (lines : List WorldLine)
-            → HostTold programs detaches ds lines self.old (of_all seen devices.old)
-            → IfOk result (λ line. TakesNext programs line (of_all (λ d. record { device = seen d; faults = faults d }) devices.old)
+            (told : HostTold programs detaches ds lines self.old (of_all seen devices.old))
+            → IfOk result (HostNext programs detaches ds lines told.tellers (of_all (λ d. record { device = seen d; faults = faults d }) devices.old)
             (left_at self.old.turns.begun self.new.turns.begun detaches (of_all (λ d. record { device = seen d; faults = faults d }) devices.old))
-            (of_all (λ d. record { device = seen d; faults = faults d }) devices.new)) }
+            (of_all (λ d. record { device = seen d; faults = faults d }) devices.new) self.new (of_all seen devices.new)) }
+        ensures left { (programs : List WorldProgram) (detaches : List Detach) (ds : List Device) (lines : List WorldLine)
+            → HostTold programs detaches ds lines self.old (of_all seen devices.old)
+            → IsErr result → AreLeft self.old.turns.begun detaches (of_all seen devices.old) (of_all seen devices.new) }
         ensures none { IfOk result (λ line. MatchOption line (HaveEnded self.old.turns.dues.items × LooksOut self.old.turns.shows.items self.old.turns.stage)
             (λ l. HaveEnded self.old.turns.dues.items → LooksOut self.old.turns.shows.items self.old.turns.stage → ⊥)) }
         ensures begun { IfOk result (λ line. BegunNext self.old.turns.stage self.old.turns.begun self.new.turns.begun line) }

@@ -1,7 +1,8 @@
 //! What an event leads to: when its program is due, and where the host then stands.
 
-ghost use Rattle.std.specs.Prelude.{◌≡◌, IfOk};
+ghost use Rattle.std.specs.Prelude.{◌≡◌, IfOk, IsErr, None};
 ghost use Rattle.wa_model.specs.View.{event_of};
+ghost use Rattle.wa_model.specs.World.{call_in};
 ghost use Rattle.many_host.specs.Standing.{due_behind, stage_behind};
 
 use crate::turn_taking::Stage;
@@ -21,6 +22,7 @@ pub(crate) struct Settled {
 pub(crate) fn settle(turn: Turn, event: &Event) -> Result<Settled, AllocError>
     ensures due { IfOk result (λ b. b.due ≡ due_behind turn.due (event_of event.now)) }
     ensures stage { IfOk result (λ b. b.stage ≡ stage_behind turn (event_of event.now)) }
+    ensures paused { IsErr result → call_in (event_of event.now) ≡ None }
 {
     match event {
         Event::Paused { ticks, .. } => match turn.due.checked_add(u64::from(*ticks)) {

@@ -1,6 +1,6 @@
 //! The trait `Teller`: a program that tells its events one after another.
 
-ghost use Rattle.std.specs.Prelude.{◌≡◌, ℕ, List, Bool, false, IfOk};
+ghost use Rattle.std.specs.Prelude.{◌≡◌, ℕ, List, Bool, false, IfOk, IsErr};
 ghost use Rattle.std.specs.Option.{option_copied};
 ghost use Rattle.wa_model.specs.Outside.{AnswerLine};
 ghost use Rattle.wa_model.specs.Plan.{Outcome};
@@ -29,6 +29,8 @@ pub trait Teller {
     /// Its next event, before its end.
     fn advance(&mut self, devices: &mut Devices<'_>) -> Result<Event, AllocError>
         requires lent { IsLent }
+        requires goes { (w : Program) × (notes : List Note) × (os : List Outcome) × (answers : List AnswerLine) × follows self.old w notes os answers }
+        ensures kept { IsErr result → of_all seen devices.new ≡ of_all seen devices.old }
         ensures same_list { devices.new.list.ghost_name ≡ devices.old.list.ghost_name }
         ensures told { (w : Program) (notes : List Note) (os : List Outcome) (answers : List AnswerLine) → follows self.old w notes os answers → has_ended self.old ≡ false
             → IfOk result (λ event. TellsNote (follows self.new w) (has_ended self.new) (memory self.new) w notes os

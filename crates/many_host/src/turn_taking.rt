@@ -1,14 +1,14 @@
 //! `Turns`: programs that share a list of devices, told line by line.
 
-ghost use Rattle.std.specs.Prelude.{◌≡◌, ◌≤◌, ◌<◌, List, ◌∷◌, [], ◌++◌, IfOk, length, map, MatchOption, Some};
+ghost use Rattle.std.specs.Prelude.{◌≡◌, ◌≤◌, ◌<◌, List, [], IfOk, IsErr, length, map, MatchOption, Some};
 ghost use Rattle.wa_model.specs.Outside.{Line as WorldLine};
 ghost use Rattle.wa_model.specs.View.{line_of};
 ghost use Rattle.wa_model.specs.World.{Device, Program};
 ghost use Rattle.device_port.specs.Listed.{of_all};
 ghost use Rattle.host_laws.specs.Supplies.{IsLent};
 ghost use Rattle.event_order.specs.Dues.{HaveEnded};
-ghost use Rattle.many_host.specs.Calls.{BegunNext, TakesCall, TakesNext, left_at};
-ghost use Rattle.many_host.specs.Standing.{AllStart, AllTold, InRange, LooksOut, Standing, TellsNext, held_of};
+ghost use Rattle.many_host.specs.Calls.{BegunNext, left_at, AreLeft};
+ghost use Rattle.many_host.specs.Standing.{AllStart, InRange, IsTelling, LooksOut, Standing, TellsNext, held_of, TellsLine};
 
 use crate::settling::settle;
 use crate::teller::Teller;
@@ -74,19 +74,20 @@ impl<T: Teller + Drop> Turns<T> {
     pub fn next(&mut self, devices: &mut Devices<'_>) -> Result<Option<Line>, AllocError>
         requires lent { IsLent }
         requires range { InRange self.old }
+        requires tells { IsTelling T.follows T.has_ended T.memory (held_of self.old) (of_all seen devices.old) self.old.stage }
         ensures range { IfOk result (λ line. InRange self.new) }
         ensures same_list { devices.new.list.ghost_name ≡ devices.old.list.ghost_name }
         ensures told { (programs : List Program) (detaches : List Detach) (ds : List Device) (lines : List WorldLine)
-            → Standing T.follows T.has_ended T.memory programs detaches ds lines (held_of self.old) (of_all seen devices.old) self.old.stage
-            → IfOk result (TellsNext T.follows T.has_ended T.memory programs detaches ds lines self.new (of_all seen devices.new)) }
+            (s : Standing T.follows T.has_ended T.memory programs detaches ds lines (held_of self.old) (of_all seen devices.old) self.old.stage)
+            → IfOk result (TellsNext T.follows T.has_ended T.memory programs detaches ds lines s.tellers (of_all (λ d. record { device = seen d; faults = faults d }) devices.old)
+            (left_at self.old.begun self.new.begun detaches (of_all (λ d. record { device = seen d; faults = faults d }) devices.old))
+            (of_all (λ d. record { device = seen d; faults = faults d }) devices.new) self.new (of_all seen devices.new)) }
         ensures none { IfOk result (λ line. MatchOption line (HaveEnded self.old.dues.items × LooksOut self.old.shows.items self.old.stage)
             (λ l. HaveEnded self.old.dues.items → LooksOut self.old.shows.items self.old.stage → ⊥)) }
         ensures begun { IfOk result (λ line. BegunNext self.old.stage self.old.begun self.new.begun line) }
-        ensures calls { (programs : List Program) (detaches : List Detach) (ds : List Device) (lines : List WorldLine)
+        ensures left { (programs : List Program) (detaches : List Detach) (ds : List Device) (lines : List WorldLine)
             → Standing T.follows T.has_ended T.memory programs detaches ds lines (held_of self.old) (of_all seen devices.old) self.old.stage
-            → IfOk result (λ line. TakesNext programs line (of_all (λ d. record { device = seen d; faults = faults d }) devices.old)
-            (left_at self.old.begun self.new.begun detaches (of_all (λ d. record { device = seen d; faults = faults d }) devices.old))
-            (of_all (λ d. record { device = seen d; faults = faults d }) devices.new)) }
+            → IsErr result → AreLeft self.old.begun detaches (of_all seen devices.old) (of_all seen devices.new) }
     {
         match self.stage {
             Stage::Between => self.begin(devices),
@@ -99,18 +100,19 @@ impl<T: Teller + Drop> Turns<T> {
     fn begin(&mut self, devices: &mut Devices<'_>) -> Result<Option<Line>, AllocError>
         requires lent { IsLent }
         requires range { InRange self.old }
+        requires tells { IsTelling T.follows T.has_ended T.memory (held_of self.old) (of_all seen devices.old) Stage.Between }
         ensures range { IfOk result (λ line. InRange self.new) }
         ensures same_list { devices.new.list.ghost_name ≡ devices.old.list.ghost_name }
         ensures told { (programs : List Program) (detaches : List Detach) (ds : List Device) (lines : List WorldLine)
-            → Standing T.follows T.has_ended T.memory programs detaches ds lines (held_of self.old) (of_all seen devices.old) Stage.Between
-            → IfOk result (TellsNext T.follows T.has_ended T.memory programs detaches ds lines self.new (of_all seen devices.new)) }
+            (s : Standing T.follows T.has_ended T.memory programs detaches ds lines (held_of self.old) (of_all seen devices.old) Stage.Between)
+            → IfOk result (TellsNext T.follows T.has_ended T.memory programs detaches ds lines s.tellers (of_all (λ d. record { device = seen d; faults = faults d }) devices.old)
+            (left_at self.old.begun self.new.begun detaches (of_all (λ d. record { device = seen d; faults = faults d }) devices.old))
+            (of_all (λ d. record { device = seen d; faults = faults d }) devices.new) self.new (of_all seen devices.new)) }
         ensures none { IfOk result (λ line. MatchOption line (HaveEnded self.old.dues.items) (λ l. HaveEnded self.old.dues.items → ⊥)) }
         ensures begun { IfOk result (λ line. BegunNext Stage.Between self.old.begun self.new.begun line) }
-        ensures calls { (programs : List Program) (detaches : List Detach) (ds : List Device) (lines : List WorldLine)
+        ensures left { (programs : List Program) (detaches : List Detach) (ds : List Device) (lines : List WorldLine)
             → Standing T.follows T.has_ended T.memory programs detaches ds lines (held_of self.old) (of_all seen devices.old) Stage.Between
-            → IfOk result (λ line. TakesNext programs line (of_all (λ d. record { device = seen d; faults = faults d }) devices.old)
-            (left_at self.old.begun self.new.begun detaches (of_all (λ d. record { device = seen d; faults = faults d }) devices.old))
-            (of_all (λ d. record { device = seen d; faults = faults d }) devices.new)) }
+            → IsErr result → AreLeft self.old.begun detaches (of_all seen devices.old) (of_all seen devices.new) }
     {
         let Some(turn) = next_turn(&self.dues) else {
             return Ok(None);
@@ -129,15 +131,16 @@ impl<T: Teller + Drop> Turns<T> {
         requires few { length self.old.programs.items ≤ 16 }
         requires wide { length self.old.dues.items ≡ length self.old.programs.items }
         requires place { turn.program < length self.old.programs.items }
+        requires tells { IsTelling T.follows T.has_ended T.memory (held_of self.old) (of_all seen devices.old) (Stage.Telling turn) }
         ensures range { IfOk result (λ line. InRange self.new) }
         ensures same_list { devices.new.list.ghost_name ≡ devices.old.list.ghost_name }
         ensures told { (programs : List Program) (detaches : List Detach) (ds : List Device) (lines : List WorldLine)
+            (s : Standing T.follows T.has_ended T.memory programs detaches ds lines (held_of self.old) (of_all seen devices.old) (Stage.Telling turn))
+            → IfOk result (λ line. TellsLine T.follows T.has_ended T.memory programs detaches ds lines s.tellers (of_all (λ d. record { device = seen d; faults = faults d }) devices.old)
+            (of_all (λ d. record { device = seen d; faults = faults d }) devices.new) (line_of line) (held_of self.new) (of_all seen devices.new) self.new.stage) }
+        ensures kept { (programs : List Program) (detaches : List Detach) (ds : List Device) (lines : List WorldLine)
             → Standing T.follows T.has_ended T.memory programs detaches ds lines (held_of self.old) (of_all seen devices.old) (Stage.Telling turn)
-            → IfOk result (λ line. Standing T.follows T.has_ended T.memory programs detaches ds (lines ++ line_of line ∷ []) (held_of self.new) (of_all seen devices.new) self.new.stage) }
-        ensures calls { (programs : List Program) (detaches : List Detach) (ds : List Device) (lines : List WorldLine)
-            → Standing T.follows T.has_ended T.memory programs detaches ds lines (held_of self.old) (of_all seen devices.old) (Stage.Telling turn)
-            → IfOk result (λ line. TakesCall programs (line_of line) (of_all (λ d. record { device = seen d; faults = faults d }) devices.old)
-            (of_all (λ d. record { device = seen d; faults = faults d }) devices.new)) }
+            → IsErr result → of_all seen devices.new ≡ of_all seen devices.old }
         ensures begun { self.new.begun ≡ self.old.begun }
     {
         let event = self.programs[turn.program].advance(devices)?;
@@ -161,19 +164,20 @@ impl<T: Teller + Drop> Turns<T> {
         requires lent { IsLent }
         requires range { InRange self.old }
         requires place { turn.program < length self.old.programs.items }
+        requires tells { IsTelling T.follows T.has_ended T.memory (held_of self.old) (of_all seen devices.old) (Stage.Showing turn from) }
         ensures range { IfOk result (λ line. InRange self.new) }
         ensures same_list { devices.new.list.ghost_name ≡ devices.old.list.ghost_name }
         ensures told { (programs : List Program) (detaches : List Detach) (ds : List Device) (lines : List WorldLine)
-            → Standing T.follows T.has_ended T.memory programs detaches ds lines (held_of self.old) (of_all seen devices.old) (Stage.Showing turn from)
-            → IfOk result (TellsNext T.follows T.has_ended T.memory programs detaches ds lines self.new (of_all seen devices.new)) }
+            (s : Standing T.follows T.has_ended T.memory programs detaches ds lines (held_of self.old) (of_all seen devices.old) (Stage.Showing turn from))
+            → IfOk result (TellsNext T.follows T.has_ended T.memory programs detaches ds lines s.tellers (of_all (λ d. record { device = seen d; faults = faults d }) devices.old)
+            (left_at self.old.begun self.new.begun detaches (of_all (λ d. record { device = seen d; faults = faults d }) devices.old))
+            (of_all (λ d. record { device = seen d; faults = faults d }) devices.new) self.new (of_all seen devices.new)) }
         ensures none { IfOk result (λ line. MatchOption line (HaveEnded self.old.dues.items × LooksOut self.old.shows.items (Stage.Showing turn from))
             (λ l. HaveEnded self.old.dues.items → LooksOut self.old.shows.items (Stage.Showing turn from) → ⊥)) }
         ensures begun { IfOk result (λ line. BegunNext (Stage.Showing turn from) self.old.begun self.new.begun line) }
-        ensures calls { (programs : List Program) (detaches : List Detach) (ds : List Device) (lines : List WorldLine)
+        ensures left { (programs : List Program) (detaches : List Detach) (ds : List Device) (lines : List WorldLine)
             → Standing T.follows T.has_ended T.memory programs detaches ds lines (held_of self.old) (of_all seen devices.old) (Stage.Showing turn from)
-            → IfOk result (λ line. TakesNext programs line (of_all (λ d. record { device = seen d; faults = faults d }) devices.old)
-            (left_at self.old.begun self.new.begun detaches (of_all (λ d. record { device = seen d; faults = faults d }) devices.old))
-            (of_all (λ d. record { device = seen d; faults = faults d }) devices.new)) }
+            → IsErr result → AreLeft self.old.begun detaches (of_all seen devices.old) (of_all seen devices.new) }
     {
         let program = turn.program as u32;
         let Some(place) = next_show(&self.shows, from, program) else {

@@ -43,7 +43,7 @@ use Rattle.pause_host.proofs.Comings.{fits_on}
 use Rattle.pause_host.specs.declared.program.Program.{Program}
 use Rattle.pause_host.specs.declared.program.State.{State}
 use Rattle.pause_host.specs.declared.program.State.TheVariants.{Live}
-use Rattle.pause_host.specs.Programs.{place_of, store_of, memory_at, memory_in, end_at, end_in, ended_as, RunsCode, lines_left, FollowsAt, Follows, Advances, FollowsAlone, AdvancesAlone}
+use Rattle.pause_host.specs.Programs.{place_of, store_of, memory_at, memory_in, end_at, end_in, ended_as, RunsCode, lines_left, FollowsAt, Follows, OnItsWay, IsOnItsWay, Advances, FollowsAlone, AdvancesAlone}
 
 no_end : (e : Event) → is_end e ≡ false → end_in e ≡ None
 no_end (called c) h = refl
@@ -227,6 +227,23 @@ memory_told w x instance stage is code = by_test (nat_lt 0 (length (all_memories
 -- the same of a program in another state
 pub in_state : (w : W.Program) (notes : List Note) (os : List Outcome) (x : Program) (st : State) (place : Place) → FollowsAt w notes os x place → FollowsAt w notes os (record x { state = st }) place
 in_state w notes os x st place f = record { source = f.source; setting = f.setting; globals = f.globals; pokes = f.pokes; fits = f.fits; told = f.told }
+
+-- who follows a program is on its way
+pub on_its_way_by : (w : W.Program) (notes : List Note) (os : List Outcome) (x : Program) → Follows w notes os x → IsOnItsWay x
+on_its_way_by w notes os x f = record { program = w; notes = notes; outcomes = os; at = f.at; code = f.code }
+
+pub alone_on_its_way : (w : W.Program) (notes : List Note) (x : Program) → FollowsAlone w notes x → IsOnItsWay x
+alone_on_its_way w notes x f = on_its_way_by w notes f.outcomes x f.follows
+
+-- so it is on its way in another state
+pub on_its_way : (x : Program) (dest st : State) → x.state ≡ st → IsOnItsWay x → OnItsWay (record x { state = dest }) (place_of x st) st
+on_its_way x dest st is h = record {
+  program = h.program;
+  notes = h.notes;
+  outcomes = h.outcomes;
+  at = in_state h.program h.notes h.outcomes x dest (place_of x st) (subst (λ z. FollowsAt h.program h.notes h.outcomes x (place_of x z)) is h.at);
+  code = subst (RunsCode h.program.source) is h.code;
+}
 
 -- an end that is told without an instance
 pub failed_moves : (w : W.Program) (left : ℕ) (supply : Supply) (end told : End) → told ≡ end

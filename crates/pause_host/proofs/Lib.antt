@@ -4,6 +4,7 @@ pub mod Beginning
 pub mod Binds
 pub mod Comings
 pub mod Fronts
+pub mod Hosting
 pub mod Making
 pub mod Outcomes
 pub mod Parts

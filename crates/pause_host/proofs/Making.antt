@@ -4,6 +4,7 @@ use Rattle.std.specs.Prelude.{◌&&◌, nat_lt, slice_get, codes, position}
 use Rattle.std.specs.List.{find, filter_map, cons_option, list_all, prefix_len, position_or_len}
 use Rattle.std.specs.Option.{is_none, unwrap_or}
 use Rattle.std.proofs.lemmas.Bool.{leb-true, ltb-false, ltb-true}
+use Rattle.std.proofs.lemmas.List.{length-map}
 use Rattle.std.proofs.lemmas.List.Elements.{All-nil, All-cons}
 use Rattle.std.proofs.lemmas.List.Folds.{list_all-append}
 use Rattle.std.specs.Option.{option_to_list}
@@ -230,3 +231,9 @@ module _ (p : Module) (v : Valid p) where
                 (none_passes (is_imported (func_imports p)) (entry_funcs p es) (no_fault_at entry_is_import (position (is_imported (func_imports p)) (entry_funcs p es)) four.0))
                 (none_passes (λ (t : Bool). not t) (have_args p es) (no_fault_at arg_types (first_false (have_args p es)) four.1)));
           }
+
+  -- one function for each entry
+  pub funcs_many : (area : Area) (es : List NamedEntry) (funcs : List ℕ) → set_up p area es ≡ Ok funcs → length funcs ≡ length es
+  funcs_many area es funcs e =
+      ap (λ (fs : List ℕ). length fs) (set_up_fine area es funcs e).funcs_are ∙ length-map (entry_funcs p es) (λ (f : Option ℕ). unwrap_or f 0)
+      ∙ length-map es (λ (y : NamedEntry). entry_func p y.name)

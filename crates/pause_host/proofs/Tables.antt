@@ -10,30 +10,35 @@ use Rattle.wa_model.specs.Store.{Store, with_memory}
 use Rattle.wa_model.specs.Blocking.{poked, poked_memory}
 use Rattle.wa_model.specs.View.{poke_of}
 use Rattle.std.specs.Option.{option_map, option_to_list, unwrap_or}
-use Rattle.std.proofs.lemmas.Option.{slice_get_read, slice_get-map}
+use Rattle.std.proofs.lemmas.Option.{slice_get-get_or, slice_get_read, slice_get-map}
 use Rattle.std.proofs.lemmas.List.Elements.{All-head}
 use Rattle.wa_types.specs.Syntax.{Module}
 use Rattle.wa_types.specs.Modules.{all_memories}
-use Rattle.wa_types.specs.Validity.{same_name}
+use Rattle.wa_types.specs.Validity.{Valid, same_name}
 use Rattle.wa_model.specs.declared.events.End.TheVariants.{NoAnswer, OtherImport}
 use Rattle.wa_model.specs.Plan.{given, refused}
 use Rattle.interp.specs.Host.{memory_of}
 use Rattle.host_laws.specs.Answering.{IsShort}
-use Rattle.wa_types.specs.declared.values.ValType.{ValType}
+use Rattle.wa_types.specs.declared.values.Value.{Value}
 use Rattle.wa_model.specs.Step.{zero_of}
+use Rattle.run_theory.specs.Fitting.{types_of, results_of}
+use Rattle.run_theory.proofs.FittingNames.{results_are}
 use Rattle.wa_model.specs.Protocol.{zeros_of}
 use Rattle.wa_model.specs.World.{Program, import_names, name_at, MeetsLine}
 use Rattle.pause_host.specs.declared.stages.HostImport.{HostImport}
 use Rattle.pause_host.specs.declared.stages.Setting.{Setting}
 use Rattle.pause_host.specs.Moves.{IsSetting, HasShortPokes}
 
+-- what is read at a place stands there
+pub stands_at : {X : Type 0} (xs : List X) (i : ℕ) (x : X) → i < length xs → x ≡ get_or xs i x → slice_get xs i ≡ Some x
+stands_at {X} xs i x lt is = slice_get-get_or xs i x lt ∙ ap (λ (y : X). Some y) (sym is)
+
 pub found_at : {X : Type 0} (xs ys : List X) (i : ℕ) (x : X) → xs ≡ ys → i < length xs → x ≡ slice_index_or xs i x → slice_get ys i ≡ Some x
 found_at xs ys i x e lt at = ap (λ zs. slice_get zs i) (sym e) ∙ slice_get_read xs (length xs) i x refl lt at
 
--- the zero of an import's result
-pub zero_told : (w : Program) (x : Setting) (import : ℕ) (i : HostImport) (r : Option ValType) → IsSetting w x → slice_get x.imports.items import ≡ Some i → i.result ≡ r
-    → map zero_of (option_to_list r) ≡ zeros_of w.source import
-zero_told w x import i r is at e = sym (ap (map zero_of) (is.results import i at ∙ ap option_to_list e))
+-- a zero of an answer's type is one of the import's result
+pub zero_told : (p : Module) → Valid p → (import : ℕ) (value : Option Value) → types_of (option_to_list value) ≡ results_of p import → map zero_of (types_of (option_to_list value)) ≡ zeros_of p import
+zero_told p v import value e = ap (map zero_of) (e ∙ results_are p v import)
 
 pub eq_true : (a b : ℕ) → a ≡ b → nat_eq a b ≡ true
 eq_true a b e = grind (arith, nat_tests)

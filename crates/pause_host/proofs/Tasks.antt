@@ -25,7 +25,7 @@ use Rattle.run_theory.proofs.FittingNames.{not_defined}
 use Rattle.interp.specs.declared.turns.Turn.{Turn}
 use Rattle.interp.specs.declared.turns.Turn.TheVariants.{Returned, Trapped, Waiting, StepsSpent}
 use Rattle.interp.specs.Instance as I
-use Rattle.interp.specs.Instance.{Waits, Turns, Calls, CallsAs}
+use Rattle.interp.specs.Instance.{Waits, Turns, Calls, CallsAs, IsCall}
 use Rattle.host_laws.specs.Supplies.{Supply}
 use Rattle.host_laws.specs.Stretch.{meeting, Stretch}
 use Rattle.host_laws.specs.Places.{stands, goes_on, ends}
@@ -33,6 +33,7 @@ use Rattle.host_laws.proofs.Stretches.{compose, on_last, nowhere_on}
 use Rattle.pause_host.specs.declared.stages.Moved.{Moved}
 use Rattle.pause_host.specs.declared.stages.Stage.TheVariants as S
 use Rattle.pause_host.specs.Views.{place_in, free_place}
+use Rattle.pause_host.specs.Hosting.{AsksOnly}
 use Rattle.pause_host.specs.Moves.{Comes, ComesFrom, EndsAt, at_spent, Asks, TaskTurn, runs_on, too_dear}
 use Rattle.pause_host.proofs.Ways.{returns_by, asks_by, busy_last, busy_goes, asked_dear}
 use Rattle.pause_host.proofs.Pauses.{CallsIn, calls_in, ends_behind, turn_trapped, turn_spent}
@@ -234,6 +235,20 @@ module _ (w : Program) where
               },
               omega (arith, k.cost),
             )
+
+    -- it doesn't return or trap
+    pub import_stops : (t : Turn) → Calls p s f [] left used t s' w' → AsksOnly (func_imports p) t
+    import_stops t h = by_cost (nat_le left 0) (called_as t h)
+      where
+        by_call : (u : Turn) → IsCall u f [] → AsksOnly (func_imports p) u
+        by_call (Returned v) k = k
+        by_call (Trapped trap) k = k
+        by_call (Waiting call) k = subst (λ (n : ℕ). n < func_imports p) (sym k.0) lt
+        by_call StepsSpent k = tt
+
+        by_cost : (b : Bool) → Asked b t → AsksOnly (func_imports p) t
+        by_cost true k = subst (AsksOnly (func_imports p)) (sym k.turn_is) tt
+        by_cost false k = by_call t k.call
 
     pub import_spent : Calls p s f [] left used StepsSpent s' w' → EndsAt w (starting f s l) left used (E.StepsSpent w.steps) s'
     import_spent h = by_cost (nat_le left 0) refl (called_as StepsSpent h)

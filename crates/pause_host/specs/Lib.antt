@@ -1,3 +1,4 @@
+pub mod Hosting
 pub mod Moves
 pub mod Programs
 pub mod Settings

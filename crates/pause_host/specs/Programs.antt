@@ -144,6 +144,18 @@ pub record Follows (w : W.Program) (notes : List Note) (os : List Outcome) (x : 
   pub at : FollowsAt w notes os x (place_of x x.state)
   pub code : RunsCode w.source x.state
 
+-- A program is on its way at this place, in this state: it has told what some program of a world tells.
+pub record OnItsWay (x : Program) (place : Place) (state : State) : Type 0 where
+  pub program : W.Program
+  pub notes : List Note
+  pub outcomes : List Outcome
+  pub at : FollowsAt program notes outcomes x place
+  pub code : RunsCode program.source state
+
+-- It was made of a plan, and has told its next event at each call since.
+abbrev pub IsOnItsWay : Program → Type 0
+IsOnItsWay x = OnItsWay x (place_of x x.state) x.state
+
 -- It told one note more, with this event, and a new call met an outcome as a world has it, by what answers calls before and behind
 -- it; the instance has that note's store; and where the event is its end, it has ended so.
 pub record Advances (w : W.Program) (notes : List Note) (os : List Outcome) (event : EventValue) (old new : Supply) (x : Program) : Type 0 where

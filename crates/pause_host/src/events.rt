@@ -1,9 +1,11 @@
 //! The next event of a program, by the stage where it stands.
 
-ghost use Rattle.std.specs.Prelude.{◌≡◌, ◌<◌, ◌≤◌, ◌+◌, ◌-◌, ◌^◌, All, IfOk, None};
+ghost use Rattle.std.specs.Prelude.{◌≡◌, ◌<◌, ◌≤◌, ◌+◌, ◌-◌, ◌^◌, All, IfOk, IsErr, None};
 ghost use Rattle.wa_model.specs.Protocol.{exports_of};
 ghost use Rattle.wa_model.specs.World.{Program};
 ghost use Rattle.interp.specs.Host.{code_in, store_in, waits_in};
+ghost use Rattle.device_port.specs.Listed.{of_all};
+ghost use Rattle.pause_host.specs.Hosting.{HostsAt};
 ghost use Rattle.pause_host.specs.Moves.{ComesFrom, HasShortPokes, IsSetting, PlaceFits};
 ghost use Rattle.pause_host.specs.Views.{end_of, left_of, lines_in, place_in, supply_in};
 
@@ -28,7 +30,8 @@ pub fn next_event(
     steps: &mut Steps,
     stage: Stage,
 ) -> Result<Moved, AllocError>
-    requires { steps.old.left + steps.old.used < 2 ^ 64 }
+    requires few { steps.old.left + steps.old.used < 2 ^ 64 }
+    requires there { HostsAt setting.now (code_in instance.old) (λ w. place_in (exports_of w.source) w.plan.area (left_of left.old) (store_in instance.old) (waits_in instance.old) stage) }
     ensures comes { (w : Program) → IsSetting w setting.now → code_in instance.old ≡ w.source → All HasShortPokes (lines_in answers.old.items)
         → PlaceFits w (place_in (exports_of w.source) w.plan.area (left_of left.old) (store_in instance.old) (waits_in instance.old) stage) → end_of stage ≡ None
         → IfOk result (λ m. ComesFrom w (place_in (exports_of w.source) w.plan.area (left_of left.old) (store_in instance.old) (waits_in instance.old) stage) steps.old.left
@@ -37,6 +40,7 @@ pub fn next_event(
     ensures code { code_in instance.new ≡ code_in instance.old }
     ensures sum { steps.new.left + steps.new.used ≡ steps.old.left + steps.old.used }
     ensures grows { steps.old.used ≤ steps.new.used }
+    ensures kept { IsErr result → of_all seen devices.new ≡ of_all seen devices.old }
     ensures same_list { devices.new.list.ghost_name ≡ devices.old.list.ghost_name }
 {
     match stage {

@@ -1,6 +1,6 @@
 //! `Program`: a plan over a prepared module, advanced from event to event.
 
-ghost use Rattle.std.specs.Prelude.{◌≡◌, ◌<◌, ◌≤◌, ◌+◌, ◌++◌, ◌^◌, [], ◌∷◌, ℕ, List, IfOk, IfErr, None, Some, length, map};
+ghost use Rattle.std.specs.Prelude.{◌≡◌, ◌<◌, ◌≤◌, ◌+◌, ◌++◌, ◌^◌, [], ◌∷◌, ℕ, List, IfOk, IsErr, IfErr, None, Some, length, map};
 ghost use Rattle.std.specs.Option.{option_copied};
 ghost use Rattle.wa_model.specs.World.{bytes_shown};
 
@@ -60,7 +60,7 @@ impl<'m> Program<'m> {
     ghost use Rattle.host_laws.specs.Places.{stands};
     ghost use Rattle.host_laws.specs.Supplies.{IsLent};
     ghost use Rattle.pause_host.specs.Views.{end_of, left_of};
-    ghost use Rattle.pause_host.specs.Programs.{Advances, AdvancesAlone, Follows, FollowsAlone, FollowsAt, IsPlan, RunsCode, SetsUp, ended_as, memory_in, place_of, supply_of, supply_with};
+    ghost use Rattle.pause_host.specs.Programs.{Advances, AdvancesAlone, Follows, FollowsAlone, FollowsAt, IsOnItsWay, IsPlan, OnItsWay, RunsCode, SetsUp, ended_as, memory_in, place_of, supply_of, supply_with};
 
     /// A program of a plan, before its instantiation, or the first fault of the plan.
     pub fn new(alloc: Global, plan: Plan<'m>) -> Result<Program<'m>, SetupFault>
@@ -95,22 +95,25 @@ impl<'m> Program<'m> {
     /// that name, once, and any other new call takes an answer line. After the end it is the end again, and no device is asked.
     /// After want of memory it isn't called again.
     pub fn advance(&mut self, devices: &mut Devices<'_>) -> Result<Event, AllocError>
-        requires { IsLent }
+        requires lent { IsLent }
+        requires goes { IsOnItsWay self.old }
         ensures next { (w : WorldProgram) (notes : List Note) (os : List Outcome) → Follows w notes os self.old → ended_as self.old ≡ None
             → IfOk result (λ event. Advances w notes os event (supply_of seen faults self.old devices.old) (supply_of seen faults self.new devices.new) self.new) }
         ensures again { (how : End) → ended_as self.old ≡ Some how → IfOk result (λ event. (event_of event ≡ ended how) × (self.new ≡ self.old) × (devices.new ≡ devices.old)) }
+        ensures kept { IsErr result → of_all seen devices.new ≡ of_all seen devices.old }
         ensures same_list { devices.new.list.ghost_name ≡ devices.old.list.ghost_name }
     {
         match mem::replace(&mut self.state, State::Lost) {
             State::Fresh => self.open(devices),
             State::Live { instance, stage } => self.live(instance, stage, devices),
             State::Failed(end) => self.fail(end),
-            State::Lost => Err(AllocError),
+            State::Lost => unreachable!(),
         }
     }
 
     /// The next event of a program that is alone, without devices.
     pub fn advance_alone(&mut self) -> Result<Event, AllocError>
+        requires { IsOnItsWay self.old }
         ensures next { (w : WorldProgram) (notes : List Note) → FollowsAlone w notes self.old → ended_as self.old ≡ None → IfOk result (λ event. AdvancesAlone w notes event self.new) }
         ensures again { (how : End) → ended_as self.old ≡ Some how → IfOk result (λ event. (event_of event ≡ ended how) × (self.new ≡ self.old)) }
     {
@@ -120,8 +123,10 @@ impl<'m> Program<'m> {
 
     // The module is instantiated, and its start function called where it has one.
     fn open(&mut self, devices: &mut Devices<'_>) -> Result<Event, AllocError>
+        requires { OnItsWay self.old (place_of self.old State.Fresh) State.Fresh }
         ensures next { (w : WorldProgram) (notes : List Note) (os : List Outcome) → FollowsAt w notes os self.old (place_of self.old State.Fresh)
             → IfOk result (λ event. Advances w notes os event (supply_of seen faults self.old devices.old) (supply_of seen faults self.new devices.new) self.new) }
+        ensures kept { IsErr result → of_all seen devices.new ≡ of_all seen devices.old }
         ensures same_list { devices.new.list.ghost_name ≡ devices.old.list.ghost_name }
     {
         match Instance::make(self.setting.alloc, self.valid, &self.globals) {
@@ -135,9 +140,13 @@ impl<'m> Program<'m> {
         instance: Instance<'m>,
         devices: &mut Devices<'_>,
     ) -> Result<Event, AllocError>
+        requires code { code_in instance ≡ module_of self.old.valid.now }
+        requires store { opening (module_of self.old.valid.now) self.old.globals.items ≡ opens (store_in instance) }
+        requires goes { OnItsWay self.old (place_of self.old State.Fresh) State.Fresh }
         ensures next { (w : WorldProgram) (notes : List Note) (os : List Outcome) → code_in instance.entry ≡ module_of self.old.valid.now
             → opening (module_of self.old.valid.now) self.old.globals.items ≡ opens (store_in instance.entry) → FollowsAt w notes os self.old (place_of self.old State.Fresh)
             → IfOk result (λ event. Advances w notes os event (supply_of seen faults self.old devices.old) (supply_of seen faults self.new devices.new) self.new) }
+        ensures kept { IsErr result → of_all seen devices.new ≡ of_all seen devices.old }
         ensures same_list { devices.new.list.ghost_name ≡ devices.old.list.ghost_name }
     {
         match self.valid.module().start {
@@ -179,11 +188,13 @@ impl<'m> Program<'m> {
         stage: Stage,
         devices: &mut Devices<'_>,
     ) -> Result<Event, AllocError>
+        requires { OnItsWay self.old (place_of self.old (State.Live instance stage)) (State.Live instance stage) }
         ensures next { (w : WorldProgram) (notes : List Note) (os : List Outcome) → FollowsAt w notes os self.old (place_of self.old (State.Live instance.entry stage))
             → RunsCode w.source (State.Live instance.entry stage) → end_of stage ≡ None
             → IfOk result (λ event. Advances w notes os event (supply_of seen faults self.old devices.old) (supply_of seen faults self.new devices.new) self.new) }
         ensures again { (how : End) → end_of stage ≡ Some how → IfOk result (λ event. (event_of event ≡ ended how)
             × (self.new ≡ record self.old { state = (State.Live instance.entry stage) }) × (devices.new ≡ devices.old)) }
+        ensures kept { IsErr result → of_all seen devices.new ≡ of_all seen devices.old }
         ensures same_list { devices.new.list.ghost_name ≡ devices.old.list.ghost_name }
     {
         match stage {
@@ -209,9 +220,11 @@ impl<'m> Program<'m> {
         stage: Stage,
         devices: &mut Devices<'_>,
     ) -> Result<Event, AllocError>
+        requires { OnItsWay self.old (place_of self.old (State.Live instance stage)) (State.Live instance stage) }
         ensures next { (w : WorldProgram) (notes : List Note) (os : List Outcome) → FollowsAt w notes os self.old (place_of self.old (State.Live instance.entry stage))
             → RunsCode w.source (State.Live instance.entry stage) → end_of stage ≡ None
             → IfOk result (λ event. Advances w notes os event (supply_of seen faults self.old devices.old) (supply_of seen faults self.new devices.new) self.new) }
+        ensures kept { IsErr result → of_all seen devices.new ≡ of_all seen devices.old }
         ensures same_list { devices.new.list.ghost_name ≡ devices.old.list.ghost_name }
     {
         let mut steps = unused(self.steps_left);
@@ -237,9 +250,11 @@ impl<'m> Program<'m> {
         func: u32,
         devices: &mut Devices<'_>,
     ) -> Result<Event, AllocError>
+        requires { OnItsWay self.old (stands [] (starting func (store_in instance) (left_of self.old.left))) (State.Live instance Stage.Free) }
         ensures next { (w : WorldProgram) (notes : List Note) (os : List Outcome) → code_in instance.entry ≡ w.source
             → FollowsAt w notes os self.old (stands [] (starting func (store_in instance.entry) (left_of self.old.left)))
             → IfOk result (λ event. Advances w notes os event (supply_of seen faults self.old devices.old) (supply_of seen faults self.new devices.new) self.new) }
+        ensures kept { IsErr result → of_all seen devices.new ≡ of_all seen devices.old }
         ensures same_list { devices.new.list.ghost_name ≡ devices.old.list.ghost_name }
     {
         let mut steps = unused(self.steps_left);

@@ -1,6 +1,6 @@
 //! What comes of each stage but the pauses: the start function, entries, and calls of imports with their answers.
 
-ghost use Rattle.std.specs.Prelude.{◌≡◌, ◌<◌, ◌≤◌, ◌+◌, ◌-◌, ◌^◌, ℕ, List, [], ◌∷◌, All, IfOk, OnOk, None, map, slice_get};
+ghost use Rattle.std.specs.Prelude.{◌≡◌, ◌<◌, ◌≤◌, ◌+◌, ◌-◌, ◌^◌, ℕ, List, [], ◌∷◌, All, IfOk, IsErr, OnOk, None, map, slice_get, length};
 ghost use Rattle.std.specs.Option.{option_map, option_to_list};
 ghost use Rattle.wa_types.specs.Modules.{func_imports};
 ghost use Rattle.wa_model.specs.Store.{Store};
@@ -11,8 +11,11 @@ ghost use Rattle.wa_model.specs.World.{Program};
 ghost use Rattle.run_laws.specs.FittingStates.{HeldFits};
 ghost use Rattle.interp.specs.Host.{code_in, store_in, waits_in};
 ghost use Rattle.interp.specs.Instance.{Calls};
+ghost use Rattle.device_port.specs.Listed.{of_all};
 ghost use Rattle.host_laws.specs.Answering.{IsShort, listed_of};
+ghost use Rattle.host_laws.specs.Places.{stands};
 ghost use Rattle.host_laws.specs.Supplies.{Supply};
+ghost use Rattle.pause_host.specs.Hosting.{AsksOnly, CallsOne, HasMemory, HostsAt, StartRan, StopsFirst};
 ghost use Rattle.pause_host.specs.Moves.{Asks, Comes, ComesFrom, HasShortPokes, IsAsking, IsSetting, IsTask, PlaceFits, TaskTurn};
 ghost use Rattle.pause_host.specs.Views.{entry_of, free_place, left_of, lines_in, place_in, stage_after, stage_told, starts, supply_in};
 
@@ -38,7 +41,8 @@ pub fn start(
     steps: &mut Steps,
     func: u32,
 ) -> Result<Moved, AllocError>
-    requires { steps.old.left + steps.old.used < 2 ^ 64 }
+    requires few { steps.old.left + steps.old.used < 2 ^ 64 }
+    requires there { HostsAt setting.now (code_in instance.old) (λ w. stands [] (starting func (store_in instance.old) (left_of left.old))) }
     ensures comes { (w : Program) → IsSetting w setting.now → code_in instance.old ≡ w.source → All HasShortPokes (lines_in answers.old.items)
         → HeldFits w.source (starting func (store_in instance.old) (left_of left.old))
         → IfOk result (λ m. Comes w (starting func (store_in instance.old) (left_of left.old)) steps.old.left (steps.new.used - steps.old.used) m
@@ -46,6 +50,7 @@ pub fn start(
     ensures code { code_in instance.new ≡ code_in instance.old }
     ensures sum { steps.new.left + steps.new.used ≡ steps.old.left + steps.old.used }
     ensures grows { steps.old.used ≤ steps.new.used }
+    ensures kept { IsErr result → of_all seen devices.new ≡ of_all seen devices.old }
     ensures same_list { devices.new.list.ghost_name ≡ devices.old.list.ghost_name }
 {
     let turn = instance.begin(func, &[], steps)?;
@@ -63,14 +68,19 @@ fn start_asked(
     devices: &mut Devices<'_>,
     turn: Turn,
 ) -> Result<Moved, AllocError>
+    requires turn { AsksOnly (length setting.now.imports.items) turn }
+    requires memory { HasMemory (code_in instance.now) }
     ensures comes { (w : Program) → IsSetting w setting.now → code_in instance.now ≡ w.source → All HasShortPokes (lines_in answers.old.items)
         → (s : Store) (func : ℕ) (l : PlainLeft) (left_then used : ℕ) → func < func_imports w.source
         → Calls w.source s func [] left_then used turn (store_in instance.now) (waits_in instance.now)
         → IfOk result (λ m. Comes w (starting func s l) left_then used m (supply_in seen faults answers.old.items devices.old) (supply_in seen faults answers.new.items devices.new) l
         (store_in instance.now) (waits_in instance.now)) }
+    ensures kept { IsErr result → of_all seen devices.new ≡ of_all seen devices.old }
     ensures same_list { devices.new.list.ghost_name ≡ devices.old.list.ghost_name }
 {
     match turn {
+        Turn::Returned(_) => unreachable!(),
+        Turn::Trapped(_) => unreachable!(),
         Turn::Waiting(call) => return called(
             setting,
             instance,
@@ -80,7 +90,6 @@ fn start_asked(
             call,
         ),
         Turn::StepsSpent => return ended(setting.alloc, End::StepsSpent(setting.steps)),
-        _ => return Err(AllocError),
     }
 }
 
@@ -94,7 +103,9 @@ fn start_ran(
     steps: &mut Steps,
     turn: Turn,
 ) -> Result<Moved, AllocError>
-    requires { steps.old.left + steps.old.used < 2 ^ 64 }
+    requires few { steps.old.left + steps.old.used < 2 ^ 64 }
+    requires memory { HasMemory (code_in instance.old) }
+    requires turn { StartRan setting.now (code_in instance.old) (left_of left.old) turn (store_in instance.old) }
     ensures comes { (w : Program) → IsSetting w setting.now → code_in instance.old ≡ w.source → All HasShortPokes (lines_in answers.old.items) → (h : Held) (left_then used : ℕ)
         → TaskTurn w h (left_of left.old) the_start left_then used turn (store_in instance.old) (waits_in instance.old) → steps.old.left + used ≡ left_then → HeldFits w.source h
         → IfOk result (λ m. Comes w h left_then (used + (steps.new.used - steps.old.used)) m (supply_in seen faults answers.old.items devices.old)
@@ -102,6 +113,7 @@ fn start_ran(
     ensures code { code_in instance.new ≡ code_in instance.old }
     ensures sum { steps.new.left + steps.new.used ≡ steps.old.left + steps.old.used }
     ensures grows { steps.old.used ≤ steps.new.used }
+    ensures kept { IsErr result → of_all seen devices.new ≡ of_all seen devices.old }
     ensures same_list { devices.new.list.ghost_name ≡ devices.old.list.ghost_name }
 {
     match turn {
@@ -119,7 +131,8 @@ pub(crate) fn call_next(
     devices: &mut Devices<'_>,
     steps: &mut Steps,
 ) -> Result<Moved, AllocError>
-    requires { steps.old.left + steps.old.used < 2 ^ 64 }
+    requires few { steps.old.left + steps.old.used < 2 ^ 64 }
+    requires there { HostsAt setting.now (code_in instance.old) (λ w. free_place (left_of left.old) (store_in instance.old)) }
     ensures comes { (w : Program) → IsSetting w setting.now → code_in instance.old ≡ w.source → All HasShortPokes (lines_in answers.old.items)
         → PlaceFits w (free_place (left_of left.old) (store_in instance.old)) → IfOk result
         (λ m. ComesFrom w (free_place (left_of left.old) (store_in instance.old)) steps.old.left (steps.new.used - steps.old.used) m (supply_in seen faults answers.old.items devices.old)
@@ -127,6 +140,7 @@ pub(crate) fn call_next(
     ensures code { code_in instance.new ≡ code_in instance.old }
     ensures sum { steps.new.left + steps.new.used ≡ steps.old.left + steps.old.used }
     ensures grows { steps.old.used ≤ steps.new.used }
+    ensures kept { IsErr result → of_all seen devices.new ≡ of_all seen devices.old }
     ensures same_list { devices.new.list.ghost_name ≡ devices.old.list.ghost_name }
 {
     match left.entries.pop_front() {
@@ -148,10 +162,13 @@ fn entry_ran(
     entry: EntryCall,
     turn: Turn,
 ) -> Result<Moved, AllocError>
+    requires memory { HasMemory (code_in instance.now) }
+    requires turn { CallsOne (length setting.now.imports.items) turn }
     ensures comes { (w : Program) → IsSetting w setting.now → code_in instance.now ≡ w.source → All HasShortPokes (lines_in answers.old.items) → (h : Held) (left_then used : ℕ)
         → TaskTurn w h (left_of left.old) (an_entry (entry_of entry)) left_then used turn (store_in instance.now) (waits_in instance.now)
         → IfOk result (λ m. Comes w h left_then used m (supply_in seen faults answers.old.items devices.old) (supply_in seen faults answers.new.items devices.new) (left_of left.new)
         (store_in instance.now) (waits_in instance.now)) }
+    ensures kept { IsErr result → of_all seen devices.new ≡ of_all seen devices.old }
     ensures same_list { devices.new.list.ghost_name ≡ devices.old.list.ghost_name }
 {
     match turn {
@@ -192,14 +209,17 @@ fn stopped(
     task: Task,
     turn: Turn,
 ) -> Result<Moved, AllocError>
+    requires memory { HasMemory (code_in instance.now) }
+    requires turn { StopsFirst (length setting.now.imports.items) turn }
     ensures comes { (w : Program) → IsSetting w setting.now → code_in instance.now ≡ w.source → All HasShortPokes (lines_in answers.old.items)
         → (t : PlainTask) (h : Held) (l : PlainLeft) (left_then used : ℕ) → IsTask task t → TaskTurn w h l t left_then used turn (store_in instance.now) (waits_in instance.now)
         → IfOk result (λ m. Comes w h left_then used m (supply_in seen faults answers.old.items devices.old) (supply_in seen faults answers.new.items devices.new) l (store_in instance.now)
         (waits_in instance.now)) }
+    ensures kept { IsErr result → of_all seen devices.new ≡ of_all seen devices.old }
     ensures same_list { devices.new.list.ghost_name ≡ devices.old.list.ghost_name }
 {
     match turn {
-        Turn::Returned(_) => return Err(AllocError),
+        Turn::Returned(_) => unreachable!(),
         Turn::Trapped(trap) => return ended(setting.alloc, End::Trapped(trap)),
         Turn::Waiting(call) => return called(setting, instance, answers, devices, task, call),
         Turn::StepsSpent => return ended(setting.alloc, End::StepsSpent(setting.steps)),
@@ -215,18 +235,19 @@ fn called(
     task: Task,
     call: Call,
 ) -> Result<Moved, AllocError>
+    requires memory { HasMemory (code_in instance.now) }
+    requires import { call.import < length setting.now.imports.items }
     ensures comes { (w : Program) → IsSetting w setting.now → code_in instance.now ≡ w.source → All HasShortPokes (lines_in answers.old.items)
         → (who : Asker) (h : Held) (l : PlainLeft) (left_then used : ℕ) → Asks w h used call.import call.args.items who l → used ≤ left_then
         → IsAsking task (waits_in instance.now) (store_in instance.now) who → IfOk result
         (λ m. Comes w h left_then used m (supply_in seen faults answers.old.items devices.old) (supply_in seen faults answers.new.items devices.new) l (store_in instance.now)
         (waits_in instance.now)) }
+    ensures kept { IsErr result → of_all seen devices.new ≡ of_all seen devices.old }
     ensures same_list { devices.new.list.ghost_name ≡ devices.old.list.ghost_name }
 {
-    let Some(import) = setting.imports.get(call.import as usize) else {
-        return Err(AllocError);
-    };
+    let import = &setting.imports[call.import as usize];
     let Some(memory) = instance.memory() else {
-        return Err(AllocError);
+        unreachable!();
     };
     let size = memory.len() as u64;
     match next_outcome(setting, import, &call, answers, devices)? {
@@ -355,7 +376,8 @@ pub(crate) fn give(
     task: Task,
     value: Option<Value>,
 ) -> Result<Moved, AllocError>
-    requires { steps.old.left + steps.old.used < 2 ^ 64 }
+    requires few { steps.old.left + steps.old.used < 2 ^ 64 }
+    requires there { HostsAt setting.now (code_in instance.old) (λ w. place_in (exports_of w.source) w.plan.area (left_of left.old) (store_in instance.old) (waits_in instance.old) (Stage.Giving task value)) }
     ensures comes { (w : Program) → IsSetting w setting.now → code_in instance.old ≡ w.source → All HasShortPokes (lines_in answers.old.items)
         → PlaceFits w (place_in (exports_of w.source) w.plan.area (left_of left.old) (store_in instance.old) (waits_in instance.old) (Stage.Giving task value))
         → IfOk result (λ m. ComesFrom w (place_in (exports_of w.source) w.plan.area (left_of left.old) (store_in instance.old) (waits_in instance.old) (Stage.Giving task value))
@@ -364,15 +386,13 @@ pub(crate) fn give(
     ensures code { code_in instance.new ≡ code_in instance.old }
     ensures sum { steps.new.left + steps.new.used ≡ steps.old.left + steps.old.used }
     ensures grows { steps.old.used ≤ steps.new.used }
+    ensures kept { IsErr result → of_all seen devices.new ≡ of_all seen devices.old }
     ensures same_list { devices.new.list.ghost_name ≡ devices.old.list.ghost_name }
 {
-    if !instance.is_waiting() {
-        return Err(AllocError);
-    }
     let turn = instance.resume(value, steps)?;
     match task {
         Task::Entry(entry) => entry_ran(setting, instance, left, answers, devices, entry, turn),
         Task::Start => start_ran(setting, instance, left, answers, devices, steps, turn),
-        Task::Outermost => Err(AllocError),
+        Task::Outermost => unreachable!(),
     }
 }

@@ -3,6 +3,7 @@
 ghost use Rattle.std.specs.Prelude.{◌≡◌, ◌<◌, ◌≤◌, ◌+◌, ◌-◌, ◌^◌, List, [], ◌∷◌, IfOk, map, slice_get};
 ghost use Rattle.std.specs.Option.{option_to_list};
 ghost use Rattle.wa_types.specs.declared.values.Value.TheVariants as V;
+ghost use Rattle.wa_types.specs.Typing.{type_of};
 ghost use Rattle.wa_model.specs.Configuration.{Activation, Configuration};
 ghost use Rattle.wa_model.specs.Store.{Store};
 ghost use Rattle.wa_model.specs.Blocking.{Left as PlainLeft, resumed};
@@ -10,9 +11,10 @@ ghost use Rattle.wa_model.specs.Step.{zero_of};
 ghost use Rattle.wa_model.specs.Protocol.{busy, calling, exports_of, pause_there, test_unwound, zeros_of};
 ghost use Rattle.wa_model.specs.View.{answer_of};
 ghost use Rattle.wa_model.specs.World.{Program};
+ghost use Rattle.run_theory.specs.Fitting.{types_of};
 ghost use Rattle.run_laws.specs.FittingStates.{HeldFits};
 ghost use Rattle.interp.specs.Host.{code_in, store_in, waits_in};
-ghost use Rattle.interp.specs.Instance.{inside};
+ghost use Rattle.interp.specs.Instance.{inside, nothing};
 ghost use Rattle.host_laws.specs.Supplies.{Supply};
 ghost use Rattle.pause_host.specs.Moves.{Comes, ComesFrom, IsSetting, PlaceFits};
 ghost use Rattle.pause_host.specs.Views.{entry_of, pausing, unwinding};
@@ -24,7 +26,7 @@ use crate::stages::{Moved, Pause, Setting, Stage};
 use interp::{Instance, Steps, Turn};
 use std::alloc::AllocError;
 use wa_model::{End, Event};
-use wa_types::{ValType, Value};
+use wa_types::Value;
 
 /// Unwinds the stack that waits: the words are written, and `asyncify_start_unwind` is called.
 pub fn unwind(
@@ -33,7 +35,8 @@ pub fn unwind(
     steps: &mut Steps,
     pause: Pause,
 ) -> Result<Moved, AllocError>
-    requires { steps.old.left + steps.old.used < 2 ^ 64 }
+    requires few { steps.old.left + steps.old.used < 2 ^ 64 }
+    requires waits { waits_in instance.old ≡ nothing → ⊥ }
     ensures comes { (w : Program) (l : PlainLeft) (supply : Supply) → IsSetting w setting.now → code_in instance.old ≡ w.source
         → PlaceFits w (pausing (exports_of w.source) w.plan.area l (entry_of pause.entry) pause.import (answer_of pause.answer) (store_in instance.old) (waits_in instance.old))
         → IfOk result (λ m. ComesFrom w (pausing (exports_of w.source) w.plan.area l (entry_of pause.entry) pause.import (answer_of pause.answer) (store_in instance.old)
@@ -58,7 +61,8 @@ fn give_zero(
     steps: &mut Steps,
     pause: Pause,
 ) -> Result<Moved, AllocError>
-    requires { steps.old.left + steps.old.used < 2 ^ 64 }
+    requires few { steps.old.left + steps.old.used < 2 ^ 64 }
+    requires waits { waits_in instance.old ≡ nothing → ⊥ }
     ensures comes { (w : Program) (l : PlainLeft) (supply : Supply) (here : Activation) (under : List Activation) → IsSetting w setting.now → code_in instance.old ≡ w.source
         → waits_in instance.old ≡ inside here under → HeldFits w.source (busy (unwinding pause)
         (resumed (record { store = store_in instance.old; here = here; under = under }) (store_in instance.old) (zeros_of w.source pause.import)) l)
@@ -68,10 +72,7 @@ fn give_zero(
     ensures sum { steps.new.left + steps.new.used ≡ steps.old.left + steps.old.used }
     ensures grows { steps.old.used ≤ steps.new.used }
 {
-    if !instance.is_waiting() {
-        return Err(AllocError);
-    }
-    let zero = import_zero(setting, pause.import)?;
+    let zero = zero_like(pause.answer.value);
     match instance.resume(zero, steps)? {
         Turn::Returned(_) => return test_unwound(setting, instance, steps, pause),
         Turn::Trapped(trap) => {
@@ -83,25 +84,22 @@ fn give_zero(
     }
 }
 
-// The zero of an import's result.
-fn import_zero(setting: &Setting, import: u32) -> Result<Option<Value>, AllocError>
-    ensures { (w : Program) → IsSetting w setting.now → IfOk result (λ zero. option_to_list zero ≡ zeros_of w.source import) }
+// A zero of an answer's type, where it has a value.
+fn zero_like(value: Option<Value>) -> Option<Value>
+    ensures { option_to_list result ≡ map zero_of (types_of (option_to_list value)) }
 {
-    let Some(import) = setting.imports.get(import as usize) else {
-        return Err(AllocError);
-    };
-    match import.result {
-        None => Ok(None),
-        Some(ty) => Ok(Some(zero_value(ty))),
+    match value {
+        None => None,
+        Some(value) => Some(zero_of_type(value)),
     }
 }
 
-fn zero_value(ty: ValType) -> Value
-    ensures { result ≡ zero_of ty }
+fn zero_of_type(value: Value) -> Value
+    ensures { result ≡ zero_of (type_of value) }
 {
-    match ty {
-        ValType::I32 => Value::I32(0),
-        ValType::I64 => Value::I64(0),
+    match value {
+        Value::I32(_) => Value::I32(0),
+        Value::I64(_) => Value::I64(0),
     }
 }
 

@@ -5,9 +5,9 @@ use Rattle.wa_model.specs.declared.answers.Detach.{Detach}
 use Rattle.wa_model.specs.Outside.{Call, Event, Line, called}
 use Rattle.wa_model.specs.Plan.{Outcome}
 use Rattle.wa_model.specs.Blocking.{Note}
-use Rattle.wa_model.specs.World.{Device, Program, call_in, protocol_story, Actor, Events, an_event, StartsHeld}
+use Rattle.wa_model.specs.World.{Device, Program, call_in, protocol_story, Actor, Events, an_event, ProtocolWorld, StartsHeld}
 use Rattle.world_laws.specs.Originals.{one_if, new_calls}
-use Rattle.world_laws.specs.Played.{Played}
+use Rattle.world_laws.specs.Played.{Played, ProtocolWorldUpTo}
 use Rattle.world_laws.proofs.Counting.{calls_on}
 use Rattle.world_laws.proofs.Tails.{StoryForks, story_forks}
 use Rattle.world_laws.specs.GoingOn.{WorldsGoOn, EachWorldEnds}
@@ -216,22 +216,37 @@ then_events ws detaches zero number at p mid last ds es ds' lines more e h on =
 then_events ws detaches (suc count) number at p mid last ds es ds' lines more e h on =
     an_event h.4 (then_events ws detaches count (suc number) at h.2 mid last h.3 es ds' h.1 more (omega arith) h.5 on) (ap (λ (ls : List Line). ls ++ more) h.6 ∙ append_assoc h.0 h.1 more)
 
-pub worlds_go_on : WorldsGoOn
-worlds_go_on ws detaches ds ds' number lines world =
+-- A whole run that goes on from there: what each actor has met and made since, its actor there has too.
+pub record Whole (ws : List Program) (detaches : List Detach) (ds : List Device) (lines : List Line) (was now : List Actor) : Type 0 where
+  pub more : List Line
+  pub last : List Device
+  pub world : ProtocolWorld ws detaches ds (lines ++ more) last
+  pub ahead : List Actor
+  pub again : Quads was now world.actors ahead
+
+pub gone_on : (ws : List Program) (detaches : List Detach) (ds ds' : List Device) (number : ℕ) (lines : List Line) (world : ProtocolWorldUpTo ws detaches ds number lines ds')
+    → Whole ws detaches ds lines world.actors world.now
+gone_on ws detaches ds ds' number lines world =
     let si = played_since ws detaches number 1 world.actors world.now ds ds' lines world.played in
     let ss : List Stage = stages ws world.actors world.now world.starts si in
     let r : Runs ws detaches (1 + number) ss ds' = runs_on ws detaches (1 + number) ss ds' (stages_programs ws world.actors world.now world.starts si) in
-    let again = played_again ws detaches number 1 world.actors world.now r.acts ds ds' lines world.played (all_swapped ws world.actors world.now r.acts world.starts si r.are) in (
-      r.lines,
-      r.devices,
-      record {
+    let again = played_again ws detaches number 1 world.actors world.now r.acts ds ds' lines world.played (all_swapped ws world.actors world.now r.acts world.starts si r.are) in
+    record {
+      more = r.lines;
+      last = r.devices;
+      world = record {
         actors = again.0;
         last = r.last;
         starts = all_start ws world.actors world.now again.0 r.acts world.starts si r.are again.2;
         events = then_events ws detaches number 1 (1 + number) again.0 r.acts r.last ds ds' r.devices lines r.lines refl again.1 r.events;
         over = r.over;
-      },
-    )
+      };
+      ahead = r.acts;
+      again = again.2;
+    }
+
+pub worlds_go_on : WorldsGoOn
+worlds_go_on ws detaches ds ds' number lines world = let whole = gone_on ws detaches ds ds' number lines world in (whole.more, whole.last, whole.world)
 
 -- before the first event
 at_start : (ws : List Program) → (acts : List Actor) × AllZip StartsHeld ws acts

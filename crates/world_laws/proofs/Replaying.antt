@@ -109,6 +109,13 @@ quad_back (a ∷ p) (n ∷ now) (c ∷ q) (t ∷ new) h zero b e = let w = h.0 i
 quad_back (a ∷ p) (n ∷ now) (c ∷ q) (t ∷ new) h (suc i) b e = quad_back p now q new h.1 i b e
 quad_back _ _ _ _ h i b e = absurd h
 
+pub quad_of : (p now q new : List Actor) → Quads p now q new → (i : ℕ) (b : Actor) → slice_get q i ≡ Some b
+    → (a : Actor) × (n : Actor) × (t : Actor) × (slice_get p i ≡ Some a) × (slice_get now i ≡ Some n) × Twice a n b t
+quad_of [] [] [] [] h i b e = cc
+quad_of (a ∷ p) (n ∷ now) (c ∷ q) (t ∷ new) h zero b e = (a, n, t, refl, refl, subst (λ (z : Actor). Twice a n z t) (actor_same c b e) h.0)
+quad_of (a ∷ p) (n ∷ now) (c ∷ q) (t ∷ new) h (suc i) b e = quad_of p now q new h.1 i b e
+quad_of _ _ _ _ h i b e = absurd h
+
 -- the lists before one actor moved
 quad_before : (p now q new : List Actor) (i : ℕ) (a a' n b b' t : Actor) → slice_get p i ≡ Some a → Quads (slice_set p i a') now q new → slice_get now i ≡ Some n → slice_get q i ≡ Some b'
     → slice_get new i ≡ Some t

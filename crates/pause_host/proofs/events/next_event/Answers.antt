@@ -1,9 +1,10 @@
 use Rattle.std.proofs.Common.{arith, ◌≡◌, ◌-◌, IfOk, Some, None, sym, ap, ◌∙◌, subst}
 use Rattle.wa_model.specs.Protocol.{exports_of}
-use Rattle.interp.specs.Host.{store_in, waits_in}
+use Rattle.interp.specs.Host.{code_in, store_in, waits_in}
 use Rattle.pause_host.specs.Views.{end_of, left_of, supply_in, place_in}
 use Rattle.pause_host.specs.Moves.{ComesFrom, PlaceFits}
 use Rattle.pause_host.specs.declared.stages.Stage.TheVariants as S
+use Rattle.pause_host.proofs.Hosting.{hosts_stage, pausing_waits}
 use Rattle.pause_host.proofs.Results.{ending_ok}
 use Rattle.pause_host.specs.declared.stages.Stage.{Stage}
 use Rattle.pause_host.proofs.events.next_event.Goals as goal
@@ -93,3 +94,18 @@ returns-in-Ending-clause-comes g c = λ w is code pokes f more.
 
 pub returns-in-Ended-clause-comes : goal.returns-in-Ended-clause-comes
 returns-in-Ended-clause-comes g c = λ w is code pokes f more. let no : Some c.in-Ended.end ≡ None = sym (ap end_of c.in-Ended.is) ∙ more in cc
+
+pub call_next-requires-clause-there : goal.call_next-requires-clause-there
+call_next-requires-clause-there g c =
+    hosts_stage c.args.setting.now (code_in c.args.instance.now) (left_of c.args.left.now) (store_in c.args.instance.now) (waits_in c.args.instance.now) c.args.stage S.Free c.in-Free.is c.requires.there
+
+pub give-requires-clause-there : goal.give-requires-clause-there
+give-requires-clause-there g c =
+    hosts_stage c.args.setting.now (code_in c.args.instance.now) (left_of c.args.left.now) (store_in c.args.instance.now) (waits_in c.args.instance.now) c.args.stage
+    (S.Giving c.in-Giving.task c.in-Giving.value) c.in-Giving.is c.requires.there
+
+pub unwind-requires-clause-waits : goal.unwind-requires-clause-waits
+unwind-requires-clause-waits g c =
+    pausing_waits c.args.setting.now (code_in c.args.instance.now) (left_of c.args.left.now) (store_in c.args.instance.now) (waits_in c.args.instance.now) c.in-Pausing.pause
+    (hosts_stage c.args.setting.now (code_in c.args.instance.now) (left_of c.args.left.now) (store_in c.args.instance.now) (waits_in c.args.instance.now) c.args.stage (S.Pausing c.in-Pausing.pause)
+    c.in-Pausing.is c.requires.there)

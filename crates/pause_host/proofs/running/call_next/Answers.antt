@@ -1,10 +1,11 @@
-use Rattle.std.proofs.Common.{arith, ◌≡◌, ◌-◌, [], IfOk, length, drop, length-drop, map, refl, sym, ap, ◌∙◌, subst}
-use Rattle.wa_types.specs.Modules.{func_type_at}
-use Rattle.run_theory.specs.Fitting.{types_of, StoreFits}
+use Rattle.std.proofs.Common.{arith, ◌≡◌, ◌<◌, ◌-◌, [], IfOk, length, drop, length-drop, map, refl, sym, ap, ◌∙◌, subst}
+use Rattle.wa_types.specs.Modules.{func_sorts, func_type_at}
+use Rattle.run_theory.specs.Fitting.{types_of, results_of, StoreFits}
 use Rattle.interp.specs.Host.{code_in, store_in, waits_in}
 use Rattle.interp.specs.Instance.{Calls}
 use Rattle.pause_host.specs.Views.{entry_of, left_of, supply_in}
 use Rattle.pause_host.specs.Moves.{ComesFrom}
+use Rattle.pause_host.proofs.Hosting.{calls_one, defined_below, memory_kept, memory_there}
 use Rattle.pause_host.proofs.Results.{done_ok, free_is, free_fits, none_left}
 use Rattle.pause_host.proofs.Tasks.{entry_turn}
 use Rattle.wa_model.specs.Protocol.{free}
@@ -40,3 +41,25 @@ returns-in_ok-turn-in-Some-clause-comes g c = λ w is code pokes f.
     let ran = entry_turn w l (record { number = l.number; entries = rest; outcomes = [] }) e rest fits.1.0.0 s left used c.in_ok-turn-in-Some.turn s' w' entries refl refl fits.1.0.1 calls in
     subst (λ z. IfOk c.entry_ran.result (λ m. ComesFrom w z left used m old new (left_of c.entry_ran.new.left) s' w')) (sym (free_is s l e rest entries))
     (c.entry_ran.ensures.comes w is (c.begin.ensures.code ∙ code) pokes (free s l) left used ran)
+
+pub entry_ran-requires-clause-memory : goal.entry_ran-requires-clause-memory
+entry_ran-requires-clause-memory g c =
+    let there = c.requires.there in
+    memory_kept (code_in c.args.instance.now) (code_in c.begin.new.self) c.begin.ensures.code (memory_there there.program c.args.setting.now (code_in c.args.instance.now) there.setting there.code_is)
+
+pub entry_ran-requires-clause-turn : goal.entry_ran-requires-clause-turn
+entry_ran-requires-clause-turn g c =
+    let there = c.requires.there in
+    let w = there.program in
+    let code = there.code_is in
+    let s = store_in c.args.instance.now in
+    let m = code_in c.args.instance.now in
+    let l = left_of c.args.left.now in
+    let e = entry_of c.in-Some.entry in
+    let rest = map entry_of c.pop_front.new.self.items in
+    let entries = ap (map entry_of) c.in-Some.ensures.items in
+    let fits = free_fits w.source s l e rest entries there.fits in
+    let typed = ap types_of c.deref.ensures.value ∙ fits.1.1 ∙ ap (λ z. (func_type_at z e.func).params) (sym code) in
+    let below = subst (λ z. e.func < length (func_sorts z)) (sym code) (defined_below w.source e.func fits.1.0.0 fits.1.0.1) in
+    let again = c.in_ok-turn-in-Some.ensures.again below (subst (λ z. StoreFits z s) (sym code) fits.0) typed in
+    calls_one w c.args.setting.now m (results_of m e.func) c.in_ok-turn-in-Some.turn (store_in c.begin.new.self) (waits_in c.begin.new.self) there.setting code again

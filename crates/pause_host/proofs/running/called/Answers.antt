@@ -7,7 +7,8 @@ use Rattle.wa_model.specs.View.{answer_of, call_of}
 use Rattle.interp.specs.Host.{code_in, store_in, waits_in}
 use Rattle.pause_host.specs.Views.{supply_in, stage_after, starts}
 use Rattle.pause_host.specs.declared.stages.Stage.TheVariants as S
-use Rattle.pause_host.proofs.Tables.{found_at, size_told}
+use Rattle.pause_host.proofs.Hosting.{memory_shown}
+use Rattle.pause_host.proofs.Tables.{size_told, stands_at}
 use Rattle.pause_host.proofs.Supplied.{short_answer}
 use Rattle.pause_host.proofs.Askings.{asking_store, asking_start, told_refused, told_answer}
 use Rattle.host_laws.specs.Supplies.{Answers}
@@ -22,7 +23,7 @@ returns-in-Refused-clause-comes g c = λ w is code pokes who h l left used asks 
     let new = supply_in (λ z. (goal.Device-dyn g z).seen z.1) (λ z. (goal.Device-dyn g z).faults z.1) c.next_outcome.new.answers.items c.next_outcome.new.devices in
     let x = c.args.setting.now in
     let i = c.args.call.import in
-    let at = found_at c.deref.result.now x.imports.items i c.in-Some.import.now c.deref.ensures.value c.in-Some.ensures.lookup.3.0 c.in-Some.ensures.lookup.1 in
+    let at = stands_at x.imports.items i c.index-import.result.now c.requires.import c.index-import.ensures in
     let meets0 = c.in_ok-end.ensures.answers w is at in
     let meets = subst (λ z. Answers w (call_of c.args.call) old (outcome_of z) new) c.in-Refused.is meets0 in
     let m : Moved = record { event = EV.Called c.args.call; stage = S.Ending c.in-Refused.end } in
@@ -36,16 +37,19 @@ returns-in-Given-clause-comes g c = λ w is code pokes who h l left used asks wi
     let new = supply_in (λ z. (goal.Device-dyn g z).seen z.1) (λ z. (goal.Device-dyn g z).faults z.1) c.next_outcome.new.answers.items c.next_outcome.new.devices in
     let x = c.args.setting.now in
     let i = c.args.call.import in
-    let at = found_at c.deref.result.now x.imports.items i c.in-Some.import.now c.deref.ensures.value c.in-Some.ensures.lookup.3.0 c.in-Some.ensures.lookup.1 in
+    let at = stands_at x.imports.items i c.index-import.result.now c.requires.import c.index-import.ensures in
     let meets0 = c.in_ok-end.ensures.answers w is at in
     let meets = subst (λ z. Answers w (call_of c.args.call) old (outcome_of z) new) c.in-Given.is meets0 in
     let m : Moved = record { event = EV.Called c.args.call; stage = c.answered-stage.result } in
     let a = answer_of c.in-Given.answer in
-    let bytes = c.in-Some-memory.memory.now in
+    let bytes = c.in-Some.memory.now in
     let rs = (func_type_at w.source i).results in
-    let size = size_told w x (code_in c.args.instance.now) s bytes is code c.in-Some-memory.ensures in
-    let fault = ap (λ r. fault_of r (length bytes) w.plan (starts c.args.task) i a) (sym (is.results i c.in-Some.import.now at))
+    let size = size_told w x (code_in c.args.instance.now) s bytes is code c.in-Some.ensures in
+    let fault = ap (λ r. fault_of r (length bytes) w.plan (starts c.args.task) i a) (sym (is.results i c.index-import.result.now at))
     ∙ ap (λ n. fault_of rs n w.plan (starts c.args.task) i a) (sym size ∙ sym (ap (λ z. length z.memory) (asking_store c.args.task waits s who asking)))
     ∙ ap (λ b. fault_of rs (length (store_at who).memory) w.plan b i a) (sym (asking_start c.args.task waits s who asking)) in
     told_answer w h l left used c.args.call who c.args.task waits s asks within asking m old new c.in-Given.answer refl meets
     (c.answered-stage.ensures w is (short_answer w (call_of c.args.call) old new a meets pokes) ∙ ap (λ f. stage_after f c.in-Given.answer.ticks c.args.task i c.in-Given.answer) fault)
+
+pub unreachable-requires : goal.unreachable-requires
+unreachable-requires g c = memory_shown (code_in c.args.instance.now) (store_in c.args.instance.now) c.requires.memory c.in_default.ensures

@@ -3,6 +3,7 @@ use Rattle.wa_model.specs.Blocking.{an_entry}
 use Rattle.interp.specs.Host.{store_in, waits_in}
 use Rattle.pause_host.specs.Views.{entry_of, left_of, supply_in}
 use Rattle.pause_host.specs.Moves.{TaskTurn}
+use Rattle.pause_host.proofs.Hosting.{stops_first}
 use Rattle.pause_host.proofs.Results.{returned_ok}
 use Rattle.pause_host.proofs.running.entry_ran.Goals as goal
 
@@ -15,3 +16,6 @@ returns-in-Returned-clause-comes g c = λ w is code pokes h left used ran.
 
 pub returns-in_default-clause-comes : goal.returns-in_default-clause-comes
 returns-in_default-clause-comes g c = λ w is code pokes h left used ran. c.stopped.ensures.comes w is code pokes (an_entry (entry_of c.args.entry)) h (left_of c.args.left.now) left used refl ran
+
+pub stopped-requires-clause-turn : goal.stopped-requires-clause-turn
+stopped-requires-clause-turn g c = stops_first _ c.args.turn c.requires.turn c.in_default.not-Returned

@@ -3,10 +3,11 @@ use Rattle.std.specs.Option.{option_to_list}
 use Rattle.run_theory.specs.Fitting.{types_of, StoreFits}
 use Rattle.wa_model.specs.Blocking.{the_start, an_entry, resumed}
 use Rattle.wa_model.specs.Protocol.{exports_of, busy, is_running}
-use Rattle.interp.specs.Host.{store_in, waits_in}
+use Rattle.interp.specs.Host.{code_in, store_in, waits_in}
 use Rattle.interp.specs.Instance.{Resumes, Awaits}
 use Rattle.pause_host.specs.Views.{entry_of, left_of, supply_in, place_in}
 use Rattle.pause_host.specs.Moves.{Comes, ComesFrom, PlaceFits}
+use Rattle.pause_host.proofs.Hosting.{calls_one, given_waits, memory_kept, memory_there, outermost_given, start_stands}
 use Rattle.pause_host.specs.declared.stages.Stage.TheVariants as S
 use Rattle.pause_host.specs.declared.stages.Task.TheVariants as T
 use Rattle.pause_host.proofs.Stagings.{gives, gives_awaits, gives_store, gives_turn}
@@ -61,3 +62,60 @@ returns-in-Start-clause-comes g c = λ w is code pokes f.
     (store_in c.start_ran.new.instance) (waits_in c.start_ran.new.instance))) (sym place)
     (subst (λ n. IfOk c.start_ran.result (λ m. Comes w h left n m old new (left_of c.start_ran.new.left) (store_in c.start_ran.new.instance) (waits_in c.start_ran.new.instance))) total
     (c.start_ran.ensures.comes w is (c.resume.ensures.code ∙ code) pokes h left used ran sum g.fits))
+
+pub resume-requires-clause-waits : goal.resume-requires-clause-waits
+resume-requires-clause-waits g c =
+    given_waits c.args.setting.now (code_in c.args.instance.now) (left_of c.args.left.now) (store_in c.args.instance.now) (waits_in c.args.instance.now) c.args.task c.args.value c.requires.there
+
+pub entry_ran-requires-clause-memory : goal.entry_ran-requires-clause-memory
+entry_ran-requires-clause-memory g c =
+    let there = c.requires.there in
+    memory_kept (code_in c.args.instance.now) (code_in c.resume.new.self) c.resume.ensures.code (memory_there there.program c.args.setting.now (code_in c.args.instance.now) there.setting there.code_is)
+
+pub entry_ran-requires-clause-turn : goal.entry_ran-requires-clause-turn
+entry_ran-requires-clause-turn g c =
+    let there = c.requires.there in
+    let w = there.program in
+    let s = store_in c.args.instance.now in
+    let waits = waits_in c.args.instance.now in
+    let l = left_of c.args.left.now in
+    let f' = subst (λ z. PlaceFits w (place_in (exports_of w.source) w.plan.area l s waits (S.Giving z c.args.value))) c.in-Entry.is there.fits in
+    let g = gives w (T.Entry c.in-Entry.entry) (an_entry (entry_of c.in-Entry.entry)) waits l c.args.value s refl f' in
+    let again = c.in_ok-turn.ensures.again g.fits.0
+    (subst (λ z. StoreFits z s) (sym there.code_is) (gives_store w (T.Entry c.in-Entry.entry) (an_entry (entry_of c.in-Entry.entry)) waits l c.args.value s g))
+    (subst (λ z. Awaits z g.fits.0 (types_of (option_to_list c.args.value)) waits) (sym there.code_is)
+    (gives_awaits w (T.Entry c.in-Entry.entry) (an_entry (entry_of c.in-Entry.entry)) waits l c.args.value s g)) in
+    calls_one w c.args.setting.now (code_in c.args.instance.now) g.fits.0 c.in_ok-turn.turn (store_in c.resume.new.self) (waits_in c.resume.new.self) there.setting there.code_is again
+
+pub start_ran-requires-clause-memory : goal.start_ran-requires-clause-memory
+start_ran-requires-clause-memory g c =
+    let there = c.requires.there in
+    memory_kept (code_in c.args.instance.now) (code_in c.resume.new.self) c.resume.ensures.code (memory_there there.program c.args.setting.now (code_in c.args.instance.now) there.setting there.code_is)
+
+pub start_ran-requires-clause-turn : goal.start_ran-requires-clause-turn
+start_ran-requires-clause-turn g c =
+    let there = c.requires.there in
+    let w = there.program in
+    let s = store_in c.args.instance.now in
+    let waits = waits_in c.args.instance.now in
+    let s' = store_in c.resume.new.self in
+    let w' = waits_in c.resume.new.self in
+    let left = c.args.steps.now.left in
+    let used = c.resume.new.steps.used - c.args.steps.now.used in
+    let l = left_of c.args.left.now in
+    let code = there.code_is in
+    let f' = subst (λ z. PlaceFits w (place_in (exports_of w.source) w.plan.area l s waits (S.Giving z c.args.value))) c.in-Start.is there.fits in
+    let g = gives w T.Start the_start waits l c.args.value s refl f' in
+    let fits = subst (λ z. StoreFits z s) (sym code) (gives_store w T.Start the_start waits l c.args.value s g) in
+    let awaits = subst (λ z. Awaits z g.fits.0 (types_of (option_to_list c.args.value)) waits) (sym code) (gives_awaits w T.Start the_start waits l c.args.value s g) in
+    let told = c.in_ok-turn.ensures.resumes g.fits.0 fits awaits in
+    let again = c.in_ok-turn.ensures.again g.fits.0 fits awaits in
+    let ran = gives_turn w T.Start the_start waits l c.args.value s g left used c.in_ok-turn.turn s' w' (subst (λ z. Resumes z s waits c.args.value left used c.in_ok-turn.turn s' w') code told) in
+    let h = busy (is_running the_start) (resumed (record { store = s; here = g.here; under = g.under }) s (option_to_list c.args.value)) l in
+    start_stands w c.args.setting.now (code_in c.resume.new.self) h l left used c.in_ok-turn.turn s' w' there.setting (c.resume.ensures.code ∙ code) g.fits ran
+    (calls_one w c.args.setting.now (code_in c.args.instance.now) g.fits.0 c.in_ok-turn.turn s' w' there.setting code again)
+
+pub unreachable-requires : goal.unreachable-requires
+unreachable-requires g c =
+    outermost_given c.args.setting.now (code_in c.args.instance.now) (left_of c.args.left.now) (store_in c.args.instance.now) (waits_in c.args.instance.now) c.args.task c.args.value c.in-Outermost.is
+    c.requires.there

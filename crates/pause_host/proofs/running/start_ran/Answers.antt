@@ -1,9 +1,11 @@
 use Rattle.std.proofs.Common.{arith, ◌≡◌, ◌+◌, ◌-◌, [], IfOk, refl, subst}
 use Rattle.wa_model.specs.Blocking.{the_start, done_notes}
 use Rattle.wa_model.specs.Protocol.{held_on}
-use Rattle.interp.specs.Host.{store_in, waits_in}
+use Rattle.interp.specs.Host.{code_in, store_in, waits_in}
 use Rattle.pause_host.specs.Views.{left_of, supply_in}
+use Rattle.pause_host.specs.Hosting.{StartRan}
 use Rattle.pause_host.specs.Moves.{Comes, TaskTurn}
+use Rattle.pause_host.proofs.Hosting.{start_stops}
 use Rattle.pause_host.proofs.Results.{behind_sum}
 use Rattle.pause_host.proofs.Tasks.{start_returned}
 use Rattle.pause_host.proofs.Comings.{fits_on}
@@ -32,3 +34,11 @@ returns-in_default-clause-comes g c = λ w is code pokes h left used ran sum fit
     let same : used ≡ used + (c.args.steps.now.used - c.args.steps.now.used) = omega arith in
     subst (λ n. IfOk c.stopped.result (λ m. Comes w h left n m old new l s waits)) same
     (c.stopped.ensures.comes w is code pokes the_start h l left used refl ran)
+
+pub call_next-requires-clause-there : goal.call_next-requires-clause-there
+call_next-requires-clause-there g c =
+    subst (λ t. StartRan c.args.setting.now (code_in c.args.instance.now) (left_of c.args.left.now) t (store_in c.args.instance.now)) c.in-Returned.is c.requires.turn
+
+pub stopped-requires-clause-turn : goal.stopped-requires-clause-turn
+stopped-requires-clause-turn g c =
+    start_stops c.args.setting.now (code_in c.args.instance.now) (left_of c.args.left.now) c.args.turn (store_in c.args.instance.now) c.requires.turn c.in_default.not-Returned

@@ -1,8 +1,9 @@
-use Rattle.std.proofs.Common.{subst}
+use Rattle.std.proofs.Common.{length, subst}
 use Rattle.wa_model.specs.declared.events.End.TheVariants as E
 use Rattle.wa_model.specs.Blocking.{inside}
 use Rattle.interp.specs.Host.{store_in, waits_in}
 use Rattle.pause_host.specs.Views.{supply_in}
+use Rattle.pause_host.specs.Hosting.{StopsFirst}
 use Rattle.pause_host.specs.Moves.{EndsAt, TaskTurn}
 use Rattle.pause_host.proofs.Results.{ended_ok, task_asking}
 use Rattle.pause_host.proofs.Tasks.{task_trapped, task_spent, task_asks}
@@ -30,3 +31,9 @@ returns-in-StepsSpent-clause-comes g c = λ w is code pokes t h l left used task
     let waits = waits_in c.args.instance.now in
     ended_ok w h left used (E.StepsSpent c.args.setting.now.steps) s c.ended-in-StepsSpent.result old l waits c.ended-in-StepsSpent.ensures.event c.ended-in-StepsSpent.ensures.stage
     (subst (λ n. EndsAt w h left used (E.StepsSpent n) s) is.steps (task_spent w h l t left used s waits (subst (λ z. TaskTurn w h l t left used z s waits) c.in-StepsSpent.is ran)))
+
+pub unreachable-requires : goal.unreachable-requires
+unreachable-requires g c = subst (StopsFirst (length c.args.setting.now.imports.items)) c.in-Returned.is c.requires.turn
+
+pub called-requires-clause-import : goal.called-requires-clause-import
+called-requires-clause-import g c = subst (StopsFirst (length c.args.setting.now.imports.items)) c.in-Waiting.is c.requires.turn

@@ -11,6 +11,7 @@ use Rattle.pause_host.specs.Moves.{EndsAt}
 use Rattle.pause_host.proofs.Comings.{fits_on}
 use Rattle.pause_host.proofs.Fronts.{awaits_from}
 use Rattle.pause_host.proofs.Results.{ended_ok, behind_ok}
+use Rattle.pause_host.proofs.Tables.{zero_told}
 use Rattle.pause_host.proofs.Pauses.{turn_trapped, turn_spent, unwound, unwound_asked}
 use Rattle.pause_host.proofs.unwinding.give_zero.Goals as goal
 
@@ -23,16 +24,16 @@ returns-in-Returned-clause-comes c = λ w l lines here under is code waits f.
     let used = c.resume.new.steps.used - c.args.steps.now.used in
     let m = code_in c.args.instance.now in
     let from = resumed (record { store = s; here = here; under = under }) s (zeros_of w.source c.args.pause.import) in
-    let zero = c.in_ok-zero.ensures w is in
+    let zero = c.zero_like-zero.ensures ∙ zero_told w.source is.valid c.args.pause.import c.args.pause.answer.value f.2.1 in
     let awaits = subst (λ ws. Awaits w.source f.0 (types_of (zeros_of w.source c.args.pause.import)) ws) (sym waits)
     (awaits_from w.source f.0 s s here under (zeros_of w.source c.args.pause.import) f.1) in
     let told = c.in_ok-resume.ensures.resumes f.0 (subst (λ z. StoreFits z s) (sym code) f.1.store)
-    (subst (λ z. Awaits z f.0 (types_of (option_to_list c.in_ok-zero.zero)) (waits_in c.args.instance.now)) (sym code)
+    (subst (λ z. Awaits z f.0 (types_of (option_to_list c.zero_like-zero.result)) (waits_in c.args.instance.now)) (sym code)
     (subst (λ vs. Awaits w.source f.0 (types_of vs) (waits_in c.args.instance.now)) (sym zero) awaits)) in
     let turns = subst (λ t. Turns w.source from left used t s' w') c.in-Returned.is (subst
     (λ vs. Turns w.source (resumed (record { store = s; here = here; under = under }) s vs) left used c.in_ok-resume.field-0 s' w') zero
-    (subst (λ ws. Resumes w.source s ws c.in_ok-zero.zero left used c.in_ok-resume.field-0 s' w') waits
-    (subst (λ z. Resumes z s (waits_in c.args.instance.now) c.in_ok-zero.zero left used c.in_ok-resume.field-0 s' w') code told))) in
+    (subst (λ ws. Resumes w.source s ws c.zero_like-zero.result left used c.in_ok-resume.field-0 s' w') waits
+    (subst (λ z. Resumes z s (waits_in c.args.instance.now) c.zero_like-zero.result left used c.in_ok-resume.field-0 s' w') code told))) in
     let on = unwound w c.args.pause l from left used c.in-Returned.field-0 s' w' turns in
     let next = calling (unwinding c.args.pause) s' (exports_of w.source).get_state [] test_unwound l in
     let fits = fits_on w.source w.plan (busy (unwinding c.args.pause) (resumed (record { store = s; here = here; under = under }) s (zeros_of w.source c.args.pause.import)) l) next [] []
@@ -51,16 +52,16 @@ returns-in-Trapped-clause-comes c = λ w l lines here under is code waits f.
     let used = c.resume.new.steps.used - c.args.steps.now.used in
     let m = code_in c.args.instance.now in
     let from = resumed (record { store = s; here = here; under = under }) s (zeros_of w.source c.args.pause.import) in
-    let zero = c.in_ok-zero.ensures w is in
+    let zero = c.zero_like-zero.ensures ∙ zero_told w.source is.valid c.args.pause.import c.args.pause.answer.value f.2.1 in
     let awaits = subst (λ ws. Awaits w.source f.0 (types_of (zeros_of w.source c.args.pause.import)) ws) (sym waits)
     (awaits_from w.source f.0 s s here under (zeros_of w.source c.args.pause.import) f.1) in
     let told = c.in_ok-resume.ensures.resumes f.0 (subst (λ z. StoreFits z s) (sym code) f.1.store)
-    (subst (λ z. Awaits z f.0 (types_of (option_to_list c.in_ok-zero.zero)) (waits_in c.args.instance.now)) (sym code)
+    (subst (λ z. Awaits z f.0 (types_of (option_to_list c.zero_like-zero.result)) (waits_in c.args.instance.now)) (sym code)
     (subst (λ vs. Awaits w.source f.0 (types_of vs) (waits_in c.args.instance.now)) (sym zero) awaits)) in
     let turns = subst (λ t. Turns w.source from left used t s' w') c.in-Trapped.is (subst
     (λ vs. Turns w.source (resumed (record { store = s; here = here; under = under }) s vs) left used c.in_ok-resume.field-0 s' w') zero
-    (subst (λ ws. Resumes w.source s ws c.in_ok-zero.zero left used c.in_ok-resume.field-0 s' w') waits
-    (subst (λ z. Resumes z s (waits_in c.args.instance.now) c.in_ok-zero.zero left used c.in_ok-resume.field-0 s' w') code told))) in
+    (subst (λ ws. Resumes w.source s ws c.zero_like-zero.result left used c.in_ok-resume.field-0 s' w') waits
+    (subst (λ z. Resumes z s (waits_in c.args.instance.now) c.zero_like-zero.result left used c.in_ok-resume.field-0 s' w') code told))) in
     let is_end = c.in_ok-end-in-Trapped.ensures (unwinding c.args.pause) tt ∙ ap (λ a. trap_end a (unwinding c.args.pause) c.in-Trapped.trap s') (sym is.area) in
     ended_ok w (busy (unwinding c.args.pause) (resumed (record { store = s; here = here; under = under }) s (zeros_of w.source c.args.pause.import)) l) left used c.in_ok-end-in-Trapped.end
     s' c.ended.result lines l w' c.ended.ensures.event c.ended.ensures.stage
@@ -76,16 +77,16 @@ returns-in-Waiting-clause-comes c = λ w l lines here under is code waits f.
     let used = c.resume.new.steps.used - c.args.steps.now.used in
     let m = code_in c.args.instance.now in
     let from = resumed (record { store = s; here = here; under = under }) s (zeros_of w.source c.args.pause.import) in
-    let zero = c.in_ok-zero.ensures w is in
+    let zero = c.zero_like-zero.ensures ∙ zero_told w.source is.valid c.args.pause.import c.args.pause.answer.value f.2.1 in
     let awaits = subst (λ ws. Awaits w.source f.0 (types_of (zeros_of w.source c.args.pause.import)) ws) (sym waits)
     (awaits_from w.source f.0 s s here under (zeros_of w.source c.args.pause.import) f.1) in
     let told = c.in_ok-resume.ensures.resumes f.0 (subst (λ z. StoreFits z s) (sym code) f.1.store)
-    (subst (λ z. Awaits z f.0 (types_of (option_to_list c.in_ok-zero.zero)) (waits_in c.args.instance.now)) (sym code)
+    (subst (λ z. Awaits z f.0 (types_of (option_to_list c.zero_like-zero.result)) (waits_in c.args.instance.now)) (sym code)
     (subst (λ vs. Awaits w.source f.0 (types_of vs) (waits_in c.args.instance.now)) (sym zero) awaits)) in
     let turns = subst (λ t. Turns w.source from left used t s' w') c.in-Waiting.is (subst
     (λ vs. Turns w.source (resumed (record { store = s; here = here; under = under }) s vs) left used c.in_ok-resume.field-0 s' w') zero
-    (subst (λ ws. Resumes w.source s ws c.in_ok-zero.zero left used c.in_ok-resume.field-0 s' w') waits
-    (subst (λ z. Resumes z s (waits_in c.args.instance.now) c.in_ok-zero.zero left used c.in_ok-resume.field-0 s' w') code told))) in
+    (subst (λ ws. Resumes w.source s ws c.zero_like-zero.result left used c.in_ok-resume.field-0 s' w') waits
+    (subst (λ z. Resumes z s (waits_in c.args.instance.now) c.zero_like-zero.result left used c.in_ok-resume.field-0 s' w') code told))) in
     ended_ok w (busy (unwinding c.args.pause) (resumed (record { store = s; here = here; under = under }) s (zeros_of w.source c.args.pause.import)) l) left used
     (E.Broken 1) s' c.ended-in-Waiting.result lines l w' c.ended-in-Waiting.ensures.event c.ended-in-Waiting.ensures.stage
     (unwound_asked w c.args.pause l from left used c.in-Waiting.field-0 s' w' turns)
@@ -99,16 +100,16 @@ returns-in-StepsSpent-clause-comes c = λ w l lines here under is code waits f.
     let used = c.resume.new.steps.used - c.args.steps.now.used in
     let m = code_in c.args.instance.now in
     let from = resumed (record { store = s; here = here; under = under }) s (zeros_of w.source c.args.pause.import) in
-    let zero = c.in_ok-zero.ensures w is in
+    let zero = c.zero_like-zero.ensures ∙ zero_told w.source is.valid c.args.pause.import c.args.pause.answer.value f.2.1 in
     let awaits = subst (λ ws. Awaits w.source f.0 (types_of (zeros_of w.source c.args.pause.import)) ws) (sym waits)
     (awaits_from w.source f.0 s s here under (zeros_of w.source c.args.pause.import) f.1) in
     let told = c.in_ok-resume.ensures.resumes f.0 (subst (λ z. StoreFits z s) (sym code) f.1.store)
-    (subst (λ z. Awaits z f.0 (types_of (option_to_list c.in_ok-zero.zero)) (waits_in c.args.instance.now)) (sym code)
+    (subst (λ z. Awaits z f.0 (types_of (option_to_list c.zero_like-zero.result)) (waits_in c.args.instance.now)) (sym code)
     (subst (λ vs. Awaits w.source f.0 (types_of vs) (waits_in c.args.instance.now)) (sym zero) awaits)) in
     let turns = subst (λ t. Turns w.source from left used t s' w') c.in-StepsSpent.is (subst
     (λ vs. Turns w.source (resumed (record { store = s; here = here; under = under }) s vs) left used c.in_ok-resume.field-0 s' w') zero
-    (subst (λ ws. Resumes w.source s ws c.in_ok-zero.zero left used c.in_ok-resume.field-0 s' w') waits
-    (subst (λ z. Resumes z s (waits_in c.args.instance.now) c.in_ok-zero.zero left used c.in_ok-resume.field-0 s' w') code told))) in
+    (subst (λ ws. Resumes w.source s ws c.zero_like-zero.result left used c.in_ok-resume.field-0 s' w') waits
+    (subst (λ z. Resumes z s (waits_in c.args.instance.now) c.zero_like-zero.result left used c.in_ok-resume.field-0 s' w') code told))) in
     ended_ok w (busy (unwinding c.args.pause) (resumed (record { store = s; here = here; under = under }) s (zeros_of w.source c.args.pause.import)) l) left used
     (E.StepsSpent c.args.setting.now.steps) s' c.ended-in-StepsSpent.result lines l w' c.ended-in-StepsSpent.ensures.event c.ended-in-StepsSpent.ensures.stage
     (subst (λ n. EndsAt w (busy (unwinding c.args.pause) (resumed (record { store = s; here = here; under = under }) s (zeros_of w.source c.args.pause.import)) l) left used

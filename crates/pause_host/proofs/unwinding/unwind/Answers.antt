@@ -63,3 +63,6 @@ returns-in-Returned-clause-comes c = λ w l lines is code f.
     (behind_ok w from next [] left c.args.steps.now.used c.call_export.new.steps.left c.call_export.new.steps.used c.give_zero.new.steps.used c.give_zero.result lines lines l
     (store_in c.give_zero.new.instance) (waits_in c.give_zero.new.instance) c.call_export.ensures.sum c.call_export.ensures.grows c.give_zero.ensures.grows on
     (c.give_zero.ensures.comes w l lines g.here g.under is (c.call_export.ensures.code ∙ c.write_words.ensures.code ∙ code) waits fits))
+
+pub give_zero-requires-clause-waits : goal.give_zero-requires-clause-waits
+give_zero-requires-clause-waits c = λ e. c.requires.waits (sym c.write_words.ensures.waits ∙ sym c.call_export.ensures.waits ∙ e)

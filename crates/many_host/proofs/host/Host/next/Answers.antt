@@ -4,4 +4,7 @@ use Rattle.many_host.proofs.host.Host.next.Goals as goal
 
 pub returns-clause-told : goal.returns-clause-told
 returns-clause-told g c = λ programs detaches ds lines told.
-    IfOk-weaker c.next.result _ _ (λ r t. host_next programs detaches ds lines (record { turns = c.next.new.self }) _ r t) (c.next.ensures.told programs detaches ds lines told)
+    IfOk-weaker c.next.result _ _ (λ r t. host_next programs detaches ds lines told.tellers _ _ _ (record { turns = c.next.new.self }) _ r t) (c.next.ensures.told programs detaches ds lines told)
+
+pub next-requires-clause-tells : goal.next-requires-clause-tells
+next-requires-clause-tells g c = c.requires.tells

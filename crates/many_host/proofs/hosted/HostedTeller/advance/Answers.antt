@@ -1,4 +1,5 @@
 use Rattle.std.proofs.lemmas.Result.{IfOk-weaker}
+use Rattle.pause_host.proofs.Advancing.{on_its_way_by}
 use Rattle.many_host.proofs.Tellings.{none_is, tells_note}
 use Rattle.many_host.proofs.hosted.HostedTeller.advance.Goals as goal
 
@@ -7,3 +8,6 @@ returns-clause-told g c = λ w notes os answers f runs.
     IfOk-weaker c.advance.result _ _
     (λ event a. tells_note w notes os answers c.args.self.now.program (record { program = c.advance.new.self }) event _ _ _ _ f.1 a)
     (c.advance.ensures.next w notes os f.0 (none_is _ runs))
+
+pub advance-requires-clause-goes : goal.advance-requires-clause-goes
+advance-requires-clause-goes g c = let h = c.requires.goes in on_its_way_by h.0 h.1 h.2 c.args.self.now.program h.4.0

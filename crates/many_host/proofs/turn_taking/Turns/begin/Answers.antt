@@ -1,15 +1,16 @@
-use Rattle.std.proofs.Common.{ap, sym, ◌∙◌, subst, length, List, Option, ℕ}
+use Rattle.std.proofs.Common.{ap, inl, refl, sym, ◌∙◌, subst, length, List, Option, ℕ}
 use Rattle.event_order.specs.Dues.{HaveEnded, IsLeast}
-use Rattle.wa_model.specs.View.{line_of}
 use Rattle.many_host.specs.Standing.{held_of}
-use Rattle.many_host.proofs.Counts.{left_began, taken_of}
+use Rattle.many_host.proofs.Counts.{left_began, left_when_begun, line_from}
 use Rattle.many_host.proofs.Beginning.{begun_at, due_within}
 use Rattle.many_host.proofs.turn_taking.Turns.begin.Goals as goal
 
 pub returns-in_default-clause-told : goal.returns-in_default-clause-told
 returns-in_default-clause-told g c = λ programs detaches ds lines s. record {
   stands = s;
+  tellers_are = refl;
   have_ended = subst (λ (l : List (Option ℕ)). HaveEnded l) c.deref.ensures.value c.in_default.ensures;
+  kept = refl;
 }
 
 pub tell-requires-clause-place : goal.tell-requires-clause-place
@@ -18,10 +19,13 @@ tell-requires-clause-place g c =
 
 pub returns-clause-told : goal.returns-clause-told
 returns-clause-told g c = λ programs detaches ds lines s.
-    c.in_ok-tell.ensures.told programs detaches ds lines
+    line_from
+    (left_began c.args.self.now.begun c.in-Some-checked_add.begun c.tell.new.self.begun c.deref-2.result.now detaches _ _ c.in-Some-checked_add.ensures.1 c.tell.ensures.begun
+    (c.deref-2.ensures.value ∙ s.detaches_are) c.detach_before.ensures.counts)
+    (c.in_ok-tell.ensures.told programs detaches ds lines
     (begun_at g.T.Teller.follows g.T.Teller.has_ended g.T.Teller.memory programs detaches ds lines (held_of c.args.self.now) _ c.in-Some.turn s
     (subst (λ (l : List (Option ℕ)). IsLeast l c.in-Some.turn.program c.in-Some.turn.due) c.deref.ensures.value c.in-Some.ensures)
-    c.in-Some-checked_add.begun c.deref-2.result.now _ c.in-Some-checked_add.ensures.1 c.deref-2.ensures.value c.detach_before.ensures.devices)
+    c.in-Some-checked_add.begun c.deref-2.result.now _ c.in-Some-checked_add.ensures.1 c.deref-2.ensures.value c.detach_before.ensures.devices))
 
 pub returns-in_default-clause-none : goal.returns-in_default-clause-none
 returns-in_default-clause-none g c = subst (λ (l : List (Option ℕ)). HaveEnded l) c.deref.ensures.value c.in_default.ensures
@@ -29,15 +33,30 @@ returns-in_default-clause-none g c = subst (λ (l : List (Option ℕ)). HaveEnde
 pub returns-clause-none : goal.returns-clause-none
 returns-clause-none g c = λ ended. subst (λ (l : List (Option ℕ)). HaveEnded l) (sym c.deref.ensures.value) ended c.in-Some.turn.program c.in-Some.turn.due c.in-Some.ensures.there
 
-pub returns-clause-calls : goal.returns-clause-calls
-returns-clause-calls g c = λ programs detaches ds lines s.
-    taken_of programs (line_of c.in_ok-tell.field-0) _ _ _
-    (left_began c.args.self.now.begun c.in-Some-checked_add.begun c.tell.new.self.begun c.deref-2.result.now detaches _ _ c.in-Some-checked_add.ensures.1 c.tell.ensures.begun
-    (c.deref-2.ensures.value ∙ s.detaches_are) c.detach_before.ensures.counts)
-    (c.in_ok-tell.ensures.calls programs detaches ds lines
-    (begun_at g.T.Teller.follows g.T.Teller.has_ended g.T.Teller.memory programs detaches ds lines (held_of c.args.self.now) _ c.in-Some.turn s
-    (subst (λ (l : List (Option ℕ)). IsLeast l c.in-Some.turn.program c.in-Some.turn.due) c.deref.ensures.value c.in-Some.ensures)
-    c.in-Some-checked_add.begun c.deref-2.result.now _ c.in-Some-checked_add.ensures.1 c.deref-2.ensures.value c.detach_before.ensures.devices))
-
 pub returns-clause-begun : goal.returns-clause-begun
 returns-clause-begun g c = c.tell.ensures.begun ∙ c.in-Some-checked_add.ensures.1
+
+pub tell-requires-clause-tells : goal.tell-requires-clause-tells
+tell-requires-clause-tells g c =
+    let t = c.requires.tells in
+    record {
+      programs = t.programs;
+      detaches = t.detaches;
+      devices = t.devices;
+      lines = t.lines;
+      stands = begun_at g.T.Teller.follows g.T.Teller.has_ended g.T.Teller.memory t.programs t.detaches t.devices t.lines (held_of c.args.self.now) _ c.in-Some.turn t.stands
+          (subst (λ (l : List (Option ℕ)). IsLeast l c.in-Some.turn.program c.in-Some.turn.due) c.deref.ensures.value c.in-Some.ensures)
+          c.in-Some-checked_add.begun c.deref-2.result.now _ c.in-Some-checked_add.ensures.1 c.deref-2.ensures.value c.detach_before.ensures.devices;
+    }
+
+pub returns-in_err-tell-clause-left : goal.returns-in_err-tell-clause-left
+returns-in_err-tell-clause-left g c = λ programs detaches ds lines s e.
+    left_when_begun c.args.self.now.begun c.in-Some-checked_add.begun c.deref-2.result.now detaches _ _ _ c.in-Some-checked_add.ensures.1 (c.deref-2.ensures.value ∙ s.detaches_are)
+    c.detach_before.ensures.devices
+    (c.in_err-tell.ensures.kept programs detaches ds lines
+    (begun_at g.T.Teller.follows g.T.Teller.has_ended g.T.Teller.memory programs detaches ds lines (held_of c.args.self.now) _ c.in-Some.turn s
+    (subst (λ (l : List (Option ℕ)). IsLeast l c.in-Some.turn.program c.in-Some.turn.due) c.deref.ensures.value c.in-Some.ensures)
+    c.in-Some-checked_add.begun c.deref-2.result.now _ c.in-Some-checked_add.ensures.1 c.deref-2.ensures.value c.detach_before.ensures.devices) refl)
+
+pub returns-in_default-checked_add-clause-left : goal.returns-in_default-checked_add-clause-left
+returns-in_default-checked_add-clause-left g c = λ programs detaches ds lines s e. inl refl

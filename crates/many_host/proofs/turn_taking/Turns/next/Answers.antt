@@ -1,7 +1,7 @@
-use Rattle.std.proofs.Common.{subst, sym}
+use Rattle.std.proofs.Common.{inl, refl, subst, sym}
 use Rattle.std.specs.Prelude.{IfOk}
 use Rattle.wa_model.specs.View.{line_of}
-use Rattle.many_host.proofs.Counts.{left_kept, taken_of}
+use Rattle.many_host.proofs.Counts.{left_kept, line_from}
 use Rattle.many_host.specs.declared.turn_taking.Stage.{Stage}
 use Rattle.many_host.specs.Calls.{BegunBy, BegunNext}
 use Rattle.many_host.specs.Standing.{held_of}
@@ -15,29 +15,29 @@ returns-in-Between-clause-told g c = λ programs detaches ds lines s.
 
 pub returns-in_ok-tell-in-Telling-clause-told : goal.returns-in_ok-tell-in-Telling-clause-told
 returns-in_ok-tell-in-Telling-clause-told g c = λ programs detaches ds lines s.
-    c.in_ok-tell-in-Telling.ensures.told programs detaches ds lines
-    (standing g.T.Teller.follows g.T.Teller.has_ended g.T.Teller.memory programs detaches ds lines (held_of c.args.self.now) _ c.args.self.now.stage _ c.in-Telling.is s)
+    line_from (left_kept c.args.self.now.begun c.tell.new.self.begun detaches _ c.tell.ensures.begun)
+    (c.in_ok-tell-in-Telling.ensures.told programs detaches ds lines
+    (standing g.T.Teller.follows g.T.Teller.has_ended g.T.Teller.memory programs detaches ds lines (held_of c.args.self.now) _ c.args.self.now.stage _ c.in-Telling.is s))
 
 pub returns-in-Showing-clause-told : goal.returns-in-Showing-clause-told
 returns-in-Showing-clause-told g c = λ programs detaches ds lines s.
     c.show.ensures.told programs detaches ds lines
     (standing g.T.Teller.follows g.T.Teller.has_ended g.T.Teller.memory programs detaches ds lines (held_of c.args.self.now) _ c.args.self.now.stage _ c.in-Showing.is s)
 
-pub returns-in-Between-clause-calls : goal.returns-in-Between-clause-calls
-returns-in-Between-clause-calls g c = λ programs detaches ds lines s.
-    c.begin.ensures.calls programs detaches ds lines
+pub returns-in-Between-clause-left : goal.returns-in-Between-clause-left
+returns-in-Between-clause-left g c = λ programs detaches ds lines s.
+    c.begin.ensures.left programs detaches ds lines
     (standing g.T.Teller.follows g.T.Teller.has_ended g.T.Teller.memory programs detaches ds lines (held_of c.args.self.now) _ c.args.self.now.stage _ c.in-Between.is s)
 
-pub returns-in-Showing-clause-calls : goal.returns-in-Showing-clause-calls
-returns-in-Showing-clause-calls g c = λ programs detaches ds lines s.
-    c.show.ensures.calls programs detaches ds lines
+pub returns-in-Showing-clause-left : goal.returns-in-Showing-clause-left
+returns-in-Showing-clause-left g c = λ programs detaches ds lines s.
+    c.show.ensures.left programs detaches ds lines
     (standing g.T.Teller.follows g.T.Teller.has_ended g.T.Teller.memory programs detaches ds lines (held_of c.args.self.now) _ c.args.self.now.stage _ c.in-Showing.is s)
 
-pub returns-in_ok-tell-in-Telling-clause-calls : goal.returns-in_ok-tell-in-Telling-clause-calls
-returns-in_ok-tell-in-Telling-clause-calls g c = λ programs detaches ds lines s.
-    taken_of programs (line_of c.in_ok-tell-in-Telling.field-0) _ _ _ (left_kept c.args.self.now.begun c.tell.new.self.begun detaches _ c.tell.ensures.begun)
-    (c.in_ok-tell-in-Telling.ensures.calls programs detaches ds lines
-    (standing g.T.Teller.follows g.T.Teller.has_ended g.T.Teller.memory programs detaches ds lines (held_of c.args.self.now) _ c.args.self.now.stage _ c.in-Telling.is s))
+pub returns-in_err-tell-in-Telling-clause-left : goal.returns-in_err-tell-in-Telling-clause-left
+returns-in_err-tell-in-Telling-clause-left g c = λ programs detaches ds lines s e.
+    inl (c.in_err-tell-in-Telling.ensures.kept programs detaches ds lines
+    (standing g.T.Teller.follows g.T.Teller.has_ended g.T.Teller.memory programs detaches ds lines (held_of c.args.self.now) _ c.args.self.now.stage _ c.in-Telling.is s) refl)
 
 pub returns-in-Between-clause-begun : goal.returns-in-Between-clause-begun
 returns-in-Between-clause-begun g c =
@@ -50,3 +50,36 @@ returns-in_ok-tell-in-Telling-clause-begun g c =
 pub returns-in-Showing-clause-begun : goal.returns-in-Showing-clause-begun
 returns-in-Showing-clause-begun g c =
     subst (λ (stage : Stage). IfOk c.show.result (λ r. BegunNext stage c.args.self.now.begun c.show.new.self.begun r)) (sym c.in-Showing.is) c.show.ensures.begun
+
+pub begin-requires-clause-tells : goal.begin-requires-clause-tells
+begin-requires-clause-tells g c =
+    let t = c.requires.tells in
+    record {
+      programs = t.programs;
+      detaches = t.detaches;
+      devices = t.devices;
+      lines = t.lines;
+      stands = standing g.T.Teller.follows g.T.Teller.has_ended g.T.Teller.memory t.programs t.detaches t.devices t.lines (held_of c.args.self.now) _ c.args.self.now.stage _ c.in-Between.is t.stands;
+    }
+
+pub tell-requires-clause-tells : goal.tell-requires-clause-tells
+tell-requires-clause-tells g c =
+    let t = c.requires.tells in
+    record {
+      programs = t.programs;
+      detaches = t.detaches;
+      devices = t.devices;
+      lines = t.lines;
+      stands = standing g.T.Teller.follows g.T.Teller.has_ended g.T.Teller.memory t.programs t.detaches t.devices t.lines (held_of c.args.self.now) _ c.args.self.now.stage _ c.in-Telling.is t.stands;
+    }
+
+pub show-requires-clause-tells : goal.show-requires-clause-tells
+show-requires-clause-tells g c =
+    let t = c.requires.tells in
+    record {
+      programs = t.programs;
+      detaches = t.detaches;
+      devices = t.devices;
+      lines = t.lines;
+      stands = standing g.T.Teller.follows g.T.Teller.has_ended g.T.Teller.memory t.programs t.detaches t.devices t.lines (held_of c.args.self.now) _ c.args.self.now.stage _ c.in-Showing.is t.stands;
+    }

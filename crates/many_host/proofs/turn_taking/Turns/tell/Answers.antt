@@ -1,22 +1,30 @@
+use Rattle.std.proofs.Common.{refl}
 use Rattle.wa_model.specs.View.{event_of}
 use Rattle.many_host.specs.Standing.{held_of}
 use Rattle.many_host.proofs.Counts.{counted_devices, counted_faults}
-use Rattle.many_host.proofs.TurnNotes.{call_on, told_on}
+use Rattle.many_host.proofs.TurnNotes.{follows_now, kept_on, line_told}
 use Rattle.many_host.proofs.TurnPlaces.{stands_at}
 use Rattle.many_host.proofs.turn_taking.Turns.tell.Goals as goal
 
 pub returns-clause-told : goal.returns-clause-told
 returns-clause-told g c = λ programs detaches ds lines s.
     let there = stands_at c.args.self.now.programs.items c.args.turn.program c.index_mut.result.now c.requires.place c.index_mut.ensures.value in
-    told_on g.T.Teller.follows g.T.Teller.has_ended g.T.Teller.memory programs detaches ds lines (held_of c.args.self.now) _ c.args.turn s c.index_mut.result.now there
+    line_told g.T.Teller.follows g.T.Teller.has_ended g.T.Teller.memory programs detaches ds lines (held_of c.args.self.now) _ c.args.turn s c.index_mut.result.now there
     c.advance.new.self (event_of c.in_ok-event.event) _ _ _ c.in_ok-event.ensures.told c.in_ok-next.next.due c.in_ok-next.next.stage c.in_ok-next.ensures.due c.in_ok-next.ensures.stage
-
-pub returns-clause-calls : goal.returns-clause-calls
-returns-clause-calls g c = λ programs detaches ds lines s.
-    let there = stands_at c.args.self.now.programs.items c.args.turn.program c.index_mut.result.now c.requires.place c.index_mut.ensures.value in
-    call_on g.T.Teller.follows g.T.Teller.has_ended g.T.Teller.memory programs detaches ds lines (held_of c.args.self.now) _ c.args.turn s c.index_mut.result.now there
-    c.advance.new.self (event_of c.in_ok-event.event) _ _ _ c.in_ok-event.ensures.told _ _
+    _ _
     (counted_devices (λ z. (goal.Device-dyn g z).seen z.1) (λ z. (goal.Device-dyn g z).faults z.1) c.args.devices.now)
     (counted_faults (λ z. (goal.Device-dyn g z).seen z.1) (λ z. (goal.Device-dyn g z).faults z.1) c.args.devices.now)
     (counted_devices (λ z. (goal.Device-dyn g z).seen z.1) (λ z. (goal.Device-dyn g z).faults z.1) c.advance.new.devices)
     (counted_faults (λ z. (goal.Device-dyn g z).seen z.1) (λ z. (goal.Device-dyn g z).faults z.1) c.advance.new.devices)
+
+pub advance-requires-clause-goes : goal.advance-requires-clause-goes
+advance-requires-clause-goes g c =
+    let t = c.requires.tells in
+    let there = stands_at c.args.self.now.programs.items c.args.turn.program c.index_mut.result.now c.requires.place c.index_mut.ensures.value in
+    follows_now g.T.Teller.follows g.T.Teller.has_ended g.T.Teller.memory t.programs t.detaches t.devices t.lines (held_of c.args.self.now) _ c.args.turn t.stands c.index_mut.result.now there
+
+pub returns-in_err-next-clause-kept : goal.returns-in_err-next-clause-kept
+returns-in_err-next-clause-kept g c = λ programs detaches ds lines s e.
+    let there = stands_at c.args.self.now.programs.items c.args.turn.program c.index_mut.result.now c.requires.place c.index_mut.ensures.value in
+    kept_on g.T.Teller.follows g.T.Teller.has_ended g.T.Teller.memory programs detaches ds lines (held_of c.args.self.now) _ c.args.turn s c.index_mut.result.now there
+    c.advance.new.self (event_of c.in_ok-event.event) _ _ _ c.in_ok-event.ensures.told (c.in_err-next.ensures.paused refl)

@@ -11,3 +11,6 @@ returns-clause-next c = λ w notes f none.
 
 pub returns-clause-again : goal.returns-clause-again
 returns-clause-again c = λ how told. IfOk-weaker c.advance.result _ _ (λ event h. (h.0, h.1)) (c.advance.ensures.again how told)
+
+pub advance-requires-clause-goes : goal.advance-requires-clause-goes
+advance-requires-clause-goes c = c.requires

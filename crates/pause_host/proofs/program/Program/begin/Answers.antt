@@ -38,3 +38,8 @@ returns-clause-next g c = λ w notes os code f.
     (omega (arith, c.start.ensures.sum, c.start.ensures.grows, c.unused-steps.ensures.left))
     (same_place w x (left_of c.start.new.left) (store_in i') (waits_in i') stage is) refl
     (memory_told w x i' stage is (c.start.ensures.code ∙ code)) (c.start.ensures.code ∙ code))
+
+pub start-requires-clause-there : goal.start-requires-clause-there
+start-requires-clause-there g c =
+    let h = c.requires in
+    record { program = h.program; setting = h.at.setting; code_is = h.code; fits = h.at.fits }

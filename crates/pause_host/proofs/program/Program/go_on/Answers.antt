@@ -1,7 +1,7 @@
 use Rattle.std.proofs.Common.{◌-◌, refl, sym, ◌∙◌, subst, arith}
 use Rattle.wa_model.specs.Protocol.{exports_of}
 use Rattle.interp.specs.Host.{store_in, waits_in}
-use Rattle.pause_host.specs.Moves.{Moves}
+use Rattle.pause_host.specs.Moves.{Moves, PlaceFits}
 use Rattle.pause_host.specs.Views.{left_of, lines_in, place_in}
 use Rattle.pause_host.specs.declared.program.Program.{Program}
 use Rattle.pause_host.specs.declared.program.State.TheVariants.{Live}
@@ -38,3 +38,15 @@ returns-clause-next g c = λ w notes os f code more.
     (omega (arith, c.next_event.ensures.sum, c.next_event.ensures.grows, c.unused-steps.ensures.left))
     (same_place w x (left_of c.next_event.new.left) (store_in i') (waits_in i') stage is) refl
     (memory_told w x i' stage is (c.next_event.ensures.code ∙ code)) (c.next_event.ensures.code ∙ code))
+
+pub next_event-requires-clause-there : goal.next_event-requires-clause-there
+next_event-requires-clause-there g c =
+    let x = c.args.self.now in
+    let h = c.requires in
+    let i = c.args.instance in
+    record {
+      program = h.program;
+      setting = h.at.setting;
+      code_is = h.code;
+      fits = subst (PlaceFits h.program) (same_place h.program x (left_of x.left) (store_in i) (waits_in i) c.args.stage h.at.setting) h.at.fits;
+    }

@@ -13,3 +13,12 @@ pub returns-in-Err-clause-next : goal.returns-in-Err-clause-next
 returns-in-Err-clause-next g c = λ w notes os f.
     let p = module_of c.args.self.now.valid.now in
     c.not_opened.ensures w notes os _ _ (subst (λ g. FailsAs (opening p g) c.in-Err.fault) c.deref.ensures.value c.in-Err.ensures.err) f
+
+pub opened-requires-clause-code : goal.opened-requires-clause-code
+opened-requires-clause-code g c = c.in-Ok.ensures.code
+
+pub opened-requires-clause-store : goal.opened-requires-clause-store
+opened-requires-clause-store g c = ap (opening (module_of c.args.self.now.valid.now)) (sym c.deref.ensures.value) ∙ c.in-Ok.ensures.store
+
+pub opened-requires-clause-goes : goal.opened-requires-clause-goes
+opened-requires-clause-goes g c = c.requires
