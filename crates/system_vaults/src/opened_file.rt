@@ -1,40 +1,49 @@
-//! `Stream`: an opened file in which no place can be sought.
+//! `OpenedFile`: a file that stays open from one call to the next.
 
 ghost use Rattle.std.specs.Prelude.{◌≤◌, IfOk, length};
 
 use std::fs::{Files, Metadata, OpenFile, OpenOptions};
-use std::io::{self, Error, ErrorKind, Read, Write};
+use std::io::{self, Error, ErrorKind, Read, Seek, SeekFrom, Write};
 use std::os::unix::fs::{FileTypeExt, MetadataExt};
 
-/// A pipe or a device that was opened, which of all files it is, and how many bytes went through it.
+/// A file that was opened, which of all files it is, and the place at which it stands: of a pipe or a device, how many bytes went
+/// through it.
 #[derive(Drop)]
-pub(crate) struct Stream<F: Read + Write + OpenFile + Drop> {
+pub(crate) struct OpenedFile<F: Read + Write + Seek + OpenFile + Drop> {
     file: F,
     device: u64,
     node: u64,
-    done: u64,
+    place: u64,
 }
 
-impl<F: Read + Write + OpenFile + Drop> Stream<F> {
+impl<F: Read + Write + Seek + OpenFile + Drop> OpenedFile<F> {
     /// Opens one at its beginning.
     pub(crate) fn open<R: Files<File = F>>(
         rt: &R,
         how: &OpenOptions,
         name: &str,
-    ) -> io::Result<Stream<F>> {
+    ) -> io::Result<OpenedFile<F>> {
         let file = how.open(rt, name)?;
         let found = file.metadata()?;
-        Ok(Stream {
+        Ok(OpenedFile {
             file,
             device: found.dev(),
             node: found.ino(),
-            done: 0,
+            place: 0,
         })
     }
 
     /// Whether it is this file, and stands at this place.
     pub(crate) fn stands_at(&self, found: &Metadata, place: u64) -> bool {
-        self.device == found.dev() && self.node == found.ino() && self.done == place
+        self.device == found.dev() && self.node == found.ino() && self.place == place
+    }
+
+    /// Makes it its first `at` bytes, and goes behind them.
+    pub(crate) fn cut(&mut self, at: u64) -> io::Result<()> {
+        self.file.set_len(at)?;
+        self.file.seek(SeekFrom::Start(at))?;
+        self.place = at;
+        Ok(())
     }
 
     /// Reads what comes next.
@@ -42,16 +51,16 @@ impl<F: Read + Write + OpenFile + Drop> Stream<F> {
         ensures { IfOk result (λ count. count ≤ length buf.new) }
     {
         let count = self.file.read(buf)?;
-        self.done = self.done.saturating_add(count as u64);
+        self.place = self.place.saturating_add(count as u64);
         Ok(count)
     }
 
-    /// Writes behind what was written.
+    /// Writes what comes next.
     pub(crate) fn write(&mut self, piece: &[u8]) -> io::Result<usize>
         ensures { IfOk result (λ count. count ≤ length piece.now) }
     {
         let count = self.file.write(piece)?;
-        self.done = self.done.saturating_add(count as u64);
+        self.place = self.place.saturating_add(count as u64);
         Ok(count)
     }
 }

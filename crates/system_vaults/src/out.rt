@@ -1,0 +1,20 @@
+//! The trait `Out`: what a system does with output.
+
+ghost use Rattle.std.specs.Prelude.{◌≡◌, ◌≤◌, ℕ, List, length, take, Option, IfOk, OnErr};
+ghost use Rattle.vault_port.specs.Told.{Becomes};
+ghost use Rattle.vault_port.specs.Taken.{Appends};
+
+use std::io;
+
+/// What a system does with output. An error is the system's own.
+pub trait Out {
+    /// The bytes written so far, where the output tells them.
+    ghost written: { Self → Option (List ℕ) };
+
+    /// Writes the first bytes of a piece by one call, and answers how many. After an error none was written.
+    fn write(&mut self, piece: &[u8]) -> io::Result<usize>
+        ensures count { IfOk result (λ n. n ≤ length piece.now) }
+        ensures written { IfOk result (λ n. Becomes (written self.old) (written self.new)
+            (Appends (take n piece.now))) }
+        ensures kept { OnErr result (written self.new ≡ written self.old) };
+}

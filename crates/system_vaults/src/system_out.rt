@@ -1,0 +1,29 @@
+//! `SystemOut`: standard output.
+
+ghost use Rattle.std.specs.Prelude.{◌≤◌, None, IfOk, length};
+
+use crate::out::Out;
+use std::io;
+
+/// Standard output. It doesn't tell what was written: that it does what `Out` says is trusted.
+#[derive(Drop)]
+pub struct SystemOut<R: Print + Drop> {
+    rt: R,
+}
+
+impl<R: Print + Drop> SystemOut<R> {
+    /// The output of this runtime.
+    pub fn new(rt: R) -> SystemOut<R> {
+        SystemOut { rt }
+    }
+}
+
+impl<R: Print + Drop> Out for SystemOut<R> {
+    ghost written = { λ _. None };
+
+    fn write(&mut self, piece: &[u8]) -> io::Result<usize>
+        ensures { IfOk result (λ n. n ≤ length piece.now) }
+    {
+        self.rt.write_some(piece)
+    }
+}
