@@ -1,8 +1,9 @@
 -- What the program answers to its words.
-use Rattle.std.specs.Prelude.{◌≡◌, ◌⊎◌, ℕ, List, [], ◌∷◌, None, codes}
+use Rattle.std.specs.Prelude.{◌≡◌, ◌⊎◌, ℕ, List, [], ◌∷◌, Option, None, codes}
+use Rattle.vault_port.specs.Files.{Files}
 use Rattle.vault_port.specs.Told.{Becomes}
 use Rattle.script_model.specs.Command.{OnTransform}
-use Rattle.script_model.specs.Spelled.{rewriting}
+use Rattle.script_model.specs.Spelled.{Spelled, rewriting}
 use Rattle.script_model.specs.Transcript.{read_fault, refusal_line, usage, write_fault}
 use Rattle.event_order.specs.Left.{Counted}
 use Rattle.transcript.specs.Refused.{Prints, PrintsMemory}
@@ -36,3 +37,23 @@ pub record IsAnswered (c : Call) (status : ℕ) : Type 0 where
       IsRefusal status → Becomes c.taken c.taken' (PrintsRefusal settings c.files input status c.sink_faults c.sink_faults'))
   pub prints_usage : status ≡ 2 → Becomes c.taken c.taken' (Prints (refusal_line None usage) c.sink_faults c.sink_faults')
   pub prints_usage_memory : c.spelled ≡ None → status ≡ 9 → Becomes c.taken c.taken' (PrintsMemory (refusal_line None usage))
+
+-- a call is answered that has these devices, whatever becomes of them
+unfoldable pub Answers : Option Spelled → (files files' : Option Files) → (fetch_faults fetch_faults' save_faults save_faults' sink_faults sink_faults' : ℕ)
+    → (taken taken' : Option (List ℕ)) → (devices : List Counted) → (status : ℕ) → Type 0
+Answers spelled files files' fetch_faults fetch_faults' save_faults save_faults' sink_faults sink_faults' taken taken' devices status =
+    (left : List Counted) × IsAnswered (record {
+      spelled = spelled;
+      files = files;
+      files' = files';
+      fetch_faults = fetch_faults;
+      fetch_faults' = fetch_faults';
+      save_faults = save_faults;
+      save_faults' = save_faults';
+      sink_faults = sink_faults;
+      sink_faults' = sink_faults';
+      taken = taken;
+      taken' = taken';
+      devices = devices;
+      devices' = left;
+    }) status

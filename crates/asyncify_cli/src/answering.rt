@@ -1,11 +1,12 @@
 //! What the program answers to its words, over any disk and any output.
 
-ghost use Rattle.std.specs.Prelude.{◌≡◌, List, map, IfSome, IsNone};
+ghost use Rattle.std.specs.Prelude.{◌≡◌, map, IfSome, IsNone};
 ghost use Rattle.std.specs.String.{string_bytes};
 ghost use Rattle.script_model.specs.Spelled.{spelled};
-ghost use Rattle.event_order.specs.Left.{Counted};
+ghost use Rattle.host_laws.specs.Supplies.{IsLent};
+ghost use Rattle.asyncify_app.specs.Devices.{counted_boxes};
 ghost use Rattle.system_vaults.specs.Kept.{disk_of, file_fetch_faults, file_save_faults, out_of, out_faults};
-ghost use Rattle.asyncify_cli.specs.Answered.{IsAnswered, own_devices};
+ghost use Rattle.asyncify_cli.specs.Answered.{Answers, own_devices};
 
 use asyncify_app::asyncify;
 use device_port::{Counter, Device, Echo};
@@ -24,21 +25,13 @@ pub(crate) fn answer_words<D: Disk + Drop, O: Out + Drop>(
     vault: &mut FileVault<D>,
     out: &mut OutSink<O>,
 ) -> Option<u8>
-    ensures answered { IfSome result (λ status. (left : List Counted) × IsAnswered (record {
-      spelled = spelled (map string_bytes words.now);
-      files = D.files (disk_of vault.old);
-      files' = D.files (disk_of vault.new);
-      fetch_faults = file_fetch_faults vault.old;
-      fetch_faults' = file_fetch_faults vault.new;
-      save_faults = file_save_faults vault.old;
-      save_faults' = file_save_faults vault.new;
-      sink_faults = out_faults out.old;
-      sink_faults' = out_faults out.new;
-      taken = O.written (out_of out.old);
-      taken' = O.written (out_of out.new);
-      devices = own_devices;
-      devices' = left;
-    }) status) }
+    ensures answered { IfSome result (λ status. Answers (spelled (map string_bytes words.now))
+        (D.files (disk_of vault.old)) (D.files (disk_of vault.new))
+        (file_fetch_faults vault.old) (file_fetch_faults vault.new)
+        (file_save_faults vault.old) (file_save_faults vault.new)
+        (out_faults out.old) (out_faults out.new)
+        (O.written (out_of out.old)) (O.written (out_of out.new))
+        own_devices status) }
     ensures files_kept { IsNone result → D.files (disk_of vault.new) ≡ D.files (disk_of vault.old) }
     ensures out_kept { IsNone result → O.written (out_of out.new) ≡ O.written (out_of out.old) }
 {
@@ -47,5 +40,25 @@ pub(crate) fn answer_words<D: Disk + Drop, O: Out + Drop>(
     let mut devices: Vec<Box<dyn Device>> = Vec::new(alloc);
     devices.push(Box::new(alloc, counter).ok()?).ok()?;
     devices.push(Box::new(alloc, echo).ok()?).ok()?;
-    Some(asyncify(alloc, words, vault, out, &mut devices))
+    Some(answer_with(alloc, words, vault, out, &mut devices))
+}
+
+/// Runs it with these devices.
+fn answer_with<D: Disk + Drop, O: Out + Drop>(
+    alloc: Global,
+    words: &[String],
+    vault: &mut FileVault<D>,
+    out: &mut OutSink<O>,
+    devices: &mut Vec<Box<dyn Device>>,
+) -> u8
+    requires lent { IsLent }
+    ensures { Answers (spelled (map string_bytes words.now))
+        (D.files (disk_of vault.old)) (D.files (disk_of vault.new))
+        (file_fetch_faults vault.old) (file_fetch_faults vault.new)
+        (file_save_faults vault.old) (file_save_faults vault.new)
+        (out_faults out.old) (out_faults out.new)
+        (O.written (out_of out.old)) (O.written (out_of out.new))
+        (counted_boxes seen (λ b. (⟦<dyn Device as Device>⟧ b.vtable).faults b.value) devices.old.items) result }
+{
+    asyncify(alloc, words, vault, out, devices)
 }

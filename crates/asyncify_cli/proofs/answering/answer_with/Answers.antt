@@ -1,0 +1,26 @@
+-- What the call of `asyncify` says is handed on.
+use Rattle.asyncify_cli.specs.Answered.{Answers}
+use Rattle.asyncify_cli.proofs.answering.answer_with.Goals as goal
+
+pub returns : goal.returns
+unfolding Answers
+returns g c =
+    let e = c.asyncify.ensures in (
+      _,
+      record {
+        one_end = e.one_end;
+        done = e.done;
+        cut = e.cut;
+        kept = e.kept;
+        scripts_kept = e.scripts_kept;
+        usage_kept = e.usage_files;
+        prints_done = e.prints_done;
+        prints_less = e.prints_less;
+        prints_memory = e.prints_memory;
+        prints_read = e.prints_read;
+        prints_write = e.prints_write;
+        prints_refusal = e.prints_refusal;
+        prints_usage = e.prints_usage;
+        prints_usage_memory = e.prints_usage_memory;
+      },
+    )
