@@ -3,7 +3,6 @@
 ghost use Rattle.std.specs.Prelude.{◌≡◌, ◌≤◌, [], ◌∷◌, IsErrOf, List, OnOk, length, map};
 ghost use Rattle.std.specs.Result.{IfErr};
 ghost use Rattle.vault_port.specs.Counts.{HasRisen};
-ghost use Rattle.vault_port.specs.Told.{Becomes};
 ghost use Rattle.wa_model.specs.declared.answers.Detach.{Detach as DetachValue};
 ghost use Rattle.host_laws.specs.Supplies.{IsLent};
 ghost use Rattle.transcript.specs.Printing.{names_of};
@@ -41,13 +40,15 @@ pub fn host_programs<S: Sink>(
     requires few { length staged.items ≤ 16 }
     ensures same_list { devices.new.list.ghost_name ≡ devices.old.list.ghost_name }
     ensures told { (parts : List Part) → AreStaged parts staged.entry.items
-        → OnOk result (Becomes (S.taken out.old) (S.taken out.new) (Tells parts detaches.items
+        → OnOk result (Tells parts detaches.items
         (counted seen (λ d. (⟦<dyn Device as Device>⟧ d.0).faults d.1) devices.old)
-        (counted seen (λ d. (⟦<dyn Device as Device>⟧ d.0).faults d.1) devices.new))) }
+        (counted seen (λ d. (⟦<dyn Device as Device>⟧ d.0).faults d.1) devices.new)
+        (S.taken out.old) (S.taken out.new)) }
     ensures part { (parts : List Part) → AreStaged parts staged.entry.items
-        → IfErr result (λ fault. Becomes (S.taken out.old) (S.taken out.new) (TellsPart fault parts detaches.items
+        → IfErr result (λ fault. TellsPart fault parts detaches.items
         (counted seen (λ d. (⟦<dyn Device as Device>⟧ d.0).faults d.1) devices.old)
-        (counted seen (λ d. (⟦<dyn Device as Device>⟧ d.0).faults d.1) devices.new))) }
+        (counted seen (λ d. (⟦<dyn Device as Device>⟧ d.0).faults d.1) devices.new)
+        (S.taken out.old) (S.taken out.new)) }
     ensures fault { IsErrOf result PutFault.Fault → HasRisen (S.faults out.old) (S.faults out.new) }
     ensures faults { S.faults out.old ≤ S.faults out.new }
 {
@@ -69,13 +70,15 @@ fn host_parted<S: Sink>(
     requires few { length parted.programs.items ≤ 16 }
     ensures same_list { devices.new.list.ghost_name ≡ devices.old.list.ghost_name }
     ensures told { (parts : List Part) → CanHost parts parted.entry
-        → OnOk result (Becomes (S.taken out.old) (S.taken out.new) (Tells parts detaches.items
+        → OnOk result (Tells parts detaches.items
         (counted seen (λ d. (⟦<dyn Device as Device>⟧ d.0).faults d.1) devices.old)
-        (counted seen (λ d. (⟦<dyn Device as Device>⟧ d.0).faults d.1) devices.new))) }
+        (counted seen (λ d. (⟦<dyn Device as Device>⟧ d.0).faults d.1) devices.new)
+        (S.taken out.old) (S.taken out.new)) }
     ensures part { (parts : List Part) → CanHost parts parted.entry
-        → IfErr result (λ fault. Becomes (S.taken out.old) (S.taken out.new) (TellsPart fault parts detaches.items
+        → IfErr result (λ fault. TellsPart fault parts detaches.items
         (counted seen (λ d. (⟦<dyn Device as Device>⟧ d.0).faults d.1) devices.old)
-        (counted seen (λ d. (⟦<dyn Device as Device>⟧ d.0).faults d.1) devices.new))) }
+        (counted seen (λ d. (⟦<dyn Device as Device>⟧ d.0).faults d.1) devices.new)
+        (S.taken out.old) (S.taken out.new)) }
     ensures fault { IsErrOf result PutFault.Fault → HasRisen (S.faults out.old) (S.faults out.new) }
     ensures faults { S.faults out.old ≤ S.faults out.new }
 {
@@ -107,16 +110,18 @@ fn tell_lines<S: Sink>(
         → HostTold (world_programs parts) detaches (devices_of (counted seen (λ d. (⟦<dyn Device as Device>⟧ d.0).faults d.1) devices.old)) []
         host.old (devices_of (counted seen (λ d. (⟦<dyn Device as Device>⟧ d.0).faults d.1) devices.old))
         → host.old.turns.begun ≡ 0 → map names_of names.now ≡ map part_names parts
-        → OnOk result (Becomes (S.taken out.old) (S.taken out.new) (Tells parts detaches
+        → OnOk result (Tells parts detaches
         (counted seen (λ d. (⟦<dyn Device as Device>⟧ d.0).faults d.1) devices.old)
-        (counted seen (λ d. (⟦<dyn Device as Device>⟧ d.0).faults d.1) devices.new))) }
+        (counted seen (λ d. (⟦<dyn Device as Device>⟧ d.0).faults d.1) devices.new)
+        (S.taken out.old) (S.taken out.new)) }
     ensures part { (parts : List Part) (detaches : List DetachValue)
         → HostTold (world_programs parts) detaches (devices_of (counted seen (λ d. (⟦<dyn Device as Device>⟧ d.0).faults d.1) devices.old)) []
         host.old (devices_of (counted seen (λ d. (⟦<dyn Device as Device>⟧ d.0).faults d.1) devices.old))
         → host.old.turns.begun ≡ 0 → map names_of names.now ≡ map part_names parts
-        → IfErr result (λ fault. Becomes (S.taken out.old) (S.taken out.new) (TellsPart fault parts detaches
+        → IfErr result (λ fault. TellsPart fault parts detaches
         (counted seen (λ d. (⟦<dyn Device as Device>⟧ d.0).faults d.1) devices.old)
-        (counted seen (λ d. (⟦<dyn Device as Device>⟧ d.0).faults d.1) devices.new))) }
+        (counted seen (λ d. (⟦<dyn Device as Device>⟧ d.0).faults d.1) devices.new)
+        (S.taken out.old) (S.taken out.new)) }
     ensures fault { IsErrOf result PutFault.Fault → HasRisen (S.faults out.old) (S.faults out.new) }
     ensures faults { S.faults out.old ≤ S.faults out.new }
 {

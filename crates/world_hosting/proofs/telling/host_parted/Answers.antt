@@ -9,7 +9,7 @@ use Rattle.world_hosting.proofs.telling.host_parted.Goals as goal
 
 pub returns-in_default-clause-part : goal.returns-in_default-clause-part
 returns-in_default-clause-part g c = λ parts h.
-    none_printed parts c.args.detaches.items _ _ (begins_nothing (world_programs parts) c.args.parted.shows.items c.args.parted.programs.items c.args.detaches.items _ h.programs) _
+    none_printed parts c.args.detaches.items _ (begins_nothing (world_programs parts) c.args.parted.shows.items c.args.parted.programs.items c.args.detaches.items _ h.programs) _
 
 pub returns-clause-told : goal.returns-clause-told
 returns-clause-told g c = λ parts h.
