@@ -10,7 +10,7 @@ ghost use Rattle.many_host.specs.Calls.{devices_of};
 ghost use Rattle.many_host.specs.Standing.{InRange};
 ghost use Rattle.many_host.specs.Hosts.{HostTold};
 ghost use Rattle.world_hosting.specs.Counts.{counted};
-ghost use Rattle.world_hosting.specs.Parted.{CanHost};
+ghost use Rattle.world_hosting.specs.Parted.{BeginsHosting, CanHost};
 ghost use Rattle.world_hosting.specs.Views.{AreStaged};
 ghost use Rattle.world_hosting.specs.Worlds.{Part, Tells, TellsPart, part_names, world_programs};
 
@@ -38,6 +38,7 @@ pub fn host_programs<S: Sink>(
 ) -> Result<(), PutFault>
     requires lent { IsLent }
     requires few { length staged.items ≤ 16 }
+    requires staged { (parts : List Part) × AreStaged parts staged.items }
     ensures same_list { devices.new.list.ghost_name ≡ devices.old.list.ghost_name }
     ensures told { (parts : List Part) → AreStaged parts staged.entry.items
         → OnOk result (Tells parts detaches.items
@@ -68,6 +69,7 @@ fn host_parted<S: Sink>(
 ) -> Result<(), PutFault>
     requires lent { IsLent }
     requires few { length parted.programs.items ≤ 16 }
+    requires hosted { (parts : List Part) × CanHost parts parted }
     ensures same_list { devices.new.list.ghost_name ≡ devices.old.list.ghost_name }
     ensures told { (parts : List Part) → CanHost parts parted.entry
         → OnOk result (Tells parts detaches.items
@@ -105,6 +107,7 @@ fn tell_lines<S: Sink>(
 ) -> Result<(), PutFault>
     requires lent { IsLent }
     requires range { InRange host.old.turns }
+    requires begins { BeginsHosting host.old names.now (counted seen (λ d. (⟦<dyn Device as Device>⟧ d.0).faults d.1) devices.old) }
     ensures same_list { devices.new.list.ghost_name ≡ devices.old.list.ghost_name }
     ensures told { (parts : List Part) (detaches : List DetachValue)
         → HostTold (world_programs parts) detaches (devices_of (counted seen (λ d. (⟦<dyn Device as Device>⟧ d.0).faults d.1) devices.old)) []

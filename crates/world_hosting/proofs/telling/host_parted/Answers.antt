@@ -20,3 +20,15 @@ pub returns-clause-part : goal.returns-clause-part
 returns-clause-part g c = λ parts h.
     let ds = devices_of (counted (λ z. (goal.Device-dyn g z).seen z.1) (λ z. (goal.Device-dyn g z).faults z.1) c.args.devices.now) in
     c.tell_lines-told.ensures.part parts c.args.detaches.items (c.in-Ok.ensures.told (world_programs parts) ds h.programs) c.in-Ok.ensures.begun (ap (map names_of) c.deref.ensures.value ∙ h.names)
+
+pub tell_lines-told-requires-clause-begins : goal.tell_lines-told-requires-clause-begins
+tell_lines-told-requires-clause-begins g c =
+    let h = c.requires.hosted in
+    let ds = devices_of (counted (λ z. (goal.Device-dyn g z).seen z.1) (λ z. (goal.Device-dyn g z).faults z.1) c.args.devices.now) in
+    record {
+      parts = h.0;
+      detaches = c.args.detaches.items;
+      told = c.in-Ok.ensures.told (world_programs h.0) ds h.1.programs;
+      begun = c.in-Ok.ensures.begun;
+      names_are = ap (map names_of) c.deref.ensures.value ∙ h.1.names;
+    }

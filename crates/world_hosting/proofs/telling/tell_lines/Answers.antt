@@ -95,3 +95,16 @@ returns-in-Err-clause-part g c = λ parts detaches h none are.
     let begins = line_begins _ _ _ c.in-Ok.next c.in-Some.line c.in-Some.is c.in-Ok.ensures.begun in
     told_less parts detaches _ c.telling.host _ _ _ t c.next.new.self _ (map names_of c.args.names.now) are (line_of c.in-Some.line) counts begins c.in-Err.fault _
     c.in-Err.ensures.less
+
+pub next-requires-clause-tells : goal.next-requires-clause-tells
+next-requires-clause-tells g c =
+    let b = c.requires.begins in
+    let t = c.telling.invariant.told b.parts b.detaches b.told b.begun b.names_are in
+    let ds = devices_of (counted (λ z. (goal.Device-dyn g z).seen z.1) (λ z. (goal.Device-dyn g z).faults z.1) c.args.devices.now) in
+    record {
+      programs = world_programs b.parts;
+      detaches = b.detaches;
+      devices = ds;
+      lines = t.lines;
+      stands = host_seen (λ z. (goal.Device-dyn g z).seen z.1) (λ z. (goal.Device-dyn g z).faults z.1) (world_programs b.parts) b.detaches ds t.lines c.telling.devices c.telling.host t.host;
+    }
