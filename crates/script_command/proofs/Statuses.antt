@@ -50,13 +50,13 @@ fault_content (too_many found) = tt
 content_of : (r s : Refusal) → r ≡ s → IsOfContent s → IsOfContent r
 content_of r s e h = subst IsOfContent (sym e) h
 
-script_content : (bytes : List ℕ) (r : Refusal) → IsNoScript bytes r → IsOfContent r
+pub script_content : (bytes : List ℕ) (r : Refusal) → IsNoScript bytes r → IsOfContent r
 script_content bytes r h = elim h [
   | inl long ↦ content_of r _ long.1 tt
   | inr f ↦ content_of r (H.refusal_for f.0) f.2 (fault_content f.0)
 ]
 
-module_content : (way : Way) (files : Option Files) (t : ProgramText) (r : Refusal) → IsBadModule way files t r → IsOfContent r
+pub module_content : (way : Way) (files : Option Files) (t : ProgramText) (r : Refusal) → IsBadModule way files t r → IsOfContent r
 module_content Host files t r h = unprepared_content h.0 r h.2
 module_content Run files t r h = content_of r (refusal_for h.2.1) h.2.5 (cause_content h.2.1)
 
