@@ -99,7 +99,8 @@ returns-in-Err-clause-part g c = λ parts detaches h none are.
 pub next-requires-clause-tells : goal.next-requires-clause-tells
 next-requires-clause-tells g c =
     let b = c.requires.begins in
-    let t = c.telling.invariant.told b.parts b.detaches b.told b.begun b.names_are in
+    let so_far = c.telling.invariant.told b.parts b.detaches b.told b.begun b.names_are in
+    let t = so_far.told in
     let ds = devices_of (counted (λ z. (goal.Device-dyn g z).seen z.1) (λ z. (goal.Device-dyn g z).faults z.1) c.args.devices.now) in
     record {
       programs = world_programs b.parts;
