@@ -35,7 +35,7 @@ same_files : (R : Files → Files → Type 0) → ((a : Files) → R a a) → (o
 same_files R r None = tt
 same_files R r (Some a) = r a
 
-module _ (c : Call) (status : ℕ) (nine : status ≡ 9) (kept : c.files' ≡ c.files) (printed : Becomes c.taken c.taken' EndsInMemory) where
+module _ (c : Call) (status : ℕ) (nine : status ≡ 9) (kept : c.files' ≡ c.files) (same : c.devices' ≡ c.devices) (printed : Becomes c.taken c.taken' EndsInMemory) where
   none_saved : (output bytes : List ℕ) → Becomes c.files c.files' (HoldsFrontAtMost output bytes)
   none_saved output bytes =
       subst (λ (new : Option Files). Becomes c.files new (HoldsFrontAtMost output bytes)) (sym kept)
@@ -49,8 +49,8 @@ module _ (c : Call) (status : ℕ) (nine : status ≡ 9) (kept : c.files' ≡ c.
   by_memory : (o : Option Spelled) → EndsBy c o status
   by_memory None = inr nine
   by_memory (Some (rewrites (transform s input output))) = TransformEnds.memory_ends (transform_call c s input output) status nine
-  by_memory (Some (hosts script)) = one_end (script_call c Host script) status (out_of_memory_alone (script_call c Host script) status nine printed)
-  by_memory (Some (runs script)) = one_end (script_call c Run script) status (out_of_memory_alone (script_call c Run script) status nine printed)
+  by_memory (Some (hosts script)) = one_end (script_call c Host script) status (out_of_memory_alone (script_call c Host script) status same nine printed)
+  by_memory (Some (runs script)) = one_end (script_call c Run script) status (out_of_memory_alone (script_call c Run script) status same nine printed)
   by_memory (Some (generates n output)) = inr (inl (nine, none_saved output (Enc (generated n)), no_line n output))
 
   -- Memory is wanting before the words are read.

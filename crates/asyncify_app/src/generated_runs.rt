@@ -39,7 +39,8 @@ pub fn play_generated(alloc: Global, module: Module) -> Result<Played, AllocErro
 }
 
 fn play(alloc: Global, module: &Valid) -> Result<Played, AllocError>
-    requires { (module_of «module».now).imports ≡ sleep ∷ [] }
+    requires imports { (module_of «module».now).imports ≡ sleep ∷ [] }
+    requires rewritten { (n : ℕ) × Rewrites (generated n) all_listed (module_of «module».now) }
     ensures { (n : ℕ) → Rewrites (generated n) all_listed (module_of «module».now) → IfOk result (λ p. PausesOnce (run_program n (module_of «module».now)) p.used p.value) }
 {
     let mut program = program_of(alloc, module)?;
@@ -47,6 +48,7 @@ fn play(alloc: Global, module: &Valid) -> Result<Played, AllocError>
 }
 
 fn play_through(program: &mut Program<'_>) -> Result<Played, AllocError>
+    requires { (w : WorldProgram) × FollowsAlone w [] program.old }
     ensures { (w : WorldProgram) → FollowsAlone w [] program.old → IfOk result (λ p. PausesOnce w p.used p.value) }
 {
     hear_call(program)?;
@@ -59,6 +61,7 @@ fn play_through(program: &mut Program<'_>) -> Result<Played, AllocError>
 
 // The import is called.
 fn hear_call(program: &mut Program<'_>) -> Result<(), AllocError>
+    requires { (w : WorldProgram) × (notes : List Note) × FollowsAlone w notes program.old }
     ensures { (w : WorldProgram) (notes : List Note) → FollowsAlone w notes program.old → ended_as program.old ≡ None
         → OnOk result ((call : Call) × TellsNext w notes (called call) program.new) }
 {
@@ -70,6 +73,7 @@ fn hear_call(program: &mut Program<'_>) -> Result<(), AllocError>
 
 // The program pauses; how many bytes of its area are used.
 fn hear_pause(program: &mut Program<'_>) -> Result<u32, AllocError>
+    requires { (w : WorldProgram) × (notes : List Note) × FollowsAlone w notes program.old }
     ensures { (w : WorldProgram) (notes : List Note) → FollowsAlone w notes program.old → ended_as program.old ≡ None
         → IfOk result (λ used. (ticks : ℕ) × TellsNext w notes (paused ticks used) program.new) }
 {
@@ -81,6 +85,7 @@ fn hear_pause(program: &mut Program<'_>) -> Result<u32, AllocError>
 
 // The call is answered.
 fn hear_answer(program: &mut Program<'_>) -> Result<(), AllocError>
+    requires { (w : WorldProgram) × (notes : List Note) × FollowsAlone w notes program.old }
     ensures { (w : WorldProgram) (notes : List Note) → FollowsAlone w notes program.old → ended_as program.old ≡ None
         → OnOk result ((answer : Option PlainValue) × TellsNext w notes (answered answer) program.new) }
 {
@@ -92,6 +97,7 @@ fn hear_answer(program: &mut Program<'_>) -> Result<(), AllocError>
 
 // The entry returns this number.
 fn hear_return(program: &mut Program<'_>) -> Result<u32, AllocError>
+    requires { (w : WorldProgram) × (notes : List Note) × FollowsAlone w notes program.old }
     ensures { (w : WorldProgram) (notes : List Note) → FollowsAlone w notes program.old → ended_as program.old ≡ None
         → IfOk result (λ value. (entry : ℕ) × TellsNext w notes (returned entry (Some (V.I32 value))) program.new) }
 {
@@ -121,6 +127,7 @@ fn number_in(value: Value) -> Result<u32, AllocError>
 
 // All entries have returned.
 fn hear_end(program: &mut Program<'_>) -> Result<(), AllocError>
+    requires { (w : WorldProgram) × (notes : List Note) × FollowsAlone w notes program.old }
     ensures { (w : WorldProgram) (notes : List Note) → FollowsAlone w notes program.old → ended_as program.old ≡ None
         → OnOk result (TellsNext w notes (ended Done) program.new) }
 {

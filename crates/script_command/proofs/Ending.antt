@@ -2,8 +2,8 @@
 use Rattle.std.proofs.Common.{◌≡◌, ◌⊎◌, inl, inr, ℕ, List, ◌++◌, take, Option, Some, None, refl, sym, ap, ◌∙◌, subst}
 use Rattle.vault_port.specs.Counts.{HasRisen}
 use Rattle.vault_port.specs.Files.{Files, IsMissing}
-use Rattle.vault_port.specs.Taken.{Appends, AppendsLess}
 use Rattle.vault_port.specs.Told.{Becomes}
+use Rattle.vault_port.proofs.Telling.{Becomes_then}
 use Rattle.vault_port.specs.declared.whole.PutFault.{PutFault}
 use Rattle.vault_port.specs.declared.whole.PutFault.TheVariants.{Fault, Memory}
 use Rattle.wa_model.specs.declared.answers.Detach.{Detach}
@@ -13,45 +13,31 @@ use Rattle.transcript.specs.Refused.{status_of, EndsInMemory, Prints, PrintsMemo
 use Rattle.transcript.proofs.Printed.{memory_alone}
 use Rattle.script_command.specs.declared.way.Way.{Way}
 use Rattle.script_command.specs.Playing.{Play, Cause, IsRefused, IsRead, detaches_in, refusal_of_cause}
-use Rattle.world_hosting.specs.Worlds.{AreBegun, AreTold, Part, Tells, TellsPart}
+use Rattle.world_hosting.specs.Worlds.{AreBegun, AreTold, Part, PrintsPart, Tells, TellsPart}
 use Rattle.script_command.specs.Ends.{Call, call, done, memory, sink_fault, refused, read_fault_of, cause_line, HasEnd, IsLine}
 use Rattle.script_command.specs.Transcripts.{IsTranscript, IsBeginning}
 use Rattle.script_command.specs.OfOriginals.{IsToldOf}
+use Rattle.world_hosting.proofs.DeviceLogs.{devices_logged}
 use Rattle.script_command.proofs.OfOriginals.{of_originals}
 use Rattle.script_command.proofs.Played.{played_faults}
 
-becomes_by : (P Q : List ℕ → List ℕ → Type 0) → ((x y : List ℕ) → P x y → Q x y) → (old new : Option (List ℕ)) → Becomes old new P → Becomes old new Q
-becomes_by P Q f None None h = tt
-becomes_by P Q f (Some x) (Some y) h = f x y h
-becomes_by P Q f None (Some y) h = h
-becomes_by P Q f (Some x) None h = h
-
 -- ---- ends
 
-played : (c : Call) (status : ℕ) → status ≡ 0 → (play : Play c.way c.files c.name)
-    → Becomes c.taken c.taken' (λ old new. (text : List ℕ) × IsToldOf play c.devices c.devices' text × Appends text old new) → HasEnd c status
-played c status zero play h = record { which = done; by_status = zero; why = (play, h) }
-
-cut_off : (c : Call) (status : ℕ) → status ≡ 12 → HasRisen c.sink_faults c.sink_faults' → (play : Play c.way c.files c.name)
-    → Becomes c.taken c.taken' (λ old new. (text : List ℕ) × IsBeginning play c.devices text × AppendsLess text old new) → HasEnd c status
-cut_off c status twelve risen play h = record { which = sink_fault; by_status = twelve; why = (play, risen, h) }
-
 out_of_memory_behind : (c : Call) (status : ℕ) → status ≡ 9 → (line : List ℕ) → IsLine c line → Becomes c.taken c.taken' (PrintsMemory line) → HasEnd c status
-out_of_memory_behind c status nine line is h =
-    record { which = memory; by_status = nine; why = becomes_by (PrintsMemory line) (λ old new. (l : List ℕ) × IsLine c l × PrintsMemory l old new) (λ x y p. (line, is, p)) c.taken c.taken' h }
+out_of_memory_behind c status nine line is h = record { which = memory; by_status = nine; why = (line, is, h) }
 
 -- the line of a script that couldn't be read might have been begun at any time
-pub out_of_memory_alone : (c : Call) (status : ℕ) → status ≡ 9 → Becomes c.taken c.taken' EndsInMemory → HasEnd c status
-out_of_memory_alone c status nine h =
+pub out_of_memory_alone : (c : Call) (status : ℕ) → c.devices' ≡ c.devices → status ≡ 9 → Becomes c.taken c.taken' EndsInMemory → HasEnd c status
+out_of_memory_alone c status same nine h =
     let line = refusal_line None (read_fault c.name) in
-    out_of_memory_behind c status nine line (inr (inr (c.name, inl refl, refl))) (memory_alone line c.taken c.taken' h)
+    out_of_memory_behind c status nine line (inr (inr (c.name, inl refl, refl, same))) (memory_alone line c.taken c.taken' h)
 
 pub refused_for : (c : Call) (status : ℕ) (cause : Cause) → c.devices' ≡ c.devices → IsRefused c.way c.files c.name cause → (status ≡ status_of (refusal_of_cause cause)) ⊎ (status ≡ 9)
     → (status ≡ status_of (refusal_of_cause cause) → Becomes c.taken c.taken' (Prints (cause_line cause) c.sink_faults c.sink_faults'))
     → (status ≡ 9 → Becomes c.taken c.taken' (PrintsMemory (cause_line cause))) → HasEnd c status
 refused_for c status cause same why by printed wanting = elim by [
   | inl is ↦ record { which = refused cause; by_status = is; why = (why, printed is, same) }
-  | inr nine ↦ out_of_memory_behind c status nine (cause_line cause) (inr (inl (cause, why, refl))) (wanting nine)
+  | inr nine ↦ out_of_memory_behind c status nine (cause_line cause) (inr (inl (cause, why, refl, same))) (wanting nine)
 ]
 
 pub unread : (c : Call) (status : ℕ) (name : List ℕ) → c.devices' ≡ c.devices → IsRead c.way c.files c.name name → HasRisen c.fetch_faults c.fetch_faults' ⊎ IsMissing c.files name
@@ -60,18 +46,15 @@ pub unread : (c : Call) (status : ℕ) (name : List ℕ) → c.devices' ≡ c.de
     → (status ≡ 9 → Becomes c.taken c.taken' (PrintsMemory (refusal_line None (read_fault name)))) → HasEnd c status
 unread c status name same is why by printed wanting = elim by [
   | inl ten ↦ record { which = read_fault_of name; by_status = ten; why = (is, why, printed ten, same) }
-  | inr nine ↦ out_of_memory_behind c status nine (refusal_line None (read_fault name)) (inr (inr (name, is, refl))) (wanting nine)
+  | inr nine ↦ out_of_memory_behind c status nine (refusal_line None (read_fault name)) (inr (inr (name, is, refl, same))) (wanting nine)
 ]
 
 -- ---- what programs tell
 
 -- the part that is told, by the fault
-pub part_of_fault : (parts : List Part) (detaches : List Detach) (ds ds' : List Counted) (old new : Option (List ℕ)) (x y : PutFault) → x ≡ y → Becomes old new (TellsPart x parts detaches ds ds')
-    → Becomes old new (TellsPart y parts detaches ds ds')
-part_of_fault parts detaches ds ds' old new x y e h = subst (λ (z : PutFault). Becomes old new (TellsPart z parts detaches ds ds')) e h
-
-front_then : (line : List ℕ) (x y z : List ℕ) → (n : ℕ) → y ≡ x ++ take n line → EndsInMemory y z → PrintsMemory line x z
-front_then line x y z n e h = (n, h.0, h.1 ∙ ap (λ s. s ++ take h.0 memory_line) e)
+pub part_of_fault : (parts : List Part) (detaches : List Detach) (ds ds' : List Counted) (old new : Option (List ℕ)) (x y : PutFault) → x ≡ y → TellsPart x parts detaches ds ds' old new
+    → TellsPart y parts detaches ds ds' old new
+part_of_fault parts detaches ds ds' old new x y e h = subst (λ (z : PutFault). TellsPart z parts detaches ds ds' old new) e h
 
 module _ (way : Way) (name : List ℕ) (files : Option Files) (fetched fetched' put put' : ℕ) (ds ds' : List Counted) (play : Play way files name)
     (detaches : List Detach) (same : detaches_in play.whole ≡ detaches) where
@@ -81,34 +64,29 @@ module _ (way : Way) (name : List ℕ) (files : Option Files) (fetched fetched' 
   of_it : (text : List ℕ) → AreTold play.parts detaches ds ds' text → IsToldOf play ds ds' text
   of_it text h =
       let told = told_so text h in
-      record { told = told; originals = of_originals way files name play ds ds' text told; faults = played_faults way files name play ds ds' text told }
+      record {
+        told = told;
+        originals = of_originals way files name play ds ds' text told;
+        logs = devices_logged play.parts (detaches_in play.whole) ds ds' text told;
+        faults = played_faults way files name play ds ds' text told;
+      }
 
-  begun_so : (text : List ℕ) → AreBegun play.parts detaches ds text ⊎ AreTold play.parts detaches ds ds' text → IsBeginning play ds text
+  begun_so : (text : List ℕ) → AreBegun play.parts detaches ds ds' text ⊎ AreTold play.parts detaches ds ds' text → IsBeginning play ds ds' text
   begun_so text h = elim h [
-    | inl begun ↦ inl (subst (λ (l : List Detach). AreBegun play.parts l ds text) (sym same) begun)
-    | inr told ↦ inr (ds', told_so text told)
+    | inl begun ↦ inl (subst (λ (l : List Detach). AreBegun play.parts l ds ds' text) (sym same) begun)
+    | inr told ↦ inr (told_so text told)
   ]
 
-  pub programs_told : (old new : Option (List ℕ)) → Becomes old new (Tells play.parts detaches ds ds') → HasEnd (call way name files fetched fetched' put put' old new ds ds') 0
-  programs_told old new h =
-      played (call way name files fetched fetched' put put' old new ds ds') 0 refl play
-      (becomes_by (Tells play.parts detaches ds ds') (λ x y. (text : List ℕ) × IsToldOf play ds ds' text × Appends text x y) (λ x y t. (t.0, of_it t.0 t.1, t.2)) old new h)
+  pub programs_told : (old new : Option (List ℕ)) → Tells play.parts detaches ds ds' old new → HasEnd (call way name files fetched fetched' put put' old new ds ds') 0
+  programs_told old new h = record { which = done; by_status = refl; why = (play, h.0, of_it h.0 h.1, h.2) }
 
   -- the sink failed
-  pub programs_cut : (old new : Option (List ℕ)) → HasRisen put put' → Becomes old new (TellsPart Fault play.parts detaches ds ds')
+  pub programs_cut : (old new : Option (List ℕ)) → HasRisen put put' → TellsPart Fault play.parts detaches ds ds' old new
       → HasEnd (call way name files fetched fetched' put put' old new ds ds') 12
-  programs_cut old new risen h =
-      cut_off (call way name files fetched fetched' put put' old new ds ds') 12 refl risen play
-      (becomes_by (TellsPart Fault play.parts detaches ds ds') (λ x y. (text : List ℕ) × IsBeginning play ds text × AppendsLess text x y) (λ x y t. (t.0, begun_so t.0 t.1, t.2)) old new h)
+  programs_cut old new risen h = record { which = sink_fault; by_status = refl; why = (play, risen, h.0, begun_so h.0 h.1, h.2) }
 
   -- memory is wanting behind what was told
-  pub programs_wanting : (old mid new : Option (List ℕ)) (status : ℕ) → status ≡ 9 → Becomes old mid (TellsPart Memory play.parts detaches ds ds') → Becomes mid new EndsInMemory
+  pub programs_wanting : (old mid new : Option (List ℕ)) (status : ℕ) → status ≡ 9 → TellsPart Memory play.parts detaches ds ds' old mid → Becomes mid new EndsInMemory
       → HasEnd (call way name files fetched fetched' put put' old new ds ds') status
-  programs_wanting None None None status nine part h = out_of_memory_alone (call way name files fetched fetched' put put' None None ds ds') status nine h
-  programs_wanting (Some x) (Some y) (Some z) status nine part h =
-      out_of_memory_behind (call way name files fetched fetched' put put' (Some x) (Some z) ds ds') status nine part.0
-      (inl (play, begun_so part.0 part.1)) (front_then part.0 x y z part.2.0 part.2.1 h)
-  programs_wanting None None (Some z) status nine part h = absurd h
-  programs_wanting (Some x) (Some y) None status nine part h = absurd h
-  programs_wanting None (Some y) new status nine part h = absurd part
-  programs_wanting (Some x) None new status nine part h = absurd part
+  programs_wanting old mid new status nine part h =
+      out_of_memory_behind (call way name files fetched fetched' put put' old new ds ds') status nine part.0 (inl (play, begun_so part.0 part.1)) (Becomes_then (PrintsPart Memory part.0) EndsInMemory (PrintsMemory part.0) (λ x y z p k. (p.0, k.0, k.1 ∙ ap (λ s. s ++ take k.0 memory_line) p.1)) old mid new part.2 h)

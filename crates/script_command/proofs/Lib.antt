@@ -1,4 +1,5 @@
 pub mod Answering
+pub mod Choices
 pub mod Ending
 pub mod Endings
 mod Hosted

@@ -97,12 +97,12 @@ module _ (way : Way) (files : Option Files) where
   pub ended : (ps : Programs) (rest : List ProgramValue) (texts : List ProgramText) → rest ≡ [] → SoFar way files ps (map program_of rest) texts → SoFar way files ps [] texts
   ended ps rest texts e s = subst (λ (ts : List ProgramValue). SoFar way files ps (map program_of ts) texts) e s
 
-  -- the next fits a plan, where all do
-  pub next_fits : (ps : Programs) (t : ProgramText) (rest texts : List ProgramText) → SoFar way files ps (t ∷ rest) texts → All FitsPlan texts → FitsPlan t
-  next_fits ps t rest texts s all = one_of (map text_in ps.planned.items) (subst (All FitsPlan) (sym s.texts_are) all) where
-    one_of : (before : List ProgramText) → All FitsPlan (before ++ t ∷ rest) → FitsPlan t
-    one_of [] h = All-head FitsPlan t rest h
-    one_of (u ∷ us) h = one_of us (All-tail FitsPlan u (us ++ t ∷ rest) h)
+  -- what all texts have, the next has
+  pub next_has : (P : ProgramText → Type 0) (ps : Programs) (t : ProgramText) (rest texts : List ProgramText) → SoFar way files ps (t ∷ rest) texts → All P texts → P t
+  next_has P ps t rest texts s all = one_of (map text_in ps.planned.items) (subst (All P) (sym s.texts_are) all) where
+    one_of : (before : List ProgramText) → All P (before ++ t ∷ rest) → P t
+    one_of [] h = All-head P t rest h
+    one_of (u ∷ us) h = one_of us (All-tail P u (us ++ t ∷ rest) h)
 
   pub all_opened : (ps : Programs) (texts : List ProgramText) → SoFar way files ps [] texts → AreOpened way files texts ps
   all_opened ps texts s =

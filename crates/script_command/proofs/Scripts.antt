@@ -17,7 +17,8 @@ use Rattle.script_command.specs.declared.way.Way.{Way}
 use Rattle.script_command.specs.declared.opening.Opened.{Opened}
 use Rattle.script_command.specs.declared.opening.OpenFault.{OpenFault}
 use Rattle.script_command.specs.declared.opening.OpenFault.TheVariants.{Memory, Read, Script as a_script, Module as a_module, Rule as a_rule}
-use Rattle.script_command.specs.Playing.{HasScript, IsReached, Reaches, detach_for}
+use Rattle.script_command.proofs.Choices.{scripts_choose}
+use Rattle.script_command.specs.Playing.{HasChoice, HasScript, IsReached, Reaches, detach_for}
 use Rattle.script_command.specs.Views.{AreOpened, Blames, BlamesNext, BlamesPrograms, CanPlay, IsUnread, Opens}
 use Rattle.script_command.proofs.Openings.{next_blamed, text_in, texts_of_parts}
 
@@ -39,6 +40,9 @@ module _ (files : Option Files) (name : List ℕ) (whole : ScriptValue) (read : 
 
   pub texts_fit : ScriptsFit → All FitsPlan (map program_of whole.programs.items)
   texts_fit law = law read.0 (script_of whole) read.2.few read.2.text
+
+  pub texts_choose : All HasChoice (map program_of whole.programs.items)
+  texts_choose = scripts_choose read.0 (script_of whole) read.2.text
 
   pub opens : (way : Way) (mid : Option Files) (o : Opened) → mid ≡ files → o.detaches.items ≡ whole.detaches.items
       → AreOpened way mid (map program_of whole.programs.items) o.programs → Opens way files name o

@@ -67,27 +67,27 @@ status_of_end memory = 9
 status_of_end (read_fault_of name) = 10
 status_of_end sink_fault = 12
 
--- a line that a call may have begun to print: of what is played, of a cause, or of a file that couldn't be read
+-- a line that a call may have begun to print, with what became of the devices: of what is played; or of a cause, or of a file that
+-- couldn't be read, and then they are as they were
 abbrev pub IsLine : Call → List ℕ → Type 0
 IsLine c line =
-    ((play : Play c.way c.files c.name) × IsBeginning play c.devices line)
-    ⊎ ((cause : Cause) × IsRefused c.way c.files c.name cause × (line ≡ cause_line cause))
-    ⊎ ((read : List ℕ) × IsRead c.way c.files c.name read × (line ≡ refusal_line None (read_fault read)))
+    ((play : Play c.way c.files c.name) × IsBeginning play c.devices c.devices' line)
+    ⊎ ((cause : Cause) × IsRefused c.way c.files c.name cause × (line ≡ cause_line cause) × (c.devices' ≡ c.devices))
+    ⊎ ((read : List ℕ) × IsRead c.way c.files c.name read × (line ≡ refusal_line None (read_fault read)) × (c.devices' ≡ c.devices))
 
 -- Why a call has this end, what was printed, and what became of the devices: what is played takes them from those that were there to
 -- those that are left, and is told of the programs' originals; a refusal leaves them as they were.
 abbrev pub IsWhy : Call → End → Type 0
-IsWhy c done =
-    (play : Play c.way c.files c.name) × Becomes c.taken c.taken' (λ old new. (text : List ℕ) × IsToldOf play c.devices c.devices' text × Appends text old new)
+IsWhy c done = (play : Play c.way c.files c.name) × (text : List ℕ) × IsToldOf play c.devices c.devices' text × Becomes c.taken c.taken' (Appends text)
 IsWhy c (refused cause) =
     IsRefused c.way c.files c.name cause × Becomes c.taken c.taken' (Prints (cause_line cause) c.sink_faults c.sink_faults') × (c.devices' ≡ c.devices)
-IsWhy c memory = Becomes c.taken c.taken' (λ old new. (line : List ℕ) × IsLine c line × PrintsMemory line old new)
+IsWhy c memory = (line : List ℕ) × IsLine c line × Becomes c.taken c.taken' (PrintsMemory line)
 IsWhy c (read_fault_of read) =
     IsRead c.way c.files c.name read × (HasRisen c.fetch_faults c.fetch_faults' ⊎ IsMissing c.files read)
     × Becomes c.taken c.taken' (Prints (refusal_line None (read_fault read)) c.sink_faults c.sink_faults') × (c.devices' ≡ c.devices)
 IsWhy c sink_fault =
     (play : Play c.way c.files c.name) × HasRisen c.sink_faults c.sink_faults'
-    × Becomes c.taken c.taken' (λ old new. (text : List ℕ) × IsBeginning play c.devices text × AppendsLess text old new)
+    × (text : List ℕ) × IsBeginning play c.devices c.devices' text × Becomes c.taken c.taken' (AppendsLess text)
 
 -- The call has one end, by its status, and the reason for it.
 pub record HasEnd (c : Call) (status : ℕ) : Type 0 where

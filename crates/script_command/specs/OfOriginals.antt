@@ -7,6 +7,7 @@ use Rattle.script_model.specs.Transcript.{Transcript}
 use Rattle.world_laws.specs.Originals.{met}
 use Rattle.event_order.specs.Left.{Counted}
 use Rattle.many_host.specs.Calls.{devices_of}
+use Rattle.world_hosting.specs.DeviceLogs.{AreLogged}
 use Rattle.world_hosting.specs.Endings.{EndsAs}
 use Rattle.world_hosting.specs.OriginalRuns.{Source, StaysOff, originals_for}
 use Rattle.world_hosting.specs.FaultCounts.{CountsTo, with_told}
@@ -46,9 +47,11 @@ abbrev pub OfOriginals : (way : Way) (files : Option Files) (name : List ℕ) (p
 OfOriginals Run files name play old new text told = RunsOriginals files name play old new text told
 OfOriginals Host files name play old new text told = HostsOriginals files name play old new text told
 
--- The text is the transcript of what is played, which is told of its originals; and the count of each device that is left is at least its
--- old one and the number of lines that tell a fault of it, or stands at the greatest u64.
+-- The text is the transcript of what is played, which is told of its originals. The devices that are left are those that were there, in
+-- order, each with its log behind its journal, and the count of each is at least its old one and the number of lines that tell a fault of
+-- it, or stands at the greatest u64.
 pub record IsToldOf {way : Way} {files : Option Files} {name : List ℕ} (play : Play way files name) (old new : List Counted) (text : List ℕ) : Type 0 where
   pub told : IsTranscript play old new text
   pub originals : OfOriginals way files name play old new text told
+  pub logs : AreLogged (world_programs play.parts) (detaches_in play.whole) told.lines told.met (devices_of old) (devices_of new)
   pub faults : AllZip CountsTo (with_told (world_programs play.parts) (detaches_in play.whole) 0 0 told.lines old) new

@@ -38,6 +38,10 @@ policy_for live = if live then save_live else save_all
 abbrev pub settings_for : ProgramText → Option Settings
 settings_for t = option_map (λ (c : Choice). record { choice = c; ignore_indirect = false; policy = policy_for t.policy_live }) (choice_said t.list t.ignore_imports)
 
+-- it is said which imports are listed
+abbrev pub HasChoice : ProgramText → Type 0
+HasChoice t = (c : Choice) × (choice_said t.list t.ignore_imports ≡ Some c)
+
 -- the module is the original that these bytes spell, rewritten, and these of its function imports are listed
 abbrev pub RunsFor : ProgramText → List ℕ → List Bool → Module → Type 0
 RunsFor t bytes listed p = (s : Settings) × (settings_for t ≡ Some s) × RunsAs s bytes listed p

@@ -11,6 +11,6 @@ use Rattle.world_hosting.specs.Worlds.{AreBegun, AreTold}
 abbrev pub IsTranscript : {way : Way} {files : Option Files} {name : List ℕ} → Play way files name → (ds ds' : List Counted) → List ℕ → Type 0
 IsTranscript play ds ds' text = AreTold play.parts (detaches_in play.whole) ds ds' text
 
--- .. or the first lines of one
-abbrev pub IsBeginning : {way : Way} {files : Option Files} {name : List ℕ} → Play way files name → List Counted → List ℕ → Type 0
-IsBeginning play ds text = AreBegun play.parts (detaches_in play.whole) ds text ⊎ ((ds' : List Counted) × IsTranscript play ds ds' text)
+-- .. or the first lines of one, up to the devices that they leave
+abbrev pub IsBeginning : {way : Way} {files : Option Files} {name : List ℕ} → Play way files name → (ds ds' : List Counted) → List ℕ → Type 0
+IsBeginning play ds ds' text = AreBegun play.parts (detaches_in play.whole) ds ds' text ⊎ IsTranscript play ds ds' text

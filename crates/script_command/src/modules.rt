@@ -1,21 +1,22 @@
 //! The module of a program: a prepared one as it is, or an original that is rewritten.
 
-ghost use Rattle.std.specs.Prelude.{◌≡◌, ◌⊎◌, ◌≤◌, IfOk, IsErrOf, IsSome, None, Some};
+ghost use Rattle.std.specs.Prelude.{◌≡◌, ◌⊎◌, ◌≤◌, List, IfOk, IsErrOf, IsSome, None, Ok, Some};
 ghost use Rattle.std.specs.Option.{option_map};
 ghost use Rattle.std.specs.Result.{IfErr};
+ghost use Rattle.call_graph.specs.Lists.{Blames};
 ghost use Rattle.call_graph.specs.Settings.{choice_of, policy_of, settings_of};
 ghost use Rattle.vault_port.specs.Counts.{HasRisen};
 ghost use Rattle.vault_port.specs.Files.{IsMissing};
-ghost use Rattle.wa_types.specs.Pausing.{list_of};
+ghost use Rattle.wa_types.specs.Pausing.{Choice as PlainChoice, Entry as PlainEntry, list_of};
 ghost use Rattle.wa_types.specs.View.{module_of};
-ghost use Rattle.script_model.specs.Command.{choice_said};
+ghost use Rattle.script_model.specs.Command.{choice_said, listed_choice};
 ghost use Rattle.script_reader.specs.Views.{program_of};
 ghost use Rattle.script_command.specs.declared.way.Way.TheVariants.{Host, Run};
-ghost use Rattle.script_command.specs.Playing.{policy_for, settings_for};
+ghost use Rattle.script_command.specs.Playing.{HasChoice, policy_for, settings_for};
 ghost use Rattle.script_command.specs.Views.{IsBadModuleFor, IsOfSource, Loads};
 
 use crate::way::Way;
-use call_graph::{Choice, ImportList, Policy, Settings};
+use call_graph::{Choice, ImportList, ListFault, Policy, Settings};
 use script_reader::ProgramText;
 use script_setup::{FileFault, fetch_prepared};
 use std::alloc::{AllocError, Global};
@@ -38,6 +39,7 @@ pub(crate) fn fetch_module<V: Vault>(
     way: Way,
     text: &ProgramText,
 ) -> Result<Loaded, FileFault>
+    requires { HasChoice (program_of text.now) }
     ensures loaded { IfOk result (λ l. Loads way (V.files vault.old) (program_of text.now) l) }
     ensures refused { IfErr result (λ fault. IsBadModuleFor way (V.files vault.old) (program_of text.now) fault) }
     ensures read { IsErrOf result FileFault.Read
@@ -81,6 +83,7 @@ fn fetch_rewritten<V: Vault>(
     vault: &mut V,
     text: &ProgramText,
 ) -> Result<Loaded, FileFault>
+    requires { HasChoice (program_of text.now) }
     ensures loaded { IfOk result (λ l. Loads Run (V.files vault.old) (program_of text.now) l) }
     ensures refused { IfErr result (λ fault. IsBadModuleFor Run (V.files vault.old) (program_of text.now) fault) }
     ensures read { IsErrOf result FileFault.Read
@@ -115,6 +118,7 @@ fn source_fault(fault: SourceFault) -> FileFault
 
 // The settings by which a program's original is rewritten.
 fn settings_for(alloc: Global, text: &ProgramText) -> Result<Settings, AllocError>
+    requires { HasChoice (program_of text.now) }
     ensures settings { IfOk result (λ s. settings_for (program_of text.now) ≡ Some (settings_of s)) }
 {
     let choice = choice_for(alloc, &text.list, text.ignore_imports)?;
@@ -136,20 +140,33 @@ fn choice_for(
     list: &Option<Name>,
     ignore_imports: bool,
 ) -> Result<Choice, AllocError>
+    requires { (c : PlainChoice) × (choice_said list.now ignore_imports ≡ Some c) }
     ensures { IfOk result (λ choice. choice_said list.now ignore_imports ≡ Some (choice_of choice)) }
 {
     match list {
         None => Ok(plain_choice(ignore_imports)),
-        Some(text) => {
-            // A script has a LIST that is one, and then doesn't ignore imports too.
-            if ignore_imports {
-                return Err(AllocError);
-            }
-            match ImportList::parse(alloc, text.as_str()) {
-                Ok(list) => Ok(Choice::Listed(list)),
-                Err(_) => Err(AllocError),
-            }
-        }
+        Some(text) => listed_choice(alloc, text),
+    }
+}
+
+// The choice of a LIST that is one.
+fn listed_choice(alloc: Global, text: &Name) -> Result<Choice, AllocError>
+    requires { (entries : List PlainEntry) × (list_of text.now ≡ Ok entries) }
+    ensures { IfOk result (λ choice. listed_choice (list_of text.now) ≡ Some (choice_of choice)) }
+{
+    match ImportList::parse(alloc, text.as_str()) {
+        Ok(list) => Ok(Choice::Listed(list)),
+        Err(fault) => Err(want_of_memory(fault)),
+    }
+}
+
+// The one fault of a text that is a list.
+fn want_of_memory(fault: ListFault) -> AllocError
+    requires { (entries : List PlainEntry) × Blames fault (Ok entries) }
+{
+    match fault {
+        ListFault::Memory => AllocError,
+        _ => unreachable!(),
     }
 }
 

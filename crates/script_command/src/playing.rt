@@ -9,6 +9,7 @@ ghost use Rattle.script_command.specs.Views.{Blames, CanPlay, Opens};
 ghost use Rattle.script_command.specs.declared.way.Way.{Way as WayValue};
 ghost use Rattle.world_hosting.specs.Counts.{counted};
 ghost use Rattle.world_hosting.specs.Views.{AreStaged};
+ghost use Rattle.world_hosting.specs.Worlds.{Part};
 ghost use Rattle.script_command.specs.Answers.{HasOneEnd};
 ghost use Rattle.script_command.specs.Ends.{HasEnd, IsStatus, call};
 ghost use Rattle.script_command.specs.Faults.{IsToldFault};
@@ -86,6 +87,7 @@ fn tell<S: Sink>(
 ) -> u8
     requires lent { IsLent }
     requires few { length staged.items ≤ 16 }
+    requires staged { (parts : List Part) × AreStaged parts staged.items }
     ensures end { (way : WayValue) (files : Option Files) (name : List ℕ) (fetched fetched' : ℕ) (play : Play way files name)
         → AreStaged play.parts staged.entry.items → detaches_in play.whole ≡ detaches.items
         → HasEnd (call way name files fetched fetched' (S.faults out.old) (S.faults out.new) (S.taken out.old) (S.taken out.new)

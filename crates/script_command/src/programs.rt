@@ -8,7 +8,7 @@ ghost use Rattle.script_reader.specs.Views.{program_of};
 ghost use Rattle.script_setup.specs.SetUpRules.{set_up_rules};
 ghost use Rattle.world_hosting.specs.Worlds.{FitsPlan, IsListing};
 ghost use Rattle.world_hosting.specs.Views.{listing};
-ghost use Rattle.script_command.specs.Playing.{IsModule, asks_all};
+ghost use Rattle.script_command.specs.Playing.{HasChoice, IsModule, asks_all};
 ghost use Rattle.script_command.specs.Views.{AreOpened, BlamesLine, BlamesNext, BlamesPrograms, IsUnread, OpensNext};
 
 use crate::modules::{Loaded, fetch_module};
@@ -46,6 +46,7 @@ pub(crate) fn open_programs<V: Vault>(
 ) -> Result<Programs, OpenFault>
     requires few { length texts.items ≤ 16 }
     requires fits { All FitsPlan (map program_of texts.items) }
+    requires choices { All HasChoice (map program_of texts.items) }
     ensures opened { IfOk result (λ ps. AreOpened way (V.files vault.old) (map program_of texts.items) ps) }
     ensures refused { IfErr result (λ fault. BlamesPrograms way (V.files vault.old) (V.fetch_faults vault.old) (V.fetch_faults vault.new) (map program_of texts.items) fault) }
     ensures kept { V.files vault.new ≡ V.files vault.old }
@@ -74,6 +75,7 @@ fn open_next<V: Vault>(
 ) -> Result<(), OpenFault>
     requires few { length programs.old.planned.items < 16 }
     requires fits { FitsPlan (program_of text) }
+    requires choice { HasChoice (program_of text) }
     ensures opened { OnOk result (OpensNext way (V.files vault.old) (program_of text) programs.old programs.new) }
     ensures refused { IfErr result (λ fault. BlamesNext way (V.files vault.old) (V.fetch_faults vault.old) (V.fetch_faults vault.new) (length programs.old.planned.items) (program_of text) fault) }
     ensures kept { V.files vault.new ≡ V.files vault.old }

@@ -109,9 +109,9 @@ goes_on x zs os os' e ends fine = (subst (λ (us : List Outcome). Fine us zs) (s
     rest [] h = inl refl
     rest (y ∷ ys) h = inr h.1
 
-no_call : (programs : List Program) (l : Line) (old mid : List Counted) → TakesCall programs l old mid → call_in l.event ≡ None → mid ≡ old
-no_call programs l old mid t none =
-    let h = subst (λ (c : Option Call). Takes t.w c (supply t.answers (devices_of old) (faults_of old)) t.met (supply t.left (devices_of mid) (faults_of mid))) none t.takes in
+no_call : (programs : List Program) (l : Line) (met : List Outcome) (old mid : List Counted) → TakesCall programs l met old mid → call_in l.event ≡ None → mid ≡ old
+no_call programs l met old mid t none =
+    let h = subst (λ (c : Option Call). Takes t.w c (supply t.answers (devices_of old) (faults_of old)) met (supply t.left (devices_of mid) (faults_of mid))) none t.takes in
     same_counted old mid (ap (λ s. s.devices) h.1) (ap (λ s. s.faults) h.1)
 
 -- ---- actors
@@ -139,8 +139,31 @@ lawful_set (c ∷ acts) (suc i) b h r = (h.0, lawful_set acts i b h.1 r)
 -- ---- lines of one event
 
 module _ (programs : List Program) (detaches : List Detach) (count : ℕ) (new : List Counted) where
-  abbrev TookFrom : (begun n : ℕ) → List Line → List Counted → Type 0
-  TookFrom begun n lines ms = Took programs detaches begun n lines ms count new
+  -- what these lines took, whatever their calls met
+  record TookFrom (begun n : ℕ) (lines : List Line) (ms : List Counted) : Type 0 where
+    met : List (List Outcome)
+    took : Took programs detaches begun n lines met ms count new
+
+  -- .. the first of them, and the others
+  record First (begun n : ℕ) (l : Line) (others : List Line) (ms : List Counted) : Type 0 where
+    now : ℕ
+    mid : List Counted
+    begins : IsBegunBy begun n l.event now
+    met : List Outcome
+    call : TakesCall programs l met (left_at begun now detaches ms) mid
+    rest : TookFrom now (n + turns_at l.event) others mid
+
+  first : (begun n : ℕ) (l : Line) (others : List Line) (ms : List Counted) → TookFrom begun n (l ∷ others) ms → First begun n l others ms
+  first begun n l others ms h = by h.met h.took where
+    by : (met : List (List Outcome)) → Took programs detaches begun n (l ∷ others) met ms count new → First begun n l others ms
+    by [] t = absurd t
+    by (os ∷ met) t = record { now = t.0; mid = t.1; begins = t.2; met = os; call = t.3; rest = record { met = met; took = t.4 } }
+
+  no_more : (begun n : ℕ) (ms : List Counted) → TookFrom begun n [] ms → (count ≡ begun) × (new ≡ ms)
+  no_more begun n ms h = by h.met h.took where
+    by : (met : List (List Outcome)) → Took programs detaches begun n [] met ms count new → (count ≡ begun) × (new ≡ ms)
+    by [] t = t
+    by (os ∷ met) t = absurd t
 
   -- what is to be shown of these lines
   abbrev Counts : (begun n : ℕ) → List Line → List Counted → Type 0
@@ -158,14 +181,15 @@ module _ (programs : List Program) (detaches : List Detach) (count : ℕ) (new :
         → Begun detaches n begun ms now → Begun detaches n told ls least → TookFrom begun n (line_at due i e ∷ rest) ms → Within n (line_at due i e ∷ rest)
         → ((begun' told' : ℕ) (ms' ls' : List Counted) → Begun detaches n begun' ms' now → Begun detaches n told' ls' least → TookFrom begun' n rest ms' → Within n rest → Counts told' n rest ls')
         → Counts told n (line_at due i e ∷ rest) ls
-    quiet_line e none goes nothing rest begun told ms now ls least b t took within on =
+    quiet_line e none goes nothing rest begun told ms now ls least b t all within on =
+        let took = first begun n (line_at due i e) rest ms all in
         let turns : turns_at e ≡ 0 = turns_more e false goes in
         let z : n + turns_at e ≡ n = omega (arith, turns) in
-        let same : took.1 ≡ left_at begun took.0 detaches ms = no_call programs (line_at due i e) (left_at begun took.0 detaches ms) took.1 took.3 none in
+        let same : took.mid ≡ left_at begun took.now detaches ms = no_call programs (line_at due i e) took.met (left_at begun took.now detaches ms) took.mid took.call none in
         let left : List Counted = left_at told (event_at told n e) detaches ls in
         let fewer : Within n rest = omega (arith, within, turns) in
-        let on_from = on took.0 (event_at told n e) took.1 left (stays detaches n begun took.0 e ms now took.1 b took.2 same) (told_stays detaches n told e ls least t)
-        (subst (λ (k : ℕ). TookFrom took.0 k rest took.1) z took.4) fewer in
+        let on_from = on took.now (event_at told n e) took.mid left (stays detaches n begun took.now e ms now took.mid b took.begins same) (told_stays detaches n told e ls least t)
+        (subst (λ (k : ℕ). TookFrom took.now k rest took.mid) z took.rest) fewer in
         let failed : failed_in (slice_get programs i) e ≡ None = ap (λ (o : Option Program). failed_in o e) program ∙ nothing in
         subst (λ (k : ℕ). Counts (event_at told n e) k rest (one_more_if (failed_in (slice_get programs i) e) left)) (sym z)
         (subst (λ (f : Option (List ℕ)). Counts (event_at told n e) n rest (one_more_if f left)) (sym failed) on_from)
@@ -180,15 +204,16 @@ module _ (programs : List Program) (detaches : List Detach) (count : ℕ) (new :
         → ((begun' : ℕ) (ms' : List Counted) → Between detaches (suc n) begun' now ms' → TookFrom begun' (suc n) rest ms' → Within (suc n) rest
         → Counts (suc n) (suc n) rest (one_more_if (failed_in (Some w) e) least))
         → Counts told n (line_at due i e ∷ rest) ls
-    last_line e none over later plain rest begun told ms now ls least b t took within on =
+    last_line e none over later plain rest begun told ms now ls least b t all within on =
+        let took = first begun n (line_at due i e) rest ms all in
         let turns : turns_at e ≡ 1 = turns_more e true over in
         let z : n + turns_at e ≡ suc n = omega (arith, turns) in
-        let is : took.0 ≡ suc n = elim took.2 [ inl f ↦ f | inr g ↦ absurd (plain g.2) ] in
-        let same : took.1 ≡ now =
-        no_call programs (line_at due i e) (left_at begun took.0 detaches ms) took.1 took.3 none ∙ ap (λ (k : ℕ). left_at begun k detaches ms) is ∙ at_line detaches n begun ms now b in
+        let is : took.now ≡ suc n = elim took.begins [ inl f ↦ f | inr g ↦ absurd (plain g.2) ] in
+        let same : took.mid ≡ now =
+        no_call programs (line_at due i e) took.met (left_at begun took.now detaches ms) took.mid took.call none ∙ ap (λ (k : ℕ). left_at begun k detaches ms) is ∙ at_line detaches n begun ms now b in
         let left : left_at told (event_at told n e) detaches ls ≡ least = ap (λ (k : ℕ). left_at told k detaches ls) (later told) ∙ at_line detaches n told ls least t in
         let fewer : Within (suc n) rest = omega (arith, within, turns) in
-        let on_from = on took.0 took.1 (inl (is, same)) (subst (λ (k : ℕ). TookFrom took.0 k rest took.1) z took.4) fewer in
+        let on_from = on took.now took.mid (inl (is, same)) (subst (λ (k : ℕ). TookFrom took.now k rest took.mid) z took.rest) fewer in
         same_counts (event_at told n e) (suc n) (n + turns_at e) (suc n) rest (one_more_if (failed_in (slice_get programs i) e) (left_at told (event_at told n e) detaches ls))
         (one_more_if (failed_in (Some w) e) least) (later told) z
         (ap (λ (o : Option Program). one_more_if (failed_in o e) (left_at told (event_at told n e) detaches ls)) program ∙ ap (one_more_if (failed_in (Some w) e)) left) on_from
@@ -200,21 +225,22 @@ module _ (programs : List Program) (detaches : List Detach) (count : ℕ) (new :
         → ((begun' told' : ℕ) (ms' ls' now' : List Counted) → Begun detaches n begun' ms' now' → Begun detaches n told' ls' least → Beside now' ds' (owed w (Some o) least)
         → TookFrom begun' n rest ms' → Within n rest → Counts told' n rest ls')
         → Counts told n (line_at due i (called c) ∷ rest) ls
-    called_line c rest lines lines' ds ds' o begun told ms now ls least b t beside meets took within on =
+    called_line c rest lines lines' ds ds' o begun told ms now ls least b t beside meets all within on =
         let l : Line = line_at due i (called c) in
-        let is : took.0 ≡ suc n = elim took.2 [ inl f ↦ f | inr g ↦ absurd g.2 ] in
-        let at : left_at begun took.0 detaches ms ≡ now = ap (λ (k : ℕ). left_at begun k detaches ms) is ∙ at_line detaches n begun ms now b in
-        let call = subst (λ (cs : List Counted). TakesCall programs l cs took.1) at took.3 in
+        let took = first begun n l rest ms all in
+        let is : took.now ≡ suc n = elim took.begins [ inl f ↦ f | inr g ↦ absurd g.2 ] in
+        let at : left_at begun took.now detaches ms ≡ now = ap (λ (k : ℕ). left_at begun k detaches ms) is ∙ at_line detaches n begun ms now b in
+        let call = subst (λ (cs : List Counted). TakesCall programs l took.met cs took.mid) at took.call in
         let same : call.w ≡ w = one_program call.w w (sym call.program ∙ program) in
         let old : Supply = supply call.answers (devices_of now) (faults_of now) in
-        let supplied : Supply = supply call.left (devices_of took.1) (faults_of took.1) in
-        let takes = subst (λ (v : Program). Takes v (Some c) old call.met supplied) same call.takes in
+        let supplied : Supply = supply call.left (devices_of took.mid) (faults_of took.mid) in
+        let takes = subst (λ (v : Program). Takes v (Some c) old took.met supplied) same call.takes in
         let left : List Counted = left_at told (suc n) detaches ls in
         let z : n + 0 ≡ n = omega arith in
         let fewer : Within n rest = omega (arith, within) in
-        let on_from = on took.0 (suc n) took.1 left took.1 (inr (is, refl)) (inr (refl, sym (at_line detaches n told ls least t)))
-        (called_beside w now took.1 ds ds' least beside c lines lines' call.answers call.left o takes.0 meets takes.2)
-        (subst (λ (k : ℕ). TookFrom took.0 k rest took.1) z took.4) fewer in
+        let on_from = on took.now (suc n) took.mid left took.mid (inr (is, refl)) (inr (refl, sym (at_line detaches n told ls least t)))
+        (called_beside w now took.mid ds ds' least beside c lines lines' call.answers call.left o takes.0 meets takes.2)
+        (subst (λ (k : ℕ). TookFrom took.now k rest took.mid) z took.rest) fewer in
         subst (λ (k : ℕ). Counts (suc n) k rest left) (sym z) on_from
       where
         one_program : (v u : Program) → Some v ≡ Some u → v ≡ u
@@ -241,13 +267,14 @@ module _ (programs : List Program) (detaches : List Detach) (count : ℕ) (new :
           → ((begun' : ℕ) (ms' : List Counted) → Between detaches (suc n) begun' was ms' → TookFrom begun' (suc n) more ms' → Within (suc n) more → Counts (suc n) (suc n) more ls)
           → Counts (suc n) (suc n) (map (line_at due i) (look_events s looks) ++ more) ls
       shows_on [] s begun was ms ls b took within on = on begun ms b took within
-      shows_on (k ∷ ks) s begun was ms ls b took within on =
+      shows_on (k ∷ ks) s begun was ms ls b all within on =
           let rest : List Line = map (line_at due i) (look_events s ks) ++ more in
-          let same = no_call programs (line_at due i (shown k.at (bytes_shown s.memory k))) (left_at begun took.0 detaches ms) took.1 took.3 refl in
+          let took = first begun (suc n) (line_at due i (shown k.at (bytes_shown s.memory k))) rest ms all in
+          let same = no_call programs (line_at due i (shown k.at (bytes_shown s.memory k))) took.met (left_at begun took.now detaches ms) took.mid took.call refl in
           let z : suc n + 0 ≡ suc n = omega arith in
           let fewer : Within (suc n) rest = omega (arith, within) in
-          let on_from = shows_on ks s took.0 was took.1 ls (shown_between detaches (suc n) begun took.0 k.at (bytes_shown s.memory k) was ms took.1 b took.2 same)
-          (subst (λ (j : ℕ). TookFrom took.0 j rest took.1) z took.4) fewer on in
+          let on_from = shows_on ks s took.now was took.mid ls (shown_between detaches (suc n) begun took.now k.at (bytes_shown s.memory k) was ms took.mid b took.begins same)
+          (subst (λ (j : ℕ). TookFrom took.now j rest took.mid) z took.rest) fewer on in
           same_counts (suc n) (suc n) (suc n + 0) (suc n) rest (left_at (suc n) (suc n) detaches ls) ls refl z (at_same detaches (suc n) (suc n) ls refl) on_from
 
       note_on : (x : Note) (zs : List Note) → NotesOn zs → (e : Event) → NotesOn (with_event x e ∷ zs)
@@ -307,7 +334,8 @@ module _ (programs : List Program) (detaches : List Detach) (count : ℕ) (new :
   events_on : (number : ℕ) (acts last : List Actor) (ds ds' : List Device) (lines : List Line) → Events programs detaches number acts ds lines last ds' → (n : ℕ) → number ≡ suc n → EachLawful acts
       → (begun : ℕ) (was ms ls : List Counted) → Between detaches n begun was ms → Beside was ds ls → TookFrom begun n lines ms → Within n lines → devices_of new ≡ ds' → Counts n n lines ls
   events_on number acts last ds ds' lines no_event n is lawful begun was ms ls b beside took within end =
-      all_settled n begun was ms ls ds b beside took.0 took.1 within end
+      let all = no_more begun n ms took in
+      all_settled n begun was ms ls ds b beside all.0 all.1 within end
   events_on number acts last ds ds' lines (an_event {actors' = mid} {ds' = es} {lines = first} {more = more} play rest split) n is lawful begun was ms ls b beside took within end =
       let a : Actor = play.a in
       let here = lawful_at acts play.i a lawful play.next.there in
@@ -349,4 +377,4 @@ faults_are_counted parts detaches old new text told =
     let world = told.world in
     let meets = events_met programs detaches 1 world.actors (devices_of old) told.lines world.last (devices_of new) world.events world.over in
     events_on programs detaches (turn_count told.lines) new 1 world.actors world.last (devices_of old) (devices_of new) told.lines world.events 0 refl
-    (all_lawful programs world.actors world.starts meets) 0 old old old (inl (refl, refl)) (all_beside old) told.took (omega arith) refl
+    (all_lawful programs world.actors world.starts meets) 0 old old old (inl (refl, refl)) (all_beside old) (record { met = told.met; took = told.took }) (omega arith) refl

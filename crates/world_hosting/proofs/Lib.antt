@@ -2,6 +2,7 @@ pub mod Alone
 pub mod Begun
 pub mod Calls
 pub mod Counting
+pub mod DeviceLogs
 pub mod Endings
 pub mod Entries
 pub mod Exports

@@ -1,8 +1,11 @@
 -- The lines of several programs, as they are being told and printed.
-use Rattle.std.proofs.Common.{◌≡◌, inl, inr, ℕ, List, [], ◌∷◌, ◌++◌, length, map, Option, Some, None, Result, Ok, Err, refl, sym, ap, ◌∙◌, subst, arith, append-nil, add_assoc, ◌+◌}
-use Rattle.std.specs.Prelude.{MatchOption, OnErr, OnOk}
+use Rattle.std.proofs.Common.{◌≡◌, inl, inr, ℕ, suc, List, [], ◌∷◌, ◌++◌, length, map, Option, Some, None, Result, Ok, Err, refl, sym, ap, ◌∙◌, subst, arith, append-nil, append_assoc, add_assoc, ◌+◌}
+use Rattle.std.specs.Prelude.{IsErr, MatchOption, OnErr, OnOk, if◌then◌else◌, nat_eq, slice_get}
+use Rattle.std.specs.List.{AllZip}
+use Rattle.std.specs.Option.{option_map}
 use Rattle.std.specs.Result.{IfErr}
 use Rattle.std.proofs.lemmas.List.{length-map, take_all}
+use Rattle.std.proofs.lemmas.Option.{same_Some, slice_get-map, slice_get_within}
 use Rattle.vault_port.specs.declared.whole.PutFault.{PutFault}
 use Rattle.vault_port.specs.declared.whole.PutFault.TheVariants.{Fault, Memory}
 use Rattle.vault_port.specs.Taken.{Appends, AppendsLess}
@@ -10,25 +13,29 @@ use Rattle.vault_port.specs.Told.{Becomes}
 use Rattle.wa_model.specs.declared.answers.Detach.{Detach}
 use Rattle.wa_model.specs.declared.events.Line.{Line as LineValue}
 use Rattle.wa_model.specs.Outside.{Event, Line}
+use Rattle.wa_model.specs.Plan.{Outcome}
 use Rattle.wa_model.specs.View.{line_of}
 use Rattle.script_model.specs.Transcript as T
 use Rattle.script_model.specs.Transcript.{event_line, event_lines, last_line, names_at}
-use Rattle.wa_model.specs.World.{Device, Program, ProtocolWorld}
+use Rattle.wa_model.specs.World.{Actor, Device, Program, ProtocolWorld, StartsHeld}
 use Rattle.device_port.specs.declared.devices.Devices.{Devices}
 use Rattle.device_port.specs.Listed.{of_all}
 use Rattle.event_order.specs.Dues.{HaveEnded}
 use Rattle.event_order.specs.Left.{Counted}
 use Rattle.many_host.specs.ToldNotes.{BeginsWorld}
-use Rattle.many_host.specs.Calls.{BegunBy, BegunNext, TakesCall, TakesNext, devices_of, left_at}
+use Rattle.many_host.specs.Calls.{AreLeft, BegunBy, BegunNext, TakesCall, devices_of, left_at}
 use Rattle.many_host.specs.declared.turn_taking.Stage.{Stage}
-use Rattle.many_host.specs.Standing.{LooksOut}
+use Rattle.many_host.specs.declared.turn_taking.Stage.TheVariants as S
+use Rattle.many_host.specs.Standing.{LooksOut, StandsAt, TellsLine, held_of}
+use Rattle.many_host.specs.Turns.{HaveMet, MeetMore, Teller, Tells as TellsTurns, starting}
 use Rattle.many_host.proofs.Counts.{counted_devices}
 use Rattle.many_host.specs.declared.host.Host.{Host}
-use Rattle.many_host.specs.Hosts.{HostNext, HostTold}
-use Rattle.many_host.proofs.Worlds.{told_begins_world}
+use Rattle.many_host.specs.Hosts.{HostNext, HostTold, follows, has_ended, memory_of}
+use Rattle.many_host.proofs.Places.{item}
+use Rattle.many_host.proofs.Worlds.{told_begins_met}
 use Rattle.transcript.specs.declared.events.Names.{Names}
 use Rattle.transcript.specs.Printing.{names_of}
-use Rattle.world_hosting.specs.Counts.{IsBegunBy, Took, counted, turns_at}
+use Rattle.world_hosting.specs.Counts.{AreMet, IsBegunBy, Took, counted, met_by, turns_at}
 use Rattle.world_hosting.specs.Worlds.{AreBegun, AreTold, Part, PrintsPart, Tells, TellsPart, part_names, turn_count, world_programs}
 use Rattle.world_hosting.proofs.TurnCounts.{begun_next, turns_begun}
 use Rattle.transcript.proofs.LineTexts.{becomes_by, becomes_same, line_more, then_less, then_printed}
@@ -47,30 +54,94 @@ on_ok (Err e) f q = tt
 
 -- ---- what lines took
 
-took_on : (programs : List Program) (detaches : List Detach) (begun ended last now : ℕ) (lines : List Line) (l : Line) (old mid new : List Counted)
-    → Took programs detaches begun ended lines old last mid → IsBegunBy last (ended + turn_count lines) l.event now → TakesCall programs l (left_at last now detaches mid) new
-    → Took programs detaches begun ended (lines ++ l ∷ []) old now new
-took_on programs detaches begun ended last now [] l old mid new t is c =
+took_long : (programs : List Program) (detaches : List Detach) (begun ended : ℕ) (lines : List Line) (met : List (List Outcome)) (old : List Counted) (last : ℕ) (new : List Counted)
+    → Took programs detaches begun ended lines met old last new → length met ≡ length lines
+took_long programs detaches begun ended [] [] old last new t = refl
+took_long programs detaches begun ended (l ∷ lines) (os ∷ met) old last new t =
+    ap suc (took_long programs detaches t.0 (ended + turns_at l.event) lines met t.1 last new t.4)
+took_long programs detaches begun ended [] (os ∷ met) old last new t = absurd t
+took_long programs detaches begun ended (l ∷ lines) [] old last new t = absurd t
+
+took_on : (programs : List Program) (detaches : List Detach) (begun ended last now : ℕ) (lines : List Line) (met : List (List Outcome)) (l : Line) (os : List Outcome) (old mid new : List Counted)
+    → Took programs detaches begun ended lines met old last mid → IsBegunBy last (ended + turn_count lines) l.event now → TakesCall programs l os (left_at last now detaches mid) new
+    → Took programs detaches begun ended (lines ++ l ∷ []) (met ++ os ∷ []) old now new
+took_on programs detaches begun ended last now [] [] l os old mid new t is c =
     let none : ended + 0 ≡ ended = omega arith in (
       now,
       new,
       subst (λ (b : ℕ). IsBegunBy b ended l.event now) t.0 (subst (λ (n : ℕ). IsBegunBy last n l.event now) none is),
-      subst (λ (cs : List Counted). TakesCall programs l cs new) (λ k. left_at (t.0 k) now detaches (t.1 k)) c,
+      subst (λ (cs : List Counted). TakesCall programs l os cs new) (λ k. left_at (t.0 k) now detaches (t.1 k)) c,
       (refl, refl),
     )
-took_on programs detaches begun ended last now (x ∷ lines) l old mid new t is c =
+took_on programs detaches begun ended last now (x ∷ lines) (ms ∷ met) l os old mid new t is c =
     let all : ended + (turns_at x.event + turn_count lines) ≡ (ended + turns_at x.event) + turn_count lines = sym (add_assoc ended (turns_at x.event) (turn_count lines)) in (
       t.0,
       t.1,
       t.2,
       t.3,
-      took_on programs detaches t.0 (ended + turns_at x.event) last now lines l t.1 mid new t.4 (subst (λ (n : ℕ). IsBegunBy last n l.event now) all is) c,
+      took_on programs detaches t.0 (ended + turns_at x.event) last now lines met l os t.1 mid new t.4 (subst (λ (n : ℕ). IsBegunBy last n l.event now) all is) c,
     )
+took_on programs detaches begun ended last now [] (ms ∷ met) l os old mid new t is c = absurd t
+took_on programs detaches begun ended last now (x ∷ lines) [] l os old mid new t is c = absurd t
 
 from_none : (begun n now : ℕ) (e : Event) → IsBegunBy begun n e now → IsBegunBy begun (0 + n) e now
 from_none begun n now e is =
     let same : n ≡ 0 + n = omega arith in
     subst (λ (k : ℕ). IsBegunBy begun k e now) same is
+
+-- ---- what calls met
+
+met_more : (i : ℕ) (lines : List Line) (met : List (List Outcome)) (l : Line) (os : List Outcome) → length met ≡ length lines
+    → met_by i (lines ++ l ∷ []) (met ++ os ∷ []) ≡ met_by i lines met ++ (if nat_eq i l.program then os else [])
+met_more i [] [] l os long = append-nil (if nat_eq i l.program then os else [])
+met_more i (x ∷ lines) (ms ∷ met) l os long =
+    ap (λ (us : List Outcome). (if nat_eq i x.program then ms else []) ++ us) (met_more i lines met l os (omega (arith, long)))
+    ∙ sym (append_assoc (if nat_eq i x.program then ms else []) (met_by i lines met) (if nat_eq i l.program then os else []))
+met_more i [] (ms ∷ met) l os long = absurd (omega (arith, long))
+met_more i (x ∷ lines) [] l os long = absurd (omega (arith, long))
+
+-- the tellers of a host have met what the lines tell
+abbrev MetBy : List Line → List (List Outcome) → List Teller → Type 0
+MetBy lines met tellers = (i : ℕ) (t : Teller) → slice_get tellers i ≡ Some t → t.met ≡ met_by i lines met
+
+zip_long : {X Y : Type 0} (R : X → Y → Type 0) (xs : List X) (ys : List Y) → AllZip R xs ys → length ys ≡ length xs
+zip_long R [] [] h = refl
+zip_long R [] (y ∷ ys) h = absurd h
+zip_long R (x ∷ xs) [] h = absurd h
+zip_long R (x ∷ xs) (y ∷ ys) h = ap suc (zip_long R xs ys h.1)
+
+are_met : (lines : List Line) (met : List (List Outcome)) (tellers : List Teller) (actors : List Actor) → length actors ≡ length tellers → MetBy lines met tellers → HaveMet tellers actors
+    → AreMet lines met actors
+are_met lines met tellers actors long by_lines have i a ea =
+    let t = item tellers i (omega (arith, slice_get_within actors i a ea, long)) in
+    let front = have i t.0 a t.1 ea in
+    (front.0, front.1 ∙ ap (λ (os : List Outcome). os ++ front.0) (by_lines i t.0 t.1))
+
+met_on : (lines : List Line) (met : List (List Outcome)) (l : Line) (os : List Outcome) (tellers tellers' : List Teller) → length met ≡ length lines → length tellers' ≡ length tellers
+    → MetBy lines met tellers → MeetMore l.program os tellers tellers' → MetBy (lines ++ l ∷ []) (met ++ os ∷ []) tellers'
+met_on lines met l os tellers tellers' long wide by_lines more i t' et' =
+    let t = item tellers i (omega (arith, slice_get_within tellers' i t' et', wide)) in
+    more i t.0 t' t.1 et' ∙ ap (λ (us : List Outcome). us ++ (if nat_eq i l.program then os else [])) (by_lines i t.0 t.1) ∙ sym (met_more i lines met l os long)
+
+starting_met : (programs : List Program) (i : ℕ) (t : Teller) → slice_get (map starting programs) i ≡ Some t → t.met ≡ []
+starting_met programs i t at = by (slice_get programs i) (sym (slice_get-map starting programs i) ∙ at) where
+  by : (o : Option Program) → option_map starting o ≡ Some t → t.met ≡ []
+  by None e = cc
+  by (Some w) e = ap (λ (x : Teller). x.met) (sym (same_Some (starting w) t e))
+
+-- before any event none has met any
+pub none_met : (programs : List Program) (detaches : List Detach) (ds : List Device) (h : Host) (ds' : List Device) (told : HostTold programs detaches ds [] h ds') → h.turns.begun ≡ 0
+    → (i : ℕ) (t : Teller) → slice_get told.tellers i ≡ Some t → t.met ≡ []
+none_met programs detaches ds h ds' told none i t et = by h.turns.stage told.at where
+  first : (lines : List Line) → TellsTurns programs detaches ds h.turns.begun lines told.tellers ds' → t.met ≡ []
+  first lines at =
+      let start = subst (λ (n : ℕ). TellsTurns programs detaches ds n lines told.tellers ds') none at in
+      starting_met programs i t (ap (λ (l : List Teller). slice_get l i) (sym start.1) ∙ et)
+
+  by : (stage : Stage) → StandsAt memory_of programs detaches ds [] told.tellers (held_of h.turns) ds' stage → t.met ≡ []
+  by S.Between at = first [] at
+  by (S.Telling turn) at = let never : ⊥ = omega (arith, none, at.1) in absurd never
+  by (S.Showing turn from) at = first _ at.2
 
 -- ---- lines that are being told
 
@@ -88,105 +159,158 @@ module _ (parts : List Part) (detaches : List Detach) (cs : List Counted) where
   abbrev begun : List Line → List ℕ
   begun lines = event_lines names lines
 
-  are_begun : (lines : List Line) → BeginsWorld programs detaches ds lines → AreBegun parts detaches cs (begun lines)
-  are_begun lines b = record { lines = lines; more = b.0; last = b.1; world = b.2; text_is = refl }
-
   -- nothing was printed
-  pub none_printed : (es : List Counted) → BeginsWorld programs detaches ds [] → (o : Option (List ℕ)) → Becomes o o (TellsPart Memory parts detaches cs es)
-  none_printed es b o = becomes_same (TellsPart Memory parts detaches cs es) (λ x. ([], inl (are_begun [] b), (0, sym (append-nil x)))) o
+  pub none_printed : BeginsWorld programs detaches ds [] → (o : Option (List ℕ)) → TellsPart Memory parts detaches cs cs o o
+  none_printed b o = (
+    [],
+    inl (record {
+      lines = [];
+      more = b.0;
+      met = [];
+      last = b.1;
+      world = b.2;
+      meets = λ i a ea. (a.outcomes, refl);
+      begun = 0;
+      there = cs;
+      took = (refl, refl);
+      left = inl refl;
+      text_is = refl;
+    }),
+    becomes_same (PrintsPart Memory []) (λ x. (0, sym (append-nil x))) o,
+  )
 
-  -- The host has told some lines, which were printed.
-  pub record Telling (h : Host) (now : List Counted) (old new : Option (List ℕ)) : Type 0 where
+  -- The host has told some lines.
+  pub record Told (h : Host) (now : List Counted) : Type 0 where
     pub lines : List Line
     pub host : HostTold programs detaches ds lines h (devices_of now)
-    pub took : Took programs detaches 0 0 lines cs h.turns.begun now
-    pub printed : Becomes old new (Appends (begun lines))
+    pub met : List (List Outcome)
+    pub took : Took programs detaches 0 0 lines met cs h.turns.begun now
+    pub meets : MetBy lines met host.tellers
 
-  module _ (h : Host) (now : List Counted) (old mid : Option (List ℕ)) (t : Telling h now old mid) where
-    -- memory is wanting
-    pub told_so_far : (es : List Counted) → Becomes old mid (TellsPart Memory parts detaches cs es)
-    told_so_far es =
-        becomes_by (Appends (begun t.lines)) (TellsPart Memory parts detaches cs es)
-        (λ x y p. (
-          begun t.lines,
-          inl (are_begun t.lines (told_begins_world programs detaches ds (devices_of now) t.lines h t.host)),
-          (length (begun t.lines), p ∙ ap (λ (s : List ℕ). x ++ s) (sym (take_all (length (begun t.lines)) (begun t.lines) (omega arith)))),
-        )) old mid t.printed
+  -- They were printed.
+  pub record Telling (h : Host) (now : List Counted) (old new : Option (List ℕ)) : Type 0 where
+    pub told : Told h now
+    pub printed : Becomes old new (Appends (begun told.lines))
 
-    -- one line more, or less of it
-    module _ (next : Host) (es : List Counted) (own : List T.Names) (are : own ≡ names) (l : Line) (told : HostTold programs detaches ds (t.lines ++ l ∷ []) next (devices_of es)) where
-      same_text : begun t.lines ++ event_line (names_at own l.program) l ≡ begun (t.lines ++ l ∷ [])
-      same_text = ap (λ (n : List T.Names). begun t.lines ++ event_line (names_at n l.program) l) are ∙ line_more names t.lines l
+  abbrev as_wide : (h : Host) (now : List Counted) (t : Told h now) (actors : List Actor) → AllZip StartsHeld programs actors → length actors ≡ length t.host.tellers
+  as_wide h now t actors starts = zip_long StartsHeld programs actors starts ∙ sym t.host.wide
 
-      pub told_on : (new : Option (List ℕ)) → BegunBy h.turns.stage h.turns.begun next.turns.begun l.event → TakesCall programs l (left_at h.turns.begun next.turns.begun detaches now) es
-          → Becomes mid new (Appends (event_line (names_at own l.program) l)) → Telling next es old new
-      told_on new begins takes p = record {
-        lines = t.lines ++ l ∷ [];
-        host = told;
-        took = took_on programs detaches 0 0 h.turns.begun next.turns.begun t.lines l cs now es t.took
-            (from_none h.turns.begun (turn_count t.lines) next.turns.begun l.event (begun_next programs detaches ds t.lines h (devices_of now) t.host next.turns.begun l.event begins)) takes;
-        printed = subst (λ (s : List ℕ). Becomes old new (Appends s)) same_text (then_printed (begun t.lines) (event_line (names_at own l.program) l) old mid new t.printed p);
+  -- the devices are those that the lines left, or that are left when the next event begins
+  pub are_begun : (h : Host) (now : List Counted) (t : Told h now) (es : List Counted) → AreLeft h.turns.begun detaches (devices_of now) (devices_of es)
+      → AreBegun parts detaches cs es (begun t.lines)
+  are_begun h now t es left =
+      let b = told_begins_met programs detaches ds (devices_of now) t.lines h t.host in
+      record {
+        lines = t.lines;
+        more = b.0;
+        met = t.met;
+        last = b.1;
+        world = b.2;
+        meets = are_met t.lines t.met t.host.tellers b.2.actors (as_wide h now t b.2.actors b.2.starts) t.meets b.3;
+        begun = h.turns.begun;
+        there = now;
+        took = t.took;
+        left = left;
+        text_is = refl;
       }
 
-      pub told_less : (last : List Counted) (fault : PutFault) (new : Option (List ℕ)) → Becomes mid new (AppendsLess (event_line (names_at own l.program) l))
-          → Becomes old new (TellsPart fault parts detaches cs last)
-      told_less last fault new p =
-          let begins = told_begins_world programs detaches ds (devices_of es) (t.lines ++ l ∷ []) next told in
-          becomes_by (AppendsLess (begun (t.lines ++ l ∷ []))) (TellsPart fault parts detaches cs last)
-          (λ x y q. (begun (t.lines ++ l ∷ []), inl (are_begun (t.lines ++ l ∷ []) begins), part_of fault _ x y q)) old new
-          (subst (λ (s : List ℕ). Becomes old new (AppendsLess s)) same_text (then_less (begun t.lines) (event_line (names_at own l.program) l) old mid new t.printed p))
+  module _ (h : Host) (now : List Counted) (old mid : Option (List ℕ)) (t : Telling h now old mid) where
+    abbrev lines : List Line
+    lines = t.told.lines
+
+    -- memory is wanting
+    pub told_so_far : (es : List Counted) → AreLeft h.turns.begun detaches (devices_of now) (devices_of es) → TellsPart Memory parts detaches cs es old mid
+    told_so_far es left = (
+      begun lines,
+      inl (are_begun h now t.told es left),
+      becomes_by (Appends (begun lines)) (PrintsPart Memory (begun lines))
+          (λ x y p. (length (begun lines), p ∙ ap (λ (s : List ℕ). x ++ s) (sym (take_all (length (begun lines)) (begun lines) (omega arith))))) old mid t.printed,
+    )
+
+    -- one line more, or less of it
+    module _ (next : Host) (es : List Counted) (own : List T.Names) (are : own ≡ names) (l : Line)
+        (n : TellsLine follows has_ended memory_of programs detaches ds t.told.lines t.told.host.tellers (left_at h.turns.begun next.turns.begun detaches now) es l (held_of next.turns) (devices_of es)
+        next.turns.stage)
+        (begins : BegunBy h.turns.stage h.turns.begun next.turns.begun l.event) where
+      same_text : begun lines ++ event_line (names_at own l.program) l ≡ begun (lines ++ l ∷ [])
+      same_text = ap (λ (n : List T.Names). begun lines ++ event_line (names_at n l.program) l) are ∙ line_more names lines l
+
+      abbrev one_more : Told next es
+      one_more = record {
+        lines = lines ++ l ∷ [];
+        host = n.stands;
+        met = t.told.met ++ n.met ∷ [];
+        took = took_on programs detaches 0 0 h.turns.begun next.turns.begun lines t.told.met l n.met cs now es t.told.took
+            (from_none h.turns.begun (turn_count lines) next.turns.begun l.event (begun_next programs detaches ds lines h (devices_of now) t.told.host next.turns.begun l.event begins)) n.takes;
+        meets = met_on lines t.told.met l n.met t.told.host.tellers n.stands.tellers (took_long programs detaches 0 0 lines t.told.met cs h.turns.begun now t.told.took)
+            (n.stands.wide ∙ sym t.told.host.wide) t.told.meets n.meets;
+      }
+
+      pub told_on : (new : Option (List ℕ)) → Becomes mid new (Appends (event_line (names_at own l.program) l)) → Telling next es old new
+      told_on new p = record {
+        told = one_more;
+        printed = subst (λ (s : List ℕ). Becomes old new (Appends s)) same_text (then_printed (begun lines) (event_line (names_at own l.program) l) old mid new t.printed p);
+      }
+
+      pub told_less : (fault : PutFault) (new : Option (List ℕ)) → Becomes mid new (AppendsLess (event_line (names_at own l.program) l)) → TellsPart fault parts detaches cs es old new
+      told_less fault new p = (
+        begun (lines ++ l ∷ []),
+        inl (are_begun next es one_more es (inl refl)),
+        becomes_by (AppendsLess (begun (lines ++ l ∷ []))) (PrintsPart fault (begun (lines ++ l ∷ []))) (part_of fault (begun (lines ++ l ∷ []))) old new
+            (subst (λ (s : List ℕ). Becomes old new (AppendsLess s)) same_text (then_less (begun lines) (event_line (names_at own l.program) l) old mid new t.printed p)),
+      )
 
     -- the last line, or less of it
-    module _ (es : List Counted) (own : List Names) (are : map names_of own ≡ names) (world : ProtocolWorld programs detaches ds t.lines (devices_of es)) (kept : es ≡ now)
-        (none : HaveEnded h.turns.dues.items × LooksOut h.turns.shows.items h.turns.stage) where
+    module _ (es : List Counted) (own : List Names) (are : map names_of own ≡ names) (world : ProtocolWorld programs detaches ds t.told.lines (devices_of es))
+        (have : HaveMet t.told.host.tellers world.actors) (kept : es ≡ now) (none : HaveEnded h.turns.dues.items × LooksOut h.turns.shows.items h.turns.stage) where
       abbrev last : List ℕ
       last = last_line (length own) h.turns.begun
 
-      events : turn_count t.lines ≡ h.turns.begun
-      events = turns_begun programs detaches ds t.lines h (devices_of now) t.host none.1
+      events : turn_count lines ≡ h.turns.begun
+      events = turns_begun programs detaches ds lines h (devices_of now) t.told.host none.1
 
-      same_last : last ≡ last_line (length parts) (turn_count t.lines)
+      same_last : last ≡ last_line (length parts) (turn_count lines)
       same_last =
           ap (λ (n : ℕ). last_line n h.turns.begun) (sym (length-map own names_of) ∙ ap (λ (l : List T.Names). length l) are ∙ length-map parts part_names)
           ∙ ap (last_line (length parts)) (sym events)
 
-      are_told : AreTold parts detaches cs es (begun t.lines ++ last)
+      are_told : AreTold parts detaches cs es (begun lines ++ last)
       are_told = record {
-        lines = t.lines;
+        lines = lines;
+        met = t.told.met;
         world = world;
+        meets = are_met lines t.told.met t.told.host.tellers world.actors (as_wide h now t.told world.actors world.starts) t.told.meets have;
         took =
-            subst (λ (n : ℕ). Took programs detaches 0 0 t.lines cs n es) (sym events)
-            (subst (λ (c : List Counted). Took programs detaches 0 0 t.lines cs h.turns.begun c) (sym kept) t.took);
-        text_is = ap (λ (s : List ℕ). begun t.lines ++ s) same_last;
+            subst (λ (n : ℕ). Took programs detaches 0 0 lines t.told.met cs n es) (sym events)
+            (subst (λ (c : List Counted). Took programs detaches 0 0 lines t.told.met cs h.turns.begun c) (sym kept) t.told.took);
+        text_is = ap (λ (s : List ℕ). begun lines ++ s) same_last;
       }
 
-      pub told_whole : (new : Option (List ℕ)) → Becomes mid new (Appends last) → Becomes old new (Tells parts detaches cs es)
-      told_whole new p =
-          becomes_by (Appends (begun t.lines ++ last)) (Tells parts detaches cs es) (λ x y q. (begun t.lines ++ last, are_told, q)) old new (then_printed (begun t.lines) last old mid new t.printed p)
+      pub told_whole : (new : Option (List ℕ)) → Becomes mid new (Appends last) → Tells parts detaches cs es old new
+      told_whole new p = (begun lines ++ last, are_told, then_printed (begun lines) last old mid new t.printed p)
 
-      pub told_less_last : (fault : PutFault) (new : Option (List ℕ)) → Becomes mid new (AppendsLess last) → Becomes old new (TellsPart fault parts detaches cs es)
-      told_less_last fault new p =
-          becomes_by (AppendsLess (begun t.lines ++ last)) (TellsPart fault parts detaches cs es) (λ x y q. (begun t.lines ++ last, inr are_told, part_of fault _ x y q)) old new
-          (then_less (begun t.lines) last old mid new t.printed p)
+      pub told_less_last : (fault : PutFault) (new : Option (List ℕ)) → Becomes mid new (AppendsLess last) → TellsPart fault parts detaches cs es old new
+      told_less_last fault new p = (
+        begun lines ++ last,
+        inr are_told,
+        becomes_by (AppendsLess (begun lines ++ last)) (PrintsPart fault (begun lines ++ last)) (part_of fault (begun lines ++ last)) old new
+            (then_less (begun lines) last old mid new t.printed p),
+      )
 
 -- ---- what a host answers
 
-module _ (parts : List Part) (detaches : List Detach) (ds : List Device) (lines : List Line) (h : Host) (es : List Device) (r : Option LineValue) where
-  pub line_told : (l : LineValue) → r ≡ Some l → HostNext (world_programs parts) detaches ds lines h es r → HostTold (world_programs parts) detaches ds (lines ++ line_of l ∷ []) h es
-  line_told l is told = subst (λ (o : Option LineValue). HostNext (world_programs parts) detaches ds lines h es o) is told
+module _ (programs : List Program) (detaches : List Detach) (ds : List Device) (lines : List Line) (tellers : List Teller) (old left new : List Counted) (h : Host) (es : List Device)
+    (r : Option LineValue) where
+  pub line_told : (l : LineValue) → r ≡ Some l → HostNext programs detaches ds lines tellers old left new h es r
+      → TellsLine follows has_ended memory_of programs detaches ds lines tellers left new (line_of l) (held_of h.turns) es h.turns.stage
+  line_told l is told = subst (λ (o : Option LineValue). HostNext programs detaches ds lines tellers old left new h es o) is told
 
-  pub none_told : r ≡ None → HostNext (world_programs parts) detaches ds lines h es r → ProtocolWorld (world_programs parts) detaches ds lines es
-  none_told is told = subst (λ (o : Option LineValue). HostNext (world_programs parts) detaches ds lines h es o) is told
-
-pub line_takes : (programs : List Program) (r : Option LineValue) (l : LineValue) (old left new : List Counted) → r ≡ Some l → TakesNext programs r old left new
-    → TakesCall programs (line_of l) left new
-line_takes programs r l old left new is t = subst (λ (o : Option LineValue). TakesNext programs o old left new) is t
+  pub none_told : r ≡ None → HostNext programs detaches ds lines tellers old left new h es r
+      → (world : ProtocolWorld programs detaches ds lines es) × HaveMet tellers world.actors × (new ≡ old)
+  none_told is told = subst (λ (o : Option LineValue). HostNext programs detaches ds lines tellers old left new h es o) is told
 
 pub line_begins : (stage : Stage) (b b' : ℕ) (r : Option LineValue) (l : LineValue) → r ≡ Some l → BegunNext stage b b' r → BegunBy stage b b' (line_of l).event
 line_begins stage b b' r l is t = subst (λ (o : Option LineValue). BegunNext stage b b' o) is t
-
-pub none_takes : (programs : List Program) (r : Option LineValue) (old left new : List Counted) → r ≡ None → TakesNext programs r old left new → new ≡ old
-none_takes programs r old left new is t = subst (λ (o : Option LineValue). TakesNext programs o old left new) is t
 
 pub none_left : (P Q : Type 0) (r : Option LineValue) → r ≡ None → MatchOption r P (λ l. Q) → P
 none_left P Q r is m = subst (λ (o : Option LineValue). MatchOption o P (λ l. Q)) is m
@@ -195,15 +319,47 @@ pub none_is : {X : Type 0} (o : Option X) → ((x : X) → o ≡ Some x → ⊥)
 none_is None h = refl
 none_is (Some x) h = absurd (h x refl)
 
+pub has_failed : {T E : Type 0} (r : Result T E) → ((x : T) → r ≡ Ok x → ⊥) → IsErr r
+has_failed (Ok x) never = absurd (never x refl)
+has_failed (Err e) never = refl
+
 -- ---- devices, seen and counted
 
 module _ {X : Type 0} {F : X → Type 0} (f : (x : X) × F x → Device) (g : (x : X) × F x → ℕ)
     (programs : List Program) (detaches : List Detach) (ds : List Device) (lines : List Line) (d : Devices X F) where
-  pub host_seen : (h : Host) → HostTold programs detaches ds lines h (devices_of (counted f g d)) → HostTold programs detaches ds lines h (of_all f d)
-  host_seen h told = subst (λ (es : List Device). HostTold programs detaches ds lines h es) (counted_devices f g d) told
+  abbrev pub standing_with : (h : Host) (es es' : List Device) → es ≡ es' → HostTold programs detaches ds lines h es → HostTold programs detaches ds lines h es'
+  standing_with h es es' is told = record {
+    tellers = told.tellers;
+    wide = told.wide;
+    as_many = told.as_many;
+    each = told.each;
+    dues = told.dues;
+    detaches_are = told.detaches_are;
+    at = subst (λ (l : List Device). StandsAt memory_of programs detaches ds lines told.tellers (held_of h.turns) l h.turns.stage) is told.at;
+  }
 
-  pub host_counted : (h : Host) → HostTold programs detaches ds lines h (of_all f d) → HostTold programs detaches ds lines h (devices_of (counted f g d))
-  host_counted h told = subst (λ (es : List Device). HostTold programs detaches ds lines h es) (sym (counted_devices f g d)) told
+  abbrev pub host_seen : (h : Host) → HostTold programs detaches ds lines h (devices_of (counted f g d)) → HostTold programs detaches ds lines h (of_all f d)
+  host_seen h told = standing_with h (devices_of (counted f g d)) (of_all f d) (counted_devices f g d) told
 
-  pub world_counted : ProtocolWorld programs detaches ds lines (of_all f d) → ProtocolWorld programs detaches ds lines (devices_of (counted f g d))
-  world_counted world = subst (λ (es : List Device). ProtocolWorld programs detaches ds lines es) (sym (counted_devices f g d)) world
+  pub world_counted : (tellers : List Teller) → (world : ProtocolWorld programs detaches ds lines (of_all f d)) × HaveMet tellers world.actors
+      → (world : ProtocolWorld programs detaches ds lines (devices_of (counted f g d))) × HaveMet tellers world.actors
+  world_counted tellers both =
+      subst (λ (es : List Device). (world : ProtocolWorld programs detaches ds lines es) × HaveMet tellers world.actors) (sym (counted_devices f g d)) both
+
+pub line_counted : {X : Type 0} {F : X → Type 0} (f : (x : X) × F x → Device) (g : (x : X) × F x → ℕ) (programs : List Program) (detaches : List Detach) (ds : List Device) (lines : List Line)
+    (tellers : List Teller) (old new : List Counted) (line : Line) (d : Devices X F) (h : Host)
+    → TellsLine follows has_ended memory_of programs detaches ds lines tellers old new line (held_of h.turns) (of_all f d) h.turns.stage
+    → TellsLine follows has_ended memory_of programs detaches ds lines tellers old new line (held_of h.turns) (devices_of (counted f g d)) h.turns.stage
+line_counted f g programs detaches ds lines tellers old new line d h t = record {
+  stands = standing_with f g programs detaches ds (lines ++ line ∷ []) d h (of_all f d) (devices_of (counted f g d)) (sym (counted_devices f g d)) t.stands;
+  met = t.met;
+  meets = t.meets;
+  takes = t.takes;
+}
+
+-- where no line came
+pub left_counted : {X : Type 0} {F : X → Type 0} (f : (x : X) × F x → Device) (g : (x : X) × F x → ℕ) (begun : ℕ) (detaches : List Detach) (d d' : Devices X F)
+    → AreLeft begun detaches (of_all f d) (of_all f d') → AreLeft begun detaches (devices_of (counted f g d)) (devices_of (counted f g d'))
+left_counted f g begun detaches d d' h =
+    subst (λ (es : List Device). AreLeft begun detaches es (devices_of (counted f g d'))) (sym (counted_devices f g d))
+    (subst (λ (es : List Device). AreLeft begun detaches (of_all f d) es) (sym (counted_devices f g d')) h)

@@ -1,5 +1,5 @@
 -- A program that is set up begins the story of the program that it is in a world.
-use Rattle.std.proofs.Common.{◌≡◌, ◌≤◌, ℕ, List, [], length, map, All, Bool, Result, Ok, arith, sym, ap, ◌∙◌, subst}
+use Rattle.std.proofs.Common.{◌≡◌, ◌≤◌, ℕ, List, [], length, map, All, Bool, Result, Ok, arith, refl, sym, ap, ◌∙◌, subst}
 use Rattle.std.specs.Prelude.{slice_get, None}
 use Rattle.std.specs.Option.{unwrap_or}
 use Rattle.wa_types.specs.declared.values.Value.{Value}
@@ -13,7 +13,9 @@ use Rattle.script_model.specs.Script.{ProgramText}
 use Rattle.wa_model.specs.View.{answer_line_of}
 use Rattle.wa_model.specs.World as W
 use Rattle.host_setup.specs.SetUp.{NamedEntry, Fault, set_up}
-use Rattle.host_setup.specs.Views.{entry_of as named_entry_of}
+use Rattle.host_setup.specs.Views.{Blames, entry_of as named_entry_of}
+use Rattle.host_setup.specs.declared.faults.SetupFault.{SetupFault}
+use Rattle.host_setup.specs.declared.faults.SetupFault.TheVariants.{Memory, AreaBad, NoExports, EntryMissing, EntryIsImport, ArgTypes}
 use Rattle.pause_host.specs.Moves.{HasShortPokes}
 use Rattle.pause_host.specs.declared.plan.Plan.{Plan}
 use Rattle.pause_host.specs.declared.program.Program.{Program}
@@ -35,6 +37,15 @@ pub suits_by_rules : (runs : Bool) (p : Module) (t : ProgramText) (made : SetUpV
 suits_by_rules runs p t made e entries =
     let given = given_by_rules runs p t (set_up_of made) e in
     record { entries = entries; funcs = given.funcs; globals = given.globals }
+
+-- the one fault of a plan that has none
+pub blames_memory : (fault : SetupFault) (funcs : List ℕ) → Blames fault (Ok funcs) → (fault ≡ Memory → ⊥) → ⊥
+blames_memory Memory funcs h other = other refl
+blames_memory AreaBad funcs h other = cc
+blames_memory (NoExports name) funcs h other = cc
+blames_memory (EntryMissing entry) funcs h other = cc
+blames_memory (EntryIsImport entry) funcs h other = cc
+blames_memory (ArgTypes entry) funcs h other = cc
 
 -- The plan is made of the script's program and of what it is given.
 pub record IsPlanOf (t : ProgramText) (made : SetUpValue) (x : Plan) : Type 0 where
@@ -65,10 +76,13 @@ module _ (t : ProgramText) (made : SetUpValue) (x : Plan) (of : IsPlanOf t made 
         pokes = subst (All HasShortPokes) (sym of.answers) fits.pokes;
       }
 
+  -- and has no fault
+  pub is_set_up : set_up (source_of x) x.area (named_entries x) ≡ Ok made.funcs.items
+  is_set_up = ap (λ (a : Area). set_up (source_of x) a (named_entries x)) of.area ∙ ap (set_up (source_of x) t.area) same_entries ∙ suits.funcs
+
   same_funcs : (funcs : List ℕ) → set_up (source_of x) x.area (named_entries x) ≡ Ok funcs → funcs ≡ made.funcs.items
   same_funcs funcs e =
-      let told : set_up (source_of x) x.area (named_entries x) ≡ Ok made.funcs.items =
-      ap (λ (a : Area). set_up (source_of x) a (named_entries x)) of.area ∙ ap (set_up (source_of x) t.area) same_entries ∙ suits.funcs in
+      let told : set_up (source_of x) x.area (named_entries x) ≡ Ok made.funcs.items = is_set_up in
       let both : ◌≡◌ {A = Result (List ℕ) Fault} (Ok funcs) (Ok made.funcs.items) = sym e ∙ told in
       cc
 

@@ -1,4 +1,5 @@
 pub mod Counts
+pub mod DeviceLogs
 pub mod Endings
 pub mod FaultCounts
 pub mod Laws

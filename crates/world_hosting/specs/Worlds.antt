@@ -5,7 +5,7 @@ use Rattle.wa_types.specs.Sizes.{value_fits}
 use Rattle.wa_types.specs.Syntax.{Module}
 use Rattle.wa_model.specs.declared.answers.Detach.{Detach}
 use Rattle.wa_model.specs.Outside.{AnswerLine, Line}
-use Rattle.wa_model.specs.Plan.{AnswerFits}
+use Rattle.wa_model.specs.Plan.{AnswerFits, Outcome}
 use Rattle.script_model.specs.Script.{EntryText, GlobalText, ProgramText, ShowText}
 use Rattle.script_model.specs.Transcript.{Names, Transcript, event_lines}
 use Rattle.wa_model.specs.World.{Device, Look, Program, ProtocolWorld}
@@ -13,12 +13,13 @@ use Rattle.event_order.specs.Left.{Counted}
 use Rattle.pause_host.specs.Moves.{HasShortPokes}
 use Rattle.pause_host.specs.Settings.{calls_of}
 use Rattle.script_setup.specs.SetUpRules.{SetUp, named_entry, program_names}
-use Rattle.many_host.specs.Calls.{devices_of}
+use Rattle.many_host.specs.Calls.{AreLeft, devices_of}
 use Rattle.vault_port.specs.declared.whole.PutFault.{PutFault}
 use Rattle.vault_port.specs.declared.whole.PutFault.TheVariants.{Fault, Memory}
 use Rattle.vault_port.specs.Taken.{Appends, AppendsLess}
+use Rattle.vault_port.specs.Told.{Becomes}
 use Rattle.script_setup.specs.Bindings.{bindings}
-use Rattle.world_hosting.specs.Counts.{Took, turns_at}
+use Rattle.world_hosting.specs.Counts.{AreMet, Took, turns_at}
 
 -- ---- what is asked of a program
 
@@ -83,24 +84,33 @@ abbrev pub turn_count : List Line → ℕ
 turn_count [] = 0
 turn_count (l ∷ ls) = turns_at l.event + turn_count ls
 
--- The text tells a whole run of the protocol world, from these devices to those: its lines, and the last line.
+-- The text tells a whole run of the protocol world, from these devices to those: its lines, and the last line. What its calls met is
+-- what was taken of the devices.
 pub record AreTold (parts : List Part) (detaches : List Detach) (old new : List Counted) (text : List ℕ) : Type 0 where
   pub lines : List Line
+  pub met : List (List Outcome)
   pub world : ProtocolWorld (world_programs parts) detaches (devices_of old) lines (devices_of new)
-  pub took : Took (world_programs parts) detaches 0 0 lines old (turn_count lines) new
+  pub meets : AreMet lines met world.actors
+  pub took : Took (world_programs parts) detaches 0 0 lines met old (turn_count lines) new
   pub text_is : text ≡ Transcript (map part_names parts) (length parts) (turn_count lines) lines
 
--- It tells the first lines of one.
-pub record AreBegun (parts : List Part) (detaches : List Detach) (old : List Counted) (text : List ℕ) : Type 0 where
+-- It tells the first lines of one, and the devices are those that these leave, or that are left when the next event begins.
+pub record AreBegun (parts : List Part) (detaches : List Detach) (old new : List Counted) (text : List ℕ) : Type 0 where
   pub lines : List Line
   pub more : List Line
+  pub met : List (List Outcome)
   pub last : List Device
   pub world : ProtocolWorld (world_programs parts) detaches (devices_of old) (lines ++ more) last
+  pub meets : AreMet lines met world.actors
+  pub begun : ℕ
+  pub there : List Counted
+  pub took : Took (world_programs parts) detaches 0 0 lines met old begun there
+  pub left : AreLeft begun detaches (devices_of there) (devices_of new)
   pub text_is : text ≡ event_lines (map part_names parts) lines
 
 -- A whole such text came behind what was printed.
-abbrev pub Tells : List Part → List Detach → (cs cs' : List Counted) → (old new : List ℕ) → Type 0
-Tells parts detaches cs cs' old new = (text : List ℕ) × AreTold parts detaches cs cs' text × Appends text old new
+abbrev pub Tells : List Part → List Detach → (cs cs' : List Counted) → (old new : Option (List ℕ)) → Type 0
+Tells parts detaches cs cs' old new = (text : List ℕ) × AreTold parts detaches cs cs' text × Becomes old new (Appends text)
 
 -- Some first bytes of a text were printed, and not all of them where the sink failed.
 abbrev pub PrintsPart : PutFault → (text old new : List ℕ) → Type 0
@@ -108,6 +118,6 @@ PrintsPart Fault text old new = AppendsLess text old new
 PrintsPart Memory text old new = (n : ℕ) × (new ≡ old ++ take n text)
 
 -- A beginning of a whole such text came behind what was printed.
-abbrev pub TellsPart : PutFault → List Part → List Detach → (cs cs' : List Counted) → (old new : List ℕ) → Type 0
+abbrev pub TellsPart : PutFault → List Part → List Detach → (cs cs' : List Counted) → (old new : Option (List ℕ)) → Type 0
 TellsPart fault parts detaches cs cs' old new =
-    (text : List ℕ) × (AreBegun parts detaches cs text ⊎ AreTold parts detaches cs cs' text) × PrintsPart fault text old new
+    (text : List ℕ) × (AreBegun parts detaches cs cs' text ⊎ AreTold parts detaches cs cs' text) × Becomes old new (PrintsPart fault text)

@@ -12,15 +12,17 @@
 //!   (`specs/Endings.antt`).
 //! - A program whose imports are bound to no device has the lines that it would have alone, its number aside (`specs/ToldAlone.antt`).
 //! - Each line `end device fault` stands for a fault that the asked device has counted (`specs/FaultCounts.antt`).
+//! - Each device that is left has behind its journal its log: the answered calls to it, in order (`specs/DeviceLogs.antt`).
 //!
 //! Scripts aren't read here, and modules neither fetched nor rewritten: that is `script_command`.
 //!
 //! - `staging`, `parting`, `telling`: a program made over its module, the programs parted in what hosts them and what prints their lines,
 //!   and `host_programs`.
 //! - `laws`: scripts can be staged.
-//! - `originals_told`, `told_alone`, `fault_counts`: the laws above.
+//! - `originals_told`, `told_alone`, `fault_counts`, `device_logs`: the laws above.
 #![tactic(auto)]
 
+mod device_logs;
 mod fault_counts;
 mod laws;
 mod originals_told;
@@ -29,6 +31,7 @@ mod staging;
 mod telling;
 mod told_alone;
 
+pub use device_logs::told_devices_are_logged;
 pub use fault_counts::told_faults_are_counted;
 pub use laws::{scripts_fit, scripts_in_range};
 pub use originals_told::{told_of_originals, told_programs_end_as_originals};

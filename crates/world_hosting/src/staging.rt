@@ -1,12 +1,14 @@
 //! A program of a script, made over its module.
 
-ghost use Rattle.std.specs.Prelude.{IfOk};
+ghost use Rattle.std.specs.Prelude.{ℕ, List, Ok, IfOk};
 ghost use Rattle.wa_types.specs.View.{module_of};
+ghost use Rattle.host_setup.specs.Views.{Blames};
 ghost use Rattle.script_reader.specs.Views.{program_of};
 ghost use Rattle.script_setup.specs.Views.{set_up_of};
 ghost use Rattle.world_hosting.specs.Worlds.{FitsPlan, IsListing, part};
 ghost use Rattle.world_hosting.specs.Views.{IsStaged, Suits, listing};
 
+use host_setup::SetupFault;
 use many_host::{Plan, Program};
 use script_reader::{ProgramText, ShowText};
 use script_setup::{SetUp, bindings, program_names};
@@ -60,7 +62,17 @@ pub fn stage_program<'m>(
             names,
             shows,
         }),
-        // The plan has no fault: the rules asked for what `Program::new` asks.
-        Err(_) => Err(AllocError),
+        // The rules asked for what `Program::new` asks.
+        Err(fault) => Err(want_of_memory(fault)),
+    }
+}
+
+// The one fault of a plan that has none.
+fn want_of_memory(fault: SetupFault) -> AllocError
+    requires { (funcs : List ℕ) × Blames fault (Ok funcs) }
+{
+    match fault {
+        SetupFault::Memory => AllocError,
+        _ => unreachable!(),
     }
 }

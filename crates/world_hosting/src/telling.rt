@@ -3,7 +3,6 @@
 ghost use Rattle.std.specs.Prelude.{◌≡◌, ◌≤◌, [], ◌∷◌, IsErrOf, List, OnOk, length, map};
 ghost use Rattle.std.specs.Result.{IfErr};
 ghost use Rattle.vault_port.specs.Counts.{HasRisen};
-ghost use Rattle.vault_port.specs.Told.{Becomes};
 ghost use Rattle.wa_model.specs.declared.answers.Detach.{Detach as DetachValue};
 ghost use Rattle.host_laws.specs.Supplies.{IsLent};
 ghost use Rattle.transcript.specs.Printing.{names_of};
@@ -11,7 +10,7 @@ ghost use Rattle.many_host.specs.Calls.{devices_of};
 ghost use Rattle.many_host.specs.Standing.{InRange};
 ghost use Rattle.many_host.specs.Hosts.{HostTold};
 ghost use Rattle.world_hosting.specs.Counts.{counted};
-ghost use Rattle.world_hosting.specs.Parted.{CanHost};
+ghost use Rattle.world_hosting.specs.Parted.{BeginsHosting, CanHost};
 ghost use Rattle.world_hosting.specs.Views.{AreStaged};
 ghost use Rattle.world_hosting.specs.Worlds.{Part, Tells, TellsPart, part_names, world_programs};
 
@@ -39,15 +38,18 @@ pub fn host_programs<S: Sink>(
 ) -> Result<(), PutFault>
     requires lent { IsLent }
     requires few { length staged.items ≤ 16 }
+    requires staged { (parts : List Part) × AreStaged parts staged.items }
     ensures same_list { devices.new.list.ghost_name ≡ devices.old.list.ghost_name }
     ensures told { (parts : List Part) → AreStaged parts staged.entry.items
-        → OnOk result (Becomes (S.taken out.old) (S.taken out.new) (Tells parts detaches.items
+        → OnOk result (Tells parts detaches.items
         (counted seen (λ d. (⟦<dyn Device as Device>⟧ d.0).faults d.1) devices.old)
-        (counted seen (λ d. (⟦<dyn Device as Device>⟧ d.0).faults d.1) devices.new))) }
+        (counted seen (λ d. (⟦<dyn Device as Device>⟧ d.0).faults d.1) devices.new)
+        (S.taken out.old) (S.taken out.new)) }
     ensures part { (parts : List Part) → AreStaged parts staged.entry.items
-        → IfErr result (λ fault. Becomes (S.taken out.old) (S.taken out.new) (TellsPart fault parts detaches.items
+        → IfErr result (λ fault. TellsPart fault parts detaches.items
         (counted seen (λ d. (⟦<dyn Device as Device>⟧ d.0).faults d.1) devices.old)
-        (counted seen (λ d. (⟦<dyn Device as Device>⟧ d.0).faults d.1) devices.new))) }
+        (counted seen (λ d. (⟦<dyn Device as Device>⟧ d.0).faults d.1) devices.new)
+        (S.taken out.old) (S.taken out.new)) }
     ensures fault { IsErrOf result PutFault.Fault → HasRisen (S.faults out.old) (S.faults out.new) }
     ensures faults { S.faults out.old ≤ S.faults out.new }
 {
@@ -67,15 +69,18 @@ fn host_parted<S: Sink>(
 ) -> Result<(), PutFault>
     requires lent { IsLent }
     requires few { length parted.programs.items ≤ 16 }
+    requires hosted { (parts : List Part) × CanHost parts parted }
     ensures same_list { devices.new.list.ghost_name ≡ devices.old.list.ghost_name }
     ensures told { (parts : List Part) → CanHost parts parted.entry
-        → OnOk result (Becomes (S.taken out.old) (S.taken out.new) (Tells parts detaches.items
+        → OnOk result (Tells parts detaches.items
         (counted seen (λ d. (⟦<dyn Device as Device>⟧ d.0).faults d.1) devices.old)
-        (counted seen (λ d. (⟦<dyn Device as Device>⟧ d.0).faults d.1) devices.new))) }
+        (counted seen (λ d. (⟦<dyn Device as Device>⟧ d.0).faults d.1) devices.new)
+        (S.taken out.old) (S.taken out.new)) }
     ensures part { (parts : List Part) → CanHost parts parted.entry
-        → IfErr result (λ fault. Becomes (S.taken out.old) (S.taken out.new) (TellsPart fault parts detaches.items
+        → IfErr result (λ fault. TellsPart fault parts detaches.items
         (counted seen (λ d. (⟦<dyn Device as Device>⟧ d.0).faults d.1) devices.old)
-        (counted seen (λ d. (⟦<dyn Device as Device>⟧ d.0).faults d.1) devices.new))) }
+        (counted seen (λ d. (⟦<dyn Device as Device>⟧ d.0).faults d.1) devices.new)
+        (S.taken out.old) (S.taken out.new)) }
     ensures fault { IsErrOf result PutFault.Fault → HasRisen (S.faults out.old) (S.faults out.new) }
     ensures faults { S.faults out.old ≤ S.faults out.new }
 {
@@ -102,21 +107,24 @@ fn tell_lines<S: Sink>(
 ) -> Result<(), PutFault>
     requires lent { IsLent }
     requires range { InRange host.old.turns }
+    requires begins { BeginsHosting host.old names.now (counted seen (λ d. (⟦<dyn Device as Device>⟧ d.0).faults d.1) devices.old) }
     ensures same_list { devices.new.list.ghost_name ≡ devices.old.list.ghost_name }
     ensures told { (parts : List Part) (detaches : List DetachValue)
         → HostTold (world_programs parts) detaches (devices_of (counted seen (λ d. (⟦<dyn Device as Device>⟧ d.0).faults d.1) devices.old)) []
         host.old (devices_of (counted seen (λ d. (⟦<dyn Device as Device>⟧ d.0).faults d.1) devices.old))
         → host.old.turns.begun ≡ 0 → map names_of names.now ≡ map part_names parts
-        → OnOk result (Becomes (S.taken out.old) (S.taken out.new) (Tells parts detaches
+        → OnOk result (Tells parts detaches
         (counted seen (λ d. (⟦<dyn Device as Device>⟧ d.0).faults d.1) devices.old)
-        (counted seen (λ d. (⟦<dyn Device as Device>⟧ d.0).faults d.1) devices.new))) }
+        (counted seen (λ d. (⟦<dyn Device as Device>⟧ d.0).faults d.1) devices.new)
+        (S.taken out.old) (S.taken out.new)) }
     ensures part { (parts : List Part) (detaches : List DetachValue)
         → HostTold (world_programs parts) detaches (devices_of (counted seen (λ d. (⟦<dyn Device as Device>⟧ d.0).faults d.1) devices.old)) []
         host.old (devices_of (counted seen (λ d. (⟦<dyn Device as Device>⟧ d.0).faults d.1) devices.old))
         → host.old.turns.begun ≡ 0 → map names_of names.now ≡ map part_names parts
-        → IfErr result (λ fault. Becomes (S.taken out.old) (S.taken out.new) (TellsPart fault parts detaches
+        → IfErr result (λ fault. TellsPart fault parts detaches
         (counted seen (λ d. (⟦<dyn Device as Device>⟧ d.0).faults d.1) devices.old)
-        (counted seen (λ d. (⟦<dyn Device as Device>⟧ d.0).faults d.1) devices.new))) }
+        (counted seen (λ d. (⟦<dyn Device as Device>⟧ d.0).faults d.1) devices.new)
+        (S.taken out.old) (S.taken out.new)) }
     ensures fault { IsErrOf result PutFault.Fault → HasRisen (S.faults out.old) (S.faults out.new) }
     ensures faults { S.faults out.old ≤ S.faults out.new }
 {

@@ -27,7 +27,7 @@ returns-in-Err-Usage-clause-one_end g c =
     (subst (λ (f : WordsFault). Reads spelled_of (Err f) (spelled (map string_bytes c.args.words.now))) c.in-Err-Usage.field-0-is c.in-Err-Usage.ensures.command) c.refuse.ensures.status
 
 pub returns-in-Err-Memory-clause-one_end : goal.returns-in-Err-Memory-clause-one_end
-returns-in-Err-Memory-clause-one_end g c = memory_ends _ c.out_of_memory.result c.out_of_memory.ensures.status refl c.out_of_memory.ensures.printed
+returns-in-Err-Memory-clause-one_end g c = memory_ends _ c.out_of_memory.result c.out_of_memory.ensures.status refl refl c.out_of_memory.ensures.printed
 
 pub returns-in-Ok-Transform-clause-one_end : goal.returns-in-Ok-Transform-clause-one_end
 returns-in-Ok-Transform-clause-one_end g c =

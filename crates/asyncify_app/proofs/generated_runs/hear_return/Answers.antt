@@ -3,6 +3,7 @@ use Rattle.wa_types.specs.declared.values.Value.TheVariants as V
 use Rattle.wa_model.specs.Outside.{returned}
 use Rattle.wa_model.specs.View.{event_of}
 use Rattle.asyncify_app.specs.Telling.{TellsNext}
+use Rattle.pause_host.proofs.Advancing.{alone_on_its_way}
 use Rattle.asyncify_app.proofs.Runs.{handed, refused, tells}
 use Rattle.asyncify_app.proofs.generated_runs.hear_return.Goals as goal
 use Rattle.asyncify_app.proofs.generated_runs.hear_return.Goals.{in-Returned, in_default}
@@ -19,3 +20,6 @@ returns c = λ w notes f none. elim c.match-branch-2.branch [
       v.result-is v.number_of.ensures
   | in_default v ↦ refused c.match-branch-2.result _ (λ value. (entry : ℕ) × TellsNext w notes (returned entry (Some (V.I32 value))) c.advance_alone.new.self) v.result-is
 ]
+
+pub advance_alone-requires : goal.advance_alone-requires
+advance_alone-requires c = let h = c.requires in alone_on_its_way h.0 h.1 c.args.program.now h.2

@@ -25,8 +25,12 @@ rewritten-requires-clause-free c = subst (λ (m : Module). reserved_at m ≡ Non
 pub rewritten-requires-clause-few : goal.rewritten-requires-clause-few
 rewritten-requires-clause-few c = subst (λ (m : Module). All (λ (f : Func). Count m f ≤ 50000) m.funcs) (sym c.requires.2) (few_locals c.requires.0)
 
-pub play-requires : goal.play-requires
-play-requires c = imports_as c.requires.0 (module_of c.args.module) (module_of c.in_ok-rewritten.rewritten) c.requires.2 c.in_ok-rewritten.ensures
+pub play-requires-clause-rewritten : goal.play-requires-clause-rewritten
+play-requires-clause-rewritten c =
+    (c.requires.0, subst (λ (m : Module). Rewrites m all_listed (module_of c.in_ok-rewritten.rewritten)) c.requires.2 c.in_ok-rewritten.ensures)
+
+pub play-requires-clause-imports : goal.play-requires-clause-imports
+play-requires-clause-imports c = imports_as c.requires.0 (module_of c.args.module) (module_of c.in_ok-rewritten.rewritten) c.requires.2 c.in_ok-rewritten.ensures
 
 pub returns : goal.returns
 returns c = λ n e.

@@ -1,7 +1,7 @@
 -- The programs of a script, or why they aren't opened.
 use Rattle.std.proofs.Common.{refl}
 use Rattle.script_reader.specs.Views.{script_of}
-use Rattle.script_command.proofs.Scripts.{few_texts, has_script, opens, plays, script_blamed, texts_fit}
+use Rattle.script_command.proofs.Scripts.{few_texts, has_script, opens, plays, script_blamed, texts_choose, texts_fit}
 use Rattle.script_command.proofs.opening.open_script.Goals as goal
 
 pub open_programs-requires-clause-few : goal.open_programs-requires-clause-few
@@ -22,3 +22,6 @@ pub returns-in-Err-clause-refused : goal.returns-in-Err-clause-refused
 returns-in-Err-clause-refused g c =
     script_blamed c.args.way (g.V.Vault.files c.args.vault.now) c.args.script.now (g.V.Vault.fetch_faults c.args.vault.now) _ _ _ (script_of c.in-Ok.whole) c.in-Err.fault
     c.fetch_script.ensures.kept c.fetch_script.ensures.faults (has_script _ _ c.in-Ok.whole c.in-Ok.ensures.script) c.in-Err.ensures.refused
+
+pub open_programs-requires-clause-choices : goal.open_programs-requires-clause-choices
+open_programs-requires-clause-choices g c = texts_choose (g.V.Vault.files c.args.vault.now) c.args.script.now c.in-Ok.whole c.in-Ok.ensures.script

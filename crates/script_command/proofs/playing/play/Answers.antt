@@ -1,8 +1,8 @@
 -- What is opened is staged, and told.
-use Rattle.std.proofs.Common.{List, sym, subst}
+use Rattle.std.proofs.Common.{List, refl, sym, subst}
 use Rattle.std.specs.List.{AllZip}
 use Rattle.wa_types.specs.declared.syntax.Module.{Module}
-use Rattle.script_command.specs.Views.{CanStage}
+use Rattle.script_command.specs.Views.{CanStage, parts_of}
 use Rattle.script_command.specs.Ends.{call}
 use Rattle.script_command.proofs.Ending.{out_of_memory_alone}
 use Rattle.script_command.proofs.StagedParts.{few_staged, staged_parts}
@@ -22,4 +22,7 @@ returns-in-Ok-clause-end g c = λ way files name f f' opens.
 
 pub returns-in-Err-clause-end : goal.returns-in-Err-clause-end
 returns-in-Err-clause-end g c = λ way files name f f' opens.
-    out_of_memory_alone (call way name files f f' _ _ _ _ _ _) c.out_of_memory.result c.out_of_memory.ensures.status c.out_of_memory.ensures.printed
+    out_of_memory_alone (call way name files f f' _ _ _ _ _ _) c.out_of_memory.result refl c.out_of_memory.ensures.status c.out_of_memory.ensures.printed
+
+pub tell-requires-clause-staged : goal.tell-requires-clause-staged
+tell-requires-clause-staged g c = (parts_of c.deref.result.now c.args.opened.programs.planned.items, c.in-Ok.ensures)

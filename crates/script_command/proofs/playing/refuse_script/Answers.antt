@@ -9,7 +9,7 @@ use Rattle.script_command.proofs.playing.refuse_script.Goals as goal
 
 pub returns-in-Memory-clause-end : goal.returns-in-Memory-clause-end
 returns-in-Memory-clause-end g c = λ way files name f f' ds b.
-    out_of_memory_alone (call way name files f f' _ _ _ _ ds ds) c.out_of_memory.result c.out_of_memory.ensures.status c.out_of_memory.ensures.printed
+    out_of_memory_alone (call way name files f f' _ _ _ _ ds ds) c.out_of_memory.result refl c.out_of_memory.ensures.status c.out_of_memory.ensures.printed
 
 pub returns-in-Read-clause-end : goal.returns-in-Read-clause-end
 returns-in-Read-clause-end g c = λ way files name f f' ds b.

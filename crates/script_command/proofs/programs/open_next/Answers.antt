@@ -14,3 +14,6 @@ returns-in-Ok-clause-refused g c =
     if_err_weaker c.plan_program.result _ _
     (λ fault b. line_blamed c.args.way _ _ _ _ (program_of c.args.text) _ fault b
     (λ line rule e. (module_of c.in-Ok.loaded.valid, listing c.in-Ok.loaded.listed, c.in-Ok.ensures.loaded.module_is, e))) c.plan_program.ensures.refused
+
+pub fetch_module-requires : goal.fetch_module-requires
+fetch_module-requires g c = c.requires.choice

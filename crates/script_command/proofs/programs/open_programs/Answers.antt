@@ -4,8 +4,10 @@ use Rattle.std.proofs.lemmas.List.{length-map}
 use Rattle.vault_port.specs.Files.{Files}
 use Rattle.std.specs.Prelude.{Option}
 use Rattle.script_reader.specs.Views.{program_of}
+use Rattle.world_hosting.specs.Worlds.{FitsPlan}
+use Rattle.script_command.specs.Playing.{HasChoice}
 use Rattle.script_command.specs.Views.{OpensNext}
-use Rattle.script_command.proofs.Openings.{all_opened, ended, few_so_far, next_blamed, next_fits, none_left, one_more, reached, turned}
+use Rattle.script_command.proofs.Openings.{all_opened, ended, few_so_far, next_blamed, next_has, none_left, one_more, reached, turned}
 use Rattle.script_command.proofs.programs.open_programs.Goals as goal
 
 pub open_next-requires-clause-few : goal.open_next-requires-clause-few
@@ -17,7 +19,7 @@ open_next-requires-clause-few g c =
     omega (arith, few)
 
 pub open_next-requires-clause-fits : goal.open_next-requires-clause-fits
-open_next-requires-clause-fits g c = next_fits c.args.way _ _ _ _ _ (turned c.args.way _ _ _ _ _ _ c.in-Some.ensures.steps.0 c.loop-text.invariant.so_far) c.requires.fits
+open_next-requires-clause-fits g c = next_has c.args.way _ FitsPlan _ _ _ _ (turned c.args.way _ _ _ _ _ _ c.in-Some.ensures.steps.0 c.loop-text.invariant.so_far) c.requires.fits
 
 pub loop-text-preserved : goal.loop-text-preserved
 loop-text-preserved g c = record {
@@ -41,3 +43,7 @@ pub returns-clause-opened : goal.returns-clause-opened
 returns-clause-opened g c =
     let none = none_left c.loop-text.text-iterator.rest.items (sym c.loop-text.text-iterator.rest.ok.0 ∙ c.in-None.ensures.steps.0) in
     all_opened c.args.way _ _ _ (ended c.args.way _ _ _ _ none c.loop-text.invariant.so_far)
+
+pub open_next-requires-clause-choice : goal.open_next-requires-clause-choice
+open_next-requires-clause-choice g c =
+    next_has c.args.way _ HasChoice _ _ _ _ (turned c.args.way _ _ _ _ _ _ c.in-Some.ensures.steps.0 c.loop-text.invariant.so_far) c.requires.choices

@@ -1,15 +1,16 @@
-use Rattle.std.proofs.Common.{refl, ap, map, ◌∙◌, ℕ, List, Option, Bool}
+use Rattle.std.proofs.Common.{refl, ap, map, ◌∙◌, subst, ℕ, List, Option, Bool}
 use Rattle.std.specs.Borrow.{Bor}
 use Rattle.std.specs.Global.{Vec}
 use Rattle.wa_types.specs.declared.syntax.Module.{Module as ModuleValue}
 use Rattle.wa_types.specs.View.{module_of}
+use Rattle.host_setup.specs.Views.{Blames}
 use Rattle.pause_host.specs.declared.plan.Plan.{Plan}
 use Rattle.script_reader.specs.declared.script.ProgramText.{ProgramText}
 use Rattle.script_reader.specs.Views.{bind_of, program_of}
 use Rattle.script_setup.specs.declared.setting.SetUp.{SetUp}
 use Rattle.script_setup.specs.SetUpRules.{program_names}
 use Rattle.script_setup.specs.Bindings.{bindings}
-use Rattle.world_hosting.proofs.Starts.{begins, is_plan}
+use Rattle.world_hosting.proofs.Starts.{begins, is_plan, is_set_up}
 use Rattle.world_hosting.proofs.staging.stage_program.Goals as goal
 
 -- the plan that is made
@@ -53,3 +54,15 @@ returns-in-Ok c =
       names = c.in_ok-names.ensures ∙ ap (λ m. program_names (module_of m) (program_of t)) c.module.ensures.same;
       shows = refl;
     }
+
+pub want_of_memory-requires : goal.want_of_memory-requires
+want_of_memory-requires c =
+    let t = c.args.text in
+    let x : Plan = plan_of c.args.valid c.args.listed c.args.text c.args.given c.in_ok-binds.binds in
+    let bound =
+    c.in_ok-binds.ensures ∙ ap (λ m. bindings (module_of m) (map bind_of c.deref.result.now)) c.module-2.ensures.same
+    ∙ ap (λ bs. bindings (module_of c.args.valid.now) (map bind_of bs)) c.deref.ensures.value in (
+      c.args.given.funcs.items,
+      subst (Blames c.in-Err.fault) (is_set_up (program_of t) c.args.given x
+          (record { entries = refl; globals = refl; area = refl; steps = refl; answers = refl; binds = bound }) c.requires.suits) c.in-Err.ensures,
+    )

@@ -13,4 +13,7 @@ returns-in-Ok-clause-part g c = λ parts h. c.host_parted.ensures.part parts (ca
 
 pub returns-in-Err-clause-part : goal.returns-in-Err-clause-part
 returns-in-Err-clause-part g c = λ parts h.
-    none_printed parts c.args.detaches.items _ _ (begins_nothing (world_programs parts) (shows_from 0 c.args.staged.items) _ c.args.detaches.items _ (are_set_up parts c.args.staged.items h)) _
+    none_printed parts c.args.detaches.items _ (begins_nothing (world_programs parts) (shows_from 0 c.args.staged.items) _ c.args.detaches.items _ (are_set_up parts c.args.staged.items h)) _
+
+pub host_parted-requires-clause-hosted : goal.host_parted-requires-clause-hosted
+host_parted-requires-clause-hosted g c = let h = c.requires.staged in (h.0, can_host h.0 c.args.staged.items c.in-Ok.parted h.1 c.in-Ok.ensures)

@@ -1,5 +1,5 @@
 -- The host goes on with its world while its lines are printed.
-use Rattle.std.proofs.Common.{arith, [], ℕ, List, length, map, refl, ◌∙◌, subst}
+use Rattle.std.proofs.Common.{arith, inl, [], ℕ, List, length, map, refl, ◌∙◌, subst}
 use Rattle.std.specs.Prelude.{OnErr, OnOk}
 use Rattle.vault_port.specs.Taken.{Appends, AppendsLess}
 use Rattle.vault_port.specs.Told.{Becomes}
@@ -9,13 +9,16 @@ use Rattle.many_host.specs.Calls.{devices_of}
 use Rattle.transcript.specs.Printing.{names_of}
 use Rattle.world_hosting.specs.Counts.{counted}
 use Rattle.world_hosting.specs.Worlds.{world_programs}
-use Rattle.world_hosting.proofs.Printed.{host_counted, host_seen, if_err, line_begins, line_takes, line_told, none_left, none_takes, none_told, on_ok, told_less, told_less_last, told_on, told_so_far, told_whole, world_counted}
+use Rattle.world_hosting.proofs.Printed.{host_seen, if_err, has_failed, left_counted, line_begins, line_counted, line_told, none_left, none_met, none_told, on_ok, told_less, told_less_last, told_on, told_so_far, told_whole, world_counted}
 use Rattle.transcript.proofs.LineTexts.{nothing_yet}
 use Rattle.world_hosting.proofs.telling.tell_lines.Goals as goal
 
 pub telling-init : goal.telling-init
 telling-init g c = record {
-  told = λ parts detaches h none are. record { lines = []; host = h; took = (none, refl); printed = nothing_yet _ };
+  told = λ parts detaches h none are. record {
+    told = record { lines = []; host = h; met = []; took = (none, refl); meets = none_met (world_programs parts) detaches (devices_of (counted (λ z. (goal.Device-dyn g z).seen z.1) (λ z. (goal.Device-dyn g z).faults z.1) c.args.devices.now)) c.args.host.now (devices_of (counted (λ z. (goal.Device-dyn g z).seen z.1) (λ z. (goal.Device-dyn g z).faults z.1) c.args.devices.now)) h none };
+    printed = nothing_yet _;
+  };
   range = c.requires.range;
   same_list = refl;
   rising = omega arith;
@@ -26,35 +29,41 @@ telling-preserved g c = record {
   told = λ parts detaches h none are.
       let t = c.telling.invariant.told parts detaches h none are in
       let ds = devices_of (counted (λ z. (goal.Device-dyn g z).seen z.1) (λ z. (goal.Device-dyn g z).faults z.1) c.args.devices.now) in
-      let told = host_seen (λ z. (goal.Device-dyn g z).seen z.1) (λ z. (goal.Device-dyn g z).faults z.1) (world_programs parts) detaches ds t.lines c.telling.devices c.telling.host t.host in
       let next =
-      line_told parts detaches ds t.lines c.next.new.self _ c.in-Ok.next c.in-Some.line c.in-Some.is (c.in-Ok.ensures.told (world_programs parts) detaches ds t.lines told) in
-      let takes = line_takes (world_programs parts) c.in-Ok.next c.in-Some.line _ _ _ c.in-Some.is (c.in-Ok.ensures.calls (world_programs parts) detaches ds t.lines told) in
+      line_told (world_programs parts) detaches ds t.told.lines t.told.host.tellers _ _ _ c.next.new.self _ c.in-Ok.next c.in-Some.line c.in-Some.is
+      (c.in-Ok.ensures.told (world_programs parts) detaches ds t.told.lines
+      (host_seen (λ z. (goal.Device-dyn g z).seen z.1) (λ z. (goal.Device-dyn g z).faults z.1) (world_programs parts) detaches ds t.told.lines c.telling.devices c.telling.host t.told.host)) in
+      let counts = line_counted (λ z. (goal.Device-dyn g z).seen z.1) (λ z. (goal.Device-dyn g z).faults z.1) (world_programs parts) detaches ds t.told.lines t.told.host.tellers _ _ (line_of c.in-Some.line) c.next.new.devices c.next.new.self next in
       let begins = line_begins _ _ _ c.in-Ok.next c.in-Some.line c.in-Some.is c.in-Ok.ensures.begun in
-      told_on parts detaches _ c.telling.host _ _ _ t c.next.new.self _ (map names_of c.args.names.now) are (line_of c.in-Some.line)
-      (host_counted (λ z. (goal.Device-dyn g z).seen z.1) (λ z. (goal.Device-dyn g z).faults z.1) (world_programs parts) detaches ds _ c.next.new.devices c.next.new.self next) _
-      begins takes c.in_default-put_line.ensures.printed;
+      told_on parts detaches _ c.telling.host _ _ _ t c.next.new.self _ (map names_of c.args.names.now) are (line_of c.in-Some.line) counts begins _ c.in_default-put_line.ensures.printed;
   range = c.in-Ok.ensures.range;
   same_list = c.next.ensures.same_list ∙ c.telling.invariant.same_list;
   rising = omega (arith, c.telling.invariant.rising, c.put_line.ensures.faults);
 }
 
 pub returns-in_default-clause-part : goal.returns-in_default-clause-part
-returns-in_default-clause-part g c = λ parts detaches h none are. told_so_far parts detaches _ c.telling.host _ _ _ (c.telling.invariant.told parts detaches h none are) _
+returns-in_default-clause-part g c = λ parts detaches h none are.
+    let t = c.telling.invariant.told parts detaches h none are in
+    let ds = devices_of (counted (λ z. (goal.Device-dyn g z).seen z.1) (λ z. (goal.Device-dyn g z).faults z.1) c.args.devices.now) in
+    told_so_far parts detaches _ c.telling.host _ _ _ t _
+    (left_counted (λ z. (goal.Device-dyn g z).seen z.1) (λ z. (goal.Device-dyn g z).faults z.1) c.telling.host.turns.begun detaches c.telling.devices c.next.new.devices
+    (c.next.ensures.left (world_programs parts) detaches ds t.told.lines
+    (host_seen (λ z. (goal.Device-dyn g z).seen z.1) (λ z. (goal.Device-dyn g z).faults z.1) (world_programs parts) detaches ds t.told.lines c.telling.devices c.telling.host t.told.host) (has_failed c.next.result c.in_default.not-Ok)))
 
 pub returns-clause-part : goal.returns-clause-part
-returns-clause-part g c = λ parts detaches h none are. told_so_far parts detaches _ c.telling.host _ _ _ (c.telling.invariant.told parts detaches h none are) _
+returns-clause-part g c = λ parts detaches h none are. told_so_far parts detaches _ c.telling.host _ _ _ (c.telling.invariant.told parts detaches h none are) _ (inl refl)
 
 pub returns-in_default-next-clause-told : goal.returns-in_default-next-clause-told
 returns-in_default-next-clause-told g c = λ parts detaches h none are.
     let t = c.telling.invariant.told parts detaches h none are in
     let ds = devices_of (counted (λ z. (goal.Device-dyn g z).seen z.1) (λ z. (goal.Device-dyn g z).faults z.1) c.args.devices.now) in
-    let told = host_seen (λ z. (goal.Device-dyn g z).seen z.1) (λ z. (goal.Device-dyn g z).faults z.1) (world_programs parts) detaches ds t.lines c.telling.devices c.telling.host t.host in
-    let world = none_told parts detaches ds t.lines c.next.new.self _ c.in-Ok.next c.in_default-next.is (c.in-Ok.ensures.told (world_programs parts) detaches ds t.lines told) in
-    let kept = none_takes (world_programs parts) c.in-Ok.next _ _ _ c.in_default-next.is (c.in-Ok.ensures.calls (world_programs parts) detaches ds t.lines told) in
+    let world =
+    none_told (world_programs parts) detaches ds t.told.lines t.told.host.tellers _ _ _ c.next.new.self _ c.in-Ok.next c.in_default-next.is
+    (c.in-Ok.ensures.told (world_programs parts) detaches ds t.told.lines
+    (host_seen (λ z. (goal.Device-dyn g z).seen z.1) (λ z. (goal.Device-dyn g z).faults z.1) (world_programs parts) detaches ds t.told.lines c.telling.devices c.telling.host t.told.host)) in
+    let both = world_counted (λ z. (goal.Device-dyn g z).seen z.1) (λ z. (goal.Device-dyn g z).faults z.1) (world_programs parts) detaches ds t.told.lines c.next.new.devices t.told.host.tellers (world.0, world.1) in
     on_ok c.put_last.result
-    (told_whole parts detaches _ c.telling.host _ _ _ t _ c.args.names.now are
-    (world_counted (λ z. (goal.Device-dyn g z).seen z.1) (λ z. (goal.Device-dyn g z).faults z.1) (world_programs parts) detaches ds t.lines c.next.new.devices world) kept
+    (told_whole parts detaches _ c.telling.host _ _ _ t _ c.args.names.now are both.0 both.1 world.2
     (none_left _ _ c.in-Ok.next c.in_default-next.is c.in-Ok.ensures.none) _)
     (subst (λ (s : List ℕ). OnOk c.put_last.result (Becomes (g.S.Sink.taken c.telling.out) (g.S.Sink.taken c.put_last.new.out) (Appends s)))
     (λ k. last_line (length c.args.names.now) (c.events-events.ensures k)) c.put_last.ensures.printed)
@@ -63,12 +72,13 @@ pub returns-in_default-next-clause-part : goal.returns-in_default-next-clause-pa
 returns-in_default-next-clause-part g c = λ parts detaches h none are.
     let t = c.telling.invariant.told parts detaches h none are in
     let ds = devices_of (counted (λ z. (goal.Device-dyn g z).seen z.1) (λ z. (goal.Device-dyn g z).faults z.1) c.args.devices.now) in
-    let told = host_seen (λ z. (goal.Device-dyn g z).seen z.1) (λ z. (goal.Device-dyn g z).faults z.1) (world_programs parts) detaches ds t.lines c.telling.devices c.telling.host t.host in
-    let world = none_told parts detaches ds t.lines c.next.new.self _ c.in-Ok.next c.in_default-next.is (c.in-Ok.ensures.told (world_programs parts) detaches ds t.lines told) in
-    let kept = none_takes (world_programs parts) c.in-Ok.next _ _ _ c.in_default-next.is (c.in-Ok.ensures.calls (world_programs parts) detaches ds t.lines told) in
+    let world =
+    none_told (world_programs parts) detaches ds t.told.lines t.told.host.tellers _ _ _ c.next.new.self _ c.in-Ok.next c.in_default-next.is
+    (c.in-Ok.ensures.told (world_programs parts) detaches ds t.told.lines
+    (host_seen (λ z. (goal.Device-dyn g z).seen z.1) (λ z. (goal.Device-dyn g z).faults z.1) (world_programs parts) detaches ds t.told.lines c.telling.devices c.telling.host t.told.host)) in
+    let both = world_counted (λ z. (goal.Device-dyn g z).seen z.1) (λ z. (goal.Device-dyn g z).faults z.1) (world_programs parts) detaches ds t.told.lines c.next.new.devices t.told.host.tellers (world.0, world.1) in
     if_err _ c.put_last.result
-    (λ fault. told_less_last parts detaches _ c.telling.host _ _ _ t _ c.args.names.now are
-    (world_counted (λ z. (goal.Device-dyn g z).seen z.1) (λ z. (goal.Device-dyn g z).faults z.1) (world_programs parts) detaches ds t.lines c.next.new.devices world) kept
+    (λ fault. told_less_last parts detaches _ c.telling.host _ _ _ t _ c.args.names.now are both.0 both.1 world.2
     (none_left _ _ c.in-Ok.next c.in_default-next.is c.in-Ok.ensures.none) fault _)
     (subst (λ (s : List ℕ). OnErr c.put_last.result (Becomes (g.S.Sink.taken c.telling.out) (g.S.Sink.taken c.put_last.new.out) (AppendsLess s)))
     (λ k. last_line (length c.args.names.now) (c.events-events.ensures k)) c.put_last.ensures.less)
@@ -77,8 +87,25 @@ pub returns-in-Err-clause-part : goal.returns-in-Err-clause-part
 returns-in-Err-clause-part g c = λ parts detaches h none are.
     let t = c.telling.invariant.told parts detaches h none are in
     let ds = devices_of (counted (λ z. (goal.Device-dyn g z).seen z.1) (λ z. (goal.Device-dyn g z).faults z.1) c.args.devices.now) in
-    let told = host_seen (λ z. (goal.Device-dyn g z).seen z.1) (λ z. (goal.Device-dyn g z).faults z.1) (world_programs parts) detaches ds t.lines c.telling.devices c.telling.host t.host in
-    let next = line_told parts detaches ds t.lines c.next.new.self _ c.in-Ok.next c.in-Some.line c.in-Some.is (c.in-Ok.ensures.told (world_programs parts) detaches ds t.lines told) in
-    told_less parts detaches _ c.telling.host _ _ _ t c.next.new.self _ (map names_of c.args.names.now) are (line_of c.in-Some.line)
-    (host_counted (λ z. (goal.Device-dyn g z).seen z.1) (λ z. (goal.Device-dyn g z).faults z.1) (world_programs parts) detaches ds _ c.next.new.devices c.next.new.self next) _ c.in-Err.fault _
+    let next =
+    line_told (world_programs parts) detaches ds t.told.lines t.told.host.tellers _ _ _ c.next.new.self _ c.in-Ok.next c.in-Some.line c.in-Some.is
+    (c.in-Ok.ensures.told (world_programs parts) detaches ds t.told.lines
+    (host_seen (λ z. (goal.Device-dyn g z).seen z.1) (λ z. (goal.Device-dyn g z).faults z.1) (world_programs parts) detaches ds t.told.lines c.telling.devices c.telling.host t.told.host)) in
+    let counts = line_counted (λ z. (goal.Device-dyn g z).seen z.1) (λ z. (goal.Device-dyn g z).faults z.1) (world_programs parts) detaches ds t.told.lines t.told.host.tellers _ _ (line_of c.in-Some.line) c.next.new.devices c.next.new.self next in
+    let begins = line_begins _ _ _ c.in-Ok.next c.in-Some.line c.in-Some.is c.in-Ok.ensures.begun in
+    told_less parts detaches _ c.telling.host _ _ _ t c.next.new.self _ (map names_of c.args.names.now) are (line_of c.in-Some.line) counts begins c.in-Err.fault _
     c.in-Err.ensures.less
+
+pub next-requires-clause-tells : goal.next-requires-clause-tells
+next-requires-clause-tells g c =
+    let b = c.requires.begins in
+    let so_far = c.telling.invariant.told b.parts b.detaches b.told b.begun b.names_are in
+    let t = so_far.told in
+    let ds = devices_of (counted (λ z. (goal.Device-dyn g z).seen z.1) (λ z. (goal.Device-dyn g z).faults z.1) c.args.devices.now) in
+    record {
+      programs = world_programs b.parts;
+      detaches = b.detaches;
+      devices = ds;
+      lines = t.lines;
+      stands = host_seen (λ z. (goal.Device-dyn g z).seen z.1) (λ z. (goal.Device-dyn g z).faults z.1) (world_programs b.parts) b.detaches ds t.lines c.telling.devices c.telling.host t.host;
+    }
