@@ -96,11 +96,11 @@ module _ (v : ModuleValue) (i : ℕ) (f : FuncValue) (lt : i < length v.funcs.it
 -- What is known of the function at hand, with its type.
 pub record AtHand (m : Module) (x : ℕ) (f : FuncValue) (t : FuncTypeValue) (i : ℕ) : Type 0 where
   pub there : slice_get m.funcs i ≡ Some (func_of f)
-  defined : defined_at m x ≡ Some (func_of f)
+  pub defined : defined_at m x ≡ Some (func_of f)
   pub begins : TypedAt (outset (around m (func_of f))) (code f.body.items)
   pub small : SmallTypes (around m (func_of f))
-  type_is : type_at m f.sort ≡ func_type_of t
-  result_is : (around m (func_of f)).result ≡ slice_get t.results.items 0
+  pub type_is : type_at m f.sort ≡ func_type_of t
+  pub result_is : (around m (func_of f)).result ≡ slice_get t.results.items 0
   pub few : length t.params.items + length (declared_locals f.locals.items) + code_items (code f.body.items) + 1 < 2 ^ 31
   pub number : x < 2 ^ 32
 
