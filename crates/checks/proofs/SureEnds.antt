@@ -1,5 +1,5 @@
 -- Where no count of faults can rise, no end tells of a fault.
-use Rattle.std.proofs.Common.{◌≡◌, ◌≢◌, ◌∙◌, ℕ, List, Option, Some, None, ap, arith, refl, subst, sym, ◌⊎◌, inl, inr}
+use Rattle.std.proofs.Common.{◌≡◌, ◌≢◌, ◌∙◌, ℕ, List, Option, Some, None, arith, refl, subst, sym, ◌⊎◌, inl, inr}
 use Rattle.vault_port.specs.Counts.{HasRisen}
 use Rattle.vault_port.specs.Files.{Files, IsMissing}
 use Rattle.script_model.specs.Command.{transform}
@@ -16,11 +16,11 @@ use Rattle.script_command.proofs.Statuses.{module_content, script_content}
 use Rattle.transform_command.specs.Ends as T
 use Rattle.transform_command.specs.Sources as S
 use Rattle.asyncify_app.specs.Ends.{Call, EndsBy, HasOneEnd, script_call, transform_call}
-use Rattle.checks.specs.SureCommands.{IsReadBy, ReadsAbsent}
+use Rattle.checks.specs.SureCommands.{ReadsAbsent}
 
 pub none_rose : HasRisen 0 0 → ⊥
-none_rose (inl lt) = omega lt
-none_rose (inr e) = omega e
+none_rose (inl lt) = omega (arith, lt)
+none_rose (inr e) = omega (arith, e)
 
 -- ---- a refusal isn't a fault of reading
 
@@ -76,11 +76,10 @@ script_absent c files is e e' P.done s why = absurd (omega (arith, s))
 script_absent c files is e e' P.memory s why = absurd (omega (arith, s))
 script_absent c files is e e' P.sink_fault s why = absurd (omega (arith, s))
 
--- a call whose files are told, and no fetch of which fails
-pub absent_by : (c : Call) (files : Files) → c.files ≡ Some files → c.fetch_faults ≡ 0 → c.fetch_faults' ≡ 0 → (words : Option Spelled) → (status : ℕ) → status ≡ 10 → EndsBy c words status → ReadsAbsent words files
+absent_by : (c : Call) (files : Files) → c.files ≡ Some files → c.fetch_faults ≡ 0 → c.fetch_faults' ≡ 0 → (words : Option Spelled) → (status : ℕ) → status ≡ 10 → EndsBy c words status → ReadsAbsent words files
 absent_by c files is e e' None status ten h = absurd (elim h [
-  | inl two ↦ omega (ten, two)
-  | inr nine ↦ omega (ten, nine)
+  | inl two ↦ omega (arith, ten, two)
+  | inr nine ↦ omega (arith, ten, nine)
 ])
 absent_by c files is e e' (Some (rewrites (transform s input output))) status ten h =
     (input, refl, transform_absent (transform_call c s input output) files is e e' h.which (sym ten ∙ h.by_status) h.why)
@@ -91,12 +90,16 @@ absent_by c files is e e' (Some (runs name)) status ten h =
     let x = script_absent (script_call c Run name) files is e e' (h.end).which (sym ten ∙ (h.end).by_status) (h.end).why in
     (x.0, subst (λ o. IsRead Run o name x.0) is x.1, x.2)
 absent_by c files is e e' (Some (generates n output)) status ten h = absurd (elim h [
-  | inl a ↦ omega (ten, a.0)
+  | inl a ↦ omega (arith, ten, a.0)
   | inr g ↦ elim g [
-    | inl a ↦ omega (ten, a.0)
+    | inl a ↦ omega (arith, ten, a.0)
     | inr k ↦ elim k [
-      | inl a ↦ omega (ten, a.0)
-      | inr a ↦ omega (ten, a.0)
+      | inl a ↦ omega (arith, ten, a.0)
+      | inr a ↦ omega (arith, ten, a.0)
     ]
   ]
 ])
+
+-- a call whose files are told, and no fetch of which fails
+pub absent_only_where_missing : (c : Call) (files : Files) → c.files ≡ Some files → c.fetch_faults ≡ 0 → c.fetch_faults' ≡ 0 → (status : ℕ) → status ≡ 10 → HasOneEnd c status → ReadsAbsent c.spelled files
+absent_only_where_missing c files is e e' status ten h = absent_by c files is e e' c.spelled status ten h
