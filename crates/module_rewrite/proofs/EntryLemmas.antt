@@ -25,22 +25,19 @@ use Rattle.flatten.specs.declared.fault.FlatFault.TheVariants as F
 use Rattle.flatten.proofs.ToldLemmas.{Sofar, sofar_first, sofar_done, go_skip, go_put, go_stop}
 use Rattle.func_rewrite.specs.Frames.{IsFlattened}
 use Rattle.wasm_encode.specs.Locals.{local_count}
+use Rattle.wasm_encode.proofs.AroundLemmas.{entries_within}
 use Rattle.wasm_validate.proofs.FuncLemmas.{func_at}
-use Rattle.wasm_encode.specs.Around.{code_entry}
+use Rattle.wasm_encode.specs.Around.{code_entry, HoldsEntries}
+use Rattle.wasm_encode.specs.declared.held.CodeEntries.{CodeEntries}
 use Rattle.rewrite_form.proofs.EmittedBy.{defined_of}
 use Rattle.rewrite_form.proofs.FitsBy.{one_of_all}
-use Rattle.rewrite_form.proofs.Grown.{enc_length}
-use Rattle.rewrite_form.proofs.Lengths.{entries_within}
 use Rattle.live_laws.specs.PolicyBytes.{IsShortEntry}
 use Rattle.live_laws.proofs.BytesByPolicy.{written_short}
 use Rattle.live_laws.specs.EmittedAs.{AreEmitted, IsEmitted, IsEmittedWhere, IsWritten}
-use Rattle.module_rewrite.specs.EmittingEntries.{AllEmitted, Emits, PutsWritten}
+use Rattle.module_rewrite.specs.EmittingEntries.{AllEmitted, Emits, PutsEntries, PutsWritten}
 use Rattle.module_rewrite.specs.ByteFaults.{of_flat}
 
 -- ---- entries are no longer than all the bytes
-
-pub entries_short : (m : Module) → length (flat_map code_entry m.funcs) ≤ length (Enc m)
-entries_short m = omega (arith, enc_length m, entries_within 10 code_entry m.funcs)
 
 one_short : (fs : List Func) (i : ℕ) (f : Func) → slice_get fs i ≡ Some f → length (code_entry f) ≤ length (flat_map code_entry fs)
 one_short [] i f e = cc
@@ -50,7 +47,7 @@ one_short (g ∷ fs) zero f e =
 one_short (g ∷ fs) (suc i) f e = omega (arith, length-append (code_entry g) (flat_map code_entry fs), one_short fs i f e)
 
 pub entry_short : (m : Module) (i : ℕ) (f : Func) → slice_get m.funcs i ≡ Some f → length (Enc m) ≤ 2 ^ 36 → length (code_entry f) < 2 ^ 64
-entry_short m i f e l = omega (arith, one_short m.funcs i f e, entries_short m, l)
+entry_short m i f e l = omega (arith, one_short m.funcs i f e, entries_within m, l)
 
 pub locals_small : (m : Module) (i : ℕ) (f : Func) → slice_get m.funcs i ≡ Some f → StrictSizeRule m → local_count f.locals < 2 ^ 32
 locals_small m i f e strict =
@@ -91,35 +88,35 @@ module _ (m : Module) (s : Settings) (which : List Bool) where
   ws = drop n which
 
   -- What is known where so many functions are done.
-  pub record Going (i : ℕ) (out : List ℕ) : Type 0 where
+  pub record Going (i : ℕ) (out : CodeEntries) : Type 0 where
     pub flats : List FlatFunc
     pub sofar : Sofar m ws m.funcs n i flats
     pub funcs : List Func
-    pub put : out ≡ flat_map code_entry funcs
+    pub held : HoldsEntries out (flat_map code_entry funcs)
     pub emitted : (rest : List Func) → AreEmitted m s which (n + i) (drop i m.funcs) rest → AreEmitted m s which n m.funcs (funcs ++ rest)
 
-  pub going_first : (out : List ℕ) → out ≡ [] → Going 0 out
+  pub going_first : (out : CodeEntries) → HoldsEntries out [] → Going 0 out
   going_first out e =
       let z : n + 0 ≡ n = omega arith in
       record {
         flats = [];
         sofar = sofar_first m ws m.funcs n [] refl;
         funcs = [];
-        put = e;
+        held = e;
         emitted = λ rest h. subst (λ k. AreEmitted m s which k m.funcs rest) z h;
       }
 
-  pub going_end : (i : ℕ) (out : List ℕ) → Going i out → length m.funcs ≤ i → AllEmitted m s which out
+  pub going_end : (i : ℕ) (out : CodeEntries) → Going i out → length m.funcs ≤ i → AllEmitted m s which out
   going_end i out g le =
       let none : drop i m.funcs ≡ [] = drop_all i m.funcs le in
       record {
         funcs = g.funcs;
         emitted = subst (AreEmitted m s which n m.funcs) (append-nil g.funcs) (g.emitted [] (subst (λ fs. AreEmitted m s which (n + i) fs []) (sym none) tt));
-        entries_are = g.put;
+        held = g.held;
         few = (sofar_done m ws m.funcs n i g.flats g.sofar le).1;
       }
 
-  module _ (i at : ℕ) (out : List ℕ) (g : Going i out) (f : Func) (p : Here m which i at f) where
+  module _ (i at : ℕ) (out : CodeEntries) (g : Going i out) (f : Func) (p : Here m which i at f) where
     bit : (b : Bool) → get_or which at false ≡ b → slice_get which (n + i) ≡ Some b
     bit b e = ap (slice_get which) (sym p.place) ∙ slice_get-get_or which at false (omega (arith, p.many, p.within, p.place)) ∙ ap (λ c. Some c) e
 
@@ -133,16 +130,17 @@ module _ (m : Module) (s : Settings) (which : List Bool) where
         (g.emitted (h ∷ rest)
         (subst (λ fs. AreEmitted m s which (n + i) fs (h ∷ rest)) (sym (drop_at m.funcs i f p.is)) (is, subst (λ k. AreEmitted m s which k (drop (i + 1) m.funcs) rest) (sym next_x) r)))
 
-    entries_more : (new : List ℕ) (h : Func) → new ≡ out ++ code_entry h → new ≡ flat_map code_entry (g.funcs ++ h ∷ [])
-    entries_more new h e =
-        e ∙ ap (λ bs. bs ++ code_entry h) g.put ∙ ap (λ bs. flat_map code_entry g.funcs ++ bs) (sym (append-nil (code_entry h))) ∙ sym (flat_map-append code_entry g.funcs (h ∷ []))
+    entries_more : (new : CodeEntries) (h : Func) → PutsEntries (code_entry h) out new → HoldsEntries new (flat_map code_entry (g.funcs ++ h ∷ []))
+    entries_more new h put =
+        subst (HoldsEntries new) (ap (λ bs. flat_map code_entry g.funcs ++ bs) (sym (append-nil (code_entry h))) ∙ sym (flat_map-append code_entry g.funcs (h ∷ [])))
+        (put (flat_map code_entry g.funcs) g.held)
 
-    pub going_keep : (new : List ℕ) → get_or which at false ≡ false → new ≡ out ++ code_entry f → Going (i + 1) new
+    pub going_keep : (new : CodeEntries) → get_or which at false ≡ false → PutsEntries (code_entry f) out new → Going (i + 1) new
     going_keep new e put = record {
       flats = g.flats;
       sofar = go_skip m which n i at g.flats g.sofar p.many p.within p.place e;
       funcs = g.funcs ++ f ∷ [];
-      put = entries_more new f put;
+      held = entries_more new f put;
       emitted = one_more f (subst (λ b. IsEmittedWhere b m s which (n + i) f f) (sym (ap is_told (bit false e))) refl);
     }
 
@@ -166,7 +164,7 @@ module _ (m : Module) (s : Settings) (which : List Bool) where
       written_is_short v strict tells l e w is =
           written_short m s which flat.func.func f w v strict tells l is_flattened.defined (ap (λ k. is_told (slice_get which k)) index_is ∙ ap is_told (bit true e)) h.1 is
 
-      pub going_written : (new : List ℕ) → get_or which at false ≡ true → PutsWritten m s which flat.func.func f out new → Going (i + 1) new
+      pub going_written : (new : CodeEntries) → get_or which at false ≡ true → PutsWritten m s which flat.func.func f out new → Going (i + 1) new
       going_written new e w =
           let flats : List FlatFunc = g.flats ++ flattened m (n + i) f ∷ [] in
           record {
@@ -174,12 +172,12 @@ module _ (m : Module) (s : Settings) (which : List Bool) where
             sofar = go_put m which n i at g.flats g.sofar p.many p.within p.place flats (flattened m (n + i) f) (n + i) e refl refl
                 (λ k ek. let z : Some f ≡ Some k = sym p.is ∙ ek in let q : f ≡ k = cc in (ap (flattened m (n + i)) q, subst (λ w. Count m w ≤ 50000) q h.1));
             funcs = g.funcs ++ w.written ∷ [];
-            put = entries_more new w.written w.put;
+            held = entries_more new w.written w.put;
             emitted = one_more w.written
                 (subst (λ b. IsEmittedWhere b m s which (n + i) f w.written) (sym (ap is_told (bit true e))) (subst (λ k. IsWritten m s which k f w.written) index_is w.is));
           }
 
-  pub going_stop : (i at y : ℕ) (out : List ℕ) → Going i out → (f : Func) → Here m which i at f → get_or which at false ≡ true → y ≡ n + i → (fault : FlatFault)
+  pub going_stop : (i at y : ℕ) (out : CodeEntries) → Going i out → (f : Func) → Here m which i at f → get_or which at false ≡ true → y ≡ n + i → (fault : FlatFault)
       → ((f : Func) → slice_get m.funcs i ≡ Some f → FlatAnswer m y f (Err fault)) → Emits m s which (Err (of_flat fault))
   going_stop i at y out g f p e ey F.Memory h = tt
   going_stop i at y out g f p e ey (F.Locals func count) h = go_stop m which n i at g.flats g.sofar p.many p.within p.place func count y e ey h

@@ -21,16 +21,17 @@ use Rattle.live_laws.proofs.BytesByPolicy.{short_as}
 use Rattle.live_laws.specs.EmittedAs.{AreEmitted, EmittedAs, IsEmittedWhere, IsWrittenUnder}
 use Rattle.live_laws.proofs.PolicyCases.{functions_law}
 use Rattle.wasm_encode.specs.Locals.{local_count}
-use Rattle.wasm_encode.specs.Around.{code_entry, IsAround, IsUnwritten}
+use Rattle.wasm_encode.specs.Around.{code_entry, code_entries, HoldsEntries, IsAround, IsUnwritten}
+use Rattle.wasm_encode.specs.declared.held.CodeEntries.{CodeEntries}
+use Rattle.wasm_encode.proofs.AroundLemmas.{entries_within}
 use Rattle.wasm_encode.specs.Modules.{FewLocals}
 use Rattle.wasm_encode.specs.declared.EncodeFault.{EncodeFault}
 use Rattle.wasm_encode.specs.declared.EncodeFault.TheVariants.{Memory, TooLong}
 use Rattle.rewrite_form.proofs.GrownFits.{grown_locals}
 use Rattle.module_rewrite.proofs.WholeLemmas.{few_written}
-use Rattle.module_rewrite.specs.EmittingEntries.{value_entries}
+use Rattle.module_rewrite.specs.EmittingEntries.{value_entries, PutsEntries}
 use Rattle.module_rewrite.specs.ByteFaults.{of_encode}
 use Rattle.module_rewrite.specs.WholeBytes.{CanBeWritten, EmitsModule}
-use Rattle.module_rewrite.proofs.EntryLemmas.{entries_short}
 
 -- ---- a list of functions, as they are seen
 
@@ -119,16 +120,20 @@ module _ (m : Module) (s : Settings) (which : List Bool) (gs : List Func) (are :
           let whole = ap length all_entries in
           let part = ap length parts_entries in
           let more = length-append (flat_map code_entry gs) (flat_map code_entry runtime) in
-          omega (arith, whole, part, more, entries_short (with_runtime inner), counted)
+          omega (arith, whole, part, more, entries_within (with_runtime inner), counted)
 
-      pub parts_around : (old new : List ℕ) → old ≡ flat_map code_entry gs → new ≡ old ++ value_entries (drop own fs) → IsAround (module_of q) new (with_runtime inner)
-      parts_around old new eb en = subst (λ (p : Module). IsAround p new (with_runtime inner)) (sym e) (record {
+      pub parts_around : IsAround (module_of q) (with_runtime inner)
+      parts_around = subst (λ (p : Module). IsAround p (with_runtime inner)) (sym e) (record {
         other_funcs = other_funcs;
         sorts = sorts;
-        entries_are = en ∙ ap (λ bs. bs ++ value_entries (drop own fs)) eb ∙ ap (λ bs. flat_map code_entry gs ++ bs) parts_entries ∙ sym all_entries;
         locals = grown_few;
         fits = counted;
       })
+
+      pub parts_held : (old new : CodeEntries) → HoldsEntries old (flat_map code_entry gs) → PutsEntries (value_entries (drop own fs)) old new
+          → HoldsEntries new (code_entries (with_runtime inner))
+      parts_held old new held put =
+          subst (HoldsEntries new) (ap (λ bs. flat_map code_entry gs ++ bs) parts_entries ∙ sym all_entries) (put (flat_map code_entry gs) held)
 
 -- a module that isn't written
 pub text_fault : (m : Module) (s : Settings) (which : List Bool) (written : Module) (fault : EncodeFault) → CanBeWritten m s which → EmittedAs m s which written → Rewrites m s written

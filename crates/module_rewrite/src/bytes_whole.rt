@@ -47,8 +47,8 @@ fn with_parts(alloc: Global, module: Module) -> Result<Module, EmitFault>
 
 /// The bytes of the module rewritten so that it can stop in the middle of a call of a listed import and go on later, and without
 /// another tree in memory: that of one function at a time. `Locals` comes exactly where a function that may pause would have more
-/// than 50,000 parameters and locals, for the first; else `TooLong` exactly where there are more than 67,108,864 bytes. Takes
-/// time linear in the module and in what is answered; under the policy `live` each branch, construct and call of a function that may
+/// than 50,000 parameters and locals, for the first; else `TooLong` exactly where there are more than 67,108,864 bytes: these are
+/// counted, and no more than so many are held. Takes time linear in the module and in what is answered; under the policy `live` each branch, construct and call of a function that may
 /// pause takes time linear in its locals.
 pub fn emit_module(alloc: Global, valid: Valid, settings: &Settings) -> Result<Emitted, EmitFault>
     requires sizes { StrictSizeRule (module_of valid) }
@@ -64,8 +64,8 @@ pub fn emit_module(alloc: Global, valid: Valid, settings: &Settings) -> Result<E
     let module = valid.into_module();
     let own = module.funcs.len();
     let with = with_parts(alloc, module)?;
-    put_funcs(&mut entries.bytes, &with.funcs, own)?;
-    let text = encode_around(alloc, &with, entries.bytes.as_slice())?;
+    put_funcs(alloc, &mut entries, &with.funcs, own)?;
+    let text = encode_around(alloc, &with, &entries)?;
     Ok(Emitted {
         text,
         instrumented: which,

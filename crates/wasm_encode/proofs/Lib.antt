@@ -1,5 +1,6 @@
 pub mod AroundLemmas
 pub mod Codes
+pub mod EntryCounts
 pub mod ModuleLemmas
 pub mod Runs
 pub mod SectionLemmas

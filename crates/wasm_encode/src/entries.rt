@@ -26,12 +26,21 @@ pub fn body_len(func: &Func) -> u64
 }
 
 /// Appends a function as an entry of the code section: its body behind its size (standard, section 5.5.13).
-pub fn put_func(out: &mut BytesMut, func: &Func) -> Result<(), AllocError>
+pub(crate) fn put_func(out: &mut BytesMut, func: &Func) -> Result<(), AllocError>
     requires locals { local_count func.now.locals.items < 2 ^ 32 }
     requires fits { length (sized (body_bytes (func_of func.now))) < 2 ^ 64 }
     ensures { OnOk result (out.new.items ≡ out.old.items ++ sized (body_bytes (func_of func.now))) }
 {
-    put_unsigned(out, body_len(func))?;
+    put_sized(out, func, body_len(func))
+}
+
+/// The same, where the body is known to take so many bytes.
+pub(crate) fn put_sized(out: &mut BytesMut, func: &Func, size: u64) -> Result<(), AllocError>
+    requires locals { local_count func.now.locals.items < 2 ^ 32 }
+    requires size { size ≡ length (body_bytes (func_of func.now)) }
+    ensures { OnOk result (out.new.items ≡ out.old.items ++ sized (body_bytes (func_of func.now))) }
+{
+    put_unsigned(out, size)?;
     put_locals(out, &func.locals)?;
     put_expression(out, &func.body)
 }

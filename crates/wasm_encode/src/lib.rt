@@ -5,8 +5,8 @@
 //! sections of the ids up to its place.
 //!
 //! The law: the answer is exactly `Enc` of the module, or `TooLong` exactly where that passes 67,108,864 bytes, or `Memory`.
-//! `encode_around` has the same law; it writes a module around entries of the code section that were written beforehand, so that its
-//! functions needn't be in memory together.
+//! `encode_around` has the same law; it writes a module around entries of the code section that were put beforehand (`CodeEntries`), so
+//! that its functions needn't be in memory together, and no more bytes than a module may have.
 //!
 //! Whatever is written can be measured first, without memory: for each part its length and its bytes stand side by side, and the one
 //! is the length of the other. So nothing is written of a module that is too long, and every size stands in front of its content
@@ -15,7 +15,7 @@
 //!
 //! - `numbers`, `entry`: numbers, sizes and names; how an entry of a vector is written, so that each vector is proved once.
 //! - `types`, `code`, `locals`: types, instructions and expressions, declared locals.
-//! - `entries`, `sections`: entries of the sections with code and data, and sections.
+//! - `entries`, `sections`, `held`: entries of the sections with code and data, sections, and entries that are put beforehand.
 //! - `module`, `around`: whole modules.
 #![tactic(auto)]
 
@@ -23,6 +23,7 @@ mod around;
 mod code;
 mod entries;
 mod entry;
+mod held;
 mod locals;
 mod module;
 mod numbers;
@@ -37,7 +38,7 @@ ghost use Rattle.wasm_encode.specs.Modules.{FewLocals};
 use crate::module::{module_len, put_module};
 pub use around::encode_around;
 use bytes::BytesMut;
-pub use entries::{body_len, put_func};
+pub use held::CodeEntries;
 use std::alloc::{AllocError, Global};
 use thiserror::Error;
 use wa_types::Module;

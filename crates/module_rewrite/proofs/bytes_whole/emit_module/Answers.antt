@@ -14,7 +14,7 @@ use Rattle.module_rewrite.proofs.FreeNames.{unreserved_is_free}
 use Rattle.module_rewrite.proofs.WholeLemmas.{few_written, globals_small, space_small}
 use Rattle.module_rewrite.specs.EmittingEntries.{AllEmitted}
 use Rattle.module_rewrite.specs.WholeBytes.{EmitsModule}
-use Rattle.module_rewrite.proofs.Parts.{parts_around, parts_locals, parts_short, text_fault}
+use Rattle.module_rewrite.proofs.Parts.{parts_around, parts_held, parts_locals, parts_short, text_fault}
 use Rattle.module_rewrite.proofs.bytes_whole.emit_module.Goals as goal
 
 pub ids_behind-ids-requires-clause-funcs : goal.ids_behind-ids-requires-clause-funcs
@@ -39,7 +39,7 @@ put_funcs-requires-clause-locals c =
     let s = settings_of c.args.settings.now in
     let which = c.in_ok-which.which.items in
     let valid = subst (λ (z : ModuleValue). Valid (module_of z)) c.module.ensures.same c.module.ensures.valid in
-    let e = subst (λ w. AllEmitted m s w c.in_ok-entries.entries.bytes.items) c.deref.ensures.value c.in_ok-entries.ensures in
+    let e = subst (λ w. AllEmitted m s w c.in_ok-entries.entries) c.deref.ensures.value c.in_ok-entries.ensures in
     let with = c.in_ok-with.ensures.done ∙ ap (λ (z : ModuleValue). with_runtime (module_of z)) c.into_module-module.ensures.same in
     let many = ap (λ (z : ModuleValue). length z.funcs.items) c.into_module-module.ensures.same in
     let len = length-map c.args.valid.funcs.items func_of in
@@ -53,7 +53,7 @@ put_funcs-requires-clause-short c =
     let s = settings_of c.args.settings.now in
     let which = c.in_ok-which.which.items in
     let valid = subst (λ (z : ModuleValue). Valid (module_of z)) c.module.ensures.same c.module.ensures.valid in
-    let e = subst (λ w. AllEmitted m s w c.in_ok-entries.entries.bytes.items) c.deref.ensures.value c.in_ok-entries.ensures in
+    let e = subst (λ w. AllEmitted m s w c.in_ok-entries.entries) c.deref.ensures.value c.in_ok-entries.ensures in
     let with = c.in_ok-with.ensures.done ∙ ap (λ (z : ModuleValue). with_runtime (module_of z)) c.into_module-module.ensures.same in
     let many = ap (λ (z : ModuleValue). length z.funcs.items) c.into_module-module.ensures.same in
     let len = length-map c.args.valid.funcs.items func_of in
@@ -67,15 +67,17 @@ encode_around-requires c =
     let s = settings_of c.args.settings.now in
     let which = c.in_ok-which.which.items in
     let valid = subst (λ (z : ModuleValue). Valid (module_of z)) c.module.ensures.same c.module.ensures.valid in
-    let e = subst (λ w. AllEmitted m s w c.in_ok-entries.entries.bytes.items) c.deref.ensures.value c.in_ok-entries.ensures in
+    let e = subst (λ w. AllEmitted m s w c.in_ok-entries.entries) c.deref.ensures.value c.in_ok-entries.ensures in
     let with = c.in_ok-with.ensures.done ∙ ap (λ (z : ModuleValue). with_runtime (module_of z)) c.into_module-module.ensures.same in
     let many = ap (λ (z : ModuleValue). length z.funcs.items) c.into_module-module.ensures.same in
     let len = length-map c.args.valid.funcs.items func_of in
     let own : c.len-own.result ≡ length m.funcs = omega (arith, c.len-own.ensures, many, len) in
     let a = parts_around m s which e.funcs e.emitted valid c.requires.sizes c.in_ok-which.ensures e.few c.requires.few c.requires.short
+    c.in_ok-with.with with c.len-own.result own c.deref-3.result.now c.deref-3.ensures.value in
+    let h = parts_held m s which e.funcs e.emitted valid c.requires.sizes c.in_ok-which.ensures e.few c.requires.few c.requires.short
     c.in_ok-with.with with c.len-own.result own c.deref-3.result.now c.deref-3.ensures.value
-    c.in_ok-entries.entries.bytes.items c.as_slice.result.now e.entries_are (c.as_slice.ensures ∙ c.in_ok-put_funcs.ensures) in
-    (with_runtime (record m { funcs = e.funcs }), a)
+    c.in_ok-entries.entries c.put_funcs.new.out e.held c.in_ok-put_funcs.ensures in
+    (with_runtime (record m { funcs = e.funcs }), a, h)
 
 pub returns-in_err-text : goal.returns-in_err-text
 returns-in_err-text c =
@@ -83,21 +85,23 @@ returns-in_err-text c =
     let s = settings_of c.args.settings.now in
     let which = c.in_ok-which.which.items in
     let valid = subst (λ (z : ModuleValue). Valid (module_of z)) c.module.ensures.same c.module.ensures.valid in
-    let e = subst (λ w. AllEmitted m s w c.in_ok-entries.entries.bytes.items) c.deref.ensures.value c.in_ok-entries.ensures in
+    let e = subst (λ w. AllEmitted m s w c.in_ok-entries.entries) c.deref.ensures.value c.in_ok-entries.ensures in
     let with = c.in_ok-with.ensures.done ∙ ap (λ (z : ModuleValue). with_runtime (module_of z)) c.into_module-module.ensures.same in
     let many = ap (λ (z : ModuleValue). length z.funcs.items) c.into_module-module.ensures.same in
     let len = length-map c.args.valid.funcs.items func_of in
     let own : c.len-own.result ≡ length m.funcs = omega (arith, c.len-own.ensures, many, len) in
     let a = parts_around m s which e.funcs e.emitted valid c.requires.sizes c.in_ok-which.ensures e.few c.requires.few c.requires.short
+    c.in_ok-with.with with c.len-own.result own c.deref-3.result.now c.deref-3.ensures.value in
+    let h = parts_held m s which e.funcs e.emitted valid c.requires.sizes c.in_ok-which.ensures e.few c.requires.few c.requires.short
     c.in_ok-with.with with c.len-own.result own c.deref-3.result.now c.deref-3.ensures.value
-    c.in_ok-entries.entries.bytes.items c.as_slice.result.now e.entries_are (c.as_slice.ensures ∙ c.in_ok-put_funcs.ensures) in
+    c.in_ok-entries.entries c.put_funcs.new.out e.held c.in_ok-put_funcs.ensures in
     let can : CanBeEmitted m s which = record { valid = valid; sizes = c.requires.sizes; few = few_written m which e.few; tells = c.in_ok-which.ensures } in
     let as_ = functions_law m s which e.funcs e.emitted in
     let same = rewrites_as m s which (with_runtime (record m { funcs = e.funcs })) can (unreserved_is_free m c.requires.free) as_ in
     let r = err_from_is_err_and c.from_residual-in_err-text.result c.from_residual-in_err-text.ensures.1 in
     subst (EmitsModule m s) (sym r.1) (subst (λ z. EmitsModule m s (Err z)) (sym r.2)
     (text_fault m s which (with_runtime (record m { funcs = e.funcs })) c.in_err-text.field-0.0 (record { tells = c.in_ok-which.ensures; few = e.few }) as_ same
-    (c.in_err-text.ensures.fault (with_runtime (record m { funcs = e.funcs })) a)))
+    (c.in_err-text.ensures.fault (with_runtime (record m { funcs = e.funcs })) a h)))
 
 pub returns : goal.returns
 returns c =
@@ -105,14 +109,16 @@ returns c =
     let s = settings_of c.args.settings.now in
     let which = c.in_ok-which.which.items in
     let valid = subst (λ (z : ModuleValue). Valid (module_of z)) c.module.ensures.same c.module.ensures.valid in
-    let e = subst (λ w. AllEmitted m s w c.in_ok-entries.entries.bytes.items) c.deref.ensures.value c.in_ok-entries.ensures in
+    let e = subst (λ w. AllEmitted m s w c.in_ok-entries.entries) c.deref.ensures.value c.in_ok-entries.ensures in
     let with = c.in_ok-with.ensures.done ∙ ap (λ (z : ModuleValue). with_runtime (module_of z)) c.into_module-module.ensures.same in
     let many = ap (λ (z : ModuleValue). length z.funcs.items) c.into_module-module.ensures.same in
     let len = length-map c.args.valid.funcs.items func_of in
     let own : c.len-own.result ≡ length m.funcs = omega (arith, c.len-own.ensures, many, len) in
     let a = parts_around m s which e.funcs e.emitted valid c.requires.sizes c.in_ok-which.ensures e.few c.requires.few c.requires.short
+    c.in_ok-with.with with c.len-own.result own c.deref-3.result.now c.deref-3.ensures.value in
+    let h = parts_held m s which e.funcs e.emitted valid c.requires.sizes c.in_ok-which.ensures e.few c.requires.few c.requires.short
     c.in_ok-with.with with c.len-own.result own c.deref-3.result.now c.deref-3.ensures.value
-    c.in_ok-entries.entries.bytes.items c.as_slice.result.now e.entries_are (c.as_slice.ensures ∙ c.in_ok-put_funcs.ensures) in
+    c.in_ok-entries.entries c.put_funcs.new.out e.held c.in_ok-put_funcs.ensures in
     let can : CanBeEmitted m s which = record { valid = valid; sizes = c.requires.sizes; few = few_written m which e.few; tells = c.in_ok-which.ensures } in
     let as_ = functions_law m s which e.funcs e.emitted in
     let same = rewrites_as m s which (with_runtime (record m { funcs = e.funcs })) can (unreserved_is_free m c.requires.free) as_ in
@@ -122,6 +128,6 @@ returns c =
       emitted = as_;
       rewrites = same;
       reads = emitted_reads m s which (with_runtime (record m { funcs = e.funcs })) can as_;
-      text = c.in_ok-text.ensures.ok (with_runtime (record m { funcs = e.funcs })) a;
-      short = c.in_ok-text.ensures.short (with_runtime (record m { funcs = e.funcs })) a;
+      text = c.in_ok-text.ensures.ok (with_runtime (record m { funcs = e.funcs })) a h;
+      short = c.in_ok-text.ensures.short (with_runtime (record m { funcs = e.funcs })) a h;
     }

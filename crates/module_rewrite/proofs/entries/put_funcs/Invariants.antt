@@ -1,9 +1,9 @@
-use Rattle.std.proofs.Common.{◌≡◌, ◌≤◌, ◌++◌, drop, length}
-use Rattle.module_rewrite.specs.EmittingEntries.{value_entries}
+use Rattle.std.proofs.Common.{◌≡◌, ◌≤◌, ◌++◌, List, ℕ, drop, length}
+use Rattle.module_rewrite.specs.EmittingEntries.{value_entries, PutsEntries}
 use Rattle.module_rewrite.proofs.entries.put_funcs.Given as goal
 
 abbrev pub invariant-loop-index : goal.invariant-loop-index
 invariant-loop-index l = record {
-  put : l.out.items ++ value_entries (drop l.index l.funcs) ≡ l.fn.out.items ++ value_entries (drop l.from l.funcs);
+  put : (done : List ℕ) × PutsEntries done l.fn.out l.out × (done ++ value_entries (drop l.index l.funcs) ≡ value_entries (drop l.from l.funcs));
   left : length (value_entries (drop l.index l.funcs)) ≤ length (value_entries (drop l.from l.funcs));
 }
