@@ -11,7 +11,7 @@ use Rattle.wa_types.specs.Encoding.{same_type}
 use Rattle.wa_types.specs.Syntax.{Basic, Plain, basic, local_get, local_set, local_tee, br, br_if, br_table, return, unreachable, call, call_indirect, a_block, a_loop, Code, done, plain, nest, branch, FuncType, Module}
 use Rattle.wa_types.specs.Modules.{func_imports, func_type_at, type_at, declared_locals, defined_at}
 use Rattle.wa_types.specs.Pausing.{calls_of}
-use Rattle.wa_model.specs.Store.{Store, value_at, Did, works, fails, lacks, takes, gives, act, reached}
+use Rattle.wa_model.specs.Store.{Store, value_at, Did, works, fails, lacks, takes, gives, length_of, act, reached}
 use Rattle.wa_model.specs.Configuration.{Label, block_label, Activation, Configuration, running, waiting}
 use Rattle.wa_model.specs.Step.{Next, steps, asks, returns, traps, stuck, result_count, leave, jump, finish, did, with_number, choose, arity_of, zero_of, entered, invoke, param_count, same_types, same_func_type, through, memory_max, step_at, step}
 use Rattle.wa_model.specs.Untouched.{ranges_in}
@@ -279,16 +279,16 @@ module _ (w : Sides) where
 
     -- ---- an instruction that touches no local
 
-    dids : (x : Ctx w) (b : Basic) (spare : ℕ) (n : ℕ) (ts : List Free) (out : Free) (sh : StackShape) (ops ops' : List Value) (rest rest' : Code) (labels labels' : List Label)
+    dids : (k : ℕ) (x : Ctx w) (b : Basic) (spare : ℕ) (n : ℕ) (ts : List Free) (out : Free) (sh : StackShape) (ops ops' : List Value) (rest rest' : Code) (labels labels' : List Label)
         → kept sh ≤ spare → Woven x.ls sh ops ops'
         → Slims (t x) n ts out x.free (more (gives b) sh) rest rest' → Around (t x) n ts out labels labels' → (a : Did) → GivesSo (gives b) a
-        → Same w spare (did x.fn x.under x.ls labels rest x.s ops a) (did x.fn x.under' x.ls' labels' rest' x.s ops' a)
-    dids x b spare n ts out sh ops ops' rest rest' labels labels' le wo sl ar (works s2 vs) g =
+        → Same w spare (did k x.fn x.under x.ls labels rest x.s ops a) (did k x.fn x.under' x.ls' labels' rest' x.s ops' a)
+    dids k x b spare n ts out sh ops ops' rest rest' labels labels' le wo sl ar (works s2 vs) g =
         let e = more_kept (gives b) sh in
         same_step (omega arith) (at (with_store x s2) x.free (λ y fr. fr) n ts out (more (gives b) sh) (vs ++ ops) (vs ++ ops') rest rest' labels labels'
         (subst (λ n. Woven x.ls (more n sh) (vs ++ ops) (vs ++ ops')) g (more_woven x.ls sh vs ops ops' wo)) sl ar)
-    dids x b spare n ts out sh ops ops' rest rest' labels labels' le wo sl ar (fails u) g = same_trap
-    dids x b spare n ts out sh ops ops' rest rest' labels labels' le wo sl ar lacks g = flat_stuck
+    dids k x b spare n ts out sh ops ops' rest rest' labels labels' le wo sl ar (fails u) g = same_trap
+    dids k x b spare n ts out sh ops ops' rest rest' labels labels' le wo sl ar lacks g = flat_stuck
 
     -- ---- the whole table
 
@@ -392,9 +392,10 @@ module _ (w : Sides) where
             reach = ap (reached b) h.0;
           }) (λ k. omega arith) refl
           (subst (λ m. Same w (kept sh) (step_at q s fn under ls ops labels (plain (basic b) rest))
-          (did fn under' ls' labels' rest' s (drop (takes b) ops') (act m b s (take (takes b) ops')))) (sym ok.most)
-          (subst (λ vs. Same w (kept sh) (step_at q s fn under ls ops labels (plain (basic b) rest)) (did fn under' ls' labels' rest' s (drop (takes b) ops') (act (memory_max q) b s vs))) (sym h.0)
-          (dids (ctx s fn under under' us ls size f ls' ag) b (kept sh) n ts out sh2 (drop (takes b) ops) (drop (takes b) ops') rest rest' labels labels' (omega arith) h.1 sl ar
+          (did (length_of b (take (takes b) ops')) fn under' ls' labels' rest' s (drop (takes b) ops') (act m b s (take (takes b) ops')))) (sym ok.most)
+          (subst (λ vs. Same w (kept sh) (step_at q s fn under ls ops labels (plain (basic b) rest))
+          (did (length_of b vs) fn under' ls' labels' rest' s (drop (takes b) ops') (act (memory_max q) b s vs))) (sym h.0)
+          (dids (length_of b (take (takes b) ops)) (ctx s fn under under' us ls size f ls' ag) b (kept sh) n ts out sh2 (drop (takes b) ops) (drop (takes b) ops') rest rest' labels labels' (omega arith) h.1 sl ar
           (act (memory_max q) b s (take (takes b) ops)) (gives_so (memory_max q) b s (take (takes b) ops)))))
       table ls size f ls' ag n ts out sh ops ops' _ _ labels labels' wo (gets {rest = rest} {rest' = rest'} y fr sl) ar pr =
           together (running s fn under ls ops (plain (local_get y) rest) labels) (running s fn under' ls' ops' (plain (local_get y) rest') labels') (kept sh)

@@ -17,8 +17,7 @@ use Rattle.wa_ops.specs.Operate.{operate, value_of, number_of}
 use Rattle.wa_types.specs.Encoding.{same_type}
 use Rattle.wa_types.specs.Typing.{type_of}
 
--- The globals' values, the memory's bytes, and the table: the function's index for each initialised element (4.2.3, 4.2.7 to 4.2.9). Without a
--- memory or a table its list is empty.
+-- The globals' values, the memory's bytes, and each table element's function, if initialised (4.2.3, 4.2.7 to 4.2.9); empty without memory or table.
 pub record Store : Type 0 where
   pub globals : List Value
   pub memory : List ℕ
@@ -51,6 +50,11 @@ takes (load op align offset) = 1
 takes (store op align offset) = 2
 takes memory_size = 0
 takes memory_grow = 1
+
+-- how much more than 1 an instruction costs with its own operands, where it works: none of these does
+abbrev pub length_of : Basic → List Value → ℕ
+length_of nop ops = 0
+length_of _ _ = 0
 
 -- how many results it gives (4.4.1 to 4.4.4)
 abbrev pub gives : Basic → ℕ
