@@ -15,7 +15,7 @@ use Rattle.wa_types.specs.Pruned.{is_last}
 use Rattle.wa_types.specs.Syntax.{Plain, basic, local_get, local_set, local_tee, br, br_if, br_table, return, unreachable, call, call_indirect, a_block, a_loop, Code, done, branch, Func, FuncType, Module}
 use Rattle.wa_model.specs.Configuration.{Label, block_label, loop_label, Activation, running, waiting}
 use Rattle.wa_model.specs.Step.{steps, asks, traps, stuck, arity_of, did, entered, finish, invoke, jump, keep, leave, memory_max, param_count, result_count, same_func_type, same_types, step_at, step_plain, through, zero_of}
-use Rattle.wa_model.specs.Store.{Store, Did, works, fails, lacks, act, length_of, takes, value_at}
+use Rattle.wa_model.specs.Store.{Store, Did, works, fails, lacks, act, extra_cost, takes, value_at}
 use Rattle.guard_form.specs.Asserts.{assert_code, tested_behind}
 use Rattle.guard_form.specs.Passing.{stays}
 use Rattle.guard_form.proofs.Passing.{passes}
@@ -227,8 +227,8 @@ module _ (w : Sides) where
         → Matched w (length us) (step_plain p s fn us ls ops labels rest i) (step_plain q s fn us' ls ops labels' (tested_behind w.tests w.state (callee i) rest') i)
     plain_too ls ops rest rest' labels labels' (basic b) pr t la =
         subst (λ k. Matched w (length us) (step_plain p s fn us ls ops labels rest (basic b))
-        (did (length_of b (take (takes b) ops)) fn us' ls labels' rest' s (drop (takes b) ops) (act k b s (take (takes b) ops)))) (sym ok.most)
-        (acted (length_of b (take (takes b) ops)) ls (drop (takes b) ops) rest rest' labels labels' (act (memory_max p) b s (take (takes b) ops)) (act_kept w.state s (memory_max p) b (take (takes b) ops) pr) t la)
+        (did (extra_cost b (take (takes b) ops)) fn us' ls labels' rest' s (drop (takes b) ops) (act k b s (take (takes b) ops)))) (sym ok.most)
+        (acted (extra_cost b (take (takes b) ops)) ls (drop (takes b) ops) rest rest' labels labels' (act (memory_max p) b s (take (takes b) ops)) (act_kept w.state s (memory_max p) b (take (takes b) ops) pr) t la)
     plain_too ls ops rest rest' labels labels' (local_get x) pr t la = both_step (here ls (value_at ls x ∷ ops) rest rest' labels labels' t la) (λ z. refl)
     plain_too ls ops rest rest' labels labels' (local_set x) pr t la = set_too ls ops rest rest' labels labels' x t la
     plain_too ls ops rest rest' labels labels' (local_tee x) pr t la = tee_too ls ops rest rest' labels labels' x t la

@@ -4,7 +4,7 @@ use Rattle.wa_types.specs.declared.values.Value.{Value}
 use Rattle.wa_types.specs.declared.instrs.Instr.{Instr}
 use Rattle.wa_types.specs.Syntax.{Basic, basic, Code, plain, Module}
 use Rattle.wa_types.specs.View.{in_front, onto, code}
-use Rattle.wa_model.specs.Store.{Store, Did, works, fails, lacks, takes, length_of, act}
+use Rattle.wa_model.specs.Store.{Store, Did, works, fails, lacks, takes, extra_cost, act}
 use Rattle.wa_model.specs.Configuration.{Label, Activation, Configuration, running}
 use Rattle.wa_model.specs.Step.{Next, steps, traps, stuck, did, memory_max, step_plain}
 use Rattle.interp_state.specs.declared.flow.Flow.{Flow}
@@ -33,12 +33,12 @@ module _ (m : Module) (s : Store) (fn : ℕ) (under : List Activation) (ls : Lis
   did_led below lacks = refl
 
   -- an instruction that costs 1
-  basic_led : (b : Basic) (ops : List Value) → length_of b (take (takes b) ops) ≡ 0 → step_plain m s fn under ls ops labels rest (basic b) ≡ led (effect (memory_max m) b s ops)
+  basic_led : (b : Basic) (ops : List Value) → extra_cost b (take (takes b) ops) ≡ 0 → step_plain m s fn under ls ops labels rest (basic b) ≡ led (effect (memory_max m) b s ops)
   basic_led b ops one =
       let d = act (memory_max m) b s (take (takes b) ops) in
       ap (λ k. did k fn under ls labels rest s (drop (takes b) ops) d) one ∙ did_led (drop (takes b) ops) d
 
-  pub shows_tells : (b : Basic) (ops ops' : List Value) (s' : Store) (f : Flow) (left : ℕ) → length_of b (take (takes b) ops) ≡ 0 → 0 < left → (Unmoved f → s' ≡ s)
+  pub shows_tells : (b : Basic) (ops ops' : List Value) (s' : Store) (f : Flow) (left : ℕ) → extra_cost b (take (takes b) ops) ≡ 0 → 0 < left → (Unmoved f → s' ≡ s)
       → Shows (effect (memory_max m) b s ops) f s' ops' → Tells s (step_plain m s fn under ls ops labels rest (basic b)) left f (running s' fn under ls ops' rest labels)
   shows_tells b ops ops' s' (Moved more) left one paid kept h = (
     basic_led b ops one ∙ ap led h.1
@@ -68,7 +68,7 @@ code_arm m s k x x' d f left c ex ed told =
 -- one that touches only its operands and the store
 pub basic_arm : (m : Module) (s s' : Store) (k : Stack) (v : Vec Value Global) (x x' : Instr) (b : Basic) (f : Flow) (left : ℕ) → x ≡ x'
     → in_front x' (code k.here.code.now) ≡ plain (basic b) (code k.here.code.now)
-    → length_of b (take (takes b) (reverse k.here.operands.items)) ≡ 0 → 0 < left → (Unmoved f → s' ≡ s)
+    → extra_cost b (take (takes b) (reverse k.here.operands.items)) ≡ 0 → 0 < left → (Unmoved f → s' ≡ s)
     → Shows (effect (memory_max m) b s (reverse k.here.operands.items)) f s' (reverse v.items)
     → Tells s (code_of m s k (in_front x (code k.here.code.now))) left f (running_of s' (with_operands k v))
 basic_arm m s s' k v x x' b f left ex ed one paid kept shown =

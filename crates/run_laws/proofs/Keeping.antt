@@ -18,7 +18,7 @@ use Rattle.wa_types.proofs.MemoryLemmas.{length-bytes_of, length-overwritten, by
 use Rattle.wa_model.specs.Operate.{operate, number_of}
 use Rattle.wa_model.specs.declared.answers.Area.{Area}
 use Rattle.wa_model.specs.Machine.{Turn, goes, Ran, after, run, Leads, stays, moves}
-use Rattle.wa_model.specs.Store.{Store, Did, works, fails, lacks, takes, length_of, act, computed, load_at, loaded, store_at, stored, width_of, range_of}
+use Rattle.wa_model.specs.Store.{Store, Did, works, fails, lacks, takes, extra_cost, act, computed, load_at, loaded, store_at, stored, width_of, range_of}
 use Rattle.wa_model.specs.Configuration.{Label, block_label, loop_label, Activation, Configuration, running, waiting}
 use Rattle.wa_model.specs.Step.{Next, steps, asks, returns, traps, stuck, result_count, leave, jump, finish, did, with_top, with_number, choose, arity_of, entered, invoke, param_count}
 use Rattle.wa_model.specs.Step.{same_func_type, through, memory_max, step_at, step}
@@ -207,7 +207,7 @@ module _ (g : ℕ) (area : Area) where
     pub step_keeps : (ls ops : List Value) (labels : List Label) (code : Code) → keeps_code g area ops code ≡ true → NextKeeps s (step_at p s fn under ls ops labels code)
     step_keeps ls ops labels done h = finishes_keep ls ops labels
     step_keeps ls ops labels (plain (basic b) rest) h =
-        did_keeps (length_of b (take (takes b) ops)) fn under ls labels rest (drop (takes b) ops) s (act (memory_max p) b s (take (takes b) ops)) (act_keeps (memory_max p) b s (take (takes b) ops) h)
+        did_keeps (extra_cost b (take (takes b) ops)) fn under ls labels rest (drop (takes b) ops) s (act (memory_max p) b s (take (takes b) ops)) (act_keeps (memory_max p) b s (take (takes b) ops) h)
     step_keeps ls ops labels (plain (local_get x) rest) h = same_refl g area s
     step_keeps ls ops labels (plain (local_set x) rest) h = top_keeps s ops _ (λ v below. same_refl g area s)
     step_keeps ls ops labels (plain (local_tee x) rest) h = top_keeps s ops _ (λ v below. same_refl g area s)

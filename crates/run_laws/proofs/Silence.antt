@@ -15,7 +15,7 @@ use Rattle.std.specs.Prelude.{Result, Ok, Err}
 use Rattle.wa_model.specs.Operate.{operate}
 use Rattle.wa_model.specs.declared.answers.Area.{Area}
 use Rattle.wa_model.specs.Machine.{goes, stays, moves}
-use Rattle.wa_model.specs.Store.{Store, Did, works, fails, lacks, takes, length_of, act, computed, Range}
+use Rattle.wa_model.specs.Store.{Store, Did, works, fails, lacks, takes, extra_cost, act, computed, Range}
 use Rattle.wa_model.specs.Configuration.{Label, block_label, loop_label, Activation, Configuration, running}
 use Rattle.wa_model.specs.Step.{Next, steps, asks, returns, traps, stuck, result_count, leave, jump, finish, did, with_top, with_number, choose, arity_of, memory_max, step_at, step}
 use Rattle.run_theory.specs.Alone.{alone_next}
@@ -126,7 +126,7 @@ module _ (s : Store) where
     step_stays : (ls ops : List Value) (labels : List Label) (code : Code) → silent_code code ≡ true → NextStays s (step_at m s fn under ls ops labels code)
     step_stays ls ops labels done h = finish_stays ls ops labels
     step_stays ls ops labels (plain (basic b) rest) h =
-        did_stays (length_of b (take (takes b) ops)) fn under ls labels rest (drop (takes b) ops) (act (memory_max m) b s (take (takes b) ops)) (act_stays (memory_max m) b (take (takes b) ops) h)
+        did_stays (extra_cost b (take (takes b) ops)) fn under ls labels rest (drop (takes b) ops) (act (memory_max m) b s (take (takes b) ops)) (act_stays (memory_max m) b (take (takes b) ops) h)
     step_stays ls ops labels (plain (local_get x) rest) h = refl
     step_stays ls ops labels (plain (local_set x) rest) h = top_stays ops _ (λ v below. refl)
     step_stays ls ops labels (plain (local_tee x) rest) h = top_stays ops _ (λ v below. refl)

@@ -11,7 +11,7 @@ use Rattle.wa_types.specs.Encoding.{same_type}
 use Rattle.wa_types.specs.Syntax.{Basic, Plain, basic, local_get, local_set, local_tee, br, br_if, br_table, return, unreachable, call, call_indirect, a_block, a_loop, Code, done, plain, nest, branch, FuncType, Module}
 use Rattle.wa_types.specs.Modules.{func_imports, func_type_at, type_at, declared_locals, defined_at}
 use Rattle.wa_types.specs.Pausing.{calls_of}
-use Rattle.wa_model.specs.Store.{Store, value_at, Did, works, fails, lacks, takes, gives, length_of, act, reached}
+use Rattle.wa_model.specs.Store.{Store, value_at, Did, works, fails, lacks, takes, gives, extra_cost, act, reached}
 use Rattle.wa_model.specs.Configuration.{Label, block_label, Activation, Configuration, running, waiting}
 use Rattle.wa_model.specs.Step.{Next, steps, asks, returns, traps, stuck, result_count, leave, jump, finish, did, with_number, choose, arity_of, zero_of, entered, invoke, param_count, same_types, same_func_type, through, memory_max, step_at, step}
 use Rattle.wa_model.specs.Untouched.{ranges_in}
@@ -392,10 +392,10 @@ module _ (w : Sides) where
             reach = ap (reached b) h.0;
           }) (λ k. omega arith) refl
           (subst (λ m. Same w (kept sh) (step_at q s fn under ls ops labels (plain (basic b) rest))
-          (did (length_of b (take (takes b) ops')) fn under' ls' labels' rest' s (drop (takes b) ops') (act m b s (take (takes b) ops')))) (sym ok.most)
+          (did (extra_cost b (take (takes b) ops')) fn under' ls' labels' rest' s (drop (takes b) ops') (act m b s (take (takes b) ops')))) (sym ok.most)
           (subst (λ vs. Same w (kept sh) (step_at q s fn under ls ops labels (plain (basic b) rest))
-          (did (length_of b vs) fn under' ls' labels' rest' s (drop (takes b) ops') (act (memory_max q) b s vs))) (sym h.0)
-          (dids (length_of b (take (takes b) ops)) (ctx s fn under under' us ls size f ls' ag) b (kept sh) n ts out sh2 (drop (takes b) ops) (drop (takes b) ops') rest rest' labels labels' (omega arith) h.1 sl ar
+          (did (extra_cost b vs) fn under' ls' labels' rest' s (drop (takes b) ops') (act (memory_max q) b s vs))) (sym h.0)
+          (dids (extra_cost b (take (takes b) ops)) (ctx s fn under under' us ls size f ls' ag) b (kept sh) n ts out sh2 (drop (takes b) ops) (drop (takes b) ops') rest rest' labels labels' (omega arith) h.1 sl ar
           (act (memory_max q) b s (take (takes b) ops)) (gives_so (memory_max q) b s (take (takes b) ops)))))
       table ls size f ls' ag n ts out sh ops ops' _ _ labels labels' wo (gets {rest = rest} {rest' = rest'} y fr sl) ar pr =
           together (running s fn under ls ops (plain (local_get y) rest) labels) (running s fn under' ls' ops' (plain (local_get y) rest') labels') (kept sh)

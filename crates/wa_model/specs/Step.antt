@@ -12,7 +12,7 @@ use Rattle.wa_types.specs.Syntax.{Plain, basic, local_get, local_set, local_tee,
 use Rattle.wa_types.specs.Syntax.{branch, FuncType, Func, Module}
 use Rattle.wa_types.specs.Modules.{func_imports, all_memories, type_at, func_type_at, declared_locals, defined_at}
 use Rattle.wa_ops.specs.Operate.{value_of}
-use Rattle.wa_model.specs.Store.{Store, value_at, Did, works, fails, lacks, takes, length_of, act}
+use Rattle.wa_model.specs.Store.{Store, value_at, Did, works, fails, lacks, takes, extra_cost, act}
 use Rattle.wa_model.specs.Configuration.{Label, block_label, loop_label, Activation, Configuration, running, waiting}
 
 -- What comes next (4.4). A cost k stands for suc k.
@@ -133,7 +133,7 @@ memory_max m = first_max (all_memories m)
 
 -- By the instruction that stands next (variable instructions, 4.4.3; control instructions, 4.4.5).
 abbrev pub step_plain : Module → Store → ℕ → List Activation → (ls ops : List Value) → List Label → (rest : Code) → Plain → Next
-step_plain m s fn under ls ops labels rest (basic b) = did (length_of b (take (takes b) ops)) fn under ls labels rest s (drop (takes b) ops) (act (memory_max m) b s (take (takes b) ops))
+step_plain m s fn under ls ops labels rest (basic b) = did (extra_cost b (take (takes b) ops)) fn under ls labels rest s (drop (takes b) ops) (act (memory_max m) b s (take (takes b) ops))
 step_plain m s fn under ls ops labels rest (local_get x) = steps 0 (running s fn under ls (value_at ls x ∷ ops) rest labels)
 step_plain m s fn under ls ops labels rest (local_set x) = with_top ops (λ v below. steps 0 (running s fn under (slice_set ls x v) below rest labels))
 step_plain m s fn under ls ops labels rest (local_tee x) = with_top ops (λ v below. steps 0 (running s fn under (slice_set ls x v) (v ∷ below) rest labels))

@@ -52,9 +52,9 @@ takes memory_size = 0
 takes memory_grow = 1
 
 -- how much more than 1 an instruction costs with its own operands, where it works: none of these does
-abbrev pub length_of : Basic → List Value → ℕ
-length_of nop ops = 0
-length_of _ _ = 0
+abbrev pub extra_cost : Basic → List Value → ℕ
+extra_cost nop ops = 0
+extra_cost _ _ = 0
 
 -- how many results it gives (4.4.1 to 4.4.4)
 abbrev pub gives : Basic → ℕ
