@@ -1,5 +1,5 @@
 -- Small runs that the definitions compute.
-use Rattle.std.proofs.Common.{arith, ◌≡◌, ◌<◌, ℕ, zero, suc, List, [], ◌∷◌, ◌++◌, take, Some, None, true, false, refl}
+use Rattle.std.proofs.Common.{All, arith, ◌≡◌, ◌<◌, ◌≤◌, ◌+◌, ℕ, zero, suc, List, [], ◌∷◌, ◌++◌, take, Some, None, true, false, refl}
 use Rattle.std.specs.Prelude.{Option, slice_get, replicate, codes}
 use Rattle.wa_types.specs.declared.values.ValType.TheVariants.{I32, I64}
 use Rattle.wa_types.specs.declared.values.Value.{Value}
@@ -23,16 +23,17 @@ use Rattle.wa_model.specs.declared.events.End.TheVariants.{Done, Trapped, Unwind
 use Rattle.wa_model.specs.Outside.{Answer, Event, called, answered, paused, returned, ended}
 use Rattle.wa_types.specs.Memory.{bytes_at}
 use Rattle.wa_types.specs.Frames.{Suspended, Image}
-use Rattle.wa_model.specs.Store.{Store, works, act}
+use Rattle.std.proofs.lemmas.List.Elements.{All-cons, All-nil}
+use Rattle.wa_model.specs.Store.{Range, Store, works, act}
 use Rattle.wa_model.specs.Configuration.{Activation, running, waiting}
 use Rattle.wa_model.specs.Step.{Next, steps, traps, step}
 use Rattle.wa_model.specs.declared.answers.Area.{Area}
 use Rattle.wa_model.specs.Plan.{Entry, Plan, Outcome, given}
-use Rattle.wa_model.specs.Untouched.{Untouched}
+use Rattle.wa_model.specs.Untouched.{StaysOff, Untouched}
 use Rattle.wa_model.specs.Blocking.{Note, no_store, events_of, Blocking, blocking_run}
 use Rattle.wa_model.specs.Protocol.{Protocol}
 use Rattle.wa_model.specs.Expected.{Expected}
-use Rattle.wa_model.proofs.StayingOff.{is_off, nothing_off, one_off}
+use Rattle.wa_model.proofs.StayingOff.{is_off, nothing_off, one_off, range}
 use Rattle.wa_model.specs.Behaves.{IsPrefix, expected_notes, protocol_notes, pause_stacks, without_pauses}
 
 abbrev i32 : ℕ → Value
@@ -327,6 +328,24 @@ trap_touches_none : Untouched (touches (then (const (i32 65534)) (then (load 0x2
 unfolding Base
 trap_touches_none =
     each_of_four _ tt (nothing_off (bytes_from 65472) 65536) (one_off (bytes_from 65472) 65536 65534 4 (λ le. absurd (omega (arith, le)))) tt
+
+-- of two ranges the second touches the area
+abbrev InPage : Range → Type 0
+InPage x = x.at + x.len ≤ 65536
+
+second_touches : StaysOff (bytes_from 0) 65536 (range 100 8 ∷ range 60 8 ∷ []) → ⊥
+second_touches h =
+    let first : 100 + 8 ≤ 65536 = omega arith in
+    let second : 60 + 8 ≤ 65536 = omega arith in
+    let inside : All InPage (range 100 8 ∷ range 60 8 ∷ []) = All-cons InPage (range 100 8) (range 60 8 ∷ []) first (All-cons InPage (range 60 8) [] second (All-nil InPage)) in
+    let e : true ≡ false = h inside 1 (range 0 0) (omega arith) in cc
+
+-- where the first passes the end the second may touch it, and one of no byte touches none
+first_past_end : StaysOff (bytes_from 0) 65536 (range 65530 8 ∷ range 60 8 ∷ [])
+first_past_end = λ inside. absurd (let le : 65530 + 8 ≤ 65536 = inside 0 (range 0 0) (omega arith) in omega (arith, le))
+
+no_byte_touches_none : StaysOff (bytes_from 0) 65536 (range 8 0 ∷ [])
+no_byte_touches_none = one_off (bytes_from 0) 65536 8 0 (λ le. refl)
 
 -- ---- answers that end a run
 abbrev asks_once : Module
