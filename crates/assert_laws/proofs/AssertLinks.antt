@@ -13,6 +13,7 @@ use Rattle.wa_model.specs.Outside.{Answer}
 use Rattle.wa_model.specs.Plan.{AnswerFits, AreLawful}
 use Rattle.wa_model.specs.Step.{Next, asks, entered, param_count, returns, step, steps, stuck, traps}
 use Rattle.wa_model.specs.Store.{Store, value_at}
+use Rattle.wa_model.proofs.StayingOff.{nothing_off}
 use Rattle.guard_runs.specs.Alike.{MayName, Setting, sides_of}
 use Rattle.guard_runs.specs.Beside as G
 use Rattle.headline.specs.FlatLaw as F
@@ -158,9 +159,9 @@ module _ (w : World) (q written : Module) (role : ℕ → Role) (lay : Activatio
     test_proper s ls ops done h = tt
     test_proper s ls ops (nest y r body rest) h = absurd h
     test_proper s ls ops (branch r a b rest) h = tt
-    test_proper s ls ops (plain (basic (global_get x)) rest) h = (omega arith, tt)
-    test_proper s ls ops (plain (basic (const v)) rest) h = (tt, tt)
-    test_proper s ls ops (plain (basic (num op)) rest) h = (tt, tt)
+    test_proper s ls ops (plain (basic (global_get x)) rest) h = (omega arith, nothing_off v2.area (length s.memory))
+    test_proper s ls ops (plain (basic (const v)) rest) h = (tt, nothing_off v2.area (length s.memory))
+    test_proper s ls ops (plain (basic (num op)) rest) h = (tt, nothing_off v2.area (length s.memory))
     test_proper s ls ops (plain (basic nop) rest) h = absurd h
     test_proper s ls ops (plain (basic drop) rest) h = absurd h
     test_proper s ls ops (plain (basic select) rest) h = absurd h

@@ -16,7 +16,8 @@ use Rattle.wa_model.specs.Outside.{Answer}
 use Rattle.wa_model.specs.Plan.{AnswerFits, AreLawful}
 use Rattle.wa_model.specs.Step.{Next, steps, asks, returns, traps, stuck, entered, param_count, step}
 use Rattle.wa_model.specs.Store.{Store}
-use Rattle.wa_model.specs.Untouched.{StaysOff, next_access}
+use Rattle.wa_model.specs.Untouched.{StaysOff, next_ranges}
+use Rattle.wa_model.proofs.StayingOff.{nothing_off}
 use Rattle.run_theory.proofs.FittingNames.{results_are}
 use Rattle.run_theory.proofs.FittingRuns.{answers_fit, calls_fit}
 use Rattle.run_theory.proofs.FittingSteps.{steps_fit}
@@ -33,7 +34,7 @@ use Rattle.guard_runs.specs.Alike.{Paired, sides_of}
 use Rattle.guard_runs.specs.Beside.{Twin, both_import, both_defined}
 use Rattle.headline.specs.FlatLaw.{FlatEnters, FlatLaw, FlatNext, FlatOn}
 use Rattle.headline.specs.World.{setting}
-use Rattle.headline.specs.Beside.{BesideLaw, ComesBeside, NextBeside, SameAccess}
+use Rattle.headline.specs.Beside.{BesideLaw, ComesBeside, NextBeside, SameReach}
 use Rattle.headline.specs.Core.{Core, CoreFits, based, world_of}
 use Rattle.headline.specs.Links.{GoodStore, L, Linked, LinkedWaits, StandsLaw, W}
 use Rattle.headline.proofs.Spaces.{based_valid, funcs_are, func_type_same, grown_defined, grown_func_type, imports_few, names_there, results_same, steps_same, globals_same, sorts_same}
@@ -59,18 +60,18 @@ module _ (k : Core) (fit : CoreFits k) (Live : Configuration → Configuration �
 
   -- ---- one reduction
 
-  module _ (top spare : ℕ) (c f : Configuration) (l : Linked k B A spare c f) (off : StaysOff k.plan.area (length c.store.memory) (next_access c)) where
+  module _ (top spare : ℕ) (c f : Configuration) (l : Linked k B A spare c f) (off : StaysOff k.plan.area (length c.store.memory) (next_ranges c)) where
     abbrev ok : FlatOk k fit top l.flat_outs f
     ok = record { fits = l.flat_fits; named = l.named }
 
     -- where the flat side acts it is proper
-    acts_properly : (mid : Configuration) → FlatOk k fit top l.flat_outs mid → mid.store ≡ f.store → SameAccess c mid → StaysOff k.plan.area (length mid.store.memory) (next_access mid)
-    acts_properly mid mid_ok keep access =
+    acts_properly : (mid : Configuration) → FlatOk k fit top l.flat_outs mid → mid.store ≡ f.store → SameReach c mid → StaysOff k.plan.area (length mid.store.memory) (next_ranges mid)
+    acts_properly mid mid_ok keep reach =
         let st : c.store ≡ mid.store = sym (keep ∙ law.store spare c f l.beside) in
         ⊎_elim
-        (λ none. subst (StaysOff k.plan.area (length mid.store.memory)) (sym none) tt)
-        (λ same. subst (StaysOff k.plan.area (length mid.store.memory)) (sym same) (subst (λ (s : Store). StaysOff k.plan.area (length s.memory) (next_access c)) st off))
-        access
+        (λ none. subst (StaysOff k.plan.area (length mid.store.memory)) (sym none) (nothing_off k.plan.area (length mid.store.memory)))
+        (λ same. subst (StaysOff k.plan.area (length mid.store.memory)) (sym same) (subst (λ (s : Store). StaysOff k.plan.area (length s.memory) (next_ranges c)) st off))
+        reach
 
     by_next : (o : Next) → NextBeside (based k) k.flat B A spare c f o → NextFits (based k) l.outs o → NextIn 0 o → NextAtSpots (based k) o → NextAt (based k) c.store.table l.root o
         → FlatNext (world_of k) Live LL WW (GoodStore k) top spare o f
@@ -83,7 +84,7 @@ module _ (k : Core) (fit : CoreFits k) (Live : Configuration → Configuration �
           n1 = sb.n1;
           mid = sb.mid;
           before = still_of k fit top l.flat_outs f sb.mid sb.n1 ok sb.before;
-          proper = proper_here k fit top l.flat_outs sb.mid ok1.fits ok1.named (acts_properly sb.mid ok1 keep sb.access);
+          proper = proper_here k fit top l.flat_outs sb.mid ok1.fits ok1.named (acts_properly sb.mid ok1 keep sb.reach);
           j = sb.j;
           after = sb.after;
           acts = (steps_same k fit sb.mid ok1.named).0 ∙ sb.acts;
@@ -121,7 +122,7 @@ module _ (k : Core) (fit : CoreFits k) (Live : Configuration → Configuration �
           j = eb.j;
           least = eb.least;
           most = eb.most;
-          proper = proper_here k fit top l.flat_outs eb.at ok1.fits ok1.named (acts_properly eb.at ok1 keep eb.access);
+          proper = proper_here k fit top l.flat_outs eb.at ok1.fits ok1.named (acts_properly eb.at ok1 keep eb.reach);
           to = t.0;
           asks_there = (steps_same k fit eb.at ok1.named).0 ∙ t.1;
           waits = record {
@@ -150,7 +151,7 @@ module _ (k : Core) (fit : CoreFits k) (Live : Configuration → Configuration �
           j = eb.j;
           least = eb.least;
           most = eb.most;
-          proper = proper_here k fit top l.flat_outs eb.at ok1.fits ok1.named (acts_properly eb.at ok1 keep eb.access);
+          proper = proper_here k fit top l.flat_outs eb.at ok1.fits ok1.named (acts_properly eb.at ok1 keep eb.reach);
           returns_there = (steps_same k fit eb.at ok1.named).0 ∙ eb.there;
           good = record { fits = nf.0; named = nn; ranges = ni.1 };
         }
@@ -164,7 +165,7 @@ module _ (k : Core) (fit : CoreFits k) (Live : Configuration → Configuration �
           j = eb.j;
           least = eb.least;
           most = eb.most;
-          proper = proper_here k fit top l.flat_outs eb.at ok1.fits ok1.named (acts_properly eb.at ok1 keep eb.access);
+          proper = proper_here k fit top l.flat_outs eb.at ok1.fits ok1.named (acts_properly eb.at ok1 keep eb.reach);
           traps_there = (steps_same k fit eb.at ok1.named).0 ∙ eb.there;
         }
     by_next stuck nb nf ni ns na = nf

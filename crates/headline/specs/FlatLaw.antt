@@ -17,7 +17,7 @@ use Rattle.wa_model.specs.Outside.{Answer}
 use Rattle.wa_model.specs.Plan.{AnswerFits, AreLawful}
 use Rattle.wa_model.specs.Step.{Next, asks, entered, param_count, returns, step, steps, stuck, traps}
 use Rattle.wa_model.specs.Store.{Store}
-use Rattle.wa_model.specs.Untouched.{StaysOff, next_access}
+use Rattle.wa_model.specs.Untouched.{StaysOff, next_ranges}
 use Rattle.frame_laws.specs.Function.{rewinding, unwinding}
 use Rattle.frame_laws.specs.Stack.{Level}
 use Rattle.frame_laws.specs.Suspended.{AllStandFor}
@@ -155,7 +155,7 @@ module _ (w : World) (Live : Configuration → Configuration → Type 0) (L : (t
     pub waits_good : (top i : ℕ) (d f : Configuration) → W top i d f → G d.store
     pub waits_known : (top i : ℕ) (d f : Configuration) → W top i d f → (i < func_imports (base w)) × (i < w.funcs)
     pub small : (s : Store) → G s → length s.memory < 2 ^ 32
-    pub reduces : (top spare : ℕ) (c f : Configuration) → L top spare c f → StaysOff w.plan.area (length c.store.memory) (next_access c) → FlatNext top spare (step (base w) c) f
+    pub reduces : (top spare : ℕ) (c f : Configuration) → L top spare c f → StaysOff w.plan.area (length c.store.memory) (next_ranges c) → FlatNext top spare (step (base w) c) f
     pub answered : (top i : ℕ) (d f : Configuration) (start : Bool) (a : Answer) → W top i d f → AnswerFits a
         → fault_of (func_type_at (base w) i).results (length d.store.memory) w.plan start i a ≡ None
         → FlatOn top (4 + w.tests) (resumed d (poked d.store a.pokes) (option_to_list a.value)) (resumed f (poked d.store a.pokes) (option_to_list a.value))

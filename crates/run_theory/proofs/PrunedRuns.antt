@@ -13,7 +13,7 @@ use Rattle.wa_types.specs.Pausing.{calls_of, calls_in}
 use Rattle.wa_model.specs.declared.events.End.{End}
 use Rattle.wa_model.specs.Outside.{Answer, answered, returned}
 use Rattle.wa_model.specs.Machine.{Turn, stops, goes, Ran, after, run}
-use Rattle.wa_model.specs.Store.{Store, Did, works, fails, lacks, takes, act}
+use Rattle.wa_model.specs.Store.{Store, Did, works, fails, lacks, takes, extra_cost, act}
 use Rattle.wa_model.specs.Configuration.{Label, block_label, loop_label, Activation, Configuration, running, waiting, call_count, calls_behind, calls_outside, place_of, suspended, stack_of}
 use Rattle.wa_model.specs.Step.{Next, steps, asks, returns, traps, stuck, result_count, leave, jump, finish, did, with_top, with_number, choose, arity_of, entered, invoke, param_count}
 use Rattle.wa_model.specs.Step.{same_func_type, through, memory_max, step_at, step}
@@ -146,11 +146,11 @@ module _ (m : Module) where
   finishes_pruned s fn under ls ops (block_label h arity rest skipped ∷ labels) = refl
   finishes_pruned s fn under ls ops (loop_label h body rest ∷ labels) = refl
 
-  did_pruned : (fn : ℕ) (under : List Activation) (ls : List Value) (labels : List Label) (rest : Code) (s : Store) (ops : List Value) (d : Did)
-      → did fn (map pruned_act under) ls (map pruned_label labels) (pruned rest) s ops d ≡ pruned_next (did fn under ls labels rest s ops d)
-  did_pruned fn under ls labels rest s ops (works s' results) = refl
-  did_pruned fn under ls labels rest s ops (fails trap) = refl
-  did_pruned fn under ls labels rest s ops lacks = refl
+  did_pruned : (k fn : ℕ) (under : List Activation) (ls : List Value) (labels : List Label) (rest : Code) (s : Store) (ops : List Value) (d : Did)
+      → did k fn (map pruned_act under) ls (map pruned_label labels) (pruned rest) s ops d ≡ pruned_next (did k fn under ls labels rest s ops d)
+  did_pruned k fn under ls labels rest s ops (works s' results) = refl
+  did_pruned k fn under ls labels rest s ops (fails trap) = refl
+  did_pruned k fn under ls labels rest s ops lacks = refl
 
   top_pruned : (ops : List Value) (on on' : Value → List Value → Next) → ((v : Value) (below : List Value) → on' v below ≡ pruned_next (on v below)) → with_top ops on' ≡ pruned_next (with_top ops on)
   top_pruned [] on on' h = refl
@@ -215,7 +215,7 @@ module _ (m : Module) where
       → step_at (pruned_module m) s fn (map pruned_act under) ls ops (map pruned_label labels) (pruned c) ≡ pruned_next (step_at m s fn under ls ops labels c)
   unfolding pruned
   step_at_pruned s fn under ls ops labels done = finishes_pruned s fn under ls ops labels
-  step_at_pruned s fn under ls ops labels (plain (basic b) rest) = did_pruned fn under ls labels rest s (drop (takes b) ops) (act (memory_max m) b s (take (takes b) ops))
+  step_at_pruned s fn under ls ops labels (plain (basic b) rest) = did_pruned (extra_cost b (take (takes b) ops)) fn under ls labels rest s (drop (takes b) ops) (act (memory_max m) b s (take (takes b) ops))
   step_at_pruned s fn under ls ops labels (plain (local_get x) rest) = refl
   step_at_pruned s fn under ls ops labels (plain (local_set x) rest) = top_pruned ops _ _ (λ v below. refl)
   step_at_pruned s fn under ls ops labels (plain (local_tee x) rest) = top_pruned ops _ _ (λ v below. refl)

@@ -1,5 +1,5 @@
 -- Small runs that the definitions compute.
-use Rattle.std.proofs.Common.{arith, ◌≡◌, ◌<◌, ◌≤◌, ℕ, zero, suc, List, [], ◌∷◌, ◌++◌, take, Some, None, true, false, refl}
+use Rattle.std.proofs.Common.{All, arith, ◌≡◌, ◌<◌, ◌≤◌, ◌+◌, ℕ, zero, suc, List, [], ◌∷◌, ◌++◌, take, Some, None, true, false, refl}
 use Rattle.std.specs.Prelude.{Option, slice_get, replicate, codes}
 use Rattle.wa_types.specs.declared.values.ValType.TheVariants.{I32, I64}
 use Rattle.wa_types.specs.declared.values.Value.{Value}
@@ -23,14 +23,17 @@ use Rattle.wa_model.specs.declared.events.End.TheVariants.{Done, Trapped, Unwind
 use Rattle.wa_model.specs.Outside.{Answer, Event, called, answered, paused, returned, ended}
 use Rattle.wa_types.specs.Memory.{bytes_at}
 use Rattle.wa_types.specs.Frames.{Suspended, Image}
-use Rattle.wa_model.specs.Store.{Store, works, act}
+use Rattle.std.proofs.lemmas.List.Elements.{All-cons, All-nil}
+use Rattle.wa_model.specs.Store.{Range, Store, works, act}
 use Rattle.wa_model.specs.Configuration.{Activation, running, waiting}
 use Rattle.wa_model.specs.Step.{Next, steps, traps, step}
+use Rattle.wa_model.specs.declared.answers.Area.{Area}
 use Rattle.wa_model.specs.Plan.{Entry, Plan, Outcome, given}
-use Rattle.wa_model.specs.Untouched.{Untouched}
+use Rattle.wa_model.specs.Untouched.{StaysOff, Untouched}
 use Rattle.wa_model.specs.Blocking.{Note, no_store, events_of, Blocking, blocking_run}
 use Rattle.wa_model.specs.Protocol.{Protocol}
 use Rattle.wa_model.specs.Expected.{Expected}
+use Rattle.wa_model.proofs.StayingOff.{is_off, nothing_off, one_off, range}
 use Rattle.wa_model.specs.Behaves.{IsPrefix, expected_notes, protocol_notes, pause_stacks, without_pauses}
 
 abbrev i32 : ℕ → Value
@@ -287,9 +290,12 @@ arm_not_within_four = refl
 abbrev touches : Code → Module
 touches body = record seven { types = record { params = []; results = [] } ∷ []; memories = record { min = 1; max = None } ∷ []; funcs = record { sort = 0; locals = []; body = body } ∷ [] }
 
--- a run of it with an area of 64 bytes from here on
+-- 64 bytes from here on, and a run with this area
+abbrev bytes_from : ℕ → Area
+bytes_from at = record { at = at; len = 64 }
+
 abbrev area_from : ℕ → Plan
-area_from at = record (plan_of 64 (entry 0 [] ∷ [])) { area = record { at = at; len = 64 } }
+area_from at = record (plan_of 64 (entry 0 [] ∷ [])) { area = bytes_from at }
 
 each_of_four : (P : ℕ → Type 0) → P 0 → P 1 → P 2 → P 3 → (j : ℕ) → j < 4 → P j
 each_of_four P p q r s zero h = p
@@ -304,21 +310,42 @@ stores = touches (then (const (i32 60)) (then (const (i32 7)) (then (store 0x36 
 
 store_touches : Untouched stores (area_from 0) [] 4 → ⊥
 unfolding Base
-store_touches h = let e : true ≡ false = h 3 (omega arith) (let fits : 64 ≤ 65536 = omega arith in fits) in cc
+store_touches h = let e : true ≡ false = is_off (bytes_from 0) 65536 60 4 (h 3 (omega arith)) (omega arith) in cc
 
 store_behind : Untouched stores (area_from 64) [] 4
 unfolding Base
-store_behind = each_of_four _ tt tt tt (λ h. refl)
+store_behind =
+    let none = nothing_off (bytes_from 64) 65536 in
+    each_of_four _ tt none none (one_off (bytes_from 64) 65536 60 4 (λ le. refl))
 
 -- a load of byte 63
 load_touches : Untouched (touches (then (const (i32 63)) (then (load 0x2D 0 0) (then drop done)))) (area_from 0) [] 3 → ⊥
 unfolding Base
-load_touches h = let e : true ≡ false = h 2 (omega arith) (let fits : 64 ≤ 65536 = omega arith in fits) in cc
+load_touches h = let e : true ≡ false = is_off (bytes_from 0) 65536 63 1 (h 2 (omega arith)) (omega arith) in cc
 
 -- a load of bytes 65,534 to 65,537 traps, and touches none
 trap_touches_none : Untouched (touches (then (const (i32 65534)) (then (load 0x28 2 0) (then drop done)))) (area_from 65472) [] 4
 unfolding Base
-trap_touches_none = each_of_four _ tt tt (λ h. let fits : 65538 ≤ 65536 = h in absurd (omega arith)) tt
+trap_touches_none =
+    each_of_four _ tt (nothing_off (bytes_from 65472) 65536) (one_off (bytes_from 65472) 65536 65534 4 (λ le. absurd (omega (arith, le)))) tt
+
+-- of two ranges the second touches the area
+abbrev InPage : Range → Type 0
+InPage x = x.at + x.len ≤ 65536
+
+second_touches : StaysOff (bytes_from 0) 65536 (range 100 8 ∷ range 60 8 ∷ []) → ⊥
+second_touches h =
+    let first : 100 + 8 ≤ 65536 = omega arith in
+    let second : 60 + 8 ≤ 65536 = omega arith in
+    let inside : All InPage (range 100 8 ∷ range 60 8 ∷ []) = All-cons InPage (range 100 8) (range 60 8 ∷ []) first (All-cons InPage (range 60 8) [] second (All-nil InPage)) in
+    let e : true ≡ false = h inside 1 (range 0 0) (omega arith) in cc
+
+-- where the first passes the end the second may touch it, and one of no byte touches none
+first_past_end : StaysOff (bytes_from 0) 65536 (range 65530 8 ∷ range 60 8 ∷ [])
+first_past_end = λ inside. absurd (let le : 65530 + 8 ≤ 65536 = inside 0 (range 0 0) (omega arith) in omega (arith, le))
+
+no_byte_touches_none : StaysOff (bytes_from 0) 65536 (range 8 0 ∷ [])
+no_byte_touches_none = one_off (bytes_from 0) 65536 8 0 (λ le. refl)
 
 -- ---- answers that end a run
 abbrev asks_once : Module

@@ -256,8 +256,7 @@ continued m plan n r = after r.events (run (blocking m plan) n r.last)
 abbrev pub blocking_run : Module → Plan → List Outcome → ℕ → Ran State Note
 blocking_run m plan os n = continued m plan n (begun m.start (all_left plan os) (opening m plan.globals))
 
--- The notes of a run with blocking imports up to a total cost of n, and where it then stands: instantiation, start and entries in order; a call of
--- an import is one step.
+-- The notes of a blocking run up to a cost of n, and where it stands: instantiation, start, then the entries in order; an import's call is one step.
 abbrev pub Blocking : Module → Plan → List Outcome → ℕ → Ran State Note
 Blocking m plan os n = blocking_run (Base m) plan os n
 
