@@ -4,6 +4,7 @@ use Rattle.wa_types.specs.declared.values.Value.{Value}
 use Rattle.wa_types.specs.declared.values.Value.TheVariants as V
 use Rattle.wa_types.specs.Pausing.{Settings, every, save_all}
 use Rattle.wa_types.specs.Syntax.{Module}
+use Rattle.wa_model.specs.declared.answers.Said.TheVariants as S
 use Rattle.wa_model.specs.declared.events.End.TheVariants.{Done}
 use Rattle.wa_model.specs.Outside.{Call, called, answered, paused, returned, ended, AnswerLine}
 use Rattle.wa_model.specs.Blocking.{Note, events_of}
@@ -18,7 +19,7 @@ all_listed = record { choice = every; ignore_indirect = false; policy = save_all
 
 -- `env.sleep` is answered by 41, one tick later
 abbrev pub sleep_answer : AnswerLine
-sleep_answer = record { import = codes "env.sleep"; answer = record { value = Some (V.I32 41); pokes = []; ticks = 1 } }
+sleep_answer = record { import = codes "env.sleep"; answer = record { said = S.Value (Some (V.I32 41)); pokes = []; ticks = 1 } }
 
 -- The program over a module whose last function, of index n, is exported as `run`: that is entered with 7. The area is a whole
 -- page, the one import is listed, one answer is given, and there are 100,000,000 steps.

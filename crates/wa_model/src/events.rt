@@ -2,6 +2,8 @@
 
 use wa_types::{Name, Trap, Value};
 
+use crate::answers::Said;
+
 /// A call of a function import: the import's index among the functions, and its arguments in order.
 #[derive(Drop)]
 pub struct Call {
@@ -14,8 +16,8 @@ pub struct Call {
 pub enum Event {
     /// It called an import.
     Called(Call),
-    /// The import's call was answered with this value, where the import has a result.
-    Answered(Option<Value>),
+    /// The import's call was told this.
+    Answered(Said),
     /// It paused for so many ticks, with so many bytes of its area used.
     Paused { ticks: u32, used: u32 },
     /// The entry of this number, from 0, returned.
