@@ -1,9 +1,9 @@
 -- The run of a generated module, rewritten: a call, a pause, its answer, a return, and the end.
-use Rattle.std.specs.Prelude.{◌≡◌, ℕ, List, [], ◌∷◌, Option, Some, true, false, codes}
-use Rattle.wa_types.specs.declared.values.Value.{Value}
+use Rattle.std.specs.Prelude.{◌≡◌, ℕ, List, [], ◌∷◌, Some, true, false, codes}
 use Rattle.wa_types.specs.declared.values.Value.TheVariants as V
 use Rattle.wa_types.specs.Pausing.{Settings, every, save_all}
 use Rattle.wa_types.specs.Syntax.{Module}
+use Rattle.wa_model.specs.declared.answers.Said.{Said}
 use Rattle.wa_model.specs.declared.answers.Said.TheVariants as S
 use Rattle.wa_model.specs.declared.events.End.TheVariants.{Done}
 use Rattle.wa_model.specs.Outside.{Call, called, answered, paused, returned, ended, AnswerLine}
@@ -43,10 +43,10 @@ pub record PausesOnce (w : W.Program) (used value : ℕ) : Type 0 where
   pub notes : List Note
   pub story : IsStory w notes
   pub call : Call
-  pub answer : Option Value
+  pub said : Said
   pub ticks : ℕ
   pub entry : ℕ
-  pub events : events_of notes ≡ called call ∷ paused ticks used ∷ answered answer ∷ returned entry (Some (V.I32 value)) ∷ ended Done ∷ []
+  pub events : events_of notes ≡ called call ∷ paused ticks used ∷ answered said ∷ returned entry (Some (V.I32 value)) ∷ ended Done ∷ []
 
 -- It is the program of the generated module of n functions, rewritten.
 pub record PlaysGenerated (n used value : ℕ) : Type 0 where

@@ -16,11 +16,9 @@ use Rattle.headline.specs.FlatLaw.{FlatLaw}
 use Rattle.guard_runs.proofs.Pausing.{answers_law}
 use Rattle.guard_runs.specs.Pause.{AnswersAt, EntersEntry, SuspendedIn}
 use Rattle.std.proofs.Common.{List, None, [], ap, length, subst, suc, sym, ℕ, ◌*◌, ◌+◌, ◌<◌, ◌^◌, ◌∙◌, ◌∷◌, ◌≡◌, ◌≤◌}
-use Rattle.std.specs.Option.{option_to_list}
 use Rattle.wa_model.specs.Behaves.{AreaKept}
-use Rattle.wa_model.specs.Blocking.{Left, an_entry, bad_poke, poked, resumed}
+use Rattle.wa_model.specs.Blocking.{Left, an_entry, bad_poke, poked}
 use Rattle.wa_model.specs.Configuration.{Activation, Configuration}
-use Rattle.wa_model.specs.Machine.{goes}
 use Rattle.wa_model.specs.Outside.{Answer}
 use Rattle.wa_model.specs.Plan.{Entry}
 use Rattle.wa_model.specs.Protocol.{Held, call_again, calling, held_resumed, rewinds}

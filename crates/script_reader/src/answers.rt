@@ -70,11 +70,7 @@ fn told_answer(
     let ticks = told(u32_in(ticks))?;
     let pokes = all_pokes(alloc, pokes)?;
     let import = copied(alloc, name)?;
-    let answer = Answer {
-        said,
-        pokes,
-        ticks,
-    };
+    let answer = Answer { said, pokes, ticks };
     Ok(Statement::Answer(AnswerLine { import, answer }))
 }
 

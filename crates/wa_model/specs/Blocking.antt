@@ -88,8 +88,7 @@ bad_value results import (S.Value v) = if answers results v then None else Some 
 -- The first test that an answer fails: the value's type; pokes inside the memory, off the area; no pause in start, or of one told as unlisted.
 abbrev pub fault_of : List ValType → (size : ℕ) → Plan → (in_start : Bool) → (import : ℕ) → Answer → Option End
 fault_of results size plan in_start import a =
-    or_else (bad_value results import a.said)
-    (or_else (bad_poke size plan.area a.pokes) (bad_pause in_start (is_unlisted plan.listed import) import a.ticks))
+    or_else (bad_value results import a.said) (or_else (bad_poke size plan.area a.pokes) (bad_pause in_start (is_unlisted plan.listed import) import a.ticks))
 
 -- the ticks of an answer that pauses
 abbrev pub pause_of : (ticks : ℕ) → Option ℕ
@@ -180,8 +179,7 @@ next_entry l = record { number = suc l.number; entries = l.entries; outcomes = l
 -- the start function or an entry has returned
 abbrev pub task_back : ℕ → Task → List Value → Store → Left → Turn State Note
 task_back k the_start results s l = goes k (done_notes s l.entries) (on_to s l l.entries)
-task_back k (an_entry e) results s l =
-    goes k (note (returned l.number (value_of_results results)) s ∷ done_notes s l.entries) (on_to s (next_entry l) l.entries)
+task_back k (an_entry e) results s l = goes k (note (returned l.number (value_of_results results)) s ∷ done_notes s l.entries) (on_to s (next_entry l) l.entries)
 
 -- what is said is told, and given to what waits for it
 abbrev pub go_on : ℕ → Note → Said → Store → Left → Asker → Turn State Note

@@ -74,8 +74,7 @@ pub data Then : Type 0 where
   -- after stop_rewind the answer is given
   give_answer : (waits : Configuration) → Then
 
--- Where a run under the protocol stands: `free` to call the next entry, `starting` the start function, `busy` in a phase, `calling` an export, which
--- runs `aside` on a fresh stack, `entering` the entry again to rewind, or `over`.
+-- Where a run stands: `free` to call an entry, `starting`, `busy` in a phase, `calling` an export that runs `aside`, `entering` again, or `over`.
 pub data Held : Type 0 where
   free : (store : Store) → (left : Left) → Held
   starting : (func : ℕ) → (store : Store) → (left : Left) → Held

@@ -1,8 +1,7 @@
 //! What programs do that can be seen from outside: events, the ends of programs, and the lines of a world.
 
-use wa_types::{Name, Trap, Value};
-
 use crate::answers::Said;
+use wa_types::{Name, Trap, Value};
 
 /// A call of a function import: the import's index among the functions, and its arguments in order.
 #[derive(Drop)]
