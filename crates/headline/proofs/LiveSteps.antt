@@ -100,11 +100,11 @@ module _ (w : World) (Live : Configuration → Configuration → Type 0) (L : (t
           subst (λ o. StaysOff w.plan.area (length (h.chosen).store.memory) o) (sym (lv.reach c h.chosen h.live))
           (subst (λ (s : Store). StaysOff w.plan.area (length s.memory) (next_ranges c)) (sym st) off) in
           next_too top spare (step (base w) c) (step (base w) h.chosen) f (lv.steps_keep c h.chosen h.live) (law.reduces top spare h.chosen f h.link off2);
-      answered = λ top i d f start a h fits none.
+      answered = λ top i d f start a v h fits told none.
           let st = lv.store d h.chosen h.live in
           let none2 = subst (λ (s : Store). fault_of (func_type_at (base w) i).results (length s.memory) w.plan start i a ≡ None) (sym st) none in
-          let fo = subst (λ (s : Store). FlatOn w Live L W G top (4 + w.tests) (resumed h.chosen (poked s a.pokes) (option_to_list a.value)) (resumed f (poked s a.pokes) (option_to_list a.value))) st
-          (law.answered top i h.chosen f start a h.waits fits none2) in
+          let fo = subst (λ (s : Store). FlatOn w Live L W G top (4 + w.tests) (resumed h.chosen (poked s a.pokes) (option_to_list v)) (resumed f (poked s a.pokes) (option_to_list v))) st
+          (law.answered top i h.chosen f start a v h.waits fits told none2) in
           record {
             n = fo.n;
             left = fo.left;
@@ -113,9 +113,9 @@ module _ (w : World) (Live : Configuration → Configuration → Type 0) (L : (t
             goes = fo.goes;
             link =
                 record {
-                  chosen = resumed h.chosen (poked d.store a.pokes) (option_to_list a.value);
+                  chosen = resumed h.chosen (poked d.store a.pokes) (option_to_list v);
                   live =
-                      lv.resumes d h.chosen (poked d.store a.pokes) (option_to_list a.value) h.live;
+                      lv.resumes d h.chosen (poked d.store a.pokes) (option_to_list v) h.live;
                   link = fo.link;
                 };
           };

@@ -1,5 +1,5 @@
 -- What the headline asks of flattening, from the relation.
-use Rattle.std.proofs.Common.{Bool, ◌≡◌, ℕ, ◌*◌, ◌^◌, ◌<◌, List, [], ◌∷◌, length, Some, None, refl, sym, ap, ◌∙◌, subst, arith, ⊎_elim}
+use Rattle.std.proofs.Common.{Bool, ◌≡◌, ℕ, ◌*◌, ◌^◌, ◌<◌, List, [], ◌∷◌, length, Option, Some, None, refl, sym, ap, ◌∙◌, subst, arith, ⊎_elim}
 use Rattle.std.specs.Option.{option_to_list}
 use Rattle.std.proofs.lemmas.List.{length-map}
 use Rattle.wa_types.specs.Memory.{page_size}
@@ -8,12 +8,13 @@ use Rattle.wa_types.specs.Syntax.{Func}
 use Rattle.wa_types.specs.declared.values.ValType.{ValType}
 use Rattle.wa_types.specs.declared.values.Value.{Value}
 use Rattle.wa_types.specs.Typing.{type_of}
-use Rattle.wa_model.specs.Blocking.{answers, fault_of, poked, resumed}
+use Rattle.wa_model.specs.declared.answers.Said.TheVariants as S
+use Rattle.wa_model.specs.Blocking.{bad_value, fault_of, poked, resumed}
 use Rattle.wa_model.specs.Configuration.{Configuration}
 use Rattle.run_theory.specs.Fitting.{CallersFit, Fits, NextFits, StoreFits, WaitingFits, types_of, results_of}
 use Rattle.run_theory.specs.Growth.{ConfigNamed, NextNamed, StoreNamed, Spaces, spaces_of}
 use Rattle.wa_model.specs.Outside.{Answer}
-use Rattle.wa_model.specs.Plan.{AnswerFits, AreLawful}
+use Rattle.wa_model.specs.Plan.{AnswerFits, AreLawful, SaidFits}
 use Rattle.wa_model.specs.Step.{Next, steps, asks, returns, traps, stuck, entered, param_count, step}
 use Rattle.wa_model.specs.Store.{Store}
 use Rattle.wa_model.specs.Untouched.{StaysOff, next_ranges}
@@ -26,7 +27,7 @@ use Rattle.run_laws.specs.Ranges.{ConfigurationIn, NextIn}
 use Rattle.run_laws.proofs.Host.{fault_pokes, optional_in, poked_store_in, store_lower, store_whole}
 use Rattle.run_laws.proofs.Steps.{step_in}
 use Rattle.run_laws.proofs.Stretches.{answers_in_range, calls_in_range}
-use Rattle.run_laws.proofs.SpotRuns.{answer_typed, listed_typed, or_else_first, test_passed}
+use Rattle.run_laws.proofs.SpotRuns.{said_typed, listed_typed, or_else_first}
 use Rattle.run_laws.proofs.SpotSteps.{ConfigurationAtSpots, NextAtSpots, entered_spot, goes_on_behind, steps_spot}
 use Rattle.run_laws.proofs.StandingStates.{ConfigurationAt, NextAt, WaitingAt}
 use Rattle.run_laws.proofs.StandingSteps.{body_stands, step_stands, waited_stands}
@@ -203,20 +204,20 @@ module _ (k : Core) (fit : CoreFits k) (Live : Configuration → Configuration �
             (fault_pokes (func_type_at (based k) i).results (length s.memory) k.plan start i a none) (store_whole 0 s g.ranges));
       }
 
-  answered : (top i : ℕ) (d f : Configuration) (start : Bool) (a : Answer) → LinkedWaits k B A i d f → AnswerFits a
+  answered : (top i : ℕ) (d f : Configuration) (start : Bool) (a : Answer) (v : Option Value) → LinkedWaits k B A i d f → AnswerFits a → a.said ≡ S.Value v
       → fault_of (func_type_at (based k) i).results (length d.store.memory) k.plan start i a ≡ None
-      → FlatOn (world_of k) Live LL WW (GoodStore k) top 4 (resumed d (poked d.store a.pokes) (option_to_list a.value)) (resumed f (poked d.store a.pokes) (option_to_list a.value))
-  answered top i d f start a l fits none =
-      let vs = option_to_list a.value in
+      → FlatOn (world_of k) Live LL WW (GoodStore k) top 4 (resumed d (poked d.store a.pokes) (option_to_list v)) (resumed f (poked d.store a.pokes) (option_to_list v))
+  answered top i d f start a v l fits told none =
+      let vs = option_to_list v in
       let s2 = poked d.store a.pokes in
       let st : d.store ≡ f.store = sym (law.waits_store i d f l.beside) in
       let g : GoodStore k d.store = record { fits = l.fits.store; named = subst (λ s. StoreNamed (spaces_of k.flat) s) (sym st) l.named.store; ranges = l.ranges.store } in
       let g2 = good_poked i d.store start a g fits none in
       let results = (func_type_at (based k) i).results in
-      let typed : types_of vs ≡ results_of (based k) i = answer_typed results a.value (test_passed (answers results a.value) _ (or_else_first _ _ none))
-      ∙ sym (results_are (based k) (based_valid k fit) i) in
+      let passed : bad_value results i (S.Value v) ≡ None = subst (λ z. bad_value results i z ≡ None) told (or_else_first (bad_value results i a.said) _ none) in
+      let typed : types_of vs ≡ results_of (based k) i = said_typed (based k) i results (S.Value v) (results_are (based k) (based_valid k fit) i) passed in
       let flat_typed : types_of vs ≡ results_of k.flat i = typed ∙ sym (results_same k fit i) in
-      let vin = optional_in a.value fits.value in
+      let vin = optional_in v (subst SaidFits told fits.said) in
       let named = l.named in
       let sn = g2.named in
       comes top 4 (resumed d s2 vs) (resumed f s2 vs) l.outs l.flat_outs

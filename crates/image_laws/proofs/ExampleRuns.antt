@@ -165,7 +165,7 @@ compared_there : (policy : Policy) (n : ℕ) → Compared sample (saving policy)
 compared_there policy n = record {
   fits = fits_there;
   listed = refl;
-  outcomes = All-cons OutcomeFits _ [] (record { value = omega arith; pokes = All-nil PokeFits; ticks = omega arith }) (All-nil OutcomeFits);
+  outcomes = All-cons OutcomeFits _ [] (record { said = omega arith; pokes = All-nil PokeFits; ticks = omega arith }) (All-nil OutcomeFits);
   untouched = λ j lt. calm (Blocking sample plan_there outcomes_there j).last (all_along policy j).1;
 }
 

@@ -9,7 +9,7 @@ use Rattle.wa_model.specs.declared.events.End.{End}
 use Rattle.wa_model.specs.declared.events.End.TheVariants as E
 use Rattle.wa_model.specs.declared.events.Event.{Event as EventValue}
 use Rattle.wa_model.specs.declared.events.Event.TheVariants as EV
-use Rattle.wa_model.specs.Outside.{Answer, Call, AnswerLine, Event, called, answered, paused, returned, ended, shown}
+use Rattle.wa_model.specs.Outside.{Call, AnswerLine, Event, called, answered, paused, returned, ended, shown}
 use Rattle.wa_model.specs.View.{answer_of}
 use Rattle.wa_model.specs.Store.{Store}
 use Rattle.wa_model.specs.Plan.{Outcome, given, refused}
@@ -17,6 +17,8 @@ use Rattle.run_theory.specs.Fitting.{types_of, global_types}
 use Rattle.wa_types.specs.Modules.{imported, imported_global, all_memories}
 use Rattle.wa_types.specs.declared.values.Value.{Value}
 use Rattle.wa_model.specs.declared.answers.Area.{Area}
+use Rattle.wa_model.specs.declared.answers.Said.{Said}
+use Rattle.wa_model.specs.declared.answers.Said.TheVariants as SV
 use Rattle.wa_model.specs.Blocking.{Note, note, no_store, Left, Asker, inside, outermost, the_start, an_entry, poked}
 use Rattle.wa_model.specs.Protocol as P
 use Rattle.interp.specs.declared.instance.Instance.{Instance}
@@ -190,9 +192,9 @@ ended_asker s (T.Entry e) (I.inside here under) then h = h (inside (an_entry (en
 ended_asker s (T.Entry e) I.nothing then h = refl
 ended_asker s (T.Entry e) I.outermost then h = refl
 
-told_asker : (l : Left) (a : Answer) (s : Store) (who : Asker) → end_at (answering l a s who) ≡ None
-told_asker l a s (inside task c) = refl
-told_asker l a s (outermost old) = refl
+told_asker : (l : Left) (said : Said) (s : Store) (who : Asker) → end_at (answering l said s who) ≡ None
+told_asker l (SV.Value v) s (inside task c) = refl
+told_asker l (SV.Value v) s (outermost old) = refl
 
 given_asker : (l : Left) (v : Option Value) (s : Store) (who : Asker) → end_at (giving l v s who) ≡ None
 given_asker l v s (inside task c) = refl
@@ -200,7 +202,7 @@ given_asker l v s (outermost old) = refl
 
 pub ended_stage : (x : P.Exports) (area : Area) (l : Left) (s : Store) (waits : Waits) (stage : Stage) → end_at (place_in x area l s waits stage) ≡ end_of stage
 ended_stage x area l s waits S.Free = refl
-ended_stage x area l s waits (S.Answering task a) = ended_asker s task waits (answering l (answer_of a) (poked s (answer_of a).pokes)) (told_asker l (answer_of a) (poked s (answer_of a).pokes))
+ended_stage x area l s waits (S.Answering task a) = ended_asker s task waits (answering l a.said (poked s (answer_of a).pokes)) (told_asker l a.said (poked s (answer_of a).pokes))
 ended_stage x area l s waits (S.Giving task v) = ended_asker s task waits (giving l v s) (given_asker l v s)
 ended_stage x area l s (I.inside here under) (S.Pausing pause) = refl
 ended_stage x area l s I.nothing (S.Pausing pause) = refl

@@ -5,10 +5,12 @@ use Rattle.wa_types.specs.declared.values.Value.TheVariants as V
 use Rattle.wa_types.specs.Syntax.{Module}
 use Rattle.wa_types.specs.Modules.{func_type_at}
 use Rattle.wa_model.specs.declared.answers.Answer.{Answer as AnswerValue}
+use Rattle.wa_model.specs.declared.answers.Said.{Said}
+use Rattle.wa_model.specs.declared.answers.Said.TheVariants as SV
 use Rattle.wa_model.specs.declared.events.Call.{Call as CallValue}
 use Rattle.wa_model.specs.declared.events.End.{End}
 use Rattle.wa_model.specs.declared.events.Event.TheVariants as EV
-use Rattle.wa_model.specs.Outside.{Answer, answered, ended}
+use Rattle.wa_model.specs.Outside.{Answer, Poke, answered, ended}
 use Rattle.wa_model.specs.View.{answer_of, call_of, event_of}
 use Rattle.wa_model.specs.Machine.{Turn, goes}
 use Rattle.wa_model.specs.Store.{Store}
@@ -54,46 +56,47 @@ asking_start (T.Entry e) I.outermost s who h = absurd h
 asking_start (T.Entry e) I.nothing s who h = absurd h
 
 -- where an answer leads that is told next
-record GivenLeads (w : Program) (l : Left) (a : Answer) (task : Task) (waits : Waits) (s : Store) (who : Asker) : Type 0 where
+record GivenLeads (w : Program) (l : Left) (said : Said) (pokes : List Poke) (task : Task) (waits : Waits) (s : Store) (who : Asker) : Type 0 where
   behind : List Note
   to : Held
-  place : with_asker nowhere s task waits (answering l a (poked s a.pokes)) ≡ stands behind to
-  leads : (k : ℕ) (y : Note) (more : List Outcome) → held_given k y a (poked (store_at who) a.pokes) (with_outcomes l more) who ≡ goes k (y ∷ behind) (meeting more to)
+  place : with_asker nowhere s task waits (answering l said (poked s pokes)) ≡ stands behind to
+  leads : (k : ℕ) (y : Note) (more : List Outcome) → held_given k y said (poked (store_at who) pokes) (with_outcomes l more) who ≡ goes k (y ∷ behind) (meeting more to)
 
-given_leads : (w : Program) (l : Left) (a : Answer) (task : Task) (waits : Waits) (s : Store) (who : Asker) → IsAsking task waits s who → GivenLeads w l a task waits s who
-given_leads w l a T.Outermost I.outermost s who h =
-    let s' : Store = poked s a.pokes in
-    subst (GivenLeads w l a T.Outermost I.outermost s) (sym h)
+given_leads : (w : Program) (l : Left) (said : Said) (pokes : List Poke) (task : Task) (waits : Waits) (s : Store) (who : Asker) → IsAsking task waits s who
+    → GivenLeads w l said pokes task waits s who
+given_leads w l (SV.Value v) pokes T.Outermost I.outermost s who h =
+    let s' : Store = poked s pokes in
+    subst (GivenLeads w l (SV.Value v) pokes T.Outermost I.outermost s) (sym h)
     (record {
-      behind = note (answered a.value) s' ∷ done_notes s' l.entries;
+      behind = note (answered (SV.Value v)) s' ∷ done_notes s' l.entries;
       to = held_on s' l l.entries;
       place = refl;
-      leads = λ k y more. ap (goes k (y ∷ note (answered a.value) s' ∷ done_notes s' l.entries)) (on_last s' l l.entries more);
+      leads = λ k y more. ap (goes k (y ∷ note (answered (SV.Value v)) s' ∷ done_notes s' l.entries)) (on_last s' l l.entries more);
     })
-given_leads w l a T.Outermost I.nothing s who h = absurd h
-given_leads w l a T.Outermost (I.inside here under) s who h = absurd h
-given_leads w l a T.Start (I.inside here under) s who h =
-    let s' : Store = poked s a.pokes in
-    subst (GivenLeads w l a T.Start (I.inside here under) s) (sym h)
+given_leads w l said pokes T.Outermost I.nothing s who h = absurd h
+given_leads w l said pokes T.Outermost (I.inside here under) s who h = absurd h
+given_leads w l (SV.Value v) pokes T.Start (I.inside here under) s who h =
+    let s' : Store = poked s pokes in
+    subst (GivenLeads w l (SV.Value v) pokes T.Start (I.inside here under) s) (sym h)
     (record {
-      behind = note (answered a.value) s' ∷ [];
-      to = busy (is_running the_start) (resumed (record { store = s'; here = here; under = under }) s' (option_to_list a.value)) l;
+      behind = note (answered (SV.Value v)) s' ∷ [];
+      to = busy (is_running the_start) (resumed (record { store = s'; here = here; under = under }) s' (option_to_list v)) l;
       place = refl;
       leads = λ k y more. refl;
     })
-given_leads w l a T.Start I.outermost s who h = absurd h
-given_leads w l a T.Start I.nothing s who h = absurd h
-given_leads w l a (T.Entry e) (I.inside here under) s who h =
-    let s' : Store = poked s a.pokes in
-    subst (GivenLeads w l a (T.Entry e) (I.inside here under) s) (sym h)
+given_leads w l said pokes T.Start I.outermost s who h = absurd h
+given_leads w l said pokes T.Start I.nothing s who h = absurd h
+given_leads w l (SV.Value v) pokes (T.Entry e) (I.inside here under) s who h =
+    let s' : Store = poked s pokes in
+    subst (GivenLeads w l (SV.Value v) pokes (T.Entry e) (I.inside here under) s) (sym h)
     (record {
-      behind = note (answered a.value) s' ∷ [];
-      to = busy (is_running (an_entry (entry_of e))) (resumed (record { store = s'; here = here; under = under }) s' (option_to_list a.value)) l;
+      behind = note (answered (SV.Value v)) s' ∷ [];
+      to = busy (is_running (an_entry (entry_of e))) (resumed (record { store = s'; here = here; under = under }) s' (option_to_list v)) l;
       place = refl;
       leads = λ k y more. refl;
     })
-given_leads w l a (T.Entry e) I.outermost s who h = absurd h
-given_leads w l a (T.Entry e) I.nothing s who h = absurd h
+given_leads w l said pokes (T.Entry e) I.outermost s who h = absurd h
+given_leads w l said pokes (T.Entry e) I.nothing s who h = absurd h
 
 -- where one leads that pauses
 record PauseLeads (w : Program) (l : Left) (import ticks : ℕ) (answer : AnswerValue) (task : Task) (waits : Waits) (s : Store) (who : Asker) : Type 0 where
@@ -178,7 +181,7 @@ module _ (w : Program) (h : Held) (l : Left) (left used : ℕ) (call : CallValue
     -- it is told next
     told_given : fault ≡ None → a.ticks ≡ 0 → m.stage ≡ S.Answering task answer → Comes w h left used m supply supply' l s waits
     told_given f t st =
-        let g : GivenLeads w l a task waits s who = given_leads w l a task waits s who asking in
+        let g : GivenLeads w l a.said a.pokes task waits s who = given_leads w l a.said a.pokes task waits s who asking in
         told_call m supply supply' (given a) None g.behind g.to e meets (λ more. tested_is more None None f (ap pause_of t) ∙ g.leads a0.k (told None) more)
         (ap (place_in x w.plan.area l s waits) st ∙ g.place)
 

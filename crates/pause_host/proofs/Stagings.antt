@@ -4,9 +4,10 @@ use Rattle.std.specs.Option.{option_to_list}
 use Rattle.wa_types.specs.declared.values.Value.{Value}
 use Rattle.wa_types.specs.declared.values.Value.TheVariants as V
 use Rattle.wa_types.specs.Syntax.{Module}
-use Rattle.wa_model.specs.declared.answers.Answer.{Answer as AnswerValue}
+use Rattle.wa_model.specs.declared.answers.Said.{Said}
+use Rattle.wa_model.specs.declared.answers.Said.TheVariants as SV
 use Rattle.wa_model.specs.declared.events.Event.TheVariants as EV
-use Rattle.wa_model.specs.Outside.{Answer, answered}
+use Rattle.wa_model.specs.Outside.{answered}
 use Rattle.wa_model.specs.View.{answer_of, event_of}
 use Rattle.wa_model.specs.Store.{Store}
 use Rattle.wa_model.specs.Configuration.{Activation, Configuration}
@@ -35,42 +36,42 @@ module _ (w : Program) where
 
   -- ---- an answer is told
 
-  abbrev Place_of : Store → TV.Task → Waits → Left → Answer → Store → Place
-  Place_of s task waits l a s' = with_asker nowhere s task waits (answering l a s')
+  abbrev Place_of : Store → TV.Task → Waits → Left → Said → Store → Place
+  Place_of s task waits l said s' = with_asker nowhere s task waits (answering l said s')
 
-  told_next : (from : Place) (left : ℕ) (m : Moved) (supply : Supply) (l : Left) (a : Answer) (s' : Store) (waits : Waits) (behind : List Note) (h : Held)
-      → from ≡ stands (note (answered a.value) s' ∷ behind) h → m.event ≡ EV.Answered a.value
+  told_next : (from : Place) (left : ℕ) (m : Moved) (supply : Supply) (l : Left) (said : Said) (s' : Store) (waits : Waits) (behind : List Note) (h : Held)
+      → from ≡ stands (note (answered said) s' ∷ behind) h → m.event ≡ EV.Answered said
       → place_in (exports_of p) w.plan.area l s' waits m.stage ≡ stands behind h → ComesFrom w from left 0 m supply supply l s' waits
-  told_next from left m supply l a s' waits behind h is ev place =
+  told_next from left m supply l said s' waits behind h is ev place =
       subst (λ z. ComesFrom w z left 0 m supply supply l s' waits) (sym is)
       (record {
-        note = note (answered a.value) s';
+        note = note (answered said) s';
         event_is = ap event_of (sym ev);
         store_is = refl;
-        tells = record { outcomes = []; takes = (refl, refl); within = omega arith; lands = goes_on [] behind h (nowhere_on p w.plan h) (append-nil (note (answered a.value) s' ∷ behind)) refl place };
+        tells = record { outcomes = []; takes = (refl, refl); within = omega arith; lands = goes_on [] behind h (nowhere_on p w.plan h) (append-nil (note (answered said) s' ∷ behind)) refl place };
       })
 
-  pub tell_comes : (s : Store) (task : TV.Task) (waits : Waits) (left : ℕ) (m : Moved) (supply : Supply) (l : Left) (answer : AnswerValue) (s' : Store)
-      → PlaceFits w (Place_of s task waits l (answer_of answer) s')
-      → m.event ≡ EV.Answered answer.value → m.stage ≡ stage_told task answer.value
-      → ComesFrom w (Place_of s task waits l (answer_of answer) s') left 0 m supply supply l s' waits
-  tell_comes s T.Outermost I.outermost left m supply l answer s' f ev st =
-      told_next (Place_of s T.Outermost I.outermost l (answer_of answer) s') left m supply l (answer_of answer) s' I.outermost (done_notes s' l.entries) (held_on s' l l.entries) refl ev
+  pub tell_comes : (s : Store) (task : TV.Task) (waits : Waits) (left : ℕ) (m : Moved) (supply : Supply) (l : Left) (said : Said) (s' : Store)
+      → PlaceFits w (Place_of s task waits l said s')
+      → m.event ≡ EV.Answered said → m.stage ≡ stage_told task said
+      → ComesFrom w (Place_of s task waits l said s') left 0 m supply supply l s' waits
+  tell_comes s T.Outermost I.outermost left m supply l (SV.Value v) s' f ev st =
+      told_next (Place_of s T.Outermost I.outermost l (SV.Value v) s') left m supply l (SV.Value v) s' I.outermost (done_notes s' l.entries) (held_on s' l l.entries) refl ev
       (ap (place_in (exports_of p) w.plan.area l s' I.outermost) st)
-  tell_comes s T.Start (I.inside here under) left m supply l answer s' f ev st =
-      told_next (Place_of s T.Start (I.inside here under) l (answer_of answer) s') left m supply l (answer_of answer) s' (I.inside here under) []
-      (busy (is_running the_start) (resumed (record { store = s'; here = here; under = under }) s' (option_to_list answer.value)) l) refl ev
+  tell_comes s T.Start (I.inside here under) left m supply l (SV.Value v) s' f ev st =
+      told_next (Place_of s T.Start (I.inside here under) l (SV.Value v) s') left m supply l (SV.Value v) s' (I.inside here under) []
+      (busy (is_running the_start) (resumed (record { store = s'; here = here; under = under }) s' (option_to_list v)) l) refl ev
       (ap (place_in (exports_of p) w.plan.area l s' (I.inside here under)) st)
-  tell_comes s (T.Entry e) (I.inside here under) left m supply l answer s' f ev st =
-      told_next (Place_of s (T.Entry e) (I.inside here under) l (answer_of answer) s') left m supply l (answer_of answer) s' (I.inside here under) []
-      (busy (is_running (an_entry (entry_of e))) (resumed (record { store = s'; here = here; under = under }) s' (option_to_list answer.value)) l) refl ev
+  tell_comes s (T.Entry e) (I.inside here under) left m supply l (SV.Value v) s' f ev st =
+      told_next (Place_of s (T.Entry e) (I.inside here under) l (SV.Value v) s') left m supply l (SV.Value v) s' (I.inside here under) []
+      (busy (is_running (an_entry (entry_of e))) (resumed (record { store = s'; here = here; under = under }) s' (option_to_list v)) l) refl ev
       (ap (place_in (exports_of p) w.plan.area l s' (I.inside here under)) st)
-  tell_comes s T.Outermost I.nothing left m supply l answer s' f ev st = absurd f
-  tell_comes s T.Outermost (I.inside here under) left m supply l answer s' f ev st = absurd f
-  tell_comes s T.Start I.nothing left m supply l answer s' f ev st = absurd f
-  tell_comes s T.Start I.outermost left m supply l answer s' f ev st = absurd f
-  tell_comes s (T.Entry e) I.nothing left m supply l answer s' f ev st = absurd f
-  tell_comes s (T.Entry e) I.outermost left m supply l answer s' f ev st = absurd f
+  tell_comes s T.Outermost I.nothing left m supply l said s' f ev st = absurd f
+  tell_comes s T.Outermost (I.inside here under) left m supply l said s' f ev st = absurd f
+  tell_comes s T.Start I.nothing left m supply l said s' f ev st = absurd f
+  tell_comes s T.Start I.outermost left m supply l said s' f ev st = absurd f
+  tell_comes s (T.Entry e) I.nothing left m supply l said s' f ev st = absurd f
+  tell_comes s (T.Entry e) I.outermost left m supply l said s' f ev st = absurd f
 
   -- ---- a value is given
 

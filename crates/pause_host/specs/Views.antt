@@ -6,17 +6,21 @@ use Rattle.wa_types.specs.declared.values.Value.TheVariants as V
 use Rattle.wa_model.specs.declared.answers.Area.{Area}
 use Rattle.wa_model.specs.declared.answers.Answer.{Answer as AnswerValue}
 use Rattle.wa_model.specs.declared.answers.AnswerLine.{AnswerLine as AnswerLineValue}
+use Rattle.wa_model.specs.declared.answers.Said.{Said}
+use Rattle.wa_model.specs.declared.answers.Said.TheVariants as SV
 use Rattle.wa_model.specs.declared.events.End.{End}
 use Rattle.wa_model.specs.declared.events.End.TheVariants as E
 use Rattle.wa_model.specs.Outside.{Answer, AnswerLine, answered, ended}
 use Rattle.wa_model.specs.View.{answer_of, answer_line_of}
 use Rattle.wa_model.specs.Store.{Store}
+use Rattle.wa_model.specs.Step.{zero_of}
 use Rattle.wa_model.specs.Plan.{Entry}
 use Rattle.wa_model.specs.Blocking as B
 use Rattle.wa_model.specs.Blocking.{note, poked, resumed, the_start, an_entry, Asker, inside, outermost, done_notes}
 use Rattle.wa_model.specs.Protocol as P
 use Rattle.wa_model.specs.Protocol.{Phase, is_running, unwinds, rewinds, give_zero, call_again, busy, calling, over, held_on, with_words}
 use Rattle.wa_model.specs.World.{Device}
+use Rattle.run_theory.specs.Fitting.{types_of}
 use Rattle.device_port.specs.declared.devices.Devices.{Devices}
 use Rattle.device_port.specs.Listed.{of_all}
 use Rattle.interp.specs.Instance as I
@@ -62,6 +66,10 @@ unwinding pause = unwinds (entry_of pause.entry) pause.import (answer_of pause.a
 abbrev pub rewinding : Pause → (since : Store) → Phase
 rewinding pause since = rewinds (entry_of pause.entry) pause.import (answer_of pause.answer) since
 
+-- zeros of the types of what was said
+abbrev pub zeros_like : Said → List Value
+zeros_like (SV.Value v) = map zero_of (types_of (option_to_list v))
+
 -- ---- stages
 
 -- what waits for the answer, where a task's call of an import does
@@ -71,10 +79,10 @@ with_asker none s T.Start (I.inside here under) then = then (inside the_start (r
 with_asker none s (T.Entry e) (I.inside here under) then = then (inside (an_entry (entry_of e)) (record { store = s; here = here; under = under }))
 with_asker none s _ _ then = none
 
--- an answer is told next, and given: with its pokes
-abbrev pub answering : B.Left → Answer → Store → Asker → Place
-answering l a s (inside task c) = stands (note (answered a.value) s ∷ []) (busy (is_running task) (resumed c s (option_to_list a.value)) l)
-answering l a s (outermost old) = stands (note (answered a.value) s ∷ done_notes s l.entries) (held_on s l l.entries)
+-- what is said is told next, and given, over the store with the pokes
+abbrev pub answering : B.Left → Said → Store → Asker → Place
+answering l (SV.Value v) s (inside task c) = stands (note (answered (SV.Value v)) s ∷ []) (busy (is_running task) (resumed c s (option_to_list v)) l)
+answering l (SV.Value v) s (outermost old) = stands (note (answered (SV.Value v)) s ∷ done_notes s l.entries) (held_on s l l.entries)
 
 -- a value is given
 abbrev pub giving : B.Left → Option Value → Store → Asker → Place
@@ -98,7 +106,7 @@ free_place l s = stands (done_notes s l.entries) (held_on s l l.entries)
 -- the place of a stage over a store, with what waits in the instance
 abbrev pub place_in : P.Exports → Area → B.Left → Store → Waits → Stage → Place
 place_in x area l s w Free = free_place l s
-place_in x area l s w (Answering task answer) = with_asker nowhere s task w (answering l (answer_of answer) (poked s (answer_of answer).pokes))
+place_in x area l s w (Answering task answer) = with_asker nowhere s task w (answering l answer.said (poked s (answer_of answer).pokes))
 place_in x area l s w (Giving task value) = with_asker nowhere s task w (giving l value s)
 place_in x area l s w (Pausing pause) = pausing x area l (entry_of pause.entry) pause.import (answer_of pause.answer) s w
 place_in x area l s w (Paused pause) = paused_at x area l (entry_of pause.entry) pause.import (answer_of pause.answer) s
@@ -113,10 +121,10 @@ end_of _ = None
 -- ---- the stage behind an answer that was told
 
 -- the stage once the answer was told: an import that is the start function waits for nothing
-abbrev pub stage_told : Task → Option Value → Stage
-stage_told T.Outermost value = Free
-stage_told T.Start value = Giving T.Start value
-stage_told (T.Entry e) value = Giving (T.Entry e) value
+abbrev pub stage_told : Task → Said → Stage
+stage_told T.Outermost (SV.Value v) = Free
+stage_told T.Start (SV.Value v) = Giving T.Start v
+stage_told (T.Entry e) (SV.Value v) = Giving (T.Entry e) v
 
 -- ---- the stage behind a call
 

@@ -18,7 +18,7 @@ ghost use Rattle.pause_host.specs.Views.{entry_of, rewinding};
 use crate::ends::ended;
 use crate::exports::{Exported, Work, call_export, is_state, trap_end};
 use crate::memory::write_pokes;
-use crate::stages::{Moved, Pause, Setting, Stage, Task};
+use crate::stages::{Moved, Pause, Setting, Task, stage_told};
 use interp::{Instance, Steps, Turn};
 use std::alloc::AllocError;
 use wa_model::{End, Event};
@@ -134,10 +134,10 @@ fn stop_rewind(
         Exported::Ended(end) => ended(setting.alloc, end),
         Exported::Returned(_) => {
             write_pokes(instance, &pause.answer.pokes)?;
-            let value = pause.answer.value;
+            let said = pause.answer.said;
             let task = Task::Entry(pause.entry);
-            let stage = Stage::Giving { task, value };
-            let event = Event::Answered(value);
+            let stage = stage_told(task, said);
+            let event = Event::Answered(said);
             Ok(Moved { event, stage })
         }
     }

@@ -17,12 +17,12 @@ ghost use Rattle.host_laws.specs.Places.{stands};
 ghost use Rattle.host_laws.specs.Supplies.{Supply};
 ghost use Rattle.pause_host.specs.Hosting.{AsksOnly, CallsOne, HasMemory, HostsAt, StartRan, StopsFirst};
 ghost use Rattle.pause_host.specs.Moves.{Asks, Comes, ComesFrom, HasShortPokes, IsAsking, IsSetting, IsTask, PlaceFits, TaskTurn};
-ghost use Rattle.pause_host.specs.Views.{entry_of, free_place, left_of, lines_in, place_in, stage_after, stage_told, starts, supply_in};
+ghost use Rattle.pause_host.specs.Views.{entry_of, free_place, left_of, lines_in, place_in, stage_after, starts, supply_in};
 
 use crate::asking::next_outcome;
 use crate::ends::ended;
 use crate::memory::write_pokes;
-use crate::stages::{EntryCall, HostImport, Left, Moved, Pause, Setting, Stage, Task};
+use crate::stages::{EntryCall, HostImport, Left, Moved, Pause, Setting, Stage, Task, stage_told};
 use device_port::Devices;
 use host_laws::{Met, answer_fault};
 use interp::{Instance, Steps, Turn};
@@ -342,27 +342,10 @@ pub(crate) fn tell_answer(
     ensures code { code_in instance.new ≡ code_in instance.old }
 {
     write_pokes(instance, &answer.pokes)?;
-    let value = answer.value;
-    let event = Event::Answered(value);
-    let stage = told(task, value);
+    let said = answer.said;
+    let event = Event::Answered(said);
+    let stage = stage_told(task, said);
     Ok(Moved { event, stage })
-}
-
-// Where a program stands behind an answer that was told.
-fn told(task: Task, value: Option<Value>) -> Stage
-    ensures { result ≡ stage_told task value }
-{
-    match task {
-        Task::Outermost => Stage::Free,
-        Task::Start => Stage::Giving {
-            task: Task::Start,
-            value,
-        },
-        Task::Entry(entry) => Stage::Giving {
-            task: Task::Entry(entry),
-            value,
-        },
-    }
 }
 
 /// A value that was told is given to what waits for it.

@@ -17,7 +17,7 @@ ghost use Rattle.interp.specs.Host.{code_in, store_in, waits_in};
 ghost use Rattle.interp.specs.Instance.{inside, nothing};
 ghost use Rattle.host_laws.specs.Supplies.{Supply};
 ghost use Rattle.pause_host.specs.Moves.{Comes, ComesFrom, IsSetting, PlaceFits};
-ghost use Rattle.pause_host.specs.Views.{entry_of, pausing, unwinding};
+ghost use Rattle.pause_host.specs.Views.{entry_of, pausing, unwinding, zeros_like};
 
 use crate::ends::ended;
 use crate::exports::{Exported, Work, call_export, is_state, trap_end};
@@ -25,7 +25,7 @@ use crate::memory::{used_of, write_words};
 use crate::stages::{Moved, Pause, Setting, Stage};
 use interp::{Instance, Steps, Turn};
 use std::alloc::AllocError;
-use wa_model::{End, Event};
+use wa_model::{End, Event, Said};
 use wa_types::Value;
 
 /// Unwinds the stack that waits: the words are written, and `asyncify_start_unwind` is called.
@@ -72,7 +72,7 @@ fn give_zero(
     ensures sum { steps.new.left + steps.new.used ≡ steps.old.left + steps.old.used }
     ensures grows { steps.old.used ≤ steps.new.used }
 {
-    let zero = zero_like(pause.answer.value);
+    let zero = zero_like(pause.answer.said);
     match instance.resume(zero, steps)? {
         Turn::Returned(_) => return test_unwound(setting, instance, steps, pause),
         Turn::Trapped(trap) => {
@@ -84,8 +84,16 @@ fn give_zero(
     }
 }
 
-// A zero of an answer's type, where it has a value.
-fn zero_like(value: Option<Value>) -> Option<Value>
+// A zero of the type of what was said, where that has one.
+fn zero_like(said: Said) -> Option<Value>
+    ensures { option_to_list result ≡ zeros_like said }
+{
+    match said {
+        Said::Value(value) => zero_of_value(value),
+    }
+}
+
+fn zero_of_value(value: Option<Value>) -> Option<Value>
     ensures { option_to_list result ≡ map zero_of (types_of (option_to_list value)) }
 {
     match value {

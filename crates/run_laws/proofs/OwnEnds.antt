@@ -9,6 +9,8 @@ use Rattle.wa_types.specs.Syntax.{Func, Module}
 use Rattle.wa_types.specs.Memory.{page_size}
 use Rattle.wa_types.specs.Modules.{all_memories, all_tables, func_imports, func_type_at, defined_at}
 use Rattle.wa_model.specs.declared.answers.Area.{Area}
+use Rattle.wa_model.specs.declared.answers.Said.{Said}
+use Rattle.wa_model.specs.declared.answers.Said.TheVariants as S
 use Rattle.wa_model.specs.declared.events.End.{End}
 use Rattle.wa_model.specs.declared.events.End.TheVariants.{Done, Trapped, UnwindTrap, RewindTrap, BadAnswer, BadPoke, StepsSpent, Broken}
 use Rattle.wa_model.specs.Outside.{Poke, Answer, Event, answered, paused, returned, ended}
@@ -17,7 +19,7 @@ use Rattle.wa_model.specs.Store.{Store}
 use Rattle.wa_model.specs.Step.{Next, steps, asks, returns, traps, stuck, step}
 use Rattle.wa_model.specs.Plan.{Entry, Plan, Outcome, given, refused, OutcomeFits, IsRefusal}
 use Rattle.wa_model.specs.Instantiation.{Piece, elem_piece, byte_piece, first_out, all_values, least_of, bytes_checked, elems_checked, opened_by, Opening, fails_as, opens, opening}
-use Rattle.wa_model.specs.Blocking.{Note, note, no_store, call_note, value_of_results, answers, poke_fits, bad_poke, is_unlisted, bad_pause, or_else}
+use Rattle.wa_model.specs.Blocking.{Note, note, no_store, call_note, value_of_results, answers, bad_value, poke_fits, bad_poke, is_unlisted, bad_pause, or_else}
 use Rattle.wa_model.specs.Blocking.{fault_of, pause_of, poked, done_notes, Task, the_start, an_entry, Left, with_outcomes, Asker, inside, outermost}
 use Rattle.wa_model.specs.Blocking.{store_at, stack_at, in_start, State, between, begins, runs, halts, on_to, task_back, go_on, tested, asked}
 use Rattle.wa_model.specs.Blocking.{by_step, enters, enter_next, start_called, next_entry, blocking, all_left, begun, Blocking}
@@ -66,15 +68,18 @@ else_own (Some e) b x y = x
 
 fault_own : (results : List ValType) (size : ℕ) (plan : Plan) (start : Bool) (import : ℕ) (a : Answer) → OwnEnd (fault_of results size plan start import a)
 fault_own results size plan start import a =
-    else_own (if answers results a.value then None else Some (BadAnswer import a.value))
+    else_own (bad_value results import a.said)
     (or_else (bad_poke size plan.area a.pokes) (bad_pause start (is_unlisted plan.listed import) import a.ticks))
-    (by_value (answers results a.value))
+    (by_said a.said)
     (else_own (bad_poke size plan.area a.pokes) (bad_pause start (is_unlisted plan.listed import) import a.ticks) (pokes_own size plan.area a.pokes)
     (pause_own start (is_unlisted plan.listed import) import a.ticks))
   where
-    by_value : (b : Bool) → OwnEnd (if b then None else Some (BadAnswer import a.value))
-    by_value true = tt
-    by_value false = refl
+    by_value : (v : Option Value) (b : Bool) → OwnEnd (if b then None else Some (BadAnswer import v))
+    by_value v true = tt
+    by_value v false = refl
+
+    by_said : (said : Said) → OwnEnd (bad_value results import said)
+    by_said (S.Value v) = by_value v (answers results v)
 
 refusal_own : (e : End) → IsRefusal e → is_hosts e ≡ false
 refusal_own (UnwindTrap trap used len) h = absurd h
@@ -140,20 +145,20 @@ module _ (m : Module) (plan : Plan) where
   back_keeps k (an_entry e) results s l h =
       (All-cons Own (note (returned l.number (value_of_results results)) s) (done_notes s l.entries) refl (done_own s l.entries), on_lawful s (next_entry l) l.entries h)
 
-  given_keeps : (k import : ℕ) (args : List Value) (who : Asker) (l : Left) (a : Answer) (pause : Option ℕ) → All OutcomeFits l.outcomes
-      → Keeps (go_on k (call_note import args (store_at who) (stack_at m who) pause) a (poked (store_at who) a.pokes) l who)
-  given_keeps k import args (inside task c) l a pause h =
-      (two_notes (call_note import args c.store (stack_at m (inside task c)) pause) (note (answered a.value) (poked c.store a.pokes)) refl refl, h)
-  given_keeps k import args (outermost old) l a pause h = (
-    All-cons Own (call_note import args old [] pause) (note (answered a.value) (poked old a.pokes) ∷ done_notes (poked old a.pokes) l.entries) refl
-        (All-cons Own (note (answered a.value) (poked old a.pokes)) (done_notes (poked old a.pokes) l.entries) refl (done_own (poked old a.pokes) l.entries)),
-    on_lawful (poked old a.pokes) l l.entries h,
+  given_keeps : (k import : ℕ) (args : List Value) (who : Asker) (l : Left) (said : Said) (s : Store) (pause : Option ℕ) → All OutcomeFits l.outcomes
+      → Keeps (go_on k (call_note import args (store_at who) (stack_at m who) pause) said s l who)
+  given_keeps k import args (inside task c) l (S.Value v) s pause h =
+      (two_notes (call_note import args c.store (stack_at m (inside task c)) pause) (note (answered (S.Value v)) s) refl refl, h)
+  given_keeps k import args (outermost old) l (S.Value v) s pause h = (
+    All-cons Own (call_note import args old [] pause) (note (answered (S.Value v)) s ∷ done_notes s l.entries) refl
+        (All-cons Own (note (answered (S.Value v)) s) (done_notes s l.entries) refl (done_own s l.entries)),
+    on_lawful s l l.entries h,
   )
 
   tested_keeps : (k import : ℕ) (args : List Value) (who : Asker) (l : Left) (a : Answer) (o : Option End) → All OutcomeFits l.outcomes → OwnEnd o → Keeps (tested m k import args who l a o)
   tested_keeps k import args who l a (Some e) h r =
       (two_notes (call_note import args (store_at who) (stack_at m who) None) (note (ended e) (store_at who)) refl r, tt)
-  tested_keeps k import args who l a None h r = given_keeps k import args who l a (pause_of a.ticks) h
+  tested_keeps k import args who l a None h r = given_keeps k import args who l a.said (poked (store_at who) a.pokes) (pause_of a.ticks) h
 
   asked_keeps : (k import : ℕ) (args : List Value) (who : Asker) (l : Left) (os : List Outcome) → All OutcomeFits os → Keeps (asked m plan k import args who l os)
   asked_keeps k import args who l [] h = (one_note (call_note import args (store_at who) (stack_at m who) None) refl, tt)

@@ -10,6 +10,8 @@ use Rattle.wa_types.specs.Syntax.{FuncType, Func, Module}
 use Rattle.wa_types.specs.Pruned.{is_last, pruned}
 use Rattle.wa_types.specs.Modules.{imported, imported_func, func_imports, func_type_at, type_at, or_empty, defined_at}
 use Rattle.wa_types.specs.Pausing.{calls_of, calls_in}
+use Rattle.wa_model.specs.declared.answers.Said.{Said}
+use Rattle.wa_model.specs.declared.answers.Said.TheVariants as S
 use Rattle.wa_model.specs.declared.events.End.{End}
 use Rattle.wa_model.specs.Outside.{Answer, answered, returned}
 use Rattle.wa_model.specs.Machine.{Turn, stops, goes, Ran, after, run}
@@ -285,9 +287,9 @@ task_back_pruned : (k : ℕ) (task : Task) (results : List Value) (s : Store) (l
 task_back_pruned k the_start results s l = ap (goes k (done_notes s l.entries)) (on_to_pruned s l l.entries)
 task_back_pruned k (an_entry e) results s l = goes_pruned k (note (returned l.number (value_of_results results)) s ∷ done_notes s l.entries) s (next_entry l) l.entries
 
-go_on_pruned : (k : ℕ) (x : Note) (a : Answer) (s : Store) (l : Left) (w : Asker) → go_on k x a s l (pruned_asker w) ≡ pruned_turn (go_on k x a s l w)
-go_on_pruned k x a s l (inside task c) = refl
-go_on_pruned k x a s l (outermost old) = goes_pruned k (x ∷ note (answered a.value) s ∷ done_notes s l.entries) s l l.entries
+go_on_pruned : (k : ℕ) (x : Note) (said : Said) (s : Store) (l : Left) (w : Asker) → go_on k x said s l (pruned_asker w) ≡ pruned_turn (go_on k x said s l w)
+go_on_pruned k x (S.Value v) s l (inside task c) = refl
+go_on_pruned k x (S.Value v) s l (outermost old) = goes_pruned k (x ∷ note (answered (S.Value v)) s ∷ done_notes s l.entries) s l l.entries
 
 module _ (m : Module) (plan : Plan) where
   abbrev p : Module
@@ -299,7 +301,7 @@ module _ (m : Module) (plan : Plan) where
 
   tested_pruned : (k import : ℕ) (args : List Value) (w : Asker) (l : Left) (a : Answer) (o : Option End) → tested p k import args (pruned_asker w) l a o ≡ pruned_turn (tested m k import args w l a o)
   tested_pruned k import args w l a (Some e) = rw (store_at_same w, stack_at_same w) refl
-  tested_pruned k import args w l a None = rw (store_at_same w, stack_at_same w) (go_on_pruned k (call_note import args (store_at w) (stack_at m w) (pause_of a.ticks)) a
+  tested_pruned k import args w l a None = rw (store_at_same w, stack_at_same w) (go_on_pruned k (call_note import args (store_at w) (stack_at m w) (pause_of a.ticks)) a.said
       (poked (store_at w) a.pokes) l w)
 
   asked_pruned : (k import : ℕ) (args : List Value) (w : Asker) (l : Left) (os : List Outcome) → asked p plan k import args (pruned_asker w) l os ≡ pruned_turn (asked m plan k import args w l os)

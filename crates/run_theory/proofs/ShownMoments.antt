@@ -7,6 +7,8 @@ use Rattle.wa_types.specs.Syntax.{Func, Module}
 use Rattle.wa_types.specs.Modules.{func_imports, func_type_at, defined_at}
 use Rattle.wa_types.specs.Frames.{Suspended}
 use Rattle.wa_model.specs.declared.answers.Area.{Area}
+use Rattle.wa_model.specs.declared.answers.Said.{Said}
+use Rattle.wa_model.specs.declared.answers.Said.TheVariants as S
 use Rattle.wa_model.specs.declared.events.End.{End}
 use Rattle.wa_model.specs.declared.events.End.TheVariants.{UnwindTrap, BadAnswer, BadPoke}
 use Rattle.wa_model.specs.Outside.{Poke, Answer, Event, ended}
@@ -14,7 +16,7 @@ use Rattle.wa_model.specs.Machine.{Turn, stops, goes, Ran, after, run, Leads, st
 use Rattle.wa_model.specs.Store.{Store}
 use Rattle.wa_model.specs.Step.{Next, steps, asks, returns, traps, stuck, step}
 use Rattle.wa_model.specs.Plan.{Entry, Plan, Outcome, given, refused, OutcomeFits, IsRefusal}
-use Rattle.wa_model.specs.Blocking.{Note, note, events_of, answers, poke_fits, bad_poke, is_unlisted, bad_pause, or_else, fault_of, Task, the_start, an_entry, Left, with_outcomes, Asker}
+use Rattle.wa_model.specs.Blocking.{Note, note, events_of, answers, bad_value, poke_fits, bad_poke, is_unlisted, bad_pause, or_else, fault_of, Task, the_start, an_entry, Left, with_outcomes, Asker}
 use Rattle.wa_model.specs.Blocking.{inside, outermost, store_at, in_start, State, between, begins, runs, halts, done_notes, on_to, next_entry, task_back, call_note, poked, pause_of}
 use Rattle.wa_model.specs.Blocking.{stack_at, go_on, tested, asked, by_step, enters, enter_next, start_called, blocking, store_of}
 use Rattle.wa_model.specs.Behaves.{is_pause_end, unless_end, unless_pause, without_pauses}
@@ -71,15 +73,18 @@ else_honest (Some e) b x y = x
 
 fault_honest : (results : List ValType) (size : ℕ) (plan : Plan) (start : Bool) (import : ℕ) (a : Answer) → Honest_end (fault_of results size plan start import a)
 fault_honest results size plan start import a =
-    else_honest (if answers results a.value then None else Some (BadAnswer import a.value))
+    else_honest (bad_value results import a.said)
     (or_else (bad_poke size plan.area a.pokes) (bad_pause start (is_unlisted plan.listed import) import a.ticks))
-    (by_value (answers results a.value))
+    (by_said a.said)
     (else_honest (bad_poke size plan.area a.pokes) (bad_pause start (is_unlisted plan.listed import) import a.ticks) (pokes_honest size plan.area a.pokes)
     (pause_honest start (is_unlisted plan.listed import) import a.ticks))
   where
-    by_value : (b : Bool) → Honest_end (if b then None else Some (BadAnswer import a.value))
-    by_value true = tt
-    by_value false = refl
+    by_value : (v : Option Value) (b : Bool) → Honest_end (if b then None else Some (BadAnswer import v))
+    by_value v true = tt
+    by_value v false = refl
+
+    by_said : (said : Said) → Honest_end (bad_value results import said)
+    by_said (S.Value v) = by_value v (answers results v)
 
 done_honest : (s : Store) (es : List Entry) → Honest (done_notes s es)
 done_honest s [] = (refl, tt)
@@ -93,14 +98,14 @@ back_honest : (k : ℕ) (task : Task) (results : List Value) (s : Store) (l : Le
 back_honest k the_start results s l h = (done_honest s l.entries, on_lawful s l l.entries h)
 back_honest k (an_entry e) results s l h = ((refl, done_honest s l.entries), on_lawful s (next_entry l) l.entries h)
 
-go_on_honest : (k : ℕ) (x : Note) (a : Answer) (s : Store) (l : Left) (w : Asker) → unless_pause x.event ≡ Some x.event → All OutcomeFits l.outcomes → Honest_turn (go_on k x a s l w)
-go_on_honest k x a s l (inside task c) e h = ((e, (refl, tt)), h)
-go_on_honest k x a s l (outermost old) e h = ((e, (refl, done_honest s l.entries)), on_lawful s l l.entries h)
+go_on_honest : (k : ℕ) (x : Note) (said : Said) (s : Store) (l : Left) (w : Asker) → unless_pause x.event ≡ Some x.event → All OutcomeFits l.outcomes → Honest_turn (go_on k x said s l w)
+go_on_honest k x (S.Value v) s l (inside task c) e h = ((e, (refl, tt)), h)
+go_on_honest k x (S.Value v) s l (outermost old) e h = ((e, (refl, done_honest s l.entries)), on_lawful s l l.entries h)
 
 tested_honest : (m : Module) (k import : ℕ) (args : List Value) (w : Asker) (l : Left) (a : Answer) (o : Option End) → Honest_end o → All OutcomeFits l.outcomes
     → Honest_turn (tested m k import args w l a o)
 tested_honest m k import args w l a (Some e) he h = ((refl, end_honest e (store_at w) he), tt)
-tested_honest m k import args w l a None he h = go_on_honest k (call_note import args (store_at w) (stack_at m w) (pause_of a.ticks)) a (poked (store_at w) a.pokes) l w refl h
+tested_honest m k import args w l a None he h = go_on_honest k (call_note import args (store_at w) (stack_at m w) (pause_of a.ticks)) a.said (poked (store_at w) a.pokes) l w refl h
 
 first_fits : (o : Outcome) (os : List Outcome) → All OutcomeFits (o ∷ os) → OutcomeFits o
 first_fits o os h = let lt : 0 < length (o ∷ os) = omega arith in h 0 o lt

@@ -17,8 +17,8 @@ returns-clause-comes c = λ w l lines left f.
     let waits = waits_in c.args.instance.now in
     let s' = poked s (answer_of c.args.answer).pokes in
     let from = place_in (exports_of w.source) w.plan.area l s waits (S.Answering c.args.task c.args.answer) in
-    let m : Moved = record { event = EV.Answered c.args.answer.value; stage = c.told-stage.result } in
+    let m : Moved = record { event = EV.Answered c.args.answer.said; stage = c.stage_told-stage.result } in
     let written = c.in_ok-write_pokes.ensures.store ∙ ap (λ ps. poked s (map poke_of ps)) c.deref.ensures.value in
     subst (λ z. ComesFrom w from left 0 m lines lines l z (waits_in c.write_pokes.new.instance)) (sym written)
     (subst (λ ws. ComesFrom w from left 0 m lines lines l s' ws) (sym c.write_pokes.ensures.waits)
-    (tell_comes w s c.args.task waits left m lines l c.args.answer s' f refl c.told-stage.ensures))
+    (tell_comes w s c.args.task waits left m lines l c.args.answer.said s' f refl c.stage_told-stage.ensures))

@@ -24,7 +24,7 @@ returns-in-Returned-clause-comes c = λ w l lines here under is code waits f.
     let used = c.resume.new.steps.used - c.args.steps.now.used in
     let m = code_in c.args.instance.now in
     let from = resumed (record { store = s; here = here; under = under }) s (zeros_of w.source c.args.pause.import) in
-    let zero = c.zero_like-zero.ensures ∙ zero_told w.source is.valid c.args.pause.import c.args.pause.answer.value f.2.1 in
+    let zero = c.zero_like-zero.ensures ∙ zero_told w.source is.valid c.args.pause.import c.args.pause.answer.said f.2.1 in
     let awaits = subst (λ ws. Awaits w.source f.0 (types_of (zeros_of w.source c.args.pause.import)) ws) (sym waits)
     (awaits_from w.source f.0 s s here under (zeros_of w.source c.args.pause.import) f.1) in
     let told = c.in_ok-resume.ensures.resumes f.0 (subst (λ z. StoreFits z s) (sym code) f.1.store)
@@ -52,7 +52,7 @@ returns-in-Trapped-clause-comes c = λ w l lines here under is code waits f.
     let used = c.resume.new.steps.used - c.args.steps.now.used in
     let m = code_in c.args.instance.now in
     let from = resumed (record { store = s; here = here; under = under }) s (zeros_of w.source c.args.pause.import) in
-    let zero = c.zero_like-zero.ensures ∙ zero_told w.source is.valid c.args.pause.import c.args.pause.answer.value f.2.1 in
+    let zero = c.zero_like-zero.ensures ∙ zero_told w.source is.valid c.args.pause.import c.args.pause.answer.said f.2.1 in
     let awaits = subst (λ ws. Awaits w.source f.0 (types_of (zeros_of w.source c.args.pause.import)) ws) (sym waits)
     (awaits_from w.source f.0 s s here under (zeros_of w.source c.args.pause.import) f.1) in
     let told = c.in_ok-resume.ensures.resumes f.0 (subst (λ z. StoreFits z s) (sym code) f.1.store)
@@ -77,7 +77,7 @@ returns-in-Waiting-clause-comes c = λ w l lines here under is code waits f.
     let used = c.resume.new.steps.used - c.args.steps.now.used in
     let m = code_in c.args.instance.now in
     let from = resumed (record { store = s; here = here; under = under }) s (zeros_of w.source c.args.pause.import) in
-    let zero = c.zero_like-zero.ensures ∙ zero_told w.source is.valid c.args.pause.import c.args.pause.answer.value f.2.1 in
+    let zero = c.zero_like-zero.ensures ∙ zero_told w.source is.valid c.args.pause.import c.args.pause.answer.said f.2.1 in
     let awaits = subst (λ ws. Awaits w.source f.0 (types_of (zeros_of w.source c.args.pause.import)) ws) (sym waits)
     (awaits_from w.source f.0 s s here under (zeros_of w.source c.args.pause.import) f.1) in
     let told = c.in_ok-resume.ensures.resumes f.0 (subst (λ z. StoreFits z s) (sym code) f.1.store)
@@ -100,7 +100,7 @@ returns-in-StepsSpent-clause-comes c = λ w l lines here under is code waits f.
     let used = c.resume.new.steps.used - c.args.steps.now.used in
     let m = code_in c.args.instance.now in
     let from = resumed (record { store = s; here = here; under = under }) s (zeros_of w.source c.args.pause.import) in
-    let zero = c.zero_like-zero.ensures ∙ zero_told w.source is.valid c.args.pause.import c.args.pause.answer.value f.2.1 in
+    let zero = c.zero_like-zero.ensures ∙ zero_told w.source is.valid c.args.pause.import c.args.pause.answer.said f.2.1 in
     let awaits = subst (λ ws. Awaits w.source f.0 (types_of (zeros_of w.source c.args.pause.import)) ws) (sym waits)
     (awaits_from w.source f.0 s s here under (zeros_of w.source c.args.pause.import) f.1) in
     let told = c.in_ok-resume.ensures.resumes f.0 (subst (λ z. StoreFits z s) (sym code) f.1.store)
