@@ -8,18 +8,17 @@ use Rattle.wa_types.specs.declared.values.Trap.{Trap}
 use Rattle.wa_types.specs.declared.syntax.Export.{Export}
 use Rattle.wa_types.specs.Syntax.{FuncType, Func, GlobalDef, Module}
 use Rattle.wa_types.specs.Modules.{func_imports, func_type_at, defined_at}
-use Rattle.wa_model.specs.declared.answers.Area.{Area}
 use Rattle.wa_model.specs.declared.answers.Said.{Said}
 use Rattle.wa_model.specs.declared.answers.Said.TheVariants as S
 use Rattle.wa_model.specs.declared.events.End.{End}
-use Rattle.wa_model.specs.declared.events.End.TheVariants.{Done, Trapped, BadAnswer, BadPoke, NoAnswer, OtherImport, DeviceFault, NoDevice}
+use Rattle.wa_model.specs.declared.events.End.TheVariants.{Done, Trapped, NoAnswer, OtherImport, DeviceFault, NoDevice}
 use Rattle.wa_model.specs.Outside.{Poke, Answer, answered, returned, ended}
 use Rattle.wa_model.specs.Machine.{Turn, stops, goes, Ran, after, still, pay, run_with}
 use Rattle.wa_model.specs.Store.{Store}
 use Rattle.wa_model.specs.Configuration.{Activation, place_of, suspended}
 use Rattle.wa_model.specs.Step.{Next, steps, asks, returns, traps, stuck, entered, step}
 use Rattle.wa_model.specs.Plan.{Entry, Plan, Outcome, given, refused, OutcomeFits, IsRefusal}
-use Rattle.wa_model.specs.Blocking.{Note, note, call_note, answers, bad_value, poke_fits, bad_poke, is_unlisted, bad_pause, or_else, fault_of, pause_of, poked, Task, the_start, an_entry, Left}
+use Rattle.wa_model.specs.Blocking.{Note, note, call_note, answers, bad_value, bad_poke, is_unlisted, bad_pause, or_else, fault_of, pause_of, poked, Task, the_start, an_entry, Left}
 use Rattle.wa_model.specs.Blocking.{with_outcomes, Asker, inside, outermost, store_at, stack_at, in_start, State, between, begins, runs, halts, done_notes, on_to, value_of_results}
 use Rattle.wa_model.specs.Blocking.{next_entry, task_back, go_on, ends_at_call, tested, asked, by_step, enters, enter_next, start_called, blocking}
 use Rattle.wa_model.specs.Protocol.{Exports, Held, free, starting, busy, over, is_running, held_on, held_back, held_given, held_tested, held_asked, busy_step, busy_enters, held_next}
@@ -28,6 +27,7 @@ use Rattle.wa_model.specs.Behaves.{is_pause_end, unless_end, unless_pause}
 use Rattle.run_theory.specs.Growth.{grown_module, Spaces, spaces_of, Each, ActNamed, StoreNamed, ConfigNamed, grown_store, grown_config}
 use Rattle.run_theory.proofs.GrownSteps.{ModuleNamed, defined_stays, defined_below, func_type_stays, entered_named, step_stays, Stays}
 use Rattle.run_theory.proofs.GrownInstances.{each_append, each_split}
+use Rattle.run_theory.proofs.TestedEnds.{EndIs, fault_is}
 
 -- ---- notes
 
@@ -45,41 +45,11 @@ pub record IsPlainNote (count : ℕ) (x : Note) : Type 0 where
 -- ---- the ends of answers
 
 abbrev PlainFault : Option End → Type 0
-PlainFault None = Unit {0}
-PlainFault (Some e) = is_pause_end e ≡ false
-
-or_else_plain : (a b : Option End) → PlainFault a → PlainFault b → PlainFault (or_else a b)
-or_else_plain None b g h = h
-or_else_plain (Some e) b g h = g
-
-bad_poke_plain : (size : ℕ) (area : Area) (ps : List Poke) → PlainFault (bad_poke size area ps)
-bad_poke_plain size area [] = tt
-bad_poke_plain size area (p ∷ ps) = by_fit (poke_fits size area p) (bad_poke_plain size area ps)
-  where
-    by_fit : (b : Bool) → PlainFault (bad_poke size area ps) → PlainFault (if b then bad_poke size area ps else Some (BadPoke p.at (length p.bytes)))
-    by_fit true h = h
-    by_fit false h = refl
-
-bad_pause_plain : (start unlisted : Bool) (import ticks : ℕ) → PlainFault (bad_pause start unlisted import ticks)
-bad_pause_plain start unlisted import zero = tt
-bad_pause_plain true unlisted import (suc ticks) = refl
-bad_pause_plain false true import (suc ticks) = refl
-bad_pause_plain false false import (suc ticks) = tt
+PlainFault = EndIs (λ e. is_pause_end e ≡ false)
 
 fault_plain : (results : List ValType) (size : ℕ) (plan : Plan) (start : Bool) (import : ℕ) (a : Answer) → PlainFault (fault_of results size plan start import a)
 fault_plain results size plan start import a =
-    or_else_plain (bad_value results import a.said)
-    (or_else (bad_poke size plan.area a.pokes) (bad_pause start (is_unlisted plan.listed import) import a.ticks))
-    (by_said a.said)
-    (or_else_plain (bad_poke size plan.area a.pokes) (bad_pause start (is_unlisted plan.listed import) import a.ticks) (bad_poke_plain size plan.area a.pokes)
-    (bad_pause_plain start (is_unlisted plan.listed import) import a.ticks))
-  where
-    by_value : (v : Option Value) (b : Bool) → PlainFault (if b then None else Some (BadAnswer import v))
-    by_value v true = tt
-    by_value v false = refl
-
-    by_said : (said : Said) → PlainFault (bad_value results import said)
-    by_said (S.Value v) = by_value v (answers results v)
+    fault_is (λ e. is_pause_end e ≡ false) (record { value = λ i v. refl; poke = λ at len. refl; start = λ i. refl }) results size plan start import a (λ h. refl)
 
 second_none : (a b : Option End) → or_else a b ≡ None → b ≡ None
 second_none None b e = e
