@@ -76,9 +76,9 @@ module _ (p : Module) (v : Valid p) (plan : Plan) (ex : ExportsTyped p) where
 
   given_fits : (k import : ℕ) (called : Note) (said : Said) (s : Store) (l : Left) (who : Asker) → StoreFits p s → SaidTyped p import said
       → LeftTyped p l → AskerFits import who → TurnFits (held_given k called said s l who)
-  given_fits k import called (S.Value v) s l (inside task c) so e h w =
-      (any_notes (called ∷ note (answered (S.Value v)) s ∷ []), (w.1, answers_fit p w.1 c s (option_to_list v) so (subst (λ ts. CallersFit p w.1 ts (c.here ∷ c.under)) (sym e) w.2.waits), w.0, h))
-  given_fits k import called (S.Value v) s l (outermost old) so e h w = (any_notes (called ∷ note (answered (S.Value v)) s ∷ done_notes s l.entries), on_fits s l l.entries refl so h)
+  given_fits k import called (S.Value value) s l (inside task c) so e h w =
+      (any_notes (called ∷ note (answered (S.Value value)) s ∷ []), (w.1, answers_fit p w.1 c s (option_to_list value) so (subst (λ ts. CallersFit p w.1 ts (c.here ∷ c.under)) (sym e) w.2.waits), w.0, h))
+  given_fits k import called (S.Value value) s l (outermost old) so e h w = (any_notes (called ∷ note (answered (S.Value value)) s ∷ done_notes s l.entries), on_fits s l l.entries refl so h)
 
   pauses_fit : (k import : ℕ) (called : Note) (a : Answer) (l : Left) (who : Asker) → SaidTyped p import a.said → LeftTyped p l → AskerFits import who
       → TurnFits (held_pauses x plan k called import a l who)
@@ -124,9 +124,9 @@ module _ (p : Module) (v : Valid p) (plan : Plan) (ex : ExportsTyped p) where
 
   resumed_fits : (k import : ℕ) (e : Entry) (said : Said) (sp : Store) (c : Configuration) (l : Left) (s : Store) → EntryTyped p e → SaidTyped p import said → Waits p import c
       → LeftTyped p l → StoreFits p s → TurnFits (held_resumed k e said sp c l s)
-  resumed_fits k import e (S.Value v) sp c l s t typed w h so = (
-    any_notes (answer_note (S.Value v) s sp ∷ []),
-    (w.0, answers_fit p w.0 c s (option_to_list v) so (subst (λ ts. CallersFit p w.0 ts (c.here ∷ c.under)) (sym typed) w.1), t, h),
+  resumed_fits k import e (S.Value value) sp c l s t typed w h so = (
+    any_notes (answer_note (S.Value value) s sp ∷ []),
+    (w.0, answers_fit p w.0 c s (option_to_list value) so (subst (λ ts. CallersFit p w.0 ts (c.here ∷ c.under)) (sym typed) w.1), t, h),
   )
 
   aside_back_fits : (k : ℕ) (ph : Phase) (th : Then) (l : Left) (results : List Value) (s : Store) → PhaseTyped p ph → ThenFits p ph th
@@ -208,8 +208,8 @@ module _ (p : Module) (v : Valid p) (plan : Plan) (ex : ExportsTyped p) where
   ticks_told (suc n) t e = (n, refl)
 
   given_goes : (k : ℕ) (called : Note) (said : Said) (s : Store) (l : Left) (who : Asker) → held_given k called said s l who ≡ stops → ⊥
-  given_goes k called (S.Value v) s l (inside task c) e = cc
-  given_goes k called (S.Value v) s l (outermost old) e = cc
+  given_goes k called (S.Value value) s l (inside task c) e = cc
+  given_goes k called (S.Value value) s l (outermost old) e = cc
 
   tested_goes : (k import : ℕ) (args : List Value) (who : Asker) (l : Left) (a : Answer) (o : Option End) (pause : Option ℕ) → (o ≡ None → (t : ℕ) → pause ≡ Some t → in_start who ≡ false)
       → held_tested p x plan k import args who l a o pause ≡ stops → ⊥
@@ -248,7 +248,7 @@ module _ (p : Module) (v : Valid p) (plan : Plan) (ex : ExportsTyped p) where
   busy_goes ph l outs stuck n e = n
 
   resumed_goes : (k : ℕ) (y : Entry) (said : Said) (sp : Store) (c : Configuration) (l : Left) (s : Store) → held_resumed k y said sp c l s ≡ stops → ⊥
-  resumed_goes k y (S.Value v) sp c l s e = cc
+  resumed_goes k y (S.Value value) sp c l s e = cc
 
   aside_back_goes : (k : ℕ) (ph : Phase) (th : Then) (l : Left) (results : List Value) (s : Store) → ThenFits p ph th → aside_back p x plan k ph th l results s ≡ stops → ⊥
   aside_back_goes k (unwinds y i a) (give_zero c) l results s w e = cc

@@ -178,11 +178,11 @@ module _ (b : Module) (v : Valid b) (plan : Plan) where
 
   go_on_spots : (k import : ℕ) (x : Note) (said : Said) (s : Store) (l : Left) (who : Asker) → NoteAtPoints x → StoreFits b s → SaidTyped b import said
       → LeftTyped l → AskerAtSpots import who → TurnAtSpots (go_on k x said s l who)
-  go_on_spots k import x (S.Value v) s l (inside task c) nx so e h w =
+  go_on_spots k import x (S.Value value) s l (inside task c) nx so e h w =
       let stack = w.waits in
-      (two x _ nx none, (record { store = so; here = goes_on_behind b import c.here (option_to_list v) stack.0 e; under = stack.1 }, h))
-  go_on_spots k import x (S.Value v) s l (outermost old) nx so e h w =
-      (All-append NoteAtPoints (x ∷ note (answered (S.Value v)) s ∷ []) (done_notes s l.entries) (two x _ nx none) (done_points s l.entries), on_spots s l l.entries so h)
+      (two x _ nx none, (record { store = so; here = goes_on_behind b import c.here (option_to_list value) stack.0 e; under = stack.1 }, h))
+  go_on_spots k import x (S.Value value) s l (outermost old) nx so e h w =
+      (All-append NoteAtPoints (x ∷ note (answered (S.Value value)) s ∷ []) (done_notes s l.entries) (two x _ nx none) (done_points s l.entries), on_spots s l l.entries so h)
 
   poked_fits : (s : Store) (a : Answer) → StoreFits b s → StoreFits b (poked s a.pokes)
   poked_fits s a so = record { globals = so.globals; table = so.table }

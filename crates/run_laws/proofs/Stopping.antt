@@ -66,9 +66,9 @@ module _ (b : Module) (v : Valid b) (plan : Plan) where
 
   go_on_fits : (k import : ℕ) (x : Note) (said : Said) (s : Store) (l : Left) (who : Asker) → StoreFits b s → SaidTyped b import said
       → LeftTyped b l → AskerFits import who → TurnFits (go_on k x said s l who)
-  go_on_fits k import x (S.Value v) s l (inside task c) so e h w =
-      (any_notes (x ∷ note (answered (S.Value v)) s ∷ []), (w.0, answers_fit b w.0 c s (option_to_list v) so (subst (λ ts. CallersFit b w.0 ts (c.here ∷ c.under)) (sym e) w.1.waits), h))
-  go_on_fits k import x (S.Value v) s l (outermost old) so e h w = (any_notes (x ∷ note (answered (S.Value v)) s ∷ done_notes s l.entries), on_fits s l l.entries refl so h)
+  go_on_fits k import x (S.Value value) s l (inside task c) so e h w =
+      (any_notes (x ∷ note (answered (S.Value value)) s ∷ []), (w.0, answers_fit b w.0 c s (option_to_list value) so (subst (λ ts. CallersFit b w.0 ts (c.here ∷ c.under)) (sym e) w.1.waits), h))
+  go_on_fits k import x (S.Value value) s l (outermost old) so e h w = (any_notes (x ∷ note (answered (S.Value value)) s ∷ done_notes s l.entries), on_fits s l l.entries refl so h)
 
   tested_fits : (k import : ℕ) (args : List Value) (who : Asker) (l : Left) (a : Answer) (o : Option End) → LeftTyped b l → AskerFits import who
       → (o ≡ None → SaidTyped b import a.said) → TurnFits (tested b k import args who l a o)
@@ -132,8 +132,8 @@ module _ (b : Module) (v : Valid b) (plan : Plan) where
   -- ---- where it stops
 
   go_on_goes : (k : ℕ) (x : Note) (said : Said) (s : Store) (l : Left) (w : Asker) → go_on k x said s l w ≡ stops → ⊥
-  go_on_goes k x (S.Value v) s l (inside task c) e = cc
-  go_on_goes k x (S.Value v) s l (outermost old) e = cc
+  go_on_goes k x (S.Value value) s l (inside task c) e = cc
+  go_on_goes k x (S.Value value) s l (outermost old) e = cc
 
   asked_goes : (k import : ℕ) (args : List Value) (who : Asker) (l : Left) (os : List Outcome) → asked b plan k import args who l os ≡ stops → ⊥
   asked_goes k import args who l [] e = cc

@@ -10,7 +10,7 @@ pub struct Poke {
 }
 
 /// What an import's call is told: a value where the import has a result.
-#[derive(Clone, Copy, Debug, PartialEq, Eq)]
+#[derive(Clone, Copy)]
 pub enum Said {
     Value(Option<Value>),
 }
