@@ -1,6 +1,6 @@
 -- What an index of listed names has, one entry more.
 use Rattle.std.proofs.Common.{◌≡◌, ℕ, List, [], ◌∷◌, ◌++◌, Option, Some, None, Bool, true, false, ◌||◌, nat_eq, refl, sym, ap, ◌∙◌}
-use Rattle.std.specs.List.{list_any, starts_with}
+use Rattle.std.specs.List.{starts_with}
 use Rattle.std.specs.Option.{is_some}
 use Rattle.std.specs.Cmp.Lexicographic.{pointwise, bytes_decides}
 use Rattle.std.specs.Borrow.{Bor}
@@ -11,11 +11,8 @@ use Rattle.wa_types.specs.Modules.{imported_func}
 use Rattle.wa_types.specs.Pausing.{Choice, beginning, exactly, names, is_listed, listed_import, joined_name}
 use Rattle.std.specs.BTreeSet.{insert_key}
 use Rattle.wasm_validate.proofs.OrderedNames.{by_name, any_named, one_more}
+use Rattle.call_graph.specs.Index.{any_begins}
 use Rattle.call_graph.proofs.ListLemmas.{names_exact}
-
--- the name begins with one of the texts
-abbrev pub any_begins : List (Bor (List ℕ)) → List ℕ → Bool
-any_begins texts name = list_any (λ (b : Bor (List ℕ)). starts_with nat_eq name b.now) texts
 
 or_false : (b : Bool) → (b || false) ≡ b
 or_false true = refl

@@ -1,3 +1,4 @@
+pub mod Beginnings
 pub mod CallLemmas
 pub mod CallerLemmas
 pub mod EntryLemmas

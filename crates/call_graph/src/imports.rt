@@ -1,10 +1,10 @@
 //! Which function imports of a module are listed, by their joined names.
 
 ghost use Rattle.std.specs.Prelude.{◌≡◌, ◌||◌, ℕ, List, IfOk, OnOk, false, is_some, nat_eq, true};
-ghost use Rattle.std.specs.List.{filter_map, list_any, starts_with};
+ghost use Rattle.std.specs.List.{filter_map, starts_with};
 ghost use Rattle.std.specs.String.{string_bytes};
 ghost use Rattle.call_graph.specs.Entries.{entry_of};
-ghost use Rattle.call_graph.specs.Index.{indexed};
+ghost use Rattle.call_graph.specs.Index.{Apart, any_begins, indexed};
 ghost use Rattle.call_graph.specs.Settings.{choice_of, settings_of};
 ghost use Rattle.wa_types.specs.Modules.{imported_func};
 ghost use Rattle.wa_types.specs.Pausing.{Choice as Selection, Listed, is_listed, joined_name, listed_import, names, of_list};
@@ -17,16 +17,18 @@ use std::collections::BTreeSet;
 use wa_types::{Import, ImportKind};
 use wasm_validate::Valid;
 
-/// Listed names, to be looked up: whole ones in order, so that whoever chooses them can't make a look-up slow.
+/// Listed names, to be looked up. Whole ones and beginnings are in order, so that whoever chooses them can't make a look-up slow.
 #[derive(Drop)]
 pub(crate) struct Index<'a> {
     names: BTreeSet<&'a str>,
+    /// Of those that begin with one another the shortest, once all are put.
     beginnings: Vec<&'a str>,
 }
 
 impl<'a> Index<'a> {
     fn of(alloc: Global, choice: &'a Choice) -> Result<Index<'a>, AllocError>
-        ensures { IfOk result (λ index. (name : List ℕ) → indexed index name ≡ is_listed (choice_of choice.now) name) }
+        ensures apart { IfOk result (λ index. Apart index.beginnings.items) }
+        ensures names { IfOk result (λ index. (name : List ℕ) → indexed index name ≡ is_listed (choice_of choice.now) name) }
     {
         match choice {
             Choice::Every => Index::every(alloc),
@@ -36,7 +38,8 @@ impl<'a> Index<'a> {
     }
 
     fn empty(alloc: Global) -> Index<'a>
-        ensures { (name : List ℕ) → indexed result name ≡ false }
+        ensures apart { Apart result.beginnings.items }
+        ensures names { (name : List ℕ) → indexed result name ≡ false }
     {
         Index {
             names: BTreeSet::new(alloc),
@@ -46,7 +49,8 @@ impl<'a> Index<'a> {
 
     /// All names: each begins with the empty text.
     fn every(alloc: Global) -> Result<Index<'a>, AllocError>
-        ensures { IfOk result (λ index. (name : List ℕ) → indexed index name ≡ true) }
+        ensures apart { IfOk result (λ index. Apart index.beginnings.items) }
+        ensures names { IfOk result (λ index. (name : List ℕ) → indexed index name ≡ true) }
     {
         let names = BTreeSet::new(alloc);
         let mut beginnings = Vec::new(alloc);
@@ -55,12 +59,14 @@ impl<'a> Index<'a> {
     }
 
     fn of_list(alloc: Global, list: &'a ImportList) -> Result<Index<'a>, AllocError>
-        ensures { IfOk result (λ index. (name : List ℕ) → indexed index name ≡ is_listed (of_list list.now) name) }
+        ensures apart { IfOk result (λ index. Apart index.beginnings.items) }
+        ensures names { IfOk result (λ index. (name : List ℕ) → indexed index name ≡ is_listed (of_list list.now) name) }
     {
         let mut index = Index::empty(alloc);
         for entry in list.entries() {
             index.put(entry)?;
         }
+        keep_shortest(&mut index.beginnings)?;
         Ok(index)
     }
 
@@ -80,6 +86,7 @@ impl<'a> Index<'a> {
     }
 
     fn names(&self, name: &str) -> bool
+        requires { Apart self.now.beginnings.items }
         ensures { result ≡ indexed self.now name.now }
     {
         if self.names.contains(name) {
@@ -89,6 +96,7 @@ impl<'a> Index<'a> {
     }
 
     fn names_import(&self, alloc: Global, import: &Import) -> Result<bool, AllocError>
+        requires { Apart self.now.beginnings.items }
         ensures { IfOk result (λ b. b ≡ indexed self.now (joined_name import.now)) }
     {
         let joined = join_names(alloc, import)?;
@@ -96,8 +104,7 @@ impl<'a> Index<'a> {
     }
 }
 
-/// Whether each function import is listed. Takes time near linear in the imports and the list, where the list has few
-/// beginnings.
+/// Whether each function import is listed. Takes time near linear in the imports and the list.
 pub fn listed_imports(
     alloc: Global,
     valid: &Valid,
@@ -111,6 +118,7 @@ pub fn listed_imports(
 
 /// Whether each function import is one of those in the index.
 fn marks_of(alloc: Global, index: &Index, imports: &[Import]) -> Result<Vec<bool>, AllocError>
+    requires { Apart index.now.beginnings.items }
     ensures { IfOk result (λ v. (k : Selection) → ((name : List ℕ) → indexed index.now name ≡ is_listed k name) → v.items ≡ filter_map (λ i. listed_import k i (imported_func i.kind)) imports.now) }
 {
     let mut marks = Vec::new(alloc);
@@ -129,11 +137,27 @@ fn is_func(kind: ImportKind) -> bool
     matches!(kind, ImportKind::Func(_))
 }
 
-/// Whether the name begins with one of the texts.
-fn any_begins(texts: &[&str], name: &str) -> bool
-    ensures { result ≡ list_any (λ text. starts_with nat_eq name.now text.now) texts.now }
+/// Puts beginnings in order, and leaves out those that begin with another.
+fn keep_shortest(texts: &mut Vec<&str>) -> Result<(), AllocError>
+    ensures apart { OnOk result (Apart texts.new.items) }
+    ensures any { OnOk result ((name : List ℕ) → any_begins texts.new.items name ≡ any_begins texts.old.items name) }
 {
-    texts.iter().any(|text| begins_with(name, text))
+    texts.sort()?;
+    texts.dedup_by(|text, front| begins_with(text, front));
+    Ok(())
+}
+
+/// Whether the name begins with one of the texts: that can be the last that isn't behind it, as all from a beginning of the name
+/// up to the name begin with it.
+fn any_begins(texts: &[&str], name: &str) -> bool
+    requires { Apart texts.now }
+    ensures { result ≡ any_begins texts.now name.now }
+{
+    let count = texts.partition_point(|text| *text <= name);
+    if count == 0 {
+        return false;
+    }
+    begins_with(name, texts[count - 1])
 }
 
 fn begins_with(name: &str, text: &str) -> bool

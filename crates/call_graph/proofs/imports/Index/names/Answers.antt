@@ -1,8 +1,12 @@
-use Rattle.std.proofs.Common.{List, ℕ, sym, ap, ◌∙◌}
+use Rattle.std.proofs.Common.{List, ℕ, sym, ap, subst, ◌∙◌}
 use Rattle.std.specs.Borrow.{Bor}
 use Rattle.wasm_validate.proofs.OrderedNames.{any_named, found}
-use Rattle.call_graph.proofs.IndexLemmas.{any_begins, or_first, or_second}
+use Rattle.call_graph.specs.Index.{any_begins, Apart}
+use Rattle.call_graph.proofs.IndexLemmas.{or_first, or_second}
 use Rattle.call_graph.proofs.imports.Index.names.Goals as goal
+
+pub any_begins-requires : goal.any_begins-requires
+any_begins-requires c = subst Apart (sym c.deref.ensures.value) c.requires
 
 pub returns : goal.returns
 returns c =
