@@ -112,6 +112,7 @@ module _ (w : W.Program) where
             pokes = subst (All HasShortPokes) (sym same_lines) (pokes_then (call_in m.note.event) old t.outcomes new t.takes (subst (All HasShortPokes) (sym old_lines) f.pokes));
             fits = subst (PlaceFits w) (sym same_place) (fits_then ready h t.outcomes x.steps_left m.note used to f.setting.valid f.setting.typed f.fits t.lands);
             holds = subst (PlaceHolds w) (sym same_place) (holds_then w ready h t.outcomes x.steps_left m.note used to f.holds t.lands);
+            few_steps = f.few_steps;
             told = subst (IsAt w (notes ++ m.note ∷ []) (os ++ more.0) x'.steps_left) (sym same_place)
                 (subst (λ n. IsAt w (notes ++ m.note ∷ []) (os ++ more.0) n to) (sym same_steps) more.2);
           };
@@ -244,7 +245,7 @@ memory_told w x instance stage is code = by_test (nat_lt 0 (length (all_memories
 
 -- the same of a program in another state
 pub in_state : (w : W.Program) (notes : List Note) (os : List Outcome) (x : Program) (st : State) (place : Place) → FollowsAt w notes os x place → FollowsAt w notes os (record x { state = st }) place
-in_state w notes os x st place f = record { source = f.source; setting = f.setting; globals = f.globals; pokes = f.pokes; fits = f.fits; holds = f.holds; told = f.told }
+in_state w notes os x st place f = record { source = f.source; setting = f.setting; globals = f.globals; pokes = f.pokes; fits = f.fits; holds = f.holds; few_steps = f.few_steps; told = f.told }
 
 -- who follows a program is on its way
 pub on_its_way_by : (w : W.Program) (notes : List Note) (os : List Outcome) (x : Program) → Follows w notes os x → IsOnItsWay x

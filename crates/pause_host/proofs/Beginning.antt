@@ -176,6 +176,7 @@ module _ (x : Plan) (funcs : List ℕ) (looks : List Look) (binds : List (Option
         pokes = subst (λ xs. All HasShortPokes (lines_in xs)) (sym answers) plan.pokes;
         fits = subst (PlaceFits w) (sym place_is) (begun (all_left w.plan []) refl);
         holds = subst (PlaceHolds w) (sym place_is) begun_there;
+        few_steps = plan.few_steps;
         told = subst (IsAt w [] [] program.steps_left) (sym place_is)
             (subst (λ n. IsAt w [] [] n (stands (opened w.source w.plan).events (opened w.source w.plan).last)) (sym steps) (nothing_told_yet w));
       }

@@ -139,6 +139,7 @@ pub record FollowsAt (w : W.Program) (notes : List Note) (os : List Outcome) (x 
   pub pokes : All HasShortPokes (lines_left x)
   pub fits : PlaceFits w place
   pub holds : PlaceHolds w place
+  pub few_steps : w.steps ≤ 1000000000
   pub told : IsAt w notes os x.steps_left place
 
 -- It has told these notes, its calls met these outcomes, and it goes on.
