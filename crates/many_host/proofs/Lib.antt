@@ -3,6 +3,7 @@ pub mod Begun
 pub mod Completed
 pub mod Counted
 pub mod Counts
+pub mod DueTicks
 pub mod FewTurns
 pub mod Further
 pub mod Notes

@@ -119,8 +119,9 @@ impl<T: Teller + Drop> Turns<T> {
         let Some(turn) = next_turn(&self.dues) else {
             return Ok(None);
         };
-        self.begun += 1;
-        detach_before(devices, &self.detaches, self.begun);
+        let begun = self.begun + 1;
+        self.begun = begun;
+        detach_before(devices, &self.detaches, begun);
         Ok(Some(self.tell(turn, devices)?))
     }
 
