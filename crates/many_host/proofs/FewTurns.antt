@@ -60,13 +60,12 @@ tells_turns programs detaches ds (suc count) lines tellers ds' h =
     omega (arith, before, set, more, one, all)
 
 -- each has told no more than this
-few_of_each : (most : ℕ) (ts : List Teller) → ((i : ℕ) (t : Teller) → slice_get ts i ≡ Some t → turns_in t.told ≤ most) → told_turns ts ≤ length ts * most
-few_of_each most [] each = omega arith
-few_of_each most (t ∷ ts) each =
-    let first : turns_in t.told ≤ most = each 0 t refl in
-    let rest = few_of_each most ts (λ i. each (suc i)) in
-    let sum : suc (length ts) * most ≡ most + length ts * most = refl in
-    omega (arith, first, rest, sum)
+few_of_each : (ts : List Teller) → ((i : ℕ) (t : Teller) → slice_get ts i ≡ Some t → turns_in t.told ≤ 250000001) → told_turns ts ≤ length ts * 250000001
+few_of_each [] each = omega arith
+few_of_each (t ∷ ts) each =
+    let first : turns_in t.told ≤ 250000001 = each 0 t refl in
+    let rest = few_of_each ts (λ i. each (suc i)) in
+    omega (arith, first, rest)
 
 module _ (programs : List Program) (detaches : List Detach) (ds : List Device) (lines : List Line) (h : Held Hosted) (ds' : List Device) (stage : Stage)
     (s : Standing follows has_ended memory_of programs detaches ds lines h ds' stage) (few : length h.programs ≤ 16) where
@@ -83,7 +82,7 @@ module _ (programs : List Program) (detaches : List Detach) (ds : List Device) (
 
   all_few : told_turns s.tellers ≤ 4000000016
   all_few =
-      let many = few_of_each 250000001 s.tellers each_few in
+      let many = few_of_each s.tellers each_few in
       let count : length s.tellers ≤ 16 = (let e = s.wide in let k = s.as_many in omega arith) in
       omega (arith, many, count)
 
