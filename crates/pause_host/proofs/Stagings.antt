@@ -1,5 +1,5 @@
 -- What the place of a stage says of what waits in the instance.
-use Rattle.std.proofs.Common.{◌≡◌, ℕ, ◌-◌, List, [], ◌∷◌, Option, refl, sym, ap, subst, append-nil, arith}
+use Rattle.std.proofs.Common.{◌≡◌, ℕ, ◌-◌, List, [], ◌∷◌, Option, Bool, true, false, cond, refl, sym, ap, subst, append-nil, arith}
 use Rattle.std.specs.Option.{option_to_list}
 use Rattle.wa_types.specs.declared.values.Value.{Value}
 use Rattle.wa_types.specs.declared.values.Value.TheVariants as V
@@ -26,6 +26,7 @@ use Rattle.pause_host.specs.declared.stages.Moved.{Moved}
 use Rattle.pause_host.specs.declared.stages.Pause.{Pause}
 use Rattle.pause_host.specs.declared.stages.Task as TV
 use Rattle.pause_host.specs.declared.stages.Task.TheVariants as T
+use Rattle.pause_host.specs.Holding.{is_held}
 use Rattle.pause_host.specs.Views.{entry_of, stage_told, with_asker, answering, giving, pausing, unwinding, place_in}
 use Rattle.pause_host.specs.Moves.{ComesFrom, PlaceFits, TaskTurn, runs_on, IsTask}
 use Rattle.pause_host.proofs.Fronts.{awaits_from}
@@ -73,6 +74,11 @@ module _ (w : Program) where
   tell_comes s (T.Entry e) I.nothing left m supply l said s' f ev st = absurd f
   tell_comes s (T.Entry e) I.outermost left m supply l said s' f ev st = absurd f
 
+  -- its pokes lie inside where the program stands
+  pub answer_inside : (b : Bool) (at : Place) → PlaceFits w (cond b at nowhere) → b ≡ true
+  answer_inside true at f = refl
+  answer_inside false at f = absurd f
+
   -- ---- a value is given
 
   -- the place, and what waits there for the value
@@ -117,6 +123,7 @@ module _ (w : Program) where
   -- ---- a pause
 
   pub record Pauses (pause : Pause) (waits : Waits) (l : Left) (s : Store) : Type 0 where
+    pub held : is_held w.plan.area s ≡ true
     pub here : Activation
     pub under : List Activation
     pub waits_is : waits ≡ I.inside here under
@@ -127,6 +134,14 @@ module _ (w : Program) where
 
   pub pauses : (pause : Pause) (waits : Waits) (l : Left) (s : Store) → PlaceFits w (pausing (exports_of p) w.plan.area l (entry_of pause.entry) pause.import
       (answer_of pause.answer) s waits) → Pauses pause waits l s
-  pauses pause (I.inside here under) l s f = record { here = here; under = under; waits_is = refl; place_is = refl; fits = f }
+  pauses pause (I.inside here under) l s f = by (is_held w.plan.area s) refl f
+    where
+      at : Place
+      at = stands [] (calling (unwinding pause) (with_words s w.plan.area) (exports_of p).start_unwind (V.I32 w.plan.area.at ∷ [])
+          (give_zero (record { store = s; here = here; under = under })) l)
+
+      by : (b : Bool) → is_held w.plan.area s ≡ b → PlaceFits w (cond b at nowhere) → Pauses pause (I.inside here under) l s
+      by true e k = record { held = e; here = here; under = under; waits_is = refl; place_is = ap (λ z. cond z at nowhere) e; fits = k }
+      by false e k = absurd k
   pauses pause I.nothing l s f = absurd f
   pauses pause I.outermost l s f = absurd f

@@ -1,5 +1,5 @@
 -- The place of the protocol's machine for which a stage stands.
-use Rattle.std.specs.Prelude.{ℕ, zero, suc, Bool, true, false, List, [], ◌∷◌, map, Option, Some, None}
+use Rattle.std.specs.Prelude.{ℕ, zero, suc, Bool, true, false, if◌then◌else◌, List, [], ◌∷◌, length, map, Option, Some, None}
 use Rattle.std.specs.Option.{option_to_list}
 use Rattle.wa_types.specs.declared.values.Value.{Value}
 use Rattle.wa_types.specs.declared.values.Value.TheVariants as V
@@ -27,6 +27,7 @@ use Rattle.interp.specs.Instance as I
 use Rattle.interp.specs.Instance.{Waits}
 use Rattle.host_laws.specs.Supplies.{Supply}
 use Rattle.host_laws.specs.Places.{Place, stands, has_ended, nowhere}
+use Rattle.pause_host.specs.Holding.{are_inside, is_held}
 use Rattle.pause_host.specs.declared.stages.Exports.{Exports}
 use Rattle.pause_host.specs.declared.stages.EntryCall.{EntryCall}
 use Rattle.pause_host.specs.declared.stages.Left.{Left}
@@ -89,10 +90,12 @@ abbrev pub giving : B.Left → Option Value → Store → Asker → Place
 giving l value s (inside task c) = stands [] (busy (is_running task) (resumed c s (option_to_list value)) l)
 giving l value s (outermost old) = nowhere
 
--- the words are written, and the stack is unwound
+-- the words are written, into an area inside the memory, and the stack is unwound
 abbrev pub pausing : P.Exports → Area → B.Left → Entry → (import : ℕ) → Answer → Store → Waits → Place
 pausing x area l e import a s (I.inside here under) =
-    stands [] (calling (unwinds e import a) (with_words s area) x.start_unwind (V.I32 area.at ∷ []) (give_zero (record { store = s; here = here; under = under })) l)
+    if is_held area s
+    then stands [] (calling (unwinds e import a) (with_words s area) x.start_unwind (V.I32 area.at ∷ []) (give_zero (record { store = s; here = here; under = under })) l)
+    else nowhere
 pausing x area l e import a s _ = nowhere
 
 -- the stack is rewound
@@ -103,10 +106,14 @@ paused_at x area l e import a s = stands [] (calling (rewinds e import a s) s x.
 abbrev pub free_place : B.Left → Store → Place
 free_place l s = stands (done_notes s l.entries) (held_on s l l.entries)
 
+-- an answer is told next whose pokes lie inside the memory
+abbrev pub answered_at : B.Left → Answer → Store → Task → Waits → Place
+answered_at l a s task w = if are_inside (length s.memory) a.pokes then with_asker nowhere s task w (answering l a.said (poked s a.pokes)) else nowhere
+
 -- the place of a stage over a store, with what waits in the instance
 abbrev pub place_in : P.Exports → Area → B.Left → Store → Waits → Stage → Place
 place_in x area l s w Free = free_place l s
-place_in x area l s w (Answering task answer) = with_asker nowhere s task w (answering l answer.said (poked s (answer_of answer).pokes))
+place_in x area l s w (Answering task answer) = answered_at l (answer_of answer) s task w
 place_in x area l s w (Giving task value) = with_asker nowhere s task w (giving l value s)
 place_in x area l s w (Pausing pause) = pausing x area l (entry_of pause.entry) pause.import (answer_of pause.answer) s w
 place_in x area l s w (Paused pause) = paused_at x area l (entry_of pause.entry) pause.import (answer_of pause.answer) s
