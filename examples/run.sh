@@ -15,7 +15,8 @@ done
 command -v node >/dev/null || { echo "examples: no node, not run"; exit 0; }
 out=$(mktemp -d)
 trap 'rm -rf "$out"' EXIT
-../asyncify transform --imports env.read ask.wasm "$out/ask.wasm" || exit 1
+# (beside the file, and then renamed, as docs/COMMAND.md says: whoever opens the file meanwhile finds all of it)
+../asyncify transform --imports env.read ask.wasm "$out/ask.wasm.$$" && mv "$out/ask.wasm.$$" "$out/ask.wasm" || exit 1
 [ "$(node ask.mjs "$out/ask.wasm" 5)" = 510 ] || { echo "examples: ask.mjs prints another sum"; exit 1; }
 ../asyncify transform --imports env.read,env.sleep story.wasm "$out/story.wasm" || exit 1
 for depth in 0 1 4; do

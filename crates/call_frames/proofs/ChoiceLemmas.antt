@@ -264,7 +264,7 @@ rows_alike types set [] h = All-nil (λ (fs : List FrameField). fs ≡ fields_in
 rows_alike types set (s ∷ sets) h =
     All-cons (λ (fs : List FrameField). fs ≡ fields_in 0 set types) (fields_in 0 s types) (rows_of types sets) (ap (λ z. fields_in 0 z types) h.0) (rows_alike types set sets h.1)
 
-groups_shared : (types : List ValType) (set : List Bool) (sets : List (List Bool)) → AllAre set sets → AllShared (groups types (rows_of types sets))
+pub groups_shared : (types : List ValType) (set : List Bool) (sets : List (List Bool)) → AllAre set sets → AllShared (groups types (rows_of types sets))
 groups_shared types set sets h =
     full_shared (length (rows_of types sets)) (grouped 0 types (rows_of types sets) [])
     (grouped_full 0 types (fields_in 0 set types) (rows_of types sets) [] (rows_alike types set sets h) tt)

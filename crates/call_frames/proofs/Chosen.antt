@@ -1,15 +1,16 @@
 -- The parts that are taken, as the program has them.
-use Rattle.std.proofs.Common.{◌≡◌, ◌∙◌, ℕ, ◌^◌, ◌<◌, ◌≤◌, List, [], length, map, Bool, true, false, All, refl, sym, ap, subst, arith}
+use Rattle.std.proofs.Common.{◌≡◌, ◌∙◌, ℕ, ◌*◌, ◌^◌, ◌<◌, ◌≤◌, List, [], length, map, Bool, true, false, All, refl, sym, ap, subst, arith}
 use Rattle.std.specs.Prelude.{Vec, if◌then◌else◌}
 use Rattle.std.specs.declared.alloc.Global.{Global}
 use Rattle.std.proofs.lemmas.List.{length-map}
 use Rattle.wa_types.specs.declared.values.ValType.{ValType}
+use Rattle.call_frames.specs.PlainLaws.{tests_cost}
 use Rattle.call_frames.specs.declared.frames.CallClass.{CallClass}
 use Rattle.call_frames.specs.declared.frames.KeptPart.{KeptPart}
 use Rattle.call_frames.specs.CallParts.{are_better, better_parts, grouped, groups, kept_by_sets, parts_length, shared_where, tests_most}
-use Rattle.call_frames.specs.Classes.{AllAre, AllShared, FewFields, FewParts, KeepByClasses, KeepCheaply}
-use Rattle.call_frames.specs.Views.{class_parts, fields_in, part_views, sets_of}
-use Rattle.call_frames.proofs.ChoiceLemmas.{chosen_alike, chosen_keep, classes_few, groups_few, groups_short, named_most, total_short}
+use Rattle.call_frames.specs.Classes.{AllAre, AllShared, FewFields, FewParts, KeepByClasses, KeepCheaply, KeepSets}
+use Rattle.call_frames.specs.Views.{class_parts, fields_in, kept_total, part_views, sets_of}
+use Rattle.call_frames.proofs.ChoiceLemmas.{chosen_alike, chosen_keep, classes_few, groups_few, groups_keep, groups_shared, groups_short, named_most, total_short}
 use Rattle.call_frames.proofs.GroupLemmas.{Rows}
 use Rattle.call_frames.proofs.SizedSets.{sets_sized}
 
@@ -32,10 +33,33 @@ module _ (types : List ValType) (sets : List (Vec Bool Global)) where
   rows_many : length rows ≡ length sets
   rows_many = length-map (sets_of sets) (λ (s : List Bool). fields_in 0 s types) ∙ length-map sets (λ (s : Vec Bool Global). s.items)
 
+  pub groups_made : (gs : List KeptPart) (raw : List CallClass) → part_views gs ≡ map (shared_where (length sets)) (class_parts raw) → class_parts raw ≡ grouped 0 types rows []
+      → part_views gs ≡ groups types rows
+  groups_made gs raw eg er = eg ∙ ap (map (shared_where (length sets))) er ∙ ap (λ n. map (shared_where n) (grouped 0 types rows [])) (sym rows_many)
+
+  -- groups that are no longer than what calls keep allows
+  module _ (sized : All (λ (set : Vec Bool Global). length set.items ≡ length types) sets) (few : length types ≤ 50000) (gs : List KeptPart) (made : part_views gs ≡ groups types rows) where
+    pub made_fit : length sets < 2 ^ 32 → parts_length (part_views gs) < 2 ^ 60
+    made_fit calls = let m = rows_many in subst (λ ps. parts_length ps < 2 ^ 60) (sym made) (groups_short types rows few (omega (arith, m, calls)))
+
+    pub made_keep : tests_cost (part_views gs) ≤ tests_most (length types) (length sets) → parts_length (part_views gs) ≤ 30 * kept_total types (sets_of sets)
+        → KeepCheaply types (sets_of sets) (part_views gs)
+    made_keep cost short = record {
+      keep = subst (KeepSets types (sets_of sets)) (sym made) (groups_keep types (sets_of sets) (sets_sized types sets sized));
+      tests = let m = length-map sets (λ (s : Vec Bool Global). s.items) in omega (arith, m, cost);
+      size = short;
+    }
+
+    pub made_alike : (set : List Bool) → AllAre set (sets_of sets) → AllShared (part_views gs)
+    made_alike set h = subst AllShared (sym made) (groups_shared types set (sets_of sets) h)
+
+    pub made_few : FewParts (part_views gs)
+    made_few = subst FewParts (sym made) (groups_few types rows few)
+
   pub are_made : (gs cs : List KeptPart) (raw classes : List CallClass) → part_views gs ≡ map (shared_where (length sets)) (class_parts raw)
       → class_parts raw ≡ grouped 0 types rows [] → part_views cs ≡ class_parts classes → KeepByClasses types (sets_of sets) (class_parts classes) → FewFields classes → AreMade types sets gs cs
   are_made gs cs raw classes eg er ec keep few = record {
-    groups_are = eg ∙ ap (map (shared_where (length sets))) er ∙ ap (λ n. map (shared_where n) (grouped 0 types rows [])) (sym rows_many);
+    groups_are = groups_made gs raw eg er;
     keep = subst (KeepByClasses types (sets_of sets)) (sym ec) keep;
     few = subst FewParts (sym ec) (classes_few classes few);
   }

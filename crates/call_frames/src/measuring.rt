@@ -1,6 +1,6 @@
 //! How long the codes of parts are, and what their tests cost.
 
-ghost use Rattle.std.specs.Prelude.{◌≡◌, ◌≤◌, ◌<◌, ◌^◌, ◌∷◌, []};
+ghost use Rattle.std.specs.Prelude.{◌≡◌, ◌≤◌, ◌<◌, ◌^◌, ◌∷◌, [], true};
 ghost use Rattle.call_frames.specs.CallTests.{row_size};
 ghost use Rattle.call_frames.specs.PlainFrames.{test_size};
 ghost use Rattle.call_frames.specs.PlainLaws.{tests_cost};
@@ -95,6 +95,18 @@ fn cost_of(parts: &[KeptPart]) -> u64
         cost += part_cost(part);
     }
     cost
+}
+
+/// Whether groups are at most so long, and their tests cost no more than they may.
+pub(crate) fn are_short(groups: &[KeptPart], length: u64, most: u64) -> bool
+    requires { parts_length (part_views groups.now) < 2 ^ 60 }
+    ensures cost { result ≡ true → tests_cost (part_views groups.now) ≤ most }
+    ensures length { result ≡ true → parts_length (part_views groups.now) ≤ length }
+{
+    if cost_of(groups) > most {
+        return false;
+    }
+    length_of(groups) <= length
 }
 
 /// Whether groups are taken in place of classes, where tests may cost so much.

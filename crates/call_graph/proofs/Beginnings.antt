@@ -131,10 +131,12 @@ Rise front (t ∷ ts) = Upto front t.now × Rise t.now ts
 
 rise_from : (t : Bor (List ℕ)) (ts : List (Bor (List ℕ))) → IsSorted by_name (t ∷ ts) → Rise t.now ts
 rise_from t [] up = tt
-rise_from t (u ∷ us) up =
-    (upto_from t.now u.now (up 0 t (omega arith) (omega arith)), rise_from u us (λ k d l m.
-    let z : suc (k + 1) ≡ suc k + 1 = omega arith in
-    subst (λ (j : ℕ). is_lt (by_name (get_or (t ∷ u ∷ us) j d) (get_or (u ∷ us) k d)) ≡ false) (sym z) (up (suc k) d (omega arith) (omega (arith, m)))))
+rise_from t (u ∷ us) up = (
+  upto_from t.now u.now (up 0 t (omega arith) (omega arith)),
+  rise_from u us (λ k d l m.
+      let z : suc (k + 1) ≡ suc k + 1 = omega arith in
+      subst (λ (j : ℕ). is_lt (by_name (get_or (t ∷ u ∷ us) j d) (get_or (u ∷ us) k d)) ≡ false) (sym z) (up (suc k) d (omega arith) (omega (arith, m)))),
+)
 
 rise_past : (front next : List ℕ) (ts : List (Bor (List ℕ))) → Upto front next → Rise next ts → Rise front ts
 rise_past front next [] up rise = tt

@@ -6,7 +6,7 @@
 //! said of a call that failed (`cause`), for people.
 //!
 //! `SystemDisk` and `SystemOut` are the real ones. They don't tell what they hold: that files and output do what the two traits say is
-//! trusted of them, and shown by tests. Others that tell it stand in `memory_vaults`.
+//! trusted of them, and shown by tests. A call that a signal interrupts they make again (`retrying`). Others that tell it stand in `memory_vaults`.
 #![tactic(auto)]
 
 mod disk;
@@ -14,6 +14,7 @@ mod file_vault;
 mod opened_file;
 mod out;
 mod out_sink;
+mod retrying;
 mod system_disk;
 mod system_out;
 

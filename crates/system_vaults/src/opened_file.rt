@@ -2,8 +2,9 @@
 
 ghost use Rattle.std.specs.Prelude.{◌≤◌, IfOk, length};
 
+use crate::retrying;
 use std::fs::{Files, Metadata, OpenFile, OpenOptions};
-use std::io::{self, Error, ErrorKind, Read, Seek, SeekFrom, Write};
+use std::io::{self, Error, ErrorKind, Read, Seek, Write};
 use std::os::unix::fs::{FileTypeExt, MetadataExt};
 
 /// A file that was opened, which of all files it is, and the place at which it stands: of a pipe or a device, how many bytes went
@@ -41,7 +42,7 @@ impl<F: Read + Write + Seek + OpenFile + Drop> OpenedFile<F> {
     /// Makes it its first `at` bytes, and goes behind them.
     pub(crate) fn cut(&mut self, at: u64) -> io::Result<()> {
         self.file.set_len(at)?;
-        self.file.seek(SeekFrom::Start(at))?;
+        retrying::seek(&mut self.file, at)?;
         self.place = at;
         Ok(())
     }
@@ -50,7 +51,7 @@ impl<F: Read + Write + Seek + OpenFile + Drop> OpenedFile<F> {
     pub(crate) fn read(&mut self, buf: &mut [u8]) -> io::Result<usize>
         ensures { IfOk result (λ count. count ≤ length buf.new) }
     {
-        let count = self.file.read(buf)?;
+        let count = retrying::read(&mut self.file, buf)?;
         self.place = self.place.saturating_add(count as u64);
         Ok(count)
     }
@@ -59,7 +60,7 @@ impl<F: Read + Write + Seek + OpenFile + Drop> OpenedFile<F> {
     pub(crate) fn write(&mut self, piece: &[u8]) -> io::Result<usize>
         ensures { IfOk result (λ count. count ≤ length piece.now) }
     {
-        let count = self.file.write(piece)?;
+        let count = retrying::write(&mut self.file, piece)?;
         self.place = self.place.saturating_add(count as u64);
         Ok(count)
     }

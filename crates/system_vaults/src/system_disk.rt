@@ -4,8 +4,9 @@ ghost use Rattle.std.specs.Prelude.{◌≤◌, None, IfOk, length};
 
 use crate::disk::Disk;
 use crate::opened_file::{OpenedFile, check_output, no_seek};
+use crate::retrying;
 use std::fs::{Files, OpenFile, OpenOptions};
-use std::io::{self, Read, Seek, SeekFrom};
+use std::io;
 
 /// The files of the system, by path. It doesn't tell what they hold: that they do what `Disk` says is trusted.
 ///
@@ -34,8 +35,8 @@ impl<R: Files + Drop> Disk for SystemDisk<R> {
         let found = self.rt.metadata(name)?;
         if found.is_file() {
             let mut file = OpenOptions::new().read(true).open(&self.rt, name)?;
-            file.seek(SeekFrom::Start(from))?;
-            return file.read(buf);
+            retrying::seek(&mut file, from)?;
+            return retrying::read(&mut file, buf);
         }
         if from == 0 {
             self.opened = Some(OpenedFile::open(&self.rt, OpenOptions::new().read(true), name)?);

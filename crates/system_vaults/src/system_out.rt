@@ -3,7 +3,8 @@
 ghost use Rattle.std.specs.Prelude.{◌≤◌, None, IfOk, length};
 
 use crate::out::Out;
-use std::io;
+use crate::retrying::is_interrupted;
+use std::io::{self, Error, ErrorKind};
 
 /// Standard output. It doesn't tell what was written: that it does what `Out` says is trusted.
 #[derive(Drop)]
@@ -24,6 +25,13 @@ impl<R: Print + Drop> Out for SystemOut<R> {
     fn write(&mut self, piece: &[u8]) -> io::Result<usize>
         ensures { IfOk result (λ n. n ≤ length piece.now) }
     {
-        self.rt.write_some(piece)
+        'writing: for _ in 0..u64::MAX {
+            match self.rt.write_some(piece) {
+                Ok(count) => return Ok(count),
+                Err(error) if is_interrupted(&error) => {}
+                Err(error) => return Err(error),
+            }
+        }
+        Err(Error::from(ErrorKind::Interrupted))
     }
 }

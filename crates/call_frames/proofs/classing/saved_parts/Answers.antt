@@ -1,8 +1,43 @@
-use Rattle.std.proofs.Common.{◌<◌, ◌^◌, length, sym, subst, true, false}
+use Rattle.std.proofs.Common.{◌<◌, ◌≤◌, ◌^◌, length, sym, subst, true, false, arith}
+use Rattle.call_frames.specs.PlainLaws.{tests_cost}
 use Rattle.call_frames.specs.CallParts.{parts_length, tests_most}
 use Rattle.call_frames.specs.Views.{part_views}
-use Rattle.call_frames.proofs.Chosen.{are_made, classes_fit, groups_fit, taken_alike, taken_few, taken_keep, told_better}
+use Rattle.call_frames.proofs.Chosen.{are_made, classes_fit, groups_fit, groups_made, made_alike, made_few, made_fit, made_keep, taken_alike, taken_few, taken_keep, told_better}
 use Rattle.call_frames.proofs.classing.saved_parts.Goals as goal
+
+pub are_short-requires : goal.are_short-requires
+are_short-requires c =
+    let types = c.args.types.now in
+    let sets = c.args.sets.now in
+    let gs = c.in_ok-groups.groups.items in
+    let made = groups_made types sets gs c.in_ok-groups_of.field-0.items c.in_ok-groups.ensures c.in_ok-groups_of.ensures in
+    subst (λ ps. parts_length (part_views ps) < 2 ^ 60) (sym c.deref.ensures.value) (made_fit types sets c.requires.sizes c.requires.few gs made c.requires.calls)
+
+pub returns-then-are_short-clause-keep : goal.returns-then-are_short-clause-keep
+returns-then-are_short-clause-keep c =
+    let types = c.args.types.now in
+    let sets = c.args.sets.now in
+    let gs = c.in_ok-groups.groups.items in
+    let made = groups_made types sets gs c.in_ok-groups_of.field-0.items c.in_ok-groups.ensures c.in_ok-groups_of.ensures in
+    let cost = subst (λ ps. tests_cost (part_views ps) ≤ tests_most (length types) (length sets)) c.deref.ensures.value (c.are_short.ensures.cost c.if-are_short.true) in
+    let short = subst (λ ps. parts_length (part_views ps) ≤ c.in_ok-least.least) c.deref.ensures.value (c.are_short.ensures.length c.if-are_short.true) in
+    made_keep types sets c.requires.sizes c.requires.few gs made cost (omega (arith, short, c.in_ok-least.ensures))
+
+pub returns-then-are_short-clause-alike : goal.returns-then-are_short-clause-alike
+returns-then-are_short-clause-alike c = λ set some h.
+    let types = c.args.types.now in
+    let sets = c.args.sets.now in
+    let gs = c.in_ok-groups.groups.items in
+    let made = groups_made types sets gs c.in_ok-groups_of.field-0.items c.in_ok-groups.ensures c.in_ok-groups_of.ensures in
+    made_alike types sets c.requires.sizes c.requires.few gs made set h
+
+pub returns-then-are_short-clause-few : goal.returns-then-are_short-clause-few
+returns-then-are_short-clause-few c =
+    let types = c.args.types.now in
+    let sets = c.args.sets.now in
+    let gs = c.in_ok-groups.groups.items in
+    let made = groups_made types sets gs c.in_ok-groups_of.field-0.items c.in_ok-groups.ensures c.in_ok-groups_of.ensures in
+    made_few types sets c.requires.sizes c.requires.few gs made
 
 pub are_better-requires-clause-groups : goal.are_better-requires-clause-groups
 are_better-requires-clause-groups c =
@@ -13,7 +48,7 @@ are_better-requires-clause-groups c =
     let own = c.in_ok-classes_of.ensures in
     let made = are_made types sets gs cs c.in_ok-groups_of.field-0.items c.in_ok-classes_of.field-0.items c.in_ok-groups.ensures c.in_ok-groups_of.ensures
     c.in_ok-classes.ensures own.keep own.few in
-    subst (λ ps. parts_length (part_views ps) < 2 ^ 60) (sym c.deref.ensures.value)
+    subst (λ ps. parts_length (part_views ps) < 2 ^ 60) (sym c.deref-2.ensures.value)
     (groups_fit types sets c.requires.sizes c.requires.few c.requires.calls gs cs made)
 
 pub are_better-requires-clause-classes : goal.are_better-requires-clause-classes
@@ -25,7 +60,7 @@ are_better-requires-clause-classes c =
     let own = c.in_ok-classes_of.ensures in
     let made = are_made types sets gs cs c.in_ok-groups_of.field-0.items c.in_ok-classes_of.field-0.items c.in_ok-groups.ensures c.in_ok-groups_of.ensures
     c.in_ok-classes.ensures own.keep own.few in
-    subst (λ ps. parts_length (part_views ps) < 2 ^ 60) (sym c.deref-2.ensures.value)
+    subst (λ ps. parts_length (part_views ps) < 2 ^ 60) (sym c.deref-3.ensures.value)
     (classes_fit types sets c.requires.sizes c.requires.few c.requires.calls gs cs made)
 
 pub returns-then-are_better-clause-keep : goal.returns-then-are_better-clause-keep
@@ -37,8 +72,8 @@ returns-then-are_better-clause-keep c =
     let own = c.in_ok-classes_of.ensures in
     let made = are_made types sets gs cs c.in_ok-groups_of.field-0.items c.in_ok-classes_of.field-0.items c.in_ok-groups.ensures c.in_ok-groups_of.ensures
     c.in_ok-classes.ensures own.keep own.few in
-    let is = told_better (tests_most (length types) (length sets)) gs cs c.deref.result.now c.deref-2.result.now c.are_better.result true c.deref.ensures.value
-    c.deref-2.ensures.value c.are_better.ensures c.if-are_better.true in
+    let is = told_better (tests_most (length types) (length sets)) gs cs c.deref-2.result.now c.deref-3.result.now c.are_better.result true c.deref-2.ensures.value
+    c.deref-3.ensures.value c.are_better.ensures c.if-are_better.true in
     taken_keep types sets c.requires.sizes c.requires.few c.requires.calls gs cs made true is
 
 pub returns-then-are_better-clause-alike : goal.returns-then-are_better-clause-alike
@@ -50,8 +85,8 @@ returns-then-are_better-clause-alike c =
     let own = c.in_ok-classes_of.ensures in
     let made = are_made types sets gs cs c.in_ok-groups_of.field-0.items c.in_ok-classes_of.field-0.items c.in_ok-groups.ensures c.in_ok-groups_of.ensures
     c.in_ok-classes.ensures own.keep own.few in
-    let is = told_better (tests_most (length types) (length sets)) gs cs c.deref.result.now c.deref-2.result.now c.are_better.result true c.deref.ensures.value
-    c.deref-2.ensures.value c.are_better.ensures c.if-are_better.true in
+    let is = told_better (tests_most (length types) (length sets)) gs cs c.deref-2.result.now c.deref-3.result.now c.are_better.result true c.deref-2.ensures.value
+    c.deref-3.ensures.value c.are_better.ensures c.if-are_better.true in
     taken_alike types sets c.requires.sizes c.requires.few c.requires.calls gs cs made true is
 
 pub returns-then-are_better-clause-few : goal.returns-then-are_better-clause-few
@@ -63,8 +98,8 @@ returns-then-are_better-clause-few c =
     let own = c.in_ok-classes_of.ensures in
     let made = are_made types sets gs cs c.in_ok-groups_of.field-0.items c.in_ok-classes_of.field-0.items c.in_ok-groups.ensures c.in_ok-groups_of.ensures
     c.in_ok-classes.ensures own.keep own.few in
-    let is = told_better (tests_most (length types) (length sets)) gs cs c.deref.result.now c.deref-2.result.now c.are_better.result true c.deref.ensures.value
-    c.deref-2.ensures.value c.are_better.ensures c.if-are_better.true in
+    let is = told_better (tests_most (length types) (length sets)) gs cs c.deref-2.result.now c.deref-3.result.now c.are_better.result true c.deref-2.ensures.value
+    c.deref-3.ensures.value c.are_better.ensures c.if-are_better.true in
     taken_few types sets c.requires.sizes c.requires.few c.requires.calls gs cs made true is
 
 pub returns-clause-keep : goal.returns-clause-keep
@@ -76,8 +111,8 @@ returns-clause-keep c =
     let own = c.in_ok-classes_of.ensures in
     let made = are_made types sets gs cs c.in_ok-groups_of.field-0.items c.in_ok-classes_of.field-0.items c.in_ok-groups.ensures c.in_ok-groups_of.ensures
     c.in_ok-classes.ensures own.keep own.few in
-    let is = told_better (tests_most (length types) (length sets)) gs cs c.deref.result.now c.deref-2.result.now c.are_better.result false c.deref.ensures.value
-    c.deref-2.ensures.value c.are_better.ensures c.if-are_better.false in
+    let is = told_better (tests_most (length types) (length sets)) gs cs c.deref-2.result.now c.deref-3.result.now c.are_better.result false c.deref-2.ensures.value
+    c.deref-3.ensures.value c.are_better.ensures c.if-are_better.false in
     taken_keep types sets c.requires.sizes c.requires.few c.requires.calls gs cs made false is
 
 pub returns-clause-alike : goal.returns-clause-alike
@@ -89,8 +124,8 @@ returns-clause-alike c =
     let own = c.in_ok-classes_of.ensures in
     let made = are_made types sets gs cs c.in_ok-groups_of.field-0.items c.in_ok-classes_of.field-0.items c.in_ok-groups.ensures c.in_ok-groups_of.ensures
     c.in_ok-classes.ensures own.keep own.few in
-    let is = told_better (tests_most (length types) (length sets)) gs cs c.deref.result.now c.deref-2.result.now c.are_better.result false c.deref.ensures.value
-    c.deref-2.ensures.value c.are_better.ensures c.if-are_better.false in
+    let is = told_better (tests_most (length types) (length sets)) gs cs c.deref-2.result.now c.deref-3.result.now c.are_better.result false c.deref-2.ensures.value
+    c.deref-3.ensures.value c.are_better.ensures c.if-are_better.false in
     taken_alike types sets c.requires.sizes c.requires.few c.requires.calls gs cs made false is
 
 pub returns-clause-few : goal.returns-clause-few
@@ -102,6 +137,6 @@ returns-clause-few c =
     let own = c.in_ok-classes_of.ensures in
     let made = are_made types sets gs cs c.in_ok-groups_of.field-0.items c.in_ok-classes_of.field-0.items c.in_ok-groups.ensures c.in_ok-groups_of.ensures
     c.in_ok-classes.ensures own.keep own.few in
-    let is = told_better (tests_most (length types) (length sets)) gs cs c.deref.result.now c.deref-2.result.now c.are_better.result false c.deref.ensures.value
-    c.deref-2.ensures.value c.are_better.ensures c.if-are_better.false in
+    let is = told_better (tests_most (length types) (length sets)) gs cs c.deref-2.result.now c.deref-3.result.now c.are_better.result false c.deref-2.ensures.value
+    c.deref-3.ensures.value c.are_better.ensures c.if-are_better.false in
     taken_few types sets c.requires.sizes c.requires.few c.requires.calls gs cs made false is
