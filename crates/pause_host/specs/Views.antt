@@ -67,10 +67,10 @@ rewinding pause since = rewinds (entry_of pause.entry) pause.import (answer_of p
 
 -- what waits for the answer, where a task's call of an import does
 abbrev pub with_asker : {A : Type 0} → A → Store → Task → Waits → (Asker → A) → A
-with_asker none s T.Outermost I.outermost then = then (outermost s)
-with_asker none s T.Start (I.inside here under) then = then (inside the_start (record { store = s; here = here; under = under }))
-with_asker none s (T.Entry e) (I.inside here under) then = then (inside (an_entry (entry_of e)) (record { store = s; here = here; under = under }))
-with_asker none s _ _ then = none
+with_asker none s T.Outermost I.outermost on = on (outermost s)
+with_asker none s T.Start (I.inside here under) on = on (inside the_start (record { store = s; here = here; under = under }))
+with_asker none s (T.Entry e) (I.inside here under) on = on (inside (an_entry (entry_of e)) (record { store = s; here = here; under = under }))
+with_asker none s _ _ on = none
 
 -- an answer is told next, and given: with its pokes
 abbrev pub answering : B.Left → Answer → Store → Asker → Place
