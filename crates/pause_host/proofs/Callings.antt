@@ -1,12 +1,12 @@
 -- What a host may do where its program stands: call an export, write into the memory, go on behind a stretch.
-use Rattle.std.proofs.Common.{◌≡◌, ◌≤◌, ◌+◌, ◌-◌, ◌<◌, ◌^◌, ℕ, zero, suc, List, [], ◌∷◌, length, take, drop, map, get_or, Option, Some, None, Bool, true, false, cond, All, refl, sym, ap, ◌∙◌, subst, arith}
+use Rattle.std.proofs.Common.{◌≡◌, ◌≤◌, ◌+◌, ◌-◌, ◌<◌, ◌^◌, ℕ, zero, suc, List, [], ◌∷◌, length, map, get_or, Option, Some, None, Bool, true, false, cond, All, refl, sym, ap, ◌∙◌, subst, arith}
 use Rattle.std.specs.Prelude.{nat_lt, nat_le}
 use Rattle.std.proofs.lemmas.Bool.{le-leb}
 use Rattle.std.proofs.lemmas.List.Elements.{All-head, All-tail}
 use Rattle.wa_types.specs.declared.values.Value.{Value}
 use Rattle.wa_types.specs.declared.values.Value.TheVariants as V
 use Rattle.wa_types.specs.Syntax.{Module}
-use Rattle.wa_types.specs.Memory.{bytes_at, overwritten}
+use Rattle.wa_types.specs.Memory.{overwritten}
 use Rattle.wa_types.specs.Modules.{all_memories}
 use Rattle.wa_model.specs.declared.answers.Answer.{Answer as AnswerValue}
 use Rattle.wa_model.specs.declared.answers.Poke.{Poke as PokeValue}
@@ -38,7 +38,6 @@ use Rattle.pause_host.specs.Moves.{IsSetting, PlaceFits, Returns}
 use Rattle.pause_host.proofs.Comings.{fits_on}
 use Rattle.pause_host.proofs.Holding.{holds_on, true_held, true_inside}
 use Rattle.pause_host.proofs.MemoryGrows.{NextLong, goes_long, step_long}
-use Rattle.pause_host.proofs.Parts.{dropped}
 use Rattle.pause_host.proofs.Stagings.{answer_inside, pauses}
 
 -- ---- the memory
@@ -64,17 +63,6 @@ memory_is m s bytes has e = by (nat_lt 0 (length (all_memories m))) has e
     by : (b : Bool) → b ≡ true → Some bytes ≡ cond b (Some s.memory) None → bytes ≡ s.memory
     by true h k = cc
     by false h k = cc
-
--- four bytes, one by one
-pub four_bytes : (xs : List ℕ) (i a b c d : ℕ) → i + 4 ≤ length xs → a ≡ get_or xs i a → b ≡ get_or xs (i + 1) b → c ≡ get_or xs (i + 2) c → d ≡ get_or xs (i + 3) d
-    → bytes_at xs i 4 ≡ a ∷ b ∷ c ∷ d ∷ []
-four_bytes xs i a b c d le ea eb ec ed =
-    let two : i + 1 + 1 ≡ i + 2 = omega arith in
-    let three : i + 2 + 1 ≡ i + 3 = omega arith in
-    let last = dropped xs (i + 3) d (omega arith) ed in
-    let third = dropped xs (i + 2) c (omega arith) ec ∙ ap (λ n. c ∷ drop n xs) three ∙ ap (λ z. c ∷ z) last in
-    let second = dropped xs (i + 1) b (omega arith) eb ∙ ap (λ n. b ∷ drop n xs) two ∙ ap (λ z. b ∷ z) third in
-    ap (take 4) (dropped xs i a (omega arith) ea ∙ ap (λ z. a ∷ z) second)
 
 -- a poke of some that lie inside
 pub poke_at : (size : ℕ) (ps : List PokeValue) (i : ℕ) (p : PokeValue) → i < length ps → p ≡ get_or ps i p → PokesInside size (map poke_of ps) → p.at + length p.bytes.items ≤ size

@@ -75,10 +75,10 @@ zeros_like (SV.Value v) = map zero_of (types_of (option_to_list v))
 
 -- what waits for the answer, where a task's call of an import does
 abbrev pub with_asker : {A : Type 0} → A → Store → Task → Waits → (Asker → A) → A
-with_asker none s T.Outermost I.outermost then = then (outermost s)
-with_asker none s T.Start (I.inside here under) then = then (inside the_start (record { store = s; here = here; under = under }))
-with_asker none s (T.Entry e) (I.inside here under) then = then (inside (an_entry (entry_of e)) (record { store = s; here = here; under = under }))
-with_asker none s _ _ then = none
+with_asker none s T.Outermost I.outermost on = on (outermost s)
+with_asker none s T.Start (I.inside here under) on = on (inside the_start (record { store = s; here = here; under = under }))
+with_asker none s (T.Entry e) (I.inside here under) on = on (inside (an_entry (entry_of e)) (record { store = s; here = here; under = under }))
+with_asker none s _ _ on = none
 
 -- what is said is told next, and given, over the store with the pokes
 abbrev pub answering : B.Left → Said → Store → Asker → Place

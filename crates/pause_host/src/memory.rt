@@ -1,6 +1,6 @@
 //! What a host writes into a program's memory: the words of the area, and the pokes of an answer.
 
-ghost use Rattle.std.specs.Prelude.{◌≡◌, ◌≤◌, ◌+◌, length, map};
+ghost use Rattle.std.specs.Prelude.{◌≡◌, ◌≤◌, ◌+◌, ◌-◌, ◌%◌, ◌^◌, length, map};
 ghost use Rattle.wa_types.specs.Memory.{bytes_at, number_of_bytes, overwritten};
 ghost use Rattle.wa_model.specs.Store.{with_memory};
 ghost use Rattle.wa_model.specs.Blocking.{poked};
@@ -75,7 +75,15 @@ pub fn used_of(instance: &Instance<'_>, area: Area) -> u32
     let Some(memory) = instance.memory() else {
         unreachable!();
     };
-    word_at(memory, area.at as usize).wrapping_sub(area.at)
+    used_at(memory, area.at)
+}
+
+// The same of an area that begins at this place.
+fn used_at(memory: &[u8], at: u32) -> u32
+    requires { at + 4 ≤ length memory.now }
+    ensures { result ≡ (number_of_bytes (bytes_at memory.now at 4) + 2 ^ 32 - at) % 2 ^ 32 }
+{
+    word_at(memory, at as usize).wrapping_sub(at)
 }
 
 // The number that the four bytes at a place spell.

@@ -53,13 +53,13 @@ returns-in-StepsSpent-clause-exports c = λ w is code fits callable ph th l work
     subst (λ n. EndsAt w (calling ph s c.args.func c.args.args.now th l) left used (E.StepsSpent n) s') is.steps
     (came_spent w m code s c.args.func c.args.args.now left used s' callable ph th l (subst (λ t. CallsAside m s c.args.func c.args.args.now left used t s') c.in-StepsSpent.is h))
 
-pub trap_end-requires-clause-memory : goal.trap_end-requires-clause-memory
-trap_end-requires-clause-memory c =
+pub trap_end-end-requires-clause-memory : goal.trap_end-end-requires-clause-memory
+trap_end-end-requires-clause-memory c =
     let h = c.requires.may in
     memory_kept (code_in c.args.instance.now) (code_in c.aside.new.self) c.aside.ensures.code (memory_there h.program c.args.setting.now (code_in c.args.instance.now) h.setting h.code_is)
 
-pub trap_end-requires-clause-area : goal.trap_end-requires-clause-area
-trap_end-requires-clause-area c =
+pub trap_end-end-requires-clause-area : goal.trap_end-end-requires-clause-area
+trap_end-end-requires-clause-area c =
     let h = c.requires.may in
     let w = h.program in
     let s = store_in c.args.instance.now in

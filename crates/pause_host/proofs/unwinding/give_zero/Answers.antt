@@ -119,13 +119,13 @@ returns-in-StepsSpent-clause-comes c = λ w l lines here under is code waits f.
     (subst (λ n. EndsAt w (busy (unwinding c.args.pause) (resumed (record { store = s; here = here; under = under }) s (zeros_of w.source c.args.pause.import)) l) left used
     (E.StepsSpent n) s') is.steps (turn_spent w (unwinding c.args.pause) l from left used s' w' turns))
 
-pub trap_end-requires-clause-memory : goal.trap_end-requires-clause-memory
-trap_end-requires-clause-memory c =
+pub trap_end-end-requires-clause-memory : goal.trap_end-end-requires-clause-memory
+trap_end-end-requires-clause-memory c =
     let h = c.requires.there.hosts in
     memory_kept (code_in c.args.instance.now) (code_in c.resume.new.self) c.resume.ensures.code (memory_there h.program c.args.setting.now (code_in c.args.instance.now) h.setting h.code_is)
 
-pub trap_end-requires-clause-area : goal.trap_end-requires-clause-area
-trap_end-requires-clause-area c =
+pub trap_end-end-requires-clause-area : goal.trap_end-end-requires-clause-area
+trap_end-end-requires-clause-area c =
     let x = c.args.setting.now in
     let o = c.requires.there in
     let h = o.hosts in

@@ -40,14 +40,14 @@ pub call_export-requires-clause-may : goal.call_export-requires-clause-may
 call_export-requires-clause-may c =
     may_call c.args.setting.now (code_in c.args.instance.now) (store_in c.args.instance.now) (unwinding c.args.pause) (λ e. e.stop_unwind) (λ w. []) pause_there c.requires.there
 
-pub used_of-requires-clause-memory : goal.used_of-requires-clause-memory
-used_of-requires-clause-memory c =
+pub used_of-used-requires-clause-memory : goal.used_of-used-requires-clause-memory
+used_of-used-requires-clause-memory c =
     let h = c.requires.there in
     memory_kept (code_in c.args.instance.now) (code_in c.call_export.new.instance) c.call_export.ensures.code
     (memory_there h.program c.args.setting.now (code_in c.args.instance.now) h.setting h.code_is)
 
-pub used_of-requires-clause-area : goal.used_of-requires-clause-area
-used_of-requires-clause-area c =
+pub used_of-used-requires-clause-area : goal.used_of-used-requires-clause-area
+used_of-used-requires-clause-area c =
     let h = c.requires.there in
     let w = h.program in
     let is = h.setting in
