@@ -7,15 +7,18 @@ use Rattle.std.proofs.lemmas.List.{length-map}
 use Rattle.wa_types.specs.declared.values.Value.{Value}
 use Rattle.wa_types.specs.Modules.{defined_at, func_imports, func_type_at}
 use Rattle.wa_types.specs.Syntax.{Func, Module}
+use Rattle.wa_model.specs.declared.answers.Said.{Said}
+use Rattle.wa_model.specs.declared.answers.Said.TheVariants as SV
 use Rattle.wa_model.specs.declared.events.End.{End}
 use Rattle.wa_model.specs.Machine.{Turn, stops, goes, Ran, after, still, pay, run_with, run}
 use Rattle.wa_model.specs.Outside.{Answer, Event, called, answered, paused, returned, ended, shown}
 use Rattle.wa_model.specs.Store.{Store}
+use Rattle.wa_model.specs.Configuration.{Configuration}
 use Rattle.wa_model.specs.Step.{Next, steps, asks, returns, traps, stuck, step, entered}
 use Rattle.wa_model.specs.Plan.{Entry, Plan, Outcome, given, refused}
 use Rattle.wa_model.specs.Instantiation.{Opening, fails_as, opens, opening}
 use Rattle.wa_model.specs.Blocking.{Note, call_note, fault_of, pause_of, poked, resumed, done_notes, Task, the_start, an_entry, Left, with_outcomes, all_left, Asker, inside, outermost, store_at, stack_at, in_start, next_entry}
-use Rattle.wa_model.specs.Protocol.{Exports, exports_of, Phase, is_running, unwinds, rewinds, Then, give_zero, test_unwound, pause_there, call_again, test_rewound, give_answer, Held, free, starting, busy, calling, aside, entering, over, protocol, Protocol, broken, held_on, held_back, held_given, held_ends, held_pauses, held_tested, held_asked, busy_step, is_state, aside_back, aside_step, busy_enters, held_next, aside_called, held_start, held_started, held_begun}
+use Rattle.wa_model.specs.Protocol.{Exports, exports_of, Phase, is_running, unwinds, rewinds, Then, give_zero, test_unwound, pause_there, call_again, test_rewound, give_answer, Held, free, starting, busy, calling, aside, entering, over, protocol, Protocol, broken, held_on, held_back, held_given, held_resumed, held_ends, held_pauses, held_tested, held_asked, busy_step, is_state, aside_back, aside_step, busy_enters, held_next, aside_called, held_start, held_started, held_begun}
 use Rattle.wa_model.specs.Behaves.{IsPrefix}
 use Rattle.wa_model.specs.World.{Look, Program, events_with_looks, is_end, looks_after, protocol_story, unless_over}
 
@@ -87,9 +90,13 @@ module _ (looks : ℕ) (p : Module) (x : Exports) (plan : Plan) where
   back_pays k the_start results s l = let h = done_lines s l l.entries in omega arith
   back_pays k (an_entry e) results s l = let h = done_lines s (next_entry l) l.entries in omega arith
 
-  given_pays : (k import : ℕ) (args : List Value) (s0 : Store) (a : Answer) (s : Store) (l : Left) (who : Asker) → Pays (looks + 1) (held_given k (call_note import args s0 (stack_at p who) None) a s l who)
-  given_pays k import args s0 a s l (inside task c) = omega arith
-  given_pays k import args s0 a s l (outermost old) = let h = done_lines s l l.entries in omega arith
+  given_pays : (k import : ℕ) (args : List Value) (s0 : Store) (said : Said) (s : Store) (l : Left) (who : Asker)
+      → Pays (looks + 1) (held_given k (call_note import args s0 (stack_at p who) None) said s l who)
+  given_pays k import args s0 (SV.Value v) s l (inside task c) = omega arith
+  given_pays k import args s0 (SV.Value v) s l (outermost old) = let h = done_lines s l l.entries in omega arith
+
+  resumed_pays : (k : ℕ) (e : Entry) (said : Said) (sp : Store) (c : Configuration) (l : Left) (s : Store) → Pays (looks + 1) (held_resumed k e said sp c l s)
+  resumed_pays k e (SV.Value v) sp c l s = omega arith
 
   ends_pays : (k import : ℕ) (args : List Value) (who : Asker) (e : End) → Pays (looks + 1) (held_ends k (call_note import args (store_at who) (stack_at p who) None) e)
   ends_pays k import args who e = omega arith
@@ -102,7 +109,7 @@ module _ (looks : ℕ) (p : Module) (x : Exports) (plan : Plan) where
 
   tested_pays : (k import : ℕ) (args : List Value) (who : Asker) (l : Left) (a : Answer) (o : Option End) (pause : Option ℕ) → Pays (looks + 1) (held_tested p x plan k import args who l a o pause)
   tested_pays k import args who l a (Some e) pause = ends_pays k import args who e
-  tested_pays k import args who l a None None = given_pays k import args (store_at who) a (poked (store_at who) a.pokes) l who
+  tested_pays k import args who l a None None = given_pays k import args (store_at who) a.said (poked (store_at who) a.pokes) l who
   tested_pays k import args who l a None (Some ticks) = pauses_pays k ticks import args a l who who
 
   asked_pays : (k import : ℕ) (args : List Value) (who : Asker) (l : Left) (os : List Outcome) → Pays (looks + 1) (held_asked p x plan k import args who l os)
@@ -140,7 +147,7 @@ module _ (looks : ℕ) (p : Module) (x : Exports) (plan : Plan) where
       by_state : (b : Bool) → Pays (looks + 1) (cond b (goes k [] (calling (rewinds e i a s0) s x.stop_rewind [] (give_answer c) l)) (broken k 4 s))
       by_state true = omega arith
       by_state false = omega arith
-  back_aside k (rewinds e i a s0) (give_answer c) l results s = omega arith
+  back_aside k (rewinds e i a s0) (give_answer c) l results s = resumed_pays k e a.said s0 c l (poked s a.pokes)
   back_aside k _ _ l results s = tt
 
   aside_pays : (ph : Phase) (th : Then) (l : Left) (o : Next) → Pays (looks + 1) (aside_step p x plan ph th l o)

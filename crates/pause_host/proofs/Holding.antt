@@ -9,6 +9,8 @@ use Rattle.wa_types.specs.Memory.{page_size}
 use Rattle.wa_types.specs.Modules.{all_memories, defined_at, func_imports, func_type_at}
 use Rattle.wa_types.specs.Syntax.{Func, Module}
 use Rattle.wa_model.specs.declared.answers.Area.{Area}
+use Rattle.wa_model.specs.declared.answers.Said.{Said}
+use Rattle.wa_model.specs.declared.answers.Said.TheVariants as SV
 use Rattle.wa_model.specs.declared.events.End.{End}
 use Rattle.wa_model.specs.Outside.{Poke, Answer}
 use Rattle.wa_model.specs.Machine.{Turn, stops, goes, Leads, stays, moves}
@@ -19,7 +21,7 @@ use Rattle.wa_model.specs.Plan.{Entry, Plan, Outcome, given, refused}
 use Rattle.wa_model.specs.Instantiation.{Opening, fails_as, opens, opening, least_of}
 use Rattle.wa_model.specs.Blocking.{Note, note, call_note, fault_of, pause_of, poked, poked_memory, resumed, done_notes, Task, the_start, an_entry, Left, with_outcomes, Asker, inside, outermost, store_at, stack_at, in_start, next_entry}
 use Rattle.wa_types.specs.Memory.{overwritten, bytes_of}
-use Rattle.wa_model.specs.Protocol.{Exports, exports_of, Phase, is_running, unwinds, rewinds, Then, give_zero, test_unwound, pause_there, call_again, test_rewound, give_answer, Held, free, starting, busy, calling, aside, entering, over, put_word, with_words, protocol, broken, held_on, held_back, held_given, held_ends, held_pauses, held_tested, held_asked, trap_end, busy_step, is_state, aside_back, aside_step, busy_enters, held_next, aside_called, held_start, held_begun}
+use Rattle.wa_model.specs.Protocol.{Exports, exports_of, Phase, is_running, unwinds, rewinds, Then, give_zero, test_unwound, pause_there, call_again, test_rewound, give_answer, Held, free, starting, busy, calling, aside, entering, over, put_word, with_words, protocol, broken, held_on, held_back, held_given, held_resumed, held_ends, held_pauses, held_tested, held_asked, trap_end, busy_step, is_state, aside_back, aside_step, busy_enters, held_next, aside_called, held_start, held_begun}
 use Rattle.wa_model.specs.World.{Program}
 use Rattle.run_laws.specs.Ranges.{PokeInside}
 use Rattle.run_laws.proofs.Host.{fault_pokes}
@@ -109,9 +111,13 @@ module _ (p : Module) (x : Exports) (plan : Plan) where
       next_few : FewEntries 1 l → FewEntries 0 (next_entry l)
       next_few h = omega arith
 
-  given_holds : (k : ℕ) (n : Note) (a : Answer) (s : Store) (l : Left) (who : Asker) → HoldsArea plan.area s → AskerHolds l who → TurnHolds (held_given k n a s l who)
-  given_holds k n a s l (inside task c) ok few = (ok, few)
-  given_holds k n a s l (outermost old) ok few = on_holds s l l.entries ok few
+  given_holds : (k : ℕ) (n : Note) (said : Said) (s : Store) (l : Left) (who : Asker) → HoldsArea plan.area s → AskerHolds l who → TurnHolds (held_given k n said s l who)
+  given_holds k n (SV.Value v) s l (inside task c) ok few = (ok, few)
+  given_holds k n (SV.Value v) s l (outermost old) ok few = on_holds s l l.entries ok few
+
+  resumed_holds : (k : ℕ) (e : Entry) (said : Said) (sp : Store) (c : Configuration) (l : Left) (s : Store) → HoldsArea plan.area s → FewEntries 1 l
+      → TurnHolds (held_resumed k e said sp c l s)
+  resumed_holds k e (SV.Value v) sp c l s ok few = (ok, few)
 
   pauses_holds : (k : ℕ) (n : Note) (import : ℕ) (a : Answer) (l : Left) (who : Asker) → HoldsArea plan.area (store_at who) → AskerHolds l who
       → PokesInside (length (store_at who).memory) a.pokes → TurnHolds (held_pauses x plan k n import a l who)
@@ -125,7 +131,7 @@ module _ (p : Module) (x : Exports) (plan : Plan) where
       → (o ≡ None → PokesInside (length (store_at who).memory) a.pokes) → TurnHolds (held_tested p x plan k import args who l a o pause)
   tested_holds k import args who l a (Some e) pause ok few on = tt
   tested_holds k import args who l a None None ok few on =
-      given_holds k (call_note import args (store_at who) (stack_at p who) None) a (poked (store_at who) a.pokes) l who
+      given_holds k (call_note import args (store_at who) (stack_at p who) None) a.said (poked (store_at who) a.pokes) l who
       (area_longer plan.area (store_at who) (poked (store_at who) a.pokes) (poked_longer (store_at who) a.pokes) ok) few
   tested_holds k import args who l a None (Some ticks) ok few on =
       pauses_holds k (call_note import args (store_at who) (stack_at p who) (Some ticks)) import a l who ok few (on refl)
@@ -181,7 +187,7 @@ module _ (p : Module) (x : Exports) (plan : Plan) where
         by_state true = (at_area s le, phase_longer low (length s.memory) l (rewinds e i a at_pause) le h)
         by_state false = tt
     aside_back_holds k (rewinds e i a at_pause) (give_answer c) l results s h le =
-        (area_longer plan.area s (poked s a.pokes) (poked_longer s a.pokes) (at_area s le), h.0)
+        resumed_holds k e a.said at_pause c l (poked s a.pokes) (area_longer plan.area s (poked s a.pokes) (poked_longer s a.pokes) (at_area s le)) h.0
     aside_back_holds k _ _ l results s h le = tt
 
     aside_holds : (ph : Phase) (th : Then) (l : Left) (o : Next) → PhaseHolds low l ph → NextLong low o → TurnHolds (aside_step p x plan ph th l o)
