@@ -18,7 +18,7 @@ use Rattle.wa_types.specs.Modules.{all_memories, all_tables, func_imports, type_
 use Rattle.wa_types.specs.Typing.{type_of}
 use Rattle.wa_model.specs.Machine.{Leads}
 use Rattle.wa_ops.specs.Operate.{operate, number_of}
-use Rattle.wa_model.specs.Store.{Store, value_at, Did, works, fails, lacks, takes, act, computed, width_of, loaded, load_at, stored, store_at, grew}
+use Rattle.wa_model.specs.Store.{Store, value_at, Did, works, fails, lacks, takes, extra_cost, act, computed, width_of, loaded, load_at, stored, store_at, grew}
 use Rattle.wa_model.specs.Configuration.{Label, block_label, loop_label, Activation, Configuration, running, waiting}
 use Rattle.wa_model.specs.Step.{Next, steps, asks, returns, traps, stuck, result_count, leave, jump, finish, did, choose, entered, invoke, param_count, same_func_type, through, memory_max, step_plain, step_at, step, arity_of}
 use Rattle.wa_model.specs.Instantiation.{Opening, fails_as, opens, opening, opened_by, all_values, least_of, Piece, elem_piece, byte_piece, put_piece, put_pieces, first_out, bytes_checked, elems_checked, filled}
@@ -129,11 +129,11 @@ module _ (low : ℕ) where
   leave_long k s ops arity [] h = h
   leave_long k s ops arity (a ∷ under) h = h
 
-  did_long : (fn : ℕ) (under : List Activation) (ls : List Value) (labels : List Label) (rest : Code) (s : Store) (ops : List Value) (d : Did) → low ≤ length s.memory → DidLong d
-      → NextLong (did fn under ls labels rest s ops d)
-  did_long fn under ls labels rest s ops (works s' results) h k = k
-  did_long fn under ls labels rest s ops (fails trap) h k = h
-  did_long fn under ls labels rest s ops lacks h k = tt
+  did_long : (k fn : ℕ) (under : List Activation) (ls : List Value) (labels : List Label) (rest : Code) (s : Store) (ops : List Value) (d : Did) → low ≤ length s.memory → DidLong d
+      → NextLong (did k fn under ls labels rest s ops d)
+  did_long k fn under ls labels rest s ops (works s' results) h g = g
+  did_long k fn under ls labels rest s ops (fails trap) h g = h
+  did_long k fn under ls labels rest s ops lacks h g = tt
 
   chosen_long : (n : ℕ) (first second : Next) → NextLong first → NextLong second → NextLong (choose n first second)
   chosen_long zero first second h k = k
@@ -182,7 +182,7 @@ module _ (low : ℕ) where
     plain_long : (s : Store) (fn : ℕ) (under : List Activation) (ls ops : List Value) (labels : List Label) (rest : Code) (p : Plain) → low ≤ length s.memory
         → NextLong (step_plain m s fn under ls ops labels rest p)
     plain_long s fn under ls ops labels rest (basic b) h =
-        did_long fn under ls labels rest s (drop (takes b) ops) (act (memory_max m) b s (take (takes b) ops)) h (act_long (memory_max m) b s (take (takes b) ops) h)
+        did_long (extra_cost b (take (takes b) ops)) fn under ls labels rest s (drop (takes b) ops) (act (memory_max m) b s (take (takes b) ops)) h (act_long (memory_max m) b s (take (takes b) ops) h)
     plain_long s fn under ls ops labels rest (local_get x) h = h
     plain_long s fn under ls [] labels rest (local_set x) h = tt
     plain_long s fn under ls (v ∷ ops) labels rest (local_set x) h = h

@@ -139,7 +139,7 @@ trap_end-end-requires-clause-area c =
     let w' = waits_in c.resume.new.self in
     let left = c.args.steps.now.left in
     let used = c.resume.new.steps.used - c.args.steps.now.used in
-    let zero = c.zero_like-zero.ensures ∙ zero_told w.source is.valid c.args.pause.import c.args.pause.answer.value f.2.1 in
+    let zero = c.zero_like-zero.ensures ∙ zero_told w.source is.valid c.args.pause.import c.args.pause.answer.said f.2.1 in
     let awaits = subst (λ ws. Awaits w.source f.0 (types_of (zeros_of w.source c.args.pause.import)) ws) (sym o.waits_is)
     (awaits_from w.source f.0 s s o.here o.under (zeros_of w.source c.args.pause.import) f.1) in
     let told = c.in_ok-resume.ensures.resumes f.0 (subst (λ z. StoreFits z s) (sym code) f.1.store)
@@ -164,7 +164,7 @@ test_unwound-requires-clause-there c =
     let w' = waits_in c.resume.new.self in
     let left = c.args.steps.now.left in
     let used = c.resume.new.steps.used - c.args.steps.now.used in
-    let zero = c.zero_like-zero.ensures ∙ zero_told w.source is.valid c.args.pause.import c.args.pause.answer.value f.2.1 in
+    let zero = c.zero_like-zero.ensures ∙ zero_told w.source is.valid c.args.pause.import c.args.pause.answer.said f.2.1 in
     let awaits = subst (λ ws. Awaits w.source f.0 (types_of (zeros_of w.source c.args.pause.import)) ws) (sym o.waits_is)
     (awaits_from w.source f.0 s s o.here o.under (zeros_of w.source c.args.pause.import) f.1) in
     let told = c.in_ok-resume.ensures.resumes f.0 (subst (λ z. StoreFits z s) (sym code) f.1.store)
