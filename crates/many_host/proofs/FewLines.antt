@@ -106,7 +106,7 @@ one_look : (i : ℕ) (s : Show) (shows : List Show) → length (looks_of i (s �
 one_look i s shows = by (nat_eq s.program i)
   where
     by : (b : Bool) → length (cons_option (cond b (Some (look_of s)) None) (looks_of i shows)) ≡ one_at b + length (looks_of i shows)
-    by true = refl
+    by true = omega arith
     by false = omega arith
 
 more_looks : (count from : ℕ) (s : Show) (shows : List Show) → looks_from count from (s ∷ shows) ≡ hits count from s.program + looks_from count from shows
