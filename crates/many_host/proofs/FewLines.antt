@@ -1,5 +1,5 @@
 -- How many lines a host tells: no more than its programs' steps make, and those of its shows.
-use Rattle.std.proofs.Common.{arith, ◌≡◌, ◌≤◌, ◌<◌, ℕ, zero, suc, ◌+◌, ◌*◌, List, [], ◌∷◌, ◌++◌, length, length-append, map, Option, Some, None, Bool, true, false, cond, slice_get, slice_set, refl, sym, ap, ◌∙◌, subst}
+use Rattle.std.proofs.Common.{arith, ◌≡◌, ◌≤◌, ◌<◌, ℕ, zero, suc, ◌+◌, ◌*◌, List, [], ◌∷◌, ◌++◌, length, length-append, map, drop, Option, Some, None, Bool, true, false, cond, slice_get, slice_set, refl, sym, ap, ◌∙◌, subst}
 use Rattle.std.specs.Prelude.{nat_eq}
 use Rattle.std.specs.List.{cons_option, filter_map}
 use Rattle.std.proofs.lemmas.Bool.{eqb-true, ne_eqb}
@@ -15,7 +15,7 @@ use Rattle.event_order.specs.declared.shows.Show.{Show}
 use Rattle.event_order.specs.Looks.{look_at, look_of, looks_of}
 use Rattle.many_host.specs.Hosts.{HostTold, follows, has_ended, memory_of}
 use Rattle.many_host.specs.Notes.{TellsOn}
-use Rattle.many_host.specs.Standing.{Held, IsHeld, Standing, StandsAt, held_of}
+use Rattle.many_host.specs.Standing.{Held, IsHeld, Standing, StandsAt, held_of, looks_at}
 use Rattle.many_host.specs.Turns.{Teller, Tells, TellsTurn, having_told, starting}
 use Rattle.many_host.specs.declared.host.Host.{Host}
 use Rattle.many_host.specs.declared.hosted.Hosted.{Hosted}
@@ -194,8 +194,9 @@ module _ (programs : List Program) (detaches : List Detach) (ds : List Device) (
           let told = length-map (events_of on.turn) (line_at turn.due turn.program) ∙ length-map on.turn (λ (x : Note). x.event) in
           omega (arith, n, all_few, set, more, notes, after, made, told)
       by (Showing turn from) at =
-          let n = tells_lines programs detaches ds h.begun _ s.tellers ds' at.2 in
-          let sum = length-append lines _ in
+          let rest : List Line = map (line_at turn.due turn.program) (looks_at (memory_of at.0) (looks_of turn.program (drop from h.shows))) in
+          let n = tells_lines programs detaches ds h.begun (lines ++ rest) s.tellers ds' at.2 in
+          let sum = length-append lines rest in
           omega (arith, n, all_few, sum)
 
 -- A host has told few lines.
