@@ -1,5 +1,5 @@
 -- How many lines a host tells: no more than its programs' steps make, and those of its shows.
-use Rattle.std.proofs.Common.{arith, ◌≡◌, ◌≤◌, ◌<◌, ℕ, zero, suc, ◌+◌, ◌*◌, List, [], ◌∷◌, ◌++◌, length, length-append, map, Option, Some, None, Bool, true, false, cond, slice_get, slice_set, refl, sym, ap, ◌∙◌, subst}
+use Rattle.std.proofs.Common.{arith, ◌≡◌, ◌≤◌, ◌<◌, ℕ, zero, suc, ◌+◌, ◌*◌, List, [], ◌∷◌, ◌++◌, length, length-append, map, drop, Option, Some, None, Bool, true, false, cond, slice_get, slice_set, refl, sym, ap, ◌∙◌, subst}
 use Rattle.std.specs.Prelude.{nat_eq}
 use Rattle.std.specs.List.{cons_option, filter_map}
 use Rattle.std.proofs.lemmas.Bool.{eqb-true, ne_eqb}
@@ -15,7 +15,7 @@ use Rattle.event_order.specs.declared.shows.Show.{Show}
 use Rattle.event_order.specs.Looks.{look_at, look_of, looks_of}
 use Rattle.many_host.specs.Hosts.{HostTold, follows, has_ended, memory_of}
 use Rattle.many_host.specs.Notes.{TellsOn}
-use Rattle.many_host.specs.Standing.{Held, IsHeld, Standing, StandsAt, held_of}
+use Rattle.many_host.specs.Standing.{Held, IsHeld, Standing, StandsAt, held_of, looks_at}
 use Rattle.many_host.specs.Turns.{Teller, Tells, TellsTurn, having_told, starting}
 use Rattle.many_host.specs.declared.host.Host.{Host}
 use Rattle.many_host.specs.declared.hosted.Hosted.{Hosted}
@@ -36,7 +36,7 @@ all_lines (w ∷ ws) (t ∷ ts) = lines_of w t + all_lines ws ts
 
 none_yet : (ws : List Program) → all_lines ws (map starting ws) ≡ 0
 none_yet [] = refl
-none_yet (w ∷ ws) = none_yet ws
+none_yet (w ∷ ws) = let rest = none_yet ws in omega (arith, rest)
 
 set_lines : (ws : List Program) (ts : List Teller) (i : ℕ) (w : Program) (t t' : Teller) → slice_get ws i ≡ Some w → slice_get ts i ≡ Some t
     → all_lines ws (slice_set ts i t') + lines_of w t ≡ all_lines ws ts + lines_of w t'
@@ -99,15 +99,15 @@ hits_once zero from program = omega arith
 hits_once (suc count) from program = by (nat_eq program from) refl (hits_once count (suc from) program)
   where
     by : (b : Bool) → nat_eq program from ≡ b → hits count (suc from) program ≤ 1 → one_at b + hits count (suc from) program ≤ 1
-    by false e h = h
+    by false e h = omega (arith, h)
     by true e h = let same = eqb-true program from e in let none = no_hits count (suc from) program (omega (arith, same)) in omega (arith, none)
 
 one_look : (i : ℕ) (s : Show) (shows : List Show) → length (looks_of i (s ∷ shows)) ≡ one_at (nat_eq s.program i) + length (looks_of i shows)
 one_look i s shows = by (nat_eq s.program i)
   where
     by : (b : Bool) → length (cons_option (cond b (Some (look_of s)) None) (looks_of i shows)) ≡ one_at b + length (looks_of i shows)
-    by true = refl
-    by false = refl
+    by true = omega arith
+    by false = omega arith
 
 more_looks : (count from : ℕ) (s : Show) (shows : List Show) → looks_from count from (s ∷ shows) ≡ hits count from s.program + looks_from count from shows
 more_looks zero from s shows = refl
@@ -118,7 +118,7 @@ more_looks (suc count) from s shows =
 
 no_looks : (count from : ℕ) → looks_from count from [] ≡ 0
 no_looks zero from = refl
-no_looks (suc count) from = no_looks count (suc from)
+no_looks (suc count) from = let rest = no_looks count (suc from) in omega (arith, rest)
 
 looks_few : (count from : ℕ) (shows : List Show) → looks_from count from shows ≤ length shows
 looks_few count from [] = let none = no_looks count from in omega (arith, none)
@@ -194,8 +194,9 @@ module _ (programs : List Program) (detaches : List Detach) (ds : List Device) (
           let told = length-map (events_of on.turn) (line_at turn.due turn.program) ∙ length-map on.turn (λ (x : Note). x.event) in
           omega (arith, n, all_few, set, more, notes, after, made, told)
       by (Showing turn from) at =
-          let n = tells_lines programs detaches ds h.begun _ s.tellers ds' at.2 in
-          let sum = length-append lines _ in
+          let rest : List Line = map (line_at turn.due turn.program) (looks_at (memory_of at.0) (looks_of turn.program (drop from h.shows))) in
+          let n = tells_lines programs detaches ds h.begun (lines ++ rest) s.tellers ds' at.2 in
+          let sum = length-append lines rest in
           omega (arith, n, all_few, sum)
 
 -- A host has told few lines.

@@ -25,7 +25,7 @@ told_turns (t ∷ ts) = turns_in t.told + told_turns ts
 
 none_told : (ws : List Program) → told_turns (map starting ws) ≡ 0
 none_told [] = refl
-none_told (w ∷ ws) = none_told ws
+none_told (w ∷ ws) = let rest = none_told ws in omega (arith, rest)
 
 set_turns : (ts : List Teller) (i : ℕ) (t t' : Teller) → slice_get ts i ≡ Some t → told_turns (slice_set ts i t') + turns_in t.told ≡ told_turns ts + turns_in t'.told
 set_turns [] i t t' e = cc
@@ -42,7 +42,7 @@ once (x ∷ xs) h = by (ends_turn x.event) h (once xs)
   where
     by : (b : Bool) → MatchBool b (xs ≡ []) (EndsOnce xs) → (EndsOnce xs → turns_in xs ≡ 1) → one_if b + turns_in xs ≡ 1
     by true e on = ap (λ (l : List Note). 1 + turns_in l) e
-    by false m on = on m
+    by false m on = let rest = on m in omega (arith, rest)
 
 -- so many events are so many turns told
 tells_turns : (programs : List Program) (detaches : List Detach) (ds : List Device) (count : ℕ) (lines : List Line) (tellers : List Teller) (ds' : List Device)

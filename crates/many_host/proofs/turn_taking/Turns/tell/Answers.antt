@@ -1,4 +1,4 @@
-use Rattle.std.proofs.Common.{arith, ◌≤◌, ◌+◌, ◌*◌, ℕ, length, length-set, refl, sym, ap, ◌∙◌, subst}
+use Rattle.std.proofs.Common.{arith, ◌*◌, length-set, refl, sym, ◌∙◌, subst}
 use Rattle.std.proofs.lemmas.List.Elements.{All-set}
 use Rattle.wa_model.specs.View.{event_of}
 use Rattle.many_host.specs.Standing.{IsDueBy, PlaceFits, TurnIsDue, held_of, most_ticks}
@@ -27,11 +27,16 @@ advance-requires-clause-goes g c =
 
 pub returns-clause-range : goal.returns-clause-range
 returns-clause-range g c =
-    let x = c.args.self.now in
     let e = event_of c.in_ok-event.event in
-    let next = c.settle-next.result in
-    let many : length c.advance.new.self ≡ length c.advance.new.self = refl in
-    ?
+    let most = most_ticks * c.args.self.now.begun in
+    let many = length-set c.args.self.now.programs.items c.args.turn.program c.advance.new.self in
+    record {
+      few = omega (arith, many, c.requires.few);
+      wide = length-set c.args.self.now.dues.items c.args.turn.program c.settle-next.result.due ∙ c.requires.wide ∙ sym many;
+      place = subst (PlaceFits _) (sym c.settle-next.ensures.stage) (place_behind _ c.args.turn e (omega (arith, many, c.requires.place)));
+      dues = All-set (IsDueBy most) _ _ c.settle-next.result.due (due_next most c.settle-next.result.due (λ d is. let h = c.settle-next.ensures.later d is in omega (arith, h, c.requires.due))) c.requires.dues;
+      turn = subst (TurnIsDue c.args.self.now.begun) (sym c.settle-next.ensures.stage) (due_behind_it c.args.self.now.begun c.args.turn e c.requires.due);
+    }
 
-pub settle-requires : goal.settle-requires
-settle-requires g c = omega (arith, c.requires.due, c.requires.turns)
+pub settle-next-requires : goal.settle-next-requires
+settle-next-requires g c = omega (arith, c.requires.due, c.requires.turns)
