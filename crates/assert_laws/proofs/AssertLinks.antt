@@ -1,5 +1,5 @@
 -- From the flat module to the one with asserts.
-use Rattle.std.proofs.Common.{◌≡◌, ◌∙◌, ℕ, suc, ◌+◌, ◌≤◌, ◌<◌, List, [], length, Some, None, Bool, refl, sym, ap, subst, arith}
+use Rattle.std.proofs.Common.{◌≡◌, ◌∙◌, ℕ, suc, ◌+◌, ◌≤◌, ◌<◌, List, [], length, Option, Some, None, Bool, refl, sym, ap, subst, arith}
 use Rattle.std.specs.Option.{option_to_list}
 use Rattle.wa_types.specs.declared.values.Trap.{Trap}
 use Rattle.wa_types.specs.declared.values.Value.{Value}
@@ -7,12 +7,14 @@ use Rattle.wa_types.specs.declared.values.Value.TheVariants as V
 use Rattle.wa_types.specs.Modules.{defined_at, func_type_at}
 use Rattle.wa_types.specs.Runtime.{global_space}
 use Rattle.wa_types.specs.Syntax.{Basic, nop, drop, select, const, num, global_get, global_set, load, store, memory_size, memory_grow, Plain, basic, local_get, local_set, local_tee, br, br_if, br_table, return, unreachable, call, call_indirect, Code, done, plain, nest, branch, Func, Module}
+use Rattle.wa_model.specs.declared.answers.Said.TheVariants as S
 use Rattle.wa_model.specs.Blocking.{fault_of, poked, resumed}
 use Rattle.wa_model.specs.Configuration.{Activation, Configuration}
 use Rattle.wa_model.specs.Outside.{Answer}
 use Rattle.wa_model.specs.Plan.{AnswerFits, AreLawful}
 use Rattle.wa_model.specs.Step.{Next, asks, entered, param_count, returns, step, steps, stuck, traps}
 use Rattle.wa_model.specs.Store.{Store, value_at}
+use Rattle.wa_model.proofs.StayingOff.{nothing_off}
 use Rattle.guard_runs.specs.Alike.{MayName, Setting, sides_of}
 use Rattle.guard_runs.specs.Beside as G
 use Rattle.headline.specs.FlatLaw as F
@@ -158,9 +160,9 @@ module _ (w : World) (q written : Module) (role : ℕ → Role) (lay : Activatio
     test_proper s ls ops done h = tt
     test_proper s ls ops (nest y r body rest) h = absurd h
     test_proper s ls ops (branch r a b rest) h = tt
-    test_proper s ls ops (plain (basic (global_get x)) rest) h = (omega arith, tt)
-    test_proper s ls ops (plain (basic (const v)) rest) h = (tt, tt)
-    test_proper s ls ops (plain (basic (num op)) rest) h = (tt, tt)
+    test_proper s ls ops (plain (basic (global_get x)) rest) h = (omega arith, nothing_off v2.area (length s.memory))
+    test_proper s ls ops (plain (basic (const v)) rest) h = (tt, nothing_off v2.area (length s.memory))
+    test_proper s ls ops (plain (basic (num op)) rest) h = (tt, nothing_off v2.area (length s.memory))
     test_proper s ls ops (plain (basic nop) rest) h = absurd h
     test_proper s ls ops (plain (basic drop) rest) h = absurd h
     test_proper s ls ops (plain (basic select) rest) h = absurd h
@@ -299,16 +301,16 @@ module _ (w : World) (q written : Module) (role : ℕ → Role) (lay : Activatio
           link = record { between = fo.to; link = fo.link; beside = a.both };
         }
 
-    answered : (top i : ℕ) (d f : Configuration) (start : Bool) (a : Answer) → W2 top i d f → AnswerFits a
+    answered : (top i : ℕ) (d f : Configuration) (start : Bool) (a : Answer) (v : Option Value) → W2 top i d f → AnswerFits a → a.said ≡ S.Value v
         → fault_of (func_type_at (base w) i).results (length d.store.memory) w.plan start i a ≡ None
-        → FlatOn w2 Live L2 W2 G0 top 9 (resumed d (poked d.store a.pokes) (option_to_list a.value)) (resumed f (poked d.store a.pokes) (option_to_list a.value))
-    answered top i d f start a h fits none2 =
+        → FlatOn w2 Live L2 W2 G0 top 9 (resumed d (poked d.store a.pokes) (option_to_list v)) (resumed f (poked d.store a.pokes) (option_to_list v))
+    answered top i d f start a v h fits told none2 =
         let s2 = poked d.store a.pokes in
         let good = law.poked_good i d.store start a (law.waits_good top i d h.between h.waits) fits none2 in
-        let fo = subst (λ n. FlatOn w Live L W G0 top (4 + n) (resumed d s2 (option_to_list a.value)) (resumed h.between s2 (option_to_list a.value))) none
-        (law.answered top i d h.between start a h.waits fits none2) in
-        on_too top 4 (resumed d s2 (option_to_list a.value)) (resumed h.between s2 (option_to_list a.value)) (resumed f s2 (option_to_list a.value))
-        (R.answers_go_on sd s2 i h.between f (option_to_list a.value) h.asked (zero s2 good)) fo
+        let fo = subst (λ n. FlatOn w Live L W G0 top (4 + n) (resumed d s2 (option_to_list v)) (resumed h.between s2 (option_to_list v))) none
+        (law.answered top i d h.between start a v h.waits fits told none2) in
+        on_too top 4 (resumed d s2 (option_to_list v)) (resumed h.between s2 (option_to_list v)) (resumed f s2 (option_to_list v))
+        (R.answers_go_on sd s2 i h.between f (option_to_list v) h.asked (zero s2 good)) fo
 
     enters : ((x : ℕ) (g : Func) → x < w.funcs → defined_at q x ≡ Some g → (g' : Func) × (defined_at written x ≡ Some g'))
         → (x : ℕ) (args : List Value) (f : Func) (s : Store) → AreLawful (func_type_at (base w) x).params args → G0 s → defined_at (base w) x ≡ Some f → FlatEnters w2 Live L2 W2 G0 x args f s
@@ -344,7 +346,7 @@ asserts_law w q written role lay Live L W G0 law none ok zero there st = record 
   waits_known = λ top i d f h. law.waits_known top i d h.between h.waits;
   small = law.small;
   reduces = λ top spare c f h off. next_too w q written role lay ok Live L W G0 law none zero top spare (step (base w) c) h.between f h.beside (law.reduces top spare c h.between h.link off);
-  answered = λ top i d f start a h fits none2. answered w q written role lay ok Live L W G0 law none zero top i d f start a h fits none2;
+  answered = λ top i d f start a v h fits told none2. answered w q written role lay ok Live L W G0 law none zero top i d f start a v h fits told none2;
   enters = λ x args f s lawful good is. enters w q written role lay ok Live L W G0 law none zero there x args f s lawful good is;
   poked_good = law.poked_good;
   numbers = st.numbers;

@@ -15,7 +15,7 @@ use Rattle.wa_types.specs.Pruned.{is_last}
 use Rattle.wa_types.specs.Syntax.{Plain, basic, local_get, local_set, local_tee, br, br_if, br_table, return, unreachable, call, call_indirect, a_block, a_loop, Code, done, branch, Func, FuncType, Module}
 use Rattle.wa_model.specs.Configuration.{Label, block_label, loop_label, Activation, running, waiting}
 use Rattle.wa_model.specs.Step.{steps, asks, traps, stuck, arity_of, did, entered, finish, invoke, jump, keep, leave, memory_max, param_count, result_count, same_func_type, same_types, step_at, step_plain, through, zero_of}
-use Rattle.wa_model.specs.Store.{Store, Did, works, fails, lacks, act, takes, value_at}
+use Rattle.wa_model.specs.Store.{Store, Did, works, fails, lacks, act, extra_cost, takes, value_at}
 use Rattle.guard_form.specs.Asserts.{assert_code, tested_behind}
 use Rattle.guard_form.specs.Passing.{stays}
 use Rattle.guard_form.proofs.Passing.{passes}
@@ -185,12 +185,12 @@ module _ (w : Sides) where
 
     -- ---- by the instruction
 
-    acted : (ls ops : List Value) (rest rest' : Code) (labels labels' : List Label) (d : Did) → KeptIn w.state (value_at s.globals w.state) d → T rest rest' → Ls labels labels'
-        → Matched w (length us) (did fn us ls labels rest s ops d) (did fn us' ls labels' rest' s ops d)
-    acted ls ops rest rest' labels labels' (works s2 vs) k t la =
-        both_step (record { n = 0; few = omega arith; to = running s2 fn us' ls (vs ++ ops) rest' labels'; goes = stays; both = beside s2 (k ∙ e) fn ls (vs ++ ops) t la un }) (λ z. refl)
-    acted ls ops rest rest' labels labels' (fails tr) k t la = both_trap
-    acted ls ops rest rest' labels labels' lacks k t la = plain_stuck
+    acted : (k : ℕ) (ls ops : List Value) (rest rest' : Code) (labels labels' : List Label) (d : Did) → KeptIn w.state (value_at s.globals w.state) d → T rest rest' → Ls labels labels'
+        → Matched w (length us) (did k fn us ls labels rest s ops d) (did k fn us' ls labels' rest' s ops d)
+    acted k ls ops rest rest' labels labels' (works s2 vs) kept t la =
+        both_step (record { n = 0; few = omega arith; to = running s2 fn us' ls (vs ++ ops) rest' labels'; goes = stays; both = beside s2 (kept ∙ e) fn ls (vs ++ ops) t la un }) (λ z. refl)
+    acted k ls ops rest rest' labels labels' (fails tr) kept t la = both_trap
+    acted k ls ops rest rest' labels labels' lacks kept t la = plain_stuck
 
     br_if_too : (ls ops : List Value) (rest rest' : Code) (labels labels' : List Label) (l : ℕ) → T rest rest' → Ls labels labels'
         → Matched w (length us) (step_plain p s fn us ls ops labels rest (br_if l)) (step_plain q s fn us' ls ops labels' rest' (br_if l))
@@ -226,8 +226,9 @@ module _ (w : Sides) where
     plain_too : (ls ops : List Value) (rest rest' : Code) (labels labels' : List Label) (i : Plain) → ProperPlain w ops i → T rest rest' → Ls labels labels'
         → Matched w (length us) (step_plain p s fn us ls ops labels rest i) (step_plain q s fn us' ls ops labels' (tested_behind w.tests w.state (callee i) rest') i)
     plain_too ls ops rest rest' labels labels' (basic b) pr t la =
-        subst (λ k. Matched w (length us) (step_plain p s fn us ls ops labels rest (basic b)) (did fn us' ls labels' rest' s (drop (takes b) ops) (act k b s (take (takes b) ops)))) (sym ok.most)
-        (acted ls (drop (takes b) ops) rest rest' labels labels' (act (memory_max p) b s (take (takes b) ops)) (act_kept w.state s (memory_max p) b (take (takes b) ops) pr) t la)
+        subst (λ k. Matched w (length us) (step_plain p s fn us ls ops labels rest (basic b))
+        (did (extra_cost b (take (takes b) ops)) fn us' ls labels' rest' s (drop (takes b) ops) (act k b s (take (takes b) ops)))) (sym ok.most)
+        (acted (extra_cost b (take (takes b) ops)) ls (drop (takes b) ops) rest rest' labels labels' (act (memory_max p) b s (take (takes b) ops)) (act_kept w.state s (memory_max p) b (take (takes b) ops) pr) t la)
     plain_too ls ops rest rest' labels labels' (local_get x) pr t la = both_step (here ls (value_at ls x ∷ ops) rest rest' labels labels' t la) (λ z. refl)
     plain_too ls ops rest rest' labels labels' (local_set x) pr t la = set_too ls ops rest rest' labels labels' x t la
     plain_too ls ops rest rest' labels labels' (local_tee x) pr t la = tee_too ls ops rest rest' labels labels' x t la

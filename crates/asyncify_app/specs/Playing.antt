@@ -1,9 +1,10 @@
 -- The run of a generated module, rewritten: a call, a pause, its answer, a return, and the end.
-use Rattle.std.specs.Prelude.{◌≡◌, ℕ, List, [], ◌∷◌, Option, Some, true, false, codes}
-use Rattle.wa_types.specs.declared.values.Value.{Value}
+use Rattle.std.specs.Prelude.{◌≡◌, ℕ, List, [], ◌∷◌, Some, true, false, codes}
 use Rattle.wa_types.specs.declared.values.Value.TheVariants as V
 use Rattle.wa_types.specs.Pausing.{Settings, every, save_all}
 use Rattle.wa_types.specs.Syntax.{Module}
+use Rattle.wa_model.specs.declared.answers.Said.{Said}
+use Rattle.wa_model.specs.declared.answers.Said.TheVariants as S
 use Rattle.wa_model.specs.declared.events.End.TheVariants.{Done}
 use Rattle.wa_model.specs.Outside.{Call, called, answered, paused, returned, ended, AnswerLine}
 use Rattle.wa_model.specs.Blocking.{Note, events_of}
@@ -18,7 +19,7 @@ all_listed = record { choice = every; ignore_indirect = false; policy = save_all
 
 -- `env.sleep` is answered by 41, one tick later
 abbrev pub sleep_answer : AnswerLine
-sleep_answer = record { import = codes "env.sleep"; answer = record { value = Some (V.I32 41); pokes = []; ticks = 1 } }
+sleep_answer = record { import = codes "env.sleep"; answer = record { said = S.Value (Some (V.I32 41)); pokes = []; ticks = 1 } }
 
 -- The program over a module whose last function, of index n, is exported as `run`: that is entered with 7. The area is a whole
 -- page, the one import is listed, one answer is given, and there are 100,000,000 steps.
@@ -42,10 +43,10 @@ pub record PausesOnce (w : W.Program) (used value : ℕ) : Type 0 where
   pub notes : List Note
   pub story : IsStory w notes
   pub call : Call
-  pub answer : Option Value
+  pub said : Said
   pub ticks : ℕ
   pub entry : ℕ
-  pub events : events_of notes ≡ called call ∷ paused ticks used ∷ answered answer ∷ returned entry (Some (V.I32 value)) ∷ ended Done ∷ []
+  pub events : events_of notes ≡ called call ∷ paused ticks used ∷ answered said ∷ returned entry (Some (V.I32 value)) ∷ ended Done ∷ []
 
 -- It is the program of the generated module of n functions, rewritten.
 pub record PlaysGenerated (n used value : ℕ) : Type 0 where

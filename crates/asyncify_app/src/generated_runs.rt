@@ -1,13 +1,13 @@
 //! A run of a generated module, rewritten, event by event.
 
-ghost use Rattle.std.specs.Prelude.{◌≡◌, ◌≤◌, ◌∷◌, [], ℕ, IfOk, List, None, OnOk, Option, Some};
+ghost use Rattle.std.specs.Prelude.{◌≡◌, ◌≤◌, ◌∷◌, [], ℕ, IfOk, List, None, OnOk, Some};
 ghost use Rattle.wa_model.specs.Blocking.{Note};
 ghost use Rattle.wa_model.specs.Outside.{Call, answered, called, ended, paused, returned};
 ghost use Rattle.wa_model.specs.Rewrites.{Rewrites};
 ghost use Rattle.wa_model.specs.World.{Program as WorldProgram};
 ghost use Rattle.wa_model.specs.declared.events.End.TheVariants.{Done};
 ghost use Rattle.wa_types.specs.View.{module_of};
-ghost use Rattle.wa_types.specs.declared.values.Value.{Value as PlainValue};
+ghost use Rattle.wa_model.specs.declared.answers.Said.{Said};
 ghost use Rattle.wa_types.specs.declared.values.Value.TheVariants as V;
 ghost use Rattle.gen_module.specs.Generated.{generated, sleep};
 ghost use Rattle.pause_host.specs.Programs.{FollowsAlone, ended_as};
@@ -87,7 +87,7 @@ fn hear_pause(program: &mut Program<'_>) -> Result<u32, AllocError>
 fn hear_answer(program: &mut Program<'_>) -> Result<(), AllocError>
     requires { (w : WorldProgram) × (notes : List Note) × FollowsAlone w notes program.old }
     ensures { (w : WorldProgram) (notes : List Note) → FollowsAlone w notes program.old → ended_as program.old ≡ None
-        → OnOk result ((answer : Option PlainValue) × TellsNext w notes (answered answer) program.new) }
+        → OnOk result ((said : Said) × TellsNext w notes (answered said) program.new) }
 {
     match program.advance_alone()? {
         Event::Answered(_) => Ok(()),

@@ -18,7 +18,7 @@ use call_graph::{Choice, Policy, Settings};
 use module_rewrite::{RewriteFault, asyncify_module};
 use pause_host::{Entry, Plan, Program, unbound};
 use std::alloc::{AllocError, Global};
-use wa_model::{Answer, AnswerLine, Area};
+use wa_model::{Answer, AnswerLine, Area, Said};
 use wa_types::{Module, Name, Value};
 use wasm_validate::{Valid, ValidateFault, validate};
 
@@ -96,7 +96,7 @@ fn sleep_answer(alloc: Global) -> Result<AnswerLine, AllocError>
     Ok(AnswerLine {
         import: Name::new(alloc, "env.sleep")?,
         answer: Answer {
-            value: Some(Value::I32(41)),
+            said: Said::Value(Some(Value::I32(41))),
             pokes: Vec::new(alloc),
             ticks: 1,
         },

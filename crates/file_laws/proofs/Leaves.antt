@@ -7,7 +7,7 @@ use Rattle.leb_numbers.specs.Leb.{IsUnsigned}
 use Rattle.wa_types.specs.Encoding.{space_byte, mutable_byte}
 use Rattle.wa_types.specs.Opcodes.{is_value_type, is_block_type}
 use Rattle.wa_types.specs.Binary.{RawKind, raw_func, raw_table, raw_memory, raw_global}
-use Rattle.wa_types.specs.Begun.{Goal, exact, number, name, value_type, block_type, mutable, import_kind, space, limits, signed, sized, float_bytes, Item, a_byte, an_unsigned, a_signed, a_name, a_constant_of, IsItem, wants, next, behind_flag, behind_kind, name_of}
+use Rattle.wa_types.specs.Begun.{Goal, exact, number, name, value_type, block_type, mutable, import_kind, space, limits, signed, name_bytes, float_bytes, Item, a_byte, an_unsigned, a_signed, a_name, a_constant_of, IsItem, wants, next, behind_flag, behind_kind, name_of}
 use Rattle.wa_types.specs.Spells.{◌▸◌, Exactly, Number, SignedNumber, Text, ValueType, BlockType, Maximum, LimitsOf, TableType, GlobalType, ImportKindOf}
 use Rattle.file_laws.proofs.GoalReads.{Any, Reads, ReadsNext, reads_none, reads_then, reads_as, Begins, reads_first, next_where}
 
@@ -170,18 +170,18 @@ reads_limits = reads_as _ (Begins a_byte (λ v k. Flagged v)) (Any LimitsOf) lim
 abbrev pub NameOf : ℕ → ℕ → List ℕ → Type 0
 NameOf n at bytes = (length bytes ≡ n) × IsUtf8 bytes
 
-name_some : (n : ℕ) → Reads (sized (suc n) ∷ []) (NameOf (suc n))
+name_some : (n : ℕ) → Reads (name_bytes (suc n) ∷ []) (NameOf (suc n))
 unfolding next
 name_some n = reads_as _ (Begins (a_name (suc n)) (λ v k. Exactly [])) (NameOf (suc n))
     (λ at a h. let i = alone (a_name (suc n)) at a h in (i.1.1, i.1.2))
     (λ at a h. with_nothing (a_name (suc n)) at 0 a (omega arith, h.0, h.1, refl))
-    (reads_first (sized (suc n)) (λ v k. Exactly []) refl refl (λ v k. reads_none))
+    (reads_first (name_bytes (suc n)) (λ v k. Exactly []) refl refl (λ v k. reads_none))
 
 none_long : (a : List ℕ) → length a ≡ 0 → a ≡ []
 none_long [] e = refl
 none_long (x ∷ a) e = absurd (omega (arith, e))
 
-some_name : (n : ℕ) → name_of (suc n) ≡ sized (suc n) ∷ []
+some_name : (n : ℕ) → name_of (suc n) ≡ name_bytes (suc n) ∷ []
 some_name n = let e : nat_eq (suc n) 0 ≡ false = grind (arith) in rw e refl
 
 pub reads_name_of : (n : ℕ) → Reads (name_of n) (NameOf n)

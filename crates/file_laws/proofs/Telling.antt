@@ -6,7 +6,7 @@ use Rattle.wa_types.specs.declared.syntax.Limits.{Limits}
 use Rattle.wa_types.specs.Encoding.{space_byte, mutable_byte}
 use Rattle.wa_types.specs.Opcodes.{is_float_type}
 use Rattle.wa_types.specs.Binary.{Placed, RawKind, raw_func, raw_table, raw_memory, raw_global}
-use Rattle.wa_types.specs.Begun.{Goal, exact, sections, number, name, value_type, block_type, mutable, import_kind, space, limits, signed, sized, until, count, entries, EntryKind, a_byte, first_of, IsItem, wants, next, entry, others, and_then, some_of, name_of, where_true, closing, open_ended, settled, Inside, Steps, some_indices}
+use Rattle.wa_types.specs.Begun.{Goal, exact, sections, number, name, value_type, block_type, mutable, import_kind, space, limits, signed, name_bytes, until, count, entries, EntryKind, a_byte, first_of, IsItem, wants, next, entry, others, and_then, some_of, name_of, where_true, closing, open_ended, settled, Inside, Steps, some_indices}
 use Rattle.wa_types.specs.Marks.{place_if, float_type}
 use Rattle.wa_types.specs.ModuleBounds.{ModuleBounds}
 use Rattle.wa_types.specs.Spells.{◌▸◌, Exactly, Number, SignedNumber, Items, Vector, TextBytes, Text, ValueType, BlockType, Maximum, LimitsOf, TableType, GlobalType, ImportKindOf}
@@ -181,9 +181,9 @@ module _ (b : ModuleBounds) (last : ℕ) where
   gives_name_bytes more (x ∷ xs) at a c t h k =
       let n = length (x ∷ xs) in
       let e : nat_eq n 0 ≡ false = grind (arith) in
-      let f : name_of n ≡ sized n ∷ [] = rw e refl in
+      let f : name_of n ≡ name_bytes n ∷ [] = rw e refl in
       subst (λ z. Tells b last (z ++ more) at (a ++ c) t) (sym f)
-      (give (sized n) more [] at 0 a c t refl (omega arith, ap length h.0, subst IsUtf8 (sym h.0) h.1, refl) refl k)
+      (give (name_bytes n) more [] at 0 a c t refl (omega arith, ap length h.0, subst IsUtf8 (sym h.0) h.1, refl) refl k)
 
   pub gives_text : (more : List Goal) (xs : List ℕ) → Gives (name ∷ more) more (Text xs) nothing_seen
   unfolding next

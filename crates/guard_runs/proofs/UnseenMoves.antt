@@ -6,16 +6,18 @@ use Rattle.wa_types.specs.declared.values.Value.{Value}
 use Rattle.wa_types.specs.Syntax.{Func, Module}
 use Rattle.wa_types.specs.Modules.{defined_at}
 use Rattle.wa_model.specs.declared.answers.Area.{Area}
+use Rattle.wa_model.specs.declared.answers.Said.{Said}
+use Rattle.wa_model.specs.declared.answers.Said.TheVariants as S
 use Rattle.wa_model.specs.Outside.{Answer}
 use Rattle.wa_model.specs.Machine.{Turn, goes, Ran, after, run, Leads, stays, moves}
 use Rattle.wa_model.specs.Store.{Store}
 use Rattle.wa_model.specs.Configuration.{Configuration}
 use Rattle.wa_model.specs.Step.{Next, steps, asks, returns, traps, stuck, entered, step}
 use Rattle.wa_model.specs.Plan.{Entry, Plan}
-use Rattle.wa_model.specs.Blocking.{Note, resumed, Left}
+use Rattle.wa_model.specs.Blocking.{Note, poked, resumed, Left}
 use Rattle.wa_model.specs.Expected.{SameEnd}
 use Rattle.run_theory.specs.Alone.{alone_next, alone}
-use Rattle.wa_model.specs.Protocol.{Exports, Phase, is_running, unwinds, rewinds, Then, give_zero, test_unwound, pause_there, call_again, test_rewound, give_answer, Held, free, starting, busy, calling, aside, entering, over, broken, is_state, zeros_of, busy_step, aside_back, aside_step, busy_enters, aside_called, protocol, store_held}
+use Rattle.wa_model.specs.Protocol.{Exports, Phase, is_running, unwinds, rewinds, Then, give_zero, test_unwound, pause_there, call_again, test_rewound, give_answer, Held, free, starting, busy, calling, aside, entering, over, broken, held_resumed, is_state, zeros_of, busy_step, aside_back, aside_step, busy_enters, aside_called, protocol, store_held}
 use Rattle.run_theory.proofs.Runs.{one_move, too_dear, leads_on}
 use Rattle.frame_laws.specs.Stretches.{GoesKeeping}
 use Rattle.guard_runs.specs.UnseenMoves.{kept_held, turn_if, watched, GoesUnseen, EachInstant}
@@ -59,6 +61,10 @@ module _ (g : ℕ) (area : Area) (p : Module) (x : Exports) (plan : Plan) where
   busy_rewinds e i a sp l s (traps j tr t) k b h q = cc
   busy_rewinds e i a sp l s stuck k b h q = cc
 
+  -- what is said is told in the move that gives it
+  resumed_tells : (j : ℕ) (e : Entry) (said : Said) (sp : Store) (c : Configuration) (l : Left) (t : Store) (k : ℕ) (b : Held) → held_resumed j e said sp c l t ≡ goes k [] b → ⊥
+  resumed_tells j e (S.Value v) sp c l t k b q = cc
+
   back_keeps : (ph : Phase) (th : Then) (l : Left) (vs : List Value) (s t : Store) (j k : ℕ) (b : Held) → Same s t → aside_back p x plan j ph th l vs t ≡ goes k [] b
       → Same s (store_held b)
   back_keeps (unwinds e i a) (give_zero c) l vs s t j k b h q = to_held s t (busy (unwinds e i a) (resumed c t (zeros_of p i)) l) b k j refl h q
@@ -74,7 +80,7 @@ module _ (g : ℕ) (area : Area) (p : Module) (x : Exports) (plan : Plan) where
       by_state : (z : Bool) → (if z then goes j [] (calling (rewinds e i a sp) t x.stop_rewind [] (give_answer c) l) else broken j 4 t) ≡ goes k [] b → Same s (store_held b)
       by_state true q = to_held s t (calling (rewinds e i a sp) t x.stop_rewind [] (give_answer c) l) b k j refl h q
       by_state false q = cc
-  back_keeps (rewinds e i a sp) (give_answer c) l vs s t j k b h q = cc
+  back_keeps (rewinds e i a sp) (give_answer c) l vs s t j k b h q = absurd (resumed_tells j e a.said sp c l (poked t a.pokes) k b q)
   back_keeps _ _ l vs s t j k b h q = cc
 
   aside_keeps : (ph : Phase) (th : Then) (l : Left) (s : Store) (o : Next) (k : ℕ) (b : Held) → NextKeeps g area s o → aside_step p x plan ph th l o ≡ goes k [] b

@@ -3,7 +3,6 @@ use Rattle.frame_laws.specs.Suspended.{AllStandFor}
 use Rattle.guard_form.specs.AssertedRuns.{is_stuck, Reach, stands_numbered}
 use Rattle.wa_types.specs.Pausing.{Settings}
 use Rattle.std.specs.List.{list_all}
-use Rattle.std.specs.Option.{option_to_list}
 use Rattle.std.specs.Prelude.{◌≡◌, ◌≢◌, ℕ, ◌+◌, ◌*◌, ◌^◌, ◌≤◌, ◌<◌, ◌⊎◌, List, [], ◌∷◌, length, map, Some, None, Bool, true, false, ◌++◌}
 use Rattle.wa_types.specs.Frames.{word, HoldsBytes, Suspended}
 use Rattle.wa_types.specs.Memory.{bytes_at}
@@ -13,12 +12,12 @@ use Rattle.wa_types.specs.Syntax.{Code, Func, Module}
 use Rattle.wa_types.specs.declared.values.Trap.TheVariants.{Unreachable}
 use Rattle.wa_types.specs.declared.values.Value.{Value}
 use Rattle.wa_types.specs.declared.values.Value.TheVariants as V
-use Rattle.wa_model.specs.Blocking.{note, an_entry, Left, resumed, poked}
+use Rattle.wa_model.specs.Blocking.{note, Left, poked}
 use Rattle.wa_model.specs.Configuration.{Activation, Configuration, waiting}
 use Rattle.wa_model.specs.Machine.{goes}
 use Rattle.wa_model.specs.Outside.{Answer, paused, ended}
 use Rattle.wa_model.specs.Plan.{Entry, Plan}
-use Rattle.wa_model.specs.Protocol.{Exports, is_running, unwinds, rewinds, give_zero, call_again, Held, busy, calling, over, with_words, answer_note, protocol}
+use Rattle.wa_model.specs.Protocol.{Exports, unwinds, rewinds, give_zero, call_again, Held, busy, calling, over, with_words, held_resumed, protocol}
 use Rattle.wa_model.specs.Step.{traps, result_count, step}
 use Rattle.wa_model.specs.Store.{Store, value_at}
 use Rattle.wa_model.specs.declared.answers.Area.{Area}
@@ -162,7 +161,7 @@ pub record AnswersAt (g st adr : ℕ) (p : Module) (x : Exports) (plan : Plan) (
   pub waits : Configuration
   pub waits_as : (waits.here ≡ waiting v.func locals [] v.taken v.site.behind v.site.again) × (waits.under ≡ under)
   pub store : Store
-  pub tells : protocol p x plan at ≡ goes 0 (answer_note a.value (poked store a.pokes) s ∷ []) (busy (is_running (an_entry e)) (resumed waits (poked store a.pokes) (option_to_list a.value)) l)
+  pub tells : protocol p x plan at ≡ held_resumed 0 e a.said s waits l (poked store a.pokes)
   pub around : SameAround st adr plan.area s store
   pub lowered : Lowered plan.area (plan.area.at + 8) s.memory store.memory
 

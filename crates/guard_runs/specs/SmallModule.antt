@@ -8,6 +8,7 @@ use Rattle.wa_types.specs.declared.values.Value.TheVariants as V
 use Rattle.wa_types.specs.Pausing.{Callee, direct}
 use Rattle.wa_types.specs.Runtime.{with_runtime}
 use Rattle.wa_types.specs.Syntax.{num, basic, call, done, plain, Func, Module}
+use Rattle.wa_model.specs.declared.answers.Said.TheVariants as S
 use Rattle.wa_model.specs.Blocking.{Left}
 use Rattle.run_theory.specs.Flat.{Stmts, no_more, computes, copies, calls}
 use Rattle.wa_model.specs.Outside.{Answer}
@@ -121,7 +122,7 @@ entry = record { func = 1; args = [] }
 
 -- 37, after a pause of 3 ticks
 abbrev pub answer : Answer
-answer = record { value = Some (V.I32 37); pokes = []; ticks = 3 }
+answer = record { said = S.Value (Some (V.I32 37)); pokes = []; ticks = 3 }
 
 -- nothing is left behind it
 abbrev pub left : Left

@@ -13,16 +13,17 @@ use Rattle.run_laws.proofs.Keeping.{same_refl}
 use Rattle.std.proofs.Common.{All, Bool, List, None, Option, Some, [], ap, arith, false, length, refl, subst, suc, sym, true, zero, ℕ, ◌*◌, ◌+◌, ◌<◌, ◌∙◌, ◌∷◌, ◌≡◌, ◌≤◌}
 use Rattle.std.specs.Option.{option_to_list}
 use Rattle.std.specs.Prelude.{if◌then◌else◌}
-use Rattle.wa_model.specs.Blocking.{Left, Note, State, Task, answers, asked, bad_pause, bad_poke, by_step, call_note, ends_at_call, fault_of, go_on, halts, inside, is_start, is_unlisted, note, or_else, pause_of, poked, resumed, runs, tested, with_outcomes}
+use Rattle.wa_model.specs.Blocking.{Left, Note, State, Task, asked, bad_pause, bad_poke, bad_value, by_step, call_note, ends_at_call, fault_of, go_on, halts, inside, is_start, is_unlisted, note, or_else, pause_of, poked, resumed, runs, tested, with_outcomes}
 use Rattle.wa_model.specs.Configuration.{Configuration, stack_of}
 use Rattle.wa_model.specs.Machine.{Turn, goes}
 use Rattle.wa_model.specs.Outside.{Answer, answered, ended}
 use Rattle.wa_model.specs.Plan.{AnswerFits, Outcome, OutcomeFits, Plan, given, refused}
-use Rattle.wa_model.specs.Protocol.{Held, busy, busy_step, held_asked, held_ends, held_tested, is_running, over}
+use Rattle.wa_model.specs.Protocol.{Held, busy, busy_step, held_asked, held_ends, held_given, held_tested, is_running, over}
 use Rattle.wa_model.specs.Step.{asks, step}
 use Rattle.wa_model.specs.Store.{Store}
+use Rattle.wa_model.specs.declared.answers.Said.{Said}
+use Rattle.wa_model.specs.declared.answers.Said.TheVariants as S
 use Rattle.wa_model.specs.declared.events.End.{End}
-use Rattle.wa_model.specs.declared.events.End.TheVariants.{BadAnswer}
 use Rattle.wa_types.specs.Modules.{func_type_at}
 use Rattle.wa_types.specs.declared.values.ValType.{ValType}
 use Rattle.wa_types.specs.declared.values.Value.{Value}
@@ -33,6 +34,10 @@ first_fits o os h = let lt : 0 < length (o ∷ os) = omega arith in h 0 o lt
 pub others_fit : (o : Outcome) (os : List Outcome) → All OutcomeFits (o ∷ os) → All OutcomeFits os
 others_fit o os h = λ k d lt. let more : suc k < length (o ∷ os) = omega arith in h (suc k) d more
 
+-- what was said is a value
+pub value_said : {X : Type 0} (said : Said) → ((v : Option Value) → said ≡ S.Value v → X) → X
+value_said (S.Value v) h = h v refl
+
 -- an answer without a fault has no bad poke
 else_none : (a b : Option End) → or_else a b ≡ None → (a ≡ None) × (b ≡ None)
 else_none None b h = (refl, h)
@@ -40,13 +45,13 @@ else_none (Some e) b h = cc
 
 pub no_bad_poke : (types : List ValType) (size : ℕ) (plan : Plan) (start : Bool) (i : ℕ) (a : Answer) → fault_of types size plan start i a ≡ None → bad_poke size plan.area a.pokes ≡ None
 no_bad_poke types size plan start i a h =
-    let q = else_none (if answers types a.value then None else Some (BadAnswer i a.value)) (or_else (bad_poke size plan.area a.pokes) (bad_pause start (is_unlisted plan.listed i) i a.ticks)) h in
+    let q = else_none (bad_value types i a.said) (or_else (bad_poke size plan.area a.pokes) (bad_pause start (is_unlisted plan.listed i) i a.ticks)) h in
     (else_none (bad_poke size plan.area a.pokes) (bad_pause start (is_unlisted plan.listed i) i a.ticks) q.1).0
 
 -- nor does it pause inside the start function
 pub no_pause_in_start : (types : List ValType) (size : ℕ) (plan : Plan) (i : ℕ) (a : Answer) → fault_of types size plan true i a ≡ None → pause_of a.ticks ≡ None
 no_pause_in_start types size plan i a h =
-    let q = else_none (if answers types a.value then None else Some (BadAnswer i a.value)) (or_else (bad_poke size plan.area a.pokes) (bad_pause true (is_unlisted plan.listed i) i a.ticks)) h in
+    let q = else_none (bad_value types i a.said) (or_else (bad_poke size plan.area a.pokes) (bad_pause true (is_unlisted plan.listed i) i a.ticks)) h in
     by_ticks a.ticks (else_none (bad_poke size plan.area a.pokes) (bad_pause true (is_unlisted plan.listed i) i a.ticks) q.1).1
   where
     by_ticks : (t : ℕ) → bad_pause true (is_unlisted plan.listed i) i t ≡ None → pause_of t ≡ None
@@ -57,7 +62,7 @@ no_pause_in_start types size plan i a h =
 pub pause_allowed : (types : List ValType) (size : ℕ) (plan : Plan) (start : Bool) (i : ℕ) (a : Answer) (ticks : ℕ) → fault_of types size plan start i a ≡ None → pause_of a.ticks ≡ Some ticks
     → is_unlisted plan.listed i ≡ false
 pause_allowed types size plan start i a ticks h et =
-    let q = else_none (if answers types a.value then None else Some (BadAnswer i a.value)) (or_else (bad_poke size plan.area a.pokes) (bad_pause start (is_unlisted plan.listed i) i a.ticks)) h in
+    let q = else_none (bad_value types i a.said) (or_else (bad_poke size plan.area a.pokes) (bad_pause start (is_unlisted plan.listed i) i a.ticks)) h in
     by start (is_unlisted plan.listed i) a.ticks (else_none (bad_poke size plan.area a.pokes) (bad_pause start (is_unlisted plan.listed i) i a.ticks) q.1).1 et
   where
     by : (s u : Bool) (t : ℕ) → bad_pause s u i t ≡ None → pause_of t ≡ Some ticks → u ≡ false
@@ -163,7 +168,7 @@ module _ (w : World) (ft : WorldFits w) (sl : StoreLaws w) (L : (top spare : ℕ
       answer_fits a os eo = first_fits (given a) os (subst (All OutcomeFits) eo lf.outcomes)
 
       pub went_on : (a : Answer) (os : List Outcome) → l.outcomes ≡ given a ∷ os → fault a ≡ None
-          → nb w a0 ≡ go_on k (call_note i args d.store (stack_of (base w) d) (pause_of a.ticks)) a (poked d.store a.pokes) (with_outcomes l os) (inside task d)
+          → nb w a0 ≡ go_on k (call_note i args d.store (stack_of (base w) d) (pause_of a.ticks)) a.said (poked d.store a.pokes) (with_outcomes l os) (inside task d)
       went_on a os eo ef = was ∙ ap (asked (base w) w.plan k i args (inside task d) l) eo ∙ ap (tested (base w) k i args (inside task d) (with_outcomes l os) a) ef
 
       -- the answer is given on both sides, from a suspended stack that the original's belongs to
@@ -175,38 +180,41 @@ module _ (w : World) (ft : WorldFits w) (sl : StoreLaws w) (L : (top spare : ℕ
         pub silent : Sil w seen (busy (is_running task) from lo) cost (busy (is_running task) to lo)
         pub link : Link w ft sl L W G law top left c2 to
 
-      pub give : (lo : Left) (a : Answer) (f bw : Configuration) → W top i d f → Alike (setting w top) d.store bw.store → Callers (sides w top) i (f.here ∷ f.under) (bw.here ∷ bw.under)
+      pub give : (lo : Left) (a : Answer) (v : Option Value) (f bw : Configuration) → a.said ≡ S.Value v → W top i d f → Alike (setting w top) d.store bw.store → Callers (sides w top) i (f.here ∷ f.under) (bw.here ∷ bw.under)
           → AnswerFits a → fault a ≡ None
-          → Given_on lo (poked d.store a.pokes) (resumed d (poked d.store a.pokes) (option_to_list a.value)) (resumed bw (poked bw.store a.pokes) (option_to_list a.value))
-      give lo a f bw wt like us fits ef =
+          → Given_on lo (poked d.store a.pokes) (resumed d (poked d.store a.pokes) (option_to_list v)) (resumed bw (poked bw.store a.pokes) (option_to_list v))
+      give lo a v f bw told wt like us fits ef =
           let alike2 = sl.poked_too top d.store bw.store a like (no_bad_poke (func_type_at (base w) i).results (length d.store.memory) w.plan (is_start task) i a ef) in
-          let nr = answers_go_on (sides w top) (poked d.store a.pokes) (poked bw.store a.pokes) i f.here bw.here f.under bw.under (option_to_list a.value)
+          let nr = answers_go_on (sides w top) (poked d.store a.pokes) (poked bw.store a.pokes) i f.here bw.here f.under bw.under (option_to_list v)
           (together (setting w top) (ft.paired top)) alike2 us in
-          let fo = law.answered top i d f (is_start task) a wt fits ef in
-          let u = along w ft sl top task lo (poked d.store a.pokes) (resumed f (poked d.store a.pokes) (option_to_list a.value)) fo.to
-          (resumed bw (poked bw.store a.pokes) (option_to_list a.value)) fo.n fo.goes nr (same_refl (gl w) w.plan.area (poked d.store a.pokes)) in
+          let fo = law.answered top i d f (is_start task) a v wt fits told ef in
+          let u = along w ft sl top task lo (poked d.store a.pokes) (resumed f (poked d.store a.pokes) (option_to_list v)) fo.to
+          (resumed bw (poked bw.store a.pokes) (option_to_list v)) fo.n fo.goes nr (same_refl (gl w) w.plan.area (poked d.store a.pokes)) in
           let a1 = fo.few in let a2 = u.most in let a3 = ft.few_tests in
           record { cost = u.cost; left = fo.left; few = omega arith; to = u.to; silent = u.silent; link = record { flat_at = fo.to; link = fo.link; near = u.near } }
 
-      at_once : (a : Answer) (os : List Outcome) → l.outcomes ≡ given a ∷ os → fault a ≡ None → pause_of a.ticks ≡ None
+      at_once : (a : Answer) (v : Option Value) (os : List Outcome) → a.said ≡ S.Value v → l.outcomes ≡ given a ∷ os → fault a ≡ None → pause_of a.ticks ≡ None
           → O (sh w (tested (base w) k i args (inside task d) (with_outcomes l os) a None))
-      at_once a os eo ef et =
+      at_once a v os told eo ef et =
           let lo = with_outcomes l os in
           let alike2 = sl.poked_too top d.store (cd.at).store a cd.alike (no_bad_poke (func_type_at (base w) i).results (length d.store.memory) w.plan (is_start task) i a ef) in
           let same2 = sl.same_end top (poked d.store a.pokes) (poked (cd.at).store a.pokes) alike2 in
-          let gv = give lo a cd.flat_at cd.at cd.waits cd.alike cd.stack (answer_fits a os eo) ef in
-          let mv = tested_now a os None eo ef ∙ ap (held_tested w.written (xp w) w.plan cd.j i args (inside task cd.at) lo a None) et in
+          let gv = give lo a v cd.flat_at cd.at told cd.waits cd.alike cd.stack (answer_fits a os eo) ef in
+          let mv = tested_now a os None eo ef ∙ ap (held_tested w.written (xp w) w.plan cd.j i args (inside task cd.at) lo a None) et
+          ∙ ap (λ z. held_given cd.j (call_note i args (cd.at).store (stack_of w.written cd.at) None) z (poked (cd.at).store a.pokes) lo (inside task cd.at)) told in
           let a1 = cd.few in let a2 = gv.few in
-          let was2 = went_on a os eo ef ∙ ap (λ z. go_on k (call_note i args d.store (stack_of (base w) d) z) a (poked d.store a.pokes) lo (inside task d)) et in
-          let owes : O (goes k (call_note i args d.store (stack_of (base w) d) None ∷ note (answered a.value) (poked d.store a.pokes) ∷ [])
-          (runs task (resumed d (poked d.store a.pokes) (option_to_list a.value)) lo)) =
-          tell_move w ft sl L W G law n spare k cd.j cd.cost gv.cost (10 * gv.left) a0 (runs task (resumed d (poked d.store a.pokes) (option_to_list a.value)) lo) b0 b1
-          (busy (is_running task) (resumed cd.at (poked (cd.at).store a.pokes) (option_to_list a.value)) lo) (busy (is_running task) gv.to lo)
-          (call_note i args d.store (stack_of (base w) d) None ∷ []) (call_note i args (cd.at).store (stack_of w.written cd.at) None ∷ note (answered a.value) (poked (cd.at).store a.pokes)
-          ∷ []) (note (answered a.value) (poked d.store a.pokes)) cd.silent mv
+          let was2 = went_on a os eo ef ∙ ap (λ z. go_on k (call_note i args d.store (stack_of (base w) d) z) a.said (poked d.store a.pokes) lo (inside task d)) et
+          ∙ ap (λ z. go_on k (call_note i args d.store (stack_of (base w) d) None) z (poked d.store a.pokes) lo (inside task d)) told in
+          let owes : O (goes k (call_note i args d.store (stack_of (base w) d) None ∷ note (answered (S.Value v)) (poked d.store a.pokes) ∷ [])
+          (runs task (resumed d (poked d.store a.pokes) (option_to_list v)) lo)) =
+          tell_move w ft sl L W G law n spare k cd.j cd.cost gv.cost (10 * gv.left) a0 (runs task (resumed d (poked d.store a.pokes) (option_to_list v)) lo) b0 b1
+          (busy (is_running task) (resumed cd.at (poked (cd.at).store a.pokes) (option_to_list v)) lo) (busy (is_running task) gv.to lo)
+          (call_note i args d.store (stack_of (base w) d) None ∷ []) (call_note i args (cd.at).store (stack_of w.written cd.at) None ∷ note (answered (S.Value v)) (poked (cd.at).store a.pokes)
+          ∷ []) (note (answered (S.Value v)) (poked d.store a.pokes)) cd.silent mv
           (same_note w _ _ refl same_d tt refl, (same_note w _ _ refl same2 tt refl, tt)) gv.silent cd.least (omega arith)
           (λ enough. r_runs top gv.left (omega arith) is_top gv.link (left_fits a os eo) (allowed_on w n k _ a0 _ was2 al)) in
-          subst (λ z. O (sh w (go_on k (call_note i args d.store (stack_of (base w) d) z) a (poked d.store a.pokes) lo (inside task d)))) (sym et) owes
+          subst (λ z. O (sh w (go_on k (call_note i args d.store (stack_of (base w) d) z) a.said (poked d.store a.pokes) lo (inside task d)))) (sym et)
+          (subst (λ z. O (sh w (go_on k (call_note i args d.store (stack_of (base w) d) None) z (poked d.store a.pokes) lo (inside task d)))) (sym told) owes)
 
       -- a pause is left to its own file
       abbrev pub Pausing : Type 0
@@ -218,7 +226,7 @@ module _ (w : World) (ft : WorldFits w) (sl : StoreLaws w) (L : (top spare : ℕ
         where
           by_pause : (a : Answer) (os : List Outcome) → l.outcomes ≡ given a ∷ os → fault a ≡ None → (o : Option ℕ) → pause_of a.ticks ≡ o
               → O (sh w (tested (base w) k i args (inside task d) (with_outcomes l os) a None))
-          by_pause a os eo ef None et = at_once a os eo ef et
+          by_pause a os eo ef None et = value_said a.said (λ v told. at_once a v os told eo ef et)
           by_pause a os eo ef (Some ticks) et = pausing a os ticks eo ef et
 
           by_fault : (a : Answer) (os : List Outcome) → l.outcomes ≡ given a ∷ os → (o : Option End) → fault a ≡ o → O (sh w (tested (base w) k i args (inside task d) (with_outcomes l os) a o))

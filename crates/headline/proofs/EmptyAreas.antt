@@ -11,11 +11,12 @@ use Rattle.wa_types.specs.Sizes.{WellFormed}
 use Rattle.wa_types.specs.Syntax.{Module}
 use Rattle.wa_model.specs.declared.answers.Area.{Area}
 use Rattle.wa_model.specs.Outside.{Event, called, answered, paused, returned, ended, shown as is_shown}
-use Rattle.wa_model.specs.Store.{Access, Store}
+use Rattle.wa_model.specs.Store.{Store}
 use Rattle.wa_model.specs.Plan.{Plan, Outcome}
 use Rattle.wa_model.specs.Blocking.{Note, State, between, begins, runs, halts, events_of, overlap, Blocking}
 use Rattle.wa_model.specs.Protocol.{Protocol, store_held}
-use Rattle.wa_model.specs.Untouched.{IsCalm, StaysOff, next_access}
+use Rattle.wa_model.specs.Untouched.{IsCalm, next_ranges}
+use Rattle.wa_model.proofs.StayingOff.{each_off}
 use Rattle.wa_model.specs.Expected.{SameEnd, shown, shown_at}
 use Rattle.wa_model.specs.Behaves.{BehavesOn, IsPrefix, PauseNumbered, expected_notes, pause_stacks, protocol_notes, stack_if, unless_pause, without_pauses, GivenUnpaused, RunsAlike, SameWhole}
 use Rattle.run_laws.specs.Standing.{PauseTold}
@@ -52,14 +53,10 @@ off_nowhere a n = by (nat_lt 0 n)
     by true = refl
     by false = refl
 
-stays_off : (size : ℕ) (o : Option Access) → StaysOff nowhere size o
-stays_off size None = tt
-stays_off size (Some x) = λ le. off_nowhere x.at x.width
-
 calm : (t : State) → IsCalm nowhere t
 calm (between s l) = tt
 calm (begins x s l) = tt
-calm (runs task c l) = stays_off (length c.store.memory) (next_access c)
+calm (runs task c l) = each_off nowhere (length c.store.memory) (λ x. off_nowhere x.at x.len) (next_ranges c)
 calm (halts s) = tt
 
 -- ---- nothing pauses

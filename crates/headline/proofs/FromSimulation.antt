@@ -9,6 +9,7 @@ use Rattle.run_theory.proofs.FromMoves.{begins_right, events_of_alike, prefix_of
 use Rattle.run_theory.proofs.Moments.{Moment, at_event, at_state, moment}
 use Rattle.run_theory.proofs.ShownMoments.{Honest, Lawful, event_moment, state_moment}
 use Rattle.run_theory.proofs.ShownRuns.{Plain_notes, blocking_shown, shown_run}
+use Rattle.run_theory.proofs.TestedEnds.{OpeningIs}
 use Rattle.wa_model.specs.Behaves.{BehavesOn, IsMoment, SameNote, IsPrefix, is_pause_end, pause_stacks, protocol_notes, stack_if, unless_end, without_pauses}
 use Rattle.wa_model.specs.Blocking.{Blocking, Left, Note, State, all_left, begun, blocking, done_notes, events_of, on_to, store_of}
 use Rattle.wa_model.specs.Expected.{SameEnd, pause_note, shown, shown_at, trap_note}
@@ -106,8 +107,7 @@ on_lawful s l (e ∷ es) h = h
 
 -- the ends of a failed instantiation are no ends of a pause
 abbrev pub OpensHonestly : Opening → Type 0
-OpensHonestly (fails_as e) = is_pause_end e ≡ false
-OpensHonestly (opens s) = Unit {0}
+OpensHonestly = OpeningIs (λ e. is_pause_end e ≡ false)
 
 begun_opens : (start : Option ℕ) (l : Left) (o : Opening) → OpensHonestly o → All OutcomeFits l.outcomes → Opens (begun start l o).events (begun start l o).last
 begun_opens start l (fails_as e) h os = record { plain = (refl, tt); honest = (ap (λ b. unless_end b (Rattle.wa_model.specs.Outside.ended e)) h, tt); lawful = tt }

@@ -16,14 +16,12 @@ use Rattle.headline.specs.FlatLaw.{FlatLaw}
 use Rattle.guard_runs.proofs.Pausing.{answers_law}
 use Rattle.guard_runs.specs.Pause.{AnswersAt, EntersEntry, SuspendedIn}
 use Rattle.std.proofs.Common.{List, None, [], ap, length, subst, suc, sym, ℕ, ◌*◌, ◌+◌, ◌<◌, ◌^◌, ◌∙◌, ◌∷◌, ◌≡◌, ◌≤◌}
-use Rattle.std.specs.Option.{option_to_list}
 use Rattle.wa_model.specs.Behaves.{AreaKept}
-use Rattle.wa_model.specs.Blocking.{Left, an_entry, bad_poke, poked, resumed}
+use Rattle.wa_model.specs.Blocking.{Left, an_entry, bad_poke, poked}
 use Rattle.wa_model.specs.Configuration.{Activation, Configuration}
-use Rattle.wa_model.specs.Machine.{goes}
 use Rattle.wa_model.specs.Outside.{Answer}
 use Rattle.wa_model.specs.Plan.{Entry}
-use Rattle.wa_model.specs.Protocol.{Held, answer_note, busy, call_again, calling, is_running, rewinds}
+use Rattle.wa_model.specs.Protocol.{Held, call_again, calling, held_resumed, rewinds}
 use Rattle.wa_model.specs.Store.{Store}
 use Rattle.wa_types.specs.Modules.{declared_locals, defined_at}
 use Rattle.wa_types.specs.declared.values.Value.TheVariants as V
@@ -54,7 +52,7 @@ module _ (w : World) (ft : WorldFits w) (sl : StoreLaws w) (L : (top spare : ℕ
     pub config : Configuration
     pub store : Store
     pub silent : Sil w s (calling (rewinds e i a s') s' (xp w).start_rewind (V.I32 w.plan.area.at ∷ []) call_again lo) cost at
-    pub answers : pr w at ≡ goes 0 (answer_note a.value (poked store a.pokes) s' ∷ []) (busy (is_running (an_entry e)) (resumed config (poked store a.pokes) (option_to_list a.value)) lo)
+    pub answers : pr w at ≡ held_resumed 0 e a.said s' config lo (poked store a.pokes)
     pub seen : Sm w (poked s a.pokes) (poked store a.pokes)
     pub like : Alike (setting w top) s store
     pub kept : AreaKept w.plan.area s' (poked store a.pokes)

@@ -10,7 +10,7 @@ use Rattle.wa_model.specs.Blocking.{fault_of, poked, resumed}
 use Rattle.wa_model.specs.Configuration.{Configuration, stack_of}
 use Rattle.wa_model.specs.Step.{Next, asks, entered, returns, step, steps, stuck, traps}
 use Rattle.wa_model.specs.Store.{Store}
-use Rattle.wa_model.specs.Untouched.{StaysOff, next_access}
+use Rattle.wa_model.specs.Untouched.{StaysOff, next_ranges}
 use Rattle.wa_types.specs.Modules.{func_type_at}
 
 -- equality is such a relation: the policy that saves all
@@ -19,7 +19,7 @@ equal_lives w W = record {
   same = λ c. refl;
   on = λ c d e p q. p ∙ q;
   store = λ c d p. ap (λ (z : Configuration). z.store) (sym p);
-  access = λ c d p. ap next_access (sym p);
+  reach = λ c d p. ap next_ranges (sym p);
   steps_keep = λ c d p. subst (λ z. LiveNext (λ c d. c ≡ d) (step (base w) c) (step (base w) z)) p (self (step (base w) c));
   resumes = λ c d s vs p. ap (λ (z : Configuration). resumed z s vs) p;
   numbered = λ c d p h. subst (λ z. All (StandsNumbered w.original w.settings w.which) (stack_of (base w) z)) p h;
@@ -96,15 +96,15 @@ module _ (w : World) (Live : Configuration → Configuration → Type 0) (L : (t
       small = law.small;
       reduces = λ top spare c f h off.
           let st = lv.store c h.chosen h.live in
-          let off2 : StaysOff w.plan.area (length (h.chosen).store.memory) (next_access h.chosen) =
-          subst (λ o. StaysOff w.plan.area (length (h.chosen).store.memory) o) (sym (lv.access c h.chosen h.live))
-          (subst (λ (s : Store). StaysOff w.plan.area (length s.memory) (next_access c)) (sym st) off) in
+          let off2 : StaysOff w.plan.area (length (h.chosen).store.memory) (next_ranges h.chosen) =
+          subst (λ o. StaysOff w.plan.area (length (h.chosen).store.memory) o) (sym (lv.reach c h.chosen h.live))
+          (subst (λ (s : Store). StaysOff w.plan.area (length s.memory) (next_ranges c)) (sym st) off) in
           next_too top spare (step (base w) c) (step (base w) h.chosen) f (lv.steps_keep c h.chosen h.live) (law.reduces top spare h.chosen f h.link off2);
-      answered = λ top i d f start a h fits none.
+      answered = λ top i d f start a v h fits told none.
           let st = lv.store d h.chosen h.live in
           let none2 = subst (λ (s : Store). fault_of (func_type_at (base w) i).results (length s.memory) w.plan start i a ≡ None) (sym st) none in
-          let fo = subst (λ (s : Store). FlatOn w Live L W G top (4 + w.tests) (resumed h.chosen (poked s a.pokes) (option_to_list a.value)) (resumed f (poked s a.pokes) (option_to_list a.value))) st
-          (law.answered top i h.chosen f start a h.waits fits none2) in
+          let fo = subst (λ (s : Store). FlatOn w Live L W G top (4 + w.tests) (resumed h.chosen (poked s a.pokes) (option_to_list v)) (resumed f (poked s a.pokes) (option_to_list v))) st
+          (law.answered top i h.chosen f start a v h.waits fits told none2) in
           record {
             n = fo.n;
             left = fo.left;
@@ -113,9 +113,9 @@ module _ (w : World) (Live : Configuration → Configuration → Type 0) (L : (t
             goes = fo.goes;
             link =
                 record {
-                  chosen = resumed h.chosen (poked d.store a.pokes) (option_to_list a.value);
+                  chosen = resumed h.chosen (poked d.store a.pokes) (option_to_list v);
                   live =
-                      lv.resumes d h.chosen (poked d.store a.pokes) (option_to_list a.value) h.live;
+                      lv.resumes d h.chosen (poked d.store a.pokes) (option_to_list v) h.live;
                   link = fo.link;
                 };
           };

@@ -1,5 +1,5 @@
 -- What the headline asks of flattening, from the relation.
-use Rattle.std.proofs.Common.{Bool, ◌≡◌, ℕ, ◌*◌, ◌^◌, ◌<◌, List, [], ◌∷◌, length, Some, None, refl, sym, ap, ◌∙◌, subst, arith, ⊎_elim}
+use Rattle.std.proofs.Common.{Bool, ◌≡◌, ℕ, ◌*◌, ◌^◌, ◌<◌, List, [], ◌∷◌, length, Option, Some, None, refl, sym, ap, ◌∙◌, subst, arith, ⊎_elim}
 use Rattle.std.specs.Option.{option_to_list}
 use Rattle.std.proofs.lemmas.List.{length-map}
 use Rattle.wa_types.specs.Memory.{page_size}
@@ -8,15 +8,17 @@ use Rattle.wa_types.specs.Syntax.{Func}
 use Rattle.wa_types.specs.declared.values.ValType.{ValType}
 use Rattle.wa_types.specs.declared.values.Value.{Value}
 use Rattle.wa_types.specs.Typing.{type_of}
-use Rattle.wa_model.specs.Blocking.{answers, fault_of, poked, resumed}
+use Rattle.wa_model.specs.declared.answers.Said.TheVariants as S
+use Rattle.wa_model.specs.Blocking.{bad_value, fault_of, poked, resumed}
 use Rattle.wa_model.specs.Configuration.{Configuration}
 use Rattle.run_theory.specs.Fitting.{CallersFit, Fits, NextFits, StoreFits, WaitingFits, types_of, results_of}
 use Rattle.run_theory.specs.Growth.{ConfigNamed, NextNamed, StoreNamed, Spaces, spaces_of}
 use Rattle.wa_model.specs.Outside.{Answer}
-use Rattle.wa_model.specs.Plan.{AnswerFits, AreLawful}
+use Rattle.wa_model.specs.Plan.{AnswerFits, AreLawful, SaidFits}
 use Rattle.wa_model.specs.Step.{Next, steps, asks, returns, traps, stuck, entered, param_count, step}
 use Rattle.wa_model.specs.Store.{Store}
-use Rattle.wa_model.specs.Untouched.{StaysOff, next_access}
+use Rattle.wa_model.specs.Untouched.{StaysOff, next_ranges}
+use Rattle.wa_model.proofs.StayingOff.{nothing_off}
 use Rattle.run_theory.proofs.FittingNames.{results_are}
 use Rattle.run_theory.proofs.FittingRuns.{answers_fit, calls_fit}
 use Rattle.run_theory.proofs.FittingSteps.{steps_fit}
@@ -25,7 +27,7 @@ use Rattle.run_laws.specs.Ranges.{ConfigurationIn, NextIn}
 use Rattle.run_laws.proofs.Host.{fault_pokes, optional_in, poked_store_in, store_lower, store_whole}
 use Rattle.run_laws.proofs.Steps.{step_in}
 use Rattle.run_laws.proofs.Stretches.{answers_in_range, calls_in_range}
-use Rattle.run_laws.proofs.SpotRuns.{answer_typed, listed_typed, or_else_first, test_passed}
+use Rattle.run_laws.proofs.SpotRuns.{said_typed, listed_typed, or_else_first}
 use Rattle.run_laws.proofs.SpotSteps.{ConfigurationAtSpots, NextAtSpots, entered_spot, goes_on_behind, steps_spot}
 use Rattle.run_laws.proofs.StandingStates.{ConfigurationAt, NextAt, WaitingAt}
 use Rattle.run_laws.proofs.StandingSteps.{body_stands, step_stands, waited_stands}
@@ -33,7 +35,7 @@ use Rattle.guard_runs.specs.Alike.{Paired, sides_of}
 use Rattle.guard_runs.specs.Beside.{Twin, both_import, both_defined}
 use Rattle.headline.specs.FlatLaw.{FlatEnters, FlatLaw, FlatNext, FlatOn}
 use Rattle.headline.specs.World.{setting}
-use Rattle.headline.specs.Beside.{BesideLaw, ComesBeside, NextBeside, SameAccess}
+use Rattle.headline.specs.Beside.{BesideLaw, ComesBeside, NextBeside, SameReach}
 use Rattle.headline.specs.Core.{Core, CoreFits, based, world_of}
 use Rattle.headline.specs.Links.{GoodStore, L, Linked, LinkedWaits, StandsLaw, W}
 use Rattle.headline.proofs.Spaces.{based_valid, funcs_are, func_type_same, grown_defined, grown_func_type, imports_few, names_there, results_same, steps_same, globals_same, sorts_same}
@@ -59,18 +61,18 @@ module _ (k : Core) (fit : CoreFits k) (Live : Configuration → Configuration �
 
   -- ---- one reduction
 
-  module _ (top spare : ℕ) (c f : Configuration) (l : Linked k B A spare c f) (off : StaysOff k.plan.area (length c.store.memory) (next_access c)) where
+  module _ (top spare : ℕ) (c f : Configuration) (l : Linked k B A spare c f) (off : StaysOff k.plan.area (length c.store.memory) (next_ranges c)) where
     abbrev ok : FlatOk k fit top l.flat_outs f
     ok = record { fits = l.flat_fits; named = l.named }
 
     -- where the flat side acts it is proper
-    acts_properly : (mid : Configuration) → FlatOk k fit top l.flat_outs mid → mid.store ≡ f.store → SameAccess c mid → StaysOff k.plan.area (length mid.store.memory) (next_access mid)
-    acts_properly mid mid_ok keep access =
+    acts_properly : (mid : Configuration) → FlatOk k fit top l.flat_outs mid → mid.store ≡ f.store → SameReach c mid → StaysOff k.plan.area (length mid.store.memory) (next_ranges mid)
+    acts_properly mid mid_ok keep reach =
         let st : c.store ≡ mid.store = sym (keep ∙ law.store spare c f l.beside) in
         ⊎_elim
-        (λ none. subst (StaysOff k.plan.area (length mid.store.memory)) (sym none) tt)
-        (λ same. subst (StaysOff k.plan.area (length mid.store.memory)) (sym same) (subst (λ (s : Store). StaysOff k.plan.area (length s.memory) (next_access c)) st off))
-        access
+        (λ none. subst (StaysOff k.plan.area (length mid.store.memory)) (sym none) (nothing_off k.plan.area (length mid.store.memory)))
+        (λ same. subst (StaysOff k.plan.area (length mid.store.memory)) (sym same) (subst (λ (s : Store). StaysOff k.plan.area (length s.memory) (next_ranges c)) st off))
+        reach
 
     by_next : (o : Next) → NextBeside (based k) k.flat B A spare c f o → NextFits (based k) l.outs o → NextIn 0 o → NextAtSpots (based k) o → NextAt (based k) c.store.table l.root o
         → FlatNext (world_of k) Live LL WW (GoodStore k) top spare o f
@@ -83,7 +85,7 @@ module _ (k : Core) (fit : CoreFits k) (Live : Configuration → Configuration �
           n1 = sb.n1;
           mid = sb.mid;
           before = still_of k fit top l.flat_outs f sb.mid sb.n1 ok sb.before;
-          proper = proper_here k fit top l.flat_outs sb.mid ok1.fits ok1.named (acts_properly sb.mid ok1 keep sb.access);
+          proper = proper_here k fit top l.flat_outs sb.mid ok1.fits ok1.named (acts_properly sb.mid ok1 keep sb.reach);
           j = sb.j;
           after = sb.after;
           acts = (steps_same k fit sb.mid ok1.named).0 ∙ sb.acts;
@@ -121,7 +123,7 @@ module _ (k : Core) (fit : CoreFits k) (Live : Configuration → Configuration �
           j = eb.j;
           least = eb.least;
           most = eb.most;
-          proper = proper_here k fit top l.flat_outs eb.at ok1.fits ok1.named (acts_properly eb.at ok1 keep eb.access);
+          proper = proper_here k fit top l.flat_outs eb.at ok1.fits ok1.named (acts_properly eb.at ok1 keep eb.reach);
           to = t.0;
           asks_there = (steps_same k fit eb.at ok1.named).0 ∙ t.1;
           waits = record {
@@ -150,7 +152,7 @@ module _ (k : Core) (fit : CoreFits k) (Live : Configuration → Configuration �
           j = eb.j;
           least = eb.least;
           most = eb.most;
-          proper = proper_here k fit top l.flat_outs eb.at ok1.fits ok1.named (acts_properly eb.at ok1 keep eb.access);
+          proper = proper_here k fit top l.flat_outs eb.at ok1.fits ok1.named (acts_properly eb.at ok1 keep eb.reach);
           returns_there = (steps_same k fit eb.at ok1.named).0 ∙ eb.there;
           good = record { fits = nf.0; named = nn; ranges = ni.1 };
         }
@@ -164,7 +166,7 @@ module _ (k : Core) (fit : CoreFits k) (Live : Configuration → Configuration �
           j = eb.j;
           least = eb.least;
           most = eb.most;
-          proper = proper_here k fit top l.flat_outs eb.at ok1.fits ok1.named (acts_properly eb.at ok1 keep eb.access);
+          proper = proper_here k fit top l.flat_outs eb.at ok1.fits ok1.named (acts_properly eb.at ok1 keep eb.reach);
           traps_there = (steps_same k fit eb.at ok1.named).0 ∙ eb.there;
         }
     by_next stuck nb nf ni ns na = nf
@@ -202,20 +204,20 @@ module _ (k : Core) (fit : CoreFits k) (Live : Configuration → Configuration �
             (fault_pokes (func_type_at (based k) i).results (length s.memory) k.plan start i a none) (store_whole 0 s g.ranges));
       }
 
-  answered : (top i : ℕ) (d f : Configuration) (start : Bool) (a : Answer) → LinkedWaits k B A i d f → AnswerFits a
+  answered : (top i : ℕ) (d f : Configuration) (start : Bool) (a : Answer) (v : Option Value) → LinkedWaits k B A i d f → AnswerFits a → a.said ≡ S.Value v
       → fault_of (func_type_at (based k) i).results (length d.store.memory) k.plan start i a ≡ None
-      → FlatOn (world_of k) Live LL WW (GoodStore k) top 4 (resumed d (poked d.store a.pokes) (option_to_list a.value)) (resumed f (poked d.store a.pokes) (option_to_list a.value))
-  answered top i d f start a l fits none =
-      let vs = option_to_list a.value in
+      → FlatOn (world_of k) Live LL WW (GoodStore k) top 4 (resumed d (poked d.store a.pokes) (option_to_list v)) (resumed f (poked d.store a.pokes) (option_to_list v))
+  answered top i d f start a v l fits told none =
+      let vs = option_to_list v in
       let s2 = poked d.store a.pokes in
       let st : d.store ≡ f.store = sym (law.waits_store i d f l.beside) in
       let g : GoodStore k d.store = record { fits = l.fits.store; named = subst (λ s. StoreNamed (spaces_of k.flat) s) (sym st) l.named.store; ranges = l.ranges.store } in
       let g2 = good_poked i d.store start a g fits none in
       let results = (func_type_at (based k) i).results in
-      let typed : types_of vs ≡ results_of (based k) i = answer_typed results a.value (test_passed (answers results a.value) _ (or_else_first _ _ none))
-      ∙ sym (results_are (based k) (based_valid k fit) i) in
+      let passed : bad_value results i (S.Value v) ≡ None = subst (λ z. bad_value results i z ≡ None) told (or_else_first (bad_value results i a.said) _ none) in
+      let typed : types_of vs ≡ results_of (based k) i = said_typed (based k) i results (S.Value v) (results_are (based k) (based_valid k fit) i) passed in
       let flat_typed : types_of vs ≡ results_of k.flat i = typed ∙ sym (results_same k fit i) in
-      let vin = optional_in a.value fits.value in
+      let vin = optional_in v (subst SaidFits told fits.said) in
       let named = l.named in
       let sn = g2.named in
       comes top 4 (resumed d s2 vs) (resumed f s2 vs) l.outs l.flat_outs

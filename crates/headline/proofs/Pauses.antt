@@ -25,7 +25,7 @@ use Rattle.guard_runs.proofs.Pausing.{pauses_law}
 use Rattle.guard_runs.specs.Pause.{AreaReady, PausesAt, at_import}
 use Rattle.guard_runs.specs.UnseenMoves.{GoesUnseen}
 use Rattle.run_laws.proofs.Keeping.{same_on}
-use Rattle.std.proofs.Common.{All, Bool, List, None, Some, [], ap, arith, false, length, map, refl, subst, suc, sym, true, zero, ℕ, ◌*◌, ◌+◌, ◌<◌, ◌^◌, ◌∙◌, ◌∷◌, ◌≡◌, ◌≤◌, ◌++◌}
+use Rattle.std.proofs.Common.{All, Bool, List, None, Option, Some, [], ap, arith, false, length, map, refl, subst, suc, sym, true, zero, ℕ, ◌*◌, ◌+◌, ◌<◌, ◌^◌, ◌∙◌, ◌∷◌, ◌≡◌, ◌≤◌, ◌++◌}
 use Rattle.std.proofs.lemmas.Bool.{ltb-false, ltb-true}
 use Rattle.std.proofs.lemmas.List.{length-map}
 use Rattle.std.specs.List.{sum_by}
@@ -39,9 +39,10 @@ use Rattle.wa_model.specs.Expected.{pause_note, trap_note}
 use Rattle.wa_model.specs.Machine.{Leads, Ran, goes, moves, run, stays}
 use Rattle.wa_model.specs.Outside.{Answer, answered, ended, paused}
 use Rattle.wa_model.specs.Plan.{Entry, Outcome, given}
-use Rattle.wa_model.specs.Protocol.{Held, answer_note, busy, call_again, calling, give_zero, is_running, over, rewinds, store_held, unwinds, with_words}
+use Rattle.wa_model.specs.Protocol.{Held, answer_note, busy, call_again, calling, give_zero, held_resumed, is_running, over, rewinds, store_held, unwinds, with_words}
 use Rattle.wa_model.specs.Step.{asks, param_count, step}
 use Rattle.wa_model.specs.Store.{Store}
+use Rattle.wa_model.specs.declared.answers.Said.TheVariants as SV
 use Rattle.wa_model.specs.declared.events.End.TheVariants.{UnwindTrap}
 use Rattle.wa_types.specs.Bounds.{activation_bound}
 use Rattle.wa_types.specs.Frames.{Room, Suspended}
@@ -120,7 +121,7 @@ module _ (w : World) (ft : WorldFits w) (sl : StoreLaws w) (L : (top spare : ℕ
     (n spare top x : ℕ) (within : 10 * x ≤ spare) (e : Entry) (c b : Configuration) (l : Left) (is_top : TopOf w (an_entry e) top) (lk : Link w ft sl L W G law top x c b)
     (lf : LeftFits w l) (al : Allowed w n (runs (an_entry e) c l))
     (k i : ℕ) (args : List Value) (d : Configuration) (is : step (base w) c ≡ asks k i args d) (cd : Called w ft sl L W G law top spare (an_entry e) l c.store b k i args d)
-    (a : Answer) (os : List Outcome) (ticks : ℕ) (eo : l.outcomes ≡ given a ∷ os) (ef : Rattle.headline.proofs.Asks.fault w ft sl L W G law n spare top x within
+    (a : Answer) (value : Option Value) (said_is : a.said ≡ SV.Value value) (os : List Outcome) (ticks : ℕ) (eo : l.outcomes ≡ given a ∷ os) (ef : Rattle.headline.proofs.Asks.fault w ft sl L W G law n spare top x within
     (an_entry e) c b l is_top lk lf al k i args d is cd a ≡ None) (et : pause_of a.ticks ≡ Some ticks)
     (came : (c2 : Configuration) (l2 : Left) (cost : ℕ) (es : List Note) → Leads (pr w) (busy (is_running (an_entry e)) b l) cost es (busy (is_running (an_entry e)) c2 l2)
     → AllLocalsFit w.written (c2.here ∷ c2.under))
@@ -154,17 +155,18 @@ module _ (w : World) (ft : WorldFits w) (sl : StoreLaws w) (L : (top spare : ℕ
   b2 = calling (unwinds e i a) (with_words s1 w.plan.area) (xp w).start_unwind (V.I32 w.plan.area.at ∷ []) (give_zero cd.at) lo
 
   abbrev a2 : State
-  a2 = runs (an_entry e) (resumed d (poked d.store a.pokes) (option_to_list a.value)) lo
+  a2 = runs (an_entry e) (resumed d (poked d.store a.pokes) (option_to_list value)) lo
 
   mv : pr w b1 ≡ goes cd.j (y1 ∷ []) b2
   mv =
       tested_now w ft sl L W G law n spare top x within (an_entry e) c b l is_top lk lf al k i args d is cd a os None eo ef
       ∙ ap (Rattle.wa_model.specs.Protocol.held_tested w.written (xp w) w.plan cd.j i args (inside (an_entry e) cd.at) lo a None) et
 
-  was : nb w a0 ≡ goes k (x1 ∷ note (answered a.value) (poked d.store a.pokes) ∷ []) a2
+  was : nb w a0 ≡ goes k (x1 ∷ note (answered (SV.Value value)) (poked d.store a.pokes) ∷ []) a2
   was =
       went_on w ft sl L W G law n spare top x within (an_entry e) c b l is_top lk lf al k i args d is cd a os eo ef
-      ∙ ap (λ z. go_on k (call_note i args d.store S z) a (poked d.store a.pokes) lo (inside (an_entry e) d)) et
+      ∙ ap (λ z. go_on k (call_note i args d.store S z) a.said (poked d.store a.pokes) lo (inside (an_entry e) d)) et
+      ∙ ap (λ z. go_on k x1 z (poked d.store a.pokes) lo (inside (an_entry e) d)) said_is
 
   same1 : Sm w d.store s1
   same1 = same_d w ft sl L W G law n spare top x within (an_entry e) c b l is_top lk lf al k i args d is cd
@@ -195,8 +197,8 @@ module _ (w : World) (ft : WorldFits w) (sl : StoreLaws w) (L : (top spare : ℕ
 
   known_now : suc k ≤ n → StackKnown w.asserts w.original w.settings w.which S
   known_now enough =
-      known_first w.asserts (note (answered a.value) (poked d.store a.pokes) ∷ [])
-      (al.numbered 0 k [] (x1 ∷ note (answered a.value) (poked d.store a.pokes) ∷ []) a0 a2 stays was (omega arith))
+      known_first w.asserts (note (answered (SV.Value value)) (poked d.store a.pokes) ∷ [])
+      (al.numbered 0 k [] (x1 ∷ note (answered (SV.Value value)) (poked d.store a.pokes) ∷ []) a0 a2 stays was (omega arith))
 
   -- its locals fit where it is about to unwind
   unwound : AllLocalsFit w.written ((cd.at).here ∷ (cd.at).under)
@@ -286,14 +288,14 @@ module _ (w : World) (ft : WorldFits w) (sl : StoreLaws w) (L : (top spare : ℕ
   x2 = pause_note ticks (Room w.original w.settings.policy S) d.store S
 
   abbrev x3 : Note
-  x3 = note (answered a.value) (poked d.store a.pokes)
+  x3 = note (answered (SV.Value value)) (poked d.store a.pokes)
 
   abbrev Same : Note → Note → Type 0
   Same = SameNote w.original w.settings w.which w.plan.area
 
   -- the stack was suspended, and came back to where it waits in this store
   abbrev back_at : Configuration → Store → Held
-  back_at wt s = busy (is_running (an_entry e)) (resumed wt (poked s a.pokes) (option_to_list a.value)) lo
+  back_at wt s = busy (is_running (an_entry e)) (resumed wt (poked s a.pokes) (option_to_list value)) lo
 
   record Returned : Type 0 where
     pc : ℕ
@@ -361,7 +363,7 @@ module _ (w : World) (ft : WorldFits w) (sl : StoreLaws w) (L : (top spare : ℕ
       let no_bad = no_bad_poke (func_type_at (base w) i).results (length d.store.memory) w.plan false i a ef in
       let bk : Back w ft sl L W G law top i e a lo d hangs d.store pa.store = comes_back w ft sl L W G law top i e a lo d hangs d.store pa.store alike3 wide small pa.suspended no_bad in
       let y2 : Note = note (paused a.ticks (8 + total_size (z.v ∷ z.vs))) pa.store in
-      let y3 : Note = answer_note a.value (poked bk.store a.pokes) pa.store in
+      let y3 : Note = answer_note (SV.Value value) (poked bk.store a.pokes) pa.store in
       let sus = pa.suspended in
       let arnd = pa.around in
       let area_at : AreaAt (suc (gl w)) ar pa.store (ar.at + 8 + total_size (z.v ∷ z.vs)) =
@@ -389,7 +391,7 @@ module _ (w : World) (ft : WorldFits w) (sl : StoreLaws w) (L : (top spare : ℕ
         pauses = pa.tells;
         same2 = al2;
         to_answer = bk.silent;
-        answers = bk.answers;
+        answers = bk.answers ∙ ap (λ q. held_resumed 0 e q pa.store bk.config lo (poked bk.store a.pokes)) said_is;
         same3 = al3;
         seen = bk.seen;
         like = bk.like;
@@ -418,25 +420,25 @@ module _ (w : World) (ft : WorldFits w) (sl : StoreLaws w) (L : (top spare : ℕ
   known_there : (r : Returned) → AllLocalsFit w.written ((r.wt).here ∷ (r.wt).under)
   known_there r =
       let t = three r (back_at r.wt r.s5) 0 (silent_none w.original w.settings w.which w.written (xp w) w.plan (poked d.store a.pokes) (back_at r.wt r.s5) r.seen) in
-      came (resumed r.wt (poked r.s5 a.pokes) (option_to_list a.value)) lo (cd.cost + suc cd.j + (r.pc + 1 + (r.ac + 1 + 0))) (y1 ∷ r.y2 ∷ r.y3 ∷ [])
+      came (resumed r.wt (poked r.s5 a.pokes) (option_to_list value)) lo (cd.cost + suc cd.j + (r.pc + 1 + (r.ac + 1 + 0))) (y1 ∷ r.y2 ∷ r.y3 ∷ [])
       (told_leads w.original w.settings w.which w.written (xp w) w.plan c.store (x1 ∷ x2 ∷ x3 ∷ []) (y1 ∷ r.y2 ∷ r.y3 ∷ []) b0 (back_at r.wt r.s5) (cd.cost + suc cd.j + (r.pc + 1 + (r.ac + 1 + 0))) t)
 
   -- the answer is given to a stack that came back: the flat one is chosen anew
   anew : Numbered → (new : List Activation) (wt : Configuration) (s : Store) → AllLocalsFit w.written (wt.here ∷ wt.under)
       → AllSameFlat w.lay ((cd.flat_at).here ∷ (cd.flat_at).under) new → Stopped (setting w top) i new (wt.here ∷ wt.under) → Alike (setting w top) d.store s
       → Given_on w ft sl L W G law n spare top x within (an_entry e) c b l is_top lk lf al k i args d is cd lo (poked d.store a.pokes)
-      (resumed d (poked d.store a.pokes) (option_to_list a.value)) (resumed wt (poked s a.pokes) (option_to_list a.value))
+      (resumed d (poked d.store a.pokes) (option_to_list value)) (resumed wt (poked s a.pokes) (option_to_list value))
   anew nums [] wt s fit same st like = absurd same
   anew nums (f2 ∷ us2) wt s fit same st like =
       let ag = law.again top i d cd.flat_at f2 us2 cd.waits nums same (wt.here ∷ wt.under) st fit in
       let wt2 = subst (λ q. W top i q (record { store = (cd.flat_at).store; here = f2; under = us2 })) (sym ag.live) ag.waits in
-      give w ft sl L W G law n spare top x within (an_entry e) c b l is_top lk lf al k i args d is cd lo a (record { store = (cd.flat_at).store; here = f2; under = us2 })
-      (record { store = s; here = wt.here; under = wt.under }) wt2 like
+      give w ft sl L W G law n spare top x within (an_entry e) c b l is_top lk lf al k i args d is cd lo a value (record { store = (cd.flat_at).store; here = f2; under = us2 })
+      (record { store = s; here = wt.here; under = wt.under }) said_is wt2 like
       (waits_law (setting w top) i _ _ st) (answer_fits w ft sl L W G law n spare top x within (an_entry e) c b l is_top lk lf al k i args d is cd a os eo) ef
 
   abbrev Given : Configuration → Store → Type 0
   Given wt s = Given_on w ft sl L W G law n spare top x within (an_entry e) c b l is_top lk lf al k i args d is cd lo (poked d.store a.pokes)
-      (resumed d (poked d.store a.pokes) (option_to_list a.value)) (resumed wt (poked s a.pokes) (option_to_list a.value))
+      (resumed d (poked d.store a.pokes) (option_to_list value)) (resumed wt (poked s a.pokes) (option_to_list value))
 
   matched : (r : Returned) → Given r.wt r.s5 → Rattle.headline.proofs.Reductions.M w ft sl L W G law n spare k (x1 ∷ x2 ∷ x3 ∷ []) a0 a2 b0
   unfolding three
@@ -466,11 +468,12 @@ module _ (w : World) (ft : WorldFits w) (sl : StoreLaws w) (L : (top spare : ℕ
 
   -- both, by the room
   pub pausing : Owes w ft sl L W G law n spare a0 b0 (sh w (tested (base w) k i args (inside (an_entry e) d) lo a None))
-  pausing = subst (λ q. Owes w ft sl L W G law n spare a0 b0 (sh w (go_on k (call_note i args d.store S q) a (poked d.store a.pokes) lo (inside (an_entry e) d)))) (sym et)
-      (by_room (nat_lt w.plan.area.len (room_in w S)) refl)
+  pausing = subst (λ q. Owes w ft sl L W G law n spare a0 b0 (sh w (go_on k (call_note i args d.store S q) a.said (poked d.store a.pokes) lo (inside (an_entry e) d)))) (sym et)
+      (subst (λ q. Owes w ft sl L W G law n spare a0 b0 (sh w (go_on k x1 q (poked d.store a.pokes) lo (inside (an_entry e) d)))) (sym said_is)
+      (by_room (nat_lt w.plan.area.len (room_in w S)) refl))
     where
       by_room : (t : Bool) → nat_lt w.plan.area.len (room_in w S) ≡ t
           → Owes w ft sl L W G law n spare a0 b0 (if t then goes k (x1 ∷ trap_note (used_in w S) w.plan.area.len d.store ∷ []) (halts d.store)
-          else goes k (x1 ∷ pause_note ticks (room_in w S) d.store S ∷ note (answered a.value) (poked d.store a.pokes) ∷ []) a2)
+          else goes k (x1 ∷ pause_note ticks (room_in w S) d.store S ∷ note (answered (SV.Value value)) (poked d.store a.pokes) ∷ []) a2)
       by_room true q = (before, λ enough. overrun enough (ltb-true w.plan.area.len (room_in w S) q))
       by_room false q = (before, λ enough. pause_here enough (ltb-false w.plan.area.len (room_in w S) q))

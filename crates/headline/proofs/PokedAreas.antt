@@ -9,6 +9,8 @@ use Rattle.wa_types.specs.Syntax.{Func, Module}
 use Rattle.wa_types.specs.declared.values.ValType.{ValType}
 use Rattle.wa_types.specs.declared.values.Value.{Value}
 use Rattle.wa_model.specs.declared.answers.Area.{Area}
+use Rattle.wa_model.specs.declared.answers.Said.{Said}
+use Rattle.wa_model.specs.declared.answers.Said.TheVariants as SV
 use Rattle.wa_model.specs.declared.events.End.{End}
 use Rattle.wa_model.specs.declared.events.End.TheVariants.{BadAnswer, BadPoke}
 use Rattle.wa_model.specs.Outside.{Answer, Event, Poke, answered, ended}
@@ -17,7 +19,7 @@ use Rattle.wa_model.specs.Plan.{Entry, Plan, Outcome, given, refused}
 use Rattle.wa_model.specs.Instantiation.{Opening, fails_as, opens, opening}
 use Rattle.wa_model.specs.Store.{Store}
 use Rattle.wa_model.specs.Step.{Next, steps, asks, returns, traps, stuck, step}
-use Rattle.wa_model.specs.Blocking.{Note, note, call_note, answers, bad_poke, bad_pause, fault_of, is_unlisted, or_else, pause_of, poked, poke_fits, resumed, Task, the_start, an_entry, Left, with_outcomes, Asker, inside, outermost, store_at, stack_at, in_start, State, between, begins, runs, halts, on_to, go_on, tested, asked, task_back, by_step, done_notes, next_entry, enters, enter_next, start_called, blocking, begun, all_left, store_of, Blocking}
+use Rattle.wa_model.specs.Blocking.{Note, note, call_note, answers, bad_value, bad_poke, bad_pause, fault_of, is_unlisted, or_else, pause_of, poked, poke_fits, resumed, Task, the_start, an_entry, Left, with_outcomes, Asker, inside, outermost, store_at, stack_at, in_start, State, between, begins, runs, halts, on_to, go_on, tested, asked, task_back, by_step, done_notes, next_entry, enters, enter_next, start_called, blocking, begun, all_left, store_of, Blocking}
 use Rattle.wa_model.specs.Protocol.{Exports, exports_of, is_running, unwinds, rewinds, Held, free, starting, busy, calling, aside, entering, over, held_on, held_back, held_given, held_tested, held_asked, busy_step, busy_enters, held_next, held_start, protocol, held_begun, store_held, Protocol}
 use Rattle.headline.proofs.EmptyAreas.{emptied, nowhere}
 use Rattle.headline.proofs.SamePlans.{Calm, none_paused, same_fault}
@@ -69,23 +71,27 @@ module _ (plan : Plan) (bad : Answer) (rest : List Outcome) (unpaused : bad.tick
 
   tests : (types : List ValType) (size : ℕ) (start : Bool) (i : ℕ) → Tests types size i (fault_of types size plan start i bad) (fault_of types size (emptied plan) start i bad)
   tests types size start i =
-      subst (λ z. Tests types size i (or_else (if answers types bad.value then None else Some (BadAnswer i bad.value)) (or_else (bad_poke size plan.area bad.pokes) z))
+      subst (λ z. Tests types size i (or_else (bad_value types i bad.said) (or_else (bad_poke size plan.area bad.pokes) z))
       (fault_of types size (emptied plan) start i bad)) (sym (no_pause start (is_unlisted plan.listed i) i bad.ticks unpaused))
-      (subst (λ z. Tests types size i (or_else (if answers types bad.value then None else Some (BadAnswer i bad.value)) (or_else (bad_poke size plan.area bad.pokes) None))
-      (or_else (if answers types bad.value then None else Some (BadAnswer i bad.value)) (or_else (bad_poke size nowhere bad.pokes) z)))
+      (subst (λ z. Tests types size i (or_else (bad_value types i bad.said) (or_else (bad_poke size plan.area bad.pokes) None))
+      (or_else (bad_value types i bad.said) (or_else (bad_poke size nowhere bad.pokes) z)))
       (sym (no_pause start (is_unlisted (Some []) i) i bad.ticks unpaused))
-      (by (answers types bad.value) (bad_poke size plan.area bad.pokes) refl (bad_poke size nowhere bad.pokes) refl))
+      (by_said bad.said (bad_poke size plan.area bad.pokes) refl (bad_poke size nowhere bad.pokes) refl))
     where
-      by : (b : Bool) (pa : Option End) → bad_poke size plan.area bad.pokes ≡ pa → (pe : Option End) → bad_poke size nowhere bad.pokes ≡ pe
-          → Tests types size i (or_else (if b then None else Some (BadAnswer i bad.value)) (or_else pa None)) (or_else (if b then None else Some (BadAnswer i bad.value)) (or_else pe None))
-      by b None ea pe ee = absurd (poking size ea)
-      by false (Some e) ea pe ee = record { e = BadAnswer i bad.value; first = refl; second = inl (BadAnswer i bad.value, refl, refl) }
-      by true (Some e) ea None ee = record { e = e; first = refl; second = inr (refl, ea) }
-      by true (Some e) ea (Some how) ee = record {
+      by : (v : Option Value) (b : Bool) (pa : Option End) → bad_poke size plan.area bad.pokes ≡ pa → (pe : Option End) → bad_poke size nowhere bad.pokes ≡ pe
+          → Tests types size i (or_else (if b then None else Some (BadAnswer i v)) (or_else pa None)) (or_else (if b then None else Some (BadAnswer i v)) (or_else pe None))
+      by v b None ea pe ee = absurd (poking size ea)
+      by v false (Some e) ea pe ee = record { e = BadAnswer i v; first = refl; second = inl (BadAnswer i v, refl, refl) }
+      by v true (Some e) ea None ee = record { e = e; first = refl; second = inr (refl, ea) }
+      by v true (Some e) ea (Some how) ee = record {
         e = e;
         first = refl;
         second = inl (how, refl, ap (λ b. by_answer b how (bad_poke size plan.area bad.pokes)) (bad_poke_is size nowhere bad.pokes how ee) ∙ ea);
       }
+
+      by_said : (said : Said) (pa : Option End) → bad_poke size plan.area bad.pokes ≡ pa → (pe : Option End) → bad_poke size nowhere bad.pokes ≡ pe
+          → Tests types size i (or_else (bad_value types i said) (or_else pa None)) (or_else (bad_value types i said) (or_else pe None))
+      by_said (SV.Value v) = by v (answers types v)
 
   -- ---- the machine whose imports block
 
@@ -109,14 +115,14 @@ module _ (plan : Plan) (bad : Answer) (rest : List Outcome) (unpaused : bad.tick
     on_at k s l [] h = tt
     on_at k s l (e ∷ es) h = h
 
-    go_on_at : (k c : ℕ) (i : ℕ) (args : List Value) (o : Option ℕ) (a : Answer) (s : Store) (l : Left) (w : Asker) → Before k l.outcomes
-        → G (suc k) (go_on c (call_note i args (store_at w) (stack_at m w) o) a s l w)
-    go_on_at k c i args o a s l (inside task d) h = (k, omega arith, h)
-    go_on_at k c i args o a s l (outermost old) h = let none = done_calls s l.entries in (k, omega arith, on_at k s l l.entries h)
+    go_on_at : (k c : ℕ) (i : ℕ) (args : List Value) (o : Option ℕ) (said : Said) (s : Store) (l : Left) (w : Asker) → Before k l.outcomes
+        → G (suc k) (go_on c (call_note i args (store_at w) (stack_at m w) o) said s l w)
+    go_on_at k c i args o (SV.Value v) s l (inside task d) h = (k, omega arith, h)
+    go_on_at k c i args o (SV.Value v) s l (outermost old) h = let none = done_calls s l.entries in (k, omega arith, on_at k s l l.entries h)
 
     tested_at : (k c i : ℕ) (args : List Value) (w : Asker) (l : Left) (a : Answer) (o : Option End) → Before k l.outcomes → G (suc k) (tested m c i args w l a o)
     tested_at k c i args w l a (Some e) h = (k, omega arith, tt)
-    tested_at k c i args w l a None h = go_on_at k c i args (pause_of a.ticks) a (poked (store_at w) a.pokes) l w h
+    tested_at k c i args w l a None h = go_on_at k c i args (pause_of a.ticks) a.said (poked (store_at w) a.pokes) l w h
 
     parts_at : (c i : ℕ) (args : List Value) (w : Asker) (l : Left) (types : List ValType) (o o' : Option End) → Tests types (length (store_at w).memory) i o o'
         → TP (tested m c i args w l bad o) (tested m c i args w l bad o')
@@ -144,20 +150,20 @@ module _ (plan : Plan) (bad : Answer) (rest : List Outcome) (unpaused : bad.tick
         })
         by_second (inr h) =
             subst (λ z. TP (tested m c i args w l bad (Some t.e)) (tested m c i args w l bad z)) (sym h.0)
-            (subst (λ z. TP (tested m c i args w l bad (Some t.e)) (go_on c (call_note i args (store_at w) (stack_at m w) z) bad (poked (store_at w) bad.pokes) l w))
-            (sym (none_paused plan bad.ticks unpaused)) (by w h.1))
+            (subst (λ z. TP (tested m c i args w l bad (Some t.e)) (go_on c (call_note i args (store_at w) (stack_at m w) z) bad.said (poked (store_at w) bad.pokes) l w))
+            (sym (none_paused plan bad.ticks unpaused)) (by w bad.said h.1))
           where
-            by : (w : Asker) → bad_poke (length (store_at w).memory) plan.area bad.pokes ≡ Some t.e
-                → TP (tested m c i args w l bad (Some t.e)) (go_on c (call_note i args (store_at w) (stack_at m w) None) bad (poked (store_at w) bad.pokes) l w)
-            by (inside task d) q = record {
+            by : (w : Asker) (said : Said) → bad_poke (length (store_at w).memory) plan.area bad.pokes ≡ Some t.e
+                → TP (tested m c i args w l bad (Some t.e)) (go_on c (call_note i args (store_at w) (stack_at m w) None) said (poked (store_at w) bad.pokes) l w)
+            by (inside task d) (SV.Value v) q = record {
               k = c;
               call = record { import = i; args = args };
               e = t.e;
               x = call_note i args d.store (stack_at m (inside task d)) None;
-              next = note (answered bad.value) (poked d.store bad.pokes);
+              next = note (answered (SV.Value v)) (poked d.store bad.pokes);
               rest = [];
               u = halts d.store;
-              t = runs task (resumed d (poked d.store bad.pokes) (option_to_list bad.value)) l;
+              t = runs task (resumed d (poked d.store bad.pokes) (option_to_list v)) l;
               first = refl;
               second = refl;
               is = refl;
@@ -165,12 +171,12 @@ module _ (plan : Plan) (bad : Answer) (rest : List Outcome) (unpaused : bad.tick
               over = refl;
               there = refl;
             }
-            by (outermost s) q = record {
+            by (outermost s) (SV.Value v) q = record {
               k = c;
               call = record { import = i; args = args };
               e = t.e;
               x = call_note i args s (stack_at m (outermost s)) None;
-              next = note (answered bad.value) (poked s bad.pokes);
+              next = note (answered (SV.Value v)) (poked s bad.pokes);
               rest = done_notes (poked s bad.pokes) l.entries;
               u = halts s;
               t = on_to (poked s bad.pokes) l l.entries;
@@ -279,10 +285,10 @@ module _ (plan : Plan) (bad : Answer) (rest : List Outcome) (unpaused : bad.tick
     held_on_at k s l [] h = tt
     held_on_at k s l (e ∷ es) h = h
 
-    given_at : (k c : ℕ) (i : ℕ) (args : List Value) (a : Answer) (s : Store) (l : Left) (w : Asker) → Before k l.outcomes
-        → GH (suc k) (held_given c (call_note i args (store_at w) (stack_at p w) None) a s l w)
-    given_at k c i args a s l (inside task d) h = (k, omega arith, h)
-    given_at k c i args a s l (outermost old) h = let none = done_calls s l.entries in (k, omega arith, held_on_at k s l l.entries h)
+    given_at : (k c : ℕ) (i : ℕ) (args : List Value) (said : Said) (s : Store) (l : Left) (w : Asker) → Before k l.outcomes
+        → GH (suc k) (held_given c (call_note i args (store_at w) (stack_at p w) None) said s l w)
+    given_at k c i args (SV.Value v) s l (inside task d) h = (k, omega arith, h)
+    given_at k c i args (SV.Value v) s l (outermost old) h = let none = done_calls s l.entries in (k, omega arith, held_on_at k s l l.entries h)
 
     held_tested_at : (k c i : ℕ) (args : List Value) (w : Asker) (l : Left) (a : Answer) (o o' : Option End) → o ≡ o' → a.ticks ≡ 0 → Before k l.outcomes
         → (held_tested p x plan c i args w l a o (pause_of a.ticks) ≡ held_tested p x (emptied plan) c i args w l a o' (pause_of a.ticks))
@@ -294,7 +300,7 @@ module _ (plan : Plan) (bad : Answer) (rest : List Outcome) (unpaused : bad.tick
       where
         by : (o : Option End) → (held_tested p x plan c i args w l a o None ≡ held_tested p x (emptied plan) c i args w l a o None) × GH (suc k) (held_tested p x plan c i args w l a o None)
         by (Some e) = (refl, (k, omega arith, tt))
-        by None = (refl, given_at k c i args a (poked (store_at w) a.pokes) l w h)
+        by None = (refl, given_at k c i args a.said (poked (store_at w) a.pokes) l w h)
 
     held_parts_at : (c i : ℕ) (args : List Value) (w : Asker) (l : Left) (types : List ValType) (o o' : Option End) → Tests types (length (store_at w).memory) i o o'
         → TPH (held_tested p x plan c i args w l bad o (pause_of bad.ticks)) (held_tested p x (emptied plan) c i args w l bad o' (pause_of bad.ticks))
@@ -322,19 +328,19 @@ module _ (plan : Plan) (bad : Answer) (rest : List Outcome) (unpaused : bad.tick
           there = refl;
         })
         by_second (inr h) =
-            subst (λ z. TPH (held_tested p x plan c i args w l bad (Some t.e) None) (held_tested p x (emptied plan) c i args w l bad z None)) (sym h.0) (by w h.1)
+            subst (λ z. TPH (held_tested p x plan c i args w l bad (Some t.e) None) (held_tested p x (emptied plan) c i args w l bad z None)) (sym h.0) (by w bad.said h.1)
           where
-            by : (w : Asker) → bad_poke (length (store_at w).memory) plan.area bad.pokes ≡ Some t.e
-                → TPH (held_tested p x plan c i args w l bad (Some t.e) None) (held_tested p x (emptied plan) c i args w l bad None None)
-            by (inside task d) q = record {
+            by : (w : Asker) (said : Said) → bad_poke (length (store_at w).memory) plan.area bad.pokes ≡ Some t.e
+                → TPH (held_tested p x plan c i args w l bad (Some t.e) None) (held_given c (call_note i args (store_at w) (stack_at p w) None) said (poked (store_at w) bad.pokes) l w)
+            by (inside task d) (SV.Value v) q = record {
               k = c;
               call = record { import = i; args = args };
               e = t.e;
               x = call_note i args d.store (stack_at p (inside task d)) None;
-              next = note (answered bad.value) (poked d.store bad.pokes);
+              next = note (answered (SV.Value v)) (poked d.store bad.pokes);
               rest = [];
               u = over d.store;
-              t = busy (is_running task) (resumed d (poked d.store bad.pokes) (option_to_list bad.value)) l;
+              t = busy (is_running task) (resumed d (poked d.store bad.pokes) (option_to_list v)) l;
               first = refl;
               second = refl;
               is = refl;
@@ -342,12 +348,12 @@ module _ (plan : Plan) (bad : Answer) (rest : List Outcome) (unpaused : bad.tick
               over = refl;
               there = refl;
             }
-            by (outermost s) q = record {
+            by (outermost s) (SV.Value v) q = record {
               k = c;
               call = record { import = i; args = args };
               e = t.e;
               x = call_note i args s (stack_at p (outermost s)) None;
-              next = note (answered bad.value) (poked s bad.pokes);
+              next = note (answered (SV.Value v)) (poked s bad.pokes);
               rest = done_notes (poked s bad.pokes) l.entries;
               u = over s;
               t = held_on (poked s bad.pokes) l l.entries;

@@ -8,7 +8,8 @@ use Rattle.run_theory.specs.Fitting.{Fits, NextFits}
 use Rattle.run_theory.specs.Growth.{CodeNamed, ConfigNamed, PlainNamed, NextNamed, Spaces, spaces_of}
 use Rattle.wa_model.specs.Step.{steps, param_count, step}
 use Rattle.wa_model.specs.Store.{Store}
-use Rattle.wa_model.specs.Untouched.{StaysOff, next_access}
+use Rattle.wa_model.specs.Untouched.{StaysOff, next_ranges}
+use Rattle.wa_model.proofs.StayingOff.{nothing_off}
 use Rattle.run_theory.proofs.FittingSteps.{steps_fit}
 use Rattle.guard_runs.specs.Alike.{Setting, sides_of}
 use Rattle.guard_runs.specs.Beside.{Proper, ProperCode, ProperPlain}
@@ -54,7 +55,7 @@ module _ (k : Core) (fit : CoreFits k) (top : ℕ) where
   named_next (nest y r body rest) h = tt
   named_next (branch r a b rest) h = tt
 
-  pub proper_here : (outs : List ValType) (c : Configuration) → Fits k.flat outs c → ConfigNamed (spaces_of k.flat) c → StaysOff k.plan.area (length c.store.memory) (next_access c)
+  pub proper_here : (outs : List ValType) (c : Configuration) → Fits k.flat outs c → ConfigNamed (spaces_of k.flat) c → StaysOff k.plan.area (length c.store.memory) (next_ranges c)
       → Proper (sides_of v) c
   proper_here outs c fits named off = too_code c.store c.here.locals c.here.operands c.here.code (proper_law alone outs c fits (named_next c.here.code named.here.code) off)
 
@@ -83,5 +84,5 @@ module _ (k : Core) (fit : CoreFits k) (top : ℕ) where
   pub still_of : (outs : List ValType) (c d : Configuration) (m : ℕ) → FlatOk outs c → QuietGoes k.flat c m d → Still v c m d
   still_of outs c _ _ ok B.stays = stays
   still_of outs c d m ok (B.moves {d = c2} {k = j} {n = n2} e quiet keep level rest em) =
-      let off : StaysOff k.plan.area (length c.store.memory) (next_access c) = subst (StaysOff k.plan.area (length c.store.memory)) (sym quiet) tt in
+      let off : StaysOff k.plan.area (length c.store.memory) (next_ranges c) = subst (StaysOff k.plan.area (length c.store.memory)) (sym quiet) (nothing_off k.plan.area (length c.store.memory)) in
       moves (proper_here outs c ok.fits ok.named off) ((steps_same k fit c ok.named).0 ∙ e) keep level (still_of outs c2 d n2 (ok_on outs c c2 j ok e) rest) em

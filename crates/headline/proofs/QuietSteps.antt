@@ -1,14 +1,14 @@
 -- Quiet reductions of the slim side.
-use Rattle.std.proofs.Common.{◌≡◌, ℕ, suc, ◌+◌, ◌<◌, List, [], ◌∷◌, length, None, true, refl, sym, ap, ◌∙◌, subst, arith, ⊎_elim}
+use Rattle.std.proofs.Common.{◌≡◌, ℕ, suc, ◌+◌, ◌<◌, List, [], ◌∷◌, length, true, refl, sym, ap, ◌∙◌, subst, arith, ⊎_elim}
 use Rattle.std.proofs.lemmas.Bool.{cases_lt}
 use Rattle.wa_types.specs.Syntax.{Module, Plain, basic, local_get, local_set, local_tee, br, br_if, br_table, return, unreachable, call, call_indirect, Code, done, plain, nest, branch}
 use Rattle.wa_types.specs.declared.values.Value.{Value}
 use Rattle.wa_model.specs.Configuration.{Activation, Configuration, Label}
 use Rattle.wa_model.specs.Step.{Next, step, step_at, steps, with_top}
 use Rattle.wa_model.specs.Store.{Store}
-use Rattle.wa_model.specs.Untouched.{next_access}
+use Rattle.wa_model.specs.Untouched.{next_ranges}
 use Rattle.flat_runs.specs.Beside.{IsQuiet}
-use Rattle.flat_runs.proofs.Shapes.{quiet_access, quiet_store}
+use Rattle.flat_runs.proofs.Shapes.{quiet_reach, quiet_store}
 use Rattle.headline.specs.Beside as L
 use Rattle.headline.specs.Beside.{QuietGoes}
 use Rattle.slim_laws.specs.Beside.{Sides, SameNext, Saving, saves_none, saves_one, Way, way_ends, way_same, way_sets, head_of, sets_local}
@@ -26,7 +26,7 @@ pub record LastOf (p : Module) (c : Configuration) (n : ℕ) (d : Configuration)
   pub before : QuietGoes p c first at
   pub cost : ℕ
   pub acts : step p at ≡ steps cost d
-  pub none : next_access at ≡ None
+  pub none : next_ranges at ≡ []
   pub keep : d.store ≡ at.store
   pub all : n ≡ first + suc cost
 
@@ -123,7 +123,7 @@ sets_level p c d e is = subst (Level (length c.under)) is (sets_stay p c.store c
 
 module _ (w : Sides) where
   one_quiet : (c d e : Configuration) (k n m : ℕ) → IsQuiet c.here.code → step w.slim c ≡ steps k d → length d.under ≡ length c.under → QuietGoes w.slim d n e → m ≡ suc k + n → QuietGoes w.slim c m e
-  one_quiet c d e k n m q is level rest em = L.moves is (quiet_access c.here.operands c.here.code q) (quiet_store w.slim c d k q is) level rest em
+  one_quiet c d e k n m q is level rest em = L.moves is (quiet_reach c.here.operands c.here.code q) (quiet_store w.slim c d k q is) level rest em
 
   pub way_quiet : (c c' d : Configuration) (n : ℕ) → IsQuiet c.here.code → length d.under ≡ length c'.under → Way w c c' n d → QuietGoes w.slim c' n d
   way_quiet c c' _ _ q level way_ends = L.stays

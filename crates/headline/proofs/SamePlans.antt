@@ -8,15 +8,17 @@ use Rattle.wa_types.specs.Syntax.{Func, Module}
 use Rattle.wa_types.specs.declared.values.ValType.{ValType}
 use Rattle.wa_types.specs.declared.values.Value.{Value}
 use Rattle.wa_model.specs.declared.answers.Area.{Area}
+use Rattle.wa_model.specs.declared.answers.Said.{Said}
+use Rattle.wa_model.specs.declared.answers.Said.TheVariants as SV
 use Rattle.wa_model.specs.declared.events.End.{End}
-use Rattle.wa_model.specs.declared.events.End.TheVariants.{BadAnswer, BadPoke}
+use Rattle.wa_model.specs.declared.events.End.TheVariants.{BadPoke}
 use Rattle.wa_model.specs.Outside.{Answer, Poke}
 use Rattle.wa_model.specs.Machine.{Turn, stops, goes, Ran, after, still, pay, run_with, run}
 use Rattle.wa_model.specs.Plan.{Entry, Plan, Outcome, given, refused}
 use Rattle.wa_model.specs.Instantiation.{Opening, fails_as, opens, opening}
 use Rattle.wa_model.specs.Store.{Store}
 use Rattle.wa_model.specs.Step.{Next, steps, asks, returns, traps, stuck, step}
-use Rattle.wa_model.specs.Blocking.{Note, call_note, answers, bad_poke, bad_pause, fault_of, is_unlisted, or_else, overlap, pause_of, poked, poke_fits, Task, the_start, an_entry, Left, with_outcomes, Asker, inside, outermost, store_at, stack_at, in_start, State, between, begins, runs, halts, on_to, go_on, tested, asked, task_back, by_step, enters, enter_next, start_called, blocking, begun, all_left, Blocking}
+use Rattle.wa_model.specs.Blocking.{Note, call_note, bad_value, bad_poke, bad_pause, fault_of, is_unlisted, or_else, overlap, pause_of, poked, poke_fits, Task, the_start, an_entry, Left, with_outcomes, Asker, inside, outermost, store_at, stack_at, in_start, State, between, begins, runs, halts, on_to, go_on, tested, asked, task_back, by_step, enters, enter_next, start_called, blocking, begun, all_left, Blocking}
 use Rattle.wa_model.specs.Protocol.{Exports, exports_of, is_running, unwinds, rewinds, Held, free, starting, busy, calling, aside, entering, over, held_on, held_back, held_given, held_tested, held_asked, busy_step, busy_enters, held_next, held_start, protocol, held_begun, Protocol}
 use Rattle.wa_model.specs.Behaves.{NoTicks}
 use Rattle.headline.proofs.EmptyAreas.{emptied, nowhere, off_nowhere}
@@ -83,8 +85,8 @@ module _ (plan : Plan) where
 
   pub same_fault : (types : List ValType) (size : ℕ) (start : Bool) (i : ℕ) (a : Answer) → Calm (given a) → fault_of types size plan start i a ≡ fault_of types size (emptied plan) start i a
   same_fault types size start i a h =
-      ap (λ o. or_else (if answers types a.value then None else Some (BadAnswer i a.value)) (or_else o (bad_pause start (is_unlisted plan.listed i) i a.ticks))) (same_pokes size a.pokes h.1)
-      ∙ ap (λ o. or_else (if answers types a.value then None else Some (BadAnswer i a.value)) (or_else (bad_poke size nowhere a.pokes) o))
+      ap (λ o. or_else (bad_value types i a.said) (or_else o (bad_pause start (is_unlisted plan.listed i) i a.ticks))) (same_pokes size a.pokes h.1)
+      ∙ ap (λ o. or_else (bad_value types i a.said) (or_else (bad_poke size nowhere a.pokes) o))
       (same_pause start i a.ticks (is_unlisted plan.listed i) (is_unlisted (Some []) i) h.0)
 
   pub none_paused : (t : ℕ) → t ≡ 0 → pause_of t ≡ None
@@ -110,13 +112,13 @@ module _ (plan : Plan) where
     on_kept s l [] h = tt
     on_kept s l (e ∷ es) h = h
 
-    go_on_kept : (k : ℕ) (x : Note) (a : Answer) (s : Store) (l : Left) (w : Asker) → Q l → K (go_on k x a s l w)
-    go_on_kept k x a s l (inside task c) h = h
-    go_on_kept k x a s l (outermost old) h = on_kept s l l.entries h
+    go_on_kept : (k : ℕ) (x : Note) (said : Said) (s : Store) (l : Left) (w : Asker) → Q l → K (go_on k x said s l w)
+    go_on_kept k x (SV.Value v) s l (inside task c) h = h
+    go_on_kept k x (SV.Value v) s l (outermost old) h = on_kept s l l.entries h
 
     tested_kept : (k i : ℕ) (args : List Value) (w : Asker) (l : Left) (a : Answer) (o : Option End) → Q l → K (tested m k i args w l a o)
     tested_kept k i args w l a (Some e) h = tt
-    tested_kept k i args w l a None h = go_on_kept k (call_note i args (store_at w) (stack_at m w) (pause_of a.ticks)) a (poked (store_at w) a.pokes) l w h
+    tested_kept k i args w l a None h = go_on_kept k (call_note i args (store_at w) (stack_at m w) (pause_of a.ticks)) a.said (poked (store_at w) a.pokes) l w h
 
     asked_same : (k i : ℕ) (args : List Value) (w : Asker) (l : Left) (os : List Outcome) → All Calm os → Same (asked m plan k i args w l os) (asked m (emptied plan) k i args w l os)
     asked_same k i args w l [] h = (refl, tt)
@@ -190,9 +192,9 @@ module _ (plan : Plan) where
     held_on_kept s l [] h = tt
     held_on_kept s l (e ∷ es) h = h
 
-    given_kept : (k : ℕ) (n : Note) (a : Answer) (s : Store) (l : Left) (w : Asker) → Q l → KH (held_given k n a s l w)
-    given_kept k n a s l (inside task c) h = h
-    given_kept k n a s l (outermost old) h = held_on_kept s l l.entries h
+    given_kept : (k : ℕ) (n : Note) (said : Said) (s : Store) (l : Left) (w : Asker) → Q l → KH (held_given k n said s l w)
+    given_kept k n (SV.Value v) s l (inside task c) h = h
+    given_kept k n (SV.Value v) s l (outermost old) h = held_on_kept s l l.entries h
 
     held_tested_same : (k i : ℕ) (args : List Value) (w : Asker) (l : Left) (a : Answer) (o o' : Option End) → o ≡ o' → a.ticks ≡ 0 → Q l
         → SameH (held_tested p x plan k i args w l a o (pause_of a.ticks)) (held_tested p x (emptied plan) k i args w l a o' (pause_of a.ticks))
@@ -202,7 +204,7 @@ module _ (plan : Plan) where
       where
         by : (o : Option End) → SameH (held_tested p x plan k i args w l a o None) (held_tested p x (emptied plan) k i args w l a o None)
         by (Some e) = (refl, tt)
-        by None = (refl, given_kept k (call_note i args (store_at w) (stack_at p w) None) a (poked (store_at w) a.pokes) l w h)
+        by None = (refl, given_kept k (call_note i args (store_at w) (stack_at p w) None) a.said (poked (store_at w) a.pokes) l w h)
 
     held_asked_same : (k i : ℕ) (args : List Value) (w : Asker) (l : Left) (os : List Outcome) → All Calm os → SameH (held_asked p x plan k i args w l os) (held_asked p x (emptied plan) k i args w l os)
     held_asked_same k i args w l [] h = (refl, tt)

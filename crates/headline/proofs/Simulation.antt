@@ -4,7 +4,7 @@ use Rattle.headline.specs.World.{World, WorldFits, base, setting}
 use Rattle.guard_runs.proofs.EachStretch.{calls_begin}
 use Rattle.guard_runs.proofs.Stores.{together}
 use Rattle.guard_runs.specs.Alike.{Alike}
-use Rattle.headline.proofs.Asks.{asks_case, first_fits, no_bad_poke, no_pause_in_start, others_fit, pause_allowed, to_call}
+use Rattle.headline.proofs.Asks.{asks_case, first_fits, no_bad_poke, no_pause_in_start, others_fit, pause_allowed, to_call, value_said}
 use Rattle.headline.proofs.FlatStretches.{Sm, along, gl, other_top, pr, sides, xp}
 use Rattle.headline.specs.Given.{LetsPause}
 use Rattle.headline.specs.StoreLaws.{StoreLaws}
@@ -29,6 +29,7 @@ use Rattle.wa_model.specs.Plan.{AreLawful, Entry, EntryFits, Outcome, OutcomeFit
 use Rattle.wa_model.specs.Protocol.{Held, busy, busy_enters, calling, give_zero, unwinds, free, held_asked, held_ends, held_given, held_next, held_on, held_start, held_tested, is_running, over, starting, store_held}
 use Rattle.wa_model.specs.Step.{Next, asks, entered, returns, step, steps, stuck, traps}
 use Rattle.wa_model.specs.Store.{Store}
+use Rattle.wa_model.specs.declared.answers.Said.TheVariants as S
 use Rattle.wa_model.specs.declared.events.End.{End}
 use Rattle.wa_model.specs.declared.events.End.TheVariants.{Done}
 use Rattle.wa_types.specs.Base.{Base}
@@ -84,9 +85,11 @@ module _ (w : World) (ft : WorldFits w) (sl : StoreLaws w) (L : (top spare : ℕ
       asks_case w ft sl L W G law n spare top x within (an_entry e) c b l is_top lk lf al k i args d is cd
       (λ a os ticks eo ef et.
       let lets : LetsPause w.plan = (i, pause_allowed (func_type_at (base w) i).results (length d.store.memory) w.plan false i a ticks ef et) in
-      pausing w ft sl L W G law hl n spare top x within e c b l is_top lk lf al k i args d is cd a os ticks eo ef et
+      value_said a.said (λ v told.
+      pausing w ft sl L W G law hl n spare top x within e c b l is_top lk lf al k i args d is cd a v told os ticks eo ef et
       (λ c2 l2 cost es lds. wl.locals lets (an_entry e) c2 l2 (known_along w Known wl (busy (is_running (an_entry e)) b l) (busy (is_running (an_entry e)) c2 l2) cost es kn lds))
-      (λ s2 x2 args2 c2 l2 cost es lds. wl.waits lets e i a s2 x2 args2 c2 l2 (known_along w Known wl (busy (is_running (an_entry e)) b l) (calling (unwinds e i a) s2 x2 args2 (give_zero c2) l2) cost es kn lds)))
+      (λ s2 x2 args2 c2 l2 cost es lds. wl.waits lets e i a s2 x2 args2 c2 l2
+      (known_along w Known wl (busy (is_running (an_entry e)) b l) (calling (unwinds e i a) s2 x2 args2 (give_zero c2) l2) cost es kn lds))))
 
   runs_owes : (n spare top x : ℕ) (within : 10 * x ≤ spare) (task : Task) (c b : Configuration) (l : Left) → 0 < n → TopOf w task top → Link w ft sl L W G law top x c b → LeftFits w l
       → Allowed w n (runs task c l) → Known (busy (is_running task) b l) → Ow n spare (runs task c l) (busy (is_running task) b l) (nn w (runs task c l))
@@ -187,7 +190,8 @@ module _ (w : World) (ft : WorldFits w) (sl : StoreLaws w) (L : (top spare : ℕ
           ends_there e (now ∙ ap (held_asked w.written (xp w) w.plan 0 x [] (outermost s') l) eo
           ∙ ap (λ z. held_tested w.written (xp w) w.plan 0 x [] (outermost s') (with_outcomes l os) a z (pause_of a.ticks)) (same_fault a ∙ ef))
       given_case a os eo None ef =
-          subst (λ z. Ow n spare a0 b0 (sh w (go_on 0 (call_note x [] s [] z) a t lo (outermost s)))) (sym no_pause) (by_entries l.entries refl)
+          subst (λ z. Ow n spare a0 b0 (sh w (go_on 0 (call_note x [] s [] z) a.said t lo (outermost s)))) (sym no_pause)
+          (value_said a.said (λ v told. subst (λ z. Ow n spare a0 b0 (sh w (go_on 0 (call_note x [] s [] None) z t lo (outermost s)))) (sym told) (by_entries v told l.entries refl)))
         where
           lo : Left
           lo = with_outcomes l os
@@ -216,36 +220,43 @@ module _ (w : World) (ft : WorldFits w) (sl : StoreLaws w) (L : (top spare : ℕ
           fits2 : LeftFits w (with_outcomes l os)
           fits2 = record { entries = lf.entries; outcomes = others_fit (given a) os (subst (All OutcomeFits) eo lf.outcomes) }
 
-          mv : pr w b0 ≡ held_given 0 (call_note x [] s' [] None) a (poked s' a.pokes) (with_outcomes l os) (outermost s')
+          mv : pr w b0 ≡ held_given 0 (call_note x [] s' [] None) a.said (poked s' a.pokes) (with_outcomes l os) (outermost s')
           mv =
               now ∙ ap (held_asked w.written (xp w) w.plan 0 x [] (outermost s') l) eo
               ∙ ap (λ z. held_tested w.written (xp w) w.plan 0 x [] (outermost s') (with_outcomes l os) a z (pause_of a.ticks)) (same_fault a ∙ ef)
               ∙ ap (held_tested w.written (xp w) w.plan 0 x [] (outermost s') (with_outcomes l os) a None) no_pause
 
-          was2 : nb w a0 ≡ go_on 0 (call_note x [] s [] None) a (poked s a.pokes) (with_outcomes l os) (outermost s)
+          mv_told : (v : Option Value) → a.said ≡ S.Value v → pr w b0 ≡ held_given 0 (call_note x [] s' [] None) (S.Value v) (poked s' a.pokes) (with_outcomes l os) (outermost s')
+          mv_told v told = mv ∙ ap (λ z. held_given 0 (call_note x [] s' [] None) z (poked s' a.pokes) (with_outcomes l os) (outermost s')) told
+
+          was2 : nb w a0 ≡ go_on 0 (call_note x [] s [] None) a.said (poked s a.pokes) (with_outcomes l os) (outermost s)
           was2 =
               was ∙ ap (asked (base w) w.plan 0 x [] (outermost s) l) eo ∙ ap (tested (base w) 0 x [] (outermost s) (with_outcomes l os) a) ef
-              ∙ ap (λ z. go_on 0 (call_note x [] s [] z) a (poked s a.pokes) (with_outcomes l os) (outermost s)) no_pause
+              ∙ ap (λ z. go_on 0 (call_note x [] s [] z) a.said (poked s a.pokes) (with_outcomes l os) (outermost s)) no_pause
 
-          by_entries : (es : List Entry) → l.entries ≡ es → Ow n spare a0 b0 (sh w (go_on 0 (call_note x [] s [] None) a (poked s a.pokes) (with_outcomes l os) (outermost s)))
-          by_entries [] ee =
-              subst (λ z. Ow n spare a0 b0 (goes 0 (call_note x [] s [] None ∷ note (answered a.value) (poked s a.pokes) ∷ done_notes (poked s a.pokes) z)
+          was_told : (v : Option Value) → a.said ≡ S.Value v → nb w a0 ≡ go_on 0 (call_note x [] s [] None) (S.Value v) (poked s a.pokes) (with_outcomes l os) (outermost s)
+          was_told v told = was2 ∙ ap (λ z. go_on 0 (call_note x [] s [] None) z (poked s a.pokes) (with_outcomes l os) (outermost s)) told
+
+          by_entries : (v : Option Value) → a.said ≡ S.Value v → (es : List Entry) → l.entries ≡ es
+              → Ow n spare a0 b0 (sh w (go_on 0 (call_note x [] s [] None) (S.Value v) (poked s a.pokes) (with_outcomes l os) (outermost s)))
+          by_entries v told [] ee =
+              subst (λ z. Ow n spare a0 b0 (goes 0 (call_note x [] s [] None ∷ note (answered (S.Value v)) (poked s a.pokes) ∷ done_notes (poked s a.pokes) z)
               (on_to (poked s a.pokes) (with_outcomes l os) z))) (sym ee)
-              (last_move w ft sl L W G law n spare 0 0 0 a0 (halts (poked s a.pokes)) b0 b0 (over (poked s' a.pokes)) (call_note x [] s [] None ∷ note (answered a.value) (poked s a.pokes) ∷ [])
-              (call_note x [] s' [] None ∷ note (answered a.value) (poked s' a.pokes) ∷ note (ended Done) (poked s' a.pokes) ∷ []) (note (ended Done) (poked s a.pokes))
+              (last_move w ft sl L W G law n spare 0 0 0 a0 (halts (poked s a.pokes)) b0 b0 (over (poked s' a.pokes)) (call_note x [] s [] None ∷ note (answered (S.Value v)) (poked s a.pokes) ∷ [])
+              (call_note x [] s' [] None ∷ note (answered (S.Value v)) (poked s' a.pokes) ∷ note (ended Done) (poked s' a.pokes) ∷ []) (note (ended Done) (poked s a.pokes))
               (silent_none w.original w.settings w.which w.written (xp w) w.plan s b0 seen)
-              (mv ∙ ap (λ z. goes 0 (call_note x [] s' [] None ∷ note (answered a.value) (poked s' a.pokes) ∷ done_notes (poked s' a.pokes) z) (held_on (poked s' a.pokes) (with_outcomes l os) z)) ee)
+              (mv_told v told ∙ ap (λ z. goes 0 (call_note x [] s' [] None ∷ note (answered (S.Value v)) (poked s' a.pokes) ∷ done_notes (poked s' a.pokes) z) (held_on (poked s' a.pokes) (with_outcomes l os) z)) ee)
               (same_note w _ _ refl seen tt refl, (same_note w _ _ refl seen2 tt refl, (same_note w _ _ refl seen2 tt refl, tt))) seen2 (omega arith, omega arith) (λ enough. r_halts seen2))
-          by_entries (e ∷ es) ee =
-              subst (λ z. Ow n spare a0 b0 (goes 0 (call_note x [] s [] None ∷ note (answered a.value) (poked s a.pokes) ∷ done_notes (poked s a.pokes) z)
+          by_entries v told (e ∷ es) ee =
+              subst (λ z. Ow n spare a0 b0 (goes 0 (call_note x [] s [] None ∷ note (answered (S.Value v)) (poked s a.pokes) ∷ done_notes (poked s a.pokes) z)
               (on_to (poked s a.pokes) (with_outcomes l os) z))) (sym ee)
               (last_move w ft sl L W G law n spare 0 0 0 a0 (between (poked s a.pokes) (with_outcomes l os)) b0 b0 (free (poked s' a.pokes) (with_outcomes l os)) (call_note x [] s [] None ∷ [])
-              (call_note x [] s' [] None ∷ note (answered a.value) (poked s' a.pokes) ∷ []) (note (answered a.value) (poked s a.pokes))
+              (call_note x [] s' [] None ∷ note (answered (S.Value v)) (poked s' a.pokes) ∷ []) (note (answered (S.Value v)) (poked s a.pokes))
               (silent_none w.original w.settings w.which w.written (xp w) w.plan s b0 seen)
-              (mv ∙ ap (λ z. goes 0 (call_note x [] s' [] None ∷ note (answered a.value) (poked s' a.pokes) ∷ done_notes (poked s' a.pokes) z) (held_on (poked s' a.pokes) (with_outcomes l os) z)) ee)
+              (mv_told v told ∙ ap (λ z. goes 0 (call_note x [] s' [] None ∷ note (answered (S.Value v)) (poked s' a.pokes) ∷ done_notes (poked s' a.pokes) z) (held_on (poked s' a.pokes) (with_outcomes l os) z)) ee)
               (same_note w _ _ refl seen tt refl, (same_note w _ _ refl seen2 tt refl, tt)) seen2 (omega arith, omega arith)
-              (λ enough. r_between good2 like2 fits2 (allowed_on w n 0 _ a0 _ (was2 ∙ ap
-              (λ z. goes 0 (call_note x [] s [] None ∷ note (answered a.value) (poked s a.pokes) ∷ done_notes (poked s a.pokes) z) (on_to (poked s a.pokes) (with_outcomes l os) z)) ee)
+              (λ enough. r_between good2 like2 fits2 (allowed_on w n 0 _ a0 _ (was_told v told ∙ ap
+              (λ z. goes 0 (call_note x [] s [] None ∷ note (answered (S.Value v)) (poked s a.pokes) ∷ done_notes (poked s a.pokes) z) (on_to (poked s a.pokes) (with_outcomes l os) z)) ee)
               al)))
 
       asked_there : Ow n spare a0 b0 (sh w (asked (base w) w.plan 0 x [] (outermost s) l l.outcomes))

@@ -14,16 +14,16 @@ use Rattle.run_theory.specs.Fitting.{CallersFit, NextFits, StoreFits, global_typ
 use Rattle.run_theory.specs.Growth.{Each, EntryNamed}
 use Rattle.wa_model.specs.Step.{Next, asks, entered, param_count, returns, step, steps, stuck, traps}
 use Rattle.wa_model.specs.Store.{Store}
-use Rattle.wa_model.specs.Untouched.{next_access}
+use Rattle.wa_model.specs.Untouched.{next_ranges}
 use Rattle.run_theory.proofs.FittingRuns.{answers_fit, calls_fit}
 use Rattle.run_theory.proofs.FittingSteps.{steps_fit}
 use Rattle.flat_laws.proofs.FlatModules.{is_there}
 use Rattle.flat_runs.specs.Beside.{Asked, Beside, Loud, first_of}
 use Rattle.flat_runs.specs.Reducing.{Acts, Counted, FlatNext, FlatSteps, nothing, whole}
 use Rattle.flat_runs.proofs.Reductions as R
-use Rattle.flat_runs.proofs.Shapes.{each_reduction, quiet_access, same_access}
+use Rattle.flat_runs.proofs.Shapes.{each_reduction, quiet_reach, same_reach}
 use Rattle.headline.specs.Beside as L
-use Rattle.headline.specs.Beside.{BesideLaw, ComesBeside, EndsBeside, EntersBeside, NextBeside, SameAccess, StepsBeside}
+use Rattle.headline.specs.Beside.{BesideLaw, ComesBeside, EndsBeside, EntersBeside, NextBeside, SameReach, StepsBeside}
 use Rattle.headline.specs.Core.{Core, CoreFits, based}
 use Rattle.headline.proofs.Spaces.{func_type_same, globals_same, results_same, sorts_same}
 use Rattle.slim_laws.specs.Slim.{Terms}
@@ -34,12 +34,12 @@ use Rattle.headline.specs.SlimBeside.{SlimAsked, SlimBeside, SlimFits, SlimModul
 use Rattle.headline.proofs.QuietSteps.{acts_too, last_of, quiet_on, quiet_only, saving_quiet, split, WaySplit}
 use Rattle.headline.proofs.SlimStretches.{fits_on, loud_lean, One, one_too, proper_so, QuietToo, still_too}
 
-accesses : (c mid : Configuration) → Acts c mid → SameAccess c mid
-accesses c mid (inl quiet) = inl (quiet_access mid.here.operands mid.here.code quiet.1)
-accesses c mid (inr same) = inr (same_access c mid same)
+reaches : (c mid : Configuration) → Acts c mid → SameReach c mid
+reaches c mid (inl quiet) = inl (quiet_reach mid.here.operands mid.here.code quiet.1)
+reaches c mid (inr same) = inr (same_reach c mid same)
 
--- the same next makes the same access
-same_too : (c mid at : Configuration) → SameAccess c mid → next_access at ≡ next_access mid → SameAccess c at
+-- the same next reaches the same bytes
+same_too : (c mid at : Configuration) → SameReach c mid → next_ranges at ≡ next_ranges mid → SameReach c at
 same_too c mid at (inl none) e = inl (e ∙ none)
 same_too c mid at (inr same) e = inr (e ∙ same)
 
@@ -103,7 +103,7 @@ module _ (k : Core) (fit : CoreFits k) (slim : Module) (terms : ℕ → Terms) (
               n1 = u1.took + n;
               mid = at;
               before = quiet_on slim f u1.to at u1.took n u1.goes g;
-              access = same_too c h.mid at (accesses c h.mid h.act) sn.access;
+              reach = same_too c h.mid at (reaches c h.mid h.act) sn.reach;
               j = kk;
               after = o.to;
               acts = e;
@@ -124,7 +124,7 @@ module _ (k : Core) (fit : CoreFits k) (slim : Module) (terms : ℕ → Terms) (
               n1 = l.first;
               mid = l.at;
               before = l.before;
-              access = inl l.none;
+              reach = inl l.none;
               j = l.cost;
               after = o.to;
               acts = l.acts;
@@ -145,7 +145,7 @@ module _ (k : Core) (fit : CoreFits k) (slim : Module) (terms : ℕ → Terms) (
       n : ℕ
       to : Configuration
       before : L.QuietGoes slim f n to
-      access : SameAccess c to
+      reach : SameReach c to
       least : suc j0 ≤ n + suc j
       most : n + suc j ≤ bound + spare
       there : ends to
@@ -159,7 +159,7 @@ module _ (k : Core) (fit : CoreFits k) (slim : Module) (terms : ℕ → Terms) (
           n = u.took + cost;
           to = to;
           before = quiet_on slim f u.to to u.took cost u.goes (saving_quiet w u.to to cost sv);
-          access = same_too c at to (accesses c at act) sn.access;
+          reach = same_too c at to (reaches c at act) sn.reach;
           least = omega arith;
           most = omega arith;
           there = there;
@@ -181,7 +181,7 @@ module _ (k : Core) (fit : CoreFits k) (slim : Module) (terms : ℕ → Terms) (
               n = t.n;
               at = t.to;
               before = t.before;
-              access = t.access;
+              reach = t.reach;
               j = h.j;
               there = (to, ap (step slim) t.there ∙ st2, record { between = (h.ends).0; asked = (h.ends).2; outs = b.outs; fits = fs.2; slim_asked = subst (λ z. S.Asked w z to) x4 a });
               least = t.least;
@@ -203,7 +203,7 @@ module _ (k : Core) (fit : CoreFits k) (slim : Module) (terms : ℕ → Terms) (
             let st2 : step slim at ≡ returns h.j vs s = st ∙ e in
             let most = h.most in
             let t = end_too j0 (16 * suc j0) h.n h.l h.j cost h.at at h.act (λ z. z ≡ at) u sv le sn h.least (omega arith) refl in
-            record { n = t.n; at = t.to; before = t.before; access = t.access; j = h.j; there = ap (step slim) t.there ∙ st2; least = t.least; most = t.most }
+            record { n = t.n; at = t.to; before = t.before; reach = t.reach; j = h.j; there = ap (step slim) t.there ∙ st2; least = t.least; most = t.most }
         by _ e (it_asks cost at to sv le sn st a) = cc
         by _ e (it_steps cost left to go le mo b) = cc
         by _ e (it_traps cost at sv le sn st) = cc
@@ -220,7 +220,7 @@ module _ (k : Core) (fit : CoreFits k) (slim : Module) (terms : ℕ → Terms) (
             let st2 : step slim at ≡ traps h.j r s = st ∙ e in
             let most = h.most in
             let t = end_too j0 (16 * suc j0) h.n h.l h.j cost h.at at h.act (λ z. z ≡ at) u sv le sn h.least (omega arith) refl in
-            record { n = t.n; at = t.to; before = t.before; access = t.access; j = h.j; there = ap (step slim) t.there ∙ st2; least = t.least; most = t.most }
+            record { n = t.n; at = t.to; before = t.before; reach = t.reach; j = h.j; there = ap (step slim) t.there ∙ st2; least = t.least; most = t.most }
         by _ e (it_asks cost at to sv le sn st a) = cc
         by _ e (it_steps cost left to go le mo b) = cc
         by _ e (it_returns cost at sv le sn st) = cc

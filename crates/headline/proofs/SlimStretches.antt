@@ -6,7 +6,8 @@ use Rattle.wa_types.specs.Syntax.{Module, basic, local_get, local_set, local_tee
 use Rattle.wa_model.specs.Configuration.{Activation, Configuration}
 use Rattle.run_theory.specs.Fitting.{Fits, NextFits}
 use Rattle.wa_model.specs.Step.{Next, steps, step}
-use Rattle.wa_model.specs.Untouched.{StaysOff, access_in}
+use Rattle.wa_model.specs.Untouched.{StaysOff, ranges_in}
+use Rattle.wa_model.proofs.StayingOff.{nothing_off}
 use Rattle.run_theory.proofs.FittingSteps.{steps_fit}
 use Rattle.flat_runs.specs.Beside.{Loud, Still, first_of, stands, loudly, softly}
 use Rattle.headline.specs.Beside as L
@@ -46,12 +47,12 @@ module _ (k : Core) (fit : CoreFits k) (slim : Module) (terms : ℕ → Terms) (
       let v : Setting = record (setting (world_of k) 0) { flat = k.flat; funcs = suc x } in
       let lt : x < suc x = omega arith in
       (subst (G.ProperCode (sides_of v) c.store c.here.locals c.here.operands) e
-      (proper_law v outs c fits (subst (NextNamed v) (sym e) lt) (subst (λ z. StaysOff v.area (length c.store.memory) (access_in c.here.operands z)) (sym e) tt))).1
+      (proper_law v outs c fits (subst (NextNamed v) (sym e) lt) (subst (λ z. StaysOff v.area (length c.store.memory) (ranges_in c.here.operands z)) (sym e) (nothing_off v.area (length c.store.memory))))).1
   proper_for outs c fits (plain (call_indirect t) rest) e =
       let v : Setting = record (setting (world_of k) 0) { flat = k.flat; sorts = suc t } in
       let lt : t < suc t = omega arith in
       (subst (G.ProperCode (sides_of v) c.store c.here.locals c.here.operands) e
-      (proper_law v outs c fits (subst (NextNamed v) (sym e) lt) (subst (λ z. StaysOff v.area (length c.store.memory) (access_in c.here.operands z)) (sym e) tt))).1
+      (proper_law v outs c fits (subst (NextNamed v) (sym e) lt) (subst (λ z. StaysOff v.area (length c.store.memory) (ranges_in c.here.operands z)) (sym e) (nothing_off v.area (length c.store.memory))))).1
 
   pub proper_so : (outs : List ValType) (c : Configuration) → Fits k.flat outs c → Proper k.flat c
   proper_so outs c fits = proper_for outs c fits c.here.code refl

@@ -1,6 +1,6 @@
 -- What flattening owes the headline: one reduction of the original is a stretch of the flat module that leaves the store but for
 -- one reduction, which leaves the original's.
-use Rattle.std.specs.Prelude.{◌≡◌, ℕ, suc, ◌+◌, ◌*◌, ◌^◌, ◌<◌, ◌≤◌, List, [], ◌∷◌, length, Some, None, Bool, All}
+use Rattle.std.specs.Prelude.{◌≡◌, ℕ, suc, ◌+◌, ◌*◌, ◌^◌, ◌<◌, ◌≤◌, List, [], ◌∷◌, length, Option, Some, None, Bool, All}
 use Rattle.std.specs.Option.{option_to_list}
 use Rattle.wa_types.specs.declared.values.Trap.{Trap}
 use Rattle.wa_types.specs.declared.values.Value.{Value}
@@ -14,10 +14,11 @@ use Rattle.wa_model.specs.Blocking.{fault_of, poked, resumed}
 use Rattle.wa_model.specs.Configuration.{Activation, Configuration, stack_of}
 use Rattle.run_theory.specs.Fitting.{types_of}
 use Rattle.wa_model.specs.Outside.{Answer}
+use Rattle.wa_model.specs.declared.answers.Said.TheVariants as S
 use Rattle.wa_model.specs.Plan.{AnswerFits, AreLawful}
 use Rattle.wa_model.specs.Step.{Next, asks, entered, param_count, returns, step, steps, stuck, traps}
 use Rattle.wa_model.specs.Store.{Store}
-use Rattle.wa_model.specs.Untouched.{StaysOff, next_access}
+use Rattle.wa_model.specs.Untouched.{StaysOff, next_ranges}
 use Rattle.frame_laws.specs.Function.{rewinding, unwinding}
 use Rattle.frame_laws.specs.Stack.{Level}
 use Rattle.frame_laws.specs.Suspended.{AllStandFor}
@@ -155,10 +156,10 @@ module _ (w : World) (Live : Configuration → Configuration → Type 0) (L : (t
     pub waits_good : (top i : ℕ) (d f : Configuration) → W top i d f → G d.store
     pub waits_known : (top i : ℕ) (d f : Configuration) → W top i d f → (i < func_imports (base w)) × (i < w.funcs)
     pub small : (s : Store) → G s → length s.memory < 2 ^ 32
-    pub reduces : (top spare : ℕ) (c f : Configuration) → L top spare c f → StaysOff w.plan.area (length c.store.memory) (next_access c) → FlatNext top spare (step (base w) c) f
-    pub answered : (top i : ℕ) (d f : Configuration) (start : Bool) (a : Answer) → W top i d f → AnswerFits a
+    pub reduces : (top spare : ℕ) (c f : Configuration) → L top spare c f → StaysOff w.plan.area (length c.store.memory) (next_ranges c) → FlatNext top spare (step (base w) c) f
+    pub answered : (top i : ℕ) (d f : Configuration) (start : Bool) (a : Answer) (v : Option Value) → W top i d f → AnswerFits a → a.said ≡ S.Value v
         → fault_of (func_type_at (base w) i).results (length d.store.memory) w.plan start i a ≡ None
-        → FlatOn top (4 + w.tests) (resumed d (poked d.store a.pokes) (option_to_list a.value)) (resumed f (poked d.store a.pokes) (option_to_list a.value))
+        → FlatOn top (4 + w.tests) (resumed d (poked d.store a.pokes) (option_to_list v)) (resumed f (poked d.store a.pokes) (option_to_list v))
     pub enters : (x : ℕ) (args : List Value) (f : Func) (s : Store) → AreLawful (func_type_at (base w) x).params args → G s → defined_at (base w) x ≡ Some f → FlatEnters x args f s
     pub poked_good : (i : ℕ) (s : Store) (start : Bool) (a : Answer) → G s → AnswerFits a → fault_of (func_type_at (base w) i).results (length s.memory) w.plan start i a ≡ None → G (poked s a.pokes)
     pub numbers : (top i : ℕ) (d f : Configuration) → W top i d f → All (StandsNumbered w.original w.settings w.which) (stack_of (base w) d) → AllNumbered (setting w top) i (f.here ∷ f.under)

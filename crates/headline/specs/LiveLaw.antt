@@ -7,7 +7,7 @@ use Rattle.wa_model.specs.Blocking.{resumed}
 use Rattle.wa_model.specs.Configuration.{Configuration, stack_of}
 use Rattle.wa_model.specs.Step.{Next, asks, returns, step, steps, stuck, traps}
 use Rattle.wa_model.specs.Store.{Store}
-use Rattle.wa_model.specs.Untouched.{next_access}
+use Rattle.wa_model.specs.Untouched.{next_ranges}
 use Rattle.frame_laws.specs.Stack.{Level}
 use Rattle.frame_laws.specs.Suspended.{AllStandFor}
 use Rattle.headline.specs.FlatLaw.{AllWeigh}
@@ -26,7 +26,7 @@ pub record LiveLaw (w : World) (Live : Configuration → Configuration → Type 
   pub same : (c : Configuration) → Live c c
   pub on : (c d e : Configuration) → Live c d → Live d e → Live c e
   pub store : (c d : Configuration) → Live c d → d.store ≡ c.store
-  pub access : (c d : Configuration) → Live c d → next_access d ≡ next_access c
+  pub reach : (c d : Configuration) → Live c d → next_ranges d ≡ next_ranges c
   pub steps_keep : (c d : Configuration) → Live c d → LiveNext Live (step (base w) c) (step (base w) d)
   pub resumes : (c d : Configuration) (s : Store) (vs : List Value) → Live c d → Live (resumed c s vs) (resumed d s vs)
   pub numbered : (c d : Configuration) → Live c d → All (StandsNumbered w.original w.settings w.which) (stack_of (base w) c) → All (StandsNumbered w.original w.settings w.which) (stack_of (base w) d)

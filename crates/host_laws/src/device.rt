@@ -10,7 +10,7 @@ ghost use Rattle.host_laws.specs.Answering.{outcome_of};
 use crate::lines::Met;
 use device_port::{DeviceFail, Devices, Reply};
 use std::alloc::{AllocError, Global};
-use wa_model::{Answer, End};
+use wa_model::{Answer, End, Said};
 use wa_types::Value;
 
 /// What a new call of the import of this number meets that is bound to the device of this name: the reply of the first device with
@@ -43,7 +43,7 @@ fn reply_answer(alloc: Global, reply: Reply) -> Answer
     ensures { outcome_of (Met.Given result) ≡ replied reply }
 {
     Answer {
-        value: reply.value,
+        said: Said::Value(reply.value),
         pokes: Vec::new(alloc),
         ticks: reply.ticks,
     }

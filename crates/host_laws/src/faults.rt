@@ -4,11 +4,11 @@ ghost use Rattle.std.specs.Prelude.{◌≡◌, ◌<◌, ◌^◌, ◌+◌, ◌&&�
 ghost use Rattle.std.specs.Option.{option_copied, option_to_list};
 ghost use Rattle.std.specs.List.{find};
 ghost use Rattle.wa_model.specs.Plan.{Plan};
-ghost use Rattle.wa_model.specs.Blocking.{answers, bad_pause, bad_poke, fault_of, is_unlisted, overlap, poke_fits};
+ghost use Rattle.wa_model.specs.Blocking.{answers, bad_pause, bad_poke, bad_value, fault_of, is_unlisted, overlap, poke_fits};
 ghost use Rattle.wa_model.specs.View.{answer_of, poke_of};
 ghost use Rattle.host_laws.specs.Answering.{IsShort, listed_of};
 
-use wa_model::{Answer, Area, End, Poke};
+use wa_model::{Answer, Area, End, Poke, Said};
 use wa_types::{ValType, Value};
 
 /// The first test that an answer fails: its value is of the import's result type; every poke lies inside the memory and off the
@@ -25,15 +25,27 @@ pub fn answer_fault(
     ensures { (plan : Plan) → plan.area ≡ area → plan.listed ≡ listed_of listed.entry → All IsShort (map poke_of answer.now.pokes.items)
         → result ≡ fault_of (option_to_list result_type) size plan in_start import (answer_of answer.now) }
 {
-    if !is_result(result_type, answer.value) {
-        return Some(End::BadAnswer {
-            import,
-            value: answer.value,
-        });
-    }
-    match bad_poke(size, area, &answer.pokes) {
+    match bad_value(result_type, import, answer.said) {
         Some(end) => Some(end),
-        None => bad_pause(in_start, is_unlisted(listed, import), import, answer.ticks),
+        None => match bad_poke(size, area, &answer.pokes) {
+            Some(end) => Some(end),
+            None => bad_pause(in_start, is_unlisted(listed, import), import, answer.ticks),
+        },
+    }
+}
+
+// The end by a value of another type than the import's result.
+fn bad_value(result_type: Option<ValType>, import: u32, said: Said) -> Option<End>
+    ensures { result ≡ bad_value (option_to_list result_type) import said }
+{
+    match said {
+        Said::Value(value) => {
+            if is_result(result_type, value) {
+                None
+            } else {
+                Some(End::BadAnswer { import, value })
+            }
+        }
     }
 }
 

@@ -1,18 +1,20 @@
 -- A stack that hangs comes back over any two stores that belong together, and goes on as a related pair: which store the original has
 -- meanwhile is left open.
-use Rattle.std.proofs.Common.{All, List, None, [], arith, false, length, refl, subst, suc, sym, ℕ, ◌*◌, ◌+◌, ◌<◌, ◌^◌, ◌∷◌, ◌≡◌, ◌≤◌, ◌++◌}
+use Rattle.std.proofs.Common.{All, List, None, Option, [], ap, arith, false, length, refl, subst, suc, sym, ℕ, ◌*◌, ◌+◌, ◌<◌, ◌^◌, ◌∙◌, ◌∷◌, ◌≡◌, ◌≤◌, ◌++◌}
 use Rattle.std.specs.List.{sum_by}
 use Rattle.std.specs.Option.{option_to_list}
 use Rattle.wa_types.specs.Frames.{Fit, Room}
 use Rattle.wa_types.specs.Modules.{func_type_at}
 use Rattle.run_theory.proofs.Runs.{leads_on}
+use Rattle.wa_types.specs.declared.values.Value.{Value}
+use Rattle.wa_model.specs.declared.answers.Said.TheVariants as SV
 use Rattle.wa_model.specs.Behaves.{AreaKept, SameNote, StandsNumbered}
 use Rattle.wa_model.specs.Blocking.{Left, Note, State, an_entry, bad_poke, fault_of, note, poked, resumed, runs}
 use Rattle.wa_model.specs.Configuration.{Activation, Configuration, stack_of}
-use Rattle.wa_model.specs.Machine.{moves, stays}
+use Rattle.wa_model.specs.Machine.{goes, moves, stays}
 use Rattle.wa_model.specs.Outside.{Answer, answered}
 use Rattle.wa_model.specs.Plan.{AnswerFits, Entry}
-use Rattle.wa_model.specs.Protocol.{Held, answer_note, busy, is_running}
+use Rattle.wa_model.specs.Protocol.{Held, answer_note, busy, held_resumed, is_running}
 use Rattle.wa_model.specs.Step.{param_count}
 use Rattle.wa_model.specs.Store.{Store}
 use Rattle.guard_runs.specs.Returned.{AllSameFlat}
@@ -49,16 +51,16 @@ module _ (w : World) (ft : WorldFits w) (sl : StoreLaws w) (L : (top spare : ℕ
       subst (λ t. Simulates (λ stack. room_by t w.original w.settings w.which w.plan.area.len stack) (λ stack. used_by t w.original w.settings w.which w.plan.area.len stack)
       w.original w.settings w.which w.written w.plan (Both w ft sl L W G law Known wl hl)) none (simulates w ft sl L W G law Known wl hl)
 
-  module _ (n top i : ℕ) (e : Entry) (a : Answer) (lo : Left) (d : Configuration) (z : Hangs w ft sl L W G law top i e d) (t : Store) (like : Alike (setting w top) d.store t)
+  module _ (n top i : ℕ) (e : Entry) (a : Answer) (v : Option Value) (said_is : a.said ≡ SV.Value v) (lo : Left) (d : Configuration) (z : Hangs w ft sl L W G law top i e d) (t : Store) (like : Alike (setting w top) d.store t)
       (sus : SuspendedIn w.plan.area t (z.v ∷ z.vs)) (nums : All (StandsNumbered w.original w.settings w.which) (stack_of (base w) d)) (fits_a : AnswerFits a)
       (ef : fault_of (func_type_at (base w) i).results (length d.store.memory) w.plan false i a ≡ None) (lets : LetsPause w.plan) (lf : LeftFits w lo)
-      (al : Allowed w n (runs (an_entry e) (resumed d (poked d.store a.pokes) (option_to_list a.value)) lo)) (known3 : Known (held_at_pause w.written w.plan e i a t lo))
+      (al : Allowed w n (runs (an_entry e) (resumed d (poked d.store a.pokes) (option_to_list v)) lo)) (known3 : Known (held_at_pause w.written w.plan e i a t lo))
       (sums : ApartSums w.original (param_count (func_type_at w.flat top)) (z.v ∷ z.vs) (stack_of (base w) d)) where
     abbrev x3 : Note
-    x3 = note (answered a.value) (poked d.store a.pokes)
+    x3 = note (answered (SV.Value v)) (poked d.store a.pokes)
 
     abbrev a2 : State
-    a2 = runs (an_entry e) (resumed d (poked d.store a.pokes) (option_to_list a.value)) lo
+    a2 = runs (an_entry e) (resumed d (poked d.store a.pokes) (option_to_list v)) lo
 
     abbrev b3 : Held
     b3 = held_at_pause w.written w.plan e i a t lo
@@ -73,19 +75,22 @@ module _ (w : World) (ft : WorldFits w) (sl : StoreLaws w) (L : (top spare : ℕ
     bk = comes_back w ft sl L W G law top i e a lo d z d.store t like (ft.least lets) small sus no_bad
 
     abbrev b5 : Held
-    b5 = busy (is_running (an_entry e)) (resumed bk.config (poked bk.store a.pokes) (option_to_list a.value)) lo
+    b5 = busy (is_running (an_entry e)) (resumed bk.config (poked bk.store a.pokes) (option_to_list v)) lo
+
+    answers : pr w bk.at ≡ goes 0 (answer_note (SV.Value v) (poked bk.store a.pokes) t ∷ []) b5
+    answers = bk.answers ∙ ap (λ q. held_resumed 0 e q t bk.config lo (poked bk.store a.pokes)) said_is
 
     abbrev y3 : Note
-    y3 = answer_note a.value (poked bk.store a.pokes) t
+    y3 = answer_note (SV.Value v) (poked bk.store a.pokes) t
 
     known5 : Known b5
     known5 =
         let q = bk.silent in
         known_along w Known wl b3 b5 (bk.cost + (suc 0 + 0)) _ known3
-        (leads_on Held Note (pr w) b3 bk.at b5 bk.cost (suc 0 + 0) [] ((y3 ∷ []) ++ []) q.leads (moves bk.answers stays refl refl))
+        (leads_on Held Note (pr w) b3 bk.at b5 bk.cost (suc 0 + 0) [] ((y3 ∷ []) ++ []) q.leads (moves answers stays refl refl))
 
     fit5 : AllLocalsFit w.written ((bk.config).here ∷ (bk.config).under)
-    fit5 = wl.locals lets (an_entry e) (resumed bk.config (poked bk.store a.pokes) (option_to_list a.value)) lo known5
+    fit5 = wl.locals lets (an_entry e) (resumed bk.config (poked bk.store a.pokes) (option_to_list v)) lo known5
 
     same3 : SameNote w.original w.settings w.which w.plan.area x3 y3
     same3 = record {
@@ -102,33 +107,33 @@ module _ (w : World) (ft : WorldFits w) (sl : StoreLaws w) (L : (top spare : ℕ
       few : cost + 10 * left ≤ 90
       to : Configuration
       silent : Sil w (poked d.store a.pokes) (busy (is_running (an_entry e)) from lo) cost (busy (is_running (an_entry e)) to lo)
-      link : Link w ft sl L W G law top left (resumed d (poked d.store a.pokes) (option_to_list a.value)) to
+      link : Link w ft sl L W G law top left (resumed d (poked d.store a.pokes) (option_to_list v)) to
 
     give : (f wt : Configuration) (s : Store) → W top i d f → Alike (setting w top) d.store s → Stopped (setting w top) i (f.here ∷ f.under) (wt.here ∷ wt.under)
-        → GoesOn (resumed wt (poked s a.pokes) (option_to_list a.value))
+        → GoesOn (resumed wt (poked s a.pokes) (option_to_list v))
     give f wt s waits lk st =
         let lk2 = sl.poked_too top d.store s a lk no_bad in
-        let nr = answers_go_on (sides w top) (poked d.store a.pokes) (poked s a.pokes) i f.here wt.here f.under wt.under (option_to_list a.value) (together (setting w top) (ft.paired top)) lk2
+        let nr = answers_go_on (sides w top) (poked d.store a.pokes) (poked s a.pokes) i f.here wt.here f.under wt.under (option_to_list v) (together (setting w top) (ft.paired top)) lk2
         (waits_law (setting w top) i _ _ st) in
-        let fo = law.answered top i d f false a waits fits_a ef in
-        let u = along w ft sl top (an_entry e) lo (poked d.store a.pokes) (resumed f (poked d.store a.pokes) (option_to_list a.value)) fo.to
-        (resumed wt (poked s a.pokes) (option_to_list a.value)) fo.n fo.goes nr (same_refl (gl w) w.plan.area (poked d.store a.pokes)) in
+        let fo = law.answered top i d f false a v waits fits_a said_is ef in
+        let u = along w ft sl top (an_entry e) lo (poked d.store a.pokes) (resumed f (poked d.store a.pokes) (option_to_list v)) fo.to
+        (resumed wt (poked s a.pokes) (option_to_list v)) fo.n fo.goes nr (same_refl (gl w) w.plan.area (poked d.store a.pokes)) in
         let a1 = fo.few in let a2 = ft.few_tests in let a3 = u.most in
         record { cost = u.cost; left = fo.left; few = omega arith; to = u.to; silent = u.silent; link = record { flat_at = fo.to; link = fo.link; near = u.near } }
 
     anew : (new : List Activation) (wt : Configuration) (s : Store) → AllLocalsFit w.written (wt.here ∷ wt.under) → AllSameFlat w.lay ((z.flat).here ∷ (z.flat).under) new
-        → Stopped (setting w top) i new (wt.here ∷ wt.under) → Alike (setting w top) d.store s → GoesOn (resumed wt (poked s a.pokes) (option_to_list a.value))
+        → Stopped (setting w top) i new (wt.here ∷ wt.under) → Alike (setting w top) d.store s → GoesOn (resumed wt (poked s a.pokes) (option_to_list v))
     anew [] wt s fit same st lk = absurd same
     anew (f2 ∷ us2) wt s fit same st lk =
         let ag = law.again top i d z.flat f2 us2 z.waits nums same (wt.here ∷ wt.under) st fit in
         let wt2 = subst (λ q. W top i q (record { store = (z.flat).store; here = f2; under = us2 })) (sym ag.live) ag.waits in
         give (record { store = (z.flat).store; here = f2; under = us2 }) wt s wt2 lk st
 
-    gv : GoesOn (resumed bk.config (poked bk.store a.pokes) (option_to_list a.value))
+    gv : GoesOn (resumed bk.config (poked bk.store a.pokes) (option_to_list v))
     gv = anew bk.new bk.config bk.store fit5 bk.same_flat bk.stopped bk.like
 
     pub comes : Comes w.original w.settings w.which w.written w.plan (Both w ft sl L W G law Known wl hl) n (128 + sum_by (rewind_bound w.original) (stack_of (base w) d)) d.store
-        (note (answered a.value) (poked d.store a.pokes)) (runs (an_entry e) (resumed d (poked d.store a.pokes) (option_to_list a.value)) lo) (held_at_pause w.written w.plan e i a t lo)
+        (note (answered (SV.Value v)) (poked d.store a.pokes)) (runs (an_entry e) (resumed d (poked d.store a.pokes) (option_to_list v)) lo) (held_at_pause w.written w.plan e i a t lo)
     comes =
         let few = gv.few in let in29 = bk.within in
         let w1 = sums.rewinds in
@@ -145,7 +150,7 @@ module _ (w : World) (ft : WorldFits w) (sl : StoreLaws w) (L : (top spare : ℕ
           to = busy (is_running (an_entry e)) gv.to lo;
           left = 10 * gv.left;
           silent = bk.silent;
-          tells = bk.answers;
+          tells = answers;
           same = same3;
           behind = gv.silent;
           rel = (
@@ -156,8 +161,8 @@ module _ (w : World) (ft : WorldFits w) (sl : StoreLaws w) (L : (top spare : ℕ
         }
 
     -- A STACK THAT HANGS comes back, whatever the store is
-    pub hanging_goes_on : BehavesFrom w.original w.settings w.written w.plan w.which n d.store (stack_of (base w) d) (note (answered a.value) (poked d.store a.pokes))
-        (runs (an_entry e) (resumed d (poked d.store a.pokes) (option_to_list a.value)) lo) (held_at_pause w.written w.plan e i a t lo)
+    pub hanging_goes_on : BehavesFrom w.original w.settings w.written w.plan w.which n d.store (stack_of (base w) d) (note (answered (SV.Value v)) (poked d.store a.pokes))
+        (runs (an_entry e) (resumed d (poked d.store a.pokes) (option_to_list v)) lo) (held_at_pause w.written w.plan e i a t lo)
     hanging_goes_on =
         behaves_from w.original w.settings w.which w.written w.plan (Both w ft sl L W G law Known wl hl) plain_simulates n d.store (stack_of (base w) d) x3 a2 b3
         lf.outcomes refl comes

@@ -1,14 +1,15 @@
 -- Where the rewritten module is about to unwind: from any store that holds the pause it comes back.
-use Rattle.std.proofs.Common.{All, List, [], ap, arith, false, length, subst, suc, ℕ, ◌+◌, ◌-◌, ◌∙◌, ◌∷◌, ◌≡◌, ◌≤◌}
+use Rattle.std.proofs.Common.{All, List, [], ap, arith, false, length, refl, subst, suc, ℕ, ◌+◌, ◌-◌, ◌∙◌, ◌∷◌, ◌≡◌, ◌≤◌}
 use Rattle.std.proofs.lemmas.List.{length-map}
 use Rattle.std.specs.List.{sum_by}
-use Rattle.std.specs.Option.{option_to_list}
 use Rattle.wa_types.specs.Frames.{HoldsBytes, HoldsFrames, Room, frame_of, word}
 use Rattle.wa_types.specs.Modules.{func_type_at}
 use Rattle.wa_types.specs.declared.values.Value.{Value}
 use Rattle.wa_types.specs.declared.values.Value.TheVariants as V
+use Rattle.wa_model.specs.declared.answers.Said.{Said}
+use Rattle.wa_model.specs.declared.answers.Said.TheVariants as S
 use Rattle.wa_model.specs.Behaves.{StandsNumbered}
-use Rattle.wa_model.specs.Blocking.{Left, an_entry, note, poked, resumed, runs, with_outcomes}
+use Rattle.wa_model.specs.Blocking.{Left, note, poked, with_outcomes}
 use Rattle.wa_model.specs.Configuration.{Activation, Configuration, stack_of}
 use Rattle.wa_model.specs.Outside.{Answer, answered}
 use Rattle.wa_model.specs.Plan.{Entry, Outcome}
@@ -28,11 +29,12 @@ use Rattle.headline.specs.StoreLaws.{StoreLaws}
 use Rattle.headline.specs.World.{World, WorldFits, base, setting}
 use Rattle.headline.specs.WrittenRuns.{WrittenLaw}
 use Rattle.headline.proofs.FlatStretches.{gl, sides, xp}
+use Rattle.headline.proofs.Reductions.{Allowed}
 use Rattle.headline.proofs.Halves.{Hangs}
 use Rattle.headline.proofs.OuterLevels.{under_deep}
 use Rattle.headline.proofs.Pauses.{LevelsOf, levels_are}
 use Rattle.guard_runs.specs.Pause.{SuspendedIn}
-use Rattle.image_laws.specs.Image.{BehavesFrom, HoldsPause, held_at_pause}
+use Rattle.image_laws.specs.Image.{BehavesFrom, HoldsPause, goes_on_told, held_at_pause}
 use Rattle.image_laws.proofs.Apart.{ApartLaw, ApartSums}
 use Rattle.image_laws.proofs.AnyStore.{hanging_goes_on}
 use Rattle.image_laws.proofs.KnownAgain.{KnownLaw}
@@ -137,11 +139,17 @@ module _ (w : World) (ft : WorldFits w) (sl : StoreLaws w) (L : (top spare : ℕ
         let z1 = w1.size in let z2 = w2.size in
         known_again e i a (with_words (cd.at).store w.plan.area) (xp w).start_unwind (V.I32 w.plan.area.at ∷ []) cd.at (with_outcomes l os) t u.known hp.fits hp.ranges (omega arith)
 
-    -- A STORE THAT HOLDS THE PAUSE comes back
-    pub behaves_back : BehavesFrom w.original w.settings w.written w.plan w.which (n - suc k) d.store (stack_of (base w) d) (note (answered a.value) (poked d.store a.pokes))
-        (runs (an_entry e) (resumed d (poked d.store a.pokes) (option_to_list a.value)) (with_outcomes l os))
-        (held_at_pause w.written w.plan e i a t (with_outcomes l os))
+    abbrev Back : Said → Type 0
+    Back said =
+        BehavesFrom w.original w.settings w.written w.plan w.which (n - suc k) d.store (stack_of (base w) d) (note (answered said) (poked d.store a.pokes))
+        (goes_on_told said e d (poked d.store a.pokes) (with_outcomes l os)) (held_at_pause w.written w.plan e i a t (with_outcomes l os))
+
+    back_told : (said : Said) → a.said ≡ said → Back said
     unfolding hangs some
-    behaves_back =
-        hanging_goes_on w ft sl L W G law Known wl hl none (n - suc k) top i e a (with_outcomes l os) d hangs t like sus u.numbered
-        u.answer u.passes u.lets u.rest u.allowed known3 halves_there
+    back_told (S.Value v) is =
+        hanging_goes_on w ft sl L W G law Known wl hl none (n - suc k) top i e a v is (with_outcomes l os) d hangs t like sus u.numbered
+        u.answer u.passes u.lets u.rest (subst (λ said. Allowed w (n - suc k) (goes_on_told said e d (poked d.store a.pokes) (with_outcomes l os))) is u.allowed) known3 halves_there
+
+    -- A STORE THAT HOLDS THE PAUSE comes back
+    pub behaves_back : Back a.said
+    behaves_back = back_told a.said refl

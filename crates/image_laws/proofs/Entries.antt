@@ -13,6 +13,8 @@ use Rattle.wa_model.specs.Outside.{Answer}
 use Rattle.wa_model.specs.Plan.{Entry, Outcome, Plan, given, refused}
 use Rattle.wa_model.specs.Step.{Next, asks, returns, step, steps, stuck, traps}
 use Rattle.wa_model.specs.Store.{Store}
+use Rattle.wa_model.specs.declared.answers.Said.{Said}
+use Rattle.wa_model.specs.declared.answers.Said.TheVariants as S
 use Rattle.wa_model.specs.declared.events.End.{End}
 use Rattle.image_laws.specs.Laws.{EntryIsNumbered}
 
@@ -46,9 +48,9 @@ module _ (m : Module) (plan : Plan) where
   AskedAt (inside task c) l = At task l
   AskedAt (outermost s) l = Behind l
 
-  go_on_at : (k : ℕ) (x : Note) (a : Answer) (s : Store) (l : Left) (w : Asker) → AskedAt w l → GoesAt (go_on k x a s l w)
-  go_on_at k x a s l (inside task c) h = h
-  go_on_at k x a s l (outermost old) h = on_at s l l.entries h
+  go_on_at : (k : ℕ) (x : Note) (said : Said) (s : Store) (l : Left) (w : Asker) → AskedAt w l → GoesAt (go_on k x said s l w)
+  go_on_at k x (S.Value v) s l (inside task c) h = h
+  go_on_at k x (S.Value v) s l (outermost old) h = on_at s l l.entries h
 
   outcomes_at : (w : Asker) (l : Left) (os : List Outcome) → AskedAt w l → AskedAt w (with_outcomes l os)
   outcomes_at (inside task c) l os h = same_outcomes task l os h
@@ -56,7 +58,7 @@ module _ (m : Module) (plan : Plan) where
 
   tested_at : (k i : ℕ) (args : List Value) (w : Asker) (l : Left) (a : Answer) (o : Option End) → AskedAt w l → GoesAt (tested m k i args w l a o)
   tested_at k i args w l a (Some e) h = tt
-  tested_at k i args w l a None h = go_on_at k (call_note i args (store_at w) (stack_at m w) (pause_of a.ticks)) a (poked (store_at w) a.pokes) l w h
+  tested_at k i args w l a None h = go_on_at k (call_note i args (store_at w) (stack_at m w) (pause_of a.ticks)) a.said (poked (store_at w) a.pokes) l w h
 
   asked_at : (k i : ℕ) (args : List Value) (w : Asker) (l : Left) (os : List Outcome) → AskedAt w l → GoesAt (asked m plan k i args w l os)
   asked_at k i args w l [] h = tt

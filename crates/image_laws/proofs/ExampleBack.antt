@@ -4,6 +4,7 @@ use Rattle.wa_types.specs.declared.values.Value.TheVariants as V
 use Rattle.wa_types.specs.Base.{Base}
 use Rattle.wa_types.specs.Pausing.{Policy}
 use Rattle.wa_types.specs.Syntax.{Module}
+use Rattle.wa_model.specs.declared.answers.Said.TheVariants as S
 use Rattle.wa_model.specs.declared.events.End.TheVariants.{Done}
 use Rattle.wa_model.specs.Behaves.{IsPrefix, pause_stacks}
 use Rattle.wa_model.specs.Blocking.{blocking, events_of}
@@ -26,7 +27,7 @@ goes_on_from policy q t em holds n =
 
 -- the original's events from the answer on
 abbrev events_there : List Event
-events_there = answered (Some (V.I32 42)) ∷ returned 0 (Some (V.I32 47)) ∷ ended Done ∷ []
+events_there = answered (S.Value (Some (V.I32 42))) ∷ returned 0 (Some (V.I32 47)) ∷ ended Done ∷ []
 
 expected_there : (policy : Policy) → events_of (expected_from sample (saving policy) plan_there (answer_there pause_there) (goes_on_there pause_there) 2) ≡ events_there
 unfolding Base

@@ -1,5 +1,5 @@
 -- A run of the small module: it comes to the pause, and is compared whatever it may cost.
-use Rattle.std.proofs.Common.{All, List, Some, [], arith, refl, ℕ, ◌+◌, ◌∷◌, ◌≡◌, ◌≤◌}
+use Rattle.std.proofs.Common.{All, List, Some, [], arith, length, refl, ℕ, ◌+◌, ◌∷◌, ◌≡◌, ◌≤◌}
 use Rattle.std.proofs.lemmas.List.Elements.{All-cons, All-nil}
 use Rattle.wa_types.specs.declared.values.Value.{Value}
 use Rattle.wa_types.specs.declared.values.Value.TheVariants as V
@@ -21,7 +21,8 @@ use Rattle.run_theory.specs.Laws.{start_of}
 use Rattle.wa_model.specs.Machine.{Leads, moves, stays}
 use Rattle.wa_model.specs.Outside.{ended, returned}
 use Rattle.wa_model.specs.Plan.{AreLawful, EntryFits, Fits, OutcomeFits, PokeFits}
-use Rattle.wa_model.specs.Untouched.{IsCalm}
+use Rattle.wa_model.specs.Untouched.{IsCalm, StaysOff}
+use Rattle.wa_model.proofs.StayingOff.{nothing_off}
 use Rattle.run_theory.proofs.Invariants.{RanKeeps, TurnKeeps, after_keeps}
 use Rattle.image_laws.specs.Example.{adding, at_call, behind_call, called_with_7, fresh, may_pause, outcomes_there, pause_there, plan_there, sample, saving}
 use Rattle.image_laws.specs.Image.{ComesThere, answer_there, left_there, stack_there}
@@ -131,15 +132,18 @@ unfolding Base
 all_along policy n =
     after_keeps (blocking (Base sample) plan_there) Along (Numbered_at policy) (each_move policy) n (start_of sample plan_there outcomes_there) (All-nil (Numbered_at policy), at_start)
 
+none : StaysOff plan_there.area (length fresh.memory) []
+none = nothing_off plan_there.area (length fresh.memory)
+
 calm : (s : State) → Along s → IsCalm plan_there.area s
 calm _ at_start = tt
-calm _ entered = tt
-calm _ has_five = tt
-calm _ has_seven = tt
-calm _ has_one = tt
-calm _ calls_import = tt
-calm _ is_answered = tt
-calm _ has_sum = tt
+calm _ entered = none
+calm _ has_five = none
+calm _ has_seven = none
+calm _ has_one = none
+calm _ calls_import = none
+calm _ is_answered = none
+calm _ has_sum = none
 calm _ is_over = tt
 
 no_values : AreLawful [] []
@@ -161,7 +165,7 @@ compared_there : (policy : Policy) (n : ℕ) → Compared sample (saving policy)
 compared_there policy n = record {
   fits = fits_there;
   listed = refl;
-  outcomes = All-cons OutcomeFits _ [] (record { value = omega arith; pokes = All-nil PokeFits; ticks = omega arith }) (All-nil OutcomeFits);
+  outcomes = All-cons OutcomeFits _ [] (record { said = omega arith; pokes = All-nil PokeFits; ticks = omega arith }) (All-nil OutcomeFits);
   untouched = λ j lt. calm (Blocking sample plan_there outcomes_there j).last (all_along policy j).1;
 }
 

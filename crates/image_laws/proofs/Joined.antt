@@ -21,6 +21,7 @@ use Rattle.image_laws.specs.Laws.{OneSavesAnotherGoesOn, WholeBound}
 use Rattle.image_laws.proofs.Apart.{bounds_join}
 use Rattle.image_laws.proofs.Emitted.{image_goes_on, pauses_hold}
 use Rattle.image_laws.proofs.Reached.{stacks_on}
+use Rattle.image_laws.proofs.Unwinding.{told_moves}
 
 -- ---- a store that fits one fits the other
 
@@ -70,7 +71,8 @@ whole_bound m s plan os n x pause =
     let mv : blocking (Base m) plan stands ≡ goes x.own_cost (x1 ∷ x3 ∷ []) (goes_on_there x) =
     ap (by_step (Base m) plan (an_entry x.entry) x.left) at.asks_there ∙ ap (asked (Base m) plan x.own_cost x.import x.args (inside (an_entry x.entry) x.waits) x.left) at.outcome
     ∙ ap (tested (Base m) x.own_cost x.import x.args (inside (an_entry x.entry) x.waits) (left_there x) x.answer) at.passes
-    ∙ ap (λ z. go_on x.own_cost (call_note x.import x.args x.waits.store (stack_there m x) z) x.answer (poked x.waits.store x.answer.pokes) (left_there x) (inside (an_entry x.entry) x.waits)) at.pauses in
+    ∙ ap (λ z. go_on x.own_cost (call_note x.import x.args x.waits.store (stack_there m x) z) x.answer.said (poked x.waits.store x.answer.pokes) (left_there x) (inside (an_entry x.entry) x.waits)) at.pauses
+    ∙ told_moves x.own_cost x1 x.answer.said (poked x.waits.store x.answer.pokes) (left_there x) x.entry x.waits in
     let z : n ≡ x.cost + suc (x.own_cost + left) = omega arith in
     let r : (run (blocking (Base m) plan) n a0).events ≡ x.notes ++ (x1 ∷ x3 ∷ rest) =
     ap (λ i. (run (blocking (Base m) plan) i a0).events) z

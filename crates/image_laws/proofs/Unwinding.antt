@@ -1,12 +1,13 @@
 -- At a related pair whose original asks an import that pauses: the rewritten module calls it too, and is about to unwind.
 use Rattle.std.proofs.Common.{All, List, None, Some, [], ap, arith, false, length, refl, subst, suc, ℕ, ◌*◌, ◌+◌, ◌-◌, ◌<◌, ◌^◌, ◌∙◌, ◌∷◌, ◌≡◌, ◌≤◌, ◌++◌}
-use Rattle.std.specs.Option.{option_to_list}
 use Rattle.wa_types.specs.Modules.{func_type_at}
 use Rattle.wa_types.specs.declared.values.Value.{Value}
 use Rattle.wa_types.specs.declared.values.Value.TheVariants as V
 use Rattle.run_theory.proofs.Runs.{leads_on}
+use Rattle.wa_model.specs.declared.answers.Said.{Said}
+use Rattle.wa_model.specs.declared.answers.Said.TheVariants as S
 use Rattle.wa_model.specs.Behaves.{PausesNumbered, StandsNumbered}
-use Rattle.wa_model.specs.Blocking.{Left, Note, State, an_entry, call_note, fault_of, go_on, inside, note, pause_of, poked, resumed, runs, with_outcomes}
+use Rattle.wa_model.specs.Blocking.{Left, Note, State, an_entry, call_note, fault_of, go_on, inside, note, pause_of, poked, runs, with_outcomes}
 use Rattle.wa_model.specs.Configuration.{Configuration, stack_of}
 use Rattle.wa_model.specs.Machine.{goes, moves, stays}
 use Rattle.wa_model.specs.Outside.{Answer, answered}
@@ -26,6 +27,12 @@ use Rattle.headline.proofs.Asks.{Called, answer_fits, left_fits, pause_allowed, 
 use Rattle.headline.proofs.FlatStretches.{pr, xp}
 use Rattle.headline.proofs.Reductions.{Allowed, LeftFits, Link, TopOf, allowed_on, nb}
 use Rattle.headline.proofs.Simulation.{known_along}
+use Rattle.image_laws.specs.Image.{goes_on_told}
+
+-- what is said is told in the move of the call
+pub told_moves : (k : ℕ) (x : Note) (said : Said) (s : Store) (l : Left) (e : Entry) (c : Configuration)
+    → go_on k x said s l (inside (an_entry e) c) ≡ goes k (x ∷ note (answered said) s ∷ []) (goes_on_told said e c s l)
+told_moves k x (S.Value v) s l e c = refl
 
 module _ (w : World) (ft : WorldFits w) (sl : StoreLaws w) (L : (top spare : ℕ) → Configuration → Configuration → Type 0) (W : ℕ → ℕ → Configuration → Configuration → Type 0) (G : Store
     → Type 0) (law : FlatLaw w (λ c d. c ≡ d) L W G) (Known : Held → Type 0) where
@@ -48,7 +55,7 @@ module _ (w : World) (ft : WorldFits w) (sl : StoreLaws w) (L : (top spare : ℕ
     pub pauses : pause_of a.ticks ≡ Some ticks
     pub answer : AnswerFits a
     pub rest : LeftFits w (with_outcomes l os)
-    pub allowed : Allowed w (n - suc k) (runs (an_entry e) (resumed d (poked d.store a.pokes) (option_to_list a.value)) (with_outcomes l os))
+    pub allowed : Allowed w (n - suc k) (goes_on_told a.said e d (poked d.store a.pokes) (with_outcomes l os))
     pub is_top : TopOf w (an_entry e) top
 
   module _ (wl : WrittenLaw w Known) (none : w.asserts ≡ false) (n spare top x : ℕ) (within : 10 * x ≤ spare) (e : Entry) (c b : Configuration) (l : Left) (is_top : TopOf w (an_entry e) top)
@@ -81,10 +88,10 @@ module _ (w : World) (ft : WorldFits w) (sl : StoreLaws w) (L : (top spare : ℕ
     y1 = call_note i args (cd.at).store (stack_of w.written cd.at) (Some ticks)
 
     abbrev x3 : Note
-    x3 = note (answered a.value) (poked d.store a.pokes)
+    x3 = note (answered a.said) (poked d.store a.pokes)
 
     abbrev a2 : State
-    a2 = runs (an_entry e) (resumed d (poked d.store a.pokes) (option_to_list a.value)) (with_outcomes l os)
+    a2 = goes_on_told a.said e d (poked d.store a.pokes) (with_outcomes l os)
 
     mv : pr w b1 ≡ goes cd.j (y1 ∷ []) b2
     mv =
@@ -94,7 +101,8 @@ module _ (w : World) (ft : WorldFits w) (sl : StoreLaws w) (L : (top spare : ℕ
     was : nb w (runs (an_entry e) c l) ≡ goes k (x1 ∷ x3 ∷ []) a2
     was =
         went_on w ft sl L W G law n spare top x within (an_entry e) c b l is_top lk lf al k i args d is cd a os eo ef
-        ∙ ap (λ z. go_on k (call_note i args d.store (stack_of (base w) d) z) a (poked d.store a.pokes) lo (inside (an_entry e) d)) et
+        ∙ ap (λ z. go_on k (call_note i args d.store (stack_of (base w) d) z) a.said (poked d.store a.pokes) lo (inside (an_entry e) d)) et
+        ∙ told_moves k x1 a.said (poked d.store a.pokes) lo e d
 
     known_there : Known b2
     known_there =

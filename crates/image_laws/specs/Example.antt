@@ -8,6 +8,7 @@ use Rattle.wa_types.specs.declared.syntax.Space.TheVariants as Sp
 use Rattle.wa_types.specs.Memory.{page_size}
 use Rattle.wa_types.specs.Syntax.{const, num, basic, local_get, call, Code, done, plain, Func, Module}
 use Rattle.wa_types.specs.Pausing.{Policy, Settings, every, save_all, save_live}
+use Rattle.wa_model.specs.declared.answers.Said.TheVariants as S
 use Rattle.wa_model.specs.declared.events.End.TheVariants.{Done}
 use Rattle.wa_model.specs.Behaves.{IsPrefix}
 use Rattle.wa_model.specs.Blocking.{events_of}
@@ -63,7 +64,7 @@ plan_there = record { globals = []; entries = called_with_7 ∷ []; area = recor
 
 -- the answer is 42, after 5 ticks
 abbrev pub answer_42 : Answer
-answer_42 = record { value = Some (V.I32 42); pokes = []; ticks = 5 }
+answer_42 = record { said = S.Value (Some (V.I32 42)); pokes = []; ticks = 5 }
 
 abbrev pub outcomes_there : List Outcome
 outcomes_there = given answer_42 ∷ []
@@ -144,7 +145,7 @@ HandWrittenDont = (q : Module) (free address : ℕ) → OthersDont q free addres
 -- From such a store q does what the original does from the answer on, for any cost: the answer is given, 47 is returned, and that is all.
 pub record ComesBack (policy : Policy) (q : Module) (t : Store) : Type 0 where
   pub goes_on : (n : ℕ) → GoesOnFrom sample (saving policy) q plan_there may_pause n pause_there t
-  pub events : IsPrefix (answered (Some (V.I32 42)) ∷ returned 0 (Some (V.I32 47)) ∷ ended Done ∷ [])
+  pub events : IsPrefix (answered (S.Value (Some (V.I32 42))) ∷ returned 0 (Some (V.I32 47)) ∷ ended Done ∷ [])
       (events_of (held_rest q plan_there (held_there q plan_there pause_there t) (RestBound sample 2 (stack_there sample pause_there) [])).events)
 
 -- Whatever is emitted of the module, by either policy, comes back from the store that is written by hand.

@@ -4,7 +4,7 @@ use Rattle.wa_types.specs.declared.values.Value.{Value}
 use Rattle.wa_types.specs.declared.instrs.Instr.{Instr}
 use Rattle.wa_types.specs.Syntax.{Basic, basic, Code, plain, Module}
 use Rattle.wa_types.specs.View.{in_front, onto, code}
-use Rattle.wa_model.specs.Store.{Store, Did, works, fails, lacks, takes, act}
+use Rattle.wa_model.specs.Store.{Store, Did, works, fails, lacks, takes, extra_cost, act}
 use Rattle.wa_model.specs.Configuration.{Label, Activation, Configuration, running}
 use Rattle.wa_model.specs.Step.{Next, steps, traps, stuck, did, memory_max, step_plain}
 use Rattle.interp_state.specs.declared.flow.Flow.{Flow}
@@ -27,27 +27,32 @@ module _ (m : Module) (s : Store) (fn : ℕ) (under : List Activation) (ls : Lis
   led (trapped trap) = traps 0 trap s
   led nothing = stuck
 
-  did_led : (below : List Value) (d : Did) → did fn under ls labels rest s below d ≡ led (effect_over below d)
+  did_led : (below : List Value) (d : Did) → did 0 fn under ls labels rest s below d ≡ led (effect_over below d)
   did_led below (works s' results) = refl
   did_led below (fails trap) = refl
   did_led below lacks = refl
 
-  pub shows_tells : (b : Basic) (ops ops' : List Value) (s' : Store) (f : Flow) (left : ℕ) → 0 < left → (Unmoved f → s' ≡ s) → Shows (effect (memory_max m) b s ops) f s' ops'
-      → Tells s (step_plain m s fn under ls ops labels rest (basic b)) left f (running s' fn under ls ops' rest labels)
-  shows_tells b ops ops' s' (Moved more) left paid kept h = (
-    did_led (drop (takes b) ops) (act (memory_max m) b s (take (takes b) ops)) ∙ ap led h.1
+  -- an instruction that costs 1
+  basic_led : (b : Basic) (ops : List Value) → extra_cost b (take (takes b) ops) ≡ 0 → step_plain m s fn under ls ops labels rest (basic b) ≡ led (effect (memory_max m) b s ops)
+  basic_led b ops one =
+      let d = act (memory_max m) b s (take (takes b) ops) in
+      ap (λ k. did k fn under ls labels rest s (drop (takes b) ops) d) one ∙ did_led (drop (takes b) ops) d
+
+  pub shows_tells : (b : Basic) (ops ops' : List Value) (s' : Store) (f : Flow) (left : ℕ) → extra_cost b (take (takes b) ops) ≡ 0 → 0 < left → (Unmoved f → s' ≡ s)
+      → Shows (effect (memory_max m) b s ops) f s' ops' → Tells s (step_plain m s fn under ls ops labels rest (basic b)) left f (running s' fn under ls ops' rest labels)
+  shows_tells b ops ops' s' (Moved more) left one paid kept h = (
+    basic_led b ops one ∙ ap led h.1
         ∙ ap (λ n. steps n (running s' fn under ls ops' rest labels)) (sym h.0),
     subst (λ n. n < left) (sym h.0) paid,
   )
-  shows_tells b ops ops' s' (Trapped more trap) left paid kept h = (
-    did_led (drop (takes b) ops) (act (memory_max m) b s (take (takes b) ops)) ∙ ap led h.1 ∙ ap (λ n. traps n trap s) (sym h.0)
+  shows_tells b ops ops' s' (Trapped more trap) left one paid kept h = (
+    basic_led b ops one ∙ ap led h.1 ∙ ap (λ n. traps n trap s) (sym h.0)
         ∙ ap (traps more trap) (sym (kept tt)),
     subst (λ n. n < left) (sym h.0) paid,
   )
-  shows_tells b ops ops' s' Spent left paid kept h =
-      (subst (λ x. IsUnpaid x left) (sym (did_led (drop (takes b) ops) (act (memory_max m) b s (take (takes b) ops)) ∙ ap led h)) tt, kept tt)
-  shows_tells b ops ops' s' (Asked more import own taken) left paid kept h = absurd h
-  shows_tells b ops ops' s' (Returned more value) left paid kept h = absurd h
+  shows_tells b ops ops' s' Spent left one paid kept h = (subst (λ x. IsUnpaid x left) (sym (basic_led b ops one ∙ ap led h)) tt, kept tt)
+  shows_tells b ops ops' s' (Asked more import own taken) left one paid kept h = absurd h
+  shows_tells b ops ops' s' (Returned more value) left one paid kept h = absurd h
 
 -- the stack with other operands
 abbrev pub with_operands : Stack → Vec Value Global → Stack
@@ -62,13 +67,14 @@ code_arm m s k x x' d f left c ex ed told =
 
 -- one that touches only its operands and the store
 pub basic_arm : (m : Module) (s s' : Store) (k : Stack) (v : Vec Value Global) (x x' : Instr) (b : Basic) (f : Flow) (left : ℕ) → x ≡ x'
-    → in_front x' (code k.here.code.now) ≡ plain (basic b) (code k.here.code.now) → 0 < left → (Unmoved f → s' ≡ s)
+    → in_front x' (code k.here.code.now) ≡ plain (basic b) (code k.here.code.now)
+    → extra_cost b (take (takes b) (reverse k.here.operands.items)) ≡ 0 → 0 < left → (Unmoved f → s' ≡ s)
     → Shows (effect (memory_max m) b s (reverse k.here.operands.items)) f s' (reverse v.items)
     → Tells s (code_of m s k (in_front x (code k.here.code.now))) left f (running_of s' (with_operands k v))
-basic_arm m s s' k v x x' b f left ex ed paid kept shown =
+basic_arm m s s' k v x x' b f left ex ed one paid kept shown =
     code_arm m s k x x' (plain (basic b) (code k.here.code.now)) f left (running_of s' (with_operands k v)) ex ed
     (shows_tells m s k.here.func (map waiting_of (reverse k.under.items)) k.here.locals.items (map label_of (reverse k.here.labels.items)) (code k.here.code.now) b
-    (reverse k.here.operands.items) (reverse v.items) s' f left paid kept shown)
+    (reverse k.here.operands.items) (reverse v.items) s' f left one paid kept shown)
 
 pub if_ok_both : {X Y : Type 0} (r : Result X Y) (P Q : X → Type 0) → IfOk r P → IfOk r Q → IfOk r (λ x. P x × Q x)
 if_ok_both (Ok x) P Q p q = (p, q)

@@ -162,17 +162,17 @@ choose_first (suc n) a b h = refl
 abbrev pub TakesUnpaid : Module → Store → Stack → Code → Type 0
 TakesUnpaid m s k c = TakesMemory c × (paid_for (code_of m s k c) ≡ 0)
 
-did_unpaid : (fn : ℕ) (under : List C.Activation) (ls : List Value) (labels : List C.Label) (rest : Code) (s : Store) (below : List Value) (d : Did)
-    → paid_for (did fn under ls labels rest s below d) ≡ 0
-did_unpaid fn under ls labels rest s below (works s' results) = refl
-did_unpaid fn under ls labels rest s below (fails trap) = refl
-did_unpaid fn under ls labels rest s below lacks = refl
+did_unpaid : (cost fn : ℕ) (under : List C.Activation) (ls : List Value) (labels : List C.Label) (rest : Code) (s : Store) (below : List Value) (d : Did)
+    → paid_for (did cost fn under ls labels rest s below d) ≡ 0
+did_unpaid cost fn under ls labels rest s below (works s' results) = refl
+did_unpaid cost fn under ls labels rest s below (fails trap) = refl
+did_unpaid cost fn under ls labels rest s below lacks = refl
 
 pub grow_unpaid : (m : Module) (s : Store) (k : Stack) → TakesUnpaid m s k (plain (basic memory_grow) (code k.here.code.now))
 grow_unpaid m s k =
     let ops = reverse k.here.operands.items in (
       tt,
-      did_unpaid k.here.func (map waiting_of (reverse k.under.items)) k.here.locals.items (map label_of (reverse k.here.labels.items)) (code k.here.code.now) s (drop 1 ops)
+      did_unpaid 0 k.here.func (map waiting_of (reverse k.under.items)) k.here.locals.items (map label_of (reverse k.here.labels.items)) (code k.here.code.now) s (drop 1 ops)
           (act (memory_max m) memory_grow s (take 1 ops)),
     )
 

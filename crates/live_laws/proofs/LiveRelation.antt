@@ -19,7 +19,7 @@ use Rattle.wa_types.proofs.LiveLemmas.{live_reads}
 use Rattle.wa_model.specs.Behaves.{StandsNumbered}
 use Rattle.wa_model.specs.Configuration.{Activation, Configuration, Label, place_of, stack_of, suspended, waiting}
 use Rattle.wa_model.specs.Store.{Store, value_at}
-use Rattle.wa_model.specs.Untouched.{next_access}
+use Rattle.wa_model.specs.Untouched.{next_ranges}
 use Rattle.wa_model.specs.Blocking.{resumed}
 use Rattle.frame_laws.specs.Layout.{FrameField, gap, kept}
 use Rattle.frame_laws.specs.Stack.{Level}
@@ -58,8 +58,8 @@ live_on _ _ _ (alike {ls = ls} {ls' = ls'} {code = code} {labels = labels} {unde
 live_store : (c d : Configuration) → SameLive c d → d.store ≡ c.store
 live_store _ _ (alike h us) = refl
 
-live_access : (c d : Configuration) → SameLive c d → next_access d ≡ next_access c
-live_access _ _ (alike h us) = refl
+live_reach : (c d : Configuration) → SameLive c d → next_ranges d ≡ next_ranges c
+live_reach _ _ (alike h us) = refl
 
 live_resumes : (c d : Configuration) (s : Store) (vs : List Value) → SameLive c d → SameLive (resumed c s vs) (resumed d s vs)
 live_resumes _ _ s vs (alike h us) = alike h us
@@ -227,7 +227,7 @@ live_stands w W policy at_spots = record {
   same = live_self;
   on = live_on;
   store = live_store;
-  access = live_access;
+  reach = live_reach;
   steps_keep = λ c d h. live_suffices (base w) c d h;
   resumes = λ c d s vs h. live_resumes c d s vs h;
   numbered = λ c d h nums. numbered_same w.original w.settings w.which (base w) (c.here ∷ c.under) (d.here ∷ d.under) (stack_same c d h) nums;

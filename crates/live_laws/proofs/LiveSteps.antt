@@ -11,7 +11,7 @@ use Rattle.wa_types.specs.declared.values.Value.TheVariants as V
 use Rattle.wa_types.specs.declared.values.Trap.TheVariants.{StackExhausted, TypeMismatch}
 use Rattle.wa_model.specs.Configuration.{Activation, Label, block_label, loop_label, running, waiting}
 use Rattle.wa_model.specs.Step.{arity_of, asks, did, entered, finish, invoke, jump, leave, memory_max, param_count, result_count, same_func_type, step_at, step_plain, steps, stuck, through, traps}
-use Rattle.wa_model.specs.Store.{Did, Store, act, fails, lacks, takes, value_at, works}
+use Rattle.wa_model.specs.Store.{Did, Store, act, fails, lacks, extra_cost, takes, value_at, works}
 use Rattle.headline.specs.LiveLaw.{LiveNext, live_asks, live_returns, live_steps, live_stuck, live_traps}
 use Rattle.live_laws.specs.SameLive.{AgreeAt, LiveLocalsSuffice, SameLive, SameLocals, SameUnder, alike, also, leads_to, none, place}
 
@@ -42,12 +42,12 @@ module _ (m : Module) where
   finish_same s fn under under' ls ls' ops (loop_label ht body rest ∷ labels) h us =
       live_steps (alike (h.0, moved (place done (loop_label ht body rest ∷ labels)) (place rest labels) ls ls' (λ x. refl) refl h.1) us)
 
-  did_same : (fn : ℕ) (under under' : List Activation) (ls ls' : List Value) (labels : List Label) (rest : Code) (s : Store) (ops : List Value) (d : Did) → SameLocals rest labels ls ls'
+  did_same : (k fn : ℕ) (under under' : List Activation) (ls ls' : List Value) (labels : List Label) (rest : Code) (s : Store) (ops : List Value) (d : Did) → SameLocals rest labels ls ls'
       → SameUnder under under'
-      → LiveNext SameLive (did fn under ls labels rest s ops d) (did fn under' ls' labels rest s ops d)
-  did_same fn under under' ls ls' labels rest s ops (works s' results) h us = live_steps (alike h us)
-  did_same fn under under' ls ls' labels rest s ops (fails trap) h us = live_traps
-  did_same fn under under' ls ls' labels rest s ops lacks h us = live_stuck
+      → LiveNext SameLive (did k fn under ls labels rest s ops d) (did k fn under' ls' labels rest s ops d)
+  did_same k fn under under' ls ls' labels rest s ops (works s' results) h us = live_steps (alike h us)
+  did_same k fn under under' ls ls' labels rest s ops (fails trap) h us = live_traps
+  did_same k fn under under' ls ls' labels rest s ops lacks h us = live_stuck
 
   under_length : (under under' : List Activation) → SameUnder under under' → length under' ≡ length under
   under_length _ _ none = refl
@@ -136,7 +136,7 @@ module _ (m : Module) where
       → LiveNext SameLive (step_plain m s fn under ls ops labels rest p) (step_plain m s fn under' ls' ops labels rest p)
   unfolding pruned
   plain_same s fn under under' ls ls' ops labels rest (basic b) h us =
-      did_same fn under under' ls ls' labels rest s (drop (takes b) ops) (act (memory_max m) b s (take (takes b) ops))
+      did_same (extra_cost b (take (takes b) ops)) fn under under' ls ls' labels rest s (drop (takes b) ops) (act (memory_max m) b s (take (takes b) ops))
       (h.0, moved (place (plain (basic b) rest) labels) (place rest labels) ls ls' (λ x. refl) refl h.1) us
   plain_same s fn under under' ls ls' ops labels rest (local_get y) h us =
       let at = place (plain (local_get y) rest) labels in

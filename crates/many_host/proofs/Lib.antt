@@ -3,12 +3,17 @@ pub mod Begun
 pub mod Completed
 pub mod Counted
 pub mod Counts
+pub mod DueTicks
+pub mod FewLines
+pub mod FewTurns
 pub mod Further
 pub mod Notes
 pub mod Places
 pub mod Showing
 pub mod Starting
 pub mod Stories
+pub mod StoryLines
+pub mod StoryTurns
 pub mod Telling
 pub mod Tellings
 pub mod TurnNotes

@@ -3,6 +3,7 @@ use Rattle.std.proofs.Common.{arith, ◌≡◌, ◌≤◌, ◌<◌, ◌^◌, ◌
 use Rattle.std.specs.Prelude.{MatchBool}
 use Rattle.std.specs.List.{list_any}
 use Rattle.wa_types.specs.declared.values.Value.{Value}
+use Rattle.wa_model.specs.declared.answers.Said.TheVariants as S
 use Rattle.wa_model.specs.declared.events.End.{End}
 use Rattle.wa_model.specs.declared.events.End.TheVariants.{DeviceFault, NoDevice}
 use Rattle.wa_model.specs.Outside.{AnswerLine, Call}
@@ -36,7 +37,7 @@ ends_tail (x ∷ z ∷ xs) full e h = ends_tail (z ∷ xs) full (or_right (is_en
 
 abbrev Replied : (base name : List ℕ) → List Value → List Device → Outcome → List Device → Type 0
 Replied base name args ds o ds' =
-    (r : Reply) × ValueFits r.value × (r.ticks < 2 ^ 32) × (o ≡ given (record { value = r.value; pokes = []; ticks = r.ticks }))
+    (r : Reply) × ValueFits r.value × (r.ticks < 2 ^ 32) × (o ≡ given (record { said = S.Value r.value; pokes = []; ticks = r.ticks }))
     × (ds' ≡ journaled name (record { base = base; args = args; reply = r }) ds)
 
 abbrev Device_by : (import : ℕ) (base name : List ℕ) → List Value → List Device → Outcome → Bool → Type 0

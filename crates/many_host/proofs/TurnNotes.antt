@@ -185,9 +185,3 @@ module _ {X : Type 0} (follows : X → Program → List Note → List Outcome �
         → devices_of new ≡ ds'' → faults_of new ≡ faults' → TellsLine follows over memory programs detaches ds lines s.tellers old new (line_at turn.due i e) (held_now due) ds'' stage
     line_told due stage due_is stage_is old new d f d' f' =
         record { stands = told_on due stage due_is stage_is; met = n.met; meets = meets; takes = call_on old new d f d' f' }
-
-    -- an event without a call leaves the devices
-    pub kept_on : call_in e ≡ None → ds'' ≡ ds'
-    kept_on none =
-        let same = subst (λ (c : Option Call). Takes on.w c (supply now.answers ds' faults) n.met (supply n.answers ds'' faults')) (ap call_in n.event_is ∙ none) n.takes in
-        ap (λ (u : Supply). u.devices) same.1

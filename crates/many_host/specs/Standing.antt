@@ -1,5 +1,5 @@
 -- Several programs of a world, as they are held between two lines.
-use Rattle.std.specs.Prelude.{◌≡◌, ◌≤◌, ◌<◌, ℕ, suc, ◌+◌, List, [], ◌∷◌, ◌++◌, length, map, drop, Option, Some, Bool, MatchOption, slice_get}
+use Rattle.std.specs.Prelude.{◌≡◌, ◌≤◌, ◌<◌, ℕ, suc, ◌+◌, List, [], ◌∷◌, ◌++◌, ◌*◌, All, length, map, drop, Option, Some, None, Bool, MatchOption, slice_get}
 use Rattle.wa_model.specs.declared.answers.Detach.{Detach}
 use Rattle.wa_model.specs.declared.events.Line.{Line as LineValue}
 use Rattle.wa_model.specs.Outside.{AnswerLine, Event, paused, ended, shown, Line}
@@ -127,8 +127,25 @@ PlaceFits count Between = Unit {0}
 PlaceFits count (Telling turn) = turn.program < count
 PlaceFits count (Showing turn from) = turn.program < count
 
--- There are at most 16 programs, each with the tick at which it is due.
+-- the ticks of the longest pause
+abbrev pub most_ticks : ℕ
+most_ticks = 4294967295
+
+-- a due tick is at most this
+abbrev pub IsDueBy : ℕ → Option ℕ → Type 0
+IsDueBy most None = Unit {0}
+IsDueBy most (Some due) = due ≤ most
+
+-- A turn that is on its way was due before its own number of such pauses.
+abbrev pub TurnIsDue : (begun : ℕ) → Stage → Type 0
+TurnIsDue begun Between = Unit {0}
+TurnIsDue begun (Telling turn) = turn.due + most_ticks ≤ most_ticks * begun
+TurnIsDue begun (Showing turn from) = Unit {0}
+
+-- There are at most 16 programs, each with the tick at which it is due: no turn has put one off by more than the longest pause.
 pub record InRange {X : Type 0} (h : Turns X) : Type 0 where
   pub few : length h.programs.items ≤ 16
   pub wide : length h.dues.items ≡ length h.programs.items
   pub place : PlaceFits (length h.programs.items) h.stage
+  pub dues : All (IsDueBy (most_ticks * h.begun)) h.dues.items
+  pub turn : TurnIsDue h.begun h.stage

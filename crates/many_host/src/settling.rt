@@ -1,13 +1,11 @@
 //! What an event leads to: when its program is due, and where the host then stands.
 
-ghost use Rattle.std.specs.Prelude.{◌≡◌, IfOk, IsErr, None};
+ghost use Rattle.std.specs.Prelude.{◌≡◌, ◌≤◌, ◌<◌, ◌+◌, ◌^◌, ℕ, Some};
 ghost use Rattle.wa_model.specs.View.{event_of};
-ghost use Rattle.wa_model.specs.World.{call_in};
-ghost use Rattle.many_host.specs.Standing.{due_behind, stage_behind};
+ghost use Rattle.many_host.specs.Standing.{due_behind, most_ticks, stage_behind};
 
 use crate::turn_taking::Stage;
 use event_order::Turn;
-use std::alloc::AllocError;
 use wa_model::Event;
 
 /// When the program of a turn is due behind an event, and where the host then stands.
@@ -17,29 +15,26 @@ pub(crate) struct Settled {
     pub stage: Stage,
 }
 
-/// What an event of a turn leads to. A program takes too few steps to be put off past the last tick: that would be answered as want of
-/// memory.
-pub(crate) fn settle(turn: Turn, event: &Event) -> Result<Settled, AllocError>
-    ensures due { IfOk result (λ b. b.due ≡ due_behind turn.due (event_of event.now)) }
-    ensures stage { IfOk result (λ b. b.stage ≡ stage_behind turn (event_of event.now)) }
-    ensures paused { IsErr result → call_in (event_of event.now) ≡ None }
+/// What an event of a turn leads to.
+pub(crate) fn settle(turn: Turn, event: &Event) -> Settled
+    requires { turn.due + most_ticks < 2 ^ 64 }
+    ensures due { result.due ≡ due_behind turn.due (event_of event.now) }
+    ensures later { (due : ℕ) → result.due ≡ Some due → due ≤ turn.due + most_ticks }
+    ensures stage { result.stage ≡ stage_behind turn (event_of event.now) }
 {
     match event {
-        Event::Paused { ticks, .. } => match turn.due.checked_add(u64::from(*ticks)) {
-            Some(due) => Ok(Settled {
-                due: Some(due),
-                stage: Stage::Between,
-            }),
-            None => Err(AllocError),
+        Event::Paused { ticks, .. } => Settled {
+            due: Some(turn.due + u64::from(*ticks)),
+            stage: Stage::Between,
         },
-        Event::Ended(_) => Ok(Settled {
+        Event::Ended(_) => Settled {
             due: None,
             stage: Stage::Showing { turn, from: 0 },
-        }),
-        Event::Called(_) => Ok(same_turn(turn)),
-        Event::Answered(_) => Ok(same_turn(turn)),
-        Event::Returned { .. } => Ok(same_turn(turn)),
-        Event::Shown { .. } => Ok(same_turn(turn)),
+        },
+        Event::Called(_) => same_turn(turn),
+        Event::Answered(_) => same_turn(turn),
+        Event::Returned { .. } => same_turn(turn),
+        Event::Shown { .. } => same_turn(turn),
     }
 }
 

@@ -1,6 +1,6 @@
 //! `Turns`: programs that share a list of devices, told line by line.
 
-ghost use Rattle.std.specs.Prelude.{◌≡◌, ◌≤◌, ◌<◌, List, [], IfOk, IsErr, length, map, MatchOption, Some};
+ghost use Rattle.std.specs.Prelude.{◌≡◌, ◌≤◌, ◌<◌, ◌+◌, ◌*◌, ◌^◌, All, List, [], IfOk, IsErr, length, map, MatchOption, Some};
 ghost use Rattle.wa_model.specs.Outside.{Line as WorldLine};
 ghost use Rattle.wa_model.specs.View.{line_of};
 ghost use Rattle.wa_model.specs.World.{Device, Program};
@@ -8,7 +8,7 @@ ghost use Rattle.device_port.specs.Listed.{of_all};
 ghost use Rattle.host_laws.specs.Supplies.{IsLent};
 ghost use Rattle.event_order.specs.Dues.{HaveEnded};
 ghost use Rattle.many_host.specs.Calls.{BegunNext, left_at, AreLeft};
-ghost use Rattle.many_host.specs.Standing.{AllStart, InRange, IsTelling, LooksOut, Standing, TellsNext, held_of, TellsLine};
+ghost use Rattle.many_host.specs.Standing.{AllStart, InRange, IsDueBy, IsTelling, LooksOut, Standing, TellsNext, held_of, most_ticks, TellsLine};
 
 use crate::settling::settle;
 use crate::teller::Teller;
@@ -74,6 +74,7 @@ impl<T: Teller + Drop> Turns<T> {
     pub fn next(&mut self, devices: &mut Devices<'_>) -> Result<Option<Line>, AllocError>
         requires lent { IsLent }
         requires range { InRange self.old }
+        requires turns { self.old.begun < 2 ^ 32 }
         requires tells { IsTelling T.follows T.has_ended T.memory (held_of self.old) (of_all seen devices.old) self.old.stage }
         ensures range { IfOk result (λ line. InRange self.new) }
         ensures same_list { devices.new.list.ghost_name ≡ devices.old.list.ghost_name }
@@ -100,6 +101,7 @@ impl<T: Teller + Drop> Turns<T> {
     fn begin(&mut self, devices: &mut Devices<'_>) -> Result<Option<Line>, AllocError>
         requires lent { IsLent }
         requires range { InRange self.old }
+        requires turns { self.old.begun < 2 ^ 32 }
         requires tells { IsTelling T.follows T.has_ended T.memory (held_of self.old) (of_all seen devices.old) Stage.Between }
         ensures range { IfOk result (λ line. InRange self.new) }
         ensures same_list { devices.new.list.ghost_name ≡ devices.old.list.ghost_name }
@@ -117,9 +119,7 @@ impl<T: Teller + Drop> Turns<T> {
         let Some(turn) = next_turn(&self.dues) else {
             return Ok(None);
         };
-        let Some(begun) = self.begun.checked_add(1) else {
-            return Err(AllocError);
-        };
+        let begun = self.begun + 1;
         self.begun = begun;
         detach_before(devices, &self.detaches, begun);
         Ok(Some(self.tell(turn, devices)?))
@@ -131,6 +131,9 @@ impl<T: Teller + Drop> Turns<T> {
         requires few { length self.old.programs.items ≤ 16 }
         requires wide { length self.old.dues.items ≡ length self.old.programs.items }
         requires place { turn.program < length self.old.programs.items }
+        requires dues { All (IsDueBy (most_ticks * self.old.begun)) self.old.dues.items }
+        requires due { turn.due + most_ticks ≤ most_ticks * self.old.begun }
+        requires turns { self.old.begun ≤ 2 ^ 32 }
         requires tells { IsTelling T.follows T.has_ended T.memory (held_of self.old) (of_all seen devices.old) (Stage.Telling turn) }
         ensures range { IfOk result (λ line. InRange self.new) }
         ensures same_list { devices.new.list.ghost_name ≡ devices.old.list.ghost_name }
@@ -144,7 +147,7 @@ impl<T: Teller + Drop> Turns<T> {
         ensures begun { self.new.begun ≡ self.old.begun }
     {
         let event = self.programs[turn.program].advance(devices)?;
-        let next = settle(turn, &event)?;
+        let next = settle(turn, &event);
         self.dues[turn.program] = next.due;
         self.stage = next.stage;
         Ok(Line {
@@ -163,6 +166,7 @@ impl<T: Teller + Drop> Turns<T> {
     ) -> Result<Option<Line>, AllocError>
         requires lent { IsLent }
         requires range { InRange self.old }
+        requires turns { self.old.begun < 2 ^ 32 }
         requires place { turn.program < length self.old.programs.items }
         requires tells { IsTelling T.follows T.has_ended T.memory (held_of self.old) (of_all seen devices.old) (Stage.Showing turn from) }
         ensures range { IfOk result (λ line. InRange self.new) }

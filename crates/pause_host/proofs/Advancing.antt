@@ -9,14 +9,18 @@ use Rattle.wa_model.specs.declared.events.End.{End}
 use Rattle.wa_model.specs.declared.events.End.TheVariants as E
 use Rattle.wa_model.specs.declared.events.Event.{Event as EventValue}
 use Rattle.wa_model.specs.declared.events.Event.TheVariants as EV
-use Rattle.wa_model.specs.Outside.{Answer, Call, AnswerLine, Event, called, answered, paused, returned, ended, shown}
+use Rattle.wa_model.specs.Outside.{Call, AnswerLine, Event, called, answered, paused, returned, ended, shown}
 use Rattle.wa_model.specs.View.{answer_of}
 use Rattle.wa_model.specs.Store.{Store}
 use Rattle.wa_model.specs.Plan.{Outcome, given, refused}
 use Rattle.run_theory.specs.Fitting.{types_of, global_types}
 use Rattle.wa_types.specs.Modules.{imported, imported_global, all_memories}
 use Rattle.wa_types.specs.declared.values.Value.{Value}
+use Rattle.wa_types.specs.declared.values.Value.TheVariants as V
+use Rattle.wa_model.specs.Configuration.{Activation}
 use Rattle.wa_model.specs.declared.answers.Area.{Area}
+use Rattle.wa_model.specs.declared.answers.Said.{Said}
+use Rattle.wa_model.specs.declared.answers.Said.TheVariants as SV
 use Rattle.wa_model.specs.Blocking.{Note, note, no_store, Left, Asker, inside, outermost, the_start, an_entry, poked}
 use Rattle.wa_model.specs.Protocol as P
 use Rattle.interp.specs.declared.instance.Instance.{Instance}
@@ -34,6 +38,9 @@ use Rattle.host_laws.specs.Supplies.{Supply, bound_to, Takes}
 use Rattle.host_laws.proofs.Stretches.{nowhere_on}
 use Rattle.host_laws.proofs.Tellings.{one_more_told, one_more_met, place_begins, place_whole, still_none}
 use Rattle.pause_host.specs.Moves.{Moves, IsSetting, PlaceFits, HasShortPokes}
+use Rattle.pause_host.specs.Holding.{PlaceHolds, are_inside, is_held}
+use Rattle.pause_host.proofs.Holding.{holds_then}
+use Rattle.pause_host.specs.declared.stages.Pause.{Pause}
 use Rattle.pause_host.specs.declared.stages.Stage.{Stage}
 use Rattle.pause_host.specs.declared.stages.Stage.TheVariants as S
 use Rattle.pause_host.specs.declared.stages.Task.{Task}
@@ -106,6 +113,8 @@ module _ (w : W.Program) where
             globals = subst (λ g. types_of g.items ≡ global_types (imported imported_global w.source)) (sym same_globals) f.globals;
             pokes = subst (All HasShortPokes) (sym same_lines) (pokes_then (call_in m.note.event) old t.outcomes new t.takes (subst (All HasShortPokes) (sym old_lines) f.pokes));
             fits = subst (PlaceFits w) (sym same_place) (fits_then ready h t.outcomes x.steps_left m.note used to f.setting.valid f.setting.typed f.fits t.lands);
+            holds = subst (PlaceHolds w) (sym same_place) (holds_then w ready h t.outcomes x.steps_left m.note used to f.holds t.lands);
+            few_steps = f.few_steps;
             told = subst (IsAt w (notes ++ m.note ∷ []) (os ++ more.0) x'.steps_left) (sym same_place)
                 (subst (λ n. IsAt w (notes ++ m.note ∷ []) (os ++ more.0) n to) (sym same_steps) more.2);
           };
@@ -190,19 +199,31 @@ ended_asker s (T.Entry e) (I.inside here under) then h = h (inside (an_entry (en
 ended_asker s (T.Entry e) I.nothing then h = refl
 ended_asker s (T.Entry e) I.outermost then h = refl
 
-told_asker : (l : Left) (a : Answer) (s : Store) (who : Asker) → end_at (answering l a s who) ≡ None
-told_asker l a s (inside task c) = refl
-told_asker l a s (outermost old) = refl
+told_asker : (l : Left) (said : Said) (s : Store) (who : Asker) → end_at (answering l said s who) ≡ None
+told_asker l (SV.Value v) s (inside task c) = refl
+told_asker l (SV.Value v) s (outermost old) = refl
 
 given_asker : (l : Left) (v : Option Value) (s : Store) (who : Asker) → end_at (giving l v s who) ≡ None
 given_asker l v s (inside task c) = refl
 given_asker l v s (outermost old) = refl
 
+ended_test : (b : Bool) (at : Place) → end_at at ≡ None → end_at (cond b at nowhere) ≡ None
+ended_test true at e = e
+ended_test false at e = refl
+
+abbrev pausing_place : P.Exports → Area → Left → Store → Activation → List Activation → Pause → Place
+pausing_place x area l s here under pause =
+    stands [] (P.calling (P.unwinds (entry_of pause.entry) pause.import (answer_of pause.answer)) (P.with_words s area) x.start_unwind (V.I32 area.at ∷ [])
+    (P.give_zero (record { store = s; here = here; under = under })) l)
+
 pub ended_stage : (x : P.Exports) (area : Area) (l : Left) (s : Store) (waits : Waits) (stage : Stage) → end_at (place_in x area l s waits stage) ≡ end_of stage
 ended_stage x area l s waits S.Free = refl
-ended_stage x area l s waits (S.Answering task a) = ended_asker s task waits (answering l (answer_of a) (poked s (answer_of a).pokes)) (told_asker l (answer_of a) (poked s (answer_of a).pokes))
+ended_stage x area l s waits (S.Answering task a) =
+    ended_test (are_inside (length s.memory) (answer_of a).pokes) (with_asker nowhere s task waits (answering l a.said (poked s (answer_of a).pokes)))
+    (ended_asker s task waits (answering l a.said (poked s (answer_of a).pokes)) (told_asker l a.said (poked s (answer_of a).pokes)))
 ended_stage x area l s waits (S.Giving task v) = ended_asker s task waits (giving l v s) (given_asker l v s)
-ended_stage x area l s (I.inside here under) (S.Pausing pause) = refl
+ended_stage x area l s (I.inside here under) (S.Pausing pause) =
+    ended_test (is_held area s) (pausing_place x area l s here under pause) refl
 ended_stage x area l s I.nothing (S.Pausing pause) = refl
 ended_stage x area l s I.outermost (S.Pausing pause) = refl
 ended_stage x area l s waits (S.Paused pause) = refl
@@ -226,7 +247,7 @@ memory_told w x instance stage is code = by_test (nat_lt 0 (length (all_memories
 
 -- the same of a program in another state
 pub in_state : (w : W.Program) (notes : List Note) (os : List Outcome) (x : Program) (st : State) (place : Place) → FollowsAt w notes os x place → FollowsAt w notes os (record x { state = st }) place
-in_state w notes os x st place f = record { source = f.source; setting = f.setting; globals = f.globals; pokes = f.pokes; fits = f.fits; told = f.told }
+in_state w notes os x st place f = record { source = f.source; setting = f.setting; globals = f.globals; pokes = f.pokes; fits = f.fits; holds = f.holds; few_steps = f.few_steps; told = f.told }
 
 -- who follows a program is on its way
 pub on_its_way_by : (w : W.Program) (notes : List Note) (os : List Outcome) (x : Program) → Follows w notes os x → IsOnItsWay x

@@ -1,14 +1,16 @@
 -- New calls of imports, and where their outcomes lead.
-use Rattle.std.proofs.Common.{◌≡◌, ◌≤◌, ℕ, zero, suc, List, [], ◌∷◌, length, Option, Some, None, true, false, refl, sym, ap, ◌∙◌, subst}
+use Rattle.std.proofs.Common.{◌≡◌, ◌≤◌, ℕ, zero, suc, List, [], ◌∷◌, length, Option, Some, None, true, false, cond, refl, sym, ap, ◌∙◌, subst}
 use Rattle.std.specs.Option.{option_to_list}
 use Rattle.wa_types.specs.declared.values.Value.TheVariants as V
 use Rattle.wa_types.specs.Syntax.{Module}
 use Rattle.wa_types.specs.Modules.{func_type_at}
 use Rattle.wa_model.specs.declared.answers.Answer.{Answer as AnswerValue}
+use Rattle.wa_model.specs.declared.answers.Said.{Said}
+use Rattle.wa_model.specs.declared.answers.Said.TheVariants as SV
 use Rattle.wa_model.specs.declared.events.Call.{Call as CallValue}
 use Rattle.wa_model.specs.declared.events.End.{End}
 use Rattle.wa_model.specs.declared.events.Event.TheVariants as EV
-use Rattle.wa_model.specs.Outside.{Answer, answered, ended}
+use Rattle.wa_model.specs.Outside.{Answer, Poke, answered, ended}
 use Rattle.wa_model.specs.View.{answer_of, call_of, event_of}
 use Rattle.wa_model.specs.Machine.{Turn, goes}
 use Rattle.wa_model.specs.Store.{Store}
@@ -16,6 +18,7 @@ use Rattle.wa_model.specs.Plan.{Outcome, given, refused}
 use Rattle.wa_model.specs.Blocking.{Note, note, call_note, Left, with_outcomes, Asker, resumed, the_start, an_entry, store_at, stack_at, in_start, fault_of, pause_of, poked, done_notes}
 use Rattle.wa_model.specs.Protocol.{Exports, exports_of, is_running, Held, busy, over, calling, unwinds, give_zero, with_words, held_on, held_given, held_pauses, held_asked, held_tested, protocol}
 use Rattle.wa_model.specs.World.{Program}
+use Rattle.run_laws.proofs.Host.{fault_pokes}
 use Rattle.run_laws.proofs.StandingPauses.{fault_outside}
 use Rattle.interp.specs.Instance as I
 use Rattle.interp.specs.Instance.{Waits}
@@ -29,6 +32,8 @@ use Rattle.pause_host.specs.declared.stages.Task.{Task}
 use Rattle.pause_host.specs.declared.stages.Task.TheVariants as T
 use Rattle.pause_host.specs.Views.{entry_of, with_asker, answering, place_in, starts, stage_after}
 use Rattle.pause_host.specs.Moves.{Comes, Asks, IsAsking}
+use Rattle.pause_host.specs.Holding.{HoldsArea, PokesInside, are_inside, is_held}
+use Rattle.pause_host.proofs.Holding.{held_true, inside_true}
 
 -- who waits stands at the instance's store
 pub asking_store : (task : Task) (waits : Waits) (s : Store) (who : Asker) → IsAsking task waits s who → store_at who ≡ s
@@ -54,46 +59,47 @@ asking_start (T.Entry e) I.outermost s who h = absurd h
 asking_start (T.Entry e) I.nothing s who h = absurd h
 
 -- where an answer leads that is told next
-record GivenLeads (w : Program) (l : Left) (a : Answer) (task : Task) (waits : Waits) (s : Store) (who : Asker) : Type 0 where
+record GivenLeads (w : Program) (l : Left) (said : Said) (pokes : List Poke) (task : Task) (waits : Waits) (s : Store) (who : Asker) : Type 0 where
   behind : List Note
   to : Held
-  place : with_asker nowhere s task waits (answering l a (poked s a.pokes)) ≡ stands behind to
-  leads : (k : ℕ) (y : Note) (more : List Outcome) → held_given k y a (poked (store_at who) a.pokes) (with_outcomes l more) who ≡ goes k (y ∷ behind) (meeting more to)
+  place : with_asker nowhere s task waits (answering l said (poked s pokes)) ≡ stands behind to
+  leads : (k : ℕ) (y : Note) (more : List Outcome) → held_given k y said (poked (store_at who) pokes) (with_outcomes l more) who ≡ goes k (y ∷ behind) (meeting more to)
 
-given_leads : (w : Program) (l : Left) (a : Answer) (task : Task) (waits : Waits) (s : Store) (who : Asker) → IsAsking task waits s who → GivenLeads w l a task waits s who
-given_leads w l a T.Outermost I.outermost s who h =
-    let s' : Store = poked s a.pokes in
-    subst (GivenLeads w l a T.Outermost I.outermost s) (sym h)
+given_leads : (w : Program) (l : Left) (said : Said) (pokes : List Poke) (task : Task) (waits : Waits) (s : Store) (who : Asker) → IsAsking task waits s who
+    → GivenLeads w l said pokes task waits s who
+given_leads w l (SV.Value v) pokes T.Outermost I.outermost s who h =
+    let s' : Store = poked s pokes in
+    subst (GivenLeads w l (SV.Value v) pokes T.Outermost I.outermost s) (sym h)
     (record {
-      behind = note (answered a.value) s' ∷ done_notes s' l.entries;
+      behind = note (answered (SV.Value v)) s' ∷ done_notes s' l.entries;
       to = held_on s' l l.entries;
       place = refl;
-      leads = λ k y more. ap (goes k (y ∷ note (answered a.value) s' ∷ done_notes s' l.entries)) (on_last s' l l.entries more);
+      leads = λ k y more. ap (goes k (y ∷ note (answered (SV.Value v)) s' ∷ done_notes s' l.entries)) (on_last s' l l.entries more);
     })
-given_leads w l a T.Outermost I.nothing s who h = absurd h
-given_leads w l a T.Outermost (I.inside here under) s who h = absurd h
-given_leads w l a T.Start (I.inside here under) s who h =
-    let s' : Store = poked s a.pokes in
-    subst (GivenLeads w l a T.Start (I.inside here under) s) (sym h)
+given_leads w l said pokes T.Outermost I.nothing s who h = absurd h
+given_leads w l said pokes T.Outermost (I.inside here under) s who h = absurd h
+given_leads w l (SV.Value v) pokes T.Start (I.inside here under) s who h =
+    let s' : Store = poked s pokes in
+    subst (GivenLeads w l (SV.Value v) pokes T.Start (I.inside here under) s) (sym h)
     (record {
-      behind = note (answered a.value) s' ∷ [];
-      to = busy (is_running the_start) (resumed (record { store = s'; here = here; under = under }) s' (option_to_list a.value)) l;
+      behind = note (answered (SV.Value v)) s' ∷ [];
+      to = busy (is_running the_start) (resumed (record { store = s'; here = here; under = under }) s' (option_to_list v)) l;
       place = refl;
       leads = λ k y more. refl;
     })
-given_leads w l a T.Start I.outermost s who h = absurd h
-given_leads w l a T.Start I.nothing s who h = absurd h
-given_leads w l a (T.Entry e) (I.inside here under) s who h =
-    let s' : Store = poked s a.pokes in
-    subst (GivenLeads w l a (T.Entry e) (I.inside here under) s) (sym h)
+given_leads w l said pokes T.Start I.outermost s who h = absurd h
+given_leads w l said pokes T.Start I.nothing s who h = absurd h
+given_leads w l (SV.Value v) pokes (T.Entry e) (I.inside here under) s who h =
+    let s' : Store = poked s pokes in
+    subst (GivenLeads w l (SV.Value v) pokes (T.Entry e) (I.inside here under) s) (sym h)
     (record {
-      behind = note (answered a.value) s' ∷ [];
-      to = busy (is_running (an_entry (entry_of e))) (resumed (record { store = s'; here = here; under = under }) s' (option_to_list a.value)) l;
+      behind = note (answered (SV.Value v)) s' ∷ [];
+      to = busy (is_running (an_entry (entry_of e))) (resumed (record { store = s'; here = here; under = under }) s' (option_to_list v)) l;
       place = refl;
       leads = λ k y more. refl;
     })
-given_leads w l a (T.Entry e) I.outermost s who h = absurd h
-given_leads w l a (T.Entry e) I.nothing s who h = absurd h
+given_leads w l said pokes (T.Entry e) I.outermost s who h = absurd h
+given_leads w l said pokes (T.Entry e) I.nothing s who h = absurd h
 
 -- where one leads that pauses
 record PauseLeads (w : Program) (l : Left) (import ticks : ℕ) (answer : AnswerValue) (task : Task) (waits : Waits) (s : Store) (who : Asker) : Type 0 where
@@ -102,22 +108,23 @@ record PauseLeads (w : Program) (l : Left) (import ticks : ℕ) (answer : Answer
   leads : (k : ℕ) (y : Note) (more : List Outcome) → held_pauses (exports_of w.source) w.plan k y import (answer_of answer) (with_outcomes l more) who ≡ goes k (y ∷ []) (meeting more to)
 
 pause_leads : (w : Program) (l : Left) (import ticks : ℕ) (answer : AnswerValue) (task : Task) (waits : Waits) (s : Store) (who : Asker) → IsAsking task waits s who → in_start who ≡ false
-    → PauseLeads w l import ticks answer task waits s who
-pause_leads w l import ticks answer (T.Entry e) (I.inside here under) s who h out =
+    → is_held w.plan.area s ≡ true → PauseLeads w l import ticks answer task waits s who
+pause_leads w l import ticks answer (T.Entry e) (I.inside here under) s who h out held =
     subst (PauseLeads w l import ticks answer (T.Entry e) (I.inside here under) s) (sym h)
     (record {
       to = calling (unwinds (entry_of e) import (answer_of answer)) (with_words s w.plan.area) (exports_of w.source).start_unwind (V.I32 w.plan.area.at ∷ [])
           (give_zero (record { store = s; here = here; under = under })) l;
-      place = refl;
+      place = ap (λ b. cond b (stands [] (calling (unwinds (entry_of e) import (answer_of answer)) (with_words s w.plan.area) (exports_of w.source).start_unwind (V.I32 w.plan.area.at ∷ [])
+          (give_zero (record { store = s; here = here; under = under })) l)) nowhere) held;
       leads = λ k y more. refl;
     })
-pause_leads w l import ticks answer (T.Entry e) I.outermost s who h out = absurd h
-pause_leads w l import ticks answer (T.Entry e) I.nothing s who h out = absurd h
-pause_leads w l import ticks answer T.Start waits s who h out = let z : true ≡ false = sym (asking_start T.Start waits s who h) ∙ out in cc
-pause_leads w l import ticks answer T.Outermost waits s who h out = let z : true ≡ false = sym (asking_start T.Outermost waits s who h) ∙ out in cc
+pause_leads w l import ticks answer (T.Entry e) I.outermost s who h out held = absurd h
+pause_leads w l import ticks answer (T.Entry e) I.nothing s who h out held = absurd h
+pause_leads w l import ticks answer T.Start waits s who h out held = let z : true ≡ false = sym (asking_start T.Start waits s who h) ∙ out in cc
+pause_leads w l import ticks answer T.Outermost waits s who h out held = let z : true ≡ false = sym (asking_start T.Outermost waits s who h) ∙ out in cc
 
 module _ (w : Program) (h : Held) (l : Left) (left used : ℕ) (call : CallValue) (who : Asker) (task : Task) (waits : Waits) (s : Store)
-    (a0 : Asks w h used call.import call.args.items who l) (within : used ≤ left) (asking : IsAsking task waits s who) where
+    (a0 : Asks w h used call.import call.args.items who l) (within : used ≤ left) (asking : IsAsking task waits s who) (room : HoldsArea w.plan.area s) where
   abbrev p : Module
   p = w.source
 
@@ -178,15 +185,19 @@ module _ (w : Program) (h : Held) (l : Left) (left used : ℕ) (call : CallValue
     -- it is told next
     told_given : fault ≡ None → a.ticks ≡ 0 → m.stage ≡ S.Answering task answer → Comes w h left used m supply supply' l s waits
     told_given f t st =
-        let g : GivenLeads w l a task waits s who = given_leads w l a task waits s who asking in
+        let g : GivenLeads w l a.said a.pokes task waits s who = given_leads w l a.said a.pokes task waits s who asking in
+        let size : length (store_at who).memory ≡ length s.memory = ap (λ (z : Store). length z.memory) (asking_store task waits s who asking) in
+        let pokes : PokesInside (length (store_at who).memory) a.pokes =
+        fault_pokes (func_type_at p call.import).results (length (store_at who).memory) w.plan (in_start who) call.import a f in
+        let inside : are_inside (length s.memory) a.pokes ≡ true = inside_true (length s.memory) a.pokes (subst (λ n. PokesInside n a.pokes) size pokes) in
         told_call m supply supply' (given a) None g.behind g.to e meets (λ more. tested_is more None None f (ap pause_of t) ∙ g.leads a0.k (told None) more)
-        (ap (place_in x w.plan.area l s waits) st ∙ g.place)
+        (ap (place_in x w.plan.area l s waits) st ∙ ap (λ b. cond b (with_asker nowhere s task waits (answering l a.said (poked s a.pokes))) nowhere) inside ∙ g.place)
 
     -- it pauses the program
     told_pause : (ticks : ℕ) → fault ≡ None → a.ticks ≡ suc ticks → m.stage ≡ stage_after None (suc ticks) task call.import answer → Comes w h left used m supply supply' l s waits
     told_pause ticks f t st =
         let out : in_start who ≡ false = fault_outside (func_type_at p call.import).results (length (store_at who).memory) w.plan (in_start who) call.import a ticks t f in
-        let g : PauseLeads w l call.import ticks answer task waits s who = pause_leads w l call.import ticks answer task waits s who asking out in
+        let g : PauseLeads w l call.import ticks answer task waits s who = pause_leads w l call.import ticks answer task waits s who asking out (held_true w.plan.area s room) in
         told_call m supply supply' (given a) (Some (suc ticks)) [] g.to e meets (λ more. tested_is more None (Some (suc ticks)) f (ap pause_of t) ∙ g.leads a0.k (told (Some (suc ticks))) more)
         (ap (place_in x w.plan.area l s waits) st ∙ g.place)
 

@@ -29,7 +29,8 @@ use Rattle.run_laws.proofs.SpotRuns.{start_takes_none}
 use Rattle.run_laws.specs.FittingStates.{HeldFits}
 use Rattle.run_laws.proofs.ProtocolStopping.{begun_fits}
 use Rattle.run_laws.proofs.Stopping.{start_there}
-use Rattle.host_setup.specs.SetUp.{is_area_in, set_up}
+use Rattle.host_setup.specs.SetUp.{NamedEntry, is_area_in, set_up}
+use Rattle.host_setup.specs.Views as S
 use Rattle.host_laws.specs.Places.{Place, stands}
 use Rattle.host_laws.specs.Stories.{opened, IsAt}
 use Rattle.host_laws.proofs.Tellings.{nothing_told_yet}
@@ -37,6 +38,8 @@ use Rattle.pause_host.specs.declared.stages.HostImport.{HostImport}
 use Rattle.pause_host.specs.declared.stages.Setting.{Setting}
 use Rattle.pause_host.specs.Views.{entry_of, left_of, lines_in}
 use Rattle.pause_host.specs.Moves.{IsSetting, PlaceFits, HasShortPokes}
+use Rattle.pause_host.specs.Holding.{PlaceHolds}
+use Rattle.pause_host.proofs.Holding.{begun_holds}
 use Rattle.pause_host.specs.declared.plan.Plan.{Plan}
 use Rattle.pause_host.specs.declared.program.Program.{Program}
 use Rattle.pause_host.specs.declared.program.State.TheVariants.{Fresh}
@@ -59,6 +62,19 @@ has_memory [] area h =
     let no : ⊥ = omega arith in
     absurd no
 has_memory (l ∷ ls) area h = lt-ltb 0 (length (l ∷ ls)) (omega arith)
+
+-- it has room for its words, and lies inside the declared pages
+lawful_area : (pages : ℕ) (area : Area) → is_area_in pages area ≡ true → (8 ≤ area.len) × (area.at + area.len ≤ pages * page_size)
+lawful_area pages area h =
+    let two = both _ (nat_le (area.at + area.len) (pages * page_size)) h in
+    let one = both (area.at % 4 == 0) (nat_le 8 area.len) two.0 in
+    (leb-true 8 area.len one.1, leb-true (area.at + area.len) (pages * page_size) two.1)
+
+-- a call for each entry at most
+calls_few : (es : List NamedEntry) (fs : List ℕ) → length (calls_of es fs) ≤ length es
+calls_few [] fs = omega arith
+calls_few (e ∷ es) [] = omega arith
+calls_few (e ∷ es) (f ∷ fs) = let rest = calls_few es fs in omega arith
 
 -- one result at most, as an option
 as_option : (rs : List ValType) → length rs ≤ 1 → rs ≡ option_to_list (slice_get rs 0)
@@ -145,6 +161,13 @@ module _ (x : Plan) (funcs : List ℕ) (looks : List Look) (binds : List (Option
           ∙ ap (λ l. begin p l program.globals.items) left
           ∙ ap (λ g. begin p (all_left w.plan []) g.items) globals
 
+      begun_there : PlaceHolds w (stands (opened w.source w.plan).events (opened w.source w.plan).last)
+      begun_there =
+          let room = lawful_area (least_of (all_memories p)) x.area fine.area_fits in
+          let few = calls_few (named_entries x) funcs in
+          let many : length (named_entries x) ≡ length x.entries.items = length-map x.entries.items S.entry_of in
+          begun_holds p w.plan (all_left w.plan []) x.globals.items p.start room.0 room.1 (omega (arith, few, many, plan.entries))
+
       at : FollowsAt w [] [] program (place_of program Fresh)
       at = record {
         source = sym code;
@@ -152,6 +175,8 @@ module _ (x : Plan) (funcs : List ℕ) (looks : List Look) (binds : List (Option
         globals = subst (λ g. types_of g.items ≡ global_types (imported imported_global p)) (sym globals) plan.globals;
         pokes = subst (λ xs. All HasShortPokes (lines_in xs)) (sym answers) plan.pokes;
         fits = subst (PlaceFits w) (sym place_is) (begun (all_left w.plan []) refl);
+        holds = subst (PlaceHolds w) (sym place_is) begun_there;
+        few_steps = plan.few_steps;
         told = subst (IsAt w [] [] program.steps_left) (sym place_is)
             (subst (λ n. IsAt w [] [] n (stands (opened w.source w.plan).events (opened w.source w.plan).last)) (sym steps) (nothing_told_yet w));
       }

@@ -28,6 +28,8 @@ use Rattle.pause_host.specs.declared.stages.Task.{Task}
 use Rattle.pause_host.specs.declared.stages.Task.TheVariants as T
 use Rattle.pause_host.specs.Hosting.{HostsAt, HasMemory, CallsOne, StopsFirst, AsksOnly, StartRan}
 use Rattle.pause_host.specs.Moves.{IsSetting, PlaceFits, TaskTurn}
+use Rattle.pause_host.specs.Holding.{HeldHolds}
+use Rattle.pause_host.proofs.Holding.{holds_on}
 use Rattle.pause_host.specs.Views.{place_in, giving, with_asker}
 use Rattle.pause_host.proofs.Comings.{fits_on}
 use Rattle.pause_host.proofs.Stagings.{pauses}
@@ -84,18 +86,19 @@ start_stops x m l (Waiting call) s h other = h
 start_stops x m l StepsSpent s h other = tt
 
 pub start_stands : (w : Program) (x : Setting) (m : Module) (h : Held) (l : Left) (left used : ℕ) (t : Turn) (s : Store) (waits : Waits) → IsSetting w x → m ≡ w.source → HeldFits w.source h
-    → TaskTurn w h l the_start left used t s waits → CallsOne (length x.imports.items) t → StartRan x m l t s
-start_stands w x m h l left used (Returned value) s waits is code fits ran one =
+    → HeldHolds w.plan.area h → TaskTurn w h l the_start left used t s waits → CallsOne (length x.imports.items) t → StartRan x m l t s
+start_stands w x m h l left used (Returned value) s waits is code fits holds ran one =
     let back = start_returned w h l left used value s waits ran in
     record {
       program = w;
       setting = is;
       code_is = code;
       fits = fits_on w.source w.plan h (held_on s l l.entries) [] (done_notes s l.entries) used is.valid is.typed back.0 fits;
+      holds = holds_on w.source w.plan h (held_on s l l.entries) [] (done_notes s l.entries) used back.0 holds;
     }
-start_stands w x m h l left used (Trapped trap) s waits is code fits ran one = tt
-start_stands w x m h l left used (Waiting call) s waits is code fits ran one = one
-start_stands w x m h l left used StepsSpent s waits is code fits ran one = tt
+start_stands w x m h l left used (Trapped trap) s waits is code fits holds ran one = tt
+start_stands w x m h l left used (Waiting call) s waits is code fits holds ran one = one
+start_stands w x m h l left used StepsSpent s waits is code fits holds ran one = tt
 
 -- ---- stages
 

@@ -2,11 +2,14 @@ pub mod Advancing
 pub mod Askings
 pub mod Beginning
 pub mod Binds
+pub mod Callings
 pub mod Comings
 pub mod Fronts
+pub mod Holding
 pub mod Hosting
 pub mod Making
 pub mod Outcomes
+pub mod MemoryGrows
 pub mod Parts
 pub mod Pauses
 pub mod Results

@@ -8,6 +8,8 @@ use Rattle.wa_types.specs.declared.values.Value.TheVariants as V
 use Rattle.wa_types.specs.declared.values.Trap.{Trap}
 use Rattle.wa_types.specs.Syntax.{Func, Module}
 use Rattle.wa_types.specs.Modules.{defined_at}
+use Rattle.wa_model.specs.declared.answers.Said.{Said}
+use Rattle.wa_model.specs.declared.answers.Said.TheVariants as SV
 use Rattle.wa_model.specs.declared.events.Call.{Call as CallValue}
 use Rattle.wa_model.specs.declared.events.End.{End}
 use Rattle.wa_model.specs.declared.events.End.TheVariants as E
@@ -19,21 +21,21 @@ use Rattle.wa_model.specs.Store.{Store}
 use Rattle.wa_model.specs.Configuration.{Activation, Configuration}
 use Rattle.wa_model.specs.Step.{asks, returns, entered}
 use Rattle.wa_model.specs.Plan.{Entry, Outcome}
-use Rattle.wa_model.specs.Blocking.{note, Left, with_outcomes, resumed, poked, an_entry}
-use Rattle.wa_model.specs.Protocol.{Exports, exports_of, Phase, is_running, give_zero, test_unwound, pause_there, call_again, test_rewound, give_answer, Held, busy, calling, entering, over, trap_end, is_state, zeros_of, used_of, answer_note, busy_step, busy_enters}
+use Rattle.wa_model.specs.Blocking.{Note, note, Left, with_outcomes, resumed, poked, an_entry}
+use Rattle.wa_model.specs.Protocol.{Exports, exports_of, Phase, is_running, give_zero, test_unwound, pause_there, call_again, test_rewound, give_answer, Held, busy, calling, entering, over, trap_end, is_state, zeros_of, used_of, answer_note, held_resumed, busy_step, busy_enters}
 use Rattle.wa_model.specs.World.{Program}
 use Rattle.interp.specs.declared.turns.Turn.{Turn}
 use Rattle.interp.specs.declared.turns.Turn.TheVariants.{Returned, Trapped, Waiting, StepsSpent}
 use Rattle.interp.specs.Instance.{Waits, inside, Turns, Calls, CallsAs}
 use Rattle.host_laws.specs.Supplies.{Supply}
-use Rattle.host_laws.specs.Stretch.{Stretch, IsSpent}
-use Rattle.host_laws.specs.Places.{goes_on}
+use Rattle.host_laws.specs.Stretch.{Stretch, IsSpent, meeting}
+use Rattle.host_laws.specs.Places.{stands, goes_on}
 use Rattle.host_laws.proofs.Stretches.{compose}
 use Rattle.pause_host.specs.declared.stages.Moved.{Moved}
 use Rattle.pause_host.specs.declared.stages.Pause.{Pause}
 use Rattle.pause_host.specs.declared.stages.Stage.TheVariants as S
 use Rattle.pause_host.specs.declared.stages.Task.TheVariants as T
-use Rattle.pause_host.specs.Views.{entry_of, unwinding, rewinding, place_in}
+use Rattle.pause_host.specs.Views.{entry_of, unwinding, rewinding, place_in, stage_told}
 use Rattle.pause_host.specs.Moves.{Comes, EndsAt, at_over, at_spent, Returns}
 use Rattle.pause_host.proofs.Ways.{returns_by, asks_by, busy_last, busy_trapped, busy_spent, returned_by}
 
@@ -251,27 +253,43 @@ module _ (w : Program) where
         (λ k more. ap (λ b. cond b (goes k [] (calling (rewinding pause since) s' x.stop_rewind [] (give_answer c) (with_outcomes l more))) (goes k (note (ended (E.Broken 4)) s' ∷ []) (over s'))) is))
         r.within
 
+    -- where the program stands behind what was told
+    record ToldLeads (said : Said) (since at after : Store) (here : Activation) (under : List Activation) : Type 0 where
+      behind : List Note
+      to : Held
+      leads : (k : ℕ) (more : List Outcome) → held_resumed k (entry_of pause.entry) said since (record { store = at; here = here; under = under }) (with_outcomes l more) after
+          ≡ goes k (answer_note said after since ∷ behind) (meeting more to)
+      place : place_in x w.plan.area l after (inside here under) (stage_told (T.Entry pause.entry) said) ≡ stands behind to
+
+    told_leads : (said : Said) (since at after : Store) (here : Activation) (under : List Activation) → ToldLeads said since at after here under
+    told_leads (SV.Value v) since at after here under = record {
+      behind = [];
+      to = busy (is_running (an_entry (entry_of pause.entry))) (resumed (record { store = after; here = here; under = under }) after (option_to_list v)) l;
+      leads = λ k more. refl;
+      place = refl;
+    }
+
     -- asyncify_stop_rewind: the answer is told
     pub stopped_rewind : (since at now : Store) (here : Activation) (under : List Activation) (f : ℕ) (args : List Value) (m : Moved) (supply : Supply) (waits : Waits)
         → now ≡ poked s' (answer_of pause.answer).pokes
-        → waits ≡ inside here under → m.event ≡ EV.Answered pause.answer.value → m.stage ≡ S.Giving (T.Entry pause.entry) pause.answer.value → Returns p s f args left used vs s'
+        → waits ≡ inside here under → m.event ≡ EV.Answered pause.answer.said → m.stage ≡ stage_told (T.Entry pause.entry) pause.answer.said → Returns p s f args left used vs s'
         → Comes w (calling (rewinding pause since) s f args (give_answer (record { store = at; here = here; under = under })) l) left used m supply supply l now waits
     stopped_rewind since at now here under f args m supply waits is_now is_waits e st r =
         let a : Answer = answer_of pause.answer in
         let after : Store = poked s' a.pokes in
-        let to : Held = busy (is_running (an_entry (entry_of pause.entry))) (resumed (record { store = after; here = here; under = under }) after (option_to_list a.value)) l in
+        let on : ToldLeads a.said since at after here under = told_leads a.said since at after here under in
         subst (λ z. Comes w (calling (rewinding pause since) s f args (give_answer (record { store = at; here = here; under = under })) l) left used m supply supply l z waits) (sym is_now)
         (record {
-          note = answer_note a.value after since;
+          note = answer_note a.said after since;
           event_is = ap event_of (sym e);
           store_is = refl;
           tells = record {
             outcomes = [];
             takes = (refl, refl);
             within = r.within;
-            lands = goes_on (answer_note a.value after since ∷ []) [] to
+            lands = goes_on (answer_note a.said after since ∷ on.behind) on.behind on.to
                 (returned_by w (rewinding pause since) s f args (give_answer (record { store = at; here = here; under = under })) l left used vs s'
-                (answer_note a.value after since ∷ []) to r (λ k more. refl))
-                refl refl (ap (λ z. place_in x w.plan.area l after z m.stage) is_waits ∙ ap (place_in x w.plan.area l after (inside here under)) st);
+                (answer_note a.said after since ∷ on.behind) on.to r on.leads)
+                refl refl (ap (λ z. place_in x w.plan.area l after z m.stage) is_waits ∙ ap (place_in x w.plan.area l after (inside here under)) st ∙ on.place);
           };
         })

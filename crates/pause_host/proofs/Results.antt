@@ -33,7 +33,7 @@ use Rattle.pause_host.specs.declared.stages.Task.TheVariants as T
 use Rattle.pause_host.specs.Views.{entry_of, free_place, place_in}
 use Rattle.pause_host.specs.Moves.{Comes, ComesFrom, EndsAt, Exports, IsAsking, IsTask, TaskTurn}
 use Rattle.pause_host.proofs.Comings.{ends_come, comes_behind}
-use Rattle.pause_host.proofs.Tasks.{entry_returned, done_comes}
+use Rattle.pause_host.proofs.Tasks.{done_comes}
 
 module _ {F : Type 0} (w : Program) (h : Held) where
   -- the end that was told
@@ -61,13 +61,6 @@ pub export_got : (w : Program) (work : Work) (s s' : Store) (func n : ℕ) (args
     → Exports w work s func args left used r s' → Exports w work s n args' left used r' s'
 export_got w work s s' func n args args' left used r r' e a i h =
     subst (λ z. Exports w work s n args' left used z s') i (subst (λ z. Exports w work s n z left used r s') a (subst (λ z. Exports w work s z args left used r s') e h))
-
--- an entry that returned
-pub returned_ok : {F : Type 0} (w : Program) (h : Held) (l l' : Left) (y : Entry) (left used : ℕ) (v : Option Value) (s : Store) (waits : Waits) (r : Result Moved F) (supply : Supply)
-    → IfOk r (λ m. m.event ≡ V.Returned l.number v) → IfOk r (λ m. m.stage ≡ S.Free)
-    → OnOk r (l' ≡ next_entry l) → TaskTurn w h l (an_entry y) left used (U.Returned v) s waits → IfOk r (λ m. Comes w h left used m supply supply l' s waits)
-returned_ok w h l l' y left used v s waits (Ok m) supply e st nl ran = entry_returned w h l l' y left used v s waits m supply nl e st ran
-returned_ok w h l l' y left used v s waits (Err d) supply e st nl ran = tt
 
 -- the end behind the last entry
 pub done_ok : {F : Type 0} (w : Program) (l : Left) (s : Store) (left n : ℕ) (r : Result Moved F) (supply : Supply) (l' : Left) (waits : Waits) → l.entries ≡ [] → n ≡ 0

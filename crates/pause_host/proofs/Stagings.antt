@@ -1,12 +1,13 @@
 -- What the place of a stage says of what waits in the instance.
-use Rattle.std.proofs.Common.{◌≡◌, ℕ, ◌-◌, List, [], ◌∷◌, Option, refl, sym, ap, subst, append-nil, arith}
+use Rattle.std.proofs.Common.{◌≡◌, ℕ, ◌-◌, List, [], ◌∷◌, Option, Bool, true, false, cond, refl, sym, ap, subst, append-nil, arith}
 use Rattle.std.specs.Option.{option_to_list}
 use Rattle.wa_types.specs.declared.values.Value.{Value}
 use Rattle.wa_types.specs.declared.values.Value.TheVariants as V
 use Rattle.wa_types.specs.Syntax.{Module}
-use Rattle.wa_model.specs.declared.answers.Answer.{Answer as AnswerValue}
+use Rattle.wa_model.specs.declared.answers.Said.{Said}
+use Rattle.wa_model.specs.declared.answers.Said.TheVariants as SV
 use Rattle.wa_model.specs.declared.events.Event.TheVariants as EV
-use Rattle.wa_model.specs.Outside.{Answer, answered}
+use Rattle.wa_model.specs.Outside.{answered}
 use Rattle.wa_model.specs.View.{answer_of, event_of}
 use Rattle.wa_model.specs.Store.{Store}
 use Rattle.wa_model.specs.Configuration.{Activation, Configuration}
@@ -25,6 +26,7 @@ use Rattle.pause_host.specs.declared.stages.Moved.{Moved}
 use Rattle.pause_host.specs.declared.stages.Pause.{Pause}
 use Rattle.pause_host.specs.declared.stages.Task as TV
 use Rattle.pause_host.specs.declared.stages.Task.TheVariants as T
+use Rattle.pause_host.specs.Holding.{is_held}
 use Rattle.pause_host.specs.Views.{entry_of, stage_told, with_asker, answering, giving, pausing, unwinding, place_in}
 use Rattle.pause_host.specs.Moves.{ComesFrom, PlaceFits, TaskTurn, runs_on, IsTask}
 use Rattle.pause_host.proofs.Fronts.{awaits_from}
@@ -35,42 +37,47 @@ module _ (w : Program) where
 
   -- ---- an answer is told
 
-  abbrev Place_of : Store → TV.Task → Waits → Left → Answer → Store → Place
-  Place_of s task waits l a s' = with_asker nowhere s task waits (answering l a s')
+  abbrev Place_of : Store → TV.Task → Waits → Left → Said → Store → Place
+  Place_of s task waits l said s' = with_asker nowhere s task waits (answering l said s')
 
-  told_next : (from : Place) (left : ℕ) (m : Moved) (supply : Supply) (l : Left) (a : Answer) (s' : Store) (waits : Waits) (behind : List Note) (h : Held)
-      → from ≡ stands (note (answered a.value) s' ∷ behind) h → m.event ≡ EV.Answered a.value
+  told_next : (from : Place) (left : ℕ) (m : Moved) (supply : Supply) (l : Left) (said : Said) (s' : Store) (waits : Waits) (behind : List Note) (h : Held)
+      → from ≡ stands (note (answered said) s' ∷ behind) h → m.event ≡ EV.Answered said
       → place_in (exports_of p) w.plan.area l s' waits m.stage ≡ stands behind h → ComesFrom w from left 0 m supply supply l s' waits
-  told_next from left m supply l a s' waits behind h is ev place =
+  told_next from left m supply l said s' waits behind h is ev place =
       subst (λ z. ComesFrom w z left 0 m supply supply l s' waits) (sym is)
       (record {
-        note = note (answered a.value) s';
+        note = note (answered said) s';
         event_is = ap event_of (sym ev);
         store_is = refl;
-        tells = record { outcomes = []; takes = (refl, refl); within = omega arith; lands = goes_on [] behind h (nowhere_on p w.plan h) (append-nil (note (answered a.value) s' ∷ behind)) refl place };
+        tells = record { outcomes = []; takes = (refl, refl); within = omega arith; lands = goes_on [] behind h (nowhere_on p w.plan h) (append-nil (note (answered said) s' ∷ behind)) refl place };
       })
 
-  pub tell_comes : (s : Store) (task : TV.Task) (waits : Waits) (left : ℕ) (m : Moved) (supply : Supply) (l : Left) (answer : AnswerValue) (s' : Store)
-      → PlaceFits w (Place_of s task waits l (answer_of answer) s')
-      → m.event ≡ EV.Answered answer.value → m.stage ≡ stage_told task answer.value
-      → ComesFrom w (Place_of s task waits l (answer_of answer) s') left 0 m supply supply l s' waits
-  tell_comes s T.Outermost I.outermost left m supply l answer s' f ev st =
-      told_next (Place_of s T.Outermost I.outermost l (answer_of answer) s') left m supply l (answer_of answer) s' I.outermost (done_notes s' l.entries) (held_on s' l l.entries) refl ev
+  pub tell_comes : (s : Store) (task : TV.Task) (waits : Waits) (left : ℕ) (m : Moved) (supply : Supply) (l : Left) (said : Said) (s' : Store)
+      → PlaceFits w (Place_of s task waits l said s')
+      → m.event ≡ EV.Answered said → m.stage ≡ stage_told task said
+      → ComesFrom w (Place_of s task waits l said s') left 0 m supply supply l s' waits
+  tell_comes s T.Outermost I.outermost left m supply l (SV.Value v) s' f ev st =
+      told_next (Place_of s T.Outermost I.outermost l (SV.Value v) s') left m supply l (SV.Value v) s' I.outermost (done_notes s' l.entries) (held_on s' l l.entries) refl ev
       (ap (place_in (exports_of p) w.plan.area l s' I.outermost) st)
-  tell_comes s T.Start (I.inside here under) left m supply l answer s' f ev st =
-      told_next (Place_of s T.Start (I.inside here under) l (answer_of answer) s') left m supply l (answer_of answer) s' (I.inside here under) []
-      (busy (is_running the_start) (resumed (record { store = s'; here = here; under = under }) s' (option_to_list answer.value)) l) refl ev
+  tell_comes s T.Start (I.inside here under) left m supply l (SV.Value v) s' f ev st =
+      told_next (Place_of s T.Start (I.inside here under) l (SV.Value v) s') left m supply l (SV.Value v) s' (I.inside here under) []
+      (busy (is_running the_start) (resumed (record { store = s'; here = here; under = under }) s' (option_to_list v)) l) refl ev
       (ap (place_in (exports_of p) w.plan.area l s' (I.inside here under)) st)
-  tell_comes s (T.Entry e) (I.inside here under) left m supply l answer s' f ev st =
-      told_next (Place_of s (T.Entry e) (I.inside here under) l (answer_of answer) s') left m supply l (answer_of answer) s' (I.inside here under) []
-      (busy (is_running (an_entry (entry_of e))) (resumed (record { store = s'; here = here; under = under }) s' (option_to_list answer.value)) l) refl ev
+  tell_comes s (T.Entry e) (I.inside here under) left m supply l (SV.Value v) s' f ev st =
+      told_next (Place_of s (T.Entry e) (I.inside here under) l (SV.Value v) s') left m supply l (SV.Value v) s' (I.inside here under) []
+      (busy (is_running (an_entry (entry_of e))) (resumed (record { store = s'; here = here; under = under }) s' (option_to_list v)) l) refl ev
       (ap (place_in (exports_of p) w.plan.area l s' (I.inside here under)) st)
-  tell_comes s T.Outermost I.nothing left m supply l answer s' f ev st = absurd f
-  tell_comes s T.Outermost (I.inside here under) left m supply l answer s' f ev st = absurd f
-  tell_comes s T.Start I.nothing left m supply l answer s' f ev st = absurd f
-  tell_comes s T.Start I.outermost left m supply l answer s' f ev st = absurd f
-  tell_comes s (T.Entry e) I.nothing left m supply l answer s' f ev st = absurd f
-  tell_comes s (T.Entry e) I.outermost left m supply l answer s' f ev st = absurd f
+  tell_comes s T.Outermost I.nothing left m supply l said s' f ev st = absurd f
+  tell_comes s T.Outermost (I.inside here under) left m supply l said s' f ev st = absurd f
+  tell_comes s T.Start I.nothing left m supply l said s' f ev st = absurd f
+  tell_comes s T.Start I.outermost left m supply l said s' f ev st = absurd f
+  tell_comes s (T.Entry e) I.nothing left m supply l said s' f ev st = absurd f
+  tell_comes s (T.Entry e) I.outermost left m supply l said s' f ev st = absurd f
+
+  -- its pokes lie inside where the program stands
+  pub answer_inside : (b : Bool) (at : Place) → PlaceFits w (cond b at nowhere) → b ≡ true
+  answer_inside true at f = refl
+  answer_inside false at f = absurd f
 
   -- ---- a value is given
 
@@ -116,6 +123,7 @@ module _ (w : Program) where
   -- ---- a pause
 
   pub record Pauses (pause : Pause) (waits : Waits) (l : Left) (s : Store) : Type 0 where
+    pub held : is_held w.plan.area s ≡ true
     pub here : Activation
     pub under : List Activation
     pub waits_is : waits ≡ I.inside here under
@@ -126,6 +134,14 @@ module _ (w : Program) where
 
   pub pauses : (pause : Pause) (waits : Waits) (l : Left) (s : Store) → PlaceFits w (pausing (exports_of p) w.plan.area l (entry_of pause.entry) pause.import
       (answer_of pause.answer) s waits) → Pauses pause waits l s
-  pauses pause (I.inside here under) l s f = record { here = here; under = under; waits_is = refl; place_is = refl; fits = f }
+  pauses pause (I.inside here under) l s f = by (is_held w.plan.area s) refl f
+    where
+      at : Place
+      at = stands [] (calling (unwinding pause) (with_words s w.plan.area) (exports_of p).start_unwind (V.I32 w.plan.area.at ∷ [])
+          (give_zero (record { store = s; here = here; under = under })) l)
+
+      by : (b : Bool) → is_held w.plan.area s ≡ b → PlaceFits w (cond b at nowhere) → Pauses pause (I.inside here under) l s
+      by true e k = record { held = e; here = here; under = under; waits_is = refl; place_is = ap (λ z. cond z at nowhere) e; fits = k }
+      by false e k = absurd k
   pauses pause I.nothing l s f = absurd f
   pauses pause I.outermost l s f = absurd f

@@ -8,6 +8,7 @@ use Rattle.std.proofs.lemmas.Option.{slice_get-map}
 use Rattle.wa_types.specs.declared.values.Value.{Value}
 use Rattle.wa_types.specs.Validity.{same_name}
 use Rattle.wa_types.specs.Syntax.{Module}
+use Rattle.wa_model.specs.declared.answers.Said.TheVariants as S
 use Rattle.wa_model.specs.declared.events.End.TheVariants.{DeviceFault, NoAnswer, NoDevice, OtherImport}
 use Rattle.wa_model.specs.Outside.{Answer, AnswerLine, Call}
 use Rattle.wa_model.specs.Plan.{Outcome, given, refused, ValueFits}
@@ -66,12 +67,12 @@ module _ (w : Program) (x : Setting) (is : IsSetting w x) (import : ℕ) (i : Ho
 device_short : (import : ℕ) (base name : List ℕ) (args : List Value) (ds ds' : List Device) (a : Answer) → MeetsDevice import base name args ds (given a) ds' → All IsShort a.pokes
 device_short import base name args ds ds' a m = by_any (list_any (is_named name) ds) m
   where
-    replied : (r : Reply) → given a ≡ given (record { value = r.value; pokes = []; ticks = r.ticks }) → All IsShort a.pokes
+    replied : (r : Reply) → given a ≡ given (record { said = S.Value r.value; pokes = []; ticks = r.ticks }) → All IsShort a.pokes
     replied r e = let none : a.pokes ≡ [] = cc in subst (All IsShort) (sym none) (All-nil IsShort)
 
     by_any : (b : Bool)
         → MatchBool b
-        (((r : Reply) × ValueFits r.value × (r.ticks < 2 ^ 32) × (given a ≡ given (record { value = r.value; pokes = []; ticks = r.ticks }))
+        (((r : Reply) × ValueFits r.value × (r.ticks < 2 ^ 32) × (given a ≡ given (record { said = S.Value r.value; pokes = []; ticks = r.ticks }))
         × (ds' ≡ journaled name (record { base = base; args = args; reply = r }) ds))
         ⊎ ((given a ≡ refused (DeviceFault import)) × (ds' ≡ ds)))
         ((given a ≡ refused (NoDevice import)) × (ds' ≡ ds))

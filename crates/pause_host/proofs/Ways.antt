@@ -5,6 +5,8 @@ use Rattle.wa_types.specs.declared.values.Value.{Value}
 use Rattle.wa_types.specs.declared.values.Trap.{Trap}
 use Rattle.wa_types.specs.Syntax.{Func, Module}
 use Rattle.wa_types.specs.Modules.{defined_at}
+use Rattle.wa_model.specs.declared.answers.Said.{Said}
+use Rattle.wa_model.specs.declared.answers.Said.TheVariants as SV
 use Rattle.wa_model.specs.declared.events.End.{End}
 use Rattle.wa_model.specs.declared.events.End.TheVariants as E
 use Rattle.wa_model.specs.Outside.{ended}
@@ -12,10 +14,10 @@ use Rattle.wa_model.specs.Machine.{Turn, goes, Leads, stays, moves, CostsMore}
 use Rattle.wa_model.specs.Store.{Store}
 use Rattle.wa_model.specs.Configuration.{Configuration}
 use Rattle.wa_model.specs.Step.{Next, steps, asks, returns, traps, stuck, entered, step}
-use Rattle.wa_model.specs.Plan.{Outcome, given, refused}
+use Rattle.wa_model.specs.Plan.{Entry, Outcome, given, refused}
 use Rattle.run_theory.specs.Alone.{Goes, it_returned, it_trapped, it_asks, it_spent, FinishesAt, CostsAbove, EndsAs, by_finish, by_steps}
-use Rattle.wa_model.specs.Blocking.{Note, note, Left, with_outcomes, Asker, inside, outermost, the_start, an_entry}
-use Rattle.wa_model.specs.Protocol.{Exports, exports_of, Phase, is_running, unwinds, rewinds, Then, give_zero, test_unwound, pause_there, call_again, test_rewound, give_answer, Held, busy, calling, aside, over, trap_end, held_asked, held_tested, busy_step, is_state, aside_back, aside_step, aside_called, protocol}
+use Rattle.wa_model.specs.Blocking.{Note, note, call_note, poked, store_at, stack_at, Left, with_outcomes, Asker, inside, outermost, the_start, an_entry}
+use Rattle.wa_model.specs.Protocol.{Exports, exports_of, Phase, is_running, unwinds, rewinds, Then, give_zero, test_unwound, pause_there, call_again, test_rewound, give_answer, Held, busy, calling, aside, over, trap_end, held_asked, held_given, held_resumed, held_tested, busy_step, is_state, aside_back, aside_step, aside_called, protocol}
 use Rattle.wa_model.specs.World.{Program}
 use Rattle.run_theory.proofs.Runs.{leads_on}
 use Rattle.run_theory.proofs.Alone.{in_busy, in_aside}
@@ -108,6 +110,13 @@ module _ (w : Program) where
   abbrev x : Exports
   x = exports_of w.source
 
+  given_dear : (n k : ℕ) (y : Note) (said : Said) (s : Store) (l : Left) (who : Asker) → n ≤ k → CostsMore n (held_given k y said s l who)
+  given_dear n k y (SV.Value v) s l (inside task c) h = h
+  given_dear n k y (SV.Value v) s l (outermost old) h = h
+
+  resumed_dear : (n k : ℕ) (e : Entry) (said : Said) (sp : Store) (c : Configuration) (l : Left) (s : Store) → n ≤ k → CostsMore n (held_resumed k e said sp c l s)
+  resumed_dear n k e (SV.Value v) sp c l s h = h
+
   pub asked_dear : (n k import : ℕ) (args : List Value) (who : Asker) (l : Left) (os : List Outcome) → n ≤ k → CostsMore n (held_asked p x w.plan k import args who l os)
   asked_dear n k import args who l [] h = h
   asked_dear n k import args who l (refused e ∷ os) h = h
@@ -115,8 +124,7 @@ module _ (w : Program) where
     where
       tested : (who' : Asker) (o : Option End) (pause : Option ℕ) → CostsMore n (held_tested p x w.plan k import args who' (with_outcomes l os) a o pause)
       tested who' (Some e) pause = h
-      tested (inside task c) None None = h
-      tested (outermost s) None None = h
+      tested who' None None = given_dear n k (call_note import args (store_at who') (stack_at p who') None) a.said (poked (store_at who') a.pokes) (with_outcomes l os) who' h
       tested (inside (an_entry e) c) None (Some t) = h
       tested (inside the_start c) None (Some t) = tt
       tested (outermost s) None (Some t) = tt
@@ -155,7 +163,7 @@ module _ (w : Program) where
       by_state : (b : Bool) → CostsMore n (cond b (goes k [] (calling (rewinds e i a sp) s x.stop_rewind [] (give_answer c) l)) (goes k (note (ended (E.Broken 4)) s ∷ []) (over s)))
       by_state true = h
       by_state false = h
-  back_dear n k (rewinds e i a sp) (give_answer c) l vs s h = h
+  back_dear n k (rewinds e i a sp) (give_answer c) l vs s h = resumed_dear n k e a.said sp c l (poked s a.pokes) h
   back_dear n k (is_running task) th l vs s h = tt
   back_dear n k (unwinds e i a) call_again l vs s h = tt
   back_dear n k (unwinds e i a) (test_rewound c) l vs s h = tt

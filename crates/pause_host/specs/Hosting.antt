@@ -1,23 +1,57 @@
 -- What a host may rely on as it goes on with a program.
-use Rattle.std.specs.Prelude.{◌≡◌, ◌<◌, ℕ, length, true, nat_lt}
+use Rattle.std.specs.Prelude.{◌≡◌, ◌<◌, ℕ, List, length, true, nat_lt}
+use Rattle.wa_types.specs.declared.values.ValType.{ValType}
 use Rattle.wa_types.specs.Syntax.{Module}
 use Rattle.wa_types.specs.Modules.{all_memories}
 use Rattle.wa_model.specs.Store.{Store}
+use Rattle.wa_model.specs.Configuration.{Activation}
 use Rattle.wa_model.specs.Blocking as B
+use Rattle.wa_model.specs.Protocol.{Held}
 use Rattle.wa_model.specs.World.{Program}
+use Rattle.run_theory.specs.Fitting.{StoreFits}
+use Rattle.run_laws.specs.FittingStates.{Callable, HeldFits}
+use Rattle.interp.specs.Instance.{Waits, inside}
 use Rattle.interp.specs.declared.turns.Turn.{Turn}
 use Rattle.interp.specs.declared.turns.Turn.TheVariants.{Returned, Trapped, Waiting, StepsSpent}
 use Rattle.host_laws.specs.Places.{Place}
 use Rattle.pause_host.specs.declared.stages.Setting.{Setting}
+use Rattle.pause_host.specs.Holding.{HeldHolds, HoldsArea, PlaceHolds}
 use Rattle.pause_host.specs.Views.{free_place}
 use Rattle.pause_host.specs.Moves.{IsSetting, PlaceFits}
 
--- The setting and the code are those of some program of a world, and it stands at this place, where all code has its type.
+-- The setting and the code are those of some program of a world, and it stands at this place, where all code has its type, and holds
+-- its area.
 pub record HostsAt (x : Setting) (code : Module) (place : Program → Place) : Type 0 where
   pub program : Program
   pub setting : IsSetting program x
   pub code_is : code ≡ program.source
   pub fits : PlaceFits program (place program)
+  pub holds : PlaceHolds program (place program)
+
+-- The same where the run under the protocol stands here, by what is left.
+pub record HostsIn (x : Setting) (code : Module) (held : Program → B.Left → Held) : Type 0 where
+  pub program : Program
+  pub left : B.Left
+  pub setting : IsSetting program x
+  pub code_is : code ≡ program.source
+  pub fits : HeldFits program.source (held program left)
+  pub holds : HeldHolds program.plan.area (held program left)
+
+-- .. and by the stack that waits in the instance.
+pub record HostsOver (x : Setting) (code : Module) (waits : Waits) (held : Program → B.Left → Activation → List Activation → Held) : Type 0 where
+  pub here : Activation
+  pub under : List Activation
+  pub waits_is : waits ≡ inside here under
+  pub hosts : HostsIn x code (λ w l. held w l here under)
+
+-- An export may be called: it is there for arguments of these types, over a store with the area.
+pub record MayCall (x : Setting) (code : Module) (s : Store) (func : ℕ) (types : List ValType) : Type 0 where
+  pub program : Program
+  pub setting : IsSetting program x
+  pub code_is : code ≡ program.source
+  pub fits : StoreFits program.source s
+  pub callable : Callable program.source func types
+  pub area : HoldsArea x.area s
 
 -- the module has a memory
 abbrev pub HasMemory : Module → Type 0

@@ -1,3 +1,4 @@
+pub mod Holding
 pub mod Hosting
 pub mod Moves
 pub mod Programs

@@ -28,6 +28,7 @@ use Rattle.host_laws.specs.Places.{Place, stands, has_ended, nowhere}
 use Rattle.host_laws.specs.Stories.{IsAt}
 use Rattle.host_laws.specs.Supplies.{Supply, Takes}
 use Rattle.pause_host.specs.Views.{exports_in, left_of, lines_in, place_in}
+use Rattle.pause_host.specs.Holding.{PlaceHolds}
 use Rattle.pause_host.specs.Moves.{IsSetting, PlaceFits, HasShortPokes}
 use Rattle.pause_host.specs.Settings.{calls_of}
 use Rattle.pause_host.specs.declared.plan.Plan.{Plan}
@@ -137,6 +138,8 @@ pub record FollowsAt (w : W.Program) (notes : List Note) (os : List Outcome) (x 
   pub globals : types_of x.globals.items ≡ global_types (imported imported_global w.source)
   pub pokes : All HasShortPokes (lines_left x)
   pub fits : PlaceFits w place
+  pub holds : PlaceHolds w place
+  pub few_steps : w.steps ≤ 1000000000
   pub told : IsAt w notes os x.steps_left place
 
 -- It has told these notes, its calls met these outcomes, and it goes on.

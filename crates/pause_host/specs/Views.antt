@@ -1,28 +1,33 @@
 -- The place of the protocol's machine for which a stage stands.
-use Rattle.std.specs.Prelude.{ℕ, zero, suc, Bool, true, false, List, [], ◌∷◌, map, Option, Some, None}
+use Rattle.std.specs.Prelude.{ℕ, zero, suc, Bool, true, false, if◌then◌else◌, List, [], ◌∷◌, length, map, Option, Some, None}
 use Rattle.std.specs.Option.{option_to_list}
 use Rattle.wa_types.specs.declared.values.Value.{Value}
 use Rattle.wa_types.specs.declared.values.Value.TheVariants as V
 use Rattle.wa_model.specs.declared.answers.Area.{Area}
 use Rattle.wa_model.specs.declared.answers.Answer.{Answer as AnswerValue}
 use Rattle.wa_model.specs.declared.answers.AnswerLine.{AnswerLine as AnswerLineValue}
+use Rattle.wa_model.specs.declared.answers.Said.{Said}
+use Rattle.wa_model.specs.declared.answers.Said.TheVariants as SV
 use Rattle.wa_model.specs.declared.events.End.{End}
 use Rattle.wa_model.specs.declared.events.End.TheVariants as E
 use Rattle.wa_model.specs.Outside.{Answer, AnswerLine, answered, ended}
 use Rattle.wa_model.specs.View.{answer_of, answer_line_of}
 use Rattle.wa_model.specs.Store.{Store}
+use Rattle.wa_model.specs.Step.{zero_of}
 use Rattle.wa_model.specs.Plan.{Entry}
 use Rattle.wa_model.specs.Blocking as B
 use Rattle.wa_model.specs.Blocking.{note, poked, resumed, the_start, an_entry, Asker, inside, outermost, done_notes}
 use Rattle.wa_model.specs.Protocol as P
 use Rattle.wa_model.specs.Protocol.{Phase, is_running, unwinds, rewinds, give_zero, call_again, busy, calling, over, held_on, with_words}
 use Rattle.wa_model.specs.World.{Device}
+use Rattle.run_theory.specs.Fitting.{types_of}
 use Rattle.device_port.specs.declared.devices.Devices.{Devices}
 use Rattle.device_port.specs.Listed.{of_all}
 use Rattle.interp.specs.Instance as I
 use Rattle.interp.specs.Instance.{Waits}
 use Rattle.host_laws.specs.Supplies.{Supply}
 use Rattle.host_laws.specs.Places.{Place, stands, has_ended, nowhere}
+use Rattle.pause_host.specs.Holding.{are_inside, is_held}
 use Rattle.pause_host.specs.declared.stages.Exports.{Exports}
 use Rattle.pause_host.specs.declared.stages.EntryCall.{EntryCall}
 use Rattle.pause_host.specs.declared.stages.Left.{Left}
@@ -62,29 +67,35 @@ unwinding pause = unwinds (entry_of pause.entry) pause.import (answer_of pause.a
 abbrev pub rewinding : Pause → (since : Store) → Phase
 rewinding pause since = rewinds (entry_of pause.entry) pause.import (answer_of pause.answer) since
 
+-- zeros of the types of what was said
+abbrev pub zeros_like : Said → List Value
+zeros_like (SV.Value v) = map zero_of (types_of (option_to_list v))
+
 -- ---- stages
 
 -- what waits for the answer, where a task's call of an import does
 abbrev pub with_asker : {A : Type 0} → A → Store → Task → Waits → (Asker → A) → A
-with_asker none s T.Outermost I.outermost then = then (outermost s)
-with_asker none s T.Start (I.inside here under) then = then (inside the_start (record { store = s; here = here; under = under }))
-with_asker none s (T.Entry e) (I.inside here under) then = then (inside (an_entry (entry_of e)) (record { store = s; here = here; under = under }))
-with_asker none s _ _ then = none
+with_asker none s T.Outermost I.outermost on = on (outermost s)
+with_asker none s T.Start (I.inside here under) on = on (inside the_start (record { store = s; here = here; under = under }))
+with_asker none s (T.Entry e) (I.inside here under) on = on (inside (an_entry (entry_of e)) (record { store = s; here = here; under = under }))
+with_asker none s _ _ on = none
 
--- an answer is told next, and given: with its pokes
-abbrev pub answering : B.Left → Answer → Store → Asker → Place
-answering l a s (inside task c) = stands (note (answered a.value) s ∷ []) (busy (is_running task) (resumed c s (option_to_list a.value)) l)
-answering l a s (outermost old) = stands (note (answered a.value) s ∷ done_notes s l.entries) (held_on s l l.entries)
+-- what is said is told next, and given, over the store with the pokes
+abbrev pub answering : B.Left → Said → Store → Asker → Place
+answering l (SV.Value v) s (inside task c) = stands (note (answered (SV.Value v)) s ∷ []) (busy (is_running task) (resumed c s (option_to_list v)) l)
+answering l (SV.Value v) s (outermost old) = stands (note (answered (SV.Value v)) s ∷ done_notes s l.entries) (held_on s l l.entries)
 
 -- a value is given
 abbrev pub giving : B.Left → Option Value → Store → Asker → Place
 giving l value s (inside task c) = stands [] (busy (is_running task) (resumed c s (option_to_list value)) l)
 giving l value s (outermost old) = nowhere
 
--- the words are written, and the stack is unwound
+-- the words are written, into an area inside the memory, and the stack is unwound
 abbrev pub pausing : P.Exports → Area → B.Left → Entry → (import : ℕ) → Answer → Store → Waits → Place
 pausing x area l e import a s (I.inside here under) =
-    stands [] (calling (unwinds e import a) (with_words s area) x.start_unwind (V.I32 area.at ∷ []) (give_zero (record { store = s; here = here; under = under })) l)
+    if is_held area s
+    then stands [] (calling (unwinds e import a) (with_words s area) x.start_unwind (V.I32 area.at ∷ []) (give_zero (record { store = s; here = here; under = under })) l)
+    else nowhere
 pausing x area l e import a s _ = nowhere
 
 -- the stack is rewound
@@ -95,10 +106,14 @@ paused_at x area l e import a s = stands [] (calling (rewinds e import a s) s x.
 abbrev pub free_place : B.Left → Store → Place
 free_place l s = stands (done_notes s l.entries) (held_on s l l.entries)
 
+-- an answer is told next whose pokes lie inside the memory
+abbrev pub answered_at : B.Left → Answer → Store → Task → Waits → Place
+answered_at l a s task w = if are_inside (length s.memory) a.pokes then with_asker nowhere s task w (answering l a.said (poked s a.pokes)) else nowhere
+
 -- the place of a stage over a store, with what waits in the instance
 abbrev pub place_in : P.Exports → Area → B.Left → Store → Waits → Stage → Place
 place_in x area l s w Free = free_place l s
-place_in x area l s w (Answering task answer) = with_asker nowhere s task w (answering l (answer_of answer) (poked s (answer_of answer).pokes))
+place_in x area l s w (Answering task answer) = answered_at l (answer_of answer) s task w
 place_in x area l s w (Giving task value) = with_asker nowhere s task w (giving l value s)
 place_in x area l s w (Pausing pause) = pausing x area l (entry_of pause.entry) pause.import (answer_of pause.answer) s w
 place_in x area l s w (Paused pause) = paused_at x area l (entry_of pause.entry) pause.import (answer_of pause.answer) s
@@ -113,10 +128,10 @@ end_of _ = None
 -- ---- the stage behind an answer that was told
 
 -- the stage once the answer was told: an import that is the start function waits for nothing
-abbrev pub stage_told : Task → Option Value → Stage
-stage_told T.Outermost value = Free
-stage_told T.Start value = Giving T.Start value
-stage_told (T.Entry e) value = Giving (T.Entry e) value
+abbrev pub stage_told : Task → Said → Stage
+stage_told T.Outermost (SV.Value v) = Free
+stage_told T.Start (SV.Value v) = Giving T.Start v
+stage_told (T.Entry e) (SV.Value v) = Giving (T.Entry e) v
 
 -- ---- the stage behind a call
 

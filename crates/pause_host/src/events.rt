@@ -45,7 +45,7 @@ pub fn next_event(
 {
     match stage {
         Stage::Free => call_next(setting, instance, left, answers, devices, steps),
-        Stage::Answering { task, answer } => tell_answer(instance, task, answer),
+        Stage::Answering { task, answer } => Ok(tell_answer(instance, task, answer)),
         Stage::Giving { task, value } => {
             give(
                 setting, instance, left, answers, devices, steps, task, value,

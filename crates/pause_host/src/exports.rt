@@ -7,6 +7,8 @@ ghost use Rattle.wa_model.specs.Protocol.{Phase, is_state, trap_end};
 ghost use Rattle.wa_model.specs.World.{Program};
 ghost use Rattle.run_laws.specs.FittingStates.{Callable};
 ghost use Rattle.interp.specs.Host.{code_in, store_in, waits_in};
+ghost use Rattle.pause_host.specs.Holding.{HoldsArea};
+ghost use Rattle.pause_host.specs.Hosting.{HasMemory, MayCall};
 ghost use Rattle.pause_host.specs.Moves.{Exports, IsSetting, WorksIn};
 
 use crate::memory::used_of;
@@ -39,7 +41,8 @@ pub fn call_export(
     func: u32,
     args: &[Value],
 ) -> Result<Exported, AllocError>
-    requires { steps.old.left + steps.old.used < 2 ^ 64 }
+    requires few { steps.old.left + steps.old.used < 2 ^ 64 }
+    requires may { MayCall setting.now (code_in instance.old) (store_in instance.old) func (types_of args.now) }
     ensures exports { (w : Program) → IsSetting w setting.now → code_in instance.old ≡ w.source → StoreFits w.source (store_in instance.old) → Callable w.source func (types_of args.now)
         → IfOk result (λ r. Exports w work (store_in instance.old) func args.now steps.old.left (steps.new.used - steps.old.used) r (store_in instance.new)) }
     ensures waits { waits_in instance.new ≡ waits_in instance.old }
@@ -50,7 +53,7 @@ pub fn call_export(
     match instance.aside(func, args, steps)? {
         Turn::Returned(value) => return Ok(Exported::Returned(value)),
         Turn::Trapped(trap) => {
-            let end = trap_end(setting, instance, work, trap)?;
+            let end = trap_end(setting, instance, work, trap);
             return Ok(Exported::Ended(end));
         }
         Turn::Waiting(_) => return Ok(Exported::Ended(End::Broken(6))),
@@ -59,21 +62,18 @@ pub fn call_export(
 }
 
 /// The end of a trap while the stack is unwound or rewound.
-pub fn trap_end(
-    setting: &Setting,
-    instance: &Instance<'_>,
-    work: Work,
-    trap: Trap,
-) -> Result<End, AllocError>
-    ensures { IfOk result (λ end. (ph : Phase) → WorksIn work ph → end ≡ trap_end setting.now.area ph trap (store_in instance.now)) }
+pub fn trap_end(setting: &Setting, instance: &Instance<'_>, work: Work, trap: Trap) -> End
+    requires memory { HasMemory (code_in instance.now) }
+    requires area { HoldsArea setting.now.area (store_in instance.now) }
+    ensures { (ph : Phase) → WorksIn work ph → result ≡ trap_end setting.now.area ph trap (store_in instance.now) }
 {
     match work {
         Work::Unwinding => {
-            let used = used_of(instance, setting.area)?;
+            let used = used_of(instance, setting.area);
             let len = setting.area.len;
-            Ok(End::UnwindTrap { trap, used, len })
+            End::UnwindTrap { trap, used, len }
         }
-        Work::Rewinding => Ok(End::RewindTrap(trap)),
+        Work::Rewinding => End::RewindTrap(trap),
     }
 }
 

@@ -12,13 +12,14 @@ ghost use Rattle.run_laws.specs.FittingStates.{HeldFits};
 ghost use Rattle.interp.specs.Host.{code_in, store_in, waits_in};
 ghost use Rattle.interp.specs.Instance.{inside};
 ghost use Rattle.host_laws.specs.Supplies.{Supply};
+ghost use Rattle.pause_host.specs.Hosting.{HostsIn, HostsOver};
 ghost use Rattle.pause_host.specs.Moves.{Comes, IsSetting};
 ghost use Rattle.pause_host.specs.Views.{entry_of, rewinding};
 
 use crate::ends::ended;
-use crate::exports::{Exported, Work, call_export, is_state, trap_end};
+use crate::exports::{Exported, Work, call_export, is_state};
 use crate::memory::write_pokes;
-use crate::stages::{Moved, Pause, Setting, Stage, Task};
+use crate::stages::{Moved, Pause, Setting, Task, stage_told};
 use interp::{Instance, Steps, Turn};
 use std::alloc::AllocError;
 use wa_model::{End, Event};
@@ -31,7 +32,9 @@ pub fn rewind(
     steps: &mut Steps,
     pause: Pause,
 ) -> Result<Moved, AllocError>
-    requires { steps.old.left + steps.old.used < 2 ^ 64 }
+    requires few { steps.old.left + steps.old.used < 2 ^ 64 }
+    requires there { HostsIn setting.now (code_in instance.old)
+        (λ w l. calling (rewinding pause (store_in instance.old)) (store_in instance.old) (exports_of w.source).start_rewind (V.I32 w.plan.area.at ∷ []) call_again l) }
     ensures comes { (w : Program) (l : PlainLeft) (supply : Supply) → IsSetting w setting.now → code_in instance.old ≡ w.source
         → HeldFits w.source (calling (rewinding pause (store_in instance.old)) (store_in instance.old) (exports_of w.source).start_rewind (V.I32 w.plan.area.at ∷ []) call_again l)
         → IfOk result (λ m. Comes w (calling (rewinding pause (store_in instance.old)) (store_in instance.old) (exports_of w.source).start_rewind (V.I32 w.plan.area.at ∷ []) call_again l)
@@ -55,7 +58,8 @@ fn call_again(
     steps: &mut Steps,
     pause: Pause,
 ) -> Result<Moved, AllocError>
-    requires { steps.old.left + steps.old.used < 2 ^ 64 }
+    requires few { steps.old.left + steps.old.used < 2 ^ 64 }
+    requires there { HostsIn setting.now (code_in instance.old) (λ w l. entering (rewinding pause (store_in instance.old)) (entry_of pause.entry) (store_in instance.old) l) }
     ensures comes { (w : Program) (l : PlainLeft) (supply : Supply) (since : Store) → IsSetting w setting.now → code_in instance.old ≡ w.source
         → HeldFits w.source (entering (rewinding pause since) (entry_of pause.entry) (store_in instance.old) l)
         → IfOk result (λ m. Comes w (entering (rewinding pause since) (entry_of pause.entry) (store_in instance.old) l) steps.old.left (steps.new.used - steps.old.used) m supply supply l
@@ -66,10 +70,7 @@ fn call_again(
 {
     match instance.begin(pause.entry.func, &pause.entry.args, steps)? {
         Turn::Returned(_) => return ended(setting.alloc, End::Broken(5)),
-        Turn::Trapped(trap) => {
-            let end = trap_end(setting, instance, Work::Rewinding, trap)?;
-            return ended(setting.alloc, end);
-        }
+        Turn::Trapped(trap) => return ended(setting.alloc, End::RewindTrap(trap)),
         Turn::Waiting(call) => {
             if call.import == pause.import {
                 return test_rewound(setting, instance, steps, pause);
@@ -87,7 +88,9 @@ fn test_rewound(
     steps: &mut Steps,
     pause: Pause,
 ) -> Result<Moved, AllocError>
-    requires { steps.old.left + steps.old.used < 2 ^ 64 }
+    requires few { steps.old.left + steps.old.used < 2 ^ 64 }
+    requires there { HostsOver setting.now (code_in instance.old) (waits_in instance.old) (λ w l here under. calling (rewinding pause (store_in instance.old)) (store_in instance.old)
+        (exports_of w.source).get_state [] (test_rewound (record { store = store_in instance.old; here = here; under = under })) l) }
     ensures comes { (w : Program) (l : PlainLeft) (supply : Supply) (since at : Store) (here : Activation) (under : List Activation) → IsSetting w setting.now
         → code_in instance.old ≡ w.source → waits_in instance.old ≡ inside here under → HeldFits w.source
         (calling (rewinding pause since) (store_in instance.old) (exports_of w.source).get_state [] (test_rewound (record { store = at; here = here; under = under })) l)
@@ -118,7 +121,9 @@ fn stop_rewind(
     steps: &mut Steps,
     pause: Pause,
 ) -> Result<Moved, AllocError>
-    requires { steps.old.left + steps.old.used < 2 ^ 64 }
+    requires few { steps.old.left + steps.old.used < 2 ^ 64 }
+    requires there { HostsOver setting.now (code_in instance.old) (waits_in instance.old) (λ w l here under. calling (rewinding pause (store_in instance.old)) (store_in instance.old)
+        (exports_of w.source).stop_rewind [] (give_answer (record { store = store_in instance.old; here = here; under = under })) l) }
     ensures comes { (w : Program) (l : PlainLeft) (supply : Supply) (since at : Store) (here : Activation) (under : List Activation) → IsSetting w setting.now
         → code_in instance.old ≡ w.source → waits_in instance.old ≡ inside here under → HeldFits w.source
         (calling (rewinding pause since) (store_in instance.old) (exports_of w.source).stop_rewind [] (give_answer (record { store = at; here = here; under = under })) l)
@@ -133,11 +138,11 @@ fn stop_rewind(
     match call_export(setting, instance, steps, Work::Rewinding, func, &[])? {
         Exported::Ended(end) => ended(setting.alloc, end),
         Exported::Returned(_) => {
-            write_pokes(instance, &pause.answer.pokes)?;
-            let value = pause.answer.value;
+            write_pokes(instance, &pause.answer.pokes);
+            let said = pause.answer.said;
             let task = Task::Entry(pause.entry);
-            let stage = Stage::Giving { task, value };
-            let event = Event::Answered(value);
+            let stage = stage_told(task, said);
+            let event = Event::Answered(said);
             Ok(Moved { event, stage })
         }
     }

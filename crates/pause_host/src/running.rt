@@ -15,14 +15,15 @@ ghost use Rattle.device_port.specs.Listed.{of_all};
 ghost use Rattle.host_laws.specs.Answering.{IsShort, listed_of};
 ghost use Rattle.host_laws.specs.Places.{stands};
 ghost use Rattle.host_laws.specs.Supplies.{Supply};
+ghost use Rattle.pause_host.specs.Holding.{HoldsArea, PokesInside};
 ghost use Rattle.pause_host.specs.Hosting.{AsksOnly, CallsOne, HasMemory, HostsAt, StartRan, StopsFirst};
 ghost use Rattle.pause_host.specs.Moves.{Asks, Comes, ComesFrom, HasShortPokes, IsAsking, IsSetting, IsTask, PlaceFits, TaskTurn};
-ghost use Rattle.pause_host.specs.Views.{entry_of, free_place, left_of, lines_in, place_in, stage_after, stage_told, starts, supply_in};
+ghost use Rattle.pause_host.specs.Views.{entry_of, free_place, left_of, lines_in, place_in, stage_after, starts, supply_in};
 
 use crate::asking::next_outcome;
 use crate::ends::ended;
 use crate::memory::write_pokes;
-use crate::stages::{EntryCall, HostImport, Left, Moved, Pause, Setting, Stage, Task};
+use crate::stages::{EntryCall, HostImport, Left, Moved, Pause, Setting, Stage, Task, stage_told};
 use device_port::Devices;
 use host_laws::{Met, answer_fault};
 use interp::{Instance, Steps, Turn};
@@ -70,6 +71,7 @@ fn start_asked(
 ) -> Result<Moved, AllocError>
     requires turn { AsksOnly (length setting.now.imports.items) turn }
     requires memory { HasMemory (code_in instance.now) }
+    requires area { HoldsArea setting.now.area (store_in instance.now) }
     ensures comes { (w : Program) → IsSetting w setting.now → code_in instance.now ≡ w.source → All HasShortPokes (lines_in answers.old.items)
         → (s : Store) (func : ℕ) (l : PlainLeft) (left_then used : ℕ) → func < func_imports w.source
         → Calls w.source s func [] left_then used turn (store_in instance.now) (waits_in instance.now)
@@ -105,6 +107,7 @@ fn start_ran(
 ) -> Result<Moved, AllocError>
     requires few { steps.old.left + steps.old.used < 2 ^ 64 }
     requires memory { HasMemory (code_in instance.old) }
+    requires area { HoldsArea setting.now.area (store_in instance.old) }
     requires turn { StartRan setting.now (code_in instance.old) (left_of left.old) turn (store_in instance.old) }
     ensures comes { (w : Program) → IsSetting w setting.now → code_in instance.old ≡ w.source → All HasShortPokes (lines_in answers.old.items) → (h : Held) (left_then used : ℕ)
         → TaskTurn w h (left_of left.old) the_start left_then used turn (store_in instance.old) (waits_in instance.old) → steps.old.left + used ≡ left_then → HeldFits w.source h
@@ -163,6 +166,8 @@ fn entry_ran(
     turn: Turn,
 ) -> Result<Moved, AllocError>
     requires memory { HasMemory (code_in instance.now) }
+    requires area { HoldsArea setting.now.area (store_in instance.now) }
+    requires number { left.old.number + 1 < 2 ^ 32 }
     requires turn { CallsOne (length setting.now.imports.items) turn }
     ensures comes { (w : Program) → IsSetting w setting.now → code_in instance.now ≡ w.source → All HasShortPokes (lines_in answers.old.items) → (h : Held) (left_then used : ℕ)
         → TaskTurn w h (left_of left.old) (an_entry (entry_of entry)) left_then used turn (store_in instance.now) (waits_in instance.now)
@@ -172,7 +177,7 @@ fn entry_ran(
     ensures same_list { devices.new.list.ghost_name ≡ devices.old.list.ghost_name }
 {
     match turn {
-        Turn::Returned(value) => returned(left, value),
+        Turn::Returned(value) => Ok(returned(left, value)),
         other => stopped(
             setting,
             instance,
@@ -185,19 +190,17 @@ fn entry_ran(
 }
 
 // An entry returned.
-fn returned(left: &mut Left, value: Option<Value>) -> Result<Moved, AllocError>
-    ensures event { IfOk result (λ m. m.event ≡ Event.Returned left.old.number value) }
-    ensures stage { IfOk result (λ m. m.stage ≡ Stage.Free) }
-    ensures left { OnOk result (left_of left.new ≡ next_entry (left_of left.old)) }
+fn returned(left: &mut Left, value: Option<Value>) -> Moved
+    requires { left.old.number + 1 < 2 ^ 32 }
+    ensures event { result.event ≡ Event.Returned left.old.number value }
+    ensures stage { result.stage ≡ Stage.Free }
+    ensures left { left_of left.new ≡ next_entry (left_of left.old) }
 {
     let entry = left.number;
-    let Some(next) = entry.checked_add(1) else {
-        return Err(AllocError);
-    };
-    left.number = next;
+    left.number += 1;
     let event = Event::Returned { entry, value };
     let stage = Stage::Free;
-    Ok(Moved { event, stage })
+    Moved { event, stage }
 }
 
 // What runs for a task stopped before it returned.
@@ -210,6 +213,7 @@ fn stopped(
     turn: Turn,
 ) -> Result<Moved, AllocError>
     requires memory { HasMemory (code_in instance.now) }
+    requires area { HoldsArea setting.now.area (store_in instance.now) }
     requires turn { StopsFirst (length setting.now.imports.items) turn }
     ensures comes { (w : Program) → IsSetting w setting.now → code_in instance.now ≡ w.source → All HasShortPokes (lines_in answers.old.items)
         → (t : PlainTask) (h : Held) (l : PlainLeft) (left_then used : ℕ) → IsTask task t → TaskTurn w h l t left_then used turn (store_in instance.now) (waits_in instance.now)
@@ -236,6 +240,7 @@ fn called(
     call: Call,
 ) -> Result<Moved, AllocError>
     requires memory { HasMemory (code_in instance.now) }
+    requires area { HoldsArea setting.now.area (store_in instance.now) }
     requires import { call.import < length setting.now.imports.items }
     ensures comes { (w : Program) → IsSetting w setting.now → code_in instance.now ≡ w.source → All HasShortPokes (lines_in answers.old.items)
         → (who : Asker) (h : Held) (l : PlainLeft) (left_then used : ℕ) → Asks w h used call.import call.args.items who l → used ≤ left_then
@@ -330,39 +335,20 @@ fn passed(task: Task, import: u32, answer: Answer) -> Stage
 }
 
 /// An answer is told, with what it writes into the memory.
-pub(crate) fn tell_answer(
-    instance: &mut Instance<'_>,
-    task: Task,
-    answer: Answer,
-) -> Result<Moved, AllocError>
+pub(crate) fn tell_answer(instance: &mut Instance<'_>, task: Task, answer: Answer) -> Moved
+    requires memory { HasMemory (code_in instance.old) }
+    requires inside { PokesInside (length (store_in instance.old).memory) (answer_of answer).pokes }
     ensures comes { (w : Program) (l : PlainLeft) (supply : Supply) (left_then : ℕ) → PlaceFits w
         (place_in (exports_of w.source) w.plan.area l (store_in instance.old) (waits_in instance.old) (Stage.Answering task answer))
-        → IfOk result (λ m. ComesFrom w (place_in (exports_of w.source) w.plan.area l (store_in instance.old) (waits_in instance.old) (Stage.Answering task answer)) left_then 0 m supply
-        supply l (store_in instance.new) (waits_in instance.new)) }
+        → ComesFrom w (place_in (exports_of w.source) w.plan.area l (store_in instance.old) (waits_in instance.old) (Stage.Answering task answer)) left_then 0 result supply
+        supply l (store_in instance.new) (waits_in instance.new) }
     ensures code { code_in instance.new ≡ code_in instance.old }
 {
-    write_pokes(instance, &answer.pokes)?;
-    let value = answer.value;
-    let event = Event::Answered(value);
-    let stage = told(task, value);
-    Ok(Moved { event, stage })
-}
-
-// Where a program stands behind an answer that was told.
-fn told(task: Task, value: Option<Value>) -> Stage
-    ensures { result ≡ stage_told task value }
-{
-    match task {
-        Task::Outermost => Stage::Free,
-        Task::Start => Stage::Giving {
-            task: Task::Start,
-            value,
-        },
-        Task::Entry(entry) => Stage::Giving {
-            task: Task::Entry(entry),
-            value,
-        },
-    }
+    write_pokes(instance, &answer.pokes);
+    let said = answer.said;
+    let event = Event::Answered(said);
+    let stage = stage_told(task, said);
+    Moved { event, stage }
 }
 
 /// A value that was told is given to what waits for it.

@@ -1,8 +1,11 @@
 //! Where a program with an instance stands between two events, and what stays of it on its way.
 
+ghost use Rattle.std.specs.Prelude.{◌≡◌};
+ghost use Rattle.pause_host.specs.Views.{stage_told};
+
 use std::alloc::Global;
 use std::collections::VecDeque;
-use wa_model::{Answer, Area, End, Event};
+use wa_model::{Answer, Area, End, Event, Said};
 use wa_types::{Name, ValType, Value};
 
 /// The functions of the five exports through which a host unwinds and rewinds a stack.
@@ -90,4 +93,23 @@ pub enum Stage {
 pub struct Moved {
     pub event: Event,
     pub stage: Stage,
+}
+
+/// Where a program stands behind an answer that was told: an import that is the start function waits for nothing.
+pub(crate) fn stage_told(task: Task, said: Said) -> Stage
+    ensures { result ≡ stage_told task said }
+{
+    match said {
+        Said::Value(value) => match task {
+            Task::Outermost => Stage::Free,
+            Task::Start => Stage::Giving {
+                task: Task::Start,
+                value,
+            },
+            Task::Entry(entry) => Stage::Giving {
+                task: Task::Entry(entry),
+                value,
+            },
+        },
+    }
 }

@@ -16,8 +16,9 @@ ghost use Rattle.run_laws.specs.FittingStates.{HeldFits};
 ghost use Rattle.interp.specs.Host.{code_in, store_in, waits_in};
 ghost use Rattle.interp.specs.Instance.{inside, nothing};
 ghost use Rattle.host_laws.specs.Supplies.{Supply};
+ghost use Rattle.pause_host.specs.Hosting.{HostsAt, HostsIn, HostsOver};
 ghost use Rattle.pause_host.specs.Moves.{Comes, ComesFrom, IsSetting, PlaceFits};
-ghost use Rattle.pause_host.specs.Views.{entry_of, pausing, unwinding};
+ghost use Rattle.pause_host.specs.Views.{entry_of, pausing, unwinding, zeros_like};
 
 use crate::ends::ended;
 use crate::exports::{Exported, Work, call_export, is_state, trap_end};
@@ -25,7 +26,7 @@ use crate::memory::{used_of, write_words};
 use crate::stages::{Moved, Pause, Setting, Stage};
 use interp::{Instance, Steps, Turn};
 use std::alloc::AllocError;
-use wa_model::{End, Event};
+use wa_model::{End, Event, Said};
 use wa_types::Value;
 
 /// Unwinds the stack that waits: the words are written, and `asyncify_start_unwind` is called.
@@ -37,6 +38,8 @@ pub fn unwind(
 ) -> Result<Moved, AllocError>
     requires few { steps.old.left + steps.old.used < 2 ^ 64 }
     requires waits { waits_in instance.old ≡ nothing → ⊥ }
+    requires there { (l : PlainLeft) × HostsAt setting.now (code_in instance.old)
+        (λ w. pausing (exports_of w.source) w.plan.area l (entry_of pause.entry) pause.import (answer_of pause.answer) (store_in instance.old) (waits_in instance.old)) }
     ensures comes { (w : Program) (l : PlainLeft) (supply : Supply) → IsSetting w setting.now → code_in instance.old ≡ w.source
         → PlaceFits w (pausing (exports_of w.source) w.plan.area l (entry_of pause.entry) pause.import (answer_of pause.answer) (store_in instance.old) (waits_in instance.old))
         → IfOk result (λ m. ComesFrom w (pausing (exports_of w.source) w.plan.area l (entry_of pause.entry) pause.import (answer_of pause.answer) (store_in instance.old)
@@ -45,7 +48,7 @@ pub fn unwind(
     ensures sum { steps.new.left + steps.new.used ≡ steps.old.left + steps.old.used }
     ensures grows { steps.old.used ≤ steps.new.used }
 {
-    write_words(instance, setting.area)?;
+    write_words(instance, setting.area);
     let func = setting.exports.start_unwind;
     let area = [Value::I32(setting.area.at)];
     match call_export(setting, instance, steps, Work::Unwinding, func, &area)? {
@@ -63,6 +66,8 @@ fn give_zero(
 ) -> Result<Moved, AllocError>
     requires few { steps.old.left + steps.old.used < 2 ^ 64 }
     requires waits { waits_in instance.old ≡ nothing → ⊥ }
+    requires there { HostsOver setting.now (code_in instance.old) (waits_in instance.old)
+        (λ w l here under. busy (unwinding pause) (resumed (record { store = store_in instance.old; here = here; under = under }) (store_in instance.old) (zeros_of w.source pause.import)) l) }
     ensures comes { (w : Program) (l : PlainLeft) (supply : Supply) (here : Activation) (under : List Activation) → IsSetting w setting.now → code_in instance.old ≡ w.source
         → waits_in instance.old ≡ inside here under → HeldFits w.source (busy (unwinding pause)
         (resumed (record { store = store_in instance.old; here = here; under = under }) (store_in instance.old) (zeros_of w.source pause.import)) l)
@@ -72,11 +77,11 @@ fn give_zero(
     ensures sum { steps.new.left + steps.new.used ≡ steps.old.left + steps.old.used }
     ensures grows { steps.old.used ≤ steps.new.used }
 {
-    let zero = zero_like(pause.answer.value);
+    let zero = zero_like(pause.answer.said);
     match instance.resume(zero, steps)? {
         Turn::Returned(_) => return test_unwound(setting, instance, steps, pause),
         Turn::Trapped(trap) => {
-            let end = trap_end(setting, instance, Work::Unwinding, trap)?;
+            let end = trap_end(setting, instance, Work::Unwinding, trap);
             return ended(setting.alloc, end);
         }
         Turn::Waiting(_) => return ended(setting.alloc, End::Broken(1)),
@@ -84,8 +89,16 @@ fn give_zero(
     }
 }
 
-// A zero of an answer's type, where it has a value.
-fn zero_like(value: Option<Value>) -> Option<Value>
+// A zero of the type of what was said, where that has one.
+fn zero_like(said: Said) -> Option<Value>
+    ensures { option_to_list result ≡ zeros_like said }
+{
+    match said {
+        Said::Value(value) => zero_of_value(value),
+    }
+}
+
+fn zero_of_value(value: Option<Value>) -> Option<Value>
     ensures { option_to_list result ≡ map zero_of (types_of (option_to_list value)) }
 {
     match value {
@@ -110,7 +123,8 @@ fn test_unwound(
     steps: &mut Steps,
     pause: Pause,
 ) -> Result<Moved, AllocError>
-    requires { steps.old.left + steps.old.used < 2 ^ 64 }
+    requires few { steps.old.left + steps.old.used < 2 ^ 64 }
+    requires there { HostsIn setting.now (code_in instance.old) (λ w l. calling (unwinding pause) (store_in instance.old) (exports_of w.source).get_state [] test_unwound l) }
     ensures comes { (w : Program) (l : PlainLeft) (supply : Supply) → IsSetting w setting.now → code_in instance.old ≡ w.source
         → HeldFits w.source (calling (unwinding pause) (store_in instance.old) (exports_of w.source).get_state [] test_unwound l)
         → IfOk result (λ m. Comes w (calling (unwinding pause) (store_in instance.old) (exports_of w.source).get_state [] test_unwound l) steps.old.left
@@ -139,7 +153,8 @@ fn stop_unwind(
     steps: &mut Steps,
     pause: Pause,
 ) -> Result<Moved, AllocError>
-    requires { steps.old.left + steps.old.used < 2 ^ 64 }
+    requires few { steps.old.left + steps.old.used < 2 ^ 64 }
+    requires there { HostsIn setting.now (code_in instance.old) (λ w l. calling (unwinding pause) (store_in instance.old) (exports_of w.source).stop_unwind [] pause_there l) }
     ensures comes { (w : Program) (l : PlainLeft) (supply : Supply) → IsSetting w setting.now → code_in instance.old ≡ w.source
         → HeldFits w.source (calling (unwinding pause) (store_in instance.old) (exports_of w.source).stop_unwind [] pause_there l)
         → IfOk result (λ m. Comes w (calling (unwinding pause) (store_in instance.old) (exports_of w.source).stop_unwind [] pause_there l) steps.old.left
@@ -152,7 +167,7 @@ fn stop_unwind(
     match call_export(setting, instance, steps, Work::Unwinding, func, &[])? {
         Exported::Ended(end) => ended(setting.alloc, end),
         Exported::Returned(_) => {
-            let used = used_of(instance, setting.area)?;
+            let used = used_of(instance, setting.area);
             let ticks = pause.answer.ticks;
             let event = Event::Paused { ticks, used };
             let stage = Stage::Paused(pause);

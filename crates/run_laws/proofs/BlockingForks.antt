@@ -6,6 +6,8 @@ use Rattle.wa_types.specs.Base.{Base}
 use Rattle.wa_types.specs.Modules.{func_imports, func_type_at, defined_at}
 use Rattle.wa_types.specs.Syntax.{Func, Module}
 use Rattle.wa_types.specs.declared.values.Value.{Value}
+use Rattle.wa_model.specs.declared.answers.Said.{Said}
+use Rattle.wa_model.specs.declared.answers.Said.TheVariants as S
 use Rattle.wa_model.specs.declared.events.End.{End}
 use Rattle.wa_model.specs.declared.events.End.TheVariants.{UnlistedPause}
 use Rattle.wa_model.specs.Outside.{Answer, answered, ended}
@@ -14,7 +16,7 @@ use Rattle.wa_model.specs.Plan.{Plan, Outcome, given, refused}
 use Rattle.wa_model.specs.Instantiation.{opening}
 use Rattle.wa_model.specs.Store.{Store}
 use Rattle.wa_model.specs.Step.{Next, steps, asks, returns, traps, stuck, step}
-use Rattle.wa_model.specs.Blocking.{Note, note, call_note, fault_of, pause_of, poked, resumed, Task, Left, with_outcomes, Asker, inside, outermost, store_at, stack_at, in_start, State, between, begins, runs, halts, done_notes, on_to, tested, asked, by_step, start_called, blocking, begun, all_left, Blocking}
+use Rattle.wa_model.specs.Blocking.{Note, note, call_note, fault_of, pause_of, poked, resumed, Task, Left, with_outcomes, Asker, inside, outermost, store_at, stack_at, in_start, State, between, begins, runs, halts, done_notes, on_to, go_on, tested, asked, by_step, start_called, blocking, begun, all_left, Blocking}
 use Rattle.run_laws.specs.ListedPauses.{Allows, told}
 use Rattle.run_laws.proofs.Forks.{TurnForks, RunForks, after_forks, run_forks}
 use Rattle.run_laws.proofs.Faults.{PauseForks, fault_forks}
@@ -28,16 +30,17 @@ module _ (m : Module) (plan : Plan) (listed : List Bool) (allows : Allows plan l
   tested_forks k i args w l a o o' (inl e) = inl (ap (tested m k i args w l a) e)
   tested_forks k i args w l a o o' (inr p) =
       subst (λ z. T (tested m k i args w l a z) (tested m k i args w l a o')) (sym p.none)
-      (subst (λ z. T (tested m k i args w l a None) (tested m k i args w l a z)) (sym p.some) (by w))
+      (subst (λ z. T (tested m k i args w l a None) (tested m k i args w l a z)) (sym p.some) (by w a.said))
     where
-      by : (w : Asker) → T (tested m k i args w l a None) (tested m k i args w l a (Some (UnlistedPause i)))
-      by (inside task c) = inr (record {
+      by : (w : Asker) (said : Said)
+          → T (go_on k (call_note i args (store_at w) (stack_at m w) (pause_of a.ticks)) said (poked (store_at w) a.pokes) l w) (tested m k i args w l a (Some (UnlistedPause i)))
+      by (inside task c) (S.Value v) = inr (record {
         k = k;
         call = record { import = i; args = args };
         ticks = suc p.more;
         x = call_note i args c.store (stack_at m (inside task c)) (pause_of a.ticks);
-        xs = note (answered a.value) (poked c.store a.pokes) ∷ [];
-        t = runs task (resumed c (poked c.store a.pokes) (option_to_list a.value)) l;
+        xs = note (answered (S.Value v)) (poked c.store a.pokes) ∷ [];
+        t = runs task (resumed c (poked c.store a.pokes) (option_to_list v)) l;
         goes_on = refl;
         is = refl;
         pauses = ap pause_of p.ticks_are;
@@ -51,12 +54,12 @@ module _ (m : Module) (plan : Plan) (listed : List Bool) (allows : Allows plan l
         how = refl;
         over = refl;
       })
-      by (outermost s) = inr (record {
+      by (outermost s) (S.Value v) = inr (record {
         k = k;
         call = record { import = i; args = args };
         ticks = suc p.more;
         x = call_note i args s (stack_at m (outermost s)) (pause_of a.ticks);
-        xs = note (answered a.value) (poked s a.pokes) ∷ done_notes (poked s a.pokes) l.entries;
+        xs = note (answered (S.Value v)) (poked s a.pokes) ∷ done_notes (poked s a.pokes) l.entries;
         t = on_to (poked s a.pokes) l l.entries;
         goes_on = refl;
         is = refl;

@@ -8,13 +8,15 @@ use Rattle.wa_types.specs.Syntax.{Func, Segment, Module}
 use Rattle.wa_types.specs.Base.{Base}
 use Rattle.wa_types.specs.Memory.{page_size}
 use Rattle.wa_types.specs.Modules.{all_memories, func_imports, func_type_at, defined_at}
+use Rattle.wa_model.specs.declared.answers.Said.{Said}
+use Rattle.wa_model.specs.declared.answers.Said.TheVariants as S
 use Rattle.wa_model.specs.declared.events.End.{End}
 use Rattle.wa_model.specs.declared.events.End.TheVariants.{Trapped}
 use Rattle.wa_model.specs.Outside.{Answer, answered, returned, ended}
 use Rattle.wa_model.specs.Machine.{Turn, stops}
 use Rattle.wa_model.specs.Store.{Store}
 use Rattle.wa_model.specs.Step.{Next, steps, asks, returns, traps, stuck, step}
-use Rattle.wa_model.specs.Plan.{Entry, Plan, Outcome, given, refused, AnswerFits, OutcomeFits}
+use Rattle.wa_model.specs.Plan.{Entry, Plan, Outcome, given, refused, SaidFits, AnswerFits, OutcomeFits}
 use Rattle.wa_model.specs.Instantiation.{Opening, fails_as, opens, opening, least_of}
 use Rattle.wa_model.specs.Blocking.{continued, Note, note, call_note, fault_of, pause_of, poked, done_notes, value_of_results, Task, the_start, an_entry, Left, with_outcomes, Asker, inside, outermost, store_at, stack_at, in_start, State, between, begins, runs, halts, on_to, next_entry, task_back, go_on, ends_at_call, tested, asked, by_step, enters, enter_next, start_called, blocking, no_store, all_left, started, begun, Blocking, store_of}
 use Rattle.run_laws.specs.Ranges.{CodesIn, WellFormedIn, ValuesIn, byte_in, StoreIn, NextIn, EndIn, NoteIn, EntryIn, LeftIn, TaskIn, AskerIn, StateIn, PokeInside, OpeningIn, BlockingIn, BlockingHoldsArea, BlockingMemoryGrows, BlockingLater}
@@ -50,13 +52,13 @@ module _ (m : Module) (w : CodesIn m) (plan : Plan) (low : ℕ) where
         on_in low s (next_entry l) l.entries ok next,
       )
 
-  go_on_in : (k : ℕ) (x : Note) (a : Answer) (s : Store) (l : Left) (who : Asker) → NoteIn low x → AnswerFits a → StoreIn low s → LeftIn l → AskerIn low who → TurnIn (go_on k x a s l who)
-  go_on_in k x a s l (inside task c) nx f ok h wh = (
-    two_notes low x _ nx (note_in low (answered a.value) s f.value ok),
-    (wh.0, resumed_in low c s (option_to_list a.value) (waits_in low c wh.1) ok (optional_in a.value f.value), h),
+  go_on_in : (k : ℕ) (x : Note) (said : Said) (s : Store) (l : Left) (who : Asker) → NoteIn low x → SaidFits said → StoreIn low s → LeftIn l → AskerIn low who → TurnIn (go_on k x said s l who)
+  go_on_in k x (S.Value v) s l (inside task c) nx f ok h wh = (
+    two_notes low x _ nx (note_in low (answered (S.Value v)) s f ok),
+    (wh.0, resumed_in low c s (option_to_list v) (waits_in low c wh.1) ok (optional_in v f), h),
   )
-  go_on_in k x a s l (outermost old) nx f ok h wh = (
-    All-append (NoteIn low) (x ∷ note (answered a.value) s ∷ []) (done_notes s l.entries) (two_notes low x _ nx (note_in low (answered a.value) s f.value ok)) (done_in low s l.entries ok),
+  go_on_in k x (S.Value v) s l (outermost old) nx f ok h wh = (
+    All-append (NoteIn low) (x ∷ note (answered (S.Value v)) s ∷ []) (done_notes s l.entries) (two_notes low x _ nx (note_in low (answered (S.Value v)) s f ok)) (done_in low s l.entries ok),
     on_in low s l l.entries ok h,
   )
 
@@ -71,8 +73,8 @@ module _ (m : Module) (w : CodesIn m) (plan : Plan) (low : ℕ) where
       (call_note_in low import args (store_at who) (stack_at m who) None va (asker_store low who wh) (stack_in low m who wh) tt) bad
   tested_in k import args who l a None va wh h f bad on =
       let ok = asker_store low who wh in
-      go_on_in k (call_note import args (store_at who) (stack_at m who) (pause_of a.ticks)) a (poked (store_at who) a.pokes) l who
-      (call_note_in low import args (store_at who) (stack_at m who) (pause_of a.ticks) va ok (stack_in low m who wh) (ticks_in a.ticks f.ticks)) f
+      go_on_in k (call_note import args (store_at who) (stack_at m who) (pause_of a.ticks)) a.said (poked (store_at who) a.pokes) l who
+      (call_note_in low import args (store_at who) (stack_at m who) (pause_of a.ticks) va ok (stack_in low m who wh) (ticks_in a.ticks f.ticks)) f.said
       (answered_in low (store_at who) a f (on refl) ok) h wh
 
   asked_in : (k import : ℕ) (args : List Value) (who : Asker) (l : Left) (os : List Outcome) → ValuesIn args → AskerIn low who

@@ -4,10 +4,10 @@ use Rattle.std.specs.Prelude.{if◌then◌else◌, not, slice_get}
 use Rattle.wa_types.specs.Pausing.{is_told}
 use Rattle.wa_types.specs.declared.values.ValType.{ValType}
 use Rattle.wa_model.specs.declared.events.End.{End}
-use Rattle.wa_model.specs.declared.events.End.TheVariants.{BadAnswer, UnlistedPause}
+use Rattle.wa_model.specs.declared.events.End.TheVariants.{UnlistedPause}
 use Rattle.wa_model.specs.Outside.{Answer}
 use Rattle.wa_model.specs.Plan.{Plan}
-use Rattle.wa_model.specs.Blocking.{answers, bad_pause, bad_poke, fault_of, is_unlisted, or_else}
+use Rattle.wa_model.specs.Blocking.{bad_pause, bad_poke, bad_value, fault_of, is_unlisted, or_else}
 use Rattle.run_laws.specs.ListedPauses.{Allows, told}
 
 module _ (listed : List Bool) (plan : Plan) where
@@ -47,5 +47,5 @@ module _ (listed : List Bool) (plan : Plan) where
         let o = bad_pause start (is_unlisted plan.listed i) i a.ticks in
         let o' = bad_pause start (not (is_told (slice_get listed i))) i a.ticks in
         let pokes = bad_poke size plan.area a.pokes in
-        else_forks start i a.ticks (if answers types a.value then None else Some (BadAnswer i a.value)) (or_else pokes o) (or_else pokes o')
+        else_forks start i a.ticks (bad_value types i a.said) (or_else pokes o) (or_else pokes o')
         (else_forks start i a.ticks pokes o o' (pause_forks start i a.ticks))

@@ -10,13 +10,15 @@ use Rattle.wa_types.specs.Memory.{overwritten}
 use Rattle.wa_types.specs.Syntax.{Module}
 use Rattle.wa_types.specs.Frames.{Suspended}
 use Rattle.wa_model.specs.declared.answers.Area.{Area}
+use Rattle.wa_model.specs.declared.answers.Said.{Said}
+use Rattle.wa_model.specs.declared.answers.Said.TheVariants as S
 use Rattle.wa_model.specs.declared.events.End.{End}
 use Rattle.wa_model.specs.declared.events.End.TheVariants.{Done, BadAnswer, BadPoke, UnwindTrap}
 use Rattle.wa_model.specs.Outside.{Poke, Answer, Event, ended}
 use Rattle.wa_model.specs.Store.{Store}
 use Rattle.wa_model.specs.Configuration.{Activation, Configuration, suspended}
-use Rattle.wa_model.specs.Plan.{Entry, Plan, PokeFits, AnswerFits, ValueFits, IsRefusal}
-use Rattle.wa_model.specs.Blocking.{Note, note, call_note, answers, overlap, poke_fits, bad_poke, is_unlisted, bad_pause, or_else, fault_of, pause_of, poked_memory, poked, resumed, done_notes, value_of_results, Asker, inside, outermost, store_at, stack_at}
+use Rattle.wa_model.specs.Plan.{Entry, Plan, PokeFits, AnswerFits, SaidFits, ValueFits, IsRefusal}
+use Rattle.wa_model.specs.Blocking.{Note, note, call_note, answers, bad_value, overlap, poke_fits, bad_poke, is_unlisted, bad_pause, or_else, fault_of, pause_of, poked_memory, poked, resumed, done_notes, value_of_results, Asker, inside, outermost, store_at, stack_at}
 use Rattle.run_theory.specs.LawfulStacks.{SuspendedIn}
 use Rattle.run_laws.specs.Ranges.{ValuesIn, MemoryIn, StoreIn, ActivationIn, ConfigurationIn, EndIn, EventIn, TicksIn, NoteIn, AskerIn, PokeInside, WaitsIn}
 use Rattle.run_laws.proofs.Acts.{none_in, more_in, first_in}
@@ -94,12 +96,15 @@ bad_pause_in false false import (suc ticks) = tt
 module _ (results : List ValType) (size : ℕ) (plan : Plan) (in_start : Bool) (import : ℕ) (a : Answer) where
   pub fault_in : AnswerFits a → FaultIn (fault_of results size plan in_start import a)
   fault_in f =
-      or_else_in _ _ (by_answer (answers results a.value))
+      or_else_in _ _ (by_said a.said f.said)
       (or_else_in (bad_poke size plan.area a.pokes) _ (bad_poke_in size plan.area a.pokes) (bad_pause_in in_start (is_unlisted plan.listed import) import a.ticks))
     where
-      by_answer : (b : Bool) → FaultIn (cond b None (Some (BadAnswer import a.value)))
-      by_answer true = tt
-      by_answer false = f.value
+      by_value : (v : Option Value) → ValueFits v → (b : Bool) → FaultIn (cond b None (Some (BadAnswer import v)))
+      by_value v h true = tt
+      by_value v h false = h
+
+      by_said : (said : Said) → SaidFits said → FaultIn (bad_value results import said)
+      by_said (S.Value v) h = by_value v h (answers results v)
 
   pub fault_pokes : fault_of results size plan in_start import a ≡ None → All (PokeInside size) a.pokes
   fault_pokes e = pokes_inside size plan.area a.pokes (or_else_none (bad_poke size plan.area a.pokes) _ (or_else_none _ _ e).1).0

@@ -18,7 +18,7 @@ use Rattle.wa_types.proofs.MemoryLemmas.{length-bytes_of, length-overwritten, by
 use Rattle.wa_model.specs.Operate.{operate, number_of}
 use Rattle.wa_model.specs.declared.answers.Area.{Area}
 use Rattle.wa_model.specs.Machine.{Turn, goes, Ran, after, run, Leads, stays, moves}
-use Rattle.wa_model.specs.Store.{Store, Did, works, fails, lacks, takes, act, computed, load_at, loaded, store_at, stored, width_of, access_of}
+use Rattle.wa_model.specs.Store.{Store, Did, works, fails, lacks, takes, extra_cost, act, computed, load_at, loaded, store_at, stored, width_of, range_of}
 use Rattle.wa_model.specs.Configuration.{Label, block_label, loop_label, Activation, Configuration, running, waiting}
 use Rattle.wa_model.specs.Step.{Next, steps, asks, returns, traps, stuck, result_count, leave, jump, finish, did, with_top, with_number, choose, arity_of, entered, invoke, param_count}
 use Rattle.wa_model.specs.Step.{same_func_type, through, memory_max, step_at, step}
@@ -114,7 +114,7 @@ module _ (g : ℕ) (area : Area) where
           }
       by_room false e = tt
 
-  store_keeps : (s : Store) (place : ℕ) (v : Value) (o : Option AccessRow) → in_area area (access_of true place o) ≡ true → DidKeeps s (store_at s place v o)
+  store_keeps : (s : Store) (place : ℕ) (v : Value) (o : Option AccessRow) → in_area area (range_of place o) ≡ true → DidKeeps s (store_at s place v o)
   store_keeps s place v None h = tt
   store_keeps s place v (Some row) h = by_type (same_type row.ty (type_of v))
     where
@@ -140,32 +140,15 @@ module _ (g : ℕ) (area : Area) where
   act_keeps most memory_grow s (V.I32 k ∷ []) h = cc
   act_keeps most _ s _ h = tt
 
-  -- the operands below those that it takes make no difference
-  cut_keeps : (b : Basic) (ops : List Value) → keeps_basic g area b ops ≡ true → keeps_basic g area b (take (takes b) ops) ≡ true
-  cut_keeps nop ops h = refl
-  cut_keeps a_drop ops h = refl
-  cut_keeps select ops h = refl
-  cut_keeps (const v) ops h = refl
-  cut_keeps (num op) ops h = refl
-  cut_keeps (global_get x) ops h = refl
-  cut_keeps (global_set x) ops h = h
-  cut_keeps (load op align offset) ops h = refl
-  cut_keeps (store op align offset) [] h = h
-  cut_keeps (store op align offset) (v ∷ []) h = h
-  cut_keeps (store op align offset) (v ∷ V.I32 a ∷ ops) h = h
-  cut_keeps (store op align offset) (v ∷ V.I64 a ∷ ops) h = h
-  cut_keeps memory_size ops h = refl
-  cut_keeps memory_grow ops h = h
-
   leaves_keep : (k : ℕ) (s : Store) (ops : List Value) (arity : ℕ) (under : List Activation) → NextKeeps s (leave k s ops arity under)
   leaves_keep k s ops arity [] = same_refl g area s
   leaves_keep k s ops arity (a ∷ under) = same_refl g area s
 
-  did_keeps : (fn : ℕ) (under : List Activation) (ls : List Value) (labels : List Label) (rest : Code) (ops : List Value) (s : Store) (d : Did)
-      → DidKeeps s d → NextKeeps s (did fn under ls labels rest s ops d)
-  did_keeps fn under ls labels rest ops s (works s' results) h = h
-  did_keeps fn under ls labels rest ops s (fails trap) h = same_refl g area s
-  did_keeps fn under ls labels rest ops s lacks h = tt
+  did_keeps : (k fn : ℕ) (under : List Activation) (ls : List Value) (labels : List Label) (rest : Code) (ops : List Value) (s : Store) (d : Did)
+      → DidKeeps s d → NextKeeps s (did k fn under ls labels rest s ops d)
+  did_keeps k fn under ls labels rest ops s (works s' results) h = h
+  did_keeps k fn under ls labels rest ops s (fails trap) h = same_refl g area s
+  did_keeps k fn under ls labels rest ops s lacks h = tt
 
   top_keeps : (s : Store) (ops : List Value) (on : Value → List Value → Next) → ((v : Value) (below : List Value) → NextKeeps s (on v below)) → NextKeeps s (with_top ops on)
   top_keeps s [] on h = tt
@@ -224,7 +207,7 @@ module _ (g : ℕ) (area : Area) where
     pub step_keeps : (ls ops : List Value) (labels : List Label) (code : Code) → keeps_code g area ops code ≡ true → NextKeeps s (step_at p s fn under ls ops labels code)
     step_keeps ls ops labels done h = finishes_keep ls ops labels
     step_keeps ls ops labels (plain (basic b) rest) h =
-        did_keeps fn under ls labels rest (drop (takes b) ops) s (act (memory_max p) b s (take (takes b) ops)) (act_keeps (memory_max p) b s (take (takes b) ops) (cut_keeps b ops h))
+        did_keeps (extra_cost b (take (takes b) ops)) fn under ls labels rest (drop (takes b) ops) s (act (memory_max p) b s (take (takes b) ops)) (act_keeps (memory_max p) b s (take (takes b) ops) h)
     step_keeps ls ops labels (plain (local_get x) rest) h = same_refl g area s
     step_keeps ls ops labels (plain (local_set x) rest) h = top_keeps s ops _ (λ v below. same_refl g area s)
     step_keeps ls ops labels (plain (local_tee x) rest) h = top_keeps s ops _ (λ v below. same_refl g area s)

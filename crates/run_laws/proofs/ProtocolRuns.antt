@@ -17,18 +17,21 @@ use Rattle.wa_types.specs.Memory.{page_size, bytes_of}
 use Rattle.wa_types.specs.Modules.{func_imports, func_type_at, defined_at, imported, imported_memory, all_memories}
 use Rattle.wa_types.proofs.MemoryLemmas.{length-bytes_of}
 use Rattle.wa_model.specs.declared.answers.Area.{Area}
+use Rattle.wa_model.specs.declared.answers.Said.{Said}
+use Rattle.wa_model.specs.declared.answers.Said.TheVariants as S
 use Rattle.wa_model.specs.declared.events.End.{End}
 use Rattle.wa_model.specs.declared.events.End.TheVariants.{Broken}
 use Rattle.wa_model.specs.Outside.{Poke, Answer, answered, paused, returned, ended}
 use Rattle.wa_model.specs.Machine.{Turn, stops, goes, Ran}
 use Rattle.wa_model.specs.Store.{Store}
+use Rattle.wa_model.specs.Configuration.{Configuration}
 use Rattle.wa_model.specs.Step.{Next, steps, asks, returns, traps, stuck, step, entered}
-use Rattle.wa_model.specs.Plan.{Entry, Plan, AreaFits, EntryFits, Outcome, given, refused, AnswerFits, OutcomeFits, ValueFits}
+use Rattle.wa_model.specs.Plan.{Entry, Plan, AreaFits, EntryFits, Outcome, given, refused, SaidFits, AnswerFits, OutcomeFits}
 use Rattle.wa_model.specs.Instantiation.{Opening, fails_as, opens, opening, least_of}
 use Rattle.wa_model.specs.Blocking.{Note, note, call_note, fault_of, pause_of, poked, resumed, done_notes, value_of_results, Task, the_start, an_entry, Left, with_outcomes, Asker, inside, outermost, store_at, stack_at, in_start, next_entry, no_store, all_left}
-use Rattle.wa_model.specs.Protocol.{Exports, exports_of, Phase, is_running, unwinds, rewinds, Then, give_zero, test_unwound, pause_there, call_again, test_rewound, give_answer, Held, free, starting, busy, calling, aside, entering, over, put_word, with_words, used_of, protocol, broken, held_on, held_back, held_given, held_ends, held_pauses, held_tested, held_asked, trap_end, busy_step, is_state, zeros_of, answer_note, aside_back, aside_step, busy_enters, held_next, aside_called, held_start, held_started, held_begun, held_continued, store_held}
+use Rattle.wa_model.specs.Protocol.{Exports, exports_of, Phase, is_running, unwinds, rewinds, Then, give_zero, test_unwound, pause_there, call_again, test_rewound, give_answer, Held, free, starting, busy, calling, aside, entering, over, put_word, with_words, used_of, protocol, broken, held_on, held_back, held_given, held_ends, held_pauses, held_resumed, held_tested, held_asked, trap_end, busy_step, is_state, zeros_of, answer_note, aside_back, aside_step, busy_enters, held_next, aside_called, held_start, held_started, held_begun, held_continued, store_held}
 use Rattle.run_theory.specs.LawfulStacks.{SuspendedIn}
-use Rattle.run_laws.specs.Ranges.{byte_in, CodesIn, ValuesIn, MemoryIn, StoreIn, ActivationIn, NextIn, EndIn, TicksIn, NoteIn, EntryIn, LeftIn, AskerIn, PokeInside, PhaseIn, ThenIn, HeldIn, HeldFrom, OpeningIn, ProtocolIn, ProtocolHoldsArea, ProtocolMemoryGrows, ProtocolLater, FitsIn, FitsAreas, ComparedIn}
+use Rattle.run_laws.specs.Ranges.{byte_in, CodesIn, ValuesIn, MemoryIn, StoreIn, ActivationIn, NextIn, EndIn, TicksIn, NoteIn, EntryIn, LeftIn, AskerIn, PokeInside, PhaseIn, ThenIn, WaitsIn, HeldIn, HeldFrom, OpeningIn, ProtocolIn, ProtocolHoldsArea, ProtocolMemoryGrows, ProtocolLater, FitsIn, FitsAreas, ComparedIn}
 use Rattle.run_laws.proofs.Acts.{none_in, more_in}
 use Rattle.run_laws.proofs.Bytes.{bytes_of_in, overwritten_in}
 use Rattle.run_laws.proofs.Steps.{func_in, entered_in, step_in, zeros_in}
@@ -87,13 +90,13 @@ module _ (p : Module) (w : CodesIn p) (x : Exports) (plan : Plan) (base : ℕ) (
           on_in s (next_entry l) l.entries ok next,
         )
 
-    given_in : (k : ℕ) (n : Note) (a : Answer) (s : Store) (l : Left) (who : Asker) → NoteIn low n → AnswerFits a → StoreIn low s → LeftIn l → AskerIn low who → MoveIn low (held_given k n a s l who)
-    given_in k n a s l (inside task c) nx f ok h wh = (
-      two_notes low n _ nx (note_in low (answered a.value) s f.value ok),
-      same low (busy (is_running task) (resumed c s (option_to_list a.value)) l) (wh.0, resumed_in low c s (option_to_list a.value) (waits_in low c wh.1) ok (optional_in a.value f.value), h),
+    given_in : (k : ℕ) (n : Note) (said : Said) (s : Store) (l : Left) (who : Asker) → NoteIn low n → SaidFits said → StoreIn low s → LeftIn l → AskerIn low who → MoveIn low (held_given k n said s l who)
+    given_in k n (S.Value v) s l (inside task c) nx f ok h wh = (
+      two_notes low n _ nx (note_in low (answered (S.Value v)) s f ok),
+      same low (busy (is_running task) (resumed c s (option_to_list v)) l) (wh.0, resumed_in low c s (option_to_list v) (waits_in low c wh.1) ok (optional_in v f), h),
     )
-    given_in k n a s l (outermost old) nx f ok h wh = (
-      All-append (NoteIn low) (n ∷ note (answered a.value) s ∷ []) (done_notes s l.entries) (two_notes low n _ nx (note_in low (answered a.value) s f.value ok)) (done_in low s l.entries ok),
+    given_in k n (S.Value v) s l (outermost old) nx f ok h wh = (
+      All-append (NoteIn low) (n ∷ note (answered (S.Value v)) s ∷ []) (done_notes s l.entries) (two_notes low n _ nx (note_in low (answered (S.Value v)) s f ok)) (done_in low s l.entries ok),
       on_in s l l.entries ok h,
     )
 
@@ -133,8 +136,8 @@ module _ (p : Module) (w : CodesIn p) (x : Exports) (plan : Plan) (base : ℕ) (
         (call_note_in low import args (store_at who) (stack_at p who) None va (asker_store low who wh) (stack_in low p who wh) tt) bad
     tested_in k import args who l a None None va wh h f bad z on =
         let ok = asker_store low who wh in
-        given_in k (call_note import args (store_at who) (stack_at p who) None) a (poked (store_at who) a.pokes) l who
-        (call_note_in low import args (store_at who) (stack_at p who) None va ok (stack_in low p who wh) tt) f (answered_in low (store_at who) a f (on refl) ok) h wh
+        given_in k (call_note import args (store_at who) (stack_at p who) None) a.said (poked (store_at who) a.pokes) l who
+        (call_note_in low import args (store_at who) (stack_at p who) None va ok (stack_in low p who wh) tt) f.said (answered_in low (store_at who) a f (on refl) ok) h wh
     tested_in k import args who l a None (Some ticks) va wh h f bad z on =
         let ok = asker_store low who wh in
         pauses_in k (call_note import args (store_at who) (stack_at p who) (Some ticks)) import a l who
@@ -178,8 +181,15 @@ module _ (p : Module) (w : CodesIn p) (x : Exports) (plan : Plan) (base : ℕ) (
     busy_in ph l (traps k trap s) th h ok = trapped_in k ph trap s ok
     busy_in ph l stuck th h ok = tt
 
-    answer_in : (value : Option Value) (s at_pause : Store) → ValueFits value → StoreIn low s → StoreIn 0 at_pause → NoteIn low (answer_note value s at_pause)
-    answer_in value s at_pause vf ok since = record { event = vf; store = ok; stack = All-nil SuspendedIn; pause = tt; since = since }
+    answer_in : (said : Said) (s at_pause : Store) → SaidFits said → StoreIn low s → StoreIn 0 at_pause → NoteIn low (answer_note said s at_pause)
+    answer_in said s at_pause f ok since = record { event = f; store = ok; stack = All-nil SuspendedIn; pause = tt; since = since }
+
+    resuming_in : (k : ℕ) (e : Entry) (said : Said) (at_pause : Store) (c : Configuration) (l : Left) (s : Store) → EntryIn e → SaidFits said → StoreIn 0 at_pause → WaitsIn c → LeftIn l
+        → StoreIn low s → MoveIn low (held_resumed k e said at_pause c l s)
+    resuming_in k e (S.Value v) at_pause c l s eh f since wh h ok = (
+      one_note low _ (answer_in (S.Value v) s at_pause f ok since),
+      same low (busy (is_running (an_entry e)) (resumed c s (option_to_list v)) l) (eh, resumed_in low c s (option_to_list v) wh ok (optional_in v f), h),
+    )
 
     aside_back_in : (k : ℕ) (ph : Phase) (th : Then) (l : Left) (results : List Value) (s : Store) → PhaseIn low ph → ThenIn th
         → LeftIn l → StoreIn low s → MoveIn low (aside_back p x plan k ph th l results s)
@@ -204,11 +214,7 @@ module _ (p : Module) (w : CodesIn p) (x : Exports) (plan : Plan) (base : ℕ) (
         by_state false = broken_in k 4 s ok
     aside_back_in k (rewinds e i a at_pause) (give_answer c) l results s ph th h ok =
         let f : AnswerFits a = ph.0.fits in
-        let there : StoreIn low (poked s a.pokes) = poked_store_in low s a f ph.0.inside ok in (
-          one_note low _ (answer_in a.value (poked s a.pokes) at_pause f.value there ph.1),
-          same low (busy (is_running (an_entry e)) (resumed c (poked s a.pokes) (option_to_list a.value)) l)
-              (ph.0.entry, resumed_in low c (poked s a.pokes) (option_to_list a.value) th there (optional_in a.value f.value), h),
-        )
+        resuming_in k e a.said at_pause c l (poked s a.pokes) ph.0.entry f.said ph.1 th h (poked_store_in low s a f ph.0.inside ok)
     aside_back_in k _ _ l results s ph th h ok = tt
 
     aside_in : (ph : Phase) (th : Then) (l : Left) (o : Next) → PhaseIn low ph → ThenIn th → LeftIn l → NextIn low o → MoveIn low (aside_step p x plan ph th l o)

@@ -18,6 +18,8 @@ use Rattle.wa_types.specs.Validity.{is_empty_type, start_fits, Valid}
 use Rattle.wa_types.specs.Modules.{imported, imported_global, func_imports, func_types, func_type_at, or_empty, locals_of, around, defined_at}
 use Rattle.wa_types.proofs.PointLemmas.{takes_after, passes}
 use Rattle.wa_types.proofs.TypingLemmas.{pruned_types}
+use Rattle.wa_model.specs.declared.answers.Said.{Said}
+use Rattle.wa_model.specs.declared.answers.Said.TheVariants as S
 use Rattle.wa_model.specs.Operate.{are_of}
 use Rattle.wa_model.specs.declared.events.End.{End}
 use Rattle.wa_model.specs.Outside.{Answer, answered}
@@ -27,7 +29,7 @@ use Rattle.wa_model.specs.Configuration.{Activation, place_of, suspended}
 use Rattle.wa_model.specs.Step.{Next, steps, asks, returns, traps, stuck, step}
 use Rattle.wa_model.specs.Plan.{Entry, EntryFits, Plan, Outcome, given, refused, Fits}
 use Rattle.wa_model.specs.Instantiation.{Opening, fails_as, opens, opening}
-use Rattle.wa_model.specs.Blocking.{Note, note, call_note, answers, or_else, fault_of, pause_of, poked, done_notes, Task, the_start, an_entry, Left, with_outcomes, Asker, inside, outermost, store_at, stack_at, in_start, State, between, begins, runs, halts, on_to, next_entry, task_back, go_on, tested, asked, by_step, enters, enter_next, start_called, blocking, all_left, started, begun, continued, Blocking}
+use Rattle.wa_model.specs.Blocking.{Note, note, call_note, answers, bad_value, or_else, fault_of, pause_of, poked, done_notes, Task, the_start, an_entry, Left, with_outcomes, Asker, inside, outermost, store_at, stack_at, in_start, State, between, begins, runs, halts, on_to, next_entry, task_back, go_on, tested, asked, by_step, enters, enter_next, start_called, blocking, all_left, started, begun, continued, Blocking}
 use Rattle.run_theory.specs.Fitting.{types_of, results_of, global_types, StoreFits}
 use Rattle.run_theory.specs.LawfulStacks.{SuspendedIn, LawfulActivation}
 use Rattle.run_theory.proofs.Invariants.{TurnKeeps, RanKeeps, after_keeps}
@@ -36,6 +38,7 @@ use Rattle.run_theory.proofs.FittingSteps.{body_typed}
 use Rattle.run_theory.proofs.FittingOpenings.{openings_fit}
 use Rattle.run_theory.proofs.BaseValid.{base_valid, base_wider}
 use Rattle.run_theory.proofs.WiderTyping.{Wider, takes_wider}
+use Rattle.run_laws.specs.FittingStates.{SaidTyped}
 use Rattle.run_laws.specs.Ranges.{NoteIn}
 use Rattle.run_laws.proofs.BlockingRuns.{well_formed_in, blocking_in}
 use Rattle.run_laws.proofs.ProtocolRuns.{fits_in}
@@ -95,6 +98,10 @@ or_else_first (Some x) b e = cc
 pub test_passed : (b : Bool) (e : End) → (if b then None else Some e) ≡ None → b ≡ true
 test_passed true e h = refl
 test_passed false e h = cc
+
+-- what passes its test is said of the import's result
+pub said_typed : (m : Module) (import : ℕ) (results : List ValType) (said : Said) → results_of m import ≡ results → bad_value results import said ≡ None → SaidTyped m import said
+said_typed m import results (S.Value v) e passed = answer_typed results v (test_passed (answers results v) _ passed) ∙ sym e
 
 pub listed_typed : (types : List ValType) (values : List Value) → are_of types values ≡ true → types_of values ≡ types
 listed_typed [] [] e = refl
@@ -169,22 +176,22 @@ module _ (b : Module) (v : Valid b) (plan : Plan) where
   asker_points import (inside task c) w = stack_points b import (c.here ∷ c.under) w.waits
   asker_points import (outermost s) w = none
 
-  go_on_spots : (k import : ℕ) (x : Note) (a : Answer) (s : Store) (l : Left) (who : Asker) → NoteAtPoints x → StoreFits b s → types_of (option_to_list a.value) ≡ results_of b import
-      → LeftTyped l → AskerAtSpots import who → TurnAtSpots (go_on k x a s l who)
-  go_on_spots k import x a s l (inside task c) nx so e h w =
+  go_on_spots : (k import : ℕ) (x : Note) (said : Said) (s : Store) (l : Left) (who : Asker) → NoteAtPoints x → StoreFits b s → SaidTyped b import said
+      → LeftTyped l → AskerAtSpots import who → TurnAtSpots (go_on k x said s l who)
+  go_on_spots k import x (S.Value value) s l (inside task c) nx so e h w =
       let stack = w.waits in
-      (two x _ nx none, (record { store = so; here = goes_on_behind b import c.here (option_to_list a.value) stack.0 e; under = stack.1 }, h))
-  go_on_spots k import x a s l (outermost old) nx so e h w =
-      (All-append NoteAtPoints (x ∷ note (answered a.value) s ∷ []) (done_notes s l.entries) (two x _ nx none) (done_points s l.entries), on_spots s l l.entries so h)
+      (two x _ nx none, (record { store = so; here = goes_on_behind b import c.here (option_to_list value) stack.0 e; under = stack.1 }, h))
+  go_on_spots k import x (S.Value value) s l (outermost old) nx so e h w =
+      (All-append NoteAtPoints (x ∷ note (answered (S.Value value)) s ∷ []) (done_notes s l.entries) (two x _ nx none) (done_points s l.entries), on_spots s l l.entries so h)
 
   poked_fits : (s : Store) (a : Answer) → StoreFits b s → StoreFits b (poked s a.pokes)
   poked_fits s a so = record { globals = so.globals; table = so.table }
 
   tested_spots : (k import : ℕ) (args : List Value) (who : Asker) (l : Left) (a : Answer) (o : Option End) → LeftTyped l → AskerAtSpots import who
-      → (o ≡ None → types_of (option_to_list a.value) ≡ results_of b import) → TurnAtSpots (tested b k import args who l a o)
+      → (o ≡ None → SaidTyped b import a.said) → TurnAtSpots (tested b k import args who l a o)
   tested_spots k import args who l a (Some e) h w typed = (two _ _ (asker_points import who w) none, tt)
   tested_spots k import args who l a None h w typed =
-      go_on_spots k import (call_note import args (store_at who) (stack_at b who) (pause_of a.ticks)) a (poked (store_at who) a.pokes) l who
+      go_on_spots k import (call_note import args (store_at who) (stack_at b who) (pause_of a.ticks)) a.said (poked (store_at who) a.pokes) l who
       (asker_points import who w) (poked_fits (store_at who) a (asker_store import who w)) (typed refl) h w
 
   asked_spots : (k import : ℕ) (args : List Value) (who : Asker) (l : Left) (os : List Outcome) → LeftTyped l → AskerAtSpots import who → TurnAtSpots (asked b plan k import args who l os)
@@ -193,7 +200,7 @@ module _ (b : Module) (v : Valid b) (plan : Plan) where
   asked_spots k import args who l (given a ∷ os) h w =
       let results : List ValType = (func_type_at b import).results in
       tested_spots k import args who (with_outcomes l os) a (fault_of results (length (store_at who).memory) plan (in_start who) import a) h w
-      (λ passed. answer_typed results a.value (test_passed (answers results a.value) _ (or_else_first _ _ passed)) ∙ sym (results_are b v import))
+      (λ passed. said_typed b import results a.said (results_are b v import) (or_else_first _ _ passed))
 
   step_spots : (task : Task) (l : Left) (o : Next) → LeftTyped l → NextAtSpots b o → TurnAtSpots (by_step b plan task l o)
   step_spots task l (steps k d) h n = (All-nil NoteAtPoints, (n, h))

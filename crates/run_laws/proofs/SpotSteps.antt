@@ -15,7 +15,7 @@ use Rattle.wa_types.specs.Typing.{Around, leaves, lacks, listed, type_of, all_th
 use Rattle.wa_types.specs.Validity.{Valid}
 use Rattle.wa_types.specs.Modules.{func_imports, func_types, func_type_at, type_at, or_empty, declared_locals, locals_of, around, defined_at}
 use Rattle.wa_types.proofs.PlaceLemmas.{last_no_call}
-use Rattle.wa_model.specs.Store.{Store, value_at, Did, works, fails, lacks as lacking, takes, act}
+use Rattle.wa_model.specs.Store.{Store, value_at, Did, works, fails, lacks as lacking, takes, extra_cost, act}
 use Rattle.wa_model.specs.Configuration.{Label, block_label, loop_label, Activation, Configuration, running, waiting}
 use Rattle.wa_model.specs.Step.{Next, steps, asks, returns, traps, stuck, keep, result_count, leave, jump, finish, did, with_top, with_number, choose, arity_of, zero_of, entered, invoke, param_count, same_func_type, through, memory_max, step_at, step}
 use Rattle.run_theory.specs.Fitting.{types_of, results_of, StoreFits}
@@ -195,11 +195,11 @@ module _ (m : Module) (v : Valid m) where
 
         -- ---- instructions
 
-        did_spot : (ops : List Value) (labels : List Label) (results : List (Option ValType)) (rest : Code) (mids below : List ValType) (d : Did)
-            → Spot c f.body results labels rest mids below → DidFits m (mids ++ below) ops d → NextAtSpots m (did fn under ls labels rest s ops d)
-        did_spot ops labels results rest mids below (works s' rs) st h = going_on s' h.0 ls (rs ++ ops) rest labels results mids below el h.1 st
-        did_spot ops labels results rest mids below (fails trap) st h = so
-        did_spot ops labels results rest mids below lacking st h = absurd h
+        did_spot : (k : ℕ) (ops : List Value) (labels : List Label) (results : List (Option ValType)) (rest : Code) (mids below : List ValType) (d : Did)
+            → Spot c f.body results labels rest mids below → DidFits m (mids ++ below) ops d → NextAtSpots m (did k fn under ls labels rest s ops d)
+        did_spot k ops labels results rest mids below (works s' rs) st h = going_on s' h.0 ls (rs ++ ops) rest labels results mids below el h.1 st
+        did_spot k ops labels results rest mids below (fails trap) st h = so
+        did_spot k ops labels results rest mids below lacking st h = absurd h
 
         -- the topmost operand, of this type
         tops_spot : (ops : List Value) (t : ValType) (more : List ValType) (on : Value → List Value → Next) → types_of ops ≡ t ∷ more
@@ -400,7 +400,7 @@ module _ (m : Module) (v : Valid m) where
             → (is_last p ≡ false → Spot c f.body results labels rest mids below)
             → NextAtSpots m (step_at m s fn under ls ops labels (plain p rest))
         plain_spot ops labels results (basic b) rest own mids below h eo st again =
-            did_spot (drop (takes b) ops) labels results rest mids below (act (memory_max m) b s (take (takes b) ops)) (again refl)
+            did_spot (extra_cost b (take (takes b) ops)) (drop (takes b) ops) labels results rest mids below (act (memory_max m) b s (take (takes b) ops)) (again refl)
             (act_fits m c (memory_max m) b s ops (mids ++ below) refl so (subst (λ xs. Takes (basic_sig c b) xs (mids ++ below)) (sym eo) (takes_above (basic_sig c b) own mids below h)))
         plain_spot ops labels results (local_get x) rest own mids below h eo st again =
             gets_spot x ops labels results rest own mids below (slice_get (locals_of m f) x) refl h eo (again refl)

@@ -12,6 +12,8 @@ use Rattle.wa_types.specs.Pruned.{pruned}
 use Rattle.wa_types.specs.Pausing.{Callee, direct, indirect, calls_of, calls_in, Settings, Listed, MayPause, calls_listed, calls_indirectly, calls_pausing, TellsMayPause, is_told, has_number, places_from, Numbered}
 use Rattle.wa_types.specs.Syntax.{Func, Module}
 use Rattle.wa_types.specs.Modules.{func_imports, func_type_at, defined_at}
+use Rattle.wa_model.specs.declared.answers.Said.{Said}
+use Rattle.wa_model.specs.declared.answers.Said.TheVariants as S
 use Rattle.wa_model.specs.declared.events.End.{End}
 use Rattle.wa_model.specs.Outside.{Answer, Event, called, answered, paused, returned, ended, shown}
 use Rattle.wa_model.specs.Machine.{Turn, stops, Ran}
@@ -269,17 +271,17 @@ module _ (b : Module) (plan : Plan) where
     pause_chained k import (suc t) args (inside (an_entry e) c) h out =
         let chained = asker_chained k import args (inside (an_entry e) c) h in (h.0, (e, h.1.0, h.1.1), chained.2, chained.3, chained.4)
 
-    go_on_at : (k j import : ℕ) (args : List Value) (st : List Suspended) (at : Store) (pause : Option ℕ) (a : Answer) (s : Store) (l : Left) (who : Asker)
+    go_on_at : (k j import : ℕ) (args : List Value) (st : List Suspended) (at : Store) (pause : Option ℕ) (said : Said) (s : Store) (l : Left) (who : Asker)
         → NoteAt k (call_note import args at st pause)
-        → s.table ≡ table → EntriesAt (behind_asker who k) l → AskerAt k import who → TurnAt k (go_on j (call_note import args at st pause) a s l who)
+        → s.table ≡ table → EntriesAt (behind_asker who k) l → AskerAt k import who → TurnAt k (go_on j (call_note import args at st pause) said s l who)
     unfolding note_onward
-    go_on_at k j import args st at pause a s l (inside task c) nx e h w =
+    go_on_at k j import args st at pause (S.Value v) s l (inside task c) nx e h w =
         let cs = w.2.stack in
         let few : length (c.here ∷ c.under) ≤ 4096 = w.2.few in (
           (nx, ((tt, tt), tt)),
           (w.0, w.1, record { same = e; here = waited_stands b cs.0 c.here.func c.here.code c.here.labels cs.2; under = cs.3; few = few }, h),
         )
-    go_on_at k j import args st at pause a s l (outermost old) nx e h w = let d = done_on k s l l.entries e h in ((nx, ((tt, tt), d.0)), d.1)
+    go_on_at k j import args st at pause (S.Value v) s l (outermost old) nx e h w = let d = done_on k s l l.entries e h in ((nx, ((tt, tt), d.0)), d.1)
 
     pause_at : (import ticks : ℕ) (args : List Value) → ((listed : List Bool) (t : ℕ) → plan.listed ≡ Some listed → ticks ≡ suc t → slice_get listed import ≡ Some true)
         → PauseTold plan (called (record { import = import; args = args })) (pause_of ticks)
@@ -292,7 +294,7 @@ module _ (b : Module) (plan : Plan) where
     unfolding note_onward
     tested_at k j import args who l a (Some e) h w told out = (((asker_chained k import args who w, tt), ((tt, tt), tt)), asker_table k import who w)
     tested_at k j import args who l a None h w told out =
-        go_on_at k j import args (stack_at b who) (store_at who) (pause_of a.ticks) a (poked (store_at who) a.pokes) l who
+        go_on_at k j import args (stack_at b who) (store_at who) (pause_of a.ticks) a.said (poked (store_at who) a.pokes) l who
         (pause_chained k import a.ticks args who w (λ t z. out t refl z), pause_at import a.ticks args (λ listed t e z. told listed t refl e z)) (asker_table k import who w) h w
 
     asked_at : (k j import : ℕ) (args : List Value) (who : Asker) (l : Left) (os : List Outcome) → EntriesAt (behind_asker who k) l
@@ -396,7 +398,7 @@ root_of m plan k (Some ticks) x h = inr (h.0, listed_entry plan.entries k h.0 h.
 
 whole_of : (m : Module) (plan : Plan) (k : ℕ) (e : Event) (pause : Option ℕ) (s : Store) (stack : List Suspended) → CallAt (Base m) plan k e pause s stack → CallChained m (IsRoot m plan) e s stack
 whole_of m plan k (called c) pause s stack h = (h.0, root_of m plan k pause h.0 h.1, base_chained m s.table h.0 c.import stack h.2, h.3)
-whole_of m plan k (answered value) pause s stack h = tt
+whole_of m plan k (answered said) pause s stack h = tt
 whole_of m plan k (paused ticks used) pause s stack h = tt
 whole_of m plan k (returned entry value) pause s stack h = tt
 whole_of m plan k (ended how) pause s stack h = tt
@@ -437,7 +439,7 @@ pauses_of_entries m plan os n i ticks x at pauses =
           few = h.3;
           chained = subst (λ r. Chained m x.store.table r c.import x.stack) (sym entry.2) (base_chained m x.store.table h.0 c.import x.stack h.2);
         }
-    entry_stack (answered value) is (Some t) z k h told = absurd told
+    entry_stack (answered said) is (Some t) z k h told = absurd told
     entry_stack (paused ticks used) is (Some t) z k h told = absurd told
     entry_stack (returned entry value) is (Some t) z k h told = absurd told
     entry_stack (ended how) is (Some t) z k h told = absurd told
@@ -446,7 +448,7 @@ pauses_of_entries m plan os n i ticks x at pauses =
 module _ (m : Module) (s : Settings) (which : List Bool) (plan : Plan) (tells : TellsMayPause m s which) (counted : s.ignore_indirect ≡ false) where
   call_numbered : (e : Event) (at : Store) (stack : List Suspended) → CallChained m (IsRoot m plan) e at stack → ListedNumbered m s which e stack
   call_numbered (called c) at stack h = λ listed. chain_numbered m s which tells counted at.table h.0 c.import stack (inl listed) h.2
-  call_numbered (answered value) at stack h = tt
+  call_numbered (answered said) at stack h = tt
   call_numbered (paused ticks used) at stack h = tt
   call_numbered (returned entry value) at stack h = tt
   call_numbered (ended how) at stack h = tt
@@ -456,7 +458,7 @@ module _ (m : Module) (s : Settings) (which : List Bool) (plan : Plan) (tells : 
       → ListedNumbered m s which e stack → PauseTold plan e pause → PauseNumbered m s which stack pause
   pause_numbered l e stack None h k = tt
   pause_numbered l (called c) stack (Some ticks) h k = h (k (Listed m s) l)
-  pause_numbered l (answered value) stack (Some ticks) h k = absurd k
+  pause_numbered l (answered said) stack (Some ticks) h k = absurd k
   pause_numbered l (paused t used) stack (Some ticks) h k = absurd k
   pause_numbered l (returned entry value) stack (Some ticks) h k = absurd k
   pause_numbered l (ended how) stack (Some ticks) h k = absurd k
@@ -512,7 +514,7 @@ module _ (m : Module) (s : Settings) (which : List Bool) (plan : Plan) (tells : 
       → CallChained m (IsRoot m plan) e at stack → PauseTold plan e pause → PauseHeeded m s stack pause → PauseNumbered m s which stack pause
   pause_heeded l e at stack None h k d = tt
   pause_heeded l (called c) at stack (Some ticks) h k d = chain_heeded m s which tells at.table h.0 c.import stack (inl (k (Listed m s) l)) h.2 d
-  pause_heeded l (answered value) at stack (Some ticks) h k d = absurd k
+  pause_heeded l (answered said) at stack (Some ticks) h k d = absurd k
   pause_heeded l (paused t used) at stack (Some ticks) h k d = absurd k
   pause_heeded l (returned entry value) at stack (Some ticks) h k d = absurd k
   pause_heeded l (ended how) at stack (Some ticks) h k d = absurd k

@@ -11,7 +11,7 @@ use Rattle.wa_types.specs.Pruned.{pruned}
 use Rattle.wa_types.specs.Pausing.{Callee, direct, indirect, calls_of, calls_in}
 use Rattle.wa_types.specs.Syntax.{Basic, nop, drop as a_drop, select, const, num, global_get, global_set, load, store, memory_size, memory_grow, Plain, basic, local_get, local_set, local_tee, br, br_if, br_table, return, unreachable, call, call_indirect, a_block, a_loop, Code, done, plain, nest, branch, Func, Module}
 use Rattle.wa_types.specs.Modules.{func_imports, type_at, func_type_at, defined_at}
-use Rattle.wa_model.specs.Store.{Store, Did, works, fails, lacks, takes, act, computed, width_of, loaded, load_at, stored, store_at, grew}
+use Rattle.wa_model.specs.Store.{Store, Did, works, fails, lacks, takes, extra_cost, act, computed, width_of, loaded, load_at, stored, store_at, grew}
 use Rattle.wa_model.specs.Configuration.{Label, block_label, loop_label, Activation, Configuration, running, waiting, calls_behind}
 use Rattle.wa_model.specs.Step.{Next, steps, asks, traps, stuck, result_count, leave, jump, finish, did, choose, entered, invoke, param_count, same_func_type, through, memory_max, step_plain, step_at, step, arity_of}
 use Rattle.wa_types.specs.Accesses.{AccessRow, load_row, store_row}
@@ -99,11 +99,11 @@ module _ (m : Module) (table : List (Option ℕ)) (root : ℕ) where
         → LabelsRemain (calls_in f) labels → ConfigurationAt m table root (running s fn under ls ops code labels)
     goes_on s ls ops code labels e h lb = record { same = e; here = (f, is, h, lb); under = u; few = few }
 
-    did_at : (ls : List Value) (labels : List Label) (rest : Code) (s : Store) (ops : List Value) (d : Did) → s.table ≡ table → DidAt table d → Remains (calls_in f) rest labels
-        → LabelsRemain (calls_in f) labels → NextAt m table root (did fn under ls labels rest s ops d)
-    did_at ls labels rest s ops (works s' results) e t h lb = goes_on s' ls (results ++ ops) rest labels t h lb
-    did_at ls labels rest s ops (fails trap) e t h lb = e
-    did_at ls labels rest s ops lacks e t h lb = tt
+    did_at : (k : ℕ) (ls : List Value) (labels : List Label) (rest : Code) (s : Store) (ops : List Value) (d : Did) → s.table ≡ table → DidAt table d → Remains (calls_in f) rest labels
+        → LabelsRemain (calls_in f) labels → NextAt m table root (did k fn under ls labels rest s ops d)
+    did_at k ls labels rest s ops (works s' results) e t h lb = goes_on s' ls (results ++ ops) rest labels t h lb
+    did_at k ls labels rest s ops (fails trap) e t h lb = e
+    did_at k ls labels rest s ops lacks e t h lb = tt
 
     jump_at : (k : ℕ) (s : Store) (ls ops : List Value) (labels : List Label) (l : ℕ) → s.table ≡ table → LabelsRemain (calls_in f) labels → NextAt m table root (jump k m s fn under ls ops labels l)
     jump_at k s ls ops [] l e lb = leave_at k s ops (result_count m fn) fn under e u few
@@ -154,7 +154,7 @@ module _ (m : Module) (table : List (Option ℕ)) (root : ℕ) where
         → LabelsRemain (calls_in f) labels → NextAt m table root (step_plain m s fn under ls ops labels rest p)
     unfolding pruned calls_of
     plain_at s ls ops labels rest (basic b) e h lb =
-        did_at ls labels rest s (drop (takes b) ops) (act (memory_max m) b s (take (takes b) ops)) e (act_at table (memory_max m) b s (take (takes b) ops) e) h lb
+        did_at (extra_cost b (take (takes b) ops)) ls labels rest s (drop (takes b) ops) (act (memory_max m) b s (take (takes b) ops)) e (act_at table (memory_max m) b s (take (takes b) ops) e) h lb
     plain_at s ls ops labels rest (local_get x) e h lb = goes_on s ls _ rest labels e h lb
     plain_at s ls [] labels rest (local_set x) e h lb = tt
     plain_at s ls (v ∷ ops) labels rest (local_set x) e h lb = goes_on s _ ops rest labels e h lb

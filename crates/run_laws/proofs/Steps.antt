@@ -11,7 +11,7 @@ use Rattle.wa_types.specs.declared.values.Trap.TheVariants.{StackExhausted, Type
 use Rattle.wa_types.specs.Sizes.{value_fits, CodeFits, PlainFits}
 use Rattle.wa_types.specs.Syntax.{Plain, basic, local_get, local_set, local_tee, br, br_if, br_table, return, unreachable, call, call_indirect, a_block, a_loop, Code, done, plain, nest, branch, Func, Module}
 use Rattle.wa_types.specs.Modules.{func_imports, type_at, func_type_at, declared_locals, defined_at}
-use Rattle.wa_model.specs.Store.{Store, value_at, Did, works, fails, lacks, takes, act}
+use Rattle.wa_model.specs.Store.{Store, value_at, Did, works, fails, lacks, takes, extra_cost, act}
 use Rattle.wa_model.specs.Configuration.{Label, block_label, loop_label, Activation, Configuration, running, waiting}
 use Rattle.wa_model.specs.Step.{Next, steps, asks, traps, stuck, keep, result_count, leave, jump, finish, did, choose, zero_of, entered, invoke, param_count, same_func_type, through, memory_max, step_plain, step_at, step, arity_of}
 use Rattle.run_laws.specs.Ranges.{CodesIn, ValuesIn, StoreIn, LabelIn, ActivationIn, ConfigurationIn, NextIn}
@@ -74,12 +74,12 @@ module _ (low : ℕ) where
       running_in s a.func under a.locals (take arity ops ++ a.operands) a.code a.labels st (All-tail ActivationIn a under us) h.locals
       (joined_in (take arity ops) a.operands (taken_in arity ops vo) h.operands) h.code h.labels
 
-  did_in : (fn : ℕ) (under : List Activation) (ls : List Value) (labels : List Label) (rest : Code) (s : Store) (ops : List Value) (d : Did) → StoreIn low s
+  did_in : (k fn : ℕ) (under : List Activation) (ls : List Value) (labels : List Label) (rest : Code) (s : Store) (ops : List Value) (d : Did) → StoreIn low s
       → All ActivationIn under → ValuesIn ls → ValuesIn ops → CodeFits rest → All LabelIn labels → DidIn low d
-      → NextIn low (did fn under ls labels rest s ops d)
-  did_in fn under ls labels rest s ops (works s' results) st us vl vo c lb h = running_in s' fn under ls (results ++ ops) rest labels h.0 us vl (joined_in results ops h.1 vo) c lb
-  did_in fn under ls labels rest s ops (fails trap) st us vl vo c lb h = st
-  did_in fn under ls labels rest s ops lacks st us vl vo c lb h = tt
+      → NextIn low (did k fn under ls labels rest s ops d)
+  did_in k fn under ls labels rest s ops (works s' results) st us vl vo c lb h = running_in s' fn under ls (results ++ ops) rest labels h.0 us vl (joined_in results ops h.1 vo) c lb
+  did_in k fn under ls labels rest s ops (fails trap) st us vl vo c lb h = st
+  did_in k fn under ls labels rest s ops lacks st us vl vo c lb h = tt
 
   chosen_next : (n : ℕ) (first second : Next) → NextIn low first → NextIn low second → NextIn low (choose n first second)
   chosen_next zero first second h k = k
@@ -149,7 +149,7 @@ module _ (low : ℕ) where
         → All ActivationIn under → ValuesIn ls → ValuesIn ops → CodeFits rest → All LabelIn labels → PlainFits p
         → NextIn low (step_plain m s fn under ls ops labels rest p)
     plain_in s fn under ls ops labels rest (basic b) st us vl vo c lb f =
-        did_in fn under ls labels rest s (drop (takes b) ops) (act (memory_max m) b s (take (takes b) ops)) st us vl (dropped_in (takes b) ops vo) c lb
+        did_in (extra_cost b (take (takes b) ops)) fn under ls labels rest s (drop (takes b) ops) (act (memory_max m) b s (take (takes b) ops)) st us vl (dropped_in (takes b) ops vo) c lb
         (act_in low (memory_max m) b s (take (takes b) ops) f st (taken_in (takes b) ops vo))
     plain_in s fn under ls ops labels rest (local_get x) st us vl vo c lb f =
         running_in s fn under ls (value_at ls x ∷ ops) rest labels st us vl (more_in (value_at ls x) ops (value_at_in ls x vl) vo) c lb

@@ -18,7 +18,7 @@ use Rattle.wa_types.specs.Typing.{Around, Sig, moves, leaves, drops, selects, la
 use Rattle.wa_types.specs.Typing.{calls, calls_at, gets, sets, tees, basic_sig, sig, Takes, Types}
 use Rattle.wa_types.specs.Validity.{Valid}
 use Rattle.wa_types.specs.Modules.{func_imports, func_sorts, func_types, func_type_at, type_at, or_empty, declared_locals, locals_of, around, defined_at}
-use Rattle.wa_model.specs.Store.{Store, value_at, Did, works, fails, lacks as lacking, takes, act}
+use Rattle.wa_model.specs.Store.{Store, value_at, Did, works, fails, lacks as lacking, takes, extra_cost, act}
 use Rattle.wa_model.specs.Configuration.{Label, block_label, loop_label, Activation, Configuration, running, waiting}
 use Rattle.wa_model.specs.Step.{Next, steps, asks, traps, stuck, keep, result_count, leave, jump, finish, did, with_top, with_number, choose, arity_of, zero_of, entered, invoke, param_count}
 use Rattle.wa_model.specs.Step.{same_func_type, through, memory_max, step_at, step}
@@ -198,11 +198,11 @@ module _ (m : Module) (v : Valid m) (outs : List ValType) where
 
         -- ---- instructions
 
-        did_fits : (ops : List Value) (labels : List Label) (results : List (Option ValType)) (rest : Code) (mids below : List ValType) (d : Did)
-            → Stands m top deep c results labels rest mids below → DidFits m (mids ++ below) ops d → NextFits m outs (did fn under ls labels rest s ops d)
-        did_fits ops labels results rest mids below (works s' rs) st h = going_on s' h.0 ls (rs ++ ops) rest labels results mids below el h.1 st
-        did_fits ops labels results rest mids below (fails trap) st h = so
-        did_fits ops labels results rest mids below lacking st h = absurd h
+        did_fits : (k : ℕ) (ops : List Value) (labels : List Label) (results : List (Option ValType)) (rest : Code) (mids below : List ValType) (d : Did)
+            → Stands m top deep c results labels rest mids below → DidFits m (mids ++ below) ops d → NextFits m outs (did k fn under ls labels rest s ops d)
+        did_fits k ops labels results rest mids below (works s' rs) st h = going_on s' h.0 ls (rs ++ ops) rest labels results mids below el h.1 st
+        did_fits k ops labels results rest mids below (fails trap) st h = so
+        did_fits k ops labels results rest mids below lacking st h = absurd h
 
         -- the topmost operand, of this type
         tops_fit : (ops : List Value) (t : ValType) (more : List ValType) (on : Value → List Value → Next) → types_of ops ≡ t ∷ more
@@ -379,7 +379,7 @@ module _ (m : Module) (v : Valid m) (outs : List ValType) where
             → (is_last p ≡ false → behind_plain m p (length (own ++ below)) ≡ length (mids ++ below) → Stands m top deep c results labels rest mids below)
             → NextFits m outs (step_at m s fn under ls ops labels (plain p rest))
         plain_fits ops labels results (basic b) rest own mids below h eo st again =
-            did_fits (drop (takes b) ops) labels results rest mids below (act (memory_max m) b s (take (takes b) ops)) (again refl (basic_height c b own mids below h))
+            did_fits (extra_cost b (take (takes b) ops)) (drop (takes b) ops) labels results rest mids below (act (memory_max m) b s (take (takes b) ops)) (again refl (basic_height c b own mids below h))
             (act_fits m c (memory_max m) b s ops (mids ++ below) refl so (subst (λ xs. Takes (basic_sig c b) xs (mids ++ below)) (sym eo) (takes_above (basic_sig c b) own mids below h)))
         plain_fits ops labels results (local_get x) rest own mids below h eo st again =
             gets_fit x ops labels results rest own mids below (slice_get (locals_of m f) x) refl h eo (again refl (gets_height (slice_get (locals_of m f) x) own mids below h))

@@ -8,16 +8,17 @@ use Rattle.wa_types.specs.declared.values.Trap.{Trap}
 use Rattle.wa_types.specs.declared.syntax.Export.{Export}
 use Rattle.wa_types.specs.Syntax.{FuncType, Func, GlobalDef, Module}
 use Rattle.wa_types.specs.Modules.{func_imports, func_type_at, defined_at}
-use Rattle.wa_model.specs.declared.answers.Area.{Area}
+use Rattle.wa_model.specs.declared.answers.Said.{Said}
+use Rattle.wa_model.specs.declared.answers.Said.TheVariants as S
 use Rattle.wa_model.specs.declared.events.End.{End}
-use Rattle.wa_model.specs.declared.events.End.TheVariants.{Done, Trapped, BadAnswer, BadPoke, NoAnswer, OtherImport, DeviceFault, NoDevice}
+use Rattle.wa_model.specs.declared.events.End.TheVariants.{Done, Trapped, NoAnswer, OtherImport, DeviceFault, NoDevice}
 use Rattle.wa_model.specs.Outside.{Poke, Answer, answered, returned, ended}
 use Rattle.wa_model.specs.Machine.{Turn, stops, goes, Ran, after, still, pay, run_with}
 use Rattle.wa_model.specs.Store.{Store}
 use Rattle.wa_model.specs.Configuration.{Activation, place_of, suspended}
 use Rattle.wa_model.specs.Step.{Next, steps, asks, returns, traps, stuck, entered, step}
 use Rattle.wa_model.specs.Plan.{Entry, Plan, Outcome, given, refused, OutcomeFits, IsRefusal}
-use Rattle.wa_model.specs.Blocking.{Note, note, call_note, answers, poke_fits, bad_poke, is_unlisted, bad_pause, or_else, fault_of, pause_of, poked, Task, the_start, an_entry, Left}
+use Rattle.wa_model.specs.Blocking.{Note, note, call_note, answers, bad_value, bad_poke, is_unlisted, bad_pause, or_else, fault_of, pause_of, poked, Task, the_start, an_entry, Left}
 use Rattle.wa_model.specs.Blocking.{with_outcomes, Asker, inside, outermost, store_at, stack_at, in_start, State, between, begins, runs, halts, done_notes, on_to, value_of_results}
 use Rattle.wa_model.specs.Blocking.{next_entry, task_back, go_on, ends_at_call, tested, asked, by_step, enters, enter_next, start_called, blocking}
 use Rattle.wa_model.specs.Protocol.{Exports, Held, free, starting, busy, over, is_running, held_on, held_back, held_given, held_tested, held_asked, busy_step, busy_enters, held_next}
@@ -26,6 +27,7 @@ use Rattle.wa_model.specs.Behaves.{is_pause_end, unless_end, unless_pause}
 use Rattle.run_theory.specs.Growth.{grown_module, Spaces, spaces_of, Each, ActNamed, StoreNamed, ConfigNamed, grown_store, grown_config}
 use Rattle.run_theory.proofs.GrownSteps.{ModuleNamed, defined_stays, defined_below, func_type_stays, entered_named, step_stays, Stays}
 use Rattle.run_theory.proofs.GrownInstances.{each_append, each_split}
+use Rattle.run_theory.proofs.TestedEnds.{EndIs, fault_is}
 
 -- ---- notes
 
@@ -43,38 +45,11 @@ pub record IsPlainNote (count : ℕ) (x : Note) : Type 0 where
 -- ---- the ends of answers
 
 abbrev PlainFault : Option End → Type 0
-PlainFault None = Unit {0}
-PlainFault (Some e) = is_pause_end e ≡ false
-
-or_else_plain : (a b : Option End) → PlainFault a → PlainFault b → PlainFault (or_else a b)
-or_else_plain None b g h = h
-or_else_plain (Some e) b g h = g
-
-bad_poke_plain : (size : ℕ) (area : Area) (ps : List Poke) → PlainFault (bad_poke size area ps)
-bad_poke_plain size area [] = tt
-bad_poke_plain size area (p ∷ ps) = by_fit (poke_fits size area p) (bad_poke_plain size area ps)
-  where
-    by_fit : (b : Bool) → PlainFault (bad_poke size area ps) → PlainFault (if b then bad_poke size area ps else Some (BadPoke p.at (length p.bytes)))
-    by_fit true h = h
-    by_fit false h = refl
-
-bad_pause_plain : (start unlisted : Bool) (import ticks : ℕ) → PlainFault (bad_pause start unlisted import ticks)
-bad_pause_plain start unlisted import zero = tt
-bad_pause_plain true unlisted import (suc ticks) = refl
-bad_pause_plain false true import (suc ticks) = refl
-bad_pause_plain false false import (suc ticks) = tt
+PlainFault = EndIs (λ e. is_pause_end e ≡ false)
 
 fault_plain : (results : List ValType) (size : ℕ) (plan : Plan) (start : Bool) (import : ℕ) (a : Answer) → PlainFault (fault_of results size plan start import a)
 fault_plain results size plan start import a =
-    or_else_plain (if answers results a.value then None else Some (BadAnswer import a.value))
-    (or_else (bad_poke size plan.area a.pokes) (bad_pause start (is_unlisted plan.listed import) import a.ticks))
-    (by_value (answers results a.value))
-    (or_else_plain (bad_poke size plan.area a.pokes) (bad_pause start (is_unlisted plan.listed import) import a.ticks) (bad_poke_plain size plan.area a.pokes)
-    (bad_pause_plain start (is_unlisted plan.listed import) import a.ticks))
-  where
-    by_value : (b : Bool) → PlainFault (if b then None else Some (BadAnswer import a.value))
-    by_value true = tt
-    by_value false = refl
+    fault_is (λ e. is_pause_end e ≡ false) (record { value = λ i v. refl; poke = λ at len. refl; start = λ i. refl }) results size plan start import a (λ h. refl)
 
 second_none : (a b : Option End) → or_else a b ≡ None → b ≡ None
 second_none None b e = e
@@ -89,7 +64,7 @@ no_pause_in_start : (results : List ValType) (size : ℕ) (plan : Plan) (import 
 no_pause_in_start results size plan import a e =
     start_pause (is_unlisted plan.listed import) import a.ticks
     (second_none (bad_poke size plan.area a.pokes) (bad_pause true (is_unlisted plan.listed import) import a.ticks)
-    (second_none (if answers results a.value then None else Some (BadAnswer import a.value))
+    (second_none (bad_value results import a.said)
     (or_else (bad_poke size plan.area a.pokes) (bad_pause true (is_unlisted plan.listed import) import a.ticks)) e))
 
 refusal_plain : (e : End) → IsRefusal e → is_pause_end e ≡ false
@@ -261,32 +236,32 @@ module _ (m : Module) (ts : List FuncType) (fs : List Func) (gs : List GlobalDef
   )
 
   -- the answer is given at once
-  given_in_step : (k import : ℕ) (args : List Value) (w : Asker) (l : Left) (a : Answer) → AskerNamed m w → LeftNamed m l
-      → InStep (go_on k (call_before import args w None) a (poked (store_at w) a.pokes) l w)
-      (held_given k (call_behind import args w None) a (poked (store_at (grown_asker more w)) a.pokes) l (grown_asker more w))
-  given_in_step k import args (inside task c) l a h lo = (
+  given_in_step : (k import : ℕ) (args : List Value) (w : Asker) (l : Left) (said : Said) (pokes : List Poke) → AskerNamed m w → LeftNamed m l
+      → InStep (go_on k (call_before import args w None) said (poked (store_at w) pokes) l w)
+      (held_given k (call_behind import args w None) said (poked (store_at (grown_asker more w)) pokes) l (grown_asker more w))
+  given_in_step k import args (inside task c) l (S.Value v) pokes h lo = (
     _,
     _,
     refl,
     λ idle. (
-      ap (λ x. x ∷ note (answered a.value) (poked (big c.store) a.pokes) ∷ []) (note_is import args (inside task c) None h),
+      ap (λ x. x ∷ note (answered (S.Value v)) (poked (big c.store) pokes) ∷ []) (note_is import args (inside task c) None h),
       refl,
       (record { store = record { globals = (h.store).globals; table = (h.store).table }; here = record { func = (h.here).func; code = (h.here).code; labels = (h.here).labels }; under = h.under }, lo),
       (plain_call import args (inside task c) h, (record { event = refl; pause = refl; since = refl; globals = (h.store).globals }, tt)),
     ),
   )
-  given_in_step k import args (outermost s) l a h lo =
-      ends_in_step k (call_before import args (outermost s) None ∷ note (answered a.value) (poked s a.pokes) ∷ [])
-      (call_behind import args (outermost s) None ∷ note (answered a.value) (poked (big s) a.pokes) ∷ []) (poked s a.pokes) (poked (big s) a.pokes) l l.entries
+  given_in_step k import args (outermost s) l (S.Value v) pokes h lo =
+      ends_in_step k (call_before import args (outermost s) None ∷ note (answered (S.Value v)) (poked s pokes) ∷ [])
+      (call_behind import args (outermost s) None ∷ note (answered (S.Value v)) (poked (big s) pokes) ∷ []) (poked s pokes) (poked (big s) pokes) l l.entries
       (λ idle. (refl, (plain_call import args (outermost s) h, (record { event = refl; pause = refl; since = refl; globals = h.globals }, tt))))
       refl (record { globals = h.globals; table = h.table }) lo
 
   -- an answer that pauses suspends a stack
-  pauses_in_step : (k import ticks : ℕ) (args : List Value) (w : Asker) (l : Left) (a : Answer) → (in_start w ≡ true → ⊥)
-      → InStep (go_on k (call_before import args w (Some (suc ticks))) a (poked (store_at w) a.pokes) l w) (held_tested p ex plan k import args (grown_asker more w) l a None (Some (suc ticks)))
-  pauses_in_step k import ticks args (inside (an_entry e) c) l a h = (_, _, refl, λ idle. absurd (let z = (idle.0) (suc ticks) refl in cc))
-  pauses_in_step k import ticks args (inside the_start c) l a h = absurd (h refl)
-  pauses_in_step k import ticks args (outermost s) l a h = absurd (h refl)
+  pauses_in_step : (k import ticks : ℕ) (args : List Value) (w : Asker) (l : Left) (a : Answer) (said : Said) → (in_start w ≡ true → ⊥)
+      → InStep (go_on k (call_before import args w (Some (suc ticks))) said (poked (store_at w) a.pokes) l w) (held_tested p ex plan k import args (grown_asker more w) l a None (Some (suc ticks)))
+  pauses_in_step k import ticks args (inside (an_entry e) c) l a (S.Value v) h = (_, _, refl, λ idle. absurd (let z = (idle.0) (suc ticks) refl in cc))
+  pauses_in_step k import ticks args (inside the_start c) l a said h = absurd (h refl)
+  pauses_in_step k import ticks args (outermost s) l a said h = absurd (h refl)
 
   tested_in_step : (k import : ℕ) (args : List Value) (w : Asker) (l : Left) (a : Answer) (o : Option End) → AskerNamed m w → LeftNamed m l → PlainFault o
       → (o ≡ None → in_start w ≡ true → a.ticks ≡ 0)
@@ -295,7 +270,7 @@ module _ (m : Module) (ts : List FuncType) (fs : List Func) (gs : List GlobalDef
   tested_in_step k import args w l a None h lo plain start = by_ticks a.ticks refl
     where
       turn : Option ℕ → Turn State Note
-      turn pause = go_on k (call_before import args w pause) a (poked (store_at w) a.pokes) l w
+      turn pause = go_on k (call_before import args w pause) a.said (poked (store_at w) a.pokes) l w
 
       held : Option ℕ → Turn Held Note
       held pause = held_tested p ex plan k import args (grown_asker more w) l a None pause
@@ -303,11 +278,11 @@ module _ (m : Module) (ts : List FuncType) (fs : List Func) (gs : List GlobalDef
       by_ticks : (t : ℕ) → a.ticks ≡ t → InStep (turn (pause_of a.ticks)) (held (pause_of a.ticks))
       by_ticks zero e =
           by_turn (turn (pause_of a.ticks)) (turn None) (held (pause_of a.ticks)) (ap (λ t. turn (pause_of t)) e)
-          (by_held (turn None) (held (pause_of a.ticks)) (held None) (ap (λ t. held (pause_of t)) e) (given_in_step k import args w l a h lo))
+          (by_held (turn None) (held (pause_of a.ticks)) (held None) (ap (λ t. held (pause_of t)) e) (given_in_step k import args w l a.said a.pokes h lo))
       by_ticks (suc t) e =
           by_turn (turn (pause_of a.ticks)) (turn (Some (suc t))) (held (pause_of a.ticks)) (ap (λ t. turn (pause_of t)) e)
           (by_held (turn (Some (suc t))) (held (pause_of a.ticks)) (held (Some (suc t))) (ap (λ t. held (pause_of t)) e)
-          (pauses_in_step k import t args w l a (λ s. let z = start refl s in let bad : suc t ≡ 0 = sym e ∙ z in cc)))
+          (pauses_in_step k import t args w l a a.said (λ s. let z = start refl s in let bad : suc t ≡ 0 = sym e ∙ z in cc)))
 
   asked_in_step : (k import : ℕ) (args : List Value) (w : Asker) (l : Left) (os : List Outcome) → import < n.funcs → AskerNamed m w → LeftNamed m l → Each OutcomeFits os
       → InStep (asked m plan k import args w l os) (held_asked p ex plan k import args (grown_asker more w) l os)

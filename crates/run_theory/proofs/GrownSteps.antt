@@ -19,7 +19,7 @@ use Rattle.wa_types.specs.Syntax.{Basic, nop, drop as a_drop, select, const, num
 use Rattle.wa_types.specs.Syntax.{br_if, br_table, return, unreachable, call, call_indirect, a_block, a_loop, Code, done, plain, nest, branch, FuncType, Func, GlobalDef, Module}
 use Rattle.wa_types.specs.Modules.{imported, imported_func, func_imports, func_sorts, func_type_at, type_at, or_empty, defined_at}
 use Rattle.wa_ops.specs.Operate.{operate, number_of}
-use Rattle.wa_model.specs.Store.{Store, value_at, Did, works, fails, lacks, takes, act, computed, load_at, loaded, store_at, stored, width_of, grew}
+use Rattle.wa_model.specs.Store.{Store, value_at, Did, works, fails, lacks, takes, extra_cost, act, computed, load_at, loaded, store_at, stored, width_of, grew}
 use Rattle.wa_model.specs.Configuration.{Label, block_label, loop_label, Activation, Configuration, running, waiting}
 use Rattle.wa_model.specs.Step.{Next, steps, asks, traps, stuck, result_count, leave, jump, finish, did, with_top, with_number, choose, arity_of, entered, invoke, param_count}
 use Rattle.wa_model.specs.Step.{same_func_type, through, memory_max, step_at, step}
@@ -118,13 +118,13 @@ module _ (more : List Value) (n : Spaces) where
   leaves_stay k s ops arity (a ∷ under) so uo =
       let ao = uo.0 in (refl, record { store = so; here = record { func = ao.func; code = ao.code; labels = ao.labels }; under = uo.1 })
 
-  did_stays : (fn : ℕ) (under : List Activation) (ls : List Value) (labels : List Label) (rest : Code) (ops : List Value) (s : Store) (d d' : Did)
+  did_stays : (k fn : ℕ) (under : List Activation) (ls : List Value) (labels : List Label) (rest : Code) (ops : List Value) (s : Store) (d d' : Did)
       → fn < n.funcs → Each (ActNamed n) under → Each (LabelNamed n) labels → CodeNamed n rest → StoreNamed n s → DidStays more n d d'
-      → Stays (did fn under ls labels rest s ops d) (did fn under ls labels rest (wide s) ops d')
-  did_stays fn under ls labels rest ops s (works s' results) d' fo uo lo co so h =
-      (ap (did fn under ls labels rest (wide s) ops) h.0, record { store = h.1; here = record { func = fo; code = co; labels = lo }; under = uo })
-  did_stays fn under ls labels rest ops s (fails trap) d' fo uo lo co so h = (ap (did fn under ls labels rest (wide s) ops) h.0, so)
-  did_stays fn under ls labels rest ops s lacks d' fo uo lo co so h = (ap (did fn under ls labels rest (wide s) ops) h.0, tt)
+      → Stays (did k fn under ls labels rest s ops d) (did k fn under ls labels rest (wide s) ops d')
+  did_stays k fn under ls labels rest ops s (works s' results) d' fo uo lo co so h =
+      (ap (did k fn under ls labels rest (wide s) ops) h.0, record { store = h.1; here = record { func = fo; code = co; labels = lo }; under = uo })
+  did_stays k fn under ls labels rest ops s (fails trap) d' fo uo lo co so h = (ap (did k fn under ls labels rest (wide s) ops) h.0, so)
+  did_stays k fn under ls labels rest ops s lacks d' fo uo lo co so h = (ap (did k fn under ls labels rest (wide s) ops) h.0, tt)
 
   top_stays : (ops : List Value) (on on' : Value → List Value → Next) → ((v : Value) (below : List Value) → Stays (on v below) (on' v below)) → Stays (with_top ops on) (with_top ops on')
   top_stays [] on on' h = (refl, tt)
@@ -289,7 +289,7 @@ module _ (m : Module) (ts : List FuncType) (fs : List Func) (gs : List GlobalDef
             → Same (step_at m s fn under ls ops labels code) (step_at p (big s) fn under ls ops labels code)
         step_at_stays ls ops labels done co lo = finishes_stay s fn under ls ops labels fo so uo lo
         step_at_stays ls ops labels (plain (basic b) rest) co lo =
-            did_stays more n fn under ls labels rest (drop (takes b) ops) s (act (memory_max m) b s (take (takes b) ops))
+            did_stays more n (extra_cost b (take (takes b) ops)) fn under ls labels rest (drop (takes b) ops) s (act (memory_max m) b s (take (takes b) ops))
             (act (memory_max m) b (big s) (take (takes b) ops)) fo uo lo co.1 so (act_stays more n (memory_max m) b s (take (takes b) ops) co.0 so)
         step_at_stays ls ops labels (plain (local_get x) rest) co lo = (refl, here_named ls (value_at ls x ∷ ops) rest labels co.1 lo)
         step_at_stays ls ops labels (plain (local_set x) rest) co lo = top_stays more n ops _ _ (λ v below. (refl, here_named (slice_set ls x v) below rest labels co.1 lo))

@@ -26,4 +26,5 @@ pub mod Runs
 pub mod RuntimeValid
 pub mod ShownMoments
 pub mod ShownRuns
+pub mod TestedEnds
 pub mod WiderTyping

@@ -10,10 +10,12 @@ use Rattle.wa_types.specs.Syntax.{FuncType, Func, Module}
 use Rattle.wa_types.specs.Pruned.{is_last, pruned}
 use Rattle.wa_types.specs.Modules.{imported, imported_func, func_imports, func_type_at, type_at, or_empty, defined_at}
 use Rattle.wa_types.specs.Pausing.{calls_of, calls_in}
+use Rattle.wa_model.specs.declared.answers.Said.{Said}
+use Rattle.wa_model.specs.declared.answers.Said.TheVariants as S
 use Rattle.wa_model.specs.declared.events.End.{End}
 use Rattle.wa_model.specs.Outside.{Answer, answered, returned}
 use Rattle.wa_model.specs.Machine.{Turn, stops, goes, Ran, after, run}
-use Rattle.wa_model.specs.Store.{Store, Did, works, fails, lacks, takes, act}
+use Rattle.wa_model.specs.Store.{Store, Did, works, fails, lacks, takes, extra_cost, act}
 use Rattle.wa_model.specs.Configuration.{Label, block_label, loop_label, Activation, Configuration, running, waiting, call_count, calls_behind, calls_outside, place_of, suspended, stack_of}
 use Rattle.wa_model.specs.Step.{Next, steps, asks, returns, traps, stuck, result_count, leave, jump, finish, did, with_top, with_number, choose, arity_of, entered, invoke, param_count}
 use Rattle.wa_model.specs.Step.{same_func_type, through, memory_max, step_at, step}
@@ -146,11 +148,11 @@ module _ (m : Module) where
   finishes_pruned s fn under ls ops (block_label h arity rest skipped ∷ labels) = refl
   finishes_pruned s fn under ls ops (loop_label h body rest ∷ labels) = refl
 
-  did_pruned : (fn : ℕ) (under : List Activation) (ls : List Value) (labels : List Label) (rest : Code) (s : Store) (ops : List Value) (d : Did)
-      → did fn (map pruned_act under) ls (map pruned_label labels) (pruned rest) s ops d ≡ pruned_next (did fn under ls labels rest s ops d)
-  did_pruned fn under ls labels rest s ops (works s' results) = refl
-  did_pruned fn under ls labels rest s ops (fails trap) = refl
-  did_pruned fn under ls labels rest s ops lacks = refl
+  did_pruned : (k fn : ℕ) (under : List Activation) (ls : List Value) (labels : List Label) (rest : Code) (s : Store) (ops : List Value) (d : Did)
+      → did k fn (map pruned_act under) ls (map pruned_label labels) (pruned rest) s ops d ≡ pruned_next (did k fn under ls labels rest s ops d)
+  did_pruned k fn under ls labels rest s ops (works s' results) = refl
+  did_pruned k fn under ls labels rest s ops (fails trap) = refl
+  did_pruned k fn under ls labels rest s ops lacks = refl
 
   top_pruned : (ops : List Value) (on on' : Value → List Value → Next) → ((v : Value) (below : List Value) → on' v below ≡ pruned_next (on v below)) → with_top ops on' ≡ pruned_next (with_top ops on)
   top_pruned [] on on' h = refl
@@ -215,7 +217,7 @@ module _ (m : Module) where
       → step_at (pruned_module m) s fn (map pruned_act under) ls ops (map pruned_label labels) (pruned c) ≡ pruned_next (step_at m s fn under ls ops labels c)
   unfolding pruned
   step_at_pruned s fn under ls ops labels done = finishes_pruned s fn under ls ops labels
-  step_at_pruned s fn under ls ops labels (plain (basic b) rest) = did_pruned fn under ls labels rest s (drop (takes b) ops) (act (memory_max m) b s (take (takes b) ops))
+  step_at_pruned s fn under ls ops labels (plain (basic b) rest) = did_pruned (extra_cost b (take (takes b) ops)) fn under ls labels rest s (drop (takes b) ops) (act (memory_max m) b s (take (takes b) ops))
   step_at_pruned s fn under ls ops labels (plain (local_get x) rest) = refl
   step_at_pruned s fn under ls ops labels (plain (local_set x) rest) = top_pruned ops _ _ (λ v below. refl)
   step_at_pruned s fn under ls ops labels (plain (local_tee x) rest) = top_pruned ops _ _ (λ v below. refl)
@@ -285,9 +287,9 @@ task_back_pruned : (k : ℕ) (task : Task) (results : List Value) (s : Store) (l
 task_back_pruned k the_start results s l = ap (goes k (done_notes s l.entries)) (on_to_pruned s l l.entries)
 task_back_pruned k (an_entry e) results s l = goes_pruned k (note (returned l.number (value_of_results results)) s ∷ done_notes s l.entries) s (next_entry l) l.entries
 
-go_on_pruned : (k : ℕ) (x : Note) (a : Answer) (s : Store) (l : Left) (w : Asker) → go_on k x a s l (pruned_asker w) ≡ pruned_turn (go_on k x a s l w)
-go_on_pruned k x a s l (inside task c) = refl
-go_on_pruned k x a s l (outermost old) = goes_pruned k (x ∷ note (answered a.value) s ∷ done_notes s l.entries) s l l.entries
+go_on_pruned : (k : ℕ) (x : Note) (said : Said) (s : Store) (l : Left) (w : Asker) → go_on k x said s l (pruned_asker w) ≡ pruned_turn (go_on k x said s l w)
+go_on_pruned k x (S.Value v) s l (inside task c) = refl
+go_on_pruned k x (S.Value v) s l (outermost old) = goes_pruned k (x ∷ note (answered (S.Value v)) s ∷ done_notes s l.entries) s l l.entries
 
 module _ (m : Module) (plan : Plan) where
   abbrev p : Module
@@ -299,7 +301,7 @@ module _ (m : Module) (plan : Plan) where
 
   tested_pruned : (k import : ℕ) (args : List Value) (w : Asker) (l : Left) (a : Answer) (o : Option End) → tested p k import args (pruned_asker w) l a o ≡ pruned_turn (tested m k import args w l a o)
   tested_pruned k import args w l a (Some e) = rw (store_at_same w, stack_at_same w) refl
-  tested_pruned k import args w l a None = rw (store_at_same w, stack_at_same w) (go_on_pruned k (call_note import args (store_at w) (stack_at m w) (pause_of a.ticks)) a
+  tested_pruned k import args w l a None = rw (store_at_same w, stack_at_same w) (go_on_pruned k (call_note import args (store_at w) (stack_at m w) (pause_of a.ticks)) a.said
       (poked (store_at w) a.pokes) l w)
 
   asked_pruned : (k import : ℕ) (args : List Value) (w : Asker) (l : Left) (os : List Outcome) → asked p plan k import args (pruned_asker w) l os ≡ pruned_turn (asked m plan k import args w l os)

@@ -11,6 +11,7 @@ use Rattle.wa_types.specs.declared.syntax.Space.TheVariants as Sp
 use Rattle.wa_types.specs.Syntax.{const, num, global_get, global_set, unreachable, basic, local_get, call, done, plain, Module}
 use Rattle.wa_types.specs.Base.{Base}
 use Rattle.wa_types.specs.Runtime.{with_runtime}
+use Rattle.wa_model.specs.declared.answers.Said.TheVariants as S
 use Rattle.wa_model.specs.declared.events.End.TheVariants.{Trapped, UnlistedPause}
 use Rattle.wa_model.specs.Outside.{Event, called, answered, returned, ended}
 use Rattle.wa_model.specs.Plan.{Entry, Plan, Outcome, given}
@@ -49,7 +50,7 @@ abbrev plan : List Entry → Plan
 plan entries = record { globals = []; entries = entries; area = record { at = 0; len = 64 }; listed = Some (false ∷ []) }
 
 abbrev answer : ℕ → ℕ → Outcome
-answer n ticks = given (record { value = Some (i32 n); pokes = []; ticks = ticks })
+answer n ticks = given (record { said = S.Value (Some (i32 n)); pokes = []; ticks = ticks })
 
 abbrev entry : ℕ → ℕ → Entry
 entry x n = record { func = x; args = i32 n ∷ [] }
@@ -58,7 +59,7 @@ abbrev asked : ℕ → Event
 asked n = called (record { import = 0; args = i32 n ∷ [] })
 
 abbrev both : List Event
-both = asked 3 ∷ answered (Some (i32 4)) ∷ returned 0 (Some (i32 7)) ∷ ended (Trapped Unreachable) ∷ []
+both = asked 3 ∷ answered (S.Value (Some (i32 4))) ∷ returned 0 (Some (i32 7)) ∷ ended (Trapped Unreachable) ∷ []
 
 alone : events_of (Blocking asks (plan (entry 1 3 ∷ entry 2 5 ∷ [])) (answer 4 0 ∷ []) 40).events ≡ both
 unfolding Base

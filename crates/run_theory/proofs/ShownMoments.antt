@@ -6,15 +6,16 @@ use Rattle.wa_types.specs.declared.values.Value.{Value}
 use Rattle.wa_types.specs.Syntax.{Func, Module}
 use Rattle.wa_types.specs.Modules.{func_imports, func_type_at, defined_at}
 use Rattle.wa_types.specs.Frames.{Suspended}
-use Rattle.wa_model.specs.declared.answers.Area.{Area}
+use Rattle.wa_model.specs.declared.answers.Said.{Said}
+use Rattle.wa_model.specs.declared.answers.Said.TheVariants as S
 use Rattle.wa_model.specs.declared.events.End.{End}
-use Rattle.wa_model.specs.declared.events.End.TheVariants.{UnwindTrap, BadAnswer, BadPoke}
-use Rattle.wa_model.specs.Outside.{Poke, Answer, Event, ended}
+use Rattle.wa_model.specs.declared.events.End.TheVariants.{UnwindTrap}
+use Rattle.wa_model.specs.Outside.{Answer, Event, ended}
 use Rattle.wa_model.specs.Machine.{Turn, stops, goes, Ran, after, run, Leads, stays, moves}
 use Rattle.wa_model.specs.Store.{Store}
 use Rattle.wa_model.specs.Step.{Next, steps, asks, returns, traps, stuck, step}
 use Rattle.wa_model.specs.Plan.{Entry, Plan, Outcome, given, refused, OutcomeFits, IsRefusal}
-use Rattle.wa_model.specs.Blocking.{Note, note, events_of, answers, poke_fits, bad_poke, is_unlisted, bad_pause, or_else, fault_of, Task, the_start, an_entry, Left, with_outcomes, Asker}
+use Rattle.wa_model.specs.Blocking.{Note, note, events_of, fault_of, Task, the_start, an_entry, Left, with_outcomes, Asker}
 use Rattle.wa_model.specs.Blocking.{inside, outermost, store_at, in_start, State, between, begins, runs, halts, done_notes, on_to, next_entry, task_back, call_note, poked, pause_of}
 use Rattle.wa_model.specs.Blocking.{stack_at, go_on, tested, asked, by_step, enters, enter_next, start_called, blocking, store_of}
 use Rattle.wa_model.specs.Behaves.{is_pause_end, unless_end, unless_pause, without_pauses}
@@ -22,6 +23,7 @@ use Rattle.wa_model.specs.Expected.{pause_note, trap_note}
 use Rattle.std.specs.List.{cons_option}
 use Rattle.run_theory.proofs.Runs.{leads_run, leads_stopped, one_move}
 use Rattle.run_theory.proofs.ShownRuns.{pause_shown, shown_move, blocking_shown}
+use Rattle.run_theory.proofs.TestedEnds.{EndIs, fault_is}
 
 -- ---- a run with blocking imports makes no Paused and no UnwindTrap
 
@@ -30,8 +32,7 @@ Honest [] = Unit {0}
 Honest (x ∷ xs) = (unless_pause x.event ≡ Some x.event) × Honest xs
 
 abbrev Honest_end : Option End → Type 0
-Honest_end None = Unit {0}
-Honest_end (Some e) = is_pause_end e ≡ false
+Honest_end = EndIs (λ e. is_pause_end e ≡ false)
 
 -- the outcomes left are in their ranges
 abbrev pub Lawful : State → Type 0
@@ -51,35 +52,9 @@ refusal_honest _ h = refl
 end_honest : (e : End) (s : Store) → is_pause_end e ≡ false → Honest (note (ended e) s ∷ [])
 end_honest e s h = (ap (λ b. unless_end b (ended e)) h, tt)
 
-pokes_honest : (size : ℕ) (area : Area) (ps : List Poke) → Honest_end (bad_poke size area ps)
-pokes_honest size area [] = tt
-pokes_honest size area (p ∷ ps) = by_fit (poke_fits size area p) (pokes_honest size area ps)
-  where
-    by_fit : (b : Bool) → Honest_end (bad_poke size area ps) → Honest_end (if b then bad_poke size area ps else Some (BadPoke p.at (length p.bytes)))
-    by_fit true h = h
-    by_fit false h = refl
-
-pause_honest : (start unlisted : Bool) (import ticks : ℕ) → Honest_end (bad_pause start unlisted import ticks)
-pause_honest start unlisted import zero = tt
-pause_honest true unlisted import (suc ticks) = refl
-pause_honest false true import (suc ticks) = refl
-pause_honest false false import (suc ticks) = tt
-
-else_honest : (a b : Option End) → Honest_end a → Honest_end b → Honest_end (or_else a b)
-else_honest None b x y = y
-else_honest (Some e) b x y = x
-
 fault_honest : (results : List ValType) (size : ℕ) (plan : Plan) (start : Bool) (import : ℕ) (a : Answer) → Honest_end (fault_of results size plan start import a)
 fault_honest results size plan start import a =
-    else_honest (if answers results a.value then None else Some (BadAnswer import a.value))
-    (or_else (bad_poke size plan.area a.pokes) (bad_pause start (is_unlisted plan.listed import) import a.ticks))
-    (by_value (answers results a.value))
-    (else_honest (bad_poke size plan.area a.pokes) (bad_pause start (is_unlisted plan.listed import) import a.ticks) (pokes_honest size plan.area a.pokes)
-    (pause_honest start (is_unlisted plan.listed import) import a.ticks))
-  where
-    by_value : (b : Bool) → Honest_end (if b then None else Some (BadAnswer import a.value))
-    by_value true = tt
-    by_value false = refl
+    fault_is (λ e. is_pause_end e ≡ false) (record { value = λ i v. refl; poke = λ at len. refl; start = λ i. refl }) results size plan start import a (λ h. refl)
 
 done_honest : (s : Store) (es : List Entry) → Honest (done_notes s es)
 done_honest s [] = (refl, tt)
@@ -93,14 +68,14 @@ back_honest : (k : ℕ) (task : Task) (results : List Value) (s : Store) (l : Le
 back_honest k the_start results s l h = (done_honest s l.entries, on_lawful s l l.entries h)
 back_honest k (an_entry e) results s l h = ((refl, done_honest s l.entries), on_lawful s (next_entry l) l.entries h)
 
-go_on_honest : (k : ℕ) (x : Note) (a : Answer) (s : Store) (l : Left) (w : Asker) → unless_pause x.event ≡ Some x.event → All OutcomeFits l.outcomes → Honest_turn (go_on k x a s l w)
-go_on_honest k x a s l (inside task c) e h = ((e, (refl, tt)), h)
-go_on_honest k x a s l (outermost old) e h = ((e, (refl, done_honest s l.entries)), on_lawful s l l.entries h)
+go_on_honest : (k : ℕ) (x : Note) (said : Said) (s : Store) (l : Left) (w : Asker) → unless_pause x.event ≡ Some x.event → All OutcomeFits l.outcomes → Honest_turn (go_on k x said s l w)
+go_on_honest k x (S.Value v) s l (inside task c) e h = ((e, (refl, tt)), h)
+go_on_honest k x (S.Value v) s l (outermost old) e h = ((e, (refl, done_honest s l.entries)), on_lawful s l l.entries h)
 
 tested_honest : (m : Module) (k import : ℕ) (args : List Value) (w : Asker) (l : Left) (a : Answer) (o : Option End) → Honest_end o → All OutcomeFits l.outcomes
     → Honest_turn (tested m k import args w l a o)
 tested_honest m k import args w l a (Some e) he h = ((refl, end_honest e (store_at w) he), tt)
-tested_honest m k import args w l a None he h = go_on_honest k (call_note import args (store_at w) (stack_at m w) (pause_of a.ticks)) a (poked (store_at w) a.pokes) l w refl h
+tested_honest m k import args w l a None he h = go_on_honest k (call_note import args (store_at w) (stack_at m w) (pause_of a.ticks)) a.said (poked (store_at w) a.pokes) l w refl h
 
 first_fits : (o : Outcome) (os : List Outcome) → All OutcomeFits (o ∷ os) → OutcomeFits o
 first_fits o os h = let lt : 0 < length (o ∷ os) = omega arith in h 0 o lt

@@ -6,6 +6,8 @@ use Rattle.wa_types.specs.Syntax.{Func, Module}
 use Rattle.wa_types.specs.Modules.{func_imports, func_type_at, defined_at}
 use Rattle.wa_types.specs.Frames.{Suspended}
 use Rattle.wa_types.specs.declared.values.Value.{Value}
+use Rattle.wa_model.specs.declared.answers.Said.{Said}
+use Rattle.wa_model.specs.declared.answers.Said.TheVariants as S
 use Rattle.wa_model.specs.declared.events.End.{End}
 use Rattle.wa_model.specs.Outside.{Answer}
 use Rattle.wa_model.specs.Machine.{Turn, stops, goes, Ran, run}
@@ -60,13 +62,13 @@ plain_back : (k : ℕ) (task : Task) (results : List Value) (s : Store) (l : Lef
 plain_back k the_start results s l = tail_of (done_notes s l.entries) (plain_done s l.entries)
 plain_back k (an_entry e) results s l = plain_done s l.entries
 
-plain_go_on : (k : ℕ) (x : Note) (a : Answer) (s : Store) (l : Left) (w : Asker) → Plain_turn (go_on k x a s l w)
-plain_go_on k x a s l (inside task c) = (refl, tt)
-plain_go_on k x a s l (outermost old) = (refl, plain_done s l.entries)
+plain_go_on : (k : ℕ) (x : Note) (said : Said) (s : Store) (l : Left) (w : Asker) → Plain_turn (go_on k x said s l w)
+plain_go_on k x (S.Value v) s l (inside task c) = (refl, tt)
+plain_go_on k x (S.Value v) s l (outermost old) = (refl, plain_done s l.entries)
 
 plain_tested : (m : Module) (k import : ℕ) (args : List Value) (w : Asker) (l : Left) (a : Answer) (o : Option End) → Plain_turn (tested m k import args w l a o)
 plain_tested m k import args w l a (Some e) = (refl, tt)
-plain_tested m k import args w l a None = plain_go_on k (call_note import args (store_at w) (stack_at m w) (pause_of a.ticks)) a (poked (store_at w) a.pokes) l w
+plain_tested m k import args w l a None = plain_go_on k (call_note import args (store_at w) (stack_at m w) (pause_of a.ticks)) a.said (poked (store_at w) a.pokes) l w
 
 plain_asked : (m : Module) (plan : Plan) (k import : ℕ) (args : List Value) (w : Asker) (l : Left) (os : List Outcome) → Plain_turn (asked m plan k import args w l os)
 plain_asked m plan k import args w l [] = tt

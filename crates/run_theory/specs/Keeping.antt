@@ -1,32 +1,33 @@
 -- Tests of a configuration's next reduction, by which a module's own machine can be kept from going on: it writes nothing
--- of the original's store; it makes no call and leaves the store, without loads; its access stays off the area. They compute.
-use Rattle.std.specs.Prelude.{ℕ, ◌+◌, List, Option, Some, None, Bool, true, false, not, ◌&&◌, ◌||◌, nat_lt, nat_le, length}
+-- of the original's store; it makes no call and leaves the store, without loads; what it reaches stays off the area. They compute.
+use Rattle.std.specs.Prelude.{ℕ, ◌+◌, List, [], ◌∷◌, Bool, true, false, not, ◌&&◌, ◌||◌, nat_le, length, take}
+use Rattle.std.specs.List.{list_all}
 use Rattle.wa_types.specs.declared.values.Value.{Value}
 use Rattle.wa_types.specs.Syntax.{Basic, global_set, load, store, memory_grow, Plain, basic, call, call_indirect, Code, plain}
 use Rattle.wa_model.specs.declared.answers.Area.{Area}
-use Rattle.wa_model.specs.Store.{Access, accessed}
+use Rattle.wa_model.specs.Store.{Range, reached, takes}
 use Rattle.wa_model.specs.Configuration.{Configuration}
 use Rattle.wa_model.specs.Blocking.{overlap}
-use Rattle.wa_model.specs.Untouched.{next_access}
+use Rattle.wa_model.specs.Untouched.{next_ranges}
 
 -- ---- nothing of the original's store is written
 
--- the bytes of an access lie in the area
-abbrev pub in_area : Area → Option Access → Bool
-in_area area None = true
-in_area area (Some x) = nat_le area.at x.at && nat_le (x.at + x.width) (area.at + area.len)
+-- the first of these ranges, that of the bytes that are written, lies in the area
+abbrev pub in_area : Area → List Range → Bool
+in_area area [] = true
+in_area area (x ∷ xs) = nat_le area.at x.at && nat_le (x.at + x.len) (area.at + area.len)
 
--- An instruction on operands and the store writes none of so many globals and no byte outside the area, and doesn't grow
--- the memory.
+-- With its own operands an instruction on operands and the store writes none of so many globals and no byte outside the
+-- area, and doesn't grow the memory.
 abbrev pub keeps_basic : (globals : ℕ) → Area → Basic → List Value → Bool
 keeps_basic globals area (global_set x) ops = nat_le globals x
-keeps_basic globals area (store op align offset) ops = in_area area (accessed (store op align offset) ops)
+keeps_basic globals area (store op align offset) ops = in_area area (reached (store op align offset) ops)
 keeps_basic globals area memory_grow ops = false
 keeps_basic globals area _ ops = true
 
 -- the same of code by the instruction that stands next
 abbrev pub keeps_code : (globals : ℕ) → Area → List Value → Code → Bool
-keeps_code globals area ops (plain (basic b) rest) = keeps_basic globals area b ops
+keeps_code globals area ops (plain (basic b) rest) = keeps_basic globals area b (take (takes b) ops)
 keeps_code globals area ops _ = true
 
 -- The next reduction writes none of so many globals and no byte outside the area, and doesn't grow the memory.
@@ -61,11 +62,10 @@ silent c = silent_code c.here.code
 
 -- ---- the area is not touched
 
--- an access that doesn't trap, in a memory of this size, stays off the area
-abbrev pub stays_off : Area → (size : ℕ) → Option Access → Bool
-stays_off area size None = true
-stays_off area size (Some x) = nat_lt size (x.at + x.width) || not (overlap x.at x.width area.at area.len)
+-- ranges stay off the area where all of them lie inside a memory of this size
+abbrev pub stays_off : Area → (size : ℕ) → List Range → Bool
+stays_off area size xs = not (list_all (λ (x : Range). nat_le (x.at + x.len) size) xs) || list_all (λ (x : Range). not (overlap x.at x.len area.at area.len)) xs
 
--- The next reduction's load or store, if it makes one that doesn't trap, stays off the area.
+-- The next reduction traps, or what it reaches of the memory stays off the area.
 abbrev pub calm : Area → Configuration → Bool
-calm area c = stays_off area (length c.store.memory) (next_access c)
+calm area c = stays_off area (length c.store.memory) (next_ranges c)

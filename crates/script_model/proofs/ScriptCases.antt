@@ -7,6 +7,7 @@ use Rattle.std.specs.Fmt.{digits}
 use Rattle.wa_types.specs.declared.bounds.LimitKind.TheVariants as L
 use Rattle.wa_types.specs.declared.values.Value.TheVariants as V
 use Rattle.wa_types.specs.declared.values.Trap.TheVariants.{Unreachable}
+use Rattle.wa_model.specs.declared.answers.Said.TheVariants as S
 use Rattle.wa_model.specs.declared.events.End.TheVariants.{UnwindTrap}
 use Rattle.wa_model.specs.Outside.{Line, Event, called, paused, returned, ended, shown}
 use Rattle.script_model.specs.Script.{Script, ScriptFault, breaks, too_many}
@@ -92,7 +93,7 @@ unfolding script_text is_utf8 chars encode digits
 number_out = refl
 
 an_answer : line_says (codes "answer env.read i32:4 ticks 2 poke 65532 01fF")
-    ≡ Ok (Some (answers (record { import = codes "env.read"; answer = record { value = Some (V.I32 4); pokes = record { at = 65532; bytes = 1 ∷ 255 ∷ [] } ∷ []; ticks = 2 } })))
+    ≡ Ok (Some (answers (record { import = codes "env.read"; answer = record { said = S.Value (Some (V.I32 4)); pokes = record { at = 65532; bytes = 1 ∷ 255 ∷ [] } ∷ []; ticks = 2 } })))
 unfolding script_text is_utf8 chars encode digits
 an_answer = refl
 

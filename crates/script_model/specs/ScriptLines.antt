@@ -7,6 +7,8 @@ use Rattle.std.specs.Fmt.{decimal}
 use Rattle.wa_types.specs.declared.values.Value.{Value}
 use Rattle.wa_types.specs.declared.values.Value.TheVariants as V
 use Rattle.script_model.specs.Command.{behind}
+use Rattle.wa_model.specs.declared.answers.Said.{Said}
+use Rattle.wa_model.specs.declared.answers.Said.TheVariants as S
 use Rattle.wa_model.specs.Outside.{Poke, AnswerLine}
 
 -- ---- words
@@ -210,21 +212,21 @@ keyword_in word = option_map (λ (s : Spelling). s.keyword) (find (λ (s : Spell
 
 -- A line says a statement, or breaks the rule of this number: 3 where the number or form of its words is wrong, 4 where a number, a
 -- value or bytes are.
-abbrev pub Said : Type 0
-Said = Result Statement ℕ
+abbrev pub Meaning : Type 0
+Meaning = Result Statement ℕ
 
 -- what is said of a number, a value or bytes, which break rule 4 where they aren't spelled
-abbrev pub unless_none : {A : Type 0} → (A → Said) → Option A → Said
+abbrev pub unless_none : {A : Type 0} → (A → Meaning) → Option A → Meaning
 unless_none says None = Err 4
 unless_none says (Some x) = says x
 
 -- two numbers
-abbrev pub says_two : (ℕ → ℕ → Statement) → Option ℕ → Option ℕ → Said
+abbrev pub says_two : (ℕ → ℕ → Statement) → Option ℕ → Option ℕ → Meaning
 says_two says (Some a) (Some b) = Ok (says a b)
 says_two says _ _ = Err 4
 
 -- `all` or `live`
-abbrev pub says_policy : List ℕ → Said
+abbrev pub says_policy : List ℕ → Meaning
 says_policy word = if bytes_eq word (codes "all") then Ok (saves false) else (if bytes_eq word (codes "live") then Ok (saves true) else Err 3)
 
 -- the words of a poke: a place and bytes
@@ -254,27 +256,27 @@ all_pokes [] = Some []
 all_pokes (p ∷ ps) = onto (poke_of (u32_in p.at) (hex_in p.bytes)) (all_pokes ps)
 
 -- a VALUE or `none`
-abbrev pub result_in : List ℕ → Option (Option Value)
-result_in word = if bytes_eq word (codes "none") then Some None else option_map (λ (v : Value). Some v) (value_in word)
+abbrev pub result_in : List ℕ → Option Said
+result_in word = if bytes_eq word (codes "none") then Some (S.Value None) else option_map (λ (v : Value). S.Value (Some v)) (value_in word)
 
 -- an answer, where all its parts are told
-abbrev pub answer_of : (name : List ℕ) → Option (Option Value) → Option ℕ → Option (List Poke) → Said
-answer_of name (Some value) (Some ticks) (Some pokes) = Ok (answers (record { import = name; answer = record { value = value; pokes = pokes; ticks = ticks } }))
+abbrev pub answer_of : (name : List ℕ) → Option Said → Option ℕ → Option (List Poke) → Meaning
+answer_of name (Some said) (Some ticks) (Some pokes) = Ok (answers (record { import = name; answer = record { said = said; pokes = pokes; ticks = ticks } }))
 answer_of name _ _ _ = Err 4
 
 -- an answer by its words, where those behind the ticks are of pokes
-abbrev pub answer_with : (name result ticks : List ℕ) → Option (List PokeWords) → Said
+abbrev pub answer_with : (name result ticks : List ℕ) → Option (List PokeWords) → Meaning
 answer_with name result ticks None = Err 3
 answer_with name result ticks (Some pokes) = answer_of name (result_in result) (u32_in ticks) (all_pokes pokes)
 
 -- `[ticks N] [poke AT HEX]*` behind a result
-abbrev pub says_answer : (name result : List ℕ) → List (List ℕ) → Said
+abbrev pub says_answer : (name result : List ℕ) → List (List ℕ) → Meaning
 says_answer name result (k ∷ n ∷ more) =
     if bytes_eq k (codes "ticks") then answer_with name result n (pokes_in more) else answer_with name result (codes "0") (pokes_in (k ∷ n ∷ more))
 says_answer name result more = answer_with name result (codes "0") (pokes_in more)
 
 -- the words behind the first one
-abbrev pub says : Keyword → List (List ℕ) → Said
+abbrev pub says : Keyword → List (List ℕ) → Meaning
 says program_word (path ∷ []) = Ok (begins_program path)
 says imports_word (list ∷ []) = Ok (lists_imports list)
 says ignore_imports_word [] = Ok ignores_imports
@@ -290,7 +292,7 @@ says detach_word (device ∷ before ∷ []) = unless_none (λ n. Ok (detaches de
 says _ _ = Err 3
 
 -- what the words behind the first one say, where that is a keyword
-abbrev pub says_with : Option Keyword → List (List ℕ) → Said
+abbrev pub says_with : Option Keyword → List (List ℕ) → Meaning
 says_with None words = Err 2
 says_with (Some k) words = says k words
 

@@ -8,6 +8,8 @@ use Rattle.wa_types.specs.declared.values.Value.{Value}
 use Rattle.wa_types.specs.declared.values.Value.TheVariants as V
 use Rattle.wa_types.specs.declared.values.Trap.{Trap}
 use Rattle.wa_types.specs.declared.values.Trap.TheVariants.{DivideByZero, IntegerOverflow, OutOfBounds, Unreachable, UndefinedElement, UninitializedElement, TypeMismatch, StackExhausted}
+use Rattle.wa_model.specs.declared.answers.Said.{Said}
+use Rattle.wa_model.specs.declared.answers.Said.TheVariants as S
 use Rattle.wa_model.specs.declared.events.End.{End}
 use Rattle.wa_model.specs.declared.events.End.TheVariants.{Done, Trapped, UnwindTrap, RewindTrap, ElementsOut, BytesOut, HostLimit, NoAnswer, OtherImport, BadAnswer, BadPoke, UnlistedPause}
 use Rattle.wa_model.specs.declared.events.End.TheVariants.{PauseInStart, DeviceFault, NoDevice, StepsSpent, Broken}
@@ -121,10 +123,14 @@ returned_value (Some v) = codes " " ++ printed_value v
 abbrev pub pause_text : (due used len : ℕ) → List ℕ
 pause_text due used len = codes "pause until " ++ decimal due ++ codes " " ++ area_text used len
 
+-- what an import's call was told
+abbrev pub said_text : Said → List ℕ
+said_text (S.Value v) = value_or_none v
+
 -- the text of an event that began at this tick
 abbrev pub event_text : Names → (tick : ℕ) → Event → List ℕ
 event_text names tick (called call) = codes "call " ++ name_at names.imports call.import ++ behind_spaces call.args
-event_text names tick (answered value) = codes "answer " ++ value_or_none value
+event_text names tick (answered said) = codes "answer " ++ said_text said
 event_text names tick (paused ticks used) = pause_text (tick + ticks) used names.len
 event_text names tick (returned entry value) = codes "return " ++ name_at names.entries entry ++ returned_value value
 event_text names tick (ended how) = codes "end " ++ end_text names how

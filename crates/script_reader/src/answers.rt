@@ -12,8 +12,8 @@ use crate::numbers::{u32_in, value_in};
 use crate::statements::{Statement, copied, told};
 use crate::word_fault::LineFault;
 use std::alloc::{AllocError, Global};
-use wa_model::{Answer, AnswerLine, Poke};
-use wa_types::{Name, Value};
+use wa_model::{Answer, AnswerLine, Poke, Said};
+use wa_types::Name;
 
 pub(crate) fn answer_line(alloc: Global, words: &[Name]) -> Result<Statement, LineFault>
     ensures { Reads statement_of result (says answer_word words.now) }
@@ -66,27 +66,23 @@ fn told_answer(
 ) -> Result<Statement, LineFault>
     ensures { Reads statement_of result (answer_of name.now (result_in value.now) (u32_in ticks.now) (all_pokes (triples pokes.now))) }
 {
-    let value = told(result_in(value.as_str()))?;
+    let said = told(result_in(value.as_str()))?;
     let ticks = told(u32_in(ticks))?;
     let pokes = all_pokes(alloc, pokes)?;
     let import = copied(alloc, name)?;
-    let answer = Answer {
-        value,
-        pokes,
-        ticks,
-    };
+    let answer = Answer { said, pokes, ticks };
     Ok(Statement::Answer(AnswerLine { import, answer }))
 }
 
 // A value or `none`.
-fn result_in(word: &str) -> Option<Option<Value>>
+fn result_in(word: &str) -> Option<Said>
     ensures { result ≡ result_in word.now }
 {
     if word == "none" {
-        return Some(None);
+        return Some(Said::Value(None));
     }
     let value = value_in(word)?;
-    Some(Some(value))
+    Some(Said::Value(Some(value)))
 }
 
 // Whether the words are of the form `poke AT HEX`, any number of times.

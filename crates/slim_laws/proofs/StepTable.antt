@@ -8,13 +8,13 @@ use Rattle.wa_types.specs.declared.values.Value.TheVariants as V
 use Rattle.wa_types.specs.declared.values.Trap.{Trap}
 use Rattle.wa_types.specs.declared.values.Trap.TheVariants.{StackExhausted, TypeMismatch, UndefinedElement, UninitializedElement}
 use Rattle.wa_types.specs.Encoding.{same_type}
-use Rattle.wa_types.specs.Syntax.{Basic, nop, drop as drop_it, select, const, num, global_get, global_set, load, store, memory_size, memory_grow, Plain, basic, local_get, local_set, local_tee, br, br_if, br_table, return, unreachable, call, call_indirect, a_block, a_loop, Code, done, plain, nest, branch, FuncType, Module}
+use Rattle.wa_types.specs.Syntax.{Basic, Plain, basic, local_get, local_set, local_tee, br, br_if, br_table, return, unreachable, call, call_indirect, a_block, a_loop, Code, done, plain, nest, branch, FuncType, Module}
 use Rattle.wa_types.specs.Modules.{func_imports, func_type_at, type_at, declared_locals, defined_at}
 use Rattle.wa_types.specs.Pausing.{calls_of}
-use Rattle.wa_model.specs.Store.{Store, value_at, Did, works, fails, lacks, takes, gives, act, accessed}
+use Rattle.wa_model.specs.Store.{Store, value_at, Did, works, fails, lacks, takes, gives, extra_cost, act, reached}
 use Rattle.wa_model.specs.Configuration.{Label, block_label, Activation, Configuration, running, waiting}
 use Rattle.wa_model.specs.Step.{Next, steps, asks, returns, traps, stuck, result_count, leave, jump, finish, did, with_number, choose, arity_of, zero_of, entered, invoke, param_count, same_types, same_func_type, through, memory_max, step_at, step}
-use Rattle.wa_model.specs.Untouched.{access_in}
+use Rattle.wa_model.specs.Untouched.{ranges_in}
 use Rattle.slim_laws.specs.Slim.{Held, Free, Covers, StackShape, more, Takes, takes_none, takes_same, takes_one, kept, Reaches, Terms, Slims, ends, does, gets, sets, tees, keeps, uses, saves, copies, narrows, forgets, leaps, leaps_if, leaps_by, returns_here, halts, calls, calls_by, blocks, loops, decides}
 use Rattle.slim_laws.specs.Beside.{Sides, Twin, both_import, both_defined, Together, Agree, Woven, woven, woven_both, woven_kept, Around, in_body, in_block, in_loop, Waits, waits, Unders, bottom, above, Beside, beside, copying, Asked, ProperCode, lean_plain, lean_code, head_of, sets_local, SameNext, way_ends, way_same, way_sets, saves_none, saves_one, ComesToo, it_steps, it_asks, it_returns, it_traps, it_is_stuck}
 use Rattle.slim_laws.proofs.ResultCounts.{GivesSo, gives_so}
@@ -89,28 +89,6 @@ lean_below w fn (plain p rest) k = by p
 unders_long : (w : Sides) (under under' : List Activation) → Unders w under under' → length under' ≡ length under
 unders_long w _ _ bottom = refl
 unders_long w _ _ (above {under = u} {under' = u'} wt us) = ap suc (unders_long w u u' us)
-
--- an access lies in what an instruction takes
-accessed_taken : (b : Basic) (ops : List Value) → accessed b (take (takes b) ops) ≡ accessed b ops
-accessed_taken nop ops = refl
-accessed_taken drop_it ops = refl
-accessed_taken select ops = refl
-accessed_taken (const v) ops = refl
-accessed_taken (num op) ops = refl
-accessed_taken (global_get x) ops = refl
-accessed_taken (global_set x) ops = refl
-accessed_taken (load op align offset) [] = refl
-accessed_taken (load op align offset) (V.I32 a ∷ ops) = refl
-accessed_taken (load op align offset) (V.I64 a ∷ ops) = refl
-accessed_taken (store op align offset) [] = refl
-accessed_taken (store op align offset) (v ∷ []) = refl
-accessed_taken (store op align offset) (v ∷ V.I32 a ∷ ops) = refl
-accessed_taken (store op align offset) (v ∷ V.I64 a ∷ ops) = refl
-accessed_taken memory_size ops = refl
-accessed_taken memory_grow ops = refl
-
-accessed_same : (b : Basic) (ops ops' : List Value) → take (takes b) ops' ≡ take (takes b) ops → accessed b ops' ≡ accessed b ops
-accessed_same b ops ops' e = sym (accessed_taken b ops') ∙ ap (accessed b) e ∙ accessed_taken b ops
 
 -- there are no calls in no code
 no_calls : (n : ℕ) → n ≡ length (calls_of done) + n
@@ -301,16 +279,16 @@ module _ (w : Sides) where
 
     -- ---- an instruction that touches no local
 
-    dids : (x : Ctx w) (b : Basic) (spare : ℕ) (n : ℕ) (ts : List Free) (out : Free) (sh : StackShape) (ops ops' : List Value) (rest rest' : Code) (labels labels' : List Label)
+    dids : (k : ℕ) (x : Ctx w) (b : Basic) (spare : ℕ) (n : ℕ) (ts : List Free) (out : Free) (sh : StackShape) (ops ops' : List Value) (rest rest' : Code) (labels labels' : List Label)
         → kept sh ≤ spare → Woven x.ls sh ops ops'
         → Slims (t x) n ts out x.free (more (gives b) sh) rest rest' → Around (t x) n ts out labels labels' → (a : Did) → GivesSo (gives b) a
-        → Same w spare (did x.fn x.under x.ls labels rest x.s ops a) (did x.fn x.under' x.ls' labels' rest' x.s ops' a)
-    dids x b spare n ts out sh ops ops' rest rest' labels labels' le wo sl ar (works s2 vs) g =
+        → Same w spare (did k x.fn x.under x.ls labels rest x.s ops a) (did k x.fn x.under' x.ls' labels' rest' x.s ops' a)
+    dids k x b spare n ts out sh ops ops' rest rest' labels labels' le wo sl ar (works s2 vs) g =
         let e = more_kept (gives b) sh in
         same_step (omega arith) (at (with_store x s2) x.free (λ y fr. fr) n ts out (more (gives b) sh) (vs ++ ops) (vs ++ ops') rest rest' labels labels'
         (subst (λ n. Woven x.ls (more n sh) (vs ++ ops) (vs ++ ops')) g (more_woven x.ls sh vs ops ops' wo)) sl ar)
-    dids x b spare n ts out sh ops ops' rest rest' labels labels' le wo sl ar (fails u) g = same_trap
-    dids x b spare n ts out sh ops ops' rest rest' labels labels' le wo sl ar lacks g = flat_stuck
+    dids k x b spare n ts out sh ops ops' rest rest' labels labels' le wo sl ar (fails u) g = same_trap
+    dids k x b spare n ts out sh ops ops' rest rest' labels labels' le wo sl ar lacks g = flat_stuck
 
     -- ---- the whole table
 
@@ -389,12 +367,12 @@ module _ (w : Sides) where
 
       -- in lockstep, with the same operands
       plain_case : (ls ls' : List Value) (sh : StackShape) (ops ops' : List Value) (code code' : Code) (labels labels' : List Label) → head_of code' ≡ head_of code
-          → access_in ops code' ≡ access_in ops code → Same w (kept sh) (step_at q s fn under ls ops labels code) (step_at p s fn under' ls' ops labels' code') → ops' ≡ ops
+          → ranges_in ops code' ≡ ranges_in ops code → Same w (kept sh) (step_at q s fn under ls ops labels code) (step_at p s fn under' ls' ops labels' code') → ops' ≡ ops
           → ComesToo w (running s fn under ls ops code labels) (running s fn under' ls' ops' code' labels') (kept sh) (lean_code (w.terms fn) code) (step_at q s fn under ls ops labels code)
       plain_case ls ls' sh ops ops' code code' labels labels' hd ac sm e =
           subst (λ us. ComesToo w (running s fn under ls ops code labels) (running s fn under' ls' us code' labels') (kept sh) (lean_code (w.terms fn) code)
           (step_at q s fn under ls ops labels code)) (sym e)
-          (together _ _ (kept sh) (lean_code (w.terms fn) code) _ _ (record { store = refl; head = hd; access = ac }) (lean_below w fn code) refl sm)
+          (together _ _ (kept sh) (lean_code (w.terms fn) code) _ _ (record { store = refl; head = hd; reach = ac }) (lean_below w fn code) refl sm)
 
       -- The whole table. Slots that are set on the slim side alone come first.
       pub table : (ls : List Value) (size : length ls ≡ (w.terms fn).size) (f : Free) (ls' : List Value) (ag : Agree f ls ls') (n : ℕ) (ts : List Free) (out : Free) (sh : StackShape)
@@ -411,16 +389,17 @@ module _ (w : Sides) where
             store =
                 refl;
             head = refl;
-            access = accessed_same b ops ops' h.0;
+            reach = ap (reached b) h.0;
           }) (λ k. omega arith) refl
           (subst (λ m. Same w (kept sh) (step_at q s fn under ls ops labels (plain (basic b) rest))
-          (did fn under' ls' labels' rest' s (drop (takes b) ops') (act m b s (take (takes b) ops')))) (sym ok.most)
-          (subst (λ vs. Same w (kept sh) (step_at q s fn under ls ops labels (plain (basic b) rest)) (did fn under' ls' labels' rest' s (drop (takes b) ops') (act (memory_max q) b s vs))) (sym h.0)
-          (dids (ctx s fn under under' us ls size f ls' ag) b (kept sh) n ts out sh2 (drop (takes b) ops) (drop (takes b) ops') rest rest' labels labels' (omega arith) h.1 sl ar
+          (did (extra_cost b (take (takes b) ops')) fn under' ls' labels' rest' s (drop (takes b) ops') (act m b s (take (takes b) ops')))) (sym ok.most)
+          (subst (λ vs. Same w (kept sh) (step_at q s fn under ls ops labels (plain (basic b) rest))
+          (did (extra_cost b vs) fn under' ls' labels' rest' s (drop (takes b) ops') (act (memory_max q) b s vs))) (sym h.0)
+          (dids (extra_cost b (take (takes b) ops)) (ctx s fn under under' us ls size f ls' ag) b (kept sh) n ts out sh2 (drop (takes b) ops) (drop (takes b) ops') rest rest' labels labels' (omega arith) h.1 sl ar
           (act (memory_max q) b s (take (takes b) ops)) (gives_so (memory_max q) b s (take (takes b) ops)))))
       table ls size f ls' ag n ts out sh ops ops' _ _ labels labels' wo (gets {rest = rest} {rest' = rest'} y fr sl) ar pr =
           together (running s fn under ls ops (plain (local_get y) rest) labels) (running s fn under' ls' ops' (plain (local_get y) rest') labels') (kept sh)
-          (lean_code (w.terms fn) (plain (local_get y) rest)) _ _ (record { store = refl; head = refl; access = refl }) (lean_below w fn (plain (local_get y) rest)) refl
+          (lean_code (w.terms fn) (plain (local_get y) rest)) _ _ (record { store = refl; head = refl; reach = refl }) (lean_below w fn (plain (local_get y) rest)) refl
           (subst (λ v. Same w (kept sh) (steps 0 (running s fn under ls (value_at ls y ∷ ops) rest labels)) (steps 0 (running s fn under' ls' (v ∷ ops') rest' labels'))) (sym (ag.same y fr))
           (same_step (omega arith) (at (ctx s fn under under' us ls size f ls' ag) f (λ z fz. fz) n ts out (None ∷ sh) (value_at ls y ∷ ops)
           (value_at ls y ∷ ops') rest rest' labels labels' (woven_both (value_at ls y) wo) sl ar)))
@@ -433,7 +412,7 @@ module _ (w : Sides) where
           by_top _ _ (a_top v {below = below} {below' = below'} wb) =
               let e = taken_kept 1 sh sh2 ta in
               together (running s fn under ls (v ∷ below) (plain (local_set y) rest) labels) (running s fn under' ls' (v ∷ below') (plain (local_set y) rest') labels') (kept sh)
-              (lean_code (w.terms fn) (plain (local_set y) rest)) _ _ (record { store = refl; head = refl; access = refl }) (lean_below w fn (plain (local_set y) rest)) refl
+              (lean_code (w.terms fn) (plain (local_set y) rest)) _ _ (record { store = refl; head = refl; reach = refl }) (lean_below w fn (plain (local_set y) rest)) refl
               (same_step (omega arith) (beside s fn g refl (length-set ls y v ∙ size) (agree_set f g ls ls' y v co ag) (woven_set ls y v sh2 below below' la wb) sl ar us))
       table ls size f ls' ag n ts out sh ops ops' _ _ labels labels' wo (tees {sh2 = sh2} {rest = rest} {rest' = rest'} y g co ta la sl) ar pr = by_top ops ops' (topped ls sh sh2 ops ops' ta wo)
         where
@@ -444,7 +423,7 @@ module _ (w : Sides) where
           by_top _ _ (a_top v {below = below} {below' = below'} wb) =
               let e = taken_kept 1 sh sh2 ta in
               together (running s fn under ls (v ∷ below) (plain (local_tee y) rest) labels) (running s fn under' ls' (v ∷ below') (plain (local_tee y) rest') labels') (kept sh)
-              (λ k. k) _ _ (record { store = refl; head = refl; access = refl }) (λ k. omega arith) refl
+              (λ k. k) _ _ (record { store = refl; head = refl; reach = refl }) (λ k. omega arith) refl
               (same_step (omega arith) (beside s fn g refl (length-set ls y v ∙ size) (agree_set f g ls ls' y v co ag) (woven_both v (woven_set ls y v sh2 below below' la wb)) sl ar us))
       table ls size f ls' ag n ts out sh ops ops' _ code' labels labels' wo (keeps {sh2 = sh2} {rest = rest} y g is lt co gy ta la sl) ar pr = by_top ops ops' (topped ls sh sh2 ops ops' ta wo)
         where
@@ -491,7 +470,7 @@ module _ (w : Sides) where
           (plainly_same ls sh ops ops' pl wo)
       table ls size f ls' ag n ts out sh ops ops' _ _ labels labels' wo (halts {rest = rest}) ar pr =
           together (running s fn under ls ops (plain unreachable rest) labels) (running s fn under' ls' ops' (plain unreachable rest) labels') (kept sh) (λ k. k) _ _
-          (record { store = refl; head = refl; access = refl }) (λ k. omega arith) refl same_trap
+          (record { store = refl; head = refl; reach = refl }) (λ k. omega arith) refl same_trap
       table ls size f ls' ag n ts out sh ops ops' _ _ labels labels' wo (calls {rest = rest} {rest' = rest'} y pl ac sl) ar pr =
           plain_case ls ls' sh ops ops' (plain (call y) rest) (plain (call y) rest') labels labels' refl refl
           (calls_too ls size f ls' ag (kept sh) y n ts out ops rest rest' labels labels' pr ac sl ar) (plainly_same ls sh ops ops' pl wo)

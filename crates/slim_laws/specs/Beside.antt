@@ -8,7 +8,7 @@ use Rattle.wa_types.specs.Pausing.{calls_of}
 use Rattle.wa_model.specs.Store.{Store, value_at}
 use Rattle.wa_model.specs.Configuration.{Label, block_label, loop_label, Activation, Configuration, running, waiting}
 use Rattle.wa_model.specs.Step.{Next, steps, asks, returns, traps, stuck, entered, param_count, memory_max, step}
-use Rattle.wa_model.specs.Untouched.{next_access}
+use Rattle.wa_model.specs.Untouched.{next_ranges}
 use Rattle.run_theory.specs.Alone.{Goes}
 use Rattle.slim_laws.specs.Slim.{Held, Free, CoversBut, Lacks, StackShape, kept, Terms, Slims}
 
@@ -136,11 +136,11 @@ sets_local (plain (local_set x) rest) = true
 sets_local (plain (local_tee x) rest) = true
 sets_local _ = false
 
--- the same instruction stands next on both sides, with the same access
+-- the same instruction stands next on both sides, and reaches the same bytes
 pub record SameNext (c c' : Configuration) : Type 0 where
   pub store : c'.store ≡ c.store
   pub head : head_of c'.here.code ≡ head_of c.here.code
-  pub access : next_access c' ≡ next_access c
+  pub reach : next_ranges c' ≡ next_ranges c
 
 -- The slim side's way while the flat side makes one reduction: locals are set, and then comes that reduction, or none.
 pub data Way (w : Sides) (c : Configuration) : Configuration → ℕ → Configuration → Type 0 where

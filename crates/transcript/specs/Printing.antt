@@ -38,7 +38,7 @@ EndFits imports _ = Unit {0}
 -- each import and entry of an event has its name, and the tick with its ticks fits a u64
 abbrev pub EventFits : Names → (tick : ℕ) → Event → Type 0
 EventFits n tick (Called call) = IsImport n.imports.items call.import
-EventFits n tick (Answered value) = Unit {0}
+EventFits n tick (Answered said) = Unit {0}
 EventFits n tick (Paused ticks used) = tick + ticks < 2 ^ 64
 EventFits n tick (Returned entry value) = entry < length n.entries.items
 EventFits n tick (Ended how) = EndFits n.imports.items how

@@ -3,7 +3,7 @@
 ghost use Rattle.std.specs.Prelude.{◌≡◌, ◌++◌, IfOk, OnOk, codes};
 ghost use Rattle.std.specs.Fmt.{decimal};
 ghost use Rattle.std.specs.Option.{option_map};
-ghost use Rattle.script_model.specs.Transcript.{event_line, event_text, pause_text, printed_name, returned_value, shown_bytes};
+ghost use Rattle.script_model.specs.Transcript.{event_line, event_text, pause_text, printed_name, returned_value, said_text, shown_bytes};
 ghost use Rattle.wa_model.specs.View.{event_of, line_of};
 ghost use Rattle.transcript.specs.Printing.{EventFits, LineFits, names_of};
 
@@ -13,7 +13,7 @@ use crate::parts::{
     put_with_number,
 };
 use std::alloc::{AllocError, Global};
-use wa_model::{Event, Line};
+use wa_model::{Event, Line, Said};
 use wa_types::{Name, Value};
 
 /// What is named in a program's lines: its function imports, joined, its entries, and the length of its area in bytes.
@@ -62,9 +62,9 @@ fn put_event(
             put_with_name(text, "call ", names.imports[call.import as usize].as_str())?;
             put_values(alloc, text, &call.args)
         }
-        Event::Answered(value) => {
+        Event::Answered(said) => {
             put(text, "answer ")?;
-            put_value_or_none(alloc, text, *value)
+            put_said(alloc, text, *said)
         }
         Event::Paused { ticks, used } => put_pause(
             alloc,
@@ -85,6 +85,15 @@ fn put_event(
             put(text, " ")?;
             put_shown(text, bytes)
         }
+    }
+}
+
+// What an import's call was told.
+fn put_said(alloc: Global, text: &mut Vec<u8>, said: Said) -> Result<(), AllocError>
+    ensures { OnOk result (text.new.items ≡ text.old.items ++ said_text said) }
+{
+    match said {
+        Said::Value(value) => put_value_or_none(alloc, text, value),
     }
 }
 

@@ -11,6 +11,8 @@ use Rattle.wa_types.specs.Frames.{Suspended}
 use Rattle.wa_types.specs.Encoding.{same_type}
 use Rattle.wa_types.specs.Typing.{type_of}
 use Rattle.wa_model.specs.declared.answers.Area.{Area}
+use Rattle.wa_model.specs.declared.answers.Said.{Said}
+use Rattle.wa_model.specs.declared.answers.Said.TheVariants as S
 use Rattle.wa_model.specs.declared.events.End.{End}
 use Rattle.wa_model.specs.declared.events.End.TheVariants.{Done, Trapped, BadAnswer, BadPoke, PauseInStart, UnlistedPause}
 use Rattle.wa_model.specs.Outside.{Poke, Answer, Event, called, answered, returned, ended}
@@ -79,11 +81,14 @@ abbrev pub or_else : Option End → Option End → Option End
 or_else None second = second
 or_else (Some e) second = Some e
 
+-- the end by a value of another type than the import's result
+abbrev pub bad_value : List ValType → (import : ℕ) → Said → Option End
+bad_value results import (S.Value v) = if answers results v then None else Some (BadAnswer import v)
+
 -- The first test that an answer fails: the value's type; pokes inside the memory, off the area; no pause in start, or of one told as unlisted.
 abbrev pub fault_of : List ValType → (size : ℕ) → Plan → (in_start : Bool) → (import : ℕ) → Answer → Option End
 fault_of results size plan in_start import a =
-    or_else (if answers results a.value then None else Some (BadAnswer import a.value))
-    (or_else (bad_poke size plan.area a.pokes) (bad_pause in_start (is_unlisted plan.listed import) import a.ticks))
+    or_else (bad_value results import a.said) (or_else (bad_poke size plan.area a.pokes) (bad_pause in_start (is_unlisted plan.listed import) import a.ticks))
 
 -- the ticks of an answer that pauses
 abbrev pub pause_of : (ticks : ℕ) → Option ℕ
@@ -174,13 +179,12 @@ next_entry l = record { number = suc l.number; entries = l.entries; outcomes = l
 -- the start function or an entry has returned
 abbrev pub task_back : ℕ → Task → List Value → Store → Left → Turn State Note
 task_back k the_start results s l = goes k (done_notes s l.entries) (on_to s l l.entries)
-task_back k (an_entry e) results s l =
-    goes k (note (returned l.number (value_of_results results)) s ∷ done_notes s l.entries) (on_to s (next_entry l) l.entries)
+task_back k (an_entry e) results s l = goes k (note (returned l.number (value_of_results results)) s ∷ done_notes s l.entries) (on_to s (next_entry l) l.entries)
 
--- the answer is given to what waits for it
-abbrev pub go_on : ℕ → Note → Answer → Store → Left → Asker → Turn State Note
-go_on k x a s l (inside task c) = goes k (x ∷ note (answered a.value) s ∷ []) (runs task (resumed c s (option_to_list a.value)) l)
-go_on k x a s l (outermost old) = goes k (x ∷ note (answered a.value) s ∷ done_notes s l.entries) (on_to s l l.entries)
+-- what is said is told, and given to what waits for it
+abbrev pub go_on : ℕ → Note → Said → Store → Left → Asker → Turn State Note
+go_on k x (S.Value v) s l (inside task c) = goes k (x ∷ note (answered (S.Value v)) s ∷ []) (runs task (resumed c s (option_to_list v)) l)
+go_on k x (S.Value v) s l (outermost old) = goes k (x ∷ note (answered (S.Value v)) s ∷ done_notes s l.entries) (on_to s l l.entries)
 
 -- a call is told, and then the end
 abbrev pub ends_at_call : ℕ → Note → End → Turn State Note
@@ -189,7 +193,7 @@ ends_at_call k x e = goes k (x ∷ note (ended e) x.store ∷ []) (halts x.store
 -- by the first test that the answer fails
 abbrev pub tested : Module → ℕ → (import : ℕ) → List Value → Asker → Left → Answer → Option End → Turn State Note
 tested m k import args w l a (Some e) = ends_at_call k (call_note import args (store_at w) (stack_at m w) None) e
-tested m k import args w l a None = go_on k (call_note import args (store_at w) (stack_at m w) (pause_of a.ticks)) a (poked (store_at w) a.pokes) l w
+tested m k import args w l a None = go_on k (call_note import args (store_at w) (stack_at m w) (pause_of a.ticks)) a.said (poked (store_at w) a.pokes) l w
 
 -- A call of an import makes Called and takes the next outcome. Where none is left the run stands there.
 abbrev pub asked : Module → Plan → ℕ → (import : ℕ) → List Value → Asker → Left → List Outcome → Turn State Note
@@ -256,8 +260,7 @@ continued m plan n r = after r.events (run (blocking m plan) n r.last)
 abbrev pub blocking_run : Module → Plan → List Outcome → ℕ → Ran State Note
 blocking_run m plan os n = continued m plan n (begun m.start (all_left plan os) (opening m plan.globals))
 
--- The notes of a run with blocking imports up to a total cost of n, and where it then stands: instantiation, start and entries in order; a call of
--- an import is one step.
+-- The notes of a blocking run up to a cost of n, and where it stands: instantiation, start, then the entries in order; an import's call is one step.
 abbrev pub Blocking : Module → Plan → List Outcome → ℕ → Ran State Note
 Blocking m plan os n = blocking_run (Base m) plan os n
 

@@ -39,8 +39,7 @@ running s fn under ls ops code labels =
 
 -- an activation that waits at a call, which took operands from it
 abbrev pub waiting : ℕ → (locals operands taken : List Value) → Code → List Label → Activation
-waiting fn ls ops taken code labels =
-    record { func = fn; locals = ls; operands = ops; taken = taken; code = code; labels = labels }
+waiting fn ls ops taken code labels = record { func = fn; locals = ls; operands = ops; taken = taken; code = code; labels = labels }
 
 -- how many calls stand in code that can be reached
 abbrev pub call_count : Code → ℕ

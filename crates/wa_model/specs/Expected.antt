@@ -24,8 +24,7 @@ shown_at room fit len x None rest = x ∷ rest
 shown_at room fit len x (Some ticks) rest =
     x ∷ (if nat_lt len (room x.stack) then trap_note (fit x.stack) len x.store ∷ [] else pause_note ticks (room x.stack) x.store x.stack ∷ rest)
 
--- Between a call that pauses and its answer stands the pause. Where the room of the stack passes the area's length there
--- stands the trap instead, and nothing follows. Both find the store as it is at the call.
+-- Between a call that pauses and its answer stands the pause; where the stack's room passes the area's length the trap, and nothing follows.
 abbrev pub shown : (room fit : List Suspended → ℕ) → (len : ℕ) → List Note → List Note
 shown room fit len [] = []
 shown room fit len (x ∷ xs) = shown_at room fit len x x.pause (shown room fit len xs)

@@ -13,6 +13,8 @@ use Rattle.wa_types.specs.Runtime.{runtime_names}
 use Rattle.wa_types.specs.Typing.{GlobalType}
 use Rattle.wa_ops.specs.Operate.{are_of}
 use Rattle.wa_model.specs.declared.answers.Area.{Area}
+use Rattle.wa_model.specs.declared.answers.Said.{Said}
+use Rattle.wa_model.specs.declared.answers.Said.TheVariants as S
 use Rattle.wa_model.specs.declared.events.End.{End}
 use Rattle.wa_model.specs.declared.events.End.TheVariants.{NoAnswer, OtherImport, DeviceFault, NoDevice}
 use Rattle.wa_model.specs.Outside.{Poke, Answer}
@@ -78,9 +80,13 @@ abbrev pub ValueFits : Option Value → Type 0
 ValueFits None = Unit {0}
 ValueFits (Some v) = value_fits v
 
+-- so does what a call is told
+abbrev pub SaidFits : Said → Type 0
+SaidFits (S.Value v) = ValueFits v
+
 -- so do all numbers of an answer
 pub record AnswerFits (a : Answer) : Type 0 where
-  pub value : ValueFits a.value
+  pub said : SaidFits a.said
   pub pokes : All PokeFits a.pokes
   pub ticks : a.ticks < 2 ^ 32
 

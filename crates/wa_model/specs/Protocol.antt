@@ -12,6 +12,8 @@ use Rattle.wa_types.specs.Memory.{bytes_of, bytes_at, number_of_bytes, overwritt
 use Rattle.wa_types.specs.Modules.{func_imports, func_type_at, defined_at}
 use Rattle.wa_types.specs.Validity.{same_name}
 use Rattle.wa_model.specs.declared.answers.Area.{Area}
+use Rattle.wa_model.specs.declared.answers.Said.{Said}
+use Rattle.wa_model.specs.declared.answers.Said.TheVariants as S
 use Rattle.wa_model.specs.declared.events.End.{End}
 use Rattle.wa_model.specs.declared.events.End.TheVariants.{Trapped, UnwindTrap, RewindTrap, Broken}
 use Rattle.wa_model.specs.Outside.{Answer, answered, paused, returned, ended}
@@ -72,8 +74,7 @@ pub data Then : Type 0 where
   -- after stop_rewind the answer is given
   give_answer : (waits : Configuration) → Then
 
--- Where a run under the protocol stands: `free` to call the next entry, `starting` the start function, `busy` in a phase, `calling` an export, which
--- runs `aside` on a fresh stack, `entering` the entry again to rewind, or `over`.
+-- Where a run stands: `free` to call an entry, `starting`, `busy` in a phase, `calling` an export that runs `aside`, `entering` again, or `over`.
 pub data Held : Type 0 where
   free : (store : Store) → (left : Left) → Held
   starting : (func : ℕ) → (store : Store) → (left : Left) → Held
@@ -114,10 +115,10 @@ held_back k the_start results s l = goes k (done_notes s l.entries) (held_on s l
 held_back k (an_entry e) results s l =
     goes k (note (returned l.number (value_of_results results)) s ∷ done_notes s l.entries) (held_on s (next_entry l) l.entries)
 
--- an answer without a pause is given at once
-abbrev pub held_given : ℕ → Note → Answer → Store → Left → Asker → Turn Held Note
-held_given k x a s l (inside task c) = goes k (x ∷ note (answered a.value) s ∷ []) (busy (is_running task) (resumed c s (option_to_list a.value)) l)
-held_given k x a s l (outermost old) = goes k (x ∷ note (answered a.value) s ∷ done_notes s l.entries) (held_on s l l.entries)
+-- what is said without a pause is told, and given at once
+abbrev pub held_given : ℕ → Note → Said → Store → Left → Asker → Turn Held Note
+held_given k x (S.Value v) s l (inside task c) = goes k (x ∷ note (answered (S.Value v)) s ∷ []) (busy (is_running task) (resumed c s (option_to_list v)) l)
+held_given k x (S.Value v) s l (outermost old) = goes k (x ∷ note (answered (S.Value v)) s ∷ done_notes s l.entries) (held_on s l l.entries)
 
 -- a call is told, and then the end
 abbrev pub held_ends : ℕ → Note → End → Turn Held Note
@@ -132,7 +133,7 @@ held_pauses x plan k called import a l _ = stops
 -- by the first test that the answer fails, else by whether it pauses
 abbrev pub held_tested : Module → Exports → Plan → ℕ → (import : ℕ) → List Value → Asker → Left → Answer → Option End → Option ℕ → Turn Held Note
 held_tested p x plan k import args w l a (Some e) pause = held_ends k (call_note import args (store_at w) (stack_at p w) None) e
-held_tested p x plan k import args w l a None None = held_given k (call_note import args (store_at w) (stack_at p w) None) a (poked (store_at w) a.pokes) l w
+held_tested p x plan k import args w l a None None = held_given k (call_note import args (store_at w) (stack_at p w) None) a.said (poked (store_at w) a.pokes) l w
 held_tested p x plan k import args w l a None (Some ticks) = held_pauses x plan k (call_note import args (store_at w) (stack_at p w) (Some ticks)) import a l w
 
 -- a call of an import while the program runs
@@ -171,8 +172,12 @@ abbrev pub zeros_of : Module → ℕ → List Value
 zeros_of p import = map zero_of (func_type_at p import).results
 
 -- an answer behind a pause tells the store of that pause
-abbrev pub answer_note : Option Value → Store → Store → Note
-answer_note value s at_pause = record { event = answered value; store = s; stack = []; pause = None; since = Some at_pause }
+abbrev pub answer_note : Said → Store → Store → Note
+answer_note said s at_pause = record { event = answered said; store = s; stack = []; pause = None; since = Some at_pause }
+
+-- what is said behind a pause is told, and given to what waits for it
+abbrev pub held_resumed : ℕ → Entry → Said → (at_pause : Store) → Configuration → Left → Store → Turn Held Note
+held_resumed k e (S.Value v) sp c l s = goes k (answer_note (S.Value v) s sp ∷ []) (busy (is_running (an_entry e)) (resumed c s (option_to_list v)) l)
 
 -- an export that the host called has returned
 abbrev pub aside_back : Module → Exports → Plan → ℕ → Phase → Then → Left → List Value → Store → Turn Held Note
@@ -184,8 +189,7 @@ aside_back p x plan k (unwinds e i a) pause_there l results s =
 aside_back p x plan k (rewinds e i a sp) call_again l results s = goes k [] (entering (rewinds e i a sp) e s l)
 aside_back p x plan k (rewinds e i a sp) (test_rewound c) l results s =
     if is_state 2 results then goes k [] (calling (rewinds e i a sp) s x.stop_rewind [] (give_answer c) l) else broken k 4 s
-aside_back p x plan k (rewinds e i a sp) (give_answer c) l results s =
-    goes k (answer_note a.value (poked s a.pokes) sp ∷ []) (busy (is_running (an_entry e)) (resumed c (poked s a.pokes) (option_to_list a.value)) l)
+aside_back p x plan k (rewinds e i a sp) (give_answer c) l results s = held_resumed k e a.said sp c l (poked s a.pokes)
 aside_back p x plan k ph th l results s = stops
 
 -- by the reduction of an export that runs; it may call no import

@@ -12,7 +12,7 @@ use Rattle.wa_types.specs.Syntax.{Plain, basic, local_get, local_set, local_tee,
 use Rattle.wa_types.specs.Syntax.{branch, FuncType, Func, Module}
 use Rattle.wa_types.specs.Modules.{func_imports, all_memories, type_at, func_type_at, declared_locals, defined_at}
 use Rattle.wa_ops.specs.Operate.{value_of}
-use Rattle.wa_model.specs.Store.{Store, value_at, Did, works, fails, lacks, takes, act}
+use Rattle.wa_model.specs.Store.{Store, value_at, Did, works, fails, lacks, takes, extra_cost, act}
 use Rattle.wa_model.specs.Configuration.{Label, block_label, loop_label, Activation, Configuration, running, waiting}
 
 -- What comes next (4.4). A cost k stands for suc k.
@@ -53,11 +53,11 @@ finish m s fn under ls ops [] = leave 0 s ops (result_count m fn) under
 finish m s fn under ls ops (block_label h arity rest skipped ∷ labels) = steps 0 (running s fn under ls ops rest labels)
 finish m s fn under ls ops (loop_label h body rest ∷ labels) = steps 0 (running s fn under ls ops rest labels)
 
--- what an instruction did with its operands, as what comes next (4.4.1 to 4.4.4)
-abbrev pub did : ℕ → List Activation → (ls : List Value) → List Label → (rest : Code) → Store → (ops : List Value) → Did → Next
-did fn under ls labels rest s ops (works s' results) = steps 0 (running s' fn under ls (results ++ ops) rest labels)
-did fn under ls labels rest s ops (fails trap) = traps 0 trap s
-did fn under ls labels rest s ops lacks = stuck
+-- what an instruction did with its operands, as what comes next (4.4.1 to 4.4.4); a trap costs 1
+abbrev pub did : (k fn : ℕ) → List Activation → (ls : List Value) → List Label → (rest : Code) → Store → (ops : List Value) → Did → Next
+did k fn under ls labels rest s ops (works s' results) = steps k (running s' fn under ls (results ++ ops) rest labels)
+did k fn under ls labels rest s ops (fails trap) = traps 0 trap s
+did k fn under ls labels rest s ops lacks = stuck
 
 -- the topmost operand
 abbrev pub with_top : List Value → (Value → List Value → Next) → Next
@@ -133,7 +133,7 @@ memory_max m = first_max (all_memories m)
 
 -- By the instruction that stands next (variable instructions, 4.4.3; control instructions, 4.4.5).
 abbrev pub step_plain : Module → Store → ℕ → List Activation → (ls ops : List Value) → List Label → (rest : Code) → Plain → Next
-step_plain m s fn under ls ops labels rest (basic b) = did fn under ls labels rest s (drop (takes b) ops) (act (memory_max m) b s (take (takes b) ops))
+step_plain m s fn under ls ops labels rest (basic b) = did (extra_cost b (take (takes b) ops)) fn under ls labels rest s (drop (takes b) ops) (act (memory_max m) b s (take (takes b) ops))
 step_plain m s fn under ls ops labels rest (local_get x) = steps 0 (running s fn under ls (value_at ls x ∷ ops) rest labels)
 step_plain m s fn under ls ops labels rest (local_set x) = with_top ops (λ v below. steps 0 (running s fn under (slice_set ls x v) below rest labels))
 step_plain m s fn under ls ops labels rest (local_tee x) = with_top ops (λ v below. steps 0 (running s fn under (slice_set ls x v) (v ∷ below) rest labels))

@@ -1,6 +1,6 @@
 -- The store of a program, and what the instructions do that touch only it and their own operands (standard,
 -- sections 4.2.3 and 4.4.1 to 4.4.4).
-use Rattle.std.specs.Prelude.{ℕ, zero, suc, ◌+◌, ◌*◌, ◌^◌, List, [], ◌∷◌, length, Option, Some, None, Bool, true, false, Result, Ok, Err, if◌then◌else◌, slice_set}
+use Rattle.std.specs.Prelude.{ℕ, zero, suc, ◌+◌, ◌*◌, ◌^◌, List, [], ◌∷◌, length, Option, Some, None, Result, Ok, Err, if◌then◌else◌, slice_set}
 use Rattle.std.specs.List.{slice_index_or}
 use Rattle.wa_types.specs.declared.values.ValType.{ValType}
 use Rattle.wa_types.specs.declared.values.ValType.TheVariants.{I32, I64}
@@ -17,8 +17,7 @@ use Rattle.wa_ops.specs.Operate.{operate, value_of, number_of}
 use Rattle.wa_types.specs.Encoding.{same_type}
 use Rattle.wa_types.specs.Typing.{type_of}
 
--- The globals' values, the memory's bytes, and the table: the function's index for each initialised element (4.2.3, 4.2.7 to 4.2.9). Without a
--- memory or a table its list is empty.
+-- The globals' values, the memory's bytes, and each table element's function, if initialised (4.2.3, 4.2.7 to 4.2.9); empty without memory or table.
 pub record Store : Type 0 where
   pub globals : List Value
   pub memory : List ℕ
@@ -51,6 +50,11 @@ takes (load op align offset) = 1
 takes (store op align offset) = 2
 takes memory_size = 0
 takes memory_grow = 1
+
+-- how much more than 1 an instruction costs with its own operands, where it works: none of these does
+abbrev pub extra_cost : Basic → List Value → ℕ
+extra_cost nop ops = 0
+extra_cost _ _ = 0
 
 -- how many results it gives (4.4.1 to 4.4.4)
 abbrev pub gives : Basic → ℕ
@@ -131,19 +135,18 @@ act most memory_size s [] = works s (V.I32 (pages_of s.memory) ∷ [])
 act most memory_grow s (V.I32 n ∷ []) = grew s (grown (record { bytes = s.memory; max = most }) n)
 act most _ s _ = lacks
 
--- The bytes that a load or store touches (4.4.4.1, 4.4.4.2): the first, and how many.
-pub record Access : Type 0 where
-  pub stores : Bool
+-- Bytes that an instruction reaches: the first, and how many.
+pub record Range : Type 0 where
   pub at : ℕ
-  pub width : ℕ
+  pub len : ℕ
 
--- the access of a row at a place, where the row is there
-abbrev pub access_of : Bool → ℕ → Option AccessRow → Option Access
-access_of stores at None = None
-access_of stores at (Some row) = Some (record { stores = stores; at = at; width = width_of row })
+-- the range of an access at a place, where its row is there (4.4.4.1, 4.4.4.2)
+abbrev pub range_of : ℕ → Option AccessRow → List Range
+range_of place None = []
+range_of place (Some row) = (record { at = place; len = width_of row }) ∷ []
 
--- the access that an instruction makes with its operands
-abbrev pub accessed : Basic → List Value → Option Access
-accessed (load op align offset) (V.I32 a ∷ ops) = access_of false (a + offset) (load_row op)
-accessed (store op align offset) (v ∷ V.I32 a ∷ ops) = access_of true (a + offset) (store_row op)
-accessed _ _ = None
+-- the bytes that an instruction reaches with its operands, those that it writes first
+abbrev pub reached : Basic → List Value → List Range
+reached (load op align offset) (V.I32 a ∷ ops) = range_of (a + offset) (load_row op)
+reached (store op align offset) (v ∷ V.I32 a ∷ ops) = range_of (a + offset) (store_row op)
+reached _ _ = []

@@ -16,7 +16,7 @@ poke_of p = record { at = p.at; bytes = p.bytes.items }
 
 -- an answer
 abbrev pub answer_of : AnswerValue → Answer
-answer_of a = record { value = a.value; pokes = map poke_of a.pokes.items; ticks = a.ticks }
+answer_of a = record { said = a.said; pokes = map poke_of a.pokes.items; ticks = a.ticks }
 
 -- a call of an import
 abbrev pub call_of : CallValue → Call
@@ -29,7 +29,7 @@ answer_line_of l = record { import = l.import; answer = answer_of l.answer }
 -- an event
 abbrev pub event_of : EventValue → Event
 event_of (Called c) = called (call_of c)
-event_of (Answered v) = answered v
+event_of (Answered said) = answered said
 event_of (Paused ticks used) = paused ticks used
 event_of (Returned entry v) = returned entry v
 event_of (Ended e) = ended e

@@ -12,6 +12,7 @@ use Rattle.wa_types.specs.Validity.{same_name}
 use Rattle.wa_types.specs.Bounds.{Bound}
 use Rattle.wa_types.specs.Pausing.{Settings, joined_name}
 use Rattle.wa_model.specs.declared.answers.Detach.{Detach}
+use Rattle.wa_model.specs.declared.answers.Said.TheVariants as S
 use Rattle.wa_model.specs.declared.events.End.TheVariants.{NoAnswer, OtherImport, DeviceFault, NoDevice, StepsSpent}
 use Rattle.wa_model.specs.Outside.{Call, AnswerLine, Event, called, paused, ended, shown, Line}
 use Rattle.wa_model.specs.Store.{Store}
@@ -111,7 +112,7 @@ pub record Actor : Type 0 where
 abbrev pub MeetsDevice : (import : ℕ) → (base name : List ℕ) → List Value → List Device → Outcome → List Device → Type 0
 MeetsDevice import base name args ds o ds' =
     MatchBool (list_any (is_named name) ds)
-    (((r : Reply) × ValueFits r.value × (r.ticks < 2 ^ 32) × (o ≡ given (record { value = r.value; pokes = []; ticks = r.ticks }))
+    (((r : Reply) × ValueFits r.value × (r.ticks < 2 ^ 32) × (o ≡ given (record { said = S.Value r.value; pokes = []; ticks = r.ticks }))
     × (ds' ≡ journaled name (record { base = base; args = args; reply = r }) ds))
     ⊎ ((o ≡ refused (DeviceFault import)) × (ds' ≡ ds)))
     ((o ≡ refused (NoDevice import)) × (ds' ≡ ds))

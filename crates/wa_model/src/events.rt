@@ -1,5 +1,6 @@
 //! What programs do that can be seen from outside: events, the ends of programs, and the lines of a world.
 
+use crate::answers::Said;
 use wa_types::{Name, Trap, Value};
 
 /// A call of a function import: the import's index among the functions, and its arguments in order.
@@ -14,8 +15,8 @@ pub struct Call {
 pub enum Event {
     /// It called an import.
     Called(Call),
-    /// The import's call was answered with this value, where the import has a result.
-    Answered(Option<Value>),
+    /// The import's call was told this.
+    Answered(Said),
     /// It paused for so many ticks, with so many bytes of its area used.
     Paused { ticks: u32, used: u32 },
     /// The entry of this number, from 0, returned.

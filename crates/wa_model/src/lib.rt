@@ -18,6 +18,6 @@ mod answers;
 mod events;
 mod flat;
 
-pub use answers::{Answer, AnswerLine, Area, Detach, Poke};
+pub use answers::{Answer, AnswerLine, Area, Detach, Poke, Said};
 pub use events::{Call, End, Event, Line};
 pub use flat::{FlatFunc, FlatModule, Operand, Stmt};

@@ -24,7 +24,7 @@ pub data Goal : Type 0 where
   count : EntryKind → Goal  -- a number of entries, and the entries
   number name value_type block_type mutable import_kind space limits : Goal
   signed : (bits : ℕ) → Goal  -- a signed number
-  sized float_bytes : (n : ℕ) → Goal  -- the bytes of a name, or of a float
+  name_bytes float_bytes : (n : ℕ) → Goal  -- the bytes of a name, or of a float
   code : (first_arm : Bool) → Goal  -- instructions up to their end
 
 -- an item: an unsigned or a signed number, the bytes of a name or of a float, or any other single byte
@@ -60,7 +60,7 @@ wants (count k) = an_unsigned
 wants number = an_unsigned
 wants name = an_unsigned
 wants (signed bits) = a_signed bits
-wants (sized n) = a_name n
+wants (name_bytes n) = a_name n
 wants (float_bytes n) = a_constant_of n
 wants _ = a_byte
 
@@ -92,7 +92,7 @@ some_of k n = if n == 0 then [] else entries k n ∷ []
 
 -- so many bytes of a name
 abbrev pub name_of : ℕ → List Goal
-name_of n = if n == 0 then [] else sized n ∷ []
+name_of n = if n == 0 then [] else name_bytes n ∷ []
 
 -- behind the byte that says whether limits have a maximum (5.3.4)
 abbrev pub behind_flag : ℕ → Option (List Goal)
@@ -201,7 +201,7 @@ next import_kind v at = behind_kind v
 next space v at = where_true (nat_le v 0x03) []
 next limits v at = behind_flag v
 next (signed bits) v at = Some []
-next (sized n) v at = Some []
+next (name_bytes n) v at = Some []
 next (float_bytes n) v at = Some []
 next (code first_arm) v at = behind_opcode first_arm v
 

@@ -5,6 +5,7 @@ use Rattle.std.specs.List.{list_any}
 use Rattle.std.proofs.lemmas.Bool.{eq-eqb, eqb-true, eqb-false, le-leb, le-ltb, lt-ltb, ltb-false, ltb-true, leb-false, leb-true, ne_eqb}
 use Rattle.wa_types.specs.Validity.{same_name}
 use Rattle.wa_model.specs.declared.answers.Detach.{Detach}
+use Rattle.wa_model.specs.declared.answers.Said.TheVariants as S
 use Rattle.wa_model.specs.declared.events.End.TheVariants.{DeviceFault, NoDevice}
 use Rattle.wa_model.specs.Outside.{AnswerLine, Call, Event, called, answered, paused, returned, ended, shown, Line}
 use Rattle.wa_model.specs.Plan.{Outcome, ValueFits, given, refused}
@@ -356,7 +357,7 @@ module _ (programs : List Program) (detaches : List Detach) (old : List Device) 
 
     abbrev Given : List ℕ → Outcome → List Device → Type 0
     Given name o ds' =
-        (r : Reply) × ValueFits r.value × (r.ticks < 2 ^ 32) × (o ≡ given (record { value = r.value; pokes = []; ticks = r.ticks }))
+        (r : Reply) × ValueFits r.value × (r.ticks < 2 ^ 32) × (o ≡ given (record { said = S.Value r.value; pokes = []; ticks = r.ticks }))
         × (ds' ≡ journaled name (record { base = name_at (base_names w.source) c.import; args = c.args; reply = r }) ds)
 
     there : (name : List ℕ) (b : Bool) → MatchBool b (Given name o ds' ⊎ ((o ≡ refused (DeviceFault c.import)) × (ds' ≡ ds))) ((o ≡ refused (NoDevice c.import)) × (ds' ≡ ds))

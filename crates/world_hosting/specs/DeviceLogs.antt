@@ -3,9 +3,11 @@ use Rattle.std.specs.Prelude.{◌≡◌, ◌+◌, ◌++◌, ◌&&◌, if◌then�
 use Rattle.wa_types.specs.declared.values.Value.{Value}
 use Rattle.wa_types.specs.Validity.{same_name}
 use Rattle.wa_model.specs.declared.answers.Detach.{Detach}
+use Rattle.wa_model.specs.declared.answers.Said.{Said}
+use Rattle.wa_model.specs.declared.answers.Said.TheVariants as S
 use Rattle.wa_model.specs.Outside.{Call, Line}
 use Rattle.wa_model.specs.Plan.{Outcome, given}
-use Rattle.wa_model.specs.World.{Asked, Device, Program, base_names, call_in, is_named, name_at}
+use Rattle.wa_model.specs.World.{Asked, Device, Program, Reply, base_names, call_in, is_named, name_at}
 use Rattle.event_order.specs.Left.{Counted}
 use Rattle.host_laws.specs.Supplies.{bound_to}
 use Rattle.many_host.specs.Calls.{devices_of}
@@ -20,10 +22,14 @@ pub record Logged : Type 0 where
   pub device : List ℕ
   pub asked : Asked
 
+-- the reply that a device's answer is
+abbrev pub reply_of : Said → (ticks : ℕ) → Reply
+reply_of (S.Value v) ticks = record { value = v; ticks = ticks }
+
 -- a call of an import that is bound to this device, where it was answered
 abbrev pub logged_to : Option (List ℕ) → (event : ℕ) → (base : List ℕ) → List Value → Outcome → List Logged
 logged_to (Some device) event base args (given a) =
-    record { event = event; device = device; asked = record { base = base; args = args; reply = record { value = a.value; ticks = a.ticks } } } ∷ []
+    record { event = event; device = device; asked = record { base = base; args = args; reply = reply_of a.said a.ticks } } ∷ []
 logged_to _ event base args o = []
 
 -- the same of a program's call, which met this outcome

@@ -1,27 +1,29 @@
 -- A run under the protocol tells a device's failure nowhere but behind a call that was refused so.
-use Rattle.std.proofs.Common.{arith, ◌≡◌, ◌+◌, ◌-◌, ℕ, zero, suc, ◌*◌, List, [], ◌∷◌, ◌++◌, length, map, replicate, Option, Some, None, Bool, true, false, refl, sym, ap, ◌∙◌, subst, append_assoc, append-nil}
+use Rattle.std.proofs.Common.{arith, ◌≡◌, ◌+◌, ◌-◌, ℕ, zero, suc, List, [], ◌∷◌, ◌++◌, length, Option, Some, None, Bool, true, false, refl, sym, ap, ◌∙◌, subst, append_assoc, append-nil}
 use Rattle.std.specs.Prelude.{nat_lt, nat_eq, if◌then◌else◌}
 use Rattle.wa_types.specs.declared.values.ValType.{ValType}
 use Rattle.wa_types.specs.declared.values.Value.{Value}
 use Rattle.wa_types.specs.declared.values.Trap.{Trap}
 use Rattle.wa_types.specs.Syntax.{Func, Module}
-use Rattle.wa_types.specs.Memory.{page_size}
-use Rattle.wa_types.specs.Modules.{all_memories, all_tables, func_imports, func_type_at, defined_at}
+use Rattle.wa_types.specs.Modules.{func_imports, func_type_at, defined_at}
 use Rattle.wa_model.specs.declared.answers.Area.{Area}
+use Rattle.wa_model.specs.declared.answers.Said.{Said}
+use Rattle.wa_model.specs.declared.answers.Said.TheVariants as S
 use Rattle.wa_model.specs.declared.events.End.{End}
-use Rattle.wa_model.specs.declared.events.End.TheVariants.{BadAnswer, BadPoke}
-use Rattle.wa_model.specs.Outside.{Call, Poke, Answer, Event, called, answered, paused, returned, ended, shown}
+use Rattle.wa_model.specs.Outside.{Call, Answer, Event, called, answered, paused, returned, ended, shown}
 use Rattle.wa_model.specs.Machine.{Turn, stops, goes, Ran, after, still, pay, run_with, run}
 use Rattle.wa_model.specs.Store.{Store}
+use Rattle.wa_model.specs.Configuration.{Configuration}
 use Rattle.wa_model.specs.Step.{Next, steps, asks, returns, traps, stuck, step}
 use Rattle.wa_model.specs.Plan.{Entry, Plan, Outcome, given, refused}
-use Rattle.wa_model.specs.Instantiation.{Piece, elem_piece, byte_piece, first_out, all_values, least_of, bytes_checked, elems_checked, opened_by, Opening, fails_as, opens, opening}
-use Rattle.wa_model.specs.Blocking.{Note, note, call_note, value_of_results, answers, poke_fits, bad_poke, is_unlisted, bad_pause, or_else, fault_of, pause_of, poked, done_notes, Task, the_start, an_entry, Left, with_outcomes, Asker, inside, outermost, store_at, stack_at, in_start, next_entry, all_left}
-use Rattle.wa_model.specs.Protocol.{Exports, exports_of, Phase, is_running, unwinds, rewinds, Then, give_zero, test_unwound, pause_there, call_again, test_rewound, give_answer, Held, free, starting, busy, calling, aside, entering, over, trap_end, broken, held_on, held_back, held_given, held_pauses, held_tested, held_asked, busy_step, is_state, aside_back, aside_step, busy_enters, held_next, aside_called, held_start, protocol, held_begun}
+use Rattle.wa_model.specs.Instantiation.{Opening, fails_as, opens, opening}
+use Rattle.wa_model.specs.Blocking.{Note, note, call_note, value_of_results, fault_of, pause_of, poked, done_notes, Task, the_start, an_entry, Left, with_outcomes, Asker, inside, outermost, store_at, stack_at, in_start, next_entry, all_left}
+use Rattle.wa_model.specs.Protocol.{Exports, exports_of, Phase, is_running, unwinds, rewinds, Then, give_zero, test_unwound, pause_there, call_again, test_rewound, give_answer, Held, free, starting, busy, calling, aside, entering, over, trap_end, broken, held_on, held_back, held_given, held_pauses, held_resumed, held_tested, held_asked, busy_step, is_state, aside_back, aside_step, busy_enters, held_next, aside_called, held_start, protocol, held_begun}
 use Rattle.wa_model.specs.World.{Program, call_in, unless_over, protocol_story}
 use Rattle.world_laws.specs.Originals.{one_if, new_calls}
 use Rattle.world_laws.proofs.Counting.{over_still}
 use Rattle.world_laws.specs.Replays.{is_device_fault, is_fault}
+use Rattle.run_theory.proofs.TestedEnds.{EndIs, fault_is, OpeningIs, opening_is}
 
 -- ---- notes
 
@@ -121,63 +123,18 @@ opens_behind pre os (y ∷ done) x xs c a e is h = by_call (λ vs f g. opens_beh
 -- ---- tests of answers fail otherwise
 
 abbrev NotFault : Option End → Type 0
-NotFault None = Unit {0}
-NotFault (Some e) = is_device_fault e ≡ false
-
-pokes_not : (size : ℕ) (area : Area) (ps : List Poke) → NotFault (bad_poke size area ps)
-pokes_not size area [] = tt
-pokes_not size area (p ∷ ps) = by_fit (poke_fits size area p) (pokes_not size area ps)
-  where
-    by_fit : (b : Bool) → NotFault (bad_poke size area ps) → NotFault (if b then bad_poke size area ps else Some (BadPoke p.at (length p.bytes)))
-    by_fit true h = h
-    by_fit false h = refl
-
-pause_not : (start unlisted : Bool) (import ticks : ℕ) → NotFault (bad_pause start unlisted import ticks)
-pause_not start unlisted import zero = tt
-pause_not true unlisted import (suc ticks) = refl
-pause_not false true import (suc ticks) = refl
-pause_not false false import (suc ticks) = tt
-
-else_not : (a b : Option End) → NotFault a → NotFault b → NotFault (or_else a b)
-else_not None b x y = y
-else_not (Some e) b x y = x
+NotFault = EndIs (λ e. is_device_fault e ≡ false)
 
 fault_not : (results : List ValType) (size : ℕ) (plan : Plan) (start : Bool) (import : ℕ) (a : Answer) → NotFault (fault_of results size plan start import a)
 fault_not results size plan start import a =
-    else_not (if answers results a.value then None else Some (BadAnswer import a.value)) (or_else (bad_poke size plan.area a.pokes) (bad_pause start (is_unlisted plan.listed import) import a.ticks))
-    (by_value (answers results a.value))
-    (else_not (bad_poke size plan.area a.pokes) (bad_pause start (is_unlisted plan.listed import) import a.ticks) (pokes_not size plan.area a.pokes)
-    (pause_not start (is_unlisted plan.listed import) import a.ticks))
-  where
-    by_value : (b : Bool) → NotFault (if b then None else Some (BadAnswer import a.value))
-    by_value true = tt
-    by_value false = refl
+    fault_is (λ e. is_device_fault e ≡ false) (record { value = λ i v. refl; poke = λ at len. refl; start = λ i. refl }) results size plan start import a (λ h. refl)
 
 -- instantiation fails otherwise too
 abbrev NotFailed : Opening → Type 0
-NotFailed (fails_as e) = is_device_fault e ≡ false
-NotFailed (opens s) = Unit {0}
-
-bytes_not : (globals : List Value) (memory : List ℕ) (table : List (Option ℕ)) (elems : List (Piece (Option ℕ))) (bytes : List (Piece ℕ)) (o : Option ℕ)
-    → NotFailed (bytes_checked globals memory table elems bytes o)
-bytes_not globals memory table elems bytes None = tt
-bytes_not globals memory table elems bytes (Some i) = refl
-
-elems_not : (globals : List Value) (memory : List ℕ) (table : List (Option ℕ)) (elems : List (Piece (Option ℕ))) (bytes : List (Piece ℕ)) (o : Option ℕ)
-    → NotFailed (elems_checked globals memory table elems bytes o)
-elems_not globals memory table elems bytes None = bytes_not globals memory table elems bytes (first_out (length memory) 0 bytes)
-elems_not globals memory table elems bytes (Some i) = refl
-
-opened_not : (m : Module) (globals : List Value) (pages entries : ℕ) (a b : Bool) → NotFailed (opened_by m globals pages entries a b)
-opened_not m globals pages entries true b = refl
-opened_not m globals pages entries false true = refl
-opened_not m globals pages entries false false =
-    elems_not globals (replicate (pages * page_size) 0) (replicate entries None) (map (elem_piece globals) m.elems) (map (byte_piece globals) m.segments)
-    (first_out (length (replicate entries None)) 0 (map (elem_piece globals) m.elems))
+NotFailed = OpeningIs (λ e. is_device_fault e ≡ false)
 
 opening_not : (m : Module) (imports : List Value) → NotFailed (opening m imports)
-opening_not m imports =
-    opened_not m (all_values imports m) (least_of (all_memories m)) (least_of (all_tables m)) (nat_lt 1024 (least_of (all_memories m))) (nat_lt 100000 (least_of (all_tables m)))
+opening_not = opening_is (λ e. is_device_fault e ≡ false) (record { limit = λ entries found. refl; elements = λ i. refl; bytes = λ i. refl })
 
 -- ---- the machine
 
@@ -223,12 +180,12 @@ module _ (p : Module) (x : Exports) (plan : Plan) where
       by_entries [] = (refl, (refl, (tt, tt)))
       by_entries (e ∷ es) = ((refl, (tt, tt)), ([], refl, refl))
 
-  given_fine : (k import : ℕ) (args : List Value) (who : Asker) (l : Left) (a : Answer) (s : Store) (pause : Option ℕ)
-      → TurnFine (given a ∷ l.outcomes) (held_given k (call_note import args (store_at who) (stack_at p who) pause) a s l who)
-  given_fine k import args (inside task c) l a s pause = ((refl, (refl, (tt, tt))), (given a ∷ [], refl, refl))
-  given_fine k import args (outermost old) l a s pause = by_entries l.entries
+  given_fine : (k import : ℕ) (args : List Value) (who : Asker) (l : Left) (a : Answer) (said : Said) (s : Store) (pause : Option ℕ)
+      → TurnFine (given a ∷ l.outcomes) (held_given k (call_note import args (store_at who) (stack_at p who) pause) said s l who)
+  given_fine k import args (inside task c) l a (S.Value v) s pause = ((refl, (refl, (tt, tt))), (given a ∷ [], refl, refl))
+  given_fine k import args (outermost old) l a (S.Value v) s pause = by_entries l.entries
     where
-      by_entries : (es : List Entry) → LeadsTo (given a ∷ l.outcomes) (call_note import args old [] pause ∷ note (answered a.value) s ∷ done_notes s es) (held_on s l es)
+      by_entries : (es : List Entry) → LeadsTo (given a ∷ l.outcomes) (call_note import args old [] pause ∷ note (answered (S.Value v)) s ∷ done_notes s es) (held_on s l es)
       by_entries [] = (refl, (refl, (refl, (tt, tt))))
       by_entries (e ∷ es) = ((refl, (refl, (tt, tt))), (given a ∷ [], refl, refl))
 
@@ -241,7 +198,7 @@ module _ (p : Module) (x : Exports) (plan : Plan) where
   tested_fine : (k import : ℕ) (args : List Value) (who : Asker) (l : Left) (a : Answer) (o : Option End) (pause : Option ℕ) → NotFault o
       → TurnFine (given a ∷ l.outcomes) (held_tested p x plan k import args who l a o pause)
   tested_fine k import args who l a (Some e) pause h = (refl, (h, (tt, tt)))
-  tested_fine k import args who l a None None h = given_fine k import args who l a (poked (store_at who) a.pokes) None
+  tested_fine k import args who l a None None h = given_fine k import args who l a a.said (poked (store_at who) a.pokes) None
   tested_fine k import args who l a None (Some ticks) h = pauses_fine k import args who l a (Some ticks)
 
   asked_fine : (k import : ℕ) (args : List Value) (who : Asker) (l : Left) (os : List Outcome) → TurnFine os (held_asked p x plan k import args who l os)
@@ -277,6 +234,9 @@ module _ (p : Module) (x : Exports) (plan : Plan) where
   busy_fine (unwinds e i a) l stuck = tt
   busy_fine (rewinds e i a sp) l stuck = tt
 
+  resumed_fine : (k : ℕ) (e : Entry) (said : Said) (sp : Store) (c : Configuration) (l : Left) (s : Store) → TurnFine l.outcomes (held_resumed k e said sp c l s)
+  resumed_fine k e (S.Value v) sp c l s = ((refl, (tt, tt)), ([], refl, refl))
+
   back_aside_fine : (k : ℕ) (ph : Phase) (th : Then) (l : Left) (results : List Value) (s : Store) → TurnFine l.outcomes (aside_back p x plan k ph th l results s)
   back_aside_fine k (unwinds e i a) (give_zero c) l results s = quiet l.outcomes
   back_aside_fine k (unwinds e i a) test_unwound l results s = by_state (is_state 1 results)
@@ -291,7 +251,7 @@ module _ (p : Module) (x : Exports) (plan : Plan) where
       by_state : (b : Bool) → TurnFine l.outcomes (if b then goes k [] (calling (rewinds e i a sp) s x.stop_rewind [] (give_answer c) l) else broken k 4 s)
       by_state true = quiet l.outcomes
       by_state false = (refl, (tt, tt))
-  back_aside_fine k (rewinds e i a sp) (give_answer c) l results s = ((refl, (tt, tt)), ([], refl, refl))
+  back_aside_fine k (rewinds e i a sp) (give_answer c) l results s = resumed_fine k e a.said sp c l (poked s a.pokes)
   back_aside_fine k (is_running task) th l results s = tt
   back_aside_fine k (unwinds e i a) call_again l results s = tt
   back_aside_fine k (unwinds e i a) (test_rewound c) l results s = tt

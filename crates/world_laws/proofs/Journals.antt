@@ -7,6 +7,7 @@ use Rattle.std.proofs.lemmas.List.Elements.{All-head, All-tail}
 use Rattle.wa_types.specs.declared.values.Value.{Value}
 use Rattle.wa_types.specs.Validity.{same_name}
 use Rattle.wa_model.specs.declared.answers.Detach.{Detach}
+use Rattle.wa_model.specs.declared.answers.Said.TheVariants as S
 use Rattle.wa_model.specs.declared.events.End.TheVariants.{DeviceFault, NoDevice}
 use Rattle.wa_model.specs.Outside.{Call, AnswerLine, Line}
 use Rattle.wa_model.specs.Plan.{Outcome, given, refused, ValueFits}
@@ -128,7 +129,7 @@ journaled_is name call (d ∷ ds) h = by_name (is_named name d) refl h (λ g. jo
 -- a device of this name replies, and keeps the call
 abbrev pub Replied : (base name : List ℕ) → List Value → List Device → Outcome → List Device → Type 0
 Replied base name args ds o ds' =
-    (r : Reply) × ValueFits r.value × (r.ticks < 2 ^ 32) × (o ≡ given (record { value = r.value; pokes = []; ticks = r.ticks }))
+    (r : Reply) × ValueFits r.value × (r.ticks < 2 ^ 32) × (o ≡ given (record { said = S.Value r.value; pokes = []; ticks = r.ticks }))
     × (ds' ≡ journaled name (record { base = base; args = args; reply = r }) ds)
 
 meets_grow : (w : Program) (name : List ℕ) (import : ℕ) (args : List Value) (lines : List AnswerLine) (ds : List Device) (o : Outcome) (lines' : List AnswerLine) (ds' : List Device)

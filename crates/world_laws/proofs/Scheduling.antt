@@ -4,6 +4,7 @@ use Rattle.std.specs.Prelude.{MatchBool, slice_get, slice_set}
 use Rattle.std.specs.List.{AllZip, list_any}
 use Rattle.wa_types.specs.declared.values.Value.{Value}
 use Rattle.wa_model.specs.declared.answers.Detach.{Detach}
+use Rattle.wa_model.specs.declared.answers.Said.TheVariants as S
 use Rattle.wa_model.specs.declared.events.End.{End}
 use Rattle.wa_model.specs.declared.events.End.TheVariants.{DeviceFault, NoDevice}
 use Rattle.wa_model.specs.Outside.{Call, AnswerLine, Line, called}
@@ -180,7 +181,7 @@ next_acts ss acts i s a h there r n = record { there = there; unfinished = (has_
 
 abbrev Replied : (base name : List ℕ) → List Value → List Device → Outcome → List Device → Type 0
 Replied base name args ds o ds' =
-    (r : Reply) × ValueFits r.value × (r.ticks < 2 ^ 32) × (o ≡ given (record { value = r.value; pokes = []; ticks = r.ticks })) ×
+    (r : Reply) × ValueFits r.value × (r.ticks < 2 ^ 32) × (o ≡ given (record { said = S.Value r.value; pokes = []; ticks = r.ticks })) ×
     (ds' ≡ journaled name (record { base = base; args = args; reply = r }) ds)
 
 -- a device may fail where it is there, and is absent else

@@ -26,7 +26,7 @@ returns-in-Const c =
     record {
       tells =
           IfOk-weaker c.constant.result _ _ (λ f told. basic_arm m s s k c.constant.new.operands c.args.instr.now (Const c.in-Const.value) (const c.in-Const.value) f c.args.left c.in-Const.is
-          (front_const c.in-Const.value rest) c.requires.paid (λ _. refl) (told (memory_max m) s)) c.constant.ensures.shows;
+          (front_const c.in-Const.value rest) refl c.requires.paid (λ _. refl) (told (memory_max m) s)) c.constant.ensures.shows;
       max = refl;
       holds = ok_any c.constant.result _ (operands_hold (module_of c.args.program.now) c.args.stack.now c.constant.new.operands c.constant.ensures.holds);
       lacks =
@@ -44,7 +44,7 @@ returns-in-Num c =
     record {
       tells =
           IfOk-weaker c.numeric.result _ _ (λ f told. basic_arm m s s k c.numeric.new.operands c.args.instr.now (Num c.in-Num.op) (num c.in-Num.op) f c.args.left c.in-Num.is
-          (front_num c.in-Num.op rest) c.requires.paid (λ _. refl) (told (memory_max m) s)) c.numeric.ensures.shows;
+          (front_num c.in-Num.op rest) refl c.requires.paid (λ _. refl) (told (memory_max m) s)) c.numeric.ensures.shows;
       max = refl;
       holds = ok_any c.numeric.result _ (operands_hold (module_of c.args.program.now) c.args.stack.now c.numeric.new.operands c.numeric.ensures.holds);
       lacks = never_err c.numeric.result _ c.numeric.ensures.succeeds;
@@ -59,7 +59,7 @@ returns-in-Select c =
     let rest = code k.here.code.now in
     record {
       tells =
-          IfOk-weaker c.choose.result _ _ (λ f told. basic_arm m s s k c.choose.new.operands c.args.instr.now Select select f c.args.left c.in-Select.is (front_select rest) c.requires.paid
+          IfOk-weaker c.choose.result _ _ (λ f told. basic_arm m s s k c.choose.new.operands c.args.instr.now Select select f c.args.left c.in-Select.is (front_select rest) refl c.requires.paid
           (λ _. refl) (told (memory_max m) s)) c.choose.ensures.shows;
       max = refl;
       holds = ok_any c.choose.result _ (operands_hold (module_of c.args.program.now) c.args.stack.now c.choose.new.operands c.choose.ensures.holds);
@@ -76,7 +76,7 @@ returns-in-Load c =
     record {
       tells =
           IfOk-weaker c.load_at.result _ _ (λ f told. basic_arm m s s k c.load_at.new.operands c.args.instr.now (Load c.in-Load.op c.in-Load.align c.in-Load.offset)
-          (load c.in-Load.op c.in-Load.align c.in-Load.offset) f c.args.left c.in-Load.is (front_load c.in-Load.op c.in-Load.align c.in-Load.offset rest) c.requires.paid (λ _. refl)
+          (load c.in-Load.op c.in-Load.align c.in-Load.offset) f c.args.left c.in-Load.is (front_load c.in-Load.op c.in-Load.align c.in-Load.offset rest) refl c.requires.paid (λ _. refl)
           (told (memory_max m) c.in-Load.align)) c.load_at.ensures.shows;
       max = refl;
       holds = ok_any c.load_at.result _ (operands_hold (module_of c.args.program.now) c.args.stack.now c.load_at.new.operands c.load_at.ensures.holds);
@@ -93,7 +93,7 @@ returns-in-MemorySize c =
     record {
       tells =
           IfOk-weaker c.memory_size.result _ _ (λ f told. basic_arm m s s k c.memory_size.new.operands c.args.instr.now MemorySize memory_size f c.args.left c.in-MemorySize.is
-          (front_size rest) c.requires.paid (λ _. refl) (told (memory_max m))) c.memory_size.ensures.shows;
+          (front_size rest) refl c.requires.paid (λ _. refl) (told (memory_max m))) c.memory_size.ensures.shows;
       max = refl;
       holds = ok_any c.memory_size.result _ (operands_hold (module_of c.args.program.now) c.args.stack.now c.memory_size.new.operands c.memory_size.ensures.holds);
       lacks =
@@ -111,7 +111,7 @@ returns-in-GlobalGet c =
     record {
       tells =
           IfOk-weaker c.get_global.result _ _ (λ f told. basic_arm m s s k c.get_global.new.operands c.args.instr.now (GlobalGet c.in-GlobalGet.x)
-          (global_get c.in-GlobalGet.x) f c.args.left c.in-GlobalGet.is (front_global_get c.in-GlobalGet.x rest) c.requires.paid (λ _. refl) (told (memory_max m))) c.get_global.ensures.shows;
+          (global_get c.in-GlobalGet.x) f c.args.left c.in-GlobalGet.is (front_global_get c.in-GlobalGet.x rest) refl c.requires.paid (λ _. refl) (told (memory_max m))) c.get_global.ensures.shows;
       max = refl;
       holds = ok_any c.get_global.result _ (operands_hold (module_of c.args.program.now) c.args.stack.now c.get_global.new.operands c.get_global.ensures.holds);
       lacks =
@@ -129,7 +129,7 @@ returns-in-Drop c =
     let rest = code k.here.code.now in
     record {
       tells =
-          basic_arm m s s k c.drop_top.new.operands c.args.instr.now Drop drop_operand c.drop_top.result c.args.left c.in-Drop.is (front_drop rest) c.requires.paid (λ _. refl)
+          basic_arm m s s k c.drop_top.new.operands c.args.instr.now Drop drop_operand c.drop_top.result c.args.left c.in-Drop.is (front_drop rest) refl c.requires.paid (λ _. refl)
           (c.drop_top.ensures.shows (memory_max m) s);
       max = refl;
       holds = operands_hold (module_of c.args.program.now) c.args.stack.now c.drop_top.new.operands c.drop_top.ensures.holds;
@@ -144,7 +144,7 @@ returns-in-Nop c =
     let k = c.args.stack.now in
     let rest = code k.here.code.now in
     record {
-      tells = basic_arm m s s k k.here.operands c.args.instr.now Nop nop (Moved 0) c.args.left c.in-Nop.is (front_nop rest) c.requires.paid (λ _. refl) (refl, refl);
+      tells = basic_arm m s s k k.here.operands c.args.instr.now Nop nop (Moved 0) c.args.left c.in-Nop.is (front_nop rest) refl c.requires.paid (λ _. refl) (refl, refl);
       max = refl;
       holds = λ h. h;
       lacks = tt;
@@ -175,7 +175,7 @@ returns-in-Store c =
       tells =
           basic_arm m s (store_of c.store_at.new.store) k c.store_at.new.operands c.args.instr.now (Store c.in-Store.op c.in-Store.align c.in-Store.offset)
           (store c.in-Store.op c.in-Store.align c.in-Store.offset) c.store_at.result c.args.left c.in-Store.is
-          (front_store c.in-Store.op c.in-Store.align c.in-Store.offset rest) c.requires.paid c.store_at.ensures.kept (c.store_at.ensures.shows (memory_max m) c.in-Store.align);
+          (front_store c.in-Store.op c.in-Store.align c.in-Store.offset rest) refl c.requires.paid c.store_at.ensures.kept (c.store_at.ensures.shows (memory_max m) c.in-Store.align);
       max = c.store_at.ensures.max;
       holds = operands_hold (module_of c.args.program.now) c.args.stack.now c.store_at.new.operands c.store_at.ensures.holds;
       lacks = tt;
@@ -191,7 +191,7 @@ returns-in-GlobalSet c =
     record {
       tells =
           basic_arm m s (store_of c.set_global.new.store) k c.set_global.new.operands c.args.instr.now (GlobalSet c.in-GlobalSet.x)
-          (global_set c.in-GlobalSet.x) c.set_global.result c.args.left c.in-GlobalSet.is (front_global_set c.in-GlobalSet.x rest) c.requires.paid c.set_global.ensures.kept
+          (global_set c.in-GlobalSet.x) c.set_global.result c.args.left c.in-GlobalSet.is (front_global_set c.in-GlobalSet.x rest) refl c.requires.paid c.set_global.ensures.kept
           (c.set_global.ensures.shows (memory_max m));
       max = c.set_global.ensures.max;
       holds = operands_hold (module_of c.args.program.now) c.args.stack.now c.set_global.new.operands c.set_global.ensures.holds;
@@ -208,7 +208,7 @@ returns-in-MemoryGrow c =
     record {
       tells =
           IfOk-weaker c.memory_grow.result _ _ (λ f told. basic_arm m s (store_of c.memory_grow.new.store) k c.memory_grow.new.operands c.args.instr.now MemoryGrow memory_grow f c.args.left
-          c.in-MemoryGrow.is (front_grow rest) c.requires.paid told.1 (subst (λ most. Shows (effect most memory_grow s (reverse k.here.operands.items)) f (store_of c.memory_grow.new.store)
+          c.in-MemoryGrow.is (front_grow rest) refl c.requires.paid told.1 (subst (λ most. Shows (effect most memory_grow s (reverse k.here.operands.items)) f (store_of c.memory_grow.new.store)
           (reverse c.memory_grow.new.operands.items)) c.requires.most told.0)) (if_ok_both c.memory_grow.result _ _ c.memory_grow.ensures.shows c.memory_grow.ensures.kept);
       max = c.memory_grow.ensures.max;
       holds = ok_any c.memory_grow.result _ (operands_hold (module_of c.args.program.now) c.args.stack.now c.memory_grow.new.operands c.memory_grow.ensures.holds);

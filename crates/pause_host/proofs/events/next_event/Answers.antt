@@ -4,7 +4,9 @@ use Rattle.interp.specs.Host.{code_in, store_in, waits_in}
 use Rattle.pause_host.specs.Views.{end_of, left_of, supply_in, place_in}
 use Rattle.pause_host.specs.Moves.{ComesFrom, PlaceFits}
 use Rattle.pause_host.specs.declared.stages.Stage.TheVariants as S
-use Rattle.pause_host.proofs.Hosting.{hosts_stage, pausing_waits}
+use Rattle.pause_host.specs.Views.{rewinding}
+use Rattle.pause_host.proofs.Callings.{told_inside}
+use Rattle.pause_host.proofs.Hosting.{hosts_stage, memory_there, pausing_waits}
 use Rattle.pause_host.proofs.Results.{ending_ok}
 use Rattle.pause_host.specs.declared.stages.Stage.{Stage}
 use Rattle.pause_host.proofs.events.next_event.Goals as goal
@@ -32,11 +34,11 @@ returns-in-Answering-clause-comes g c = λ w is code pokes f more.
     let left = c.args.steps.now.left in
     let from = λ (z : Stage). place_in (exports_of w.source) w.plan.area l s waits z in
     let f' = subst (λ z. PlaceFits w (from z)) c.in-Answering.is f in
-    subst (λ z. IfOk c.tell_answer.result (λ m. ComesFrom w (from z) left (c.args.steps.now.used - c.args.steps.now.used) m old old (left_of c.args.left.now)
-    (store_in c.tell_answer.new.instance) (waits_in c.tell_answer.new.instance))) (sym c.in-Answering.is)
+    subst (λ z. ComesFrom w (from z) left (c.args.steps.now.used - c.args.steps.now.used) c.tell_answer.result old old (left_of c.args.left.now)
+    (store_in c.tell_answer.new.instance) (waits_in c.tell_answer.new.instance)) (sym c.in-Answering.is)
     (let none : 0 ≡ c.args.steps.now.used - c.args.steps.now.used = omega arith in
-    subst (λ n. IfOk c.tell_answer.result (λ m. ComesFrom w (from (S.Answering c.in-Answering.task c.in-Answering.answer)) left n m old old l (store_in c.tell_answer.new.instance)
-    (waits_in c.tell_answer.new.instance))) none
+    subst (λ n. ComesFrom w (from (S.Answering c.in-Answering.task c.in-Answering.answer)) left n c.tell_answer.result old old l (store_in c.tell_answer.new.instance)
+    (waits_in c.tell_answer.new.instance)) none
     (c.tell_answer.ensures.comes w l old left f'))
 
 pub returns-in-Giving-clause-comes : goal.returns-in-Giving-clause-comes
@@ -109,3 +111,27 @@ unwind-requires-clause-waits g c =
     pausing_waits c.args.setting.now (code_in c.args.instance.now) (left_of c.args.left.now) (store_in c.args.instance.now) (waits_in c.args.instance.now) c.in-Pausing.pause
     (hosts_stage c.args.setting.now (code_in c.args.instance.now) (left_of c.args.left.now) (store_in c.args.instance.now) (waits_in c.args.instance.now) c.args.stage (S.Pausing c.in-Pausing.pause)
     c.in-Pausing.is c.requires.there)
+
+pub unwind-requires-clause-there : goal.unwind-requires-clause-there
+unwind-requires-clause-there g c = (
+  left_of c.args.left.now,
+  hosts_stage c.args.setting.now (code_in c.args.instance.now) (left_of c.args.left.now) (store_in c.args.instance.now) (waits_in c.args.instance.now) c.args.stage
+      (S.Pausing c.in-Pausing.pause) c.in-Pausing.is c.requires.there,
+)
+
+pub rewind-requires-clause-there : goal.rewind-requires-clause-there
+rewind-requires-clause-there g c =
+    let h = hosts_stage c.args.setting.now (code_in c.args.instance.now) (left_of c.args.left.now) (store_in c.args.instance.now) (waits_in c.args.instance.now) c.args.stage
+    (S.Paused c.in-Paused.pause) c.in-Paused.is c.requires.there in
+    record { program = h.program; left = left_of c.args.left.now; setting = h.setting; code_is = h.code_is; fits = h.fits; holds = h.holds }
+
+pub tell_answer-requires-clause-memory : goal.tell_answer-requires-clause-memory
+tell_answer-requires-clause-memory g c =
+    let h = c.requires.there in
+    memory_there h.program c.args.setting.now (code_in c.args.instance.now) h.setting h.code_is
+
+pub tell_answer-requires-clause-inside : goal.tell_answer-requires-clause-inside
+tell_answer-requires-clause-inside g c =
+    told_inside c.args.setting.now (code_in c.args.instance.now) (left_of c.args.left.now) (store_in c.args.instance.now) (waits_in c.args.instance.now) c.in-Answering.task c.in-Answering.answer
+    (hosts_stage c.args.setting.now (code_in c.args.instance.now) (left_of c.args.left.now) (store_in c.args.instance.now) (waits_in c.args.instance.now) c.args.stage
+    (S.Answering c.in-Answering.task c.in-Answering.answer) c.in-Answering.is c.requires.there)

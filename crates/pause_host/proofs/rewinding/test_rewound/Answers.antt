@@ -4,9 +4,10 @@ use Rattle.wa_model.specs.declared.events.End.TheVariants as E
 use Rattle.run_theory.specs.Fitting.{types_of}
 use Rattle.wa_model.specs.Protocol.{exports_of, calling, test_rewound, give_answer}
 use Rattle.run_laws.specs.FittingStates.{Callable}
-use Rattle.interp.specs.Host.{store_in, waits_in}
+use Rattle.interp.specs.Host.{code_in, store_in, waits_in}
 use Rattle.pause_host.specs.Views.{rewinding}
 use Rattle.pause_host.specs.declared.exports.Work.TheVariants.{Rewinding}
+use Rattle.pause_host.proofs.Callings.{hosts_on, may_call}
 use Rattle.pause_host.proofs.Comings.{fits_on}
 use Rattle.pause_host.proofs.Results.{ended_ok, behind_ok, export_got}
 use Rattle.pause_host.proofs.Pauses.{state_rewound, state_not_rewound}
@@ -57,3 +58,35 @@ returns-else-is_state-clause-comes c = λ w l lines since at here under is code 
     (E.Broken 4) s' c.ended-else-is_state.result lines l (waits_in c.call_export.new.instance) c.ended-else-is_state.ensures.event c.ended-else-is_state.ensures.stage
     (state_not_rewound w c.args.pause l s left used (option_to_list c.in-Returned.value) s' since (record { store = at; here = here; under = under }) (exports_of w.source).get_state []
     (sym c.is_state.ensures ∙ c.if-is_state.false) got)
+
+pub call_export-requires-clause-may : goal.call_export-requires-clause-may
+call_export-requires-clause-may c =
+    let s = store_in c.args.instance.now in
+    let o = c.requires.there in
+    may_call c.args.setting.now (code_in c.args.instance.now) s (rewinding c.args.pause s) (λ e. e.get_state) (λ w. []) (test_rewound (record { store = s; here = o.here; under = o.under })) o.hosts
+
+pub stop_rewind-requires-clause-there : goal.stop_rewind-requires-clause-there
+stop_rewind-requires-clause-there c =
+    let o = c.requires.there in
+    let h = o.hosts in
+    let w = h.program in
+    let is = h.setting in
+    let f = h.fits in
+    let s = store_in c.args.instance.now in
+    let s' = store_in c.call_export.new.instance in
+    let left = c.args.steps.now.left in
+    let used = c.call_export.new.steps.used - c.args.steps.now.used in
+    let e = ap (λ x. x.get_state) is.exports in
+    let told = c.in_ok-end.ensures.exports w is h.code_is f.0 (subst (λ n. Callable w.source n (types_of [])) (sym e) f.1) in
+    let got = export_got w Rewinding s s' c.args.setting.now.exports.get_state (exports_of w.source).get_state ([]) ([]) left used c.in_ok-end.field-0 _ e refl c.in-Returned.is told in
+    let on = state_rewound w c.args.pause h.left s left used (option_to_list c.in-Returned.value) s' s (record { store = s; here = o.here; under = o.under }) (exports_of w.source).get_state []
+    (sym c.is_state.ensures ∙ c.if-is_state.true) got in
+    let g = hosts_on c.args.setting.now (code_in c.args.instance.now) (code_in c.call_export.new.instance)
+    (λ w l. calling (rewinding c.args.pause s) s (exports_of w.source).get_state [] (test_rewound (record { store = s; here = o.here; under = o.under })) l)
+    (λ w l. calling (rewinding c.args.pause s) s' (exports_of w.source).stop_rewind [] (give_answer (record { store = s; here = o.here; under = o.under })) l) h used c.call_export.ensures.code on in
+    record {
+      here = o.here;
+      under = o.under;
+      waits_is = c.call_export.ensures.waits ∙ o.waits_is;
+      hosts = record { program = g.program; left = g.left; setting = g.setting; code_is = g.code_is; fits = g.fits; holds = g.holds };
+    }

@@ -5,6 +5,9 @@ use Rattle.interp.specs.Host.{code_in, store_in, waits_in}
 use Rattle.interp.specs.Instance.{Calls}
 use Rattle.pause_host.specs.Views.{entry_of, left_of, supply_in}
 use Rattle.pause_host.specs.Moves.{ComesFrom}
+use Rattle.pause_host.proofs.Callings.{area_told}
+use Rattle.pause_host.proofs.Holding.{area_longer, free_holds}
+use Rattle.pause_host.proofs.MemoryGrows.{calls_longer}
 use Rattle.pause_host.proofs.Hosting.{calls_one, defined_below, memory_kept, memory_there}
 use Rattle.pause_host.proofs.Results.{done_ok, free_is, free_fits, none_left}
 use Rattle.pause_host.proofs.Tasks.{entry_turn}
@@ -63,3 +66,36 @@ entry_ran-requires-clause-turn g c =
     let below = subst (λ z. e.func < length (func_sorts z)) (sym code) (defined_below w.source e.func fits.1.0.0 fits.1.0.1) in
     let again = c.in_ok-turn-in-Some.ensures.again below (subst (λ z. StoreFits z s) (sym code) fits.0) typed in
     calls_one w c.args.setting.now m (results_of m e.func) c.in_ok-turn-in-Some.turn (store_in c.begin.new.self) (waits_in c.begin.new.self) there.setting code again
+
+pub entry_ran-requires-clause-area : goal.entry_ran-requires-clause-area
+entry_ran-requires-clause-area g c =
+    let there = c.requires.there in
+    let w = there.program in
+    let code = there.code_is in
+    let x = c.args.setting.now in
+    let s = store_in c.args.instance.now in
+    let s' = store_in c.begin.new.self in
+    let w' = waits_in c.begin.new.self in
+    let left = c.args.steps.now.left in
+    let used = c.begin.new.steps.used - c.args.steps.now.used in
+    let m = code_in c.args.instance.now in
+    let l = left_of c.args.left.now in
+    let e = entry_of c.in-Some.entry in
+    let rest = map entry_of c.pop_front.new.self.items in
+    let entries = ap (map entry_of) c.in-Some.ensures.items in
+    let fits = free_fits w.source s l e rest entries there.fits in
+    let typed = ap types_of c.deref.ensures.value ∙ fits.1.1 ∙ ap (λ z. (func_type_at z e.func).params) (sym code) in
+    let told = c.in_ok-turn-in-Some.ensures.calls (subst (λ z. StoreFits z s) (sym code) fits.0) typed in
+    let calls = subst (λ z. Calls z s e.func e.args left used c.in_ok-turn-in-Some.turn s' w') code
+    (subst (λ vs. Calls m s e.func vs left used c.in_ok-turn-in-Some.turn s' w') c.deref.ensures.value told) in
+    area_longer x.area s s' (calls_longer w.source s e.func e.args left used c.in_ok-turn-in-Some.turn s' w' calls)
+    (area_told w x s there.setting (free_holds w s l e rest entries there.holds).0)
+
+pub entry_ran-requires-clause-number : goal.entry_ran-requires-clause-number
+entry_ran-requires-clause-number g c =
+    let there = c.requires.there in
+    let l = left_of c.args.left.now in
+    let e = entry_of c.in-Some.entry in
+    let rest = map entry_of c.pop_front.new.self.items in
+    let entries = ap (map entry_of) c.in-Some.ensures.items in
+    omega (arith, (free_holds there.program (store_in c.args.instance.now) l e rest entries there.holds).1, ap length entries)

@@ -7,6 +7,7 @@ use Rattle.wa_model.specs.View.{answer_of, call_of}
 use Rattle.interp.specs.Host.{code_in, store_in, waits_in}
 use Rattle.pause_host.specs.Views.{supply_in, stage_after, starts}
 use Rattle.pause_host.specs.declared.stages.Stage.TheVariants as S
+use Rattle.pause_host.proofs.Callings.{told_area}
 use Rattle.pause_host.proofs.Hosting.{memory_shown}
 use Rattle.pause_host.proofs.Tables.{size_told, stands_at}
 use Rattle.pause_host.proofs.Supplied.{short_answer}
@@ -27,7 +28,7 @@ returns-in-Refused-clause-comes g c = λ w is code pokes who h l left used asks 
     let meets0 = c.in_ok-end.ensures.answers w is at in
     let meets = subst (λ z. Answers w (call_of c.args.call) old (outcome_of z) new) c.in-Refused.is meets0 in
     let m : Moved = record { event = EV.Called c.args.call; stage = S.Ending c.in-Refused.end } in
-    told_refused w h l left used c.args.call who c.args.task waits s asks within asking m old new c.in-Refused.end refl refl meets
+    told_refused w h l left used c.args.call who c.args.task waits s asks within asking (told_area w x s is c.requires.area) m old new c.in-Refused.end refl refl meets
 
 pub returns-in-Given-clause-comes : goal.returns-in-Given-clause-comes
 returns-in-Given-clause-comes g c = λ w is code pokes who h l left used asks within asking.
@@ -48,7 +49,7 @@ returns-in-Given-clause-comes g c = λ w is code pokes who h l left used asks wi
     let fault = ap (λ r. fault_of r (length bytes) w.plan (starts c.args.task) i a) (sym (is.results i c.index-import.result.now at))
     ∙ ap (λ n. fault_of rs n w.plan (starts c.args.task) i a) (sym size ∙ sym (ap (λ z. length z.memory) (asking_store c.args.task waits s who asking)))
     ∙ ap (λ b. fault_of rs (length (store_at who).memory) w.plan b i a) (sym (asking_start c.args.task waits s who asking)) in
-    told_answer w h l left used c.args.call who c.args.task waits s asks within asking m old new c.in-Given.answer refl meets
+    told_answer w h l left used c.args.call who c.args.task waits s asks within asking (told_area w x s is c.requires.area) m old new c.in-Given.answer refl meets
     (c.answered-stage.ensures w is (short_answer w (call_of c.args.call) old new a meets pokes) ∙ ap (λ f. stage_after f c.in-Given.answer.ticks c.args.task i c.in-Given.answer) fault)
 
 pub unreachable-requires : goal.unreachable-requires

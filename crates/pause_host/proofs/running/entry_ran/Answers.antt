@@ -4,14 +4,14 @@ use Rattle.interp.specs.Host.{store_in, waits_in}
 use Rattle.pause_host.specs.Views.{entry_of, left_of, supply_in}
 use Rattle.pause_host.specs.Moves.{TaskTurn}
 use Rattle.pause_host.proofs.Hosting.{stops_first}
-use Rattle.pause_host.proofs.Results.{returned_ok}
+use Rattle.pause_host.proofs.Tasks.{entry_returned}
 use Rattle.pause_host.proofs.running.entry_ran.Goals as goal
 
 pub returns-in-Returned-clause-comes : goal.returns-in-Returned-clause-comes
 returns-in-Returned-clause-comes g c = λ w is code pokes h left used ran.
     let old = supply_in (λ z. (goal.Device-dyn g z).seen z.1) (λ z. (goal.Device-dyn g z).faults z.1) c.args.answers.now.items c.args.devices.now in
-    returned_ok w h (left_of c.args.left.now) (left_of c.returned.new.left) (entry_of c.args.entry) left used c.in-Returned.value (store_in c.args.instance.now) (waits_in c.args.instance.now)
-    c.returned.result old c.returned.ensures.event c.returned.ensures.stage c.returned.ensures.left
+    entry_returned w h (left_of c.args.left.now) (left_of c.returned.new.left) (entry_of c.args.entry) left used c.in-Returned.value (store_in c.args.instance.now) (waits_in c.args.instance.now)
+    c.returned.result old c.returned.ensures.left c.returned.ensures.event c.returned.ensures.stage
     (subst (λ t. TaskTurn w h (left_of c.args.left.now) (an_entry (entry_of c.args.entry)) left used t (store_in c.args.instance.now) (waits_in c.args.instance.now)) c.in-Returned.is ran)
 
 pub returns-in_default-clause-comes : goal.returns-in_default-clause-comes

@@ -7,6 +7,10 @@ use Rattle.interp.specs.Host.{code_in, store_in, waits_in}
 use Rattle.interp.specs.Instance.{Resumes, Awaits}
 use Rattle.pause_host.specs.Views.{entry_of, left_of, supply_in, place_in}
 use Rattle.pause_host.specs.Moves.{Comes, ComesFrom, PlaceFits}
+use Rattle.pause_host.specs.Holding.{PlaceHolds}
+use Rattle.pause_host.proofs.Callings.{area_told}
+use Rattle.pause_host.proofs.Holding.{area_longer}
+use Rattle.pause_host.proofs.MemoryGrows.{resumes_longer}
 use Rattle.pause_host.proofs.Hosting.{calls_one, given_waits, memory_kept, memory_there, outermost_given, start_stands}
 use Rattle.pause_host.specs.declared.stages.Stage.TheVariants as S
 use Rattle.pause_host.specs.declared.stages.Task.TheVariants as T
@@ -112,10 +116,74 @@ start_ran-requires-clause-turn g c =
     let again = c.in_ok-turn.ensures.again g.fits.0 fits awaits in
     let ran = gives_turn w T.Start the_start waits l c.args.value s g left used c.in_ok-turn.turn s' w' (subst (λ z. Resumes z s waits c.args.value left used c.in_ok-turn.turn s' w') code told) in
     let h = busy (is_running the_start) (resumed (record { store = s; here = g.here; under = g.under }) s (option_to_list c.args.value)) l in
-    start_stands w c.args.setting.now (code_in c.resume.new.self) h l left used c.in_ok-turn.turn s' w' there.setting (c.resume.ensures.code ∙ code) g.fits ran
+    let place = ap (λ z. place_in (exports_of w.source) w.plan.area l s waits (S.Giving z c.args.value)) c.in-Start.is ∙ g.place_is in
+    start_stands w c.args.setting.now (code_in c.resume.new.self) h l left used c.in_ok-turn.turn s' w' there.setting (c.resume.ensures.code ∙ code) g.fits (subst (PlaceHolds w) place there.holds) ran
     (calls_one w c.args.setting.now (code_in c.args.instance.now) g.fits.0 c.in_ok-turn.turn s' w' there.setting code again)
 
 pub unreachable-requires : goal.unreachable-requires
 unreachable-requires g c =
     outermost_given c.args.setting.now (code_in c.args.instance.now) (left_of c.args.left.now) (store_in c.args.instance.now) (waits_in c.args.instance.now) c.args.task c.args.value c.in-Outermost.is
     c.requires.there
+
+pub entry_ran-requires-clause-area : goal.entry_ran-requires-clause-area
+entry_ran-requires-clause-area g c =
+    let there = c.requires.there in
+    let w = there.program in
+    let x = c.args.setting.now in
+    let s = store_in c.args.instance.now in
+    let waits = waits_in c.args.instance.now in
+    let s' = store_in c.resume.new.self in
+    let w' = waits_in c.resume.new.self in
+    let left = c.args.steps.now.left in
+    let used = c.resume.new.steps.used - c.args.steps.now.used in
+    let l = left_of c.args.left.now in
+    let code = there.code_is in
+    let f' = subst (λ z. PlaceFits w (place_in (exports_of w.source) w.plan.area l s waits (S.Giving z c.args.value))) c.in-Entry.is there.fits in
+    let g = gives w (T.Entry c.in-Entry.entry) (an_entry (entry_of c.in-Entry.entry)) waits l c.args.value s refl f' in
+    let place = ap (λ z. place_in (exports_of w.source) w.plan.area l s waits (S.Giving z c.args.value)) c.in-Entry.is ∙ g.place_is in
+    let holds = subst (PlaceHolds w) place there.holds in
+    let fits = subst (λ z. StoreFits z s) (sym code) (gives_store w (T.Entry c.in-Entry.entry) (an_entry (entry_of c.in-Entry.entry)) waits l c.args.value s g) in
+    let awaits = subst (λ z. Awaits z g.fits.0 (types_of (option_to_list c.args.value)) waits) (sym code) (gives_awaits w (T.Entry c.in-Entry.entry) (an_entry (entry_of c.in-Entry.entry)) waits l c.args.value s g) in
+    let told = c.in_ok-turn.ensures.resumes g.fits.0 fits awaits in
+    area_longer x.area s s' (resumes_longer (code_in c.args.instance.now) s waits c.args.value left used c.in_ok-turn.turn s' w' told) (area_told w x s there.setting holds.0)
+
+pub entry_ran-requires-clause-number : goal.entry_ran-requires-clause-number
+entry_ran-requires-clause-number g c =
+    let there = c.requires.there in
+    let w = there.program in
+    let x = c.args.setting.now in
+    let s = store_in c.args.instance.now in
+    let waits = waits_in c.args.instance.now in
+    let s' = store_in c.resume.new.self in
+    let w' = waits_in c.resume.new.self in
+    let left = c.args.steps.now.left in
+    let used = c.resume.new.steps.used - c.args.steps.now.used in
+    let l = left_of c.args.left.now in
+    let code = there.code_is in
+    let f' = subst (λ z. PlaceFits w (place_in (exports_of w.source) w.plan.area l s waits (S.Giving z c.args.value))) c.in-Entry.is there.fits in
+    let g = gives w (T.Entry c.in-Entry.entry) (an_entry (entry_of c.in-Entry.entry)) waits l c.args.value s refl f' in
+    let place = ap (λ z. place_in (exports_of w.source) w.plan.area l s waits (S.Giving z c.args.value)) c.in-Entry.is ∙ g.place_is in
+    let holds = subst (PlaceHolds w) place there.holds in
+    omega (arith, holds.1)
+
+pub start_ran-requires-clause-area : goal.start_ran-requires-clause-area
+start_ran-requires-clause-area g c =
+    let there = c.requires.there in
+    let w = there.program in
+    let x = c.args.setting.now in
+    let s = store_in c.args.instance.now in
+    let waits = waits_in c.args.instance.now in
+    let s' = store_in c.resume.new.self in
+    let w' = waits_in c.resume.new.self in
+    let left = c.args.steps.now.left in
+    let used = c.resume.new.steps.used - c.args.steps.now.used in
+    let l = left_of c.args.left.now in
+    let code = there.code_is in
+    let f' = subst (λ z. PlaceFits w (place_in (exports_of w.source) w.plan.area l s waits (S.Giving z c.args.value))) c.in-Start.is there.fits in
+    let g = gives w T.Start the_start waits l c.args.value s refl f' in
+    let place = ap (λ z. place_in (exports_of w.source) w.plan.area l s waits (S.Giving z c.args.value)) c.in-Start.is ∙ g.place_is in
+    let holds = subst (PlaceHolds w) place there.holds in
+    let fits = subst (λ z. StoreFits z s) (sym code) (gives_store w T.Start the_start waits l c.args.value s g) in
+    let awaits = subst (λ z. Awaits z g.fits.0 (types_of (option_to_list c.args.value)) waits) (sym code) (gives_awaits w T.Start the_start waits l c.args.value s g) in
+    let told = c.in_ok-turn.ensures.resumes g.fits.0 fits awaits in
+    area_longer x.area s s' (resumes_longer (code_in c.args.instance.now) s waits c.args.value left used c.in_ok-turn.turn s' w' told) (area_told w x s there.setting holds.0)

@@ -7,6 +7,9 @@ use Rattle.interp.specs.Instance.{Calls}
 use Rattle.pause_host.specs.Views.{left_of, supply_in}
 use Rattle.pause_host.specs.Hosting.{AsksOnly}
 use Rattle.pause_host.specs.Moves.{Comes}
+use Rattle.pause_host.proofs.Callings.{area_told}
+use Rattle.pause_host.proofs.Holding.{area_longer}
+use Rattle.pause_host.proofs.MemoryGrows.{calls_longer}
 use Rattle.pause_host.proofs.Hosting.{calls_one, memory_kept, memory_there, start_stands}
 use Rattle.pause_host.proofs.Tasks.{import_stops, start_turn, start_defined}
 use Rattle.pause_host.proofs.running.start.Goals as goal
@@ -97,5 +100,37 @@ start_ran-requires-clause-turn g c =
     let there_is = start_defined w c.args.func f.1.1 (let le : func_imports w.source ≤ c.args.func = omega (arith, c.len.ensures, c.args.setting.now.imports.ok.0, is.all, c.if-func-len.false) in le) in
     let ran = start_turn w l c.args.func there_is.0 s left used c.in_ok-turn.turn s' w' there_is.1 calls in
     let again = c.in_ok-turn.ensures.again (subst (λ z. c.args.func < length (func_sorts z)) (sym code) f.1.1) fits typed in
-    start_stands w c.args.setting.now (code_in c.begin.new.self) (starting c.args.func s l) l left used c.in_ok-turn.turn s' w' is (c.begin.ensures.code ∙ code) f ran
+    start_stands w c.args.setting.now (code_in c.begin.new.self) (starting c.args.func s l) l left used c.in_ok-turn.turn s' w' is (c.begin.ensures.code ∙ code) f there.holds ran
     (calls_one w c.args.setting.now m (results_of m c.args.func) c.in_ok-turn.turn s' w' is code again)
+
+pub start_asked-requires-clause-area : goal.start_asked-requires-clause-area
+start_asked-requires-clause-area g c =
+    let there = c.requires.there in
+    let w = there.program in
+    let code = there.code_is in
+    let f = there.fits in
+    let x = c.args.setting.now in
+    let s = store_in c.args.instance.now in
+    let s' = store_in c.begin.new.self in
+    let w' = waits_in c.begin.new.self in
+    let left = c.args.steps.now.left in
+    let used = c.begin.new.steps.used - c.args.steps.now.used in
+    let typed = sym f.1.0 ∙ ap (λ z. (func_type_at z c.args.func).params) (sym code) in
+    let told = c.in_ok-turn.ensures.calls (subst (λ z. StoreFits z s) (sym code) f.0) typed in
+    area_longer x.area s s' (calls_longer (code_in c.args.instance.now) s c.args.func [] left used c.in_ok-turn.turn s' w' told) (area_told w x s there.setting there.holds.0)
+
+pub start_ran-requires-clause-area : goal.start_ran-requires-clause-area
+start_ran-requires-clause-area g c =
+    let there = c.requires.there in
+    let w = there.program in
+    let code = there.code_is in
+    let f = there.fits in
+    let x = c.args.setting.now in
+    let s = store_in c.args.instance.now in
+    let s' = store_in c.begin.new.self in
+    let w' = waits_in c.begin.new.self in
+    let left = c.args.steps.now.left in
+    let used = c.begin.new.steps.used - c.args.steps.now.used in
+    let typed = sym f.1.0 ∙ ap (λ z. (func_type_at z c.args.func).params) (sym code) in
+    let told = c.in_ok-turn.ensures.calls (subst (λ z. StoreFits z s) (sym code) f.0) typed in
+    area_longer x.area s s' (calls_longer (code_in c.args.instance.now) s c.args.func [] left used c.in_ok-turn.turn s' w' told) (area_told w x s there.setting there.holds.0)

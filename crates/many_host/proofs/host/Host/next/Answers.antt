@@ -1,4 +1,6 @@
 use Rattle.std.proofs.lemmas.Result.{IfOk-weaker}
+use Rattle.many_host.proofs.FewTurns.{few_turns}
+use Rattle.many_host.specs.Standing.{held_of}
 use Rattle.many_host.proofs.Worlds.{host_next}
 use Rattle.many_host.proofs.host.Host.next.Goals as goal
 
@@ -8,3 +10,6 @@ returns-clause-told g c = λ programs detaches ds lines told.
 
 pub next-requires-clause-tells : goal.next-requires-clause-tells
 next-requires-clause-tells g c = c.requires.tells
+
+pub next-requires-clause-turns : goal.next-requires-clause-turns
+next-requires-clause-turns g c = few_turns (held_of c.args.self.now.turns) _ c.args.self.now.turns.stage c.requires.tells c.requires.range.few

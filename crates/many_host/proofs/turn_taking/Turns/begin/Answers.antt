@@ -1,6 +1,7 @@
-use Rattle.std.proofs.Common.{ap, inl, refl, sym, ◌∙◌, subst, length, List, Option, ℕ}
+use Rattle.std.proofs.Common.{◌+◌, ◌*◌, ◌≤◌, arith, All, Some, ap, inl, refl, sym, ◌∙◌, subst, length, List, Option, ℕ}
 use Rattle.event_order.specs.Dues.{HaveEnded, IsLeast}
-use Rattle.many_host.specs.Standing.{held_of}
+use Rattle.many_host.specs.Standing.{IsDueBy, held_of, most_ticks}
+use Rattle.many_host.proofs.DueTicks.{due_at, dues_later}
 use Rattle.many_host.proofs.Counts.{left_began, left_when_begun, line_from}
 use Rattle.many_host.proofs.Beginning.{begun_at, due_within}
 use Rattle.many_host.proofs.turn_taking.Turns.begin.Goals as goal
@@ -20,12 +21,12 @@ tell-requires-clause-place g c =
 pub returns-clause-told : goal.returns-clause-told
 returns-clause-told g c = λ programs detaches ds lines s.
     line_from
-    (left_began c.args.self.now.begun c.in-Some-checked_add.begun c.tell.new.self.begun c.deref-2.result.now detaches _ _ c.in-Some-checked_add.ensures.1 c.tell.ensures.begun
+    (left_began c.args.self.now.begun (c.args.self.now.begun + 1) c.tell.new.self.begun c.deref-2.result.now detaches _ _ refl c.tell.ensures.begun
     (c.deref-2.ensures.value ∙ s.detaches_are) c.detach_before.ensures.counts)
     (c.in_ok-tell.ensures.told programs detaches ds lines
     (begun_at g.T.Teller.follows g.T.Teller.has_ended g.T.Teller.memory programs detaches ds lines (held_of c.args.self.now) _ c.in-Some.turn s
     (subst (λ (l : List (Option ℕ)). IsLeast l c.in-Some.turn.program c.in-Some.turn.due) c.deref.ensures.value c.in-Some.ensures)
-    c.in-Some-checked_add.begun c.deref-2.result.now _ c.in-Some-checked_add.ensures.1 c.deref-2.ensures.value c.detach_before.ensures.devices))
+    (c.args.self.now.begun + 1) c.deref-2.result.now _ refl c.deref-2.ensures.value c.detach_before.ensures.devices))
 
 pub returns-in_default-clause-none : goal.returns-in_default-clause-none
 returns-in_default-clause-none g c = subst (λ (l : List (Option ℕ)). HaveEnded l) c.deref.ensures.value c.in_default.ensures
@@ -34,7 +35,7 @@ pub returns-clause-none : goal.returns-clause-none
 returns-clause-none g c = λ ended. subst (λ (l : List (Option ℕ)). HaveEnded l) (sym c.deref.ensures.value) ended c.in-Some.turn.program c.in-Some.turn.due c.in-Some.ensures.there
 
 pub returns-clause-begun : goal.returns-clause-begun
-returns-clause-begun g c = c.tell.ensures.begun ∙ c.in-Some-checked_add.ensures.1
+returns-clause-begun g c = c.tell.ensures.begun
 
 pub tell-requires-clause-tells : goal.tell-requires-clause-tells
 tell-requires-clause-tells g c =
@@ -46,17 +47,23 @@ tell-requires-clause-tells g c =
       lines = t.lines;
       stands = begun_at g.T.Teller.follows g.T.Teller.has_ended g.T.Teller.memory t.programs t.detaches t.devices t.lines (held_of c.args.self.now) _ c.in-Some.turn t.stands
           (subst (λ (l : List (Option ℕ)). IsLeast l c.in-Some.turn.program c.in-Some.turn.due) c.deref.ensures.value c.in-Some.ensures)
-          c.in-Some-checked_add.begun c.deref-2.result.now _ c.in-Some-checked_add.ensures.1 c.deref-2.ensures.value c.detach_before.ensures.devices;
+          (c.args.self.now.begun + 1) c.deref-2.result.now _ refl c.deref-2.ensures.value c.detach_before.ensures.devices;
     }
 
 pub returns-in_err-tell-clause-left : goal.returns-in_err-tell-clause-left
 returns-in_err-tell-clause-left g c = λ programs detaches ds lines s e.
-    left_when_begun c.args.self.now.begun c.in-Some-checked_add.begun c.deref-2.result.now detaches _ _ _ c.in-Some-checked_add.ensures.1 (c.deref-2.ensures.value ∙ s.detaches_are)
+    left_when_begun c.args.self.now.begun (c.args.self.now.begun + 1) c.deref-2.result.now detaches _ _ _ refl (c.deref-2.ensures.value ∙ s.detaches_are)
     c.detach_before.ensures.devices
     (c.in_err-tell.ensures.kept programs detaches ds lines
     (begun_at g.T.Teller.follows g.T.Teller.has_ended g.T.Teller.memory programs detaches ds lines (held_of c.args.self.now) _ c.in-Some.turn s
     (subst (λ (l : List (Option ℕ)). IsLeast l c.in-Some.turn.program c.in-Some.turn.due) c.deref.ensures.value c.in-Some.ensures)
-    c.in-Some-checked_add.begun c.deref-2.result.now _ c.in-Some-checked_add.ensures.1 c.deref-2.ensures.value c.detach_before.ensures.devices) refl)
+    (c.args.self.now.begun + 1) c.deref-2.result.now _ refl c.deref-2.ensures.value c.detach_before.ensures.devices) refl)
 
-pub returns-in_default-checked_add-clause-left : goal.returns-in_default-checked_add-clause-left
-returns-in_default-checked_add-clause-left g c = λ programs detaches ds lines s e. inl refl
+pub tell-requires-clause-dues : goal.tell-requires-clause-dues
+tell-requires-clause-dues g c = dues_later (most_ticks * c.args.self.now.begun) (most_ticks * (c.args.self.now.begun + 1)) c.args.self.now.dues.items (omega arith) c.requires.range.dues
+
+pub tell-requires-clause-due : goal.tell-requires-clause-due
+tell-requires-clause-due g c =
+    let there = subst (λ (l : List (Option ℕ)). IsLeast l c.in-Some.turn.program c.in-Some.turn.due) c.deref.ensures.value c.in-Some.ensures in
+    let due = due_at (most_ticks * c.args.self.now.begun) c.args.self.now.dues.items c.in-Some.turn.program c.in-Some.turn.due there.there c.requires.range.dues in
+    omega (arith, due)

@@ -42,4 +42,4 @@ returns-clause-next g c = λ w notes os code f.
 pub start-requires-clause-there : goal.start-requires-clause-there
 start-requires-clause-there g c =
     let h = c.requires in
-    record { program = h.program; setting = h.at.setting; code_is = h.code; fits = h.at.fits }
+    record { program = h.program; setting = h.at.setting; code_is = h.code; fits = h.at.fits; holds = h.at.holds }

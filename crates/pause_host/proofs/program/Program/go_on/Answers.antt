@@ -1,6 +1,7 @@
 use Rattle.std.proofs.Common.{◌-◌, refl, sym, ◌∙◌, subst, arith}
 use Rattle.wa_model.specs.Protocol.{exports_of}
 use Rattle.interp.specs.Host.{store_in, waits_in}
+use Rattle.pause_host.specs.Holding.{PlaceHolds}
 use Rattle.pause_host.specs.Moves.{Moves, PlaceFits}
 use Rattle.pause_host.specs.Views.{left_of, lines_in, place_in}
 use Rattle.pause_host.specs.declared.program.Program.{Program}
@@ -49,4 +50,5 @@ next_event-requires-clause-there g c =
       setting = h.at.setting;
       code_is = h.code;
       fits = subst (PlaceFits h.program) (same_place h.program x (left_of x.left) (store_in i) (waits_in i) c.args.stage h.at.setting) h.at.fits;
+      holds = subst (PlaceHolds h.program) (same_place h.program x (left_of x.left) (store_in i) (waits_in i) c.args.stage h.at.setting) h.at.holds;
     }
