@@ -48,8 +48,8 @@ fn with_parts(alloc: Global, module: Module) -> Result<Module, EmitFault>
 /// The bytes of the module rewritten so that it can stop in the middle of a call of a listed import and go on later, and without
 /// another tree in memory: that of one function at a time. `Locals` comes exactly where a function that may pause would have more
 /// than 50,000 parameters and locals, for the first; else `TooLong` exactly where there are more than 67,108,864 bytes: these are
-/// counted, and no more than so many are held. Takes time linear in the module and in what is answered; under the policy `live` each branch, construct and call of a function that may
-/// pause takes time linear in its locals.
+/// counted, and no more than so many are held. Takes time linear in the module and in what is answered; under the policy `live` each
+/// branch, construct and call of a function that may pause takes time linear in its locals.
 pub fn emit_module(alloc: Global, valid: Valid, settings: &Settings) -> Result<Emitted, EmitFault>
     requires sizes { StrictSizeRule (module_of valid) }
     requires free { reserved_at (module_of valid) ≡ None }
