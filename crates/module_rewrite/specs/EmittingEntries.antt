@@ -1,5 +1,5 @@
 -- Functions put as entries of the code section, one by one.
-use Rattle.std.specs.Prelude.{◌≡◌, ◌++◌, ℕ, List, drop, Bool, Result, Ok, Err}
+use Rattle.std.specs.Prelude.{◌++◌, ℕ, List, drop, Bool, Result, Ok, Err}
 use Rattle.std.specs.List.{flat_map}
 use Rattle.wa_types.specs.Modules.{func_imports}
 use Rattle.wa_types.specs.Pausing.{Settings}

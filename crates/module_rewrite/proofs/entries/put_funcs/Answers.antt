@@ -4,7 +4,6 @@ use Rattle.wa_types.specs.View.{func_of}
 use Rattle.wasm_encode.specs.Locals.{local_count}
 use Rattle.wasm_encode.proofs.Vectors.{entry_length, put_step, put_none}
 use Rattle.wasm_encode.specs.Around.{code_entry, HoldsEntries}
-use Rattle.module_rewrite.specs.EmittingEntries.{PutsEntries}
 use Rattle.module_rewrite.proofs.entries.put_funcs.Goals as goal
 
 pub loop-index-init : goal.loop-index-init
@@ -26,7 +25,7 @@ pub loop-index-preserved : goal.loop-index-preserved
 loop-index-preserved c =
     let l = entry_length (λ (f : FuncValue). code_entry (func_of f)) c.args.funcs.now c.loop-index.index c.index-funcs-index.result c.loop-index-test.true c.index-funcs-index.is in
     let before = c.loop-index.invariant.put in
-    let more = code_entry (func_of c.index-funcs-index.result.now) in
+    let more = code_entry (func_of c.index-funcs-index.result) in
     record {
       put = (
         before.0 ++ more,
