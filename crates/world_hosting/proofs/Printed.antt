@@ -246,7 +246,7 @@ module _ (parts : List Part) (detaches : List Detach) (cs : List Counted) where
             (n.stands.wide ∙ sym t.told.host.wide) t.told.meets n.meets;
       }
 
-      pub told_on : (new : Option (List ℕ)) → Becomes mid new (Appends (event_line (names_at own l.program) l)) → Telling next es old new
+      abbrev pub told_on : (new : Option (List ℕ)) → Becomes mid new (Appends (event_line (names_at own l.program) l)) → Telling next es old new
       told_on new p = record {
         told = one_more;
         printed = subst (λ (s : List ℕ). Becomes old new (Appends s)) same_text (then_printed (begun lines) (event_line (names_at own l.program) l) old mid new t.printed p);

@@ -27,7 +27,7 @@ telling-init g c = record {
 pub telling-preserved : goal.telling-preserved
 telling-preserved g c = record {
   told = λ parts detaches h none are.
-      let t = c.telling.invariant.told parts detaches h none are in
+      let t = (c.telling.invariant.told parts detaches h none are).0 in
       let ds = devices_of (counted (λ z. (goal.Device-dyn g z).seen z.1) (λ z. (goal.Device-dyn g z).faults z.1) c.args.devices.now) in
       let next =
       line_told (world_programs parts) detaches ds t.told.lines t.told.host.tellers _ _ _ c.next.new.self _ c.in-Ok.next c.in-Some.line c.in-Some.is
@@ -43,19 +43,16 @@ telling-preserved g c = record {
 
 pub returns-in_default-clause-part : goal.returns-in_default-clause-part
 returns-in_default-clause-part g c = λ parts detaches h none are.
-    let t = c.telling.invariant.told parts detaches h none are in
+    let t = (c.telling.invariant.told parts detaches h none are).0 in
     let ds = devices_of (counted (λ z. (goal.Device-dyn g z).seen z.1) (λ z. (goal.Device-dyn g z).faults z.1) c.args.devices.now) in
     told_so_far parts detaches _ c.telling.host _ _ _ t _
     (left_counted (λ z. (goal.Device-dyn g z).seen z.1) (λ z. (goal.Device-dyn g z).faults z.1) c.telling.host.turns.begun detaches c.telling.devices c.next.new.devices
     (c.next.ensures.left (world_programs parts) detaches ds t.told.lines
     (host_seen (λ z. (goal.Device-dyn g z).seen z.1) (λ z. (goal.Device-dyn g z).faults z.1) (world_programs parts) detaches ds t.told.lines c.telling.devices c.telling.host t.told.host) (has_failed c.next.result c.in_default.not-Ok)))
 
-pub returns-clause-part : goal.returns-clause-part
-returns-clause-part g c = λ parts detaches h none are. told_so_far parts detaches _ c.telling.host _ _ _ (c.telling.invariant.told parts detaches h none are) _ (inl refl)
-
 pub returns-in_default-next-clause-told : goal.returns-in_default-next-clause-told
 returns-in_default-next-clause-told g c = λ parts detaches h none are.
-    let t = c.telling.invariant.told parts detaches h none are in
+    let t = (c.telling.invariant.told parts detaches h none are).0 in
     let ds = devices_of (counted (λ z. (goal.Device-dyn g z).seen z.1) (λ z. (goal.Device-dyn g z).faults z.1) c.args.devices.now) in
     let world =
     none_told (world_programs parts) detaches ds t.told.lines t.told.host.tellers _ _ _ c.next.new.self _ c.in-Ok.next c.in_default-next.is
@@ -70,7 +67,7 @@ returns-in_default-next-clause-told g c = λ parts detaches h none are.
 
 pub returns-in_default-next-clause-part : goal.returns-in_default-next-clause-part
 returns-in_default-next-clause-part g c = λ parts detaches h none are.
-    let t = c.telling.invariant.told parts detaches h none are in
+    let t = (c.telling.invariant.told parts detaches h none are).0 in
     let ds = devices_of (counted (λ z. (goal.Device-dyn g z).seen z.1) (λ z. (goal.Device-dyn g z).faults z.1) c.args.devices.now) in
     let world =
     none_told (world_programs parts) detaches ds t.told.lines t.told.host.tellers _ _ _ c.next.new.self _ c.in-Ok.next c.in_default-next.is
@@ -85,7 +82,7 @@ returns-in_default-next-clause-part g c = λ parts detaches h none are.
 
 pub returns-in-Err-clause-part : goal.returns-in-Err-clause-part
 returns-in-Err-clause-part g c = λ parts detaches h none are.
-    let t = c.telling.invariant.told parts detaches h none are in
+    let t = (c.telling.invariant.told parts detaches h none are).0 in
     let ds = devices_of (counted (λ z. (goal.Device-dyn g z).seen z.1) (λ z. (goal.Device-dyn g z).faults z.1) c.args.devices.now) in
     let next =
     line_told (world_programs parts) detaches ds t.told.lines t.told.host.tellers _ _ _ c.next.new.self _ c.in-Ok.next c.in-Some.line c.in-Some.is
@@ -99,7 +96,7 @@ returns-in-Err-clause-part g c = λ parts detaches h none are.
 pub next-requires-clause-tells : goal.next-requires-clause-tells
 next-requires-clause-tells g c =
     let b = c.requires.begins in
-    let so_far = c.telling.invariant.told b.parts b.detaches b.told b.begun b.names_are in
+    let so_far = (c.telling.invariant.told b.parts b.detaches b.told b.begun b.names_are).0 in
     let t = so_far.told in
     let ds = devices_of (counted (λ z. (goal.Device-dyn g z).seen z.1) (λ z. (goal.Device-dyn g z).faults z.1) c.args.devices.now) in
     record {
