@@ -125,7 +125,7 @@ fn tell_lines<S: Sink>(
     ensures fault { IsErrOf result PutFault.Fault → HasRisen (S.faults out.old) (S.faults out.new) }
     ensures faults { S.faults out.old ≤ S.faults out.new }
 {
-    'telling: for _ in 0..u64::MAX {
+    'telling: for _told in 0..u64::MAX {
         let events = host.events();
         let Ok(next) = host.next(devices) else {
             return Err(PutFault::Memory);
