@@ -137,6 +137,6 @@ fn tell_lines<S: Sink>(
             return Err(fault);
         }
     }
-    // Sixteen programs tell fewer lines: three a step, and one for each show.
+    // Sixteen programs tell fewer lines: three a step and one more each, and one for each show.
     unreachable!()
 }
