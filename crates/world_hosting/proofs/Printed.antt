@@ -1,5 +1,5 @@
 -- The lines of several programs, as they are being told and printed.
-use Rattle.std.proofs.Common.{◌≡◌, inl, inr, ℕ, suc, List, [], ◌∷◌, ◌++◌, length, map, Option, Some, None, Result, Ok, Err, refl, sym, ap, ◌∙◌, subst, arith, append-nil, append_assoc, add_assoc, ◌+◌}
+use Rattle.std.proofs.Common.{◌≡◌, inl, inr, ℕ, suc, List, [], ◌∷◌, ◌++◌, length, length-append, map, Option, Some, None, Result, Ok, Err, refl, sym, ap, ◌∙◌, subst, arith, append-nil, append_assoc, add_assoc, ◌+◌}
 use Rattle.std.specs.Prelude.{IsErr, MatchOption, OnErr, OnOk, if◌then◌else◌, nat_eq, slice_get}
 use Rattle.std.specs.List.{AllZip}
 use Rattle.std.specs.Option.{option_map}
@@ -246,11 +246,15 @@ module _ (parts : List Part) (detaches : List Detach) (cs : List Counted) where
             (n.stands.wide ∙ sym t.told.host.wide) t.told.meets n.meets;
       }
 
-      pub told_on : (new : Option (List ℕ)) → Becomes mid new (Appends (event_line (names_at own l.program) l)) → Telling next es old new
-      told_on new p = record {
-        told = one_more;
-        printed = subst (λ (s : List ℕ). Becomes old new (Appends s)) same_text (then_printed (begun lines) (event_line (names_at own l.program) l) old mid new t.printed p);
-      }
+      pub told_on : (new : Option (List ℕ)) → Becomes mid new (Appends (event_line (names_at own l.program) l))
+          → (x : Telling next es old new) × (length x.told.lines ≡ length t.told.lines + 1)
+      told_on new p = (
+        record {
+          told = one_more;
+          printed = subst (λ (s : List ℕ). Becomes old new (Appends s)) same_text (then_printed (begun lines) (event_line (names_at own l.program) l) old mid new t.printed p);
+        },
+        length-append t.told.lines (l ∷ []),
+      )
 
       pub told_less : (fault : PutFault) (new : Option (List ℕ)) → Becomes mid new (AppendsLess (event_line (names_at own l.program) l)) → TellsPart fault parts detaches cs es old new
       told_less fault new p = (

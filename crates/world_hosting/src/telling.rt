@@ -23,9 +23,6 @@ use transcript::{Names, put_last, put_line};
 use vault_port::{PutFault, Sink};
 use wa_model::Detach;
 
-/// No programs tell so many lines: each takes at most 1,000,000,000 steps, each of which makes three at most.
-const MOST_LINES: u64 = 1_099_511_627_776;
-
 /// Tells up to sixteen programs to their ends and prints each line as it comes, then the last line. A call of a bound import asks its
 /// device; before an event the devices are taken out whose detaches have its number. After an error some first bytes of that were
 /// printed, and not all of them where the sink failed.
@@ -128,7 +125,7 @@ fn tell_lines<S: Sink>(
     ensures fault { IsErrOf result PutFault.Fault → HasRisen (S.faults out.old) (S.faults out.new) }
     ensures faults { S.faults out.old ≤ S.faults out.new }
 {
-    'telling: for _ in 0..MOST_LINES {
+    'telling: for _told in 0..u64::MAX {
         let events = host.events();
         let Ok(next) = host.next(devices) else {
             return Err(PutFault::Memory);
@@ -140,5 +137,6 @@ fn tell_lines<S: Sink>(
             return Err(fault);
         }
     }
-    Err(PutFault::Memory)
+    // Sixteen programs tell fewer lines: three a step and one more each, and one for each show.
+    unreachable!()
 }

@@ -1,11 +1,12 @@
 -- The host goes on with its world while its lines are printed.
-use Rattle.std.proofs.Common.{arith, inl, [], ℕ, List, length, map, refl, ◌∙◌, subst}
+use Rattle.std.proofs.Common.{arith, [], ℕ, List, length, map, refl, ◌∙◌, subst}
 use Rattle.std.specs.Prelude.{OnErr, OnOk}
 use Rattle.vault_port.specs.Taken.{Appends, AppendsLess}
 use Rattle.vault_port.specs.Told.{Becomes}
 use Rattle.script_model.specs.Transcript.{last_line}
 use Rattle.wa_model.specs.View.{line_of}
 use Rattle.many_host.specs.Calls.{devices_of}
+use Rattle.many_host.proofs.FewLines.{few_lines}
 use Rattle.transcript.specs.Printing.{names_of}
 use Rattle.world_hosting.specs.Counts.{counted}
 use Rattle.world_hosting.specs.Worlds.{world_programs}
@@ -15,10 +16,13 @@ use Rattle.world_hosting.proofs.telling.tell_lines.Goals as goal
 
 pub telling-init : goal.telling-init
 telling-init g c = record {
-  told = λ parts detaches h none are. record {
-    told = record { lines = []; host = h; met = []; took = (none, refl); meets = none_met (world_programs parts) detaches (devices_of (counted (λ z. (goal.Device-dyn g z).seen z.1) (λ z. (goal.Device-dyn g z).faults z.1) c.args.devices.now)) c.args.host.now (devices_of (counted (λ z. (goal.Device-dyn g z).seen z.1) (λ z. (goal.Device-dyn g z).faults z.1) c.args.devices.now)) h none };
-    printed = nothing_yet _;
-  };
+  told = λ parts detaches h none are. (
+    record {
+      told = record { lines = []; host = h; met = []; took = (none, refl); meets = none_met (world_programs parts) detaches (devices_of (counted (λ z. (goal.Device-dyn g z).seen z.1) (λ z. (goal.Device-dyn g z).faults z.1) c.args.devices.now)) c.args.host.now (devices_of (counted (λ z. (goal.Device-dyn g z).seen z.1) (λ z. (goal.Device-dyn g z).faults z.1) c.args.devices.now)) h none };
+      printed = nothing_yet _;
+    },
+    refl,
+  );
   range = c.requires.range;
   same_list = refl;
   rising = omega arith;
@@ -27,7 +31,8 @@ telling-init g c = record {
 pub telling-preserved : goal.telling-preserved
 telling-preserved g c = record {
   told = λ parts detaches h none are.
-      let t = c.telling.invariant.told parts detaches h none are in
+      let so_far = c.telling.invariant.told parts detaches h none are in
+      let t = so_far.0 in
       let ds = devices_of (counted (λ z. (goal.Device-dyn g z).seen z.1) (λ z. (goal.Device-dyn g z).faults z.1) c.args.devices.now) in
       let next =
       line_told (world_programs parts) detaches ds t.told.lines t.told.host.tellers _ _ _ c.next.new.self _ c.in-Ok.next c.in-Some.line c.in-Some.is
@@ -35,7 +40,10 @@ telling-preserved g c = record {
       (host_seen (λ z. (goal.Device-dyn g z).seen z.1) (λ z. (goal.Device-dyn g z).faults z.1) (world_programs parts) detaches ds t.told.lines c.telling.devices c.telling.host t.told.host)) in
       let counts = line_counted (λ z. (goal.Device-dyn g z).seen z.1) (λ z. (goal.Device-dyn g z).faults z.1) (world_programs parts) detaches ds t.told.lines t.told.host.tellers _ _ (line_of c.in-Some.line) c.next.new.devices c.next.new.self next in
       let begins = line_begins _ _ _ c.in-Ok.next c.in-Some.line c.in-Some.is c.in-Ok.ensures.begun in
-      told_on parts detaches _ c.telling.host _ _ _ t c.next.new.self _ (map names_of c.args.names.now) are (line_of c.in-Some.line) counts begins _ c.in_default-put_line.ensures.printed;
+      let more =
+      told_on parts detaches _ c.telling.host _ _ _ t c.next.new.self _ (map names_of c.args.names.now) are (line_of c.in-Some.line) counts begins _
+      c.in_default-put_line.ensures.printed in
+      (more.0, omega (arith, more.1, so_far.1));
   range = c.in-Ok.ensures.range;
   same_list = c.next.ensures.same_list ∙ c.telling.invariant.same_list;
   rising = omega (arith, c.telling.invariant.rising, c.put_line.ensures.faults);
@@ -43,19 +51,16 @@ telling-preserved g c = record {
 
 pub returns-in_default-clause-part : goal.returns-in_default-clause-part
 returns-in_default-clause-part g c = λ parts detaches h none are.
-    let t = c.telling.invariant.told parts detaches h none are in
+    let t = (c.telling.invariant.told parts detaches h none are).0 in
     let ds = devices_of (counted (λ z. (goal.Device-dyn g z).seen z.1) (λ z. (goal.Device-dyn g z).faults z.1) c.args.devices.now) in
     told_so_far parts detaches _ c.telling.host _ _ _ t _
     (left_counted (λ z. (goal.Device-dyn g z).seen z.1) (λ z. (goal.Device-dyn g z).faults z.1) c.telling.host.turns.begun detaches c.telling.devices c.next.new.devices
     (c.next.ensures.left (world_programs parts) detaches ds t.told.lines
     (host_seen (λ z. (goal.Device-dyn g z).seen z.1) (λ z. (goal.Device-dyn g z).faults z.1) (world_programs parts) detaches ds t.told.lines c.telling.devices c.telling.host t.told.host) (has_failed c.next.result c.in_default.not-Ok)))
 
-pub returns-clause-part : goal.returns-clause-part
-returns-clause-part g c = λ parts detaches h none are. told_so_far parts detaches _ c.telling.host _ _ _ (c.telling.invariant.told parts detaches h none are) _ (inl refl)
-
 pub returns-in_default-next-clause-told : goal.returns-in_default-next-clause-told
 returns-in_default-next-clause-told g c = λ parts detaches h none are.
-    let t = c.telling.invariant.told parts detaches h none are in
+    let t = (c.telling.invariant.told parts detaches h none are).0 in
     let ds = devices_of (counted (λ z. (goal.Device-dyn g z).seen z.1) (λ z. (goal.Device-dyn g z).faults z.1) c.args.devices.now) in
     let world =
     none_told (world_programs parts) detaches ds t.told.lines t.told.host.tellers _ _ _ c.next.new.self _ c.in-Ok.next c.in_default-next.is
@@ -70,7 +75,7 @@ returns-in_default-next-clause-told g c = λ parts detaches h none are.
 
 pub returns-in_default-next-clause-part : goal.returns-in_default-next-clause-part
 returns-in_default-next-clause-part g c = λ parts detaches h none are.
-    let t = c.telling.invariant.told parts detaches h none are in
+    let t = (c.telling.invariant.told parts detaches h none are).0 in
     let ds = devices_of (counted (λ z. (goal.Device-dyn g z).seen z.1) (λ z. (goal.Device-dyn g z).faults z.1) c.args.devices.now) in
     let world =
     none_told (world_programs parts) detaches ds t.told.lines t.told.host.tellers _ _ _ c.next.new.self _ c.in-Ok.next c.in_default-next.is
@@ -85,7 +90,7 @@ returns-in_default-next-clause-part g c = λ parts detaches h none are.
 
 pub returns-in-Err-clause-part : goal.returns-in-Err-clause-part
 returns-in-Err-clause-part g c = λ parts detaches h none are.
-    let t = c.telling.invariant.told parts detaches h none are in
+    let t = (c.telling.invariant.told parts detaches h none are).0 in
     let ds = devices_of (counted (λ z. (goal.Device-dyn g z).seen z.1) (λ z. (goal.Device-dyn g z).faults z.1) c.args.devices.now) in
     let next =
     line_told (world_programs parts) detaches ds t.told.lines t.told.host.tellers _ _ _ c.next.new.self _ c.in-Ok.next c.in-Some.line c.in-Some.is
@@ -99,7 +104,7 @@ returns-in-Err-clause-part g c = λ parts detaches h none are.
 pub next-requires-clause-tells : goal.next-requires-clause-tells
 next-requires-clause-tells g c =
     let b = c.requires.begins in
-    let so_far = c.telling.invariant.told b.parts b.detaches b.told b.begun b.names_are in
+    let so_far = (c.telling.invariant.told b.parts b.detaches b.told b.begun b.names_are).0 in
     let t = so_far.told in
     let ds = devices_of (counted (λ z. (goal.Device-dyn g z).seen z.1) (λ z. (goal.Device-dyn g z).faults z.1) c.args.devices.now) in
     record {
@@ -109,3 +114,11 @@ next-requires-clause-tells g c =
       lines = t.lines;
       stands = host_seen (λ z. (goal.Device-dyn g z).seen z.1) (λ z. (goal.Device-dyn g z).faults z.1) (world_programs b.parts) b.detaches ds t.lines c.telling.devices c.telling.host t.host;
     }
+
+pub unreachable-requires : goal.unreachable-requires
+unreachable-requires g c =
+    let b = c.requires.begins in
+    let so_far = c.telling.invariant.told b.parts b.detaches b.told b.begun b.names_are in
+    let shows = c.telling.host.turns.shows in
+    let few = few_lines (world_programs b.parts) b.detaches _ _ so_far.0.told.lines c.telling.host so_far.0.told.host c.telling.invariant.range.few in
+    omega (arith, few, so_far.1, shows.ok.0, shows.ok.1, shows.small)

@@ -1,4 +1,4 @@
-use Rattle.std.proofs.Common.{◌≡◌, ◌≤◌, [], List, map}
+use Rattle.std.proofs.Common.{◌≡◌, ◌≤◌, [], List, length, map}
 use Rattle.wa_model.specs.declared.answers.Detach.{Detach}
 use Rattle.many_host.specs.Calls.{devices_of}
 use Rattle.many_host.specs.Standing.{InRange}
@@ -15,8 +15,9 @@ invariant-telling g l = record {
       → HostTold (world_programs parts) detaches (devices_of (counted (λ z. (goal.Device-dyn g z).seen z.1) (λ z. (goal.Device-dyn g z).faults z.1) l.fn.devices)) [] l.fn.host
       (devices_of (counted (λ z. (goal.Device-dyn g z).seen z.1) (λ z. (goal.Device-dyn g z).faults z.1) l.fn.devices))
       → l.fn.host.turns.begun ≡ 0 → map names_of l.names ≡ map part_names parts
-      → Telling parts detaches (counted (λ z. (goal.Device-dyn g z).seen z.1) (λ z. (goal.Device-dyn g z).faults z.1) l.fn.devices) l.host
-      (counted (λ z. (goal.Device-dyn g z).seen z.1) (λ z. (goal.Device-dyn g z).faults z.1) l.devices) (g.S.Sink.taken l.fn.out) (g.S.Sink.taken l.out);
+      → (t : Telling parts detaches (counted (λ z. (goal.Device-dyn g z).seen z.1) (λ z. (goal.Device-dyn g z).faults z.1) l.fn.devices) l.host
+      (counted (λ z. (goal.Device-dyn g z).seen z.1) (λ z. (goal.Device-dyn g z).faults z.1) l.devices) (g.S.Sink.taken l.fn.out) (g.S.Sink.taken l.out))
+      × (length t.told.lines ≡ l._told);
   range : InRange l.host.turns;
   same_list : l.devices.list.ghost_name ≡ l.fn.devices.list.ghost_name;
   rising : g.S.Sink.faults l.fn.out ≤ g.S.Sink.faults l.out;
