@@ -11,7 +11,7 @@ ghost use Rattle.host_laws.specs.Answering.{IsShort, listed_of};
 use wa_model::{Answer, Area, End, Poke, Said};
 use wa_types::{ValType, Value};
 
-/// The first test that an answer fails: its value is of the import's result type; every poke lies inside the memory and off the
+/// The first test that an answer fails: it is a trap, or a value of the import's result type; every poke lies inside the memory and off the
 /// area; where it pauses, the call isn't inside the start function, and the import isn't told as unlisted.
 pub fn answer_fault(
     result_type: Option<ValType>,
@@ -34,7 +34,7 @@ pub fn answer_fault(
     }
 }
 
-// The end by a value of another type than the import's result.
+// The end by a value of another type than the import's result; a trap is no value.
 fn bad_value(result_type: Option<ValType>, import: u32, said: Said) -> Option<End>
     ensures { result ≡ bad_value (option_to_list result_type) import said }
 {
@@ -46,6 +46,7 @@ fn bad_value(result_type: Option<ValType>, import: u32, said: Said) -> Option<En
                 Some(End::BadAnswer { import, value })
             }
         }
+        Said::Trap => None,
     }
 }
 

@@ -255,9 +255,12 @@ abbrev pub all_pokes : List PokeWords → Option (List Poke)
 all_pokes [] = Some []
 all_pokes (p ∷ ps) = onto (poke_of (u32_in p.at) (hex_in p.bytes)) (all_pokes ps)
 
--- a VALUE or `none`
+-- a VALUE, `none` or `trap`
 abbrev pub result_in : List ℕ → Option Said
-result_in word = if bytes_eq word (codes "none") then Some (S.Value None) else option_map (λ (v : Value). S.Value (Some v)) (value_in word)
+result_in word =
+    if bytes_eq word (codes "none") then Some (S.Value None)
+    else if bytes_eq word (codes "trap") then Some S.Trap
+    else option_map (λ (v : Value). S.Value (Some v)) (value_in word)
 
 -- an answer, where all its parts are told
 abbrev pub answer_of : (name : List ℕ) → Option Said → Option ℕ → Option (List Poke) → Meaning

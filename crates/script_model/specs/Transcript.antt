@@ -7,7 +7,7 @@ use Rattle.wa_types.specs.declared.bounds.LimitKind.TheVariants.{File, Functions
 use Rattle.wa_types.specs.declared.values.Value.{Value}
 use Rattle.wa_types.specs.declared.values.Value.TheVariants as V
 use Rattle.wa_types.specs.declared.values.Trap.{Trap}
-use Rattle.wa_types.specs.declared.values.Trap.TheVariants.{DivideByZero, IntegerOverflow, OutOfBounds, Unreachable, UndefinedElement, UninitializedElement, TypeMismatch, StackExhausted}
+use Rattle.wa_types.specs.declared.values.Trap.TheVariants.{DivideByZero, IntegerOverflow, OutOfBounds, Unreachable, UndefinedElement, UninitializedElement, TypeMismatch, StackExhausted, Import}
 use Rattle.wa_model.specs.declared.answers.Said.{Said}
 use Rattle.wa_model.specs.declared.answers.Said.TheVariants as S
 use Rattle.wa_model.specs.declared.events.End.{End}
@@ -80,6 +80,7 @@ trap_text UndefinedElement = codes "undefined element"
 trap_text UninitializedElement = codes "uninitialized element"
 trap_text TypeMismatch = codes "indirect call type mismatch"
 trap_text StackExhausted = codes "call stack exhausted"
+trap_text Import = codes "import trap"
 
 -- how much of an area is used
 abbrev pub area_text : (used len : ℕ) → List ℕ
@@ -126,6 +127,7 @@ pause_text due used len = codes "pause until " ++ decimal due ++ codes " " ++ ar
 -- what an import's call was told
 abbrev pub said_text : Said → List ℕ
 said_text (S.Value v) = value_or_none v
+said_text S.Trap = codes "trap"
 
 -- the text of an event that began at this tick
 abbrev pub event_text : Names → (tick : ℕ) → Event → List ℕ

@@ -74,12 +74,15 @@ fn told_answer(
     Ok(Statement::Answer(AnswerLine { import, answer }))
 }
 
-// A value or `none`.
+// A value, `none` or `trap`.
 fn result_in(word: &str) -> Option<Said>
     ensures { result ≡ result_in word.now }
 {
     if word == "none" {
         return Some(Said::Value(None));
+    }
+    if word == "trap" {
+        return Some(Said::Trap);
     }
     let value = value_in(word)?;
     Some(Said::Value(Some(value)))

@@ -124,6 +124,7 @@ fn trap_text(trap: Trap) -> &'static str
         Trap::UninitializedElement => "uninitialized element",
         Trap::TypeMismatch => "indirect call type mismatch",
         Trap::StackExhausted => "call stack exhausted",
+        Trap::Import => "import trap",
     }
 }
 

@@ -3,6 +3,7 @@ use Rattle.std.specs.Prelude.{ℕ, zero, suc, ◌+◌, nat_lt, nat_le, not, ◌&
 use Rattle.std.specs.Option.{option_to_list}
 use Rattle.wa_types.specs.declared.values.ValType.{ValType}
 use Rattle.wa_types.specs.declared.values.Value.{Value}
+use Rattle.wa_types.specs.declared.values.Trap.TheVariants.{Import}
 use Rattle.wa_types.specs.Syntax.{Func, Module}
 use Rattle.wa_types.specs.Memory.{overwritten}
 use Rattle.wa_types.specs.Modules.{func_imports, func_type_at, defined_at}
@@ -81,11 +82,12 @@ abbrev pub or_else : Option End → Option End → Option End
 or_else None second = second
 or_else (Some e) second = Some e
 
--- the end by a value of another type than the import's result
+-- the end by a value of another type than the import's result; a trap is no value
 abbrev pub bad_value : List ValType → (import : ℕ) → Said → Option End
 bad_value results import (S.Value v) = if answers results v then None else Some (BadAnswer import v)
+bad_value results import S.Trap = None
 
--- The first test that an answer fails: the value's type; pokes inside the memory, off the area; no pause in start, or of one told as unlisted.
+-- The first test that an answer fails: a trap or a value of the type; pokes inside the memory, off the area; no pause in start, or of one told as unlisted.
 abbrev pub fault_of : List ValType → (size : ℕ) → Plan → (in_start : Bool) → (import : ℕ) → Answer → Option End
 fault_of results size plan in_start import a =
     or_else (bad_value results import a.said) (or_else (bad_poke size plan.area a.pokes) (bad_pause in_start (is_unlisted plan.listed import) import a.ticks))
@@ -181,10 +183,15 @@ abbrev pub task_back : ℕ → Task → List Value → Store → Left → Turn S
 task_back k the_start results s l = goes k (done_notes s l.entries) (on_to s l l.entries)
 task_back k (an_entry e) results s l = goes k (note (returned l.number (value_of_results results)) s ∷ done_notes s l.entries) (on_to s (next_entry l) l.entries)
 
--- what is said is told, and given to what waits for it
+-- an import that traps is told as it is answered, and ends the program
+abbrev pub import_traps : Store → List Note
+import_traps s = note (answered S.Trap) s ∷ note (ended (Trapped Import)) s ∷ []
+
+-- what is said is told, and a value given to what waits for it
 abbrev pub go_on : ℕ → Note → Said → Store → Left → Asker → Turn State Note
 go_on k x (S.Value v) s l (inside task c) = goes k (x ∷ note (answered (S.Value v)) s ∷ []) (runs task (resumed c s (option_to_list v)) l)
 go_on k x (S.Value v) s l (outermost old) = goes k (x ∷ note (answered (S.Value v)) s ∷ done_notes s l.entries) (on_to s l l.entries)
+go_on k x S.Trap s l w = goes k (x ∷ import_traps s) (halts s)
 
 -- a call is told, and then the end
 abbrev pub ends_at_call : ℕ → Note → End → Turn State Note

@@ -83,6 +83,7 @@ ValueFits (Some v) = value_fits v
 -- so does what a call is told
 abbrev pub SaidFits : Said → Type 0
 SaidFits (S.Value v) = ValueFits v
+SaidFits S.Trap = Unit {0}
 
 -- so do all numbers of an answer
 pub record AnswerFits (a : Answer) : Type 0 where

@@ -6,6 +6,7 @@ use Rattle.std.specs.List.{find}
 use Rattle.wa_types.specs.declared.values.Value.{Value}
 use Rattle.wa_types.specs.declared.values.Value.TheVariants as V
 use Rattle.wa_types.specs.declared.values.Trap.{Trap}
+use Rattle.wa_types.specs.declared.values.Trap.TheVariants.{Import}
 use Rattle.wa_types.specs.declared.syntax.Export.{Export}
 use Rattle.wa_types.specs.Syntax.{Func, Module}
 use Rattle.wa_types.specs.Memory.{bytes_of, bytes_at, number_of_bytes, overwritten}
@@ -24,7 +25,7 @@ use Rattle.wa_model.specs.Step.{Next, steps, asks, returns, traps, stuck, zero_o
 use Rattle.wa_model.specs.Plan.{Entry, Plan, Outcome, given, refused}
 use Rattle.wa_model.specs.Instantiation.{Opening, fails_as, opens, opening}
 use Rattle.wa_model.specs.Blocking.{Note, note, call_note, fault_of, pause_of, poked, resumed, Task, the_start, an_entry, Left, with_outcomes, Asker, inside, outermost, store_at, stack_at}
-use Rattle.wa_model.specs.Blocking.{in_start, done_notes, value_of_results, next_entry, no_store, all_left}
+use Rattle.wa_model.specs.Blocking.{in_start, done_notes, import_traps, value_of_results, next_entry, no_store, all_left}
 
 -- The five exports, by the indices of their functions.
 pub record Exports : Type 0 where
@@ -115,10 +116,11 @@ held_back k the_start results s l = goes k (done_notes s l.entries) (held_on s l
 held_back k (an_entry e) results s l =
     goes k (note (returned l.number (value_of_results results)) s ∷ done_notes s l.entries) (held_on s (next_entry l) l.entries)
 
--- what is said without a pause is told, and given at once
+-- what is said without a pause is told, and a value given at once
 abbrev pub held_given : ℕ → Note → Said → Store → Left → Asker → Turn Held Note
 held_given k x (S.Value v) s l (inside task c) = goes k (x ∷ note (answered (S.Value v)) s ∷ []) (busy (is_running task) (resumed c s (option_to_list v)) l)
 held_given k x (S.Value v) s l (outermost old) = goes k (x ∷ note (answered (S.Value v)) s ∷ done_notes s l.entries) (held_on s l l.entries)
+held_given k x S.Trap s l w = goes k (x ∷ import_traps s) (over s)
 
 -- a call is told, and then the end
 abbrev pub held_ends : ℕ → Note → End → Turn Held Note
@@ -175,9 +177,10 @@ zeros_of p import = map zero_of (func_type_at p import).results
 abbrev pub answer_note : Said → Store → Store → Note
 answer_note said s at_pause = record { event = answered said; store = s; stack = []; pause = None; since = Some at_pause }
 
--- what is said behind a pause is told, and given to what waits for it
+-- what is said behind a pause is told, and a value given to what waits for it
 abbrev pub held_resumed : ℕ → Entry → Said → (at_pause : Store) → Configuration → Left → Store → Turn Held Note
 held_resumed k e (S.Value v) sp c l s = goes k (answer_note (S.Value v) s sp ∷ []) (busy (is_running (an_entry e)) (resumed c s (option_to_list v)) l)
+held_resumed k e S.Trap sp c l s = goes k (answer_note S.Trap s sp ∷ note (ended (Trapped Import)) s ∷ []) (over s)
 
 -- an export that the host called has returned
 abbrev pub aside_back : Module → Exports → Plan → ℕ → Phase → Then → Left → List Value → Store → Turn Held Note

@@ -9,10 +9,11 @@ pub struct Poke {
     pub bytes: Vec<u8>,
 }
 
-/// What an import's call is told: a value where the import has a result.
+/// What an import's call is told: a value where the import has a result, or that it traps.
 #[derive(Clone, Copy)]
 pub enum Said {
     Value(Option<Value>),
+    Trap,
 }
 
 /// What an import's call is answered: what it is told, pokes in order, and ticks. With ticks of 1 or more the
