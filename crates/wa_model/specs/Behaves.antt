@@ -47,7 +47,7 @@ stack_if stack (Some ticks) = Some stack
 abbrev pub pause_stacks : List Note → List (List Suspended)
 pause_stacks notes = filter_map (λ (x : Note). stack_if x.stack x.pause) notes
 
--- The runs that are compared: the plan fits and tells the listed imports, outcomes are in range, and up to a cost of n the area isn't touched.
+-- The runs that are compared: the plan fits and tells the listed imports, outcomes are in range, and up to a cost of n the blocking run doesn't touch the area.
 pub record Compared (m : Module) (s : Settings) (plan : Plan) (os : List Outcome) (n : ℕ) : Type 0 where
   pub fits : Fits m plan
   pub listed : plan.listed ≡ Some (Listed m s)
@@ -72,7 +72,8 @@ pub record AreaKept (area : Area) (at_pause now : Store) : Type 0 where
   pub location : HoldsBytes now.memory area.at (word (area.at + 8))
   pub others : (x : ℕ) → area.at + 4 ≤ x → x < area.at + area.len → slice_get now.memory x ≡ slice_get at_pause.memory x
 
--- What a note owes the expected one beside it: one event, stores that agree, at a pause the stack's image, behind it an area of which frames were read.
+-- What a note of the rewritten module owes the expected note beside it, which shows the stack: one event; stores agree; at a pause the area
+-- holds the stack's image; and an answer behind a pause has read the frames, and has changed nothing else of the area.
 pub record SameNote (m : Module) (s : Settings) (which : List Bool) (area : Area) (x y : Note) : Type 0 where
   pub event : x.event ≡ y.event
   pub ends : SameEnd (global_space m) area x.store y.store

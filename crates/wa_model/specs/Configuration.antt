@@ -62,8 +62,7 @@ place_of (Some f) code labels = length (calls_in f) - suc (call_count code + cal
 
 -- an activation that waits at a call, as it stood just before
 abbrev pub suspended : Module → Activation → Suspended
-suspended m a =
-    record { func = a.func; place = place_of (defined_at m a.func) a.code a.labels; locals = a.locals; operands = a.taken ++ a.operands }
+suspended m a = record { func = a.func; place = place_of (defined_at m a.func) a.code a.labels; locals = a.locals; operands = a.taken ++ a.operands }
 
 -- the stack of a configuration that waits at a call, the innermost activation first
 abbrev pub stack_of : Module → Configuration → List Suspended

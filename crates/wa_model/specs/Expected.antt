@@ -21,10 +21,9 @@ trap_note used len s = note (ended (UnwindTrap Unreachable used len)) s
 -- a note with what stands behind it: where it is a call that pauses, the pause or the trap
 abbrev pub shown_at : (room fit : List Suspended → ℕ) → (len : ℕ) → Note → Option ℕ → (rest : List Note) → List Note
 shown_at room fit len x None rest = x ∷ rest
-shown_at room fit len x (Some ticks) rest =
-    x ∷ (if nat_lt len (room x.stack) then trap_note (fit x.stack) len x.store ∷ [] else pause_note ticks (room x.stack) x.store x.stack ∷ rest)
+shown_at room fit len x (Some ticks) rest = x ∷ (if nat_lt len (room x.stack) then trap_note (fit x.stack) len x.store ∷ [] else pause_note ticks (room x.stack) x.store x.stack ∷ rest)
 
--- Between a call that pauses and its answer stands the pause; where the stack's room passes the area's length the trap, and nothing follows.
+-- Between a call that pauses and its answer stands the pause; where the stack's room passes the area's length the trap, and nothing follows. Both find the store as at the call.
 abbrev pub shown : (room fit : List Suspended → ℕ) → (len : ℕ) → List Note → List Note
 shown room fit len [] = []
 shown room fit len (x ∷ xs) = shown_at room fit len x x.pause (shown room fit len xs)

@@ -84,8 +84,6 @@ opened_by m globals pages entries false true = fails_as (HostLimit true entries)
 opened_by m globals pages entries false false =
     filled globals (replicate (pages * page_size) 0) (replicate entries None) (map (elem_piece globals) m.elems) (map (byte_piece globals) m.segments)
 
--- The instance with these imported globals, before start runs (4.5.4): a zero memory and an empty table of declared minimum, segments over them.
+-- The instance with these imported globals, before start runs (4.5.4): a zero memory and an uninitialised table of declared minimum, segments over them.
 abbrev pub opening : Module → List Value → Opening
-opening m imports =
-    opened_by m (all_values imports m) (least_of (all_memories m)) (least_of (all_tables m))
-    (nat_lt 1024 (least_of (all_memories m))) (nat_lt 100000 (least_of (all_tables m)))
+opening m imports = opened_by m (all_values imports m) (least_of (all_memories m)) (least_of (all_tables m)) (nat_lt 1024 (least_of (all_memories m))) (nat_lt 100000 (least_of (all_tables m)))

@@ -75,7 +75,7 @@ pub data Then : Type 0 where
   -- after stop_rewind the answer is given
   give_answer : (waits : Configuration) → Then
 
--- Where a run stands: `free` to call an entry, `starting`, `busy` in a phase, `calling` an export that runs `aside`, `entering` again, or `over`.
+-- Where a run under the protocol stands: `free` to call an entry, `starting`, `busy` in a phase, `calling` an export that runs `aside`, `entering` again, or `over`.
 pub data Held : Type 0 where
   free : (store : Store) → (left : Left) → Held
   starting : (func : ℕ) → (store : Store) → (left : Left) → Held
@@ -113,8 +113,7 @@ held_on s l (e ∷ es) = free s l
 -- the start function or an entry has returned while the program runs
 abbrev pub held_back : ℕ → Task → List Value → Store → Left → Turn Held Note
 held_back k the_start results s l = goes k (done_notes s l.entries) (held_on s l l.entries)
-held_back k (an_entry e) results s l =
-    goes k (note (returned l.number (value_of_results results)) s ∷ done_notes s l.entries) (held_on s (next_entry l) l.entries)
+held_back k (an_entry e) results s l = goes k (note (returned l.number (value_of_results results)) s ∷ done_notes s l.entries) (held_on s (next_entry l) l.entries)
 
 -- what is said without a pause is told, and a value given at once
 abbrev pub held_given : ℕ → Note → Said → Store → Left → Asker → Turn Held Note
@@ -156,8 +155,7 @@ abbrev pub busy_step : Module → Exports → Plan → Phase → Left → Next �
 busy_step p x plan ph l (steps k d) = goes k [] (busy ph d l)
 busy_step p x plan (is_running task) l (asks k import args d) = held_asked p x plan k import args (inside task d) l l.outcomes
 busy_step p x plan (unwinds e i a) l (asks k import args d) = broken k 1 d.store
-busy_step p x plan (rewinds e i a sp) l (asks k import args d) =
-    if nat_eq import i then goes k [] (calling (rewinds e i a sp) d.store x.get_state [] (test_rewound d) l) else broken k 3 d.store
+busy_step p x plan (rewinds e i a sp) l (asks k import args d) = if nat_eq import i then goes k [] (calling (rewinds e i a sp) d.store x.get_state [] (test_rewound d) l) else broken k 3 d.store
 busy_step p x plan (is_running task) l (returns k results s) = held_back k task results s l
 busy_step p x plan (unwinds e i a) l (returns k results s) = goes k [] (calling (unwinds e i a) s x.get_state [] test_unwound l)
 busy_step p x plan (rewinds e i a sp) l (returns k results s) = broken k 5 s
@@ -185,13 +183,11 @@ held_resumed k e S.Trap sp c l s = goes k (answer_note S.Trap s sp ∷ note (end
 -- an export that the host called has returned
 abbrev pub aside_back : Module → Exports → Plan → ℕ → Phase → Then → Left → List Value → Store → Turn Held Note
 aside_back p x plan k (unwinds e i a) (give_zero c) l results s = goes k [] (busy (unwinds e i a) (resumed c s (zeros_of p i)) l)
-aside_back p x plan k (unwinds e i a) test_unwound l results s =
-    if is_state 1 results then goes k [] (calling (unwinds e i a) s x.stop_unwind [] pause_there l) else broken k 2 s
+aside_back p x plan k (unwinds e i a) test_unwound l results s = if is_state 1 results then goes k [] (calling (unwinds e i a) s x.stop_unwind [] pause_there l) else broken k 2 s
 aside_back p x plan k (unwinds e i a) pause_there l results s =
     goes k (note (paused a.ticks (used_of s plan.area)) s ∷ []) (calling (rewinds e i a s) s x.start_rewind (V.I32 plan.area.at ∷ []) call_again l)
 aside_back p x plan k (rewinds e i a sp) call_again l results s = goes k [] (entering (rewinds e i a sp) e s l)
-aside_back p x plan k (rewinds e i a sp) (test_rewound c) l results s =
-    if is_state 2 results then goes k [] (calling (rewinds e i a sp) s x.stop_rewind [] (give_answer c) l) else broken k 4 s
+aside_back p x plan k (rewinds e i a sp) (test_rewound c) l results s = if is_state 2 results then goes k [] (calling (rewinds e i a sp) s x.stop_rewind [] (give_answer c) l) else broken k 4 s
 aside_back p x plan k (rewinds e i a sp) (give_answer c) l results s = held_resumed k e a.said sp c l (poked s a.pokes)
 aside_back p x plan k ph th l results s = stops
 

@@ -112,8 +112,7 @@ stored s (Some memory) = works (with_memory s memory) []
 -- a store of a value at a place (4.4.4.2)
 abbrev pub store_at : Store → ℕ → Value → Option AccessRow → Did
 store_at s place v None = lacks
-store_at s place v (Some row) =
-    if same_type row.ty (type_of v) then stored s (with_number s.memory place (width_of row) (number_of v)) else lacks
+store_at s place v (Some row) = if same_type row.ty (type_of v) then stored s (with_number s.memory place (width_of row) (number_of v)) else lacks
 
 -- memory.grow (4.4.4.4): the old number of pages, or -1
 abbrev pub grew : Store → Option Memory → Did
