@@ -48,6 +48,7 @@ export interface Program {
  * - "unlisted-pause": the program wasn't rewritten for a pause at `import`.
  * - "pause-in-start": an import returned a promise in the module's start function.
  * - "no-entry": an import returned a promise in a call of `instance.exports`.
+ * - "import-trap": `import` trapped, by an `ImportTrap`, which is the `cause`.
  * - "busy": another call is under way.
  * - "spent": an error has left the program in the middle; `cause` is that error.
  * - "aborted": by the signal; `cause` is its reason.
@@ -59,6 +60,7 @@ export type Code =
   | "unlisted-pause"
   | "pause-in-start"
   | "no-entry"
+  | "import-trap"
   | "busy"
   | "spent"
   | "aborted";
@@ -69,6 +71,11 @@ export class AsyncifyError extends Error {
   readonly used?: number;
   readonly length?: number;
   readonly wanted?: number;
+}
+
+/** What an import throws, or its promise is rejected with, for the program to trap in that call. */
+export class ImportTrap extends Error {
+  constructor(message?: string, options?: { cause?: unknown });
 }
 
 export type Source = BufferSource | Response | WebAssembly.Module;

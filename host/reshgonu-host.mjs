@@ -23,6 +23,14 @@ export class AsyncifyError extends Error {
   }
 }
 
+/** What an import throws, or its promise is rejected with, for the program to trap in that call: `instantiate` tells it as "import-trap". */
+export class ImportTrap extends Error {
+  constructor(message = "import trap", options) {
+    super(message, options);
+    this.name = "ImportTrap";
+  }
+}
+
 /**
  * Compiles a rewritten module and makes an instance of it.
  *
@@ -90,7 +98,7 @@ class Host {
   #called = false;
   /** The import whose own code is running. */
   #within;
-  /** The import call that pauses the program: `import`, `args` and `promise`. */
+  /** The import call that pauses the program: `import`, `args` and `promise`, and `answer`, which gives the answer in that call or throws. */
   #pause;
   /** What spent the instance. */
   #cause;
@@ -154,6 +162,8 @@ class Host {
       let value;
       try {
         value = start(...args);
+      } catch (error) {
+        throw asTrap(name, error);
       } finally {
         this.#within = caller;
       }
@@ -210,7 +220,7 @@ class Host {
     this.#instance.asyncify_stop_rewind();
     this.#phase = "running";
     this.#pause = undefined;
-    return answer;
+    return answer();
   }
 
   /** The two words of the area. When the memory has grown it has another buffer, and the one before has no bytes any more. */
@@ -234,7 +244,7 @@ class Host {
       let result = entry(...args);
       while (this.#phase === "unwinding") {
         this.#unwound();
-        this.#pause.answer = await unlessAborted(this.#pause.promise, this.#signal);
+        this.#pause.answer = await this.#answer();
         this.#phase = "rewinding";
         this.#instance.asyncify_start_rewind(this.#area.at);
         result = entry(...args);
@@ -244,6 +254,20 @@ class Host {
       return result;
     } catch (error) {
       throw this.#failed(error);
+    }
+  }
+
+  /** Waits for what the paused import comes to: a value that the call gives, or a trap that it makes. */
+  async #answer() {
+    const { import: name, promise } = this.#pause;
+    try {
+      const value = await unlessAborted(promise, this.#signal);
+      return () => value;
+    } catch (error) {
+      if (!(error instanceof ImportTrap)) throw error;
+      return () => {
+        throw asTrap(name, error);
+      };
     }
   }
 
@@ -319,6 +343,12 @@ class Host {
       "and leave out '--ignore-indirect' where a call through a table leads to it; 'asyncify run' shows such pauses";
     return new AsyncifyError("unlisted-pause", `${found}. ${todo}`, { cause, import: name });
   }
+}
+
+/** What an import threw, in the words of the library where it asks for a trap. */
+function asTrap(name, error) {
+  if (!(error instanceof ImportTrap)) return error;
+  return new AsyncifyError("import-trap", `${name} trapped: ${error.message}`, { cause: error, import: name });
 }
 
 const aborted = (signal) => new AsyncifyError("aborted", "the signal given to 'instantiate' was aborted", { cause: signal.reason });

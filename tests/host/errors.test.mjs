@@ -2,7 +2,7 @@
 import assert from "node:assert/strict";
 import { getEventListeners } from "node:events";
 import { describe, it, test } from "node:test";
-import { AsyncifyError, instantiate } from "../../host/reshgonu-host.mjs";
+import { AsyncifyError, ImportTrap, instantiate } from "../../host/reshgonu-host.mjs";
 import { original, rewritten, rewriters, withoutBinaryen } from "./rewriting.mjs";
 
 const soon = (value) => new Promise((done) => setImmediate(done, value));
@@ -215,6 +215,60 @@ describe("an import that fails", () => {
     const { exports } = await calls({}, { wide: async () => 5 });
     await assert.rejects(exports.wide(1n, 1), TypeError);
     await refused(exports.quiet(1), "spent", /new instance/);
+  });
+});
+
+describe("import-trap", () => {
+  const gone = new ImportTrap("disk gone");
+  const facts = { import: "env.read", cause: gone };
+  const kinds = {
+    throws: () => {
+      throw gone;
+    },
+    rejects: () => Promise.reject(gone),
+    "rejects later": () => soon().then(() => Promise.reject(gone)),
+  };
+  for (const { by, skip } of rewriters) {
+    for (const [kind, read] of Object.entries(kinds)) {
+      it(`comes where an import ${kind} with an ImportTrap, rewritten by ${by}`, { skip }, async () => {
+        const { exports } = await instantiate(rewritten("calls", by), { env: { ...env, read } });
+        await refused(exports.deep(3), "import-trap", /env.read trapped: disk gone/, facts);
+        await refused(exports.quiet(1), "spent", /new instance/);
+      });
+    }
+
+    it(`leaves the stack rewound and the state normal behind a pause, rewritten by ${by}`, { skip }, async () => {
+      const read = (which) => (which < 2 ? soon(which) : soon().then(() => Promise.reject(gone)));
+      const { instance, exports } = await instantiate(rewritten("calls", by), { env: { ...env, read } });
+      await refused(exports.sum(5), "import-trap", /disk gone/, facts);
+      const area = instance.exports.area();
+      assert.equal(instance.exports.asyncify_get_state(), 0);
+      assert.equal(new DataView(instance.exports.memory.buffer).getUint32(area, true), area + 8);
+    });
+  }
+
+  it("keeps what the import has written by then", async () => {
+    const written = new Uint8Array([1, 2, 3, 4]);
+    let place;
+    const program = await calls({}, {
+      fill: async (at) => {
+        await soon();
+        place = at;
+        new Uint8Array(program.instance.exports.memory.buffer).set(written, at);
+        throw gone;
+      },
+    });
+    await refused(program.exports.filled(4), "import-trap", /env.fill trapped/, { import: "env.fill" });
+    assert.deepEqual(new Uint8Array(program.instance.exports.memory.buffer, place, 4), written);
+  });
+
+  it("comes out of a start function and of an export of the instance itself as well", async () => {
+    const pause = () => {
+      throw gone;
+    };
+    await refused(instantiate(rewritten("start"), { env: { pause } }), "import-trap", /env.pause trapped/, { import: "env.pause" });
+    const { instance } = await calls({}, { plain: pause });
+    assert.throws(() => instance.exports.quiet(1), { code: "import-trap", import: "env.plain" });
   });
 });
 

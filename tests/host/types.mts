@@ -1,5 +1,5 @@
 // What a host in TypeScript writes: it has to compile against the types of the library.
-import { AsyncifyError, instantiate, type Options, type Program } from "reshgonu-host";
+import { AsyncifyError, ImportTrap, instantiate, type Options, type Program } from "reshgonu-host";
 import { Exit, Wasi } from "reshgonu-host/wasi";
 
 const options: Options = {
@@ -11,6 +11,7 @@ const env = {
   read: async (which: number) => 100 + which,
   wide: (value: bigint) => value + 1n,
   tell: (text: number) => console.log(text),
+  fail: async () => Promise.reject(new ImportTrap("disk gone", { cause: 5 })),
   memory: new WebAssembly.Memory({ initial: 1 }),
 };
 
@@ -25,6 +26,7 @@ try {
   await program.exports.run();
 } catch (error) {
   if (error instanceof AsyncifyError && error.code === "area-too-small") console.log(error.wanted, error.import, error.cause);
+  else if (error instanceof AsyncifyError && error.code === "import-trap") console.log(error.import, error.cause instanceof ImportTrap);
   else if (error instanceof Exit) console.log(error.status);
 }
 
