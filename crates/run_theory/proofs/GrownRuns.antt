@@ -255,11 +255,34 @@ module _ (m : Module) (ts : List FuncType) (fs : List Func) (gs : List GlobalDef
       (call_behind import args (outermost s) None ∷ note (answered (S.Value v)) (poked (big s) pokes) ∷ []) (poked s pokes) (poked (big s) pokes) l l.entries
       (λ idle. (refl, (plain_call import args (outermost s) h, (record { event = refl; pause = refl; since = refl; globals = h.globals }, tt))))
       refl (record { globals = h.globals; table = h.table }) lo
+  given_in_step k import args (inside task c) l S.Trap pokes h lo = (
+    _,
+    _,
+    refl,
+    λ idle. (
+      ap (λ x. x ∷ import_traps (poked (big c.store) pokes)) (note_is import args (inside task c) None h),
+      refl,
+      record { globals = (h.store).globals; table = (h.store).table },
+      (plain_call import args (inside task c) h, (record { event = refl; pause = refl; since = refl; globals = (h.store).globals }, (record { event = refl; pause = refl; since = refl; globals = (h.store).globals }, tt))),
+    ),
+  )
+  given_in_step k import args (outermost s) l S.Trap pokes h lo = (
+    _,
+    _,
+    refl,
+    λ idle. (
+      ap (λ x. x ∷ import_traps (poked (big s) pokes)) (note_is import args (outermost s) None h),
+      refl,
+      record { globals = (h).globals; table = (h).table },
+      (plain_call import args (outermost s) h, (record { event = refl; pause = refl; since = refl; globals = (h).globals }, (record { event = refl; pause = refl; since = refl; globals = (h).globals }, tt))),
+    ),
+  )
 
   -- an answer that pauses suspends a stack
   pauses_in_step : (k import ticks : ℕ) (args : List Value) (w : Asker) (l : Left) (a : Answer) (said : Said) → (in_start w ≡ true → ⊥)
       → InStep (go_on k (call_before import args w (Some (suc ticks))) said (poked (store_at w) a.pokes) l w) (held_tested p ex plan k import args (grown_asker more w) l a None (Some (suc ticks)))
   pauses_in_step k import ticks args (inside (an_entry e) c) l a (S.Value v) h = (_, _, refl, λ idle. absurd (let z = (idle.0) (suc ticks) refl in cc))
+  pauses_in_step k import ticks args (inside (an_entry e) c) l a S.Trap h = (_, _, refl, λ idle. absurd (let z = (idle.0) (suc ticks) refl in cc))
   pauses_in_step k import ticks args (inside the_start c) l a said h = absurd (h refl)
   pauses_in_step k import ticks args (outermost s) l a said h = absurd (h refl)
 

@@ -290,6 +290,7 @@ task_back_pruned k (an_entry e) results s l = goes_pruned k (note (returned l.nu
 go_on_pruned : (k : ℕ) (x : Note) (said : Said) (s : Store) (l : Left) (w : Asker) → go_on k x said s l (pruned_asker w) ≡ pruned_turn (go_on k x said s l w)
 go_on_pruned k x (S.Value v) s l (inside task c) = refl
 go_on_pruned k x (S.Value v) s l (outermost old) = goes_pruned k (x ∷ note (answered (S.Value v)) s ∷ done_notes s l.entries) s l l.entries
+go_on_pruned k x S.Trap s l w = refl
 
 module _ (m : Module) (plan : Plan) where
   abbrev p : Module

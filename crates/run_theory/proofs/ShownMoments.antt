@@ -71,6 +71,7 @@ back_honest k (an_entry e) results s l h = ((refl, done_honest s l.entries), on_
 go_on_honest : (k : ℕ) (x : Note) (said : Said) (s : Store) (l : Left) (w : Asker) → unless_pause x.event ≡ Some x.event → All OutcomeFits l.outcomes → Honest_turn (go_on k x said s l w)
 go_on_honest k x (S.Value v) s l (inside task c) e h = ((e, (refl, tt)), h)
 go_on_honest k x (S.Value v) s l (outermost old) e h = ((e, (refl, done_honest s l.entries)), on_lawful s l l.entries h)
+go_on_honest k x S.Trap s l w e h = ((e, (refl, (refl, tt))), tt)
 
 tested_honest : (m : Module) (k import : ℕ) (args : List Value) (w : Asker) (l : Left) (a : Answer) (o : Option End) → Honest_end o → All OutcomeFits l.outcomes
     → Honest_turn (tested m k import args w l a o)

@@ -65,6 +65,7 @@ plain_back k (an_entry e) results s l = plain_done s l.entries
 plain_go_on : (k : ℕ) (x : Note) (said : Said) (s : Store) (l : Left) (w : Asker) → Plain_turn (go_on k x said s l w)
 plain_go_on k x (S.Value v) s l (inside task c) = (refl, tt)
 plain_go_on k x (S.Value v) s l (outermost old) = (refl, plain_done s l.entries)
+plain_go_on k x S.Trap s l w = (refl, (refl, tt))
 
 plain_tested : (m : Module) (k import : ℕ) (args : List Value) (w : Asker) (l : Left) (a : Answer) (o : Option End) → Plain_turn (tested m k import args w l a o)
 plain_tested m k import args w l a (Some e) = (refl, tt)

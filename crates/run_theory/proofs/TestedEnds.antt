@@ -36,6 +36,7 @@ module _ (P : End → Type 0) (each : OfTests P) where
       by : (b : Bool) → EndIs P (if b then None else Some (BadAnswer i v))
       by true = tt
       by false = each.value i v
+  value_is types i S.Trap = tt
 
   pokes_are : (size : ℕ) (area : Area) (ps : List Poke) → EndIs P (bad_poke size area ps)
   pokes_are size area [] = tt

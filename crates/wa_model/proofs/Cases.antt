@@ -4,7 +4,7 @@ use Rattle.std.specs.Prelude.{Option, slice_get, replicate, codes}
 use Rattle.wa_types.specs.declared.values.ValType.TheVariants.{I32, I64}
 use Rattle.wa_types.specs.declared.values.Value.{Value}
 use Rattle.wa_types.specs.declared.values.Value.TheVariants as V
-use Rattle.wa_types.specs.declared.values.Trap.TheVariants.{DivideByZero, UndefinedElement, UninitializedElement, TypeMismatch, Unreachable, StackExhausted}
+use Rattle.wa_types.specs.declared.values.Trap.TheVariants.{DivideByZero, UndefinedElement, UninitializedElement, TypeMismatch, Unreachable, StackExhausted, Import as ByImport}
 use Rattle.wa_types.specs.declared.operators.NumOp.TheVariants.{I32Add, I32Sub, I32Eq, I64DivU, I64ExtendI32U}
 use Rattle.wa_types.specs.declared.syntax.Import.{Import}
 use Rattle.wa_types.specs.declared.syntax.ImportKind.TheVariants as K
@@ -21,7 +21,7 @@ use Rattle.wa_types.specs.Liveness.{behind_calls, live}
 use Rattle.wa_types.specs.Runtime.{with_runtime}
 use Rattle.wa_model.specs.declared.answers.Said.TheVariants as S
 use Rattle.wa_model.specs.declared.events.End.TheVariants.{Done, Trapped, UnwindTrap, RewindTrap, BadAnswer, BadPoke, PauseInStart, Broken}
-use Rattle.wa_model.specs.Outside.{Answer, Event, called, answered, paused, returned, ended}
+use Rattle.wa_model.specs.Outside.{Poke, Answer, Event, called, answered, paused, returned, ended}
 use Rattle.wa_types.specs.Memory.{bytes_at}
 use Rattle.wa_types.specs.Frames.{Suspended, Image}
 use Rattle.std.proofs.lemmas.List.Elements.{All-cons, All-nil}
@@ -56,6 +56,9 @@ export_of x = record { name = codes "run"; space = Sp.Func; index = x }
 abbrev answer : Option Value → ℕ → Outcome
 answer v ticks = given (record { said = S.Value v; pokes = []; ticks = ticks })
 
+abbrev trap_with : List Poke → ℕ → Outcome
+trap_with pokes ticks = given (record { said = S.Trap; pokes = pokes; ticks = ticks })
+
 abbrev call_of : ℕ → List Value → Event
 call_of i args = called (record { import = i; args = args })
 
@@ -74,6 +77,11 @@ module_with f = record {
   segments = [];
   customs = [];
 }
+
+-- bytes of the memory at a note
+abbrev bytes_of_note : Option Note → ℕ → ℕ → List ℕ
+bytes_of_note None at len = []
+bytes_of_note (Some x) at len = bytes_at x.store.memory at len
 
 abbrev plan_of : ℕ → List Entry → Plan
 plan_of len entries = record { globals = []; entries = entries; area = record { at = 0; len = len }; listed = Some (true ∷ []) }
@@ -153,6 +161,13 @@ short : events_of (Expected countdown save_all (record { at = 0; len = 27 }) (Bl
     ∷ answered (S.Value (Some (i32 10))) ∷ call_of 0 (i32 2 ∷ []) ∷ ended (UnwindTrap Unreachable 8 27) ∷ []
 unfolding pruned calls_of points Base
 short = refl
+
+-- the second answer is a trap behind a pause: nothing follows, though an outcome and a cost are left
+traps_behind_pause : events_of (Expected countdown save_all (record { at = 0; len = 64 }) (Blocking countdown (plan_of 64 (entry 1 (i32 3 ∷ []) ∷ []))
+    (answer (Some (i32 10)) 0 ∷ trap_with [] 4 ∷ answer (Some (i32 30)) 0 ∷ []) 48).events) ≡ call_of 0 (i32 3 ∷ []) ∷ answered (S.Value (Some (i32 10))) ∷ call_of 0 (i32 2 ∷ [])
+    ∷ paused 4 28 ∷ answered S.Trap ∷ ended (Trapped ByImport) ∷ []
+unfolding pruned calls_of points Base
+traps_behind_pause = refl
 
 -- ---- division by zero after a pause
 abbrev divides : Module
@@ -375,6 +390,32 @@ pokes_past : asked_with (record { said = S.Value (Some (i32 5)); pokes = record 
 unfolding Base
 pokes_past = refl
 
+-- ---- an import that traps, in the first of two entries: its poke stays, no zero is returned, and no entry follows
+abbrev trapped_with : List Poke → List Note
+trapped_with pokes = (Blocking asks_once (plan_of 64 (entry 1 (i32 7 ∷ []) ∷ entry 1 (i32 8 ∷ []) ∷ [])) (trap_with pokes 0 ∷ answer (Some (i32 5)) 0 ∷ []) 20).events
+
+abbrev trap_events : List Event
+trap_events = call_of 0 (i32 7 ∷ []) ∷ answered S.Trap ∷ ended (Trapped ByImport) ∷ []
+
+abbrev a_poke : List Poke
+a_poke = record { at = 64; bytes = 1 ∷ 2 ∷ [] } ∷ []
+
+import_traps_once : events_of (trapped_with a_poke) ≡ trap_events
+unfolding Base
+import_traps_once = refl
+
+poke_stays : bytes_of_note (slice_get (trapped_with a_poke) 2) 63 4 ≡ 0 ∷ 1 ∷ 2 ∷ 0 ∷ []
+unfolding Base
+poke_stays = refl
+
+-- its pokes are tested as any others
+trap_pokes_area : events_of (trapped_with (record { at = 63; bytes = 1 ∷ 2 ∷ [] } ∷ [])) ≡ call_of 0 (i32 7 ∷ []) ∷ ended (BadPoke 63 2) ∷ []
+unfolding Base
+trap_pokes_area = refl
+
+not_a_zero : trap_events ≡ call_of 0 (i32 7 ∷ []) ∷ answered S.Trap ∷ returned 0 (Some (i32 0)) ∷ ended Done ∷ [] → ⊥
+not_a_zero e = cc
+
 -- ---- a pause in start
 abbrev starts : Module
 starts = record {
@@ -401,6 +442,17 @@ pause_in_start = refl
 no_pause_in_start : start_paused 0 ≡ call_of 0 (i32 0 ∷ []) ∷ answered (S.Value (Some (i32 1))) ∷ ended Done ∷ []
 unfolding Base
 no_pause_in_start = refl
+
+abbrev start_trapped : ℕ → List Event
+start_trapped ticks = events_of (Blocking starts (plan_of 64 []) (trap_with [] ticks ∷ []) 20).events
+
+traps_in_start : start_trapped 0 ≡ call_of 0 (i32 0 ∷ []) ∷ answered S.Trap ∷ ended (Trapped ByImport) ∷ []
+unfolding Base
+traps_in_start = refl
+
+no_trap_behind_pause_in_start : start_trapped 1 ≡ call_of 0 (i32 0 ∷ []) ∷ ended (PauseInStart 0) ∷ []
+unfolding Base
+no_trap_behind_pause_in_start = refl
 
 -- ---- two calls in a row, of which none is instrumented: the second comes while the program unwinds
 abbrev asks_twice : Module
@@ -445,10 +497,6 @@ unfolding with_runtime Base
 pauses_and_goes_on = refl
 
 -- the note of the pause has the frame behind the two words: the argument, the slot and the number of the call
-abbrev bytes_of_note : Option Note → ℕ → ℕ → List ℕ
-bytes_of_note None at len = []
-bytes_of_note (Some x) at len = bytes_at x.store.memory at len
-
 frame_at_pause : bytes_of_note (slice_get (Protocol by_hand by_hand_plan (answer (Some (i32 42)) 5 ∷ []) 200).events 1) 1024 20 ≡ 0x14 ∷ 4 ∷ 0 ∷ 0 ∷ 0x40 ∷ 4 ∷ 0 ∷ 0 ∷ 7 ∷ 0 ∷ 0 ∷ 0 ∷ 7 ∷ 0
     ∷ 0 ∷ 0 ∷ 0 ∷ 0 ∷ 0 ∷ 0 ∷ []
 unfolding with_runtime Base
@@ -459,6 +507,18 @@ frame_at_answer : bytes_of_note (slice_get (Protocol by_hand by_hand_plan (answe
     ∷ 0 ∷ 0 ∷ 0 ∷ 0 ∷ 0 ∷ 0 ∷ []
 unfolding with_runtime Base
 frame_at_answer = refl
+
+-- a trap behind a pause is told once the module has rewound, with its poke
+abbrev hand_trapped : List Note
+hand_trapped = (Protocol by_hand by_hand_plan (trap_with a_poke 5 ∷ answer (Some (i32 42)) 0 ∷ []) 200).events
+
+pauses_and_traps : events_of hand_trapped ≡ call_of 0 (i32 7 ∷ []) ∷ paused 5 20 ∷ answered S.Trap ∷ ended (Trapped ByImport) ∷ []
+unfolding with_runtime Base
+pauses_and_traps = refl
+
+hand_poked : bytes_of_note (slice_get hand_trapped 3) 63 4 ≡ 0 ∷ 1 ∷ 2 ∷ 0 ∷ []
+unfolding with_runtime Base
+hand_poked = refl
 
 -- ---- the stack at a call: the call in the second arm of an if is the second one of its function
 abbrev calls_in_arms : Module
