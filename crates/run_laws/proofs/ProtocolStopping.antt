@@ -50,7 +50,7 @@ module _ (p : Module) (v : Valid p) (plan : Plan) (ex : ExportsTyped p) where
   TurnFits t = TurnKeeps (protocol p x plan) (HeldFits p) AnyNote t
 
   abbrev AskerFits : ℕ → Asker → Type 0
-  AskerFits import (inside task c) = TaskTyped p task × (outs : List ValType) × WaitingFits p outs import c
+  AskerFits import (inside task c) = TaskTyped p task × (outs : List ValType) × WaitingFits p outs import c × (import < func_imports p)
   AskerFits import (outermost s) = StoreFits p s
 
   on_fits : (s : Store) (l : Left) (es : List Entry) → es ≡ l.entries → StoreFits p s → LeftTyped p l → HeldFits p (held_on s l es)
@@ -83,7 +83,7 @@ module _ (p : Module) (v : Valid p) (plan : Plan) (ex : ExportsTyped p) where
   pauses_fit : (k import : ℕ) (called : Note) (a : Answer) (l : Left) (who : Asker) → SaidTyped p import a.said → LeftTyped p l → AskerFits import who
       → TurnFits (held_pauses x plan k called import a l who)
   pauses_fit k import called a l (inside (an_entry e) c) typed h w =
-      (any_notes (called ∷ []), (words_fit c.store w.2.store, ex.start_unwind, (w.0, typed), (w.1, w.2.waits), h))
+      (any_notes (called ∷ []), (words_fit c.store w.2.store, ex.start_unwind, (w.0, typed, w.3), (w.1, w.2.waits), h))
   pauses_fit k import called a l (inside the_start c) typed h w = tt
   pauses_fit k import called a l (outermost s) typed h w = tt
 
@@ -107,7 +107,7 @@ module _ (p : Module) (v : Valid p) (plan : Plan) (ex : ExportsTyped p) where
 
   busy_turn : (ph : Phase) (l : Left) (outs : List ValType) (o : Next) → PhaseTyped p ph → LeftTyped p l → NextFits p outs o → TurnFits (busy_step p x plan ph l o)
   busy_turn ph l outs (steps k d) t h n = (any_notes [], (outs, n, t, h))
-  busy_turn (is_running task) l outs (asks k import args d) t h n = asked_fits k import args (inside task d) l l.outcomes h (t, outs, n.2)
+  busy_turn (is_running task) l outs (asks k import args d) t h n = asked_fits k import args (inside task d) l l.outcomes h (t, outs, n.2, n.0)
   busy_turn (unwinds e i a) l outs (asks k import args d) t h n = broken_fits k 1 d.store
   busy_turn (rewinds e i a sp) l outs (asks k import args d) t h n = by_import (eqb import i) refl
     where

@@ -4,7 +4,7 @@ use Rattle.std.specs.Option.{option_to_list}
 use Rattle.wa_types.specs.declared.values.ValType.{ValType}
 use Rattle.wa_types.specs.declared.values.ValType.TheVariants.{I32}
 use Rattle.wa_types.specs.Syntax.{Func, Module}
-use Rattle.wa_types.specs.Modules.{func_sorts, func_type_at, defined_at}
+use Rattle.wa_types.specs.Modules.{func_imports, func_sorts, func_type_at, defined_at}
 use Rattle.wa_model.specs.declared.answers.Said.{Said}
 use Rattle.wa_model.specs.declared.answers.Said.TheVariants as S
 use Rattle.wa_model.specs.Configuration.{Configuration}
@@ -53,11 +53,11 @@ TaskTyped p (an_entry e) = EntryTyped p e
 abbrev pub SaidTyped : Module → ℕ → Said → Type 0
 SaidTyped p import (S.Value v) = types_of (option_to_list v) ≡ results_of p import
 
--- the entry, and what waits in a phase of a pause
+-- the entry, and what waits in a phase of a pause, at an import that is there
 abbrev pub PhaseTyped : Module → Phase → Type 0
 PhaseTyped p (is_running task) = TaskTyped p task
-PhaseTyped p (unwinds e i a) = EntryTyped p e × SaidTyped p i a.said
-PhaseTyped p (rewinds e i a at_pause) = EntryTyped p e × SaidTyped p i a.said
+PhaseTyped p (unwinds e i a) = EntryTyped p e × SaidTyped p i a.said × (i < func_imports p)
+PhaseTyped p (rewinds e i a at_pause) = EntryTyped p e × SaidTyped p i a.said × (i < func_imports p)
 
 -- what waits for the results of an import
 abbrev pub Waits : Module → ℕ → Configuration → Type 0
