@@ -18,8 +18,8 @@ use Rattle.wa_model.specs.Store.{Store}
 use Rattle.wa_model.specs.Configuration.{Activation, place_of, suspended}
 use Rattle.wa_model.specs.Step.{Next, steps, asks, returns, traps, stuck, entered, step}
 use Rattle.wa_model.specs.Plan.{Entry, Plan, Outcome, given, refused, OutcomeFits, IsRefusal}
-use Rattle.wa_model.specs.Blocking.{Note, note, call_note, answers, bad_value, bad_poke, is_unlisted, bad_pause, or_else, fault_of, pause_of, poked, Task, the_start, an_entry, Left}
-use Rattle.wa_model.specs.Blocking.{with_outcomes, Asker, inside, outermost, store_at, stack_at, in_start, State, between, begins, runs, halts, done_notes, on_to, value_of_results}
+use Rattle.wa_model.specs.Blocking.{Note, note, call_note, bad_value, bad_poke, is_unlisted, bad_pause, or_else, fault_of, pause_of, poked, Task, the_start, an_entry, Left}
+use Rattle.wa_model.specs.Blocking.{with_outcomes, Asker, inside, outermost, store_at, stack_at, in_start, State, between, begins, runs, halts, done_notes, import_traps, on_to, value_of_results}
 use Rattle.wa_model.specs.Blocking.{next_entry, task_back, go_on, ends_at_call, tested, asked, by_step, enters, enter_next, start_called, blocking}
 use Rattle.wa_model.specs.Protocol.{Exports, Held, free, starting, busy, over, is_running, held_on, held_back, held_given, held_tested, held_asked, busy_step, busy_enters, held_next}
 use Rattle.wa_model.specs.Protocol.{held_start, protocol}

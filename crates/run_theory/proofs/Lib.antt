@@ -17,6 +17,7 @@ pub mod HeightLemmas
 pub mod Invariants
 pub mod Moments
 pub mod NamedModules
+pub mod OwnTraps
 pub mod PrunedRuns
 pub mod QuietBehave
 pub mod QuietCases

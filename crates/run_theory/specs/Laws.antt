@@ -1,10 +1,13 @@
 -- Laws of runs. Functions with an empty body have them as their contracts.
 use Rattle.std.specs.Prelude.{◌≡◌, ℕ, ◌+◌, List}
+use Rattle.wa_types.specs.declared.values.Trap.{Trap}
+use Rattle.wa_types.specs.declared.values.Trap.TheVariants.{Import}
 use Rattle.wa_types.specs.Syntax.{Module}
 use Rattle.wa_types.specs.Base.{Base}
 use Rattle.wa_model.specs.Machine.{Ran, after, run, Leads, IsRun}
 use Rattle.wa_model.specs.Configuration.{Configuration}
-use Rattle.wa_model.specs.Step.{Step}
+use Rattle.wa_model.specs.Store.{Store}
+use Rattle.wa_model.specs.Step.{traps, Step, step}
 use Rattle.wa_model.specs.Plan.{Plan, Outcome}
 use Rattle.wa_model.specs.Instantiation.{opening}
 use Rattle.wa_model.specs.Blocking.{Note, State, begun, all_left, blocking, Blocking, store_of}
@@ -78,3 +81,7 @@ abbrev pub EndsOneWay : Type 0
 EndsOneWay =
     (m : Module) (c : Configuration) (left used used' : ℕ) (end end' : Finish) → EndsAs m c left used end → EndsAs m c left used' end'
     → (used ≡ used') × (end ≡ end')
+
+-- No reduction traps for an import.
+abbrev pub ReductionsTrapThemselves : Type 0
+ReductionsTrapThemselves = (m : Module) (c : Configuration) (k : ℕ) (t : Trap) (s : Store) → step m c ≡ traps k t s → t ≡ Import → ⊥

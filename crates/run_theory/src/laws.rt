@@ -1,6 +1,6 @@
 //! Laws of configurations and runs (standard, sections 4.2 and 4.4). Each is the contract of a function that does nothing.
 
-ghost use Rattle.run_theory.specs.Laws.{EndsOneWay, MovesAddUp, OneNext, ProtocolAreMoves, ProtocolDetermined, ProtocolGrows, PrunedRunsSame, RunsAreMoves, RunsDetermined, RunsGrow};
+ghost use Rattle.run_theory.specs.Laws.{EndsOneWay, MovesAddUp, OneNext, ProtocolAreMoves, ProtocolDetermined, ProtocolGrows, PrunedRunsSame, ReductionsTrapThemselves, RunsAreMoves, RunsDetermined, RunsGrow};
 
 /// A configuration has one next configuration at most, at one cost.
 pub fn one_next_configuration()
@@ -38,4 +38,9 @@ pub fn pruned_runs_are_the_same()
 /// The reductions from a configuration, as many as may be paid, end in one way.
 pub fn reductions_end_one_way()
     ensures { EndsOneWay }
+{}
+
+/// No reduction traps for an import: only an answer does.
+pub fn reductions_trap_themselves()
+    ensures { ReductionsTrapThemselves }
 {}

@@ -19,6 +19,6 @@ pub use fitting_laws::{calls_fit, heights_within, openings_fit, reductions_fit};
 pub use growth_laws::{base_is_valid, calls_are_named, instances_stay, reductions_stay};
 pub use laws::{
     moves_add_up, one_next_configuration, pruned_runs_are_the_same, reductions_end_one_way,
-    runs_are_determined, runs_are_moves, runs_grow,
+    reductions_trap_themselves, runs_are_determined, runs_are_moves, runs_grow,
 };
 pub use quiet_laws::{none_told_is_quiet, quiet_modules_behave, runtime_is_valid};
