@@ -94,9 +94,11 @@ module _ (looks : ℕ) (p : Module) (x : Exports) (plan : Plan) where
       → Pays (looks + 1) (held_given k (call_note import args s0 (stack_at p who) None) said s l who)
   given_pays k import args s0 (SV.Value v) s l (inside task c) = omega arith
   given_pays k import args s0 (SV.Value v) s l (outermost old) = let h = done_lines s l l.entries in omega arith
+  given_pays k import args s0 SV.Trap s l who = omega arith
 
   resumed_pays : (k : ℕ) (e : Entry) (said : Said) (sp : Store) (c : Configuration) (l : Left) (s : Store) → Pays (looks + 1) (held_resumed k e said sp c l s)
   resumed_pays k e (SV.Value v) sp c l s = omega arith
+  resumed_pays k e SV.Trap sp c l s = omega arith
 
   ends_pays : (k import : ℕ) (args : List Value) (who : Asker) (e : End) → Pays (looks + 1) (held_ends k (call_note import args (store_at who) (stack_at p who) None) e)
   ends_pays k import args who e = omega arith

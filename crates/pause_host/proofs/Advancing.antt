@@ -202,6 +202,7 @@ ended_asker s (T.Entry e) I.outermost then h = refl
 told_asker : (l : Left) (said : Said) (s : Store) (who : Asker) → end_at (answering l said s who) ≡ None
 told_asker l (SV.Value v) s (inside task c) = refl
 told_asker l (SV.Value v) s (outermost old) = refl
+told_asker l SV.Trap s who = refl
 
 given_asker : (l : Left) (v : Option Value) (s : Store) (who : Asker) → end_at (giving l v s who) ≡ None
 given_asker l v s (inside task c) = refl

@@ -15,7 +15,7 @@ use Rattle.wa_model.specs.View.{answer_of, call_of, event_of}
 use Rattle.wa_model.specs.Machine.{Turn, goes}
 use Rattle.wa_model.specs.Store.{Store}
 use Rattle.wa_model.specs.Plan.{Outcome, given, refused}
-use Rattle.wa_model.specs.Blocking.{Note, note, call_note, Left, with_outcomes, Asker, resumed, the_start, an_entry, store_at, stack_at, in_start, fault_of, pause_of, poked, done_notes}
+use Rattle.wa_model.specs.Blocking.{Note, note, call_note, Left, with_outcomes, Asker, resumed, the_start, an_entry, store_at, stack_at, in_start, fault_of, pause_of, poked, done_notes, import_traps}
 use Rattle.wa_model.specs.Protocol.{Exports, exports_of, is_running, Held, busy, over, calling, unwinds, give_zero, with_words, held_on, held_given, held_pauses, held_asked, held_tested, protocol}
 use Rattle.wa_model.specs.World.{Program}
 use Rattle.run_laws.proofs.Host.{fault_pokes}
@@ -65,6 +65,16 @@ record GivenLeads (w : Program) (l : Left) (said : Said) (pokes : List Poke) (ta
   place : with_asker nowhere s task waits (answering l said (poked s pokes)) ≡ stands behind to
   leads : (k : ℕ) (y : Note) (more : List Outcome) → held_given k y said (poked (store_at who) pokes) (with_outcomes l more) who ≡ goes k (y ∷ behind) (meeting more to)
 
+-- a trap is told, and the end
+trap_leads : (w : Program) (l : Left) (pokes : List Poke) (task : Task) (waits : Waits) (s : Store) (who : Asker) → store_at who ≡ s
+    → with_asker nowhere s task waits (answering l SV.Trap (poked s pokes)) ≡ stands (import_traps (poked s pokes)) (over (poked s pokes)) → GivenLeads w l SV.Trap pokes task waits s who
+trap_leads w l pokes task waits s who at place = record {
+  behind = import_traps (poked s pokes);
+  to = over (poked s pokes);
+  place = place;
+  leads = λ k y more. ap (λ z. goes k (y ∷ import_traps (poked z pokes)) (over (poked z pokes))) at;
+}
+
 given_leads : (w : Program) (l : Left) (said : Said) (pokes : List Poke) (task : Task) (waits : Waits) (s : Store) (who : Asker) → IsAsking task waits s who
     → GivenLeads w l said pokes task waits s who
 given_leads w l (SV.Value v) pokes T.Outermost I.outermost s who h =
@@ -76,6 +86,7 @@ given_leads w l (SV.Value v) pokes T.Outermost I.outermost s who h =
       place = refl;
       leads = λ k y more. ap (goes k (y ∷ note (answered (SV.Value v)) s' ∷ done_notes s' l.entries)) (on_last s' l l.entries more);
     })
+given_leads w l SV.Trap pokes T.Outermost I.outermost s who h = trap_leads w l pokes T.Outermost I.outermost s who (asking_store T.Outermost I.outermost s who h) refl
 given_leads w l said pokes T.Outermost I.nothing s who h = absurd h
 given_leads w l said pokes T.Outermost (I.inside here under) s who h = absurd h
 given_leads w l (SV.Value v) pokes T.Start (I.inside here under) s who h =
@@ -87,6 +98,7 @@ given_leads w l (SV.Value v) pokes T.Start (I.inside here under) s who h =
       place = refl;
       leads = λ k y more. refl;
     })
+given_leads w l SV.Trap pokes T.Start (I.inside here under) s who h = trap_leads w l pokes T.Start (I.inside here under) s who (asking_store T.Start (I.inside here under) s who h) refl
 given_leads w l said pokes T.Start I.outermost s who h = absurd h
 given_leads w l said pokes T.Start I.nothing s who h = absurd h
 given_leads w l (SV.Value v) pokes (T.Entry e) (I.inside here under) s who h =
@@ -98,6 +110,8 @@ given_leads w l (SV.Value v) pokes (T.Entry e) (I.inside here under) s who h =
       place = refl;
       leads = λ k y more. refl;
     })
+given_leads w l SV.Trap pokes (T.Entry e) (I.inside here under) s who h =
+    trap_leads w l pokes (T.Entry e) (I.inside here under) s who (asking_store (T.Entry e) (I.inside here under) s who h) refl
 given_leads w l said pokes (T.Entry e) I.outermost s who h = absurd h
 given_leads w l said pokes (T.Entry e) I.nothing s who h = absurd h
 

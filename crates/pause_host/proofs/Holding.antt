@@ -114,10 +114,12 @@ module _ (p : Module) (x : Exports) (plan : Plan) where
   given_holds : (k : ℕ) (n : Note) (said : Said) (s : Store) (l : Left) (who : Asker) → HoldsArea plan.area s → AskerHolds l who → TurnHolds (held_given k n said s l who)
   given_holds k n (SV.Value v) s l (inside task c) ok few = (ok, few)
   given_holds k n (SV.Value v) s l (outermost old) ok few = on_holds s l l.entries ok few
+  given_holds k n SV.Trap s l who ok few = tt
 
   resumed_holds : (k : ℕ) (e : Entry) (said : Said) (sp : Store) (c : Configuration) (l : Left) (s : Store) → HoldsArea plan.area s → FewEntries 1 l
       → TurnHolds (held_resumed k e said sp c l s)
   resumed_holds k e (SV.Value v) sp c l s ok few = (ok, few)
+  resumed_holds k e SV.Trap sp c l s ok few = tt
 
   pauses_holds : (k : ℕ) (n : Note) (import : ℕ) (a : Answer) (l : Left) (who : Asker) → HoldsArea plan.area (store_at who) → AskerHolds l who
       → PokesInside (length (store_at who).memory) a.pokes → TurnHolds (held_pauses x plan k n import a l who)

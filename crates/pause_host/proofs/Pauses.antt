@@ -6,6 +6,7 @@ use Rattle.std.specs.Option.{option_to_list}
 use Rattle.wa_types.specs.declared.values.Value.{Value}
 use Rattle.wa_types.specs.declared.values.Value.TheVariants as V
 use Rattle.wa_types.specs.declared.values.Trap.{Trap}
+use Rattle.wa_types.specs.declared.values.Trap.TheVariants as TrapV
 use Rattle.wa_types.specs.Syntax.{Func, Module}
 use Rattle.wa_types.specs.Modules.{defined_at}
 use Rattle.wa_model.specs.declared.answers.Said.{Said}
@@ -268,6 +269,8 @@ module _ (w : Program) where
       leads = λ k more. refl;
       place = refl;
     }
+    told_leads SV.Trap since at after here under =
+        record { behind = note (ended (E.Trapped TrapV.Import)) after ∷ []; to = over after; leads = λ k more. refl; place = refl }
 
     -- asyncify_stop_rewind: the answer is told
     pub stopped_rewind : (since at now : Store) (here : Activation) (under : List Activation) (f : ℕ) (args : List Value) (m : Moved) (supply : Supply) (waits : Waits)

@@ -3,17 +3,19 @@ use Rattle.std.proofs.Common.{◌≡◌, ℕ, ◌-◌, List, [], ◌∷◌, Opti
 use Rattle.std.specs.Option.{option_to_list}
 use Rattle.wa_types.specs.declared.values.Value.{Value}
 use Rattle.wa_types.specs.declared.values.Value.TheVariants as V
+use Rattle.wa_types.specs.declared.values.Trap.TheVariants as Trap
 use Rattle.wa_types.specs.Syntax.{Module}
 use Rattle.wa_model.specs.declared.answers.Said.{Said}
 use Rattle.wa_model.specs.declared.answers.Said.TheVariants as SV
+use Rattle.wa_model.specs.declared.events.End.TheVariants as E
 use Rattle.wa_model.specs.declared.events.Event.TheVariants as EV
-use Rattle.wa_model.specs.Outside.{answered}
+use Rattle.wa_model.specs.Outside.{answered, ended}
 use Rattle.wa_model.specs.View.{answer_of, event_of}
 use Rattle.wa_model.specs.Store.{Store}
 use Rattle.wa_model.specs.Configuration.{Activation, Configuration}
 use Rattle.run_theory.specs.Fitting.{types_of, StoreFits}
-use Rattle.wa_model.specs.Blocking.{Note, note, Left, Task, resumed, the_start, an_entry, done_notes}
-use Rattle.wa_model.specs.Protocol.{exports_of, is_running, Held, busy, calling, give_zero, held_on, with_words}
+use Rattle.wa_model.specs.Blocking.{Note, note, Left, Task, resumed, the_start, an_entry, done_notes, import_traps}
+use Rattle.wa_model.specs.Protocol.{exports_of, is_running, Held, busy, calling, give_zero, over, held_on, with_words}
 use Rattle.wa_model.specs.World.{Program}
 use Rattle.run_laws.specs.FittingStates.{HeldFits}
 use Rattle.interp.specs.declared.turns.Turn.{Turn}
@@ -24,6 +26,7 @@ use Rattle.host_laws.specs.Places.{Place, stands, nowhere, goes_on}
 use Rattle.host_laws.proofs.Stretches.{nowhere_on}
 use Rattle.pause_host.specs.declared.stages.Moved.{Moved}
 use Rattle.pause_host.specs.declared.stages.Pause.{Pause}
+use Rattle.pause_host.specs.declared.stages.Stage.TheVariants as S
 use Rattle.pause_host.specs.declared.stages.Task as TV
 use Rattle.pause_host.specs.declared.stages.Task.TheVariants as T
 use Rattle.pause_host.specs.Holding.{is_held}
@@ -52,6 +55,12 @@ module _ (w : Program) where
         tells = record { outcomes = []; takes = (refl, refl); within = omega arith; lands = goes_on [] behind h (nowhere_on p w.plan h) (append-nil (note (answered said) s' ∷ behind)) refl place };
       })
 
+  -- behind a trap comes the end
+  trap_next : (from : Place) (left : ℕ) (m : Moved) (supply : Supply) (l : Left) (s' : Store) (waits : Waits) → from ≡ stands (import_traps s') (over s') → m.event ≡ EV.Answered SV.Trap
+      → m.stage ≡ S.Ending (E.Trapped Trap.Import) → ComesFrom w from left 0 m supply supply l s' waits
+  trap_next from left m supply l s' waits is ev st =
+      told_next from left m supply l SV.Trap s' waits (note (ended (E.Trapped Trap.Import)) s' ∷ []) (over s') is ev (ap (place_in (exports_of p) w.plan.area l s' waits) st)
+
   pub tell_comes : (s : Store) (task : TV.Task) (waits : Waits) (left : ℕ) (m : Moved) (supply : Supply) (l : Left) (said : Said) (s' : Store)
       → PlaceFits w (Place_of s task waits l said s')
       → m.event ≡ EV.Answered said → m.stage ≡ stage_told task said
@@ -67,6 +76,12 @@ module _ (w : Program) where
       told_next (Place_of s (T.Entry e) (I.inside here under) l (SV.Value v) s') left m supply l (SV.Value v) s' (I.inside here under) []
       (busy (is_running (an_entry (entry_of e))) (resumed (record { store = s'; here = here; under = under }) s' (option_to_list v)) l) refl ev
       (ap (place_in (exports_of p) w.plan.area l s' (I.inside here under)) st)
+  tell_comes s T.Outermost I.outermost left m supply l SV.Trap s' f ev st =
+      trap_next (Place_of s T.Outermost I.outermost l SV.Trap s') left m supply l s' I.outermost refl ev st
+  tell_comes s T.Start (I.inside here under) left m supply l SV.Trap s' f ev st =
+      trap_next (Place_of s T.Start (I.inside here under) l SV.Trap s') left m supply l s' (I.inside here under) refl ev st
+  tell_comes s (T.Entry e) (I.inside here under) left m supply l SV.Trap s' f ev st =
+      trap_next (Place_of s (T.Entry e) (I.inside here under) l SV.Trap s') left m supply l s' (I.inside here under) refl ev st
   tell_comes s T.Outermost I.nothing left m supply l said s' f ev st = absurd f
   tell_comes s T.Outermost (I.inside here under) left m supply l said s' f ev st = absurd f
   tell_comes s T.Start I.nothing left m supply l said s' f ev st = absurd f

@@ -5,8 +5,6 @@ use Rattle.std.proofs.lemmas.Bool.Decides.{nat_tests}
 use Rattle.std.proofs.lemmas.List.{map_more, take_all}
 use Rattle.wa_types.specs.Memory.{overwritten}
 use Rattle.wa_model.specs.declared.answers.Poke.{Poke as PokeValue}
-use Rattle.wa_model.specs.declared.answers.Said.{Said}
-use Rattle.wa_model.specs.declared.answers.Said.TheVariants as SV
 use Rattle.wa_model.specs.Outside.{Poke, Answer, AnswerLine}
 use Rattle.wa_model.specs.Store.{Store, with_memory}
 use Rattle.wa_model.specs.Blocking.{poked, poked_memory}
@@ -21,15 +19,10 @@ use Rattle.wa_model.specs.declared.events.End.TheVariants.{NoAnswer, OtherImport
 use Rattle.wa_model.specs.Plan.{given, refused}
 use Rattle.interp.specs.Host.{memory_of}
 use Rattle.host_laws.specs.Answering.{IsShort}
-use Rattle.wa_model.specs.Step.{zero_of}
-use Rattle.run_laws.specs.FittingStates.{SaidTyped}
-use Rattle.run_theory.proofs.FittingNames.{results_are}
-use Rattle.wa_model.specs.Protocol.{zeros_of}
 use Rattle.wa_model.specs.World.{Program, import_names, name_at, MeetsLine}
 use Rattle.pause_host.specs.declared.stages.HostImport.{HostImport}
 use Rattle.pause_host.specs.declared.stages.Setting.{Setting}
 use Rattle.pause_host.specs.Moves.{IsSetting, HasShortPokes}
-use Rattle.pause_host.specs.Views.{zeros_like}
 
 -- what is read at a place stands there
 pub stands_at : {X : Type 0} (xs : List X) (i : ℕ) (x : X) → i < length xs → x ≡ get_or xs i x → slice_get xs i ≡ Some x
@@ -37,10 +30,6 @@ stands_at {X} xs i x lt is = slice_get-get_or xs i x lt ∙ ap (λ (y : X). Some
 
 pub found_at : {X : Type 0} (xs ys : List X) (i : ℕ) (x : X) → xs ≡ ys → i < length xs → x ≡ slice_index_or xs i x → slice_get ys i ≡ Some x
 found_at xs ys i x e lt at = ap (λ zs. slice_get zs i) (sym e) ∙ slice_get_read xs (length xs) i x refl lt at
-
--- a zero of the type of what was said is one of the import's result
-pub zero_told : (p : Module) → Valid p → (import : ℕ) (said : Said) → SaidTyped p import said → zeros_like said ≡ zeros_of p import
-zero_told p v import (SV.Value value) e = ap (map zero_of) (e ∙ results_are p v import)
 
 pub eq_true : (a b : ℕ) → a ≡ b → nat_eq a b ≡ true
 eq_true a b e = grind (arith, nat_tests)

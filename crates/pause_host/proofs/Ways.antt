@@ -113,9 +113,11 @@ module _ (w : Program) where
   given_dear : (n k : ℕ) (y : Note) (said : Said) (s : Store) (l : Left) (who : Asker) → n ≤ k → CostsMore n (held_given k y said s l who)
   given_dear n k y (SV.Value v) s l (inside task c) h = h
   given_dear n k y (SV.Value v) s l (outermost old) h = h
+  given_dear n k y SV.Trap s l who h = h
 
   resumed_dear : (n k : ℕ) (e : Entry) (said : Said) (sp : Store) (c : Configuration) (l : Left) (s : Store) → n ≤ k → CostsMore n (held_resumed k e said sp c l s)
   resumed_dear n k e (SV.Value v) sp c l s h = h
+  resumed_dear n k e SV.Trap sp c l s h = h
 
   pub asked_dear : (n k import : ℕ) (args : List Value) (who : Asker) (l : Left) (os : List Outcome) → n ≤ k → CostsMore n (held_asked p x w.plan k import args who l os)
   asked_dear n k import args who l [] h = h

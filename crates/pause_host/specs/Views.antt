@@ -3,6 +3,7 @@ use Rattle.std.specs.Prelude.{ℕ, zero, suc, Bool, true, false, if◌then◌els
 use Rattle.std.specs.Option.{option_to_list}
 use Rattle.wa_types.specs.declared.values.Value.{Value}
 use Rattle.wa_types.specs.declared.values.Value.TheVariants as V
+use Rattle.wa_types.specs.declared.values.Trap.TheVariants as Trap
 use Rattle.wa_model.specs.declared.answers.Area.{Area}
 use Rattle.wa_model.specs.declared.answers.Answer.{Answer as AnswerValue}
 use Rattle.wa_model.specs.declared.answers.AnswerLine.{AnswerLine as AnswerLineValue}
@@ -13,14 +14,12 @@ use Rattle.wa_model.specs.declared.events.End.TheVariants as E
 use Rattle.wa_model.specs.Outside.{Answer, AnswerLine, answered, ended}
 use Rattle.wa_model.specs.View.{answer_of, answer_line_of}
 use Rattle.wa_model.specs.Store.{Store}
-use Rattle.wa_model.specs.Step.{zero_of}
 use Rattle.wa_model.specs.Plan.{Entry}
 use Rattle.wa_model.specs.Blocking as B
-use Rattle.wa_model.specs.Blocking.{note, poked, resumed, the_start, an_entry, Asker, inside, outermost, done_notes}
+use Rattle.wa_model.specs.Blocking.{note, poked, resumed, the_start, an_entry, Asker, inside, outermost, done_notes, import_traps}
 use Rattle.wa_model.specs.Protocol as P
 use Rattle.wa_model.specs.Protocol.{Phase, is_running, unwinds, rewinds, give_zero, call_again, busy, calling, over, held_on, with_words}
 use Rattle.wa_model.specs.World.{Device}
-use Rattle.run_theory.specs.Fitting.{types_of}
 use Rattle.device_port.specs.declared.devices.Devices.{Devices}
 use Rattle.device_port.specs.Listed.{of_all}
 use Rattle.interp.specs.Instance as I
@@ -67,10 +66,6 @@ unwinding pause = unwinds (entry_of pause.entry) pause.import (answer_of pause.a
 abbrev pub rewinding : Pause → (since : Store) → Phase
 rewinding pause since = rewinds (entry_of pause.entry) pause.import (answer_of pause.answer) since
 
--- zeros of the types of what was said
-abbrev pub zeros_like : Said → List Value
-zeros_like (SV.Value v) = map zero_of (types_of (option_to_list v))
-
 -- ---- stages
 
 -- what waits for the answer, where a task's call of an import does
@@ -80,10 +75,11 @@ with_asker none s T.Start (I.inside here under) on = on (inside the_start (recor
 with_asker none s (T.Entry e) (I.inside here under) on = on (inside (an_entry (entry_of e)) (record { store = s; here = here; under = under }))
 with_asker none s _ _ on = none
 
--- what is said is told next, and given, over the store with the pokes
+-- what is said is told next, and a value given, over the store with the pokes
 abbrev pub answering : B.Left → Said → Store → Asker → Place
 answering l (SV.Value v) s (inside task c) = stands (note (answered (SV.Value v)) s ∷ []) (busy (is_running task) (resumed c s (option_to_list v)) l)
 answering l (SV.Value v) s (outermost old) = stands (note (answered (SV.Value v)) s ∷ done_notes s l.entries) (held_on s l l.entries)
+answering l SV.Trap s w = stands (import_traps s) (over s)
 
 -- a value is given
 abbrev pub giving : B.Left → Option Value → Store → Asker → Place
@@ -127,8 +123,9 @@ end_of _ = None
 
 -- ---- the stage behind an answer that was told
 
--- the stage once the answer was told: an import that is the start function waits for nothing
+-- the stage once the answer was told: a trap ends the program; an import that is the start function waits for nothing
 abbrev pub stage_told : Task → Said → Stage
+stage_told task SV.Trap = Ending (E.Trapped Trap.Import)
 stage_told T.Outermost (SV.Value v) = Free
 stage_told T.Start (SV.Value v) = Giving T.Start v
 stage_told (T.Entry e) (SV.Value v) = Giving (T.Entry e) v

@@ -114,7 +114,7 @@ fn test_rewound(
     }
 }
 
-// `asyncify_stop_rewind` is called, and the answer is told, with what it writes into the memory.
+// `asyncify_stop_rewind` is called, and the answer is told, a trap too, with what it writes into the memory.
 fn stop_rewind(
     setting: &Setting,
     instance: &mut Instance<'_>,

@@ -317,7 +317,7 @@ fn is_start(task: &Task) -> bool
     }
 }
 
-// An answer that passes its tests.
+// An answer that passes its tests: a trap waits for its ticks as a value does.
 fn passed(task: Task, import: u32, answer: Answer) -> Stage
     ensures { result ≡ stage_after None answer.ticks task import answer }
 {
@@ -334,7 +334,7 @@ fn passed(task: Task, import: u32, answer: Answer) -> Stage
     }
 }
 
-/// An answer is told, with what it writes into the memory.
+/// An answer is told, with what it writes into the memory; behind a trap comes the end.
 pub(crate) fn tell_answer(instance: &mut Instance<'_>, task: Task, answer: Answer) -> Moved
     requires memory { HasMemory (code_in instance.old) }
     requires inside { PokesInside (length (store_in instance.old).memory) (answer_of answer).pokes }

@@ -6,7 +6,7 @@ ghost use Rattle.pause_host.specs.Views.{stage_told};
 use std::alloc::Global;
 use std::collections::VecDeque;
 use wa_model::{Answer, Area, End, Event, Said};
-use wa_types::{Name, ValType, Value};
+use wa_types::{Name, Trap, ValType, Value};
 
 /// The functions of the five exports through which a host unwinds and rewinds a stack.
 #[derive(Clone, Copy)]
@@ -74,15 +74,15 @@ pub struct Pause {
 pub enum Stage {
     /// The next entry is to be called, or all have returned.
     Free,
-    /// A call was told whose answer is told next.
+    /// A call was told whose answer is told next: a value, or that the import traps.
     Answering { task: Task, answer: Answer },
     /// The answer was told, and its value is to be given.
     Giving { task: Task, value: Option<Value> },
-    /// A call was told whose answer pauses.
+    /// A call was told whose answer pauses, be it a trap or a value.
     Pausing(Pause),
     /// The pause was told.
     Paused(Pause),
-    /// The end is told next.
+    /// The end is told next; so it is behind a trap that was told.
     Ending(End),
     /// The end was told.
     Ended(End),
@@ -95,7 +95,8 @@ pub struct Moved {
     pub stage: Stage,
 }
 
-/// Where a program stands behind an answer that was told: an import that is the start function waits for nothing.
+/// Where a program stands behind an answer that was told: a trap ends it, and an import that is the start function waits for
+/// nothing.
 pub(crate) fn stage_told(task: Task, said: Said) -> Stage
     ensures { result ≡ stage_told task said }
 {
@@ -111,5 +112,6 @@ pub(crate) fn stage_told(task: Task, said: Said) -> Stage
                 value,
             },
         },
+        Said::Trap => Stage::Ending(End::Trapped(Trap::Import)),
     }
 }

@@ -1,9 +1,8 @@
 //! A stack that waits, unwound: from the words of the area over `asyncify_start_unwind` to the pause.
 
-ghost use Rattle.std.specs.Prelude.{◌≡◌, ◌<◌, ◌≤◌, ◌+◌, ◌-◌, ◌^◌, List, [], ◌∷◌, IfOk, map, slice_get};
+ghost use Rattle.std.specs.Prelude.{◌≡◌, ◌<◌, ◌≤◌, ◌+◌, ◌-◌, ◌^◌, List, [], ◌∷◌, IfOk, length, map, slice_get};
 ghost use Rattle.std.specs.Option.{option_to_list};
 ghost use Rattle.wa_types.specs.declared.values.Value.TheVariants as V;
-ghost use Rattle.wa_types.specs.Typing.{type_of};
 ghost use Rattle.wa_model.specs.Configuration.{Activation, Configuration};
 ghost use Rattle.wa_model.specs.Store.{Store};
 ghost use Rattle.wa_model.specs.Blocking.{Left as PlainLeft, resumed};
@@ -11,14 +10,13 @@ ghost use Rattle.wa_model.specs.Step.{zero_of};
 ghost use Rattle.wa_model.specs.Protocol.{busy, calling, exports_of, pause_there, test_unwound, zeros_of};
 ghost use Rattle.wa_model.specs.View.{answer_of};
 ghost use Rattle.wa_model.specs.World.{Program};
-ghost use Rattle.run_theory.specs.Fitting.{types_of};
 ghost use Rattle.run_laws.specs.FittingStates.{HeldFits};
 ghost use Rattle.interp.specs.Host.{code_in, store_in, waits_in};
 ghost use Rattle.interp.specs.Instance.{inside, nothing};
 ghost use Rattle.host_laws.specs.Supplies.{Supply};
 ghost use Rattle.pause_host.specs.Hosting.{HostsAt, HostsIn, HostsOver};
 ghost use Rattle.pause_host.specs.Moves.{Comes, ComesFrom, IsSetting, PlaceFits};
-ghost use Rattle.pause_host.specs.Views.{entry_of, pausing, unwinding, zeros_like};
+ghost use Rattle.pause_host.specs.Views.{entry_of, pausing, unwinding};
 
 use crate::ends::ended;
 use crate::exports::{Exported, Work, call_export, is_state, trap_end};
@@ -26,8 +24,8 @@ use crate::memory::{used_of, write_words};
 use crate::stages::{Moved, Pause, Setting, Stage};
 use interp::{Instance, Steps, Turn};
 use std::alloc::AllocError;
-use wa_model::{End, Event, Said};
-use wa_types::Value;
+use wa_model::{End, Event};
+use wa_types::{ValType, Value};
 
 /// Unwinds the stack that waits: the words are written, and `asyncify_start_unwind` is called.
 pub fn unwind(
@@ -77,7 +75,7 @@ fn give_zero(
     ensures sum { steps.new.left + steps.new.used ≡ steps.old.left + steps.old.used }
     ensures grows { steps.old.used ≤ steps.new.used }
 {
-    let zero = zero_like(pause.answer.said);
+    let zero = zero_of_result(setting, pause.import);
     match instance.resume(zero, steps)? {
         Turn::Returned(_) => return test_unwound(setting, instance, steps, pause),
         Turn::Trapped(trap) => {
@@ -89,30 +87,31 @@ fn give_zero(
     }
 }
 
-// A zero of the type of what was said, where that has one.
-fn zero_like(said: Said) -> Option<Value>
-    ensures { option_to_list result ≡ zeros_like said }
+// A zero of the result of an import, where it has one.
+fn zero_of_result(setting: &Setting, import: u32) -> Option<Value>
+    requires { import < length setting.now.imports.items }
+    ensures { (w : Program) → IsSetting w setting.now → option_to_list result ≡ zeros_of w.source import }
 {
-    match said {
-        Said::Value(value) => zero_of_value(value),
-    }
+    let import = &setting.imports[import as usize];
+    zero_where(import.result)
 }
 
-fn zero_of_value(value: Option<Value>) -> Option<Value>
-    ensures { option_to_list result ≡ map zero_of (types_of (option_to_list value)) }
+// A zero of a type, where there is one.
+fn zero_where(ty: Option<ValType>) -> Option<Value>
+    ensures { option_to_list result ≡ map zero_of (option_to_list ty) }
 {
-    match value {
+    match ty {
         None => None,
-        Some(value) => Some(zero_of_type(value)),
+        Some(ty) => Some(zero_of_type(ty)),
     }
 }
 
-fn zero_of_type(value: Value) -> Value
-    ensures { result ≡ zero_of (type_of value) }
+fn zero_of_type(ty: ValType) -> Value
+    ensures { result ≡ zero_of ty }
 {
-    match value {
-        Value::I32(_) => Value::I32(0),
-        Value::I64(_) => Value::I64(0),
+    match ty {
+        ValType::I32 => Value::I32(0),
+        ValType::I64 => Value::I64(0),
     }
 }
 

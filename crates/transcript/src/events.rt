@@ -94,6 +94,7 @@ fn put_said(alloc: Global, text: &mut Vec<u8>, said: Said) -> Result<(), AllocEr
 {
     match said {
         Said::Value(value) => put_value_or_none(alloc, text, value),
+        Said::Trap => put(text, "trap"),
     }
 }
 

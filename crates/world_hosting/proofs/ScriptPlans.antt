@@ -124,18 +124,21 @@ told_values (word ∷ words) vs e = by (value_in word) (all_values words) refl r
   by None None one is k rest = cc
 
 result_fits : (word : List ℕ) (said : Said) → result_in word ≡ Some said → SaidFits said
-result_fits word said e = by (bytes_eq word (codes "none")) e where
+result_fits word said e = by (bytes_eq word (codes "none")) (bytes_eq word (codes "trap")) e where
   some : (o : Option Value) → value_in word ≡ o → option_map (λ (x : Value). S.Value (Some x)) o ≡ Some said → SaidFits said
   some None is k = cc
   some (Some x) is k =
       let same : S.Value (Some x) ≡ said = cc in
       subst SaidFits same (told_value word x is)
 
-  by : (b : Bool) → (if b then Some (S.Value None) else option_map (λ (x : Value). S.Value (Some x)) (value_in word)) ≡ Some said → SaidFits said
-  by true k =
+  by : (a b : Bool) → (if a then Some (S.Value None) else if b then Some S.Trap else option_map (λ (x : Value). S.Value (Some x)) (value_in word)) ≡ Some said → SaidFits said
+  by true b k =
       let same : S.Value None ≡ said = cc in
       subst SaidFits same tt
-  by false k = some (value_in word) refl k
+  by false true k =
+      let same : S.Trap ≡ said = cc in
+      subst SaidFits same tt
+  by false false k = some (value_in word) refl k
 
 short_number : (word : List ℕ) (n : ℕ) → u32_in word ≡ Some n → n < 2 ^ 32
 short_number word n e =

@@ -1,5 +1,6 @@
 -- What each device has answered in a run.
-use Rattle.std.specs.Prelude.{◌≡◌, ◌+◌, ◌++◌, ◌&&◌, if◌then◌else◌, ℕ, suc, nat_eq, nat_lt, nat_le, List, [], ◌∷◌, Option, Some, slice_get}
+use Rattle.std.specs.Prelude.{◌≡◌, ◌+◌, ◌++◌, ◌&&◌, if◌then◌else◌, ℕ, suc, nat_eq, nat_lt, nat_le, List, [], ◌∷◌, map, Option, Some, None, slice_get}
+use Rattle.std.specs.Option.{option_to_list}
 use Rattle.wa_types.specs.declared.values.Value.{Value}
 use Rattle.wa_types.specs.Validity.{same_name}
 use Rattle.wa_model.specs.declared.answers.Detach.{Detach}
@@ -22,14 +23,15 @@ pub record Logged : Type 0 where
   pub device : List ℕ
   pub asked : Asked
 
--- the reply that a device's answer is
-abbrev pub reply_of : Said → (ticks : ℕ) → Reply
-reply_of (S.Value v) ticks = record { value = v; ticks = ticks }
+-- an answer as a device's reply: no device traps
+abbrev pub reply_of : Said → (ticks : ℕ) → Option Reply
+reply_of (S.Value v) ticks = Some (record { value = v; ticks = ticks })
+reply_of S.Trap ticks = None
 
 -- a call of an import that is bound to this device, where it was answered
 abbrev pub logged_to : Option (List ℕ) → (event : ℕ) → (base : List ℕ) → List Value → Outcome → List Logged
 logged_to (Some device) event base args (given a) =
-    record { event = event; device = device; asked = record { base = base; args = args; reply = reply_of a.said a.ticks } } ∷ []
+    map (λ (r : Reply). record { event = event; device = device; asked = record { base = base; args = args; reply = r } }) (option_to_list (reply_of a.said a.ticks))
 logged_to _ event base args o = []
 
 -- the same of a program's call, which met this outcome

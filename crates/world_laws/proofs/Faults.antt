@@ -188,6 +188,7 @@ module _ (p : Module) (x : Exports) (plan : Plan) where
       by_entries : (es : List Entry) → LeadsTo (given a ∷ l.outcomes) (call_note import args old [] pause ∷ note (answered (S.Value v)) s ∷ done_notes s es) (held_on s l es)
       by_entries [] = (refl, (refl, (refl, (tt, tt))))
       by_entries (e ∷ es) = ((refl, (refl, (tt, tt))), (given a ∷ [], refl, refl))
+  given_fine k import args who l a S.Trap s pause = (refl, (refl, (refl, (tt, tt))))
 
   pauses_fine : (k import : ℕ) (args : List Value) (who : Asker) (l : Left) (a : Answer) (pause : Option ℕ)
       → TurnFine (given a ∷ l.outcomes) (held_pauses x plan k (call_note import args (store_at who) (stack_at p who) pause) import a l who)
@@ -236,6 +237,7 @@ module _ (p : Module) (x : Exports) (plan : Plan) where
 
   resumed_fine : (k : ℕ) (e : Entry) (said : Said) (sp : Store) (c : Configuration) (l : Left) (s : Store) → TurnFine l.outcomes (held_resumed k e said sp c l s)
   resumed_fine k e (S.Value v) sp c l s = ((refl, (tt, tt)), ([], refl, refl))
+  resumed_fine k e S.Trap sp c l s = (refl, (refl, (tt, tt)))
 
   back_aside_fine : (k : ℕ) (ph : Phase) (th : Then) (l : Left) (results : List Value) (s : Store) → TurnFine l.outcomes (aside_back p x plan k ph th l results s)
   back_aside_fine k (unwinds e i a) (give_zero c) l results s = quiet l.outcomes
