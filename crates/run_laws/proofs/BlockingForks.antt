@@ -16,7 +16,7 @@ use Rattle.wa_model.specs.Plan.{Plan, Outcome, given, refused}
 use Rattle.wa_model.specs.Instantiation.{opening}
 use Rattle.wa_model.specs.Store.{Store}
 use Rattle.wa_model.specs.Step.{Next, steps, asks, returns, traps, stuck, step}
-use Rattle.wa_model.specs.Blocking.{Note, note, call_note, fault_of, pause_of, poked, resumed, Task, Left, with_outcomes, Asker, inside, outermost, store_at, stack_at, in_start, State, between, begins, runs, halts, done_notes, on_to, go_on, tested, asked, by_step, start_called, blocking, begun, all_left, Blocking}
+use Rattle.wa_model.specs.Blocking.{Note, note, call_note, fault_of, pause_of, poked, resumed, Task, Left, with_outcomes, Asker, inside, outermost, store_at, stack_at, in_start, State, between, begins, runs, halts, done_notes, import_traps, on_to, go_on, tested, asked, by_step, start_called, blocking, begun, all_left, Blocking}
 use Rattle.run_laws.specs.ListedPauses.{Allows, told}
 use Rattle.run_laws.proofs.Forks.{TurnForks, RunForks, after_forks, run_forks}
 use Rattle.run_laws.proofs.Faults.{PauseForks, fault_forks}
@@ -69,6 +69,26 @@ module _ (m : Module) (plan : Plan) (listed : List Bool) (allows : Allows plan l
         y = call_note i args s (stack_at m (outermost s)) None;
         z = note (ended (UnlistedPause i)) s;
         u = halts s;
+        ends = refl;
+        same = refl;
+        how = refl;
+        over = refl;
+      })
+      by w S.Trap = inr (record {
+        k = k;
+        call = record { import = i; args = args };
+        ticks = suc p.more;
+        x = call_note i args (store_at w) (stack_at m w) (pause_of a.ticks);
+        xs = import_traps (poked (store_at w) a.pokes);
+        t = halts (poked (store_at w) a.pokes);
+        goes_on = refl;
+        is = refl;
+        pauses = ap pause_of p.ticks_are;
+        unlisted = p.unlisted;
+        allowed = p.allowed;
+        y = call_note i args (store_at w) (stack_at m w) None;
+        z = note (ended (UnlistedPause i)) (store_at w);
+        u = halts (store_at w);
         ends = refl;
         same = refl;
         how = refl;

@@ -8,6 +8,7 @@ use Rattle.wa_types.specs.Syntax.{Func, Segment, Module}
 use Rattle.wa_types.specs.Base.{Base}
 use Rattle.wa_types.specs.Memory.{page_size}
 use Rattle.wa_types.specs.Modules.{all_memories, func_imports, func_type_at, defined_at}
+use Rattle.wa_types.specs.declared.values.Trap.TheVariants.{Import}
 use Rattle.wa_model.specs.declared.answers.Said.{Said}
 use Rattle.wa_model.specs.declared.answers.Said.TheVariants as S
 use Rattle.wa_model.specs.declared.events.End.{End}
@@ -18,7 +19,7 @@ use Rattle.wa_model.specs.Store.{Store}
 use Rattle.wa_model.specs.Step.{Next, steps, asks, returns, traps, stuck, step}
 use Rattle.wa_model.specs.Plan.{Entry, Plan, Outcome, given, refused, SaidFits, AnswerFits, OutcomeFits}
 use Rattle.wa_model.specs.Instantiation.{Opening, fails_as, opens, opening, least_of}
-use Rattle.wa_model.specs.Blocking.{continued, Note, note, call_note, fault_of, pause_of, poked, done_notes, value_of_results, Task, the_start, an_entry, Left, with_outcomes, Asker, inside, outermost, store_at, stack_at, in_start, State, between, begins, runs, halts, on_to, next_entry, task_back, go_on, ends_at_call, tested, asked, by_step, enters, enter_next, start_called, blocking, no_store, all_left, started, begun, Blocking, store_of}
+use Rattle.wa_model.specs.Blocking.{continued, Note, note, call_note, fault_of, pause_of, poked, done_notes, import_traps, value_of_results, Task, the_start, an_entry, Left, with_outcomes, Asker, inside, outermost, store_at, stack_at, in_start, State, between, begins, runs, halts, on_to, next_entry, task_back, go_on, ends_at_call, tested, asked, by_step, enters, enter_next, start_called, blocking, no_store, all_left, started, begun, Blocking, store_of}
 use Rattle.run_laws.specs.Ranges.{CodesIn, WellFormedIn, ValuesIn, byte_in, StoreIn, NextIn, EndIn, NoteIn, EntryIn, LeftIn, TaskIn, AskerIn, StateIn, PokeInside, OpeningIn, BlockingIn, BlockingHoldsArea, BlockingMemoryGrows, BlockingLater}
 use Rattle.run_laws.proofs.Acts.{none_in}
 use Rattle.run_laws.proofs.Steps.{func_in, entered_in, step_in}
@@ -39,6 +40,9 @@ left_entries l e es h k = record { entries = All-tail EntryIn e es h; outcomes =
 on_in : (low : ℕ) (s : Store) (l : Left) (es : List Entry) → StoreIn low s → LeftIn l → StateIn low (on_to s l es)
 on_in low s l [] ok h = ok
 on_in low s l (e ∷ es) ok h = (ok, h)
+
+pub import_traps_in : (low : ℕ) (s : Store) → StoreIn low s → All (NoteIn low) (import_traps s)
+import_traps_in low s ok = two_notes low _ _ (note_in low (answered S.Trap) s tt ok) (note_in low (ended (Trapped Import)) s tt ok)
 
 module _ (m : Module) (w : CodesIn m) (plan : Plan) (low : ℕ) where
   abbrev TurnIn : Turn State Note → Type 0
@@ -61,6 +65,7 @@ module _ (m : Module) (w : CodesIn m) (plan : Plan) (low : ℕ) where
     All-append (NoteIn low) (x ∷ note (answered (S.Value v)) s ∷ []) (done_notes s l.entries) (two_notes low x _ nx (note_in low (answered (S.Value v)) s f ok)) (done_in low s l.entries ok),
     on_in low s l l.entries ok h,
   )
+  go_on_in k x S.Trap s l who nx f ok h wh = (All-cons (NoteIn low) x (import_traps s) nx (import_traps_in low s ok), ok)
 
   ends_in : (k : ℕ) (x : Note) (e : End) → NoteIn low x → EndIn e → TurnIn (ends_at_call k x e)
   ends_in k x e nx h = (two_notes low x _ nx (note_in low (ended e) x.store h nx.store), nx.store)

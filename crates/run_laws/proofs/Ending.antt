@@ -124,6 +124,7 @@ module _ (m : Module) (plan : Plan) where
   go_on_ends : (k : ℕ) (x : Note) (said : Said) (s : Store) (l : Left) (who : Asker) → is_end x.event ≡ false → Ends (go_on k x said s l who)
   go_on_ends k x (SV.Value v) s l (inside task c) e = (e, λ f. cc)
   go_on_ends k x (SV.Value v) s l (outermost old) e = (e, front_ends (StateOver (on_to s l l.entries)) (note (answered (SV.Value v)) s) (done_notes s l.entries) refl (done_ends s l l.entries))
+  go_on_ends k x SV.Trap s l who e = (e, (refl, λ f. tt))
 
   tested_ends : (k import : ℕ) (args : List Value) (who : Asker) (l : Left) (a : Answer) (o : Option End) → Ends (tested m k import args who l a o)
   tested_ends k import args who l a (Some e) = (refl, λ f. tt)
@@ -275,6 +276,7 @@ module _ (p : Module) (x : Exports) (plan : Plan) where
   given_held : (k : ℕ) (y : Note) (said : Said) (s : Store) (l : Left) (who : Asker) → is_end y.event ≡ false → HeldEnds (held_given k y said s l who)
   given_held k y (SV.Value v) s l (inside task c) e = (e, λ f. cc)
   given_held k y (SV.Value v) s l (outermost old) e = (e, held_front (HeldOver (held_on s l l.entries)) (note (answered (SV.Value v)) s) (done_notes s l.entries) refl (held_done s l l.entries))
+  given_held k y SV.Trap s l who e = (e, (refl, λ f. tt))
 
   pauses_held : (k : ℕ) (y : Note) (import : ℕ) (a : Answer) (l : Left) (who : Asker) → is_end y.event ≡ false → HeldEnds (held_pauses x plan k y import a l who)
   pauses_held k y import a l (inside (an_entry e) c) h = λ f. let bad : false ≡ true = sym h ∙ f in cc
@@ -315,6 +317,7 @@ module _ (p : Module) (x : Exports) (plan : Plan) where
 
   resumed_held : (k : ℕ) (e : Entry) (said : Said) (at_pause : Store) (c : Configuration) (l : Left) (s : Store) → HeldEnds (held_resumed k e said at_pause c l s)
   resumed_held k e (SV.Value v) at_pause c l s = λ f. cc
+  resumed_held k e SV.Trap at_pause c l s = (refl, λ f. tt)
 
   back_aside : (k : ℕ) (ph : Phase) (th : Then) (l : Left) (results : List Value) (s : Store) → HeldEnds (aside_back p x plan k ph th l results s)
   back_aside k (unwinds e i a) (give_zero c) l results s = tt

@@ -105,6 +105,7 @@ module _ (results : List ValType) (size : ℕ) (plan : Plan) (in_start : Bool) (
 
       by_said : (said : Said) → SaidFits said → FaultIn (bad_value results import said)
       by_said (S.Value v) h = by_value v h (answers results v)
+      by_said S.Trap h = tt
 
   pub fault_pokes : fault_of results size plan in_start import a ≡ None → All (PokeInside size) a.pokes
   fault_pokes e = pokes_inside size plan.area a.pokes (or_else_none (bad_poke size plan.area a.pokes) _ (or_else_none _ _ e).1).0

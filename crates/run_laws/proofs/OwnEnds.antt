@@ -7,6 +7,7 @@ use Rattle.wa_types.specs.declared.values.Value.{Value}
 use Rattle.wa_types.specs.Base.{Base}
 use Rattle.wa_types.specs.Syntax.{Func, Module}
 use Rattle.wa_types.specs.Modules.{func_imports, func_type_at, defined_at}
+use Rattle.wa_types.specs.declared.values.Trap.TheVariants.{Import}
 use Rattle.wa_model.specs.declared.answers.Said.{Said}
 use Rattle.wa_model.specs.declared.answers.Said.TheVariants as S
 use Rattle.wa_model.specs.declared.events.End.{End}
@@ -18,7 +19,7 @@ use Rattle.wa_model.specs.Step.{Next, steps, asks, returns, traps, stuck, step}
 use Rattle.wa_model.specs.Plan.{Entry, Plan, Outcome, given, refused, OutcomeFits, IsRefusal}
 use Rattle.wa_model.specs.Instantiation.{Opening, fails_as, opens, opening}
 use Rattle.wa_model.specs.Blocking.{Note, note, no_store, call_note, value_of_results}
-use Rattle.wa_model.specs.Blocking.{fault_of, pause_of, poked, done_notes, Task, the_start, an_entry, Left, with_outcomes, Asker, inside, outermost}
+use Rattle.wa_model.specs.Blocking.{fault_of, pause_of, poked, done_notes, import_traps, Task, the_start, an_entry, Left, with_outcomes, Asker, inside, outermost}
 use Rattle.wa_model.specs.Blocking.{store_at, stack_at, in_start, State, between, begins, runs, halts, on_to, task_back, go_on, tested, asked}
 use Rattle.wa_model.specs.Blocking.{by_step, enters, enter_next, start_called, next_entry, blocking, all_left, begun, Blocking}
 use Rattle.run_theory.proofs.Invariants.{TurnKeeps, RanKeeps, after_keeps}
@@ -103,6 +104,11 @@ module _ (m : Module) (plan : Plan) where
     All-cons Own (call_note import args old [] pause) (note (answered (S.Value v)) s ∷ done_notes s l.entries) refl
         (All-cons Own (note (answered (S.Value v)) s) (done_notes s l.entries) refl (done_own s l.entries)),
     on_lawful s l l.entries h,
+  )
+  given_keeps k import args who l S.Trap s pause h = (
+    All-cons Own (call_note import args (store_at who) (stack_at m who) pause) (import_traps s) refl
+        (two_notes (note (answered S.Trap) s) (note (ended (Trapped Import)) s) refl refl),
+    tt,
   )
 
   tested_keeps : (k import : ℕ) (args : List Value) (who : Asker) (l : Left) (a : Answer) (o : Option End) → All OutcomeFits l.outcomes → OwnEnd o → Keeps (tested m k import args who l a o)

@@ -28,7 +28,7 @@ use Rattle.wa_model.specs.Configuration.{Configuration}
 use Rattle.wa_model.specs.Step.{Next, steps, asks, returns, traps, stuck, step, entered}
 use Rattle.wa_model.specs.Plan.{Entry, Plan, AreaFits, EntryFits, Outcome, given, refused, SaidFits, AnswerFits, OutcomeFits}
 use Rattle.wa_model.specs.Instantiation.{Opening, fails_as, opens, opening, least_of}
-use Rattle.wa_model.specs.Blocking.{Note, note, call_note, fault_of, pause_of, poked, resumed, done_notes, value_of_results, Task, the_start, an_entry, Left, with_outcomes, Asker, inside, outermost, store_at, stack_at, in_start, next_entry, no_store, all_left}
+use Rattle.wa_model.specs.Blocking.{Note, note, call_note, fault_of, pause_of, poked, resumed, done_notes, import_traps, value_of_results, Task, the_start, an_entry, Left, with_outcomes, Asker, inside, outermost, store_at, stack_at, in_start, next_entry, no_store, all_left}
 use Rattle.wa_model.specs.Protocol.{Exports, exports_of, Phase, is_running, unwinds, rewinds, Then, give_zero, test_unwound, pause_there, call_again, test_rewound, give_answer, Held, free, starting, busy, calling, aside, entering, over, put_word, with_words, used_of, protocol, broken, held_on, held_back, held_given, held_ends, held_pauses, held_resumed, held_tested, held_asked, trap_end, busy_step, is_state, zeros_of, answer_note, aside_back, aside_step, busy_enters, held_next, aside_called, held_start, held_started, held_begun, held_continued, store_held}
 use Rattle.run_theory.specs.LawfulStacks.{SuspendedIn}
 use Rattle.run_laws.specs.Ranges.{byte_in, CodesIn, ValuesIn, MemoryIn, StoreIn, ActivationIn, NextIn, EndIn, TicksIn, NoteIn, EntryIn, LeftIn, AskerIn, PokeInside, PhaseIn, ThenIn, WaitsIn, HeldIn, HeldFrom, OpeningIn, ProtocolIn, ProtocolHoldsArea, ProtocolMemoryGrows, ProtocolLater, FitsIn, FitsAreas, ComparedIn}
@@ -38,7 +38,7 @@ use Rattle.run_laws.proofs.Steps.{func_in, entered_in, step_in, zeros_in}
 use Rattle.run_laws.proofs.Openings.{openings_in}
 use Rattle.run_laws.proofs.Host.{store_lower, store_whole, notes_lower, poked_store_in, FaultIn, fault_in, fault_pokes, refusal_in, note_in, call_note_in, one_note, two_notes, done_in, stack_in, asker_store, ticks_in, result_in, optional_in, resumed_in, waits_in}
 use Rattle.run_theory.proofs.Invariants.{TurnKeeps, run_keeps, after_keeps, leads_keeps, later_keeps}
-use Rattle.run_laws.proofs.BlockingRuns.{answered_in, left_outcomes, left_entries, no_store_in, well_formed_in, blocking_in}
+use Rattle.run_laws.proofs.BlockingRuns.{answered_in, import_traps_in, left_outcomes, left_entries, no_store_in, well_formed_in, blocking_in}
 
 -- ---- the area
 
@@ -99,6 +99,7 @@ module _ (p : Module) (w : CodesIn p) (x : Exports) (plan : Plan) (base : ℕ) (
       All-append (NoteIn low) (n ∷ note (answered (S.Value v)) s ∷ []) (done_notes s l.entries) (two_notes low n _ nx (note_in low (answered (S.Value v)) s f ok)) (done_in low s l.entries ok),
       on_in s l l.entries ok h,
     )
+    given_in k n S.Trap s l who nx f ok h wh = (All-cons (NoteIn low) n (import_traps s) nx (import_traps_in low s ok), same low (over s) ok)
 
     ends_in : (k : ℕ) (n : Note) (e : End) → NoteIn low n → EndIn e → MoveIn low (held_ends k n e)
     ends_in k n e nx h = (two_notes low n _ nx (note_in low (ended e) n.store h nx.store), same low (over n.store) nx.store)
@@ -190,6 +191,8 @@ module _ (p : Module) (w : CodesIn p) (x : Exports) (plan : Plan) (base : ℕ) (
       one_note low _ (answer_in (S.Value v) s at_pause f ok since),
       same low (busy (is_running (an_entry e)) (resumed c s (option_to_list v)) l) (eh, resumed_in low c s (option_to_list v) wh ok (optional_in v f), h),
     )
+    resuming_in k e S.Trap at_pause c l s eh f since wh h ok =
+        (two_notes low _ _ (answer_in S.Trap s at_pause f ok since) (note_in low (ended (Trapped Import)) s tt ok), same low (over s) ok)
 
     aside_back_in : (k : ℕ) (ph : Phase) (th : Then) (l : Left) (results : List Value) (s : Store) → PhaseIn low ph → ThenIn th
         → LeftIn l → StoreIn low s → MoveIn low (aside_back p x plan k ph th l results s)

@@ -9,6 +9,7 @@ use Rattle.wa_types.specs.declared.values.Value.{Value}
 use Rattle.wa_types.specs.Syntax.{Func, Module}
 use Rattle.wa_types.specs.Validity.{Valid}
 use Rattle.wa_types.specs.Modules.{imported, imported_global, func_imports, func_sorts, func_type_at, defined_at}
+use Rattle.wa_types.specs.declared.values.Trap.TheVariants.{Import}
 use Rattle.wa_model.specs.declared.answers.Said.{Said}
 use Rattle.wa_model.specs.declared.answers.Said.TheVariants as S
 use Rattle.wa_model.specs.declared.events.End.{End}
@@ -20,7 +21,7 @@ use Rattle.wa_model.specs.Configuration.{Configuration}
 use Rattle.wa_model.specs.Step.{Next, steps, asks, returns, traps, stuck, step}
 use Rattle.wa_model.specs.Plan.{Entry, EntryFits, Plan, Outcome, given, refused}
 use Rattle.wa_model.specs.Instantiation.{Opening, fails_as, opens, opening}
-use Rattle.wa_model.specs.Blocking.{Note, note, no_store, value_of_results, fault_of, pause_of, poked, done_notes, Task, the_start, an_entry, Left, with_outcomes, Asker, inside, outermost, store_at, in_start, stack_at, call_note, next_entry, all_left}
+use Rattle.wa_model.specs.Blocking.{Note, note, no_store, value_of_results, fault_of, pause_of, poked, done_notes, import_traps, Task, the_start, an_entry, Left, with_outcomes, Asker, inside, outermost, store_at, in_start, stack_at, call_note, next_entry, all_left}
 use Rattle.wa_model.specs.Protocol.{Exports, exports_of, Phase, is_running, unwinds, rewinds, Then, give_zero, test_unwound, pause_there, call_again, test_rewound, give_answer, Held, free, starting, busy, calling, aside, entering, over, with_words, used_of, broken, held_on, held_back, held_given, held_pauses, held_resumed, held_tested, held_asked, trap_end, busy_step, is_state, zeros_of, answer_note, aside_back, aside_step, busy_enters, held_next, aside_called, held_start, protocol, held_started, held_begun, held_continued, Protocol}
 use Rattle.run_theory.specs.Fitting.{types_of, results_of, global_types, StoreFits, CallersFit, WaitingFits, NextFits}
 use Rattle.run_theory.proofs.Invariants.{TurnKeeps, RanKeeps, after_keeps, leads_keeps}
@@ -79,6 +80,7 @@ module _ (p : Module) (v : Valid p) (plan : Plan) (ex : ExportsTyped p) where
   given_fits k import called (S.Value value) s l (inside task c) so e h w =
       (any_notes (called ∷ note (answered (S.Value value)) s ∷ []), (w.1, answers_fit p w.1 c s (option_to_list value) so (subst (λ ts. CallersFit p w.1 ts (c.here ∷ c.under)) (sym e) w.2.waits), w.0, h))
   given_fits k import called (S.Value value) s l (outermost old) so e h w = (any_notes (called ∷ note (answered (S.Value value)) s ∷ done_notes s l.entries), on_fits s l l.entries refl so h)
+  given_fits k import called S.Trap s l who so e h w = (any_notes (called ∷ import_traps s), tt)
 
   pauses_fit : (k import : ℕ) (called : Note) (a : Answer) (l : Left) (who : Asker) → SaidTyped p import a.said → LeftTyped p l → AskerFits import who
       → TurnFits (held_pauses x plan k called import a l who)
@@ -128,6 +130,7 @@ module _ (p : Module) (v : Valid p) (plan : Plan) (ex : ExportsTyped p) where
     any_notes (answer_note (S.Value value) s sp ∷ []),
     (w.0, answers_fit p w.0 c s (option_to_list value) so (subst (λ ts. CallersFit p w.0 ts (c.here ∷ c.under)) (sym typed) w.1), t, h),
   )
+  resumed_fits k import e S.Trap sp c l s t typed w h so = (any_notes (answer_note S.Trap s sp ∷ note (ended (Trapped Import)) s ∷ []), tt)
 
   aside_back_fits : (k : ℕ) (ph : Phase) (th : Then) (l : Left) (results : List Value) (s : Store) → PhaseTyped p ph → ThenFits p ph th
       → LeftTyped p l → StoreFits p s → TurnFits (aside_back p x plan k ph th l results s)
@@ -210,6 +213,7 @@ module _ (p : Module) (v : Valid p) (plan : Plan) (ex : ExportsTyped p) where
   given_goes : (k : ℕ) (called : Note) (said : Said) (s : Store) (l : Left) (who : Asker) → held_given k called said s l who ≡ stops → ⊥
   given_goes k called (S.Value value) s l (inside task c) e = cc
   given_goes k called (S.Value value) s l (outermost old) e = cc
+  given_goes k called S.Trap s l who e = cc
 
   tested_goes : (k import : ℕ) (args : List Value) (who : Asker) (l : Left) (a : Answer) (o : Option End) (pause : Option ℕ) → (o ≡ None → (t : ℕ) → pause ≡ Some t → in_start who ≡ false)
       → held_tested p x plan k import args who l a o pause ≡ stops → ⊥
@@ -249,6 +253,7 @@ module _ (p : Module) (v : Valid p) (plan : Plan) (ex : ExportsTyped p) where
 
   resumed_goes : (k : ℕ) (y : Entry) (said : Said) (sp : Store) (c : Configuration) (l : Left) (s : Store) → held_resumed k y said sp c l s ≡ stops → ⊥
   resumed_goes k y (S.Value value) sp c l s e = cc
+  resumed_goes k y S.Trap sp c l s e = cc
 
   aside_back_goes : (k : ℕ) (ph : Phase) (th : Then) (l : Left) (results : List Value) (s : Store) → ThenFits p ph th → aside_back p x plan k ph th l results s ≡ stops → ⊥
   aside_back_goes k (unwinds y i a) (give_zero c) l results s w e = cc

@@ -18,6 +18,7 @@ use Rattle.wa_types.specs.Validity.{is_empty_type, start_fits, Valid}
 use Rattle.wa_types.specs.Modules.{imported, imported_global, func_imports, func_types, func_type_at, or_empty, locals_of, around, defined_at}
 use Rattle.wa_types.proofs.PointLemmas.{takes_after, passes}
 use Rattle.wa_types.proofs.TypingLemmas.{pruned_types}
+use Rattle.wa_types.specs.declared.values.Trap.TheVariants.{Import}
 use Rattle.wa_model.specs.declared.answers.Said.{Said}
 use Rattle.wa_model.specs.declared.answers.Said.TheVariants as S
 use Rattle.wa_model.specs.Operate.{are_of}
@@ -29,7 +30,7 @@ use Rattle.wa_model.specs.Configuration.{Activation, place_of, suspended}
 use Rattle.wa_model.specs.Step.{Next, steps, asks, returns, traps, stuck, step}
 use Rattle.wa_model.specs.Plan.{Entry, EntryFits, Plan, Outcome, given, refused, Fits}
 use Rattle.wa_model.specs.Instantiation.{Opening, fails_as, opens, opening}
-use Rattle.wa_model.specs.Blocking.{Note, note, call_note, answers, bad_value, or_else, fault_of, pause_of, poked, done_notes, Task, the_start, an_entry, Left, with_outcomes, Asker, inside, outermost, store_at, stack_at, in_start, State, between, begins, runs, halts, on_to, next_entry, task_back, go_on, tested, asked, by_step, enters, enter_next, start_called, blocking, all_left, started, begun, continued, Blocking}
+use Rattle.wa_model.specs.Blocking.{Note, note, call_note, answers, bad_value, or_else, fault_of, pause_of, poked, done_notes, import_traps, Task, the_start, an_entry, Left, with_outcomes, Asker, inside, outermost, store_at, stack_at, in_start, State, between, begins, runs, halts, on_to, next_entry, task_back, go_on, tested, asked, by_step, enters, enter_next, start_called, blocking, all_left, started, begun, continued, Blocking}
 use Rattle.run_theory.specs.Fitting.{types_of, results_of, global_types, StoreFits}
 use Rattle.run_theory.specs.LawfulStacks.{SuspendedIn, LawfulActivation}
 use Rattle.run_theory.proofs.Invariants.{TurnKeeps, RanKeeps, after_keeps}
@@ -102,6 +103,7 @@ test_passed false e h = cc
 -- what passes its test is said of the import's result
 pub said_typed : (m : Module) (import : ℕ) (results : List ValType) (said : Said) → results_of m import ≡ results → bad_value results import said ≡ None → SaidTyped m import said
 said_typed m import results (S.Value v) e passed = answer_typed results v (test_passed (answers results v) _ passed) ∙ sym e
+said_typed m import results S.Trap e passed = tt
 
 pub listed_typed : (types : List ValType) (values : List Value) → are_of types values ≡ true → types_of values ≡ types
 listed_typed [] [] e = refl
@@ -183,6 +185,8 @@ module _ (b : Module) (v : Valid b) (plan : Plan) where
       (two x _ nx none, (record { store = so; here = goes_on_behind b import c.here (option_to_list value) stack.0 e; under = stack.1 }, h))
   go_on_spots k import x (S.Value value) s l (outermost old) nx so e h w =
       (All-append NoteAtPoints (x ∷ note (answered (S.Value value)) s ∷ []) (done_notes s l.entries) (two x _ nx none) (done_points s l.entries), on_spots s l l.entries so h)
+  go_on_spots k import x S.Trap s l who nx so e h w =
+      (All-cons NoteAtPoints x (import_traps s) nx (two (note (answered S.Trap) s) (note (ended (Trapped Import)) s) none none), tt)
 
   poked_fits : (s : Store) (a : Answer) → StoreFits b s → StoreFits b (poked s a.pokes)
   poked_fits s a so = record { globals = so.globals; table = so.table }

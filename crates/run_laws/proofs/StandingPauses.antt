@@ -282,6 +282,7 @@ module _ (b : Module) (plan : Plan) where
           (w.0, w.1, record { same = e; here = waited_stands b cs.0 c.here.func c.here.code c.here.labels cs.2; under = cs.3; few = few }, h),
         )
     go_on_at k j import args st at pause (S.Value v) s l (outermost old) nx e h w = let d = done_on k s l l.entries e h in ((nx, ((tt, tt), d.0)), d.1)
+    go_on_at k j import args st at pause S.Trap s l who nx e h w = ((nx, ((tt, tt), ((tt, tt), tt))), e)
 
     pause_at : (import ticks : ℕ) (args : List Value) → ((listed : List Bool) (t : ℕ) → plan.listed ≡ Some listed → ticks ≡ suc t → slice_get listed import ≡ Some true)
         → PauseTold plan (called (record { import = import; args = args })) (pause_of ticks)

@@ -20,7 +20,7 @@ use Rattle.wa_model.specs.Store.{Store}
 use Rattle.wa_model.specs.Step.{Next, steps, asks, returns, traps, stuck, step}
 use Rattle.wa_model.specs.Plan.{Entry, EntryFits, Plan, Outcome, given, refused}
 use Rattle.wa_model.specs.Instantiation.{Opening, fails_as, opens, opening}
-use Rattle.wa_model.specs.Blocking.{Note, note, no_store, value_of_results, fault_of, pause_of, poked, done_notes, Task, the_start, an_entry, Left, with_outcomes, Asker, inside, outermost, store_at, in_start, stack_at, call_note, State, between, begins, runs, halts, on_to, next_entry, task_back, go_on, tested, asked, by_step, enters, enter_next, start_called, blocking, all_left, started, begun, continued, Blocking}
+use Rattle.wa_model.specs.Blocking.{Note, note, no_store, value_of_results, fault_of, pause_of, poked, done_notes, import_traps, Task, the_start, an_entry, Left, with_outcomes, Asker, inside, outermost, store_at, in_start, stack_at, call_note, State, between, begins, runs, halts, on_to, next_entry, task_back, go_on, tested, asked, by_step, enters, enter_next, start_called, blocking, all_left, started, begun, continued, Blocking}
 use Rattle.run_theory.specs.Fitting.{types_of, results_of, global_types, StoreFits, CallersFit, WaitingFits, NextFits}
 use Rattle.run_theory.specs.Growth.{Each}
 use Rattle.run_theory.proofs.Invariants.{TurnKeeps, RanKeeps, after_keeps, leads_keeps}
@@ -69,6 +69,7 @@ module _ (b : Module) (v : Valid b) (plan : Plan) where
   go_on_fits k import x (S.Value value) s l (inside task c) so e h w =
       (any_notes (x ∷ note (answered (S.Value value)) s ∷ []), (w.0, answers_fit b w.0 c s (option_to_list value) so (subst (λ ts. CallersFit b w.0 ts (c.here ∷ c.under)) (sym e) w.1.waits), h))
   go_on_fits k import x (S.Value value) s l (outermost old) so e h w = (any_notes (x ∷ note (answered (S.Value value)) s ∷ done_notes s l.entries), on_fits s l l.entries refl so h)
+  go_on_fits k import x S.Trap s l who so e h w = (any_notes (x ∷ import_traps s), tt)
 
   tested_fits : (k import : ℕ) (args : List Value) (who : Asker) (l : Left) (a : Answer) (o : Option End) → LeftTyped b l → AskerFits import who
       → (o ≡ None → SaidTyped b import a.said) → TurnFits (tested b k import args who l a o)
@@ -134,6 +135,7 @@ module _ (b : Module) (v : Valid b) (plan : Plan) where
   go_on_goes : (k : ℕ) (x : Note) (said : Said) (s : Store) (l : Left) (w : Asker) → go_on k x said s l w ≡ stops → ⊥
   go_on_goes k x (S.Value value) s l (inside task c) e = cc
   go_on_goes k x (S.Value value) s l (outermost old) e = cc
+  go_on_goes k x S.Trap s l w e = cc
 
   asked_goes : (k import : ℕ) (args : List Value) (who : Asker) (l : Left) (os : List Outcome) → asked b plan k import args who l os ≡ stops → ⊥
   asked_goes k import args who l [] e = cc

@@ -49,9 +49,10 @@ abbrev pub TaskTyped : Module → Task → Type 0
 TaskTyped p the_start = Unit {0}
 TaskTyped p (an_entry e) = EntryTyped p e
 
--- what is said is a value of the import's result
+-- what is said is a value of the import's result, or a trap
 abbrev pub SaidTyped : Module → ℕ → Said → Type 0
 SaidTyped p import (S.Value v) = types_of (option_to_list v) ≡ results_of p import
+SaidTyped p import S.Trap = Unit {0}
 
 -- the entry, and what waits in a phase of a pause, at an import that is there
 abbrev pub PhaseTyped : Module → Phase → Type 0

@@ -6,12 +6,12 @@ use Rattle.std.proofs.Math.Utf8.{encode}
 use Rattle.std.specs.Fmt.{digits}
 use Rattle.wa_types.specs.declared.bounds.LimitKind.TheVariants as L
 use Rattle.wa_types.specs.declared.values.Value.TheVariants as V
-use Rattle.wa_types.specs.declared.values.Trap.TheVariants.{Unreachable}
+use Rattle.wa_types.specs.declared.values.Trap.TheVariants.{Unreachable, Import}
 use Rattle.wa_model.specs.declared.answers.Said.TheVariants as S
-use Rattle.wa_model.specs.declared.events.End.TheVariants.{UnwindTrap}
-use Rattle.wa_model.specs.Outside.{Line, Event, called, paused, returned, ended, shown}
+use Rattle.wa_model.specs.declared.events.End.TheVariants.{Trapped, UnwindTrap}
+use Rattle.wa_model.specs.Outside.{Line, Event, called, answered, paused, returned, ended, shown}
 use Rattle.script_model.specs.Script.{Script, ScriptFault, breaks, too_many}
-use Rattle.script_model.specs.ScriptLines.{begins_program, has_steps, shows, detaches, answers, line_says, word_text, value_in, number_in, hex_in}
+use Rattle.script_model.specs.ScriptLines.{begins_program, has_steps, shows, detaches, answers, line_says, word_text, value_in, result_in, number_in, hex_in}
 use Rattle.script_model.specs.ScriptText.{script_text}
 use Rattle.script_model.specs.Transcript.{Names, event_line, Transcript, last_line, refusal_line, script, invalid, limit}
 
@@ -96,6 +96,17 @@ an_answer : line_says (codes "answer env.read i32:4 ticks 2 poke 65532 01fF")
     ≡ Ok (Some (answers (record { import = codes "env.read"; answer = record { said = S.Value (Some (V.I32 4)); pokes = record { at = 65532; bytes = 1 ∷ 255 ∷ [] } ∷ []; ticks = 2 } })))
 unfolding script_text is_utf8 chars encode digits
 an_answer = refl
+
+-- what a call is told: `trap` is a word of its own, and no value
+results : (result_in (codes "trap") ≡ Some S.Trap) × (result_in (codes "none") ≡ Some (S.Value None)) × (result_in (codes "i32:5") ≡ Some (S.Value (Some (V.I32 5))))
+    × (result_in (codes "traps") ≡ None) × (value_in (codes "trap") ≡ None)
+unfolding script_text is_utf8 chars encode digits
+results = (refl, refl, refl, refl, refl)
+
+a_trap : line_says (codes "answer env.read trap ticks 4 poke 0 01")
+    ≡ Ok (Some (answers (record { import = codes "env.read"; answer = record { said = S.Trap; pokes = record { at = 0; bytes = 1 ∷ [] } ∷ []; ticks = 4 } })))
+unfolding script_text is_utf8 chars encode digits
+a_trap = refl
 
 -- ticks stand in front of pokes
 ticks_behind : line_says (codes "answer env.read none poke 0 00 ticks 2") ≡ Err 3
@@ -242,6 +253,12 @@ printed : (event_line names (at_five (called (record { import = 0; args = V.I32 
     × (event_line names (at_five (shown 16 (Some (171 ∷ 0 ∷ [])))) ≡ codes "5 1 memory 16 ab00" ++ 10 ∷ [])
 unfolding event_line digits
 printed = (refl, refl, refl, refl, refl)
+
+printed_answers : (event_line names (at_five (answered (S.Value None))) ≡ codes "5 1 answer none" ++ 10 ∷ [])
+    × (event_line names (at_five (answered S.Trap)) ≡ codes "5 1 answer trap" ++ 10 ∷ [])
+    × (event_line names (at_five (ended (Trapped Import))) ≡ codes "5 1 end trap import trap" ++ 10 ∷ [])
+unfolding event_line digits
+printed_answers = (refl, refl, refl)
 
 refused : (refusal_line None (script 1 10) ≡ codes "script line 1 rule 10" ++ 10 ∷ [])
     × (refusal_line (Some 2) (invalid (Some 3) 8 0) ≡ codes "program 2: invalid rule 8 function 3 at 0" ++ 10 ∷ [])
