@@ -1,6 +1,6 @@
 -- The tests of an answer, where listed imports are told or not.
 use Rattle.std.proofs.Common.{◌≡◌, ℕ, zero, suc, List, Option, Some, None, Bool, true, false, refl, sym, ◌∙◌, ◌⊎◌, inl, inr}
-use Rattle.std.specs.Prelude.{if◌then◌else◌, not, slice_get}
+use Rattle.std.specs.Prelude.{not, slice_get}
 use Rattle.wa_types.specs.Pausing.{is_told}
 use Rattle.wa_types.specs.declared.values.ValType.{ValType}
 use Rattle.wa_model.specs.declared.events.End.{End}

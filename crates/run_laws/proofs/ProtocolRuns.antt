@@ -17,10 +17,11 @@ use Rattle.wa_types.specs.Memory.{page_size, bytes_of}
 use Rattle.wa_types.specs.Modules.{func_imports, func_type_at, defined_at, imported, imported_memory, all_memories}
 use Rattle.wa_types.proofs.MemoryLemmas.{length-bytes_of}
 use Rattle.wa_model.specs.declared.answers.Area.{Area}
+use Rattle.wa_types.specs.declared.values.Trap.TheVariants.{Import as ByImport}
 use Rattle.wa_model.specs.declared.answers.Said.{Said}
 use Rattle.wa_model.specs.declared.answers.Said.TheVariants as S
 use Rattle.wa_model.specs.declared.events.End.{End}
-use Rattle.wa_model.specs.declared.events.End.TheVariants.{Broken}
+use Rattle.wa_model.specs.declared.events.End.TheVariants.{Broken, Trapped}
 use Rattle.wa_model.specs.Outside.{Poke, Answer, answered, paused, returned, ended}
 use Rattle.wa_model.specs.Machine.{Turn, stops, goes, Ran}
 use Rattle.wa_model.specs.Store.{Store}
@@ -192,7 +193,7 @@ module _ (p : Module) (w : CodesIn p) (x : Exports) (plan : Plan) (base : ℕ) (
       same low (busy (is_running (an_entry e)) (resumed c s (option_to_list v)) l) (eh, resumed_in low c s (option_to_list v) wh ok (optional_in v f), h),
     )
     resuming_in k e S.Trap at_pause c l s eh f since wh h ok =
-        (two_notes low _ _ (answer_in S.Trap s at_pause f ok since) (note_in low (ended (Trapped Import)) s tt ok), same low (over s) ok)
+        (two_notes low _ _ (answer_in S.Trap s at_pause f ok since) (note_in low (ended (Trapped ByImport)) s tt ok), same low (over s) ok)
 
     aside_back_in : (k : ℕ) (ph : Phase) (th : Then) (l : Left) (results : List Value) (s : Store) → PhaseIn low ph → ThenIn th
         → LeftIn l → StoreIn low s → MoveIn low (aside_back p x plan k ph th l results s)

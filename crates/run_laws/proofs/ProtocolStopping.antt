@@ -13,7 +13,7 @@ use Rattle.wa_types.specs.declared.values.Trap.TheVariants.{Import}
 use Rattle.wa_model.specs.declared.answers.Said.{Said}
 use Rattle.wa_model.specs.declared.answers.Said.TheVariants as S
 use Rattle.wa_model.specs.declared.events.End.{End}
-use Rattle.wa_model.specs.declared.events.End.TheVariants.{Broken}
+use Rattle.wa_model.specs.declared.events.End.TheVariants.{Broken, Trapped}
 use Rattle.wa_model.specs.Outside.{Answer, answered, returned, ended, paused}
 use Rattle.wa_model.specs.Machine.{Turn, stops, goes}
 use Rattle.wa_model.specs.Store.{Store}

@@ -23,7 +23,8 @@ use Rattle.wa_model.specs.declared.answers.Said.{Said}
 use Rattle.wa_model.specs.declared.answers.Said.TheVariants as S
 use Rattle.wa_model.specs.Operate.{are_of}
 use Rattle.wa_model.specs.declared.events.End.{End}
-use Rattle.wa_model.specs.Outside.{Answer, answered}
+use Rattle.wa_model.specs.declared.events.End.TheVariants.{Trapped}
+use Rattle.wa_model.specs.Outside.{Answer, answered, ended}
 use Rattle.wa_model.specs.Machine.{Turn, stops}
 use Rattle.wa_model.specs.Store.{Store}
 use Rattle.wa_model.specs.Configuration.{Activation, place_of, suspended}
