@@ -64,6 +64,7 @@ module _ (g : ℕ) (area : Area) (p : Module) (x : Exports) (plan : Plan) where
   -- what is said is told in the move that gives it
   resumed_tells : (j : ℕ) (e : Entry) (said : Said) (sp : Store) (c : Configuration) (l : Left) (t : Store) (k : ℕ) (b : Held) → held_resumed j e said sp c l t ≡ goes k [] b → ⊥
   resumed_tells j e (S.Value v) sp c l t k b q = cc
+  resumed_tells j e S.Trap sp c l t k b q = cc
 
   back_keeps : (ph : Phase) (th : Then) (l : Left) (vs : List Value) (s t : Store) (j k : ℕ) (b : Held) → Same s t → aside_back p x plan j ph th l vs t ≡ goes k [] b
       → Same s (store_held b)

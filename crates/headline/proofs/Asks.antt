@@ -13,7 +13,7 @@ use Rattle.run_laws.proofs.Keeping.{same_refl}
 use Rattle.std.proofs.Common.{All, Bool, List, None, Option, Some, [], ap, arith, false, length, refl, subst, suc, sym, true, zero, ℕ, ◌*◌, ◌+◌, ◌<◌, ◌∙◌, ◌∷◌, ◌≡◌, ◌≤◌}
 use Rattle.std.specs.Option.{option_to_list}
 use Rattle.std.specs.Prelude.{if◌then◌else◌}
-use Rattle.wa_model.specs.Blocking.{Left, Note, State, Task, asked, bad_pause, bad_poke, bad_value, by_step, call_note, ends_at_call, fault_of, go_on, halts, inside, is_start, is_unlisted, note, or_else, pause_of, poked, resumed, runs, tested, with_outcomes}
+use Rattle.wa_model.specs.Blocking.{Left, Note, State, Task, asked, bad_pause, bad_poke, bad_value, by_step, call_note, ends_at_call, fault_of, go_on, halts, import_traps, inside, is_start, is_unlisted, note, or_else, pause_of, poked, resumed, runs, tested, with_outcomes}
 use Rattle.wa_model.specs.Configuration.{Configuration, stack_of}
 use Rattle.wa_model.specs.Machine.{Turn, goes}
 use Rattle.wa_model.specs.Outside.{Answer, answered, ended}
@@ -24,7 +24,9 @@ use Rattle.wa_model.specs.Store.{Store}
 use Rattle.wa_model.specs.declared.answers.Said.{Said}
 use Rattle.wa_model.specs.declared.answers.Said.TheVariants as S
 use Rattle.wa_model.specs.declared.events.End.{End}
+use Rattle.wa_model.specs.declared.events.End.TheVariants.{Trapped}
 use Rattle.wa_types.specs.Modules.{func_type_at}
+use Rattle.wa_types.specs.declared.values.Trap.TheVariants.{Import}
 use Rattle.wa_types.specs.declared.values.ValType.{ValType}
 use Rattle.wa_types.specs.declared.values.Value.{Value}
 
@@ -34,9 +36,10 @@ first_fits o os h = let lt : 0 < length (o ∷ os) = omega arith in h 0 o lt
 pub others_fit : (o : Outcome) (os : List Outcome) → All OutcomeFits (o ∷ os) → All OutcomeFits os
 others_fit o os h = λ k d lt. let more : suc k < length (o ∷ os) = omega arith in h (suc k) d more
 
--- what was said is a value
-pub value_said : {X : Type 0} (said : Said) → ((v : Option Value) → said ≡ S.Value v → X) → X
-value_said (S.Value v) h = h v refl
+-- what was said is a value, or a trap
+pub by_said : {X : Type 0} (said : Said) → ((v : Option Value) → said ≡ S.Value v → X) → (said ≡ S.Trap → X) → X
+by_said (S.Value v) value trap = value v refl
+by_said S.Trap value trap = trap refl
 
 -- an answer without a fault has no bad poke
 else_none : (a b : Option End) → or_else a b ≡ None → (a ≡ None) × (b ≡ None)
@@ -216,6 +219,23 @@ module _ (w : World) (ft : WorldFits w) (sl : StoreLaws w) (L : (top spare : ℕ
           subst (λ z. O (sh w (go_on k (call_note i args d.store (stack_of (base w) d) z) a.said (poked d.store a.pokes) lo (inside task d)))) (sym et)
           (subst (λ z. O (sh w (go_on k (call_note i args d.store (stack_of (base w) d) None) z (poked d.store a.pokes) lo (inside task d)))) (sym told) owes)
 
+      -- the import traps, and the run ends
+      traps_there : (a : Answer) (os : List Outcome) → a.said ≡ S.Trap → l.outcomes ≡ given a ∷ os → fault a ≡ None → pause_of a.ticks ≡ None
+          → O (sh w (tested (base w) k i args (inside task d) (with_outcomes l os) a None))
+      traps_there a os told eo ef et =
+          let lo = with_outcomes l os in
+          let alike2 = sl.poked_too top d.store (cd.at).store a cd.alike (no_bad_poke (func_type_at (base w) i).results (length d.store.memory) w.plan (is_start task) i a ef) in
+          let same2 = sl.same_end top (poked d.store a.pokes) (poked (cd.at).store a.pokes) alike2 in
+          let mv = tested_now a os None eo ef ∙ ap (held_tested w.written (xp w) w.plan cd.j i args (inside task cd.at) lo a None) et
+          ∙ ap (λ z. held_given cd.j (call_note i args (cd.at).store (stack_of w.written cd.at) None) z (poked (cd.at).store a.pokes) lo (inside task cd.at)) told in
+          let owes : O (goes k (call_note i args d.store (stack_of (base w) d) None ∷ import_traps (poked d.store a.pokes)) (halts (poked d.store a.pokes))) =
+          last_move w ft sl L W G law n spare k cd.j cd.cost a0 (halts (poked d.store a.pokes)) b0 b1 (over (poked (cd.at).store a.pokes))
+          (call_note i args d.store (stack_of (base w) d) None ∷ note (answered S.Trap) (poked d.store a.pokes) ∷ [])
+          (call_note i args (cd.at).store (stack_of w.written cd.at) None ∷ import_traps (poked (cd.at).store a.pokes)) (note (ended (Trapped Import)) (poked d.store a.pokes)) cd.silent mv
+          (same_note w _ _ refl same_d tt refl, (same_note w _ _ refl same2 tt refl, (same_note w _ _ refl same2 tt refl, tt))) same2 paid (λ enough. r_halts same2) in
+          subst (λ z. O (sh w (go_on k (call_note i args d.store (stack_of (base w) d) z) a.said (poked d.store a.pokes) lo (inside task d)))) (sym et)
+          (subst (λ z. O (sh w (go_on k (call_note i args d.store (stack_of (base w) d) None) z (poked d.store a.pokes) lo (inside task d)))) (sym told) owes)
+
       -- a pause is left to its own file
       abbrev pub Pausing : Type 0
       Pausing = (a : Answer) (os : List Outcome) (ticks : ℕ) → l.outcomes ≡ given a ∷ os → fault a ≡ None → pause_of a.ticks ≡ Some ticks
@@ -226,7 +246,7 @@ module _ (w : World) (ft : WorldFits w) (sl : StoreLaws w) (L : (top spare : ℕ
         where
           by_pause : (a : Answer) (os : List Outcome) → l.outcomes ≡ given a ∷ os → fault a ≡ None → (o : Option ℕ) → pause_of a.ticks ≡ o
               → O (sh w (tested (base w) k i args (inside task d) (with_outcomes l os) a None))
-          by_pause a os eo ef None et = value_said a.said (λ v told. at_once a v os told eo ef et)
+          by_pause a os eo ef None et = by_said a.said (λ v told. at_once a v os told eo ef et) (λ told. traps_there a os told eo ef et)
           by_pause a os eo ef (Some ticks) et = pausing a os ticks eo ef et
 
           by_fault : (a : Answer) (os : List Outcome) → l.outcomes ≡ given a ∷ os → (o : Option End) → fault a ≡ o → O (sh w (tested (base w) k i args (inside task d) (with_outcomes l os) a o))

@@ -13,9 +13,10 @@ use Rattle.guard_runs.specs.Returned.{AllSameFlat}
 use Rattle.guard_runs.proofs.StoppedStacks.{stops_law, waits_law}
 use Rattle.guard_runs.specs.Alike.{Alike}
 use Rattle.guard_runs.specs.Stopped.{Stopped}
-use Rattle.headline.proofs.Asks.{Called, Given_on, answer_fits, give, left_fits, no_bad_poke, pause_allowed, same_d, tested_now, went_on}
+use Rattle.headline.proofs.Asks.{Called, Given_on, answer_fits, by_said, give, left_fits, no_bad_poke, pause_allowed, same_d, tested_now, went_on}
 use Rattle.headline.proofs.FlatStretches.{Sil, Sm, gl, pr, sides, xp}
 use Rattle.headline.specs.StoreLaws.{StoreLaws}
+use Rattle.headline.specs.Told.{answer_notes, goes_on_told}
 use Rattle.headline.proofs.FromSimulation.{dear_cons}
 use Rattle.headline.proofs.Halves.{Back, Hangs, comes_back}
 use Rattle.headline.proofs.OuterLevels.{under_deep, weigh_all}
@@ -33,7 +34,7 @@ use Rattle.std.specs.Option.{option_to_list}
 use Rattle.std.specs.Prelude.{if◌then◌else◌, nat_lt}
 use Rattle.run_theory.proofs.Runs.{leads_on, leads_run}
 use Rattle.wa_model.specs.Behaves.{AreaKept, SameNote, StandsNumbered}
-use Rattle.wa_model.specs.Blocking.{Left, Note, State, an_entry, call_note, go_on, halts, inside, note, pause_of, poked, resumed, runs, tested, with_outcomes}
+use Rattle.wa_model.specs.Blocking.{Left, Note, State, an_entry, call_note, go_on, halts, import_traps, inside, note, pause_of, poked, resumed, runs, tested, with_outcomes}
 use Rattle.wa_model.specs.Configuration.{Activation, Configuration, stack_of}
 use Rattle.wa_model.specs.Expected.{pause_note, trap_note}
 use Rattle.wa_model.specs.Machine.{Leads, Ran, goes, moves, run, stays}
@@ -42,12 +43,13 @@ use Rattle.wa_model.specs.Plan.{Entry, Outcome, given}
 use Rattle.wa_model.specs.Protocol.{Held, answer_note, busy, call_again, calling, give_zero, held_resumed, is_running, over, rewinds, store_held, unwinds, with_words}
 use Rattle.wa_model.specs.Step.{asks, param_count, step}
 use Rattle.wa_model.specs.Store.{Store}
+use Rattle.wa_model.specs.declared.answers.Said.{Said}
 use Rattle.wa_model.specs.declared.answers.Said.TheVariants as SV
-use Rattle.wa_model.specs.declared.events.End.TheVariants.{UnwindTrap}
+use Rattle.wa_model.specs.declared.events.End.TheVariants.{Trapped, UnwindTrap}
 use Rattle.wa_types.specs.Bounds.{activation_bound}
 use Rattle.wa_types.specs.Frames.{Room, Suspended}
 use Rattle.wa_types.specs.Modules.{func_type_at}
-use Rattle.wa_types.specs.declared.values.Trap.TheVariants.{Unreachable}
+use Rattle.wa_types.specs.declared.values.Trap.TheVariants.{Import, Unreachable}
 use Rattle.wa_types.specs.declared.values.Value.{Value}
 use Rattle.wa_types.specs.declared.values.Value.TheVariants as V
 
@@ -62,6 +64,12 @@ pause_bound c1 k spare pc ac gc left un args sl rw most dear rest n h1 h2 h3 h4 
 
 paid_enough : (c1 k more : ℕ) → suc k ≤ c1 → suc k ≤ c1 + more
 paid_enough c1 k more h = omega arith
+
+-- what is said is told in the move of the call
+pub told_moves : (k : ℕ) (x : Note) (said : Said) (s : Store) (l : Left) (e : Entry) (c : Configuration)
+    → go_on k x said s l (inside (an_entry e) c) ≡ goes k (x ∷ answer_notes said s) (goes_on_told said e c s l)
+told_moves k x (SV.Value v) s l e c = refl
+told_moves k x SV.Trap s l e c = refl
 
 pub some_is : {X : Type 0} (x y : X) → Some x ≡ Some y → x ≡ y
 some_is x y q = cc
@@ -121,7 +129,7 @@ module _ (w : World) (ft : WorldFits w) (sl : StoreLaws w) (L : (top spare : ℕ
     (n spare top x : ℕ) (within : 10 * x ≤ spare) (e : Entry) (c b : Configuration) (l : Left) (is_top : TopOf w (an_entry e) top) (lk : Link w ft sl L W G law top x c b)
     (lf : LeftFits w l) (al : Allowed w n (runs (an_entry e) c l))
     (k i : ℕ) (args : List Value) (d : Configuration) (is : step (base w) c ≡ asks k i args d) (cd : Called w ft sl L W G law top spare (an_entry e) l c.store b k i args d)
-    (a : Answer) (value : Option Value) (said_is : a.said ≡ SV.Value value) (os : List Outcome) (ticks : ℕ) (eo : l.outcomes ≡ given a ∷ os) (ef : Rattle.headline.proofs.Asks.fault w ft sl L W G law n spare top x within
+    (a : Answer) (os : List Outcome) (ticks : ℕ) (eo : l.outcomes ≡ given a ∷ os) (ef : Rattle.headline.proofs.Asks.fault w ft sl L W G law n spare top x within
     (an_entry e) c b l is_top lk lf al k i args d is cd a ≡ None) (et : pause_of a.ticks ≡ Some ticks)
     (came : (c2 : Configuration) (l2 : Left) (cost : ℕ) (es : List Note) → Leads (pr w) (busy (is_running (an_entry e)) b l) cost es (busy (is_running (an_entry e)) c2 l2)
     → AllLocalsFit w.written (c2.here ∷ c2.under))
@@ -155,18 +163,18 @@ module _ (w : World) (ft : WorldFits w) (sl : StoreLaws w) (L : (top spare : ℕ
   b2 = calling (unwinds e i a) (with_words s1 w.plan.area) (xp w).start_unwind (V.I32 w.plan.area.at ∷ []) (give_zero cd.at) lo
 
   abbrev a2 : State
-  a2 = runs (an_entry e) (resumed d (poked d.store a.pokes) (option_to_list value)) lo
+  a2 = goes_on_told a.said e d (poked d.store a.pokes) lo
 
   mv : pr w b1 ≡ goes cd.j (y1 ∷ []) b2
   mv =
       tested_now w ft sl L W G law n spare top x within (an_entry e) c b l is_top lk lf al k i args d is cd a os None eo ef
       ∙ ap (Rattle.wa_model.specs.Protocol.held_tested w.written (xp w) w.plan cd.j i args (inside (an_entry e) cd.at) lo a None) et
 
-  was : nb w a0 ≡ goes k (x1 ∷ note (answered (SV.Value value)) (poked d.store a.pokes) ∷ []) a2
+  was : nb w a0 ≡ goes k (x1 ∷ answer_notes a.said (poked d.store a.pokes)) a2
   was =
       went_on w ft sl L W G law n spare top x within (an_entry e) c b l is_top lk lf al k i args d is cd a os eo ef
       ∙ ap (λ z. go_on k (call_note i args d.store S z) a.said (poked d.store a.pokes) lo (inside (an_entry e) d)) et
-      ∙ ap (λ z. go_on k x1 z (poked d.store a.pokes) lo (inside (an_entry e) d)) said_is
+      ∙ told_moves k x1 a.said (poked d.store a.pokes) lo e d
 
   same1 : Sm w d.store s1
   same1 = same_d w ft sl L W G law n spare top x within (an_entry e) c b l is_top lk lf al k i args d is cd
@@ -197,8 +205,7 @@ module _ (w : World) (ft : WorldFits w) (sl : StoreLaws w) (L : (top spare : ℕ
 
   known_now : suc k ≤ n → StackKnown w.asserts w.original w.settings w.which S
   known_now enough =
-      known_first w.asserts (note (answered (SV.Value value)) (poked d.store a.pokes) ∷ [])
-      (al.numbered 0 k [] (x1 ∷ note (answered (SV.Value value)) (poked d.store a.pokes) ∷ []) a0 a2 stays was (omega arith))
+      known_first w.asserts (answer_notes a.said (poked d.store a.pokes)) (al.numbered 0 k [] (x1 ∷ answer_notes a.said (poked d.store a.pokes)) a0 a2 stays was (omega arith))
 
   -- its locals fit where it is about to unwind
   unwound : AllLocalsFit w.written ((cd.at).here ∷ (cd.at).under)
@@ -287,16 +294,10 @@ module _ (w : World) (ft : WorldFits w) (sl : StoreLaws w) (L : (top spare : ℕ
   abbrev x2 : Note
   x2 = pause_note ticks (Room w.original w.settings.policy S) d.store S
 
-  abbrev x3 : Note
-  x3 = note (answered (SV.Value value)) (poked d.store a.pokes)
-
   abbrev Same : Note → Note → Type 0
   Same = SameNote w.original w.settings w.which w.plan.area
 
-  -- the stack was suspended, and came back to where it waits in this store
-  abbrev back_at : Configuration → Store → Held
-  back_at wt s = busy (is_running (an_entry e)) (resumed wt (poked s a.pokes) (option_to_list value)) lo
-
+  -- the stack was suspended in a store, and came back to where it waits in another one
   record Returned : Type 0 where
     pc : ℕ
     p2 : Held
@@ -304,15 +305,15 @@ module _ (w : World) (ft : WorldFits w) (sl : StoreLaws w) (L : (top spare : ℕ
     b4 : Held
     ac : ℕ
     p4 : Held
-    y3 : Note
+    s3 : Store
     wt : Configuration
     s5 : Store
     to_pause : Sil w d.store b2 pc p2
     pauses : pr w p2 ≡ goes 0 (y2 ∷ []) b4
     same2 : Same x2 y2
     to_answer : Sil w d.store b4 ac p4
-    answers : pr w p4 ≡ goes 0 (y3 ∷ []) (back_at wt s5)
-    same3 : Same x3 y3
+    answers : pr w p4 ≡ held_resumed 0 e a.said s3 wt lo (poked s5 a.pokes)
+    kept : AreaKept w.plan.area s3 (poked s5 a.pokes)
     seen : Sm w (poked d.store a.pokes) (poked s5 a.pokes)
     like : Alike (setting w top) d.store s5
     new : List Activation
@@ -363,20 +364,12 @@ module _ (w : World) (ft : WorldFits w) (sl : StoreLaws w) (L : (top spare : ℕ
       let no_bad = no_bad_poke (func_type_at (base w) i).results (length d.store.memory) w.plan false i a ef in
       let bk : Back w ft sl L W G law top i e a lo d hangs d.store pa.store = comes_back w ft sl L W G law top i e a lo d hangs d.store pa.store alike3 wide small pa.suspended no_bad in
       let y2 : Note = note (paused a.ticks (8 + total_size (z.v ∷ z.vs))) pa.store in
-      let y3 : Note = answer_note (SV.Value value) (poked bk.store a.pokes) pa.store in
       let sus = pa.suspended in
       let arnd = pa.around in
       let area_at : AreaAt (suc (gl w)) ar pa.store (ar.at + 8 + total_size (z.v ∷ z.vs)) =
       record { address = arnd.address; location = sus.location; limit = sus.limit; low = omega arith; high = omega arith; inside = rdy3.inside; small = rdy3.small } in
       let ev2 : x2.event ≡ y2.event = ap (λ q. paused ticks q) hd.room ∙ ap (λ q. paused q (8 + total_size (z.v ∷ z.vs))) (sym (ticks_are a.ticks ticks et)) in
       let al2 : SameNote w.original w.settings w.which w.plan.area x2 y2 = same_note w x2 y2 ev2 same3 (hd.image (suc (gl w)) ar pa.store area_at sus.frames) refl in
-      let al3 : SameNote w.original w.settings w.which w.plan.area x3 y3 =
-      record {
-        event = refl;
-        ends = bk.seen;
-        image = tt;
-        kept = λ at q. let eq : pa.store ≡ at = some_is pa.store at q in subst (λ u. AreaKept ar u (poked bk.store a.pokes)) eq bk.kept;
-      } in
       record {
         pc = pa.cost;
         p2 = pa.at;
@@ -384,15 +377,15 @@ module _ (w : World) (ft : WorldFits w) (sl : StoreLaws w) (L : (top spare : ℕ
         b4 = b4;
         ac = bk.cost;
         p4 = bk.at;
-        y3 = y3;
+        s3 = pa.store;
         wt = bk.config;
         s5 = bk.store;
         to_pause = q1;
         pauses = pa.tells;
         same2 = al2;
         to_answer = bk.silent;
-        answers = bk.answers ∙ ap (λ q. held_resumed 0 e q pa.store bk.config lo (poked bk.store a.pokes)) said_is;
-        same3 = al3;
+        answers = bk.answers;
+        kept = bk.kept;
         seen = bk.seen;
         like = bk.like;
         new = bk.new;
@@ -406,74 +399,139 @@ module _ (w : World) (ft : WorldFits w) (sl : StoreLaws w) (L : (top spare : ℕ
         weighs = weigh_all w.original (param_count (func_type_at w.flat top)) z.v z.vs S z.weigh;
       }
 
-  -- all three notes are told on the way from the call to behind the answer
-  three : (r : Returned) (to : Held) (gc : ℕ) → Sil w (poked d.store a.pokes) (back_at r.wt r.s5) gc to
-      → Told w.original w.settings w.which w.written (xp w) w.plan c.store (x1 ∷ x2 ∷ x3 ∷ []) b0 (cd.cost + suc cd.j + (r.pc + 1 + (r.ac + 1 + gc))) (y1 ∷ r.y2 ∷ r.y3 ∷ []) to
-  three r to gc q3 =
-      let t3 : Told w.original w.settings w.which w.written (xp w) w.plan d.store (x3 ∷ []) r.b4 (r.ac + 1 + gc) (r.y3 ∷ []) to =
-      told [] x3 r.to_answer r.answers (r.same3, tt) (no_more q3) refl refl refl in
-      let t2 : Told w.original w.settings w.which w.written (xp w) w.plan d.store (x2 ∷ x3 ∷ []) b2 (r.pc + 1 + (r.ac + 1 + gc)) (r.y2 ∷ r.y3 ∷ []) to =
+  -- the notes of the answer
+  abbrev y3 : Returned → Said → Note
+  y3 r said = answer_note said (poked r.s5 a.pokes) r.s3
+
+  same3 : (r : Returned) (said : Said) → Same (note (answered said) (poked d.store a.pokes)) (answer_note said (poked r.s5 a.pokes) r.s3)
+  same3 r said = record {
+    event = refl;
+    ends = r.seen;
+    image = tt;
+    kept = λ at q. let eq : r.s3 ≡ at = some_is r.s3 at q in subst (λ u. AreaKept w.plan.area u (poked r.s5 a.pokes)) eq r.kept;
+  }
+
+  -- ---- a value was said: the entry goes on
+
+  module _ (value : Option Value) (said_is : a.said ≡ SV.Value value) where
+    abbrev x3 : Note
+    x3 = note (answered (SV.Value value)) (poked d.store a.pokes)
+
+    abbrev a3 : State
+    a3 = runs (an_entry e) (resumed d (poked d.store a.pokes) (option_to_list value)) lo
+
+    was_value : nb w a0 ≡ goes k (x1 ∷ x3 ∷ []) a3
+    was_value = was ∙ ap (λ q. goes k (x1 ∷ answer_notes q (poked d.store a.pokes)) (goes_on_told q e d (poked d.store a.pokes) lo)) said_is
+
+    abbrev back_at : Configuration → Store → Held
+    back_at wt s = busy (is_running (an_entry e)) (resumed wt (poked s a.pokes) (option_to_list value)) lo
+
+    answers_value : (r : Returned) → pr w r.p4 ≡ goes 0 (y3 r (SV.Value value) ∷ []) (back_at r.wt r.s5)
+    answers_value r = r.answers ∙ ap (λ q. held_resumed 0 e q r.s3 r.wt lo (poked r.s5 a.pokes)) said_is
+
+    -- all three notes are told on the way from the call to behind the answer
+    three : (r : Returned) (to : Held) (gc : ℕ) → Sil w (poked d.store a.pokes) (back_at r.wt r.s5) gc to
+        → Told w.original w.settings w.which w.written (xp w) w.plan c.store (x1 ∷ x2 ∷ x3 ∷ []) b0 (cd.cost + suc cd.j + (r.pc + 1 + (r.ac + 1 + gc))) (y1 ∷ r.y2 ∷ y3 r (SV.Value value) ∷ []) to
+    three r to gc q3 =
+        let t3 : Told w.original w.settings w.which w.written (xp w) w.plan d.store (x3 ∷ []) r.b4 (r.ac + 1 + gc) (y3 r (SV.Value value) ∷ []) to =
+        told [] x3 r.to_answer (answers_value r) (same3 r (SV.Value value), tt) (no_more q3) refl refl refl in
+        let t2 : Told w.original w.settings w.which w.written (xp w) w.plan d.store (x2 ∷ x3 ∷ []) b2 (r.pc + 1 + (r.ac + 1 + gc)) (r.y2 ∷ y3 r (SV.Value value) ∷ []) to =
+        told [] x2 r.to_pause r.pauses (r.same2, tt) t3 refl refl refl in
+        told [] x1 cd.silent mv (al1, tt) t2 refl refl refl
+
+    -- where it came back its locals fit
+    known_there : (r : Returned) → AllLocalsFit w.written ((r.wt).here ∷ (r.wt).under)
+    known_there r =
+        let t = three r (back_at r.wt r.s5) 0 (silent_none w.original w.settings w.which w.written (xp w) w.plan (poked d.store a.pokes) (back_at r.wt r.s5) r.seen) in
+        came (resumed r.wt (poked r.s5 a.pokes) (option_to_list value)) lo (cd.cost + suc cd.j + (r.pc + 1 + (r.ac + 1 + 0))) (y1 ∷ r.y2 ∷ y3 r (SV.Value value) ∷ [])
+        (told_leads w.original w.settings w.which w.written (xp w) w.plan c.store (x1 ∷ x2 ∷ x3 ∷ []) (y1 ∷ r.y2 ∷ y3 r (SV.Value value) ∷ []) b0 (back_at r.wt r.s5)
+        (cd.cost + suc cd.j + (r.pc + 1 + (r.ac + 1 + 0))) t)
+
+    abbrev Given : Configuration → Store → Type 0
+    Given wt s = Given_on w ft sl L W G law n spare top x within (an_entry e) c b l is_top lk lf al k i args d is cd lo (poked d.store a.pokes)
+        (resumed d (poked d.store a.pokes) (option_to_list value)) (resumed wt (poked s a.pokes) (option_to_list value))
+
+    -- the answer is given to a stack that came back: the flat one is chosen anew
+    anew : Numbered → (new : List Activation) (wt : Configuration) (s : Store) → AllLocalsFit w.written (wt.here ∷ wt.under)
+        → AllSameFlat w.lay ((cd.flat_at).here ∷ (cd.flat_at).under) new → Stopped (setting w top) i new (wt.here ∷ wt.under) → Alike (setting w top) d.store s → Given wt s
+    anew nums [] wt s fit same st like = absurd same
+    anew nums (f2 ∷ us2) wt s fit same st like =
+        let ag = law.again top i d cd.flat_at f2 us2 cd.waits nums same (wt.here ∷ wt.under) st fit in
+        let wt2 = subst (λ q. W top i q (record { store = (cd.flat_at).store; here = f2; under = us2 })) (sym ag.live) ag.waits in
+        give w ft sl L W G law n spare top x within (an_entry e) c b l is_top lk lf al k i args d is cd lo a value (record { store = (cd.flat_at).store; here = f2; under = us2 })
+        (record { store = s; here = wt.here; under = wt.under }) said_is wt2 like
+        (waits_law (setting w top) i _ _ st) (answer_fits w ft sl L W G law n spare top x within (an_entry e) c b l is_top lk lf al k i args d is cd a os eo) ef
+
+    matched : (r : Returned) → Given r.wt r.s5 → Rattle.headline.proofs.Reductions.M w ft sl L W G law n spare k (x1 ∷ x2 ∷ x3 ∷ []) a0 a3 b0
+    unfolding three
+    matched r gv =
+        let to : Held = busy (is_running (an_entry e)) gv.to lo in
+        let dear : dear_of w.original (x1 ∷ x2 ∷ x3 ∷ []) ≡ 256 + sum_by (activation_bound w.original) S + dear_of w.original (x2 ∷ x3 ∷ []) = dear_cons w.original x1 (x2 ∷ x3 ∷ []) in
+        by_told w.original w.settings w.which w.written (xp w) w.plan (nn w) (R w ft sl L W G law) n spare k (cd.cost + suc cd.j + (r.pc + 1 + (r.ac + 1 + gv.cost))) (10 * gv.left)
+        (x1 ∷ x2 ∷ x3 ∷ []) (y1 ∷ r.y2 ∷ y3 r (SV.Value value) ∷ []) a0 a3 b0 to
+        (three r to gv.cost gv.silent) cd.least (paid_enough (cd.cost + suc cd.j) k (r.pc + 1 + (r.ac + 1 + gv.cost)) cd.least)
+        (pause_bound (cd.cost + suc cd.j) k spare r.pc r.ac gv.cost gv.left r.un (length e.args) r.sl2 r.rw2 (sum_by (activation_bound w.original) S) (dear_of w.original (x1 ∷ x2 ∷ x3 ∷ []))
+        (dear_of w.original (x2 ∷ x3 ∷ []))
+        (param_count (func_type_at w.flat top)) cd.few r.unwound_in r.rewound_in gv.few r.weighs is_top.2 dear)
+        (r_runs top gv.left (omega arith) is_top gv.link (left_fits w ft sl L W G law n spare top x within (an_entry e) c b l is_top lk lf al k i args d is cd a os eo)
+        (allowed_on w n k _ a0 a3 was_value al))
+
+    value_there : Numbered → Returned → Rattle.headline.proofs.Reductions.M w ft sl L W G law n spare k (x1 ∷ x2 ∷ x3 ∷ []) a0 a3 b0
+    value_there nums r = matched r (anew nums r.new r.wt r.s5 (known_there r) r.same_flat r.stopped r.like)
+
+  -- ---- the import traps: the run ends in the move that tells it
+
+  traps_there : Returned → a.said ≡ SV.Trap
+      → Rattle.headline.proofs.Reductions.M w ft sl L W G law n spare k (x1 ∷ x2 ∷ import_traps (poked d.store a.pokes)) a0 (halts (poked d.store a.pokes)) b0
+  traps_there r said_is =
+      let x3 : Note = note (answered SV.Trap) (poked d.store a.pokes) in
+      let x4 : Note = note (ended (Trapped Import)) (poked d.store a.pokes) in
+      let y4 : Note = note (ended (Trapped Import)) (poked r.s5 a.pokes) in
+      let to : Held = over (poked r.s5 a.pokes) in
+      let tells : pr w r.p4 ≡ goes 0 (y3 r SV.Trap ∷ y4 ∷ []) to = r.answers ∙ ap (λ q. held_resumed 0 e q r.s3 r.wt lo (poked r.s5 a.pokes)) said_is in
+      let same4 : Same x4 y4 = same_note w x4 y4 refl r.seen tt refl in
+      let t3 : Told w.original w.settings w.which w.written (xp w) w.plan d.store (x3 ∷ x4 ∷ []) r.b4 (r.ac + 1 + 0) (y3 r SV.Trap ∷ y4 ∷ []) to =
+      told (x3 ∷ []) x4 r.to_answer tells (same3 r SV.Trap, (same4, tt))
+      (no_more (silent_none w.original w.settings w.which w.written (xp w) w.plan (poked d.store a.pokes) to r.seen)) refl refl refl in
+      let t2 : Told w.original w.settings w.which w.written (xp w) w.plan d.store (x2 ∷ x3 ∷ x4 ∷ []) b2 (r.pc + 1 + (r.ac + 1 + 0)) (r.y2 ∷ y3 r SV.Trap ∷ y4 ∷ []) to =
       told [] x2 r.to_pause r.pauses (r.same2, tt) t3 refl refl refl in
-      told [] x1 cd.silent mv (al1, tt) t2 refl refl refl
+      let t1 : Told w.original w.settings w.which w.written (xp w) w.plan c.store (x1 ∷ x2 ∷ x3 ∷ x4 ∷ []) b0 (cd.cost + suc cd.j + (r.pc + 1 + (r.ac + 1 + 0))) (y1 ∷ r.y2 ∷ y3 r SV.Trap ∷ y4 ∷ []) to =
+      told [] x1 cd.silent mv (al1, tt) t2 refl refl refl in
+      let dear : dear_of w.original (x1 ∷ x2 ∷ x3 ∷ x4 ∷ []) ≡ 256 + sum_by (activation_bound w.original) S + dear_of w.original (x2 ∷ x3 ∷ x4 ∷ []) = dear_cons w.original x1 (x2 ∷ x3 ∷ x4 ∷ []) in
+      by_told w.original w.settings w.which w.written (xp w) w.plan (nn w) (R w ft sl L W G law) n spare k (cd.cost + suc cd.j + (r.pc + 1 + (r.ac + 1 + 0))) 0
+      (x1 ∷ x2 ∷ x3 ∷ x4 ∷ []) (y1 ∷ r.y2 ∷ y3 r SV.Trap ∷ y4 ∷ []) a0 (halts (poked d.store a.pokes)) b0 to
+      t1 cd.least (paid_enough (cd.cost + suc cd.j) k (r.pc + 1 + (r.ac + 1 + 0)) cd.least)
+      (pause_bound (cd.cost + suc cd.j) k spare r.pc r.ac 0 0 r.un (length e.args) r.sl2 r.rw2 (sum_by (activation_bound w.original) S) (dear_of w.original (x1 ∷ x2 ∷ x3 ∷ x4 ∷ []))
+      (dear_of w.original (x2 ∷ x3 ∷ x4 ∷ []))
+      (param_count (func_type_at w.flat top)) cd.few r.unwound_in r.rewound_in (omega arith) r.weighs is_top.2 dear)
+      (r_halts r.seen)
 
-  -- where it came back its locals fit
-  known_there : (r : Returned) → AllLocalsFit w.written ((r.wt).here ∷ (r.wt).under)
-  known_there r =
-      let t = three r (back_at r.wt r.s5) 0 (silent_none w.original w.settings w.which w.written (xp w) w.plan (poked d.store a.pokes) (back_at r.wt r.s5) r.seen) in
-      came (resumed r.wt (poked r.s5 a.pokes) (option_to_list value)) lo (cd.cost + suc cd.j + (r.pc + 1 + (r.ac + 1 + 0))) (y1 ∷ r.y2 ∷ r.y3 ∷ [])
-      (told_leads w.original w.settings w.which w.written (xp w) w.plan c.store (x1 ∷ x2 ∷ x3 ∷ []) (y1 ∷ r.y2 ∷ r.y3 ∷ []) b0 (back_at r.wt r.s5) (cd.cost + suc cd.j + (r.pc + 1 + (r.ac + 1 + 0))) t)
+  -- ---- both
 
-  -- the answer is given to a stack that came back: the flat one is chosen anew
-  anew : Numbered → (new : List Activation) (wt : Configuration) (s : Store) → AllLocalsFit w.written (wt.here ∷ wt.under)
-      → AllSameFlat w.lay ((cd.flat_at).here ∷ (cd.flat_at).under) new → Stopped (setting w top) i new (wt.here ∷ wt.under) → Alike (setting w top) d.store s
-      → Given_on w ft sl L W G law n spare top x within (an_entry e) c b l is_top lk lf al k i args d is cd lo (poked d.store a.pokes)
-      (resumed d (poked d.store a.pokes) (option_to_list value)) (resumed wt (poked s a.pokes) (option_to_list value))
-  anew nums [] wt s fit same st like = absurd same
-  anew nums (f2 ∷ us2) wt s fit same st like =
-      let ag = law.again top i d cd.flat_at f2 us2 cd.waits nums same (wt.here ∷ wt.under) st fit in
-      let wt2 = subst (λ q. W top i q (record { store = (cd.flat_at).store; here = f2; under = us2 })) (sym ag.live) ag.waits in
-      give w ft sl L W G law n spare top x within (an_entry e) c b l is_top lk lf al k i args d is cd lo a value (record { store = (cd.flat_at).store; here = f2; under = us2 })
-      (record { store = s; here = wt.here; under = wt.under }) said_is wt2 like
-      (waits_law (setting w top) i _ _ st) (answer_fits w ft sl L W G law n spare top x within (an_entry e) c b l is_top lk lf al k i args d is cd a os eo) ef
+  abbrev Matched : Said → Type 0
+  Matched said = Rattle.headline.proofs.Reductions.M w ft sl L W G law n spare k (x1 ∷ x2 ∷ answer_notes said (poked d.store a.pokes)) a0 (goes_on_told said e d (poked d.store a.pokes) lo) b0
 
-  abbrev Given : Configuration → Store → Type 0
-  Given wt s = Given_on w ft sl L W G law n spare top x within (an_entry e) c b l is_top lk lf al k i args d is cd lo (poked d.store a.pokes)
-      (resumed d (poked d.store a.pokes) (option_to_list value)) (resumed wt (poked s a.pokes) (option_to_list value))
-
-  matched : (r : Returned) → Given r.wt r.s5 → Rattle.headline.proofs.Reductions.M w ft sl L W G law n spare k (x1 ∷ x2 ∷ x3 ∷ []) a0 a2 b0
-  unfolding three
-  matched r gv =
-      let to : Held = busy (is_running (an_entry e)) gv.to lo in
-      let dear : dear_of w.original (x1 ∷ x2 ∷ x3 ∷ []) ≡ 256 + sum_by (activation_bound w.original) S + dear_of w.original (x2 ∷ x3 ∷ []) = dear_cons w.original x1 (x2 ∷ x3 ∷ []) in
-      by_told w.original w.settings w.which w.written (xp w) w.plan (nn w) (R w ft sl L W G law) n spare k (cd.cost + suc cd.j + (r.pc + 1 + (r.ac + 1 + gv.cost))) (10 * gv.left)
-      (x1 ∷ x2 ∷ x3 ∷ []) (y1 ∷ r.y2 ∷ r.y3 ∷ []) a0 a2 b0 to
-      (three r to gv.cost gv.silent) cd.least (paid_enough (cd.cost + suc cd.j) k (r.pc + 1 + (r.ac + 1 + gv.cost)) cd.least)
-      (pause_bound (cd.cost + suc cd.j) k spare r.pc r.ac gv.cost gv.left r.un (length e.args) r.sl2 r.rw2 (sum_by (activation_bound w.original) S) (dear_of w.original (x1 ∷ x2 ∷ x3 ∷ []))
-      (dear_of w.original (x2 ∷ x3 ∷ []))
-      (param_count (func_type_at w.flat top)) cd.few r.unwound_in r.rewound_in gv.few r.weighs is_top.2 dear)
-      (r_runs top gv.left (omega arith) is_top gv.link (left_fits w ft sl L W G law n spare top x within (an_entry e) c b l is_top lk lf al k i args d is cd a os eo) (allowed_on w n k _ a0 a2 was al))
-
-  pause_at : Numbered → Room w.original w.settings.policy S ≤ w.plan.area.len → Rattle.headline.proofs.Reductions.M w ft sl L W G law n spare k (x1 ∷ x2 ∷ x3 ∷ []) a0 a2 b0
+  pause_at : Numbered → Room w.original w.settings.policy S ≤ w.plan.area.len → Matched a.said
   pause_at nums fits_len =
       let r = returned_so nums fits_len in
-      matched r (anew nums r.new r.wt r.s5 (known_there r) r.same_flat r.stopped r.like)
+      by_said a.said (λ v said_is. subst Matched (sym said_is) (value_there v said_is nums r)) (λ said_is. subst Matched (sym said_is) (traps_there r said_is))
 
   -- where the room that it is taken to need is there, the stack stands at numbered calls and needs as much
   pause_here : suc k ≤ n → room_in w S ≤ w.plan.area.len
-      → Rattle.headline.proofs.Reductions.M w ft sl L W G law n spare k (x1 ∷ pause_note ticks (room_in w S) d.store S ∷ x3 ∷ []) a0 a2 b0
+      → Rattle.headline.proofs.Reductions.M w ft sl L W G law n spare k (x1 ∷ pause_note ticks (room_in w S) d.store S ∷ answer_notes a.said (poked d.store a.pokes)) a0 a2 b0
   pause_here enough fits_len =
       let h = room_known w.original w.settings w.which w.plan.area.len S w.asserts (known_now enough) fits_len in
-      subst (λ r. Rattle.headline.proofs.Reductions.M w ft sl L W G law n spare k (x1 ∷ pause_note ticks r d.store S ∷ x3 ∷ []) a0 a2 b0) (sym h.1)
+      subst (λ r. Rattle.headline.proofs.Reductions.M w ft sl L W G law n spare k (x1 ∷ pause_note ticks r d.store S ∷ answer_notes a.said (poked d.store a.pokes)) a0 a2 b0) (sym h.1)
       (pause_at h.0 (subst (λ r. r ≤ w.plan.area.len) h.1 fits_len))
 
   -- both, by the room
   pub pausing : Owes w ft sl L W G law n spare a0 b0 (sh w (tested (base w) k i args (inside (an_entry e) d) lo a None))
   pausing = subst (λ q. Owes w ft sl L W G law n spare a0 b0 (sh w (go_on k (call_note i args d.store S q) a.said (poked d.store a.pokes) lo (inside (an_entry e) d)))) (sym et)
-      (subst (λ q. Owes w ft sl L W G law n spare a0 b0 (sh w (go_on k x1 q (poked d.store a.pokes) lo (inside (an_entry e) d)))) (sym said_is)
+      (subst (λ q. Owes w ft sl L W G law n spare a0 b0 (sh w q)) (sym (told_moves k x1 a.said (poked d.store a.pokes) lo e d))
       (by_room (nat_lt w.plan.area.len (room_in w S)) refl))
     where
       by_room : (t : Bool) → nat_lt w.plan.area.len (room_in w S) ≡ t
           → Owes w ft sl L W G law n spare a0 b0 (if t then goes k (x1 ∷ trap_note (used_in w S) w.plan.area.len d.store ∷ []) (halts d.store)
-          else goes k (x1 ∷ pause_note ticks (room_in w S) d.store S ∷ note (answered (SV.Value value)) (poked d.store a.pokes) ∷ []) a2)
+          else goes k (x1 ∷ pause_note ticks (room_in w S) d.store S ∷ answer_notes a.said (poked d.store a.pokes)) a2)
       by_room true q = (before, λ enough. overrun enough (ltb-true w.plan.area.len (room_in w S) q))
       by_room false q = (before, λ enough. pause_here enough (ltb-false w.plan.area.len (room_in w S) q))

@@ -8,11 +8,12 @@ use Rattle.wa_types.specs.Modules.{func_imports, func_type_at, defined_at}
 use Rattle.wa_types.specs.Syntax.{Func, Module}
 use Rattle.wa_types.specs.declared.values.ValType.{ValType}
 use Rattle.wa_types.specs.declared.values.Value.{Value}
+use Rattle.wa_types.specs.declared.values.Trap.TheVariants.{Import}
 use Rattle.wa_model.specs.declared.answers.Area.{Area}
 use Rattle.wa_model.specs.declared.answers.Said.{Said}
 use Rattle.wa_model.specs.declared.answers.Said.TheVariants as SV
 use Rattle.wa_model.specs.declared.events.End.{End}
-use Rattle.wa_model.specs.declared.events.End.TheVariants.{BadAnswer, BadPoke}
+use Rattle.wa_model.specs.declared.events.End.TheVariants.{BadAnswer, BadPoke, Trapped}
 use Rattle.wa_model.specs.Outside.{Answer, Event, Poke, answered, ended}
 use Rattle.wa_model.specs.Machine.{Turn, stops, Ran, after, run}
 use Rattle.wa_model.specs.Plan.{Entry, Plan, Outcome, given, refused}
@@ -92,6 +93,7 @@ module _ (plan : Plan) (bad : Answer) (rest : List Outcome) (unpaused : bad.tick
       by_said : (said : Said) (pa : Option End) → bad_poke size plan.area bad.pokes ≡ pa → (pe : Option End) → bad_poke size nowhere bad.pokes ≡ pe
           → Tests types size i (or_else (bad_value types i said) (or_else pa None)) (or_else (bad_value types i said) (or_else pe None))
       by_said (SV.Value v) = by v (answers types v)
+      by_said SV.Trap = by None true
 
   -- ---- the machine whose imports block
 
@@ -119,6 +121,7 @@ module _ (plan : Plan) (bad : Answer) (rest : List Outcome) (unpaused : bad.tick
         → G (suc k) (go_on c (call_note i args (store_at w) (stack_at m w) o) said s l w)
     go_on_at k c i args o (SV.Value v) s l (inside task d) h = (k, omega arith, h)
     go_on_at k c i args o (SV.Value v) s l (outermost old) h = let none = done_calls s l.entries in (k, omega arith, on_at k s l l.entries h)
+    go_on_at k c i args o SV.Trap s l w h = (k, omega arith, tt)
 
     tested_at : (k c i : ℕ) (args : List Value) (w : Asker) (l : Left) (a : Answer) (o : Option End) → Before k l.outcomes → G (suc k) (tested m c i args w l a o)
     tested_at k c i args w l a (Some e) h = (k, omega arith, tt)
@@ -180,6 +183,22 @@ module _ (plan : Plan) (bad : Answer) (rest : List Outcome) (unpaused : bad.tick
               rest = done_notes (poked s bad.pokes) l.entries;
               u = halts s;
               t = on_to (poked s bad.pokes) l l.entries;
+              first = refl;
+              second = refl;
+              is = refl;
+              cause = q;
+              over = refl;
+              there = refl;
+            }
+            by w SV.Trap q = record {
+              k = c;
+              call = record { import = i; args = args };
+              e = t.e;
+              x = call_note i args (store_at w) (stack_at m w) None;
+              next = note (answered SV.Trap) (poked (store_at w) bad.pokes);
+              rest = note (ended (Trapped Import)) (poked (store_at w) bad.pokes) ∷ [];
+              u = halts (store_at w);
+              t = halts (poked (store_at w) bad.pokes);
               first = refl;
               second = refl;
               is = refl;
@@ -289,6 +308,7 @@ module _ (plan : Plan) (bad : Answer) (rest : List Outcome) (unpaused : bad.tick
         → GH (suc k) (held_given c (call_note i args (store_at w) (stack_at p w) None) said s l w)
     given_at k c i args (SV.Value v) s l (inside task d) h = (k, omega arith, h)
     given_at k c i args (SV.Value v) s l (outermost old) h = let none = done_calls s l.entries in (k, omega arith, held_on_at k s l l.entries h)
+    given_at k c i args SV.Trap s l w h = (k, omega arith, tt)
 
     held_tested_at : (k c i : ℕ) (args : List Value) (w : Asker) (l : Left) (a : Answer) (o o' : Option End) → o ≡ o' → a.ticks ≡ 0 → Before k l.outcomes
         → (held_tested p x plan c i args w l a o (pause_of a.ticks) ≡ held_tested p x (emptied plan) c i args w l a o' (pause_of a.ticks))
@@ -357,6 +377,22 @@ module _ (plan : Plan) (bad : Answer) (rest : List Outcome) (unpaused : bad.tick
               rest = done_notes (poked s bad.pokes) l.entries;
               u = over s;
               t = held_on (poked s bad.pokes) l l.entries;
+              first = refl;
+              second = refl;
+              is = refl;
+              cause = q;
+              over = refl;
+              there = refl;
+            }
+            by w SV.Trap q = record {
+              k = c;
+              call = record { import = i; args = args };
+              e = t.e;
+              x = call_note i args (store_at w) (stack_at p w) None;
+              next = note (answered SV.Trap) (poked (store_at w) bad.pokes);
+              rest = note (ended (Trapped Import)) (poked (store_at w) bad.pokes) ∷ [];
+              u = over (store_at w);
+              t = over (poked (store_at w) bad.pokes);
               first = refl;
               second = refl;
               is = refl;

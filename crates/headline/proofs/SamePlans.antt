@@ -115,6 +115,7 @@ module _ (plan : Plan) where
     go_on_kept : (k : ℕ) (x : Note) (said : Said) (s : Store) (l : Left) (w : Asker) → Q l → K (go_on k x said s l w)
     go_on_kept k x (SV.Value v) s l (inside task c) h = h
     go_on_kept k x (SV.Value v) s l (outermost old) h = on_kept s l l.entries h
+    go_on_kept k x SV.Trap s l w h = tt
 
     tested_kept : (k i : ℕ) (args : List Value) (w : Asker) (l : Left) (a : Answer) (o : Option End) → Q l → K (tested m k i args w l a o)
     tested_kept k i args w l a (Some e) h = tt
@@ -195,6 +196,7 @@ module _ (plan : Plan) where
     given_kept : (k : ℕ) (n : Note) (said : Said) (s : Store) (l : Left) (w : Asker) → Q l → KH (held_given k n said s l w)
     given_kept k n (SV.Value v) s l (inside task c) h = h
     given_kept k n (SV.Value v) s l (outermost old) h = held_on_kept s l l.entries h
+    given_kept k n SV.Trap s l w h = tt
 
     held_tested_same : (k i : ℕ) (args : List Value) (w : Asker) (l : Left) (a : Answer) (o o' : Option End) → o ≡ o' → a.ticks ≡ 0 → Q l
         → SameH (held_tested p x plan k i args w l a o (pause_of a.ticks)) (held_tested p x (emptied plan) k i args w l a o' (pause_of a.ticks))

@@ -4,7 +4,7 @@ use Rattle.headline.specs.World.{World, WorldFits, base, setting}
 use Rattle.guard_runs.proofs.EachStretch.{calls_begin}
 use Rattle.guard_runs.proofs.Stores.{together}
 use Rattle.guard_runs.specs.Alike.{Alike}
-use Rattle.headline.proofs.Asks.{asks_case, first_fits, no_bad_poke, no_pause_in_start, others_fit, pause_allowed, to_call, value_said}
+use Rattle.headline.proofs.Asks.{asks_case, by_said, first_fits, no_bad_poke, no_pause_in_start, others_fit, pause_allowed, to_call}
 use Rattle.headline.proofs.FlatStretches.{Sm, along, gl, other_top, pr, sides, xp}
 use Rattle.headline.specs.Given.{LetsPause}
 use Rattle.headline.specs.StoreLaws.{StoreLaws}
@@ -21,7 +21,7 @@ use Rattle.std.specs.Prelude.{if◌then◌else◌, nat_lt}
 use Rattle.run_theory.proofs.Runs.{no_move}
 use Rattle.run_theory.proofs.Follow.{Match, On_way, all_made, not_yet, up_to}
 use Rattle.wa_model.specs.Behaves.{SameNote}
-use Rattle.wa_model.specs.Blocking.{Left, Note, State, Task, an_entry, asked, begins, between, by_step, call_note, done_notes, ends_at_call, enter_next, enters, fault_of, go_on, halts, inside, note, on_to, outermost, pause_of, poked, runs, start_called, store_of, tested, the_start, with_outcomes}
+use Rattle.wa_model.specs.Blocking.{Left, Note, State, Task, an_entry, asked, begins, between, by_step, call_note, done_notes, ends_at_call, enter_next, enters, fault_of, go_on, halts, import_traps, inside, note, on_to, outermost, pause_of, poked, runs, start_called, store_of, tested, the_start, with_outcomes}
 use Rattle.wa_model.specs.Configuration.{Configuration}
 use Rattle.wa_model.specs.Machine.{Leads, Ran, Turn, goes, run, stays, stops}
 use Rattle.wa_model.specs.Outside.{Answer, answered, ended}
@@ -31,10 +31,11 @@ use Rattle.wa_model.specs.Step.{Next, asks, entered, returns, step, steps, stuck
 use Rattle.wa_model.specs.Store.{Store}
 use Rattle.wa_model.specs.declared.answers.Said.TheVariants as S
 use Rattle.wa_model.specs.declared.events.End.{End}
-use Rattle.wa_model.specs.declared.events.End.TheVariants.{Done}
+use Rattle.wa_model.specs.declared.events.End.TheVariants.{Done, Trapped}
 use Rattle.wa_types.specs.Base.{Base}
 use Rattle.wa_types.specs.Modules.{defined_at, func_imports, func_type_at}
 use Rattle.wa_types.specs.Syntax.{Func, Module}
+use Rattle.wa_types.specs.declared.values.Trap.TheVariants.{Import}
 use Rattle.wa_types.specs.declared.values.Value.{Value}
 
 base_defined : (m : Module) (x : ℕ) → defined_at (Base m) x ≡ defined_at m x
@@ -85,11 +86,10 @@ module _ (w : World) (ft : WorldFits w) (sl : StoreLaws w) (L : (top spare : ℕ
       asks_case w ft sl L W G law n spare top x within (an_entry e) c b l is_top lk lf al k i args d is cd
       (λ a os ticks eo ef et.
       let lets : LetsPause w.plan = (i, pause_allowed (func_type_at (base w) i).results (length d.store.memory) w.plan false i a ticks ef et) in
-      value_said a.said (λ v told.
-      pausing w ft sl L W G law hl n spare top x within e c b l is_top lk lf al k i args d is cd a v told os ticks eo ef et
+      pausing w ft sl L W G law hl n spare top x within e c b l is_top lk lf al k i args d is cd a os ticks eo ef et
       (λ c2 l2 cost es lds. wl.locals lets (an_entry e) c2 l2 (known_along w Known wl (busy (is_running (an_entry e)) b l) (busy (is_running (an_entry e)) c2 l2) cost es kn lds))
       (λ s2 x2 args2 c2 l2 cost es lds. wl.waits lets e i a s2 x2 args2 c2 l2
-      (known_along w Known wl (busy (is_running (an_entry e)) b l) (calling (unwinds e i a) s2 x2 args2 (give_zero c2) l2) cost es kn lds))))
+      (known_along w Known wl (busy (is_running (an_entry e)) b l) (calling (unwinds e i a) s2 x2 args2 (give_zero c2) l2) cost es kn lds)))
 
   runs_owes : (n spare top x : ℕ) (within : 10 * x ≤ spare) (task : Task) (c b : Configuration) (l : Left) → 0 < n → TopOf w task top → Link w ft sl L W G law top x c b → LeftFits w l
       → Allowed w n (runs task c l) → Known (busy (is_running task) b l) → Ow n spare (runs task c l) (busy (is_running task) b l) (nn w (runs task c l))
@@ -191,7 +191,8 @@ module _ (w : World) (ft : WorldFits w) (sl : StoreLaws w) (L : (top spare : ℕ
           ∙ ap (λ z. held_tested w.written (xp w) w.plan 0 x [] (outermost s') (with_outcomes l os) a z (pause_of a.ticks)) (same_fault a ∙ ef))
       given_case a os eo None ef =
           subst (λ z. Ow n spare a0 b0 (sh w (go_on 0 (call_note x [] s [] z) a.said t lo (outermost s)))) (sym no_pause)
-          (value_said a.said (λ v told. subst (λ z. Ow n spare a0 b0 (sh w (go_on 0 (call_note x [] s [] None) z t lo (outermost s)))) (sym told) (by_entries v told l.entries refl)))
+          (by_said a.said (λ v told. subst (λ z. Ow n spare a0 b0 (sh w (go_on 0 (call_note x [] s [] None) z t lo (outermost s)))) (sym told) (by_entries v told l.entries refl))
+          (λ told. subst (λ z. Ow n spare a0 b0 (sh w (go_on 0 (call_note x [] s [] None) z t lo (outermost s)))) (sym told) (traps_there told)))
         where
           lo : Left
           lo = with_outcomes l os
@@ -233,6 +234,15 @@ module _ (w : World) (ft : WorldFits w) (sl : StoreLaws w) (L : (top spare : ℕ
           was2 =
               was ∙ ap (asked (base w) w.plan 0 x [] (outermost s) l) eo ∙ ap (tested (base w) 0 x [] (outermost s) (with_outcomes l os) a) ef
               ∙ ap (λ z. go_on 0 (call_note x [] s [] z) a.said (poked s a.pokes) (with_outcomes l os) (outermost s)) no_pause
+
+          -- the import traps, and the run ends
+          traps_there : a.said ≡ S.Trap → Ow n spare a0 b0 (goes 0 (call_note x [] s [] None ∷ import_traps (poked s a.pokes)) (halts (poked s a.pokes)))
+          traps_there told =
+              last_move w ft sl L W G law n spare 0 0 0 a0 (halts (poked s a.pokes)) b0 b0 (over (poked s' a.pokes)) (call_note x [] s [] None ∷ note (answered S.Trap) (poked s a.pokes) ∷ [])
+              (call_note x [] s' [] None ∷ import_traps (poked s' a.pokes)) (note (ended (Trapped Import)) (poked s a.pokes))
+              (silent_none w.original w.settings w.which w.written (xp w) w.plan s b0 seen)
+              (mv ∙ ap (λ z. held_given 0 (call_note x [] s' [] None) z (poked s' a.pokes) (with_outcomes l os) (outermost s')) told)
+              (same_note w _ _ refl seen tt refl, (same_note w _ _ refl seen2 tt refl, (same_note w _ _ refl seen2 tt refl, tt))) seen2 (omega arith, omega arith) (λ enough. r_halts seen2)
 
           was_told : (v : Option Value) → a.said ≡ S.Value v → nb w a0 ≡ go_on 0 (call_note x [] s [] None) (S.Value v) (poked s a.pokes) (with_outcomes l os) (outermost s)
           was_told v told = was2 ∙ ap (λ z. go_on 0 (call_note x [] s [] None) z (poked s a.pokes) (with_outcomes l os) (outermost s)) told

@@ -14,6 +14,7 @@ pub mod LiveLaw
 pub mod Rewritten
 pub mod SlimBeside
 pub mod StoreLaws
+pub mod Told
 pub mod TypedLocals
 pub mod World
 pub mod WrittenRuns

@@ -9,9 +9,9 @@ use Rattle.wa_types.specs.declared.values.Value.TheVariants as V
 use Rattle.wa_model.specs.declared.answers.Said.{Said}
 use Rattle.wa_model.specs.declared.answers.Said.TheVariants as S
 use Rattle.wa_model.specs.Behaves.{StandsNumbered}
-use Rattle.wa_model.specs.Blocking.{Left, note, poked, with_outcomes}
+use Rattle.wa_model.specs.Blocking.{Left, poked, with_outcomes}
 use Rattle.wa_model.specs.Configuration.{Activation, Configuration, stack_of}
-use Rattle.wa_model.specs.Outside.{Answer, answered}
+use Rattle.wa_model.specs.Outside.{Answer}
 use Rattle.wa_model.specs.Plan.{Entry, Outcome}
 use Rattle.wa_model.specs.Protocol.{Held, with_words}
 use Rattle.wa_model.specs.Step.{param_count}
@@ -26,6 +26,7 @@ use Rattle.guard_runs.specs.Stopped.{Stopped}
 use Rattle.headline.specs.FlatLaw.{AllLocalsFit, FlatLaw, FlatStands}
 use Rattle.headline.specs.Halts.{HaltLaw}
 use Rattle.headline.specs.StoreLaws.{StoreLaws}
+use Rattle.headline.specs.Told.{answer_notes, goes_on_told}
 use Rattle.headline.specs.World.{World, WorldFits, base, setting}
 use Rattle.headline.specs.WrittenRuns.{WrittenLaw}
 use Rattle.headline.proofs.FlatStretches.{gl, sides, xp}
@@ -34,9 +35,9 @@ use Rattle.headline.proofs.Halves.{Hangs}
 use Rattle.headline.proofs.OuterLevels.{under_deep}
 use Rattle.headline.proofs.Pauses.{LevelsOf, levels_are}
 use Rattle.guard_runs.specs.Pause.{SuspendedIn}
-use Rattle.image_laws.specs.Image.{BehavesFrom, HoldsPause, goes_on_told, held_at_pause}
+use Rattle.image_laws.specs.Image.{BehavesFrom, HoldsPause, held_at_pause}
 use Rattle.image_laws.proofs.Apart.{ApartLaw, ApartSums}
-use Rattle.image_laws.proofs.AnyStore.{hanging_goes_on}
+use Rattle.image_laws.proofs.AnyStore.{hanging_goes_on, hanging_traps}
 use Rattle.image_laws.proofs.KnownAgain.{KnownLaw}
 use Rattle.image_laws.proofs.SameStores.{alike_held}
 use Rattle.image_laws.proofs.Unwinding.{Unwinding}
@@ -141,14 +142,16 @@ module _ (w : World) (ft : WorldFits w) (sl : StoreLaws w) (L : (top spare : ℕ
 
     abbrev Back : Said → Type 0
     Back said =
-        BehavesFrom w.original w.settings w.written w.plan w.which (n - suc k) d.store (stack_of (base w) d) (note (answered said) (poked d.store a.pokes))
+        BehavesFrom w.original w.settings w.written w.plan w.which (n - suc k) d.store (stack_of (base w) d) (answer_notes said (poked d.store a.pokes))
         (goes_on_told said e d (poked d.store a.pokes) (with_outcomes l os)) (held_at_pause w.written w.plan e i a t (with_outcomes l os))
 
     back_told : (said : Said) → a.said ≡ said → Back said
     unfolding hangs some
     back_told (S.Value v) is =
-        hanging_goes_on w ft sl L W G law Known wl hl none (n - suc k) top i e a v is (with_outcomes l os) d hangs t like sus u.numbered
-        u.answer u.passes u.lets u.rest (subst (λ said. Allowed w (n - suc k) (goes_on_told said e d (poked d.store a.pokes) (with_outcomes l os))) is u.allowed) known3 halves_there
+        hanging_goes_on w ft sl L W G law Known wl hl none (n - suc k) top i e a (with_outcomes l os) d hangs t like sus u.numbered u.answer u.passes u.lets u.rest known3 halves_there v is
+        (subst (λ said. Allowed w (n - suc k) (goes_on_told said e d (poked d.store a.pokes) (with_outcomes l os))) is u.allowed)
+    back_told S.Trap is =
+        hanging_traps w ft sl L W G law Known wl hl none (n - suc k) top i e a (with_outcomes l os) d hangs t like sus u.numbered u.answer u.passes u.lets u.rest known3 halves_there is
 
     -- A STORE THAT HOLDS THE PAUSE comes back
     pub behaves_back : Back a.said

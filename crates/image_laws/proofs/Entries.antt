@@ -51,6 +51,7 @@ module _ (m : Module) (plan : Plan) where
   go_on_at : (k : ℕ) (x : Note) (said : Said) (s : Store) (l : Left) (w : Asker) → AskedAt w l → GoesAt (go_on k x said s l w)
   go_on_at k x (S.Value v) s l (inside task c) h = h
   go_on_at k x (S.Value v) s l (outermost old) h = on_at s l l.entries h
+  go_on_at k x S.Trap s l w h = tt
 
   outcomes_at : (w : Asker) (l : Left) (os : List Outcome) → AskedAt w l → AskedAt w (with_outcomes l os)
   outcomes_at (inside task c) l os h = same_outcomes task l os h

@@ -13,13 +13,14 @@ use Rattle.wa_types.specs.Points.{call_points, points}
 use Rattle.wa_types.specs.Pruned.{pruned}
 use Rattle.wa_types.specs.Sizes.{value_fits}
 use Rattle.wa_types.specs.Syntax.{const, num, basic, local_get, Code, plain, done}
+use Rattle.wa_model.specs.declared.answers.Said.TheVariants as S
 use Rattle.wa_model.specs.declared.events.End.TheVariants.{Done}
 use Rattle.wa_model.specs.Behaves.{Compared, PauseNumbered, StandsNumbered}
-use Rattle.wa_model.specs.Blocking.{Blocking, Note, State, all_left, an_entry, between, blocking, call_note, halts, note, runs}
+use Rattle.wa_model.specs.Blocking.{Blocking, Note, State, all_left, an_entry, between, blocking, call_note, halts, note, poked, runs}
 use Rattle.wa_model.specs.Configuration.{running}
 use Rattle.run_theory.specs.Laws.{start_of}
 use Rattle.wa_model.specs.Machine.{Leads, moves, stays}
-use Rattle.wa_model.specs.Outside.{ended, returned}
+use Rattle.wa_model.specs.Outside.{answered, ended, returned}
 use Rattle.wa_model.specs.Plan.{AreLawful, EntryFits, Fits, OutcomeFits, PokeFits}
 use Rattle.wa_model.specs.Untouched.{IsCalm, StaysOff}
 use Rattle.wa_model.proofs.StayingOff.{nothing_off}
@@ -100,14 +101,14 @@ numbered_there policy =
 
 -- what is told at the call and at the end
 abbrev at_import : List Note
-at_import = call_note 0 (V.I32 8 ∷ []) fresh (stack_there sample pause_there) (Some 5) ∷ answer_there pause_there ∷ []
+at_import = call_note 0 (V.I32 8 ∷ []) fresh (stack_there sample pause_there) (Some 5) ∷ answer_there pause_there
 
 abbrev at_end : List Note
 at_end = note (returned 0 (Some (V.I32 47))) fresh ∷ note (ended Done) fresh ∷ []
 
 import_numbered : (policy : Policy) → All (Numbered_at policy) at_import
 import_numbered policy =
-    let P = Numbered_at policy in let a = answer_there pause_there in
+    let P = Numbered_at policy in let a : Note = note (answered (S.Value (Some (V.I32 42)))) (poked fresh []) in
     All-cons P (call_note 0 (V.I32 8 ∷ []) fresh (stack_there sample pause_there) (Some 5)) (a ∷ []) (numbered_there policy) (All-cons P a [] tt (All-nil P))
 
 end_numbered : (policy : Policy) → All (Numbered_at policy) at_end

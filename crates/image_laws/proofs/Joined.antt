@@ -5,6 +5,8 @@ use Rattle.wa_types.specs.Bounds.{Bound}
 use Rattle.wa_types.specs.Modules.{all_globals, func_sorts, imported, imported_func}
 use Rattle.wa_types.specs.Syntax.{done, Func, Module}
 use Rattle.run_theory.proofs.Runs.{leads_run, one_move}
+use Rattle.wa_model.specs.declared.answers.Said.{Said}
+use Rattle.wa_model.specs.declared.answers.Said.TheVariants as S
 use Rattle.wa_model.specs.Behaves.{pause_stacks}
 use Rattle.wa_model.specs.Blocking.{Blocking, Left, Note, State, all_left, an_entry, asked, begun, blocking, by_step, call_note, done_notes, go_on, inside, poked, runs, tested}
 use Rattle.run_theory.specs.Fitting.{StoreFits, global_types}
@@ -21,7 +23,8 @@ use Rattle.image_laws.specs.Laws.{OneSavesAnotherGoesOn, WholeBound}
 use Rattle.image_laws.proofs.Apart.{bounds_join}
 use Rattle.image_laws.proofs.Emitted.{image_goes_on, pauses_hold}
 use Rattle.image_laws.proofs.Reached.{stacks_on}
-use Rattle.image_laws.proofs.Unwinding.{told_moves}
+use Rattle.headline.specs.Told.{answer_notes}
+use Rattle.headline.proofs.Pauses.{told_moves}
 
 -- ---- a store that fits one fits the other
 
@@ -58,6 +61,10 @@ begun_none start l (fails_as e) = refl
 begun_none None l (opens s) = done_none s l.entries
 begun_none (Some x) l (opens s) = refl
 
+told_none : (said : Said) (s : Store) → pause_stacks (answer_notes said s) ≡ []
+told_none (S.Value v) s = refl
+told_none S.Trap s = refl
+
 pub whole_bound : WholeBound
 whole_bound m s plan os n x pause =
     let at = pause.there in
@@ -67,21 +74,23 @@ whole_bound m s plan os n x pause =
     let left : ℕ = rest_of_cost n x in
     let rest : List Note = (run (blocking (Base m) plan) (rest_of_cost n x) (goes_on_there x)).events in
     let x1 : Note = call_note x.import x.args x.waits.store (stack_there m x) (Some x.ticks) in
-    let x3 : Note = answer_there x in
-    let mv : blocking (Base m) plan stands ≡ goes x.own_cost (x1 ∷ x3 ∷ []) (goes_on_there x) =
+    let x3 : List Note = answer_there x in
+    let mv : blocking (Base m) plan stands ≡ goes x.own_cost (x1 ∷ x3) (goes_on_there x) =
     ap (by_step (Base m) plan (an_entry x.entry) x.left) at.asks_there ∙ ap (asked (Base m) plan x.own_cost x.import x.args (inside (an_entry x.entry) x.waits) x.left) at.outcome
     ∙ ap (tested (Base m) x.own_cost x.import x.args (inside (an_entry x.entry) x.waits) (left_there x) x.answer) at.passes
     ∙ ap (λ z. go_on x.own_cost (call_note x.import x.args x.waits.store (stack_there m x) z) x.answer.said (poked x.waits.store x.answer.pokes) (left_there x) (inside (an_entry x.entry) x.waits)) at.pauses
     ∙ told_moves x.own_cost x1 x.answer.said (poked x.waits.store x.answer.pokes) (left_there x) x.entry x.waits in
     let z : n ≡ x.cost + suc (x.own_cost + left) = omega arith in
-    let r : (run (blocking (Base m) plan) n a0).events ≡ x.notes ++ (x1 ∷ x3 ∷ rest) =
+    let r : (run (blocking (Base m) plan) n a0).events ≡ x.notes ++ (x1 ∷ (x3 ++ rest)) =
     ap (λ i. (run (blocking (Base m) plan) i a0).events) z
     ∙ ap (λ (q : Ran State Note). q.events) (leads_run State Note (blocking (Base m) plan) a0 stands x.cost (suc (x.own_cost + left)) x.notes at.leads)
-    ∙ ap (λ (q : Ran State Note). x.notes ++ q.events) (one_move State Note (blocking (Base m) plan) x.own_cost left (x1 ∷ x3 ∷ []) stands (goes_on_there x) mv) in
+    ∙ ap (λ (q : Ran State Note). x.notes ++ q.events) (one_move State Note (blocking (Base m) plan) x.own_cost left (x1 ∷ x3) stands (goes_on_there x) mv) in
     let all : pause_stacks (Blocking m plan os n).events ≡ pause_stacks x.notes ++ stack_there m x ∷ pause_stacks rest =
     stacks_on (start_of m plan os).events (run (blocking (Base m) plan) n a0).events
     ∙ ap (λ zs. zs ++ pause_stacks (run (blocking (Base m) plan) n a0).events) (begun_none (Base m).start (all_left plan os) (opening (Base m) plan.globals))
-    ∙ ap pause_stacks r ∙ stacks_on x.notes (x1 ∷ x3 ∷ rest) in
+    ∙ ap pause_stacks r ∙ stacks_on x.notes (x1 ∷ (x3 ++ rest))
+    ∙ ap (λ zs. pause_stacks x.notes ++ stack_there m x ∷ zs)
+    (stacks_on x3 rest ∙ ap (λ zs. zs ++ pause_stacks rest) (told_none x.answer.said (poked x.waits.store x.answer.pokes))) in
     let y : x.cost + x.own_cost + 1 + left ≡ n = omega arith in
     bounds_join m (x.cost + x.own_cost) left (stack_there m x) (pause_stacks x.notes) (pause_stacks rest)
     ∙ ap (λ i. Bound m i (pause_stacks x.notes ++ stack_there m x ∷ pause_stacks rest)) y ∙ ap (Bound m n) (sym all)

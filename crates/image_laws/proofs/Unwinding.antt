@@ -4,13 +4,11 @@ use Rattle.wa_types.specs.Modules.{func_type_at}
 use Rattle.wa_types.specs.declared.values.Value.{Value}
 use Rattle.wa_types.specs.declared.values.Value.TheVariants as V
 use Rattle.run_theory.proofs.Runs.{leads_on}
-use Rattle.wa_model.specs.declared.answers.Said.{Said}
-use Rattle.wa_model.specs.declared.answers.Said.TheVariants as S
 use Rattle.wa_model.specs.Behaves.{PausesNumbered, StandsNumbered}
-use Rattle.wa_model.specs.Blocking.{Left, Note, State, an_entry, call_note, fault_of, go_on, inside, note, pause_of, poked, runs, with_outcomes}
+use Rattle.wa_model.specs.Blocking.{Left, Note, State, an_entry, call_note, fault_of, go_on, inside, pause_of, poked, runs, with_outcomes}
 use Rattle.wa_model.specs.Configuration.{Configuration, stack_of}
 use Rattle.wa_model.specs.Machine.{goes, moves, stays}
-use Rattle.wa_model.specs.Outside.{Answer, answered}
+use Rattle.wa_model.specs.Outside.{Answer}
 use Rattle.wa_model.specs.Plan.{AnswerFits, Entry, Outcome, given}
 use Rattle.wa_model.specs.Protocol.{Held, busy, calling, give_zero, held_tested, is_running, unwinds, with_words}
 use Rattle.wa_model.specs.Step.{asks, step}
@@ -21,18 +19,14 @@ use Rattle.headline.specs.FlatLaw.{AllLocalsFit, FlatAsks, FlatLaw, FlatNext}
 use Rattle.headline.specs.Given.{LetsPause}
 use Rattle.headline.specs.Halts.{PausesKnown}
 use Rattle.headline.specs.StoreLaws.{StoreLaws}
+use Rattle.headline.specs.Told.{answer_notes, goes_on_told}
 use Rattle.headline.specs.World.{World, WorldFits, base, setting}
 use Rattle.headline.specs.WrittenRuns.{WrittenLaw}
 use Rattle.headline.proofs.Asks.{Called, answer_fits, left_fits, pause_allowed, tested_now, to_call, went_on}
 use Rattle.headline.proofs.FlatStretches.{pr, xp}
+use Rattle.headline.proofs.Pauses.{told_moves}
 use Rattle.headline.proofs.Reductions.{Allowed, LeftFits, Link, TopOf, allowed_on, nb}
 use Rattle.headline.proofs.Simulation.{known_along}
-use Rattle.image_laws.specs.Image.{goes_on_told}
-
--- what is said is told in the move of the call
-pub told_moves : (k : ℕ) (x : Note) (said : Said) (s : Store) (l : Left) (e : Entry) (c : Configuration)
-    → go_on k x said s l (inside (an_entry e) c) ≡ goes k (x ∷ note (answered said) s ∷ []) (goes_on_told said e c s l)
-told_moves k x (S.Value v) s l e c = refl
 
 module _ (w : World) (ft : WorldFits w) (sl : StoreLaws w) (L : (top spare : ℕ) → Configuration → Configuration → Type 0) (W : ℕ → ℕ → Configuration → Configuration → Type 0) (G : Store
     → Type 0) (law : FlatLaw w (λ c d. c ≡ d) L W G) (Known : Held → Type 0) where
@@ -87,8 +81,8 @@ module _ (w : World) (ft : WorldFits w) (sl : StoreLaws w) (L : (top spare : ℕ
     abbrev y1 : Note
     y1 = call_note i args (cd.at).store (stack_of w.written cd.at) (Some ticks)
 
-    abbrev x3 : Note
-    x3 = note (answered a.said) (poked d.store a.pokes)
+    abbrev x3 : List Note
+    x3 = answer_notes a.said (poked d.store a.pokes)
 
     abbrev a2 : State
     a2 = goes_on_told a.said e d (poked d.store a.pokes) (with_outcomes l os)
@@ -98,7 +92,7 @@ module _ (w : World) (ft : WorldFits w) (sl : StoreLaws w) (L : (top spare : ℕ
         tested_now w ft sl L W G law n spare top x within (an_entry e) c b l is_top lk lf al k i args d is cd a os None eo ef
         ∙ ap (held_tested w.written (xp w) w.plan cd.j i args (inside (an_entry e) cd.at) lo a None) et
 
-    was : nb w (runs (an_entry e) c l) ≡ goes k (x1 ∷ x3 ∷ []) a2
+    was : nb w (runs (an_entry e) c l) ≡ goes k (x1 ∷ x3) a2
     was =
         went_on w ft sl L W G law n spare top x within (an_entry e) c b l is_top lk lf al k i args d is cd a os eo ef
         ∙ ap (λ z. go_on k (call_note i args d.store (stack_of (base w) d) z) a.said (poked d.store a.pokes) lo (inside (an_entry e) d)) et
@@ -114,9 +108,9 @@ module _ (w : World) (ft : WorldFits w) (sl : StoreLaws w) (L : (top spare : ℕ
 
     nums : All (StandsNumbered w.original w.settings w.which) (stack_of (base w) d)
     nums =
-        let h : PausesNumbered w.original w.settings w.which (x1 ∷ x3 ∷ []) =
-        subst (λ t. PausesKnown t w.original w.settings w.which (x1 ∷ x3 ∷ [])) none (al.numbered 0 k [] (x1 ∷ x3 ∷ []) (runs (an_entry e) c l) a2 stays was (omega arith)) in
-        let lt : 0 < length (x1 ∷ x3 ∷ []) = omega arith in
+        let h : PausesNumbered w.original w.settings w.which (x1 ∷ x3) =
+        subst (λ t. PausesKnown t w.original w.settings w.which (x1 ∷ x3)) none (al.numbered 0 k [] (x1 ∷ x3) (runs (an_entry e) c l) a2 stays was (omega arith)) in
+        let lt : 0 < length (x1 ∷ x3) = omega arith in
         h 0 x1 lt
 
     pub unwinding : Unwinding n spare top e c b l k i args d a os ticks
@@ -133,6 +127,6 @@ module _ (w : World) (ft : WorldFits w) (sl : StoreLaws w) (L : (top spare : ℕ
       pauses = et;
       answer = answer_fits w ft sl L W G law n spare top x within (an_entry e) c b l is_top lk lf al k i args d is cd a os eo;
       rest = left_fits w ft sl L W G law n spare top x within (an_entry e) c b l is_top lk lf al k i args d is cd a os eo;
-      allowed = allowed_on w n k (x1 ∷ x3 ∷ []) (runs (an_entry e) c l) a2 was al;
+      allowed = allowed_on w n k (x1 ∷ x3) (runs (an_entry e) c l) a2 was al;
       is_top = is_top;
     }
