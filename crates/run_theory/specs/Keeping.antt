@@ -3,7 +3,7 @@
 use Rattle.std.specs.Prelude.{ℕ, ◌+◌, List, [], ◌∷◌, Bool, true, false, not, ◌&&◌, ◌||◌, nat_le, length, take}
 use Rattle.std.specs.List.{list_all}
 use Rattle.wa_types.specs.declared.values.Value.{Value}
-use Rattle.wa_types.specs.Syntax.{Basic, global_set, load, store, memory_grow, Plain, basic, call, call_indirect, Code, plain}
+use Rattle.wa_types.specs.Syntax.{Basic, global_set, load, store, memory_grow, memory_copy, memory_fill, Plain, basic, call, call_indirect, Code, plain}
 use Rattle.wa_model.specs.declared.answers.Area.{Area}
 use Rattle.wa_model.specs.Store.{Range, reached, takes}
 use Rattle.wa_model.specs.Configuration.{Configuration}
@@ -23,6 +23,8 @@ abbrev pub keeps_basic : (globals : ℕ) → Area → Basic → List Value → B
 keeps_basic globals area (global_set x) ops = nat_le globals x
 keeps_basic globals area (store op align offset) ops = in_area area (reached (store op align offset) ops)
 keeps_basic globals area memory_grow ops = false
+keeps_basic globals area memory_copy ops = in_area area (reached memory_copy ops)
+keeps_basic globals area memory_fill ops = in_area area (reached memory_fill ops)
 keeps_basic globals area _ ops = true
 
 -- the same of code by the instruction that stands next
@@ -36,12 +38,14 @@ keeps globals area c = keeps_code globals area c.here.operands c.here.code
 
 -- ---- no call, and the store left as it is, without loads
 
--- the instruction leaves the store and is no load
+-- the instruction leaves the store, and reaches nothing of the memory
 abbrev pub silent_basic : Basic → Bool
 silent_basic (global_set x) = false
 silent_basic (load op align offset) = false
 silent_basic (store op align offset) = false
 silent_basic memory_grow = false
+silent_basic memory_copy = false
+silent_basic memory_fill = false
 silent_basic _ = true
 
 -- so it is, and no call
@@ -56,7 +60,7 @@ abbrev pub silent_code : Code → Bool
 silent_code (plain p rest) = silent_plain p
 silent_code _ = true
 
--- The next reduction is no call, no load, no store, no change of a global and no growth of the memory.
+-- The next reduction is no call, load, store, copy, fill, change of a global or growth of the memory.
 abbrev pub silent : Configuration → Bool
 silent c = silent_code c.here.code
 

@@ -1,7 +1,7 @@
--- What a run does and touches, in order: its events, and its loads, stores and growths of the memory.
+-- What a run does and touches, in order: its events, and its loads, stores, copies, fills and growths of the memory.
 use Rattle.std.specs.Prelude.{ℕ, zero, suc, ◌-◌, List, [], ◌∷◌, ◌++◌, Bool, true, false, nat_lt, if◌then◌else◌, take, map}
 use Rattle.wa_types.specs.declared.values.Value.{Value}
-use Rattle.wa_types.specs.Syntax.{Basic, load, store, memory_grow, basic, Code, plain, Module}
+use Rattle.wa_types.specs.Syntax.{Basic, load, store, memory_grow, memory_copy, memory_fill, basic, Code, plain, Module}
 use Rattle.wa_types.specs.Base.{Base}
 use Rattle.wa_model.specs.Machine.{Turn, stops, goes}
 use Rattle.wa_model.specs.Outside.{Event}
@@ -27,19 +27,21 @@ trace_with next see shows (suc moves) n s = trace_turn shows (trace_with next se
 abbrev pub trace : {S E X : Type 0} → (S → Turn S E) → (S → List X) → (E → X) → ℕ → S → List X
 trace next see shows n s = trace_with next see shows n n s
 
--- ---- loads, stores and growths
+-- ---- loads, stores, copies, fills and growths
 
--- A load, a store or a growth of the memory, and its operands, the topmost first: the address, and of a store the value above
--- it; the pages. It may trap or fail.
+-- A load, a store, a copy, a fill or a growth of the memory, and its operands, the topmost first: the address, and of a store the
+-- value above it; the length, and below it the source or the value, and the address; the pages. It may trap or fail.
 pub record Touch : Type 0 where
   pub instr : Basic
   pub operands : List Value
 
--- the instruction is a load, a store or a growth of the memory
+-- the instruction is a load, a store, a copy, a fill or a growth of the memory
 abbrev pub reaches_memory : Basic → Bool
 reaches_memory (load op align offset) = true
 reaches_memory (store op align offset) = true
 reaches_memory memory_grow = true
+reaches_memory memory_copy = true
+reaches_memory memory_fill = true
 reaches_memory _ = false
 
 -- the touch that an instruction is, with its own operands, if it is one
@@ -77,6 +79,6 @@ seen_at t = map touched (touch_of t)
 abbrev pub seen_note : Note → Seen
 seen_note x = made x.event
 
--- The events of a run with blocking imports up to a cost of n, and its loads, stores and growths of the memory, in order.
+-- The events of a run with blocking imports up to a cost of n, and its loads, stores, copies, fills and growths of the memory, in order.
 abbrev pub Touches : Module → Plan → List Outcome → ℕ → List Seen
 Touches m plan os n = map seen_note (start_of m plan os).events ++ trace (blocking (Base m) plan) seen_at seen_note n (start_of m plan os).last

@@ -1,6 +1,6 @@
 -- The store of a program, and what the instructions do that touch only it and their own operands (standard,
--- sections 4.2.3 and 4.4.1 to 4.4.4).
-use Rattle.std.specs.Prelude.{ℕ, zero, suc, ◌+◌, ◌*◌, ◌^◌, List, [], ◌∷◌, length, Option, Some, None, Result, Ok, Err, if◌then◌else◌, slice_set}
+-- sections 4.2.3 and 4.4.1 to 4.4.4; copies and fills version 2.0, 4.4.7).
+use Rattle.std.specs.Prelude.{ℕ, zero, suc, ◌+◌, ◌*◌, ◌^◌, ◌%◌, List, [], ◌∷◌, length, Option, Some, None, Result, Ok, Err, if◌then◌else◌, slice_set}
 use Rattle.std.specs.List.{slice_index_or}
 use Rattle.wa_types.specs.declared.values.ValType.{ValType}
 use Rattle.wa_types.specs.declared.values.ValType.TheVariants.{I32, I64}
@@ -10,8 +10,8 @@ use Rattle.wa_types.specs.declared.values.Trap.{Trap}
 use Rattle.wa_types.specs.declared.values.Trap.TheVariants.{OutOfBounds}
 use Rattle.wa_types.specs.Operators.{operand_types}
 use Rattle.wa_types.specs.Accesses.{AccessRow, load_row, store_row}
-use Rattle.wa_types.specs.Memory.{Memory, pages_of, number_at, with_number, grown}
-use Rattle.wa_types.specs.Syntax.{Basic, nop, drop, select, const, num, global_get, global_set, load, store, memory_size, memory_grow}
+use Rattle.wa_types.specs.Memory.{Memory, pages_of, number_at, with_number, copied, filled_with, grown}
+use Rattle.wa_types.specs.Syntax.{Basic, nop, drop, select, const, num, global_get, global_set, load, store, memory_size, memory_grow, memory_copy, memory_fill}
 use Rattle.wa_ops.specs.Integers.{extend_s}
 use Rattle.wa_ops.specs.Operate.{operate, value_of, number_of}
 use Rattle.wa_types.specs.Encoding.{same_type}
@@ -50,10 +50,13 @@ takes (load op align offset) = 1
 takes (store op align offset) = 2
 takes memory_size = 0
 takes memory_grow = 1
+takes memory_copy = 3
+takes memory_fill = 3
 
--- how much more than 1 an instruction costs with its own operands, where it works: none of these does
+-- how much more than 1 an instruction costs with its own operands, where it works: a copy or a fill its length
 abbrev pub extra_cost : Basic → List Value → ℕ
-extra_cost nop ops = 0
+extra_cost memory_copy (V.I32 n ∷ ops) = n
+extra_cost memory_fill (V.I32 n ∷ ops) = n
 extra_cost _ _ = 0
 
 -- how many results it gives (4.4.1 to 4.4.4)
@@ -69,6 +72,8 @@ gives (load op align offset) = 1
 gives (store op align offset) = 0
 gives memory_size = 1
 gives memory_grow = 1
+gives memory_copy = 0
+gives memory_fill = 0
 
 -- numeric instructions (4.4.1)
 abbrev pub computed : Store → Option (Result Value Trap) → Did
@@ -104,7 +109,7 @@ abbrev pub load_at : Store → ℕ → Option AccessRow → Did
 load_at s place None = lacks
 load_at s place (Some row) = loaded s row (number_at s.memory place (width_of row))
 
--- a store, where its bytes are all there (4.4.4.2)
+-- a store, a copy or a fill, where its bytes are all there (4.4.4.2)
 abbrev pub stored : Store → Option (List ℕ) → Did
 stored s None = fails OutOfBounds
 stored s (Some memory) = works (with_memory s memory) []
@@ -132,6 +137,8 @@ act most (load op align offset) s (V.I32 a ∷ []) = load_at s (a + offset) (loa
 act most (store op align offset) s (v ∷ V.I32 a ∷ []) = store_at s (a + offset) v (store_row op)
 act most memory_size s [] = works s (V.I32 (pages_of s.memory) ∷ [])
 act most memory_grow s (V.I32 n ∷ []) = grew s (grown (record { bytes = s.memory; max = most }) n)
+act most memory_copy s (V.I32 n ∷ V.I32 from ∷ V.I32 to ∷ []) = stored s (copied s.memory to from n)
+act most memory_fill s (V.I32 n ∷ V.I32 v ∷ V.I32 at ∷ []) = stored s (filled_with s.memory at (v % 256) n)
 act most _ s _ = lacks
 
 -- Bytes that an instruction reaches: the first, and how many.
@@ -148,4 +155,6 @@ range_of place (Some row) = (record { at = place; len = width_of row }) ∷ []
 abbrev pub reached : Basic → List Value → List Range
 reached (load op align offset) (V.I32 a ∷ ops) = range_of (a + offset) (load_row op)
 reached (store op align offset) (v ∷ V.I32 a ∷ ops) = range_of (a + offset) (store_row op)
+reached memory_copy (V.I32 n ∷ V.I32 from ∷ V.I32 to ∷ ops) = (record { at = to; len = n }) ∷ (record { at = from; len = n }) ∷ []
+reached memory_fill (V.I32 n ∷ v ∷ V.I32 at ∷ ops) = (record { at = at; len = n }) ∷ []
 reached _ _ = []

@@ -28,6 +28,6 @@ IsCalm area (begins x s l) = Unit {0}
 IsCalm area (runs task c l) = StaysOff area (length c.store.memory) (next_ranges c)
 IsCalm area (halts s) = Unit {0}
 
--- No load or store that the run makes within a cost of n, and that doesn't trap, overlaps the area. Each costs 1, so it begins at a lower cost.
+-- No load, store, copy or fill that the run begins below a cost of n, and that doesn't trap, overlaps the area; a copy also not by its source.
 abbrev pub Untouched : Module → Plan → List Outcome → ℕ → Type 0
 Untouched m plan os n = (j : ℕ) → j < n → IsCalm plan.area (Blocking m plan os j).last

@@ -17,6 +17,7 @@ pub data Immediates : Type 0 where
   labels : (targets : List ℕ) → (last : ℕ) → Immediates
   constant : (bits n : ℕ) → Immediates
   float : (bytes : List ℕ) → Immediates
+  bulk : (n : ℕ) → Immediates  -- the number of a copy or fill of memory, and its zero bytes
 
 -- Instructions up to their end, each before the rest (5.4.1, 5.4.6). An if's arms are one sequence: the first ends, or an else leads on.
 pub data RawCode : Type 0 where

@@ -1,6 +1,6 @@
 -- The bytes that a module is written as: every number in its shortest spelling, known sections in rising id,
 -- sections with no entries left out (standard, section 5).
-use Rattle.std.specs.Prelude.{ℕ, ◌+◌, suc, List, [], ◌∷◌, ◌++◌, length, filter, min, Option, Some, None, Bool, true, false, if◌then◌else◌}
+use Rattle.std.specs.Prelude.{ℕ, ◌+◌, suc, List, [], ◌∷◌, ◌++◌, length, filter, min, Option, Some, None, unwrap_or, Bool, true, false, if◌then◌else◌}
 use Rattle.std.specs.List.{flat_map}
 use Rattle.std.specs.Prelude.{◌==◌}
 use Rattle.wa_types.specs.declared.values.ValType.{ValType}
@@ -15,8 +15,8 @@ use Rattle.wa_types.specs.declared.syntax.Space.TheVariants.{Func as a_func, Tab
 use Rattle.wa_types.specs.declared.syntax.Export.{Export}
 use Rattle.leb_numbers.specs.Leb.{shortest, shortest_signed}
 use Rattle.wa_types.specs.Syntax.{Plain, Shape, a_block, a_loop, Code, done, plain, nest, branch, FuncType, Func, GlobalDef, Elem, Segment, Custom, Module}
-use Rattle.wa_types.specs.Binary.{Immediates, nothing, zero_byte, index, index_and_zero, access, labels, constant, float}
-use Rattle.wa_types.specs.Opcodes.{plain_opcode, plain_immediates}
+use Rattle.wa_types.specs.Binary.{Immediates, nothing, zero_byte, index, index_and_zero, access, labels, constant, float, bulk}
+use Rattle.wa_types.specs.Opcodes.{plain_opcode, plain_immediates, zeros_of}
 
 -- a list of items, with their number (5.1.3)
 abbrev pub vector : {X : Type 0} → (X → List ℕ) → List X → List ℕ
@@ -72,6 +72,7 @@ immediate_bytes (access align offset) = shortest align ++ shortest offset
 immediate_bytes (labels targets last) = vector shortest targets ++ shortest last
 immediate_bytes (constant bits n) = shortest_signed bits n
 immediate_bytes (float bytes) = bytes
+immediate_bytes (bulk n) = shortest n ++ unwrap_or (zeros_of n) []
 
 -- an instruction that holds no other (5.4.1 to 5.4.5)
 abbrev pub plain_bytes : Plain → List ℕ

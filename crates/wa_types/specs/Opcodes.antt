@@ -1,11 +1,11 @@
 -- The opcodes of the binary format: of each instruction with what follows it, what follows each of them, and which are floats
--- (standard, sections 5.3 and 5.4).
-use Rattle.std.specs.Prelude.{ℕ, length, Option, Some, None, Bool, nat_le, ◌==◌, ◌&&◌, ◌||◌, if◌then◌else◌}
+-- (standard, sections 5.3 and 5.4; copies and fills version 2.0, 5.4.6).
+use Rattle.std.specs.Prelude.{ℕ, List, [], ◌∷◌, length, Option, Some, None, Bool, nat_le, ◌==◌, ◌&&◌, ◌||◌, if◌then◌else◌}
 use Rattle.wa_types.specs.declared.values.Value.TheVariants.{I32 as value_32, I64 as value_64}
 use Rattle.wa_types.specs.Operators.{opcode_of, first_numeric, last_numeric}
-use Rattle.wa_types.specs.Syntax.{Basic, nop, drop, select, const, num, global_get, global_set, load, store, memory_size, memory_grow, Plain, basic, local_get, local_set, local_tee, br}
+use Rattle.wa_types.specs.Syntax.{Basic, nop, drop, select, const, num, global_get, global_set, load, store, memory_size, memory_grow, memory_copy, memory_fill, Plain, basic, local_get, local_set, local_tee, br}
 use Rattle.wa_types.specs.Syntax.{br_if, br_table, return, unreachable, call, call_indirect}
-use Rattle.wa_types.specs.Binary.{Immediates, nothing, zero_byte, index, index_and_zero, access, labels, constant, float}
+use Rattle.wa_types.specs.Binary.{Immediates, nothing, zero_byte, index, index_and_zero, access, labels, constant, float, bulk}
 
 -- the opcode of an instruction that touches only its own operands and the store, and what follows it (5.4)
 abbrev pub basic_row : Basic → ℕ × Immediates
@@ -21,6 +21,8 @@ basic_row (load op align offset) = (op, access align offset)
 basic_row (store op align offset) = (op, access align offset)
 basic_row memory_size = (0x3F, zero_byte)
 basic_row memory_grow = (0x40, zero_byte)
+basic_row memory_copy = (0xFC, bulk 10)
+basic_row memory_fill = (0xFC, bulk 11)
 
 -- the same of an instruction that holds no other (5.4)
 abbrev pub plain_row : Plain → ℕ × Immediates
@@ -44,9 +46,10 @@ plain_opcode p = (plain_row p).0
 abbrev pub plain_immediates : Plain → Immediates
 plain_immediates p = (plain_row p).1
 
--- What may follow an opcode (5.4): nothing, a zero byte, an index, both, alignment and offset, labels, a signed number of so many bits, or a float.
+-- What may follow an opcode (5.4): nothing, a zero byte, an index, both, alignment and offset, labels, a signed number of so many bits, a float,
+-- or behind a prefix the number of an instruction.
 pub data Form : Type 0 where
-  no_immediate a_zero an_index an_index_and_zero an_access some_labels : Form
+  no_immediate a_zero an_index an_index_and_zero an_access some_labels a_bulk : Form
   a_constant : (bits : ℕ) → Form
   a_float : (size : ℕ) → Form
 
@@ -72,7 +75,8 @@ follows op =
     else (if op == 0x43 then Some (a_float 4)
     else (if op == 0x44 then Some (a_float 8)
     else (if within first_numeric last_numeric op then Some no_immediate
-    else None))))))))))))))
+    else (if op == 0xFC then Some a_bulk
+    else None)))))))))))))))
 
 -- the form of what follows an opcode (5.4)
 abbrev pub form : Immediates → Form
@@ -84,6 +88,11 @@ form (access align offset) = an_access
 form (labels targets last) = some_labels
 form (constant bits n) = a_constant bits
 form (float bytes) = a_float (length bytes)
+form (bulk n) = a_bulk
+
+-- the zero bytes behind the number of an instruction behind the prefix 0xFC; only a copy's and a fill's are numbers of one
+abbrev pub zeros_of : ℕ → Option (List ℕ)
+zeros_of n = if n == 10 then Some (0x00 ∷ 0x00 ∷ []) else (if n == 11 then Some (0x00 ∷ []) else None)
 
 -- a value type (5.3.1)
 abbrev pub is_value_type : ℕ → Bool

@@ -9,7 +9,7 @@ use Rattle.wa_types.specs.Accesses.{AccessRow, load_row, store_row}
 use Rattle.wa_types.specs.Encoding.{same_type}
 use Rattle.wa_types.specs.declared.rules.Rule.{Rule}
 use Rattle.wa_types.specs.declared.rules.Rule.TheVariants.{UnknownType, UnknownFunc, UnknownTable, UnknownMemory, UnknownGlobal, UnknownLocal, UnknownLabel, StackTypes, Alignment, ConstantGlobal}
-use Rattle.wa_types.specs.Syntax.{Basic, nop, drop, select, const, num, global_get, global_set, load, store, memory_size, memory_grow, Plain, basic, local_get, local_set, local_tee, br}
+use Rattle.wa_types.specs.Syntax.{Basic, nop, drop, select, const, num, global_get, global_set, load, store, memory_size, memory_grow, memory_copy, memory_fill, Plain, basic, local_get, local_set, local_tee, br}
 use Rattle.wa_types.specs.Syntax.{br_if, br_table, return, unreachable, call, call_indirect, Shape, a_block, a_loop, Code, done, plain, nest, branch, FuncType}
 
 -- A global type (2.3.7).
@@ -141,7 +141,7 @@ stores false align row = lacks UnknownMemory
 stores true align None = lacks StackTypes
 stores true align (Some row) = accesses align row (row.ty ∷ I32 ∷ []) []
 
--- memory.size and memory.grow (3.3.4.5, 3.3.4.6)
+-- what asks for a memory alone (3.3.4.5, 3.3.4.6)
 abbrev pub with_memory : Bool → (ins outs : List ValType) → Sig
 with_memory false ins outs = lacks UnknownMemory
 with_memory true ins outs = moves ins outs
@@ -159,6 +159,8 @@ basic_sig c (load op align offset) = loads c.memory align (load_row op)
 basic_sig c (store op align offset) = stores c.memory align (store_row op)
 basic_sig c memory_size = with_memory c.memory [] (I32 ∷ [])
 basic_sig c memory_grow = with_memory c.memory (I32 ∷ []) (I32 ∷ [])
+basic_sig c memory_copy = with_memory c.memory (I32 ∷ I32 ∷ I32 ∷ []) []
+basic_sig c memory_fill = with_memory c.memory (I32 ∷ I32 ∷ I32 ∷ []) []
 
 -- What an instruction asks and leaves under these labels (3.3.1 to 3.3.5), each the result that a branch takes, the function's own the last.
 abbrev pub sig : Around → List (Option ValType) → Plain → Sig
