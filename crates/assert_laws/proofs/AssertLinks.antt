@@ -6,7 +6,7 @@ use Rattle.wa_types.specs.declared.values.Value.{Value}
 use Rattle.wa_types.specs.declared.values.Value.TheVariants as V
 use Rattle.wa_types.specs.Modules.{defined_at, func_type_at}
 use Rattle.wa_types.specs.Runtime.{global_space}
-use Rattle.wa_types.specs.Syntax.{Basic, nop, drop, select, const, num, global_get, global_set, load, store, memory_size, memory_grow, Plain, basic, local_get, local_set, local_tee, br, br_if, br_table, return, unreachable, call, call_indirect, Code, done, plain, nest, branch, Func, Module}
+use Rattle.wa_types.specs.Syntax.{Basic, nop, drop, select, const, num, global_get, global_set, load, store, memory_size, memory_grow, memory_copy, memory_fill, Plain, basic, local_get, local_set, local_tee, br, br_if, br_table, return, unreachable, call, call_indirect, Code, done, plain, nest, branch, Func, Module}
 use Rattle.wa_model.specs.declared.answers.Said.TheVariants as S
 use Rattle.wa_model.specs.Blocking.{fault_of, poked, resumed}
 use Rattle.wa_model.specs.Configuration.{Activation, Configuration}
@@ -93,6 +93,8 @@ leaves_state g (load op align offset) h = tt
 leaves_state g (store op align offset) h = tt
 leaves_state g memory_size h = tt
 leaves_state g memory_grow h = tt
+leaves_state g memory_copy h = tt
+leaves_state g memory_fill h = tt
 
 module _ (w : World) (q written : Module) (role : ℕ → Role) (lay : Activation → CallFrame) (ok : Together (assert_sides w q)) where
   abbrev w2 : World
@@ -171,6 +173,8 @@ module _ (w : World) (q written : Module) (role : ℕ → Role) (lay : Activatio
     test_proper s ls ops (plain (basic (store op align offset)) rest) h = absurd h
     test_proper s ls ops (plain (basic memory_size) rest) h = absurd h
     test_proper s ls ops (plain (basic memory_grow) rest) h = absurd h
+    test_proper s ls ops (plain (basic memory_copy) rest) h = absurd h
+    test_proper s ls ops (plain (basic memory_fill) rest) h = absurd h
     test_proper s ls ops (plain (local_get x) rest) h = absurd h
     test_proper s ls ops (plain (local_set x) rest) h = absurd h
     test_proper s ls ops (plain (local_tee x) rest) h = absurd h

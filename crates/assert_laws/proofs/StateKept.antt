@@ -1,13 +1,13 @@
 -- An instruction that doesn't set the state leaves it.
 use Rattle.std.proofs.Common.{◌≡◌, ℕ, ◌+◌, List, [], ◌∷◌, Option, Some, None, Bool, true, false, Result, Ok, Err, refl, sym, get_or-set_other}
-use Rattle.std.specs.Prelude.{if◌then◌else◌}
+use Rattle.std.specs.Prelude.{◌%◌, if◌then◌else◌}
 use Rattle.wa_types.specs.declared.values.Value.{Value}
 use Rattle.wa_types.specs.declared.values.Value.TheVariants as V
 use Rattle.wa_types.specs.declared.values.Trap.{Trap}
 use Rattle.wa_types.specs.Accesses.{AccessRow, load_row, store_row}
 use Rattle.wa_types.specs.Encoding.{same_type}
-use Rattle.wa_types.specs.Memory.{Memory, grown, number_at, with_number}
-use Rattle.wa_types.specs.Syntax.{Basic, nop, drop, select, const, num, global_get, global_set, load, store, memory_size, memory_grow}
+use Rattle.wa_types.specs.Memory.{Memory, copied, filled_with, grown, number_at, with_number}
+use Rattle.wa_types.specs.Syntax.{Basic, nop, drop, select, const, num, global_get, global_set, load, store, memory_size, memory_grow, memory_copy, memory_fill}
 use Rattle.wa_types.specs.Typing.{type_of}
 use Rattle.wa_model.specs.Operate.{operate, number_of}
 use Rattle.wa_model.specs.Store.{Store, Did, works, fails, lacks, act, computed, loaded, load_at, stored, store_at, value_at, width_of, grew}
@@ -64,4 +64,6 @@ module _ (st : ℕ) (s : Store) where
   act_kept most (store op align offset) (x ∷ V.I32 a ∷ []) h = store_kept (a + offset) x (store_row op)
   act_kept most memory_size [] h = refl
   act_kept most memory_grow (V.I32 k ∷ []) h = grew_kept (grown (record { bytes = s.memory; max = most }) k)
+  act_kept most memory_copy (V.I32 k ∷ V.I32 from ∷ V.I32 to ∷ []) h = stored_kept (copied s.memory to from k)
+  act_kept most memory_fill (V.I32 k ∷ V.I32 v ∷ V.I32 at ∷ []) h = stored_kept (filled_with s.memory at (v % 256) k)
   act_kept most _ _ h = tt

@@ -2,7 +2,7 @@
 use Rattle.std.proofs.Common.{◌≡◌, ℕ, ◌++◌, zero, suc, length, take, List, [], ◌∷◌, Option, false, if◌then◌else◌, ap, sym, ◌∙◌, ◌≤◌, arith, refl}
 use Rattle.std.proofs.lemmas.Bool.{leb-true}
 use Rattle.wa_types.specs.declared.values.ValType.{ValType}
-use Rattle.wa_types.specs.Syntax.{Basic, nop, drop as drop_operand, select, const, num, global_get, global_set, load, store, memory_size, memory_grow, Plain}
+use Rattle.wa_types.specs.Syntax.{Basic, nop, drop as drop_operand, select, const, num, global_get, global_set, load, store, memory_size, memory_grow, memory_copy, memory_fill, Plain}
 use Rattle.wa_types.specs.Syntax.{Code, done, plain, nest, branch}
 use Rattle.wa_types.specs.Pruned.{is_last}
 use Rattle.wa_types.specs.Typing.{Around, sig}
@@ -34,6 +34,8 @@ takes_few (load op align offset) = omega arith
 takes_few (store op align offset) = omega arith
 takes_few memory_size = omega arith
 takes_few memory_grow = omega arith
+takes_few memory_copy = omega arith
+takes_few memory_fill = omega arith
 
 -- what stands behind an instruction, over all operands
 pub after_all : (c : Around) (ls : List (Option ValType)) (p : Plain) (own mids low types : List ValType) → is_last p ≡ false → Takes (sig c ls p) own mids → types ≡ own ++ low

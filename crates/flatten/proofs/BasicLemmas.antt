@@ -1,8 +1,8 @@
 -- Which instructions take no part in control and access no local.
 use Rattle.std.proofs.Common.{◌≡◌, ℕ, Some, None, true, false, refl, ap}
 use Rattle.wa_types.specs.declared.instrs.Instr.{Instr}
-use Rattle.wa_types.specs.declared.instrs.Instr.TheVariants.{Unreachable, Nop, Drop, Select, Return, MemorySize, MemoryGrow, Const, Num, Br, BrIf, BrTable, Call, CallIndirect, LocalGet, LocalSet, LocalTee, GlobalGet, GlobalSet, Load, Store, Block', Loop', If'}
-use Rattle.wa_types.specs.Syntax.{Basic, nop, drop, select, const, num, global_get, global_set, load, store, memory_size, memory_grow, basic, Plain, local_get, local_set, local_tee, br, br_if, br_table, return, unreachable, call, call_indirect, Code, plain}
+use Rattle.wa_types.specs.declared.instrs.Instr.TheVariants.{Unreachable, Nop, Drop, Select, Return, MemorySize, MemoryGrow, MemoryCopy, MemoryFill, Const, Num, Br, BrIf, BrTable, Call, CallIndirect, LocalGet, LocalSet, LocalTee, GlobalGet, GlobalSet, Load, Store, Block', Loop', If'}
+use Rattle.wa_types.specs.Syntax.{Basic, nop, drop, select, const, num, global_get, global_set, load, store, memory_size, memory_grow, memory_copy, memory_fill, basic, Plain, local_get, local_set, local_tee, br, br_if, br_table, return, unreachable, call, call_indirect, Code, plain}
 use Rattle.wa_types.specs.View.{in_front}
 use Rattle.wa_types.specs.Pruned.{is_last, is_last_instr}
 use Rattle.std.specs.declared.vec.Vec.{Vec}
@@ -22,6 +22,8 @@ is_basic Select b e rest = same_basic _ b rest e
 is_basic Return b e rest = absurd (cc)
 is_basic MemorySize b e rest = same_basic _ b rest e
 is_basic MemoryGrow b e rest = same_basic _ b rest e
+is_basic MemoryCopy b e rest = same_basic _ b rest e
+is_basic MemoryFill b e rest = same_basic _ b rest e
 is_basic (Const v) b e rest = same_basic _ b rest e
 is_basic (Num op) b e rest = same_basic _ b rest e
 is_basic (Br l) b e rest = absurd (cc)
@@ -49,6 +51,8 @@ basic_leaf Select b e = refl
 basic_leaf Return b e = refl
 basic_leaf MemorySize b e = refl
 basic_leaf MemoryGrow b e = refl
+basic_leaf MemoryCopy b e = refl
+basic_leaf MemoryFill b e = refl
 basic_leaf (Const v) b e = refl
 basic_leaf (Num op) b e = refl
 basic_leaf (Br l) b e = refl
@@ -77,6 +81,8 @@ last_one Select e a b d f = cc
 last_one Return e a b d f = b refl
 last_one MemorySize e a b d f = cc
 last_one MemoryGrow e a b d f = cc
+last_one MemoryCopy e a b d f = cc
+last_one MemoryFill e a b d f = cc
 last_one (Const v) e a b d f = cc
 last_one (Num op) e a b d f = cc
 last_one (Br l) e a b d f = d l refl
@@ -106,6 +112,8 @@ leaf_other Select a b c p q r t u v = cc
 leaf_other Return a b c p q r t u v = cc
 leaf_other MemorySize a b c p q r t u v = cc
 leaf_other MemoryGrow a b c p q r t u v = cc
+leaf_other MemoryCopy a b c p q r t u v = cc
+leaf_other MemoryFill a b c p q r t u v = cc
 leaf_other (Const y) a b c p q r t u v = cc
 leaf_other (Num op) a b c p q r t u v = cc
 leaf_other (Br l) a b c p q r t u v = cc
@@ -134,6 +142,8 @@ last_plain Select e = absurd (cc)
 last_plain Return e = (return, (λ rest. refl), refl)
 last_plain MemorySize e = absurd (cc)
 last_plain MemoryGrow e = absurd (cc)
+last_plain MemoryCopy e = absurd (cc)
+last_plain MemoryFill e = absurd (cc)
 last_plain (Const y) e = absurd (cc)
 last_plain (Num op) e = absurd (cc)
 last_plain (Br l) e = (br l, (λ rest. refl), refl)
@@ -162,6 +172,8 @@ leaf_goes_on Select a e = (basic select, (λ rest. refl), refl)
 leaf_goes_on Return a e = absurd (cc)
 leaf_goes_on MemorySize a e = (basic memory_size, (λ rest. refl), refl)
 leaf_goes_on MemoryGrow a e = (basic memory_grow, (λ rest. refl), refl)
+leaf_goes_on MemoryCopy a e = (basic memory_copy, (λ rest. refl), refl)
+leaf_goes_on MemoryFill a e = (basic memory_fill, (λ rest. refl), refl)
 leaf_goes_on (Const y) a e = (basic (const y), (λ rest. refl), refl)
 leaf_goes_on (Num op) a e = (basic (num op), (λ rest. refl), refl)
 leaf_goes_on (Br l) a e = absurd (cc)

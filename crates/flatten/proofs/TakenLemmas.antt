@@ -6,7 +6,7 @@ use Rattle.wa_types.specs.declared.values.ValType.{ValType}
 use Rattle.wa_types.specs.declared.values.ValType.TheVariants.{I32}
 use Rattle.wa_types.specs.Operators.{operand_types, result_type}
 use Rattle.wa_types.specs.Accesses.{load_row, store_row}
-use Rattle.wa_types.specs.Syntax.{Basic, nop, drop as a_drop, select, const, num, global_get, global_set, load, store, memory_size, memory_grow, FuncType}
+use Rattle.wa_types.specs.Syntax.{Basic, nop, drop as a_drop, select, const, num, global_get, global_set, load, store, memory_size, memory_grow, memory_copy, memory_fill, FuncType}
 use Rattle.wa_types.specs.Typing.{Around, basic_sig, calls, calls_at, moves, Takes, type_of}
 use Rattle.wa_types.specs.Modules.{or_empty}
 use Rattle.wa_model.specs.Store.{takes, gives}
@@ -46,6 +46,8 @@ basic_changed c (load op align offset) own mids under h = let r = load_moves c.m
 basic_changed c (store op align offset) own mids under h = let r = store_moves c.memory align (store_row op) own mids h in moved (r.0.ty ∷ I32 ∷ []) own mids under r.2
 basic_changed c memory_size own mids under h = moved_one [] own mids under I32 (memory_moves c.memory [] (I32 ∷ []) own mids h)
 basic_changed c memory_grow own mids under h = moved_one (I32 ∷ []) own mids under I32 (memory_moves c.memory (I32 ∷ []) (I32 ∷ []) own mids h)
+basic_changed c memory_copy own mids under h = moved (I32 ∷ I32 ∷ I32 ∷ []) own mids under (memory_moves c.memory (I32 ∷ I32 ∷ I32 ∷ []) [] own mids h)
+basic_changed c memory_fill own mids under h = moved (I32 ∷ I32 ∷ I32 ∷ []) own mids under (memory_moves c.memory (I32 ∷ I32 ∷ I32 ∷ []) [] own mids h)
 
 -- calls
 by_results : (ps own mids under : List ValType) (rs : List ValType) → length rs ≤ 1 → Takes (moves ps (reverse rs)) own mids → Changed (length ps) (length rs) (own ++ under) (mids ++ under)

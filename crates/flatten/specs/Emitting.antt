@@ -2,8 +2,8 @@
 use Rattle.std.specs.Prelude.{◌≡◌, ℕ, suc, ◌<◌, ◌≤◌, ◌^◌, ◌++◌, zero, List, [], ◌∷◌, length, reverse, drop as without, Option, Some, None, Bool, true, false, slice_get}
 use Rattle.wa_types.specs.declared.values.ValType.{ValType}
 use Rattle.wa_types.specs.declared.instrs.Instr.{Instr}
-use Rattle.wa_types.specs.declared.instrs.Instr.TheVariants.{Nop, Drop, Select, MemorySize, MemoryGrow, Const, Num, GlobalGet, GlobalSet, Load, Store}
-use Rattle.wa_types.specs.Syntax.{Basic, nop, drop, select, const, num, global_get, global_set, load, store, memory_size, memory_grow, Plain, Code, done, plain, FuncType, a_block, a_loop}
+use Rattle.wa_types.specs.declared.instrs.Instr.TheVariants.{Nop, Drop, Select, MemorySize, MemoryGrow, MemoryCopy, MemoryFill, Const, Num, GlobalGet, GlobalSet, Load, Store}
+use Rattle.wa_types.specs.Syntax.{Basic, nop, drop, select, const, num, global_get, global_set, load, store, memory_size, memory_grow, memory_copy, memory_fill, Plain, Code, done, plain, FuncType, a_block, a_loop}
 use Rattle.wa_types.specs.View.{in_front}
 use Rattle.wa_types.specs.Typing.{Around, listed, sig, Takes, Types}
 use Rattle.wa_types.specs.Pruned.{is_last}
@@ -98,6 +98,8 @@ basic_of Drop = Some drop
 basic_of Select = Some select
 basic_of MemorySize = Some memory_size
 basic_of MemoryGrow = Some memory_grow
+basic_of MemoryCopy = Some memory_copy
+basic_of MemoryFill = Some memory_fill
 basic_of (Const v) = Some (const v)
 basic_of (Num op) = Some (num op)
 basic_of (GlobalGet x) = Some (global_get x)

@@ -175,6 +175,8 @@ pub fn basic_result(instr: &Instr) -> Option<bool>
         Instr::Store { .. } => Some(false),
         Instr::MemorySize => Some(true),
         Instr::MemoryGrow => Some(true),
+        Instr::MemoryCopy => Some(false),
+        Instr::MemoryFill => Some(false),
         Instr::Unreachable => None,
         Instr::Return => None,
         Instr::Br(_) => None,

@@ -5,7 +5,7 @@ use Rattle.std.specs.declared.vec.Vec.{Vec}
 use Rattle.std.specs.declared.alloc.Global.{Global}
 use Rattle.wa_types.specs.declared.values.ValType.{ValType}
 use Rattle.wa_types.specs.declared.instrs.Instr.{Instr}
-use Rattle.wa_types.specs.declared.instrs.Instr.TheVariants.{Unreachable, Nop, Drop, Select, Return, MemorySize, MemoryGrow, Const, Num, Br, BrIf, BrTable, Call, CallIndirect, LocalGet, LocalSet, LocalTee, GlobalGet, GlobalSet, Load, Store, Block, Loop, If, Block', Loop', If'}
+use Rattle.wa_types.specs.declared.instrs.Instr.TheVariants.{Unreachable, Nop, Drop, Select, Return, MemorySize, MemoryGrow, MemoryCopy, MemoryFill, Const, Num, Br, BrIf, BrTable, Call, CallIndirect, LocalGet, LocalSet, LocalTee, GlobalGet, GlobalSet, Load, Store, Block, Loop, If, Block', Loop', If'}
 use Rattle.wa_types.specs.Syntax.{br_table, a_block, a_loop, Code, done, plain, nest, branch}
 use Rattle.wa_types.specs.View.{in_front, onto, code}
 use Rattle.wa_types.specs.Counts.{depth_of}
@@ -138,6 +138,8 @@ same_raised d n Select h b bi bt rest = refl
 same_raised d n Return h b bi bt rest = refl
 same_raised d n MemorySize h b bi bt rest = refl
 same_raised d n MemoryGrow h b bi bt rest = refl
+same_raised d n MemoryCopy h b bi bt rest = refl
+same_raised d n MemoryFill h b bi bt rest = refl
 same_raised d n (Const v) h b bi bt rest = refl
 same_raised d n (Num op) h b bi bt rest = refl
 same_raised d n (Br l) h b bi bt rest = absurd (b l refl)

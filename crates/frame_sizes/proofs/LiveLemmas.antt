@@ -6,7 +6,7 @@ use Rattle.std.specs.declared.vec.Vec.{Vec}
 use Rattle.std.specs.declared.alloc.Global.{Global}
 use Rattle.wa_types.specs.declared.values.ValType.{ValType}
 use Rattle.wa_types.specs.declared.instrs.Instr.{Instr}
-use Rattle.wa_types.specs.declared.instrs.Instr.TheVariants.{Unreachable, Nop, Drop, Select, Return, MemorySize, MemoryGrow, Const, Num, Br, BrIf, BrTable, Call, CallIndirect, LocalGet, LocalSet, LocalTee, GlobalGet, GlobalSet, Load, Store, Block, Loop, If, Block', Loop', If'}
+use Rattle.wa_types.specs.declared.instrs.Instr.TheVariants.{Unreachable, Nop, Drop, Select, Return, MemorySize, MemoryGrow, MemoryCopy, MemoryFill, Const, Num, Br, BrIf, BrTable, Call, CallIndirect, LocalGet, LocalSet, LocalTee, GlobalGet, GlobalSet, Load, Store, Block, Loop, If, Block', Loop', If'}
 use Rattle.wa_types.specs.Syntax.{Plain, Shape, a_block, a_loop, Code, done, plain, nest, branch}
 use Rattle.wa_types.specs.View.{code, in_front}
 use Rattle.wa_types.specs.Pausing.{Callee, callee, is_told}
@@ -154,6 +154,8 @@ other_live x tos k i g s t b bi bt re un nb nl nf = elim (instr_kind i) [
     leaf Select p e g s t b bi bt re un = same p _ (sym (e done))
     leaf MemorySize p e g s t b bi bt re un = same p _ (sym (e done))
     leaf MemoryGrow p e g s t b bi bt re un = same p _ (sym (e done))
+    leaf MemoryCopy p e g s t b bi bt re un = same p _ (sym (e done))
+    leaf MemoryFill p e g s t b bi bt re un = same p _ (sym (e done))
     leaf (Const v) p e g s t b bi bt re un = same p _ (sym (e done))
     leaf (Num op) p e g s t b bi bt re un = same p _ (sym (e done))
     leaf (Call y) p e g s t b bi bt re un = same p _ (sym (e done))

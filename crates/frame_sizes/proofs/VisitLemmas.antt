@@ -5,7 +5,7 @@ use Rattle.std.specs.declared.vec.Vec.{Vec}
 use Rattle.std.specs.declared.alloc.Global.{Global}
 use Rattle.wa_types.specs.declared.values.ValType.{ValType}
 use Rattle.wa_types.specs.declared.instrs.Instr.{Instr}
-use Rattle.wa_types.specs.declared.instrs.Instr.TheVariants.{Unreachable, Nop, Drop, Select, Return, MemorySize, MemoryGrow, Const, Num, Br, BrIf, BrTable, Call, CallIndirect, LocalGet, LocalSet, LocalTee, GlobalGet, GlobalSet, Load, Store, Block, Loop, If, Block', Loop', If'}
+use Rattle.wa_types.specs.declared.instrs.Instr.TheVariants.{Unreachable, Nop, Drop, Select, Return, MemorySize, MemoryGrow, MemoryCopy, MemoryFill, Const, Num, Br, BrIf, BrTable, Call, CallIndirect, LocalGet, LocalSet, LocalTee, GlobalGet, GlobalSet, Load, Store, Block, Loop, If, Block', Loop', If'}
 use Rattle.wa_types.specs.Syntax.{Plain, Shape, a_block, a_loop, Code, done, plain, nest, branch}
 use Rattle.wa_types.specs.View.{code, in_front, onto}
 use Rattle.wa_types.specs.Pruned.{is_last, is_last_instr}
@@ -35,6 +35,8 @@ front Select = is_plain _ (λ rest. refl) refl
 front Return = is_plain _ (λ rest. refl) refl
 front MemorySize = is_plain _ (λ rest. refl) refl
 front MemoryGrow = is_plain _ (λ rest. refl) refl
+front MemoryCopy = is_plain _ (λ rest. refl) refl
+front MemoryFill = is_plain _ (λ rest. refl) refl
 front (Const v) = is_plain _ (λ rest. refl) refl
 front (Num op) = is_plain _ (λ rest. refl) refl
 front (Br l) = is_plain _ (λ rest. refl) refl
@@ -208,6 +210,8 @@ no_call Select p e nc ni = same p _ (sym (e done))
 no_call Return p e nc ni = same p _ (sym (e done))
 no_call MemorySize p e nc ni = same p _ (sym (e done))
 no_call MemoryGrow p e nc ni = same p _ (sym (e done))
+no_call MemoryCopy p e nc ni = same p _ (sym (e done))
+no_call MemoryFill p e nc ni = same p _ (sym (e done))
 no_call (Const v) p e nc ni = same p _ (sym (e done))
 no_call (Num op) p e nc ni = same p _ (sym (e done))
 no_call (Br l) p e nc ni = same p _ (sym (e done))

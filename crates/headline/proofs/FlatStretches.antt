@@ -94,6 +94,8 @@ module _ (g : ℕ) (area : Area) where
   basic_keeps (Rattle.wa_types.specs.Syntax.store op align offset) ops h = cc
   basic_keeps (Rattle.wa_types.specs.Syntax.global_set x) ops h = cc
   basic_keeps Rattle.wa_types.specs.Syntax.memory_grow ops h = cc
+  basic_keeps Rattle.wa_types.specs.Syntax.memory_copy ops h = cc
+  basic_keeps Rattle.wa_types.specs.Syntax.memory_fill ops h = cc
   basic_keeps _ ops h = refl
 
   code_keeps : (c : Code) (ops : List Value) → silent_code c ≡ true → keeps_code g area ops c ≡ true

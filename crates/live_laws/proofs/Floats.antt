@@ -20,7 +20,7 @@ use Rattle.wa_types.specs.Operators.{opcode_of}
 use Rattle.wa_types.specs.Reading.{HasKind, IsPlain, IsCode, Each, IsValueType, IsFuncType, IsKind, IsImport, IsGlobal, IsElem, IsRun, IsBody, IsSegment, types_in, imports_in}
 use Rattle.wa_types.specs.Reading.{globals_in, elements_in, segments_in, IsModule}
 use Rattle.wa_types.specs.Spells.{bodies_in}
-use Rattle.wa_types.specs.Syntax.{Basic, nop, drop, select, const, num, global_get, global_set, load, store, memory_size, memory_grow, Plain, basic, local_get, local_set, local_tee, br}
+use Rattle.wa_types.specs.Syntax.{Basic, nop, drop, select, const, num, global_get, global_set, load, store, memory_size, memory_grow, memory_copy, memory_fill, Plain, basic, local_get, local_set, local_tee, br}
 use Rattle.wa_types.specs.Syntax.{br_if, br_table, return, unreachable, call, call_indirect, Code, done, plain, nest, branch, FuncType, Func, GlobalDef, Elem, Segment, Module}
 use Rattle.wa_types.proofs.Ranges.{all_from, passes}
 use Rattle.wasm_reader.proofs.ModulesMade.{join_clear}
@@ -73,6 +73,8 @@ plain_clear (basic (load op align offset)) h = access_clear op (load_small op h)
 plain_clear (basic (store op align offset)) h = access_clear op (store_small op h) (or_right (is_load_op op) (is_store_op op) h)
 plain_clear (basic memory_size) h = refl
 plain_clear (basic memory_grow) h = refl
+plain_clear (basic memory_copy) h = refl
+plain_clear (basic memory_fill) h = refl
 plain_clear (local_get x) h = refl
 plain_clear (local_set x) h = refl
 plain_clear (local_tee x) h = refl

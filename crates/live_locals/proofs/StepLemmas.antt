@@ -4,7 +4,7 @@ use Rattle.std.specs.Prelude.{Vec}
 use Rattle.std.specs.declared.alloc.Global.{Global}
 use Rattle.std.proofs.lemmas.List.{drop_all, get_or_default, take_rest}
 use Rattle.wa_types.specs.declared.instrs.Instr.{Instr}
-use Rattle.wa_types.specs.declared.instrs.Instr.TheVariants.{Unreachable as UnreachableInstr, Nop, Drop, Select, Return, MemorySize, MemoryGrow, Const as ConstInstr, Num, Br as BrInstr, BrIf as BrIfInstr, BrTable as BrTableInstr, Call as CallInstr, CallIndirect, LocalGet, LocalSet, LocalTee, GlobalGet, GlobalSet, Load, Store, Block' as BlockInstr', Loop' as LoopInstr', If' as IfInstr'}
+use Rattle.wa_types.specs.declared.instrs.Instr.TheVariants.{Unreachable as UnreachableInstr, Nop, Drop, Select, Return, MemorySize, MemoryGrow, MemoryCopy, MemoryFill, Const as ConstInstr, Num, Br as BrInstr, BrIf as BrIfInstr, BrTable as BrTableInstr, Call as CallInstr, CallIndirect, LocalGet, LocalSet, LocalTee, GlobalGet, GlobalSet, Load, Store, Block' as BlockInstr', Loop' as LoopInstr', If' as IfInstr'}
 use Rattle.wa_types.specs.Syntax.{basic, local_get, local_set, local_tee, br, br_if, br_table, unreachable, call, call_indirect, Code, done, plain}
 use Rattle.wa_types.specs.View.{in_front}
 use Rattle.wa_types.specs.Liveness.{live}
@@ -65,6 +65,8 @@ op_other Drop old h g s t = quiet _ old
 op_other Select old h g s t = quiet _ old
 op_other MemorySize old h g s t = quiet _ old
 op_other MemoryGrow old h g s t = quiet _ old
+op_other MemoryCopy old h g s t = quiet _ old
+op_other MemoryFill old h g s t = quiet _ old
 op_other (ConstInstr v) old h g s t = quiet _ old
 op_other (Num o) old h g s t = quiet _ old
 op_other (GlobalGet y) old h g s t = quiet _ old

@@ -16,7 +16,7 @@ use Rattle.wa_types.specs.Modules.{defined_at, func_imports, locals_of}
 use Rattle.wa_types.specs.Pausing.{Numbered, Settings, is_told}
 use Rattle.wa_types.specs.Pruned.{pruned}
 use Rattle.wa_types.specs.Sizes.{label_count, FuncSizes, StrictSizeRule}
-use Rattle.wa_types.specs.Syntax.{Basic, nop, drop, select, const, num, global_get, global_set, load, store, memory_size, memory_grow, basic, local_get, local_set, local_tee, br, br_if, br_table, return, unreachable, call, call_indirect, Plain, Code, done, plain, nest, branch, Func, Module}
+use Rattle.wa_types.specs.Syntax.{Basic, nop, drop, select, const, num, global_get, global_set, load, store, memory_size, memory_grow, memory_copy, memory_fill, basic, local_get, local_set, local_tee, br, br_if, br_table, return, unreachable, call, call_indirect, Plain, Code, done, plain, nest, branch, Func, Module}
 use Rattle.wa_types.proofs.SizeBounds.{weight_fits}
 use Rattle.run_theory.specs.FlatFits.{one_run}
 use Rattle.wa_model.specs.Rewrites.{instructions_and_labels}
@@ -50,6 +50,8 @@ basic_length (load op align offset) = omega (arith, length-append (shortest alig
 basic_length (store op align offset) = omega (arith, length-append (shortest align) (shortest offset), shortest_length align, shortest_length offset)
 basic_length memory_size = omega arith
 basic_length memory_grow = omega arith
+basic_length memory_copy = omega arith
+basic_length memory_fill = omega arith
 
 labels_length : (ls : List ℕ) → length (flat_map shortest ls) ≤ 10 * length ls
 labels_length [] = omega arith

@@ -4,7 +4,7 @@ use Rattle.std.specs.Prelude.{slice_get, nat_le, if◌then◌else◌}
 use Rattle.wa_types.specs.declared.values.ValType.{ValType}
 use Rattle.wa_types.specs.declared.values.ValType.TheVariants.{I32}
 use Rattle.wa_types.specs.Accesses.{AccessRow, load_row, store_row}
-use Rattle.wa_types.specs.Syntax.{Basic, nop, drop, select, const, num, global_get, global_set, load, store, memory_size, memory_grow, br, br_if, br_table, return, call, call_indirect, a_block, a_loop, Code, plain, nest, branch}
+use Rattle.wa_types.specs.Syntax.{Basic, nop, drop, select, const, num, global_get, global_set, load, store, memory_size, memory_grow, memory_copy, memory_fill, br, br_if, br_table, return, call, call_indirect, a_block, a_loop, Code, plain, nest, branch}
 use Rattle.wa_types.specs.declared.rules.Rule.TheVariants.{UnknownLabel, StackTypes, Alignment, ConstantGlobal}
 use Rattle.wa_types.specs.Typing.{GlobalType, Around, Sig, moves, leaves, drops, selects, lacks, late, gets_global, sets_global, loads, stores, with_memory, basic_sig, gets, sets, tees, jump, jumps, all_there, all_alike, listed, Takes, Types}
 use Rattle.wa_model.specs.Store.{takes, gives}
@@ -21,6 +21,10 @@ Sized drops n g = (n ≡ 1) × (g ≡ 0)
 Sized selects n g = (n ≡ 3) × (g ≡ 1)
 Sized (lacks r) n g = Unit {0}
 Sized (late r ps rs) n g = Unit {0}
+
+three_taken : (b : Bool) → Sized (with_memory b (I32 ∷ I32 ∷ I32 ∷ []) []) 3 0
+three_taken false = tt
+three_taken true = (refl, refl)
 
 sized : (c : Around) (b : Basic) → Sized (basic_sig c b) (takes b) (gives b)
 sized c nop = (refl, refl)
@@ -72,6 +76,8 @@ sized c memory_grow = by c.memory
     by : (b : Bool) → Sized (with_memory b (I32 ∷ []) (I32 ∷ [])) 1 1
     by false = tt
     by true = (refl, refl)
+sized c memory_copy = three_taken c.memory
+sized c memory_fill = three_taken c.memory
 
 -- ---- operands
 

@@ -3,7 +3,7 @@ use Rattle.std.proofs.Common.{◌≡◌, ℕ, length, false, refl, sym, subst}
 use Rattle.wa_types.specs.declared.values.Value.{Value}
 use Rattle.wa_types.specs.declared.operators.NumOp.{NumOp}
 use Rattle.wa_types.specs.declared.instrs.Instr.{Instr}
-use Rattle.wa_types.specs.declared.instrs.Instr.TheVariants.{Nop, Const, GlobalGet, MemorySize, Drop, GlobalSet, MemoryGrow, Load, Store, Select, Num, LocalGet, LocalSet, LocalTee}
+use Rattle.wa_types.specs.declared.instrs.Instr.TheVariants.{Nop, Const, GlobalGet, MemorySize, Drop, GlobalSet, MemoryGrow, MemoryCopy, MemoryFill, Load, Store, Select, Num, LocalGet, LocalSet, LocalTee}
 use Rattle.wa_types.specs.Operators.{operand_types}
 use Rattle.wa_types.specs.Syntax.{done}
 use Rattle.wa_types.specs.View.{in_front}
@@ -37,6 +37,14 @@ takes_global_set w i x e = subst (λ y. OpTakes w (in_front y done) 1) (sym e) r
 pub takes_memory_grow : (w : Walk) (i : Instr) → i ≡ MemoryGrow → OpTakes w (in_front i done) 1
 unfolding in_front
 takes_memory_grow w i e = subst (λ y. OpTakes w (in_front y done) 1) (sym e) refl
+
+pub takes_memory_copy : (w : Walk) (i : Instr) → i ≡ MemoryCopy → OpTakes w (in_front i done) 3
+unfolding in_front
+takes_memory_copy w i e = subst (λ y. OpTakes w (in_front y done) 3) (sym e) refl
+
+pub takes_memory_fill : (w : Walk) (i : Instr) → i ≡ MemoryFill → OpTakes w (in_front i done) 3
+unfolding in_front
+takes_memory_fill w i e = subst (λ y. OpTakes w (in_front y done) 3) (sym e) refl
 
 pub takes_load : (w : Walk) (i : Instr) (op align offset : ℕ) → i ≡ Load op align offset → OpTakes w (in_front i done) 1
 unfolding in_front

@@ -8,7 +8,7 @@ use Rattle.std.specs.declared.vec.Vec.{Vec}
 use Rattle.std.specs.declared.alloc.Global.{Global}
 use Rattle.wa_types.specs.declared.instrs.Instr.{Instr}
 use Rattle.wa_types.specs.View.{onto}
-use Rattle.wa_types.specs.Syntax.{nop, drop as drop_operand, select, const, num, global_get, global_set, load, store, memory_size, memory_grow, Basic, basic, local_get, local_set, local_tee, Code, done, plain}
+use Rattle.wa_types.specs.Syntax.{nop, drop as drop_operand, select, const, num, global_get, global_set, load, store, memory_size, memory_grow, memory_copy, memory_fill, Basic, basic, local_get, local_set, local_tee, Code, done, plain}
 use Rattle.wa_model.specs.declared.flat.Operand.{Operand}
 use Rattle.run_theory.specs.FlatFits.{ComputesFit, TellsResult}
 use Rattle.wa_model.specs.Store.{gives}
@@ -213,6 +213,8 @@ module _ (t : Terms) where
         few (store o al off) = omega arith
         few memory_size = omega arith
         few memory_grow = omega arith
+        few memory_copy = omega arith
+        few memory_fill = omega arith
 
         told : (n : ℕ) (to : Option ℕ) → n ≤ 1 → TellsResult n to → n ≡ count to
         told zero to le e = sym (ap count e)

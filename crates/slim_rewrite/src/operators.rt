@@ -23,6 +23,8 @@ pub(crate) fn taken_by(at: &Walk, op: &Instr) -> Option<usize>
         Instr::Load { .. } => Some(1),
         Instr::Store { .. } => Some(2),
         Instr::Select => Some(3),
+        Instr::MemoryCopy => Some(3),
+        Instr::MemoryFill => Some(3),
         Instr::Num(num) => Some(operand_count(*num)),
         Instr::LocalGet(x) => {
             if is_slot(at, *x) {

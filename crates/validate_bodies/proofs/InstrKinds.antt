@@ -4,7 +4,7 @@ use Rattle.std.specs.declared.vec.Vec.{Vec}
 use Rattle.std.specs.declared.alloc.Global.{Global}
 use Rattle.wa_types.specs.declared.values.ValType.{ValType}
 use Rattle.wa_types.specs.declared.instrs.Instr.{Instr, roll-Instr, roll-out-Instr}
-use Rattle.wa_types.specs.declared.instrs.Instr.TheVariants.{Unreachable, Nop, Drop, Select, Return, MemorySize, MemoryGrow, Const, Num, Br, BrIf, BrTable, Call, CallIndirect, LocalGet, LocalSet, LocalTee, GlobalGet, GlobalSet, Load, Store, Block, Loop, If, Block', Loop', If', rolls-Block, rolls-Loop, rolls-If, outs-Block', outs-Loop', outs-If'}
+use Rattle.wa_types.specs.declared.instrs.Instr.TheVariants.{Unreachable, Nop, Drop, Select, Return, MemorySize, MemoryGrow, MemoryCopy, MemoryFill, Const, Num, Br, BrIf, BrTable, Call, CallIndirect, LocalGet, LocalSet, LocalTee, GlobalGet, GlobalSet, Load, Store, Block, Loop, If, Block', Loop', If', rolls-Block, rolls-Loop, rolls-If, outs-Block', outs-Loop', outs-If'}
 use Rattle.wa_types.specs.Syntax.{Plain, Shape, a_block, a_loop, Code, done, plain, nest, branch}
 use Rattle.wa_types.specs.View.{in_front, onto, code}
 use Rattle.wa_types.specs.FirstFault.{size, mid}
@@ -26,6 +26,8 @@ leaf_kind Select = is_plain _ refl (λ rest. refl)
 leaf_kind Return = is_plain _ refl (λ rest. refl)
 leaf_kind MemorySize = is_plain _ refl (λ rest. refl)
 leaf_kind MemoryGrow = is_plain _ refl (λ rest. refl)
+leaf_kind MemoryCopy = is_plain _ refl (λ rest. refl)
+leaf_kind MemoryFill = is_plain _ refl (λ rest. refl)
 leaf_kind (Const v) = is_plain _ refl (λ rest. refl)
 leaf_kind (Num op) = is_plain _ refl (λ rest. refl)
 leaf_kind (Br l) = is_plain _ refl (λ rest. refl)

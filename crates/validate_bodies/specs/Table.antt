@@ -1,10 +1,10 @@
 -- Instructions that hold no other, and what the validator's table says of them.
 use Rattle.std.specs.Prelude.{List, ◌∷◌, reverse, Option, Some, None, Bool, if◌then◌else◌}
 use Rattle.wa_types.specs.declared.instrs.Instr.{Instr}
-use Rattle.wa_types.specs.declared.instrs.Instr.TheVariants.{Unreachable, Nop, Drop, Select, Return, MemorySize, MemoryGrow, Const, Num, Br, BrIf, BrTable, Call, CallIndirect, LocalGet, LocalSet, LocalTee, GlobalGet, GlobalSet, Load, Store}
+use Rattle.wa_types.specs.declared.instrs.Instr.TheVariants.{Unreachable, Nop, Drop, Select, Return, MemorySize, MemoryGrow, MemoryCopy, MemoryFill, Const, Num, Br, BrIf, BrTable, Call, CallIndirect, LocalGet, LocalSet, LocalTee, GlobalGet, GlobalSet, Load, Store}
 use Rattle.wa_types.specs.declared.values.ValType.{ValType}
 use Rattle.wa_types.specs.declared.values.ValType.TheVariants.{I32}
-use Rattle.wa_types.specs.Syntax.{nop, drop, select, const, num, global_get, global_set, load, store, memory_size, memory_grow, Plain, basic, local_get, local_set, local_tee, br, br_if, br_table, return, unreachable, call, call_indirect}
+use Rattle.wa_types.specs.Syntax.{nop, drop, select, const, num, global_get, global_set, load, store, memory_size, memory_grow, memory_copy, memory_fill, Plain, basic, local_get, local_set, local_tee, br, br_if, br_table, return, unreachable, call, call_indirect}
 use Rattle.wa_types.specs.Typing.{Sig, moves, leaves, drops, selects, lacks, late}
 use Rattle.validate_bodies.specs.declared.table.Asks as D
 use Rattle.validate_bodies.specs.declared.table.Asks.TheVariants as A
@@ -18,6 +18,8 @@ plain_of Select = Some (basic select)
 plain_of Return = Some return
 plain_of MemorySize = Some (basic memory_size)
 plain_of MemoryGrow = Some (basic memory_grow)
+plain_of MemoryCopy = Some (basic memory_copy)
+plain_of MemoryFill = Some (basic memory_fill)
 plain_of (Const v) = Some (basic (const v))
 plain_of (Num op) = Some (basic (num op))
 plain_of (Br l) = Some (br l)

@@ -325,6 +325,21 @@ fn with_memory(memory: bool, ins: Option<ValType>, outs: Option<ValType>) -> Ask
     }
 }
 
+// What a copy or a fill of the memory asks.
+#[tactic(auto, using(crate::proofs::LabelLemmas::listing))]
+fn moving_bytes(memory: bool) -> Asks<'static>
+    ensures { sig_of result ≡ with_memory memory (I32 ∷ I32 ∷ I32 ∷ []) [] }
+{
+    if !memory {
+        return Asks::Lacks(Rule::UnknownMemory);
+    }
+    Asks::Moves {
+        test: false,
+        ins: &[ValType::I32, ValType::I32, ValType::I32],
+        outs: listing(None),
+    }
+}
+
 /// What an instruction that holds no other asks of the operands, under labels of which the last is the innermost.
 #[tactic(auto, using(crate::proofs::LabelLemmas::listing), unfolding(crate::specs::Table::plain_of))]
 pub fn asks_at<'m>(context: &Context<'m>, labels: &[Option<ValType>], instr: &Instr) -> Asks<'m>
@@ -359,6 +374,8 @@ fn own_asks(context: &Context<'_>, labels: &[Option<ValType>], instr: &Instr) ->
             let ty = Some(ValType::I32);
             with_memory(context.has_memory(), ty, ty)
         }
+        Instr::MemoryCopy => moving_bytes(context.has_memory()),
+        Instr::MemoryFill => moving_bytes(context.has_memory()),
         Instr::Const(value) => moving(listing(None), Some(type_of_value(*value))),
         Instr::Num(op) => moving(operands_of(*op), Some(result_of(*op))),
         Instr::Br(label) => branching(labels, *label),

@@ -3,8 +3,8 @@ use Rattle.std.proofs.Common.{arith, ◌≡◌, ℕ, List, [], ◌∷◌, length
 use Rattle.wa_types.specs.declared.values.ValType.{ValType}
 use Rattle.wa_types.specs.declared.values.Value.{Value}
 use Rattle.wa_types.specs.declared.instrs.Instr.{Instr}
-use Rattle.wa_types.specs.declared.instrs.Instr.TheVariants.{Unreachable, Nop, Drop, Select, Return, MemorySize, MemoryGrow, Const, Num, Br, BrIf, BrTable, Call, CallIndirect, LocalGet, LocalSet, LocalTee, GlobalGet, GlobalSet, Load, Store, Block', Loop', If'}
-use Rattle.wa_types.specs.Syntax.{nop, drop, select, const, num, global_get, global_set, load, store, memory_size, memory_grow, Plain, basic, local_get, local_set, local_tee, br, br_if, br_table, return, unreachable, call, call_indirect, Code, done, plain, nest, branch}
+use Rattle.wa_types.specs.declared.instrs.Instr.TheVariants.{Unreachable, Nop, Drop, Select, Return, MemorySize, MemoryGrow, MemoryCopy, MemoryFill, Const, Num, Br, BrIf, BrTable, Call, CallIndirect, LocalGet, LocalSet, LocalTee, GlobalGet, GlobalSet, Load, Store, Block', Loop', If'}
+use Rattle.wa_types.specs.Syntax.{nop, drop, select, const, num, global_get, global_set, load, store, memory_size, memory_grow, memory_copy, memory_fill, Plain, basic, local_get, local_set, local_tee, br, br_if, br_table, return, unreachable, call, call_indirect, Code, done, plain, nest, branch}
 use Rattle.wa_types.specs.View.{in_front, onto, code}
 use Rattle.wa_types.specs.Typing.{GlobalType}
 use Rattle.wa_types.specs.Validity.{got_global, is_constant}
@@ -30,6 +30,8 @@ more_plain (basic (load op a o)) (plain q k) h = record { got = refl; constant =
 more_plain (basic (store op a o)) (plain q k) h = record { got = refl; constant = λ gs t. refl }
 more_plain (basic memory_size) (plain q k) h = record { got = refl; constant = λ gs t. refl }
 more_plain (basic memory_grow) (plain q k) h = record { got = refl; constant = λ gs t. refl }
+more_plain (basic memory_copy) (plain q k) h = record { got = refl; constant = λ gs t. refl }
+more_plain (basic memory_fill) (plain q k) h = record { got = refl; constant = λ gs t. refl }
 more_plain (local_get x) (plain q k) h = record { got = refl; constant = λ gs t. refl }
 more_plain (local_set x) (plain q k) h = record { got = refl; constant = λ gs t. refl }
 more_plain (local_tee x) (plain q k) h = record { got = refl; constant = λ gs t. refl }
@@ -51,6 +53,8 @@ more_plain (basic (load op a o)) (nest s r b k) h = record { got = refl; constan
 more_plain (basic (store op a o)) (nest s r b k) h = record { got = refl; constant = λ gs t. refl }
 more_plain (basic memory_size) (nest s r b k) h = record { got = refl; constant = λ gs t. refl }
 more_plain (basic memory_grow) (nest s r b k) h = record { got = refl; constant = λ gs t. refl }
+more_plain (basic memory_copy) (nest s r b k) h = record { got = refl; constant = λ gs t. refl }
+more_plain (basic memory_fill) (nest s r b k) h = record { got = refl; constant = λ gs t. refl }
 more_plain (local_get x) (nest s r b k) h = record { got = refl; constant = λ gs t. refl }
 more_plain (local_set x) (nest s r b k) h = record { got = refl; constant = λ gs t. refl }
 more_plain (local_tee x) (nest s r b k) h = record { got = refl; constant = λ gs t. refl }
@@ -72,6 +76,8 @@ more_plain (basic (load op a o)) (branch r d b k) h = record { got = refl; const
 more_plain (basic (store op a o)) (branch r d b k) h = record { got = refl; constant = λ gs t. refl }
 more_plain (basic memory_size) (branch r d b k) h = record { got = refl; constant = λ gs t. refl }
 more_plain (basic memory_grow) (branch r d b k) h = record { got = refl; constant = λ gs t. refl }
+more_plain (basic memory_copy) (branch r d b k) h = record { got = refl; constant = λ gs t. refl }
+more_plain (basic memory_fill) (branch r d b k) h = record { got = refl; constant = λ gs t. refl }
 more_plain (local_get x) (branch r d b k) h = record { got = refl; constant = λ gs t. refl }
 more_plain (local_set x) (branch r d b k) h = record { got = refl; constant = λ gs t. refl }
 more_plain (local_tee x) (branch r d b k) h = record { got = refl; constant = λ gs t. refl }
@@ -102,6 +108,8 @@ alone Select not_const not_get = record { got = refl; constant = λ gs t. refl }
 alone Return not_const not_get = record { got = refl; constant = λ gs t. refl }
 alone MemorySize not_const not_get = record { got = refl; constant = λ gs t. refl }
 alone MemoryGrow not_const not_get = record { got = refl; constant = λ gs t. refl }
+alone MemoryCopy not_const not_get = record { got = refl; constant = λ gs t. refl }
+alone MemoryFill not_const not_get = record { got = refl; constant = λ gs t. refl }
 alone (Const v) not_const not_get = absurd (not_const v refl)
 alone (Num op) not_const not_get = record { got = refl; constant = λ gs t. refl }
 alone (Br l) not_const not_get = record { got = refl; constant = λ gs t. refl }
@@ -129,6 +137,8 @@ alone_got Select not_get = refl
 alone_got Return not_get = refl
 alone_got MemorySize not_get = refl
 alone_got MemoryGrow not_get = refl
+alone_got MemoryCopy not_get = refl
+alone_got MemoryFill not_get = refl
 alone_got (Const v) not_get = refl
 alone_got (Num op) not_get = refl
 alone_got (Br l) not_get = refl

@@ -5,7 +5,7 @@ use Rattle.std.specs.declared.alloc.Global.{Global}
 use Rattle.wa_types.specs.declared.values.ValType.{ValType}
 use Rattle.wa_types.specs.declared.values.ValType.TheVariants.{I32}
 use Rattle.wa_types.specs.declared.instrs.Instr.{Instr}
-use Rattle.wa_types.specs.declared.instrs.Instr.TheVariants.{Unreachable, Nop, Drop, Select, Return, MemorySize, MemoryGrow, Const, Num, Br, BrIf, BrTable, Call, CallIndirect, LocalGet, LocalSet, LocalTee, GlobalGet, GlobalSet, Load, Store, Block, Loop, If, Block', Loop', If'}
+use Rattle.wa_types.specs.declared.instrs.Instr.TheVariants.{Unreachable, Nop, Drop, Select, Return, MemorySize, MemoryGrow, MemoryCopy, MemoryFill, Const, Num, Br, BrIf, BrTable, Call, CallIndirect, LocalGet, LocalSet, LocalTee, GlobalGet, GlobalSet, Load, Store, Block, Loop, If, Block', Loop', If'}
 use Rattle.wa_types.specs.Syntax.{Plain, Shape, a_block, a_loop, Code, done, plain, nest, branch, Func, Module}
 use Rattle.wa_types.specs.View.{in_front, code, module_of, func_of}
 use Rattle.wa_types.specs.Pruned.{is_last, is_last_instr}
@@ -36,6 +36,8 @@ last_plain Select p e = last_of _ p e
 last_plain Return p e = last_of _ p e
 last_plain MemorySize p e = last_of _ p e
 last_plain MemoryGrow p e = last_of _ p e
+last_plain MemoryCopy p e = last_of _ p e
+last_plain MemoryFill p e = last_of _ p e
 last_plain (Const v) p e = last_of _ p e
 last_plain (Num op) p e = last_of _ p e
 last_plain (Br l) p e = last_of _ p e

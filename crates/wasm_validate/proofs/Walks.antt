@@ -8,7 +8,7 @@ use Rattle.std.specs.declared.alloc.Global.{Global}
 use Rattle.wa_types.specs.declared.values.ValType.{ValType}
 use Rattle.wa_types.specs.declared.values.ValType.TheVariants.{I32}
 use Rattle.wa_types.specs.declared.instrs.Instr.{Instr}
-use Rattle.wa_types.specs.declared.instrs.Instr.TheVariants.{Unreachable, Nop, Drop, Select, Return, MemorySize, MemoryGrow, Const, Num, Br, BrIf, BrTable, Call, CallIndirect, LocalGet, LocalSet, LocalTee, GlobalGet, GlobalSet, Load, Store, Block, Loop, If, Block', Loop', If'}
+use Rattle.wa_types.specs.declared.instrs.Instr.TheVariants.{Unreachable, Nop, Drop, Select, Return, MemorySize, MemoryGrow, MemoryCopy, MemoryFill, Const, Num, Br, BrIf, BrTable, Call, CallIndirect, LocalGet, LocalSet, LocalTee, GlobalGet, GlobalSet, Load, Store, Block, Loop, If, Block', Loop', If'}
 use Rattle.wa_types.specs.Syntax.{Plain, Shape, a_block, a_loop, Code, done, plain, nest, branch, Func}
 use Rattle.wa_types.specs.View.{in_front, code, module_of}
 use Rattle.wa_types.specs.Typing.{Around, Types, sig, listed, Sig, moves, leaves, drops, selects, Takes}
@@ -202,6 +202,8 @@ leaf_plain Select p e = refl
 leaf_plain Return p e = refl
 leaf_plain MemorySize p e = refl
 leaf_plain MemoryGrow p e = refl
+leaf_plain MemoryCopy p e = refl
+leaf_plain MemoryFill p e = refl
 leaf_plain (Const v) p e = refl
 leaf_plain (Num op) p e = refl
 leaf_plain (Br l) p e = refl

@@ -1,5 +1,5 @@
 use Rattle.std.proofs.Common.{refl, ap}
-use Rattle.wa_types.specs.Syntax.{nop, drop, select, const, num, global_get, global_set, load, store, memory_size, memory_grow}
+use Rattle.wa_types.specs.Syntax.{nop, drop, select, const, num, global_get, global_set, load, store, memory_size, memory_grow, memory_copy, memory_fill}
 use Rattle.flatten.specs.Emitting.{basic_of}
 use Rattle.flatten.proofs.leaves.basic_result.Goals as goal
 
@@ -46,3 +46,11 @@ returns-in-MemorySize c = (memory_size, ap basic_of c.in-MemorySize.is, refl)
 pub returns-in-MemoryGrow : goal.returns-in-MemoryGrow
 unfolding basic_of
 returns-in-MemoryGrow c = (memory_grow, ap basic_of c.in-MemoryGrow.is, refl)
+
+pub returns-in-MemoryCopy : goal.returns-in-MemoryCopy
+unfolding basic_of
+returns-in-MemoryCopy c = (memory_copy, ap basic_of c.in-MemoryCopy.is, refl)
+
+pub returns-in-MemoryFill : goal.returns-in-MemoryFill
+unfolding basic_of
+returns-in-MemoryFill c = (memory_fill, ap basic_of c.in-MemoryFill.is, refl)

@@ -1,5 +1,5 @@
 use Rattle.std.proofs.Common.{sym, ◌∙◌}
-use Rattle.slim_rewrite.proofs.OpLemmas.{takes_nop, takes_const, takes_global_get, takes_memory_size, takes_drop, takes_global_set, takes_memory_grow, takes_load, takes_store, takes_select, takes_num, takes_get, takes_set, takes_tee}
+use Rattle.slim_rewrite.proofs.OpLemmas.{takes_nop, takes_const, takes_global_get, takes_memory_size, takes_drop, takes_global_set, takes_memory_grow, takes_memory_copy, takes_memory_fill, takes_load, takes_store, takes_select, takes_num, takes_get, takes_set, takes_tee}
 use Rattle.slim_rewrite.proofs.operators.taken_by.Goals as goal
 
 pub returns-in-Nop : goal.returns-in-Nop
@@ -22,6 +22,12 @@ returns-in-GlobalSet c = takes_global_set c.args.at.now c.args.op.now _ c.in-Glo
 
 pub returns-in-MemoryGrow : goal.returns-in-MemoryGrow
 returns-in-MemoryGrow c = takes_memory_grow c.args.at.now c.args.op.now c.in-MemoryGrow.is
+
+pub returns-in-MemoryCopy : goal.returns-in-MemoryCopy
+returns-in-MemoryCopy c = takes_memory_copy c.args.at.now c.args.op.now c.in-MemoryCopy.is
+
+pub returns-in-MemoryFill : goal.returns-in-MemoryFill
+returns-in-MemoryFill c = takes_memory_fill c.args.at.now c.args.op.now c.in-MemoryFill.is
 
 pub returns-in-Load : goal.returns-in-Load
 returns-in-Load c = takes_load c.args.at.now c.args.op.now _ _ _ c.in-Load.is
