@@ -10,7 +10,7 @@ use Rattle.wa_types.specs.Encoding.{vector, type_byte, block_type_byte, plain_by
 use Rattle.wa_types.specs.Opcodes.{an_access, follows, form, within, is_nest, is_load_op, is_store_op, plain_opcode, plain_immediates}
 use Rattle.wa_types.specs.Binary.{Placed, RawCode, ended, otherwise, instr, nested, branched}
 use Rattle.wa_types.specs.Spells.{Number, Items, Vector, ValueType, BlockType, ImmediatesOf, CodeOf}
-use Rattle.wa_types.specs.Syntax.{Basic, nop, drop, select, const, num, global_get, global_set, load, store, memory_size, memory_grow, Plain, basic, local_get, local_set, local_tee, br, br_if, br_table, return, unreachable, call, call_indirect, Shape, a_block, a_loop, Code, done, plain, nest, branch}
+use Rattle.wa_types.specs.Syntax.{Basic, nop, drop, select, const, num, global_get, global_set, load, store, memory_size, memory_grow, memory_copy, memory_fill, Plain, basic, local_get, local_set, local_tee, br, br_if, br_table, return, unreachable, call, call_indirect, Shape, a_block, a_loop, Code, done, plain, nest, branch}
 use Rattle.wa_types.specs.Reading.{HasKind, IsCode, Each}
 use Rattle.wa_types.specs.Sizes.{PlainFits, CodeFits}
 use Rattle.file_laws.proofs.NumberWriting.{shortest_spells, shortest_signed_spells}
@@ -171,6 +171,20 @@ write_basic (store op align offset) h at =
     }
 write_basic memory_size h at = record { back = 0x00 ∷ []; whole = refl; spelled = refl; follows = refl; kind = tt }
 write_basic memory_grow h at = record { back = 0x00 ∷ []; whole = refl; spelled = refl; follows = refl; kind = tt }
+write_basic memory_copy h at = record {
+  back = shortest 10 ++ 0x00 ∷ 0x00 ∷ [];
+  whole = refl;
+  spelled = (0x00 ∷ 0x00 ∷ [], refl, (shortest 10, 0x00 ∷ 0x00 ∷ [], refl, shortest_spells 10 (omega arith), refl));
+  follows = refl;
+  kind = tt;
+}
+write_basic memory_fill h at = record {
+  back = shortest 11 ++ 0x00 ∷ [];
+  whole = refl;
+  spelled = (0x00 ∷ [], refl, (shortest 11, 0x00 ∷ [], refl, shortest_spells 11 (omega arith), refl));
+  follows = refl;
+  kind = tt;
+}
 
 write_plain : (p : Plain) → PlainFits p → length (plain_bytes p) < 2 ^ 32 → (at : ℕ) → PlainWritten p at (plain_bytes p)
 unfolding follows

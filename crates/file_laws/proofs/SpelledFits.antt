@@ -13,7 +13,7 @@ use Rattle.wa_types.specs.declared.syntax.Import.{Import}
 use Rattle.wa_types.specs.declared.syntax.Export.{Export}
 use Rattle.wa_types.specs.declared.syntax.Run.{Run}
 use Rattle.leb_numbers.specs.Leb.{IsUnsigned, IsSigned, last_signed}
-use Rattle.wa_types.specs.Syntax.{nop, drop, select, const, num, global_get, global_set, load, store, memory_size, memory_grow, Plain, basic, local_get, local_set, local_tee, br, br_if, br_table, return, unreachable, call, call_indirect, Code, done, plain, nest, branch, Func, GlobalDef, Elem, Segment, Module}
+use Rattle.wa_types.specs.Syntax.{nop, drop, select, const, num, global_get, global_set, load, store, memory_size, memory_grow, memory_copy, memory_fill, Plain, basic, local_get, local_set, local_tee, br, br_if, br_table, return, unreachable, call, call_indirect, Code, done, plain, nest, branch, Func, GlobalDef, Elem, Segment, Module}
 use Rattle.wa_types.specs.Binary.{Placed, Immediates, RawCode, ended, otherwise, instr, nested, branched, RawKind, raw_func, raw_table, raw_memory, raw_global, RawImport, RawGlobal, RawElem, RawRun, RawBody, RawSegment, Section, custom, types, imports, functions, tables, memories, globals, exports, start, elements, bodies, segments, section_id}
 use Rattle.wa_types.specs.Spells.{◌▸◌, Exactly, Number, Items, Vector, Sized, Text, Maximum, LimitsOf, TableType, ImmediatesOf, CodeOf, ImportKindOf, ImportOf, GlobalOf, ExportOf, ElementOf, RunOf, BodyOf, SegmentOf, SectionOf, sorts_in, bodies_in}
 use Rattle.wa_types.specs.Reading.{HasKind, IsPlain, IsCode, Each, IsKind, IsImport, IsGlobal, IsElem, IsRun, IsBody, IsSegment, imports_in, tables_in, memories_in, globals_in, exports_in, starts_in, elements_in, segments_in, customs_of, SpellsModule}
@@ -133,6 +133,8 @@ operands_fit (basic (load op align offset)) at a k h b = (k, unsigned_fits 32 h.
 operands_fit (basic (store op align offset)) at a k h b = (k, unsigned_fits 32 h.0 align h.3, unsigned_fits 32 h.1 offset h.4)
 operands_fit (basic memory_size) at a k h b = tt
 operands_fit (basic memory_grow) at a k h b = tt
+operands_fit (basic memory_copy) at a k h b = tt
+operands_fit (basic memory_fill) at a k h b = tt
 operands_fit (local_get x) at a k h b = unsigned_fits 32 a x h
 operands_fit (local_set x) at a k h b = unsigned_fits 32 a x h
 operands_fit (local_tee x) at a k h b = unsigned_fits 32 a x h

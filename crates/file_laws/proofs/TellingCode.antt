@@ -1,8 +1,9 @@
 -- What code shows.
-use Rattle.std.proofs.Common.{◌≡◌, ℕ, ◌+◌, ◌<◌, List, [], ◌∷◌, ◌++◌, Some, refl, ap, sym, ◌∙◌, subst, arith, append_assoc, length, Bool, true, false, inl, inr, nat_le, IsTrue, ◌&&◌}
-use Rattle.wa_types.specs.Opcodes.{Form, a_float, follows, form, is_nest, is_float_op}
-use Rattle.wa_types.specs.Binary.{Placed, Immediates, nothing, zero_byte, index, index_and_zero, access, labels, constant, float, RawCode, ended, otherwise, instr, nested, branched}
-use Rattle.wa_types.specs.Begun.{Goal, code, exact, number, block_type, count, some_indices, float_bytes, next, where_true, immediates, behind_opcode}
+use Rattle.std.proofs.Common.{◌≡◌, ℕ, ◌+◌, ◌<◌, List, [], ◌∷◌, ◌++◌, Some, refl, ap, sym, ◌∙◌, subst, arith, append_assoc, length, Bool, true, false, inl, inr, nat_le, IsTrue, ◌&&◌, map}
+use Rattle.std.specs.Option.{option_map}
+use Rattle.wa_types.specs.Opcodes.{Form, a_float, follows, form, zeros_of, is_nest, is_float_op}
+use Rattle.wa_types.specs.Binary.{Placed, Immediates, nothing, zero_byte, index, index_and_zero, access, labels, constant, float, bulk, RawCode, ended, otherwise, instr, nested, branched}
+use Rattle.wa_types.specs.Begun.{Goal, code, exact, number, block_type, count, some_indices, bulk_number, float_bytes, next, where_true, immediates, behind_opcode}
 use Rattle.wa_types.specs.Marks.{place_if, float_type, code_floats, code_opens}
 use Rattle.wa_types.specs.ModuleBounds.{ModuleBounds}
 use Rattle.wa_types.specs.Spells.{◌▸◌, Exactly, Number, Vector, Byte, BlockType, ImmediatesOf, CodeOf}
@@ -71,6 +72,24 @@ module _ (b : ModuleBounds) (last : ℕ) where
   unfolding next
   gives_float more xs some at a c t h k = give b last (float_bytes (length xs)) more [] at 0 a c t refl (some, ap length h, refl) refl k
 
+  gives_bytes : (more : List Goal) (zs : List ℕ) → Gives b last (map exact zs ++ more) more (Exactly zs) nothing_seen
+  gives_bytes more [] = gives_none b last more
+  gives_bytes more (z ∷ zs) =
+      let rest = map exact zs ++ more in
+      gives_as b last (exact z ∷ rest) more (Exactly (z ∷ []) ▸ Exactly zs) (Exactly (z ∷ zs)) nothing_seen (λ at a h. (z ∷ [], zs, h, refl, refl))
+      (gives_then b last (exact z ∷ rest) rest more (Exactly (z ∷ [])) (Exactly zs) nothing_seen nothing_seen (gives_exact b last rest z) (gives_bytes more zs))
+
+  -- the number of a copy or a fill
+  gives_bulk_number : (more : List Goal) (n : ℕ) (zs : List ℕ) → zeros_of n ≡ Some zs → Gives b last (bulk_number ∷ more) (map exact zs ++ more) (Number n) nothing_seen
+  unfolding next
+  gives_bulk_number more n zs e at a c t h k = give b last bulk_number more (map exact zs) at n a c t refl h (ap (option_map (map exact)) e) k
+
+  -- its number, and its zero bytes
+  gives_bulk : (more : List Goal) (n : ℕ) → Gives b last (bulk_number ∷ more) more (ImmediatesOf (bulk n)) nothing_seen
+  gives_bulk more n at a c t h k =
+      gives_then b last (bulk_number ∷ more) (map exact h.0 ++ more) more (Number n) (Exactly h.0) nothing_seen nothing_seen (gives_bulk_number more n h.0 h.1) (gives_bytes more h.0)
+      at a c t h.2 k
+
   gives_operands : (o : Immediates) (op : ℕ) (more : List Goal) → follows op ≡ Some (form o) → Gives b last (immediates (form o) ++ more) more (ImmediatesOf o) nothing_seen
   unfolding HasBytes
   gives_operands nothing op more e = gives_none b last more
@@ -87,6 +106,7 @@ module _ (b : ModuleBounds) (last : ℕ) where
       (gives_numbers b last (number ∷ more) targets) (gives_number b last more other)
   gives_operands (constant bits n) op more e = gives_signed b last bits more n
   gives_operands (float bytes) op more e = gives_float more bytes (has_bytes op (a_float (length bytes)) e)
+  gives_operands (bulk n) op more e = gives_bulk more n
 
   gives_level : (c body rest : RawCode) (first_arm inner : Bool) (more : List Goal) (op result : Placed)
       → behind_opcode first_arm op.byte ≡ Some (block_type ∷ code inner ∷ code first_arm ∷ []) → is_float_op op.byte ≡ false → opens_level op.byte ≡ true

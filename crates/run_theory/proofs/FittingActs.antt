@@ -1,6 +1,6 @@
 -- What an instruction does with its own operands keeps the store fitting, and gives values of its types.
 use Rattle.std.proofs.Common.{◌≡◌, ℕ, zero, suc, ◌+◌, ◌++◌, List, [], ◌∷◌, Option, Some, None, Result, Ok, Err, Bool, true, false, refl, sym, ap, ◌∙◌, subst, length, take, drop}
-use Rattle.std.specs.Prelude.{IsSome, nat_le, if◌then◌else◌, slice_get}
+use Rattle.std.specs.Prelude.{◌%◌, IsSome, nat_le, if◌then◌else◌, slice_get}
 use Rattle.std.specs.Option.{option_map}
 use Rattle.std.proofs.lemmas.Option.{slice_get-map}
 use Rattle.wa_types.specs.declared.values.ValType.{ValType}
@@ -11,8 +11,8 @@ use Rattle.wa_types.specs.declared.values.Trap.{Trap}
 use Rattle.wa_types.specs.Operators.{operand_types, result_type}
 use Rattle.wa_types.specs.Accesses.{AccessRow, load_row, store_row}
 use Rattle.wa_types.specs.Encoding.{same_type}
-use Rattle.wa_types.specs.Memory.{Memory, pages_of, number_at, with_number as number_put, grown}
-use Rattle.wa_types.specs.Syntax.{Basic, nop, drop as a_drop, select, const, num, global_get, global_set, load, store, memory_size, memory_grow, Module}
+use Rattle.wa_types.specs.Memory.{Memory, pages_of, number_at, with_number as number_put, copied, filled_with, grown}
+use Rattle.wa_types.specs.Syntax.{Basic, nop, drop as a_drop, select, const, num, global_get, global_set, load, store, memory_size, memory_grow, memory_copy, memory_fill, Module}
 use Rattle.wa_types.specs.declared.rules.Rule.{Rule}
 use Rattle.wa_types.specs.declared.rules.Rule.TheVariants.{Alignment, ConstantGlobal}
 use Rattle.wa_types.specs.Typing.{GlobalType, Around, type_of, moves, late, gets_global, sets_global, loads, stores, with_memory as in_memory, basic_sig, Takes}
@@ -154,6 +154,34 @@ module _ (m : Module) where
   grow_fits most s (V.I32 n ∷ ops) ts mids ok e f =
       grew_fits s ts mids ops (grown (record { bytes = s.memory; max = most }) n) ok (tail_is I32 I32 (types_of ops) ts e) f
 
+  -- a copy takes three numbers
+  copy_fits : (most : Option ℕ) (s : Store) (ops : List Value) (ts mids : List ValType) → StoreFits m s → types_of ops ≡ I32 ∷ I32 ∷ I32 ∷ ts → mids ≡ ts
+      → DidFits m mids (drop 3 ops) (act most memory_copy s (take 3 ops))
+  copy_fits most s [] ts mids ok e f = cc
+  copy_fits most s (v ∷ []) ts mids ok e f = cc
+  copy_fits most s (v ∷ w ∷ []) ts mids ok e f = cc
+  copy_fits most s (V.I64 n ∷ v ∷ w ∷ ops) ts mids ok e f = cc
+  copy_fits most s (V.I32 n ∷ V.I64 v ∷ w ∷ ops) ts mids ok e f = cc
+  copy_fits most s (V.I32 n ∷ V.I32 v ∷ V.I64 w ∷ ops) ts mids ok e f = cc
+  copy_fits most s (V.I32 n ∷ V.I32 from ∷ V.I32 to ∷ ops) ts mids ok e f =
+      let e1 = tail_is I32 I32 (I32 ∷ I32 ∷ types_of ops) (I32 ∷ I32 ∷ ts) e in
+      let e2 = tail_is I32 I32 (I32 ∷ types_of ops) (I32 ∷ ts) e1 in
+      stored_fits s mids ops (copied s.memory to from n) ok (tail_is I32 I32 (types_of ops) ts e2 ∙ sym f)
+
+  -- so does a fill
+  fill_fits : (most : Option ℕ) (s : Store) (ops : List Value) (ts mids : List ValType) → StoreFits m s → types_of ops ≡ I32 ∷ I32 ∷ I32 ∷ ts → mids ≡ ts
+      → DidFits m mids (drop 3 ops) (act most memory_fill s (take 3 ops))
+  fill_fits most s [] ts mids ok e f = cc
+  fill_fits most s (v ∷ []) ts mids ok e f = cc
+  fill_fits most s (v ∷ w ∷ []) ts mids ok e f = cc
+  fill_fits most s (V.I64 n ∷ v ∷ w ∷ ops) ts mids ok e f = cc
+  fill_fits most s (V.I32 n ∷ V.I64 v ∷ w ∷ ops) ts mids ok e f = cc
+  fill_fits most s (V.I32 n ∷ V.I32 v ∷ V.I64 w ∷ ops) ts mids ok e f = cc
+  fill_fits most s (V.I32 n ∷ V.I32 v ∷ V.I32 at ∷ ops) ts mids ok e f =
+      let e1 = tail_is I32 I32 (I32 ∷ I32 ∷ types_of ops) (I32 ∷ I32 ∷ ts) e in
+      let e2 = tail_is I32 I32 (I32 ∷ types_of ops) (I32 ∷ ts) e1 in
+      stored_fits s mids ops (filled_with s.memory at (v % 256) n) ok (tail_is I32 I32 (types_of ops) ts e2 ∙ sym f)
+
 -- ---- what typed instructions take
 
 -- a rule that holds where the instruction is typed
@@ -226,3 +254,9 @@ act_fits m c most memory_size s ops mids z ok h =
 act_fits m c most memory_grow s ops mids z ok h =
     let r = memory_moves c.memory (I32 ∷ []) (I32 ∷ []) (types_of ops) mids h in
     grow_fits m most s ops r.0 mids ok r.1 r.2
+act_fits m c most memory_copy s ops mids z ok h =
+    let r = memory_moves c.memory (I32 ∷ I32 ∷ I32 ∷ []) [] (types_of ops) mids h in
+    copy_fits m most s ops r.0 mids ok r.1 r.2
+act_fits m c most memory_fill s ops mids z ok h =
+    let r = memory_moves c.memory (I32 ∷ I32 ∷ I32 ∷ []) [] (types_of ops) mids h in
+    fill_fits m most s ops r.0 mids ok r.1 r.2

@@ -1,7 +1,7 @@
 -- What stands behind a module's own parts leaves each of its reductions as it was.
 use Rattle.std.proofs.Common.{◌≡◌, ℕ, zero, suc, ◌+◌, ◌-◌, ◌<◌, List, [], ◌∷◌, ◌++◌, map, Option, Some, None, Result, Ok, Err, Bool, true, false, refl, sym, ap, ◌∙◌, subst, length, take}
 use Rattle.std.proofs.Common.{drop, reverse, arith, append_assoc, length-append, length-set}
-use Rattle.std.specs.Prelude.{nat_lt, if◌then◌else◌, slice_get, slice_set, unwrap_or}
+use Rattle.std.specs.Prelude.{◌%◌, nat_lt, if◌then◌else◌, slice_get, slice_set, unwrap_or}
 use Rattle.std.specs.Option.{option_map}
 use Rattle.std.proofs.lemmas.Bool.{ltb-false}
 use Rattle.std.proofs.lemmas.List.{length-map, map-append, get_or_append_left, set-append_left}
@@ -13,9 +13,9 @@ use Rattle.wa_types.specs.declared.values.Trap.TheVariants.{StackExhausted, Type
 use Rattle.wa_types.specs.declared.syntax.Export.{Export}
 use Rattle.wa_types.specs.Accesses.{AccessRow, load_row, store_row}
 use Rattle.wa_types.specs.Encoding.{same_type}
-use Rattle.wa_types.specs.Memory.{Memory, number_at, with_number as number_put, grown}
+use Rattle.wa_types.specs.Memory.{Memory, number_at, with_number as number_put, copied, filled_with, grown}
 use Rattle.wa_types.specs.Typing.{type_of}
-use Rattle.wa_types.specs.Syntax.{Basic, nop, drop as a_drop, select, const, num, global_get, global_set, load, store, memory_size, memory_grow, basic, local_get, local_set, local_tee, br}
+use Rattle.wa_types.specs.Syntax.{Basic, nop, drop as a_drop, select, const, num, global_get, global_set, load, store, memory_size, memory_grow, memory_copy, memory_fill, basic, local_get, local_set, local_tee, br}
 use Rattle.wa_types.specs.Syntax.{br_if, br_table, return, unreachable, call, call_indirect, a_block, a_loop, Code, done, plain, nest, branch, FuncType, Func, GlobalDef, Module}
 use Rattle.wa_types.specs.Modules.{imported, imported_func, func_imports, func_sorts, func_type_at, type_at, or_empty, defined_at}
 use Rattle.wa_ops.specs.Operate.{operate, number_of}
@@ -105,6 +105,8 @@ module _ (more : List Value) (n : Spaces) where
   act_stays most (store op align offset) s (v ∷ V.I32 a ∷ []) h ok = store_stays s (a + offset) v (store_row op) ok
   act_stays most memory_size s [] h ok = (refl, ok)
   act_stays most memory_grow s (V.I32 k ∷ []) h ok = grew_stays s (grown (record { bytes = s.memory; max = most }) k) ok
+  act_stays most memory_copy s (V.I32 k ∷ V.I32 from ∷ V.I32 to ∷ []) h ok = stored_stays s (copied s.memory to from k) ok
+  act_stays most memory_fill s (V.I32 k ∷ V.I32 v ∷ V.I32 at ∷ []) h ok = stored_stays s (filled_with s.memory at (v % 256) k) ok
   act_stays most _ s _ h ok = (refl, tt)
 
   -- ---- what comes next

@@ -9,7 +9,7 @@ use Rattle.wa_types.specs.Accesses.{load_row, store_row}
 use Rattle.wa_types.specs.Counts.{depth_of}
 use Rattle.wa_types.specs.Operators.{operand_types, result_type}
 use Rattle.wa_types.specs.Pruned.{is_last}
-use Rattle.wa_types.specs.Syntax.{Basic, nop, drop, select, const, num, global_get, global_set, load, store, memory_size, memory_grow, Plain, Shape, Code, done, plain, nest, branch, FuncType, Module}
+use Rattle.wa_types.specs.Syntax.{Basic, nop, drop, select, const, num, global_get, global_set, load, store, memory_size, memory_grow, memory_copy, memory_fill, Plain, Shape, Code, done, plain, nest, branch, FuncType, Module}
 use Rattle.wa_types.specs.Typing.{Around, moves, listed, type_of, may_jump, calls, calls_at, gets, sets, tees, basic_sig, Takes}
 use Rattle.wa_model.specs.Store.{takes, gives}
 use Rattle.wa_model.specs.Step.{arity_of}
@@ -57,6 +57,8 @@ basic_height c (load op align offset) ins outs below h = let r = load_moves c.me
 basic_height c (store op align offset) ins outs below h = let r = store_moves c.memory align (store_row op) ins outs h in moved_height (r.0.ty ∷ I32 ∷ []) [] ins outs below r.2
 basic_height c memory_size ins outs below h = moved_height [] (I32 ∷ []) ins outs below (memory_moves c.memory [] (I32 ∷ []) ins outs h)
 basic_height c memory_grow ins outs below h = moved_height (I32 ∷ []) (I32 ∷ []) ins outs below (memory_moves c.memory (I32 ∷ []) (I32 ∷ []) ins outs h)
+basic_height c memory_copy ins outs below h = moved_height (I32 ∷ I32 ∷ I32 ∷ []) [] ins outs below (memory_moves c.memory (I32 ∷ I32 ∷ I32 ∷ []) [] ins outs h)
+basic_height c memory_fill ins outs below h = moved_height (I32 ∷ I32 ∷ I32 ∷ []) [] ins outs below (memory_moves c.memory (I32 ∷ I32 ∷ I32 ∷ []) [] ins outs h)
 
 -- locals
 pub gets_height : (o : Option ValType) (ins outs below : List ValType) → Takes (gets o) ins outs → length (ins ++ below) + 1 ≡ length (outs ++ below)

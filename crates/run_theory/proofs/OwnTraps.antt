@@ -1,6 +1,6 @@
 -- No reduction traps for an import.
 use Rattle.std.proofs.Common.{Bool, List, None, Option, Some, [], drop, false, length, reverse, subst, suc, take, true, zero, ℕ, ◌++◌, ◌+◌, ◌-◌, ◌^◌, ◌∷◌, ◌≡◌, map}
-use Rattle.std.specs.Prelude.{Result, Ok, Err, ◌==◌, if◌then◌else◌, nat_lt, slice_get, unwrap_or, pos, int_div}
+use Rattle.std.specs.Prelude.{◌%◌, Result, Ok, Err, ◌==◌, if◌then◌else◌, nat_lt, slice_get, unwrap_or, pos, int_div}
 use Rattle.std.specs.Ordering.{int_eq}
 use Rattle.std.specs.Option.{option_map}
 use Rattle.wa_model.specs.Configuration.{Activation, Configuration, Label, block_label, loop_label, running, waiting}
@@ -11,10 +11,10 @@ use Rattle.wa_ops.specs.Integers.{idiv_s, signed, unsigned}
 use Rattle.wa_ops.specs.Operate.{Meaning, applied, are_of, binary, comparison, conversion, meaning_of, number_of, operate, unary, valued}
 use Rattle.wa_types.specs.Accesses.{AccessRow, load_row, store_row}
 use Rattle.wa_types.specs.Encoding.{same_type}
-use Rattle.wa_types.specs.Memory.{Memory, grown, number_at, with_number as number_put}
+use Rattle.wa_types.specs.Memory.{Memory, copied, filled_with, grown, number_at, with_number as number_put}
 use Rattle.wa_types.specs.Modules.{defined_at, func_imports, func_type_at, type_at}
 use Rattle.wa_types.specs.Operators.{operand_types, result_type}
-use Rattle.wa_types.specs.Syntax.{Basic, nop, drop as a_drop, select, const, num, global_get, global_set, load, store, memory_size, memory_grow}
+use Rattle.wa_types.specs.Syntax.{Basic, nop, drop as a_drop, select, const, num, global_get, global_set, load, store, memory_size, memory_grow, memory_copy, memory_fill}
 use Rattle.wa_types.specs.Syntax.{Code, Func, Module, a_block, a_loop, basic, br, br_if, br_table, branch, call, call_indirect, done, local_get, local_set, local_tee, nest, plain, return, unreachable}
 use Rattle.wa_types.specs.Typing.{type_of}
 use Rattle.wa_types.specs.declared.operators.NumOp.{NumOp}
@@ -178,6 +178,10 @@ act_own most memory_grow s [] = tt
 act_own most memory_grow s (V.I64 n ∷ vs) = tt
 act_own most memory_grow s (V.I32 n ∷ []) = grew_own s (grown (record { bytes = s.memory; max = most }) n)
 act_own most memory_grow s (V.I32 n ∷ v ∷ vs) = tt
+act_own most memory_copy s (V.I32 n ∷ V.I32 from ∷ V.I32 to ∷ []) = stored_own s (copied s.memory to from n)
+act_own most memory_copy s _ = tt
+act_own most memory_fill s (V.I32 n ∷ V.I32 v ∷ V.I32 at ∷ []) = stored_own s (filled_with s.memory at (v % 256) n)
+act_own most memory_fill s _ = tt
 
 -- ---- what comes next
 

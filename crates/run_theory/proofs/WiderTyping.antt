@@ -4,7 +4,7 @@ use Rattle.std.specs.Prelude.{slice_get}
 use Rattle.wa_types.specs.declared.values.ValType.{ValType}
 use Rattle.wa_types.specs.declared.values.ValType.TheVariants.{I32}
 use Rattle.wa_types.specs.Accesses.{AccessRow, load_row, store_row}
-use Rattle.wa_types.specs.Syntax.{global_get, global_set, load, store, memory_size, memory_grow, Plain, basic, local_get, local_set, local_tee, return, call, call_indirect, Code, done}
+use Rattle.wa_types.specs.Syntax.{global_get, global_set, load, store, memory_size, memory_grow, memory_copy, memory_fill, Plain, basic, local_get, local_set, local_tee, return, call, call_indirect, Code, done}
 use Rattle.wa_types.specs.Syntax.{plain, nest, branch, FuncType}
 use Rattle.wa_types.specs.Typing.{GlobalType, Around, listed, calls, calls_at, gets, sets, tees, gets_global, sets_global, loads, stores, with_memory, sig, leaves, Takes, label, Types}
 use Rattle.wa_types.specs.Runtime.{test_code, start_code, stop_code, state_code}
@@ -55,6 +55,8 @@ module _ (c d : Around) (w : Wider c d) (ins outs : List ValType) where
   takes_wider ls (basic (store op align offset)) h = stores_wider c.memory align (store_row op) w.memory h
   takes_wider ls (basic memory_size) h = memory_wider c.memory [] (I32 ∷ []) w.memory h
   takes_wider ls (basic memory_grow) h = memory_wider c.memory (I32 ∷ []) (I32 ∷ []) w.memory h
+  takes_wider ls (basic memory_copy) h = memory_wider c.memory (I32 ∷ I32 ∷ I32 ∷ []) [] w.memory h
+  takes_wider ls (basic memory_fill) h = memory_wider c.memory (I32 ∷ I32 ∷ I32 ∷ []) [] w.memory h
   takes_wider ls (local_get x) h = subst (λ xs. Takes (gets (slice_get xs x)) ins outs) (sym w.locals) h
   takes_wider ls (local_set x) h = subst (λ xs. Takes (sets (slice_get xs x)) ins outs) (sym w.locals) h
   takes_wider ls (local_tee x) h = subst (λ xs. Takes (tees (slice_get xs x)) ins outs) (sym w.locals) h

@@ -4,9 +4,9 @@ use Rattle.std.specs.declared.vec.Vec.{Vec}
 use Rattle.std.specs.declared.alloc.Global.{Global}
 use Rattle.wa_types.specs.declared.values.ValType.{ValType}
 use Rattle.wa_types.specs.declared.instrs.Instr.{Instr}
-use Rattle.wa_types.specs.declared.instrs.Instr.TheVariants.{Unreachable, Nop, Drop, Select, Return, MemorySize, MemoryGrow, Const, Num, Br, BrIf, BrTable, Call, CallIndirect, LocalGet}
+use Rattle.wa_types.specs.declared.instrs.Instr.TheVariants.{Unreachable, Nop, Drop, Select, Return, MemorySize, MemoryGrow, MemoryCopy, MemoryFill, Const, Num, Br, BrIf, BrTable, Call, CallIndirect, LocalGet}
 use Rattle.wa_types.specs.declared.instrs.Instr.TheVariants.{LocalSet, LocalTee, GlobalGet, GlobalSet, Load, Store, Block, Loop, If, Block', Loop', If'}
-use Rattle.wa_types.specs.Syntax.{nop, drop as drop_operand, select, const, num, global_get, global_set, load, store, memory_size, memory_grow, Plain, basic, local_get, local_set, local_tee}
+use Rattle.wa_types.specs.Syntax.{nop, drop as drop_operand, select, const, num, global_get, global_set, load, store, memory_size, memory_grow, memory_copy, memory_fill, Plain, basic, local_get, local_set, local_tee}
 use Rattle.wa_types.specs.Syntax.{br, br_if, br_table, return, unreachable, call, call_indirect, a_block, a_loop, Code, done, plain, nest, branch}
 use Rattle.wa_types.specs.View.{code, onto, in_front}
 use Rattle.wa_types.specs.Pruned.{is_last, is_last_instr, pruned}
@@ -66,6 +66,8 @@ as_leaf Select e = leaf (basic select) (λ rest. refl) refl
 as_leaf Return e = leaf return (λ rest. refl) refl
 as_leaf MemorySize e = leaf (basic memory_size) (λ rest. refl) refl
 as_leaf MemoryGrow e = leaf (basic memory_grow) (λ rest. refl) refl
+as_leaf MemoryCopy e = leaf (basic memory_copy) (λ rest. refl) refl
+as_leaf MemoryFill e = leaf (basic memory_fill) (λ rest. refl) refl
 as_leaf (Const v) e = leaf (basic (const v)) (λ rest. refl) refl
 as_leaf (Num op) e = leaf (basic (num op)) (λ rest. refl) refl
 as_leaf (Br l) e = leaf (br l) (λ rest. refl) refl

@@ -53,6 +53,10 @@ pub row_numeric : (op : ℕ) → first_numeric ≤ op → op ≤ last_numeric �
 unfolding follows all_from is
 row_numeric op h k = row (Some no_immediate) first_numeric (suc last_numeric - first_numeric) op h (omega (arith, k)) refl
 
+pub gap_197 : (op : ℕ) → 197 ≤ op → op ≤ 251 → follows op ≡ None
+unfolding follows all_from is
+gap_197 op h k = row None 197 55 op h (omega (arith, k)) refl
+
 pub gap_2 : (op : ℕ) → 2 ≤ op → op ≤ 11 → follows op ≡ None
 unfolding follows all_from is
 gap_2 op h k = row None 2 10 op h (omega (arith, k)) refl

@@ -1,10 +1,10 @@
 -- The goals of the grammar as the code keeps them.
 use Rattle.std.specs.Prelude.{Option, Some, None, List, [], ◌∷◌, ◌++◌, map, reverse}
-use Rattle.wa_types.specs.Begun.{Goal, exact, sections, size, head, until, rest, entries, count, number, name, value_type, block_type, mutable, import_kind, space, limits, signed, name_bytes, float_bytes, code, EntryKind, some_types, some_imports, some_functions, some_tables, some_memories, some_globals, some_exports, some_elements, some_bodies, some_segments, some_value_types, some_runs, some_indices, some_bytes}
+use Rattle.wa_types.specs.Begun.{Goal, exact, sections, size, head, until, rest, entries, count, number, name, value_type, block_type, mutable, import_kind, space, limits, signed, bulk_number, name_bytes, float_bytes, code, EntryKind, some_types, some_imports, some_functions, some_tables, some_memories, some_globals, some_exports, some_elements, some_bodies, some_segments, some_value_types, some_runs, some_indices, some_bytes}
 use Rattle.wasm_grammar.specs.declared.goals.EntryKind.{EntryKind as Counted}
 use Rattle.wasm_grammar.specs.declared.goals.EntryKind.TheVariants.{Types, Imports, Functions, Tables, Memories, Globals, Exports, Elements, Bodies, Segments, ValueTypes, Runs, Indices, Bytes}
 use Rattle.wasm_grammar.specs.declared.goals.Goal.{Goal as Wanted}
-use Rattle.wasm_grammar.specs.declared.goals.Goal.TheVariants.{Exact, Sections, Size, Head, Until, Rest, Entries, Count, Number, Name, ValueType, BlockType, Mutable, ImportKind, Space, Limits, Signed32, Signed64, NameBytes, Float32, Float64, Code}
+use Rattle.wasm_grammar.specs.declared.goals.Goal.TheVariants.{Exact, Sections, Size, Head, Until, Rest, Entries, Count, Number, Name, ValueType, BlockType, Mutable, ImportKind, Space, Limits, Signed32, Signed64, BulkNumber, NameBytes, Float32, Float64, Code}
 
 -- what is counted
 abbrev pub kind_of : Counted → EntryKind
@@ -43,6 +43,7 @@ goal_of Space = space
 goal_of Limits = limits
 goal_of Signed32 = signed 32
 goal_of Signed64 = signed 64
+goal_of BulkNumber = bulk_number
 goal_of (NameBytes n) = name_bytes n.count
 goal_of Float32 = float_bytes 4
 goal_of Float64 = float_bytes 8

@@ -74,6 +74,8 @@ pub enum Goal {
     Limits,
     Signed32,
     Signed64,
+    /// The number of a copy or a fill of memory, and its zero bytes.
+    BulkNumber,
     NameBytes(TextLen),
     Float32,
     Float64,

@@ -39,8 +39,12 @@ pub fn wants(goal: Goal) -> Item
     ensures { item_of result ≡ wants (goal_of goal) }
 {
     match goal {
-        Goal::Size { .. } | Goal::Head { .. } | Goal::Count(_) | Goal::Number | Goal::Name =>
-            Item::Unsigned,
+        Goal::Size { .. }
+        | Goal::Head { .. }
+        | Goal::Count(_)
+        | Goal::Number
+        | Goal::Name
+        | Goal::BulkNumber => Item::Unsigned,
         Goal::Entries(kind, _) => first_of(kind),
         Goal::Signed32 => Item::Signed32,
         Goal::Signed64 => Item::Signed64,

@@ -1,8 +1,9 @@
 //! What comes in the place of a goal behind its item (standard, sections 5.3 to 5.5).
 
-ghost use Rattle.std.specs.Prelude.{◌≡◌, ℕ, ◌<◌, ◌^◌, Some, [], ◌∷◌};
-ghost use Rattle.wa_types.specs.Begun.{next, may_follow, name_of, some_of, others, and_then, entry, where_true, content, behind_flag, behind_kind, behind_opcode, immediates_of, size as size_of};
-ghost use Rattle.wa_types.specs.Opcodes.{within, follows, is_value_type};
+ghost use Rattle.std.specs.Option.{option_map};
+ghost use Rattle.std.specs.Prelude.{◌≡◌, ℕ, ◌<◌, ◌^◌, Some, [], ◌∷◌, map};
+ghost use Rattle.wa_types.specs.Begun.{next, exact, may_follow, name_of, some_of, others, and_then, entry, where_true, content, behind_flag, behind_kind, behind_opcode, immediates_of, size as size_of};
+ghost use Rattle.wa_types.specs.Opcodes.{within, follows, is_value_type, zeros_of};
 ghost use Rattle.wasm_grammar.specs.Forms.{follows_of};
 ghost use Rattle.wasm_grammar.specs.Goals.{goal_of, kind_of, list_of, few_of, new_of};
 
@@ -47,6 +48,7 @@ pub(crate) fn next(goal: Goal, value: u32, at: u64) -> Option<Few>
         Goal::Space => when(value <= 0x03),
         Goal::Limits => behind_flag(value, None),
         Goal::Code { first_arm } => behind_opcode(first_arm, value),
+        Goal::BulkNumber => zeros(value),
         Goal::Number
         | Goal::Signed32
         | Goal::Signed64
@@ -323,5 +325,18 @@ fn immediates_before(shape: ImmediateForm, code: Option<Goal>) -> Few
         ImmediateForm::Constant64 => (Some(Goal::Signed64), None, None, code),
         ImmediateForm::Float4 => (Some(Goal::Float32), None, None, code),
         ImmediateForm::Float8 => (Some(Goal::Float64), None, None, code),
+        ImmediateForm::Bulk => (Some(Goal::BulkNumber), None, None, code),
+    }
+}
+
+// The zero bytes behind the number of a copy or a fill of memory.
+fn zeros(value: u32) -> Option<Few>
+    ensures { new_of result ≡ option_map (map exact) (zeros_of value) }
+{
+    let zero = Some(Goal::Exact(0x00));
+    match value {
+        10 => Some((zero, zero, None, None)),
+        11 => Some((zero, None, None, None)),
+        _ => None,
     }
 }

@@ -27,6 +27,8 @@ pub enum ImmediateForm {
     Float4,
     /// The eight bytes of a float.
     Float8,
+    /// The number of a copy or a fill of memory, and its zero bytes.
+    Bulk,
 }
 
 /// What follows this opcode.
@@ -51,6 +53,7 @@ pub fn immediate_form(op: u8) -> Option<ImmediateForm>
         0x43 => Some(ImmediateForm::Float4),
         0x44 => Some(ImmediateForm::Float8),
         0x45..=LAST_NUMERIC => Some(ImmediateForm::Nothing),
+        0xFC => Some(ImmediateForm::Bulk),
         _ => None,
     }
 }
