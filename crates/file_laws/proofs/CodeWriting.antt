@@ -174,14 +174,14 @@ write_basic memory_grow h at = record { back = 0x00 ∷ []; whole = refl; spelle
 write_basic memory_copy h at = record {
   back = shortest 10 ++ 0x00 ∷ 0x00 ∷ [];
   whole = refl;
-  spelled = (0x00 ∷ 0x00 ∷ [], refl, (shortest 10, 0x00 ∷ 0x00 ∷ [], refl, shortest_spells 10 (omega arith), refl));
+  spelled = (shortest 10, 0x00 ∷ 0x00 ∷ [], refl, shortest_spells 10 (omega arith), refl);
   follows = refl;
   kind = tt;
 }
 write_basic memory_fill h at = record {
   back = shortest 11 ++ 0x00 ∷ [];
   whole = refl;
-  spelled = (0x00 ∷ [], refl, (shortest 11, 0x00 ∷ [], refl, shortest_spells 11 (omega arith), refl));
+  spelled = (shortest 11, 0x00 ∷ [], refl, shortest_spells 11 (omega arith), refl);
   follows = refl;
   kind = tt;
 }

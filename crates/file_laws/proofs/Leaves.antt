@@ -220,7 +220,7 @@ reads_bytes (z ∷ zs) = reads_as (map exact (z ∷ zs)) (Exactly (z ∷ []) ▸
 
 -- what stands behind such a number
 abbrev Zeros : ℕ → ℕ → List ℕ → Type 0
-Zeros v at bytes = (zs : List ℕ) × (zeros_of v ≡ Some zs) × (bytes ≡ zs)
+Zeros v at bytes = zeros_of v ≡ Some bytes
 
 no_zeros : (o : Option (List ℕ)) (zs : List ℕ) → o ≡ None → o ≡ Some zs → ⊥
 no_zeros o zs e f = cc
@@ -231,16 +231,16 @@ same_zeros o zs ys e f = cc
 next_zeros : (v : ℕ) → ReadsNext (option_map (map exact) (zeros_of v)) (Zeros v)
 next_zeros v = by_zeros (zeros_of v) refl where
   by_zeros : (o : Option (List ℕ)) → zeros_of v ≡ o → ReadsNext (option_map (map exact) o) (Zeros v)
-  by_zeros None e = λ at bytes h. no_zeros (zeros_of v) h.0 e h.1
-  by_zeros (Some zs) e = reads_as (map exact zs) (Exactly zs) (Zeros v) (λ at a h. (zs, e, h)) (λ at a h. h.2 ∙ same_zeros (zeros_of v) zs h.0 e h.1) (reads_bytes zs)
+  by_zeros None e = λ at bytes h. no_zeros (zeros_of v) bytes e h
+  by_zeros (Some zs) e = reads_as (map exact zs) (Exactly zs) (Zeros v) (λ at a h. e ∙ ap (λ z. Some z) (sym h)) (λ at a h. same_zeros (zeros_of v) zs a e h) (reads_bytes zs)
 
 pub reads_bulk : Reads (bulk_number ∷ []) (Any (λ n. ImmediatesOf (bulk n)))
 unfolding next
 reads_bulk = reads_as _ (Begins an_unsigned (λ v k. Zeros v)) (Any (λ n. ImmediatesOf (bulk n)))
-    (λ at a b. (b.value, (b.follows.0, b.follows.1, (b.front, b.back, b.whole, b.is_item, b.follows.2))))
+    (λ at a b. (b.value, (b.front, b.back, b.whole, b.is_item, b.follows)))
     (λ at a h.
-    let t = h.1.2 in
-    record { front = t.0; back = t.1; value = h.0; whole = t.2; is_item = t.3; follows = (h.1.0, h.1.1, t.4) })
+    let t = h.1 in
+    record { front = t.0; back = t.1; value = h.0; whole = t.2; is_item = t.3; follows = t.4 })
     (reads_first bulk_number (λ v k. Zeros v) refl refl (λ v k. next_zeros v))
 
 -- behind the byte of an import's kind

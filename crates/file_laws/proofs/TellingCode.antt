@@ -87,8 +87,8 @@ module _ (b : ModuleBounds) (last : ℕ) where
   -- its number, and its zero bytes
   gives_bulk : (more : List Goal) (n : ℕ) → Gives b last (bulk_number ∷ more) more (ImmediatesOf (bulk n)) nothing_seen
   gives_bulk more n at a c t h k =
-      gives_then b last (bulk_number ∷ more) (map exact h.0 ++ more) more (Number n) (Exactly h.0) nothing_seen nothing_seen (gives_bulk_number more n h.0 h.1) (gives_bytes more h.0)
-      at a c t h.2 k
+      gives_then b last (bulk_number ∷ more) (map exact h.1 ++ more) more (Number n) (Exactly h.1) nothing_seen nothing_seen (gives_bulk_number more n h.1 h.4) (gives_bytes more h.1)
+      at a c t (h.0, h.1, h.2, h.3, refl) k
 
   gives_operands : (o : Immediates) (op : ℕ) (more : List Goal) → follows op ≡ Some (form o) → Gives b last (immediates (form o) ++ more) more (ImmediatesOf o) nothing_seen
   unfolding HasBytes

@@ -41,12 +41,10 @@ one_operands (float x) (float y) at a b c d n h k e =
       float_size : form (float x) ≡ form (float y) → length x ≡ length y
       float_size p = cc
 one_operands (bulk x) (bulk y) at a b c d n h k e =
-    let s = h.2 in
-    let t = k.2 in
-    let cut : s.0 ++ (s.1 ++ b) ≡ t.0 ++ (t.1 ++ d) = sym (append_assoc s.0 s.1 b) ∙ ap (λ z. z ++ b) (sym s.2) ∙ e ∙ ap (λ z. z ++ d) t.2 ∙ append_assoc t.0 t.1 d in
-    let o = one_number x y at s.0 (s.1 ++ b) t.0 (t.1 ++ d) s.3 t.3 cut in
-    let zeros : h.0 ≡ k.0 = same_zeros (zeros_of x) (zeros_of y) h.0 k.0 h.1 k.1 (ap zeros_of o.value) in
-    record { value = ap (λ z. bulk z) o.value; front = s.2 ∙ ap (λ z. z ++ s.1) o.front ∙ ap (λ z. t.0 ++ z) (s.4 ∙ zeros ∙ sym t.4) ∙ sym t.2 }
+    let cut : h.0 ++ (h.1 ++ b) ≡ k.0 ++ (k.1 ++ d) = sym (append_assoc h.0 h.1 b) ∙ ap (λ z. z ++ b) (sym h.2) ∙ e ∙ ap (λ z. z ++ d) k.2 ∙ append_assoc k.0 k.1 d in
+    let o = one_number x y at h.0 (h.1 ++ b) k.0 (k.1 ++ d) h.3 k.3 cut in
+    let zeros = same_zeros (zeros_of x) (zeros_of y) h.1 k.1 h.4 k.4 (ap zeros_of o.value) in
+    record { value = ap (λ z. bulk z) o.value; front = h.2 ∙ ap (λ z. z ++ h.1) o.front ∙ ap (λ z. k.0 ++ z) zeros ∙ sym k.2 }
 one_operands nothing _ at a b c d n h k e = absurd (cc)
 one_operands zero_byte _ at a b c d n h k e = absurd (cc)
 one_operands (index x) _ at a b c d n h k e = absurd (cc)

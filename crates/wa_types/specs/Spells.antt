@@ -95,7 +95,7 @@ ImmediatesOf (access align offset) = Number align ▸ Number offset
 ImmediatesOf (labels targets last) = Vector Number targets ▸ Number last
 ImmediatesOf (constant bits n) = SignedNumber bits n
 ImmediatesOf (float bytes) = Exactly bytes
-ImmediatesOf (bulk n) at bytes = (zeros : List ℕ) × (zeros_of n ≡ Some zeros) × (Number n ▸ Exactly zeros) at bytes
+ImmediatesOf (bulk n) = Number n ▸ (λ at bytes. zeros_of n ≡ Some bytes)
 
 -- instructions up to their end; an else stands only in the first arm of an if (5.4.1, 5.4.6)
 abbrev pub CodeOf : (first_arm : Bool) → RawCode → ℕ → List ℕ → Type 0

@@ -6,7 +6,7 @@ use Rattle.wa_types.specs.declared.values.Value.TheVariants.{I32 as value_32, I6
 use Rattle.wa_types.specs.declared.operators.NumOp.{NumOp}
 use Rattle.wa_types.specs.Operators.{opcode_of}
 use Rattle.wa_types.specs.Binary.{nothing, zero_byte, index, access}
-use Rattle.wa_types.specs.Syntax.{nop, drop, select, const, num, global_get, global_set, load, store, memory_size, memory_grow, Plain, basic, local_get, local_set, local_tee, br, br_if, br_table, return, unreachable, call, call_indirect, done, plain}
+use Rattle.wa_types.specs.Syntax.{nop, drop, select, const, num, global_get, global_set, load, store, memory_size, memory_grow, memory_copy, memory_fill, Plain, basic, local_get, local_set, local_tee, br, br_if, br_table, return, unreachable, call, call_indirect, done, plain}
 use Rattle.wa_types.specs.View.{in_front}
 use Rattle.wa_types.specs.Reading.{HasKind}
 use Rattle.wa_types.specs.Opcodes.{plain_immediates, plain_opcode}
@@ -37,6 +37,8 @@ index_again (basic (load op align offset)) x e = absurd (cc)
 index_again (basic (store op align offset)) x e = absurd (cc)
 index_again (basic memory_size) x e = absurd (cc)
 index_again (basic memory_grow) x e = absurd (cc)
+index_again (basic memory_copy) x e = absurd (cc)
+index_again (basic memory_fill) x e = absurd (cc)
 index_again (local_get y) x e = ap (λ k. local_get k) (sym (index_same y x e))
 index_again (local_set y) x e = ap (λ k. local_set k) (sym (index_same y x e))
 index_again (local_tee y) x e = ap (λ k. local_tee k) (sym (index_same y x e))
@@ -70,6 +72,8 @@ simple_again (basic (load op align offset)) h e = absurd (cc)
 simple_again (basic (store op align offset)) h e = absurd (cc)
 simple_again (basic memory_size) h e = absurd (cc)
 simple_again (basic memory_grow) h e = absurd (cc)
+simple_again (basic memory_copy) h e = absurd (cc)
+simple_again (basic memory_fill) h e = absurd (cc)
 simple_again (local_get y) h e = absurd (cc)
 simple_again (local_set y) h e = absurd (cc)
 simple_again (local_tee y) h e = absurd (cc)
@@ -110,6 +114,8 @@ named_load op a o small (basic (load n align offset)) h e f = let g = access_sam
 named_load op a o small (basic (store n align offset)) h e f = absurd (omega (arith, small, e, (store_range n h).0))
 named_load op a o small (basic memory_size) h e f = absurd (cc)
 named_load op a o small (basic memory_grow) h e f = absurd (cc)
+named_load op a o small (basic memory_copy) h e f = absurd (cc)
+named_load op a o small (basic memory_fill) h e f = absurd (cc)
 named_load op a o small (local_get y) h e f = absurd (cc)
 named_load op a o small (local_set y) h e f = absurd (cc)
 named_load op a o small (local_tee y) h e f = absurd (cc)
@@ -135,6 +141,8 @@ named_store op a o big (basic (load n align offset)) h e f = absurd (omega (arit
 named_store op a o big (basic (store n align offset)) h e f = let g = access_same align offset a o f in λ i. plain (basic (store (e i) (sym g.0 i) (sym g.1 i))) done
 named_store op a o big (basic memory_size) h e f = absurd (cc)
 named_store op a o big (basic memory_grow) h e f = absurd (cc)
+named_store op a o big (basic memory_copy) h e f = absurd (cc)
+named_store op a o big (basic memory_fill) h e f = absurd (cc)
 named_store op a o big (local_get y) h e f = absurd (cc)
 named_store op a o big (local_set y) h e f = absurd (cc)
 named_store op a o big (local_tee y) h e f = absurd (cc)
@@ -165,6 +173,8 @@ named_size op (basic (load n align offset)) a e f = absurd (cc)
 named_size op (basic (store n align offset)) a e f = absurd (cc)
 named_size op (basic memory_size) a e f = refl
 named_size op (basic memory_grow) a e f = absurd (omega (arith, a, e))
+named_size op (basic memory_copy) a e f = absurd (omega (arith, a, e))
+named_size op (basic memory_fill) a e f = absurd (omega (arith, a, e))
 named_size op (local_get y) a e f = absurd (cc)
 named_size op (local_set y) a e f = absurd (cc)
 named_size op (local_tee y) a e f = absurd (cc)
@@ -189,6 +199,8 @@ named_grow op (basic (load n align offset)) a e f = absurd (cc)
 named_grow op (basic (store n align offset)) a e f = absurd (cc)
 named_grow op (basic memory_size) a e f = absurd (a e)
 named_grow op (basic memory_grow) a e f = refl
+named_grow op (basic memory_copy) a e f = absurd (cc)
+named_grow op (basic memory_fill) a e f = absurd (cc)
 named_grow op (local_get y) a e f = absurd (cc)
 named_grow op (local_set y) a e f = absurd (cc)
 named_grow op (local_tee y) a e f = absurd (cc)

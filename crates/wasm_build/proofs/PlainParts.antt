@@ -1,15 +1,16 @@
 -- What follows an opcode is read.
 use Rattle.std.proofs.Common.{◌≡◌, ℕ, List, [], ◌∷◌, map, Bool, Option, Some, None, Result, Ok, Err, refl, ap, sym, ◌∙◌, subst, arith, append-nil}
+use Rattle.std.proofs.lemmas.Bool.{ne_eqb}
 use Rattle.std.specs.declared.vec.Vec.{Vec}
 use Rattle.std.specs.declared.alloc.Global.{Global}
 use Rattle.wa_types.specs.declared.instrs.Instr.{Instr}
-use Rattle.wa_types.specs.declared.instrs.Instr.TheVariants.{Const, BrTable, CallIndirect}
+use Rattle.wa_types.specs.declared.instrs.Instr.TheVariants.{Const, BrTable, CallIndirect, MemoryCopy, MemoryFill}
 use Rattle.wa_types.specs.declared.values.Value.TheVariants.{I32 as value_32, I64 as value_64}
 use Rattle.leb_numbers.specs.Leb.{IsUnsigned, IsSigned}
-use Rattle.wa_types.specs.Binary.{Immediates, nothing, zero_byte, index, index_and_zero, access, labels, constant, float}
-use Rattle.wa_types.specs.Opcodes.{Form, follows, form, no_immediate, a_zero, an_index, an_index_and_zero, an_access, some_labels, a_constant, a_float, plain_immediates}
+use Rattle.wa_types.specs.Binary.{Immediates, nothing, zero_byte, index, index_and_zero, access, labels, constant, float, bulk}
+use Rattle.wa_types.specs.Opcodes.{Form, follows, form, no_immediate, a_zero, an_index, an_index_and_zero, an_access, some_labels, a_bulk, a_constant, a_float, zeros_of, plain_immediates}
 use Rattle.wa_types.specs.Spells.{◌▸◌, Exactly, Number, SignedNumber, Vector, ImmediatesOf}
-use Rattle.wa_types.specs.Syntax.{nop, drop, select, const, num, global_get, global_set, load, store, memory_size, memory_grow, Plain, basic, local_get, local_set, local_tee, br, br_if, br_table, return, unreachable, call, call_indirect, Code, done, plain}
+use Rattle.wa_types.specs.Syntax.{nop, drop, select, const, num, global_get, global_set, load, store, memory_size, memory_grow, memory_copy, memory_fill, Plain, basic, local_get, local_set, local_tee, br, br_if, br_table, return, unreachable, call, call_indirect, Code, done, plain}
 use Rattle.wa_types.specs.View.{in_front}
 use Rattle.wasm_build.specs.declared.build_types.BuildFault.{BuildFault}
 use Rattle.wasm_build.specs.declared.build_types.BuildFault.TheVariants.{Memory}
@@ -37,6 +38,7 @@ x_in (index x) = x
 x_in (index_and_zero x) = x
 x_in (constant bits n) = n
 x_in (labels targets last) = last
+x_in (bulk n) = n
 x_in _ = 0
 
 abbrev pub align_in : Immediates → ℕ
@@ -91,6 +93,7 @@ nothing_so (access align offset) at bytes e h = absurd (cc)
 nothing_so (labels targets last) at bytes e h = absurd (cc)
 nothing_so (constant bits n) at bytes e h = absurd (cc)
 nothing_so (float fs) at bytes e h = absurd (cc)
+nothing_so (bulk n) at bytes e h = absurd (cc)
 
 nothing_are : (o : Immediates) → form o ≡ no_immediate → o ≡ nothing
 nothing_are nothing e = refl
@@ -101,6 +104,7 @@ nothing_are (access align offset) e = absurd (cc)
 nothing_are (labels targets last) e = absurd (cc)
 nothing_are (constant bits n) e = absurd (cc)
 nothing_are (float bytes) e = absurd (cc)
+nothing_are (bulk n) e = absurd (cc)
 
 zero_so : (o : Immediates) (at : ℕ) (bytes : List ℕ) → form o ≡ a_zero → ImmediatesOf o at bytes → (Exactly (0x00 ∷ []) ▸ Exactly []) at bytes
 zero_so nothing at bytes e h = absurd (cc)
@@ -111,6 +115,7 @@ zero_so (access align offset) at bytes e h = absurd (cc)
 zero_so (labels targets last) at bytes e h = absurd (cc)
 zero_so (constant bits n) at bytes e h = absurd (cc)
 zero_so (float fs) at bytes e h = absurd (cc)
+zero_so (bulk n) at bytes e h = absurd (cc)
 
 zero_are : (o : Immediates) → form o ≡ a_zero → o ≡ zero_byte
 zero_are nothing e = absurd (cc)
@@ -121,6 +126,7 @@ zero_are (access align offset) e = absurd (cc)
 zero_are (labels targets last) e = absurd (cc)
 zero_are (constant bits n) e = absurd (cc)
 zero_are (float bytes) e = absurd (cc)
+zero_are (bulk n) e = absurd (cc)
 
 index_so : (o : Immediates) (at : ℕ) (bytes : List ℕ) → form o ≡ an_index → ImmediatesOf o at bytes → (Number (x_in o)) at bytes
 index_so nothing at bytes e h = absurd (cc)
@@ -131,6 +137,7 @@ index_so (access align offset) at bytes e h = absurd (cc)
 index_so (labels targets last) at bytes e h = absurd (cc)
 index_so (constant bits n) at bytes e h = absurd (cc)
 index_so (float fs) at bytes e h = absurd (cc)
+index_so (bulk n) at bytes e h = absurd (cc)
 
 index_are : (o : Immediates) → form o ≡ an_index → o ≡ index (x_in o)
 index_are nothing e = absurd (cc)
@@ -141,6 +148,7 @@ index_are (access align offset) e = absurd (cc)
 index_are (labels targets last) e = absurd (cc)
 index_are (constant bits n) e = absurd (cc)
 index_are (float bytes) e = absurd (cc)
+index_are (bulk n) e = absurd (cc)
 
 both_so : (o : Immediates) (at : ℕ) (bytes : List ℕ) → form o ≡ an_index_and_zero → ImmediatesOf o at bytes → (Number (x_in o) ▸ (Exactly (0x00 ∷ []) ▸ Exactly [])) at bytes
 both_so nothing at bytes e h = absurd (cc)
@@ -151,6 +159,7 @@ both_so (access align offset) at bytes e h = absurd (cc)
 both_so (labels targets last) at bytes e h = absurd (cc)
 both_so (constant bits n) at bytes e h = absurd (cc)
 both_so (float fs) at bytes e h = absurd (cc)
+both_so (bulk n) at bytes e h = absurd (cc)
 
 both_are : (o : Immediates) → form o ≡ an_index_and_zero → o ≡ index_and_zero (x_in o)
 both_are nothing e = absurd (cc)
@@ -161,6 +170,7 @@ both_are (access align offset) e = absurd (cc)
 both_are (labels targets last) e = absurd (cc)
 both_are (constant bits n) e = absurd (cc)
 both_are (float bytes) e = absurd (cc)
+both_are (bulk n) e = absurd (cc)
 
 access_so : (o : Immediates) (at : ℕ) (bytes : List ℕ) → form o ≡ an_access → ImmediatesOf o at bytes → (Number (align_in o) ▸ Number (offset_in o)) at bytes
 access_so nothing at bytes e h = absurd (cc)
@@ -171,6 +181,7 @@ access_so (access align offset) at bytes e h = h
 access_so (labels targets last) at bytes e h = absurd (cc)
 access_so (constant bits n) at bytes e h = absurd (cc)
 access_so (float fs) at bytes e h = absurd (cc)
+access_so (bulk n) at bytes e h = absurd (cc)
 
 access_are : (o : Immediates) → form o ≡ an_access → o ≡ access (align_in o) (offset_in o)
 access_are nothing e = absurd (cc)
@@ -181,6 +192,7 @@ access_are (access align offset) e = refl
 access_are (labels targets last) e = absurd (cc)
 access_are (constant bits n) e = absurd (cc)
 access_are (float bytes) e = absurd (cc)
+access_are (bulk n) e = absurd (cc)
 
 labels_so : (o : Immediates) (at : ℕ) (bytes : List ℕ) → form o ≡ some_labels → ImmediatesOf o at bytes → (Vector Number (targets_in o) ▸ Number (x_in o)) at bytes
 labels_so nothing at bytes e h = absurd (cc)
@@ -191,6 +203,7 @@ labels_so (access align offset) at bytes e h = absurd (cc)
 labels_so (labels targets last) at bytes e h = h
 labels_so (constant bits n) at bytes e h = absurd (cc)
 labels_so (float fs) at bytes e h = absurd (cc)
+labels_so (bulk n) at bytes e h = absurd (cc)
 
 labels_are : (o : Immediates) → form o ≡ some_labels → o ≡ labels (targets_in o) (x_in o)
 labels_are nothing e = absurd (cc)
@@ -201,6 +214,7 @@ labels_are (access align offset) e = absurd (cc)
 labels_are (labels targets last) e = refl
 labels_are (constant bits n) e = absurd (cc)
 labels_are (float bytes) e = absurd (cc)
+labels_are (bulk n) e = absurd (cc)
 
 constant_so : (o : Immediates) (bits : ℕ) (at : ℕ) (bytes : List ℕ) → form o ≡ a_constant bits → ImmediatesOf o at bytes → (SignedNumber bits (x_in o)) at bytes
 constant_so nothing bits at bytes e h = absurd (cc)
@@ -211,6 +225,7 @@ constant_so (access align offset) bits at bytes e h = absurd (cc)
 constant_so (labels targets last) bits at bytes e h = absurd (cc)
 constant_so (constant width n) bits at bytes e h = subst (λ w. SignedNumber w n at bytes) (width_same width bits e) h
 constant_so (float fs) bits at bytes e h = absurd (cc)
+constant_so (bulk n) bits at bytes e h = absurd (cc)
 
 constant_are : (o : Immediates) (bits : ℕ) → form o ≡ a_constant bits → o ≡ constant bits (x_in o)
 constant_are nothing bits e = absurd (cc)
@@ -221,6 +236,7 @@ constant_are (access align offset) bits e = absurd (cc)
 constant_are (labels targets last) bits e = absurd (cc)
 constant_are (constant width n) bits e = ap (λ w. constant w n) (width_same width bits e)
 constant_are (float bytes) bits e = absurd (cc)
+constant_are (bulk n) bits e = absurd (cc)
 
 pub nothing_start : (op : ℕ) (old : Place) → follows op ≡ Some no_immediate → At (SpelledPlain op) old (λ c. Exactly []) (Followed op no_immediate) old
 nothing_start op old e = turn (λ c. Exactly []) (λ c at bytes k h. nothing_so (operands_in c) at bytes k.shape_is h) (operands_start op no_immediate old e)
@@ -305,6 +321,8 @@ call_is (basic (load n align offset)) x e = absurd (cc)
 call_is (basic (store n align offset)) x e = absurd (cc)
 call_is (basic memory_size) x e = absurd (cc)
 call_is (basic memory_grow) x e = absurd (cc)
+call_is (basic memory_copy) x e = absurd (cc)
+call_is (basic memory_fill) x e = absurd (cc)
 call_is (local_get y) x e = absurd (cc)
 call_is (local_set y) x e = absurd (cc)
 call_is (local_tee y) x e = absurd (cc)
@@ -341,6 +359,8 @@ table_is (basic (load n align offset)) v x e = absurd (cc)
 table_is (basic (store n align offset)) v x e = absurd (cc)
 table_is (basic memory_size) v x e = absurd (cc)
 table_is (basic memory_grow) v x e = absurd (cc)
+table_is (basic memory_copy) v x e = absurd (cc)
+table_is (basic memory_fill) v x e = absurd (cc)
 table_is (local_get y) v x e = absurd (cc)
 table_is (local_set y) v x e = absurd (cc)
 table_is (local_tee y) v x e = absurd (cc)
@@ -384,6 +404,8 @@ const_32_is (basic (load w align offset)) n e = absurd (cc)
 const_32_is (basic (store w align offset)) n e = absurd (cc)
 const_32_is (basic memory_size) n e = absurd (cc)
 const_32_is (basic memory_grow) n e = absurd (cc)
+const_32_is (basic memory_copy) n e = absurd (cc)
+const_32_is (basic memory_fill) n e = absurd (cc)
 const_32_is (local_get y) n e = absurd (cc)
 const_32_is (local_set y) n e = absurd (cc)
 const_32_is (local_tee y) n e = absurd (cc)
@@ -417,6 +439,8 @@ const_64_is (basic (load w align offset)) n e = absurd (cc)
 const_64_is (basic (store w align offset)) n e = absurd (cc)
 const_64_is (basic memory_size) n e = absurd (cc)
 const_64_is (basic memory_grow) n e = absurd (cc)
+const_64_is (basic memory_copy) n e = absurd (cc)
+const_64_is (basic memory_fill) n e = absurd (cc)
 const_64_is (local_get y) n e = absurd (cc)
 const_64_is (local_set y) n e = absurd (cc)
 const_64_is (local_tee y) n e = absurd (cc)
@@ -436,6 +460,151 @@ const_64_built op n old new e m = by_found op (Some (Const (value_64 n))) (Ok (C
     let g = number_is (IsSigned 64) n old new more end (x_in (operands_in c)) m (s.ahead more c end b) in
     (k.instr, k.code_is, const_64_is k.instr n (k.operands_are ∙ constant_are (operands_in c) 64 k.shape_is ∙ ap (constant 64) (sym g.0)), g.1))
 
+-- ---- a copy or a fill of memory
+
+-- the zero bytes behind this number
+abbrev Zeros : ℕ → ℕ → List ℕ → Type 0
+Zeros n at bytes = zeros_of n ≡ Some bytes
+
+bulk_so : (o : Immediates) (at : ℕ) (bytes : List ℕ) → form o ≡ a_bulk → ImmediatesOf o at bytes → (Number (x_in o) ▸ Zeros (x_in o)) at bytes
+bulk_so nothing at bytes e h = absurd (cc)
+bulk_so zero_byte at bytes e h = absurd (cc)
+bulk_so (index x) at bytes e h = absurd (cc)
+bulk_so (index_and_zero x) at bytes e h = absurd (cc)
+bulk_so (access align offset) at bytes e h = absurd (cc)
+bulk_so (labels targets last) at bytes e h = absurd (cc)
+bulk_so (constant bits n) at bytes e h = absurd (cc)
+bulk_so (float fs) at bytes e h = absurd (cc)
+bulk_so (bulk n) at bytes e h = h
+
+bulk_are : (o : Immediates) → form o ≡ a_bulk → o ≡ bulk (x_in o)
+bulk_are nothing e = absurd (cc)
+bulk_are zero_byte e = absurd (cc)
+bulk_are (index x) e = absurd (cc)
+bulk_are (index_and_zero x) e = absurd (cc)
+bulk_are (access align offset) e = absurd (cc)
+bulk_are (labels targets last) e = absurd (cc)
+bulk_are (constant bits n) e = absurd (cc)
+bulk_are (float fs) e = absurd (cc)
+bulk_are (bulk n) e = refl
+
+pub bulk_start : (op : ℕ) (old : Place) → follows op ≡ Some a_bulk → At (SpelledPlain op) old (λ c. Number (x_in (operands_in c)) ▸ Zeros (x_in (operands_in c))) (Followed op a_bulk) old
+bulk_start op old e = turn (λ c. Number (x_in (operands_in c)) ▸ Zeros (x_in (operands_in c))) (λ c at bytes k h. bulk_so (operands_in c) at bytes k.shape_is h) (operands_start op a_bulk old e)
+
+-- what is known behind the number
+abbrev Numbered : (op n : ℕ) → Code → Type 0
+Numbered op n c = Followed op a_bulk c × (n ≡ x_in (operands_in c))
+
+bulk_number : (op n : ℕ) (old new : Place) → follows op ≡ Some a_bulk → ReadsNumber (IsUnsigned 32) (Ok n) old new → At (SpelledPlain op) old (λ c. Zeros (x_in (operands_in c))) (Numbered op n) new
+bulk_number op n old new e r = step_number (λ c. x_in (operands_in c)) (λ c. Zeros (x_in (operands_in c))) r (bulk_start op old e)
+
+same_zeros : (o p : Option (List ℕ)) (zs ys : List ℕ) → o ≡ p → o ≡ Some zs → p ≡ Some ys → ys ≡ zs
+same_zeros o p zs ys e f g = cc
+
+-- so many zero bytes behind it
+zeros_are : (n x at : ℕ) (zs bytes : List ℕ) → zeros_of n ≡ Some zs → n ≡ x → Zeros x at bytes → bytes ≡ zs
+zeros_are n x at zs bytes e f h = same_zeros (zeros_of n) (zeros_of x) zs bytes (ap zeros_of f) e h
+
+pub copy_start : (op n : ℕ) (old new : Place) → follows op ≡ Some a_bulk → ReadsNumber (IsUnsigned 32) (Ok n) old new → n ≡ 10
+    → At (SpelledPlain op) old (λ c. Exactly (0x00 ∷ []) ▸ (Exactly (0x00 ∷ []) ▸ Exactly [])) (Numbered op n) new
+copy_start op n old new e r is = turn (λ c. Exactly (0x00 ∷ []) ▸ (Exactly (0x00 ∷ []) ▸ Exactly []))
+    (λ c at bytes k h. (0x00 ∷ [], 0x00 ∷ [], zeros_are n (x_in (operands_in c)) at (0x00 ∷ 0x00 ∷ []) bytes (ap zeros_of is) k.1 h, refl, (0x00 ∷ [], [], refl, refl, refl)))
+    (bulk_number op n old new e r)
+
+pub fill_start : (op n : ℕ) (old new : Place) → follows op ≡ Some a_bulk → ReadsNumber (IsUnsigned 32) (Ok n) old new → n ≡ 11
+    → At (SpelledPlain op) old (λ c. Exactly (0x00 ∷ []) ▸ Exactly []) (Numbered op n) new
+fill_start op n old new e r is = turn (λ c. Exactly (0x00 ∷ []) ▸ Exactly [])
+    (λ c at bytes k h. (0x00 ∷ [], [], zeros_are n (x_in (operands_in c)) at (0x00 ∷ []) bytes (ap zeros_of is) k.1 h, refl, refl))
+    (bulk_number op n old new e r)
+
+ten_no_eleven : bulk 11 ≡ bulk 10 → ⊥
+ten_no_eleven e = let f : 11 ≡ 10 = cc in omega (arith, f)
+
+copy_is : (p : Plain) → plain_immediates p ≡ bulk 10 → code_of_one MemoryCopy ≡ plain p done
+unfolding in_front
+copy_is (basic nop) e = absurd (cc)
+copy_is (basic drop) e = absurd (cc)
+copy_is (basic select) e = absurd (cc)
+copy_is (basic (const (value_32 n))) e = absurd (cc)
+copy_is (basic (const (value_64 n))) e = absurd (cc)
+copy_is (basic (num m)) e = absurd (cc)
+copy_is (basic (global_get y)) e = absurd (cc)
+copy_is (basic (global_set y)) e = absurd (cc)
+copy_is (basic (load n align offset)) e = absurd (cc)
+copy_is (basic (store n align offset)) e = absurd (cc)
+copy_is (basic memory_size) e = absurd (cc)
+copy_is (basic memory_grow) e = absurd (cc)
+copy_is (basic memory_copy) e = refl
+copy_is (basic memory_fill) e = absurd (ten_no_eleven e)
+copy_is (local_get y) e = absurd (cc)
+copy_is (local_set y) e = absurd (cc)
+copy_is (local_tee y) e = absurd (cc)
+copy_is (br y) e = absurd (cc)
+copy_is (br_if y) e = absurd (cc)
+copy_is (br_table targets l) e = absurd (cc)
+copy_is return e = absurd (cc)
+copy_is unreachable e = absurd (cc)
+copy_is (call y) e = absurd (cc)
+copy_is (call_indirect y) e = absurd (cc)
+
+fill_is : (p : Plain) → plain_immediates p ≡ bulk 11 → code_of_one MemoryFill ≡ plain p done
+unfolding in_front
+fill_is (basic nop) e = absurd (cc)
+fill_is (basic drop) e = absurd (cc)
+fill_is (basic select) e = absurd (cc)
+fill_is (basic (const (value_32 n))) e = absurd (cc)
+fill_is (basic (const (value_64 n))) e = absurd (cc)
+fill_is (basic (num m)) e = absurd (cc)
+fill_is (basic (global_get y)) e = absurd (cc)
+fill_is (basic (global_set y)) e = absurd (cc)
+fill_is (basic (load n align offset)) e = absurd (cc)
+fill_is (basic (store n align offset)) e = absurd (cc)
+fill_is (basic memory_size) e = absurd (cc)
+fill_is (basic memory_grow) e = absurd (cc)
+fill_is (basic memory_copy) e = absurd (ten_no_eleven (sym e))
+fill_is (basic memory_fill) e = refl
+fill_is (local_get y) e = absurd (cc)
+fill_is (local_set y) e = absurd (cc)
+fill_is (local_tee y) e = absurd (cc)
+fill_is (br y) e = absurd (cc)
+fill_is (br_if y) e = absurd (cc)
+fill_is (br_table targets l) e = absurd (cc)
+fill_is return e = absurd (cc)
+fill_is unreachable e = absurd (cc)
+fill_is (call y) e = absurd (cc)
+fill_is (call_indirect y) e = absurd (cc)
+
+bulk_named : (op n k : ℕ) (c : Code) → Numbered op n c → n ≡ k → (p : Plain) × (c ≡ plain p done) × (plain_immediates p ≡ bulk k)
+bulk_named op n k c w is = (w.0.instr, w.0.code_is, w.0.operands_are ∙ bulk_are (operands_in c) w.0.shape_is ∙ ap bulk (sym w.1 ∙ is))
+
+pub copy_built : (op n : ℕ) (u v : Unit {0}) (old first second new : Place) → follows op ≡ Some a_bulk → ReadsNumber (IsUnsigned 32) (Ok n) old first → n ≡ 10
+    → Passes (Exactly (0x00 ∷ [])) (Ok u) first second → Passes (Exactly (0x00 ∷ [])) (Ok v) second new → Builds code_of_one (SpelledPlain op) (Ok MemoryCopy) old new
+copy_built op n u v old first second new e r is a b = by_found op (Some MemoryCopy) (Ok MemoryCopy) old new refl (λ more c end w.
+    let s = step_passed (λ c. Exactly []) b (step_passed (λ c. Exactly (0x00 ∷ []) ▸ Exactly []) a (copy_start op n old first e r is)) in
+    let k = bulk_named op n 10 c (s.known more c end w) is in
+    (k.0, k.1, copy_is k.0 k.2, nothing_between (with_more new more) end (s.ahead more c end w)))
+
+pub fill_built : (op n : ℕ) (u : Unit {0}) (old first new : Place) → follows op ≡ Some a_bulk → ReadsNumber (IsUnsigned 32) (Ok n) old first → n ≡ 11
+    → Passes (Exactly (0x00 ∷ [])) (Ok u) first new → Builds code_of_one (SpelledPlain op) (Ok MemoryFill) old new
+fill_built op n u old first new e r is a = by_found op (Some MemoryFill) (Ok MemoryFill) old new refl (λ more c end w.
+    let s = step_passed (λ c. Exactly []) a (fill_start op n old first e r is) in
+    let k = bulk_named op n 11 c (s.known more c end w) is in
+    (k.0, k.1, fill_is k.0 k.2, nothing_between (with_more new more) end (s.ahead more c end w)))
+
+no_zeros : (n : ℕ) → (n ≡ 10 → ⊥) → (n ≡ 11 → ⊥) → zeros_of n ≡ None
+no_zeros n a b = rw (ne_eqb n 10 a, ne_eqb n 11 b) refl
+
+some_no_zeros : (o p : Option (List ℕ)) (zs : List ℕ) → o ≡ p → o ≡ None → p ≡ Some zs → ⊥
+some_no_zeros o p zs e f g = cc
+
+-- no other number is one
+pub never_bulk : (op n : ℕ) (d : BuildFault) (old new last : Place) → follows op ≡ Some a_bulk → ReadsNumber (IsUnsigned 32) (Ok n) old new → (n ≡ 10 → ⊥) → (n ≡ 11 → ⊥)
+    → Builds code_of_one (SpelledPlain op) (Err d) old last
+never_bulk op n d old new last e r a b = never refl (λ more c end w none.
+    let s = bulk_number op n old new e r in
+    let k = s.known more c end w in
+    some_no_zeros (zeros_of n) (zeros_of (x_in (operands_in c))) _ (ap zeros_of k.1) (no_zeros n a b) (s.ahead more c end w).spelled)
+
 no_float : (p : Plain) (n : ℕ) → form (plain_immediates p) ≡ a_float n → ⊥
 no_float (basic nop) k e = cc
 no_float (basic drop) k e = cc
@@ -449,6 +618,8 @@ no_float (basic (load n align offset)) k e = cc
 no_float (basic (store n align offset)) k e = cc
 no_float (basic memory_size) k e = cc
 no_float (basic memory_grow) k e = cc
+no_float (basic memory_copy) k e = cc
+no_float (basic memory_fill) k e = cc
 no_float (local_get y) k e = cc
 no_float (local_set y) k e = cc
 no_float (local_tee y) k e = cc

@@ -1,7 +1,8 @@
 //! Instructions that hold no other, by their opcodes (standard, section 5.4).
 
-ghost use Rattle.std.specs.Prelude.{◌≤◌, length, Some};
+ghost use Rattle.std.specs.Prelude.{◌≡◌, ℕ, ◌≤◌, length, Some};
 ghost use Rattle.wa_types.specs.Binary.{nothing, zero_byte, index, access};
+ghost use Rattle.wa_types.specs.Opcodes.{follows, a_bulk};
 ghost use Rattle.wasm_build.specs.Builds.{Builds};
 ghost use Rattle.wasm_build.specs.BuildsPlain.{SpelledPlain, code_of_one, NamesPlain, FoundIn};
 
@@ -106,7 +107,28 @@ pub(crate) fn plain(alloc: Global, input: &mut Cursor<'_>, op: u8) -> Result<Ins
         Some(ImmediateForm::Constant64) => Ok(Instr::Const(Value::I64(input.signed_64()?))),
         Some(ImmediateForm::Float4) => Err(BuildFault::NotSpelled),
         Some(ImmediateForm::Float8) => Err(BuildFault::NotSpelled),
+        Some(ImmediateForm::Bulk) => bulk(input),
         None => Err(BuildFault::NotSpelled),
+    }
+}
+
+// A copy or a fill of memory behind its prefix: its number, and its zero bytes.
+fn bulk(input: &mut Cursor<'_>) -> Result<Instr, BuildFault>
+    ensures built { (op : ℕ) → follows op ≡ Some a_bulk → Builds code_of_one (SpelledPlain op) result input.old input.new }
+    ensures left { length input.new.left ≤ length input.old.left }
+{
+    let number = input.number()?;
+    match number {
+        10 => {
+            tag(input, 0x00)?;
+            tag(input, 0x00)?;
+            Ok(Instr::MemoryCopy)
+        }
+        11 => {
+            tag(input, 0x00)?;
+            Ok(Instr::MemoryFill)
+        }
+        _ => Err(BuildFault::NotSpelled),
     }
 }
 

@@ -5,12 +5,12 @@ use Rattle.std.specs.declared.alloc.Global.{Global}
 use Rattle.wa_types.specs.declared.values.ValType.{ValType}
 use Rattle.wa_types.specs.declared.instrs.Instr.{Instr}
 use Rattle.wa_types.specs.declared.instrs.Instr.TheVariants.{BrTable, Block, Loop, If}
-use Rattle.wa_types.specs.Binary.{Immediates as PlainImmediates, nothing, zero_byte, index, index_and_zero, access, constant}
+use Rattle.wa_types.specs.Binary.{Immediates as PlainImmediates, nothing, zero_byte, index, index_and_zero, access, constant, bulk}
 use Rattle.wa_types.specs.Syntax.{Code, done, plain, nest, branch}
 use Rattle.wa_types.specs.View.{in_front}
 use Rattle.wa_types.specs.Encoding.{immediate_bytes as bytes_behind, plain_bytes, shape_byte, block_type_byte, code_bytes, else_bytes}
 use Rattle.wasm_encode.specs.declared.code.Immediates.{Immediates}
-use Rattle.wasm_encode.specs.declared.code.Immediates.TheVariants.{Nothing, Zero, Index, IndexAndZero, Memory, Signed32, Signed64}
+use Rattle.wasm_encode.specs.declared.code.Immediates.TheVariants.{Nothing, Zero, Index, IndexAndZero, Memory, Signed32, Signed64, Copy, Fill}
 
 -- the first instruction of a sequence
 unfoldable pub first_bytes : Code → List ℕ
@@ -32,6 +32,8 @@ immediates_of (IndexAndZero x) = index_and_zero x
 immediates_of (Memory align offset) = access align offset
 immediates_of (Signed32 n) = constant 32 n
 immediates_of (Signed64 n) = constant 64 n
+immediates_of Copy = bulk 10
+immediates_of Fill = bulk 11
 
 -- the same as it is written
 abbrev pub immediate_bytes : Immediates → List ℕ

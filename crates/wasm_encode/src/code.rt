@@ -28,6 +28,10 @@ pub enum Immediates {
     Memory { align: u32, offset: u32 },
     Signed32(u32),
     Signed64(u64),
+    /// The number of `memory.copy` and its zero bytes.
+    Copy,
+    /// The number of `memory.fill` and its zero byte.
+    Fill,
 }
 
 /// The opcode of an instruction and what follows it (standard, section 5.4), but for `br_table` and those
@@ -61,6 +65,8 @@ fn opcode_and_immediates(instr: &Instr) -> (u8, Immediates)
         ),
         Instr::MemorySize => (0x3F, Immediates::Zero),
         Instr::MemoryGrow => (0x40, Immediates::Zero),
+        Instr::MemoryCopy => (0xFC, Immediates::Copy),
+        Instr::MemoryFill => (0xFC, Immediates::Fill),
         Instr::Const(Value::I32(n)) => (0x41, Immediates::Signed32(*n)),
         Instr::Const(Value::I64(n)) => (0x42, Immediates::Signed64(*n)),
         Instr::Num(op) => (op.opcode(), Immediates::Nothing),
@@ -85,6 +91,8 @@ fn immediates_len(immediates: Immediates) -> u64
         }
         Immediates::Signed32(n) => signed_len(n as u64, 32),
         Immediates::Signed64(n) => signed_len(n, 64),
+        Immediates::Copy => 3,
+        Immediates::Fill => 2,
     }
 }
 
@@ -106,6 +114,8 @@ fn put_immediates(out: &mut BytesMut, immediates: Immediates) -> Result<(), Allo
         }
         Immediates::Signed32(n) => put_signed(out, n as u64, 32),
         Immediates::Signed64(n) => put_signed(out, n, 64),
+        Immediates::Copy => out.extend_from_slice(&[0x0A, 0x00, 0x00]),
+        Immediates::Fill => out.extend_from_slice(&[0x0B, 0x00]),
     }
 }
 

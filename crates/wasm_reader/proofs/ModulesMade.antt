@@ -108,7 +108,7 @@ code_made (otherwise k arm) first_arm at a h e =
 code_made (instr op o rest) first_arm at a h e =
     let t = h.1 in
     let u = t.4 in
-    let p = plain_made op o h.0 (not_placed (is_float_op op.byte) op.place (front_clear (place_if (is_float_op op.byte) op.place) (code_floats rest) e)) in
+    let p = plain_made op o (at + length t.0) u.0 u.3 h.0 (not_placed (is_float_op op.byte) op.place (front_clear (place_if (is_float_op op.byte) op.place) (code_floats rest) e)) in
     let v = code_made rest first_arm (at + length t.0 + length u.0) u.1 u.4 (back_clear (place_if (is_float_op op.byte) op.place) (code_floats rest) e) in
     record { code = plain p.0 v.code; else_arm = v.else_arm; is_code = (p.1, v.is_code); alone = v.alone }
 code_made (nested op result body rest) first_arm at a h e =

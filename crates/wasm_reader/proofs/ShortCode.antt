@@ -1,10 +1,10 @@
 -- No spelling of code is shorter than the one that it is written in.
-use Rattle.std.proofs.Common.{◌≡◌, ℕ, suc, ◌+◌, ◌≤◌, List, [], ◌∷◌, ◌++◌, flat_map, length, refl, ap, sym, subst, arith, length-append, Bool, true, false}
+use Rattle.std.proofs.Common.{◌≡◌, ℕ, suc, ◌+◌, ◌≤◌, List, [], ◌∷◌, ◌++◌, flat_map, length, refl, ap, sym, subst, arith, length-append, Bool, true, false, Some}
 use Rattle.leb_numbers.proofs.SignedSpelling.{shortest_signed_least}
 use Rattle.wa_types.specs.declared.values.Value.TheVariants.{I32 as value_32, I64 as value_64}
 use Rattle.leb_numbers.specs.Leb.{shortest}
 use Rattle.wa_types.specs.Encoding.{vector, sized, code_bytes, plain_bytes, else_bytes, expression_bytes}
-use Rattle.wa_types.specs.Syntax.{nop, drop, select, const, num, global_get, global_set, load, store, memory_size, memory_grow, Plain, basic, local_get, local_set, local_tee, br, br_if, br_table, return, unreachable, call, call_indirect, Code, done, plain, nest, branch}
+use Rattle.wa_types.specs.Syntax.{nop, drop, select, const, num, global_get, global_set, load, store, memory_size, memory_grow, memory_copy, memory_fill, Plain, basic, local_get, local_set, local_tee, br, br_if, br_table, return, unreachable, call, call_indirect, Code, done, plain, nest, branch}
 use Rattle.wa_types.specs.Binary.{RawCode, ended, otherwise, instr, nested, branched}
 use Rattle.wa_types.specs.Spells.{Number, Items, Vector, ImmediatesOf, CodeOf}
 use Rattle.wa_types.specs.Reading.{IsCode, Each}
@@ -53,6 +53,9 @@ pub sized_short : (bytes : List ℕ) (size : ℕ) (a b c : List ℕ) → a ≡ b
 sized_short bytes size a b c e n l k =
     omega (arith, length_split a b c e, length-append (shortest (length bytes)) bytes, number_short size b n, shortest_rises (length bytes) size k, l, k)
 
+some_bytes : (zs ys : List ℕ) → Some zs ≡ Some ys → zs ≡ ys
+some_bytes zs ys e = cc
+
 operands_short : (p : Plain) (at : ℕ) (a : List ℕ) → ImmediatesOf (plain_immediates p) at a → length (plain_bytes p) ≤ suc (length a)
 operands_short (basic nop) at a h = omega arith
 operands_short (basic drop) at a h = omega arith
@@ -78,6 +81,12 @@ operands_short (basic (store op align offset)) at a h = omega (
 )
 operands_short (basic memory_size) at a h = omega (arith, ap length h)
 operands_short (basic memory_grow) at a h = omega (arith, ap length h)
+operands_short (basic memory_copy) at a h =
+    let zeros : 0x00 ∷ 0x00 ∷ [] ≡ h.1 = some_bytes (0x00 ∷ 0x00 ∷ []) h.1 h.4 in
+    omega (arith, length_split a h.0 h.1 h.2, length-append (shortest 10) (0x00 ∷ 0x00 ∷ []), number_short 10 h.0 h.3, ap length zeros)
+operands_short (basic memory_fill) at a h =
+    let zeros : 0x00 ∷ [] ≡ h.1 = some_bytes (0x00 ∷ []) h.1 h.4 in
+    omega (arith, length_split a h.0 h.1 h.2, length-append (shortest 11) (0x00 ∷ []), number_short 11 h.0 h.3, ap length zeros)
 operands_short (local_get x) at a h = omega (arith, number_short x a h)
 operands_short (local_set x) at a h = omega (arith, number_short x a h)
 operands_short (local_tee x) at a h = omega (arith, number_short x a h)

@@ -1,7 +1,7 @@
 use Rattle.std.proofs.Common.{[], ◌∷◌}
 use Rattle.std.proofs.lemmas.Result.{err_from_is_err_and}
 use Rattle.wa_types.specs.Spells.{◌▸◌, Exactly, Number}
-use Rattle.wasm_grammar.specs.declared.opcodes.ImmediateForm.TheVariants.{Nothing, ZeroByte, Index, IndexAndZero, Access, Labels, Constant32, Constant64, Float4, Float8}
+use Rattle.wasm_grammar.specs.declared.opcodes.ImmediateForm.TheVariants.{Nothing, ZeroByte, Index, IndexAndZero, Access, Labels, Constant32, Constant64, Float4, Float8, Bulk}
 use Rattle.wasm_build.proofs.Steps.{step, step_number, stop, stop_number, stop_last_number, stop_passed}
 use Rattle.wasm_build.proofs.PlainParts.{table_says, table_is_silent, operands_in, x_in, align_in, offset_in, targets_in, zero_start, index_start, both_start, access_start, labels_start, constant_start, simple_found, memory_built, index_found, access_found, call_built, table_built, const_32_built, const_64_built, never_float, never_none}
 use Rattle.wasm_build.proofs.plain.plain.Goals as goal
@@ -112,6 +112,9 @@ returns-in-Some-Float4-clause-built c =
 pub returns-in-Some-Float8-clause-built : goal.returns-in-Some-Float8-clause-built
 returns-in-Some-Float8-clause-built c =
     never_float _ 8 _ _ _ (table_says _ _ Float8 _ c.immediate_form.ensures c.in-Some-Float8.is c.in-Some-Float8.field-0-is)
+
+pub returns-in-Some-Bulk-clause-built : goal.returns-in-Some-Bulk-clause-built
+returns-in-Some-Bulk-clause-built c = c.bulk.ensures.built _ (table_says _ _ Bulk _ c.immediate_form.ensures c.in-Some-Bulk.is c.in-Some-Bulk.field-0-is)
 
 pub returns-in-None-clause-built : goal.returns-in-None-clause-built
 returns-in-None-clause-built c = never_none _ _ _ _ (table_is_silent _ _ c.immediate_form.ensures c.in-None.is)

@@ -35,6 +35,10 @@ pub returns-in-ImportKind : goal.returns-in-ImportKind
 unfolding next
 returns-in-ImportKind c = c.behind_kind.ensures ∙ ap (λ g. next (goal_of g) c.args.value c.args.at) (sym c.in-ImportKind.is)
 
+pub returns-in-BulkNumber : goal.returns-in-BulkNumber
+unfolding next
+returns-in-BulkNumber c = c.zeros.ensures ∙ ap (λ g. next (goal_of g) c.args.value c.args.at) (sym c.in-BulkNumber.is)
+
 pub returns-in-Code : goal.returns-in-Code
 unfolding next
 returns-in-Code c = c.behind_opcode.ensures ∙ ap (λ g. next (goal_of g) c.args.value c.args.at) (sym c.in-Code.is)
