@@ -1,6 +1,6 @@
 -- No reduction makes the memory shorter, whatever the values.
 use Rattle.std.proofs.Common.{◌≡◌, ℕ, zero, suc, ◌+◌, ◌-◌, ◌*◌, ◌≤◌, Bool, true, false, cond, List, [], ◌∷◌, ◌++◌, length, map, take, drop, replicate, reverse, Option, Some, None, Result, Ok, Err, refl, sym, ◌∙◌, subst, arith, length-append, length-drop}
-use Rattle.std.specs.Prelude.{nat_le, nat_lt, unwrap_or, slice_get}
+use Rattle.std.specs.Prelude.{◌%◌, nat_le, nat_lt, unwrap_or, slice_get}
 use Rattle.std.specs.Option.{option_to_list}
 use Rattle.std.proofs.lemmas.List.{length-take, length-replicate}
 use Rattle.std.proofs.lemmas.List.Elements.{All-nil}
@@ -10,8 +10,8 @@ use Rattle.wa_types.specs.declared.values.Trap.{Trap}
 use Rattle.wa_types.specs.declared.values.Trap.TheVariants.{StackExhausted, TypeMismatch}
 use Rattle.wa_types.specs.Accesses.{AccessRow, load_row, store_row}
 use Rattle.wa_types.specs.Encoding.{same_type}
-use Rattle.wa_types.specs.Memory.{Memory, page_size, pages_of, page_bound, overwritten, bytes_of, with_piece, with_number as number_put, number_at, grown}
-use Rattle.wa_types.specs.Syntax.{Basic, nop, select, const, num, global_get, global_set, load, store, memory_size, memory_grow, Plain, basic, local_get, local_set, local_tee, br, br_if, br_table, return, unreachable, call, call_indirect}
+use Rattle.wa_types.specs.Memory.{Memory, page_size, pages_of, page_bound, overwritten, bytes_of, bytes_at, with_piece, with_number as number_put, number_at, copied, filled_with, grown}
+use Rattle.wa_types.specs.Syntax.{Basic, nop, select, const, num, global_get, global_set, load, store, memory_size, memory_grow, memory_copy, memory_fill, Plain, basic, local_get, local_set, local_tee, br, br_if, br_table, return, unreachable, call, call_indirect}
 use Rattle.wa_types.specs.Syntax as Syn
 use Rattle.wa_types.specs.Syntax.{a_block, a_loop, Code, done, plain, nest, branch, Func, Module}
 use Rattle.wa_types.specs.Modules.{all_memories, all_tables, func_imports, type_at, func_type_at, defined_at}
@@ -48,12 +48,22 @@ module _ (low : ℕ) where
   GivesLong None = Unit {0}
   GivesLong (Some bytes) = low ≤ length bytes
 
-  number_long : (bytes : List ℕ) (at width n : ℕ) → low ≤ length bytes → GivesLong (number_put bytes at width n)
-  number_long bytes at width n h = by_place (nat_le (at + length (bytes_of width n)) (length bytes))
+  piece_long : (bytes : List ℕ) (at : ℕ) (piece : List ℕ) → low ≤ length bytes → GivesLong (with_piece bytes at piece)
+  piece_long bytes at piece h = by_place (nat_le (at + length piece) (length bytes))
     where
-      by_place : (b : Bool) → GivesLong (cond b (Some (overwritten bytes at (bytes_of width n))) None)
-      by_place true = let more = overwritten_longer bytes at (bytes_of width n) in omega arith
+      by_place : (b : Bool) → GivesLong (cond b (Some (overwritten bytes at piece)) None)
+      by_place true = let more = overwritten_longer bytes at piece in omega arith
       by_place false = tt
+
+  number_long : (bytes : List ℕ) (at width n : ℕ) → low ≤ length bytes → GivesLong (number_put bytes at width n)
+  number_long bytes at width n h = piece_long bytes at (bytes_of width n) h
+
+  copied_long : (bytes : List ℕ) (to from n : ℕ) → low ≤ length bytes → GivesLong (copied bytes to from n)
+  copied_long bytes to from n h = by_source (nat_le (from + n) (length bytes))
+    where
+      by_source : (b : Bool) → GivesLong (cond b (with_piece bytes to (bytes_at bytes from n)) None)
+      by_source true = piece_long bytes to (bytes_at bytes from n) h
+      by_source false = tt
 
   abbrev GrowsLong : Option Memory → Type 0
   GrowsLong None = Unit {0}
@@ -114,6 +124,8 @@ module _ (low : ℕ) where
   act_long most (store op align offset) s (v ∷ V.I32 a ∷ []) h = store_long s (a + offset) v (store_row op) h
   act_long most memory_size s [] h = h
   act_long most memory_grow s (V.I32 n ∷ []) h = grew_long s (grown (record { bytes = s.memory; max = most }) n) h (grown_long s.memory most n h)
+  act_long most memory_copy s (V.I32 n ∷ V.I32 from ∷ V.I32 to ∷ []) h = stored_long s (copied s.memory to from n) (copied_long s.memory to from n h)
+  act_long most memory_fill s (V.I32 n ∷ V.I32 x ∷ V.I32 at ∷ []) h = stored_long s (filled_with s.memory at (x % 256) n) (piece_long s.memory at (replicate n (x % 256)) h)
   act_long most _ s _ h = tt
 
   -- ---- reductions

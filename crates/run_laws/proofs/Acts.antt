@@ -1,6 +1,6 @@
 -- What an instruction does with operands in range leaves the store in range, and its results are.
 use Rattle.std.proofs.Common.{◌≡◌, ℕ, zero, suc, ◌+◌, ◌*◌, ◌^◌, ◌<◌, ◌≤◌, Bool, true, false, cond, leb, eqb, List, [], ◌∷◌, length, Option, Some, None, Result, Ok, Err, refl, sym, subst, arith}
-use Rattle.std.specs.Prelude.{◌&&◌, nat_le, slice_set}
+use Rattle.std.specs.Prelude.{◌&&◌, ◌%◌, nat_le, slice_set}
 use Rattle.std.specs.List.{find, list_all}
 use Rattle.std.proofs.lemmas.Bool.{and_parts, leb-true}
 use Rattle.std.proofs.lemmas.List.Elements.{All-nil, All-cons, All-head, All-tail, All-set}
@@ -11,9 +11,9 @@ use Rattle.wa_types.specs.declared.values.Value.TheVariants as V
 use Rattle.wa_types.specs.declared.values.Trap.{Trap}
 use Rattle.wa_types.specs.Accesses.{AccessRow, load_rows, load_row, store_row}
 use Rattle.wa_types.specs.Encoding.{same_type}
-use Rattle.wa_types.specs.Memory.{Memory, number_at, number_of_bytes, bytes_at, with_number as number_put, grown}
+use Rattle.wa_types.specs.Memory.{Memory, number_at, number_of_bytes, bytes_at, with_number as number_put, copied, filled_with, grown}
 use Rattle.wa_types.specs.Sizes.{value_fits, BasicFits}
-use Rattle.wa_types.specs.Syntax.{Basic, nop, drop, select, const, num, global_get, global_set, load, store, memory_size, memory_grow}
+use Rattle.wa_types.specs.Syntax.{Basic, nop, drop, select, const, num, global_get, global_set, load, store, memory_size, memory_grow, memory_copy, memory_fill}
 use Rattle.wa_types.specs.Typing.{type_of}
 use Rattle.wa_model.specs.Integers.{extend_s}
 use Rattle.wa_model.specs.Operate.{operate, number_of}
@@ -21,7 +21,7 @@ use Rattle.wa_model.specs.Store.{Store, value_at, Did, works, fails, lacks, chos
 use Rattle.run_laws.specs.Ranges.{GivenIn, ValuesIn, StoreIn}
 use Rattle.run_laws.proofs.Numbers.{extend_in}
 use Rattle.run_laws.proofs.Operators.{size, value_of_in, operate_in}
-use Rattle.run_laws.proofs.Bytes.{number_at_in, pages_in, MemoryGiven, with_number_in, GrownGiven, grown_in}
+use Rattle.run_laws.proofs.Bytes.{number_at_in, pages_in, MemoryGiven, with_number_in, copied_in, filled_in, GrownGiven, grown_in}
 
 pub none_in : ValuesIn []
 none_in = All-nil value_fits
@@ -142,4 +142,6 @@ module _ (low : ℕ) where
   act_in most (store op align offset) s (v ∷ V.I32 a ∷ []) f ok vs = store_in s (a + offset) v (store_row op) ok
   act_in most memory_size s [] f ok vs = (ok, more_in _ [] (pages_in s.memory ok.memory.pages) none_in)
   act_in most memory_grow s (V.I32 n ∷ []) f ok vs = grew_in s (grown (record { bytes = s.memory; max = most }) n) ok (grown_in low s.memory most n ok.memory)
+  act_in most memory_copy s (V.I32 n ∷ V.I32 from ∷ V.I32 to ∷ []) f ok vs = stored_in s (copied s.memory to from n) ok (copied_in low s.memory to from n ok.memory)
+  act_in most memory_fill s (V.I32 n ∷ V.I32 v ∷ V.I32 at ∷ []) f ok vs = stored_in s (filled_with s.memory at (v % 256) n) ok (filled_in low s.memory at v n ok.memory)
   act_in most _ s _ f ok vs = tt

@@ -6,7 +6,7 @@ use Rattle.std.proofs.lemmas.Bool.{leb-true}
 use Rattle.std.proofs.lemmas.List.{length-replicate}
 use Rattle.std.proofs.lemmas.List.Elements.{All-nil, All-cons, All-head, All-tail, All-append, All-take, All-drop, All-replicate}
 use Rattle.std.proofs.Math.Nat.{pow-suc, pow-le-pow_right}
-use Rattle.wa_types.specs.Memory.{Memory, IsWholePages, page_size, pages_of, page_bound, bytes_of, number_of_bytes, bytes_at, overwritten, with_number, grown}
+use Rattle.wa_types.specs.Memory.{Memory, IsWholePages, page_size, pages_of, page_bound, bytes_of, number_of_bytes, bytes_at, overwritten, with_piece, with_number, copied, filled_with, grown}
 use Rattle.wa_types.proofs.MemoryLemmas.{length-overwritten}
 use Rattle.run_laws.specs.Ranges.{byte_in, MemoryIn}
 
@@ -66,12 +66,25 @@ abbrev pub MemoryGiven : ℕ → Option (List ℕ) → Type 0
 MemoryGiven low None = Unit {0}
 MemoryGiven low (Some bytes) = MemoryIn low bytes
 
-pub with_number_in : (low : ℕ) (bytes : List ℕ) (at width n : ℕ) → MemoryIn low bytes → MemoryGiven low (with_number bytes at width n)
-with_number_in low bytes at width n ok = by_place (leb (at + length (bytes_of width n)) (length bytes)) refl
+pub with_piece_in : (low : ℕ) (bytes : List ℕ) (at : ℕ) (piece : List ℕ) → All byte_in piece → MemoryIn low bytes → MemoryGiven low (with_piece bytes at piece)
+with_piece_in low bytes at piece h ok = by_place (leb (at + length piece) (length bytes)) refl
   where
-    by_place : (b : Bool) → leb (at + length (bytes_of width n)) (length bytes) ≡ b → MemoryGiven low (cond b (Some (overwritten bytes at (bytes_of width n))) None)
-    by_place true e = overwritten_in low bytes at (bytes_of width n) (leb-true _ _ e) (bytes_of_in width n) ok
+    by_place : (b : Bool) → leb (at + length piece) (length bytes) ≡ b → MemoryGiven low (cond b (Some (overwritten bytes at piece)) None)
+    by_place true e = overwritten_in low bytes at piece (leb-true _ _ e) h ok
     by_place false e = tt
+
+pub with_number_in : (low : ℕ) (bytes : List ℕ) (at width n : ℕ) → MemoryIn low bytes → MemoryGiven low (with_number bytes at width n)
+with_number_in low bytes at width n ok = with_piece_in low bytes at (bytes_of width n) (bytes_of_in width n) ok
+
+pub copied_in : (low : ℕ) (bytes : List ℕ) (to from n : ℕ) → MemoryIn low bytes → MemoryGiven low (copied bytes to from n)
+copied_in low bytes to from n ok = by_source (leb (from + n) (length bytes))
+  where
+    by_source : (b : Bool) → MemoryGiven low (cond b (with_piece bytes to (bytes_at bytes from n)) None)
+    by_source true = with_piece_in low bytes to (bytes_at bytes from n) (All-take byte_in n (drop from bytes) (All-drop byte_in from bytes ok.each)) ok
+    by_source false = tt
+
+pub filled_in : (low : ℕ) (bytes : List ℕ) (at v n : ℕ) → MemoryIn low bytes → MemoryGiven low (filled_with bytes at (v % 256) n)
+filled_in low bytes at v n ok = with_piece_in low bytes at (replicate n (v % 256)) (All-replicate byte_in n (v % 256) (mod_below v 256 (omega arith))) ok
 
 bound_small : (most : Option ℕ) → page_bound most ≤ 1024
 bound_small None = omega arith

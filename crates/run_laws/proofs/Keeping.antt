@@ -1,7 +1,8 @@
 -- Reductions that leave the original's store alone, and what runs show along them.
-use Rattle.std.proofs.Common.{◌≡◌, ℕ, zero, suc, ◌+◌, ◌-◌, ◌<◌, ◌≤◌, List, [], ◌∷◌, ◌++◌, Option, Some, None, Result, Ok, Err, Bool, true, false, refl, sym, ap, ◌∙◌, subst, length, take}
+use Rattle.std.proofs.Common.{◌≡◌, ℕ, zero, suc, ◌+◌, ◌-◌, ◌<◌, ◌≤◌, List, [], ◌∷◌, ◌++◌, Option, Some, None, Result, Ok, Err, Bool, true, false, refl, sym, ap, ◌∙◌, subst, length, take, replicate}
 use Rattle.std.proofs.Common.{drop, reverse, arith, ⊎_elim}
-use Rattle.std.specs.Prelude.{nat_lt, nat_le, if◌then◌else◌, slice_get, slice_set, unwrap_or}
+use Rattle.std.specs.Prelude.{◌%◌, ◌&&◌, nat_lt, nat_le, if◌then◌else◌, slice_get, slice_set, unwrap_or}
+use Rattle.std.proofs.lemmas.List.{length-replicate}
 use Rattle.std.proofs.lemmas.Bool.{cases_lt, and_parts}
 use Rattle.wa_types.specs.declared.values.Value.{Value}
 use Rattle.wa_types.specs.declared.values.Value.TheVariants as V
@@ -9,12 +10,12 @@ use Rattle.wa_types.specs.declared.values.Trap.{Trap}
 use Rattle.wa_types.specs.declared.values.Trap.TheVariants.{StackExhausted, TypeMismatch}
 use Rattle.wa_types.specs.Accesses.{AccessRow, load_row, store_row}
 use Rattle.wa_types.specs.Encoding.{same_type}
-use Rattle.wa_types.specs.Memory.{bytes_of, bytes_at, overwritten, number_at, with_number as number_put}
+use Rattle.wa_types.specs.Memory.{bytes_of, bytes_at, overwritten, number_at, with_piece, with_number as number_put, copied, filled_with}
 use Rattle.wa_types.specs.Typing.{type_of}
-use Rattle.wa_types.specs.Syntax.{Basic, nop, drop as a_drop, select, const, num, global_get, global_set, load, store, memory_size, memory_grow, basic, local_get, local_set, local_tee, br}
+use Rattle.wa_types.specs.Syntax.{Basic, nop, drop as a_drop, select, const, num, global_get, global_set, load, store, memory_size, memory_grow, memory_copy, memory_fill, basic, local_get, local_set, local_tee, br}
 use Rattle.wa_types.specs.Syntax.{br_if, br_table, return, unreachable, call, call_indirect, a_block, a_loop, Code, done, plain, nest, branch, Func, Module}
 use Rattle.wa_types.specs.Modules.{func_imports, func_type_at, type_at, defined_at}
-use Rattle.wa_types.proofs.MemoryLemmas.{length-bytes_of, length-overwritten, bytes_at-overwritten_below, bytes_at-overwritten_behind}
+use Rattle.wa_types.proofs.MemoryLemmas.{length-bytes_of, length-bytes_at, length-overwritten, bytes_at-overwritten_below, bytes_at-overwritten_behind}
 use Rattle.wa_model.specs.Operate.{operate, number_of}
 use Rattle.wa_model.specs.declared.answers.Area.{Area}
 use Rattle.wa_model.specs.Machine.{Turn, goes, Ran, after, run, Leads, stays, moves}
@@ -90,29 +91,46 @@ module _ (g : ℕ) (area : Area) where
   load_keeps s place None = tt
   load_keeps s place (Some row) = loaded_keeps s row (number_at s.memory place (width_of row))
 
-  put_keeps : (s : Store) (place w n : ℕ) → area.at ≤ place → place + w ≤ area.at + area.len → DidKeeps s (stored s (number_put s.memory place w n))
-  put_keeps s place w n lo hi = by_room (nat_le (place + length (bytes_of w n)) (length s.memory)) refl
+  piece_keeps : (s : Store) (place : ℕ) (piece : List ℕ) → area.at ≤ place → place + length piece ≤ area.at + area.len → DidKeeps s (stored s (with_piece s.memory place piece))
+  piece_keeps s place piece lo hi = by_room (nat_le (place + length piece) (length s.memory)) refl
     where
-      piece : List ℕ
-      piece = bytes_of w n
-
-      by_room : (b : Bool) → nat_le (place + length (bytes_of w n)) (length s.memory) ≡ b → DidKeeps s (stored s (if b then Some (overwritten s.memory place (bytes_of w n)) else None))
+      by_room : (b : Bool) → nat_le (place + length piece) (length s.memory) ≡ b → DidKeeps s (stored s (if b then Some (overwritten s.memory place piece) else None))
       by_room true e =
-          let fits = le_of (place + length (bytes_of w n)) (length s.memory) e in
-          let len = length-bytes_of w n in
+          let fits = le_of (place + length piece) (length s.memory) e in
           record {
             globals_same = λ x h. refl;
-            size = sym (length-overwritten s.memory place (bytes_of w n) fits);
+            size = sym (length-overwritten s.memory place piece fits);
             below =
                 λ x h. got_of s.memory x
-                ∙ ap head (sym (bytes_at-overwritten_below s.memory place (bytes_of w n) x 1 (omega arith) fits))
-                ∙ sym (got_of (overwritten s.memory place (bytes_of w n)) x);
+                ∙ ap head (sym (bytes_at-overwritten_below s.memory place piece x 1 (omega arith) fits))
+                ∙ sym (got_of (overwritten s.memory place piece) x);
             above =
                 λ x h. got_of s.memory x
-                ∙ ap head (sym (bytes_at-overwritten_behind s.memory place (bytes_of w n) x 1 (omega arith) fits))
-                ∙ sym (got_of (overwritten s.memory place (bytes_of w n)) x);
+                ∙ ap head (sym (bytes_at-overwritten_behind s.memory place piece x 1 (omega arith) fits))
+                ∙ sym (got_of (overwritten s.memory place piece) x);
           }
       by_room false e = tt
+
+  put_keeps : (s : Store) (place w n : ℕ) → area.at ≤ place → place + w ≤ area.at + area.len → DidKeeps s (stored s (number_put s.memory place w n))
+  put_keeps s place w n lo hi = let len = length-bytes_of w n in piece_keeps s place (bytes_of w n) lo (omega (arith, len, hi))
+
+  copy_keeps : (s : Store) (to from n : ℕ) → nat_le area.at to && nat_le (to + n) (area.at + area.len) ≡ true → DidKeeps s (stored s (copied s.memory to from n))
+  copy_keeps s to from n h = by_source (nat_le (from + n) (length s.memory)) refl
+    where
+      by_source : (b : Bool) → nat_le (from + n) (length s.memory) ≡ b → DidKeeps s (stored s (if b then with_piece s.memory to (bytes_at s.memory from n) else None))
+      by_source true e =
+          let len = length-bytes_at s.memory from n (le_of (from + n) (length s.memory) e) in
+          let q = and_parts (nat_le area.at to) (nat_le (to + n) (area.at + area.len)) h in
+          let hi = le_of (to + n) (area.at + area.len) q.1 in
+          piece_keeps s to (bytes_at s.memory from n) (le_of area.at to q.0) (omega (arith, len, hi))
+      by_source false e = tt
+
+  fill_keeps : (s : Store) (at byte n : ℕ) → nat_le area.at at && nat_le (at + n) (area.at + area.len) ≡ true → DidKeeps s (stored s (filled_with s.memory at byte n))
+  fill_keeps s at byte n h =
+      let len = length-replicate n byte in
+      let q = and_parts (nat_le area.at at) (nat_le (at + n) (area.at + area.len)) h in
+      let hi = le_of (at + n) (area.at + area.len) q.1 in
+      piece_keeps s at (replicate n byte) (le_of area.at at q.0) (omega (arith, len, hi))
 
   store_keeps : (s : Store) (place : ℕ) (v : Value) (o : Option AccessRow) → in_area area (range_of place o) ≡ true → DidKeeps s (store_at s place v o)
   store_keeps s place v None h = tt
@@ -138,6 +156,8 @@ module _ (g : ℕ) (area : Area) where
   act_keeps most (store op align offset) s (v ∷ V.I32 a ∷ []) h = store_keeps s (a + offset) v (store_row op) h
   act_keeps most memory_size s [] h = same_refl g area s
   act_keeps most memory_grow s (V.I32 k ∷ []) h = cc
+  act_keeps most memory_copy s (V.I32 n ∷ V.I32 from ∷ V.I32 to ∷ []) h = copy_keeps s to from n h
+  act_keeps most memory_fill s (V.I32 n ∷ V.I32 v ∷ V.I32 at ∷ []) h = fill_keeps s at (v % 256) n h
   act_keeps most _ s _ h = tt
 
   leaves_keep : (k : ℕ) (s : Store) (ops : List Value) (arity : ℕ) (under : List Activation) → NextKeeps s (leave k s ops arity under)

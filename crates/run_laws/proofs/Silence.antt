@@ -5,7 +5,7 @@ use Rattle.std.specs.List.{list_all}
 use Rattle.std.proofs.lemmas.Bool.{leb-true, le-leb}
 use Rattle.std.proofs.lemmas.List.Elements.{All-weaker}
 use Rattle.std.proofs.lemmas.List.Sums.{AllPass-from_list_all, list_all-from_AllPass}
-use Rattle.wa_types.specs.Syntax.{Basic, nop, drop as a_drop, select, const, num, global_get, global_set, load, store, memory_size, memory_grow, basic, local_get, local_set, local_tee, br}
+use Rattle.wa_types.specs.Syntax.{Basic, nop, drop as a_drop, select, const, num, global_get, global_set, load, store, memory_size, memory_grow, memory_copy, memory_fill, basic, local_get, local_set, local_tee, br}
 use Rattle.wa_types.specs.Syntax.{br_if, br_table, return, unreachable, call, call_indirect, a_block, a_loop, Code, done, plain, nest, branch, Module}
 use Rattle.wa_types.proofs.SlotLemmas.{either_true}
 use Rattle.wa_types.specs.declared.values.Value.{Value}
@@ -38,6 +38,8 @@ basic_kept g area (load op align offset) ops h = cc
 basic_kept g area (store op align offset) ops h = cc
 basic_kept g area memory_size ops h = refl
 basic_kept g area memory_grow ops h = cc
+basic_kept g area memory_copy ops h = cc
+basic_kept g area memory_fill ops h = cc
 
 code_kept : (g : ℕ) (area : Area) (ops : List Value) (code : Code) → silent_code code ≡ true → keeps_code g area ops code ≡ true
 code_kept g area ops done h = refl
@@ -86,6 +88,8 @@ module _ (s : Store) where
   act_stays most (store op align offset) ops h = cc
   act_stays most memory_size [] h = refl
   act_stays most memory_grow ops h = cc
+  act_stays most memory_copy ops h = cc
+  act_stays most memory_fill ops h = cc
   act_stays most _ _ h = tt
 
   did_stays : (k fn : ℕ) (under : List Activation) (ls : List Value) (labels : List Label) (rest : Code) (ops : List Value) (d : Did) → DidStays d → NextStays s (did k fn under ls labels rest s ops d)

@@ -1,6 +1,6 @@
 -- Reductions keep code where it stands among its function's calls.
 use Rattle.std.proofs.Common.{◌≡◌, ℕ, zero, suc, ◌+◌, ◌<◌, Bool, true, false, cond, ltb, List, [], ◌∷◌, ◌++◌, length, take, drop, reverse, Option, Some, None, Result, Ok, Err, refl, sym, ap, ◌∙◌, arith}
-use Rattle.std.specs.Prelude.{unwrap_or, slice_get}
+use Rattle.std.specs.Prelude.{◌%◌, unwrap_or, slice_get}
 use Rattle.std.proofs.lemmas.Bool.{ltb-true}
 use Rattle.std.proofs.lemmas.List.{append-nil, append_assoc}
 use Rattle.wa_types.specs.declared.values.Value.{Value}
@@ -9,14 +9,14 @@ use Rattle.wa_types.specs.declared.values.Trap.{Trap}
 use Rattle.wa_types.specs.declared.values.Trap.TheVariants.{StackExhausted, TypeMismatch}
 use Rattle.wa_types.specs.Pruned.{pruned}
 use Rattle.wa_types.specs.Pausing.{Callee, direct, indirect, calls_of, calls_in}
-use Rattle.wa_types.specs.Syntax.{Basic, nop, drop as a_drop, select, const, num, global_get, global_set, load, store, memory_size, memory_grow, Plain, basic, local_get, local_set, local_tee, br, br_if, br_table, return, unreachable, call, call_indirect, a_block, a_loop, Code, done, plain, nest, branch, Func, Module}
+use Rattle.wa_types.specs.Syntax.{Basic, nop, drop as a_drop, select, const, num, global_get, global_set, load, store, memory_size, memory_grow, memory_copy, memory_fill, Plain, basic, local_get, local_set, local_tee, br, br_if, br_table, return, unreachable, call, call_indirect, a_block, a_loop, Code, done, plain, nest, branch, Func, Module}
 use Rattle.wa_types.specs.Modules.{func_imports, type_at, func_type_at, defined_at}
 use Rattle.wa_model.specs.Store.{Store, Did, works, fails, lacks, takes, extra_cost, act, computed, width_of, loaded, load_at, stored, store_at, grew}
 use Rattle.wa_model.specs.Configuration.{Label, block_label, loop_label, Activation, Configuration, running, waiting, calls_behind}
 use Rattle.wa_model.specs.Step.{Next, steps, asks, traps, stuck, result_count, leave, jump, finish, did, choose, entered, invoke, param_count, same_func_type, through, memory_max, step_plain, step_at, step, arity_of}
 use Rattle.wa_types.specs.Accesses.{AccessRow, load_row, store_row}
 use Rattle.wa_types.specs.Encoding.{same_type}
-use Rattle.wa_types.specs.Memory.{Memory, number_at, with_number as number_put, grown}
+use Rattle.wa_types.specs.Memory.{Memory, number_at, with_number as number_put, copied, filled_with, grown}
 use Rattle.wa_types.specs.Typing.{type_of}
 use Rattle.wa_model.specs.Operate.{operate, number_of}
 use Rattle.run_theory.specs.LawfulStacks.{LeadsTo}
@@ -78,6 +78,8 @@ act_at table most (load op align offset) s (V.I32 a ∷ []) e = load_at_at table
 act_at table most (store op align offset) s (v ∷ V.I32 a ∷ []) e = store_at_at table s (a + offset) v (store_row op) e
 act_at table most memory_size s [] e = e
 act_at table most memory_grow s (V.I32 n ∷ []) e = grew_at table s (grown (record { bytes = s.memory; max = most }) n) e
+act_at table most memory_copy s (V.I32 n ∷ V.I32 from ∷ V.I32 to ∷ []) e = stored_at table s (copied s.memory to from n) e
+act_at table most memory_fill s (V.I32 n ∷ V.I32 v ∷ V.I32 at ∷ []) e = stored_at table s (filled_with s.memory at (v % 256) n) e
 act_at table most _ s _ e = tt
 
 -- who waited goes on

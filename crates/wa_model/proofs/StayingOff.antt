@@ -1,6 +1,6 @@
--- Ranges that stay off an area: none, one, and those of which each does anyway.
+-- Ranges that stay off an area: none, one, two, and those of which each does anyway.
 use Rattle.std.proofs.Common.{◌≡◌, ℕ, ◌+◌, ◌≤◌, List, [], ◌∷◌, All, false}
-use Rattle.std.proofs.lemmas.List.Elements.{All-nil, All-cons, All-head}
+use Rattle.std.proofs.lemmas.List.Elements.{All-nil, All-cons, All-head, All-tail}
 use Rattle.wa_model.specs.declared.answers.Area.{Area}
 use Rattle.wa_model.specs.Blocking.{overlap}
 use Rattle.wa_model.specs.Store.{Range}
@@ -24,6 +24,11 @@ module _ (area : Area) (size : ℕ) where
 
   pub is_off : (at len : ℕ) → StaysOff area size (range at len ∷ []) → at + len ≤ size → overlap at len area.at area.len ≡ false
   is_off at len off le = All-head Off (range at len) [] (off (All-cons Inside (range at len) [] le (All-nil Inside)))
+
+  pub two_off : (x y : Range) → StaysOff area size (x ∷ y ∷ []) → x.at + x.len ≤ size → y.at + y.len ≤ size → Off x × Off y
+  two_off x y off in_x in_y =
+      let all = off (All-cons Inside x (y ∷ []) in_x (All-cons Inside y [] in_y (All-nil Inside))) in
+      (All-head Off x (y ∷ []) all, All-head Off y [] (All-tail Off x (y ∷ []) all))
 
   pub each_off : ((x : Range) → Off x) → (xs : List Range) → StaysOff area size xs
   each_off h xs = λ inside. all_of xs
