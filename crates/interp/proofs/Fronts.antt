@@ -2,9 +2,9 @@
 use Rattle.std.proofs.Common.{◌≡◌, ℕ, refl}
 use Rattle.wa_types.specs.declared.values.Value.{Value}
 use Rattle.wa_types.specs.declared.operators.NumOp.{NumOp}
-use Rattle.wa_types.specs.declared.instrs.Instr.TheVariants.{Unreachable, Nop, Drop, Select, Return, MemorySize, MemoryGrow, Const, Num, Br, BrIf, Call, CallIndirect, LocalGet, LocalSet}
+use Rattle.wa_types.specs.declared.instrs.Instr.TheVariants.{Unreachable, Nop, Drop, Select, Return, MemorySize, MemoryGrow, MemoryCopy, MemoryFill, Const, Num, Br, BrIf, Call, CallIndirect, LocalGet, LocalSet}
 use Rattle.wa_types.specs.declared.instrs.Instr.TheVariants.{LocalTee, GlobalGet, GlobalSet, Load, Store}
-use Rattle.wa_types.specs.Syntax.{nop, drop as drop_operand, select, const, num, global_get, global_set, load, store, memory_size, memory_grow, basic, local_get, local_set, local_tee, br}
+use Rattle.wa_types.specs.Syntax.{nop, drop as drop_operand, select, const, num, global_get, global_set, load, store, memory_size, memory_grow, memory_copy, memory_fill, basic, local_get, local_set, local_tee, br}
 use Rattle.wa_types.specs.Syntax.{br_if, return, unreachable, call, call_indirect, Code, plain}
 use Rattle.wa_types.specs.View.{in_front}
 
@@ -35,6 +35,14 @@ front_size rest = refl
 pub front_grow : (rest : Code) → in_front MemoryGrow rest ≡ plain (basic memory_grow) rest
 unfolding in_front
 front_grow rest = refl
+
+pub front_copy : (rest : Code) → in_front MemoryCopy rest ≡ plain (basic memory_copy) rest
+unfolding in_front
+front_copy rest = refl
+
+pub front_fill : (rest : Code) → in_front MemoryFill rest ≡ plain (basic memory_fill) rest
+unfolding in_front
+front_fill rest = refl
 
 pub front_const : (v : Value) (rest : Code) → in_front (Const v) rest ≡ plain (basic (const v)) rest
 unfolding in_front

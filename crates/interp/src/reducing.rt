@@ -16,7 +16,7 @@ use crate::calls::{call, call_indirect};
 use crate::control::{finish, jump, leave};
 use crate::locals::{get_local, set_local, tee_local};
 use interp_state::{
-    Flow, Program, Stack, Store, choose, constant, drop_top, get_global, load_at, memory_grow,
+    Flow, Program, Stack, Store, choose, constant, drop_top, get_global, load_at, memory_copy, memory_fill, memory_grow,
     memory_size, numeric, set_global, store_at,
 };
 use std::alloc::AllocError;
@@ -100,6 +100,8 @@ fn dispatch<'m>(
         Instr::Select => choose(&mut stack.here.operands),
         Instr::MemorySize => memory_size(store, &mut stack.here.operands),
         Instr::MemoryGrow => memory_grow(store, &mut stack.here.operands),
+        Instr::MemoryCopy => Ok(memory_copy(store, &mut stack.here.operands, left)),
+        Instr::MemoryFill => Ok(memory_fill(store, &mut stack.here.operands, left)),
         Instr::Nop => Ok(Flow::Moved { more: 0 }),
         Instr::Unreachable => Ok(Flow::Trapped {
             more: 0,

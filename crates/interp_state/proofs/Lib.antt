@@ -1,3 +1,4 @@
+pub mod BulkLemmas
 pub mod LoadLemmas
 pub mod MakeLemmas
 pub mod MapLemmas

@@ -6,8 +6,8 @@ use Rattle.std.proofs.lemmas.Bool.{leb-true}
 use Rattle.wa_types.specs.declared.values.Value.{Value}
 use Rattle.wa_types.specs.declared.values.Value.TheVariants.{I32}
 use Rattle.wa_types.specs.declared.instrs.Instr.{Instr}
-use Rattle.wa_types.specs.declared.instrs.Instr.TheVariants.{Unreachable, Nop, Drop, Select, Return, MemorySize, MemoryGrow, Const, Num, Br, BrIf, BrTable, Call, CallIndirect, LocalGet, LocalSet, LocalTee, GlobalGet, GlobalSet, Load, Store, Block', Loop', If'}
-use Rattle.wa_types.specs.Syntax.{nop, drop as drop_operand, select, const, num, global_get, global_set, load, store, memory_size, memory_grow, Plain, basic, local_get, local_set, local_tee, br, br_if, br_table, return, unreachable, call, call_indirect, Code, done, plain, nest, branch}
+use Rattle.wa_types.specs.declared.instrs.Instr.TheVariants.{Unreachable, Nop, Drop, Select, Return, MemorySize, MemoryGrow, MemoryCopy, MemoryFill, Const, Num, Br, BrIf, BrTable, Call, CallIndirect, LocalGet, LocalSet, LocalTee, GlobalGet, GlobalSet, Load, Store, Block', Loop', If'}
+use Rattle.wa_types.specs.Syntax.{nop, drop as drop_operand, select, const, num, global_get, global_set, load, store, memory_size, memory_grow, memory_copy, memory_fill, Plain, basic, local_get, local_set, local_tee, br, br_if, br_table, return, unreachable, call, call_indirect, Code, done, plain, nest, branch}
 use Rattle.wa_types.specs.View.{in_front, onto, code}
 use Rattle.wa_types.proofs.ViewLemmas.{InstrKind, is_block, is_loop, is_if, is_plain, instr_kind, in_block, in_loop, in_if}
 use Rattle.wa_model.specs.Store.{value_at}
@@ -50,6 +50,8 @@ constant_other globals Select h k = refl
 constant_other globals Return h k = refl
 constant_other globals MemorySize h k = refl
 constant_other globals MemoryGrow h k = refl
+constant_other globals MemoryCopy h k = refl
+constant_other globals MemoryFill h k = refl
 constant_other globals (Const v) h k = absurd (h v refl)
 constant_other globals (Num op) h k = refl
 constant_other globals (Br l) h k = refl
@@ -86,6 +88,8 @@ long_plain globals (basic (load op a o)) r h = refl
 long_plain globals (basic (store op a o)) r h = refl
 long_plain globals (basic memory_size) r h = refl
 long_plain globals (basic memory_grow) r h = refl
+long_plain globals (basic memory_copy) r h = refl
+long_plain globals (basic memory_fill) r h = refl
 long_plain globals (local_get x) r h = refl
 long_plain globals (local_set x) r h = refl
 long_plain globals (local_tee x) r h = refl

@@ -10,12 +10,12 @@ use Rattle.wa_types.specs.declared.values.ValType.{ValType}
 use Rattle.wa_types.specs.declared.values.Value.{Value}
 use Rattle.wa_types.specs.declared.operators.NumOp.{NumOp}
 use Rattle.wa_types.specs.declared.instrs.Instr.{Instr}
-use Rattle.wa_types.specs.declared.instrs.Instr.TheVariants.{Unreachable, Nop, Drop, Select, Return, MemorySize, MemoryGrow, Const, Num, Br, BrIf, BrTable, Call, CallIndirect, LocalGet, LocalSet, LocalTee, GlobalGet, GlobalSet, Load, Store, Block, Loop, If, Block', Loop', If'}
+use Rattle.wa_types.specs.declared.instrs.Instr.TheVariants.{Unreachable, Nop, Drop, Select, Return, MemorySize, MemoryGrow, MemoryCopy, MemoryFill, Const, Num, Br, BrIf, BrTable, Call, CallIndirect, LocalGet, LocalSet, LocalTee, GlobalGet, GlobalSet, Load, Store, Block, Loop, If, Block', Loop', If'}
 use Rattle.wa_types.specs.Counts.{count_of}
 use Rattle.wa_types.specs.Modules.{type_at, func_type_at, func_imports, defined_at}
 use Rattle.wa_types.specs.Operators.{operand_types}
 use Rattle.wa_types.specs.Pruned.{is_last, is_last_instr}
-use Rattle.wa_types.specs.Syntax.{Module, Basic, nop, drop as drop_operand, select, const, num, global_get, global_set, load, store, memory_size, memory_grow, Plain, basic, local_get, local_set, local_tee, br, br_if, br_table, return, unreachable, call, call_indirect, Code, done, plain, Func}
+use Rattle.wa_types.specs.Syntax.{Module, Basic, nop, drop as drop_operand, select, const, num, global_get, global_set, load, store, memory_size, memory_grow, memory_copy, memory_fill, Plain, basic, local_get, local_set, local_tee, br, br_if, br_table, return, unreachable, call, call_indirect, Code, done, plain, Func}
 use Rattle.wa_types.specs.Sizes.{FuncSizes}
 use Rattle.wa_types.specs.View.{code, in_front, func_of}
 use Rattle.wa_types.proofs.SizeBounds.{count_fits}
@@ -43,6 +43,8 @@ last_front Select = refl
 last_front Return = refl
 last_front MemorySize = refl
 last_front MemoryGrow = refl
+last_front MemoryCopy = refl
+last_front MemoryFill = refl
 last_front (Const v) = refl
 last_front (Num op) = refl
 last_front (Br l) = refl
@@ -136,6 +138,8 @@ gives_few (load op align offset) = omega arith
 gives_few (store op align offset) = omega arith
 gives_few memory_size = omega arith
 gives_few memory_grow = omega arith
+gives_few memory_copy = omega arith
+gives_few memory_fill = omega arith
 
 arity_few : (r : Option ValType) → arity_of r ≤ 1
 arity_few None = omega arith
@@ -248,6 +252,14 @@ after_load m h op a o = refl
 pub after_grow : (m : Module) (h : ℕ) → behind m (in_front MemoryGrow done) h ≡ h - 1 + 1
 unfolding behind in_front
 after_grow m h = refl
+
+pub after_copy : (m : Module) (h : ℕ) → behind m (in_front MemoryCopy done) h ≡ h - 3
+unfolding behind in_front
+after_copy m h = let e : h - 3 + 0 ≡ h - 3 = omega arith in e
+
+pub after_fill : (m : Module) (h : ℕ) → behind m (in_front MemoryFill done) h ≡ h - 3
+unfolding behind in_front
+after_fill m h = let e : h - 3 + 0 ≡ h - 3 = omega arith in e
 
 pub after_set : (m : Module) (h : ℕ) (x : ℕ) → behind m (in_front (LocalSet x) done) h ≡ h - 1
 unfolding behind in_front

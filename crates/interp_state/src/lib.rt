@@ -11,13 +11,14 @@
 //! writes all segments where all of them fit, and else answers how instantiation ends (`specs/Faults.antt`).
 //!
 //! - `store`, `activation`, `flow`: the store, activations with their labels, and what comes of a reduction.
-//! - `values`, `operands`, `numbers`, `memory`: values by index, constants and parametric instructions, numeric ones, and those of
-//!   memory and globals.
+//! - `values`, `operands`, `numbers`, `memory`, `bulk`: values by index, constants and parametric instructions, numeric ones, those of
+//!   memory and globals, and copies and fills of the memory.
 //! - `spaces`, `types`, `rooms`, `program`: limits and types by index, what an activation reserves, and a module with both looked up.
 //! - `segments`, `make`: segments tested and written, and the store of a new instance.
 #![tactic(auto)]
 
 mod activation;
+mod bulk;
 mod flow;
 mod make;
 mod memory;
@@ -32,6 +33,7 @@ mod types;
 mod values;
 
 pub use activation::{Activation, Label, Stack, Waiting};
+pub use bulk::{memory_copy, memory_fill};
 pub use flow::Flow;
 pub use make::{MakeFault, open};
 pub use memory::{get_global, load_at, memory_grow, memory_size, set_global, store_at};

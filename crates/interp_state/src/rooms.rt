@@ -115,6 +115,8 @@ fn behind(source: &Module, sorts: &[u32], instr: &Instr, height: usize) -> usize
         Instr::Drop => height.saturating_sub(1),
         Instr::BrIf(_) => height.saturating_sub(1),
         Instr::Store { .. } => height.saturating_sub(2),
+        Instr::MemoryCopy => height.saturating_sub(3),
+        Instr::MemoryFill => height.saturating_sub(3),
         Instr::Call(func) => {
             let below = height.saturating_sub(func_params(source, sorts, *func));
             below + func_results(source, sorts, *func).min(1)

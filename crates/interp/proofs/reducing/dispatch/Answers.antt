@@ -1,8 +1,8 @@
 use Rattle.std.proofs.Common.{ap, sym, ◌∙◌, refl, map, reverse, subst}
 use Rattle.std.proofs.lemmas.Result.{IfOk-weaker, IfErr-weaker}
 use Rattle.wa_types.specs.declared.values.Trap.TheVariants as T
-use Rattle.wa_types.specs.declared.instrs.Instr.TheVariants.{Unreachable, Nop, Drop, Select, Return, MemorySize, MemoryGrow, Const, Num, Br, BrIf, BrTable, Call, CallIndirect, LocalGet, LocalSet, LocalTee, GlobalGet, GlobalSet, Load, Store, Block, Loop, If}
-use Rattle.wa_types.specs.Syntax.{basic, nop, drop as drop_operand, select, const, num, global_get, global_set, load, store, memory_size, memory_grow, local_get, local_set, local_tee, br, br_if, br_table, return, unreachable, call, call_indirect, plain, nest, branch, a_block, a_loop}
+use Rattle.wa_types.specs.declared.instrs.Instr.TheVariants.{Unreachable, Nop, Drop, Select, Return, MemorySize, MemoryGrow, MemoryCopy, MemoryFill, Const, Num, Br, BrIf, BrTable, Call, CallIndirect, LocalGet, LocalSet, LocalTee, GlobalGet, GlobalSet, Load, Store, Block, Loop, If}
+use Rattle.wa_types.specs.Syntax.{basic, nop, drop as drop_operand, select, const, num, global_get, global_set, load, store, memory_size, memory_grow, memory_copy, memory_fill, local_get, local_set, local_tee, br, br_if, br_table, return, unreachable, call, call_indirect, plain, nest, branch, a_block, a_loop}
 use Rattle.wa_types.specs.View.{code, module_of}
 use Rattle.wa_types.proofs.ViewLemmas.{in_block, in_loop, in_if, in_br_table}
 use Rattle.run_theory.specs.Fitting.{NextFits}
@@ -12,8 +12,8 @@ use Rattle.interp_state.specs.Effects.{Shows, effect}
 use Rattle.interp.specs.Stacks.{code_of}
 use Rattle.interp.specs.Told.{Tells}
 use Rattle.interp_state.specs.View.{store_of, running_of, waiting_of}
-use Rattle.interp.proofs.Fronts.{front_unreachable, front_nop, front_drop, front_select, front_return, front_size, front_grow, front_const, front_num, front_br, front_br_if, front_call, front_indirect, front_local_get, front_local_set, front_local_tee, front_global_get, front_global_set, front_load, front_store}
-use Rattle.interp.proofs.ReduceLemmas.{code_arm, basic_arm, if_ok_both}
+use Rattle.interp.proofs.Fronts.{front_unreachable, front_nop, front_drop, front_select, front_return, front_size, front_grow, front_copy, front_fill, front_const, front_num, front_br, front_br_if, front_call, front_indirect, front_local_get, front_local_set, front_local_tee, front_global_get, front_global_set, front_load, front_store}
+use Rattle.interp.proofs.ReduceLemmas.{code_arm, basic_arm, paid_arm, if_ok_both}
 use Rattle.interp.proofs.RoomKept.{arm_lacked, err_any, grow_unpaid, labels_lacked, never_err, ok_any, operands_hold, operands_lacked, refuted_arm, roomier, taking_arm}
 use Rattle.interp.proofs.reducing.dispatch.Goals as goal
 
@@ -214,6 +214,38 @@ returns-in-MemoryGrow c =
       holds = ok_any c.memory_grow.result _ (operands_hold (module_of c.args.program.now) c.args.stack.now c.memory_grow.new.operands c.memory_grow.ensures.holds);
       lacks = err_any c.memory_grow.result _ (λ e outs h fits. taking_arm m s k c.args.instr.now (MemoryGrow) (plain (basic memory_grow) rest) c.in-MemoryGrow.is (front_grow rest) (grow_unpaid m s k));
       unchanged = c.memory_grow.ensures.unchanged;
+    }
+
+pub returns-in-MemoryCopy : goal.returns-in-MemoryCopy
+returns-in-MemoryCopy c =
+    let m = module_of c.args.program.now in
+    let s = store_of c.args.store.now in
+    let k = c.args.stack.now in
+    let rest = code k.here.code.now in
+    record {
+      tells =
+          paid_arm m s (store_of c.memory_copy.new.store) k c.memory_copy.new.operands c.args.instr.now MemoryCopy memory_copy c.memory_copy.result c.args.left c.in-MemoryCopy.is (front_copy rest)
+          c.requires.paid c.memory_copy.ensures.kept (c.memory_copy.ensures.shows (memory_max m));
+      max = c.memory_copy.ensures.max;
+      holds = operands_hold (module_of c.args.program.now) c.args.stack.now c.memory_copy.new.operands c.memory_copy.ensures.holds;
+      lacks = tt;
+      unchanged = tt;
+    }
+
+pub returns-in-MemoryFill : goal.returns-in-MemoryFill
+returns-in-MemoryFill c =
+    let m = module_of c.args.program.now in
+    let s = store_of c.args.store.now in
+    let k = c.args.stack.now in
+    let rest = code k.here.code.now in
+    record {
+      tells =
+          paid_arm m s (store_of c.memory_fill.new.store) k c.memory_fill.new.operands c.args.instr.now MemoryFill memory_fill c.memory_fill.result c.args.left c.in-MemoryFill.is (front_fill rest)
+          c.requires.paid c.memory_fill.ensures.kept (c.memory_fill.ensures.shows (memory_max m));
+      max = c.memory_fill.ensures.max;
+      holds = operands_hold (module_of c.args.program.now) c.args.stack.now c.memory_fill.new.operands c.memory_fill.ensures.holds;
+      lacks = tt;
+      unchanged = tt;
     }
 
 pub returns-in-LocalGet : goal.returns-in-LocalGet

@@ -2,7 +2,7 @@ use Rattle.std.proofs.Common.{arith, ap, sym, ◌∙◌}
 use Rattle.wa_types.specs.Syntax.{done}
 use Rattle.wa_types.specs.View.{in_front, module_of}
 use Rattle.run_theory.specs.Heights.{behind}
-use Rattle.interp_state.proofs.RoomLemmas.{after_get, after_global_get, after_const, after_size, after_num, after_select, after_load, after_grow, after_set, after_global_set, after_drop, after_br_if, after_store, after_tee, after_nop, after_br, after_br_table, after_return, after_unreachable}
+use Rattle.interp_state.proofs.RoomLemmas.{after_get, after_global_get, after_const, after_size, after_num, after_select, after_load, after_grow, after_copy, after_fill, after_set, after_global_set, after_drop, after_br_if, after_store, after_tee, after_nop, after_br, after_br_table, after_return, after_unreachable}
 use Rattle.interp_state.proofs.rooms.behind.Goals as goal
 
 pub returns-in-LocalGet : goal.returns-in-LocalGet
@@ -52,6 +52,18 @@ returns-in-MemoryGrow c =
     let m = module_of c.args.source.now in
     let h = c.args.height in
     omega (arith, ap (λ i. behind m (in_front i done) h) c.in-MemoryGrow.is ∙ after_grow m h)
+
+pub returns-in-MemoryCopy : goal.returns-in-MemoryCopy
+returns-in-MemoryCopy c =
+    let m = module_of c.args.source.now in
+    let h = c.args.height in
+    omega (arith, ap (λ i. behind m (in_front i done) h) c.in-MemoryCopy.is ∙ after_copy m h)
+
+pub returns-in-MemoryFill : goal.returns-in-MemoryFill
+returns-in-MemoryFill c =
+    let m = module_of c.args.source.now in
+    let h = c.args.height in
+    omega (arith, ap (λ i. behind m (in_front i done) h) c.in-MemoryFill.is ∙ after_fill m h)
 
 pub returns-in-LocalSet : goal.returns-in-LocalSet
 returns-in-LocalSet c =
