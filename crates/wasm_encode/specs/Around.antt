@@ -17,10 +17,11 @@ code_entry f = sized (body_bytes f)
 abbrev pub code_entries : Module → List ℕ
 code_entries m = flat_map code_entry m.funcs
 
--- These are the entries that were put: so many bytes, and where a module may have as many, they are kept.
+-- These are the entries that were put: so many bytes, and where a module may have as many, they are kept. More than that is never kept.
 pub record HoldsEntries (v : CodeEntries) (entries : List ℕ) : Type 0 where
   pub len : v.len ≡ min (length entries) (2 ^ 64 - 1)
   pub bytes : length entries ≤ 67108864 → v.bytes.items ≡ entries
+  pub kept : length v.bytes.items ≤ 67108864
 
 -- the code section of so many entries that take these bytes; none where there is no entry
 abbrev pub code_section : ℕ → List ℕ → List ℕ
