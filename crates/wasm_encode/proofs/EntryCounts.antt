@@ -30,9 +30,9 @@ more_kept old new size es more h is after within put =
       bytes = here;
       kept = let all = ap (λ bs. length bs) (here (omega (arith, counted, within))) in omega (arith, all, counted, within);
     }
-    where
-      counted : new.len ≡ min (length (es ++ more)) (2 ^ 64 - 1)
-      counted = counted_more old.len new.len size es more h.len is after
+  where
+    counted : new.len ≡ min (length (es ++ more)) (2 ^ 64 - 1)
+    counted = counted_more old.len new.len size es more h.len is after
 
-      here : length (es ++ more) ≤ 67108864 → new.bytes.items ≡ es ++ more
-      here le = let l = length-append es more in put ∙ ap (λ bs. bs ++ more) (h.bytes (omega (arith, l, le)))
+    here : length (es ++ more) ≤ 67108864 → new.bytes.items ≡ es ++ more
+    here le = let l = length-append es more in put ∙ ap (λ bs. bs ++ more) (h.bytes (omega (arith, l, le)))

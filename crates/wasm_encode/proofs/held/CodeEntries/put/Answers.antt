@@ -20,7 +20,7 @@ returns-then-self-gt-LONGEST c = λ es h.
     let s = sized_length (body_bytes (func_of c.args.func.now)) in
     let n = ap (λ k. length (shortest k)) c.body_len-size.ensures in
     let size : c.sized_len.result ≡ length (code_entry (func_of c.args.func.now)) = omega (arith, s, n, c.body_len-size.ensures, c.sized_len.ensures) in
-    more_counted c.args.self.now _ c.sized_len.result es (code_entry (func_of c.args.func.now)) h size c.saturating_add-self.ensures c.if-self-gt-LONGEST.true c.BytesMut-new.ensures
+    more_counted c.args.self.now _ c.sized_len.result es (code_entry (func_of c.args.func.now)) h size c.saturating_add-self.ensures c.if-self-gt-LONGEST.true c.new.ensures.items
 
 pub returns : goal.returns
 returns c = λ es h.
