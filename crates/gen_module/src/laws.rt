@@ -1,6 +1,7 @@
 //! Laws of generated modules. Each is the contract of a function that does nothing.
 
 ghost use Rattle.gen_module.specs.GeneratedLaws.{GeneratedIsSmall, GeneratedIsValid};
+ghost use Rattle.gen_module.specs.GeneratedRuns.{GeneratedPausesOnce};
 
 /// Generated modules are valid (standard, section 3.4).
 pub fn generated_modules_are_valid()
@@ -10,4 +11,9 @@ pub fn generated_modules_are_valid()
 /// They keep the stricter size rule.
 pub fn generated_modules_are_small()
     ensures { GeneratedIsSmall }
+{}
+
+/// Rewritten and run over a page as its area, they pause once and return what their functions make of the answer.
+pub fn generated_modules_pause_once()
+    ensures { GeneratedPausesOnce }
 {}

@@ -8,4 +8,6 @@ mod generating;
 mod laws;
 
 pub use generating::generate;
-pub use laws::{generated_modules_are_small, generated_modules_are_valid};
+pub use laws::{
+    generated_modules_are_small, generated_modules_are_valid, generated_modules_pause_once,
+};

@@ -11,8 +11,8 @@ ghost use Rattle.host_laws.specs.Answering.{IsShort, listed_of};
 use wa_model::{Answer, Area, End, Poke, Said};
 use wa_types::{ValType, Value};
 
-/// The first test that an answer fails: it is a trap, or a value of the import's result type; every poke lies inside the memory and off the
-/// area; where it pauses, the call isn't inside the start function, and the import isn't told as unlisted.
+/// The first test that an answer fails: it is a trap, or a value of the import's result type; every poke lies inside the memory and
+/// off the area; where it pauses, the call isn't inside the start function, and the import isn't told as unlisted.
 pub fn answer_fault(
     result_type: Option<ValType>,
     size: u64,

@@ -1,5 +1,5 @@
 -- No rewritten module that runs orderly breaks the protocol.
-use Rattle.std.proofs.Common.{arith, ◌≡◌, ◌≤◌, ◌+◌, ℕ, zero, suc, ◌*◌, List, [], ◌∷◌, ◌++◌, length, take, map, Option, Some, None, Bool, true, false, All, refl, sym, ap, ◌∙◌, subst}
+use Rattle.std.proofs.Common.{arith, ◌≡◌, ◌≤◌, ◌+◌, ℕ, zero, suc, List, [], ◌∷◌, ◌++◌, length, take, map, Option, Some, None, Bool, true, false, All, refl, sym, ap, ◌∙◌, subst}
 use Rattle.std.specs.Prelude.{nat_lt, if◌then◌else◌, slice_get, slice_set}
 use Rattle.std.specs.List.{AllZip}
 use Rattle.std.proofs.lemmas.List.Elements.{All-nil, All-cons, All-head, All-tail, All-append, All-take, All-weaker}
@@ -13,9 +13,8 @@ use Rattle.wa_model.specs.declared.events.End.{End}
 use Rattle.wa_model.specs.declared.events.End.TheVariants.{RewindTrap, Broken, StepsSpent}
 use Rattle.wa_model.specs.Outside.{Event, called, answered, paused, returned, ended, shown as was_shown, Line}
 use Rattle.wa_model.specs.Store.{Store}
-use Rattle.wa_model.specs.Step.{steps}
 use Rattle.wa_model.specs.Plan.{Plan, Outcome, OutcomeFits}
-use Rattle.wa_model.specs.Blocking.{Note, note, answers, runs, Blocking}
+use Rattle.wa_model.specs.Blocking.{Note, note, Blocking}
 use Rattle.wa_model.specs.Expected.{pause_note, trap_note, shown_at, shown}
 use Rattle.wa_model.specs.Behaves.{expected_notes}
 use Rattle.wa_model.specs.World.{Device, Look, Program, bytes_shown, put_off, turn_of, behind_turn, protocol_story, BlockingStory, whole, spent, looks_after, look_events, events_with_looks, line_at, Actor, Events, no_event, an_event, StartsHeld, Original}

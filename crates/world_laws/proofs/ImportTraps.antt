@@ -1,5 +1,5 @@
 -- A story tells an import's trap nowhere but behind an answer that is one.
-use Rattle.std.proofs.Common.{arith, ◌≡◌, ◌+◌, ◌-◌, ◌⊎◌, inl, inr, ℕ, zero, suc, List, [], ◌∷◌, ◌++◌, length, Option, Some, None, Bool, true, false, All, refl, sym, ap, ◌∙◌, subst}
+use Rattle.std.proofs.Common.{◌≡◌, ◌-◌, ◌⊎◌, inl, inr, ℕ, zero, suc, List, [], ◌∷◌, ◌++◌, length, Option, Some, None, Bool, true, false, All, refl, sym, ap, ◌∙◌}
 use Rattle.std.specs.Prelude.{nat_lt, nat_eq, if◌then◌else◌, slice_get}
 use Rattle.std.proofs.lemmas.List.Elements.{All-nil, All-cons, All-head, All-tail, All-weaker}
 use Rattle.wa_types.specs.declared.values.ValType.{ValType}
@@ -13,14 +13,14 @@ use Rattle.wa_model.specs.declared.answers.Said.{Said}
 use Rattle.wa_model.specs.declared.answers.Said.TheVariants as S
 use Rattle.wa_model.specs.declared.events.End.{End}
 use Rattle.wa_model.specs.declared.events.End.TheVariants.{Done, Trapped}
-use Rattle.wa_model.specs.Outside.{Answer, Event, called, answered, returned, ended}
+use Rattle.wa_model.specs.Outside.{Answer, answered, returned, ended}
 use Rattle.wa_model.specs.Machine.{Turn, stops, goes, Ran, after, still, pay, run_with, run}
 use Rattle.wa_model.specs.Store.{Store}
 use Rattle.wa_model.specs.Configuration.{Configuration}
 use Rattle.wa_model.specs.Step.{Next, steps, asks, returns, traps, stuck, step}
 use Rattle.wa_model.specs.Plan.{Entry, Plan, Outcome, given, refused}
 use Rattle.wa_model.specs.Instantiation.{Opening, fails_as, opens, opening}
-use Rattle.wa_model.specs.Blocking.{Note, note, call_note, value_of_results, fault_of, pause_of, poked, done_notes, Task, the_start, an_entry, Left, with_outcomes, Asker, inside, outermost, store_at, stack_at, in_start, next_entry, all_left}
+use Rattle.wa_model.specs.Blocking.{Note, note, call_note, value_of_results, fault_of, pause_of, poked, done_notes, Task, the_start, an_entry, Left, with_outcomes, Asker, inside, outermost, store_at, stack_at, in_start, next_entry, all_left, no_store}
 use Rattle.wa_model.specs.Protocol.{Exports, exports_of, Phase, is_running, unwinds, rewinds, Then, give_zero, test_unwound, pause_there, call_again, test_rewound, give_answer, Held, free, starting, busy, calling, aside, entering, over, trap_end, broken, answer_note, held_on, held_back, held_given, held_pauses, held_resumed, held_tested, held_asked, busy_step, is_state, aside_back, aside_step, busy_enters, held_next, aside_called, held_start, protocol, held_begun}
 use Rattle.wa_model.specs.World.{Program, unless_over, protocol_story}
 use Rattle.run_theory.proofs.OwnTraps.{no_import_trap}
@@ -191,15 +191,21 @@ module _ (Q : Type 0) where
 
     given_fine : (k import : ℕ) (args : List Value) (who : Asker) (l : Left) (said : Said) (s : Store) (pause : Option ℕ) → All Ok l.outcomes
         → TurnFine (held_given k (call_note import args (store_at who) (stack_at p who) pause) said s l who)
-    given_fine k import args (inside task c) l (S.Value v) s pause h =
-        (front (call_note import args c.store (stack_at p (inside task c)) pause) (note (answered (S.Value v)) s ∷ []) (call_plain import args (inside task c) p pause)
-        (one (note (answered (S.Value v)) s) (λ e. cc, λ e. cc)), h)
-    given_fine k import args (outermost old) l (S.Value v) s pause h =
-        (front (call_note import args old [] pause) (note (answered (S.Value v)) s ∷ done_notes s l.entries) (call_plain import args (outermost old) p pause)
-        (front (note (answered (S.Value v)) s) (done_notes s l.entries) (λ e. cc, λ e. cc) (done_fine s l.entries)), on_ok s l l.entries h)
-    given_fine k import args who l S.Trap s pause h =
-        (front (call_note import args (store_at who) (stack_at p who) pause) (note (answered S.Trap) s ∷ note (ended (Trapped Import)) s ∷ []) (call_plain import args who p pause)
-        (trap_there (note (answered S.Trap) s) (note (ended (Trapped Import)) s) refl refl refl), tt)
+    given_fine k import args (inside task c) l (S.Value v) s pause h = (
+      front (call_note import args c.store (stack_at p (inside task c)) pause) (note (answered (S.Value v)) s ∷ []) (call_plain import args (inside task c) p pause)
+          (one (note (answered (S.Value v)) s) (λ e. cc, λ e. cc)),
+      h,
+    )
+    given_fine k import args (outermost old) l (S.Value v) s pause h = (
+      front (call_note import args old [] pause) (note (answered (S.Value v)) s ∷ done_notes s l.entries) (call_plain import args (outermost old) p pause)
+          (front (note (answered (S.Value v)) s) (done_notes s l.entries) (λ e. cc, λ e. cc) (done_fine s l.entries)),
+      on_ok s l l.entries h,
+    )
+    given_fine k import args who l S.Trap s pause h = (
+      front (call_note import args (store_at who) (stack_at p who) pause) (note (answered S.Trap) s ∷ note (ended (Trapped Import)) s ∷ []) (call_plain import args who p pause)
+          (trap_there (note (answered S.Trap) s) (note (ended (Trapped Import)) s) refl refl refl),
+      tt,
+    )
 
     pauses_fine : (k import : ℕ) (args : List Value) (a : Answer) (l : Left) (who who' : Asker) (pause : Option ℕ) → All Ok l.outcomes
         → TurnFine (held_pauses x plan k (call_note import args (store_at who') (stack_at p who') pause) import a l who)
@@ -333,7 +339,7 @@ module _ (Q : Type 0) where
             by_cost false = none
 
     begun_fine : (start : Option ℕ) (l : Left) (o : Opening) → OpeningIs NotImport o → All Ok l.outcomes → Fine (held_begun start l o).events × LeftOk (held_begun start l o).last
-    begun_fine start l (fails_as e) not h = (one (note (ended e) _) (not_plain e _ not), tt)
+    begun_fine start l (fails_as e) not h = (one (note (ended e) no_store) (not_plain e no_store not), tt)
     begun_fine None l (opens s) not h = (done_fine s l.entries, on_ok s l l.entries h)
     begun_fine (Some f) l (opens s) not h = (none, h)
 
@@ -381,4 +387,4 @@ traps_are_answers w os i y fine at e = by i at
 
     by : (k : ℕ) → slice_get (protocol_story w os) k ≡ Some y → (j : ℕ) × (x : Note) × (k ≡ suc j) × (slice_get (protocol_story w os) j ≡ Some x) × (x.event ≡ answered S.Trap)
     by zero there = absurd (first_is ⊥ (protocol_story w os) y story.0 there e)
-    by (suc j) there = elim (found_before ⊥ (protocol_story w os) j y story.1 there e) [ inl f ↦ (j, f.0, refl, f.1, f.2) | inr no ↦ absurd no ]
+    by (suc j) there = elim (found_before ⊥ (protocol_story w os) j y story.1 there e) [ inl f ↦ (j, f.0, refl, f.1, f.2) | inr q ↦ absurd q ]
