@@ -4,13 +4,13 @@ use Rattle.std.specs.Prelude.{Option, slice_get, replicate, codes}
 use Rattle.wa_types.specs.declared.values.ValType.TheVariants.{I32, I64}
 use Rattle.wa_types.specs.declared.values.Value.{Value}
 use Rattle.wa_types.specs.declared.values.Value.TheVariants as V
-use Rattle.wa_types.specs.declared.values.Trap.TheVariants.{DivideByZero, UndefinedElement, UninitializedElement, TypeMismatch, Unreachable, StackExhausted, Import as ByImport}
+use Rattle.wa_types.specs.declared.values.Trap.TheVariants.{DivideByZero, UndefinedElement, UninitializedElement, TypeMismatch, Unreachable, StackExhausted, OutOfBounds, Import as ByImport}
 use Rattle.wa_types.specs.declared.operators.NumOp.TheVariants.{I32Add, I32Sub, I32Eq, I64DivU, I64ExtendI32U}
 use Rattle.wa_types.specs.declared.syntax.Import.{Import}
 use Rattle.wa_types.specs.declared.syntax.ImportKind.TheVariants as K
 use Rattle.wa_types.specs.declared.syntax.Export.{Export}
 use Rattle.wa_types.specs.declared.syntax.Space.TheVariants as Sp
-use Rattle.wa_types.specs.Syntax.{Basic, drop, const, num, global_get, global_set, return, unreachable, load, store, memory_grow, basic, local_get, local_set, local_tee, br_if, br_table}
+use Rattle.wa_types.specs.Syntax.{Basic, drop, const, num, global_get, global_set, return, unreachable, load, store, memory_grow, memory_copy, memory_fill, basic, local_get, local_set, local_tee, br_if, br_table}
 use Rattle.wa_types.specs.Syntax.{call, call_indirect, Code, done, plain, nest, branch, a_block, a_loop, FuncType, Func, Module}
 use Rattle.wa_types.specs.Pruned.{pruned}
 use Rattle.wa_types.specs.Base.{Base}
@@ -25,7 +25,7 @@ use Rattle.wa_model.specs.Outside.{Poke, Answer, Event, called, answered, paused
 use Rattle.wa_types.specs.Memory.{bytes_at}
 use Rattle.wa_types.specs.Frames.{Suspended, Image}
 use Rattle.std.proofs.lemmas.List.Elements.{All-cons, All-nil}
-use Rattle.wa_model.specs.Store.{Range, Store, works, act}
+use Rattle.wa_model.specs.Store.{Range, Store, works, fails, act}
 use Rattle.wa_model.specs.Configuration.{Activation, running, waiting}
 use Rattle.wa_model.specs.Step.{Next, steps, traps, step}
 use Rattle.wa_model.specs.declared.answers.Area.{Area}
@@ -34,7 +34,7 @@ use Rattle.wa_model.specs.Untouched.{StaysOff, Untouched}
 use Rattle.wa_model.specs.Blocking.{Note, no_store, events_of, Blocking, blocking_run}
 use Rattle.wa_model.specs.Protocol.{Protocol}
 use Rattle.wa_model.specs.Expected.{Expected}
-use Rattle.wa_model.proofs.StayingOff.{is_off, nothing_off, one_off, range}
+use Rattle.wa_model.proofs.StayingOff.{is_off, nothing_off, one_off, both_off, range}
 use Rattle.wa_model.specs.Behaves.{IsPrefix, expected_notes, protocol_notes, pause_stacks, without_pauses}
 
 abbrev i32 : ℕ → Value
@@ -362,6 +362,79 @@ first_past_end = λ inside. absurd (let le : 65530 + 8 ≤ 65536 = inside 0 (ran
 
 no_byte_touches_none : StaysOff (bytes_from 0) 65536 (range 8 0 ∷ [])
 no_byte_touches_none = one_off (bytes_from 0) 65536 8 0 (λ le. refl)
+
+-- ---- copies and fills: what they reach, and what they cost
+abbrev copies : (to from len : ℕ) → Module
+copies to from len = touches (then (const (i32 to)) (then (const (i32 from)) (then (const (i32 len)) (then memory_copy done))))
+
+each_of_five : (P : ℕ → Type 0) → P 0 → P 1 → P 2 → P 3 → P 4 → (j : ℕ) → j < 5 → P j
+each_of_five P p q r s t zero h = p
+each_of_five P p q r s t (suc j) h = each_of_four (λ i. P (suc i)) q r s t j (omega arith)
+
+-- 1 for the entry and 3 for the constants, and then a copy of bytes 60 to 67, of which four are in the area
+source_touches : Untouched (copies 100 60 8) (area_from 0) [] 5 → ⊥
+unfolding Base
+source_touches h = second_touches (h 4 (omega arith))
+
+-- one of length 0 inside the area
+empty_copy_touches_none : Untouched (copies 8 8 0) (area_from 0) [] 5
+unfolding Base
+empty_copy_touches_none =
+    let none = nothing_off (bytes_from 0) 65536 in
+    each_of_five _ tt none none none (both_off (bytes_from 0) 65536 (range 8 0) (range 8 0) refl refl)
+
+-- one into the area whose source passes the end: it traps
+trapping_copy_touches_none : Untouched (copies 65480 65534 4) (area_from 65472) [] 5
+unfolding Base
+trapping_copy_touches_none =
+    let none = nothing_off (bytes_from 65472) 65536 in
+    each_of_five _ tt none none none (λ inside. absurd (let le : 65534 + 4 ≤ 65536 = inside 1 (range 0 0) (omega arith) in omega (arith, le)))
+
+abbrev copy_events : (to from len n : ℕ) → List Event
+copy_events to from len n = events_of (blocking_run (copies to from len) (plan_of 64 (entry 0 [] ∷ [])) [] n).events
+
+-- a copy of 8 bytes costs 9: 1 for the entry, 3 for the constants, 9, and 1 for the end
+copy_within_fourteen : copy_events 100 60 8 14 ≡ returned 0 None ∷ ended Done ∷ []
+unfolding Base
+copy_within_fourteen = refl
+
+copy_not_within_thirteen : copy_events 100 60 8 13 ≡ []
+unfolding Base
+copy_not_within_thirteen = refl
+
+-- one that traps costs 1
+trapping_copy_within_five : copy_events 65480 65534 4 5 ≡ ended (Trapped OutOfBounds) ∷ []
+unfolding Base
+trapping_copy_within_five = refl
+
+trapping_copy_not_within_four : copy_events 65480 65534 4 4 ≡ []
+unfolding Base
+trapping_copy_not_within_four = refl
+
+abbrev with_bytes : List ℕ → Store
+with_bytes bytes = record { globals = []; memory = bytes; table = [] }
+
+abbrev five_bytes : Store
+five_bytes = with_bytes (1 ∷ 2 ∷ 3 ∷ 4 ∷ 5 ∷ [])
+
+copies_up : act None memory_copy five_bytes (i32 3 ∷ i32 0 ∷ i32 1 ∷ []) ≡ works (with_bytes (1 ∷ 1 ∷ 2 ∷ 3 ∷ 5 ∷ [])) []
+copies_up = refl
+
+copies_down : act None memory_copy five_bytes (i32 3 ∷ i32 2 ∷ i32 0 ∷ []) ≡ works (with_bytes (3 ∷ 4 ∷ 5 ∷ 4 ∷ 5 ∷ [])) []
+copies_down = refl
+
+copies_none_at_end : act None memory_copy five_bytes (i32 0 ∷ i32 5 ∷ i32 5 ∷ []) ≡ works five_bytes []
+copies_none_at_end = refl
+
+copies_none_past_end : act None memory_copy five_bytes (i32 0 ∷ i32 6 ∷ i32 0 ∷ []) ≡ fails OutOfBounds
+copies_none_past_end = refl
+
+-- the low bits of the value
+fills_with_low_bits : act None memory_fill five_bytes (i32 3 ∷ i32 0x1FE ∷ i32 2 ∷ []) ≡ works (with_bytes (1 ∷ 2 ∷ 0xFE ∷ 0xFE ∷ 0xFE ∷ [])) []
+fills_with_low_bits = refl
+
+fills_none_past_end : act None memory_fill five_bytes (i32 0 ∷ i32 7 ∷ i32 6 ∷ []) ≡ fails OutOfBounds
+fills_none_past_end = refl
 
 -- ---- answers that end a run
 abbrev asks_once : Module

@@ -30,6 +30,9 @@ module _ (area : Area) (size : ℕ) where
       let all = off (All-cons Inside x (y ∷ []) in_x (All-cons Inside y [] in_y (All-nil Inside))) in
       (All-head Off x (y ∷ []) all, All-head Off y [] (All-tail Off x (y ∷ []) all))
 
+  pub both_off : (x y : Range) → Off x → Off y → StaysOff area size (x ∷ y ∷ [])
+  both_off x y p q = λ inside. All-cons Off x (y ∷ []) p (All-cons Off y [] q (All-nil Off))
+
   pub each_off : ((x : Range) → Off x) → (xs : List Range) → StaysOff area size xs
   each_off h xs = λ inside. all_of xs
     where
