@@ -48,8 +48,8 @@ LeanCost m p plan os n = sum (trace (blocking (Base p) plan) (lean_next (first_o
 
 -- ---- both runs
 
--- Where the one run is at a cost of i, and the other at a cost of n, both have made the same events and the same loads, stores
--- and growths, in order, and their stores are the same.
+-- Where the one run is at a cost of i, and the other at a cost of n, both have made the same events and the same loads, stores,
+-- copies, fills and growths, in order, and their stores are the same.
 pub record StandAlike (m p : Module) (plan : Plan) (os : List Outcome) (i n : ℕ) : Type 0 where
   pub events : events_of (Blocking p plan os n).events ≡ events_of (Blocking m plan os i).events
   pub touches : Touches p plan os n ≡ Touches m plan os i
