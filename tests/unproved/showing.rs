@@ -78,6 +78,8 @@ fn show_leaf(out: &mut String, leaf: &Instr) -> Result<(), AllocError> {
         Instr::Return => out.push_str("Return"),
         Instr::MemorySize => out.push_str("MemorySize"),
         Instr::MemoryGrow => out.push_str("MemoryGrow"),
+        Instr::MemoryCopy => out.push_str("MemoryCopy"),
+        Instr::MemoryFill => out.push_str("MemoryFill"),
         Instr::Const(value) => write!(out, "Const({value:?})"),
         Instr::Num(op) => write!(out, "Num({})", name_of(*op)),
         Instr::Br(label) => write!(out, "Br({label})"),
