@@ -1,8 +1,10 @@
 -- The table of what follows an opcode, by ranges: each is computed over all of its opcodes.
-use Rattle.std.proofs.Common.{◌≡◌, ℕ, suc, ◌+◌, ◌-◌, ◌<◌, ◌≤◌, Bool, true, false, Option, Some, None, refl, arith}
+use Rattle.std.proofs.Common.{◌≡◌, ℕ, suc, ◌+◌, ◌-◌, ◌<◌, ◌≤◌, Bool, true, false, Option, Some, None, refl, arith, inl, inr}
+use Rattle.std.proofs.lemmas.Bool.{cases_lt}
 use Rattle.wa_types.specs.Operators.{first_numeric, last_numeric}
 use Rattle.wa_types.specs.Opcodes.{Form, no_immediate, a_zero, an_index, an_access, follows}
 use Rattle.wa_types.proofs.Ranges.{all_from, passes}
+use Rattle.file_laws.proofs.OpcodeTable.{none_follows}
 
 -- two of the forms that ranges of opcodes have
 is : Option Form → Option Form → Bool
@@ -53,9 +55,19 @@ pub row_numeric : (op : ℕ) → first_numeric ≤ op → op ≤ last_numeric �
 unfolding follows all_from is
 row_numeric op h k = row (Some no_immediate) first_numeric (suc last_numeric - first_numeric) op h (omega (arith, k)) refl
 
-pub gap_197 : (op : ℕ) → 197 ≤ op → op ≤ 251 → follows op ≡ None
+gap_197 : (op : ℕ) → 197 ≤ op → op ≤ 251 → follows op ≡ None
 unfolding follows all_from is
 gap_197 op h k = row None 197 55 op h (omega (arith, k)) refl
+
+-- above the numeric opcodes there is the prefix alone
+pub past_numeric : (op : ℕ) → last_numeric < op → (op ≡ 0xFC → ⊥) → follows op ≡ None
+past_numeric op h n = elim (cases_lt 0xFC op) [
+  | inl past ↦ none_follows op past
+  | inr le ↦ elim (cases_lt op 0xFC) [
+    | inl lt ↦ gap_197 op (omega (arith, h)) (omega (arith, lt))
+    | inr ge ↦ absurd (n (omega (arith, le, ge)))
+  ]
+]
 
 pub gap_2 : (op : ℕ) → 2 ≤ op → op ≤ 11 → follows op ≡ None
 unfolding follows all_from is

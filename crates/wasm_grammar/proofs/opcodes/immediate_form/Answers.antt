@@ -1,7 +1,6 @@
 use Rattle.std.proofs.Common.{◌≡◌, Some, refl, sym, ap, ◌∙◌, arith}
 use Rattle.wa_types.specs.Opcodes.{no_immediate, a_bulk, an_index, an_index_and_zero, some_labels, a_constant, a_float, follows}
-use Rattle.file_laws.proofs.OpcodeTable.{none_follows}
-use Rattle.wasm_grammar.proofs.OpcodeRows.{row_0, row_12, row_26, row_32, row_40, row_63, gap_2, gap_18, gap_28, gap_37, gap_197}
+use Rattle.wasm_grammar.proofs.OpcodeRows.{row_0, row_12, row_26, row_32, row_40, row_63, gap_2, gap_18, gap_28, gap_37, past_numeric}
 use Rattle.wasm_grammar.proofs.opcodes.immediate_form.Goals as goal
 
 pub returns-in-0-to-1 : goal.returns-in-0-to-1
@@ -71,7 +70,4 @@ pub returns-in_default-4 : goal.returns-in_default-4
 returns-in_default-4 c = sym (gap_37 _ (omega arith) (omega arith))
 
 pub returns-in_default-5 : goal.returns-in_default-5
-returns-in_default-5 c = sym (gap_197 _ (omega arith) (omega arith))
-
-pub returns-in_default-6 : goal.returns-in_default-6
-returns-in_default-6 c = sym (none_follows _ (omega arith))
+returns-in_default-5 c = sym (past_numeric _ (omega arith) (λ e. omega (arith, e)))
