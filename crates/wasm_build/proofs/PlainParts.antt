@@ -518,7 +518,9 @@ fill_start op n old new e r is = turn (λ c. Exactly (0x00 ∷ []) ▸ Exactly [
     (bulk_number op n old new e r)
 
 ten_no_eleven : bulk 11 ≡ bulk 10 → ⊥
-ten_no_eleven e = let f : 11 ≡ 10 = cc in omega (arith, f)
+ten_no_eleven e = let f = number_in e in omega (arith, f) where
+  number_in : {n m : ℕ} → bulk n ≡ bulk m → n ≡ m
+  number_in p = cc
 
 copy_is : (p : Plain) → plain_immediates p ≡ bulk 10 → code_of_one MemoryCopy ≡ plain p done
 unfolding in_front
