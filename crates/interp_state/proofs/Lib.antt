@@ -1,4 +1,3 @@
-pub mod BulkLemmas
 pub mod LoadLemmas
 pub mod MakeLemmas
 pub mod MapLemmas
