@@ -6,12 +6,23 @@ use Rattle.std.specs.declared.alloc.Global.{Global}
 use Rattle.wa_types.specs.declared.values.ValType.{ValType}
 use Rattle.wa_types.specs.declared.instrs.Instr.{Instr}
 use Rattle.wa_types.specs.declared.instrs.Instr.TheVariants.{BrTable, Block, Loop, If}
-use Rattle.leb_numbers.specs.Leb.{shortest}
+use Rattle.leb_numbers.specs.Leb.{shortest, spelled}
 use Rattle.wa_types.specs.Syntax.{Code, Shape, done, nest, branch, a_block, a_loop}
 use Rattle.wa_types.specs.View.{in_front, onto, code}
 use Rattle.wa_types.specs.Encoding.{vector, shape_byte, block_type_byte, code_bytes, else_bytes}
 use Rattle.wa_types.proofs.ViewLemmas.{instr_kind, is_block, is_loop, is_if, is_plain, in_block, in_loop, in_if, in_br_table, code_step, code_empty}
-use Rattle.wasm_encode.specs.Instrs.{first_bytes, instr_bytes}
+use Rattle.wasm_encode.specs.declared.code.Immediates.TheVariants.{Copy, Fill}
+use Rattle.wasm_encode.specs.Instrs.{first_bytes, instr_bytes, immediate_bytes}
+
+-- the number of a copy and its zero bytes
+pub copy_bytes : immediate_bytes Copy ≡ 0x0A ∷ 0x00 ∷ 0x00 ∷ []
+unfolding spelled
+copy_bytes = refl
+
+-- the number of a fill and its zero byte
+pub fill_bytes : immediate_bytes Fill ≡ 0x0B ∷ 0x00 ∷ []
+unfolding spelled
+fill_bytes = refl
 
 nest_front : (s : Shape) (r : Option ValType) (body rest : Code) → code_bytes (nest s r body rest) ≡ first_bytes (nest s r body done) ++ code_bytes rest
 unfolding code_bytes first_bytes
