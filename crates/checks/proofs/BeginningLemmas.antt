@@ -7,7 +7,7 @@ use Rattle.std.specs.Str.{is_utf8}
 use Rattle.leb_numbers.specs.declared.leb.LebFault.{LebFault}
 use Rattle.leb_numbers.specs.declared.leb.LebFault.TheVariants.{Short, Long, Bits}
 use Rattle.leb_numbers.specs.Leb.{unsigned_at, signed_at}
-use Rattle.wa_types.specs.Begun.{Goal, Item, a_byte, an_unsigned, a_signed, a_name, a_constant_of, IsItem, IsPart, size, head, until, rest, entries, count, exact, number, name, value_type, block_type, mutable, import_kind, space, limits, signed, name_bytes, float_bytes, code, wants, next, settled, end_of, IsBefore, Inside, Steps, Leads, arrived, item, BegunFrom, ends, part, then, sections, start, Begun, IsWhole}
+use Rattle.wa_types.specs.Begun.{Goal, Item, a_byte, an_unsigned, a_signed, a_name, a_constant_of, IsItem, IsPart, size, head, until, rest, entries, count, exact, number, name, value_type, block_type, mutable, import_kind, space, limits, signed, bulk_number, name_bytes, float_bytes, code, wants, next, settled, end_of, IsBefore, Inside, Steps, Leads, arrived, item, BegunFrom, ends, part, then, sections, start, Begun, IsWhole}
 use Rattle.leb_numbers.proofs.UnsignedReads.{again, takes}
 use Rattle.leb_numbers.proofs.SignedReads.{again as signed_again, takes as signed_takes}
 use Rattle.file_laws.proofs.Items.{item_some}
@@ -279,6 +279,7 @@ owes import_kind h = absurd (let w : false ≡ true = h in cc)
 owes space h = absurd (let w : false ≡ true = h in cc)
 owes limits h = absurd (let w : false ≡ true = h in cc)
 owes (signed bits) h = absurd (let w : false ≡ true = h in cc)
+owes bulk_number h = absurd (let w : false ≡ true = h in cc)
 owes (name_bytes n) h = absurd (let w : false ≡ true = h in cc)
 owes (float_bytes n) h = absurd (let w : false ≡ true = h in cc)
 owes (code first_arm) h = absurd (let w : false ≡ true = h in cc)
