@@ -16,7 +16,7 @@ use Rattle.wasm_build.specs.declared.levels.Opened.TheVariants.{Block, Loop, The
 use Rattle.wasm_build.specs.declared.levels.Level.{Level}
 use Rattle.wasm_grammar.specs.Places.{Place, with_more}
 use Rattle.wasm_build.specs.Builds.{Between, Builds}
-use Rattle.wasm_build.specs.BuildsPlain.{SpelledPlain, code_of_one, Puts}
+use Rattle.wasm_build.specs.BuildsPlain.{Puts}
 use Rattle.wasm_build.specs.BuildsCode.{CodeItem, an_instr, open_block, open_loop, open_if, an_else, an_end, SpelledCode, SpelledExpression, BuildsNext}
 use Rattle.wasm_build.specs.BuildsLevels.{Inside, Ahead, Running, Turned, Turns, closed, IsTurned, IsLost}
 use Rattle.wasm_build.proofs.Betweens.{fails}

@@ -1,8 +1,7 @@
 -- Numbers at the front of a place.
-use Rattle.std.proofs.Common.{◌≡◌, ℕ, ◌+◌, ◌-◌, ◌^◌, ◌<◌, ◌≤◌, List, [], ◌∷◌, ◌++◌, Bool, true, false, cond, Result, Ok, Err, ap, sym, ◌∙◌, subst, arith, length, take, drop, nat_lt, nat_eq, IsTrue, length-drop, length-append, length-take-le, append-nil, append_assoc, add-zero}
+use Rattle.std.proofs.Common.{◌≡◌, ℕ, ◌+◌, ◌-◌, ◌^◌, ◌<◌, ◌≤◌, List, [], ◌∷◌, ◌++◌, Bool, true, false, cond, Result, Ok, Err, ap, sym, ◌∙◌, subst, arith, length, take, drop, nat_lt, nat_eq, IsTrue, length-drop, length-take-le, append-nil, append_assoc, add-zero}
 use Rattle.std.proofs.lemmas.List.{drop_all, drop-drop, take-append-drop}
 use Rattle.std.proofs.lemmas.Bool.{eqb-true, eq-eqb}
-use Rattle.std.proofs.Math.Seq.{drop-append_seam}
 use Rattle.leb_numbers.specs.declared.leb.LebFault.{LebFault}
 use Rattle.leb_numbers.specs.declared.leb.LebFault.TheVariants.{Short}
 use Rattle.leb_numbers.specs.Leb.{IsUnsigned, IsSigned, unsigned_at, signed_at}
