@@ -10,5 +10,6 @@ mod laws;
 
 pub use generating::generate;
 pub use laws::{
-    generated_modules_are_small, generated_modules_are_valid, generated_modules_pause_once,
+    few_functions_return, generated_modules_are_small, generated_modules_are_valid,
+    generated_modules_pause_once,
 };
