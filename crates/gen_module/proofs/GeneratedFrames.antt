@@ -40,12 +40,12 @@ at_last [] g (suc k) e = absurd (omega arith)
 at_last (f ∷ fs) g zero e = absurd (omega arith)
 at_last (f ∷ fs) g (suc k) e = at_last fs g k (omega arith)
 
-there : (n k : ℕ) → k < n → slice_get (generated_funcs n) k ≡ Some (generated_func k)
-there zero k lt = absurd (omega arith)
-there (suc n) k lt =
+pub func_there : (n k : ℕ) → k < n → slice_get (generated_funcs n) k ≡ Some (generated_func k)
+func_there zero k lt = absurd (omega arith)
+func_there (suc n) k lt =
     let count = func_count n in
     ⊎_elim
-    (λ less. in_front (generated_funcs n) (generated_func n ∷ []) k (omega arith) ∙ there n k less)
+    (λ less. in_front (generated_funcs n) (generated_func n ∷ []) k (omega arith) ∙ func_there n k less)
     (λ more. let same : n ≡ k = omega arith in at_last (generated_funcs n) (generated_func n) k (omega arith) ∙ ap (λ i. Some (generated_func i)) same)
     (cases_lt k n)
 
@@ -57,7 +57,7 @@ found_at n k =
     ap (λ (b : Bool). if b then None else slice_get (generated_funcs n) (suc k - 1)) (lt_false (suc k) 1 (omega arith)) ∙ ap (slice_get (generated_funcs n)) z
 
 pub defined_there : (n k : ℕ) → k < n → defined_at (generated n) (suc k) ≡ Some (generated_func k)
-defined_there n k lt = found_at n k ∙ there n k lt
+defined_there n k lt = found_at n k ∙ func_there n k lt
 
 pub typed_there : (n x : ℕ) → x ≤ n → func_type_at (generated n) x ≡ one_to_one
 typed_there n x le = ap (λ (t : Option FuncType). elim t [ None ↦ record { params = []; results = [] } | Some y ↦ y ]) (type_there n x le)

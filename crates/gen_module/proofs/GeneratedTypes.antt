@@ -16,7 +16,7 @@ by_sort i zero = refl
 by_sort i (suc zero) = refl
 by_sort i (suc (suc k)) = refl
 
-func_sort : (i : ℕ) → (generated_func i).sort ≡ 0
+pub func_sort : (i : ℕ) → (generated_func i).sort ≡ 0
 func_sort zero = refl
 func_sort (suc i) = by_sort (suc i) (suc i % 3)
 

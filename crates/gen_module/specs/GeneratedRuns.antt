@@ -1,5 +1,5 @@
 -- What a generated module does where its import pauses once, and what a rewritten one does then.
-use Rattle.std.specs.Prelude.{ℕ, zero, suc, ◌+◌, ◌-◌, ◌*◌, ◌%◌, ◌≤◌, List, [], ◌∷◌, Some, true, false}
+use Rattle.std.specs.Prelude.{◌≡◌, ℕ, zero, suc, ◌+◌, ◌-◌, ◌*◌, ◌%◌, ◌≤◌, List, [], ◌∷◌, Some, true, false}
 use Rattle.wa_types.specs.declared.values.Value.TheVariants as V
 use Rattle.wa_types.specs.Pausing.{Settings, every, save_all}
 use Rattle.wa_types.specs.Syntax.{Module}
@@ -53,3 +53,9 @@ abbrev pub GeneratedPausesOnce : Type 0
 GeneratedPausesOnce =
     (n : ℕ) (p : Module) (steps : ℕ) → 1 ≤ n → n ≤ 4000 → 100000000 ≤ steps → Rewrites (generated n) all_listed p
     → IsPrefix (pauses_once (8 + 16 * n) (value_of_func (n - 1))) (events_of (Protocol p (run_plan n) (given wakes ∷ []) steps).events)
+
+-- One function makes 42 of the answer, four make 41, and seven 40.
+pub record FewFunctionsReturn : Type 0 where
+  pub one : value_of_func 0 ≡ 42
+  pub four : value_of_func 3 ≡ 41
+  pub seven : value_of_func 6 ≡ 40

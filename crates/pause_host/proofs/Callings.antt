@@ -1,5 +1,5 @@
 -- What a host may do where its program stands: call an export, write into the memory, go on behind a stretch.
-use Rattle.std.proofs.Common.{◌≡◌, ◌≤◌, ◌+◌, ◌-◌, ◌<◌, ◌^◌, ℕ, zero, suc, List, [], ◌∷◌, length, map, get_or, Option, Some, None, Bool, true, false, cond, All, refl, sym, ap, ◌∙◌, subst, arith}
+use Rattle.std.proofs.Common.{◌≡◌, ◌≤◌, ◌+◌, ◌<◌, ℕ, zero, suc, List, [], ◌∷◌, length, map, get_or, Some, None, Bool, true, false, cond, sym, ◌∙◌, subst, arith}
 use Rattle.std.specs.Prelude.{nat_lt, nat_le}
 use Rattle.std.proofs.lemmas.Bool.{le-leb}
 use Rattle.std.proofs.lemmas.List.Elements.{All-head, All-tail}
@@ -14,27 +14,23 @@ use Rattle.wa_model.specs.View.{answer_of, poke_of}
 use Rattle.wa_model.specs.Step.{entered}
 use Rattle.run_laws.specs.Ranges.{PokeInside}
 use Rattle.wa_model.specs.Store.{Store, with_memory}
-use Rattle.wa_model.specs.Configuration.{Activation}
-use Rattle.wa_model.specs.Blocking.{Left, Task, an_entry, resumed, poked}
-use Rattle.wa_model.specs.Protocol.{Exports, exports_of, Phase, Then, Held, busy, calling, give_zero, is_running, with_words}
+use Rattle.wa_model.specs.Blocking.{Left, poked}
+use Rattle.wa_model.specs.Protocol.{Exports, exports_of, Phase, Then, Held, calling, give_zero, with_words}
 use Rattle.wa_model.specs.World.{Program}
 use Rattle.run_theory.specs.Fitting.{types_of}
 use Rattle.run_laws.specs.FittingStates.{Callable}
 use Rattle.interp.specs.Host.{memory_of, poked_in, Pokes, PokesTo}
-use Rattle.interp.specs.Instance as I
 use Rattle.interp.specs.Instance.{Waits}
-use Rattle.host_laws.specs.Places.{Place, stands, nowhere}
+use Rattle.host_laws.specs.Places.{nowhere}
 use Rattle.host_laws.specs.Stretch.{Stretch}
 use Rattle.pause_host.specs.declared.stages.Pause.{Pause}
 use Rattle.pause_host.specs.declared.stages.Setting.{Setting}
-use Rattle.pause_host.specs.declared.stages.Stage.{Stage}
 use Rattle.pause_host.specs.declared.stages.Stage.TheVariants as S
 use Rattle.pause_host.specs.declared.stages.Task as TV
-use Rattle.pause_host.specs.declared.stages.Task.TheVariants as T
-use Rattle.pause_host.specs.Views.{answering, entry_of, exports_in, giving, pausing, place_in, unwinding, with_asker}
-use Rattle.pause_host.specs.Holding.{HoldsArea, PokesInside, FewEntries, HeldHolds, PlaceHolds, are_inside}
+use Rattle.pause_host.specs.Views.{answering, entry_of, exports_in, pausing, place_in, unwinding, with_asker}
+use Rattle.pause_host.specs.Holding.{HoldsArea, PokesInside, PlaceHolds, are_inside}
 use Rattle.pause_host.specs.Hosting.{HasMemory, HostsAt, HostsIn, HostsOver, MayCall}
-use Rattle.pause_host.specs.Moves.{IsSetting, PlaceFits, Returns}
+use Rattle.pause_host.specs.Moves.{IsSetting, Returns}
 use Rattle.pause_host.proofs.Comings.{fits_on}
 use Rattle.pause_host.proofs.Holding.{holds_on, true_held, true_inside}
 use Rattle.pause_host.proofs.MemoryGrows.{NextLong, goes_long, step_long}

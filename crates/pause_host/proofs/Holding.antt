@@ -1,7 +1,6 @@
 -- What a program holds it holds wherever it comes: no move of the protocol's machine loses it.
-use Rattle.std.proofs.Common.{◌≡◌, ℕ, zero, suc, ◌+◌, ◌*◌, ◌^◌, ◌<◌, ◌≤◌, Bool, true, false, cond, List, [], ◌∷◌, ◌++◌, length, Option, Some, None, All, refl, sym, ap, ◌∙◌, subst, arith}
+use Rattle.std.proofs.Common.{◌≡◌, ℕ, ◌+◌, ◌*◌, ◌^◌, ◌<◌, ◌≤◌, Bool, true, false, cond, List, [], ◌∷◌, ◌++◌, length, Option, Some, None, refl, sym, subst, arith}
 use Rattle.std.specs.Prelude.{nat_lt, nat_eq, nat_le, ◌&&◌}
-use Rattle.std.specs.Option.{option_to_list}
 use Rattle.std.proofs.lemmas.Bool.{leb-true, le-leb, and_parts}
 use Rattle.std.proofs.lemmas.List.Elements.{All-nil, All-cons, All-head, All-tail, All-weaker}
 use Rattle.wa_types.specs.declared.values.Value.{Value}
@@ -16,17 +15,17 @@ use Rattle.wa_model.specs.Outside.{Poke, Answer}
 use Rattle.wa_model.specs.Machine.{Turn, stops, goes, Leads, stays, moves}
 use Rattle.wa_model.specs.Store.{Store}
 use Rattle.wa_model.specs.Configuration.{Configuration}
-use Rattle.wa_model.specs.Step.{Next, steps, asks, returns, traps, stuck, step, entered}
+use Rattle.wa_model.specs.Step.{Next, steps, asks, returns, traps, stuck, step}
 use Rattle.wa_model.specs.Plan.{Entry, Plan, Outcome, given, refused}
 use Rattle.wa_model.specs.Instantiation.{Opening, fails_as, opens, opening, least_of}
-use Rattle.wa_model.specs.Blocking.{Note, note, call_note, fault_of, pause_of, poked, poked_memory, resumed, done_notes, Task, the_start, an_entry, Left, with_outcomes, Asker, inside, outermost, store_at, stack_at, in_start, next_entry}
+use Rattle.wa_model.specs.Blocking.{Note, call_note, fault_of, pause_of, poked, poked_memory, Task, the_start, an_entry, Left, with_outcomes, Asker, inside, outermost, store_at, stack_at, in_start, next_entry}
 use Rattle.wa_types.specs.Memory.{overwritten, bytes_of}
-use Rattle.wa_model.specs.Protocol.{Exports, exports_of, Phase, is_running, unwinds, rewinds, Then, give_zero, test_unwound, pause_there, call_again, test_rewound, give_answer, Held, free, starting, busy, calling, aside, entering, over, put_word, with_words, protocol, broken, held_on, held_back, held_given, held_resumed, held_ends, held_pauses, held_tested, held_asked, trap_end, busy_step, is_state, aside_back, aside_step, busy_enters, held_next, aside_called, held_start, held_begun}
+use Rattle.wa_model.specs.Protocol.{Exports, exports_of, Phase, is_running, unwinds, rewinds, Then, give_zero, test_unwound, pause_there, call_again, test_rewound, give_answer, Held, free, starting, busy, calling, aside, entering, over, put_word, with_words, protocol, broken, held_on, held_back, held_given, held_resumed, held_pauses, held_tested, held_asked, busy_step, is_state, aside_back, aside_step, busy_enters, held_next, aside_called, held_start, held_begun}
 use Rattle.wa_model.specs.World.{Program}
 use Rattle.run_laws.specs.Ranges.{PokeInside}
 use Rattle.run_laws.proofs.Host.{fault_pokes}
 use Rattle.host_laws.specs.Stretch.{meeting, Stretch}
-use Rattle.host_laws.specs.Places.{Place, stands, has_ended, nowhere, Lands, goes_on, ends, spends}
+use Rattle.host_laws.specs.Places.{Place, Lands, goes_on, ends, spends}
 use Rattle.pause_host.specs.Views.{free_place}
 use Rattle.pause_host.specs.Holding.{HoldsArea, PokesInside, FewEntries, TaskHolds, PhaseHolds, HeldHolds, PlaceHolds, is_held, are_inside}
 use Rattle.pause_host.proofs.MemoryGrows.{overwritten_longer, NextLong, step_long, opens_long}

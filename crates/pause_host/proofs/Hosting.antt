@@ -1,5 +1,5 @@
 -- Where a host stands at a place of its program's run it may go on.
-use Rattle.std.proofs.Common.{◌≡◌, ◌<◌, ◌≤◌, ◌+◌, ◌-◌, ℕ, List, [], length, map, length-append, Option, Some, None, Bool, true, false, cond, sym, ap, ◌∙◌, subst, refl, arith}
+use Rattle.std.proofs.Common.{◌≡◌, ◌<◌, ◌-◌, ℕ, List, [], length, map, length-append, Option, Some, None, Bool, true, false, cond, sym, ap, ◌∙◌, subst, refl, arith}
 use Rattle.std.specs.Prelude.{nat_lt, slice_get}
 use Rattle.std.proofs.lemmas.Bool.{ltb-false}
 use Rattle.std.proofs.lemmas.List.{length-map}
@@ -10,7 +10,7 @@ use Rattle.wa_types.specs.Syntax.{Func, Module}
 use Rattle.wa_types.specs.Modules.{all_memories, defined_at, func_imports, func_sorts, imported, imported_func}
 use Rattle.wa_model.specs.Store.{Store}
 use Rattle.wa_model.specs.Configuration.{Activation}
-use Rattle.wa_model.specs.Blocking.{Left, Note, the_start, done_notes}
+use Rattle.wa_model.specs.Blocking.{Left, the_start, done_notes}
 use Rattle.wa_model.specs.Protocol.{exports_of, Held, held_on}
 use Rattle.wa_model.specs.World.{Program}
 use Rattle.run_laws.specs.FittingStates.{HeldFits}
@@ -26,7 +26,7 @@ use Rattle.pause_host.specs.declared.stages.Stage.{Stage}
 use Rattle.pause_host.specs.declared.stages.Stage.TheVariants as S
 use Rattle.pause_host.specs.declared.stages.Task.{Task}
 use Rattle.pause_host.specs.declared.stages.Task.TheVariants as T
-use Rattle.pause_host.specs.Hosting.{HostsAt, HasMemory, CallsOne, StopsFirst, AsksOnly, StartRan}
+use Rattle.pause_host.specs.Hosting.{HostsAt, HasMemory, CallsOne, StopsFirst, StartRan}
 use Rattle.pause_host.specs.Moves.{IsSetting, PlaceFits, TaskTurn}
 use Rattle.pause_host.specs.Holding.{HeldHolds}
 use Rattle.pause_host.proofs.Holding.{holds_on}

@@ -1,5 +1,5 @@
 -- Answers of calls, behind parts of the way to them.
-use Rattle.std.proofs.Common.{◌≡◌, ◌≤◌, ℕ, ◌+◌, ◌-◌, List, [], ◌∷◌, All, map, length, Option, Result, Ok, Err, IfOk, OnOk, refl, sym, ap, ◌∙◌, subst, arith}
+use Rattle.std.proofs.Common.{◌≡◌, ◌≤◌, ℕ, ◌+◌, ◌-◌, List, [], ◌∷◌, All, map, length, Result, Ok, Err, IfOk, refl, sym, ap, ◌∙◌, subst, arith}
 use Rattle.wa_types.specs.declared.values.Value.{Value}
 use Rattle.wa_model.specs.declared.events.End.{End}
 use Rattle.wa_model.specs.declared.events.End.TheVariants as E
@@ -13,10 +13,9 @@ use Rattle.run_laws.specs.FittingStates.{HeldFits, EntryTyped}
 use Rattle.wa_model.specs.Store.{Store}
 use Rattle.wa_model.specs.Configuration.{Configuration}
 use Rattle.wa_model.specs.Plan.{Entry}
-use Rattle.wa_model.specs.Blocking.{Note, note, Left, done_notes, Task, inside, the_start, an_entry, next_entry}
+use Rattle.wa_model.specs.Blocking.{Note, note, Left, done_notes, Task, inside, the_start, an_entry}
 use Rattle.wa_model.specs.Protocol.{exports_of, Held, free, over, held_on}
 use Rattle.wa_model.specs.World.{Program}
-use Rattle.interp.specs.declared.turns.Turn.TheVariants as U
 use Rattle.interp.specs.Instance as I
 use Rattle.interp.specs.Instance.{Waits}
 use Rattle.host_laws.specs.Supplies.{Supply}
@@ -31,7 +30,7 @@ use Rattle.pause_host.specs.declared.stages.Stage.TheVariants as S
 use Rattle.pause_host.specs.declared.stages.Task as TV
 use Rattle.pause_host.specs.declared.stages.Task.TheVariants as T
 use Rattle.pause_host.specs.Views.{entry_of, free_place, place_in}
-use Rattle.pause_host.specs.Moves.{Comes, ComesFrom, EndsAt, Exports, IsAsking, IsTask, TaskTurn}
+use Rattle.pause_host.specs.Moves.{Comes, ComesFrom, EndsAt, Exports, IsAsking, IsTask}
 use Rattle.pause_host.proofs.Comings.{ends_come, comes_behind}
 use Rattle.pause_host.proofs.Tasks.{done_comes}
 

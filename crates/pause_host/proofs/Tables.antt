@@ -14,7 +14,7 @@ use Rattle.std.proofs.lemmas.Option.{slice_get-get_or, slice_get_read, slice_get
 use Rattle.std.proofs.lemmas.List.Elements.{All-head}
 use Rattle.wa_types.specs.Syntax.{Module}
 use Rattle.wa_types.specs.Modules.{all_memories}
-use Rattle.wa_types.specs.Validity.{Valid, same_name}
+use Rattle.wa_types.specs.Validity.{same_name}
 use Rattle.wa_model.specs.declared.events.End.TheVariants.{NoAnswer, OtherImport}
 use Rattle.wa_model.specs.Plan.{given, refused}
 use Rattle.interp.specs.Host.{memory_of}

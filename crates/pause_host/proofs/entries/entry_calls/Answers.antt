@@ -1,4 +1,4 @@
-use Rattle.std.proofs.Common.{arith, ◌≡◌, ◌+◌, ◌++◌, ◌∷◌, length, length-drop, map, drop, get_or, drop-cons, add-one, refl, sym, ap, ◌∙◌, append-nil}
+use Rattle.std.proofs.Common.{arith, ◌≡◌, ◌++◌, ◌∷◌, length, length-drop, map, drop, get_or, drop-cons, add-one, refl, sym, ap, ◌∙◌, append-nil}
 use Rattle.host_setup.specs.Views.{entry_of as named_of}
 use Rattle.pause_host.specs.declared.stages.EntryCall.{EntryCall}
 use Rattle.pause_host.specs.Views.{entry_of}

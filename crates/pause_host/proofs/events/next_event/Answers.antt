@@ -4,7 +4,6 @@ use Rattle.interp.specs.Host.{code_in, store_in, waits_in}
 use Rattle.pause_host.specs.Views.{end_of, left_of, supply_in, place_in}
 use Rattle.pause_host.specs.Moves.{ComesFrom, PlaceFits}
 use Rattle.pause_host.specs.declared.stages.Stage.TheVariants as S
-use Rattle.pause_host.specs.Views.{rewinding}
 use Rattle.pause_host.proofs.Callings.{told_inside}
 use Rattle.pause_host.proofs.Hosting.{hosts_stage, memory_there, pausing_waits}
 use Rattle.pause_host.proofs.Results.{ending_ok}

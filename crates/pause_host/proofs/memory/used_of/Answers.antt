@@ -1,4 +1,4 @@
-use Rattle.std.proofs.Common.{arith, ◌≡◌, ◌≤◌, ◌+◌, ◌-◌, ◌%◌, ◌^◌, ◌∙◌, length, ap}
+use Rattle.std.proofs.Common.{arith, ◌+◌, ◌-◌, ◌%◌, ◌^◌, ◌∙◌, length, ap}
 use Rattle.wa_types.specs.Memory.{bytes_at, number_of_bytes}
 use Rattle.interp.specs.Host.{code_in, store_in}
 use Rattle.pause_host.proofs.Callings.{memory_is}

@@ -1,4 +1,4 @@
-use Rattle.std.proofs.Common.{arith, ◌≡◌, ◌≤◌, ◌+◌, length, ◌∙◌, ap, refl, sym, subst}
+use Rattle.std.proofs.Common.{arith, ◌≤◌, ◌+◌, length, ◌∙◌, ap, refl}
 use Rattle.wa_types.specs.Memory.{overwritten}
 use Rattle.wa_types.proofs.MemoryLemmas.{length-overwritten}
 use Rattle.wa_model.specs.Store.{Store, with_memory}

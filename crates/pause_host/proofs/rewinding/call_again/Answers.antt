@@ -1,7 +1,7 @@
 use Rattle.std.proofs.Common.{◌-◌, [], sym, ap, ◌∙◌, subst}
 use Rattle.wa_model.specs.declared.events.End.TheVariants as E
 use Rattle.run_theory.specs.Fitting.{types_of, StoreFits}
-use Rattle.wa_model.specs.Protocol.{exports_of, calling, entering, test_rewound, trap_end}
+use Rattle.wa_model.specs.Protocol.{exports_of, calling, entering, test_rewound}
 use Rattle.interp.specs.Host.{code_in, store_in, waits_in}
 use Rattle.interp.specs.Instance.{Calls}
 use Rattle.pause_host.specs.Views.{entry_of, rewinding}

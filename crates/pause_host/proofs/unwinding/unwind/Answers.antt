@@ -12,7 +12,6 @@ use Rattle.pause_host.specs.Moves.{ComesFrom, Exports}
 use Rattle.pause_host.specs.declared.exports.Work.TheVariants.{Unwinding}
 use Rattle.pause_host.proofs.Callings.{area_told, hosts_on, pause_held, pause_over}
 use Rattle.pause_host.proofs.Comings.{fits_on}
-use Rattle.pause_host.proofs.Holding.{area_longer, words_longer}
 use Rattle.pause_host.proofs.Hosting.{memory_there}
 use Rattle.pause_host.proofs.Results.{ended_ok, behind_ok, export_got}
 use Rattle.pause_host.proofs.Stagings.{pauses}
