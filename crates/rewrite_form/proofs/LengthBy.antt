@@ -50,8 +50,12 @@ basic_length (load op align offset) = omega (arith, length-append (shortest alig
 basic_length (store op align offset) = omega (arith, length-append (shortest align) (shortest offset), shortest_length align, shortest_length offset)
 basic_length memory_size = omega arith
 basic_length memory_grow = omega arith
-basic_length memory_copy = omega arith
-basic_length memory_fill = omega arith
+basic_length memory_copy =
+    let e : length (plain_bytes (basic memory_copy)) ≡ suc (length (shortest 10) + 2) = ap suc (length-append (shortest 10) (0x00 ∷ 0x00 ∷ [])) in
+    omega (arith, e, shortest_length 10)
+basic_length memory_fill =
+    let e : length (plain_bytes (basic memory_fill)) ≡ suc (length (shortest 11) + 1) = ap suc (length-append (shortest 11) (0x00 ∷ [])) in
+    omega (arith, e, shortest_length 11)
 
 labels_length : (ls : List ℕ) → length (flat_map shortest ls) ≤ 10 * length ls
 labels_length [] = omega arith
