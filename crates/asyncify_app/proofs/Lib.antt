@@ -1,7 +1,9 @@
 pub mod Boxes
 pub mod GeneratedLocals
+pub mod GeneratedSetUp
 pub mod GeneratedSizes
 pub mod OneEnd
+pub mod OneStory
 pub mod Rewritten
 pub mod Runs
 pub mod Statuses

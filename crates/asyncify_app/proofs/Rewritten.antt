@@ -7,7 +7,7 @@ use Rattle.wa_types.specs.Sizes.{ElemSizes, FuncSizes, SegmentSizes, SizeRule, S
 use Rattle.wa_types.specs.Syntax.{Code, Func, GlobalDef, Module, Plain, basic, br, br_if, br_table, branch, call, call_indirect, done, local_get, local_set, local_tee, nest, plain, return, unreachable}
 use Rattle.flatten.specs.Whole.{FirstPasses}
 use Rattle.module_rewrite.specs.Whole.{FirstTooMany}
-use Rattle.asyncify_app.specs.Playing.{all_listed}
+use Rattle.gen_module.specs.GeneratedRuns.{all_listed}
 
 -- lists of fewer items are of fewer than more
 lists_wider : (a b : ℕ) (code : Code) → a ≤ b → code_lists a code → code_lists b code

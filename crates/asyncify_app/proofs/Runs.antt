@@ -1,42 +1,56 @@
 -- The program over a generated module that was rewritten, and what it tells.
-use Rattle.std.proofs.Common.{◌≡◌, ℕ, List, [], ◌∷◌, Option, Some, None, Result, Ok, Err, refl, sym, ap, ◌∙◌, subst, length, map, arith, All, Vec, Global}
-use Rattle.std.specs.Prelude.{codes, true, Bool, IfOk, slice_get}
+use Rattle.std.proofs.Common.{◌≡◌, ◌≤◌, ◌+◌, ◌-◌, ◌*◌, ◌++◌, ℕ, List, [], ◌∷◌, append_assoc, Option, Some, None, Result, Ok, Err, refl, sym, ap, ◌∙◌, subst, length, map, arith, All, Vec, Global}
+use Rattle.std.specs.Prelude.{codes, true, Bool, slice_get}
 use Rattle.std.specs.Option.{option_map, unwrap_or}
 use Rattle.std.specs.List.{find, filter_map}
-use Rattle.std.proofs.lemmas.List.{length-map}
+use Rattle.std.proofs.lemmas.List.{length-map, map-append}
 use Rattle.std.proofs.lemmas.List.Elements.{All-nil, All-cons}
 use Rattle.wa_types.specs.declared.syntax.Export.{Export}
 use Rattle.wa_types.specs.declared.syntax.Import.{Import}
 use Rattle.wa_types.specs.declared.values.Value.{Value}
 use Rattle.wa_types.specs.Modules.{func_imports, imported, imported_func, imported_global}
+use Rattle.wa_types.specs.Pausing.{joined_name}
 use Rattle.wa_types.specs.Runtime.{with_runtime}
+use Rattle.wa_types.specs.declared.values.Value.TheVariants as V
 use Rattle.wa_types.specs.Syntax.{Module}
 use Rattle.wa_types.specs.Validity.{same_name}
 use Rattle.wa_model.specs.declared.answers.Area.{Area}
 use Rattle.wa_model.specs.declared.events.End.{End}
-use Rattle.wa_model.specs.Outside.{AnswerLine, Event}
+use Rattle.wa_model.specs.Outside.{AnswerLine, Call, Event, answered, called, ended, paused, returned}
 use Rattle.wa_model.specs.Blocking.{Note, events_of}
 use Rattle.run_theory.specs.Fitting.{global_types, types_of}
 use Rattle.wa_model.specs.Rewrites.{Rewrites}
 use Rattle.wa_model.specs.View.{answer_line_of, event_of}
 use Rattle.wa_model.specs.declared.events.Event.{Event as EventValue}
+use Rattle.wa_model.specs.declared.events.Call.{Call as CallValue}
+use Rattle.wa_model.specs.declared.events.Event.TheVariants as EV
+use Rattle.wa_model.specs.declared.events.End.TheVariants.{Done}
+use Rattle.wa_model.specs.declared.answers.Said.{Said}
+use Rattle.wa_model.specs.Plan.{Outcome, given}
+use Rattle.wa_model.specs.Protocol.{Protocol}
 use Rattle.wa_model.specs.World as W
-use Rattle.wa_model.specs.World.{Look}
+use Rattle.wa_model.specs.World.{Look, MeetsLine, import_names, name_at, name_if, protocol_story, unless_over}
 use Rattle.host_laws.specs.Answering.{IsShort}
 use Rattle.pause_host.specs.Moves.{HasShortPokes}
-use Rattle.host_setup.specs.Views.{entry_of}
+use Rattle.host_setup.specs.Views.{Blames, entry_of}
+use Rattle.host_setup.specs.declared.faults.SetupFault.{SetupFault}
+use Rattle.host_setup.specs.declared.faults.SetupFault.TheVariants.{Memory, AreaBad, NoExports, EntryMissing, EntryIsImport, ArgTypes}
 use Rattle.host_setup.specs.SetUp.{Fault, NamedEntry, all_told, entry_funcs, first_fault, func_in, set_up, unless_fault}
 use Rattle.host_laws.specs.Stories.{IsStory}
 use Rattle.gen_module.specs.Generated.{generated, sleep}
+use Rattle.gen_module.specs.GeneratedRuns.{all_listed, pauses_once, run_plan, value_of_func, wakes}
+use Rattle.gen_module.proofs.GeneratedRuns.{generated_pauses_once}
 use Rattle.pause_host.specs.declared.plan.Plan.{Plan}
 use Rattle.pause_host.specs.declared.program.Program.{Program}
 use Rattle.pause_host.specs.Settings.{calls_of}
 use Rattle.pause_host.specs.Programs.{AdvancesAlone, BindsAs, FollowsAlone, IsPlan, SetsUp, end_in, ended_as, named_entries, world_program}
-use Rattle.pause_host.proofs.Advancing.{runs_first, starts_alone, story_told as story_of}
+use Rattle.pause_host.proofs.Advancing.{runs_first, starts_alone, story_begun, story_told as story_of}
 use Rattle.pause_host.proofs.Binds.{none_at, none_for_each}
 use Rattle.asyncify_app.specs.Plans.{PlansRun, run_entry}
-use Rattle.asyncify_app.specs.Playing.{all_listed, run_program, sleep_answer}
-use Rattle.asyncify_app.specs.Telling.{TellsNext}
+use Rattle.asyncify_app.specs.Playing.{run_program, sleep_answer}
+use Rattle.asyncify_app.specs.Telling.{StandsBefore, TellsFirst, TellsNext}
+use Rattle.asyncify_app.proofs.GeneratedSetUp.{sets_up}
+use Rattle.asyncify_app.proofs.OneStory.{comes_next, tells_first}
 
 -- ---- the function that is entered
 
@@ -83,6 +97,20 @@ made_follows n p x program r h s =
     subst (λ (w : W.Program). FollowsAlone w [] program) (is_run_program n p x s.0 h (func_entered n p x.area s.0 r.parts.exports same))
     (starts_alone (world_program x s.0 [] []) program (s.2 [] [] bound) s.3)
 
+-- set-up refuses it for want of memory alone
+pub refused_for_memory : (n : ℕ) (p : Module) (x : Plan) (fault : SetupFault) → 1 ≤ n → Rewrites (generated n) all_listed p → PlansRun p x → SetsUp x (Err fault) → fault ≡ Memory
+refused_for_memory n p x fault least r h s =
+    by fault s (ap (λ (z : Module). set_up z x.area (named_entries x)) h.source ∙ ap (λ (a : Area). set_up p a (named_entries x)) h.area
+    ∙ ap (λ (es : List NamedEntry). set_up p (record { at = 0; len = 65536 }) es) h.entries ∙ sets_up n p least r)
+  where
+    by : {told : Result (List ℕ) Fault} {funcs : List ℕ} → (fault : SetupFault) → Blames fault told → told ≡ Ok funcs → fault ≡ Memory
+    by Memory blamed is = refl
+    by AreaBad blamed is = cc
+    by (NoExports name) blamed is = cc
+    by (EntryMissing entry) blamed is = cc
+    by (EntryIsImport entry) blamed is = cc
+    by (ArgTypes entry) blamed is = cc
+
 -- ---- what is asked of the plan
 
 -- a generated module, rewritten, has the one import
@@ -119,24 +147,134 @@ module _ (w : W.Program) (x : Program) where
   pub story_told : (notes : List Note) (how : End) → FollowsAlone w notes x → ended_as x ≡ Some how → IsStory w notes
   story_told notes how f e = story_of w notes x how f e
 
-  -- an event that is told
-  pub tells : (notes : List Note) (told : EventValue) (event : Event) → event_of told ≡ event → AdvancesAlone w notes told x → TellsNext w notes event x
-  tells notes told event e a = record { note = a.note; event_is = a.event_is ∙ e; follows = a.follows; ended_is = a.ended_is ∙ ap end_in (a.event_is ∙ e) }
+  -- the event that is told is the one that comes next
+  pub told_is : (y : Program) (notes : List Note) (event : Event) (told : EventValue) → StandsBefore w notes event y → AdvancesAlone w notes told x → event_of told ≡ event
+  told_is y notes event told s a = sym a.event_is ∙ s.next a.note (story_begun w (notes ++ a.note ∷ []) x a.follows)
+
+  pub hears : (y : Program) (notes : List Note) (event : Event) (told : EventValue) → StandsBefore w notes event y → AdvancesAlone w notes told x → TellsNext w notes event x
+  hears y notes event told s a =
+      let is : a.note.event ≡ event = s.next a.note (story_begun w (notes ++ a.note ∷ []) x a.follows) in
+      record { note = a.note; event_is = is; follows = a.follows; ended_is = a.ended_is ∙ ap end_in is }
+
+  -- it stands before the next of the events that it tells first
+  pub stands_before : (before : List Event) (event : Event) (behind : List Event) → TellsFirst w (before ++ event ∷ behind) → (notes : List Note) → events_of notes ≡ before
+      → FollowsAlone w notes x → ended_as x ≡ None → StandsBefore w notes event x
+  stands_before before event behind first notes is f none = record { follows = f; goes_on = none; next = comes_next w before event behind first notes is }
+
+-- ---- which event it is
+
+pub is_call : (told : EventValue) (call : Call) → event_of told ≡ called call → ((x : CallValue) → told ≡ EV.Called x → ⊥) → ⊥
+is_call (EV.Called x) call e none = none x refl
+is_call (EV.Answered said) call e none = cc
+is_call (EV.Paused ticks used) call e none = cc
+is_call (EV.Returned entry v) call e none = cc
+is_call (EV.Ended how) call e none = cc
+is_call (EV.Shown at bytes) call e none = cc
+
+pub is_pause : (told : EventValue) (ticks used : ℕ) → event_of told ≡ paused ticks used → ((t u : ℕ) → told ≡ EV.Paused t u → ⊥) → ⊥
+is_pause (EV.Called x) ticks used e none = cc
+is_pause (EV.Answered said) ticks used e none = cc
+is_pause (EV.Paused t u) ticks used e none = none t u refl
+is_pause (EV.Returned entry v) ticks used e none = cc
+is_pause (EV.Ended how) ticks used e none = cc
+is_pause (EV.Shown at bytes) ticks used e none = cc
+
+pub is_answer : (told : EventValue) (said : Said) → event_of told ≡ answered said → ((x : Said) → told ≡ EV.Answered x → ⊥) → ⊥
+is_answer (EV.Called x) said e none = cc
+is_answer (EV.Answered x) said e none = none x refl
+is_answer (EV.Paused ticks used) said e none = cc
+is_answer (EV.Returned entry v) said e none = cc
+is_answer (EV.Ended how) said e none = cc
+is_answer (EV.Shown at bytes) said e none = cc
+
+pub is_return : (told : EventValue) (entry : ℕ) (value : Option Value) → event_of told ≡ returned entry value → ((i : ℕ) (v : Option Value) → told ≡ EV.Returned i v → ⊥) → ⊥
+is_return (EV.Called x) entry value e none = cc
+is_return (EV.Answered said) entry value e none = cc
+is_return (EV.Paused ticks used) entry value e none = cc
+is_return (EV.Returned i v) entry value e none = none i v refl
+is_return (EV.Ended how) entry value e none = cc
+is_return (EV.Shown at bytes) entry value e none = cc
+
+pub is_end : (told : EventValue) (how : End) → event_of told ≡ ended how → ((x : End) → told ≡ EV.Ended x → ⊥) → ⊥
+is_end (EV.Called x) how e none = cc
+is_end (EV.Answered said) how e none = cc
+is_end (EV.Paused ticks used) how e none = cc
+is_end (EV.Returned i v) how e none = cc
+is_end (EV.Ended x) how e none = none x refl
+is_end (EV.Shown at bytes) how e none = cc
+
+-- ---- the whole run
+
+-- the call that the first function makes
+abbrev pub the_call : Call
+the_call = record { import = 0; args = V.I32 7 ∷ [] }
+
+-- what comes behind it
+abbrev behind_answer : (value : ℕ) → List Event
+behind_answer value = returned 0 (Some (V.I32 value)) ∷ ended Done ∷ []
+
+abbrev behind_pause : (value : ℕ) → List Event
+behind_pause value = answered wakes.said ∷ behind_answer value
+
+abbrev behind_call : (used value : ℕ) → List Event
+behind_call used value = paused 1 used ∷ behind_pause value
 
 -- five notes of these events
-pub events_told : (n₁ n₂ n₃ n₄ n₅ : Note) (e₁ e₂ e₃ e₄ e₅ : Event) → n₁.event ≡ e₁ → n₂.event ≡ e₂ → n₃.event ≡ e₃ → n₄.event ≡ e₄ → n₅.event ≡ e₅
-    → events_of (n₁ ∷ n₂ ∷ n₃ ∷ n₄ ∷ n₅ ∷ []) ≡ e₁ ∷ e₂ ∷ e₃ ∷ e₄ ∷ e₅ ∷ []
-events_told n₁ n₂ n₃ n₄ n₅ e₁ e₂ e₃ e₄ e₅ a b c d e = rw (a, b, c, d, e) refl
+pub events_told : (n₁ n₂ n₃ n₄ n₅ : Note) (used value u v : ℕ) → u ≡ used → v ≡ value
+    → n₁.event ≡ called the_call → n₂.event ≡ paused 1 used → n₃.event ≡ answered wakes.said → n₄.event ≡ returned 0 (Some (V.I32 value)) → n₅.event ≡ ended Done
+    → events_of (n₁ ∷ n₂ ∷ n₃ ∷ n₄ ∷ n₅ ∷ []) ≡ pauses_once u v
+events_told n₁ n₂ n₃ n₄ n₅ used value u v p q a b c d e = told ∙ (λ i. pauses_once (sym p i) (sym q i))
+  where
+    told : events_of (n₁ ∷ n₂ ∷ n₃ ∷ n₄ ∷ n₅ ∷ []) ≡ pauses_once used value
+    told = λ i. a i ∷ b i ∷ c i ∷ d i ∷ e i ∷ []
 
--- ---- answers of calls
+module _ (w : W.Program) (used value : ℕ) (first : TellsFirst w (pauses_once used value)) (x : Program) where
+  pub before_call : FollowsAlone w [] x → StandsBefore w [] (called the_call) x
+  before_call f = stands_before w x [] (called the_call) (behind_call used value) first [] refl f (not_ended w x f)
 
-pub given : {T E : Type 0} (r : Result T E) (x : T) (P : T → Type 0) → r ≡ Ok x → P x → IfOk r P
-given r x P e p = subst (λ q. IfOk q P) (sym e) p
+  pub before_pause : (n₁ : Note) → n₁.event ≡ called the_call → FollowsAlone w (n₁ ∷ []) x → ended_as x ≡ None → StandsBefore w (n₁ ∷ []) (paused 1 used) x
+  before_pause n₁ a f none = stands_before w x (called the_call ∷ []) (paused 1 used) (behind_pause value) first (n₁ ∷ []) (λ i. a i ∷ []) f none
 
-pub refused : {T E : Type 0} (r : Result T E) (x : E) (P : T → Type 0) → r ≡ Err x → IfOk r P
-refused r x P e = subst (λ q. IfOk q P) (sym e) tt
+  pub before_answer : (n₁ n₂ : Note) → n₁.event ≡ called the_call → n₂.event ≡ paused 1 used → FollowsAlone w (n₁ ∷ n₂ ∷ []) x → ended_as x ≡ None → StandsBefore w (n₁ ∷ n₂ ∷ []) (answered wakes.said) x
+  before_answer n₁ n₂ a b f none = stands_before w x (called the_call ∷ paused 1 used ∷ []) (answered wakes.said) (behind_answer value) first (n₁ ∷ n₂ ∷ []) (λ i. a i ∷ b i ∷ []) f none
 
--- an answer that is handed on
-pub handed : {T E : Type 0} (r q : Result T E) (P Q : T → Type 0) → ((x : T) → P x → Q x) → r ≡ q → IfOk q P → IfOk r Q
-handed r (Ok x) P Q h e p = subst (λ z. IfOk z Q) (sym e) (h x p)
-handed r (Err x) P Q h e p = subst (λ z. IfOk z Q) (sym e) tt
+  pub before_return : (n₁ n₂ n₃ : Note) → n₁.event ≡ called the_call → n₂.event ≡ paused 1 used → n₃.event ≡ answered wakes.said → FollowsAlone w (n₁ ∷ n₂ ∷ n₃ ∷ []) x → ended_as x ≡ None
+      → StandsBefore w (n₁ ∷ n₂ ∷ n₃ ∷ []) (returned 0 (Some (V.I32 value))) x
+  before_return n₁ n₂ n₃ a b c f none =
+      stands_before w x (called the_call ∷ paused 1 used ∷ answered wakes.said ∷ []) (returned 0 (Some (V.I32 value))) (ended Done ∷ []) first (n₁ ∷ n₂ ∷ n₃ ∷ []) (λ i. a i ∷ b i ∷ c i ∷ []) f none
+
+  pub before_end : (n₁ n₂ n₃ n₄ : Note) → n₁.event ≡ called the_call → n₂.event ≡ paused 1 used → n₃.event ≡ answered wakes.said → n₄.event ≡ returned 0 (Some (V.I32 value))
+      → FollowsAlone w (n₁ ∷ n₂ ∷ n₃ ∷ n₄ ∷ []) x → ended_as x ≡ None → StandsBefore w (n₁ ∷ n₂ ∷ n₃ ∷ n₄ ∷ []) (ended Done) x
+  before_end n₁ n₂ n₃ n₄ a b c d f none =
+      stands_before w x (called the_call ∷ paused 1 used ∷ answered wakes.said ∷ returned 0 (Some (V.I32 value)) ∷ []) (ended Done) [] first (n₁ ∷ n₂ ∷ n₃ ∷ n₄ ∷ []) (λ i. a i ∷ b i ∷ c i ∷ d i ∷ []) f none
+
+-- ---- of a generated module
+
+-- with so many steps
+abbrev program_with : (n steps : ℕ) → Module → W.Program
+program_with n steps p = record { source = p; plan = run_plan n; steps = steps; answers = sleep_answer ∷ []; binds = []; looks = [] }
+
+names_are : (n : ℕ) (p : Module) → p.imports ≡ (generated n).imports → import_names p ≡ codes "env.sleep" ∷ []
+unfolding generated
+names_are n p e = ap (λ (is : List Import). filter_map (λ (i : Import). name_if (joined_name i) (imported_func i.kind)) is) e
+
+-- its import's call meets the one answer
+meets_answer : (names : List (List ℕ)) (o : Outcome) (lines : List AnswerLine) → names ≡ codes "env.sleep" ∷ [] → MeetsLine 0 (name_at names 0) (sleep_answer ∷ []) o lines → o ≡ given wakes
+meets_answer names o lines is h =
+    let m : MeetsLine 0 (codes "env.sleep") (sleep_answer ∷ []) o lines = subst (λ (ns : List (List ℕ)). MeetsLine 0 (name_at ns 0) (sleep_answer ∷ []) o lines) is h in m.0
+
+tells_with : (n steps : ℕ) (p : Module) → 1 ≤ n → n ≤ 4000 → 100000000 ≤ steps → Rewrites (generated n) all_listed p → TellsFirst (program_with n steps p) (pauses_once (8 + 16 * n) (value_of_func (n - 1)))
+tells_with n steps p least most enough r =
+    let w : W.Program = program_with n steps p in
+    let g : Outcome = given wakes in
+    let made = (Protocol p (run_plan n) (g ∷ []) steps).events in
+    let spent = unless_over steps (Protocol p (run_plan n) (g ∷ []) steps).last in
+    let law = generated_pauses_once n p steps least most enough r in
+    let story : events_of (protocol_story w (g ∷ [])) ≡ pauses_once (8 + 16 * n) (value_of_func (n - 1)) ++ (law.0 ++ events_of spent) =
+    map-append (λ (x : Note). x.event) made spent ∙ ap (λ (es : List Event). es ++ events_of spent) law.1 ∙ append_assoc (pauses_once (8 + 16 * n) (value_of_func (n - 1))) law.0 (events_of spent) in
+    tells_first w the_call (paused 1 (8 + 16 * n) ∷ answered wakes.said ∷ returned 0 (Some (V.I32 (value_of_func (n - 1)))) ∷ ended Done ∷ []) (law.0 ++ events_of spent) g story refl
+    (λ o lines ds h. meets_answer (import_names p) o lines (names_are n p r.parts.imports) h.0)
+
+-- The program over a generated module, rewritten, tells its five events first.
+pub run_tells : (n : ℕ) (p : Module) → 1 ≤ n → n ≤ 4000 → Rewrites (generated n) all_listed p → TellsFirst (run_program n p) (pauses_once (8 + 16 * n) (value_of_func (n - 1)))
+run_tells n p least most r = tells_with n 100000000 p least most (omega arith) r

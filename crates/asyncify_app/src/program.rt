@@ -2,6 +2,7 @@
 
 ghost use Rattle.std.specs.Prelude.{All, ◌≤◌, ◌≡◌, ◌∷◌, [], ℕ, IfOk, None};
 ghost use Rattle.host_setup.specs.Views.{entry_of};
+ghost use Rattle.host_setup.specs.declared.faults.SetupFault.TheVariants.{Memory};
 ghost use Rattle.wa_model.specs.Rewrites.{Rewrites};
 ghost use Rattle.wa_model.specs.View.{answer_line_of};
 ghost use Rattle.wa_types.specs.Frames.{Count};
@@ -9,12 +10,14 @@ ghost use Rattle.wa_types.specs.Sizes.{StrictSizeRule};
 ghost use Rattle.wa_types.specs.Validity.{Valid as IsValid};
 ghost use Rattle.wa_types.specs.View.{module_of};
 ghost use Rattle.local_spill.specs.Reserved.{reserved_at};
-ghost use Rattle.gen_module.specs.Generated.{generated, sleep};
+ghost use Rattle.gen_module.specs.Generated.{generated};
+ghost use Rattle.gen_module.specs.GeneratedRuns.{all_listed};
 ghost use Rattle.pause_host.specs.Programs.{FollowsAlone};
 ghost use Rattle.asyncify_app.specs.Plans.{PlansRun, run_entry};
-ghost use Rattle.asyncify_app.specs.Playing.{all_listed, run_program, sleep_answer};
+ghost use Rattle.asyncify_app.specs.Playing.{run_program, sleep_answer};
 
 use call_graph::{Choice, Policy, Settings};
+use host_setup::SetupFault;
 use module_rewrite::{RewriteFault, asyncify_module};
 use pause_host::{Entry, Plan, Program, unbound};
 use std::alloc::{AllocError, Global};
@@ -53,15 +56,25 @@ pub(crate) fn rewritten(alloc: Global, module: Module) -> Result<Valid, AllocErr
     }
 }
 
-/// The program over a generated module that was rewritten. What set-up refuses of no such module is answered as want of memory.
+/// The program over a generated module that was rewritten.
 pub(crate) fn program_of<'m>(alloc: Global, module: &'m Valid) -> Result<Program<'m>, AllocError>
-    requires { (module_of «module».now).imports ≡ sleep ∷ [] }
+    requires { (n : ℕ) × (1 ≤ n) × Rewrites (generated n) all_listed (module_of «module».now) }
     ensures { (n : ℕ) → Rewrites (generated n) all_listed (module_of «module».now) → IfOk result (FollowsAlone (run_program n (module_of «module».now)) []) }
 {
     let plan = plan_of(alloc, module)?;
     match Program::new(alloc, plan) {
         Ok(program) => Ok(program),
-        Err(_) => Err(AllocError),
+        Err(fault) => Err(want_of_memory(fault)),
+    }
+}
+
+// The one fault of such a program's set-up.
+fn want_of_memory(fault: SetupFault) -> AllocError
+    requires { fault ≡ Memory }
+{
+    match fault {
+        SetupFault::Memory => AllocError,
+        _ => unreachable!(),
     }
 }
 

@@ -1,14 +1,18 @@
-use Rattle.std.proofs.Common.{ap}
 use Rattle.wa_model.specs.Outside.{called}
-use Rattle.wa_model.specs.View.{call_of, event_of}
 use Rattle.pause_host.proofs.Advancing.{alone_on_its_way}
-use Rattle.asyncify_app.proofs.Runs.{tells}
+use Rattle.asyncify_app.proofs.Runs.{hears, is_call, told_is}
 use Rattle.asyncify_app.proofs.generated_runs.hear_call.Goals as goal
 
-pub returns-in-Called : goal.returns-in-Called
-returns-in-Called c = λ w notes f none.
-    let call = call_of c.in-Called.field-0 in
-    (call, tells w c.advance_alone.new.self notes c.in_ok-advance_alone.field-0 (called call) (ap event_of c.in-Called.is) (c.in_ok-advance_alone.ensures.next w notes f none))
+pub returns : goal.returns
+returns c = λ w notes call s.
+    hears w c.advance_alone.new.self c.args.program.now notes (called call) c.in_ok-advance_alone.field-0 s (c.in_ok-advance_alone.ensures.next w notes s.follows s.goes_on)
+
+pub unreachable-requires : goal.unreachable-requires
+unreachable-requires c =
+    let h = c.requires in
+    let s = h.3 in
+    is_call c.in_ok-advance_alone.field-0 h.2
+    (told_is h.0 c.advance_alone.new.self c.args.program.now h.1 (called h.2) c.in_ok-advance_alone.field-0 s (c.in_ok-advance_alone.ensures.next h.0 h.1 s.follows s.goes_on)) c.in_default.not-Called
 
 pub advance_alone-requires : goal.advance_alone-requires
-advance_alone-requires c = let h = c.requires in alone_on_its_way h.0 h.1 c.args.program.now h.2
+advance_alone-requires c = let h = c.requires in alone_on_its_way h.0 h.1 c.args.program.now h.3.follows

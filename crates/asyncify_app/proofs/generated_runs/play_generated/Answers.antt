@@ -8,31 +8,28 @@ use Rattle.wa_types.specs.View.{module_of}
 use Rattle.wa_model.specs.Rewrites.{Rewrites}
 use Rattle.local_spill.specs.Reserved.{reserved_at}
 use Rattle.gen_module.proofs.GeneratedModules.{is_small, is_valid}
-use Rattle.asyncify_app.specs.Playing.{all_listed}
+use Rattle.gen_module.specs.GeneratedRuns.{all_listed}
 use Rattle.asyncify_app.proofs.GeneratedLocals.{few_locals, none_reserved}
-use Rattle.asyncify_app.proofs.Runs.{imports_as}
 use Rattle.asyncify_app.proofs.generated_runs.play_generated.Goals as goal
 
 pub rewritten-requires-clause-valid : goal.rewritten-requires-clause-valid
-rewritten-requires-clause-valid c = subst Valid (sym c.requires.2) (is_valid c.requires.0)
+rewritten-requires-clause-valid c = subst Valid (sym c.requires.3) (is_valid c.requires.0)
 
 pub rewritten-requires-clause-sizes : goal.rewritten-requires-clause-sizes
-rewritten-requires-clause-sizes c = subst StrictSizeRule (sym c.requires.2) (is_small c.requires.0 c.requires.1)
+rewritten-requires-clause-sizes c = subst StrictSizeRule (sym c.requires.3) (is_small c.requires.0 c.requires.2)
 
 pub rewritten-requires-clause-free : goal.rewritten-requires-clause-free
-rewritten-requires-clause-free c = subst (λ (m : Module). reserved_at m ≡ None) (sym c.requires.2) (none_reserved c.requires.0)
+rewritten-requires-clause-free c = subst (λ (m : Module). reserved_at m ≡ None) (sym c.requires.3) (none_reserved c.requires.0)
 
 pub rewritten-requires-clause-few : goal.rewritten-requires-clause-few
-rewritten-requires-clause-few c = subst (λ (m : Module). All (λ (f : Func). Count m f ≤ 50000) m.funcs) (sym c.requires.2) (few_locals c.requires.0)
+rewritten-requires-clause-few c = subst (λ (m : Module). All (λ (f : Func). Count m f ≤ 50000) m.funcs) (sym c.requires.3) (few_locals c.requires.0)
 
-pub play-requires-clause-rewritten : goal.play-requires-clause-rewritten
-play-requires-clause-rewritten c =
-    (c.requires.0, subst (λ (m : Module). Rewrites m all_listed (module_of c.in_ok-rewritten.rewritten)) c.requires.2 c.in_ok-rewritten.ensures)
-
-pub play-requires-clause-imports : goal.play-requires-clause-imports
-play-requires-clause-imports c = imports_as c.requires.0 (module_of c.args.module) (module_of c.in_ok-rewritten.rewritten) c.requires.2 c.in_ok-rewritten.ensures
+pub play-requires : goal.play-requires
+play-requires c =
+    let h = c.requires in (h.0, h.1, h.2, subst (λ (m : Module). Rewrites m all_listed (module_of c.in_ok-rewritten.rewritten)) h.3 c.in_ok-rewritten.ensures)
 
 pub returns : goal.returns
-returns c = λ n e.
+returns c = λ n least most e.
     let same = subst (λ (m : Module). Rewrites m all_listed (module_of c.in_ok-rewritten.rewritten)) e c.in_ok-rewritten.ensures in
-    IfOk-weaker c.play.result _ _ (λ p once. record { rewritten = module_of c.in_ok-rewritten.rewritten; rewrites = same; run = once }) (c.play.ensures n same)
+    IfOk-weaker c.play.result _ _ (λ p h. record { rewritten = module_of c.in_ok-rewritten.rewritten; rewrites = same; run = h.0; used_is = h.1; value_is = h.2 })
+    (c.play.ensures n least most same)

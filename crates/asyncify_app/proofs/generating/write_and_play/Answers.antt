@@ -13,10 +13,10 @@ pub write_module-requires-clause-short : goal.write_module-requires-clause-short
 write_module-requires-clause-short g c = short_as c.args.number (module_of c.in_ok-module.module) c.in_ok-module.ensures c.requires.most
 
 pub play_generated-requires : goal.play_generated-requires
-play_generated-requires g c = (c.args.number, c.requires.most, c.in_ok-module.ensures)
+play_generated-requires g c = (c.args.number, c.requires.least, c.requires.most, c.in_ok-module.ensures)
 
 pub returns-in_err-played-clause-cut : goal.returns-in_err-played-clause-cut
 returns-in_err-played-clause-cut g c = OnErr_by _ (held_as c.args.number (module_of c.in_ok-module.module) c.args.output.now _ _ c.in_ok-module.ensures c.in_ok-bytes.ensures.done)
 
 pub returns-clause-played : goal.returns-clause-played
-returns-clause-played g c = c.in_ok-played.ensures c.args.number c.in_ok-module.ensures
+returns-clause-played g c = c.in_ok-played.ensures c.args.number c.requires.least c.requires.most c.in_ok-module.ensures

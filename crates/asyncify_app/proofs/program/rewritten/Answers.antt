@@ -5,7 +5,7 @@ use Rattle.wa_types.proofs.FaultLemmas.{valid_no_fault}
 use Rattle.wasm_validate.specs.Validated.{Validates}
 use Rattle.local_spill.specs.Reserved.{reserved_at}
 use Rattle.module_rewrite.specs.Whole.{Asyncifies, FirstTooMany, IsAsyncified}
-use Rattle.asyncify_app.specs.Playing.{all_listed}
+use Rattle.gen_module.specs.GeneratedRuns.{all_listed}
 use Rattle.asyncify_app.proofs.Rewritten.{none_too_many, strict_is_wide}
 use Rattle.asyncify_app.proofs.program.rewritten.Goals as goal
 
