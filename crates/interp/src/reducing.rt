@@ -16,8 +16,8 @@ use crate::calls::{call, call_indirect};
 use crate::control::{finish, jump, leave};
 use crate::locals::{get_local, set_local, tee_local};
 use interp_state::{
-    Flow, Program, Stack, Store, choose, constant, drop_top, get_global, load_at, memory_copy, memory_fill, memory_grow,
-    memory_size, numeric, set_global, store_at,
+    Flow, Program, Stack, Store, choose, constant, drop_top, get_global, load_at, memory_copy,
+    memory_fill, memory_grow, memory_size, numeric, set_global, store_at,
 };
 use std::alloc::AllocError;
 use wa_types::{Instr, Trap};

@@ -70,19 +70,19 @@ pub fn memory_fill(store: &mut Store, operands: &mut Vec<Value>, left: u64) -> F
     let Some(words) = pop_words(operands) else {
         return Flow::Spent;
     };
-    let (to, len) = (u64::from(words.at), u64::from(words.len));
+    let (to, count) = (u64::from(words.at), u64::from(words.len));
     let end = store.memory.bytes().len() as u64;
-    if end < to + len {
+    if end < to + count {
         return Flow::Trapped {
             more: 0,
             trap: Trap::OutOfBounds,
         };
     }
-    if left <= len {
+    if left <= count {
         return Flow::Spent;
     }
-    if store.memory.fill(to, (words.middle % 256) as u8, len) {
-        return Flow::Moved { more: len };
+    if store.memory.fill(to, (words.middle % 256) as u8, count) {
+        return Flow::Moved { more: count };
     }
     Flow::Trapped {
         more: 0,
