@@ -163,3 +163,17 @@ test("tells of an argument of another type, and goes on", async () => {
   await assert.rejects(exports.wide(1, 2), TypeError);
   assert.equal(await exports.sum(2), number(1));
 });
+
+describe("a program with what compilers newer than WebAssembly 1.0 emit", () => {
+  const calls = [
+    ["fill", 0], ["fill", 100], ["fill", 192], ["move", 100], ["move", 0], ["move", 128],
+    ...[...Array(12).keys()].map((which) => ["copy_records", which]), ["signs", 0], ["signs", 25],
+  ];
+  for (const by of ["all", "live"]) {
+    it(`copies, fills and extends signs alike, paused and blocking, rewritten by ${by}`, async () => {
+      const { instance } = await WebAssembly.instantiate(original("newer"), { env: { read: number } });
+      const { exports } = await instantiate(rewritten("newer", by), { env: { read: async (which) => (await soon(), number(which)) } });
+      for (const [name, ...args] of calls) assert.equal(await exports[name](...args), instance.exports[name](...args), `${name} ${args}`);
+    });
+  }
+});

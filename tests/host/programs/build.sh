@@ -10,5 +10,7 @@ for program in calls broken; do
     clang --target=wasm32 -mcpu=mvp -O2 -c "$program.c" -o "$objects/$program.o"
     wasm-ld --no-entry --strip-all "$objects/$program.o" -o "$program.wasm"
 done
+clang --target=wasm32 -mcpu=mvp -msign-ext -mbulk-memory -O2 -c newer.c -o "$objects/newer.o"
+wasm-ld --no-entry --strip-all "$objects/newer.o" -o newer.wasm
 clang --target=wasm32-wasi -mcpu=mvp -O2 -c ../../../examples/repl.c -o "$objects/repl.o"
 clang --target=wasm32-wasi "$objects/repl.o" -o ../../../examples/repl.wasm -lc-printscan-no-floating-point -Wl,--strip-all
