@@ -34,7 +34,7 @@ KeptBlocking =
     → Leads (alone (keeps globals area) m) c n es d → (j : ℕ) → j ≤ n
     → ((run (blocking m plan) j (runs task c l)).events ≡ []) × SameEnd globals area c.store (store_of (run (blocking m plan) j (runs task c l)).last)
 
--- Reductions that are no call, load, store, change of a global or growth are such reductions, whatever the globals and the area,
+-- Reductions that are no call, load, store, copy, fill, change of a global or growth are such reductions, whatever the globals and the area,
 abbrev pub SilentIsKept : Type 0
 SilentIsKept = (globals : ℕ) (area : Area) (c : Configuration) → silent c ≡ true → keeps globals area c ≡ true
 

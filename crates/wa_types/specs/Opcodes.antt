@@ -90,7 +90,7 @@ form (constant bits n) = a_constant bits
 form (float bytes) = a_float (length bytes)
 form (bulk n) = a_bulk
 
--- the zero bytes behind the number of an instruction behind the prefix 0xFC; only a copy's and a fill's are numbers of one
+-- the zero bytes behind the number of an instruction with the prefix 0xFC; no numbers but those of a copy and a fill are read
 abbrev pub zeros_of : ℕ → Option (List ℕ)
 zeros_of n = if n == 10 then Some (0x00 ∷ 0x00 ∷ []) else (if n == 11 then Some (0x00 ∷ []) else None)
 
