@@ -40,7 +40,7 @@ pub struct Line {
 pub enum End {
     /// All entries have returned.
     Done,
-    /// A reduction trapped while the program ran.
+    /// A reduction, or an import, trapped while the program ran.
     Trapped(Trap),
     /// A reduction trapped while the program unwound, with so many bytes of the area used, of its length.
     UnwindTrap { trap: Trap, used: u32, len: u32 },
