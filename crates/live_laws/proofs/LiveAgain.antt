@@ -239,13 +239,12 @@ module _ (m : Module) (s : Settings) (which : List Bool) (frames : (index : ℕ)
         },
       )
 
-  again : (top i : ℕ) (d f : Configuration) (a : Activation) (us : List Activation) → LinkedWaits k B A i d f → All (StandsNumbered m s which) (stack_of (Base m) d)
-      → AllSameFlat k.lay (f.here ∷ f.under) (a ∷ us)
-      → (us' : List Activation) → Stopped (setting (world_of k) top) i (a ∷ us) us' → AllLocalsFit p us' → FlatAgain (world_of k) SameLive (N.L k B A) (N.W k B A) (GoodStore k) top i d f a us
-  again top i d f a us l nums same us' st fit =
+  -- with more behind the flat locals those of the written functions
+  pub again_more : (top i : ℕ) (d f : Configuration) (a : Activation) (us : List Activation) → LinkedWaits k B A i d f → All (StandsNumbered m s which) (stack_of (Base m) d)
+      → AllSameFlat k.lay (f.here ∷ f.under) (a ∷ us) → AllMore p (a ∷ us) → FlatAgain (world_of k) SameLive (N.L k B A) (N.W k B A) (GoodStore k) top i d f a us
+  again_more top i d f a us l nums same more =
       let at = numbers_at m s which frames plan p valid tells em plan_fits codes i d f l nums in
       let ps = pairs_at m s which frames plan p valid tells em plan_fits codes i d f l nums in
-      let more = written_fit (setting (world_of k) top) p i (a ∷ us) us' st fit in
       let flat = flat_again m s which frames plan p valid tells em plan_fits codes i d f a us l nums same more in
       let be = l.beside in
       let v = be.between in
@@ -262,6 +261,11 @@ module _ (m : Module) (s : Settings) (which : List Bool) (frames : (index : ℕ)
       (be.slim_asked).stack same (be.fits).waits (flat.0).waits)
       (unders_moved m s which frames plan p k.lay (d.here ∷ d.under) (v.here ∷ v.under) (f.here ∷ f.under) (a ∷ us) (be.slim_asked).stack ps same) flat.0 flat.1 in
       record { chosen = r.0; live = r.1; waits = r.2 }
+
+  again : (top i : ℕ) (d f : Configuration) (a : Activation) (us : List Activation) → LinkedWaits k B A i d f → All (StandsNumbered m s which) (stack_of (Base m) d)
+      → AllSameFlat k.lay (f.here ∷ f.under) (a ∷ us)
+      → (us' : List Activation) → Stopped (setting (world_of k) top) i (a ∷ us) us' → AllLocalsFit p us' → FlatAgain (world_of k) SameLive (N.L k B A) (N.W k B A) (GoodStore k) top i d f a us
+  again top i d f a us l nums same us' st fit = again_more top i d f a us l nums same (written_fit (setting (world_of k) top) p i (a ∷ us) us' st fit)
 
   -- STACKS STAND AS FRAMES, and come back
   pub live_stacks_stand : StandsLaw (core_of m s which frames plan p) (RunsBeside m s which frames plan p) (WaitsBeside m s which frames plan p) SameLive

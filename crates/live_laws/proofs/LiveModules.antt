@@ -34,7 +34,7 @@ module _ (m : Module) (s : Settings) (which : List Bool) (pieces : (index : ℕ)
   pub hold : AllCodesHold m s which (live_codes pieces parts)
   hold x f is told = live_hold m s which r.valid r.sizes x f (pieces x) (parts x) is (told_calls m s which r.tells x f is told) (r.few x f is told) (r.slim x f is told) (r.live x f is told) r.policy
 
-  small : AllCodesSmall m which (live_codes pieces parts)
+  pub small : AllCodesSmall m which (live_codes pieces parts)
   small x f is told = live_small m s which r.valid r.sizes x f (pieces x) (parts x) is (told_calls m s which r.tells x f is told) (r.few x f is told) (r.slim x f is told) (r.live x f is told)
 
   -- the codes of a function are few by how many numbered calls it has

@@ -81,11 +81,19 @@ pruned_flatter (plain p rest) = by (is_last p) (pruned_flatter rest)
 pruned_flatter (nest s r body rest) = let a = pruned_flatter body in let b = pruned_flatter rest in grind arith
 pruned_flatter (branch r x y rest) = let a = pruned_flatter x in let b = pruned_flatter y in let c = pruned_flatter rest in grind arith
 
-deeper : {X : Type 0} (f : X → ℕ) (xs : List X) → All (λ x. f x ≤ 1000) xs → All (λ x. f x ≤ 3008) xs
-deeper f [] h = All-nil (λ x. f x ≤ 3008)
-deeper f (x ∷ xs) h = let l = All-head (λ x. f x ≤ 1000) x xs h in All-cons (λ x. f x ≤ 3008) x xs (omega (arith, l)) (deeper f xs (All-tail (λ x. f x ≤ 1000) x xs h))
+deeper : {X : Type 0} (f : X → ℕ) (a b : ℕ) → a ≤ b → (xs : List X) → All (λ x. f x ≤ a) xs → All (λ x. f x ≤ b) xs
+deeper f a b le [] h = All-nil (λ x. f x ≤ b)
+deeper f a b le (x ∷ xs) h = let l = All-head (λ x. f x ≤ a) x xs h in All-cons (λ x. f x ≤ b) x xs (omega (arith, l, le)) (deeper f a b le xs (All-tail (λ x. f x ≤ a) x xs h))
 
-abbrev FewParams : FuncType → Type 0
+pub wider_levels : (a b : ℕ) (m : Module) → a ≤ b → Levels a m → Levels b m
+wider_levels a b m le l = record {
+  funcs = deeper (λ (f : Func). depth_of f.body) a b le m.funcs l.funcs;
+  globals = deeper (λ (g : GlobalDef). depth_of g.init) a b le m.globals l.globals;
+  elems = deeper (λ (e : Elem). depth_of e.offset) a b le m.elems l.elems;
+  segments = deeper (λ (s : Segment). depth_of s.offset) a b le m.segments l.segments;
+}
+
+abbrev pub FewParams : FuncType → Type 0
 FewParams t = length t.params ≤ 1000
 
 three_types : All FewParams runtime_types
@@ -97,7 +105,7 @@ three_types =
 
 -- ---- the emitted module
 
-abbrev merged_func : Func → Func
+abbrev pub merged_func : Func → Func
 merged_func f = record f { locals = merged f.locals }
 
 merged_all : (P Q : Func → Type 0) → ((f : Func) → P f → Q (merged_func f)) → (fs : List Func) → All P fs → All Q (map merged_func fs)
@@ -128,7 +136,7 @@ params_behind (t ∷ ts) us k = let z : length (t ∷ ts) + k ≡ suc (length ts
 
 -- a body of the runtime
 abbrev Low : Module → Func → Type 0
-Low p f = (depth_of f.body ≤ 3008) × (func_locals p.types f ≤ 50000)
+Low p f = (depth_of f.body ≤ 3007) × (func_locals p.types f ≤ 50000)
 
 runtime_low : (m : Module) → All (Low (with_runtime m)) (runtime_funcs (length m.types) (global_space m) (global_space m + 1))
 unfolding with_runtime depth_of
@@ -198,15 +206,15 @@ module _ (m : Module) (s : Settings) (which : List Bool) (codes : (index : ℕ) 
   unfolding with_runtime
   funcs_low = All-append (Low p) (inner m s which codes).funcs (runtime_funcs (length m.types) (global_space m) (global_space m + 1)) (all_low (func_imports m) m.funcs func_low) (runtime_low m)
 
-  norm_levels : Levels 3008 (Norm p)
+  norm_levels : Levels 3007 (Norm p)
   unfolding Norm with_runtime depth_of
   norm_levels = record {
-    funcs = merged_all (Low p) (λ (f : Func). depth_of f.body ≤ 3008) (λ f h. h.0) p.funcs funcs_low;
-    globals = All-append (λ (g : GlobalDef). depth_of g.init ≤ 3008) m.globals runtime_globals (deeper (λ (g : GlobalDef). depth_of g.init) m.globals levels.globals)
-        (All-cons (λ (g : GlobalDef). depth_of g.init ≤ 3008) zero_global (zero_global ∷ []) (omega arith)
-        (All-cons (λ (g : GlobalDef). depth_of g.init ≤ 3008) zero_global [] (omega arith) (All-nil (λ (g : GlobalDef). depth_of g.init ≤ 3008))));
-    elems = deeper (λ (e : Elem). depth_of e.offset) m.elems levels.elems;
-    segments = deeper (λ (s : Segment). depth_of s.offset) m.segments levels.segments;
+    funcs = merged_all (Low p) (λ (f : Func). depth_of f.body ≤ 3007) (λ f h. h.0) p.funcs funcs_low;
+    globals = All-append (λ (g : GlobalDef). depth_of g.init ≤ 3007) m.globals runtime_globals (deeper (λ (g : GlobalDef). depth_of g.init) 1000 3007 (omega arith) m.globals levels.globals)
+        (All-cons (λ (g : GlobalDef). depth_of g.init ≤ 3007) zero_global (zero_global ∷ []) (omega arith)
+        (All-cons (λ (g : GlobalDef). depth_of g.init ≤ 3007) zero_global [] (omega arith) (All-nil (λ (g : GlobalDef). depth_of g.init ≤ 3007))));
+    elems = deeper (λ (e : Elem). depth_of e.offset) 1000 3007 (omega arith) m.elems levels.elems;
+    segments = deeper (λ (s : Segment). depth_of s.offset) 1000 3007 (omega arith) m.segments levels.segments;
   }
 
   norm_locals : All (λ (f : Func). func_locals (Norm p).types f ≤ 50000) (Norm p).funcs
@@ -220,13 +228,17 @@ module _ (m : Module) (s : Settings) (which : List Bool) (codes : (index : ℕ) 
       let b = length-append (inner m s which codes).funcs (runtime_funcs (length m.types) (global_space m) (global_space m + 1)) in
       let c = same_length m s which codes in omega (arith, a, b, c)
 
--- what is written of a source is within the bounds of a prepared module
-pub prepared_by : (m : Module) (s : Settings) (which : List Bool) (codes : (index : ℕ) → Func → FrameCode) (bytes : List ℕ) → IsAccepted source_bounds bytes m → Valid m
-    → AllCodesHold m s which codes → FewWritten m which
-    → length (Enc (asyncified_by m s which codes)) ≤ 67108864 → SpellsModule (Enc (asyncified_by m s which codes)) (Norm (asyncified_by m s which codes))
-    → IsAccepted prepared_bounds (Enc (asyncified_by m s which codes)) (Norm (asyncified_by m s which codes))
+-- What is emitted of a source: its constructs nest less deep than a prepared module's may, its functions have few locals, and there are few.
+pub record LowModule (q : Module) : Type 0 where
+  pub levels : Levels 3007 (Norm q)
+  pub locals : All (λ (f : Func). func_locals q.types f ≤ 50000) (Norm q).funcs
+  pub functions : functions_of (Norm q) ≤ 100005
+  pub params : All FewParams q.types
+
+pub emitted_low : (m : Module) (s : Settings) (which : List Bool) (codes : (index : ℕ) → Func → FrameCode) (bytes : List ℕ) → IsAccepted source_bounds bytes m → Valid m
+    → AllCodesHold m s which codes → FewWritten m which → LowModule (asyncified_by m s which codes)
 unfolding Norm with_runtime
-prepared_by m s which codes bytes a v hold few short spelled =
+emitted_low m s which codes bytes a v hold few =
     let levels = levels_of 1000 a.sections m a.is_module a.within.before.nesting in
     let counts : first_above 50000 (map (func_locals m.types) m.funcs) ≡ None = subst (λ ns. first_above 50000 ns ≡ None) (spelled_locals a.sections m a.is_module) a.within.locals in
     let locals = none_above (func_locals m.types) 50000 m.funcs counts in
@@ -234,9 +246,27 @@ prepared_by m s which codes bytes a v hold few short spelled =
     let most = a.within.before.before.before.before.functions in
     let params = few_params_of 1000 a.sections m a.is_module a.within.before.before.before.parameters in
     let n = norm_functions m s which codes v hold few levels locals in
-    prepared (Enc (asyncified_by m s which codes)) (Norm (asyncified_by m s which codes)) spelled short (omega (arith, n, functions, most))
-    (All-append FewParams m.types runtime_types params three_types)
-    (norm_levels m s which codes v hold few levels locals) (norm_locals m s which codes v hold few levels locals)
+    record {
+      levels = norm_levels m s which codes v hold few levels locals;
+      locals = norm_locals m s which codes v hold few levels locals;
+      functions = omega (arith, n, functions, most);
+      params = All-append FewParams m.types runtime_types params three_types;
+    }
+
+-- Such a module, where its bytes spell it and aren't too many, is a prepared one.
+pub low_prepared : (q : Module) → Levels 3008 (Norm q) → All (λ (f : Func). func_locals q.types f ≤ 50000) (Norm q).funcs → functions_of (Norm q) ≤ 100005 → All FewParams q.types
+    → length (Enc q) ≤ 67108864 → SpellsModule (Enc q) (Norm q) → IsAccepted prepared_bounds (Enc q) (Norm q)
+unfolding Norm
+low_prepared q levels locals functions params short spelled = prepared (Enc q) (Norm q) spelled short functions params levels locals
+
+-- what is written of a source is within the bounds of a prepared module
+pub prepared_by : (m : Module) (s : Settings) (which : List Bool) (codes : (index : ℕ) → Func → FrameCode) (bytes : List ℕ) → IsAccepted source_bounds bytes m → Valid m
+    → AllCodesHold m s which codes → FewWritten m which
+    → length (Enc (asyncified_by m s which codes)) ≤ 67108864 → SpellsModule (Enc (asyncified_by m s which codes)) (Norm (asyncified_by m s which codes))
+    → IsAccepted prepared_bounds (Enc (asyncified_by m s which codes)) (Norm (asyncified_by m s which codes))
+prepared_by m s which codes bytes a v hold few short spelled =
+    let low = emitted_low m s which codes bytes a v hold few in
+    low_prepared (asyncified_by m s which codes) (wider_levels 3007 3008 (Norm (asyncified_by m s which codes)) (omega arith) low.levels) low.locals low.functions low.params short spelled
 
 pub emitted_prepared : EmittedIsPrepared
 emitted_prepared m s which pieces bytes a v slim few short spelled =

@@ -172,7 +172,7 @@ module _ (m : Module) (s : Settings) (which : List Bool) (codes : (index : ℕ) 
       (map-append sort_of (inner m s which codes).funcs (runtime m s which codes) ∙ ap (λ ks. ks ++ map sort_of (runtime m s which codes)) (same_sorts m s which codes)
       ∙ sym (map-append sort_of m.funcs (runtime m s which codes)))
 
-  params_are : (c : Code) → code_params p c ≡ code_params (with_runtime m) c
+  pub params_are : (c : Code) → code_params (emitted m s which codes) c ≡ code_params (with_runtime m) c
   params_are = same_params p (with_runtime m) types_are sorts_are
 
   func_same : (f : Func) → FuncSizes (2 ^ 32) (2 ^ 56) (with_runtime m) f → FuncSizes (2 ^ 32) (2 ^ 56) p f
@@ -203,7 +203,8 @@ module _ (m : Module) (s : Settings) (which : List Bool) (codes : (index : ℕ) 
         (first_piece (Numbered m s which f) 0 (flattened m x f).body) gf.first (units (Numbered m s which f) 0 (flattened m x f).body) gf.body owed.slim.slim)
         ∙ ap (marks_of k) (joins_law (Numbered m s which f) 0 (flattened m x f).body)
 
-    calls_same : calls_of g.body ≡ calls_in f
+    -- its calls are those of the pruned body, in their order
+    pub calls_same : calls_of (written_by m s which codes x f).body ≡ calls_in f
     calls_same =
         sym (calls_are g.body) ∙ no_marks call_marking (no_calls (codes x f).restoring owed.restoring_quiet) (no_calls (codes x f).saving owed.saving_quiet)
         ∙ calls_are (code_of (flattened m x f).body) ∙ calls_stay m x f
@@ -227,10 +228,12 @@ module _ (m : Module) (s : Settings) (which : List Bool) (codes : (index : ℕ) 
         (tables_few (2 ^ 32) (code_of (flattened m x f).body) (flat_lists (meets m x f v strict is counted).fits.sizes.labels)))
 
     bound : (items calls own runs size w l cs more oi oc op orn : ℕ) → items ≤ 3 * size → size ≤ 19 * w + cs + 11 → cs < 2 ^ 53 → w + l < 2 ^ 31 → calls ≤ oc + oi → own ≤ op + 1 → runs ≡ orn + more
-        → more ≤ 50003 → oi + 1 + oc + op + orn < 2 ^ 31 → items + 1 + calls + own + runs < 2 ^ 56
+        → more ≤ 50003 → oi + 1 + oc + op + orn < 2 ^ 31 → items + 1 + calls + own + runs < 2 ^ 55
     bound items calls own runs size w l cs more oi oc op orn a b z c d e h i j = omega (arith, a, b, z, c, d, e, h, i, j)
 
-    func_written : (i : ℕ) → slice_get m.funcs i ≡ Some f → FuncSizes (2 ^ 31) (2 ^ 31) m f → FuncSizes (2 ^ 32) (2 ^ 56) p g
+    -- with room for tests behind its calls
+    pub func_written : (i : ℕ) → slice_get m.funcs i ≡ Some f → FuncSizes (2 ^ 31) (2 ^ 31) m f
+        → FuncSizes (2 ^ 32) (2 ^ 55) (emitted m s which codes) (written_by m s which codes x f)
     func_written i e h =
         let runs = h.runs in
         let total = h.total in
@@ -291,8 +294,9 @@ module _ (m : Module) (s : Settings) (which : List Bool) (codes : (index : ℕ) 
       by : (b : Bool) → is_told (slice_get which (func_imports m + i)) ≡ b → P (func_by m s which codes (func_imports m + i) f)
       by true b =
           let is = defined_of m i f e in
-          subst P (sym (told m s which codes (func_imports m + i) f b))
-          (func_written (func_imports m + i) f is b (few (func_imports m + i) f is b) i e (one_of_all (FuncSizes (2 ^ 31) (2 ^ 31) m) m.funcs i f strict.each_func e))
+          let h = func_written (func_imports m + i) f is b (few (func_imports m + i) f is b) i e (one_of_all (FuncSizes (2 ^ 31) (2 ^ 31) m) m.funcs i f strict.each_func e) in
+          let total = h.total in
+          subst P (sym (told m s which codes (func_imports m + i) f b)) (record { runs = h.runs; labels = h.labels; total = omega (arith, total) })
       by false b =
           subst P (sym (not_told m s which codes (func_imports m + i) f b))
           (func_same f (grown_func i f (front m.funcs (runtime m s which codes) i (slice_get_within m.funcs i f e) ∙ e)))
@@ -331,7 +335,7 @@ module _ (m : Module) (s : Settings) (which : List Bool) (codes : (index : ℕ) 
         each_segment = r.each_segment;
       }
 
-layouts_small : (m : Module) (s : Settings) (which : List Bool) (pieces : (index : ℕ) → Pieces) → Valid m → StrictSizeRule m → AllCodesSmall m which (layout_codes m s which pieces)
+pub layouts_small : (m : Module) (s : Settings) (which : List Bool) (pieces : (index : ℕ) → Pieces) → Valid m → StrictSizeRule m → AllCodesSmall m which (layout_codes m s which pieces)
 layouts_small m s which pieces v strict x f is told =
     let at = defined_where m x f is in
     let z = layout_size m s which pieces x f v at.0 at.1 in
