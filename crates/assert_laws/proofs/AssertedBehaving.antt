@@ -1,11 +1,11 @@
--- For the policy that saves all, a module with asserts behaves like its original, whichever calls its activations stand at.
-use Rattle.std.proofs.Common.{◌≡◌, ◌∙◌, ℕ, zero, suc, ◌+◌, ◌≤◌, ◌<◌, List, [], ◌∷◌, length, map, drop, Some, None, Bool, true, refl, sym, ap, subst, arith}
-use Rattle.std.specs.Prelude.{not, slice_get}
+-- A module with asserts behaves like its original, whichever calls its activations stand at, for any policy whose frames stand for suspended stacks.
+use Rattle.std.proofs.Common.{◌≡◌, ◌∙◌, ℕ, zero, suc, ◌≤◌, ◌<◌, List, [], ◌∷◌, length, Some, None, Bool, true, refl, sym, ap, arith}
+use Rattle.std.specs.Prelude.{slice_get}
 use Rattle.std.proofs.lemmas.List.{length-map}
 use Rattle.wa_types.specs.Base.{Base}
-use Rattle.wa_types.specs.Modules.{all_globals, defined_at, func_sorts}
-use Rattle.wa_types.specs.Pausing.{Settings, TellsMayPause, has_number, is_told, save_all}
-use Rattle.wa_types.specs.Runtime.{global_space, with_runtime}
+use Rattle.wa_types.specs.Modules.{all_globals, defined_at}
+use Rattle.wa_types.specs.Pausing.{Settings, TellsMayPause, has_number, is_told}
+use Rattle.wa_types.specs.Runtime.{global_space}
 use Rattle.wa_types.specs.Syntax.{Func, Module}
 use Rattle.wa_types.specs.Typing.{GlobalType, type_of}
 use Rattle.wa_types.specs.Validity.{Valid}
@@ -33,25 +33,23 @@ use Rattle.headline.proofs.Headline.{headline_with_asserts}
 use Rattle.headline.proofs.WorldParts.{world_fits}
 use Rattle.run_laws.specs.FittingStates.{ExportsTyped}
 use Rattle.guard_runs.specs.RuntimeParts.{HasRuntime}
-use Rattle.run_laws.proofs.Exported.{exports_free, parts_exported}
+use Rattle.run_laws.proofs.Exported.{parts_exported}
 use Rattle.run_laws.proofs.PlanParts.{plans_fit_parts}
 use Rattle.run_laws.proofs.RuntimeTyped.{runtime_typed}
 use Rattle.headline.specs.Core.{Core, world_of}
-use Rattle.headline.specs.Links.{GoodStore, L as Links, W as WaitLinks}
-use Rattle.headline.proofs.Owed.{flat_law}
-use Rattle.headline.proofs.SlimLinks.{law}
+use Rattle.headline.specs.Links.{GoodStore, L as Links, StandsLaw, W as WaitLinks}
+use Rattle.headline.specs.LiveLaw.{LiveLaw}
+use Rattle.headline.specs.LiveLaw as Between
+use Rattle.headline.proofs.LiveSteps.{both}
 use Rattle.headline.proofs.WrittenKnown.{KnownIf, written_law}
-use Rattle.slim_laws.specs.SlimModule.{Pieces}
 use Rattle.headline.specs.Given.{ComparedGiven, Given, LetsPause}
 use Rattle.headline.proofs.GivenPlans.{given_fits}
-use Rattle.headline.specs.CoreOf.{RunsBeside, WaitsBeside as SlimWaits, core_of, flat_core}
-use Rattle.headline.specs.EmittedModule.{AllKeepEnough, Emitted, Framing, kept_frames, slim_of, terms_of}
+use Rattle.headline.specs.CoreOf.{RunsBeside, WaitsBeside as SlimWaits, core_of}
+use Rattle.headline.specs.EmittedModule.{Emitted, Framing}
 use Rattle.headline.specs.Framed.{FramedCalls}
 use Rattle.headline.proofs.Behaving as B0
-use Rattle.headline.proofs.PairedFlat.{flat_fits, paired, slim_beside}
-use Rattle.headline.proofs.PauseCosts.{kept_framed}
-use Rattle.headline.proofs.StackAgain.{again_more, stacks_stand}
-use Rattle.assert_laws.proofs.AssertedStacks.{SameLocals, stacks_law, w2}
+use Rattle.assert_laws.proofs.AssertedStacks.{AgainMore, SameLocals, stacks_law, w2}
+use Rattle.assert_laws.proofs.BareStacks.{bare_stack}
 use Rattle.assert_laws.proofs.AssertedHalts.{halts_so}
 use Rattle.assert_laws.specs.AssertedRoles.{AssertedModule}
 
@@ -64,14 +62,20 @@ globals_are : (m : Module) → length (all_globals (Base m)) ≡ global_space m
 unfolding Base
 globals_are m = refl
 
-module _ (m : Module) (s : Settings) (which : List Bool) (pieces : (index : ℕ) → Pieces) (keep : (func local : ℕ) → Bool) (p0 : Module) (valid : Valid m) (valid0 : Valid p0) (codes_in : CodesIn m)
-    (codes0 : CodesIn p0) (tells : TellsMayPause m s which) (em : Emitted m s which (kept_frames m s which pieces keep) p0) (plan : Plan) (plan_fits : Given m plan)
-    (keeps : AllKeepEnough m s which keep) (policy : s.policy ≡ save_all) (q p : Module) (written_valid : Valid p) (written_codes : CodesIn p) (same : AssertedModule (length m.funcs) p0 p)
-    (ok : Together (assert_sides (world_of (core_of m s which (kept_frames m s which pieces keep) plan p0)) q)) (back : SameLocals p0 p)
-    (own_numbered : (x : ℕ) (f : Func) → defined_at m x ≡ Some f → is_told (slice_get which x) ≡ true → UnitsNumbered (has_number m s which) (pieces x).units) where
-  abbrev frames : (index : ℕ) → Framing
-  frames = kept_frames m s which pieces keep
+-- What a policy owes of suspended stacks: frames that stand for them, what comes back, and the step in between, which changes values alone.
+pub record StacksOwed (m : Module) (s : Settings) (which : List Bool) (frames : (index : ℕ) → Framing) (plan : Plan) (p0 : Module) (Live : Configuration → Configuration → Type 0) : Type 0 where
+  pub lives : LiveLaw (world_of (core_of m s which frames plan p0)) Live (WaitLinks (core_of m s which frames plan p0) (RunsBeside m s which frames plan p0) (SlimWaits m s which frames plan p0))
+  pub stands : StandsLaw (core_of m s which frames plan p0) (RunsBeside m s which frames plan p0) (SlimWaits m s which frames plan p0) Live
+  pub framed : FramedCalls m s which frames
+  pub again : AgainMore m s which frames plan p0 Live
+  pub alike : (c d : Configuration) → Live c d → bare_stack m c ≡ bare_stack m d
 
+module _ (m : Module) (s : Settings) (which : List Bool) (frames : (index : ℕ) → Framing) (p0 : Module) (valid : Valid m) (valid0 : Valid p0) (codes_in : CodesIn m)
+    (codes0 : CodesIn p0) (tells : TellsMayPause m s which) (em : Emitted m s which frames p0) (plan : Plan) (plan_fits : Given m plan)
+    (Live : Configuration → Configuration → Type 0) (owed : StacksOwed m s which frames plan p0 Live) (q p : Module) (written_valid : Valid p) (written_codes : CodesIn p)
+    (same : AssertedModule (length m.funcs) p0 p)
+    (ok : Together (assert_sides (world_of (core_of m s which frames plan p0)) q)) (back : SameLocals p0 p)
+    (own_numbered : (x : ℕ) (f : Func) → defined_at m x ≡ Some f → is_told (slice_get which x) ≡ true → UnitsNumbered (has_number m s which) (frames x).pieces.units) where
   abbrev k : Core
   k = core_of m s which frames plan p0
 
@@ -88,9 +92,6 @@ module _ (m : Module) (s : Settings) (which : List Bool) (pieces : (index : ℕ)
   wa = w2 m s which frames plan p0 valid tells em plan_fits base_in q p ok back
 
   module _ (pairs : (top : ℕ) → Paired (setting wa top)) where
-    framed : FramedCalls m s which frames
-    framed = kept_framed m s which pieces keep valid em.slim keeps policy
-
     runtime : HasRuntime m p
     runtime =
         let r = B0.runtime m s which frames p0 valid valid0 codes_in codes0 tells em plan plan_fits in
@@ -151,24 +152,42 @@ module _ (m : Module) (s : Settings) (which : List Bool) (pieces : (index : ℕ)
         by (both_import none1 none2) = let z : None ≡ Some g = sym none1 ∙ e in cc
         by (both_defined g1 g2 is1 is2 b1 b2 ls size) = (g2, is2)
 
-    slim_law : FlatLaw (world_of k) (λ c d. c ≡ d) (Links k B A) (WaitLinks k B A) (GoodStore k)
-    slim_law =
-        flat_law k (B0.fit m s which frames p0 valid valid0 codes_in codes0 tells em plan plan_fits) (λ c d. c ≡ d) B A
-        (law (flat_core m s which frames plan p0) (flat_fits m s which frames plan p0 valid tells em plan_fits base_in) (slim_of m s which frames) (terms_of m s which frames)
-        (slim_beside m s which frames plan p0 valid tells em plan_fits base_in)) (paired m s which frames plan p0 valid tells em plan_fits base_in)
-        (stacks_stand m s which pieces keep plan p0 valid tells em plan_fits base_in keeps framed)
+    -- without asserts, with the step in between
+    slim_law : FlatLaw (world_of k) Live (Links k B A) (WaitLinks k B A) (GoodStore k)
+    slim_law = B0.owed m s which frames p0 valid valid0 codes_in codes0 tells em plan plan_fits Live owed.stands
 
-    asserted_law : FlatLaw wa (λ c d. c ≡ d) (LinkedBeside (world_of k) q (Links k B A) (WaitLinks k B A)) (WaitsBeside (world_of k) q (Links k B A) (WaitLinks k B A)) (GoodStore k)
+    abbrev La : (top spare : ℕ) → Configuration → Configuration → Type 0
+    La = LinkedBeside (world_of k) q (Links k B A) (WaitLinks k B A)
+
+    abbrev Wa : (top import : ℕ) → Configuration → Configuration → Type 0
+    Wa = WaitsBeside (world_of k) q (Links k B A) (WaitLinks k B A)
+
+    asserted_law : FlatLaw wa Live La Wa (GoodStore k)
     asserted_law =
-        asserts_law (world_of k) q p wa.role k.lay (λ c d. c ≡ d) (Links k B A) (WaitLinks k B A) (GoodStore k) slim_law refl ok zero_state there
-        (stacks_law m s which frames plan p0 valid tells em plan_fits base_in q p ok back (λ c d. c ≡ d) framed
-        (again_more m s which pieces keep plan p0 valid tells em plan_fits base_in keeps framed))
+        asserts_law (world_of k) q p wa.role k.lay Live (Links k B A) (WaitLinks k B A) (GoodStore k) slim_law refl ok zero_state there
+        (stacks_law m s which frames plan p0 valid tells em plan_fits base_in q p ok back Live owed.framed owed.again)
+
+    asserted_lives : LiveLaw wa Live Wa
+    asserted_lives = let lv = owed.lives in record {
+      same = lv.same;
+      on = lv.on;
+      store = lv.store;
+      reach = lv.reach;
+      steps_keep = lv.steps_keep;
+      resumes = lv.resumes;
+      numbered = lv.numbered;
+      stand = λ top i c d f ws live wt h. lv.stand top i c d wt.between ws live wt.waits h;
+      weigh = lv.weigh;
+    }
+
+    -- with the step in between
+    asserted_both : FlatLaw wa (λ c d. c ≡ d) (Between.L2 Live La Wa) (Between.W2 Live La Wa) (GoodStore k)
+    asserted_both = both wa Live La Wa (GoodStore k) asserted_lives asserted_law
 
     -- THE MODULE WITH ASSERTS BEHAVES like its original
     pub behaves_with_asserts : (os : List Outcome) (n : ℕ) → ComparedGiven m plan os n
         → BehavesOn m s p plan os n which (ExpectedWithAsserts m s which plan.area (Blocking m plan os n).events)
     behaves_with_asserts os n cmp =
         headline_with_asserts wa whole (KnownIf wa written_valid written_fits area typed written_codes) (written_law wa written_valid written_fits area typed written_codes) (GoodStore k)
-        (B0.first m s which frames p0 valid valid0 codes_in codes0 tells em plan plan_fits) (LinkedBeside (world_of k) q (Links k B A) (WaitLinks k B A))
-        (WaitsBeside (world_of k) q (Links k B A) (WaitLinks k B A)) refl asserted_law
-        (halts_so m s which frames plan p0 valid tells em plan_fits base_in q p ok back framed own_numbered (world_fits wa whole.parts) asserted_law) os n cmp
+        (B0.first m s which frames p0 valid valid0 codes_in codes0 tells em plan plan_fits) (Between.L2 Live La Wa) (Between.W2 Live La Wa) refl asserted_both
+        (halts_so m s which frames plan p0 valid tells em plan_fits base_in q p ok back owed.framed own_numbered (world_fits wa whole.parts) Live owed.alike asserted_both) os n cmp

@@ -1,18 +1,16 @@
 -- A module with asserts, function by function: it behaves like the original.
-use Rattle.std.proofs.Common.{◌≡◌, ◌∙◌, ℕ, ◌<◌, ◌++◌, List, [], ◌∷◌, length, Option, Some, None, Bool, true, false, refl, sym, ap, subst}
+use Rattle.std.proofs.Common.{◌≡◌, ◌∙◌, ℕ, ◌+◌, ◌++◌, List, [], ◌∷◌, length, Option, Some, None, Bool, true, false, refl, sym, ap, subst}
 use Rattle.std.specs.Prelude.{not, slice_get}
 use Rattle.wa_types.specs.Base.{Base}
 use Rattle.wa_types.specs.Modules.{declared_locals, defined_at, func_type_at, locals_of}
-use Rattle.wa_types.specs.Pausing.{Callee, Settings, TellsMayPause, calls_of, Numbered, has_number, is_told, save_all}
+use Rattle.wa_types.specs.Pausing.{Callee, Settings, TellsMayPause, calls_of, Numbered, has_number, is_told}
 use Rattle.wa_types.specs.Pruned.{pruned}
 use Rattle.wa_types.specs.Runtime.{global_space}
-use Rattle.wa_types.specs.Sizes.{WellFormed}
-use Rattle.wa_types.specs.Syntax.{Code, Func, Module}
+use Rattle.wa_types.specs.Syntax.{Func, Module}
 use Rattle.wa_types.specs.Validity.{Valid}
 use Rattle.wa_model.specs.Behaves.{BehavesOn}
 use Rattle.wa_model.specs.Blocking.{Blocking}
 use Rattle.wa_model.specs.Plan.{Outcome, Plan}
-use Rattle.wa_model.specs.Plan as L
 use Rattle.run_theory.proofs.FittingNames.{defined_type}
 use Rattle.run_laws.specs.Ranges.{CodesIn}
 use Rattle.run_laws.proofs.BlockingRuns.{base_codes}
@@ -21,25 +19,26 @@ use Rattle.assert_laws.specs.Beside as A
 use Rattle.assert_laws.specs.Beside.{AllTested, Tested, Together}
 use Rattle.assert_laws.proofs.TestedCode.{asserted_law, reached_law}
 use Rattle.assert_laws.specs.Links.{assert_sides}
-use Rattle.guard_form.specs.Functions.{Role}
 use Rattle.guard_form.specs.Numbers as F
 use Rattle.guard_form.specs.Pieces.{Units, no_unit, call_unit, nest_unit, if_unit, first_piece, units}
 use Rattle.guard_form.proofs.Counting.{units_law}
 use Rattle.slim_laws.proofs.UnitsAlike.{units_alike}
-use Rattle.slim_laws.specs.SlimModule.{flat_terms, Pieces}
+use Rattle.slim_laws.specs.SlimModule.{flat_terms}
 use Rattle.headline.specs.Given.{ComparedGiven, Given}
 use Rattle.headline.proofs.NumberedStmts.{flat_numbered}
-use Rattle.assert_laws.proofs.FrameCalls.{restoring_none, saving_none}
 use Rattle.guard_runs.specs.Stopped.{UnitsNumbered}
-use Rattle.headline.specs.World.{World, setting}
-use Rattle.headline.specs.Core.{Core, world_of}
+use Rattle.headline.specs.World.{World}
+use Rattle.wa_model.specs.Configuration.{Configuration}
+use Rattle.headline.specs.Core.{world_of}
 use Rattle.headline.specs.CoreOf.{core_of}
-use Rattle.headline.specs.EmittedModule.{AllKeepEnough, Emitted, Framing, flat_of, kept_frames, role_at}
+use Rattle.headline.specs.EmittedModule.{Emitted, Framing, flat_of, role_at}
 use Rattle.headline.proofs.PairedFlat.{base_defined, paired}
-use Rattle.assert_laws.specs.AssertedRoles.{AssertedModule}
+use Rattle.assert_laws.specs.EmittedWithAsserts.{asserted_body, module_with_asserts}
+use Rattle.assert_laws.proofs.ModuleWithAsserts.{func_too, same_parts, same_types}
+use Rattle.assert_laws.proofs.UntoldCalls.{runtime_there, untold_tested}
 use Rattle.assert_laws.proofs.AssertedStacks.{SameLocals}
-use Rattle.assert_laws.proofs.AssertedPairs.{asserted_body, asserted_paired, FuncToo, too_none, too_some, GuardsFit, SameTypes, StaysUntold}
-use Rattle.assert_laws.proofs.AssertedBehaving.{behaves_with_asserts}
+use Rattle.assert_laws.proofs.AssertedPairs.{asserted_paired, FuncToo, too_none, too_some, GuardsFit, SameTypes, StaysUntold}
+use Rattle.assert_laws.proofs.AssertedBehaving.{behaves_with_asserts, StacksOwed}
 
 some_func : (x y : Func) → Some x ≡ Some y → x ≡ y
 some_func x y e = cc
@@ -82,64 +81,59 @@ together_so w q told ty fs free = record { imports = ty.imports; func_type = ty.
     by x (too_none n1 n2) = A.both_import n1 n2
     by x (too_some g h e1 e2 l b) = A.both_defined g h e1 e2 l (subst (Tested (λ c. not (w.numbered c)) (global_space w.original) g.body) (sym b) (tested (told x) g (free x g e1)))
 
-module _ (m : Module) (s : Settings) (which : List Bool) (pieces : (index : ℕ) → Pieces) (keep : (func local : ℕ) → Bool) (p0 : Module) where
-  abbrev frames : (index : ℕ) → Framing
-  frames = kept_frames m s which pieces keep
-
+module _ (m : Module) (s : Settings) (which : List Bool) (frames : (index : ℕ) → Framing) (p0 : Module) where
   abbrev told : ℕ → Bool
   told = λ x. is_told (slice_get which x)
 
   abbrev ask : Callee → Bool
   ask = λ x. not (has_number m s which x)
 
-  -- The flat module q and the written module p have asserts, function by function; what is left to show of each.
-  pub record WithAsserts (plan : Plan) (q p : Module) : Type 0 where
-    pub flat_types : SameTypes (world_of (core_of m s which (kept_frames m s which pieces keep) plan p0)).flat q
-    pub flat_funcs : (x : ℕ) → FuncToo (λ x. not (has_number m s which x)) (global_space m) (λ x. is_told (slice_get which x)) (world_of (core_of m s which (kept_frames m s which pieces keep) plan
-        p0)).flat q x
-    pub types : SameTypes p0 p
-    pub funcs : (x : ℕ) → FuncToo (λ x. not (has_number m s which x)) (global_space m) (λ x. is_told (slice_get which x)) p0 p x
-    pub parts : AssertedModule (length m.funcs) p0 p
-    -- a function that isn't told makes no numbered call
-    pub free : (x : ℕ) (g : Func) → defined_at (world_of (core_of m s which (kept_frames m s which pieces keep) plan p0)).flat x ≡ Some g → is_told (slice_get which x) ≡ false
-        → AllTested (λ x. not (has_number m s which x)) (calls_of (pruned g.body))
-
-  stays : (t : Bool) (x : ℕ) (o : Option Func) → StaysUntold t (role_at m s which (kept_frames m s which pieces keep) t x o)
+  stays : (t : Bool) (x : ℕ) (o : Option Func) → StaysUntold t (role_at m s which frames t x o)
   stays true x None = refl
   stays true x (Some f) = tt
   stays false x None = tt
   stays false x (Some f) = tt
 
   -- each unit's own call has a number
-  own_so : Valid m → Emitted m s which (kept_frames m s which pieces keep) p0 → (x : ℕ) (f : Func) → defined_at m x ≡ Some f → is_told (slice_get which x) ≡ true
-      → UnitsNumbered (has_number m s which) (pieces x).units
+  own_so : Valid m → Emitted m s which frames p0 → (x : ℕ) (f : Func) → defined_at m x ≡ Some f → is_told (slice_get which x) ≡ true → UnitsNumbered (has_number m s which) (frames x).pieces.units
   own_so valid em x f is td =
       let ps = Numbered m s which f in
-      let body = (flat_of m s which (kept_frames m s which pieces keep) x f).body in
+      let body = (flat_of m s which frames x f).body in
       let sp = em.slim x f (base_defined m x ∙ is) td in
-      let alike = units_alike (flat_terms (Base m) ps x f) 0 (sp.out ∷ []) sp.out sp.here [] (first_piece ps 0 body) (pieces x).first (units ps 0 body) (pieces x).units sp.slim in
-      numbered_so (has_number m s which) (pieces x).units (alike.numbered (has_number m s which) (units_law (has_number m s which) ps 0 body (flat_numbered (Base m) x f (has_number m s which))))
+      let alike = units_alike (flat_terms (Base m) ps x f) 0 (sp.out ∷ []) sp.out sp.here [] (first_piece ps 0 body) (frames x).pieces.first (units ps 0 body) (frames x).pieces.units sp.slim in
+      numbered_so (has_number m s which) (frames x).pieces.units (alike.numbered (has_number m s which) (units_law (has_number m s which) ps 0 body (flat_numbered (Base m) x f (has_number m s which))))
 
-  guards : Valid m → Emitted m s which (kept_frames m s which pieces keep) p0 → (x : ℕ) → GuardsFit (has_number m s which) (role_at m s which (kept_frames m s which pieces keep)
-      (is_told (slice_get which x)) x (defined_at m x))
-  guards valid em x = by (is_told (slice_get which x)) refl (defined_at m x) refl
+  -- the codes of the frames of each told function make no call
+  abbrev pub QuietFrames : Type 0
+  QuietFrames = (x : ℕ) (f : Func) → defined_at m x ≡ Some f → is_told (slice_get which x) ≡ true → (calls_of (frames x).restoring ≡ []) × (calls_of (frames x).saving ≡ [])
+
+  guards : Valid m → Emitted m s which frames p0 → QuietFrames → (x : ℕ) → GuardsFit (has_number m s which) (role_at m s which frames (is_told (slice_get which x)) x (defined_at m x))
+  guards valid em quiet x = by (is_told (slice_get which x)) refl (defined_at m x) refl
     where
-      by : (t : Bool) → is_told (slice_get which x) ≡ t → (o : Option Func) → defined_at m x ≡ o → GuardsFit (has_number m s which) (role_at m s which (kept_frames m s which pieces keep) t x o)
+      by : (t : Bool) → is_told (slice_get which x) ≡ t → (o : Option Func) → defined_at m x ≡ o → GuardsFit (has_number m s which) (role_at m s which frames t x o)
       by true e None is = tt
-      by true e (Some f) is = (restoring_none _ _ _, saving_none _ _ _, own_so valid em x f is e)
+      by true e (Some f) is = let none = quiet x f is e in (none.0, none.1, own_so valid em x f is e)
       by false e None is = tt
       by false e (Some f) is = tt
 
-  -- THE WRITTEN MODULE WITH ASSERTS BEHAVES like the original, for the policy that saves all
-  pub asserted_behave : (valid : Valid m) (valid0 : Valid p0) (codes_in : CodesIn m) (codes0 : CodesIn p0) (tells : TellsMayPause m s which) (em : Emitted m s which
-      (kept_frames m s which pieces keep) p0) (plan : Plan) (plan_fits : Given m plan) → AllKeepEnough m s which keep → s.policy ≡ save_all → (q p : Module) → Valid p → CodesIn p
-      → WithAsserts plan q p → (os : List Outcome) (n : ℕ) → ComparedGiven m plan os n
-      → BehavesOn m s p plan os n which (ExpectedWithAsserts m s which plan.area (Blocking m plan os n).events)
-  asserted_behave valid valid0 codes_in codes0 tells em plan plan_fits keeps policy q p written_valid written_codes h os n cmp =
-      let w = world_of (core_of m s which frames plan p0) in
-      behaves_with_asserts m s which pieces keep p0 valid valid0 codes_in codes0 tells em plan plan_fits keeps policy q p written_valid written_codes h.parts
-      (together_so (world_of (core_of m s which (kept_frames m s which pieces keep) plan p0)) q told h.flat_types h.flat_funcs h.free)
-      (locals_so ask (global_space m) told p0 p h.types h.funcs) (own_so valid em)
-      (λ top. asserted_paired (world_of (core_of m s which (kept_frames m s which pieces keep) plan p0)) q p (core_of m s which (kept_frames m s which pieces keep) plan p0).lay told top
-      (paired m s which frames plan p0 valid tells em plan_fits (base_codes m codes_in) top) h.flat_types h.types h.flat_funcs h.funcs
-      (λ x. stays (is_told (slice_get which x)) x (defined_at m x)) (guards valid em)) os n cmp
+  abbrev flat_side : Plan → Module
+  flat_side plan = (world_of (core_of m s which frames plan p0)).flat
+
+  -- THE WRITTEN MODULE WITH ASSERTS BEHAVES like the original, whatever its policy
+  pub asserted_behave : (valid : Valid m) (valid0 : Valid p0) (codes_in : CodesIn m) (codes0 : CodesIn p0) (tells : TellsMayPause m s which) (em : Emitted m s which frames p0)
+      (plan : Plan) (plan_fits : Given m plan) (quiet : QuietFrames) (Live : Configuration → Configuration → Type 0) → StacksOwed m s which frames plan p0 Live
+      → Valid (module_with_asserts m s which p0) → CodesIn (module_with_asserts m s which p0) → (os : List Outcome) (n : ℕ) → ComparedGiven m plan os n
+      → BehavesOn m s (module_with_asserts m s which p0) plan os n which (ExpectedWithAsserts m s which plan.area (Blocking m plan os n).events)
+  asserted_behave valid valid0 codes_in codes0 tells em plan plan_fits quiet Live owed written_valid written_codes os n cmp =
+      let flat_types = same_types m s which (flat_side plan) in
+      let flat_funcs = func_too m s which (flat_side plan) in
+      behaves_with_asserts m s which frames p0 valid valid0 codes_in codes0 tells em plan plan_fits Live owed
+      (module_with_asserts m s which (flat_side plan)) (module_with_asserts m s which p0) written_valid written_codes
+      (same_parts m s which p0 (length m.funcs) (length m.types) (global_space m) (global_space m + 1) (runtime_there m s which frames p0 em))
+      (together_so (world_of (core_of m s which frames plan p0)) (module_with_asserts m s which (flat_side plan)) told flat_types flat_funcs
+      (untold_tested m s which frames plan p0 valid tells em plan_fits (base_codes m codes_in)))
+      (locals_so ask (global_space m) told p0 (module_with_asserts m s which p0) (same_types m s which p0) (func_too m s which p0)) (own_so valid em)
+      (λ top. asserted_paired (world_of (core_of m s which frames plan p0)) (module_with_asserts m s which (flat_side plan)) (module_with_asserts m s which p0)
+      (core_of m s which frames plan p0).lay told top
+      (paired m s which frames plan p0 valid tells em plan_fits (base_codes m codes_in) top) flat_types (same_types m s which p0) flat_funcs (func_too m s which p0)
+      (λ x. stays (is_told (slice_get which x)) x (defined_at m x)) (guards valid em quiet)) os n cmp

@@ -1,17 +1,17 @@
 -- With asserts an unwind of a stack that doesn't stand at numbered calls, or doesn't fit, ends in the area.
-use Rattle.std.proofs.Common.{◌≡◌, ◌∙◌, ℕ, zero, suc, ◌+◌, ◌≤◌, ◌<◌, List, [], ◌∷◌, ◌++◌, length, map, Option, Some, None, Bool, true, false, All, refl, sym, ap, subst, arith, ⊎_elim, ◌⊎◌, inl, inr}
+use Rattle.std.proofs.Common.{◌≡◌, ◌∙◌, ℕ, suc, ◌+◌, ◌≤◌, ◌<◌, List, [], ◌∷◌, ◌++◌, length, map, Option, Some, None, Bool, true, false, All, refl, sym, ap, subst, arith, ⊎_elim}
 use Rattle.std.specs.Prelude.{not, ◌&&◌, ◌||◌, nat_lt, if◌then◌else◌, slice_get}
 use Rattle.std.specs.List.{list_all, list_any, sum_by}
-use Rattle.std.proofs.lemmas.Bool.{ltb-true, ltb-false}
+use Rattle.std.proofs.lemmas.Bool.{ltb-true}
 use Rattle.std.proofs.lemmas.List.{length-map, map-append}
-use Rattle.std.proofs.lemmas.List.Elements.{All-cons, All-head, All-nil, All-tail}
+use Rattle.std.proofs.lemmas.List.Elements.{All-cons, All-nil}
 use Rattle.std.proofs.lemmas.List.Sums.{sum_by-append}
 use Rattle.wa_types.specs.Base.{Base}
 use Rattle.wa_types.specs.Bounds.{activation_bound}
 use Rattle.wa_types.specs.Frames.{Fit, Room, Suspended}
 use Rattle.wa_types.specs.Modules.{defined_at, func_type_at}
-use Rattle.wa_types.specs.Pausing.{Callee, Settings, TellsMayPause, has_number, indirect, is_told, Numbered}
-use Rattle.wa_types.specs.Runtime.{func_space, global_space}
+use Rattle.wa_types.specs.Pausing.{Callee, Settings, TellsMayPause, has_number, is_told, Numbered}
+use Rattle.wa_types.specs.Runtime.{global_space}
 use Rattle.wa_types.specs.Syntax.{Func, Module}
 use Rattle.wa_types.specs.Validity.{Valid}
 use Rattle.wa_model.specs.Behaves.{StandsNumbered}
@@ -22,7 +22,6 @@ use Rattle.run_theory.specs.Flat.{code_of, set_to}
 use Rattle.flat_laws.specs.Flatten.{names, top_of}
 use Rattle.wa_model.specs.Outside.{Answer}
 use Rattle.wa_model.specs.Plan.{Entry, Plan}
-use Rattle.wa_model.specs.Plan as P
 use Rattle.wa_model.specs.Protocol.{exports_of}
 use Rattle.wa_model.specs.Step.{param_count, result_count}
 use Rattle.wa_model.specs.Store.{Store}
@@ -34,8 +33,8 @@ use Rattle.assert_laws.specs.Links.{assert_sides, LinkedBeside, WaitsBeside}
 use Rattle.assert_laws.proofs.Carrying.{carried_law}
 use Rattle.assert_laws.proofs.TestMet.{met_law}
 use Rattle.assert_laws.specs.AssertedUnits.{asserted_units}
-use Rattle.frame_laws.specs.Stack.{Level, activation_of, fit_of, unwinding_all, unwinding_onto, waiting_above}
-use Rattle.guard_form.specs.Functions.{ArmsHold, GuardedFunc, Role, as_is, with_guards}
+use Rattle.frame_laws.specs.Stack.{Level, activation_of, unwinding_onto, waiting_above}
+use Rattle.guard_form.specs.Functions.{ArmsHold, GuardedFunc, Role, with_guards}
 use Rattle.guard_form.specs.Pieces.{Units, no_unit, call_unit, nest_unit, if_unit, first_piece, units}
 use Rattle.guard_form.specs.Places.{Enclosing, BodyPlace, at_start, past_call, past_block, past_loop, past_if, in_block, in_loop, in_then, in_else}
 use Rattle.guard_form.proofs.Grouped.{arms_law}
@@ -44,7 +43,7 @@ use Rattle.guard_runs.specs.Levels.{levels_of}
 use Rattle.guard_runs.proofs.FrontStands.{front_law}
 use Rattle.guard_runs.proofs.StopsInside.{somewhere_law}
 use Rattle.guard_runs.specs.Alike.{Setting, sides_of}
-use Rattle.guard_runs.specs.Beside.{Callers, GoesTo}
+use Rattle.guard_runs.specs.Beside.{Callers}
 use Rattle.guard_runs.specs.Stopped.{FirstFails, NumberedAs, Stopped, StopsInside, UnitsNumbered}
 use Rattle.guard_runs.specs.Stopped as S
 use Rattle.guard_runs.proofs.Pausing.{halts_law}
@@ -52,7 +51,8 @@ use Rattle.guard_runs.proofs.Reaching.{reaches_law}
 use Rattle.guard_runs.specs.Pause.{AreaReady, UnwindTraps}
 use Rattle.headline.specs.FlatLaw.{AllLocalsFit, AllWeigh, FlatLaw}
 use Rattle.headline.specs.Halts.{HaltLaw, HaltsIn, room_by}
-use Rattle.headline.specs.World.{World, WorldFits, base, setting}
+use Rattle.headline.specs.LiveLaw as V
+use Rattle.headline.specs.World.{World, WorldFits, setting}
 use Rattle.headline.proofs.Halting.{overruns}
 use Rattle.headline.proofs.OuterLevels.{weigh_all}
 use Rattle.headline.proofs.Rooms.{all_front, none_fails}
@@ -69,14 +69,15 @@ use Rattle.headline.specs.Given.{Given}
 use Rattle.headline.specs.CoreOf.{RunsBeside, WaitsBeside as SlimWaits, core_of, flat_core}
 use Rattle.headline.specs.EmittedModule.{Emitted, Framing, flat_of, guarded_of, role_at, slim_of, terms_of}
 use Rattle.headline.specs.Framed.{FramedCalls}
-use Rattle.headline.proofs.NumberedStacks.{AllAtNumbers, AllNumberedAs, at_calls, front_at_numbers, stack_numbered_as}
+use Rattle.headline.proofs.NumberedStacks.{AllNumberedAs, at_calls, front_at_numbers, stack_numbered_as}
 use Rattle.headline.proofs.PairedFlat.{base_defined, core_fits}
-use Rattle.headline.proofs.PairedStacks.{AllPairs, AllTold, pairs}
+use Rattle.headline.proofs.PairedStacks.{AllPairs, pairs}
 use Rattle.headline.proofs.SlimStacks.{pairs_too}
 use Rattle.headline.proofs.WaitsAgain.{all_told, front_same}
 use Rattle.assert_laws.specs.AssertedRoles.{asserted_guards, asserted_role}
 use Rattle.assert_laws.proofs.AssertedPlaces.{arms_too}
-use Rattle.assert_laws.proofs.AssertedStacks.{SameLocals, pairs_asserted, role2, sd, stands_so, tests, w2}
+use Rattle.assert_laws.proofs.BareStacks.{any_alike, bare_stack, reach_alike, sum_alike}
+use Rattle.assert_laws.proofs.AssertedStacks.{SameLocals, pairs_asserted, role2, stands_so, w2}
 
 -- ---- lists
 
@@ -291,7 +292,9 @@ module _ (m : Module) (s : Settings) (which : List Bool) (frames : (index : ℕ)
   abbrev W2 : (top import : ℕ) → Configuration → Configuration → Type 0
   W2 = WaitsBeside (world_of k) q (N.L k (RunsBeside m s which frames plan p0) (SlimWaits m s which frames plan p0)) (N.W k (RunsBeside m s which frames plan p0) (SlimWaits m s which frames plan p0))
 
-  module _ (ft : WorldFits wa) (law : FlatLaw wa (λ c d. c ≡ d) L2 W2 (GoodStore k)) where
+  -- with a step in between that a policy chooses, which changes values alone
+  module _ (ft : WorldFits wa) (Live : Configuration → Configuration → Type 0) (alike : (c d : Configuration) → Live c d → bare_stack m c ≡ bare_stack m d)
+      (law : FlatLaw wa (λ c d. c ≡ d) (V.L2 Live L2 W2) (V.W2 Live L2 W2) (GoodStore k)) where
     -- where it stops inside
     inside : (top i : ℕ) (d f at : Configuration) (e : Entry) (a : Answer) (l : Left) → W2 top i d f → StopsInside (setting wa top) i (f.here ∷ f.under) (at.here ∷ at.under)
         → NumberedAs (setting wa top) told i (map Te (d.here ∷ d.under)) (f.here ∷ f.under) → AllLocalsFit p (at.here ∷ at.under)
@@ -342,11 +345,26 @@ module _ (m : Module) (s : Settings) (which : List Bool) (frames : (index : ℕ)
           bytes = ap (Reach m s which plan.area.len) stack_is ∙ re.0;
         }
 
-    -- UNWINDS END so
-    pub halts_so : HaltLaw wa W2
-    halts_so top i d f at e a l h cs known over fit rdy = by (list_any (λ a. not (stands_numbered m s which a)) (stack_of (Base m) d)) refl
+    -- so it is of a stack with other values
+    moved_halt : (d c at : Configuration) (e : Entry) (i : ℕ) (a : Answer) (l : Left) → bare_stack m d ≡ bare_stack m c
+        → HaltsIn wa e i a l (stack_of (Base m) c) at (Reach m s which plan.area.len (stack_of (Base m) c))
+        → HaltsIn wa e i a l (stack_of (Base m) d) at (Reach m s which plan.area.len (stack_of (Base m) d))
+    moved_halt d c at e i a l same h = record {
+      inner = h.inner;
+      bound = h.bound;
+      few = let few = h.few in let sum = sum_alike m s which (stack_of (Base m) d) (stack_of (Base m) c) same in omega arith;
+      traps = h.traps;
+      bytes = reach_alike m s which (stack_of (Base m) d) (stack_of (Base m) c) same plan.area.len ∙ h.bytes;
+    }
+
+    -- where this is the stack that stands beside
+    halts_at : (top i : ℕ) (d c f at : Configuration) (e : Entry) (a : Answer) (l : Left) → W2 top i c f → bare_stack m d ≡ bare_stack m c → V.W2 Live L2 W2 top i d f
+        → Callers (sides_of (setting wa top)) i (f.here ∷ f.under) (at.here ∷ at.under) → plan.area.len < room_by true m s which plan.area.len (stack_of (Base m) d)
+        → AllLocalsFit p (at.here ∷ at.under) → AreaReady (global_space m) (global_space m) (suc (global_space m)) plan.area at.store
+        → HaltsIn wa e i a l (stack_of (Base m) d) at (Reach m s which plan.area.len (stack_of (Base m) d))
+    halts_at top i d c f at e a l h same chosen cs over fit rdy = by (list_any (λ a. not (stands_numbered m s which a)) (stack_of (Base m) d)) refl
       where
-        num : NumberedAs (setting wa top) told i (map Te (d.here ∷ d.under)) (f.here ∷ f.under)
+        num : NumberedAs (setting wa top) told i (map Te (c.here ∷ c.under)) (f.here ∷ f.under)
         num =
             let v = h.between in
             let lw = h.waits in
@@ -354,23 +372,24 @@ module _ (m : Module) (s : Settings) (which : List Bool) (frames : (index : ℕ)
             let fl = be.between in
             let few = imports_few k fits in
             let kn = lw.known in
-            let calls = at_calls m s which valid d.store.table lw.root i (d.here ∷ d.under) lw.spots.waits lw.stands.stack in
-            let flat = stack_numbered_as m s which frames plan p0 valid tells em plan_fits codes top d.store.table i (d.here ∷ d.under) (fl.here ∷ fl.under) (omega arith) (be.asked).waits calls in
-            carried_law (world_of k) q p roles k.lay top told i (map Te (d.here ∷ d.under)) (v.here ∷ v.under) (f.here ∷ f.under) ok h.asked.stack
-            (as_slim top i (d.here ∷ d.under) (fl.here ∷ fl.under) (v.here ∷ v.under) (be.asked).waits (be.slim_asked).stack flat)
+            let calls = at_calls m s which valid c.store.table lw.root i (c.here ∷ c.under) lw.spots.waits lw.stands.stack in
+            let flat = stack_numbered_as m s which frames plan p0 valid tells em plan_fits codes top c.store.table i (c.here ∷ c.under) (fl.here ∷ fl.under) (omega arith) (be.asked).waits calls in
+            carried_law (world_of k) q p roles k.lay top told i (map Te (c.here ∷ c.under)) (v.here ∷ v.under) (f.here ∷ f.under) ok h.asked.stack
+            (as_slim top i (c.here ∷ c.under) (fl.here ∷ fl.under) (v.here ∷ v.under) (be.asked).waits (be.slim_asked).stack flat)
 
         by : (b : Bool) → list_any (λ a. not (stands_numbered m s which a)) (stack_of (Base m) d) ≡ b
             → HaltsIn wa e i a l (stack_of (Base m) d) at (Reach m s which plan.area.len (stack_of (Base m) d))
         by true some =
             ⊎_elim
-            (λ st. absurd (some_fails (suspended (Base m)) (stands_numbered m s which) (d.here ∷ d.under)
-            (all_stop (setting wa top) told (λ x g r. (role_is x g r).1) i (f.here ∷ f.under) (at.here ∷ at.under) st (map Te (d.here ∷ d.under)) num) some))
-            (λ si. inside top i d f at e a l h si num fit rdy)
+            (λ st. absurd (some_fails (suspended (Base m)) (stands_numbered m s which) (c.here ∷ c.under)
+            (all_stop (setting wa top) told (λ x g r. (role_is x g r).1) i (f.here ∷ f.under) (at.here ∷ at.under) st (map Te (c.here ∷ c.under)) num)
+            (sym (any_alike m s which (stack_of (Base m) d) (stack_of (Base m) c) same) ∙ some)))
+            (λ si. moved_halt d c at e i a l same (inside top i c f at e a l h si num fit rdy))
             (somewhere_law (setting wa top) i (f.here ∷ f.under) (at.here ∷ at.under) (λ x g r. (role_is x g r).0) cs)
         by false none =
             let nums = none_fails m s which (stack_of (Base m) d) none in
             let more : plan.area.len < Room m s.policy (stack_of (Base m) d) = past (nat_lt plan.area.len (Room m s.policy (stack_of (Base m) d))) refl in
-            let r = overruns wa ft L2 W2 (GoodStore k) law top i d f at e a l h cs nums more fit rdy in
+            let r = overruns wa ft (V.L2 Live L2 W2) (V.W2 Live L2 W2) (GoodStore k) law top i d f at e a l chosen cs nums more fit rdy in
             subst (HaltsIn wa e i a l (stack_of (Base m) d) at) (ap (λ z. Fit m s.policy z plan.area.len) (sym (all_front m s which (stack_of (Base m) d) nums))) r
           where
             past : (t : Bool) → nat_lt plan.area.len (Room m s.policy (stack_of (Base m) d)) ≡ t → plan.area.len < Room m s.policy (stack_of (Base m) d)
@@ -378,3 +397,7 @@ module _ (m : Module) (s : Settings) (which : List Bool) (frames : (index : ℕ)
             past false e =
                 let stuck : is_stuck m s which plan.area.len (stack_of (Base m) d) ≡ false = ap (λ b. b || nat_lt plan.area.len (Room m s.policy (stack_of (Base m) d))) none ∙ e in
                 subst (λ b. plan.area.len < (if b then suc plan.area.len else Room m s.policy (stack_of (Base m) d))) stuck over
+
+    -- UNWINDS END so
+    pub halts_so : HaltLaw wa (V.W2 Live L2 W2)
+    halts_so top i d f at e a l h cs known over fit rdy = halts_at top i d h.chosen f at e a l h.waits (alike d h.chosen h.live) h cs over fit rdy

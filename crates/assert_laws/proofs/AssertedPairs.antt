@@ -1,8 +1,8 @@
 -- The flat and the written module with asserts are paired, function by function.
-use Rattle.std.proofs.Common.{◌≡◌, ◌∙◌, ℕ, ◌+◌, ◌<◌, ◌++◌, List, [], ◌∷◌, length, Option, Some, None, Bool, true, false, refl, sym, ap, subst}
+use Rattle.std.proofs.Common.{◌≡◌, ◌∙◌, ℕ, ◌+◌, ◌++◌, [], length, Option, Some, None, Bool, true, false, refl, sym, ap, subst}
 use Rattle.std.specs.Prelude.{not, nat_eq, if◌then◌else◌}
 use Rattle.wa_types.specs.Modules.{declared_locals, defined_at, func_imports, func_type_at, type_at}
-use Rattle.wa_types.specs.Pausing.{Callee, Settings, callee, calls_of, has_number, is_told}
+use Rattle.wa_types.specs.Pausing.{Callee, callee, calls_of}
 use Rattle.wa_types.specs.Pruned.{pruned}
 use Rattle.wa_types.specs.Runtime.{global_space}
 use Rattle.wa_types.specs.Syntax.{a_block, Code, done, plain, nest, branch, Func, Module}
@@ -12,7 +12,7 @@ use Rattle.guard_form.specs.Asserts.{any_callee, assert_code, asserted, asserted
 use Rattle.guard_form.proofs.AssertedCode.{reached_law}
 use Rattle.assert_laws.specs.AssertedUnits.{asserted_units, UnitsUntested}
 use Rattle.assert_laws.proofs.GuardedAsserts as G
-use Rattle.guard_form.specs.Functions.{Calls, GuardedFunc, MayCall, PiecesCall, Role, RoleCalls, as_is, extra_types, flat_code, size_of, with_guards, written_code}
+use Rattle.guard_form.specs.Functions.{Calls, PiecesCall, Role, RoleCalls, as_is, extra_types, flat_code, size_of, with_guards, written_code}
 use Rattle.guard_form.specs.Guarded.{guard_indices, has_one_call, written_body}
 use Rattle.guard_form.specs.Pieces.{Units, no_unit, call_unit, nest_unit, if_unit}
 use Rattle.guard_runs.specs.Alike.{Paired, sides_of}
@@ -20,13 +20,9 @@ use Rattle.guard_runs.specs.Beside.{Twin, both_defined, both_import}
 use Rattle.guard_runs.specs.Stopped.{UnitsNumbered}
 use Rattle.headline.specs.World.{World, setting}
 use Rattle.assert_laws.specs.Links.{with_asserts}
-use Rattle.assert_laws.specs.AssertedRoles.{asserted_guards, asserted_role}
+use Rattle.assert_laws.specs.AssertedRoles.{asserted_role}
+use Rattle.assert_laws.specs.EmittedWithAsserts.{asserted_body}
 use Rattle.assert_laws.proofs.AssertedPlaces.{numbers_same}
-
--- a body with asserts: behind the calls without a number where the function is told, else behind each that can be reached
-abbrev pub asserted_body : (tests : Callee → Bool) → (state : ℕ) → (told : Bool) → Code → Code
-asserted_body t st true c = asserted t st c
-asserted_body t st false c = asserted_reached st c
 
 -- one function in both modules
 pub data FuncToo (t : Callee → Bool) (st : ℕ) (told : ℕ → Bool) (a b : Module) (x : ℕ) : Type 0 where

@@ -1,5 +1,5 @@
 -- The places of a function with asserts are those of the function.
-use Rattle.std.proofs.Common.{◌≡◌, ◌∙◌, ℕ, suc, ◌+◌, ◌*◌, List, [], ◌∷◌, ◌++◌, length, Option, Bool, refl, sym, ap, subst, arith}
+use Rattle.std.proofs.Common.{◌≡◌, ◌∙◌, ℕ, suc, ◌+◌, List, [], ◌∷◌, ◌++◌, length, Option, Bool, refl, sym, ap, subst, arith}
 use Rattle.wa_types.specs.Pausing.{Callee, calls_of}
 use Rattle.wa_types.specs.Syntax.{Shape, a_block, a_loop, Code, done, plain, nest, branch}
 use Rattle.wa_model.specs.declared.flat.Operand.{Operand}

@@ -1,5 +1,5 @@
 -- Suspended stacks of numbered calls with asserts stand as frames, and come back.
-use Rattle.std.proofs.Common.{◌≡◌, ◌∙◌, ℕ, suc, ◌+◌, ◌-◌, ◌*◌, ◌≤◌, ◌<◌, List, [], ◌∷◌, ◌++◌, length, map, Option, Some, None, Bool, true, false, All, refl, sym, ap, subst, arith}
+use Rattle.std.proofs.Common.{◌≡◌, ◌∙◌, ℕ, suc, ◌+◌, ◌-◌, ◌*◌, ◌≤◌, ◌<◌, List, [], ◌∷◌, ◌++◌, length, map, Option, Some, None, Bool, true, All, refl, sym, ap, subst, arith}
 use Rattle.std.specs.Prelude.{not, slice_get}
 use Rattle.wa_types.specs.Base.{Base}
 use Rattle.wa_types.specs.Bounds.{Weight, activation_bound, weight_of_found}
@@ -14,7 +14,6 @@ use Rattle.wa_model.specs.Behaves.{StandsNumbered}
 use Rattle.wa_model.specs.Configuration.{Activation, Configuration, Label, place_of, stack_of, suspended, waiting}
 use Rattle.run_theory.specs.Flat.{followed_by, set_to}
 use Rattle.wa_model.specs.Plan.{Plan}
-use Rattle.wa_model.specs.Plan as P
 use Rattle.wa_model.specs.Step.{param_count}
 use Rattle.run_laws.specs.Ranges.{CodesIn}
 use Rattle.flat_runs.specs.Beside.{AtZero}
@@ -35,7 +34,7 @@ use Rattle.guard_runs.specs.Rewinding.{NoneBelow}
 use Rattle.guard_runs.specs.Returned.{AllSameFlat, SameFlat}
 use Rattle.guard_runs.specs.Stopped.{AllNumbered, Stopped}
 use Rattle.guard_runs.specs.Stopped as S
-use Rattle.headline.specs.FlatLaw.{AllLocalsFit, AllWeigh, FlatAgain, FlatStands, LocalsFit}
+use Rattle.headline.specs.FlatLaw.{AllLocalsFit, AllWeigh, FlatAgain, LocalsFit}
 use Rattle.headline.specs.World.{World, setting}
 use Rattle.headline.specs.Core.{Core, CoreFits, world_of}
 use Rattle.headline.specs.Links.{GoodStore, LinkedWaits}
@@ -119,6 +118,15 @@ call_is t st f n slots x to behind2 rest2 xs (call_unit slots1 x1 to1 behind1 re
     }
 call_is t st f n slots x to behind2 rest2 xs (nest_unit s first body behind rest) e pl = cc
 call_is t st f n slots x to behind2 rest2 xs (if_unit c fa a fb b behind rest) e pl = cc
+
+-- what came back without asserts, from what stands behind the flat locals
+abbrev pub AgainMore : (m : Module) (s : Settings) (which : List Bool) (frames : (index : ℕ) → Framing) (plan : Plan) (p0 : Module) → (Live : Configuration → Configuration → Type 0) → Type 0
+AgainMore m s which frames plan p0 Live =
+    (top i : ℕ) (d f : Configuration) (a : Activation) (us : List Activation) → LinkedWaits (core_of m s which frames plan p0) (RunsBeside m s which frames plan p0) (SlimWaits m s which frames plan p0) i d f
+    → All (StandsNumbered m s which) (stack_of (Base m) d)
+    → AllSameFlat (core_of m s which frames plan p0).lay (f.here ∷ f.under) (a ∷ us) → AllMore p0 (a ∷ us)
+    → FlatAgain (world_of (core_of m s which frames plan p0)) Live (N.L (core_of m s which frames plan p0) (RunsBeside m s which frames plan p0) (SlimWaits m s which frames plan p0))
+    (N.W (core_of m s which frames plan p0) (RunsBeside m s which frames plan p0) (SlimWaits m s which frames plan p0)) (GoodStore (core_of m s which frames plan p0)) top i d f a us
 
 module _ (m : Module) (s : Settings) (which : List Bool) (frames : (index : ℕ) → Framing) (plan : Plan) (p0 : Module) (valid : Valid m) (tells : TellsMayPause m s which)
     (em : Emitted m s which frames p0) (plan_fits : Given m plan) (codes : CodesIn (Base m)) (q p : Module)
@@ -411,17 +419,8 @@ module _ (m : Module) (s : Settings) (which : List Bool) (frames : (index : ℕ)
   abbrev pub A : ℕ → Configuration → Configuration → Type 0
   A = SlimWaits m s which frames plan p0
 
-  -- what came back without asserts, from what stands behind the flat locals
-  abbrev pub AgainMore : (Live : Configuration → Configuration → Type 0) → Type 0
-  AgainMore Live =
-      (top i : ℕ) (d f : Configuration) (a : Activation) (us : List Activation) → LinkedWaits (core_of m s which frames plan p0) (RunsBeside m s which frames plan p0) (SlimWaits m s which frames plan p0) i d f
-      → All (StandsNumbered m s which) (stack_of (Base m) d)
-      → AllSameFlat (core_of m s which frames plan p0).lay (f.here ∷ f.under) (a ∷ us) → AllMore p0 (a ∷ us)
-      → FlatAgain (world_of (core_of m s which frames plan p0)) Live (N.L (core_of m s which frames plan p0) (RunsBeside m s which frames plan p0) (SlimWaits m s which frames plan p0))
-      (N.W (core_of m s which frames plan p0) (RunsBeside m s which frames plan p0) (SlimWaits m s which frames plan p0)) (GoodStore (core_of m s which frames plan p0)) top i d f a us
-
   -- STACKS WITH ASSERTS stand as frames, and come back
-  pub stacks_law : (Live : Configuration → Configuration → Type 0) → FramedCalls m s which frames → AgainMore Live
+  pub stacks_law : (Live : Configuration → Configuration → Type 0) → FramedCalls m s which frames → AgainMore m s which frames plan p0 Live
       → StackLaw w2 Live (LinkedBeside w q (N.L k B A) (N.W k B A)) (WaitsBeside w q (N.L k B A) (N.W k B A)) (GoodStore k)
   stacks_law Live framed again_more = record {
     numbers = λ top i d f h nums.

@@ -1,5 +1,5 @@
 -- Who stands at numbered calls is told of asserted activations as of those without.
-use Rattle.std.proofs.Common.{◌≡◌, ◌∙◌, ℕ, suc, List, [], ◌∷◌, length, Bool, true, refl, ap, subst}
+use Rattle.std.proofs.Common.{◌≡◌, ◌∙◌, ℕ, List, [], ◌∷◌, Bool, true, refl, ap, subst}
 use Rattle.std.specs.Prelude.{◌&&◌}
 use Rattle.wa_types.specs.Modules.{func_type_at, type_at}
 use Rattle.wa_types.specs.Pausing.{Callee}
@@ -13,7 +13,7 @@ use Rattle.guard_form.specs.Functions.{Role}
 use Rattle.guard_runs.specs.Joined.{CallFrame}
 use Rattle.guard_runs.specs.Stopped.{NumberedAs}
 use Rattle.headline.specs.World.{World, setting}
-use Rattle.assert_laws.specs.Beside.{above, bottom, Sides, Together, Unders, Waits, waits}
+use Rattle.assert_laws.specs.Beside.{above, bottom, Together, Unders, Waits, waits}
 use Rattle.assert_laws.specs.Links.{assert_sides, NumbersCarryOver, with_asserts}
 
 module _ (w : World) (q written : Module) (role : ℕ → Role) (lay : Activation → CallFrame) (top : ℕ) (ok : Together (assert_sides w q)) where

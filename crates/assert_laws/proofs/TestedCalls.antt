@@ -1,5 +1,5 @@
 -- Code with tests has the calls of the code beside it, and so have labels.
-use Rattle.std.proofs.Common.{◌≡◌, ◌∙◌, ℕ, ◌+◌, ◌++◌, List, length, Bool, refl, ap, arith}
+use Rattle.std.proofs.Common.{◌≡◌, ◌∙◌, ℕ, ◌++◌, List, length, Bool, refl, ap, arith}
 use Rattle.wa_types.specs.Pausing.{Callee, callee, callee_onto, calls_of}
 use Rattle.wa_types.specs.Syntax.{Code}
 use Rattle.wa_model.specs.Configuration.{Label}

@@ -1,7 +1,7 @@
 -- Functions with asserts, as both modules have them.
 use Rattle.std.specs.Prelude.{◌≡◌, ℕ, Bool, drop, map}
 use Rattle.wa_types.specs.Pausing.{Callee}
-use Rattle.wa_types.specs.Syntax.{Code, Func, Module}
+use Rattle.wa_types.specs.Syntax.{Func, Module}
 use Rattle.guard_form.specs.Functions.{GuardedFunc, Role, as_is, with_guards}
 use Rattle.guard_form.specs.Asserts.{asserted, asserted_reached}
 use Rattle.assert_laws.specs.AssertedUnits.{asserted_units}

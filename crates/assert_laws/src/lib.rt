@@ -1,4 +1,4 @@
-//! Laws of modules with asserts; alone, as no program writes asserts so far.
+//! Modules with asserts, as a definition with its laws; alone, as no rewriting asks for asserts so far.
 //!
 //! An assert is a test behind a call without number, which traps where the state is 1 (`guard_form`). So an unwind that meets an
 //! activation which stands at no numbered call ends there.
@@ -8,15 +8,26 @@
 //! headline is owed of flat code with asserts too, which stands between slim flat code and written code (`specs/Links.antt`).
 //! Suspended stacks of activations with asserts stand as frames, come back, and an unwind that meets a test ends there.
 //!
+//! `specs/EmittedWithAsserts.antt` says what is emitted with asserts: what `live_laws` says is emitted, by either policy, each function with
+//! its tests. A caller may rely on this: the emitted module of a valid one is valid, and is its original, rewritten with asserts: it
+//! behaves like it under every plan, whichever calls its activations stand at where it pauses.
+//!
 //! - `laws`: asserted pieces make the asserted code.
 //! - `tested_runs`: runs in state 0.
 //! - `tested_links`: what carries over to flat code with asserts.
+//! - `asserted_modules`: the emitted module with asserts, for both policies.
 #![tactic(auto)]
 
+mod asserted_modules;
 mod laws;
 mod tested_links;
 mod tested_runs;
 
+pub use asserted_modules::{
+    asserted_behaves_given, asserted_is_prepared, asserted_is_spelled, asserted_is_valid,
+    asserted_is_well_formed, asserted_keeps_sizes, asserted_reads_few, asserted_rewrites,
+    asserted_runs_unpaused, functions_have_asserts,
+};
 pub use laws::guarded_code_is_asserted;
 pub use tested_links::{stretches_are_followed, tests_are_met};
 pub use tested_runs::{
