@@ -85,14 +85,11 @@ fn put_next(
     ensures { IfOk result (λ b. (rest : Code) → onto out.new.items (where_reached state b rest) ≡ onto out.old.items (where_reached state reached (in_front instr.now rest))) }
 {
     out.push(made)?;
-    if !reached {
-        return Ok(false);
+    if reached && !instr.is_last() {
+        put_where(alloc, out, is_call(instr), state)?;
+        return Ok(true);
     }
-    if instr.is_last() {
-        return Ok(false);
-    }
-    put_where(alloc, out, is_call(instr), state)?;
-    Ok(true)
+    Ok(false)
 }
 
 /// An equal instruction.
