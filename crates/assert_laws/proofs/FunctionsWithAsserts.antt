@@ -60,7 +60,7 @@ module _ (m : Module) (s : Settings) (which : List Bool) where
   spaces_same : (gs : List Func) → func_space (record m { funcs = funcs_with_asserts m s which (func_imports m) gs }) ≡ func_space (record m { funcs = gs })
   spaces_same gs = ap (λ ks. length (imported imported_func m ++ ks)) (sorts_from m s which (func_imports m) gs)
 
-  built_same : (gs : List Func) → with_runtime (record m { funcs = funcs_with_asserts m s which (func_imports m) gs }) ≡ module_with_asserts m s which (with_runtime (record m { funcs = gs }))
+  pub built_same : (gs : List Func) → with_runtime (record m { funcs = funcs_with_asserts m s which (func_imports m) gs }) ≡ module_with_asserts m s which (with_runtime (record m { funcs = gs }))
   unfolding with_runtime
   built_same gs =
       ap (built (funcs_with_asserts m s which (func_imports m) gs ++ behind)) (spaces_same gs)

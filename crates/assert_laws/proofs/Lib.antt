@@ -12,6 +12,7 @@ pub mod EmittedAsserts
 pub mod FrameCalls
 pub mod FunctionsWithAsserts
 pub mod GuardedAsserts
+pub mod LengthWithAsserts
 pub mod ModuleWithAsserts
 pub mod ReadsWithAsserts
 pub mod Running

@@ -84,7 +84,7 @@ module _ (st : ℕ) where
   else_reached (nest s r body rest) = refl
   else_reached (branch r x y rest) = refl
 
-  reached_items : (c : Code) → code_items (asserted_reached st c) ≤ code_items c + 6 * length (calls_of c)
+  pub reached_items : (c : Code) → code_items (asserted_reached st c) ≤ code_items c + 6 * length (calls_of c)
   unfolding code_items asserted_reached calls_of
   reached_items done = omega arith
   reached_items (plain p rest) = by (is_last p) (reached_items rest)
@@ -142,7 +142,7 @@ module _ (tests : Callee → Bool) (st : ℕ) where
 
 -- ---- one function
 
-counts_items : (c : Code) → instructions_and_labels c ≤ code_items c
+pub counts_items : (c : Code) → instructions_and_labels c ≤ code_items c
 unfolding instructions_and_labels code_items
 counts_items done = omega arith
 counts_items (plain p rest) = let a = counts_items rest in omega arith

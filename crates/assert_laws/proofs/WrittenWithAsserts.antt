@@ -1,5 +1,5 @@
 -- What is emitted with asserts is the original, rewritten, in each part but its runs.
-use Rattle.std.proofs.Common.{◌≡◌, ◌∙◌, ℕ, suc, ◌+◌, ◌*◌, ◌≤◌, List, ◌++◌, length, Option, Some, None, Bool, true, false, refl, sym, ap, subst, arith, length-append}
+use Rattle.std.proofs.Common.{◌≡◌, ◌∙◌, ℕ, suc, ◌+◌, ◌*◌, ◌^◌, ◌≤◌, List, ◌++◌, length, Option, Some, None, Bool, true, false, refl, sym, ap, subst, arith, length-append}
 use Rattle.std.specs.Prelude.{not, slice_get}
 use Rattle.std.specs.Option.{option_map}
 use Rattle.std.proofs.Math.Seq.{drop-append_seam}
@@ -9,7 +9,9 @@ use Rattle.wa_types.specs.Modules.{defined_at, func_imports}
 use Rattle.wa_types.specs.Pausing.{Callee, MayPause, Policy, Settings, TellsMayPause, callee, callee_onto, calls_of, has_number, is_told, save_all, save_live}
 use Rattle.wa_types.specs.Pruned.{pruned}
 use Rattle.wa_types.specs.Runtime.{global_space, runtime_funcs, with_runtime}
+use Rattle.wa_types.specs.Sizes.{FuncSizes}
 use Rattle.wa_types.specs.Syntax.{Code, branch, done, nest, plain, Func, Module}
+use Rattle.wa_types.proofs.SizeBounds.{weight_fits}
 use Rattle.wa_model.specs.Rewrites.{RewritesButRuns, RewrittenFunc, instructions_and_labels}
 use Rattle.run_theory.specs.Quiet.{FreeOfNames}
 use Rattle.guard_form.specs.Asserts.{Asserted, asserted, asserted_reached}
@@ -17,17 +19,20 @@ use Rattle.guard_form.proofs.Growing.{depths_grow, sizes_grow}
 use Rattle.rewrite_form.specs.CodesHold.{AllCodesHold, AllCodesSmall, codes_size}
 use Rattle.rewrite_form.specs.Emitted.{layout_codes}
 use Rattle.rewrite_form.specs.EmittedBy.{FrameCode, asyncified_by, func_by, written_by}
-use Rattle.rewrite_form.proofs.EmittedBy.{defined_of, emitted_at, not_told, told}
+use Rattle.rewrite_form.proofs.EmittedBy.{defined_of, defined_where, emitted_at, not_told, told}
 use Rattle.rewrite_form.proofs.EmittedRewritten.{rewritten_but_runs, sort_there}
 use Rattle.rewrite_form.proofs.EmittedSizes.{calls_same, layouts_small}
 use Rattle.rewrite_form.proofs.SizesBy.{code_weighs, written_depth, written_size}
 use Rattle.rewrite_form.proofs.WrittenBy.{written_length}
-use Rattle.rewrite_form.proofs.WrittenSizes.{layouts_hold}
+use Rattle.rewrite_form.proofs.FitsBy.{one_of_all}
+use Rattle.rewrite_form.proofs.LengthBy.{entry}
+use Rattle.rewrite_form.proofs.WrittenSizes.{layout_size, layouts_hold}
 use Rattle.rewrite_form.proofs.WiderTypes.{state_there}
 use Rattle.slot_laws.proofs.Closed.{one_list}
 use Rattle.live_laws.specs.EmittedAs.{EmittedAs, EmittedUnder}
 use Rattle.live_laws.specs.LiveParts.{live_codes}
 use Rattle.live_laws.specs.PolicyLaws.{CanBeEmitted}
+use Rattle.live_laws.proofs.LiveLength.{numbers_take}
 use Rattle.live_laws.proofs.LiveModules as Live
 use Rattle.live_laws.proofs.PolicyCases.{live_rewriting}
 use Rattle.assert_laws.specs.EmittedWithAsserts.{asserted_body, func_with_asserts, module_with_asserts}
@@ -42,6 +47,7 @@ pub record CodesOf (m : Module) (s : Settings) (which : List Bool) (p0 : Module)
   pub is : p0 ≡ asyncified_by m s which codes
   pub hold : AllCodesHold m s which codes
   pub small : AllCodesSmall m which codes
+  pub few : (x : ℕ) (f : Func) → defined_at m x ≡ Some f → is_told (slice_get which x) ≡ true → codes_size (codes x f) ≤ 2 ^ 36 + 1500000 * length (entry f)
 
 pub codes_of : (m : Module) (s : Settings) (which : List Bool) (p0 : Module) → CanBeEmitted m s which → EmittedAs m s which p0 → CodesOf m s which p0
 codes_of m s which p0 c = by s.policy refl
@@ -52,10 +58,20 @@ codes_of m s which p0 c = by s.policy refl
       is = h.is;
       hold = layouts_hold m s which h.pieces c.valid h.slim;
       small = layouts_small m s which h.pieces c.valid c.sizes;
+      few = λ x f is told.
+          let at = defined_where m x f is in
+          let z = layout_size m s which h.pieces x f c.valid at.0 at.1 in
+          let w = weight_fits (2 ^ 31) (2 ^ 31) m f (one_of_all (FuncSizes (2 ^ 31) (2 ^ 31) m) m.funcs at.0 f c.sizes.each_func at.1) in omega (arith, z, w);
     }
     by save_live e h =
         let r = live_rewriting m s which p0 c e h in
-        record { codes = live_codes h.pieces h.parts; is = h.is; hold = Live.hold m s which h.pieces h.parts r; small = Live.small m s which h.pieces h.parts r }
+        record {
+          codes = live_codes h.pieces h.parts;
+          is = h.is;
+          hold = Live.hold m s which h.pieces h.parts r;
+          small = Live.small m s which h.pieces h.parts r;
+          few = λ x f is told. let k = Live.few_codes m s which h.pieces h.parts r x f is told in let n = numbers_take m s which f in omega (arith, k, n);
+        }
 
 -- ---- calls of code
 

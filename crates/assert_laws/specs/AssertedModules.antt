@@ -1,5 +1,5 @@
 -- Laws of the module that is emitted with asserts, for both policies.
-use Rattle.std.specs.Prelude.{◌≡◌, ℕ, ◌+◌, ◌≤◌, List, length, count_by, Some, Bool, not, slice_get}
+use Rattle.std.specs.Prelude.{◌≡◌, ℕ, ◌+◌, ◌^◌, ◌<◌, ◌≤◌, List, length, count_by, Some, Bool, not, slice_get}
 use Rattle.wa_types.specs.Encoding.{Enc}
 use Rattle.wa_types.specs.ModuleBounds.{source_bounds, prepared_bounds}
 use Rattle.wa_types.specs.Modules.{func_imports}
@@ -62,6 +62,12 @@ AssertedKeepsSizes = (m : Module) (s : Settings) (which : List Bool) (q : Module
 -- Its functions declare few locals,
 abbrev pub AssertedHasFewLocals : Type 0
 AssertedHasFewLocals = (m : Module) (s : Settings) (which : List Bool) (q : Module) → CanBeEmitted m s which → EmittedWithAsserts m s which q → FewLocals q
+
+-- its bytes are fewer than 2 ^ 64 where those of the original are far fewer,
+abbrev pub AssertedIsShort : Type 0
+AssertedIsShort =
+    (m : Module) (s : Settings) (which : List Bool) (q : Module) → CanBeEmitted m s which → EmittedWithAsserts m s which q → length m.funcs ≤ 100000 → length (Enc m) ≤ 2 ^ 36
+    → length (Enc q) < 2 ^ 64
 
 -- what is written of it, where that isn't long, spells its norm,
 abbrev pub AssertedIsSpelled : Type 0

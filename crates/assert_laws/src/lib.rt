@@ -24,9 +24,9 @@ mod tested_links;
 mod tested_runs;
 
 pub use asserted_modules::{
-    asserted_behaves_given, asserted_is_prepared, asserted_is_spelled, asserted_is_valid,
-    asserted_is_well_formed, asserted_keeps_sizes, asserted_reads_few, asserted_rewrites,
-    asserted_runs_unpaused, functions_have_asserts,
+    asserted_behaves_given, asserted_is_prepared, asserted_is_short, asserted_is_spelled,
+    asserted_is_valid, asserted_is_well_formed, asserted_keeps_sizes, asserted_reads_few,
+    asserted_rewrites, asserted_runs_unpaused, functions_have_asserts,
 };
 pub use laws::guarded_code_is_asserted;
 pub use tested_links::{stretches_are_followed, tests_are_met};
