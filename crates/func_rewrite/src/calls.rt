@@ -9,11 +9,11 @@ ghost use Rattle.call_graph.specs.Settings.{settings_of};
 ghost use Rattle.func_rewrite.specs.Frames.{IsFlattened};
 ghost use Rattle.func_rewrite.specs.Calls.{AreLiveCalls};
 
-use call_graph::Settings;
+use crate::pass::Pass;
 use flatten::Flattened;
 use live_locals::{live_at, number_calls};
 use std::alloc::{AllocError, Global};
-use wa_types::{Func, Module};
+use wa_types::Func;
 
 /// The places of the numbered calls, and for each which locals its frame keeps.
 #[derive(Drop)]
@@ -22,23 +22,26 @@ pub(crate) struct LiveCalls {
     pub(crate) sets: Vec<Vec<bool>>,
 }
 
-/// The numbered calls of a function, where `which` tells the functions that may pause and `listed` the imports that may.
+/// The numbered calls of a function.
 pub(crate) fn live_calls(
     alloc: Global,
-    _module: &Module,
-    settings: &Settings,
-    which: &[bool],
-    listed: &[bool],
+    pass: &Pass<'_>,
     _source: &Func,
     flat: &Flattened,
 ) -> Result<LiveCalls, AllocError>
-    requires valid { IsValid (module_of _module.now) }
-    requires sizes { StrictSizeRule (module_of _module.now) }
-    requires listed { listed.now ≡ Listed (module_of _module.now) (settings_of settings.now) }
-    requires flat { IsFlattened (module_of _module.now) (func_of _source.now) flat.now }
-    ensures { IfOk result (λ v. AreLiveCalls (module_of _module.now) (settings_of settings.now) which.now (func_of _source.now) flat.now v) }
+    requires valid { IsValid (module_of pass.now.valid.now) }
+    requires sizes { StrictSizeRule (module_of pass.now.valid.now) }
+    requires listed { pass.now.listed.now ≡ Listed (module_of pass.now.valid.now) (settings_of pass.now.settings.now) }
+    requires flat { IsFlattened (module_of pass.now.valid.now) (func_of _source.now) flat.now }
+    ensures { IfOk result (λ v. AreLiveCalls (module_of pass.now.valid.now) (settings_of pass.now.settings.now) pass.now.which.now (func_of _source.now) flat.now v) }
 {
-    let numbers = number_calls(alloc, &flat.func, which, listed, settings.ignore_indirect)?;
+    let numbers = number_calls(
+        alloc,
+        &flat.func,
+        pass.which,
+        pass.listed,
+        pass.settings.ignore_indirect,
+    )?;
     let sets = live_at(alloc, &flat.func, &numbers)?;
     Ok(LiveCalls { numbers, sets })
 }

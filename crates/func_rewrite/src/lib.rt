@@ -6,8 +6,8 @@
 //! where the state isn't 0: save the frame
 //! ```
 //!
-//! `write_by_policy` writes a function from its flat code (`flatten`), with its pieces and guards from `slim_rewrite`, and answers it with
-//! the frames of its numbered calls; `emit_by_policy` answers it without these.
+//! `write_by_policy` writes a function from its flat code (`flatten`), with its pieces and guards from `slim_rewrite`; `frames_by_policy`
+//! answers the frames of its numbered calls, for who asks for them.
 //!
 //! Under `all` a frame has a place for each parameter, declared local and slot. The written code goes over the parameters, the
 //! declared locals and the slots that hold an operand at some numbered call (`kept_locals`); the places of others stay as gaps
@@ -17,6 +17,7 @@
 //! The law: the function is one that the definition of the emitted module asks for (`IsWritten` of `live_laws/specs/EmittedAs.antt`), or
 //! memory is lacking. Which functions are written, and the module around them, are `module_rewrite`'s matter.
 //!
+//! - `pass`: what all functions of a module are written by.
 //! - `locals`, `body`: declared locals, and the body around guarded pieces, for both policies.
 //! - `kept`, `frames`, `function`: under `all` which locals frames keep, the frames of calls, and the function.
 //! - `calls`, `layouts`, `live_function`: the same under `live`.
@@ -31,8 +32,9 @@ mod kept;
 mod layouts;
 mod live_function;
 mod locals;
+mod pass;
 mod policy;
 
 pub use flatten::{FlatFault, Flattened, flatten_func};
-pub use live_function::{emit_live_func, write_live_func};
-pub use policy::{emit_by_policy, write_by_policy};
+pub use pass::Pass;
+pub use policy::{frames_by_policy, write_by_policy};

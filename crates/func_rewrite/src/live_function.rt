@@ -1,4 +1,4 @@
-//! The function as it is written, and its frames.
+//! A function as it is written under the policy `live`, and the frames of its numbered calls.
 
 ghost use Rattle.std.specs.Prelude.{◌≡◌, ◌≤◌, ◌<◌, ◌^◌, ℕ, length, IfOk};
 ghost use Rattle.wa_types.specs.Pausing.{Listed, save_live};
@@ -23,33 +23,32 @@ ghost use Rattle.func_rewrite.specs.Calls.{AreLiveCalls};
 
 use crate::body::{body_around, unless_normal};
 use crate::calls::{LiveCalls, live_calls};
-use crate::function::Written;
 use crate::layouts::set_layouts;
 use crate::locals::written_locals;
+use crate::pass::Pass;
 use call_frames::{FrameParts, saved_parts};
-use call_graph::Settings;
 use flatten::Flattened;
 use live_frames::{restoring, saving};
 use local_spill::{Layout, RuntimeIds};
 use std::alloc::{AllocError, Global};
-use wa_types::{Func, Instr, Module};
+use wa_types::{Func, Instr};
 
 /// The body of the written function, whose numbered calls have these places and whose frames have these parts.
 fn live_body(
     alloc: Global,
-    flat: &Flattened,
+    flat: &mut Flattened,
     numbers: &[u32],
     parts: &FrameParts,
     ids: &RuntimeIds,
 ) -> Result<Vec<Instr>, AllocError>
-    requires fits { FlatFits (flat_func_of flat.now.func) }
+    requires fits { FlatFits (flat_func_of flat.old.func) }
     requires rises { Rises numbers.now }
-    requires few { call_total (flat_func_of flat.now.func).body < 2 ^ 32 }
-    requires slots { flat.now.first_slot ≤ flat.now.first_result }
+    requires few { call_total (flat_func_of flat.old.func).body < 2 ^ 32 }
+    requires slots { flat.old.first_slot ≤ flat.old.first_result }
     requires parts { FewParts (parts_view parts.now) }
-    ensures { IfOk result (λ v. (m : PlainModule) (f : PlainFunc) (count : ℕ) → IsFlattened m f flat.now
-        → IsSlimBody m numbers.now ids.now.state flat.now.func.func f (restoring_by_call (frames_of (told_frames count (length flat.now.func.locals.items) ids.now.address parts.now)) done)
-        (saving_by_call (frames_of (told_frames count (length flat.now.func.locals.items) ids.now.address parts.now)) done) (code v.items)) }
+    ensures { IfOk result (λ v. (m : PlainModule) (f : PlainFunc) (count : ℕ) → IsFlattened m f flat.old
+        → IsSlimBody m numbers.now ids.now.state flat.old.func.func f (restoring_by_call (frames_of (told_frames count (length flat.old.func.locals.items) ids.now.address parts.now)) done)
+        (saving_by_call (frames_of (told_frames count (length flat.old.func.locals.items) ids.now.address parts.now)) done) (code v.items)) }
 {
     let base = flat.func.locals.len() as u32;
     let restored = restoring(alloc, parts, base, ids.address)?;
@@ -59,27 +58,24 @@ fn live_body(
     body_around(alloc, flat, numbers, start, end, ids.state)
 }
 
-/// The function as it is written, whose numbered calls keep these locals.
+/// The function as it is written, whose numbered calls keep these locals. The flat function loses its statements.
 fn live_func(
     alloc: Global,
-    _module: &Module,
-    _settings: &Settings,
-    _which: &[bool],
+    pass: &Pass<'_>,
     source: &Func,
-    flat: &Flattened,
+    flat: &mut Flattened,
     calls: &LiveCalls,
-    ids: &RuntimeIds,
 ) -> Result<Func, AllocError>
-    requires valid { IsValid (module_of _module.now) }
-    requires sizes { StrictSizeRule (module_of _module.now) }
-    requires ids { ids.now ≡ ids_behind (module_of _module.now) }
-    requires flat { IsFlattened (module_of _module.now) (func_of source.now) flat.now }
-    requires calls { AreLiveCalls (module_of _module.now) (settings_of _settings.now) _which.now (func_of source.now) flat.now calls.now }
-    ensures { IfOk result (λ f. IsLiveWritten (module_of _module.now) (settings_of _settings.now) _which.now flat.now.func.func (func_of source.now) (func_of f)) }
+    requires valid { IsValid (module_of pass.now.valid.now) }
+    requires sizes { StrictSizeRule (module_of pass.now.valid.now) }
+    requires ids { pass.now.ids.now ≡ ids_behind (module_of pass.now.valid.now) }
+    requires flat { IsFlattened (module_of pass.now.valid.now) (func_of source.now) flat.old }
+    requires calls { AreLiveCalls (module_of pass.now.valid.now) (settings_of pass.now.settings.now) pass.now.which.now (func_of source.now) flat.old calls.now }
+    ensures { IfOk result (λ f. IsLiveWritten (module_of pass.now.valid.now) (settings_of pass.now.settings.now) pass.now.which.now flat.old.func.func (func_of source.now) (func_of f)) }
 {
     let parts = saved_parts(alloc, &calls.sets, &flat.func.locals)?;
-    let body = live_body(alloc, flat, &calls.numbers, &parts, ids)?;
     let locals = written_locals(alloc, &source.locals, &flat.func.locals, flat.first_slot)?;
+    let body = live_body(alloc, flat, &calls.numbers, &parts, pass.ids)?;
     Ok(Func {
         sort: source.sort,
         locals,
@@ -87,70 +83,55 @@ fn live_func(
     })
 }
 
-/// The frames of its numbered calls, in order.
+/// The frames of numbered calls that keep these locals, in order.
 fn live_layouts(
     alloc: Global,
-    _module: &Module,
-    _settings: &Settings,
-    _which: &[bool],
+    pass: &Pass<'_>,
     _source: &Func,
     flat: &Flattened,
     calls: &LiveCalls,
 ) -> Result<Vec<Layout>, AllocError>
-    requires valid { IsValid (module_of _module.now) }
-    requires sizes { StrictSizeRule (module_of _module.now) }
-    requires flat { IsFlattened (module_of _module.now) (func_of _source.now) flat.now }
-    requires calls { AreLiveCalls (module_of _module.now) (settings_of _settings.now) _which.now (func_of _source.now) flat.now calls.now }
-    ensures { IfOk result (λ ls. FramesUnder save_live (module_of _module.now) (settings_of _settings.now) _which.now (func_of _source.now) ls.items) }
+    requires valid { IsValid (module_of pass.now.valid.now) }
+    requires sizes { StrictSizeRule (module_of pass.now.valid.now) }
+    requires flat { IsFlattened (module_of pass.now.valid.now) (func_of _source.now) flat.now }
+    requires calls { AreLiveCalls (module_of pass.now.valid.now) (settings_of pass.now.settings.now) pass.now.which.now (func_of _source.now) flat.now calls.now }
+    ensures { IfOk result (λ ls. FramesUnder save_live (module_of pass.now.valid.now) (settings_of pass.now.settings.now) pass.now.which.now (func_of _source.now) ls.items) }
 {
     let layouts = set_layouts(alloc, &calls.sets, &flat.func.locals)?;
     Ok(layouts)
 }
 
-/// The function as it is written under the policy `live`, and its frames, where `which` tells the functions that may pause and
-/// `listed` the imports that may.
+/// The function as it is written under the policy `live`; the flat function loses its statements.
 pub fn write_live_func(
     alloc: Global,
-    module: &Module,
-    settings: &Settings,
-    which: &[bool],
-    listed: &[bool],
+    pass: &Pass<'_>,
     source: &Func,
-    flat: &Flattened,
-    ids: &RuntimeIds,
-) -> Result<Written, AllocError>
-    requires valid { IsValid (module_of «module».now) }
-    requires sizes { StrictSizeRule (module_of «module».now) }
-    requires listed { listed.now ≡ Listed (module_of «module».now) (settings_of settings.now) }
-    requires ids { ids.now ≡ ids_behind (module_of «module».now) }
-    requires flat { IsFlattened (module_of «module».now) (func_of source.now) flat.now }
-    ensures func { IfOk result (λ w. IsLiveWritten (module_of «module».now) (settings_of settings.now) which.now flat.now.func.func (func_of source.now) (func_of w.func)) }
-    ensures frames { IfOk result (λ w. FramesUnder save_live (module_of «module».now) (settings_of settings.now) which.now (func_of source.now) w.frames.items) }
+    flat: &mut Flattened,
+) -> Result<Func, AllocError>
+    requires valid { IsValid (module_of pass.now.valid.now) }
+    requires sizes { StrictSizeRule (module_of pass.now.valid.now) }
+    requires listed { pass.now.listed.now ≡ Listed (module_of pass.now.valid.now) (settings_of pass.now.settings.now) }
+    requires ids { pass.now.ids.now ≡ ids_behind (module_of pass.now.valid.now) }
+    requires flat { IsFlattened (module_of pass.now.valid.now) (func_of source.now) flat.old }
+    ensures { IfOk result (λ f. IsLiveWritten (module_of pass.now.valid.now) (settings_of pass.now.settings.now) pass.now.which.now flat.old.func.func (func_of source.now) (func_of f)) }
 {
-    let calls = live_calls(alloc, module, settings, which, listed, source, flat)?;
-    let func = live_func(alloc, module, settings, which, source, flat, &calls, ids)?;
-    let frames = live_layouts(alloc, module, settings, which, source, flat, &calls)?;
-    Ok(Written { func, frames })
+    let calls = live_calls(alloc, pass, source, flat)?;
+    live_func(alloc, pass, source, flat, &calls)
 }
 
-/// The function as it is written under the policy `live`, without its frames.
-pub fn emit_live_func(
+/// The frames of its numbered calls, in order.
+pub fn live_func_frames(
     alloc: Global,
-    module: &Module,
-    settings: &Settings,
-    which: &[bool],
-    listed: &[bool],
+    pass: &Pass<'_>,
     source: &Func,
     flat: &Flattened,
-    ids: &RuntimeIds,
-) -> Result<Func, AllocError>
-    requires valid { IsValid (module_of «module».now) }
-    requires sizes { StrictSizeRule (module_of «module».now) }
-    requires listed { listed.now ≡ Listed (module_of «module».now) (settings_of settings.now) }
-    requires ids { ids.now ≡ ids_behind (module_of «module».now) }
-    requires flat { IsFlattened (module_of «module».now) (func_of source.now) flat.now }
-    ensures { IfOk result (λ f. IsLiveWritten (module_of «module».now) (settings_of settings.now) which.now flat.now.func.func (func_of source.now) (func_of f)) }
+) -> Result<Vec<Layout>, AllocError>
+    requires valid { IsValid (module_of pass.now.valid.now) }
+    requires sizes { StrictSizeRule (module_of pass.now.valid.now) }
+    requires listed { pass.now.listed.now ≡ Listed (module_of pass.now.valid.now) (settings_of pass.now.settings.now) }
+    requires flat { IsFlattened (module_of pass.now.valid.now) (func_of source.now) flat.now }
+    ensures { IfOk result (λ ls. FramesUnder save_live (module_of pass.now.valid.now) (settings_of pass.now.settings.now) pass.now.which.now (func_of source.now) ls.items) }
 {
-    let calls = live_calls(alloc, module, settings, which, listed, source, flat)?;
-    live_func(alloc, module, settings, which, source, flat, &calls, ids)
+    let calls = live_calls(alloc, pass, source, flat)?;
+    live_layouts(alloc, pass, source, flat, &calls)
 }

@@ -1,4 +1,4 @@
-//! The function as it is written by the policy of the settings.
+//! A function as it is written by the policy of the settings, and the frames of its numbered calls.
 
 ghost use Rattle.std.specs.Prelude.{◌≡◌, IfOk};
 ghost use Rattle.wa_types.specs.Pausing.{Listed};
@@ -10,59 +10,50 @@ ghost use Rattle.local_spill.specs.Ids.{ids_behind};
 ghost use Rattle.func_rewrite.specs.Frames.{FramesOf, IsFlattened};
 ghost use Rattle.live_laws.specs.EmittedAs.{IsWritten};
 
-use crate::function::{Written, emit_func, write_func};
-use crate::live_function::{emit_live_func, write_live_func};
-use call_graph::{Policy, Settings};
+use crate::function::{func_frames, write_func};
+use crate::live_function::{live_func_frames, write_live_func};
+use crate::pass::Pass;
+use call_graph::Policy;
 use flatten::Flattened;
-use local_spill::RuntimeIds;
+use local_spill::Layout;
 use std::alloc::{AllocError, Global};
-use wa_types::{Func, Module};
+use wa_types::Func;
 
-/// The function as it is written, and its frames, where `which` tells the functions that may pause and `listed` the imports that may.
+/// The function as it is written; the flat function loses its statements.
 pub fn write_by_policy(
     alloc: Global,
-    module: &Module,
-    settings: &Settings,
-    which: &[bool],
-    listed: &[bool],
+    pass: &Pass<'_>,
     source: &Func,
-    flat: &Flattened,
-    ids: &RuntimeIds,
-) -> Result<Written, AllocError>
-    requires valid { IsValid (module_of «module».now) }
-    requires sizes { StrictSizeRule (module_of «module».now) }
-    requires listed { listed.now ≡ Listed (module_of «module».now) (settings_of settings.now) }
-    requires ids { ids.now ≡ ids_behind (module_of «module».now) }
-    requires flat { IsFlattened (module_of «module».now) (func_of source.now) flat.now }
-    ensures func { IfOk result (λ w. IsWritten (module_of «module».now) (settings_of settings.now) which.now flat.now.func.func (func_of source.now) (func_of w.func)) }
-    ensures frames { IfOk result (λ w. FramesOf (module_of «module».now) (settings_of settings.now) which.now (func_of source.now) w.frames.items) }
+    flat: &mut Flattened,
+) -> Result<Func, AllocError>
+    requires valid { IsValid (module_of pass.now.valid.now) }
+    requires sizes { StrictSizeRule (module_of pass.now.valid.now) }
+    requires listed { pass.now.listed.now ≡ Listed (module_of pass.now.valid.now) (settings_of pass.now.settings.now) }
+    requires ids { pass.now.ids.now ≡ ids_behind (module_of pass.now.valid.now) }
+    requires flat { IsFlattened (module_of pass.now.valid.now) (func_of source.now) flat.old }
+    ensures { IfOk result (λ f. IsWritten (module_of pass.now.valid.now) (settings_of pass.now.settings.now) pass.now.which.now flat.old.func.func (func_of source.now) (func_of f)) }
 {
-    match settings.policy {
-        Policy::All => write_func(alloc, module, settings, which, listed, source, flat, ids),
-        Policy::Live => write_live_func(alloc, module, settings, which, listed, source, flat, ids),
+    match pass.settings.policy {
+        Policy::All => write_func(alloc, pass, source, flat),
+        Policy::Live => write_live_func(alloc, pass, source, flat),
     }
 }
 
-/// The function as it is written, without its frames.
-pub fn emit_by_policy(
+/// The frames of the function's numbered calls, in order.
+pub fn frames_by_policy(
     alloc: Global,
-    module: &Module,
-    settings: &Settings,
-    which: &[bool],
-    listed: &[bool],
+    pass: &Pass<'_>,
     source: &Func,
     flat: &Flattened,
-    ids: &RuntimeIds,
-) -> Result<Func, AllocError>
-    requires valid { IsValid (module_of «module».now) }
-    requires sizes { StrictSizeRule (module_of «module».now) }
-    requires listed { listed.now ≡ Listed (module_of «module».now) (settings_of settings.now) }
-    requires ids { ids.now ≡ ids_behind (module_of «module».now) }
-    requires flat { IsFlattened (module_of «module».now) (func_of source.now) flat.now }
-    ensures { IfOk result (λ f. IsWritten (module_of «module».now) (settings_of settings.now) which.now flat.now.func.func (func_of source.now) (func_of f)) }
+) -> Result<Vec<Layout>, AllocError>
+    requires valid { IsValid (module_of pass.now.valid.now) }
+    requires sizes { StrictSizeRule (module_of pass.now.valid.now) }
+    requires listed { pass.now.listed.now ≡ Listed (module_of pass.now.valid.now) (settings_of pass.now.settings.now) }
+    requires flat { IsFlattened (module_of pass.now.valid.now) (func_of source.now) flat.now }
+    ensures { IfOk result (λ ls. FramesOf (module_of pass.now.valid.now) (settings_of pass.now.settings.now) pass.now.which.now (func_of source.now) ls.items) }
 {
-    match settings.policy {
-        Policy::All => emit_func(alloc, module, settings, which, listed, source, flat, ids),
-        Policy::Live => emit_live_func(alloc, module, settings, which, listed, source, flat, ids),
+    match pass.settings.policy {
+        Policy::All => func_frames(alloc, pass, source, flat),
+        Policy::Live => live_func_frames(alloc, pass, source, flat),
     }
 }

@@ -29,7 +29,7 @@ use Rattle.wasm_encode.specs.declared.EncodeFault.{EncodeFault}
 use Rattle.wasm_encode.specs.declared.EncodeFault.TheVariants.{Memory, TooLong}
 use Rattle.rewrite_form.proofs.GrownFits.{grown_locals}
 use Rattle.module_rewrite.proofs.WholeLemmas.{few_written}
-use Rattle.module_rewrite.specs.EmittingEntries.{value_entries, PutsEntries}
+use Rattle.module_rewrite.specs.Entries.{value_entries, PutsEntries}
 use Rattle.module_rewrite.specs.ByteFaults.{of_encode}
 use Rattle.module_rewrite.specs.WholeBytes.{CanBeWritten, EmitsModule}
 

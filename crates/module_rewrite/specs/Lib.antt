@@ -1,6 +1,8 @@
+pub mod Bare
 pub mod ByteFaults
-pub mod Emitting
-pub mod EmittingEntries
+pub mod Entries
 pub mod Faults
+pub mod Layouts
+pub mod Taking
 pub mod Whole
 pub mod WholeBytes

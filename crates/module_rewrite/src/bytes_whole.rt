@@ -10,14 +10,17 @@ ghost use Rattle.call_graph.specs.Settings.{settings_of};
 ghost use Rattle.module_rewrite.specs.declared.byte_fault.EmitFault.TheVariants.{Memory};
 ghost use Rattle.module_rewrite.specs.WholeBytes.{EmitsModule};
 
+use crate::bare::drop_bodies;
 use crate::byte_fault::EmitFault;
-use crate::entries::{emit_funcs, put_funcs};
+use crate::entries::put_funcs;
+use crate::pass::rewrite_funcs;
 use bytes::BytesMut;
 use call_graph::{Settings, listed_imports, may_pause};
+use func_rewrite::Pass;
 use local_spill::{RuntimeFault, add_runtime, ids_behind};
 use std::alloc::Global;
 use wa_types::Module;
-use wasm_encode::encode_around;
+use wasm_encode::{CodeEntries, encode_around};
 use wasm_validate::Valid;
 
 /// The bytes of a module as it is rewritten, and which functions may pause, by one answer a function, imports first.
@@ -60,11 +63,20 @@ pub fn emit_module(alloc: Global, valid: Valid, settings: &Settings) -> Result<E
     let which = may_pause(alloc, &valid, settings)?;
     let listed = listed_imports(alloc, &valid, settings)?;
     let ids = ids_behind(valid.module());
-    let mut entries = emit_funcs(alloc, &valid, settings, &which, &listed, &ids)?;
+    let pass = Pass {
+        valid: &valid,
+        settings,
+        which: &which,
+        listed: &listed,
+        ids: &ids,
+    };
+    let mut entries = CodeEntries::new(alloc);
+    rewrite_funcs(alloc, &pass, &mut entries)?;
     let module = valid.into_module();
     let own = module.funcs.len();
-    let with = with_parts(alloc, module)?;
+    let mut with = with_parts(alloc, module)?;
     put_funcs(alloc, &mut entries, &with.funcs, own)?;
+    drop_bodies(alloc, &mut with)?;
     let text = encode_around(alloc, &with, &entries)?;
     Ok(Emitted {
         text,

@@ -8,11 +8,13 @@ ghost use Rattle.wa_types.specs.View.{module_of};
 ghost use Rattle.local_spill.specs.Reserved.{reserved_at};
 ghost use Rattle.call_graph.specs.Settings.{settings_of};
 ghost use Rattle.module_rewrite.specs.declared.fault.RewriteFault.TheVariants.{Memory};
-ghost use Rattle.module_rewrite.specs.Whole.{Asyncifies};
+ghost use Rattle.module_rewrite.specs.Whole.{Asyncifies, Instruments};
 
-use crate::emitting::{FuncLayout, emit_funcs};
 use crate::fault::RewriteFault;
+use crate::layouts::{FuncLayout, func_layouts};
+use crate::pass::rewrite_funcs;
 use call_graph::{Settings, listed_imports, may_pause};
+use func_rewrite::Pass;
 use local_spill::{RuntimeFault, add_runtime, ids_behind, reserved};
 use std::alloc::Global;
 use wa_types::{Module, copy_around};
@@ -25,6 +27,14 @@ pub struct Rewritten {
     pub module: Valid,
     pub layouts: Vec<FuncLayout>,
     pub instrumented: Vec<bool>,
+}
+
+/// A module as it is rewritten, which functions may pause, by one answer a function, imports first, and which function imports may.
+#[derive(Drop)]
+pub struct Instrumented {
+    pub module: Valid,
+    pub instrumented: Vec<bool>,
+    pub listed: Vec<bool>,
 }
 
 /// The module with the runtime's parts behind, which is valid. A valid module is made by `validate` alone.
@@ -56,13 +66,13 @@ fn with_parts(alloc: Global, module: Module) -> Result<Valid, RewriteFault>
 /// exactly where `reserved` gives that place; else `Locals` exactly where a function that may pause would have more than
 /// 50,000 parameters and locals, for the first. Takes time linear in the module and in what is answered; under the policy `live`
 /// each branch, construct and call of a function that may pause takes time linear in its locals.
-pub fn asyncify_module(
+pub fn rewrite_module(
     alloc: Global,
     valid: &Valid,
     settings: &Settings,
-) -> Result<Rewritten, RewriteFault>
+) -> Result<Instrumented, RewriteFault>
     requires sizes { StrictSizeRule (module_of valid.now) }
-    ensures { Asyncifies (module_of valid.now) (settings_of settings.now) result }
+    ensures { Instruments (module_of valid.now) (settings_of settings.now) result }
 {
     let module = valid.module();
     if let Some(at) = reserved(module) {
@@ -71,12 +81,46 @@ pub fn asyncify_module(
     let which = may_pause(alloc, valid, settings)?;
     let listed = listed_imports(alloc, valid, settings)?;
     let ids = ids_behind(module);
-    let emitted = emit_funcs(alloc, valid, settings, &which, &listed, &ids)?;
-    let inner = copy_around(alloc, module, emitted.funcs)?;
+    let pass = Pass {
+        valid,
+        settings,
+        which: &which,
+        listed: &listed,
+        ids: &ids,
+    };
+    let mut funcs = Vec::new(alloc);
+    rewrite_funcs(alloc, &pass, &mut funcs)?;
+    let inner = copy_around(alloc, module, funcs)?;
     let rewritten = with_parts(alloc, inner)?;
-    Ok(Rewritten {
+    Ok(Instrumented {
         module: rewritten,
-        layouts: emitted.layouts,
         instrumented: which,
+        listed,
+    })
+}
+
+/// What `rewrite_module` answers, with the frames of the functions that may pause, which name each saved local for each numbered call.
+pub fn asyncify_module(
+    alloc: Global,
+    valid: &Valid,
+    settings: &Settings,
+) -> Result<Rewritten, RewriteFault>
+    requires sizes { StrictSizeRule (module_of valid.now) }
+    ensures { Asyncifies (module_of valid.now) (settings_of settings.now) result }
+{
+    let made = rewrite_module(alloc, valid, settings)?;
+    let ids = ids_behind(valid.module());
+    let pass = Pass {
+        valid,
+        settings,
+        which: &made.instrumented,
+        listed: &made.listed,
+        ids: &ids,
+    };
+    let layouts = func_layouts(alloc, &pass)?;
+    Ok(Rewritten {
+        module: made.module,
+        layouts,
+        instrumented: made.instrumented,
     })
 }

@@ -15,29 +15,32 @@ use wa_model::FlatFunc;
 use wa_types::Instr;
 
 /// The guarded code of a flat function, of slim pieces with its units, under tests of this global, the state. The calls at these
-/// places are numbered, and so many locals from `low` on are slots.
+/// places are numbered, and so many locals from `low` on are slots. The function's statements are dropped as soon as they stand in
+/// pieces.
 pub fn guard_slim(
     alloc: Global,
-    func: &FlatFunc,
+    func: &mut FlatFunc,
     numbers: &[u32],
     state: u32,
     low: u32,
     slots: usize,
 ) -> Result<Vec<Instr>, AllocError>
-    requires fits { FlatFits (flat_func_of func.now) }
+    requires fits { FlatFits (flat_func_of func.old) }
     requires rises { Rises numbers.now }
-    requires few { call_total (flat_func_of func.now).body < 2 ^ 32 }
-    ensures { IfOk result (λ v. GuardedTold numbers.now low slots state (flat_func_of func.now) (code v.items)) }
+    requires few { call_total (flat_func_of func.old).body < 2 ^ 32 }
+    ensures { IfOk result (λ v. GuardedTold numbers.now low slots state (flat_func_of func.old) (code v.items)) }
 {
     let Some(pieces) = slim_pieces(alloc, func, numbers, low, slots)? else {
         let plain = guard(alloc, func, numbers, state)?;
         return Ok(plain.body);
     };
+    let index = func.locals.len() as u32;
+    func.body = Vec::new(alloc);
     let guards = Guards {
         alloc,
         numbers: Vec::new(alloc),
         state,
-        index: func.locals.len() as u32,
+        index,
         one_call: has_one_call(&pieces),
     };
     guarded_pieces(&guards, &pieces)

@@ -26,7 +26,10 @@ pub fn expression(alloc: Global, input: &mut Cursor<'_>) -> Result<Vec<Instr>, B
     let mut body = Vec::with_capacity(alloc, 1)?;
     loop {
         match go_on(alloc, input, &mut levels, &mut body) {
-            Ok(true) => return Ok(body),
+            Ok(true) => {
+                body.shrink_to_fit();
+                return Ok(body);
+            }
             Ok(false) => {}
             Err(fault) => {
                 discard(levels, body);

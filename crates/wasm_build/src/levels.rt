@@ -123,7 +123,8 @@ fn close(alloc: Global, body: &mut Vec<Instr>, level: Level) -> Result<bool, Bui
     ensures err { IfErr result (λ e. e ≡ Memory) }
 {
     let Level { before, ty, opened } = level;
-    let inner = mem::replace(body, before);
+    let mut inner = mem::replace(body, before);
+    inner.shrink_to_fit();
     body.push(construct(alloc, ty, opened, inner))?;
     Ok(false)
 }

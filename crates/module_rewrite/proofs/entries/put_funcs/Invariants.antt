@@ -1,5 +1,5 @@
 use Rattle.std.proofs.Common.{◌≡◌, ◌≤◌, ◌++◌, List, ℕ, drop, length}
-use Rattle.module_rewrite.specs.EmittingEntries.{value_entries, PutsEntries}
+use Rattle.module_rewrite.specs.Entries.{value_entries, PutsEntries}
 use Rattle.module_rewrite.proofs.entries.put_funcs.Given as goal
 
 abbrev pub invariant-loop-index : goal.invariant-loop-index

@@ -26,9 +26,9 @@ returns c =
     let g = flat_func_of c.args.func.now in
     let ps = c.args.numbers.now in
     IfOk-weaker c.guarded_pieces.result _ _
-    (λ v is. guarded_slim ps c.args.low c.args.slots c.args.state c.len.result c.has_one_call.result g c.in-Some.pieces (code v.items)
+    (λ v is. guarded_slim ps c.args.low c.args.slots c.args.state c.len-index.result c.has_one_call.result g c.in-Some.pieces (code v.items)
     (pieces_told ps c.args.low c.args.slots g (Some c.in-Some.pieces) c.requires.fits (subst (SlimTold ps c.args.low c.args.slots g) c.in-Some.is c.in_ok-pieces.ensures))
-    (c.len.ensures ∙ c.args.func.now.locals.ok.0) c.has_one_call.ensures is) c.guarded_pieces.ensures
+    (c.len-index.ensures ∙ c.args.func.now.locals.ok.0) c.has_one_call.ensures is) c.guarded_pieces.ensures
 
 pub returns-in_default : goal.returns-in_default
 returns-in_default c = guarded_plain c.args.numbers.now c.args.low c.args.slots c.args.state (flat_func_of c.args.func.now) (code c.in_ok-plain.plain.body.items) c.in_ok-plain.ensures.body

@@ -13,34 +13,34 @@ use Rattle.local_spill.specs.declared.frames.Place.{Place}
 use Rattle.rewrite_form.specs.Emitted.{is_kept}
 use Rattle.func_rewrite.proofs.CallNumbers.{places_rise}
 use Rattle.func_rewrite.proofs.WrittenFuncs.{fits, few_calls, stacks, numbers, own_few, saved_few, places_few, row_fits, kept_is, slots_told, is_written}
-use Rattle.func_rewrite.proofs.function.emit_func.Goals as goal
+use Rattle.func_rewrite.proofs.function.write_func.Goals as goal
 
 pub number_calls-requires : goal.number_calls-requires
-number_calls-requires c = few_calls (module_of c.args._module.now) (settings_of c.args.settings.now) c.args.which.now
+number_calls-requires c = few_calls (module_of c.args.pass.now.valid.now) (settings_of c.args.pass.now.settings.now) c.args.pass.now.which.now
     (func_of c.args.source.now) c.args.flat.now c.requires.valid c.requires.sizes c.requires.flat
 
 pub kept_locals-requires-clause-rises : goal.kept_locals-requires-clause-rises
 kept_locals-requires-clause-rises c = subst Rises (sym (c.deref.ensures.value ∙ c.in_ok-numbers.ensures))
-    (places_rise (gets_number c.args.which.now c.args.listed.now c.args.settings.now.ignore_indirect) 0 (callees (flat_func_of c.args.flat.now.func).body))
+    (places_rise (gets_number c.args.pass.now.which.now c.args.pass.now.listed.now c.args.pass.now.settings.now.ignore_indirect) 0 (callees (flat_func_of c.args.flat.now.func).body))
 
 pub kept_locals-requires-clause-fits : goal.kept_locals-requires-clause-fits
-kept_locals-requires-clause-fits c = stacks (module_of c.args._module.now) (settings_of c.args.settings.now) c.args.which.now
+kept_locals-requires-clause-fits c = stacks (module_of c.args.pass.now.valid.now) (settings_of c.args.pass.now.settings.now) c.args.pass.now.which.now
     (func_of c.args.source.now) c.args.flat.now c.requires.valid c.requires.sizes c.requires.flat
 
 pub kept_locals-requires-clause-few : goal.kept_locals-requires-clause-few
-kept_locals-requires-clause-few c = few_calls (module_of c.args._module.now) (settings_of c.args.settings.now) c.args.which.now
+kept_locals-requires-clause-few c = few_calls (module_of c.args.pass.now.valid.now) (settings_of c.args.pass.now.settings.now) c.args.pass.now.which.now
     (func_of c.args.source.now) c.args.flat.now c.requires.valid c.requires.sizes c.requires.flat
 
 pub kept_locals-requires-clause-own : goal.kept_locals-requires-clause-own
-kept_locals-requires-clause-own c = own_few (module_of c.args._module.now) (settings_of c.args.settings.now) c.args.which.now
+kept_locals-requires-clause-own c = own_few (module_of c.args.pass.now.valid.now) (settings_of c.args.pass.now.settings.now) c.args.pass.now.which.now
     (func_of c.args.source.now) c.args.flat.now c.requires.valid c.requires.sizes c.requires.flat
 
 pub saved_places-requires : goal.saved_places-requires
-saved_places-requires c = let e = ap length c.deref-2.ensures.value in let k = saved_few (module_of c.args._module.now) (settings_of c.args.settings.now) c.args.which.now
+saved_places-requires c = let e = ap length c.deref-2.ensures.value in let k = saved_few (module_of c.args.pass.now.valid.now) (settings_of c.args.pass.now.settings.now) c.args.pass.now.which.now
     (func_of c.args.source.now) c.args.flat.now c.requires.valid c.requires.sizes c.requires.flat in omega (arith, e, k)
 
 pub layout-requires : goal.layout-requires
-layout-requires c = let e = ap length c.deref-3.ensures.value in let k = places_few (module_of c.args._module.now) (settings_of c.args.settings.now) c.args.which.now
+layout-requires c = let e = ap length c.deref-3.ensures.value in let k = places_few (module_of c.args.pass.now.valid.now) (settings_of c.args.pass.now.settings.now) c.args.pass.now.which.now
     (func_of c.args.source.now) c.args.flat.now c.requires.valid c.requires.sizes c.requires.flat c.in_ok-saved.saved.items (c.in_ok-saved.ensures
     ∙ ap (λ xs. numbered_places 0 (take c.args.flat.now.first_result xs)) c.deref-2.ensures.value) in omega (arith, e, k)
 
@@ -50,35 +50,35 @@ chosen_frame-requires c =
     let row : c.in_ok-layout.field-0.places.items ≡ in_a_row 0 c.in_ok-saved.saved.items = c.in_ok-layout.ensures.places ∙ ap (in_a_row 0) c.deref-3.ensures.value in
     subst (λ n. All (λ (p : Place). p.local < n) c.in_ok-layout.field-0.places.items) (sym len)
     (subst (All (λ (p : Place). p.local < length c.args.flat.now.func.locals.items)) (sym row)
-    (row_fits (module_of c.args._module.now) (settings_of c.args.settings.now) c.args.which.now
+    (row_fits (module_of c.args.pass.now.valid.now) (settings_of c.args.pass.now.settings.now) c.args.pass.now.which.now
     (func_of c.args.source.now) c.args.flat.now c.requires.valid c.requires.sizes c.requires.flat c.in_ok-saved.saved.items (c.in_ok-saved.ensures
     ∙ ap (λ xs. numbered_places 0 (take c.args.flat.now.first_result xs)) c.deref-2.ensures.value)))
 
 pub written_body-requires-clause-fits : goal.written_body-requires-clause-fits
-written_body-requires-clause-fits c = fits (module_of c.args._module.now) (settings_of c.args.settings.now) c.args.which.now
+written_body-requires-clause-fits c = fits (module_of c.args.pass.now.valid.now) (settings_of c.args.pass.now.settings.now) c.args.pass.now.which.now
     (func_of c.args.source.now) c.args.flat.now c.requires.valid c.requires.sizes c.requires.flat
 
 pub written_body-requires-clause-rises : goal.written_body-requires-clause-rises
-written_body-requires-clause-rises c = subst Rises (sym (c.deref-5.ensures.value ∙ c.in_ok-numbers.ensures))
-    (places_rise (gets_number c.args.which.now c.args.listed.now c.args.settings.now.ignore_indirect) 0 (callees (flat_func_of c.args.flat.now.func).body))
+written_body-requires-clause-rises c = subst Rises (sym (c.deref-7.ensures.value ∙ c.in_ok-numbers.ensures))
+    (places_rise (gets_number c.args.pass.now.which.now c.args.pass.now.listed.now c.args.pass.now.settings.now.ignore_indirect) 0 (callees (flat_func_of c.args.flat.now.func).body))
 
 pub written_body-requires-clause-few : goal.written_body-requires-clause-few
-written_body-requires-clause-few c = few_calls (module_of c.args._module.now) (settings_of c.args.settings.now) c.args.which.now
+written_body-requires-clause-few c = few_calls (module_of c.args.pass.now.valid.now) (settings_of c.args.pass.now.settings.now) c.args.pass.now.which.now
     (func_of c.args.source.now) c.args.flat.now c.requires.valid c.requires.sizes c.requires.flat
 
 pub written_body-requires-clause-slots : goal.written_body-requires-clause-slots
-written_body-requires-clause-slots c = slots_told (module_of c.args._module.now) (settings_of c.args.settings.now) c.args.which.now
+written_body-requires-clause-slots c = slots_told (module_of c.args.pass.now.valid.now) (settings_of c.args.pass.now.settings.now) c.args.pass.now.which.now
     (func_of c.args.source.now) c.args.flat.now c.requires.valid c.requires.sizes c.requires.flat
 
 pub returns : goal.returns
 returns c =
-    let m = module_of c.args._module.now in
-    let s = settings_of c.args.settings.now in
-    let which = c.args.which.now in
+    let m = module_of c.args.pass.now.valid.now in
+    let s = settings_of c.args.pass.now.settings.now in
+    let which = c.args.pass.now.which.now in
     let f = func_of c.args.source.now in
     let v = c.args.flat.now in
     let named = c.in_ok-saved.ensures ∙ ap (λ xs. numbered_places 0 (take v.first_result xs)) c.deref-2.ensures.value in
-    let numbered = c.in_ok-numbers.ensures ∙ ap (λ l. places_from (gets_number which l c.args.settings.now.ignore_indirect) 0 (callees (flat_func_of v.func).body)) c.requires.listed
+    let numbered = c.in_ok-numbers.ensures ∙ ap (λ l. places_from (gets_number which l c.args.pass.now.settings.now.ignore_indirect) 0 (callees (flat_func_of v.func).body)) c.requires.listed
     ∙ numbers m s which f v c.requires.valid c.requires.sizes c.requires.flat in
     let kept : Place → Bool = λ (p : Place). get_or c.deref-4.result.now p.local false in
     let row : c.in_ok-layout.field-0.places.items ≡ in_a_row 0 c.in_ok-saved.saved.items = c.in_ok-layout.ensures.places ∙ ap (in_a_row 0) c.deref-3.ensures.value in
@@ -86,8 +86,8 @@ returns c =
     let same : (p : Place) → kept p ≡ is_kept m s which v.func.func f p.local =
     λ p. ap (λ xs. get_or xs p.local false) c.deref-4.ensures.value ∙ c.in_ok-kept.ensures.kept p.local
     ∙ kept_is m s which f v c.requires.valid c.requires.sizes c.requires.flat c.in_ok-saved.saved.items named v.first_slot c.deref.result.now p.local refl (c.deref.ensures.value ∙ numbered) in
-    let locals = c.in_ok-locals.ensures ∙ ap (λ rs. rs ++ map one_run (drop v.first_slot c.deref-7.result.now ++ I32 ∷ I32 ∷ I64 ∷ [])) c.deref-6.ensures.value
-    ∙ ap (λ ls. c.args.source.now.locals.items ++ map one_run (drop v.first_slot ls ++ I32 ∷ I32 ∷ I64 ∷ [])) c.deref-7.ensures.value in
-    is_written m s which f v c.requires.valid c.requires.sizes c.requires.flat c.in_ok-saved.saved.items named c.args.ids.now c.deref-5.result.now c.in_ok-frame.frame.places.items
+    let locals = c.in_ok-locals.ensures ∙ ap (λ rs. rs ++ map one_run (drop v.first_slot c.deref-6.result.now ++ I32 ∷ I32 ∷ I64 ∷ [])) c.deref-5.ensures.value
+    ∙ ap (λ ls. c.args.source.now.locals.items ++ map one_run (drop v.first_slot ls ++ I32 ∷ I32 ∷ I64 ∷ [])) c.deref-6.ensures.value in
+    is_written m s which f v c.requires.valid c.requires.sizes c.requires.flat c.in_ok-saved.saved.items named c.args.pass.now.ids.now c.deref-7.result.now c.in_ok-frame.frame.places.items
     c.in_ok-layout.field-0.places.items kept c.in_ok-frame.frame.size c.in_ok-layout.field-0.size c.in_ok-locals.locals.items (code c.in_ok-body.body.items) c.requires.ids
-    (c.deref-5.ensures.value ∙ numbered) row rows c.in_ok-frame.ensures.size same c.in_ok-frame.ensures.places locals (c.in_ok-body.ensures m f c.requires.flat)
+    (c.deref-7.ensures.value ∙ numbered) row rows c.in_ok-frame.ensures.size same c.in_ok-frame.ensures.places locals (c.in_ok-body.ensures m f c.requires.flat)
