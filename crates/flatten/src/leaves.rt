@@ -136,7 +136,7 @@ pub fn put_to(names: &Names, at: &mut Position, given: bool) -> Result<Option<u3
 fn operands(alloc: Global, locals: &[u32]) -> Result<Vec<Operand>, AllocError>
     ensures { IfOk result (λ v. v.items ≡ map Local locals.now) }
 {
-    let mut operands = Vec::new(alloc);
+    let mut operands = Vec::with_capacity(alloc, locals.len())?;
     for local in locals {
         operands.push(Operand::Local(*local))?;
     }

@@ -11,8 +11,8 @@ ghost use Rattle.transform_command.specs.SourceRefusals.{IsToldFault, IsUnwritte
 ghost use Rattle.transform_command.specs.Running.{RunsAs};
 
 use crate::source::{SourceFault, rewrite_fault, source};
-use call_graph::{Settings, listed_imports};
-use module_rewrite::asyncify_module;
+use call_graph::Settings;
+use module_rewrite::rewrite_module;
 use std::alloc::Global;
 use vault_port::Vault;
 use wasm_validate::Valid;
@@ -47,11 +47,10 @@ pub fn rewritten<V: Vault>(
         Ok(valid) => valid,
         Err(fault) => return Err(fault),
     };
-    let listed = listed_imports(alloc, &valid, settings)?;
-    match asyncify_module(alloc, &valid, settings) {
-        Ok(rewritten) => Ok(Runnable {
-            listed,
-            module: rewritten.module,
+    match rewrite_module(alloc, &valid, settings) {
+        Ok(made) => Ok(Runnable {
+            listed: made.listed,
+            module: made.module,
         }),
         Err(fault) => Err(rewrite_fault(fault)),
     }

@@ -4,4 +4,5 @@ pub mod EntryCounts
 pub mod ModuleLemmas
 pub mod Runs
 pub mod SectionLemmas
+pub mod SingleBytes
 pub mod Vectors

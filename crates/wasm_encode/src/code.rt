@@ -1,6 +1,6 @@
 //! Instructions and expressions as bytes (standard, section 5.4).
 
-ghost use Rattle.std.specs.Prelude.{◌≡◌, ◌<◌, ◌≤◌, ◌^◌, ◌++◌, [], ◌∷◌, length, OnOk};
+ghost use Rattle.std.specs.Prelude.{◌≡◌, ◌<◌, ◌≤◌, ◌^◌, ◌++◌, [], ◌∷◌, length, MatchOption, OnOk, ⊤};
 ghost use Rattle.wa_types.specs.Encoding.{code_bytes, expression_bytes};
 ghost use Rattle.wa_types.specs.View.{code};
 ghost use Rattle.wasm_encode.specs.Instrs.{instr_bytes, immediate_bytes, IsSimple};
@@ -119,6 +119,29 @@ fn put_immediates(out: &mut BytesMut, immediates: Immediates) -> Result<(), Allo
     }
 }
 
+/// The byte that stands behind an opcode, where it is small enough to be one for sure.
+#[tactic(auto, using(crate::proofs::SingleBytes::one_byte))]
+fn single_byte(immediates: Immediates) -> Option<u8>
+    ensures { MatchOption result ⊤ (λ byte. immediate_bytes immediates ≡ byte ∷ []) }
+{
+    match immediates {
+        Immediates::Index(index) => { if index < 128 { Some(index as u8) } else { None } }
+        Immediates::Signed32(n) => { if n < 64 { Some(n as u8) } else { None } }
+        _ => None,
+    }
+}
+
+/// Appends an opcode and what stands behind it, at once where that is a byte.
+fn put_simple(out: &mut BytesMut, opcode: u8, immediates: Immediates) -> Result<(), AllocError>
+    ensures { OnOk result (out.new.items ≡ out.old.items ++ opcode ∷ immediate_bytes immediates) }
+{
+    if let Some(byte) = single_byte(immediates) {
+        return out.extend_from_slice(&[opcode, byte]);
+    }
+    out.extend_from_slice(&[opcode])?;
+    put_immediates(out, immediates)
+}
+
 /// How many bytes a sequence of instructions takes, without its end (standard, section 5.4).
 #[cycle(code_len)]
 #[tactic(auto, using(crate::proofs::Codes::measuring))]
@@ -209,8 +232,7 @@ fn put_instr(out: &mut BytesMut, instr: &Instr) -> Result<(), AllocError>
         }
         _ => {
             let (opcode, immediates) = opcode_and_immediates(instr);
-            out.extend_from_slice(&[opcode])?;
-            put_immediates(out, immediates)
+            put_simple(out, opcode, immediates)
         }
     }
 }

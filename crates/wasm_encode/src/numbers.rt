@@ -9,21 +9,30 @@ use std::alloc::AllocError;
 use wa_types::{Name, Spelling};
 
 /// How many bytes an unsigned number is spelled in.
+#[tactic(auto, using(crate::proofs::SingleBytes::one_byte))]
 pub fn unsigned_len(n: u64) -> u64
     ensures exact { result ≡ length (shortest n) }
     ensures few { result ≤ 10 }
 {
+    if n < 128 {
+        return 1;
+    }
     Spelling::of_unsigned(n).as_slice().len() as u64
 }
 
 /// Appends an unsigned number.
+#[tactic(auto, using(crate::proofs::SingleBytes::one_byte))]
 pub fn put_unsigned(out: &mut BytesMut, n: u64) -> Result<(), AllocError>
     ensures { OnOk result (out.new.items ≡ out.old.items ++ shortest n) }
 {
+    if n < 128 {
+        return out.extend_from_slice(&[n as u8]);
+    }
     out.extend_from_slice(Spelling::of_unsigned(n).as_slice())
 }
 
 /// How many bytes a signed number of so many bits is spelled in, given in two's complement.
+#[tactic(auto, using(crate::proofs::SingleBytes::one_byte))]
 pub fn signed_len(n: u64, bits: u32) -> u64
     requires most { bits ≤ 64 }
     requires some { 1 ≤ bits }
@@ -31,6 +40,9 @@ pub fn signed_len(n: u64, bits: u32) -> u64
     ensures exact { result ≡ length (shortest_signed bits n) }
     ensures few { result ≤ 10 }
 {
+    if n < 64 && bits >= 8 {
+        return 1;
+    }
     Spelling::of_signed(n, bits).as_slice().len() as u64
 }
 

@@ -2,7 +2,8 @@
 //!
 //! `validate` answers a module exactly where it is valid, and else its first fault: the smallest rule that is broken outside the
 //! bodies, and where none is, the one at the first place in the bodies. A `Valid` is a valid module that meets the size rule, as its
-//! `module` says: who holds one needs no further check. Bodies are checked by `validate_bodies`.
+//! `module` says: who holds one needs no further check. `Valid::proved` makes one of a module that is proved to be valid, without a
+//! look at its code. Bodies are checked by `validate_bodies`.
 //!
 //! `Typing` walks the types of operands over the pruned body of a function of such a module; its contracts speak of the typing
 //! relation alone (`specs/Walk.antt`), and `proofs/WalkUses.antt` has what a caller needs at each instruction.

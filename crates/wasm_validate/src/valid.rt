@@ -1,6 +1,6 @@
 //! `Valid` modules, and the first fault of a module that isn't (standard, section 3.4).
 
-ghost use Rattle.std.specs.Prelude.{◌≡◌, ◌+◌, ◌<◌, true, Some, length, slice_get};
+ghost use Rattle.std.specs.Prelude.{◌≡◌, ◌+◌, ◌<◌, true, Some, length, slice_get, IfOk};
 ghost use Rattle.wa_types.specs.FirstFault.{FirstFault};
 ghost use Rattle.wa_types.specs.Modules.{around, defined_at, func_imports};
 ghost use Rattle.wa_types.specs.Sizes.{SizeRule};
@@ -45,6 +45,16 @@ impl Model for Valid {
 }
 
 impl Valid {
+    /// A module that is known to be valid, which isn't looked at again. Takes time linear in its lists.
+    pub fn proved(alloc: Global, module: Module) -> Result<Valid, AllocError>
+        requires valid { IsValid (module_of «module») }
+        requires sizes { SizeRule (module_of «module») }
+        ensures { IfOk result (λ v. v ≡ «module») }
+    {
+        let spaces = Spaces::of(alloc, &module)?;
+        Ok(Valid { module, spaces })
+    }
+
     /// The module.
     pub fn module(&self) -> &Module
         ensures same { result.now ≡ self.now }

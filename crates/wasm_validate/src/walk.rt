@@ -63,6 +63,30 @@ fn give_types(types: &mut Vec<ValType>, base: usize, given: &[ValType]) -> Resul
     types.extend_from_slice(given)
 }
 
+/// Puts this type in place of so many topmost ones. Where there is no memory, all stay.
+#[tactic(auto, using(crate::proofs::Walks::changing))]
+fn change_to(
+    types: &mut Vec<ValType>,
+    base: usize,
+    count: usize,
+    given: ValType,
+) -> Result<(), AllocError>
+    requires { base + count ≤ length types.old.items }
+    ensures deep { base ≤ length types.new.items }
+    ensures own { IfOk result (λ _. own_at base types.new.items ≡ given ∷ drop count (own_at base types.old.items)) }
+    ensures kept { take base types.new.items ≡ take base types.old.items }
+    ensures err { OnErr result (types.new.items ≡ types.old.items) }
+{
+    if count == 0 {
+        types.push(given)?;
+        return Ok(());
+    }
+    let at = types.len() - count;
+    types[at] = given;
+    types.truncate(at + 1);
+    Ok(())
+}
+
 /// Puts types in place of so many topmost ones. Where there is no memory, all stay.
 #[tactic(auto, using(crate::proofs::Walks::taking))]
 fn change_types(
@@ -77,6 +101,9 @@ fn change_types(
     ensures kept { take base types.new.items ≡ take base types.old.items }
     ensures err { OnErr result (types.new.items ≡ types.old.items) }
 {
+    if given.len() == 1 {
+        return change_to(types, base, count, given[0]);
+    }
     types.reserve(given.len())?;
     take_types(types, base, count);
     give_types(types, base, given)

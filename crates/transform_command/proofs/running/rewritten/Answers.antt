@@ -10,27 +10,27 @@ use Rattle.transform_command.proofs.Accepted.{strict, none_passes, none_reserved
 use Rattle.transform_command.proofs.Files.{told_fault}
 use Rattle.transform_command.proofs.running.rewritten.Goals as goal
 
-pub asyncify_module-requires : goal.asyncify_module-requires
-asyncify_module-requires g c = let h = c.in-Ok.ensures.source in record { sizes = strict h.bytes (module_of c.in-Ok.valid) h.source }
+pub rewrite_module-requires : goal.rewrite_module-requires
+rewrite_module-requires g c = let h = c.in-Ok.ensures.source in record { sizes = strict h.bytes (module_of c.in-Ok.valid) h.source }
 
 pub rewrite_fault-requires : goal.rewrite_fault-requires
 rewrite_fault-requires g c =
     let h = c.in-Ok.ensures.source in
-    none_reserved (settings_of c.args.settings.now) h.bytes (module_of c.in-Ok.valid) c.in-Err-asyncify_module.fault h.source c.in-Err-asyncify_module.ensures
+    none_reserved (settings_of c.args.settings.now) h.bytes (module_of c.in-Ok.valid) c.in-Err-rewrite_module.fault h.source c.in-Err-rewrite_module.ensures
 
 pub returns-clause-refused : goal.returns-clause-refused
 returns-clause-refused g c =
     let h = c.in-Ok.ensures.source in
     told_fault (settings_of c.args.settings.now) (g.V.Vault.files c.args.vault.now) c.args.name.now h.bytes c.rewrite_fault.result h.holds
-    (rewrite_refused (settings_of c.args.settings.now) h.bytes (module_of c.in-Ok.valid) c.in-Err-asyncify_module.fault c.rewrite_fault.result h.source c.in-Err-asyncify_module.ensures
+    (rewrite_refused (settings_of c.args.settings.now) h.bytes (module_of c.in-Ok.valid) c.in-Err-rewrite_module.fault c.rewrite_fault.result h.source c.in-Err-rewrite_module.ensures
     c.rewrite_fault.ensures.fault)
 
-pub returns-in-Ok-asyncify_module-clause-done : goal.returns-in-Ok-asyncify_module-clause-done
-returns-in-Ok-asyncify_module-clause-done g c =
+pub returns-in-Ok-rewrite_module-clause-done : goal.returns-in-Ok-rewrite_module-clause-done
+returns-in-Ok-rewrite_module-clause-done g c =
     let h = c.in-Ok.ensures.source in
     let m : Module = module_of c.in-Ok.valid in
-    let e = c.in-Ok-asyncify_module.ensures in
-    let which = c.in-Ok-asyncify_module.rewritten.instrumented.items in
+    let e = c.in-Ok-rewrite_module.ensures in
+    let which = c.in-Ok-rewrite_module.made.instrumented.items in
     let few : first_above 50000 (rewritten_counts m which) ≡ None = none_passes m (drop (func_imports m) which) m.funcs e.few in (
       h.bytes,
       h.holds,
@@ -39,7 +39,7 @@ returns-in-Ok-asyncify_module-clause-done g c =
         which = which;
         rewritable = record { accepted = h.source; tells = e.tells; few = few };
         well_formed = well h.bytes m h.source h.are_bytes;
-        listed_is = c.in_ok-listed.ensures;
+        listed_is = e.listed;
         rewrites = e.rewrites;
       },
     )

@@ -49,11 +49,6 @@ put_instr-returns-in_ok-extend_from_slice-in-Loop t c =
     (instr_bytes c.args.instr.now) begun (put ∙ inside) (ap instr_bytes c.in-Loop.is ∙ loop_bytes r c.in-Loop.body))
     c.put_code-in-Loop.ensures
 
-pub put_instr-returns-in_ok-extend_from_slice-in_default : goal.put_instr-returns-in_ok-extend_from_slice-in_default
-put_instr-returns-in_ok-extend_from_slice-in_default t c =
-    let told = c.opcode_and_immediates-opcode.result in
-    let out = c.args.out.now.items in
-    on_ok_weaker c.put_immediates.result
-    (λ put. put ∙ ap (λ s. s ++ immediate_bytes told.1) c.in_ok-extend_from_slice-in_default.ensures.ok ∙ append_assoc out (told.0 ∷ []) (immediate_bytes told.1)
-    ∙ ap (λ s. out ++ s) (sym c.opcode_and_immediates-opcode.ensures))
-    c.put_immediates.ensures
+pub put_instr-returns-in_default : goal.put_instr-returns-in_default
+put_instr-returns-in_default t c =
+    on_ok_weaker c.put_simple.result (λ put. put ∙ ap (λ s. c.args.out.now.items ++ s) (sym c.opcode_and_immediates-opcode.ensures)) c.put_simple.ensures
