@@ -57,6 +57,7 @@ pub(crate) fn write_sequence(
 /// The body of a construct, in front of which all slots are set. Those that its end leaves stay behind it where so told; where
 /// that isn't reached, a slot that is told counts as set.
 #[cycle(write)]
+#[inline(always)]
 fn write_inside(
     numbers: &[u32],
     at: &mut Walk,
@@ -135,6 +136,7 @@ fn write_stmt(
 
 /// Puts a block.
 #[cycle(write)]
+#[inline(never)]
 fn write_block(
     numbers: &[u32],
     at: &mut Walk,
@@ -157,6 +159,7 @@ fn write_block(
 
 /// Puts a loop, in front of the next statement.
 #[cycle(write)]
+#[inline(never)]
 fn write_loop(
     numbers: &[u32],
     at: &mut Walk,
@@ -180,6 +183,7 @@ fn write_loop(
 
 /// Puts an `if`.
 #[cycle(write)]
+#[inline(never)]
 fn write_if(
     numbers: &[u32],
     at: &mut Walk,
