@@ -88,3 +88,15 @@ for _ in range(runs):
 print("%.3f %.3f" % tuple(statistics.median(taken) for taken in times))
 PY
 }
+
+# The least stack, in steps of 4 KiB up to 8 MiB, with which a command ends with a status: STATUS COMMAND [WORD ...]
+least_stack() {
+    local wanted=$1 low=0 high=2048 middle status
+    shift
+    while [ $((high - low)) -gt 1 ]; do
+        middle=$(((low + high) / 2)) status=0
+        { (ulimit -s $((4 * middle)) && exec "$@" >/dev/null 2>&1); } 2>/dev/null || status=$?
+        if [ "$status" = "$wanted" ]; then high=$middle; else low=$middle; fi
+    done
+    echo $((4 * high))
+}

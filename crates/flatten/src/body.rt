@@ -92,6 +92,7 @@ fn put_instr(
 }
 
 /// Puts what an instruction stands for that holds no other.
+#[inline(never)]
 fn put_leaf(
     out: &mut Vec<Stmt>,
     names: &Names,

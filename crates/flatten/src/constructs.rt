@@ -31,6 +31,7 @@ pub fn label_local(names: &Names, depth: usize, label: Option<ValType>) -> Optio
 }
 
 /// Goes on at the beginning of a construct's body, or of each arm. Its label has this result.
+#[inline(never)]
 pub fn open(
     names: &Names,
     at: &mut Position,
@@ -55,6 +56,7 @@ pub fn open(
 }
 
 /// Goes back to the beginning of a construct, for its other arm.
+#[inline(never)]
 pub fn restart(at: &mut Position, outer: Outer)
     ensures typing { at.new.typing ≡ record { around = at.old.typing.around; labels = at.old.typing.labels; own = []; under = at.old.typing.under } }
     ensures slots { at.new.slots.items ≡ take outer.height at.old.slots.items }
@@ -66,6 +68,7 @@ pub fn restart(at: &mut Position, outer: Outer)
 }
 
 /// Goes on behind a construct with this result, which has no slot yet.
+#[inline(never)]
 pub fn close(at: &mut Position, given: Option<ValType>, outer: Outer) -> Result<(), AllocError>
     requires { outer.base ≤ length at.old.typing.under }
     ensures typing { OnOk result (at.new.typing ≡ left_at given outer.base at.old.typing) }
@@ -103,6 +106,7 @@ fn put_arrival(
 }
 
 /// Puts a block with these statements, and behind it the move of its result.
+#[inline(never)]
 pub fn put_block(
     out: &mut Vec<Stmt>,
     names: &Names,
@@ -118,6 +122,7 @@ pub fn put_block(
 }
 
 /// Puts a loop with these statements. Its result stands where it is.
+#[inline(never)]
 pub fn put_loop(
     out: &mut Vec<Stmt>,
     names: &Names,
@@ -139,6 +144,7 @@ pub fn put_loop(
 }
 
 /// Puts an if with these arms, and behind it the move of its result.
+#[inline(never)]
 pub fn put_if(
     out: &mut Vec<Stmt>,
     names: &Names,

@@ -97,6 +97,7 @@ fn put_br_table(
 }
 
 /// Puts what an instruction stands for behind which control never goes on.
+#[inline(never)]
 pub fn put_last(
     out: &mut Vec<Stmt>,
     names: &Names,

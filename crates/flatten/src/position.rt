@@ -63,6 +63,7 @@ pub fn pop_slot(slots: &mut Vec<u32>) -> u32
 
 /// Puts the move of a branch to the result local of its label, where it has one.
 #[tactic(auto, using(crate::proofs::CarryLemmas::carrying))]
+#[inline(never)]
 pub fn put_carry(
     out: &mut Vec<Stmt>,
     labels: &[Option<u32>],

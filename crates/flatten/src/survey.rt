@@ -28,6 +28,7 @@ pub struct Found {
 
 /// Marks the topmost operand.
 #[tactic(auto, using(crate::proofs::SurveyLemmas::topping))]
+#[inline(never)]
 fn visit(slots: &mut Vec<Seen>, typing: &Typing) -> Result<(), AllocError>
     ensures marked { OnOk result ((h : ℕ) (t : AType) → is_marked slots.new.items h t ≡ (is_top h t (all_of typing.now) || is_marked slots.old.items h t)) }
     ensures few { OnOk result (length (pairs_in 0 slots.new.items) ≤ length (pairs_in 0 slots.old.items) + 1) }
@@ -41,6 +42,7 @@ fn visit(slots: &mut Vec<Seen>, typing: &Typing) -> Result<(), AllocError>
 }
 
 /// Marks a construct's result, where it has one.
+#[inline(never)]
 pub fn visit_result(
     results: &mut Vec<Seen>,
     depth: usize,

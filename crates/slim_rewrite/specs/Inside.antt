@@ -1,5 +1,5 @@
 -- Sequences as they are written, and the constructs around them.
-use Rattle.std.specs.Prelude.{◌≡◌, ◌<◌, ◌+◌, ◌-◌, ℕ, List, [], ◌∷◌, length, take, drop, Option, Some, None, Bool, true, false}
+use Rattle.std.specs.Prelude.{◌≡◌, ◌<◌, ◌+◌, ◌-◌, ℕ, List, [], ◌∷◌, length, take, drop, Option, Some, None, Bool, true, false, Box}
 use Rattle.std.specs.declared.vec.Vec.{Vec}
 use Rattle.std.specs.declared.alloc.Global.{Global}
 use Rattle.wa_types.specs.declared.instrs.Instr.{Instr}
@@ -30,6 +30,18 @@ first_code p = code p.first.items
 
 abbrev pub units_in : Pieces → Units
 units_in p = units_of p.units.items
+
+-- Nothing of a sequence is written, whose first call has this place.
+pub record Begun (n : ℕ) (q : Sequence) : Type 0 where
+  pub units : q.units.items ≡ []
+  pub closed : q.open ≡ None
+  pub place : q.place ≡ n
+  pub ended : q.ended ≡ false
+
+-- what is kept apart, where there is something
+abbrev pub unboxed : Option (Box Written Global) → Option Written
+unboxed None = None
+unboxed (Some b) = Some b.value
 
 -- A sequence was written from its first call's place on: its units are slim, whatever is free behind its end where that isn't reached.
 pub record IsWritten (ps : List ℕ) (a : Walk) (n : ℕ) (s : Stmts) (b : Walk) (w : Written) : Type 0 where

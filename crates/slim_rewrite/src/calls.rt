@@ -83,6 +83,7 @@ fn put_numbered_call(
 }
 
 /// Puts a call. False where its arguments aren't the topmost operands.
+#[inline(never)]
 pub fn put_call(
     numbers: &[u32],
     at: &mut Walk,

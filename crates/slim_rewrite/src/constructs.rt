@@ -25,6 +25,7 @@ pub struct Outside {
 }
 
 /// Goes into a construct.
+#[inline(never)]
 pub fn enter(at: &mut Walk) -> Outside
     ensures { Entered at.old at.new result }
 {
@@ -39,6 +40,7 @@ pub fn enter(at: &mut Walk) -> Outside
 }
 
 /// Leaves a construct. What its end has left stays where so told.
+#[inline(never)]
 pub fn leave(at: &mut Walk, outside: Outside, kept: bool)
     ensures { Left at.old at.new outside kept }
 {
@@ -72,6 +74,7 @@ pub fn unreached(kept: bool, written: &Written, behind: Option<u32>) -> Option<u
 }
 
 /// Counts a slot as set, behind what is never left. False where it isn't one, or stands for another operand.
+#[inline(never)]
 pub fn claim(at: &mut Walk, slot: u32) -> Result<bool, AllocError>
     requires { Good at.old }
     ensures { IfOk result (λ claimed. claimed ≡ true → Claimed at.old at.new) }
@@ -83,8 +86,21 @@ pub fn claim(at: &mut Walk, slot: u32) -> Result<bool, AllocError>
     Ok(true)
 }
 
+/// Puts a block whose body is kept apart.
+#[inline(never)]
+pub fn put_block_apart(
+    at: &mut Walk,
+    all: &mut Sequence,
+    inner: Box<Written>,
+) -> Result<(), AllocError>
+    requires { Good at.old }
+    ensures { OnOk result (Nested a_block at.old all.old at.new all.new inner.value) }
+{
+    put_block(at, all, Box::into_inner(inner))
+}
+
 /// Puts a block: in the piece, or as a unit where it holds a numbered call.
-pub fn put_block(at: &mut Walk, all: &mut Sequence, inner: Written) -> Result<(), AllocError>
+fn put_block(at: &mut Walk, all: &mut Sequence, inner: Written) -> Result<(), AllocError>
     requires { Good at.old }
     ensures { OnOk result (Nested a_block at.old all.old at.new all.new inner) }
 {
@@ -100,8 +116,21 @@ pub fn put_block(at: &mut Walk, all: &mut Sequence, inner: Written) -> Result<()
     open_unit(at, all, Head::Block(pieces))
 }
 
+/// Puts a loop whose body is kept apart.
+#[inline(never)]
+pub fn put_loop_apart(
+    at: &mut Walk,
+    all: &mut Sequence,
+    inner: Box<Written>,
+) -> Result<(), AllocError>
+    requires { Good at.old }
+    ensures { OnOk result (Nested a_loop at.old all.old at.new all.new inner.value) }
+{
+    put_loop(at, all, Box::into_inner(inner))
+}
+
 /// Puts a loop: in the piece, or as a unit where it holds a numbered call.
-pub fn put_loop(at: &mut Walk, all: &mut Sequence, inner: Written) -> Result<(), AllocError>
+fn put_loop(at: &mut Walk, all: &mut Sequence, inner: Written) -> Result<(), AllocError>
     requires { Good at.old }
     ensures { OnOk result (Nested a_loop at.old all.old at.new all.new inner) }
 {
@@ -119,6 +148,7 @@ pub fn put_loop(at: &mut Walk, all: &mut Sequence, inner: Written) -> Result<(),
 
 /// Takes a condition: whether it stands alone on the operand stack, else all slots are set. Nothing where it isn't the
 /// topmost operand of the construct.
+#[inline(never)]
 pub fn take_condition(at: &mut Walk, x: u32) -> Result<Option<bool>, AllocError>
     requires { Good at.old }
     ensures { IfOk result (λ o. ConditionTold at.old at.new x o) }
@@ -213,8 +243,31 @@ fn may_stay(all: &Sequence, direct: bool) -> bool
     }
 }
 
+/// Puts an `if` whose arms are kept apart.
+#[inline(never)]
+pub fn put_if_apart(
+    at: &mut Walk,
+    all: &mut Sequence,
+    x: u32,
+    direct: bool,
+    then_arm: Box<Written>,
+    else_arm: Box<Written>,
+) -> Result<(), AllocError>
+    requires { Good at.old }
+    ensures { OnOk result (Decided x direct at.old all.old at.new all.new then_arm.value else_arm.value) }
+{
+    put_if(
+        at,
+        all,
+        x,
+        direct,
+        Box::into_inner(then_arm),
+        Box::into_inner(else_arm),
+    )
+}
+
 /// Puts an `if` whose condition was taken so: in the piece, or as a unit where it holds a numbered call.
-pub fn put_if(
+fn put_if(
     at: &mut Walk,
     all: &mut Sequence,
     x: u32,

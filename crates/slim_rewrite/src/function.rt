@@ -36,11 +36,11 @@ pub fn slim_pieces(
         stack: Vec::new(alloc),
         set: 0,
         floor: 0,
+        apart: heights_apart(alloc, func, low, slots)?,
         piece: Vec::new(alloc),
     };
-    let apart = heights_apart(alloc, func, low, slots)?;
-    let Some(written) = write_sequence(numbers, &apart, &mut at, &func.body, 0, None)? else {
+    let Some(written) = write_sequence(numbers, &mut at, &func.body, 0, None)? else {
         return Ok(None);
     };
-    Ok(Some(written.pieces))
+    Ok(Some(Box::into_inner(written).pieces))
 }

@@ -139,6 +139,7 @@ fn leaves(apart: &[bool], low: u32, x: u32, next: &Stmt) -> bool {
 
 /// Whether a statement moves an operand that is read again, where this one stands behind it, and these slots stand on the stack, the
 /// first slot being `low`.
+#[inline(never)]
 pub fn reads_again(
     stack: &[u32],
     low: u32,
@@ -179,6 +180,7 @@ fn absent(stack: &[u32], low: u32, places: &[usize], operand: Operand) -> Option
 }
 
 /// The slot that the next statement reads and that doesn't stand on the stack, where the slots from `low` on have these places there.
+#[inline(never)]
 pub fn taken_behind(stack: &[u32], low: u32, places: &[usize], next: Option<&Stmt>) -> Option<u32> {
     match next {
         Some(Stmt::Move { from, .. }) => absent(stack, low, places, *from),

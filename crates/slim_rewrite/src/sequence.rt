@@ -7,12 +7,12 @@ ghost use Rattle.guard_form.specs.Pieces.{no_unit, Units};
 ghost use Rattle.slim_rewrite.specs.Walking.{Good};
 ghost use Rattle.flow_rewrite.specs.UnitView.{unit_in_front, units_of};
 ghost use Rattle.slim_rewrite.specs.SequenceView.{first_where, head_in_front, open_where, units_onto};
-ghost use Rattle.slim_rewrite.specs.Inside.{Completed, Finished};
+ghost use Rattle.slim_rewrite.specs.Inside.{Begun, Completed, Finished};
 ghost use Rattle.slim_rewrite.specs.Steps.{Opened};
 
 use crate::stack::{Walk, flush};
 use flow_rewrite::{Pieces, Target, Unit};
-use std::alloc::AllocError;
+use std::alloc::{AllocError, Global};
 use std::mem;
 use wa_model::Operand;
 use wa_types::Instr;
@@ -52,6 +52,22 @@ pub struct Written {
     pub pieces: Pieces,
     pub place: u32,
     pub ended: bool,
+}
+
+/// A sequence of which nothing is written, whose first call has this place. It is kept apart from the stack, since a walk stands in one at
+/// each level of nesting.
+#[inline(never)]
+pub fn begin(alloc: Global, place: u32) -> Result<Box<Sequence>, AllocError>
+    ensures { IfOk result (λ all. Begun place all.value) }
+{
+    let all = Sequence {
+        first: Vec::new(alloc),
+        units: Vec::new(alloc),
+        open: None,
+        place,
+        ended: false,
+    };
+    Ok(Box::new(alloc, all)?)
 }
 
 /// The unit with its piece.
@@ -147,8 +163,19 @@ fn completed(at: &mut Walk, all: Sequence) -> Result<Written, AllocError>
     })
 }
 
+/// Ends a sequence that is kept apart, and so keeps what is written.
+#[inline(never)]
+pub fn finish_apart(at: &mut Walk, all: Box<Sequence>) -> Result<Box<Written>, AllocError>
+    requires { Good at.old }
+    ensures { IfOk result (λ w. Finished at.old all.value at.new w.value) }
+{
+    let alloc = at.alloc;
+    let written = finish(at, Box::into_inner(all))?;
+    Ok(Box::new(alloc, written)?)
+}
+
 /// Ends a sequence. All slots are set where its end is reached.
-pub fn finish(at: &mut Walk, all: Sequence) -> Result<Written, AllocError>
+fn finish(at: &mut Walk, all: Sequence) -> Result<Written, AllocError>
     requires { Good at.old }
     ensures { IfOk result (λ w. Finished at.old all at.new w) }
 {

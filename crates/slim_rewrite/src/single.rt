@@ -15,6 +15,7 @@ use std::alloc::AllocError;
 use wa_model::Stmt;
 
 /// Puts a statement that is neither a call nor a construct. False where its operands aren't the topmost ones.
+#[inline(never)]
 pub fn put_single(
     at: &mut Walk,
     all: &mut Sequence,

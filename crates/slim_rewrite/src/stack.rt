@@ -23,6 +23,8 @@ pub struct Walk {
     pub set: usize,
     /// So many stand below the construct that the walk is in.
     pub floor: usize,
+    /// By slot, whether the next one stands at another height.
+    pub apart: Vec<bool>,
     /// The piece so far.
     pub piece: Vec<Instr>,
 }
@@ -78,6 +80,7 @@ pub fn keep(at: &mut Walk, to: u32) -> Result<bool, AllocError>
 }
 
 /// Sets the slots of all operands that stand on the operand stack.
+#[inline(never)]
 pub fn flush(at: &mut Walk) -> Result<(), AllocError>
     requires { Good at.old }
     ensures { OnOk result (Flushed at.old at.new) }

@@ -1,21 +1,26 @@
 //! The walk over statements.
+//!
+//! It goes as deep as code nests, so little of it stands on the stack: sequences and what is written are kept apart, and what has no call
+//! of the walk in it is a function of its own.
 
 ghost use Rattle.std.specs.Prelude.{◌≡◌, ◌<◌, ◌^◌, [], length, true, false, IfOk};
+ghost use Rattle.wa_types.specs.Syntax.{a_block, a_loop};
 ghost use Rattle.wa_model.specs.declared.flat.Operand.TheVariants.{Local};
-ghost use Rattle.run_theory.specs.Flat.{decides, no_more};
+ghost use Rattle.run_theory.specs.Flat.{decides, nests, no_more};
 ghost use Rattle.run_theory.specs.FlatView.{stmt_in_front, stmts};
 ghost use Rattle.flow_rewrite.specs.CallsEmitting.{Rises};
 ghost use Rattle.slim_rewrite.specs.Walking.{Good};
 ghost use Rattle.slim_rewrite.specs.Coming.{Ready};
-ghost use Rattle.slim_rewrite.specs.Inside.{InsideTold, WrittenTold};
+ghost use Rattle.slim_rewrite.specs.Inside.{InsideTold, unboxed, WrittenTold};
 ghost use Rattle.slim_rewrite.specs.Steps.{Put};
 
 use crate::calls::put_call;
 use crate::constructs::{
-    claim, enter, leave, put_block, put_if, put_loop, stays, take_condition, unreached,
+    claim, enter, leave, put_block_apart, put_if_apart, put_loop_apart, stays, take_condition,
+    unreached,
 };
 use crate::guesses::{following, reads_again, taken_behind};
-use crate::sequence::{Sequence, Written, finish};
+use crate::sequence::{Sequence, Written, begin, finish_apart};
 use crate::single::put_single;
 use crate::stack::{Walk, flush};
 use std::alloc::AllocError;
@@ -25,57 +30,50 @@ use wa_model::{Operand, Stmt};
 #[cycle(write)]
 pub(crate) fn write_sequence(
     numbers: &[u32],
-    apart: &[bool],
     at: &mut Walk,
     body: &[Stmt],
     place: u32,
     after: Option<&Stmt>,
-) -> Result<Option<Written>, AllocError>
+) -> Result<Option<Box<Written>>, AllocError>
     requires rises { Rises numbers.now }
     requires good { Good at.old }
     requires piece { at.old.piece.items ≡ [] }
     requires ready { Ready place (stmts body.now) }
-    ensures { IfOk result (λ o. WrittenTold numbers.now at.old place (stmts body.now) at.new o) }
+    ensures { IfOk result (λ o. WrittenTold numbers.now at.old place (stmts body.now) at.new (unboxed o)) }
 {
-    let mut all = Sequence {
-        first: Vec::new(at.alloc),
-        units: Vec::new(at.alloc),
-        open: None,
-        place,
-        ended: false,
-    };
+    let mut all = begin(at.alloc, place)?;
     let mut next = 0;
     for stmt in body {
         next += 1;
         let coming = following(body, next, after);
-        if !write_stmt(numbers, apart, at, &mut all, stmt, coming)? {
+        if !write_stmt(numbers, at, &mut all, stmt, coming)? {
             return Ok(None);
         }
     }
-    let written = finish(at, all)?;
+    let written = finish_apart(at, all)?;
     Ok(Some(written))
 }
 
 /// The body of a construct, in front of which all slots are set. Those that its end leaves stay behind it where so told; where
 /// that isn't reached, a slot that is told counts as set.
 #[cycle(write)]
+#[inline(always)]
 fn write_inside(
     numbers: &[u32],
-    apart: &[bool],
     at: &mut Walk,
     body: &[Stmt],
     place: u32,
     kept: bool,
     after: Option<&Stmt>,
-) -> Result<Option<Written>, AllocError>
+) -> Result<Option<Box<Written>>, AllocError>
     requires rises { Rises numbers.now }
     requires good { Good at.old }
     requires bare { at.old.set ≡ length at.old.stack.items }
     requires ready { Ready place (stmts body.now) }
-    ensures { IfOk result (λ o. InsideTold numbers.now at.old place (stmts body.now) kept at.new o) }
+    ensures { IfOk result (λ o. InsideTold numbers.now at.old place (stmts body.now) kept at.new (unboxed o)) }
 {
     let outside = enter(at);
-    let Some(written) = write_sequence(numbers, apart, at, body, place, after)? else {
+    let Some(written) = write_sequence(numbers, at, body, place, after)? else {
         return Ok(None);
     };
     let left = stays(kept, &written);
@@ -97,7 +95,6 @@ fn write_inside(
 #[cycle(write)]
 fn write_stmt(
     numbers: &[u32],
-    apart: &[bool],
     at: &mut Walk,
     all: &mut Sequence,
     stmt: &Stmt,
@@ -118,22 +115,8 @@ fn write_stmt(
             args,
             to,
         } => put_call(numbers, at, all, op, stack, *args, *to),
-        Stmt::Block(body) => {
-            flush(at)?;
-            let Some(inner) = write_inside(numbers, apart, at, body, all.place, false, None)? else {
-                return Ok(false);
-            };
-            put_block(at, all, inner)?;
-            Ok(true)
-        }
-        Stmt::Loop(body) => {
-            flush(at)?;
-            let Some(inner) = write_inside(numbers, apart, at, body, all.place, true, next)? else {
-                return Ok(false);
-            };
-            put_loop(at, all, inner)?;
-            Ok(true)
-        }
+        Stmt::Block(body) => write_block(numbers, at, all, body),
+        Stmt::Loop(body) => write_loop(numbers, at, all, body, next),
         Stmt::If {
             cond,
             then_arm,
@@ -142,20 +125,67 @@ fn write_stmt(
             let Operand::Local(x) = *cond else {
                 return Ok(false);
             };
-            write_if(numbers, apart, at, all, x, then_arm, else_arm)
+            write_if(numbers, at, all, x, then_arm, else_arm)
         }
         _ => {
-            let again = reads_again(&at.stack, at.low, apart, stmt, next);
+            let again = reads_again(&at.stack, at.low, &at.apart, stmt, next);
             put_single(at, all, stmt, again)
         }
     }
 }
 
+/// Puts a block.
+#[cycle(write)]
+#[inline(never)]
+fn write_block(
+    numbers: &[u32],
+    at: &mut Walk,
+    all: &mut Sequence,
+    body: &[Stmt],
+) -> Result<bool, AllocError>
+    requires rises { Rises numbers.now }
+    requires good { Good at.old }
+    requires goes { all.old.ended ≡ false }
+    requires ready { Ready all.old.place (nests a_block (stmts body.now) no_more) }
+    ensures { IfOk result (λ put. put ≡ true → Put numbers.now at.old all.old at.new all.new (nests a_block (stmts body.now))) }
+{
+    flush(at)?;
+    let Some(inner) = write_inside(numbers, at, body, all.place, false, None)? else {
+        return Ok(false);
+    };
+    put_block_apart(at, all, inner)?;
+    Ok(true)
+}
+
+/// Puts a loop, in front of the next statement.
+#[cycle(write)]
+#[inline(never)]
+fn write_loop(
+    numbers: &[u32],
+    at: &mut Walk,
+    all: &mut Sequence,
+    body: &[Stmt],
+    next: Option<&Stmt>,
+) -> Result<bool, AllocError>
+    requires rises { Rises numbers.now }
+    requires good { Good at.old }
+    requires goes { all.old.ended ≡ false }
+    requires ready { Ready all.old.place (nests a_loop (stmts body.now) no_more) }
+    ensures { IfOk result (λ put. put ≡ true → Put numbers.now at.old all.old at.new all.new (nests a_loop (stmts body.now))) }
+{
+    flush(at)?;
+    let Some(inner) = write_inside(numbers, at, body, all.place, true, next)? else {
+        return Ok(false);
+    };
+    put_loop_apart(at, all, inner)?;
+    Ok(true)
+}
+
 /// Puts an `if`.
 #[cycle(write)]
+#[inline(never)]
 fn write_if(
     numbers: &[u32],
-    apart: &[bool],
     at: &mut Walk,
     all: &mut Sequence,
     x: u32,
@@ -171,12 +201,13 @@ fn write_if(
     let Some(direct) = take_condition(at, x)? else {
         return Ok(false);
     };
-    let Some(first) = write_inside(numbers, apart, at, then_arm, all.place, false, None)? else {
+    let Some(first) = write_inside(numbers, at, then_arm, all.place, false, None)? else {
         return Ok(false);
     };
-    let Some(second) = write_inside(numbers, apart, at, else_arm, first.place, false, None)? else {
+    let middle = first.place;
+    let Some(second) = write_inside(numbers, at, else_arm, middle, false, None)? else {
         return Ok(false);
     };
-    put_if(at, all, x, direct, first, second)?;
+    put_if_apart(at, all, x, direct, first, second)?;
     Ok(true)
 }
