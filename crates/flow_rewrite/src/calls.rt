@@ -86,6 +86,7 @@ fn put_called(
 
 /// Puts a numbered call inside so many constructs, with the piece in front of it and that behind it. It has a block of its
 /// own where runs go to the end of that; else it is the last thing that is put.
+#[inline(never)]
 pub(crate) fn put_call(
     guards: &Guards,
     out: &mut Vec<Instr>,

@@ -56,6 +56,7 @@ fn put_any(out: &mut Vec<Instr>, cond: Option<Operand>) -> Result<(), AllocError
 }
 
 /// Puts the condition of an `if` behind the piece in front of it, or in a state that isn't 0 the choice of the arm.
+#[inline(never)]
 pub(crate) fn put_condition(
     guards: &Guards,
     out: &mut Vec<Instr>,

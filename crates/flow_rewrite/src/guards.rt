@@ -33,6 +33,7 @@ pub(crate) fn is_numbered(guards: &Guards, place: u32) -> bool
 }
 
 /// Puts a piece under a test of the state, where it isn't empty.
+#[inline(never)]
 pub fn put_guarded(guards: &Guards, out: &mut Vec<Instr>, piece: &[Instr]) -> Result<(), AllocError>
     requires { Raisable 0 1 (code piece.now) }
     ensures { OnOk result (Puts out.old.items out.new.items (guarded (indices guards.now) (code piece.now))) }

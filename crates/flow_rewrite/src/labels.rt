@@ -21,6 +21,7 @@ fn raise(inside: u32, by: u32, label: u32) -> u32
 }
 
 /// The labels, raised.
+#[inline(never)]
 fn raise_each(alloc: Global, inside: u32, by: u32, labels: &[u32]) -> Result<Vec<u32>, AllocError>
     requires { (All (λ l. l < 2 ^ 31) labels.now) × (by ≤ 2) }
     ensures { IfOk result (λ v. v.items ≡ map (raise inside by) labels.now) }
@@ -80,6 +81,7 @@ fn raised_instr(alloc: Global, inside: u32, by: u32, instr: &Instr) -> Result<In
 }
 
 /// Puts code with each label that leaves it raised by so much, as the last thing behind what stands there.
+#[inline(never)]
 pub fn put_raised(
     alloc: Global,
     out: &mut Vec<Instr>,

@@ -40,6 +40,7 @@ fn next_piece(unit: &Unit) -> &[Instr]
 }
 
 /// Puts the piece behind a sequence's last unit, as the last thing.
+#[inline(never)]
 fn put_last(
     guards: &Guards,
     out: &mut Vec<Instr>,

@@ -128,6 +128,7 @@ fn begin_nest(
 
 /// A loop is entered: `set` tells what is read first from its head on. `level` loops of the nest stand around it, the worlds in
 /// `reach` hold, and `heads` has entries for this loop and those inside it, the next last.
+#[inline(never)]
 pub(crate) fn enter_loop(
     alloc: Global,
     tos: &mut Vec<Vec<bool>>,

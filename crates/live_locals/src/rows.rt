@@ -25,6 +25,7 @@ fn is_numbered(numbers: &[u32], place: u32) -> bool
 }
 
 /// Puts the set of the call at this place, where it is numbered: `set` tells what is read first from just after the call on.
+#[inline(never)]
 fn put_row(
     alloc: Global,
     rows: &mut Vec<Vec<bool>>,

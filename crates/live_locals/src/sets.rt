@@ -102,6 +102,7 @@ pub(crate) fn empty(set: &mut [bool])
 }
 
 /// What another set has is put in.
+#[inline(never)]
 pub fn join(set: &mut [bool], other: &[bool])
     ensures { (x : ℕ) → x < length set.old → has set.new x ≡ (has other.now x || has set.old x) }
 {

@@ -29,6 +29,7 @@ fn pass_op(set: &mut [bool], op: &Instr)
 }
 
 /// The last entries of a stack are read, as many as a call takes.
+#[inline(never)]
 pub fn read_taken(set: &mut [bool], stack: &[u32], args: u32)
     ensures { TellsAnywhere set.old set.new (slots_got (last_of args stack.now) done) }
 {
@@ -63,6 +64,7 @@ fn pass_br_table(tos: &[Vec<bool>], set: &mut [bool], index: Operand, labels: &[
 }
 
 /// A statement that holds no others.
+#[inline(never)]
 pub fn pass_simple(tos: &[Vec<bool>], set: &mut [bool], stmt: &Stmt)
     requires ops { OpsFit (stmt_in_front stmt.now no_more) }
     requires simple { HoldsNone (stmt_in_front stmt.now no_more) }
