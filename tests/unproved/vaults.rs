@@ -1,6 +1,6 @@
 //! Files and output, in memory and real.
 
-use memory_vaults::{MemSink, MemVault, NamedFile, SureSink, SureVault};
+use memory_vaults::{MemSink, MemVault, NamedFile, SureDisk, SureOut, SureSink, SureVault};
 use std::alloc::{AllocError, Global};
 use std::fmt::Display;
 use std::test::Fail;
@@ -110,12 +110,16 @@ fn a_file_is_written_and_read_back(rt: HostRuntime) -> Result<(), Fail> {
 
 /// A disk in memory of whose pieces at most so many bytes are taken.
 #[derive(Drop)]
-struct Short(SureVault, usize);
+struct Short(SureDisk, usize);
 
 impl Disk for Short {
     ghost use Rattle.std.specs.Prelude.{None};
 
     ghost files = { λ _. None };
+
+    ghost read_faults = { λ _. 0 };
+
+    ghost write_faults = { λ _. 0 };
 
     fn read(&mut self, name: &str, from: u64, buf: &mut [u8]) -> io::Result<usize> {
         self.0.read(name, from, buf)
@@ -137,8 +141,8 @@ fn a_vault_over_a_disk_has_its_files(rt: HostRuntime) -> Result<(), Fail> {
         named(alloc, "out", b"longer than in")?,
         named(alloc, "in", b"seven b")?,
     ]?;
-    let mut vault = FileVault::over(SureVault::new(alloc, files));
-    let mut out = OutSink::over(SureSink::new(alloc));
+    let mut vault = FileVault::over(SureDisk::new(SureVault::new(alloc, files)));
+    let mut out = OutSink::over(SureOut::new(SureSink::new(alloc)));
     assert_eq!(rt; copy_and_print(alloc, &mut vault, &mut out)?, 7);
     assert_eq!(rt; vault.save("out", 5, b"!")?, 1);
     let mut buf = [b'.'; 4];
@@ -148,9 +152,9 @@ fn a_vault_over_a_disk_has_its_files(rt: HostRuntime) -> Result<(), Fail> {
     assert!(rt; vault.cause().is_none());
     assert!(rt; matches!(vault.fetch("no", 0, &mut buf), Err(VaultFail::Absent)));
     assert!(rt; vault.cause().map(|cause| cause.kind()) == Some(io::ErrorKind::NotFound));
-    let mut printed = SureSink::new(alloc);
+    let mut printed = SureOut::new(SureSink::new(alloc));
     assert_eq!(rt; printed.write(b"ab")?, 2);
-    assert_eq!(rt; printed.put(b"c")?, 1);
+    assert_eq!(rt; printed.write(b"c")?, 1);
     assert!(rt; printed.bytes() == b"abc".as_slice());
     Ok(())
 }
@@ -158,7 +162,7 @@ fn a_vault_over_a_disk_has_its_files(rt: HostRuntime) -> Result<(), Fail> {
 #[test]
 fn a_save_tells_what_was_taken(rt: HostRuntime) -> Result<(), Fail> {
     let alloc = rt.alloc();
-    let mut vault = FileVault::over(Short(SureVault::new(alloc, Vec::new(alloc)), 3));
+    let mut vault = FileVault::over(Short(SureDisk::new(SureVault::new(alloc, Vec::new(alloc))), 3));
     assert_eq!(rt; vault.save("out", 0, b"seven b")?, 3);
     assert_eq!(rt; vault.save("out", 2, b"ts")?, 2);
     let bytes = fetch_whole(alloc, &mut vault, "out", 9)?;
@@ -166,7 +170,7 @@ fn a_save_tells_what_was_taken(rt: HostRuntime) -> Result<(), Fail> {
     save_whole(&mut vault, "out", b"seven bytes")?;
     let bytes = fetch_whole(alloc, &mut vault, "out", 99)?;
     assert!(rt; bytes.as_slice() == b"seven bytes".as_slice());
-    let mut stuck = FileVault::over(Short(SureVault::new(alloc, Vec::new(alloc)), 0));
+    let mut stuck = FileVault::over(Short(SureDisk::new(SureVault::new(alloc, Vec::new(alloc))), 0));
     assert!(rt; matches!(stuck.save("out", 0, b"x"), Err(VaultFail::Failed)));
     assert!(rt; stuck.cause().map(|cause| cause.kind()) == Some(io::ErrorKind::WriteZero));
     assert_eq!(rt; stuck.save("out", 0, b"")?, 0);

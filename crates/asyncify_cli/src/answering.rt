@@ -5,7 +5,7 @@ ghost use Rattle.std.specs.String.{string_bytes};
 ghost use Rattle.script_model.specs.Spelled.{spelled};
 ghost use Rattle.host_laws.specs.Supplies.{IsLent};
 ghost use Rattle.asyncify_app.specs.Devices.{counted_boxes};
-ghost use Rattle.system_vaults.specs.Kept.{disk_of, file_fetch_faults, file_save_faults, out_of, out_faults};
+ghost use Rattle.system_vaults.specs.Kept.{disk_of, out_of};
 ghost use Rattle.asyncify_cli.specs.Answered.{Answers, own_devices};
 
 use asyncify_app::asyncify;
@@ -18,7 +18,8 @@ use wa_types::Name;
 const COUNTER_TICKS: u32 = 2;
 
 /// Runs the command that these words spell over the files of a disk and an output, with a counter and an echo as its
-/// devices, and answers its status. Where there is no memory for the devices nothing is done.
+/// devices, and answers its status: 10, 11 and 12 only where a call of the disk or the output failed, or took nothing of a
+/// piece (10 also where the disk tells that a file isn't there). Where there is no memory for the devices nothing is done.
 pub(crate) fn answer_words<D: Disk + Drop, O: Out + Drop>(
     alloc: Global,
     words: &[String],
@@ -27,9 +28,9 @@ pub(crate) fn answer_words<D: Disk + Drop, O: Out + Drop>(
 ) -> Option<u8>
     ensures answered { IfSome result (λ status. Answers (spelled (map string_bytes words.now))
         (D.files (disk_of vault.old)) (D.files (disk_of vault.new))
-        (file_fetch_faults vault.old) (file_fetch_faults vault.new)
-        (file_save_faults vault.old) (file_save_faults vault.new)
-        (out_faults out.old) (out_faults out.new)
+        (D.read_faults (disk_of vault.old)) (D.read_faults (disk_of vault.new))
+        (D.write_faults (disk_of vault.old)) (D.write_faults (disk_of vault.new))
+        (O.faults (out_of out.old)) (O.faults (out_of out.new))
         (O.written (out_of out.old)) (O.written (out_of out.new))
         own_devices status) }
     ensures files_kept { IsNone result → D.files (disk_of vault.new) ≡ D.files (disk_of vault.old) }
@@ -54,9 +55,9 @@ fn answer_with<D: Disk + Drop, O: Out + Drop>(
     requires lent { IsLent }
     ensures { Answers (spelled (map string_bytes words.now))
         (D.files (disk_of vault.old)) (D.files (disk_of vault.new))
-        (file_fetch_faults vault.old) (file_fetch_faults vault.new)
-        (file_save_faults vault.old) (file_save_faults vault.new)
-        (out_faults out.old) (out_faults out.new)
+        (D.read_faults (disk_of vault.old)) (D.read_faults (disk_of vault.new))
+        (D.write_faults (disk_of vault.old)) (D.write_faults (disk_of vault.new))
+        (O.faults (out_of out.old)) (O.faults (out_of out.new))
         (O.written (out_of out.old)) (O.written (out_of out.new))
         (counted_boxes seen (λ b. (⟦<dyn Device as Device>⟧ b.vtable).faults b.value) devices.old.items) result }
 {

@@ -1,7 +1,8 @@
-//! `SureVault` as a disk, and `SureSink` as an output: what `system_vaults` asks of a system.
+//! `SureDisk` and `SureOut`: what `system_vaults` asks of a system, over files and output in memory.
 
-ghost use Rattle.std.specs.Prelude.{◌≡◌, ◌≤◌, ◌↔◌, ◌++◌, length, take, Some, None, IfOk, OnOk, OnErr, IfErr, IsErrAnd};
+ghost use Rattle.std.specs.Prelude.{◌≡◌, ◌≢◌, ◌⊎◌, ◌≤◌, ◌↔◌, ◌++◌, length, take, Some, None, IfOk, OnOk, OnErr, IfErr, IsErr, IsErrAnd};
 ghost use Rattle.std.specs.IoError.{error_kind};
+ghost use Rattle.vault_port.specs.Counts.{HasRisen};
 ghost use Rattle.vault_port.specs.Files.{bytes_of, IsFetched, ChangesOnly, ChangesAtMost};
 
 use crate::{SureSink, SureVault};
@@ -9,74 +10,144 @@ use std::io::{self, Error, ErrorKind};
 use system_vaults::{Disk, Out};
 use vault_port::{Sink, Vault};
 
-impl Disk for SureVault {
-    ghost use Rattle.memory_vaults.specs.InMemory.{sure_files};
+/// The files of a `SureVault` as a disk. No call fails but for want of memory, and a read of an absent file.
+#[derive(Drop)]
+pub struct SureDisk {
+    vault: SureVault,
+    failed: u64,
+}
 
-    ghost files = { λ vault. Some (sure_files vault) };
+impl SureDisk {
+    ghost use Rattle.memory_vaults.specs.InMemory.{disk_files, sure_files};
+
+    /// A disk with the files of this vault.
+    pub fn new(vault: SureVault) -> SureDisk
+        ensures { disk_files result ≡ sure_files vault }
+    {
+        SureDisk { vault, failed: 0 }
+    }
+}
+
+impl Disk for SureDisk {
+    ghost use Rattle.memory_vaults.specs.InMemory.{disk_files, failed_changes};
+
+    ghost files = { λ disk. Some (disk_files disk) };
+
+    ghost read_faults = { λ _. 0 };
+
+    ghost write_faults = { failed_changes };
 
     fn read(&mut self, name: &str, from: u64, buf: &mut [u8]) -> io::Result<usize>
         ensures count { IfOk result (λ n. n ≤ length buf.old) }
         ensures read { IfOk result (λ n.
-            IsFetched (bytes_of (sure_files self.old) name.now) from n buf.old buf.new) }
-        ensures kept { sure_files self.new ≡ sure_files self.old }
+            IsFetched (bytes_of (disk_files self.old) name.now) from n buf.old buf.new) }
+        ensures kept { disk_files self.new ≡ disk_files self.old }
         ensures absent { IsErrAnd result (λ e. error_kind e ≡ ErrorKind.NotFound)
-            ↔ (sure_files self.old name.now ≡ None) }
+            ↔ (disk_files self.old name.now ≡ None) }
         ensures sure { IfErr result (λ e. error_kind e ≡ ErrorKind.NotFound) }
+        ensures failed { IsErrAnd result (λ e. error_kind e ≢ ErrorKind.NotFound) → HasRisen 0 0 }
+        ensures writes { failed_changes self.new ≡ failed_changes self.old }
     {
-        match self.fetch(name, from, buf) {
+        match self.vault.fetch(name, from, buf) {
             Ok(count) => Ok(count),
             Err(_) => Err(Error::from(ErrorKind::NotFound)),
         }
     }
 
     fn cut(&mut self, name: &str, at: u64) -> io::Result<()>
-        requires { at ≤ length (bytes_of (sure_files self.old) name.now) }
+        requires { at ≤ length (bytes_of (disk_files self.old) name.now) }
         ensures cut { OnOk result (ChangesOnly name.now
-            (take at (bytes_of (sure_files self.old) name.now))
-            (sure_files self.old) (sure_files self.new)) }
+            (take at (bytes_of (disk_files self.old) name.now))
+            (disk_files self.old) (disk_files self.new)) }
         ensures spared { OnErr result (ChangesAtMost name.now
-            (take at (bytes_of (sure_files self.old) name.now))
-            (sure_files self.old) (sure_files self.new)) }
+            (take at (bytes_of (disk_files self.old) name.now))
+            (disk_files self.old) (disk_files self.new)) }
         ensures sure { IfErr result (λ e. error_kind e ≡ ErrorKind.OutOfMemory) }
+        ensures failed { IsErr result → HasRisen (failed_changes self.old) (failed_changes self.new) }
+        ensures rising { failed_changes self.old ≤ failed_changes self.new }
     {
-        match self.save(name, at, &[]) {
+        match self.vault.save(name, at, &[]) {
             Ok(_) => Ok(()),
-            Err(_) => Err(Error::from(ErrorKind::OutOfMemory)),
+            Err(_) => {
+                self.failed = self.failed.saturating_add(1);
+                Err(Error::from(ErrorKind::OutOfMemory))
+            }
         }
     }
 
     fn write(&mut self, name: &str, from: u64, piece: &[u8]) -> io::Result<usize>
-        requires { length (bytes_of (sure_files self.old) name.now) ≡ from }
+        requires { length (bytes_of (disk_files self.old) name.now) ≡ from }
         ensures all { IfOk result (λ n. n ≡ length piece.now) }
+        ensures none { IfOk result (λ n. n ≡ 0
+            → (length piece.now ≡ 0) ⊎ HasRisen (failed_changes self.old) (failed_changes self.new)) }
         ensures written { IfOk result (λ n. ChangesOnly name.now
-            (bytes_of (sure_files self.old) name.now ++ take n piece.now)
-            (sure_files self.old) (sure_files self.new)) }
+            (bytes_of (disk_files self.old) name.now ++ take n piece.now)
+            (disk_files self.old) (disk_files self.new)) }
         ensures spared { OnErr result (ChangesAtMost name.now
-            (bytes_of (sure_files self.old) name.now)
-            (sure_files self.old) (sure_files self.new)) }
+            (bytes_of (disk_files self.old) name.now)
+            (disk_files self.old) (disk_files self.new)) }
         ensures sure { IfErr result (λ e. error_kind e ≡ ErrorKind.OutOfMemory) }
+        ensures failed { IsErr result → HasRisen (failed_changes self.old) (failed_changes self.new) }
+        ensures rising { failed_changes self.old ≤ failed_changes self.new }
     {
-        match self.save(name, from, piece) {
+        match self.vault.save(name, from, piece) {
             Ok(count) => Ok(count),
-            Err(_) => Err(Error::from(ErrorKind::OutOfMemory)),
+            Err(_) => {
+                self.failed = self.failed.saturating_add(1);
+                Err(Error::from(ErrorKind::OutOfMemory))
+            }
         }
     }
 }
 
-impl Out for SureSink {
-    ghost use Rattle.memory_vaults.specs.InMemory.{sure_bytes};
+/// What a `SureSink` takes as an output. No call fails but for want of memory.
+#[derive(Drop)]
+pub struct SureOut {
+    sink: SureSink,
+    failed: u64,
+}
 
-    ghost written = { λ sink. Some (sure_bytes sink) };
+impl SureOut {
+    ghost use Rattle.memory_vaults.specs.InMemory.{out_bytes, sure_bytes};
+
+    /// An output to this sink.
+    pub fn new(sink: SureSink) -> SureOut
+        ensures { out_bytes result ≡ sure_bytes sink }
+    {
+        SureOut { sink, failed: 0 }
+    }
+
+    /// The bytes taken so far.
+    pub fn bytes(&self) -> &[u8]
+        ensures { result.now ≡ out_bytes self.now }
+    {
+        self.sink.bytes()
+    }
+}
+
+impl Out for SureOut {
+    ghost use Rattle.memory_vaults.specs.InMemory.{failed_writes, out_bytes};
+
+    ghost written = { λ out. Some (out_bytes out) };
+
+    ghost faults = { failed_writes };
 
     fn write(&mut self, piece: &[u8]) -> io::Result<usize>
         ensures all { IfOk result (λ n. n ≡ length piece.now) }
-        ensures written { IfOk result (λ n. sure_bytes self.new ≡ sure_bytes self.old ++ take n piece.now) }
-        ensures kept { OnErr result (sure_bytes self.new ≡ sure_bytes self.old) }
+        ensures written { IfOk result (λ n. out_bytes self.new ≡ out_bytes self.old ++ take n piece.now) }
+        ensures kept { OnErr result (out_bytes self.new ≡ out_bytes self.old) }
         ensures sure { IfErr result (λ e. error_kind e ≡ ErrorKind.OutOfMemory) }
+        ensures failed { IsErr result → HasRisen (failed_writes self.old) (failed_writes self.new) }
+        ensures none { IfOk result (λ n. n ≡ 0
+            → (length piece.now ≡ 0) ⊎ HasRisen (failed_writes self.old) (failed_writes self.new)) }
+        ensures rising { failed_writes self.old ≤ failed_writes self.new }
     {
-        match self.put(piece) {
+        match self.sink.put(piece) {
             Ok(count) => Ok(count),
-            Err(_) => Err(Error::from(ErrorKind::OutOfMemory)),
+            Err(_) => {
+                self.failed = self.failed.saturating_add(1);
+                Err(Error::from(ErrorKind::OutOfMemory))
+            }
         }
     }
 }

@@ -1,8 +1,9 @@
 //! The trait `Disk`: what a system does with files.
 
-ghost use Rattle.std.specs.Prelude.{◌≡◌, ◌≤◌, ◌↔◌, ◌++◌, length, take, Option, None, IfOk, OnOk, OnErr, IsErrAnd};
+ghost use Rattle.std.specs.Prelude.{◌≡◌, ◌≢◌, ◌⊎◌, ◌≤◌, ◌↔◌, ◌++◌, ℕ, length, take, Option, None, IfOk, OnOk, OnErr, IsErr, IsErrAnd};
 ghost use Rattle.std.specs.IoError.{error_kind};
 ghost use Rattle.std.specs.declared.io.ErrorKind.TheVariants.{NotFound};
+ghost use Rattle.vault_port.specs.Counts.{HasRisen};
 ghost use Rattle.vault_port.specs.Told.{WhereTold, Becomes};
 ghost use Rattle.vault_port.specs.Files.{Files, bytes_of, IsFetched, ChangesOnly, ChangesAtMost};
 
@@ -13,15 +14,29 @@ pub trait Disk {
     /// The files, where the disk tells them.
     ghost files: { Self → Option Files };
 
+    /// How many reads have failed.
+    ghost read_faults: { Self → ℕ };
+
+    /// How many cuts and writes have failed, or took nothing of a piece.
+    ghost write_faults: { Self → ℕ };
+
     /// Reads once from the place `from` of a file on, to the front of the buffer, and answers how many bytes came. No
-    /// file changes. `NotFound`: exactly where there is no such file.
+    /// file changes. `NotFound`: exactly where there is no such file; of a disk that doesn't tell its files it counts as
+    /// failed, as any other error does.
     fn read(&mut self, name: &str, from: u64, buf: &mut [u8]) -> io::Result<usize>
         ensures count { IfOk result (λ n. n ≤ length buf.old) }
         ensures read { IfOk result (λ n. WhereTold (files self.old) (λ all.
             IsFetched (bytes_of all name.now) from n buf.old buf.new)) }
         ensures kept { files self.new ≡ files self.old }
         ensures absent { WhereTold (files self.old) (λ all.
-            IsErrAnd result (λ e. error_kind e ≡ NotFound) ↔ (all name.now ≡ None)) };
+            IsErrAnd result (λ e. error_kind e ≡ NotFound) ↔ (all name.now ≡ None)) }
+
+        ensures failed { IsErrAnd result (λ e. error_kind e ≢ NotFound)
+            → HasRisen (read_faults self.old) (read_faults self.new) }
+        ensures failed_untold { IsErr result → files self.old ≡ None
+            → HasRisen (read_faults self.old) (read_faults self.new) }
+        ensures rising { read_faults self.old ≤ read_faults self.new }
+        ensures writes { write_faults self.new ≡ write_faults self.old };
 
     /// Makes a file its first `at` bytes. An absent file counts as empty and is made. After an error it is so or as
     /// before.
@@ -30,15 +45,25 @@ pub trait Disk {
         ensures cut { OnOk result (Becomes (files self.old) (files self.new) (λ old new.
             ChangesOnly name.now (take at (bytes_of old name.now)) old new)) }
         ensures spared { OnErr result (Becomes (files self.old) (files self.new) (λ old new.
-            ChangesAtMost name.now (take at (bytes_of old name.now)) old new)) };
+            ChangesAtMost name.now (take at (bytes_of old name.now)) old new)) }
+
+        ensures failed { IsErr result → HasRisen (write_faults self.old) (write_faults self.new) }
+        ensures rising { write_faults self.old ≤ write_faults self.new }
+        ensures reads { read_faults self.new ≡ read_faults self.old };
 
     /// Writes once behind the bytes of a file, which has `from` of them, and answers how many of the piece were
-    /// taken. After an error the bytes are as before.
+    /// taken. After an error the bytes are as before. To take none, where there are some, counts as failed.
     fn write(&mut self, name: &str, from: u64, piece: &[u8]) -> io::Result<usize>
         requires { WhereTold (files self.old) (λ all. length (bytes_of all name.now) ≡ from) }
         ensures count { IfOk result (λ n. n ≤ length piece.now) }
         ensures written { IfOk result (λ n. Becomes (files self.old) (files self.new) (λ old new.
             ChangesOnly name.now (bytes_of old name.now ++ take n piece.now) old new)) }
         ensures spared { OnErr result (Becomes (files self.old) (files self.new) (λ old new.
-            ChangesAtMost name.now (bytes_of old name.now) old new)) };
+            ChangesAtMost name.now (bytes_of old name.now) old new)) }
+
+        ensures failed { IsErr result → HasRisen (write_faults self.old) (write_faults self.new) }
+        ensures none { IfOk result (λ n. n ≡ 0
+            → (length piece.now ≡ 0) ⊎ HasRisen (write_faults self.old) (write_faults self.new)) }
+        ensures rising { write_faults self.old ≤ write_faults self.new }
+        ensures reads { read_faults self.new ≡ read_faults self.old };
 }

@@ -2,11 +2,12 @@
 //!
 //! `FileVault` and `OutSink` stand on what a system does by one call each: `Disk` reads, cuts and writes files, `Out` writes output. What
 //! these hold is told where they tell it, and so by the vault and the sink, which are proved against it: bytes are those of the place that was
-//! asked for, a save leaves the file's beginning and what was taken, and a count rises where a call failed. Both keep what the system last
-//! said of a call that failed (`cause`), for people.
+//! asked for, and a save leaves the file's beginning and what was taken. Their counts of faults are those of the disk and of the output: neither
+//! makes up a failure. Both keep what the system last said of a call that failed (`cause`), for people.
 //!
-//! `SystemDisk` and `SystemOut` are the real ones. They don't tell what they hold: that files and output do what the two traits say is
-//! trusted of them, and shown by tests. A call that a signal interrupts they make again (`retrying`). Others that tell it stand in `memory_vaults`.
+//! `SystemDisk` and `SystemOut` are the real ones. They count their failed calls, and don't tell what they hold: that files and output do what
+//! the two traits say is trusted of them (`system_files`), and shown by tests. A call that a signal interrupts they make again (`retrying`).
+//! Others that tell it stand in `memory_vaults`.
 #![tactic(auto)]
 
 mod disk;
@@ -16,6 +17,7 @@ mod out;
 mod out_sink;
 mod retrying;
 mod system_disk;
+mod system_files;
 mod system_out;
 
 pub use disk::Disk;

@@ -1,6 +1,7 @@
 //! The trait `Out`: what a system does with output.
 
-ghost use Rattle.std.specs.Prelude.{◌≡◌, ◌≤◌, ℕ, List, length, take, Option, IfOk, OnErr};
+ghost use Rattle.std.specs.Prelude.{◌≡◌, ◌⊎◌, ◌≤◌, ℕ, List, length, take, Option, IfOk, OnErr, IsErr};
+ghost use Rattle.vault_port.specs.Counts.{HasRisen};
 ghost use Rattle.vault_port.specs.Told.{Becomes};
 ghost use Rattle.vault_port.specs.Taken.{Appends};
 
@@ -11,10 +12,19 @@ pub trait Out {
     /// The bytes written so far, where the output tells them.
     ghost written: { Self → Option (List ℕ) };
 
-    /// Writes the first bytes of a piece by one call, and answers how many. After an error none was written.
+    /// How many writes have failed, or took nothing of a piece.
+    ghost faults: { Self → ℕ };
+
+    /// Writes the first bytes of a piece by one call, and answers how many. After an error none was written. To take none,
+    /// where there are some, counts as failed.
     fn write(&mut self, piece: &[u8]) -> io::Result<usize>
         ensures count { IfOk result (λ n. n ≤ length piece.now) }
         ensures written { IfOk result (λ n. Becomes (written self.old) (written self.new)
             (Appends (take n piece.now))) }
-        ensures kept { OnErr result (written self.new ≡ written self.old) };
+        ensures kept { OnErr result (written self.new ≡ written self.old) }
+
+        ensures failed { IsErr result → HasRisen (faults self.old) (faults self.new) }
+        ensures none { IfOk result (λ n. n ≡ 0
+            → (length piece.now ≡ 0) ⊎ HasRisen (faults self.old) (faults self.new)) }
+        ensures rising { faults self.old ≤ faults self.new };
 }

@@ -1,7 +1,7 @@
 //! `OutSink`: printed bytes, over an output.
 
-ghost use Rattle.std.specs.Prelude.{◌≡◌, ◌≢◌, ◌≤◌, IfOk, OnOk, OnErr, length, take};
-ghost use Rattle.vault_port.specs.Counts.{one_more};
+ghost use Rattle.std.specs.Prelude.{◌≡◌, ◌≢◌, ◌≤◌, IfOk, OnErr, IsErr, IsErrOf, length, take};
+ghost use Rattle.vault_port.specs.Counts.{HasRisen};
 ghost use Rattle.vault_port.specs.Told.{Becomes};
 ghost use Rattle.vault_port.specs.Taken.{Appends};
 
@@ -10,38 +10,28 @@ use crate::system_out::SystemOut;
 use std::io::{self, Error, ErrorKind};
 use vault_port::{Sink, SinkFail};
 
-/// An output. It tells what the output tells, counts each call that fails, and takes no memory.
+/// An output. It tells what the output tells, its count of faults is the output's, and it takes no memory.
 #[derive(Drop)]
 pub struct OutSink<O: Out + Drop> {
     out: O,
     cause: Option<Error>,
-    faults: u64,
 }
 
 impl<R: Print + Drop> OutSink<SystemOut<R>> {
-    ghost use Rattle.system_vaults.specs.Kept.{out_faults};
-
     /// The standard output of this runtime.
-    pub fn new(rt: R) -> OutSink<SystemOut<R>>
-        ensures { out_faults result ≡ 0 }
-    {
+    pub fn new(rt: R) -> OutSink<SystemOut<R>> {
         OutSink::over(SystemOut::new(rt))
     }
 }
 
 impl<O: Out + Drop> OutSink<O> {
-    ghost use Rattle.system_vaults.specs.Kept.{out_of, out_faults};
+    ghost use Rattle.system_vaults.specs.Kept.{out_of};
 
     /// This output.
     pub fn over(out: O) -> OutSink<O>
-        ensures out { out_of result ≡ out }
-        ensures faults { out_faults result ≡ 0 }
+        ensures { out_of result ≡ out }
     {
-        OutSink {
-            out,
-            cause: None,
-            faults: 0,
-        }
+        OutSink { out, cause: None }
     }
 
     /// Why the last call that failed did, as the output says it.
@@ -51,11 +41,11 @@ impl<O: Out + Drop> OutSink<O> {
 }
 
 impl<O: Out + Drop> Sink for OutSink<O> {
-    ghost use Rattle.system_vaults.specs.Kept.{out_of, out_faults};
+    ghost use Rattle.system_vaults.specs.Kept.{out_of};
 
     ghost taken = { λ sink. O.written (out_of sink) };
 
-    ghost faults = { λ sink. out_faults sink };
+    ghost faults = { λ sink. O.faults (out_of sink) };
 
     fn put(&mut self, piece: &[u8]) -> Result<usize, SinkFail>
         ensures count { IfOk result (λ n. n ≤ length piece.now) }
@@ -65,15 +55,14 @@ impl<O: Out + Drop> Sink for OutSink<O> {
         ensures kept { OnErr result (O.written (out_of self.new) ≡ O.written (out_of self.old)) }
         ensures no_memory { result ≢ Err SinkFail.Memory }
 
-        ensures rises { OnErr result (out_faults self.new ≡ one_more (out_faults self.old)) }
-        ensures stays { OnOk result (out_faults self.new ≡ out_faults self.old) }
-        ensures rising { out_faults self.old ≤ out_faults self.new }
+        ensures failed { IsErrOf result SinkFail.Failed
+            → HasRisen (O.faults (out_of self.old)) (O.faults (out_of self.new)) }
+        ensures rising { O.faults (out_of self.old) ≤ O.faults (out_of self.new) }
     {
         match write_some(&mut self.out, piece) {
             Ok(count) => Ok(count),
             Err(error) => {
                 self.cause = Some(error);
-                self.faults = self.faults.saturating_add(1);
                 Err(SinkFail::Failed)
             }
         }
@@ -87,6 +76,8 @@ fn write_some<O: Out>(out: &mut O, piece: &[u8]) -> io::Result<usize>
     ensures written { IfOk result (λ n. Becomes (O.written out.old) (O.written out.new)
         (Appends (take n piece.now))) }
     ensures kept { OnErr result (O.written out.new ≡ O.written out.old) }
+    ensures failed { IsErr result → HasRisen (O.faults out.old) (O.faults out.new) }
+    ensures faults { O.faults out.old ≤ O.faults out.new }
 {
     let written = out.write(piece)?;
     if written == 0 && !piece.is_empty() {

@@ -1,90 +1,92 @@
 //! `SystemDisk`: the files of the system.
 
-ghost use Rattle.std.specs.Prelude.{◌≤◌, None, IfOk, length};
+ghost use Rattle.std.specs.Prelude.{◌≡◌, ◌≢◌, ◌≤◌, ◌⊎◌, None, IfOk, OnOk, IsErr, IsErrAnd, length};
+ghost use Rattle.std.specs.IoError.{error_kind};
+ghost use Rattle.std.specs.declared.io.ErrorKind.TheVariants.{NotFound};
+ghost use Rattle.vault_port.specs.Counts.{HasRisen};
 
 use crate::disk::Disk;
-use crate::opened_file::{OpenedFile, check_output, no_seek};
-use crate::retrying;
-use std::fs::{Files, OpenFile, OpenOptions};
+use crate::system_files::SystemFiles;
+use std::fs::Files;
 use std::io;
 
-/// The files of the system, by path. It doesn't tell what they hold: that they do what `Disk` says is trusted.
-///
-/// A regular file is opened anew by each call that reads or cuts, which costs little beside a piece of 64 KiB. One that was cut stays open for
-/// the next call, and no other file is written. A pipe or a device, in which no place can be sought, is opened by the call at its beginning and
-/// kept: the next calls go on where it stands.
+/// The files of the system, by path. It doesn't tell what they hold: that they do what `Disk` says is trusted. It counts the
+/// calls that fail, or take nothing of a piece.
 #[derive(Drop)]
 pub struct SystemDisk<R: Files + Drop> {
-    rt: R,
-    opened: Option<OpenedFile<R::File>>,
+    files: SystemFiles<R>,
+    failed_reads: u64,
+    failed_writes: u64,
 }
 
 impl<R: Files + Drop> SystemDisk<R> {
     /// The files that this runtime reaches.
     pub fn new(rt: R) -> SystemDisk<R> {
-        SystemDisk { rt, opened: None }
+        SystemDisk {
+            files: SystemFiles::new(rt),
+            failed_reads: 0,
+            failed_writes: 0,
+        }
     }
 }
 
 impl<R: Files + Drop> Disk for SystemDisk<R> {
     ghost files = { λ _. None };
 
+    ghost read_faults = { λ disk. disk.failed_reads };
+
+    ghost write_faults = { λ disk. disk.failed_writes };
+
     fn read(&mut self, name: &str, from: u64, buf: &mut [u8]) -> io::Result<usize>
-        ensures { IfOk result (λ n. n ≤ length buf.old) }
+        ensures count { IfOk result (λ n. n ≤ length buf.old) }
+        ensures failed { IsErrAnd result (λ e. error_kind e ≢ NotFound)
+            → HasRisen self.old.failed_reads self.new.failed_reads }
+        ensures failed_untold { IsErr result → HasRisen self.old.failed_reads self.new.failed_reads }
+        ensures stays { OnOk result (self.new.failed_reads ≡ self.old.failed_reads) }
+        ensures rising { self.old.failed_reads ≤ self.new.failed_reads }
+        ensures writes { self.new.failed_writes ≡ self.old.failed_writes }
     {
-        let found = self.rt.metadata(name)?;
-        if found.is_file() {
-            let mut file = OpenOptions::new().read(true).open(&self.rt, name)?;
-            retrying::seek(&mut file, from)?;
-            return retrying::read(&mut file, buf);
-        }
-        if from == 0 {
-            self.opened = Some(OpenedFile::open(&self.rt, OpenOptions::new().read(true), name)?);
-        }
-        match &mut self.opened {
-            Some(opened) if opened.stands_at(&found, from) => opened.read(buf),
-            _ => Err(no_seek()),
+        match self.files.read(name, from, buf) {
+            Ok(count) => Ok(count),
+            Err(error) => {
+                self.failed_reads = self.failed_reads.saturating_add(1);
+                Err(error)
+            }
         }
     }
 
-    fn cut(&mut self, name: &str, at: u64) -> io::Result<()> {
-        let found = self.rt.metadata(name).ok();
-        if let Some(found) = &found {
-            check_output(&self.rt, found)?;
-            if !found.is_file() {
-                if at == 0 {
-                    let opened = OpenedFile::open(&self.rt, OpenOptions::new().write(true), name)?;
-                    // Where standard output was closed, what was opened now may stand in its place.
-                    check_output(&self.rt, found)?;
-                    self.opened = Some(opened);
-                }
-                return Ok(());
+    fn cut(&mut self, name: &str, at: u64) -> io::Result<()>
+        ensures failed { IsErr result → HasRisen self.old.failed_writes self.new.failed_writes }
+        ensures stays { OnOk result (self.new.failed_writes ≡ self.old.failed_writes) }
+        ensures rising { self.old.failed_writes ≤ self.new.failed_writes }
+        ensures reads { self.new.failed_reads ≡ self.old.failed_reads }
+    {
+        match self.files.cut(name, at) {
+            Ok(()) => Ok(()),
+            Err(error) => {
+                self.failed_writes = self.failed_writes.saturating_add(1);
+                Err(error)
             }
         }
-        let mut opened = OpenedFile::open(
-            &self.rt,
-            OpenOptions::new().write(true).create(true),
-            name,
-        )?;
-        opened.cut(at)?;
-        self.opened = Some(opened);
-        Ok(())
     }
 
     fn write(&mut self, name: &str, from: u64, piece: &[u8]) -> io::Result<usize>
-        ensures { IfOk result (λ n. n ≤ length piece.now) }
+        ensures count { IfOk result (λ n. n ≤ length piece.now) }
+        ensures failed { IsErr result → HasRisen self.old.failed_writes self.new.failed_writes }
+        ensures none { IfOk result (λ n. n ≡ 0
+            → (length piece.now ≡ 0) ⊎ HasRisen self.old.failed_writes self.new.failed_writes) }
+        ensures rising { self.old.failed_writes ≤ self.new.failed_writes }
+        ensures reads { self.new.failed_reads ≡ self.old.failed_reads }
     {
-        // A regular file is closed whatever comes: where standard output was closed, it may stand in its place.
-        let Some(mut opened) = self.opened.take() else {
-            return Err(no_seek());
+        let count = match self.files.write(name, from, piece) {
+            Ok(count) => count,
+            Err(error) => {
+                self.failed_writes = self.failed_writes.saturating_add(1);
+                return Err(error);
+            }
         };
-        let found = self.rt.metadata(name)?;
-        if !opened.stands_at(&found, from) {
-            return Err(no_seek());
-        }
-        let count = opened.write(piece)?;
-        if !found.is_file() {
-            self.opened = Some(opened);
+        if count == 0 && !piece.is_empty() {
+            self.failed_writes = self.failed_writes.saturating_add(1);
         }
         Ok(count)
     }

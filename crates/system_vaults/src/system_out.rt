@@ -1,37 +1,63 @@
 //! `SystemOut`: standard output.
 
-ghost use Rattle.std.specs.Prelude.{◌≤◌, None, IfOk, length};
+ghost use Rattle.std.specs.Prelude.{◌≡◌, ◌≤◌, ◌⊎◌, None, IfOk, IsErr, length};
+ghost use Rattle.vault_port.specs.Counts.{HasRisen};
 
 use crate::out::Out;
 use crate::retrying::is_interrupted;
 use std::io::{self, Error, ErrorKind};
 
-/// Standard output. It doesn't tell what was written: that it does what `Out` says is trusted.
+/// Standard output. It doesn't tell what was written: that it does what `Out` says is trusted. It counts the writes that fail,
+/// or take nothing of a piece.
 #[derive(Drop)]
 pub struct SystemOut<R: Print + Drop> {
     rt: R,
+    failed: u64,
 }
 
 impl<R: Print + Drop> SystemOut<R> {
     /// The output of this runtime.
     pub fn new(rt: R) -> SystemOut<R> {
-        SystemOut { rt }
+        SystemOut { rt, failed: 0 }
     }
 }
 
 impl<R: Print + Drop> Out for SystemOut<R> {
     ghost written = { λ _. None };
 
+    ghost faults = { λ out. out.failed };
+
     fn write(&mut self, piece: &[u8]) -> io::Result<usize>
-        ensures { IfOk result (λ n. n ≤ length piece.now) }
+        ensures count { IfOk result (λ n. n ≤ length piece.now) }
+        ensures failed { IsErr result → HasRisen self.old.failed self.new.failed }
+        ensures none { IfOk result (λ n. n ≡ 0
+            → (length piece.now ≡ 0) ⊎ HasRisen self.old.failed self.new.failed) }
+        ensures rising { self.old.failed ≤ self.new.failed }
     {
-        'writing: for _ in 0..u64::MAX {
-            match self.rt.write_some(piece) {
-                Ok(count) => return Ok(count),
-                Err(error) if is_interrupted(&error) => {}
-                Err(error) => return Err(error),
+        let count = match write_once(&self.rt, piece) {
+            Ok(count) => count,
+            Err(error) => {
+                self.failed = self.failed.saturating_add(1);
+                return Err(error);
             }
+        };
+        if count == 0 && !piece.is_empty() {
+            self.failed = self.failed.saturating_add(1);
         }
-        Err(Error::from(ErrorKind::Interrupted))
+        Ok(count)
     }
+}
+
+/// Writes first bytes of a piece, and answers how many.
+fn write_once<R: Print>(rt: &R, piece: &[u8]) -> io::Result<usize>
+    ensures { IfOk result (λ n. n ≤ length piece.now) }
+{
+    'writing: for _ in 0..u64::MAX {
+        match rt.write_some(piece) {
+            Ok(count) => return Ok(count),
+            Err(error) if is_interrupted(&error) => {}
+            Err(error) => return Err(error),
+        }
+    }
+    Err(Error::from(ErrorKind::Interrupted))
 }
