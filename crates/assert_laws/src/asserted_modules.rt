@@ -55,7 +55,7 @@ pub fn asserted_is_prepared()
     ensures { AssertedIsPrepared }
 {}
 
-/// Each function reads the global of the state as often as without asserts, and once more for each call without a number.
+/// Each function reads the global of the state within its bound without asserts, and once more for each call without a number.
 pub fn asserted_reads_few()
     ensures { AssertedReadsFew }
 {}

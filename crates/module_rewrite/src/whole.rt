@@ -18,7 +18,7 @@ use func_rewrite::Pass;
 use local_spill::{RuntimeFault, add_runtime, ids_behind, reserved};
 use std::alloc::Global;
 use wa_types::{Module, copy_around};
-use wasm_validate::{Valid, ValidateFault, validate};
+use wasm_validate::Valid;
 
 /// A module as it is rewritten, the frames of the functions that may pause, in index order, and which these are, by one answer
 /// a function, imports first.
@@ -37,7 +37,7 @@ pub struct Instrumented {
     pub listed: Vec<bool>,
 }
 
-/// The module with the runtime's parts behind, which is valid. A valid module is made by `validate` alone.
+/// The module with the runtime's parts behind, which is known to be valid.
 fn with_parts(alloc: Global, module: Module) -> Result<Valid, RewriteFault>
     requires types { length «module».types.items < 2 ^ 31 }
     requires imports { length «module».imports.items < 2 ^ 31 }
@@ -50,15 +50,10 @@ fn with_parts(alloc: Global, module: Module) -> Result<Valid, RewriteFault>
     ensures done { IfOk result (λ v. module_of v ≡ with_runtime (module_of «module»)) }
     ensures fault { IfErr result (λ e. e ≡ Memory) }
 {
-    let with = match add_runtime(alloc, module) {
-        Ok(with) => with,
-        Err(RuntimeFault::Memory) => return Err(RewriteFault::Memory),
+    match add_runtime(alloc, module) {
+        Ok(with) => Ok(Valid::proved(alloc, with.module)?),
+        Err(RuntimeFault::Memory) => Err(RewriteFault::Memory),
         Err(RuntimeFault::Reserved(_)) => unreachable!(),
-    };
-    match validate(alloc, with.module) {
-        Ok(valid) => Ok(valid),
-        Err(ValidateFault::Memory) => Err(RewriteFault::Memory),
-        Err(ValidateFault::Invalid { .. }) => unreachable!(),
     }
 }
 

@@ -17,7 +17,8 @@ use wa_types::Value;
 
 const PAGE_SIZE: u64 = 65_536;
 
-/// The snapshot that the bytes spell; Refused exactly where they spell none. Takes about as much memory as there are bytes.
+/// The snapshot that the bytes spell; Refused exactly where they spell none. A memory takes as many bytes as it has here; a global, and a
+/// program that isn't paused, take more than their bytes: at most some hundred for one.
 pub fn read(alloc: Global, bytes: &[u8]) -> Result<Snapshot, SnapFault>
     ensures ok { IfOk result (λ s. SnapText bytes.now (snapshot_of s)) }
     ensures refused { result ≡ Err Refused → (s : PlainSnapshot) → SnapText bytes.now s → ⊥ }
