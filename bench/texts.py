@@ -40,7 +40,7 @@ def said_of(rt, crate, crates):
             found.append(out.read().strip().split("\n")[0])
     good, bad = rt.edits_of(crate)
     found += [f"{it} is no edit" for it in bad]
-    for it in good:
+    for it in [*good, *sorted(glob.glob(f"{crate.folder}/../../bench/edits/{crate.name}/*.edit"))]:
         with open(it, encoding="utf-8") as file:
             texts, why = rt.edited(file.read(), crate.folder)
         if texts is None:

@@ -43,6 +43,8 @@ mod saving;
 #[cfg(test)]
 mod showing;
 #[cfg(test)]
+mod snapshots;
+#[cfg(test)]
 mod texts;
 #[cfg(test)]
 mod trees;

@@ -6,10 +6,10 @@ use Rattle.clap.specs.Faults.{repeat_fault, settle_fault, step_fault, turn_fault
 use Rattle.clap.specs.declared.builder.value_parser.Reading.TheVariants.{AsWritten}
 use Rattle.clap.specs.declared.parser.matches.ValueSource.TheVariants.{CommandLine}
 use Rattle.clap.specs.declared.error.kind.ErrorKind.TheVariants as kind
-use Rattle.script_model.specs.Command.{Said, Place, anywhere, behind_imports, behind_save, behind_options, word_of, unknown_word, say_imports, say_save, say_ignore_imports, say_ignore_indirect}
+use Rattle.script_model.specs.Command.{Said, Place, anywhere, behind_imports, behind_save, behind_options, word_of, unknown_word}
 use Rattle.command_words.specs.Grammar.{Kind, transform_words, host_words, run_words, gen_words, rules, shape}
 use Rattle.command_words.proofs.Views.{View, is_end, is_list, is_save, is_imports, is_indirect, is_list_with, is_save_with, is_named, is_long, is_short, IsName, IsUnknown}
-use Rattle.command_words.proofs.Telling.{tell_at, tell_file, tell_value, tell_word, say_value, Valued, list_option, save_option}
+use Rattle.command_words.proofs.Telling.{tell_at, tell_file, tell_value, tell_word, say_value, say_imports, say_save, say_ignore_imports, say_ignore_indirect, Valued, list_option, save_option}
 use Rattle.command_words.proofs.Rows.{Slot, list_slot, save_slot, imports_slot, indirect_slot, input_slot, output_slot, same_slot, said_at, value_slot, option_id, flag_text, Tells, taken, repeated}
 use Rattle.command_words.proofs.Steps.{After, HasFlags, Ordered, Owes, Settles, Stands, after_as, at_walk, first_passes, held, name_is, name_met, position, refused, shows, some_kind, trails, unknown_fails, waits, walk_of, whole}
 use Rattle.command_words.proofs.Placing.{place_word, stands_at}

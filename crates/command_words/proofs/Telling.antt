@@ -3,9 +3,22 @@
 use Rattle.std.proofs.Common.{◌≡◌, ◌∙◌, ℕ, List, [], ◌∷◌, Option, Some, None, IfSome, option_map, Bool, true, false, not, ◌&&◌, refl, sym, ap, subst, codes, bytes_eq, if◌then◌else◌, is_some, true≢false, ◌||◌}
 use Rattle.std.proofs.lemmas.Slice.Eq.{bytes_eq-Decides}
 use Rattle.wa_types.specs.Pausing.{Choice}
-use Rattle.script_model.specs.Command.{Said, Place, anywhere, behind_imports, behind_save, behind_options, Word, imports_word, save_word, ignore_imports_word, ignore_indirect_word, end_word, unknown_word, imports_with, save_with, name_word, word_of, is_hyphened, said, say_at, say_word, say_imports, say_save, say_ignore_imports, say_ignore_indirect, say_file, transform_said, transform_at, with_files, choice_said, policy_said}
+use Rattle.script_model.specs.Command.{Said, Place, anywhere, behind_imports, behind_save, behind_options, Word, imports_word, save_word, ignore_imports_word, ignore_indirect_word, end_word, unknown_word, imports_with, save_with, name_word, word_of, is_hyphened, said, say_at, say_word, once, say_file, transform_said, transform_at, with_files, choice_said, policy_said}
 use Rattle.script_model.specs.Spelled.{Spelled, rewrites, hosts, runs, files_alone, is_plain, one_file, number_and_file}
 use Rattle.command_words.specs.Grammar.{Kind, transform_words, host_words, run_words, gen_words}
+
+-- what the options and flags say, by whether they were given before
+abbrev pub say_imports : Option (List ℕ) → List ℕ → Said → Option Said
+say_imports earlier text s = once (is_some earlier) (record s { place = anywhere; imports = Some text })
+
+abbrev pub say_save : Option (List ℕ) → List ℕ → Said → Option Said
+say_save earlier text s = once (is_some earlier) (record s { place = anywhere; save = Some text })
+
+abbrev pub say_ignore_imports : Bool → Said → Option Said
+say_ignore_imports before s = once before (record s { ignore_imports = true })
+
+abbrev pub say_ignore_indirect : Bool → Said → Option Said
+say_ignore_indirect before s = once before (record s { ignore_indirect = true })
 
 abbrev pub one_at_most : Option (List ℕ) → List ℕ → Said → Option Said
 one_at_most None name s = Some (record s { input = Some name })

@@ -1,5 +1,5 @@
 -- The commands that words spell.
-use Rattle.std.specs.Prelude.{ℕ, List, [], ◌∷◌, Option, Some, None, Bool, true, false, not, ◌||◌, ◌==◌, if◌then◌else◌, Result, Ok, Err, codes}
+use Rattle.std.specs.Prelude.{ℕ, List, [], ◌∷◌, Option, Some, None, is_some, Bool, true, false, not, ◌||◌, ◌==◌, if◌then◌else◌, Result, Ok, Err, codes}
 use Rattle.std.specs.Str.{bytes_eq}
 use Rattle.wa_types.specs.Pausing.{Choice, every, nobody, of_list, Entry, ListError, list_of, Policy, save_all, save_live, Settings}
 
@@ -61,25 +61,10 @@ word_of word =
     else (if bytes_eq word (codes "--") then end_word
     else with_value (behind (codes "--imports=") word) (behind (codes "--save=") word) word))))
 
--- an option and a flag are given once
-abbrev pub say_imports : Option (List ℕ) → List ℕ → Said → Option Said
-say_imports (Some earlier) text s = None
-say_imports None text s = Some (record s { place = anywhere; imports = Some text })
-
--- a policy is given
-abbrev pub say_save : Option (List ℕ) → List ℕ → Said → Option Said
-say_save (Some earlier) text s = None
-say_save None text s = Some (record s { place = anywhere; save = Some text })
-
--- the flag `--ignore-imports` is given
-abbrev pub say_ignore_imports : Bool → Said → Option Said
-say_ignore_imports true s = None
-say_ignore_imports false s = Some (record s { ignore_imports = true })
-
--- the flag `--ignore-indirect` is given
-abbrev pub say_ignore_indirect : Bool → Said → Option Said
-say_ignore_indirect true s = None
-say_ignore_indirect false s = Some (record s { ignore_indirect = true })
+-- an option or a flag that was given before isn't given again
+abbrev pub once : (before : Bool) → Said → Option Said
+once true s = None
+once false s = Some s
 
 -- the files are two, IN before OUT
 abbrev pub say_file : Option (List ℕ) → Option (List ℕ) → List ℕ → Said → Option Said
@@ -90,11 +75,11 @@ say_file (Some input) (Some output) name s = None
 -- what is said with a word of this kind
 abbrev pub say_word : Word → Said → Option Said
 say_word imports_word s = Some (record s { place = behind_imports })
-say_word (imports_with text) s = say_imports s.imports text s
+say_word (imports_with text) s = once (is_some s.imports) (record s { place = anywhere; imports = Some text })
 say_word save_word s = Some (record s { place = behind_save })
-say_word (save_with text) s = say_save s.save text s
-say_word ignore_imports_word s = say_ignore_imports s.ignore_imports s
-say_word ignore_indirect_word s = say_ignore_indirect s.ignore_indirect s
+say_word (save_with text) s = once (is_some s.save) (record s { place = anywhere; save = Some text })
+say_word ignore_imports_word s = once s.ignore_imports (record s { ignore_imports = true })
+say_word ignore_indirect_word s = once s.ignore_indirect (record s { ignore_indirect = true })
 say_word end_word s = Some (record s { place = behind_options })
 say_word unknown_word s = None
 say_word (name_word name) s = say_file s.input s.output name s
@@ -102,8 +87,8 @@ say_word (name_word name) s = say_file s.input s.output name s
 -- a value in a word of its own doesn't begin with `-`
 abbrev pub say_at : Place → List ℕ → Said → Option Said
 say_at anywhere word s = say_word (word_of word) s
-say_at behind_imports word s = if is_hyphened word then None else say_imports s.imports word s
-say_at behind_save word s = if is_hyphened word then None else say_save s.save word s
+say_at behind_imports word s = if is_hyphened word then None else say_word (imports_with word) s
+say_at behind_save word s = if is_hyphened word then None else say_word (save_with word) s
 say_at behind_options word s = say_file s.input s.output word s
 
 -- what is said with one word more

@@ -1,0 +1,4 @@
+pub mod Nothing
+pub mod Splits
+pub mod Words
+pub mod Written

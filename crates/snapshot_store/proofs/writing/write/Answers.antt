@@ -1,0 +1,16 @@
+use Rattle.std.proofs.Common.{◌∙◌, ap, arith, get_or, length}
+use Rattle.snapshot_store.specs.Views.{record_of}
+use Rattle.snapshot_store.specs.Parts.{CountsFit}
+use Rattle.snapshot_store.proofs.Written.{each_fits, snapshot_put}
+use Rattle.snapshot_store.proofs.writing.write.Goals as goal
+
+pub put_record-requires : goal.put_record-requires
+put_record-requires c =
+    each_fits CountsFit record_of c.args.snap.now.programs.items c.loop-program.program-index c.program-item.result c.requires.each
+    (omega (arith, c.loop-program-test.true, ap length c.deref-program-items.ensures.value))
+    (c.program-item.is ∙ ap (λ xs. get_or xs c.loop-program.program-index c.program-item.result) c.deref-program-items.ensures.value)
+
+pub returns : goal.returns
+returns c =
+    snapshot_put record_of c.args.snap.now.events c.args.snap.now.programs.items c.loop-program.program-index c.loop-program.out.items
+    (omega (arith, c.loop-program-test.false, ap length c.deref-program-items.ensures.value)) c.loop-program.invariant
