@@ -2,7 +2,7 @@
 
 ghost use Rattle.std.specs.Prelude.{◌≡◌, ◌≢◌, ◌⊎◌, ◌≤◌, ◌↔◌, ◌++◌, length, take, Some, None, IfOk, OnOk, OnErr, IfErr, IsErr, IsErrAnd};
 ghost use Rattle.std.specs.IoError.{error_kind};
-ghost use Rattle.vault_port.specs.Counts.{HasRisen};
+ghost use Rattle.vault_port.specs.Counts.{one_more};
 ghost use Rattle.vault_port.specs.Files.{bytes_of, IsFetched, ChangesOnly, ChangesAtMost};
 
 use crate::{SureSink, SureVault};
@@ -18,11 +18,12 @@ pub struct SureDisk {
 }
 
 impl SureDisk {
-    ghost use Rattle.memory_vaults.specs.InMemory.{disk_files, sure_files};
+    ghost use Rattle.memory_vaults.specs.InMemory.{disk_files, failed_changes, sure_files};
 
     /// A disk with the files of this vault.
     pub fn new(vault: SureVault) -> SureDisk
-        ensures { disk_files result ≡ sure_files vault }
+        ensures files { disk_files result ≡ sure_files vault }
+        ensures changes { failed_changes result ≡ 0 }
     {
         SureDisk { vault, failed: 0 }
     }
@@ -45,7 +46,6 @@ impl Disk for SureDisk {
         ensures absent { IsErrAnd result (λ e. error_kind e ≡ ErrorKind.NotFound)
             ↔ (disk_files self.old name.now ≡ None) }
         ensures sure { IfErr result (λ e. error_kind e ≡ ErrorKind.NotFound) }
-        ensures failed { IsErrAnd result (λ e. error_kind e ≢ ErrorKind.NotFound) → HasRisen 0 0 }
         ensures writes { failed_changes self.new ≡ failed_changes self.old }
     {
         match self.vault.fetch(name, from, buf) {
@@ -63,23 +63,19 @@ impl Disk for SureDisk {
             (take at (bytes_of (disk_files self.old) name.now))
             (disk_files self.old) (disk_files self.new)) }
         ensures sure { IfErr result (λ e. error_kind e ≡ ErrorKind.OutOfMemory) }
-        ensures failed { IsErr result → HasRisen (failed_changes self.old) (failed_changes self.new) }
+        ensures failed { IsErr result → failed_changes self.new ≡ one_more (failed_changes self.old) }
+        ensures stays { OnOk result (failed_changes self.new ≡ failed_changes self.old) }
         ensures rising { failed_changes self.old ≤ failed_changes self.new }
     {
         match self.vault.save(name, at, &[]) {
             Ok(_) => Ok(()),
-            Err(_) => {
-                self.failed = self.failed.saturating_add(1);
-                Err(Error::from(ErrorKind::OutOfMemory))
-            }
+            Err(_) => Err(no_memory(&mut self.failed)),
         }
     }
 
     fn write(&mut self, name: &str, from: u64, piece: &[u8]) -> io::Result<usize>
         requires { length (bytes_of (disk_files self.old) name.now) ≡ from }
         ensures all { IfOk result (λ n. n ≡ length piece.now) }
-        ensures none { IfOk result (λ n. n ≡ 0
-            → (length piece.now ≡ 0) ⊎ HasRisen (failed_changes self.old) (failed_changes self.new)) }
         ensures written { IfOk result (λ n. ChangesOnly name.now
             (bytes_of (disk_files self.old) name.now ++ take n piece.now)
             (disk_files self.old) (disk_files self.new)) }
@@ -87,15 +83,13 @@ impl Disk for SureDisk {
             (bytes_of (disk_files self.old) name.now)
             (disk_files self.old) (disk_files self.new)) }
         ensures sure { IfErr result (λ e. error_kind e ≡ ErrorKind.OutOfMemory) }
-        ensures failed { IsErr result → HasRisen (failed_changes self.old) (failed_changes self.new) }
+        ensures failed { IsErr result → failed_changes self.new ≡ one_more (failed_changes self.old) }
+        ensures stays { OnOk result (failed_changes self.new ≡ failed_changes self.old) }
         ensures rising { failed_changes self.old ≤ failed_changes self.new }
     {
         match self.vault.save(name, from, piece) {
             Ok(count) => Ok(count),
-            Err(_) => {
-                self.failed = self.failed.saturating_add(1);
-                Err(Error::from(ErrorKind::OutOfMemory))
-            }
+            Err(_) => Err(no_memory(&mut self.failed)),
         }
     }
 }
@@ -108,11 +102,12 @@ pub struct SureOut {
 }
 
 impl SureOut {
-    ghost use Rattle.memory_vaults.specs.InMemory.{out_bytes, sure_bytes};
+    ghost use Rattle.memory_vaults.specs.InMemory.{failed_writes, out_bytes, sure_bytes};
 
     /// An output to this sink.
     pub fn new(sink: SureSink) -> SureOut
-        ensures { out_bytes result ≡ sure_bytes sink }
+        ensures bytes { out_bytes result ≡ sure_bytes sink }
+        ensures writes { failed_writes result ≡ 0 }
     {
         SureOut { sink, failed: 0 }
     }
@@ -137,17 +132,23 @@ impl Out for SureOut {
         ensures written { IfOk result (λ n. out_bytes self.new ≡ out_bytes self.old ++ take n piece.now) }
         ensures kept { OnErr result (out_bytes self.new ≡ out_bytes self.old) }
         ensures sure { IfErr result (λ e. error_kind e ≡ ErrorKind.OutOfMemory) }
-        ensures failed { IsErr result → HasRisen (failed_writes self.old) (failed_writes self.new) }
-        ensures none { IfOk result (λ n. n ≡ 0
-            → (length piece.now ≡ 0) ⊎ HasRisen (failed_writes self.old) (failed_writes self.new)) }
+        ensures failed { IsErr result → failed_writes self.new ≡ one_more (failed_writes self.old) }
+        ensures stays { OnOk result (failed_writes self.new ≡ failed_writes self.old) }
         ensures rising { failed_writes self.old ≤ failed_writes self.new }
     {
         match self.sink.put(piece) {
             Ok(count) => Ok(count),
-            Err(_) => {
-                self.failed = self.failed.saturating_add(1);
-                Err(Error::from(ErrorKind::OutOfMemory))
-            }
+            Err(_) => Err(no_memory(&mut self.failed)),
         }
     }
+}
+
+/// Counts a call that failed, and gives its error: there was no memory.
+fn no_memory(failed: &mut u64) -> Error
+    ensures kind { error_kind result ≡ ErrorKind.OutOfMemory }
+    ensures one { failed.new ≡ one_more failed.old }
+    ensures rising { failed.old ≤ failed.new }
+{
+    *failed = failed.saturating_add(1);
+    Error::from(ErrorKind::OutOfMemory)
 }

@@ -3,7 +3,7 @@
 ghost use Rattle.std.specs.Prelude.{◌≡◌, ◌≢◌, ◌⊎◌, ◌≤◌, ◌↔◌, ◌++◌, ℕ, length, take, Option, None, IfOk, OnOk, OnErr, IsErr, IsErrAnd};
 ghost use Rattle.std.specs.IoError.{error_kind};
 ghost use Rattle.std.specs.declared.io.ErrorKind.TheVariants.{NotFound};
-ghost use Rattle.vault_port.specs.Counts.{HasRisen};
+ghost use Rattle.vault_port.specs.Counts.{one_more};
 ghost use Rattle.vault_port.specs.Told.{WhereTold, Becomes};
 ghost use Rattle.vault_port.specs.Files.{Files, bytes_of, IsFetched, ChangesOnly, ChangesAtMost};
 
@@ -32,9 +32,12 @@ pub trait Disk {
             IsErrAnd result (λ e. error_kind e ≡ NotFound) ↔ (all name.now ≡ None)) }
 
         ensures failed { IsErrAnd result (λ e. error_kind e ≢ NotFound)
-            → HasRisen (read_faults self.old) (read_faults self.new) }
+            → read_faults self.new ≡ one_more (read_faults self.old) }
         ensures failed_untold { IsErr result → files self.old ≡ None
-            → HasRisen (read_faults self.old) (read_faults self.new) }
+            → read_faults self.new ≡ one_more (read_faults self.old) }
+        ensures stays { OnOk result (read_faults self.new ≡ read_faults self.old) }
+        ensures stays_absent { WhereTold (files self.old) (λ _.
+            IsErrAnd result (λ e. error_kind e ≡ NotFound) → read_faults self.new ≡ read_faults self.old) }
         ensures rising { read_faults self.old ≤ read_faults self.new }
         ensures writes { write_faults self.new ≡ write_faults self.old };
 
@@ -47,7 +50,8 @@ pub trait Disk {
         ensures spared { OnErr result (Becomes (files self.old) (files self.new) (λ old new.
             ChangesAtMost name.now (take at (bytes_of old name.now)) old new)) }
 
-        ensures failed { IsErr result → HasRisen (write_faults self.old) (write_faults self.new) }
+        ensures failed { IsErr result → write_faults self.new ≡ one_more (write_faults self.old) }
+        ensures stays { OnOk result (write_faults self.new ≡ write_faults self.old) }
         ensures rising { write_faults self.old ≤ write_faults self.new }
         ensures reads { read_faults self.new ≡ read_faults self.old };
 
@@ -61,9 +65,11 @@ pub trait Disk {
         ensures spared { OnErr result (Becomes (files self.old) (files self.new) (λ old new.
             ChangesAtMost name.now (bytes_of old name.now) old new)) }
 
-        ensures failed { IsErr result → HasRisen (write_faults self.old) (write_faults self.new) }
+        ensures failed { IsErr result → write_faults self.new ≡ one_more (write_faults self.old) }
         ensures none { IfOk result (λ n. n ≡ 0
-            → (length piece.now ≡ 0) ⊎ HasRisen (write_faults self.old) (write_faults self.new)) }
+            → (length piece.now ≡ 0) ⊎ (write_faults self.new ≡ one_more (write_faults self.old))) }
+        ensures stays { IfOk result (λ n. (n ≢ 0) ⊎ (length piece.now ≡ 0)
+            → write_faults self.new ≡ write_faults self.old) }
         ensures rising { write_faults self.old ≤ write_faults self.new }
         ensures reads { read_faults self.new ≡ read_faults self.old };
 }

@@ -1,12 +1,13 @@
 //! `FileVault`: files by name, over a disk.
 
-ghost use Rattle.std.specs.Prelude.{◌≡◌, ◌≢◌, ◌≤◌, ◌↔◌, ◌++◌, None, IfOk, OnErr, IsErr, IsErrOf, length, take};
+ghost use Rattle.std.specs.Prelude.{◌≡◌, ◌≢◌, ◌≤◌, ◌↔◌, ◌++◌, None, IfOk, OnOk, OnErr, IsErr, IsErrOf, length, take};
 ghost use Rattle.std.specs.IoError.{error_kind};
-ghost use Rattle.vault_port.specs.Counts.{HasRisen};
+ghost use Rattle.vault_port.specs.Counts.{HasRisen, one_more};
 ghost use Rattle.vault_port.specs.Files.{bytes_of, IsFetched, ChangesOnly, ChangesAtMost};
 ghost use Rattle.vault_port.specs.Told.{WhereTold, Becomes};
 
 use crate::disk::Disk;
+use crate::faults::took_nothing;
 use crate::system_disk::SystemDisk;
 use std::fs::Files;
 use std::io::{self, Error, ErrorKind};
@@ -21,8 +22,13 @@ pub struct FileVault<D: Disk + Drop> {
 }
 
 impl<R: Files + Drop> FileVault<SystemDisk<R>> {
+    ghost use Rattle.system_vaults.specs.Kept.{disk_of};
+
     /// The files of the system that this runtime reaches, by path.
-    pub fn new(rt: R) -> FileVault<SystemDisk<R>> {
+    pub fn new(rt: R) -> FileVault<SystemDisk<R>>
+        ensures fetches { ⟦<SystemDisk<R> as Disk>⟧.read_faults (disk_of result) ≡ 0 }
+        ensures saves { ⟦<SystemDisk<R> as Disk>⟧.write_faults (disk_of result) ≡ 0 }
+    {
         FileVault::over(SystemDisk::new(rt))
     }
 }
@@ -32,7 +38,9 @@ impl<D: Disk + Drop> FileVault<D> {
 
     /// The files of this disk.
     pub fn over(disk: D) -> FileVault<D>
-        ensures { disk_of result ≡ disk }
+        ensures disk { disk_of result ≡ disk }
+        ensures fetches { D.read_faults (disk_of result) ≡ D.read_faults disk }
+        ensures saves { D.write_faults (disk_of result) ≡ D.write_faults disk }
     {
         FileVault { disk, cause: None }
     }
@@ -65,6 +73,13 @@ impl<D: Disk + Drop> Vault for FileVault<D> {
 
         ensures failed { IsErrOf result VaultFail.Failed
             → HasRisen (D.read_faults (disk_of self.old)) (D.read_faults (disk_of self.new)) }
+        ensures rises { IsErrOf result VaultFail.Failed
+            → D.read_faults (disk_of self.new) ≡ one_more (D.read_faults (disk_of self.old)) }
+        ensures rises_untold { IsErr result → D.files (disk_of self.old) ≡ None
+            → D.read_faults (disk_of self.new) ≡ one_more (D.read_faults (disk_of self.old)) }
+        ensures stays { OnOk result (D.read_faults (disk_of self.new) ≡ D.read_faults (disk_of self.old)) }
+        ensures stays_absent { WhereTold (D.files (disk_of self.old)) (λ _. IsErrOf result VaultFail.Absent
+            → D.read_faults (disk_of self.new) ≡ D.read_faults (disk_of self.old)) }
         ensures faults { D.read_faults (disk_of self.old) ≤ D.read_faults (disk_of self.new) }
         ensures saves { D.write_faults (disk_of self.new) ≡ D.write_faults (disk_of self.old) }
     {
@@ -91,6 +106,9 @@ impl<D: Disk + Drop> Vault for FileVault<D> {
 
         ensures failed { IsErrOf result VaultFail.Failed
             → HasRisen (D.write_faults (disk_of self.old)) (D.write_faults (disk_of self.new)) }
+        ensures rises { OnErr result
+            (D.write_faults (disk_of self.new) ≡ one_more (D.write_faults (disk_of self.old))) }
+        ensures stays { OnOk result (D.write_faults (disk_of self.new) ≡ D.write_faults (disk_of self.old)) }
         ensures faults { D.write_faults (disk_of self.old) ≤ D.write_faults (disk_of self.new) }
         ensures fetches { D.read_faults (disk_of self.new) ≡ D.read_faults (disk_of self.old) }
     {
@@ -127,13 +145,14 @@ fn cut_and_write<D: Disk>(disk: &mut D, name: &str, from: u64, piece: &[u8]) -> 
     ensures cut { OnErr result (Becomes (D.files disk.old) (D.files disk.new) (λ old new.
         ChangesAtMost name.now (take from (bytes_of old name.now)) old new)) }
 
-    ensures failed { IsErr result → HasRisen (D.write_faults disk.old) (D.write_faults disk.new) }
+    ensures rises { OnErr result (D.write_faults disk.new ≡ one_more (D.write_faults disk.old)) }
+    ensures stays { OnOk result (D.write_faults disk.new ≡ D.write_faults disk.old) }
     ensures faults { D.write_faults disk.old ≤ D.write_faults disk.new }
     ensures reads { D.read_faults disk.new ≡ D.read_faults disk.old }
 {
     disk.cut(name, from)?;
     let written = disk.write(name, from, piece)?;
-    if written == 0 && !piece.is_empty() {
+    if took_nothing(written, piece) {
         return Err(Error::from(ErrorKind::WriteZero));
     }
     Ok(written)

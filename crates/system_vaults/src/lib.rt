@@ -11,6 +11,7 @@
 #![tactic(auto)]
 
 mod disk;
+mod faults;
 mod file_vault;
 mod opened_file;
 mod out;

@@ -1,7 +1,7 @@
 //! The trait `Out`: what a system does with output.
 
-ghost use Rattle.std.specs.Prelude.{◌≡◌, ◌⊎◌, ◌≤◌, ℕ, List, length, take, Option, IfOk, OnErr, IsErr};
-ghost use Rattle.vault_port.specs.Counts.{HasRisen};
+ghost use Rattle.std.specs.Prelude.{◌≡◌, ◌≢◌, ◌⊎◌, ◌≤◌, ℕ, List, length, take, Option, IfOk, OnErr, IsErr};
+ghost use Rattle.vault_port.specs.Counts.{one_more};
 ghost use Rattle.vault_port.specs.Told.{Becomes};
 ghost use Rattle.vault_port.specs.Taken.{Appends};
 
@@ -23,8 +23,10 @@ pub trait Out {
             (Appends (take n piece.now))) }
         ensures kept { OnErr result (written self.new ≡ written self.old) }
 
-        ensures failed { IsErr result → HasRisen (faults self.old) (faults self.new) }
+        ensures failed { IsErr result → faults self.new ≡ one_more (faults self.old) }
         ensures none { IfOk result (λ n. n ≡ 0
-            → (length piece.now ≡ 0) ⊎ HasRisen (faults self.old) (faults self.new)) }
+            → (length piece.now ≡ 0) ⊎ (faults self.new ≡ one_more (faults self.old))) }
+        ensures stays { IfOk result (λ n. (n ≢ 0) ⊎ (length piece.now ≡ 0)
+            → faults self.new ≡ faults self.old) }
         ensures rising { faults self.old ≤ faults self.new };
 }

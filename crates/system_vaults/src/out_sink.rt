@@ -1,10 +1,11 @@
 //! `OutSink`: printed bytes, over an output.
 
-ghost use Rattle.std.specs.Prelude.{◌≡◌, ◌≢◌, ◌≤◌, IfOk, OnErr, IsErr, IsErrOf, length, take};
-ghost use Rattle.vault_port.specs.Counts.{HasRisen};
+ghost use Rattle.std.specs.Prelude.{◌≡◌, ◌≢◌, ◌≤◌, IfOk, OnOk, OnErr, IsErrOf, length, take};
+ghost use Rattle.vault_port.specs.Counts.{HasRisen, one_more};
 ghost use Rattle.vault_port.specs.Told.{Becomes};
 ghost use Rattle.vault_port.specs.Taken.{Appends};
 
+use crate::faults::took_nothing;
 use crate::out::Out;
 use crate::system_out::SystemOut;
 use std::io::{self, Error, ErrorKind};
@@ -18,8 +19,12 @@ pub struct OutSink<O: Out + Drop> {
 }
 
 impl<R: Print + Drop> OutSink<SystemOut<R>> {
+    ghost use Rattle.system_vaults.specs.Kept.{out_of};
+
     /// The standard output of this runtime.
-    pub fn new(rt: R) -> OutSink<SystemOut<R>> {
+    pub fn new(rt: R) -> OutSink<SystemOut<R>>
+        ensures { ⟦<SystemOut<R> as Out>⟧.faults (out_of result) ≡ 0 }
+    {
         OutSink::over(SystemOut::new(rt))
     }
 }
@@ -29,7 +34,8 @@ impl<O: Out + Drop> OutSink<O> {
 
     /// This output.
     pub fn over(out: O) -> OutSink<O>
-        ensures { out_of result ≡ out }
+        ensures out { out_of result ≡ out }
+        ensures faults { O.faults (out_of result) ≡ O.faults out }
     {
         OutSink { out, cause: None }
     }
@@ -57,6 +63,8 @@ impl<O: Out + Drop> Sink for OutSink<O> {
 
         ensures failed { IsErrOf result SinkFail.Failed
             → HasRisen (O.faults (out_of self.old)) (O.faults (out_of self.new)) }
+        ensures rises { OnErr result (O.faults (out_of self.new) ≡ one_more (O.faults (out_of self.old))) }
+        ensures stays { OnOk result (O.faults (out_of self.new) ≡ O.faults (out_of self.old)) }
         ensures rising { O.faults (out_of self.old) ≤ O.faults (out_of self.new) }
     {
         match write_some(&mut self.out, piece) {
@@ -76,11 +84,12 @@ fn write_some<O: Out>(out: &mut O, piece: &[u8]) -> io::Result<usize>
     ensures written { IfOk result (λ n. Becomes (O.written out.old) (O.written out.new)
         (Appends (take n piece.now))) }
     ensures kept { OnErr result (O.written out.new ≡ O.written out.old) }
-    ensures failed { IsErr result → HasRisen (O.faults out.old) (O.faults out.new) }
+    ensures rises { OnErr result (O.faults out.new ≡ one_more (O.faults out.old)) }
+    ensures stays { OnOk result (O.faults out.new ≡ O.faults out.old) }
     ensures faults { O.faults out.old ≤ O.faults out.new }
 {
     let written = out.write(piece)?;
-    if written == 0 && !piece.is_empty() {
+    if took_nothing(written, piece) {
         return Err(Error::from(ErrorKind::WriteZero));
     }
     Ok(written)

@@ -1,8 +1,9 @@
 //! `SystemOut`: standard output.
 
-ghost use Rattle.std.specs.Prelude.{◌≡◌, ◌≤◌, ◌⊎◌, None, IfOk, IsErr, length};
-ghost use Rattle.vault_port.specs.Counts.{HasRisen};
+ghost use Rattle.std.specs.Prelude.{◌≡◌, ◌≢◌, ◌≤◌, ◌⊎◌, None, IfOk, IsErr, length};
+ghost use Rattle.vault_port.specs.Counts.{one_more};
 
+use crate::faults::counted_write;
 use crate::out::Out;
 use crate::retrying::is_interrupted;
 use std::io::{self, Error, ErrorKind};
@@ -17,7 +18,9 @@ pub struct SystemOut<R: Print + Drop> {
 
 impl<R: Print + Drop> SystemOut<R> {
     /// The output of this runtime.
-    pub fn new(rt: R) -> SystemOut<R> {
+    pub fn new(rt: R) -> SystemOut<R>
+        ensures { ⟦<SystemOut<R> as Out>⟧.faults result ≡ 0 }
+    {
         SystemOut { rt, failed: 0 }
     }
 }
@@ -29,22 +32,14 @@ impl<R: Print + Drop> Out for SystemOut<R> {
 
     fn write(&mut self, piece: &[u8]) -> io::Result<usize>
         ensures count { IfOk result (λ n. n ≤ length piece.now) }
-        ensures failed { IsErr result → HasRisen self.old.failed self.new.failed }
+        ensures failed { IsErr result → self.new.failed ≡ one_more self.old.failed }
         ensures none { IfOk result (λ n. n ≡ 0
-            → (length piece.now ≡ 0) ⊎ HasRisen self.old.failed self.new.failed) }
+            → (length piece.now ≡ 0) ⊎ (self.new.failed ≡ one_more self.old.failed)) }
+        ensures stays { IfOk result (λ n. (n ≢ 0) ⊎ (length piece.now ≡ 0)
+            → self.new.failed ≡ self.old.failed) }
         ensures rising { self.old.failed ≤ self.new.failed }
     {
-        let count = match write_once(&self.rt, piece) {
-            Ok(count) => count,
-            Err(error) => {
-                self.failed = self.failed.saturating_add(1);
-                return Err(error);
-            }
-        };
-        if count == 0 && !piece.is_empty() {
-            self.failed = self.failed.saturating_add(1);
-        }
-        Ok(count)
+        counted_write(write_once(&self.rt, piece), piece, &mut self.failed)
     }
 }
 
