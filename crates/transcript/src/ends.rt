@@ -3,9 +3,9 @@
 ghost use Rattle.std.specs.Prelude.{◌≡◌, ◌++◌, [], OnOk, codes};
 ghost use Rattle.script_model.specs.Transcript.{area_text, end_text, name_at, trap_text};
 ghost use Rattle.wa_model.specs.declared.events.End.TheVariants.{HostLimit, OtherImport};
-ghost use Rattle.transcript.specs.Printing.{EndFits, IsImport, of_imports};
+ghost use Rattle.transcript.specs.Printing.{of_imports};
 
-use crate::parts::{put, put_name, put_value_or_none, put_with_number};
+use crate::parts::{name_of, put, put_name, put_value_or_none, put_with_number};
 use std::alloc::{AllocError, Global};
 use wa_model::End;
 use wa_types::{Name, Trap};
@@ -17,7 +17,6 @@ pub fn put_end(
     how: &End,
     imports: &[Name],
 ) -> Result<(), AllocError>
-    requires { EndFits imports.now how.now }
     ensures { OnOk result (text.new.items ≡ text.old.items ++ end_text (of_imports imports.now) how.now) }
 {
     match how {
@@ -63,11 +62,10 @@ fn put_import(
     import: u32,
     imports: &[Name],
 ) -> Result<(), AllocError>
-    requires { IsImport imports.now import }
     ensures { OnOk result (text.new.items ≡ text.old.items ++ (words.now ++ name_at imports.now import)) }
 {
     put(text, words)?;
-    put_name(text, imports[import as usize].as_str())
+    put_name(text, name_of(imports, import))
 }
 
 // An answer for another import than the one that is called.
@@ -77,7 +75,6 @@ fn put_other(
     named: &Name,
     imports: &[Name],
 ) -> Result<(), AllocError>
-    requires { IsImport imports.now called }
     ensures { OnOk result (text.new.items ≡ text.old.items ++ end_text (of_imports imports.now) (OtherImport called named.now)) }
 {
     put(text, "answer for ")?;

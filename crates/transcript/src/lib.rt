@@ -7,14 +7,13 @@
 //! as far as the sink takes it, and its status is 9. Which events come is `world_hosting`'s matter.
 //!
 //! - `parts`: words, numbers, names, bytes and values.
-//! - `ends`, `events`, `fitting`: the texts of ends, the lines of events, and whether their names are there.
+//! - `ends`, `events`: the texts of ends, the lines of events.
 //! - `refusals`: the lines of refusals.
 //! - `lines`, `refused`: single lines and refusals, over a sink that may fail.
 #![tactic(auto)]
 
 mod ends;
 mod events;
-mod fitting;
 mod lines;
 mod parts;
 mod refusals;

@@ -1,6 +1,6 @@
 //! Single lines, over a sink that may fail.
 
-ghost use Rattle.std.specs.Prelude.{◌≡◌, ◌≤◌, IfOk, IsErrOf, OnOk, OnErr, map};
+ghost use Rattle.std.specs.Prelude.{◌≡◌, ◌≤◌, ◌<◌, IfOk, IsErrOf, OnOk, OnErr, length, map};
 ghost use Rattle.std.specs.String.{string_bytes};
 ghost use Rattle.vault_port.specs.Counts.{HasRisen};
 ghost use Rattle.vault_port.specs.Taken.{Appends, AppendsLess};
@@ -10,28 +10,27 @@ ghost use Rattle.script_model.specs.Transcript.{event_line, last_line, names_at}
 ghost use Rattle.wa_model.specs.View.{line_of};
 
 use crate::events::{Names, line as line_text};
-use crate::fitting::fits;
 use std::alloc::{AllocError, Global};
 use vault_port::{PutFault, Sink, put_whole};
 use wa_model::Line;
 
-/// Prints the line of an event of one of several programs with these names. After an error less of it was printed. Want of memory, too,
-/// where a name isn't there or ticks don't fit.
+/// Prints the line of an event of one of several programs with these names. After an error less of it was printed.
 pub fn put_line<S: Sink>(
     alloc: Global,
     out: &mut S,
     names: &[Names],
     line: &Line,
 ) -> Result<(), PutFault>
+    requires { line.now.program < length names.now }
     ensures printed { OnOk result (Becomes (S.taken out.old) (S.taken out.new) (Appends (event_line (names_at (map names_of names.now) line.now.program) (line_of line.now)))) }
     ensures less { OnErr result (Becomes (S.taken out.old) (S.taken out.new) (AppendsLess (event_line (names_at (map names_of names.now) line.now.program) (line_of line.now)))) }
     ensures fault { IsErrOf result PutFault.Fault → HasRisen (S.faults out.old) (S.faults out.new) }
     ensures faults { S.faults out.old ≤ S.faults out.new }
 {
-    let Some(own) = names.get(line.program as usize) else {
-        return Err(PutFault::Memory);
-    };
-    put_own_line(alloc, out, own, line)
+    match names.get(line.program as usize) {
+        Some(own) => put_own_line(alloc, out, own, line),
+        None => unreachable!(),
+    }
 }
 
 // The line of a program with these names.
@@ -46,11 +45,6 @@ fn put_own_line<S: Sink>(
     ensures fault { IsErrOf result PutFault.Fault → HasRisen (S.faults out.old) (S.faults out.new) }
     ensures faults { S.faults out.old ≤ S.faults out.new }
 {
-    // Names and ticks are always there: a call's import and an entry are numbered by the module and the script, and a program
-    // takes too few steps to pause for so many ticks.
-    if !fits(names, line) {
-        return Err(PutFault::Memory);
-    }
     let Ok(text) = line_text(alloc, line, names) else {
         return Err(PutFault::Memory);
     };

@@ -1,5 +1,5 @@
 -- The lines of several programs, as they are being told and printed.
-use Rattle.std.proofs.Common.{◌≡◌, inl, inr, ℕ, suc, List, [], ◌∷◌, ◌++◌, length, length-append, map, Option, Some, None, Result, Ok, Err, refl, sym, ap, ◌∙◌, subst, arith, append-nil, append_assoc, add_assoc, ◌+◌}
+use Rattle.std.proofs.Common.{◌≡◌, ◌<◌, inl, inr, ℕ, suc, List, [], ◌∷◌, ◌++◌, length, length-append, map, Option, Some, None, Result, Ok, Err, refl, sym, ap, ◌∙◌, subst, arith, append-nil, append_assoc, add_assoc, ◌+◌}
 use Rattle.std.specs.Prelude.{IsErr, MatchOption, OnErr, OnOk, if◌then◌else◌, nat_eq, slice_get}
 use Rattle.std.specs.List.{AllZip}
 use Rattle.std.specs.Option.{option_map}
@@ -36,7 +36,7 @@ use Rattle.many_host.proofs.Worlds.{told_begins_met}
 use Rattle.transcript.specs.declared.events.Names.{Names}
 use Rattle.transcript.specs.Printing.{names_of}
 use Rattle.world_hosting.specs.Counts.{AreMet, IsBegunBy, Took, counted, met_by, turns_at}
-use Rattle.world_hosting.specs.Worlds.{AreBegun, AreTold, Part, PrintsPart, Tells, TellsPart, part_names, turn_count, world_programs}
+use Rattle.world_hosting.specs.Worlds.{AreBegun, AreTold, Part, PrintsPart, Tells, TellsPart, part_names, turn_count, world_program, world_programs}
 use Rattle.world_hosting.proofs.TurnCounts.{begun_next, turns_begun}
 use Rattle.transcript.proofs.LineTexts.{becomes_by, becomes_same, line_more, then_less, then_printed}
 
@@ -367,3 +367,14 @@ pub left_counted : {X : Type 0} {F : X → Type 0} (f : (x : X) × F x → Devic
 left_counted f g begun detaches d d' h =
     subst (λ (es : List Device). AreLeft begun detaches es (devices_of (counted f g d'))) (sym (counted_devices f g d))
     (subst (λ (es : List Device). AreLeft begun detaches (of_all f d) es) (sym (counted_devices f g d')) h)
+
+-- ---- names
+
+-- the program of a line has names
+pub within_names : (parts : List Part) (names : List Names) (l : Line) (w : Program) → map names_of names ≡ map part_names parts → slice_get (world_programs parts) l.program ≡ Some w
+    → l.program < length names
+within_names parts names l w are at =
+    let inside : l.program < length (world_programs parts) = slice_get_within (world_programs parts) l.program w at in
+    let as_many : length (world_programs parts) ≡ length parts = length-map parts world_program in
+    let named : length names ≡ length parts = sym (length-map names names_of) ∙ ap (λ (ns : List T.Names). length ns) are ∙ length-map parts part_names in
+    omega (arith, inside, as_many, named)

@@ -4,11 +4,8 @@ use Rattle.vault_port.specs.Taken.{Appends, AppendsLess}
 use Rattle.vault_port.specs.Told.{Becomes}
 use Rattle.script_model.specs.Transcript.{Names, event_line}
 use Rattle.wa_model.specs.View.{line_of}
-use Rattle.transcript.proofs.LineTexts.{line_some, nothing_printed, own_names}
+use Rattle.transcript.proofs.LineTexts.{own_names}
 use Rattle.transcript.proofs.lines.put_line.Goals as goal
-
-pub returns-in_default-clause-less : goal.returns-in_default-clause-less
-returns-in_default-clause-less g c = nothing_printed _ _ (line_some _ _)
 
 pub returns-clause-printed : goal.returns-clause-printed
 returns-clause-printed g c =

@@ -10,7 +10,7 @@ use Rattle.many_host.proofs.FewLines.{few_lines}
 use Rattle.transcript.specs.Printing.{names_of}
 use Rattle.world_hosting.specs.Counts.{counted}
 use Rattle.world_hosting.specs.Worlds.{world_programs}
-use Rattle.world_hosting.proofs.Printed.{host_seen, if_err, has_failed, left_counted, line_begins, line_counted, line_told, none_left, none_met, none_told, on_ok, told_less, told_less_last, told_on, told_so_far, told_whole, world_counted}
+use Rattle.world_hosting.proofs.Printed.{host_seen, if_err, has_failed, left_counted, line_begins, line_counted, line_told, none_left, none_met, none_told, on_ok, told_less, told_less_last, told_on, told_so_far, told_whole, within_names, world_counted}
 use Rattle.transcript.proofs.LineTexts.{nothing_yet}
 use Rattle.world_hosting.proofs.telling.tell_lines.Goals as goal
 
@@ -114,6 +114,17 @@ next-requires-clause-tells g c =
       lines = t.lines;
       stands = host_seen (λ z. (goal.Device-dyn g z).seen z.1) (λ z. (goal.Device-dyn g z).faults z.1) (world_programs b.parts) b.detaches ds t.lines c.telling.devices c.telling.host t.host;
     }
+
+pub put_line-requires : goal.put_line-requires
+put_line-requires g c =
+    let b = c.requires.begins in
+    let t = (c.telling.invariant.told b.parts b.detaches b.told b.begun b.names_are).0 in
+    let ds = devices_of (counted (λ z. (goal.Device-dyn g z).seen z.1) (λ z. (goal.Device-dyn g z).faults z.1) c.args.devices.now) in
+    let next =
+    line_told (world_programs b.parts) b.detaches ds t.told.lines t.told.host.tellers _ _ _ c.next.new.self _ c.in-Ok.next c.in-Some.line c.in-Some.is
+    (c.in-Ok.ensures.told (world_programs b.parts) b.detaches ds t.told.lines
+    (host_seen (λ z. (goal.Device-dyn g z).seen z.1) (λ z. (goal.Device-dyn g z).faults z.1) (world_programs b.parts) b.detaches ds t.told.lines c.telling.devices c.telling.host t.told.host)) in
+    within_names b.parts c.args.names.now (line_of c.in-Some.line) next.takes.w b.names_are next.takes.program
 
 pub unreachable-requires : goal.unreachable-requires
 unreachable-requires g c =
