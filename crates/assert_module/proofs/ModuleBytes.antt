@@ -1,19 +1,17 @@
 -- The module with asserts stands around its entries, and its bytes are its own.
-use Rattle.std.proofs.Common.{◌≡◌, ◌∙◌, ℕ, ◌+◌, ◌-◌, ◌<◌, ◌≤◌, ◌^◌, List, [], ◌++◌, length, map, drop, Bool, Option, Some, None, Err, refl, sym, ap, subst, arith}
+use Rattle.std.proofs.Common.{◌≡◌, ◌∙◌, ℕ, ◌-◌, ◌<◌, ◌≤◌, ◌^◌, List, [], ◌++◌, length, map, Bool, None, Err, refl, sym, ap, subst, arith}
 use Rattle.std.specs.Vec.{vec_len}
 use Rattle.std.proofs.lemmas.List.{length-map}
 use Rattle.wa_types.specs.declared.syntax.Import.{Import}
 use Rattle.wa_types.specs.Encoding.{Enc}
 use Rattle.wa_types.specs.Modules.{func_imports}
-use Rattle.wa_types.specs.Pausing.{Listed, Settings, TellsMayPause}
+use Rattle.wa_types.specs.Pausing.{Listed, Settings}
 use Rattle.wa_types.specs.Runtime.{global_space}
 use Rattle.wa_types.specs.Sizes.{StrictSizeRule}
 use Rattle.wa_types.specs.Syntax.{Module}
 use Rattle.wa_types.specs.View.{func_of, module_of}
 use Rattle.wa_types.specs.declared.syntax.Func.{Func as FuncValue}
 use Rattle.wa_types.specs.declared.syntax.Module.{Module as ModuleValue}
-use Rattle.wa_model.specs.Rewrites.{Rewrites}
-use Rattle.flatten.specs.Whole.{NonePasses}
 use Rattle.local_spill.specs.Reserved.{reserved_at}
 use Rattle.wasm_encode.specs.Around.{code_entries, HoldsEntries, IsAround, IsUnwritten}
 use Rattle.wasm_encode.specs.declared.held.CodeEntries.{CodeEntries}
@@ -21,7 +19,6 @@ use Rattle.wasm_encode.proofs.AroundLemmas.{entries_within}
 use Rattle.wasm_encode.specs.declared.EncodeFault.{EncodeFault}
 use Rattle.wasm_encode.specs.declared.EncodeFault.TheVariants.{Memory, TooLong}
 use Rattle.live_laws.proofs.BytesByPolicy.{few_as}
-use Rattle.live_laws.specs.EmittedAs.{EmittedAs}
 use Rattle.live_laws.specs.PolicyLaws.{CanBeEmitted}
 use Rattle.module_rewrite.proofs.FreeNames.{unreserved_is_free}
 use Rattle.module_rewrite.proofs.WholeLemmas.{few_written, which_long}

@@ -1,5 +1,5 @@
 -- Functions as they were emitted, with asserts, by what tells which calls have a number.
-use Rattle.std.specs.Prelude.{◌<◌, ◌^◌, ◌++◌, ℕ, suc, List, [], ◌∷◌, length, Bool, true, false, slice_get}
+use Rattle.std.specs.Prelude.{◌<◌, ◌^◌, ◌++◌, ℕ, suc, List, [], ◌∷◌, length, Bool, slice_get}
 use Rattle.wa_types.specs.Pausing.{is_told}
 use Rattle.wa_types.specs.Syntax.{Func}
 use Rattle.wasm_encode.specs.Around.{code_entry}

@@ -1,5 +1,5 @@
 -- What is said of a file, by the bytes that it holds.
-use Rattle.std.proofs.Common.{◌≡◌, ℕ, List, Option, sym, subst}
+use Rattle.std.proofs.Common.{ℕ, List, Option, sym, subst}
 use Rattle.vault_port.specs.Files.{Files}
 use Rattle.wa_types.specs.ModuleBounds.{source_bounds}
 use Rattle.script_model.specs.Command.{Manner}

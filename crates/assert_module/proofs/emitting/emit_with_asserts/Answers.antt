@@ -1,5 +1,5 @@
 -- The rewritten module stands around the entries of its functions with asserts; what is written is the module with asserts.
-use Rattle.std.proofs.Common.{◌≡◌, ◌<◌, ◌^◌, ◌∙◌, Err, ap, refl, subst, sym}
+use Rattle.std.proofs.Common.{◌<◌, ◌^◌, ◌∙◌, Err, ap, refl, subst, sym}
 use Rattle.std.proofs.lemmas.Result.{err_from_is_err_and}
 use Rattle.wa_types.specs.declared.syntax.Module.{Module as ModuleValue}
 use Rattle.wa_types.specs.Runtime.{func_space, global_space}

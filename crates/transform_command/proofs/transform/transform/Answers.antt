@@ -1,8 +1,7 @@
 -- What the two files have to do with the module that was read.
-use Rattle.std.proofs.Common.{inl, inr, refl, subst}
+use Rattle.std.proofs.Common.{subst}
 use Rattle.transform_command.specs.Manners.{manner_of}
 use Rattle.transform_command.specs.SourceRefusals.{cause_of, IsToldFault}
-use Rattle.wasm_reader.proofs.Held.{held_there}
 use Rattle.transform_command.proofs.Transforming.{transformed, cut_short, counted, saved_bytes, refused_for, held}
 use Rattle.transform_command.proofs.transform.transform.Goals as goal
 
