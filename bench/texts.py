@@ -18,7 +18,7 @@ from libraries import KIT_RT, load  # noqa: E402
 CITED = re.compile(r"Rattle\.([a-z_0-9]+)\.(specs|proofs)\.([A-Za-z_0-9]+)")
 PASSED_ON = re.compile(r"^pub use \S+\.(\w+)$|^pub use \S+ as (\w+)$", re.M)
 # The bytes that the gate may sum up, in thousands of millions: some 40 MB a second, once before and once behind each library's proof.
-SUMMED = 40
+SUMMED = 60
 
 
 def said_of(rt, crate, crates):

@@ -1,4 +1,4 @@
-//! Modules with asserts, as a definition with its laws; alone, as no rewriting asks for asserts so far.
+//! Modules with asserts, as a definition with its laws.
 //!
 //! An assert is a test behind a call without number, which traps where the state is 1 (`guard_form`). So an unwind that meets an
 //! activation which stands at no numbered call ends there.

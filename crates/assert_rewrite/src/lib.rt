@@ -1,4 +1,4 @@
-//! Writes asserts: tests behind calls that have no number, which trap where the state is 1; alone, as no rewriting asks for them so far.
+//! Writes asserts: tests behind calls that have no number, which trap where the state is 1.
 //!
 //! ```text
 //! local.get 0  call_indirect 3        ==>        local.get 0  call_indirect 3  global.get s  i32.const 1  i32.eq  if unreachable end

@@ -13,7 +13,8 @@ use wa_types::{Func, Instr, copy_body, copy_leaf};
 
 /// A function that can't pause, with a test behind each of its calls that can be reached.
 pub fn assert_plain(alloc: Global, func: &Func, state: u32) -> Result<Func, AllocError>
-    ensures { IfOk result (λ f. Asserted state (func_of func.now) (func_of f)) }
+    ensures asserted { IfOk result (λ f. Asserted state (func_of func.now) (func_of f)) }
+    ensures whole { IfOk result (λ f. func_of f ≡ record (func_of func.now) { body = asserted_reached state (func_of func.now).body }) }
 {
     Ok(Func {
         sort: func.sort,

@@ -4,8 +4,7 @@ use Rattle.vault_port.specs.Counts.{HasRisen}
 use Rattle.vault_port.specs.Files.{Files, ChangesOnly, HoldsFrontAtMost}
 use Rattle.vault_port.specs.Told.{Becomes}
 use Rattle.wa_types.specs.Encoding.{Enc}
-use Rattle.wa_types.specs.Pausing.{Settings}
-use Rattle.script_model.specs.Command.{Command, transform, OnTransform}
+use Rattle.script_model.specs.Command.{Command, Manner, transform, OnTransform}
 use Rattle.script_model.specs.Spelled.{Spelled, rewriting, rewrites, hosts, runs, generates}
 use Rattle.script_model.specs.Transcript.{refusal_line, write_fault}
 use Rattle.transcript.specs.Refused.{EndsInMemory, Prints, PrintsMemory}
@@ -88,5 +87,5 @@ pub memory_unread_words : (o : Option Spelled) (files files' : Option Files) (st
 memory_unread_words o files files' status old new h = memory_unread (rewriting o) files files' status old new h
 
 -- the words are no `transform`
-pub no_transform : (o : Option Spelled) (P : Settings → List ℕ → List ℕ → Type 0) → rewriting o ≡ None → OnTransform (rewriting o) P
+pub no_transform : (o : Option Spelled) (P : Manner → List ℕ → List ℕ → Type 0) → rewriting o ≡ None → OnTransform (rewriting o) P
 no_transform o P e = subst (λ (x : Option Command). OnTransform x P) (sym e) tt

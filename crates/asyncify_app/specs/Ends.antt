@@ -4,8 +4,7 @@ use Rattle.vault_port.specs.Counts.{HasRisen}
 use Rattle.vault_port.specs.Files.{Files, ChangesOnly, HoldsFrontAtMost}
 use Rattle.vault_port.specs.Told.{Becomes}
 use Rattle.wa_types.specs.Encoding.{Enc}
-use Rattle.wa_types.specs.Pausing.{Settings}
-use Rattle.script_model.specs.Command.{transform}
+use Rattle.script_model.specs.Command.{Manner, transform}
 use Rattle.script_model.specs.Spelled.{Spelled, rewrites, hosts, runs, generates}
 use Rattle.script_model.specs.Transcript.{refusal_line, write_fault}
 use Rattle.event_order.specs.Left.{Counted}
@@ -47,9 +46,9 @@ pub record Call : Type 0 where
   pub devices' : List Counted
 
 -- the call as one of `transform`
-abbrev pub transform_call : Call → Settings → (input output : List ℕ) → T.Call
-transform_call c s from to = record {
-  settings = s;
+abbrev pub transform_call : Call → Manner → (input output : List ℕ) → T.Call
+transform_call c how from to = record {
+  manner = how;
   input = from;
   output = to;
   files = c.files;
@@ -80,7 +79,7 @@ GeneratesOnce c n output status =
 -- has its ends. (What `transform` prints is told apart.)
 abbrev pub EndsBy : Call → Option Spelled → ℕ → Type 0
 EndsBy c None status = (status ≡ 2) ⊎ (status ≡ 9)
-EndsBy c (Some (rewrites (transform s input output))) status = T.HasOneEnd (transform_call c s input output) status
+EndsBy c (Some (rewrites (transform how input output))) status = T.HasOneEnd (transform_call c how input output) status
 EndsBy c (Some (hosts script)) status = A.HasOneEnd (script_call c Host script) status
 EndsBy c (Some (runs script)) status = A.HasOneEnd (script_call c Run script) status
 EndsBy c (Some (generates n output)) status = GeneratesOnce c n output status

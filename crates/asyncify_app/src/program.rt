@@ -47,6 +47,7 @@ pub(crate) fn rewritten(alloc: Global, module: Module) -> Result<Valid, AllocErr
         choice: Choice::Every,
         ignore_indirect: false,
         policy: Policy::All,
+        asserts: false,
     };
     match asyncify_module(alloc, &valid, &settings) {
         Ok(rewritten) => Ok(rewritten.module),

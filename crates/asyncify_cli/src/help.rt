@@ -14,6 +14,7 @@ asyncify transform [OPTION ..] IN OUT   rewrites the module in the file IN into 
     --imports LIST      it may pause at these imports alone: env.read,env.sl* (else at each)
     --ignore-imports    it may pause at none
     --ignore-indirect   you promise that nothing pauses below a call through the table
+    --asserts           where something does, its unwind traps: a test behind such calls
     --save all|live     a pause keeps all locals, or those that are read again: less memory
 asyncify run SCRIPT     rewrites the modules of a script, and runs them with its answers
 asyncify host SCRIPT    runs modules that are rewritten already

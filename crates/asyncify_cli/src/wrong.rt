@@ -77,6 +77,7 @@ struct Line<'w> {
     save: bool,
     ignore_imports: bool,
     ignore_indirect: bool,
+    asserts: bool,
 }
 
 impl<'w> Line<'w> {
@@ -91,6 +92,7 @@ impl<'w> Line<'w> {
             save: false,
             ignore_imports: false,
             ignore_indirect: false,
+            asserts: false,
         }
     }
 
@@ -140,6 +142,7 @@ impl<'w> Line<'w> {
             "--save" => &mut self.save,
             "--ignore-imports" => &mut self.ignore_imports,
             "--ignore-indirect" => &mut self.ignore_indirect,
+            "--asserts" => &mut self.asserts,
             _ => return Some(Wrong::NoOption(word)),
         };
         if *stood {

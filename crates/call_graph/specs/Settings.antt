@@ -17,6 +17,6 @@ abbrev pub policy_of : Policy → PlainPolicy
 policy_of All = save_all
 policy_of Live = save_live
 
--- settings
+-- settings; what may pause doesn't depend on asserts, so they have no part in it
 abbrev pub settings_of : Settings → PlainSettings
 settings_of s = record { choice = choice_of s.choice; ignore_indirect = s.ignore_indirect; policy = policy_of s.policy }

@@ -1,4 +1,5 @@
-//! The settings of rewriting: which imports are listed, whether calls through the table count, which locals frames save.
+//! The settings of rewriting: which imports are listed, whether calls through the table count, which locals frames save, and whether
+//! calls without a number are tested.
 
 use crate::lists::ImportList;
 
@@ -17,10 +18,12 @@ pub enum Policy {
     Live,
 }
 
-/// How a module is rewritten: what may pause it, whether calls through the table count, and what frames save.
+/// How a module is rewritten: what may pause it, whether calls through the table count, what frames save, and whether a test stands
+/// behind each call without a number, which traps where an unwind meets it.
 #[derive(Drop)]
 pub struct Settings {
     pub choice: Choice,
     pub ignore_indirect: bool,
     pub policy: Policy,
+    pub asserts: bool,
 }

@@ -13,7 +13,7 @@ use Rattle.script_model.specs.Command.{Said, Place, anywhere, behind_imports, be
 use Rattle.script_model.specs.Spelled.{Spelled, rewrites, hosts, runs, is_plain, number_and_file, one_file}
 use Rattle.command_words.specs.Grammar.{Kind, transform_words, host_words, run_words, gen_words, rules, shape, flag_of, is_true, TellsFlag, TellsFlags, read_of}
 use Rattle.command_words.proofs.Telling.{Bare, HasNone, Valued, list_option, save_option, agrees, bare_at, is_owed, spells, tell_at, told}
-use Rattle.command_words.proofs.Rows.{Slot, list_slot, save_slot, imports_slot, indirect_slot, input_slot, output_slot, id_of, option_id, said_at, flag_text, found, given, row, Tells, tells_at, defaults_at, finished_found}
+use Rattle.command_words.proofs.Rows.{Slot, list_slot, save_slot, imports_slot, indirect_slot, asserts_slot, input_slot, output_slot, id_of, option_id, said_at, flag_text, found, given, row, Tells, tells_at, defaults_at, finished_found}
 use Rattle.command_words.proofs.Steps.{After, Doomed, Owes, Settles, Stands, some_kind, walk_of, whole, first_passes}
 use Rattle.command_words.proofs.Walking.{AllText, second_passes, walk_ends}
 
@@ -37,7 +37,7 @@ defaults_pass [] all rows = refl
 defaults_pass (a ∷ c) all rows = ap (λ (x : Kinds). or_else x (defaults_fault (with_default rows a) c)) (one_default rows a all.0) ∙ defaults_pass c all.1 (with_default rows a)
 
 all_given : (k : Kind) → AllGiven (rules k)
-all_given transform_words = (refl, (refl, (refl, (refl, (refl, (refl, tt))))))
+all_given transform_words = (refl, (refl, (refl, (refl, (refl, (refl, (refl, tt)))))))
 all_given host_words = (refl, tt)
 all_given run_words = (refl, tt)
 all_given gen_words = (refl, (refl, tt))
@@ -125,26 +125,26 @@ checked gen_words s rows tells =
 
 -- ---- what the rows spell
 
-no_input : (c : Option Choice) (ignore : Bool) (p : Option Policy) (output : Option Text) → with_files c ignore p None output ≡ None
-no_input None ignore p output = refl
-no_input (Some c) ignore None output = refl
-no_input (Some c) ignore (Some p) output = refl
+no_input : (c : Option Choice) (ignore asserts : Bool) (p : Option Policy) (output : Option Text) → with_files c ignore asserts p None output ≡ None
+no_input None ignore asserts p output = refl
+no_input (Some c) ignore asserts None output = refl
+no_input (Some c) ignore asserts (Some p) output = refl
 
-no_output : (c : Option Choice) (ignore : Bool) (p : Option Policy) (input : Option Text) → with_files c ignore p input None ≡ None
-no_output None ignore p input = refl
-no_output (Some c) ignore None input = refl
-no_output (Some c) ignore (Some p) None = refl
-no_output (Some c) ignore (Some p) (Some input) = refl
+no_output : (c : Option Choice) (ignore asserts : Bool) (p : Option Policy) (input : Option Text) → with_files c ignore asserts p input None ≡ None
+no_output None ignore asserts p input = refl
+no_output (Some c) ignore asserts None input = refl
+no_output (Some c) ignore asserts (Some p) None = refl
+no_output (Some c) ignore asserts (Some p) (Some input) = refl
 
-plain_bare : (place : Place) → is_owed place ≡ false → is_plain place None None false false ≡ true
+plain_bare : (place : Place) → is_owed place ≡ false → is_plain place None None false false false ≡ true
 plain_bare anywhere h = refl
 plain_bare behind_imports h = absurd (true≢false h)
 plain_bare behind_save h = absurd (true≢false h)
 plain_bare behind_options h = refl
 
 -- what a command without options spells
-alone_is : (s : Said) → HasNone s → (spelled : Option Spelled) → (if is_plain s.place s.imports s.save s.ignore_imports s.ignore_indirect then spelled else None) ≡ spelled
-alone_is s h spelled = (λ i. if is_plain s.place (h.1 i) (h.2 i) (h.3 i) (h.4 i) then spelled else None) ∙ ap (λ (b : Bool). if b then spelled else None) (plain_bare s.place h.0)
+alone_is : (s : Said) → HasNone s → (spelled : Option Spelled) → (if is_plain s.place s.imports s.save s.ignore_imports s.ignore_indirect s.asserts then spelled else None) ≡ spelled
+alone_is s h spelled = (λ i. if is_plain s.place (h.1 i) (h.2 i) (h.3 i) (h.4 i) (h.5 i) then spelled else None) ∙ ap (λ (b : Bool). if b then spelled else None) (plain_bare s.place h.0)
 
 script_is : (spell : List ℕ → Spelled) (input output : Option Text) → output ≡ None → one_file spell input output ≡ option_map spell input
 script_is spell input output e = ap (one_file spell input) e ∙ go input
@@ -158,7 +158,7 @@ abbrev Settled : Said → Type 0
 Settled s = is_owed s.place ≡ false
 
 transform_is : (place : Place) (s : Said) → is_owed place ≡ false
-    → transform_at place s ≡ with_files (choice_said s.imports s.ignore_imports) s.ignore_indirect (policy_said s.save) s.input s.output
+    → transform_at place s ≡ with_files (choice_said s.imports s.ignore_imports) s.ignore_indirect s.asserts (policy_said s.save) s.input s.output
 transform_is anywhere s h = refl
 transform_is behind_imports s h = absurd (true≢false h)
 transform_is behind_save s h = absurd (true≢false h)
@@ -170,15 +170,17 @@ rows_spell transform_words s rows bare ready tells =
     let text = text_told transform_words s rows tells in
     let imports = tells_flag transform_words s rows tells imports_slot refl s.ignore_imports refl in
     let indirect = tells_flag transform_words s rows tells indirect_slot refl s.ignore_indirect refl in
+    let asserts = tells_flag transform_words s rows tells asserts_slot refl s.asserts refl in
     let imports_is = flag_is transform_words s rows tells imports_slot refl s.ignore_imports refl in
     let indirect_is = flag_is transform_words s rows tells indirect_slot refl s.ignore_indirect refl in
+    let asserts_is = flag_is transform_words s rows tells asserts_slot refl s.asserts refl in
     let list = text list_slot refl in
     let save = text save_slot refl in
     let input = text input_slot refl in
     let output = text output_slot refl in (
-      (imports, indirect),
+      (imports, indirect, asserts),
       ap (option_map rewrites) (transform_is s.place s ready)
-          ∙ (λ i. option_map rewrites (with_files (choice_said (sym list i) (sym imports_is i)) (sym indirect_is i) (policy_said (sym save i)) (sym input i) (sym output i))),
+          ∙ (λ i. option_map rewrites (with_files (choice_said (sym list i) (sym imports_is i)) (sym indirect_is i) (sym asserts_is i) (policy_said (sym save i)) (sym input i) (sym output i))),
     )
 rows_spell host_words s rows bare ready tells =
     (tt, alone_is s bare.0 (one_file hosts s.input s.output) ∙ script_is hosts s.input s.output bare.1 ∙ ap (option_map hosts) (sym (text_told host_words s rows tells input_slot refl)))
@@ -207,9 +209,9 @@ number_lacks (Some n) = refl
 lacks_spell : (k : Kind) (s : Said) → Bare k s → Settled s → (lacks (lacking k s) ≡ [] → ⊥) → spells k (Some s) ≡ None
 lacks_spell transform_words s bare ready h =
     ap (option_map rewrites) (transform_is s.place s ready)
-    ∙ two_lack (λ i o. option_map rewrites (with_files (choice_said s.imports s.ignore_imports) s.ignore_indirect (policy_said s.save) i o))
-    (λ o. ap (option_map rewrites) (no_input (choice_said s.imports s.ignore_imports) s.ignore_indirect (policy_said s.save) o))
-    (λ i. ap (option_map rewrites) (no_output (choice_said s.imports s.ignore_imports) s.ignore_indirect (policy_said s.save) i)) s.input s.output h
+    ∙ two_lack (λ i o. option_map rewrites (with_files (choice_said s.imports s.ignore_imports) s.ignore_indirect s.asserts (policy_said s.save) i o))
+    (λ o. ap (option_map rewrites) (no_input (choice_said s.imports s.ignore_imports) s.ignore_indirect s.asserts (policy_said s.save) o))
+    (λ i. ap (option_map rewrites) (no_output (choice_said s.imports s.ignore_imports) s.ignore_indirect s.asserts (policy_said s.save) i)) s.input s.output h
 lacks_spell host_words s bare ready h = alone_is s bare.0 (one_file hosts s.input s.output) ∙ script_is hosts s.input s.output bare.1 ∙ script_lacks hosts s.input h
 lacks_spell run_words s bare ready h = alone_is s bare.0 (one_file runs s.input s.output) ∙ script_is runs s.input s.output bare.1 ∙ script_lacks runs s.input h
 lacks_spell gen_words s bare ready h = alone_is s bare (number_and_file s.input s.output) ∙ two_lack number_and_file (λ o. refl) number_lacks s.input s.output h
@@ -290,15 +292,15 @@ bare_told k (word ∷ words) (Some s) h = bare_told k words (tell_at k s.place w
 
 begins_bare : (k : Kind) → Bare k nothing_said
 begins_bare transform_words = tt
-begins_bare host_words = ((refl, refl, refl, refl, refl), refl)
-begins_bare run_words = ((refl, refl, refl, refl, refl), refl)
-begins_bare gen_words = (refl, refl, refl, refl, refl)
+begins_bare host_words = ((refl, refl, refl, refl, refl, refl), refl)
+begins_bare run_words = ((refl, refl, refl, refl, refl, refl), refl)
+begins_bare gen_words = (refl, refl, refl, refl, refl, refl)
 
 begins : (k : Kind) → Stands anywhere k nothing_said [] None
-begins transform_words = (refl, (refl, refl, refl, refl, refl, refl), λ e. e)
-begins host_words = (refl, (refl, refl, refl, refl, refl, refl), λ e. e)
-begins run_words = (refl, (refl, refl, refl, refl, refl, refl), λ e. e)
-begins gen_words = (refl, (refl, refl, refl, refl, refl, refl), λ e. e)
+begins transform_words = (refl, (refl, refl, refl, refl, refl, refl, refl), λ e. e)
+begins host_words = (refl, (refl, refl, refl, refl, refl, refl, refl), λ e. e)
+begins run_words = (refl, (refl, refl, refl, refl, refl, refl, refl), λ e. e)
+begins gen_words = (refl, (refl, refl, refl, refl, refl, refl, refl), λ e. e)
 
 -- the faults of a command's words, by `clap`
 abbrev pub level : Kind → List Text → Kinds

@@ -13,7 +13,7 @@ use Rattle.clap.proofs.WalkLemmas.{walk_stopped}
 use Rattle.script_model.specs.Command.{nothing_said, said, transform_said}
 use Rattle.script_model.specs.Spelled.{Spelled, spelled, rewrites, hosts, runs, files_alone, one_file, number_and_file}
 use Rattle.command_words.specs.Grammar.{Kind, transform_words, host_words, run_words, gen_words, MatchesSpell, line, line_shape, name_of, rules, shape}
-use Rattle.command_words.proofs.Views.{View, is_end, is_list, is_save, is_imports, is_indirect, is_list_with, is_save_with, is_named, is_long, is_short, view, same_is, differ, clash}
+use Rattle.command_words.proofs.Views.{View, is_end, is_list, is_save, is_imports, is_indirect, is_asserts, is_list_with, is_save_with, is_named, is_long, is_short, view, same_is, differ, clash}
 use Rattle.command_words.proofs.Telling.{spells}
 use Rattle.command_words.proofs.Steps.{first_passes, some_kind}
 use Rattle.command_words.proofs.Walking.{AllText, second_passes}
@@ -189,6 +189,7 @@ other_fails word words (is_list e) h = word_fails word words (subst Fails (sym e
 other_fails word words (is_save e) h = word_fails word words (subst Fails (sym e) (λ f. some_kind kind.UnknownArgument [] f))
 other_fails word words (is_imports e) h = word_fails word words (subst Fails (sym e) (λ f. some_kind kind.UnknownArgument [] f))
 other_fails word words (is_indirect e) h = word_fails word words (subst Fails (sym e) (λ f. some_kind kind.UnknownArgument [] f))
+other_fails word words (is_asserts e) h = word_fails word words (subst Fails (sym e) (λ f. some_kind kind.UnknownArgument [] f))
 other_fails word words (is_list_with text e) h = word_fails word words (subst Fails (sym e) (λ f. some_kind kind.UnknownArgument [] f))
 other_fails word words (is_save_with text e) h = word_fails word words (subst Fails (sym e) (λ f. some_kind kind.UnknownArgument [] f))
 other_fails word words (is_named n) h = word_fails word words (name_first word h n.no_end n.no_long n.no_short)

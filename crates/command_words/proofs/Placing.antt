@@ -9,7 +9,7 @@ use Rattle.clap.specs.declared.error.kind.ErrorKind.TheVariants as kind
 use Rattle.script_model.specs.Command.{Said, Place, anywhere, behind_imports, behind_save, behind_options}
 use Rattle.command_words.specs.Grammar.{Kind, transform_words, host_words, run_words, gen_words, rules, shape}
 use Rattle.command_words.proofs.Telling.{tell_file}
-use Rattle.command_words.proofs.Rows.{Slot, list_slot, save_slot, imports_slot, indirect_slot, input_slot, output_slot, id_of, input_id, same_slot, said_at, Tells, taken}
+use Rattle.command_words.proofs.Rows.{Slot, list_slot, save_slot, imports_slot, indirect_slot, asserts_slot, input_slot, output_slot, id_of, input_id, same_slot, said_at, Tells, taken}
 use Rattle.command_words.proofs.Steps.{After, Ordered, Settles, Stands, and_false, at_walk, file_by, held, or_false, placed_built, position, some_kind, tell_file_is, trails, waits, whole}
 
 abbrev is_owed : Waiting → Bool
@@ -72,6 +72,7 @@ keeps_input s text list_slot e = refl
 keeps_input s text save_slot e = refl
 keeps_input s text imports_slot e = refl
 keeps_input s text indirect_slot e = refl
+keeps_input s text asserts_slot e = refl
 keeps_input s text input_slot e = absurd (true≢false e)
 keeps_input s text output_slot e = refl
 
@@ -80,6 +81,7 @@ keeps_output s text list_slot e = refl
 keeps_output s text save_slot e = refl
 keeps_output s text imports_slot e = refl
 keeps_output s text indirect_slot e = refl
+keeps_output s text asserts_slot e = refl
 keeps_output s text input_slot e = refl
 keeps_output s text output_slot e = absurd (true≢false e)
 

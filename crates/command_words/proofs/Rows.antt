@@ -18,7 +18,7 @@ use Rattle.command_words.proofs.Views.{same_is, same_text}
 -- ---- the arguments
 
 pub data Slot : Type 0 where
-  list_slot save_slot imports_slot indirect_slot input_slot output_slot : Slot
+  list_slot save_slot imports_slot indirect_slot asserts_slot input_slot output_slot : Slot
 
 abbrev pub input_id : Kind → Text
 input_id transform_words = codes "input"
@@ -31,6 +31,7 @@ id_of k list_slot = codes "imports"
 id_of k save_slot = codes "save"
 id_of k imports_slot = codes "ignore-imports"
 id_of k indirect_slot = codes "ignore-indirect"
+id_of k asserts_slot = codes "asserts"
 id_of k input_slot = input_id k
 id_of k output_slot = codes "output"
 
@@ -47,6 +48,7 @@ same_slot list_slot list_slot = true
 same_slot save_slot save_slot = true
 same_slot imports_slot imports_slot = true
 same_slot indirect_slot indirect_slot = true
+same_slot asserts_slot asserts_slot = true
 same_slot input_slot input_slot = true
 same_slot output_slot output_slot = true
 same_slot _ _ = false
@@ -57,6 +59,7 @@ distinct k list_slot list_slot e = absurd (true≢false e)
 distinct k list_slot save_slot e = refl
 distinct k list_slot imports_slot e = refl
 distinct k list_slot indirect_slot e = refl
+distinct k list_slot asserts_slot e = refl
 distinct transform_words list_slot input_slot e = refl
 distinct host_words list_slot input_slot e = refl
 distinct run_words list_slot input_slot e = refl
@@ -66,6 +69,7 @@ distinct k save_slot list_slot e = refl
 distinct k save_slot save_slot e = absurd (true≢false e)
 distinct k save_slot imports_slot e = refl
 distinct k save_slot indirect_slot e = refl
+distinct k save_slot asserts_slot e = refl
 distinct transform_words save_slot input_slot e = refl
 distinct host_words save_slot input_slot e = refl
 distinct run_words save_slot input_slot e = refl
@@ -75,6 +79,7 @@ distinct k imports_slot list_slot e = refl
 distinct k imports_slot save_slot e = refl
 distinct k imports_slot imports_slot e = absurd (true≢false e)
 distinct k imports_slot indirect_slot e = refl
+distinct k imports_slot asserts_slot e = refl
 distinct transform_words imports_slot input_slot e = refl
 distinct host_words imports_slot input_slot e = refl
 distinct run_words imports_slot input_slot e = refl
@@ -84,11 +89,22 @@ distinct k indirect_slot list_slot e = refl
 distinct k indirect_slot save_slot e = refl
 distinct k indirect_slot imports_slot e = refl
 distinct k indirect_slot indirect_slot e = absurd (true≢false e)
+distinct k indirect_slot asserts_slot e = refl
 distinct transform_words indirect_slot input_slot e = refl
 distinct host_words indirect_slot input_slot e = refl
 distinct run_words indirect_slot input_slot e = refl
 distinct gen_words indirect_slot input_slot e = refl
 distinct k indirect_slot output_slot e = refl
+distinct k asserts_slot list_slot e = refl
+distinct k asserts_slot save_slot e = refl
+distinct k asserts_slot imports_slot e = refl
+distinct k asserts_slot indirect_slot e = refl
+distinct k asserts_slot asserts_slot e = absurd (true≢false e)
+distinct transform_words asserts_slot input_slot e = refl
+distinct host_words asserts_slot input_slot e = refl
+distinct run_words asserts_slot input_slot e = refl
+distinct gen_words asserts_slot input_slot e = refl
+distinct k asserts_slot output_slot e = refl
 distinct transform_words input_slot list_slot e = refl
 distinct host_words input_slot list_slot e = refl
 distinct run_words input_slot list_slot e = refl
@@ -105,6 +121,10 @@ distinct transform_words input_slot indirect_slot e = refl
 distinct host_words input_slot indirect_slot e = refl
 distinct run_words input_slot indirect_slot e = refl
 distinct gen_words input_slot indirect_slot e = refl
+distinct transform_words input_slot asserts_slot e = refl
+distinct host_words input_slot asserts_slot e = refl
+distinct run_words input_slot asserts_slot e = refl
+distinct gen_words input_slot asserts_slot e = refl
 distinct k input_slot input_slot e = absurd (true≢false e)
 distinct transform_words input_slot output_slot e = refl
 distinct host_words input_slot output_slot e = refl
@@ -114,6 +134,7 @@ distinct k output_slot list_slot e = refl
 distinct k output_slot save_slot e = refl
 distinct k output_slot imports_slot e = refl
 distinct k output_slot indirect_slot e = refl
+distinct k output_slot asserts_slot e = refl
 distinct transform_words output_slot input_slot e = refl
 distinct host_words output_slot input_slot e = refl
 distinct run_words output_slot input_slot e = refl
@@ -140,6 +161,7 @@ said_at list_slot s = s.imports
 said_at save_slot s = s.save
 said_at imports_slot s = flag_text s.ignore_imports
 said_at indirect_slot s = flag_text s.ignore_indirect
+said_at asserts_slot s = flag_text s.asserts
 said_at input_slot s = s.input
 said_at output_slot s = s.output
 
@@ -149,16 +171,17 @@ TellsAt k s rows slot = found (id_of k slot) rows ≡ option_map (given (id_of k
 -- the rows hold what was told, and nothing more
 abbrev pub Tells : Kind → Said → List Row → Type 0
 Tells k s rows =
-    TellsAt k s rows list_slot × TellsAt k s rows save_slot × TellsAt k s rows imports_slot × TellsAt k s rows indirect_slot × TellsAt k s rows input_slot
-    × TellsAt k s rows output_slot
+    TellsAt k s rows list_slot × TellsAt k s rows save_slot × TellsAt k s rows imports_slot × TellsAt k s rows indirect_slot × TellsAt k s rows asserts_slot
+    × TellsAt k s rows input_slot × TellsAt k s rows output_slot
 
 pub tells_at : (k : Kind) (s : Said) (rows : List Row) → Tells k s rows → (slot : Slot) → TellsAt k s rows slot
 tells_at k s rows t list_slot = t.0
 tells_at k s rows t save_slot = t.1
 tells_at k s rows t imports_slot = t.2
 tells_at k s rows t indirect_slot = t.3
-tells_at k s rows t input_slot = t.4
-tells_at k s rows t output_slot = t.5
+tells_at k s rows t asserts_slot = t.4
+tells_at k s rows t input_slot = t.5
+tells_at k s rows t output_slot = t.6
 
 pub has_found : (id : Text) (rows : List Row) → has_row id rows ≡ is_some (found id rows)
 has_found id [] = refl
@@ -205,37 +228,50 @@ same_slot_is list_slot list_slot e = refl
 same_slot_is save_slot save_slot e = refl
 same_slot_is imports_slot imports_slot e = refl
 same_slot_is indirect_slot indirect_slot e = refl
+same_slot_is asserts_slot asserts_slot e = refl
 same_slot_is input_slot input_slot e = refl
 same_slot_is output_slot output_slot e = refl
 same_slot_is list_slot save_slot e = absurd (true≢false (sym e))
 same_slot_is list_slot imports_slot e = absurd (true≢false (sym e))
 same_slot_is list_slot indirect_slot e = absurd (true≢false (sym e))
+same_slot_is list_slot asserts_slot e = absurd (true≢false (sym e))
 same_slot_is list_slot input_slot e = absurd (true≢false (sym e))
 same_slot_is list_slot output_slot e = absurd (true≢false (sym e))
 same_slot_is save_slot list_slot e = absurd (true≢false (sym e))
 same_slot_is save_slot imports_slot e = absurd (true≢false (sym e))
 same_slot_is save_slot indirect_slot e = absurd (true≢false (sym e))
+same_slot_is save_slot asserts_slot e = absurd (true≢false (sym e))
 same_slot_is save_slot input_slot e = absurd (true≢false (sym e))
 same_slot_is save_slot output_slot e = absurd (true≢false (sym e))
 same_slot_is imports_slot list_slot e = absurd (true≢false (sym e))
 same_slot_is imports_slot save_slot e = absurd (true≢false (sym e))
 same_slot_is imports_slot indirect_slot e = absurd (true≢false (sym e))
+same_slot_is imports_slot asserts_slot e = absurd (true≢false (sym e))
 same_slot_is imports_slot input_slot e = absurd (true≢false (sym e))
 same_slot_is imports_slot output_slot e = absurd (true≢false (sym e))
 same_slot_is indirect_slot list_slot e = absurd (true≢false (sym e))
 same_slot_is indirect_slot save_slot e = absurd (true≢false (sym e))
 same_slot_is indirect_slot imports_slot e = absurd (true≢false (sym e))
+same_slot_is indirect_slot asserts_slot e = absurd (true≢false (sym e))
 same_slot_is indirect_slot input_slot e = absurd (true≢false (sym e))
 same_slot_is indirect_slot output_slot e = absurd (true≢false (sym e))
+same_slot_is asserts_slot list_slot e = absurd (true≢false (sym e))
+same_slot_is asserts_slot save_slot e = absurd (true≢false (sym e))
+same_slot_is asserts_slot imports_slot e = absurd (true≢false (sym e))
+same_slot_is asserts_slot indirect_slot e = absurd (true≢false (sym e))
+same_slot_is asserts_slot input_slot e = absurd (true≢false (sym e))
+same_slot_is asserts_slot output_slot e = absurd (true≢false (sym e))
 same_slot_is input_slot list_slot e = absurd (true≢false (sym e))
 same_slot_is input_slot save_slot e = absurd (true≢false (sym e))
 same_slot_is input_slot imports_slot e = absurd (true≢false (sym e))
 same_slot_is input_slot indirect_slot e = absurd (true≢false (sym e))
+same_slot_is input_slot asserts_slot e = absurd (true≢false (sym e))
 same_slot_is input_slot output_slot e = absurd (true≢false (sym e))
 same_slot_is output_slot list_slot e = absurd (true≢false (sym e))
 same_slot_is output_slot save_slot e = absurd (true≢false (sym e))
 same_slot_is output_slot imports_slot e = absurd (true≢false (sym e))
 same_slot_is output_slot indirect_slot e = absurd (true≢false (sym e))
+same_slot_is output_slot asserts_slot e = absurd (true≢false (sym e))
 same_slot_is output_slot input_slot e = absurd (true≢false (sym e))
 
 own_row : (id : Text) (r : Row) → bytes_eq r.id id ≡ true → found id (r ∷ []) ≡ Some r
@@ -264,7 +300,7 @@ module _ (k : Kind) (slot : Slot) (text : Text) (s t : Said) (rows : List Row) (
   slot_told other = find-append (λ (r : Row). bytes_eq r.id (id_of k other)) rows (given (id_of k slot) text ∷ []) ∙ slot_by other (same_slot slot other) refl
 
   pub one_told : Tells k t (rows ++ given (id_of k slot) text ∷ [])
-  one_told = (slot_told list_slot, slot_told save_slot, slot_told imports_slot, slot_told indirect_slot, slot_told input_slot, slot_told output_slot)
+  one_told = (slot_told list_slot, slot_told save_slot, slot_told imports_slot, slot_told indirect_slot, slot_told asserts_slot, slot_told input_slot, slot_told output_slot)
 
   -- an argument that wasn't used yet passes, and its row tells it
   pub taken : (or_else (repeat_fault false (id_of k slot) rows) [] ≡ []) × Tells k t (with_values (id_of k slot) AsWritten CommandLine (text ∷ []) (without (id_of k slot) rows))

@@ -8,9 +8,9 @@ use Rattle.clap.specs.declared.parser.matches.ValueSource.TheVariants.{CommandLi
 use Rattle.clap.specs.declared.error.kind.ErrorKind.TheVariants as kind
 use Rattle.script_model.specs.Command.{Said, Place, anywhere, behind_imports, behind_save, behind_options, word_of, unknown_word}
 use Rattle.command_words.specs.Grammar.{Kind, transform_words, host_words, run_words, gen_words, rules, shape}
-use Rattle.command_words.proofs.Views.{View, is_end, is_list, is_save, is_imports, is_indirect, is_list_with, is_save_with, is_named, is_long, is_short, IsName, IsUnknown}
-use Rattle.command_words.proofs.Telling.{tell_at, tell_file, tell_value, tell_word, say_value, say_imports, say_save, say_ignore_imports, say_ignore_indirect, Valued, list_option, save_option}
-use Rattle.command_words.proofs.Rows.{Slot, list_slot, save_slot, imports_slot, indirect_slot, input_slot, output_slot, same_slot, said_at, value_slot, option_id, flag_text, Tells, taken, repeated}
+use Rattle.command_words.proofs.Views.{View, is_end, is_list, is_save, is_imports, is_indirect, is_asserts, is_list_with, is_save_with, is_named, is_long, is_short, IsName, IsUnknown}
+use Rattle.command_words.proofs.Telling.{tell_at, tell_file, tell_value, tell_word, say_value, say_imports, say_save, say_ignore_imports, say_ignore_indirect, say_asserts, Valued, list_option, save_option}
+use Rattle.command_words.proofs.Rows.{Slot, list_slot, save_slot, imports_slot, indirect_slot, asserts_slot, input_slot, output_slot, same_slot, said_at, value_slot, option_id, flag_text, Tells, taken, repeated}
 use Rattle.command_words.proofs.Steps.{After, HasFlags, Ordered, Owes, Settles, Stands, after_as, at_walk, first_passes, held, name_is, name_met, position, refused, shows, some_kind, trails, unknown_fails, waits, walk_of, whole}
 use Rattle.command_words.proofs.Placing.{place_word, stands_at}
 
@@ -46,6 +46,7 @@ keeps_value save_option s text list_slot e = refl
 keeps_value save_option s text save_slot e = absurd (true≢false e)
 keeps_value v s text imports_slot e = refl
 keeps_value v s text indirect_slot e = refl
+keeps_value v s text asserts_slot e = refl
 keeps_value v s text input_slot e = refl
 keeps_value v s text output_slot e = refl
 
@@ -65,6 +66,7 @@ keeps_imports s list_slot e = refl
 keeps_imports s save_slot e = refl
 keeps_imports s imports_slot e = absurd (true≢false e)
 keeps_imports s indirect_slot e = refl
+keeps_imports s asserts_slot e = refl
 keeps_imports s input_slot e = refl
 keeps_imports s output_slot e = refl
 
@@ -73,8 +75,18 @@ keeps_indirect s list_slot e = refl
 keeps_indirect s save_slot e = refl
 keeps_indirect s imports_slot e = refl
 keeps_indirect s indirect_slot e = absurd (true≢false e)
+keeps_indirect s asserts_slot e = refl
 keeps_indirect s input_slot e = refl
 keeps_indirect s output_slot e = refl
+
+keeps_asserts : (s : Said) (other : Slot) → same_slot asserts_slot other ≡ false → said_at other (record s { asserts = true }) ≡ said_at other s
+keeps_asserts s list_slot e = refl
+keeps_asserts s save_slot e = refl
+keeps_asserts s imports_slot e = refl
+keeps_asserts s indirect_slot e = refl
+keeps_asserts s asserts_slot e = absurd (true≢false e)
+keeps_asserts s input_slot e = refl
+keeps_asserts s output_slot e = refl
 
 both_pass : (a b : Kinds) → a ≡ [] → b ≡ [] → or_else (or_else a b) [] ≡ []
 both_pass a b e f = λ i. or_else (or_else (e i) (f i)) []
@@ -170,6 +182,29 @@ idle_indirect host_words s rows pending settles tells ordered at = λ e. absurd 
 idle_indirect run_words s rows pending settles tells ordered at = λ e. absurd (some_kind kind.UnknownArgument [] e)
 idle_indirect gen_words s rows pending settles tells ordered at = λ e. absurd (some_kind kind.UnknownArgument [] e)
 
+idle_asserts : (k : Kind) (s : Said) (rows : List Row) (pending : Option (Text × List Text)) → Settles k rows pending → Tells k s (whole k rows pending) → Ordered s → s.place ≡ anywhere
+    → Idly k s rows pending (codes "--asserts")
+unfolding walked
+idle_asserts transform_words s rows pending settles tells ordered at = go s.asserts refl
+  where
+    go : (b : Bool) → s.asserts ≡ b → After transform_words (say_asserts b s) (turn_fault (shape transform_words) [] (idle_walk s rows pending) (codes "--asserts"))
+        (walked (rules transform_words) [] (idle_walk s rows pending) (codes "--asserts"))
+    go true e = λ f. absurd (second_fails (pends transform_words rows pending) (comes (codes "asserts") (whole transform_words rows pending)) settles
+        (repeated transform_words asserts_slot (codes "true") s (whole transform_words rows pending) (ap flag_text e) tells) f)
+    go false e =
+        let t : Said = record s { asserts = true } in
+        let new = added (codes "asserts") (codes "true") (whole transform_words rows pending) in
+        let once = taken transform_words asserts_slot (codes "true") s t (whole transform_words rows pending) (ap flag_text e) refl (keeps_asserts s) tells in (
+          both_pass (pends transform_words rows pending) (comes (codes "asserts") (whole transform_words rows pending)) settles once.0,
+          new,
+          None,
+          anywhere_walk s new None at,
+          stands_at s.place transform_words t new None (ap waits at) refl once.1 ordered,
+        )
+idle_asserts host_words s rows pending settles tells ordered at = λ e. absurd (some_kind kind.UnknownArgument [] e)
+idle_asserts run_words s rows pending settles tells ordered at = λ e. absurd (some_kind kind.UnknownArgument [] e)
+idle_asserts gen_words s rows pending settles tells ordered at = λ e. absurd (some_kind kind.UnknownArgument [] e)
+
 -- a value behind `=`
 value_comes : (v : Valued) (text : Text) (s : Said) (rows : List Row) (pending : Option (Text × List Text)) → Settles transform_words rows pending
     → Tells transform_words s (whole transform_words rows pending) → Ordered s
@@ -244,6 +279,7 @@ idle_step k s rows pending word (is_list e) at settles tells ordered = subst (Id
 idle_step k s rows pending word (is_save e) at settles tells ordered = subst (Idly k s rows pending) (sym e) (idle_option save_option k s rows pending settles tells ordered)
 idle_step k s rows pending word (is_imports e) at settles tells ordered = subst (Idly k s rows pending) (sym e) (idle_imports k s rows pending settles tells ordered at)
 idle_step k s rows pending word (is_indirect e) at settles tells ordered = subst (Idly k s rows pending) (sym e) (idle_indirect k s rows pending settles tells ordered at)
+idle_step k s rows pending word (is_asserts e) at settles tells ordered = subst (Idly k s rows pending) (sym e) (idle_asserts k s rows pending settles tells ordered at)
 idle_step k s rows pending word (is_list_with text e) at settles tells ordered = subst (Idly k s rows pending) (sym e) (idle_with list_option k text s rows pending settles tells ordered)
 idle_step k s rows pending word (is_save_with text e) at settles tells ordered = subst (Idly k s rows pending) (sym e) (idle_with save_option k text s rows pending settles tells ordered)
 idle_step k s rows pending word (is_named n) at settles tells ordered = idle_name k s rows pending word settles tells ordered at n
@@ -345,6 +381,8 @@ owing_step list_option s rows word (is_imports e) tells ordered = subst (Owing l
 owing_step save_option s rows word (is_imports e) tells ordered = subst (Owing save_option s rows) (sym e) (λ f. absurd (some_kind kind.InvalidValue [] f))
 owing_step list_option s rows word (is_indirect e) tells ordered = subst (Owing list_option s rows) (sym e) (λ f. absurd (some_kind kind.InvalidValue [] f))
 owing_step save_option s rows word (is_indirect e) tells ordered = subst (Owing save_option s rows) (sym e) (λ f. absurd (some_kind kind.InvalidValue [] f))
+owing_step list_option s rows word (is_asserts e) tells ordered = subst (Owing list_option s rows) (sym e) (λ f. absurd (some_kind kind.InvalidValue [] f))
+owing_step save_option s rows word (is_asserts e) tells ordered = subst (Owing save_option s rows) (sym e) (λ f. absurd (some_kind kind.InvalidValue [] f))
 owing_step list_option s rows word (is_list_with text e) tells ordered = subst (Owing list_option s rows) (sym e) (λ f. absurd (some_kind kind.InvalidValue [] f))
 owing_step save_option s rows word (is_list_with text e) tells ordered = subst (Owing save_option s rows) (sym e) (λ f. absurd (some_kind kind.InvalidValue [] f))
 owing_step list_option s rows word (is_save_with text e) tells ordered = subst (Owing list_option s rows) (sym e) (λ f. absurd (some_kind kind.InvalidValue [] f))

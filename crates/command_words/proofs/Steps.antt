@@ -167,23 +167,27 @@ bundle_fails k n flags x h first e =
     (ap (λ (o : Option ℕ). bundle_step_fault (rules k) false o flags 0 h (flags_fault (rules k) false n)) (sym first) ∙ e)
 
 -- the fault of a long word, by the options that it may be
-abbrev long_by : (lists imports indirect saves : Bool) → Option Text → Held → Kinds
-long_by lists imports indirect saves v h =
+abbrev long_by : (lists imports indirect asserts saves : Bool) → Option Text → Held → Kinds
+long_by lists imports indirect asserts saves v h =
     long_fault (rules transform_words) false (cond (lists || false) (Some (option_built (codes "imports"))) (cond (imports || false) (Some (flag_built (codes "ignore-imports")))
-    (cond (indirect || false) (Some (flag_built (codes "ignore-indirect"))) (cond (saves || false) (Some (option_built (codes "save"))) None)))) v h
+    (cond (indirect || false) (Some (flag_built (codes "ignore-indirect"))) (cond (asserts || false) (Some (flag_built (codes "asserts")))
+    (cond (saves || false) (Some (option_built (codes "save"))) None))))) v h
 
 -- a long word that is no option
 strange_fails : (k : Kind) (p : Text × Option Text) (h : Held) → Strange p → long_fault (rules k) false (arg_by_long (rules k) p.0) p.1 h ≡ [] → ⊥
 strange_fails transform_words p h s e =
-    go (bytes_eq (codes "ignore-imports") p.0) (bytes_eq (codes "ignore-indirect") p.0) p.1 s.2
-    ((λ i. long_by (sym s.0 i) (bytes_eq (codes "ignore-imports") p.0) (bytes_eq (codes "ignore-indirect") p.0) (sym s.1 i) p.1 h) ∙ e)
+    go (bytes_eq (codes "ignore-imports") p.0) (bytes_eq (codes "ignore-indirect") p.0) (bytes_eq (codes "asserts") p.0) p.1 s.2
+    ((λ i. long_by (sym s.0 i) (bytes_eq (codes "ignore-imports") p.0) (bytes_eq (codes "ignore-indirect") p.0) (bytes_eq (codes "asserts") p.0) (sym s.1 i) p.1 h) ∙ e)
   where
-    go : (imports indirect : Bool) (v : Option Text) → (v ≡ None → (imports ≡ false) × (indirect ≡ false)) → long_by false imports indirect false v h ≡ [] → ⊥
-    go true indirect None n e = absurd (true≢false (n refl).0)
-    go true indirect (Some v) n e = some_kind kind.TooManyValues [] e
-    go false true None n e = absurd (true≢false (n refl).1)
-    go false true (Some v) n e = some_kind kind.TooManyValues [] e
-    go false false v n e = some_kind kind.UnknownArgument [] e
+    go : (imports indirect asserts : Bool) (v : Option Text) → (v ≡ None → (imports ≡ false) × (indirect ≡ false) × (asserts ≡ false)) → long_by false imports indirect asserts false v h ≡ []
+        → ⊥
+    go true indirect asserts None n e = absurd (true≢false (n refl).0)
+    go true indirect asserts (Some v) n e = some_kind kind.TooManyValues [] e
+    go false true asserts None n e = absurd (true≢false (n refl).1)
+    go false true asserts (Some v) n e = some_kind kind.TooManyValues [] e
+    go false false true None n e = absurd (true≢false (n refl).2)
+    go false false true (Some v) n e = some_kind kind.TooManyValues [] e
+    go false false false v n e = some_kind kind.UnknownArgument [] e
 strange_fails host_words p h s e = some_kind kind.UnknownArgument [] e
 strange_fails run_words p h s e = some_kind kind.UnknownArgument [] e
 strange_fails gen_words p h s e = some_kind kind.UnknownArgument [] e

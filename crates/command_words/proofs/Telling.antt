@@ -3,7 +3,7 @@
 use Rattle.std.proofs.Common.{◌≡◌, ◌∙◌, ℕ, List, [], ◌∷◌, Option, Some, None, IfSome, option_map, Bool, true, false, not, ◌&&◌, refl, sym, ap, subst, codes, bytes_eq, if◌then◌else◌, is_some, true≢false, ◌||◌}
 use Rattle.std.proofs.lemmas.Slice.Eq.{bytes_eq-Decides}
 use Rattle.wa_types.specs.Pausing.{Choice}
-use Rattle.script_model.specs.Command.{Said, Place, anywhere, behind_imports, behind_save, behind_options, Word, imports_word, save_word, ignore_imports_word, ignore_indirect_word, end_word, unknown_word, imports_with, save_with, name_word, word_of, is_hyphened, said, say_at, say_word, once, say_file, transform_said, transform_at, with_files, choice_said, policy_said}
+use Rattle.script_model.specs.Command.{Said, Place, anywhere, behind_imports, behind_save, behind_options, Word, imports_word, save_word, ignore_imports_word, ignore_indirect_word, asserts_word, end_word, unknown_word, imports_with, save_with, name_word, word_of, is_hyphened, said, say_at, say_word, once, say_file, transform_said, transform_at, with_files, choice_said, policy_said}
 use Rattle.script_model.specs.Spelled.{Spelled, rewrites, hosts, runs, files_alone, is_plain, one_file, number_and_file}
 use Rattle.command_words.specs.Grammar.{Kind, transform_words, host_words, run_words, gen_words}
 
@@ -19,6 +19,9 @@ say_ignore_imports before s = once before (record s { ignore_imports = true })
 
 abbrev pub say_ignore_indirect : Bool → Said → Option Said
 say_ignore_indirect before s = once before (record s { ignore_indirect = true })
+
+abbrev pub say_asserts : Bool → Said → Option Said
+say_asserts before s = once before (record s { asserts = true })
 
 abbrev pub one_at_most : Option (List ℕ) → List ℕ → Said → Option Said
 one_at_most None name s = Some (record s { input = Some name })
@@ -127,6 +130,11 @@ dash_word ignore_indirect_word s h = go s.ignore_indirect
     go : (b : Bool) → IfSome (say_ignore_indirect b s) HasDash
     go true = tt
     go false = dash_stays s (record s { ignore_indirect = true }) refl refl h
+dash_word asserts_word s h = go s.asserts
+  where
+    go : (b : Bool) → IfSome (say_asserts b s) HasDash
+    go true = tt
+    go false = dash_stays s (record s { asserts = true }) refl refl h
 dash_word end_word s h = dash_stays s (record s { place = behind_options }) refl refl h
 dash_word unknown_word s h = tt
 dash_word (imports_with text) s h = dash_value list_option text s h
@@ -150,21 +158,21 @@ no_choice : (ignored : Bool) → choice_said (Some (codes "-")) ignored ≡ None
 no_choice true = refl
 no_choice false = refl
 
-no_policy : (c : Option Choice) (ignore : Bool) (input output : Option (List ℕ)) → with_files c ignore None input output ≡ None
-no_policy None ignore input output = refl
-no_policy (Some c) ignore input output = refl
+no_policy : (c : Option Choice) (ignore asserts : Bool) (input output : Option (List ℕ)) → with_files c ignore asserts None input output ≡ None
+no_policy None ignore asserts input output = refl
+no_policy (Some c) ignore asserts input output = refl
 
 -- what is spelled at the end, by the two values
 abbrev spelled_by : (imports save : Option (List ℕ)) → Said → Option Spelled
-spelled_by imports save s = option_map rewrites (with_files (choice_said imports s.ignore_imports) s.ignore_indirect (policy_said save) s.input s.output)
+spelled_by imports save s = option_map rewrites (with_files (choice_said imports s.ignore_imports) s.ignore_indirect s.asserts (policy_said save) s.input s.output)
 
 dash_none : (s : Said) → HasDash s → spelled_by s.imports s.save s ≡ None
 dash_none s (lists_dash h) =
     ap (λ (i : Option (List ℕ)). spelled_by i s.save s) h
-    ∙ ap (λ c. option_map rewrites (with_files c s.ignore_indirect (policy_said s.save) s.input s.output)) (no_choice s.ignore_imports)
+    ∙ ap (λ c. option_map rewrites (with_files c s.ignore_indirect s.asserts (policy_said s.save) s.input s.output)) (no_choice s.ignore_imports)
 dash_none s (saves_dash h) =
     ap (λ (v : Option (List ℕ)). spelled_by s.imports v s) h
-    ∙ ap (option_map rewrites) (no_policy (choice_said s.imports s.ignore_imports) s.ignore_indirect s.input s.output)
+    ∙ ap (option_map rewrites) (no_policy (choice_said s.imports s.ignore_imports) s.ignore_indirect s.asserts s.input s.output)
 
 dash_ends : (place : Place) (s : Said) → HasDash s → option_map rewrites (transform_at place s) ≡ None
 dash_ends anywhere s h = dash_none s h
@@ -193,6 +201,7 @@ pub data HasOption (s : Said) : Type 0 where
   saves : is_some s.save ≡ true → HasOption s
   ignores_imports : s.ignore_imports ≡ true → HasOption s
   ignores_indirect : s.ignore_indirect ≡ true → HasOption s
+  wants_asserts : s.asserts ≡ true → HasOption s
 
 option_file : (input output : Option (List ℕ)) (name : List ℕ) (s : Said) → HasOption s → IfSome (say_file input output name s) HasOption
 option_file None output name s (owes h) = owes h
@@ -200,11 +209,13 @@ option_file None output name s (lists h) = lists h
 option_file None output name s (saves h) = saves h
 option_file None output name s (ignores_imports h) = ignores_imports h
 option_file None output name s (ignores_indirect h) = ignores_indirect h
+option_file None output name s (wants_asserts h) = wants_asserts h
 option_file (Some input) None name s (owes h) = owes h
 option_file (Some input) None name s (lists h) = lists h
 option_file (Some input) None name s (saves h) = saves h
 option_file (Some input) None name s (ignores_imports h) = ignores_imports h
 option_file (Some input) None name s (ignores_indirect h) = ignores_indirect h
+option_file (Some input) None name s (wants_asserts h) = wants_asserts h
 option_file (Some input) (Some output) name s h = tt
 
 option_imports : (imports : Option (List ℕ)) (text : List ℕ) (s : Said) → IfSome (say_imports imports text s) HasOption
@@ -233,11 +244,17 @@ option_word ignore_indirect_word s at h = go s.ignore_indirect
     go : (b : Bool) → IfSome (say_ignore_indirect b s) HasOption
     go true = tt
     go false = ignores_indirect refl
+option_word asserts_word s at h = go s.asserts
+  where
+    go : (b : Bool) → IfSome (say_asserts b s) HasOption
+    go true = tt
+    go false = wants_asserts refl
 option_word end_word s at (owes h) = absurd (true≢false (sym h ∙ ap is_owed at))
 option_word end_word s at (lists h) = lists h
 option_word end_word s at (saves h) = saves h
 option_word end_word s at (ignores_imports h) = ignores_imports h
 option_word end_word s at (ignores_indirect h) = ignores_indirect h
+option_word end_word s at (wants_asserts h) = wants_asserts h
 option_word unknown_word s at h = tt
 option_word (imports_with text) s at h = option_value list_option text s
 option_word (save_with text) s at h = option_value save_option text s
@@ -261,41 +278,46 @@ or_true : (b : Bool) → (b || true) ≡ true
 or_true true = refl
 or_true false = refl
 
--- one of five holds
-abbrev one_holds : (owed list save imports indirect : Bool) → Bool
-one_holds owed list save imports indirect = (((owed || list) || save) || imports) || indirect
+-- one of six holds
+abbrev one_holds : (owed list save imports indirect asserts : Bool) → Bool
+one_holds owed list save imports indirect asserts = ((((owed || list) || save) || imports) || indirect) || asserts
 
-some_option : (s : Said) → HasOption s → one_holds (is_owed s.place) (is_some s.imports) (is_some s.save) s.ignore_imports s.ignore_indirect ≡ true
-some_option s (owes h) = ap (λ (b : Bool). one_holds b (is_some s.imports) (is_some s.save) s.ignore_imports s.ignore_indirect) h
+some_option : (s : Said) → HasOption s → one_holds (is_owed s.place) (is_some s.imports) (is_some s.save) s.ignore_imports s.ignore_indirect s.asserts ≡ true
+some_option s (owes h) = ap (λ (b : Bool). one_holds b (is_some s.imports) (is_some s.save) s.ignore_imports s.ignore_indirect s.asserts) h
 some_option s (lists h) =
-    ap (λ (b : Bool). one_holds (is_owed s.place) b (is_some s.save) s.ignore_imports s.ignore_indirect) h
-    ∙ ap (λ (b : Bool). ((b || is_some s.save) || s.ignore_imports) || s.ignore_indirect) (or_true (is_owed s.place))
+    ap (λ (b : Bool). one_holds (is_owed s.place) b (is_some s.save) s.ignore_imports s.ignore_indirect s.asserts) h
+    ∙ ap (λ (b : Bool). (((b || is_some s.save) || s.ignore_imports) || s.ignore_indirect) || s.asserts) (or_true (is_owed s.place))
 some_option s (saves h) =
-    ap (λ (b : Bool). one_holds (is_owed s.place) (is_some s.imports) b s.ignore_imports s.ignore_indirect) h
-    ∙ ap (λ (b : Bool). (b || s.ignore_imports) || s.ignore_indirect) (or_true (is_owed s.place || is_some s.imports))
+    ap (λ (b : Bool). one_holds (is_owed s.place) (is_some s.imports) b s.ignore_imports s.ignore_indirect s.asserts) h
+    ∙ ap (λ (b : Bool). ((b || s.ignore_imports) || s.ignore_indirect) || s.asserts) (or_true (is_owed s.place || is_some s.imports))
 some_option s (ignores_imports h) =
-    ap (λ (b : Bool). one_holds (is_owed s.place) (is_some s.imports) (is_some s.save) b s.ignore_indirect) h
-    ∙ ap (λ (b : Bool). b || s.ignore_indirect) (or_true ((is_owed s.place || is_some s.imports) || is_some s.save))
+    ap (λ (b : Bool). one_holds (is_owed s.place) (is_some s.imports) (is_some s.save) b s.ignore_indirect s.asserts) h
+    ∙ ap (λ (b : Bool). (b || s.ignore_indirect) || s.asserts) (or_true ((is_owed s.place || is_some s.imports) || is_some s.save))
 some_option s (ignores_indirect h) =
-    ap (λ (b : Bool). one_holds (is_owed s.place) (is_some s.imports) (is_some s.save) s.ignore_imports b) h
-    ∙ or_true (((is_owed s.place || is_some s.imports) || is_some s.save) || s.ignore_imports)
+    ap (λ (b : Bool). one_holds (is_owed s.place) (is_some s.imports) (is_some s.save) s.ignore_imports b s.asserts) h
+    ∙ ap (λ (b : Bool). b || s.asserts) (or_true (((is_owed s.place || is_some s.imports) || is_some s.save) || s.ignore_imports))
+some_option s (wants_asserts h) =
+    ap (λ (b : Bool). one_holds (is_owed s.place) (is_some s.imports) (is_some s.save) s.ignore_imports s.ignore_indirect b) h
+    ∙ or_true ((((is_owed s.place || is_some s.imports) || is_some s.save) || s.ignore_imports) || s.ignore_indirect)
 
-plain_by : (p : Place) (i v : Option (List ℕ)) (a b : Bool) → one_holds (is_owed p) (is_some i) (is_some v) a b ≡ true → is_plain p i v a b ≡ false
-plain_by behind_imports i v a b e = refl
-plain_by behind_save i v a b e = refl
-plain_by anywhere (Some t) v a b e = refl
-plain_by anywhere None (Some t) a b e = refl
-plain_by anywhere None None true b e = refl
-plain_by anywhere None None false true e = refl
-plain_by anywhere None None false false e = absurd (true≢false (sym e))
-plain_by behind_options (Some t) v a b e = refl
-plain_by behind_options None (Some t) a b e = refl
-plain_by behind_options None None true b e = refl
-plain_by behind_options None None false true e = refl
-plain_by behind_options None None false false e = absurd (true≢false (sym e))
+plain_by : (p : Place) (i v : Option (List ℕ)) (a b c : Bool) → one_holds (is_owed p) (is_some i) (is_some v) a b c ≡ true → is_plain p i v a b c ≡ false
+plain_by behind_imports i v a b c e = refl
+plain_by behind_save i v a b c e = refl
+plain_by anywhere (Some t) v a b c e = refl
+plain_by anywhere None (Some t) a b c e = refl
+plain_by anywhere None None true b c e = refl
+plain_by anywhere None None false true c e = refl
+plain_by anywhere None None false false true e = refl
+plain_by anywhere None None false false false e = absurd (true≢false (sym e))
+plain_by behind_options (Some t) v a b c e = refl
+plain_by behind_options None (Some t) a b c e = refl
+plain_by behind_options None None true b c e = refl
+plain_by behind_options None None false true c e = refl
+plain_by behind_options None None false false true e = refl
+plain_by behind_options None None false false false e = absurd (true≢false (sym e))
 
-not_plain : (s : Said) → HasOption s → is_plain s.place s.imports s.save s.ignore_imports s.ignore_indirect ≡ false
-not_plain s h = plain_by s.place s.imports s.save s.ignore_imports s.ignore_indirect (some_option s h)
+not_plain : (s : Said) → HasOption s → is_plain s.place s.imports s.save s.ignore_imports s.ignore_indirect s.asserts ≡ false
+not_plain s h = plain_by s.place s.imports s.save s.ignore_imports s.ignore_indirect s.asserts (some_option s h)
 
 -- behind an option the words of such a command spell nothing
 option_spells : (spell : Option (List ℕ) → Option (List ℕ) → Option Spelled) (words : List (List ℕ)) (s : Option Said) → IfSome s HasOption → files_alone spell (said s words) ≡ None
@@ -339,6 +361,11 @@ second_word ignore_indirect_word s h = go s.ignore_indirect
     go : (b : Bool) → IfSome (say_ignore_indirect b s) HasSecond
     go true = tt
     go false = h
+second_word asserts_word s h = go s.asserts
+  where
+    go : (b : Bool) → IfSome (say_asserts b s) HasSecond
+    go true = tt
+    go false = h
 second_word end_word s h = h
 second_word unknown_word s h = tt
 second_word (imports_with text) s h = second_value list_option text s h
@@ -367,7 +394,7 @@ no_script spell true (Some input) (Some output) h = refl
 
 second_spells : (spell : List ℕ → Spelled) (words : List (List ℕ)) (s : Option Said) → IfSome s HasSecond → files_alone (one_file spell) (said s words) ≡ None
 second_spells spell [] None h = refl
-second_spells spell [] (Some s) h = no_script spell (is_plain s.place s.imports s.save s.ignore_imports s.ignore_indirect) s.input s.output h.1
+second_spells spell [] (Some s) h = no_script spell (is_plain s.place s.imports s.save s.ignore_imports s.ignore_indirect s.asserts) s.input s.output h.1
 second_spells spell (word ∷ words) None h = ap (files_alone (one_file spell)) (said_none words)
 second_spells spell (word ∷ words) (Some s) h = second_spells spell words (say_at s.place word s) (second_at s.place word s h)
 
@@ -434,6 +461,11 @@ other_word k other ignore_indirect_word s = beyond (no_option k other ignore_ind
     go : (b : Bool) → IfSome (say_ignore_indirect b s) HasOption
     go true = tt
     go false = ignores_indirect refl
+other_word k other asserts_word s = beyond (no_option k other asserts_word s) (beyond_option k other (say_asserts s.asserts s) (go s.asserts))
+  where
+    go : (b : Bool) → IfSome (say_asserts b s) HasOption
+    go true = tt
+    go false = wants_asserts refl
 other_word k other end_word s = alike refl
 other_word k other unknown_word s = alike (sym (no_option k other unknown_word s))
 other_word k other (imports_with text) s = beyond (no_option k other (imports_with text) s) (beyond_option k other (say_value list_option text s) (option_value list_option text s))
@@ -451,6 +483,7 @@ same_word imports_word s = refl
 same_word save_word s = refl
 same_word ignore_imports_word s = refl
 same_word ignore_indirect_word s = refl
+same_word asserts_word s = refl
 same_word end_word s = refl
 same_word unknown_word s = refl
 same_word (imports_with text) s = refl
@@ -504,7 +537,7 @@ agrees k (word ∷ words) (Some s) = go (say_at s.place word s) (tell_at k s.pla
 -- ---- what a command without options tells
 
 abbrev pub HasNone : Said → Type 0
-HasNone s = (is_owed s.place ≡ false) × (s.imports ≡ None) × (s.save ≡ None) × (s.ignore_imports ≡ false) × (s.ignore_indirect ≡ false)
+HasNone s = (is_owed s.place ≡ false) × (s.imports ≡ None) × (s.save ≡ None) × (s.ignore_imports ≡ false) × (s.ignore_indirect ≡ false) × (s.asserts ≡ false)
 
 abbrev pub Bare : Kind → Said → Type 0
 Bare transform_words s = Unit {0}
@@ -534,9 +567,9 @@ bare_file gen_words name s h = none_file s.input s.output name s h
 
 at_end : (k : Kind) (s : Said) → Bare k s → Bare k (record s { place = behind_options })
 at_end transform_words s h = tt
-at_end host_words s h = ((refl, h.0.1, h.0.2, h.0.3, h.0.4), h.1)
-at_end run_words s h = ((refl, h.0.1, h.0.2, h.0.3, h.0.4), h.1)
-at_end gen_words s h = (refl, h.1, h.2, h.3, h.4)
+at_end host_words s h = ((refl, h.0.1, h.0.2, h.0.3, h.0.4, h.0.5), h.1)
+at_end run_words s h = ((refl, h.0.1, h.0.2, h.0.3, h.0.4, h.0.5), h.1)
+at_end gen_words s h = (refl, h.1, h.2, h.3, h.4, h.5)
 
 all_bare : (o : Option Said) → IfSome o (Bare transform_words)
 all_bare None = tt
@@ -556,6 +589,7 @@ bare_word k imports_word s h = bare_option k imports_word s
 bare_word k save_word s h = bare_option k save_word s
 bare_word k ignore_imports_word s h = bare_option k ignore_imports_word s
 bare_word k ignore_indirect_word s h = bare_option k ignore_indirect_word s
+bare_word k asserts_word s h = bare_option k asserts_word s
 bare_word k end_word s h = at_end k s h
 bare_word k unknown_word s h = bare_option k unknown_word s
 bare_word k (imports_with text) s h = bare_option k (imports_with text) s

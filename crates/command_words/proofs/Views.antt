@@ -6,7 +6,7 @@ use Rattle.std.proofs.lemmas.Str.{encode_ascii, encodes-chars, IsUtf8-past_char}
 use Rattle.clap.specs.Lexer.{long_of, long_of_rest, short_of, short_of_rest, strip_byte, name_and_value}
 use Rattle.clap.proofs.CutLemmas.{Lacks}
 use Rattle.clap.proofs.LexerLemmas.{name_and_value-at, name_and_value-without}
-use Rattle.script_model.specs.Command.{Word, imports_word, save_word, ignore_imports_word, ignore_indirect_word, end_word, unknown_word, name_word, word_of, is_hyphened, behind, named_word, with_value}
+use Rattle.script_model.specs.Command.{Word, imports_word, save_word, ignore_imports_word, ignore_indirect_word, asserts_word, end_word, unknown_word, name_word, word_of, is_hyphened, behind, named_word, with_value}
 
 abbrev pub Text : Type 0
 Text = List ℕ
@@ -81,7 +81,7 @@ pub record IsUnknown (word : Text) : Type 0 where
 -- a long word that is none of the options, as name and value
 abbrev pub Strange : Text × Option Text → Type 0
 Strange p = (bytes_eq (codes "imports") p.0 ≡ false) × (bytes_eq (codes "save") p.0 ≡ false)
-    × (p.1 ≡ None → (bytes_eq (codes "ignore-imports") p.0 ≡ false) × (bytes_eq (codes "ignore-indirect") p.0 ≡ false))
+    × (p.1 ≡ None → (bytes_eq (codes "ignore-imports") p.0 ≡ false) × (bytes_eq (codes "ignore-indirect") p.0 ≡ false) × (bytes_eq (codes "asserts") p.0 ≡ false))
 
 pub data View (word : Text) : Type 0 where
   is_end : word ≡ codes "--" → View word
@@ -89,6 +89,7 @@ pub data View (word : Text) : Type 0 where
   is_save : word ≡ codes "--save" → View word
   is_imports : word ≡ codes "--ignore-imports" → View word
   is_indirect : word ≡ codes "--ignore-indirect" → View word
+  is_asserts : word ≡ codes "--asserts" → View word
   is_list_with : (text : Text) → word ≡ codes "--imports=" ++ text → View word
   is_save_with : (text : Text) → word ≡ codes "--save=" ++ text → View word
   is_named : IsName word → View word
@@ -101,17 +102,18 @@ record IsPast (word : Text) : Type 0 where
   pub saves : bytes_eq word (codes "--save") ≡ false
   pub imports : bytes_eq word (codes "--ignore-imports") ≡ false
   pub indirect : bytes_eq word (codes "--ignore-indirect") ≡ false
+  pub asserts : bytes_eq word (codes "--asserts") ≡ false
   pub ends : bytes_eq word (codes "--") ≡ false
   pub unlisted : behind (codes "--imports=") word ≡ None
   pub unsaved : behind (codes "--save=") word ≡ None
 
-abbrev word_by : (lists saves imports indirect ends : Bool) → (list save : Option Text) → Text → Word
-word_by lists saves imports indirect ends list save word =
-    if lists then imports_word else (if saves then save_word
-    else (if imports then ignore_imports_word else (if indirect then ignore_indirect_word else (if ends then end_word else with_value list save word))))
+abbrev word_by : (lists saves imports indirect asserts ends : Bool) → (list save : Option Text) → Text → Word
+word_by lists saves imports indirect asserts ends list save word =
+    if lists then imports_word else (if saves then save_word else (if imports then ignore_imports_word
+    else (if indirect then ignore_indirect_word else (if asserts then asserts_word else (if ends then end_word else with_value list save word)))))
 
 past_named : (word : Text) → IsPast word → word_of word ≡ named_word word
-past_named word h = λ i. word_by (h.lists i) (h.saves i) (h.imports i) (h.indirect i) (h.ends i) (h.unlisted i) (h.unsaved i) word
+past_named word h = λ i. word_by (h.lists i) (h.saves i) (h.imports i) (h.indirect i) (h.asserts i) (h.ends i) (h.unlisted i) (h.unsaved i) word
 
 -- ---- a word that begins with `-`
 
@@ -156,6 +158,7 @@ strange text h (inl lacks) = (
     λ _. (
       differ (codes "ignore-imports") text (λ e. clash (hyphens text) (codes "--ignore-imports") h.imports (ap hyphens (sym e))),
       differ (codes "ignore-indirect") text (λ e. clash (hyphens text) (codes "--ignore-indirect") h.indirect (ap hyphens (sym e))),
+      differ (codes "asserts") text (λ e. clash (hyphens text) (codes "--asserts") h.asserts (ap hyphens (sym e))),
     ),
   ),
 )
@@ -212,24 +215,29 @@ Apart word option = bytes_eq word option ≡ false
 pub view : (word : Text) → IsUtf8 word → View word
 view word utf8 = at_lists (bytes_eq word (codes "--imports")) refl
   where
-    at_save_value : Apart word (codes "--imports") → Apart word (codes "--save") → Apart word (codes "--ignore-imports") → Apart word (codes "--ignore-indirect") → Apart word (codes "--")
-        → behind (codes "--imports=") word ≡ None → (o : Option Text) → behind (codes "--save=") word ≡ o → View word
-    at_save_value l s a b c d (Some text) e = is_save_with text (behind_is (codes "--save=") word text e)
-    at_save_value l s a b c d None e = plain_word word utf8 (record { lists = l; saves = s; imports = a; indirect = b; ends = c; unlisted = d; unsaved = e })
+    at_save_value : Apart word (codes "--imports") → Apart word (codes "--save") → Apart word (codes "--ignore-imports") → Apart word (codes "--ignore-indirect") → Apart word (codes "--asserts")
+        → Apart word (codes "--") → behind (codes "--imports=") word ≡ None → (o : Option Text) → behind (codes "--save=") word ≡ o → View word
+    at_save_value l s a b f c d (Some text) e = is_save_with text (behind_is (codes "--save=") word text e)
+    at_save_value l s a b f c d None e = plain_word word utf8 (record { lists = l; saves = s; imports = a; indirect = b; asserts = f; ends = c; unlisted = d; unsaved = e })
 
-    at_value : Apart word (codes "--imports") → Apart word (codes "--save") → Apart word (codes "--ignore-imports") → Apart word (codes "--ignore-indirect") → Apart word (codes "--")
-        → (o : Option Text) → behind (codes "--imports=") word ≡ o → View word
-    at_value l s a b c (Some text) e = is_list_with text (behind_is (codes "--imports=") word text e)
-    at_value l s a b c None e = at_save_value l s a b c e (behind (codes "--save=") word) refl
+    at_value : Apart word (codes "--imports") → Apart word (codes "--save") → Apart word (codes "--ignore-imports") → Apart word (codes "--ignore-indirect") → Apart word (codes "--asserts")
+        → Apart word (codes "--") → (o : Option Text) → behind (codes "--imports=") word ≡ o → View word
+    at_value l s a b f c (Some text) e = is_list_with text (behind_is (codes "--imports=") word text e)
+    at_value l s a b f c None e = at_save_value l s a b f c e (behind (codes "--save=") word) refl
 
-    at_end : Apart word (codes "--imports") → Apart word (codes "--save") → Apart word (codes "--ignore-imports") → Apart word (codes "--ignore-indirect")
+    at_end : Apart word (codes "--imports") → Apart word (codes "--save") → Apart word (codes "--ignore-imports") → Apart word (codes "--ignore-indirect") → Apart word (codes "--asserts")
         → (t : Bool) → bytes_eq word (codes "--") ≡ t → View word
-    at_end l s a b true e = is_end (same_is word (codes "--") e)
-    at_end l s a b false e = at_value l s a b e (behind (codes "--imports=") word) refl
+    at_end l s a b f true e = is_end (same_is word (codes "--") e)
+    at_end l s a b f false e = at_value l s a b f e (behind (codes "--imports=") word) refl
+
+    at_asserts : Apart word (codes "--imports") → Apart word (codes "--save") → Apart word (codes "--ignore-imports") → Apart word (codes "--ignore-indirect")
+        → (t : Bool) → bytes_eq word (codes "--asserts") ≡ t → View word
+    at_asserts l s a b true e = is_asserts (same_is word (codes "--asserts") e)
+    at_asserts l s a b false e = at_end l s a b e (bytes_eq word (codes "--")) refl
 
     at_indirect : Apart word (codes "--imports") → Apart word (codes "--save") → Apart word (codes "--ignore-imports") → (t : Bool) → bytes_eq word (codes "--ignore-indirect") ≡ t → View word
     at_indirect l s a true e = is_indirect (same_is word (codes "--ignore-indirect") e)
-    at_indirect l s a false e = at_end l s a e (bytes_eq word (codes "--")) refl
+    at_indirect l s a false e = at_asserts l s a e (bytes_eq word (codes "--asserts")) refl
 
     at_imports : Apart word (codes "--imports") → Apart word (codes "--save") → (t : Bool) → bytes_eq word (codes "--ignore-imports") ≡ t → View word
     at_imports l s true e = is_imports (same_is word (codes "--ignore-imports") e)

@@ -8,7 +8,7 @@ use Rattle.clap.specs.Faults.{long_fault, option_fault, positional_fault, react_
 use Rattle.clap.specs.declared.error.kind.ErrorKind.TheVariants as kind
 use Rattle.script_model.specs.Command.{Said}
 use Rattle.command_words.specs.Grammar.{Kind, transform_words, host_words, run_words, gen_words, rules, shape}
-use Rattle.command_words.proofs.Views.{View, is_end, is_list, is_save, is_imports, is_indirect, is_list_with, is_save_with, is_named, is_long, is_short, view}
+use Rattle.command_words.proofs.Views.{View, is_end, is_list, is_save, is_imports, is_indirect, is_asserts, is_list_with, is_save_with, is_named, is_long, is_short, view}
 use Rattle.command_words.proofs.Telling.{told, told_none, tell_at}
 use Rattle.command_words.proofs.Steps.{After, Doomed, Settles, Stands, after_as, at_walk, first_passes, held, name_is, name_met, shows, some_kind, turn_fails, unknown_fails, walk_of}
 use Rattle.command_words.proofs.Stepping.{step}
@@ -86,6 +86,8 @@ idle_doomed k rows pending place word (is_imports e) fails =
     subst (IdleDoomed k rows pending place) (sym e) (λ f. absurd (long_turn k rows pending place (codes "--ignore-imports") (codes "ignore-imports", None) fails refl f))
 idle_doomed k rows pending place word (is_indirect e) fails =
     subst (IdleDoomed k rows pending place) (sym e) (λ f. absurd (long_turn k rows pending place (codes "--ignore-indirect") (codes "ignore-indirect", None) fails refl f))
+idle_doomed k rows pending place word (is_asserts e) fails =
+    subst (IdleDoomed k rows pending place) (sym e) (λ f. absurd (long_turn k rows pending place (codes "--asserts") (codes "asserts", None) fails refl f))
 idle_doomed k rows pending place word (is_list_with text e) fails =
     subst (IdleDoomed k rows pending place) (sym e) (λ f. absurd (long_turn k rows pending place (codes "--imports=" ++ text) (codes "imports", Some text) fails refl f))
 idle_doomed k rows pending place word (is_save_with text e) fails =

@@ -1,5 +1,5 @@
 -- Words of small commands that the definitions compute, wrong readings beside right ones.
-use Rattle.std.proofs.Common.{◌≡◌, [], ◌∷◌, Some, None, false, refl}
+use Rattle.std.proofs.Common.{◌≡◌, [], ◌∷◌, Some, None, Bool, false, true, refl}
 use Rattle.std.specs.Prelude.{codes}
 use Rattle.std.specs.Str.{is_utf8, chars}
 use Rattle.std.proofs.Math.Utf8.{encode}
@@ -66,7 +66,7 @@ no_command = (refl, refl, refl)
 -- ---- what frames save
 
 abbrev a_to_b : Policy → Spelled
-a_to_b policy = rewrites (transform (record { choice = every; ignore_indirect = false; policy = policy }) (codes "a") (codes "b"))
+a_to_b policy = rewrites (transform (record { settings = record { choice = every; ignore_indirect = false; policy = policy }; asserts = false }) (codes "a") (codes "b"))
 
 saves_live :
     (spelled (codes "transform" ∷ codes "--save" ∷ codes "live" ∷ codes "a" ∷ codes "b" ∷ []) ≡ Some (a_to_b save_live))
@@ -90,3 +90,24 @@ no_policy :
     × (spelled (codes "run" ∷ codes "--save=live" ∷ codes "s" ∷ []) ≡ None)
 unfolding is_utf8 chars encode digits
 no_policy = (refl, refl, refl, refl, refl, refl)
+
+-- ---- asserts
+
+abbrev with_asserts : (ignore : Bool) → Spelled
+with_asserts ignore = rewrites (transform (record { settings = record { choice = every; ignore_indirect = ignore; policy = save_all }; asserts = true }) (codes "a") (codes "b"))
+
+wants_asserts :
+    (spelled (codes "transform" ∷ codes "--asserts" ∷ codes "a" ∷ codes "b" ∷ []) ≡ Some (with_asserts false))
+    × (spelled (codes "transform" ∷ codes "a" ∷ codes "--ignore-indirect" ∷ codes "b" ∷ codes "--asserts" ∷ []) ≡ Some (with_asserts true))
+unfolding is_utf8 chars encode digits
+wants_asserts = (refl, refl)
+
+-- the flag stands once, takes no value, and is one of `transform` alone
+no_asserts :
+    (spelled (codes "transform" ∷ codes "--asserts" ∷ codes "--asserts" ∷ codes "a" ∷ codes "b" ∷ []) ≡ None)
+    × (spelled (codes "transform" ∷ codes "--asserts=true" ∷ codes "a" ∷ codes "b" ∷ []) ≡ None)
+    × (spelled (codes "transform" ∷ codes "--assert" ∷ codes "a" ∷ codes "b" ∷ []) ≡ None)
+    × (spelled (codes "host" ∷ codes "--asserts" ∷ codes "s" ∷ []) ≡ None) × (spelled (codes "run" ∷ codes "s" ∷ codes "--asserts" ∷ []) ≡ None)
+    × (spelled (codes "gen" ∷ codes "--asserts" ∷ codes "4" ∷ codes "out" ∷ []) ≡ None)
+unfolding is_utf8 chars encode digits
+no_asserts = (refl, refl, refl, refl, refl, refl)

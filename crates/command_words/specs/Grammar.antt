@@ -36,7 +36,7 @@ placed_rule id = record (new_rule id) { required = true }
 abbrev pub arguments : Kind → List Rule
 arguments transform_words =
     option_rule (codes "imports") ∷ flag_rule (codes "ignore-imports") ∷ flag_rule (codes "ignore-indirect")
-    ∷ option_rule (codes "save") ∷ placed_rule (codes "input") ∷ placed_rule (codes "output") ∷ []
+    ∷ flag_rule (codes "asserts") ∷ option_rule (codes "save") ∷ placed_rule (codes "input") ∷ placed_rule (codes "output") ∷ []
 arguments host_words = placed_rule (codes "script") ∷ []
 arguments run_words = placed_rule (codes "script") ∷ []
 arguments gen_words = placed_rule (codes "number") ∷ placed_rule (codes "output") ∷ []
@@ -95,14 +95,15 @@ TellsFlag id rows = (one_of id rows ≡ Some (codes "true")) ⊎ (one_of id rows
 
 -- The matches of a command tell it of each of its flags.
 abbrev pub TellsFlags : Kind → List Row → Type 0
-TellsFlags transform_words rows = TellsFlag (codes "ignore-imports") rows × TellsFlag (codes "ignore-indirect") rows
+TellsFlags transform_words rows = TellsFlag (codes "ignore-imports") rows × TellsFlag (codes "ignore-indirect") rows × TellsFlag (codes "asserts") rows
 TellsFlags _ rows = Unit {0}
 
 -- the command of which these are the matches, if they are one whole
 abbrev pub read_of : Kind → List Row → Option Spelled
 read_of transform_words rows =
     option_map rewrites (with_files (choice_said (first_of (codes "imports") rows) (flag_of (codes "ignore-imports") rows))
-    (flag_of (codes "ignore-indirect") rows) (policy_said (first_of (codes "save") rows)) (first_of (codes "input") rows) (first_of (codes "output") rows))
+    (flag_of (codes "ignore-indirect") rows) (flag_of (codes "asserts") rows) (policy_said (first_of (codes "save") rows)) (first_of (codes "input") rows)
+    (first_of (codes "output") rows))
 read_of host_words rows = option_map hosts (first_of (codes "script") rows)
 read_of run_words rows = option_map runs (first_of (codes "script") rows)
 read_of gen_words rows = number_and_file (first_of (codes "number") rows) (first_of (codes "output") rows)

@@ -3,16 +3,21 @@ use Rattle.std.specs.Prelude.{◌≡◌, ◌≤◌, List, ℕ, Option, Some, Non
 use Rattle.std.specs.Option.{option_map}
 use denote.Ref.{Bor}
 use Rattle.call_graph.specs.Settings.{settings_of}
-use Rattle.script_model.specs.Command.{transform}
+use Rattle.call_graph.specs.declared.settings.Settings.{Settings}
+use Rattle.script_model.specs.Command.{Manner, transform}
 use Rattle.script_model.specs.Spelled.{Spelled, rewrites, hosts, runs, generates}
 use Rattle.command_words.specs.declared.words.Command.{Command as CommandValue}
 use Rattle.command_words.specs.declared.words.Command.TheVariants.{Transform, Host, Run, Gen}
 use Rattle.command_words.specs.declared.words.WordsFault.{WordsFault}
 use Rattle.command_words.specs.declared.words.WordsFault.TheVariants.{Memory, Usage}
 
+-- settings, as the manner of a `transform`
+abbrev pub manner_of : Settings → Manner
+manner_of s = record { settings = settings_of s; asserts = s.asserts }
+
 -- a command
 abbrev pub spelled_of : CommandValue → Spelled
-spelled_of (Transform settings input output) = rewrites (transform (settings_of settings) input.now output.now)
+spelled_of (Transform settings input output) = rewrites (transform (manner_of settings) input.now output.now)
 spelled_of (Host script) = hosts script.now
 spelled_of (Run script) = runs script.now
 spelled_of (Gen number output) = generates number output.now

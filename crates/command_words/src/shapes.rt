@@ -9,7 +9,7 @@ ghost use Rattle.command_words.specs.Scripts.{script_shape};
 use clap::{Arg, ArgAction, Command};
 use std::alloc::{AllocError, Global};
 
-/// `transform [--imports LIST] [--ignore-imports] [--ignore-indirect] [--save all|live] IN OUT`
+/// `transform [--imports LIST] [--ignore-imports] [--ignore-indirect] [--asserts] [--save all|live] IN OUT`
 pub fn transform_line<'w>(alloc: Global) -> Result<Command<'w>, AllocError>
     ensures shape { IfOk result (λ c. shape_of c ≡ command_shape transform_words) }
     ensures local { IfOk result (λ c. (out-Command c).has_globals ≡ false) }
@@ -20,6 +20,7 @@ pub fn transform_line<'w>(alloc: Global) -> Result<Command<'w>, AllocError>
     )?;
     let line = with_arg(line, flag_arg(alloc, "ignore-imports"))?;
     let line = with_arg(line, flag_arg(alloc, "ignore-indirect"))?;
+    let line = with_arg(line, flag_arg(alloc, "asserts"))?;
     let line = with_arg(line, option_arg(alloc, "save"))?;
     with_places(alloc, line, "input", "output")
 }

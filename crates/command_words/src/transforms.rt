@@ -26,11 +26,12 @@ pub(crate) fn transform_from<'w>(
     let imports = text_at(matches, "imports");
     let ignore_imports = flag_at(matches, "ignore-imports");
     let ignore_indirect = flag_at(matches, "ignore-indirect");
+    let asserts = flag_at(matches, "asserts");
     let save = text_at(matches, "save");
     let input = text_at(matches, "input");
     let output = text_at(matches, "output");
     match choice_said(alloc, imports, ignore_imports) {
-        Ok(choice) => with_policy(choice, ignore_indirect, save, input, output),
+        Ok(choice) => with_policy(choice, ignore_indirect, asserts, save, input, output),
         Err(fault) => Err(fault),
     }
 }
@@ -101,28 +102,36 @@ fn named_policy(name: &str) -> Result<Policy, WordsFault>
 fn with_policy<'w>(
     choice: Choice,
     ignore_indirect: bool,
+    asserts: bool,
     save: Option<&'w str>,
     input: Option<&'w str>,
     output: Option<&'w str>,
 ) -> Result<Command<'w>, WordsFault>
-    ensures command { Reads spelled_of result (option_map rewrites (with_files (Some (choice_of choice)) ignore_indirect (policy_said (text_of save.entry)) (text_of input.entry)
+    ensures command { Reads spelled_of result (option_map rewrites (with_files (Some (choice_of choice)) ignore_indirect asserts (policy_said (text_of save.entry)) (text_of input.entry)
         (text_of output.entry))) }
     ensures number { IfOk result HasFewFunctions }
 {
     match policy_said(save) {
-        Ok(policy) => with_files(choice, ignore_indirect, policy, input, output),
+        Ok(policy) => {
+            let settings = Settings {
+                choice,
+                ignore_indirect,
+                policy,
+                asserts,
+            };
+            with_files(settings, input, output)
+        }
         Err(fault) => Err(fault),
     }
 }
 
 fn with_files<'w>(
-    choice: Choice,
-    ignore_indirect: bool,
-    policy: Policy,
+    settings: Settings,
     input: Option<&'w str>,
     output: Option<&'w str>,
 ) -> Result<Command<'w>, WordsFault>
-    ensures command { Reads spelled_of result (option_map rewrites (with_files (Some (choice_of choice)) ignore_indirect (Some (policy_of policy)) (text_of input.entry) (text_of output.entry))) }
+    ensures command { Reads spelled_of result (option_map rewrites (with_files (Some (choice_of settings.choice)) settings.ignore_indirect settings.asserts (Some (policy_of settings.policy))
+        (text_of input.entry) (text_of output.entry))) }
     ensures number { IfOk result HasFewFunctions }
 {
     let Some(input) = input else {
@@ -130,11 +139,6 @@ fn with_files<'w>(
     };
     let Some(output) = output else {
         return Err(WordsFault::Usage);
-    };
-    let settings = Settings {
-        choice,
-        ignore_indirect,
-        policy,
     };
     Ok(Command::Transform {
         settings,

@@ -13,6 +13,7 @@ use Rattle.transcript.specs.Printing.{refusal_of}
 use Rattle.call_graph.proofs.GraphLemmas.{listed_count}
 use Rattle.transform_command.specs.SourceRefusals as U
 use Rattle.transform_command.specs.SourceRefusals.{cause_of}
+use Rattle.transform_command.specs.Manners.{plainly}
 use Rattle.transform_command.specs.Running.{RunsAs}
 use Rattle.transform_command.specs.Sources.{IsRefusedFor, refusal_for}
 use Rattle.transform_command.specs.declared.refusals.Refusal.{Refusal as SourceRefusal}
@@ -63,7 +64,7 @@ module _ (t : ProgramText) (s : Settings) (files : Option Files) (settings : set
   }
 
   -- .. and one that isn't
-  pub bad_rewritten : (why : SourceFault) (fault : FileFault) → U.IsToldFault s files t.path why → U.IsUnwritten why → IsOfSource why fault → IsBadModuleFor Run files t fault
+  pub bad_rewritten : (why : SourceFault) (fault : FileFault) → U.IsToldFault (plainly s) files t.path why → U.IsUnwritten why → IsOfSource why fault → IsBadModuleFor Run files t fault
   bad_rewritten S.Memory fault h u e = subst (IsBadModuleFor Run files t) (sym e) tt
   bad_rewritten S.Read fault h u e = subst (IsBadModuleFor Run files t) (sym e) tt
   bad_rewritten (S.Refused refusal) fault h u e =

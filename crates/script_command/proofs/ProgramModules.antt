@@ -10,6 +10,7 @@ use Rattle.script_model.specs.Transcript.{Refusal}
 use Rattle.wasm_reader.proofs.Held.{own_bytes}
 use Rattle.script_setup.specs.Prepared.{IsPrepared, IsUnprepared}
 use Rattle.transform_command.specs.Running.{RunsAs}
+use Rattle.transform_command.specs.Manners.{plainly}
 use Rattle.transform_command.specs.Sources.{Cause, malformed, float, deep, limit, reserved, invalid, rewritten_locals, long_output, IsRefusedFor}
 use Rattle.transform_command.proofs.Outlines.{outline}
 use Rattle.transform_command.proofs.Verdicts as V
@@ -42,7 +43,7 @@ early (long_output found) u = absurd u
 run_passes : (s : Settings) (bytes : List ℕ) (listed : List Bool) (p : Module) (c : Cause) → RunsAs s bytes listed p → IsUnwritten c → IsRefusedFor s bytes c → ⊥
 run_passes s bytes listed p c r u h =
     let le = early c u in
-    V.stops s bytes c h (V.below s bytes 7 (suc (V.stage c)) (omega (arith, le)) (r.source, r.which, r.rewritable))
+    V.stops (plainly s) bytes c h (V.below s bytes 7 (suc (V.stage c)) (omega (arith, le)) (r.source, r.which, r.rewritable))
 
 -- runs of one original have one outline
 one_run : (s : Settings) (bytes : List ℕ) (l k : List Bool) (p q : Module) → RunsAs s bytes l p → RunsAs s bytes k q → outline p ≡ outline q

@@ -126,6 +126,7 @@ fn settings_for(alloc: Global, text: &ProgramText) -> Result<Settings, AllocErro
         choice,
         ignore_indirect: false,
         policy: policy_for(text.policy_live),
+        asserts: false,
     })
 }
 

@@ -3,13 +3,18 @@ use Rattle.std.specs.Prelude.{ℕ, List, [], ◌∷◌, Option, Some, None, is_s
 use Rattle.std.specs.Str.{bytes_eq}
 use Rattle.wa_types.specs.Pausing.{Choice, every, nobody, of_list, Entry, ListError, list_of, Policy, save_all, save_live, Settings}
 
--- Rewrite, by these settings, the module in one file into another.
+-- How a module is rewritten: by these settings, and with asserts or without.
+pub record Manner : Type 0 where
+  pub settings : Settings
+  pub asserts : Bool
+
+-- Rewrite, in this manner, the module in one file into another.
 pub data Command : Type 0 where
-  transform : (settings : Settings) → (input output : List ℕ) → Command
+  transform : (manner : Manner) → (input output : List ℕ) → Command
 
 -- What a word is where an option may stand: an option, one with `=` and its value, a flag, the end of options, a name, or none of these.
 pub data Word : Type 0 where
-  imports_word save_word ignore_imports_word ignore_indirect_word end_word unknown_word : Word
+  imports_word save_word ignore_imports_word ignore_indirect_word asserts_word end_word unknown_word : Word
   imports_with save_with name_word : (text : List ℕ) → Word
 
 -- where the next word stands: an option may come; the value of `--imports` or of `--save` must; only files may
@@ -23,12 +28,13 @@ pub record Said : Type 0 where
   pub save : Option (List ℕ)
   pub ignore_imports : Bool
   pub ignore_indirect : Bool
+  pub asserts : Bool
   pub input : Option (List ℕ)
   pub output : Option (List ℕ)
 
 -- nothing yet
 abbrev pub nothing_said : Said
-nothing_said = record { place = anywhere; imports = None; save = None; ignore_imports = false; ignore_indirect = false; input = None; output = None }
+nothing_said = record { place = anywhere; imports = None; save = None; ignore_imports = false; ignore_indirect = false; asserts = false; input = None; output = None }
 
 -- the word begins with `-`
 abbrev pub is_hyphened : List ℕ → Bool
@@ -58,8 +64,9 @@ word_of word =
     else (if bytes_eq word (codes "--save") then save_word
     else (if bytes_eq word (codes "--ignore-imports") then ignore_imports_word
     else (if bytes_eq word (codes "--ignore-indirect") then ignore_indirect_word
+    else (if bytes_eq word (codes "--asserts") then asserts_word
     else (if bytes_eq word (codes "--") then end_word
-    else with_value (behind (codes "--imports=") word) (behind (codes "--save=") word) word))))
+    else with_value (behind (codes "--imports=") word) (behind (codes "--save=") word) word)))))
 
 -- an option or a flag that was given before isn't given again
 abbrev pub once : (before : Bool) → Said → Option Said
@@ -80,6 +87,7 @@ say_word save_word s = Some (record s { place = behind_save })
 say_word (save_with text) s = once (is_some s.save) (record s { place = anywhere; save = Some text })
 say_word ignore_imports_word s = once s.ignore_imports (record s { ignore_imports = true })
 say_word ignore_indirect_word s = once s.ignore_indirect (record s { ignore_indirect = true })
+say_word asserts_word s = once s.asserts (record s { asserts = true })
 say_word end_word s = Some (record s { place = behind_options })
 say_word unknown_word s = None
 say_word (name_word name) s = say_file s.input s.output name s
@@ -119,29 +127,29 @@ policy_said None = Some save_all
 policy_said (Some text) = if bytes_eq text (codes "all") then Some save_all else (if bytes_eq text (codes "live") then Some save_live else None)
 
 -- a `transform`, where its settings and both files are there
-abbrev pub with_files : Option Choice → Bool → Option Policy → Option (List ℕ) → Option (List ℕ) → Option Command
-with_files (Some choice) ignore (Some policy) (Some input) (Some output) =
-    Some (transform (record { choice = choice; ignore_indirect = ignore; policy = policy }) input output)
-with_files _ ignore policy input output = None
+abbrev pub with_files : Option Choice → (ignore_indirect asserts : Bool) → Option Policy → Option (List ℕ) → Option (List ℕ) → Option Command
+with_files (Some choice) ignore asserts (Some policy) (Some input) (Some output) =
+    Some (transform (record { settings = record { choice = choice; ignore_indirect = ignore; policy = policy }; asserts = asserts }) input output)
+with_files _ ignore asserts policy input output = None
 
 -- what was said is a `transform`, where no option still wants its value
 abbrev pub transform_at : Place → Said → Option Command
 transform_at behind_imports s = None
 transform_at behind_save s = None
-transform_at _ s = with_files (choice_said s.imports s.ignore_imports) s.ignore_indirect (policy_said s.save) s.input s.output
+transform_at _ s = with_files (choice_said s.imports s.ignore_imports) s.ignore_indirect s.asserts (policy_said s.save) s.input s.output
 
 -- what was said, if the words go well, is a `transform`
 abbrev pub transform_said : Option Said → Option Command
 transform_said None = None
 transform_said (Some s) = transform_at s.place s
 
--- `transform [--imports LIST] [--ignore-imports] [--ignore-indirect] [--save all|live] IN OUT`: options stand before,
--- between and behind the files, each at most once; a value is the next word or follows `=`; `--` ends the options.
+-- `transform [--imports LIST] [--ignore-imports] [--ignore-indirect] [--asserts] [--save all|live] IN OUT`: options stand
+-- before, between and behind the files, each at most once; a value is the next word or follows `=`; `--` ends the options.
 abbrev pub command : List (List ℕ) → Option Command
 command [] = None
 command (word ∷ words) = if bytes_eq word (codes "transform") then transform_said (said (Some nothing_said) words) else None
 
--- what holds of the settings and the two files where the words are a `transform`
-abbrev pub OnTransform : Option Command → (Settings → List ℕ → List ℕ → Type 0) → Type 0
+-- what holds of the manner and the two files where the words are a `transform`
+abbrev pub OnTransform : Option Command → (Manner → List ℕ → List ℕ → Type 0) → Type 0
 OnTransform None P = Unit {0}
-OnTransform (Some (transform settings input output)) P = P settings input output
+OnTransform (Some (transform manner input output)) P = P manner input output

@@ -12,16 +12,16 @@ pub data Spelled : Type 0 where
   generates : (number : ℕ) → (output : List ℕ) → Spelled
 
 -- no option was given
-abbrev pub is_plain : Place → (imports save : Option (List ℕ)) → (ignore_imports ignore_indirect : Bool) → Bool
-is_plain behind_imports imports save ignore_imports ignore_indirect = false
-is_plain behind_save imports save ignore_imports ignore_indirect = false
-is_plain _ None None false false = true
-is_plain _ imports save ignore_imports ignore_indirect = false
+abbrev pub is_plain : Place → (imports save : Option (List ℕ)) → (ignore_imports ignore_indirect asserts : Bool) → Bool
+is_plain behind_imports imports save ignore_imports ignore_indirect asserts = false
+is_plain behind_save imports save ignore_imports ignore_indirect asserts = false
+is_plain _ None None false false false = true
+is_plain _ imports save ignore_imports ignore_indirect asserts = false
 
 -- files alone, of which there are two at most
 abbrev pub files_alone : (Option (List ℕ) → Option (List ℕ) → Option Spelled) → Option Said → Option Spelled
 files_alone spell None = None
-files_alone spell (Some s) = if is_plain s.place s.imports s.save s.ignore_imports s.ignore_indirect then spell s.input s.output else None
+files_alone spell (Some s) = if is_plain s.place s.imports s.save s.ignore_imports s.ignore_indirect s.asserts then spell s.input s.output else None
 
 -- a command of one file
 abbrev pub one_file : (List ℕ → Spelled) → Option (List ℕ) → Option (List ℕ) → Option Spelled

@@ -1,6 +1,6 @@
 -- What an accepted source is: few functions and bytes, and what is refused of it when it is rewritten.
 use Rattle.std.proofs.Common.{◌≡◌, ℕ, zero, suc, ◌+◌, ◌-◌, ◌≤◌, ◌<◌, ◌^◌, inl, inr, List, [], ◌∷◌, drop, length, Bool, true, false, Option, Some, None, refl, sym, ap, ◌∙◌, subst, arith}
-use Rattle.std.specs.Prelude.{All, Err, slice_get, nat_lt, if◌then◌else◌}
+use Rattle.std.specs.Prelude.{All, Err, Ok, slice_get, nat_lt, if◌then◌else◌}
 use Rattle.std.proofs.lemmas.Bool.{le-ltb, lt-ltb, ltb-false}
 use Rattle.wa_types.specs.declared.syntax.Module.{Module as ModuleValue}
 use Rattle.wa_types.specs.Encoding.{Enc}
@@ -32,7 +32,14 @@ use Rattle.module_rewrite.specs.declared.fault.RewriteFault.TheVariants.{Memory 
 use Rattle.module_rewrite.specs.Whole.{Asyncifies}
 use Rattle.module_rewrite.specs.declared.byte_fault.EmitFault.{EmitFault}
 use Rattle.module_rewrite.specs.declared.byte_fault.EmitFault.TheVariants.{Memory as emit_memory, Locals as emit_locals, TooLong as emit_too_long}
-use Rattle.module_rewrite.specs.WholeBytes.{EmitsModule}
+use Rattle.module_rewrite.specs.WholeBytes.{CanBeWritten}
+use Rattle.module_rewrite.specs.declared.bytes_whole.Emitted.{Emitted}
+use Rattle.norm_laws.proofs.Norms.{norm_rewritten}
+use Rattle.script_model.specs.Command.{Manner}
+use Rattle.assert_laws.specs.EmittedWithAsserts.{EmittedWithAsserts}
+use Rattle.assert_laws.proofs.BytesWithAsserts.{prepared_law, spelled_law}
+use Rattle.transform_command.specs.Manners.{EmitsBy, RewritesAs, plainly}
+use Rattle.transform_command.proofs.NormWithAsserts.{norm_rewritten_with}
 use Rattle.transform_command.specs.declared.source.SourceFault.{SourceFault}
 use Rattle.transform_command.specs.Sources.{IsValidSource, told_counts, rewritten_counts}
 use Rattle.transform_command.specs.SourceRefusals.{IsFaultOf, IsOfRead, IsOfEmit, IsOfRewrite, IsUnreserved}
@@ -136,25 +143,29 @@ module _ (bytes : List ℕ) (m : Module) (src : IsValidSource bytes m) where
     pub source_prepared : (p : Module) → EmittedAs m s which p → All (λ x. x < 2 ^ 8) bytes → length (Enc p) ≤ 67108864 → IsAccepted prepared_bounds (Enc p) (Norm p)
     source_prepared p e are_bytes short = prepared_as m s which p bytes can e read short (spelled_as m s which p can e (well are_bytes) short)
 
+    -- .. with asserts too
+    pub asserted_prepared : (p : Module) → EmittedWithAsserts m s which p → All (λ x. x < 2 ^ 8) bytes → length (Enc p) ≤ 67108864 → IsAccepted prepared_bounds (Enc p) (Norm p)
+    asserted_prepared p e are_bytes short = prepared_law m s which p bytes can e read short (spelled_law m s which p can e (well are_bytes) short)
+
 -- the parts of a valid source
 pub made_source : (bytes : List ℕ) (m v : ModuleValue) → v ≡ m → IsAccepted source_bounds bytes (module_of m) → reserved_at (module_of m) ≡ None → Valid (module_of m)
     → IsValidSource bytes (module_of v)
 made_source bytes m v e a r d = subst (λ (z : ModuleValue). IsValidSource bytes (module_of z)) (sym e) (record { unreserved = record { read = a; free = r }; valid = d })
 
 -- what reading refuses
-pub read_refused : (s : Settings) (bytes : List ℕ) (fault : ReadFault) (r : SourceFault) → IsRefused source_bounds bytes fault → IsOfRead fault r → IsFaultOf s bytes r
-read_refused s bytes Memory r h e = subst (IsFaultOf s bytes) (sym e) tt
-read_refused s bytes (Malformed at) r h e = subst (IsFaultOf s bytes) (sym e) h
-read_refused s bytes (Float at) r h e = subst (IsFaultOf s bytes) (sym e) h
-read_refused s bytes (Deep at) r h e = subst (IsFaultOf s bytes) (sym e) h
-read_refused s bytes (Limit what n) r h e = subst (IsFaultOf s bytes) (sym e) h
+pub read_refused : (how : Manner) (bytes : List ℕ) (fault : ReadFault) (r : SourceFault) → IsRefused source_bounds bytes fault → IsOfRead fault r → IsFaultOf how bytes r
+read_refused how bytes Memory r h e = subst (IsFaultOf how bytes) (sym e) tt
+read_refused how bytes (Malformed at) r h e = subst (IsFaultOf how bytes) (sym e) h
+read_refused how bytes (Float at) r h e = subst (IsFaultOf how bytes) (sym e) h
+read_refused how bytes (Deep at) r h e = subst (IsFaultOf how bytes) (sym e) h
+read_refused how bytes (Limit what n) r h e = subst (IsFaultOf how bytes) (sym e) h
 
 -- what rewriting refuses
 pub rewrite_refused : (s : Settings) (bytes : List ℕ) (m : Module) (fault : RewriteFault) (r : SourceFault) → IsValidSource bytes m → Asyncifies m s (Err fault) → IsOfRewrite fault r
-    → IsFaultOf s bytes r
-rewrite_refused s bytes m rewrite_memory r src h e = subst (IsFaultOf s bytes) (sym e) tt
+    → IsFaultOf (plainly s) bytes r
+rewrite_refused s bytes m rewrite_memory r src h e = subst (IsFaultOf (plainly s) bytes) (sym e) tt
 rewrite_refused s bytes m (rewrite_locals func count) r src h e =
-    subst (IsFaultOf s bytes) (sym e) (m, h.which, src, h.tells, first_passes m func count (func_imports m) (drop (func_imports m) h.which) m.funcs h.first)
+    subst (IsFaultOf (plainly s) bytes) (sym e) (m, h.which, src, h.tells, first_passes m func count (func_imports m) (drop (func_imports m) h.which) m.funcs h.first)
 rewrite_refused s bytes m (rewrite_reserved at) r src h e = absurd e
 
 pub none_reserved : (s : Settings) (bytes : List ℕ) (m : Module) (fault : RewriteFault) → IsValidSource bytes m → Asyncifies m s (Err fault) → IsUnreserved fault
@@ -163,18 +174,67 @@ none_reserved s bytes m (rewrite_locals func count) src h = tt
 none_reserved s bytes m (rewrite_reserved at) src h = let bad = sym src.unreserved.free ∙ h in cc
 
 -- what writing it refuses
-pub emit_refused : (s : Settings) (bytes : List ℕ) (m : Module) (fault : EmitFault) (r : SourceFault) → IsValidSource bytes m → EmitsModule m s (Err fault) → IsOfEmit fault r → IsFaultOf s bytes r
-emit_refused s bytes m emit_memory r src h e = subst (IsFaultOf s bytes) (sym e) tt
-emit_refused s bytes m (emit_locals func count) r src h e =
-    subst (IsFaultOf s bytes) (sym e) (m, h.which, src, h.tells, first_passes m func count (func_imports m) (drop (func_imports m) h.which) m.funcs h.first)
-emit_refused s bytes m (emit_too_long len) r src h e =
+emit_refused_by : (b : Bool) (s : Settings) (bytes : List ℕ) (m : Module) (fault : EmitFault) (r : SourceFault) → IsValidSource bytes m → EmitsBy b m s (Err fault) → IsOfEmit fault r
+    → IsFaultOf (record { settings = s; asserts = b }) bytes r
+emit_refused_by b s bytes m emit_memory r src h e = subst (IsFaultOf (record { settings = s; asserts = b }) bytes) (sym e) tt
+emit_refused_by false s bytes m (emit_locals func count) r src h e =
+    subst (IsFaultOf (record { settings = s; asserts = false }) bytes) (sym e)
+    (m, h.which, src, h.tells, first_passes m func count (func_imports m) (drop (func_imports m) h.which) m.funcs h.first)
+emit_refused_by true s bytes m (emit_locals func count) r src h e =
+    subst (IsFaultOf (record { settings = s; asserts = true }) bytes) (sym e)
+    (m, h.which, src, h.tells, first_passes m func count (func_imports m) (drop (func_imports m) h.which) m.funcs h.first)
+emit_refused_by false s bytes m (emit_too_long len) r src h e =
     let few = none_passes m (drop (func_imports m) h.which) m.funcs h.can.few in
-    subst (IsFaultOf s bytes) (sym e) (
-      m,
-      h.which,
-      h.written,
-      record { accepted = src; tells = h.can.tells; few = few },
-      h.is,
-      h.over,
-      h.rewrites,
-    )
+    subst (IsFaultOf (record { settings = s; asserts = false }) bytes) (sym e)
+    (m, h.which, h.written, record { accepted = src; tells = h.can.tells; few = few }, h.is, h.over, h.rewrites)
+emit_refused_by true s bytes m (emit_too_long len) r src h e =
+    let few = none_passes m (drop (func_imports m) h.which) m.funcs h.can.few in
+    subst (IsFaultOf (record { settings = s; asserts = true }) bytes) (sym e)
+    (m, h.which, h.written, record { accepted = src; tells = h.can.tells; few = few }, h.is, h.over, h.rewrites)
+
+pub emit_refused : (how : Manner) (bytes : List ℕ) (m : Module) (fault : EmitFault) (r : SourceFault) → IsValidSource bytes m → EmitsBy how.asserts m how.settings (Err fault) → IsOfEmit fault r
+    → IsFaultOf how bytes r
+emit_refused how bytes m fault r src h e = emit_refused_by how.asserts how.settings bytes m fault r src h e
+
+-- ---- what is written of a source
+
+-- A source is written: by which functions may pause, the module, and what its bytes spell.
+pub record Written (how : Manner) (bytes : List ℕ) (m : Module) (r : Emitted) : Type 0 where
+  pub can : CanBeWritten m how.settings r.instrumented.items
+  pub written : Module
+  pub rewrites : RewritesAs how m written
+  pub text : r.text.items ≡ Enc written
+  pub short : length (Enc written) ≤ 67108864
+  pub prepared : IsAccepted prepared_bounds (Enc written) (Norm written)
+  pub normed : RewritesAs how m (Norm written)
+
+written_by : (b : Bool) (s : Settings) (bytes : List ℕ) (m : Module) (r : Emitted) → IsValidSource bytes m → All (λ x. x < 2 ^ 8) bytes → EmitsBy b m s (Ok r)
+    → Written (record { settings = s; asserts = b }) bytes m r
+written_by false s bytes m r src are_bytes e =
+    let which = r.instrumented.items in
+    let few = none_passes m (drop (func_imports m) which) m.funcs e.can.few in
+    record {
+      can = e.can;
+      written = e.written;
+      rewrites = e.rewrites;
+      text = e.text;
+      short = e.short;
+      prepared = source_prepared bytes m src s which few e.can.tells e.written e.emitted are_bytes e.short;
+      normed = norm_rewritten m s e.written e.rewrites;
+    }
+written_by true s bytes m r src are_bytes e =
+    let which = r.instrumented.items in
+    let few = none_passes m (drop (func_imports m) which) m.funcs e.can.few in
+    record {
+      can = e.can;
+      written = e.written;
+      rewrites = e.rewrites;
+      text = e.text;
+      short = e.short;
+      prepared = asserted_prepared bytes m src s which few e.can.tells e.written e.emitted are_bytes e.short;
+      normed = norm_rewritten_with m s e.written e.rewrites;
+    }
+
+pub written_so : (how : Manner) (bytes : List ℕ) (m : Module) (r : Emitted) → IsValidSource bytes m → All (λ x. x < 2 ^ 8) bytes → EmitsBy how.asserts m how.settings (Ok r)
+    → Written how bytes m r
+written_so how bytes m r src are_bytes e = written_by how.asserts how.settings bytes m r src are_bytes e

@@ -1,5 +1,6 @@
 pub mod Accepted
 pub mod Files
+mod NormWithAsserts
 pub mod OneEnd
 pub mod Outlines
 pub mod Printed

@@ -1,4 +1,5 @@
 pub mod Ends
+pub mod Manners
 pub mod Refusals
 pub mod Running
 pub mod SourceRefusals

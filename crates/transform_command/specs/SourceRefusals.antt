@@ -14,8 +14,8 @@ use Rattle.transform_command.specs.declared.refusals.Refusal.{Refusal}
 use Rattle.transform_command.specs.declared.refusals.Refusal.TheVariants.{Malformed, Float, Deep, Limit, Reserved, Invalid, RewrittenLocals, Output}
 use Rattle.transform_command.specs.declared.source.SourceFault.{SourceFault}
 use Rattle.transform_command.specs.declared.source.SourceFault.TheVariants.{Memory, Read, Refused}
-use Rattle.wa_types.specs.Pausing.{Settings}
-use Rattle.transform_command.specs.Sources.{Cause, malformed, float, deep, limit, reserved, invalid, rewritten_locals, long_output, IsRefusedFor}
+use Rattle.script_model.specs.Command.{Manner}
+use Rattle.transform_command.specs.Sources.{Cause, malformed, float, deep, limit, reserved, invalid, rewritten_locals, long_output, IsRefusedIn}
 
 -- the cause that a refusal names
 abbrev pub cause_of : Refusal → Cause
@@ -29,16 +29,16 @@ cause_of (RewrittenLocals found) = rewritten_locals found
 cause_of (Output found) = long_output found
 
 -- want of memory, or a refusal for which the bytes are refused
-abbrev pub IsFaultOf : Settings → List ℕ → SourceFault → Type 0
-IsFaultOf s bytes Memory = Unit {0}
-IsFaultOf s bytes Read = ⊥
-IsFaultOf s bytes (Refused refusal) = IsRefusedFor s bytes (cause_of refusal)
+abbrev pub IsFaultOf : Manner → List ℕ → SourceFault → Type 0
+IsFaultOf how bytes Memory = Unit {0}
+IsFaultOf how bytes Read = ⊥
+IsFaultOf how bytes (Refused refusal) = IsRefusedIn how bytes (cause_of refusal)
 
 -- where it could be read, the file holds bytes that are refused for this
-abbrev pub IsToldFault : Settings → Option Files → (name : List ℕ) → SourceFault → Type 0
-IsToldFault s files name Memory = Unit {0}
-IsToldFault s files name Read = Unit {0}
-IsToldFault s files name (Refused refusal) = (bytes : List ℕ) × Holds files name bytes × IsRefusedFor s bytes (cause_of refusal)
+abbrev pub IsToldFault : Manner → Option Files → (name : List ℕ) → SourceFault → Type 0
+IsToldFault how files name Memory = Unit {0}
+IsToldFault how files name Read = Unit {0}
+IsToldFault how files name (Refused refusal) = (bytes : List ℕ) × Holds files name bytes × IsRefusedIn how bytes (cause_of refusal)
 
 -- the fault of a source that wasn't read
 abbrev pub IsOfRead : ReadFault → SourceFault → Type 0

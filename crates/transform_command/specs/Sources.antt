@@ -16,7 +16,7 @@ use Rattle.wa_types.specs.Pausing.{Settings, TellsMayPause}
 use Rattle.wa_types.specs.Sizes.{WellFormed}
 use Rattle.wa_types.specs.Syntax.{Func, Module}
 use Rattle.wa_types.specs.Validity.{Valid}
-use Rattle.wa_model.specs.Rewrites.{Rewrites}
+use Rattle.script_model.specs.Command.{Manner}
 use Rattle.script_model.specs.Transcript as T
 use Rattle.script_model.specs.Transcript.{Refusal}
 use Rattle.wasm_reader.specs.declared.read_fault.ReadFault.TheVariants.{Malformed, Float, Deep, Limit}
@@ -25,6 +25,7 @@ use Rattle.wasm_reader.specs.Held.{Holds}
 use Rattle.local_spill.specs.declared.reserving.ReservedAt.{ReservedAt}
 use Rattle.local_spill.specs.declared.reserving.ReservedAt.TheVariants.{Import as at_import, Export as at_export}
 use Rattle.local_spill.specs.Reserved.{reserved_at}
+use Rattle.transform_command.specs.Manners.{RewritesAs, plainly}
 
 -- The bytes spell this module, without a float and within the limits of a source module, under no reserved name.
 pub record IsFree (bytes : List ℕ) (m : Module) : Type 0 where
@@ -61,10 +62,10 @@ pub record IsRewritable (s : Settings) (bytes : List ℕ) (m : Module) (which : 
   pub few : first_above 50000 (rewritten_counts m which) ≡ None
 
 -- .. its numbers are in their ranges; and what is written, the bytes of the other module, which is it, rewritten, isn't too long
-pub record IsSource (s : Settings) (bytes : List ℕ) (m : Module) (which : List Bool) (p : Module) : Type 0 where
-  pub rewritable : IsRewritable s bytes m which
+pub record IsSource (how : Manner) (bytes : List ℕ) (m : Module) (which : List Bool) (p : Module) : Type 0 where
+  pub rewritable : IsRewritable how.settings bytes m which
   pub well_formed : WellFormed m
-  pub rewrites : Rewrites m s p
+  pub rewrites : RewritesAs how m p
   pub short : length (Enc p) ≤ 67108864
 
 -- the joined name of an import
@@ -92,17 +93,21 @@ pub data Cause : Type 0 where
 
 -- The bytes are refused for this, each cause behind those before it: what reading refuses; a reserved name; what isn't
 -- valid; the first function that may pause whose locals are too many when it is rewritten; what would be written is too long.
+abbrev pub IsRefusedIn : Manner → List ℕ → Cause → Type 0
+IsRefusedIn how bytes (malformed at) = IsRefused source_bounds bytes (Malformed at)
+IsRefusedIn how bytes (float at) = IsRefused source_bounds bytes (Float at)
+IsRefusedIn how bytes (deep at) = IsRefused source_bounds bytes (Deep at)
+IsRefusedIn how bytes (limit what found) = IsRefused source_bounds bytes (Limit what found)
+IsRefusedIn how bytes (reserved name) = (m : Module) × (at : ReservedAt) × IsAccepted source_bounds bytes m × (reserved_at m ≡ Some at) × (name ≡ reserved_name m at)
+IsRefusedIn how bytes (invalid func rule at) = (m : Module) × IsFree bytes m × FirstFault m func rule at
+IsRefusedIn how bytes (rewritten_locals found) =
+    (m : Module) × (which : List Bool) × IsValidSource bytes m × TellsMayPause m how.settings which × (first_above 50000 (rewritten_counts m which) ≡ Some found)
+IsRefusedIn how bytes (long_output found) =
+    (m : Module) × (which : List Bool) × (p : Module) × IsRewritable how.settings bytes m which × (found ≡ length (Enc p)) × (67108864 < found) × RewritesAs how m p
+
+-- .. where it is rewritten by these settings without asserts
 abbrev pub IsRefusedFor : Settings → List ℕ → Cause → Type 0
-IsRefusedFor s bytes (malformed at) = IsRefused source_bounds bytes (Malformed at)
-IsRefusedFor s bytes (float at) = IsRefused source_bounds bytes (Float at)
-IsRefusedFor s bytes (deep at) = IsRefused source_bounds bytes (Deep at)
-IsRefusedFor s bytes (limit what found) = IsRefused source_bounds bytes (Limit what found)
-IsRefusedFor s bytes (reserved name) = (m : Module) × (at : ReservedAt) × IsAccepted source_bounds bytes m × (reserved_at m ≡ Some at) × (name ≡ reserved_name m at)
-IsRefusedFor s bytes (invalid func rule at) = (m : Module) × IsFree bytes m × FirstFault m func rule at
-IsRefusedFor s bytes (rewritten_locals found) =
-    (m : Module) × (which : List Bool) × IsValidSource bytes m × TellsMayPause m s which × (first_above 50000 (rewritten_counts m which) ≡ Some found)
-IsRefusedFor s bytes (long_output found) =
-    (m : Module) × (which : List Bool) × (p : Module) × IsRewritable s bytes m which × (found ≡ length (Enc p)) × (67108864 < found) × Rewrites m s p
+IsRefusedFor s bytes cause = IsRefusedIn (plainly s) bytes cause
 
 -- the refusal that is told
 abbrev pub refusal_for : Cause → Refusal
@@ -117,7 +122,7 @@ refusal_for (long_output found) = T.limit Output found
 
 -- The bytes are an accepted source of so many functions, so many of which may pause; the text is that of the rewritten module, and
 -- spells one that is within the bounds of a prepared module, and is the source's, rewritten.
-abbrev pub IsRewritten : Settings → List ℕ → (functions instrumented : ℕ) → List ℕ → Type 0
-IsRewritten s bytes functions instrumented text =
-    (m : Module) × (which : List Bool) × (p : Module) × IsSource s bytes m which p × (functions ≡ length m.funcs) × (instrumented ≡ count_by (λ b. b) which)
-    × (text ≡ Enc p) × IsAccepted prepared_bounds (Enc p) (Norm p) × Rewrites m s (Norm p)
+abbrev pub IsRewritten : Manner → List ℕ → (functions instrumented : ℕ) → List ℕ → Type 0
+IsRewritten how bytes functions instrumented text =
+    (m : Module) × (which : List Bool) × (p : Module) × IsSource how bytes m which p × (functions ≡ length m.funcs) × (instrumented ≡ count_by (λ b. b) which)
+    × (text ≡ Enc p) × IsAccepted prepared_bounds (Enc p) (Norm p) × RewritesAs how m (Norm p)

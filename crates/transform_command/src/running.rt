@@ -7,6 +7,7 @@ ghost use Rattle.vault_port.specs.Counts.{HasRisen};
 ghost use Rattle.vault_port.specs.Files.{IsMissing};
 ghost use Rattle.wa_types.specs.View.{module_of};
 ghost use Rattle.wasm_reader.specs.Held.{Holds};
+ghost use Rattle.transform_command.specs.Manners.{plainly};
 ghost use Rattle.transform_command.specs.SourceRefusals.{IsToldFault, IsUnwritten};
 ghost use Rattle.transform_command.specs.Running.{RunsAs};
 
@@ -25,7 +26,7 @@ pub struct Runnable {
 }
 
 /// The module that this file spells, rewritten by these settings, where it is a source that can be rewritten. It isn't written, so
-/// its length has no limit. No file changes.
+/// its length has no limit; and no call is tested, whatever the settings say of asserts. No file changes.
 pub fn rewritten<V: Vault>(
     alloc: Global,
     vault: &mut V,
@@ -34,7 +35,7 @@ pub fn rewritten<V: Vault>(
 ) -> Result<Runnable, SourceFault>
     ensures done { IfOk result (λ r. (bytes : List ℕ) × Holds (V.files vault.old) name.now bytes
         × RunsAs (settings_of settings.now) bytes r.listed.items (module_of r.«module»)) }
-    ensures refused { IfErr result (λ fault. IsToldFault (settings_of settings.now) (V.files vault.old) name.now fault) }
+    ensures refused { IfErr result (λ fault. IsToldFault (plainly (settings_of settings.now)) (V.files vault.old) name.now fault) }
     ensures unwritten { IfErr result IsUnwritten }
     ensures read { IsErrOf result SourceFault.Read
         → HasRisen (V.fetch_faults vault.old) (V.fetch_faults vault.new)

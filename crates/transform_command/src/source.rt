@@ -1,26 +1,29 @@
 //! From the file of a module to the bytes of the written one.
 
-ghost use Rattle.std.specs.Prelude.{◌≡◌, ◌≢◌, ◌⊎◌, ◌≤◌, ℕ, List, count_by, Err, IfOk, IsErrOf, Some};
+ghost use Rattle.std.specs.Prelude.{◌≡◌, ◌≢◌, ◌⊎◌, ◌≤◌, ◌^◌, ℕ, List, length, count_by, Err, IfOk, IsErrOf, None, Some};
 ghost use Rattle.std.specs.Result.{IfErr};
 ghost use Rattle.call_graph.specs.Settings.{settings_of};
 ghost use Rattle.vault_port.specs.Counts.{HasRisen};
 ghost use Rattle.vault_port.specs.Files.{IsMissing};
 ghost use Rattle.wa_types.specs.ModuleBounds.{source_bounds};
-ghost use Rattle.wa_types.specs.Pausing.{Settings as Chosen};
-ghost use Rattle.wa_types.specs.Sizes.{SizeRule};
+ghost use Rattle.wa_types.specs.Encoding.{Enc};
+ghost use Rattle.wa_types.specs.Sizes.{SizeRule, StrictSizeRule};
 ghost use Rattle.wa_types.specs.View.{module_of};
+ghost use Rattle.script_model.specs.Command.{Manner};
 ghost use Rattle.wasm_reader.specs.Answers.{IsAccepted};
 ghost use Rattle.local_spill.specs.Reserved.{reserved_at};
 ghost use Rattle.wasm_reader.specs.Held.{Holds};
 ghost use Rattle.transform_command.specs.declared.source.SourceFault.TheVariants.{Memory};
+ghost use Rattle.transform_command.specs.Manners.{EmitsBy, manner_of};
 ghost use Rattle.transform_command.specs.SourceRefusals.{IsFaultOf, IsOfEmit, IsOfFile, IsOfRead, IsOfRewrite, IsToldFault, IsUnreserved, IsUnwritten};
 ghost use Rattle.transform_command.specs.Sources.{HoldsValidSource, IsRewritten, IsValidSource, reserved_name};
 
 use crate::refusals::Refusal;
+use assert_module::emit_with_asserts;
 use bytes::BytesMut;
 use call_graph::Settings;
 use local_spill::{ReservedAt, reserved};
-use module_rewrite::{EmitFault, RewriteFault, emit_module};
+use module_rewrite::{EmitFault, Emitted, RewriteFault, emit_module};
 use std::alloc::{AllocError, Global};
 use thiserror::Error;
 use vault_port::Vault;
@@ -66,8 +69,8 @@ pub fn rewrite<V: Vault>(
     settings: &Settings,
 ) -> Result<Written, SourceFault>
     ensures done { IfOk result (λ r. (bytes : List ℕ) × Holds (V.files vault.old) name.now bytes
-        × IsRewritten (settings_of settings.now) bytes r.functions r.instrumented r.text.items) }
-    ensures refused { IfErr result (λ fault. IsToldFault (settings_of settings.now) (V.files vault.old) name.now fault) }
+        × IsRewritten (manner_of settings.now) bytes r.functions r.instrumented r.text.items) }
+    ensures refused { IfErr result (λ fault. IsToldFault (manner_of settings.now) (V.files vault.old) name.now fault) }
     ensures read { IsErrOf result SourceFault.Read
         → HasRisen (V.fetch_faults vault.old) (V.fetch_faults vault.new)
         ⊎ IsMissing (V.files vault.old) name.now }
@@ -80,7 +83,7 @@ pub fn rewrite<V: Vault>(
         Err(fault) => return Err(fault),
     };
     let functions = valid.module().funcs.len();
-    let emitted = match emit_module(alloc, valid, settings) {
+    let emitted = match emit(alloc, valid, settings) {
         Ok(emitted) => emitted,
         Err(fault) => return Err(emit_fault(fault)),
     };
@@ -92,6 +95,20 @@ pub fn rewrite<V: Vault>(
     })
 }
 
+// The bytes of a valid source as it is rewritten, with asserts or without.
+fn emit(alloc: Global, valid: Valid, settings: &Settings) -> Result<Emitted, EmitFault>
+    requires sizes { StrictSizeRule (module_of valid) }
+    requires free { reserved_at (module_of valid) ≡ None }
+    requires few { length (module_of valid).funcs ≤ 100000 }
+    requires short { length (Enc (module_of valid)) ≤ 2 ^ 36 }
+    ensures { EmitsBy settings.now.asserts (module_of valid) (settings_of settings.now) result }
+{
+    if settings.asserts {
+        return emit_with_asserts(alloc, &valid, settings);
+    }
+    emit_module(alloc, valid, settings)
+}
+
 /// The module that this file spells, where it is a valid source. No file changes.
 pub(crate) fn source<V: Vault>(
     alloc: Global,
@@ -100,7 +117,7 @@ pub(crate) fn source<V: Vault>(
 ) -> Result<Valid, SourceFault>
     ensures source { IfOk result (λ r. HoldsValidSource (V.files vault.old) name.now (module_of r)) }
     ensures unwritten { IfErr result IsUnwritten }
-    ensures refused { IfErr result (λ fault. (s : Chosen) → IsToldFault s (V.files vault.old) name.now fault) }
+    ensures refused { IfErr result (λ fault. (how : Manner) → IsToldFault how (V.files vault.old) name.now fault) }
     ensures read { IsErrOf result SourceFault.Read
         → HasRisen (V.fetch_faults vault.old) (V.fetch_faults vault.new)
         ⊎ IsMissing (V.files vault.old) name.now }
@@ -119,7 +136,7 @@ fn valid_source(alloc: Global, module: Module) -> Result<Valid, SourceFault>
     requires { SizeRule (module_of «module») }
     ensures source { (bytes : List ℕ) → IsAccepted source_bounds bytes (module_of «module») → IfOk result (λ r. IsValidSource bytes (module_of r)) }
     ensures unwritten { IfErr result IsUnwritten }
-    ensures refused { (bytes : List ℕ) → IsAccepted source_bounds bytes (module_of «module») → IfErr result (λ fault. (s : Chosen) → IsFaultOf s bytes fault) }
+    ensures refused { (bytes : List ℕ) → IsAccepted source_bounds bytes (module_of «module») → IfErr result (λ fault. (how : Manner) → IsFaultOf how bytes fault) }
     ensures no_read { result ≢ Err SourceFault.Read }
 {
     if let Some(at) = reserved(&module) {

@@ -1,11 +1,11 @@
 //! A module in one file, rewritten into another.
 
 ghost use Rattle.std.specs.Prelude.{◌≡◌, ◌⊎◌, ◌≤◌, length, IfOk, IsErrOf, OnOk, OnErr, IsSome};
-ghost use Rattle.call_graph.specs.Settings.{settings_of};
 ghost use Rattle.vault_port.specs.Counts.{HasRisen};
 ghost use Rattle.vault_port.specs.Files.{bytes_of, IsMissing};
 ghost use Rattle.vault_port.specs.Told.{WhereTold, Becomes};
 ghost use Rattle.transform_command.specs.Refusals.{IsOfSource, IsToldRefusal};
+ghost use Rattle.transform_command.specs.Manners.{manner_of};
 ghost use Rattle.transform_command.specs.Transforms.{HoldsSource, IsCount, IsCutShort, IsTransformed};
 ghost use Rattle.std.specs.Result.{IfErr};
 
@@ -47,25 +47,25 @@ pub fn transform<V: Vault>(
     output: &str,
 ) -> Result<Done, TransformFault>
     ensures done { OnOk result (Becomes (V.files vault.old) (V.files vault.new)
-        (IsTransformed (settings_of settings.now) input.now output.now)) }
+        (IsTransformed (manner_of settings.now) input.now output.now)) }
     ensures counts { IfOk result (λ d. WhereTold (V.files vault.old) (λ all.
-        IsCount (settings_of settings.now) (bytes_of all input.now) d.functions d.instrumented d.bytes)) }
+        IsCount (manner_of settings.now) (bytes_of all input.now) d.functions d.instrumented d.bytes)) }
     ensures bytes { IfOk result (λ d. WhereTold (V.files vault.new) (λ all. d.bytes ≡ length (bytes_of all output.now))) }
 
     ensures read { IsErrOf result TransformFault.Read
         → HasRisen (V.fetch_faults vault.old) (V.fetch_faults vault.new)
         ⊎ IsMissing (V.files vault.old) input.now }
-    ensures refused { IfErr result (λ fault. IsToldRefusal (settings_of settings.now) (V.files vault.old) input.now fault) }
+    ensures refused { IfErr result (λ fault. IsToldRefusal (manner_of settings.now) (V.files vault.old) input.now fault) }
     ensures there { IsErrOf result TransformFault.Read ⊎ IsErrOf result TransformFault.Memory
         ⊎ WhereTold (V.files vault.old) (λ all. IsSome (all input.now)) }
     ensures source { IsErrOf result TransformFault.Write → WhereTold (V.files vault.old) (λ all.
-        HoldsSource (settings_of settings.now) (bytes_of all input.now)) }
+        HoldsSource (manner_of settings.now) (bytes_of all input.now)) }
     ensures write { IsErrOf result TransformFault.Write
         → HasRisen (V.save_faults vault.old) (V.save_faults vault.new) }
     ensures kept { IsErrOf result TransformFault.Read → V.files vault.new ≡ V.files vault.old }
     ensures refused_kept { IfErr result (λ fault. IsOfSource fault → V.files vault.new ≡ V.files vault.old) }
     ensures cut { OnErr result (Becomes (V.files vault.old) (V.files vault.new)
-        (IsCutShort (settings_of settings.now) input.now output.now)) }
+        (IsCutShort (manner_of settings.now) input.now output.now)) }
 
     ensures fetch_faults { V.fetch_faults vault.old ≤ V.fetch_faults vault.new }
     ensures save_faults { V.save_faults vault.old ≤ V.save_faults vault.new }

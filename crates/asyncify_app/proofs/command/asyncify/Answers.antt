@@ -1,7 +1,7 @@
 -- The line on memory alone, where the words weren't read; and the one end of a call.
 use Rattle.std.proofs.Common.{◌≡◌, ◌∙◌, Err, None, Some, ap, map, refl, subst}
 use Rattle.std.specs.String.{string_bytes}
-use Rattle.call_graph.specs.Settings.{settings_of}
+use Rattle.transform_command.specs.Manners.{manner_of}
 use Rattle.script_model.specs.Command.{transform}
 use Rattle.script_model.specs.Spelled.{rewrites, spelled}
 use Rattle.script_model.specs.Transcript.{refusal_line, usage}
@@ -32,7 +32,7 @@ returns-in-Err-Memory-clause-one_end g c = memory_ends _ c.out_of_memory.result 
 pub returns-in-Ok-Transform-clause-one_end : goal.returns-in-Ok-Transform-clause-one_end
 returns-in-Ok-Transform-clause-one_end g c =
     let e = c.run_transform.ensures in
-    spelled_ends _ c.run_transform.result (Some (rewrites (transform (settings_of c.in-Ok-Transform.settings) c.in-Ok-Transform.input.now c.in-Ok-Transform.output.now)))
+    spelled_ends _ c.run_transform.result (Some (rewrites (transform (manner_of c.in-Ok-Transform.settings) c.in-Ok-Transform.input.now c.in-Ok-Transform.output.now)))
     (c.in-Ok-Transform.ensures.command ∙ ap (λ (x : Command). Some (spelled_of x)) c.in-Ok-Transform.field-0-is)
     (transform_ends _ c.run_transform.result
     (record { statuses = e.status; done = e.done; read = e.read_fault; refused = e.refused; held = e.built; write = e.write_fault; sink = e.sink_fault }))

@@ -5,6 +5,7 @@ use Rattle.wa_types.specs.Modules.{func_imports}
 use Rattle.wa_types.specs.Syntax.{Module}
 use Rattle.wa_types.specs.View.{module_of}
 use Rattle.call_graph.specs.Settings.{settings_of}
+use Rattle.transform_command.specs.Manners.{plainly}
 use Rattle.transform_command.specs.Sources.{rewritten_counts}
 use Rattle.transform_command.proofs.Accepted.{strict, none_passes, none_reserved, rewrite_refused, well}
 use Rattle.transform_command.proofs.Files.{told_fault}
@@ -21,7 +22,7 @@ rewrite_fault-requires g c =
 pub returns-clause-refused : goal.returns-clause-refused
 returns-clause-refused g c =
     let h = c.in-Ok.ensures.source in
-    told_fault (settings_of c.args.settings.now) (g.V.Vault.files c.args.vault.now) c.args.name.now h.bytes c.rewrite_fault.result h.holds
+    told_fault (plainly (settings_of c.args.settings.now)) (g.V.Vault.files c.args.vault.now) c.args.name.now h.bytes c.rewrite_fault.result h.holds
     (rewrite_refused (settings_of c.args.settings.now) h.bytes (module_of c.in-Ok.valid) c.in-Err-rewrite_module.fault c.rewrite_fault.result h.source c.in-Err-rewrite_module.ensures
     c.rewrite_fault.ensures.fault)
 
@@ -45,4 +46,4 @@ returns-in-Ok-rewrite_module-clause-done g c =
     )
 
 pub returns-in-Err-clause-refused : goal.returns-in-Err-clause-refused
-returns-in-Err-clause-refused g c = c.in-Err.ensures.refused (settings_of c.args.settings.now)
+returns-in-Err-clause-refused g c = c.in-Err.ensures.refused (plainly (settings_of c.args.settings.now))

@@ -6,38 +6,37 @@ use Rattle.wa_types.specs.Marks.{first_above}
 use Rattle.wa_types.specs.Modules.{func_imports}
 use Rattle.wa_types.specs.Syntax.{Module}
 use Rattle.wa_types.specs.View.{module_of}
-use Rattle.call_graph.specs.Settings.{settings_of}
-use Rattle.norm_laws.proofs.Norms.{norm_rewritten}
+use Rattle.transform_command.specs.Manners.{manner_of}
 use Rattle.transform_command.specs.Sources.{rewritten_counts}
-use Rattle.transform_command.proofs.Accepted.{strict, few_bytes, few_functions, none_passes, emit_refused, source_prepared, well}
+use Rattle.transform_command.proofs.Accepted.{strict, few_bytes, few_functions, none_passes, emit_refused, well, written_so}
 use Rattle.transform_command.proofs.Files.{told_fault}
 use Rattle.transform_command.proofs.source.rewrite.Goals as goal
 
-pub emit_module-requires-clause-sizes : goal.emit_module-requires-clause-sizes
-emit_module-requires-clause-sizes g c = let h = c.in-Ok.ensures.source in strict h.bytes (module_of c.in-Ok.valid) h.source
+pub emit-requires-clause-sizes : goal.emit-requires-clause-sizes
+emit-requires-clause-sizes g c = let h = c.in-Ok.ensures.source in strict h.bytes (module_of c.in-Ok.valid) h.source
 
-pub emit_module-requires-clause-free : goal.emit_module-requires-clause-free
-emit_module-requires-clause-free g c = c.in-Ok.ensures.source.source.unreserved.free
+pub emit-requires-clause-free : goal.emit-requires-clause-free
+emit-requires-clause-free g c = c.in-Ok.ensures.source.source.unreserved.free
 
-pub emit_module-requires-clause-few : goal.emit_module-requires-clause-few
-emit_module-requires-clause-few g c = let h = c.in-Ok.ensures.source in few_functions h.bytes (module_of c.in-Ok.valid) h.source
+pub emit-requires-clause-few : goal.emit-requires-clause-few
+emit-requires-clause-few g c = let h = c.in-Ok.ensures.source in few_functions h.bytes (module_of c.in-Ok.valid) h.source
 
-pub emit_module-requires-clause-short : goal.emit_module-requires-clause-short
-emit_module-requires-clause-short g c = let h = c.in-Ok.ensures.source in few_bytes h.bytes (module_of c.in-Ok.valid) h.source
+pub emit-requires-clause-short : goal.emit-requires-clause-short
+emit-requires-clause-short g c = let h = c.in-Ok.ensures.source in few_bytes h.bytes (module_of c.in-Ok.valid) h.source
 
-pub returns-in-Err-emit_module-clause-refused : goal.returns-in-Err-emit_module-clause-refused
-returns-in-Err-emit_module-clause-refused g c =
+pub returns-in-Err-emit-clause-refused : goal.returns-in-Err-emit-clause-refused
+returns-in-Err-emit-clause-refused g c =
     let h = c.in-Ok.ensures.source in
-    told_fault (settings_of c.args.settings.now) (g.V.Vault.files c.args.vault.now) c.args.name.now h.bytes c.emit_fault.result h.holds
-    (emit_refused (settings_of c.args.settings.now) h.bytes (module_of c.in-Ok.valid) c.in-Err-emit_module.fault c.emit_fault.result h.source c.in-Err-emit_module.ensures c.emit_fault.ensures)
+    told_fault (manner_of c.args.settings.now) (g.V.Vault.files c.args.vault.now) c.args.name.now h.bytes c.emit_fault.result h.holds
+    (emit_refused (manner_of c.args.settings.now) h.bytes (module_of c.in-Ok.valid) c.in-Err-emit.fault c.emit_fault.result h.source c.in-Err-emit.ensures c.emit_fault.ensures)
 
 pub returns-clause-done : goal.returns-clause-done
 returns-clause-done g c =
     let h = c.in-Ok.ensures.source in
     let m : Module = module_of c.in-Ok.valid in
-    let e = c.in-Ok-emit_module.ensures in
-    let which = c.in-Ok-emit_module.emitted.instrumented.items in
-    let s = settings_of c.args.settings.now in
+    let which = c.in-Ok-emit.emitted.instrumented.items in
+    let how = manner_of c.args.settings.now in
+    let e = written_so how h.bytes m c.in-Ok-emit.emitted h.source h.are_bytes c.in-Ok-emit.ensures in
     let few : first_above 50000 (rewritten_counts m which) ≡ None = none_passes m (drop (func_imports m) which) m.funcs e.can.few in
     let functions : c.len-functions.result ≡ length m.funcs = search (rules, length-map) in
     let count : c.told_count-instrumented.result ≡ count_by (λ b. b) which = rw c.deref.ensures.value at c.told_count-instrumented.ensures in (
@@ -51,10 +50,10 @@ returns-clause-done g c =
         functions,
         count,
         e.text,
-        source_prepared h.bytes m h.source s which few e.can.tells e.written e.emitted h.are_bytes e.short,
-        norm_rewritten m s e.written e.rewrites,
+        e.prepared,
+        e.normed,
       ),
     )
 
 pub returns-in-Err-clause-refused : goal.returns-in-Err-clause-refused
-returns-in-Err-clause-refused g c = c.in-Err.ensures.refused (settings_of c.args.settings.now)
+returns-in-Err-clause-refused g c = c.in-Err.ensures.refused (manner_of c.args.settings.now)

@@ -1,0 +1,2 @@
+mod EntriesWith
+mod ModuleBytes

@@ -1,0 +1,2 @@
+pub mod Asserting
+pub mod Emitting
