@@ -1,6 +1,6 @@
 //! `SureDisk` and `SureOut`: what `system_vaults` asks of a system, over files and output in memory.
 
-ghost use Rattle.std.specs.Prelude.{◌≡◌, ◌≢◌, ◌⊎◌, ◌≤◌, ◌↔◌, ◌++◌, length, take, Some, None, IfOk, OnOk, OnErr, IfErr, IsErr, IsErrAnd};
+ghost use Rattle.std.specs.Prelude.{◌≡◌, ◌≤◌, ◌↔◌, ◌++◌, length, take, Some, None, IfOk, OnOk, OnErr, IfErr, IsErr, IsErrAnd};
 ghost use Rattle.std.specs.IoError.{error_kind};
 ghost use Rattle.vault_port.specs.Counts.{one_more};
 ghost use Rattle.vault_port.specs.Files.{bytes_of, IsFetched, ChangesOnly, ChangesAtMost};

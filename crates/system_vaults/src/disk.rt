@@ -9,20 +9,21 @@ ghost use Rattle.vault_port.specs.Files.{Files, bytes_of, IsFetched, ChangesOnly
 
 use std::io;
 
-/// What a system does with files, by one call each. An error is the system's own.
+/// What a system does with files, by one call each. An error is the system's own. A fault raises a count by one, and nothing
+/// else does; a count stands still at the greatest `u64`.
 pub trait Disk {
     /// The files, where the disk tells them.
     ghost files: { Self → Option Files };
 
-    /// How many reads have failed.
+    /// How many reads have failed, other than for a file that isn't there where the disk tells so.
     ghost read_faults: { Self → ℕ };
 
     /// How many cuts and writes have failed, or took nothing of a piece.
     ghost write_faults: { Self → ℕ };
 
     /// Reads once from the place `from` of a file on, to the front of the buffer, and answers how many bytes came. No
-    /// file changes. `NotFound`: exactly where there is no such file; of a disk that doesn't tell its files it counts as
-    /// failed, as any other error does.
+    /// file changes. `NotFound`: exactly where there is no such file. Of a disk that doesn't tell its files it counts as
+    /// failed, as any other error does; of one that tells them it doesn't.
     fn read(&mut self, name: &str, from: u64, buf: &mut [u8]) -> io::Result<usize>
         ensures count { IfOk result (λ n. n ≤ length buf.old) }
         ensures read { IfOk result (λ n. WhereTold (files self.old) (λ all.

@@ -14,7 +14,7 @@ use std::io::{self, Error, ErrorKind};
 use vault_port::{Vault, VaultFail};
 
 /// The files of a disk. It tells what the disk tells, and its counts of faults are the disk's: no call fails but for a
-/// call of the disk that did, or that took nothing of a piece.
+/// call of the disk that did, or that took nothing of a piece, and each that fails counts once.
 #[derive(Drop)]
 pub struct FileVault<D: Disk + Drop> {
     disk: D,

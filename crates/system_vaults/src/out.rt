@@ -7,7 +7,8 @@ ghost use Rattle.vault_port.specs.Taken.{Appends};
 
 use std::io;
 
-/// What a system does with output. An error is the system's own.
+/// What a system does with output. An error is the system's own. A fault raises the count by one, and nothing else does; it
+/// stands still at the greatest `u64`.
 pub trait Out {
     /// The bytes written so far, where the output tells them.
     ghost written: { Self → Option (List ℕ) };

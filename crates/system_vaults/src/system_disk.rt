@@ -11,8 +11,8 @@ use crate::system_files::SystemFiles;
 use std::fs::Files;
 use std::io;
 
-/// The files of the system, by path. It doesn't tell what they hold: that they do what `Disk` says is trusted. It counts the
-/// calls that fail, or take nothing of a piece.
+/// The files of the system, by path. It doesn't tell what they hold: that they do what `Disk` says is trusted, and so is that
+/// it hands on what `SystemFiles` answers. It counts its calls that fail, or take nothing of a piece.
 #[derive(Drop)]
 pub struct SystemDisk<R: Files + Drop> {
     files: SystemFiles<R>,

@@ -8,7 +8,7 @@ use crate::out::Out;
 use crate::retrying::is_interrupted;
 use std::io::{self, Error, ErrorKind};
 
-/// Standard output. It doesn't tell what was written: that it does what `Out` says is trusted. It counts the writes that fail,
+/// Standard output. It doesn't tell what was written: that it does what `Out` says is trusted. It counts its writes that fail,
 /// or take nothing of a piece.
 #[derive(Drop)]
 pub struct SystemOut<R: Print + Drop> {
