@@ -19,12 +19,12 @@ pub record Supply : Type 0 where
 abbrev pub IsLent : Type 0
 IsLent = Unit {0}
 
--- What an outcome says of the counts: no device was asked, and none changed; or it was the first device of the name to which the
--- import is bound, only whose count may rise, and did where it failed.
+-- What an outcome says of the counts: it is no device's fault, and none changed, so that no device that failed was asked again; or it is the
+-- fault of the first device of the name to which the import is bound, only whose count rose.
 pub data Counts (import : ℕ) (bound : Option (List ℕ)) (ds : List Device) (o : Outcome) (old new : List ℕ) : Type 0 where
-  none_asked : (o ≡ refused (DeviceFault import) → ⊥) → new ≡ old → Counts import bound ds o old new
-  one_asked : (name : List ℕ) (place : ℕ) → bound ≡ Some name → IsFirstOf ds name place → ChangesAt (λ before after. before ≤ after) place old new
-      → (o ≡ refused (DeviceFault import) → ChangesAt HasRisen place old new) → Counts import bound ds o old new
+  none_failed : (o ≡ refused (DeviceFault import) → ⊥) → new ≡ old → Counts import bound ds o old new
+  one_failed : (name : List ℕ) (place : ℕ) → bound ≡ Some name → IsFirstOf ds name place → o ≡ refused (DeviceFault import)
+      → ChangesAt (λ before after. before ≤ after) place old new → ChangesAt HasRisen place old new → Counts import bound ds o old new
 
 -- the device to which an import is bound, where it is
 abbrev pub bound_to : Program → (import : ℕ) → Option (List ℕ)

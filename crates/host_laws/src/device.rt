@@ -14,7 +14,7 @@ use wa_model::{Answer, End, Said};
 use wa_types::Value;
 
 /// What a new call of the import of this number meets that is bound to the device of this name: the reply of the first device with
-/// that name, which is asked once, or the end of the program. A device's fault comes only where its count rose.
+/// that name, which is asked once, or the end of the program. Where that comes a count rises if a device's fault is told, and not else.
 pub fn device_outcome(
     alloc: Global,
     import: u32,

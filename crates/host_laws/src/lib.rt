@@ -6,7 +6,7 @@
 //! whole one once the end is told (`specs/Stories.antt`, `specs/Laws.antt`): nothing is known of what other programs ask of the devices
 //! between its events; of a program that is alone also its run as a world is.
 //!
-//! A new call meets an answer line or a device, and a device's fault comes only with one more in its count (`specs/Supplies.antt`).
+//! A new call meets an answer line or a device, and a device's count rises exactly where its fault is told (`specs/Supplies.antt`).
 //! `next_answer` takes the line that answers the call, or tells why none does. `device_outcome` asks the device to which an import is
 //! bound, or tells that there is none or that it failed. `answer_fault` is the first test that the answer fails: its value, its pokes in
 //! order, and whether it may pause there. `wa_model` has all three as definitions (`MeetsLine`, `MeetsDevice`, `fault_of`).

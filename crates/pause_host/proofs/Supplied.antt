@@ -14,7 +14,7 @@ use Rattle.wa_model.specs.Outside.{Answer, AnswerLine, Call}
 use Rattle.wa_model.specs.Plan.{Outcome, given, refused, ValueFits}
 use Rattle.wa_model.specs.World.{Program, Device, Reply, base_names, import_names, name_at, is_named, journaled, MeetsLine, MeetsDevice, MeetsBound}
 use Rattle.host_laws.specs.Answering.{IsShort}
-use Rattle.host_laws.specs.Supplies.{Supply, Counts, none_asked, bound_to, Answers}
+use Rattle.host_laws.specs.Supplies.{Supply, Counts, none_failed, bound_to, Answers}
 use Rattle.pause_host.specs.declared.stages.HostImport.{HostImport}
 use Rattle.pause_host.specs.declared.stages.Setting.{Setting}
 use Rattle.pause_host.specs.Moves.{IsSetting, HasShortPokes}
@@ -48,7 +48,7 @@ module _ (w : Program) (x : Setting) (is : IsSetting w x) (import : ℕ) (i : Ho
   by_line args lines lines' ds fs o name e n m = record {
     meets = subst (λ b. MeetsBound w.source import args b lines ds o lines' ds) (bound_told None e)
         (subst (λ z. MeetsLine import z lines o lines') (n ∙ name_told w x import i is at) m, refl);
-    counts = none_asked (line_faultless import name lines lines' o m) refl;
+    counts = none_failed (line_faultless import name lines lines' o m) refl;
   }
 
   -- a device does

@@ -71,9 +71,9 @@ module _ (way : Way) (name : List ℕ) (files : Option Files) (fetched fetched' 
         faults = played_faults way files name play ds ds' text told;
       }
 
-  begun_so : (text : List ℕ) → AreBegun play.parts detaches ds ds' text ⊎ AreTold play.parts detaches ds ds' text → IsBeginning play ds ds' text
-  begun_so text h = elim h [
-    | inl begun ↦ inl (subst (λ (l : List Detach). AreBegun play.parts l ds ds' text) (sym same) begun)
+  begun_so : (fault : PutFault) (text : List ℕ) → AreBegun fault play.parts detaches ds ds' text ⊎ AreTold play.parts detaches ds ds' text → IsBeginning fault play ds ds' text
+  begun_so fault text h = elim h [
+    | inl begun ↦ inl (subst (λ (l : List Detach). AreBegun fault play.parts l ds ds' text) (sym same) begun)
     | inr told ↦ inr (told_so text told)
   ]
 
@@ -83,10 +83,10 @@ module _ (way : Way) (name : List ℕ) (files : Option Files) (fetched fetched' 
   -- the sink failed
   pub programs_cut : (old new : Option (List ℕ)) → HasRisen put put' → TellsPart Fault play.parts detaches ds ds' old new
       → HasEnd (call way name files fetched fetched' put put' old new ds ds') 12
-  programs_cut old new risen h = record { which = sink_fault; by_status = refl; why = (play, risen, h.0, begun_so h.0 h.1, h.2) }
+  programs_cut old new risen h = record { which = sink_fault; by_status = refl; why = (play, risen, h.0, begun_so Fault h.0 h.1, h.2) }
 
   -- memory is wanting behind what was told
   pub programs_wanting : (old mid new : Option (List ℕ)) (status : ℕ) → status ≡ 9 → TellsPart Memory play.parts detaches ds ds' old mid → Becomes mid new EndsInMemory
       → HasEnd (call way name files fetched fetched' put put' old new ds ds') status
   programs_wanting old mid new status nine part h =
-      out_of_memory_behind (call way name files fetched fetched' put put' old new ds ds') status nine part.0 (inl (play, begun_so part.0 part.1)) (Becomes_then (PrintsPart Memory part.0) EndsInMemory (PrintsMemory part.0) (λ x y z p k. (p.0, k.0, k.1 ∙ ap (λ s. s ++ take k.0 memory_line) p.1)) old mid new part.2 h)
+      out_of_memory_behind (call way name files fetched fetched' put put' old new ds ds') status nine part.0 (inl (play, begun_so Memory part.0 part.1)) (Becomes_then (PrintsPart Memory part.0) EndsInMemory (PrintsMemory part.0) (λ x y z p k. (p.0, k.0, k.1 ∙ ap (λ s. s ++ take k.0 memory_line) p.1)) old mid new part.2 h)

@@ -4,6 +4,7 @@ use Rattle.vault_port.specs.Counts.{HasRisen}
 use Rattle.vault_port.specs.Files.{Files, IsMissing}
 use Rattle.vault_port.specs.Taken.{Appends, AppendsLess}
 use Rattle.vault_port.specs.Told.{Becomes}
+use Rattle.vault_port.specs.declared.whole.PutFault.TheVariants.{Fault, Memory}
 use Rattle.script_model.specs.Transcript.{read_fault, refusal_line}
 use Rattle.event_order.specs.Left.{Counted}
 use Rattle.transcript.specs.Refused.{status_of, Prints, PrintsMemory}
@@ -71,7 +72,7 @@ status_of_end sink_fault = 12
 -- couldn't be read, and then they are as they were
 abbrev pub IsLine : Call → List ℕ → Type 0
 IsLine c line =
-    ((play : Play c.way c.files c.name) × IsBeginning play c.devices c.devices' line)
+    ((play : Play c.way c.files c.name) × IsBeginning Memory play c.devices c.devices' line)
     ⊎ ((cause : Cause) × IsRefused c.way c.files c.name cause × (line ≡ cause_line cause) × (c.devices' ≡ c.devices))
     ⊎ ((read : List ℕ) × IsRead c.way c.files c.name read × (line ≡ refusal_line None (read_fault read)) × (c.devices' ≡ c.devices))
 
@@ -87,7 +88,7 @@ IsWhy c (read_fault_of read) =
     × Becomes c.taken c.taken' (Prints (refusal_line None (read_fault read)) c.sink_faults c.sink_faults') × (c.devices' ≡ c.devices)
 IsWhy c sink_fault =
     (play : Play c.way c.files c.name) × HasRisen c.sink_faults c.sink_faults'
-    × (text : List ℕ) × IsBeginning play c.devices c.devices' text × Becomes c.taken c.taken' (AppendsLess text)
+    × (text : List ℕ) × IsBeginning Fault play c.devices c.devices' text × Becomes c.taken c.taken' (AppendsLess text)
 
 -- The call has one end, by its status, and the reason for it.
 pub record HasEnd (c : Call) (status : ℕ) : Type 0 where

@@ -1,6 +1,7 @@
 -- What is printed of a script that is played.
 use Rattle.std.specs.Prelude.{◌⊎◌, ℕ, List, Option}
 use Rattle.vault_port.specs.Files.{Files}
+use Rattle.vault_port.specs.declared.whole.PutFault.{PutFault}
 use Rattle.event_order.specs.Left.{Counted}
 use Rattle.script_command.specs.declared.way.Way.{Way}
 use Rattle.script_command.specs.Playing.{Play, detaches_in}
@@ -11,6 +12,6 @@ use Rattle.world_hosting.specs.Worlds.{AreBegun, AreTold}
 abbrev pub IsTranscript : {way : Way} {files : Option Files} {name : List ℕ} → Play way files name → (ds ds' : List Counted) → List ℕ → Type 0
 IsTranscript play ds ds' text = AreTold play.parts (detaches_in play.whole) ds ds' text
 
--- .. or the first lines of one, up to the devices that they leave
-abbrev pub IsBeginning : {way : Way} {files : Option Files} {name : List ℕ} → Play way files name → (ds ds' : List Counted) → List ℕ → Type 0
-IsBeginning play ds ds' text = AreBegun play.parts (detaches_in play.whole) ds ds' text ⊎ IsTranscript play ds ds' text
+-- .. or the first lines of one, up to the devices that they leave, with their counts where the sink failed
+abbrev pub IsBeginning : PutFault → {way : Way} {files : Option Files} {name : List ℕ} → Play way files name → (ds ds' : List Counted) → List ℕ → Type 0
+IsBeginning fault play ds ds' text = AreBegun fault play.parts (detaches_in play.whole) ds ds' text ⊎ IsTranscript play ds ds' text

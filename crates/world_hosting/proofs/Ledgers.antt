@@ -10,7 +10,7 @@ use Rattle.wa_model.specs.World.{Asked, Device, is_named, taken_out, detached_if
 use Rattle.vault_port.specs.Counts.{HasRisen}
 use Rattle.device_port.specs.Listed.{ChangesAt, IsFirstOf}
 use Rattle.event_order.specs.Left.{Counted, without, without_if, left_before}
-use Rattle.host_laws.specs.Supplies.{Counts, none_asked, one_asked}
+use Rattle.host_laws.specs.Supplies.{Counts, none_failed, one_failed}
 use Rattle.many_host.specs.Calls.{devices_of, faults_of}
 use Rattle.world_hosting.specs.FaultCounts.{CountsTo, one_more}
 
@@ -244,8 +244,8 @@ one_rises (suc place) (n ∷ ns) before after e h = (omega arith, one_rises plac
 
 -- no count falls
 pub counts_rise : (import : ℕ) (bound : Option (List ℕ)) (ds : List Device) (o : Outcome) (old new : List ℕ) → Counts import bound ds o old new → Rise old new
-counts_rise import bound ds o old new (none_asked other same) = subst (Rise old) (sym same) (same_rise old)
-counts_rise import bound ds o old new (one_asked name place is first at failed) = subst (Rise old) (sym at.others) (one_rises place old at.before at.after at.there at.changed)
+counts_rise import bound ds o old new (none_failed other same) = subst (Rise old) (sym same) (same_rise old)
+counts_rise import bound ds o old new (one_failed name place is first fault at failed) = subst (Rise old) (sym at.others) (one_rises place old at.before at.after at.there at.changed)
 
 first_device : (x y : Device) (xs ys : List Device) → x ∷ xs ≡ y ∷ ys → x ≡ y
 first_device x y xs ys e = cc
@@ -374,9 +374,9 @@ failer_gains name import ms ms' o e failed h = by h
     at_place place first at = failer_at name place ms ms' first.device at.before at.after e rises first.there first.named first.first at.there at.changed at.others
 
     by : Counts import (Some name) (devices_of ms) o (faults_of ms) (faults_of ms') → OneGains name ms ms'
-    by (none_asked other same) = absurd (other failed)
-    by (one_asked found place is first at fails) =
-        at_place place (subst (λ (n : List ℕ). IsFirstOf (devices_of ms) n place) (sym (same_bound name found is)) first) (fails failed)
+    by (none_failed other same) = absurd (other failed)
+    by (one_failed found place is first fault at fails) =
+        at_place place (subst (λ (n : List ℕ). IsFirstOf (devices_of ms) n place) (sym (same_bound name found is)) first) fails
 
 -- devices and counts are all that there is
 pub same_counted : (ms ms' : List Counted) → devices_of ms' ≡ devices_of ms → faults_of ms' ≡ faults_of ms → ms' ≡ ms

@@ -36,7 +36,7 @@ use Rattle.many_host.proofs.Worlds.{told_begins_met}
 use Rattle.transcript.specs.declared.events.Names.{Names}
 use Rattle.transcript.specs.Printing.{names_of}
 use Rattle.world_hosting.specs.Counts.{AreMet, IsBegunBy, Took, counted, met_by, turns_at}
-use Rattle.world_hosting.specs.Worlds.{AreBegun, AreTold, Part, PrintsPart, Tells, TellsPart, part_names, turn_count, world_program, world_programs}
+use Rattle.world_hosting.specs.Worlds.{AreBegun, AreTold, IsLeft, Part, PrintsPart, Tells, TellsPart, part_names, turn_count, world_program, world_programs}
 use Rattle.world_hosting.proofs.TurnCounts.{begun_next, turns_begun}
 use Rattle.transcript.proofs.LineTexts.{becomes_by, becomes_same, line_more, then_less, then_printed}
 
@@ -145,6 +145,11 @@ none_met programs detaches ds h ds' told none i t et = by h.turns.stage told.at 
 
 -- ---- lines that are being told
 
+-- nothing came behind them
+left_there : (fault : PutFault) (begun : ℕ) (detaches : List Detach) (cs : List Counted) → IsLeft fault begun detaches cs cs
+left_there Fault begun detaches cs = refl
+left_there Memory begun detaches cs = inl refl
+
 module _ (parts : List Part) (detaches : List Detach) (cs : List Counted) where
   abbrev programs : List Program
   programs = world_programs parts
@@ -196,9 +201,9 @@ module _ (parts : List Part) (detaches : List Detach) (cs : List Counted) where
   as_wide h now t actors starts = zip_long StartsHeld programs actors starts ∙ sym t.host.wide
 
   -- the devices are those that the lines left, or that are left when the next event begins
-  pub are_begun : (h : Host) (now : List Counted) (t : Told h now) (es : List Counted) → AreLeft h.turns.begun detaches (devices_of now) (devices_of es)
-      → AreBegun parts detaches cs es (begun t.lines)
-  are_begun h now t es left =
+  pub are_begun : (h : Host) (now : List Counted) (t : Told h now) (es : List Counted) (fault : PutFault) → IsLeft fault h.turns.begun detaches now es
+      → AreBegun fault parts detaches cs es (begun t.lines)
+  are_begun h now t es fault left =
       let b = told_begins_met programs detaches ds (devices_of now) t.lines h t.host in
       record {
         lines = t.lines;
@@ -222,7 +227,7 @@ module _ (parts : List Part) (detaches : List Detach) (cs : List Counted) where
     pub told_so_far : (es : List Counted) → AreLeft h.turns.begun detaches (devices_of now) (devices_of es) → TellsPart Memory parts detaches cs es old mid
     told_so_far es left = (
       begun lines,
-      inl (are_begun h now t.told es left),
+      inl (are_begun h now t.told es Memory left),
       becomes_by (Appends (begun lines)) (PrintsPart Memory (begun lines))
           (λ x y p. (length (begun lines), p ∙ ap (λ (s : List ℕ). x ++ s) (sym (take_all (length (begun lines)) (begun lines) (omega arith))))) old mid t.printed,
     )
@@ -259,7 +264,7 @@ module _ (parts : List Part) (detaches : List Detach) (cs : List Counted) where
       pub told_less : (fault : PutFault) (new : Option (List ℕ)) → Becomes mid new (AppendsLess (event_line (names_at own l.program) l)) → TellsPart fault parts detaches cs es old new
       told_less fault new p = (
         begun (lines ++ l ∷ []),
-        inl (are_begun next es one_more es (inl refl)),
+        inl (are_begun next es one_more es fault (left_there fault next.turns.begun detaches es)),
         becomes_by (AppendsLess (begun (lines ++ l ∷ []))) (PrintsPart fault (begun (lines ++ l ∷ []))) (part_of fault (begun (lines ++ l ∷ []))) old new
             (subst (λ (s : List ℕ). Becomes old new (AppendsLess s)) same_text (then_less (begun lines) (event_line (names_at own l.program) l) old mid new t.printed p)),
       )

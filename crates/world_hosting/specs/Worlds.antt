@@ -94,8 +94,14 @@ pub record AreTold (parts : List Part) (detaches : List Detach) (old new : List 
   pub took : Took (world_programs parts) detaches 0 0 lines met old (turn_count lines) new
   pub text_is : text ≡ Transcript (map part_names parts) (length parts) (turn_count lines) lines
 
--- It tells the first lines of one, and the devices are those that these leave, or that are left when the next event begins.
-pub record AreBegun (parts : List Part) (detaches : List Detach) (old new : List Counted) (text : List ℕ) : Type 0 where
+-- What is left behind first lines: where the sink failed, the devices and their counts that these leave; where memory was wanting, these
+-- devices, or those that are left when the next event begins.
+abbrev pub IsLeft : PutFault → (begun : ℕ) → List Detach → (there new : List Counted) → Type 0
+IsLeft Fault begun detaches there new = new ≡ there
+IsLeft Memory begun detaches there new = AreLeft begun detaches (devices_of there) (devices_of new)
+
+-- It tells the first lines of one, up to some event, and leaves the devices that are left behind these.
+pub record AreBegun (fault : PutFault) (parts : List Part) (detaches : List Detach) (old new : List Counted) (text : List ℕ) : Type 0 where
   pub lines : List Line
   pub more : List Line
   pub met : List (List Outcome)
@@ -105,7 +111,7 @@ pub record AreBegun (parts : List Part) (detaches : List Detach) (old new : List
   pub begun : ℕ
   pub there : List Counted
   pub took : Took (world_programs parts) detaches 0 0 lines met old begun there
-  pub left : AreLeft begun detaches (devices_of there) (devices_of new)
+  pub left : IsLeft fault begun detaches there new
   pub text_is : text ≡ event_lines (map part_names parts) lines
 
 -- A whole such text came behind what was printed.
@@ -120,4 +126,4 @@ PrintsPart Memory text old new = (n : ℕ) × (new ≡ old ++ take n text)
 -- A beginning of a whole such text came behind what was printed.
 abbrev pub TellsPart : PutFault → List Part → List Detach → (cs cs' : List Counted) → (old new : Option (List ℕ)) → Type 0
 TellsPart fault parts detaches cs cs' old new =
-    (text : List ℕ) × (AreBegun parts detaches cs cs' text ⊎ AreTold parts detaches cs cs' text) × Becomes old new (PrintsPart fault text)
+    (text : List ℕ) × (AreBegun fault parts detaches cs cs' text ⊎ AreTold parts detaches cs cs' text) × Becomes old new (PrintsPart fault text)
