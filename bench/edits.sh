@@ -8,7 +8,7 @@ names=("$@")
 copy=$temp/copy
 mkdir "$copy"
 cp "$top/HANDLES" "$top/crates.txt" "$copy"
-(cd "$top" && git ls-files -z crates | tar c --null -T - --exclude='*/must-fail/*') | tar x -C "$copy"
+(cd "$top" && git ls-files -z crates | tar c --exclude='*/must-fail/*' --null -T -) | tar x -C "$copy"
 for name in "${names[@]}"; do
     mkdir -p "$copy/crates/$name/must-fail"
     cp "$bench/edits/$name"/*.edit "$copy/crates/$name/must-fail"
