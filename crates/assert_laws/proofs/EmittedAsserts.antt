@@ -191,12 +191,6 @@ given_law m s told q c free h wf which tells plan os n cmp =
     let same = one_list m s told which c.tells tells in
     behaves_at m s which q (subst (CanBeEmitted m s) same c) free (subst (λ us. EmittedWithAsserts m s us q) same h) wf plan os n cmp
 
-pub rewrites_law : AssertedRewrites
-rewrites_law m s which q c free h = record {
-  parts = parts_so m s which q c free h;
-  behaves = λ wf others tells plan os n cmp. given_law m s which q c free h wf others tells plan os n (compared_given m s plan os n cmp);
-}
-
 -- where each pause finds numbered calls the same is expected as without asserts
 numbered_given : (m : Module) (s : Settings) (p : Module) → BehavesGivenWithAsserts m s p → BehavesGiven m s p
 numbered_given m s p h wf which tells plan os n cmp pauses =
@@ -204,3 +198,10 @@ numbered_given m s p h wf which tells plan os n cmp pauses =
 
 pub unpaused_law : AssertedRunsUnpaused
 unpaused_law m s which q c free h = runs_unpaused m s q which (numbered_given m s q (given_law m s which q c free h)) c.tells
+
+pub rewrites_law : AssertedRewrites
+rewrites_law m s which q c free h = record {
+  parts = parts_so m s which q c free h;
+  behaves = λ wf others tells plan os n cmp. given_law m s which q c free h wf others tells plan os n (compared_given m s plan os n cmp);
+  unpaused = unpaused_law m s which q c free h;
+}

@@ -23,15 +23,15 @@ use Rattle.wa_model.specs.Store.{Store}
 use Rattle.wa_model.specs.Blocking.{Note, events_of, Blocking}
 use Rattle.wa_model.specs.Protocol.{Held, Protocol, store_held}
 use Rattle.wa_model.specs.Expected.{SameEnd}
-use Rattle.wa_model.specs.Behaves.{IsPrefix, pause_stacks, expected_notes, without_pauses, IsMoment, BehavesOn, RunsAlike, SameWhole}
-use Rattle.wa_model.specs.Rewrites.{RewritesButRuns, SameFunc, RewrittenFunc}
+use Rattle.wa_model.specs.Behaves.{Behaves, IsPrefix, pause_stacks, expected_notes, without_pauses, IsMoment, BehavesOn, RunsAlike, SameWhole}
+use Rattle.wa_model.specs.Rewrites.{RewritesBy, RewritesButRuns, SameFunc, RewrittenFunc}
 use Rattle.norm_laws.specs.Bare.{one_by_one, bare}
 use Rattle.norm_laws.specs.NormLaws.{NormBlocking, NormProtocol, NormIsValid, NormIsRewritten}
 use Rattle.norm_laws.proofs.Locals.{merged_keeps, merged_once}
 use Rattle.norm_laws.proofs.Customs.{lowered_all, lowered_twice}
 use Rattle.norm_laws.proofs.BareRuns.{bare_blocking, bare_protocol}
 
-abbrev merged_func : Func → Func
+abbrev pub merged_func : Func → Func
 merged_func f = record f { locals = merged f.locals }
 
 -- ---- the same runs
@@ -146,7 +146,7 @@ runtime_kept m p h =
 -- ---- what it does
 
 module _ (m : Module) (s : Settings) (p : Module) where
-  behaves_on : (plan : Plan) (os : List Outcome) (n : ℕ) (which : List Bool) (expected : List Note) → BehavesOn m s p plan os n which expected → BehavesOn m s (Norm p) plan os n which expected
+  pub behaves_on : (plan : Plan) (os : List Outcome) (n : ℕ) (which : List Bool) (expected : List Note) → BehavesOn m s p plan os n which expected → BehavesOn m s (Norm p) plan os n which expected
   behaves_on plan os n which expected r =
       let bound : ℕ = Bound m n (pause_stacks (Blocking m plan os n).events) in
       record {
@@ -156,9 +156,6 @@ module _ (m : Module) (s : Settings) (p : Module) where
         moments = subst (λ (q : Ran Held Note). (events : List Event) × (at : Store) × IsMoment m plan os n events at
             × (events ≡ without_pauses (events_of q.events)) × SameEnd (global_space m) plan.area at (store_held q.last)) (sym (norm_protocol p plan os n)) r.moments;
       }
-
-  unchanged_kept : (f g : Func) → SameFunc f g → SameFunc f (merged_func g)
-  unchanged_kept f g h = record { sort = h.sort; locals = merged_once g.locals ∙ h.locals; body = h.body }
 
   rewritten_kept : (which : List Bool) (f g : Func) → RewrittenFunc m s p which f g → RewrittenFunc m s (Norm p) which f (merged_func g)
   unfolding Norm
@@ -180,9 +177,14 @@ module _ (m : Module) (s : Settings) (p : Module) where
             × (events ≡ events_of q.events) × SameWhole (global_space m) at (store_held q.last)) (sym (norm_protocol p plan os n)) r.moments;
       }
 
-but_runs : (m : Module) (s : Settings) (p : Module) → RewritesButRuns SameFunc m s p → RewritesButRuns SameFunc m s (Norm p)
+-- what became of a function that can't pause may have its runs of locals merged
+same_merged : (f g : Func) → SameFunc f g → SameFunc f (merged_func g)
+same_merged f g h = record { sort = h.sort; locals = merged_once g.locals ∙ h.locals; body = h.body }
+
+but_runs : (Stays : Func → Func → Type 0) → ((f g : Func) → Stays f g → Stays f (merged_func g))
+    → (m : Module) (s : Settings) (p : Module) → RewritesButRuns Stays m s p → RewritesButRuns Stays m s (Norm p)
 unfolding Norm
-but_runs m s p r = record {
+but_runs Stays kept m s p r = record {
   valid = r.valid;
   valid_rewritten = norm_valid p r.valid_rewritten;
   types = r.types;
@@ -196,14 +198,20 @@ but_runs m s p r = record {
   segments = r.segments;
   customs = customs_kept m p r.customs;
   runtime = runtime_kept m p r.runtime;
-  unchanged = λ i f g e h quiet. let k = from_merged p.funcs i g h in subst (SameFunc f) (sym k.2) (unchanged_kept m s p f k.0 (r.unchanged i f k.0 e k.1 quiet));
+  unchanged = λ i f g e h quiet. let k = from_merged p.funcs i g h in subst (Stays f) (sym k.2) (kept f k.0 (r.unchanged i f k.0 e k.1 quiet));
   rewritten = λ i f g which e h tells pauses.
       let k = from_merged p.funcs i g h in subst (RewrittenFunc m s (Norm p) which f) (sym k.2) (rewritten_kept m s p which f k.0 (r.rewritten i f k.0 which e k.1 tells pauses));
 }
 
-pub norm_rewritten : NormIsRewritten
-norm_rewritten m s p r = record {
-  parts = but_runs m s p r.parts;
-  behaves = λ w which tells plan os n compared numbered. behaves_on m s p plan os n which (expected_notes m s plan os n) (r.behaves w which tells plan os n compared numbered);
+-- The norm of a rewritten module is rewritten, whatever its functions that can't pause became and its runs owe, where both bear the norm.
+pub norm_rewritten_by : (Stays : Func → Func → Type 0) → ((f g : Func) → Stays f g → Stays f (merged_func g)) → (Runs Normed : Type 0) → (Runs → Normed)
+    → (m : Module) (s : Settings) (p : Module) → RewritesBy Stays Runs m s p → RewritesBy Stays Normed m s (Norm p)
+norm_rewritten_by Stays kept Runs Normed runs m s p r = record {
+  parts = but_runs Stays kept m s p r.parts;
+  behaves = runs r.behaves;
   unpaused = λ w plan os n g. runs_alike m s p plan os n (r.unpaused w plan os n g);
 }
+
+pub norm_rewritten : NormIsRewritten
+norm_rewritten m s p = norm_rewritten_by SameFunc same_merged (Behaves m s p) (Behaves m s (Norm p)) (λ behaves w which tells plan os n compared numbered.
+    behaves_on m s p plan os n which (expected_notes m s plan os n) (behaves w which tells plan os n compared numbered)) m s p

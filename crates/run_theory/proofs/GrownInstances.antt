@@ -41,7 +41,7 @@ pub each_split : {X : Type 0} (P : X → Type 0) (xs ys : List X) → Each P (xs
 each_split P [] ys h = (tt, h)
 each_split P (x ∷ xs) ys h = let r = each_split P xs ys h.1 in ((h.0, r.0), r.1)
 
-each_replicate : {X : Type 0} (P : X → Type 0) (k : ℕ) (x : X) → P x → Each P (replicate k x)
+pub each_replicate : {X : Type 0} (P : X → Type 0) (k : ℕ) (x : X) → P x → Each P (replicate k x)
 each_replicate P zero x h = tt
 each_replicate P (suc k) x h = (h, each_replicate P k x h)
 
@@ -68,11 +68,11 @@ segments_stay values more (s ∷ ss) h =
 
 -- ---- the table
 
-entries_named : (f : ℕ) (xs : List ℕ) → Each (λ x. x < f) xs → Each (EntryNamed f) (map (λ x. Some x) xs)
+pub entries_named : (f : ℕ) (xs : List ℕ) → Each (λ x. x < f) xs → Each (EntryNamed f) (map (λ x. Some x) xs)
 entries_named f [] h = tt
 entries_named f (x ∷ xs) h = (h.0, entries_named f xs h.1)
 
-table_named : (f : ℕ) (values : List Value) (table : List (Option ℕ)) (es : List Elem) → Each (EntryNamed f) table → Each (λ (e : Elem). Each (λ x. x < f) e.funcs) es
+pub table_named : (f : ℕ) (values : List Value) (table : List (Option ℕ)) (es : List Elem) → Each (EntryNamed f) table → Each (λ (e : Elem). Each (λ x. x < f) e.funcs) es
     → Each (EntryNamed f) (put_pieces table (map (elem_piece values) es))
 table_named f values table [] t h = t
 table_named f values table (e ∷ es) t h =

@@ -63,8 +63,13 @@ pub record RewritesButRuns (Stays : Func → Func → Type 0) (m : Module) (s : 
   pub rewritten : (i : ℕ) (f g : Func) (which : List Bool) → slice_get m.funcs i ≡ Some f → slice_get p.funcs i ≡ Some g → TellsMayPause m s which → MayPause m s (func_imports m + i)
       → RewrittenFunc m s p which f g
 
--- p is the module m rewritten under the settings s.
-pub record Rewrites (m : Module) (s : Settings) (p : Module) : Type 0 where
-  pub parts : RewritesButRuns SameFunc m s p
-  pub behaves : Behaves m s p
+-- p is the module m rewritten under the settings s: `Stays` relates a function that can't pause to what became of it, and `Runs` says what runs of p owe
+-- those of m. Where nothing pauses they are those of m, under any area.
+pub record RewritesBy (Stays : Func → Func → Type 0) (Runs : Type 0) (m : Module) (s : Settings) (p : Module) : Type 0 where
+  pub parts : RewritesButRuns Stays m s p
+  pub behaves : Runs
   pub unpaused : BehavesUnpaused m p
+
+-- without asserts: a function that can't pause stays
+abbrev pub Rewrites : Module → Settings → Module → Type 0
+Rewrites m s p = RewritesBy SameFunc (Behaves m s p) m s p
