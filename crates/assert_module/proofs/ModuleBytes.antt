@@ -12,6 +12,8 @@ use Rattle.wa_types.specs.Syntax.{Module}
 use Rattle.wa_types.specs.View.{func_of, module_of}
 use Rattle.wa_types.specs.declared.syntax.Func.{Func as FuncValue}
 use Rattle.wa_types.specs.declared.syntax.Module.{Module as ModuleValue}
+use Rattle.call_graph.specs.Settings.{settings_of}
+use Rattle.call_graph.specs.declared.settings.Settings.{Settings as SettingsValue}
 use Rattle.local_spill.specs.Reserved.{reserved_at}
 use Rattle.wasm_encode.specs.Around.{code_entries, HoldsEntries, IsAround, IsUnwritten}
 use Rattle.wasm_encode.specs.declared.held.CodeEntries.{CodeEntries}
@@ -23,8 +25,8 @@ use Rattle.live_laws.specs.PolicyLaws.{CanBeEmitted}
 use Rattle.module_rewrite.proofs.FreeNames.{unreserved_is_free}
 use Rattle.module_rewrite.proofs.WholeLemmas.{few_written, which_long}
 use Rattle.module_rewrite.specs.ByteFaults.{of_encode}
-use Rattle.module_rewrite.specs.Whole.{IsAsyncified}
-use Rattle.module_rewrite.specs.declared.whole.Rewritten.{Rewritten}
+use Rattle.module_rewrite.specs.Whole.{IsInstrumented}
+use Rattle.module_rewrite.specs.declared.whole.Instrumented.{Instrumented}
 use Rattle.guard_form.specs.AssertedRuns.{RewritesWithAsserts}
 use Rattle.assert_laws.proofs.EmittedAsserts.{rewrites_law}
 use Rattle.assert_laws.proofs.LengthWithAsserts.{short_law}
@@ -41,7 +43,7 @@ abbrev with_imports : Module → List Import → ℕ
 with_imports m is = func_imports (record m { imports = is })
 
 -- how many functions the module has
-pub own_count : (v z : ModuleValue) (own : ℕ) → z ≡ v → own ≡ vec_len z.funcs → own ≡ length (module_of v).funcs
+own_count : (v z : ModuleValue) (own : ℕ) → z ≡ v → own ≡ vec_len z.funcs → own ≡ length (module_of v).funcs
 own_count v z own same e =
     let ok = z.funcs.ok in
     let count = ap (λ (y : ModuleValue). length y.funcs.items) same in
@@ -49,7 +51,14 @@ own_count v z own same e =
 
 -- ---- what is written
 
-module _ (m : Module) (s : Settings) (r : Rewritten) (strict : StrictSizeRule m) (a : IsAsyncified m s r) (few : length m.funcs ≤ 100000) (short : length (Enc m) ≤ 2 ^ 36) where
+-- The module q stands around the entries that are put, of these functions of the module in memory from this one on.
+pub record EmitsAround (q : Module) (n : Numbers) (w : ModuleValue) (first : ℕ) (fs : List FuncValue) : Type 0 where
+  pub short : are_short n first (map func_of fs)
+  pub around : IsAround (module_of w) q
+  pub held : (old new : CodeEntries) → HoldsEntries old []
+      → ((entries : List ℕ) → HoldsEntries old entries → HoldsEntries new (entries ++ entries_with n first (map func_of fs))) → HoldsEntries new (code_entries q)
+
+module _ (m : Module) (s : Settings) (r : Instrumented) (strict : StrictSizeRule m) (a : IsInstrumented m s r) (few : length m.funcs ≤ 100000) (short : length (Enc m) ≤ 2 ^ 36) where
   abbrev which : List Bool
   which = r.instrumented.items
 
@@ -68,7 +77,7 @@ module _ (m : Module) (s : Settings) (r : Rewritten) (strict : StrictSizeRule m)
   same_imports : func_imports p ≡ func_imports m
   same_imports = ap (with_imports m) a.rewrites.parts.imports
 
-  pub first_from : (all own : ℕ) → all ≡ vec_len r.instrumented → own ≡ length m.funcs → all - own ≡ func_imports p
+  first_from : (all own : ℕ) → all ≡ vec_len r.instrumented → own ≡ length m.funcs → all - own ≡ func_imports p
   first_from all own ea eo =
       let k = which_long m s which a.tells in
       let z = same_imports in
@@ -77,31 +86,26 @@ module _ (m : Module) (s : Settings) (r : Rewritten) (strict : StrictSizeRule m)
   fits : length (Enc q) < 2 ^ 64
   fits = short_law m s which q can emitted few short
 
-  pub around : IsAround p q
+  around : IsAround p q
   around = record { other_funcs = refl; sorts = sorts_from m s which (func_imports p) p.funcs; locals = few_as m s which p can a.emitted; fits = fits }
 
   module _ (n : Numbers) (ew : n.which.items ≡ which) (el : n.listed.items ≡ Listed m s) (ei : n.ignore_indirect ≡ s.ignore_indirect) (es : n.state ≡ global_space m) where
-    pub entries_are : entries_with n (func_imports p) p.funcs ≡ code_entries q
+    entries_are : entries_with n (func_imports p) p.funcs ≡ code_entries q
     entries_are = same_entries m s which n ew el ei es (func_imports p) p.funcs
 
-    pub entries_short : are_short n (func_imports p) p.funcs
+    entries_short : are_short n (func_imports p) p.funcs
     entries_short = all_short m s which n ew el ei es (func_imports p) p.funcs (few_as m s which p can a.emitted) (omega (arith, entries_within q, fits))
 
     -- .. of the module in memory, from its first function on
-    module _ (w : ModuleValue) (is : w ≡ r.«module») (first : ℕ) (ef : first ≡ func_imports p) (fs : List FuncValue) (efs : fs ≡ w.funcs.items) where
-      seen : map func_of fs ≡ p.funcs
-      seen = ap (map func_of) efs ∙ ap (λ (z : ModuleValue). (module_of z).funcs) is
-
-      pub seen_short : are_short n first (map func_of fs)
-      seen_short = subst (λ k. are_short n k (map func_of fs)) (sym ef) (subst (are_short n (func_imports p)) (sym seen) entries_short)
-
-      pub seen_around : IsAround (module_of w) q
-      seen_around = subst (λ (z : ModuleValue). IsAround (module_of z) q) (sym is) around
-
-      pub seen_held : (old new : CodeEntries) → HoldsEntries old []
-          → ((entries : List ℕ) → HoldsEntries old entries → HoldsEntries new (entries ++ entries_with n first (map func_of fs))) → HoldsEntries new (code_entries q)
-      seen_held old new empty put =
-          subst (HoldsEntries new) (ap (λ k. entries_with n k (map func_of fs)) ef ∙ ap (entries_with n (func_imports p)) seen ∙ entries_are) (put [] empty)
+    pub emitted_around : (w : ModuleValue) (first : ℕ) (fs : List FuncValue) → w ≡ r.«module» → first ≡ func_imports p → fs ≡ w.funcs.items → EmitsAround q n w first fs
+    emitted_around w first fs is ef efs =
+        let seen : map func_of fs ≡ p.funcs = ap (map func_of) efs ∙ ap (λ (z : ModuleValue). (module_of z).funcs) is in
+        record {
+          short = subst (λ k. are_short n k (map func_of fs)) (sym ef) (subst (are_short n (func_imports p)) (sym seen) entries_short);
+          around = subst (λ (z : ModuleValue). IsAround (module_of z) q) (sym is) around;
+          held = λ old new empty put.
+              subst (HoldsEntries new) (ap (λ k. entries_with n k (map func_of fs)) ef ∙ ap (entries_with n (func_imports p)) seen ∙ entries_are) (put [] empty);
+        }
 
   module _ (free : reserved_at m ≡ None) where
     pub rewrites : RewritesWithAsserts m s q
@@ -119,3 +123,18 @@ module _ (m : Module) (s : Settings) (r : Rewritten) (strict : StrictSizeRule m)
       is = h.0;
       over = h.1;
     }
+
+-- ---- in the call's own values
+
+-- what tells which callees have a number
+abbrev pub numbers_by : Instrumented → SettingsValue → (state : ℕ) → Numbers
+numbers_by r x state = record { which = r.instrumented; listed = r.listed; ignore_indirect = x.ignore_indirect; state = state }
+
+-- `z` is the module of `v` at hand, and `w` the rewritten one.
+pub emitting : (v z w : ModuleValue) (x : SettingsValue) (r : Instrumented) (all own state : ℕ) (fs : List FuncValue) → StrictSizeRule (module_of v) → IsInstrumented (module_of v) (settings_of x) r
+    → length (module_of v).funcs ≤ 100000 → length (Enc (module_of v)) ≤ 2 ^ 36 → z ≡ v → all ≡ vec_len r.instrumented → own ≡ vec_len z.funcs → state ≡ global_space (module_of z)
+    → w ≡ r.«module» → fs ≡ w.funcs.items
+    → EmitsAround (module_with_asserts (module_of v) (settings_of x) r.instrumented.items (module_of r.«module»)) (numbers_by r x state) w (all - own) fs
+emitting v z w x r all own state fs strict a few short same ea eo es is efs =
+    emitted_around (module_of v) (settings_of x) r strict a few short (numbers_by r x state) refl a.listed refl (es ∙ ap (λ (y : ModuleValue). global_space (module_of y)) same)
+    w (all - own) fs is (first_from (module_of v) (settings_of x) r strict a few short all own ea (own_count v z own same eo)) efs

@@ -9,9 +9,9 @@ ghost use Rattle.local_spill.specs.Reserved.{reserved_at};
 ghost use Rattle.assert_module.specs.Emitting.{EmitsWithAsserts};
 
 use crate::asserting::{Numbers, put_asserted};
-use call_graph::{Settings, listed_imports};
+use call_graph::Settings;
 use local_spill::ids_behind;
-use module_rewrite::{EmitFault, Emitted, RewriteFault, asyncify_module};
+use module_rewrite::{EmitFault, Emitted, RewriteFault, rewrite_module};
 use std::alloc::Global;
 use wasm_encode::{CodeEntries, encode_around};
 use wasm_validate::Valid;
@@ -31,8 +31,7 @@ pub fn emit_with_asserts(
     requires short { length (Enc (module_of valid.now)) ≤ 2 ^ 36 }
     ensures { EmitsWithAsserts (module_of valid.now) (settings_of settings.now) result }
 {
-    let listed = listed_imports(alloc, valid, settings)?;
-    let rewritten = match asyncify_module(alloc, valid, settings) {
+    let rewritten = match rewrite_module(alloc, valid, settings) {
         Ok(rewritten) => rewritten,
         Err(RewriteFault::Memory) => return Err(EmitFault::Memory),
         Err(RewriteFault::Locals { func, count }) => {
@@ -44,7 +43,7 @@ pub fn emit_with_asserts(
     let first = rewritten.instrumented.len() - module.funcs.len();
     let numbers = Numbers {
         which: rewritten.instrumented,
-        listed,
+        listed: rewritten.listed,
         ignore_indirect: settings.ignore_indirect,
         state: ids_behind(module).state,
     };

@@ -1,6 +1,7 @@
 pub mod BareLemmas
 pub mod EntryLemmas
 pub mod FreeNames
+pub mod InnerModule
 pub mod LayoutLemmas
 pub mod Parts
 pub mod Spaces

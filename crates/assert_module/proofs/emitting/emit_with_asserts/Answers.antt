@@ -1,5 +1,5 @@
 -- The rewritten module stands around the entries of its functions with asserts; what is written is the module with asserts.
-use Rattle.std.proofs.Common.{◌<◌, ◌^◌, ◌∙◌, Err, ap, refl, subst, sym}
+use Rattle.std.proofs.Common.{◌<◌, ◌^◌, Err, ap, subst, sym}
 use Rattle.std.proofs.lemmas.Result.{err_from_is_err_and}
 use Rattle.wa_types.specs.declared.syntax.Module.{Module as ModuleValue}
 use Rattle.wa_types.specs.Runtime.{func_space, global_space}
@@ -11,8 +11,7 @@ use Rattle.module_rewrite.proofs.WholeLemmas.{globals_small, space_small}
 use Rattle.assert_laws.proofs.ReadsWithAsserts.{reads_law}
 use Rattle.assert_laws.specs.EmittedWithAsserts.{module_with_asserts}
 use Rattle.assert_module.specs.Emitting.{EmitsWithAsserts}
-use Rattle.assert_module.specs.declared.asserting.Numbers.{Numbers}
-use Rattle.assert_module.proofs.ModuleBytes.{can, emitted, first_from, own_count, rewrites, seen_around, seen_held, seen_short, text_fault}
+use Rattle.assert_module.proofs.ModuleBytes.{can, emitted, emitting, rewrites, text_fault}
 use Rattle.assert_module.proofs.emitting.emit_with_asserts.Goals as goal
 
 pub ids_behind-requires-clause-funcs : goal.ids_behind-requires-clause-funcs
@@ -25,46 +24,30 @@ ids_behind-requires-clause-globals c =
 
 pub put_asserted-requires-clause-short : goal.put_asserted-requires-clause-short
 put_asserted-requires-clause-short c =
-    let m : Module = module_of c.args.valid.now in
-    let s = settings_of c.args.settings.now in
     let r = c.in-Ok.rewritten in
-    let a = c.in-Ok.ensures in
-    let n : Numbers = record { which = r.instrumented; listed = c.in_ok-listed.listed; ignore_indirect = c.args.settings.now.ignore_indirect; state = c.ids_behind.result.state } in
-    let state = ap (λ (i : RuntimeIds). i.state) c.ids_behind.ensures ∙ ap (λ (z : ModuleValue). global_space (module_of z)) c.module-module.ensures.same in
-    let own = own_count c.args.valid.now c.module-module.result.now c.len-2.result c.module-module.ensures.same c.len-2.ensures in
-    let first = first_from m s r c.requires.sizes a c.requires.few c.requires.short c.len.result c.len-2.result c.len.ensures own in
-    seen_short m s r c.requires.sizes a c.requires.few c.requires.short n refl c.in_ok-listed.ensures refl state c.module-whole.result.now c.module-whole.ensures.same _ first c.deref.result.now c.deref.ensures.value
+    let h = emitting c.args.valid.now _ c.module-whole.result.now c.args.settings.now r _ _ _ c.deref.result.now c.requires.sizes c.in-Ok.ensures c.requires.few c.requires.short
+        c.module-module.ensures.same c.len.ensures c.len-2.ensures (ap (λ (i : RuntimeIds). i.state) c.ids_behind.ensures) c.module-whole.ensures.same c.deref.ensures.value in
+    h.short
 
 pub encode_around-requires : goal.encode_around-requires
 encode_around-requires c =
-    let m : Module = module_of c.args.valid.now in
-    let s = settings_of c.args.settings.now in
     let r = c.in-Ok.rewritten in
-    let a = c.in-Ok.ensures in
-    let n : Numbers = record { which = r.instrumented; listed = c.in_ok-listed.listed; ignore_indirect = c.args.settings.now.ignore_indirect; state = c.ids_behind.result.state } in
-    let state = ap (λ (i : RuntimeIds). i.state) c.ids_behind.ensures ∙ ap (λ (z : ModuleValue). global_space (module_of z)) c.module-module.ensures.same in
-    let own = own_count c.args.valid.now c.module-module.result.now c.len-2.result c.module-module.ensures.same c.len-2.ensures in
-    let first = first_from m s r c.requires.sizes a c.requires.few c.requires.short c.len.result c.len-2.result c.len.ensures own in
-    let around = seen_around m s r c.requires.sizes a c.requires.few c.requires.short n refl c.in_ok-listed.ensures refl state c.module-whole.result.now c.module-whole.ensures.same _ first c.deref.result.now c.deref.ensures.value in
-    let held = seen_held m s r c.requires.sizes a c.requires.few c.requires.short n refl c.in_ok-listed.ensures refl state c.module-whole.result.now c.module-whole.ensures.same _ first c.deref.result.now c.deref.ensures.value c.new-entries.result c.put_asserted.new.out c.new-entries.ensures c.in_ok-put_asserted.ensures in
-    (module_with_asserts m s r.instrumented.items (module_of r.«module»), around, held)
+    let h = emitting c.args.valid.now _ c.module-whole.result.now c.args.settings.now r _ _ _ c.deref.result.now c.requires.sizes c.in-Ok.ensures c.requires.few c.requires.short
+        c.module-module.ensures.same c.len.ensures c.len-2.ensures (ap (λ (i : RuntimeIds). i.state) c.ids_behind.ensures) c.module-whole.ensures.same c.deref.ensures.value in
+    (_, h.around, h.held _ _ c.new-entries.ensures c.in_ok-put_asserted.ensures)
 
 pub returns-in_err-text : goal.returns-in_err-text
 returns-in_err-text c =
     let m : Module = module_of c.args.valid.now in
     let s = settings_of c.args.settings.now in
     let r = c.in-Ok.rewritten in
-    let a = c.in-Ok.ensures in
-    let n : Numbers = record { which = r.instrumented; listed = c.in_ok-listed.listed; ignore_indirect = c.args.settings.now.ignore_indirect; state = c.ids_behind.result.state } in
-    let state = ap (λ (i : RuntimeIds). i.state) c.ids_behind.ensures ∙ ap (λ (z : ModuleValue). global_space (module_of z)) c.module-module.ensures.same in
-    let own = own_count c.args.valid.now c.module-module.result.now c.len-2.result c.module-module.ensures.same c.len-2.ensures in
-    let first = first_from m s r c.requires.sizes a c.requires.few c.requires.short c.len.result c.len-2.result c.len.ensures own in
-    let around = seen_around m s r c.requires.sizes a c.requires.few c.requires.short n refl c.in_ok-listed.ensures refl state c.module-whole.result.now c.module-whole.ensures.same _ first c.deref.result.now c.deref.ensures.value in
-    let held = seen_held m s r c.requires.sizes a c.requires.few c.requires.short n refl c.in_ok-listed.ensures refl state c.module-whole.result.now c.module-whole.ensures.same _ first c.deref.result.now c.deref.ensures.value c.new-entries.result c.put_asserted.new.out c.new-entries.ensures c.in_ok-put_asserted.ensures in
+    let h = emitting c.args.valid.now _ c.module-whole.result.now c.args.settings.now r _ _ _ c.deref.result.now c.requires.sizes c.in-Ok.ensures c.requires.few c.requires.short
+        c.module-module.ensures.same c.len.ensures c.len-2.ensures (ap (λ (i : RuntimeIds). i.state) c.ids_behind.ensures) c.module-whole.ensures.same c.deref.ensures.value in
     let q : Module = module_with_asserts m s r.instrumented.items (module_of r.«module») in
+    let held = h.held _ _ c.new-entries.ensures c.in_ok-put_asserted.ensures in
     let e = err_from_is_err_and c.from_residual-in_err-text.result c.from_residual-in_err-text.ensures.1 in
     subst (EmitsWithAsserts m s) (sym e.1) (subst (λ z. EmitsWithAsserts m s (Err z)) (sym e.2)
-    (text_fault m s r c.requires.sizes a c.requires.few c.requires.short c.requires.free c.in_err-text.field-0.0 (c.in_err-text.ensures.fault q around held)))
+    (text_fault m s r c.requires.sizes c.in-Ok.ensures c.requires.few c.requires.short c.requires.free c.in_err-text.field-0.0 (c.in_err-text.ensures.fault q h.around held)))
 
 pub returns : goal.returns
 returns c =
@@ -72,13 +55,10 @@ returns c =
     let s = settings_of c.args.settings.now in
     let r = c.in-Ok.rewritten in
     let a = c.in-Ok.ensures in
-    let n : Numbers = record { which = r.instrumented; listed = c.in_ok-listed.listed; ignore_indirect = c.args.settings.now.ignore_indirect; state = c.ids_behind.result.state } in
-    let state = ap (λ (i : RuntimeIds). i.state) c.ids_behind.ensures ∙ ap (λ (z : ModuleValue). global_space (module_of z)) c.module-module.ensures.same in
-    let own = own_count c.args.valid.now c.module-module.result.now c.len-2.result c.module-module.ensures.same c.len-2.ensures in
-    let first = first_from m s r c.requires.sizes a c.requires.few c.requires.short c.len.result c.len-2.result c.len.ensures own in
-    let around = seen_around m s r c.requires.sizes a c.requires.few c.requires.short n refl c.in_ok-listed.ensures refl state c.module-whole.result.now c.module-whole.ensures.same _ first c.deref.result.now c.deref.ensures.value in
-    let held = seen_held m s r c.requires.sizes a c.requires.few c.requires.short n refl c.in_ok-listed.ensures refl state c.module-whole.result.now c.module-whole.ensures.same _ first c.deref.result.now c.deref.ensures.value c.new-entries.result c.put_asserted.new.out c.new-entries.ensures c.in_ok-put_asserted.ensures in
+    let h = emitting c.args.valid.now _ c.module-whole.result.now c.args.settings.now r _ _ _ c.deref.result.now c.requires.sizes c.in-Ok.ensures c.requires.few c.requires.short
+        c.module-module.ensures.same c.len.ensures c.len-2.ensures (ap (λ (i : RuntimeIds). i.state) c.ids_behind.ensures) c.module-whole.ensures.same c.deref.ensures.value in
     let q : Module = module_with_asserts m s r.instrumented.items (module_of r.«module») in
+    let held = h.held _ _ c.new-entries.ensures c.in_ok-put_asserted.ensures in
     record {
       can = record { tells = a.tells; few = a.few };
       written = q;
@@ -86,6 +66,6 @@ returns c =
       rewrites = rewrites m s r c.requires.sizes a c.requires.few c.requires.short c.requires.free;
       reads = reads_law m s r.instrumented.items q (can m s r c.requires.sizes a c.requires.few c.requires.short)
           (emitted m s r c.requires.sizes a c.requires.few c.requires.short);
-      text = c.in_ok-text.ensures.ok q around held;
-      short = c.in_ok-text.ensures.short q around held;
+      text = c.in_ok-text.ensures.ok q h.around held;
+      short = c.in_ok-text.ensures.short q h.around held;
     }

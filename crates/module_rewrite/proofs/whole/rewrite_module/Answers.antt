@@ -1,22 +1,17 @@
 use Rattle.std.proofs.Common.{ap, sym, subst, map, length, Err, None, ◌≡◌, ◌<◌, ◌^◌, ◌∙◌}
 use Rattle.std.proofs.lemmas.Result.{err_from_is_err_and}
 use Rattle.wa_types.specs.declared.syntax.Module.{Module as ModuleValue}
-use Rattle.wa_types.specs.Runtime.{func_space, global_space, with_runtime}
-use Rattle.wa_types.specs.Sizes.{SizeRule}
-use Rattle.wa_types.specs.Validity.{Valid}
+use Rattle.wa_types.specs.Runtime.{func_space, global_space}
 use Rattle.wa_types.specs.View.{func_of, module_of}
 use Rattle.wa_model.specs.Rewrites.{Rewrites}
 use Rattle.local_spill.specs.Reserved.{reserved_at}
 use Rattle.call_graph.specs.Settings.{settings_of}
-use Rattle.wa_types.specs.Modules.{func_imports}
-use Rattle.live_laws.specs.EmittedAs.{AreEmitted, EmittedAs}
-use Rattle.live_laws.specs.PolicyLaws.{CanBeEmitted, EachReadsFew}
-use Rattle.live_laws.proofs.PolicyCases.{functions_law, rewrites_as, sizes_as, valid_as}
-use Rattle.live_laws.proofs.PolicyReads.{emitted_reads}
-use Rattle.module_rewrite.specs.Taking.{AllTaken, IsRefused}
+use Rattle.live_laws.specs.EmittedAs.{EmittedAs}
+use Rattle.live_laws.specs.PolicyLaws.{EachReadsFew}
+use Rattle.module_rewrite.specs.Taking.{IsRefused}
 use Rattle.module_rewrite.specs.Whole.{Instruments}
-use Rattle.module_rewrite.proofs.FreeNames.{unreserved_is_free}
-use Rattle.module_rewrite.proofs.WholeLemmas.{few_written, globals_small, made_space, none_is, space_small, taking_fault, which_long}
+use Rattle.module_rewrite.proofs.InnerModule.{Inner, taken_inner}
+use Rattle.module_rewrite.proofs.WholeLemmas.{globals_small, none_is, space_small, taking_fault, which_long}
 use Rattle.module_rewrite.proofs.whole.rewrite_module.Goals as goal
 
 pub ids_behind-ids-requires-clause-funcs : goal.ids_behind-ids-requires-clause-funcs
@@ -63,111 +58,63 @@ returns-in_err-rewrite_funcs c =
 
 pub with_parts-requires-clause-funcs : goal.with_parts-requires-clause-funcs
 with_parts-requires-clause-funcs c =
-    let v = c.args.valid.now in
-    let m = module_of v in
-    let same = c.module-module.ensures.same in
+    let m = module_of c.args.valid.now in
     let s = settings_of c.args.settings.now in
     let which = c.in_ok-which.which.items in
-    let valid = subst (λ (z : ModuleValue). Valid (module_of z)) same c.module-module.ensures.valid in
-    let free : reserved_at m ≡ None = ap (λ (z : ModuleValue). reserved_at (module_of z)) (sym same) ∙ sym c.reserved.ensures ∙ none_is c.reserved.result c.in_default.not-Some in
-    let gs = map func_of c.rewrite_funcs.new.sink.items in
-    let taken : AllTaken m s which (λ fs. gs ≡ fs) = subst (λ w. AllTaken m s w (λ fs. gs ≡ fs)) c.deref.ensures.value c.in_ok-rewrite_funcs.ensures in
-    let are : AreEmitted m s which (func_imports m) m.funcs gs = subst (AreEmitted m s which (func_imports m) m.funcs) (sym taken.held) taken.emitted in
-    let made : module_of c.in_ok-inner.inner ≡ record m { funcs = gs } = c.in_ok-inner.ensures ∙ ap (λ (z : ModuleValue). record (module_of z) { funcs = gs }) same in
-    let can : CanBeEmitted m s which = record { valid = valid; sizes = c.requires.sizes; few = few_written m which taken.few; tells = c.in_ok-which.ensures } in
-    let as_ : EmittedAs m s which (with_runtime (record m { funcs = gs })) = functions_law m s which gs are in
-    subst (λ q. func_space q < 2 ^ 31) (sym made) (made_space m s which gs are c.requires.sizes)
+    let inner : Inner m s which (module_of c.in_ok-inner.inner) = taken_inner s which _ (map func_of c.rewrite_funcs.new.sink.items) _ c.args.valid.now c.in_ok-inner.inner c.reserved.result
+        c.module-module.ensures.same c.module-module.ensures.valid c.requires.sizes c.reserved.ensures c.in_default.not-Some c.in_ok-which.ensures c.deref.ensures.value c.in_ok-rewrite_funcs.ensures c.in_ok-inner.ensures in
+    inner.funcs_fit
 
 pub with_parts-requires-clause-globals : goal.with_parts-requires-clause-globals
 with_parts-requires-clause-globals c =
-    let v = c.args.valid.now in
-    let m = module_of v in
-    let same = c.module-module.ensures.same in
+    let m = module_of c.args.valid.now in
     let s = settings_of c.args.settings.now in
     let which = c.in_ok-which.which.items in
-    let valid = subst (λ (z : ModuleValue). Valid (module_of z)) same c.module-module.ensures.valid in
-    let free : reserved_at m ≡ None = ap (λ (z : ModuleValue). reserved_at (module_of z)) (sym same) ∙ sym c.reserved.ensures ∙ none_is c.reserved.result c.in_default.not-Some in
-    let gs = map func_of c.rewrite_funcs.new.sink.items in
-    let taken : AllTaken m s which (λ fs. gs ≡ fs) = subst (λ w. AllTaken m s w (λ fs. gs ≡ fs)) c.deref.ensures.value c.in_ok-rewrite_funcs.ensures in
-    let are : AreEmitted m s which (func_imports m) m.funcs gs = subst (AreEmitted m s which (func_imports m) m.funcs) (sym taken.held) taken.emitted in
-    let made : module_of c.in_ok-inner.inner ≡ record m { funcs = gs } = c.in_ok-inner.ensures ∙ ap (λ (z : ModuleValue). record (module_of z) { funcs = gs }) same in
-    let can : CanBeEmitted m s which = record { valid = valid; sizes = c.requires.sizes; few = few_written m which taken.few; tells = c.in_ok-which.ensures } in
-    let as_ : EmittedAs m s which (with_runtime (record m { funcs = gs })) = functions_law m s which gs are in
-    subst (λ q. global_space q < 2 ^ 31) (sym made) (globals_small m c.requires.sizes)
+    let inner : Inner m s which (module_of c.in_ok-inner.inner) = taken_inner s which _ (map func_of c.rewrite_funcs.new.sink.items) _ c.args.valid.now c.in_ok-inner.inner c.reserved.result
+        c.module-module.ensures.same c.module-module.ensures.valid c.requires.sizes c.reserved.ensures c.in_default.not-Some c.in_ok-which.ensures c.deref.ensures.value c.in_ok-rewrite_funcs.ensures c.in_ok-inner.ensures in
+    inner.globals_fit
 
 pub with_parts-requires-clause-free : goal.with_parts-requires-clause-free
 with_parts-requires-clause-free c =
-    let v = c.args.valid.now in
-    let m = module_of v in
-    let same = c.module-module.ensures.same in
+    let m = module_of c.args.valid.now in
     let s = settings_of c.args.settings.now in
     let which = c.in_ok-which.which.items in
-    let valid = subst (λ (z : ModuleValue). Valid (module_of z)) same c.module-module.ensures.valid in
-    let free : reserved_at m ≡ None = ap (λ (z : ModuleValue). reserved_at (module_of z)) (sym same) ∙ sym c.reserved.ensures ∙ none_is c.reserved.result c.in_default.not-Some in
-    let gs = map func_of c.rewrite_funcs.new.sink.items in
-    let taken : AllTaken m s which (λ fs. gs ≡ fs) = subst (λ w. AllTaken m s w (λ fs. gs ≡ fs)) c.deref.ensures.value c.in_ok-rewrite_funcs.ensures in
-    let are : AreEmitted m s which (func_imports m) m.funcs gs = subst (AreEmitted m s which (func_imports m) m.funcs) (sym taken.held) taken.emitted in
-    let made : module_of c.in_ok-inner.inner ≡ record m { funcs = gs } = c.in_ok-inner.ensures ∙ ap (λ (z : ModuleValue). record (module_of z) { funcs = gs }) same in
-    let can : CanBeEmitted m s which = record { valid = valid; sizes = c.requires.sizes; few = few_written m which taken.few; tells = c.in_ok-which.ensures } in
-    let as_ : EmittedAs m s which (with_runtime (record m { funcs = gs })) = functions_law m s which gs are in
-    subst (λ q. reserved_at q ≡ None) (sym made) free
+    let inner : Inner m s which (module_of c.in_ok-inner.inner) = taken_inner s which _ (map func_of c.rewrite_funcs.new.sink.items) _ c.args.valid.now c.in_ok-inner.inner c.reserved.result
+        c.module-module.ensures.same c.module-module.ensures.valid c.requires.sizes c.reserved.ensures c.in_default.not-Some c.in_ok-which.ensures c.deref.ensures.value c.in_ok-rewrite_funcs.ensures c.in_ok-inner.ensures in
+    inner.still_free
 
 pub with_parts-requires-clause-valid : goal.with_parts-requires-clause-valid
 with_parts-requires-clause-valid c =
-    let v = c.args.valid.now in
-    let m = module_of v in
-    let same = c.module-module.ensures.same in
+    let m = module_of c.args.valid.now in
     let s = settings_of c.args.settings.now in
     let which = c.in_ok-which.which.items in
-    let valid = subst (λ (z : ModuleValue). Valid (module_of z)) same c.module-module.ensures.valid in
-    let free : reserved_at m ≡ None = ap (λ (z : ModuleValue). reserved_at (module_of z)) (sym same) ∙ sym c.reserved.ensures ∙ none_is c.reserved.result c.in_default.not-Some in
-    let gs = map func_of c.rewrite_funcs.new.sink.items in
-    let taken : AllTaken m s which (λ fs. gs ≡ fs) = subst (λ w. AllTaken m s w (λ fs. gs ≡ fs)) c.deref.ensures.value c.in_ok-rewrite_funcs.ensures in
-    let are : AreEmitted m s which (func_imports m) m.funcs gs = subst (AreEmitted m s which (func_imports m) m.funcs) (sym taken.held) taken.emitted in
-    let made : module_of c.in_ok-inner.inner ≡ record m { funcs = gs } = c.in_ok-inner.ensures ∙ ap (λ (z : ModuleValue). record (module_of z) { funcs = gs }) same in
-    let can : CanBeEmitted m s which = record { valid = valid; sizes = c.requires.sizes; few = few_written m which taken.few; tells = c.in_ok-which.ensures } in
-    let as_ : EmittedAs m s which (with_runtime (record m { funcs = gs })) = functions_law m s which gs are in
-    subst (λ q. Valid (with_runtime q)) (sym made) (valid_as m s which (with_runtime (record m { funcs = gs })) can (unreserved_is_free m free) as_)
+    let inner : Inner m s which (module_of c.in_ok-inner.inner) = taken_inner s which _ (map func_of c.rewrite_funcs.new.sink.items) _ c.args.valid.now c.in_ok-inner.inner c.reserved.result
+        c.module-module.ensures.same c.module-module.ensures.valid c.requires.sizes c.reserved.ensures c.in_default.not-Some c.in_ok-which.ensures c.deref.ensures.value c.in_ok-rewrite_funcs.ensures c.in_ok-inner.ensures in
+    inner.valid
 
 pub with_parts-requires-clause-sizes : goal.with_parts-requires-clause-sizes
 with_parts-requires-clause-sizes c =
-    let v = c.args.valid.now in
-    let m = module_of v in
-    let same = c.module-module.ensures.same in
+    let m = module_of c.args.valid.now in
     let s = settings_of c.args.settings.now in
     let which = c.in_ok-which.which.items in
-    let valid = subst (λ (z : ModuleValue). Valid (module_of z)) same c.module-module.ensures.valid in
-    let free : reserved_at m ≡ None = ap (λ (z : ModuleValue). reserved_at (module_of z)) (sym same) ∙ sym c.reserved.ensures ∙ none_is c.reserved.result c.in_default.not-Some in
-    let gs = map func_of c.rewrite_funcs.new.sink.items in
-    let taken : AllTaken m s which (λ fs. gs ≡ fs) = subst (λ w. AllTaken m s w (λ fs. gs ≡ fs)) c.deref.ensures.value c.in_ok-rewrite_funcs.ensures in
-    let are : AreEmitted m s which (func_imports m) m.funcs gs = subst (AreEmitted m s which (func_imports m) m.funcs) (sym taken.held) taken.emitted in
-    let made : module_of c.in_ok-inner.inner ≡ record m { funcs = gs } = c.in_ok-inner.ensures ∙ ap (λ (z : ModuleValue). record (module_of z) { funcs = gs }) same in
-    let can : CanBeEmitted m s which = record { valid = valid; sizes = c.requires.sizes; few = few_written m which taken.few; tells = c.in_ok-which.ensures } in
-    let as_ : EmittedAs m s which (with_runtime (record m { funcs = gs })) = functions_law m s which gs are in
-    subst (λ q. SizeRule (with_runtime q)) (sym made) (sizes_as m s which (with_runtime (record m { funcs = gs })) can as_)
+    let inner : Inner m s which (module_of c.in_ok-inner.inner) = taken_inner s which _ (map func_of c.rewrite_funcs.new.sink.items) _ c.args.valid.now c.in_ok-inner.inner c.reserved.result
+        c.module-module.ensures.same c.module-module.ensures.valid c.requires.sizes c.reserved.ensures c.in_default.not-Some c.in_ok-which.ensures c.deref.ensures.value c.in_ok-rewrite_funcs.ensures c.in_ok-inner.ensures in
+    inner.sizes
 
 pub returns : goal.returns
 returns c =
-    let v = c.args.valid.now in
-    let m = module_of v in
-    let same = c.module-module.ensures.same in
+    let m = module_of c.args.valid.now in
     let s = settings_of c.args.settings.now in
     let which = c.in_ok-which.which.items in
-    let valid = subst (λ (z : ModuleValue). Valid (module_of z)) same c.module-module.ensures.valid in
-    let free : reserved_at m ≡ None = ap (λ (z : ModuleValue). reserved_at (module_of z)) (sym same) ∙ sym c.reserved.ensures ∙ none_is c.reserved.result c.in_default.not-Some in
-    let gs = map func_of c.rewrite_funcs.new.sink.items in
-    let taken : AllTaken m s which (λ fs. gs ≡ fs) = subst (λ w. AllTaken m s w (λ fs. gs ≡ fs)) c.deref.ensures.value c.in_ok-rewrite_funcs.ensures in
-    let are : AreEmitted m s which (func_imports m) m.funcs gs = subst (AreEmitted m s which (func_imports m) m.funcs) (sym taken.held) taken.emitted in
-    let made : module_of c.in_ok-inner.inner ≡ record m { funcs = gs } = c.in_ok-inner.ensures ∙ ap (λ (z : ModuleValue). record (module_of z) { funcs = gs }) same in
-    let can : CanBeEmitted m s which = record { valid = valid; sizes = c.requires.sizes; few = few_written m which taken.few; tells = c.in_ok-which.ensures } in
-    let as_ : EmittedAs m s which (with_runtime (record m { funcs = gs })) = functions_law m s which gs are in
-    let is = c.in_ok-rewritten.ensures.done ∙ ap with_runtime made in
+    let inner : Inner m s which (module_of c.in_ok-inner.inner) = taken_inner s which _ (map func_of c.rewrite_funcs.new.sink.items) _ c.args.valid.now c.in_ok-inner.inner c.reserved.result
+        c.module-module.ensures.same c.module-module.ensures.valid c.requires.sizes c.reserved.ensures c.in_default.not-Some c.in_ok-which.ensures c.deref.ensures.value c.in_ok-rewrite_funcs.ensures c.in_ok-inner.ensures in
+    let is = c.in_ok-rewritten.ensures.done in
     record {
-      free = free;
+      free = inner.free;
       tells = c.in_ok-which.ensures;
       listed = c.in_ok-listed.ensures;
-      few = taken.few;
-      emitted = subst (EmittedAs m s which) (sym is) as_;
-      rewrites = subst (Rewrites m s) (sym is) (rewrites_as m s which (with_runtime (record m { funcs = gs })) can (unreserved_is_free m free) as_);
-      reads = subst (EachReadsFew m s which) (sym is) (emitted_reads m s which (with_runtime (record m { funcs = gs })) can as_);
+      few = inner.few;
+      emitted = subst (EmittedAs m s which) (sym is) inner.emitted;
+      rewrites = subst (Rewrites m s) (sym is) inner.rewrites;
+      reads = subst (EachReadsFew m s which) (sym is) inner.reads;
     }
