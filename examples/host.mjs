@@ -65,7 +65,8 @@ async function call(name, ...args) {
   return result;
 }
 
-// Calls an export once. What it throws while the stack is unwound is that the stack doesn't fit.
+// Calls an export once. What it throws while the stack is unwound is that the stack doesn't fit (or, with --asserts, that a call
+// which isn't rewritten led to the pause).
 function entered(name, args) {
   try {
     return program[name](...args);

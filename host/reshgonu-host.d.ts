@@ -44,7 +44,8 @@ export interface Program {
 /**
  * - "not-rewritten": the module lacks the five exports.
  * - "no-area": there is no area, or not one inside the memory at a multiple of 4.
- * - "area-too-small": the stack didn't fit: `wanted` tells how many bytes it takes at least.
+ * - "area-too-small": the stack didn't fit: `wanted` tells how many bytes it takes at least. In a module with asserts also that a call which isn't
+ *   rewritten led to the pause: the message says so.
  * - "unlisted-pause": the program wasn't rewritten for a pause at `import`.
  * - "pause-in-start": an import returned a promise in the module's start function.
  * - "no-entry": an import returned a promise in a call of `instance.exports`.

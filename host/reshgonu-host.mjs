@@ -323,7 +323,10 @@ class Host {
     return this.#tooSmall(error);
   }
 
-  /** The area was too small: a frame didn't fit, or (as Binaryen's pass writes modules) was written behind it. */
+  /**
+   * The area was too small: a frame didn't fit, or (as Binaryen's pass writes modules) was written behind it. A module with asserts traps in the
+   * same way where a call that isn't rewritten led to the pause.
+   */
   #tooSmall(cause) {
     const { length } = this.#area;
     const used = this.#used();
@@ -331,7 +334,8 @@ class Host {
     const name = this.#pause.import;
     const message =
       `the area of ${length} bytes is too small for the stack when ${name} pauses: it takes at least ${wanted}. Make the area larger; ` +
-      `'-O2' of the compiler and '--save live' make less of it needed. Where it is ample, ${name} isn't among the rewriting's '--imports'`;
+      `'-O2' of the compiler and '--save live' make less of it needed. Where it is ample, ${name} isn't among the rewriting's '--imports', or ` +
+      "a call through a table leads to it and '--ignore-indirect' was given";
     return new AsyncifyError("area-too-small", message, { cause, import: name, used, length, wanted });
   }
 
