@@ -18,19 +18,19 @@ ghost use Rattle.asyncify_app.specs.Playing.{run_program, sleep_answer};
 
 use call_graph::{Choice, Policy, Settings};
 use host_setup::SetupFault;
-use module_rewrite::{RewriteFault, asyncify_module};
+use module_rewrite::{RewriteFault, rewrite_module};
 use pause_host::{Entry, Plan, Program, unbound};
 use std::alloc::{AllocError, Global};
 use wa_model::{Answer, AnswerLine, Area, Said};
 use wa_types::{Module, Name, Value};
-use wasm_validate::{Valid, ValidateFault, validate};
+use wasm_validate::Valid;
 
 /// A page of memory, which rewriting adds.
 const AREA: Area = Area { at: 0, len: 65_536 };
 
 const STEPS: u64 = 100_000_000;
 
-/// A module with each of its imports listed, rewritten.
+/// A valid module with each of its imports listed, rewritten.
 pub(crate) fn rewritten(alloc: Global, module: Module) -> Result<Valid, AllocError>
     requires valid { IsValid (module_of «module») }
     requires sizes { StrictSizeRule (module_of «module») }
@@ -38,18 +38,14 @@ pub(crate) fn rewritten(alloc: Global, module: Module) -> Result<Valid, AllocErr
     requires few { All (λ f. Count (module_of «module») f ≤ 50000) (module_of «module»).funcs }
     ensures { IfOk result (λ v. Rewrites (module_of «module») all_listed (module_of v)) }
 {
-    let valid = match validate(alloc, module) {
-        Ok(valid) => valid,
-        Err(ValidateFault::Memory) => return Err(AllocError),
-        Err(ValidateFault::Invalid { .. }) => unreachable!(),
-    };
+    let valid = Valid::proved(alloc, module)?;
     let settings = Settings {
         choice: Choice::Every,
         ignore_indirect: false,
         policy: Policy::All,
         asserts: false,
     };
-    match asyncify_module(alloc, &valid, &settings) {
+    match rewrite_module(alloc, &valid, &settings) {
         Ok(rewritten) => Ok(rewritten.module),
         Err(RewriteFault::Memory) => Err(AllocError),
         Err(RewriteFault::Reserved(_)) => unreachable!(),
