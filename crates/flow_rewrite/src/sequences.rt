@@ -1,12 +1,10 @@
 //! The guarded code of pieces and units.
 
-ghost use Rattle.std.specs.Prelude.{◌≡◌, ◌<◌, ◌^◌, [], None, true, IfOk, OnOk};
-ghost use Rattle.wa_types.specs.Syntax.{a_block, a_loop, branch, nest};
+ghost use Rattle.std.specs.Prelude.{◌≡◌, ◌<◌, ◌^◌, [], true, IfOk, OnOk};
 ghost use Rattle.wa_types.specs.View.{code, onto};
 ghost use Rattle.run_theory.specs.Flat.{followed_by};
 ghost use Rattle.guard_form.specs.Guarded.{guarded_body, last_piece};
 ghost use Rattle.guard_form.specs.Pieces.{flat_units, no_unit, numbers_in};
-ghost use Rattle.flow_rewrite.specs.Putting.{Puts};
 ghost use Rattle.flow_rewrite.specs.Raising.{Raisable};
 ghost use Rattle.flow_rewrite.specs.CallsEmitting.{indices};
 ghost use Rattle.flow_rewrite.specs.Exits.{exit_of};
@@ -19,6 +17,7 @@ use crate::exits::{ExitTo, at_call, inside_block, inside_loop};
 use crate::guards::{Guards, put_guarded};
 use crate::labels::put_raised;
 use crate::pieces::{Pieces, Unit};
+use crate::put::{put_block, put_if, put_loop};
 use std::alloc::{AllocError, Global};
 use wa_types::{Instr, copy_body};
 
@@ -68,41 +67,6 @@ fn put_last(
             Ok(())
         }
     }
-}
-
-/// Puts a block.
-#[inline(never)]
-fn put_block(out: &mut Vec<Instr>, body: Vec<Instr>) -> Result<(), AllocError>
-    ensures { OnOk result (Puts out.old.items out.new.items (nest a_block None (code body.items))) }
-{
-    out.push(Instr::Block { result: None, body })?;
-    Ok(())
-}
-
-/// Puts a loop.
-#[inline(never)]
-fn put_loop(out: &mut Vec<Instr>, body: Vec<Instr>) -> Result<(), AllocError>
-    ensures { OnOk result (Puts out.old.items out.new.items (nest a_loop None (code body.items))) }
-{
-    out.push(Instr::Loop { result: None, body })?;
-    Ok(())
-}
-
-/// Puts an `if`.
-#[inline(never)]
-fn put_if(
-    out: &mut Vec<Instr>,
-    then_arm: Vec<Instr>,
-    else_arm: Vec<Instr>,
-) -> Result<(), AllocError>
-    ensures { OnOk result (Puts out.old.items out.new.items (branch None (code then_arm.items) (code else_arm.items))) }
-{
-    out.push(Instr::If {
-        result: None,
-        then_arm,
-        else_arm,
-    })?;
-    Ok(())
 }
 
 /// Puts a copy of a body to none.
@@ -211,7 +175,7 @@ fn put_unit(
             };
             let mut inner = Vec::new(guards.alloc);
             let next = write_sequence(guards, &mut inner, inside, first, body)?;
-            put_block(out, inner)?;
+            put_block(out, None, inner)?;
             Ok(next)
         }
         Unit::Loop { first, body, .. } => {
@@ -224,7 +188,7 @@ fn put_unit(
             };
             let mut inner = Vec::new(guards.alloc);
             let next = write_sequence(guards, &mut inner, inside, first, body)?;
-            put_loop(out, inner)?;
+            put_loop(out, None, inner)?;
             Ok(next)
         }
         Unit::If {
@@ -260,7 +224,7 @@ fn put_unit(
                 spot.number,
                 middle,
             )?;
-            put_if(out, then_arm, else_arm)?;
+            put_if(out, None, then_arm, else_arm)?;
             Ok(next)
         }
     }

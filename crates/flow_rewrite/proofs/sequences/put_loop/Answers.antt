@@ -1,7 +1,0 @@
-use Rattle.std.proofs.Common.{None}
-use Rattle.wa_types.proofs.ViewLemmas.{in_loop}
-use Rattle.flow_rewrite.proofs.PutLemmas.{put_one}
-use Rattle.flow_rewrite.proofs.sequences.put_loop.Goals as goal
-
-pub returns : goal.returns
-returns c = put_one _ _ _ _ c.in_ok-push.ensures.items (in_loop None _)
