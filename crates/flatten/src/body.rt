@@ -1,6 +1,6 @@
 //! The statements of a body or an arm, instruction by instruction and construct by construct.
 
-ghost use Rattle.std.specs.Prelude.{◌≡◌, ◌+◌, ◌<◌, ◌^◌, [], length, false, true, IfOk, OnOk};
+ghost use Rattle.std.specs.Prelude.{◌≡◌, ◌+◌, ◌<◌, ◌^◌, [], length, false, true, OnOk};
 ghost use Rattle.wa_types.specs.Pruned.{is_last_instr};
 ghost use Rattle.wa_types.specs.Sizes.{code_items};
 ghost use Rattle.wa_types.specs.Syntax.{done};
@@ -20,9 +20,15 @@ use std::alloc::AllocError;
 use wa_model::Stmt;
 use wa_types::Instr;
 
-/// The statements of a body, or of an arm.
+/// Puts the statements of a body, or of an arm, to none. They are put where they stand, so that little stands on the stack at a level.
 #[cycle(body_stmts)]
-pub fn body_stmts(names: &Names, at: &mut Position, body: &[Instr]) -> Result<Vec<Stmt>, AllocError>
+pub fn body_stmts(
+    out: &mut Vec<Stmt>,
+    names: &Names,
+    at: &mut Position,
+    body: &[Instr],
+) -> Result<(), AllocError>
+    requires empty { out.old.items ≡ [] }
     requires typed { TypedAt at.old.typing (code body.now) }
     requires ready { Ready names.now at.old }
     requires small { SmallTypes at.old.typing.around }
@@ -30,19 +36,18 @@ pub fn body_stmts(names: &Names, at: &mut Position, body: &[Instr]) -> Result<Ve
     requires inside { 0 < length at.old.labels.items }
     ensures ready { OnOk result (Ready names.now at.new) }
     ensures stays { OnOk result (Stays at.old.typing at.new.typing) }
-    ensures stmts { IfOk result (λ v. stmts v.items ≡ flat_at names.now at.old.typing (code body.now)) }
+    ensures stmts { OnOk result (stmts out.new.items ≡ flat_at names.now at.old.typing (code body.now)) }
 {
-    let mut out = Vec::new(at.alloc);
     for instr in body {
         if instr.is_last() {
-            put_last(&mut out, names, at, instr)?;
-            return Ok(out);
+            put_last(out, names, at, instr)?;
+            return Ok(());
         }
-        put_instr(&mut out, names, at, instr)?;
+        put_instr(out, names, at, instr)?;
     }
     let from = top_slot(&at.slots);
-    put_carry(&mut out, &at.labels, 0, from)?;
-    Ok(out)
+    put_carry(out, &at.labels, 0, from)?;
+    Ok(())
 }
 
 /// Puts what an instruction stands for behind which control goes on.
@@ -64,13 +69,15 @@ fn put_instr(
     match instr {
         Instr::Block { result, body } => {
             let outer = open(names, at, instr, *result)?;
-            let inner = body_stmts(names, at, body)?;
+            let mut inner = Vec::new(at.alloc);
+            body_stmts(&mut inner, names, at, body)?;
             close(at, *result, outer)?;
             put_block(out, names, at, inner, *result)
         }
         Instr::Loop { result, body } => {
             let outer = open(names, at, instr, None)?;
-            let inner = body_stmts(names, at, body)?;
+            let mut inner = Vec::new(at.alloc);
+            body_stmts(&mut inner, names, at, body)?;
             close(at, *result, outer)?;
             put_loop(out, names, at, inner, *result)
         }
@@ -81,9 +88,11 @@ fn put_instr(
         } => {
             let cond = pop_slot(&mut at.slots);
             let outer = open(names, at, instr, *result)?;
-            let first = body_stmts(names, at, then_arm)?;
+            let mut first = Vec::new(at.alloc);
+            body_stmts(&mut first, names, at, then_arm)?;
             restart(at, outer);
-            let second = body_stmts(names, at, else_arm)?;
+            let mut second = Vec::new(at.alloc);
+            body_stmts(&mut second, names, at, else_arm)?;
             close(at, *result, outer)?;
             put_if(out, names, at, cond, first, second, *result)
         }

@@ -58,5 +58,7 @@ pub fn flat_body(
     ensures { IfOk result (λ v. stmts v.items ≡ flat_at names.now typing.entry (code body.now)) }
 {
     let mut at = beginning(alloc, typing, names, given)?;
-    body_stmts(names, &mut at, body)
+    let mut out = Vec::new(alloc);
+    body_stmts(&mut out, names, &mut at, body)?;
+    Ok(out)
 }

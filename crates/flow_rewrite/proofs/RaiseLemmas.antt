@@ -12,7 +12,8 @@ use Rattle.wa_types.specs.Counts.{depth_of}
 use Rattle.wa_types.proofs.ViewLemmas.{is_block, is_loop, is_if, is_plain, instr_kind, in_block, in_loop, in_if, in_br_table, code_step, code_empty, onto_append, onto_done, onto_none}
 use Rattle.wa_types.specs.Leaves.{is_leaf}
 use Rattle.guard_form.specs.Guarded.{raise, raised}
-use Rattle.flow_rewrite.specs.Raising.{LabelsBelow, Raisable}
+use Rattle.flow_rewrite.specs.Putting.{Puts}
+use Rattle.flow_rewrite.specs.Raising.{LabelsBelow, PutsRaised, Raisable}
 
 -- ---- one instruction of a list
 
@@ -77,20 +78,8 @@ in_if_raisable d n x r v w e h =
 
 -- ---- what is raised
 
-pub raised_step : (d n : ℕ) (xs new body : List Instr) (i : ℕ) (x y : Instr) (k : Code) → new ≡ xs ++ y ∷ []
-    → ((rest : Code) → in_front y (raised d n rest) ≡ raised d n (in_front x rest)) → i < length body → x ≡ get_or body i x
-    → onto xs (raised d n (code (drop i body))) ≡ k → onto new (raised d n (code (drop (i + 1) body))) ≡ k
-raised_step d n xs new body i x y k e same lt at before =
-    ap (λ s. onto s (raised d n (code (drop (i + 1) body)))) e ∙ onto_append xs y _ ∙ ap (onto xs) (same (code (drop (i + 1) body)) ∙ ap (raised d n) (sym (code_step body i x lt at))) ∙ before
-
-pub raised_end : (d n : ℕ) (xs body : List Instr) (i : ℕ) → length body ≤ i → onto xs (raised d n (code (drop i body))) ≡ raised d n (code body) → code xs ≡ raised d n (code body)
-raised_end d n xs body i le before = sym (onto_done xs) ∙ ap (λ c. onto xs (raised d n c)) (sym (code_empty body i le)) ∙ before
-
 pub raised_onto_end : (d n : ℕ) (xs body : List Instr) (i : ℕ) (k : Code) → length body ≤ i → onto xs (raised d n (code (drop i body))) ≡ k → code xs ≡ k
 raised_onto_end d n xs body i k le before = sym (onto_done xs) ∙ ap (λ c. onto xs (raised d n c)) (sym (code_empty body i le)) ∙ before
-
-pub raised_start : (d n : ℕ) (xs body : List Instr) → xs ≡ [] → onto xs (raised d n (code (drop 0 body))) ≡ raised d n (code body)
-raised_start d n xs body e = ap (λ s. onto s (raised d n (code body))) e ∙ onto_none (raised d n (code body))
 
 pub raised_br : (d n l k : ℕ) (x : Instr) → x ≡ Br l → k ≡ raise d n l → (rest : Code) → in_front (Br k) (raised d n rest) ≡ raised d n (in_front x rest)
 unfolding in_front
@@ -161,6 +150,22 @@ same_raised d n (If' r s k t l) h b bi bt rest = cc
 pub raised_other : (d n : ℕ) (x y : Instr) → is_leaf x ≡ true → ((l : ℕ) → x ≡ Br l → ⊥) → ((l : ℕ) → x ≡ BrIf l → ⊥) → ((v : Vec ℕ Global) (l : ℕ) → x ≡ BrTable v l → ⊥)
     → ((rest : Code) → in_front y rest ≡ in_front x rest) → (rest : Code) → in_front y (raised d n rest) ≡ raised d n (in_front x rest)
 raised_other d n x y h b bi bt same rest = same (raised d n rest) ∙ sym (same_raised d n x h b bi bt rest)
+
+-- an instruction was put that stands for another one, raised
+pub put_as_raised : (old new : List Instr) (f : Code → Code) (d n : ℕ) (x y : Instr) → Puts old new f → ((c : Code) → in_front y c ≡ f c)
+    → ((rest : Code) → in_front y (raised d n rest) ≡ raised d n (in_front x rest)) → PutsRaised d n x old new
+put_as_raised old new f d n x y puts is same rest = puts (raised d n rest) ∙ ap (onto old) (sym (is (raised d n rest)) ∙ same rest)
+
+pub pushed_as_raised : (old new : List Instr) (d n : ℕ) (x y : Instr) → new ≡ old ++ y ∷ [] → ((rest : Code) → in_front y (raised d n rest) ≡ raised d n (in_front x rest)) → PutsRaised d n x old new
+pushed_as_raised old new d n x y e same rest = ap (λ s. onto s (raised d n rest)) e ∙ onto_append old y (raised d n rest) ∙ ap (onto old) (same rest)
+
+pub raised_on : (d n : ℕ) (old xs new body : List Instr) (i : ℕ) (x : Instr) → PutsRaised d n x xs new → i < length body → x ≡ get_or body i x
+    → onto xs (raised d n (code (drop i body))) ≡ onto old (raised d n (code body)) → onto new (raised d n (code (drop (i + 1) body))) ≡ onto old (raised d n (code body))
+raised_on d n old xs new body i x put lt at before =
+    put (code (drop (i + 1) body)) ∙ ap (λ c. onto xs (raised d n c)) (sym (code_step body i x lt at)) ∙ before
+
+pub raised_none : (d n : ℕ) (xs new : List Instr) (c : Code) → xs ≡ [] → code new ≡ onto xs (raised d n c) → code new ≡ raised d n c
+raised_none d n xs new c e q = q ∙ ap (λ s. onto s (raised d n c)) e ∙ onto_none (raised d n c)
 
 -- ---- the labels that are there
 

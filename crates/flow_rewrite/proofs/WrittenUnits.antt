@@ -18,7 +18,6 @@ use Rattle.flow_rewrite.specs.declared.guards.Guards.{Guards}
 use Rattle.flow_rewrite.specs.CallsEmitting.{indices}
 use Rattle.flow_rewrite.specs.declared.pieces.Target.{Target}
 use Rattle.flow_rewrite.specs.declared.pieces.Unit.{Unit}
-use Rattle.flow_rewrite.specs.declared.sequences.Sequence.{Sequence}
 use Rattle.flow_rewrite.specs.UnitView.{callee_of, unit_in_front, units_of}
 use Rattle.flow_rewrite.specs.Fronts.{piece_behind, IsFront, IsArm, Ready, Stepped, Walked}
 use Rattle.flow_rewrite.proofs.UnitLemmas.{units_step, units_end, any_left, ready_one, ready_behind, count_front}
@@ -68,53 +67,52 @@ call_stepped g e v more d k old new piece u xs x to ys is behind ve puts =
       number = omega arith;
     }
 
-pub nest_stepped : (g : Guards) (e w : Exit) (more : Bool) (d l k : ℕ) (old mid new piece : List Instr) (u : Unit) (s : Shape) (first : Code) (body : Units) (behind : List Instr) (f : Sequence)
-    (x : Instr) → w ≡ exit_inside e s more → l ≡ d + 1
-    → ((rest : Units) → unit_in_front u rest ≡ nest_unit s first body (code behind) rest) → piece_behind u ≡ behind → IsFront g w l k first body f
-    → Puts old mid (guarded (indices g) (code piece)) → new ≡ mid ++ x ∷ [] → ((c : Code) → in_front x c ≡ nest s None (code f.code.items) c)
-    → Stepped g e more d k old new piece u f.number
-nest_stepped g e w more d l k old mid new piece u s first body behind f x ew q is next part puts pushed shape =
+pub nest_stepped : (g : Guards) (e w : Exit) (more : Bool) (d l k : ℕ) (old mid new piece : List Instr) (u : Unit) (s : Shape) (first : Code) (body : Units) (behind : List Instr) (f : List Instr) (n : ℕ)
+    → w ≡ exit_inside e s more → l ≡ d + 1
+    → ((rest : Units) → unit_in_front u rest ≡ nest_unit s first body (code behind) rest) → piece_behind u ≡ behind → IsFront g w l k first body f n
+    → Puts old mid (guarded (indices g) (code piece)) → Puts mid new (nest s None (code f))
+    → Stepped g e more d k old new piece u n
+nest_stepped g e w more d l k old mid new piece u s first body behind f n ew q is next part puts put =
     let i = indices g in
     let z : l ≡ suc d = q ∙ omega arith in
-    let n = f.number in
     let num = part.number in
     let nn : numbers_in (unit_in_front u no_unit) ≡ numbers_in body + 0 = ap numbers_in (is no_unit) in
     record {
       written = λ rest am.
           let behind_code = front i e d (k + numbers_in body) (code behind) rest in
-          let inner : code f.code.items ≡ front i (exit_inside e s (any_unit rest)) (suc d) k first body =
+          let inner : code f ≡ front i (exit_inside e s (any_unit rest)) (suc d) k first body =
           part.written ∙ (λ j. front i ((ew ∙ ap (exit_inside e s) (sym am)) j) (z j) k first body) in
           ap (λ y. onto old (front i e d k (code piece) y)) (is rest)
           ∙ (λ j. onto old (guarded i (code piece) (nest s None (sym inner j) behind_code)))
-          ∙ sym (puts (nest s None (code f.code.items) behind_code)) ∙ sym (put_one mid new x (nest s None (code f.code.items)) pushed shape behind_code)
+          ∙ sym (puts (nest s None (code f) behind_code)) ∙ sym (put behind_code)
           ∙ sym (λ j. onto new (front i e d (num j) (code (next j)) rest));
       number = num ∙ omega arith;
     }
 
 pub if_stepped : (g : Guards) (e w : Exit) (more : Bool) (d l k : ℕ) (old mid new piece : List Instr) (u : Unit) (o : Option Operand) (fa : Code) (a : Units) (fb : Code) (b : Units)
-    (behind : List Instr) (p q : Sequence) (x : Instr)
+    (behind : List Instr) (p q : List Instr) (m n : ℕ)
     → w ≡ exit_inside e a_block more → l ≡ d + 1 → ((rest : Units) → unit_in_front u rest ≡ if_unit o fa a fb b (code behind) rest) → piece_behind u ≡ behind
-    → IsArm g w l k fa a p → IsArm g w l p.number fb b q
+    → IsArm g w l k fa a p m → IsArm g w l m fb b q n
     → Puts old mid (λ c. plain (basic (global_get g.state)) (branch (Some I32) (choice (indices g) k a b) (raised 0 1 (followed_by (code piece) (got_any o done))) c))
-    → new ≡ mid ++ x ∷ [] → ((c : Code) → in_front x c ≡ branch None (code p.code.items) (code q.code.items) c) → Stepped g e more d k old new piece u q.number
-if_stepped g e w more d l k old mid new piece u o fa a fb b behind p q x ew es is next first second puts pushed shape =
+    → Puts mid new (branch None (code p) (code q)) → Stepped g e more d k old new piece u n
+if_stepped g e w more d l k old mid new piece u o fa a fb b behind p q m n ew es is next first second puts put =
     let i = indices g in
     let z : l ≡ suc d = es ∙ omega arith in
     let pn = first.number in
-    let qn : q.number ≡ k + numbers_in a + numbers_in b = second.number ∙ ap (λ l. l + numbers_in b) pn in
+    let qn : n ≡ k + numbers_in a + numbers_in b = second.number ∙ ap (λ l. l + numbers_in b) pn in
     let nn : numbers_in (unit_in_front u no_unit) ≡ numbers_in a + numbers_in b + 0 = ap numbers_in (is no_unit) in
     record {
       written = λ rest am.
           let behind_code = front i e d (k + numbers_in a + numbers_in b) (code behind) rest in
           let wi = exit_inside e a_block (any_unit rest) in
           let we : w ≡ wi = ew ∙ ap (exit_inside e a_block) (sym am) in
-          let wp : code p.code.items ≡ arm a fa (front i wi (suc d) k fa a) = first.written ∙ (λ j. arm a fa (front i (we j) (z j) k fa a)) in
-          let wq : code q.code.items ≡ arm b fb (front i wi (suc d) (k + numbers_in a) fb b) = second.written ∙ (λ j. arm b fb (front i (we j) (z j) (pn j) fb b)) in
+          let wp : code p ≡ arm a fa (front i wi (suc d) k fa a) = first.written ∙ (λ j. arm a fa (front i (we j) (z j) k fa a)) in
+          let wq : code q ≡ arm b fb (front i wi (suc d) (k + numbers_in a) fb b) = second.written ∙ (λ j. arm b fb (front i (we j) (z j) (pn j) fb b)) in
           ap (λ y. onto old (front i e d k (code piece) y)) (is rest)
           ∙ (λ j. onto old (plain (basic (global_get g.state)) (branch (Some I32) (choice i k a b) (raised 0 1 (followed_by (code piece) (got_any o done)))
           (branch None (sym wp j) (sym wq j) behind_code))))
-          ∙ sym (puts (branch None (code p.code.items) (code q.code.items) behind_code))
-          ∙ sym (put_one mid new x (branch None (code p.code.items) (code q.code.items)) pushed shape behind_code) ∙ sym (λ j. onto new (front i e d (qn j) (code (next j)) rest));
+          ∙ sym (puts (branch None (code p) (code q) behind_code))
+          ∙ sym (put behind_code) ∙ sym (λ j. onto new (front i e d (qn j) (code (next j)) rest));
       number = qn ∙ omega arith;
     }
 
@@ -150,11 +148,11 @@ walked_next g e d k first us out new piece next m left more xs j u behind lt is 
       ready = subst (λ y. Ready e d m (code y) rest) (sym q) r.0;
     }
 
-pub walked_end : (g : Guards) (e : Exit) (d k : ℕ) (first : Code) (us : Units) (out piece : List Instr) (xs : List Unit) (j : ℕ) (s : Sequence) → length xs ≤ j
-    → (next : ℕ) → Walked g e d k first us out piece next (units_of (drop j xs)) → code s.code.items ≡ onto out (last_piece (indices g) e (code piece)) → s.number ≡ next → IsFront g e d k first us s
-walked_end g e d k first us out piece xs j s le next w is n =
+pub walked_end : (g : Guards) (e : Exit) (d k : ℕ) (first : Code) (us : Units) (out piece : List Instr) (xs : List Unit) (j : ℕ) (f : List Instr) (m : ℕ) → length xs ≤ j
+    → (next : ℕ) → Walked g e d k first us out piece next (units_of (drop j xs)) → code f ≡ onto out (last_piece (indices g) e (code piece)) → m ≡ next → IsFront g e d k first us f m
+walked_end g e d k first us out piece xs j f n le next w is same =
     let q = units_end xs j le in
-    let m : k + numbers_in us ≡ next + 0 = w.number ∙ ap (λ y. next + numbers_in y) q in
+    let total : k + numbers_in us ≡ next + 0 = w.number ∙ ap (λ y. next + numbers_in y) q in
     record {
       written = is ∙ sym (w.written ∙ ap (λ y. onto out (front (indices g) e d next (code piece) y)) q);
       number = omega arith;

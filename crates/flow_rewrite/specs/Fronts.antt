@@ -14,7 +14,6 @@ use Rattle.flow_rewrite.specs.declared.guards.Guards.{Guards}
 use Rattle.flow_rewrite.specs.CallsEmitting.{indices}
 use Rattle.flow_rewrite.specs.declared.pieces.Unit.{Unit}
 use Rattle.flow_rewrite.specs.declared.pieces.Unit.TheVariants.{Call, Block', Loop', If'}
-use Rattle.flow_rewrite.specs.declared.sequences.Sequence.{Sequence}
 use Rattle.flow_rewrite.specs.UnitView.{unit_in_front}
 use Rattle.flow_rewrite.specs.Exits.{LabelBelow}
 
@@ -37,15 +36,15 @@ pub record Ready (e : Exit) (d k : ℕ) (first : Code) (us : Units) : Type 0 whe
 abbrev pub condition_code : GuardIndices → (k : ℕ) → (piece : Code) → Option Operand → (then_arm else_arm : Units) → Code → Code
 condition_code i k piece o a b c = plain (basic (global_get i.state)) (branch (Some I32) (choice i k a b) (raised 0 1 (followed_by piece (got_any o done))) c)
 
--- a sequence as it is written
-pub record IsFront (g : Guards) (e : Exit) (d k : ℕ) (first : Code) (us : Units) (s : Sequence) : Type 0 where
-  pub written : code s.code.items ≡ front (indices g) e d k first us
-  pub number : s.number ≡ k + numbers_in us
+-- a sequence as it is written, and the number of the next numbered call
+pub record IsFront (g : Guards) (e : Exit) (d k : ℕ) (first : Code) (us : Units) (f : List Instr) (n : ℕ) : Type 0 where
+  pub written : code f ≡ front (indices g) e d k first us
+  pub number : n ≡ k + numbers_in us
 
--- an arm as it is written
-pub record IsArm (g : Guards) (e : Exit) (d k : ℕ) (first : Code) (us : Units) (s : Sequence) : Type 0 where
-  pub written : code s.code.items ≡ arm us first (front (indices g) e d k first us)
-  pub number : s.number ≡ k + numbers_in us
+-- so is an arm
+pub record IsArm (g : Guards) (e : Exit) (d k : ℕ) (first : Code) (us : Units) (f : List Instr) (n : ℕ) : Type 0 where
+  pub written : code f ≡ arm us first (front (indices g) e d k first us)
+  pub number : n ≡ k + numbers_in us
 
 -- the piece in front of what comes behind a unit: behind a call it is put with the call
 abbrev pub piece_behind : Unit → List Instr

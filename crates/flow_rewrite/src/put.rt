@@ -2,7 +2,7 @@
 
 ghost use Rattle.std.specs.Prelude.{◌≡◌, ◌+◌, suc, true, OnOk};
 ghost use Rattle.wa_types.specs.declared.values.Value.TheVariants as V;
-ghost use Rattle.wa_types.specs.Syntax.{const, num, global_get, basic, local_get, local_set, br_if, done, plain, branch};
+ghost use Rattle.wa_types.specs.Syntax.{const, num, global_get, basic, local_get, local_set, br_if, a_block, a_loop, done, plain, nest, branch};
 ghost use Rattle.wa_types.specs.View.{code, in_front};
 ghost use Rattle.run_theory.specs.Flat.{followed_by, got, all_got, set_to, slots_got};
 ghost use Rattle.wa_types.specs.Leaves.{is_leaf};
@@ -61,6 +61,50 @@ pub fn put_copy(alloc: Global, out: &mut Vec<Instr>, op: &Instr) -> Result<(), A
 {
     let copy = copy_leaf(alloc, op)?;
     out.push(copy)?;
+    Ok(())
+}
+
+/// Puts a block.
+#[inline(never)]
+pub(crate) fn put_block(
+    out: &mut Vec<Instr>,
+    ty: Option<ValType>,
+    body: Vec<Instr>,
+) -> Result<(), AllocError>
+    ensures { OnOk result (Puts out.old.items out.new.items (nest a_block ty (code body.items))) }
+{
+    out.push(Instr::Block { result: ty, body })?;
+    Ok(())
+}
+
+/// Puts a loop.
+#[inline(never)]
+pub(crate) fn put_loop(
+    out: &mut Vec<Instr>,
+    ty: Option<ValType>,
+    body: Vec<Instr>,
+) -> Result<(), AllocError>
+    ensures { OnOk result (Puts out.old.items out.new.items (nest a_loop ty (code body.items))) }
+{
+    out.push(Instr::Loop { result: ty, body })?;
+    Ok(())
+}
+
+/// Puts an `if`.
+#[inline(never)]
+pub(crate) fn put_if(
+    out: &mut Vec<Instr>,
+    ty: Option<ValType>,
+    then_arm: Vec<Instr>,
+    else_arm: Vec<Instr>,
+) -> Result<(), AllocError>
+    ensures { OnOk result (Puts out.old.items out.new.items (branch ty (code then_arm.items) (code else_arm.items))) }
+{
+    out.push(Instr::If {
+        result: ty,
+        then_arm,
+        else_arm,
+    })?;
     Ok(())
 }
 

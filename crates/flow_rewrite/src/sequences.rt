@@ -1,6 +1,6 @@
 //! The guarded code of pieces and units.
 
-ghost use Rattle.std.specs.Prelude.{◌≡◌, ◌<◌, ◌^◌, true, IfOk, OnOk};
+ghost use Rattle.std.specs.Prelude.{◌≡◌, ◌<◌, ◌^◌, [], true, IfOk, OnOk};
 ghost use Rattle.wa_types.specs.View.{code, onto};
 ghost use Rattle.run_theory.specs.Flat.{followed_by};
 ghost use Rattle.guard_form.specs.Guarded.{guarded_body, last_piece};
@@ -17,13 +17,16 @@ use crate::exits::{ExitTo, at_call, inside_block, inside_loop};
 use crate::guards::{Guards, put_guarded};
 use crate::labels::put_raised;
 use crate::pieces::{Pieces, Unit};
-use std::alloc::AllocError;
+use crate::put::{put_block, put_if, put_loop};
+use std::alloc::{AllocError, Global};
 use wa_types::{Instr, copy_body};
 
-/// The code of a sequence, and the number of the next numbered call.
-#[derive(Drop)]
-pub struct Sequence {
-    pub code: Vec<Instr>,
+/// Where a sequence stands: where runs go that have passed its calls, inside how many constructs it is, and the number of its first
+/// numbered call.
+#[derive(Clone, Copy)]
+pub(crate) struct Spot {
+    pub exit: ExitTo,
+    pub depth: u32,
     pub number: u32,
 }
 
@@ -66,74 +69,79 @@ fn put_last(
     }
 }
 
-/// The guarded code of a piece and units with this exit inside so many constructs, of which the first numbered call has this number.
+/// Puts a copy of a body to none.
+#[inline(never)]
+fn put_body(alloc: Global, out: &mut Vec<Instr>, body: &[Instr]) -> Result<(), AllocError>
+    ensures { OnOk result (code out.new.items ≡ code body.now) }
+{
+    *out = copy_body(alloc, body)?;
+    Ok(())
+}
+
+/// Puts the guarded code of a piece and units to none; the number of the next numbered call.
 #[cycle(write)]
 fn write_sequence(
     guards: &Guards,
-    exit: ExitTo,
-    depth: u32,
-    number: u32,
+    out: &mut Vec<Instr>,
+    spot: Spot,
     first: &[Instr],
     units: &[Unit],
-) -> Result<Sequence, AllocError>
-    requires { Ready (exit_of exit) depth number (code first.now) (units_of units.now) }
-    ensures { IfOk result (λ f. IsFront guards.now (exit_of exit) depth number (code first.now) (units_of units.now) f) }
+) -> Result<u32, AllocError>
+    requires empty { out.old.items ≡ [] }
+    requires ready { Ready (exit_of spot.exit) spot.depth spot.number (code first.now) (units_of units.now) }
+    ensures { IfOk result (λ n. IsFront guards.now (exit_of spot.exit) spot.depth spot.number (code first.now) (units_of units.now) out.new.items n) }
 {
-    let mut out = Vec::new(guards.alloc);
     let mut piece = first;
-    let mut next = number;
+    let mut next = spot.number;
     let mut left = units.len();
     for unit in units {
         left -= 1;
         let more = left > 0;
-        next = put_unit(guards, &mut out, exit, more, depth, next, piece, unit)?;
+        let here = Spot {
+            exit: spot.exit,
+            depth: spot.depth,
+            number: next,
+        };
+        next = put_unit(guards, out, here, more, piece, unit)?;
         piece = next_piece(unit);
     }
-    put_last(guards, &mut out, exit, piece)?;
-    Ok(Sequence {
-        code: out,
-        number: next,
-    })
+    put_last(guards, out, spot.exit, piece)?;
+    Ok(next)
 }
 
-/// An arm: guarded where it holds a numbered call, else its piece as it is.
+/// Puts an arm to none: guarded where it holds a numbered call, else its piece as it is.
 #[cycle(write)]
 fn write_arm(
     guards: &Guards,
-    exit: ExitTo,
-    depth: u32,
-    number: u32,
+    out: &mut Vec<Instr>,
+    spot: Spot,
     first: &[Instr],
     units: &[Unit],
-) -> Result<Sequence, AllocError>
-    requires { Ready (exit_of exit) depth number (code first.now) (units_of units.now) }
-    ensures { IfOk result (λ f. IsArm guards.now (exit_of exit) depth number (code first.now) (units_of units.now) f) }
+) -> Result<u32, AllocError>
+    requires empty { out.old.items ≡ [] }
+    requires ready { Ready (exit_of spot.exit) spot.depth spot.number (code first.now) (units_of units.now) }
+    ensures { IfOk result (λ n. IsArm guards.now (exit_of spot.exit) spot.depth spot.number (code first.now) (units_of units.now) out.new.items n) }
 {
     if units.is_empty() {
-        return Ok(Sequence {
-            code: copy_body(guards.alloc, first)?,
-            number,
-        });
+        put_body(guards.alloc, out, first)?;
+        return Ok(spot.number);
     }
-    let written = write_sequence(guards, exit, depth, number, first, units)?;
-    Ok(written)
+    let next = write_sequence(guards, out, spot, first, units)?;
+    Ok(next)
 }
 
-/// Puts a unit, with more behind it or none, and the piece in front of it, inside so many constructs; the number of the next
-/// numbered call.
+/// Puts a unit, with more behind it or none, and the piece in front of it; the number of the next numbered call.
 #[cycle(write)]
 fn put_unit(
     guards: &Guards,
     out: &mut Vec<Instr>,
-    exit: ExitTo,
+    spot: Spot,
     more: bool,
-    depth: u32,
-    number: u32,
     piece: &[Instr],
     unit: &Unit,
 ) -> Result<u32, AllocError>
-    requires { Ready (exit_of exit) depth number (code piece.now) (unit_in_front unit.now no_unit) }
-    ensures { IfOk result (λ j. Stepped guards.now (exit_of exit) more depth number out.old.items out.new.items piece.now unit.now j) }
+    requires { Ready (exit_of spot.exit) spot.depth spot.number (code piece.now) (unit_in_front unit.now no_unit) }
+    ensures { IfOk result (λ j. Stepped guards.now (exit_of spot.exit) more spot.depth spot.number out.old.items out.new.items piece.now unit.now j) }
 {
     match unit {
         Unit::Call {
@@ -142,31 +150,46 @@ fn put_unit(
             to,
             behind,
         } => {
-            let exit = at_call(exit, more);
+            let exit = at_call(spot.exit, more);
             put_call(
-                guards, out, exit, depth, number, piece, slots, *target, *to, behind,
+                guards,
+                out,
+                exit,
+                spot.depth,
+                spot.number,
+                piece,
+                slots,
+                *target,
+                *to,
+                behind,
             )?;
-            Ok(number + 1)
+            Ok(spot.number + 1)
         }
         Unit::Block { first, body, .. } => {
             put_guarded(guards, out, piece)?;
-            let exit = inside_block(exit, more);
-            let inner = write_sequence(guards, exit, depth + 1, number, first, body)?;
-            out.push(Instr::Block {
-                result: None,
-                body: inner.code,
-            })?;
-            Ok(inner.number)
+            let exit = inside_block(spot.exit, more);
+            let inside = Spot {
+                exit,
+                depth: spot.depth + 1,
+                number: spot.number,
+            };
+            let mut inner = Vec::new(guards.alloc);
+            let next = write_sequence(guards, &mut inner, inside, first, body)?;
+            put_block(out, None, inner)?;
+            Ok(next)
         }
         Unit::Loop { first, body, .. } => {
             put_guarded(guards, out, piece)?;
-            let exit = inside_loop(exit, more);
-            let inner = write_sequence(guards, exit, depth + 1, number, first, body)?;
-            out.push(Instr::Loop {
-                result: None,
-                body: inner.code,
-            })?;
-            Ok(inner.number)
+            let exit = inside_loop(spot.exit, more);
+            let inside = Spot {
+                exit,
+                depth: spot.depth + 1,
+                number: spot.number,
+            };
+            let mut inner = Vec::new(guards.alloc);
+            let next = write_sequence(guards, &mut inner, inside, first, body)?;
+            put_loop(out, None, inner)?;
+            Ok(next)
         }
         Unit::If {
             cond,
@@ -176,16 +199,21 @@ fn put_unit(
             else_units,
             ..
         } => {
-            let exit = inside_block(exit, more);
-            let then_arm = write_arm(guards, exit, depth + 1, number, then_first, then_units)?;
-            let else_arm = write_arm(
-                guards,
+            let exit = inside_block(spot.exit, more);
+            let inside = Spot {
                 exit,
-                depth + 1,
-                then_arm.number,
-                else_first,
-                else_units,
-            )?;
+                depth: spot.depth + 1,
+                number: spot.number,
+            };
+            let mut then_arm = Vec::new(guards.alloc);
+            let middle = write_arm(guards, &mut then_arm, inside, then_first, then_units)?;
+            let inside = Spot {
+                exit,
+                depth: spot.depth + 1,
+                number: middle,
+            };
+            let mut else_arm = Vec::new(guards.alloc);
+            let next = write_arm(guards, &mut else_arm, inside, else_first, else_units)?;
             put_condition(
                 guards,
                 out,
@@ -193,15 +221,11 @@ fn put_unit(
                 *cond,
                 then_units,
                 else_units,
-                number,
-                then_arm.number,
+                spot.number,
+                middle,
             )?;
-            out.push(Instr::If {
-                result: None,
-                then_arm: then_arm.code,
-                else_arm: else_arm.code,
-            })?;
-            Ok(else_arm.number)
+            put_if(out, None, then_arm, else_arm)?;
+            Ok(next)
         }
     }
 }
@@ -213,6 +237,12 @@ pub fn guarded_pieces(guards: &Guards, pieces: &Pieces) -> Result<Vec<Instr>, Al
     requires few { numbers_in (units_of pieces.now.units.items) < 2 ^ 32 }
     ensures { IfOk result (λ v. code v.items ≡ guarded_body (indices guards.now) true (code pieces.now.first.items) (units_of pieces.now.units.items)) }
 {
-    let whole = write_sequence(guards, ExitTo::Nowhere, 0, 0, &pieces.first, &pieces.units)?;
-    Ok(whole.code)
+    let spot = Spot {
+        exit: ExitTo::Nowhere,
+        depth: 0,
+        number: 0,
+    };
+    let mut out = Vec::new(guards.alloc);
+    write_sequence(guards, &mut out, spot, &pieces.first, &pieces.units)?;
+    Ok(out)
 }

@@ -24,6 +24,8 @@ use Rattle.slim_rewrite.specs.Steps.{Put}
 use Rattle.slim_rewrite.proofs.ComingLemmas.{from_rest, from_slim}
 use Rattle.slim_rewrite.proofs.ConstructLemmas.{around_next}
 use Rattle.slim_rewrite.proofs.PieceLemmas.{fixed_rest}
+use Rattle.std.specs.Prelude.{Bool, true, Result, Ok, IfOk}
+use Rattle.std.specs.declared.alloc.AllocError.{AllocError}
 
 -- ---- what is asked
 
@@ -167,3 +169,7 @@ arms_ready n o a b h =
       record { locals = h.locals; labels = suc h.labels; fit = q.1; room = omega arith },
       λ k e. record { locals = h.locals; labels = suc h.labels; fit = q.2; room = omega arith },
     )
+
+-- what holds of a statement that was put
+pub was_put : (r : Result Bool AllocError) (P : Bool → Type 0) → r ≡ Ok true → IfOk r P → P true
+was_put r P e told = subst (λ q. IfOk q P) e told

@@ -1,6 +1,6 @@
 //! A sequence of statements in pieces and units, as far as the walk has gone.
 
-ghost use Rattle.std.specs.Prelude.{◌≡◌, IfOk, OnOk};
+ghost use Rattle.std.specs.Prelude.{◌≡◌, Ok, None, true, IfOk, OnOk};
 ghost use Rattle.wa_types.specs.Syntax.{Code};
 ghost use Rattle.wa_types.specs.View.{code};
 ghost use Rattle.guard_form.specs.Pieces.{no_unit, Units};
@@ -68,6 +68,28 @@ pub fn begin(alloc: Global, place: u32) -> Result<Box<Sequence>, AllocError>
         ended: false,
     };
     Ok(Box::new(alloc, all)?)
+}
+
+/// Whether a statement was put.
+pub fn goes_on(put: &Result<bool, AllocError>) -> bool
+    ensures { result ≡ true → put.now ≡ Ok true }
+{
+    match put {
+        Ok(put) => *put,
+        Err(_) => false,
+    }
+}
+
+/// Drops a sequence whose next statement wasn't put. The walk leaves that to a call of its own, since it goes as deep as code nests.
+#[inline(never)]
+pub fn give_up(
+    _all: Box<Sequence>,
+    put: Result<bool, AllocError>,
+) -> Result<Option<Box<Written>>, AllocError>
+    ensures { IfOk result (λ o. o ≡ None) }
+{
+    put?;
+    Ok(None)
 }
 
 /// The unit with its piece.

@@ -20,7 +20,7 @@ use crate::constructs::{
     unreached,
 };
 use crate::guesses::{following, reads_again, taken_behind};
-use crate::sequence::{Sequence, Written, begin, finish_apart};
+use crate::sequence::{Sequence, Written, begin, finish_apart, give_up, goes_on};
 use crate::single::put_single;
 use crate::stack::{Walk, flush};
 use std::alloc::AllocError;
@@ -46,8 +46,9 @@ pub(crate) fn write_sequence(
     for stmt in body {
         next += 1;
         let coming = following(body, next, after);
-        if !write_stmt(numbers, at, &mut all, stmt, coming)? {
-            return Ok(None);
+        let put = write_stmt(numbers, at, &mut all, stmt, coming);
+        if !goes_on(&put) {
+            return give_up(all, put);
         }
     }
     let written = finish_apart(at, all)?;

@@ -14,7 +14,7 @@ use Rattle.std.specs.declared.alloc.Global.{Global}
 use Rattle.flatten.proofs.body.+body_stmts.Goals as goal
 
 pub body_stmts-loop-instr-init : goal.body_stmts-loop-instr-init
-body_stmts-loop-instr-init t c = walked_first c.args.names.now c.args.at.now _ c.new-out.result.items c.requires.ready c.requires.typed c.new-out.ensures.items
+body_stmts-loop-instr-init t c = walked_first c.args.names.now c.args.at.now _ c.args.out.now.items c.requires.ready c.requires.typed c.requires.empty
 
 pub body_stmts-put_last-requires-clause-typed : goal.body_stmts-put_last-requires-clause-typed
 body_stmts-put_last-requires-clause-typed t c =
@@ -101,12 +101,15 @@ put_instr-body_stmts-requires t c =
     let typed = c.requires.typed in
     let e = nest_inside n a c.args.instr.now a_block c.in-Block.result (code c.in-Block.body.items) is ready typed c.open.new.at.typing c.in_ok-outer-in-Block.ensures.inside in (
       omega (arith, c.decreases, nest_fewer n a c.args.instr.now a_block c.in-Block.result (code c.in-Block.body.items) is ready typed, ap (λ xs. code_items (code xs)) c.deref.ensures.value),
-      asks_of n a c.open.new.at (code c.in-Block.body.items) c.deref.result.now (ap code c.deref.ensures.value)
-          (nest_body n a c.args.instr.now a_block c.in-Block.result (code c.in-Block.body.items) is ready typed c.open.new.at.typing e)
-          (opened n a.typing c.in-Block.result c.in-Block.result a.typing.own a.slots.items a.labels.items ready.held ready.labels c.open.new.at e
-          (ap (λ (z : Vec ℕ Global). z.items) c.in_ok-outer-in-Block.ensures.slots) c.in_ok-outer-in-Block.ensures.labels)
-          c.requires.small (ap (λ (w : Walk). w.around) e) (one_label a.labels.items c.open.new.at.labels.items _ c.in_ok-outer-in-Block.ensures.labels)
-          (nest_room n a c.args.instr.now a_block c.in-Block.result (code c.in-Block.body.items) is ready typed (2 ^ 32) (length a.labels.items) c.requires.room),
+      (
+        c.new-inner.ensures.items,
+        asks_of n a c.open.new.at (code c.in-Block.body.items) c.deref.result.now (ap code c.deref.ensures.value)
+            (nest_body n a c.args.instr.now a_block c.in-Block.result (code c.in-Block.body.items) is ready typed c.open.new.at.typing e)
+            (opened n a.typing c.in-Block.result c.in-Block.result a.typing.own a.slots.items a.labels.items ready.held ready.labels c.open.new.at e
+            (ap (λ (z : Vec ℕ Global). z.items) c.in_ok-outer-in-Block.ensures.slots) c.in_ok-outer-in-Block.ensures.labels)
+            c.requires.small (ap (λ (w : Walk). w.around) e) (one_label a.labels.items c.open.new.at.labels.items _ c.in_ok-outer-in-Block.ensures.labels)
+            (nest_room n a c.args.instr.now a_block c.in-Block.result (code c.in-Block.body.items) is ready typed (2 ^ 32) (length a.labels.items) c.requires.room),
+      ),
     )
 
 pub put_instr-close-requires : goal.put_instr-close-requires
@@ -118,7 +121,7 @@ put_instr-close-requires t c =
     let typed = c.requires.typed in
     let e = nest_inside n a c.args.instr.now a_block c.in-Block.result (code c.in-Block.body.items) is ready typed c.open.new.at.typing c.in_ok-outer-in-Block.ensures.inside in
     base_within n a.typing c.in-Block.result c.in-Block.result a.typing.own a.slots.items a.labels.items ready.held ready.labels c.body_stmts.new.at.typing c.in_ok-outer-in-Block.outer.base
-    (subst (λ (w : Walk). Stays w c.body_stmts.new.at.typing) e c.in_ok-inner-in-Block.ensures.stays) c.in_ok-outer-in-Block.ensures.base
+    (subst (λ (w : Walk). Stays w c.body_stmts.new.at.typing) e c.in_ok-body_stmts-in-Block.ensures.stays) c.in_ok-outer-in-Block.ensures.base
 
 pub put_instr-put_block-requires : goal.put_instr-put_block-requires
 put_instr-put_block-requires t c =
@@ -129,8 +132,8 @@ put_instr-put_block-requires t c =
     let typed = c.requires.typed in
     let e = nest_inside n a c.args.instr.now a_block c.in-Block.result (code c.in-Block.body.items) is ready typed c.open.new.at.typing c.in_ok-outer-in-Block.ensures.inside in
     (closed n a.typing c.in-Block.result c.in-Block.result a.typing.own a.slots.items a.labels.items ready.held ready.labels c.body_stmts.new.at c.close.new.at
-    c.in_ok-outer-in-Block.outer.base c.in_ok-outer-in-Block.outer.height c.in_ok-inner-in-Block.ensures.ready
-    (subst (λ (w : Walk). Stays w c.body_stmts.new.at.typing) e c.in_ok-inner-in-Block.ensures.stays) c.in_ok-outer-in-Block.ensures.base c.in_ok-outer-in-Block.ensures.height
+    c.in_ok-outer-in-Block.outer.base c.in_ok-outer-in-Block.outer.height c.in_ok-body_stmts-in-Block.ensures.ready
+    (subst (λ (w : Walk). Stays w c.body_stmts.new.at.typing) e c.in_ok-body_stmts-in-Block.ensures.stays) c.in_ok-outer-in-Block.ensures.base c.in_ok-outer-in-Block.ensures.height
     c.in_ok-close-in-Block.ensures.typing c.in_ok-close-in-Block.ensures.slots c.in_ok-close-in-Block.ensures.labels).arrives
 
 pub put_instr-returns-in_ok-close-in-Block : goal.put_instr-returns-in_ok-close-in-Block
@@ -142,11 +145,11 @@ put_instr-returns-in_ok-close-in-Block t c =
     let typed = c.requires.typed in
     let e = nest_inside n a c.args.instr.now a_block c.in-Block.result (code c.in-Block.body.items) is ready typed c.open.new.at.typing c.in_ok-outer-in-Block.ensures.inside in
     on_ok c.put_block.result _ _ (λ h. block_done n a c.open.new.at c.body_stmts.new.at c.close.new.at c.put_block.new.at c.args.instr.now c.in-Block.result
-    (code c.in-Block.body.items) c.args.out.now.items c.put_block.new.out.items c.in_ok-inner-in-Block.inner.items ready typed is
+    (code c.in-Block.body.items) c.args.out.now.items c.put_block.new.out.items c.body_stmts.new.out.items ready typed is
     (closed n a.typing c.in-Block.result c.in-Block.result a.typing.own a.slots.items a.labels.items ready.held ready.labels c.body_stmts.new.at c.close.new.at
-    c.in_ok-outer-in-Block.outer.base c.in_ok-outer-in-Block.outer.height c.in_ok-inner-in-Block.ensures.ready
-    (subst (λ (w : Walk). Stays w c.body_stmts.new.at.typing) e c.in_ok-inner-in-Block.ensures.stays) c.in_ok-outer-in-Block.ensures.base c.in_ok-outer-in-Block.ensures.height
-    c.in_ok-close-in-Block.ensures.typing c.in_ok-close-in-Block.ensures.slots c.in_ok-close-in-Block.ensures.labels) e (c.in_ok-inner-in-Block.ensures.stmts
+    c.in_ok-outer-in-Block.outer.base c.in_ok-outer-in-Block.outer.height c.in_ok-body_stmts-in-Block.ensures.ready
+    (subst (λ (w : Walk). Stays w c.body_stmts.new.at.typing) e c.in_ok-body_stmts-in-Block.ensures.stays) c.in_ok-outer-in-Block.ensures.base c.in_ok-outer-in-Block.ensures.height
+    c.in_ok-close-in-Block.ensures.typing c.in_ok-close-in-Block.ensures.slots c.in_ok-close-in-Block.ensures.labels) e (c.in_ok-body_stmts-in-Block.ensures.stmts
     ∙ ap (λ xs. flat_at n c.open.new.at.typing (code xs)) c.deref.ensures.value) h) c.put_block.ensures
 
 pub put_instr-body_stmts-requires-in-Loop : goal.put_instr-body_stmts-requires-in-Loop
@@ -158,12 +161,15 @@ put_instr-body_stmts-requires-in-Loop t c =
     let typed = c.requires.typed in
     let e = nest_inside n a c.args.instr.now a_loop c.in-Loop.result (code c.in-Loop.body.items) is ready typed c.open-in-Loop.new.at.typing c.in_ok-outer-in-Loop.ensures.inside in (
       omega (arith, c.decreases, nest_fewer n a c.args.instr.now a_loop c.in-Loop.result (code c.in-Loop.body.items) is ready typed, ap (λ xs. code_items (code xs)) c.deref-in-Loop.ensures.value),
-      asks_of n a c.open-in-Loop.new.at (code c.in-Loop.body.items) c.deref-in-Loop.result.now (ap code c.deref-in-Loop.ensures.value)
-          (nest_body n a c.args.instr.now a_loop c.in-Loop.result (code c.in-Loop.body.items) is ready typed c.open-in-Loop.new.at.typing e)
-          (opened n a.typing None c.in-Loop.result a.typing.own a.slots.items a.labels.items ready.held ready.labels c.open-in-Loop.new.at e
-          (ap (λ (z : Vec ℕ Global). z.items) c.in_ok-outer-in-Loop.ensures.slots) c.in_ok-outer-in-Loop.ensures.labels)
-          c.requires.small (ap (λ (w : Walk). w.around) e) (one_label a.labels.items c.open-in-Loop.new.at.labels.items _ c.in_ok-outer-in-Loop.ensures.labels)
-          (nest_room n a c.args.instr.now a_loop c.in-Loop.result (code c.in-Loop.body.items) is ready typed (2 ^ 32) (length a.labels.items) c.requires.room),
+      (
+        c.new-inner-in-Loop.ensures.items,
+        asks_of n a c.open-in-Loop.new.at (code c.in-Loop.body.items) c.deref-in-Loop.result.now (ap code c.deref-in-Loop.ensures.value)
+            (nest_body n a c.args.instr.now a_loop c.in-Loop.result (code c.in-Loop.body.items) is ready typed c.open-in-Loop.new.at.typing e)
+            (opened n a.typing None c.in-Loop.result a.typing.own a.slots.items a.labels.items ready.held ready.labels c.open-in-Loop.new.at e
+            (ap (λ (z : Vec ℕ Global). z.items) c.in_ok-outer-in-Loop.ensures.slots) c.in_ok-outer-in-Loop.ensures.labels)
+            c.requires.small (ap (λ (w : Walk). w.around) e) (one_label a.labels.items c.open-in-Loop.new.at.labels.items _ c.in_ok-outer-in-Loop.ensures.labels)
+            (nest_room n a c.args.instr.now a_loop c.in-Loop.result (code c.in-Loop.body.items) is ready typed (2 ^ 32) (length a.labels.items) c.requires.room),
+      ),
     )
 
 pub put_instr-close-requires-in-Loop : goal.put_instr-close-requires-in-Loop
@@ -175,7 +181,7 @@ put_instr-close-requires-in-Loop t c =
     let typed = c.requires.typed in
     let e = nest_inside n a c.args.instr.now a_loop c.in-Loop.result (code c.in-Loop.body.items) is ready typed c.open-in-Loop.new.at.typing c.in_ok-outer-in-Loop.ensures.inside in
     base_within n a.typing None c.in-Loop.result a.typing.own a.slots.items a.labels.items ready.held ready.labels c.body_stmts-in-Loop.new.at.typing c.in_ok-outer-in-Loop.outer.base
-    (subst (λ (w : Walk). Stays w c.body_stmts-in-Loop.new.at.typing) e c.in_ok-inner-in-Loop.ensures.stays) c.in_ok-outer-in-Loop.ensures.base
+    (subst (λ (w : Walk). Stays w c.body_stmts-in-Loop.new.at.typing) e c.in_ok-body_stmts-in-Loop.ensures.stays) c.in_ok-outer-in-Loop.ensures.base
 
 pub put_instr-put_loop-requires : goal.put_instr-put_loop-requires
 put_instr-put_loop-requires t c =
@@ -186,8 +192,8 @@ put_instr-put_loop-requires t c =
     let typed = c.requires.typed in
     let e = nest_inside n a c.args.instr.now a_loop c.in-Loop.result (code c.in-Loop.body.items) is ready typed c.open-in-Loop.new.at.typing c.in_ok-outer-in-Loop.ensures.inside in
     (closed n a.typing None c.in-Loop.result a.typing.own a.slots.items a.labels.items ready.held ready.labels c.body_stmts-in-Loop.new.at c.close-in-Loop.new.at
-    c.in_ok-outer-in-Loop.outer.base c.in_ok-outer-in-Loop.outer.height c.in_ok-inner-in-Loop.ensures.ready
-    (subst (λ (w : Walk). Stays w c.body_stmts-in-Loop.new.at.typing) e c.in_ok-inner-in-Loop.ensures.stays) c.in_ok-outer-in-Loop.ensures.base c.in_ok-outer-in-Loop.ensures.height
+    c.in_ok-outer-in-Loop.outer.base c.in_ok-outer-in-Loop.outer.height c.in_ok-body_stmts-in-Loop.ensures.ready
+    (subst (λ (w : Walk). Stays w c.body_stmts-in-Loop.new.at.typing) e c.in_ok-body_stmts-in-Loop.ensures.stays) c.in_ok-outer-in-Loop.ensures.base c.in_ok-outer-in-Loop.ensures.height
     c.in_ok-close-in-Loop.ensures.typing c.in_ok-close-in-Loop.ensures.slots c.in_ok-close-in-Loop.ensures.labels).arrives
 
 pub put_instr-returns-in_ok-close-in-Loop : goal.put_instr-returns-in_ok-close-in-Loop
@@ -199,11 +205,11 @@ put_instr-returns-in_ok-close-in-Loop t c =
     let typed = c.requires.typed in
     let e = nest_inside n a c.args.instr.now a_loop c.in-Loop.result (code c.in-Loop.body.items) is ready typed c.open-in-Loop.new.at.typing c.in_ok-outer-in-Loop.ensures.inside in
     on_ok c.put_loop.result _ _ (λ h. loop_done n a c.open-in-Loop.new.at c.body_stmts-in-Loop.new.at c.close-in-Loop.new.at c.put_loop.new.at c.args.instr.now c.in-Loop.result
-    (code c.in-Loop.body.items) c.args.out.now.items c.put_loop.new.out.items c.in_ok-inner-in-Loop.inner.items ready typed is
+    (code c.in-Loop.body.items) c.args.out.now.items c.put_loop.new.out.items c.body_stmts-in-Loop.new.out.items ready typed is
     (closed n a.typing None c.in-Loop.result a.typing.own a.slots.items a.labels.items ready.held ready.labels c.body_stmts-in-Loop.new.at c.close-in-Loop.new.at
-    c.in_ok-outer-in-Loop.outer.base c.in_ok-outer-in-Loop.outer.height c.in_ok-inner-in-Loop.ensures.ready
-    (subst (λ (w : Walk). Stays w c.body_stmts-in-Loop.new.at.typing) e c.in_ok-inner-in-Loop.ensures.stays) c.in_ok-outer-in-Loop.ensures.base c.in_ok-outer-in-Loop.ensures.height
-    c.in_ok-close-in-Loop.ensures.typing c.in_ok-close-in-Loop.ensures.slots c.in_ok-close-in-Loop.ensures.labels) e (c.in_ok-inner-in-Loop.ensures.stmts
+    c.in_ok-outer-in-Loop.outer.base c.in_ok-outer-in-Loop.outer.height c.in_ok-body_stmts-in-Loop.ensures.ready
+    (subst (λ (w : Walk). Stays w c.body_stmts-in-Loop.new.at.typing) e c.in_ok-body_stmts-in-Loop.ensures.stays) c.in_ok-outer-in-Loop.ensures.base c.in_ok-outer-in-Loop.ensures.height
+    c.in_ok-close-in-Loop.ensures.typing c.in_ok-close-in-Loop.ensures.slots c.in_ok-close-in-Loop.ensures.labels) e (c.in_ok-body_stmts-in-Loop.ensures.stmts
     ∙ ap (λ xs. flat_at n c.open-in-Loop.new.at.typing (code xs)) c.deref-in-Loop.ensures.value) h) c.put_loop.ensures
 
 pub put_instr-body_stmts-requires-in-If : goal.put_instr-body_stmts-requires-in-If
@@ -226,9 +232,12 @@ put_instr-body_stmts-requires-in-If t c =
     let first_ready = opened n a.typing given given low ss a.labels.items held ready.labels p e
     (ap (λ (z : Vec ℕ Global). z.items) c.in_ok-outer-in-If.ensures.slots) c.in_ok-outer-in-If.ensures.labels in (
       omega (arith, c.decreases, (if_fewer n a i given one two is ready typed).0, ap (λ xs. code_items (code xs)) c.deref-in-If.ensures.value),
-      asks_of n a p one c.deref-in-If.result.now (ap code c.deref-in-If.ensures.value) (if_first n a i given one two is ready typed p.typing e) first_ready
-          c.requires.small (ap (λ (w : Walk). w.around) e) (one_label a.labels.items p.labels.items _ c.in_ok-outer-in-If.ensures.labels)
-          (if_room n a i given one two is ready typed (2 ^ 32) (length a.labels.items) c.requires.room).0,
+      (
+        c.new-first.ensures.items,
+        asks_of n a p one c.deref-in-If.result.now (ap code c.deref-in-If.ensures.value) (if_first n a i given one two is ready typed p.typing e) first_ready
+            c.requires.small (ap (λ (w : Walk). w.around) e) (one_label a.labels.items p.labels.items _ c.in_ok-outer-in-If.ensures.labels)
+            (if_room n a i given one two is ready typed (2 ^ 32) (length a.labels.items) c.requires.room).0,
+      ),
     )
 
 pub put_instr-body_stmts-requires-in-If-2 : goal.put_instr-body_stmts-requires-in-If-2
@@ -252,15 +261,18 @@ put_instr-body_stmts-requires-in-If-2 t c =
     (ap (λ (z : Vec ℕ Global). z.items) c.in_ok-outer-in-If.ensures.slots) c.in_ok-outer-in-If.ensures.labels in
     let q = c.body_stmts-in-If.new.at in
     let s = c.restart.new.at in
-    let e2 = c.restart.ensures.typing ∙ restarted (inner n a.typing given given low) q.typing (subst (λ (w : Walk). Stays w q.typing) e c.in_ok-first-in-If.ensures.stays) refl in
+    let e2 = c.restart.ensures.typing ∙ restarted (inner n a.typing given given low) q.typing (subst (λ (w : Walk). Stays w q.typing) e c.in_ok-body_stmts-in-If.ensures.stays) refl in
     let same = ap (λ (z : Vec (Option ℕ) Global). z.items) c.restart.ensures.labels in
     let height = c.in_ok-outer-in-If.ensures.height ∙ ap length (ap (λ (z : Vec ℕ Global). z.items) (sym c.in_ok-outer-in-If.ensures.slots)) in
-    let again = arm_ready n p q s c.in_ok-outer-in-If.outer.height first_ready c.in_ok-first-in-If.ensures.ready c.in_ok-first-in-If.ensures.stays (ap (λ (w : Walk). w.own) e) height (e2
+    let again = arm_ready n p q s c.in_ok-outer-in-If.outer.height first_ready c.in_ok-body_stmts-in-If.ensures.ready c.in_ok-body_stmts-in-If.ensures.stays (ap (λ (w : Walk). w.own) e) height (e2
     ∙ sym e) same c.restart.ensures.slots in (
       omega (arith, c.decreases, (if_fewer n a i given one two is ready typed).1, ap (λ xs. code_items (code xs)) c.deref-in-If-2.ensures.value),
-      asks_of n a s two c.deref-in-If-2.result.now (ap code c.deref-in-If-2.ensures.value) (if_second n a i given one two is ready typed s.typing e2) again
-          c.requires.small (ap (λ (w : Walk). w.around) e2) (same_labels n p s first_ready again (e2 ∙ sym e) ∙ one_label a.labels.items p.labels.items _ c.in_ok-outer-in-If.ensures.labels)
-          (if_room n a i given one two is ready typed (2 ^ 32) (length a.labels.items) c.requires.room).1,
+      (
+        c.new-second.ensures.items,
+        asks_of n a s two c.deref-in-If-2.result.now (ap code c.deref-in-If-2.ensures.value) (if_second n a i given one two is ready typed s.typing e2) again
+            c.requires.small (ap (λ (w : Walk). w.around) e2) (same_labels n p s first_ready again (e2 ∙ sym e) ∙ one_label a.labels.items p.labels.items _ c.in_ok-outer-in-If.ensures.labels)
+            (if_room n a i given one two is ready typed (2 ^ 32) (length a.labels.items) c.requires.room).1,
+      ),
     )
 
 pub put_instr-close-requires-in-If : goal.put_instr-close-requires-in-If
@@ -284,8 +296,8 @@ put_instr-close-requires-in-If t c =
     (ap (λ (z : Vec ℕ Global). z.items) c.in_ok-outer-in-If.ensures.slots) c.in_ok-outer-in-If.ensures.labels in
     let q = c.body_stmts-in-If.new.at in
     let s = c.restart.new.at in
-    let e2 = c.restart.ensures.typing ∙ restarted (inner n a.typing given given low) q.typing (subst (λ (w : Walk). Stays w q.typing) e c.in_ok-first-in-If.ensures.stays) refl in
-    let st = subst (λ (w : Walk). Stays w c.body_stmts-in-If-2.new.at.typing) e2 c.in_ok-second-in-If.ensures.stays in
+    let e2 = c.restart.ensures.typing ∙ restarted (inner n a.typing given given low) q.typing (subst (λ (w : Walk). Stays w q.typing) e c.in_ok-body_stmts-in-If.ensures.stays) refl in
+    let st = subst (λ (w : Walk). Stays w c.body_stmts-in-If-2.new.at.typing) e2 c.in_ok-body_stmts-in-If-2.ensures.stays in
     base_within n a.typing given given low ss a.labels.items held ready.labels c.body_stmts-in-If-2.new.at.typing c.in_ok-outer-in-If.outer.base st c.in_ok-outer-in-If.ensures.base
 
 pub put_instr-put_if-requires : goal.put_instr-put_if-requires
@@ -309,10 +321,10 @@ put_instr-put_if-requires t c =
     (ap (λ (z : Vec ℕ Global). z.items) c.in_ok-outer-in-If.ensures.slots) c.in_ok-outer-in-If.ensures.labels in
     let q = c.body_stmts-in-If.new.at in
     let s = c.restart.new.at in
-    let e2 = c.restart.ensures.typing ∙ restarted (inner n a.typing given given low) q.typing (subst (λ (w : Walk). Stays w q.typing) e c.in_ok-first-in-If.ensures.stays) refl in
-    let st = subst (λ (w : Walk). Stays w c.body_stmts-in-If-2.new.at.typing) e2 c.in_ok-second-in-If.ensures.stays in
+    let e2 = c.restart.ensures.typing ∙ restarted (inner n a.typing given given low) q.typing (subst (λ (w : Walk). Stays w q.typing) e c.in_ok-body_stmts-in-If.ensures.stays) refl in
+    let st = subst (λ (w : Walk). Stays w c.body_stmts-in-If-2.new.at.typing) e2 c.in_ok-body_stmts-in-If-2.ensures.stays in
     let done = closed n a.typing given given low ss a.labels.items held ready.labels c.body_stmts-in-If-2.new.at c.close-in-If.new.at c.in_ok-outer-in-If.outer.base
-    c.in_ok-outer-in-If.outer.height c.in_ok-second-in-If.ensures.ready st c.in_ok-outer-in-If.ensures.base c.in_ok-outer-in-If.ensures.height c.in_ok-close-in-If.ensures.typing
+    c.in_ok-outer-in-If.outer.height c.in_ok-body_stmts-in-If-2.ensures.ready st c.in_ok-outer-in-If.ensures.base c.in_ok-outer-in-If.ensures.height c.in_ok-close-in-If.ensures.typing
     c.in_ok-close-in-If.ensures.slots c.in_ok-close-in-If.ensures.labels in
     done.arrives
 
@@ -337,12 +349,12 @@ put_instr-returns-in_ok-close-in-If t c =
     (ap (λ (z : Vec ℕ Global). z.items) c.in_ok-outer-in-If.ensures.slots) c.in_ok-outer-in-If.ensures.labels in
     let q = c.body_stmts-in-If.new.at in
     let s = c.restart.new.at in
-    let e2 = c.restart.ensures.typing ∙ restarted (inner n a.typing given given low) q.typing (subst (λ (w : Walk). Stays w q.typing) e c.in_ok-first-in-If.ensures.stays) refl in
-    let st = subst (λ (w : Walk). Stays w c.body_stmts-in-If-2.new.at.typing) e2 c.in_ok-second-in-If.ensures.stays in
+    let e2 = c.restart.ensures.typing ∙ restarted (inner n a.typing given given low) q.typing (subst (λ (w : Walk). Stays w q.typing) e c.in_ok-body_stmts-in-If.ensures.stays) refl in
+    let st = subst (λ (w : Walk). Stays w c.body_stmts-in-If-2.new.at.typing) e2 c.in_ok-body_stmts-in-If-2.ensures.stays in
     let done = closed n a.typing given given low ss a.labels.items held ready.labels c.body_stmts-in-If-2.new.at c.close-in-If.new.at c.in_ok-outer-in-If.outer.base
-    c.in_ok-outer-in-If.outer.height c.in_ok-second-in-If.ensures.ready st c.in_ok-outer-in-If.ensures.base c.in_ok-outer-in-If.ensures.height c.in_ok-close-in-If.ensures.typing
+    c.in_ok-outer-in-If.outer.height c.in_ok-body_stmts-in-If-2.ensures.ready st c.in_ok-outer-in-If.ensures.base c.in_ok-outer-in-If.ensures.height c.in_ok-close-in-If.ensures.typing
     c.in_ok-close-in-If.ensures.slots c.in_ok-close-in-If.ensures.labels in
-    on_ok c.put_if.result _ _ (λ h. if_done n a p s c.close-in-If.new.at c.put_if.new.at i given one two c.args.out.now.items c.put_if.new.out.items c.in_ok-first-in-If.first.items
-    c.in_ok-second-in-If.second.items ss c.pop_slot-cond.result ready typed popped is
-    done (top_slot_is n a ready c.pop_slot-cond.result c.pop_slot-cond.ensures.top) e e2 (c.in_ok-first-in-If.ensures.stmts ∙ ap (λ xs. flat_at n p.typing (code xs)) c.deref-in-If.ensures.value)
-    (c.in_ok-second-in-If.ensures.stmts ∙ ap (λ xs. flat_at n s.typing (code xs)) c.deref-in-If-2.ensures.value) h) c.put_if.ensures
+    on_ok c.put_if.result _ _ (λ h. if_done n a p s c.close-in-If.new.at c.put_if.new.at i given one two c.args.out.now.items c.put_if.new.out.items c.body_stmts-in-If.new.out.items
+    c.body_stmts-in-If-2.new.out.items ss c.pop_slot-cond.result ready typed popped is
+    done (top_slot_is n a ready c.pop_slot-cond.result c.pop_slot-cond.ensures.top) e e2 (c.in_ok-body_stmts-in-If.ensures.stmts ∙ ap (λ xs. flat_at n p.typing (code xs)) c.deref-in-If.ensures.value)
+    (c.in_ok-body_stmts-in-If-2.ensures.stmts ∙ ap (λ xs. flat_at n s.typing (code xs)) c.deref-in-If-2.ensures.value) h) c.put_if.ensures

@@ -8,7 +8,7 @@ use Rattle.flow_rewrite.specs.Fronts.{Walked}
 use Rattle.flow_rewrite.proofs.sequences.+write.Given as goal
 
 abbrev pub invariant-write_sequence-loop-unit : goal.invariant-write_sequence-loop-unit
-invariant-write_sequence-loop-unit l = Walked l.guards (exit_of l.exit) l.depth l.number (code l.first) (units_of l.units) l.out.items l.piece l.next (units_of (drop l.unit-index l.units))
+invariant-write_sequence-loop-unit l = Walked l.guards (exit_of l.spot.exit) l.spot.depth l.spot.number (code l.first) (units_of l.units) l.out.items l.piece l.next (units_of (drop l.unit-index l.units))
     × (l.left + l.unit-index ≡ length l.units)
 
 abbrev pub decreases-write_sequence : goal.decreases-write_sequence

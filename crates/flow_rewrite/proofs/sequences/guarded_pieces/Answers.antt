@@ -7,7 +7,7 @@ use Rattle.flow_rewrite.proofs.UnitLemmas.{whole_ready}
 use Rattle.flow_rewrite.proofs.sequences.guarded_pieces.Goals as goal
 
 pub write_sequence-requires : goal.write_sequence-requires
-write_sequence-requires c = whole_ready _ _ _ _ c.deref.ensures.value c.deref-2.ensures.value c.requires.labels c.requires.few
+write_sequence-requires c = record { empty = c.new-out.ensures.items; ready = whole_ready _ _ _ _ c.deref.ensures.value c.deref-2.ensures.value c.requires.labels c.requires.few }
 
 pub returns : goal.returns
-returns c = c.in_ok-whole.ensures.written ∙ (λ j. guarded_body (indices c.args.guards.now) true (code (c.deref.ensures.value j)) (units_of (c.deref-2.ensures.value j)))
+returns c = c.in_ok-write_sequence.ensures.written ∙ (λ j. guarded_body (indices c.args.guards.now) true (code (c.deref.ensures.value j)) (units_of (c.deref-2.ensures.value j)))

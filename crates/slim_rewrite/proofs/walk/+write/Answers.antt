@@ -1,4 +1,4 @@
-use Rattle.std.proofs.Common.{arith, ap, false, true, refl, sym, subst, ◌∙◌, ◌+◌, Some}
+use Rattle.std.proofs.Common.{◌≡◌, arith, ap, false, true, refl, sym, subst, ◌∙◌, ◌+◌, Some}
 use Rattle.std.specs.Prelude.{◌&&◌, not}
 use Rattle.std.proofs.lemmas.Result.{IfOk-weaker}
 use Rattle.wa_types.specs.Syntax.{a_block, a_loop, done}
@@ -16,7 +16,7 @@ use Rattle.slim_rewrite.proofs.ConstructLemmas.{block_put, flushed_put, loop_put
 use Rattle.slim_rewrite.proofs.IfLemmas.{if_put}
 use Rattle.slim_rewrite.proofs.InsideLemmas.{claimed_inside, inside_is}
 use Rattle.slim_rewrite.proofs.SingleLemmas.{put_as}
-use Rattle.slim_rewrite.proofs.WalkLemmas.{walked_start, walked_ready, walked_next, walked_end, one_lighter, nest_ready, weight}
+use Rattle.slim_rewrite.proofs.WalkLemmas.{walked_start, walked_ready, walked_next, walked_end, one_lighter, nest_ready, was_put, weight}
 use Rattle.slim_rewrite.proofs.walk.+write.Goals as goal
 
 pub write_sequence-loop-stmt-init : goal.write_sequence-loop-stmt-init
@@ -26,8 +26,8 @@ write_sequence-loop-stmt-init t c =
       next = refl;
     }
 
-pub write_sequence-write_stmt-requires : goal.write_sequence-write_stmt-requires
-write_sequence-write_stmt-requires t c = (
+pub write_sequence-write_stmt-put-requires : goal.write_sequence-write_stmt-put-requires
+write_sequence-write_stmt-put-requires t c = (
   omega (arith, c.decreases, one_lighter c.args.body.now c.loop-stmt.stmt-index c.stmt-item.result (omega (arith, c.loop-stmt-test.true)) c.stmt-item.is),
   (
     c.requires.rises,
@@ -42,10 +42,11 @@ write_sequence-write_stmt-requires t c = (
 
 pub write_sequence-loop-stmt-preserved : goal.write_sequence-loop-stmt-preserved
 write_sequence-loop-stmt-preserved t c = record {
-  walked = walked_next c.args.numbers.now c.args.at.now c.args.place (stmts c.args.body.now) c.args.body.now c.loop-stmt.stmt-index c.loop-stmt.at c.loop-stmt.all.value c.write_stmt.new.at
-      c.write_stmt.new.all c.stmt-item.result (omega (arith, c.loop-stmt-test.true)) c.stmt-item.is c.loop-stmt.invariant.walked
-      (subst (λ (q : Sequence). Put c.args.numbers.now c.loop-stmt.at q c.write_stmt.new.at c.write_stmt.new.all (stmt_in_front c.stmt-item.result)) c.deref_mut.ensures.value
-      (c.in_ok-write_stmt.ensures c.if-not-branch.false));
+  walked = walked_next c.args.numbers.now c.args.at.now c.args.place (stmts c.args.body.now) c.args.body.now c.loop-stmt.stmt-index c.loop-stmt.at c.loop-stmt.all.value c.write_stmt-put.new.at
+      c.write_stmt-put.new.all c.stmt-item.result (omega (arith, c.loop-stmt-test.true)) c.stmt-item.is c.loop-stmt.invariant.walked
+      (subst (λ (q : Sequence). Put c.args.numbers.now c.loop-stmt.at q c.write_stmt-put.new.at c.write_stmt-put.new.all (stmt_in_front c.stmt-item.result)) c.deref_mut.ensures.value
+      (was_put c.write_stmt-put.result (λ put. put ≡ true → Put c.args.numbers.now c.loop-stmt.at c.deref_mut.result.now c.write_stmt-put.new.at c.write_stmt-put.new.all
+      (stmt_in_front c.stmt-item.result)) (c.goes_on.ensures c.if-not-goes_on.false) c.write_stmt-put.ensures refl));
   next = ap (λ k. k + 1) c.loop-stmt.invariant.next;
 }
 
