@@ -1,4 +1,4 @@
-use Rattle.std.proofs.Common.{◌∙◌, ap, sym, refl, length, map, subst}
+use Rattle.std.proofs.Common.{arith, ◌≡◌, ◌∙◌, ap, sym, refl, length, map, subst}
 use Rattle.std.proofs.lemmas.List.{length-map}
 use Rattle.wa_types.specs.Validity.{Valid}
 use Rattle.wa_types.specs.View.{module_of}
@@ -26,5 +26,6 @@ returns c =
     let up = ap (λ es. set_up p x.area (map named_of es)) (sym c.deref.ensures.value) ∙ c.in_ok-funcs.ensures in
     let v = subst (λ m. Valid (module_of m)) c.module.ensures.same c.module.ensures.valid in
     let made = subst (λ m. MakesSetting (module_of m) x.listed x.binds x.area x.steps c.in_ok-setting.setting) c.module.ensures.same c.in_ok-setting.ensures in
+    let given : c.len-given.result ≡ length x.answers.items = omega (arith, c.len-given.ensures, x.answers.ok) in
     let calls = c.in_ok-entries.ensures ∙ ap (calls_of (map named_of x.entries.items)) c.deref-2.ensures.value in
-    (funcs, up, λ looks binds bound. follows x funcs looks binds bound c.requires v up _ refl refl made refl calls c.from_vec.ensures.items refl refl, ap (map answer_line_of) c.from_vec.ensures.items)
+    (funcs, up, λ looks binds bound. follows x funcs looks binds bound c.requires v up _ refl refl made refl calls c.from_vec.ensures.items given refl refl, ap (map answer_line_of) c.from_vec.ensures.items)
