@@ -122,7 +122,7 @@ module _ (x : Plan) (funcs : List ℕ) (looks : List Look) (binds : List (Option
   fine : SetUpFine p v x.area (named_entries x) funcs
   fine = set_up_fine p v x.area (named_entries x) funcs up
 
-  setting_is : (setting : Setting) → MakesSetting p x.listed x.binds x.area x.steps setting → IsSetting w setting
+  pub setting_is : (setting : Setting) → MakesSetting p x.listed x.binds x.area x.steps setting → IsSetting w setting
   setting_is setting m = record {
     valid = v;
     typed = fine.exports;

@@ -1,6 +1,6 @@
 //! `Program`: a plan over a prepared module, advanced from event to event.
 
-ghost use Rattle.std.specs.Prelude.{◌≡◌, ◌<◌, ◌≤◌, ◌+◌, ◌++◌, ◌^◌, [], ◌∷◌, ℕ, List, IfOk, IsErr, IfErr, None, Some, length, map, min};
+ghost use Rattle.std.specs.Prelude.{◌≡◌, ◌<◌, ◌≤◌, ◌+◌, ◌++◌, ◌^◌, [], ◌∷◌, ℕ, List, IfOk, IsErr, IfErr, None, Ok, Some, length, map, min};
 ghost use Rattle.std.specs.Option.{option_copied, option_map};
 ghost use Rattle.wa_model.specs.World.{bytes_shown};
 
@@ -36,14 +36,14 @@ pub(crate) enum State<'m> {
 
 /// A program: a plan over a prepared module, on its way. It was given so many answer lines, of which these are left.
 pub struct Program<'m> {
-    valid: &'m Valid,
-    globals: Vec<Value>,
-    setting: Setting,
-    left: Left,
-    answers: VecDeque<AnswerLine>,
-    given: usize,
-    steps_left: u64,
-    state: State<'m>,
+    pub(crate) valid: &'m Valid,
+    pub(crate) globals: Vec<Value>,
+    pub(crate) setting: Setting,
+    pub(crate) left: Left,
+    pub(crate) answers: VecDeque<AnswerLine>,
+    pub(crate) given: usize,
+    pub(crate) steps_left: u64,
+    pub(crate) state: State<'m>,
 }
 
 impl<'m> Program<'m> {
@@ -60,16 +60,28 @@ impl<'m> Program<'m> {
     ghost use Rattle.interp.specs.Host.{code_in, store_in};
     ghost use Rattle.device_port.specs.Listed.{of_all};
     ghost use Rattle.host_laws.specs.Places.{stands};
+    ghost use Rattle.host_setup.specs.SetUp.{set_up};
+    ghost use Rattle.host_setup.specs.Views.{Blames};
+    ghost use Rattle.pause_host.specs.FromPlans.{IsOfPlan};
     ghost use Rattle.host_laws.specs.Supplies.{IsLent};
     ghost use Rattle.pause_host.specs.Views.{end_of, left_of};
     ghost use Rattle.snapshot_store.specs.Views.{parts_of};
     ghost use Rattle.pause_host.specs.Parting.{memory_if, parts_in};
-    ghost use Rattle.pause_host.specs.Programs.{Advances, AdvancesAlone, Follows, FollowsAlone, FollowsAt, IsOnItsWay, IsPlan, OnItsWay, RunsCode, SetsUp, ended_as, memory_in, place_of, supply_of, supply_with};
+    ghost use Rattle.pause_host.specs.Programs.{Advances, AdvancesAlone, Follows, FollowsAlone, FollowsAt, IsOnItsWay, IsPlan, OnItsWay, RunsCode, SetsUp, ended_as, memory_in, named_entries, place_of, source_of, supply_of, supply_with};
 
     /// A program of a plan, before its instantiation, or the first fault of the plan.
     pub fn new(alloc: Global, plan: Plan<'m>) -> Result<Program<'m>, SetupFault>
         requires { IsPlan plan }
         ensures { SetsUp plan.entry result }
+    {
+        Program::of_plan(alloc, plan)
+    }
+
+    // The same, told part by part.
+    pub(crate) fn of_plan(alloc: Global, plan: Plan<'m>) -> Result<Program<'m>, SetupFault>
+        requires { IsPlan plan }
+        ensures ok { IfOk result (λ program. (funcs : List ℕ) × (set_up (source_of plan.entry) plan.entry.area (named_entries plan.entry) ≡ Ok funcs) × IsOfPlan plan.entry funcs program) }
+        ensures err { IfErr result (λ fault. Blames fault (set_up (source_of plan.entry) plan.entry.area (named_entries plan.entry))) }
     {
         let funcs = set_up(alloc, plan.module, plan.area, &plan.entries)?;
         let Plan {
