@@ -6,5 +6,6 @@ pub mod Fronts
 pub mod JumpLemmas
 pub mod NumberLemmas
 pub mod ReduceLemmas
+pub mod RestoreLemmas
 pub mod RoomKept
 pub mod RunLemmas

@@ -1,5 +1,6 @@
 pub mod Host
 pub mod Instance
+pub mod Restoring
 pub mod Runs
 pub mod StackRooms
 pub mod Stacks

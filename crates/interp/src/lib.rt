@@ -17,11 +17,15 @@
 //! of all reductions calls of defined functions and `memory.grow` alone take memory. Where a turn lacks it, `lacks` says to which
 //! call or growth the reductions had come, of which all but an import's call is unpaid.
 //!
+//! `restore` makes an instance with globals and a memory that are told, in place of instantiation: its table is that of instantiation,
+//! and start isn't run.
+//!
 //! Nothing here pauses a program: `pause_host` drives instances through the protocol.
 //!
 //! - `locals`, `control`, `branches`: reductions that touch the running activation's locals, labels and code, or return from it.
 //! - `calls`, `reducing`: calls, and one reduction by the instruction that stands next.
-//! - `turns`, `run`, `go_on`, `instance`: how a call turns out, reductions each paid by its cost, and instances.
+//! - `turns`, `run`, `go_on`, `restoring`, `instance`: how a call turns out, reductions each paid by its cost, what is asked of an
+//!   instance that is put back, and instances.
 #![tactic(auto)]
 
 mod branches;
@@ -31,10 +35,12 @@ mod go_on;
 mod instance;
 mod locals;
 mod reducing;
+mod restoring;
 mod run;
 mod turns;
 
 pub use instance::Instance;
 pub use interp_state::MakeFault;
+pub use restoring::may_have_pages;
 pub use run::Steps;
 pub use turns::Turn;

@@ -14,7 +14,7 @@
 //! - `values`, `operands`, `numbers`, `memory`, `bulk`: values by index, constants and parametric instructions, numeric ones, those of
 //!   memory and globals, and copies and fills of the memory.
 //! - `spaces`, `types`, `rooms`, `program`: limits and types by index, what an activation reserves, and a module with both looked up.
-//! - `segments`, `make`: segments tested and written, and the store of a new instance.
+//! - `segments`, `make`, `restoring`: segments tested and written, the store of a new instance, and that of one that is put back.
 #![tactic(auto)]
 
 mod activation;
@@ -25,6 +25,7 @@ mod memory;
 mod numbers;
 mod operands;
 mod program;
+mod restoring;
 mod rooms;
 mod segments;
 mod spaces;
@@ -35,12 +36,13 @@ mod values;
 pub use activation::{Activation, Label, Stack, Waiting};
 pub use bulk::{memory_copy, memory_fill};
 pub use flow::Flow;
-pub use make::{MakeFault, open};
+pub use make::{MakeFault, least_of, most_of, open};
 pub use memory::{get_global, load_at, memory_grow, memory_size, set_global, store_at};
 pub use numbers::numeric;
 pub use operands::{choose, constant, drop_top};
-pub use page_memory::Pages;
+pub use page_memory::{Pages, page_bound};
 pub use program::{Program, make_program};
+pub use restoring::restore;
 pub use rooms::Room;
 pub use spaces::all_memories;
 pub use store::Store;

@@ -51,7 +51,7 @@ impl From<AllocError> for MakeFault {
 }
 
 /// The least size of the first memory or table.
-fn least_of(limits: &[Limits]) -> u32
+pub fn least_of(limits: &[Limits]) -> u32
     ensures { result ≡ least_of limits.now }
 {
     match limits.split_first() {
@@ -61,7 +61,7 @@ fn least_of(limits: &[Limits]) -> u32
 }
 
 /// The greatest size of the first memory, where it is told.
-fn most_of(limits: &[Limits]) -> Option<u32>
+pub fn most_of(limits: &[Limits]) -> Option<u32>
     ensures { result ≡ first_max limits.now }
 {
     match limits.split_first() {
@@ -81,7 +81,7 @@ fn all_values(alloc: Global, source: &Module, imports: &[Value]) -> Result<Vec<V
 }
 
 /// A table of which no element is initialised.
-fn make_table(alloc: Global, entries: u32) -> Result<Vec<Option<u32>>, AllocError>
+pub(crate) fn make_table(alloc: Global, entries: u32) -> Result<Vec<Option<u32>>, AllocError>
     ensures { IfOk result (λ v. v.items ≡ replicate entries None) }
 {
     let mut table = Vec::new(alloc);

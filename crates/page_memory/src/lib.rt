@@ -11,4 +11,4 @@
 
 mod pages;
 
-pub use pages::Pages;
+pub use pages::{Pages, page_bound};

@@ -3,7 +3,7 @@
 ghost use Rattle.std.specs.Prelude.{◌≡◌, ◌+◌, ◌*◌, ◌^◌, ◌<◌, ◌≤◌, ◌⊎◌, ◌↔◌, IsSome, IfOk, IfSome, IfNone, OnSome, OnErr, length, replicate, Some, None};
 ghost use Rattle.std.specs.Bool.{OnTrue, OnFalse};
 ghost use Rattle.std.specs.Option.{SomeIff};
-ghost use Rattle.wa_types.specs.Memory.{page_size, pages_of, number_at, bytes_at, with_piece, with_number, copied, filled_with, page_bound, grown};
+ghost use Rattle.wa_types.specs.Memory.{IsWholePages, page_size, pages_of, number_at, bytes_at, with_piece, with_number, copied, filled_with, page_bound, grown};
 
 use std::alloc::{AllocError, Global};
 use std::marker::Model;
@@ -41,6 +41,16 @@ impl Pages {
     {
         let mut bytes = Vec::new(alloc);
         bytes.resize(min as usize * PAGE_SIZE, 0)?;
+        Ok(Pages { bytes, max })
+    }
+
+    /// A memory of these bytes, which are whole pages, and whose type declares the maximum `max`, in pages.
+    pub fn from_slice(alloc: Global, bytes: &[u8], max: Option<u32>) -> Result<Pages, AllocError>
+        requires { IsWholePages bytes.now }
+        ensures bytes { IfOk result (λ m. m.bytes ≡ bytes.now) }
+        ensures max { IfOk result (λ m. m.max ≡ max) }
+    {
+        let bytes = Vec::from_slice(alloc, bytes)?;
         Ok(Pages { bytes, max })
     }
 
@@ -168,10 +178,7 @@ impl Pages {
     fn bound(&self) -> u32
         ensures { result ≡ page_bound self.now.max }
     {
-        match self.max {
-            Some(most) => most.min(MOST_PAGES),
-            None => MOST_PAGES,
-        }
+        page_bound(self.max)
     }
 
     /// The index of the first of `len` bytes at an address, where all of them lie inside.
@@ -195,5 +202,15 @@ impl Pages {
     {
         let at = self.place(addr, N)?;
         self.bytes[at..].first_chunk()
+    }
+}
+
+/// The greatest number of pages that a memory may grow to whose type declares this maximum.
+pub fn page_bound(max: Option<u32>) -> u32
+    ensures { result ≡ page_bound max }
+{
+    match max {
+        Some(most) => most.min(MOST_PAGES),
+        None => MOST_PAGES,
     }
 }

@@ -93,9 +93,9 @@ module _ (w : W.Program) where
   -- The program x' is the program x with one note more.
   pub advanced : (notes : List Note) (os : List Outcome) (x x' : Program) (from to : Place) (event : EventValue) (s : Store) (used : ℕ) (old new : Supply) → FollowsAt w notes os x from
       → Moves w from x.steps_left old event s used new to
-      → old.lines ≡ lines_left x → module_of x'.valid.now ≡ module_of x.valid.now → x'.setting ≡ x.setting → x'.globals ≡ x.globals → lines_left x' ≡ new.lines → x'.steps_left ≡ x.steps_left - used
+      → old.lines ≡ lines_left x → module_of x'.valid.now ≡ module_of x.valid.now → x'.setting ≡ x.setting → x'.globals ≡ x.globals → x'.given ≡ x.given → lines_left x' ≡ new.lines → x'.steps_left ≡ x.steps_left - used
       → place_of x' x'.state ≡ to → store_of x'.state ≡ s → memory_in x' ≡ s.memory → RunsCode w.source x'.state → Advances w notes os event old new x'
-  advanced notes os x x' (stands ready h) to event s used old new f m old_lines same_code same_setting same_globals same_lines same_steps same_place same_store same_memory code =
+  advanced notes os x x' (stands ready h) to event s used old new f m old_lines same_code same_setting same_globals same_given same_lines same_steps same_place same_store same_memory code =
       let t = m.tells in
       let more = one_more_told w notes os x.steps_left (stands ready h) old m.note used new to f.told t in
       record {
@@ -112,6 +112,7 @@ module _ (w : W.Program) where
             setting = subst (IsSetting w) (sym same_setting) f.setting;
             globals = subst (λ g. types_of g.items ≡ global_types (imported imported_global w.source)) (sym same_globals) f.globals;
             pokes = subst (All HasShortPokes) (sym same_lines) (pokes_then (call_in m.note.event) old t.outcomes new t.takes (subst (All HasShortPokes) (sym old_lines) f.pokes));
+            given = same_given ∙ f.given;
             fits = subst (PlaceFits w) (sym same_place) (fits_then ready h t.outcomes x.steps_left m.note used to f.setting.valid f.setting.typed f.fits t.lands);
             holds = subst (PlaceHolds w) (sym same_place) (holds_then w ready h t.outcomes x.steps_left m.note used to f.holds t.lands);
             few_steps = f.few_steps;
@@ -121,8 +122,8 @@ module _ (w : W.Program) where
           code = code;
         };
       }
-  advanced notes os x x' (has_ended how) to event s used old new f m old_lines same_code same_setting same_globals same_lines same_steps same_place same_store same_memory code = absurd m.tells
-  advanced notes os x x' nowhere to event s used old new f m old_lines same_code same_setting same_globals same_lines same_steps same_place same_store same_memory code = absurd m.tells
+  advanced notes os x x' (has_ended how) to event s used old new f m old_lines same_code same_setting same_globals same_given same_lines same_steps same_place same_store same_memory code = absurd m.tells
+  advanced notes os x x' nowhere to event s used old new f m old_lines same_code same_setting same_globals same_given same_lines same_steps same_place same_store same_memory code = absurd m.tells
 
 -- ---- for those above
 
@@ -248,7 +249,7 @@ memory_told w x instance stage is code = by_test (nat_lt 0 (length (all_memories
 
 -- the same of a program in another state
 pub in_state : (w : W.Program) (notes : List Note) (os : List Outcome) (x : Program) (st : State) (place : Place) → FollowsAt w notes os x place → FollowsAt w notes os (record x { state = st }) place
-in_state w notes os x st place f = record { source = f.source; setting = f.setting; globals = f.globals; pokes = f.pokes; fits = f.fits; holds = f.holds; few_steps = f.few_steps; told = f.told }
+in_state w notes os x st place f = record { source = f.source; setting = f.setting; globals = f.globals; pokes = f.pokes; given = f.given; fits = f.fits; holds = f.holds; few_steps = f.few_steps; told = f.told }
 
 -- who follows a program is on its way
 pub on_its_way_by : (w : W.Program) (notes : List Note) (os : List Outcome) (x : Program) → Follows w notes os x → IsOnItsWay x

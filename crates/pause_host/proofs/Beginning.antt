@@ -16,6 +16,7 @@ use Rattle.wa_types.specs.Validity.{Valid}
 use Rattle.wa_types.specs.View.{module_of}
 use Rattle.wa_model.specs.declared.answers.Area.{Area}
 use Rattle.wa_model.specs.Plan.{Entry}
+use Rattle.wa_model.specs.View.{answer_line_of}
 use Rattle.wa_model.specs.Instantiation.{least_of, opening}
 use Rattle.run_theory.specs.Fitting.{types_of, global_types}
 use Rattle.wa_model.specs.Blocking.{Left, all_left}
@@ -121,7 +122,7 @@ module _ (x : Plan) (funcs : List ℕ) (looks : List Look) (binds : List (Option
   fine : SetUpFine p v x.area (named_entries x) funcs
   fine = set_up_fine p v x.area (named_entries x) funcs up
 
-  setting_is : (setting : Setting) → MakesSetting p x.listed x.binds x.area x.steps setting → IsSetting w setting
+  pub setting_is : (setting : Setting) → MakesSetting p x.listed x.binds x.area x.steps setting → IsSetting w setting
   setting_is setting m = record {
     valid = v;
     typed = fine.exports;
@@ -145,8 +146,8 @@ module _ (x : Plan) (funcs : List ℕ) (looks : List Look) (binds : List (Option
 
   pub follows : (program : Program) → module_of program.valid.now ≡ p → program.globals ≡ x.globals → MakesSetting p x.listed x.binds x.area x.steps program.setting
       → program.left.number ≡ 0 → map entry_of program.left.entries.items ≡ calls_of (named_entries x) funcs
-      → program.answers.items ≡ x.answers.items → program.steps_left ≡ x.steps → program.state ≡ Fresh → Follows w [] [] program
-  follows program code globals made number entries answers steps fresh = record {
+      → program.answers.items ≡ x.answers.items → program.given ≡ length x.answers.items → program.steps_left ≡ x.steps → program.state ≡ Fresh → Follows w [] [] program
+  follows program code globals made number entries answers given steps fresh = record {
     at = subst (λ st. FollowsAt w [] [] program (place_of program st)) (sym fresh) at;
     code =
         subst (RunsCode w.source) (sym fresh) tt;
@@ -174,6 +175,7 @@ module _ (x : Plan) (funcs : List ℕ) (looks : List Look) (binds : List (Option
         setting = setting_is program.setting made;
         globals = subst (λ g. types_of g.items ≡ global_types (imported imported_global p)) (sym globals) plan.globals;
         pokes = subst (λ xs. All HasShortPokes (lines_in xs)) (sym answers) plan.pokes;
+        given = given ∙ sym (length-map x.answers.items answer_line_of);
         fits = subst (PlaceFits w) (sym place_is) (begun (all_left w.plan []) refl);
         holds = subst (PlaceHolds w) (sym place_is) begun_there;
         few_steps = plan.few_steps;

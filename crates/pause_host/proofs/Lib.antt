@@ -4,6 +4,8 @@ pub mod Beginning
 pub mod Binds
 pub mod Callings
 pub mod Comings
+pub mod Constants
+pub mod FromPlans
 pub mod Fronts
 pub mod Holding
 pub mod Hosting
@@ -12,9 +14,12 @@ pub mod Outcomes
 pub mod MemoryGrows
 pub mod Parts
 pub mod Pauses
+pub mod Reopened
 pub mod Results
 pub mod Stagings
 pub mod Supplied
+pub mod Suspensions
 pub mod Tables
 pub mod Tasks
+pub mod Thawings
 pub mod Ways

@@ -1,6 +1,10 @@
+pub mod FromPlans
 pub mod Holding
 pub mod Hosting
 pub mod Moves
+pub mod Parting
 pub mod Programs
 pub mod Settings
+pub mod Suspending
+pub mod Thawing
 pub mod Views

@@ -137,6 +137,7 @@ pub record FollowsAt (w : W.Program) (notes : List Note) (os : List Outcome) (x 
   pub setting : IsSetting w x.setting
   pub globals : types_of x.globals.items ≡ global_types (imported imported_global w.source)
   pub pokes : All HasShortPokes (lines_left x)
+  pub given : x.given ≡ length w.answers
   pub fits : PlaceFits w place
   pub holds : PlaceHolds w place
   pub few_steps : w.steps ≤ 1000000000

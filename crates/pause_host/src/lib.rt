@@ -23,6 +23,8 @@
 //!   memory, and its end as an event.
 //! - `unwinding`, `rewinding`: both halves of a pause.
 //! - `plan`, `entries`, `bindings`, `setting`: what a program is given, and what the host has to know of its module all along.
+//! What is to be written of a paused program `parts` and `memory` give: its stack stands in its memory.
+//!
 //! - `asking`, `running`, `events`, `program`: what answers a call, what comes of each stage, the next event, and `Program`.
 #![tactic(auto)]
 
@@ -32,6 +34,8 @@ mod ends;
 mod entries;
 mod events;
 mod exports;
+mod faults;
+mod globals;
 mod memory;
 mod plan;
 mod program;
@@ -39,9 +43,12 @@ mod rewinding;
 mod running;
 mod setting;
 mod stages;
+mod thawing;
 mod unwinding;
 
 pub use bindings::unbound;
+pub use faults::ThawFault;
 pub use host_setup::{Entry, SetupFault};
 pub use plan::Plan;
 pub use program::Program;
+pub use snapshot_store::PausedParts;

@@ -1,7 +1,7 @@
 //! `Program`: a plan over a prepared module, advanced from event to event.
 
-ghost use Rattle.std.specs.Prelude.{◌≡◌, ◌<◌, ◌≤◌, ◌+◌, ◌++◌, ◌^◌, [], ◌∷◌, ℕ, List, IfOk, IsErr, IfErr, None, Some, length, map};
-ghost use Rattle.std.specs.Option.{option_copied};
+ghost use Rattle.std.specs.Prelude.{◌≡◌, ◌<◌, ◌≤◌, ◌+◌, ◌++◌, ◌^◌, [], ◌∷◌, ℕ, List, IfOk, IsErr, IfErr, None, Ok, Some, length, map, min};
+ghost use Rattle.std.specs.Option.{option_copied, option_map};
 ghost use Rattle.wa_model.specs.World.{bytes_shown};
 
 use crate::ends::copy_end;
@@ -14,6 +14,7 @@ use crate::stages::{Left, Setting, Stage};
 use device_port::Devices;
 use host_setup::{SetupFault, set_up};
 use interp::{Instance, MakeFault, Steps};
+use snapshot_store::PausedParts;
 use std::alloc::{AllocError, Global};
 use std::collections::VecDeque;
 use std::mem;
@@ -33,15 +34,16 @@ pub(crate) enum State<'m> {
     Lost,
 }
 
-/// A program: a plan over a prepared module, on its way.
+/// A program: a plan over a prepared module, on its way. It was given so many answer lines, of which these are left.
 pub struct Program<'m> {
-    valid: &'m Valid,
-    globals: Vec<Value>,
-    setting: Setting,
-    left: Left,
-    answers: VecDeque<AnswerLine>,
-    steps_left: u64,
-    state: State<'m>,
+    pub(crate) valid: &'m Valid,
+    pub(crate) globals: Vec<Value>,
+    pub(crate) setting: Setting,
+    pub(crate) left: Left,
+    pub(crate) answers: VecDeque<AnswerLine>,
+    pub(crate) given: usize,
+    pub(crate) steps_left: u64,
+    pub(crate) state: State<'m>,
 }
 
 impl<'m> Program<'m> {
@@ -58,14 +60,28 @@ impl<'m> Program<'m> {
     ghost use Rattle.interp.specs.Host.{code_in, store_in};
     ghost use Rattle.device_port.specs.Listed.{of_all};
     ghost use Rattle.host_laws.specs.Places.{stands};
+    ghost use Rattle.host_setup.specs.SetUp.{set_up};
+    ghost use Rattle.host_setup.specs.Views.{Blames};
+    ghost use Rattle.pause_host.specs.FromPlans.{IsOfPlan};
     ghost use Rattle.host_laws.specs.Supplies.{IsLent};
     ghost use Rattle.pause_host.specs.Views.{end_of, left_of};
-    ghost use Rattle.pause_host.specs.Programs.{Advances, AdvancesAlone, Follows, FollowsAlone, FollowsAt, IsOnItsWay, IsPlan, OnItsWay, RunsCode, SetsUp, ended_as, memory_in, place_of, supply_of, supply_with};
+    ghost use Rattle.snapshot_store.specs.Views.{parts_of};
+    ghost use Rattle.pause_host.specs.Parting.{memory_if, parts_in};
+    ghost use Rattle.pause_host.specs.Programs.{Advances, AdvancesAlone, Follows, FollowsAlone, FollowsAt, IsOnItsWay, IsPlan, OnItsWay, RunsCode, SetsUp, ended_as, memory_in, named_entries, place_of, source_of, supply_of, supply_with};
 
     /// A program of a plan, before its instantiation, or the first fault of the plan.
     pub fn new(alloc: Global, plan: Plan<'m>) -> Result<Program<'m>, SetupFault>
         requires { IsPlan plan }
         ensures { SetsUp plan.entry result }
+    {
+        Program::of_plan(alloc, plan)
+    }
+
+    // The same, told part by part.
+    pub(crate) fn of_plan(alloc: Global, plan: Plan<'m>) -> Result<Program<'m>, SetupFault>
+        requires { IsPlan plan }
+        ensures ok { IfOk result (λ program. (funcs : List ℕ) × (set_up (source_of plan.entry) plan.entry.area (named_entries plan.entry) ≡ Ok funcs) × IsOfPlan plan.entry funcs program) }
+        ensures err { IfErr result (λ fault. Blames fault (set_up (source_of plan.entry) plan.entry.area (named_entries plan.entry))) }
     {
         let funcs = set_up(alloc, plan.module, plan.area, &plan.entries)?;
         let Plan {
@@ -80,12 +96,14 @@ impl<'m> Program<'m> {
         } = plan;
         let setting = setting_of(alloc, valid.module(), listed, binds, area, steps)?;
         let entries = entry_calls(alloc, entries, &funcs)?;
+        let given = answers.len();
         Ok(Program {
             valid,
             globals,
             setting,
             left: Left { number: 0, entries },
             answers: VecDeque::from_vec(answers),
+            given,
             steps_left: steps,
             state: State::Fresh,
         })
@@ -280,6 +298,41 @@ impl<'m> Program<'m> {
         self.state = state;
     }
 
+    /// What the program is at its pause, but for its memory. None exactly where it isn't paused: where the event told last isn't a
+    /// pause.
+    pub fn parts(&self, alloc: Global) -> Result<Option<PausedParts>, AllocError>
+        ensures { IfOk result (λ parts. option_map parts_of parts ≡ parts_in self.now) }
+    {
+        let State::Live { instance, stage } = &self.state else {
+            return Ok(None);
+        };
+        let Stage::Paused(pause) = stage else {
+            return Ok(None);
+        };
+        let globals = Vec::from_slice(alloc, instance.globals())?;
+        Ok(Some(PausedParts {
+            steps_used: self.setting.steps.saturating_sub(self.steps_left),
+            entry: self.left.number,
+            answers: narrowed(self.given.saturating_sub(self.answers.len())),
+            import: pause.import,
+            globals,
+            pages: instance.pages(),
+        }))
+    }
+
+    /// All bytes of the memory. None exactly where the program has no instance.
+    pub fn memory(&self) -> Option<&[u8]>
+        ensures { option_copied result ≡ memory_if self.now.state }
+    {
+        let State::Live { instance, stage: _ } = &self.state else {
+            return None;
+        };
+        match instance.memory() {
+            None => Some(&[]),
+            Some(memory) => Some(memory),
+        }
+    }
+
     /// Bytes of the memory. None exactly where the program has no instance or the range isn't inside its memory.
     pub fn show(&self, at: u32, len: u32) -> Option<&[u8]>
         ensures { option_copied result ≡ bytes_shown (memory_in self.now) (record { at = at; len = len }) }
@@ -303,6 +356,7 @@ impl Drop for Program<'_> {
             setting: _,
             left: _,
             answers: _,
+            given: _,
             steps_left: _,
             state: _,
         } = self;
@@ -316,6 +370,16 @@ fn unused(left: u64) -> Steps
     ensures sum { result.left + result.used < 2 ^ 64 }
 {
     Steps { left, used: 0 }
+}
+
+// A number in 32 bits, which one past them is cut to.
+fn narrowed(count: usize) -> u32
+    ensures { result ≡ min count u32.MAX }
+{
+    if count < u32::MAX as usize {
+        return count as u32;
+    }
+    u32::MAX
 }
 
 // Bytes of a memory, where they are inside it.

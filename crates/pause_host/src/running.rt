@@ -269,8 +269,8 @@ fn called(
     }
 }
 
-// Where an answer leads: to an end by the first test that it fails, to a pause, or to itself.
-fn answered(
+/// Where an answer leads: to an end by the first test that it fails, to a pause, or to itself.
+pub(crate) fn answered(
     setting: &Setting,
     import: &HostImport,
     size: u64,

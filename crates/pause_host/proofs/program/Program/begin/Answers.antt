@@ -34,7 +34,7 @@ returns-clause-next g c = λ w notes os code f.
     subst
     (λ (z : Program). Advances w notes os c.in_ok-moved.moved.event old (supply_of (λ z. (goal.Device-dyn g z).seen z.1) (λ z. (goal.Device-dyn g z).faults z.1) z c.start.new.devices) z)
     (sym c.put_state.ensures)
-    (advanced w notes os x x' from to c.in_ok-moved.moved.event (store_in i') used old new f moves refl refl refl refl refl
+    (advanced w notes os x x' from to c.in_ok-moved.moved.event (store_in i') used old new f moves refl refl refl refl refl refl
     (omega (arith, c.start.ensures.sum, c.start.ensures.grows, c.unused-steps.ensures.left))
     (same_place w x (left_of c.start.new.left) (store_in i') (waits_in i') stage is) refl
     (memory_told w x i' stage is (c.start.ensures.code ∙ code)) (c.start.ensures.code ∙ code))

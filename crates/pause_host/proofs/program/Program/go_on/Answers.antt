@@ -35,7 +35,7 @@ returns-clause-next g c = λ w notes os f code more.
     subst
     (λ (z : Program). Advances w notes os c.in_ok-moved.moved.event old (supply_of (λ z. (goal.Device-dyn g z).seen z.1) (λ z. (goal.Device-dyn g z).faults z.1) z c.next_event.new.devices) z)
     (sym c.put_state.ensures)
-    (advanced w notes os x x' from to c.in_ok-moved.moved.event (store_in i') used old new f' moves refl refl refl refl refl
+    (advanced w notes os x x' from to c.in_ok-moved.moved.event (store_in i') used old new f' moves refl refl refl refl refl refl
     (omega (arith, c.next_event.ensures.sum, c.next_event.ensures.grows, c.unused-steps.ensures.left))
     (same_place w x (left_of c.next_event.new.left) (store_in i') (waits_in i') stage is) refl
     (memory_told w x i' stage is (c.next_event.ensures.code ∙ code)) (c.next_event.ensures.code ∙ code))
