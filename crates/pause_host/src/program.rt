@@ -58,7 +58,7 @@ impl<'m> Program<'m> {
     ghost use Rattle.interp.specs.Host.{code_in, store_in};
     ghost use Rattle.device_port.specs.Listed.{of_all};
     ghost use Rattle.host_laws.specs.Places.{stands};
-    ghost use Rattle.host_laws.specs.Supplies.{IsLent};
+    ghost use Rattle.host_laws.specs.Supplies.{IsLent, RisesAtMostOne};
     ghost use Rattle.pause_host.specs.Views.{end_of, left_of};
     ghost use Rattle.pause_host.specs.Programs.{Advances, AdvancesAlone, Follows, FollowsAlone, FollowsAt, IsOnItsWay, IsPlan, OnItsWay, RunsCode, SetsUp, ended_as, memory_in, place_of, supply_of, supply_with};
 
@@ -101,6 +101,7 @@ impl<'m> Program<'m> {
             → IfOk result (λ event. Advances w notes os event (supply_of seen faults self.old devices.old) (supply_of seen faults self.new devices.new) self.new) }
         ensures again { (how : End) → ended_as self.old ≡ Some how → IfOk result (λ event. (event_of event ≡ ended how) × (self.new ≡ self.old) × (devices.new ≡ devices.old)) }
         ensures kept { IsErr result → of_all seen devices.new ≡ of_all seen devices.old }
+        ensures once { IsErr result → RisesAtMostOne (of_all faults devices.old) (of_all faults devices.new) }
         ensures same_list { devices.new.list.ghost_name ≡ devices.old.list.ghost_name }
     {
         match mem::replace(&mut self.state, State::Lost) {
@@ -127,6 +128,7 @@ impl<'m> Program<'m> {
         ensures next { (w : WorldProgram) (notes : List Note) (os : List Outcome) → FollowsAt w notes os self.old (place_of self.old State.Fresh)
             → IfOk result (λ event. Advances w notes os event (supply_of seen faults self.old devices.old) (supply_of seen faults self.new devices.new) self.new) }
         ensures kept { IsErr result → of_all seen devices.new ≡ of_all seen devices.old }
+        ensures once { IsErr result → RisesAtMostOne (of_all faults devices.old) (of_all faults devices.new) }
         ensures same_list { devices.new.list.ghost_name ≡ devices.old.list.ghost_name }
     {
         match Instance::make(self.setting.alloc, self.valid, &self.globals) {
@@ -147,6 +149,7 @@ impl<'m> Program<'m> {
             → opening (module_of self.old.valid.now) self.old.globals.items ≡ opens (store_in instance.entry) → FollowsAt w notes os self.old (place_of self.old State.Fresh)
             → IfOk result (λ event. Advances w notes os event (supply_of seen faults self.old devices.old) (supply_of seen faults self.new devices.new) self.new) }
         ensures kept { IsErr result → of_all seen devices.new ≡ of_all seen devices.old }
+        ensures once { IsErr result → RisesAtMostOne (of_all faults devices.old) (of_all faults devices.new) }
         ensures same_list { devices.new.list.ghost_name ≡ devices.old.list.ghost_name }
     {
         match self.valid.module().start {
@@ -195,6 +198,7 @@ impl<'m> Program<'m> {
         ensures again { (how : End) → end_of stage ≡ Some how → IfOk result (λ event. (event_of event ≡ ended how)
             × (self.new ≡ record self.old { state = (State.Live instance.entry stage) }) × (devices.new ≡ devices.old)) }
         ensures kept { IsErr result → of_all seen devices.new ≡ of_all seen devices.old }
+        ensures once { IsErr result → RisesAtMostOne (of_all faults devices.old) (of_all faults devices.new) }
         ensures same_list { devices.new.list.ghost_name ≡ devices.old.list.ghost_name }
     {
         match stage {
@@ -225,6 +229,7 @@ impl<'m> Program<'m> {
             → RunsCode w.source (State.Live instance.entry stage) → end_of stage ≡ None
             → IfOk result (λ event. Advances w notes os event (supply_of seen faults self.old devices.old) (supply_of seen faults self.new devices.new) self.new) }
         ensures kept { IsErr result → of_all seen devices.new ≡ of_all seen devices.old }
+        ensures once { IsErr result → RisesAtMostOne (of_all faults devices.old) (of_all faults devices.new) }
         ensures same_list { devices.new.list.ghost_name ≡ devices.old.list.ghost_name }
     {
         let mut steps = unused(self.steps_left);
@@ -255,6 +260,7 @@ impl<'m> Program<'m> {
             → FollowsAt w notes os self.old (stands [] (starting func (store_in instance.entry) (left_of self.old.left)))
             → IfOk result (λ event. Advances w notes os event (supply_of seen faults self.old devices.old) (supply_of seen faults self.new devices.new) self.new) }
         ensures kept { IsErr result → of_all seen devices.new ≡ of_all seen devices.old }
+        ensures once { IsErr result → RisesAtMostOne (of_all faults devices.old) (of_all faults devices.new) }
         ensures same_list { devices.new.list.ghost_name ≡ devices.old.list.ghost_name }
     {
         let mut steps = unused(self.steps_left);
