@@ -300,7 +300,7 @@ module _ (parts : List Part) (detaches : List Detach) (cs : List Counted) where
           ap (λ (n : ℕ). last_line n h.turns.begun) (sym (length-map own names_of) ∙ ap (λ (l : List T.Names). length l) are ∙ length-map parts part_names)
           ∙ ap (last_line (length parts)) (sym events)
 
-      are_told : AreTold parts detaches cs es (begun lines ++ last)
+      abbrev are_told : AreTold parts detaches cs es (begun lines ++ last)
       are_told = record {
         lines = lines;
         met = t.told.met;
