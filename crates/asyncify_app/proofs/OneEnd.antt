@@ -1,6 +1,6 @@
 -- A call's end, from that of its command.
 use Rattle.std.proofs.Common.{◌≡◌, ◌⊎◌, ◌≤◌, inl, inr, ℕ, List, Option, Some, None, refl, sym, subst}
-use Rattle.vault_port.specs.Counts.{HasRisen}
+use Rattle.vault_port.specs.Counts.{FailsOnce}
 use Rattle.vault_port.specs.Files.{Files, ChangesOnly, HoldsFrontAtMost}
 use Rattle.vault_port.specs.Told.{Becomes}
 use Rattle.wa_types.specs.Encoding.{Enc}
@@ -34,16 +34,16 @@ same_files : (R : Files → Files → Type 0) → ((a : Files) → R a a) → (o
 same_files R r None = tt
 same_files R r (Some a) = r a
 
-module _ (c : Call) (status : ℕ) (nine : status ≡ 9) (kept : c.files' ≡ c.files) (same : c.devices' ≡ c.devices) (printed : Becomes c.taken c.taken' EndsInMemory) where
+module _ (c : Call) (status : ℕ) (nine : status ≡ 9) (kept : c.files' ≡ c.files) (same : c.devices' ≡ c.devices) (printed : Becomes c.taken c.taken' (EndsInMemory c.sink_faults c.sink_faults')) where
   none_saved : (output bytes : List ℕ) → Becomes c.files c.files' (HoldsFrontAtMost output bytes)
   none_saved output bytes =
       subst (λ (new : Option Files). Becomes c.files new (HoldsFrontAtMost output bytes)) (sym kept)
       (same_files (HoldsFrontAtMost output bytes) (λ a. record { changed = inr refl; others = λ other differs. refl }) c.files)
 
-  no_line : (n : ℕ) (output : List ℕ) → Becomes c.taken c.taken' (G.RunsOutOfMemory n output)
+  no_line : (n : ℕ) (output : List ℕ) → Becomes c.taken c.taken' (G.RunsOutOfMemory n output c.sink_faults c.sink_faults')
   no_line n output =
       let line = refusal_line None (write_fault output) in
-      becomes_by (PrintsMemory line) (G.RunsOutOfMemory n output) (λ x y h. (line, inr refl, h)) c.taken c.taken' (memory_alone line c.taken c.taken' printed)
+      becomes_by (PrintsMemory line c.sink_faults c.sink_faults') (G.RunsOutOfMemory n output c.sink_faults c.sink_faults') (λ x y h. (line, inr refl, h)) c.taken c.taken' (memory_alone line _ _ c.taken c.taken' printed)
 
   by_memory : (o : Option Spelled) → EndsBy c o status
   by_memory None = inr nine
@@ -58,11 +58,11 @@ module _ (c : Call) (status : ℕ) (nine : status ≡ 9) (kept : c.files' ≡ c.
 
 -- A module was generated.
 pub generated_ends : (c : Call) (n : ℕ) (output : List ℕ) (status : ℕ) → (status ≡ 0) ⊎ (status ≡ 9) ⊎ (status ≡ 11) ⊎ (status ≡ 12)
-    → (status ≡ 11 → HasRisen c.save_faults c.save_faults') → (status ≡ 12 → HasRisen c.sink_faults c.sink_faults')
+    → (status ≡ 11 → FailsOnce c.save_faults c.save_faults') → (status ≡ 12 → FailsOnce c.sink_faults c.sink_faults')
     → ((status ≡ 0) ⊎ (status ≡ 12) → Becomes c.files c.files' (ChangesOnly output (Enc (generated n))))
     → ((status ≡ 9) ⊎ (status ≡ 11) → Becomes c.files c.files' (HoldsFrontAtMost output (Enc (generated n))))
     → (status ≡ 0 → Becomes c.taken c.taken' (G.PrintsGenerated n)) → (status ≡ 12 → Becomes c.taken c.taken' (G.PrintsLess n))
-    → (status ≡ 9 → Becomes c.taken c.taken' (G.RunsOutOfMemory n output))
+    → (status ≡ 9 → Becomes c.taken c.taken' (G.RunsOutOfMemory n output c.sink_faults c.sink_faults'))
     → (status ≡ 11 → Becomes c.taken c.taken' (Prints (refusal_line None (write_fault output)) c.sink_faults c.sink_faults'))
     → GeneratesOnce c n output status
 generated_ends c n output status by write sink done cut all less wanting refused = elim by [
@@ -77,14 +77,14 @@ generated_ends c n output status by write sink done cut all less wanting refused
 ]
 
 -- the line on memory alone, whatever the words spell
-memory_unread : (o : Option Command) (files files' : Option Files) (status : ℕ) (old new : Option (List ℕ)) → Becomes old new EndsInMemory
-    → OnTransform o (λ s input output. status ≡ 9 → Becomes old new (RunsOutOfMemory s files files' input output))
-memory_unread None files files' status old new h = tt
-memory_unread (Some (transform s input output)) files files' status old new h = λ n. memory_any s files files' input output old new h
+memory_unread : (o : Option Command) (files files' : Option Files) (status f f' : ℕ) (old new : Option (List ℕ)) → Becomes old new (EndsInMemory f f')
+    → OnTransform o (λ s input output. status ≡ 9 → Becomes old new (RunsOutOfMemory s files files' input output f f'))
+memory_unread None files files' status f f' old new h = tt
+memory_unread (Some (transform s input output)) files files' status f f' old new h = λ n. memory_any s files files' input output f f' old new h
 
-pub memory_unread_words : (o : Option Spelled) (files files' : Option Files) (status : ℕ) (old new : Option (List ℕ)) → Becomes old new EndsInMemory
-    → OnTransform (rewriting o) (λ s input output. status ≡ 9 → Becomes old new (RunsOutOfMemory s files files' input output))
-memory_unread_words o files files' status old new h = memory_unread (rewriting o) files files' status old new h
+pub memory_unread_words : (o : Option Spelled) (files files' : Option Files) (status f f' : ℕ) (old new : Option (List ℕ)) → Becomes old new (EndsInMemory f f')
+    → OnTransform (rewriting o) (λ s input output. status ≡ 9 → Becomes old new (RunsOutOfMemory s files files' input output f f'))
+memory_unread_words o files files' status f f' old new h = memory_unread (rewriting o) files files' status f f' old new h
 
 -- the words are no `transform`
 pub no_transform : (o : Option Spelled) (P : Manner → List ℕ → List ℕ → Type 0) → rewriting o ≡ None → OnTransform (rewriting o) P

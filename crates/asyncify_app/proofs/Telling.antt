@@ -33,11 +33,11 @@ pub held_as : (n : ℕ) (m : Module) (name : List ℕ) (old new : Option Files) 
 held_as n m name old new e h = subst (λ (z : Module). Becomes old new (HoldsFrontAtMost name (Enc z))) e (all_held name (Enc m) old new h)
 
 -- the line on memory alone, where any line might have been begun
-pub memory_any : (n : ℕ) (output : List ℕ) (old new : Option (List ℕ)) → Becomes old new EndsInMemory → Becomes old new (RunsOutOfMemory n output)
-memory_any n output None None h = tt
-memory_any n output (Some x) (Some y) h = (refusal_line None (write_fault output), inr refl, memory_alone (refusal_line None (write_fault output)) (Some x) (Some y) h)
-memory_any n output None (Some y) h = h
-memory_any n output (Some x) None h = h
+pub memory_any : (n : ℕ) (output : List ℕ) (f f' : ℕ) (old new : Option (List ℕ)) → Becomes old new (EndsInMemory f f') → Becomes old new (RunsOutOfMemory n output f f')
+memory_any n output f f' None None h = tt
+memory_any n output f f' (Some x) (Some y) h = (refusal_line None (write_fault output), inr refl, memory_alone (refusal_line None (write_fault output)) f f' (Some x) (Some y) h)
+memory_any n output f f' None (Some y) h = h
+memory_any n output f f' (Some x) None h = h
 
 -- lines of what was written and run
 pub lines_printed : (n bytes used value : ℕ) (old new : Option (List ℕ)) → bytes ≡ length (Enc (generated n)) → PlaysGenerated n used value
@@ -54,17 +54,18 @@ lines_less n bytes used value (Some x) (Some y) b p h = (three_lines n bytes use
 lines_less n bytes used value None (Some y) b p h = h
 lines_less n bytes used value (Some x) None b p h = h
 
-pub lines_memory : (n bytes used value : ℕ) (output : List ℕ) (old new : Option (List ℕ)) → bytes ≡ length (Enc (generated n)) → PlaysGenerated n used value
-    → Becomes old new (PrintsMemory (three_lines n bytes used value))
-    → Becomes old new (RunsOutOfMemory n output)
-lines_memory n bytes used value output None None b p h = tt
-lines_memory n bytes used value output (Some x) (Some y) b p h = (three_lines n bytes used value, inl (used, value, p, ap (λ k. three_lines n k used value) b), h)
-lines_memory n bytes used value output None (Some y) b p h = h
-lines_memory n bytes used value output (Some x) None b p h = h
+pub lines_memory : (n bytes used value : ℕ) (output : List ℕ) (f f' : ℕ) (old new : Option (List ℕ)) → bytes ≡ length (Enc (generated n)) → PlaysGenerated n used value
+    → Becomes old new (PrintsMemory (three_lines n bytes used value) f f')
+    → Becomes old new (RunsOutOfMemory n output f f')
+lines_memory n bytes used value output f f' None None b p h = tt
+lines_memory n bytes used value output f f' (Some x) (Some y) b p h = (three_lines n bytes used value, inl (used, value, p, ap (λ k. three_lines n k used value) b), h)
+lines_memory n bytes used value output f f' None (Some y) b p h = h
+lines_memory n bytes used value output f f' (Some x) None b p h = h
 
 -- the refusal's line
-pub refusal_memory : (n : ℕ) (output : List ℕ) (old new : Option (List ℕ)) → Becomes old new (PrintsMemory (refusal_line None (write_fault output))) → Becomes old new (RunsOutOfMemory n output)
-refusal_memory n output None None h = tt
-refusal_memory n output (Some x) (Some y) h = (refusal_line None (write_fault output), inr refl, h)
-refusal_memory n output None (Some y) h = h
-refusal_memory n output (Some x) None h = h
+pub refusal_memory : (n : ℕ) (output : List ℕ) (f f' : ℕ) (old new : Option (List ℕ)) → Becomes old new (PrintsMemory (refusal_line None (write_fault output)) f f')
+    → Becomes old new (RunsOutOfMemory n output f f')
+refusal_memory n output f f' None None h = tt
+refusal_memory n output f f' (Some x) (Some y) h = (refusal_line None (write_fault output), inr refl, h)
+refusal_memory n output f f' None (Some y) h = h
+refusal_memory n output f f' (Some x) None h = h

@@ -1,6 +1,6 @@
 -- How a call ends, by the command that its words spell.
 use Rattle.std.specs.Prelude.{◌≡◌, ◌⊎◌, ℕ, List, Option, Some, None}
-use Rattle.vault_port.specs.Counts.{HasRisen}
+use Rattle.vault_port.specs.Counts.{FailsOnce}
 use Rattle.vault_port.specs.Files.{Files, ChangesOnly, HoldsFrontAtMost}
 use Rattle.vault_port.specs.Told.{Becomes}
 use Rattle.wa_types.specs.Encoding.{Enc}
@@ -70,10 +70,10 @@ script_call c way script = P.call way script c.files c.fetch_faults c.fetch_faul
 abbrev pub GeneratesOnce : Call → (number : ℕ) → (output : List ℕ) → ℕ → Type 0
 GeneratesOnce c n output status =
     ((status ≡ 0) × Becomes c.files c.files' (ChangesOnly output (Enc (generated n))) × Becomes c.taken c.taken' (G.PrintsGenerated n))
-    ⊎ ((status ≡ 9) × Becomes c.files c.files' (HoldsFrontAtMost output (Enc (generated n))) × Becomes c.taken c.taken' (G.RunsOutOfMemory n output))
-    ⊎ ((status ≡ 11) × HasRisen c.save_faults c.save_faults' × Becomes c.files c.files' (HoldsFrontAtMost output (Enc (generated n)))
+    ⊎ ((status ≡ 9) × Becomes c.files c.files' (HoldsFrontAtMost output (Enc (generated n))) × Becomes c.taken c.taken' (G.RunsOutOfMemory n output c.sink_faults c.sink_faults'))
+    ⊎ ((status ≡ 11) × FailsOnce c.save_faults c.save_faults' × Becomes c.files c.files' (HoldsFrontAtMost output (Enc (generated n)))
     × Becomes c.taken c.taken' (Prints (refusal_line None (write_fault output)) c.sink_faults c.sink_faults'))
-    ⊎ ((status ≡ 12) × HasRisen c.sink_faults c.sink_faults' × Becomes c.files c.files' (ChangesOnly output (Enc (generated n))) × Becomes c.taken c.taken' (G.PrintsLess n))
+    ⊎ ((status ≡ 12) × FailsOnce c.sink_faults c.sink_faults' × Becomes c.files c.files' (ChangesOnly output (Enc (generated n))) × Becomes c.taken c.taken' (G.PrintsLess n))
 
 -- The call has one end, by its status, with its reason and what it printed: words that spell nothing are refused, and each command
 -- has its ends. (What `transform` prints is told apart.)

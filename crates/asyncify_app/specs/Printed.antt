@@ -27,5 +27,6 @@ abbrev pub PrintsLess : ℕ → List ℕ → List ℕ → Type 0
 PrintsLess n old new = (text : List ℕ) × IsGeneratedText n text × AppendsLess text old new
 
 -- some first bytes of such lines, or of the refusal's line, and then some of the line on memory, were printed
-abbrev pub RunsOutOfMemory : ℕ → (output : List ℕ) → List ℕ → List ℕ → Type 0
-RunsOutOfMemory n output old new = (text : List ℕ) × (IsGeneratedText n text ⊎ (text ≡ refusal_line None (write_fault output))) × PrintsMemory text old new
+abbrev pub RunsOutOfMemory : ℕ → (output : List ℕ) → (faults faults' : ℕ) → List ℕ → List ℕ → Type 0
+RunsOutOfMemory n output faults faults' old new =
+    (text : List ℕ) × (IsGeneratedText n text ⊎ (text ≡ refusal_line None (write_fault output))) × PrintsMemory text faults faults' old new

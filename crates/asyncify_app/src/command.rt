@@ -2,13 +2,13 @@
 
 ghost use Rattle.std.specs.Prelude.{◌≡◌, ◌≢◌, ◌⊎◌, ◌≤◌, map, None, IsSome};
 ghost use Rattle.std.specs.String.{string_bytes};
-ghost use Rattle.vault_port.specs.Counts.{HasRisen};
-ghost use Rattle.vault_port.specs.Files.{bytes_of, IsMissing};
+ghost use Rattle.vault_port.specs.Counts.{FailsOnce};
+ghost use Rattle.vault_port.specs.Files.{bytes_of, CannotRead};
 ghost use Rattle.vault_port.specs.Told.{WhereTold, Becomes};
 ghost use Rattle.script_model.specs.Command.{OnTransform};
 ghost use Rattle.script_model.specs.Spelled.{rewriting, spelled};
 ghost use Rattle.script_model.specs.Transcript.{read_fault, refusal_line, usage, write_fault};
-ghost use Rattle.transcript.specs.Refused.{Prints, PrintsMemory};
+ghost use Rattle.transcript.specs.Refused.{CountsBy, Prints, PrintsMemory};
 ghost use Rattle.transform_command.specs.Ends.{IsRefusal};
 ghost use Rattle.transform_command.specs.Transforms.{HasCause, HoldsSource, IsCutShort, IsTransformed, PrintsRefusal, PrintsDone, PrintsLess, RunsOutOfMemory};
 ghost use Rattle.host_laws.specs.Supplies.{IsLent};
@@ -41,7 +41,7 @@ pub fn asyncify<V: Vault, S: Sink>(
     ensures usage_alone { result ≡ 2 → spelled (map string_bytes words.now) ≡ None }
     ensures usage_files { spelled (map string_bytes words.now) ≡ None → V.files vault.new ≡ V.files vault.old }
     ensures prints_usage { result ≡ 2 → Becomes (S.taken out.old) (S.taken out.new) (Prints (refusal_line None usage) (S.faults out.old) (S.faults out.new)) }
-    ensures prints_usage_memory { spelled (map string_bytes words.now) ≡ None → result ≡ 9 → Becomes (S.taken out.old) (S.taken out.new) (PrintsMemory (refusal_line None usage)) }
+    ensures prints_usage_memory { spelled (map string_bytes words.now) ≡ None → result ≡ 9 → Becomes (S.taken out.old) (S.taken out.new) (PrintsMemory (refusal_line None usage) (S.faults out.old) (S.faults out.new)) }
     ensures status { (result ≡ 0) ⊎ (result ≡ 2) ⊎ IsRefusal result ⊎ (result ≡ 8) ⊎ (result ≡ 9) ⊎ (result ≡ 10) ⊎ (result ≡ 11) ⊎ (result ≡ 12) }
 
     // Exactly one end, with its cause.
@@ -63,15 +63,15 @@ pub fn asyncify<V: Vault, S: Sink>(
 
     // The causes.
     ensures read_fault { OnTransform (rewriting (spelled (map string_bytes words.now))) (λ settings input output.
-        result ≡ 10 → HasRisen (V.fetch_faults vault.old) (V.fetch_faults vault.new) ⊎ IsMissing (V.files vault.old) input) }
+        result ≡ 10 → CannotRead (V.files vault.old) input (V.fetch_faults vault.old) (V.fetch_faults vault.new)) }
     ensures refused { OnTransform (rewriting (spelled (map string_bytes words.now))) (λ settings input output.
         IsRefusal result → HasCause settings (V.files vault.old) input result) }
     ensures built { OnTransform (rewriting (spelled (map string_bytes words.now))) (λ settings input output.
         result ≡ 11 → WhereTold (V.files vault.old) (λ all. HoldsSource settings (bytes_of all input))) }
     ensures there { OnTransform (rewriting (spelled (map string_bytes words.now))) (λ settings input output.
         (result ≡ 9) ⊎ (result ≡ 10) ⊎ WhereTold (V.files vault.old) (λ all. IsSome (all input))) }
-    ensures write_fault { result ≡ 11 → HasRisen (V.save_faults vault.old) (V.save_faults vault.new) }
-    ensures sink_fault { result ≡ 12 → HasRisen (S.faults out.old) (S.faults out.new) }
+    ensures write_fault { result ≡ 11 → FailsOnce (V.save_faults vault.old) (V.save_faults vault.new) }
+    ensures sink_fault { result ≡ 12 → FailsOnce (S.faults out.old) (S.faults out.new) }
 
     // The files.
     ensures done { OnTransform (rewriting (spelled (map string_bytes words.now))) (λ settings input output.
@@ -87,7 +87,7 @@ pub fn asyncify<V: Vault, S: Sink>(
     ensures prints_less { OnTransform (rewriting (spelled (map string_bytes words.now))) (λ settings input output.
         result ≡ 12 → Becomes (S.taken out.old) (S.taken out.new) (PrintsLess settings (V.files vault.old) (V.files vault.new) input output)) }
     ensures prints_memory { OnTransform (rewriting (spelled (map string_bytes words.now))) (λ settings input output.
-        result ≡ 9 → Becomes (S.taken out.old) (S.taken out.new) (RunsOutOfMemory settings (V.files vault.old) (V.files vault.new) input output)) }
+        result ≡ 9 → Becomes (S.taken out.old) (S.taken out.new) (RunsOutOfMemory settings (V.files vault.old) (V.files vault.new) input output (S.faults out.old) (S.faults out.new))) }
     ensures prints_read { OnTransform (rewriting (spelled (map string_bytes words.now))) (λ settings input output.
         result ≡ 10 → Becomes (S.taken out.old) (S.taken out.new) (Prints (refusal_line None (read_fault input)) (S.faults out.old) (S.faults out.new))) }
     ensures prints_write { OnTransform (rewriting (spelled (map string_bytes words.now))) (λ settings input output.
@@ -103,7 +103,9 @@ pub fn asyncify<V: Vault, S: Sink>(
         → counted_boxes seen (λ b. (⟦<dyn Device as Device>⟧ b.vtable).faults b.value) devices.new.items
         ≡ counted_boxes seen (λ b. (⟦<dyn Device as Device>⟧ b.vtable).faults b.value) devices.old.items }
 
-    // No count falls.
+    // What has failed, each at most once. No count falls.
+    ensures counts { CountsBy result (V.fetch_faults vault.old) (V.fetch_faults vault.new) (V.save_faults vault.old) (V.save_faults vault.new)
+        (S.faults out.old) (S.faults out.new) }
     ensures fetch_faults { V.fetch_faults vault.old ≤ V.fetch_faults vault.new }
     ensures save_faults { V.save_faults vault.old ≤ V.save_faults vault.new }
     ensures sink_faults { S.faults out.old ≤ S.faults out.new }

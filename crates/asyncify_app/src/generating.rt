@@ -1,14 +1,14 @@
 //! The command `gen` from its number to its status.
 
-ghost use Rattle.std.specs.Prelude.{◌≡◌, ◌⊎◌, ◌≤◌, None, length, IfOk, IsErrOf, OnErr, OnOk};
+ghost use Rattle.std.specs.Prelude.{◌≡◌, ◌≢◌, ◌⊎◌, ◌≤◌, None, length, IfOk, IsErrOf, OnErr, OnOk};
 ghost use Rattle.std.specs.String.{string_bytes};
-ghost use Rattle.vault_port.specs.Counts.{HasRisen};
+ghost use Rattle.vault_port.specs.Counts.{FailsOnce, FailsAtMostOnce};
 ghost use Rattle.vault_port.specs.Files.{ChangesOnly, HoldsFrontAtMost};
 ghost use Rattle.vault_port.specs.Taken.{Appends, AppendsLess};
 ghost use Rattle.vault_port.specs.Told.{Becomes};
 ghost use Rattle.script_model.specs.Transcript.{refusal_line, write_fault};
 ghost use Rattle.wa_types.specs.Encoding.{Enc};
-ghost use Rattle.transcript.specs.Refused.{Prints, PrintsMemory};
+ghost use Rattle.transcript.specs.Refused.{CountsBy, Prints, PrintsMemory};
 ghost use Rattle.gen_module.specs.Generated.{generated};
 ghost use Rattle.asyncify_app.specs.Playing.{PlaysGenerated};
 ghost use Rattle.asyncify_app.specs.Printed.{PrintsGenerated, PrintsLess, RunsOutOfMemory, three_lines};
@@ -45,8 +45,8 @@ pub fn run_generated<V: Vault, S: Sink>(
     ensures status { (result ≡ 0) ⊎ (result ≡ 9) ⊎ (result ≡ 11) ⊎ (result ≡ 12) }
 
     // The causes.
-    ensures write_fault { result ≡ 11 → HasRisen (V.save_faults vault.old) (V.save_faults vault.new) }
-    ensures sink_fault { result ≡ 12 → HasRisen (S.faults out.old) (S.faults out.new) }
+    ensures write_fault { result ≡ 11 → FailsOnce (V.save_faults vault.old) (V.save_faults vault.new) }
+    ensures sink_fault { result ≡ 12 → FailsOnce (S.faults out.old) (S.faults out.new) }
 
     // The files.
     ensures done { (result ≡ 0) ⊎ (result ≡ 12) → Becomes (V.files vault.old) (V.files vault.new) (ChangesOnly output.now (Enc (generated number))) }
@@ -55,10 +55,12 @@ pub fn run_generated<V: Vault, S: Sink>(
     // What is printed.
     ensures prints_done { result ≡ 0 → Becomes (S.taken out.old) (S.taken out.new) (PrintsGenerated number) }
     ensures prints_less { result ≡ 12 → Becomes (S.taken out.old) (S.taken out.new) (PrintsLess number) }
-    ensures prints_memory { result ≡ 9 → Becomes (S.taken out.old) (S.taken out.new) (RunsOutOfMemory number output.now) }
+    ensures prints_memory { result ≡ 9 → Becomes (S.taken out.old) (S.taken out.new) (RunsOutOfMemory number output.now (S.faults out.old) (S.faults out.new)) }
     ensures prints_write { result ≡ 11 → Becomes (S.taken out.old) (S.taken out.new) (Prints (refusal_line None (write_fault output.now)) (S.faults out.old) (S.faults out.new)) }
 
-    // No count falls.
+    // What has failed. No count falls.
+    ensures counts { CountsBy result (V.fetch_faults vault.old) (V.fetch_faults vault.new) (V.save_faults vault.old) (V.save_faults vault.new)
+        (S.faults out.old) (S.faults out.new) }
     ensures fetch_faults { V.fetch_faults vault.new ≡ V.fetch_faults vault.old }
     ensures save_faults { V.save_faults vault.old ≤ V.save_faults vault.new }
     ensures sink_faults { S.faults out.old ≤ S.faults out.new }
@@ -81,7 +83,8 @@ fn write_and_play<V: Vault>(
     requires most { number ≤ 4000 }
     ensures bytes { IfOk result (λ d. d.bytes ≡ length (Enc (generated number))) }
     ensures played { IfOk result (λ d. PlaysGenerated number d.used d.value) }
-    ensures write { IsErrOf result GenFault.Write → HasRisen (V.save_faults vault.old) (V.save_faults vault.new) }
+    ensures write { IsErrOf result GenFault.Write → FailsOnce (V.save_faults vault.old) (V.save_faults vault.new) }
+    ensures stays { result ≢ Err GenFault.Write → V.save_faults vault.new ≡ V.save_faults vault.old }
     ensures done { OnOk result (Becomes (V.files vault.old) (V.files vault.new) (ChangesOnly output.now (Enc (generated number)))) }
     ensures cut { OnErr result (Becomes (V.files vault.old) (V.files vault.new) (HoldsFrontAtMost output.now (Enc (generated number)))) }
     ensures fetch_faults { V.fetch_faults vault.new ≡ V.fetch_faults vault.old }
@@ -101,9 +104,11 @@ fn write_and_play<V: Vault>(
 fn report<S: Sink>(alloc: Global, out: &mut S, number: u32, done: Done) -> u8
     ensures status { (result ≡ 0) ⊎ (result ≡ 9) ⊎ (result ≡ 12) }
     ensures printed { result ≡ 0 → Becomes (S.taken out.old) (S.taken out.new) (Appends (three_lines number done.bytes done.used done.value)) }
-    ensures fault { result ≡ 12 → HasRisen (S.faults out.old) (S.faults out.new) }
+    ensures fault { result ≡ 12 → FailsOnce (S.faults out.old) (S.faults out.new) }
+    ensures once { FailsAtMostOnce (S.faults out.old) (S.faults out.new) }
+    ensures stays { result ≡ 0 → S.faults out.new ≡ S.faults out.old }
     ensures less { result ≡ 12 → Becomes (S.taken out.old) (S.taken out.new) (AppendsLess (three_lines number done.bytes done.used done.value)) }
-    ensures memory { result ≡ 9 → Becomes (S.taken out.old) (S.taken out.new) (PrintsMemory (three_lines number done.bytes done.used done.value)) }
+    ensures memory { result ≡ 9 → Becomes (S.taken out.old) (S.taken out.new) (PrintsMemory (three_lines number done.bytes done.used done.value) (S.faults out.old) (S.faults out.new)) }
     ensures faults { S.faults out.old ≤ S.faults out.new }
 {
     let Ok(lines) = three_lines(alloc, number, done.bytes, done.used, done.value) else {

@@ -1,7 +1,7 @@
 //! A generated module, written into a file.
 
-ghost use Rattle.std.specs.Prelude.{◌≡◌, ◌≤◌, length, IfOk, IsErrOf, OnErr, OnOk};
-ghost use Rattle.vault_port.specs.Counts.{HasRisen};
+ghost use Rattle.std.specs.Prelude.{◌≡◌, ◌≢◌, ◌≤◌, length, IfOk, IsErrOf, OnErr, OnOk};
+ghost use Rattle.vault_port.specs.Counts.{FailsOnce};
 ghost use Rattle.vault_port.specs.Files.{ChangesOnly, HoldsFrontAtMost};
 ghost use Rattle.vault_port.specs.Told.{Becomes};
 ghost use Rattle.wa_types.specs.Encoding.{Enc};
@@ -45,7 +45,8 @@ pub(crate) fn write_module<V: Vault>(
     requires locals { FewLocals (module_of «module».now) }
     requires short { length (Enc (module_of «module».now)) ≤ 67108864 }
     ensures bytes { IfOk result (λ bytes. bytes ≡ length (Enc (module_of «module».now))) }
-    ensures write { IsErrOf result GenFault.Write → HasRisen (V.save_faults vault.old) (V.save_faults vault.new) }
+    ensures write { IsErrOf result GenFault.Write → FailsOnce (V.save_faults vault.old) (V.save_faults vault.new) }
+    ensures stays { result ≢ Err GenFault.Write → V.save_faults vault.new ≡ V.save_faults vault.old }
     ensures done { OnOk result (Becomes (V.files vault.old) (V.files vault.new) (ChangesOnly output.now (Enc (module_of «module».now)))) }
     ensures cut { OnErr result (Becomes (V.files vault.old) (V.files vault.new) (HoldsFrontAtMost output.now (Enc (module_of «module».now)))) }
     ensures fetch_faults { V.fetch_faults vault.new ≡ V.fetch_faults vault.old }

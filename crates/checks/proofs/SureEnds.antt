@@ -1,7 +1,7 @@
 -- Where no count of faults can rise, no end tells of a fault.
 use Rattle.std.proofs.Common.{◌≡◌, ◌≢◌, ◌∙◌, ℕ, List, Option, Some, None, arith, refl, subst, sym, ◌⊎◌, inl, inr}
-use Rattle.vault_port.specs.Counts.{HasRisen}
-use Rattle.vault_port.specs.Files.{Files, IsMissing}
+use Rattle.vault_port.specs.Counts.{FailsOnce}
+use Rattle.vault_port.specs.Files.{Files, CannotRead}
 use Rattle.script_model.specs.Command.{transform}
 use Rattle.script_model.specs.Spelled.{Spelled, rewrites, hosts, runs, generates}
 use Rattle.script_model.specs.Transcript.{Refusal, usage, malformed, float, invalid, limit, nesting, reserved, script, out_of_memory, read_fault, write_fault}
@@ -18,9 +18,8 @@ use Rattle.transform_command.specs.Sources as S
 use Rattle.asyncify_app.specs.Ends.{Call, EndsBy, HasOneEnd, script_call, transform_call}
 use Rattle.checks.specs.SureCommands.{ReadsAbsent}
 
-pub none_rose : HasRisen 0 0 → ⊥
-none_rose (inl lt) = omega (arith, lt)
-none_rose (inr e) = omega (arith, e)
+pub none_failed : FailsOnce 0 0 → ⊥
+none_failed e = omega (arith, e)
 
 -- ---- a refusal isn't a fault of reading
 
@@ -55,12 +54,12 @@ source_not_ten (S.long_output found) e = absurd (omega (arith, e))
 -- ---- by the end
 
 -- a fault of reading, where no fetch fails, is a file that isn't there
-absent_only : (n n' : ℕ) (files : Files) (name : List ℕ) → n ≡ 0 → n' ≡ 0 → HasRisen n n' ⊎ IsMissing (Some files) name → files name ≡ None
-absent_only n n' files name e e' (inl rose) = absurd (none_rose (subst (λ k. HasRisen 0 k) e' (subst (λ k. HasRisen k n') e rose)))
-absent_only n n' files name e e' (inr missing) = missing
+absent_only : (n n' : ℕ) (files : Files) (name : List ℕ) → n ≡ 0 → n' ≡ 0 → CannotRead (Some files) name n n' → files name ≡ None
+absent_only n n' files name e e' (inl failed) = absurd (none_failed (subst (λ k. FailsOnce 0 k) e' (subst (λ k. FailsOnce k n') e failed)))
+absent_only n n' files name e e' (inr missing) = missing.0
 
 transform_absent : (c : T.Call) (files : Files) → c.files ≡ Some files → c.fetch_faults ≡ 0 → c.fetch_faults' ≡ 0 → (which : T.End) → 10 ≡ T.status_of_end which → T.IsWhy c which → files c.input ≡ None
-transform_absent c files is e e' T.read_fault s why = absent_only c.fetch_faults c.fetch_faults' files c.input e e' (subst (λ o. HasRisen c.fetch_faults c.fetch_faults' ⊎ IsMissing o c.input) is why)
+transform_absent c files is e e' T.read_fault s why = absent_only c.fetch_faults c.fetch_faults' files c.input e e' (subst (λ o. CannotRead o c.input c.fetch_faults c.fetch_faults') is why)
 transform_absent c files is e e' (T.refused cause) s why = absurd (source_not_ten cause (sym s))
 transform_absent c files is e e' T.done s why = absurd (omega (arith, s))
 transform_absent c files is e e' T.memory s why = absurd (omega (arith, s))
@@ -70,7 +69,7 @@ transform_absent c files is e e' T.sink_fault s why = absurd (omega (arith, s))
 script_absent : (c : P.Call) (files : Files) → c.files ≡ Some files → c.fetch_faults ≡ 0 → c.fetch_faults' ≡ 0 → (which : P.End) → 10 ≡ P.status_of_end which → P.IsWhy c which
     → (name : List ℕ) × IsRead c.way c.files c.name name × (files name ≡ None)
 script_absent c files is e e' (P.read_fault_of name) s why =
-    (name, why.0, absent_only c.fetch_faults c.fetch_faults' files name e e' (subst (λ o. HasRisen c.fetch_faults c.fetch_faults' ⊎ IsMissing o name) is why.1))
+    (name, why.0, absent_only c.fetch_faults c.fetch_faults' files name e e' (subst (λ o. CannotRead o name c.fetch_faults c.fetch_faults') is why.1))
 script_absent c files is e e' (P.refused cause) s why = absurd (refused_not_ten c.way c.files c.name cause why.0 (sym s))
 script_absent c files is e e' P.done s why = absurd (omega (arith, s))
 script_absent c files is e e' P.memory s why = absurd (omega (arith, s))

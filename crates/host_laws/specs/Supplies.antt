@@ -1,5 +1,5 @@
 -- What answers the new calls of a program, and what a told event takes of it.
-use Rattle.std.specs.Prelude.{◌≡◌, ◌≤◌, ℕ, List, [], ◌∷◌, Option, Some, None, slice_get}
+use Rattle.std.specs.Prelude.{◌≡◌, ◌⊎◌, ◌≤◌, ℕ, List, [], ◌∷◌, Option, Some, None, slice_get}
 use Rattle.std.specs.Option.{unwrap_or}
 use Rattle.wa_model.specs.declared.events.End.TheVariants.{DeviceFault}
 use Rattle.wa_model.specs.Outside.{Call, AnswerLine}
@@ -25,6 +25,10 @@ pub data Counts (import : ℕ) (bound : Option (List ℕ)) (ds : List Device) (o
   none_failed : (o ≡ refused (DeviceFault import) → ⊥) → new ≡ old → Counts import bound ds o old new
   one_failed : (name : List ℕ) (place : ℕ) → bound ≡ Some name → IsFirstOf ds name place → o ≡ refused (DeviceFault import)
       → ChangesAt (λ before after. before ≤ after) place old new → ChangesAt HasRisen place old new → Counts import bound ds o old new
+
+-- Where memory was wanting: no count has fallen, and one has risen at most, as a device may count that too.
+abbrev pub RisesAtMostOne : (old new : List ℕ) → Type 0
+RisesAtMostOne old new = (new ≡ old) ⊎ ((place : ℕ) × ChangesAt (λ before after. before ≤ after) place old new)
 
 -- the device to which an import is bound, where it is
 abbrev pub bound_to : Program → (import : ℕ) → Option (List ℕ)

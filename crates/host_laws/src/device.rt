@@ -4,7 +4,7 @@ ghost use Rattle.std.specs.Prelude.{◌≡◌, [], ◌∷◌, IfOk, IsErr, Some}
 ghost use Rattle.wa_model.specs.World.{MeetsDevice};
 ghost use Rattle.device_port.specs.Journals.{replied};
 ghost use Rattle.device_port.specs.Listed.{of_all};
-ghost use Rattle.host_laws.specs.Supplies.{Counts, IsLent};
+ghost use Rattle.host_laws.specs.Supplies.{Counts, IsLent, RisesAtMostOne};
 ghost use Rattle.host_laws.specs.Answering.{outcome_of};
 
 use crate::lines::Met;
@@ -25,6 +25,7 @@ pub fn device_outcome(
 ) -> Result<Met, AllocError>
     requires { IsLent }
     ensures kept { IsErr result → of_all seen devices.new ≡ of_all seen devices.old }
+    ensures once { IsErr result → RisesAtMostOne (of_all faults devices.old) (of_all faults devices.new) }
     ensures same_list { devices.new.list.ghost_name ≡ devices.old.list.ghost_name }
     ensures meets { IfOk result (λ met. MeetsDevice import base.now name.now args.now (of_all seen devices.old) (outcome_of met) (of_all seen devices.new)) }
     ensures counts { IfOk result (λ met. Counts import (Some name.now) (of_all seen devices.old) (outcome_of met) (of_all faults devices.old) (of_all faults devices.new)) }

@@ -1,5 +1,5 @@
 -- Devices with their counts, at a line.
-use Rattle.std.proofs.Common.{arith, ◌≡◌, ◌+◌, inl, inr, ℕ, suc, List, [], ◌∷◌, ◌++◌, length, map, Option, Some, None, Bool, true, false, if◌then◌else◌, nat_eq, slice_get, refl, sym, ap, ◌∙◌, subst, append-nil}
+use Rattle.std.proofs.Common.{arith, ◌≡◌, ◌⊎◌, ◌+◌, inl, inr, ℕ, suc, List, [], ◌∷◌, ◌++◌, length, map, Option, Some, None, Bool, true, false, if◌then◌else◌, nat_eq, slice_get, refl, sym, ap, ◌∙◌, subst, append-nil}
 use Rattle.std.proofs.lemmas.Bool.Decides.{nat_tests}
 use Rattle.std.proofs.lemmas.Option.{same_Some, slice_get_within}
 use Rattle.wa_model.specs.declared.answers.Detach.{Detach}
@@ -7,11 +7,12 @@ use Rattle.wa_model.specs.declared.events.Line.{Line as LineValue}
 use Rattle.wa_model.specs.Outside.{AnswerLine, Event, Line, shown}
 use Rattle.wa_model.specs.Plan.{Outcome}
 use Rattle.wa_model.specs.Blocking.{Note}
-use Rattle.wa_model.specs.World.{Device, Program, detached, line_at}
+use Rattle.wa_model.specs.World.{Device, Program, line_at}
 use Rattle.device_port.specs.declared.devices.Devices.{Devices}
 use Rattle.device_port.specs.Listed.{of_all}
 use Rattle.event_order.specs.Left.{Counted, left_before}
 use Rattle.event_order.specs.declared.turns.Turn.{Turn}
+use Rattle.host_laws.specs.Supplies.{RisesAtMostOne}
 use Rattle.many_host.proofs.Places.{item}
 use Rattle.many_host.specs.declared.turn_taking.Stage.{Stage}
 use Rattle.many_host.specs.declared.turn_taking.Stage.TheVariants.{Between, Showing}
@@ -75,10 +76,22 @@ pub line_from : {X : Type 0} {follows : X → Program → List Note → List Out
 line_from is t = record { stands = t.stands; met = t.met; meets = t.meets; takes = taken_of _ _ _ _ _ _ is t.takes }
 
 -- where the next event began
-pub left_when_begun : (b n : ℕ) (own detaches : List Detach) (ds es fs : List Device) → n ≡ b + 1 → own ≡ detaches → es ≡ detached n own ds → fs ≡ es → AreLeft b detaches ds fs
-left_when_begun b n own detaches ds es fs next is out kept =
+pub left_when_begun : (b n : ℕ) (own detaches : List Detach) (cs es : List Counted) → n ≡ b + 1 → own ≡ detaches → es ≡ left_before n own cs → es ≡ left_before (suc b) detaches cs
+left_when_begun b n own detaches cs es next is out =
     let number : n ≡ suc b = omega (arith, next) in
-    inr (kept ∙ out ∙ (λ k. detached (number k) (is k) ds))
+    out ∙ (λ k. left_before (number k) (is k) cs)
+
+-- where no line came
+pub are_left : {X : Type 0} {F : X → Type 0} (f : (x : X) × F x → Device) (g : (x : X) × F x → ℕ) (b : ℕ) (detaches : List Detach) (cs : List Counted) (mid new : Devices X F)
+    → (of_all (λ z. record { device = f z; faults = g z }) mid ≡ cs) ⊎ (of_all (λ z. record { device = f z; faults = g z }) mid ≡ left_before (suc b) detaches cs)
+    → of_all f new ≡ of_all f mid → RisesAtMostOne (of_all g mid) (of_all g new) → AreLeft b detaches cs (of_all (λ z. record { device = f z; faults = g z }) new)
+are_left f g b detaches cs mid new there same once = record {
+  there = of_all (λ z. record { device = f z; faults = g z }) mid;
+  there_is = there;
+  devices = counted_devices f g new ∙ same ∙ sym (counted_devices f g mid);
+  counts = subst (λ (ns : List ℕ). RisesAtMostOne ns (faults_of (of_all (λ z. record { device = f z; faults = g z }) new))) (sym (counted_faults f g mid))
+      (subst (λ (ns : List ℕ). RisesAtMostOne (of_all g mid) ns) (sym (counted_faults f g new)) once);
+}
 
 -- ---- what calls have met
 

@@ -5,9 +5,9 @@ use Rattle.wa_model.specs.declared.events.Line.{Line as LineValue}
 use Rattle.wa_model.specs.Outside.{AnswerLine, Event, Line, shown}
 use Rattle.wa_model.specs.Plan.{Outcome}
 use Rattle.wa_model.specs.View.{line_of}
-use Rattle.wa_model.specs.World.{Device, Program, call_in, detached}
+use Rattle.wa_model.specs.World.{Device, Program, call_in}
 use Rattle.event_order.specs.Left.{Counted, left_before}
-use Rattle.host_laws.specs.Supplies.{Takes}
+use Rattle.host_laws.specs.Supplies.{RisesAtMostOne, Takes}
 use Rattle.many_host.specs.declared.turn_taking.Stage.{Stage}
 use Rattle.many_host.specs.declared.turn_taking.Stage.TheVariants.{Between, Telling, Showing}
 use Rattle.many_host.specs.Telling.{supply}
@@ -33,9 +33,13 @@ pub record TakesCall (programs : List Program) (line : Line) (met : List Outcome
 abbrev pub left_at : (begun begun' : ℕ) → List Detach → List Counted → List Counted
 left_at begun begun' detaches cs = if nat_eq begun begun' then cs else left_before begun' detaches cs
 
--- Where no line came the devices are as they were, or as they are when the next event begins.
-abbrev pub AreLeft : (begun : ℕ) → List Detach → (ds ds' : List Device) → Type 0
-AreLeft begun detaches ds ds' = (ds' ≡ ds) ⊎ (ds' ≡ detached (suc begun) detaches ds)
+-- Where no line came: the devices are as they were, or as they are when the next event begins. Of the counts of those that are there none has
+-- fallen, and one has risen at most.
+pub record AreLeft (begun : ℕ) (detaches : List Detach) (old new : List Counted) : Type 0 where
+  pub there : List Counted
+  pub there_is : (there ≡ old) ⊎ (there ≡ left_before (suc begun) detaches old)
+  pub devices : devices_of new ≡ devices_of there
+  pub counts : RisesAtMostOne (faults_of there) (faults_of new)
 
 -- ---- how many turns have begun
 

@@ -60,7 +60,8 @@ impl<'m> Host<'m> {
             (of_all (λ d. record { device = seen d; faults = faults d }) devices.new) self.new (of_all seen devices.new)) }
         ensures left { (programs : List WorldProgram) (detaches : List Detach) (ds : List Device) (lines : List WorldLine)
             → HostTold programs detaches ds lines self.old (of_all seen devices.old)
-            → IsErr result → AreLeft self.old.turns.begun detaches (of_all seen devices.old) (of_all seen devices.new) }
+            → IsErr result → AreLeft self.old.turns.begun detaches (of_all (λ d. record { device = seen d; faults = faults d }) devices.old)
+            (of_all (λ d. record { device = seen d; faults = faults d }) devices.new) }
         ensures none { IfOk result (λ line. MatchOption line (HaveEnded self.old.turns.dues.items × LooksOut self.old.turns.shows.items self.old.turns.stage)
             (λ l. HaveEnded self.old.turns.dues.items → LooksOut self.old.turns.shows.items self.old.turns.stage → ⊥)) }
         ensures begun { IfOk result (λ line. BegunNext self.old.turns.stage self.old.turns.begun self.new.turns.begun line) }

@@ -8,7 +8,7 @@ ghost use Rattle.wa_model.specs.Blocking.{Note};
 ghost use Rattle.wa_model.specs.View.{event_of};
 ghost use Rattle.wa_model.specs.World.{Program, bytes_shown};
 ghost use Rattle.device_port.specs.Listed.{of_all};
-ghost use Rattle.host_laws.specs.Supplies.{IsLent};
+ghost use Rattle.host_laws.specs.Supplies.{IsLent, RisesAtMostOne};
 ghost use Rattle.many_host.specs.Telling.{TellsNote, supply};
 
 use device_port::Devices;
@@ -31,6 +31,7 @@ pub trait Teller {
         requires lent { IsLent }
         requires goes { (w : Program) × (notes : List Note) × (os : List Outcome) × (answers : List AnswerLine) × follows self.old w notes os answers }
         ensures kept { IsErr result → of_all seen devices.new ≡ of_all seen devices.old }
+        ensures once { IsErr result → RisesAtMostOne (of_all faults devices.old) (of_all faults devices.new) }
         ensures same_list { devices.new.list.ghost_name ≡ devices.old.list.ghost_name }
         ensures told { (w : Program) (notes : List Note) (os : List Outcome) (answers : List AnswerLine) → follows self.old w notes os answers → has_ended self.old ≡ false
             → IfOk result (λ event. TellsNote (follows self.new w) (has_ended self.new) (memory self.new) w notes os

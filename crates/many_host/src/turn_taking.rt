@@ -5,7 +5,7 @@ ghost use Rattle.wa_model.specs.Outside.{Line as WorldLine};
 ghost use Rattle.wa_model.specs.View.{line_of};
 ghost use Rattle.wa_model.specs.World.{Device, Program};
 ghost use Rattle.device_port.specs.Listed.{of_all};
-ghost use Rattle.host_laws.specs.Supplies.{IsLent};
+ghost use Rattle.host_laws.specs.Supplies.{IsLent, RisesAtMostOne};
 ghost use Rattle.event_order.specs.Dues.{HaveEnded};
 ghost use Rattle.many_host.specs.Calls.{BegunNext, left_at, AreLeft};
 ghost use Rattle.many_host.specs.Standing.{AllStart, InRange, IsDueBy, IsTelling, LooksOut, Standing, TellsNext, held_of, most_ticks, TellsLine};
@@ -88,7 +88,8 @@ impl<T: Teller + Drop> Turns<T> {
         ensures begun { IfOk result (λ line. BegunNext self.old.stage self.old.begun self.new.begun line) }
         ensures left { (programs : List Program) (detaches : List Detach) (ds : List Device) (lines : List WorldLine)
             → Standing T.follows T.has_ended T.memory programs detaches ds lines (held_of self.old) (of_all seen devices.old) self.old.stage
-            → IsErr result → AreLeft self.old.begun detaches (of_all seen devices.old) (of_all seen devices.new) }
+            → IsErr result → AreLeft self.old.begun detaches (of_all (λ d. record { device = seen d; faults = faults d }) devices.old)
+            (of_all (λ d. record { device = seen d; faults = faults d }) devices.new) }
     {
         match self.stage {
             Stage::Between => self.begin(devices),
@@ -114,7 +115,8 @@ impl<T: Teller + Drop> Turns<T> {
         ensures begun { IfOk result (λ line. BegunNext Stage.Between self.old.begun self.new.begun line) }
         ensures left { (programs : List Program) (detaches : List Detach) (ds : List Device) (lines : List WorldLine)
             → Standing T.follows T.has_ended T.memory programs detaches ds lines (held_of self.old) (of_all seen devices.old) Stage.Between
-            → IsErr result → AreLeft self.old.begun detaches (of_all seen devices.old) (of_all seen devices.new) }
+            → IsErr result → AreLeft self.old.begun detaches (of_all (λ d. record { device = seen d; faults = faults d }) devices.old)
+            (of_all (λ d. record { device = seen d; faults = faults d }) devices.new) }
     {
         let Some(turn) = next_turn(&self.dues) else {
             return Ok(None);
@@ -144,6 +146,7 @@ impl<T: Teller + Drop> Turns<T> {
         ensures kept { (programs : List Program) (detaches : List Detach) (ds : List Device) (lines : List WorldLine)
             → Standing T.follows T.has_ended T.memory programs detaches ds lines (held_of self.old) (of_all seen devices.old) (Stage.Telling turn)
             → IsErr result → of_all seen devices.new ≡ of_all seen devices.old }
+        ensures once { IsErr result → RisesAtMostOne (of_all faults devices.old) (of_all faults devices.new) }
         ensures begun { self.new.begun ≡ self.old.begun }
     {
         let event = self.programs[turn.program].advance(devices)?;
@@ -181,7 +184,8 @@ impl<T: Teller + Drop> Turns<T> {
         ensures begun { IfOk result (λ line. BegunNext (Stage.Showing turn from) self.old.begun self.new.begun line) }
         ensures left { (programs : List Program) (detaches : List Detach) (ds : List Device) (lines : List WorldLine)
             → Standing T.follows T.has_ended T.memory programs detaches ds lines (held_of self.old) (of_all seen devices.old) (Stage.Showing turn from)
-            → IsErr result → AreLeft self.old.begun detaches (of_all seen devices.old) (of_all seen devices.new) }
+            → IsErr result → AreLeft self.old.begun detaches (of_all (λ d. record { device = seen d; faults = faults d }) devices.old)
+            (of_all (λ d. record { device = seen d; faults = faults d }) devices.new) }
     {
         let program = turn.program as u32;
         let Some(place) = next_show(&self.shows, from, program) else {

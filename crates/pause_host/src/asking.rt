@@ -6,7 +6,7 @@ ghost use Rattle.wa_model.specs.View.{call_of};
 ghost use Rattle.wa_model.specs.World.{Program};
 ghost use Rattle.device_port.specs.Listed.{of_all};
 ghost use Rattle.host_laws.specs.Answering.{outcome_of};
-ghost use Rattle.host_laws.specs.Supplies.{Answers};
+ghost use Rattle.host_laws.specs.Supplies.{Answers, RisesAtMostOne};
 ghost use Rattle.pause_host.specs.Moves.{IsSetting};
 ghost use Rattle.pause_host.specs.Views.{supply_in};
 
@@ -30,6 +30,7 @@ pub(crate) fn next_outcome(
     ensures answers { (w : Program) → IsSetting w setting.now → slice_get setting.now.imports.items call.now.import ≡ Some import.now
         → IfOk result (λ met. Answers w (call_of call.now) (supply_in seen faults answers.old.items devices.old) (outcome_of met) (supply_in seen faults answers.new.items devices.new)) }
     ensures kept { IsErr result → of_all seen devices.new ≡ of_all seen devices.old }
+    ensures once { IsErr result → RisesAtMostOne (of_all faults devices.old) (of_all faults devices.new) }
     ensures same_list { devices.new.list.ghost_name ≡ devices.old.list.ghost_name }
 {
     let (alloc, number) = (setting.alloc, call.import);

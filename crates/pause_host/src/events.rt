@@ -5,6 +5,7 @@ ghost use Rattle.wa_model.specs.Protocol.{exports_of};
 ghost use Rattle.wa_model.specs.World.{Program};
 ghost use Rattle.interp.specs.Host.{code_in, store_in, waits_in};
 ghost use Rattle.device_port.specs.Listed.{of_all};
+ghost use Rattle.host_laws.specs.Supplies.{RisesAtMostOne};
 ghost use Rattle.pause_host.specs.Hosting.{HostsAt};
 ghost use Rattle.pause_host.specs.Moves.{ComesFrom, HasShortPokes, IsSetting, PlaceFits};
 ghost use Rattle.pause_host.specs.Views.{end_of, left_of, lines_in, place_in, supply_in};
@@ -41,6 +42,7 @@ pub fn next_event(
     ensures sum { steps.new.left + steps.new.used ≡ steps.old.left + steps.old.used }
     ensures grows { steps.old.used ≤ steps.new.used }
     ensures kept { IsErr result → of_all seen devices.new ≡ of_all seen devices.old }
+    ensures once { IsErr result → RisesAtMostOne (of_all faults devices.old) (of_all faults devices.new) }
     ensures same_list { devices.new.list.ghost_name ≡ devices.old.list.ghost_name }
 {
     match stage {

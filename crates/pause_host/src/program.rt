@@ -63,7 +63,7 @@ impl<'m> Program<'m> {
     ghost use Rattle.host_setup.specs.SetUp.{set_up};
     ghost use Rattle.host_setup.specs.Views.{Blames};
     ghost use Rattle.pause_host.specs.FromPlans.{IsOfPlan};
-    ghost use Rattle.host_laws.specs.Supplies.{IsLent};
+    ghost use Rattle.host_laws.specs.Supplies.{IsLent, RisesAtMostOne};
     ghost use Rattle.pause_host.specs.Views.{end_of, left_of};
     ghost use Rattle.snapshot_store.specs.Views.{parts_of};
     ghost use Rattle.pause_host.specs.Parting.{memory_if, parts_in};
@@ -119,6 +119,7 @@ impl<'m> Program<'m> {
             → IfOk result (λ event. Advances w notes os event (supply_of seen faults self.old devices.old) (supply_of seen faults self.new devices.new) self.new) }
         ensures again { (how : End) → ended_as self.old ≡ Some how → IfOk result (λ event. (event_of event ≡ ended how) × (self.new ≡ self.old) × (devices.new ≡ devices.old)) }
         ensures kept { IsErr result → of_all seen devices.new ≡ of_all seen devices.old }
+        ensures once { IsErr result → RisesAtMostOne (of_all faults devices.old) (of_all faults devices.new) }
         ensures same_list { devices.new.list.ghost_name ≡ devices.old.list.ghost_name }
     {
         match mem::replace(&mut self.state, State::Lost) {
@@ -145,6 +146,7 @@ impl<'m> Program<'m> {
         ensures next { (w : WorldProgram) (notes : List Note) (os : List Outcome) → FollowsAt w notes os self.old (place_of self.old State.Fresh)
             → IfOk result (λ event. Advances w notes os event (supply_of seen faults self.old devices.old) (supply_of seen faults self.new devices.new) self.new) }
         ensures kept { IsErr result → of_all seen devices.new ≡ of_all seen devices.old }
+        ensures once { IsErr result → RisesAtMostOne (of_all faults devices.old) (of_all faults devices.new) }
         ensures same_list { devices.new.list.ghost_name ≡ devices.old.list.ghost_name }
     {
         match Instance::make(self.setting.alloc, self.valid, &self.globals) {
@@ -165,6 +167,7 @@ impl<'m> Program<'m> {
             → opening (module_of self.old.valid.now) self.old.globals.items ≡ opens (store_in instance.entry) → FollowsAt w notes os self.old (place_of self.old State.Fresh)
             → IfOk result (λ event. Advances w notes os event (supply_of seen faults self.old devices.old) (supply_of seen faults self.new devices.new) self.new) }
         ensures kept { IsErr result → of_all seen devices.new ≡ of_all seen devices.old }
+        ensures once { IsErr result → RisesAtMostOne (of_all faults devices.old) (of_all faults devices.new) }
         ensures same_list { devices.new.list.ghost_name ≡ devices.old.list.ghost_name }
     {
         match self.valid.module().start {
@@ -213,6 +216,7 @@ impl<'m> Program<'m> {
         ensures again { (how : End) → end_of stage ≡ Some how → IfOk result (λ event. (event_of event ≡ ended how)
             × (self.new ≡ record self.old { state = (State.Live instance.entry stage) }) × (devices.new ≡ devices.old)) }
         ensures kept { IsErr result → of_all seen devices.new ≡ of_all seen devices.old }
+        ensures once { IsErr result → RisesAtMostOne (of_all faults devices.old) (of_all faults devices.new) }
         ensures same_list { devices.new.list.ghost_name ≡ devices.old.list.ghost_name }
     {
         match stage {
@@ -243,6 +247,7 @@ impl<'m> Program<'m> {
             → RunsCode w.source (State.Live instance.entry stage) → end_of stage ≡ None
             → IfOk result (λ event. Advances w notes os event (supply_of seen faults self.old devices.old) (supply_of seen faults self.new devices.new) self.new) }
         ensures kept { IsErr result → of_all seen devices.new ≡ of_all seen devices.old }
+        ensures once { IsErr result → RisesAtMostOne (of_all faults devices.old) (of_all faults devices.new) }
         ensures same_list { devices.new.list.ghost_name ≡ devices.old.list.ghost_name }
     {
         let mut steps = unused(self.steps_left);
@@ -273,6 +278,7 @@ impl<'m> Program<'m> {
             → FollowsAt w notes os self.old (stands [] (starting func (store_in instance.entry) (left_of self.old.left)))
             → IfOk result (λ event. Advances w notes os event (supply_of seen faults self.old devices.old) (supply_of seen faults self.new devices.new) self.new) }
         ensures kept { IsErr result → of_all seen devices.new ≡ of_all seen devices.old }
+        ensures once { IsErr result → RisesAtMostOne (of_all faults devices.old) (of_all faults devices.new) }
         ensures same_list { devices.new.list.ghost_name ≡ devices.old.list.ghost_name }
     {
         let mut steps = unused(self.steps_left);

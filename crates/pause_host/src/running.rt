@@ -14,7 +14,7 @@ ghost use Rattle.interp.specs.Instance.{Calls};
 ghost use Rattle.device_port.specs.Listed.{of_all};
 ghost use Rattle.host_laws.specs.Answering.{IsShort, listed_of};
 ghost use Rattle.host_laws.specs.Places.{stands};
-ghost use Rattle.host_laws.specs.Supplies.{Supply};
+ghost use Rattle.host_laws.specs.Supplies.{RisesAtMostOne, Supply};
 ghost use Rattle.pause_host.specs.Holding.{HoldsArea, PokesInside};
 ghost use Rattle.pause_host.specs.Hosting.{AsksOnly, CallsOne, HasMemory, HostsAt, StartRan, StopsFirst};
 ghost use Rattle.pause_host.specs.Moves.{Asks, Comes, ComesFrom, HasShortPokes, IsAsking, IsSetting, IsTask, PlaceFits, TaskTurn};
@@ -52,6 +52,7 @@ pub fn start(
     ensures sum { steps.new.left + steps.new.used ≡ steps.old.left + steps.old.used }
     ensures grows { steps.old.used ≤ steps.new.used }
     ensures kept { IsErr result → of_all seen devices.new ≡ of_all seen devices.old }
+    ensures once { IsErr result → RisesAtMostOne (of_all faults devices.old) (of_all faults devices.new) }
     ensures same_list { devices.new.list.ghost_name ≡ devices.old.list.ghost_name }
 {
     let turn = instance.begin(func, &[], steps)?;
@@ -78,6 +79,7 @@ fn start_asked(
         → IfOk result (λ m. Comes w (starting func s l) left_then used m (supply_in seen faults answers.old.items devices.old) (supply_in seen faults answers.new.items devices.new) l
         (store_in instance.now) (waits_in instance.now)) }
     ensures kept { IsErr result → of_all seen devices.new ≡ of_all seen devices.old }
+    ensures once { IsErr result → RisesAtMostOne (of_all faults devices.old) (of_all faults devices.new) }
     ensures same_list { devices.new.list.ghost_name ≡ devices.old.list.ghost_name }
 {
     match turn {
@@ -117,6 +119,7 @@ fn start_ran(
     ensures sum { steps.new.left + steps.new.used ≡ steps.old.left + steps.old.used }
     ensures grows { steps.old.used ≤ steps.new.used }
     ensures kept { IsErr result → of_all seen devices.new ≡ of_all seen devices.old }
+    ensures once { IsErr result → RisesAtMostOne (of_all faults devices.old) (of_all faults devices.new) }
     ensures same_list { devices.new.list.ghost_name ≡ devices.old.list.ghost_name }
 {
     match turn {
@@ -144,6 +147,7 @@ pub(crate) fn call_next(
     ensures sum { steps.new.left + steps.new.used ≡ steps.old.left + steps.old.used }
     ensures grows { steps.old.used ≤ steps.new.used }
     ensures kept { IsErr result → of_all seen devices.new ≡ of_all seen devices.old }
+    ensures once { IsErr result → RisesAtMostOne (of_all faults devices.old) (of_all faults devices.new) }
     ensures same_list { devices.new.list.ghost_name ≡ devices.old.list.ghost_name }
 {
     match left.entries.pop_front() {
@@ -174,6 +178,7 @@ fn entry_ran(
         → IfOk result (λ m. Comes w h left_then used m (supply_in seen faults answers.old.items devices.old) (supply_in seen faults answers.new.items devices.new) (left_of left.new)
         (store_in instance.now) (waits_in instance.now)) }
     ensures kept { IsErr result → of_all seen devices.new ≡ of_all seen devices.old }
+    ensures once { IsErr result → RisesAtMostOne (of_all faults devices.old) (of_all faults devices.new) }
     ensures same_list { devices.new.list.ghost_name ≡ devices.old.list.ghost_name }
 {
     match turn {
@@ -220,6 +225,7 @@ fn stopped(
         → IfOk result (λ m. Comes w h left_then used m (supply_in seen faults answers.old.items devices.old) (supply_in seen faults answers.new.items devices.new) l (store_in instance.now)
         (waits_in instance.now)) }
     ensures kept { IsErr result → of_all seen devices.new ≡ of_all seen devices.old }
+    ensures once { IsErr result → RisesAtMostOne (of_all faults devices.old) (of_all faults devices.new) }
     ensures same_list { devices.new.list.ghost_name ≡ devices.old.list.ghost_name }
 {
     match turn {
@@ -248,6 +254,7 @@ fn called(
         (λ m. Comes w h left_then used m (supply_in seen faults answers.old.items devices.old) (supply_in seen faults answers.new.items devices.new) l (store_in instance.now)
         (waits_in instance.now)) }
     ensures kept { IsErr result → of_all seen devices.new ≡ of_all seen devices.old }
+    ensures once { IsErr result → RisesAtMostOne (of_all faults devices.old) (of_all faults devices.new) }
     ensures same_list { devices.new.list.ghost_name ≡ devices.old.list.ghost_name }
 {
     let import = &setting.imports[call.import as usize];
@@ -373,6 +380,7 @@ pub(crate) fn give(
     ensures sum { steps.new.left + steps.new.used ≡ steps.old.left + steps.old.used }
     ensures grows { steps.old.used ≤ steps.new.used }
     ensures kept { IsErr result → of_all seen devices.new ≡ of_all seen devices.old }
+    ensures once { IsErr result → RisesAtMostOne (of_all faults devices.old) (of_all faults devices.new) }
     ensures same_list { devices.new.list.ghost_name ≡ devices.old.list.ghost_name }
 {
     let turn = instance.resume(value, steps)?;

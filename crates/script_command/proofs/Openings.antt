@@ -5,8 +5,8 @@ use Rattle.std.specs.List.{AllZip}
 use Rattle.std.specs.Result.{IfErr}
 use Rattle.std.proofs.lemmas.List.{length-map, length-append, map-append}
 use Rattle.std.proofs.lemmas.List.Elements.{All-nil, All-cons, All-append, All-head, All-tail}
-use Rattle.vault_port.specs.Counts.{HasRisen}
-use Rattle.vault_port.specs.Files.{Files, IsMissing}
+use Rattle.vault_port.specs.Counts.{FailsAtMostOnce}
+use Rattle.vault_port.specs.Files.{Files, CannotRead}
 use Rattle.wa_types.specs.View.{module_of}
 use Rattle.wa_types.specs.declared.syntax.Module.{Module as ModuleValue}
 use Rattle.script_model.specs.Script.{ProgramText, ScriptFault, breaks}
@@ -28,7 +28,7 @@ use Rattle.script_command.specs.declared.programs.Programs.{Programs}
 use Rattle.script_command.specs.declared.opening.OpenFault.{OpenFault}
 use Rattle.script_command.specs.declared.opening.OpenFault.TheVariants.{Memory, Read, Script as a_script, Module as a_module, Rule as a_rule}
 use Rattle.script_command.specs.Playing.{IsBadModule, IsModule, IsReached, IsStage, BreaksRule, asks_all}
-use Rattle.script_command.specs.Views.{AreOpened, BlamesLine, BlamesNext, CanStage, IsUnread, OpensNext, part_of, parts_of}
+use Rattle.script_command.specs.Views.{AreOpened, BlamesLine, BlamesNext, CanStage, CountsFor, IsUnread, OpensNext, part_of, parts_of}
 
 -- ---- lists in step
 
@@ -133,14 +133,35 @@ module _ (way : Way) (files : Option Files) where
 
 -- ---- one program more
 
-pub risen_since : (a b c : ℕ) → a ≤ b → HasRisen b c → HasRisen a c
-risen_since a b c le h = elim h [ inl lt ↦ inl (omega (arith, le, lt)) | inr most ↦ inr most ]
+-- no fetch has failed
+pub none_fails : (f f' : ℕ) (fault : OpenFault) → f' ≡ f → CountsFor f f' fault
+none_fails f f' Memory same = inl same
+none_fails f f' (Read read) same = inl same
+none_fails f f' (a_script kind) same = same
+none_fails f f' (a_module n kind) same = same
+none_fails f f' (a_rule line rule) same = same
+
+pub stays_any : {T E P : Type 0} (r : Result T E) → P → OnOk r P
+stays_any (Ok x) p = p
+stays_any (Err e) p = tt
+
+pub counts_none : {T : Type 0} (f f' : ℕ) (r : Result T OpenFault) → f' ≡ f → IfErr r (CountsFor f f')
+counts_none f f' (Ok x) same = tt
+counts_none f f' (Err fault) same = none_fails f f' fault same
+
+-- one has, where a file couldn't be read
+pub unread_once : (f f' : ℕ) (name : List ℕ) (fault : OpenFault) → IsUnread name fault → FailsAtMostOnce f f' → CountsFor f f' fault
+unread_once f f' name Memory is once = once
+unread_once f f' name (Read read) is once = once
+unread_once f f' name (a_script kind) is once = absurd is
+unread_once f f' name (a_module n kind) is once = absurd is
+unread_once f f' name (a_rule line rule) is once = absurd is
 
 -- a file that couldn't be read
-pub unread_module : (way : Way) (files : Option Files) (f f' number : ℕ) (t : ProgramText) (fault : OpenFault) → IsUnread t.path fault → HasRisen f f' ⊎ IsMissing files t.path
+pub unread_module : (way : Way) (files : Option Files) (f f' number : ℕ) (t : ProgramText) (fault : OpenFault) → IsUnread t.path fault → CannotRead files t.path f f'
     → BlamesNext way files f f' number t fault
 unread_module way files f f' number t Memory is why = tt
-unread_module way files f f' number t (Read read) is why = (is, subst (λ (n : List ℕ). HasRisen f f' ⊎ IsMissing files n) (sym is) why)
+unread_module way files f f' number t (Read read) is why = (is, subst (λ (n : List ℕ). CannotRead files n f f') (sym is) why)
 unread_module way files f f' number t (a_script kind) is why = absurd is
 unread_module way files f f' number t (a_module n kind) is why = absurd is
 unread_module way files f f' number t (a_rule line rule) is why = absurd is
@@ -155,14 +176,14 @@ line_blamed way files f f' number t told (a_script kind) b why = absurd b
 line_blamed way files f f' number t told (a_module n kind) b why = absurd b
 
 -- what is blamed of the next program is, over the files and the counts at first
-pub next_blamed : (way : Way) (files mid : Option Files) (f g h number : ℕ) (t : ProgramText) (fault : OpenFault) → mid ≡ files → f ≤ g
+pub next_blamed : (way : Way) (files mid : Option Files) (f g h number : ℕ) (t : ProgramText) (fault : OpenFault) → mid ≡ files → g ≡ f
     → BlamesNext way mid g h number t fault → BlamesNext way files f h number t fault
-next_blamed way files mid f g h number t Memory same le b = tt
-next_blamed way files mid f g h number t (Read read) same le b =
-    (b.0, elim b.1 [ inl risen ↦ inl (risen_since f g h le risen) | inr missing ↦ inr (subst (λ (all : Option Files). IsMissing all read) same missing) ])
-next_blamed way files mid f g h number t (a_script kind) same le b = absurd b
-next_blamed way files mid f g h number t (a_module n kind) same le b = (b.0, subst (λ (all : Option Files). IsBadModule way all t (refusal_of kind)) same b.1)
-next_blamed way files mid f g h number t (a_rule line rule) same le b = subst (λ (all : Option Files). BreaksRule way all t line rule) same b
+next_blamed way files mid f g h number t Memory same still b = tt
+next_blamed way files mid f g h number t (Read read) same still b =
+    (b.0, subst (λ (k : ℕ). CannotRead files read k h) still (subst (λ (all : Option Files). CannotRead all read g h) same b.1))
+next_blamed way files mid f g h number t (a_script kind) same still b = absurd b
+next_blamed way files mid f g h number t (a_module n kind) same still b = (b.0, subst (λ (all : Option Files). IsBadModule way all t (refusal_of kind)) same b.1)
+next_blamed way files mid f g h number t (a_rule line rule) same still b = subst (λ (all : Option Files). BreaksRule way all t line rule) same b
 
 -- ---- set-up rules
 

@@ -2,8 +2,7 @@
 use Rattle.std.proofs.Common.{◌≡◌, ◌⊎◌, ◌≤◌, inl, inr, ℕ, List, [], ◌∷◌, length, map, Option, refl, sym, ap, ◌∙◌, subst, arith}
 use Rattle.std.specs.Prelude.{All}
 use Rattle.std.proofs.lemmas.List.{length-map}
-use Rattle.vault_port.specs.Counts.{HasRisen}
-use Rattle.vault_port.specs.Files.{Files, IsMissing}
+use Rattle.vault_port.specs.Files.{Files, CannotRead}
 use Rattle.wa_model.specs.declared.answers.Detach.{Detach}
 use Rattle.script_model.specs.Script.{ProgramText, Script}
 use Rattle.script_setup.specs.Scripts.{IsScript}
@@ -67,9 +66,9 @@ module _ (files : Option Files) (name : List ℕ) (whole : ScriptValue) (read : 
 -- ---- why it isn't
 
 module _ (way : Way) (files : Option Files) (name : List ℕ) (f h : ℕ) where
-  pub unread_script : (fault : OpenFault) → IsUnread name fault → HasRisen f h ⊎ IsMissing files name → Blames way files f h name fault
+  pub unread_script : (fault : OpenFault) → IsUnread name fault → CannotRead files name f h → Blames way files f h name fault
   unread_script Memory is why = tt
-  unread_script (Read read) is why = (inl is, subst (λ (n : List ℕ). HasRisen f h ⊎ IsMissing files n) (sym is) why)
+  unread_script (Read read) is why = (inl is, subst (λ (n : List ℕ). CannotRead files n f h) (sym is) why)
   unread_script (a_script kind) is why = absurd is
   unread_script (a_module n kind) is why = absurd is
   unread_script (a_rule line rule) is why = absurd is
@@ -84,11 +83,11 @@ module _ (way : Way) (files : Option Files) (name : List ℕ) (f h : ℕ) where
   blamed whole (a_module n kind) has b = (b.1, reaches whole has n b.1 (subst (λ (k : ℕ). IsReached way files whole.programs k b.1) (sym b.3.0) b.2), b.3.1)
   blamed whole (a_rule line rule) has b = (b.0, b.1, reaches whole has b.0 b.1 b.2, b.3)
 
-  pub script_blamed : (mid : Option Files) (g : ℕ) (whole : Script) (fault : OpenFault) → mid ≡ files → f ≤ g → HasScript files name whole
+  pub script_blamed : (mid : Option Files) (g : ℕ) (whole : Script) (fault : OpenFault) → mid ≡ files → g ≡ f → HasScript files name whole
       → BlamesPrograms way mid g h whole.programs fault → Blames way files f h name fault
-  script_blamed mid g whole fault same le has b =
+  script_blamed mid g whole fault same still has b =
       let here : BlamesPrograms way files g h whole.programs fault = subst (λ (all : Option Files). BlamesPrograms way all g h whole.programs fault) same b in
       blamed whole fault has (here.0, here.1, here.2, since fault here.0 here.1 here.3)
     where
       since : (fault : OpenFault) (number : ℕ) (t : ProgramText) → BlamesNext way files g h number t fault → BlamesNext way files f h number t fault
-      since fault number t b = next_blamed way files files f g h number t fault refl le b
+      since fault number t b = next_blamed way files files f g h number t fault refl still b

@@ -1,8 +1,8 @@
 -- What is answered, as plain data.
 use Rattle.std.specs.Prelude.{◌≡◌, ◌⊎◌, ◌≤◌, ◌++◌, ℕ, List, [], ◌∷◌, length, Option, Some, Bool, Result, Err}
 use Rattle.std.specs.List.{AllZip}
-use Rattle.vault_port.specs.Counts.{HasRisen}
-use Rattle.vault_port.specs.Files.{Files, IsMissing}
+use Rattle.vault_port.specs.Counts.{FailsAtMostOnce}
+use Rattle.vault_port.specs.Files.{Files, CannotRead}
 use Rattle.wa_types.specs.View.{module_of}
 use Rattle.wa_types.specs.declared.syntax.Module.{Module as ModuleValue}
 use Rattle.script_model.specs.Script.{ProgramText, ScriptFault, breaks}
@@ -102,7 +102,7 @@ BlamesLine told _ = ⊥
 -- why a program of this number and text isn't set up
 abbrev pub BlamesNext : Way → Option Files → (faults faults' number : ℕ) → ProgramText → OpenFault → Type 0
 BlamesNext way files faults faults' number t Memory = Unit {0}
-BlamesNext way files faults faults' number t (Read name) = (name ≡ t.path) × (HasRisen faults faults' ⊎ IsMissing files name)
+BlamesNext way files faults faults' number t (Read name) = (name ≡ t.path) × CannotRead files name faults faults'
 BlamesNext way files faults faults' number t (Module n kind) = (n ≡ number) × IsBadModule way files t (refusal_of kind)
 BlamesNext way files faults faults' number t (Rule line rule) = BreaksRule way files t line rule
 BlamesNext way files faults faults' number t (Script kind) = ⊥
@@ -114,10 +114,16 @@ BlamesPrograms way files faults faults' texts fault = (number : ℕ) × (t : Pro
 -- why a script isn't opened
 abbrev pub Blames : Way → Option Files → (faults faults' : ℕ) → (name : List ℕ) → OpenFault → Type 0
 Blames way files faults faults' name Memory = Unit {0}
-Blames way files faults faults' name (Read read) = IsRead way files name read × (HasRisen faults faults' ⊎ IsMissing files read)
+Blames way files faults faults' name (Read read) = IsRead way files name read × CannotRead files read faults faults'
 Blames way files faults faults' name (Script kind) = IsRefused way files name (bad_script (refusal_of kind))
 Blames way files faults faults' name (Module number kind) = IsRefused way files name (bad_module number (refusal_of kind))
 Blames way files faults faults' name (Rule line rule) = IsRefused way files name (bad_line line rule)
+
+-- what has failed of the fetches: one at most where a file couldn't be read, also where memory was wanting behind that, and else none
+abbrev pub CountsFor : (faults faults' : ℕ) → OpenFault → Type 0
+CountsFor faults faults' Memory = FailsAtMostOnce faults faults'
+CountsFor faults faults' (Read name) = FailsAtMostOnce faults faults'
+CountsFor faults faults' _ = faults' ≡ faults
 
 -- a file of this name couldn't be read
 abbrev pub IsUnread : (name : List ℕ) → OpenFault → Type 0

@@ -1,12 +1,11 @@
 //! The module of a program: a prepared one as it is, or an original that is rewritten.
 
-ghost use Rattle.std.specs.Prelude.{◌≡◌, ◌⊎◌, ◌≤◌, List, IfOk, IsErrOf, IsSome, None, Ok, Some};
+ghost use Rattle.std.specs.Prelude.{◌≡◌, ◌≢◌, ◌⊎◌, ◌≤◌, List, IfOk, IsErrOf, IsSome, None, Ok, Some};
 ghost use Rattle.std.specs.Option.{option_map};
 ghost use Rattle.std.specs.Result.{IfErr};
 ghost use Rattle.call_graph.specs.Lists.{Blames};
 ghost use Rattle.call_graph.specs.Settings.{choice_of, policy_of, settings_of};
-ghost use Rattle.vault_port.specs.Counts.{HasRisen};
-ghost use Rattle.vault_port.specs.Files.{IsMissing};
+ghost use Rattle.vault_port.specs.Files.{CannotRead};
 ghost use Rattle.wa_types.specs.Pausing.{Choice as PlainChoice, Entry as PlainEntry, list_of};
 ghost use Rattle.wa_types.specs.View.{module_of};
 ghost use Rattle.script_model.specs.Command.{choice_said, listed_choice};
@@ -43,8 +42,8 @@ pub(crate) fn fetch_module<V: Vault>(
     ensures loaded { IfOk result (λ l. Loads way (V.files vault.old) (program_of text.now) l) }
     ensures refused { IfErr result (λ fault. IsBadModuleFor way (V.files vault.old) (program_of text.now) fault) }
     ensures read { IsErrOf result FileFault.Read
-        → HasRisen (V.fetch_faults vault.old) (V.fetch_faults vault.new)
-        ⊎ IsMissing (V.files vault.old) text.now.path }
+        → CannotRead (V.files vault.old) text.now.path (V.fetch_faults vault.old) (V.fetch_faults vault.new) }
+    ensures stays { result ≢ Err FileFault.Read → V.fetch_faults vault.new ≡ V.fetch_faults vault.old }
     ensures kept { V.files vault.new ≡ V.files vault.old }
     ensures faults { V.fetch_faults vault.old ≤ V.fetch_faults vault.new }
     ensures saves { V.save_faults vault.new ≡ V.save_faults vault.old }
@@ -63,8 +62,8 @@ fn fetch_as_it_is<V: Vault>(
     ensures loaded { IfOk result (λ l. Loads Host (V.files vault.old) (program_of text.now) l) }
     ensures refused { IfErr result (λ fault. IsBadModuleFor Host (V.files vault.old) (program_of text.now) fault) }
     ensures read { IsErrOf result FileFault.Read
-        → HasRisen (V.fetch_faults vault.old) (V.fetch_faults vault.new)
-        ⊎ IsMissing (V.files vault.old) text.now.path }
+        → CannotRead (V.files vault.old) text.now.path (V.fetch_faults vault.old) (V.fetch_faults vault.new) }
+    ensures stays { result ≢ Err FileFault.Read → V.fetch_faults vault.new ≡ V.fetch_faults vault.old }
     ensures kept { V.files vault.new ≡ V.files vault.old }
     ensures faults { V.fetch_faults vault.old ≤ V.fetch_faults vault.new }
     ensures saves { V.save_faults vault.new ≡ V.save_faults vault.old }
@@ -87,8 +86,8 @@ fn fetch_rewritten<V: Vault>(
     ensures loaded { IfOk result (λ l. Loads Run (V.files vault.old) (program_of text.now) l) }
     ensures refused { IfErr result (λ fault. IsBadModuleFor Run (V.files vault.old) (program_of text.now) fault) }
     ensures read { IsErrOf result FileFault.Read
-        → HasRisen (V.fetch_faults vault.old) (V.fetch_faults vault.new)
-        ⊎ IsMissing (V.files vault.old) text.now.path }
+        → CannotRead (V.files vault.old) text.now.path (V.fetch_faults vault.old) (V.fetch_faults vault.new) }
+    ensures stays { result ≢ Err FileFault.Read → V.fetch_faults vault.new ≡ V.fetch_faults vault.old }
     ensures kept { V.files vault.new ≡ V.files vault.old }
     ensures faults { V.fetch_faults vault.old ≤ V.fetch_faults vault.new }
     ensures saves { V.save_faults vault.new ≡ V.save_faults vault.old }

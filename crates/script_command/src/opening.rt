@@ -1,8 +1,8 @@
 //! A script, opened with all its programs, or why it is not played.
 
-ghost use Rattle.std.specs.Prelude.{◌≡◌, ◌≤◌, IfOk};
+ghost use Rattle.std.specs.Prelude.{◌≡◌, ◌≤◌, IfOk, OnOk};
 ghost use Rattle.std.specs.Result.{IfErr};
-ghost use Rattle.script_command.specs.Views.{Blames, CanPlay, Opens};
+ghost use Rattle.script_command.specs.Views.{Blames, CanPlay, CountsFor, Opens};
 
 use crate::programs::{Programs, open_programs, unread};
 use crate::way::Way;
@@ -64,6 +64,8 @@ pub fn open_script<V: Vault>(
     ensures plays { IfOk result CanPlay }
     ensures refused { IfErr result (λ fault. Blames way (V.files vault.old) (V.fetch_faults vault.old) (V.fetch_faults vault.new) script.now fault) }
     ensures kept { V.files vault.new ≡ V.files vault.old }
+    ensures stays { OnOk result (V.fetch_faults vault.new ≡ V.fetch_faults vault.old) }
+    ensures counts { IfErr result (CountsFor (V.fetch_faults vault.old) (V.fetch_faults vault.new)) }
     ensures faults { V.fetch_faults vault.old ≤ V.fetch_faults vault.new }
     ensures saves { V.save_faults vault.new ≡ V.save_faults vault.old }
 {

@@ -1,11 +1,13 @@
 //! A script, played: from its file to the status.
 
 ghost use Rattle.std.specs.Prelude.{◌≡◌, ◌≤◌, ℕ, List, Option, length};
+ghost use Rattle.vault_port.specs.Counts.{FailsAtMostOnce};
 ghost use Rattle.vault_port.specs.Files.{Files};
+ghost use Rattle.transcript.specs.Refused.{CountsBy};
 ghost use Rattle.event_order.specs.Left.{Counted};
 ghost use Rattle.host_laws.specs.Supplies.{IsLent};
 ghost use Rattle.script_command.specs.Playing.{Play, detaches_in};
-ghost use Rattle.script_command.specs.Views.{Blames, CanPlay, Opens};
+ghost use Rattle.script_command.specs.Views.{Blames, CanPlay, CountsFor, Opens};
 ghost use Rattle.script_command.specs.declared.way.Way.{Way as WayValue};
 ghost use Rattle.world_hosting.specs.Counts.{counted};
 ghost use Rattle.world_hosting.specs.Views.{AreStaged};
@@ -48,6 +50,8 @@ pub fn play_script<V: Vault, S: Sink>(
     ensures status { IsStatus way result }
     ensures same_list { devices.new.list.ghost_name ≡ devices.old.list.ghost_name }
     ensures kept { V.files vault.new ≡ V.files vault.old }
+    ensures counts { CountsBy result (V.fetch_faults vault.old) (V.fetch_faults vault.new) (V.save_faults vault.old) (V.save_faults vault.new)
+        (S.faults out.old) (S.faults out.new) }
     ensures fetch_faults { V.fetch_faults vault.old ≤ V.fetch_faults vault.new }
     ensures save_faults { V.save_faults vault.new ≡ V.save_faults vault.old }
     ensures sink_faults { S.faults out.old ≤ S.faults out.new }
@@ -67,6 +71,8 @@ fn play<S: Sink>(alloc: Global, out: &mut S, devices: &mut Devices<'_>, opened: 
         (counted seen (λ d. (⟦<dyn Device as Device>⟧ d.0).faults d.1) devices.old)
         (counted seen (λ d. (⟦<dyn Device as Device>⟧ d.0).faults d.1) devices.new)) result }
     ensures same_list { devices.new.list.ghost_name ≡ devices.old.list.ghost_name }
+    ensures once { FailsAtMostOnce (S.faults out.old) (S.faults out.new) }
+    ensures stays { result ≡ 0 → S.faults out.new ≡ S.faults out.old }
     ensures faults { S.faults out.old ≤ S.faults out.new }
 {
     let Opened { programs, detaches } = opened;
@@ -94,6 +100,8 @@ fn tell<S: Sink>(
         (counted seen (λ d. (⟦<dyn Device as Device>⟧ d.0).faults d.1) devices.old)
         (counted seen (λ d. (⟦<dyn Device as Device>⟧ d.0).faults d.1) devices.new)) result }
     ensures same_list { devices.new.list.ghost_name ≡ devices.old.list.ghost_name }
+    ensures once { FailsAtMostOnce (S.faults out.old) (S.faults out.new) }
+    ensures stays { result ≡ 0 → S.faults out.new ≡ S.faults out.old }
     ensures faults { S.faults out.old ≤ S.faults out.new }
 {
     match host_programs(alloc, out, staged, detaches, devices) {
@@ -108,6 +116,8 @@ fn refuse_script<S: Sink>(alloc: Global, out: &mut S, fault: OpenFault) -> u8
     requires { IsToldFault fault }
     ensures end { (way : WayValue) (files : Option Files) (name : List ℕ) (fetched fetched' : ℕ) (ds : List Counted) → Blames way files fetched fetched' name fault
         → HasEnd (call way name files fetched fetched' (S.faults out.old) (S.faults out.new) (S.taken out.old) (S.taken out.new) ds ds) result }
+    ensures counts { (fetched fetched' saved saved' : ℕ) → saved' ≡ saved → CountsFor fetched fetched' fault
+        → CountsBy result fetched fetched' saved saved' (S.faults out.old) (S.faults out.new) }
     ensures faults { S.faults out.old ≤ S.faults out.new }
 {
     match fault {

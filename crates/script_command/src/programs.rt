@@ -9,7 +9,7 @@ ghost use Rattle.script_setup.specs.SetUpRules.{set_up_rules};
 ghost use Rattle.world_hosting.specs.Worlds.{FitsPlan, IsListing};
 ghost use Rattle.world_hosting.specs.Views.{listing};
 ghost use Rattle.script_command.specs.Playing.{HasChoice, IsModule, asks_all};
-ghost use Rattle.script_command.specs.Views.{AreOpened, BlamesLine, BlamesNext, BlamesPrograms, IsUnread, OpensNext};
+ghost use Rattle.script_command.specs.Views.{AreOpened, BlamesLine, BlamesNext, BlamesPrograms, CountsFor, IsUnread, OpensNext};
 
 use crate::modules::{Loaded, fetch_module};
 use crate::opening::OpenFault;
@@ -50,6 +50,8 @@ pub(crate) fn open_programs<V: Vault>(
     ensures opened { IfOk result (λ ps. AreOpened way (V.files vault.old) (map program_of texts.items) ps) }
     ensures refused { IfErr result (λ fault. BlamesPrograms way (V.files vault.old) (V.fetch_faults vault.old) (V.fetch_faults vault.new) (map program_of texts.items) fault) }
     ensures kept { V.files vault.new ≡ V.files vault.old }
+    ensures stays { OnOk result (V.fetch_faults vault.new ≡ V.fetch_faults vault.old) }
+    ensures counts { IfErr result (CountsFor (V.fetch_faults vault.old) (V.fetch_faults vault.new)) }
     ensures faults { V.fetch_faults vault.old ≤ V.fetch_faults vault.new }
     ensures saves { V.save_faults vault.new ≡ V.save_faults vault.old }
 {
@@ -79,6 +81,8 @@ fn open_next<V: Vault>(
     ensures opened { OnOk result (OpensNext way (V.files vault.old) (program_of text) programs.old programs.new) }
     ensures refused { IfErr result (λ fault. BlamesNext way (V.files vault.old) (V.fetch_faults vault.old) (V.fetch_faults vault.new) (length programs.old.planned.items) (program_of text) fault) }
     ensures kept { V.files vault.new ≡ V.files vault.old }
+    ensures stays { OnOk result (V.fetch_faults vault.new ≡ V.fetch_faults vault.old) }
+    ensures counts { IfErr result (CountsFor (V.fetch_faults vault.old) (V.fetch_faults vault.new)) }
     ensures faults { V.fetch_faults vault.old ≤ V.fetch_faults vault.new }
     ensures saves { V.save_faults vault.new ≡ V.save_faults vault.old }
 {

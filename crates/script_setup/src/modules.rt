@@ -1,9 +1,8 @@
 //! The prepared module in a file.
 
-ghost use Rattle.std.specs.Prelude.{◌≡◌, ◌⊎◌, ◌≤◌, ℕ, List, IfOk, IsErrOf, IsSome};
+ghost use Rattle.std.specs.Prelude.{◌≡◌, ◌≢◌, ◌⊎◌, ◌≤◌, ℕ, List, IfOk, IsErrOf, IsSome};
 ghost use Rattle.std.specs.Result.{IfErr};
-ghost use Rattle.vault_port.specs.Counts.{HasRisen};
-ghost use Rattle.vault_port.specs.Files.{IsMissing};
+ghost use Rattle.vault_port.specs.Files.{CannotRead};
 ghost use Rattle.vault_port.specs.Told.{WhereTold};
 ghost use Rattle.wa_types.specs.View.{module_of};
 ghost use Rattle.script_setup.specs.Prepared.{IsPrepared};
@@ -26,8 +25,8 @@ pub fn fetch_prepared<V: Vault>(
     ensures refused { IfErr result (λ fault. IsToldUnprepared (V.files vault.old) name.now fault) }
     ensures content { IfErr result IsContentFault }
     ensures read { IsErrOf result FileFault.Read
-        → HasRisen (V.fetch_faults vault.old) (V.fetch_faults vault.new)
-        ⊎ IsMissing (V.files vault.old) name.now }
+        → CannotRead (V.files vault.old) name.now (V.fetch_faults vault.old) (V.fetch_faults vault.new) }
+    ensures stays { result ≢ Err FileFault.Read → V.fetch_faults vault.new ≡ V.fetch_faults vault.old }
     ensures there { IsErrOf result FileFault.Read ⊎ IsErrOf result FileFault.Memory
         ⊎ WhereTold (V.files vault.old) (λ all. IsSome (all name.now)) }
     ensures kept { V.files vault.new ≡ V.files vault.old }

@@ -2,8 +2,7 @@
 
 ghost use Rattle.std.specs.Prelude.{◌≡◌, ◌≢◌, ◌⊎◌, ◌≤◌, ℕ, List, Err, IfOk, IsErrOf};
 ghost use Rattle.std.specs.Result.{IfErr};
-ghost use Rattle.vault_port.specs.Counts.{HasRisen};
-ghost use Rattle.vault_port.specs.Files.{IsMissing};
+ghost use Rattle.vault_port.specs.Files.{CannotRead};
 ghost use Rattle.wa_types.specs.ModuleBounds.{prepared_bounds};
 ghost use Rattle.wa_types.specs.Sizes.{SizeRule};
 ghost use Rattle.wa_types.specs.View.{module_of};
@@ -36,8 +35,8 @@ pub fn prepare<V: Vault>(alloc: Global, vault: &mut V, name: &str) -> Result<Val
     ensures prepared { IfOk result (λ valid. (bytes : List ℕ) × Holds (V.files vault.old) name.now bytes × IsPrepared bytes (module_of valid)) }
     ensures refused { IfErr result (λ fault. IsToldFault (V.files vault.old) name.now fault) }
     ensures read { IsErrOf result PreparedFault.Read
-        → HasRisen (V.fetch_faults vault.old) (V.fetch_faults vault.new)
-        ⊎ IsMissing (V.files vault.old) name.now }
+        → CannotRead (V.files vault.old) name.now (V.fetch_faults vault.old) (V.fetch_faults vault.new) }
+    ensures stays { result ≢ Err PreparedFault.Read → V.fetch_faults vault.new ≡ V.fetch_faults vault.old }
     ensures kept { V.files vault.new ≡ V.files vault.old }
     ensures faults { V.fetch_faults vault.old ≤ V.fetch_faults vault.new }
     ensures saves { V.save_faults vault.new ≡ V.save_faults vault.old }

@@ -2,7 +2,7 @@
 
 ghost use Rattle.std.specs.Prelude.{◌≡◌, ◌≢◌, ◌≤◌, ◌↔◌, ◌++◌, None, IfOk, OnOk, OnErr, IsErr, IsErrOf, length, take};
 ghost use Rattle.std.specs.IoError.{error_kind};
-ghost use Rattle.vault_port.specs.Counts.{HasRisen, one_more};
+ghost use Rattle.vault_port.specs.Counts.{FailsOnce, one_more};
 ghost use Rattle.vault_port.specs.Files.{bytes_of, IsFetched, ChangesOnly, ChangesAtMost};
 ghost use Rattle.vault_port.specs.Told.{WhereTold, Becomes};
 
@@ -68,15 +68,13 @@ impl<D: Disk + Drop> Vault for FileVault<D> {
         ensures absent { WhereTold (D.files (disk_of self.old)) (λ all.
             IsErrOf result VaultFail.Absent ↔ (all name.now ≡ None)) }
         ensures absent_untold { IsErrOf result VaultFail.Absent → D.files (disk_of self.old) ≡ None
-            → HasRisen (D.read_faults (disk_of self.old)) (D.read_faults (disk_of self.new)) }
+            → FailsOnce (D.read_faults (disk_of self.old)) (D.read_faults (disk_of self.new)) }
         ensures no_memory { result ≢ Err VaultFail.Memory }
 
         ensures failed { IsErrOf result VaultFail.Failed
-            → HasRisen (D.read_faults (disk_of self.old)) (D.read_faults (disk_of self.new)) }
-        ensures rises { IsErrOf result VaultFail.Failed
-            → D.read_faults (disk_of self.new) ≡ one_more (D.read_faults (disk_of self.old)) }
+            → FailsOnce (D.read_faults (disk_of self.old)) (D.read_faults (disk_of self.new)) }
         ensures rises_untold { IsErr result → D.files (disk_of self.old) ≡ None
-            → D.read_faults (disk_of self.new) ≡ one_more (D.read_faults (disk_of self.old)) }
+            → FailsOnce (D.read_faults (disk_of self.old)) (D.read_faults (disk_of self.new)) }
         ensures stays { OnOk result (D.read_faults (disk_of self.new) ≡ D.read_faults (disk_of self.old)) }
         ensures stays_absent { WhereTold (D.files (disk_of self.old)) (λ _. IsErrOf result VaultFail.Absent
             → D.read_faults (disk_of self.new) ≡ D.read_faults (disk_of self.old)) }
@@ -105,10 +103,11 @@ impl<D: Disk + Drop> Vault for FileVault<D> {
         ensures not_absent { result ≢ Err VaultFail.Absent }
 
         ensures failed { IsErrOf result VaultFail.Failed
-            → HasRisen (D.write_faults (disk_of self.old)) (D.write_faults (disk_of self.new)) }
+            → FailsOnce (D.write_faults (disk_of self.old)) (D.write_faults (disk_of self.new)) }
         ensures rises { OnErr result
-            (D.write_faults (disk_of self.new) ≡ one_more (D.write_faults (disk_of self.old))) }
-        ensures stays { OnOk result (D.write_faults (disk_of self.new) ≡ D.write_faults (disk_of self.old)) }
+            (FailsOnce (D.write_faults (disk_of self.old)) (D.write_faults (disk_of self.new))) }
+        ensures stays { result ≢ Err VaultFail.Failed
+            → D.write_faults (disk_of self.new) ≡ D.write_faults (disk_of self.old) }
         ensures faults { D.write_faults (disk_of self.old) ≤ D.write_faults (disk_of self.new) }
         ensures fetches { D.read_faults (disk_of self.new) ≡ D.read_faults (disk_of self.old) }
     {

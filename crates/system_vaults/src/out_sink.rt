@@ -1,7 +1,7 @@
 //! `OutSink`: printed bytes, over an output.
 
 ghost use Rattle.std.specs.Prelude.{◌≡◌, ◌≢◌, ◌≤◌, IfOk, OnOk, OnErr, IsErrOf, length, take};
-ghost use Rattle.vault_port.specs.Counts.{HasRisen, one_more};
+ghost use Rattle.vault_port.specs.Counts.{FailsOnce, one_more};
 ghost use Rattle.vault_port.specs.Told.{Becomes};
 ghost use Rattle.vault_port.specs.Taken.{Appends};
 
@@ -62,9 +62,9 @@ impl<O: Out + Drop> Sink for OutSink<O> {
         ensures no_memory { result ≢ Err SinkFail.Memory }
 
         ensures failed { IsErrOf result SinkFail.Failed
-            → HasRisen (O.faults (out_of self.old)) (O.faults (out_of self.new)) }
-        ensures rises { OnErr result (O.faults (out_of self.new) ≡ one_more (O.faults (out_of self.old))) }
-        ensures stays { OnOk result (O.faults (out_of self.new) ≡ O.faults (out_of self.old)) }
+            → FailsOnce (O.faults (out_of self.old)) (O.faults (out_of self.new)) }
+        ensures rises { OnErr result (FailsOnce (O.faults (out_of self.old)) (O.faults (out_of self.new))) }
+        ensures stays { result ≢ Err SinkFail.Failed → O.faults (out_of self.new) ≡ O.faults (out_of self.old) }
         ensures rising { O.faults (out_of self.old) ≤ O.faults (out_of self.new) }
     {
         match write_some(&mut self.out, piece) {

@@ -1,3 +1,4 @@
+pub mod Counts
 pub mod Joined
 pub mod LineTexts
 pub mod Printed

@@ -7,8 +7,7 @@ use Rattle.std.specs.Option.{option_map, unwrap_or}
 use Rattle.std.proofs.lemmas.List.{length-append}
 use Rattle.std.proofs.lemmas.Bool.{ltb-true}
 use Rattle.std.proofs.lemmas.Option.{slice_get-map, slice_get_read}
-use Rattle.vault_port.specs.Counts.{HasRisen}
-use Rattle.vault_port.specs.Taken.{Appends, AppendsLess}
+use Rattle.vault_port.specs.Taken.{Appends, AppendsLess, AppendsPast}
 use Rattle.vault_port.specs.Told.{Becomes}
 use Rattle.vault_port.proofs.Telling.{Becomes_then}
 use Rattle.transcript.specs.declared.events.Names.{Names as NamesValue}
@@ -37,15 +36,15 @@ take_past [] b n = ap (λ (k : ℕ). take k b) (let e : 0 + n ≡ n = omega arit
 take_past (x ∷ a) b n =
     ap (λ (k : ℕ). take k ((x ∷ a) ++ b)) (let e : length (x ∷ a) + n ≡ suc (length a + n) = omega arith in e) ∙ ap (λ (t : List _). x ∷ t) (take_past a b n)
 
-appends_less : (a b : List ℕ) (x y z : List ℕ) → Appends a x y → AppendsLess b y z → AppendsLess (a ++ b) x z
-appends_less a b x y z p q =
-    (length a + q.0, omega (arith, length-append a b, q.1), q.2 ∙ ap (λ t. t ++ take q.0 b) p ∙ append_assoc x a (take q.0 b) ∙ ap (λ t. x ++ t) (sym (take_past a b q.0)))
+appends_past : (a b : List ℕ) (x y z : List ℕ) → Appends a x y → AppendsLess b y z → AppendsPast (length a) (a ++ b) x z
+appends_past a b x y z p q =
+    (length a + q.0, omega arith, omega (arith, length-append a b, q.1), q.2 ∙ ap (λ t. t ++ take q.0 b) p ∙ append_assoc x a (take q.0 b) ∙ ap (λ t. x ++ t) (sym (take_past a b q.0)))
 
 pub then_printed : (a b : List ℕ) (o p q : Option (List ℕ)) → Becomes o p (Appends a) → Becomes p q (Appends b) → Becomes o q (Appends (a ++ b))
 then_printed a b o p q r s = Becomes_then (Appends a) (Appends b) (Appends (a ++ b)) (appends_both a b) o p q r s
 
-pub then_less : (a b : List ℕ) (o p q : Option (List ℕ)) → Becomes o p (Appends a) → Becomes p q (AppendsLess b) → Becomes o q (AppendsLess (a ++ b))
-then_less a b o p q r s = Becomes_then (Appends a) (AppendsLess b) (AppendsLess (a ++ b)) (appends_less a b) o p q r s
+pub then_less : (a b : List ℕ) (o p q : Option (List ℕ)) → Becomes o p (Appends a) → Becomes p q (AppendsLess b) → Becomes o q (AppendsPast (length a) (a ++ b))
+then_less a b o p q r s = Becomes_then (Appends a) (AppendsLess b) (AppendsPast (length a) (a ++ b)) (appends_past a b) o p q r s
 
 pub becomes_by : (P Q : List ℕ → List ℕ → Type 0) → ((x y : List ℕ) → P x y → Q x y) → (old new : Option (List ℕ)) → Becomes old new P → Becomes old new Q
 becomes_by P Q f None None h = tt
@@ -59,9 +58,6 @@ becomes_same P f (Some x) = f x
 
 pub nothing_yet : (o : Option (List ℕ)) → Becomes o o (Appends [])
 nothing_yet o = becomes_same (Appends []) (λ x. sym (append-nil x)) o
-
-pub risen_since : (old mid new : ℕ) → old ≤ mid → HasRisen mid new → HasRisen old new
-risen_since old mid new le h = elim h [ inl lt ↦ inl (omega (arith, le, lt)) | inr top ↦ inr top ]
 
 -- ---- nothing printed
 

@@ -1,8 +1,8 @@
 //! Single lines, over a sink that may fail.
 
-ghost use Rattle.std.specs.Prelude.{◌≡◌, ◌≤◌, ◌<◌, IfOk, IsErrOf, OnOk, OnErr, length, map};
+ghost use Rattle.std.specs.Prelude.{◌≡◌, ◌≢◌, ◌≤◌, ◌<◌, IfOk, IsErrOf, OnOk, OnErr, length, map};
 ghost use Rattle.std.specs.String.{string_bytes};
-ghost use Rattle.vault_port.specs.Counts.{HasRisen};
+ghost use Rattle.vault_port.specs.Counts.{FailsOnce};
 ghost use Rattle.vault_port.specs.Taken.{Appends, AppendsLess};
 ghost use Rattle.vault_port.specs.Told.{Becomes};
 ghost use Rattle.transcript.specs.Printing.{names_of};
@@ -24,7 +24,8 @@ pub fn put_line<S: Sink>(
     requires { line.now.program < length names.now }
     ensures printed { OnOk result (Becomes (S.taken out.old) (S.taken out.new) (Appends (event_line (names_at (map names_of names.now) line.now.program) (line_of line.now)))) }
     ensures less { OnErr result (Becomes (S.taken out.old) (S.taken out.new) (AppendsLess (event_line (names_at (map names_of names.now) line.now.program) (line_of line.now)))) }
-    ensures fault { IsErrOf result PutFault.Fault → HasRisen (S.faults out.old) (S.faults out.new) }
+    ensures fault { IsErrOf result PutFault.Fault → FailsOnce (S.faults out.old) (S.faults out.new) }
+    ensures stays { result ≢ Err PutFault.Fault → S.faults out.new ≡ S.faults out.old }
     ensures faults { S.faults out.old ≤ S.faults out.new }
 {
     match names.get(line.program as usize) {
@@ -42,7 +43,8 @@ fn put_own_line<S: Sink>(
 ) -> Result<(), PutFault>
     ensures printed { OnOk result (Becomes (S.taken out.old) (S.taken out.new) (Appends (event_line (names_of names.now) (line_of line.now)))) }
     ensures less { OnErr result (Becomes (S.taken out.old) (S.taken out.new) (AppendsLess (event_line (names_of names.now) (line_of line.now)))) }
-    ensures fault { IsErrOf result PutFault.Fault → HasRisen (S.faults out.old) (S.faults out.new) }
+    ensures fault { IsErrOf result PutFault.Fault → FailsOnce (S.faults out.old) (S.faults out.new) }
+    ensures stays { result ≢ Err PutFault.Fault → S.faults out.new ≡ S.faults out.old }
     ensures faults { S.faults out.old ≤ S.faults out.new }
 {
     let Ok(text) = line_text(alloc, line, names) else {
@@ -60,7 +62,8 @@ pub fn put_last<S: Sink>(
 ) -> Result<(), PutFault>
     ensures printed { OnOk result (Becomes (S.taken out.old) (S.taken out.new) (Appends (last_line programs events))) }
     ensures less { OnErr result (Becomes (S.taken out.old) (S.taken out.new) (AppendsLess (last_line programs events))) }
-    ensures fault { IsErrOf result PutFault.Fault → HasRisen (S.faults out.old) (S.faults out.new) }
+    ensures fault { IsErrOf result PutFault.Fault → FailsOnce (S.faults out.old) (S.faults out.new) }
+    ensures stays { result ≢ Err PutFault.Fault → S.faults out.new ≡ S.faults out.old }
     ensures faults { S.faults out.old ≤ S.faults out.new }
 {
     let Ok(text) = last_line(alloc, programs, events) else {

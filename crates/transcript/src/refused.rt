@@ -1,6 +1,7 @@
 //! A refusal's line, over a sink that may fail.
 
 ghost use Rattle.std.specs.Prelude.{◌≡◌, ◌≢◌, ◌⊎◌, ◌≤◌, None};
+ghost use Rattle.vault_port.specs.Counts.{FailsAtMostOnce};
 ghost use Rattle.vault_port.specs.Told.{Becomes};
 ghost use Rattle.script_model.specs.Transcript.{read_fault, refusal_line, write_fault};
 ghost use Rattle.transcript.specs.Printing.{refusal_of};
@@ -17,7 +18,8 @@ const MEMORY: u8 = 9;
 /// Prints that memory is wanting, as far as the sink takes it. Answers 9.
 pub fn out_of_memory<S: Sink>(out: &mut S) -> u8
     ensures status { result ≡ 9 }
-    ensures printed { Becomes (S.taken out.old) (S.taken out.new) EndsInMemory }
+    ensures printed { Becomes (S.taken out.old) (S.taken out.new) (EndsInMemory (S.faults out.old) (S.faults out.new)) }
+    ensures once { FailsAtMostOnce (S.faults out.old) (S.faults out.new) }
     ensures faults { S.faults out.old ≤ S.faults out.new }
 {
     let _ = put_whole(out, b"out of memory\n");
@@ -31,7 +33,8 @@ pub fn refuse<S: Sink>(alloc: Global, out: &mut S, kind: RefusalKind) -> u8
     ensures printed { result ≡ status_of (refusal_of kind) → Becomes (S.taken out.old) (S.taken out.new)
         (Prints (refusal_line None (refusal_of kind)) (S.faults out.old) (S.faults out.new)) }
     ensures memory { result ≡ 9 → Becomes (S.taken out.old) (S.taken out.new)
-        (PrintsMemory (refusal_line None (refusal_of kind))) }
+        (PrintsMemory (refusal_line None (refusal_of kind)) (S.faults out.old) (S.faults out.new)) }
+    ensures once { FailsAtMostOnce (S.faults out.old) (S.faults out.new) }
     ensures faults { S.faults out.old ≤ S.faults out.new }
 {
     refuse_program(alloc, out, None, kind)
@@ -49,7 +52,8 @@ pub fn refuse_program<S: Sink>(
     ensures printed { result ≡ status_of (refusal_of kind) → Becomes (S.taken out.old) (S.taken out.new)
         (Prints (refusal_line program (refusal_of kind)) (S.faults out.old) (S.faults out.new)) }
     ensures memory { result ≡ 9 → Becomes (S.taken out.old) (S.taken out.new)
-        (PrintsMemory (refusal_line program (refusal_of kind))) }
+        (PrintsMemory (refusal_line program (refusal_of kind)) (S.faults out.old) (S.faults out.new)) }
+    ensures once { FailsAtMostOnce (S.faults out.old) (S.faults out.new) }
     ensures faults { S.faults out.old ≤ S.faults out.new }
 {
     let status = status_of(&kind);
@@ -66,7 +70,8 @@ pub fn refuse_read<S: Sink>(alloc: Global, out: &mut S, name: &str) -> u8
     ensures printed { result ≡ 10 → Becomes (S.taken out.old) (S.taken out.new)
         (Prints (refusal_line None (read_fault name.now)) (S.faults out.old) (S.faults out.new)) }
     ensures memory { result ≡ 9 → Becomes (S.taken out.old) (S.taken out.new)
-        (PrintsMemory (refusal_line None (read_fault name.now))) }
+        (PrintsMemory (refusal_line None (read_fault name.now)) (S.faults out.old) (S.faults out.new)) }
+    ensures once { FailsAtMostOnce (S.faults out.old) (S.faults out.new) }
     ensures faults { S.faults out.old ≤ S.faults out.new }
 {
     match Name::new(alloc, name) {
@@ -81,7 +86,8 @@ pub fn refuse_write<S: Sink>(alloc: Global, out: &mut S, name: &str) -> u8
     ensures printed { result ≡ 11 → Becomes (S.taken out.old) (S.taken out.new)
         (Prints (refusal_line None (write_fault name.now)) (S.faults out.old) (S.faults out.new)) }
     ensures memory { result ≡ 9 → Becomes (S.taken out.old) (S.taken out.new)
-        (PrintsMemory (refusal_line None (write_fault name.now))) }
+        (PrintsMemory (refusal_line None (write_fault name.now)) (S.faults out.old) (S.faults out.new)) }
+    ensures once { FailsAtMostOnce (S.faults out.old) (S.faults out.new) }
     ensures faults { S.faults out.old ≤ S.faults out.new }
 {
     match Name::new(alloc, name) {
@@ -95,7 +101,8 @@ fn put_refusal<S: Sink>(out: &mut S, status: u8, line: &[u8]) -> u8
     ensures status { (result ≡ status) ⊎ (result ≡ 9) }
     ensures printed { result ≡ status → Becomes (S.taken out.old) (S.taken out.new)
         (Prints line.now (S.faults out.old) (S.faults out.new)) }
-    ensures memory { result ≡ 9 → Becomes (S.taken out.old) (S.taken out.new) (PrintsMemory line.now) }
+    ensures memory { result ≡ 9 → Becomes (S.taken out.old) (S.taken out.new) (PrintsMemory line.now (S.faults out.old) (S.faults out.new)) }
+    ensures once { FailsAtMostOnce (S.faults out.old) (S.faults out.new) }
     ensures faults { S.faults out.old ≤ S.faults out.new }
 {
     match put_whole(out, line) {

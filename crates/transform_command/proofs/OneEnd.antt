@@ -1,8 +1,8 @@
 -- A call's end, from what is known of its status.
 use Rattle.std.proofs.Common.{◌≡◌, ◌⊎◌, inl, inr, ℕ, List, Option, Some, None, refl, ◌∙◌, subst}
 use Rattle.std.specs.Prelude.{IsSome}
-use Rattle.vault_port.specs.Counts.{HasRisen}
-use Rattle.vault_port.specs.Files.{Files, bytes_of, IsMissing}
+use Rattle.vault_port.specs.Counts.{FailsOnce}
+use Rattle.vault_port.specs.Files.{Files, bytes_of, CannotRead, IsMissing}
 use Rattle.vault_port.specs.Told.{WhereTold, Becomes}
 use Rattle.script_model.specs.Command.{Manner}
 use Rattle.transform_command.specs.Sources.{Cause, malformed, float, deep, limit, reserved, invalid, rewritten_locals, long_output, IsRefusedIn, refusal_for}
@@ -15,11 +15,11 @@ use Rattle.transform_command.proofs.Verdicts.{one_status, source_passes}
 pub record Known (how : Manner) (input output : List ℕ) (c : Call) (status : ℕ) : Type 0 where
   pub statuses : (status ≡ 0) ⊎ IsRefusal status ⊎ (status ≡ 9) ⊎ (status ≡ 10) ⊎ (status ≡ 11) ⊎ (status ≡ 12)
   pub done : (status ≡ 0) ⊎ (status ≡ 12) → Becomes c.files c.files' (IsTransformed how input output)
-  pub read : status ≡ 10 → HasRisen c.fetch_faults c.fetch_faults' ⊎ IsMissing c.files input
+  pub read : status ≡ 10 → CannotRead c.files input c.fetch_faults c.fetch_faults'
   pub refused : IsRefusal status → HasCause how c.files input status
   pub held : status ≡ 11 → WhereTold c.files (λ all. HoldsSource how (bytes_of all input))
-  pub write : status ≡ 11 → HasRisen c.save_faults c.save_faults'
-  pub sink : status ≡ 12 → HasRisen c.sink_faults c.sink_faults'
+  pub write : status ≡ 11 → FailsOnce c.save_faults c.save_faults'
+  pub sink : status ≡ 12 → FailsOnce c.sink_faults c.sink_faults'
 
 -- the source that a written module has
 source_held : (how : Manner) (input output : List ℕ) (old new : Option Files) → Becomes old new (IsTransformed how input output) → WhereTold old (λ all. HoldsSource how (bytes_of all input))
@@ -116,8 +116,8 @@ accepted_of c status k h n = elim k.statuses [
       | inl nine ↦ inr (inl nine)
       | inr z ↦ elim z [
         | inl ten ↦ elim (k.read ten) [
-          | inl risen ↦ absurd (n.fetches risen)
-          | inr missing ↦ absurd (held_not_missing c.manner c.input c.files h missing)
+          | inl failed ↦ absurd (n.fetches failed)
+          | inr missing ↦ absurd (held_not_missing c.manner c.input c.files h missing.0)
         ]
         | inr w ↦ elim w [
           | inl eleven ↦ absurd (n.saves (k.write eleven))

@@ -11,12 +11,13 @@ use Rattle.vault_port.specs.Files.{Files, bytes_of}
 use Rattle.script_model.specs.Command.{Manner}
 
 -- the line on memory alone, where any line might have been begun
-pub memory_any : (how : Manner) (files files' : Option Files) (input output : List ℕ) (old new : Option (List ℕ)) → Becomes old new EndsInMemory
-    → Becomes old new (RunsOutOfMemory how files files' input output)
-memory_any how files files' input output None None h = tt
-memory_any how files files' input output (Some x) (Some y) h = (refusal_line None (read_fault input), inr (inl refl), memory_alone (refusal_line None (read_fault input)) (Some x) (Some y) h)
-memory_any how files files' input output None (Some y) h = h
-memory_any how files files' input output (Some x) None h = h
+pub memory_any : (how : Manner) (files files' : Option Files) (input output : List ℕ) (p p' : ℕ) (old new : Option (List ℕ)) → Becomes old new (EndsInMemory p p')
+    → Becomes old new (RunsOutOfMemory how files files' input output p p')
+memory_any how files files' input output p p' None None h = tt
+memory_any how files files' input output p p' (Some x) (Some y) h =
+    (refusal_line None (read_fault input), inr (inl refl), memory_alone (refusal_line None (read_fault input)) p p' (Some x) (Some y) h)
+memory_any how files files' input output p p' None (Some y) h = h
+memory_any how files files' input output p p' (Some x) None h = h
 
 never_nine : (cause : Cause) → 9 ≡ status_of (refusal_for cause) → ⊥
 never_nine (malformed at) e = absurd (omega (arith, e))

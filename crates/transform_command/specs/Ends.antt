@@ -1,7 +1,7 @@
 -- How a call of `transform` ends, and why: in one piece.
 use Rattle.std.specs.Prelude.{◌≡◌, ◌⊎◌, ℕ, List, Option, Some, None, IsSome}
-use Rattle.vault_port.specs.Counts.{HasRisen}
-use Rattle.vault_port.specs.Files.{Files, bytes_of, IsMissing}
+use Rattle.vault_port.specs.Counts.{FailsOnce}
+use Rattle.vault_port.specs.Files.{Files, bytes_of, CannotRead}
 use Rattle.vault_port.specs.Told.{WhereTold, Becomes}
 use Rattle.script_model.specs.Command.{Manner}
 use Rattle.transcript.specs.Refused.{status_of}
@@ -39,10 +39,10 @@ pub record Call : Type 0 where
 -- why a call has this end
 abbrev pub IsWhy : Call → End → Type 0
 IsWhy c memory = Unit {0}
-IsWhy c read_fault = HasRisen c.fetch_faults c.fetch_faults' ⊎ IsMissing c.files c.input
+IsWhy c read_fault = CannotRead c.files c.input c.fetch_faults c.fetch_faults'
 IsWhy c (refused cause) = WhereTold c.files (λ all. IsRefusedIn c.manner (bytes_of all c.input) cause)
-IsWhy c write_fault = HasRisen c.save_faults c.save_faults' × WhereTold c.files (λ all. HoldsSource c.manner (bytes_of all c.input))
-IsWhy c sink_fault = HasRisen c.sink_faults c.sink_faults' × Becomes c.files c.files' (IsTransformed c.manner c.input c.output)
+IsWhy c write_fault = FailsOnce c.save_faults c.save_faults' × WhereTold c.files (λ all. HoldsSource c.manner (bytes_of all c.input))
+IsWhy c sink_fault = FailsOnce c.sink_faults c.sink_faults' × Becomes c.files c.files' (IsTransformed c.manner c.input c.output)
 IsWhy c done = Becomes c.files c.files' (IsTransformed c.manner c.input c.output)
 
 -- P of what is told, and it is told
@@ -50,11 +50,11 @@ abbrev pub ToldThat : {A : Type 0} → Option A → (A → Type 0) → Type 0
 ToldThat None P = ⊥
 ToldThat (Some told) P = P told
 
--- no count of faults has risen
+-- no call has failed
 pub record NothingFails (c : Call) : Type 0 where
-  pub fetches : HasRisen c.fetch_faults c.fetch_faults' → ⊥
-  pub saves : HasRisen c.save_faults c.save_faults' → ⊥
-  pub puts : HasRisen c.sink_faults c.sink_faults' → ⊥
+  pub fetches : FailsOnce c.fetch_faults c.fetch_faults' → ⊥
+  pub saves : FailsOnce c.save_faults c.save_faults' → ⊥
+  pub puts : FailsOnce c.sink_faults c.sink_faults' → ⊥
 
 -- a module that is that of IN, rewritten, is too long; another needn't be
 abbrev pub IsLong : Cause → Type 0

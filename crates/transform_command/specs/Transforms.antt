@@ -79,8 +79,8 @@ abbrev pub PrintsLess : Manner → (files files' : Option Files) → (input outp
 PrintsLess how files files' input output old new = (line : List ℕ) × IsDoneLine how files files' input output line × AppendsLess line old new
 
 -- some first bytes of a line of the command, and then some of the line on memory, were printed
-abbrev pub RunsOutOfMemory : Manner → (files files' : Option Files) → (input output : List ℕ) → (old new : List ℕ) → Type 0
-RunsOutOfMemory how files files' input output old new = (line : List ℕ) × IsLine how files files' input output line × PrintsMemory line old new
+abbrev pub RunsOutOfMemory : Manner → (files files' : Option Files) → (input output : List ℕ) → (faults faults' : ℕ) → (old new : List ℕ) → Type 0
+RunsOutOfMemory how files files' input output faults faults' old new = (line : List ℕ) × IsLine how files files' input output line × PrintsMemory line faults faults' old new
 
 -- the line of a cause of this status was printed, for which IN is refused; or less of it where the sink has failed
 abbrev pub PrintsRefusal : Manner → Option Files → List ℕ → ℕ → ℕ → ℕ → List ℕ → List ℕ → Type 0

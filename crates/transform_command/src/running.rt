@@ -1,10 +1,9 @@
 //! A source, rewritten to be run, without being written.
 
-ghost use Rattle.std.specs.Prelude.{◌≡◌, ◌⊎◌, ◌≤◌, ℕ, List, IfOk, IsErrOf};
+ghost use Rattle.std.specs.Prelude.{◌≡◌, ◌≢◌, ◌⊎◌, ◌≤◌, ℕ, List, IfOk, IsErrOf};
 ghost use Rattle.std.specs.Result.{IfErr};
 ghost use Rattle.call_graph.specs.Settings.{settings_of};
-ghost use Rattle.vault_port.specs.Counts.{HasRisen};
-ghost use Rattle.vault_port.specs.Files.{IsMissing};
+ghost use Rattle.vault_port.specs.Files.{CannotRead};
 ghost use Rattle.wa_types.specs.View.{module_of};
 ghost use Rattle.wasm_reader.specs.Held.{Holds};
 ghost use Rattle.transform_command.specs.Manners.{plainly};
@@ -38,8 +37,8 @@ pub fn rewritten<V: Vault>(
     ensures refused { IfErr result (λ fault. IsToldFault (plainly (settings_of settings.now)) (V.files vault.old) name.now fault) }
     ensures unwritten { IfErr result IsUnwritten }
     ensures read { IsErrOf result SourceFault.Read
-        → HasRisen (V.fetch_faults vault.old) (V.fetch_faults vault.new)
-        ⊎ IsMissing (V.files vault.old) name.now }
+        → CannotRead (V.files vault.old) name.now (V.fetch_faults vault.old) (V.fetch_faults vault.new) }
+    ensures stays { result ≢ Err SourceFault.Read → V.fetch_faults vault.new ≡ V.fetch_faults vault.old }
     ensures kept { V.files vault.new ≡ V.files vault.old }
     ensures faults { V.fetch_faults vault.old ≤ V.fetch_faults vault.new }
     ensures saves { V.save_faults vault.new ≡ V.save_faults vault.old }

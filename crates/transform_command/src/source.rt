@@ -3,8 +3,7 @@
 ghost use Rattle.std.specs.Prelude.{◌≡◌, ◌≢◌, ◌⊎◌, ◌≤◌, ◌^◌, ℕ, List, length, count_by, Err, IfOk, IsErrOf, None, Some};
 ghost use Rattle.std.specs.Result.{IfErr};
 ghost use Rattle.call_graph.specs.Settings.{settings_of};
-ghost use Rattle.vault_port.specs.Counts.{HasRisen};
-ghost use Rattle.vault_port.specs.Files.{IsMissing};
+ghost use Rattle.vault_port.specs.Files.{CannotRead};
 ghost use Rattle.wa_types.specs.ModuleBounds.{source_bounds};
 ghost use Rattle.wa_types.specs.Encoding.{Enc};
 ghost use Rattle.wa_types.specs.Sizes.{SizeRule, StrictSizeRule};
@@ -72,8 +71,8 @@ pub fn rewrite<V: Vault>(
         × IsRewritten (manner_of settings.now) bytes r.functions r.instrumented r.text.items) }
     ensures refused { IfErr result (λ fault. IsToldFault (manner_of settings.now) (V.files vault.old) name.now fault) }
     ensures read { IsErrOf result SourceFault.Read
-        → HasRisen (V.fetch_faults vault.old) (V.fetch_faults vault.new)
-        ⊎ IsMissing (V.files vault.old) name.now }
+        → CannotRead (V.files vault.old) name.now (V.fetch_faults vault.old) (V.fetch_faults vault.new) }
+    ensures stays { result ≢ Err SourceFault.Read → V.fetch_faults vault.new ≡ V.fetch_faults vault.old }
     ensures kept { V.files vault.new ≡ V.files vault.old }
     ensures faults { V.fetch_faults vault.old ≤ V.fetch_faults vault.new }
     ensures saves { V.save_faults vault.new ≡ V.save_faults vault.old }
@@ -119,8 +118,8 @@ pub(crate) fn source<V: Vault>(
     ensures unwritten { IfErr result IsUnwritten }
     ensures refused { IfErr result (λ fault. (how : Manner) → IsToldFault how (V.files vault.old) name.now fault) }
     ensures read { IsErrOf result SourceFault.Read
-        → HasRisen (V.fetch_faults vault.old) (V.fetch_faults vault.new)
-        ⊎ IsMissing (V.files vault.old) name.now }
+        → CannotRead (V.files vault.old) name.now (V.fetch_faults vault.old) (V.fetch_faults vault.new) }
+    ensures stays { result ≢ Err SourceFault.Read → V.fetch_faults vault.new ≡ V.fetch_faults vault.old }
     ensures kept { V.files vault.new ≡ V.files vault.old }
     ensures faults { V.fetch_faults vault.old ≤ V.fetch_faults vault.new }
     ensures saves { V.save_faults vault.new ≡ V.save_faults vault.old }

@@ -1,8 +1,8 @@
 //! A module in one file, rewritten into another.
 
-ghost use Rattle.std.specs.Prelude.{◌≡◌, ◌⊎◌, ◌≤◌, length, IfOk, IsErrOf, OnOk, OnErr, IsSome};
-ghost use Rattle.vault_port.specs.Counts.{HasRisen};
-ghost use Rattle.vault_port.specs.Files.{bytes_of, IsMissing};
+ghost use Rattle.std.specs.Prelude.{◌≡◌, ◌≢◌, ◌⊎◌, ◌≤◌, length, IfOk, IsErrOf, OnOk, OnErr, IsSome};
+ghost use Rattle.vault_port.specs.Counts.{FailsOnce};
+ghost use Rattle.vault_port.specs.Files.{bytes_of, CannotRead};
 ghost use Rattle.vault_port.specs.Told.{WhereTold, Becomes};
 ghost use Rattle.transform_command.specs.Refusals.{IsOfSource, IsToldRefusal};
 ghost use Rattle.transform_command.specs.Manners.{manner_of};
@@ -53,15 +53,16 @@ pub fn transform<V: Vault>(
     ensures bytes { IfOk result (λ d. WhereTold (V.files vault.new) (λ all. d.bytes ≡ length (bytes_of all output.now))) }
 
     ensures read { IsErrOf result TransformFault.Read
-        → HasRisen (V.fetch_faults vault.old) (V.fetch_faults vault.new)
-        ⊎ IsMissing (V.files vault.old) input.now }
+        → CannotRead (V.files vault.old) input.now (V.fetch_faults vault.old) (V.fetch_faults vault.new) }
+    ensures fetches_stay { result ≢ Err TransformFault.Read → V.fetch_faults vault.new ≡ V.fetch_faults vault.old }
     ensures refused { IfErr result (λ fault. IsToldRefusal (manner_of settings.now) (V.files vault.old) input.now fault) }
     ensures there { IsErrOf result TransformFault.Read ⊎ IsErrOf result TransformFault.Memory
         ⊎ WhereTold (V.files vault.old) (λ all. IsSome (all input.now)) }
     ensures source { IsErrOf result TransformFault.Write → WhereTold (V.files vault.old) (λ all.
         HoldsSource (manner_of settings.now) (bytes_of all input.now)) }
     ensures write { IsErrOf result TransformFault.Write
-        → HasRisen (V.save_faults vault.old) (V.save_faults vault.new) }
+        → FailsOnce (V.save_faults vault.old) (V.save_faults vault.new) }
+    ensures saves_stay { result ≢ Err TransformFault.Write → V.save_faults vault.new ≡ V.save_faults vault.old }
     ensures kept { IsErrOf result TransformFault.Read → V.files vault.new ≡ V.files vault.old }
     ensures refused_kept { IfErr result (λ fault. IsOfSource fault → V.files vault.new ≡ V.files vault.old) }
     ensures cut { OnErr result (Becomes (V.files vault.old) (V.files vault.new)

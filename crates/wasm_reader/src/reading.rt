@@ -1,9 +1,8 @@
 //! A file, fetched piece by piece, and read as it comes.
 
-ghost use Rattle.std.specs.Prelude.{◌≡◌, ◌⊎◌, ◌+◌, ◌≤◌, ◌<◌, ◌^◌, ℕ, List, All, length, IfOk, IsErrOf, IsSome, None, OnOk};
+ghost use Rattle.std.specs.Prelude.{◌≡◌, ◌≢◌, ◌⊎◌, ◌+◌, ◌≤◌, ◌<◌, ◌^◌, ℕ, List, All, length, IfOk, IsErrOf, IsSome, None, OnOk};
 ghost use Rattle.std.specs.Result.{IfErr};
-ghost use Rattle.vault_port.specs.Counts.{HasRisen};
-ghost use Rattle.vault_port.specs.Files.{bytes_of, IsMissing};
+ghost use Rattle.vault_port.specs.Files.{bytes_of, CannotRead};
 ghost use Rattle.vault_port.specs.Told.{WhereTold};
 ghost use Rattle.wa_types.specs.ModuleBounds.{ModuleBounds};
 ghost use Rattle.wa_types.specs.Sizes.{SizeRule};
@@ -35,8 +34,8 @@ pub fn read_file<V: Vault>(
     ensures sizes { IfOk result (λ r. SizeRule (module_of r)) }
     ensures refused { IfErr result (λ fault. IsToldFault bounds (V.files vault.old) name.now fault) }
     ensures read { IsErrOf result ModuleFault.Read
-        → HasRisen (V.fetch_faults vault.old) (V.fetch_faults vault.new)
-        ⊎ IsMissing (V.files vault.old) name.now }
+        → CannotRead (V.files vault.old) name.now (V.fetch_faults vault.old) (V.fetch_faults vault.new) }
+    ensures stays { result ≢ Err ModuleFault.Read → V.fetch_faults vault.new ≡ V.fetch_faults vault.old }
     ensures kept { V.files vault.new ≡ V.files vault.old }
     ensures faults { V.fetch_faults vault.old ≤ V.fetch_faults vault.new }
     ensures saves { V.save_faults vault.new ≡ V.save_faults vault.old }
@@ -75,8 +74,8 @@ fn fetch_piece<V: Vault>(
     ensures bytes { All (λ b. b < 2 ^ 8) buffer.new }
     ensures long { length buffer.new ≡ length buffer.old }
     ensures read { IsErrOf result ModuleFault.Read
-        → HasRisen (V.fetch_faults vault.old) (V.fetch_faults vault.new)
-        ⊎ IsMissing (V.files vault.old) name.now }
+        → CannotRead (V.files vault.old) name.now (V.fetch_faults vault.old) (V.fetch_faults vault.new) }
+    ensures stays { result ≢ Err ModuleFault.Read → V.fetch_faults vault.new ≡ V.fetch_faults vault.old }
     ensures unread { IfErr result (λ fault. fault ≡ ModuleFault.Read) }
     ensures kept { V.files vault.new ≡ V.files vault.old }
     ensures faults { V.fetch_faults vault.old ≤ V.fetch_faults vault.new }
@@ -105,8 +104,8 @@ fn refuse<V: Vault>(
     requires fault { (front : List ℕ) × (length front ≡ done) × BeginsWith (V.files vault.old) name.now front × IsFeedFault most front fault }
     ensures refused { (b : ModuleBounds) → b.file ≡ most → IsToldFault b (V.files vault.old) name.now result }
     ensures read { result ≡ ModuleFault.Read
-        → HasRisen (V.fetch_faults vault.old) (V.fetch_faults vault.new)
-        ⊎ IsMissing (V.files vault.old) name.now }
+        → CannotRead (V.files vault.old) name.now (V.fetch_faults vault.old) (V.fetch_faults vault.new) }
+    ensures stays { result ≢ ModuleFault.Read → V.fetch_faults vault.new ≡ V.fetch_faults vault.old }
     ensures kept { V.files vault.new ≡ V.files vault.old }
     ensures faults { V.fetch_faults vault.old ≤ V.fetch_faults vault.new }
     ensures saves { V.save_faults vault.new ≡ V.save_faults vault.old }

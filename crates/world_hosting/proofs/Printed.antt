@@ -1,5 +1,5 @@
 -- The lines of several programs, as they are being told and printed.
-use Rattle.std.proofs.Common.{◌≡◌, ◌<◌, inl, inr, ℕ, suc, List, [], ◌∷◌, ◌++◌, length, length-append, map, Option, Some, None, Result, Ok, Err, refl, sym, ap, ◌∙◌, subst, arith, append-nil, append_assoc, add_assoc, ◌+◌}
+use Rattle.std.proofs.Common.{◌≡◌, ◌<◌, inl, inr, ◌≤◌, ℕ, suc, List, [], ◌∷◌, ◌++◌, length, length-append, map, Option, Some, None, Result, Ok, Err, refl, sym, ap, ◌∙◌, subst, arith, append-nil, append_assoc, add_assoc, ◌+◌}
 use Rattle.std.specs.Prelude.{IsErr, MatchOption, OnErr, OnOk, if◌then◌else◌, nat_eq, slice_get}
 use Rattle.std.specs.List.{AllZip}
 use Rattle.std.specs.Option.{option_map}
@@ -8,7 +8,7 @@ use Rattle.std.proofs.lemmas.List.{length-map, take_all}
 use Rattle.std.proofs.lemmas.Option.{same_Some, slice_get-map, slice_get_within}
 use Rattle.vault_port.specs.declared.whole.PutFault.{PutFault}
 use Rattle.vault_port.specs.declared.whole.PutFault.TheVariants.{Fault, Memory}
-use Rattle.vault_port.specs.Taken.{Appends, AppendsLess}
+use Rattle.vault_port.specs.Taken.{Appends, AppendsLess, AppendsPast}
 use Rattle.vault_port.specs.Told.{Becomes}
 use Rattle.wa_model.specs.declared.answers.Detach.{Detach}
 use Rattle.wa_model.specs.declared.events.Line.{Line as LineValue}
@@ -36,13 +36,13 @@ use Rattle.many_host.proofs.Worlds.{told_begins_met}
 use Rattle.transcript.specs.declared.events.Names.{Names}
 use Rattle.transcript.specs.Printing.{names_of}
 use Rattle.world_hosting.specs.Counts.{AreMet, IsBegunBy, Took, counted, met_by, turns_at}
-use Rattle.world_hosting.specs.Worlds.{AreBegun, AreTold, IsLeft, Part, PrintsPart, Tells, TellsPart, part_names, turn_count, world_program, world_programs}
+use Rattle.world_hosting.specs.Worlds.{AreBegun, AreEnded, AreTold, IsLeft, Part, PrintsPart, Tells, TellsPart, part_names, turn_count, world_program, world_programs}
 use Rattle.world_hosting.proofs.TurnCounts.{begun_next, turns_begun}
 use Rattle.transcript.proofs.LineTexts.{becomes_by, becomes_same, line_more, then_less, then_printed}
 
-part_of : (fault : PutFault) (text x y : List ℕ) → AppendsLess text x y → PrintsPart fault text x y
-part_of Fault text x y p = p
-part_of Memory text x y p = (p.0, p.2)
+part_of : (fault : PutFault) (least : ℕ) (text x y : List ℕ) → AppendsPast least text x y → PrintsPart fault least text x y
+part_of Fault least text x y p = p
+part_of Memory least text x y p = (p.0, p.1, p.3)
 
 pub if_err : {T E Q : Type 0} (P : E → Type 0) (r : Result T E) → ((e : E) → Q → P e) → OnErr r Q → IfErr r P
 if_err P (Ok x) f q = tt
@@ -146,9 +146,12 @@ none_met programs detaches ds h ds' told none i t et = by h.turns.stage told.at 
 -- ---- lines that are being told
 
 -- nothing came behind them
+none_left_out : (begun : ℕ) (detaches : List Detach) (cs : List Counted) → AreLeft begun detaches cs cs
+none_left_out begun detaches cs = record { there = cs; there_is = inl refl; devices = refl; counts = inl refl }
+
 left_there : (fault : PutFault) (begun : ℕ) (detaches : List Detach) (cs : List Counted) → IsLeft fault begun detaches cs cs
 left_there Fault begun detaches cs = refl
-left_there Memory begun detaches cs = inl refl
+left_there Memory begun detaches cs = none_left_out begun detaches cs
 
 module _ (parts : List Part) (detaches : List Detach) (cs : List Counted) where
   abbrev programs : List Program
@@ -167,6 +170,7 @@ module _ (parts : List Part) (detaches : List Detach) (cs : List Counted) where
   -- nothing was printed
   pub none_printed : BeginsWorld programs detaches ds [] → (o : Option (List ℕ)) → TellsPart Memory parts detaches cs cs o o
   none_printed b o = (
+    0,
     [],
     inl (record {
       lines = [];
@@ -178,10 +182,15 @@ module _ (parts : List Part) (detaches : List Detach) (cs : List Counted) where
       begun = 0;
       there = cs;
       took = (refl, refl);
-      left = inl refl;
+      left = none_left_out 0 detaches cs;
       text_is = refl;
+      before = [];
+      behind = [];
+      one = omega arith;
+      lines_are = refl;
+      least_is = refl;
     }),
-    becomes_same (PrintsPart Memory []) (λ x. (0, sym (append-nil x))) o,
+    becomes_same (PrintsPart Memory 0 []) (λ x. (0, omega arith, sym (append-nil x))) o,
   )
 
   -- The host has told some lines.
@@ -202,8 +211,8 @@ module _ (parts : List Part) (detaches : List Detach) (cs : List Counted) where
 
   -- the devices are those that the lines left, or that are left when the next event begins
   pub are_begun : (h : Host) (now : List Counted) (t : Told h now) (es : List Counted) (fault : PutFault) → IsLeft fault h.turns.begun detaches now es
-      → AreBegun fault parts detaches cs es (begun t.lines)
-  are_begun h now t es fault left =
+      → (before behind : List Line) → length behind ≤ 1 → t.lines ≡ before ++ behind → AreBegun fault parts detaches cs es (length (begun before)) (begun t.lines)
+  are_begun h now t es fault left before behind one parted =
       let b = told_begins_met programs detaches ds (devices_of now) t.lines h t.host in
       record {
         lines = t.lines;
@@ -217,6 +226,11 @@ module _ (parts : List Part) (detaches : List Detach) (cs : List Counted) where
         took = t.took;
         left = left;
         text_is = refl;
+        before = before;
+        behind = behind;
+        one = one;
+        lines_are = parted;
+        least_is = refl;
       }
 
   module _ (h : Host) (now : List Counted) (old mid : Option (List ℕ)) (t : Telling h now old mid) where
@@ -224,12 +238,13 @@ module _ (parts : List Part) (detaches : List Detach) (cs : List Counted) where
     lines = t.told.lines
 
     -- memory is wanting
-    pub told_so_far : (es : List Counted) → AreLeft h.turns.begun detaches (devices_of now) (devices_of es) → TellsPart Memory parts detaches cs es old mid
+    pub told_so_far : (es : List Counted) → AreLeft h.turns.begun detaches now es → TellsPart Memory parts detaches cs es old mid
     told_so_far es left = (
+      length (begun lines),
       begun lines,
-      inl (are_begun h now t.told es Memory left),
-      becomes_by (Appends (begun lines)) (PrintsPart Memory (begun lines))
-          (λ x y p. (length (begun lines), p ∙ ap (λ (s : List ℕ). x ++ s) (sym (take_all (length (begun lines)) (begun lines) (omega arith))))) old mid t.printed,
+      inl (are_begun h now t.told es Memory left lines [] (omega arith) (sym (append-nil lines))),
+      becomes_by (Appends (begun lines)) (PrintsPart Memory (length (begun lines)) (begun lines))
+          (λ x y p. (length (begun lines), omega arith, p ∙ ap (λ (s : List ℕ). x ++ s) (sym (take_all (length (begun lines)) (begun lines) (omega arith))))) old mid t.printed,
     )
 
     -- one line more, or less of it
@@ -263,10 +278,12 @@ module _ (parts : List Part) (detaches : List Detach) (cs : List Counted) where
 
       pub told_less : (fault : PutFault) (new : Option (List ℕ)) → Becomes mid new (AppendsLess (event_line (names_at own l.program) l)) → TellsPart fault parts detaches cs es old new
       told_less fault new p = (
+        length (begun lines),
         begun (lines ++ l ∷ []),
-        inl (are_begun next es one_more es fault (left_there fault next.turns.begun detaches es)),
-        becomes_by (AppendsLess (begun (lines ++ l ∷ []))) (PrintsPart fault (begun (lines ++ l ∷ []))) (part_of fault (begun (lines ++ l ∷ []))) old new
-            (subst (λ (s : List ℕ). Becomes old new (AppendsLess s)) same_text (then_less (begun lines) (event_line (names_at own l.program) l) old mid new t.printed p)),
+        inl (are_begun next es one_more es fault (left_there fault next.turns.begun detaches es) lines (l ∷ []) (omega arith) refl),
+        becomes_by (AppendsPast (length (begun lines)) (begun (lines ++ l ∷ []))) (PrintsPart fault (length (begun lines)) (begun (lines ++ l ∷ [])))
+            (part_of fault (length (begun lines)) (begun (lines ++ l ∷ []))) old new
+            (subst (λ (s : List ℕ). Becomes old new (AppendsPast (length (begun lines)) s)) same_text (then_less (begun lines) (event_line (names_at own l.program) l) old mid new t.printed p)),
       )
 
     -- the last line, or less of it
@@ -283,7 +300,7 @@ module _ (parts : List Part) (detaches : List Detach) (cs : List Counted) where
           ap (λ (n : ℕ). last_line n h.turns.begun) (sym (length-map own names_of) ∙ ap (λ (l : List T.Names). length l) are ∙ length-map parts part_names)
           ∙ ap (last_line (length parts)) (sym events)
 
-      are_told : AreTold parts detaches cs es (begun lines ++ last)
+      abbrev are_told : AreTold parts detaches cs es (begun lines ++ last)
       are_told = record {
         lines = lines;
         met = t.told.met;
@@ -300,9 +317,10 @@ module _ (parts : List Part) (detaches : List Detach) (cs : List Counted) where
 
       pub told_less_last : (fault : PutFault) (new : Option (List ℕ)) → Becomes mid new (AppendsLess last) → TellsPart fault parts detaches cs es old new
       told_less_last fault new p = (
+        length (begun lines),
         begun lines ++ last,
-        inr are_told,
-        becomes_by (AppendsLess (begun lines ++ last)) (PrintsPart fault (begun lines ++ last)) (part_of fault (begun lines ++ last)) old new
+        inr (record { told = are_told; least_is = refl }),
+        becomes_by (AppendsPast (length (begun lines)) (begun lines ++ last)) (PrintsPart fault (length (begun lines)) (begun lines ++ last)) (part_of fault (length (begun lines)) (begun lines ++ last)) old new
             (then_less (begun lines) last old mid new t.printed p),
       )
 
@@ -365,13 +383,6 @@ line_counted f g programs detaches ds lines tellers old new line d h t = record 
   meets = t.meets;
   takes = t.takes;
 }
-
--- where no line came
-pub left_counted : {X : Type 0} {F : X → Type 0} (f : (x : X) × F x → Device) (g : (x : X) × F x → ℕ) (begun : ℕ) (detaches : List Detach) (d d' : Devices X F)
-    → AreLeft begun detaches (of_all f d) (of_all f d') → AreLeft begun detaches (devices_of (counted f g d)) (devices_of (counted f g d'))
-left_counted f g begun detaches d d' h =
-    subst (λ (es : List Device). AreLeft begun detaches es (devices_of (counted f g d'))) (sym (counted_devices f g d))
-    (subst (λ (es : List Device). AreLeft begun detaches (of_all f d) es) (sym (counted_devices f g d')) h)
 
 -- ---- names
 

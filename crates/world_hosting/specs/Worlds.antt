@@ -16,7 +16,7 @@ use Rattle.script_setup.specs.SetUpRules.{SetUp, named_entry, program_names}
 use Rattle.many_host.specs.Calls.{AreLeft, devices_of}
 use Rattle.vault_port.specs.declared.whole.PutFault.{PutFault}
 use Rattle.vault_port.specs.declared.whole.PutFault.TheVariants.{Fault, Memory}
-use Rattle.vault_port.specs.Taken.{Appends, AppendsLess}
+use Rattle.vault_port.specs.Taken.{Appends, AppendsPast}
 use Rattle.vault_port.specs.Told.{Becomes}
 use Rattle.script_setup.specs.Bindings.{bindings}
 use Rattle.world_hosting.specs.Counts.{AreMet, Took, turns_at}
@@ -95,13 +95,14 @@ pub record AreTold (parts : List Part) (detaches : List Detach) (old new : List 
   pub text_is : text ≡ Transcript (map part_names parts) (length parts) (turn_count lines) lines
 
 -- What is left behind first lines: where the sink failed, the devices and their counts that these leave; where memory was wanting, these
--- devices, or those that are left when the next event begins.
+-- devices, or those that are left when the next event begins, of whose counts one may have risen.
 abbrev pub IsLeft : PutFault → (begun : ℕ) → List Detach → (there new : List Counted) → Type 0
 IsLeft Fault begun detaches there new = new ≡ there
-IsLeft Memory begun detaches there new = AreLeft begun detaches (devices_of there) (devices_of new)
+IsLeft Memory begun detaches there new = AreLeft begun detaches there new
 
--- It tells the first lines of one, up to some event, and leaves the devices that are left behind these.
-pub record AreBegun (fault : PutFault) (parts : List Part) (detaches : List Detach) (old new : List Counted) (text : List ℕ) : Type 0 where
+-- It tells the first lines of one, up to some event, and leaves the devices that are left behind these. So many of its bytes are those
+-- of the lines before the last one, or of all: each line is printed before the next event begins.
+pub record AreBegun (fault : PutFault) (parts : List Part) (detaches : List Detach) (old new : List Counted) (least : ℕ) (text : List ℕ) : Type 0 where
   pub lines : List Line
   pub more : List Line
   pub met : List (List Outcome)
@@ -113,17 +114,27 @@ pub record AreBegun (fault : PutFault) (parts : List Part) (detaches : List Deta
   pub took : Took (world_programs parts) detaches 0 0 lines met old begun there
   pub left : IsLeft fault begun detaches there new
   pub text_is : text ≡ event_lines (map part_names parts) lines
+  pub before : List Line
+  pub behind : List Line
+  pub one : length behind ≤ 1
+  pub lines_are : lines ≡ before ++ behind
+  pub least_is : least ≡ length (event_lines (map part_names parts) before)
+
+-- It tells a whole run, and so many of its bytes are those of its lines, without the last line of all.
+pub record AreEnded (parts : List Part) (detaches : List Detach) (old new : List Counted) (least : ℕ) (text : List ℕ) : Type 0 where
+  pub told : AreTold parts detaches old new text
+  pub least_is : least ≡ length (event_lines (map part_names parts) told.lines)
 
 -- A whole such text came behind what was printed.
 abbrev pub Tells : List Part → List Detach → (cs cs' : List Counted) → (old new : Option (List ℕ)) → Type 0
 Tells parts detaches cs cs' old new = (text : List ℕ) × AreTold parts detaches cs cs' text × Becomes old new (Appends text)
 
--- Some first bytes of a text were printed, and not all of them where the sink failed.
-abbrev pub PrintsPart : PutFault → (text old new : List ℕ) → Type 0
-PrintsPart Fault text old new = AppendsLess text old new
-PrintsPart Memory text old new = (n : ℕ) × (new ≡ old ++ take n text)
+-- So many first bytes of a text at least were printed, and not all of them where the sink failed.
+abbrev pub PrintsPart : PutFault → (least : ℕ) → (text old new : List ℕ) → Type 0
+PrintsPart Fault least text old new = AppendsPast least text old new
+PrintsPart Memory least text old new = (n : ℕ) × (least ≤ n) × (new ≡ old ++ take n text)
 
 -- A beginning of a whole such text came behind what was printed.
 abbrev pub TellsPart : PutFault → List Part → List Detach → (cs cs' : List Counted) → (old new : Option (List ℕ)) → Type 0
 TellsPart fault parts detaches cs cs' old new =
-    (text : List ℕ) × (AreBegun fault parts detaches cs cs' text ⊎ AreTold parts detaches cs cs' text) × Becomes old new (PrintsPart fault text)
+    (least : ℕ) × (text : List ℕ) × (AreBegun fault parts detaches cs cs' least text ⊎ AreEnded parts detaches cs cs' least text) × Becomes old new (PrintsPart fault least text)

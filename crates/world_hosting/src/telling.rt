@@ -1,8 +1,8 @@
 //! The programs of a script, told to their ends.
 
-ghost use Rattle.std.specs.Prelude.{◌≡◌, ◌≤◌, [], ◌∷◌, IsErrOf, List, OnOk, length, map};
+ghost use Rattle.std.specs.Prelude.{◌≡◌, ◌≢◌, ◌≤◌, [], ◌∷◌, IsErrOf, List, OnOk, length, map};
 ghost use Rattle.std.specs.Result.{IfErr};
-ghost use Rattle.vault_port.specs.Counts.{HasRisen};
+ghost use Rattle.vault_port.specs.Counts.{FailsOnce};
 ghost use Rattle.wa_model.specs.declared.answers.Detach.{Detach as DetachValue};
 ghost use Rattle.host_laws.specs.Supplies.{IsLent};
 ghost use Rattle.transcript.specs.Printing.{names_of};
@@ -47,7 +47,8 @@ pub fn host_programs<S: Sink>(
         (counted seen (λ d. (⟦<dyn Device as Device>⟧ d.0).faults d.1) devices.old)
         (counted seen (λ d. (⟦<dyn Device as Device>⟧ d.0).faults d.1) devices.new)
         (S.taken out.old) (S.taken out.new)) }
-    ensures fault { IsErrOf result PutFault.Fault → HasRisen (S.faults out.old) (S.faults out.new) }
+    ensures fault { IsErrOf result PutFault.Fault → FailsOnce (S.faults out.old) (S.faults out.new) }
+    ensures stays { result ≢ Err PutFault.Fault → S.faults out.new ≡ S.faults out.old }
     ensures faults { S.faults out.old ≤ S.faults out.new }
 {
     match part_programs(alloc, staged) {
@@ -78,7 +79,8 @@ fn host_parted<S: Sink>(
         (counted seen (λ d. (⟦<dyn Device as Device>⟧ d.0).faults d.1) devices.old)
         (counted seen (λ d. (⟦<dyn Device as Device>⟧ d.0).faults d.1) devices.new)
         (S.taken out.old) (S.taken out.new)) }
-    ensures fault { IsErrOf result PutFault.Fault → HasRisen (S.faults out.old) (S.faults out.new) }
+    ensures fault { IsErrOf result PutFault.Fault → FailsOnce (S.faults out.old) (S.faults out.new) }
+    ensures stays { result ≢ Err PutFault.Fault → S.faults out.new ≡ S.faults out.old }
     ensures faults { S.faults out.old ≤ S.faults out.new }
 {
     let Parted {
@@ -122,7 +124,8 @@ fn tell_lines<S: Sink>(
         (counted seen (λ d. (⟦<dyn Device as Device>⟧ d.0).faults d.1) devices.old)
         (counted seen (λ d. (⟦<dyn Device as Device>⟧ d.0).faults d.1) devices.new)
         (S.taken out.old) (S.taken out.new)) }
-    ensures fault { IsErrOf result PutFault.Fault → HasRisen (S.faults out.old) (S.faults out.new) }
+    ensures fault { IsErrOf result PutFault.Fault → FailsOnce (S.faults out.old) (S.faults out.new) }
+    ensures stays { result ≢ Err PutFault.Fault → S.faults out.new ≡ S.faults out.old }
     ensures faults { S.faults out.old ≤ S.faults out.new }
 {
     'telling: for _told in 0..u64::MAX {

@@ -1,14 +1,15 @@
 -- The line on memory alone, where the words weren't read; and the one end of a call.
-use Rattle.std.proofs.Common.{◌≡◌, ◌∙◌, Err, None, Some, ap, map, refl, subst}
+use Rattle.std.proofs.Common.{◌≡◌, ◌∙◌, Err, None, Some, ap, inr, map, refl, subst}
 use Rattle.std.specs.String.{string_bytes}
 use Rattle.transform_command.specs.Manners.{manner_of}
 use Rattle.script_model.specs.Command.{transform}
 use Rattle.script_model.specs.Spelled.{rewrites, spelled}
-use Rattle.script_model.specs.Transcript.{refusal_line, usage}
+use Rattle.script_model.specs.Transcript.{out_of_memory, refusal_line, usage}
 use Rattle.command_words.specs.declared.words.WordsFault.{WordsFault}
 use Rattle.command_words.specs.declared.words.Command.{Command}
 use Rattle.command_words.specs.Words.{Reads, spelled_of}
 use Rattle.transcript.proofs.Printed.{memory_alone}
+use Rattle.transcript.proofs.Counts.{refused_counts}
 use Rattle.asyncify_app.proofs.OneEnd.{memory_ends, memory_unread_words, spelled_ends}
 use Rattle.asyncify_app.proofs.Statuses.{script_status}
 use Rattle.script_command.specs.declared.way.Way.TheVariants.{Host, Run}
@@ -16,10 +17,10 @@ use Rattle.transform_command.proofs.OneEnd.{transform_ends}
 use Rattle.asyncify_app.proofs.command.asyncify.Goals as goal
 
 pub returns-in-Err-Memory-clause-prints_usage_memory : goal.returns-in-Err-Memory-clause-prints_usage_memory
-returns-in-Err-Memory-clause-prints_usage_memory g c = λ e n. memory_alone (refusal_line None usage) _ _ c.out_of_memory.ensures.printed
+returns-in-Err-Memory-clause-prints_usage_memory g c = λ e n. memory_alone (refusal_line None usage) _ _ _ _ c.out_of_memory.ensures.printed
 
 pub returns-in-Err-Memory-clause-prints_memory : goal.returns-in-Err-Memory-clause-prints_memory
-returns-in-Err-Memory-clause-prints_memory g c = memory_unread_words (spelled (map string_bytes c.args.words.now)) _ _ _ _ _ c.out_of_memory.ensures.printed
+returns-in-Err-Memory-clause-prints_memory g c = memory_unread_words (spelled (map string_bytes c.args.words.now)) _ _ _ _ _ _ _ c.out_of_memory.ensures.printed
 
 pub returns-in-Err-Usage-clause-one_end : goal.returns-in-Err-Usage-clause-one_end
 returns-in-Err-Usage-clause-one_end g c =
@@ -42,3 +43,9 @@ returns-in-Ok-Host-clause-status g c = script_status Host c.play_with.result c.p
 
 pub returns-in-Ok-Run-clause-status : goal.returns-in-Ok-Run-clause-status
 returns-in-Ok-Run-clause-status g c = script_status Run c.play_with-in-Ok-Run.result c.play_with-in-Ok-Run.ensures.status
+
+pub returns-in-Err-Usage-clause-counts : goal.returns-in-Err-Usage-clause-counts
+returns-in-Err-Usage-clause-counts g c = refused_counts c.refuse.result _ _ _ _ _ _ usage refl refl c.refuse.ensures.status c.refuse.ensures.once
+
+pub returns-in-Err-Memory-clause-counts : goal.returns-in-Err-Memory-clause-counts
+returns-in-Err-Memory-clause-counts g c = refused_counts c.out_of_memory.result _ _ _ _ _ _ out_of_memory refl refl (inr c.out_of_memory.ensures.status) c.out_of_memory.ensures.once

@@ -9,6 +9,7 @@ returns g c =
       _,
       record {
         one_end = e.one_end;
+        counts = e.counts;
         done = e.done;
         cut = e.cut;
         kept = e.kept;

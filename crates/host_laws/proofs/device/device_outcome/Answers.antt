@@ -1,4 +1,4 @@
-use Rattle.std.proofs.Common.{Err, ap, ◌∙◌, refl}
+use Rattle.std.proofs.Common.{Err, ap, inr, ◌∙◌, refl}
 use Rattle.std.proofs.lemmas.Result.{IfOk-weaker}
 use Rattle.device_port.specs.declared.device.DeviceFail.{DeviceFail}
 use Rattle.host_laws.specs.Answering.{outcome_of}
@@ -14,3 +14,6 @@ returns-in-Err-clause-counts g c =
     (λ met so. one_failed _ c.in-Some.place refl c.in-Some.ensures (ap outcome_of so.0) c.ask.ensures.rising
     (c.ask.ensures.fault (c.in-Err.is ∙ ap (λ (f : DeviceFail). Err f) so.1)))
     c.failed.ensures
+
+pub returns-in-Err-clause-once : goal.returns-in-Err-clause-once
+returns-in-Err-clause-once g c = λ e. inr (c.in-Some.place, c.ask.ensures.rising)

@@ -2,6 +2,7 @@
 use Rattle.std.proofs.Common.{[]}
 use Rattle.script_command.specs.Ends.{call}
 use Rattle.script_command.proofs.Answering.{one_end}
+use Rattle.transcript.proofs.Counts.{put_alone}
 use Rattle.script_command.proofs.Statuses.{end_status, told_fault}
 use Rattle.script_command.proofs.playing.play_script.Goals as goal
 
@@ -25,3 +26,9 @@ returns-in-Err-clause-status g c =
     end_status (call c.args.way c.args.script.now (g.V.Vault.files c.args.vault.now) (g.V.Vault.fetch_faults c.args.vault.now) (g.V.Vault.fetch_faults c.open_script.new.vault) _ _ _ _ _ _)
     c.refuse_script.result
     (c.refuse_script.ensures.end c.args.way _ c.args.script.now _ _ [] c.in-Err.ensures.refused)
+
+pub returns-in-Ok-clause-counts : goal.returns-in-Ok-clause-counts
+returns-in-Ok-clause-counts g c = put_alone c.play.result _ _ _ _ _ _ c.in-Ok.ensures.stays c.open_script.ensures.saves c.play.ensures.once c.play.ensures.stays
+
+pub returns-in-Err-clause-counts : goal.returns-in-Err-clause-counts
+returns-in-Err-clause-counts g c = c.refuse_script.ensures.counts _ _ _ _ c.open_script.ensures.saves c.in-Err.ensures.counts

@@ -15,7 +15,8 @@ returns-in-Err-Fault-clause-end g c = λ way files name f f' play staged same.
 
 pub returns-in-Err-Memory-clause-end : goal.returns-in-Err-Memory-clause-end
 returns-in-Err-Memory-clause-end g c = λ way files name f f' play staged same.
-    programs_wanting way name files f f' _ _ _ _ play c.args.detaches.items same _ (g.S.Sink.taken c.host_programs.new.out) _ c.out_of_memory.result c.out_of_memory.ensures.status
+    programs_wanting way name files f f' _ _ _ _ play c.args.detaches.items same _ (g.S.Sink.taken c.host_programs.new.out) _ c.out_of_memory.result _ c.out_of_memory.ensures.status
+    (c.in-Err-Memory.ensures.stays (λ e. let f = c.in-Err-Memory.field-0-is in cc))
     (part_of_fault play.parts _ _ _ _ _ _ _ c.in-Err-Memory.field-0-is (c.in-Err-Memory.ensures.part play.parts staged)) c.out_of_memory.ensures.printed
 
 pub host_programs-requires-clause-staged : goal.host_programs-requires-clause-staged

@@ -3,7 +3,7 @@ use Rattle.script_setup.proofs.Fronts.{if_err_weaker}
 use Rattle.wa_types.specs.View.{module_of}
 use Rattle.script_reader.specs.Views.{program_of}
 use Rattle.world_hosting.specs.Views.{listing}
-use Rattle.script_command.proofs.Openings.{line_blamed}
+use Rattle.script_command.proofs.Openings.{counts_none, line_blamed, stays_any}
 use Rattle.script_command.proofs.programs.open_next.Goals as goal
 
 pub returns-in-Ok-clause-opened : goal.returns-in-Ok-clause-opened
@@ -17,3 +17,9 @@ returns-in-Ok-clause-refused g c =
 
 pub fetch_module-requires : goal.fetch_module-requires
 fetch_module-requires g c = c.requires.choice
+
+pub returns-in-Ok-clause-counts : goal.returns-in-Ok-clause-counts
+returns-in-Ok-clause-counts g c = counts_none _ _ c.plan_program.result (c.in-Ok.ensures.stays (λ e. cc))
+
+pub returns-in-Ok-clause-stays : goal.returns-in-Ok-clause-stays
+returns-in-Ok-clause-stays g c = stays_any c.plan_program.result (c.in-Ok.ensures.stays (λ e. cc))

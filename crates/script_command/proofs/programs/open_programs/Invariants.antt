@@ -8,6 +8,6 @@ abbrev pub invariant-loop-text : goal.invariant-loop-text
 invariant-loop-text g l = record {
   so_far : SoFar l.way (g.V.Vault.files l.fn.vault) l.programs (map program_of l.text-iterator.rest.items) (map program_of l.fn.texts.items);
   kept : g.V.Vault.files l.vault ≡ g.V.Vault.files l.fn.vault;
-  faults : g.V.Vault.fetch_faults l.fn.vault ≤ g.V.Vault.fetch_faults l.vault;
+  steady : g.V.Vault.fetch_faults l.vault ≡ g.V.Vault.fetch_faults l.fn.vault;
   saves : g.V.Vault.save_faults l.vault ≡ g.V.Vault.save_faults l.fn.vault;
 }

@@ -95,6 +95,6 @@ fetching-preserved g c =
       are_bytes = subst (All (λ b. b < 2 ^ 8)) (sym came) (are_bytes_more front buffer count i.are_bytes c.fetch_piece.ensures.bytes);
       room = ap (λ (p : List ℕ). length p) given ∙ c.fetch_piece.ensures.long ∙ ap (λ (p : List ℕ). length p) c.as_mut_slice.ensures.value ∙ i.room;
       kept = c.fetch_piece.ensures.kept ∙ i.kept;
-      rising = omega (arith, c.fetch_piece.ensures.faults, i.rising);
+      steady = c.in_ok-count.ensures.stays (λ e. cc) ∙ i.steady;
       saves = c.fetch_piece.ensures.saves ∙ i.saves;
     }

@@ -15,7 +15,7 @@ invariant-fetching g l =
       are_bytes : All (λ b. b < 2 ^ 8) l.reader.bytes;
       room : length l.buffer.items ≡ 65536;
       kept : g.V.Vault.files l.vault ≡ g.V.Vault.files l.fn.vault;
-      rising : g.V.Vault.fetch_faults l.fn.vault ≤ g.V.Vault.fetch_faults l.vault;
+      steady : g.V.Vault.fetch_faults l.vault ≡ g.V.Vault.fetch_faults l.fn.vault;
       saves : g.V.Vault.save_faults l.vault ≡ g.V.Vault.save_faults l.fn.vault;
     }
 

@@ -11,7 +11,7 @@ invariant-fetching g l =
       far : WhereTold (g.V.Vault.files l.fn.vault) (λ all. l.done ≤ length (bytes_of all l.name));
       room : 0 < length l.buffer;
       kept : g.V.Vault.files l.vault ≡ g.V.Vault.files l.fn.vault;
-      rising : g.V.Vault.fetch_faults l.fn.vault ≤ g.V.Vault.fetch_faults l.vault;
+      steady : g.V.Vault.fetch_faults l.vault ≡ g.V.Vault.fetch_faults l.fn.vault;
       saves : g.V.Vault.save_faults l.vault ≡ g.V.Vault.save_faults l.fn.vault;
     }
 

@@ -10,7 +10,7 @@ use Rattle.many_host.proofs.FewLines.{few_lines}
 use Rattle.transcript.specs.Printing.{names_of}
 use Rattle.world_hosting.specs.Counts.{counted}
 use Rattle.world_hosting.specs.Worlds.{world_programs}
-use Rattle.world_hosting.proofs.Printed.{host_seen, if_err, has_failed, left_counted, line_begins, line_counted, line_told, none_left, none_met, none_told, on_ok, told_less, told_less_last, told_on, told_so_far, told_whole, within_names, world_counted}
+use Rattle.world_hosting.proofs.Printed.{host_seen, if_err, has_failed, line_begins, line_counted, line_told, none_left, none_met, none_told, on_ok, told_less, told_less_last, told_on, told_so_far, told_whole, within_names, world_counted}
 use Rattle.transcript.proofs.LineTexts.{nothing_yet}
 use Rattle.world_hosting.proofs.telling.tell_lines.Goals as goal
 
@@ -25,7 +25,7 @@ telling-init g c = record {
   );
   range = c.requires.range;
   same_list = refl;
-  rising = omega arith;
+  steady = refl;
 }
 
 pub telling-preserved : goal.telling-preserved
@@ -46,7 +46,7 @@ telling-preserved g c = record {
       (more.0, omega (arith, more.1, so_far.1));
   range = c.in-Ok.ensures.range;
   same_list = c.next.ensures.same_list ∙ c.telling.invariant.same_list;
-  rising = omega (arith, c.telling.invariant.rising, c.put_line.ensures.faults);
+  steady = c.in_default-put_line.ensures.stays (λ e. cc) ∙ c.telling.invariant.steady;
 }
 
 pub returns-in_default-clause-part : goal.returns-in_default-clause-part
@@ -54,9 +54,8 @@ returns-in_default-clause-part g c = λ parts detaches h none are.
     let t = (c.telling.invariant.told parts detaches h none are).0 in
     let ds = devices_of (counted (λ z. (goal.Device-dyn g z).seen z.1) (λ z. (goal.Device-dyn g z).faults z.1) c.args.devices.now) in
     told_so_far parts detaches _ c.telling.host _ _ _ t _
-    (left_counted (λ z. (goal.Device-dyn g z).seen z.1) (λ z. (goal.Device-dyn g z).faults z.1) c.telling.host.turns.begun detaches c.telling.devices c.next.new.devices
     (c.next.ensures.left (world_programs parts) detaches ds t.told.lines
-    (host_seen (λ z. (goal.Device-dyn g z).seen z.1) (λ z. (goal.Device-dyn g z).faults z.1) (world_programs parts) detaches ds t.told.lines c.telling.devices c.telling.host t.told.host) (has_failed c.next.result c.in_default.not-Ok)))
+    (host_seen (λ z. (goal.Device-dyn g z).seen z.1) (λ z. (goal.Device-dyn g z).faults z.1) (world_programs parts) detaches ds t.told.lines c.telling.devices c.telling.host t.told.host) (has_failed c.next.result c.in_default.not-Ok))
 
 pub returns-in_default-next-clause-told : goal.returns-in_default-next-clause-told
 returns-in_default-next-clause-told g c = λ parts detaches h none are.

@@ -20,5 +20,5 @@ invariant-telling g l = record {
       × (length t.told.lines ≡ l._told);
   range : InRange l.host.turns;
   same_list : l.devices.list.ghost_name ≡ l.fn.devices.list.ghost_name;
-  rising : g.S.Sink.faults l.fn.out ≤ g.S.Sink.faults l.out;
+  steady : g.S.Sink.faults l.out ≡ g.S.Sink.faults l.fn.out;
 }

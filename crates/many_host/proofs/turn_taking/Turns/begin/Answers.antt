@@ -1,8 +1,8 @@
-use Rattle.std.proofs.Common.{◌+◌, ◌*◌, ◌≤◌, arith, All, Some, ap, inl, refl, sym, ◌∙◌, subst, length, List, Option, ℕ}
+use Rattle.std.proofs.Common.{◌+◌, ◌*◌, ◌≤◌, arith, All, Some, ap, inl, inr, refl, sym, ◌∙◌, subst, length, List, Option, ℕ}
 use Rattle.event_order.specs.Dues.{HaveEnded, IsLeast}
 use Rattle.many_host.specs.Standing.{IsDueBy, held_of, most_ticks}
 use Rattle.many_host.proofs.DueTicks.{due_at, dues_later}
-use Rattle.many_host.proofs.Counts.{left_began, left_when_begun, line_from}
+use Rattle.many_host.proofs.Counts.{are_left, left_began, left_when_begun, line_from}
 use Rattle.many_host.proofs.Beginning.{begun_at, due_within}
 use Rattle.many_host.proofs.turn_taking.Turns.begin.Goals as goal
 
@@ -52,12 +52,12 @@ tell-requires-clause-tells g c =
 
 pub returns-in_err-tell-clause-left : goal.returns-in_err-tell-clause-left
 returns-in_err-tell-clause-left g c = λ programs detaches ds lines s e.
-    left_when_begun c.args.self.now.begun (c.args.self.now.begun + 1) c.deref-2.result.now detaches _ _ _ refl (c.deref-2.ensures.value ∙ s.detaches_are)
-    c.detach_before.ensures.devices
+    are_left (λ z. (goal.Device-dyn g z).seen z.1) (λ z. (goal.Device-dyn g z).faults z.1) c.args.self.now.begun detaches _ c.detach_before.new.devices c.tell.new.devices
+    (inr (left_when_begun c.args.self.now.begun (c.args.self.now.begun + 1) c.deref-2.result.now detaches _ _ refl (c.deref-2.ensures.value ∙ s.detaches_are) c.detach_before.ensures.counts))
     (c.in_err-tell.ensures.kept programs detaches ds lines
     (begun_at g.T.Teller.follows g.T.Teller.has_ended g.T.Teller.memory programs detaches ds lines (held_of c.args.self.now) _ c.in-Some.turn s
     (subst (λ (l : List (Option ℕ)). IsLeast l c.in-Some.turn.program c.in-Some.turn.due) c.deref.ensures.value c.in-Some.ensures)
-    (c.args.self.now.begun + 1) c.deref-2.result.now _ refl c.deref-2.ensures.value c.detach_before.ensures.devices) refl)
+    (c.args.self.now.begun + 1) c.deref-2.result.now _ refl c.deref-2.ensures.value c.detach_before.ensures.devices) refl) (c.in_err-tell.ensures.once refl)
 
 pub tell-requires-clause-dues : goal.tell-requires-clause-dues
 tell-requires-clause-dues g c = dues_later (most_ticks * c.args.self.now.begun) (most_ticks * (c.args.self.now.begun + 1)) c.args.self.now.dues.items (omega arith) c.requires.range.dues

@@ -1,7 +1,7 @@
 use Rattle.std.proofs.Common.{inl, refl, subst, sym}
 use Rattle.std.specs.Prelude.{IfOk}
 use Rattle.wa_model.specs.View.{line_of}
-use Rattle.many_host.proofs.Counts.{left_kept, line_from}
+use Rattle.many_host.proofs.Counts.{are_left, left_kept, line_from}
 use Rattle.many_host.specs.declared.turn_taking.Stage.{Stage}
 use Rattle.many_host.specs.Calls.{BegunBy, BegunNext}
 use Rattle.many_host.specs.Standing.{held_of}
@@ -36,8 +36,9 @@ returns-in-Showing-clause-left g c = λ programs detaches ds lines s.
 
 pub returns-in_err-tell-in-Telling-clause-left : goal.returns-in_err-tell-in-Telling-clause-left
 returns-in_err-tell-in-Telling-clause-left g c = λ programs detaches ds lines s e.
-    inl (c.in_err-tell-in-Telling.ensures.kept programs detaches ds lines
-    (standing g.T.Teller.follows g.T.Teller.has_ended g.T.Teller.memory programs detaches ds lines (held_of c.args.self.now) _ c.args.self.now.stage _ c.in-Telling.is s) refl)
+    are_left (λ z. (goal.Device-dyn g z).seen z.1) (λ z. (goal.Device-dyn g z).faults z.1) c.args.self.now.begun detaches _ c.args.devices.now c.tell.new.devices (inl refl)
+    (c.in_err-tell-in-Telling.ensures.kept programs detaches ds lines
+    (standing g.T.Teller.follows g.T.Teller.has_ended g.T.Teller.memory programs detaches ds lines (held_of c.args.self.now) _ c.args.self.now.stage _ c.in-Telling.is s) refl) (c.in_err-tell-in-Telling.ensures.once refl)
 
 pub returns-in-Between-clause-begun : goal.returns-in-Between-clause-begun
 returns-in-Between-clause-begun g c =

@@ -7,7 +7,7 @@ use Rattle.event_order.specs.declared.shows.Show.{Show}
 use Rattle.event_order.specs.Looks.{looks_of, IsNextShow}
 use Rattle.many_host.specs.Calls.{IsShown}
 use Rattle.many_host.specs.Standing.{held_of}
-use Rattle.many_host.proofs.Counts.{begun_behind, left_kept, line_from}
+use Rattle.many_host.proofs.Counts.{are_left, begun_behind, left_kept, line_from}
 use Rattle.many_host.proofs.Showing.{all_shown, looks_left, none_out, shown_line}
 use Rattle.many_host.proofs.TurnPlaces.{stands_at}
 use Rattle.many_host.proofs.turn_taking.Turns.show.Goals as goal
@@ -68,4 +68,5 @@ begin-requires-clause-tells g c =
     }
 
 pub returns-in_err-event-clause-left : goal.returns-in_err-event-clause-left
-returns-in_err-event-clause-left g c = λ programs detaches ds lines s e. inl refl
+returns-in_err-event-clause-left g c = λ programs detaches ds lines s e.
+    are_left (λ z. (goal.Device-dyn g z).seen z.1) (λ z. (goal.Device-dyn g z).faults z.1) c.args.self.now.begun detaches _ c.args.devices.now c.args.devices.now (inl refl) refl (inl refl)
