@@ -15,7 +15,10 @@ pub sets_up : (x : Plan) → IsPlan x → (r : Result Program SetupFault)
     → IfOk r (λ program. (funcs : List ℕ) × (set_up (source_of x) x.area (named_entries x) ≡ Ok funcs) × IsOfPlan x funcs program)
     → IfErr r (λ fault. Blames fault (set_up (source_of x) x.area (named_entries x))) → SetsUp x r
 sets_up x plan (Ok program) ok err =
-    let m = ok.2 in
-    (ok.0, ok.1, λ looks binds bound. follows x ok.0 looks binds bound plan m.valid ok.1 program m.source m.globals m.setting m.number m.entries m.answers m.given m.steps m.fresh,
-    ap (map answer_line_of) m.answers)
+    let m = ok.2 in (
+      ok.0,
+      ok.1,
+      λ looks binds bound. follows x ok.0 looks binds bound plan m.valid ok.1 program m.source m.globals m.setting m.number m.entries m.answers m.given m.steps m.fresh,
+      ap (map answer_line_of) m.answers,
+    )
 sets_up x plan (Err fault) ok err = err

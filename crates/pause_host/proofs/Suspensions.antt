@@ -50,12 +50,16 @@ module _ (w : W.Program) (x : Setting) (is : IsSetting w x) (called : HostImport
     pub suspends : (pause : Pause) → stage ≡ Pausing pause → called.name ≡ line.import
         → (pause.entry ≡ e) × (pause.import ≡ import) × (pause.answer ≡ line.answer) × Suspends w import size (answer_line_of line)
     suspends pause pausing name =
-        let p = pausing_then _ line.answer.ticks e import line.answer pause (sym pausing ∙ is_stage) in
-        (ap (λ (z : Pause). z.entry) p.2, ap (λ (z : Pause). z.import) p.2, ap (λ (z : Pause). z.answer) p.2, record {
-          pauses = p.1;
-          names = named ∙ ap Some name;
-          passes = ap (λ rs. fault_of rs size w.plan false import (answer_of line.answer)) (is.results import called at) ∙ p.0;
-        })
+        let p = pausing_then _ line.answer.ticks e import line.answer pause (sym pausing ∙ is_stage) in (
+          ap (λ (z : Pause). z.entry) p.2,
+          ap (λ (z : Pause). z.import) p.2,
+          ap (λ (z : Pause). z.answer) p.2,
+          record {
+            pauses = p.1;
+            names = named ∙ ap Some name;
+            passes = ap (λ rs. fault_of rs size w.plan false import (answer_of line.answer)) (is.results import called at) ∙ p.0;
+          },
+        )
 
     -- it doesn't
     pub suspends_none : ((pause : Pause) → stage ≡ Pausing pause → ⊥) → Suspends w import size (answer_line_of line) → ⊥

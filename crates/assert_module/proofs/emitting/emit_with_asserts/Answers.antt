@@ -26,14 +26,14 @@ pub put_asserted-requires-clause-short : goal.put_asserted-requires-clause-short
 put_asserted-requires-clause-short c =
     let r = c.in-Ok.rewritten in
     let h = emitting c.args.valid.now _ c.module-whole.result.now c.args.settings.now r _ _ _ c.deref.result.now c.requires.sizes c.in-Ok.ensures c.requires.few c.requires.short
-        c.module-module.ensures.same c.len.ensures c.len-2.ensures (ap (λ (i : RuntimeIds). i.state) c.ids_behind.ensures) c.module-whole.ensures.same c.deref.ensures.value in
+    c.module-module.ensures.same c.len.ensures c.len-2.ensures (ap (λ (i : RuntimeIds). i.state) c.ids_behind.ensures) c.module-whole.ensures.same c.deref.ensures.value in
     h.short
 
 pub encode_around-requires : goal.encode_around-requires
 encode_around-requires c =
     let r = c.in-Ok.rewritten in
     let h = emitting c.args.valid.now _ c.module-whole.result.now c.args.settings.now r _ _ _ c.deref.result.now c.requires.sizes c.in-Ok.ensures c.requires.few c.requires.short
-        c.module-module.ensures.same c.len.ensures c.len-2.ensures (ap (λ (i : RuntimeIds). i.state) c.ids_behind.ensures) c.module-whole.ensures.same c.deref.ensures.value in
+    c.module-module.ensures.same c.len.ensures c.len-2.ensures (ap (λ (i : RuntimeIds). i.state) c.ids_behind.ensures) c.module-whole.ensures.same c.deref.ensures.value in
     (_, h.around, h.held _ _ c.new-entries.ensures c.in_ok-put_asserted.ensures)
 
 pub returns-in_err-text : goal.returns-in_err-text
@@ -42,7 +42,7 @@ returns-in_err-text c =
     let s = settings_of c.args.settings.now in
     let r = c.in-Ok.rewritten in
     let h = emitting c.args.valid.now _ c.module-whole.result.now c.args.settings.now r _ _ _ c.deref.result.now c.requires.sizes c.in-Ok.ensures c.requires.few c.requires.short
-        c.module-module.ensures.same c.len.ensures c.len-2.ensures (ap (λ (i : RuntimeIds). i.state) c.ids_behind.ensures) c.module-whole.ensures.same c.deref.ensures.value in
+    c.module-module.ensures.same c.len.ensures c.len-2.ensures (ap (λ (i : RuntimeIds). i.state) c.ids_behind.ensures) c.module-whole.ensures.same c.deref.ensures.value in
     let q : Module = module_with_asserts m s r.instrumented.items (module_of r.«module») in
     let held = h.held _ _ c.new-entries.ensures c.in_ok-put_asserted.ensures in
     let e = err_from_is_err_and c.from_residual-in_err-text.result c.from_residual-in_err-text.ensures.1 in
@@ -56,7 +56,7 @@ returns c =
     let r = c.in-Ok.rewritten in
     let a = c.in-Ok.ensures in
     let h = emitting c.args.valid.now _ c.module-whole.result.now c.args.settings.now r _ _ _ c.deref.result.now c.requires.sizes c.in-Ok.ensures c.requires.few c.requires.short
-        c.module-module.ensures.same c.len.ensures c.len-2.ensures (ap (λ (i : RuntimeIds). i.state) c.ids_behind.ensures) c.module-whole.ensures.same c.deref.ensures.value in
+    c.module-module.ensures.same c.len.ensures c.len-2.ensures (ap (λ (i : RuntimeIds). i.state) c.ids_behind.ensures) c.module-whole.ensures.same c.deref.ensures.value in
     let q : Module = module_with_asserts m s r.instrumented.items (module_of r.«module») in
     let held = h.held _ _ c.new-entries.ensures c.in_ok-put_asserted.ensures in
     record {

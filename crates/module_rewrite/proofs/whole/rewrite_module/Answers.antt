@@ -62,7 +62,7 @@ with_parts-requires-clause-funcs c =
     let s = settings_of c.args.settings.now in
     let which = c.in_ok-which.which.items in
     let inner : Inner m s which (module_of c.in_ok-inner.inner) = taken_inner s which _ (map func_of c.rewrite_funcs.new.sink.items) _ c.args.valid.now c.in_ok-inner.inner c.reserved.result
-        c.module-module.ensures.same c.module-module.ensures.valid c.requires.sizes c.reserved.ensures c.in_default.not-Some c.in_ok-which.ensures c.deref.ensures.value c.in_ok-rewrite_funcs.ensures c.in_ok-inner.ensures in
+    c.module-module.ensures.same c.module-module.ensures.valid c.requires.sizes c.reserved.ensures c.in_default.not-Some c.in_ok-which.ensures c.deref.ensures.value c.in_ok-rewrite_funcs.ensures c.in_ok-inner.ensures in
     inner.funcs_fit
 
 pub with_parts-requires-clause-globals : goal.with_parts-requires-clause-globals
@@ -71,7 +71,7 @@ with_parts-requires-clause-globals c =
     let s = settings_of c.args.settings.now in
     let which = c.in_ok-which.which.items in
     let inner : Inner m s which (module_of c.in_ok-inner.inner) = taken_inner s which _ (map func_of c.rewrite_funcs.new.sink.items) _ c.args.valid.now c.in_ok-inner.inner c.reserved.result
-        c.module-module.ensures.same c.module-module.ensures.valid c.requires.sizes c.reserved.ensures c.in_default.not-Some c.in_ok-which.ensures c.deref.ensures.value c.in_ok-rewrite_funcs.ensures c.in_ok-inner.ensures in
+    c.module-module.ensures.same c.module-module.ensures.valid c.requires.sizes c.reserved.ensures c.in_default.not-Some c.in_ok-which.ensures c.deref.ensures.value c.in_ok-rewrite_funcs.ensures c.in_ok-inner.ensures in
     inner.globals_fit
 
 pub with_parts-requires-clause-free : goal.with_parts-requires-clause-free
@@ -80,7 +80,7 @@ with_parts-requires-clause-free c =
     let s = settings_of c.args.settings.now in
     let which = c.in_ok-which.which.items in
     let inner : Inner m s which (module_of c.in_ok-inner.inner) = taken_inner s which _ (map func_of c.rewrite_funcs.new.sink.items) _ c.args.valid.now c.in_ok-inner.inner c.reserved.result
-        c.module-module.ensures.same c.module-module.ensures.valid c.requires.sizes c.reserved.ensures c.in_default.not-Some c.in_ok-which.ensures c.deref.ensures.value c.in_ok-rewrite_funcs.ensures c.in_ok-inner.ensures in
+    c.module-module.ensures.same c.module-module.ensures.valid c.requires.sizes c.reserved.ensures c.in_default.not-Some c.in_ok-which.ensures c.deref.ensures.value c.in_ok-rewrite_funcs.ensures c.in_ok-inner.ensures in
     inner.still_free
 
 pub with_parts-requires-clause-valid : goal.with_parts-requires-clause-valid
@@ -89,7 +89,7 @@ with_parts-requires-clause-valid c =
     let s = settings_of c.args.settings.now in
     let which = c.in_ok-which.which.items in
     let inner : Inner m s which (module_of c.in_ok-inner.inner) = taken_inner s which _ (map func_of c.rewrite_funcs.new.sink.items) _ c.args.valid.now c.in_ok-inner.inner c.reserved.result
-        c.module-module.ensures.same c.module-module.ensures.valid c.requires.sizes c.reserved.ensures c.in_default.not-Some c.in_ok-which.ensures c.deref.ensures.value c.in_ok-rewrite_funcs.ensures c.in_ok-inner.ensures in
+    c.module-module.ensures.same c.module-module.ensures.valid c.requires.sizes c.reserved.ensures c.in_default.not-Some c.in_ok-which.ensures c.deref.ensures.value c.in_ok-rewrite_funcs.ensures c.in_ok-inner.ensures in
     inner.valid
 
 pub with_parts-requires-clause-sizes : goal.with_parts-requires-clause-sizes
@@ -98,7 +98,7 @@ with_parts-requires-clause-sizes c =
     let s = settings_of c.args.settings.now in
     let which = c.in_ok-which.which.items in
     let inner : Inner m s which (module_of c.in_ok-inner.inner) = taken_inner s which _ (map func_of c.rewrite_funcs.new.sink.items) _ c.args.valid.now c.in_ok-inner.inner c.reserved.result
-        c.module-module.ensures.same c.module-module.ensures.valid c.requires.sizes c.reserved.ensures c.in_default.not-Some c.in_ok-which.ensures c.deref.ensures.value c.in_ok-rewrite_funcs.ensures c.in_ok-inner.ensures in
+    c.module-module.ensures.same c.module-module.ensures.valid c.requires.sizes c.reserved.ensures c.in_default.not-Some c.in_ok-which.ensures c.deref.ensures.value c.in_ok-rewrite_funcs.ensures c.in_ok-inner.ensures in
     inner.sizes
 
 pub returns : goal.returns
@@ -107,7 +107,7 @@ returns c =
     let s = settings_of c.args.settings.now in
     let which = c.in_ok-which.which.items in
     let inner : Inner m s which (module_of c.in_ok-inner.inner) = taken_inner s which _ (map func_of c.rewrite_funcs.new.sink.items) _ c.args.valid.now c.in_ok-inner.inner c.reserved.result
-        c.module-module.ensures.same c.module-module.ensures.valid c.requires.sizes c.reserved.ensures c.in_default.not-Some c.in_ok-which.ensures c.deref.ensures.value c.in_ok-rewrite_funcs.ensures c.in_ok-inner.ensures in
+    c.module-module.ensures.same c.module-module.ensures.valid c.requires.sizes c.reserved.ensures c.in_default.not-Some c.in_ok-which.ensures c.deref.ensures.value c.in_ok-rewrite_funcs.ensures c.in_ok-inner.ensures in
     let is = c.in_ok-rewritten.ensures.done in
     record {
       free = inner.free;

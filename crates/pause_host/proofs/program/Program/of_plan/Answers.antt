@@ -27,17 +27,21 @@ returns c =
     let given : c.len-given.result ≡ length x.answers.items = omega (arith, c.len-given.ensures, x.answers.ok) in
     let calls = c.in_ok-entries.ensures ∙ ap (calls_of (map named_of x.entries.items)) c.deref-2.ensures.value in
     record {
-      ok = (funcs, up, record {
-        valid = v;
-        source = refl;
-        setting = made;
-        globals = refl;
-        number = refl;
-        entries = calls;
-        answers = c.from_vec.ensures.items;
-        given = given;
-        steps = refl;
-        fresh = refl;
-      });
+      ok = (
+        funcs,
+        up,
+        record {
+          valid = v;
+          source = refl;
+          setting = made;
+          globals = refl;
+          number = refl;
+          entries = calls;
+          answers = c.from_vec.ensures.items;
+          given = given;
+          steps = refl;
+          fresh = refl;
+        },
+      );
       err = tt;
     }

@@ -53,7 +53,8 @@ returns c = λ x funcs plan up made numbers.
     let code = c.in_ok-instance.ensures.code ∙ ap (λ (z : Program). module_of z.valid.now) rest in
     let store = c.in_ok-instance.ensures.store ∙ ap (λ vs. restored_store (module_of new.valid.now) vs memory) c.deref.ensures.value
     ∙ ap (λ (z : Program). restored_store (module_of z.valid.now) parts.globals memory) rest in
-    let is = c.stand.ensures ∙ ap (λ (z : Program). record z { steps_left = z.steps_left - parts.steps_used; state = Live instance (Paused pause) }) rest in
-    (suits x parts memory funcs plan up self made numbers c.requires.few c.requires.whole new pause t,
-    subst (λ (z : Program). StandsThawed x parts memory (suits x parts memory funcs plan up self made numbers c.requires.few c.requires.whole new pause t) z) (sym is)
-    (stands x parts memory funcs plan up self made numbers c.requires.few c.requires.whole new pause t instance code store))
+    let is = c.stand.ensures ∙ ap (λ (z : Program). record z { steps_left = z.steps_left - parts.steps_used; state = Live instance (Paused pause) }) rest in (
+      suits x parts memory funcs plan up self made numbers c.requires.few c.requires.whole new pause t,
+      subst (λ (z : Program). StandsThawed x parts memory (suits x parts memory funcs plan up self made numbers c.requires.few c.requires.whole new pause t) z) (sym is)
+          (stands x parts memory funcs plan up self made numbers c.requires.few c.requires.whole new pause t instance code store),
+    )
