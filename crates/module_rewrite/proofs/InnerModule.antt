@@ -9,7 +9,8 @@ use Rattle.wa_types.specs.Syntax.{Func, Module}
 use Rattle.wa_types.specs.Validity.{Valid}
 use Rattle.wa_types.specs.View.{module_of}
 use Rattle.wa_model.specs.Rewrites.{Rewrites}
-use Rattle.local_spill.specs.Reserved.{ReservedAt, reserved_at}
+use Rattle.local_spill.specs.Reserved.{reserved_at}
+use Rattle.local_spill.specs.declared.reserving.ReservedAt.{ReservedAt}
 use Rattle.flatten.specs.Whole.{NonePasses}
 use Rattle.live_laws.specs.EmittedAs.{AreEmitted, EmittedAs}
 use Rattle.live_laws.specs.PolicyLaws.{CanBeEmitted, EachReadsFew}
