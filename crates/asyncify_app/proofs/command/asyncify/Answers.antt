@@ -1,9 +1,11 @@
 -- The line on memory alone, where the words weren't read; and the one end of a call.
-use Rattle.std.proofs.Common.{◌≡◌, ◌∙◌, Err, None, Some, ap, inr, map, refl, subst}
+use Rattle.std.proofs.Common.{◌≡◌, ◌∙◌, ◌⊎◌, ℕ, List, Err, None, Option, Some, ap, inr, map, refl, subst, sym}
 use Rattle.std.specs.String.{string_bytes}
 use Rattle.transform_command.specs.Manners.{manner_of}
-use Rattle.script_model.specs.Command.{transform}
-use Rattle.script_model.specs.Spelled.{rewrites, spelled}
+use Rattle.transform_command.specs.Transforms.{IsCutShort, IsTransformed}
+use Rattle.vault_port.specs.Told.{Becomes}
+use Rattle.script_model.specs.Command.{Manner, OnTransform, transform}
+use Rattle.script_model.specs.Spelled.{Spelled, rewrites, rewriting, spelled}
 use Rattle.script_model.specs.Transcript.{out_of_memory, refusal_line, usage}
 use Rattle.command_words.specs.declared.words.WordsFault.{WordsFault}
 use Rattle.command_words.specs.declared.words.Command.{Command}
@@ -15,6 +17,25 @@ use Rattle.asyncify_app.proofs.Statuses.{script_status}
 use Rattle.script_command.specs.declared.way.Way.TheVariants.{Host, Run}
 use Rattle.transform_command.proofs.OneEnd.{transform_ends}
 use Rattle.asyncify_app.proofs.command.asyncify.Goals as goal
+
+-- what holds of the manner and the files of a `transform` that the words spell
+on_spelled : (o : Option Spelled) (how : Manner) (input output : List ℕ) (P : Manner → List ℕ → List ℕ → Type 0) → o ≡ Some (rewrites (transform how input output)) → P how input output
+    → OnTransform (rewriting o) P
+on_spelled o how input output P e h = subst (λ (q : Option Spelled). OnTransform (rewriting q) P) (sym e) h
+
+pub returns-in-Ok-Transform-clause-done : goal.returns-in-Ok-Transform-clause-done
+returns-in-Ok-Transform-clause-done g c =
+    on_spelled (spelled (map string_bytes c.args.words.now)) (manner_of c.in-Ok-Transform.settings) c.in-Ok-Transform.input.now c.in-Ok-Transform.output.now
+    (λ how input output. (c.run_transform.result ≡ 0) ⊎ (c.run_transform.result ≡ 12)
+    → Becomes (g.V.Vault.files c.args.vault.now) (g.V.Vault.files c.run_transform.new.vault) (IsTransformed how input output))
+    (c.in-Ok-Transform.ensures.command ∙ ap (λ (x : Command). Some (spelled_of x)) c.in-Ok-Transform.field-0-is) c.run_transform.ensures.done
+
+pub returns-in-Ok-Transform-clause-cut : goal.returns-in-Ok-Transform-clause-cut
+returns-in-Ok-Transform-clause-cut g c =
+    on_spelled (spelled (map string_bytes c.args.words.now)) (manner_of c.in-Ok-Transform.settings) c.in-Ok-Transform.input.now c.in-Ok-Transform.output.now
+    (λ how input output. (c.run_transform.result ≡ 9) ⊎ (c.run_transform.result ≡ 11)
+    → Becomes (g.V.Vault.files c.args.vault.now) (g.V.Vault.files c.run_transform.new.vault) (IsCutShort how input output))
+    (c.in-Ok-Transform.ensures.command ∙ ap (λ (x : Command). Some (spelled_of x)) c.in-Ok-Transform.field-0-is) c.run_transform.ensures.cut
 
 pub returns-in-Err-Memory-clause-prints_usage_memory : goal.returns-in-Err-Memory-clause-prints_usage_memory
 returns-in-Err-Memory-clause-prints_usage_memory g c = λ e n. memory_alone (refusal_line None usage) _ _ _ _ c.out_of_memory.ensures.printed
