@@ -1,9 +1,10 @@
 -- Several programs over one list of devices. A program's turn goes from one of its pauses to the next, or to its end.
-use Rattle.std.specs.Prelude.{◌≡◌, ℕ, suc, ◌+◌, ◌≤◌, ◌<◌, ◌^◌, ◌⊎◌, nat_lt, nat_le, nat_eq, ◌&&◌, if◌then◌else◌, List, [], ◌∷◌, ◌++◌, length, map, take, Option, Some, None, Bool, true}
+use Rattle.std.specs.Prelude.{◌≡◌, ℕ, suc, ◌+◌, ◌-◌, ◌≤◌, ◌<◌, ◌^◌, ◌⊎◌, nat_lt, nat_le, nat_eq, ◌&&◌, if◌then◌else◌, List, [], ◌∷◌, ◌++◌, length, map, drop, take, Option, Some, None, Bool, true}
 use Rattle.std.specs.Prelude.{false, All, MatchBool, slice_get, slice_set}
 use Rattle.std.specs.List.{filter_map, list_any, AllZip}
 use Rattle.std.specs.Option.{unwrap_or}
 use Rattle.wa_types.specs.declared.values.Value.{Value}
+use Rattle.wa_types.specs.declared.values.Value.TheVariants as V
 use Rattle.wa_types.specs.declared.syntax.Import.{Import}
 use Rattle.wa_types.specs.Syntax.{Module}
 use Rattle.wa_types.specs.Memory.{bytes_at}
@@ -14,11 +15,12 @@ use Rattle.wa_types.specs.Pausing.{Settings, joined_name}
 use Rattle.wa_model.specs.declared.answers.Detach.{Detach}
 use Rattle.wa_model.specs.declared.answers.Said.TheVariants as S
 use Rattle.wa_model.specs.declared.events.End.TheVariants.{NoAnswer, OtherImport, DeviceFault, NoDevice, StepsSpent}
-use Rattle.wa_model.specs.Outside.{Call, AnswerLine, Event, called, paused, ended, shown, Line}
+use Rattle.wa_model.specs.Machine.{Ran, still}
+use Rattle.wa_model.specs.Outside.{Answer, Call, AnswerLine, Event, called, paused, ended, shown, Line}
 use Rattle.wa_model.specs.Store.{Store}
-use Rattle.wa_model.specs.Plan.{Plan, Outcome, given, refused, ValueFits}
+use Rattle.wa_model.specs.Plan.{Entry, Plan, Outcome, given, refused, ValueFits}
 use Rattle.wa_model.specs.Blocking.{Note, note, events_of, Blocking}
-use Rattle.wa_model.specs.Protocol.{Held, over, store_held, Protocol}
+use Rattle.wa_model.specs.Protocol.{Held, over, calling, rewinds, call_again, exports_of, held_continued, store_held, Protocol}
 use Rattle.wa_model.specs.Behaves.{pause_stacks, expected_notes, without_pauses, IsMoment}
 
 -- ---- devices
@@ -71,8 +73,24 @@ pub record Look : Type 0 where
   pub at : ℕ
   pub len : ℕ
 
+-- A pause from which a program goes on: the tick at which it is due, the steps that it has used and the answer lines that it has taken
+-- before, the number of the entry that runs, the import that waits, its answer, and the store.
+pub record Halt : Type 0 where
+  pub due : ℕ
+  pub used : ℕ
+  pub taken : ℕ
+  pub entry : ℕ
+  pub import : ℕ
+  pub answer : Answer
+  pub store : Store
+
+-- Where a program of a world begins: at its start, at a pause, or behind its end, when there is nothing to come.
+pub data Origin : Type 0 where
+  at_start gone : Origin
+  at_pause : (halt : Halt) → Origin
+
 -- A program of a world: its module, what it is given, its number of steps, its answer lines, for each function import the
--- device to which it is bound, where there is one, and what is shown of its memory.
+-- device to which it is bound, where there is one, what is shown of its memory, and where it begins.
 pub record Program : Type 0 where
   pub source : Module
   pub plan : Plan
@@ -80,6 +98,7 @@ pub record Program : Type 0 where
   pub answers : List AnswerLine
   pub binds : List (Option (List ℕ))
   pub looks : List Look
+  pub origin : Origin
 
 -- a name, where its import is a function, of which the index of the type is told
 abbrev pub name_if : List ℕ → Option ℕ → Option (List ℕ)
@@ -241,9 +260,30 @@ abbrev pub unless_over : (steps : ℕ) → Held → List Note
 unless_over steps (over s) = []
 unless_over steps h = note (ended (StepsSpent steps)) (store_held h) ∷ []
 
+-- the notes of such a run of a program with this number of steps
+abbrev pub told_by : (steps : ℕ) → Ran Held Note → List Note
+told_by steps r = r.events ++ unless_over steps r.last
+
+-- where a run stands at a pause of an entry, with these outcomes to come: the stack is rewound next
+abbrev pub halted_in : Module → Plan → Halt → List Outcome → Option Entry → Held
+halted_in p plan x os None = over x.store
+halted_in p plan x os (Some e) =
+    calling (rewinds e x.import x.answer x.store) x.store (exports_of p).start_rewind (V.I32 plan.area.at ∷ []) call_again
+    (record { number = x.entry; entries = drop (suc x.entry) plan.entries; outcomes = os })
+
+-- the same of a plan's entries
+abbrev pub halted : Module → Plan → Halt → List Outcome → Held
+halted p plan x os = halted_in p plan x os (slice_get plan.entries x.entry)
+
+-- by where the program begins: the run goes on from there, by the steps that it has left
+abbrev pub story_from : Program → List Outcome → Origin → List Note
+story_from w os at_start = told_by w.steps (Protocol w.source w.plan os w.steps)
+story_from w os gone = []
+story_from w os (at_pause x) = told_by w.steps (held_continued w.source w.plan (w.steps - x.used) (still (halted w.source w.plan x os)))
+
 -- in the protocol world: those of the run under the protocol up to the program's number of steps
 abbrev pub protocol_story : Program → List Outcome → List Note
-protocol_story w os = (Protocol w.source w.plan os w.steps).events ++ unless_over w.steps (Protocol w.source w.plan os w.steps).last
+protocol_story w os = story_from w os w.origin
 
 -- an event is an end
 abbrev pub is_end : Event → Bool
@@ -266,17 +306,29 @@ pub data BlockingStory (s : Settings) (w : Program) (os : List Outcome) : List N
 
 -- ---- worlds
 
--- a program at its start
-pub record Starts (w : Program) (a : Actor) : Type 0 where
-  pub due : a.due ≡ 0
-  pub answers : a.answers ≡ w.answers
+-- when a program is due that begins here
+abbrev pub due_from : Origin → ℕ
+due_from at_start = 0
+due_from gone = 0
+due_from (at_pause x) = x.due
 
--- a program at its start in the protocol world
+-- the answer lines that it has left there
+abbrev pub answers_from : List AnswerLine → Origin → List AnswerLine
+answers_from lines at_start = lines
+answers_from lines gone = []
+answers_from lines (at_pause x) = drop x.taken lines
+
+-- a program where it begins
+pub record Starts (w : Program) (a : Actor) : Type 0 where
+  pub due : a.due ≡ due_from w.origin
+  pub answers : a.answers ≡ answers_from w.answers w.origin
+
+-- a program where it begins in the protocol world
 pub record StartsHeld (w : Program) (a : Actor) : Type 0 where
   pub starts : Starts w a
   pub story : a.notes ≡ protocol_story w a.outcomes
 
--- a program at its start in the blocking world
+-- a program where it begins in the blocking world, which is its start
 pub record StartsBlocking (s : Settings) (w : Program) (a : Actor) : Type 0 where
   pub starts : Starts w a
   pub story : BlockingStory s w a.outcomes a.notes
@@ -285,13 +337,17 @@ pub record StartsBlocking (s : Settings) (w : Program) (a : Actor) : Type 0 wher
 abbrev pub IsOver : List Actor → Type 0
 IsOver actors = All (λ (a : Actor). a.notes ≡ []) actors
 
--- A run of the protocol world over prepared modules: its lines, and the devices at its end.
-pub record ProtocolWorld (programs : List Program) (detaches : List Detach) (ds : List Device) (lines : List Line) (ds' : List Device) : Type 0 where
+-- A run of the protocol world over prepared modules, behind so many events: its lines, and the devices at its end.
+pub record ProtocolWorldFrom (begun : ℕ) (programs : List Program) (detaches : List Detach) (ds : List Device) (lines : List Line) (ds' : List Device) : Type 0 where
   pub actors : List Actor
   pub last : List Actor
   pub starts : AllZip StartsHeld programs actors
-  pub events : Events programs detaches 1 actors ds lines last ds'
+  pub events : Events programs detaches (suc begun) actors ds lines last ds'
   pub over : IsOver last
+
+-- from the first event on
+abbrev pub ProtocolWorld : List Program → List Detach → List Device → List Line → List Device → Type 0
+ProtocolWorld = ProtocolWorldFrom 0
 
 -- A program of the blocking world, and its settings.
 pub record Original : Type 0 where
