@@ -16,7 +16,7 @@
 //! - `settings`, `lists`, `imports`: what is rewritten and which locals frames save, lists of imports, and the imports listed.
 //! - `calls`, `callers`, `spread`: the calls of each body, turned round into the callers of each function, and followed from the
 //!   functions that pause by themselves.
-//! - `pausing`: `may_pause`.
+//! - `pausing`: `may_pause`, `pausing_functions`.
 #![tactic(auto)]
 
 mod callers;
@@ -29,5 +29,5 @@ mod spread;
 
 pub use imports::listed_imports;
 pub use lists::{ImportList, ListFault};
-pub use pausing::may_pause;
+pub use pausing::{may_pause, pausing_functions};
 pub use settings::{Choice, Policy, Settings};

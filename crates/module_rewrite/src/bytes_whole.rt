@@ -15,7 +15,7 @@ use crate::byte_fault::EmitFault;
 use crate::entries::put_funcs;
 use crate::pass::rewrite_funcs;
 use bytes::BytesMut;
-use call_graph::{Settings, listed_imports, may_pause};
+use call_graph::{Settings, listed_imports, pausing_functions};
 use func_rewrite::Pass;
 use local_spill::{RuntimeFault, add_runtime, ids_behind};
 use std::alloc::Global;
@@ -60,8 +60,8 @@ pub fn emit_module(alloc: Global, valid: Valid, settings: &Settings) -> Result<E
     requires short { length (Enc (module_of valid)) ≤ 2 ^ 36 }
     ensures { EmitsModule (module_of valid) (settings_of settings.now) result }
 {
-    let which = may_pause(alloc, &valid, settings)?;
     let listed = listed_imports(alloc, &valid, settings)?;
+    let which = pausing_functions(alloc, &valid, settings, &listed)?;
     let ids = ids_behind(valid.module());
     let pass = Pass {
         valid: &valid,

@@ -13,7 +13,7 @@ ghost use Rattle.module_rewrite.specs.Whole.{Asyncifies, Instruments};
 use crate::fault::RewriteFault;
 use crate::layouts::{FuncLayout, func_layouts};
 use crate::pass::rewrite_funcs;
-use call_graph::{Settings, listed_imports, may_pause};
+use call_graph::{Settings, listed_imports, pausing_functions};
 use func_rewrite::Pass;
 use local_spill::{RuntimeFault, add_runtime, ids_behind, reserved};
 use std::alloc::Global;
@@ -73,8 +73,8 @@ pub fn rewrite_module(
     if let Some(at) = reserved(module) {
         return Err(RewriteFault::Reserved(at));
     }
-    let which = may_pause(alloc, valid, settings)?;
     let listed = listed_imports(alloc, valid, settings)?;
+    let which = pausing_functions(alloc, valid, settings, &listed)?;
     let ids = ids_behind(module);
     let pass = Pass {
         valid,

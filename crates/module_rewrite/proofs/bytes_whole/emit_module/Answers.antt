@@ -22,6 +22,9 @@ use Rattle.module_rewrite.proofs.EntryLemmas.{entries_fit}
 use Rattle.module_rewrite.proofs.Parts.{parts_around, parts_held, parts_locals, parts_short, text_fault}
 use Rattle.module_rewrite.proofs.bytes_whole.emit_module.Goals as goal
 
+pub pausing_functions-which-requires : goal.pausing_functions-which-requires
+pausing_functions-which-requires c = c.deref.ensures.value ∙ c.in_ok-listed.ensures
+
 pub ids_behind-ids-requires-clause-funcs : goal.ids_behind-ids-requires-clause-funcs
 ids_behind-ids-requires-clause-funcs c =
     subst (λ (z : ModuleValue). func_space (module_of z) < 2 ^ 31) (sym c.module.ensures.same) (space_small (module_of c.args.valid) c.requires.sizes)
@@ -32,17 +35,17 @@ ids_behind-ids-requires-clause-globals c =
 
 pub rewrite_funcs-requires-clause-which : goal.rewrite_funcs-requires-clause-which
 rewrite_funcs-requires-clause-which c =
-    ap length c.deref.ensures.value ∙ which_long (module_of c.args.valid) (settings_of c.args.settings.now) c.in_ok-which.which.items c.in_ok-which.ensures
+    ap length c.deref-2.ensures.value ∙ which_long (module_of c.args.valid) (settings_of c.args.settings.now) c.in_ok-which.which.items c.in_ok-which.ensures
 
 pub rewrite_funcs-requires-clause-listed : goal.rewrite_funcs-requires-clause-listed
-rewrite_funcs-requires-clause-listed c = c.deref-2.ensures.value ∙ c.in_ok-listed.ensures
+rewrite_funcs-requires-clause-listed c = c.deref-3.ensures.value ∙ c.in_ok-listed.ensures
 
 pub rewrite_funcs-requires-clause-fits : goal.rewrite_funcs-requires-clause-fits
 rewrite_funcs-requires-clause-fits c =
     let m = module_of c.args.valid in
     let s = settings_of c.args.settings.now in
     let valid = subst (λ (z : ModuleValue). Valid (module_of z)) c.module.ensures.same c.module.ensures.valid in
-    entries_fit m s c.deref.result.now valid c.requires.sizes (subst (TellsMayPause m s) (sym c.deref.ensures.value) c.in_ok-which.ensures) c.requires.short
+    entries_fit m s c.deref-2.result.now valid c.requires.sizes (subst (TellsMayPause m s) (sym c.deref-2.ensures.value) c.in_ok-which.ensures) c.requires.short
 
 pub rewrite_funcs-requires-clause-empty : goal.rewrite_funcs-requires-clause-empty
 rewrite_funcs-requires-clause-empty c = c.new-entries.ensures
@@ -52,7 +55,7 @@ returns-in_err-rewrite_funcs c =
     let m = module_of c.args.valid in
     let s = settings_of c.args.settings.now in
     let p = err_from_is_err_and c.from_residual-in_err-rewrite_funcs.result c.from_residual-in_err-rewrite_funcs.ensures.1 in
-    let h = subst (λ w. IsRefused m w c.in_err-rewrite_funcs.field-0.0) c.deref.ensures.value c.in_err-rewrite_funcs.ensures in
+    let h = subst (λ w. IsRefused m w c.in_err-rewrite_funcs.field-0.0) c.deref-2.ensures.value c.in_err-rewrite_funcs.ensures in
     subst (EmitsModule m s) (sym p.1) (subst (λ z. EmitsModule m s (Err z)) (sym p.2)
     (bytes_fault m s c.in_ok-which.which.items c.in_err-rewrite_funcs.field-0.0 c.requires.free c.in_ok-which.ensures h))
 
@@ -70,13 +73,13 @@ put_funcs-requires-clause-locals c =
     let s = settings_of c.args.settings.now in
     let which = c.in_ok-which.which.items in
     let valid = subst (λ (z : ModuleValue). Valid (module_of z)) c.module.ensures.same c.module.ensures.valid in
-    let e = subst (λ w. AllTaken m s w (λ fs. HoldsEntries c.rewrite_funcs.new.sink (flat_map code_entry fs))) c.deref.ensures.value c.in_ok-rewrite_funcs.ensures in
+    let e = subst (λ w. AllTaken m s w (λ fs. HoldsEntries c.rewrite_funcs.new.sink (flat_map code_entry fs))) c.deref-2.ensures.value c.in_ok-rewrite_funcs.ensures in
     let with = c.in_ok-with.ensures.done ∙ ap (λ (z : ModuleValue). with_runtime (module_of z)) c.into_module-module.ensures.same in
     let many = ap (λ (z : ModuleValue). length z.funcs.items) c.into_module-module.ensures.same in
     let len = length-map c.args.valid.funcs.items func_of in
     let own : c.len-own.result ≡ length m.funcs = omega (arith, c.len-own.ensures, many, len) in
     parts_locals m s which e.funcs e.emitted valid c.requires.sizes c.in_ok-which.ensures e.few c.requires.few c.requires.short
-    c.in_ok-with.with with c.len-own.result own c.deref-3.result.now c.deref-3.ensures.value
+    c.in_ok-with.with with c.len-own.result own c.deref-4.result.now c.deref-4.ensures.value
 
 pub put_funcs-requires-clause-short : goal.put_funcs-requires-clause-short
 put_funcs-requires-clause-short c =
@@ -84,13 +87,13 @@ put_funcs-requires-clause-short c =
     let s = settings_of c.args.settings.now in
     let which = c.in_ok-which.which.items in
     let valid = subst (λ (z : ModuleValue). Valid (module_of z)) c.module.ensures.same c.module.ensures.valid in
-    let e = subst (λ w. AllTaken m s w (λ fs. HoldsEntries c.rewrite_funcs.new.sink (flat_map code_entry fs))) c.deref.ensures.value c.in_ok-rewrite_funcs.ensures in
+    let e = subst (λ w. AllTaken m s w (λ fs. HoldsEntries c.rewrite_funcs.new.sink (flat_map code_entry fs))) c.deref-2.ensures.value c.in_ok-rewrite_funcs.ensures in
     let with = c.in_ok-with.ensures.done ∙ ap (λ (z : ModuleValue). with_runtime (module_of z)) c.into_module-module.ensures.same in
     let many = ap (λ (z : ModuleValue). length z.funcs.items) c.into_module-module.ensures.same in
     let len = length-map c.args.valid.funcs.items func_of in
     let own : c.len-own.result ≡ length m.funcs = omega (arith, c.len-own.ensures, many, len) in
     parts_short m s which e.funcs e.emitted valid c.requires.sizes c.in_ok-which.ensures e.few c.requires.few c.requires.short
-    c.in_ok-with.with with c.len-own.result own c.deref-3.result.now c.deref-3.ensures.value
+    c.in_ok-with.with with c.len-own.result own c.deref-4.result.now c.deref-4.ensures.value
 
 pub encode_around-requires : goal.encode_around-requires
 encode_around-requires c =
@@ -98,16 +101,16 @@ encode_around-requires c =
     let s = settings_of c.args.settings.now in
     let which = c.in_ok-which.which.items in
     let valid = subst (λ (z : ModuleValue). Valid (module_of z)) c.module.ensures.same c.module.ensures.valid in
-    let e = subst (λ w. AllTaken m s w (λ fs. HoldsEntries c.rewrite_funcs.new.sink (flat_map code_entry fs))) c.deref.ensures.value c.in_ok-rewrite_funcs.ensures in
+    let e = subst (λ w. AllTaken m s w (λ fs. HoldsEntries c.rewrite_funcs.new.sink (flat_map code_entry fs))) c.deref-2.ensures.value c.in_ok-rewrite_funcs.ensures in
     let with = c.in_ok-with.ensures.done ∙ ap (λ (z : ModuleValue). with_runtime (module_of z)) c.into_module-module.ensures.same in
     let many = ap (λ (z : ModuleValue). length z.funcs.items) c.into_module-module.ensures.same in
     let len = length-map c.args.valid.funcs.items func_of in
     let own : c.len-own.result ≡ length m.funcs = omega (arith, c.len-own.ensures, many, len) in
     let a = bare_around (module_of c.in_ok-with.with) (with_runtime (record m { funcs = e.funcs })) (module_of c.drop_bodies.new.«module») c.in_ok-drop_bodies.ensures
     (parts_around m s which e.funcs e.emitted valid c.requires.sizes c.in_ok-which.ensures e.few c.requires.few c.requires.short
-    c.in_ok-with.with with c.len-own.result own c.deref-3.result.now c.deref-3.ensures.value) in
+    c.in_ok-with.with with c.len-own.result own c.deref-4.result.now c.deref-4.ensures.value) in
     let h = parts_held m s which e.funcs e.emitted valid c.requires.sizes c.in_ok-which.ensures e.few c.requires.few c.requires.short
-    c.in_ok-with.with with c.len-own.result own c.deref-3.result.now c.deref-3.ensures.value
+    c.in_ok-with.with with c.len-own.result own c.deref-4.result.now c.deref-4.ensures.value
     c.rewrite_funcs.new.sink c.put_funcs.new.out e.held c.in_ok-put_funcs.ensures in
     (with_runtime (record m { funcs = e.funcs }), a, h)
 
@@ -117,16 +120,16 @@ returns-in_err-text c =
     let s = settings_of c.args.settings.now in
     let which = c.in_ok-which.which.items in
     let valid = subst (λ (z : ModuleValue). Valid (module_of z)) c.module.ensures.same c.module.ensures.valid in
-    let e = subst (λ w. AllTaken m s w (λ fs. HoldsEntries c.rewrite_funcs.new.sink (flat_map code_entry fs))) c.deref.ensures.value c.in_ok-rewrite_funcs.ensures in
+    let e = subst (λ w. AllTaken m s w (λ fs. HoldsEntries c.rewrite_funcs.new.sink (flat_map code_entry fs))) c.deref-2.ensures.value c.in_ok-rewrite_funcs.ensures in
     let with = c.in_ok-with.ensures.done ∙ ap (λ (z : ModuleValue). with_runtime (module_of z)) c.into_module-module.ensures.same in
     let many = ap (λ (z : ModuleValue). length z.funcs.items) c.into_module-module.ensures.same in
     let len = length-map c.args.valid.funcs.items func_of in
     let own : c.len-own.result ≡ length m.funcs = omega (arith, c.len-own.ensures, many, len) in
     let a = bare_around (module_of c.in_ok-with.with) (with_runtime (record m { funcs = e.funcs })) (module_of c.drop_bodies.new.«module») c.in_ok-drop_bodies.ensures
     (parts_around m s which e.funcs e.emitted valid c.requires.sizes c.in_ok-which.ensures e.few c.requires.few c.requires.short
-    c.in_ok-with.with with c.len-own.result own c.deref-3.result.now c.deref-3.ensures.value) in
+    c.in_ok-with.with with c.len-own.result own c.deref-4.result.now c.deref-4.ensures.value) in
     let h = parts_held m s which e.funcs e.emitted valid c.requires.sizes c.in_ok-which.ensures e.few c.requires.few c.requires.short
-    c.in_ok-with.with with c.len-own.result own c.deref-3.result.now c.deref-3.ensures.value
+    c.in_ok-with.with with c.len-own.result own c.deref-4.result.now c.deref-4.ensures.value
     c.rewrite_funcs.new.sink c.put_funcs.new.out e.held c.in_ok-put_funcs.ensures in
     let can : CanBeEmitted m s which = record { valid = valid; sizes = c.requires.sizes; few = few_written m which e.few; tells = c.in_ok-which.ensures } in
     let as_ = functions_law m s which e.funcs e.emitted in
@@ -142,16 +145,16 @@ returns c =
     let s = settings_of c.args.settings.now in
     let which = c.in_ok-which.which.items in
     let valid = subst (λ (z : ModuleValue). Valid (module_of z)) c.module.ensures.same c.module.ensures.valid in
-    let e = subst (λ w. AllTaken m s w (λ fs. HoldsEntries c.rewrite_funcs.new.sink (flat_map code_entry fs))) c.deref.ensures.value c.in_ok-rewrite_funcs.ensures in
+    let e = subst (λ w. AllTaken m s w (λ fs. HoldsEntries c.rewrite_funcs.new.sink (flat_map code_entry fs))) c.deref-2.ensures.value c.in_ok-rewrite_funcs.ensures in
     let with = c.in_ok-with.ensures.done ∙ ap (λ (z : ModuleValue). with_runtime (module_of z)) c.into_module-module.ensures.same in
     let many = ap (λ (z : ModuleValue). length z.funcs.items) c.into_module-module.ensures.same in
     let len = length-map c.args.valid.funcs.items func_of in
     let own : c.len-own.result ≡ length m.funcs = omega (arith, c.len-own.ensures, many, len) in
     let a = bare_around (module_of c.in_ok-with.with) (with_runtime (record m { funcs = e.funcs })) (module_of c.drop_bodies.new.«module») c.in_ok-drop_bodies.ensures
     (parts_around m s which e.funcs e.emitted valid c.requires.sizes c.in_ok-which.ensures e.few c.requires.few c.requires.short
-    c.in_ok-with.with with c.len-own.result own c.deref-3.result.now c.deref-3.ensures.value) in
+    c.in_ok-with.with with c.len-own.result own c.deref-4.result.now c.deref-4.ensures.value) in
     let h = parts_held m s which e.funcs e.emitted valid c.requires.sizes c.in_ok-which.ensures e.few c.requires.few c.requires.short
-    c.in_ok-with.with with c.len-own.result own c.deref-3.result.now c.deref-3.ensures.value
+    c.in_ok-with.with with c.len-own.result own c.deref-4.result.now c.deref-4.ensures.value
     c.rewrite_funcs.new.sink c.put_funcs.new.out e.held c.in_ok-put_funcs.ensures in
     let can : CanBeEmitted m s which = record { valid = valid; sizes = c.requires.sizes; few = few_written m which e.few; tells = c.in_ok-which.ensures } in
     let as_ = functions_law m s which e.funcs e.emitted in

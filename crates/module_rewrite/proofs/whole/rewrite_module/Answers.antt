@@ -14,6 +14,9 @@ use Rattle.module_rewrite.proofs.InnerModule.{Inner, taken_inner}
 use Rattle.module_rewrite.proofs.WholeLemmas.{globals_small, none_is, space_small, taking_fault, which_long}
 use Rattle.module_rewrite.proofs.whole.rewrite_module.Goals as goal
 
+pub pausing_functions-which-requires : goal.pausing_functions-which-requires
+pausing_functions-which-requires c = c.deref.ensures.value ∙ c.in_ok-listed.ensures
+
 pub ids_behind-ids-requires-clause-funcs : goal.ids_behind-ids-requires-clause-funcs
 ids_behind-ids-requires-clause-funcs c =
     let v = c.args.valid.now in
@@ -33,10 +36,10 @@ rewrite_funcs-requires-clause-sizes c = c.requires.sizes
 
 pub rewrite_funcs-requires-clause-which : goal.rewrite_funcs-requires-clause-which
 rewrite_funcs-requires-clause-which c =
-    ap length c.deref.ensures.value ∙ which_long (module_of c.args.valid.now) (settings_of c.args.settings.now) c.in_ok-which.which.items c.in_ok-which.ensures
+    ap length c.deref-2.ensures.value ∙ which_long (module_of c.args.valid.now) (settings_of c.args.settings.now) c.in_ok-which.which.items c.in_ok-which.ensures
 
 pub rewrite_funcs-requires-clause-listed : goal.rewrite_funcs-requires-clause-listed
-rewrite_funcs-requires-clause-listed c = c.deref-2.ensures.value ∙ c.in_ok-listed.ensures
+rewrite_funcs-requires-clause-listed c = c.deref-3.ensures.value ∙ c.in_ok-listed.ensures
 
 pub rewrite_funcs-requires-clause-fits : goal.rewrite_funcs-requires-clause-fits
 rewrite_funcs-requires-clause-fits c = record { kept = λ i f e. tt; written = λ x f h e told few is. tt }
@@ -53,7 +56,7 @@ returns-in_err-rewrite_funcs c =
     let which = c.in_ok-which.which.items in
     let free : reserved_at m ≡ None = ap (λ (z : ModuleValue). reserved_at (module_of z)) (sym same) ∙ sym c.reserved.ensures ∙ none_is c.reserved.result c.in_default.not-Some in
     let p = err_from_is_err_and c.from_residual-in_err-rewrite_funcs.result c.from_residual-in_err-rewrite_funcs.ensures.1 in
-    let h = subst (λ w. IsRefused m w c.in_err-rewrite_funcs.field-0.0) c.deref.ensures.value c.in_err-rewrite_funcs.ensures in
+    let h = subst (λ w. IsRefused m w c.in_err-rewrite_funcs.field-0.0) c.deref-2.ensures.value c.in_err-rewrite_funcs.ensures in
     subst (Instruments m s) (sym p.1) (subst (λ z. Instruments m s (Err z)) (sym p.2) (taking_fault m s which c.in_err-rewrite_funcs.field-0.0 free c.in_ok-which.ensures h))
 
 pub with_parts-requires-clause-funcs : goal.with_parts-requires-clause-funcs
@@ -62,7 +65,7 @@ with_parts-requires-clause-funcs c =
     let s = settings_of c.args.settings.now in
     let which = c.in_ok-which.which.items in
     let inner : Inner m s which (module_of c.in_ok-inner.inner) = taken_inner s which _ (map func_of c.rewrite_funcs.new.sink.items) _ c.args.valid.now c.in_ok-inner.inner c.reserved.result
-    c.module-module.ensures.same c.module-module.ensures.valid c.requires.sizes c.reserved.ensures c.in_default.not-Some c.in_ok-which.ensures c.deref.ensures.value c.in_ok-rewrite_funcs.ensures c.in_ok-inner.ensures in
+    c.module-module.ensures.same c.module-module.ensures.valid c.requires.sizes c.reserved.ensures c.in_default.not-Some c.in_ok-which.ensures c.deref-2.ensures.value c.in_ok-rewrite_funcs.ensures c.in_ok-inner.ensures in
     inner.funcs_fit
 
 pub with_parts-requires-clause-globals : goal.with_parts-requires-clause-globals
@@ -71,7 +74,7 @@ with_parts-requires-clause-globals c =
     let s = settings_of c.args.settings.now in
     let which = c.in_ok-which.which.items in
     let inner : Inner m s which (module_of c.in_ok-inner.inner) = taken_inner s which _ (map func_of c.rewrite_funcs.new.sink.items) _ c.args.valid.now c.in_ok-inner.inner c.reserved.result
-    c.module-module.ensures.same c.module-module.ensures.valid c.requires.sizes c.reserved.ensures c.in_default.not-Some c.in_ok-which.ensures c.deref.ensures.value c.in_ok-rewrite_funcs.ensures c.in_ok-inner.ensures in
+    c.module-module.ensures.same c.module-module.ensures.valid c.requires.sizes c.reserved.ensures c.in_default.not-Some c.in_ok-which.ensures c.deref-2.ensures.value c.in_ok-rewrite_funcs.ensures c.in_ok-inner.ensures in
     inner.globals_fit
 
 pub with_parts-requires-clause-free : goal.with_parts-requires-clause-free
@@ -80,7 +83,7 @@ with_parts-requires-clause-free c =
     let s = settings_of c.args.settings.now in
     let which = c.in_ok-which.which.items in
     let inner : Inner m s which (module_of c.in_ok-inner.inner) = taken_inner s which _ (map func_of c.rewrite_funcs.new.sink.items) _ c.args.valid.now c.in_ok-inner.inner c.reserved.result
-    c.module-module.ensures.same c.module-module.ensures.valid c.requires.sizes c.reserved.ensures c.in_default.not-Some c.in_ok-which.ensures c.deref.ensures.value c.in_ok-rewrite_funcs.ensures c.in_ok-inner.ensures in
+    c.module-module.ensures.same c.module-module.ensures.valid c.requires.sizes c.reserved.ensures c.in_default.not-Some c.in_ok-which.ensures c.deref-2.ensures.value c.in_ok-rewrite_funcs.ensures c.in_ok-inner.ensures in
     inner.still_free
 
 pub with_parts-requires-clause-valid : goal.with_parts-requires-clause-valid
@@ -89,7 +92,7 @@ with_parts-requires-clause-valid c =
     let s = settings_of c.args.settings.now in
     let which = c.in_ok-which.which.items in
     let inner : Inner m s which (module_of c.in_ok-inner.inner) = taken_inner s which _ (map func_of c.rewrite_funcs.new.sink.items) _ c.args.valid.now c.in_ok-inner.inner c.reserved.result
-    c.module-module.ensures.same c.module-module.ensures.valid c.requires.sizes c.reserved.ensures c.in_default.not-Some c.in_ok-which.ensures c.deref.ensures.value c.in_ok-rewrite_funcs.ensures c.in_ok-inner.ensures in
+    c.module-module.ensures.same c.module-module.ensures.valid c.requires.sizes c.reserved.ensures c.in_default.not-Some c.in_ok-which.ensures c.deref-2.ensures.value c.in_ok-rewrite_funcs.ensures c.in_ok-inner.ensures in
     inner.valid
 
 pub with_parts-requires-clause-sizes : goal.with_parts-requires-clause-sizes
@@ -98,7 +101,7 @@ with_parts-requires-clause-sizes c =
     let s = settings_of c.args.settings.now in
     let which = c.in_ok-which.which.items in
     let inner : Inner m s which (module_of c.in_ok-inner.inner) = taken_inner s which _ (map func_of c.rewrite_funcs.new.sink.items) _ c.args.valid.now c.in_ok-inner.inner c.reserved.result
-    c.module-module.ensures.same c.module-module.ensures.valid c.requires.sizes c.reserved.ensures c.in_default.not-Some c.in_ok-which.ensures c.deref.ensures.value c.in_ok-rewrite_funcs.ensures c.in_ok-inner.ensures in
+    c.module-module.ensures.same c.module-module.ensures.valid c.requires.sizes c.reserved.ensures c.in_default.not-Some c.in_ok-which.ensures c.deref-2.ensures.value c.in_ok-rewrite_funcs.ensures c.in_ok-inner.ensures in
     inner.sizes
 
 pub returns : goal.returns
@@ -107,7 +110,7 @@ returns c =
     let s = settings_of c.args.settings.now in
     let which = c.in_ok-which.which.items in
     let inner : Inner m s which (module_of c.in_ok-inner.inner) = taken_inner s which _ (map func_of c.rewrite_funcs.new.sink.items) _ c.args.valid.now c.in_ok-inner.inner c.reserved.result
-    c.module-module.ensures.same c.module-module.ensures.valid c.requires.sizes c.reserved.ensures c.in_default.not-Some c.in_ok-which.ensures c.deref.ensures.value c.in_ok-rewrite_funcs.ensures c.in_ok-inner.ensures in
+    c.module-module.ensures.same c.module-module.ensures.valid c.requires.sizes c.reserved.ensures c.in_default.not-Some c.in_ok-which.ensures c.deref-2.ensures.value c.in_ok-rewrite_funcs.ensures c.in_ok-inner.ensures in
     let is = c.in_ok-rewritten.ensures.done in
     record {
       free = inner.free;
