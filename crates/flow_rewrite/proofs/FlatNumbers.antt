@@ -1,13 +1,13 @@
 -- The numbers of a flat function are those of the function that it stands for.
-use Rattle.std.proofs.Common.{◌≡◌, ℕ, suc, List, [], ◌∷◌, ◌++◌, map, Option, Some, Bool, true, false, refl, sym, ap, ◌∙◌}
+use Rattle.std.proofs.Common.{◌≡◌, ℕ, suc, List, [], ◌∷◌, ◌++◌, map, Option, Some, Bool, refl, sym, ap, ◌∙◌}
 use Rattle.std.specs.Prelude.{if◌then◌else◌}
 use Rattle.std.proofs.lemmas.List.{map-append}
-use Rattle.wa_types.specs.Syntax.{Code, done, plain, Module}
+use Rattle.wa_types.specs.Syntax.{done, plain, Module}
 use Rattle.wa_types.specs.Pausing.{Callee, direct, indirect, Settings, Listed, has_number, places_from}
 use Rattle.run_theory.specs.Flat.{Stmts, no_more, computes, copies, calls, leaps, leaps_if, leaps_by, nests, decides, halts}
 use Rattle.run_theory.specs.FlatFits.{StmtsFit}
 use Rattle.guard_form.specs.Pieces.{call_to, sole_callee}
-use Rattle.guard_form.proofs.PlacesOfCalls.{OneCall, all_calls, computes_nothing, one_call, computes_calls, copies_calls, call_calls, leaps_calls, leaps_if_calls, table_calls, halts_calls, nests_calls, decides_calls, none_calls}
+use Rattle.guard_form.proofs.PlacesOfCalls.{all_calls, computes_nothing, one_call, computes_calls, copies_calls, call_calls, leaps_calls, leaps_if_calls, table_calls, halts_calls, nests_calls, decides_calls, none_calls}
 use Rattle.flow_rewrite.specs.Numbering.{callees, gets_number, FlatNumbers}
 
 sole_is : (c : Callee) → sole_callee (plain (call_to c) done) ≡ Some c

@@ -1,11 +1,13 @@
 -- A whole function.
-use Rattle.std.proofs.Common.{◌≡◌, ◌<◌, ◌^◌, List, [], length, Bool, true, false, refl, sym, ap, ◌∙◌, subst, arith}
+use Rattle.std.proofs.Common.{◌≡◌, ℕ, ◌<◌, ◌^◌, List, [], length, Bool, true, false, refl, sym, ap, ◌∙◌, subst, arith}
 use Rattle.std.specs.Prelude.{if◌then◌else◌}
 use Rattle.wa_types.specs.declared.instrs.Instr.{Instr}
 use Rattle.wa_types.specs.Syntax.{Code, done}
 use Rattle.wa_types.specs.View.{onto, code}
 use Rattle.wa_types.proofs.ViewLemmas.{onto_done, onto_none}
+use Rattle.wa_model.specs.declared.flat.Stmt.{Stmt}
 use Rattle.run_theory.specs.Flat.{FlatFunc}
+use Rattle.run_theory.specs.FlatView.{stmts}
 use Rattle.run_theory.specs.FlatFits.{StmtsFit, FlatFits}
 use Rattle.guard_form.specs.Pieces.{call_total, first_piece, units}
 use Rattle.guard_form.specs.Guarded.{each_end, GuardIndices, guarded, guarded_code, front}
@@ -22,6 +24,12 @@ pub func_ready : (g : Guards) (f : FlatFunc) → g.index ≡ length f.locals →
 func_ready g f e rises fits room =
     let sh = fits.shallow in
     record { rises = rises; fits = record { fit = subst (λ n. StmtsFit n 1 f.body) (sym e) fits.statements; shallow = omega arith }; few = omega arith; room = omega arith }
+
+pub part_whole : (g : Guards) (n k : ℕ) (xs ys : List Stmt) (p : Part) → xs ≡ ys → n ≡ 0 → k ≡ 0 → IsPart (indices g) g.numbers.items 0 n k (stmts xs) p
+    → IsPart (indices g) g.numbers.items 0 0 0 (stmts ys) p
+part_whole g n k xs ys p e place number part =
+    subst (λ z. IsPart (indices g) g.numbers.items 0 0 z (stmts ys) p) number (subst (λ z. IsPart (indices g) g.numbers.items 0 z k (stmts ys) p) place
+    (subst (λ zs. IsPart (indices g) g.numbers.items 0 n k (stmts zs) p) e part))
 
 pub whole_is : (g : Guards) (f : FlatFunc) (p : Part) (body : Code) → g.one_call ≡ false → g.index ≡ length f.locals → IsPart (indices g) g.numbers.items 0 0 0 f.body p
     → body ≡ (if p.held then code p.code.items else guarded (indices g) (code p.code.items) done) → body ≡ guarded_code g.state g.numbers.items f

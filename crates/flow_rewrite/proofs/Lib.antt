@@ -12,6 +12,7 @@ pub mod PutLemmas
 pub mod RaiseLemmas
 pub mod SequenceLemmas
 pub mod StmtLemmas
+pub mod StmtWeights
 pub mod UnitLemmas
 pub mod UnitSteps
 mod WalkSteps

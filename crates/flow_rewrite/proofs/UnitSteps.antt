@@ -7,7 +7,7 @@ use Rattle.wa_types.specs.declared.instrs.Instr.{Instr}
 use Rattle.wa_types.specs.declared.values.Value.TheVariants as V
 use Rattle.wa_types.specs.declared.operators.NumOp.TheVariants.{I32Ne}
 use Rattle.wa_types.specs.declared.instrs.Instr.TheVariants.{BrIf}
-use Rattle.wa_types.specs.Syntax.{const, num, global_get, local_get, local_set, br_if, basic, call, call_indirect, a_block, Code, done, plain, nest, branch}
+use Rattle.wa_types.specs.Syntax.{const, num, global_get, local_get, br_if, basic, call, call_indirect, a_block, Code, done, plain, nest, branch}
 use Rattle.wa_types.specs.View.{onto, code}
 use Rattle.wa_types.specs.Pausing.{Callee, direct, indirect}
 use Rattle.wa_types.proofs.ViewLemmas.{onto_done, onto_none}

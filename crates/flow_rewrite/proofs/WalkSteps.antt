@@ -194,7 +194,7 @@ simple_free ps n (calls op stack args to rest) h = absurd h
 simple_free ps n (nests y body rest) h = absurd h
 simple_free ps n (decides o a b rest) h = absurd h
 
-pub simple_stepped : (g : Guards) (d : ℕ) (a b : Sequence) (x : Stmt) → ReadyAt g d a x → IsSimple (stmt_in_front x no_more) → b.out.items ≡ a.out.items → b.behind ≡ a.behind
+pub simple_stepped : (g : Guards) (d : ℕ) (a b : Sequence) (x : Stmt) → ReadyAt g d a (stmt_in_front x no_more) → IsSimple (stmt_in_front x no_more) → b.out.items ≡ a.out.items → b.behind ≡ a.behind
     → b.call.items ≡ a.call.items → b.held ≡ a.held → b.number ≡ a.number → b.place ≡ a.place
     → Puts a.piece.items b.piece.items (one_code (stmt_in_front x no_more)) → Stepped g d a b (stmt_in_front x)
 simple_stepped g d a b x rd simple out behind block held number place puts =
@@ -224,35 +224,37 @@ call_as g d a b x op stack args to xs e q st = stepped_as g d a b (calls (in_fro
 
 -- ---- constructs
 
-pub nest_ready : (g : Guards) (d : ℕ) (at : Sequence) (x : Stmt) (y : Shape) (body : Stmts) → stmt_in_front x no_more ≡ nests y body no_more → ReadyAt g d at x
-    → Ready g (d + 1) at.place at.number body
+pub nest_ready : (g : Guards) (d : ℕ) (at : Sequence) (y : Shape) (body : Stmts) (n k : ℕ) → ReadyAt g d at (nests y body no_more) → n ≡ at.place → k ≡ at.number → Ready g (d + 1) n k body
 unfolding code_of depth_of
-nest_ready g d at x y body e h =
-    let f = subst (Fits g.index d) e h.fits in
+nest_ready g d at y body n k h place number =
     let z : suc d ≡ d + 1 = omega arith in
-    let sh = f.shallow in let rm = h.room in let t = ap call_total e in
-    record { rises = h.rises; fits = record { fit = subst (λ l. StmtsFit g.index (suc l) body) z f.fit.0; shallow = omega arith }; few = h.good.few; room = omega arith }
+    let sh = h.fits.shallow in let rm = h.room in let fw = h.good.few in
+    record { rises = h.rises; fits = record { fit = subst (λ l. StmtsFit g.index (suc l) body) z h.fits.fit.0; shallow = omega arith }; few = omega arith; room = omega arith }
 
-pub if_ready : (g : Guards) (d : ℕ) (at : Sequence) (x : Stmt) (o : Operand) (a b : Stmts) → stmt_in_front x no_more ≡ decides o a b no_more → ReadyAt g d at x
-    → Ready g (d + 1) at.place at.number a
+pub if_ready : (g : Guards) (d : ℕ) (at : Sequence) (o : Operand) (a b : Stmts) (n k : ℕ) → ReadyAt g d at (decides o a b no_more) → n ≡ at.place → k ≡ at.number → Ready g (d + 1) n k a
 unfolding code_of depth_of
-if_ready g d at x o a b e h =
-    let f = subst (Fits g.index d) e h.fits in
+if_ready g d at o a b n k h place number =
     let z : suc d ≡ d + 1 = omega arith in
-    let sh = f.shallow in let rm = h.room in let t = ap call_total e in
+    let sh = h.fits.shallow in let rm = h.room in let fw = h.good.few in
     let dp = depth_got o (branch None (code_of a) (code_of b) done) in
-    record { rises = h.rises; fits = record { fit = subst (λ l. StmtsFit g.index (suc l) a) z f.fit.1; shallow = omega arith }; few = h.good.few; room = omega arith }
+    record { rises = h.rises; fits = record { fit = subst (λ l. StmtsFit g.index (suc l) a) z h.fits.fit.1; shallow = omega arith }; few = omega arith; room = omega arith }
 
-pub else_ready : (g : Guards) (d : ℕ) (at : Sequence) (x : Stmt) (o : Operand) (a b : Stmts) (p : Part) (d2 : ℕ) → stmt_in_front x no_more ≡ decides o a b no_more
-    → ReadyAt g d at x → IsPart (indices g) g.numbers.items d2 at.place at.number a p → Ready g (d + 1) p.place p.number b
+pub else_ready : (g : Guards) (d : ℕ) (at : Sequence) (o : Operand) (a b : Stmts) (n k : ℕ) (p : Part) → ReadyAt g d at (decides o a b no_more)
+    → IsPart (indices g) g.numbers.items (suc d) at.place at.number a p → n ≡ p.place → k ≡ p.number → Ready g (d + 1) n k b
 unfolding code_of depth_of
-else_ready g d at x o a b p d2 e h part =
-    let f = subst (Fits g.index d) e h.fits in
+else_ready g d at o a b n k p h part place number =
     let z : suc d ≡ d + 1 = omega arith in
-    let sh = f.shallow in let rm = h.room in let t = ap call_total e in
+    let sh = h.fits.shallow in let rm = h.room in
     let dp = depth_got o (branch None (code_of a) (code_of b) done) in
     let few = h.good.few in let nf = numbers_few g.numbers.items at.place a in let pp = part.place in let pn = part.number in
-    record { rises = h.rises; fits = record { fit = subst (λ l. StmtsFit g.index (suc l) b) z f.fit.2; shallow = omega arith }; few = omega arith; room = omega arith }
+    record { rises = h.rises; fits = record { fit = subst (λ l. StmtsFit g.index (suc l) b) z h.fits.fit.2; shallow = omega arith }; few = omega arith; room = omega arith }
+
+-- a part, written inside a construct
+pub part_inside : (g : Guards) (d n n' k k' : ℕ) (s : Stmts) (p : Part) → n ≡ n' → k ≡ k' → IsPart (indices g) g.numbers.items (d + 1) n k s p → IsPart (indices g) g.numbers.items (suc d) n' k' s p
+part_inside g d n n' k k' s p e f part =
+    let z : d + 1 ≡ suc d = omega arith in
+    subst (λ x. IsPart (indices g) g.numbers.items x n' k' s p) z
+    (subst (λ x. IsPart (indices g) g.numbers.items (d + 1) n' x s p) f (subst (λ x. IsPart (indices g) g.numbers.items (d + 1) x k s p) e part))
 
 -- ---- along the list
 
@@ -278,7 +280,7 @@ walked_start g d n k s at rd out behind piece held place number =
     false_true false e f = cc
 
 pub walked_ready : (g : Guards) (d n k : ℕ) (xs : List Stmt) (at : Sequence) (j : ℕ) (x : Stmt) → j < length xs → x ≡ get_or xs j x → Ready g d n k (stmts xs)
-    → Walked g d n k (stmts xs) at (stmts (drop j xs)) → ReadyAt g d at x
+    → Walked g d n k (stmts xs) at (stmts (drop j xs)) → ReadyAt g d at (stmt_in_front x no_more)
 walked_ready g d n k xs at j x lt is rd w =
     let e = stmts_step xs j x lt is in
     let f = fits_front g.index d x (stmts (drop (j + 1) xs)) (subst (Fits g.index d) e w.fits) in

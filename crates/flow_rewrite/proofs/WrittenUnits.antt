@@ -1,9 +1,9 @@
 -- What is written of a unit, and along units.
-use Rattle.std.proofs.Common.{◌≡◌, ℕ, suc, ◌+◌, ◌<◌, ◌≤◌, ◌∷◌, ◌++◌, List, [], length, get_or, drop, Option, Some, None, Bool, true, false, refl, sym, ap, ◌∙◌, subst, arith}
+use Rattle.std.proofs.Common.{◌≡◌, ℕ, suc, ◌+◌, ◌<◌, ◌≤◌, List, [], length, get_or, drop, Option, Some, None, Bool, true, false, refl, sym, ap, ◌∙◌, subst, arith}
 use Rattle.wa_types.specs.declared.values.ValType.TheVariants.{I32}
 use Rattle.wa_types.specs.declared.instrs.Instr.{Instr}
 use Rattle.wa_types.specs.Syntax.{global_get, basic, a_block, Shape, Code, done, plain, nest, branch}
-use Rattle.wa_types.specs.View.{in_front, onto, code}
+use Rattle.wa_types.specs.View.{onto, code}
 use Rattle.wa_types.proofs.ViewLemmas.{code_none, onto_none}
 use Rattle.wa_model.specs.declared.flat.Operand.{Operand}
 use Rattle.run_theory.specs.Flat.{followed_by}
@@ -13,7 +13,6 @@ use Rattle.guard_form.proofs.UnitLemmas.{last_none}
 use Rattle.guard_form.specs.Bounds.{unit_count}
 use Rattle.guard_form.specs.Guarded.{GuardIndices, raised, guarded, choice, arm, Exit, each_end, its_end, by_label, nowhere, exit_inside, own_block, last_piece, call_guarded, call_front, front}
 use Rattle.flow_rewrite.specs.Putting.{Puts}
-use Rattle.flow_rewrite.proofs.PutLemmas.{put_one}
 use Rattle.flow_rewrite.specs.declared.guards.Guards.{Guards}
 use Rattle.flow_rewrite.specs.CallsEmitting.{indices}
 use Rattle.flow_rewrite.specs.declared.pieces.Target.{Target}

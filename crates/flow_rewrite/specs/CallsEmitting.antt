@@ -1,12 +1,11 @@
 -- What of a sequence is written so far.
-use Rattle.std.specs.Prelude.{◌≡◌, ◌≤◌, ◌<◌, ◌^◌, ◌+◌, ◌||◌, ℕ, List, length, get_or, None, Bool, true, false, if◌then◌else◌}
-use Rattle.wa_types.specs.Syntax.{const, num, basic, a_block, Code, done, plain, nest}
+use Rattle.std.specs.Prelude.{◌≡◌, ◌≤◌, ◌<◌, ◌^◌, ◌+◌, ◌||◌, ℕ, suc, List, length, get_or, None, Bool, true, false, if◌then◌else◌}
+use Rattle.wa_types.specs.Syntax.{const, num, basic, a_block, Shape, Code, done, plain, nest}
 use Rattle.wa_types.specs.declared.operators.NumOp.TheVariants.{I32LtU}
 use Rattle.wa_types.specs.declared.values.Value.TheVariants as V
 use Rattle.wa_types.specs.View.{onto, code}
-use Rattle.wa_model.specs.declared.flat.Stmt.{Stmt}
-use Rattle.run_theory.specs.Flat.{Stmts, no_more, code_of}
-use Rattle.run_theory.specs.FlatView.{stmt_in_front}
+use Rattle.wa_model.specs.declared.flat.Operand.{Operand}
+use Rattle.run_theory.specs.Flat.{Stmts, no_more, nests, decides, code_of}
 use Rattle.guard_form.specs.Pieces.{numbers_in, call_total, holds_call, first_piece, units}
 use Rattle.guard_form.specs.Guarded.{each_end, GuardIndices, raised, index_with, front}
 use Rattle.flow_rewrite.specs.Statements.{Fits}
@@ -69,6 +68,17 @@ pub record Stepped (g : Guards) (d : ℕ) (a b : Sequence) (x : Stmts → Stmts)
   pub good : Good b
   pub same : (s : Stmts) → Same (indices g) g.numbers.items d a (x s) b s
 
+-- A block or a loop was written, whatever statements are its body and however deep it stands.
+abbrev pub PutsNest : Guards → Shape → Part → (old new : Sequence) → Type 0
+PutsNest g y p a b =
+    (d : ℕ) (body : Stmts) → IsPart (indices g) g.numbers.items (suc d) a.place a.number body p → Fits g.index d (nests y body no_more) → Stepped g d a b (nests y body)
+
+-- So was an `if`.
+abbrev pub PutsIf : Guards → Operand → (first second : Part) → (old new : Sequence) → Type 0
+PutsIf g o p q a b =
+    (d : ℕ) (sa sb : Stmts) → IsPart (indices g) g.numbers.items (suc d) a.place a.number sa p → IsPart (indices g) g.numbers.items (suc d) p.place p.number sb q
+    → Fits g.index d (decides o sa sb no_more) → Stepped g d a b (decides o sa sb)
+
 -- in a state that isn't 0, which arm is gone into, by whether each holds a numbered call; the else arm's first number is told
 abbrev pub choice_code : GuardIndices → (then_held else_held : Bool) → ℕ → Code
 choice_code i a false k = plain (basic (const (V.I32 1))) done
@@ -82,12 +92,12 @@ pub record Ready (g : Guards) (d n k : ℕ) (s : Stmts) : Type 0 where
   pub few : k ≤ n
   pub room : n + call_total s < 2 ^ 32
 
--- so can one statement
-pub record ReadyAt (g : Guards) (d : ℕ) (at : Sequence) (x : Stmt) : Type 0 where
+-- they can be put behind what is written of a sequence
+pub record ReadyAt (g : Guards) (d : ℕ) (at : Sequence) (s : Stmts) : Type 0 where
   pub rises : Rises g.numbers.items
   pub good : Good at
-  pub fits : Fits g.index d (stmt_in_front x no_more)
-  pub room : at.place + call_total (stmt_in_front x no_more) < 2 ^ 32
+  pub fits : Fits g.index d s
+  pub room : at.place + call_total s < 2 ^ 32
 
 -- Where a sequence is, with statements to come: they come to what the whole comes to.
 pub record Walked (g : Guards) (d n k : ℕ) (s : Stmts) (at : Sequence) (t : Stmts) : Type 0 where

@@ -52,6 +52,17 @@ fn put_search(
     Ok(())
 }
 
+/// A numbered call as it is put: its number, the locals that it takes, what it goes to, the local of its result, and the
+/// piece behind it.
+#[derive(Clone, Copy)]
+pub(crate) struct NumberedCall<'a> {
+    pub number: u32,
+    pub slots: &'a [u32],
+    pub target: Target,
+    pub to: Option<u32>,
+    pub behind: &'a [Instr],
+}
+
 /// Puts a numbered call with its arguments, what notes it and leaves the function's block by this label, and the piece
 /// behind it, its labels raised by so much.
 fn put_called(
@@ -59,28 +70,25 @@ fn put_called(
     out: &mut Vec<Instr>,
     label: u32,
     by: u32,
-    number: u32,
-    slots: &[u32],
-    target: Target,
-    to: Option<u32>,
-    behind: &[Instr],
+    call: NumberedCall<'_>,
 ) -> Result<(), AllocError>
-    requires { Raisable 0 by (code behind.now) }
-    ensures { OnOk result (code out.new.items ≡ onto out.old.items (slots_got slots.now
-        (plain (call_to (callee_of target)) (noted (indices guards.now) label number (set_to to (raised 0 by (code behind.now))))))) }
+    requires { Raisable 0 by (code call.behind.now) }
+    ensures { OnOk result (code out.new.items ≡ onto out.old.items (slots_got call.entry.slots.now
+        (plain (call_to (callee_of call.entry.target)) (noted (indices guards.now) label call.entry.number
+        (set_to call.entry.to (raised 0 by (code call.entry.behind.now))))))) }
 {
-    put_slots(out, slots)?;
-    put_target(out, target)?;
+    put_slots(out, call.slots)?;
+    put_target(out, call.target)?;
     put_noted(
         out,
         guards.one_call,
         guards.state,
         guards.index,
-        number,
+        call.number,
         label,
     )?;
-    put_to(out, to)?;
-    put_raised(guards.alloc, out, by, behind)?;
+    put_to(out, call.to)?;
+    put_raised(guards.alloc, out, by, call.behind)?;
     Ok(())
 }
 
@@ -92,47 +100,34 @@ pub(crate) fn put_call(
     out: &mut Vec<Instr>,
     exit: ExitTo,
     depth: u32,
-    number: u32,
     piece: &[Instr],
-    slots: &[u32],
-    target: Target,
-    to: Option<u32>,
-    behind: &[Instr],
+    call: NumberedCall<'_>,
 ) -> Result<(), AllocError>
     requires depth { depth < 2 ^ 31 }
     requires label { LabelBelow (2 ^ 31) (exit_of exit) }
     requires piece { Raisable 0 2 (code piece.now) }
-    requires behind { Raisable 0 2 (code behind.now) }
+    requires behind { Raisable 0 2 (code call.behind.now) }
     ensures { OnOk result ((next : Code) → (own_block (exit_of exit) false ≡ false → next ≡ done)
-        → onto out.new.items next ≡ onto out.old.items (call_front (indices guards.now) (exit_of exit) false number (code piece.now)
-        (λ own. call_guarded (indices guards.now) own depth number slots.now (callee_of target) to (code behind.now)) next)) }
+        → onto out.new.items next ≡ onto out.old.items (call_front (indices guards.now) (exit_of exit) false call.entry.number (code piece.now)
+        (λ own. call_guarded (indices guards.now) own depth call.entry.number call.entry.slots.now (callee_of call.entry.target) call.entry.to
+        (code call.entry.behind.now)) next)) }
 {
     match exit {
         ExitTo::End => {
             let mut body = Vec::new(guards.alloc);
-            put_search(guards, &mut body, 1, 2, number, piece)?;
-            put_called(
-                guards,
-                &mut body,
-                depth + 1,
-                1,
-                number,
-                slots,
-                target,
-                to,
-                behind,
-            )?;
+            put_search(guards, &mut body, 1, 2, call.number, piece)?;
+            put_called(guards, &mut body, depth + 1, 1, call)?;
             out.push(Instr::Block { result: None, body })?;
             Ok(())
         }
         ExitTo::Label(label) => {
-            put_search(guards, out, label + 1, 1, number, piece)?;
-            put_called(guards, out, depth, 0, number, slots, target, to, behind)?;
+            put_search(guards, out, label + 1, 1, call.number, piece)?;
+            put_called(guards, out, depth, 0, call)?;
             Ok(())
         }
         ExitTo::Nowhere => {
             put_guarded(guards, out, piece)?;
-            put_called(guards, out, depth, 0, number, slots, target, to, behind)?;
+            put_called(guards, out, depth, 0, call)?;
             Ok(())
         }
     }

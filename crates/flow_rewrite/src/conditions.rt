@@ -1,6 +1,6 @@
 //! Conditions of ifs with numbered calls.
 
-ghost use Rattle.std.specs.Prelude.{◌≡◌, ◌+◌, IfOk, OnOk};
+ghost use Rattle.std.specs.Prelude.{◌≡◌, ◌+◌, ℕ, IfOk, OnOk};
 ghost use Rattle.wa_types.specs.View.{code};
 ghost use Rattle.guard_form.specs.Guarded.{choice};
 ghost use Rattle.guard_form.specs.Pieces.{got_any, numbers_in};
@@ -18,27 +18,29 @@ use std::alloc::AllocError;
 use wa_model::Operand;
 use wa_types::{Instr, NumOp, ValType, Value};
 
-/// Which arm is gone into in a state that isn't 0, where the else arm's first number is this.
-fn choose(
-    guards: &Guards,
-    then_units: &[Unit],
-    else_units: &[Unit],
-    _first: u32,
-    number: u32,
-) -> Result<Vec<Instr>, AllocError>
-    requires { number ≡ _first + numbers_in (units_of then_units.now) }
-    ensures { IfOk result (λ v. code v.items ≡ choice (indices guards.now) _first (units_of then_units.now) (units_of else_units.now)) }
+/// The units of an `if`'s arms, and the number of the else arm's first numbered call.
+#[derive(Clone, Copy)]
+pub(crate) struct Arms<'a> {
+    pub then_units: &'a [Unit],
+    pub else_units: &'a [Unit],
+    pub else_number: u32,
+}
+
+/// Which arm is gone into in a state that isn't 0.
+fn choose(guards: &Guards, arms: Arms<'_>) -> Result<Vec<Instr>, AllocError>
+    ensures { IfOk result (λ v. (first : ℕ) → arms.entry.else_number ≡ first + numbers_in (units_of arms.entry.then_units.now)
+        → code v.items ≡ choice (indices guards.now) first (units_of arms.entry.then_units.now) (units_of arms.entry.else_units.now)) }
 {
     let mut out = Vec::new(guards.alloc);
-    if else_units.is_empty() {
+    if arms.else_units.is_empty() {
         out.push(Instr::Const(Value::I32(1)))?;
         return Ok(out);
     }
-    if then_units.is_empty() {
+    if arms.then_units.is_empty() {
         out.push(Instr::Const(Value::I32(0)))?;
         return Ok(out);
     }
-    put_index(&mut out, guards.index, number, NumOp::I32LtU)?;
+    put_index(&mut out, guards.index, arms.else_number, NumOp::I32LtU)?;
     Ok(out)
 }
 
@@ -55,23 +57,22 @@ fn put_any(out: &mut Vec<Instr>, cond: Option<Operand>) -> Result<(), AllocError
     }
 }
 
-/// Puts the condition of an `if` behind the piece in front of it, or in a state that isn't 0 the choice of the arm.
+/// Puts the condition of an `if` behind the piece in front of it, or in a state that isn't 0 the choice of the arm,
+/// whatever the number of the then arm's first call.
 #[inline(never)]
 pub(crate) fn put_condition(
     guards: &Guards,
     out: &mut Vec<Instr>,
     piece: &[Instr],
     cond: Option<Operand>,
-    then_units: &[Unit],
-    else_units: &[Unit],
-    _first: u32,
-    number: u32,
+    arms: Arms<'_>,
 ) -> Result<(), AllocError>
-    requires piece { Raisable 0 2 (code piece.now) }
-    requires number { number ≡ _first + numbers_in (units_of then_units.now) }
-    ensures { OnOk result (Puts out.old.items out.new.items (condition_code (indices guards.now) _first (code piece.now) cond (units_of then_units.now) (units_of else_units.now))) }
+    requires { Raisable 0 2 (code piece.now) }
+    ensures { OnOk result ((first : ℕ) → arms.entry.else_number ≡ first + numbers_in (units_of arms.entry.then_units.now)
+        → Puts out.old.items out.new.items (condition_code (indices guards.now) first (code piece.now) cond
+        (units_of arms.entry.then_units.now) (units_of arms.entry.else_units.now))) }
 {
-    let sought = choose(guards, then_units, else_units, _first, number)?;
+    let sought = choose(guards, arms)?;
     let mut inside = raised(guards.alloc, 0, 1, piece)?;
     put_any(&mut inside, cond)?;
     put_test(out, guards.state, Some(ValType::I32), sought, inside)?;

@@ -1,33 +1,23 @@
 //! Blocks, loops and ifs, guarded where they hold a numbered call.
 
-ghost use Rattle.std.specs.Prelude.{◌≡◌, ◌<◌, ◌+◌, suc, ◌||◌, IfOk, OnOk};
+ghost use Rattle.std.specs.Prelude.{◌≡◌, ◌||◌, IfOk, OnOk};
 ghost use Rattle.wa_types.specs.Syntax.{a_block, a_loop};
 ghost use Rattle.wa_types.specs.View.{code};
-ghost use Rattle.run_theory.specs.Flat.{nests, decides, no_more};
-ghost use Rattle.run_theory.specs.FlatView.{stmts};
-ghost use Rattle.flow_rewrite.specs.Statements.{Fits};
-ghost use Rattle.flow_rewrite.specs.CallsEmitting.{choice_code, indices, Good, IsPart, Stepped};
+ghost use Rattle.flow_rewrite.specs.CallsEmitting.{choice_code, indices, Good, PutsIf, PutsNest};
 
 use crate::guards::{Guards, put_guarded};
 use crate::labels::raised;
 use crate::put::{put_index, put_operand, put_test};
 use crate::sequence::{Part, Sequence, settle};
 use std::alloc::AllocError;
-use wa_model::{Operand, Stmt};
+use wa_model::Operand;
 use wa_types::{Instr, NumOp, ValType, Value};
 
 /// Puts a block, with its body as it is written.
-pub fn put_block(
-    guards: &Guards,
-    at: &mut Sequence,
-    _body: &[Stmt],
-    inner: Part,
-    _depth: u32,
-) -> Result<(), AllocError>
-    requires good { Good at.old }
-    requires part { IsPart (indices guards.now) guards.now.numbers.items (suc _depth) at.old.place at.old.number (stmts _body.now) inner }
-    requires fits { Fits guards.now.index _depth (nests a_block (stmts _body.now) no_more) }
-    ensures { OnOk result (Stepped guards.now _depth at.old at.new (nests a_block (stmts _body.now))) }
+#[inline(never)]
+pub(crate) fn put_block(guards: &Guards, at: &mut Sequence, inner: Part) -> Result<(), AllocError>
+    requires { Good at.old }
+    ensures { OnOk result (PutsNest guards.now a_block inner at.old at.new) }
 {
     let body = inner.code;
     if !inner.held {
@@ -46,17 +36,10 @@ pub fn put_block(
 }
 
 /// Puts a loop, with its body as it is written.
-pub fn put_loop(
-    guards: &Guards,
-    at: &mut Sequence,
-    _body: &[Stmt],
-    inner: Part,
-    _depth: u32,
-) -> Result<(), AllocError>
-    requires good { Good at.old }
-    requires part { IsPart (indices guards.now) guards.now.numbers.items (suc _depth) at.old.place at.old.number (stmts _body.now) inner }
-    requires fits { Fits guards.now.index _depth (nests a_loop (stmts _body.now) no_more) }
-    ensures { OnOk result (Stepped guards.now _depth at.old at.new (nests a_loop (stmts _body.now))) }
+#[inline(never)]
+pub(crate) fn put_loop(guards: &Guards, at: &mut Sequence, inner: Part) -> Result<(), AllocError>
+    requires { Good at.old }
+    ensures { OnOk result (PutsNest guards.now a_loop inner at.old at.new) }
 {
     let body = inner.code;
     if !inner.held {
@@ -104,21 +87,16 @@ fn choice(
 }
 
 /// Puts an `if`, with its arms as they are written.
-pub fn put_if(
+#[inline(never)]
+pub(crate) fn put_if(
     guards: &Guards,
     at: &mut Sequence,
     cond: Operand,
-    _then_arm: &[Stmt],
-    _else_arm: &[Stmt],
     first: Part,
     second: Part,
-    _depth: u32,
 ) -> Result<(), AllocError>
-    requires good { Good at.old }
-    requires first { IsPart (indices guards.now) guards.now.numbers.items (suc _depth) at.old.place at.old.number (stmts _then_arm.now) first }
-    requires second { IsPart (indices guards.now) guards.now.numbers.items (suc _depth) first.place first.number (stmts _else_arm.now) second }
-    requires fits { Fits guards.now.index _depth (decides cond (stmts _then_arm.now) (stmts _else_arm.now) no_more) }
-    ensures { OnOk result (Stepped guards.now _depth at.old at.new (decides cond (stmts _then_arm.now) (stmts _else_arm.now))) }
+    requires { Good at.old }
+    ensures { OnOk result (PutsIf guards.now cond first second at.old at.new) }
 {
     let then_arm = first.code;
     let else_arm = second.code;

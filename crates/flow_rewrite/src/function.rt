@@ -82,7 +82,8 @@ pub fn guard(
         index: func.locals.len() as u32,
         one_call: false,
     };
-    let part = write_sequence(&guards, &func.body, 0, 0, 0)?;
+    let mut part = Part::begin(alloc, 0, 0);
+    write_sequence(&guards, &mut part, &func.body, 0)?;
     let body = guarded_body(&guards, part)?;
     Ok(GuardedFunc {
         func: func.func,

@@ -16,7 +16,7 @@
 //!   piece, or begins the block in which a numbered call waits.
 //! - `constructs`: blocks, loops and ifs. One that holds no numbered call is an instruction of its piece, any other a unit; the arm of
 //!   an if is picked by the saved index of the call while the stack is rewound.
-//! - `write`, `function`: the walk over statements, and `guard`.
+//! - `write`, `function`: the walk over statements, in which each body is written where it is handed in, and `guard`.
 //! - `pieces`, `counts`, `exits`: a function in pieces and units, whether it has one numbered call alone, and where runs go that have
 //!   passed a sequence's calls.
 //! - `calls`, `conditions`, `sequences`: numbered calls, conditions of ifs, and `guarded_pieces`.
@@ -48,3 +48,4 @@ pub use numbering::number_calls;
 pub use pieces::{Pieces, Target, Unit};
 pub use put::{put_copy, put_operand, put_operands};
 pub use sequences::guarded_pieces;
+pub use units::FlatCall;

@@ -1,6 +1,6 @@
 //! What is written of a sequence so far, and how it ends.
 
-ghost use Rattle.std.specs.Prelude.{◌≡◌, IfOk, OnOk, if◌then◌else◌};
+ghost use Rattle.std.specs.Prelude.{◌≡◌, [], false, OnOk, if◌then◌else◌};
 ghost use Rattle.wa_types.specs.View.{code};
 ghost use Rattle.run_theory.specs.Flat.{no_more};
 ghost use Rattle.flow_rewrite.specs.CallsEmitting.{indices, written_with, Good, Settled};
@@ -30,13 +30,51 @@ pub struct Sequence {
     pub number: u32,
 }
 
-/// A sequence as it is written: guarded where it holds a numbered call, else as it is.
+impl Sequence {
+    /// Nothing is written yet, and the next call has this place, the next numbered one this number.
+    pub(crate) fn begin(alloc: Global, place: u32, number: u32) -> Sequence
+        ensures out { result.out.items ≡ [] }
+        ensures behind { result.behind ≡ false }
+        ensures piece { result.piece.items ≡ [] }
+        ensures held { result.held ≡ false }
+        ensures place { result.place ≡ place }
+        ensures number { result.number ≡ number }
+    {
+        Sequence {
+            out: Vec::new(alloc),
+            behind: false,
+            call: Vec::new(alloc),
+            piece: Vec::new(alloc),
+            held: false,
+            place,
+            number,
+        }
+    }
+}
+
+/// A sequence as it is written: guarded where it holds a numbered call, else as it is. It has the place of the next call
+/// behind it and the number of the next numbered one; before it is written, those of its own first ones.
 #[derive(Drop)]
 pub struct Part {
     pub code: Vec<Instr>,
     pub held: bool,
     pub place: u32,
     pub number: u32,
+}
+
+impl Part {
+    /// Nothing is written yet.
+    pub(crate) fn begin(alloc: Global, place: u32, number: u32) -> Part
+        ensures place { result.place ≡ place }
+        ensures number { result.number ≡ number }
+    {
+        Part {
+            code: Vec::new(alloc),
+            held: false,
+            place,
+            number,
+        }
+    }
 }
 
 /// Closes the block of a numbered call, where one is open, with the piece behind the call.
@@ -55,29 +93,24 @@ pub fn settle(alloc: Global, at: &mut Sequence) -> Result<(), AllocError>
     Ok(())
 }
 
-/// Ends a sequence.
-pub fn finish(guards: &Guards, at: Sequence) -> Result<Part, AllocError>
-    requires { Good at }
-    ensures code { IfOk result (λ p. code p.code.items ≡ (if at.held then written_with (indices guards.now) guards.now.numbers.items 0 at no_more else code at.piece.items)) }
-    ensures held { IfOk result (λ p. p.held ≡ at.held) }
-    ensures place { IfOk result (λ p. p.place ≡ at.place) }
-    ensures number { IfOk result (λ p. p.number ≡ at.number) }
+/// Ends a sequence, and hands it over as it is written.
+#[inline(never)]
+pub(crate) fn finish(guards: &Guards, at: &mut Sequence, part: &mut Part) -> Result<(), AllocError>
+    requires { Good at.old }
+    ensures code { OnOk result (code part.new.code.items ≡ (if at.old.held then written_with (indices guards.now) guards.now.numbers.items 0 at.old no_more else code at.old.piece.items)) }
+    ensures held { OnOk result (part.new.held ≡ at.old.held) }
+    ensures place { OnOk result (part.new.place ≡ at.old.place) }
+    ensures number { OnOk result (part.new.number ≡ at.old.number) }
 {
-    let mut at = at;
+    part.held = at.held;
+    part.place = at.place;
+    part.number = at.number;
     if !at.held {
-        return Ok(Part {
-            code: at.piece,
-            held: false,
-            place: at.place,
-            number: at.number,
-        });
+        part.code = mem::replace(&mut at.piece, Vec::new(guards.alloc));
+        return Ok(());
     }
-    settle(guards.alloc, &mut at)?;
+    settle(guards.alloc, at)?;
     put_guarded(guards, &mut at.out, &at.piece)?;
-    Ok(Part {
-        code: at.out,
-        held: true,
-        place: at.place,
-        number: at.number,
-    })
+    part.code = mem::replace(&mut at.out, Vec::new(guards.alloc));
+    Ok(())
 }

@@ -11,8 +11,8 @@ ghost use Rattle.flow_rewrite.specs.Exits.{exit_of};
 ghost use Rattle.flow_rewrite.specs.Fronts.{piece_behind, IsArm, IsFront, Ready, Stepped};
 ghost use Rattle.flow_rewrite.specs.UnitView.{unit_in_front, units_of};
 
-use crate::calls::put_call;
-use crate::conditions::put_condition;
+use crate::calls::{NumberedCall, put_call};
+use crate::conditions::{Arms, put_condition};
 use crate::exits::{ExitTo, at_call, inside_block, inside_loop};
 use crate::guards::{Guards, put_guarded};
 use crate::labels::put_raised;
@@ -151,18 +151,14 @@ fn put_unit(
             behind,
         } => {
             let exit = at_call(spot.exit, more);
-            put_call(
-                guards,
-                out,
-                exit,
-                spot.depth,
-                spot.number,
-                piece,
+            let call = NumberedCall {
+                number: spot.number,
                 slots,
-                *target,
-                *to,
+                target: *target,
+                to: *to,
                 behind,
-            )?;
+            };
+            put_call(guards, out, exit, spot.depth, piece, call)?;
             Ok(spot.number + 1)
         }
         Unit::Block { first, body, .. } => {
@@ -214,16 +210,12 @@ fn put_unit(
             };
             let mut else_arm = Vec::new(guards.alloc);
             let next = write_arm(guards, &mut else_arm, inside, else_first, else_units)?;
-            put_condition(
-                guards,
-                out,
-                piece,
-                *cond,
+            let arms = Arms {
                 then_units,
                 else_units,
-                spot.number,
-                middle,
-            )?;
+                else_number: middle,
+            };
+            put_condition(guards, out, piece, *cond, arms)?;
             put_if(out, None, then_arm, else_arm)?;
             Ok(next)
         }

@@ -16,6 +16,16 @@ use crate::sequence::{Sequence, settle};
 use std::alloc::AllocError;
 use wa_types::{Instr, NumOp};
 
+/// A call of a flat function: its instruction, the locals of the operand stack, how many of the last ones it takes, and
+/// the local of its result.
+#[derive(Clone, Copy)]
+pub struct FlatCall<'a> {
+    pub op: &'a Instr,
+    pub stack: &'a [u32],
+    pub args: u32,
+    pub to: Option<u32>,
+}
+
 /// The last entries of a stack, as many as a call takes.
 fn taken(stack: &[u32], args: u32) -> &[u32]
     requires { args ≤ length stack.now }
@@ -29,23 +39,20 @@ fn taken(stack: &[u32], args: u32) -> &[u32]
 fn put_free_call(
     guards: &Guards,
     at: &mut Sequence,
-    op: &Instr,
-    stack: &[u32],
-    args: u32,
-    to: Option<u32>,
+    call: FlatCall<'_>,
     _depth: u32,
 ) -> Result<(), AllocError>
     requires free { is_place guards.now.numbers.items at.old.place ≡ false }
-    requires leaf { is_leaf op.now ≡ true }
+    requires leaf { is_leaf call.op.now ≡ true }
     requires good { Good at.old }
     requires room { at.old.place + 1 < 2 ^ 32 }
-    requires fits { Fits guards.now.index _depth (calls (in_front op.now done) stack.now args to no_more) }
-    requires args { args ≤ length stack.now }
-    ensures { OnOk result (Stepped guards.now _depth at.old at.new (calls (in_front op.now done) stack.now args to)) }
+    requires fits { Fits guards.now.index _depth (calls (in_front call.op.now done) call.stack.now call.args call.to no_more) }
+    requires args { call.args ≤ length call.stack.now }
+    ensures { OnOk result (Stepped guards.now _depth at.old at.new (calls (in_front call.entry.op.now done) call.entry.stack.now call.entry.args call.entry.to)) }
 {
-    put_slots(&mut at.piece, taken(stack, args))?;
-    put_copy(guards.alloc, &mut at.piece, op)?;
-    put_to(&mut at.piece, to)?;
+    put_slots(&mut at.piece, taken(call.stack, call.args))?;
+    put_copy(guards.alloc, &mut at.piece, call.op)?;
+    put_to(&mut at.piece, call.to)?;
     at.place += 1;
     Ok(())
 }
@@ -54,19 +61,16 @@ fn put_free_call(
 fn put_numbered_call(
     guards: &Guards,
     at: &mut Sequence,
-    op: &Instr,
-    stack: &[u32],
-    args: u32,
-    to: Option<u32>,
+    call: FlatCall<'_>,
     depth: u32,
 ) -> Result<(), AllocError>
     requires numbered { is_place guards.now.numbers.items at.old.place ≡ true }
-    requires leaf { is_leaf op.now ≡ true }
+    requires leaf { is_leaf call.op.now ≡ true }
     requires good { Good at.old }
     requires room { at.old.place + 1 < 2 ^ 32 }
-    requires fits { Fits guards.now.index depth (calls (in_front op.now done) stack.now args to no_more) }
-    requires args { args ≤ length stack.now }
-    ensures { OnOk result (Stepped guards.now depth at.old at.new (calls (in_front op.now done) stack.now args to)) }
+    requires fits { Fits guards.now.index depth (calls (in_front call.op.now done) call.stack.now call.args call.to no_more) }
+    requires args { call.args ≤ length call.stack.now }
+    ensures { OnOk result (Stepped guards.now depth at.old at.new (calls (in_front call.entry.op.now done) call.entry.stack.now call.entry.args call.entry.to)) }
 {
     settle(guards.alloc, at)?;
     let mut other = Vec::new(guards.alloc);
@@ -75,8 +79,8 @@ fn put_numbered_call(
     let piece = raised(guards.alloc, 0, 2, &at.piece)?;
     let mut block = Vec::new(guards.alloc);
     put_test(&mut block, guards.state, None, other, piece)?;
-    put_slots(&mut block, taken(stack, args))?;
-    put_copy(guards.alloc, &mut block, op)?;
+    put_slots(&mut block, taken(call.stack, call.args))?;
+    put_copy(guards.alloc, &mut block, call.op)?;
     put_noted(
         &mut block,
         guards.one_call,
@@ -85,7 +89,7 @@ fn put_numbered_call(
         at.number,
         depth + 1,
     )?;
-    put_to(&mut block, to)?;
+    put_to(&mut block, call.to)?;
     at.call = block;
     at.piece = Vec::new(guards.alloc);
     at.behind = true;
@@ -96,26 +100,24 @@ fn put_numbered_call(
 }
 
 /// Puts a call.
-pub fn put_call(
+#[inline(never)]
+pub(crate) fn put_call(
     guards: &Guards,
     at: &mut Sequence,
-    op: &Instr,
-    stack: &[u32],
-    args: u32,
-    to: Option<u32>,
+    call: FlatCall<'_>,
     depth: u32,
 ) -> Result<(), AllocError>
     requires rises { Rises guards.now.numbers.items }
-    requires leaf { is_leaf op.now ≡ true }
+    requires leaf { is_leaf call.op.now ≡ true }
     requires good { Good at.old }
     requires room { at.old.place + 1 < 2 ^ 32 }
-    requires fits { Fits guards.now.index depth (calls (in_front op.now done) stack.now args to no_more) }
-    requires args { args ≤ length stack.now }
-    ensures { OnOk result (Stepped guards.now depth at.old at.new (calls (in_front op.now done) stack.now args to)) }
+    requires fits { Fits guards.now.index depth (calls (in_front call.op.now done) call.stack.now call.args call.to no_more) }
+    requires args { call.args ≤ length call.stack.now }
+    ensures { OnOk result (Stepped guards.now depth at.old at.new (calls (in_front call.entry.op.now done) call.entry.stack.now call.entry.args call.entry.to)) }
 {
     if is_numbered(guards, at.place) {
-        put_numbered_call(guards, at, op, stack, args, to, depth)
+        put_numbered_call(guards, at, call, depth)
     } else {
-        put_free_call(guards, at, op, stack, args, to, depth)
+        put_free_call(guards, at, call, depth)
     }
 }

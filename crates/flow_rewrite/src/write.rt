@@ -1,7 +1,8 @@
 //! The walk over statements.
 
-ghost use Rattle.std.specs.Prelude.{◌≡◌, IfOk, OnOk};
-ghost use Rattle.run_theory.specs.Flat.{no_more};
+ghost use Rattle.std.specs.Prelude.{◌≡◌, OnOk};
+ghost use Rattle.wa_types.specs.Syntax.{a_block, a_loop};
+ghost use Rattle.run_theory.specs.Flat.{decides, nests, no_more};
 ghost use Rattle.run_theory.specs.FlatView.{stmt_in_front, stmts};
 ghost use Rattle.flow_rewrite.specs.Statements.{one_code, IsSimple};
 ghost use Rattle.flow_rewrite.specs.Putting.{Puts};
@@ -11,12 +12,13 @@ use crate::constructs::{put_block, put_if, put_loop};
 use crate::guards::Guards;
 use crate::put::{put_copy, put_operand, put_operands, put_to};
 use crate::sequence::{Part, Sequence, finish};
-use crate::units::put_call;
+use crate::units::{FlatCall, put_call};
 use std::alloc::{AllocError, Global};
-use wa_model::Stmt;
+use wa_model::{Operand, Stmt};
 use wa_types::Instr;
 
 /// Puts a statement that is one instruction, and neither a call nor a construct.
+#[inline(never)]
 fn put_simple(alloc: Global, piece: &mut Vec<Instr>, stmt: &Stmt) -> Result<(), AllocError>
     requires { IsSimple (stmt_in_front stmt.now no_more) }
     ensures { OnOk result (Puts piece.old.items piece.new.items (one_code (stmt_in_front stmt.now no_more))) }
@@ -63,38 +65,30 @@ fn put_simple(alloc: Global, piece: &mut Vec<Instr>, stmt: &Stmt) -> Result<(), 
     }
 }
 
-/// The statements of a body or of an arm, as they are written inside so many constructs.
+/// Writes the statements of a body or of an arm inside so many constructs. What is written is put where it is handed in, so
+/// that little stands on the stack at a level.
 #[cycle(write)]
 pub(crate) fn write_sequence(
     guards: &Guards,
+    part: &mut Part,
     body: &[Stmt],
     depth: u32,
-    place: u32,
-    number: u32,
-) -> Result<Part, AllocError>
-    requires { Ready guards.now depth place number (stmts body.now) }
-    ensures { IfOk result (λ p. IsPart (indices guards.now) guards.now.numbers.items depth place number (stmts body.now) p) }
+) -> Result<(), AllocError>
+    requires { Ready guards.now depth part.old.place part.old.number (stmts body.now) }
+    ensures { OnOk result (IsPart (indices guards.now) guards.now.numbers.items depth part.old.place part.old.number (stmts body.now) part.new) }
 {
-    let mut at = Sequence {
-        out: Vec::new(guards.alloc),
-        behind: false,
-        call: Vec::new(guards.alloc),
-        piece: Vec::new(guards.alloc),
-        held: false,
-        place,
-        number,
-    };
+    let mut at = Sequence::begin(guards.alloc, part.place, part.number);
     for stmt in body {
         write_stmt(guards, &mut at, stmt, depth)?;
     }
-    let part = finish(guards, at)?;
-    Ok(part)
+    finish(guards, &mut at, part)?;
+    Ok(())
 }
 
 /// Puts a statement inside so many constructs.
 #[cycle(write)]
 fn write_stmt(guards: &Guards, at: &mut Sequence, stmt: &Stmt, depth: u32) -> Result<(), AllocError>
-    requires { ReadyAt guards.now depth at.old stmt.now }
+    requires { ReadyAt guards.now depth at.old (stmt_in_front stmt.now no_more) }
     ensures { OnOk result (Stepped guards.now depth at.old at.new (stmt_in_front stmt.now)) }
 {
     match stmt {
@@ -103,24 +97,77 @@ fn write_stmt(guards: &Guards, at: &mut Sequence, stmt: &Stmt, depth: u32) -> Re
             stack,
             args,
             to,
-        } => put_call(guards, at, op, stack, *args, *to, depth),
-        Stmt::Block(body) => {
-            let inner = write_sequence(guards, body, depth + 1, at.place, at.number)?;
-            put_block(guards, at, body, inner, depth)
+        } => {
+            let call = FlatCall {
+                op,
+                stack,
+                args: *args,
+                to: *to,
+            };
+            put_call(guards, at, call, depth)
         }
-        Stmt::Loop(body) => {
-            let inner = write_sequence(guards, body, depth + 1, at.place, at.number)?;
-            put_loop(guards, at, body, inner, depth)
-        }
+        Stmt::Block(body) => write_block(guards, at, body, depth),
+        Stmt::Loop(body) => write_loop(guards, at, body, depth),
         Stmt::If {
             cond,
             then_arm,
             else_arm,
-        } => {
-            let first = write_sequence(guards, then_arm, depth + 1, at.place, at.number)?;
-            let second = write_sequence(guards, else_arm, depth + 1, first.place, first.number)?;
-            put_if(guards, at, *cond, then_arm, else_arm, first, second, depth)
-        }
+        } => write_if(guards, at, *cond, then_arm, else_arm, depth),
         _ => put_simple(guards.alloc, &mut at.piece, stmt),
     }
+}
+
+/// Puts a block with this body.
+#[cycle(write)]
+#[inline(never)]
+fn write_block(
+    guards: &Guards,
+    at: &mut Sequence,
+    body: &[Stmt],
+    depth: u32,
+) -> Result<(), AllocError>
+    requires { ReadyAt guards.now depth at.old (nests a_block (stmts body.now) no_more) }
+    ensures { OnOk result (Stepped guards.now depth at.old at.new (nests a_block (stmts body.now))) }
+{
+    let mut inner = Part::begin(guards.alloc, at.place, at.number);
+    write_sequence(guards, &mut inner, body, depth + 1)?;
+    put_block(guards, at, inner)
+}
+
+/// Puts a loop with this body.
+#[cycle(write)]
+#[inline(never)]
+fn write_loop(
+    guards: &Guards,
+    at: &mut Sequence,
+    body: &[Stmt],
+    depth: u32,
+) -> Result<(), AllocError>
+    requires { ReadyAt guards.now depth at.old (nests a_loop (stmts body.now) no_more) }
+    ensures { OnOk result (Stepped guards.now depth at.old at.new (nests a_loop (stmts body.now))) }
+{
+    let mut inner = Part::begin(guards.alloc, at.place, at.number);
+    write_sequence(guards, &mut inner, body, depth + 1)?;
+    put_loop(guards, at, inner)
+}
+
+/// Puts an `if` with these arms.
+#[cycle(write)]
+#[inline(never)]
+fn write_if(
+    guards: &Guards,
+    at: &mut Sequence,
+    cond: Operand,
+    then_arm: &[Stmt],
+    else_arm: &[Stmt],
+    depth: u32,
+) -> Result<(), AllocError>
+    requires { ReadyAt guards.now depth at.old (decides cond (stmts then_arm.now) (stmts else_arm.now) no_more) }
+    ensures { OnOk result (Stepped guards.now depth at.old at.new (decides cond (stmts then_arm.now) (stmts else_arm.now))) }
+{
+    let mut first = Part::begin(guards.alloc, at.place, at.number);
+    write_sequence(guards, &mut first, then_arm, depth + 1)?;
+    let mut second = Part::begin(guards.alloc, first.place, first.number);
+    write_sequence(guards, &mut second, else_arm, depth + 1)?;
+    put_if(guards, at, cond, first, second)
 }

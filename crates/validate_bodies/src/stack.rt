@@ -223,6 +223,7 @@ fn is_bare(o: &Operands) -> bool
 }
 
 // Whether the operands are the results, at an end. Takes them off.
+#[inline(never)]
 #[tactic(auto, using(crate::proofs::Lists::ending))]
 pub(crate) fn ends(o: &mut Operands, gives: Option<ValType>) -> bool
     requires { Deep o.old }
@@ -242,6 +243,7 @@ pub(crate) fn ends(o: &mut Operands, gives: Option<ValType>) -> bool
 }
 
 // Puts the result of a construct on the operands.
+#[inline(never)]
 #[tactic(auto, using(crate::proofs::LabelLemmas::listing))]
 pub(crate) fn push_result(o: &mut Operands, r: Option<ValType>) -> Result<(), AllocError>
     requires { Deep o.old }

@@ -14,22 +14,22 @@ use Rattle.flow_rewrite.proofs.UnitLemmas.{units_empty, units_some}
 use Rattle.flow_rewrite.proofs.conditions.choose.Goals as goal
 
 pub returns-then-is_empty : goal.returns-then-is_empty
-returns-then-is_empty c =
+returns-then-is_empty c = λ first _.
     one_const c.new-out.result.items c.push.new.self.items 1 c.new-out.ensures.items c.in_ok-push.ensures.items
-    ∙ sym (ap (choice (indices c.args.guards.now) c.args._first (units_of c.args.then_units.now))
-    (units_empty c.args.else_units.now (length_none _ _ c.is_empty.ensures c.if-is_empty.true)) ∙ choice_one (indices c.args.guards.now) c.args._first (units_of c.args.then_units.now))
+    ∙ sym (ap (choice (indices c.args.guards.now) first (units_of c.args.arms.then_units.now))
+    (units_empty c.args.arms.else_units.now (length_none _ _ c.is_empty.ensures c.if-is_empty.true)) ∙ choice_one (indices c.args.guards.now) first (units_of c.args.arms.then_units.now))
 
 pub returns-then-is_empty-2 : goal.returns-then-is_empty-2
-returns-then-is_empty-2 c =
+returns-then-is_empty-2 c = λ first _.
     one_const c.new-out.result.items c.push-then-is_empty-2.new.self.items 0 c.new-out.ensures.items c.in_ok-push-2.ensures.items
-    ∙ sym (ap (λ us. choice (indices c.args.guards.now) c.args._first us (units_of c.args.else_units.now))
-    (units_empty c.args.then_units.now (length_none _ _ c.is_empty-2.ensures c.if-is_empty-2.true))
-    ∙ choice_two (indices c.args.guards.now) c.args._first (units_of c.args.else_units.now) (units_some c.args.else_units.now (length_some _ _ c.is_empty.ensures c.if-is_empty.false)))
+    ∙ sym (ap (λ us. choice (indices c.args.guards.now) first us (units_of c.args.arms.else_units.now))
+    (units_empty c.args.arms.then_units.now (length_none _ _ c.is_empty-2.ensures c.if-is_empty-2.true))
+    ∙ choice_two (indices c.args.guards.now) first (units_of c.args.arms.else_units.now) (units_some c.args.arms.else_units.now (length_some _ _ c.is_empty.ensures c.if-is_empty.false)))
 
 pub returns : goal.returns
-returns c =
+returns c = λ first number.
     let i = indices c.args.guards.now in
-    sym (onto_done c.put_index.new.out.items) ∙ c.in_ok-put_index.ensures done ∙ ap (λ n. onto c.new-out.result.items (index_with i (basic (num I32LtU)) n done)) c.requires
-    ∙ ap (λ xs. onto xs (index_with i (basic (num I32LtU)) (c.args._first + numbers_in (units_of c.args.then_units.now)) done)) c.new-out.ensures.items ∙ onto_none _
-    ∙ sym (choice_is i c.args._first (units_of c.args.then_units.now) (units_of c.args.else_units.now)
-    (units_some c.args.then_units.now (length_some _ _ c.is_empty-2.ensures c.if-is_empty-2.false)) (units_some c.args.else_units.now (length_some _ _ c.is_empty.ensures c.if-is_empty.false)))
+    sym (onto_done c.put_index.new.out.items) ∙ c.in_ok-put_index.ensures done ∙ ap (λ n. onto c.new-out.result.items (index_with i (basic (num I32LtU)) n done)) number
+    ∙ ap (λ xs. onto xs (index_with i (basic (num I32LtU)) (first + numbers_in (units_of c.args.arms.then_units.now)) done)) c.new-out.ensures.items ∙ onto_none _
+    ∙ sym (choice_is i first (units_of c.args.arms.then_units.now) (units_of c.args.arms.else_units.now)
+    (units_some c.args.arms.then_units.now (length_some _ _ c.is_empty-2.ensures c.if-is_empty-2.false)) (units_some c.args.arms.else_units.now (length_some _ _ c.is_empty.ensures c.if-is_empty.false)))

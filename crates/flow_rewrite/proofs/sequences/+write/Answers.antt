@@ -1,4 +1,4 @@
-use Rattle.std.proofs.Common.{arith, ◌-◌, ◌^◌, ap, refl, sym, subst, ◌∙◌, ◌+◌, Some, None}
+use Rattle.std.proofs.Common.{arith, ◌-◌, ◌^◌, ap, refl, sym, subst, ◌∙◌, ◌+◌, Some}
 use Rattle.std.proofs.lemmas.Bool.{ltb-true, ltb-false}
 use Rattle.wa_types.specs.declared.values.ValType.TheVariants.{I32}
 use Rattle.wa_types.specs.Syntax.{a_block, a_loop, basic, branch, done, global_get, plain}
@@ -131,12 +131,8 @@ put_unit-write_arm-requires-in-If t c = (
   ),
 )
 
-pub put_unit-put_condition-requires-clause-piece : goal.put_unit-put_condition-requires-clause-piece
-put_unit-put_condition-requires-clause-piece t c = raisable_out c.args.spot.depth 2 2 (code c.args.piece.now) (omega arith) c.requires.piece
-
-pub put_unit-put_condition-requires-clause-number : goal.put_unit-put_condition-requires-clause-number
-put_unit-put_condition-requires-clause-number t c = c.in_ok-middle-in-If.ensures.number
-    ∙ ap (λ xs. c.args.spot.number + numbers_in (units_of xs)) (c.deref-in-If-2.ensures.value ∙ sym c.deref-in-If-5.ensures.value)
+pub put_unit-put_condition-requires : goal.put_unit-put_condition-requires
+put_unit-put_condition-requires t c = raisable_out c.args.spot.depth 2 2 (code c.args.piece.now) (omega arith) c.requires.piece
 
 pub put_unit-returns-in_ok-put_call-in-Call : goal.put_unit-returns-in_ok-put_call-in-Call
 put_unit-returns-in_ok-put_call-in-Call t c =
@@ -175,7 +171,8 @@ put_unit-returns-in_ok-put_if-in-If t c =
     ∙ (λ j. if_unit c.in-If.cond (code (sym c.deref-in-If.ensures.value j)) (units_of (sym c.deref-in-If-2.ensures.value j)) (code (sym c.deref-in-If-3.ensures.value j))
     (units_of (sym c.deref-in-If-4.ensures.value j)) (code c.in-If.behind.items) rest))
     (ap piece_behind c.in-If.is) c.in_ok-middle-in-If.ensures c.in_ok-next-in-If.ensures
-    (λ rest. c.in_ok-put_condition-in-If.ensures rest
+    (λ rest. c.in_ok-put_condition-in-If.ensures c.args.spot.number
+    (c.in_ok-middle-in-If.ensures.number ∙ ap (λ xs. c.args.spot.number + numbers_in (units_of xs)) (c.deref-in-If-2.ensures.value ∙ sym c.deref-in-If-5.ensures.value)) rest
     ∙ (λ j. onto c.args.out.now.items (plain (basic (global_get c.args.guards.now.state)) (branch (Some I32) (choice (indices c.args.guards.now) c.args.spot.number
     (units_of ((c.deref-in-If-5.ensures.value ∙ sym c.deref-in-If-2.ensures.value) j)) (units_of ((c.deref-in-If-6.ensures.value ∙ sym c.deref-in-If-4.ensures.value) j)))
     (raised 0 1 (followed_by (code c.args.piece.now) (got_any c.in-If.cond done))) rest))))
