@@ -14,7 +14,7 @@ use Rattle.script_command.specs.RunOriginals.{IsSource}
 
 -- What is told under `run` has originals, and each program whose original touches no byte of its area, with the outcomes that its calls
 -- met, ends as that does. No line tells that its steps were spent where its bound is within them, nor that it broke the protocol or
--- trapped while it rewound; and it traps while it unwinds exactly where the frames take more room than the area has.
+-- trapped while it rewound; it traps while it unwinds only where the frames take more room than the area has, and does so where that pause is certain.
 abbrev pub BoundedProgramsAreWhole : Type 0
 BoundedProgramsAreWhole =
     (files : Option Files) (name : List ℕ) (play : Play Run files name)
