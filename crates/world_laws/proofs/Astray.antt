@@ -17,7 +17,7 @@ use Rattle.wa_model.specs.Plan.{Plan, Outcome, OutcomeFits}
 use Rattle.wa_model.specs.Blocking.{Note, note, Blocking}
 use Rattle.wa_model.specs.Expected.{pause_note, trap_note, shown_at, shown}
 use Rattle.wa_model.specs.Behaves.{expected_notes}
-use Rattle.wa_model.specs.World.{Device, Look, Program, bytes_shown, put_off, turn_of, behind_turn, protocol_story, BlockingStory, whole, spent, looks_after, look_events, events_with_looks, line_at, Actor, Events, no_event, an_event, StartsHeld, Original}
+use Rattle.wa_model.specs.World.{Device, Look, Program, answers_from, bytes_shown, put_off, turn_of, behind_turn, protocol_story, BlockingStory, whole, spent, looks_after, look_events, events_with_looks, line_at, Actor, Events, no_event, an_event, StartsHeld, Original}
 use Rattle.run_laws.proofs.OwnEnds.{Own, blocking_own, ends_hosts, is_hosts}
 use Rattle.world_laws.specs.Originals.{StandsIn, MayRun, new_calls, met, Orderly, SameMoment}
 use Rattle.world_laws.proofs.Meeting.{AnswersFit, Met, EachMet, events_met}
@@ -96,7 +96,7 @@ beside_right globals area (x ∷ xs) (y ∷ ys) h k =
 
 actor_right : (o : Original) (w : Program) (a : Actor) → StandsIn o w → MayRun o → StartsHeld w a → Met a → Orderly o (met a) → All Right a.notes
 actor_right o w a st may held meets ord =
-    let fit : AnswersFit a.answers = subst AnswersFit (sym (held.starts.answers ∙ st.answers)) may.answers in
+    let fit : AnswersFit a.answers = subst AnswersFit (sym (held.starts.answers ∙ ap (answers_from w.answers) st.start ∙ st.answers)) may.answers in
     let t = meets.2 in
     let used : List Outcome = t.0 in
     let rest : List Outcome = meets.0 in

@@ -1,6 +1,6 @@
 -- A run under the protocol tells a device's failure nowhere but behind a call that was refused so.
 use Rattle.std.proofs.Common.{arith, ◌≡◌, ◌+◌, ◌-◌, ℕ, zero, suc, List, [], ◌∷◌, ◌++◌, length, Option, Some, None, Bool, true, false, refl, sym, ap, ◌∙◌, subst, append_assoc, append-nil}
-use Rattle.std.specs.Prelude.{nat_lt, nat_eq, if◌then◌else◌}
+use Rattle.std.specs.Prelude.{nat_lt, nat_eq, if◌then◌else◌, slice_get}
 use Rattle.wa_types.specs.declared.values.ValType.{ValType}
 use Rattle.wa_types.specs.declared.values.Value.{Value}
 use Rattle.wa_types.specs.declared.values.Trap.{Trap}
@@ -18,8 +18,8 @@ use Rattle.wa_model.specs.Step.{Next, steps, asks, returns, traps, stuck, step}
 use Rattle.wa_model.specs.Plan.{Entry, Plan, Outcome, given, refused}
 use Rattle.wa_model.specs.Instantiation.{Opening, fails_as, opens, opening}
 use Rattle.wa_model.specs.Blocking.{Note, note, call_note, value_of_results, fault_of, pause_of, poked, done_notes, Task, the_start, an_entry, Left, with_outcomes, Asker, inside, outermost, store_at, stack_at, in_start, next_entry, all_left}
-use Rattle.wa_model.specs.Protocol.{Exports, exports_of, Phase, is_running, unwinds, rewinds, Then, give_zero, test_unwound, pause_there, call_again, test_rewound, give_answer, Held, free, starting, busy, calling, aside, entering, over, trap_end, broken, held_on, held_back, held_given, held_pauses, held_resumed, held_tested, held_asked, busy_step, is_state, aside_back, aside_step, busy_enters, held_next, aside_called, held_start, protocol, held_begun}
-use Rattle.wa_model.specs.World.{Program, call_in, unless_over, protocol_story}
+use Rattle.wa_model.specs.Protocol.{Exports, exports_of, Phase, is_running, unwinds, rewinds, Then, give_zero, test_unwound, pause_there, call_again, test_rewound, give_answer, Held, free, starting, busy, calling, aside, entering, over, trap_end, broken, held_on, held_back, held_given, held_pauses, held_resumed, held_tested, held_asked, busy_step, is_state, aside_back, aside_step, busy_enters, held_next, aside_called, held_start, protocol, held_begun, held_continued}
+use Rattle.wa_model.specs.World.{Halt, Origin, Program, at_pause, at_start, call_in, gone, halted, halted_in, protocol_story, story_from, told_by, unless_over}
 use Rattle.world_laws.specs.Originals.{one_if, new_calls}
 use Rattle.world_laws.proofs.Counting.{over_still}
 use Rattle.world_laws.specs.Replays.{is_device_fault, is_fault}
@@ -354,16 +354,30 @@ module _ (p : Module) (x : Exports) (plan : Plan) where
   begun_fine None l (opens s) h = on_fine s l l.entries
   begun_fine (Some f) l (opens s) h = quiet l.outcomes
 
--- A story tells a device's failure only behind a call that was refused so.
-pub story_told : (w : Program) (os : List Outcome) → Fine os (protocol_story w os)
-story_told w os =
+-- a run that goes on from a state that such notes lead to
+told_fine : (w : Program) (os : List Outcome) (n : ℕ) (r : Ran Held Note) → LeadsTo os r.events r.last → Fine os (told_by w.steps (held_continued w.source w.plan n r))
+told_fine w os n r begins =
     let p : Module = w.source in
     let x : Exports = exports_of p in
-    let r : Ran Held Note = held_begun p.start (all_left w.plan os) (opening p w.plan.globals) in
-    let rest : Ran Held Note = run (protocol p x w.plan) w.steps r.last in
-    let fine = behind_fine p x w.plan w.steps os r.events r.last rest (begun_fine p x w.plan p.start (all_left w.plan os) (opening p w.plan.globals) (opening_not p w.plan.globals))
-    (run_fine p x w.plan w.steps w.steps w.steps r.last) (λ s e. subst (λ (v : Held). run (protocol p x w.plan) w.steps v ≡ still v) (sym e) (over_still p x w.plan w.steps w.steps s)) in
+    let rest : Ran Held Note = run (protocol p x w.plan) n r.last in
+    let fine = behind_fine p x w.plan w.steps os r.events r.last rest begins (run_fine p x w.plan w.steps n n r.last)
+    (λ s e. subst (λ (v : Held). run (protocol p x w.plan) n v ≡ still v) (sym e) (over_still p x w.plan n n s)) in
     subst (Fine os) (sym (append_assoc r.events rest.events (unless_over w.steps rest.last))) fine
+
+-- A story tells a device's failure only behind a call that was refused so.
+pub story_told : (w : Program) (os : List Outcome) → Fine os (protocol_story w os)
+story_told w os = by w.origin
+  where
+    by_entry : (x : Halt) (o : Option Entry) → LeadsTo os [] (halted_in w.source w.plan x os o)
+    by_entry x None = (tt, tt)
+    by_entry x (Some e) = quiet os
+
+    by : (o : Origin) → Fine os (story_from w os o)
+    by at_start =
+        told_fine w os w.steps (held_begun w.source.start (all_left w.plan os) (opening w.source w.plan.globals))
+        (begun_fine w.source (exports_of w.source) w.plan w.source.start (all_left w.plan os) (opening w.source w.plan.globals) (opening_not w.source w.plan.globals))
+    by gone = (tt, tt)
+    by (at_pause x) = told_fine w os (w.steps - x.used) (still (halted w.source w.plan x os)) (by_entry x (slice_get w.plan.entries x.entry))
 
 pub story_fine : (w : Program) (os : List Outcome) → Inner os (protocol_story w os)
 story_fine w os = (story_told w os).1

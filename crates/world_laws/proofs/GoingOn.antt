@@ -5,9 +5,10 @@ use Rattle.wa_model.specs.declared.answers.Detach.{Detach}
 use Rattle.wa_model.specs.Outside.{Call, Event, Line, called}
 use Rattle.wa_model.specs.Plan.{Outcome}
 use Rattle.wa_model.specs.Blocking.{Note}
-use Rattle.wa_model.specs.World.{Device, Program, call_in, protocol_story, Actor, Events, an_event, ProtocolWorld, StartsHeld}
+use Rattle.wa_model.specs.World.{Device, Program, call_in, protocol_story, Actor, Events, an_event, ProtocolWorldFrom, StartsHeld, answers_from, due_from}
 use Rattle.world_laws.specs.Originals.{one_if, new_calls}
-use Rattle.world_laws.specs.Played.{Played, ProtocolWorldUpTo}
+use Rattle.world_laws.specs.Played.{Played, ProtocolWorldUpToFrom}
+use Rattle.world_laws.proofs.Played.{no_event_yet}
 use Rattle.world_laws.proofs.Counting.{calls_on}
 use Rattle.world_laws.proofs.Tails.{StoryForks, story_forks}
 use Rattle.world_laws.specs.GoingOn.{WorldsGoOn, EachWorldEnds}
@@ -205,7 +206,7 @@ all_start (w ∷ ws) (a ∷ p) [] q new st si is h = absurd si
 
 -- ---- events behind others
 
-then_events : (ws : List Program) (detaches : List Detach) (count number at : ℕ) (p mid last : List Actor) (ds es ds' : List Device) (lines more : List Line) → at ≡ number + count
+pub then_events : (ws : List Program) (detaches : List Detach) (count number at : ℕ) (p mid last : List Actor) (ds es ds' : List Device) (lines more : List Line) → at ≡ number + count
     → Played ws detaches number count p ds lines mid es → Events ws detaches at mid es more last ds' → Events ws detaches number p ds (lines ++ more) last ds'
 then_events ws detaches zero number at p mid last ds es ds' lines more e h on =
     let z : at ≡ number = omega arith in
@@ -217,20 +218,21 @@ then_events ws detaches (suc count) number at p mid last ds es ds' lines more e 
     an_event h.4 (then_events ws detaches count (suc number) at h.2 mid last h.3 es ds' h.1 more (omega arith) h.5 on) (ap (λ (ls : List Line). ls ++ more) h.6 ∙ append_assoc h.0 h.1 more)
 
 -- A whole run that goes on from there: what each actor has met and made since, its actor there has too.
-pub record Whole (ws : List Program) (detaches : List Detach) (ds : List Device) (lines : List Line) (was now : List Actor) : Type 0 where
+pub record Whole (begun : ℕ) (ws : List Program) (detaches : List Detach) (ds : List Device) (lines : List Line) (was now : List Actor) : Type 0 where
   pub more : List Line
   pub last : List Device
-  pub world : ProtocolWorld ws detaches ds (lines ++ more) last
+  pub world : ProtocolWorldFrom begun ws detaches ds (lines ++ more) last
   pub ahead : List Actor
   pub again : Quads was now world.actors ahead
 
-pub gone_on : (ws : List Program) (detaches : List Detach) (ds ds' : List Device) (number : ℕ) (lines : List Line) (world : ProtocolWorldUpTo ws detaches ds number lines ds')
-    → Whole ws detaches ds lines world.actors world.now
-gone_on ws detaches ds ds' number lines world =
-    let si = played_since ws detaches number 1 world.actors world.now ds ds' lines world.played in
+pub gone_on : (begun : ℕ) (ws : List Program) (detaches : List Detach) (ds ds' : List Device) (number : ℕ) (lines : List Line)
+    (world : ProtocolWorldUpToFrom begun ws detaches ds number lines ds') → Whole begun ws detaches ds lines world.actors world.now
+gone_on begun ws detaches ds ds' number lines world =
+    let si = played_since ws detaches world.count (suc begun) world.actors world.now ds ds' lines world.played in
     let ss : List Stage = stages ws world.actors world.now world.starts si in
-    let r : Runs ws detaches (1 + number) ss ds' = runs_on ws detaches (1 + number) ss ds' (stages_programs ws world.actors world.now world.starts si) in
-    let again = played_again ws detaches number 1 world.actors world.now r.acts ds ds' lines world.played (all_swapped ws world.actors world.now r.acts world.starts si r.are) in
+    let r : Runs ws detaches (suc begun + world.count) ss ds' = runs_on ws detaches (suc begun + world.count) ss ds' (stages_programs ws world.actors world.now world.starts si) in
+    let again =
+    played_again ws detaches world.count (suc begun) world.actors world.now r.acts ds ds' lines world.played (all_swapped ws world.actors world.now r.acts world.starts si r.are) in
     record {
       more = r.lines;
       last = r.devices;
@@ -238,7 +240,8 @@ gone_on ws detaches ds ds' number lines world =
         actors = again.0;
         last = r.last;
         starts = all_start ws world.actors world.now again.0 r.acts world.starts si r.are again.2;
-        events = then_events ws detaches number 1 (1 + number) again.0 r.acts r.last ds ds' r.devices lines r.lines refl again.1 r.events;
+        events =
+            then_events ws detaches world.count (suc begun) (suc begun + world.count) again.0 r.acts r.last ds ds' r.devices lines r.lines refl again.1 r.events;
         over = r.over;
       };
       ahead = r.acts;
@@ -246,16 +249,18 @@ gone_on ws detaches ds ds' number lines world =
     }
 
 pub worlds_go_on : WorldsGoOn
-worlds_go_on ws detaches ds ds' number lines world = let whole = gone_on ws detaches ds ds' number lines world in (whole.more, whole.last, whole.world)
+worlds_go_on begun ws detaches ds ds' number lines world = let whole = gone_on begun ws detaches ds ds' number lines world in (whole.more, whole.last, whole.world)
 
 -- before the first event
-at_start : (ws : List Program) → (acts : List Actor) × AllZip StartsHeld ws acts
-at_start [] = ([], tt)
-at_start (w ∷ ws) =
-    let on = at_start ws in
-    (record { due = 0; notes = protocol_story w []; outcomes = []; answers = w.answers } ∷ on.0, (record { starts = record { due = refl; answers = refl }; story = refl }, on.1))
+beginnings : (ws : List Program) → (acts : List Actor) × AllZip StartsHeld ws acts
+beginnings [] = ([], tt)
+beginnings (w ∷ ws) =
+    let on = beginnings ws in (
+      record { due = due_from w.origin; notes = protocol_story w []; outcomes = []; answers = answers_from w.answers w.origin } ∷ on.0,
+      (record { starts = record { due = refl; answers = refl }; story = refl }, on.1),
+    )
 
 pub each_world_ends : EachWorldEnds
-each_world_ends ws detaches ds =
-    let start = at_start ws in
-    worlds_go_on ws detaches ds ds 0 [] (record { actors = start.0; now = start.0; starts = start.1; played = (refl, refl, refl) })
+each_world_ends begun ws detaches ds =
+    let start = beginnings ws in
+    worlds_go_on begun ws detaches ds ds begun [] (no_event_yet begun ws detaches ds start.0 start.1).0

@@ -14,7 +14,7 @@ use Rattle.world_laws.specs.Originals.{one_if, new_calls}
 use Rattle.world_laws.proofs.Counting.{Ends, Stands, calls_on}
 use Rattle.world_laws.proofs.Tails.{StoryForks, story_forks, story_counts}
 use Rattle.world_laws.proofs.Determined.{answer_of, line_fixes}
-use Rattle.world_laws.proofs.StoryParts.{story_ends, end_is_last, call_no_end, begins_before}
+use Rattle.world_laws.proofs.StoryParts.{story_ends_so, end_is_last, call_no_end, begins_before}
 use Rattle.world_laws.specs.Replays.{is_fault}
 use Rattle.world_laws.proofs.Journals.{Grows, Replied, replies_same}
 use Rattle.world_laws.proofs.Faults.{Opens, Inner, opens_behind, story_fine}
@@ -97,7 +97,7 @@ more_behind w pre os done x c (z ∷ zs) count e is few = (z, zs, refl)
 more_behind w pre os done x c [] count e is few =
     let all = ap new_calls e ∙ calls_on done (x ∷ []) in
     let len = length-append pre os in
-    let ends : Ends (done ++ x ∷ []) = subst Ends e (story_ends w (pre ++ os) (omega arith)) in
+    let ends : Ends (done ++ x ∷ []) = story_ends_so w (pre ++ os) done x (omega arith) e in
     absurd (call_no_end x.event c is (end_is_last done x ends))
 
 -- behind a call that is given an answer no fault follows
@@ -118,7 +118,7 @@ refusal_behind w pre os done y c n e count from is few = by_way (story_forks w p
     standing same (inr s) =
         let all = ap new_calls from ∙ calls_on done (y ∷ n) in
         let len = length-append pre (refused e ∷ os) in
-        let ends : Ends (s.before ++ s.last ∷ []) = subst Ends (same ∙ s.split) (story_ends w (pre ++ refused e ∷ os) (omega arith)) in
+        let ends : Ends (s.before ++ s.last ∷ []) = story_ends_so w (pre ++ refused e ∷ os) s.before s.last (omega arith) (same ∙ s.split) in
         call_no_end s.last.event s.call s.is (end_is_last s.before s.last ends)
 
     at_fork : (f : StoryForks (refused e ∷ os) (length pre) (protocol_story w (pre ++ refused e ∷ os)) (protocol_story w pre)) (r : List Note) → f.before ≡ done ++ r

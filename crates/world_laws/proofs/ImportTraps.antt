@@ -21,8 +21,8 @@ use Rattle.wa_model.specs.Step.{Next, steps, asks, returns, traps, stuck, step}
 use Rattle.wa_model.specs.Plan.{Entry, Plan, Outcome, given, refused}
 use Rattle.wa_model.specs.Instantiation.{Opening, fails_as, opens, opening}
 use Rattle.wa_model.specs.Blocking.{Note, note, call_note, value_of_results, fault_of, pause_of, poked, done_notes, Task, the_start, an_entry, Left, with_outcomes, Asker, inside, outermost, store_at, stack_at, in_start, next_entry, all_left, no_store}
-use Rattle.wa_model.specs.Protocol.{Exports, exports_of, Phase, is_running, unwinds, rewinds, Then, give_zero, test_unwound, pause_there, call_again, test_rewound, give_answer, Held, free, starting, busy, calling, aside, entering, over, trap_end, broken, answer_note, held_on, held_back, held_given, held_pauses, held_resumed, held_tested, held_asked, busy_step, is_state, aside_back, aside_step, busy_enters, held_next, aside_called, held_start, protocol, held_begun}
-use Rattle.wa_model.specs.World.{Program, unless_over, protocol_story}
+use Rattle.wa_model.specs.Protocol.{Exports, exports_of, Phase, is_running, unwinds, rewinds, Then, give_zero, test_unwound, pause_there, call_again, test_rewound, give_answer, Held, free, starting, busy, calling, aside, entering, over, trap_end, broken, answer_note, held_on, held_back, held_given, held_pauses, held_resumed, held_tested, held_asked, busy_step, is_state, aside_back, aside_step, busy_enters, held_next, aside_called, held_start, protocol, held_begun, held_continued}
+use Rattle.wa_model.specs.World.{Halt, Origin, Program, at_pause, at_start, gone, halted, halted_in, protocol_story, story_from, told_by, unless_over}
 use Rattle.run_theory.proofs.OwnTraps.{no_import_trap}
 use Rattle.run_theory.proofs.TestedEnds.{EndIs, fault_is, OpeningIs, opening_is}
 use Rattle.world_laws.specs.ImportTraps.{RefusesOtherwise, TrapsEnd, TrapsAreAnswers}
@@ -352,15 +352,27 @@ module _ (Q : Type 0) where
   spent_fine n (entering ph e s l) = one (note _ s) (λ e. cc, λ e. cc)
   spent_fine n (over s) = none
 
-  story_fine : (w : Program) (os : List Outcome) → All Ok os → Fine (protocol_story w os)
-  story_fine w os h =
-      let p : Module = w.source in
-      let x : Exports = exports_of p in
-      let r : Ran Held Note = held_begun p.start (all_left w.plan os) (opening p w.plan.globals) in
-      let rest : Ran Held Note = run (protocol p x w.plan) w.steps r.last in
-      let begun = begun_fine p x w.plan p.start (all_left w.plan os) (opening p w.plan.globals) (opening_not p w.plan.globals) h in
-      fine_on (r.events ++ rest.events) (unless_over w.steps rest.last) (fine_on r.events rest.events begun.0 (run_fine p x w.plan w.steps w.steps r.last begun.1))
+  -- a run that goes on from where one stands
+  told_fine : (w : Program) (n : ℕ) (r : Ran Held Note) → Fine r.events → LeftOk r.last → Fine (told_by w.steps (held_continued w.source w.plan n r))
+  told_fine w n r begun left =
+      let rest : Ran Held Note = run (protocol w.source (exports_of w.source) w.plan) n r.last in
+      fine_on (r.events ++ rest.events) (unless_over w.steps rest.last) (fine_on r.events rest.events begun (run_fine w.source (exports_of w.source) w.plan n n r.last left))
       (spent_fine w.steps rest.last)
+
+  story_fine : (w : Program) (os : List Outcome) → All Ok os → Fine (protocol_story w os)
+  story_fine w os h = by w.origin
+    where
+      by_entry : (x : Halt) (o : Option Entry) → LeftOk (halted_in w.source w.plan x os o)
+      by_entry x None = tt
+      by_entry x (Some e) = h
+
+      by : (o : Origin) → Fine (story_from w os o)
+      by at_start =
+          let r : Ran Held Note = held_begun w.source.start (all_left w.plan os) (opening w.source w.plan.globals) in
+          let begun = begun_fine w.source (exports_of w.source) w.plan w.source.start (all_left w.plan os) (opening w.source w.plan.globals) (opening_not w.source w.plan.globals) h in
+          told_fine w w.steps r begun.0 begun.1
+      by gone = none
+      by (at_pause x) = told_fine w (w.steps - x.used) (still (halted w.source w.plan x os)) none (by_entry x (slice_get w.plan.entries x.entry))
 
 -- ---- the laws
 

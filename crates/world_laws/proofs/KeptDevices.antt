@@ -109,10 +109,10 @@ events_as_many ws detaches none number acts last ds ds' lines (an_event {actors'
     events_as_many ws detaches none (suc number) mid last es ds' more rest ∙ turn.1 ∙ ap (λ (xs : List Detach). length (detached number xs ds)) none
 
 pub devices_kept : DevicesKept
-devices_kept ws detaches ds ds' lines world = events_kept ws detaches 1 world.actors world.last ds ds' lines world.events
+devices_kept begun ws detaches ds ds' lines world = events_kept ws detaches (suc begun) world.actors world.last ds ds' lines world.events
 
 pub devices_kept_blocking : DevicesKeptBlocking
 devices_kept_blocking os detaches ds ds' lines world = events_kept (map (λ (o : Original). o.program) os) detaches 1 world.actors world.last ds ds' lines world.events
 
 pub none_taken_out : NoneTakenOut
-none_taken_out ws ds ds' lines world = events_as_many ws [] refl 1 world.actors world.last ds ds' lines world.events
+none_taken_out begun ws ds ds' lines world = events_as_many ws [] refl (suc begun) world.actors world.last ds ds' lines world.events

@@ -14,7 +14,7 @@ use Rattle.world_laws.proofs.Counting.{Ends, Stands, stands_calls}
 use Rattle.world_laws.proofs.Tails.{StoryForks, story_forks, story_counts}
 use Rattle.world_laws.proofs.CallLists.{call_list, list_calls, list_on, none_listed}
 use Rattle.world_laws.proofs.LineCalls.{bound_to, LineMeet, line_more, line_length}
-use Rattle.world_laws.proofs.StoryParts.{story_ends, end_is_last, call_no_end, begins_before, Begins, begins_any}
+use Rattle.world_laws.proofs.StoryParts.{story_ends_so, end_is_last, call_no_end, begins_before, Begins, begins_any}
 
 -- ---- lists
 
@@ -288,7 +288,7 @@ open_by w pre done answers count begins h = by_count (story_counts w os)
         no_same : protocol_story w (os ++ refused e ∷ []) ≡ story
             → (new_calls (protocol_story w (os ++ refused e ∷ [])) ≤ length (os ++ refused e ∷ [])) ⊎ Stands (length (os ++ refused e ∷ [])) (protocol_story w (os ++ refused e ∷ [])) → ⊥
         no_same same (inl few) =
-            let ends : Ends (s.before ++ s.last ∷ []) = subst Ends (same ∙ s.split) (story_ends w (os ++ refused e ∷ []) few) in
+            let ends : Ends (s.before ++ s.last ∷ []) = story_ends_so w (os ++ refused e ∷ []) s.before s.last few (same ∙ s.split) in
             call_no_end s.last.event s.call s.is (end_is_last s.before s.last ends)
         no_same same (inr stands) =
             let a = stands_calls (length (os ++ refused e ∷ [])) (protocol_story w (os ++ refused e ∷ [])) stands in

@@ -8,7 +8,7 @@ use Rattle.wa_model.specs.declared.answers.Detach.{Detach}
 use Rattle.wa_model.specs.Outside.{AnswerLine, Event, Line}
 use Rattle.wa_model.specs.Plan.{Outcome}
 use Rattle.wa_model.specs.Blocking.{Note}
-use Rattle.wa_model.specs.World.{Device, detached, Program, turn_of, behind_turn, put_off, CallsMeet, line_at, events_with_looks, turn_lines, protocol_story, Actor, HasNotes, IsNext, Plays, Events, no_event, an_event, IsOver, StartsHeld, ProtocolWorld}
+use Rattle.wa_model.specs.World.{Device, detached, Program, turn_of, behind_turn, put_off, CallsMeet, line_at, events_with_looks, turn_lines, protocol_story, Actor, HasNotes, IsNext, Plays, Events, no_event, an_event, IsOver, StartsHeld, ProtocolWorldFrom}
 use Rattle.world_laws.specs.Originals.{new_calls}
 use Rattle.world_laws.proofs.Shows.{turn_calls}
 use Rattle.world_laws.proofs.Meeting.{Met, EachMet, events_met, calls_take}
@@ -241,17 +241,17 @@ start_same [] [] (b ∷ q) sp sq mp mq = absurd sq
 start_same (w ∷ ws) [] q sp sq mp mq = absurd sp
 start_same (w ∷ ws) (a ∷ p) [] sp sq mp mq = absurd sq
 
-both_same : (ws : List Program) (detaches : List Detach) (ds ds1 ds2 ds' : List Device) (lines1 lines2 : List Line) → Lasting ws detaches → (one : ProtocolWorld ws detaches ds lines1 ds1)
-    → (other : ProtocolWorld ws detaches ds lines2 ds2) → IfBound ws ((ds1 ≡ ds') × (ds2 ≡ ds')) → IfBound ws (SameFaults lines1 lines2) → (lines1 ≡ lines2) × (ds1 ≡ ds2)
-both_same ws detaches ds ds1 ds2 ds' lines1 lines2 lasting one other z faults =
-    let m1 = events_met ws detaches 1 one.actors ds lines1 one.last ds1 one.events one.over in
-    let m2 = events_met ws detaches 1 other.actors ds lines2 other.last ds2 other.events other.over in
+both_same : (begun : ℕ) (ws : List Program) (detaches : List Detach) (ds ds1 ds2 ds' : List Device) (lines1 lines2 : List Line) → Lasting ws detaches → (one : ProtocolWorldFrom begun ws detaches ds lines1 ds1)
+    → (other : ProtocolWorldFrom begun ws detaches ds lines2 ds2) → IfBound ws ((ds1 ≡ ds') × (ds2 ≡ ds')) → IfBound ws (SameFaults lines1 lines2) → (lines1 ≡ lines2) × (ds1 ≡ ds2)
+both_same begun ws detaches ds ds1 ds2 ds' lines1 lines2 lasting one other z faults =
+    let m1 = events_met ws detaches (suc begun) one.actors ds lines1 one.last ds1 one.events one.over in
+    let m2 = events_met ws detaches (suc begun) other.actors ds lines2 other.last ds2 other.events other.over in
     let tw = start_same ws one.actors other.actors one.starts other.starts m1 m2 in
-    events_same ws detaches ds' lasting 1 one.actors other.actors one.last other.last ds ds ds1 ds2 lines1 lines2 tw refl z one.events one.over other.events other.over faults
+    events_same ws detaches ds' lasting (suc begun) one.actors other.actors one.last other.last ds ds ds1 ds2 lines1 lines2 tw refl z one.events one.over other.events other.over faults
 
 pub journals_fix_lines : JournalsFixLines
-journals_fix_lines ws detaches ds ds' lines1 lines2 lasting one other faults =
-    (both_same ws detaches ds ds' ds' ds' lines1 lines2 lasting one other (λ i import w name there bound. (refl, refl)) (λ i import w name there bound. faults)).0
+journals_fix_lines begun ws detaches ds ds' lines1 lines2 lasting one other faults =
+    (both_same begun ws detaches ds ds' ds' ds' lines1 lines2 lasting one other (λ i import w name there bound. (refl, refl)) (λ i import w name there bound. faults)).0
 
 unbound_at : (ws : List Program) → All Unbound ws → (i : ℕ) (w : Program) → slice_get ws i ≡ Some w → Unbound w
 unbound_at [] h i w e = cc
@@ -267,7 +267,7 @@ none_bound ws T h i import w name there bound =
     apart e f = let bad : None ≡ Some name = sym e ∙ f in cc
 
 pub unbound_fix_lines : UnboundFixLines
-unbound_fix_lines ws detaches ds ds1 ds2 lines1 lines2 none one other =
-    both_same ws detaches ds ds1 ds2 ds1 lines1 lines2 (λ i import w name there bound. none_bound ws
+unbound_fix_lines begun ws detaches ds ds1 ds2 lines1 lines2 none one other =
+    both_same begun ws detaches ds ds1 ds2 ds1 lines1 lines2 (λ i import w name there bound. none_bound ws
     (All (λ (x : Detach). same_name x.device name ≡ false) detaches) none i import w name there bound) one other
     (none_bound ws ((ds1 ≡ ds1) × (ds2 ≡ ds1)) none) (none_bound ws (SameFaults lines1 lines2) none)

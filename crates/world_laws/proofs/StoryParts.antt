@@ -1,33 +1,49 @@
 -- What a story begins with, whatever outcomes stand behind those that its calls have met.
-use Rattle.std.proofs.Common.{arith, ◌≡◌, ◌≤◌, ◌⊎◌, inl, inr, List, [], ◌∷◌, ◌++◌, length, true, false, refl, sym, ap, ◌∙◌, subst, append_assoc, append-nil}
+use Rattle.std.proofs.Common.{arith, ◌≡◌, ◌≤◌, ◌⊎◌, inl, inr, List, [], ◌∷◌, ◌++◌, length, true, false, refl, sym, ap, ◌∙◌, subst, append_assoc, append-nil, length-append}
 use Rattle.wa_model.specs.Outside.{Call, Event, called}
 use Rattle.wa_model.specs.Plan.{Outcome}
 use Rattle.wa_model.specs.Blocking.{Note}
-use Rattle.wa_model.specs.Protocol.{Held, free, starting, busy, calling, aside, entering, over, Protocol}
-use Rattle.wa_model.specs.World.{Program, call_in, is_end, unless_over, protocol_story}
+use Rattle.wa_model.specs.Protocol.{Held, free, starting, busy, calling, aside, entering, over}
+use Rattle.wa_model.specs.Machine.{Ran}
+use Rattle.wa_model.specs.World.{Program, call_in, is_end, told_by, unless_over, protocol_story}
 use Rattle.world_laws.specs.Originals.{one_if, new_calls}
-use Rattle.world_laws.proofs.Counting.{Ends, ends_on, stands_calls, Tells, protocol_tells, calls_on}
-use Rattle.world_laws.proofs.Tails.{StoryForks, story_forks}
+use Rattle.world_laws.proofs.Counting.{Ends, ends_on, stands_calls, Tells, calls_on}
+use Rattle.world_laws.proofs.Tails.{Empty, StoryForks, Told, run_of, run_tells, story_forks, story_or}
 
--- A story whose calls have outcomes ends.
-pub story_ends : (w : Program) (os : List Outcome) → new_calls (protocol_story w os) ≤ length os → Ends (protocol_story w os)
-story_ends w os few = by_last (Protocol w.source w.plan os w.steps).last (protocol_tells w.source w.plan os w.steps) few
+-- A story whose calls have outcomes ends, unless nothing is to come.
+pub story_ends : (w : Program) (os : List Outcome) → new_calls (protocol_story w os) ≤ length os → (protocol_story w os ≡ []) ⊎ Ends (protocol_story w os)
+story_ends w os few = by (story_or w)
   where
-    es : List Note
-    es = (Protocol w.source w.plan os w.steps).events
-
-    by_last : (h : Held) → Tells (length os) es h → new_calls (es ++ unless_over w.steps h) ≤ length os → Ends (es ++ unless_over w.steps h)
-    by_last (free s l) t le = ends_on es (unless_over w.steps (free s l)) t.0 refl
-    by_last (starting f s l) t le = ends_on es (unless_over w.steps (starting f s l)) t.0 refl
-    by_last (busy ph c l) t le = ends_on es (unless_over w.steps (busy ph c l)) t.0 refl
-    by_last (calling ph s f args th l) t le = ends_on es (unless_over w.steps (calling ph s f args th l)) t.0 refl
-    by_last (aside ph c th l) t le = ends_on es (unless_over w.steps (aside ph c th l)) t.0 refl
-    by_last (entering ph e s l) t le = ends_on es (unless_over w.steps (entering ph e s l)) t.0 refl
-    by_last (over s) (inl t) le = subst Ends (sym (append-nil es)) t.0
-    by_last (over s) (inr t) le =
+    by_last : (es : List Note) (h : Held) → Tells (length os) es h → new_calls (es ++ unless_over w.steps h) ≤ length os → Ends (es ++ unless_over w.steps h)
+    by_last es (free s l) t le = ends_on es (unless_over w.steps (free s l)) t.0 refl
+    by_last es (starting f s l) t le = ends_on es (unless_over w.steps (starting f s l)) t.0 refl
+    by_last es (busy ph c l) t le = ends_on es (unless_over w.steps (busy ph c l)) t.0 refl
+    by_last es (calling ph s f args th l) t le = ends_on es (unless_over w.steps (calling ph s f args th l)) t.0 refl
+    by_last es (aside ph c th l) t le = ends_on es (unless_over w.steps (aside ph c th l)) t.0 refl
+    by_last es (entering ph e s l) t le = ends_on es (unless_over w.steps (entering ph e s l)) t.0 refl
+    by_last es (over s) (inl t) le = subst Ends (sym (append-nil es)) t.0
+    by_last es (over s) (inr t) le =
         let z = stands_calls (length os) es t in
         let a = calls_on es [] in
         let no_way : ⊥ = omega arith in absurd no_way
+
+    by : Empty (protocol_story w) ⊎ Told w (protocol_story w) → (protocol_story w os ≡ []) ⊎ Ends (protocol_story w os)
+    by (inl none) = inl (none os)
+    by (inr t) =
+        let r : Ran Held Note = run_of w t os in
+        let le : new_calls (told_by w.steps r) ≤ length os = subst (λ (xs : List Note). new_calls xs ≤ length os) (t.told os) few in
+        inr (subst Ends (sym (t.told os)) (by_last r.events r.last (run_tells w t os) le))
+
+-- one of which some note is known to be the last
+pub story_ends_so : (w : Program) (os : List Outcome) (front : List Note) (x : Note) → new_calls (protocol_story w os) ≤ length os → protocol_story w os ≡ front ++ x ∷ [] → Ends (front ++ x ∷ [])
+story_ends_so w os front x few e = by (story_ends w os few)
+  where
+    by : (protocol_story w os ≡ []) ⊎ Ends (protocol_story w os) → Ends (front ++ x ∷ [])
+    by (inl none) =
+        let a = ap length (sym none ∙ e) in
+        let b = length-append front (x ∷ []) in
+        let no_way : ⊥ = omega arith in absurd no_way
+    by (inr h) = subst Ends e h
 
 pub end_is_last : (xs : List Note) (y : Note) → Ends (xs ++ y ∷ []) → is_end y.event ≡ true
 end_is_last [] y h = h

@@ -3,17 +3,16 @@ use Rattle.std.proofs.Common.{◌≡◌, ◌≤◌, ◌∙◌, ℕ, List, length
 use Rattle.std.specs.List.{AllZip}
 use Rattle.wa_types.specs.Runtime.{global_space}
 use Rattle.wa_model.specs.Blocking.{Note}
-use Rattle.wa_model.specs.Machine.{Ran}
 use Rattle.wa_model.specs.Plan.{Plan}
-use Rattle.wa_model.specs.Protocol.{Held, Protocol}
+use Rattle.wa_model.specs.Protocol.{Protocol}
 use Rattle.wa_model.specs.World.{BlockingStory, Original, protocol_story}
 use Rattle.run_laws.specs.ListedPauses.{ComparedUntold}
 use Rattle.run_laws.proofs.UntoldRuns.{behaves_untold, compared_lower}
 use Rattle.world_laws.specs.Originals.{SameMoment, new_calls}
 use Rattle.world_laws.proofs.Counting.{protocol_tells}
 use Rattle.run_laws.proofs.Growing.{pauses_lower}
-use Rattle.world_laws.proofs.Stories.{story_of, told}
-use Rattle.world_laws.proofs.Tails.{story_calls}
+use Rattle.world_laws.proofs.Stories.{story_of, story_stands, told}
+use Rattle.world_laws.proofs.Tails.{told_calls}
 use Rattle.world_laws.proofs.Worlds.{Plain, worlds_by}
 use Rattle.world_laws.specs.UntoldWorlds.{MayRunUntold, OrderlyUntold, StoriesUntold, WorldsUntold}
 
@@ -24,12 +23,9 @@ stories_untold o w os st may fits enough ord =
     let n : ℕ = o.program.steps in
     let which : List Bool = ord.which in
     let compared : ComparedUntold m o.settings plan os n = record { fits = may.fits; allows = may.allows; outcomes = fits; untouched = ord.untouched; listed = ord.listed } in
-    let same : protocol_story w os ≡ story_of w.source plan n os =
-    ap (λ (pl : Plan). story_of w.source pl w.steps os) st.plan ∙ ap (λ (k : ℕ). story_of w.source plan k os) st.steps in
-    let run : Protocol w.source w.plan os w.steps ≡ Protocol w.source plan os n =
-    ap (λ (pl : Plan). Protocol w.source pl os w.steps) st.plan ∙ ap (λ (k : ℕ). Protocol w.source plan os k) st.steps in
-    let calls = story_calls w os in
-    let few : new_calls (Protocol w.source plan os n).events ≤ length os = subst (λ (r : Ran Held Note). new_calls r.events ≤ length os) run (omega arith) in
+    let same : protocol_story w os ≡ story_of w.source plan n os = story_stands o w os st in
+    let calls = ap new_calls same ∙ told_calls n (Protocol w.source plan os n) in
+    let few : new_calls (Protocol w.source plan os n).events ≤ length os = omega arith in
     subst (λ (story : List Note). (notes : List Note) × BlockingStory o.settings o.program os notes × AllZip (SameMoment (global_space o.program.source) plan.area) notes story) (sym same)
     (told o w.source os which
     (λ k le. behaves_untold m o.settings w.source st.rewrites.behaves may.well_formed which ord.tells plan os k (compared_lower m o.settings w.source which plan os n k le compared)

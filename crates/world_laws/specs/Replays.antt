@@ -6,7 +6,7 @@ use Rattle.wa_model.specs.declared.answers.Detach.{Detach}
 use Rattle.wa_model.specs.declared.events.End.{End}
 use Rattle.wa_model.specs.declared.events.End.TheVariants.{DeviceFault}
 use Rattle.wa_model.specs.Outside.{Event, ended, Line}
-use Rattle.wa_model.specs.World.{Device, Program, ProtocolWorld}
+use Rattle.wa_model.specs.World.{Device, Program, ProtocolWorldFrom}
 use Rattle.world_laws.specs.AloneLines.{Unbound}
 
 -- an end by a device that failed
@@ -34,11 +34,11 @@ SameFaults lines1 lines2 = (i : ℕ) (x y : Line) → slice_get lines1 i ≡ Som
 -- or at its second, and journals and told faults be the same.)
 abbrev pub JournalsFixLines : Type 0
 JournalsFixLines =
-    (programs : List Program) (detaches : List Detach) (ds ds' : List Device) (lines1 lines2 : List Line) → Lasting programs detaches
-    → ProtocolWorld programs detaches ds lines1 ds' → ProtocolWorld programs detaches ds lines2 ds' → SameFaults lines1 lines2 → lines1 ≡ lines2
+    (begun : ℕ) (programs : List Program) (detaches : List Detach) (ds ds' : List Device) (lines1 lines2 : List Line) → Lasting programs detaches
+    → ProtocolWorldFrom begun programs detaches ds lines1 ds' → ProtocolWorldFrom begun programs detaches ds lines2 ds' → SameFaults lines1 lines2 → lines1 ≡ lines2
 
 -- A world of programs whose imports are bound to no device has one run.
 abbrev pub UnboundFixLines : Type 0
 UnboundFixLines =
-    (programs : List Program) (detaches : List Detach) (ds ds1 ds2 : List Device) (lines1 lines2 : List Line) → All Unbound programs
-    → ProtocolWorld programs detaches ds lines1 ds1 → ProtocolWorld programs detaches ds lines2 ds2 → (lines1 ≡ lines2) × (ds1 ≡ ds2)
+    (begun : ℕ) (programs : List Program) (detaches : List Detach) (ds ds1 ds2 : List Device) (lines1 lines2 : List Line) → All Unbound programs
+    → ProtocolWorldFrom begun programs detaches ds lines1 ds1 → ProtocolWorldFrom begun programs detaches ds lines2 ds2 → (lines1 ≡ lines2) × (ds1 ≡ ds2)
