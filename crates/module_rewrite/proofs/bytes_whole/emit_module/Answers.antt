@@ -22,8 +22,8 @@ use Rattle.module_rewrite.proofs.EntryLemmas.{entries_fit}
 use Rattle.module_rewrite.proofs.Parts.{parts_around, parts_held, parts_locals, parts_short, text_fault}
 use Rattle.module_rewrite.proofs.bytes_whole.emit_module.Goals as goal
 
-pub pausing_functions-which-requires : goal.pausing_functions-which-requires
-pausing_functions-which-requires c = c.deref.ensures.value ∙ c.in_ok-listed.ensures
+pub pausing_functions-requires : goal.pausing_functions-requires
+pausing_functions-requires c = c.deref.ensures.value ∙ c.in_ok-listed.ensures
 
 pub ids_behind-ids-requires-clause-funcs : goal.ids_behind-ids-requires-clause-funcs
 ids_behind-ids-requires-clause-funcs c =

@@ -14,8 +14,8 @@ use Rattle.module_rewrite.proofs.InnerModule.{Inner, taken_inner}
 use Rattle.module_rewrite.proofs.WholeLemmas.{globals_small, none_is, space_small, taking_fault, which_long}
 use Rattle.module_rewrite.proofs.whole.rewrite_module.Goals as goal
 
-pub pausing_functions-which-requires : goal.pausing_functions-which-requires
-pausing_functions-which-requires c = c.deref.ensures.value ∙ c.in_ok-listed.ensures
+pub pausing_functions-requires : goal.pausing_functions-requires
+pausing_functions-requires c = c.deref.ensures.value ∙ c.in_ok-listed.ensures
 
 pub ids_behind-ids-requires-clause-funcs : goal.ids_behind-ids-requires-clause-funcs
 ids_behind-ids-requires-clause-funcs c =
