@@ -11,7 +11,7 @@ ghost use Rattle.wasm_validate.specs.Walk.{Stays, TypedAt};
 ghost use Rattle.flatten.specs.Emitting.{flat_at, Put, Ready, SmallTypes};
 
 use crate::calls::{put_call, put_call_indirect};
-use crate::constructs::{close, open, put_block, put_if, put_loop, restart};
+use crate::constructs::{close, open, put_arrival, put_block, put_if, put_loop, restart};
 use crate::jumps::put_last;
 use crate::leaves::{basic_result, put_basic, put_br_if, put_get, put_set, put_tee};
 use crate::numbers::Names;
@@ -94,7 +94,8 @@ fn put_instr(
             let mut second = Vec::new(at.alloc);
             body_stmts(&mut second, names, at, else_arm)?;
             close(at, *result, outer)?;
-            put_if(out, names, at, cond, first, second, *result)
+            put_if(out, cond, first, second)?;
+            put_arrival(out, names, at, *result)
         }
         _ => put_leaf(out, names, at, instr),
     }

@@ -4,8 +4,10 @@ ghost use Rattle.std.specs.Prelude.{◌≡◌, ◌≤◌, ◌++◌, ◌∷◌, [
 ghost use Rattle.wa_types.specs.Syntax.{done};
 ghost use Rattle.wa_types.specs.View.{in_front};
 ghost use Rattle.wa_types.specs.Leaves.{is_leaf};
+ghost use Rattle.wa_model.specs.declared.flat.Operand.TheVariants.{Local};
+ghost use Rattle.wa_model.specs.declared.flat.Stmt.TheVariants.{If};
 ghost use Rattle.wasm_validate.specs.Walk.{left_at, Inside, TypedAt};
-ghost use Rattle.flatten.specs.Emitting.{result_at, ArrivesAt, Closed, PutBlock, PutIf, PutLoop};
+ghost use Rattle.flatten.specs.Emitting.{result_at, ArrivesAt, Closed, PutBlock, PutLoop};
 
 use crate::numbers::Names;
 use crate::position::{Position, push_slot};
@@ -82,7 +84,8 @@ pub fn close(at: &mut Position, given: Option<ValType>, outer: Outer) -> Result<
 }
 
 /// Puts the move of a construct's result to its slot, where it has one.
-fn put_arrival(
+#[inline(never)]
+pub fn put_arrival(
     out: &mut Vec<Stmt>,
     names: &Names,
     at: &mut Position,
@@ -143,24 +146,20 @@ pub fn put_loop(
     }
 }
 
-/// Puts an if with these arms, and behind it the move of its result.
+/// Puts an if with these arms.
 #[inline(never)]
 pub fn put_if(
     out: &mut Vec<Stmt>,
-    names: &Names,
-    at: &mut Position,
     cond: u32,
     then_arm: Vec<Stmt>,
     else_arm: Vec<Stmt>,
-    given: Option<ValType>,
 ) -> Result<(), AllocError>
-    requires { ArrivesAt names.now given at.old }
-    ensures { OnOk result (PutIf names.now given cond then_arm.items else_arm.items at.old at.new out.old.items out.new.items) }
+    ensures { OnOk result (out.new.items ≡ out.old.items ++ If (Local cond) then_arm else_arm ∷ []) }
 {
     out.push(Stmt::If {
         cond: Operand::Local(cond),
         then_arm,
         else_arm,
     })?;
-    put_arrival(out, names, at, given)
+    Ok(())
 }

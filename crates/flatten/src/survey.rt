@@ -107,7 +107,8 @@ fn survey_instr(
             else_arm,
         } => {
             visit_result(&mut found.results, depth, *result)?;
-            survey_arms(found, typing, depth, instr, *result, then_arm, else_arm)
+            let arms = Arms { then_arm, else_arm };
+            survey_arms(found, typing, depth, instr, *result, arms)
         }
         _ => {
             typing.advance(instr)?;
@@ -142,6 +143,13 @@ fn survey_nest(
     visit(&mut found.slots, typing)
 }
 
+/// The arms of an if.
+#[derive(Clone, Copy)]
+struct Arms<'a> {
+    then_arm: &'a [Instr],
+    else_arm: &'a [Instr],
+}
+
 /// Finds what an if adds whose own result is marked.
 #[cycle(survey_body)]
 fn survey_arms(
@@ -150,11 +158,10 @@ fn survey_arms(
     depth: usize,
     instr: &Instr,
     given: Option<ValType>,
-    then_arm: &[Instr],
-    else_arm: &[Instr],
+    arms: Arms<'_>,
 ) -> Result<(), AllocError>
     requires opens { is_leaf instr.now ≡ false }
-    requires arms { (rest : Code) → in_front instr.now rest ≡ branch given (code then_arm.now) (code else_arm.now) rest }
+    requires arms { (rest : Code) → in_front instr.now rest ≡ branch given (code arms.then_arm.now) (code arms.else_arm.now) rest }
     requires typed { TypedAt typing.old (in_front instr.now done) }
     requires small { SmallTypes typing.old.around }
     requires depth { depth ≡ length typing.old.labels }
@@ -163,9 +170,9 @@ fn survey_arms(
 {
     let base = typing.base();
     typing.enter(instr)?;
-    survey_body(found, typing, depth + 1, then_arm)?;
+    survey_body(found, typing, depth + 1, arms.then_arm)?;
     typing.restart();
-    survey_body(found, typing, depth + 1, else_arm)?;
+    survey_body(found, typing, depth + 1, arms.else_arm)?;
     typing.leave(given, base)?;
     visit(&mut found.slots, typing)
 }

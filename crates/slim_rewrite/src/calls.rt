@@ -16,7 +16,7 @@ use crate::branches::put_free_call;
 use crate::moves::keep_told;
 use crate::sequence::{Head, Sequence, open_unit};
 use crate::stack::{Walk, flush};
-use flow_rewrite::Target;
+use flow_rewrite::{FlatCall, Target};
 use std::alloc::AllocError;
 use wa_types::Instr;
 
@@ -88,23 +88,21 @@ pub fn put_call(
     numbers: &[u32],
     at: &mut Walk,
     all: &mut Sequence,
-    op: &Instr,
-    stack: &[u32],
-    args: u32,
-    to: Option<u32>,
+    call: FlatCall<'_>,
 ) -> Result<bool, AllocError>
     requires rises { Rises numbers.now }
     requires good { Good at.old }
     requires goes { all.old.ended ≡ false }
-    requires ready { Ready all.old.place (calls (in_front op.now done) stack.now args to no_more) }
-    ensures { IfOk result (λ put. put ≡ true → Put numbers.now at.old all.old at.new all.new (calls (in_front op.now done) stack.now args to)) }
+    requires ready { Ready all.old.place (calls (in_front call.op.now done) call.stack.now call.args call.to no_more) }
+    ensures { IfOk result (λ put. put ≡ true
+        → Put numbers.now at.old all.old at.new all.new (calls (in_front call.entry.op.now done) call.entry.stack.now call.entry.args call.entry.to)) }
 {
     if is_numbered(numbers, all.place) {
-        let Some(target) = target_of(op) else {
+        let Some(target) = target_of(call.op) else {
             return Ok(false);
         };
-        return put_numbered_call(at, all, target, stack, args, to);
+        return put_numbered_call(at, all, target, call.stack, call.args, call.to);
     }
     all.place += 1;
-    put_free_call(at, op, stack, args, to)
+    put_free_call(at, call.op, call.stack, call.args, call.to)
 }

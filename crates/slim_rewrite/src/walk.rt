@@ -23,6 +23,7 @@ use crate::guesses::{following, reads_again, taken_behind};
 use crate::sequence::{Sequence, Written, begin, finish_apart, give_up, goes_on};
 use crate::single::put_single;
 use crate::stack::{Walk, flush};
+use flow_rewrite::FlatCall;
 use std::alloc::AllocError;
 use wa_model::{Operand, Stmt};
 
@@ -115,7 +116,15 @@ fn write_stmt(
             stack,
             args,
             to,
-        } => put_call(numbers, at, all, op, stack, *args, *to),
+        } => {
+            let call = FlatCall {
+                op,
+                stack,
+                args: *args,
+                to: *to,
+            };
+            put_call(numbers, at, all, call)
+        }
         Stmt::Block(body) => write_block(numbers, at, all, body),
         Stmt::Loop(body) => write_loop(numbers, at, all, body, next),
         Stmt::If {

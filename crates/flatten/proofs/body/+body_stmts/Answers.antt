@@ -3,7 +3,7 @@ use Rattle.flatten.specs.Emitting.{first_or, flat_at}
 use Rattle.flatten.proofs.LeafLemmas.{top_slot_is}
 use Rattle.flatten.proofs.BodyLemmas.{walked_first, one_typed, one_room, one_inside, last_stmts, walked_next, end_stmts, goes_on, small_still, one_fewer, arm_ready, restarted, same_labels}
 use Rattle.flatten.proofs.NestLemmas.{block_opens, loop_opens, if_opens, block_is, loop_is, if_is, if_some, inner, if_held, if_inside, if_first, if_second, if_room, if_fewer, if_done, nest_inside, nest_fewer, nest_body, nest_room, asks_of, opened, one_label, closed, base_within, block_done, loop_done}
-use Rattle.flatten.proofs.ConstructLemmas.{on_ok}
+use Rattle.flatten.proofs.ConstructLemmas.{if_put, on_ok}
 use Rattle.wa_types.proofs.LeafLemmas.{leaf_other}
 use Rattle.wasm_validate.specs.Walk.{Walk, Stays}
 use Rattle.wa_types.specs.View.{code}
@@ -300,8 +300,8 @@ put_instr-close-requires-in-If t c =
     let st = subst (λ (w : Walk). Stays w c.body_stmts-in-If-2.new.at.typing) e2 c.in_ok-body_stmts-in-If-2.ensures.stays in
     base_within n a.typing given given low ss a.labels.items held ready.labels c.body_stmts-in-If-2.new.at.typing c.in_ok-outer-in-If.outer.base st c.in_ok-outer-in-If.ensures.base
 
-pub put_instr-put_if-requires : goal.put_instr-put_if-requires
-put_instr-put_if-requires t c =
+pub put_instr-put_arrival-requires : goal.put_instr-put_arrival-requires
+put_instr-put_arrival-requires t c =
     let n = c.args.names.now in
     let a = c.args.at.now in
     let i = c.args.instr.now in
@@ -328,8 +328,8 @@ put_instr-put_if-requires t c =
     c.in_ok-close-in-If.ensures.slots c.in_ok-close-in-If.ensures.labels in
     done.arrives
 
-pub put_instr-returns-in_ok-close-in-If : goal.put_instr-returns-in_ok-close-in-If
-put_instr-returns-in_ok-close-in-If t c =
+pub put_instr-returns-in_ok-put_if-in-If : goal.put_instr-returns-in_ok-put_if-in-If
+put_instr-returns-in_ok-put_if-in-If t c =
     let n = c.args.names.now in
     let a = c.args.at.now in
     let i = c.args.instr.now in
@@ -354,7 +354,9 @@ put_instr-returns-in_ok-close-in-If t c =
     let done = closed n a.typing given given low ss a.labels.items held ready.labels c.body_stmts-in-If-2.new.at c.close-in-If.new.at c.in_ok-outer-in-If.outer.base
     c.in_ok-outer-in-If.outer.height c.in_ok-body_stmts-in-If-2.ensures.ready st c.in_ok-outer-in-If.ensures.base c.in_ok-outer-in-If.ensures.height c.in_ok-close-in-If.ensures.typing
     c.in_ok-close-in-If.ensures.slots c.in_ok-close-in-If.ensures.labels in
-    on_ok c.put_if.result _ _ (λ h. if_done n a p s c.close-in-If.new.at c.put_if.new.at i given one two c.args.out.now.items c.put_if.new.out.items c.body_stmts-in-If.new.out.items
+    on_ok c.put_arrival.result _ _ (λ h. if_done n a p s c.close-in-If.new.at c.put_arrival.new.at i given one two c.args.out.now.items c.put_arrival.new.out.items c.body_stmts-in-If.new.out.items
     c.body_stmts-in-If-2.new.out.items ss c.pop_slot-cond.result ready typed popped is
     done (top_slot_is n a ready c.pop_slot-cond.result c.pop_slot-cond.ensures.top) e e2 (c.in_ok-body_stmts-in-If.ensures.stmts ∙ ap (λ xs. flat_at n p.typing (code xs)) c.deref-in-If.ensures.value)
-    (c.in_ok-body_stmts-in-If-2.ensures.stmts ∙ ap (λ xs. flat_at n s.typing (code xs)) c.deref-in-If-2.ensures.value) h) c.put_if.ensures
+    (c.in_ok-body_stmts-in-If-2.ensures.stmts ∙ ap (λ xs. flat_at n s.typing (code xs)) c.deref-in-If-2.ensures.value)
+    (if_put n given c.pop_slot-cond.result c.body_stmts-in-If.new.out c.body_stmts-in-If-2.new.out c.close-in-If.new.at c.put_arrival.new.at c.args.out.now.items c.put_if.new.out.items
+    c.put_arrival.new.out.items c.in_ok-put_if-in-If.ensures h)) c.put_arrival.ensures

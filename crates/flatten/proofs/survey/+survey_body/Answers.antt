@@ -167,20 +167,20 @@ survey_nest-returns t c =
 pub survey_arms-overflow_add-depth : goal.survey_arms-overflow_add-depth
 survey_arms-overflow_add-depth t c =
     let v = c.args.typing.now in
-    omega (arith, c.requires.room, branch_items v v v v c.args.instr.now c.args.given (code c.args.then_arm.now) (code c.args.else_arm.now) c.requires.arms c.requires.typed)
+    omega (arith, c.requires.room, branch_items v v v v c.args.instr.now c.args.given (code c.args.arms.then_arm.now) (code c.args.arms.else_arm.now) c.requires.arms c.requires.typed)
 
 pub survey_arms-overflow_add-depth-2 : goal.survey_arms-overflow_add-depth-2
 survey_arms-overflow_add-depth-2 t c =
     let v = c.args.typing.now in
-    omega (arith, c.requires.room, branch_items v v v v c.args.instr.now c.args.given (code c.args.then_arm.now) (code c.args.else_arm.now) c.requires.arms c.requires.typed)
+    omega (arith, c.requires.room, branch_items v v v v c.args.instr.now c.args.given (code c.args.arms.then_arm.now) (code c.args.arms.else_arm.now) c.requires.arms c.requires.typed)
 
 pub survey_arms-survey_body-requires : goal.survey_arms-survey_body-requires
 survey_arms-survey_body-requires t c =
     let v = c.args.typing.now in
     let i = c.args.instr.now in
     let given = c.args.given in
-    let one = code c.args.then_arm.now in
-    let two = code c.args.else_arm.now in
+    let one = code c.args.arms.then_arm.now in
+    let two = code c.args.arms.else_arm.now in
     let is = c.requires.arms in
     let typed = c.requires.typed in
     let e = c.enter.new.self in
@@ -201,8 +201,8 @@ survey_arms-survey_body-requires-2 t c =
     let v = c.args.typing.now in
     let i = c.args.instr.now in
     let given = c.args.given in
-    let one = code c.args.then_arm.now in
-    let two = code c.args.else_arm.now in
+    let one = code c.args.arms.then_arm.now in
+    let two = code c.args.arms.else_arm.now in
     let is = c.requires.arms in
     let typed = c.requires.typed in
     let ee = branch_in v v v v i given one two is typed c.enter.new.self c.in_ok-enter.ensures in
@@ -224,8 +224,8 @@ pub survey_arms-leave-requires : goal.survey_arms-leave-requires
 survey_arms-leave-requires t c =
     let v = c.args.typing.now in
     let given = c.args.given in
-    let one = code c.args.then_arm.now in
-    let two = code c.args.else_arm.now in
+    let one = code c.args.arms.then_arm.now in
+    let two = code c.args.arms.else_arm.now in
     let low = drop 1 v.own in
     let ee = branch_in v v v v c.args.instr.now given one two c.requires.arms c.requires.typed c.enter.new.self c.in_ok-enter.ensures in
     let u = c.survey_body.new.typing in
@@ -238,8 +238,8 @@ survey_arms-returns t c =
     let v = c.args.typing.now in
     let i = c.args.instr.now in
     let given = c.args.given in
-    let one = code c.args.then_arm.now in
-    let two = code c.args.else_arm.now in
+    let one = code c.args.arms.then_arm.now in
+    let two = code c.args.arms.else_arm.now in
     let is = c.requires.arms in
     let typed = c.requires.typed in
     let e = c.enter.new.self in

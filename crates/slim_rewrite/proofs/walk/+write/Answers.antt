@@ -7,6 +7,7 @@ use Rattle.wa_model.specs.declared.flat.Operand.TheVariants.{Local}
 use Rattle.run_theory.specs.Flat.{no_more, calls, nests, decides}
 use Rattle.run_theory.specs.FlatView.{stmt_in_front, stmts}
 use Rattle.flow_rewrite.proofs.StmtLemmas.{block_is, call_is, if_is, loop_is}
+use Rattle.flow_rewrite.proofs.StmtWeights.{one_lighter, weight}
 use Rattle.slim_rewrite.specs.Coming.{Ready}
 use Rattle.slim_rewrite.specs.declared.sequence.Sequence.{Sequence}
 use Rattle.slim_rewrite.specs.declared.sequence.Written.{Written}
@@ -16,7 +17,7 @@ use Rattle.slim_rewrite.proofs.ConstructLemmas.{block_put, flushed_put, loop_put
 use Rattle.slim_rewrite.proofs.IfLemmas.{if_put}
 use Rattle.slim_rewrite.proofs.InsideLemmas.{claimed_inside, inside_is}
 use Rattle.slim_rewrite.proofs.SingleLemmas.{put_as}
-use Rattle.slim_rewrite.proofs.WalkLemmas.{walked_start, walked_ready, walked_next, walked_end, one_lighter, nest_ready, was_put, weight}
+use Rattle.slim_rewrite.proofs.WalkLemmas.{walked_start, walked_ready, walked_next, walked_end, nest_ready, was_put}
 use Rattle.slim_rewrite.proofs.walk.+write.Goals as goal
 
 pub write_sequence-loop-stmt-init : goal.write_sequence-loop-stmt-init

@@ -3,7 +3,8 @@ use Rattle.wa_model.specs.declared.flat.Operand.TheVariants.{Local}
 use Rattle.wa_types.specs.Syntax.{a_block, a_loop}
 use Rattle.run_theory.specs.Flat.{decides, nests, no_more}
 use Rattle.run_theory.specs.FlatView.{stmt_in_front, stmts}
-use Rattle.slim_rewrite.proofs.WalkLemmas.{Walked, weight}
+use Rattle.flow_rewrite.proofs.StmtWeights.{weight}
+use Rattle.slim_rewrite.proofs.WalkLemmas.{Walked}
 use Rattle.slim_rewrite.proofs.walk.+write.Given as goal
 
 abbrev pub invariant-write_sequence-loop-stmt : goal.invariant-write_sequence-loop-stmt
