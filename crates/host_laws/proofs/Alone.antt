@@ -6,7 +6,7 @@ use Rattle.std.proofs.lemmas.List.Elements.{All-nil, All-cons}
 use Rattle.wa_model.specs.Outside.{Call, AnswerLine, Event, called, answered, paused, returned, ended, shown}
 use Rattle.wa_model.specs.Plan.{Outcome}
 use Rattle.wa_model.specs.Blocking.{Note}
-use Rattle.wa_model.specs.World.{Program, Device, Actor, ends_turn, turn_of, behind_turn, call_in, NoteMeets, CallsMeet, ticks_in, put_off, line_at, looks_after, events_with_looks, turn_lines, HasNotes, IsNext, Plays, Events, no_event, an_event}
+use Rattle.wa_model.specs.World.{Program, Device, Actor, ends_turn, turn_of, behind_turn, call_in, NoteMeets, CallsMeet, ticks_in, put_off, line_at, looks_after, events_with_looks, turn_lines, HasNotes, IsNext, Plays, Events, no_event, an_event, answers_from, due_from}
 use Rattle.host_laws.specs.Stories.{lines_from}
 use Rattle.host_laws.specs.Laws.{StoryIsWorld}
 
@@ -161,8 +161,9 @@ module _ (w : Program) where
 
 pub story_is_world : StoryIsWorld
 story_is_world w notes story =
-    let a : Actor = record { due = 0; notes = notes; outcomes = story.outcomes; answers = w.answers } in
-    let p : Played w 1 0 notes story.outcomes w.answers [] [] = played w (length notes) 1 0 notes story.outcomes w.answers story.lines [] [] (omega arith) story.meets in
+    let a : Actor = record { due = due_from w.origin; notes = notes; outcomes = story.outcomes; answers = answers_from w.answers w.origin } in
+    let p : Played w 1 (due_from w.origin) notes story.outcomes (answers_from w.answers w.origin) [] []
+    = played w (length notes) 1 (due_from w.origin) notes story.outcomes (answers_from w.answers w.origin) story.lines [] [] (omega arith) story.meets in
     record {
       actors = a ∷ [];
       last = p.last ∷ [];

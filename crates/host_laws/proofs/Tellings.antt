@@ -7,15 +7,15 @@ use Rattle.wa_model.specs.Machine.{Ran, still, run}
 use Rattle.wa_model.specs.Outside.{Call, AnswerLine, ended}
 use Rattle.wa_model.specs.Plan.{Outcome}
 use Rattle.wa_model.specs.Blocking.{Note, note}
-use Rattle.wa_model.specs.Protocol.{Held, free, starting, busy, calling, aside, entering, over, exports_of, protocol, Protocol, store_held}
+use Rattle.wa_model.specs.Protocol.{Held, free, starting, busy, calling, aside, entering, over, exports_of, protocol, store_held}
 use Rattle.wa_model.specs.Behaves.{IsPrefix}
-use Rattle.wa_model.specs.World.{Program, Device, MeetsBound, call_in, NoteMeets, CallsMeet, unless_over, protocol_story}
+use Rattle.wa_model.specs.World.{Program, Device, MeetsBound, call_in, NoteMeets, CallsMeet, answers_from, unless_over, protocol_story}
 use Rattle.host_laws.specs.Stretch.{meeting, Stretch, is_over}
 use Rattle.host_laws.specs.Places.{Place, stands, has_ended, nowhere, Lands, goes_on, ends, spends}
 use Rattle.host_laws.specs.Supplies.{Supply, bound_to, Takes}
-use Rattle.host_laws.specs.Stories.{opened, Made, IsAt}
+use Rattle.host_laws.specs.Stories.{opened_at, steps_from, Made, IsAt}
 use Rattle.host_laws.specs.Laws.{NothingToldYet, OneMoreTold, PlaceBegins, PlaceWhole, OneMoreMet, NothingToldAlone, OneMoreAlone, ToldBegins, ToldWhole}
-use Rattle.host_laws.proofs.Stretches.{compose, nowhere_on, whole_run, over_still, spent_still}
+use Rattle.host_laws.proofs.Stretches.{compose, nowhere_on, story_on, over_still, spent_still}
 
 -- ---- calls met one behind another
 
@@ -60,19 +60,17 @@ still_none w (Some c) met old new t none =
 
 module _ (w : Program) where
   abbrev events : List Note
-  events = (opened w.source w.plan).events
+  events = (opened_at w).events
 
   abbrev going : ℕ → Held → Ran Held Note
   going n h = run (protocol w.source (exports_of w.source) w.plan) n h
 
   -- the story of a run that begins with a stretch
-  story_at : (os behind : List Outcome) (notes : List Note) (used left : ℕ) (h : Held) → used + left ≡ w.steps → Stretch w.source w.plan (opened w.source w.plan).last os notes used h
+  story_at : (os behind : List Outcome) (notes : List Note) (used left : ℕ) (h : Held) → used + left ≡ steps_from w.steps w.origin → Stretch w.source w.plan (opened_at w).last os notes used h
       → protocol_story w (os ++ behind) ≡ (events ++ (notes ++ (going left (meeting behind h)).events)) ++ unless_over w.steps (going left (meeting behind h)).last
-  story_at os behind notes used left h e stretch =
-      ap (λ (r : Ran Held Note). r.events ++ unless_over w.steps r.last)
-      (ap (Protocol w.source w.plan (os ++ behind)) (sym e) ∙ whole_run w.source w.plan os notes used left h behind stretch)
+  story_at os behind notes used left h e stretch = story_on w os notes used left h behind e stretch
 
-  story_still : (os behind : List Outcome) (notes : List Note) (used left : ℕ) (h : Held) → used + left ≡ w.steps → Stretch w.source w.plan (opened w.source w.plan).last os notes used h
+  story_still : (os behind : List Outcome) (notes : List Note) (used left : ℕ) (h : Held) → used + left ≡ steps_from w.steps w.origin → Stretch w.source w.plan (opened_at w).last os notes used h
       → going left (meeting behind h) ≡ still (meeting behind h) → protocol_story w (os ++ behind) ≡ (events ++ notes) ++ unless_over w.steps (meeting behind h)
   story_still os behind notes used left h e stretch z =
       story_at os behind notes used left h e stretch
@@ -112,18 +110,18 @@ module _ (w : Program) where
   landed : (notes ready : List Note) (os os' : List Outcome) (left used : ℕ) (h : Held) (x : Note) (to : Place) → Made w notes ready os left h → used ≤ left
       → Lands w.source w.plan w.steps ready h os' left x used to → IsAt w (notes ++ x ∷ []) (os ++ os') (left - used) to
   landed notes ready os os' left used h x to m le (goes_on made tail h' stretch is_x more to_is) =
-      let steps : (m.used + used) + (left - used) ≡ w.steps = omega (arith, m.steps) in
+      let steps : (m.used + used) + (left - used) ≡ steps_from w.steps w.origin = omega (arith, m.steps) in
       subst (IsAt w (notes ++ x ∷ []) (os ++ os') (left - used)) (sym to_is)
       (record {
         behind = m.behind ++ made;
         made = made_on notes ready m.behind made tail x m.made is_x;
         used = m.used + used;
         steps = steps;
-        stretch = compose w.source w.plan (opened w.source w.plan).last h h' os os' m.behind made m.used used m.stretch stretch;
+        stretch = compose w.source w.plan (opened_at w).last h h' os os' m.behind made m.used used m.stretch stretch;
       })
   landed notes ready os os' left used h x to m le (ends how made s stretch is_x is_end to_is) =
-      let steps : (m.used + used) + (left - used) ≡ w.steps = omega (arith, m.steps) in
-      let all = compose w.source w.plan (opened w.source w.plan).last h (over s) os os' m.behind made m.used used m.stretch stretch in
+      let steps : (m.used + used) + (left - used) ≡ steps_from w.steps w.origin = omega (arith, m.steps) in
+      let all = compose w.source w.plan (opened_at w).last h (over s) os os' m.behind made m.used used m.stretch stretch in
       subst (IsAt w (notes ++ x ∷ []) (os ++ os') (left - used)) (sym to_is)
       (record {
         before = notes;
@@ -137,8 +135,8 @@ module _ (w : Program) where
             ∙ sym (story_still (os ++ os') more (m.behind ++ made) (m.used + used) (left - used) (over s) steps all (over_still w.source w.plan (left - used) s));
       })
   landed notes ready os os' left used h x to m le (spends h' stretch none spent is_x to_is) =
-      let steps : (m.used + used) + (left - used) ≡ w.steps = omega (arith, m.steps) in
-      let all = compose w.source w.plan (opened w.source w.plan).last h h' os os' m.behind [] m.used used m.stretch stretch in
+      let steps : (m.used + used) + (left - used) ≡ steps_from w.steps w.origin = omega (arith, m.steps) in
+      let all = compose w.source w.plan (opened_at w).last h h' os os' m.behind [] m.used used m.stretch stretch in
       let told : notes ≡ events ++ m.behind = sym (append-nil notes) ∙ ap (λ r. notes ++ r) (sym none) ∙ m.made in
       subst (IsAt w (notes ++ x ∷ []) (os ++ os') (left - used)) (sym to_is)
       (record {
@@ -155,7 +153,7 @@ module _ (w : Program) where
 
 pub nothing_told_yet : NothingToldYet
 nothing_told_yet w =
-    record { behind = []; made = sym (append-nil (opened w.source w.plan).events); used = 0; steps = omega arith; stretch = nowhere_on w.source w.plan (opened w.source w.plan).last }
+    record { behind = []; made = sym (append-nil (opened_at w).events); used = 0; steps = omega arith; stretch = nowhere_on w.source w.plan (opened_at w).last }
 
 pub one_more_told : OneMoreTold
 one_more_told w notes os left (stands ready h) old x used new place' at tells = (tells.outcomes, tells.takes, landed w notes ready os tells.outcomes left used h x place' at tells.within tells.lands)
@@ -179,11 +177,11 @@ pub one_more_alone : OneMoreAlone
 one_more_alone w notes left place old x used new place' none told tells =
     let more = one_more_told w notes told.outcomes left place old x used new place' told.at tells in
     let left_none : new.devices ≡ [] = still_none w (call_in x.event) more.0 old new more.1 none in
-    let before : CallsMeet w notes told.outcomes w.answers [] [] old.lines old.devices = subst (λ ds. CallsMeet w notes told.outcomes w.answers [] [] old.lines ds) (sym none) told.meets in
-    let meets = one_more_met w notes told.outcomes more.0 w.answers [] x old new before more.1 in (
+    let before : CallsMeet w notes told.outcomes (answers_from w.answers w.origin) [] [] old.lines old.devices = subst (λ ds. CallsMeet w notes told.outcomes (answers_from w.answers w.origin) [] [] old.lines ds) (sym none) told.meets in
+    let meets = one_more_met w notes told.outcomes more.0 (answers_from w.answers w.origin) [] x old new before more.1 in (
       record {
         outcomes = told.outcomes ++ more.0;
-        meets = subst (λ ds. CallsMeet w (notes ++ x ∷ []) (told.outcomes ++ more.0) w.answers [] [] new.lines ds) left_none meets;
+        meets = subst (λ ds. CallsMeet w (notes ++ x ∷ []) (told.outcomes ++ more.0) (answers_from w.answers w.origin) [] [] new.lines ds) left_none meets;
         at = more.2;
       },
       left_none,

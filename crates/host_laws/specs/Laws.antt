@@ -7,11 +7,11 @@ use Rattle.wa_model.specs.Plan.{Plan, Outcome}
 use Rattle.wa_model.specs.Blocking.{Note}
 use Rattle.wa_model.specs.Protocol.{Held}
 use Rattle.wa_model.specs.Behaves.{IsPrefix}
-use Rattle.wa_model.specs.World.{Program, Device, call_in, CallsMeet, protocol_story, ProtocolWorld}
+use Rattle.wa_model.specs.World.{Program, Device, call_in, CallsMeet, answers_from, due_from, protocol_story, ProtocolWorld}
 use Rattle.host_laws.specs.Stretch.{Stretch}
 use Rattle.host_laws.specs.Supplies.{Supply, Takes}
 use Rattle.host_laws.specs.Places.{Place, stands, has_ended, TellsFrom}
-use Rattle.host_laws.specs.Stories.{opened, IsAt, Told, BeginsStory, IsStory, lines_from}
+use Rattle.host_laws.specs.Stories.{opened_at, steps_from, IsAt, Told, BeginsStory, IsStory, lines_from}
 
 -- Stretches compose.
 abbrev pub StretchesCompose : Type 0
@@ -19,9 +19,9 @@ StretchesCompose =
     (p : Module) (plan : Plan) (h h' h'' : Held) (os os' : List Outcome) (notes notes' : List Note) (cost cost' : ℕ)
     → Stretch p plan h os notes cost h' → Stretch p plan h' os' notes' cost' h'' → Stretch p plan h (os ++ os') (notes ++ notes') (cost + cost') h''
 
--- At first a program has told nothing, and stands where it is to be instantiated,
+-- At first a program has told nothing, and stands where it begins,
 abbrev pub NothingToldYet : Type 0
-NothingToldYet = (w : Program) → IsAt w [] [] w.steps (stands (opened w.source w.plan).events (opened w.source w.plan).last)
+NothingToldYet = (w : Program) → IsAt w [] [] (steps_from w.steps w.origin) (stands (opened_at w).events (opened_at w).last)
 
 -- and with each event that it tells it has told one more, whatever else the devices were asked in between.
 abbrev pub OneMoreTold : Type 0
@@ -46,9 +46,9 @@ OneMoreMet =
 
 -- ---- a program alone, without devices
 
--- At its start a program has told nothing.
+-- Where it begins a program has told nothing.
 abbrev pub NothingToldAlone : Type 0
-NothingToldAlone = (w : Program) → Told w [] w.steps w.answers (stands (opened w.source w.plan).events (opened w.source w.plan).last)
+NothingToldAlone = (w : Program) → Told w [] (steps_from w.steps w.origin) (answers_from w.answers w.origin) (stands (opened_at w).events (opened_at w).last)
 
 -- With one note more it has told that, too, and there are no devices still.
 abbrev pub OneMoreAlone : Type 0
@@ -67,4 +67,4 @@ ToldWhole = (w : Program) (notes : List Note) (left : ℕ) (lines : List AnswerL
 
 -- Alone and without devices, a program with a story makes a run of the protocol world, with the story's lines.
 abbrev pub StoryIsWorld : Type 0
-StoryIsWorld = (w : Program) (notes : List Note) → IsStory w notes → ProtocolWorld (w ∷ []) [] [] (lines_from w 0 notes) []
+StoryIsWorld = (w : Program) (notes : List Note) → IsStory w notes → ProtocolWorld (w ∷ []) [] [] (lines_from w (due_from w.origin) notes) []

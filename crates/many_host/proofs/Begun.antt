@@ -8,7 +8,7 @@ use Rattle.many_host.specs.ToldNotes.{NothingTold, TurnBegins}
 use Rattle.many_host.proofs.Notes.{told_nothing}
 
 pub nothing_told : NothingTold
-nothing_told programs detaches ds = (refl, refl, refl)
+nothing_told begun programs detaches ds = (refl, refl, refl)
 
 due_is : (b : Bool) (due tick : ℕ) → unless b due ≡ Some tick → (b ≡ false) × (due ≡ tick)
 due_is true due tick e = cc
@@ -26,7 +26,7 @@ teller_due tellers i due there = by (slice_get tellers i) refl where
       let is = due_is t.has_ended t.due due cc in (t, e, is.0, is.1)
 
 pub turn_begins : TurnBegins
-turn_begins programs detaches ds es number i due lines tellers w tells program least =
+turn_begins begun programs detaches ds es number i due lines tellers w tells program least =
     let d = teller_due tellers i due least.there in
     record {
       before = lines;

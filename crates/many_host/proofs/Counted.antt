@@ -10,9 +10,9 @@ use Rattle.wa_model.specs.Blocking.{Note}
 use Rattle.wa_model.specs.World.{Device, Program, CallsMeet, NoteMeets, call_in}
 use Rattle.world_laws.specs.Originals.{one_if, new_calls}
 use Rattle.world_laws.proofs.Counting.{calls_on}
-use Rattle.many_host.specs.Turns.{Teller, starting, having_told, Tells}
+use Rattle.many_host.specs.Turns.{Teller, starting, having_told, TellsFrom}
 use Rattle.many_host.proofs.Places.{set_here, set_there}
-use Rattle.many_host.specs.Notes.{TellsOn}
+use Rattle.many_host.specs.Notes.{TellsOnFrom}
 
 calls_count : (w : Program) (xs : List Note) (os : List Outcome) (lines lines' : List AnswerLine) (ds ds' : List Device) → CallsMeet w xs os lines ds [] lines' ds' → new_calls xs ≡ length os
 calls_count w [] os lines lines' ds ds' h = ap length h.0
@@ -46,8 +46,8 @@ first_counted programs j t at = by (slice_get programs j) (sym (slice_get-map st
   by None e = cc
   by (Some w) e = let is : starting w ≡ t = same_Some (starting w) t e in sym (ap (λ (x : Teller). new_calls x.told) is) ∙ ap (λ (x : Teller). length x.met) is
 
-module _ (programs : List Program) (detaches : List Detach) (ds : List Device) where
-  pub counted : (number : ℕ) (lines : List Line) (tellers : List Teller) (ds' : List Device) → Tells programs detaches ds number lines tellers ds' → (j : ℕ) (t : Teller)
+module _ (begun : ℕ) (programs : List Program) (detaches : List Detach) (ds : List Device) where
+  pub counted : (number : ℕ) (lines : List Line) (tellers : List Teller) (ds' : List Device) → TellsFrom begun programs detaches ds number lines tellers ds' → (j : ℕ) (t : Teller)
       → slice_get tellers j ≡ Some t → Counted t
   counted zero lines tellers ds' h j t at = first_counted programs j t (ap (λ (l : List Teller). slice_get l j) (sym h.1) ∙ at)
   counted (suc number) lines tellers ds' h j t at =
@@ -56,7 +56,7 @@ module _ (programs : List Program) (detaches : List Detach) (ds : List Device) w
       (told_counted play.w play.t play.turn play.met play.answers play.t.answers _ _ (counted number h.0 h.2 h.3 h.4 play.i play.t play.there) play.calls)
       (counted number h.0 h.2 h.3 h.4 j)
 
-  pub counted_on : (number i due : ℕ) (lines : List Line) (tellers : List Teller) (ds' : List Device) → TellsOn programs detaches ds number i due lines tellers ds' → (j : ℕ) (t : Teller)
+  pub counted_on : (number i due : ℕ) (lines : List Line) (tellers : List Teller) (ds' : List Device) → TellsOnFrom begun programs detaches ds number i due lines tellers ds' → (j : ℕ) (t : Teller)
       → slice_get tellers j ≡ Some t
       → Counted t
   counted_on number i due lines tellers ds' on j t at =

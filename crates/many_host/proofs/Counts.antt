@@ -17,7 +17,7 @@ use Rattle.many_host.proofs.Places.{item}
 use Rattle.many_host.specs.declared.turn_taking.Stage.{Stage}
 use Rattle.many_host.specs.declared.turn_taking.Stage.TheVariants.{Between, Showing}
 use Rattle.many_host.specs.Calls.{AreLeft, BegunNext, TakesCall, devices_of, faults_of, left_at}
-use Rattle.many_host.specs.Standing.{Held, TellsLine}
+use Rattle.many_host.specs.Standing.{Held, TellsLineFrom}
 use Rattle.many_host.specs.Turns.{MeetMore, Teller}
 
 abbrev the_none : List Outcome
@@ -69,10 +69,10 @@ taken_by programs due i v v' met old new is t = subst (λ (e : Event). TakesCall
 taken_of : (programs : List Program) (line : Line) (met : List Outcome) (old old' new : List Counted) → old ≡ old' → TakesCall programs line met old new → TakesCall programs line met old' new
 taken_of programs line met old old' new is t = subst (λ (l : List Counted). TakesCall programs line met l new) is t
 
-pub line_from : {X : Type 0} {follows : X → Program → List Note → List Outcome → List AnswerLine → Type 0} {over : X → Bool} {memory : X → List ℕ} {programs : List Program}
+pub line_from : {X : Type 0} {begun : ℕ} {follows : X → Program → List Note → List Outcome → List AnswerLine → Type 0} {over : X → Bool} {memory : X → List ℕ} {programs : List Program}
     {detaches : List Detach} {ds : List Device} {lines : List Line} {tellers : List Teller} {old old' new : List Counted} {line : Line} {h : Held X} {ds' : List Device} {stage : Stage}
-    → old ≡ old' → TellsLine follows over memory programs detaches ds lines tellers old new line h ds' stage
-    → TellsLine follows over memory programs detaches ds lines tellers old' new line h ds' stage
+    → old ≡ old' → TellsLineFrom begun follows over memory programs detaches ds lines tellers old new line h ds' stage
+    → TellsLineFrom begun follows over memory programs detaches ds lines tellers old' new line h ds' stage
 line_from is t = record { stands = t.stands; met = t.met; meets = t.meets; takes = taken_of _ _ _ _ _ _ is t.takes }
 
 -- where the next event began

@@ -14,9 +14,9 @@ use Rattle.pause_host.proofs.Advancing.{begins_of_follows}
 use Rattle.event_order.specs.declared.shows.Show.{Show}
 use Rattle.event_order.specs.Looks.{look_at, look_of, looks_of}
 use Rattle.many_host.specs.Hosts.{HostTold, follows, has_ended, memory_of}
-use Rattle.many_host.specs.Notes.{TellsOn}
-use Rattle.many_host.specs.Standing.{Held, IsHeld, Standing, StandsAt, held_of, looks_at}
-use Rattle.many_host.specs.Turns.{Teller, Tells, TellsTurn, having_told, starting}
+use Rattle.many_host.specs.Notes.{TellsOnFrom}
+use Rattle.many_host.specs.Standing.{Held, Holds, StandingFrom, StandsAtFrom, has_gone, held_of, looks_at, on_its_way}
+use Rattle.many_host.specs.Turns.{Teller, TellsFrom, TellsTurn, behind, having_told, since, starting}
 use Rattle.many_host.specs.declared.host.Host.{Host}
 use Rattle.many_host.specs.declared.hosted.Hosted.{Hosted}
 use Rattle.many_host.specs.declared.turn_taking.Stage.{Stage}
@@ -51,13 +51,13 @@ set_lines (v ∷ ws) (u ∷ ts) zero w t t' ew et =
 set_lines (v ∷ ws) (u ∷ ts) (suc i) w t t' ew et = let rest = set_lines ws ts i w t t' ew et in omega (arith, rest)
 
 -- so many whole turns
-tells_lines : (programs : List Program) (detaches : List Detach) (ds : List Device) (count : ℕ) (lines : List Line) (tellers : List Teller) (ds' : List Device)
-    → Tells programs detaches ds count lines tellers ds' → length lines ≡ all_lines programs tellers
-tells_lines programs detaches ds zero lines tellers ds' h = ap length h.0 ∙ sym (none_yet programs) ∙ ap (all_lines programs) (sym h.1)
-tells_lines programs detaches ds (suc count) lines tellers ds' h =
+tells_lines : (begun : ℕ) (programs : List Program) (detaches : List Detach) (ds : List Device) (count : ℕ) (lines : List Line) (tellers : List Teller) (ds' : List Device)
+    → TellsFrom begun programs detaches ds count lines tellers ds' → length lines ≡ all_lines programs tellers
+tells_lines begun programs detaches ds zero lines tellers ds' h = ap length h.0 ∙ sym (none_yet programs) ∙ ap (all_lines programs) (sym h.1)
+tells_lines begun programs detaches ds (suc count) lines tellers ds' h =
     let mid = h.2 in
-    let x : TellsTurn programs detaches (suc count) mid h.3 h.1 tellers ds' = h.5 in
-    let before = tells_lines programs detaches ds count h.0 mid h.3 h.4 in
+    let x : TellsTurn programs detaches (suc (behind begun count)) mid h.3 h.1 tellers ds' = h.5 in
+    let before = tells_lines begun programs detaches ds count h.0 mid h.3 h.4 in
     let now = having_told x.t x.turn x.met x.answers in
     let set = set_lines programs mid x.i x.w x.t now x.program x.there in
     let more = lines_on (length x.w.looks) x.t.told x.turn in
@@ -147,18 +147,25 @@ few_of_each (w ∷ ws) (t ∷ ts) each =
     let rest = few_of_each ws ts (λ i. each (suc i)) in
     omega (arith, first, rest)
 
-module _ (programs : List Program) (detaches : List Detach) (ds : List Device) (lines : List Line) (h : Held Hosted) (ds' : List Device) (stage : Stage)
-    (s : Standing follows has_ended memory_of programs detaches ds lines h ds' stage) (few : length h.programs ≤ 16) where
-  held_at : (i : ℕ) (w : Program) → slice_get programs i ≡ Some w → (t : Teller) × (x : Hosted) × (slice_get s.tellers i ≡ Some t) × IsHeld follows has_ended h.shows i w t x
+module _ (begun : ℕ) (programs : List Program) (detaches : List Detach) (ds : List Device) (lines : List Line) (h : Held Hosted) (ds' : List Device) (stage : Stage)
+    (s : StandingFrom begun follows has_ended memory_of programs detaches ds lines h ds' stage) (few : length h.programs ≤ 16) where
+  held_at : (i : ℕ) (w : Program) → slice_get programs i ≡ Some w → (t : Teller) × (x : Hosted) × (slice_get s.tellers i ≡ Some t) × Holds follows has_ended h.shows i w t x
   held_at i w there =
       let within : i < length programs = slice_get_within programs i w there in
       let t = item s.tellers i (let e = s.wide in omega arith) in
       let x = item h.programs i (let k = s.as_many in omega arith) in
       (t.0, x.0, t.1, s.each i w t.0 x.0 there t.1 x.1)
 
+  looks_of_it : (i : ℕ) (w : Program) → (t : Teller) × (x : Hosted) × (slice_get s.tellers i ≡ Some t) × Holds follows has_ended h.shows i w t x → w.looks ≡ looks_of i h.shows
+  looks_of_it i w z = by z.3
+    where
+      by : Holds follows has_ended h.shows i w z.0 z.1 → w.looks ≡ looks_of i h.shows
+      by (on_its_way held) = held.looks
+      by (has_gone is told looks) = looks
+
   looks_shown : all_looks programs ≤ length h.shows
   looks_shown =
-      let are = looks_are h.shows 0 programs (λ i w there. (held_at i w there).3.looks ∙ ap (λ k. looks_of k h.shows) (let z : i ≡ 0 + i = omega arith in z)) in
+      let are = looks_are h.shows 0 programs (λ i w there. looks_of_it i w (held_at i w there) ∙ ap (λ k. looks_of k h.shows) (let z : i ≡ 0 + i = omega arith in z)) in
       let most = looks_few (length programs) 0 h.shows in
       omega (arith, are, most)
 
@@ -166,10 +173,14 @@ module _ (programs : List Program) (detaches : List Detach) (ds : List Device) (
   each_few i w t ew et =
       let within : i < length programs = slice_get_within programs i w ew in
       let x = item h.programs i (let k = s.as_many in omega arith) in
-      let held : IsHeld follows has_ended h.shows i w t x.0 = s.each i w t x.0 ew et x.1 in
-      let begun = begun_lines (length w.looks) w (t.met ++ []) t.told (begins_of_follows w t.told t.met x.0.program held.follow.0 []) in
-      let steps = held.follow.0.at.few_steps in
-      omega (arith, begun, steps)
+      by_hold x.0 (s.each i w t x.0 ew et x.1)
+    where
+      by_hold : (x : Hosted) → Holds follows has_ended h.shows i w t x → lines_of w t ≤ length w.looks + 3000000001
+      by_hold x (on_its_way held) =
+          let first = begun_lines (length w.looks) w (t.met ++ []) t.told (begins_of_follows w t.told t.met x.program held.follow.0 []) in
+          let steps = held.follow.0.at.few_steps in
+          omega (arith, first, steps)
+      by_hold x (has_gone is told looks) = let none = ap (lines_of w) told in omega (arith, none)
 
   all_few : all_lines programs s.tellers ≤ 48000000016 + length h.shows
   all_few =
@@ -181,11 +192,11 @@ module _ (programs : List Program) (detaches : List Detach) (ds : List Device) (
   pub few_told : length lines ≤ 48000000016 + length h.shows
   few_told = by stage s.at
     where
-      by : (g : Stage) → StandsAt memory_of programs detaches ds lines s.tellers h ds' g → length lines ≤ 48000000016 + length h.shows
-      by Between at = let n = tells_lines programs detaches ds h.begun lines s.tellers ds' at in omega (arith, n, all_few)
+      by : (g : Stage) → StandsAtFrom begun memory_of programs detaches ds lines s.tellers h ds' g → length lines ≤ 48000000016 + length h.shows
+      by Between at = let n = tells_lines begun programs detaches ds (since begun h.begun) lines s.tellers ds' at in omega (arith, n, all_few)
       by (Telling turn) at =
-          let on : TellsOn programs detaches ds at.0 turn.program turn.due lines s.tellers ds' = at.2 in
-          let n = tells_lines programs detaches ds at.0 on.before on.mid on.es on.whole in
+          let on : TellsOnFrom begun programs detaches ds at.0 turn.program turn.due lines s.tellers ds' = at.2 in
+          let n = tells_lines begun programs detaches ds at.0 on.before on.mid on.es on.whole in
           let set = set_lines programs on.mid turn.program on.w on.t (having_told on.t on.turn on.met on.answers) on.program on.there in
           let more = lines_on (length on.w.looks) on.t.told on.turn in
           let notes = lines_many (length on.w.looks) on.turn in
@@ -195,11 +206,11 @@ module _ (programs : List Program) (detaches : List Detach) (ds : List Device) (
           omega (arith, n, all_few, set, more, notes, after, made, told)
       by (Showing turn from) at =
           let rest : List Line = map (line_at turn.due turn.program) (looks_at (memory_of at.0) (looks_of turn.program (drop from h.shows))) in
-          let n = tells_lines programs detaches ds h.begun (lines ++ rest) s.tellers ds' at.2 in
+          let n = tells_lines begun programs detaches ds (since begun h.begun) (lines ++ rest) s.tellers ds' at.2 in
           let sum = length-append lines rest in
           omega (arith, n, all_few, sum)
 
 -- A host has told few lines.
 pub few_lines : (programs : List Program) (detaches : List Detach) (ds ds' : List Device) (lines : List Line) (h : Host) → HostTold programs detaches ds lines h ds' → length h.turns.programs.items ≤ 16
     → length lines ≤ 48000000016 + length h.turns.shows.items
-few_lines programs detaches ds ds' lines h told few = few_told programs detaches ds lines (held_of h.turns) ds' h.turns.stage told few
+few_lines programs detaches ds ds' lines h told few = few_told 0 programs detaches ds lines (held_of h.turns) ds' h.turns.stage told few

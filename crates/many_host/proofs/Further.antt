@@ -8,15 +8,15 @@ use Rattle.wa_model.specs.Plan.{Outcome}
 use Rattle.wa_model.specs.Blocking.{Note, events_of}
 use Rattle.wa_model.specs.World.{Device, Program, detached, CallsMeet, ends_turn, line_at, looks_after, events_with_looks}
 use Rattle.event_order.specs.Dues.{IsLeast}
-use Rattle.many_host.specs.Turns.{Teller, due_of, having_told, Tells}
+use Rattle.many_host.specs.Turns.{Teller, due_of, having_told, behind, TellsFrom}
 use Rattle.many_host.proofs.Places.{set_here}
-use Rattle.many_host.specs.Notes.{TellsOn}
+use Rattle.many_host.specs.Notes.{TellsOnFrom}
 use Rattle.many_host.specs.ToldNotes.{TurnGoesOn, TurnEnds}
 use Rattle.many_host.proofs.Notes.{goes_on_more, ends_once, looks_more, calls_more, told_more}
 
-module _ (programs : List Program) (detaches : List Detach) (ds ds' es : List Device) (number i due : ℕ) (lines : List Line) (tellers : List Teller)
+module _ (begun : ℕ) (programs : List Program) (detaches : List Detach) (ds ds' es : List Device) (number i due : ℕ) (lines : List Line) (tellers : List Teller)
     (w : Program) (t : Teller) (x : Note) (met : List Outcome) (answers : List AnswerLine)
-    (on : TellsOn programs detaches ds number i due lines tellers ds') (program : slice_get programs i ≡ Some w) (there : slice_get tellers i ≡ Some t)
+    (on : TellsOnFrom begun programs detaches ds number i due lines tellers ds') (program : slice_get programs i ≡ Some w) (there : slice_get tellers i ≡ Some t)
     (calls : CallsMeet w (x ∷ []) met t.answers ds' [] answers es) where
   abbrev so_far : Teller
   so_far = having_told on.t on.turn on.met on.answers
@@ -35,8 +35,8 @@ module _ (programs : List Program) (detaches : List Detach) (ds ds' es : List De
       subst (λ (v : Program). CallsMeet v (x ∷ []) met on.answers ds' [] answers es) same_program
       (subst (λ (v : Teller). CallsMeet w (x ∷ []) met v.answers ds' [] answers es) same_teller calls)
 
-  all_met : CallsMeet on.w turn (on.met ++ met) on.t.answers (detached (suc number) detaches on.es) [] answers es
-  all_met = calls_more on.w on.turn (x ∷ []) on.met met on.t.answers on.answers answers (detached (suc number) detaches on.es) ds' es on.calls one_met
+  all_met : CallsMeet on.w turn (on.met ++ met) on.t.answers (detached (suc (behind begun number)) detaches on.es) [] answers es
+  all_met = calls_more on.w on.turn (x ∷ []) on.met met on.t.answers on.answers answers (detached (suc (behind begun number)) detaches on.es) ds' es on.calls one_met
 
   after : slice_set tellers i (having_told t (x ∷ []) met answers) ≡ slice_set on.mid i (having_told on.t turn (on.met ++ met) answers)
   after =
@@ -45,7 +45,7 @@ module _ (programs : List Program) (detaches : List Detach) (ds ds' es : List De
       ∙ ap (slice_set on.mid i) (told_more on.t on.turn on.met met on.answers answers x on.goes_on)
 
   pub goes_on_by : ends_turn x.event ≡ false
-      → TellsOn programs detaches ds number i due (lines ++ line_at due i x.event ∷ []) (slice_set tellers i (having_told t (x ∷ []) met answers)) es
+      → TellsOnFrom begun programs detaches ds number i due (lines ++ line_at due i x.event ∷ []) (slice_set tellers i (having_told t (x ∷ []) met answers)) es
   goes_on_by e =
       record {
         before = on.before;
@@ -85,7 +85,7 @@ module _ (programs : List Program) (detaches : List Detach) (ds ds' es : List De
       ∙ (λ k. map (line_at (sym on.due_is k) i) (events_with_looks (same_program k).looks turn))
 
   pub ends_by : ends_turn x.event ≡ true
-      → Tells programs detaches ds (suc number) (lines ++ line_at due i x.event ∷ map (line_at due i) (looks_after w.looks x x.event)) (slice_set tellers i (having_told t (x ∷ []) met answers)) es
+      → TellsFrom begun programs detaches ds (suc number) (lines ++ line_at due i x.event ∷ map (line_at due i) (looks_after w.looks x x.event)) (slice_set tellers i (having_told t (x ∷ []) met answers)) es
   ends_by e = (
     on.before,
     turn_lines,
@@ -112,9 +112,9 @@ module _ (programs : List Program) (detaches : List Detach) (ds ds' es : List De
   )
 
 pub turn_goes_on : TurnGoesOn
-turn_goes_on programs detaches ds ds' es number i due lines tellers w t x met answers on program there calls e =
-    goes_on_by programs detaches ds ds' es number i due lines tellers w t x met answers on program there calls e
+turn_goes_on begun programs detaches ds ds' es number i due lines tellers w t x met answers on program there calls e =
+    goes_on_by begun programs detaches ds ds' es number i due lines tellers w t x met answers on program there calls e
 
 pub turn_ends : TurnEnds
-turn_ends programs detaches ds ds' es number i due lines tellers w t x met answers on program there calls e =
-    ends_by programs detaches ds ds' es number i due lines tellers w t x met answers on program there calls e
+turn_ends begun programs detaches ds ds' es number i due lines tellers w t x met answers on program there calls e =
+    ends_by begun programs detaches ds ds' es number i due lines tellers w t x met answers on program there calls e

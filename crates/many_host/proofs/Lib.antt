@@ -8,6 +8,8 @@ pub mod FewLines
 pub mod FewTurns
 pub mod Further
 pub mod Notes
+pub mod Numbers
+pub mod Origins
 pub mod Places
 pub mod Showing
 pub mod Starting

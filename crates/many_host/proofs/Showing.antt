@@ -10,20 +10,20 @@ use Rattle.wa_model.specs.World.{Device, Look, Program, bytes_shown, line_at}
 use Rattle.event_order.specs.declared.shows.Show.{Show}
 use Rattle.event_order.specs.declared.turns.Turn.{Turn}
 use Rattle.event_order.specs.Looks.{look_of, looks_of, IsNextShow}
-use Rattle.many_host.specs.Turns.{Tells}
+use Rattle.many_host.specs.Turns.{TellsFrom, since}
 use Rattle.many_host.specs.declared.turn_taking.Stage.TheVariants.{Between, Showing}
-use Rattle.many_host.specs.Standing.{Held, Standing, TellsLine, looks_at}
+use Rattle.many_host.specs.Standing.{Held, StandingFrom, TellsLineFrom, looks_at}
 use Rattle.many_host.proofs.Counts.{meets_none, shown_takes, taken_by}
 use Rattle.event_order.specs.Left.{Counted}
 
 module _ {X : Type 0} (follows : X → Program → List Note → List Outcome → List AnswerLine → Type 0) (over : X → Bool) (memory : X → List ℕ)
-    (programs : List Program) (detaches : List Detach) (ds : List Device) (lines : List Line) (h : Held X) (ds' : List Device) (turn : Turn) (from : ℕ)
-    (s : Standing follows over memory programs detaches ds lines h ds' (Showing turn from)) where
+    (begun : ℕ) (programs : List Program) (detaches : List Detach) (ds : List Device) (lines : List Line) (h : Held X) (ds' : List Device) (turn : Turn) (from : ℕ)
+    (s : StandingFrom begun follows over memory programs detaches ds lines h ds' (Showing turn from)) where
   abbrev line : Event → Line
   line e = line_at turn.due turn.program e
 
   -- once all looks are out the turn is whole
-  abbrev pub all_shown : looks_of turn.program (drop from h.shows) ≡ [] → Standing follows over memory programs detaches ds lines h ds' Between
+  abbrev pub all_shown : looks_of turn.program (drop from h.shows) ≡ [] → StandingFrom begun follows over memory programs detaches ds lines h ds' Between
   all_shown none =
       record {
         tellers = s.tellers;
@@ -32,14 +32,16 @@ module _ {X : Type 0} (follows : X → Program → List Note → List Outcome �
         each = s.each;
         dues = s.dues;
         detaches_are = s.detaches_are;
-        at = subst (λ (ls : List Line). Tells programs detaches ds h.begun ls s.tellers ds')
+        earlier_is = s.earlier_is;
+        begun_is = s.begun_is;
+        at = subst (λ (ls : List Line). TellsFrom begun programs detaches ds (since begun h.begun) ls s.tellers ds')
             (ap (λ (l : List Look). lines ++ map line (looks_at (memory s.at.0) l)) none ∙ append-nil lines) s.at.2;
       }
 
   -- one look more
   shown_on : (x : X) (place next : ℕ) (look : Show) (e : Event) → slice_get h.programs turn.program ≡ Some x → next ≡ place + 1
       → IsNextShow turn.program h.shows from place → slice_get h.shows place ≡ Some look → e ≡ shown look.at (bytes_shown (memory x) (record { at = look.at; len = look.len }))
-      → Tells programs detaches ds h.begun ((lines ++ line e ∷ []) ++ map line (looks_at (memory x) (looks_of turn.program (drop next h.shows)))) s.tellers ds'
+      → TellsFrom begun programs detaches ds (since begun h.begun) ((lines ++ line e ∷ []) ++ map line (looks_at (memory x) (looks_of turn.program (drop next h.shows)))) s.tellers ds'
   shown_on x place next look e there next_is is look_there e_is =
       let look_is : look ≡ is.show = same_Some look is.show (sym look_there ∙ is.there) in
       let x_is : s.at.0 ≡ x = same_Some s.at.0 x (sym s.at.1 ∙ there) in
@@ -48,12 +50,12 @@ module _ {X : Type 0} (follows : X → Program → List Note → List Outcome �
       ap (λ (l : List Look). map line (looks_at (memory s.at.0) l)) is.first
       ∙ (λ k. line (shown (sym look_is k).at (bytes_shown (memory (x_is k)) (look_of (sym look_is k)))) ∷ map line (looks_at (memory (x_is k)) (looks_of turn.program (drop (next_suc k) h.shows))))
       ∙ ap (λ (v : Event). line v ∷ map line (looks_at (memory x) (looks_of turn.program (drop next h.shows)))) (sym e_is) in
-      subst (λ (ls : List Line). Tells programs detaches ds h.begun ls s.tellers ds')
+      subst (λ (ls : List Line). TellsFrom begun programs detaches ds (since begun h.begun) ls s.tellers ds')
       (ap (λ (ls : List Line). lines ++ ls) first ∙ sym (append_assoc lines (line e ∷ []) (map line (looks_at (memory x) (looks_of turn.program (drop next h.shows)))))) s.at.2
 
   pub shown_line : (x : X) (place next : ℕ) (look : Show) (e : Event) (cs : List Counted) → slice_get h.programs turn.program ≡ Some x → next ≡ place + 1
       → IsNextShow turn.program h.shows from place → slice_get h.shows place ≡ Some look → e ≡ shown look.at (bytes_shown (memory x) (record { at = look.at; len = look.len }))
-      → TellsLine follows over memory programs detaches ds lines s.tellers cs cs (line_at turn.due turn.program e) h ds' (Showing turn next)
+      → TellsLineFrom begun follows over memory programs detaches ds lines s.tellers cs cs (line_at turn.due turn.program e) h ds' (Showing turn next)
   shown_line x place next look e cs there next_is is look_there e_is =
       record {
         stands = record {
@@ -63,6 +65,8 @@ module _ {X : Type 0} (follows : X → Program → List Note → List Outcome �
           each = s.each;
           dues = s.dues;
           detaches_are = s.detaches_are;
+          earlier_is = s.earlier_is;
+          begun_is = s.begun_is;
           at = (x, there, shown_on x place next look e there next_is is look_there e_is);
         };
         met = [];

@@ -16,7 +16,8 @@ use Rattle.world_laws.proofs.Counting.{Ends, calls_on}
 use Rattle.world_laws.proofs.LineCalls.{bound_to, list_by_lines}
 use Rattle.world_laws.proofs.Openings.{Closed, Open, call_listed, left_of}
 use Rattle.world_laws.proofs.StoryParts.{story_ends}
-use Rattle.many_host.specs.Turns.{ends_program}
+use Rattle.many_host.specs.Turns.{ends_program, is_gone}
+use Rattle.many_host.proofs.Origins.{some_story}
 
 or_right : (a b : Bool) → (a || b) ≡ false → b ≡ false
 or_right true b e = cc
@@ -71,7 +72,16 @@ pub record Further (w : Program) (pre : List Outcome) (done : List Note) (answer
   pub story : protocol_story w (pre ++ outcomes) ≡ done ++ full
   pub ends : Ends full
 
-module _ (w : Program) (pre : List Outcome) (done : List Note) (answers : List AnswerLine) (ds : List Device) (count : new_calls done ≡ length pre) (live : ends_program done ≡ false) where
+module _ (w : Program) (pre : List Outcome) (done : List Note) (answers : List AnswerLine) (ds : List Device) (count : new_calls done ≡ length pre) (live : ends_program done ≡ false)
+    (some : is_gone w ≡ false) where
+  -- it isn't empty, so it ends
+  it_ends : (os : List Outcome) → new_calls (protocol_story w os) ≤ length os → Ends (protocol_story w os)
+  it_ends os few = by (story_ends w os few)
+    where
+      by : (protocol_story w os ≡ []) ⊎ Ends (protocol_story w os) → Ends (protocol_story w os)
+      by (inl none) = absurd (some_story w some os none)
+      by (inr h) = h
+
   by_list : (full : List Note) (outcomes : List Outcome) (left : List AnswerLine) (last : List Device) → ListMeet w (call_list full) outcomes answers ds [] left last
       → protocol_story w (pre ++ outcomes) ≡ done ++ full → Further w pre done answers ds
   by_list full outcomes left last list story =
@@ -85,7 +95,7 @@ module _ (w : Program) (pre : List Outcome) (done : List Note) (answers : List A
         last = last;
         meets = from_list w full outcomes answers ds [] left last list;
         story = story;
-        ends = ends_tail done full live (subst Ends story (story_ends w (pre ++ outcomes) few));
+        ends = ends_tail done full live (subst Ends story (it_ends (pre ++ outcomes) few));
       }
 
   pub further : (tail : List Outcome) (rest : List Note) → protocol_story w (pre ++ tail) ≡ done ++ rest → Further w pre done answers ds

@@ -1,6 +1,6 @@
 -- How many lines a program's story has: each step makes three notes at most, and there is one end, behind which memory is shown.
 use Rattle.std.proofs.Common.{arith, ◌≡◌, ◌≤◌, ◌<◌, ℕ, zero, suc, ◌+◌, ◌-◌, ◌*◌, List, [], ◌∷◌, ◌++◌, length, Option, Some, None, Bool, true, false, cond, refl, sym, ap, ◌∙◌, subst, length-append}
-use Rattle.std.specs.Prelude.{nat_lt, nat_eq, if◌then◌else◌}
+use Rattle.std.specs.Prelude.{nat_lt, nat_eq, if◌then◌else◌, slice_get}
 use Rattle.std.specs.Option.{option_to_list}
 use Rattle.std.proofs.lemmas.Bool.{ltb-true}
 use Rattle.std.proofs.lemmas.List.{length-map}
@@ -18,9 +18,9 @@ use Rattle.wa_model.specs.Step.{Next, steps, asks, returns, traps, stuck, step, 
 use Rattle.wa_model.specs.Plan.{Entry, Plan, Outcome, given, refused}
 use Rattle.wa_model.specs.Instantiation.{Opening, fails_as, opens, opening}
 use Rattle.wa_model.specs.Blocking.{Note, call_note, fault_of, pause_of, poked, resumed, done_notes, Task, the_start, an_entry, Left, with_outcomes, all_left, Asker, inside, outermost, store_at, stack_at, in_start, next_entry}
-use Rattle.wa_model.specs.Protocol.{Exports, exports_of, Phase, is_running, unwinds, rewinds, Then, give_zero, test_unwound, pause_there, call_again, test_rewound, give_answer, Held, free, starting, busy, calling, aside, entering, over, protocol, Protocol, broken, held_on, held_back, held_given, held_resumed, held_ends, held_pauses, held_tested, held_asked, busy_step, is_state, aside_back, aside_step, busy_enters, held_next, aside_called, held_start, held_started, held_begun}
+use Rattle.wa_model.specs.Protocol.{Exports, exports_of, Phase, is_running, unwinds, rewinds, Then, give_zero, test_unwound, pause_there, call_again, test_rewound, give_answer, Held, free, starting, busy, calling, aside, entering, over, protocol, held_continued, broken, held_on, held_back, held_given, held_resumed, held_ends, held_pauses, held_tested, held_asked, busy_step, is_state, aside_back, aside_step, busy_enters, held_next, aside_called, held_start, held_started, held_begun}
 use Rattle.wa_model.specs.Behaves.{IsPrefix}
-use Rattle.wa_model.specs.World.{Look, Program, events_with_looks, is_end, looks_after, protocol_story, unless_over}
+use Rattle.wa_model.specs.World.{Halt, Origin, at_start, gone, at_pause, Look, Program, events_with_looks, halted, halted_in, is_end, looks_after, protocol_story, story_from, told_by, unless_over}
 
 -- how many lines a note makes, with so many looks behind an end
 abbrev end_lines : (looks : ℕ) → Bool → ℕ
@@ -236,15 +236,32 @@ over_lines looks n (aside ph c th l) = omega arith
 over_lines looks n (entering ph e s l) = omega arith
 over_lines looks n (over s) = omega arith
 
+-- by where a program begins: a run that goes on from there is told
+module _ (looks : ℕ) (w : Program) where
+  told_lines : (n : ℕ) (r : Ran Held Note) → RanPays looks w.source (exports_of w.source) w.plan (looks + 1) r → n ≤ w.steps
+      → lines_in looks (told_by w.steps (held_continued w.source w.plan n r)) ≤ looks + 1 + 3 * w.steps
+  told_lines n r h le =
+      let all : Ran Held Note = held_continued w.source w.plan n r in
+      let made = after_pays looks w.source (exports_of w.source) w.plan n r h in
+      let rest = over_lines looks w.steps all.last in
+      let sum = lines_on looks all.events (unless_over w.steps all.last) in
+      omega (arith, made, rest, sum, le)
+
+  halted_pays : (x : Halt) (os : List Outcome) (e : Option Entry) → RanPays looks w.source (exports_of w.source) w.plan (looks + 1) (still (halted_in w.source w.plan x os e))
+  halted_pays x os None = omega arith
+  halted_pays x os (Some e) = omega arith
+
+  lines_from : (os : List Outcome) (o : Origin) → lines_in looks (story_from w os o) ≤ looks + 1 + 3 * w.steps
+  lines_from os at_start =
+      let begun : Ran Held Note = held_begun w.source.start (all_left w.plan os) (opening w.source w.plan.globals) in
+      told_lines w.steps begun (begun_pays looks w.source (exports_of w.source) w.plan w.source.start (all_left w.plan os) (opening w.source w.plan.globals)) (omega arith)
+  lines_from os gone = omega arith
+  lines_from os (at_pause x) =
+      told_lines (w.steps - x.used) (still (halted w.source w.plan x os)) (halted_pays x os (slice_get w.plan.entries x.entry)) (omega arith)
+
 -- A program's story has three lines a step at most, those of its looks, and one.
 pub story_lines : (looks : ℕ) (w : Program) (os : List Outcome) → lines_in looks (protocol_story w os) ≤ looks + 1 + 3 * w.steps
-story_lines looks w os =
-    let r = Protocol w.source w.plan os w.steps in
-    let made = after_pays looks w.source (exports_of w.source) w.plan w.steps (held_begun w.source.start (all_left w.plan os) (opening w.source w.plan.globals))
-    (begun_pays looks w.source (exports_of w.source) w.plan w.source.start (all_left w.plan os) (opening w.source w.plan.globals)) in
-    let rest = over_lines looks w.steps r.last in
-    let sum = lines_on looks r.events (unless_over w.steps r.last) in
-    omega (arith, made, rest, sum)
+story_lines looks w os = lines_from looks w os w.origin
 
 -- So has each beginning of it.
 pub begun_lines : (looks : ℕ) (w : Program) (os : List Outcome) (notes : List Note) → IsPrefix notes (protocol_story w os) → lines_in looks notes ≤ looks + 1 + 3 * w.steps

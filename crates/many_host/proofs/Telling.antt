@@ -10,12 +10,13 @@ use Rattle.wa_model.specs.declared.answers.Detach.{Detach}
 use Rattle.wa_model.specs.Outside.{AnswerLine, Line}
 use Rattle.wa_model.specs.Plan.{Outcome}
 use Rattle.wa_model.specs.Blocking.{Note}
-use Rattle.wa_model.specs.World.{Device, Program, Actor, CallsMeet, Plays, IsNext, HasNotes, Starts, StartsHeld, IsOver, detached, turn_of, behind_turn, put_off, line_at, events_with_looks, protocol_story, ProtocolWorld}
+use Rattle.wa_model.specs.World.{Device, Program, Actor, CallsMeet, Plays, IsNext, HasNotes, Starts, StartsHeld, IsOver, detached, turn_of, behind_turn, put_off, line_at, events_with_looks, protocol_story, ProtocolWorldFrom}
 use Rattle.event_order.specs.Dues.{HaveEnded}
-use Rattle.world_laws.specs.Played.{ProtocolWorldUpTo}
+use Rattle.world_laws.specs.Played.{ProtocolWorldUpToFrom}
 use Rattle.world_laws.proofs.Played.{as_events, one_more}
-use Rattle.many_host.specs.Turns.{HaveMet, Teller, starting, unless, due_of, having_told, TellsTurn, Tells, IsRest, HasStory}
+use Rattle.many_host.specs.Turns.{HaveMet, Teller, starting, unless, due_of, having_told, behind, TellsTurn, TellsFrom, IsRest, HasStory}
 use Rattle.many_host.specs.ToldTurns.{ToldIsWorld, AllToldIsWorld}
+use Rattle.many_host.proofs.Numbers.{next_behind, sum_behind}
 use Rattle.many_host.proofs.Places.{item, set_here, set_there, set_same, zipped}
 use Rattle.many_host.proofs.Turns.{turn_whole, behind_whole, some_note, calls_behind}
 
@@ -50,7 +51,7 @@ due_at tellers j t there unfinished =
 
 -- ---- one turn, from behind
 
-module _ (programs : List Program) (detaches : List Detach) (wholes : List Whole) where
+module _ (begun : ℕ) (programs : List Program) (detaches : List Detach) (wholes : List Whole) where
   module _ (number : ℕ) (mid tellers : List Teller) (es ds' : List Device) (lines : List Line) (actors : List Actor) (play : TellsTurn programs detaches number mid es lines tellers ds')
       (fore : Foretold wholes tellers actors) where
     within : play.i < length mid
@@ -173,7 +174,7 @@ module _ (programs : List Program) (detaches : List Detach) (wholes : List Whole
   SameMet starts = (i : ℕ) (h : Whole) (a : Actor) → slice_get wholes i ≡ Some h → slice_get starts i ≡ Some a → a.outcomes ≡ h.outcomes
 
   abbrev Reaches : (number : ℕ) (ds : List Device) (lines : List Line) (ds' : List Device) → List Actor → Type 0
-  Reaches number ds lines ds' actors = (world : ProtocolWorldUpTo programs detaches ds number lines ds') × (world.now ≡ actors) × SameMet world.actors
+  Reaches number ds lines ds' actors = (world : ProtocolWorldUpToFrom begun programs detaches ds (behind begun number) lines ds') × (world.now ≡ actors) × SameMet world.actors
 
   module _ (stories : (i : ℕ) (w : Program) (h : Whole) → slice_get programs i ≡ Some w → slice_get wholes i ≡ Some h → h.notes ≡ protocol_story w h.outcomes) where
     start : (tellers : List Teller) (actors : List Actor) → tellers ≡ map starting programs → Foretold wholes tellers actors → AllZip StartsHeld programs actors
@@ -199,23 +200,30 @@ module _ (programs : List Program) (detaches : List Detach) (wholes : List Whole
         let tie = fore.each i (starting w.0) h a et eh ea in
         tie.outcomes
 
-    reaches : (number : ℕ) (ds ds' : List Device) (lines : List Line) (tellers : List Teller) (actors : List Actor) → Tells programs detaches ds number lines tellers ds'
+    reaches : (number : ℕ) (ds ds' : List Device) (lines : List Line) (tellers : List Teller) (actors : List Actor) → TellsFrom begun programs detaches ds number lines tellers ds'
         → Foretold wholes tellers actors → Reaches number ds lines ds' actors
-    reaches zero ds ds' lines tellers actors tells fore =
-        (record { actors = actors; now = actors; starts = start tellers actors tells.1 fore; played = (tells.0, refl, tells.2) }, refl, start_met tellers actors tells.1 fore)
+    reaches zero ds ds' lines tellers actors tells fore = (
+      record { actors = actors; now = actors; starts = start tellers actors tells.1 fore; count = 0; numbered = sum_behind begun 0; played = (tells.0, refl, tells.2) },
+      refl,
+      start_met tellers actors tells.1 fore,
+    )
     reaches (suc number) ds ds' lines tellers actors tells fore =
         let play = tells.5 in
-        let on = reaches number ds tells.3 tells.0 tells.2 (acts (suc number) tells.2 tellers tells.3 ds' tells.1 actors play fore) tells.4
-        (fore_before (suc number) tells.2 tellers tells.3 ds' tells.1 actors play fore) in
-        let turn : Plays programs detaches (suc number) on.0.now tells.3 tells.1 actors ds' =
-        subst (λ (l : List Actor). Plays programs detaches (suc number) l tells.3 tells.1 actors ds') (sym on.1) (plays (suc number) tells.2 tellers tells.3 ds' tells.1 actors play fore) in
-        let next : suc number ≡ 1 + number = omega arith in
+        let at : ℕ = suc (behind begun number) in
+        let on = reaches number ds tells.3 tells.0 tells.2 (acts at tells.2 tellers tells.3 ds' tells.1 actors play fore) tells.4
+        (fore_before at tells.2 tellers tells.3 ds' tells.1 actors play fore) in
+        let turn : Plays programs detaches at on.0.now tells.3 tells.1 actors ds' =
+        subst (λ (l : List Actor). Plays programs detaches at l tells.3 tells.1 actors ds') (sym on.1) (plays at tells.2 tellers tells.3 ds' tells.1 actors play fore) in
+        let was = on.0.numbered in
+        let next : suc (behind begun number) ≡ suc begun + on.0.count = omega (arith, was) in
         subst (λ (l : List Line). Reaches (suc number) ds l ds' actors) (sym tells.6) (
           record {
             actors = on.0.actors;
             now = actors;
             starts = on.0.starts;
-            played = one_more programs detaches number 1 (suc number) on.0.actors on.0.now actors ds tells.3 ds' tells.0 tells.1 next on.0.played turn;
+            count = suc on.0.count;
+            numbered = (let more = next_behind begun number in omega (arith, was, more));
+            played = one_more programs detaches on.0.count (suc begun) at on.0.actors on.0.now actors ds tells.3 ds' tells.0 tells.1 next on.0.played turn;
           },
           refl,
           on.2,
@@ -275,16 +283,16 @@ met_to programs tellers p starts now is same i t a n et ea en =
     let tie = p.fore.each i t h.0 n et h.1 (ap (λ (l : List Actor). slice_get l i) (sym is) ∙ en) in
     same i h.0 a h.1 ea ∙ sym tie.outcomes
 
-pub told_is_world_met : (programs : List Program) (detaches : List Detach) (ds ds' : List Device) (number : ℕ) (lines : List Line) (tellers : List Teller)
-    → Tells programs detaches ds number lines tellers ds' → AllZip HasStory programs tellers
-    → (world : ProtocolWorldUpTo programs detaches ds number lines ds') × MetTo tellers world.actors world.now
-told_is_world_met programs detaches ds ds' number lines tellers tells all =
+pub told_is_world_met : (begun : ℕ) (programs : List Program) (detaches : List Detach) (ds ds' : List Device) (number : ℕ) (lines : List Line) (tellers : List Teller)
+    → TellsFrom begun programs detaches ds number lines tellers ds' → AllZip HasStory programs tellers
+    → (world : ProtocolWorldUpToFrom begun programs detaches ds (behind begun number) lines ds') × MetTo tellers world.actors world.now
+told_is_world_met begun programs detaches ds ds' number lines tellers tells all =
     let p = prepared programs tellers all in
-    let on = reaches programs detaches p.wholes p.stories number ds ds' lines tellers p.actors tells p.fore in
+    let on = reaches begun programs detaches p.wholes p.stories number ds ds' lines tellers p.actors tells p.fore in
     (on.0, met_to programs tellers p on.0.actors on.0.now on.1 on.2)
 
 pub told_is_world : ToldIsWorld
-told_is_world programs detaches ds ds' number lines tellers tells all = (told_is_world_met programs detaches ds ds' number lines tellers tells all).0
+told_is_world begun programs detaches ds ds' number lines tellers tells all = (told_is_world_met begun programs detaches ds ds' number lines tellers tells all).0
 
 -- what the program has met its actor meets first
 met_from : (tellers : List Teller) (starts now : List Actor) → length now ≡ length tellers → MetTo tellers starts now → HaveMet tellers starts
@@ -292,18 +300,18 @@ met_from tellers starts now long met i t a et ea =
     let n = item now i (omega (arith, slice_get_within tellers i t et, long)) in
     (n.0.outcomes, met i t a n.0 et ea n.1)
 
-pub all_told_met : (programs : List Program) (detaches : List Detach) (ds ds' : List Device) (number : ℕ) (lines : List Line) (tellers : List Teller)
-    → Tells programs detaches ds number lines tellers ds' → AllZip HasStory programs tellers → HaveEnded (map due_of tellers)
-    → (world : ProtocolWorld programs detaches ds lines ds') × HaveMet tellers world.actors
-all_told_met programs detaches ds ds' number lines tellers tells all ended =
+pub all_told_met : (begun : ℕ) (programs : List Program) (detaches : List Detach) (ds ds' : List Device) (number : ℕ) (lines : List Line) (tellers : List Teller)
+    → TellsFrom begun programs detaches ds number lines tellers ds' → AllZip HasStory programs tellers → HaveEnded (map due_of tellers)
+    → (world : ProtocolWorldFrom begun programs detaches ds lines ds') × HaveMet tellers world.actors
+all_told_met begun programs detaches ds ds' number lines tellers tells all ended =
     let p = prepared programs tellers all in
-    let on = reaches programs detaches p.wholes p.stories number ds ds' lines tellers p.actors tells p.fore in
+    let on = reaches begun programs detaches p.wholes p.stories number ds ds' lines tellers p.actors tells p.fore in
     let long : length on.0.now ≡ length tellers = ap (λ (l : List Actor). length l) on.1 ∙ p.fore.long in (
       record {
         actors = on.0.actors;
         last = on.0.now;
         starts = on.0.starts;
-        events = as_events programs detaches number 1 on.0.actors on.0.now ds ds' lines on.0.played;
+        events = as_events programs detaches on.0.count (suc begun) on.0.actors on.0.now ds ds' lines on.0.played;
         over = subst (λ (l : List Actor). IsOver l) (sym on.1) (over p);
       },
       met_from tellers on.0.actors on.0.now long (met_to programs tellers p on.0.actors on.0.now on.1 on.2),
@@ -323,4 +331,4 @@ all_told_met programs detaches ds ds' number lines tellers tells all ended =
         subst (λ (b : Bool). IsRest b a.notes) is tie.is_rest
 
 pub all_told_is_world : AllToldIsWorld
-all_told_is_world programs detaches ds ds' number lines tellers tells all ended = (all_told_met programs detaches ds ds' number lines tellers tells all ended).0
+all_told_is_world begun programs detaches ds ds' number lines tellers tells all ended = (all_told_met begun programs detaches ds ds' number lines tellers tells all ended).0

@@ -10,9 +10,9 @@ use Rattle.wa_model.specs.World.{Device, Program, CallsMeet, call_in, ends_turn,
 use Rattle.event_order.specs.declared.turns.Turn.{Turn}
 use Rattle.event_order.specs.Left.{Counted}
 use Rattle.event_order.specs.Looks.{looks_of}
-use Rattle.many_host.specs.Turns.{MeetMore, Teller, unless, due_of, having_told, Tells}
+use Rattle.many_host.specs.Turns.{MeetMore, Teller, unless, due_of, having_told, since, starting, TellsFrom}
 use Rattle.many_host.proofs.Places.{set_here, set_there}
-use Rattle.many_host.specs.Notes.{TellsOn}
+use Rattle.many_host.specs.Notes.{TellsOnFrom}
 use Rattle.many_host.proofs.Notes.{ends_none, off_none}
 use Rattle.many_host.proofs.Further.{turn_goes_on, turn_ends}
 use Rattle.host_laws.specs.Supplies.{Supply, Takes}
@@ -21,16 +21,16 @@ use Rattle.many_host.specs.declared.turn_taking.Stage.{Stage}
 use Rattle.many_host.specs.declared.turn_taking.Stage.TheVariants.{Telling}
 use Rattle.many_host.specs.Telling.{TellsNote, supply}
 use Rattle.many_host.specs.Calls.{TakesCall, devices_of, faults_of}
-use Rattle.many_host.specs.Standing.{Held, IsHeld, Standing, StandsAt, TellsLine, due_behind, looks_at, stage_behind}
+use Rattle.many_host.specs.Standing.{Held, Holds, IsHeld, StandingFrom, StandsAtFrom, TellsLineFrom, due_behind, has_gone, looks_at, on_its_way, stage_behind}
 use Rattle.many_host.proofs.TurnPlaces.{or_false, ends_on, dues_set}
 
 module _ {X : Type 0} (follows : X → Program → List Note → List Outcome → List AnswerLine → Type 0) (over : X → Bool) (memory : X → List ℕ)
-    (programs : List Program) (detaches : List Detach) (ds : List Device) (lines : List Line) (h : Held X) (ds' : List Device) (turn : Turn)
-    (s : Standing follows over memory programs detaches ds lines h ds' (Telling turn)) (x : X) (there : slice_get h.programs turn.program ≡ Some x) where
+    (begun : ℕ) (programs : List Program) (detaches : List Detach) (ds : List Device) (lines : List Line) (h : Held X) (ds' : List Device) (turn : Turn)
+    (s : StandingFrom begun follows over memory programs detaches ds lines h ds' (Telling turn)) (x : X) (there : slice_get h.programs turn.program ≡ Some x) where
   abbrev i : ℕ
   i = turn.program
 
-  abbrev on : TellsOn programs detaches ds s.at.0 turn.program turn.due lines s.tellers ds'
+  abbrev on : TellsOnFrom begun programs detaches ds s.at.0 turn.program turn.due lines s.tellers ds'
   on = s.at.2
 
   abbrev now : Teller
@@ -39,8 +39,15 @@ module _ {X : Type 0} (follows : X → Program → List Note → List Outcome �
   teller_there : slice_get s.tellers i ≡ Some now
   teller_there = ap (λ (l : List Teller). slice_get l i) on.after ∙ set_here on.mid i now on.t on.there
 
+  -- who goes on hasn't ended before
   held : IsHeld follows over h.shows i on.w now x
-  held = s.each i on.w now x on.program teller_there there
+  held = by (s.each i on.w now x on.program teller_there there)
+    where
+      by : Holds follows over h.shows i on.w now x → IsHeld follows over h.shows i on.w now x
+      by (on_its_way held) = held
+      by (has_gone is told looks) =
+          let both : false ≡ true = sym (ends_none on.turn on.goes_on) ∙ ap (λ (t : Teller). t.has_ended) told ∙ is in
+          absurd cc
 
   -- what it has told so far
   pub follows_now : (w : Program) × (notes : List Note) × (os : List Outcome) × (answers : List AnswerLine) × follows x w notes os answers
@@ -74,23 +81,24 @@ module _ {X : Type 0} (follows : X → Program → List Note → List Outcome �
           ended_is = n.ended_is ∙ sym (or_false (is_end n.note.event));
           told_end = ends_on now.told (n.note ∷ []) (held.told_end ∙ ends_none on.turn on.goes_on);
           looks = held.looks;
+          live = held.live;
         }
 
     abbrev held_now : (due : Option ℕ) → Held X
-    held_now due = record { programs = slice_set h.programs i x'; dues = slice_set h.dues i due; detaches = h.detaches; shows = h.shows; begun = h.begun }
+    held_now due = record { programs = slice_set h.programs i x'; dues = slice_set h.dues i due; detaches = h.detaches; shows = h.shows; begun = h.begun; earlier = h.earlier }
 
     each : (j : ℕ) (w : Program) (t : Teller) (y : X) → slice_get programs j ≡ Some w → slice_get after j ≡ Some t → slice_get (slice_set h.programs i x') j ≡ Some y
-        → IsHeld follows over h.shows j w t y
+        → Holds follows over h.shows j w t y
     each j w t y ew et ey = by (cases_eq j i) where
-      by : (j ≡ i) ⊎ (j ≡ i → ⊥) → IsHeld follows over h.shows j w t y
+      by : (j ≡ i) ⊎ (j ≡ i → ⊥) → Holds follows over h.shows j w t y
       by (inr other) = s.each j w t y ew (sym (set_there s.tellers i j next other) ∙ et) (sym (set_there h.programs i j x' other) ∙ ey)
       by (inl same) =
           let w_is : on.w ≡ w = same_Some on.w w (sym on.program ∙ ap (slice_get programs) (sym same) ∙ ew) in
           let t_is : next ≡ t = same_Some next t (sym (set_here s.tellers i next now teller_there) ∙ ap (slice_get after) (sym same) ∙ et) in
           let y_is : x' ≡ y = same_Some x' y (sym (set_here h.programs i x' x there) ∙ ap (slice_get (slice_set h.programs i x')) (sym same) ∙ ey) in
-          subst (λ (k : ℕ). IsHeld follows over h.shows k w t y) (sym same)
-          (subst (λ (v : Program). IsHeld follows over h.shows i v t y) w_is
-          (subst (λ (v : Teller). IsHeld follows over h.shows i on.w v y) t_is (subst (λ (v : X). IsHeld follows over h.shows i on.w next v) y_is next_held)))
+          subst (λ (k : ℕ). Holds follows over h.shows k w t y) (sym same)
+          (subst (λ (v : Program). Holds follows over h.shows i v t y) w_is
+          (subst (λ (v : Teller). Holds follows over h.shows i on.w v y) t_is (subst (λ (v : X). Holds follows over h.shows i on.w next v) y_is (on_its_way next_held))))
 
     due_next : due_behind turn.due e ≡ due_of next
     due_next =
@@ -106,28 +114,28 @@ module _ {X : Type 0} (follows : X → Program → List Note → List Outcome �
     abbrev line : Event → Line
     line v = line_at turn.due i v
 
-    goes : ends_turn e ≡ false → TellsOn programs detaches ds s.at.0 i turn.due (lines ++ line e ∷ []) after ds''
+    goes : ends_turn e ≡ false → TellsOnFrom begun programs detaches ds s.at.0 i turn.due (lines ++ line e ∷ []) after ds''
     goes quiet =
-        subst (λ (v : Event). TellsOn programs detaches ds s.at.0 i turn.due (lines ++ line v ∷ []) after ds'') n.event_is
-        (turn_goes_on programs detaches ds ds' ds'' s.at.0 i turn.due lines s.tellers on.w now n.note n.met n.answers on on.program teller_there calls (ap ends_turn n.event_is ∙ quiet))
+        subst (λ (v : Event). TellsOnFrom begun programs detaches ds s.at.0 i turn.due (lines ++ line v ∷ []) after ds'') n.event_is
+        (turn_goes_on begun programs detaches ds ds' ds'' s.at.0 i turn.due lines s.tellers on.w now n.note n.met n.answers on on.program teller_there calls (ap ends_turn n.event_is ∙ quiet))
 
     abbrev Whole : List Line → Type 0
-    Whole ls = Tells programs detaches ds h.begun ls after ds''
+    Whole ls = TellsFrom begun programs detaches ds (since begun h.begun) ls after ds''
 
     ends : ends_turn e ≡ true → Whole (lines ++ line e ∷ map line (looks_after on.w.looks n.note e))
     ends quiet =
-        subst (λ (k : ℕ). Tells programs detaches ds k (lines ++ line e ∷ map line (looks_after on.w.looks n.note e)) after ds'') (sym s.at.1)
-        (subst (λ (v : Event). Tells programs detaches ds (suc s.at.0) (lines ++ line v ∷ map line (looks_after on.w.looks n.note v)) after ds'') n.event_is
-        (turn_ends programs detaches ds ds' ds'' s.at.0 i turn.due lines s.tellers on.w now n.note n.met n.answers on on.program teller_there calls (ap ends_turn n.event_is ∙ quiet)))
+        subst (λ (k : ℕ). TellsFrom begun programs detaches ds k (lines ++ line e ∷ map line (looks_after on.w.looks n.note e)) after ds'') (sym s.at.1)
+        (subst (λ (v : Event). TellsFrom begun programs detaches ds (suc s.at.0) (lines ++ line v ∷ map line (looks_after on.w.looks n.note v)) after ds'') n.event_is
+        (turn_ends begun programs detaches ds ds' ds'' s.at.0 i turn.due lines s.tellers on.w now n.note n.met n.answers on on.program teller_there calls (ap ends_turn n.event_is ∙ quiet)))
 
     abbrev Stands : (due : Option ℕ) → Event → Type 0
-    Stands due v = StandsAt memory programs detaches ds (lines ++ line v ∷ []) after (held_now due) ds'' (stage_behind turn v)
+    Stands due v = StandsAtFrom begun memory programs detaches ds (lines ++ line v ∷ []) after (held_now due) ds'' (stage_behind turn v)
 
     stands : (due : Option ℕ) (v : Event) → e ≡ v → Stands due v
-    stands due (called c) is = (s.at.0, s.at.1, subst (λ (v : Event). TellsOn programs detaches ds s.at.0 i turn.due (lines ++ line v ∷ []) after ds'') is (goes (ap ends_turn is)))
-    stands due (answered v) is = (s.at.0, s.at.1, subst (λ (v : Event). TellsOn programs detaches ds s.at.0 i turn.due (lines ++ line v ∷ []) after ds'') is (goes (ap ends_turn is)))
-    stands due (returned entry v) is = (s.at.0, s.at.1, subst (λ (v : Event). TellsOn programs detaches ds s.at.0 i turn.due (lines ++ line v ∷ []) after ds'') is (goes (ap ends_turn is)))
-    stands due (shown at bytes) is = (s.at.0, s.at.1, subst (λ (v : Event). TellsOn programs detaches ds s.at.0 i turn.due (lines ++ line v ∷ []) after ds'') is (goes (ap ends_turn is)))
+    stands due (called c) is = (s.at.0, s.at.1, subst (λ (v : Event). TellsOnFrom begun programs detaches ds s.at.0 i turn.due (lines ++ line v ∷ []) after ds'') is (goes (ap ends_turn is)))
+    stands due (answered v) is = (s.at.0, s.at.1, subst (λ (v : Event). TellsOnFrom begun programs detaches ds s.at.0 i turn.due (lines ++ line v ∷ []) after ds'') is (goes (ap ends_turn is)))
+    stands due (returned entry v) is = (s.at.0, s.at.1, subst (λ (v : Event). TellsOnFrom begun programs detaches ds s.at.0 i turn.due (lines ++ line v ∷ []) after ds'') is (goes (ap ends_turn is)))
+    stands due (shown at bytes) is = (s.at.0, s.at.1, subst (λ (v : Event). TellsOnFrom begun programs detaches ds s.at.0 i turn.due (lines ++ line v ∷ []) after ds'') is (goes (ap ends_turn is)))
     stands due (paused ticks used) is = subst (λ (v : Event). Whole (lines ++ line v ∷ map line (looks_after on.w.looks n.note v))) is (ends (ap ends_turn is))
     stands due (ended how) is = (
       x',
@@ -141,7 +149,7 @@ module _ {X : Type 0} (follows : X → Program → List Note → List Outcome �
             ∙ sym (append_assoc lines (line (ended how) ∷ []) (map line (looks_at (memory x') (looks_of i h.shows))))
 
     abbrev told_on : (due : Option ℕ) (stage : Stage) → due ≡ due_behind turn.due e → stage ≡ stage_behind turn e
-        → Standing follows over memory programs detaches ds (lines ++ line_at turn.due i e ∷ []) (held_now due) ds'' stage
+        → StandingFrom begun follows over memory programs detaches ds (lines ++ line_at turn.due i e ∷ []) (held_now due) ds'' stage
     told_on due stage due_is stage_is =
         record {
           tellers = after;
@@ -150,7 +158,9 @@ module _ {X : Type 0} (follows : X → Program → List Note → List Outcome �
           each = each;
           dues = dues due due_is;
           detaches_are = s.detaches_are;
-          at = subst (λ (g : Stage). StandsAt memory programs detaches ds (lines ++ line e ∷ []) after (held_now due) ds'' g) (sym stage_is) (stands due e refl);
+          earlier_is = s.earlier_is;
+          begun_is = s.begun_is;
+          at = subst (λ (g : Stage). StandsAtFrom begun memory programs detaches ds (lines ++ line e ∷ []) after (held_now due) ds'' g) (sym stage_is) (stands due e refl);
         }
 
     -- what the call met
@@ -182,6 +192,6 @@ module _ {X : Type 0} (follows : X → Program → List Note → List Outcome �
         }
 
     pub line_told : (due : Option ℕ) (stage : Stage) → due ≡ due_behind turn.due e → stage ≡ stage_behind turn e → (old new : List Counted) → devices_of old ≡ ds' → faults_of old ≡ faults
-        → devices_of new ≡ ds'' → faults_of new ≡ faults' → TellsLine follows over memory programs detaches ds lines s.tellers old new (line_at turn.due i e) (held_now due) ds'' stage
+        → devices_of new ≡ ds'' → faults_of new ≡ faults' → TellsLineFrom begun follows over memory programs detaches ds lines s.tellers old new (line_at turn.due i e) (held_now due) ds'' stage
     line_told due stage due_is stage_is old new d f d' f' =
         record { stands = told_on due stage due_is stage_is; met = n.met; meets = meets; takes = call_on old new d f d' f' }

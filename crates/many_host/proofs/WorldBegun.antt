@@ -10,17 +10,17 @@ use Rattle.wa_model.specs.Outside.{Line}
 use Rattle.wa_model.specs.Plan.{Outcome}
 use Rattle.wa_model.specs.Blocking.{Note, events_of}
 use Rattle.wa_model.specs.Behaves.{IsPrefix}
-use Rattle.wa_model.specs.World.{Actor, Device, Program, CallsMeet, ProtocolWorld, behind_turn, detached, events_with_looks, line_at, protocol_story, turn_of}
+use Rattle.wa_model.specs.World.{Actor, Device, Program, CallsMeet, ProtocolWorldFrom, behind_turn, detached, events_with_looks, line_at, protocol_story, turn_of}
 use Rattle.world_laws.proofs.Counting.{Ends}
 use Rattle.world_laws.proofs.GoingOn.{front_same, gone_on}
 use Rattle.world_laws.proofs.Replaying.{Quads, Twice, quad_of}
 use Rattle.world_laws.proofs.LineCalls.{turn_parts}
 use Rattle.event_order.specs.Dues.{HaveEnded, IsLeast}
-use Rattle.many_host.specs.Turns.{HaveMet, Teller, due_of, ends_program, having_told, Tells, TellsTurn, IsRest, HasStory}
+use Rattle.many_host.specs.Turns.{HaveMet, Teller, due_of, ends_program, having_told, behind, TellsFrom, TellsTurn, IsRest, HasStory}
 use Rattle.many_host.proofs.Telling.{MetTo, all_told_met, told_is_world_met}
 use Rattle.many_host.proofs.Places.{set_here, set_there}
-use Rattle.many_host.specs.Notes.{OnStory, TellsOn}
-use Rattle.many_host.specs.ToldNotes.{BeginsWorld, BegunBegins, ToldBegins, ToldWhole}
+use Rattle.many_host.specs.Notes.{OnStory, TellsOnFrom}
+use Rattle.many_host.specs.ToldNotes.{BeginsWorldFrom, BegunBegins, ToldBegins, ToldWhole}
 use Rattle.many_host.proofs.Notes.{calls_more, ends_none}
 use Rattle.many_host.proofs.Counted.{Counted, counted, counted_on}
 use Rattle.many_host.proofs.Completed.{Front, calls_front, ends_behind, looks_behind, once_behind, turn_once, turn_rest}
@@ -42,7 +42,7 @@ had w t count on = by t.has_ended refl on.whole where
       record { rest = []; more = []; story = ap (protocol_story w) (append-nil t.met) ∙ sym whole ∙ sym (append-nil t.told); is_rest = is_rest t.has_ended true [] e refl }
   by false e live =
       let from = on.begins [] in
-      let f = further w t.met t.told [] [] count live [] from.0 from.1 in
+      let f = further w t.met t.told [] [] count live (on.live e) [] from.0 from.1 in
       record { rest = f.full; more = f.outcomes; story = f.story; is_rest = is_rest t.has_ended false f.full e (some_rest f.full f.ends) }
 
 all_had : (ws : List Program) (tellers : List Teller) → ((j : ℕ) (t : Teller) → slice_get tellers j ≡ Some t → Counted t) → AllZip OnStory ws tellers → AllZip HasStory ws tellers
@@ -54,9 +54,9 @@ all_had (w ∷ ws) (t ∷ tellers) c h = (had w t (c 0 t refl) h.0, all_had ws t
 -- ---- whole turns
 
 -- Some run of the world has these first lines, in which each program's calls meet first what they have met.
-abbrev pub BeginsMet : List Program → List Detach → List Device → List Line → List Teller → Type 0
-BeginsMet programs detaches ds lines tellers =
-    (more : List Line) × (last : List Device) × (world : ProtocolWorld programs detaches ds (lines ++ more) last) × HaveMet tellers world.actors
+abbrev pub BeginsMet : (begun : ℕ) → List Program → List Detach → List Device → List Line → List Teller → Type 0
+BeginsMet begun programs detaches ds lines tellers =
+    (more : List Line) × (last : List Device) × (world : ProtocolWorldFrom begun programs detaches ds (lines ++ more) last) × HaveMet tellers world.actors
 
 met_again : (tellers : List Teller) (starts now again ahead : List Actor) → MetTo tellers starts now → Quads starts now again ahead → HaveMet tellers again
 met_again tellers starts now again ahead met quads i t b et eb =
@@ -65,34 +65,34 @@ met_again tellers starts now again ahead met quads i t b et eb =
     let used : twice.since.used ≡ t.met = front_same twice.since.used t.met q.1.outcomes (sym twice.since.outcomes ∙ met i t q.0 q.1 et q.3 q.4) in
     (q.2.outcomes, twice.outcomes ∙ ap (λ (os : List Outcome). os ++ q.2.outcomes) used)
 
-begins_by : (programs : List Program) (detaches : List Detach) (ds ds' : List Device) (number : ℕ) (lines : List Line) (tellers : List Teller)
-    → Tells programs detaches ds number lines tellers ds' → AllZip HasStory programs tellers → BeginsMet programs detaches ds lines tellers
-begins_by programs detaches ds ds' number lines tellers tells all =
-    let up = told_is_world_met programs detaches ds ds' number lines tellers tells all in
-    let whole = gone_on programs detaches ds ds' number lines up.0 in
+begins_by : (begun : ℕ) (programs : List Program) (detaches : List Detach) (ds ds' : List Device) (number : ℕ) (lines : List Line) (tellers : List Teller)
+    → TellsFrom begun programs detaches ds number lines tellers ds' → AllZip HasStory programs tellers → BeginsMet begun programs detaches ds lines tellers
+begins_by begun programs detaches ds ds' number lines tellers tells all =
+    let up = told_is_world_met begun programs detaches ds ds' number lines tellers tells all in
+    let whole = gone_on begun programs detaches ds ds' (behind begun number) lines up.0 in
     (whole.more, whole.last, whole.world, met_again tellers up.0.actors up.0.now whole.world.actors whole.ahead up.1 whole.again)
 
-pub turns_begin : (programs : List Program) (detaches : List Detach) (ds ds' : List Device) (number : ℕ) (lines : List Line) (tellers : List Teller)
-    → Tells programs detaches ds number lines tellers ds' → AllZip OnStory programs tellers → BeginsMet programs detaches ds lines tellers
-turns_begin programs detaches ds ds' number lines tellers tells all =
-    begins_by programs detaches ds ds' number lines tellers tells (all_had programs tellers (counted programs detaches ds number lines tellers ds' tells) all)
+pub turns_begin : (begun : ℕ) (programs : List Program) (detaches : List Detach) (ds ds' : List Device) (number : ℕ) (lines : List Line) (tellers : List Teller)
+    → TellsFrom begun programs detaches ds number lines tellers ds' → AllZip OnStory programs tellers → BeginsMet begun programs detaches ds lines tellers
+turns_begin begun programs detaches ds ds' number lines tellers tells all =
+    begins_by begun programs detaches ds ds' number lines tellers tells (all_had programs tellers (counted begun programs detaches ds number lines tellers ds' tells) all)
 
-pub turns_whole : (programs : List Program) (detaches : List Detach) (ds ds' : List Device) (number : ℕ) (lines : List Line) (tellers : List Teller)
-    → Tells programs detaches ds number lines tellers ds' → AllZip OnStory programs tellers → HaveEnded (map due_of tellers)
-    → (world : ProtocolWorld programs detaches ds lines ds') × HaveMet tellers world.actors
-turns_whole programs detaches ds ds' number lines tellers tells all ended =
-    all_told_met programs detaches ds ds' number lines tellers tells (all_had programs tellers (counted programs detaches ds number lines tellers ds' tells) all) ended
+pub turns_whole : (begun : ℕ) (programs : List Program) (detaches : List Detach) (ds ds' : List Device) (number : ℕ) (lines : List Line) (tellers : List Teller)
+    → TellsFrom begun programs detaches ds number lines tellers ds' → AllZip OnStory programs tellers → HaveEnded (map due_of tellers)
+    → (world : ProtocolWorldFrom begun programs detaches ds lines ds') × HaveMet tellers world.actors
+turns_whole begun programs detaches ds ds' number lines tellers tells all ended =
+    all_told_met begun programs detaches ds ds' number lines tellers tells (all_had programs tellers (counted begun programs detaches ds number lines tellers ds' tells) all) ended
 
 -- its lines alone
-pub lines_begin : (programs : List Program) (detaches : List Detach) (ds : List Device) (lines : List Line) (tellers : List Teller) → BeginsMet programs detaches ds lines tellers
-    → BeginsWorld programs detaches ds lines
-lines_begin programs detaches ds lines tellers b = (b.0, b.1, b.2)
+pub lines_begin : (begun : ℕ) (programs : List Program) (detaches : List Detach) (ds : List Device) (lines : List Line) (tellers : List Teller) → BeginsMet begun programs detaches ds lines tellers
+    → BeginsWorldFrom begun programs detaches ds lines
+lines_begin begun programs detaches ds lines tellers b = (b.0, b.1, b.2)
 
 pub told_begins : ToldBegins
-told_begins programs detaches ds ds' number lines tellers tells all = lines_begin programs detaches ds lines tellers (turns_begin programs detaches ds ds' number lines tellers tells all)
+told_begins begun programs detaches ds ds' number lines tellers tells all = lines_begin begun programs detaches ds lines tellers (turns_begin begun programs detaches ds ds' number lines tellers tells all)
 
 pub told_whole : ToldWhole
-told_whole programs detaches ds ds' number lines tellers tells all ended = (turns_whole programs detaches ds ds' number lines tellers tells all ended).0
+told_whole begun programs detaches ds ds' number lines tellers tells all ended = (turns_whole begun programs detaches ds ds' number lines tellers tells all ended).0
 
 -- ---- a turn that has begun
 
@@ -112,13 +112,13 @@ zip_set (x ∷ ws) [] i w u v ew h s = absurd h
 zip_set (x ∷ ws) (t ∷ ts) zero w u v ew h s = (subst (λ (y : Program). HasStory y v) (sym (same_Some x w ew)) s, h.1)
 zip_set (x ∷ ws) (t ∷ ts) (suc i) w u v ew h s = (h.0, zip_set ws ts i w u v ew h.1 s)
 
-module _ (programs : List Program) (detaches : List Detach) (ds ds' : List Device) (number i due : ℕ) (lines : List Line) (tellers : List Teller)
-    (on : TellsOn programs detaches ds number i due lines tellers ds') (all : AllZip OnStory programs tellers) where
+module _ (begun : ℕ) (programs : List Program) (detaches : List Detach) (ds ds' : List Device) (number i due : ℕ) (lines : List Line) (tellers : List Teller)
+    (on : TellsOnFrom begun programs detaches ds number i due lines tellers ds') (all : AllZip OnStory programs tellers) where
   abbrev now : Teller
   now = having_told on.t on.turn on.met on.answers
 
   abbrev count : (j : ℕ) (t : Teller) → slice_get tellers j ≡ Some t → Counted t
-  count = counted_on programs detaches ds number i due lines tellers ds' on
+  count = counted_on begun programs detaches ds number i due lines tellers ds' on
 
   there : slice_get tellers i ≡ Some now
   there = ap (λ (l : List Teller). slice_get l i) on.after ∙ set_here on.mid i now on.t on.there
@@ -132,7 +132,7 @@ module _ (programs : List Program) (detaches : List Detach) (ds ds' : List Devic
 
   abbrev f : Further on.w now.met now.told on.answers ds'
   f =
-      further on.w now.met now.told on.answers ds' (count i now there) (live_by now.has_ended (ends_none on.turn on.goes_on) story.whole) []
+      further on.w now.met now.told on.answers ds' (count i now there) (live_by now.has_ended (ends_none on.turn on.goes_on) story.whole) (story.live (ends_none on.turn on.goes_on)) []
       (story.begins []).0 (story.begins []).1
 
   front : Front on.w (turn_of f.full) f.outcomes on.answers ds'
@@ -164,7 +164,7 @@ module _ (programs : List Program) (detaches : List Detach) (ds ds' : List Devic
   abbrev rest_lines : List Line
   rest_lines = map (line_at due i) (events_with_looks on.w.looks (turn_of f.full))
 
-  told_turn : TellsTurn programs detaches (suc number) on.mid on.es (map (line_at due i) (events_of on.turn) ++ rest_lines) (slice_set on.mid i last) front.devices
+  told_turn : TellsTurn programs detaches (suc (behind begun number)) on.mid on.es (map (line_at due i) (events_of on.turn) ++ rest_lines) (slice_set on.mid i last) front.devices
   told_turn =
       record {
         i = i;
@@ -178,7 +178,7 @@ module _ (programs : List Program) (detaches : List Detach) (ds ds' : List Devic
         whole = once_behind on.turn (turn_of f.full) on.goes_on (turn_once f.full f.ends);
         met = on.met ++ front.first;
         answers = front.answers;
-        calls = calls_more on.w on.turn (turn_of f.full) on.met front.first on.t.answers on.answers front.answers (detached (suc number) detaches on.es) ds' front.devices on.calls front.calls;
+        calls = calls_more on.w on.turn (turn_of f.full) on.met front.first on.t.answers on.answers front.answers (detached (suc (behind begun number)) detaches on.es) ds' front.devices on.calls front.calls;
         made =
             sym (map-append (line_at due i) (events_of on.turn) (events_with_looks on.w.looks (turn_of f.full)))
             ∙ ap (map (line_at due i)) (sym (looks_behind on.w.looks on.turn (turn_of f.full) on.goes_on))
@@ -186,7 +186,7 @@ module _ (programs : List Program) (detaches : List Detach) (ds ds' : List Devic
         after = refl;
       }
 
-  whole : Tells programs detaches ds (suc number) (lines ++ rest_lines) (slice_set on.mid i last) front.devices
+  whole : TellsFrom begun programs detaches ds (suc number) (lines ++ rest_lines) (slice_set on.mid i last) front.devices
   whole = (
     on.before,
     map (line_at due i) (events_of on.turn) ++ rest_lines,
@@ -214,13 +214,13 @@ module _ (programs : List Program) (detaches : List Detach) (ds ds' : List Devic
               ∙ ap (λ (x : Teller). x.met ++ (front.first ++ more.0)) here,
         )
 
-  pub begins_on : BeginsMet programs detaches ds lines tellers
+  pub begins_on : BeginsMet begun programs detaches ds lines tellers
   begins_on =
       let have = zip_set programs on.mid i on.w now last on.program (subst (AllZip HasStory programs) on.after (all_had programs tellers count all)) last_story in
-      let run = begins_by programs detaches ds front.devices (suc number) (lines ++ rest_lines) (slice_set on.mid i last) whole have in
-      let both = subst (λ (l : List Line). (world : ProtocolWorld programs detaches ds l run.1) × HaveMet tellers world.actors) (append_assoc lines rest_lines run.0)
+      let run = begins_by begun programs detaches ds front.devices (suc number) (lines ++ rest_lines) (slice_set on.mid i last) whole have in
+      let both = subst (λ (l : List Line). (world : ProtocolWorldFrom begun programs detaches ds l run.1) × HaveMet tellers world.actors) (append_assoc lines rest_lines run.0)
       (run.2, front_met run.2.actors run.3) in
       (rest_lines ++ run.0, run.1, both.0, both.1)
 
 pub begun_begins : BegunBegins
-begun_begins programs detaches ds ds' number i due lines tellers on all = lines_begin programs detaches ds lines tellers (begins_on programs detaches ds ds' number i due lines tellers on all)
+begun_begins begun programs detaches ds ds' number i due lines tellers on all = lines_begin begun programs detaches ds lines tellers (begins_on begun programs detaches ds ds' number i due lines tellers on all)

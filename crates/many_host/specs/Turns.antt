@@ -1,11 +1,11 @@
 -- A world as it is told, turn by turn.
-use Rattle.std.specs.Prelude.{◌≡◌, ℕ, zero, suc, ◌+◌, ◌<◌, List, [], ◌∷◌, ◌++◌, length, map, Option, Some, None, Bool, true, false, ◌||◌, if◌then◌else◌, nat_eq, MatchBool, slice_get, slice_set}
+use Rattle.std.specs.Prelude.{◌≡◌, ℕ, zero, suc, ◌+◌, ◌<◌, List, [], ◌∷◌, ◌++◌, length, map, Option, Some, None, Bool, true, false, ◌||◌, if◌then◌else◌, nat_eq, is_none, MatchBool, slice_get, slice_set}
 use Rattle.wa_model.specs.declared.answers.Detach.{Detach}
 use Rattle.wa_model.specs.Outside.{AnswerLine, Line}
-use Rattle.wa_model.specs.Plan.{Outcome}
+use Rattle.wa_model.specs.Plan.{Entry, Outcome}
 use Rattle.wa_model.specs.Blocking.{Note}
 use Rattle.wa_model.specs.Behaves.{IsPrefix}
-use Rattle.wa_model.specs.World.{Actor, Device, Program, detached, CallsMeet, ends_turn, is_end, put_off, line_at, events_with_looks, protocol_story}
+use Rattle.wa_model.specs.World.{Actor, Device, Origin, at_start, gone, at_pause, Program, answers_from, due_from, detached, CallsMeet, ends_turn, is_end, put_off, line_at, events_with_looks, protocol_story}
 use Rattle.event_order.specs.Dues.{IsLeast}
 
 -- What is known of a program: the tick at which it is due, whether it has ended, its answer lines left, the notes that it has
@@ -17,9 +17,19 @@ pub record Teller : Type 0 where
   pub told : List Note
   pub met : List Outcome
 
--- a program that has told nothing yet
+-- nothing is to come of a program that begins here: it has ended, or the entry that would go on isn't there
+abbrev pub is_over_at : List Entry → Origin → Bool
+is_over_at entries at_start = false
+is_over_at entries gone = true
+is_over_at entries (at_pause halt) = is_none (slice_get entries halt.entry)
+
+-- the same of a program
+abbrev pub is_gone : Program → Bool
+is_gone w = is_over_at w.plan.entries w.origin
+
+-- a program where it begins, which has told nothing yet
 abbrev pub starting : Program → Teller
-starting w = record { due = 0; has_ended = false; answers = w.answers; told = []; met = [] }
+starting w = record { due = due_from w.origin; has_ended = is_gone w; answers = answers_from w.answers w.origin; told = []; met = [] }
 
 -- when it is due; never once it has ended
 abbrev pub unless : Bool → ℕ → Option ℕ
@@ -64,12 +74,27 @@ pub record TellsTurn (programs : List Program) (detaches : List Detach) (number 
   pub made : lines ≡ map (line_at t.due i) (events_with_looks w.looks turn)
   pub after : tellers' ≡ slice_set tellers i (having_told t turn met answers)
 
--- so many events, from 1 on
-abbrev pub Tells : List Program → List Detach → List Device → (count : ℕ) → List Line → List Teller → List Device → Type 0
-Tells programs detaches ds zero lines tellers ds' = (lines ≡ []) × (tellers ≡ map starting programs) × (ds' ≡ ds)
-Tells programs detaches ds (suc count) lines tellers ds' =
+-- the number of the event that is `count` behind another: their sum
+abbrev pub behind : (begun count : ℕ) → ℕ
+behind zero count = count
+behind (suc begun) count = suc (behind begun count)
+
+-- how many events are behind this one, up to this number
+abbrev pub since : (begun number : ℕ) → ℕ
+since zero number = number
+since (suc begun) zero = 0
+since (suc begun) (suc number) = since begun number
+
+-- so many events, behind those that had begun before
+abbrev pub TellsFrom : (begun : ℕ) → List Program → List Detach → List Device → (count : ℕ) → List Line → List Teller → List Device → Type 0
+TellsFrom begun programs detaches ds zero lines tellers ds' = (lines ≡ []) × (tellers ≡ map starting programs) × (ds' ≡ ds)
+TellsFrom begun programs detaches ds (suc count) lines tellers ds' =
     (before more : List Line) × (mid : List Teller) × (es : List Device)
-    × Tells programs detaches ds count before mid es × TellsTurn programs detaches (suc count) mid es more tellers ds' × (lines ≡ before ++ more)
+    × TellsFrom begun programs detaches ds count before mid es × TellsTurn programs detaches (suc (behind begun count)) mid es more tellers ds' × (lines ≡ before ++ more)
+
+-- from the first on
+abbrev pub Tells : List Program → List Detach → List Device → (count : ℕ) → List Line → List Teller → List Device → Type 0
+Tells = TellsFrom 0
 
 -- what is still to be told: nothing exactly where the program has ended
 abbrev pub IsRest : Bool → List Note → Type 0

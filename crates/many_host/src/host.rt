@@ -1,17 +1,18 @@
 //! `Host`: several programs on one thread, told line by line.
 
-ghost use Rattle.std.specs.Prelude.{◌≡◌, ◌≤◌, List, [], IfOk, IsErr, MatchOption, length, map};
+ghost use Rattle.std.specs.Prelude.{◌≡◌, ◌≤◌, ◌<◌, ◌^◌, ℕ, List, [], All, IfOk, IsErr, MatchOption, Some, length, map, slice_get};
 ghost use Rattle.wa_model.specs.Outside.{Line as WorldLine};
 ghost use Rattle.wa_model.specs.World.{Device, Program as WorldProgram};
 ghost use Rattle.device_port.specs.Listed.{of_all};
 ghost use Rattle.host_laws.specs.Supplies.{IsLent};
 ghost use Rattle.event_order.specs.Dues.{HaveEnded};
 ghost use Rattle.many_host.specs.Calls.{BegunNext, left_at, AreLeft};
-ghost use Rattle.many_host.specs.Standing.{InRange, IsTelling, LooksOut, held_of};
-ghost use Rattle.many_host.specs.Hosts.{AreSetUp, HostNext, HostTold, follows, has_ended, memory_of};
+ghost use Rattle.many_host.specs.Standing.{InRange, IsTelling, LooksOut, due_told, held_of};
+ghost use Rattle.many_host.specs.Hosts.{AreResumed, AreSetUp, HostNext, HostNextFrom, HostTold, HostToldFrom, dues_left, follows, has_ended, memory_of};
+ghost use Rattle.many_host.specs.Turns.{unless};
 
 use crate::hosted::Hosted;
-use crate::turn_taking::Turns;
+use crate::turn_taking::{Turns, first_dues};
 use device_port::Devices;
 use event_order::Show;
 use pause_host::Program;
@@ -39,8 +40,37 @@ impl<'m> Host<'m> {
         ensures told { (ws : List WorldProgram) (ds : List Device) → AreSetUp ws shows.items programs.entry.items → IfOk result (λ h. HostTold ws detaches.items ds [] h ds) }
     {
         let held = held_programs(alloc, programs)?;
+        let dues = first_dues(alloc, &held)?;
         Ok(Host {
-            turns: Turns::new(alloc, held, detaches, shows)?,
+            turns: Turns::new(alloc, held, dues, 0, detaches, shows),
+        })
+    }
+
+    /// A host that goes on behind so many events, with programs that are new or were put back, and the ticks at which they are due. One
+    /// that is marked as ended has ended, whatever its own state, and what is shown of it is out.
+    pub fn resumed(
+        alloc: Global,
+        programs: Vec<Program<'m>>,
+        dues: Vec<u64>,
+        ended: Vec<bool>,
+        events: u64,
+        detaches: Vec<Detach>,
+        shows: Vec<Show>,
+    ) -> Result<Host<'m>, AllocError>
+        requires few { length programs.items ≤ 16 }
+        requires dues { length dues.items ≡ length programs.items }
+        requires ended { length ended.items ≡ length programs.items }
+        requires events { events < 2 ^ 62 }
+        requires early { All (λ due. due < 2 ^ 62) dues.items }
+        ensures range { IfOk result (λ h. InRange h.turns) }
+        ensures begun { IfOk result (λ h. h.turns.begun ≡ events) }
+        ensures told { (ws : List WorldProgram) (ds : List Device) → AreResumed ws shows.items programs.entry.items dues.items ended.items
+            → IfOk result (λ h. HostToldFrom events ws detaches.items ds [] h ds) }
+    {
+        let held = held_programs(alloc, programs)?;
+        let dues = resumed_dues(alloc, &dues, &ended)?;
+        Ok(Host {
+            turns: Turns::new(alloc, held, dues, events, detaches, shows),
         })
     }
 
@@ -58,8 +88,17 @@ impl<'m> Host<'m> {
             → IfOk result (HostNext programs detaches ds lines told.tellers (of_all (λ d. record { device = seen d; faults = faults d }) devices.old)
             (left_at self.old.turns.begun self.new.turns.begun detaches (of_all (λ d. record { device = seen d; faults = faults d }) devices.old))
             (of_all (λ d. record { device = seen d; faults = faults d }) devices.new) self.new (of_all seen devices.new)) }
+        ensures told_from { (begun : ℕ) (programs : List WorldProgram) (detaches : List Detach) (ds : List Device) (lines : List WorldLine)
+            (told : HostToldFrom begun programs detaches ds lines self.old (of_all seen devices.old))
+            → IfOk result (HostNextFrom begun programs detaches ds lines told.tellers (of_all (λ d. record { device = seen d; faults = faults d }) devices.old)
+            (left_at self.old.turns.begun self.new.turns.begun detaches (of_all (λ d. record { device = seen d; faults = faults d }) devices.old))
+            (of_all (λ d. record { device = seen d; faults = faults d }) devices.new) self.new (of_all seen devices.new)) }
         ensures left { (programs : List WorldProgram) (detaches : List Detach) (ds : List Device) (lines : List WorldLine)
             → HostTold programs detaches ds lines self.old (of_all seen devices.old)
+            → IsErr result → AreLeft self.old.turns.begun detaches (of_all (λ d. record { device = seen d; faults = faults d }) devices.old)
+            (of_all (λ d. record { device = seen d; faults = faults d }) devices.new) }
+        ensures left_from { (begun : ℕ) (programs : List WorldProgram) (detaches : List Detach) (ds : List Device) (lines : List WorldLine)
+            → HostToldFrom begun programs detaches ds lines self.old (of_all seen devices.old)
             → IsErr result → AreLeft self.old.turns.begun detaches (of_all (λ d. record { device = seen d; faults = faults d }) devices.old)
             (of_all (λ d. record { device = seen d; faults = faults d }) devices.new) }
         ensures none { IfOk result (λ line. MatchOption line (HaveEnded self.old.turns.dues.items × LooksOut self.old.turns.shows.items self.old.turns.stage)
@@ -75,6 +114,22 @@ impl<'m> Host<'m> {
     {
         self.turns.events()
     }
+
+    /// The tick at which a program is due; 0 where it has ended.
+    pub fn due(&self, program: u32) -> u64
+        requires { program < length self.now.turns.dues.items }
+        ensures { Some result ≡ due_told (slice_get self.now.turns.dues.items program) }
+    {
+        self.turns.due(program as usize)
+    }
+
+    /// A program, as it is now.
+    pub fn program(&self, program: u32) -> &Program<'m>
+        requires { program < length self.now.turns.programs.items }
+        ensures { slice_get (map (λ x. x.program) self.now.turns.programs.items) program ≡ Some result.now }
+    {
+        &self.turns.program(program as usize).program
+    }
 }
 
 // The programs, as a host holds them.
@@ -89,4 +144,23 @@ fn held_programs<'m>(
         held.push(Hosted { program })?;
     }
     Ok(held)
+}
+
+// The ticks at which those are due that haven't ended.
+fn resumed_dues(alloc: Global, dues: &[u64], ended: &[bool]) -> Result<Vec<Option<u64>>, AllocError>
+    requires { length ended.now ≡ length dues.now }
+    ensures { IfOk result (λ left. left.items ≡ dues_left dues.now ended.now) }
+{
+    let mut left = Vec::new(alloc);
+    for i in 0..dues.len() {
+        left.push(due_unless(ended[i], dues[i]))?;
+    }
+    Ok(left)
+}
+
+// The tick, where the program hasn't ended.
+fn due_unless(ended: bool, due: u64) -> Option<u64>
+    ensures { result ≡ unless ended due }
+{
+    if ended { None } else { Some(due) }
 }

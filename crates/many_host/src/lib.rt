@@ -13,6 +13,9 @@
 //! A caller may rely on this: what a host has told at any time begins a run of the world (`told_lines_begin_a_world`), and once there is
 //! no further line it is a whole one. What a line's call took of the devices is told by `specs/Calls.antt`.
 //!
+//! A host begins with the first event, or goes on behind others with programs that were put back (`Host::resumed`): what it tells is
+//! then a run of the world behind those events, whose programs begin where they were put back. One that had ended tells nothing.
+//!
 //! The definition of a world gives each program beforehand all the notes that it will make and all the outcomes that its calls will
 //! meet; a host knows only what was told so far. The laws lead from the one to the other, turn by turn (`specs/Turns.antt`) and note by
 //! note (`specs/Notes.antt`): what was told is so many whole turns and the beginning of the next.

@@ -1,6 +1,6 @@
 //! `Turns`: programs that share a list of devices, told line by line.
 
-ghost use Rattle.std.specs.Prelude.{◌≡◌, ◌≤◌, ◌<◌, ◌+◌, ◌*◌, ◌^◌, All, List, [], IfOk, IsErr, length, map, MatchOption, Some};
+ghost use Rattle.std.specs.Prelude.{◌≡◌, ◌≤◌, ◌<◌, ◌+◌, ◌*◌, ◌^◌, ℕ, All, List, [], IfOk, IsErr, length, map, slice_get, MatchOption, Some};
 ghost use Rattle.wa_model.specs.Outside.{Line as WorldLine};
 ghost use Rattle.wa_model.specs.View.{line_of};
 ghost use Rattle.wa_model.specs.World.{Device, Program};
@@ -8,7 +8,7 @@ ghost use Rattle.device_port.specs.Listed.{of_all};
 ghost use Rattle.host_laws.specs.Supplies.{IsLent, RisesAtMostOne};
 ghost use Rattle.event_order.specs.Dues.{HaveEnded};
 ghost use Rattle.many_host.specs.Calls.{BegunNext, left_at, AreLeft};
-ghost use Rattle.many_host.specs.Standing.{AllStart, InRange, IsDueBy, IsTelling, LooksOut, Standing, TellsNext, held_of, most_ticks, TellsLine};
+ghost use Rattle.many_host.specs.Standing.{AllStart, InRange, IsDueBy, IsTelling, LooksOut, StandingFrom, TellsLineFrom, TellsNext, due_told, held_of, latest, most_due, most_ticks};
 
 use crate::settling::settle;
 use crate::teller::Teller;
@@ -25,7 +25,7 @@ pub(crate) enum Stage {
     Showing { turn: Turn, from: usize },
 }
 
-/// Programs that share a list of devices and take turns.
+/// Programs that share a list of devices and take turns. So many turns have begun, `earlier` of them before these programs were held.
 #[derive(Drop)]
 pub struct Turns<T> {
     alloc: Global,
@@ -34,33 +34,56 @@ pub struct Turns<T> {
     detaches: Vec<Detach>,
     shows: Vec<Show>,
     begun: u64,
+    earlier: u64,
     stage: Stage,
 }
 
 impl<T: Teller + Drop> Turns<T> {
-    /// Programs of which none has told anything yet, all due at tick 0.
+    /// Programs of which none has told anything yet, with the ticks at which they are due, behind so many events. One that has ended
+    /// is never due.
     pub fn new(
         alloc: Global,
         programs: Vec<T>,
+        dues: Vec<Option<u64>>,
+        begun: u64,
         detaches: Vec<Detach>,
         shows: Vec<Show>,
-    ) -> Result<Turns<T>, AllocError>
+    ) -> Turns<T>
         requires few { length programs.items ≤ 16 }
-        ensures range { IfOk result (λ h. InRange h) }
-        ensures begun { IfOk result (λ h. h.begun ≡ 0) }
-        ensures stands { (ws : List Program) (ds : List Device) → AllStart T.follows T.has_ended shows.items ws programs.items
-            → IfOk result (λ h. Standing T.follows T.has_ended T.memory ws detaches.items ds [] (held_of h) ds h.stage) }
+        requires wide { length dues.items ≡ length programs.items }
+        requires early { begun ≤ most_due }
+        requires dues { All (IsDueBy most_due) dues.items }
+        ensures range { InRange result }
+        ensures begun { result.begun ≡ begun }
+        ensures stands { (ws : List Program) (ds : List Device) → AllStart T.follows T.has_ended shows.items ws programs.items dues.items
+            → StandingFrom begun T.follows T.has_ended T.memory ws detaches.items ds [] (held_of result) ds result.stage }
     {
-        let dues = first_dues(alloc, &programs)?;
-        Ok(Turns {
+        Turns {
             alloc,
             programs,
             dues,
             detaches,
             shows,
-            begun: 0,
+            begun,
+            earlier: begun,
             stage: Stage::Between,
-        })
+        }
+    }
+
+    /// A program.
+    pub fn program(&self, program: usize) -> &T
+        requires { program < length self.now.programs.items }
+        ensures { slice_get self.now.programs.items program ≡ Some result.now }
+    {
+        &self.programs[program]
+    }
+
+    /// When a program is due; 0 where it has ended.
+    pub fn due(&self, program: usize) -> u64
+        requires { program < length self.now.dues.items }
+        ensures { Some result ≡ due_told (slice_get self.now.dues.items program) }
+    {
+        self.dues[program].unwrap_or(0)
     }
 
     /// How many turns have begun.
@@ -74,20 +97,20 @@ impl<T: Teller + Drop> Turns<T> {
     pub fn next(&mut self, devices: &mut Devices<'_>) -> Result<Option<Line>, AllocError>
         requires lent { IsLent }
         requires range { InRange self.old }
-        requires turns { self.old.begun < 2 ^ 32 }
+        requires turns { self.old.begun < self.old.earlier + 2 ^ 31 }
         requires tells { IsTelling T.follows T.has_ended T.memory (held_of self.old) (of_all seen devices.old) self.old.stage }
         ensures range { IfOk result (λ line. InRange self.new) }
         ensures same_list { devices.new.list.ghost_name ≡ devices.old.list.ghost_name }
-        ensures told { (programs : List Program) (detaches : List Detach) (ds : List Device) (lines : List WorldLine)
-            (s : Standing T.follows T.has_ended T.memory programs detaches ds lines (held_of self.old) (of_all seen devices.old) self.old.stage)
-            → IfOk result (TellsNext T.follows T.has_ended T.memory programs detaches ds lines s.tellers (of_all (λ d. record { device = seen d; faults = faults d }) devices.old)
+        ensures told { (begun : ℕ) (programs : List Program) (detaches : List Detach) (ds : List Device) (lines : List WorldLine)
+            (s : StandingFrom begun T.follows T.has_ended T.memory programs detaches ds lines (held_of self.old) (of_all seen devices.old) self.old.stage)
+            → IfOk result (TellsNext begun T.follows T.has_ended T.memory programs detaches ds lines s.tellers (of_all (λ d. record { device = seen d; faults = faults d }) devices.old)
             (left_at self.old.begun self.new.begun detaches (of_all (λ d. record { device = seen d; faults = faults d }) devices.old))
             (of_all (λ d. record { device = seen d; faults = faults d }) devices.new) self.new (of_all seen devices.new)) }
         ensures none { IfOk result (λ line. MatchOption line (HaveEnded self.old.dues.items × LooksOut self.old.shows.items self.old.stage)
             (λ l. HaveEnded self.old.dues.items → LooksOut self.old.shows.items self.old.stage → ⊥)) }
         ensures begun { IfOk result (λ line. BegunNext self.old.stage self.old.begun self.new.begun line) }
-        ensures left { (programs : List Program) (detaches : List Detach) (ds : List Device) (lines : List WorldLine)
-            → Standing T.follows T.has_ended T.memory programs detaches ds lines (held_of self.old) (of_all seen devices.old) self.old.stage
+        ensures left { (begun : ℕ) (programs : List Program) (detaches : List Detach) (ds : List Device) (lines : List WorldLine)
+            → StandingFrom begun T.follows T.has_ended T.memory programs detaches ds lines (held_of self.old) (of_all seen devices.old) self.old.stage
             → IsErr result → AreLeft self.old.begun detaches (of_all (λ d. record { device = seen d; faults = faults d }) devices.old)
             (of_all (λ d. record { device = seen d; faults = faults d }) devices.new) }
     {
@@ -102,19 +125,19 @@ impl<T: Teller + Drop> Turns<T> {
     fn begin(&mut self, devices: &mut Devices<'_>) -> Result<Option<Line>, AllocError>
         requires lent { IsLent }
         requires range { InRange self.old }
-        requires turns { self.old.begun < 2 ^ 32 }
+        requires turns { self.old.begun < self.old.earlier + 2 ^ 31 }
         requires tells { IsTelling T.follows T.has_ended T.memory (held_of self.old) (of_all seen devices.old) Stage.Between }
         ensures range { IfOk result (λ line. InRange self.new) }
         ensures same_list { devices.new.list.ghost_name ≡ devices.old.list.ghost_name }
-        ensures told { (programs : List Program) (detaches : List Detach) (ds : List Device) (lines : List WorldLine)
-            (s : Standing T.follows T.has_ended T.memory programs detaches ds lines (held_of self.old) (of_all seen devices.old) Stage.Between)
-            → IfOk result (TellsNext T.follows T.has_ended T.memory programs detaches ds lines s.tellers (of_all (λ d. record { device = seen d; faults = faults d }) devices.old)
+        ensures told { (begun : ℕ) (programs : List Program) (detaches : List Detach) (ds : List Device) (lines : List WorldLine)
+            (s : StandingFrom begun T.follows T.has_ended T.memory programs detaches ds lines (held_of self.old) (of_all seen devices.old) Stage.Between)
+            → IfOk result (TellsNext begun T.follows T.has_ended T.memory programs detaches ds lines s.tellers (of_all (λ d. record { device = seen d; faults = faults d }) devices.old)
             (left_at self.old.begun self.new.begun detaches (of_all (λ d. record { device = seen d; faults = faults d }) devices.old))
             (of_all (λ d. record { device = seen d; faults = faults d }) devices.new) self.new (of_all seen devices.new)) }
         ensures none { IfOk result (λ line. MatchOption line (HaveEnded self.old.dues.items) (λ l. HaveEnded self.old.dues.items → ⊥)) }
         ensures begun { IfOk result (λ line. BegunNext Stage.Between self.old.begun self.new.begun line) }
-        ensures left { (programs : List Program) (detaches : List Detach) (ds : List Device) (lines : List WorldLine)
-            → Standing T.follows T.has_ended T.memory programs detaches ds lines (held_of self.old) (of_all seen devices.old) Stage.Between
+        ensures left { (begun : ℕ) (programs : List Program) (detaches : List Detach) (ds : List Device) (lines : List WorldLine)
+            → StandingFrom begun T.follows T.has_ended T.memory programs detaches ds lines (held_of self.old) (of_all seen devices.old) Stage.Between
             → IsErr result → AreLeft self.old.begun detaches (of_all (λ d. record { device = seen d; faults = faults d }) devices.old)
             (of_all (λ d. record { device = seen d; faults = faults d }) devices.new) }
     {
@@ -133,18 +156,20 @@ impl<T: Teller + Drop> Turns<T> {
         requires few { length self.old.programs.items ≤ 16 }
         requires wide { length self.old.dues.items ≡ length self.old.programs.items }
         requires place { turn.program < length self.old.programs.items }
-        requires dues { All (IsDueBy (most_ticks * self.old.begun)) self.old.dues.items }
-        requires due { turn.due + most_ticks ≤ most_ticks * self.old.begun }
-        requires turns { self.old.begun ≤ 2 ^ 32 }
+        requires early { self.old.earlier ≤ most_due }
+        requires in_order { self.old.earlier ≤ self.old.begun }
+        requires dues { All (IsDueBy (latest self.old.earlier self.old.begun)) self.old.dues.items }
+        requires due { turn.due + most_ticks ≤ latest self.old.earlier self.old.begun }
+        requires turns { self.old.begun ≤ self.old.earlier + 2 ^ 31 }
         requires tells { IsTelling T.follows T.has_ended T.memory (held_of self.old) (of_all seen devices.old) (Stage.Telling turn) }
         ensures range { IfOk result (λ line. InRange self.new) }
         ensures same_list { devices.new.list.ghost_name ≡ devices.old.list.ghost_name }
-        ensures told { (programs : List Program) (detaches : List Detach) (ds : List Device) (lines : List WorldLine)
-            (s : Standing T.follows T.has_ended T.memory programs detaches ds lines (held_of self.old) (of_all seen devices.old) (Stage.Telling turn))
-            → IfOk result (λ line. TellsLine T.follows T.has_ended T.memory programs detaches ds lines s.tellers (of_all (λ d. record { device = seen d; faults = faults d }) devices.old)
+        ensures told { (begun : ℕ) (programs : List Program) (detaches : List Detach) (ds : List Device) (lines : List WorldLine)
+            (s : StandingFrom begun T.follows T.has_ended T.memory programs detaches ds lines (held_of self.old) (of_all seen devices.old) (Stage.Telling turn))
+            → IfOk result (λ line. TellsLineFrom begun T.follows T.has_ended T.memory programs detaches ds lines s.tellers (of_all (λ d. record { device = seen d; faults = faults d }) devices.old)
             (of_all (λ d. record { device = seen d; faults = faults d }) devices.new) (line_of line) (held_of self.new) (of_all seen devices.new) self.new.stage) }
-        ensures kept { (programs : List Program) (detaches : List Detach) (ds : List Device) (lines : List WorldLine)
-            → Standing T.follows T.has_ended T.memory programs detaches ds lines (held_of self.old) (of_all seen devices.old) (Stage.Telling turn)
+        ensures kept { (begun : ℕ) (programs : List Program) (detaches : List Detach) (ds : List Device) (lines : List WorldLine)
+            → StandingFrom begun T.follows T.has_ended T.memory programs detaches ds lines (held_of self.old) (of_all seen devices.old) (Stage.Telling turn)
             → IsErr result → of_all seen devices.new ≡ of_all seen devices.old }
         ensures once { IsErr result → RisesAtMostOne (of_all faults devices.old) (of_all faults devices.new) }
         ensures begun { self.new.begun ≡ self.old.begun }
@@ -169,21 +194,21 @@ impl<T: Teller + Drop> Turns<T> {
     ) -> Result<Option<Line>, AllocError>
         requires lent { IsLent }
         requires range { InRange self.old }
-        requires turns { self.old.begun < 2 ^ 32 }
+        requires turns { self.old.begun < self.old.earlier + 2 ^ 31 }
         requires place { turn.program < length self.old.programs.items }
         requires tells { IsTelling T.follows T.has_ended T.memory (held_of self.old) (of_all seen devices.old) (Stage.Showing turn from) }
         ensures range { IfOk result (λ line. InRange self.new) }
         ensures same_list { devices.new.list.ghost_name ≡ devices.old.list.ghost_name }
-        ensures told { (programs : List Program) (detaches : List Detach) (ds : List Device) (lines : List WorldLine)
-            (s : Standing T.follows T.has_ended T.memory programs detaches ds lines (held_of self.old) (of_all seen devices.old) (Stage.Showing turn from))
-            → IfOk result (TellsNext T.follows T.has_ended T.memory programs detaches ds lines s.tellers (of_all (λ d. record { device = seen d; faults = faults d }) devices.old)
+        ensures told { (begun : ℕ) (programs : List Program) (detaches : List Detach) (ds : List Device) (lines : List WorldLine)
+            (s : StandingFrom begun T.follows T.has_ended T.memory programs detaches ds lines (held_of self.old) (of_all seen devices.old) (Stage.Showing turn from))
+            → IfOk result (TellsNext begun T.follows T.has_ended T.memory programs detaches ds lines s.tellers (of_all (λ d. record { device = seen d; faults = faults d }) devices.old)
             (left_at self.old.begun self.new.begun detaches (of_all (λ d. record { device = seen d; faults = faults d }) devices.old))
             (of_all (λ d. record { device = seen d; faults = faults d }) devices.new) self.new (of_all seen devices.new)) }
         ensures none { IfOk result (λ line. MatchOption line (HaveEnded self.old.dues.items × LooksOut self.old.shows.items (Stage.Showing turn from))
             (λ l. HaveEnded self.old.dues.items → LooksOut self.old.shows.items (Stage.Showing turn from) → ⊥)) }
         ensures begun { IfOk result (λ line. BegunNext (Stage.Showing turn from) self.old.begun self.new.begun line) }
-        ensures left { (programs : List Program) (detaches : List Detach) (ds : List Device) (lines : List WorldLine)
-            → Standing T.follows T.has_ended T.memory programs detaches ds lines (held_of self.old) (of_all seen devices.old) (Stage.Showing turn from)
+        ensures left { (begun : ℕ) (programs : List Program) (detaches : List Detach) (ds : List Device) (lines : List WorldLine)
+            → StandingFrom begun T.follows T.has_ended T.memory programs detaches ds lines (held_of self.old) (of_all seen devices.old) (Stage.Showing turn from)
             → IsErr result → AreLeft self.old.begun detaches (of_all (λ d. record { device = seen d; faults = faults d }) devices.old)
             (of_all (λ d. record { device = seen d; faults = faults d }) devices.new) }
     {
@@ -206,8 +231,8 @@ impl<T: Teller + Drop> Turns<T> {
     }
 }
 
-// A program is due at tick 0 at first.
-fn first_dues<T>(alloc: Global, programs: &[T]) -> Result<Vec<Option<u64>>, AllocError>
+/// At their start all programs are due at tick 0.
+pub(crate) fn first_dues<T>(alloc: Global, programs: &[T]) -> Result<Vec<Option<u64>>, AllocError>
     ensures { IfOk result (λ dues. dues.items ≡ map (λ x. Some 0) programs.now) }
 {
     let mut dues = Vec::new(alloc);

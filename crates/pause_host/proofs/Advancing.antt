@@ -29,7 +29,7 @@ use Rattle.interp.specs.Instance as I
 use Rattle.interp.specs.Instance.{Waits}
 use Rattle.wa_model.specs.Protocol.{Held, exports_of, over, store_held}
 use Rattle.wa_model.specs.World as W
-use Rattle.wa_model.specs.World.{CallsMeet, MeetsBound, MeetsLine, name_at, import_names, call_in, is_end, protocol_story}
+use Rattle.wa_model.specs.World.{CallsMeet, MeetsBound, answers_from, MeetsLine, name_at, import_names, call_in, is_end, protocol_story}
 use Rattle.wa_model.specs.Behaves.{IsPrefix}
 use Rattle.run_laws.specs.FittingStates.{HeldFits, ExportsTyped}
 use Rattle.host_laws.specs.Places.{Place, stands, has_ended, nowhere, Lands, goes_on, ends, spends}
@@ -155,7 +155,7 @@ runs_first w os x f = by_place (place_of x x.state) f.at.told
 
 -- ---- alone
 
-pub starts_alone : (w : W.Program) (x : Program) → Follows w [] [] x → lines_left x ≡ w.answers → FollowsAlone w [] x
+pub starts_alone : (w : W.Program) (x : Program) → Follows w [] [] x → lines_left x ≡ answers_from w.answers w.origin → FollowsAlone w [] x
 starts_alone w x f e = record { outcomes = []; meets = (refl, e, refl); follows = f }
 
 pub advances_alone : (w : W.Program) (notes : List Note) (x x' : Program) (event : EventValue) (old new : Supply) (f : FollowsAlone w notes x) → old.lines ≡ lines_left x → old.devices ≡ []
@@ -163,9 +163,9 @@ pub advances_alone : (w : W.Program) (notes : List Note) (x x' : Program) (event
     → Advances w notes f.outcomes event old new x' → AdvancesAlone w notes event x'
 advances_alone w notes x x' event old new f old_lines none new_lines a =
     let left_none : new.devices ≡ [] = still_none w (call_in a.note.event) a.met old new a.takes none in
-    let chain : CallsMeet w notes f.outcomes w.answers [] [] old.lines old.devices =
-    subst (λ ds. CallsMeet w notes f.outcomes w.answers [] [] old.lines ds) (sym none) (subst (λ ls. CallsMeet w notes f.outcomes w.answers [] [] ls []) (sym old_lines) f.meets) in
-    let meets = one_more_met w notes f.outcomes a.met w.answers [] a.note old new chain a.takes in
+    let chain : CallsMeet w notes f.outcomes (answers_from w.answers w.origin) [] [] old.lines old.devices =
+    subst (λ ds. CallsMeet w notes f.outcomes (answers_from w.answers w.origin) [] [] old.lines ds) (sym none) (subst (λ ls. CallsMeet w notes f.outcomes (answers_from w.answers w.origin) [] [] ls []) (sym old_lines) f.meets) in
+    let meets = one_more_met w notes f.outcomes a.met (answers_from w.answers w.origin) [] a.note old new chain a.takes in
     record {
       note = a.note;
       event_is = a.event_is;
@@ -174,8 +174,8 @@ advances_alone w notes x x' event old new f old_lines none new_lines a =
       ended_is = a.ended_is;
       follows = record {
         outcomes = f.outcomes ++ a.met;
-        meets = subst (λ ls. CallsMeet w (notes ++ a.note ∷ []) (f.outcomes ++ a.met) w.answers [] [] ls []) new_lines
-            (subst (λ ds. CallsMeet w (notes ++ a.note ∷ []) (f.outcomes ++ a.met) w.answers [] [] new.lines ds) left_none meets);
+        meets = subst (λ ls. CallsMeet w (notes ++ a.note ∷ []) (f.outcomes ++ a.met) (answers_from w.answers w.origin) [] [] ls []) new_lines
+            (subst (λ ds. CallsMeet w (notes ++ a.note ∷ []) (f.outcomes ++ a.met) (answers_from w.answers w.origin) [] [] new.lines ds) left_none meets);
         follows = a.follows;
       };
     }

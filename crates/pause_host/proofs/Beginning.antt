@@ -65,14 +65,14 @@ has_memory [] area h =
 has_memory (l ∷ ls) area h = lt-ltb 0 (length (l ∷ ls)) (omega arith)
 
 -- it has room for its words, and lies inside the declared pages
-lawful_area : (pages : ℕ) (area : Area) → is_area_in pages area ≡ true → (8 ≤ area.len) × (area.at + area.len ≤ pages * page_size)
+pub lawful_area : (pages : ℕ) (area : Area) → is_area_in pages area ≡ true → (8 ≤ area.len) × (area.at + area.len ≤ pages * page_size)
 lawful_area pages area h =
     let two = both _ (nat_le (area.at + area.len) (pages * page_size)) h in
     let one = both (area.at % 4 == 0) (nat_le 8 area.len) two.0 in
     (leb-true 8 area.len one.1, leb-true (area.at + area.len) (pages * page_size) two.1)
 
 -- a call for each entry at most
-calls_few : (es : List NamedEntry) (fs : List ℕ) → length (calls_of es fs) ≤ length es
+pub calls_few : (es : List NamedEntry) (fs : List ℕ) → length (calls_of es fs) ≤ length es
 calls_few [] fs = omega arith
 calls_few (e ∷ es) [] = omega arith
 calls_few (e ∷ es) (f ∷ fs) = let rest = calls_few es fs in omega arith

@@ -7,6 +7,7 @@ pub mod Comings
 pub mod Constants
 pub mod FromPlans
 pub mod Fronts
+pub mod GoingOn
 pub mod Holding
 pub mod Hosting
 pub mod Making

@@ -16,6 +16,7 @@ use Rattle.wa_model.specs.Protocol.{exports_of}
 use Rattle.wa_model.specs.Store.{Store}
 use Rattle.wa_model.specs.View.{answer_of, answer_line_of}
 use Rattle.wa_model.specs.World as W
+use Rattle.run_theory.specs.Fitting.{StoreFits}
 use Rattle.host_laws.specs.Answering.{IsShort}
 use Rattle.host_setup.specs.SetUp.{NamedEntry, set_up}
 use Rattle.interp.specs.declared.instance.Instance.{Instance}
@@ -60,7 +61,7 @@ within n [] h = absurd (omega arith)
 within zero (x ∷ xs) h = (x, refl)
 within (suc n) (x ∷ xs) h = within n xs (omega arith)
 
-inside : {X : Type 0} (n : ℕ) (xs : List X) (y : X) → slice_get xs n ≡ Some y → n < length xs
+pub inside : {X : Type 0} (n : ℕ) (xs : List X) (y : X) → slice_get xs n ≡ Some y → n < length xs
 inside n [] y e = cc
 inside zero (x ∷ xs) y e = omega arith
 inside (suc n) (x ∷ xs) y e = let h = inside n xs y e in omega arith
@@ -95,7 +96,7 @@ parts_same h1 h2 h3 h4 h5 h6 = rw (h1, h2, h3, h4, h5, h6) refl
 
 -- ---- what was taken
 
-all_at : {X : Type 0} (P : X → Type 0) (n : ℕ) (xs : List X) (y : X) → All P xs → slice_get xs n ≡ Some y → P y
+pub all_at : {X : Type 0} (P : X → Type 0) (n : ℕ) (xs : List X) (y : X) → All P xs → slice_get xs n ≡ Some y → P y
 all_at P n [] y h e = cc
 all_at P zero (x ∷ xs) y h e = let same : x ≡ y = cc in subst P same (All-head P x xs h)
 all_at P (suc n) (x ∷ xs) y h e = all_at P n xs y (All-tail P x xs h) e
@@ -231,6 +232,12 @@ module _ (x : Plan) (parts : PausedParts) (memory : List ℕ) (funcs : List ℕ)
         ∙ ap (λ i. paused_at (exports_of p) x.area (left_with parts.entry (drop (suc parts.entry) calls)) (entry_of pause.entry) i (answer_of pause.answer) (store_in instance)) t.import_is
         ∙ ap (λ a. paused_at (exports_of p) x.area (left_with parts.entry (drop (suc parts.entry) calls)) (entry_of pause.entry) parts.import (answer_of a) (store_in instance)) t.answer_is
         ∙ ap (paused_at (exports_of p) x.area (left_with parts.entry (drop (suc parts.entry) calls)) (entry_of pause.entry) parts.import (answer_of t.line.answer)) store_is
+
+    -- its store fits the module
+    pub store_fits : StoreFits (code_in instance) (store_in instance)
+        → StoreFits p (record { globals = parts.globals; memory = memory; table = (suits new pause t).globals.opened.table })
+    unfolding suits
+    store_fits fits = subst (StoreFits p) store_is (subst (λ m. StoreFits m (store_in instance)) (code ∙ made.source) fits)
 
     steps_again : old.setting.steps - (old.steps_left - parts.steps_used) ≡ parts.steps_used
     steps_again = let le = numbers.steps_fit in omega (arith, le, made.steps, made.setting.steps_are)

@@ -15,7 +15,7 @@ use Rattle.wa_model.specs.Blocking.{Note, no_store}
 use Rattle.wa_model.specs.Plan.{Outcome}
 use Rattle.wa_model.specs.Protocol.{Held, held_begun}
 use Rattle.wa_model.specs.World as W
-use Rattle.wa_model.specs.World.{CallsMeet, Device, Look, call_in, is_end}
+use Rattle.wa_model.specs.World.{CallsMeet, Device, Look, answers_from, at_start, call_in, is_end}
 use Rattle.run_theory.specs.Fitting.{types_of, global_types}
 use Rattle.device_port.specs.declared.devices.Devices.{Devices}
 use Rattle.device_port.specs.Listed.{of_all}
@@ -57,8 +57,8 @@ pub record IsPlan (x : Plan) : Type 0 where
   pub entries : length x.entries.items < 2 ^ 32
   pub pokes : All HasShortPokes (map answer_line_of x.answers.items)
 
--- the program of a world that a plan is, where its entries are of these functions, these looks come after its end and its imports
--- are bound so
+-- the program of a world that a plan is, from its start on, where its entries are of these functions, these looks come after its end and
+-- its imports are bound so
 abbrev pub world_program : Plan → List ℕ → List Look → List (Option (List ℕ)) → W.Program
 world_program x funcs looks binds = record {
   source = source_of x;
@@ -67,6 +67,7 @@ world_program x funcs looks binds = record {
   answers = map answer_line_of x.answers.items;
   binds = binds;
   looks = looks;
+  origin = at_start;
 }
 
 -- the imports are bound as the plan has it; one beyond a list is bound to none
@@ -174,10 +175,10 @@ pub record Advances (w : W.Program) (notes : List Note) (os : List Outcome) (eve
 
 -- ---- a program alone, without devices
 
--- its calls met its answer lines in turn, up to those that it has left
+-- its calls met its answer lines in turn, from those that it has left where it begins up to those that it has left now
 pub record FollowsAlone (w : W.Program) (notes : List Note) (x : Program) : Type 0 where
   pub outcomes : List Outcome
-  pub meets : CallsMeet w notes outcomes w.answers [] [] (lines_left x) []
+  pub meets : CallsMeet w notes outcomes (answers_from w.answers w.origin) [] [] (lines_left x) []
   pub follows : Follows w notes outcomes x
 
 -- The next event of a program that is alone: what it has told goes on by it.

@@ -1,5 +1,5 @@
 -- Which parts and memories a program of a plan can be put back with, and where it then stands.
-use Rattle.std.specs.Prelude.{◌≡◌, ◌≤◌, ◌<◌, ◌*◌, ◌-◌, ℕ, suc, List, [], length, map, drop, Bool, false, Some, None, Result, Ok, Err, slice_get}
+use Rattle.std.specs.Prelude.{◌≡◌, ◌≤◌, ◌<◌, ◌*◌, ◌-◌, ℕ, suc, List, [], length, map, drop, Bool, Option, false, Some, None, Result, Ok, Err, slice_get}
 use Rattle.std.specs.Option.{option_map}
 use Rattle.wa_types.specs.declared.values.Value.{Value}
 use Rattle.wa_types.specs.Memory.{page_size}
@@ -14,7 +14,8 @@ use Rattle.wa_model.specs.Plan as P
 use Rattle.wa_model.specs.Protocol.{exports_of}
 use Rattle.wa_model.specs.Store.{Store}
 use Rattle.wa_model.specs.View.{answer_line_of}
-use Rattle.wa_model.specs.World.{import_names}
+use Rattle.wa_model.specs.World as W
+use Rattle.wa_model.specs.World.{Halt, Look, at_pause, import_names}
 use Rattle.run_theory.specs.Fitting.{types_of, global_types}
 use Rattle.interp.specs.Restoring.{PagesFit}
 use Rattle.snapshot_store.specs.Snapshots.{PausedParts}
@@ -24,7 +25,7 @@ use Rattle.pause_host.specs.declared.faults.ThawFault.TheVariants.{Memory, Unfit
 use Rattle.pause_host.specs.declared.plan.Plan.{Plan}
 use Rattle.pause_host.specs.declared.program.Program.{Program}
 use Rattle.pause_host.specs.Parting.{parts_in}
-use Rattle.pause_host.specs.Programs.{RunsCode, lines_left, named_entries, place_of, source_of}
+use Rattle.pause_host.specs.Programs.{BindsAs, Follows, RunsCode, lines_left, named_entries, place_of, source_of, world_program}
 use Rattle.pause_host.specs.Settings.{MakesSetting, calls_of}
 use Rattle.pause_host.specs.Views.{paused_at}
 
@@ -98,8 +99,31 @@ pub record StandsThawed (x : Plan) (parts : PausedParts) (memory : List ℕ) (su
   pub code : RunsCode (source_of x) program.state
   pub parts_are : parts_in program ≡ Some parts
 
+-- the pause of these parts, with this memory, from which a program of a world goes on that is due at this tick
+abbrev pub halt_of : (x : Plan) (parts : PausedParts) (memory : List ℕ) → PartsSuit x parts → (due : ℕ) → Halt
+halt_of x parts memory suits due = record {
+  due = due;
+  used = parts.steps_used;
+  taken = parts.answers;
+  entry = parts.entry;
+  import = parts.import;
+  answer = suits.answer.line.answer;
+  store = record { globals = parts.globals; memory = memory; table = suits.globals.opened.table };
+}
+
+-- the program of a world that a plan is, from this pause on
+abbrev pub halted_program : (x : Plan) → Halt → List ℕ → List Look → List (Option (List ℕ)) → W.Program
+halted_program x halt funcs looks binds = record (world_program x funcs looks binds) { origin = at_pause halt }
+
+-- The program goes on as one of a world that begins at the pause, whenever that is due: it has told nothing of it yet. (The answer lines that it has left
+-- are those behind the ones taken.)
+abbrev pub GoesOnFrom : (x : Plan) (parts : PausedParts) (memory : List ℕ) → PartsSuit x parts → (funcs : List ℕ) → Program → Type 0
+GoesOnFrom x parts memory suits funcs program =
+    (due : ℕ) (looks : List Look) (binds : List (Option (List ℕ))) → BindsAs x binds → Follows (halted_program x (halt_of x parts memory suits due) funcs looks binds) [] [] program
+
 -- What thawing answers: the program, where the parts fit the plan, else that they don't; want of memory may come always.
 abbrev pub Thaws : Plan → PausedParts → (memory : List ℕ) → Result Program ThawFault → Type 0
-Thaws x parts memory (Ok program) = (suits : PartsSuit x parts) × StandsThawed x parts memory suits program
+Thaws x parts memory (Ok program) =
+    (suits : PartsSuit x parts) × (stands : StandsThawed x parts memory suits program) × GoesOnFrom x parts memory suits stands.funcs program
 Thaws x parts memory (Err Unfit) = PartsSuit x parts → ⊥
 Thaws x parts memory (Err Memory) = Unit {0}

@@ -16,6 +16,9 @@
 //! device of that name, and any other by the program's next answer line; a call that is made again after a pause asks nobody. Between
 //! its events other programs may use the same devices; of a program alone, without devices, more is known (`FollowsAlone`).
 //!
+//! What is to be written of a paused program `parts` and `memory` give: its stack stands in its memory. `thaw` puts one back: it tells
+//! what the world's program tells that begins at that pause (`specs/Thawing.antt`).
+//!
 //! With what waits in the instance a `Stage` is a place of the protocol's machine (`specs/Views.antt`); what each call of a host tells
 //! is the machine's next note (`specs/Moves.antt`). Who goes next among several programs is `many_host`'s matter.
 //!
@@ -23,9 +26,8 @@
 //!   memory, and its end as an event.
 //! - `unwinding`, `rewinding`: both halves of a pause.
 //! - `plan`, `entries`, `bindings`, `setting`: what a program is given, and what the host has to know of its module all along.
-//! What is to be written of a paused program `parts` and `memory` give: its stack stands in its memory.
-//!
 //! - `asking`, `running`, `events`, `program`: what answers a call, what comes of each stage, the next event, and `Program`.
+//! - `globals`, `thawing`: which globals a program can be put back with, and a program that is put back.
 #![tactic(auto)]
 
 mod asking;

@@ -40,7 +40,8 @@ impl<'m> Program<'m> {
     ghost use Rattle.pause_host.specs.declared.plan.Plan.{Plan as PlanValue};
 
     /// A program of a plan of which `new` makes one, put back at the pause of which these are the parts, with this memory of so many
-    /// pages. It goes on behind that pause. Unfit exactly where the parts don't fit the plan.
+    /// pages. It goes on behind that pause, as the program of a world that begins there. Unfit exactly where the parts don't fit the
+    /// plan.
     pub fn thaw(
         alloc: Global,
         plan: Plan<'m>,

@@ -6,7 +6,14 @@ use Rattle.many_host.proofs.host.Host.next.Goals as goal
 
 pub returns-clause-told : goal.returns-clause-told
 returns-clause-told g c = λ programs detaches ds lines told.
-    IfOk-weaker c.next.result _ _ (λ r t. host_next programs detaches ds lines told.tellers _ _ _ (record { turns = c.next.new.self }) _ r t) (c.next.ensures.told programs detaches ds lines told)
+    IfOk-weaker c.next.result _ _ (λ r t. host_next 0 programs detaches ds lines told.tellers _ _ _ (record { turns = c.next.new.self }) _ r t) (c.next.ensures.told 0 programs detaches ds lines told)
+
+pub returns-clause-told_from : goal.returns-clause-told_from
+returns-clause-told_from g c = λ begun programs detaches ds lines told.
+    IfOk-weaker c.next.result _ _ (λ r t. host_next begun programs detaches ds lines told.tellers _ _ _ (record { turns = c.next.new.self }) _ r t) (c.next.ensures.told begun programs detaches ds lines told)
+
+pub returns-clause-left : goal.returns-clause-left
+returns-clause-left g c = λ programs detaches ds lines told. c.next.ensures.left 0 programs detaches ds lines told
 
 pub next-requires-clause-tells : goal.next-requires-clause-tells
 next-requires-clause-tells g c = c.requires.tells

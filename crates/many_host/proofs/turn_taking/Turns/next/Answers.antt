@@ -9,36 +9,36 @@ use Rattle.many_host.proofs.Beginning.{standing}
 use Rattle.many_host.proofs.turn_taking.Turns.next.Goals as goal
 
 pub returns-in-Between-clause-told : goal.returns-in-Between-clause-told
-returns-in-Between-clause-told g c = λ programs detaches ds lines s.
-    c.begin.ensures.told programs detaches ds lines
-    (standing g.T.Teller.follows g.T.Teller.has_ended g.T.Teller.memory programs detaches ds lines (held_of c.args.self.now) _ c.args.self.now.stage _ c.in-Between.is s)
+returns-in-Between-clause-told g c = λ begun programs detaches ds lines s.
+    c.begin.ensures.told begun programs detaches ds lines
+    (standing g.T.Teller.follows g.T.Teller.has_ended g.T.Teller.memory begun programs detaches ds lines (held_of c.args.self.now) _ c.args.self.now.stage _ c.in-Between.is s)
 
 pub returns-in_ok-tell-in-Telling-clause-told : goal.returns-in_ok-tell-in-Telling-clause-told
-returns-in_ok-tell-in-Telling-clause-told g c = λ programs detaches ds lines s.
+returns-in_ok-tell-in-Telling-clause-told g c = λ begun programs detaches ds lines s.
     line_from (left_kept c.args.self.now.begun c.tell.new.self.begun detaches _ c.tell.ensures.begun)
-    (c.in_ok-tell-in-Telling.ensures.told programs detaches ds lines
-    (standing g.T.Teller.follows g.T.Teller.has_ended g.T.Teller.memory programs detaches ds lines (held_of c.args.self.now) _ c.args.self.now.stage _ c.in-Telling.is s))
+    (c.in_ok-tell-in-Telling.ensures.told begun programs detaches ds lines
+    (standing g.T.Teller.follows g.T.Teller.has_ended g.T.Teller.memory begun programs detaches ds lines (held_of c.args.self.now) _ c.args.self.now.stage _ c.in-Telling.is s))
 
 pub returns-in-Showing-clause-told : goal.returns-in-Showing-clause-told
-returns-in-Showing-clause-told g c = λ programs detaches ds lines s.
-    c.show.ensures.told programs detaches ds lines
-    (standing g.T.Teller.follows g.T.Teller.has_ended g.T.Teller.memory programs detaches ds lines (held_of c.args.self.now) _ c.args.self.now.stage _ c.in-Showing.is s)
+returns-in-Showing-clause-told g c = λ begun programs detaches ds lines s.
+    c.show.ensures.told begun programs detaches ds lines
+    (standing g.T.Teller.follows g.T.Teller.has_ended g.T.Teller.memory begun programs detaches ds lines (held_of c.args.self.now) _ c.args.self.now.stage _ c.in-Showing.is s)
 
 pub returns-in-Between-clause-left : goal.returns-in-Between-clause-left
-returns-in-Between-clause-left g c = λ programs detaches ds lines s.
-    c.begin.ensures.left programs detaches ds lines
-    (standing g.T.Teller.follows g.T.Teller.has_ended g.T.Teller.memory programs detaches ds lines (held_of c.args.self.now) _ c.args.self.now.stage _ c.in-Between.is s)
+returns-in-Between-clause-left g c = λ begun programs detaches ds lines s.
+    c.begin.ensures.left begun programs detaches ds lines
+    (standing g.T.Teller.follows g.T.Teller.has_ended g.T.Teller.memory begun programs detaches ds lines (held_of c.args.self.now) _ c.args.self.now.stage _ c.in-Between.is s)
 
 pub returns-in-Showing-clause-left : goal.returns-in-Showing-clause-left
-returns-in-Showing-clause-left g c = λ programs detaches ds lines s.
-    c.show.ensures.left programs detaches ds lines
-    (standing g.T.Teller.follows g.T.Teller.has_ended g.T.Teller.memory programs detaches ds lines (held_of c.args.self.now) _ c.args.self.now.stage _ c.in-Showing.is s)
+returns-in-Showing-clause-left g c = λ begun programs detaches ds lines s.
+    c.show.ensures.left begun programs detaches ds lines
+    (standing g.T.Teller.follows g.T.Teller.has_ended g.T.Teller.memory begun programs detaches ds lines (held_of c.args.self.now) _ c.args.self.now.stage _ c.in-Showing.is s)
 
 pub returns-in_err-tell-in-Telling-clause-left : goal.returns-in_err-tell-in-Telling-clause-left
-returns-in_err-tell-in-Telling-clause-left g c = λ programs detaches ds lines s e.
+returns-in_err-tell-in-Telling-clause-left g c = λ begun programs detaches ds lines s e.
     are_left (λ z. (goal.Device-dyn g z).seen z.1) (λ z. (goal.Device-dyn g z).faults z.1) c.args.self.now.begun detaches _ c.args.devices.now c.tell.new.devices (inl refl)
-    (c.in_err-tell-in-Telling.ensures.kept programs detaches ds lines
-    (standing g.T.Teller.follows g.T.Teller.has_ended g.T.Teller.memory programs detaches ds lines (held_of c.args.self.now) _ c.args.self.now.stage _ c.in-Telling.is s) refl) (c.in_err-tell-in-Telling.ensures.once refl)
+    (c.in_err-tell-in-Telling.ensures.kept begun programs detaches ds lines
+    (standing g.T.Teller.follows g.T.Teller.has_ended g.T.Teller.memory begun programs detaches ds lines (held_of c.args.self.now) _ c.args.self.now.stage _ c.in-Telling.is s) refl) (c.in_err-tell-in-Telling.ensures.once refl)
 
 pub returns-in-Between-clause-begun : goal.returns-in-Between-clause-begun
 returns-in-Between-clause-begun g c =
@@ -56,31 +56,34 @@ pub begin-requires-clause-tells : goal.begin-requires-clause-tells
 begin-requires-clause-tells g c =
     let t = c.requires.tells in
     record {
+      begun = t.begun;
       programs = t.programs;
       detaches = t.detaches;
       devices = t.devices;
       lines = t.lines;
-      stands = standing g.T.Teller.follows g.T.Teller.has_ended g.T.Teller.memory t.programs t.detaches t.devices t.lines (held_of c.args.self.now) _ c.args.self.now.stage _ c.in-Between.is t.stands;
+      stands = standing g.T.Teller.follows g.T.Teller.has_ended g.T.Teller.memory t.begun t.programs t.detaches t.devices t.lines (held_of c.args.self.now) _ c.args.self.now.stage _ c.in-Between.is t.stands;
     }
 
 pub tell-requires-clause-tells : goal.tell-requires-clause-tells
 tell-requires-clause-tells g c =
     let t = c.requires.tells in
     record {
+      begun = t.begun;
       programs = t.programs;
       detaches = t.detaches;
       devices = t.devices;
       lines = t.lines;
-      stands = standing g.T.Teller.follows g.T.Teller.has_ended g.T.Teller.memory t.programs t.detaches t.devices t.lines (held_of c.args.self.now) _ c.args.self.now.stage _ c.in-Telling.is t.stands;
+      stands = standing g.T.Teller.follows g.T.Teller.has_ended g.T.Teller.memory t.begun t.programs t.detaches t.devices t.lines (held_of c.args.self.now) _ c.args.self.now.stage _ c.in-Telling.is t.stands;
     }
 
 pub show-requires-clause-tells : goal.show-requires-clause-tells
 show-requires-clause-tells g c =
     let t = c.requires.tells in
     record {
+      begun = t.begun;
       programs = t.programs;
       detaches = t.detaches;
       devices = t.devices;
       lines = t.lines;
-      stands = standing g.T.Teller.follows g.T.Teller.has_ended g.T.Teller.memory t.programs t.detaches t.devices t.lines (held_of c.args.self.now) _ c.args.self.now.stage _ c.in-Showing.is t.stands;
+      stands = standing g.T.Teller.follows g.T.Teller.has_ended g.T.Teller.memory t.begun t.programs t.detaches t.devices t.lines (held_of c.args.self.now) _ c.args.self.now.stage _ c.in-Showing.is t.stands;
     }

@@ -13,9 +13,9 @@ use Rattle.many_host.proofs.TurnPlaces.{stands_at}
 use Rattle.many_host.proofs.turn_taking.Turns.show.Goals as goal
 
 pub returns-in_default-clause-told : goal.returns-in_default-clause-told
-returns-in_default-clause-told g c = λ programs detaches ds lines s.
-    c.begin.ensures.told programs detaches ds lines
-    (all_shown g.T.Teller.follows g.T.Teller.has_ended g.T.Teller.memory programs detaches ds lines (held_of c.args.self.now) _ c.args.turn c.args.from s
+returns-in_default-clause-told g c = λ begun programs detaches ds lines s.
+    c.begin.ensures.told begun programs detaches ds lines
+    (all_shown g.T.Teller.follows g.T.Teller.has_ended g.T.Teller.memory begun programs detaches ds lines (held_of c.args.self.now) _ c.args.turn c.args.from s
     (ap (λ (l : List Show). looks_of c.args.turn.program (drop c.args.from l)) (sym c.deref.ensures.value) ∙ c.in_default.ensures))
 
 pub index-requires : goal.index-requires
@@ -25,12 +25,12 @@ pub overflow_add-self : goal.overflow_add-self
 overflow_add-self g c = omega (arith, slice_get_within c.deref.result.now c.in-Some.place _ c.in-Some.ensures.there, c.deref.type_inv.0)
 
 pub returns-clause-told : goal.returns-clause-told
-returns-clause-told g c = λ programs detaches ds lines s.
+returns-clause-told g c = λ begun programs detaches ds lines s.
     let is = subst (λ (l : List Show). IsNextShow c.args.turn.program l c.args.from c.in-Some.place) c.deref.ensures.value c.in-Some.ensures in
     let there = stands_at c.args.self.now.shows.items c.in-Some.place c.index.result.now (slice_get_within _ _ _ is.there) c.index.ensures in
     let program = stands_at c.args.self.now.programs.items c.args.turn.program c.index-2.result.now c.requires.place c.index-2.ensures in
     line_from (left_kept c.args.self.now.begun c.args.self.now.begun detaches _ refl)
-    (shown_line g.T.Teller.follows g.T.Teller.has_ended g.T.Teller.memory programs detaches ds lines (held_of c.args.self.now) _ c.args.turn c.args.from s
+    (shown_line g.T.Teller.follows g.T.Teller.has_ended g.T.Teller.memory begun programs detaches ds lines (held_of c.args.self.now) _ c.args.turn c.args.from s
     c.index-2.result.now c.in-Some.place (c.in-Some.place + 1) c.index.result.now (event_of c.in_ok-event.event) _ program refl is there
     (c.in_ok-event.ensures ∙ ap (shown c.index.result.now.at) c.show-bytes.ensures))
 
@@ -39,9 +39,9 @@ returns-in_default-clause-none g c =
     none_out _ _ c.begin.result (ap (λ (l : List Show). looks_of c.args.turn.program (drop c.args.from l)) (sym c.deref.ensures.value) ∙ c.in_default.ensures) c.begin.ensures.none
 
 pub returns-in_default-clause-left : goal.returns-in_default-clause-left
-returns-in_default-clause-left g c = λ programs detaches ds lines s.
-    c.begin.ensures.left programs detaches ds lines
-    (all_shown g.T.Teller.follows g.T.Teller.has_ended g.T.Teller.memory programs detaches ds lines (held_of c.args.self.now) _ c.args.turn c.args.from s
+returns-in_default-clause-left g c = λ begun programs detaches ds lines s.
+    c.begin.ensures.left begun programs detaches ds lines
+    (all_shown g.T.Teller.follows g.T.Teller.has_ended g.T.Teller.memory begun programs detaches ds lines (held_of c.args.self.now) _ c.args.turn c.args.from s
     (ap (λ (l : List Show). looks_of c.args.turn.program (drop c.args.from l)) (sym c.deref.ensures.value) ∙ c.in_default.ensures))
 
 pub returns-clause-none : goal.returns-clause-none
@@ -59,14 +59,15 @@ pub begin-requires-clause-tells : goal.begin-requires-clause-tells
 begin-requires-clause-tells g c =
     let t = c.requires.tells in
     record {
+      begun = t.begun;
       programs = t.programs;
       detaches = t.detaches;
       devices = t.devices;
       lines = t.lines;
-      stands = all_shown g.T.Teller.follows g.T.Teller.has_ended g.T.Teller.memory t.programs t.detaches t.devices t.lines (held_of c.args.self.now) _ c.args.turn c.args.from t.stands
+      stands = all_shown g.T.Teller.follows g.T.Teller.has_ended g.T.Teller.memory t.begun t.programs t.detaches t.devices t.lines (held_of c.args.self.now) _ c.args.turn c.args.from t.stands
           (ap (λ (l : List Show). looks_of c.args.turn.program (drop c.args.from l)) (sym c.deref.ensures.value) ∙ c.in_default.ensures);
     }
 
 pub returns-in_err-event-clause-left : goal.returns-in_err-event-clause-left
-returns-in_err-event-clause-left g c = λ programs detaches ds lines s e.
+returns-in_err-event-clause-left g c = λ begun programs detaches ds lines s e.
     are_left (λ z. (goal.Device-dyn g z).seen z.1) (λ z. (goal.Device-dyn g z).faults z.1) c.args.self.now.begun detaches _ c.args.devices.now c.args.devices.now (inl refl) refl (inl refl)

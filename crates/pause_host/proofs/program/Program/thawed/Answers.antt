@@ -9,9 +9,10 @@ use Rattle.snapshot_store.specs.Views.{parts_of}
 use Rattle.pause_host.specs.declared.program.Program.{Program}
 use Rattle.pause_host.specs.declared.program.State.TheVariants.{Live}
 use Rattle.pause_host.specs.declared.stages.Stage.TheVariants.{Paused}
-use Rattle.pause_host.specs.Thawing.{StandsThawed}
+use Rattle.pause_host.specs.Thawing.{PartsSuit, StandsThawed}
+use Rattle.pause_host.proofs.GoingOn.{goes_on}
 use Rattle.pause_host.proofs.Reopened.{reopens}
-use Rattle.pause_host.proofs.Thawings.{made_setting, made_short, stands, suits, unfit}
+use Rattle.pause_host.proofs.Thawings.{made_setting, made_short, stands, store_fits, suits, unfit}
 use Rattle.pause_host.proofs.program.Program.thawed.Goals as goal
 
 pub returns-in_default : goal.returns-in_default
@@ -53,8 +54,9 @@ returns c = λ x funcs plan up made numbers.
     let code = c.in_ok-instance.ensures.code ∙ ap (λ (z : Program). module_of z.valid.now) rest in
     let store = c.in_ok-instance.ensures.store ∙ ap (λ vs. restored_store (module_of new.valid.now) vs memory) c.deref.ensures.value
     ∙ ap (λ (z : Program). restored_store (module_of z.valid.now) parts.globals memory) rest in
-    let is = c.stand.ensures ∙ ap (λ (z : Program). record z { steps_left = z.steps_left - parts.steps_used; state = Live instance (Paused pause) }) rest in (
-      suits x parts memory funcs plan up self made numbers c.requires.few c.requires.whole new pause t,
-      subst (λ (z : Program). StandsThawed x parts memory (suits x parts memory funcs plan up self made numbers c.requires.few c.requires.whole new pause t) z) (sym is)
-          (stands x parts memory funcs plan up self made numbers c.requires.few c.requires.whole new pause t instance code store),
-    )
+    let is = c.stand.ensures ∙ ap (λ (z : Program). record z { steps_left = z.steps_left - parts.steps_used; state = Live instance (Paused pause) }) rest in
+    let suit : PartsSuit x parts = suits x parts memory funcs plan up self made numbers c.requires.few c.requires.whole new pause t in
+    let there : StandsThawed x parts memory suit c.stand.new.self =
+    subst (λ (z : Program). StandsThawed x parts memory suit z) (sym is) (stands x parts memory funcs plan up self made numbers c.requires.few c.requires.whole new pause t instance code store) in
+    let fits = store_fits x parts memory funcs plan up self made numbers c.requires.few c.requires.whole new pause t instance code store c.in_ok-instance.ensures.fits in
+    (suit, there, goes_on x parts memory suit c.stand.new.self there plan made.valid c.requires.whole fits)
