@@ -37,6 +37,8 @@ mod pausing;
 #[cfg(test)]
 mod pieces;
 #[cfg(test)]
+mod resuming;
+#[cfg(test)]
 mod running;
 #[cfg(test)]
 mod runtime;
