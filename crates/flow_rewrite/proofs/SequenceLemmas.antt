@@ -1,6 +1,6 @@
 -- What is written of a sequence, statement by statement.
 use Rattle.std.proofs.Common.{◌≡◌, ℕ, ◌+◌, ◌<◌, ◌≤◌, ◌^◌, ◌∷◌, ◌++◌, List, [], length, None, Bool, true, false, refl, sym, ap, ◌∙◌, subst, arith}
-use Rattle.std.specs.Prelude.{◌||◌, nat_eq, not, if◌then◌else◌}
+use Rattle.std.specs.Prelude.{◌||◌, nat_eq, if◌then◌else◌}
 use Rattle.std.specs.declared.vec.Vec.{Vec}
 use Rattle.std.specs.declared.alloc.Global.{Global}
 use Rattle.wa_types.specs.declared.instrs.Instr.{Instr}
@@ -20,14 +20,6 @@ use Rattle.flow_rewrite.specs.CallsEmitting.{first_of, written_with, Same, Good,
 use Rattle.flow_rewrite.proofs.StmtLemmas.{holds_with, total_with, first_with, units_with}
 
 -- ---- pieces
-
-pub from_not_true : (b : Bool) → not b ≡ true → b ≡ false
-from_not_true true e = cc
-from_not_true false e = refl
-
-pub from_not_false : (b : Bool) → not b ≡ false → b ≡ true
-from_not_false true e = refl
-from_not_false false e = cc
 
 pub length_none : (n : ℕ) (b : Bool) → b ≡ nat_eq n 0 → b ≡ true → n ≤ 0
 length_none n b e t = grind arith

@@ -19,10 +19,13 @@ pub(crate) fn put_block(guards: &Guards, at: &mut Sequence, inner: Part) -> Resu
     requires { Good at.old }
     ensures { OnOk result (PutsNest guards.now a_block inner at.old at.new) }
 {
-    let body = inner.code;
-    if !inner.held {
+    let held = inner.held;
+    let place = inner.place;
+    let number = inner.number;
+    let body = inner.into_code();
+    if !held {
         at.piece.push(Instr::Block { result: None, body })?;
-        at.place = inner.place;
+        at.place = place;
         return Ok(());
     }
     settle(guards.alloc, at)?;
@@ -30,8 +33,8 @@ pub(crate) fn put_block(guards: &Guards, at: &mut Sequence, inner: Part) -> Resu
     at.out.push(Instr::Block { result: None, body })?;
     at.piece = Vec::new(guards.alloc);
     at.held = true;
-    at.place = inner.place;
-    at.number = inner.number;
+    at.place = place;
+    at.number = number;
     Ok(())
 }
 
@@ -41,10 +44,13 @@ pub(crate) fn put_loop(guards: &Guards, at: &mut Sequence, inner: Part) -> Resul
     requires { Good at.old }
     ensures { OnOk result (PutsNest guards.now a_loop inner at.old at.new) }
 {
-    let body = inner.code;
-    if !inner.held {
+    let held = inner.held;
+    let place = inner.place;
+    let number = inner.number;
+    let body = inner.into_code();
+    if !held {
         at.piece.push(Instr::Loop { result: None, body })?;
-        at.place = inner.place;
+        at.place = place;
         return Ok(());
     }
     settle(guards.alloc, at)?;
@@ -52,8 +58,8 @@ pub(crate) fn put_loop(guards: &Guards, at: &mut Sequence, inner: Part) -> Resul
     at.out.push(Instr::Loop { result: None, body })?;
     at.piece = Vec::new(guards.alloc);
     at.held = true;
-    at.place = inner.place;
-    at.number = inner.number;
+    at.place = place;
+    at.number = number;
     Ok(())
 }
 
@@ -98,22 +104,27 @@ pub(crate) fn put_if(
     requires { Good at.old }
     ensures { OnOk result (PutsIf guards.now cond first second at.old at.new) }
 {
-    let then_arm = first.code;
-    let else_arm = second.code;
-    if !either(first.held, second.held) {
+    let then_held = first.held;
+    let else_held = second.held;
+    let middle = first.number;
+    let place = second.place;
+    let number = second.number;
+    let then_arm = first.into_code();
+    let else_arm = second.into_code();
+    if !either(then_held, else_held) {
         put_operand(&mut at.piece, cond)?;
         at.piece.push(Instr::If {
             result: None,
             then_arm,
             else_arm,
         })?;
-        at.place = second.place;
+        at.place = place;
         return Ok(());
     }
     settle(guards.alloc, at)?;
     put_operand(&mut at.piece, cond)?;
     let piece = raised(guards.alloc, 0, 1, &at.piece)?;
-    let sought = choice(guards, first.held, second.held, first.number)?;
+    let sought = choice(guards, then_held, else_held, middle)?;
     put_test(&mut at.out, guards.state, Some(ValType::I32), sought, piece)?;
     at.out.push(Instr::If {
         result: None,
@@ -122,7 +133,7 @@ pub(crate) fn put_if(
     })?;
     at.piece = Vec::new(guards.alloc);
     at.held = true;
-    at.place = second.place;
-    at.number = second.number;
+    at.place = place;
+    at.number = number;
     Ok(())
 }

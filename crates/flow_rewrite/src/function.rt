@@ -49,7 +49,7 @@ fn guarded_body(guards: &Guards, part: Part) -> Result<Vec<Instr>, AllocError>
     ensures { IfOk result (λ v. code v.items ≡ (if part.held then code part.code.items else guarded (indices guards.now) (code part.code.items) done)) }
 {
     if part.held {
-        return Ok(part.code);
+        return Ok(part.into_code());
     }
     let mut body = Vec::new(guards.alloc);
     put_guarded(guards, &mut body, &part.code)?;

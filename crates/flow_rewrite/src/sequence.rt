@@ -9,10 +9,9 @@ use crate::guards::{Guards, put_guarded};
 use crate::labels::put_raised;
 use std::alloc::{AllocError, Global};
 use std::mem;
-use wa_types::Instr;
+use wa_types::{Instr, drop_body};
 
 /// What is written of a sequence so far.
-#[derive(Drop)]
 pub struct Sequence {
     /// What is written.
     pub out: Vec<Instr>,
@@ -28,6 +27,24 @@ pub struct Sequence {
     pub place: u32,
     /// The number of the next numbered call.
     pub number: u32,
+}
+
+impl Drop for Sequence {
+    #[inline(never)]
+    fn drop(self) {
+        let Sequence {
+            out,
+            behind: _,
+            call,
+            piece,
+            held: _,
+            place: _,
+            number: _,
+        } = self;
+        drop_body(out);
+        drop_body(call);
+        drop_body(piece);
+    }
 }
 
 impl Sequence {
@@ -54,12 +71,24 @@ impl Sequence {
 
 /// A sequence as it is written: guarded where it holds a numbered call, else as it is. It has the place of the next call
 /// behind it and the number of the next numbered one; before it is written, those of its own first ones.
-#[derive(Drop)]
 pub struct Part {
     pub code: Vec<Instr>,
     pub held: bool,
     pub place: u32,
     pub number: u32,
+}
+
+impl Drop for Part {
+    #[inline(never)]
+    fn drop(self) {
+        let Part {
+            code,
+            held: _,
+            place: _,
+            number: _,
+        } = self;
+        drop_body(code);
+    }
 }
 
 impl Part {
@@ -74,6 +103,19 @@ impl Part {
             place,
             number,
         }
+    }
+
+    /// Its code.
+    pub(crate) fn into_code(self) -> Vec<Instr>
+        ensures { result ≡ self.code }
+    {
+        let Part {
+            code,
+            held: _,
+            place: _,
+            number: _,
+        } = self;
+        code
     }
 }
 
