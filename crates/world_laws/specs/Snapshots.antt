@@ -1,5 +1,6 @@
 -- Snapshots of worlds, and programs that go on from one.
-use Rattle.std.specs.Prelude.{◌≡◌, ℕ, ◌+◌, ◌-◌, ◌≤◌, ◌<◌, List, [], ◌∷◌, ◌++◌, length, drop, Option, Some, None, slice_get}
+use Rattle.std.specs.Prelude.{◌≡◌, ℕ, ◌+◌, ◌*◌, ◌-◌, ◌≤◌, ◌<◌, List, [], ◌∷◌, ◌++◌, length, drop, Option, Some, None, slice_get}
+use Rattle.wa_types.specs.Memory.{page_size}
 use Rattle.wa_model.specs.declared.answers.Detach.{Detach}
 use Rattle.wa_model.specs.declared.answers.Said.TheVariants as S
 use Rattle.wa_model.specs.Machine.{Ran, still, Leads}
@@ -86,8 +87,8 @@ pub record IsFresh (w : Program) (made : List Note) (met : List Outcome) (now : 
   pub due : now.due ≡ 0
   pub answers : now.answers ≡ w.answers
 
--- A program that has come to the pause of these parts, with this memory: in one of its entries, by steps that it has, and with the answer
--- lines left that it hasn't taken.
+-- A program that has come to the pause of these parts, with this memory, of so many pages: in one of its entries, by steps that it has, and
+-- with the answer lines left that it hasn't taken.
 pub record IsPaused (w : Program) (made : List Note) (met : List Outcome) (now : Actor) (due : ℕ) (x : PausedParts) (memory : List ℕ) : Type 0 where
   pub is_due : now.due ≡ due
   pub within : x.steps_used ≤ w.steps
@@ -95,6 +96,7 @@ pub record IsPaused (w : Program) (made : List Note) (met : List Outcome) (now :
   pub comes : ComesTo w made met x.steps_used (halted w.source w.plan (halt_at w due x memory))
   pub taken : x.answers ≤ length w.answers
   pub answers : now.answers ≡ drop x.answers w.answers
+  pub pages : length memory ≡ x.pages * page_size
 
 -- the program stands as its record has it; one that is over has nothing to come
 abbrev pub StandsSo : Program → (made : List Note) → (met : List Outcome) → (now : Actor) → ProgramRecord → Type 0
