@@ -1,5 +1,5 @@
 -- Snapshots of worlds, and programs that go on from one.
-use Rattle.std.specs.Prelude.{◌≡◌, ℕ, ◌+◌, ◌*◌, ◌-◌, ◌≤◌, ◌<◌, List, [], ◌∷◌, ◌++◌, length, drop, Option, Some, None, slice_get}
+use Rattle.std.specs.Prelude.{◌≡◌, ℕ, ◌+◌, ◌*◌, ◌-◌, ◌≤◌, ◌<◌, List, [], ◌∷◌, ◌++◌, length, drop, Option, Some, None, All, slice_get}
 use Rattle.wa_types.specs.Memory.{page_size}
 use Rattle.wa_model.specs.declared.answers.Detach.{Detach}
 use Rattle.wa_model.specs.declared.answers.Said.TheVariants as S
@@ -11,6 +11,7 @@ use Rattle.wa_model.specs.Blocking.{Note, all_left, no_store}
 use Rattle.wa_model.specs.Protocol.{Held, over as all_over, exports_of, held_begun, protocol}
 use Rattle.wa_model.specs.World.{Actor, Device, Halt, HasNotes, Origin, Program, ProtocolWorldFrom, Starts, StartsHeld, at_pause, at_start, gone, halted, protocol_story}
 use Rattle.snapshot_store.specs.Snapshots.{PausedParts, ProgramRecord, Snapshot, fresh, over, paused}
+use Rattle.world_laws.specs.AloneLines.{Unbound}
 use Rattle.world_laws.specs.Played.{ProtocolWorldUpToFrom}
 
 -- ---- programs that go on from their records
@@ -148,3 +149,10 @@ WorldsJoin =
     (world : ProtocolWorldUpToFrom begun programs detaches ds number lines ds') → IsSnapshotOf programs world.actors world.now number s
     → (next : ProtocolWorldFrom s.events (From s programs) detaches ds' more last)
     → (all : ProtocolWorldFrom begun programs detaches ds (lines ++ more) last) × AreJoined world.actors world.now next.actors all.actors
+
+-- Where no import is bound to a device, those are the lines of every run of the whole world: a save changes nothing of them.
+abbrev pub JoinedLinesAreOne : Type 0
+JoinedLinesAreOne =
+    (begun : ℕ) (programs : List Program) (detaches : List Detach) (ds ds' last last' : List Device) (number : ℕ) (lines more all : List Line) (s : Snapshot) → All Unbound programs
+    → (world : ProtocolWorldUpToFrom begun programs detaches ds number lines ds') → IsSnapshotOf programs world.actors world.now number s
+    → ProtocolWorldFrom s.events (From s programs) detaches ds' more last → ProtocolWorldFrom begun programs detaches ds all last' → (lines ++ more ≡ all) × (last ≡ last')
