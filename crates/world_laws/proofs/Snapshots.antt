@@ -13,11 +13,12 @@ use Rattle.wa_model.specs.World.{Actor, CallsMeet, Device, Events, Halt, HasNote
 use Rattle.run_theory.proofs.Runs.{leads_run}
 use Rattle.snapshot_store.specs.Snapshots.{PausedParts, ProgramRecord, Snapshot, fresh, over, paused}
 use Rattle.world_laws.specs.Played.{Played, ProtocolWorldUpToFrom}
-use Rattle.world_laws.specs.Snapshots.{AreJoined, ComesTo, From, IsFresh, IsJoined, IsPaused, IsRecordOf, IsSnapshotOf, RecordsGoOn, StandsSo, WorldsJoin, begun_from, from_record, from_records, halt_at, used_from}
+use Rattle.world_laws.specs.Snapshots.{AreJoined, ComesTo, From, IsFresh, IsJoined, IsPaused, IsRecordOf, IsSnapshotOf, JoinedLinesAreOne, RecordsGoOn, StandsSo, WorldsJoin, begun_from, from_record, from_records, halt_at, used_from}
 use Rattle.world_laws.specs.Originals.{new_calls}
 use Rattle.world_laws.proofs.Counting.{over_still}
 use Rattle.world_laws.proofs.GoingOn.{front_same, some_to_come, then_events, whole_alone, whole_any}
 use Rattle.world_laws.proofs.Replaying.{Quads, Since, Swapped, Twice, played_again, played_since, quad_of}
+use Rattle.world_laws.proofs.Replays.{unbound_fix_lines}
 
 -- ---- one program
 
@@ -373,3 +374,8 @@ worlds_join begun ws detaches ds ds' last number lines more s world snap next =
       },
       all_joined ws world.actors world.now s.programs next.actors again.0 h again.2,
     )
+
+pub joined_lines_are_one : JoinedLinesAreOne
+joined_lines_are_one begun ws detaches ds ds' last last' number lines more all s none world snap next whole =
+    let joined = (worlds_join begun ws detaches ds ds' last number lines more s world snap next).0 in
+    unbound_fix_lines begun ws detaches ds last last' (lines ++ more) all none joined whole

@@ -1,5 +1,6 @@
 -- Snapshots of worlds, and programs that go on from one.
-use Rattle.std.specs.Prelude.{◌≡◌, ℕ, ◌+◌, ◌-◌, ◌≤◌, ◌<◌, List, [], ◌∷◌, ◌++◌, length, drop, Option, Some, None, slice_get}
+use Rattle.std.specs.Prelude.{◌≡◌, ℕ, ◌+◌, ◌*◌, ◌-◌, ◌≤◌, ◌<◌, List, [], ◌∷◌, ◌++◌, length, drop, Option, Some, None, All, slice_get}
+use Rattle.wa_types.specs.Memory.{page_size}
 use Rattle.wa_model.specs.declared.answers.Detach.{Detach}
 use Rattle.wa_model.specs.declared.answers.Said.TheVariants as S
 use Rattle.wa_model.specs.Machine.{Ran, still, Leads}
@@ -10,6 +11,7 @@ use Rattle.wa_model.specs.Blocking.{Note, all_left, no_store}
 use Rattle.wa_model.specs.Protocol.{Held, over as all_over, exports_of, held_begun, protocol}
 use Rattle.wa_model.specs.World.{Actor, Device, Halt, HasNotes, Origin, Program, ProtocolWorldFrom, Starts, StartsHeld, at_pause, at_start, gone, halted, protocol_story}
 use Rattle.snapshot_store.specs.Snapshots.{PausedParts, ProgramRecord, Snapshot, fresh, over, paused}
+use Rattle.world_laws.specs.AloneLines.{Unbound}
 use Rattle.world_laws.specs.Played.{ProtocolWorldUpToFrom}
 
 -- ---- programs that go on from their records
@@ -86,8 +88,8 @@ pub record IsFresh (w : Program) (made : List Note) (met : List Outcome) (now : 
   pub due : now.due ≡ 0
   pub answers : now.answers ≡ w.answers
 
--- A program that has come to the pause of these parts, with this memory: in one of its entries, by steps that it has, and with the answer
--- lines left that it hasn't taken.
+-- A program that has come to the pause of these parts, with this memory, of so many pages: in one of its entries, by steps that it has, and
+-- with the answer lines left that it hasn't taken.
 pub record IsPaused (w : Program) (made : List Note) (met : List Outcome) (now : Actor) (due : ℕ) (x : PausedParts) (memory : List ℕ) : Type 0 where
   pub is_due : now.due ≡ due
   pub within : x.steps_used ≤ w.steps
@@ -95,6 +97,7 @@ pub record IsPaused (w : Program) (made : List Note) (met : List Outcome) (now :
   pub comes : ComesTo w made met x.steps_used (halted w.source w.plan (halt_at w due x memory))
   pub taken : x.answers ≤ length w.answers
   pub answers : now.answers ≡ drop x.answers w.answers
+  pub pages : length memory ≡ x.pages * page_size
 
 -- the program stands as its record has it; one that is over has nothing to come
 abbrev pub StandsSo : Program → (made : List Note) → (met : List Outcome) → (now : Actor) → ProgramRecord → Type 0
@@ -146,3 +149,10 @@ WorldsJoin =
     (world : ProtocolWorldUpToFrom begun programs detaches ds number lines ds') → IsSnapshotOf programs world.actors world.now number s
     → (next : ProtocolWorldFrom s.events (From s programs) detaches ds' more last)
     → (all : ProtocolWorldFrom begun programs detaches ds (lines ++ more) last) × AreJoined world.actors world.now next.actors all.actors
+
+-- Where no import is bound to a device, those are the lines of every run of the whole world: a save changes nothing of them.
+abbrev pub JoinedLinesAreOne : Type 0
+JoinedLinesAreOne =
+    (begun : ℕ) (programs : List Program) (detaches : List Detach) (ds ds' last last' : List Device) (number : ℕ) (lines more all : List Line) (s : Snapshot) → All Unbound programs
+    → (world : ProtocolWorldUpToFrom begun programs detaches ds number lines ds') → IsSnapshotOf programs world.actors world.now number s
+    → ProtocolWorldFrom s.events (From s programs) detaches ds' more last → ProtocolWorldFrom begun programs detaches ds all last' → (lines ++ more ≡ all) × (last ≡ last')
