@@ -5,7 +5,7 @@ use Rattle.wa_model.specs.Outside.{AnswerLine, Call, Event, called}
 use Rattle.wa_model.specs.Plan.{Outcome}
 use Rattle.wa_model.specs.Blocking.{Note, events_of}
 use Rattle.wa_model.specs.Behaves.{IsPrefix}
-use Rattle.wa_model.specs.World.{CallsMeet, Device, Meets, NoteMeets, Program, call_in, protocol_story}
+use Rattle.wa_model.specs.World.{CallsMeet, Device, Meets, NoteMeets, Program, answers_from, call_in, protocol_story}
 use Rattle.world_laws.specs.Originals.{new_calls, one_if}
 use Rattle.world_laws.proofs.Heads.{next_same}
 use Rattle.world_laws.proofs.StoryParts.{begins_any}
@@ -43,7 +43,7 @@ prefix_events xs ys h = (events_of h.0, ap events_of h.1 ∙ events_joined xs h.
 -- ---- one story
 
 module _ (w : Program) (c : Call) (tail rest : List Event) (g : Outcome) (story : events_of (protocol_story w (g ∷ [])) ≡ (called c ∷ tail) ++ rest) (one : calls_among tail ≡ 0)
-    (only : (o : Outcome) (lines : List AnswerLine) (ds : List Device) → Meets w c.import c.args w.answers [] o lines ds → o ≡ g) where
+    (only : (o : Outcome) (lines : List AnswerLine) (ds : List Device) → Meets w c.import c.args (answers_from w.answers w.origin) [] o lines ds → o ≡ g) where
   abbrev events : List Event
   events = called c ∷ tail
 
@@ -68,10 +68,10 @@ module _ (w : Program) (c : Call) (tail rest : List Event) (g : Outcome) (story 
           (next_same w [] (g ∷ []) os [] y x (ys ++ more) n refl is e).0 ∙ here
 
   -- so it meets that outcome
-  meets_it : (x : Note) (xs : List Note) (o : Outcome) (os : List Outcome) (lines : List AnswerLine) → x.event ≡ called c → CallsMeet w (x ∷ xs) (o ∷ os) w.answers [] [] lines [] → o ≡ g
+  meets_it : (x : Note) (xs : List Note) (o : Outcome) (os : List Outcome) (lines : List AnswerLine) → x.event ≡ called c → CallsMeet w (x ∷ xs) (o ∷ os) (answers_from w.answers w.origin) [] [] lines [] → o ≡ g
   meets_it x xs o os lines is meets =
-      let m : NoteMeets w (Some c) (o ∷ os) w.answers [] (λ q l d. CallsMeet w xs q l d [] lines []) =
-      subst (λ (v : Event). NoteMeets w (call_in v) (o ∷ os) w.answers [] (λ q l d. CallsMeet w xs q l d [] lines [])) is meets in
+      let m : NoteMeets w (Some c) (o ∷ os) (answers_from w.answers w.origin) [] (λ q l d. CallsMeet w xs q l d [] lines []) =
+      subst (λ (v : Event). NoteMeets w (call_in v) (o ∷ os) (answers_from w.answers w.origin) [] (λ q l d. CallsMeet w xs q l d [] lines [])) is meets in
       let same : o ∷ os ≡ m.0 ∷ m.1 = m.4 in
       let head : o ≡ m.0 = cc in
       head ∙ only m.0 m.2 m.3 m.5
@@ -80,7 +80,7 @@ module _ (w : Program) (c : Call) (tail rest : List Event) (g : Outcome) (story 
   tells_first [] b = (rest, (events ++ rest, refl))
   tells_first (x ∷ xs) b = by b.outcomes b.meets b.begins
     where
-      by : (os : List Outcome) → CallsMeet w (x ∷ xs) os w.answers [] [] b.lines [] → ((more : List Outcome) → IsPrefix (x ∷ xs) (protocol_story w (os ++ more)))
+      by : (os : List Outcome) → CallsMeet w (x ∷ xs) os (answers_from w.answers w.origin) [] [] b.lines [] → ((more : List Outcome) → IsPrefix (x ∷ xs) (protocol_story w (os ++ more)))
           → (rest : List Event) × IsPrefix (events_of (x ∷ xs)) (events ++ rest)
       by [] meets begins = (rest, subst (IsPrefix (events_of (x ∷ xs))) story (prefix_events (x ∷ xs) (protocol_story w (g ∷ [])) (begins (g ∷ []))))
       by (o ∷ os) meets begins =

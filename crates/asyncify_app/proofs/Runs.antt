@@ -29,7 +29,7 @@ use Rattle.wa_model.specs.declared.answers.Said.{Said}
 use Rattle.wa_model.specs.Plan.{Outcome, given}
 use Rattle.wa_model.specs.Protocol.{Protocol}
 use Rattle.wa_model.specs.World as W
-use Rattle.wa_model.specs.World.{Look, MeetsLine, import_names, name_at, name_if, protocol_story, unless_over}
+use Rattle.wa_model.specs.World.{Look, MeetsLine, at_start, import_names, name_at, name_if, protocol_story, unless_over}
 use Rattle.host_laws.specs.Answering.{IsShort}
 use Rattle.pause_host.specs.Moves.{HasShortPokes}
 use Rattle.host_setup.specs.Views.{Blames, entry_of}
@@ -76,6 +76,7 @@ with_parts p globals entries funcs area listed steps answers = record {
   answers = answers;
   binds = [];
   looks = [];
+  origin = at_start;
 }
 
 pub is_run_program : (n : ℕ) (p : Module) (x : Plan) (funcs : List ℕ) → PlansRun p x → funcs ≡ n ∷ [] → world_program x funcs [] [] ≡ run_program n p
@@ -252,7 +253,7 @@ module _ (w : W.Program) (used value : ℕ) (first : TellsFirst w (pauses_once u
 
 -- with so many steps
 abbrev program_with : (n steps : ℕ) → Module → W.Program
-program_with n steps p = record { source = p; plan = run_plan n; steps = steps; answers = sleep_answer ∷ []; binds = []; looks = [] }
+program_with n steps p = record { source = p; plan = run_plan n; steps = steps; answers = sleep_answer ∷ []; binds = []; looks = []; origin = at_start }
 
 names_are : (n : ℕ) (p : Module) → p.imports ≡ (generated n).imports → import_names p ≡ codes "env.sleep" ∷ []
 unfolding generated

@@ -5,6 +5,7 @@ use Rattle.wa_model.specs.Outside.{AnswerLine}
 use Rattle.wa_model.specs.Blocking.{Note, events_of}
 use Rattle.wa_model.specs.Rewrites.{Rewrites}
 use Rattle.wa_model.specs.World as W
+use Rattle.wa_model.specs.World.{at_start}
 use Rattle.host_laws.specs.Stories.{IsStory}
 use Rattle.gen_module.specs.Generated.{generated}
 use Rattle.gen_module.specs.GeneratedRuns.{all_listed, pauses_once, run_plan, value_of_func, wakes}
@@ -16,7 +17,7 @@ sleep_answer = record { import = codes "env.sleep"; answer = wakes }
 -- The program over a module whose last function, of index n, is exported as `run`: that is entered with 7. The area is a whole
 -- page, the one import is listed, one answer is given, and there are 100,000,000 steps.
 abbrev pub run_program : (n : ℕ) → Module → W.Program
-run_program n p = record { source = p; plan = run_plan n; steps = 100000000; answers = sleep_answer ∷ []; binds = []; looks = [] }
+run_program n p = record { source = p; plan = run_plan n; steps = 100000000; answers = sleep_answer ∷ []; binds = []; looks = []; origin = at_start }
 
 -- The program's story has one pause, with so many bytes of the area used, and one return, of this value; then it is done.
 pub record PausesOnce (w : W.Program) (used value : ℕ) : Type 0 where

@@ -32,6 +32,8 @@ stands_in x y listed h =
       answers = refl;
       binds = ap (λ (imports : List Import). Rattle.script_setup.specs.Bindings.bound_imports imports y.text.binds) rw_of.parts.imports;
       looks = refl;
+      start = refl;
+      original_start = refl;
     }
 
 all_stand_in : (files : Option Files) (xs : List Source) (ys : List Part) → All (IsStage Host files) ys → AllZip IsHosted xs ys → AllZip StandsIn (hosted_originals xs ys) (world_programs ys)

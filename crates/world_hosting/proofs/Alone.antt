@@ -44,8 +44,8 @@ alone_text_told parts detaches old new text told i x there unbound = (
     at = slice_get-map world_program parts i ∙ ap (option_map world_program) there
 
     own : ProtocolWorld (world_program x ∷ []) [] [] (own_lines i told.lines) []
-    own = own_lines_alone (world_programs parts) detaches (devices_of old) (devices_of new) told.lines i (world_program x) at unbound told.world
+    own = own_lines_alone 0 (world_programs parts) detaches (devices_of old) (devices_of new) told.lines i (world_program x) at unbound told.world
 
     same : (last : List Device) (lines : List Line) → ProtocolWorld (world_program x ∷ []) [] [] lines last → lines ≡ own_lines i told.lines
     same last lines world =
-        (unbound_fix_lines (world_program x ∷ []) [] [] last [] lines (own_lines i told.lines) (All-cons Unbound (world_program x) [] unbound (All-nil Unbound)) world own).0
+        (unbound_fix_lines 0 (world_program x ∷ []) [] [] last [] lines (own_lines i told.lines) (All-cons Unbound (world_program x) [] unbound (All-nil Unbound)) world own).0

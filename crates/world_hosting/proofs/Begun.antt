@@ -26,7 +26,7 @@ unhosted (x ∷ xs) = ap (λ (l : List Program). x ∷ l) (unhosted xs)
 
 pub begins_nothing : (ws : List W.Program) (shows : List Show) (xs : List Program) (detaches : List Detach) (ds : List Device) → AreSetUp ws shows xs → BeginsWorld ws detaches ds []
 begins_nothing ws shows xs detaches ds set =
-    told_begins ws detaches ds ds 0 [] (map starting ws) (refl, refl, refl) (zipped OnStory ws (map starting ws) (length-map ws starting) each)
+    told_begins 0 ws detaches ds ds 0 [] (map starting ws) (refl, refl, refl) (zipped OnStory ws (map starting ws) (length-map ws starting) each)
   where
     each : (i : ℕ) (w : W.Program) (t : Teller) → slice_get ws i ≡ Some w → slice_get (map starting ws) i ≡ Some t → OnStory w t
     each i w t ew et =

@@ -360,7 +360,7 @@ starts_lawful w a held meets =
     let t = meets.2 in
     let few : new_calls (protocol_story w a.outcomes) ≤ length a.outcomes =
     few_calls _ _ (length t.0) (length meets.0) (ap new_calls (sym held.story) ∙ sym t.2) (ap length t.1 ∙ length-append t.0 meets.0) in
-    subst (Goes a.outcomes) (sym held.story) (story_told w a.outcomes, inr (story_ends w a.outcomes few))
+    subst (Goes a.outcomes) (sym held.story) (story_told w a.outcomes, story_ends w a.outcomes few)
   where
     few_calls : (calls all used left : ℕ) → calls ≡ used → all ≡ used + left → calls ≤ all
     few_calls calls all used left e f = omega (arith, e, f)

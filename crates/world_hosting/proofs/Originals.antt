@@ -102,6 +102,8 @@ module _ (x : Source) (y : Part) (is : IsRewritten x y) where
     answers = refl;
     binds = ap (λ (imports : List Import). bound_imports imports y.text.binds) is.rewrites.parts.imports;
     looks = refl;
+    start = refl;
+    original_start = refl;
   }
 
   pub orderly : (a : Actor) → StaysOff o a → Orderly o (met a)

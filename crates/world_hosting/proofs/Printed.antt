@@ -362,6 +362,8 @@ module _ {X : Type 0} {F : X → Type 0} (f : (x : X) × F x → Device) (g : (x
     each = told.each;
     dues = told.dues;
     detaches_are = told.detaches_are;
+    earlier_is = told.earlier_is;
+    begun_is = told.begun_is;
     at = subst (λ (l : List Device). StandsAt memory_of programs detaches ds lines told.tellers (held_of h.turns) l h.turns.stage) is told.at;
   }
 

@@ -5,7 +5,7 @@ use Rattle.std.proofs.lemmas.Bool.Decides.{nat_tests}
 use Rattle.std.proofs.lemmas.List.{append-nil, length-map, map_more}
 use Rattle.std.proofs.lemmas.List.Elements.{filter_map-append}
 use Rattle.wa_model.specs.World as W
-use Rattle.wa_model.specs.World.{Look}
+use Rattle.wa_model.specs.World.{Look, at_start}
 use Rattle.event_order.specs.declared.shows.Show.{Show}
 use Rattle.event_order.specs.Looks.{looks_of}
 use Rattle.event_order.specs.Looks as E
@@ -60,7 +60,7 @@ later_looks n k (s ∷ ss) h =
 -- ---- programs
 
 abbrev StartsAs : (number : ℕ) → List Show → W.Program → Program → Type 0
-StartsAs number shows w x = Follows w [] [] x × (lines_left x ≡ w.answers) × (w.looks ≡ looks_of number shows)
+StartsAs number shows w x = Follows w [] [] x × (lines_left x ≡ w.answers) × (w.looks ≡ looks_of number shows) × (w.origin ≡ at_start)
 
 one_set_up : (n : ℕ) (p : Part) (s : Staged) (ss : List Staged) → IsStaged p s → StartsAs n (shows_from n (s ∷ ss)) (world_program p) s.program
 one_set_up n p s ss h =
@@ -68,7 +68,7 @@ one_set_up n p s ss h =
     ap (map look_at) (sym h.shows) ∙ sym (own_looks n s.shows.items) ∙ sym (append-nil (looks_of n (map (show_at n) s.shows.items)))
     ∙ ap (λ (l : List Look). looks_of n (map (show_at n) s.shows.items) ++ l) (sym (later_looks (suc n) n ss (omega arith)))
     ∙ sym (filter_map-append (E.look_at n) (map (show_at n) s.shows.items) (shows_from (suc n) ss)) in
-    (h.follows, h.answers, looks)
+    (h.follows, h.answers, looks, refl)
 
 abbrev programs_of : List Staged → List Program
 programs_of ss = map (λ (s : Staged). s.program) ss
@@ -91,7 +91,7 @@ each_set_up n (p ∷ ps) (s ∷ ss) h (suc i) w x ew ex =
     filter_map-append (E.look_at (n + suc i)) (map (show_at n) s.shows.items) (shows_from (suc n) ss)
     ∙ ap (λ (l : List Look). l ++ looks_of (n + suc i) (shows_from (suc n) ss)) (other_looks n (n + suc i) s.shows.items (lower_number n (n + suc i) (omega arith)))
     ∙ ap (λ (k : ℕ). looks_of k (shows_from (suc n) ss)) (sym further) in
-    (more.0, more.1, more.2 ∙ sym looks)
+    (more.0, more.1, more.2 ∙ sym looks, more.3)
 
 same_length : (ps : List Part) (ss : List Staged) → AreStaged ps ss → length ss ≡ length ps
 same_length [] [] h = refl

@@ -12,6 +12,7 @@ use Rattle.wa_model.specs.Plan.{Entry}
 use Rattle.script_model.specs.Script.{ProgramText}
 use Rattle.wa_model.specs.View.{answer_line_of}
 use Rattle.wa_model.specs.World as W
+use Rattle.wa_model.specs.World.{at_start}
 use Rattle.host_setup.specs.SetUp.{NamedEntry, Fault, set_up}
 use Rattle.host_setup.specs.Views.{Blames, entry_of as named_entry_of}
 use Rattle.host_setup.specs.declared.faults.SetupFault.{SetupFault}
@@ -94,6 +95,7 @@ module _ (t : ProgramText) (made : SetUpValue) (x : Plan) (of : IsPlanOf t made 
     answers = answers;
     binds = bindings (source_of x) t.binds;
     looks = map look_at t.shows;
+    origin = at_start;
   }
 
   abbrev told_program : W.Program

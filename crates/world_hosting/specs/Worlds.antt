@@ -8,7 +8,7 @@ use Rattle.wa_model.specs.Outside.{AnswerLine, Line}
 use Rattle.wa_model.specs.Plan.{AnswerFits, Outcome}
 use Rattle.script_model.specs.Script.{EntryText, GlobalText, ProgramText, ShowText}
 use Rattle.script_model.specs.Transcript.{Names, Transcript, event_lines}
-use Rattle.wa_model.specs.World.{Device, Look, Program, ProtocolWorld}
+use Rattle.wa_model.specs.World.{Device, Look, Program, ProtocolWorld, at_start}
 use Rattle.event_order.specs.Left.{Counted}
 use Rattle.pause_host.specs.Moves.{HasShortPokes}
 use Rattle.pause_host.specs.Settings.{calls_of}
@@ -58,7 +58,7 @@ part p listed t s = record { source = p; listed = listed; text = t; given = s }
 abbrev pub look_at : ShowText → Look
 look_at s = record { at = s.at; len = s.len }
 
--- the program of a world that it is
+-- the program of a world that it is, from its start on
 abbrev pub world_program : Part → Program
 world_program x = record {
   source = x.source;
@@ -67,6 +67,7 @@ world_program x = record {
   answers = x.text.answers;
   binds = bindings x.source x.text.binds;
   looks = map look_at x.text.shows;
+  origin = at_start;
 }
 
 -- the names of its lines

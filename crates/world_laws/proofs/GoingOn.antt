@@ -25,7 +25,7 @@ calls_end xs y c more e =
     omega arith
 
 -- a story that is told whole by its first calls is so whatever outcomes stand behind those
-whole_alone : (w : Program) (pre tail : List Outcome) (done : List Note) → new_calls done ≡ length pre → protocol_story w (pre ++ tail) ≡ done → protocol_story w pre ≡ done
+pub whole_alone : (w : Program) (pre tail : List Outcome) (done : List Note) → new_calls done ≡ length pre → protocol_story w (pre ++ tail) ≡ done → protocol_story w pre ≡ done
 whole_alone w pre tail done count e = by_way (story_forks w pre tail)
   where
     by_way : (protocol_story w (pre ++ tail) ≡ protocol_story w pre) ⊎ StoryForks tail (length pre) (protocol_story w (pre ++ tail)) (protocol_story w pre) → protocol_story w pre ≡ done
@@ -36,7 +36,7 @@ whole_alone w pre tail done count e = by_way (story_forks w pre tail)
         let c = f.count in
         let no_way : ⊥ = omega arith in absurd no_way
 
-whole_any : (w : Program) (pre other : List Outcome) (done : List Note) → new_calls done ≡ length pre → protocol_story w pre ≡ done → protocol_story w (pre ++ other) ≡ done
+pub whole_any : (w : Program) (pre other : List Outcome) (done : List Note) → new_calls done ≡ length pre → protocol_story w pre ≡ done → protocol_story w (pre ++ other) ≡ done
 whole_any w pre other done count e = by_way (story_forks w pre other)
   where
     by_way : (protocol_story w (pre ++ other) ≡ protocol_story w pre) ⊎ StoryForks other (length pre) (protocol_story w (pre ++ other)) (protocol_story w pre)

@@ -27,10 +27,10 @@ stories_untold o w os st may fits enough ord =
     let calls = ap new_calls same ∙ told_calls n (Protocol w.source plan os n) in
     let few : new_calls (Protocol w.source plan os n).events ≤ length os = omega arith in
     subst (λ (story : List Note). (notes : List Note) × BlockingStory o.settings o.program os notes × AllZip (SameMoment (global_space o.program.source) plan.area) notes story) (sym same)
-    (told o w.source os which
+    (told o os w.source which
     (λ k le. behaves_untold m o.settings w.source st.rewrites.behaves may.well_formed which ord.tells plan os k (compared_lower m o.settings w.source which plan os n k le compared)
     (pauses_lower m o.settings which plan os n k le ord.numbered))
-    (Protocol w.source plan os n).last refl (protocol_tells w.source plan os n) few)
+    (protocol_tells w.source plan os n) few)
 
 may_plainly : (o : Original) → MayRunUntold o → Plain o
 may_plainly o may = let area = may.fits.area in record { least = area.least; answers = may.answers; looks = may.looks }

@@ -107,6 +107,7 @@ next-requires-clause-tells g c =
     let t = so_far.told in
     let ds = devices_of (counted (λ z. (goal.Device-dyn g z).seen z.1) (λ z. (goal.Device-dyn g z).faults z.1) c.args.devices.now) in
     record {
+      begun = 0;
       programs = world_programs b.parts;
       detaches = b.detaches;
       devices = ds;
