@@ -51,6 +51,8 @@ mod snapshots;
 #[cfg(test)]
 mod texts;
 #[cfg(test)]
+mod thawing;
+#[cfg(test)]
 mod trees;
 #[cfg(test)]
 mod validating;
