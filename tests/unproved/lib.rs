@@ -51,8 +51,6 @@ mod snapshots;
 #[cfg(test)]
 mod texts;
 #[cfg(test)]
-mod thawing;
-#[cfg(test)]
 mod trees;
 #[cfg(test)]
 mod validating;
