@@ -9,6 +9,7 @@ pub mod Exports
 pub mod Ledgers
 pub mod Originals
 pub mod Printed
+pub mod PutBack
 pub mod ScriptPlans
 pub mod ScriptPrograms
 pub mod SetUp

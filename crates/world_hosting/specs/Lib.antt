@@ -5,6 +5,7 @@ pub mod FaultCounts
 pub mod Laws
 pub mod OriginalRuns
 pub mod Parted
+pub mod Resuming
 pub mod ToldAlone
 pub mod Views
 pub mod Worlds

@@ -20,6 +20,7 @@
 //!   and `host_programs`.
 //! - `laws`: scripts can be staged.
 //! - `originals_told`, `told_alone`, `fault_counts`, `device_logs`: the laws above.
+//! - `resuming`: programs that stand for the records of a snapshot.
 #![tactic(auto)]
 
 mod device_logs;
@@ -27,6 +28,7 @@ mod fault_counts;
 mod laws;
 mod originals_told;
 mod parting;
+mod resuming;
 mod staging;
 mod telling;
 mod told_alone;
@@ -35,6 +37,7 @@ pub use device_logs::told_devices_are_logged;
 pub use fault_counts::told_faults_are_counted;
 pub use laws::{scripts_fit, scripts_in_range};
 pub use originals_told::{told_of_originals, told_programs_end_as_originals};
+pub use resuming::records_are_resumed;
 pub use staging::{Staged, stage_program};
 pub use telling::host_programs;
 pub use told_alone::unbound_programs_are_told_alone;

@@ -119,7 +119,7 @@ recorded (w ∷ ws) (r ∷ rs) (suc i) v e = recorded ws rs i v e
 -- ---- actors that are over
 
 -- the same actor, or both have nothing to come
-abbrev Stays : Actor → Actor → Type 0
+abbrev pub Stays : Actor → Actor → Type 0
 Stays a b = (b ≡ a) ⊎ ((a.notes ≡ []) × (b.notes ≡ []))
 
 none_comes : (a : Actor) → a.notes ≡ [] → HasNotes a → ⊥
@@ -160,7 +160,7 @@ stays_set (c ∷ p) (d ∷ q) (suc i) a h = (h.0, stays_set p q i a h.1)
 stays_set [] (d ∷ q) i a h = absurd h
 stays_set (c ∷ p) [] i a h = absurd h
 
-stays_over : (p q : List Actor) → AllZip Stays p q → IsOver p → IsOver q
+pub stays_over : (p q : List Actor) → AllZip Stays p q → IsOver p → IsOver q
 stays_over [] [] h all = all
 stays_over (c ∷ p) (d ∷ q) h all = All-cons (λ (z : Actor). z.notes ≡ []) d q (by h.0) (stays_over p q h.1 (All-tail (λ (z : Actor). z.notes ≡ []) c p all))
   where
@@ -200,7 +200,7 @@ module _ (ws : List Program) (rs : List ProgramRecord) (detaches : List Detach) 
         subst (λ (z : List Actor). AllZip Stays z (slice_set q play.i a)) (sym play.after) (stays_set p q play.i a h),
       )
 
-  events_from : (number : ℕ) (p q last : List Actor) (ds ds' : List Device) (lines : List Line) → AllZip Stays p q → Events (from_records ws rs) detaches number p ds lines last ds'
+  pub events_from : (number : ℕ) (p q last : List Actor) (ds ds' : List Device) (lines : List Line) → AllZip Stays p q → Events (from_records ws rs) detaches number p ds lines last ds'
       → (end : List Actor) × Events ws detaches number q ds lines end ds' × AllZip Stays last end
   events_from number p q last ds ds' lines h no_event = (q, no_event, h)
   events_from number p q last ds ds' lines h (an_event {actors' = mid} {ds' = es} {lines = first} {more = more} play rest e) =
@@ -211,22 +211,22 @@ module _ (ws : List Program) (rs : List ProgramRecord) (detaches : List Detach) 
 -- ---- the second world's actors behind the first
 
 -- one that is over has the tick and the answer lines that it had
-abbrev fitted : ProgramRecord → (now next : Actor) → Actor
+abbrev pub fitted : ProgramRecord → (now next : Actor) → Actor
 fitted fresh now next = next
 fitted (paused due x memory) now next = next
 fitted over now next = record { due = now.due; notes = []; outcomes = next.outcomes; answers = now.answers }
 
-fitted_stays : (w : Program) (r : ProgramRecord) (now next : Actor) → StartsHeld (from_record w r) next → Stays next (fitted r now next)
+pub fitted_stays : (w : Program) (r : ProgramRecord) (now next : Actor) → StartsHeld (from_record w r) next → Stays next (fitted r now next)
 fitted_stays w fresh now next h = inl refl
 fitted_stays w (paused due x memory) now next h = inl refl
 fitted_stays w over now next h = inr (h.story, refl)
 
-fitted_notes : (w : Program) (r : ProgramRecord) (now next : Actor) → StartsHeld (from_record w r) next → (fitted r now next).notes ≡ protocol_story (from_record w r) (fitted r now next).outcomes
+pub fitted_notes : (w : Program) (r : ProgramRecord) (now next : Actor) → StartsHeld (from_record w r) next → (fitted r now next).notes ≡ protocol_story (from_record w r) (fitted r now next).outcomes
 fitted_notes w fresh now next h = h.story
 fitted_notes w (paused due x memory) now next h = h.story
 fitted_notes w over now next h = refl
 
-fitted_outcomes : (r : ProgramRecord) (now next : Actor) → (fitted r now next).outcomes ≡ next.outcomes
+pub fitted_outcomes : (r : ProgramRecord) (now next : Actor) → (fitted r now next).outcomes ≡ next.outcomes
 fitted_outcomes fresh now next = refl
 fitted_outcomes (paused due x memory) now next = refl
 fitted_outcomes over now next = refl
@@ -238,7 +238,7 @@ fitted_due w (paused due x memory) made met now next h s = let z = s.starts in (
 fitted_due w over made met now next h s = (refl, refl)
 
 -- the record, with what the actor has made and met since
-again_so : (w : Program) (was now : Actor) (r : ProgramRecord) → IsRecordOf w was now r → (s : Since was now) → StandsSo w s.made s.used now r
+pub again_so : (w : Program) (was now : Actor) (r : ProgramRecord) → IsRecordOf w was now r → (s : Since was now) → StandsSo w s.made s.used now r
 again_so w was now r h s =
     let made : h.made ≡ s.made = front_same h.made s.made now.notes (sym h.notes ∙ s.notes) in
     let met : h.met ≡ s.used = front_same h.met s.used now.outcomes (sym h.outcomes ∙ s.outcomes) in
