@@ -1,5 +1,5 @@
 -- Devices with their counts, at a line.
-use Rattle.std.proofs.Common.{arith, ◌≡◌, ◌⊎◌, ◌+◌, inl, inr, ℕ, suc, List, [], ◌∷◌, ◌++◌, length, map, Option, Some, None, Bool, true, false, if◌then◌else◌, nat_eq, slice_get, refl, sym, ap, ◌∙◌, subst, append-nil}
+use Rattle.std.proofs.Common.{arith, ◌≡◌, ◌⊎◌, ◌+◌, inl, ℕ, suc, List, [], ◌∷◌, ◌++◌, length, map, Option, Some, None, Bool, true, false, if◌then◌else◌, nat_eq, slice_get, refl, sym, ap, ◌∙◌, subst, append-nil}
 use Rattle.std.proofs.lemmas.Bool.Decides.{nat_tests}
 use Rattle.std.proofs.lemmas.Option.{same_Some, slice_get_within}
 use Rattle.wa_model.specs.declared.answers.Detach.{Detach}

@@ -1,18 +1,17 @@
 -- How many lines a host tells: no more than its programs' steps make, and those of its shows.
-use Rattle.std.proofs.Common.{arith, ◌≡◌, ◌≤◌, ◌<◌, ℕ, zero, suc, ◌+◌, ◌*◌, List, [], ◌∷◌, ◌++◌, length, length-append, map, drop, Option, Some, None, Bool, true, false, cond, slice_get, slice_set, refl, sym, ap, ◌∙◌, subst}
+use Rattle.std.proofs.Common.{arith, ◌≡◌, ◌≤◌, ◌<◌, ℕ, zero, suc, ◌+◌, ◌*◌, List, [], ◌∷◌, ◌++◌, length, length-append, map, drop, Some, None, Bool, true, false, cond, slice_get, slice_set, refl, sym, ap, ◌∙◌}
 use Rattle.std.specs.Prelude.{nat_eq}
-use Rattle.std.specs.List.{cons_option, filter_map}
+use Rattle.std.specs.List.{cons_option}
 use Rattle.std.proofs.lemmas.Bool.{eqb-true, ne_eqb}
 use Rattle.std.proofs.lemmas.List.{length-map}
 use Rattle.std.proofs.lemmas.Option.{slice_get_within}
 use Rattle.wa_model.specs.declared.answers.Detach.{Detach}
-use Rattle.wa_model.specs.Outside.{AnswerLine, Line}
-use Rattle.wa_model.specs.Plan.{Outcome}
+use Rattle.wa_model.specs.Outside.{Line}
 use Rattle.wa_model.specs.Blocking.{Note, events_of}
-use Rattle.wa_model.specs.World.{Device, Look, Program, events_with_looks, line_at}
+use Rattle.wa_model.specs.World.{Device, Program, events_with_looks, line_at}
 use Rattle.pause_host.proofs.Advancing.{begins_of_follows}
 use Rattle.event_order.specs.declared.shows.Show.{Show}
-use Rattle.event_order.specs.Looks.{look_at, look_of, looks_of}
+use Rattle.event_order.specs.Looks.{look_of, looks_of}
 use Rattle.many_host.specs.Hosts.{HostTold, follows, has_ended, memory_of}
 use Rattle.many_host.specs.Notes.{TellsOnFrom}
 use Rattle.many_host.specs.Standing.{Held, Holds, StandingFrom, StandsAtFrom, has_gone, held_of, looks_at, on_its_way}

@@ -1,15 +1,14 @@
 -- How many turns have begun among several programs: fewer than 2^31 since they were held.
-use Rattle.std.proofs.Common.{arith, ◌≡◌, ◌≤◌, ◌<◌, ℕ, zero, suc, ◌+◌, ◌*◌, ◌^◌, List, [], ◌∷◌, ◌++◌, length, map, Option, Some, None, Bool, true, false, slice_get, slice_set, refl, sym, ap, ◌∙◌, subst}
+use Rattle.std.proofs.Common.{arith, ◌≡◌, ◌≤◌, ◌<◌, ℕ, zero, suc, ◌+◌, ◌*◌, ◌^◌, List, [], ◌∷◌, ◌++◌, length, map, Some, Bool, true, false, slice_get, slice_set, refl, ap}
 use Rattle.std.specs.Prelude.{MatchBool}
 use Rattle.std.proofs.lemmas.Option.{slice_get_within}
 use Rattle.wa_model.specs.declared.answers.Detach.{Detach}
-use Rattle.wa_model.specs.Outside.{AnswerLine, Line}
-use Rattle.wa_model.specs.Plan.{Outcome}
+use Rattle.wa_model.specs.Outside.{Line}
 use Rattle.wa_model.specs.Blocking.{Note}
 use Rattle.wa_model.specs.World.{Device, Program, ends_turn}
 use Rattle.pause_host.proofs.Advancing.{begins_of_follows}
 use Rattle.many_host.specs.Hosts.{follows, has_ended, memory_of}
-use Rattle.many_host.specs.Notes.{GoesOn, TellsOnFrom}
+use Rattle.many_host.specs.Notes.{TellsOnFrom}
 use Rattle.many_host.specs.Standing.{Held, Holds, IsTelling, StandingFrom, StandsAtFrom, has_gone, on_its_way}
 use Rattle.many_host.specs.Turns.{EndsOnce, Teller, TellsFrom, TellsTurn, behind, having_told, since, starting}
 use Rattle.many_host.specs.declared.hosted.Hosted.{Hosted}

@@ -1,5 +1,5 @@
 -- Events behind others, by their numbers.
-use Rattle.std.proofs.Common.{arith, ◌≡◌, ◌≤◌, ◌+◌, ◌-◌, ℕ, zero, suc, refl, sym, ap, ◌∙◌}
+use Rattle.std.proofs.Common.{arith, ◌≡◌, ◌+◌, ℕ, zero, suc, refl, sym, ap, ◌∙◌}
 use Rattle.many_host.specs.Turns.{behind, since}
 
 pub sum_behind : (begun count : ℕ) → behind begun count ≡ begun + count

@@ -1,9 +1,9 @@
 -- Of which programs something is to come.
-use Rattle.std.proofs.Common.{◌≡◌, ℕ, ◌-◌, ◌⊎◌, inl, inr, List, [], ◌∷◌, ◌++◌, length, Option, Some, None, true, false, refl, sym, ap, ◌∙◌, append-nil, arith}
+use Rattle.std.proofs.Common.{◌≡◌, ℕ, ◌-◌, inl, inr, List, [], ◌∷◌, ◌++◌, length, Option, Some, None, true, false, refl, sym, ap, ◌∙◌, append-nil, arith}
 use Rattle.std.specs.Prelude.{is_none, slice_get}
 use Rattle.wa_model.specs.Machine.{Ran, after, still}
 use Rattle.wa_model.specs.Plan.{Entry, Outcome}
-use Rattle.wa_model.specs.Blocking.{Note, note}
+use Rattle.wa_model.specs.Blocking.{Note}
 use Rattle.wa_model.specs.Protocol.{Held, free, starting, busy, calling, aside, entering, over, exports_of, held_continued, Protocol}
 use Rattle.wa_model.specs.World.{Halt, Origin, at_start, gone, at_pause, Program, halted_in, protocol_story, story_from, told_by, unless_over}
 use Rattle.world_laws.proofs.Counting.{Tells, after_tells, protocol_tells}

@@ -1,7 +1,6 @@
 -- How many turns a program's story has: each pause costs eight steps at least, and there is one end.
-use Rattle.std.proofs.Common.{arith, ◌≡◌, ◌≤◌, ◌<◌, ℕ, zero, suc, ◌+◌, ◌-◌, ◌*◌, List, [], ◌∷◌, ◌++◌, length, Option, Some, None, Bool, true, false, cond, refl, sym, ap, ◌∙◌, subst}
-use Rattle.std.specs.Prelude.{nat_lt, nat_eq, if◌then◌else◌, slice_get}
-use Rattle.std.specs.Option.{option_to_list}
+use Rattle.std.proofs.Common.{arith, ◌≡◌, ◌≤◌, ◌<◌, ℕ, zero, suc, ◌+◌, ◌-◌, ◌*◌, List, [], ◌∷◌, ◌++◌, length, Option, Some, None, Bool, true, false, cond, refl, ap}
+use Rattle.std.specs.Prelude.{nat_lt, nat_eq, slice_get}
 use Rattle.std.proofs.lemmas.Bool.{ltb-true}
 use Rattle.wa_types.specs.declared.values.Value.{Value}
 use Rattle.wa_types.specs.Modules.{defined_at, func_imports, func_type_at}
@@ -13,11 +12,11 @@ use Rattle.wa_model.specs.Machine.{Turn, stops, goes, Ran, after, still, pay, ru
 use Rattle.wa_model.specs.Outside.{Answer}
 use Rattle.wa_model.specs.Store.{Store}
 use Rattle.wa_model.specs.Configuration.{Configuration}
-use Rattle.wa_model.specs.Step.{Next, steps, asks, returns, traps, stuck, step, entered}
+use Rattle.wa_model.specs.Step.{Next, steps, asks, returns, traps, stuck, step}
 use Rattle.wa_model.specs.Plan.{Entry, Plan, Outcome, given, refused}
 use Rattle.wa_model.specs.Instantiation.{Opening, fails_as, opens, opening}
-use Rattle.wa_model.specs.Blocking.{Note, call_note, fault_of, pause_of, poked, resumed, done_notes, Task, the_start, an_entry, Left, with_outcomes, all_left, Asker, inside, outermost, store_at, stack_at, in_start, next_entry}
-use Rattle.wa_model.specs.Protocol.{Exports, exports_of, Phase, is_running, unwinds, rewinds, Then, give_zero, test_unwound, pause_there, call_again, test_rewound, give_answer, Held, free, starting, busy, calling, aside, entering, over, protocol, held_continued, broken, held_on, held_back, held_given, held_resumed, held_ends, held_pauses, held_tested, held_asked, busy_step, is_state, aside_back, aside_step, busy_enters, held_next, aside_called, held_start, held_started, held_begun}
+use Rattle.wa_model.specs.Blocking.{Note, call_note, fault_of, pause_of, poked, done_notes, Task, the_start, an_entry, Left, with_outcomes, all_left, Asker, inside, outermost, store_at, stack_at, in_start, next_entry}
+use Rattle.wa_model.specs.Protocol.{Exports, exports_of, Phase, is_running, unwinds, rewinds, Then, give_zero, test_unwound, pause_there, call_again, test_rewound, give_answer, Held, free, starting, busy, calling, aside, entering, over, protocol, held_continued, broken, held_on, held_back, held_given, held_resumed, held_ends, held_pauses, held_tested, held_asked, busy_step, is_state, aside_back, aside_step, busy_enters, held_next, aside_called, held_start, held_begun}
 use Rattle.wa_model.specs.Behaves.{IsPrefix}
 use Rattle.wa_model.specs.World.{Halt, Origin, at_start, gone, at_pause, Program, ends_turn, halted, halted_in, protocol_story, story_from, told_by, unless_over}
 

@@ -1,16 +1,16 @@
 -- Turns that were told are a world: the notes and outcomes that the definition wants beforehand are those that were told, and what is
 -- still to be told behind them.
-use Rattle.std.proofs.Common.{arith, ◌≡◌, ◌<◌, ◌≤◌, ◌+◌, ◌⊎◌, inl, inr, ℕ, zero, suc, List, [], ◌∷◌, ◌++◌, length, get_or, map, Option, Some, None, Bool, true, false, All, slice_get, slice_set, refl, sym, ap, ◌∙◌, subst, append_assoc, length-set}
+use Rattle.std.proofs.Common.{arith, ◌≡◌, ◌<◌, ◌≤◌, ◌+◌, ◌⊎◌, inl, inr, ℕ, zero, suc, List, [], ◌∷◌, ◌++◌, length, get_or, map, Option, Some, Bool, true, false, slice_get, slice_set, refl, sym, ap, ◌∙◌, subst, append_assoc, length-set}
 use Rattle.std.specs.List.{AllZip}
 use Rattle.std.specs.Option.{option_map}
 use Rattle.std.proofs.lemmas.Bool.{cases_eq}
 use Rattle.std.proofs.lemmas.List.{length-map, set-set}
 use Rattle.std.proofs.lemmas.Option.{slice_get-map, slice_get-get_or, slice_get_within, same_Some}
 use Rattle.wa_model.specs.declared.answers.Detach.{Detach}
-use Rattle.wa_model.specs.Outside.{AnswerLine, Line}
+use Rattle.wa_model.specs.Outside.{Line}
 use Rattle.wa_model.specs.Plan.{Outcome}
 use Rattle.wa_model.specs.Blocking.{Note}
-use Rattle.wa_model.specs.World.{Device, Program, Actor, CallsMeet, Plays, IsNext, HasNotes, Starts, StartsHeld, IsOver, detached, turn_of, behind_turn, put_off, line_at, events_with_looks, protocol_story, ProtocolWorldFrom}
+use Rattle.wa_model.specs.World.{Device, Program, Actor, CallsMeet, Plays, IsNext, HasNotes, StartsHeld, IsOver, detached, turn_of, behind_turn, put_off, line_at, events_with_looks, protocol_story, ProtocolWorldFrom}
 use Rattle.event_order.specs.Dues.{HaveEnded}
 use Rattle.world_laws.specs.Played.{ProtocolWorldUpToFrom}
 use Rattle.world_laws.proofs.Played.{as_events, one_more}

@@ -1,21 +1,21 @@
 -- A program tells one note more of its turn.
-use Rattle.std.proofs.Common.{arith, ◌≡◌, ◌⊎◌, inl, inr, ℕ, suc, List, [], ◌∷◌, ◌++◌, map, Option, Some, None, Bool, true, false, if◌then◌else◌, nat_eq, slice_get, slice_set, refl, sym, ap, ◌∙◌, subst, length-set, append_assoc, append-nil}
+use Rattle.std.proofs.Common.{arith, ◌≡◌, ◌⊎◌, inl, inr, ℕ, suc, List, [], ◌∷◌, ◌++◌, map, Option, Some, Bool, true, false, if◌then◌else◌, nat_eq, slice_get, slice_set, refl, sym, ap, ◌∙◌, subst, length-set, append_assoc, append-nil}
 use Rattle.std.proofs.lemmas.Bool.{cases_eq, eq-eqb, ne_eqb}
 use Rattle.std.proofs.lemmas.Option.{same_Some}
 use Rattle.wa_model.specs.declared.answers.Detach.{Detach}
-use Rattle.wa_model.specs.Outside.{AnswerLine, Call, Event, called, answered, paused, returned, ended, shown, Line}
+use Rattle.wa_model.specs.Outside.{AnswerLine, Event, called, answered, paused, returned, ended, shown, Line}
 use Rattle.wa_model.specs.Plan.{Outcome}
 use Rattle.wa_model.specs.Blocking.{Note}
 use Rattle.wa_model.specs.World.{Device, Program, CallsMeet, call_in, ends_turn, is_end, line_at, looks_after}
 use Rattle.event_order.specs.declared.turns.Turn.{Turn}
 use Rattle.event_order.specs.Left.{Counted}
 use Rattle.event_order.specs.Looks.{looks_of}
-use Rattle.many_host.specs.Turns.{MeetMore, Teller, unless, due_of, having_told, since, starting, TellsFrom}
+use Rattle.many_host.specs.Turns.{MeetMore, Teller, unless, due_of, having_told, since, TellsFrom}
 use Rattle.many_host.proofs.Places.{set_here, set_there}
 use Rattle.many_host.specs.Notes.{TellsOnFrom}
 use Rattle.many_host.proofs.Notes.{ends_none, off_none}
 use Rattle.many_host.proofs.Further.{turn_goes_on, turn_ends}
-use Rattle.host_laws.specs.Supplies.{Supply, Takes}
+use Rattle.host_laws.specs.Supplies.{Takes}
 use Rattle.host_laws.proofs.Tellings.{one_more_met}
 use Rattle.many_host.specs.declared.turn_taking.Stage.{Stage}
 use Rattle.many_host.specs.declared.turn_taking.Stage.TheVariants.{Telling}

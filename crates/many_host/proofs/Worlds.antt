@@ -14,7 +14,7 @@ use Rattle.many_host.specs.Notes.{OnStory}
 use Rattle.many_host.proofs.WorldBegun.{BeginsMet, begins_on, lines_begin, turns_begin, turns_whole}
 use Rattle.many_host.specs.declared.turn_taking.Stage.{Stage}
 use Rattle.many_host.specs.declared.turn_taking.Stage.TheVariants.{Between, Telling, Showing}
-use Rattle.many_host.specs.Standing.{AllTold, Held, Holds, StandingFrom, TellsNext, held_of}
+use Rattle.many_host.specs.Standing.{AllTold, Held, StandingFrom, TellsNext, held_of}
 use Rattle.many_host.specs.declared.hosted.Hosted.{Hosted}
 use Rattle.many_host.specs.declared.host.Host.{Host}
 use Rattle.many_host.specs.Hosts.{HostNextFrom, HostTold, HostToldFrom, follows, has_ended, memory_of}

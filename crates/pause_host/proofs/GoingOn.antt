@@ -1,5 +1,5 @@
 -- A program that is put back at a pause goes on as the program of a world that begins there.
-use Rattle.std.proofs.Common.{arith, ◌≡◌, ◌≤◌, ◌<◌, ◌+◌, ◌-◌, ◌*◌, ℕ, suc, List, [], ◌∷◌, map, drop, length, length-drop, Option, Some, None, All, false, refl, sym, ap, ◌∙◌, subst}
+use Rattle.std.proofs.Common.{arith, ◌≡◌, ◌≤◌, ◌<◌, ◌+◌, ◌-◌, ◌*◌, ℕ, suc, List, [], ◌∷◌, map, drop, length, length-drop, Option, Some, All, false, refl, sym, ap, ◌∙◌, subst}
 use Rattle.std.specs.Prelude.{slice_get}
 use Rattle.std.proofs.lemmas.List.{length-map}
 use Rattle.std.proofs.lemmas.List.Elements.{All-drop}
@@ -9,8 +9,7 @@ use Rattle.wa_types.specs.Memory.{page_size}
 use Rattle.wa_types.specs.Modules.{all_memories, func_imports, func_type_at, imported, imported_global}
 use Rattle.wa_types.specs.Syntax.{Module}
 use Rattle.wa_types.specs.Validity.{Valid}
-use Rattle.wa_types.specs.View.{module_of}
-use Rattle.wa_model.specs.Blocking.{Left, bad_value, fault_of}
+use Rattle.wa_model.specs.Blocking.{Left, bad_value}
 use Rattle.wa_model.specs.Instantiation.{least_of}
 use Rattle.wa_model.specs.Outside.{Answer}
 use Rattle.wa_model.specs.Plan as P
@@ -24,7 +23,7 @@ use Rattle.run_theory.proofs.FittingNames.{results_are}
 use Rattle.run_laws.specs.FittingStates.{EntryTyped, HeldFits, SaidTyped}
 use Rattle.run_laws.proofs.Host.{fault_pokes}
 use Rattle.run_laws.proofs.SpotRuns.{or_else_first, said_typed}
-use Rattle.host_laws.specs.Places.{Place, stands}
+use Rattle.host_laws.specs.Places.{stands}
 use Rattle.host_laws.specs.Stories.{IsAt}
 use Rattle.host_laws.proofs.Tellings.{nothing_told_yet}
 use Rattle.host_setup.specs.Views as S
@@ -33,12 +32,11 @@ use Rattle.pause_host.specs.declared.plan.Plan.{Plan}
 use Rattle.pause_host.specs.declared.program.Program.{Program}
 use Rattle.pause_host.specs.declared.stages.HostImport.{HostImport}
 use Rattle.pause_host.specs.declared.stages.Setting.{Setting}
-use Rattle.pause_host.specs.Holding.{HeldHolds, HoldsArea, PlaceHolds, PokesInside}
+use Rattle.pause_host.specs.Holding.{HeldHolds, PlaceHolds, PokesInside}
 use Rattle.pause_host.specs.Moves.{HasShortPokes, IsSetting, PlaceFits}
-use Rattle.pause_host.specs.Programs.{BindsAs, FollowsAt, Follows, IsPlan, lines_left, named_entries, place_of, source_of, world_program}
+use Rattle.pause_host.specs.Programs.{BindsAs, FollowsAt, IsPlan, named_entries, place_of, source_of, world_program}
 use Rattle.pause_host.specs.Settings.{calls_of}
 use Rattle.pause_host.specs.Thawing.{GoesOnFrom, PartsSuit, StandsThawed, halt_of, halted_program, lines_of, tested_plan}
-use Rattle.pause_host.specs.Views.{lines_in}
 use Rattle.pause_host.proofs.Beginning.{calls_few, lawful_area, setting_is}
 use Rattle.pause_host.proofs.Making.{SetUpFine, set_up_fine}
 use Rattle.pause_host.proofs.Thawings.{all_at, inside}

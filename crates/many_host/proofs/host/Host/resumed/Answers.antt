@@ -1,4 +1,4 @@
-use Rattle.std.proofs.Common.{◌∙◌, ap, All, length, map, subst, sym}
+use Rattle.std.proofs.Common.{◌∙◌, ap, All, length, subst, sym}
 use Rattle.std.proofs.lemmas.List.{length-map}
 use Rattle.many_host.specs.Hosts.{dues_left, follows, has_ended}
 use Rattle.many_host.specs.Standing.{AllStart, IsDueBy, most_due}

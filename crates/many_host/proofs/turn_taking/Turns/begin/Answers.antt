@@ -1,6 +1,6 @@
-use Rattle.std.proofs.Common.{◌+◌, ◌*◌, ◌≤◌, arith, All, Some, ap, inl, inr, refl, sym, ◌∙◌, subst, length, List, Option, ℕ}
+use Rattle.std.proofs.Common.{◌+◌, arith, ap, inr, refl, sym, ◌∙◌, subst, length, List, Option, ℕ}
 use Rattle.event_order.specs.Dues.{HaveEnded, IsLeast}
-use Rattle.many_host.specs.Standing.{IsDueBy, held_of, latest, most_ticks}
+use Rattle.many_host.specs.Standing.{held_of, latest}
 use Rattle.many_host.proofs.DueTicks.{due_at, dues_later}
 use Rattle.many_host.proofs.Counts.{are_left, left_began, left_when_begun, line_from}
 use Rattle.many_host.proofs.Beginning.{begun_at, due_within}

@@ -1,4 +1,4 @@
-use Rattle.std.proofs.Common.{arith, ◌*◌, length-set, refl, sym, ◌∙◌, subst}
+use Rattle.std.proofs.Common.{arith, length-set, sym, ◌∙◌, subst}
 use Rattle.std.proofs.lemmas.List.Elements.{All-set}
 use Rattle.wa_model.specs.View.{event_of}
 use Rattle.many_host.specs.Standing.{IsDueBy, PlaceFits, TurnIsDue, held_of, latest}
