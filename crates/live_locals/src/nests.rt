@@ -13,7 +13,7 @@ ghost use Rattle.live_locals.specs.Nests.{AtLoop, Enters, Nest};
 use crate::levels::{broadcast, entered, met};
 use crate::passes::pass_stmt;
 use crate::sizes::loop_sizes;
-use crate::word_passes::pass_stmt as pass_words;
+use crate::word_passes::{LoopAround, WordPass, pass_stmt as pass_words};
 use std::alloc::{AllocError, Global};
 use wa_model::Stmt;
 
@@ -108,17 +108,13 @@ fn begin_nest(
     let mut inside = Vec::new(alloc);
     let mut inner = Vec::new(alloc);
     let sizes = loop_sizes(alloc, stmt)?;
-    pass_words(
+    let pass = WordPass {
         alloc,
-        tos,
-        &mut inner,
-        0,
-        &sizes,
-        0,
-        &mut inside,
-        &mut words,
-        stmt,
-    )?;
+        outer: tos,
+        sizes: &sizes,
+    };
+    let outermost = LoopAround { level: 0, size: 0 };
+    pass_words(pass, &mut inner, outermost, &mut inside, &mut words, stmt)?;
     skip_heads(heads, inside.len().saturating_sub(1));
     put_heads(heads, inside)?;
     take_head(heads);
