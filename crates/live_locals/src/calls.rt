@@ -8,7 +8,8 @@ ghost use Rattle.guard_form.specs.Pieces.{call_total};
 ghost use Rattle.flow_rewrite.specs.Emitting.{Rises};
 ghost use Rattle.live_locals.specs.LiveAt.{LiveAtCalls, lists_of};
 
-use crate::rows::put_body_rows;
+use crate::nests::{Around, Walk};
+use crate::rows::{CallsLeft, put_body_rows};
 use crate::sets::{copied, none_of, read_told};
 use std::alloc::{AllocError, Global};
 use wa_model::{FlatFunc, Stmt};
@@ -70,19 +71,20 @@ pub fn live_at(
     tos.push(copied(alloc, &set)?)?;
     let mut rows = Vec::new(alloc);
     let count = count_calls(&func.body, 0);
-    let mut heads = Vec::new(alloc);
-    put_body_rows(
+    let mut walk = Walk {
         alloc,
-        &mut rows,
+        tos,
+        heads: Vec::new(alloc),
+    };
+    let calls = CallsLeft {
         numbers,
-        count,
-        63,
-        &[],
-        &mut heads,
-        &mut tos,
-        &mut set,
-        &func.body,
-    )?;
+        last: count,
+    };
+    let around = Around {
+        level: 63,
+        reach: &[],
+    };
+    put_body_rows(&mut walk, &mut rows, calls, around, &mut set, &func.body)?;
     rows.reverse();
     Ok(rows)
 }

@@ -10,7 +10,7 @@ ghost use Rattle.live_locals.specs.Nests.{Nest};
 ghost use Rattle.live_locals.specs.Rows.{Countable, RowPut, RowsPut};
 ghost use Rattle.live_locals.specs.Sets.{Passed};
 
-use crate::nests::enter_loop;
+use crate::nests::{Around, Walk, enter_loop};
 use crate::sets::{copied, join, read_operand, read_slots, write_told};
 use crate::steps::{pass_simple, read_taken};
 use std::alloc::{AllocError, Global};
@@ -45,44 +45,39 @@ fn put_row(
     Ok(())
 }
 
-/// Puts the sets of a body's numbered calls, the last call first, and passes over it backwards. `last` is the place behind its
-/// calls; the place of its first call is answered. `level` loops of a nest stand around the body, the worlds in `reach` hold, and
-/// `heads` has entries for the loops in it, the next last.
+/// The calls that are still to come: the places of the numbered ones among all calls, and the place behind the last to come.
+#[derive(Clone, Copy)]
+pub(crate) struct CallsLeft<'a> {
+    pub(crate) numbers: &'a [u32],
+    pub(crate) last: u32,
+}
+
+/// Puts the sets of a body's numbered calls, the last call first, and passes over it backwards. The place of its first call is
+/// answered. The walk has entries for the loops in the body, the next last.
 #[cycle(rows)]
 pub(crate) fn put_body_rows(
-    alloc: Global,
+    walk: &mut Walk,
     rows: &mut Vec<Vec<bool>>,
-    numbers: &[u32],
-    last: u32,
-    level: u32,
-    reach: &[u64],
-    heads: &mut Vec<Option<Vec<u64>>>,
-    tos: &mut Vec<Vec<bool>>,
+    calls: CallsLeft<'_>,
+    around: Around<'_>,
     set: &mut [bool],
     body: &[Stmt],
 ) -> Result<u32, AllocError>
-    requires calls { Countable numbers.now last (stmts body.now) }
-    requires nest { Nest level reach.now tos.old.items set.old (reverse heads.old.items) (stmts body.now) }
-    ensures passed { OnOk result (Passed tos.old.items tos.new.items set.old set.new (code_of (stmts body.now))) }
-    ensures rows { IfOk result (λ first. RowsPut numbers.now tos.old.items set.old (stmts body.now) last first rows.old.items rows.new.items) }
-    ensures heads { OnOk result (reverse heads.new.items ≡ drop (loop_total (stmts body.now)) (reverse heads.old.items)) }
+    requires calls { Countable calls.numbers.now calls.last (stmts body.now) }
+    requires nest { Nest around.level around.reach.now walk.old.tos.items set.old (reverse walk.old.heads.items) (stmts body.now) }
+    ensures passed { OnOk result (Passed walk.old.tos.items walk.new.tos.items set.old set.new (code_of (stmts body.now))) }
+    ensures rows { IfOk result (λ first. RowsPut calls.entry.numbers.now walk.old.tos.items set.old (stmts body.now) calls.entry.last first rows.old.items rows.new.items) }
+    ensures heads { OnOk result (reverse walk.new.heads.items ≡ drop (loop_total (stmts body.now)) (reverse walk.old.heads.items)) }
 {
-    let mut first = last;
+    let mut first = calls.last;
     let mut left = body.len();
     while left > 0 {
         left -= 1;
-        first = put_stmt_rows(
-            alloc,
-            rows,
-            numbers,
-            first,
-            level,
-            reach,
-            heads,
-            tos,
-            set,
-            &body[left],
-        )?;
+        let before = CallsLeft {
+            last: first,
+            ..calls
+        };
+        first = put_stmt_rows(walk, rows, before, around, set, &body[left])?;
     }
     Ok(first)
 }
@@ -90,22 +85,18 @@ pub(crate) fn put_body_rows(
 /// The same of a statement.
 #[cycle(rows)]
 fn put_stmt_rows(
-    alloc: Global,
+    walk: &mut Walk,
     rows: &mut Vec<Vec<bool>>,
-    numbers: &[u32],
-    last: u32,
-    level: u32,
-    reach: &[u64],
-    heads: &mut Vec<Option<Vec<u64>>>,
-    tos: &mut Vec<Vec<bool>>,
+    calls: CallsLeft<'_>,
+    around: Around<'_>,
     set: &mut [bool],
     stmt: &Stmt,
 ) -> Result<u32, AllocError>
-    requires calls { Countable numbers.now last (stmt_in_front stmt.now no_more) }
-    requires nest { Nest level reach.now tos.old.items set.old (reverse heads.old.items) (stmt_in_front stmt.now no_more) }
-    ensures passed { OnOk result (Passed tos.old.items tos.new.items set.old set.new (code_of (stmt_in_front stmt.now no_more))) }
-    ensures rows { IfOk result (λ first. RowsPut numbers.now tos.old.items set.old (stmt_in_front stmt.now no_more) last first rows.old.items rows.new.items) }
-    ensures heads { OnOk result (reverse heads.new.items ≡ drop (loop_total (stmt_in_front stmt.now no_more)) (reverse heads.old.items)) }
+    requires calls { Countable calls.numbers.now calls.last (stmt_in_front stmt.now no_more) }
+    requires nest { Nest around.level around.reach.now walk.old.tos.items set.old (reverse walk.old.heads.items) (stmt_in_front stmt.now no_more) }
+    ensures passed { OnOk result (Passed walk.old.tos.items walk.new.tos.items set.old set.new (code_of (stmt_in_front stmt.now no_more))) }
+    ensures rows { IfOk result (λ first. RowsPut calls.entry.numbers.now walk.old.tos.items set.old (stmt_in_front stmt.now no_more) calls.entry.last first rows.old.items rows.new.items) }
+    ensures heads { OnOk result (reverse walk.new.heads.items ≡ drop (loop_total (stmt_in_front stmt.now no_more)) (reverse walk.old.heads.items)) }
 {
     match stmt {
         Stmt::Call {
@@ -114,37 +105,29 @@ fn put_stmt_rows(
             to,
             ..
         } => {
+            let place = calls.last - 1;
             write_told(set, *to);
-            put_row(alloc, rows, numbers, last - 1, set, stack)?;
+            put_row(walk.alloc, rows, calls.numbers, place, set, stack)?;
             read_taken(set, stack, *args);
-            Ok(last - 1)
+            Ok(place)
         }
         Stmt::Block(body) => {
-            tos.push(copied(alloc, set)?)?;
-            let first = put_body_rows(
-                alloc, rows, numbers, last, level, reach, heads, tos, set, body,
-            )?;
-            tos.pop();
+            walk.tos.push(copied(walk.alloc, set)?)?;
+            let first = put_body_rows(walk, rows, calls, around, set, body)?;
+            walk.tos.pop();
             Ok(first)
         }
         Stmt::Loop(body) => {
-            let mut inner = copied(alloc, set)?;
-            let inside = enter_loop(alloc, tos, set, level, reach, heads, stmt, body)?;
-            let head = copied(alloc, set)?;
-            tos.push(head)?;
-            let first = put_body_rows(
-                alloc,
-                rows,
-                numbers,
-                last,
-                inside.level,
-                &inside.reach,
-                heads,
-                tos,
-                &mut inner,
-                body,
-            )?;
-            tos.pop();
+            let mut inner = copied(walk.alloc, set)?;
+            let inside = enter_loop(walk, set, around, stmt, body)?;
+            let head = copied(walk.alloc, set)?;
+            walk.tos.push(head)?;
+            let within = Around {
+                level: inside.level,
+                reach: &inside.reach,
+            };
+            let first = put_body_rows(walk, rows, calls, within, &mut inner, body)?;
+            walk.tos.pop();
             Ok(first)
         }
         Stmt::If {
@@ -152,22 +135,22 @@ fn put_stmt_rows(
             then_arm,
             else_arm,
         } => {
-            let mut other = copied(alloc, set)?;
-            tos.push(copied(alloc, set)?)?;
-            let middle = put_body_rows(
-                alloc, rows, numbers, last, level, reach, heads, tos, set, else_arm,
-            )?;
-            let first = put_body_rows(
-                alloc, rows, numbers, middle, level, reach, heads, tos, &mut other, then_arm,
-            )?;
-            tos.pop();
+            let mut other = copied(walk.alloc, set)?;
+            walk.tos.push(copied(walk.alloc, set)?)?;
+            let middle = put_body_rows(walk, rows, calls, around, set, else_arm)?;
+            let before = CallsLeft {
+                last: middle,
+                ..calls
+            };
+            let first = put_body_rows(walk, rows, before, around, &mut other, then_arm)?;
+            walk.tos.pop();
             join(set, &other);
             read_operand(set, *cond);
             Ok(first)
         }
         _ => {
-            pass_simple(tos, set, stmt);
-            Ok(last)
+            pass_simple(&walk.tos, set, stmt);
+            Ok(calls.last)
         }
     }
 }

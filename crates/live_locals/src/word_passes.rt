@@ -55,109 +55,98 @@ fn keep_words(
     Ok(())
 }
 
-/// A body is passed over backwards in all worlds. `outer` tells for the labels around the nest of loops what is read first from
-/// their targets on, `inner` for those inside it; `level` loops of the nest stand around the body. For each loop in the body an
-/// entry is put behind `heads`: what is read first from its head on, where that is kept. `sizes` has the sizes of the nest's loops
-/// (`loop_sizes`), and `around` is that of the innermost loop around.
+/// What is the same for a whole pass over a nest of loops: `outer` tells for the labels around the nest what is read first from
+/// their targets on, and `sizes` has the sizes of the nest's loops (`loop_sizes`).
+#[derive(Clone, Copy)]
+pub(crate) struct WordPass<'a> {
+    pub(crate) alloc: Global,
+    pub(crate) outer: &'a [Vec<bool>],
+    pub(crate) sizes: &'a [u32],
+}
+
+/// How many loops of the nest stand around, and the size of the innermost.
+#[derive(Clone, Copy)]
+pub(crate) struct LoopAround {
+    pub(crate) level: u32,
+    pub(crate) size: u32,
+}
+
+/// A body is passed over backwards in all worlds. `inner` tells for the labels inside the nest what is read first from their targets
+/// on. For each loop in the body an entry is put behind `heads`: what is read first from its head on, where that is kept.
 #[cycle(pass)]
 fn pass_body(
-    alloc: Global,
-    outer: &[Vec<bool>],
+    pass: WordPass<'_>,
     inner: &mut Vec<Vec<u64>>,
-    level: u32,
-    sizes: &[u32],
-    around: u32,
+    around: LoopAround,
     heads: &mut Vec<Option<Vec<u64>>>,
     set: &mut [u64],
     body: &[Stmt],
 ) -> Result<(), AllocError>
     requires ops { OpsFit (stmts body.now) }
-    requires fresh { Fresh level outer.now inner.old.items set.old }
-    ensures passed { OnOk result (WordsPassed outer.now inner.old.items inner.new.items set.old set.new (code_of (stmts body.now))) }
-    ensures heads { OnOk result (HeadsPut level outer.now inner.old.items set.old (stmts body.now) heads.old.items heads.new.items) }
+    requires fresh { Fresh around.level pass.outer.now inner.old.items set.old }
+    ensures passed { OnOk result (WordsPassed pass.entry.outer.now inner.old.items inner.new.items set.old set.new (code_of (stmts body.now))) }
+    ensures heads { OnOk result (HeadsPut around.level pass.entry.outer.now inner.old.items set.old (stmts body.now) heads.old.items heads.new.items) }
 {
     let mut left = body.len();
     while left > 0 {
         left -= 1;
-        pass_stmt(
-            alloc,
-            outer,
-            inner,
-            level,
-            sizes,
-            around,
-            heads,
-            set,
-            &body[left],
-        )?;
+        pass_stmt(pass, inner, around, heads, set, &body[left])?;
     }
     Ok(())
 }
 
 /// So is a statement.
 #[cycle(pass)]
-pub fn pass_stmt(
-    alloc: Global,
-    outer: &[Vec<bool>],
+pub(crate) fn pass_stmt(
+    pass: WordPass<'_>,
     inner: &mut Vec<Vec<u64>>,
-    level: u32,
-    sizes: &[u32],
-    around: u32,
+    around: LoopAround,
     heads: &mut Vec<Option<Vec<u64>>>,
     set: &mut [u64],
     stmt: &Stmt,
 ) -> Result<(), AllocError>
     requires ops { OpsFit (stmt_in_front stmt.now no_more) }
-    requires fresh { Fresh level outer.now inner.old.items set.old }
-    ensures passed { OnOk result (WordsPassed outer.now inner.old.items inner.new.items set.old set.new (code_of (stmt_in_front stmt.now no_more))) }
-    ensures heads { OnOk result (HeadsPut level outer.now inner.old.items set.old (stmt_in_front stmt.now no_more) heads.old.items heads.new.items) }
+    requires fresh { Fresh around.level pass.outer.now inner.old.items set.old }
+    ensures passed { OnOk result (WordsPassed pass.entry.outer.now inner.old.items inner.new.items set.old set.new (code_of (stmt_in_front stmt.now no_more))) }
+    ensures heads { OnOk result (HeadsPut around.level pass.entry.outer.now inner.old.items set.old (stmt_in_front stmt.now no_more) heads.old.items heads.new.items) }
 {
     match stmt {
         Stmt::Block(body) => {
-            push_label(alloc, inner, set)?;
-            pass_body(alloc, outer, inner, level, sizes, around, heads, set, body)?;
+            push_label(pass.alloc, inner, set)?;
+            pass_body(pass, inner, around, heads, set, body)?;
             inner.pop();
             Ok(())
         }
         Stmt::Loop(body) => {
             let at = heads.len();
-            let size = size_at(sizes, at);
-            push_loop(alloc, inner, heads, set.len(), level)?;
-            pass_body(
-                alloc,
-                outer,
-                inner,
-                inside(level),
-                sizes,
+            let size = size_at(pass.sizes, at);
+            push_loop(pass.alloc, inner, heads, set.len(), around.level)?;
+            let within = LoopAround {
+                level: inside(around.level),
                 size,
-                heads,
-                set,
-                body,
-            )?;
+            };
+            pass_body(pass, inner, within, heads, set, body)?;
             inner.pop();
-            leave(set, level);
-            keep_words(alloc, heads, at, set, is_kept(level, size, around))
+            leave(set, around.level);
+            let kept = is_kept(around.level, size, around.size);
+            keep_words(pass.alloc, heads, at, set, kept)
         }
         Stmt::If {
             cond,
             then_arm,
             else_arm,
         } => {
-            push_label(alloc, inner, set)?;
-            let mut other = copied(alloc, set)?;
-            pass_body(
-                alloc, outer, inner, level, sizes, around, heads, set, else_arm,
-            )?;
-            pass_body(
-                alloc, outer, inner, level, sizes, around, heads, &mut other, then_arm,
-            )?;
+            push_label(pass.alloc, inner, set)?;
+            let mut other = copied(pass.alloc, set)?;
+            pass_body(pass, inner, around, heads, set, else_arm)?;
+            pass_body(pass, inner, around, heads, &mut other, then_arm)?;
             inner.pop();
             join(set, &other);
             read_operand(set, *cond);
             Ok(())
         }
         _ => {
-            pass_simple(outer, inner, set, stmt);
+            pass_simple(pass.outer, inner, set, stmt);
             Ok(())
         }
     }
