@@ -146,7 +146,7 @@ module _ (x : Plan) (funcs : List ℕ) (looks : List Look) (binds : List (Option
 
   pub follows : (program : Program) → module_of program.valid.now ≡ p → program.globals ≡ x.globals → MakesSetting p x.listed x.binds x.area x.steps program.setting
       → program.left.number ≡ 0 → map entry_of program.left.entries.items ≡ calls_of (named_entries x) funcs
-      → program.answers.items ≡ x.answers.items → program.given ≡ length x.answers.items → program.steps_left ≡ x.steps → program.state ≡ Fresh → Follows w [] [] program
+      → program.left.answers.items ≡ x.answers.items → program.given ≡ length x.answers.items → program.steps_left ≡ x.steps → program.state ≡ Fresh → Follows w [] [] program
   follows program code globals made number entries answers given steps fresh = record {
     at = subst (λ st. FollowsAt w [] [] program (place_of program st)) (sym fresh) at;
     code =

@@ -107,16 +107,16 @@ module _ (w : W.Program) (old : Program) (parts : PausedParts) (size : ℕ) (new
       MatchOption r (Suspends w parts.import size (answer_line_of line) → ⊥)
       (λ (pause : Pause). (pause.entry ≡ entry) × (pause.import ≡ parts.import) × (pause.answer ≡ line.answer) × Suspends w parts.import size (answer_line_of line))
 
-  pub short_at : (line : LineValue) (lines : List LineValue) → drop (parts.answers - 1) old.answers.items ≡ line ∷ lines → All HasShortPokes (lines_left old) → All IsShort (answer_of line.answer).pokes
+  pub short_at : (line : LineValue) (lines : List LineValue) → drop (parts.answers - 1) old.left.answers.items ≡ line ∷ lines → All HasShortPokes (lines_left old) → All IsShort (answer_of line.answer).pokes
   short_at line lines e h =
       all_at HasShortPokes (parts.answers - 1) (lines_left old) (answer_line_of line) h
-      (map_at answer_line_of (parts.answers - 1) old.answers.items line (cons_at (parts.answers - 1) old.answers.items line lines e).0)
+      (map_at answer_line_of (parts.answers - 1) old.left.answers.items line (cons_at (parts.answers - 1) old.left.answers.items line lines e).0)
 
   pub takes : (r : Option Pause) (entry : EntryCall) (line : LineValue)
-      → new.left.number ≡ parts.entry → drop parts.entry old.left.entries.items ≡ entry ∷ new.left.entries.items → drop (parts.answers - 1) old.answers.items ≡ line ∷ new.answers.items
+      → new.left.number ≡ parts.entry → drop parts.entry old.left.entries.items ≡ entry ∷ new.left.entries.items → drop (parts.answers - 1) old.left.answers.items ≡ line ∷ new.left.answers.items
       → Suspended entry line r → MatchOption r (TakesNone w old parts size) (λ pause. TakesPause w old parts size new pause)
   takes None entry line number entries lines k = λ e es l ls es_are ls_are z.
-      let front : line ∷ new.answers.items ≡ l ∷ ls = sym lines ∙ ls_are in
+      let front : line ∷ new.left.answers.items ≡ l ∷ ls = sym lines ∙ ls_are in
       let one : l ≡ line = cc in
       k (subst (λ (y : LineValue). Suspends w parts.import size (answer_line_of y)) one z)
   takes (Some pause) entry line number entries lines k = record {
@@ -169,7 +169,7 @@ module _ (x : Plan) (parts : PausedParts) (memory : List ℕ) (funcs : List ℕ)
       some = numbers.some;
       line = answer_line_of t.line;
       there = map_at answer_line_of (parts.answers - 1) x.answers.items t.line
-          (ap (λ ls. slice_get ls (parts.answers - 1)) (sym made.answers) ∙ (cons_at (parts.answers - 1) old.answers.items t.line new.answers.items t.lines).0);
+          (ap (λ ls. slice_get ls (parts.answers - 1)) (sym made.answers) ∙ (cons_at (parts.answers - 1) old.left.answers.items t.line new.left.answers.items t.lines).0);
       pauses = t.suspends.pauses;
       names = t.suspends.names;
       passes = ap (λ n. fault_of (func_type_at p parts.import).results n (tested_plan x) false parts.import (answer_of t.line.answer)) (sym whole) ∙ t.suspends.passes;
@@ -184,7 +184,7 @@ module _ (x : Plan) (parts : PausedParts) (memory : List ℕ) (funcs : List ℕ)
       let entry = of_map entry_of parts.entry old.left.entries.items call.0 (ap (λ es. slice_get es parts.entry) made.entries ∙ call.1) in
       let entries = at_cons parts.entry old.left.entries.items entry.0 entry.1 in
       let line = of_map answer_line_of (parts.answers - 1) x.answers.items s.answer.line s.answer.there in
-      let lines = at_cons (parts.answers - 1) old.answers.items line.0 (ap (λ ls. slice_get ls (parts.answers - 1)) made.answers ∙ line.1) in
+      let lines = at_cons (parts.answers - 1) old.left.answers.items line.0 (ap (λ ls. slice_get ls (parts.answers - 1)) made.answers ∙ line.1) in
       none entry.0 entries.0 line.0 lines.0 entries.1 lines.1
       (subst (Suspends w parts.import (length memory)) (sym line.2)
       (record {
@@ -198,7 +198,7 @@ module _ (x : Plan) (parts : PausedParts) (memory : List ℕ) (funcs : List ℕ)
   module _ (new : Program) (pause : Pause) (t : TakesPause w old parts (length memory) new pause) (instance : Instance) (code : code_in instance ≡ module_of old.valid.now)
       (store : store_in instance ≡ restored_store (module_of old.valid.now) parts.globals memory) where
     abbrev final : Program
-    final = record old { left = new.left; answers = new.answers; steps_left = old.steps_left - parts.steps_used; state = Live instance (Paused pause) }
+    final = record old { left = new.left; steps_left = old.steps_left - parts.steps_used; state = Live instance (Paused pause) }
 
     abbrev put_back : Store
     put_back = record { globals = parts.globals; memory = memory; table = numbers.globals.opened.table }
@@ -206,14 +206,14 @@ module _ (x : Plan) (parts : PausedParts) (memory : List ℕ) (funcs : List ℕ)
     entry_front : (slice_get old.left.entries.items parts.entry ≡ Some pause.entry) × (drop (suc parts.entry) old.left.entries.items ≡ new.left.entries.items)
     entry_front = cons_at parts.entry old.left.entries.items pause.entry new.left.entries.items t.entries
 
-    line_front : (slice_get old.answers.items (parts.answers - 1) ≡ Some t.line) × (drop (suc (parts.answers - 1)) old.answers.items ≡ new.answers.items)
-    line_front = cons_at (parts.answers - 1) old.answers.items t.line new.answers.items t.lines
+    line_front : (slice_get old.left.answers.items (parts.answers - 1) ≡ Some t.line) × (drop (suc (parts.answers - 1)) old.left.answers.items ≡ new.left.answers.items)
+    line_front = cons_at (parts.answers - 1) old.left.answers.items t.line new.left.answers.items t.lines
 
     entries_left : map entry_of new.left.entries.items ≡ drop (suc parts.entry) calls
     entries_left = ap (map entry_of) (sym entry_front.1) ∙ map_drop entry_of (suc parts.entry) old.left.entries.items ∙ ap (drop (suc parts.entry)) made.entries
 
-    answers_left : new.answers.items ≡ drop parts.answers x.answers.items
-    answers_left = sym line_front.1 ∙ ap (λ n. drop n old.answers.items) (one_less parts.answers numbers.some) ∙ ap (drop parts.answers) made.answers
+    answers_left : new.left.answers.items ≡ drop parts.answers x.answers.items
+    answers_left = sym line_front.1 ∙ ap (λ n. drop n old.left.answers.items) (one_less parts.answers numbers.some) ∙ ap (drop parts.answers) made.answers
 
     store_is : store_in instance ≡ put_back
     store_is =
@@ -242,11 +242,11 @@ module _ (x : Plan) (parts : PausedParts) (memory : List ℕ) (funcs : List ℕ)
     steps_again : old.setting.steps - (old.steps_left - parts.steps_used) ≡ parts.steps_used
     steps_again = let le = numbers.steps_fit in omega (arith, le, made.steps, made.setting.steps_are)
 
-    answers_again : min (old.given - length new.answers.items) 4294967295 ≡ parts.answers
+    answers_again : min (old.given - length new.left.answers.items) 4294967295 ≡ parts.answers
     answers_again =
-        let lt = inside (parts.answers - 1) old.answers.items t.line line_front.0 in
+        let lt = inside (parts.answers - 1) old.left.answers.items t.line line_front.0 in
         let left = ap length answers_left ∙ length-drop parts.answers x.answers.items in
-        let taken : old.given - length new.answers.items ≡ parts.answers = omega (arith, lt, left, made.given, ap length made.answers, numbers.some) in
+        let taken : old.given - length new.left.answers.items ≡ parts.answers = omega (arith, lt, left, made.given, ap length made.answers, numbers.some) in
         ap (λ n. min n 4294967295) taken ∙ min-eq_left (omega (arith, few))
 
     pages_again : pages_of (memory_at (Live instance (Paused pause))) ≡ parts.pages

@@ -17,7 +17,7 @@ pub record IsOfPlan (x : Plan) (funcs : List ℕ) (program : Program) : Type 0 w
   pub globals : program.globals ≡ x.globals
   pub number : program.left.number ≡ 0
   pub entries : map entry_of program.left.entries.items ≡ calls_of (named_entries x) funcs
-  pub answers : program.answers.items ≡ x.answers.items
+  pub answers : program.left.answers.items ≡ x.answers.items
   pub given : program.given ≡ length x.answers.items
   pub steps : program.steps_left ≡ x.steps
   pub fresh : program.state ≡ Fresh

@@ -15,7 +15,7 @@ steps_used x = x.setting.steps - x.steps_left
 
 -- how many of its answer lines it has taken
 abbrev pub answers_taken : Program → ℕ
-answers_taken x = x.given - length x.answers.items
+answers_taken x = x.given - length x.left.answers.items
 
 -- The parts of a program in a state: there are some where it is paused. (Each answer costs a step, so that those taken need no more than 32 bits.)
 abbrev pub parts_at : Program → State → Option PausedParts

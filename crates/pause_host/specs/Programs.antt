@@ -122,7 +122,7 @@ RunsCode p _ = Unit {0}
 
 -- the answer lines that it has left
 abbrev pub lines_left : Program → List AnswerLine
-lines_left x = lines_in x.answers.items
+lines_left x = lines_in x.left.answers.items
 
 -- what answers its calls: these lines, and devices with their counts of faults,
 abbrev pub supply_with : Program → List Device → (faults : List ℕ) → Supply

@@ -31,14 +31,14 @@ pub record Suspends (w : W.Program) (import size : ℕ) (line : AnswerLine) : Ty
 
 -- what is left of a program from which entries and answer lines were taken
 abbrev pub IsLeft : (old new : Program) → Type 0
-IsLeft old new = new ≡ record old { left = new.left; answers = new.answers }
+IsLeft old new = new ≡ record old { left = new.left }
 
 -- The entry that runs and the last answer taken were taken out, with what stood before them.
 pub record TakesPause (w : W.Program) (old : Program) (parts : PausedParts) (size : ℕ) (new : Program) (pause : Pause) : Type 0 where
   pub number : new.left.number ≡ parts.entry
   pub entries : drop parts.entry old.left.entries.items ≡ pause.entry ∷ new.left.entries.items
   pub line : LineValue
-  pub lines : drop (parts.answers - 1) old.answers.items ≡ line ∷ new.answers.items
+  pub lines : drop (parts.answers - 1) old.left.answers.items ≡ line ∷ new.left.answers.items
   pub import_is : pause.import ≡ parts.import
   pub answer_is : pause.answer ≡ line.answer
   pub suspends : Suspends w parts.import size (answer_line_of line)
@@ -47,4 +47,4 @@ pub record TakesPause (w : W.Program) (old : Program) (parts : PausedParts) (siz
 abbrev pub TakesNone : W.Program → Program → PausedParts → ℕ → Type 0
 TakesNone w old parts size =
     (e : EntryCall) (es : List EntryCall) (l : LineValue) (ls : List LineValue)
-    → drop parts.entry old.left.entries.items ≡ e ∷ es → drop (parts.answers - 1) old.answers.items ≡ l ∷ ls → Suspends w parts.import size (answer_line_of l) → ⊥
+    → drop parts.entry old.left.entries.items ≡ e ∷ es → drop (parts.answers - 1) old.left.answers.items ≡ l ∷ ls → Suspends w parts.import size (answer_line_of l) → ⊥

@@ -13,30 +13,27 @@ ghost use Rattle.pause_host.specs.Views.{end_of, left_of, lines_in, place_in, su
 use crate::ends::ended;
 use crate::rewinding::rewind;
 use crate::running::{call_next, give, tell_answer};
-use crate::stages::{Left, Moved, Setting, Stage};
+use crate::stages::{Given, Left, Moved, Setting, Stage};
 use crate::unwinding::unwind;
 use device_port::Devices;
 use interp::{Instance, Steps};
 use std::alloc::AllocError;
-use std::collections::VecDeque;
-use wa_model::AnswerLine;
 
 /// The next event of a program with an instance.
 pub fn next_event(
     setting: &Setting,
     instance: &mut Instance<'_>,
     left: &mut Left,
-    answers: &mut VecDeque<AnswerLine>,
     devices: &mut Devices<'_>,
     steps: &mut Steps,
     stage: Stage,
 ) -> Result<Moved, AllocError>
     requires few { steps.old.left + steps.old.used < 2 ^ 64 }
     requires there { HostsAt setting.now (code_in instance.old) (λ w. place_in (exports_of w.source) w.plan.area (left_of left.old) (store_in instance.old) (waits_in instance.old) stage) }
-    ensures comes { (w : Program) → IsSetting w setting.now → code_in instance.old ≡ w.source → All HasShortPokes (lines_in answers.old.items)
+    ensures comes { (w : Program) → IsSetting w setting.now → code_in instance.old ≡ w.source → All HasShortPokes (lines_in left.old.answers.items)
         → PlaceFits w (place_in (exports_of w.source) w.plan.area (left_of left.old) (store_in instance.old) (waits_in instance.old) stage) → end_of stage ≡ None
         → IfOk result (λ m. ComesFrom w (place_in (exports_of w.source) w.plan.area (left_of left.old) (store_in instance.old) (waits_in instance.old) stage) steps.old.left
-        (steps.new.used - steps.old.used) m (supply_in seen faults answers.old.items devices.old) (supply_in seen faults answers.new.items devices.new) (left_of left.new)
+        (steps.new.used - steps.old.used) m (supply_in seen faults left.old.answers.items devices.old) (supply_in seen faults left.new.answers.items devices.new) (left_of left.new)
         (store_in instance.new) (waits_in instance.new)) }
     ensures code { code_in instance.new ≡ code_in instance.old }
     ensures sum { steps.new.left + steps.new.used ≡ steps.old.left + steps.old.used }
@@ -46,12 +43,11 @@ pub fn next_event(
     ensures same_list { devices.new.list.ghost_name ≡ devices.old.list.ghost_name }
 {
     match stage {
-        Stage::Free => call_next(setting, instance, left, answers, devices, steps),
+        Stage::Free => call_next(setting, instance, left, devices, steps),
         Stage::Answering { task, answer } => Ok(tell_answer(instance, task, answer)),
         Stage::Giving { task, value } => {
-            give(
-                setting, instance, left, answers, devices, steps, task, value,
-            )
+            let given = Given { task, value };
+            give(setting, instance, left, devices, steps, given)
         }
         Stage::Pausing(pause) => unwind(setting, instance, steps, pause),
         Stage::Paused(pause) => rewind(setting, instance, steps, pause),

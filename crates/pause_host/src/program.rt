@@ -18,7 +18,7 @@ use snapshot_store::PausedParts;
 use std::alloc::{AllocError, Global};
 use std::collections::VecDeque;
 use std::mem;
-use wa_model::{AnswerLine, End, Event};
+use wa_model::{End, Event};
 use wa_types::Value;
 use wasm_validate::Valid;
 
@@ -34,13 +34,12 @@ pub(crate) enum State<'m> {
     Lost,
 }
 
-/// A program: a plan over a prepared module, on its way. It was given so many answer lines, of which these are left.
+/// A program: a plan over a prepared module, on its way, with what is left of the plan. It was given so many answer lines.
 pub struct Program<'m> {
     pub(crate) valid: &'m Valid,
     pub(crate) globals: Vec<Value>,
     pub(crate) setting: Setting,
     pub(crate) left: Left,
-    pub(crate) answers: VecDeque<AnswerLine>,
     pub(crate) given: usize,
     pub(crate) steps_left: u64,
     pub(crate) state: State<'m>,
@@ -101,8 +100,11 @@ impl<'m> Program<'m> {
             valid,
             globals,
             setting,
-            left: Left { number: 0, entries },
-            answers: VecDeque::from_vec(answers),
+            left: Left {
+                number: 0,
+                entries,
+                answers: VecDeque::from_vec(answers),
+            },
             given,
             steps_left: steps,
             state: State::Fresh,
@@ -255,7 +257,6 @@ impl<'m> Program<'m> {
             &self.setting,
             &mut instance,
             &mut self.left,
-            &mut self.answers,
             devices,
             &mut steps,
             stage,
@@ -286,7 +287,6 @@ impl<'m> Program<'m> {
             &self.setting,
             &mut instance,
             &mut self.left,
-            &mut self.answers,
             devices,
             &mut steps,
             func,
@@ -319,7 +319,7 @@ impl<'m> Program<'m> {
         Ok(Some(PausedParts {
             steps_used: self.setting.steps.saturating_sub(self.steps_left),
             entry: self.left.number,
-            answers: narrowed(self.given.saturating_sub(self.answers.len())),
+            answers: narrowed(self.given.saturating_sub(self.left.answers.len())),
             import: pause.import,
             globals,
             pages: instance.pages(),
@@ -361,7 +361,6 @@ impl Drop for Program<'_> {
             globals: _,
             setting: _,
             left: _,
-            answers: _,
             given: _,
             steps_left: _,
             state: _,

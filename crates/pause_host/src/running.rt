@@ -23,7 +23,9 @@ ghost use Rattle.pause_host.specs.Views.{entry_of, free_place, left_of, lines_in
 use crate::asking::next_outcome;
 use crate::ends::ended;
 use crate::memory::write_pokes;
-use crate::stages::{EntryCall, HostImport, Left, Moved, Pause, Setting, Stage, Task, stage_told};
+use crate::stages::{
+    EntryCall, Given, HostImport, Left, Moved, Pause, Setting, Stage, Task, stage_told,
+};
 use device_port::Devices;
 use host_laws::{Met, answer_fault};
 use interp::{Instance, Steps, Turn};
@@ -37,17 +39,16 @@ pub fn start(
     setting: &Setting,
     instance: &mut Instance<'_>,
     left: &mut Left,
-    answers: &mut VecDeque<AnswerLine>,
     devices: &mut Devices<'_>,
     steps: &mut Steps,
     func: u32,
 ) -> Result<Moved, AllocError>
     requires few { steps.old.left + steps.old.used < 2 ^ 64 }
     requires there { HostsAt setting.now (code_in instance.old) (λ w. stands [] (starting func (store_in instance.old) (left_of left.old))) }
-    ensures comes { (w : Program) → IsSetting w setting.now → code_in instance.old ≡ w.source → All HasShortPokes (lines_in answers.old.items)
+    ensures comes { (w : Program) → IsSetting w setting.now → code_in instance.old ≡ w.source → All HasShortPokes (lines_in left.old.answers.items)
         → HeldFits w.source (starting func (store_in instance.old) (left_of left.old))
         → IfOk result (λ m. Comes w (starting func (store_in instance.old) (left_of left.old)) steps.old.left (steps.new.used - steps.old.used) m
-        (supply_in seen faults answers.old.items devices.old) (supply_in seen faults answers.new.items devices.new) (left_of left.new) (store_in instance.new) (waits_in instance.new)) }
+        (supply_in seen faults left.old.answers.items devices.old) (supply_in seen faults left.new.answers.items devices.new) (left_of left.new) (store_in instance.new) (waits_in instance.new)) }
     ensures code { code_in instance.new ≡ code_in instance.old }
     ensures sum { steps.new.left + steps.new.used ≡ steps.old.left + steps.old.used }
     ensures grows { steps.old.used ≤ steps.new.used }
@@ -57,9 +58,9 @@ pub fn start(
 {
     let turn = instance.begin(func, &[], steps)?;
     if (func as usize) < setting.imports.len() {
-        return start_asked(setting, instance, answers, devices, turn);
+        return start_asked(setting, instance, &mut left.answers, devices, turn);
     }
-    start_ran(setting, instance, left, answers, devices, steps, turn)
+    start_ran(setting, instance, left, devices, steps, turn)
 }
 
 // The start function is an import.
@@ -102,7 +103,6 @@ fn start_ran(
     setting: &Setting,
     instance: &mut Instance<'_>,
     left: &mut Left,
-    answers: &mut VecDeque<AnswerLine>,
     devices: &mut Devices<'_>,
     steps: &mut Steps,
     turn: Turn,
@@ -111,10 +111,10 @@ fn start_ran(
     requires memory { HasMemory (code_in instance.old) }
     requires area { HoldsArea setting.now.area (store_in instance.old) }
     requires turn { StartRan setting.now (code_in instance.old) (left_of left.old) turn (store_in instance.old) }
-    ensures comes { (w : Program) → IsSetting w setting.now → code_in instance.old ≡ w.source → All HasShortPokes (lines_in answers.old.items) → (h : Held) (left_then used : ℕ)
+    ensures comes { (w : Program) → IsSetting w setting.now → code_in instance.old ≡ w.source → All HasShortPokes (lines_in left.old.answers.items) → (h : Held) (left_then used : ℕ)
         → TaskTurn w h (left_of left.old) the_start left_then used turn (store_in instance.old) (waits_in instance.old) → steps.old.left + used ≡ left_then → HeldFits w.source h
-        → IfOk result (λ m. Comes w h left_then (used + (steps.new.used - steps.old.used)) m (supply_in seen faults answers.old.items devices.old)
-        (supply_in seen faults answers.new.items devices.new) (left_of left.new) (store_in instance.new) (waits_in instance.new)) }
+        → IfOk result (λ m. Comes w h left_then (used + (steps.new.used - steps.old.used)) m (supply_in seen faults left.old.answers.items devices.old)
+        (supply_in seen faults left.new.answers.items devices.new) (left_of left.new) (store_in instance.new) (waits_in instance.new)) }
     ensures code { code_in instance.new ≡ code_in instance.old }
     ensures sum { steps.new.left + steps.new.used ≡ steps.old.left + steps.old.used }
     ensures grows { steps.old.used ≤ steps.new.used }
@@ -123,8 +123,15 @@ fn start_ran(
     ensures same_list { devices.new.list.ghost_name ≡ devices.old.list.ghost_name }
 {
     match turn {
-        Turn::Returned(_) => call_next(setting, instance, left, answers, devices, steps),
-        other => stopped(setting, instance, answers, devices, Task::Start, other),
+        Turn::Returned(_) => call_next(setting, instance, left, devices, steps),
+        other => stopped(
+            setting,
+            instance,
+            &mut left.answers,
+            devices,
+            Task::Start,
+            other,
+        ),
     }
 }
 
@@ -133,16 +140,15 @@ pub(crate) fn call_next(
     setting: &Setting,
     instance: &mut Instance<'_>,
     left: &mut Left,
-    answers: &mut VecDeque<AnswerLine>,
     devices: &mut Devices<'_>,
     steps: &mut Steps,
 ) -> Result<Moved, AllocError>
     requires few { steps.old.left + steps.old.used < 2 ^ 64 }
     requires there { HostsAt setting.now (code_in instance.old) (λ w. free_place (left_of left.old) (store_in instance.old)) }
-    ensures comes { (w : Program) → IsSetting w setting.now → code_in instance.old ≡ w.source → All HasShortPokes (lines_in answers.old.items)
+    ensures comes { (w : Program) → IsSetting w setting.now → code_in instance.old ≡ w.source → All HasShortPokes (lines_in left.old.answers.items)
         → PlaceFits w (free_place (left_of left.old) (store_in instance.old)) → IfOk result
-        (λ m. ComesFrom w (free_place (left_of left.old) (store_in instance.old)) steps.old.left (steps.new.used - steps.old.used) m (supply_in seen faults answers.old.items devices.old)
-        (supply_in seen faults answers.new.items devices.new) (left_of left.new) (store_in instance.new) (waits_in instance.new)) }
+        (λ m. ComesFrom w (free_place (left_of left.old) (store_in instance.old)) steps.old.left (steps.new.used - steps.old.used) m (supply_in seen faults left.old.answers.items devices.old)
+        (supply_in seen faults left.new.answers.items devices.new) (left_of left.new) (store_in instance.new) (waits_in instance.new)) }
     ensures code { code_in instance.new ≡ code_in instance.old }
     ensures sum { steps.new.left + steps.new.used ≡ steps.old.left + steps.old.used }
     ensures grows { steps.old.used ≤ steps.new.used }
@@ -154,7 +160,7 @@ pub(crate) fn call_next(
         None => ended(setting.alloc, End::Done),
         Some(entry) => {
             let turn = instance.begin(entry.func, &entry.args, steps)?;
-            entry_ran(setting, instance, left, answers, devices, entry, turn)
+            entry_ran(setting, instance, left, devices, entry, turn)
         }
     }
 }
@@ -164,7 +170,6 @@ fn entry_ran(
     setting: &Setting,
     instance: &Instance<'_>,
     left: &mut Left,
-    answers: &mut VecDeque<AnswerLine>,
     devices: &mut Devices<'_>,
     entry: EntryCall,
     turn: Turn,
@@ -173,9 +178,9 @@ fn entry_ran(
     requires area { HoldsArea setting.now.area (store_in instance.now) }
     requires number { left.old.number + 1 < 2 ^ 32 }
     requires turn { CallsOne (length setting.now.imports.items) turn }
-    ensures comes { (w : Program) → IsSetting w setting.now → code_in instance.now ≡ w.source → All HasShortPokes (lines_in answers.old.items) → (h : Held) (left_then used : ℕ)
+    ensures comes { (w : Program) → IsSetting w setting.now → code_in instance.now ≡ w.source → All HasShortPokes (lines_in left.old.answers.items) → (h : Held) (left_then used : ℕ)
         → TaskTurn w h (left_of left.old) (an_entry (entry_of entry)) left_then used turn (store_in instance.now) (waits_in instance.now)
-        → IfOk result (λ m. Comes w h left_then used m (supply_in seen faults answers.old.items devices.old) (supply_in seen faults answers.new.items devices.new) (left_of left.new)
+        → IfOk result (λ m. Comes w h left_then used m (supply_in seen faults left.old.answers.items devices.old) (supply_in seen faults left.new.answers.items devices.new) (left_of left.new)
         (store_in instance.now) (waits_in instance.now)) }
     ensures kept { IsErr result → of_all seen devices.new ≡ of_all seen devices.old }
     ensures once { IsErr result → RisesAtMostOne (of_all faults devices.old) (of_all faults devices.new) }
@@ -186,7 +191,7 @@ fn entry_ran(
         other => stopped(
             setting,
             instance,
-            answers,
+            &mut left.answers,
             devices,
             Task::Entry(entry),
             other,
@@ -200,6 +205,7 @@ fn returned(left: &mut Left, value: Option<Value>) -> Moved
     ensures event { result.event ≡ Event.Returned left.old.number value }
     ensures stage { result.stage ≡ Stage.Free }
     ensures left { left_of left.new ≡ next_entry (left_of left.old) }
+    ensures answers { left.new.answers ≡ left.old.answers }
 {
     let entry = left.number;
     left.number += 1;
@@ -363,18 +369,16 @@ pub(crate) fn give(
     setting: &Setting,
     instance: &mut Instance<'_>,
     left: &mut Left,
-    answers: &mut VecDeque<AnswerLine>,
     devices: &mut Devices<'_>,
     steps: &mut Steps,
-    task: Task,
-    value: Option<Value>,
+    given: Given,
 ) -> Result<Moved, AllocError>
     requires few { steps.old.left + steps.old.used < 2 ^ 64 }
-    requires there { HostsAt setting.now (code_in instance.old) (λ w. place_in (exports_of w.source) w.plan.area (left_of left.old) (store_in instance.old) (waits_in instance.old) (Stage.Giving task value)) }
-    ensures comes { (w : Program) → IsSetting w setting.now → code_in instance.old ≡ w.source → All HasShortPokes (lines_in answers.old.items)
-        → PlaceFits w (place_in (exports_of w.source) w.plan.area (left_of left.old) (store_in instance.old) (waits_in instance.old) (Stage.Giving task value))
-        → IfOk result (λ m. ComesFrom w (place_in (exports_of w.source) w.plan.area (left_of left.old) (store_in instance.old) (waits_in instance.old) (Stage.Giving task value))
-        steps.old.left (steps.new.used - steps.old.used) m (supply_in seen faults answers.old.items devices.old) (supply_in seen faults answers.new.items devices.new) (left_of left.new)
+    requires there { HostsAt setting.now (code_in instance.old) (λ w. place_in (exports_of w.source) w.plan.area (left_of left.old) (store_in instance.old) (waits_in instance.old) (Stage.Giving given.task given.value)) }
+    ensures comes { (w : Program) → IsSetting w setting.now → code_in instance.old ≡ w.source → All HasShortPokes (lines_in left.old.answers.items)
+        → PlaceFits w (place_in (exports_of w.source) w.plan.area (left_of left.old) (store_in instance.old) (waits_in instance.old) (Stage.Giving given.task given.value))
+        → IfOk result (λ m. ComesFrom w (place_in (exports_of w.source) w.plan.area (left_of left.old) (store_in instance.old) (waits_in instance.old) (Stage.Giving given.task given.value))
+        steps.old.left (steps.new.used - steps.old.used) m (supply_in seen faults left.old.answers.items devices.old) (supply_in seen faults left.new.answers.items devices.new) (left_of left.new)
         (store_in instance.new) (waits_in instance.new)) }
     ensures code { code_in instance.new ≡ code_in instance.old }
     ensures sum { steps.new.left + steps.new.used ≡ steps.old.left + steps.old.used }
@@ -383,10 +387,11 @@ pub(crate) fn give(
     ensures once { IsErr result → RisesAtMostOne (of_all faults devices.old) (of_all faults devices.new) }
     ensures same_list { devices.new.list.ghost_name ≡ devices.old.list.ghost_name }
 {
+    let Given { task, value } = given;
     let turn = instance.resume(value, steps)?;
     match task {
-        Task::Entry(entry) => entry_ran(setting, instance, left, answers, devices, entry, turn),
-        Task::Start => start_ran(setting, instance, left, answers, devices, steps, turn),
+        Task::Entry(entry) => entry_ran(setting, instance, left, devices, entry, turn),
+        Task::Start => start_ran(setting, instance, left, devices, steps, turn),
         Task::Outermost => unreachable!(),
     }
 }

@@ -5,7 +5,7 @@ ghost use Rattle.pause_host.specs.Views.{stage_told};
 
 use std::alloc::Global;
 use std::collections::VecDeque;
-use wa_model::{Answer, Area, End, Event, Said};
+use wa_model::{Answer, AnswerLine, Area, End, Event, Said};
 use wa_types::{Name, Trap, ValType, Value};
 
 /// The functions of the five exports through which a host unwinds and rewinds a stack.
@@ -46,11 +46,13 @@ pub struct EntryCall {
     pub args: Vec<Value>,
 }
 
-/// The number of the entry that runs or comes next, and those that are still to be called.
+/// What is left of a plan: the number of the entry that runs or comes next, those that are still to be called, and the answer lines
+/// that no call has taken.
 #[derive(Drop)]
 pub struct Left {
     pub number: u32,
     pub entries: VecDeque<EntryCall>,
+    pub answers: VecDeque<AnswerLine>,
 }
 
 /// What the host has called: an import as the start function, the start function, or an entry.
@@ -67,6 +69,13 @@ pub struct Pause {
     pub entry: EntryCall,
     pub import: u32,
     pub answer: Answer,
+}
+
+/// A value that was told, with the task that waits for it.
+#[derive(Drop)]
+pub struct Given {
+    pub task: Task,
+    pub value: Option<Value>,
 }
 
 /// Where a program with an instance stands between two events.

@@ -95,10 +95,10 @@ impl<'m> Program<'m> {
     {
         self.left.number = parts.entry;
         drop_front(&mut self.left.entries, parts.entry);
-        drop_front(&mut self.answers, parts.answers - 1);
+        drop_front(&mut self.left.answers, parts.answers - 1);
         match self.left.entries.pop_front() {
             None => return None,
-            Some(entry) => match self.answers.pop_front() {
+            Some(entry) => match self.left.answers.pop_front() {
                 None => return None,
                 Some(line) => return suspended(&self.setting, entry, parts.import, size, line),
             },

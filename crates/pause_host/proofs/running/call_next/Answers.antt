@@ -16,7 +16,7 @@ use Rattle.pause_host.proofs.running.call_next.Goals as goal
 
 pub returns-in-None-clause-comes : goal.returns-in-None-clause-comes
 returns-in-None-clause-comes g c = λ w is code pokes f.
-    let old = supply_in (λ z. (goal.Device-dyn g z).seen z.1) (λ z. (goal.Device-dyn g z).faults z.1) c.args.answers.now.items c.args.devices.now in
+    let old = supply_in (λ z. (goal.Device-dyn g z).seen z.1) (λ z. (goal.Device-dyn g z).faults z.1) c.args.left.now.answers.items c.args.devices.now in
     done_ok w (left_of c.args.left.now) (store_in c.args.instance.now) c.args.steps.now.left _ c.ended.result old _ (waits_in c.args.instance.now)
     (none_left c.args.left.now.entries.items
     (let e : length c.args.left.now.entries.items ≡ length (drop 1 c.args.left.now.entries.items) = ap length (c.in-None.ensures.items ∙ c.in-None.ensures.rest) in
@@ -24,8 +24,8 @@ returns-in-None-clause-comes g c = λ w is code pokes f.
 
 pub returns-in_ok-turn-in-Some-clause-comes : goal.returns-in_ok-turn-in-Some-clause-comes
 returns-in_ok-turn-in-Some-clause-comes g c = λ w is code pokes f.
-    let old = supply_in (λ z. (goal.Device-dyn g z).seen z.1) (λ z. (goal.Device-dyn g z).faults z.1) c.args.answers.now.items c.args.devices.now in
-    let new = supply_in (λ z. (goal.Device-dyn g z).seen z.1) (λ z. (goal.Device-dyn g z).faults z.1) c.entry_ran.new.answers.items c.entry_ran.new.devices in
+    let old = supply_in (λ z. (goal.Device-dyn g z).seen z.1) (λ z. (goal.Device-dyn g z).faults z.1) c.args.left.now.answers.items c.args.devices.now in
+    let new = supply_in (λ z. (goal.Device-dyn g z).seen z.1) (λ z. (goal.Device-dyn g z).faults z.1) c.entry_ran.new.left.answers.items c.entry_ran.new.devices in
     let s = store_in c.args.instance.now in
     let s' = store_in c.begin.new.self in
     let w' = waits_in c.begin.new.self in

@@ -19,8 +19,8 @@ use Rattle.pause_host.proofs.running.give.Goals as goal
 
 pub returns-in-Entry-clause-comes : goal.returns-in-Entry-clause-comes
 returns-in-Entry-clause-comes g c = λ w is code pokes f.
-    let old = supply_in (λ z. (goal.Device-dyn g z).seen z.1) (λ z. (goal.Device-dyn g z).faults z.1) c.args.answers.now.items c.args.devices.now in
-    let new = supply_in (λ z. (goal.Device-dyn g z).seen z.1) (λ z. (goal.Device-dyn g z).faults z.1) c.entry_ran.new.answers.items c.entry_ran.new.devices in
+    let old = supply_in (λ z. (goal.Device-dyn g z).seen z.1) (λ z. (goal.Device-dyn g z).faults z.1) c.args.left.now.answers.items c.args.devices.now in
+    let new = supply_in (λ z. (goal.Device-dyn g z).seen z.1) (λ z. (goal.Device-dyn g z).faults z.1) c.entry_ran.new.left.answers.items c.entry_ran.new.devices in
     let s = store_in c.args.instance.now in
     let waits = waits_in c.args.instance.now in
     let s' = store_in c.resume.new.self in
@@ -28,23 +28,23 @@ returns-in-Entry-clause-comes g c = λ w is code pokes f.
     let left = c.args.steps.now.left in
     let used = c.resume.new.steps.used - c.args.steps.now.used in
     let l = left_of c.args.left.now in
-    let f' = subst (λ z. PlaceFits w (place_in (exports_of w.source) w.plan.area l s waits (S.Giving z c.args.value))) c.in-Entry.is f in
-    let g = gives w (T.Entry c.in-Entry.entry) (an_entry (entry_of c.in-Entry.entry)) waits l c.args.value s refl f' in
-    let awaits = gives_awaits w (T.Entry c.in-Entry.entry) (an_entry (entry_of c.in-Entry.entry)) waits l c.args.value s g in
+    let f' = subst (λ z. PlaceFits w (place_in (exports_of w.source) w.plan.area l s waits (S.Giving z c.args.given.value))) c.in-Entry.is f in
+    let g = gives w (T.Entry c.in-Entry.entry) (an_entry (entry_of c.in-Entry.entry)) waits l c.args.given.value s refl f' in
+    let awaits = gives_awaits w (T.Entry c.in-Entry.entry) (an_entry (entry_of c.in-Entry.entry)) waits l c.args.given.value s g in
     let told = c.in_ok-turn.ensures.resumes g.fits.0 (subst (λ z. StoreFits z s) (sym code)
-    (gives_store w (T.Entry c.in-Entry.entry) (an_entry (entry_of c.in-Entry.entry)) waits l c.args.value s g))
-    (subst (λ z. Awaits z g.fits.0 (types_of (option_to_list c.args.value)) waits) (sym code) awaits) in
-    let ran = gives_turn w (T.Entry c.in-Entry.entry) (an_entry (entry_of c.in-Entry.entry)) waits l c.args.value s g left used c.in_ok-turn.turn s' w'
-    (subst (λ z. Resumes z s waits c.args.value left used c.in_ok-turn.turn s' w') code told) in
-    let h = busy (is_running (an_entry (entry_of c.in-Entry.entry))) (resumed (record { store = s; here = g.here; under = g.under }) s (option_to_list c.args.value)) l in
-    let place = ap (λ z. place_in (exports_of w.source) w.plan.area l s waits (S.Giving z c.args.value)) c.in-Entry.is ∙ g.place_is in
+    (gives_store w (T.Entry c.in-Entry.entry) (an_entry (entry_of c.in-Entry.entry)) waits l c.args.given.value s g))
+    (subst (λ z. Awaits z g.fits.0 (types_of (option_to_list c.args.given.value)) waits) (sym code) awaits) in
+    let ran = gives_turn w (T.Entry c.in-Entry.entry) (an_entry (entry_of c.in-Entry.entry)) waits l c.args.given.value s g left used c.in_ok-turn.turn s' w'
+    (subst (λ z. Resumes z s waits c.args.given.value left used c.in_ok-turn.turn s' w') code told) in
+    let h = busy (is_running (an_entry (entry_of c.in-Entry.entry))) (resumed (record { store = s; here = g.here; under = g.under }) s (option_to_list c.args.given.value)) l in
+    let place = ap (λ z. place_in (exports_of w.source) w.plan.area l s waits (S.Giving z c.args.given.value)) c.in-Entry.is ∙ g.place_is in
     subst (λ z. IfOk c.entry_ran.result (λ m. ComesFrom w z left used m old new (left_of c.entry_ran.new.left) s' w')) (sym place)
     (c.entry_ran.ensures.comes w is (c.resume.ensures.code ∙ code) pokes h left used ran)
 
 pub returns-in-Start-clause-comes : goal.returns-in-Start-clause-comes
 returns-in-Start-clause-comes g c = λ w is code pokes f.
-    let old = supply_in (λ z. (goal.Device-dyn g z).seen z.1) (λ z. (goal.Device-dyn g z).faults z.1) c.args.answers.now.items c.args.devices.now in
-    let new = supply_in (λ z. (goal.Device-dyn g z).seen z.1) (λ z. (goal.Device-dyn g z).faults z.1) c.start_ran.new.answers.items c.start_ran.new.devices in
+    let old = supply_in (λ z. (goal.Device-dyn g z).seen z.1) (λ z. (goal.Device-dyn g z).faults z.1) c.args.left.now.answers.items c.args.devices.now in
+    let new = supply_in (λ z. (goal.Device-dyn g z).seen z.1) (λ z. (goal.Device-dyn g z).faults z.1) c.start_ran.new.left.answers.items c.start_ran.new.devices in
     let s = store_in c.args.instance.now in
     let waits = waits_in c.args.instance.now in
     let s' = store_in c.resume.new.self in
@@ -52,14 +52,14 @@ returns-in-Start-clause-comes g c = λ w is code pokes f.
     let left = c.args.steps.now.left in
     let used = c.resume.new.steps.used - c.args.steps.now.used in
     let l = left_of c.args.left.now in
-    let f' = subst (λ z. PlaceFits w (place_in (exports_of w.source) w.plan.area l s waits (S.Giving z c.args.value))) c.in-Start.is f in
-    let g = gives w T.Start the_start waits l c.args.value s refl f' in
-    let awaits = gives_awaits w T.Start the_start waits l c.args.value s g in
-    let told = c.in_ok-turn.ensures.resumes g.fits.0 (subst (λ z. StoreFits z s) (sym code) (gives_store w T.Start the_start waits l c.args.value s g))
-    (subst (λ z. Awaits z g.fits.0 (types_of (option_to_list c.args.value)) waits) (sym code) awaits) in
-    let ran = gives_turn w T.Start the_start waits l c.args.value s g left used c.in_ok-turn.turn s' w' (subst (λ z. Resumes z s waits c.args.value left used c.in_ok-turn.turn s' w') code told) in
-    let h = busy (is_running the_start) (resumed (record { store = s; here = g.here; under = g.under }) s (option_to_list c.args.value)) l in
-    let place = ap (λ z. place_in (exports_of w.source) w.plan.area l s waits (S.Giving z c.args.value)) c.in-Start.is ∙ g.place_is in
+    let f' = subst (λ z. PlaceFits w (place_in (exports_of w.source) w.plan.area l s waits (S.Giving z c.args.given.value))) c.in-Start.is f in
+    let g = gives w T.Start the_start waits l c.args.given.value s refl f' in
+    let awaits = gives_awaits w T.Start the_start waits l c.args.given.value s g in
+    let told = c.in_ok-turn.ensures.resumes g.fits.0 (subst (λ z. StoreFits z s) (sym code) (gives_store w T.Start the_start waits l c.args.given.value s g))
+    (subst (λ z. Awaits z g.fits.0 (types_of (option_to_list c.args.given.value)) waits) (sym code) awaits) in
+    let ran = gives_turn w T.Start the_start waits l c.args.given.value s g left used c.in_ok-turn.turn s' w' (subst (λ z. Resumes z s waits c.args.given.value left used c.in_ok-turn.turn s' w') code told) in
+    let h = busy (is_running the_start) (resumed (record { store = s; here = g.here; under = g.under }) s (option_to_list c.args.given.value)) l in
+    let place = ap (λ z. place_in (exports_of w.source) w.plan.area l s waits (S.Giving z c.args.given.value)) c.in-Start.is ∙ g.place_is in
     let sum : c.resume.new.steps.left + used ≡ left = omega (arith, c.resume.ensures.sum, c.resume.ensures.grows) in
     let total : used + (c.start_ran.new.steps.used - c.resume.new.steps.used) ≡ c.start_ran.new.steps.used - c.args.steps.now.used = omega (arith, c.resume.ensures.grows, c.start_ran.ensures.grows) in
     subst (λ z. IfOk c.start_ran.result (λ m. ComesFrom w z left (c.start_ran.new.steps.used - c.args.steps.now.used) m old new (left_of c.start_ran.new.left)
@@ -69,7 +69,7 @@ returns-in-Start-clause-comes g c = λ w is code pokes f.
 
 pub resume-requires-clause-waits : goal.resume-requires-clause-waits
 resume-requires-clause-waits g c =
-    given_waits c.args.setting.now (code_in c.args.instance.now) (left_of c.args.left.now) (store_in c.args.instance.now) (waits_in c.args.instance.now) c.args.task c.args.value c.requires.there
+    given_waits c.args.setting.now (code_in c.args.instance.now) (left_of c.args.left.now) (store_in c.args.instance.now) (waits_in c.args.instance.now) c.args.given.task c.args.given.value c.requires.there
 
 pub entry_ran-requires-clause-memory : goal.entry_ran-requires-clause-memory
 entry_ran-requires-clause-memory g c =
@@ -83,12 +83,12 @@ entry_ran-requires-clause-turn g c =
     let s = store_in c.args.instance.now in
     let waits = waits_in c.args.instance.now in
     let l = left_of c.args.left.now in
-    let f' = subst (λ z. PlaceFits w (place_in (exports_of w.source) w.plan.area l s waits (S.Giving z c.args.value))) c.in-Entry.is there.fits in
-    let g = gives w (T.Entry c.in-Entry.entry) (an_entry (entry_of c.in-Entry.entry)) waits l c.args.value s refl f' in
+    let f' = subst (λ z. PlaceFits w (place_in (exports_of w.source) w.plan.area l s waits (S.Giving z c.args.given.value))) c.in-Entry.is there.fits in
+    let g = gives w (T.Entry c.in-Entry.entry) (an_entry (entry_of c.in-Entry.entry)) waits l c.args.given.value s refl f' in
     let again = c.in_ok-turn.ensures.again g.fits.0
-    (subst (λ z. StoreFits z s) (sym there.code_is) (gives_store w (T.Entry c.in-Entry.entry) (an_entry (entry_of c.in-Entry.entry)) waits l c.args.value s g))
-    (subst (λ z. Awaits z g.fits.0 (types_of (option_to_list c.args.value)) waits) (sym there.code_is)
-    (gives_awaits w (T.Entry c.in-Entry.entry) (an_entry (entry_of c.in-Entry.entry)) waits l c.args.value s g)) in
+    (subst (λ z. StoreFits z s) (sym there.code_is) (gives_store w (T.Entry c.in-Entry.entry) (an_entry (entry_of c.in-Entry.entry)) waits l c.args.given.value s g))
+    (subst (λ z. Awaits z g.fits.0 (types_of (option_to_list c.args.given.value)) waits) (sym there.code_is)
+    (gives_awaits w (T.Entry c.in-Entry.entry) (an_entry (entry_of c.in-Entry.entry)) waits l c.args.given.value s g)) in
     calls_one w c.args.setting.now (code_in c.args.instance.now) g.fits.0 c.in_ok-turn.turn (store_in c.resume.new.self) (waits_in c.resume.new.self) there.setting there.code_is again
 
 pub start_ran-requires-clause-memory : goal.start_ran-requires-clause-memory
@@ -108,21 +108,21 @@ start_ran-requires-clause-turn g c =
     let used = c.resume.new.steps.used - c.args.steps.now.used in
     let l = left_of c.args.left.now in
     let code = there.code_is in
-    let f' = subst (λ z. PlaceFits w (place_in (exports_of w.source) w.plan.area l s waits (S.Giving z c.args.value))) c.in-Start.is there.fits in
-    let g = gives w T.Start the_start waits l c.args.value s refl f' in
-    let fits = subst (λ z. StoreFits z s) (sym code) (gives_store w T.Start the_start waits l c.args.value s g) in
-    let awaits = subst (λ z. Awaits z g.fits.0 (types_of (option_to_list c.args.value)) waits) (sym code) (gives_awaits w T.Start the_start waits l c.args.value s g) in
+    let f' = subst (λ z. PlaceFits w (place_in (exports_of w.source) w.plan.area l s waits (S.Giving z c.args.given.value))) c.in-Start.is there.fits in
+    let g = gives w T.Start the_start waits l c.args.given.value s refl f' in
+    let fits = subst (λ z. StoreFits z s) (sym code) (gives_store w T.Start the_start waits l c.args.given.value s g) in
+    let awaits = subst (λ z. Awaits z g.fits.0 (types_of (option_to_list c.args.given.value)) waits) (sym code) (gives_awaits w T.Start the_start waits l c.args.given.value s g) in
     let told = c.in_ok-turn.ensures.resumes g.fits.0 fits awaits in
     let again = c.in_ok-turn.ensures.again g.fits.0 fits awaits in
-    let ran = gives_turn w T.Start the_start waits l c.args.value s g left used c.in_ok-turn.turn s' w' (subst (λ z. Resumes z s waits c.args.value left used c.in_ok-turn.turn s' w') code told) in
-    let h = busy (is_running the_start) (resumed (record { store = s; here = g.here; under = g.under }) s (option_to_list c.args.value)) l in
-    let place = ap (λ z. place_in (exports_of w.source) w.plan.area l s waits (S.Giving z c.args.value)) c.in-Start.is ∙ g.place_is in
+    let ran = gives_turn w T.Start the_start waits l c.args.given.value s g left used c.in_ok-turn.turn s' w' (subst (λ z. Resumes z s waits c.args.given.value left used c.in_ok-turn.turn s' w') code told) in
+    let h = busy (is_running the_start) (resumed (record { store = s; here = g.here; under = g.under }) s (option_to_list c.args.given.value)) l in
+    let place = ap (λ z. place_in (exports_of w.source) w.plan.area l s waits (S.Giving z c.args.given.value)) c.in-Start.is ∙ g.place_is in
     start_stands w c.args.setting.now (code_in c.resume.new.self) h l left used c.in_ok-turn.turn s' w' there.setting (c.resume.ensures.code ∙ code) g.fits (subst (PlaceHolds w) place there.holds) ran
     (calls_one w c.args.setting.now (code_in c.args.instance.now) g.fits.0 c.in_ok-turn.turn s' w' there.setting code again)
 
 pub unreachable-requires : goal.unreachable-requires
 unreachable-requires g c =
-    outermost_given c.args.setting.now (code_in c.args.instance.now) (left_of c.args.left.now) (store_in c.args.instance.now) (waits_in c.args.instance.now) c.args.task c.args.value c.in-Outermost.is
+    outermost_given c.args.setting.now (code_in c.args.instance.now) (left_of c.args.left.now) (store_in c.args.instance.now) (waits_in c.args.instance.now) c.args.given.task c.args.given.value c.in-Outermost.is
     c.requires.there
 
 pub entry_ran-requires-clause-area : goal.entry_ran-requires-clause-area
@@ -138,14 +138,14 @@ entry_ran-requires-clause-area g c =
     let used = c.resume.new.steps.used - c.args.steps.now.used in
     let l = left_of c.args.left.now in
     let code = there.code_is in
-    let f' = subst (λ z. PlaceFits w (place_in (exports_of w.source) w.plan.area l s waits (S.Giving z c.args.value))) c.in-Entry.is there.fits in
-    let g = gives w (T.Entry c.in-Entry.entry) (an_entry (entry_of c.in-Entry.entry)) waits l c.args.value s refl f' in
-    let place = ap (λ z. place_in (exports_of w.source) w.plan.area l s waits (S.Giving z c.args.value)) c.in-Entry.is ∙ g.place_is in
+    let f' = subst (λ z. PlaceFits w (place_in (exports_of w.source) w.plan.area l s waits (S.Giving z c.args.given.value))) c.in-Entry.is there.fits in
+    let g = gives w (T.Entry c.in-Entry.entry) (an_entry (entry_of c.in-Entry.entry)) waits l c.args.given.value s refl f' in
+    let place = ap (λ z. place_in (exports_of w.source) w.plan.area l s waits (S.Giving z c.args.given.value)) c.in-Entry.is ∙ g.place_is in
     let holds = subst (PlaceHolds w) place there.holds in
-    let fits = subst (λ z. StoreFits z s) (sym code) (gives_store w (T.Entry c.in-Entry.entry) (an_entry (entry_of c.in-Entry.entry)) waits l c.args.value s g) in
-    let awaits = subst (λ z. Awaits z g.fits.0 (types_of (option_to_list c.args.value)) waits) (sym code) (gives_awaits w (T.Entry c.in-Entry.entry) (an_entry (entry_of c.in-Entry.entry)) waits l c.args.value s g) in
+    let fits = subst (λ z. StoreFits z s) (sym code) (gives_store w (T.Entry c.in-Entry.entry) (an_entry (entry_of c.in-Entry.entry)) waits l c.args.given.value s g) in
+    let awaits = subst (λ z. Awaits z g.fits.0 (types_of (option_to_list c.args.given.value)) waits) (sym code) (gives_awaits w (T.Entry c.in-Entry.entry) (an_entry (entry_of c.in-Entry.entry)) waits l c.args.given.value s g) in
     let told = c.in_ok-turn.ensures.resumes g.fits.0 fits awaits in
-    area_longer x.area s s' (resumes_longer (code_in c.args.instance.now) s waits c.args.value left used c.in_ok-turn.turn s' w' told) (area_told w x s there.setting holds.0)
+    area_longer x.area s s' (resumes_longer (code_in c.args.instance.now) s waits c.args.given.value left used c.in_ok-turn.turn s' w' told) (area_told w x s there.setting holds.0)
 
 pub entry_ran-requires-clause-number : goal.entry_ran-requires-clause-number
 entry_ran-requires-clause-number g c =
@@ -160,9 +160,9 @@ entry_ran-requires-clause-number g c =
     let used = c.resume.new.steps.used - c.args.steps.now.used in
     let l = left_of c.args.left.now in
     let code = there.code_is in
-    let f' = subst (λ z. PlaceFits w (place_in (exports_of w.source) w.plan.area l s waits (S.Giving z c.args.value))) c.in-Entry.is there.fits in
-    let g = gives w (T.Entry c.in-Entry.entry) (an_entry (entry_of c.in-Entry.entry)) waits l c.args.value s refl f' in
-    let place = ap (λ z. place_in (exports_of w.source) w.plan.area l s waits (S.Giving z c.args.value)) c.in-Entry.is ∙ g.place_is in
+    let f' = subst (λ z. PlaceFits w (place_in (exports_of w.source) w.plan.area l s waits (S.Giving z c.args.given.value))) c.in-Entry.is there.fits in
+    let g = gives w (T.Entry c.in-Entry.entry) (an_entry (entry_of c.in-Entry.entry)) waits l c.args.given.value s refl f' in
+    let place = ap (λ z. place_in (exports_of w.source) w.plan.area l s waits (S.Giving z c.args.given.value)) c.in-Entry.is ∙ g.place_is in
     let holds = subst (PlaceHolds w) place there.holds in
     omega (arith, holds.1)
 
@@ -179,11 +179,11 @@ start_ran-requires-clause-area g c =
     let used = c.resume.new.steps.used - c.args.steps.now.used in
     let l = left_of c.args.left.now in
     let code = there.code_is in
-    let f' = subst (λ z. PlaceFits w (place_in (exports_of w.source) w.plan.area l s waits (S.Giving z c.args.value))) c.in-Start.is there.fits in
-    let g = gives w T.Start the_start waits l c.args.value s refl f' in
-    let place = ap (λ z. place_in (exports_of w.source) w.plan.area l s waits (S.Giving z c.args.value)) c.in-Start.is ∙ g.place_is in
+    let f' = subst (λ z. PlaceFits w (place_in (exports_of w.source) w.plan.area l s waits (S.Giving z c.args.given.value))) c.in-Start.is there.fits in
+    let g = gives w T.Start the_start waits l c.args.given.value s refl f' in
+    let place = ap (λ z. place_in (exports_of w.source) w.plan.area l s waits (S.Giving z c.args.given.value)) c.in-Start.is ∙ g.place_is in
     let holds = subst (PlaceHolds w) place there.holds in
-    let fits = subst (λ z. StoreFits z s) (sym code) (gives_store w T.Start the_start waits l c.args.value s g) in
-    let awaits = subst (λ z. Awaits z g.fits.0 (types_of (option_to_list c.args.value)) waits) (sym code) (gives_awaits w T.Start the_start waits l c.args.value s g) in
+    let fits = subst (λ z. StoreFits z s) (sym code) (gives_store w T.Start the_start waits l c.args.given.value s g) in
+    let awaits = subst (λ z. Awaits z g.fits.0 (types_of (option_to_list c.args.given.value)) waits) (sym code) (gives_awaits w T.Start the_start waits l c.args.given.value s g) in
     let told = c.in_ok-turn.ensures.resumes g.fits.0 fits awaits in
-    area_longer x.area s s' (resumes_longer (code_in c.args.instance.now) s waits c.args.value left used c.in_ok-turn.turn s' w' told) (area_told w x s there.setting holds.0)
+    area_longer x.area s s' (resumes_longer (code_in c.args.instance.now) s waits c.args.given.value left used c.in_ok-turn.turn s' w' told) (area_told w x s there.setting holds.0)

@@ -13,8 +13,8 @@ use Rattle.pause_host.proofs.running.start_ran.Goals as goal
 
 pub returns-in-Returned-clause-comes : goal.returns-in-Returned-clause-comes
 returns-in-Returned-clause-comes g c = λ w is code pokes h left used ran sum fits.
-    let old = supply_in (λ z. (goal.Device-dyn g z).seen z.1) (λ z. (goal.Device-dyn g z).faults z.1) c.args.answers.now.items c.args.devices.now in
-    let new = supply_in (λ z. (goal.Device-dyn g z).seen z.1) (λ z. (goal.Device-dyn g z).faults z.1) c.call_next.new.answers.items c.call_next.new.devices in
+    let old = supply_in (λ z. (goal.Device-dyn g z).seen z.1) (λ z. (goal.Device-dyn g z).faults z.1) c.args.left.now.answers.items c.args.devices.now in
+    let new = supply_in (λ z. (goal.Device-dyn g z).seen z.1) (λ z. (goal.Device-dyn g z).faults z.1) c.call_next.new.left.answers.items c.call_next.new.devices in
     let s = store_in c.args.instance.now in
     let waits = waits_in c.args.instance.now in
     let l = left_of c.args.left.now in
@@ -26,7 +26,7 @@ returns-in-Returned-clause-comes g c = λ w is code pokes h left used ran sum fi
 
 pub returns-in_default-clause-comes : goal.returns-in_default-clause-comes
 returns-in_default-clause-comes g c = λ w is code pokes h left used ran sum fits.
-    let old = supply_in (λ z. (goal.Device-dyn g z).seen z.1) (λ z. (goal.Device-dyn g z).faults z.1) c.args.answers.now.items c.args.devices.now in
+    let old = supply_in (λ z. (goal.Device-dyn g z).seen z.1) (λ z. (goal.Device-dyn g z).faults z.1) c.args.left.now.answers.items c.args.devices.now in
     let new = supply_in (λ z. (goal.Device-dyn g z).seen z.1) (λ z. (goal.Device-dyn g z).faults z.1) c.stopped.new.answers.items c.stopped.new.devices in
     let l = left_of c.args.left.now in
     let s = store_in c.args.instance.now in

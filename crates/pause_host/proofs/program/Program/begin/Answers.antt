@@ -17,7 +17,7 @@ returns-clause-next g c = λ w notes os code f.
     let x = c.args.self.now in
     let old = supply_of (λ z. (goal.Device-dyn g z).seen z.1) (λ z. (goal.Device-dyn g z).faults z.1) x c.args.devices.now in
     let new : Supply = record {
-      lines = lines_in c.start.new.answers.items;
+      lines = lines_in c.start.new.left.answers.items;
       devices = of_all (λ z. (goal.Device-dyn g z).seen z.1) c.start.new.devices;
       faults = of_all (λ z. (goal.Device-dyn g z).faults z.1) c.start.new.devices;
     } in
@@ -29,7 +29,7 @@ returns-clause-next g c = λ w notes os code f.
     let to = place_in (exports_of w.source) w.plan.area (left_of c.start.new.left) (store_in i') (waits_in i') c.in_ok-moved.moved.stage in
     let moves = subst (λ n. Moves w from n old c.in_ok-moved.moved.event (store_in i') (c.start.new.steps.used - c.unused-steps.result.used) new to) c.unused-steps.ensures.left moves0 in
     let stage = c.in_ok-moved.moved.stage in
-    let x' : Program = record x { left = c.start.new.left; answers = c.start.new.answers; steps_left = c.start.new.steps.left; state = Live i' stage } in
+    let x' : Program = record x { left = c.start.new.left; steps_left = c.start.new.steps.left; state = Live i' stage } in
     let used = c.start.new.steps.used - c.unused-steps.result.used in
     subst
     (λ (z : Program). Advances w notes os c.in_ok-moved.moved.event old (supply_of (λ z. (goal.Device-dyn g z).seen z.1) (λ z. (goal.Device-dyn g z).faults z.1) z c.start.new.devices) z)
