@@ -11,25 +11,37 @@ ghost use Rattle.host_laws.specs.Answering.{IsShort, listed_of};
 use wa_model::{Answer, Area, End, Poke, Said};
 use wa_types::{ValType, Value};
 
-/// The first test that an answer fails: it is a trap, or a value of the import's result type; every poke lies inside the memory and
-/// off the area; where it pauses, the call isn't inside the start function, and the import isn't told as unlisted.
+/// A call that is answered: its import, the import's result type, and whether the call is inside the start function, or is it.
+#[derive(Clone, Copy)]
+pub struct AnsweredCall {
+    pub import: u32,
+    pub result_type: Option<ValType>,
+    pub in_start: bool,
+}
+
+/// The first test that an answer of a call fails: it is a trap, or a value of the import's result type; every poke lies inside the
+/// memory and off the area; where it pauses, the call isn't inside the start function, and the import isn't told as unlisted.
 pub fn answer_fault(
-    result_type: Option<ValType>,
+    call: AnsweredCall,
     size: u64,
     area: Area,
     listed: Option<&[bool]>,
-    in_start: bool,
-    import: u32,
     answer: &Answer,
 ) -> Option<End>
     ensures { (plan : Plan) → plan.area ≡ area → plan.listed ≡ listed_of listed.entry → All IsShort (map poke_of answer.now.pokes.items)
-        → result ≡ fault_of (option_to_list result_type) size plan in_start import (answer_of answer.now) }
+        → result ≡ fault_of (option_to_list call.result_type) size plan call.in_start call.import (answer_of answer.now) }
 {
-    match bad_value(result_type, import, answer.said) {
+    let import = call.import;
+    match bad_value(call.result_type, import, answer.said) {
         Some(end) => Some(end),
         None => match bad_poke(size, area, &answer.pokes) {
             Some(end) => Some(end),
-            None => bad_pause(in_start, is_unlisted(listed, import), import, answer.ticks),
+            None => bad_pause(
+                call.in_start,
+                is_unlisted(listed, import),
+                import,
+                answer.ticks,
+            ),
         },
     }
 }

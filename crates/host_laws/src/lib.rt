@@ -21,7 +21,7 @@ mod laws;
 mod lines;
 
 pub use device::device_outcome;
-pub use faults::answer_fault;
+pub use faults::{AnsweredCall, answer_fault};
 pub use laws::{
     calls_meet_in_turn, events_are_told_alone, events_are_told_in_turn, places_are_on_a_story,
     stories_are_worlds, stretches_compose, told_events_are_a_story,

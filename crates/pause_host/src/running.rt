@@ -27,7 +27,7 @@ use crate::stages::{
     EntryCall, Given, HostImport, Left, Moved, Pause, Setting, Stage, Task, stage_told,
 };
 use device_port::Devices;
-use host_laws::{Met, answer_fault};
+use host_laws::{AnsweredCall, Met, answer_fault};
 use interp::{Instance, Steps, Turn};
 use std::alloc::AllocError;
 use std::collections::VecDeque;
@@ -294,17 +294,12 @@ pub(crate) fn answered(
     ensures { (w : Program) → IsSetting w setting.now → All IsShort (answer_of answer).pokes
         → result ≡ stage_after (fault_of (option_to_list import.now.result) size w.plan (starts task) number (answer_of answer)) answer.ticks task number answer }
 {
-    let listed = listed_in(setting);
-    let in_start = is_start(&task);
-    match answer_fault(
-        import.result,
-        size,
-        setting.area,
-        listed,
-        in_start,
-        number,
-        &answer,
-    ) {
+    let call = AnsweredCall {
+        import: number,
+        result_type: import.result,
+        in_start: is_start(&task),
+    };
+    match answer_fault(call, size, setting.area, listed_in(setting), &answer) {
         Some(end) => Stage::Ending(end),
         None => passed(task, number, answer),
     }
