@@ -1,4 +1,4 @@
-//! Laws of images of suspended stacks; alone, as they are promises that nothing else rests on.
+//! Laws of images of suspended stacks; alone, as `joined_worlds` and promises alone rest on them.
 //!
 //! A store that holds the image of a suspended stack comes back: from there an emitted module does what its original does from its
 //! answer on, whatever wrote the store. `specs/Image.antt` says what a store holds at a pause and what the rest of a run owes,
