@@ -18,6 +18,8 @@ asyncify transform [OPTION ..] IN OUT   rewrites the module in the file IN into 
     --save all|live     a pause keeps all locals, or those that are read again: less memory
 asyncify run SCRIPT     rewrites the modules of a script, and runs them with its answers
 asyncify host SCRIPT    runs modules that are rewritten already
+asyncify save SCRIPT E SNAP     runs a script for E events, and keeps its programs in SNAP
+asyncify continue SCRIPT SNAP   goes on from there
 asyncify gen N OUT      writes a module of N functions, 1 to 4000, and runs it
 Options stand anywhere behind the command, and -- ends them. More: docs/COMMAND.md
 ";
@@ -51,6 +53,7 @@ pub(crate) fn tell_done<R: Files + AllocGlobal + Eprint>(rt: &R, words: &[String
             }
         }
         Command::Run { script } => tell_script(rt, script),
+        Command::Save { script, .. } => tell_script(rt, script),
         _ => {}
     }
 }

@@ -16,6 +16,7 @@ pub(crate) enum Wrong<'w> {
     BadList(&'w str, ListFault),
     BothImports,
     BadNumber(&'w str),
+    BadEvents(&'w str),
     TooMany(&'w str),
     Missing(&'static str),
 }
@@ -34,6 +35,9 @@ impl fmt::Display for Wrong<'_> {
             Wrong::BadList(list, fault) => write!(f, "--imports: '{list}' is no LIST: {fault}"),
             Wrong::BothImports => write!(f, "--imports and --ignore-imports exclude each other"),
             Wrong::BadNumber(word) => write!(f, "N is a number from 1 to 4000, not '{word}'"),
+            Wrong::BadEvents(word) => {
+                write!(f, "E is a number from 1 to 1000000000, not '{word}'")
+            }
             Wrong::TooMany(word) => write!(f, "'{word}' is one word too many"),
             Wrong::Missing(name) => write!(f, "{name} is missing"),
         }
@@ -51,6 +55,8 @@ pub(crate) fn wrong_in<'w>(alloc: Global, words: &'w [String]) -> Option<Wrong<'
         "run" => Line::new(false, &["SCRIPT"]),
         "host" => Line::new(false, &["SCRIPT"]),
         "gen" => Line::new(false, &["N", "OUT"]),
+        "save" => Line::new(false, &["SCRIPT", "E", "SNAP"]),
+        "continue" => Line::new(false, &["SCRIPT", "SNAP"]),
         _ => return Some(Wrong::Unknown(command)),
     };
     for word in words {
@@ -124,7 +130,8 @@ impl<'w> Line<'w> {
         };
         self.found = self.found.saturating_add(1);
         match *name {
-            "N" if !is_number(word) => Some(Wrong::BadNumber(word)),
+            "N" if !is_number(word, 4_000) => Some(Wrong::BadNumber(word)),
+            "E" if !is_number(word, 1_000_000_000) => Some(Wrong::BadEvents(word)),
             _ => None,
         }
     }
@@ -188,9 +195,9 @@ fn wrong_value<'w>(alloc: Global, option: &'w str, value: &'w str) -> Option<Wro
     }
 }
 
-/// Whether a word is a number of functions as `gen` takes it.
-fn is_number(word: &str) -> bool {
+/// Whether a word is a number from 1 up to this, in digits without a leading zero.
+fn is_number(word: &str, most: u32) -> bool {
     !word.starts_with('0')
         && word.bytes().all(|it| it.is_ascii_digit())
-        && matches!(word.parse::<u32>(), Ok(1..=4_000))
+        && matches!(word.parse::<u32>(), Ok(number) if number <= most)
 }
