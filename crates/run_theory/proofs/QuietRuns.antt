@@ -58,7 +58,7 @@ grown_agrees : (more : List Value) (count : ℕ) (s : Store) → length s.global
 grown_agrees more count s e = record { globals = λ x lt. sym (front s.globals more x (subst (λ k. x < k) (sym e) lt)); memory = refl }
 
 -- what holds anyway holds at each call
-at_calls : (e : Event) (T : Type 0) → T → AtCalls e T
+pub at_calls : (e : Event) (T : Type 0) → T → AtCalls e T
 at_calls (ended Done) T t = t
 at_calls (ended (Trapped trap)) T t = t
 at_calls (ended _) T t = tt
