@@ -99,7 +99,7 @@ state_agrees more m (halts s) h = grown_agrees more (spaces_of m).globals s h.gl
 -- ---- openings that fail
 
 -- an opening fails by no end at which the module may be called
-abbrev FailsOutside : Opening → Type 1
+abbrev pub FailsOutside : Opening → Type 1
 FailsOutside (fails_as e) = (T : Type 0) → AtCalls (ended e) T
 FailsOutside (opens s) = Unit {1}
 
@@ -121,7 +121,7 @@ opened_fails m globals pages entries false true = λ T. tt
 opened_fails m globals pages entries false false =
     filled_fails globals (replicate (pages * page_size) 0) (replicate entries None) (map (elem_piece globals) m.elems) (map (byte_piece globals) m.segments)
 
-opening_fails : (m : Module) (imports : List Value) → FailsOutside (opening m imports)
+pub opening_fails : (m : Module) (imports : List Value) → FailsOutside (opening m imports)
 opening_fails m imports = opened_fails m (all_values imports m) (least_of (all_memories m)) (least_of (all_tables m)) (nat_lt 1024 (least_of (all_memories m))) (nat_lt 100000 (least_of (all_tables m)))
 
 -- ---- whole runs
