@@ -17,7 +17,7 @@ use Rattle.wa_types.specs.Runtime.{global_space, func_space, runtime_types, runt
 use Rattle.wa_types.specs.Typing.{GlobalType}
 use Rattle.wa_types.specs.Validity.{Valid}
 use Rattle.wa_ops.specs.Operate.{are_of}
-use Rattle.wa_model.specs.declared.events.End.TheVariants.{Done, Trapped}
+use Rattle.wa_model.specs.declared.events.End.TheVariants.{BytesOut, Done, ElementsOut, HostLimit, UnwindTrap}
 use Rattle.wa_model.specs.Outside.{Event, ended}
 use Rattle.wa_model.specs.Machine.{Ran, after, still, run}
 use Rattle.wa_model.specs.Store.{Store}
@@ -59,9 +59,10 @@ grown_agrees more count s e = record { globals = λ x lt. sym (front s.globals m
 
 -- what holds anyway holds at each call
 pub at_calls : (e : Event) (T : Type 0) → T → AtCalls e T
-at_calls (ended Done) T t = t
-at_calls (ended (Trapped trap)) T t = t
-at_calls (ended _) T t = tt
+at_calls (ended (ElementsOut n)) T t = tt
+at_calls (ended (BytesOut n)) T t = tt
+at_calls (ended (HostLimit entries found)) T t = tt
+at_calls (ended (UnwindTrap trap used len)) T t = tt
 at_calls _ T t = t
 
 -- behind a list stands the first of what is appended
