@@ -1,24 +1,27 @@
 -- A call's end, from that of its command.
-use Rattle.std.proofs.Common.{◌≡◌, ◌⊎◌, ◌≤◌, inl, inr, ℕ, List, Option, Some, None, refl, sym, subst}
+use Rattle.std.proofs.Common.{◌≡◌, ◌⊎◌, ◌≤◌, inl, inr, ℕ, List, [], Option, Some, None, arith, refl, sym, subst}
 use Rattle.vault_port.specs.Counts.{FailsOnce}
 use Rattle.vault_port.specs.Files.{Files, ChangesOnly, HoldsFrontAtMost}
 use Rattle.vault_port.specs.Told.{Becomes}
 use Rattle.wa_types.specs.Encoding.{Enc}
 use Rattle.script_model.specs.Command.{Command, Manner, transform, OnTransform}
-use Rattle.script_model.specs.Spelled.{Spelled, rewriting, rewrites, hosts, runs, generates}
+use Rattle.script_model.specs.Spelled.{Spelled, rewriting, rewrites, hosts, runs, generates, saves, continues}
 use Rattle.script_model.specs.Transcript.{refusal_line, write_fault}
-use Rattle.transcript.specs.Refused.{EndsInMemory, Prints, PrintsMemory}
+use Rattle.transcript.specs.Refused.{EndsInMemory, Prints, PrintsMemory, PrintsMemoryPast}
 use Rattle.transcript.proofs.Printed.{memory_alone}
 use Rattle.gen_module.specs.Generated.{generated}
 use Rattle.asyncify_app.specs.Printed as G
 use Rattle.script_command.specs.declared.way.Way.TheVariants.{Host, Run}
 use Rattle.script_command.proofs.Answering.{one_end}
 use Rattle.script_command.proofs.Ending.{out_of_memory_alone}
+use Rattle.snapshot_command.specs.Answers as N
+use Rattle.snapshot_command.specs.Calls as S
+use Rattle.snapshot_command.specs.Ends.{memory}
 use Rattle.transform_command.specs.Ends as T
 use Rattle.transform_command.specs.Transforms.{RunsOutOfMemory}
 use Rattle.transform_command.proofs.OneEnd as TransformEnds
 use Rattle.transform_command.proofs.Printed.{memory_any}
-use Rattle.asyncify_app.specs.Ends.{Call, EndsBy, GeneratesOnce, HasOneEnd, transform_call, script_call}
+use Rattle.asyncify_app.specs.Ends.{Call, EndsBy, GeneratesOnce, HasOneEnd, output_of, snapshot_call, transform_call, script_call}
 
 -- The words spell this.
 pub spelled_ends : (c : Call) (status : ℕ) (o : Option Spelled) → c.spelled ≡ o → EndsBy c o status → HasOneEnd c status
@@ -45,11 +48,23 @@ module _ (c : Call) (status : ℕ) (nine : status ≡ 9) (kept : c.files' ≡ c.
       let line = refusal_line None (write_fault output) in
       becomes_by (PrintsMemory line c.sink_faults c.sink_faults') (G.RunsOutOfMemory n output c.sink_faults c.sink_faults') (λ x y h. (line, inr refl, h)) c.taken c.taken' (memory_alone line _ _ c.taken c.taken' printed)
 
+  no_event : Becomes c.taken c.taken' (PrintsMemoryPast 0 [] c.sink_faults c.sink_faults')
+  no_event =
+      becomes_by (EndsInMemory c.sink_faults c.sink_faults') (PrintsMemoryPast 0 [] c.sink_faults c.sink_faults') (λ x y h. (0, h.0, h.1, omega arith, h.2)) c.taken c.taken' printed
+
+  no_snapshot : (deed : S.Deed) (script snap : List ℕ) → N.HasOneEnd deed (snapshot_call c script snap) (output_of c) status
+  no_snapshot deed script snap = record {
+    end = record { which = memory; by_status = nine; why = (0, [], inl (record { none = refl; devices = same; files = kept }, refl), no_event) };
+    answer = record { refusals = λ all cause told refused. inr (inl refl); accepted = λ all told nothing. inr refl };
+  }
+
   by_memory : (o : Option Spelled) → EndsBy c o status
   by_memory None = inr nine
   by_memory (Some (rewrites (transform s input output))) = TransformEnds.memory_ends (transform_call c s input output) status nine
   by_memory (Some (hosts script)) = one_end (script_call c Host script) status (out_of_memory_alone (script_call c Host script) status same nine printed)
   by_memory (Some (runs script)) = one_end (script_call c Run script) status (out_of_memory_alone (script_call c Run script) status same nine printed)
+  by_memory (Some (saves script events snap)) = no_snapshot (S.saves events) script snap
+  by_memory (Some (continues script snap)) = no_snapshot S.continues script snap
   by_memory (Some (generates n output)) = inr (inl (nine, none_saved output (Enc (generated n)), no_line n output))
 
   -- Memory is wanting before the words are read.

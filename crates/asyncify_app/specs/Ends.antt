@@ -5,7 +5,7 @@ use Rattle.vault_port.specs.Files.{Files, ChangesOnly, HoldsFrontAtMost}
 use Rattle.vault_port.specs.Told.{Becomes}
 use Rattle.wa_types.specs.Encoding.{Enc}
 use Rattle.script_model.specs.Command.{Manner, transform}
-use Rattle.script_model.specs.Spelled.{Spelled, rewrites, hosts, runs, generates}
+use Rattle.script_model.specs.Spelled.{Spelled, rewrites, hosts, runs, generates, saves, continues}
 use Rattle.script_model.specs.Transcript.{refusal_line, write_fault}
 use Rattle.event_order.specs.Left.{Counted}
 use Rattle.transcript.specs.Refused.{Prints}
@@ -15,19 +15,29 @@ use Rattle.script_command.specs.declared.way.Way.{Way}
 use Rattle.script_command.specs.declared.way.Way.TheVariants.{Host, Run}
 use Rattle.script_command.specs.Answers as A
 use Rattle.script_command.specs.Ends as P
+use Rattle.snapshot_command.specs.Answers as N
+use Rattle.snapshot_command.specs.Calls as S
 use Rattle.transform_command.specs.Ends as T
 
--- this holds where words play a script
+-- this holds where words play a script to its end
 abbrev pub OnScript : Option Spelled → Type 0 → Type 0
 OnScript (Some (hosts script)) P = P
 OnScript (Some (runs script)) P = P
+OnScript (Some (continues script snap)) P = P
 OnScript _ P = Unit {0}
 
 -- this holds where words play none
 abbrev pub OffScript : Option Spelled → Type 0 → Type 0
 OffScript (Some (hosts script)) P = Unit {0}
 OffScript (Some (runs script)) P = Unit {0}
+OffScript (Some (saves script events snap)) P = Unit {0}
+OffScript (Some (continues script snap)) P = Unit {0}
 OffScript _ P = P
+
+-- this holds where words save no snapshot: a save may be refused once its events are played
+abbrev pub OffSave : Option Spelled → Type 0 → Type 0
+OffSave (Some (saves script events snap)) P = Unit {0}
+OffSave _ P = P
 
 -- A call: what its words spell; the files, the counts of faults, what the sink has taken and the devices, with their counts, before and after it.
 pub record Call : Type 0 where
@@ -65,6 +75,13 @@ transform_call c how from to = record {
 abbrev pub script_call : Call → Way → (script : List ℕ) → P.Call
 script_call c way script = P.call way script c.files c.fetch_faults c.fetch_faults' c.sink_faults c.sink_faults' c.taken c.taken' c.devices c.devices'
 
+-- the call as one on a snapshot, and what it prints
+abbrev pub snapshot_call : Call → (script snap : List ℕ) → S.Call
+snapshot_call c script snap = S.call script snap c.files c.files' c.fetch_faults c.fetch_faults' c.save_faults c.save_faults' c.devices c.devices'
+
+abbrev pub output_of : Call → S.Output
+output_of c = S.output c.taken c.taken' c.sink_faults c.sink_faults'
+
 -- Of `gen`: the module is written and the lines on its run are printed; memory is wanting; the module could not be written; or
 -- the sink failed.
 abbrev pub GeneratesOnce : Call → (number : ℕ) → (output : List ℕ) → ℕ → Type 0
@@ -83,6 +100,8 @@ EndsBy c (Some (rewrites (transform how input output))) status = T.HasOneEnd (tr
 EndsBy c (Some (hosts script)) status = A.HasOneEnd (script_call c Host script) status
 EndsBy c (Some (runs script)) status = A.HasOneEnd (script_call c Run script) status
 EndsBy c (Some (generates n output)) status = GeneratesOnce c n output status
+EndsBy c (Some (saves script events snap)) status = N.HasOneEnd (S.saves events) (snapshot_call c script snap) (output_of c) status
+EndsBy c (Some (continues script snap)) status = N.HasOneEnd S.continues (snapshot_call c script snap) (output_of c) status
 
 -- The call has one end, by what its words spell.
 abbrev pub HasOneEnd : Call → ℕ → Type 0

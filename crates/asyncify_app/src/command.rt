@@ -13,13 +13,15 @@ ghost use Rattle.transform_command.specs.Ends.{IsRefusal};
 ghost use Rattle.transform_command.specs.Transforms.{HasCause, HoldsSource, IsCutShort, IsTransformed, PrintsRefusal, PrintsDone, PrintsLess, RunsOutOfMemory};
 ghost use Rattle.host_laws.specs.Supplies.{IsLent};
 ghost use Rattle.asyncify_app.specs.Devices.{counted_boxes};
-ghost use Rattle.asyncify_app.specs.Ends.{HasOneEnd, OffScript, OnScript};
+ghost use Rattle.asyncify_app.specs.Ends.{HasOneEnd, OffSave, OffScript, OnScript};
 
 use crate::generating::run_generated;
 use crate::playing::play_with;
+use crate::snapshots::{continue_with, save_with};
 use command_words::{Command, WordsFault, read_words};
 use device_port::Device;
 use script_command::{Way, run_transform};
+use snapshot_command::SaveRequest;
 use std::alloc::Global;
 use transcript::{RefusalKind, out_of_memory, refuse};
 use vault_port::{Sink, Vault};
@@ -27,8 +29,8 @@ use vault_port::{Sink, Vault};
 /// Runs the command that the words spell, without the program's own name, over a vault of files, a sink for what it prints, and
 /// devices that answer imports of the programs of a script, and answers its status: 0 done, 2 no command, 3 bytes that spell no module,
 /// 4 a float, 5 a module that isn't valid, 6 a limit, 7 a reserved name, 8 a line of a script, 9 want of memory, 10 a file that could not
-/// be read, 11 one that could not be written, 12 a sink that failed. Each refusal prints a line, and changes no device. Want of memory may
-/// come in the place of any other answer.
+/// be read, 11 one that could not be written, 12 a sink that failed, 13 a snapshot that doesn't fit. Each refusal prints a line, and changes
+/// no device, unless events have been played that weren't saved. Want of memory may come in the place of any other answer.
 pub fn asyncify<V: Vault, S: Sink>(
     alloc: Global,
     words: &[String],
@@ -42,7 +44,7 @@ pub fn asyncify<V: Vault, S: Sink>(
     ensures usage_files { spelled (map string_bytes words.now) ≡ None → V.files vault.new ≡ V.files vault.old }
     ensures prints_usage { result ≡ 2 → Becomes (S.taken out.old) (S.taken out.new) (Prints (refusal_line None usage) (S.faults out.old) (S.faults out.new)) }
     ensures prints_usage_memory { spelled (map string_bytes words.now) ≡ None → result ≡ 9 → Becomes (S.taken out.old) (S.taken out.new) (PrintsMemory (refusal_line None usage) (S.faults out.old) (S.faults out.new)) }
-    ensures status { (result ≡ 0) ⊎ (result ≡ 2) ⊎ IsRefusal result ⊎ (result ≡ 8) ⊎ (result ≡ 9) ⊎ (result ≡ 10) ⊎ (result ≡ 11) ⊎ (result ≡ 12) }
+    ensures status { (result ≡ 0) ⊎ (result ≡ 2) ⊎ IsRefusal result ⊎ (result ≡ 8) ⊎ (result ≡ 9) ⊎ (result ≡ 10) ⊎ (result ≡ 11) ⊎ (result ≡ 12) ⊎ (result ≡ 13) }
 
     // Exactly one end, with its cause.
     ensures one_end { HasOneEnd (record {
@@ -99,9 +101,9 @@ pub fn asyncify<V: Vault, S: Sink>(
     ensures devices_off_scripts { OffScript (spelled (map string_bytes words.now))
         (counted_boxes seen (λ b. (⟦<dyn Device as Device>⟧ b.vtable).faults b.value) devices.new.items
         ≡ counted_boxes seen (λ b. (⟦<dyn Device as Device>⟧ b.vtable).faults b.value) devices.old.items) }
-    ensures devices_refused { result ≢ 0 → result ≢ 9 → result ≢ 12
+    ensures devices_refused { OffSave (spelled (map string_bytes words.now)) (result ≢ 0 → result ≢ 9 → result ≢ 12
         → counted_boxes seen (λ b. (⟦<dyn Device as Device>⟧ b.vtable).faults b.value) devices.new.items
-        ≡ counted_boxes seen (λ b. (⟦<dyn Device as Device>⟧ b.vtable).faults b.value) devices.old.items }
+        ≡ counted_boxes seen (λ b. (⟦<dyn Device as Device>⟧ b.vtable).faults b.value) devices.old.items) }
 
     // What has failed, each at most once. No count falls.
     ensures counts { CountsBy result (V.fetch_faults vault.old) (V.fetch_faults vault.new) (V.save_faults vault.old) (V.save_faults vault.new)
@@ -123,5 +125,23 @@ pub fn asyncify<V: Vault, S: Sink>(
         Ok(Command::Host { script }) => play_with(alloc, vault, out, devices, Way::Host, script),
         Ok(Command::Run { script }) => play_with(alloc, vault, out, devices, Way::Run, script),
         Ok(Command::Gen { number, output }) => run_generated(alloc, vault, out, number, output),
+        Ok(
+            Command::Save {
+                script,
+                events,
+                snap,
+            },
+        ) => save_with(
+            alloc,
+            vault,
+            out,
+            devices,
+            SaveRequest {
+                script,
+                events,
+                snap,
+            },
+        ),
+        Ok(Command::Continue { script, snap }) => continue_with(alloc, vault, out, devices, script, snap),
     }
 }

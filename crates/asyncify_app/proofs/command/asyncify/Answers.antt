@@ -13,7 +13,8 @@ use Rattle.command_words.specs.Words.{Reads, spelled_of}
 use Rattle.transcript.proofs.Printed.{memory_alone}
 use Rattle.transcript.proofs.Counts.{refused_counts}
 use Rattle.asyncify_app.proofs.OneEnd.{memory_ends, memory_unread_words, spelled_ends}
-use Rattle.asyncify_app.proofs.Statuses.{script_status}
+use Rattle.asyncify_app.proofs.Statuses.{script_status, snapshot_status}
+use Rattle.snapshot_command.specs.Calls.{continues, saves}
 use Rattle.script_command.specs.declared.way.Way.TheVariants.{Host, Run}
 use Rattle.transform_command.proofs.OneEnd.{transform_ends}
 use Rattle.asyncify_app.proofs.command.asyncify.Goals as goal
@@ -64,6 +65,12 @@ returns-in-Ok-Host-clause-status g c = script_status Host c.play_with.result c.p
 
 pub returns-in-Ok-Run-clause-status : goal.returns-in-Ok-Run-clause-status
 returns-in-Ok-Run-clause-status g c = script_status Run c.play_with-in-Ok-Run.result c.play_with-in-Ok-Run.ensures.status
+
+pub returns-in-Ok-Save-clause-status : goal.returns-in-Ok-Save-clause-status
+returns-in-Ok-Save-clause-status g c = snapshot_status (saves c.in-Ok-Save.events) c.save_with.result c.save_with.ensures.status
+
+pub returns-in-Ok-Continue-clause-status : goal.returns-in-Ok-Continue-clause-status
+returns-in-Ok-Continue-clause-status g c = snapshot_status continues c.continue_with.result c.continue_with.ensures.status
 
 pub returns-in-Err-Usage-clause-counts : goal.returns-in-Err-Usage-clause-counts
 returns-in-Err-Usage-clause-counts g c = refused_counts c.refuse.result _ _ _ _ _ _ usage refl refl c.refuse.ensures.status c.refuse.ensures.once
