@@ -7,10 +7,6 @@ use Rattle.script_command.specs.declared.way.Way.{Way}
 use Rattle.script_command.specs.Answers.{HasOneEnd}
 use Rattle.script_command.specs.Ends.{call}
 use Rattle.script_command.proofs.Answering.{kept_devices}
-use Rattle.snapshot_command.specs.Answers as N
-use Rattle.snapshot_command.specs.Calls as S
-use Rattle.snapshot_command.specs.Ends as E
-use Rattle.snapshot_command.specs.Telling.{Cause, IsCause, unplayed, unread, long, unwritten, unfit}
 use Rattle.asyncify_app.specs.Devices.{counted_boxes}
 
 abbrev one : Device → ℕ → Counted
@@ -38,31 +34,3 @@ module _ (way : Way) (name : List ℕ) (files : Option Files) (f f' p p' : ℕ) 
 
   pub kept_lent : (status ≡ 0 → ⊥) → (status ≡ 9 → ⊥) → (status ≡ 12 → ⊥) → ds' ≡ ds
   kept_lent zero nine twelve = sym left ∙ kept_devices (call way name files f f' p p' old new mid last) status h.end zero nine twelve ∙ same
-
--- ---- snapshots
-
-cause_keeps : (c : S.Call) (cause : Cause) (text : List ℕ) → IsCause S.continues c cause text → c.devices' ≡ c.devices
-cause_keeps c (unplayed cause) text h = (h.1).devices
-cause_keeps c (unread name) text h = (h.2).devices
-cause_keeps c (long found) text h = (h.1).devices
-cause_keeps c unwritten text h = absurd h.0
-cause_keeps c unfit text h = (h.1).devices
-
-end_keeps : (c : S.Call) (o : S.Output) (status : ℕ) (which : E.End) → status ≡ E.status_of_end c which → E.IsWhy S.continues c o which → (status ≡ 0 → ⊥) → (status ≡ 9 → ⊥)
-    → (status ≡ 12 → ⊥) → c.devices' ≡ c.devices
-end_keeps c o status E.done by why zero nine twelve = absurd (zero by)
-end_keeps c o status E.memory by why zero nine twelve = absurd (nine by)
-end_keeps c o status E.sink_fault by why zero nine twelve = absurd (twelve by)
-end_keeps c o status (E.refused cause) by why zero nine twelve = cause_keeps c cause why.0 why.1
-
-module _ (deed : S.Deed) (spelled snap : List ℕ) (all all' : Option Files) (f f' s s' : ℕ) (o : S.Output) (mid ds last ds' : List Counted) (status : ℕ) (same : mid ≡ ds)
-    (left : last ≡ ds') (h : N.HasOneEnd deed (S.call spelled snap all all' f f' s s' mid last) o status) where
-  pub snapshot_lent : N.HasOneEnd deed (S.call spelled snap all all' f f' s s' ds ds') o status
-  snapshot_lent = subst (λ (cs : List Counted). N.HasOneEnd deed (S.call spelled snap all all' f f' s s' ds cs) o status) left
-      (subst (λ (cs : List Counted). N.HasOneEnd deed (S.call spelled snap all all' f f' s s' cs last) o status) same h)
-
--- going on keeps the devices, unless it is done, or ends while lines are printed
-pub continue_keeps : (spelled snap : List ℕ) (all all' : Option Files) (f f' s s' : ℕ) (o : S.Output) (ds ds' : List Counted) (status : ℕ)
-    → N.HasOneEnd S.continues (S.call spelled snap all all' f f' s s' ds ds') o status → (status ≡ 0 → ⊥) → (status ≡ 9 → ⊥) → (status ≡ 12 → ⊥) → ds' ≡ ds
-continue_keeps spelled snap all all' f f' s s' o ds ds' status h zero nine twelve =
-    end_keeps (S.call spelled snap all all' f f' s s' ds ds') o status h.end.which h.end.by_status h.end.why zero nine twelve

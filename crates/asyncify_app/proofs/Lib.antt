@@ -6,5 +6,6 @@ pub mod OneEnd
 pub mod OneStory
 pub mod Rewritten
 pub mod Runs
+pub mod SnapshotEnds
 pub mod Statuses
 pub mod Telling

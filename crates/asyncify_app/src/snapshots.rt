@@ -1,6 +1,7 @@
 //! Snapshots of a script, with a list of boxed devices.
 
 ghost use Rattle.std.specs.Prelude.{◌≡◌, ◌≢◌, ◌≤◌};
+ghost use Rattle.vault_port.specs.Counts.{FailsOnce};
 ghost use Rattle.host_laws.specs.Supplies.{IsLent};
 ghost use Rattle.transcript.specs.Refused.{CountsBy};
 ghost use Rattle.asyncify_app.specs.Devices.{counted_boxes};
@@ -29,6 +30,9 @@ pub(crate) fn save_with<V: Vault, S: Sink>(
         (counted_boxes seen (λ b. (⟦<dyn Device as Device>⟧ b.vtable).faults b.value) devices.new.items))
         (output (S.taken out.old) (S.taken out.new) (S.faults out.old) (S.faults out.new)) result }
     ensures status { IsStatus (saves request.entry.events) result }
+    ensures kept { result ≢ 0 → result ≢ 9 → result ≢ 11 → V.files vault.new ≡ V.files vault.old }
+    ensures write_fault { result ≡ 11 → FailsOnce (V.save_faults vault.old) (V.save_faults vault.new) }
+    ensures sink_fault { result ≡ 12 → FailsOnce (S.faults out.old) (S.faults out.new) }
     ensures counts { CountsBy result (V.fetch_faults vault.old) (V.fetch_faults vault.new) (V.save_faults vault.old) (V.save_faults vault.new)
         (S.faults out.old) (S.faults out.new) }
     ensures fetch_faults { V.fetch_faults vault.old ≤ V.fetch_faults vault.new }
@@ -59,6 +63,7 @@ pub(crate) fn continue_with<V: Vault, S: Sink>(
         → counted_boxes seen (λ b. (⟦<dyn Device as Device>⟧ b.vtable).faults b.value) devices.new.items
         ≡ counted_boxes seen (λ b. (⟦<dyn Device as Device>⟧ b.vtable).faults b.value) devices.old.items }
     ensures kept { V.files vault.new ≡ V.files vault.old }
+    ensures sink_fault { result ≡ 12 → FailsOnce (S.faults out.old) (S.faults out.new) }
     ensures counts { CountsBy result (V.fetch_faults vault.old) (V.fetch_faults vault.new) (V.save_faults vault.old) (V.save_faults vault.new)
         (S.faults out.old) (S.faults out.new) }
     ensures fetch_faults { V.fetch_faults vault.old ≤ V.fetch_faults vault.new }

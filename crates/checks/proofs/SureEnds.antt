@@ -3,7 +3,7 @@ use Rattle.std.proofs.Common.{◌≡◌, ◌≢◌, ◌∙◌, ℕ, List, Option
 use Rattle.vault_port.specs.Counts.{FailsOnce}
 use Rattle.vault_port.specs.Files.{Files, CannotRead}
 use Rattle.script_model.specs.Command.{transform}
-use Rattle.script_model.specs.Spelled.{Spelled, rewrites, hosts, runs, generates}
+use Rattle.script_model.specs.Spelled.{Spelled, rewrites, hosts, runs, generates, saves, continues}
 use Rattle.script_model.specs.Transcript.{Refusal, usage, malformed, float, invalid, limit, nesting, reserved, script, out_of_memory, read_fault, write_fault, snapshot_limit, snapshot_refused}
 use Rattle.transcript.specs.Refused.{status_of}
 use Rattle.script_setup.specs.Prepared.{IsOfContent}
@@ -13,9 +13,14 @@ use Rattle.script_command.specs.Playing.{Cause, bad_script, bad_module, bad_line
 use Rattle.script_command.specs.Answers as A
 use Rattle.script_command.specs.Ends as P
 use Rattle.script_command.proofs.Statuses.{module_content, script_content}
+use Rattle.snapshot_command.specs.Calls as D
+use Rattle.snapshot_command.specs.Ends as E
+use Rattle.snapshot_command.specs.Scripts as K
+use Rattle.snapshot_command.specs.Telling as W
 use Rattle.transform_command.specs.Ends as T
 use Rattle.transform_command.specs.Sources as S
-use Rattle.asyncify_app.specs.Ends.{Call, EndsBy, HasOneEnd, script_call, transform_call}
+use Rattle.asyncify_app.specs.Ends.{Call, EndsBy, HasOneEnd, output_of, script_call, snapshot_call, transform_call}
+use Rattle.asyncify_app.proofs.SnapshotEnds.{unplayed_by, unplayed_small}
 use Rattle.checks.specs.SureCommands.{ReadsAbsent}
 
 pub none_failed : FailsOnce 0 0 → ⊥
@@ -77,6 +82,19 @@ script_absent c files is e e' P.done s why = absurd (omega (arith, s))
 script_absent c files is e e' P.memory s why = absurd (omega (arith, s))
 script_absent c files is e e' P.sink_fault s why = absurd (omega (arith, s))
 
+snapshot_absent : (deed : D.Deed) (c : D.Call) (o : D.Output) (files : Files) → c.files ≡ Some files → c.fetch_faults ≡ 0 → c.fetch_faults' ≡ 0 → (which : E.End) → 10 ≡ E.status_of_end c which
+    → E.IsWhy deed c o which → (name : List ℕ) × W.IsReadBy deed c name × (files name ≡ None)
+snapshot_absent deed c o files is e e' (E.refused (W.unread name)) s why =
+    (name, why.1.0, absent_only c.fetch_faults c.fetch_faults' files name e e' (subst (λ z. CannotRead z name c.fetch_faults c.fetch_faults') is why.1.1))
+snapshot_absent deed c o files is e e' (E.refused (W.unplayed cause)) s why =
+    let small = unplayed_small c.files c.script cause (unplayed_by deed c cause why.0 why.1) in absurd (omega (arith, s, small))
+snapshot_absent deed c o files is e e' (E.refused (W.long found)) s why = absurd (omega (arith, s))
+snapshot_absent deed c o files is e e' (E.refused W.unwritten) s why = absurd (omega (arith, s))
+snapshot_absent deed c o files is e e' (E.refused W.unfit) s why = absurd (omega (arith, s))
+snapshot_absent deed c o files is e e' E.done s why = absurd (omega (arith, s))
+snapshot_absent deed c o files is e e' E.memory s why = absurd (omega (arith, s))
+snapshot_absent deed c o files is e e' E.sink_fault s why = absurd (omega (arith, s))
+
 absent_by : (c : Call) (files : Files) → c.files ≡ Some files → c.fetch_faults ≡ 0 → c.fetch_faults' ≡ 0 → (words : Option Spelled) → (status : ℕ) → status ≡ 10 → EndsBy c words status → ReadsAbsent words files
 absent_by c files is e e' None status ten h = absurd (elim h [
   | inl two ↦ omega (arith, ten, two)
@@ -90,6 +108,12 @@ absent_by c files is e e' (Some (hosts name)) status ten h =
 absent_by c files is e e' (Some (runs name)) status ten h =
     let x = script_absent (script_call c Run name) files is e e' (h.end).which (sym ten ∙ (h.end).by_status) (h.end).why in
     (x.0, subst (λ o. IsRead Run o name x.0) is x.1, x.2)
+absent_by c files is e e' (Some (saves script events snap)) status ten h =
+    let x = snapshot_absent (D.saves events) (snapshot_call c script snap) (output_of c) files is e e' (h.end).which (sym ten ∙ (h.end).by_status) (h.end).why in
+    (x.0, subst (λ o. K.IsRead o script x.0) is x.1, x.2)
+absent_by c files is e e' (Some (continues script snap)) status ten h =
+    let x = snapshot_absent D.continues (snapshot_call c script snap) (output_of c) files is e e' (h.end).which (sym ten ∙ (h.end).by_status) (h.end).why in
+    (x.0, subst (λ o. K.IsRead o script x.0 ⊎ (K.Play o script × (x.0 ≡ snap))) is x.1, x.2)
 absent_by c files is e e' (Some (generates n output)) status ten h = absurd (elim h [
   | inl a ↦ omega (arith, ten, a.0)
   | inr g ↦ elim g [
