@@ -1,7 +1,6 @@
 -- A script that was read, and its programs.
 use Rattle.std.proofs.Common.{◌≡◌, ◌⊎◌, ◌≤◌, inl, inr, ℕ, List, [], ◌∷◌, length, map, Option, Result, Ok, Err, refl, sym, ap, ◌∙◌, subst, arith}
 use Rattle.std.specs.Prelude.{All, IfOk}
-use Rattle.std.specs.Result.{IfErr}
 use Rattle.std.proofs.lemmas.List.{length-map}
 use Rattle.vault_port.specs.Files.{Files, CannotRead}
 use Rattle.wa_model.specs.declared.answers.Detach.{Detach}
@@ -24,7 +23,7 @@ use Rattle.script_command.proofs.Openings.{next_blamed, text_in, texts_of_parts}
 
 -- ---- what is opened
 
-same_detaches : (xs : List Detach) → map detach_for (map detach_of xs) ≡ xs
+pub same_detaches : (xs : List Detach) → map detach_for (map detach_of xs) ≡ xs
 same_detaches [] = refl
 same_detaches (x ∷ xs) = ap (λ (ys : List Detach). x ∷ ys) (same_detaches xs)
 
@@ -39,10 +38,6 @@ read_script files name whole has = (has.bytes, has.script)
 pub opened_both : {T E : Type 0} (r : Result T E) (P Q : T → Type 0) → IfOk r P → IfOk r Q → IfOk r (λ x. P x × Q x)
 opened_both (Ok x) P Q p q = (p, q)
 opened_both (Err e) P Q p q = tt
-
-pub if_err_weaker : {T E : Type 0} (r : Result T E) (P Q : E → Type 0) → ((e : E) → P e → Q e) → IfErr r P → IfErr r Q
-if_err_weaker (Ok x) P Q weaker h = tt
-if_err_weaker (Err e) P Q weaker h = weaker e h
 
 module _ (whole : ScriptValue) (read : (bytes : List ℕ) × IsScript bytes (script_of whole)) where
   pub few_texts : length whole.programs.items ≤ 16

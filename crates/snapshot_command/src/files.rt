@@ -1,12 +1,10 @@
 //! The file of a snapshot.
 
-ghost use Rattle.std.specs.Prelude.{◌≡◌, ◌≢◌, ◌≤◌, All, IfOk, IsErrOf, List, OnOk, length, map, ℕ};
+ghost use Rattle.std.specs.Prelude.{◌≡◌, ◌≤◌, All, IfOk, OnOk, length, map};
 ghost use Rattle.std.specs.Result.{IfErr};
-ghost use Rattle.vault_port.specs.Counts.{FailsAtMostOnce};
 ghost use Rattle.snapshot_store.specs.Parts.{CountsFit};
 ghost use Rattle.snapshot_store.specs.Views.{record_of, snapshot_of};
-ghost use Rattle.transcript.specs.Refused.{CountsBy};
-ghost use Rattle.snapshot_command.specs.Views.{Holding, IsReadStop, IsToldStop, IsUnwritten, NoSnapshot, NoText, Writes, status_of_stop};
+ghost use Rattle.snapshot_command.specs.Views.{Holding, IsText, IsUnread, IsUnwritten, NoSnapshot, NoText, Writes};
 
 use crate::stop::{Stop, refused};
 use snapshot_store::{SnapFault, Snapshot, length, read, write};
