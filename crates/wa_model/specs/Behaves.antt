@@ -1,6 +1,7 @@
 -- What a rewritten module owes its original: the headline's relation on runs.
 use Rattle.std.specs.Prelude.{◌≡◌, ℕ, suc, ◌+◌, ◌≤◌, ◌<◌, ◌⊎◌, ◌++◌, List, [], map, take, Option, Some, None, Bool, true, false, All, Contains, slice_get}
 use Rattle.std.specs.List.{filter_map}
+use Rattle.wa_types.specs.declared.values.Value.TheVariants as V
 use Rattle.wa_types.specs.Syntax.{Func, Module}
 use Rattle.wa_types.specs.Modules.{imported, imported_global, defined_at}
 use Rattle.wa_types.specs.Sizes.{WellFormed}
@@ -11,7 +12,7 @@ use Rattle.wa_types.specs.Typing.{GlobalType}
 use Rattle.wa_types.specs.Runtime.{global_space}
 use Rattle.wa_model.specs.declared.answers.Area.{Area}
 use Rattle.wa_model.specs.declared.events.End.{End}
-use Rattle.wa_model.specs.declared.events.End.TheVariants.{UnwindTrap}
+use Rattle.wa_model.specs.declared.events.End.TheVariants.{Done, Trapped, UnwindTrap}
 use Rattle.wa_model.specs.Outside.{Event, paused, ended}
 use Rattle.wa_model.specs.Store.{Store}
 use Rattle.wa_model.specs.Plan.{AreLawful, EntryFits, Plan, Outcome, given, refused, OutcomeFits, Fits}
@@ -67,18 +68,27 @@ abbrev pub AtPaused : Event → Type 0 → Type 0
 AtPaused (paused ticks used) T = T
 AtPaused _ T = Unit {0}
 
+-- what has to hold at each event but an end, and at the ends of a program that is done or trapped
+abbrev pub AtCalls : Event → Type 0 → Type 0
+AtCalls (ended Done) T = T
+AtCalls (ended (Trapped trap)) T = T
+AtCalls (ended how) T = Unit {0}
+AtCalls _ T = T
+
 -- since this store the location word has come back to the start of the frames, and every other byte of the area is as it was
 pub record AreaKept (area : Area) (at_pause now : Store) : Type 0 where
   pub location : HoldsBytes now.memory area.at (word (area.at + 8))
   pub others : (x : ℕ) → area.at + 4 ≤ x → x < area.at + area.len → slice_get now.memory x ≡ slice_get at_pause.memory x
 
 -- What a note of the rewritten module owes the expected note beside it, which shows the stack: one event; stores agree; at a pause the area
--- holds the stack's image; and an answer behind a pause has read the frames, and has changed nothing else of the area.
+-- holds the stack's image; an answer behind a pause has read the frames, and has changed nothing else of the area; and where the module may be
+-- called the state is 0.
 pub record SameNote (m : Module) (s : Settings) (which : List Bool) (area : Area) (x y : Note) : Type 0 where
   pub event : x.event ≡ y.event
   pub ends : SameEnd (global_space m) area x.store y.store
   pub image : AtPaused y.event (Image m s which x.stack area.at area.len y.store.memory)
   pub kept : (at_pause : Store) → y.since ≡ Some at_pause → AreaKept area at_pause y.store
+  pub state : AtCalls y.event (slice_get y.store.globals (global_space m) ≡ Some (V.I32 0))
 
 -- the end is a trap of an unwind
 abbrev pub is_pause_end : End → Bool
