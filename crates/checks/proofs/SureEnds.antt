@@ -4,7 +4,7 @@ use Rattle.vault_port.specs.Counts.{FailsOnce}
 use Rattle.vault_port.specs.Files.{Files, CannotRead}
 use Rattle.script_model.specs.Command.{transform}
 use Rattle.script_model.specs.Spelled.{Spelled, rewrites, hosts, runs, generates}
-use Rattle.script_model.specs.Transcript.{Refusal, usage, malformed, float, invalid, limit, nesting, reserved, script, out_of_memory, read_fault, write_fault}
+use Rattle.script_model.specs.Transcript.{Refusal, usage, malformed, float, invalid, limit, nesting, reserved, script, out_of_memory, read_fault, write_fault, snapshot_limit, snapshot_refused}
 use Rattle.transcript.specs.Refused.{status_of}
 use Rattle.script_setup.specs.Prepared.{IsOfContent}
 use Rattle.script_command.specs.declared.way.Way.{Way}
@@ -35,6 +35,8 @@ content_not_ten usage h e = absurd h
 content_not_ten out_of_memory h e = absurd h
 content_not_ten (read_fault name) h e = absurd h
 content_not_ten (write_fault name) h e = absurd h
+content_not_ten (snapshot_limit found) h e = absurd h
+content_not_ten snapshot_refused h e = absurd h
 
 refused_not_ten : (way : Way) (files : Option Files) (name : List ℕ) (cause : Cause) → IsRefused way files name cause → status_of (refusal_of_cause cause) ≢ 10
 refused_not_ten way files name (bad_script r) h e = content_not_ten r (script_content h.0 r h.2) e

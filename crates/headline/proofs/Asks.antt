@@ -6,11 +6,12 @@ use Rattle.guard_runs.specs.Alike.{Alike}
 use Rattle.guard_runs.specs.Beside.{Callers}
 use Rattle.headline.proofs.FlatStretches.{Sil, Sm, along, gl, pr, sides, then_asks, up_to, xp}
 use Rattle.headline.specs.StoreLaws.{StoreLaws}
-use Rattle.headline.proofs.Reductions.{Allowed, LeftFits, Link, Owes, TopOf, allowed_on, last_move, nb, r_halts, r_runs, same_note, seen0, sh, tell_move}
+use Rattle.headline.proofs.Reductions.{Allowed, LeftFits, Link, Owes, Quiet, TopOf, allowed_on, last_move, nb, quiet_there, r_halts, r_runs, same_note, seen0, sh, tell_move}
 use Rattle.headline.proofs.ToldMoves.{silent_on}
 use Rattle.headline.specs.FlatLaw.{FlatAsks, FlatLaw}
 use Rattle.run_laws.proofs.Keeping.{same_refl}
 use Rattle.std.proofs.Common.{All, Bool, List, None, Option, Some, [], ap, arith, false, length, refl, subst, suc, sym, true, zero, ℕ, ◌*◌, ◌+◌, ◌<◌, ◌∙◌, ◌∷◌, ◌≡◌, ◌≤◌}
+use Rattle.run_theory.proofs.QuietRuns.{at_calls}
 use Rattle.std.specs.Option.{option_to_list}
 use Rattle.std.specs.Prelude.{if◌then◌else◌}
 use Rattle.wa_model.specs.Blocking.{Left, Note, State, Task, asked, bad_pause, bad_poke, bad_value, by_step, call_note, ends_at_call, fault_of, go_on, halts, import_traps, inside, is_start, is_unlisted, note, or_else, pause_of, poked, resumed, runs, tested, with_outcomes}
@@ -131,6 +132,9 @@ module _ (w : World) (ft : WorldFits w) (sl : StoreLaws w) (L : (top spare : ℕ
       pub same_d : Sm w d.store (cd.at).store
       same_d = sl.same_end top d.store (cd.at).store cd.alike
 
+      quiet_d : Quiet w (cd.at).store
+      quiet_d = quiet_there w top d.store (cd.at).store cd.alike
+
       paid : (suc k ≤ cd.cost + suc cd.j) × (cd.cost + suc cd.j ≤ 256 * suc k + spare)
       paid = let a1 = cd.few in (cd.least, omega arith)
 
@@ -156,7 +160,7 @@ module _ (w : World) (ft : WorldFits w) (sl : StoreLaws w) (L : (top spare : ℕ
       ends_there e mv =
           last_move w ft sl L W G law n spare k cd.j cd.cost a0 (halts d.store) b0 b1 (over (cd.at).store) (call_note i args d.store (stack_of (base w) d) None ∷ [])
           (call_note i args (cd.at).store (stack_of w.written cd.at) None ∷ note (ended e) (cd.at).store ∷ []) (note (ended e) d.store) cd.silent mv
-          (same_note w _ _ refl same_d tt refl, (same_note w _ _ refl same_d tt refl, tt)) same_d paid (λ enough. r_halts same_d)
+          (same_note w _ _ refl same_d tt refl quiet_d, (same_note w _ _ refl same_d tt refl (at_calls (ended e) (Quiet w (cd.at).store) quiet_d), tt)) same_d paid (λ enough. r_halts same_d)
 
       pub tested_now : (a : Answer) (os : List Outcome) (o : Option End) → l.outcomes ≡ given a ∷ os → fault a ≡ o
           → pr w b1 ≡ held_tested w.written (xp w) w.plan cd.j i args (inside task cd.at) (with_outcomes l os) a o (pause_of a.ticks)
@@ -202,6 +206,7 @@ module _ (w : World) (ft : WorldFits w) (sl : StoreLaws w) (L : (top spare : ℕ
           let lo = with_outcomes l os in
           let alike2 = sl.poked_too top d.store (cd.at).store a cd.alike (no_bad_poke (func_type_at (base w) i).results (length d.store.memory) w.plan (is_start task) i a ef) in
           let same2 = sl.same_end top (poked d.store a.pokes) (poked (cd.at).store a.pokes) alike2 in
+          let quiet2 = quiet_there w top (poked d.store a.pokes) (poked (cd.at).store a.pokes) alike2 in
           let gv = give lo a v cd.flat_at cd.at told cd.waits cd.alike cd.stack (answer_fits a os eo) ef in
           let mv = tested_now a os None eo ef ∙ ap (held_tested w.written (xp w) w.plan cd.j i args (inside task cd.at) lo a None) et
           ∙ ap (λ z. held_given cd.j (call_note i args (cd.at).store (stack_of w.written cd.at) None) z (poked (cd.at).store a.pokes) lo (inside task cd.at)) told in
@@ -214,7 +219,7 @@ module _ (w : World) (ft : WorldFits w) (sl : StoreLaws w) (L : (top spare : ℕ
           (busy (is_running task) (resumed cd.at (poked (cd.at).store a.pokes) (option_to_list v)) lo) (busy (is_running task) gv.to lo)
           (call_note i args d.store (stack_of (base w) d) None ∷ []) (call_note i args (cd.at).store (stack_of w.written cd.at) None ∷ note (answered (S.Value v)) (poked (cd.at).store a.pokes)
           ∷ []) (note (answered (S.Value v)) (poked d.store a.pokes)) cd.silent mv
-          (same_note w _ _ refl same_d tt refl, (same_note w _ _ refl same2 tt refl, tt)) gv.silent cd.least (omega arith)
+          (same_note w _ _ refl same_d tt refl quiet_d, (same_note w _ _ refl same2 tt refl quiet2, tt)) gv.silent cd.least (omega arith)
           (λ enough. r_runs top gv.left (omega arith) is_top gv.link (left_fits a os eo) (allowed_on w n k _ a0 _ was2 al)) in
           subst (λ z. O (sh w (go_on k (call_note i args d.store (stack_of (base w) d) z) a.said (poked d.store a.pokes) lo (inside task d)))) (sym et)
           (subst (λ z. O (sh w (go_on k (call_note i args d.store (stack_of (base w) d) None) z (poked d.store a.pokes) lo (inside task d)))) (sym told) owes)
@@ -226,13 +231,14 @@ module _ (w : World) (ft : WorldFits w) (sl : StoreLaws w) (L : (top spare : ℕ
           let lo = with_outcomes l os in
           let alike2 = sl.poked_too top d.store (cd.at).store a cd.alike (no_bad_poke (func_type_at (base w) i).results (length d.store.memory) w.plan (is_start task) i a ef) in
           let same2 = sl.same_end top (poked d.store a.pokes) (poked (cd.at).store a.pokes) alike2 in
+          let quiet2 = quiet_there w top (poked d.store a.pokes) (poked (cd.at).store a.pokes) alike2 in
           let mv = tested_now a os None eo ef ∙ ap (held_tested w.written (xp w) w.plan cd.j i args (inside task cd.at) lo a None) et
           ∙ ap (λ z. held_given cd.j (call_note i args (cd.at).store (stack_of w.written cd.at) None) z (poked (cd.at).store a.pokes) lo (inside task cd.at)) told in
           let owes : O (goes k (call_note i args d.store (stack_of (base w) d) None ∷ import_traps (poked d.store a.pokes)) (halts (poked d.store a.pokes))) =
           last_move w ft sl L W G law n spare k cd.j cd.cost a0 (halts (poked d.store a.pokes)) b0 b1 (over (poked (cd.at).store a.pokes))
           (call_note i args d.store (stack_of (base w) d) None ∷ note (answered S.Trap) (poked d.store a.pokes) ∷ [])
           (call_note i args (cd.at).store (stack_of w.written cd.at) None ∷ import_traps (poked (cd.at).store a.pokes)) (note (ended (Trapped Import)) (poked d.store a.pokes)) cd.silent mv
-          (same_note w _ _ refl same_d tt refl, (same_note w _ _ refl same2 tt refl, (same_note w _ _ refl same2 tt refl, tt))) same2 paid (λ enough. r_halts same2) in
+          (same_note w _ _ refl same_d tt refl quiet_d, (same_note w _ _ refl same2 tt refl quiet2, (same_note w _ _ refl same2 tt refl quiet2, tt))) same2 paid (λ enough. r_halts same2) in
           subst (λ z. O (sh w (go_on k (call_note i args d.store (stack_of (base w) d) z) a.said (poked d.store a.pokes) lo (inside task d)))) (sym et)
           (subst (λ z. O (sh w (go_on k (call_note i args d.store (stack_of (base w) d) None) z (poked d.store a.pokes) lo (inside task d)))) (sym told) owes)
 
@@ -258,7 +264,7 @@ module _ (w : World) (ft : WorldFits w) (sl : StoreLaws w) (L : (top spare : ℕ
               subst (λ z. O (sh w (asked (base w) w.plan k i args (inside task d) l z))) (sym eo)
               (last_move w ft sl L W G law n spare k cd.j cd.cost a0 (halts d.store) b0 b1 (over (cd.at).store) [] (call_note i args (cd.at).store (stack_of w.written cd.at) None ∷ [])
               (call_note i args d.store (stack_of (base w) d) None) cd.silent
-              (now ∙ ap (held_asked w.written (xp w) w.plan cd.j i args (inside task cd.at) l) eo) (same_note w _ _ refl same_d tt refl, tt) same_d paid (λ enough. r_halts same_d))
+              (now ∙ ap (held_asked w.written (xp w) w.plan cd.j i args (inside task cd.at) l) eo) (same_note w _ _ refl same_d tt refl quiet_d, tt) same_d paid (λ enough. r_halts same_d))
           by_outcomes (refused e ∷ os) eo =
               subst (λ z. O (sh w (asked (base w) w.plan k i args (inside task d) l z))) (sym eo)
               (ends_there e (now ∙ ap (held_asked w.written (xp w) w.plan cd.j i args (inside task cd.at) l) eo))

@@ -6,7 +6,7 @@ use Rattle.headline.proofs.FlatStretches.{Sm, gl}
 use Rattle.headline.specs.Given.{ComparedGiven}
 use Rattle.headline.specs.StoreLaws.{StoreLaws}
 use Rattle.headline.proofs.FromSimulation.{Begin, OpensHonestly, behaves_on}
-use Rattle.headline.proofs.Reductions.{Allowed, LeftFits, R, nb, r_begins, r_between, r_halts, same_note}
+use Rattle.headline.proofs.Reductions.{Allowed, LeftFits, Quiet, R, nb, quiet_there, r_begins, r_between, r_halts, same_note}
 use Rattle.headline.proofs.Simulation.{Both, simulates}
 use Rattle.headline.specs.FlatLaw.{FlatLaw}
 use Rattle.headline.specs.Halts.{HaltLaw, PausesKnown, room_in, used_in}
@@ -14,6 +14,7 @@ use Rattle.run_laws.proofs.Keeping.{same_refl}
 use Rattle.std.proofs.Common.{All, Bool, List, None, Option, Some, [], ap, arith, false, true, refl, subst, suc, sym, ℕ, ◌++◌, ◌+◌, ◌-◌, ◌<◌, ◌∙◌, ◌∷◌, ◌≡◌}
 use Rattle.std.proofs.lemmas.List.Elements.{All-cons, All-head, All-tail}
 use Rattle.run_theory.proofs.Follow.{Alike as AllAlike}
+use Rattle.run_theory.proofs.QuietRuns.{FailsOutside, opening_fails}
 use Rattle.run_theory.proofs.Runs.{leads_run, one_move}
 use Rattle.wa_model.specs.Behaves.{BehavesOn, PauseNumbered, SameNote, is_pause_end}
 use Rattle.wa_model.specs.Expected.{shown}
@@ -101,9 +102,10 @@ module _ (w : World) (ft : WorldFits w) (sl : StoreLaws w) (L : (top spare : ℕ
           → Begin (room_in w) (used_in w) w.original w.settings w.which w.written w.plan Rel os n
       by_opening (fails_as e) q o' q' h =
           let same = same_refl (gl w) w.plan.area no_store in
+          let outside = subst FailsOutside q (opening_fails (base w) w.plan.globals) (Quiet w no_store) in
           from (record { events = note (ended e) no_store ∷ []; last = halts no_store }) (record { events = note (ended e) no_store ∷ []; last = over no_store })
           (ap (begun (base w).start (all_left w.plan os)) q) (ap (held_begun w.written.start (all_left w.plan os)) (q' ∙ h.0))
-          (same_note w (note (ended e) no_store) (note (ended e) no_store) refl same tt refl, tt) (r_halts same) (subst OpensHonestly (sym q) h.1)
+          (same_note w (note (ended e) no_store) (note (ended e) no_store) refl same tt refl outside, tt) (r_halts same) (subst OpensHonestly (sym q) h.1)
       by_opening (opens s) q o' q' h = by_start (base w).start refl w.plan.entries refl
         where
           same : Sm w s h.0
@@ -131,7 +133,7 @@ module _ (w : World) (ft : WorldFits w) (sl : StoreLaws w) (L : (top spare : ℕ
               from (record { events = note (ended Done) s ∷ []; last = halts s }) (record { events = note (ended Done) h.0 ∷ []; last = over h.0 })
               (was ∙ ap (λ z. started s (all_left w.plan os) z) e ∙ ap (λ z. record { events = done_notes s z; last = on_to s (all_left w.plan os) z }) ee)
               (now ∙ ap (λ z. held_started h.0 (all_left w.plan os) z) e ∙ ap (λ z. record { events = done_notes h.0 z; last = held_on h.0 (all_left w.plan os) z }) ee)
-              (same_note w (note (ended Done) s) (note (ended Done) h.0) refl same tt refl, tt) (r_halts same) honest
+              (same_note w (note (ended Done) s) (note (ended Done) h.0) refl same tt refl (quiet_there w 0 s h.0 h.3), tt) (r_halts same) honest
           by_start None e (e1 ∷ es) ee =
               let was2 = was ∙ ap (λ z. started s (all_left w.plan os) z) e ∙ ap (λ z. record { events = done_notes s z; last = on_to s (all_left w.plan os) z }) ee in
               from (record { events = []; last = between s (all_left w.plan os) }) (record { events = []; last = free h.0 (all_left w.plan os) }) was2

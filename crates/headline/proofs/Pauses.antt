@@ -20,7 +20,7 @@ use Rattle.headline.specs.Told.{answer_notes, goes_on_told}
 use Rattle.headline.proofs.FromSimulation.{dear_cons}
 use Rattle.headline.proofs.Halves.{Back, Hangs, comes_back}
 use Rattle.headline.proofs.OuterLevels.{under_deep, weigh_all}
-use Rattle.headline.proofs.Reductions.{Allowed, LeftFits, Link, Owes, R, TopOf, allowed_on, nb, nn, r_halts, r_runs, rests_before, same_note, sh}
+use Rattle.headline.proofs.Reductions.{Allowed, LeftFits, Link, Owes, Quiet, R, TopOf, allowed_on, nb, nn, quiet_there, r_halts, r_runs, rests_before, same_note, sh}
 use Rattle.headline.proofs.ToldMoves.{Told, by_told, dear_of, no_more, silent_none, silent_quiet, told, told_leads}
 use Rattle.guard_runs.proofs.Pausing.{pauses_law}
 use Rattle.guard_runs.specs.Pause.{AreaReady, PausesAt, at_import}
@@ -190,7 +190,7 @@ module _ (w : World) (ft : WorldFits w) (sl : StoreLaws w) (L : (top spare : ℕ
   rdy = sl.ready top d.store s1 cd.alike wide small
 
   al1 : SameNote w.original w.settings w.which w.plan.area x1 y1
-  al1 = same_note w x1 y1 refl same1 tt refl
+  al1 = same_note w x1 y1 refl same1 tt refl (quiet_there w top d.store s1 cd.alike)
 
   -- while it can't be paid, nothing is made
   before : (j : ℕ) → j ≤ k → (((run (pr w) j b0).events ≡ []) × Sm w c.store (store_held (run (pr w) j b0).last))
@@ -278,7 +278,7 @@ module _ (w : World) (ft : WorldFits w) (sl : StoreLaws w) (L : (top spare : ℕ
       let seen_end : Sm w d.store ov.store = subst (λ s. Sm w d.store s) (held_is ∙ sym (sl.trapped ov.config 0 Unreachable ov.store ov.traps_there)) seen_at in
       let x2 : Note = trap_note (used_in w S) w.plan.area.len d.store in
       let y2 : Note = note (ended (UnwindTrap Unreachable (fit_of w.plan.area.len 8 hi.inner) w.plan.area.len)) ov.store in
-      let al2 : SameNote w.original w.settings w.which w.plan.area x2 y2 = same_note w x2 y2 (ap (λ u. ended (UnwindTrap Unreachable u w.plan.area.len)) hi.bytes) seen_end tt refl in
+      let al2 : SameNote w.original w.settings w.which w.plan.area x2 y2 = same_note w x2 y2 (ap (λ u. ended (UnwindTrap Unreachable u w.plan.area.len)) hi.bytes) seen_end tt refl tt in
       let t2 : Told w.original w.settings w.which w.written (xp w) w.plan d.store (x2 ∷ []) b2 (ov.cost + 1 + 0) (y2 ∷ []) (over ov.store) =
       told [] x2 q1 ov.tells (al2, tt) (no_more (silent_none w.original w.settings w.which w.written (xp w) w.plan d.store (over ov.store) seen_end)) refl refl refl in
       let t1 : Told w.original w.settings w.which w.written (xp w) w.plan c.store (x1 ∷ x2 ∷ []) b0 (cd.cost + suc cd.j + (ov.cost + 1 + 0)) (y1 ∷ y2 ∷ []) (over ov.store) =
@@ -315,6 +315,7 @@ module _ (w : World) (ft : WorldFits w) (sl : StoreLaws w) (L : (top spare : ℕ
     answers : pr w p4 ≡ held_resumed 0 e a.said s3 wt lo (poked s5 a.pokes)
     kept : AreaKept w.plan.area s3 (poked s5 a.pokes)
     seen : Sm w (poked d.store a.pokes) (poked s5 a.pokes)
+    quiet : Quiet w (poked s5 a.pokes)
     like : Alike (setting w top) d.store s5
     new : List Activation
     same_flat : AllSameFlat w.lay ((cd.flat_at).here ∷ (cd.flat_at).under) new
@@ -369,7 +370,8 @@ module _ (w : World) (ft : WorldFits w) (sl : StoreLaws w) (L : (top spare : ℕ
       let area_at : AreaAt (suc (gl w)) ar pa.store (ar.at + 8 + total_size (z.v ∷ z.vs)) =
       record { address = arnd.address; location = sus.location; limit = sus.limit; low = omega arith; high = omega arith; inside = rdy3.inside; small = rdy3.small } in
       let ev2 : x2.event ≡ y2.event = ap (λ q. paused ticks q) hd.room ∙ ap (λ q. paused q (8 + total_size (z.v ∷ z.vs))) (sym (ticks_are a.ticks ticks et)) in
-      let al2 : SameNote w.original w.settings w.which w.plan.area x2 y2 = same_note w x2 y2 ev2 same3 (hd.image (suc (gl w)) ar pa.store area_at sus.frames) refl in
+      let quiet3 = quiet_there w top d.store pa.store alike3 in
+      let al2 : SameNote w.original w.settings w.which w.plan.area x2 y2 = same_note w x2 y2 ev2 same3 (hd.image (suc (gl w)) ar pa.store area_at sus.frames) refl quiet3 in
       record {
         pc = pa.cost;
         p2 = pa.at;
@@ -387,6 +389,7 @@ module _ (w : World) (ft : WorldFits w) (sl : StoreLaws w) (L : (top spare : ℕ
         answers = bk.answers;
         kept = bk.kept;
         seen = bk.seen;
+        quiet = quiet_there w top d.store bk.store bk.like;
         like = bk.like;
         new = bk.new;
         same_flat = bk.same_flat;
@@ -409,6 +412,7 @@ module _ (w : World) (ft : WorldFits w) (sl : StoreLaws w) (L : (top spare : ℕ
     ends = r.seen;
     image = tt;
     kept = λ at q. let eq : r.s3 ≡ at = some_is r.s3 at q in subst (λ u. AreaKept w.plan.area u (poked r.s5 a.pokes)) eq r.kept;
+    state = r.quiet;
   }
 
   -- ---- a value was said: the entry goes on
@@ -489,7 +493,7 @@ module _ (w : World) (ft : WorldFits w) (sl : StoreLaws w) (L : (top spare : ℕ
       let y4 : Note = note (ended (Trapped Import)) (poked r.s5 a.pokes) in
       let to : Held = over (poked r.s5 a.pokes) in
       let tells : pr w r.p4 ≡ goes 0 (y3 r SV.Trap ∷ y4 ∷ []) to = r.answers ∙ ap (λ q. held_resumed 0 e q r.s3 r.wt lo (poked r.s5 a.pokes)) said_is in
-      let same4 : Same x4 y4 = same_note w x4 y4 refl r.seen tt refl in
+      let same4 : Same x4 y4 = same_note w x4 y4 refl r.seen tt refl r.quiet in
       let t3 : Told w.original w.settings w.which w.written (xp w) w.plan d.store (x3 ∷ x4 ∷ []) r.b4 (r.ac + 1 + 0) (y3 r SV.Trap ∷ y4 ∷ []) to =
       told (x3 ∷ []) x4 r.to_answer tells (same3 r SV.Trap, (same4, tt))
       (no_more (silent_none w.original w.settings w.which w.written (xp w) w.plan (poked d.store a.pokes) to r.seen)) refl refl refl in

@@ -10,10 +10,12 @@ use Rattle.headline.specs.Halts.{PausesKnown, room_in, used_in}
 use Rattle.headline.specs.FlatLaw.{FlatLaw, FlatReturns, FlatSteps, FlatTraps}
 use Rattle.std.proofs.Common.{All, List, None, Some, [], ap, append-nil, arith, length, refl, subst, suc, sym, ℕ, ⊎_elim, ◌*◌, ◌++◌, ◌+◌, ◌-◌, ◌<◌, ◌∙◌, ◌∷◌, ◌≡◌, ◌≤◌}
 use Rattle.std.proofs.lemmas.Bool.{cases_lt}
+use Rattle.std.specs.Prelude.{slice_get}
 use Rattle.run_theory.proofs.Follow.{Alike as AllAlike}
+use Rattle.run_theory.proofs.QuietRuns.{first_behind}
 use Rattle.run_theory.proofs.Runs.{leads_run}
 use Rattle.run_theory.proofs.ShownRuns.{shown_move}
-use Rattle.wa_model.specs.Behaves.{SameNote, AtPaused}
+use Rattle.wa_model.specs.Behaves.{SameNote, AtCalls, AtPaused}
 use Rattle.wa_model.specs.Blocking.{Left, Note, State, Task, an_entry, begins, between, blocking, by_step, done_notes, halts, next_entry, note, on_to, runs, store_of, task_back, the_start, value_of_results}
 use Rattle.wa_model.specs.Configuration.{Configuration}
 use Rattle.wa_model.specs.Machine.{Leads, Ran, Turn, goes, moves, run, stops}
@@ -28,14 +30,24 @@ use Rattle.wa_types.specs.Frames.{Image}
 use Rattle.wa_types.specs.Modules.{func_type_at}
 use Rattle.wa_types.specs.declared.values.Trap.{Trap}
 use Rattle.wa_types.specs.declared.values.Value.{Value}
+use Rattle.wa_types.specs.declared.values.Value.TheVariants as V
 use Rattle.headline.proofs.ToldMoves as T
 
 module _ (w : World) where
+  -- the state of the written module is 0
+  abbrev pub Quiet : Store → Type 0
+  Quiet s' = slice_get s'.globals (gl w) ≡ Some (V.I32 0)
+
+  -- it is wherever stores belong together
+  pub quiet_there : (top : ℕ) (s s' : Store) → Alike (setting w top) s s' → Quiet s'
+  quiet_there top s s' h =
+      subst (λ k. slice_get s'.globals k ≡ Some (V.I32 0)) h.own_size (ap (λ gs. slice_get gs (length h.own)) h.globals' ∙ first_behind h.own (V.I32 0 ∷ h.address ∷ []))
+
   -- a note of each side
   pub same_note : (y z : Note) → y.event ≡ z.event → Sm w y.store z.store → AtPaused z.event (Image w.original w.settings w.which y.stack w.plan.area.at w.plan.area.len z.store.memory)
-      → z.since ≡ None
+      → z.since ≡ None → AtCalls z.event (Quiet z.store)
       → SameNote w.original w.settings w.which w.plan.area y z
-  same_note y z ev st im none = record { event = ev; ends = st; image = im; kept = λ at e. let q : None ≡ Some at = sym none ∙ e in cc }
+  same_note y z ev st im none quiet = record { event = ev; ends = st; image = im; kept = λ at e. let q : None ≡ Some at = sym none ∙ e in cc; state = quiet }
 
   abbrev pub nb : State → Turn State Note
   nb = blocking (base w) w.plan
@@ -171,7 +183,7 @@ module _ (w : World) where
           let h = sl.same_end top s r.0 r.2 in
           let a9 = u1.least in let a4 = fs.least in let a1 = u1.most in let a2 = u2.short in let a3 = fs.most in let a5 = within in
           last_move n spare k fs.j (u1.cost + u2.cost) a0 (halts s) b0 (busy (is_running task) u2.mid l) (over r.0) [] (note (ended (Trapped t)) r.0 ∷ []) (note (ended (Trapped t)) s) q1 mv
-          (same_note _ _ refl h tt refl, tt) h (omega arith, omega arith) (λ enough. r_halts h)
+          (same_note _ _ refl h tt refl (quiet_there top s r.0 r.2), tt) h (omega arith, omega arith) (λ enough. r_halts h)
 
       -- what comes behind the start function or an entry
       pub goes_on : (k : ℕ) (vs : List Value) (s : Store) → step (base w) c ≡ returns k vs s → FlatReturns w (λ c d. c ≡ d) L W G top x k vs s lk.flat_at
@@ -193,6 +205,9 @@ module _ (w : World) where
           h : Sm w s r.0
           h = sl.same_end top s r.0 r.2
 
+          q0 : Quiet r.0
+          q0 = quiet_there top s r.0 r.2
+
           few : (suc k ≤ u1.cost + u2.cost + suc fs.j) × (u1.cost + u2.cost + suc fs.j ≤ 256 * suc k + spare)
           few = let a9 = u1.least in let a4 = fs.least in let a1 = u1.most in let a2 = u2.short in let a3 = fs.most in let a5 = within in (omega arith, omega arith)
 
@@ -213,7 +228,7 @@ module _ (w : World) where
           by_task : (tk : Task) → task ≡ tk → (es : List Entry) → l.entries ≡ es → Owes n spare a0 b0 (sh (task_back k task vs s l))
           by_task the_start et [] ee = subst (Owes n spare a0 b0) (sym (ap (sh) (ap (λ z. task_back k z vs s l) et ∙ ap (λ z. goes k (done_notes s z) (on_to s l z)) ee)))
               (last_move n spare k fs.j (u1.cost + u2.cost) a0 (halts s) b0 (busy (is_running task) u2.mid l) (over r.0) [] (note (ended Done) r.0 ∷ []) (note (ended Done) s) q1 (mv
-              ∙ ap (λ z. held_back fs.j z vs r.0 l) et ∙ ap (λ z. goes fs.j (done_notes r.0 z) (held_on r.0 l z)) ee) (same_note _ _ refl h tt refl, tt) h few (λ enough. r_halts h))
+              ∙ ap (λ z. held_back fs.j z vs r.0 l) et ∙ ap (λ z. goes fs.j (done_notes r.0 z) (held_on r.0 l z)) ee) (same_note _ _ refl h tt refl q0, tt) h few (λ enough. r_halts h))
           by_task the_start et (e1 ∷ es) ee = subst (Owes n spare a0 b0) (sym (ap (sh) (ap (λ z. task_back k z vs s l) et ∙ ap (λ z. goes k (done_notes s z) (on_to s l z)) ee)))
               (silent_last (mv ∙ ap (λ z. held_back fs.j z vs r.0 l) et ∙ ap (λ z. goes fs.j (done_notes r.0 z) (held_on r.0 l z)) ee)
               (next_r l refl refl [] (was ∙ ap (λ z. task_back k z vs s l) et ∙ ap (λ z. goes k (done_notes s z) (on_to s l z)) ee)))
@@ -231,12 +246,12 @@ module _ (w : World) where
               (last_move n spare k fs.j (u1.cost + u2.cost) a0 (halts s) b0 (busy (is_running task) u2.mid l) (over r.0) (note (returned l.number (value_of_results vs)) s ∷ [])
               (note (returned l.number (value_of_results vs)) r.0 ∷ note (ended Done) r.0 ∷ []) (note (ended Done) s) q1
               (mv ∙ ap (λ z. held_back fs.j z vs r.0 l) et ∙ ap (λ z. goes fs.j (note (returned l.number (value_of_results vs)) r.0 ∷ done_notes r.0 z) (held_on r.0 (next_entry l) z)) ee)
-              (same_note _ _ refl h tt refl, (same_note _ _ refl h tt refl, tt)) h few (λ enough. r_halts h))
+              (same_note _ _ refl h tt refl q0, (same_note _ _ refl h tt refl q0, tt)) h few (λ enough. r_halts h))
           by_task (an_entry e) et (e1 ∷ es) ee =
               subst (Owes n spare a0 b0) (sym (ap (sh) (ap (λ z. task_back k z vs s l) et
               ∙ ap (λ z. goes k (note (returned l.number (value_of_results vs)) s ∷ done_notes s z) (on_to s (next_entry l) z)) ee)))
               (last_move n spare k fs.j (u1.cost + u2.cost) a0 (between s (next_entry l)) b0 (busy (is_running task) u2.mid l) (free r.0 (next_entry l)) []
               (note (returned l.number (value_of_results vs)) r.0 ∷ []) (note (returned l.number (value_of_results vs)) s) q1
               (mv ∙ ap (λ z. held_back fs.j z vs r.0 l) et ∙ ap (λ z. goes fs.j (note (returned l.number (value_of_results vs)) r.0 ∷ done_notes r.0 z) (held_on r.0 (next_entry l) z)) ee)
-              (same_note _ _ refl h tt refl, tt) h few (next_r (next_entry l) refl refl (note (returned l.number (value_of_results vs)) s ∷ [])
+              (same_note _ _ refl h tt refl q0, tt) h few (next_r (next_entry l) refl refl (note (returned l.number (value_of_results vs)) s ∷ [])
               (was ∙ ap (λ z. task_back k z vs s l) et ∙ ap (λ z. goes k (note (returned l.number (value_of_results vs)) s ∷ done_notes s z) (on_to s (next_entry l) z)) ee)))

@@ -10,7 +10,7 @@ use Rattle.headline.specs.Given.{LetsPause}
 use Rattle.headline.specs.StoreLaws.{StoreLaws}
 use Rattle.headline.proofs.FromSimulation.{Simulates}
 use Rattle.headline.proofs.Pauses.{pausing}
-use Rattle.headline.proofs.Reductions.{Allowed, LeftFits, Link, Owes, R, Rests, TopOf, allowed_less, allowed_on, goes_on, last_move, nb, nn, r_begins, r_between, r_halts, r_runs, rests_before, same_note, sh, steps_case, traps_case}
+use Rattle.headline.proofs.Reductions.{Allowed, LeftFits, Link, Owes, Quiet, R, Rests, TopOf, allowed_less, allowed_on, goes_on, last_move, nb, nn, quiet_there, r_begins, r_between, r_halts, r_runs, rests_before, same_note, sh, steps_case, traps_case}
 use Rattle.headline.proofs.ToldMoves.{Sees, Sees_at, by_silence, dear_of, silent_none}
 use Rattle.headline.specs.FlatLaw.{FlatAsks, FlatEnters, FlatLaw, FlatNext}
 use Rattle.headline.specs.Halts.{HaltLaw, room_in, used_in}
@@ -18,6 +18,7 @@ use Rattle.run_laws.proofs.Keeping.{same_refl}
 use Rattle.std.proofs.Common.{All, Bool, List, None, Option, Some, [], ap, arith, false, length, refl, subst, suc, sym, true, ℕ, ⊎_elim, ◌<◌, ◌∙◌, ◌∷◌, ◌≡◌, ◌≤◌, ◌*◌}
 use Rattle.std.proofs.lemmas.Bool.{cases_lt, ltb-true}
 use Rattle.std.specs.Prelude.{if◌then◌else◌, nat_lt}
+use Rattle.run_theory.proofs.QuietRuns.{at_calls}
 use Rattle.run_theory.proofs.Runs.{no_move}
 use Rattle.run_theory.proofs.Follow.{Match, On_way, all_made, not_yet, up_to}
 use Rattle.wa_model.specs.Behaves.{SameNote}
@@ -168,6 +169,9 @@ module _ (w : World) (ft : WorldFits w) (sl : StoreLaws w) (L : (top spare : ℕ
     seen : Sm w s s'
     seen = sl.same_end 0 s s' like
 
+    quiet : Quiet w s'
+    quiet = quiet_there w 0 s s' like
+
     module _ (imported : x < func_imports (base w)) (was : nb w a0 ≡ asked (base w) w.plan 0 x [] (outermost s) l l.outcomes)
         (now : pr w b0 ≡ held_asked w.written (xp w) w.plan 0 x [] (outermost s') l l.outcomes) where
       abbrev fault : Answer → Option End
@@ -181,7 +185,8 @@ module _ (w : World) (ft : WorldFits w) (sl : StoreLaws w) (L : (top spare : ℕ
       ends_there : (e : End) → pr w b0 ≡ held_ends 0 (call_note x [] s' [] None) e → Ow n spare a0 b0 (sh w (ends_at_call 0 (call_note x [] s [] None) e))
       ends_there e mv =
           last_move w ft sl L W G law n spare 0 0 0 a0 (halts s) b0 b0 (over s') (call_note x [] s [] None ∷ []) (call_note x [] s' [] None ∷ note (ended e) s' ∷ []) (note (ended e) s)
-          (silent_none w.original w.settings w.which w.written (xp w) w.plan s b0 seen) mv (same_note w _ _ refl seen tt refl, (same_note w _ _ refl seen tt refl, tt)) seen
+          (silent_none w.original w.settings w.which w.written (xp w) w.plan s b0 seen) mv
+          (same_note w _ _ refl seen tt refl quiet, (same_note w _ _ refl seen tt refl (at_calls (ended e) (Quiet w s') quiet), tt)) seen
           (omega arith, omega arith) (λ enough. r_halts seen)
 
       given_case : (a : Answer) (os : List Outcome) → l.outcomes ≡ given a ∷ os → (o : Option End) → fault a ≡ o
@@ -211,6 +216,9 @@ module _ (w : World) (ft : WorldFits w) (sl : StoreLaws w) (L : (top spare : ℕ
 
           seen2 : Sm w (poked s a.pokes) (poked s' a.pokes)
           seen2 = sl.same_end 0 (poked s a.pokes) (poked s' a.pokes) like2
+
+          quiet2 : Quiet w (poked s' a.pokes)
+          quiet2 = quiet_there w 0 (poked s a.pokes) (poked s' a.pokes) like2
 
           fits_a : Rattle.wa_model.specs.Plan.AnswerFits a
           fits_a = first_fits (given a) os (subst (All OutcomeFits) eo lf.outcomes)
@@ -242,7 +250,8 @@ module _ (w : World) (ft : WorldFits w) (sl : StoreLaws w) (L : (top spare : ℕ
               (call_note x [] s' [] None ∷ import_traps (poked s' a.pokes)) (note (ended (Trapped Import)) (poked s a.pokes))
               (silent_none w.original w.settings w.which w.written (xp w) w.plan s b0 seen)
               (mv ∙ ap (λ z. held_given 0 (call_note x [] s' [] None) z (poked s' a.pokes) (with_outcomes l os) (outermost s')) told)
-              (same_note w _ _ refl seen tt refl, (same_note w _ _ refl seen2 tt refl, (same_note w _ _ refl seen2 tt refl, tt))) seen2 (omega arith, omega arith) (λ enough. r_halts seen2)
+              (same_note w _ _ refl seen tt refl quiet, (same_note w _ _ refl seen2 tt refl quiet2, (same_note w _ _ refl seen2 tt refl quiet2, tt))) seen2
+              (omega arith, omega arith) (λ enough. r_halts seen2)
 
           was_told : (v : Option Value) → a.said ≡ S.Value v → nb w a0 ≡ go_on 0 (call_note x [] s [] None) (S.Value v) (poked s a.pokes) (with_outcomes l os) (outermost s)
           was_told v told = was2 ∙ ap (λ z. go_on 0 (call_note x [] s [] None) z (poked s a.pokes) (with_outcomes l os) (outermost s)) told
@@ -256,7 +265,8 @@ module _ (w : World) (ft : WorldFits w) (sl : StoreLaws w) (L : (top spare : ℕ
               (call_note x [] s' [] None ∷ note (answered (S.Value v)) (poked s' a.pokes) ∷ note (ended Done) (poked s' a.pokes) ∷ []) (note (ended Done) (poked s a.pokes))
               (silent_none w.original w.settings w.which w.written (xp w) w.plan s b0 seen)
               (mv_told v told ∙ ap (λ z. goes 0 (call_note x [] s' [] None ∷ note (answered (S.Value v)) (poked s' a.pokes) ∷ done_notes (poked s' a.pokes) z) (held_on (poked s' a.pokes) (with_outcomes l os) z)) ee)
-              (same_note w _ _ refl seen tt refl, (same_note w _ _ refl seen2 tt refl, (same_note w _ _ refl seen2 tt refl, tt))) seen2 (omega arith, omega arith) (λ enough. r_halts seen2))
+              (same_note w _ _ refl seen tt refl quiet, (same_note w _ _ refl seen2 tt refl quiet2, (same_note w _ _ refl seen2 tt refl quiet2, tt))) seen2
+              (omega arith, omega arith) (λ enough. r_halts seen2))
           by_entries v told (e ∷ es) ee =
               subst (λ z. Ow n spare a0 b0 (goes 0 (call_note x [] s [] None ∷ note (answered (S.Value v)) (poked s a.pokes) ∷ done_notes (poked s a.pokes) z)
               (on_to (poked s a.pokes) (with_outcomes l os) z))) (sym ee)
@@ -264,7 +274,7 @@ module _ (w : World) (ft : WorldFits w) (sl : StoreLaws w) (L : (top spare : ℕ
               (call_note x [] s' [] None ∷ note (answered (S.Value v)) (poked s' a.pokes) ∷ []) (note (answered (S.Value v)) (poked s a.pokes))
               (silent_none w.original w.settings w.which w.written (xp w) w.plan s b0 seen)
               (mv_told v told ∙ ap (λ z. goes 0 (call_note x [] s' [] None ∷ note (answered (S.Value v)) (poked s' a.pokes) ∷ done_notes (poked s' a.pokes) z) (held_on (poked s' a.pokes) (with_outcomes l os) z)) ee)
-              (same_note w _ _ refl seen tt refl, (same_note w _ _ refl seen2 tt refl, tt)) seen2 (omega arith, omega arith)
+              (same_note w _ _ refl seen tt refl quiet, (same_note w _ _ refl seen2 tt refl quiet2, tt)) seen2 (omega arith, omega arith)
               (λ enough. r_between good2 like2 fits2 (allowed_on w n 0 _ a0 _ (was_told v told ∙ ap
               (λ z. goes 0 (call_note x [] s [] None ∷ note (answered (S.Value v)) (poked s a.pokes) ∷ done_notes (poked s a.pokes) z) (on_to (poked s a.pokes) (with_outcomes l os) z)) ee)
               al)))
@@ -277,7 +287,7 @@ module _ (w : World) (ft : WorldFits w) (sl : StoreLaws w) (L : (top spare : ℕ
               subst (λ z. Ow n spare a0 b0 (sh w (asked (base w) w.plan 0 x [] (outermost s) l z))) (sym eo)
               (last_move w ft sl L W G law n spare 0 0 0 a0 (halts s) b0 b0 (over s') [] (call_note x [] s' [] None ∷ []) (call_note x [] s [] None)
               (silent_none w.original w.settings w.which w.written (xp w) w.plan s b0 seen)
-              (now ∙ ap (held_asked w.written (xp w) w.plan 0 x [] (outermost s') l) eo) (same_note w _ _ refl seen tt refl, tt) seen (omega arith, omega arith) (λ enough. r_halts seen))
+              (now ∙ ap (held_asked w.written (xp w) w.plan 0 x [] (outermost s') l) eo) (same_note w _ _ refl seen tt refl quiet, tt) seen (omega arith, omega arith) (λ enough. r_halts seen))
           by_outcomes (refused e ∷ os) eo =
               subst (λ z. Ow n spare a0 b0 (sh w (asked (base w) w.plan 0 x [] (outermost s) l z))) (sym eo) (ends_there e (now ∙ ap (held_asked w.written (xp w) w.plan 0 x [] (outermost s') l) eo))
           by_outcomes (given a ∷ os) eo =

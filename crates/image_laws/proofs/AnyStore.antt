@@ -31,7 +31,7 @@ use Rattle.headline.specs.StoreLaws.{StoreLaws}
 use Rattle.headline.specs.World.{World, WorldFits, base, setting}
 use Rattle.headline.specs.WrittenRuns.{WrittenLaw}
 use Rattle.headline.proofs.FlatStretches.{Sil, along, gl, pr, sides, xp}
-use Rattle.headline.proofs.Reductions.{Allowed, LeftFits, Link, r_halts, r_runs, same_note}
+use Rattle.headline.proofs.Reductions.{Allowed, LeftFits, Link, Quiet, quiet_there, r_halts, r_runs, same_note}
 use Rattle.headline.proofs.FromSimulation.{Simulates}
 use Rattle.headline.proofs.ToldMoves.{silent_none}
 use Rattle.headline.proofs.Simulation.{Both, known_along, simulates}
@@ -72,6 +72,9 @@ module _ (w : World) (ft : WorldFits w) (sl : StoreLaws w) (L : (top spare : ℕ
     bk : Back w ft sl L W G law top i e a lo d z d.store t
     bk = comes_back w ft sl L W G law top i e a lo d z d.store t like (ft.least lets) small sus no_bad
 
+    quiet : Quiet w (poked bk.store a.pokes)
+    quiet = quiet_there w top d.store bk.store bk.like
+
     -- the note of the answer
     same3 : (said : Said) → SameNote w.original w.settings w.which w.plan.area (note (answered said) (poked d.store a.pokes)) (answer_note said (poked bk.store a.pokes) t)
     same3 said = record {
@@ -79,6 +82,7 @@ module _ (w : World) (ft : WorldFits w) (sl : StoreLaws w) (L : (top spare : ℕ
       ends = bk.seen;
       image = tt;
       kept = λ at q. let eq : t ≡ at = some_is t at q in subst (λ u. AreaKept w.plan.area u (poked bk.store a.pokes)) eq bk.kept;
+      state = quiet;
     }
 
     -- what is known behind the answer
@@ -208,7 +212,7 @@ module _ (w : World) (ft : WorldFits w) (sl : StoreLaws w) (L : (top spare : ℕ
             left = 0;
             silent = bk.silent;
             tells = trap_tells;
-            same = (same3 SV.Trap, (same_note w (note (ended (Trapped Import)) (poked d.store a.pokes)) y4 refl bk.seen tt refl, tt));
+            same = (same3 SV.Trap, (same_note w (note (ended (Trapped Import)) (poked d.store a.pokes)) y4 refl bk.seen tt refl quiet, tt));
             behind = silent_none w.original w.settings w.which w.written (xp w) w.plan (poked d.store a.pokes) b6 bk.seen;
             rel = (r_halts bk.seen, known_behind b6 (answer_note SV.Trap (poked bk.store a.pokes) t ∷ y4 ∷ []) trap_tells);
             few = omega arith;

@@ -188,7 +188,7 @@ module _ (Over : Original → Program → Program → Type 0) (first : (o : Orig
       let prints : AllZip (Prints o.program.looks) there.0 d.notes =
       prints_by (global_space o.program.source) o.program.plan.area (omega arith) o.program.looks may.looks there.0 d.notes there.2 in (
         record { due = 0; notes = there.0; outcomes = k.0; answers = o.program.answers },
-        record { starts = record { due = ap due_from (sym st.original_start); answers = ap (answers_from o.program.answers) (sym st.original_start) }; story = there.1 },
+        record { origin = st.original_start; starts = record { due = ap due_from (sym st.original_start); answers = ap (answers_from o.program.answers) (sym st.original_start) }; story = there.1 },
         record {
           calls = record { imports = rw_of.parts.imports; binds = st.binds };
           looks = st.looks;

@@ -127,6 +127,7 @@ module _ (m : Module) (s : Settings) (valid : Valid m) (never : NeverPauses m s)
     ends = same_end g plan.area x.store y.store q.store;
     image = not_paused y.event (Image m s which x.stack plan.area.at plan.area.len y.store.memory) (subst (λ e. unless_pause e ≡ Some e) q.event q.plain);
     kept = λ at e. never_since y at q.since e;
+    state = q.state;
   }
 
   each_note : (i : ℕ) (y : Note) → slice_get ys i ≡ Some y → (x : Note) × (slice_get (expected_notes m s plan os n) i ≡ Some x) × SameNote m s which plan.area x y

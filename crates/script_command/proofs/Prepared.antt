@@ -4,7 +4,7 @@ use Rattle.wa_types.specs.FirstFault.{FirstFault}
 use Rattle.wa_types.specs.ModuleBounds.{prepared_bounds}
 use Rattle.wa_types.specs.Syntax.{Module}
 use Rattle.wa_types.proofs.FaultLemmas.{one_first_fault, valid_no_fault}
-use Rattle.script_model.specs.Transcript.{Refusal, usage, out_of_memory, malformed, float, nesting, invalid, limit, reserved, script, read_fault, write_fault}
+use Rattle.script_model.specs.Transcript.{Refusal, usage, out_of_memory, malformed, float, nesting, invalid, limit, reserved, script, read_fault, write_fault, snapshot_limit, snapshot_refused}
 use Rattle.wasm_reader.specs.declared.read_fault.ReadFault.{ReadFault}
 use Rattle.wasm_reader.specs.declared.read_fault.ReadFault.TheVariants.{Memory, Malformed, Float, Deep, Limit}
 use Rattle.wasm_reader.specs.Answers.{IsAccepted, IsRefused}
@@ -47,6 +47,8 @@ module _ (bytes : List ℕ) where
   why out_of_memory h = absurd h
   why (read_fault name) h = absurd h
   why (write_fault name) h = absurd h
+  why (snapshot_limit found) h = absurd h
+  why snapshot_refused h = absurd h
 
   one_invalid : (r q : Refusal) → IsInvalid r → IsInvalid q → r ≡ q
   one_invalid r q a b =

@@ -2,7 +2,7 @@
 use Rattle.std.proofs.Common.{◌≡◌, ◌≢◌, inl, inr, ℕ, List, Option, refl, sym, ◌∙◌, ap, subst, arith}
 use Rattle.vault_port.specs.Files.{Files}
 use Rattle.script_model.specs.Script.{ProgramText, ScriptFault, breaks, too_many}
-use Rattle.script_model.specs.Transcript.{Refusal, usage, out_of_memory, malformed, float, nesting, invalid, limit, reserved, script, read_fault, write_fault}
+use Rattle.script_model.specs.Transcript.{Refusal, usage, out_of_memory, malformed, float, nesting, invalid, limit, reserved, script, read_fault, write_fault, snapshot_limit, snapshot_refused}
 use Rattle.script_setup.specs.Prepared.{IsOfContent, IsUnprepared}
 use Rattle.script_setup.specs.Scripts as H
 use Rattle.script_setup.specs.Scripts.{IsNoScript}
@@ -32,6 +32,8 @@ unprepared_content bytes usage h = h
 unprepared_content bytes out_of_memory h = h
 unprepared_content bytes (read_fault name) h = h
 unprepared_content bytes (write_fault name) h = h
+unprepared_content bytes (snapshot_limit found) h = h
+unprepared_content bytes snapshot_refused h = h
 
 cause_content : (c : S.Cause) → IsOfContent (refusal_for c)
 cause_content (S.malformed at) = tt
@@ -81,6 +83,8 @@ never_nine usage h e = absurd h
 never_nine out_of_memory h e = absurd h
 never_nine (read_fault name) h e = absurd h
 never_nine (write_fault name) h e = absurd h
+never_nine (snapshot_limit found) h e = absurd h
+never_nine snapshot_refused h e = absurd h
 
 -- ---- statuses
 
@@ -97,6 +101,8 @@ prepared_status n bytes usage e h = absurd h
 prepared_status n bytes out_of_memory e h = absurd h
 prepared_status n bytes (read_fault name) e h = absurd h
 prepared_status n bytes (write_fault name) e h = absurd h
+prepared_status n bytes (snapshot_limit found) e h = absurd h
+prepared_status n bytes snapshot_refused e h = absurd h
 
 content_status : (n : ℕ) (r : Refusal) → n ≡ status_of r → IsOfContent r → IsStatus Run n
 content_status n (malformed at) e h = inr (inl e)
@@ -110,6 +116,8 @@ content_status n usage e h = absurd h
 content_status n out_of_memory e h = absurd h
 content_status n (read_fault name) e h = absurd h
 content_status n (write_fault name) e h = absurd h
+content_status n (snapshot_limit found) e h = absurd h
+content_status n snapshot_refused e h = absurd h
 
 six : (way : Way) (n : ℕ) → n ≡ 6 → IsStatus way n
 six way n e = inr (inr (inr (inr (inl e))))

@@ -178,6 +178,8 @@ pub data Refusal : Type 0 where
   reserved : (name : List ℕ) → Refusal
   script : (line rule : ℕ) → Refusal
   read_fault write_fault : (name : List ℕ) → Refusal
+  snapshot_limit : (found : ℕ) → Refusal
+  snapshot_refused : Refusal
 
 -- the word of a limit
 abbrev pub limit_word : LimitKind → List ℕ
@@ -204,6 +206,8 @@ refusal_text (reserved name) = codes "reserved " ++ printed_name name
 refusal_text (script line rule) = codes "script line " ++ decimal line ++ codes " rule " ++ decimal rule
 refusal_text (read_fault name) = codes "read fault " ++ printed_name name
 refusal_text (write_fault name) = codes "write fault " ++ printed_name name
+refusal_text (snapshot_limit found) = codes "limit snapshot " ++ decimal found
+refusal_text snapshot_refused = codes "snapshot refused"
 
 -- a refusal of the module of this program names it
 abbrev pub program_text : Option ℕ → List ℕ

@@ -6,7 +6,7 @@ use Rattle.std.proofs.lemmas.List.{take_all, length-take}
 use Rattle.vault_port.specs.Files.{Files, bytes_of}
 use Rattle.vault_port.specs.Told.{WhereTold}
 use Rattle.script_model.specs.Script as T
-use Rattle.script_model.specs.Transcript.{Refusal, usage, out_of_memory, malformed, float, nesting, invalid, limit, reserved, script, read_fault, write_fault}
+use Rattle.script_model.specs.Transcript.{Refusal, usage, out_of_memory, malformed, float, nesting, invalid, limit, reserved, script, read_fault, write_fault, snapshot_limit, snapshot_refused}
 use Rattle.transcript.specs.Printing.{refusal_of}
 use Rattle.wasm_reader.specs.Held.{Holds}
 use Rattle.wasm_reader.proofs.Held.{holds_own}
@@ -58,6 +58,8 @@ content_of bytes usage h = h
 content_of bytes out_of_memory h = h
 content_of bytes (read_fault name) h = h
 content_of bytes (write_fault name) h = h
+content_of bytes (snapshot_limit found) h = h
+content_of bytes snapshot_refused h = h
 
 pub unprepared_told : (name : List ℕ) (files : Option Files) (fault : PreparedFault) (told : FileFault) → told ≡ file_fault fault → IsToldFault files name fault → IsToldUnprepared files name told
 unprepared_told name files P.Memory told e h = subst (IsToldUnprepared files name) (sym e) tt

@@ -4,7 +4,7 @@ use Rattle.wa_types.specs.ModuleBounds.{prepared_bounds}
 use Rattle.wa_types.specs.FirstFault.{FirstFault}
 use Rattle.wa_types.specs.Syntax.{Module}
 use Rattle.wa_types.specs.Validity.{Valid}
-use Rattle.script_model.specs.Transcript.{Refusal, usage, out_of_memory, malformed, float, nesting, limit, invalid, read_fault, write_fault}
+use Rattle.script_model.specs.Transcript.{Refusal, usage, out_of_memory, malformed, float, nesting, limit, invalid, read_fault, write_fault, snapshot_limit, snapshot_refused}
 use Rattle.wasm_reader.specs.declared.read_fault.ReadFault.TheVariants.{Malformed, Float, Deep, Limit}
 use Rattle.wasm_reader.specs.Answers.{IsAccepted, IsRefused}
 
@@ -22,10 +22,12 @@ IsUnprepared bytes (limit what found) = IsRefused prepared_bounds bytes (Limit w
 IsUnprepared bytes (invalid func rule at) = (m : Module) × IsAccepted prepared_bounds bytes m × FirstFault m func rule at
 IsUnprepared bytes _ = ⊥
 
--- a refusal of what a file holds
+-- a refusal of what a script's or a module's file holds
 abbrev pub IsOfContent : Refusal → Type 0
 IsOfContent usage = ⊥
 IsOfContent out_of_memory = ⊥
 IsOfContent (read_fault name) = ⊥
 IsOfContent (write_fault name) = ⊥
+IsOfContent (snapshot_limit found) = ⊥
+IsOfContent snapshot_refused = ⊥
 IsOfContent _ = Unit {0}

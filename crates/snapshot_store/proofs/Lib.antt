@@ -1,3 +1,4 @@
+pub mod Counted
 pub mod Nothing
 pub mod Splits
 pub mod Words

@@ -1,7 +1,7 @@
 -- What has failed in a call, by its status.
 use Rattle.std.proofs.Common.{◌≡◌, ◌⊎◌, ℕ, inl, inr, sym, ◌∙◌, arith}
 use Rattle.vault_port.specs.Counts.{FailsOnce, FailsAtMostOnce}
-use Rattle.script_model.specs.Transcript.{Refusal, usage, out_of_memory, malformed, float, nesting, invalid, limit, reserved, script, read_fault, write_fault}
+use Rattle.script_model.specs.Transcript.{Refusal, usage, out_of_memory, malformed, float, nesting, invalid, limit, reserved, script, read_fault, write_fault, snapshot_limit, snapshot_refused}
 use Rattle.transcript.specs.Refused.{CountsBy, status_of}
 
 never_zero : (r : Refusal) → status_of r ≡ 0 → ⊥
@@ -16,6 +16,8 @@ never_zero (script line rule) e = omega (arith, e)
 never_zero out_of_memory e = omega (arith, e)
 never_zero (read_fault name) e = omega (arith, e)
 never_zero (write_fault name) e = omega (arith, e)
+never_zero (snapshot_limit found) e = omega (arith, e)
+never_zero snapshot_refused e = omega (arith, e)
 
 -- behind the line of a refusal the status isn't 0
 refused_some : (status : ℕ) (r : Refusal) → (status ≡ status_of r) ⊎ (status ≡ 9) → status ≡ 0 → ⊥

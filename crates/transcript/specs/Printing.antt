@@ -3,7 +3,7 @@ use Rattle.std.specs.Prelude.{ℕ, List, []}
 use Rattle.script_model.specs.Transcript as T
 use Rattle.transcript.specs.declared.events.Names.{Names}
 use Rattle.transcript.specs.declared.refusals.RefusalKind.{RefusalKind}
-use Rattle.transcript.specs.declared.refusals.RefusalKind.TheVariants.{Usage, Malformed, Float, Invalid, Limit, Nesting, Reserved, Script, OutOfMemory, ReadFault, WriteFault}
+use Rattle.transcript.specs.declared.refusals.RefusalKind.TheVariants.{Usage, Malformed, Float, Invalid, Limit, Nesting, Reserved, Script, OutOfMemory, ReadFault, WriteFault, LimitSnapshot, SnapshotRefused}
 
 -- the names of a program's lines
 abbrev pub names_of : Names → T.Names
@@ -26,3 +26,5 @@ refusal_of (Script line rule) = T.script line rule
 refusal_of OutOfMemory = T.out_of_memory
 refusal_of (ReadFault name) = T.read_fault name
 refusal_of (WriteFault name) = T.write_fault name
+refusal_of (LimitSnapshot found) = T.snapshot_limit found
+refusal_of SnapshotRefused = T.snapshot_refused

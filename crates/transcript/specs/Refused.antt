@@ -2,7 +2,7 @@
 use Rattle.std.specs.Prelude.{◌≡◌, ◌⊎◌, ◌≤◌, ◌<◌, ℕ, List, ◌++◌, length, take, None}
 use Rattle.vault_port.specs.Counts.{FailsOnce, FailsAtMostOnce}
 use Rattle.vault_port.specs.Taken.{Appends, AppendsLess}
-use Rattle.script_model.specs.Transcript.{Refusal, usage, out_of_memory, malformed, float, nesting, invalid, limit, reserved, script, read_fault, write_fault, refusal_line}
+use Rattle.script_model.specs.Transcript.{Refusal, usage, out_of_memory, malformed, float, nesting, invalid, limit, reserved, script, read_fault, write_fault, snapshot_limit, snapshot_refused, refusal_line}
 
 -- the status of each refusal
 abbrev pub status_of : Refusal → ℕ
@@ -17,6 +17,8 @@ status_of (script line rule) = 8
 status_of out_of_memory = 9
 status_of (read_fault name) = 10
 status_of (write_fault name) = 11
+status_of (snapshot_limit found) = 6
+status_of snapshot_refused = 13
 
 -- the line was printed, and no put has failed; or less of it, where one has
 abbrev pub Prints : List ℕ → ℕ → ℕ → List ℕ → List ℕ → Type 0

@@ -126,5 +126,7 @@ fn status_of(kind: &RefusalKind) -> u8
         RefusalKind::OutOfMemory => MEMORY,
         RefusalKind::ReadFault { .. } => 10,
         RefusalKind::WriteFault { .. } => 11,
+        RefusalKind::LimitSnapshot { .. } => 6,
+        RefusalKind::SnapshotRefused => 13,
     }
 }

@@ -12,7 +12,7 @@ use Rattle.wa_types.specs.Typing.{GlobalType}
 use Rattle.wa_types.specs.Runtime.{global_space}
 use Rattle.wa_model.specs.declared.answers.Area.{Area}
 use Rattle.wa_model.specs.declared.events.End.{End}
-use Rattle.wa_model.specs.declared.events.End.TheVariants.{Done, Trapped, UnwindTrap}
+use Rattle.wa_model.specs.declared.events.End.TheVariants.{BytesOut, ElementsOut, HostLimit, UnwindTrap}
 use Rattle.wa_model.specs.Outside.{Event, paused, ended}
 use Rattle.wa_model.specs.Store.{Store}
 use Rattle.wa_model.specs.Plan.{AreLawful, EntryFits, Plan, Outcome, given, refused, OutcomeFits, Fits}
@@ -68,11 +68,12 @@ abbrev pub AtPaused : Event → Type 0 → Type 0
 AtPaused (paused ticks used) T = T
 AtPaused _ T = Unit {0}
 
--- what has to hold at each event but an end, and at the ends of a program that is done or trapped
+-- what has to hold where the module may be called: at each event but the ends of an instantiation that fails and of an unwind
 abbrev pub AtCalls : Event → Type 0 → Type 0
-AtCalls (ended Done) T = T
-AtCalls (ended (Trapped trap)) T = T
-AtCalls (ended how) T = Unit {0}
+AtCalls (ended (ElementsOut n)) T = Unit {0}
+AtCalls (ended (BytesOut n)) T = Unit {0}
+AtCalls (ended (HostLimit entries found)) T = Unit {0}
+AtCalls (ended (UnwindTrap trap used len)) T = Unit {0}
 AtCalls _ T = T
 
 -- since this store the location word has come back to the start of the frames, and every other byte of the area is as it was

@@ -330,6 +330,7 @@ pub record StartsHeld (w : Program) (a : Actor) : Type 0 where
 
 -- a program where it begins in the blocking world, which is its start
 pub record StartsBlocking (s : Settings) (w : Program) (a : Actor) : Type 0 where
+  pub origin : w.origin ≡ at_start
   pub starts : Starts w a
   pub story : BlockingStory s w a.outcomes a.notes
 
