@@ -179,7 +179,7 @@ module _ (w : W.Program) (at_first : w.origin ≡ at_start) (told : List Note) (
   comes : (due : ℕ) → ComesTo w told met used (halted w.source w.plan (halt due))
   comes due = record {
     cost = used;
-    steps = ap (λ (o : W.Origin). used_from o + used) (sym at_first);
+    steps = (let none : used ≡ 0 + used = omega arith in none ∙ ap (λ (o : W.Origin). used_from o + used) (sym at_first));
     way = λ more.
         (
           made.behind,

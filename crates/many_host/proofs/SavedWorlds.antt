@@ -9,6 +9,7 @@ use Rattle.std.proofs.lemmas.Option.{same_Some, slice_get-map, slice_get_within}
 use Rattle.wa_types.specs.declared.syntax.Import.{Import}
 use Rattle.wa_types.specs.declared.syntax.ImportKind.{ImportKind}
 use Rattle.wa_types.specs.declared.syntax.ImportKind.TheVariants.{Func as a_func_import, Table as a_table_import, Memory as a_memory_import, Global as a_global_import}
+use Rattle.wa_types.specs.declared.values.Value.{Value}
 use Rattle.wa_types.specs.Memory.{page_size}
 use Rattle.wa_types.specs.Modules.{all_globals, global_type, imported, imported_global}
 use Rattle.wa_types.specs.Sizes.{SizeRule, is_global}
@@ -20,6 +21,8 @@ use Rattle.wa_model.specs.Outside.{AnswerLine, Line}
 use Rattle.wa_model.specs.Plan.{Outcome}
 use Rattle.wa_model.specs.World as W
 use Rattle.wa_model.specs.World.{Actor, Device, answers_from, at_start, due_from, line_at, protocol_story}
+use Rattle.run_theory.specs.Fitting.{global_types, types_of}
+use Rattle.interp.specs.Host.{store_in}
 use Rattle.event_order.specs.declared.shows.Show.{Show}
 use Rattle.event_order.specs.declared.turns.Turn.{Turn}
 use Rattle.event_order.specs.Looks.{looks_of}
@@ -55,6 +58,7 @@ use Rattle.many_host.proofs.Stories.{ends_tail}
 use Rattle.many_host.proofs.Telling.{Stood, StoodTo, Storied, told_is_world_stood}
 use Rattle.many_host.proofs.Worlds.{all_on}
 use Rattle.many_host.proofs.SavedPauses.{saved_pause}
+use Rattle.many_host.proofs.SavedRecords.{records_many}
 use Rattle.many_host.proofs.SavedTurns.{IsTurned, Rests, all_turned}
 
 -- ---- stories whose calls have met all that they will
@@ -161,12 +165,6 @@ module _ (shows : List Show) (i : ℕ) (w : W.Program) (t : Teller) (x : Hosted)
 
 -- ---- all of them
 
-records_many : (dues : List (Option ℕ)) (xs : List Hosted) → length dues ≡ length xs → length (records_for dues xs) ≡ length xs
-records_many [] [] e = refl
-records_many [] (x ∷ xs) e = let never : ⊥ = omega (arith, e) in absurd never
-records_many (d ∷ dues) [] e = let never : ⊥ = omega (arith, e) in absurd never
-records_many (d ∷ dues) (x ∷ xs) e = ap suc (records_many dues xs (omega (arith, e)))
-
 record_at : (dues : List (Option ℕ)) (xs : List Hosted) (i : ℕ) (d : Option ℕ) (x : Hosted) → slice_get dues i ≡ Some d → slice_get xs i ≡ Some x
     → slice_get (records_for dues xs) i ≡ Some (record_for d x)
 record_at [] xs i d x ed ex = cc
@@ -258,20 +256,13 @@ few_globals m sizes =
       sizes.globals,
     )
 
+as_typed : (vs : List Value) (gs : List GlobalType) → types_of vs ≡ global_types gs → length vs ≡ length gs
+as_typed vs gs e = sym (length-map vs type_of) ∙ ap (λ ts. length ts) e ∙ length-map gs (λ (g : GlobalType). g.ty)
+
 paused_few : (w : W.Program) (told : List Note) (met : List Outcome) (y : Program) (state : State) (parts : PausedParts) → FollowsAt w told met y (place_of y state) → parts_at y state ≡ Some parts
     → length parts.globals < 2 ^ 32
 paused_few w told met y (Live instance (Paused pause)) parts f is =
-    let plain = same_Some _ parts is in
-    let typed = f.fits.0.globals in
-    let few : length (all_globals w.source) < 2 ^ 32 = few_globals w.source f.sizes in
-    omega (
-      arith,
-      ap (λ (z : PausedParts). length z.globals) plain,
-      ap (λ ts. length ts) typed,
-      length-map _ type_of,
-      length-map (all_globals w.source) (λ (g : GlobalType). g.ty),
-      few,
-    )
+    omega (arith, ap (λ (z : PausedParts). length z.globals) (same_Some _ parts is), as_typed (store_in instance).globals (all_globals w.source) f.fits.0.globals, few_globals w.source f.sizes)
 paused_few w told met y (Live instance Free) parts f is = cc
 paused_few w told met y (Live instance (Answering task answer)) parts f is = cc
 paused_few w told met y (Live instance (Giving task value)) parts f is = cc
