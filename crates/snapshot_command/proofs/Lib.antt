@@ -1,6 +1,7 @@
 pub mod Answering
 pub mod Ending
 pub mod Openings
+pub mod Resuming
 pub mod SnapshotFiles
 pub mod Statuses
 pub mod Steps
