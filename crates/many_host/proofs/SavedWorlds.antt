@@ -24,14 +24,12 @@ use Rattle.wa_model.specs.World.{Actor, Device, answers_from, at_start, due_from
 use Rattle.run_theory.specs.Fitting.{global_types, types_of}
 use Rattle.interp.specs.Host.{store_in}
 use Rattle.event_order.specs.declared.shows.Show.{Show}
-use Rattle.event_order.specs.declared.turns.Turn.{Turn}
 use Rattle.event_order.specs.Looks.{looks_of}
 use Rattle.snapshot_store.specs.Parts.{CountsFit}
-use Rattle.snapshot_store.specs.Snapshots.{PausedParts, ProgramRecord, Snapshot, fresh, over, paused}
-use Rattle.world_laws.specs.AloneLines.{Unbound}
+use Rattle.snapshot_store.specs.Snapshots.{PausedParts, ProgramRecord, Snapshot, fresh, paused}
 use Rattle.world_laws.specs.Originals.{new_calls}
 use Rattle.world_laws.specs.Played.{ProtocolWorldUpToFrom}
-use Rattle.world_laws.specs.Snapshots.{IsPaused, IsRecordOf, IsSnapshotOf, StandsSo}
+use Rattle.world_laws.specs.Snapshots.{IsPaused, IsRecordOf, StandsSo}
 use Rattle.world_laws.proofs.Counting.{Ends}
 use Rattle.world_laws.proofs.StoryParts.{story_ends}
 use Rattle.pause_host.specs.Parting.{parts_at, parts_in}
@@ -41,7 +39,7 @@ use Rattle.pause_host.specs.declared.program.State.{State}
 use Rattle.pause_host.specs.declared.program.State.TheVariants.{Failed, Fresh, Live, Lost}
 use Rattle.pause_host.specs.declared.stages.Stage.TheVariants.{Answering, Ended, Ending, Free, Giving, Paused, Pausing}
 use Rattle.pause_host.proofs.Thawings.{all_at}
-use Rattle.many_host.specs.Turns.{Teller, TellsFrom, behind, due_of, ends_program, is_gone, since, starting, unless, IsRest}
+use Rattle.many_host.specs.Turns.{Teller, TellsFrom, due_of, ends_program, is_gone, since, unless, IsRest}
 use Rattle.many_host.specs.Notes.{OnStory}
 use Rattle.many_host.specs.Standing.{Held, Holds, IsHeld, IsTelling, LooksOut, StandingFrom, StandsAtFrom, has_gone, held_of, looks_at, on_its_way}
 use Rattle.many_host.specs.declared.turn_taking.Stage.{Stage}
