@@ -9,11 +9,11 @@ use Rattle.clap.specs.Faults.{check_fault, default_fault, defaults_fault, given_
 use Rattle.clap.specs.declared.error.kind.ErrorKind.TheVariants as kind
 use Rattle.clap.specs.declared.parser.matches.ValueSource.TheVariants.{DefaultValue}
 use Rattle.wa_types.specs.Pausing.{Choice, Policy}
-use Rattle.script_model.specs.Command.{Said, Place, anywhere, behind_imports, behind_save, behind_options, nothing_said, said, choice_said, policy_said, transform_at, with_files}
-use Rattle.script_model.specs.Spelled.{Spelled, rewrites, hosts, runs, is_plain, number_and_file, one_file}
-use Rattle.command_words.specs.Grammar.{Kind, transform_words, host_words, run_words, gen_words, rules, shape, flag_of, is_true, TellsFlag, TellsFlags, read_of}
+use Rattle.script_model.specs.Command.{Said, Place, anywhere, behind_imports, behind_save, behind_options, nothing_said, said, choice_said, policy_said, transform_at, unless_third, with_files}
+use Rattle.script_model.specs.Spelled.{Spelled, rewrites, hosts, runs, is_plain, number_and_file, one_file, script_and_snap, script_events_snap, two_files}
+use Rattle.command_words.specs.Grammar.{Kind, transform_words, host_words, run_words, gen_words, save_words, continue_words, rules, shape, flag_of, is_true, TellsFlag, TellsFlags, read_of}
 use Rattle.command_words.proofs.Telling.{Bare, HasNone, Valued, list_option, save_option, agrees, bare_at, is_owed, spells, tell_at, told}
-use Rattle.command_words.proofs.Rows.{Slot, list_slot, save_slot, imports_slot, indirect_slot, asserts_slot, input_slot, output_slot, id_of, option_id, said_at, flag_text, found, given, row, Tells, tells_at, defaults_at, finished_found}
+use Rattle.command_words.proofs.Rows.{Slot, list_slot, save_slot, imports_slot, indirect_slot, asserts_slot, input_slot, output_slot, third_slot, id_of, option_id, said_at, flag_text, found, given, row, Tells, tells_at, defaults_at, finished_found}
 use Rattle.command_words.proofs.Steps.{After, Doomed, Owes, Settles, Stands, some_kind, walk_of, whole, first_passes}
 use Rattle.command_words.proofs.Walking.{AllText, second_passes, walk_ends}
 
@@ -41,6 +41,8 @@ all_given transform_words = (refl, (refl, (refl, (refl, (refl, (refl, (refl, tt)
 all_given host_words = (refl, tt)
 all_given run_words = (refl, tt)
 all_given gen_words = (refl, (refl, tt))
+all_given save_words = (refl, (refl, (refl, tt)))
+all_given continue_words = (refl, (refl, tt))
 
 -- ---- what the rows say at the end
 
@@ -113,6 +115,7 @@ lacks b = if b then kind.MissingRequiredArgument ∷ [] else []
 abbrev lacking : Kind → Said → Bool
 lacking host_words s = not (is_some s.input) || false
 lacking run_words s = not (is_some s.input) || false
+lacking save_words s = not (is_some s.input) || (not (is_some s.output) || (not (is_some s.third) || false))
 lacking _ s = not (is_some s.input) || (not (is_some s.output) || false)
 
 checked : (k : Kind) (s : Said) (rows : List Row) → Tells k s rows → check_fault (shape k) (ending k rows) false ≡ lacks (lacking k s)
@@ -122,6 +125,11 @@ checked host_words s rows tells = λ i. lacks (not (is_there host_words s rows t
 checked run_words s rows tells = λ i. lacks (not (is_there run_words s rows tells input_slot refl i) || false)
 checked gen_words s rows tells =
     λ i. lacks (not (is_there gen_words s rows tells input_slot refl i) || (not (is_there gen_words s rows tells output_slot refl i) || false))
+checked save_words s rows tells =
+    λ i. lacks (not (is_there save_words s rows tells input_slot refl i) || (not (is_there save_words s rows tells output_slot refl i) || (not (is_there save_words s rows tells third_slot refl i)
+    || false)))
+checked continue_words s rows tells =
+    λ i. lacks (not (is_there continue_words s rows tells input_slot refl i) || (not (is_there continue_words s rows tells output_slot refl i) || false))
 
 -- ---- what the rows spell
 
@@ -146,23 +154,32 @@ plain_bare behind_options h = refl
 alone_is : (s : Said) → HasNone s → (spelled : Option Spelled) → (if is_plain s.place s.imports s.save s.ignore_imports s.ignore_indirect s.asserts then spelled else None) ≡ spelled
 alone_is s h spelled = (λ i. if is_plain s.place (h.1 i) (h.2 i) (h.3 i) (h.4 i) (h.5 i) then spelled else None) ∙ ap (λ (b : Bool). if b then spelled else None) (plain_bare s.place h.0)
 
-script_is : (spell : List ℕ → Spelled) (input output : Option Text) → output ≡ None → one_file spell input output ≡ option_map spell input
-script_is spell input output e = ap (one_file spell input) e ∙ go input
+-- a third file that isn't there
+two_are : (spell : (input output : Option Text) → Option Spelled) (input output third : Option Text) → third ≡ None → two_files spell input output third ≡ spell input output
+two_are spell input output third e = ap (two_files spell input output) e
+
+script_is : (spell : List ℕ → Spelled) (input output third : Option Text) → output ≡ None → third ≡ None → two_files (one_file spell) input output third ≡ option_map spell input
+script_is spell input output third e f = two_are (one_file spell) input output third f ∙ ap (one_file spell input) e ∙ go input
   where
     go : (input : Option Text) → one_file spell input None ≡ option_map spell input
     go None = refl
     go (Some t) = refl
 
+no_third_is : (s : Said) → s.third ≡ None
+    → unless_third s.third (with_files (choice_said s.imports s.ignore_imports) s.ignore_indirect s.asserts (policy_said s.save) s.input s.output)
+    ≡ with_files (choice_said s.imports s.ignore_imports) s.ignore_indirect s.asserts (policy_said s.save) s.input s.output
+no_third_is s e = ap (λ (t : Option Text). unless_third t (with_files (choice_said s.imports s.ignore_imports) s.ignore_indirect s.asserts (policy_said s.save) s.input s.output)) e
+
 -- no value is owed
 abbrev Settled : Said → Type 0
 Settled s = is_owed s.place ≡ false
 
-transform_is : (place : Place) (s : Said) → is_owed place ≡ false
+transform_is : (place : Place) (s : Said) → is_owed place ≡ false → s.third ≡ None
     → transform_at place s ≡ with_files (choice_said s.imports s.ignore_imports) s.ignore_indirect s.asserts (policy_said s.save) s.input s.output
-transform_is anywhere s h = refl
-transform_is behind_imports s h = absurd (true≢false h)
-transform_is behind_save s h = absurd (true≢false h)
-transform_is behind_options s h = refl
+transform_is anywhere s h e = no_third_is s e
+transform_is behind_imports s h e = absurd (true≢false h)
+transform_is behind_save s h e = absurd (true≢false h)
+transform_is behind_options s h e = no_third_is s e
 
 -- The rows spell what was said, and tell each flag.
 rows_spell : (k : Kind) (s : Said) (rows : List Row) → Bare k s → Settled s → Tells k s rows → TellsFlags k (ending k rows) × (spells k (Some s) ≡ read_of k (ending k rows))
@@ -179,17 +196,38 @@ rows_spell transform_words s rows bare ready tells =
     let input = text input_slot refl in
     let output = text output_slot refl in (
       (imports, indirect, asserts),
-      ap (option_map rewrites) (transform_is s.place s ready)
+      ap (option_map rewrites) (transform_is s.place s ready bare)
           ∙ (λ i. option_map rewrites (with_files (choice_said (sym list i) (sym imports_is i)) (sym indirect_is i) (sym asserts_is i) (policy_said (sym save i)) (sym input i) (sym output i))),
     )
-rows_spell host_words s rows bare ready tells =
-    (tt, alone_is s bare.0 (one_file hosts s.input s.output) ∙ script_is hosts s.input s.output bare.1 ∙ ap (option_map hosts) (sym (text_told host_words s rows tells input_slot refl)))
-rows_spell run_words s rows bare ready tells =
-    (tt, alone_is s bare.0 (one_file runs s.input s.output) ∙ script_is runs s.input s.output bare.1 ∙ ap (option_map runs) (sym (text_told run_words s rows tells input_slot refl)))
+rows_spell host_words s rows bare ready tells = (
+  tt,
+  alone_is s bare.0 (two_files (one_file hosts) s.input s.output s.third) ∙ script_is hosts s.input s.output s.third bare.1 bare.2
+      ∙ ap (option_map hosts) (sym (text_told host_words s rows tells input_slot refl)),
+)
+rows_spell run_words s rows bare ready tells = (
+  tt,
+  alone_is s bare.0 (two_files (one_file runs) s.input s.output s.third) ∙ script_is runs s.input s.output s.third bare.1 bare.2
+      ∙ ap (option_map runs) (sym (text_told run_words s rows tells input_slot refl)),
+)
 rows_spell gen_words s rows bare ready tells =
     let input = text_told gen_words s rows tells input_slot refl in
-    let output = text_told gen_words s rows tells output_slot refl in
-    (tt, alone_is s bare (number_and_file s.input s.output) ∙ (λ i. number_and_file (sym input i) (sym output i)))
+    let output = text_told gen_words s rows tells output_slot refl in (
+      tt,
+      alone_is s bare.0 (two_files number_and_file s.input s.output s.third) ∙ two_are number_and_file s.input s.output s.third bare.1
+          ∙ (λ i. number_and_file (sym input i) (sym output i)),
+    )
+rows_spell save_words s rows bare ready tells =
+    let input = text_told save_words s rows tells input_slot refl in
+    let output = text_told save_words s rows tells output_slot refl in
+    let third = text_told save_words s rows tells third_slot refl in
+    (tt, alone_is s bare (script_events_snap s.input s.output s.third) ∙ (λ i. script_events_snap (sym input i) (sym output i) (sym third i)))
+rows_spell continue_words s rows bare ready tells =
+    let input = text_told continue_words s rows tells input_slot refl in
+    let output = text_told continue_words s rows tells output_slot refl in (
+      tt,
+      alone_is s bare.0 (two_files script_and_snap s.input s.output s.third) ∙ two_are script_and_snap s.input s.output s.third bare.1
+          ∙ (λ i. script_and_snap (sym input i) (sym output i)),
+    )
 
 -- Where a file is lacking nothing is spelled.
 two_lack : (spell : Option Text → Option Text → Option Spelled) → ((output : Option Text) → spell None output ≡ None) → ((input : Option Text) → spell input None ≡ None)
@@ -206,15 +244,33 @@ number_lacks : (input : Option Text) → number_and_file input None ≡ None
 number_lacks None = refl
 number_lacks (Some n) = refl
 
+snap_lacks : (input : Option Text) → script_and_snap input None ≡ None
+snap_lacks None = refl
+snap_lacks (Some n) = refl
+
+three_lack : (input output third : Option Text) → (lacks (not (is_some input) || (not (is_some output) || (not (is_some third) || false))) ≡ [] → ⊥) → script_events_snap input output third ≡ None
+three_lack None output third h = refl
+three_lack (Some input) None third h = refl
+three_lack (Some input) (Some output) None h = refl
+three_lack (Some input) (Some output) (Some third) h = absurd (h refl)
+
 lacks_spell : (k : Kind) (s : Said) → Bare k s → Settled s → (lacks (lacking k s) ≡ [] → ⊥) → spells k (Some s) ≡ None
 lacks_spell transform_words s bare ready h =
-    ap (option_map rewrites) (transform_is s.place s ready)
+    ap (option_map rewrites) (transform_is s.place s ready bare)
     ∙ two_lack (λ i o. option_map rewrites (with_files (choice_said s.imports s.ignore_imports) s.ignore_indirect s.asserts (policy_said s.save) i o))
     (λ o. ap (option_map rewrites) (no_input (choice_said s.imports s.ignore_imports) s.ignore_indirect s.asserts (policy_said s.save) o))
     (λ i. ap (option_map rewrites) (no_output (choice_said s.imports s.ignore_imports) s.ignore_indirect s.asserts (policy_said s.save) i)) s.input s.output h
-lacks_spell host_words s bare ready h = alone_is s bare.0 (one_file hosts s.input s.output) ∙ script_is hosts s.input s.output bare.1 ∙ script_lacks hosts s.input h
-lacks_spell run_words s bare ready h = alone_is s bare.0 (one_file runs s.input s.output) ∙ script_is runs s.input s.output bare.1 ∙ script_lacks runs s.input h
-lacks_spell gen_words s bare ready h = alone_is s bare (number_and_file s.input s.output) ∙ two_lack number_and_file (λ o. refl) number_lacks s.input s.output h
+lacks_spell host_words s bare ready h =
+    alone_is s bare.0 (two_files (one_file hosts) s.input s.output s.third) ∙ script_is hosts s.input s.output s.third bare.1 bare.2 ∙ script_lacks hosts s.input h
+lacks_spell run_words s bare ready h =
+    alone_is s bare.0 (two_files (one_file runs) s.input s.output s.third) ∙ script_is runs s.input s.output s.third bare.1 bare.2 ∙ script_lacks runs s.input h
+lacks_spell gen_words s bare ready h =
+    alone_is s bare.0 (two_files number_and_file s.input s.output s.third) ∙ two_are number_and_file s.input s.output s.third bare.1
+    ∙ two_lack number_and_file (λ o. refl) number_lacks s.input s.output h
+lacks_spell save_words s bare ready h = alone_is s bare (script_events_snap s.input s.output s.third) ∙ three_lack s.input s.output s.third h
+lacks_spell continue_words s bare ready h =
+    alone_is s bare.0 (two_files script_and_snap s.input s.output s.third) ∙ two_are script_and_snap s.input s.output s.third bare.1
+    ∙ two_lack script_and_snap (λ o. refl) snap_lacks s.input s.output h
 
 -- ---- a whole command
 
@@ -233,6 +289,8 @@ nothing_spelled transform_words = refl
 nothing_spelled host_words = refl
 nothing_spelled run_words = refl
 nothing_spelled gen_words = refl
+nothing_spelled save_words = refl
+nothing_spelled continue_words = refl
 
 -- what is pending passes, at a place where it may
 ready_ends : (k : Kind) (s : Said) (rows : List Row) (pending : Option (Text × List Text)) → Bare k s → Settled s → Settles k rows pending → Tells k s (whole k rows pending)
@@ -261,6 +319,8 @@ owed_ends v transform_words s rows pending at h = (
 owed_ends v host_words s rows pending at h = absurd h
 owed_ends v run_words s rows pending at h = absurd h
 owed_ends v gen_words s rows pending at h = absurd h
+owed_ends v save_words s rows pending at h = absurd h
+owed_ends v continue_words s rows pending at h = absurd h
 
 place_ends : (k : Kind) (s : Said) (rows : List Row) (pending : Option (Text × List Text)) → Bare k s → (place : Place) → s.place ≡ place → Stands place k s rows pending
     → Exactly k (faults_at k [] (walk_of s rows pending)) (ending k (whole k rows pending)) (Some s)
@@ -291,16 +351,20 @@ bare_told k (word ∷ words) None h = bare_told k words None tt
 bare_told k (word ∷ words) (Some s) h = bare_told k words (tell_at k s.place word s) (bare_at k s.place word s h)
 
 begins_bare : (k : Kind) → Bare k nothing_said
-begins_bare transform_words = tt
-begins_bare host_words = ((refl, refl, refl, refl, refl, refl), refl)
-begins_bare run_words = ((refl, refl, refl, refl, refl, refl), refl)
-begins_bare gen_words = (refl, refl, refl, refl, refl, refl)
+begins_bare transform_words = refl
+begins_bare host_words = ((refl, refl, refl, refl, refl, refl), refl, refl)
+begins_bare run_words = ((refl, refl, refl, refl, refl, refl), refl, refl)
+begins_bare gen_words = ((refl, refl, refl, refl, refl, refl), refl)
+begins_bare save_words = (refl, refl, refl, refl, refl, refl)
+begins_bare continue_words = ((refl, refl, refl, refl, refl, refl), refl)
 
 begins : (k : Kind) → Stands anywhere k nothing_said [] None
-begins transform_words = (refl, (refl, refl, refl, refl, refl, refl, refl), λ e. e)
-begins host_words = (refl, (refl, refl, refl, refl, refl, refl, refl), λ e. e)
-begins run_words = (refl, (refl, refl, refl, refl, refl, refl, refl), λ e. e)
-begins gen_words = (refl, (refl, refl, refl, refl, refl, refl, refl), λ e. e)
+begins transform_words = (refl, (refl, refl, refl, refl, refl, refl, refl, refl), ((λ e. e), (λ e. e)))
+begins host_words = (refl, (refl, refl, refl, refl, refl, refl, refl, refl), ((λ e. e), (λ e. e)))
+begins run_words = (refl, (refl, refl, refl, refl, refl, refl, refl, refl), ((λ e. e), (λ e. e)))
+begins gen_words = (refl, (refl, refl, refl, refl, refl, refl, refl, refl), ((λ e. e), (λ e. e)))
+begins save_words = (refl, (refl, refl, refl, refl, refl, refl, refl, refl), ((λ e. e), (λ e. e)))
+begins continue_words = (refl, (refl, refl, refl, refl, refl, refl, refl, refl), ((λ e. e), (λ e. e)))
 
 -- the faults of a command's words, by `clap`
 abbrev pub level : Kind → List Text → Kinds

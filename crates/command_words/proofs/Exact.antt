@@ -11,8 +11,8 @@ use Rattle.clap.specs.declared.error.kind.ErrorKind.TheVariants as kind
 use Rattle.clap.proofs.FaultLemmas.{stopped_fault}
 use Rattle.clap.proofs.WalkLemmas.{walk_stopped}
 use Rattle.script_model.specs.Command.{nothing_said, said, transform_said}
-use Rattle.script_model.specs.Spelled.{Spelled, spelled, rewrites, hosts, runs, files_alone, one_file, number_and_file}
-use Rattle.command_words.specs.Grammar.{Kind, transform_words, host_words, run_words, gen_words, MatchesSpell, line, line_shape, name_of, rules, shape}
+use Rattle.script_model.specs.Spelled.{Spelled, spelled, rewrites, hosts, runs, files_alone, one_file, two_files, number_and_file, script_and_snap, script_events_snap}
+use Rattle.command_words.specs.Grammar.{Kind, transform_words, host_words, run_words, gen_words, save_words, continue_words, MatchesSpell, line, line_shape, name_of, rules, shape}
 use Rattle.command_words.proofs.Views.{View, is_end, is_list, is_save, is_imports, is_indirect, is_asserts, is_list_with, is_save_with, is_named, is_long, is_short, view, same_is, differ, clash}
 use Rattle.command_words.proofs.Telling.{spells}
 use Rattle.command_words.proofs.Steps.{first_passes, some_kind}
@@ -25,7 +25,7 @@ abbrev top : Shape
 top = record line_shape { is_leaf = false; is_built = true }
 
 abbrev built_line : App
-built_line = record { top = top; subs = shape transform_words ∷ shape host_words ∷ shape run_words ∷ shape gen_words ∷ [] }
+built_line = record { top = top; subs = shape transform_words ∷ shape host_words ∷ shape run_words ∷ shape gen_words ∷ shape save_words ∷ shape continue_words ∷ [] }
 
 line_is : built line ≡ built_line
 line_is = refl
@@ -66,6 +66,8 @@ walk_is transform_words words = sym (walk_stopped [] commands (walk_from nothing
 walk_is host_words words = sym (walk_stopped [] commands (walk_from nothing_held) (name_of host_words) [] words)
 walk_is run_words words = sym (walk_stopped [] commands (walk_from nothing_held) (name_of run_words) [] words)
 walk_is gen_words words = sym (walk_stopped [] commands (walk_from nothing_held) (name_of gen_words) [] words)
+walk_is save_words words = sym (walk_stopped [] commands (walk_from nothing_held) (name_of save_words) [] words)
+walk_is continue_words words = sym (walk_stopped [] commands (walk_from nothing_held) (name_of continue_words) [] words)
 
 walk_passes : (k : Kind) (words : List Text) → walk_fault top commands (walk_from nothing_held) (name_of k ∷ words) ≡ []
 unfolding walk_fault walked
@@ -73,6 +75,8 @@ walk_passes transform_words words = stopped_fault top commands (walk_from nothin
 walk_passes host_words words = stopped_fault top commands (walk_from nothing_held) (name_of host_words, []) words
 walk_passes run_words words = stopped_fault top commands (walk_from nothing_held) (name_of run_words, []) words
 walk_passes gen_words words = stopped_fault top commands (walk_from nothing_held) (name_of gen_words, []) words
+walk_passes save_words words = stopped_fault top commands (walk_from nothing_held) (name_of save_words, []) words
+walk_passes continue_words words = stopped_fault top commands (walk_from nothing_held) (name_of continue_words, []) words
 
 or_else_none : (a : Kinds) → or_else a [] ≡ a
 or_else_none [] = refl
@@ -84,12 +88,16 @@ stopped_faults transform_words words = or_else_none (level transform_words words
 stopped_faults host_words words = or_else_none (level host_words words)
 stopped_faults run_words words = or_else_none (level run_words words)
 stopped_faults gen_words words = or_else_none (level gen_words words)
+stopped_faults save_words words = or_else_none (level save_words words)
+stopped_faults continue_words words = or_else_none (level continue_words words)
 
 enters : (k : Kind) (words : List Text) → entered built_line (Some (name_of k, words)) ≡ Some (name_of k, rows_after (rules k) [] words)
 enters transform_words words = refl
 enters host_words words = refl
 enters run_words words = refl
 enters gen_words words = refl
+enters save_words words = refl
+enters continue_words words = refl
 
 named_fault : (k : Kind) (words : List Text) → fault_of line (name_of k ∷ words) ≡ level k words
 named_fault k words = faults_are (name_of k ∷ words) ∙ (λ i. line_faults (walk_passes k words i) (walk_is k words i)) ∙ stopped_faults k words
@@ -102,6 +110,8 @@ named_spells transform_words words = refl
 named_spells host_words words = refl
 named_spells run_words words = refl
 named_spells gen_words words = refl
+named_spells save_words words = refl
+named_spells continue_words words = refl
 
 -- ---- any other first word, and none
 
@@ -110,27 +120,35 @@ record IsOther (word : Text) : Type 0 where
   pub host : word ≡ codes "host" → ⊥
   pub run : word ≡ codes "run" → ⊥
   pub gen : word ≡ codes "gen" → ⊥
+  pub save : word ≡ codes "save" → ⊥
+  pub continues : word ≡ codes "continue" → ⊥
 
 -- what such words spell, by their tests
-abbrev spelled_by : (host run gen transform : Bool) → List Text → Option Spelled
-spelled_by host run gen transform words =
-    if host then files_alone (one_file hosts) (said (Some nothing_said) words)
-    else (if run then files_alone (one_file runs) (said (Some nothing_said) words)
-    else (if gen then files_alone number_and_file (said (Some nothing_said) words)
-    else option_map rewrites (if transform then transform_said (said (Some nothing_said) words) else None)))
+abbrev spelled_by : (host run gen save continues transform : Bool) → List Text → Option Spelled
+spelled_by host run gen save continues transform words =
+    if host then files_alone (two_files (one_file hosts)) (said (Some nothing_said) words)
+    else (if run then files_alone (two_files (one_file runs)) (said (Some nothing_said) words)
+    else (if gen then files_alone (two_files number_and_file) (said (Some nothing_said) words)
+    else (if save then files_alone script_events_snap (said (Some nothing_said) words)
+    else (if continues then files_alone (two_files script_and_snap) (said (Some nothing_said) words)
+    else option_map rewrites (if transform then transform_said (said (Some nothing_said) words) else None)))))
 
 other_spells : (word : Text) (words : List Text) → IsOther word → spelled (word ∷ words) ≡ None
 other_spells word words h =
-    λ i. spelled_by (differ word (codes "host") h.host i) (differ word (codes "run") h.run i) (differ word (codes "gen") h.gen i) (differ word (codes "transform") h.transform i) words
+    λ i. spelled_by (differ word (codes "host") h.host i) (differ word (codes "run") h.run i) (differ word (codes "gen") h.gen i) (differ word (codes "save") h.save i)
+    (differ word (codes "continue") h.continues i) (differ word (codes "transform") h.transform i) words
 
-abbrev named_by : (transform host run gen : Bool) → Option Text
-named_by transform host run gen =
+abbrev named_by : (transform host run gen save continues : Bool) → Option Text
+named_by transform host run gen save continues =
     option_map (λ (s : Text × List Text). s.0) (cond (transform || false) (Some (codes "transform", [])) (cond (host || false) (Some (codes "host", []))
-    (cond (run || false) (Some (codes "run", [])) (cond (gen || false) (Some (codes "gen", [])) None))))
+    (cond (run || false) (Some (codes "run", [])) (cond (gen || false) (Some (codes "gen", [])) (cond (save || false) (Some (codes "save", []))
+    (cond (continues || false) (Some (codes "continue", [])) None))))))
 
 -- no command has this name
 no_command : (word : Text) → IsOther word → subcommand_met commands idle word ≡ None
-no_command word h = λ i. named_by (away (codes "transform") h.transform i) (away (codes "host") h.host i) (away (codes "run") h.run i) (away (codes "gen") h.gen i)
+no_command word h =
+    λ i. named_by (away (codes "transform") h.transform i) (away (codes "host") h.host i) (away (codes "run") h.run i) (away (codes "gen") h.gen i) (away (codes "save") h.save i)
+    (away (codes "continue") h.continues i)
   where
     away : (name : Text) → (word ≡ name → ⊥) → bytes_eq name word ≡ false
     away name apart = differ name word (λ e. apart (sym e))
@@ -207,26 +225,38 @@ data First (word : Text) : Type 0 where
   named : (k : Kind) → word ≡ name_of k → First word
   other : IsOther word → First word
 
+-- the word isn't this one
+abbrev Differs : Text → Text → Type 0
+Differs word name = bytes_eq word name ≡ false
+
 first_word : (word : Text) → First word
 first_word word = at_transform (bytes_eq word (codes "transform")) refl
   where
-    not_same : (name : Text) → bytes_eq word name ≡ false → word ≡ name → ⊥
-    not_same name e f = clash word name e f
-
-    at_gen : bytes_eq word (codes "transform") ≡ false → bytes_eq word (codes "host") ≡ false → bytes_eq word (codes "run") ≡ false → (b : Bool) → bytes_eq word (codes "gen") ≡ b → First word
-    at_gen t h r true e = named gen_words (same_is word (codes "gen") e)
-    at_gen t h r false e = other (record {
-      transform = not_same (codes "transform") t;
-      host = not_same (codes "host") h;
-      run = not_same (codes "run") r;
-      gen = not_same (codes "gen") e;
+    at_continue : Differs word (codes "transform") → Differs word (codes "host") → Differs word (codes "run") → Differs word (codes "gen") → Differs word (codes "save") → (b : Bool)
+        → bytes_eq word (codes "continue") ≡ b → First word
+    at_continue t h r g s true e = named continue_words (same_is word (codes "continue") e)
+    at_continue t h r g s false e = other (record {
+      transform = clash word (codes "transform") t;
+      host = clash word (codes "host") h;
+      run = clash word (codes "run") r;
+      gen = clash word (codes "gen") g;
+      save = clash word (codes "save") s;
+      continues = clash word (codes "continue") e;
     })
 
-    at_run : bytes_eq word (codes "transform") ≡ false → bytes_eq word (codes "host") ≡ false → (b : Bool) → bytes_eq word (codes "run") ≡ b → First word
+    at_save : Differs word (codes "transform") → Differs word (codes "host") → Differs word (codes "run") → Differs word (codes "gen") → (b : Bool) → bytes_eq word (codes "save") ≡ b → First word
+    at_save t h r g true e = named save_words (same_is word (codes "save") e)
+    at_save t h r g false e = at_continue t h r g e (bytes_eq word (codes "continue")) refl
+
+    at_gen : Differs word (codes "transform") → Differs word (codes "host") → Differs word (codes "run") → (b : Bool) → bytes_eq word (codes "gen") ≡ b → First word
+    at_gen t h r true e = named gen_words (same_is word (codes "gen") e)
+    at_gen t h r false e = at_save t h r e (bytes_eq word (codes "save")) refl
+
+    at_run : Differs word (codes "transform") → Differs word (codes "host") → (b : Bool) → bytes_eq word (codes "run") ≡ b → First word
     at_run t h true e = named run_words (same_is word (codes "run") e)
     at_run t h false e = at_gen t h e (bytes_eq word (codes "gen")) refl
 
-    at_host : bytes_eq word (codes "transform") ≡ false → (b : Bool) → bytes_eq word (codes "host") ≡ b → First word
+    at_host : Differs word (codes "transform") → (b : Bool) → bytes_eq word (codes "host") ≡ b → First word
     at_host t true e = named host_words (same_is word (codes "host") e)
     at_host t false e = at_run t e (bytes_eq word (codes "run")) refl
 

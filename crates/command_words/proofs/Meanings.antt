@@ -1,5 +1,5 @@
 -- What a caller takes from matches that spell something.
-use Rattle.std.proofs.Common.{Result, Ok, Err, IfOk, IfErr, ◌≡◌, ◌∙◌, List, [], Option, Some, None, option_map, true, refl, sym, ap, subst, unwrap_or, ⊎_elim}
+use Rattle.std.proofs.Common.{Result, Ok, Err, IfOk, IfErr, ◌≡◌, ◌∙◌, List, [], Option, Some, None, option_map, true, refl, sym, ap, subst, unwrap_or, ⊎_elim, ◌∷◌, bytes_eq, find}
 use Rattle.clap.specs.Walk.{Row, Text}
 use Rattle.clap.specs.Simple.{App, HasMatchesOf, is_simple, subcommand_of, subcommand_rows_of}
 use Rattle.clap.specs.Kinds.{FailsBy, HasKind, Kinds}
@@ -9,29 +9,28 @@ use Rattle.clap.specs.declared.error.Error.{Error}
 use Rattle.clap.specs.declared.error.kind.ErrorKind.TheVariants.{OutOfMemory}
 use Rattle.clap.specs.declared.parser.matches.ArgMatches.{ArgMatches}
 use Rattle.script_model.specs.Spelled.{Spelled, spelled}
-use Rattle.command_words.specs.Grammar.{Kind, transform_words, host_words, run_words, gen_words, MatchesSpell, TellsFlags, line, name_of, read_of}
+use Rattle.command_words.specs.Grammar.{Kind, transform_words, host_words, run_words, gen_words, save_words, continue_words, MatchesSpell, TellsFlags, line, name_of, read_of}
 use Rattle.command_words.proofs.Exact.{exact, line_is_free, line_is_simple}
-use Rattle.command_words.proofs.Views.{clash}
 use Rattle.command_words.proofs.Walking.{AllText}
 
 -- commands have different names
+abbrev kinds : List Kind
+kinds = transform_words ∷ host_words ∷ run_words ∷ gen_words ∷ save_words ∷ continue_words ∷ []
+
+-- the command of this name
+abbrev kind_at : Text → Option Kind
+kind_at name = find (λ (k : Kind). bytes_eq (name_of k) name) kinds
+
+found : (k : Kind) → kind_at (name_of k) ≡ Some k
+found transform_words = refl
+found host_words = refl
+found run_words = refl
+found gen_words = refl
+found save_words = refl
+found continue_words = refl
+
 same_command : (j k : Kind) → name_of j ≡ name_of k → j ≡ k
-same_command transform_words transform_words e = refl
-same_command host_words host_words e = refl
-same_command run_words run_words e = refl
-same_command gen_words gen_words e = refl
-same_command transform_words host_words e = absurd (clash (name_of transform_words) (name_of host_words) refl e)
-same_command transform_words run_words e = absurd (clash (name_of transform_words) (name_of run_words) refl e)
-same_command transform_words gen_words e = absurd (clash (name_of transform_words) (name_of gen_words) refl e)
-same_command host_words transform_words e = absurd (clash (name_of host_words) (name_of transform_words) refl e)
-same_command host_words run_words e = absurd (clash (name_of host_words) (name_of run_words) refl e)
-same_command host_words gen_words e = absurd (clash (name_of host_words) (name_of gen_words) refl e)
-same_command run_words transform_words e = absurd (clash (name_of run_words) (name_of transform_words) refl e)
-same_command run_words host_words e = absurd (clash (name_of run_words) (name_of host_words) refl e)
-same_command run_words gen_words e = absurd (clash (name_of run_words) (name_of gen_words) refl e)
-same_command gen_words transform_words e = absurd (clash (name_of gen_words) (name_of transform_words) refl e)
-same_command gen_words host_words e = absurd (clash (name_of gen_words) (name_of host_words) refl e)
-same_command gen_words run_words e = absurd (clash (name_of gen_words) (name_of run_words) refl e)
+same_command j k e = ap (λ (o : Option Kind). unwrap_or o k) (sym (found j) ∙ ap kind_at e ∙ found k)
 
 abbrev pub name_in : Option (Text × List Row) → Option Text
 name_in = option_map (λ (p : Text × List Row). p.0)

@@ -1,7 +1,9 @@
 -- What the rows of `clap`'s matches tell, by what the words have told.
-use Rattle.std.proofs.Common.{◌≡◌, ◌∙◌, List, [], ◌∷◌, ◌++◌, Option, Some, None, option_map, Bool, true, false, cond, not, ◌&&◌, ◌||◌, refl, sym, ap, subst, codes, bytes_eq, if◌then◌else◌, is_some, true≢false, find, fold, append-nil}
+use Rattle.std.proofs.Common.{◌≡◌, ◌∙◌, ◌<◌, ◌==◌, ℕ, List, [], ◌∷◌, ◌++◌, Option, Some, None, option_map, Bool, true, false, cond, not, ◌&&◌, ◌||◌, refl, sym, ap, subst, codes, bytes_eq}
+use Rattle.std.proofs.Common.{if◌then◌else◌, is_some, true≢false, find, fold, append-nil, length, get_or, eqb-true, arith}
+use Rattle.std.specs.List.{list_all}
 use Rattle.std.specs.Option.{option_or}
-use Rattle.std.proofs.lemmas.List.Folds.{find-append}
+use Rattle.std.proofs.lemmas.List.Folds.{find-append, list_all_at}
 use Rattle.clap.specs.Walk.{Row, Rule, Text, at_row, default_rows, has_row, more_values, reading_by, with_default, with_values, without}
 use Rattle.clap.specs.declared.builder.value_parser.Reading.{Reading}
 use Rattle.clap.specs.declared.builder.value_parser.Reading.TheVariants.{AsWritten}
@@ -11,20 +13,38 @@ use Rattle.clap.specs.Kinds.{Kinds, or_else}
 use Rattle.clap.specs.Faults.{repeat_fault}
 use Rattle.clap.specs.declared.error.kind.ErrorKind.TheVariants as kind
 use Rattle.script_model.specs.Command.{Said}
-use Rattle.command_words.specs.Grammar.{Kind, transform_words, host_words, run_words, gen_words}
+use Rattle.command_words.specs.Grammar.{Kind, transform_words, host_words, run_words, gen_words, save_words, continue_words}
 use Rattle.command_words.proofs.Telling.{Valued, list_option, save_option}
 use Rattle.command_words.proofs.Views.{same_is, same_text}
 
 -- ---- the arguments
 
 pub data Slot : Type 0 where
-  list_slot save_slot imports_slot indirect_slot asserts_slot input_slot output_slot : Slot
+  list_slot save_slot imports_slot indirect_slot asserts_slot input_slot output_slot third_slot : Slot
 
 abbrev pub input_id : Kind → Text
 input_id transform_words = codes "input"
 input_id host_words = codes "script"
 input_id run_words = codes "script"
 input_id gen_words = codes "number"
+input_id save_words = codes "script"
+input_id continue_words = codes "script"
+
+abbrev pub output_id : Kind → Text
+output_id transform_words = codes "output"
+output_id host_words = codes "output"
+output_id run_words = codes "output"
+output_id gen_words = codes "output"
+output_id save_words = codes "events"
+output_id continue_words = codes "snapshot"
+
+abbrev pub third_id : Kind → Text
+third_id transform_words = codes "third"
+third_id host_words = codes "third"
+third_id run_words = codes "third"
+third_id gen_words = codes "third"
+third_id save_words = codes "snapshot"
+third_id continue_words = codes "third"
 
 abbrev pub id_of : Kind → Slot → Text
 id_of k list_slot = codes "imports"
@@ -33,7 +53,8 @@ id_of k imports_slot = codes "ignore-imports"
 id_of k indirect_slot = codes "ignore-indirect"
 id_of k asserts_slot = codes "asserts"
 id_of k input_slot = input_id k
-id_of k output_slot = codes "output"
+id_of k output_slot = output_id k
+id_of k third_slot = third_id k
 
 -- the place of an option with a value, and its name
 abbrev pub value_slot : Valued → Slot
@@ -43,103 +64,67 @@ value_slot save_option = save_slot
 abbrev pub option_id : Valued → Text
 option_id v = id_of transform_words (value_slot v)
 
+-- ---- they are told apart
+
+abbrev slots : List Slot
+slots = list_slot ∷ save_slot ∷ imports_slot ∷ indirect_slot ∷ asserts_slot ∷ input_slot ∷ output_slot ∷ third_slot ∷ []
+
+abbrev number_of : Slot → ℕ
+number_of list_slot = 0
+number_of save_slot = 1
+number_of imports_slot = 2
+number_of indirect_slot = 3
+number_of asserts_slot = 4
+number_of input_slot = 5
+number_of output_slot = 6
+number_of third_slot = 7
+
+abbrev slot_at : ℕ → Slot
+slot_at n = get_or slots n list_slot
+
+numbered : (a : Slot) → (slot_at (number_of a) ≡ a) × (number_of a < length slots)
+numbered list_slot = (refl, omega arith)
+numbered save_slot = (refl, omega arith)
+numbered imports_slot = (refl, omega arith)
+numbered indirect_slot = (refl, omega arith)
+numbered asserts_slot = (refl, omega arith)
+numbered input_slot = (refl, omega arith)
+numbered output_slot = (refl, omega arith)
+numbered third_slot = (refl, omega arith)
+
 abbrev pub same_slot : Slot → Slot → Bool
-same_slot list_slot list_slot = true
-same_slot save_slot save_slot = true
-same_slot imports_slot imports_slot = true
-same_slot indirect_slot indirect_slot = true
-same_slot asserts_slot asserts_slot = true
-same_slot input_slot input_slot = true
-same_slot output_slot output_slot = true
-same_slot _ _ = false
+same_slot a b = number_of a == number_of b
+
+same_slot_is : (a b : Slot) → same_slot a b ≡ true → a ≡ b
+same_slot_is a b e = sym (numbered a).0 ∙ ap slot_at (eqb-true (number_of a) (number_of b) e) ∙ (numbered b).0
+
+-- two arguments of a command have one name only if they are the same
+abbrev apart : Kind → Slot → Slot → Bool
+apart k a b = same_slot a b || not (bytes_eq (id_of k a) (id_of k b))
+
+all_apart : (k : Kind) → list_all (λ (a : Slot). list_all (apart k a) slots) slots ≡ true
+all_apart transform_words = refl
+all_apart host_words = refl
+all_apart run_words = refl
+all_apart gen_words = refl
+all_apart save_words = refl
+all_apart continue_words = refl
+
+of_slots : (p : Slot → Bool) (a : Slot) → list_all p slots ≡ true → p a ≡ true
+of_slots p a all = ap p (sym (numbered a).0) ∙ go (p (slot_at (number_of a))) refl
+  where
+    go : (b : Bool) → p (slot_at (number_of a)) ≡ b → p (slot_at (number_of a)) ≡ true
+    go true e = e
+    go false e = absurd (true≢false (sym all ∙ list_all_at p slots (number_of a) list_slot (numbered a).1 e))
 
 -- the arguments of a command have different names
 pub distinct : (k : Kind) (a b : Slot) → same_slot a b ≡ false → bytes_eq (id_of k a) (id_of k b) ≡ false
-distinct k list_slot list_slot e = absurd (true≢false e)
-distinct k list_slot save_slot e = refl
-distinct k list_slot imports_slot e = refl
-distinct k list_slot indirect_slot e = refl
-distinct k list_slot asserts_slot e = refl
-distinct transform_words list_slot input_slot e = refl
-distinct host_words list_slot input_slot e = refl
-distinct run_words list_slot input_slot e = refl
-distinct gen_words list_slot input_slot e = refl
-distinct k list_slot output_slot e = refl
-distinct k save_slot list_slot e = refl
-distinct k save_slot save_slot e = absurd (true≢false e)
-distinct k save_slot imports_slot e = refl
-distinct k save_slot indirect_slot e = refl
-distinct k save_slot asserts_slot e = refl
-distinct transform_words save_slot input_slot e = refl
-distinct host_words save_slot input_slot e = refl
-distinct run_words save_slot input_slot e = refl
-distinct gen_words save_slot input_slot e = refl
-distinct k save_slot output_slot e = refl
-distinct k imports_slot list_slot e = refl
-distinct k imports_slot save_slot e = refl
-distinct k imports_slot imports_slot e = absurd (true≢false e)
-distinct k imports_slot indirect_slot e = refl
-distinct k imports_slot asserts_slot e = refl
-distinct transform_words imports_slot input_slot e = refl
-distinct host_words imports_slot input_slot e = refl
-distinct run_words imports_slot input_slot e = refl
-distinct gen_words imports_slot input_slot e = refl
-distinct k imports_slot output_slot e = refl
-distinct k indirect_slot list_slot e = refl
-distinct k indirect_slot save_slot e = refl
-distinct k indirect_slot imports_slot e = refl
-distinct k indirect_slot indirect_slot e = absurd (true≢false e)
-distinct k indirect_slot asserts_slot e = refl
-distinct transform_words indirect_slot input_slot e = refl
-distinct host_words indirect_slot input_slot e = refl
-distinct run_words indirect_slot input_slot e = refl
-distinct gen_words indirect_slot input_slot e = refl
-distinct k indirect_slot output_slot e = refl
-distinct k asserts_slot list_slot e = refl
-distinct k asserts_slot save_slot e = refl
-distinct k asserts_slot imports_slot e = refl
-distinct k asserts_slot indirect_slot e = refl
-distinct k asserts_slot asserts_slot e = absurd (true≢false e)
-distinct transform_words asserts_slot input_slot e = refl
-distinct host_words asserts_slot input_slot e = refl
-distinct run_words asserts_slot input_slot e = refl
-distinct gen_words asserts_slot input_slot e = refl
-distinct k asserts_slot output_slot e = refl
-distinct transform_words input_slot list_slot e = refl
-distinct host_words input_slot list_slot e = refl
-distinct run_words input_slot list_slot e = refl
-distinct gen_words input_slot list_slot e = refl
-distinct transform_words input_slot save_slot e = refl
-distinct host_words input_slot save_slot e = refl
-distinct run_words input_slot save_slot e = refl
-distinct gen_words input_slot save_slot e = refl
-distinct transform_words input_slot imports_slot e = refl
-distinct host_words input_slot imports_slot e = refl
-distinct run_words input_slot imports_slot e = refl
-distinct gen_words input_slot imports_slot e = refl
-distinct transform_words input_slot indirect_slot e = refl
-distinct host_words input_slot indirect_slot e = refl
-distinct run_words input_slot indirect_slot e = refl
-distinct gen_words input_slot indirect_slot e = refl
-distinct transform_words input_slot asserts_slot e = refl
-distinct host_words input_slot asserts_slot e = refl
-distinct run_words input_slot asserts_slot e = refl
-distinct gen_words input_slot asserts_slot e = refl
-distinct k input_slot input_slot e = absurd (true≢false e)
-distinct transform_words input_slot output_slot e = refl
-distinct host_words input_slot output_slot e = refl
-distinct run_words input_slot output_slot e = refl
-distinct gen_words input_slot output_slot e = refl
-distinct k output_slot list_slot e = refl
-distinct k output_slot save_slot e = refl
-distinct k output_slot imports_slot e = refl
-distinct k output_slot indirect_slot e = refl
-distinct k output_slot asserts_slot e = refl
-distinct transform_words output_slot input_slot e = refl
-distinct host_words output_slot input_slot e = refl
-distinct run_words output_slot input_slot e = refl
-distinct gen_words output_slot input_slot e = refl
-distinct k output_slot output_slot e = absurd (true≢false e)
+distinct k a b e =
+    go (bytes_eq (id_of k a) (id_of k b)) (ap (λ (t : Bool). t || not (bytes_eq (id_of k a) (id_of k b))) (sym e) ∙ of_slots (apart k a) b (of_slots (λ (c : Slot). list_all (apart k c) slots) a (all_apart k)))
+  where
+    go : (t : Bool) → (false || not t) ≡ true → t ≡ false
+    go true f = sym f
+    go false f = refl
 
 -- ---- rows
 
@@ -164,6 +149,7 @@ said_at indirect_slot s = flag_text s.ignore_indirect
 said_at asserts_slot s = flag_text s.asserts
 said_at input_slot s = s.input
 said_at output_slot s = s.output
+said_at third_slot s = s.third
 
 abbrev pub TellsAt : Kind → Said → List Row → Slot → Type 0
 TellsAt k s rows slot = found (id_of k slot) rows ≡ option_map (given (id_of k slot)) (said_at slot s)
@@ -172,7 +158,7 @@ TellsAt k s rows slot = found (id_of k slot) rows ≡ option_map (given (id_of k
 abbrev pub Tells : Kind → Said → List Row → Type 0
 Tells k s rows =
     TellsAt k s rows list_slot × TellsAt k s rows save_slot × TellsAt k s rows imports_slot × TellsAt k s rows indirect_slot × TellsAt k s rows asserts_slot
-    × TellsAt k s rows input_slot × TellsAt k s rows output_slot
+    × TellsAt k s rows input_slot × TellsAt k s rows output_slot × TellsAt k s rows third_slot
 
 pub tells_at : (k : Kind) (s : Said) (rows : List Row) → Tells k s rows → (slot : Slot) → TellsAt k s rows slot
 tells_at k s rows t list_slot = t.0
@@ -182,6 +168,7 @@ tells_at k s rows t indirect_slot = t.3
 tells_at k s rows t asserts_slot = t.4
 tells_at k s rows t input_slot = t.5
 tells_at k s rows t output_slot = t.6
+tells_at k s rows t third_slot = t.7
 
 pub has_found : (id : Text) (rows : List Row) → has_row id rows ≡ is_some (found id rows)
 has_found id [] = refl
@@ -223,57 +210,6 @@ option_or_none : {X : Type 0} (o : Option X) → option_or o None ≡ o
 option_or_none None = refl
 option_or_none (Some x) = refl
 
-same_slot_is : (a b : Slot) → same_slot a b ≡ true → a ≡ b
-same_slot_is list_slot list_slot e = refl
-same_slot_is save_slot save_slot e = refl
-same_slot_is imports_slot imports_slot e = refl
-same_slot_is indirect_slot indirect_slot e = refl
-same_slot_is asserts_slot asserts_slot e = refl
-same_slot_is input_slot input_slot e = refl
-same_slot_is output_slot output_slot e = refl
-same_slot_is list_slot save_slot e = absurd (true≢false (sym e))
-same_slot_is list_slot imports_slot e = absurd (true≢false (sym e))
-same_slot_is list_slot indirect_slot e = absurd (true≢false (sym e))
-same_slot_is list_slot asserts_slot e = absurd (true≢false (sym e))
-same_slot_is list_slot input_slot e = absurd (true≢false (sym e))
-same_slot_is list_slot output_slot e = absurd (true≢false (sym e))
-same_slot_is save_slot list_slot e = absurd (true≢false (sym e))
-same_slot_is save_slot imports_slot e = absurd (true≢false (sym e))
-same_slot_is save_slot indirect_slot e = absurd (true≢false (sym e))
-same_slot_is save_slot asserts_slot e = absurd (true≢false (sym e))
-same_slot_is save_slot input_slot e = absurd (true≢false (sym e))
-same_slot_is save_slot output_slot e = absurd (true≢false (sym e))
-same_slot_is imports_slot list_slot e = absurd (true≢false (sym e))
-same_slot_is imports_slot save_slot e = absurd (true≢false (sym e))
-same_slot_is imports_slot indirect_slot e = absurd (true≢false (sym e))
-same_slot_is imports_slot asserts_slot e = absurd (true≢false (sym e))
-same_slot_is imports_slot input_slot e = absurd (true≢false (sym e))
-same_slot_is imports_slot output_slot e = absurd (true≢false (sym e))
-same_slot_is indirect_slot list_slot e = absurd (true≢false (sym e))
-same_slot_is indirect_slot save_slot e = absurd (true≢false (sym e))
-same_slot_is indirect_slot imports_slot e = absurd (true≢false (sym e))
-same_slot_is indirect_slot asserts_slot e = absurd (true≢false (sym e))
-same_slot_is indirect_slot input_slot e = absurd (true≢false (sym e))
-same_slot_is indirect_slot output_slot e = absurd (true≢false (sym e))
-same_slot_is asserts_slot list_slot e = absurd (true≢false (sym e))
-same_slot_is asserts_slot save_slot e = absurd (true≢false (sym e))
-same_slot_is asserts_slot imports_slot e = absurd (true≢false (sym e))
-same_slot_is asserts_slot indirect_slot e = absurd (true≢false (sym e))
-same_slot_is asserts_slot input_slot e = absurd (true≢false (sym e))
-same_slot_is asserts_slot output_slot e = absurd (true≢false (sym e))
-same_slot_is input_slot list_slot e = absurd (true≢false (sym e))
-same_slot_is input_slot save_slot e = absurd (true≢false (sym e))
-same_slot_is input_slot imports_slot e = absurd (true≢false (sym e))
-same_slot_is input_slot indirect_slot e = absurd (true≢false (sym e))
-same_slot_is input_slot asserts_slot e = absurd (true≢false (sym e))
-same_slot_is input_slot output_slot e = absurd (true≢false (sym e))
-same_slot_is output_slot list_slot e = absurd (true≢false (sym e))
-same_slot_is output_slot save_slot e = absurd (true≢false (sym e))
-same_slot_is output_slot imports_slot e = absurd (true≢false (sym e))
-same_slot_is output_slot indirect_slot e = absurd (true≢false (sym e))
-same_slot_is output_slot asserts_slot e = absurd (true≢false (sym e))
-same_slot_is output_slot input_slot e = absurd (true≢false (sym e))
-
 own_row : (id : Text) (r : Row) → bytes_eq r.id id ≡ true → found id (r ∷ []) ≡ Some r
 own_row id r e = ap (λ (b : Bool). cond b (Some r) None) e
 
@@ -300,7 +236,16 @@ module _ (k : Kind) (slot : Slot) (text : Text) (s t : Said) (rows : List Row) (
   slot_told other = find-append (λ (r : Row). bytes_eq r.id (id_of k other)) rows (given (id_of k slot) text ∷ []) ∙ slot_by other (same_slot slot other) refl
 
   pub one_told : Tells k t (rows ++ given (id_of k slot) text ∷ [])
-  one_told = (slot_told list_slot, slot_told save_slot, slot_told imports_slot, slot_told indirect_slot, slot_told asserts_slot, slot_told input_slot, slot_told output_slot)
+  one_told = (
+    slot_told list_slot,
+    slot_told save_slot,
+    slot_told imports_slot,
+    slot_told indirect_slot,
+    slot_told asserts_slot,
+    slot_told input_slot,
+    slot_told output_slot,
+    slot_told third_slot,
+  )
 
   -- an argument that wasn't used yet passes, and its row tells it
   pub taken : (or_else (repeat_fault false (id_of k slot) rows) [] ≡ []) × Tells k t (with_values (id_of k slot) AsWritten CommandLine (text ∷ []) (without (id_of k slot) rows))

@@ -7,10 +7,10 @@ use Rattle.clap.specs.declared.builder.value_parser.Reading.TheVariants.{AsWritt
 use Rattle.clap.specs.declared.parser.matches.ValueSource.TheVariants.{CommandLine}
 use Rattle.clap.specs.declared.error.kind.ErrorKind.TheVariants as kind
 use Rattle.script_model.specs.Command.{Said, Place, anywhere, behind_imports, behind_save, behind_options, word_of, unknown_word}
-use Rattle.command_words.specs.Grammar.{Kind, transform_words, host_words, run_words, gen_words, rules, shape}
+use Rattle.command_words.specs.Grammar.{Kind, transform_words, host_words, run_words, gen_words, save_words, continue_words, rules, shape}
 use Rattle.command_words.proofs.Views.{View, is_end, is_list, is_save, is_imports, is_indirect, is_asserts, is_list_with, is_save_with, is_named, is_long, is_short, IsName, IsUnknown}
 use Rattle.command_words.proofs.Telling.{tell_at, tell_file, tell_value, tell_word, say_value, say_imports, say_save, say_ignore_imports, say_ignore_indirect, say_asserts, Valued, list_option, save_option}
-use Rattle.command_words.proofs.Rows.{Slot, list_slot, save_slot, imports_slot, indirect_slot, asserts_slot, input_slot, output_slot, same_slot, said_at, value_slot, option_id, flag_text, Tells, taken, repeated}
+use Rattle.command_words.proofs.Rows.{Slot, list_slot, save_slot, imports_slot, indirect_slot, asserts_slot, input_slot, output_slot, third_slot, same_slot, said_at, value_slot, option_id, flag_text, Tells, taken, repeated}
 use Rattle.command_words.proofs.Steps.{After, HasFlags, Ordered, Owes, Settles, Stands, after_as, at_walk, first_passes, held, name_is, name_met, position, refused, shows, some_kind, trails, unknown_fails, waits, walk_of, whole}
 use Rattle.command_words.proofs.Placing.{place_word, stands_at}
 
@@ -49,6 +49,7 @@ keeps_value v s text indirect_slot e = refl
 keeps_value v s text asserts_slot e = refl
 keeps_value v s text input_slot e = refl
 keeps_value v s text output_slot e = refl
+keeps_value v s text third_slot e = refl
 
 has_value : (v : Valued) (s : Said) (text : Text) → said_at (value_slot v) (given_value v text s) ≡ Some text
 has_value list_option s text = refl
@@ -69,6 +70,7 @@ keeps_imports s indirect_slot e = refl
 keeps_imports s asserts_slot e = refl
 keeps_imports s input_slot e = refl
 keeps_imports s output_slot e = refl
+keeps_imports s third_slot e = refl
 
 keeps_indirect : (s : Said) (other : Slot) → same_slot indirect_slot other ≡ false → said_at other (record s { ignore_indirect = true }) ≡ said_at other s
 keeps_indirect s list_slot e = refl
@@ -78,6 +80,7 @@ keeps_indirect s indirect_slot e = absurd (true≢false e)
 keeps_indirect s asserts_slot e = refl
 keeps_indirect s input_slot e = refl
 keeps_indirect s output_slot e = refl
+keeps_indirect s third_slot e = refl
 
 keeps_asserts : (s : Said) (other : Slot) → same_slot asserts_slot other ≡ false → said_at other (record s { asserts = true }) ≡ said_at other s
 keeps_asserts s list_slot e = refl
@@ -87,6 +90,7 @@ keeps_asserts s indirect_slot e = refl
 keeps_asserts s asserts_slot e = absurd (true≢false e)
 keeps_asserts s input_slot e = refl
 keeps_asserts s output_slot e = refl
+keeps_asserts s third_slot e = refl
 
 both_pass : (a b : Kinds) → a ≡ [] → b ≡ [] → or_else (or_else a b) [] ≡ []
 both_pass a b e f = λ i. or_else (or_else (e i) (f i)) []
@@ -99,11 +103,13 @@ no_word transform_words s = refl
 no_word host_words s = refl
 no_word run_words s = refl
 no_word gen_words s = refl
+no_word save_words s = refl
+no_word continue_words s = refl
 
 -- ---- where an option may stand
 
 abbrev idle_walk : Said → List Row → Option (Text × List Text) → Walk
-idle_walk s rows pending = at_walk rows pending idle (position s.input s.output) false
+idle_walk s rows pending = at_walk rows pending idle (position s.input s.output s.third) false
 
 -- the walk behind the word is as what it tells says
 abbrev Idly : Kind → Said → List Row → Option (Text × List Text) → Text → Type 0
@@ -128,13 +134,17 @@ idle_option save_option transform_words s rows pending settles tells ordered =
 idle_option list_option host_words s rows pending settles tells ordered = λ e. absurd (some_kind kind.UnknownArgument [] e)
 idle_option list_option run_words s rows pending settles tells ordered = λ e. absurd (some_kind kind.UnknownArgument [] e)
 idle_option list_option gen_words s rows pending settles tells ordered = λ e. absurd (some_kind kind.UnknownArgument [] e)
+idle_option list_option save_words s rows pending settles tells ordered = λ e. absurd (some_kind kind.UnknownArgument [] e)
+idle_option list_option continue_words s rows pending settles tells ordered = λ e. absurd (some_kind kind.UnknownArgument [] e)
 idle_option save_option host_words s rows pending settles tells ordered = λ e. absurd (some_kind kind.UnknownArgument [] e)
 idle_option save_option run_words s rows pending settles tells ordered = λ e. absurd (some_kind kind.UnknownArgument [] e)
 idle_option save_option gen_words s rows pending settles tells ordered = λ e. absurd (some_kind kind.UnknownArgument [] e)
+idle_option save_option save_words s rows pending settles tells ordered = λ e. absurd (some_kind kind.UnknownArgument [] e)
+idle_option save_option continue_words s rows pending settles tells ordered = λ e. absurd (some_kind kind.UnknownArgument [] e)
 
 -- the walk where an option may stand
 anywhere_walk : (s : Said) (rows : List Row) (pending : Option (Text × List Text)) → s.place ≡ anywhere → idle_walk s rows pending ≡ walk_of s rows pending
-anywhere_walk s rows pending at = ap (λ (p : Place). at_walk rows pending (waits p) (position s.input s.output) (trails p)) (sym at)
+anywhere_walk s rows pending at = ap (λ (p : Place). at_walk rows pending (waits p) (position s.input s.output s.third) (trails p)) (sym at)
 
 idle_imports : (k : Kind) (s : Said) (rows : List Row) (pending : Option (Text × List Text)) → Settles k rows pending → Tells k s (whole k rows pending) → Ordered s → s.place ≡ anywhere
     → Idly k s rows pending (codes "--ignore-imports")
@@ -158,6 +168,8 @@ idle_imports transform_words s rows pending settles tells ordered at = go s.igno
 idle_imports host_words s rows pending settles tells ordered at = λ e. absurd (some_kind kind.UnknownArgument [] e)
 idle_imports run_words s rows pending settles tells ordered at = λ e. absurd (some_kind kind.UnknownArgument [] e)
 idle_imports gen_words s rows pending settles tells ordered at = λ e. absurd (some_kind kind.UnknownArgument [] e)
+idle_imports save_words s rows pending settles tells ordered at = λ e. absurd (some_kind kind.UnknownArgument [] e)
+idle_imports continue_words s rows pending settles tells ordered at = λ e. absurd (some_kind kind.UnknownArgument [] e)
 
 idle_indirect : (k : Kind) (s : Said) (rows : List Row) (pending : Option (Text × List Text)) → Settles k rows pending → Tells k s (whole k rows pending) → Ordered s → s.place ≡ anywhere
     → Idly k s rows pending (codes "--ignore-indirect")
@@ -181,6 +193,8 @@ idle_indirect transform_words s rows pending settles tells ordered at = go s.ign
 idle_indirect host_words s rows pending settles tells ordered at = λ e. absurd (some_kind kind.UnknownArgument [] e)
 idle_indirect run_words s rows pending settles tells ordered at = λ e. absurd (some_kind kind.UnknownArgument [] e)
 idle_indirect gen_words s rows pending settles tells ordered at = λ e. absurd (some_kind kind.UnknownArgument [] e)
+idle_indirect save_words s rows pending settles tells ordered at = λ e. absurd (some_kind kind.UnknownArgument [] e)
+idle_indirect continue_words s rows pending settles tells ordered at = λ e. absurd (some_kind kind.UnknownArgument [] e)
 
 idle_asserts : (k : Kind) (s : Said) (rows : List Row) (pending : Option (Text × List Text)) → Settles k rows pending → Tells k s (whole k rows pending) → Ordered s → s.place ≡ anywhere
     → Idly k s rows pending (codes "--asserts")
@@ -204,6 +218,8 @@ idle_asserts transform_words s rows pending settles tells ordered at = go s.asse
 idle_asserts host_words s rows pending settles tells ordered at = λ e. absurd (some_kind kind.UnknownArgument [] e)
 idle_asserts run_words s rows pending settles tells ordered at = λ e. absurd (some_kind kind.UnknownArgument [] e)
 idle_asserts gen_words s rows pending settles tells ordered at = λ e. absurd (some_kind kind.UnknownArgument [] e)
+idle_asserts save_words s rows pending settles tells ordered at = λ e. absurd (some_kind kind.UnknownArgument [] e)
+idle_asserts continue_words s rows pending settles tells ordered at = λ e. absurd (some_kind kind.UnknownArgument [] e)
 
 -- a value behind `=`
 value_comes : (v : Valued) (text : Text) (s : Said) (rows : List Row) (pending : Option (Text × List Text)) → Settles transform_words rows pending
@@ -240,18 +256,22 @@ idle_with save_option transform_words text s rows pending settles tells ordered 
 idle_with list_option host_words text s rows pending settles tells ordered = λ e. absurd (some_kind kind.UnknownArgument [] e)
 idle_with list_option run_words text s rows pending settles tells ordered = λ e. absurd (some_kind kind.UnknownArgument [] e)
 idle_with list_option gen_words text s rows pending settles tells ordered = λ e. absurd (some_kind kind.UnknownArgument [] e)
+idle_with list_option save_words text s rows pending settles tells ordered = λ e. absurd (some_kind kind.UnknownArgument [] e)
+idle_with list_option continue_words text s rows pending settles tells ordered = λ e. absurd (some_kind kind.UnknownArgument [] e)
 idle_with save_option host_words text s rows pending settles tells ordered = λ e. absurd (some_kind kind.UnknownArgument [] e)
 idle_with save_option run_words text s rows pending settles tells ordered = λ e. absurd (some_kind kind.UnknownArgument [] e)
 idle_with save_option gen_words text s rows pending settles tells ordered = λ e. absurd (some_kind kind.UnknownArgument [] e)
+idle_with save_option save_words text s rows pending settles tells ordered = λ e. absurd (some_kind kind.UnknownArgument [] e)
+idle_with save_option continue_words text s rows pending settles tells ordered = λ e. absurd (some_kind kind.UnknownArgument [] e)
 
 -- a name, or a word behind `--`, goes to its place
 to_place : (k : Kind) (s : Said) (rows : List Row) (pending : Option (Text × List Text)) (word : Text) → waits s.place ≡ idle → Settles k rows pending → Tells k s (whole k rows pending) → Ordered s
     → (waiting : Waiting) (trail : Bool) → waiting ≡ waits s.place → trail ≡ trails s.place
-    → word_fault (shape k) [] trail waiting word (held rows pending) ≡ [] → word_met (rules k) [] trail waiting (position s.input s.output) word (held rows pending) ≡ (held rows pending, value)
-    → After k (tell_file k word s) (turn_fault (shape k) [] (at_walk rows pending waiting (position s.input s.output) trail) word)
-    (walked (rules k) [] (at_walk rows pending waiting (position s.input s.output) trail) word)
+    → word_fault (shape k) [] trail waiting word (held rows pending) ≡ [] → word_met (rules k) [] trail waiting (position s.input s.output s.third) word (held rows pending) ≡ (held rows pending, value)
+    → After k (tell_file k word s) (turn_fault (shape k) [] (at_walk rows pending waiting (position s.input s.output s.third) trail) word)
+    (walked (rules k) [] (at_walk rows pending waiting (position s.input s.output s.third) trail) word)
 to_place k s rows pending word idles settles tells ordered waiting trail w t faults met =
-    let at = position s.input s.output in
+    let at = position s.input s.output s.third in
     let seen = shows k rows pending waiting at trail word [] (held rows pending) value faults met in
     after_as k (tell_file k word s) (turn_fault (shape k) [] (at_walk rows pending waiting at trail) word) (step_fault (shape k) at (held rows pending) value)
     (walked (rules k) [] (at_walk rows pending waiting at trail) word)
@@ -265,12 +285,12 @@ idle_name k s rows pending word settles tells ordered at n =
     let h = held rows pending in
     subst (λ o. After k (tell_word k o s) (turn_fault (shape k) [] (idle_walk s rows pending) word) (walked (rules k) [] (idle_walk s rows pending) word)) (sym n.told)
     (to_place k s rows pending word (ap waits at) settles tells ordered idle false (ap waits (sym at)) (ap trails (sym at))
-    (name_is k h idle word n.no_end n.no_long n.no_short) (name_met k h idle (position s.input s.output) word n.no_end n.no_long n.no_short))
+    (name_is k h idle word n.no_end n.no_long n.no_short) (name_met k h idle (position s.input s.output s.third) word n.no_end n.no_long n.no_short))
 
 idle_unknown : (k : Kind) (s : Said) (rows : List Row) (pending : Option (Text × List Text)) (word : Text) → IsUnknown word → HasFlags word → Idly k s rows pending word
 idle_unknown k s rows pending word h f =
     refused k (tell_word k (word_of word) s) (turn_fault (shape k) [] (idle_walk s rows pending) word) (walked (rules k) [] (idle_walk s rows pending) word)
-    (ap (λ o. tell_word k o s) h.told ∙ no_word k s) (unknown_fails k rows pending idle (position s.input s.output) word h f)
+    (ap (λ o. tell_word k o s) h.told ∙ no_word k s) (unknown_fails k rows pending idle (position s.input s.output s.third) word h f)
 
 idle_step : (k : Kind) (s : Said) (rows : List Row) (pending : Option (Text × List Text)) (word : Text) → View word → s.place ≡ anywhere → Settles k rows pending → Tells k s (whole k rows pending)
     → Ordered s → Idly k s rows pending word
@@ -290,7 +310,7 @@ idle_step k s rows pending word (is_short h none y ys e x first) at settles tell
 
 -- the walk where the value is owed
 abbrev owing_walk : Valued → Said → List Row → Walk
-owing_walk v s rows = at_walk rows (Some (option_id v, [])) (option (option_id v)) (position s.input s.output) false
+owing_walk v s rows = at_walk rows (Some (option_id v, [])) (option (option_id v)) (position s.input s.output s.third) false
 
 abbrev Owing : Valued → Said → List Row → Text → Type 0
 Owing v s rows word = After transform_words (tell_value v word s) (turn_fault (shape transform_words) [] (owing_walk v s rows) word) (walked (rules transform_words) [] (owing_walk v s rows) word)
@@ -315,7 +335,7 @@ owing_end v s rows = λ e. record {
   rows = rows;
   pending = Some (option_id v, []);
   waiting = option (option_id v);
-  place = position s.input s.output;
+  place = position s.input s.output s.third;
   trail = true;
   is = refl;
   fails = never_settles v rows;
@@ -330,22 +350,22 @@ value_met save_option word rows = refl
 
 -- the walk behind the value
 value_owed : (v : Valued) (s : Said) (rows : List Row) (word : Text) → Tells transform_words s rows → Ordered s
-    → After transform_words (say_value v word s) [] (at_walk rows (Some (option_id v, word ∷ [])) idle (position s.input s.output) false)
+    → After transform_words (say_value v word s) [] (at_walk rows (Some (option_id v, word ∷ [])) idle (position s.input s.output s.third) false)
 value_owed v s rows word tells ordered = go (said_at (value_slot v) s) refl
   where
-    go : (o : Option Text) → said_at (value_slot v) s ≡ o → After transform_words (say_value v word s) [] (at_walk rows (Some (option_id v, word ∷ [])) idle (position s.input s.output) false)
+    go : (o : Option Text) → said_at (value_slot v) s ≡ o → After transform_words (say_value v word s) [] (at_walk rows (Some (option_id v, word ∷ [])) idle (position s.input s.output s.third) false)
     go None e =
         let t : Said = given_value v word s in
         let once = taken transform_words (value_slot v) word s t rows e (has_value v s word) (keeps_value v s word) tells in
-        subst (λ (o : Option Said). After transform_words o [] (at_walk rows (Some (option_id v, word ∷ [])) idle (position s.input s.output) false)) (sym (say_once v word s None e))
+        subst (λ (o : Option Said). After transform_words o [] (at_walk rows (Some (option_id v, word ∷ [])) idle (position s.input s.output s.third) false)) (sym (say_once v word s None e))
         (refl, rows, Some (option_id v, word ∷ []), refl, (settles_once v word rows ∙ once.0, subst (Tells transform_words t) (sym (whole_once v word rows)) once.1, ordered))
     go (Some earlier) e =
-        subst (λ (o : Option Said). After transform_words o [] (at_walk rows (Some (option_id v, word ∷ [])) idle (position s.input s.output) false)) (sym (say_once v word s (Some earlier) e))
+        subst (λ (o : Option Said). After transform_words o [] (at_walk rows (Some (option_id v, word ∷ [])) idle (position s.input s.output s.third) false)) (sym (say_once v word s (Some earlier) e))
         (λ f. record {
           rows = rows;
           pending = Some (option_id v, word ∷ []);
           waiting = idle;
-          place = position s.input s.output;
+          place = position s.input s.output s.third;
           trail = false;
           is = refl;
           fails = λ h. repeated transform_words (value_slot v) earlier s rows e tells (sym (settles_once v word rows) ∙ h);
@@ -356,7 +376,7 @@ owing_name : (v : Valued) (s : Said) (rows : List Row) (word : Text) → IsName 
 unfolding walked
 owing_name v s rows word n tells ordered =
     let h = held rows (Some (option_id v, [])) in
-    let at = position s.input s.output in
+    let at = position s.input s.output s.third in
     let seen = shows transform_words rows (Some (option_id v, [])) (option (option_id v)) at false word [] (held rows (Some (option_id v, word ∷ []))) (next idle)
     (name_is transform_words h (option (option_id v)) word n.no_end n.no_long n.no_short)
     (name_met transform_words h (option (option_id v)) at word n.no_end n.no_long n.no_short ∙ value_met v word rows) in
@@ -369,7 +389,7 @@ owing_unknown : (v : Valued) (s : Said) (rows : List Row) (word : Text) → IsUn
 owing_unknown v s rows word h f =
     refused transform_words (tell_value v word s) (turn_fault (shape transform_words) [] (owing_walk v s rows) word) (walked (rules transform_words) [] (owing_walk v s rows) word)
     (ap (λ (b : Bool). if b then None else say_value v word s) h.listed)
-    (unknown_fails transform_words rows (Some (option_id v, [])) (option (option_id v)) (position s.input s.output) word h f)
+    (unknown_fails transform_words rows (Some (option_id v, [])) (option (option_id v)) (position s.input s.output s.third) word h f)
 
 owing_step : (v : Valued) (s : Said) (rows : List Row) (word : Text) → View word → Tells transform_words s rows → Ordered s → Owing v s rows word
 owing_step v s rows word (is_end e) tells ordered = subst (Owing v s rows) (sym e) (owing_end v s rows)
@@ -395,8 +415,8 @@ owing_step v s rows word (is_short h none y ys e x first) tells ordered = owing_
 
 abbrev Stepped : Kind → Said → List Row → Option (Text × List Text) → Text → Place → Type 0
 Stepped k s rows pending word place =
-    After k (tell_at k place word s) (turn_fault (shape k) [] (at_walk rows pending (waits place) (position s.input s.output) (trails place)) word)
-    (walked (rules k) [] (at_walk rows pending (waits place) (position s.input s.output) (trails place)) word)
+    After k (tell_at k place word s) (turn_fault (shape k) [] (at_walk rows pending (waits place) (position s.input s.output s.third) (trails place)) word)
+    (walked (rules k) [] (at_walk rows pending (waits place) (position s.input s.output s.third) (trails place)) word)
 
 abbrev owed_place : Valued → Place
 owed_place list_option = behind_imports
@@ -411,6 +431,8 @@ owed_step save_option transform_words s rows pending word v owes =
 owed_step o host_words s rows pending word v owes = absurd owes
 owed_step o run_words s rows pending word v owes = absurd owes
 owed_step o gen_words s rows pending word v owes = absurd owes
+owed_step o save_words s rows pending word v owes = absurd owes
+owed_step o continue_words s rows pending word v owes = absurd owes
 
 place_step : (k : Kind) (s : Said) (rows : List Row) (pending : Option (Text × List Text)) (word : Text) → View word → (place : Place) → s.place ≡ place → Stands place k s rows pending
     → Stepped k s rows pending word place

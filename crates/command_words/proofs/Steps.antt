@@ -9,9 +9,9 @@ use Rattle.clap.specs.Faults.{bundle_fault, flag_word_fault, flags_fault, long_f
 use Rattle.clap.specs.declared.error.kind.ErrorKind.{ErrorKind}
 use Rattle.clap.specs.declared.error.kind.ErrorKind.TheVariants as kind
 use Rattle.script_model.specs.Command.{Said, Place, behind_imports, behind_save, behind_options, say_file}
-use Rattle.command_words.specs.Grammar.{Kind, transform_words, host_words, run_words, gen_words, rules, shape, option_rule, flag_rule, placed_rule}
+use Rattle.command_words.specs.Grammar.{Kind, transform_words, host_words, run_words, gen_words, save_words, continue_words, rules, shape, option_rule, flag_rule, placed_rule}
 use Rattle.command_words.proofs.Views.{IsUnknown, Strange}
-use Rattle.command_words.proofs.Telling.{tell_file, one_at_most, Valued, list_option, save_option}
+use Rattle.command_words.proofs.Telling.{tell_file, one_at_most, two_at_most, Valued, list_option, save_option}
 use Rattle.command_words.proofs.Rows.{Tells, is_any, option_id}
 
 -- ---- the arguments, built
@@ -48,16 +48,17 @@ abbrev pub trails : Place → Bool
 trails behind_options = true
 trails _ = false
 
-abbrev pub position : (input output : Option Text) → ℕ
-position None output = 1
-position (Some input) None = 2
-position (Some input) (Some output) = 3
+abbrev pub position : (input output third : Option Text) → ℕ
+position None output third = 1
+position (Some input) None third = 2
+position (Some input) (Some output) None = 3
+position (Some input) (Some output) (Some third) = 4
 
 abbrev pub at_walk : (rows : List Row) (pending : Option (Text × List Text)) (waiting : Waiting) (place : ℕ) (trail : Bool) → Walk
 at_walk rows pending waiting place trail = record { held = held rows pending; waiting = waiting; position = place; is_trailing = trail; stopped = None }
 
 abbrev pub walk_of : Said → List Row → Option (Text × List Text) → Walk
-walk_of s rows pending = at_walk rows pending (waits s.place) (position s.input s.output) (trails s.place)
+walk_of s rows pending = at_walk rows pending (waits s.place) (position s.input s.output s.third) (trails s.place)
 
 -- what is pending passes
 abbrev pub Settles : Kind → List Row → Option (Text × List Text) → Type 0
@@ -67,9 +68,9 @@ Settles k rows pending = settle_fault (rules k) false (held rows pending) ≡ []
 abbrev pub whole : Kind → List Row → Option (Text × List Text) → List Row
 whole k rows pending = settled_rows (rules k) pending rows
 
--- OUT stands behind IN
+-- the files come in their order
 abbrev pub Ordered : Said → Type 0
-Ordered s = is_some s.output ≡ true → is_some s.input ≡ true
+Ordered s = (is_some s.output ≡ true → is_some s.input ≡ true) × (is_some s.third ≡ true → is_some s.output ≡ true)
 
 -- the value of an option is owed
 abbrev pub Owes : Kind → Valued → Said → List Row → Option (Text × List Text) → Type 0
@@ -159,6 +160,8 @@ short_fails transform_words x rest h more e = some_kind kind.UnknownArgument [] 
 short_fails host_words x rest h more e = some_kind kind.UnknownArgument [] e
 short_fails run_words x rest h more e = some_kind kind.UnknownArgument [] e
 short_fails gen_words x rest h more e = some_kind kind.UnknownArgument [] e
+short_fails save_words x rest h more e = some_kind kind.UnknownArgument [] e
+short_fails continue_words x rest h more e = some_kind kind.UnknownArgument [] e
 
 bundle_fails : (k : Kind) (n : ℕ) (flags : Text) (x : ℕ) (h : Held) → slice_get (chars flags) 0 ≡ Some x → flags_fault (rules k) false (suc n) flags 0 h ≡ [] → ⊥
 unfolding flags_fault
@@ -191,6 +194,8 @@ strange_fails transform_words p h s e =
 strange_fails host_words p h s e = some_kind kind.UnknownArgument [] e
 strange_fails run_words p h s e = some_kind kind.UnknownArgument [] e
 strange_fails gen_words p h s e = some_kind kind.UnknownArgument [] e
+strange_fails save_words p h s e = some_kind kind.UnknownArgument [] e
+strange_fails continue_words p h s e = some_kind kind.UnknownArgument [] e
 
 -- the turn fails where its word does
 pub turn_fails : (k : Kind) (rows : List Row) (pending : Option (Text × List Text)) (waiting : Waiting) (place : ℕ) (trail : Bool) (word : Text) (kinds : Kinds)
@@ -226,14 +231,18 @@ or_false true = refl
 or_false false = refl
 
 -- what a command tells with a file, by the files that it has
-abbrev pub file_by : Kind → (input output : Option Text) → Text → Said → Option Said
-file_by transform_words input output word s = say_file input output word s
-file_by host_words input output word s = one_at_most input word s
-file_by run_words input output word s = one_at_most input word s
-file_by gen_words input output word s = say_file input output word s
+abbrev pub file_by : Kind → (input output third : Option Text) → Text → Said → Option Said
+file_by transform_words input output third word s = two_at_most input output word s
+file_by host_words input output third word s = one_at_most input word s
+file_by run_words input output third word s = one_at_most input word s
+file_by gen_words input output third word s = two_at_most input output word s
+file_by save_words input output third word s = say_file input output third word s
+file_by continue_words input output third word s = two_at_most input output word s
 
-pub tell_file_is : (k : Kind) (word : Text) (s : Said) → tell_file k word s ≡ file_by k s.input s.output word s
+pub tell_file_is : (k : Kind) (word : Text) (s : Said) → tell_file k word s ≡ file_by k s.input s.output s.third word s
 tell_file_is transform_words word s = refl
 tell_file_is host_words word s = refl
 tell_file_is run_words word s = refl
 tell_file_is gen_words word s = refl
+tell_file_is save_words word s = refl
+tell_file_is continue_words word s = refl

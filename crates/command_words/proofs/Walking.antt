@@ -7,7 +7,7 @@ use Rattle.clap.specs.Kinds.{Kinds, or_else}
 use Rattle.clap.specs.Faults.{long_fault, option_fault, positional_fault, react_fault, settle_fault, step_fault, stray_fault, turn_fault, walk_fault, word_fault}
 use Rattle.clap.specs.declared.error.kind.ErrorKind.TheVariants as kind
 use Rattle.script_model.specs.Command.{Said}
-use Rattle.command_words.specs.Grammar.{Kind, transform_words, host_words, run_words, gen_words, rules, shape}
+use Rattle.command_words.specs.Grammar.{Kind, transform_words, host_words, run_words, gen_words, save_words, continue_words, rules, shape}
 use Rattle.command_words.proofs.Views.{View, is_end, is_list, is_save, is_imports, is_indirect, is_asserts, is_list_with, is_save_with, is_named, is_long, is_short, view}
 use Rattle.command_words.proofs.Telling.{told, told_none, tell_at}
 use Rattle.command_words.proofs.Steps.{After, Doomed, Settles, Stands, after_as, at_walk, first_passes, held, name_is, name_met, shows, some_kind, turn_fails, unknown_fails, walk_of}
@@ -33,6 +33,8 @@ single transform_words = refl
 single host_words = refl
 single run_words = refl
 single gen_words = refl
+single save_words = refl
+single continue_words = refl
 
 not_true : (b : Bool) → not b ≡ true → b ≡ false
 not_true true e = sym e

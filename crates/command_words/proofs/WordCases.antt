@@ -6,7 +6,7 @@ use Rattle.std.proofs.Math.Utf8.{encode}
 use Rattle.std.specs.Fmt.{digits}
 use Rattle.wa_types.specs.Pausing.{Policy, every, save_all, save_live}
 use Rattle.script_model.specs.Command.{transform}
-use Rattle.script_model.specs.Spelled.{Spelled, spelled, rewrites, hosts, runs, generates}
+use Rattle.script_model.specs.Spelled.{Spelled, spelled, rewrites, hosts, runs, generates, saves, continues}
 
 -- ---- a script alone
 
@@ -57,6 +57,44 @@ no_number = (refl, refl, refl, refl)
 no_output : spelled (codes "gen" ∷ codes "4" ∷ []) ≡ None
 unfolding is_utf8 chars encode digits
 no_output = refl
+
+-- ---- snapshots
+
+saves_script : (spelled (codes "save" ∷ codes "s" ∷ codes "1" ∷ codes "snap" ∷ []) ≡ Some (saves (codes "s") 1 (codes "snap")))
+    × (spelled (codes "save" ∷ codes "s" ∷ codes "1000000000" ∷ codes "snap" ∷ []) ≡ Some (saves (codes "s") 1000000000 (codes "snap")))
+unfolding is_utf8 chars encode digits
+saves_script = (refl, refl)
+
+-- from 1 to 1,000,000,000, without a leading zero
+no_events :
+    (spelled (codes "save" ∷ codes "s" ∷ codes "0" ∷ codes "snap" ∷ []) ≡ None) × (spelled (codes "save" ∷ codes "s" ∷ codes "1000000001" ∷ codes "snap" ∷ []) ≡ None)
+    × (spelled (codes "save" ∷ codes "s" ∷ codes "01" ∷ codes "snap" ∷ []) ≡ None)
+unfolding is_utf8 chars encode digits
+no_events = (refl, refl, refl)
+
+continues_script : spelled (codes "continue" ∷ codes "s" ∷ codes "snap" ∷ []) ≡ Some (continues (codes "s") (codes "snap"))
+unfolding is_utf8 chars encode digits
+continues_script = refl
+
+-- the files are three and two
+no_snap :
+    (spelled (codes "save" ∷ codes "s" ∷ codes "1" ∷ []) ≡ None) × (spelled (codes "save" ∷ codes "s" ∷ codes "1" ∷ codes "snap" ∷ codes "more" ∷ []) ≡ None)
+    × (spelled (codes "continue" ∷ codes "s" ∷ []) ≡ None) × (spelled (codes "continue" ∷ codes "s" ∷ codes "snap" ∷ codes "more" ∷ []) ≡ None)
+unfolding is_utf8 chars encode digits
+no_snap = (refl, refl, refl, refl)
+
+-- they have no option, and `--` ends the options
+no_snap_options :
+    (spelled (codes "save" ∷ codes "--save=live" ∷ codes "s" ∷ codes "1" ∷ codes "snap" ∷ []) ≡ None) × (spelled (codes "continue" ∷ codes "s" ∷ codes "-t" ∷ []) ≡ None)
+    × (spelled (codes "continue" ∷ codes "s" ∷ codes "--" ∷ codes "-t" ∷ []) ≡ Some (continues (codes "s") (codes "-t")))
+unfolding is_utf8 chars encode digits
+no_snap_options = (refl, refl, refl)
+
+-- no other command has a third file
+no_third : (spelled (codes "transform" ∷ codes "a" ∷ codes "b" ∷ codes "c" ∷ []) ≡ None) × (spelled (codes "gen" ∷ codes "4" ∷ codes "a" ∷ codes "b" ∷ []) ≡ None)
+    × (spelled (codes "run" ∷ codes "a" ∷ codes "b" ∷ codes "c" ∷ []) ≡ None)
+unfolding is_utf8 chars encode digits
+no_third = (refl, refl, refl)
 
 -- the first word is a command's name
 no_command : (spelled [] ≡ None) × (spelled (codes "hosts" ∷ codes "s" ∷ []) ≡ None) × (spelled (codes "--" ∷ codes "host" ∷ codes "s" ∷ []) ≡ None)

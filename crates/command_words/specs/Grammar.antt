@@ -5,11 +5,11 @@ use Rattle.clap.specs.Walk.{Row, Rule, Text, first_of, one_of}
 use Rattle.clap.specs.Simple.{App, Shape, new_rule, new_shape, with_subcommand, filled_from}
 use Rattle.clap.specs.declared.builder.action.ArgAction.TheVariants.{SetTrue}
 use Rattle.script_model.specs.Command.{choice_said, policy_said, with_files}
-use Rattle.script_model.specs.Spelled.{Spelled, rewrites, hosts, runs, number_and_file}
+use Rattle.script_model.specs.Spelled.{Spelled, rewrites, hosts, runs, number_and_file, script_and_snap, script_events_snap}
 
 -- the commands, by their first words
 pub data Kind : Type 0 where
-  transform_words host_words run_words gen_words : Kind
+  transform_words host_words run_words gen_words save_words continue_words : Kind
 
 -- a command's first word
 abbrev pub name_of : Kind → Text
@@ -17,6 +17,8 @@ name_of transform_words = codes "transform"
 name_of host_words = codes "host"
 name_of run_words = codes "run"
 name_of gen_words = codes "gen"
+name_of save_words = codes "save"
+name_of continue_words = codes "continue"
 
 -- ---- the arguments
 
@@ -40,6 +42,8 @@ arguments transform_words =
 arguments host_words = placed_rule (codes "script") ∷ []
 arguments run_words = placed_rule (codes "script") ∷ []
 arguments gen_words = placed_rule (codes "number") ∷ placed_rule (codes "output") ∷ []
+arguments save_words = placed_rule (codes "script") ∷ placed_rule (codes "events") ∷ placed_rule (codes "snapshot") ∷ []
+arguments continue_words = placed_rule (codes "script") ∷ placed_rule (codes "snapshot") ∷ []
 
 -- ---- the commands, as they are made
 
@@ -56,11 +60,12 @@ line_shape = record (new_shape (codes "asyncify")) {
   subcommand_required = true;
 }
 
--- the line with its four commands
+-- the line with its six commands
 abbrev pub line : App
 line =
-    with_subcommand (with_subcommand (with_subcommand (with_subcommand (record { top = line_shape; subs = [] }) (command_shape transform_words))
-    (command_shape host_words)) (command_shape run_words)) (command_shape gen_words)
+    with_subcommand (with_subcommand (with_subcommand (with_subcommand (with_subcommand (with_subcommand (record { top = line_shape; subs = [] })
+    (command_shape transform_words)) (command_shape host_words)) (command_shape run_words)) (command_shape gen_words)) (command_shape save_words))
+    (command_shape continue_words)
 
 -- ---- the same, built
 
@@ -107,6 +112,8 @@ read_of transform_words rows =
 read_of host_words rows = option_map hosts (first_of (codes "script") rows)
 read_of run_words rows = option_map runs (first_of (codes "script") rows)
 read_of gen_words rows = number_and_file (first_of (codes "number") rows) (first_of (codes "output") rows)
+read_of save_words rows = script_events_snap (first_of (codes "script") rows) (first_of (codes "events") rows) (first_of (codes "snapshot") rows)
+read_of continue_words rows = script_and_snap (first_of (codes "script") rows) (first_of (codes "snapshot") rows)
 
 -- A command and its matches spell this.
 abbrev pub MatchesSpell : Option (Text × List Row) → Option Spelled → Type 0

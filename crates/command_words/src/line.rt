@@ -10,7 +10,7 @@ ghost use Rattle.script_model.specs.Spelled.{spelled};
 ghost use Rattle.command_words.specs.Grammar.{MatchesSpell, line};
 ghost use Rattle.command_words.specs.Line.{bare_line};
 
-use crate::shapes::{gen_line, script_line, transform_line};
+use crate::shapes::{continue_line, gen_line, save_line, script_line, transform_line};
 use clap::{ArgMatches, Command, Error};
 use std::alloc::{AllocError, Global};
 
@@ -23,14 +23,16 @@ pub fn parse_line<'w>(alloc: Global, words: &'w [String]) -> Result<ArgMatches<'
     line.try_get_matches_from(words)
 }
 
-/// The line with its four commands.
+/// The line with its six commands.
 fn command_line<'w>(alloc: Global) -> Result<Command<'w>, AllocError>
     ensures { IfOk result (λ c. app_of c ≡ line) }
 {
     let line = with_command(bare_line(alloc), transform_line(alloc))?;
     let line = with_command(line, script_line(alloc, "host"))?;
     let line = with_command(line, script_line(alloc, "run"))?;
-    with_command(line, gen_line(alloc))
+    let line = with_command(line, gen_line(alloc))?;
+    let line = with_command(line, save_line(alloc))?;
+    with_command(line, continue_line(alloc))
 }
 
 /// A line with one command more, where that could be made.

@@ -3,7 +3,7 @@
 ghost use Rattle.std.specs.Prelude.{◌≡◌, ◌||◌, IfOk, false};
 ghost use Rattle.clap.specs.Words.{app_of, rule_of, shape_of, with_rule};
 ghost use Rattle.clap.specs.declared.builder.command.Command.TheViews.{out-Command};
-ghost use Rattle.command_words.specs.Grammar.{command_shape, flag_rule, gen_words, option_rule, placed_rule, transform_words};
+ghost use Rattle.command_words.specs.Grammar.{command_shape, continue_words, flag_rule, gen_words, option_rule, placed_rule, save_words, transform_words};
 ghost use Rattle.command_words.specs.Scripts.{script_shape};
 
 use clap::{Arg, ArgAction, Command};
@@ -39,6 +39,23 @@ pub fn gen_line<'w>(alloc: Global) -> Result<Command<'w>, AllocError>
     ensures local { IfOk result (λ c. (out-Command c).has_globals ≡ false) }
 {
     with_places(alloc, Command::new(alloc, "gen"), "number", "output")
+}
+
+/// `save SCRIPT E SNAP`
+pub fn save_line<'w>(alloc: Global) -> Result<Command<'w>, AllocError>
+    ensures shape { IfOk result (λ c. shape_of c ≡ command_shape save_words) }
+    ensures local { IfOk result (λ c. (out-Command c).has_globals ≡ false) }
+{
+    let line = with_arg(Command::new(alloc, "save"), placed_arg(alloc, "script"))?;
+    with_places(alloc, line, "events", "snapshot")
+}
+
+/// `continue SCRIPT SNAP`
+pub fn continue_line<'w>(alloc: Global) -> Result<Command<'w>, AllocError>
+    ensures shape { IfOk result (λ c. shape_of c ≡ command_shape continue_words) }
+    ensures local { IfOk result (λ c. (out-Command c).has_globals ≡ false) }
+{
+    with_places(alloc, Command::new(alloc, "continue"), "script", "snapshot")
 }
 
 /// A command with an argument more.

@@ -7,7 +7,7 @@ ghost use Rattle.call_graph.specs.Settings.{choice_of, policy_of};
 ghost use Rattle.script_model.specs.Command.{choice_said, policy_said, with_files};
 ghost use Rattle.script_model.specs.Spelled.{rewrites};
 ghost use Rattle.command_words.specs.Grammar.{TellsFlags, read_of, transform_words};
-ghost use Rattle.command_words.specs.Words.{HasFewFunctions, Reads, spelled_of, text_of};
+ghost use Rattle.command_words.specs.Words.{HasItsNumber, Reads, spelled_of, text_of};
 
 use crate::matches::{flag_at, text_at};
 use crate::words::{Command, WordsFault};
@@ -21,7 +21,7 @@ pub(crate) fn transform_from<'w>(
     matches: &ArgMatches<'w>,
 ) -> Result<Command<'w>, WordsFault>
     ensures command { TellsFlags transform_words (rows_of (found_of matches.now)) → Reads spelled_of result (read_of transform_words (rows_of (found_of matches.now))) }
-    ensures number { IfOk result HasFewFunctions }
+    ensures number { IfOk result HasItsNumber }
 {
     let imports = text_at(matches, "imports");
     let ignore_imports = flag_at(matches, "ignore-imports");
@@ -109,7 +109,7 @@ fn with_policy<'w>(
 ) -> Result<Command<'w>, WordsFault>
     ensures command { Reads spelled_of result (option_map rewrites (with_files (Some (choice_of choice)) ignore_indirect asserts (policy_said (text_of save.entry)) (text_of input.entry)
         (text_of output.entry))) }
-    ensures number { IfOk result HasFewFunctions }
+    ensures number { IfOk result HasItsNumber }
 {
     match policy_said(save) {
         Ok(policy) => {
@@ -132,7 +132,7 @@ fn with_files<'w>(
 ) -> Result<Command<'w>, WordsFault>
     ensures command { Reads spelled_of result (option_map rewrites (with_files (Some (choice_of settings.choice)) settings.ignore_indirect settings.asserts (Some (policy_of settings.policy))
         (text_of input.entry) (text_of output.entry))) }
-    ensures number { IfOk result HasFewFunctions }
+    ensures number { IfOk result HasItsNumber }
 {
     let Some(input) = input else {
         return Err(WordsFault::Usage);

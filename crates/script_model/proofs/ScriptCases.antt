@@ -10,10 +10,10 @@ use Rattle.wa_types.specs.declared.values.Trap.TheVariants.{Unreachable, Import}
 use Rattle.wa_model.specs.declared.answers.Said.TheVariants as S
 use Rattle.wa_model.specs.declared.events.End.TheVariants.{Trapped, UnwindTrap}
 use Rattle.wa_model.specs.Outside.{Line, Event, called, answered, paused, returned, ended, shown}
-use Rattle.script_model.specs.Script.{Script, ScriptFault, breaks, too_many}
+use Rattle.script_model.specs.Script.{Script, ScriptFault, breaks, too_many, device_line}
 use Rattle.script_model.specs.ScriptLines.{begins_program, has_steps, shows, detaches, answers, line_says, word_text, value_in, result_in, number_in, hex_in}
 use Rattle.script_model.specs.ScriptText.{script_text}
-use Rattle.script_model.specs.Transcript.{Names, event_line, Transcript, last_line, refusal_line, script, invalid, limit}
+use Rattle.script_model.specs.Transcript.{Names, event_line, Transcript, last_line, refusal_line, script, invalid, limit, snapshot_limit, snapshot_refused}
 
 -- lines that end in LF
 abbrev line : List ℕ → List ℕ → List ℕ
@@ -238,6 +238,22 @@ seventeen_bad : fault (script_text (four_programs (four_programs (four_programs 
 unfolding script_text is_utf8 chars encode digits
 seventeen_bad = refl
 
+-- ---- devices
+
+-- the line of the first `device` line
+abbrev device_at : Result Script ScriptFault → Option ℕ
+device_at (Ok s) = device_line s
+device_at (Err f) = None
+
+no_device : device_at (script_text (program_lines (codes "detach d 1"))) ≡ None
+unfolding script_text is_utf8 chars encode digits
+no_device = refl
+
+-- the first of two, behind a program without one
+first_device : device_at (script_text (program_lines (program_lines (line (codes "device env.b d") (program_lines (codes "device env.a d")))))) ≡ Some 5
+unfolding script_text is_utf8 chars encode digits
+first_device = refl
+
 -- ---- printed lines
 
 abbrev names : Names
@@ -263,8 +279,10 @@ printed_answers = (refl, refl, refl)
 refused : (refusal_line None (script 1 10) ≡ codes "script line 1 rule 10" ++ 10 ∷ [])
     × (refusal_line (Some 2) (invalid (Some 3) 8 0) ≡ codes "program 2: invalid rule 8 function 3 at 0" ++ 10 ∷ [])
     × (refusal_line None (limit L.Programs 17) ≡ codes "limit programs 17" ++ 10 ∷ [])
+    × (refusal_line None (snapshot_limit 268435457) ≡ codes "limit snapshot 268435457" ++ 10 ∷ [])
+    × (refusal_line None snapshot_refused ≡ codes "snapshot refused" ++ 10 ∷ [])
 unfolding refusal_line digits
-refused = (refl, refl, refl)
+refused = (refl, refl, refl, refl, refl)
 
 empty_transcript : Transcript [] 0 0 [] ≡ codes "programs 0 events 0" ++ 10 ∷ []
 unfolding last_line digits

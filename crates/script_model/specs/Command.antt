@@ -31,10 +31,11 @@ pub record Said : Type 0 where
   pub asserts : Bool
   pub input : Option (List ℕ)
   pub output : Option (List ℕ)
+  pub third : Option (List ℕ)
 
 -- nothing yet
 abbrev pub nothing_said : Said
-nothing_said = record { place = anywhere; imports = None; save = None; ignore_imports = false; ignore_indirect = false; asserts = false; input = None; output = None }
+nothing_said = record { place = anywhere; imports = None; save = None; ignore_imports = false; ignore_indirect = false; asserts = false; input = None; output = None; third = None }
 
 -- the word begins with `-`
 abbrev pub is_hyphened : List ℕ → Bool
@@ -73,11 +74,12 @@ abbrev pub once : (before : Bool) → Said → Option Said
 once true s = None
 once false s = Some s
 
--- the files are two, IN before OUT
-abbrev pub say_file : Option (List ℕ) → Option (List ℕ) → List ℕ → Said → Option Said
-say_file None output name s = Some (record s { input = Some name })
-say_file (Some input) None name s = Some (record s { output = Some name })
-say_file (Some input) (Some output) name s = None
+-- the files are three at most, IN before OUT before a third
+abbrev pub say_file : (input output third : Option (List ℕ)) → List ℕ → Said → Option Said
+say_file None output third name s = Some (record s { input = Some name })
+say_file (Some input) None third name s = Some (record s { output = Some name })
+say_file (Some input) (Some output) None name s = Some (record s { third = Some name })
+say_file (Some input) (Some output) (Some third) name s = None
 
 -- what is said with a word of this kind
 abbrev pub say_word : Word → Said → Option Said
@@ -90,14 +92,14 @@ say_word ignore_indirect_word s = once s.ignore_indirect (record s { ignore_indi
 say_word asserts_word s = once s.asserts (record s { asserts = true })
 say_word end_word s = Some (record s { place = behind_options })
 say_word unknown_word s = None
-say_word (name_word name) s = say_file s.input s.output name s
+say_word (name_word name) s = say_file s.input s.output s.third name s
 
 -- a value in a word of its own doesn't begin with `-`
 abbrev pub say_at : Place → List ℕ → Said → Option Said
 say_at anywhere word s = say_word (word_of word) s
 say_at behind_imports word s = if is_hyphened word then None else say_word (imports_with word) s
 say_at behind_save word s = if is_hyphened word then None else say_word (save_with word) s
-say_at behind_options word s = say_file s.input s.output word s
+say_at behind_options word s = say_file s.input s.output s.third word s
 
 -- what is said with one word more
 abbrev pub say : List ℕ → Option Said → Option Said
@@ -132,11 +134,16 @@ with_files (Some choice) ignore asserts (Some policy) (Some input) (Some output)
     Some (transform (record { settings = record { choice = choice; ignore_indirect = ignore; policy = policy }; asserts = asserts }) input output)
 with_files _ ignore asserts policy input output = None
 
--- what was said is a `transform`, where no option still wants its value
+-- nothing, where there is a third file
+abbrev pub unless_third : {A : Type 0} → (third : Option (List ℕ)) → Option A → Option A
+unless_third None spelled = spelled
+unless_third (Some third) spelled = None
+
+-- what was said is a `transform`, where no option still wants its value, and the files are two
 abbrev pub transform_at : Place → Said → Option Command
 transform_at behind_imports s = None
 transform_at behind_save s = None
-transform_at _ s = with_files (choice_said s.imports s.ignore_imports) s.ignore_indirect s.asserts (policy_said s.save) s.input s.output
+transform_at _ s = unless_third s.third (with_files (choice_said s.imports s.ignore_imports) s.ignore_indirect s.asserts (policy_said s.save) s.input s.output)
 
 -- what was said, if the words go well, is a `transform`
 abbrev pub transform_said : Option Said → Option Command

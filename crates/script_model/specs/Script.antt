@@ -1,5 +1,7 @@
 -- Scripts as plain data: programs, each with the line at which each of its parts stands, and the devices that are taken out.
-use Rattle.std.specs.Prelude.{ℕ, List, Option, Bool}
+use Rattle.std.specs.Prelude.{ℕ, List, Option, Bool, slice_get}
+use Rattle.std.specs.List.{flat_map}
+use Rattle.std.specs.Option.{option_map}
 use Rattle.wa_types.specs.declared.values.Value.{Value}
 use Rattle.wa_model.specs.declared.answers.Area.{Area}
 use Rattle.wa_model.specs.Outside.{AnswerLine}
@@ -12,6 +14,7 @@ pub record GlobalText : Type 0 where
 
 -- The device to which the function imports of a joined name are bound.
 pub record BindText : Type 0 where
+  pub line : ℕ
   pub import : List ℕ
   pub device : List ℕ
 
@@ -53,6 +56,10 @@ pub record ProgramText : Type 0 where
 pub record Script : Type 0 where
   pub programs : List ProgramText
   pub detaches : List DetachText
+
+-- the line of the first `device` line of all programs, where there is one
+abbrev pub device_line : Script → Option ℕ
+device_line s = option_map (λ (b : BindText). b.line) (slice_get (flat_map (λ (t : ProgramText). t.binds) s.programs) 0)
 
 -- Why a text is no script: a rule that a line breaks, lines being counted from 1, or more programs than there may be.
 pub data ScriptFault : Type 0 where

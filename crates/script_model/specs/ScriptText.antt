@@ -177,9 +177,9 @@ global_of line (sets_global name value) = Some (record { line = line; name = nam
 global_of line _ = None
 
 -- the device of an import that a statement tells
-abbrev pub bind_of : Statement → Option BindText
-bind_of (binds import device) = Some (record { import = import; device = device })
-bind_of _ = None
+abbrev pub bind_of : (line : ℕ) → Statement → Option BindText
+bind_of line (binds import device) = Some (record { line = line; import = import; device = device })
+bind_of line _ = None
 
 -- the entry that a statement tells
 abbrev pub entry_of : (line : ℕ) → Statement → Option EntryText
@@ -221,7 +221,7 @@ program_of g a = record {
   area_line = a.line;
   steps = unwrap_or (slice_get (told_by steps_of g.told) 0) default_steps;
   globals = lines_by global_of g.told;
-  binds = told_by bind_of g.told;
+  binds = lines_by bind_of g.told;
   entries = lines_by entry_of g.told;
   answers = told_by answer_of g.told;
   shows = lines_by show_of g.told;

@@ -29,7 +29,7 @@ told_more d ss = record {
   area = or_else d.area (slice_get (lines_by area_of ss) 0);
   steps = or_else d.steps (slice_get (told_by steps_of ss) 0);
   globals = d.globals ++ lines_by global_of ss;
-  binds = d.binds ++ told_by bind_of ss;
+  binds = d.binds ++ lines_by bind_of ss;
   entries = d.entries ++ lines_by entry_of ss;
   answers = d.answers ++ told_by answer_of ss;
   shows = d.shows ++ lines_by show_of ss;
@@ -75,7 +75,7 @@ told_one line (saves live) d ss = ap (λ o. record (told_more d ss) { policy_liv
 told_one line (has_area at len) d ss = ap (λ o. record (told_more d ss) { area = o }) (or_else_one d.area _ (lines_by area_of ss))
 told_one line (has_steps n) d ss = ap (λ o. record (told_more d ss) { steps = o }) (or_else_one d.steps n (told_by steps_of ss))
 told_one line (sets_global name value) d ss = ap (λ xs. record (told_more d ss) { globals = xs }) (append_assoc d.globals _ (lines_by global_of ss))
-told_one line (binds import device) d ss = ap (λ xs. record (told_more d ss) { binds = xs }) (append_assoc d.binds _ (told_by bind_of ss))
+told_one line (binds import device) d ss = ap (λ xs. record (told_more d ss) { binds = xs }) (append_assoc d.binds _ (lines_by bind_of ss))
 told_one line (enters name args) d ss = ap (λ xs. record (told_more d ss) { entries = xs }) (append_assoc d.entries _ (lines_by entry_of ss))
 told_one line (answers answer) d ss = ap (λ xs. record (told_more d ss) { answers = xs }) (append_assoc d.answers _ (told_by answer_of ss))
 told_one line (shows at len) d ss = ap (λ xs. record (told_more d ss) { shows = xs }) (append_assoc d.shows _ (lines_by show_of ss))

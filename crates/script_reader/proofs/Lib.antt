@@ -1,5 +1,6 @@
 pub mod Closed
 pub mod Cut
+pub mod Devices
 mod Lists
 pub mod Numerals
 pub mod Pieces

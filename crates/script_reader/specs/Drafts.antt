@@ -47,7 +47,7 @@ more_told line (saves live) d = record d { policy_live = or_else d.policy_live (
 more_told line (has_area at len) d = record d { area = or_else d.area (Some (record { line = line; area = record { at = at; len = len } })) }
 more_told line (has_steps n) d = record d { steps = or_else d.steps (Some n) }
 more_told line (sets_global name value) d = record d { globals = d.globals ++ record { line = line; name = name; value = value } ∷ [] }
-more_told line (binds import device) d = record d { binds = d.binds ++ record { import = import; device = device } ∷ [] }
+more_told line (binds import device) d = record d { binds = d.binds ++ record { line = line; import = import; device = device } ∷ [] }
 more_told line (enters name args) d = record d { entries = d.entries ++ record { line = line; name = name; args = args } ∷ [] }
 more_told line (answers answer) d = record d { answers = d.answers ++ answer ∷ [] }
 more_told line (shows at len) d = record d { shows = d.shows ++ record { line = line; at = at; len = len } ∷ [] }

@@ -24,7 +24,7 @@ global_of g = record { line = g.line; name = g.name; value = g.value }
 
 -- a line of a device
 abbrev pub bind_of : BindText → T.BindText
-bind_of b = record { import = b.import; device = b.device }
+bind_of b = record { line = b.line; import = b.import; device = b.device }
 
 -- a line of an entry
 abbrev pub entry_of : EntryText → T.EntryText

@@ -170,7 +170,14 @@ fn put_global(draft: &mut Draft, line: u32, name: Name, value: Value) -> Result<
 fn put_bind(draft: &mut Draft, line: u32, import: Name, device: Name) -> Result<(), ScriptFault>
     ensures { Reads (λ _. draft_of draft.new) result (on_program line (binds import device) (Some (draft_of draft.old))) }
 {
-    put(&mut draft.binds, BindText { import, device })?;
+    put(
+        &mut draft.binds,
+        BindText {
+            line,
+            import,
+            device,
+        },
+    )?;
     Ok(())
 }
 

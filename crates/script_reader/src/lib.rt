@@ -36,4 +36,4 @@ mod words;
 pub use faults::ScriptFault;
 pub use numbers::number_within;
 pub use reading::read_script;
-pub use script::{BindText, EntryText, GlobalText, ProgramText, Script, ShowText};
+pub use script::{BindText, EntryText, GlobalText, ProgramText, Script, ShowText, device_line};

@@ -1,5 +1,9 @@
 //! A script as it was read: its programs with their lines, and the devices that it takes out.
 
+ghost use Rattle.std.specs.Prelude.{◌≡◌};
+ghost use Rattle.script_model.specs.Script.{device_line};
+ghost use Rattle.script_reader.specs.Views.{script_of};
+
 use wa_model::{AnswerLine, Area, Detach};
 use wa_types::{Name, Value};
 
@@ -11,9 +15,10 @@ pub struct GlobalText {
     pub value: Value,
 }
 
-/// The device to which the function imports of a joined name are bound.
+/// The device to which the function imports of a joined name are bound, told at this line.
 #[derive(Drop)]
 pub struct BindText {
+    pub line: u32,
     pub import: Name,
     pub device: Name,
 }
@@ -59,4 +64,16 @@ pub struct ProgramText {
 pub struct Script {
     pub programs: Vec<ProgramText>,
     pub detaches: Vec<Detach>,
+}
+
+/// The line of the first `device` line of a script, where it has one.
+pub fn device_line(script: &Script) -> Option<u32>
+    ensures { result ≡ device_line (script_of script.now) }
+{
+    for program in &script.programs {
+        if let Some(bind) = program.binds.first() {
+            return Some(bind.line);
+        }
+    }
+    None
 }

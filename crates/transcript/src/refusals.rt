@@ -119,7 +119,12 @@ fn put_refusal(alloc: Global, line: &mut Vec<u8>, kind: &RefusalKind) -> Result<
         RefusalKind::OutOfMemory => put(line, "out of memory"),
         RefusalKind::ReadFault { name } => put_with_name(line, "read fault ", name.as_str()),
         RefusalKind::WriteFault { name } => put_with_name(line, "write fault ", name.as_str()),
-        RefusalKind::LimitSnapshot { found } => put_with_number(alloc, line, "limit snapshot ", *found),
+        RefusalKind::LimitSnapshot { found } => put_with_number(
+            alloc,
+            line,
+            "limit snapshot ",
+            *found,
+        ),
         RefusalKind::SnapshotRefused => put(line, "snapshot refused"),
     }
 }
