@@ -104,6 +104,8 @@ impl<'m> Host<'m> {
         ensures none { IfOk result (λ line. MatchOption line (HaveEnded self.old.turns.dues.items × LooksOut self.old.turns.shows.items self.old.turns.stage)
             (λ l. HaveEnded self.old.turns.dues.items → LooksOut self.old.turns.shows.items self.old.turns.stage → ⊥)) }
         ensures begun { IfOk result (λ line. BegunNext self.old.turns.stage self.old.turns.begun self.new.turns.begun line) }
+        ensures goes_on { (LooksOut self.old.turns.shows.items self.old.turns.stage → ⊥) → self.new.turns.begun ≡ self.old.turns.begun }
+        ensures same { IfOk result (λ line. MatchOption line (self.new ≡ self.old) (λ l. Unit {0})) }
     {
         self.turns.next(devices)
     }
