@@ -170,7 +170,7 @@ module _ (w : W.Program) (at_first : w.origin ≡ at_start) (told : List Note) (
   place_is : (due : ℕ) (more : List Outcome) → place more ≡ halted w.source w.plan (halt due) more
   place_is due more =
       (λ k. calling (rewinds e pause.import (sym answer_is k) (store k)) (store k) (exports_of w.source).start_rewind (V.I32 w.plan.area.at ∷ []) call_again
-          (record { number = l.number; entries = there.1.0.1 k; outcomes = more }))
+      (record { number = l.number; entries = there.1.0.1 k; outcomes = more }))
       ∙ sym (ap (halted_in w.source w.plan (halt due) more) there.1.0.0)
     where
       store : s ≡ record { globals = s.globals; memory = memory; table = table }
@@ -180,17 +180,16 @@ module _ (w : W.Program) (at_first : w.origin ≡ at_start) (told : List Note) (
   comes due = record {
     cost = used;
     steps = (let none : used ≡ 0 + used = omega arith in none ∙ ap (λ (o : W.Origin). used_from o + used) (sym at_first));
-    way = λ more.
-        (
-          made.behind,
-          sym (append-nil told) ∙ made.made
-              ∙ ap (λ (r : Ran Held Note). r.events ++ made.behind) first_is
-              ∙ ap (λ (es : List Note). es ++ made.behind) (sym (begun_events w.source.start (all_left w.plan []) (opening w.source w.plan.globals) (met ++ more)))
-              ∙ ap (λ (o : W.Origin). (begun_from w (met ++ more) o).events ++ made.behind) (sym at_first),
-          subst (λ (o : W.Origin). Leads (protocol w.source (exports_of w.source) w.plan) (begun_from w (met ++ more) o).last used made.behind (halted w.source w.plan (halt due) more)) (sym at_first)
-              (subst (λ (h : Held). Leads (protocol w.source (exports_of w.source) w.plan) (held_begun w.source.start (all_left w.plan (met ++ more)) (opening w.source w.plan.globals)).last used made.behind h)
-              (place_is due more) (leads more)),
-        );
+    way = λ more. (
+      made.behind,
+      sym (append-nil told) ∙ made.made
+          ∙ ap (λ (r : Ran Held Note). r.events ++ made.behind) first_is
+          ∙ ap (λ (es : List Note). es ++ made.behind) (sym (begun_events w.source.start (all_left w.plan []) (opening w.source w.plan.globals) (met ++ more)))
+          ∙ ap (λ (o : W.Origin). (begun_from w (met ++ more) o).events ++ made.behind) (sym at_first),
+      subst (λ (o : W.Origin). Leads (protocol w.source (exports_of w.source) w.plan) (begun_from w (met ++ more) o).last used made.behind (halted w.source w.plan (halt due) more)) (sym at_first)
+          (subst (λ (h : Held). Leads (protocol w.source (exports_of w.source) w.plan) (held_begun w.source.start (all_left w.plan (met ++ more)) (opening w.source w.plan.globals)).last used made.behind h)
+          (place_is due more) (leads more)),
+    );
   }
 
   plain_paused : (now : Actor) → now.answers ≡ lines_left y → length memory ≡ plain.pages * page_size → IsPaused w told met now now.due plain memory

@@ -134,7 +134,8 @@ impl<T: Teller + Drop> Turns<T> {
         self.begun
     }
 
-    /// The next line; None where all programs have ended and all shows are out. After want of memory it isn't called again.
+    /// The next line; None where all programs have ended and all shows are out, and all is then as it was. After want of memory it isn't
+    /// called again.
     pub fn next(&mut self, devices: &mut Devices<'_>) -> Result<Option<Line>, AllocError>
         requires lent { IsLent }
         requires range { InRange self.old }
