@@ -1,5 +1,5 @@
 -- What was told by whole turns: of each program nothing, or up to a pause, or its end; with the answer lines that its calls met.
-use Rattle.std.proofs.Common.{◌≡◌, ◌⊎◌, inl, inr, ℕ, zero, suc, List, [], ◌∷◌, ◌++◌, length, map, Option, Some, None, Bool, true, false, MatchBool, ◌||◌, slice_get, slice_set, refl, sym, ap, ◌∙◌, subst}
+use Rattle.std.proofs.Common.{◌≡◌, ◌⊎◌, inl, inr, ℕ, zero, suc, List, [], ◌∷◌, ◌++◌, Some, Bool, true, false, MatchBool, ◌||◌, slice_get, slice_set, refl, sym, ap, ◌∙◌, subst}
 use Rattle.std.specs.Option.{option_map}
 use Rattle.std.proofs.lemmas.Bool.{cases_eq}
 use Rattle.std.proofs.lemmas.Option.{slice_get-map, same_Some}
@@ -21,7 +21,7 @@ use Rattle.many_host.proofs.MetLines.{LinesMet, calls_met, met_on}
 module _ (P : Program → Teller → Type 0) (begun : ℕ) (programs : List Program) (detaches : List Detach) (ds : List Device)
     (first : (j : ℕ) (w : Program) → slice_get programs j ≡ Some w → P w (starting w))
     (more : (j : ℕ) (w : Program) (t : Teller) (turn : List Note) (met : List Outcome) (answers : List AnswerLine) (es es' : List Device) → slice_get programs j ≡ Some w → EndsOnce turn
-        → CallsMeet w turn met t.answers es [] answers es' → P w t → P w (having_told t turn met answers)) where
+    → CallsMeet w turn met t.answers es [] answers es' → P w t → P w (having_told t turn met answers)) where
   set_told : (mid tellers : List Teller) (i j : ℕ) (w : Program) (t : Teller) (v : Program) (u now : Teller) → slice_get programs j ≡ Some w → slice_get tellers j ≡ Some t
       → slice_get programs i ≡ Some v → slice_get mid i ≡ Some u → tellers ≡ slice_set mid i now → P v now → (slice_get mid j ≡ Some t → P w t) → P w t
   set_told mid tellers i j w t v u now program at its there after h was = by (cases_eq j i)
@@ -105,8 +105,8 @@ all_turned begun programs detaches ds ds' number lines tellers none tells =
     each_told IsTurned begun programs detaches ds
     (λ j w at. record { rests = inl refl; lines = refl })
     (λ j w t turn met answers es es' at whole calls was.
-        record {
-          rests = rests_on w t turn met answers whole;
-          lines = met_on (answers_from w.answers w.origin) t.answers answers t.met met was.lines (calls_met w (none j w at) turn met t.answers answers es es' calls);
-        })
+    record {
+      rests = rests_on w t turn met answers whole;
+      lines = met_on (answers_from w.answers w.origin) t.answers answers t.met met was.lines (calls_met w (none j w at) turn met t.answers answers es es' calls);
+    })
     number lines tellers ds' tells
