@@ -4,8 +4,14 @@
 # host library. Without Node it says so, and does nothing more. First it runs ask.script and turns.script, and looks whether README shows
 # the files of the first as they are, and docs/COMMAND.md those of the second.
 cd "$(dirname "$0")" || exit 1
-for script in ask turns; do
+out=$(mktemp -d)
+trap 'rm -rf "$out"' EXIT
+for script in ask turns count; do
     ../asyncify run $script.script | diff $script.lines - || { echo "examples: $script.script prints other lines"; exit 1; }
+done
+for events in 1 2 3 4 5; do
+    { ../asyncify save count.script $events "$out/snap" && ../asyncify continue count.script "$out/snap"; } | diff count.lines - \
+        || { echo "examples: count.script goes on with other lines behind event $events"; exit 1; }
 done
 for shown in README.md:ask.c README.md:ask.mjs README.md:ask.script README.md:ask.lines docs/HOSTING.md:ask.mjs docs/COMMAND.md:turns.script docs/COMMAND.md:turns.lines; do
     file=${shown#*:} document=${shown%:*}
@@ -13,8 +19,6 @@ for shown in README.md:ask.c README.md:ask.mjs README.md:ask.script README.md:as
     grep -v '^// Runs' "$file" | python3 -c "import sys; sys.exit(sys.stdin.read() not in open('../$document').read())" || { echo "examples: $document has another $file"; exit 1; }
 done
 command -v node >/dev/null || { echo "examples: no node, not run"; exit 0; }
-out=$(mktemp -d)
-trap 'rm -rf "$out"' EXIT
 # (beside the file, and then renamed, as docs/COMMAND.md says: whoever opens the file meanwhile finds all of it)
 ../asyncify transform --imports env.read ask.wasm "$out/ask.wasm.$$" && mv "$out/ask.wasm.$$" "$out/ask.wasm" || exit 1
 [ "$(node ask.mjs "$out/ask.wasm" 5)" = 510 ] || { echo "examples: ask.mjs prints another sum"; exit 1; }
