@@ -1,7 +1,5 @@
-pub mod Answering
 pub mod Ending
 pub mod Openings
-pub mod Resuming
+pub mod PutBack
 pub mod SnapshotFiles
-pub mod Statuses
 pub mod Steps

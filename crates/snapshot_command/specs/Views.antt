@@ -25,7 +25,7 @@ use Rattle.world_hosting.specs.Worlds.{Part, PrintsPart, world_programs}
 use Rattle.world_hosting.specs.declared.resuming.Resumed.{Resumed}
 use Rattle.snapshot_command.specs.declared.stop.Stop.{Stop}
 use Rattle.snapshot_command.specs.declared.stop.Stop.TheVariants as T
-use Rattle.snapshot_command.specs.Calls.{Call, Deed, Output, saves}
+use Rattle.snapshot_command.specs.Calls.{Call, Deed, Output}
 use Rattle.snapshot_command.specs.Scripts.{IsRead, IsUnplayed, NamesDevice, Play, not_run}
 use Rattle.snapshot_command.specs.Telling.{Cause, HoldsMore, IsCause, IsDone, most_bytes, program_in, refusal_in}
 use Rattle.snapshot_command.specs.Ends.{IsLine, IsWhy, sink_fault}
@@ -114,7 +114,7 @@ pub record Resumes (parts : List Part) (s : Snapshot) (resumed : List Resumed) :
 -- What writing a snapshot leaves: its file, or that it is too long, or couldn't be written.
 abbrev pub Writes : Snapshot → (name : List ℕ) → (files files' : Option Files) → (faults faults' : ℕ) → Result (Unit {0}) Stop → Type 0
 Writes s name files files' faults faults' (Ok done) =
-    (length (snapshot_bytes s) ≤ most_bytes) × Becomes files files' (ChangesOnly name (snapshot_bytes s)) × (faults' ≡ faults)
+    SnapText (snapshot_bytes s) s × (length (snapshot_bytes s) ≤ most_bytes) × Becomes files files' (ChangesOnly name (snapshot_bytes s)) × (faults' ≡ faults)
 Writes s name files files' faults faults' (Err T.Memory) =
     (length (snapshot_bytes s) ≤ most_bytes) × Becomes files files' (HoldsFrontAtMost name (snapshot_bytes s)) × FailsAtMostOnce faults faults'
 Writes s name files files' faults faults' (Err T.Sink) = ⊥
@@ -171,10 +171,6 @@ Stops deed c o T.Sink = IsWhy deed c o sink_fault
 Stops deed c o (T.Refused r) =
     (cause : Cause) × (text : List ℕ) × IsCause deed c cause text × (r.program ≡ program_in cause) × (refusal_of r.kind ≡ refusal_in c cause)
     × Becomes o.taken o.taken' (Appends text) × (o.faults' ≡ o.faults)
-
--- .. while lines of events are printed
-abbrev pub PlaysPart : (most : ℕ) → Call → Output → Stop → Type 0
-PlaysPart most c o stop = IsPutStop stop × Stops (saves most) c o stop
 
 -- it is done, or stops
 abbrev pub Does : Deed → Call → Output → Result (Unit {0}) Stop → Type 0

@@ -107,15 +107,15 @@ fn continue_opened<V: Vault, S: Sink>(
 ) -> Result<(), Stop>
     requires lent { IsLent }
     requires plays { CanPlay opened }
-    ensures does { (name : List ℕ) (f : ℕ) → f ≡ V.fetch_faults vault.old → Opens (V.files vault.old) name opened
+    ensures does { (name : List ℕ) → Opens (V.files vault.old) name opened
         → Does continues (call name snap.now (V.files vault.old) (V.files vault.new)
-        f (V.fetch_faults vault.new) (V.save_faults vault.old) (V.save_faults vault.new)
+        (V.fetch_faults vault.old) (V.fetch_faults vault.new) (V.save_faults vault.old) (V.save_faults vault.new)
         (counted seen (λ d. (⟦<dyn Device as Device>⟧ d.0).faults d.1) devices.old)
         (counted seen (λ d. (⟦<dyn Device as Device>⟧ d.0).faults d.1) devices.new))
         (output (S.taken out.old) (S.taken out.new) (S.faults out.old) (S.faults out.new)) result }
     ensures told { IfErr result IsToldStop }
-    ensures counts { (f : ℕ) → f ≡ V.fetch_faults vault.old → CountsBy (status_by result) f (V.fetch_faults vault.new)
-        (V.save_faults vault.old) (V.save_faults vault.new) (S.faults out.old) (S.faults out.new) }
+    ensures counts { CountsBy (status_by result) (V.fetch_faults vault.old) (V.fetch_faults vault.new) (V.save_faults vault.old) (V.save_faults vault.new)
+        (S.faults out.old) (S.faults out.new) }
     ensures same_list { devices.new.list.ghost_name ≡ devices.old.list.ghost_name }
     ensures kept { V.files vault.new ≡ V.files vault.old }
     ensures fetch_faults { V.fetch_faults vault.old ≤ V.fetch_faults vault.new }

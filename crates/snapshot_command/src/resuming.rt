@@ -1,6 +1,6 @@
 //! Programs that stand for their records of a snapshot.
 
-ghost use Rattle.std.specs.Prelude.{◌≡◌, All, Err, IfOk, length, map};
+ghost use Rattle.std.specs.Prelude.{◌≡◌, ◌++◌, [], ◌∷◌, All, Err, IfOk, OnOk, length, map};
 ghost use Rattle.std.specs.List.{AllZip};
 ghost use Rattle.pause_host.specs.declared.faults.ThawFault.TheVariants.{Unfit};
 ghost use Rattle.snapshot_store.specs.Views.{record_of, snapshot_of};
@@ -13,7 +13,7 @@ ghost use Rattle.snapshot_command.specs.Views.{Resumes, ResumesEach};
 use pause_host::ThawFault;
 use script_command::Planned;
 use snapshot_store::{ProgramRecord, Snapshot};
-use std::alloc::Global;
+use std::alloc::{AllocError, Global};
 use wasm_validate::Valid;
 use world_hosting::{Resumed, resume_program};
 
@@ -61,7 +61,18 @@ fn resume_each<'m>(
             Ok(program) => program,
             Err(fault) => return Err(fault),
         };
-        resumed.push(program)?;
+        put_program(&mut resumed, program)?;
     }
     Ok(resumed)
+}
+
+// Puts a program behind others.
+fn put_program<'m>(
+    resumed: &mut Vec<Resumed<'m>>,
+    program: Resumed<'m>,
+) -> Result<(), AllocError>
+    ensures { OnOk result (resumed.new.items ≡ resumed.old.items ++ program.entry ∷ []) }
+{
+    resumed.push(program)?;
+    Ok(())
 }
