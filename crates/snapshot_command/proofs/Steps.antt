@@ -40,13 +40,15 @@ use Rattle.script_command.proofs.StagedParts.{zip_long}
 use Rattle.world_hosting.specs.declared.resuming.Resumed.{Resumed}
 use Rattle.wa_types.specs.declared.syntax.Module.{Module}
 use Rattle.snapshot_command.proofs.PutBack.{parts_long}
+use Rattle.pause_host.specs.declared.faults.ThawFault.{ThawFault}
+use Rattle.pause_host.specs.declared.faults.ThawFault.TheVariants as W
 use Rattle.snapshot_command.specs.declared.stop.Stop.{Stop}
 use Rattle.snapshot_command.specs.declared.stop.Stop.TheVariants as T
 use Rattle.snapshot_command.specs.Calls.{Call, Deed, Output, call, continues, output, saves}
 use Rattle.snapshot_command.specs.Scripts as S
 use Rattle.snapshot_command.specs.Scripts.{IsRead, IsUnplayed, Play, names_device, not_run}
 use Rattle.snapshot_command.specs.Telling.{HoldsNone, HoldsSnapshot, IsCause, IsReadBy, LeavesAll, long, most_bytes, programs_of, unfit, unplayed, unread, unwritten}
-use Rattle.snapshot_command.specs.Views.{Blames, Does, Holding, IsPutStop, IsToldStop, NoSnapshot, Opens, Resumes, Stops, status_by, status_of_stop, Writes, refused_for, stop_by, stop_for}
+use Rattle.snapshot_command.specs.Views.{Blames, Does, Holding, IsPutStop, IsToldStop, NoSnapshot, Opens, StandFor, Stops, status_by, status_of_stop, Writes, refused_for, stop_by, stop_for, thaw_stop}
 
 -- ---- what is printed
 
@@ -83,19 +85,19 @@ module _ (deed : Deed) (name snap : List ℕ) (files files' : Option Files) (f f
   pub nothing_told : Stops deed here (output taken taken p p) T.Memory
   nothing_told = (0, [], inl (leaves, refl), no_part taken, refl)
 
-  pub opening_stops : (fault : OpenFault) → Blames files f f' name fault → Stops deed here (output taken taken p p) (stop_for fault)
-  opening_stops Memory b = nothing_told
-  opening_stops (Read read) b = (unread read, [], read_cause deed, refl, refl, no_text taken, refl) where
+  opening : (fault : OpenFault) → Blames files f f' name fault → Stops deed here (output taken taken p p) (stop_for fault)
+  opening Memory b = nothing_told
+  opening (Read read) b = (unread read, [], read_cause deed, refl, refl, no_text taken, refl) where
     read_cause : (deed : Deed) → IsCause deed here (unread read) []
     read_cause (saves most) = (b.0, b.1, leaves)
     read_cause continues = (inl b.0, b.1, leaves)
-  opening_stops (a_script kind) b =
+  opening (a_script kind) b =
       let cause = not_run (bad_script (refusal_of kind)) in
       (unplayed cause, [], unplayed_cause deed here cause [] b leaves, refl, refl, no_text taken, refl)
-  opening_stops (a_module number kind) b =
+  opening (a_module number kind) b =
       let cause = not_run (bad_module number (refusal_of kind)) in
       (unplayed cause, [], unplayed_cause deed here cause [] b leaves, refl, refl, no_text taken, refl)
-  opening_stops (Rule line rule) b = elim b [
+  opening (Rule line rule) b = elim b [
     | inl own ↦
         let cause = names_device line in
         let line_is = ap (λ (n : ℕ). refusal_of (K.Script line n)) own.0 in
@@ -104,6 +106,9 @@ module _ (deed : Deed) (name snap : List ℕ) (files files' : Option Files) (f f
         let cause = not_run (bad_line line rule) in
         (unplayed cause, [], unplayed_cause deed here cause [] other leaves, refl, refl, no_text taken, refl)
   ]
+
+  pub opening_stops : (fault : OpenFault) (stop : Stop) → stop ≡ stop_for fault → Blames files f f' name fault → Stops deed here (output taken taken p p) stop
+  opening_stops fault stop is b = subst (Stops deed here (output taken taken p p)) (sym is) (opening fault b)
 
 -- ---- what is saved
 
@@ -147,7 +152,7 @@ played_written most name snap files files' f f' s s' ds ds' taken taken' p p' pl
 
 -- ---- what goes on
 
-module _ (name snap : List ℕ) (files : Option Files) (f f' s s' : ℕ) (taken taken' : Option (List ℕ)) (p p' : ℕ) (play : Play files name) where
+module _ (name snap : List ℕ) (files : Option Files) (f f' s s' : ℕ) (taken : Option (List ℕ)) (p : ℕ) (play : Play files name) where
   -- no snapshot is there
   pub no_snapshot_stops : (files' : Option Files) (ds : List Counted) → files' ≡ files → (stop : Stop) → NoSnapshot files f f' snap stop
       → Stops continues (call name snap files files' f f' s s' ds ds) (output taken taken p p) stop
@@ -166,7 +171,7 @@ module _ (name snap : List ℕ) (files : Option Files) (f f' s s' : ℕ) (taken 
   ]
 
   -- one is there that doesn't suit the programs
-  pub unfit_stops : (ds : List Counted) (shot : Snapshot) → Holding files snap shot → (SnapshotSuits (programs_of play) shot → ⊥)
+  unfit_stops : (ds : List Counted) (shot : Snapshot) → Holding files snap shot → (SnapshotSuits (programs_of play) shot → ⊥)
       → Stops continues (call name snap files files f f' s s' ds ds) (output taken taken p p) (refused_for K.SnapshotRefused)
   unfit_stops ds shot held never =
       let none : (t : Snapshot) → SnapText held.bytes t → SnapshotSuits (programs_of play) t → ⊥ =
@@ -174,6 +179,17 @@ module _ (name snap : List ℕ) (files : Option Files) (f f' s s' : ℕ) (taken 
       (unfit, [], ((play, record { bytes = held.bytes; holds = held.holds; few = held.few; none = none }), leaves continues name snap files files f f' s s' ds taken p refl), refl, refl,
       no_text taken, refl)
 
+  -- programs aren't put back
+  pub thaw_stops : {T : Type 0} (fault : ThawFault) (stop : Stop) → stop ≡ thaw_stop fault → (ds : List Counted) (shot : Snapshot) → Holding files snap shot
+      → (◌≡◌ {A = Result T ThawFault} (Err fault) (Err W.Unfit) → SnapshotSuits (programs_of play) shot → ⊥)
+      → Stops continues (call name snap files files f f' s s' ds ds) (output taken taken p p) stop
+  thaw_stops {T = T} fault stop is ds shot held never = subst (Stops continues (call name snap files files f f' s s' ds ds) (output taken taken p p)) (sym is) (by fault never) where
+    by : (fault : ThawFault) → (◌≡◌ {A = Result T ThawFault} (Err fault) (Err W.Unfit) → SnapshotSuits (programs_of play) shot → ⊥)
+        → Stops continues (call name snap files files f f' s s' ds ds) (output taken taken p p) (thaw_stop fault)
+    by W.Memory never = nothing_told continues name snap files files f f' s s' ds taken p refl
+    by W.Unfit never = unfit_stops ds shot held (never refl)
+
+module _ (name snap : List ℕ) (files : Option Files) (f f' s s' : ℕ) (taken taken' : Option (List ℕ)) (p p' : ℕ) (play : Play files name) where
   module _ (ds ds' : List Counted) (shot : Snapshot) (holds : HoldsSnapshot files snap (programs_of play) shot) (detaches : List Detach) (taken_out : detaches_in play.run.whole ≡ detaches) where
     -- all is told
     pub continued : Continues play.run.parts shot detaches ds ds' taken taken' → p' ≡ p
@@ -321,9 +337,9 @@ cannot_once files name f f' h = elim h [ | inl failed ↦ inr failed | inr missi
 -- ---- programs that stand for their records
 
 pub resumed_parts : (planned : List Planned) (lent modules : List Module) (parts : List Part) (shot : Snapshot) (resumed : List Resumed) → parts ≡ parts_of modules planned → lent ≡ modules
-    → Resumes (parts_of lent planned) shot resumed → Resumes parts shot resumed
+    → StandFor (parts_of lent planned) shot resumed → StandFor parts shot resumed
 resumed_parts planned lent modules parts shot resumed e same h =
-    subst (λ (ps : List Part). Resumes ps shot resumed) (sym e) (subst (λ (ms : List Module). Resumes (parts_of ms planned) shot resumed) same h)
+    subst (λ (ps : List Part). StandFor ps shot resumed) (sym e) (subst (λ (ms : List Module). StandFor (parts_of ms planned) shot resumed) same h)
 
 pub suited_parts : (planned : List Planned) (lent modules : List Module) (parts : List Part) (shot : Snapshot) → parts ≡ parts_of modules planned → lent ≡ modules
     → SnapshotSuits (world_programs parts) shot → SnapshotSuits (world_programs (parts_of lent planned)) shot
@@ -339,13 +355,24 @@ resumed_long (x ∷ xs) [] zs h = absurd h
 resumed_long (x ∷ xs) (r ∷ rs) [] h = absurd h
 
 pub few_resumed : (modules : List Module) (planned : List Planned) (shot : Snapshot) (resumed : List Resumed) → AllZip CanStage modules planned → length planned ≤ 16
-    → Resumes (parts_of modules planned) shot resumed → length resumed ≤ 16
+    → StandFor (parts_of modules planned) shot resumed → length resumed ≤ 16
 few_resumed modules planned shot resumed can few h =
     let long = resumed_long (parts_of modules planned) shot.programs resumed h.are in
     let parts = parts_long modules planned can in
     omega (arith, few, long, parts)
 
 -- the file's snapshot fits the programs that stand for it
-pub held_fits : (files : Option Files) (snap : List ℕ) (parts : List Part) (shot : Snapshot) (resumed : List Resumed) → Holding files snap shot → Resumes parts shot resumed
+pub held_fits : (files : Option Files) (snap : List ℕ) (parts : List Part) (shot : Snapshot) (resumed : List Resumed) → Holding files snap shot → StandFor parts shot resumed
     → HoldsSnapshot files snap (world_programs parts) shot
 held_fits files snap parts shot resumed held h = record { bytes = held.bytes; holds = held.holds; few = held.few; spells = held.spells; suits = h.suits }
+
+-- the stop of programs that aren't put back is told, and counts nothing
+pub thaw_told : (fault : ThawFault) (stop : Stop) → stop ≡ thaw_stop fault → IsToldStop stop
+thaw_told W.Memory stop is = subst IsToldStop (sym is) tt
+thaw_told W.Unfit stop is = subst IsToldStop (sym is) (λ e. absurd (omega (arith, e)))
+
+pub thaw_counts : (fault : ThawFault) (stop : Stop) → stop ≡ thaw_stop fault → (f f' s s' p : ℕ) → f' ≡ f → s' ≡ s → CountsBy (status_of_stop stop) f f' s s' p p
+thaw_counts fault stop is f f' s s' p fetched saved = subst (λ (x : Stop). CountsBy (status_of_stop x) f f' s s' p p) (sym is) (by fault) where
+  by : (fault : ThawFault) → CountsBy (status_of_stop (thaw_stop fault)) f f' s s' p p
+  by W.Memory = put_alone 9 f f' s s' p p fetched saved (inl refl) (λ e. refl)
+  by W.Unfit = put_alone 13 f f' s s' p p fetched saved (inl refl) (λ e. refl)

@@ -14,6 +14,8 @@ use Rattle.transcript.specs.declared.refusals.RefusalKind.{RefusalKind}
 use Rattle.transcript.specs.declared.refusals.RefusalKind.TheVariants as K
 use Rattle.wasm_reader.specs.Held.{Holds}
 use Rattle.snapshot_store.specs.Snapshots.{ProgramRecord, Snapshot, SnapText, snapshot_bytes}
+use Rattle.pause_host.specs.declared.faults.ThawFault.{ThawFault}
+use Rattle.pause_host.specs.declared.faults.ThawFault.TheVariants as W
 use Rattle.script_command.specs.declared.opening.OpenFault.{OpenFault}
 use Rattle.script_command.specs.declared.opening.OpenFault.TheVariants.{Memory, Module, Read, Rule, Script}
 use Rattle.script_command.specs.declared.opening.Opened.{Opened}
@@ -102,12 +104,12 @@ IsUnwritten name T.Sink = ⊥
 IsUnwritten name (T.Refused r) = (r.program ≡ None) × (refusal_of r.kind ≡ write_fault name)
 
 -- Each program stands for its record, which suits it.
-pub record ResumesEach (parts : List Part) (records : List ProgramRecord) (resumed : List Resumed) : Type 0 where
+pub record StandForEach (parts : List Part) (records : List ProgramRecord) (resumed : List Resumed) : Type 0 where
   pub suit : AllZip RecordSuits (world_programs parts) records
   pub are : AreResumedAt parts records resumed
 
 -- The programs stand for a snapshot that fits them.
-pub record Resumes (parts : List Part) (s : Snapshot) (resumed : List Resumed) : Type 0 where
+pub record StandFor (parts : List Part) (s : Snapshot) (resumed : List Resumed) : Type 0 where
   pub suits : SnapshotSuits (world_programs parts) s
   pub are : AreResumedAt parts s.programs resumed
 
@@ -142,6 +144,11 @@ stop_for (Rule line rule) = refused_for (K.Script line rule)
 abbrev pub stop_by : PutFault → Stop
 stop_by F.Fault = T.Sink
 stop_by F.Memory = T.Memory
+
+-- the stop of programs that weren't put back
+abbrev pub thaw_stop : ThawFault → Stop
+thaw_stop W.Memory = T.Memory
+thaw_stop W.Unfit = refused_for K.SnapshotRefused
 
 -- its status
 abbrev pub status_of_stop : Stop → ℕ

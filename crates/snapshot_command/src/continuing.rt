@@ -22,13 +22,11 @@ ghost use Rattle.snapshot_command.specs.Views.{Does, Holding, IsPutStop, IsToldS
 use crate::files::fetch_snapshot;
 use crate::resuming::resume_all;
 use crate::scripts::open_plain;
-use crate::stop::{Stop, refused, stop_by, stop_for, tell_stop};
+use crate::stop::{Stop, stop_by, stop_for, tell_stop, thaw_stop};
 use device_port::{Device, Devices};
-use pause_host::ThawFault;
 use script_command::{Opened, Programs};
 use snapshot_store::Snapshot;
 use std::alloc::Global;
-use transcript::RefusalKind;
 use vault_port::{Sink, Vault};
 use wa_model::Detach;
 use world_hosting::{Resumed, continue_programs};
@@ -154,8 +152,7 @@ fn continue_from<S: Sink>(
     let events = snapshot.events;
     match resume_all(alloc, &modules, planned, snapshot) {
         Ok(resumed) => tell_rest(alloc, out, devices, resumed, events, detaches),
-        Err(ThawFault::Memory) => Err(Stop::Memory),
-        Err(ThawFault::Unfit) => Err(refused(RefusalKind::SnapshotRefused)),
+        Err(fault) => Err(thaw_stop(fault)),
     }
 }
 

@@ -8,7 +8,7 @@ ghost use Rattle.script_command.specs.Views.{CanStage, parts_of};
 ghost use Rattle.world_hosting.specs.Continued.{IsWhole};
 ghost use Rattle.world_hosting.specs.Suiting.{RecordSuits, SnapshotSuits};
 ghost use Rattle.world_hosting.specs.Worlds.{world_programs};
-ghost use Rattle.snapshot_command.specs.Views.{Resumes, ResumesEach};
+ghost use Rattle.snapshot_command.specs.Views.{StandFor, StandForEach};
 
 use pause_host::ThawFault;
 use script_command::Planned;
@@ -30,10 +30,13 @@ pub(crate) fn resume_all<'m>(
 ) -> Result<Vec<Resumed<'m>>, ThawFault>
     requires can { AllZip CanStage modules.now planned.items }
     requires whole { All IsWhole (map record_of snapshot.programs.items) }
-    ensures resumed { IfOk result (λ rs. Resumes (parts_of modules.now planned.items) (snapshot_of snapshot) rs.items) }
+    ensures resumed { IfOk result (λ rs. StandFor (parts_of modules.now planned.items) (snapshot_of snapshot) rs.items) }
     ensures unfit { result ≡ Err Unfit → SnapshotSuits (world_programs (parts_of modules.now planned.items)) (snapshot_of snapshot) → ⊥ }
 {
-    if snapshot.events >= EVENTS_BOUND || snapshot.programs.len() != planned.len() {
+    if snapshot.events >= EVENTS_BOUND {
+        return Err(ThawFault::Unfit);
+    }
+    if snapshot.programs.len() != planned.len() {
         return Err(ThawFault::Unfit);
     }
     resume_each(alloc, modules, planned, &snapshot.programs)
@@ -49,7 +52,7 @@ fn resume_each<'m>(
     requires can { AllZip CanStage modules.now planned.items }
     requires many { length records.now ≡ length planned.items }
     requires whole { All IsWhole (map record_of records.now) }
-    ensures resumed { IfOk result (λ rs. ResumesEach (parts_of modules.now planned.items) (map record_of records.now) rs.items) }
+    ensures resumed { IfOk result (λ rs. StandForEach (parts_of modules.now planned.items) (map record_of records.now) rs.items) }
     ensures unfit { result ≡ Err Unfit → AllZip RecordSuits (world_programs (parts_of modules.now planned.items)) (map record_of records.now) → ⊥ }
 {
     let mut resumed = Vec::new(alloc);

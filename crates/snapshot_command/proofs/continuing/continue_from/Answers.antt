@@ -1,13 +1,12 @@
 -- Programs are put where a snapshot has them, and told.
-use Rattle.std.proofs.Common.{List, inl, map, refl, sym, subst}
+use Rattle.std.proofs.Common.{List, map, refl, sym, subst}
 use Rattle.std.specs.List.{AllZip}
 use Rattle.std.proofs.lemmas.Result.{IfErr-weaker}
 use Rattle.wa_types.specs.declared.syntax.Module.{Module}
 use Rattle.snapshot_store.specs.Views.{record_of, snapshot_of}
 use Rattle.script_command.specs.Views.{CanStage, parts_of}
-use Rattle.snapshot_command.specs.Calls.{continues}
-use Rattle.snapshot_command.specs.Views.{IsPutStop, IsToldStop, Stops}
-use Rattle.snapshot_command.proofs.Steps.{few_resumed, held_fits, nothing_told, put_told, resumed_parts, suited_parts, unfit_stops}
+use Rattle.snapshot_command.specs.Views.{IsPutStop, IsToldStop}
+use Rattle.snapshot_command.proofs.Steps.{few_resumed, held_fits, put_told, resumed_parts, suited_parts, thaw_counts, thaw_stops, thaw_told}
 use Rattle.snapshot_command.proofs.continuing.continue_from.Goals as goal
 
 pub resume_all-requires-clause-can : goal.resume_all-requires-clause-can
@@ -35,13 +34,15 @@ returns-in-Ok-clause-does g c = λ files name snap f f' s s' opens held.
 pub returns-in-Ok-clause-told : goal.returns-in-Ok-clause-told
 returns-in-Ok-clause-told g c = IfErr-weaker c.tell_rest.result IsPutStop IsToldStop put_told c.tell_rest.ensures.told
 
-pub returns-in-Err-Memory-clause-does : goal.returns-in-Err-Memory-clause-does
-returns-in-Err-Memory-clause-does g c = λ files name snap f f' s s' opens held. nothing_told continues name snap files files f f' s s' _ _ _ refl
-
-pub returns-in-Err-Unfit-clause-does : goal.returns-in-Err-Unfit-clause-does
-returns-in-Err-Unfit-clause-does g c = λ files name snap f f' s s' opens held.
-    subst (Stops _ _ _) (sym c.refused.ensures)
-    (unfit_stops name snap files f f' s s' _ _ _ _ opens.play _ (snapshot_of c.args.snapshot) held
-    (λ suits. c.in-Err-Unfit.ensures.unfit ?
+pub returns-in-Err-clause-does : goal.returns-in-Err-clause-does
+returns-in-Err-clause-does g c = λ files name snap f f' s s' opens held.
+    thaw_stops name snap files f f' s s' _ _ opens.play c.in-Err.fault c.thaw_stop.result c.thaw_stop.ensures _ (snapshot_of c.args.snapshot) held
+    (λ e suits. c.in-Err.ensures.unfit e
     (suited_parts c.args.opened.programs.planned.items c.deref.result.now c.args.opened.programs.modules.items opens.play.run.parts (snapshot_of c.args.snapshot) opens.parts_are
-    c.deref.ensures.value suits)))
+    c.deref.ensures.value suits))
+
+pub returns-in-Err-clause-told : goal.returns-in-Err-clause-told
+returns-in-Err-clause-told g c = thaw_told c.in-Err.fault c.thaw_stop.result c.thaw_stop.ensures
+
+pub returns-in-Err-clause-counts : goal.returns-in-Err-clause-counts
+returns-in-Err-clause-counts g c = λ f f' s s' fetched saved. thaw_counts c.in-Err.fault c.thaw_stop.result c.thaw_stop.ensures f f' s s' _ fetched saved

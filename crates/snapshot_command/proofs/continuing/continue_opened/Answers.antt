@@ -17,7 +17,7 @@ returns-in-Ok-clause-counts g c = c.continue_from.ensures.counts _ _ _ _ c.in-Ok
 
 pub returns-in-Err-clause-does : goal.returns-in-Err-clause-does
 returns-in-Err-clause-does g c = λ name opens.
-    no_snapshot_stops name c.args.snap.now _ _ _ _ _ _ _ _ _ opens.play _ _ c.fetch_snapshot.ensures.kept c.in-Err.stop c.in-Err.ensures.none
+    no_snapshot_stops name c.args.snap.now _ _ _ _ _ _ _ opens.play _ _ c.fetch_snapshot.ensures.kept c.in-Err.stop c.in-Err.ensures.none
 
 pub returns-in-Err-clause-told : goal.returns-in-Err-clause-told
 returns-in-Err-clause-told g c = no_snapshot_told _ _ _ _ c.in-Err.stop c.in-Err.ensures.none

@@ -1,7 +1,7 @@
 -- A script is opened, and goes on.
 use Rattle.std.proofs.Common.{refl, subst, sym}
 use Rattle.snapshot_command.specs.Calls.{continues}
-use Rattle.snapshot_command.specs.Views.{IsToldStop, Stops}
+use Rattle.snapshot_command.specs.Views.{IsToldStop}
 use Rattle.snapshot_command.proofs.Openings.{told_opening}
 use Rattle.snapshot_command.proofs.Steps.{counts_since, does_since, opening_counts, opening_stops, opens_since}
 use Rattle.snapshot_command.proofs.continuing.go_on.Goals as goal
@@ -16,7 +16,7 @@ returns-in-Ok-clause-counts g c = counts_since _ _ _ _ _ _ _ _ _ c.in-Ok.ensures
 
 pub returns-in-Err-clause-does : goal.returns-in-Err-clause-does
 returns-in-Err-clause-does g c =
-    subst (Stops _ _ _) (sym c.stop_for.ensures) (opening_stops continues _ _ _ _ _ _ _ _ _ _ _ c.open_plain.ensures.kept c.in-Err.fault c.in-Err.ensures.refused)
+    opening_stops continues _ _ _ _ _ _ _ _ _ _ _ c.open_plain.ensures.kept c.in-Err.fault c.stop_for.result c.stop_for.ensures c.in-Err.ensures.refused
 
 pub returns-in-Err-clause-told : goal.returns-in-Err-clause-told
 returns-in-Err-clause-told g c = subst IsToldStop (sym c.stop_for.ensures) (told_opening _ _ _ _ c.in-Err.fault c.in-Err.ensures.refused)
