@@ -22,7 +22,7 @@ use Rattle.many_host.specs.Laws.{ToldBeginsWorld}
 use Rattle.many_host.proofs.Tellings.{on_story}
 
 module _ (begun : ℕ) (programs : List Program) (detaches : List Detach) (ds : List Device) (lines : List Line) (h : Held Hosted) (ds' : List Device) where
-  all_on : (stage : Stage) (s : StandingFrom begun follows has_ended memory_of programs detaches ds lines h ds' stage) → AllZip OnStory programs s.tellers
+  pub all_on : (stage : Stage) (s : StandingFrom begun follows has_ended memory_of programs detaches ds lines h ds' stage) → AllZip OnStory programs s.tellers
   all_on stage s = zipped OnStory programs s.tellers s.wide each where
     each : (i : ℕ) (w : Program) (t : Teller) → slice_get programs i ≡ Some w → slice_get s.tellers i ≡ Some t → OnStory w t
     each i w t ew et =
