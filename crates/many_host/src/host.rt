@@ -81,9 +81,9 @@ impl<'m> Host<'m> {
         })
     }
 
-    /// The next line, with the tick at which its event began; None exactly where all programs have ended and all shows are out. A new
-    /// call of a bound import asks its device once, and a device's fault is told only where that device's count rose. After want of
-    /// memory it isn't called again.
+    /// The next line, with the tick at which its event began; None exactly where all programs have ended and all shows are out, and the
+    /// host is then as it was. A new call of a bound import asks its device once, and a device's fault is told only where that device's
+    /// count rose. After want of memory it isn't called again.
     pub fn next(&mut self, devices: &mut Devices<'_>) -> Result<Option<Line>, AllocError>
         requires lent { IsLent }
         requires range { InRange self.old.turns }
@@ -111,6 +111,8 @@ impl<'m> Host<'m> {
         ensures none { IfOk result (λ line. MatchOption line (HaveEnded self.old.turns.dues.items × LooksOut self.old.turns.shows.items self.old.turns.stage)
             (λ l. HaveEnded self.old.turns.dues.items → LooksOut self.old.turns.shows.items self.old.turns.stage → ⊥)) }
         ensures begun { IfOk result (λ line. BegunNext self.old.turns.stage self.old.turns.begun self.new.turns.begun line) }
+        ensures goes_on { (LooksOut self.old.turns.shows.items self.old.turns.stage → ⊥) → self.new.turns.begun ≡ self.old.turns.begun }
+        ensures same { IfOk result (λ line. MatchOption line (self.new ≡ self.old) (λ l. Unit {0})) }
     {
         self.turns.next(devices)
     }

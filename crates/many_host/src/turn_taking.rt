@@ -134,7 +134,8 @@ impl<T: Teller + Drop> Turns<T> {
         self.begun
     }
 
-    /// The next line; None where all programs have ended and all shows are out. After want of memory it isn't called again.
+    /// The next line; None where all programs have ended and all shows are out, and all is then as it was. After want of memory it isn't
+    /// called again.
     pub fn next(&mut self, devices: &mut Devices<'_>) -> Result<Option<Line>, AllocError>
         requires lent { IsLent }
         requires range { InRange self.old }
@@ -150,6 +151,8 @@ impl<T: Teller + Drop> Turns<T> {
         ensures none { IfOk result (λ line. MatchOption line (HaveEnded self.old.dues.items × LooksOut self.old.shows.items self.old.stage)
             (λ l. HaveEnded self.old.dues.items → LooksOut self.old.shows.items self.old.stage → ⊥)) }
         ensures begun { IfOk result (λ line. BegunNext self.old.stage self.old.begun self.new.begun line) }
+        ensures goes_on { (LooksOut self.old.shows.items self.old.stage → ⊥) → self.new.begun ≡ self.old.begun }
+        ensures same { IfOk result (λ line. MatchOption line (self.new ≡ self.old) (λ l. Unit {0})) }
         ensures left { (begun : ℕ) (programs : List Program) (detaches : List Detach) (ds : List Device) (lines : List WorldLine)
             → StandingFrom begun T.follows T.has_ended T.memory programs detaches ds lines (held_of self.old) (of_all seen devices.old) self.old.stage
             → IsErr result → AreLeft self.old.begun detaches (of_all (λ d. record { device = seen d; faults = faults d }) devices.old)
@@ -177,6 +180,7 @@ impl<T: Teller + Drop> Turns<T> {
             (of_all (λ d. record { device = seen d; faults = faults d }) devices.new) self.new (of_all seen devices.new)) }
         ensures none { IfOk result (λ line. MatchOption line (HaveEnded self.old.dues.items) (λ l. HaveEnded self.old.dues.items → ⊥)) }
         ensures begun { IfOk result (λ line. BegunNext Stage.Between self.old.begun self.new.begun line) }
+        ensures same { IfOk result (λ line. MatchOption line (self.new ≡ self.old) (λ l. Unit {0})) }
         ensures left { (begun : ℕ) (programs : List Program) (detaches : List Detach) (ds : List Device) (lines : List WorldLine)
             → StandingFrom begun T.follows T.has_ended T.memory programs detaches ds lines (held_of self.old) (of_all seen devices.old) Stage.Between
             → IsErr result → AreLeft self.old.begun detaches (of_all (λ d. record { device = seen d; faults = faults d }) devices.old)
@@ -248,6 +252,8 @@ impl<T: Teller + Drop> Turns<T> {
         ensures none { IfOk result (λ line. MatchOption line (HaveEnded self.old.dues.items × LooksOut self.old.shows.items (Stage.Showing turn from))
             (λ l. HaveEnded self.old.dues.items → LooksOut self.old.shows.items (Stage.Showing turn from) → ⊥)) }
         ensures begun { IfOk result (λ line. BegunNext (Stage.Showing turn from) self.old.begun self.new.begun line) }
+        ensures goes_on { (LooksOut self.old.shows.items (Stage.Showing turn from) → ⊥) → self.new.begun ≡ self.old.begun }
+        ensures same { IfOk result (λ line. MatchOption line (self.new ≡ self.old) (λ l. Unit {0})) }
         ensures left { (begun : ℕ) (programs : List Program) (detaches : List Detach) (ds : List Device) (lines : List WorldLine)
             → StandingFrom begun T.follows T.has_ended T.memory programs detaches ds lines (held_of self.old) (of_all seen devices.old) (Stage.Showing turn from)
             → IsErr result → AreLeft self.old.begun detaches (of_all (λ d. record { device = seen d; faults = faults d }) devices.old)
