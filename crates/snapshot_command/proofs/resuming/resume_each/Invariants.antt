@@ -1,6 +1,6 @@
 use Rattle.std.proofs.Common.{map}
 use Rattle.snapshot_store.specs.Views.{record_of}
-use Rattle.snapshot_command.proofs.Resuming.{Resuming}
+use Rattle.snapshot_command.proofs.PutBack.{Resuming}
 use Rattle.snapshot_command.proofs.resuming.resume_each.Given as goal
 
 -- those that are put back, and those to come

@@ -1,17 +1,22 @@
 -- Programs that are put back one after another, each where its record has it.
 use Rattle.std.proofs.Common.{◌≡◌, ◌+◌, ◌<◌, ℕ, suc, List, [], ◌∷◌, ◌++◌, length, map, drop, get_or, refl, sym, ap, ◌∙◌, subst, arith, append_assoc, length-append}
 use Rattle.std.specs.List.{AllZip}
-use Rattle.std.proofs.lemmas.List.{length-map}
+use Rattle.std.specs.Prelude.{Result, Err}
+use Rattle.std.proofs.lemmas.List.{get_or-map, length-map}
 use Rattle.wa_types.specs.declared.syntax.Module.{Module}
+use Rattle.pause_host.specs.declared.faults.ThawFault.{ThawFault}
+use Rattle.pause_host.specs.declared.faults.ThawFault.TheVariants.{Unfit}
 use Rattle.snapshot_store.specs.Snapshots.{ProgramRecord, Snapshot}
+use Rattle.snapshot_store.specs.Views.{record_of}
+use Rattle.snapshot_store.specs.declared.snapshot.ProgramRecord.{ProgramRecord as RecordValue}
 use Rattle.script_command.specs.declared.programs.Planned.{Planned}
 use Rattle.script_command.specs.Views.{CanStage, part_of, parts_of}
 use Rattle.script_command.proofs.StagedParts.{NextProgram, goes_on, next_at, none_behind, zip_long, zip_more}
-use Rattle.world_hosting.specs.Continued.{AreResumedAt, IsResumedAt}
+use Rattle.world_hosting.specs.Continued.{AreResumedAt, IsResumedAt, Resumes}
 use Rattle.world_hosting.specs.Suiting.{RecordSuits, SnapshotSuits}
 use Rattle.world_hosting.specs.Worlds.{Part, world_program, world_programs}
 use Rattle.world_hosting.specs.declared.resuming.Resumed.{Resumed}
-use Rattle.snapshot_command.specs.Views.{Resumes, ResumesEach}
+use Rattle.snapshot_command.specs.Views.{StandFor, StandForEach}
 
 -- a record suits a part of a script
 abbrev pub PartSuits : Part → ProgramRecord → Type 0
@@ -85,6 +90,9 @@ module _ (modules : List Module) (planned : List Planned) (p : Planned) (rest : 
   pub next : Resuming modules planned (p ∷ rest) records resumed → NextProgram modules (length resumed) p
   next s = next_at modules (length resumed) p rest s.left s.left_is s.each
 
+  pub here_can : Resuming modules planned (p ∷ rest) records resumed → (v : Module) → v ≡ get_or modules (length resumed) v → CanStage v p
+  here_can s v e = (next s).can v e
+
   -- there is a record
   pub next_record : Resuming modules planned (p ∷ rest) records resumed → length resumed < length records
   next_record s = by s.to_come s.to_come_is s.many where
@@ -143,19 +151,33 @@ module _ (modules : List Module) (planned : List Planned) (p : Planned) (rest : 
         let suit : PartSuits (part_of w p) q = zip_here PartSuits s.parts s.told (part_of w p) q (parts_of ms rest) qs s.suit zipped in
         never (subst (λ (u : Module). PartSuits (part_of u p) r) (sym same) (subst (λ (u : ProgramRecord). PartSuits (part_of w p) u) (sym alike) suit))
 
+-- an item, by a place that is that one
+pub place_at : {A : Type 0} (xs : List A) (x : A) (k n l : ℕ) → x ≡ get_or xs k x → k ≡ n → n ≡ l → x ≡ get_or xs l x
+place_at xs x k n l e a b = e ∙ ap (λ (i : ℕ). get_or xs i x) (a ∙ b)
+
+-- a record, as plain data
+pub record_at : (rs : List RecordValue) (r : RecordValue) (i : ℕ) → i < length (map record_of rs) → r ≡ get_or rs i r → record_of r ≡ get_or (map record_of rs) i (record_of r)
+record_at rs r i h e = sym (get_or-map record_of rs i r (record_of r) (omega (arith, h, length-map rs record_of)) ∙ ap record_of (sym e))
+
+-- why a program isn't put back
+pub unfit_of : {T : Type 0} (x : Part) (r : ProgramRecord) (fault : ThawFault) → Resumes x r (Err fault) → ◌≡◌ {A = Result T ThawFault} (Err fault) (Err Unfit) → RecordSuits (world_program x) r → ⊥
+unfit_of {T = T} x r fault h e =
+    let is : fault ≡ Unfit = cc in
+    subst (λ (f : ThawFault). Resumes x r (Err f)) is h
+
 -- those to come, as they are held
 pub turned : (modules : List Module) (planned rest behind : List Planned) (p : Planned) (records : List ProgramRecord) (resumed : List Resumed) → rest ≡ p ∷ behind
     → Resuming modules planned rest records resumed → Resuming modules planned (p ∷ behind) records resumed
 turned modules planned rest behind p records resumed e s = subst (λ (ps : List Planned). Resuming modules planned ps records resumed) e s
 
 pub all_resumed : (modules : List Module) (planned rest : List Planned) (records : List ProgramRecord) (resumed : List Resumed) → rest ≡ [] → Resuming modules planned rest records resumed
-    → ResumesEach (parts_of modules planned) records resumed
+    → StandForEach (parts_of modules planned) records resumed
 all_resumed modules planned rest records resumed none s = by t.left t.each t.whole t.to_come t.many t.records_are where
   t : Resuming modules planned [] records resumed
   t = subst (λ (ps : List Planned). Resuming modules planned ps records resumed) none s
 
   by : (left : List Module) → AllZip CanStage left [] → parts_of modules planned ≡ t.parts ++ parts_of left [] → (to_come : List ProgramRecord) → length to_come ≡ 0
-      → records ≡ t.told ++ to_come → ResumesEach (parts_of modules planned) records resumed
+      → records ≡ t.told ++ to_come → StandForEach (parts_of modules planned) records resumed
   by [] each whole [] many are =
       let parts_are = whole ∙ none_behind t.parts in
       let told_are = are ∙ none_behind t.told in
