@@ -142,6 +142,8 @@ pub fn asyncify<V: Vault, S: Sink>(
                 snap,
             },
         ),
-        Ok(Command::Continue { script, snap }) => continue_with(alloc, vault, out, devices, script, snap),
+        Ok(Command::Continue { script, snap }) => continue_with(
+            alloc, vault, out, devices, script, snap,
+        ),
     }
 }
