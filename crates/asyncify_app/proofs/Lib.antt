@@ -1,3 +1,4 @@
+pub mod AbsentFiles
 pub mod Boxes
 pub mod GeneratedLocals
 pub mod GeneratedSetUp
@@ -6,6 +7,7 @@ pub mod OneEnd
 pub mod OneStory
 pub mod Rewritten
 pub mod Runs
+pub mod SmallStatuses
 pub mod SnapshotEnds
 pub mod Statuses
 pub mod Telling

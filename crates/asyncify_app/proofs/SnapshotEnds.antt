@@ -1,50 +1,15 @@
 -- What the end of a command on snapshots leaves, and which devices it is told of.
-use Rattle.std.proofs.Common.{◌≡◌, ◌≤◌, ℕ, List, Option, arith, subst}
+use Rattle.std.proofs.Common.{◌≡◌, ℕ, List, Option, arith, subst}
 use Rattle.vault_port.specs.Counts.{FailsOnce}
 use Rattle.vault_port.specs.Files.{Files}
 use Rattle.event_order.specs.Left.{Counted}
-use Rattle.script_model.specs.Transcript.{Refusal, usage, malformed, float, invalid, limit, nesting, reserved, script, out_of_memory, read_fault, write_fault, snapshot_limit, snapshot_refused}
-use Rattle.transcript.specs.Refused.{status_of}
-use Rattle.script_setup.specs.Prepared.{IsOfContent}
-use Rattle.script_command.specs.declared.way.Way.TheVariants.{Run}
-use Rattle.script_command.specs.Playing as P
-use Rattle.script_command.specs.Playing.{bad_line, bad_module, bad_script, refusal_of_cause}
-use Rattle.script_command.proofs.Statuses.{module_content, script_content}
 use Rattle.snapshot_command.specs.Answers.{HasOneEnd}
 use Rattle.snapshot_command.specs.Calls.{Call, Deed, Output, call, continues, saves}
 use Rattle.snapshot_command.specs.Ends.{End, IsWhy, done, memory, refused, sink_fault, status_of_end}
 use Rattle.snapshot_command.specs.Scripts as K
-use Rattle.snapshot_command.specs.Scripts.{IsUnplayed, names_device, not_run, refusal_for}
+use Rattle.snapshot_command.specs.Scripts.{IsUnplayed}
 use Rattle.snapshot_command.specs.Telling.{Cause, IsCause, unplayed, unread, long, unwritten, unfit}
-
--- ---- statuses of scripts that aren't played
-
-content_small : (r : Refusal) → IsOfContent r → status_of r ≤ 8
-content_small (malformed at) h = omega arith
-content_small (float at) h = omega arith
-content_small (nesting at) h = omega arith
-content_small (limit what found) h = omega arith
-content_small (invalid func rule at) h = omega arith
-content_small (reserved name) h = omega arith
-content_small (script line rule) h = omega arith
-content_small usage h = absurd h
-content_small out_of_memory h = absurd h
-content_small (read_fault name) h = absurd h
-content_small (write_fault name) h = absurd h
-content_small (snapshot_limit found) h = absurd h
-content_small snapshot_refused h = absurd h
-
-run_small : (files : Option Files) (name : List ℕ) (cause : P.Cause) → P.IsRefused Run files name cause → status_of (refusal_of_cause cause) ≤ 8
-run_small files name (bad_script r) h = content_small r (script_content h.0 r h.2)
-run_small files name (bad_module number r) h = content_small r (module_content Run files h.0 r h.2)
-run_small files name (bad_line line rule) h = omega arith
-
--- a script that isn't played is refused by a status up to 8
-pub unplayed_small : (files : Option Files) (name : List ℕ) (cause : K.Cause) → IsUnplayed files name cause → status_of (refusal_for cause) ≤ 8
-unplayed_small files name (names_device line) h = omega arith
-unplayed_small files name (not_run (bad_script r)) h = run_small files name (bad_script r) h
-unplayed_small files name (not_run (bad_module number r)) h = run_small files name (bad_module number r) h.0
-unplayed_small files name (not_run (bad_line line rule)) h = run_small files name (bad_line line rule) h.0
+use Rattle.asyncify_app.proofs.SmallStatuses.{unplayed_small}
 
 pub unplayed_by : (deed : Deed) (c : Call) (cause : K.Cause) (text : List ℕ) → IsCause deed c (unplayed cause) text → IsUnplayed c.files c.script cause
 unplayed_by (saves most) c cause text h = h.0

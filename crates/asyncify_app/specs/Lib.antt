@@ -3,4 +3,5 @@ pub mod Ends
 pub mod Plans
 pub mod Playing
 pub mod Printed
+pub mod ReadFiles
 pub mod Telling

@@ -3,4 +3,3 @@ pub mod CaseLemmas
 pub mod FloatFile
 pub mod PauseLemmas
 pub mod RoundTrips
-pub mod SureEnds

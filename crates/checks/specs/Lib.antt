@@ -6,4 +6,3 @@ pub mod Files
 pub mod Images
 pub mod Lists
 pub mod Rows
-pub mod SureCommands

@@ -7,7 +7,7 @@ ghost use Rattle.host_laws.specs.Supplies.{IsLent};
 ghost use Rattle.memory_vaults.specs.InMemory.{sure_bytes, sure_files};
 ghost use Rattle.asyncify_app.specs.Devices.{counted_boxes};
 ghost use Rattle.asyncify_app.specs.Ends.{HasOneEnd};
-ghost use Rattle.checks.specs.SureCommands.{ReadsAbsent};
+ghost use Rattle.asyncify_app.specs.ReadFiles.{ReadsAbsent};
 
 use asyncify_app::asyncify;
 use device_port::Device;

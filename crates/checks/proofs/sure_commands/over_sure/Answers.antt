@@ -1,7 +1,7 @@
 -- The counts of what never fails stand at 0.
 use Rattle.std.proofs.Common.{refl}
 use Rattle.memory_vaults.specs.InMemory.{sure_files}
-use Rattle.checks.proofs.SureEnds.{absent_only_where_missing, none_failed}
+use Rattle.asyncify_app.proofs.AbsentFiles.{absent_only_where_missing, none_failed}
 use Rattle.checks.proofs.sure_commands.over_sure.Goals as goal
 
 pub returns-clause-no_write_fault : goal.returns-clause-no_write_fault

@@ -4,15 +4,10 @@ use Rattle.vault_port.specs.Counts.{FailsOnce}
 use Rattle.vault_port.specs.Files.{Files, CannotRead}
 use Rattle.script_model.specs.Command.{transform}
 use Rattle.script_model.specs.Spelled.{Spelled, rewrites, hosts, runs, generates, saves, continues}
-use Rattle.script_model.specs.Transcript.{Refusal, usage, malformed, float, invalid, limit, nesting, reserved, script, out_of_memory, read_fault, write_fault, snapshot_limit, snapshot_refused}
 use Rattle.transcript.specs.Refused.{status_of}
-use Rattle.script_setup.specs.Prepared.{IsOfContent}
-use Rattle.script_command.specs.declared.way.Way.{Way}
 use Rattle.script_command.specs.declared.way.Way.TheVariants.{Host, Run}
-use Rattle.script_command.specs.Playing.{Cause, bad_script, bad_module, bad_line, IsRead, IsRefused, refusal_of_cause}
-use Rattle.script_command.specs.Answers as A
+use Rattle.script_command.specs.Playing.{IsRead}
 use Rattle.script_command.specs.Ends as P
-use Rattle.script_command.proofs.Statuses.{module_content, script_content}
 use Rattle.snapshot_command.specs.Calls as D
 use Rattle.snapshot_command.specs.Ends as E
 use Rattle.snapshot_command.specs.Scripts as K
@@ -20,33 +15,12 @@ use Rattle.snapshot_command.specs.Telling as W
 use Rattle.transform_command.specs.Ends as T
 use Rattle.transform_command.specs.Sources as S
 use Rattle.asyncify_app.specs.Ends.{Call, EndsBy, HasOneEnd, output_of, script_call, snapshot_call, transform_call}
-use Rattle.asyncify_app.proofs.SnapshotEnds.{unplayed_by, unplayed_small}
-use Rattle.checks.specs.SureCommands.{ReadsAbsent}
+use Rattle.asyncify_app.specs.ReadFiles.{ReadsAbsent}
+use Rattle.asyncify_app.proofs.SmallStatuses.{refused_small, unplayed_small}
+use Rattle.asyncify_app.proofs.SnapshotEnds.{unplayed_by}
 
 pub none_failed : FailsOnce 0 0 → ⊥
 none_failed e = omega (arith, e)
-
--- ---- a refusal isn't a fault of reading
-
-content_not_ten : (r : Refusal) → IsOfContent r → status_of r ≢ 10
-content_not_ten (malformed at) h e = absurd (omega (arith, e))
-content_not_ten (float at) h e = absurd (omega (arith, e))
-content_not_ten (nesting at) h e = absurd (omega (arith, e))
-content_not_ten (limit what found) h e = absurd (omega (arith, e))
-content_not_ten (invalid func rule at) h e = absurd (omega (arith, e))
-content_not_ten (reserved name) h e = absurd (omega (arith, e))
-content_not_ten (script line rule) h e = absurd (omega (arith, e))
-content_not_ten usage h e = absurd h
-content_not_ten out_of_memory h e = absurd h
-content_not_ten (read_fault name) h e = absurd h
-content_not_ten (write_fault name) h e = absurd h
-content_not_ten (snapshot_limit found) h e = absurd h
-content_not_ten snapshot_refused h e = absurd h
-
-refused_not_ten : (way : Way) (files : Option Files) (name : List ℕ) (cause : Cause) → IsRefused way files name cause → status_of (refusal_of_cause cause) ≢ 10
-refused_not_ten way files name (bad_script r) h e = content_not_ten r (script_content h.0 r h.2) e
-refused_not_ten way files name (bad_module number r) h e = content_not_ten r (module_content way files h.0 r h.2) e
-refused_not_ten way files name (bad_line line rule) h e = absurd (omega (arith, e))
 
 source_not_ten : (cause : S.Cause) → status_of (S.refusal_for cause) ≢ 10
 source_not_ten (S.malformed at) e = absurd (omega (arith, e))
@@ -77,7 +51,7 @@ script_absent : (c : P.Call) (files : Files) → c.files ≡ Some files → c.fe
     → (name : List ℕ) × IsRead c.way c.files c.name name × (files name ≡ None)
 script_absent c files is e e' (P.read_fault_of name) s why =
     (name, why.0, absent_only c.fetch_faults c.fetch_faults' files name e e' (subst (λ o. CannotRead o name c.fetch_faults c.fetch_faults') is why.1))
-script_absent c files is e e' (P.refused cause) s why = absurd (refused_not_ten c.way c.files c.name cause why.0 (sym s))
+script_absent c files is e e' (P.refused cause) s why = let small = refused_small c.way c.files c.name cause why.0 in absurd (omega (arith, s, small))
 script_absent c files is e e' P.done s why = absurd (omega (arith, s))
 script_absent c files is e e' P.memory s why = absurd (omega (arith, s))
 script_absent c files is e e' P.sink_fault s why = absurd (omega (arith, s))
