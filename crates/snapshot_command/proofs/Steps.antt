@@ -175,9 +175,15 @@ module _ (name snap : List ℕ) (files : Option Files) (f f' s s' : ℕ) (taken 
       → Stops continues (call name snap files files f f' s s' ds ds) (output taken taken p p) (refused_for K.SnapshotRefused)
   unfit_stops ds shot held never =
       let none : (t : Snapshot) → SnapText held.bytes t → SnapshotSuits (programs_of play) t → ⊥ =
-      λ t text suits. never (subst (SnapshotSuits (programs_of play)) (one_snapshot held.bytes t shot text held.spells) suits) in
-      (unfit, [], ((play, record { bytes = held.bytes; holds = held.holds; few = held.few; none = none }), leaves continues name snap files files f f' s s' ds taken p refl), refl, refl,
-      no_text taken, refl)
+      λ t text suits. never (subst (SnapshotSuits (programs_of play)) (one_snapshot held.bytes t shot text held.spells) suits) in (
+        unfit,
+        [],
+        ((play, record { bytes = held.bytes; holds = held.holds; few = held.few; none = none }), leaves continues name snap files files f f' s s' ds taken p refl),
+        refl,
+        refl,
+        no_text taken,
+        refl,
+      )
 
   -- programs aren't put back
   pub thaw_stops : {T : Type 0} (fault : ThawFault) (stop : Stop) → stop ≡ thaw_stop fault → (ds : List Counted) (shot : Snapshot) → Holding files snap shot
@@ -332,7 +338,7 @@ does_kept deed name snap files files' f f' s s' ds ds' o r same h = subst (λ (x
 
 -- a file couldn't be read
 pub cannot_once : (files : Option Files) (name : List ℕ) (f f' : ℕ) → CannotRead files name f f' → FailsAtMostOnce f f'
-cannot_once files name f f' h = elim h [ | inl failed ↦ inr failed | inr missing ↦ inl missing.1 ]
+cannot_once files name f f' h = elim h [ inl failed ↦ inr failed | inr missing ↦ inl missing.1 ]
 
 -- ---- programs that stand for their records
 
