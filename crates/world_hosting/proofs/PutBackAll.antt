@@ -21,7 +21,7 @@ use Rattle.world_hosting.specs.declared.hosting.Timed.{Timed}
 use Rattle.world_hosting.specs.declared.parting.Parted.{Parted}
 use Rattle.world_hosting.specs.declared.resuming.Resumed.{Resumed}
 use Rattle.world_hosting.specs.declared.staging.Staged.{Staged}
-use Rattle.world_hosting.specs.Continued.{AreResumedAt, GoesOn, IsResumedAt}
+use Rattle.world_hosting.specs.Continued.{AreResumedAt, IsResumedAt}
 use Rattle.world_hosting.specs.Parted.{AreParted, AreTimed, Begins, shows_from}
 use Rattle.world_hosting.specs.Worlds.{Part, look_at, part_names, world_program, world_programs}
 use Rattle.world_hosting.proofs.Begun.{begins_resumed}

@@ -1,4 +1,4 @@
-use Rattle.std.proofs.Common.{ap, ◌≡◌, sym, subst, List}
+use Rattle.std.proofs.Common.{sym, subst, List}
 use Rattle.transcript.specs.declared.events.Names.{Names}
 use Rattle.world_hosting.specs.Parted.{Begins}
 use Rattle.world_hosting.proofs.telling.tell_hosting.Goals as goal
