@@ -6,3 +6,4 @@ pub mod SamePrograms
 pub mod SnapshotFiles
 pub mod Statuses
 pub mod Steps
+pub mod Unbinding
