@@ -1,10 +1,8 @@
 -- Outcomes that the calls of an unbound program met: the answers are those of the lines that were taken, in order.
-use Rattle.std.proofs.Common.{◌≡◌, ◌≤◌, ℕ, suc, List, [], ◌∷◌, ◌++◌, length, Option, Some, None, Bool, true, false, MatchBool, refl, sym, ap, ◌∙◌, subst, append-nil, arith}
-use Rattle.std.specs.Prelude.{slice_get}
-use Rattle.std.specs.Option.{unwrap_or}
+use Rattle.std.proofs.Common.{◌≡◌, ◌≤◌, ℕ, List, [], ◌∷◌, ◌++◌, length, Option, Some, None, Bool, true, false, MatchBool, refl, sym, ap, ◌∙◌, subst, arith}
 use Rattle.wa_types.specs.declared.values.Value.{Value}
 use Rattle.wa_types.specs.Validity.{same_name}
-use Rattle.wa_model.specs.declared.events.End.TheVariants.{NoAnswer, OtherImport}
+use Rattle.wa_model.specs.declared.events.End.TheVariants.{OtherImport}
 use Rattle.wa_model.specs.Blocking.{Note}
 use Rattle.wa_model.specs.Outside.{Answer, AnswerLine, Call}
 use Rattle.wa_model.specs.Plan.{Outcome, given, refused}

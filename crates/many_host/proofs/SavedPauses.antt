@@ -1,16 +1,15 @@
 -- A program that is paused, as its record has it.
-use Rattle.std.proofs.Common.{◌≡◌, ◌≤◌, ◌<◌, ◌+◌, ◌-◌, ◌*◌, ℕ, zero, suc, List, [], ◌∷◌, ◌++◌, length, drop, map, min, Option, Some, None, refl, sym, ap, ◌∙◌, subst, append-nil, length-append, arith}
+use Rattle.std.proofs.Common.{◌≡◌, ◌≤◌, ◌+◌, ◌-◌, ◌*◌, ℕ, suc, List, [], ◌∷◌, ◌++◌, length, drop, min, Option, Some, None, refl, sym, ap, ◌∙◌, subst, append-nil, length-append, arith}
 use Rattle.std.specs.Prelude.{slice_get}
 use Rattle.std.proofs.lemmas.List.{length-map}
 use Rattle.std.proofs.lemmas.Option.{same_Some, slice_get_within}
 use Rattle.std.proofs.Math.Nat.{min-eq_left}
-use Rattle.wa_types.specs.declared.values.Value.{Value}
 use Rattle.wa_types.specs.declared.values.Value.TheVariants as V
 use Rattle.wa_types.specs.Memory.{page_size, pages_of}
 use Rattle.wa_model.specs.Machine.{Leads, Ran}
 use Rattle.wa_model.specs.Store.{Store}
 use Rattle.wa_model.specs.Outside.{Answer, AnswerLine}
-use Rattle.wa_model.specs.Plan.{Entry, Outcome, given}
+use Rattle.wa_model.specs.Plan.{Entry, Outcome}
 use Rattle.wa_model.specs.Instantiation.{Opening, fails_as, opening, opens}
 use Rattle.wa_model.specs.Blocking.{Left, Note, all_left, with_outcomes}
 use Rattle.wa_model.specs.Protocol.{Held, call_again, calling, exports_of, held_begun, held_on, protocol, rewinds}
@@ -19,14 +18,13 @@ use Rattle.wa_model.specs.World as W
 use Rattle.wa_model.specs.World.{Actor, Halt, at_start, halted, halted_in}
 use Rattle.interp.specs.declared.instance.Instance.{Instance}
 use Rattle.interp.specs.Host.{code_in, store_in, waits_in}
-use Rattle.host_laws.specs.Places.{stands}
 use Rattle.host_laws.specs.Stories.{IsAt, Made, opened, opened_at, opened_from, steps_from}
-use Rattle.host_laws.specs.Stretch.{Stretch, meeting}
+use Rattle.host_laws.specs.Stretch.{meeting}
 use Rattle.snapshot_store.specs.Snapshots.{PausedParts}
 use Rattle.world_laws.specs.Snapshots.{ComesTo, IsPaused, answer_in, begun_from, halt_at, table_made, used_from}
 use Rattle.pause_host.specs.Parting.{parts_at}
 use Rattle.pause_host.specs.Programs.{FollowsAt, RunsCode, lines_left, memory_at, place_of}
-use Rattle.pause_host.specs.Views.{entry_of, left_of, paused_at, place_in}
+use Rattle.pause_host.specs.Views.{entry_of, left_of}
 use Rattle.pause_host.specs.declared.program.Program.{Program}
 use Rattle.pause_host.specs.declared.program.State.{State}
 use Rattle.pause_host.specs.declared.program.State.TheVariants.{Failed, Fresh, Live, Lost}

@@ -1,11 +1,11 @@
 -- What a host holds between events is a snapshot of the world up to its last event.
-use Rattle.std.proofs.Common.{◌≡◌, ◌≤◌, ◌<◌, ◌+◌, ◌*◌, ◌^◌, ◌⊎◌, inl, inr, ℕ, zero, suc, List, [], ◌∷◌, ◌++◌, length, map, drop, Option, Some, None, All, Bool, true, false, cond, MatchBool, slice_get, refl, sym, ap, ◌∙◌, subst, append-nil, length-append, arith}
+use Rattle.std.proofs.Common.{◌≡◌, ◌≤◌, ◌<◌, ◌+◌, ◌*◌, ◌^◌, ◌⊎◌, inl, inr, ℕ, zero, suc, List, [], ◌∷◌, ◌++◌, length, map, drop, get_or, Option, Some, None, All, Bool, true, false, cond, MatchBool, slice_get, refl, sym, ap, ◌∙◌, subst, append-nil, length-append, arith}
 use Rattle.std.specs.List.{AllZip, filter_map}
 use Rattle.std.specs.Option.{option_map}
 use Rattle.std.proofs.lemmas.List.{length-map}
 use Rattle.std.proofs.lemmas.List.Recursion.{is_count_by}
 use Rattle.std.proofs.lemmas.List.Elements.{All-cons, All-head, All-nil, All-tail}
-use Rattle.std.proofs.lemmas.Option.{same_Some, slice_get-map, slice_get_within}
+use Rattle.std.proofs.lemmas.Option.{same_Some, slice_get-get_or, slice_get-map, slice_get_within}
 use Rattle.wa_types.specs.declared.syntax.Import.{Import}
 use Rattle.wa_types.specs.declared.syntax.ImportKind.{ImportKind}
 use Rattle.wa_types.specs.declared.syntax.ImportKind.TheVariants.{Func as a_func_import, Table as a_table_import, Memory as a_memory_import, Global as a_global_import}
@@ -20,18 +20,17 @@ use Rattle.wa_model.specs.Blocking.{Note}
 use Rattle.wa_model.specs.Outside.{AnswerLine, Line}
 use Rattle.wa_model.specs.Plan.{Outcome}
 use Rattle.wa_model.specs.World as W
-use Rattle.wa_model.specs.World.{Actor, Device, answers_from, at_start, due_from, line_at, protocol_story}
+use Rattle.wa_model.specs.World.{Actor, Device, IsOver, answers_from, at_start, due_from, line_at, protocol_story}
 use Rattle.run_theory.specs.Fitting.{global_types, types_of}
 use Rattle.interp.specs.Host.{store_in}
+use Rattle.event_order.specs.Dues.{HaveEnded}
 use Rattle.event_order.specs.declared.shows.Show.{Show}
-use Rattle.event_order.specs.declared.turns.Turn.{Turn}
 use Rattle.event_order.specs.Looks.{looks_of}
 use Rattle.snapshot_store.specs.Parts.{CountsFit}
-use Rattle.snapshot_store.specs.Snapshots.{PausedParts, ProgramRecord, Snapshot, fresh, over, paused}
-use Rattle.world_laws.specs.AloneLines.{Unbound}
+use Rattle.snapshot_store.specs.Snapshots.{PausedParts, ProgramRecord, Snapshot, fresh, paused}
 use Rattle.world_laws.specs.Originals.{new_calls}
 use Rattle.world_laws.specs.Played.{ProtocolWorldUpToFrom}
-use Rattle.world_laws.specs.Snapshots.{IsPaused, IsRecordOf, IsSnapshotOf, StandsSo}
+use Rattle.world_laws.specs.Snapshots.{IsPaused, IsRecordOf, StandsSo}
 use Rattle.world_laws.proofs.Counting.{Ends}
 use Rattle.world_laws.proofs.StoryParts.{story_ends}
 use Rattle.pause_host.specs.Parting.{parts_at, parts_in}
@@ -41,7 +40,7 @@ use Rattle.pause_host.specs.declared.program.State.{State}
 use Rattle.pause_host.specs.declared.program.State.TheVariants.{Failed, Fresh, Live, Lost}
 use Rattle.pause_host.specs.declared.stages.Stage.TheVariants.{Answering, Ended, Ending, Free, Giving, Paused, Pausing}
 use Rattle.pause_host.proofs.Thawings.{all_at}
-use Rattle.many_host.specs.Turns.{Teller, TellsFrom, behind, due_of, ends_program, is_gone, since, starting, unless, IsRest}
+use Rattle.many_host.specs.Turns.{Teller, TellsFrom, due_of, ends_program, is_gone, since, unless, IsRest}
 use Rattle.many_host.specs.Notes.{OnStory}
 use Rattle.many_host.specs.Standing.{Held, Holds, IsHeld, IsTelling, LooksOut, StandingFrom, StandsAtFrom, has_gone, held_of, looks_at, on_its_way}
 use Rattle.many_host.specs.declared.turn_taking.Stage.{Stage}
@@ -55,7 +54,7 @@ use Rattle.many_host.proofs.MetLines.{LinesMet}
 use Rattle.many_host.proofs.Origins.{some_story}
 use Rattle.many_host.proofs.Places.{item}
 use Rattle.many_host.proofs.Stories.{ends_tail}
-use Rattle.many_host.proofs.Telling.{Stood, StoodTo, Storied, told_is_world_stood}
+use Rattle.many_host.proofs.Telling.{RestTo, Stood, StoodTo, Storied, told_is_world_stood}
 use Rattle.many_host.proofs.Worlds.{all_on}
 use Rattle.many_host.proofs.SavedPauses.{saved_pause}
 use Rattle.many_host.proofs.SavedRecords.{records_many}
@@ -165,6 +164,11 @@ module _ (shows : List Show) (i : ℕ) (w : W.Program) (t : Teller) (x : Hosted)
 
 -- ---- all of them
 
+-- one that is never due has ended
+told_end : (b : Bool) (due : ℕ) → (unless b due ≡ Some due → ⊥) → b ≡ true
+told_end true due never = refl
+told_end false due never = absurd (never refl)
+
 record_at : (dues : List (Option ℕ)) (xs : List Hosted) (i : ℕ) (d : Option ℕ) (x : Hosted) → slice_get dues i ≡ Some d → slice_get xs i ≡ Some x
     → slice_get (records_for dues xs) i ≡ Some (record_for d x)
 record_at [] xs i d x ed ex = cc
@@ -195,7 +199,9 @@ module _ (begun : ℕ) (programs : List W.Program) (detaches : List Detach) (ds 
   many = ap (λ (l : List (Option ℕ)). length l) s.dues ∙ length-map s.tellers due_of ∙ s.wide ∙ sym s.as_many
 
   abbrev Reached : ℕ → Type 0
-  Reached number = (world : ProtocolWorldUpToFrom begun programs detaches ds number lines ds') × StoodTo NoMore s.tellers world.actors world.now × (length world.now ≡ length s.tellers)
+  Reached number =
+      (world : ProtocolWorldUpToFrom begun programs detaches ds number lines ds') × StoodTo NoMore s.tellers world.actors world.now × RestTo s.tellers world.now
+      × (length world.now ≡ length s.tellers)
 
   reached : Reached h.begun
   reached =
@@ -220,15 +226,23 @@ module _ (begun : ℕ) (programs : List W.Program) (detaches : List Detach) (ds 
 
   no_more : (i : ℕ) (t : Teller) (a : Actor) → slice_get s.tellers i ≡ Some t → slice_get reached.0.actors i ≡ Some a → a.outcomes ≡ t.met
   no_more i t a et ea =
-      let n = item reached.0.now i (omega (arith, slice_get_within s.tellers i t et, reached.2)) in
+      let n = item reached.0.now i (omega (arith, slice_get_within s.tellers i t et, reached.3)) in
       let stood = reached.1 i t a n.0 et ea n.1 in
       stood.outcomes ∙ ap (λ (os : List Outcome). t.met ++ os) stood.later ∙ append-nil t.met
+
+  all_over : HaveEnded (map due_of s.tellers) → IsOver reached.0.now
+  all_over ended k d within =
+      let n = get_or reached.0.now k d in
+      let t = item s.tellers k (omega (arith, within, reached.3)) in
+      let is : t.0.has_ended ≡ true = told_end t.0.has_ended t.0.due (λ e. ended k t.0.due (slice_get-map due_of s.tellers k ∙ ap (option_map due_of) t.1 ∙ ap (λ (o : Option ℕ). Some o) e)) in
+      subst (λ (b : Bool). IsRest b n.notes) is (reached.2 k t.0 n t.1 (slice_get-get_or reached.0.now k d within))
 
   saved : IsSaved begun programs detaches ds lines ds' s.tellers snapshot
   saved = record {
     world = reached.0;
     is = record { events = refl; count = records_many h.dues h.programs many ∙ s.as_many; each = each };
     met = no_more;
+    over = all_over;
   }
 
 pub is_saved : (begun : ℕ) (programs : List W.Program) (detaches : List Detach) (ds ds' : List Device) (lines : List Line) (h : Host) (told : HostToldFrom begun programs detaches ds lines h ds')

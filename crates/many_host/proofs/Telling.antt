@@ -309,7 +309,11 @@ pub record Stood (Later : List Outcome → Type 0) (t : Teller) (a n : Actor) : 
   pub is_rest : IsRest t.has_ended n.notes
   pub later : Later n.outcomes
 
--- so does each
+-- nothing is still to come of those that have ended
+abbrev pub RestTo : List Teller → (now : List Actor) → Type 0
+RestTo tellers now = (i : ℕ) (t : Teller) (n : Actor) → slice_get tellers i ≡ Some t → slice_get now i ≡ Some n → IsRest t.has_ended n.notes
+
+-- each stands so
 abbrev pub StoodTo : (List Outcome → Type 0) → List Teller → (starts now : List Actor) → Type 0
 StoodTo Later tellers starts now =
     (i : ℕ) (t : Teller) (a n : Actor) → slice_get tellers i ≡ Some t → slice_get starts i ≡ Some a → slice_get now i ≡ Some n → Stood Later t a n
@@ -330,6 +334,11 @@ stood_to Later programs tellers p starts now is same i t a n et ea en =
       later = p.later i n there;
     }
 
+rest_to : (Later : List Outcome → Type 0) (programs : List Program) (tellers : List Teller) (p : Prepared Later programs tellers) (now : List Actor) → now ≡ p.actors → RestTo tellers now
+rest_to Later programs tellers p now is i t n et en =
+    let h = item p.wholes i (omega (arith, slice_get_within tellers i t et, p.fore.wide)) in
+    (p.fore.each i t h.0 n et h.1 (ap (λ (l : List Actor). slice_get l i) (sym is) ∙ en)).is_rest
+
 met_to : (Later : List Outcome → Type 0) (programs : List Program) (tellers : List Teller) (p : Prepared Later programs tellers) (starts now : List Actor) → now ≡ p.actors
     → ((i : ℕ) (h : Whole) (a : Actor) → slice_get p.wholes i ≡ Some h → slice_get starts i ≡ Some a → (a.outcomes ≡ h.outcomes) × (a.notes ≡ h.notes)) → MetTo tellers starts now
 met_to Later programs tellers p starts now is same i t a n et ea en = (stood_to Later programs tellers p starts now is same i t a n et ea en).outcomes
@@ -345,11 +354,11 @@ told_is_world_met begun programs detaches ds ds' number lines tellers tells all 
 -- .. and each actor stands where the program does
 pub told_is_world_stood : (Later : List Outcome → Type 0) (begun : ℕ) (programs : List Program) (detaches : List Detach) (ds ds' : List Device) (number : ℕ) (lines : List Line)
     (tellers : List Teller) → TellsFrom begun programs detaches ds number lines tellers ds' → AllZip (Storied Later) programs tellers
-    → (world : ProtocolWorldUpToFrom begun programs detaches ds (behind begun number) lines ds') × StoodTo Later tellers world.actors world.now × (length world.now ≡ length tellers)
+    → (world : ProtocolWorldUpToFrom begun programs detaches ds (behind begun number) lines ds') × StoodTo Later tellers world.actors world.now × RestTo tellers world.now × (length world.now ≡ length tellers)
 told_is_world_stood Later begun programs detaches ds ds' number lines tellers tells all =
     let p = prepared Later programs tellers all in
     let on = reaches begun programs detaches p.wholes p.stories number ds ds' lines tellers p.actors tells p.fore in
-    (on.0, stood_to Later programs tellers p on.0.actors on.0.now on.1 on.2, ap (λ (l : List Actor). length l) on.1 ∙ p.fore.long)
+    (on.0, stood_to Later programs tellers p on.0.actors on.0.now on.1 on.2, rest_to Later programs tellers p on.0.now on.1, ap (λ (l : List Actor). length l) on.1 ∙ p.fore.long)
 
 pub told_is_world : ToldIsWorld
 told_is_world begun programs detaches ds ds' number lines tellers tells all = (told_is_world_met begun programs detaches ds ds' number lines tellers tells all).0

@@ -1,16 +1,17 @@
 -- What a host holds between events, as a snapshot.
-use Rattle.std.specs.Prelude.{◌≡◌, ◌*◌, ℕ, List, [], ◌∷◌, length, Option, Some, None, slice_get}
+use Rattle.std.specs.Prelude.{◌≡◌, ◌*◌, ℕ, List, [], ◌∷◌, length, map, Option, Some, None, slice_get}
 use Rattle.wa_types.specs.Memory.{page_size}
 use Rattle.wa_model.specs.declared.answers.Detach.{Detach}
 use Rattle.wa_model.specs.Outside.{Line}
-use Rattle.wa_model.specs.World.{Actor, Device, Program, at_start}
+use Rattle.wa_model.specs.World.{Actor, Device, IsOver, Program, at_start}
+use Rattle.event_order.specs.Dues.{HaveEnded}
 use Rattle.pause_host.specs.Parting.{parts_in}
 use Rattle.pause_host.specs.Programs.{memory_in}
 use Rattle.snapshot_store.specs.Snapshots.{PausedParts, ProgramRecord, Snapshot, fresh, over, paused}
 use Rattle.world_laws.specs.AloneLines.{Unbound}
 use Rattle.world_laws.specs.Played.{ProtocolWorldUpToFrom}
 use Rattle.world_laws.specs.Snapshots.{IsSnapshotOf}
-use Rattle.many_host.specs.Turns.{Teller}
+use Rattle.many_host.specs.Turns.{Teller, due_of}
 use Rattle.many_host.specs.declared.hosted.Hosted.{Hosted}
 use Rattle.many_host.specs.declared.turn_taking.Turns.{Turns}
 
@@ -53,8 +54,9 @@ abbrev pub MeetNoMore : List Teller → List Actor → Type 0
 MeetNoMore tellers actors = (i : ℕ) (t : Teller) (a : Actor) → slice_get tellers i ≡ Some t → slice_get actors i ≡ Some a → a.outcomes ≡ t.met
 
 -- The snapshot is that of a run of the world up to its last event, which makes these lines and leaves these devices, and whose programs' calls
--- have met no more than the tellers.
+-- have met no more than the tellers. Once all of them have ended the world is over.
 pub record IsSaved (begun : ℕ) (programs : List Program) (detaches : List Detach) (ds : List Device) (lines : List Line) (ds' : List Device) (tellers : List Teller) (s : Snapshot) : Type 0 where
   pub world : ProtocolWorldUpToFrom begun programs detaches ds s.events lines ds'
   pub is : IsSnapshotOf programs world.actors world.now s.events s
   pub met : MeetNoMore tellers world.actors
+  pub over : HaveEnded (map due_of tellers) → IsOver world.now

@@ -1,7 +1,7 @@
 use Rattle.std.proofs.Common.{None, arith, get_or, map}
 use Rattle.std.proofs.lemmas.Option.{slice_get-get_or}
 use Rattle.snapshot_store.specs.Views.{record_of}
-use Rattle.many_host.proofs.SavedRecords.{pages_next, records_all, records_next}
+use Rattle.many_host.proofs.SavedRecords.{pages_next, records_next}
 use Rattle.many_host.proofs.TurnPlaces.{stands_at}
 use Rattle.many_host.proofs.saving.saved_records.Goals as goal
 

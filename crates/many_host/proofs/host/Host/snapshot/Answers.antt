@@ -1,7 +1,7 @@
-use Rattle.std.proofs.Common.{◌≡◌, ◌≤◌, ◌∙◌, All, List, Option, ℕ, arith, ap, length, map, subst, sym}
+use Rattle.std.proofs.Common.{◌≡◌, ◌∙◌, All, List, arith, ap, length, map, subst, sym}
 use Rattle.std.proofs.lemmas.List.{length-map}
 use Rattle.snapshot_store.specs.Parts.{CountsFit}
-use Rattle.snapshot_store.specs.Snapshots.{ProgramRecord, Snapshot}
+use Rattle.snapshot_store.specs.Snapshots.{ProgramRecord}
 use Rattle.snapshot_store.specs.Views.{record_of, snapshot_of}
 use Rattle.many_host.specs.Saving.{HasItsPages, IsSaved, records_for, saved_of}
 use Rattle.many_host.specs.Standing.{held_of}
