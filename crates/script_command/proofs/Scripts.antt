@@ -1,6 +1,6 @@
 -- A script that was read, and its programs.
-use Rattle.std.proofs.Common.{◌≡◌, ◌⊎◌, ◌≤◌, inl, inr, ℕ, List, [], ◌∷◌, length, map, Option, refl, sym, ap, ◌∙◌, subst, arith}
-use Rattle.std.specs.Prelude.{All}
+use Rattle.std.proofs.Common.{◌≡◌, ◌⊎◌, ◌≤◌, inl, inr, ℕ, List, [], ◌∷◌, length, map, Option, Result, Ok, Err, refl, sym, ap, ◌∙◌, subst, arith}
+use Rattle.std.specs.Prelude.{All, IfOk}
 use Rattle.std.proofs.lemmas.List.{length-map}
 use Rattle.vault_port.specs.Files.{Files, CannotRead}
 use Rattle.wa_model.specs.declared.answers.Detach.{Detach}
@@ -18,37 +18,46 @@ use Rattle.script_command.specs.declared.opening.OpenFault.{OpenFault}
 use Rattle.script_command.specs.declared.opening.OpenFault.TheVariants.{Memory, Read, Script as a_script, Module as a_module, Rule as a_rule}
 use Rattle.script_command.proofs.Choices.{scripts_choose}
 use Rattle.script_command.specs.Playing.{HasChoice, HasScript, IsReached, Reaches, detach_for}
-use Rattle.script_command.specs.Views.{AreOpened, Blames, BlamesNext, BlamesPrograms, CanPlay, IsUnread, Opens}
+use Rattle.script_command.specs.Views.{AreOpened, Blames, BlamesNext, BlamesPrograms, BlamesScript, CanPlay, IsUnread, Opens}
 use Rattle.script_command.proofs.Openings.{next_blamed, text_in, texts_of_parts}
 
 -- ---- what is opened
 
-same_detaches : (xs : List Detach) → map detach_for (map detach_of xs) ≡ xs
+pub same_detaches : (xs : List Detach) → map detach_for (map detach_of xs) ≡ xs
 same_detaches [] = refl
 same_detaches (x ∷ xs) = ap (λ (ys : List Detach). x ∷ ys) (same_detaches xs)
 
-module _ (files : Option Files) (name : List ℕ) (whole : ScriptValue) (read : (bytes : List ℕ) × Holds files name bytes × IsScript bytes (script_of whole)) where
-  pub has_script : HasScript files name (script_of whole)
-  has_script = record { bytes = read.0; holds = read.1; script = read.2 }
+pub has_script : (files : Option Files) (name : List ℕ) (whole : Script) → (bytes : List ℕ) × Holds files name bytes × IsScript bytes whole → HasScript files name whole
+has_script files name whole read = record { bytes = read.0; holds = read.1; script = read.2 }
 
+-- the bytes of a script that a file holds
+pub read_script : (files : Option Files) (name : List ℕ) (whole : Script) → HasScript files name whole → (bytes : List ℕ) × IsScript bytes whole
+read_script files name whole has = (has.bytes, has.script)
+
+-- what is answered has both
+pub opened_both : {T E : Type 0} (r : Result T E) (P Q : T → Type 0) → IfOk r P → IfOk r Q → IfOk r (λ x. P x × Q x)
+opened_both (Ok x) P Q p q = (p, q)
+opened_both (Err e) P Q p q = tt
+
+module _ (whole : ScriptValue) (read : (bytes : List ℕ) × IsScript bytes (script_of whole)) where
   pub few_texts : length whole.programs.items ≤ 16
   few_texts =
-      let few = few_programs read.0 (script_of whole) read.2 in
+      let few = few_programs read.0 (script_of whole) read.1 in
       let n = length-map whole.programs.items program_of in
       omega (arith, few, n)
 
   pub texts_fit : ScriptsFit → All FitsPlan (map program_of whole.programs.items)
-  texts_fit law = law read.0 (script_of whole) read.2.few read.2.text
+  texts_fit law = law read.0 (script_of whole) read.1.few read.1.text
 
   pub texts_choose : All HasChoice (map program_of whole.programs.items)
-  texts_choose = scripts_choose read.0 (script_of whole) read.2.text
+  texts_choose = scripts_choose read.0 (script_of whole) read.1.text
 
-  pub opens : (way : Way) (mid : Option Files) (o : Opened) → mid ≡ files → o.detaches.items ≡ whole.detaches.items
-      → AreOpened way mid (map program_of whole.programs.items) o.programs → Opens way files name o
-  opens way mid o same taken are =
+  pub opens : (files : Option Files) (name : List ℕ) → HasScript files name (script_of whole) → (way : Way) (mid : Option Files) (o : Opened) → mid ≡ files
+      → o.detaches.items ≡ whole.detaches.items → AreOpened way mid (map program_of whole.programs.items) o.programs → Opens way files name o
+  opens files name has way mid o same taken are =
       let here : AreOpened way files (map program_of whole.programs.items) o.programs = subst (λ (all : Option Files). AreOpened way all (map program_of whole.programs.items) o.programs) same are in
       record {
-        play = record { whole = script_of whole; of_script = has_script; parts = _; stages = here.stages };
+        play = record { whole = script_of whole; of_script = has; parts = _; stages = here.stages };
         parts_are = refl;
         detaches_are = same_detaches whole.detaches.items ∙ sym taken;
       }
@@ -66,12 +75,19 @@ module _ (files : Option Files) (name : List ℕ) (whole : ScriptValue) (read : 
 -- ---- why it isn't
 
 module _ (way : Way) (files : Option Files) (name : List ℕ) (f h : ℕ) where
-  pub unread_script : (fault : OpenFault) → IsUnread name fault → CannotRead files name f h → Blames way files f h name fault
+  pub unread_script : (fault : OpenFault) → IsUnread name fault → CannotRead files name f h → BlamesScript files f h name fault
   unread_script Memory is why = tt
-  unread_script (Read read) is why = (inl is, subst (λ (n : List ℕ). CannotRead files n f h) (sym is) why)
+  unread_script (Read read) is why = (is, why)
   unread_script (a_script kind) is why = absurd is
   unread_script (a_module n kind) is why = absurd is
   unread_script (a_rule line rule) is why = absurd is
+
+  pub no_script_blamed : (fault : OpenFault) → BlamesScript files f h name fault → Blames way files f h name fault
+  no_script_blamed Memory b = tt
+  no_script_blamed (Read read) b = (inl b.0, subst (λ (n : List ℕ). CannotRead files n f h) (sym b.0) b.1)
+  no_script_blamed (a_script kind) b = b
+  no_script_blamed (a_module n kind) b = absurd b
+  no_script_blamed (a_rule line rule) b = absurd b
 
   reaches : (whole : Script) → HasScript files name whole → (number : ℕ) (t : ProgramText) → IsReached way files whole.programs number t → Reaches way files name number t
   reaches whole has number t is = record { whole = whole; of_script = has; reached = is }

@@ -8,6 +8,8 @@ use Rattle.wa_types.specs.declared.syntax.Module.{Module as ModuleValue}
 use Rattle.script_model.specs.Script.{ProgramText, ScriptFault, breaks}
 use Rattle.transcript.specs.Printing.{refusal_of}
 use Rattle.transcript.specs.declared.refusals.RefusalKind.{RefusalKind}
+use Rattle.script_setup.specs.Scripts.{IsNoScript}
+use Rattle.wasm_reader.specs.Held.{Holds}
 use Rattle.script_setup.specs.declared.file_fault.FileFault.{FileFault}
 use Rattle.script_setup.specs.declared.file_fault.FileFault.TheVariants as F
 use Rattle.transform_command.specs.SourceRefusals.{cause_of}
@@ -110,6 +112,13 @@ BlamesNext way files faults faults' number t (Script kind) = ⊥
 -- .. why the first of these that isn't can't be
 abbrev pub BlamesPrograms : Way → Option Files → (faults faults' : ℕ) → List ProgramText → OpenFault → Type 0
 BlamesPrograms way files faults faults' texts fault = (number : ℕ) × (t : ProgramText) × IsReached way files texts number t × BlamesNext way files faults faults' number t fault
+
+-- why there is no script in the file
+abbrev pub BlamesScript : Option Files → (faults faults' : ℕ) → (name : List ℕ) → OpenFault → Type 0
+BlamesScript files faults faults' name Memory = Unit {0}
+BlamesScript files faults faults' name (Read read) = (read ≡ name) × CannotRead files name faults faults'
+BlamesScript files faults faults' name (Script kind) = (bytes : List ℕ) × Holds files name bytes × IsNoScript bytes (refusal_of kind)
+BlamesScript files faults faults' name _ = ⊥
 
 -- why a script isn't opened
 abbrev pub Blames : Way → Option Files → (faults faults' : ℕ) → (name : List ℕ) → OpenFault → Type 0

@@ -30,10 +30,13 @@ mod verdicts;
 mod way;
 
 pub use laws::hosts_are_of_originals;
+pub use opening::{OpenFault, Opened, open_whole, read_whole};
 pub use originals_run::{
     bounded_programs_are_whole, played_faults_are_counted, runs_are_of_originals,
 };
 pub use playing::play_script;
+pub use programs::{Planned, Programs};
+pub use staging::stage_all;
 pub use transform_command::run_transform;
 pub use verdicts::{causes_are_one, played_is_not_refused};
 pub use way::Way;

@@ -1,11 +1,15 @@
 //! A script, opened with all its programs, or why it is not played.
 
-ghost use Rattle.std.specs.Prelude.{◌≡◌, ◌≤◌, IfOk, OnOk};
+ghost use Rattle.std.specs.Prelude.{◌≡◌, ◌≤◌, ℕ, List, IfOk, OnOk, map};
 ghost use Rattle.std.specs.Result.{IfErr};
-ghost use Rattle.script_command.specs.Views.{Blames, CanPlay, CountsFor, Opens};
+ghost use Rattle.script_reader.specs.Views.{program_of, script_of};
+ghost use Rattle.script_setup.specs.Scripts.{IsScript};
+ghost use Rattle.script_command.specs.Playing.{HasScript};
+ghost use Rattle.script_command.specs.Views.{AreOpened, Blames, BlamesPrograms, BlamesScript, CanPlay, CountsFor, Opens};
 
 use crate::programs::{Programs, open_programs, unread};
 use crate::way::Way;
+use script_reader::Script;
 use script_setup::{FileFault, fetch_script};
 use std::alloc::{AllocError, Global};
 use thiserror::Error;
@@ -69,13 +73,55 @@ pub fn open_script<V: Vault>(
     ensures faults { V.fetch_faults vault.old ≤ V.fetch_faults vault.new }
     ensures saves { V.save_faults vault.new ≡ V.save_faults vault.old }
 {
+    match read_whole(alloc, vault, script) {
+        Ok(whole) => open_whole(alloc, vault, way, whole),
+        Err(fault) => Err(fault),
+    }
+}
+
+/// The script in a file, or why there is none. No file changes.
+pub fn read_whole<V: Vault>(
+    alloc: Global,
+    vault: &mut V,
+    script: &str,
+) -> Result<Script, OpenFault>
+    ensures script { IfOk result (λ whole. HasScript (V.files vault.old) script.now (script_of whole)) }
+    ensures refused { IfErr result (λ fault. BlamesScript (V.files vault.old) (V.fetch_faults vault.old) (V.fetch_faults vault.new) script.now fault) }
+    ensures kept { V.files vault.new ≡ V.files vault.old }
+    ensures stays { OnOk result (V.fetch_faults vault.new ≡ V.fetch_faults vault.old) }
+    ensures counts { IfErr result (CountsFor (V.fetch_faults vault.old) (V.fetch_faults vault.new)) }
+    ensures faults { V.fetch_faults vault.old ≤ V.fetch_faults vault.new }
+    ensures saves { V.save_faults vault.new ≡ V.save_faults vault.old }
+{
+    match fetch_script(alloc, vault, script) {
+        Ok(whole) => Ok(whole),
+        Err(FileFault::Memory) => Err(OpenFault::Memory),
+        Err(FileFault::Read) => Err(unread(alloc, script)),
+        Err(FileFault::Refused(kind)) => Err(OpenFault::Script(kind)),
+    }
+}
+
+/// The programs of a script that was read, in order, and the devices that it takes out; or why the first program that isn't set up can't
+/// be. No file changes.
+pub fn open_whole<V: Vault>(
+    alloc: Global,
+    vault: &mut V,
+    way: Way,
+    whole: Script,
+) -> Result<Opened, OpenFault>
+    requires { (bytes : List ℕ) × IsScript bytes (script_of whole) }
+    ensures opened { IfOk result (λ o. AreOpened way (V.files vault.old) (map program_of whole.programs.items) o.programs) }
+    ensures detaches { IfOk result (λ o. o.detaches.items ≡ whole.detaches.items) }
+    ensures plays { IfOk result CanPlay }
+    ensures refused { IfErr result (λ fault. BlamesPrograms way (V.files vault.old) (V.fetch_faults vault.old) (V.fetch_faults vault.new)
+        (map program_of whole.programs.items) fault) }
+    ensures kept { V.files vault.new ≡ V.files vault.old }
+    ensures stays { OnOk result (V.fetch_faults vault.new ≡ V.fetch_faults vault.old) }
+    ensures counts { IfErr result (CountsFor (V.fetch_faults vault.old) (V.fetch_faults vault.new)) }
+    ensures faults { V.fetch_faults vault.old ≤ V.fetch_faults vault.new }
+    ensures saves { V.save_faults vault.new ≡ V.save_faults vault.old }
+{
     scripts_fit();
-    let whole = match fetch_script(alloc, vault, script) {
-        Ok(whole) => whole,
-        Err(FileFault::Memory) => return Err(OpenFault::Memory),
-        Err(FileFault::Read) => return Err(unread(alloc, script)),
-        Err(FileFault::Refused(kind)) => return Err(OpenFault::Script(kind)),
-    };
     let detaches = whole.detaches;
     match open_programs(alloc, vault, way, whole.programs) {
         Ok(programs) => Ok(Opened { programs, detaches }),

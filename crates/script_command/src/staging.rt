@@ -11,7 +11,7 @@ use wasm_validate::Valid;
 use world_hosting::{Staged, stage_program};
 
 /// The programs that are planned over these modules, of which none has told anything.
-pub(crate) fn stage_all<'m>(
+pub fn stage_all<'m>(
     alloc: Global,
     modules: &'m [Valid],
     planned: Vec<Planned>,

@@ -1,32 +1,30 @@
 -- The programs of a script, or why they aren't opened.
-use Rattle.std.proofs.Common.{ℕ, refl, subst}
+use Rattle.std.proofs.Common.{ℕ, subst}
+use Rattle.std.proofs.lemmas.Result.{IfErr-weaker, IfOk-weaker}
 use Rattle.script_reader.specs.Views.{script_of}
 use Rattle.script_command.specs.Views.{CountsFor}
-use Rattle.script_command.proofs.Scripts.{few_texts, has_script, opens, plays, script_blamed, texts_choose, texts_fit}
+use Rattle.script_command.proofs.Scripts.{no_script_blamed, opened_both, opens, read_script, script_blamed}
 use Rattle.script_command.proofs.opening.open_script.Goals as goal
 
-pub open_programs-requires-clause-few : goal.open_programs-requires-clause-few
-open_programs-requires-clause-few g c = few_texts (g.V.Vault.files c.args.vault.now) c.args.script.now c.in-Ok.whole c.in-Ok.ensures.script
+pub open_whole-requires : goal.open_whole-requires
+open_whole-requires g c = read_script _ _ _ c.in-Ok.ensures.script
 
-pub open_programs-requires-clause-fits : goal.open_programs-requires-clause-fits
-open_programs-requires-clause-fits g c = texts_fit (g.V.Vault.files c.args.vault.now) c.args.script.now c.in-Ok.whole c.in-Ok.ensures.script c.scripts_fit.ensures
+pub returns-in-Ok-clause-opened : goal.returns-in-Ok-clause-opened
+returns-in-Ok-clause-opened g c =
+    IfOk-weaker c.open_whole.result _ _
+    (λ o h. opens c.in-Ok.whole (read_script _ _ _ c.in-Ok.ensures.script) _ _ c.in-Ok.ensures.script c.args.way _ o c.read_whole.ensures.kept h.1 h.0)
+    (opened_both c.open_whole.result _ _ c.open_whole.ensures.opened c.open_whole.ensures.detaches)
 
-pub returns-in-Ok-open_programs-clause-opened : goal.returns-in-Ok-open_programs-clause-opened
-returns-in-Ok-open_programs-clause-opened g c =
-    opens _ _ c.in-Ok.whole c.in-Ok.ensures.script c.args.way _
-    (record { programs = c.in-Ok-open_programs.programs; detaches = c.in-Ok.whole.detaches }) c.fetch_script.ensures.kept refl c.in-Ok-open_programs.ensures.opened
+pub returns-in-Ok-clause-refused : goal.returns-in-Ok-clause-refused
+returns-in-Ok-clause-refused g c =
+    IfErr-weaker c.open_whole.result _ _
+    (λ fault h. script_blamed c.args.way (g.V.Vault.files c.args.vault.now) c.args.script.now (g.V.Vault.fetch_faults c.args.vault.now) _ _ _ (script_of c.in-Ok.whole) fault
+    c.read_whole.ensures.kept c.in-Ok.ensures.stays c.in-Ok.ensures.script h)
+    c.open_whole.ensures.refused
 
-pub returns-in-Ok-open_programs-clause-plays : goal.returns-in-Ok-open_programs-clause-plays
-returns-in-Ok-open_programs-clause-plays g c = plays _ _ c.in-Ok.whole c.in-Ok.ensures.script c.args.way _ _ c.in-Ok-open_programs.ensures.opened
+pub returns-in-Ok-clause-counts : goal.returns-in-Ok-clause-counts
+returns-in-Ok-clause-counts g c =
+    IfErr-weaker c.open_whole.result _ _ (λ fault h. subst (λ (f : ℕ). CountsFor f _ fault) c.in-Ok.ensures.stays h) c.open_whole.ensures.counts
 
 pub returns-in-Err-clause-refused : goal.returns-in-Err-clause-refused
-returns-in-Err-clause-refused g c =
-    script_blamed c.args.way (g.V.Vault.files c.args.vault.now) c.args.script.now (g.V.Vault.fetch_faults c.args.vault.now) _ _ _ (script_of c.in-Ok.whole) c.in-Err.fault
-    c.fetch_script.ensures.kept (c.in-Ok.ensures.stays (λ e. cc)) (has_script _ _ c.in-Ok.whole c.in-Ok.ensures.script) c.in-Err.ensures.refused
-
-pub open_programs-requires-clause-choices : goal.open_programs-requires-clause-choices
-open_programs-requires-clause-choices g c = texts_choose (g.V.Vault.files c.args.vault.now) c.args.script.now c.in-Ok.whole c.in-Ok.ensures.script
-
-pub returns-in-Err-clause-counts : goal.returns-in-Err-clause-counts
-returns-in-Err-clause-counts g c =
-    subst (λ (f : ℕ). CountsFor f (g.V.Vault.fetch_faults c.open_programs.new.vault) c.in-Err.fault) (c.in-Ok.ensures.stays (λ e. cc)) c.in-Err.ensures.counts
+returns-in-Err-clause-refused g c = no_script_blamed c.args.way _ _ _ _ c.in-Err.fault c.in-Err.ensures.refused

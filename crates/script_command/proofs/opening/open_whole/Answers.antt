@@ -1,0 +1,15 @@
+-- The programs of a script that was read.
+use Rattle.script_command.proofs.Scripts.{few_texts, plays, texts_choose, texts_fit}
+use Rattle.script_command.proofs.opening.open_whole.Goals as goal
+
+pub open_programs-requires-clause-few : goal.open_programs-requires-clause-few
+open_programs-requires-clause-few g c = few_texts c.args.whole c.requires
+
+pub open_programs-requires-clause-fits : goal.open_programs-requires-clause-fits
+open_programs-requires-clause-fits g c = texts_fit c.args.whole c.requires c.scripts_fit.ensures
+
+pub open_programs-requires-clause-choices : goal.open_programs-requires-clause-choices
+open_programs-requires-clause-choices g c = texts_choose c.args.whole c.requires
+
+pub returns-in-Ok-clause-plays : goal.returns-in-Ok-clause-plays
+returns-in-Ok-clause-plays g c = plays c.args.whole c.requires c.args.way _ _ c.in-Ok.ensures.opened

@@ -1,0 +1,6 @@
+pub mod Answering
+pub mod Ending
+pub mod Openings
+pub mod SnapshotFiles
+pub mod Statuses
+pub mod Steps

@@ -1,0 +1,6 @@
+pub mod Answers
+pub mod Calls
+pub mod Ends
+pub mod Scripts
+pub mod Telling
+pub mod Views
