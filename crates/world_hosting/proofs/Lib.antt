@@ -10,10 +10,12 @@ pub mod Ledgers
 pub mod Originals
 pub mod Printed
 pub mod PutBack
+pub mod PutBackAll
 pub mod ScriptPlans
 pub mod ScriptPrograms
 pub mod SetUp
 pub mod Starts
 pub mod StoryEnds
+pub mod Thawed
 pub mod TurnCounts
 pub mod Values

@@ -17,26 +17,27 @@ use Rattle.wa_model.specs.Plan.{Outcome}
 use Rattle.wa_model.specs.View.{line_of}
 use Rattle.script_model.specs.Transcript as T
 use Rattle.script_model.specs.Transcript.{event_line, event_lines, last_line, names_at}
-use Rattle.wa_model.specs.World.{Actor, Device, Program, ProtocolWorld, StartsHeld}
+use Rattle.wa_model.specs.World.{Actor, Device, Program, ProtocolWorldFrom, StartsHeld}
 use Rattle.device_port.specs.declared.devices.Devices.{Devices}
 use Rattle.device_port.specs.Listed.{of_all}
 use Rattle.event_order.specs.Dues.{HaveEnded}
 use Rattle.event_order.specs.Left.{Counted}
-use Rattle.many_host.specs.ToldNotes.{BeginsWorld}
+use Rattle.many_host.specs.ToldNotes.{BeginsWorldFrom}
 use Rattle.many_host.specs.Calls.{AreLeft, BegunBy, BegunNext, TakesCall, devices_of, left_at}
 use Rattle.many_host.specs.declared.turn_taking.Stage.{Stage}
 use Rattle.many_host.specs.declared.turn_taking.Stage.TheVariants as S
-use Rattle.many_host.specs.Standing.{LooksOut, StandsAt, TellsLine, held_of}
-use Rattle.many_host.specs.Turns.{HaveMet, MeetMore, Teller, Tells as TellsTurns, starting}
+use Rattle.many_host.specs.Standing.{LooksOut, StandsAtFrom, TellsLineFrom, held_of}
+use Rattle.many_host.specs.Turns.{HaveMet, MeetMore, Teller, TellsFrom, behind, since, starting}
 use Rattle.many_host.proofs.Counts.{counted_devices}
 use Rattle.many_host.specs.declared.host.Host.{Host}
-use Rattle.many_host.specs.Hosts.{HostNext, HostTold, follows, has_ended, memory_of}
+use Rattle.many_host.specs.Hosts.{HostNextFrom, HostToldFrom, follows, has_ended, memory_of}
 use Rattle.many_host.proofs.Places.{item}
-use Rattle.many_host.proofs.Worlds.{told_begins_met}
+use Rattle.many_host.proofs.Numbers.{none_since}
+use Rattle.many_host.proofs.Worlds.{told_begins_met_from}
 use Rattle.transcript.specs.declared.events.Names.{Names}
 use Rattle.transcript.specs.Printing.{names_of}
 use Rattle.world_hosting.specs.Counts.{AreMet, IsBegunBy, Took, counted, met_by, turns_at}
-use Rattle.world_hosting.specs.Worlds.{AreBegun, AreEnded, AreTold, IsLeft, Part, PrintsPart, Tells, TellsPart, part_names, turn_count, world_program, world_programs}
+use Rattle.world_hosting.specs.Worlds.{AreBegunFrom, AreEndedFrom, AreToldFrom, IsLeft, Part, PrintsPart, TellsPartFrom, TellsWorldFrom, part_names, turn_count}
 use Rattle.world_hosting.proofs.TurnCounts.{begun_next, turns_begun}
 use Rattle.transcript.proofs.LineTexts.{becomes_by, becomes_same, line_more, then_less, then_printed}
 
@@ -84,11 +85,6 @@ took_on programs detaches begun ended last now (x ∷ lines) (ms ∷ met) l os o
 took_on programs detaches begun ended last now [] (ms ∷ met) l os old mid new t is c = absurd t
 took_on programs detaches begun ended last now (x ∷ lines) [] l os old mid new t is c = absurd t
 
-from_none : (begun n now : ℕ) (e : Event) → IsBegunBy begun n e now → IsBegunBy begun (0 + n) e now
-from_none begun n now e is =
-    let same : n ≡ 0 + n = omega arith in
-    subst (λ (k : ℕ). IsBegunBy begun k e now) same is
-
 -- ---- what calls met
 
 met_more : (i : ℕ) (lines : List Line) (met : List (List Outcome)) (l : Line) (os : List Outcome) → length met ≡ length lines
@@ -130,17 +126,20 @@ starting_met programs i t at = by (slice_get programs i) (sym (slice_get-map sta
   by (Some w) e = ap (λ (x : Teller). x.met) (sym (same_Some (starting w) t e))
 
 -- before any event none has met any
-pub none_met : (programs : List Program) (detaches : List Detach) (ds : List Device) (h : Host) (ds' : List Device) (told : HostTold programs detaches ds [] h ds') → h.turns.begun ≡ 0
-    → (i : ℕ) (t : Teller) → slice_get told.tellers i ≡ Some t → t.met ≡ []
-none_met programs detaches ds h ds' told none i t et = by h.turns.stage told.at where
-  first : (lines : List Line) → TellsTurns programs detaches ds h.turns.begun lines told.tellers ds' → t.met ≡ []
+pub none_met : (earlier : ℕ) (programs : List Program) (detaches : List Detach) (ds : List Device) (h : Host) (ds' : List Device) (told : HostToldFrom earlier programs detaches ds [] h ds')
+    → h.turns.begun ≡ earlier → (i : ℕ) (t : Teller) → slice_get told.tellers i ≡ Some t → t.met ≡ []
+none_met earlier programs detaches ds h ds' told none i t et = by h.turns.stage told.at where
+  none_own : since earlier h.turns.begun ≡ 0
+  none_own = ap (since earlier) none ∙ none_since earlier
+
+  first : (lines : List Line) → TellsFrom earlier programs detaches ds (since earlier h.turns.begun) lines told.tellers ds' → t.met ≡ []
   first lines at =
-      let start = subst (λ (n : ℕ). TellsTurns programs detaches ds n lines told.tellers ds') none at in
+      let start = subst (λ (n : ℕ). TellsFrom earlier programs detaches ds n lines told.tellers ds') none_own at in
       starting_met programs i t (ap (λ (l : List Teller). slice_get l i) (sym start.1) ∙ et)
 
-  by : (stage : Stage) → StandsAt memory_of programs detaches ds [] told.tellers (held_of h.turns) ds' stage → t.met ≡ []
+  by : (stage : Stage) → StandsAtFrom earlier memory_of programs detaches ds [] told.tellers (held_of h.turns) ds' stage → t.met ≡ []
   by S.Between at = first [] at
-  by (S.Telling turn) at = let never : ⊥ = omega (arith, none, at.1) in absurd never
+  by (S.Telling turn) at = let never : ⊥ = omega (arith, none_own, at.1) in absurd never
   by (S.Showing turn from) at = first _ at.2
 
 -- ---- lines that are being told
@@ -153,10 +152,7 @@ left_there : (fault : PutFault) (begun : ℕ) (detaches : List Detach) (cs : Lis
 left_there Fault begun detaches cs = refl
 left_there Memory begun detaches cs = none_left_out begun detaches cs
 
-module _ (parts : List Part) (detaches : List Detach) (cs : List Counted) where
-  abbrev programs : List Program
-  programs = world_programs parts
-
+module _ (earlier : ℕ) (programs : List Program) (parts : List Part) (detaches : List Detach) (cs : List Counted) where
   abbrev ds : List Device
   ds = devices_of cs
 
@@ -168,7 +164,7 @@ module _ (parts : List Part) (detaches : List Detach) (cs : List Counted) where
   begun lines = event_lines names lines
 
   -- nothing was printed
-  pub none_printed : BeginsWorld programs detaches ds [] → (o : Option (List ℕ)) → TellsPart Memory parts detaches cs cs o o
+  pub none_printed : BeginsWorldFrom earlier programs detaches ds [] → (o : Option (List ℕ)) → TellsPartFrom Memory earlier programs parts detaches cs cs o o
   none_printed b o = (
     0,
     [],
@@ -179,10 +175,10 @@ module _ (parts : List Part) (detaches : List Detach) (cs : List Counted) where
       last = b.1;
       world = b.2;
       meets = λ i a ea. (a.outcomes, refl);
-      begun = 0;
+      begun = earlier;
       there = cs;
       took = (refl, refl);
-      left = none_left_out 0 detaches cs;
+      left = none_left_out earlier detaches cs;
       text_is = refl;
       before = [];
       behind = [];
@@ -196,9 +192,9 @@ module _ (parts : List Part) (detaches : List Detach) (cs : List Counted) where
   -- The host has told some lines.
   pub record Told (h : Host) (now : List Counted) : Type 0 where
     pub lines : List Line
-    pub host : HostTold programs detaches ds lines h (devices_of now)
+    pub host : HostToldFrom earlier programs detaches ds lines h (devices_of now)
     pub met : List (List Outcome)
-    pub took : Took programs detaches 0 0 lines met cs h.turns.begun now
+    pub took : Took programs detaches earlier earlier lines met cs h.turns.begun now
     pub meets : MetBy lines met host.tellers
 
   -- They were printed.
@@ -211,9 +207,9 @@ module _ (parts : List Part) (detaches : List Detach) (cs : List Counted) where
 
   -- the devices are those that the lines left, or that are left when the next event begins
   pub are_begun : (h : Host) (now : List Counted) (t : Told h now) (es : List Counted) (fault : PutFault) → IsLeft fault h.turns.begun detaches now es
-      → (before behind : List Line) → length behind ≤ 1 → t.lines ≡ before ++ behind → AreBegun fault parts detaches cs es (length (begun before)) (begun t.lines)
+      → (before behind : List Line) → length behind ≤ 1 → t.lines ≡ before ++ behind → AreBegunFrom fault earlier programs parts detaches cs es (length (begun before)) (begun t.lines)
   are_begun h now t es fault left before behind one parted =
-      let b = told_begins_met programs detaches ds (devices_of now) t.lines h t.host in
+      let b = told_begins_met_from earlier programs detaches ds (devices_of now) t.lines h t.host in
       record {
         lines = t.lines;
         more = b.0;
@@ -238,7 +234,7 @@ module _ (parts : List Part) (detaches : List Detach) (cs : List Counted) where
     lines = t.told.lines
 
     -- memory is wanting
-    pub told_so_far : (es : List Counted) → AreLeft h.turns.begun detaches now es → TellsPart Memory parts detaches cs es old mid
+    pub told_so_far : (es : List Counted) → AreLeft h.turns.begun detaches now es → TellsPartFrom Memory earlier programs parts detaches cs es old mid
     told_so_far es left = (
       length (begun lines),
       begun lines,
@@ -249,7 +245,7 @@ module _ (parts : List Part) (detaches : List Detach) (cs : List Counted) where
 
     -- one line more, or less of it
     module _ (next : Host) (es : List Counted) (own : List T.Names) (are : own ≡ names) (l : Line)
-        (n : TellsLine follows has_ended memory_of programs detaches ds t.told.lines t.told.host.tellers (left_at h.turns.begun next.turns.begun detaches now) es l (held_of next.turns) (devices_of es)
+        (n : TellsLineFrom earlier follows has_ended memory_of programs detaches ds t.told.lines t.told.host.tellers (left_at h.turns.begun next.turns.begun detaches now) es l (held_of next.turns) (devices_of es)
         next.turns.stage)
         (begins : BegunBy h.turns.stage h.turns.begun next.turns.begun l.event) where
       same_text : begun lines ++ event_line (names_at own l.program) l ≡ begun (lines ++ l ∷ [])
@@ -260,9 +256,9 @@ module _ (parts : List Part) (detaches : List Detach) (cs : List Counted) where
         lines = lines ++ l ∷ [];
         host = n.stands;
         met = t.told.met ++ n.met ∷ [];
-        took = took_on programs detaches 0 0 h.turns.begun next.turns.begun lines t.told.met l n.met cs now es t.told.took
-            (from_none h.turns.begun (turn_count lines) next.turns.begun l.event (begun_next programs detaches ds lines h (devices_of now) t.told.host next.turns.begun l.event begins)) n.takes;
-        meets = met_on lines t.told.met l n.met t.told.host.tellers n.stands.tellers (took_long programs detaches 0 0 lines t.told.met cs h.turns.begun now t.told.took)
+        took = took_on programs detaches earlier earlier h.turns.begun next.turns.begun lines t.told.met l n.met cs now es t.told.took
+            (begun_next earlier programs detaches ds lines h (devices_of now) t.told.host next.turns.begun l.event begins) n.takes;
+        meets = met_on lines t.told.met l n.met t.told.host.tellers n.stands.tellers (took_long programs detaches earlier earlier lines t.told.met cs h.turns.begun now t.told.took)
             (n.stands.wide ∙ sym t.told.host.wide) t.told.meets n.meets;
       }
 
@@ -276,7 +272,7 @@ module _ (parts : List Part) (detaches : List Detach) (cs : List Counted) where
         length-append t.told.lines (l ∷ []),
       )
 
-      pub told_less : (fault : PutFault) (new : Option (List ℕ)) → Becomes mid new (AppendsLess (event_line (names_at own l.program) l)) → TellsPart fault parts detaches cs es old new
+      pub told_less : (fault : PutFault) (new : Option (List ℕ)) → Becomes mid new (AppendsLess (event_line (names_at own l.program) l)) → TellsPartFrom fault earlier programs parts detaches cs es old new
       told_less fault new p = (
         length (begun lines),
         begun (lines ++ l ∷ []),
@@ -287,35 +283,35 @@ module _ (parts : List Part) (detaches : List Detach) (cs : List Counted) where
       )
 
     -- the last line, or less of it
-    module _ (es : List Counted) (own : List Names) (are : map names_of own ≡ names) (world : ProtocolWorld programs detaches ds t.told.lines (devices_of es))
+    module _ (es : List Counted) (own : List Names) (are : map names_of own ≡ names) (world : ProtocolWorldFrom earlier programs detaches ds t.told.lines (devices_of es))
         (have : HaveMet t.told.host.tellers world.actors) (kept : es ≡ now) (none : HaveEnded h.turns.dues.items × LooksOut h.turns.shows.items h.turns.stage) where
       abbrev last : List ℕ
       last = last_line (length own) h.turns.begun
 
-      events : turn_count lines ≡ h.turns.begun
-      events = turns_begun programs detaches ds lines h (devices_of now) t.told.host none.1
+      events : behind earlier (turn_count lines) ≡ h.turns.begun
+      events = turns_begun earlier programs detaches ds lines h (devices_of now) t.told.host none.1
 
-      same_last : last ≡ last_line (length parts) (turn_count lines)
+      same_last : last ≡ last_line (length parts) (behind earlier (turn_count lines))
       same_last =
           ap (λ (n : ℕ). last_line n h.turns.begun) (sym (length-map own names_of) ∙ ap (λ (l : List T.Names). length l) are ∙ length-map parts part_names)
           ∙ ap (last_line (length parts)) (sym events)
 
-      abbrev are_told : AreTold parts detaches cs es (begun lines ++ last)
+      abbrev are_told : AreToldFrom earlier programs parts detaches cs es (begun lines ++ last)
       are_told = record {
         lines = lines;
         met = t.told.met;
         world = world;
         meets = are_met lines t.told.met t.told.host.tellers world.actors (as_wide h now t.told world.actors world.starts) t.told.meets have;
         took =
-            subst (λ (n : ℕ). Took programs detaches 0 0 lines t.told.met cs n es) (sym events)
-            (subst (λ (c : List Counted). Took programs detaches 0 0 lines t.told.met cs h.turns.begun c) (sym kept) t.told.took);
+            subst (λ (n : ℕ). Took programs detaches earlier earlier lines t.told.met cs n es) (sym events)
+            (subst (λ (c : List Counted). Took programs detaches earlier earlier lines t.told.met cs h.turns.begun c) (sym kept) t.told.took);
         text_is = ap (λ (s : List ℕ). begun lines ++ s) same_last;
       }
 
-      pub told_whole : (new : Option (List ℕ)) → Becomes mid new (Appends last) → Tells parts detaches cs es old new
+      pub told_whole : (new : Option (List ℕ)) → Becomes mid new (Appends last) → TellsWorldFrom earlier programs parts detaches cs es old new
       told_whole new p = (begun lines ++ last, are_told, then_printed (begun lines) last old mid new t.printed p)
 
-      pub told_less_last : (fault : PutFault) (new : Option (List ℕ)) → Becomes mid new (AppendsLess last) → TellsPart fault parts detaches cs es old new
+      pub told_less_last : (fault : PutFault) (new : Option (List ℕ)) → Becomes mid new (AppendsLess last) → TellsPartFrom fault earlier programs parts detaches cs es old new
       told_less_last fault new p = (
         length (begun lines),
         begun lines ++ last,
@@ -326,15 +322,15 @@ module _ (parts : List Part) (detaches : List Detach) (cs : List Counted) where
 
 -- ---- what a host answers
 
-module _ (programs : List Program) (detaches : List Detach) (ds : List Device) (lines : List Line) (tellers : List Teller) (old left new : List Counted) (h : Host) (es : List Device)
+module _ (earlier : ℕ) (programs : List Program) (detaches : List Detach) (ds : List Device) (lines : List Line) (tellers : List Teller) (old left new : List Counted) (h : Host) (es : List Device)
     (r : Option LineValue) where
-  pub line_told : (l : LineValue) → r ≡ Some l → HostNext programs detaches ds lines tellers old left new h es r
-      → TellsLine follows has_ended memory_of programs detaches ds lines tellers left new (line_of l) (held_of h.turns) es h.turns.stage
-  line_told l is told = subst (λ (o : Option LineValue). HostNext programs detaches ds lines tellers old left new h es o) is told
+  pub line_told : (l : LineValue) → r ≡ Some l → HostNextFrom earlier programs detaches ds lines tellers old left new h es r
+      → TellsLineFrom earlier follows has_ended memory_of programs detaches ds lines tellers left new (line_of l) (held_of h.turns) es h.turns.stage
+  line_told l is told = subst (λ (o : Option LineValue). HostNextFrom earlier programs detaches ds lines tellers old left new h es o) is told
 
-  pub none_told : r ≡ None → HostNext programs detaches ds lines tellers old left new h es r
-      → (world : ProtocolWorld programs detaches ds lines es) × HaveMet tellers world.actors × (new ≡ old)
-  none_told is told = subst (λ (o : Option LineValue). HostNext programs detaches ds lines tellers old left new h es o) is told
+  pub none_told : r ≡ None → HostNextFrom earlier programs detaches ds lines tellers old left new h es r
+      → (world : ProtocolWorldFrom earlier programs detaches ds lines es) × HaveMet tellers world.actors × (new ≡ old)
+  none_told is told = subst (λ (o : Option LineValue). HostNextFrom earlier programs detaches ds lines tellers old left new h es o) is told
 
 pub line_begins : (stage : Stage) (b b' : ℕ) (r : Option LineValue) (l : LineValue) → r ≡ Some l → BegunNext stage b b' r → BegunBy stage b b' (line_of l).event
 line_begins stage b b' r l is t = subst (λ (o : Option LineValue). BegunNext stage b b' o) is t
@@ -353,8 +349,8 @@ has_failed (Err e) never = refl
 -- ---- devices, seen and counted
 
 module _ {X : Type 0} {F : X → Type 0} (f : (x : X) × F x → Device) (g : (x : X) × F x → ℕ)
-    (programs : List Program) (detaches : List Detach) (ds : List Device) (lines : List Line) (d : Devices X F) where
-  abbrev pub standing_with : (h : Host) (es es' : List Device) → es ≡ es' → HostTold programs detaches ds lines h es → HostTold programs detaches ds lines h es'
+    (earlier : ℕ) (programs : List Program) (detaches : List Detach) (ds : List Device) (lines : List Line) (d : Devices X F) where
+  abbrev pub standing_with : (h : Host) (es es' : List Device) → es ≡ es' → HostToldFrom earlier programs detaches ds lines h es → HostToldFrom earlier programs detaches ds lines h es'
   standing_with h es es' is told = record {
     tellers = told.tellers;
     wide = told.wide;
@@ -364,23 +360,23 @@ module _ {X : Type 0} {F : X → Type 0} (f : (x : X) × F x → Device) (g : (x
     detaches_are = told.detaches_are;
     earlier_is = told.earlier_is;
     begun_is = told.begun_is;
-    at = subst (λ (l : List Device). StandsAt memory_of programs detaches ds lines told.tellers (held_of h.turns) l h.turns.stage) is told.at;
+    at = subst (λ (l : List Device). StandsAtFrom earlier memory_of programs detaches ds lines told.tellers (held_of h.turns) l h.turns.stage) is told.at;
   }
 
-  abbrev pub host_seen : (h : Host) → HostTold programs detaches ds lines h (devices_of (counted f g d)) → HostTold programs detaches ds lines h (of_all f d)
+  abbrev pub host_seen : (h : Host) → HostToldFrom earlier programs detaches ds lines h (devices_of (counted f g d)) → HostToldFrom earlier programs detaches ds lines h (of_all f d)
   host_seen h told = standing_with h (devices_of (counted f g d)) (of_all f d) (counted_devices f g d) told
 
-  pub world_counted : (tellers : List Teller) → (world : ProtocolWorld programs detaches ds lines (of_all f d)) × HaveMet tellers world.actors
-      → (world : ProtocolWorld programs detaches ds lines (devices_of (counted f g d))) × HaveMet tellers world.actors
+  pub world_counted : (tellers : List Teller) → (world : ProtocolWorldFrom earlier programs detaches ds lines (of_all f d)) × HaveMet tellers world.actors
+      → (world : ProtocolWorldFrom earlier programs detaches ds lines (devices_of (counted f g d))) × HaveMet tellers world.actors
   world_counted tellers both =
-      subst (λ (es : List Device). (world : ProtocolWorld programs detaches ds lines es) × HaveMet tellers world.actors) (sym (counted_devices f g d)) both
+      subst (λ (es : List Device). (world : ProtocolWorldFrom earlier programs detaches ds lines es) × HaveMet tellers world.actors) (sym (counted_devices f g d)) both
 
-pub line_counted : {X : Type 0} {F : X → Type 0} (f : (x : X) × F x → Device) (g : (x : X) × F x → ℕ) (programs : List Program) (detaches : List Detach) (ds : List Device) (lines : List Line)
+pub line_counted : {X : Type 0} {F : X → Type 0} (f : (x : X) × F x → Device) (g : (x : X) × F x → ℕ) (earlier : ℕ) (programs : List Program) (detaches : List Detach) (ds : List Device) (lines : List Line)
     (tellers : List Teller) (old new : List Counted) (line : Line) (d : Devices X F) (h : Host)
-    → TellsLine follows has_ended memory_of programs detaches ds lines tellers old new line (held_of h.turns) (of_all f d) h.turns.stage
-    → TellsLine follows has_ended memory_of programs detaches ds lines tellers old new line (held_of h.turns) (devices_of (counted f g d)) h.turns.stage
-line_counted f g programs detaches ds lines tellers old new line d h t = record {
-  stands = standing_with f g programs detaches ds (lines ++ line ∷ []) d h (of_all f d) (devices_of (counted f g d)) (sym (counted_devices f g d)) t.stands;
+    → TellsLineFrom earlier follows has_ended memory_of programs detaches ds lines tellers old new line (held_of h.turns) (of_all f d) h.turns.stage
+    → TellsLineFrom earlier follows has_ended memory_of programs detaches ds lines tellers old new line (held_of h.turns) (devices_of (counted f g d)) h.turns.stage
+line_counted f g earlier programs detaches ds lines tellers old new line d h t = record {
+  stands = standing_with f g earlier programs detaches ds (lines ++ line ∷ []) d h (of_all f d) (devices_of (counted f g d)) (sym (counted_devices f g d)) t.stands;
   met = t.met;
   meets = t.meets;
   takes = t.takes;
@@ -389,10 +385,9 @@ line_counted f g programs detaches ds lines tellers old new line d h t = record 
 -- ---- names
 
 -- the program of a line has names
-pub within_names : (parts : List Part) (names : List Names) (l : Line) (w : Program) → map names_of names ≡ map part_names parts → slice_get (world_programs parts) l.program ≡ Some w
-    → l.program < length names
-within_names parts names l w are at =
-    let inside : l.program < length (world_programs parts) = slice_get_within (world_programs parts) l.program w at in
-    let as_many : length (world_programs parts) ≡ length parts = length-map parts world_program in
+pub within_names : (programs : List Program) (parts : List Part) (names : List Names) (l : Line) (w : Program) → length programs ≡ length parts → map names_of names ≡ map part_names parts
+    → slice_get programs l.program ≡ Some w → l.program < length names
+within_names programs parts names l w as_many are at =
+    let inside : l.program < length programs = slice_get_within programs l.program w at in
     let named : length names ≡ length parts = sym (length-map names names_of) ∙ ap (λ (ns : List T.Names). length ns) are ∙ length-map parts part_names in
     omega (arith, inside, as_many, named)

@@ -1,3 +1,4 @@
+pub mod Continued
 pub mod Counts
 pub mod DeviceLogs
 pub mod Endings
@@ -6,6 +7,8 @@ pub mod Laws
 pub mod OriginalRuns
 pub mod Parted
 pub mod Resuming
+pub mod Saved
+pub mod Suiting
 pub mod ToldAlone
 pub mod Views
 pub mod Worlds

@@ -1,17 +1,18 @@
 -- Programs that are set up, in parts.
-use Rattle.std.specs.Prelude.{◌≡◌, ℕ, suc, List, [], ◌∷◌, ◌++◌, map}
+use Rattle.std.specs.Prelude.{◌≡◌, ℕ, suc, List, [], ◌∷◌, ◌++◌, length, map}
 use Rattle.transcript.specs.Printing.{names_of}
 use Rattle.event_order.specs.declared.shows.Show.{Show}
-use Rattle.event_order.specs.Left.{Counted}
 use Rattle.wa_model.specs.declared.answers.Detach.{Detach}
+use Rattle.wa_model.specs.World.{Device, Program}
 use Rattle.transcript.specs.declared.events.Names.{Names}
-use Rattle.many_host.specs.Calls.{devices_of}
-use Rattle.many_host.specs.Hosts.{AreSetUp, HostTold}
+use Rattle.many_host.specs.Hosts.{HostToldFrom}
 use Rattle.many_host.specs.declared.host.Host.{Host}
 use Rattle.script_reader.specs.declared.script.ShowText.{ShowText}
+use Rattle.world_hosting.specs.declared.hosting.Timed.{Timed}
 use Rattle.world_hosting.specs.declared.parting.Parted.{Parted}
+use Rattle.world_hosting.specs.declared.resuming.Resumed.{Resumed}
 use Rattle.world_hosting.specs.declared.staging.Staged.{Staged}
-use Rattle.world_hosting.specs.Worlds.{Part, part_names, world_programs}
+use Rattle.world_hosting.specs.Worlds.{Part, part_names}
 
 -- a line of a script that shows memory of the program of this number
 abbrev pub show_at : ℕ → ShowText → Show
@@ -28,15 +29,24 @@ pub record AreParted (staged : List Staged) (x : Parted) : Type 0 where
   pub names : x.names.items ≡ map (λ (s : Staged). s.names) staged
   pub shows : x.shows.items ≡ shows_from 0 staged
 
--- they are programs of a world, set up, with the names of their lines
-pub record CanHost (parts : List Part) (x : Parted) : Type 0 where
-  pub programs : AreSetUp (world_programs parts) x.shows.items x.programs.items
-  pub names : map names_of x.names.items ≡ map part_names parts
+-- The programs that were put back, when each is due, and which have ended, in order.
+pub record AreTimed (resumed : List Resumed) (x : Timed) : Type 0 where
+  pub staged : x.staged.items ≡ map (λ (z : Resumed). z.staged) resumed
+  pub dues : x.dues.items ≡ map (λ (z : Resumed). z.due) resumed
+  pub ended : x.ended.items ≡ map (λ (z : Resumed). z.ended) resumed
 
--- The host has told nothing yet of a world of programs, whose lines have these names, with these devices.
-pub record BeginsHosting (host : Host) (names : List Names) (cs : List Counted) : Type 0 where
+-- The host, which began behind so many events, has told nothing yet of a world of these programs, whatever its devices; there is a program a
+-- part, and their lines have these names.
+pub record Begins (earlier : ℕ) (programs : List Program) (parts : List Part) (detaches : List Detach) (h : Host) (names : List Names) : Type 0 where
+  pub wide : length programs ≡ length parts
+  pub told : (ds : List Device) → HostToldFrom earlier programs detaches ds [] h ds
+  pub begun : h.turns.begun ≡ earlier
+  pub names_are : map names_of names ≡ map part_names parts
+
+-- So it is with some programs.
+pub record BeginsHosting (h : Host) (names : List Names) : Type 0 where
+  pub earlier : ℕ
+  pub programs : List Program
   pub parts : List Part
   pub detaches : List Detach
-  pub told : HostTold (world_programs parts) detaches (devices_of cs) [] host (devices_of cs)
-  pub begun : host.turns.begun ≡ 0
-  pub names_are : map names_of names ≡ map part_names parts
+  pub begins : Begins earlier programs parts detaches h names

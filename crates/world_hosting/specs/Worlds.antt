@@ -8,12 +8,13 @@ use Rattle.wa_model.specs.Outside.{AnswerLine, Line}
 use Rattle.wa_model.specs.Plan.{AnswerFits, Outcome}
 use Rattle.script_model.specs.Script.{EntryText, GlobalText, ProgramText, ShowText}
 use Rattle.script_model.specs.Transcript.{Names, Transcript, event_lines}
-use Rattle.wa_model.specs.World.{Device, Look, Program, ProtocolWorld, at_start}
+use Rattle.wa_model.specs.World.{Device, Look, Program, ProtocolWorldFrom, at_start}
 use Rattle.event_order.specs.Left.{Counted}
 use Rattle.pause_host.specs.Moves.{HasShortPokes}
 use Rattle.pause_host.specs.Settings.{calls_of}
 use Rattle.script_setup.specs.SetUpRules.{SetUp, named_entry, program_names}
 use Rattle.many_host.specs.Calls.{AreLeft, devices_of}
+use Rattle.many_host.specs.Turns.{behind as number_behind}
 use Rattle.vault_port.specs.declared.whole.PutFault.{PutFault}
 use Rattle.vault_port.specs.declared.whole.PutFault.TheVariants.{Fault, Memory}
 use Rattle.vault_port.specs.Taken.{Appends, AppendsPast}
@@ -85,15 +86,19 @@ abbrev pub turn_count : List Line → ℕ
 turn_count [] = 0
 turn_count (l ∷ ls) = turns_at l.event + turn_count ls
 
--- The text tells a whole run of the protocol world, from these devices to those: its lines, and the last line. What its calls met is
--- what was taken of the devices.
-pub record AreTold (parts : List Part) (detaches : List Detach) (old new : List Counted) (text : List ℕ) : Type 0 where
+-- The text tells a whole run of the protocol world of these programs, behind so many earlier events, from these devices to those: its
+-- lines, and the last line, which counts all events. What its calls met is what was taken of the devices.
+pub record AreToldFrom (earlier : ℕ) (programs : List Program) (parts : List Part) (detaches : List Detach) (old new : List Counted) (text : List ℕ) : Type 0 where
   pub lines : List Line
   pub met : List (List Outcome)
-  pub world : ProtocolWorld (world_programs parts) detaches (devices_of old) lines (devices_of new)
+  pub world : ProtocolWorldFrom earlier programs detaches (devices_of old) lines (devices_of new)
   pub meets : AreMet lines met world.actors
-  pub took : Took (world_programs parts) detaches 0 0 lines met old (turn_count lines) new
-  pub text_is : text ≡ Transcript (map part_names parts) (length parts) (turn_count lines) lines
+  pub took : Took programs detaches earlier earlier lines met old (number_behind earlier (turn_count lines)) new
+  pub text_is : text ≡ Transcript (map part_names parts) (length parts) (number_behind earlier (turn_count lines)) lines
+
+-- the same of programs of a script from their start
+abbrev pub AreTold : List Part → List Detach → (old new : List Counted) → List ℕ → Type 0
+AreTold parts = AreToldFrom 0 (world_programs parts) parts
 
 -- What is left behind first lines: where the sink failed, the devices and their counts that these leave; where memory was wanting, these
 -- devices, or those that are left when the next event begins, of whose counts one may have risen.
@@ -103,16 +108,16 @@ IsLeft Memory begun detaches there new = AreLeft begun detaches there new
 
 -- It tells the first lines of one, up to some event, and leaves the devices that are left behind these. So many of its bytes are those
 -- of the lines before the last one, or of all: each line is printed before the next event begins.
-pub record AreBegun (fault : PutFault) (parts : List Part) (detaches : List Detach) (old new : List Counted) (least : ℕ) (text : List ℕ) : Type 0 where
+pub record AreBegunFrom (fault : PutFault) (earlier : ℕ) (programs : List Program) (parts : List Part) (detaches : List Detach) (old new : List Counted) (least : ℕ) (text : List ℕ) : Type 0 where
   pub lines : List Line
   pub more : List Line
   pub met : List (List Outcome)
   pub last : List Device
-  pub world : ProtocolWorld (world_programs parts) detaches (devices_of old) (lines ++ more) last
+  pub world : ProtocolWorldFrom earlier programs detaches (devices_of old) (lines ++ more) last
   pub meets : AreMet lines met world.actors
   pub begun : ℕ
   pub there : List Counted
-  pub took : Took (world_programs parts) detaches 0 0 lines met old begun there
+  pub took : Took programs detaches earlier earlier lines met old begun there
   pub left : IsLeft fault begun detaches there new
   pub text_is : text ≡ event_lines (map part_names parts) lines
   pub before : List Line
@@ -121,14 +126,26 @@ pub record AreBegun (fault : PutFault) (parts : List Part) (detaches : List Deta
   pub lines_are : lines ≡ before ++ behind
   pub least_is : least ≡ length (event_lines (map part_names parts) before)
 
+-- the same of programs of a script from their start
+abbrev pub AreBegun : PutFault → List Part → List Detach → (old new : List Counted) → (least : ℕ) → List ℕ → Type 0
+AreBegun fault parts = AreBegunFrom fault 0 (world_programs parts) parts
+
 -- It tells a whole run, and so many of its bytes are those of its lines, without the last line of all.
-pub record AreEnded (parts : List Part) (detaches : List Detach) (old new : List Counted) (least : ℕ) (text : List ℕ) : Type 0 where
-  pub told : AreTold parts detaches old new text
+pub record AreEndedFrom (earlier : ℕ) (programs : List Program) (parts : List Part) (detaches : List Detach) (old new : List Counted) (least : ℕ) (text : List ℕ) : Type 0 where
+  pub told : AreToldFrom earlier programs parts detaches old new text
   pub least_is : least ≡ length (event_lines (map part_names parts) told.lines)
 
+-- the same of programs of a script from their start
+abbrev pub AreEnded : List Part → List Detach → (old new : List Counted) → (least : ℕ) → List ℕ → Type 0
+AreEnded parts = AreEndedFrom 0 (world_programs parts) parts
+
 -- A whole such text came behind what was printed.
+abbrev pub TellsWorldFrom : (earlier : ℕ) → List Program → List Part → List Detach → (cs cs' : List Counted) → (old new : Option (List ℕ)) → Type 0
+TellsWorldFrom earlier programs parts detaches cs cs' old new = (text : List ℕ) × AreToldFrom earlier programs parts detaches cs cs' text × Becomes old new (Appends text)
+
+-- the same of programs of a script from their start
 abbrev pub Tells : List Part → List Detach → (cs cs' : List Counted) → (old new : Option (List ℕ)) → Type 0
-Tells parts detaches cs cs' old new = (text : List ℕ) × AreTold parts detaches cs cs' text × Becomes old new (Appends text)
+Tells parts = TellsWorldFrom 0 (world_programs parts) parts
 
 -- So many first bytes of a text at least were printed, and not all of them where the sink failed.
 abbrev pub PrintsPart : PutFault → (least : ℕ) → (text old new : List ℕ) → Type 0
@@ -136,6 +153,11 @@ PrintsPart Fault least text old new = AppendsPast least text old new
 PrintsPart Memory least text old new = (n : ℕ) × (least ≤ n) × (new ≡ old ++ take n text)
 
 -- A beginning of a whole such text came behind what was printed.
+abbrev pub TellsPartFrom : PutFault → (earlier : ℕ) → List Program → List Part → List Detach → (cs cs' : List Counted) → (old new : Option (List ℕ)) → Type 0
+TellsPartFrom fault earlier programs parts detaches cs cs' old new =
+    (least : ℕ) × (text : List ℕ) × (AreBegunFrom fault earlier programs parts detaches cs cs' least text ⊎ AreEndedFrom earlier programs parts detaches cs cs' least text)
+    × Becomes old new (PrintsPart fault least text)
+
+-- the same of programs of a script from their start
 abbrev pub TellsPart : PutFault → List Part → List Detach → (cs cs' : List Counted) → (old new : Option (List ℕ)) → Type 0
-TellsPart fault parts detaches cs cs' old new =
-    (least : ℕ) × (text : List ℕ) × (AreBegun fault parts detaches cs cs' least text ⊎ AreEnded parts detaches cs cs' least text) × Becomes old new (PrintsPart fault least text)
+TellsPart fault parts = TellsPartFrom fault 0 (world_programs parts) parts

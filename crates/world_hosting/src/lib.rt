@@ -5,6 +5,9 @@
 //! protocol world (`specs/Worlds.antt`), in which each import that a `device` line names asks the device of that line, and the devices
 //! are those that the run leaves. That each program of a script is one that can be staged is the law `scripts_fit`.
 //!
+//! `resume_program` makes a program as its record of a snapshot has it, and `continue_programs` tells such programs from there to their
+//! ends (`specs/Continued.antt`).
+//!
 //! More is known of what was told:
 //!
 //! - Over modules that are rewritten, and where no original touches a byte of its area, the lines are those of a run of the blocking
@@ -16,15 +19,17 @@
 //!
 //! Scripts aren't read here, and modules neither fetched nor rewritten: that is `script_command`.
 //!
-//! - `staging`, `parting`, `telling`: a program made over its module, the programs parted in what hosts them and what prints their lines,
-//!   and `host_programs`.
+//! - `staging`, `parting`, `hosting`, `telling`: a program made over its module, the programs parted in what hosts them and what prints
+//!   their lines, a host of them, and `host_programs`.
 //! - `laws`: scripts can be staged.
 //! - `originals_told`, `told_alone`, `fault_counts`, `device_logs`: the laws above.
-//! - `resuming`: programs that stand for the records of a snapshot.
+//! - `resuming`, `continuing`: programs that stand for the records of a snapshot, and what is told of them from there.
 #![tactic(auto)]
 
+mod continuing;
 mod device_logs;
 mod fault_counts;
+mod hosting;
 mod laws;
 mod originals_told;
 mod parting;
@@ -33,11 +38,13 @@ mod staging;
 mod telling;
 mod told_alone;
 
+pub use continuing::continue_programs;
 pub use device_logs::told_devices_are_logged;
 pub use fault_counts::told_faults_are_counted;
 pub use laws::{scripts_fit, scripts_in_range};
 pub use originals_told::{told_of_originals, told_programs_end_as_originals};
-pub use resuming::records_are_resumed;
+pub use pause_host::ThawFault;
+pub use resuming::{Resumed, records_are_resumed, resume_program};
 pub use staging::{Staged, stage_program};
 pub use telling::host_programs;
 pub use told_alone::unbound_programs_are_told_alone;

@@ -1,20 +1,18 @@
 //! The programs of a script, told to their ends.
 
-ghost use Rattle.std.specs.Prelude.{◌≡◌, ◌≢◌, ◌≤◌, [], ◌∷◌, IsErrOf, List, OnOk, length, map};
+ghost use Rattle.std.specs.Prelude.{◌≡◌, ◌≢◌, ◌≤◌, IsErrOf, List, OnOk, length, ℕ};
 ghost use Rattle.std.specs.Result.{IfErr};
 ghost use Rattle.vault_port.specs.Counts.{FailsOnce};
 ghost use Rattle.wa_model.specs.declared.answers.Detach.{Detach as DetachValue};
+ghost use Rattle.wa_model.specs.World.{Program as WorldProgram};
 ghost use Rattle.host_laws.specs.Supplies.{IsLent};
-ghost use Rattle.transcript.specs.Printing.{names_of};
-ghost use Rattle.many_host.specs.Calls.{devices_of};
 ghost use Rattle.many_host.specs.Standing.{InRange};
-ghost use Rattle.many_host.specs.Hosts.{HostTold};
 ghost use Rattle.world_hosting.specs.Counts.{counted};
-ghost use Rattle.world_hosting.specs.Parted.{BeginsHosting, CanHost};
+ghost use Rattle.world_hosting.specs.Parted.{Begins, BeginsHosting};
 ghost use Rattle.world_hosting.specs.Views.{AreStaged};
-ghost use Rattle.world_hosting.specs.Worlds.{Part, Tells, TellsPart, part_names, world_programs};
+ghost use Rattle.world_hosting.specs.Worlds.{Part, Tells, TellsPart, TellsPartFrom, TellsWorldFrom};
 
-use crate::parting::{Parted, part_programs};
+use crate::hosting::{Hosting, host_staged};
 use crate::staging::Staged;
 use device_port::{Device, Devices};
 use many_host::Host;
@@ -51,31 +49,32 @@ pub fn host_programs<S: Sink>(
     ensures stays { result ≢ Err PutFault.Fault → S.faults out.new ≡ S.faults out.old }
     ensures faults { S.faults out.old ≤ S.faults out.new }
 {
-    match part_programs(alloc, staged) {
-        Ok(parted) => host_parted(alloc, out, parted, detaches, devices),
+    match host_staged(alloc, staged, detaches) {
+        Ok(hosting) => tell_hosting(alloc, out, hosting, devices),
         Err(_) => Err(PutFault::Memory),
     }
 }
 
-// Tells the programs, in parts.
-fn host_parted<S: Sink>(
+/// Tells the programs of a host to their ends, likewise.
+pub(crate) fn tell_hosting<S: Sink>(
     alloc: Global,
     out: &mut S,
-    parted: Parted<'_>,
-    detaches: Vec<Detach>,
+    hosting: Hosting<'_>,
     devices: &mut Devices<'_>,
 ) -> Result<(), PutFault>
     requires lent { IsLent }
-    requires few { length parted.programs.items ≤ 16 }
-    requires hosted { (parts : List Part) × CanHost parts parted }
+    requires range { InRange hosting.host.turns }
+    requires begins { BeginsHosting hosting.host hosting.names.items }
     ensures same_list { devices.new.list.ghost_name ≡ devices.old.list.ghost_name }
-    ensures told { (parts : List Part) → CanHost parts parted.entry
-        → OnOk result (Tells parts detaches.items
+    ensures told { (earlier : ℕ) (programs : List WorldProgram) (parts : List Part) (detaches : List DetachValue)
+        → Begins earlier programs parts detaches hosting.entry.host hosting.entry.names.items
+        → OnOk result (TellsWorldFrom earlier programs parts detaches
         (counted seen (λ d. (⟦<dyn Device as Device>⟧ d.0).faults d.1) devices.old)
         (counted seen (λ d. (⟦<dyn Device as Device>⟧ d.0).faults d.1) devices.new)
         (S.taken out.old) (S.taken out.new)) }
-    ensures part { (parts : List Part) → CanHost parts parted.entry
-        → IfErr result (λ fault. TellsPart fault parts detaches.items
+    ensures part { (earlier : ℕ) (programs : List WorldProgram) (parts : List Part) (detaches : List DetachValue)
+        → Begins earlier programs parts detaches hosting.entry.host hosting.entry.names.items
+        → IfErr result (λ fault. TellsPartFrom fault earlier programs parts detaches
         (counted seen (λ d. (⟦<dyn Device as Device>⟧ d.0).faults d.1) devices.old)
         (counted seen (λ d. (⟦<dyn Device as Device>⟧ d.0).faults d.1) devices.new)
         (S.taken out.old) (S.taken out.new)) }
@@ -83,14 +82,7 @@ fn host_parted<S: Sink>(
     ensures stays { result ≢ Err PutFault.Fault → S.faults out.new ≡ S.faults out.old }
     ensures faults { S.faults out.old ≤ S.faults out.new }
 {
-    let Parted {
-        programs,
-        names,
-        shows,
-    } = parted;
-    let Ok(mut host) = Host::new(alloc, programs, detaches, shows) else {
-        return Err(PutFault::Memory);
-    };
+    let Hosting { mut host, names } = hosting;
     let told = tell_lines(alloc, out, &mut host, &names, devices);
     drop(host);
     told
@@ -106,21 +98,17 @@ fn tell_lines<S: Sink>(
 ) -> Result<(), PutFault>
     requires lent { IsLent }
     requires range { InRange host.old.turns }
-    requires begins { BeginsHosting host.old names.now (counted seen (λ d. (⟦<dyn Device as Device>⟧ d.0).faults d.1) devices.old) }
+    requires begins { BeginsHosting host.old names.now }
     ensures same_list { devices.new.list.ghost_name ≡ devices.old.list.ghost_name }
-    ensures told { (parts : List Part) (detaches : List DetachValue)
-        → HostTold (world_programs parts) detaches (devices_of (counted seen (λ d. (⟦<dyn Device as Device>⟧ d.0).faults d.1) devices.old)) []
-        host.old (devices_of (counted seen (λ d. (⟦<dyn Device as Device>⟧ d.0).faults d.1) devices.old))
-        → host.old.turns.begun ≡ 0 → map names_of names.now ≡ map part_names parts
-        → OnOk result (Tells parts detaches
+    ensures told { (earlier : ℕ) (programs : List WorldProgram) (parts : List Part) (detaches : List DetachValue)
+        → Begins earlier programs parts detaches host.old names.now
+        → OnOk result (TellsWorldFrom earlier programs parts detaches
         (counted seen (λ d. (⟦<dyn Device as Device>⟧ d.0).faults d.1) devices.old)
         (counted seen (λ d. (⟦<dyn Device as Device>⟧ d.0).faults d.1) devices.new)
         (S.taken out.old) (S.taken out.new)) }
-    ensures part { (parts : List Part) (detaches : List DetachValue)
-        → HostTold (world_programs parts) detaches (devices_of (counted seen (λ d. (⟦<dyn Device as Device>⟧ d.0).faults d.1) devices.old)) []
-        host.old (devices_of (counted seen (λ d. (⟦<dyn Device as Device>⟧ d.0).faults d.1) devices.old))
-        → host.old.turns.begun ≡ 0 → map names_of names.now ≡ map part_names parts
-        → IfErr result (λ fault. TellsPart fault parts detaches
+    ensures part { (earlier : ℕ) (programs : List WorldProgram) (parts : List Part) (detaches : List DetachValue)
+        → Begins earlier programs parts detaches host.old names.now
+        → IfErr result (λ fault. TellsPartFrom fault earlier programs parts detaches
         (counted seen (λ d. (⟦<dyn Device as Device>⟧ d.0).faults d.1) devices.old)
         (counted seen (λ d. (⟦<dyn Device as Device>⟧ d.0).faults d.1) devices.new)
         (S.taken out.old) (S.taken out.new)) }
