@@ -41,6 +41,7 @@ returns-in-Ok-rewrite_module-clause-done g c =
         rewritable = record { accepted = h.source; tells = e.tells; few = few };
         well_formed = well h.bytes m h.source h.are_bytes;
         listed_is = e.listed;
+        emitted = e.emitted;
         rewrites = e.rewrites;
       },
     )
