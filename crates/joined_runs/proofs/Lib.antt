@@ -1,0 +1,2 @@
+pub mod OtherDevices
+pub mod PlayedTurns
