@@ -33,7 +33,7 @@ in_range files name play =
 
 -- ---- one program
 
-heeds : (policy : Policy) (o : Option Choice) (s : Settings) → option_map (λ (c : Choice). record { choice = c; ignore_indirect = false; policy = policy }) o ≡ Some s → s.ignore_indirect ≡ false
+pub heeds : (policy : Policy) (o : Option Choice) (s : Settings) → option_map (λ (c : Choice). record { choice = c; ignore_indirect = false; policy = policy }) o ≡ Some s → s.ignore_indirect ≡ false
 heeds policy None s e = cc
 heeds policy (Some c) s e =
     let of : Settings = record { choice = c; ignore_indirect = false; policy = policy } in
