@@ -1,19 +1,17 @@
 -- Programs of one text whose modules are emitted of one original go over from a save to a continue.
-use Rattle.std.proofs.Common.{arith, ◌≡◌, ℕ, zero, suc, List, [], ◌∷◌, map, Option, Some, None, Bool, true, false, All, Result, Ok, refl, sym, ap, ◌∙◌, subst}
+use Rattle.std.proofs.Common.{◌≡◌, ℕ, zero, suc, List, [], ◌∷◌, map, Option, Some, Bool, true, All, Result, Ok, sym, ap, ◌∙◌, subst}
 use Rattle.std.specs.Prelude.{slice_get}
 use Rattle.std.specs.List.{AllZip}
 use Rattle.std.proofs.lemmas.List.Elements.{All-nil, All-cons, All-head, All-tail}
 use Rattle.vault_port.specs.Files.{Files}
-use Rattle.wa_types.specs.declared.syntax.Import.{Import}
-use Rattle.wa_types.specs.Pausing.{Choice, Listed, Policy, Settings, TellsMayPause}
+use Rattle.wa_types.specs.Pausing.{Listed, Settings, TellsMayPause}
 use Rattle.wa_types.specs.Syntax.{Module}
 use Rattle.wa_model.specs.Plan.{Outcome}
 use Rattle.wa_model.specs.Rewrites.{Rewrites}
 use Rattle.wa_model.specs.Untouched.{Untouched}
-use Rattle.wa_model.specs.World.{Original, Program}
+use Rattle.wa_model.specs.World.{Original}
 use Rattle.script_model.specs.Command.{choice_said}
 use Rattle.script_model.specs.Script.{ProgramText, ScriptFault}
-use Rattle.script_model.specs.Transcript.{Names}
 use Rattle.script_setup.specs.SetUpRules.{SetUp, set_up_rules}
 use Rattle.live_laws.specs.EmittedAs.{EmittedAs}
 use Rattle.module_rewrite.proofs.FreeNames.{unreserved_is_free}
@@ -27,8 +25,8 @@ use Rattle.slot_laws.proofs.Closed.{one_list}
 use Rattle.world_hosting.specs.OriginalRuns.{IsRewritten, Source, original_for, originals_for}
 use Rattle.world_hosting.specs.Worlds.{HasRanges, Part, part, world_program, world_programs}
 use Rattle.world_hosting.proofs.Originals.{may_run, stands_in}
-use Rattle.script_command.specs.Playing.{IsStage, policy_for, settings_for}
-use Rattle.script_command.specs.RunOriginals.{IsSource, original_names}
+use Rattle.script_command.specs.Playing.{IsStage, policy_for}
+use Rattle.script_command.specs.RunOriginals.{IsSource}
 use Rattle.script_command.specs.declared.way.Way.TheVariants.{Run}
 use Rattle.script_command.proofs.ProgramModules.{one_settings}
 use Rattle.script_command.proofs.Runs.{SameImports, heeds}
@@ -53,6 +51,12 @@ one_original s bytes listed others p q r x =
       others_are = x.listed_is ∙ ap (λ (m : Module). Listed m s) same;
     }
 
+some_bytes : (a b : List ℕ) → ◌≡◌ {A = Option (List ℕ)} (Some a) (Some b) → a ≡ b
+some_bytes a b e = cc
+
+ok_given : (a b : SetUp) → ◌≡◌ {A = Result SetUp ScriptFault} (Ok a) (Ok b) → a ≡ b
+ok_given a b e = cc
+
 -- ---- one program
 
 -- The program's original, for which both programs stand.
@@ -73,25 +77,23 @@ module _ (files files' : Files) (t : ProgramText) (there : files' t.path ≡ fil
     abbrev y : Part
     y = part q listed' t given'
 
-    s : Settings
+    abbrev s : Settings
     s = is.module_is.3.0
 
-    bytes : List ℕ
+    abbrev bytes : List ℕ
     bytes = is.module_is.0
 
-    l : List Bool
+    abbrev l : List Bool
     l = is.module_is.1
 
-    l' : List Bool
+    abbrev l' : List Bool
     l' = is'.module_is.1
 
     runs : RunsAs s bytes l p
     runs = is.module_is.3.2
 
     same_bytes : is'.module_is.0 ≡ bytes
-    same_bytes =
-        let both : ◌≡◌ {A = Option (List ℕ)} (Some is'.module_is.0) (Some is.module_is.0) = sym is'.module_is.2 ∙ there ∙ is.module_is.2 in
-        cc
+    same_bytes = some_bytes is'.module_is.0 bytes (sym is'.module_is.2 ∙ there ∙ is.module_is.2)
 
     runs' : RunsAs s bytes l' q
     runs' =
@@ -104,12 +106,11 @@ module _ (files files' : Files) (t : ProgramText) (there : files' t.path ≡ fil
     same_given : given ≡ given'
     same_given =
         let rules =
-            same_rules true p q t
-            (one_written s bytes runs.source runs'.source runs.which runs'.which p q runs.rewritable runs'.rewritable runs.rewrites runs'.rewrites) in
-        let both : ◌≡◌ {A = Result SetUp ScriptFault} (Ok given) (Ok given') = sym is.set_up ∙ rules ∙ is'.set_up in
-        cc
+        same_rules true p q t
+        (one_written s bytes runs.source runs'.source runs.which runs'.which p q runs.rewritable runs'.rewritable runs.rewrites runs'.rewrites) in
+        ok_given given given' (sym is.set_up ∙ rules ∙ is'.set_up)
 
-    of : Source
+    abbrev of : Source
     of = record { original = runs.source; settings = s }
 
     rewritten : (r : Module) (told : Option (List Bool)) (g : SetUp) → Rewrites runs.source s r → told ≡ Some (Listed runs.source s) → set_up_rules true r t ≡ Ok g → IsRewritten of (part r told t g)
@@ -170,10 +171,10 @@ pub record AreAlike (files : Files) (xs ys : List Part) : Type 0 where
   pub over : AllGoOver (originals_for sources xs) (world_programs xs) (world_programs ys)
   pub names : AllZip SameImports sources ys
 
-abbrev texts_of : List Part → List ProgramText
+abbrev pub texts_of : List Part → List ProgramText
 texts_of xs = map (λ (x : Part). x.text) xs
 
-abbrev HasAlike : Files → Files → ProgramText → Type 0
+abbrev pub HasAlike : Files → Files → ProgramText → Type 0
 HasAlike files files' t = files' t.path ≡ files t.path
 
 pub all_alike : (files files' : Files) (xs ys : List Part) → texts_of ys ≡ texts_of xs → All (HasAlike files files') (texts_of xs) → All HasRanges (texts_of xs) → All (IsStage Run (Some files)) xs
@@ -185,11 +186,11 @@ all_alike files files' (x ∷ xs) (y ∷ ys) same there ranges st st' =
     let head : y.text ≡ x.text = cc in
     let tail : texts_of ys ≡ texts_of xs = cc in
     let one =
-        alike files files' x y head (All-head (HasAlike files files') x.text (texts_of xs) there) (All-head HasRanges x.text (texts_of xs) ranges) (All-head (IsStage Run (Some files)) x xs st)
-        (All-head (IsStage Run (Some files')) y ys st') in
+    alike files files' x y head (All-head (HasAlike files files') x.text (texts_of xs) there) (All-head HasRanges x.text (texts_of xs) ranges) (All-head (IsStage Run (Some files)) x xs st)
+    (All-head (IsStage Run (Some files')) y ys st') in
     let rest =
-        all_alike files files' xs ys tail (All-tail (HasAlike files files') x.text (texts_of xs) there) (All-tail HasRanges x.text (texts_of xs) ranges) (All-tail (IsStage Run (Some files)) x xs st)
-        (All-tail (IsStage Run (Some files')) y ys st') in
+    all_alike files files' xs ys tail (All-tail (HasAlike files files') x.text (texts_of xs) there) (All-tail HasRanges x.text (texts_of xs) ranges) (All-tail (IsStage Run (Some files)) x xs st)
+    (All-tail (IsStage Run (Some files')) y ys st') in
     record {
       sources = one.of ∷ rest.sources;
       are_sources = (one.is_source, rest.are_sources);

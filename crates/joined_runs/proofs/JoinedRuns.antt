@@ -1,12 +1,11 @@
 -- What is saved and gone on with is one run of the originals.
-use Rattle.std.proofs.Common.{arith, ◌≡◌, ℕ, ◌+◌, List, ◌++◌, length, map, Option, Some, All, refl, sym, ap, ◌∙◌, subst}
+use Rattle.std.proofs.Common.{arith, ◌≡◌, ℕ, List, ◌++◌, length, map, Option, Some, All, sym, ap, ◌∙◌, subst}
 use Rattle.std.specs.Prelude.{slice_get}
 use Rattle.std.specs.List.{AllZip}
 use Rattle.vault_port.specs.Files.{Files}
-use Rattle.wa_model.specs.declared.answers.Detach.{Detach}
 use Rattle.wa_model.specs.Outside.{Line}
-use Rattle.wa_model.specs.World.{Actor, Device, Original, Program}
-use Rattle.script_model.specs.Script.{ProgramText, Script}
+use Rattle.wa_model.specs.World.{Actor, Original}
+use Rattle.script_model.specs.Script.{Script}
 use Rattle.script_model.specs.Transcript.{Names, Transcript, event_lines}
 use Rattle.snapshot_store.specs.Snapshots.{Snapshot, SnapText}
 use Rattle.snapshot_store.proofs.Splits.{one_snapshot}
@@ -17,12 +16,12 @@ use Rattle.joined_worlds.specs.JoinedOriginals.{AreOrderly, JoinedWorldsOfOrigin
 use Rattle.joined_worlds.proofs.JoinedOriginals.{joined_worlds_of_originals}
 use Rattle.wasm_reader.specs.Held.{Holds}
 use Rattle.world_laws.specs.Originals.{met}
-use Rattle.world_laws.specs.Snapshots.{From, IsSnapshotOf}
+use Rattle.world_laws.specs.Snapshots.{IsSnapshotOf}
 use Rattle.many_host.specs.Calls.{devices_of}
 use Rattle.many_host.specs.Turns.{behind}
 use Rattle.many_host.proofs.Numbers.{sum_behind}
 use Rattle.world_hosting.specs.OriginalRuns.{originals_for}
-use Rattle.world_hosting.specs.Worlds.{HasRanges, Part, part_names, turn_count, world_programs}
+use Rattle.world_hosting.specs.Worlds.{Part, part_names, turn_count, world_programs}
 use Rattle.world_hosting.proofs.TurnCounts.{turns_append}
 use Rattle.script_command.specs.Playing.{HasScript, IsStage, Play, detaches_in}
 use Rattle.script_command.specs.RunOriginals.{IsSource, original_names}

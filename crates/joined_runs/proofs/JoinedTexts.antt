@@ -1,5 +1,5 @@
 -- The text of lines so far, and the transcript of the rest behind it.
-use Rattle.std.proofs.Common.{◌≡◌, ℕ, List, [], ◌∷◌, ◌++◌, map, refl, sym, ap, ◌∙◌, append_assoc}
+use Rattle.std.proofs.Common.{◌≡◌, ℕ, List, [], ◌∷◌, ◌++◌, refl, sym, ap, ◌∙◌, append_assoc}
 use Rattle.wa_model.specs.Outside.{Line}
 use Rattle.script_model.specs.Script.{ProgramText}
 use Rattle.script_model.specs.Transcript.{Names, Transcript, event_line, event_lines, last_line, names_at}

@@ -58,8 +58,8 @@ module _ (programs : List Program) (none : All Unbound programs) (detaches : Lis
   events_over number actors ds lines last ds' no_event es = record { end = es; events = no_event; same = λ e. e }
   events_over number actors ds lines last ds' (an_event {actors' = next} {ds' = mid} {lines = first} {more = more} play rest split) es =
       let calls =
-          calls_over play.w (unbound_at programs none play.i play.w play.program) (turn_of play.a.notes) play.a.outcomes play.a.answers (detached number detaches ds) play.outcomes play.answers mid
-          play.calls in
+      calls_over play.w (unbound_at programs none play.i play.w play.program) (turn_of play.a.notes) play.a.outcomes play.a.answers (detached number detaches ds) play.outcomes play.answers mid
+      play.calls in
       let there : List Device = detached number detaches es in
       let on = events_over (suc number) next mid more last ds' rest there in
       let plays : Plays programs detaches number actors es first next there = record {

@@ -206,8 +206,8 @@ module _ (programs : List Program) (detaches : List Detach) where
       → Plays programs detaches number actors ds lines next ds' → (turn_count lines ≡ 1) × EachFine next
   plays_one number actors ds lines next ds' fine play =
       let f =
-          fine_turn play.a.due play.i play.w play.a.notes play.a.outcomes play.a.answers _ play.outcomes play.answers ds' play.next.unfinished play.calls
-          (fine_at actors play.i play.a fine play.next.there) in
+      fine_turn play.a.due play.i play.w play.a.notes play.a.outcomes play.a.answers _ play.outcomes play.answers ds' play.next.unfinished play.calls
+      (fine_at actors play.i play.a fine play.next.there) in
       (ap turn_count play.made ∙ f.0, subst EachFine (sym play.after) (fine_set actors play.i _ fine f.1))
 
   played_turns : (count number : ℕ) (actors : List Actor) (ds : List Device) (lines : List Line) (now : List Actor) (ds' : List Device) → EachFine actors

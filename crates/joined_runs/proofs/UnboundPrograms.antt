@@ -1,10 +1,9 @@
 -- The programs of a script without a device line have no bound import.
-use Rattle.std.proofs.Common.{◌≡◌, ℕ, List, [], ◌∷◌, ◌++◌, map, Option, Some, None, All, refl, sym, ap, ◌∙◌, subst}
+use Rattle.std.proofs.Common.{◌≡◌, List, [], ◌∷◌, ◌++◌, Option, Some, None, All, refl, ap, ◌∙◌}
 use Rattle.std.specs.Prelude.{slice_get}
 use Rattle.std.specs.List.{flat_map}
 use Rattle.std.specs.Option.{option_map}
 use Rattle.std.proofs.lemmas.List.Elements.{All-nil, All-cons}
-use Rattle.wa_model.specs.World.{Program}
 use Rattle.script_model.specs.Script.{BindText, ProgramText, Script, device_line}
 use Rattle.snapshot_store.specs.Snapshots.{ProgramRecord}
 use Rattle.world_laws.specs.AloneLines.{Unbound}
@@ -25,7 +24,7 @@ none_first : (xs ys : List BindText) → xs ++ ys ≡ [] → (xs ≡ []) × (ys 
 none_first [] ys e = (refl, e)
 none_first (x ∷ xs) ys e = cc
 
-all_binds : List ProgramText → List BindText
+abbrev all_binds : List ProgramText → List BindText
 all_binds ts = flat_map (λ (t : ProgramText). t.binds) ts
 
 none_bound : (xs : List Part) (rs : List ProgramRecord) → all_binds (texts_of xs) ≡ [] → All Unbound (from_records (world_programs xs) rs)
