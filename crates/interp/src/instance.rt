@@ -1,10 +1,10 @@
 //! Instances of valid modules: made, called, resumed, and their memory and globals shown (standard, sections 4.5.4 and 4.5.5).
 
-ghost use Rattle.std.specs.Prelude.{◌≡◌, ◌<◌, ◌≤◌, ◌+◌, ◌-◌, ◌^◌, ◌++◌, List, All, IfOk, IfErr, OnErr, None, nat_lt, vec_capacity, length, map, drop, reverse};
+ghost use Rattle.std.specs.Prelude.{◌≡◌, ◌<◌, ◌≤◌, ◌+◌, ◌-◌, ◌*◌, ◌^◌, ◌++◌, List, All, IfOk, IfErr, OnErr, None, nat_lt, vec_capacity, length, map, drop, reverse};
 ghost use Rattle.std.specs.Bool.{OnTrue, OnFalse};
 ghost use Rattle.std.specs.Coded.{codes};
 ghost use Rattle.std.specs.Option.{option_copied, option_to_list};
-ghost use Rattle.wa_types.specs.Memory.{IsWholePages, pages_of};
+ghost use Rattle.wa_types.specs.Memory.{IsWholePages, page_size, pages_of};
 ghost use Rattle.wa_types.specs.Modules.{all_memories, all_tables};
 ghost use Rattle.wa_types.specs.Validity.{Valid as IsValid};
 ghost use Rattle.wa_types.specs.View.{module_of};
@@ -251,7 +251,8 @@ impl<'m> Instance<'m> {
 
     /// How many pages of 65,536 bytes the memory has; 0 where the module has none.
     pub fn pages(&self) -> u32
-        ensures { result ≡ pages_of (memory_in self.now) }
+        ensures count { result ≡ pages_of (memory_in self.now) }
+        ensures whole { length (memory_in self.now) ≡ result * page_size }
     {
         if self.has_memory {
             return self.store.memory.size();

@@ -7,10 +7,17 @@ pub mod DueTicks
 pub mod FewLines
 pub mod FewTurns
 pub mod Further
+pub mod KeptTables
+pub mod MetLines
 pub mod Notes
 pub mod Numbers
 pub mod Origins
+pub mod PausePlaces
 pub mod Places
+pub mod SavedPauses
+pub mod SavedRecords
+pub mod SavedTurns
+pub mod SavedWorlds
 pub mod Showing
 pub mod Starting
 pub mod Stories

@@ -28,7 +28,7 @@ or_left true b e = cc
 or_left false b e = refl
 
 -- the end of a story lies behind what has none
-ends_tail : (done full : List Note) → ends_program done ≡ false → Ends (done ++ full) → Ends full
+pub ends_tail : (done full : List Note) → ends_program done ≡ false → Ends (done ++ full) → Ends full
 ends_tail [] full e h = h
 ends_tail (x ∷ []) [] e h = let bad : true ≡ false = sym h ∙ or_left (is_end x.event) false e in cc
 ends_tail (x ∷ []) (y ∷ ys) e h = h.1

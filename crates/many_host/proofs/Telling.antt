@@ -169,9 +169,9 @@ module _ (begun : ℕ) (programs : List Program) (detaches : List Detach) (whole
 
   -- ---- all turns
 
-  -- an actor at its start will meet the outcomes of the whole
+  -- an actor at its start will meet the outcomes of the whole, and make its notes
   abbrev SameMet : List Actor → Type 0
-  SameMet starts = (i : ℕ) (h : Whole) (a : Actor) → slice_get wholes i ≡ Some h → slice_get starts i ≡ Some a → a.outcomes ≡ h.outcomes
+  SameMet starts = (i : ℕ) (h : Whole) (a : Actor) → slice_get wholes i ≡ Some h → slice_get starts i ≡ Some a → (a.outcomes ≡ h.outcomes) × (a.notes ≡ h.notes)
 
   abbrev Reaches : (number : ℕ) (ds : List Device) (lines : List Line) (ds' : List Device) → List Actor → Type 0
   Reaches number ds lines ds' actors = (world : ProtocolWorldUpToFrom begun programs detaches ds (behind begun number) lines ds') × (world.now ≡ actors) × SameMet world.actors
@@ -198,7 +198,7 @@ module _ (begun : ℕ) (programs : List Program) (detaches : List Detach) (whole
         let w = item programs i within in
         let et : slice_get tellers i ≡ Some (starting w.0) = ap (λ (l : List Teller). slice_get l i) is ∙ slice_get-map starting programs i ∙ ap (option_map starting) w.1 in
         let tie = fore.each i (starting w.0) h a et eh ea in
-        tie.outcomes
+        (tie.outcomes, tie.notes)
 
     reaches : (number : ℕ) (ds ds' : List Device) (lines : List Line) (tellers : List Teller) (actors : List Actor) → TellsFrom begun programs detaches ds number lines tellers ds'
         → Foretold wholes tellers actors → Reaches number ds lines ds' actors
@@ -231,29 +231,53 @@ module _ (begun : ℕ) (programs : List Program) (detaches : List Detach) (whole
 
 -- ---- what is still to come
 
-record Prepared (programs : List Program) (tellers : List Teller) : Type 0 where
+-- its story, where the later outcomes are so
+abbrev pub Storied : (List Outcome → Type 0) → Program → Teller → Type 0
+Storied Later w t = (s : HasStory w t) × Later s.more
+
+-- .. whatever they are
+any_later : (programs : List Program) (tellers : List Teller) → AllZip HasStory programs tellers → AllZip (Storied (λ os. Unit {0})) programs tellers
+any_later [] [] all = tt
+any_later [] (t ∷ tellers) all = absurd all
+any_later (w ∷ programs) [] all = absurd all
+any_later (w ∷ programs) (t ∷ tellers) all = ((all.0, tt), any_later programs tellers all.1)
+
+record Prepared (Later : List Outcome → Type 0) (programs : List Program) (tellers : List Teller) : Type 0 where
   pub wholes : List Whole
   pub actors : List Actor
   pub fore : Foretold wholes tellers actors
+  pub later : (i : ℕ) (n : Actor) → slice_get actors i ≡ Some n → Later n.outcomes
   pub stories : (i : ℕ) (w : Program) (h : Whole) → slice_get programs i ≡ Some w → slice_get wholes i ≡ Some h → h.notes ≡ protocol_story w h.outcomes
 
-prepared : (programs : List Program) (tellers : List Teller) → AllZip HasStory programs tellers → Prepared programs tellers
-prepared [] [] all = record { wholes = []; actors = []; fore = record { wide = refl; long = refl; each = λ i t h a et eh ea. absurd cc }; stories = λ i w h ew eh. absurd cc }
-prepared [] (t ∷ tellers) all = absurd all
-prepared (w ∷ programs) [] all = absurd all
-prepared (w ∷ programs) (t ∷ tellers) all =
-    let s = all.0 in
-    let on = prepared programs tellers all.1 in
+prepared : (Later : List Outcome → Type 0) (programs : List Program) (tellers : List Teller) → AllZip (Storied Later) programs tellers → Prepared Later programs tellers
+prepared Later [] [] all = record {
+  wholes = [];
+  actors = [];
+  fore = record { wide = refl; long = refl; each = λ i t h a et eh ea. absurd cc };
+  later = λ i n en. absurd cc;
+  stories = λ i w h ew eh. absurd cc;
+}
+prepared Later [] (t ∷ tellers) all = absurd all
+prepared Later (w ∷ programs) [] all = absurd all
+prepared Later (w ∷ programs) (t ∷ tellers) all =
+    let s = all.0.0 in
+    let on = prepared Later programs tellers all.1 in
     let h : Whole = record { notes = t.told ++ s.rest; outcomes = t.met ++ s.more } in
     let a : Actor = record { due = t.due; notes = s.rest; outcomes = s.more; answers = t.answers } in
     record {
       wholes = h ∷ on.wholes;
       actors = a ∷ on.actors;
       fore = record { wide = ap suc on.fore.wide; long = ap suc on.fore.long; each = each s on };
+      later = later s on all.0.1;
       stories = stories s on;
     }
   where
-    each : (s : HasStory w t) (on : Prepared programs tellers) (i : ℕ) (t' : Teller) (h' : Whole) (a' : Actor) → slice_get (t ∷ tellers) i ≡ Some t'
+    later : (s : HasStory w t) (on : Prepared Later programs tellers) → Later s.more → (i : ℕ) (n : Actor)
+        → slice_get (record { due = t.due; notes = s.rest; outcomes = s.more; answers = t.answers } ∷ on.actors) i ≡ Some n → Later n.outcomes
+    later s on l zero n en = subst (λ (x : Actor). Later x.outcomes) (same_Some _ _ en) l
+    later s on l (suc i) n en = on.later i n en
+
+    each : (s : HasStory w t) (on : Prepared Later programs tellers) (i : ℕ) (t' : Teller) (h' : Whole) (a' : Actor) → slice_get (t ∷ tellers) i ≡ Some t'
         → slice_get (record { notes = t.told ++ s.rest; outcomes = t.met ++ s.more } ∷ on.wholes) i ≡ Some h'
         → slice_get (record { due = t.due; notes = s.rest; outcomes = s.more; answers = t.answers } ∷ on.actors) i ≡ Some a' → Ties t' h' a'
     each s on zero t' h' a' et eh ea =
@@ -263,7 +287,7 @@ prepared (w ∷ programs) (t ∷ tellers) all =
         (subst (λ (x : Whole). Ties t x a') (same_Some _ _ eh) (subst (λ (x : Actor). Ties t (record { notes = t.told ++ s.rest; outcomes = t.met ++ s.more }) x) (same_Some _ _ ea) tie))
     each s on (suc i) t' h' a' et eh ea = on.fore.each i t' h' a' et eh ea
 
-    stories : (s : HasStory w t) (on : Prepared programs tellers) (i : ℕ) (w' : Program) (h' : Whole) → slice_get (w ∷ programs) i ≡ Some w'
+    stories : (s : HasStory w t) (on : Prepared Later programs tellers) (i : ℕ) (w' : Program) (h' : Whole) → slice_get (w ∷ programs) i ≡ Some w'
         → slice_get (record { notes = t.told ++ s.rest; outcomes = t.met ++ s.more } ∷ on.wholes) i ≡ Some h'
         → h'.notes ≡ protocol_story w' h'.outcomes
     stories s on zero w' h' ew eh =
@@ -276,20 +300,65 @@ abbrev pub MetTo : List Teller → (starts now : List Actor) → Type 0
 MetTo tellers starts now =
     (i : ℕ) (t : Teller) (a n : Actor) → slice_get tellers i ≡ Some t → slice_get starts i ≡ Some a → slice_get now i ≡ Some n → a.outcomes ≡ t.met ++ n.outcomes
 
-met_to : (programs : List Program) (tellers : List Teller) (p : Prepared programs tellers) (starts now : List Actor) → now ≡ p.actors
-    → ((i : ℕ) (h : Whole) (a : Actor) → slice_get p.wholes i ≡ Some h → slice_get starts i ≡ Some a → a.outcomes ≡ h.outcomes) → MetTo tellers starts now
-met_to programs tellers p starts now is same i t a n et ea en =
+-- It stands where the teller does: since its start it has made and met what that has, and what is still to come is so.
+pub record Stood (Later : List Outcome → Type 0) (t : Teller) (a n : Actor) : Type 0 where
+  pub notes : a.notes ≡ t.told ++ n.notes
+  pub outcomes : a.outcomes ≡ t.met ++ n.outcomes
+  pub due : n.due ≡ t.due
+  pub answers : n.answers ≡ t.answers
+  pub is_rest : IsRest t.has_ended n.notes
+  pub later : Later n.outcomes
+
+-- nothing is still to come of those that have ended
+abbrev pub RestTo : List Teller → (now : List Actor) → Type 0
+RestTo tellers now = (i : ℕ) (t : Teller) (n : Actor) → slice_get tellers i ≡ Some t → slice_get now i ≡ Some n → IsRest t.has_ended n.notes
+
+-- each stands so
+abbrev pub StoodTo : (List Outcome → Type 0) → List Teller → (starts now : List Actor) → Type 0
+StoodTo Later tellers starts now =
+    (i : ℕ) (t : Teller) (a n : Actor) → slice_get tellers i ≡ Some t → slice_get starts i ≡ Some a → slice_get now i ≡ Some n → Stood Later t a n
+
+stood_to : (Later : List Outcome → Type 0) (programs : List Program) (tellers : List Teller) (p : Prepared Later programs tellers) (starts now : List Actor) → now ≡ p.actors
+    → ((i : ℕ) (h : Whole) (a : Actor) → slice_get p.wholes i ≡ Some h → slice_get starts i ≡ Some a → (a.outcomes ≡ h.outcomes) × (a.notes ≡ h.notes)) → StoodTo Later tellers starts now
+stood_to Later programs tellers p starts now is same i t a n et ea en =
     let h = item p.wholes i (omega (arith, slice_get_within tellers i t et, p.fore.wide)) in
-    let tie = p.fore.each i t h.0 n et h.1 (ap (λ (l : List Actor). slice_get l i) (sym is) ∙ en) in
-    same i h.0 a h.1 ea ∙ sym tie.outcomes
+    let there : slice_get p.actors i ≡ Some n = ap (λ (l : List Actor). slice_get l i) (sym is) ∙ en in
+    let tie = p.fore.each i t h.0 n et h.1 there in
+    let whole = same i h.0 a h.1 ea in
+    record {
+      notes = whole.1 ∙ sym tie.notes;
+      outcomes = whole.0 ∙ sym tie.outcomes;
+      due = tie.due;
+      answers = tie.answers;
+      is_rest = tie.is_rest;
+      later = p.later i n there;
+    }
+
+rest_to : (Later : List Outcome → Type 0) (programs : List Program) (tellers : List Teller) (p : Prepared Later programs tellers) (now : List Actor) → now ≡ p.actors → RestTo tellers now
+rest_to Later programs tellers p now is i t n et en =
+    let h = item p.wholes i (omega (arith, slice_get_within tellers i t et, p.fore.wide)) in
+    (p.fore.each i t h.0 n et h.1 (ap (λ (l : List Actor). slice_get l i) (sym is) ∙ en)).is_rest
+
+met_to : (Later : List Outcome → Type 0) (programs : List Program) (tellers : List Teller) (p : Prepared Later programs tellers) (starts now : List Actor) → now ≡ p.actors
+    → ((i : ℕ) (h : Whole) (a : Actor) → slice_get p.wholes i ≡ Some h → slice_get starts i ≡ Some a → (a.outcomes ≡ h.outcomes) × (a.notes ≡ h.notes)) → MetTo tellers starts now
+met_to Later programs tellers p starts now is same i t a n et ea en = (stood_to Later programs tellers p starts now is same i t a n et ea en).outcomes
 
 pub told_is_world_met : (begun : ℕ) (programs : List Program) (detaches : List Detach) (ds ds' : List Device) (number : ℕ) (lines : List Line) (tellers : List Teller)
     → TellsFrom begun programs detaches ds number lines tellers ds' → AllZip HasStory programs tellers
     → (world : ProtocolWorldUpToFrom begun programs detaches ds (behind begun number) lines ds') × MetTo tellers world.actors world.now
 told_is_world_met begun programs detaches ds ds' number lines tellers tells all =
-    let p = prepared programs tellers all in
+    let p = prepared (λ os. Unit {0}) programs tellers (any_later programs tellers all) in
     let on = reaches begun programs detaches p.wholes p.stories number ds ds' lines tellers p.actors tells p.fore in
-    (on.0, met_to programs tellers p on.0.actors on.0.now on.1 on.2)
+    (on.0, met_to (λ os. Unit {0}) programs tellers p on.0.actors on.0.now on.1 on.2)
+
+-- .. and each actor stands where the program does
+pub told_is_world_stood : (Later : List Outcome → Type 0) (begun : ℕ) (programs : List Program) (detaches : List Detach) (ds ds' : List Device) (number : ℕ) (lines : List Line)
+    (tellers : List Teller) → TellsFrom begun programs detaches ds number lines tellers ds' → AllZip (Storied Later) programs tellers
+    → (world : ProtocolWorldUpToFrom begun programs detaches ds (behind begun number) lines ds') × StoodTo Later tellers world.actors world.now × RestTo tellers world.now × (length world.now ≡ length tellers)
+told_is_world_stood Later begun programs detaches ds ds' number lines tellers tells all =
+    let p = prepared Later programs tellers all in
+    let on = reaches begun programs detaches p.wholes p.stories number ds ds' lines tellers p.actors tells p.fore in
+    (on.0, stood_to Later programs tellers p on.0.actors on.0.now on.1 on.2, rest_to Later programs tellers p on.0.now on.1, ap (λ (l : List Actor). length l) on.1 ∙ p.fore.long)
 
 pub told_is_world : ToldIsWorld
 told_is_world begun programs detaches ds ds' number lines tellers tells all = (told_is_world_met begun programs detaches ds ds' number lines tellers tells all).0
@@ -304,7 +373,7 @@ pub all_told_met : (begun : ℕ) (programs : List Program) (detaches : List Deta
     → TellsFrom begun programs detaches ds number lines tellers ds' → AllZip HasStory programs tellers → HaveEnded (map due_of tellers)
     → (world : ProtocolWorldFrom begun programs detaches ds lines ds') × HaveMet tellers world.actors
 all_told_met begun programs detaches ds ds' number lines tellers tells all ended =
-    let p = prepared programs tellers all in
+    let p = prepared (λ os. Unit {0}) programs tellers (any_later programs tellers all) in
     let on = reaches begun programs detaches p.wholes p.stories number ds ds' lines tellers p.actors tells p.fore in
     let long : length on.0.now ≡ length tellers = ap (λ (l : List Actor). length l) on.1 ∙ p.fore.long in (
       record {
@@ -314,14 +383,14 @@ all_told_met begun programs detaches ds ds' number lines tellers tells all ended
         events = as_events programs detaches on.0.count (suc begun) on.0.actors on.0.now ds ds' lines on.0.played;
         over = subst (λ (l : List Actor). IsOver l) (sym on.1) (over p);
       },
-      met_from tellers on.0.actors on.0.now long (met_to programs tellers p on.0.actors on.0.now on.1 on.2),
+      met_from tellers on.0.actors on.0.now long (met_to (λ os. Unit {0}) programs tellers p on.0.actors on.0.now on.1 on.2),
     )
   where
     has_ended : (b : Bool) (due : ℕ) → (unless b due ≡ Some due → ⊥) → b ≡ true
     has_ended true due never = refl
     has_ended false due never = absurd (never refl)
 
-    over : (p : Prepared programs tellers) → IsOver p.actors
+    over : (p : Prepared (λ os. Unit {0}) programs tellers) → IsOver p.actors
     over p k d within =
         let a = get_or p.actors k d in
         let t = item tellers k (omega (arith, within, p.fore.long)) in

@@ -1,5 +1,6 @@
 -- What a host has told, as a beginning of a world's run.
 use Rattle.std.proofs.Common.{arith, ◌≡◌, ℕ, List, Option, Some, None, slice_get, subst, append_assoc}
+use Rattle.std.specs.Prelude.{MatchOption}
 use Rattle.std.specs.List.{AllZip}
 use Rattle.std.proofs.lemmas.Option.{slice_get_within}
 use Rattle.wa_model.specs.declared.answers.Detach.{Detach}
@@ -12,6 +13,7 @@ use Rattle.many_host.specs.Turns.{HaveMet, Teller, since}
 use Rattle.many_host.proofs.Places.{item, zipped}
 use Rattle.many_host.specs.Notes.{OnStory}
 use Rattle.many_host.proofs.WorldBegun.{BeginsMet, begins_on, lines_begin, turns_begin, turns_whole}
+use Rattle.many_host.specs.declared.turn_taking.Turns.{Turns}
 use Rattle.many_host.specs.declared.turn_taking.Stage.{Stage}
 use Rattle.many_host.specs.declared.turn_taking.Stage.TheVariants.{Between, Telling, Showing}
 use Rattle.many_host.specs.Standing.{AllTold, Held, StandingFrom, TellsNext, held_of}
@@ -22,7 +24,7 @@ use Rattle.many_host.specs.Laws.{ToldBeginsWorld}
 use Rattle.many_host.proofs.Tellings.{on_story}
 
 module _ (begun : ℕ) (programs : List Program) (detaches : List Detach) (ds : List Device) (lines : List Line) (h : Held Hosted) (ds' : List Device) where
-  all_on : (stage : Stage) (s : StandingFrom begun follows has_ended memory_of programs detaches ds lines h ds' stage) → AllZip OnStory programs s.tellers
+  pub all_on : (stage : Stage) (s : StandingFrom begun follows has_ended memory_of programs detaches ds lines h ds' stage) → AllZip OnStory programs s.tellers
   all_on stage s = zipped OnStory programs s.tellers s.wide each where
     each : (i : ℕ) (w : Program) (t : Teller) → slice_get programs i ≡ Some w → slice_get s.tellers i ≡ Some t → OnStory w t
     each i w t ew et =
@@ -61,3 +63,9 @@ pub host_next : (begun : ℕ) (programs : List Program) (detaches : List Detach)
     → HostNextFrom begun programs detaches ds lines tellers old left new h ds' result
 host_next begun programs detaches ds lines tellers old left new h ds' None t = whole_at begun programs detaches ds lines (held_of h.turns) ds' tellers old new t
 host_next begun programs detaches ds lines tellers old left new h ds' (Some line) t = t
+
+-- where there is no line, the host is as it was
+pub same_host : (now before : Turns Hosted) (result : Option LineValue) → MatchOption result (now ≡ before) (λ l. Unit {0})
+    → MatchOption result (◌≡◌ {A = Host} (record { turns = now }) (record { turns = before })) (λ l. Unit {0})
+same_host now before None same = λ k. record { turns = same k }
+same_host now before (Some line) same = tt

@@ -2,6 +2,7 @@ pub mod Calls
 pub mod Hosts
 pub mod Laws
 pub mod Notes
+pub mod Saving
 pub mod Standing
 pub mod Telling
 pub mod ToldNotes

@@ -1,21 +1,28 @@
 //! `Host`: several programs on one thread, told line by line.
 
-ghost use Rattle.std.specs.Prelude.{◌≡◌, ◌≤◌, ◌<◌, ◌^◌, ℕ, List, [], All, IfOk, IsErr, MatchOption, Some, length, map, slice_get};
+ghost use Rattle.std.specs.Prelude.{◌≡◌, ◌≤◌, ◌<◌, ◌^◌, ℕ, List, [], All, IfOk, IsErr, MatchOption, Some, is_none, length, map, slice_get};
+ghost use Rattle.std.specs.Bool.{OnTrue, OnFalse};
+ghost use Rattle.std.specs.Option.{option_map};
 ghost use Rattle.wa_model.specs.Outside.{Line as WorldLine};
 ghost use Rattle.wa_model.specs.World.{Device, Program as WorldProgram};
 ghost use Rattle.device_port.specs.Listed.{of_all};
 ghost use Rattle.host_laws.specs.Supplies.{IsLent};
 ghost use Rattle.event_order.specs.Dues.{HaveEnded};
+ghost use Rattle.snapshot_store.specs.Parts.{CountsFit};
+ghost use Rattle.snapshot_store.specs.Views.{record_of, snapshot_of};
 ghost use Rattle.many_host.specs.Calls.{BegunNext, left_at, AreLeft};
 ghost use Rattle.many_host.specs.Standing.{InRange, IsTelling, LooksOut, due_told, held_of};
 ghost use Rattle.many_host.specs.Hosts.{AreResumed, AreSetUp, HostNext, HostNextFrom, HostTold, HostToldFrom, dues_left, follows, has_ended, memory_of};
+ghost use Rattle.many_host.specs.Saving.{CanBeSaved, IsSaved, saved_of};
 ghost use Rattle.many_host.specs.Turns.{unless};
 
 use crate::hosted::Hosted;
+use crate::saving::saved_records;
 use crate::turn_taking::{Turns, first_dues};
 use device_port::Devices;
 use event_order::Show;
 use pause_host::Program;
+use snapshot_store::Snapshot;
 use std::alloc::{AllocError, Global};
 use wa_model::{Detach, Line};
 
@@ -74,9 +81,9 @@ impl<'m> Host<'m> {
         })
     }
 
-    /// The next line, with the tick at which its event began; None exactly where all programs have ended and all shows are out. A new
-    /// call of a bound import asks its device once, and a device's fault is told only where that device's count rose. After want of
-    /// memory it isn't called again.
+    /// The next line, with the tick at which its event began; None exactly where all programs have ended and all shows are out, and the
+    /// host is then as it was. A new call of a bound import asks its device once, and a device's fault is told only where that device's
+    /// count rose. After want of memory it isn't called again.
     pub fn next(&mut self, devices: &mut Devices<'_>) -> Result<Option<Line>, AllocError>
         requires lent { IsLent }
         requires range { InRange self.old.turns }
@@ -104,6 +111,8 @@ impl<'m> Host<'m> {
         ensures none { IfOk result (λ line. MatchOption line (HaveEnded self.old.turns.dues.items × LooksOut self.old.turns.shows.items self.old.turns.stage)
             (λ l. HaveEnded self.old.turns.dues.items → LooksOut self.old.turns.shows.items self.old.turns.stage → ⊥)) }
         ensures begun { IfOk result (λ line. BegunNext self.old.turns.stage self.old.turns.begun self.new.turns.begun line) }
+        ensures goes_on { (LooksOut self.old.turns.shows.items self.old.turns.stage → ⊥) → self.new.turns.begun ≡ self.old.turns.begun }
+        ensures same { IfOk result (λ line. MatchOption line (self.new ≡ self.old) (λ l. Unit {0})) }
     {
         self.turns.next(devices)
     }
@@ -121,6 +130,41 @@ impl<'m> Host<'m> {
         ensures { Some result ≡ due_told (slice_get self.now.turns.dues.items program) }
     {
         self.turns.due(program as usize)
+    }
+
+    /// Whether a program has ended.
+    pub fn has_ended(&self, program: u32) -> bool
+        requires { program < length self.now.turns.dues.items }
+        ensures { Some result ≡ option_map is_none (slice_get self.now.turns.dues.items program) }
+    {
+        self.turns.dues()[program as usize].is_none()
+    }
+
+    /// Whether the next line, where there is one, begins an event.
+    pub fn is_between(&self) -> bool
+        requires { InRange self.now.turns }
+        ensures yes { OnTrue result (LooksOut self.now.turns.shows.items self.now.turns.stage) }
+        ensures no { OnFalse result (LooksOut self.now.turns.shows.items self.now.turns.stage → ⊥) }
+    {
+        self.turns.is_between()
+    }
+
+    /// What is held between events: of each program that it hasn't begun, or where it waits, or that it has ended. Of programs that began at
+    /// their start, without bound imports, that is the snapshot of the world up to its last event.
+    pub fn snapshot(&self, alloc: Global) -> Result<Snapshot, AllocError>
+        requires range { InRange self.now.turns }
+        requires between { LooksOut self.now.turns.shows.items self.now.turns.stage }
+        requires tells { (ds : List Device) × IsTelling follows has_ended memory_of (held_of self.now.turns) ds self.now.turns.stage }
+        ensures is { IfOk result (λ s. snapshot_of s ≡ saved_of self.now.turns) }
+        ensures saved { (begun : ℕ) (programs : List WorldProgram) (detaches : List Detach) (ds ds' : List Device) (lines : List WorldLine)
+            (told : HostToldFrom begun programs detaches ds lines self.now ds') → All CanBeSaved programs
+            → IfOk result (λ s. IsSaved begun programs detaches ds lines ds' told.tellers (snapshot_of s)) }
+        ensures few { IfOk result (λ s. length s.programs.items ≤ 16) }
+        ensures counts { IfOk result (λ s. All CountsFit (map record_of s.programs.items)) }
+    {
+        let programs = saved_records(alloc, self.turns.programs(), self.turns.dues())?;
+        let events = self.turns.events();
+        Ok(Snapshot { events, programs })
     }
 
     /// A program, as it is now.

@@ -20,16 +20,20 @@
 //! meet; a host knows only what was told so far. The laws lead from the one to the other, turn by turn (`specs/Turns.antt`) and note by
 //! note (`specs/Notes.antt`): what was told is so many whole turns and the beginning of the next.
 //!
+//! Between two events what is held can be saved (`Host::snapshot`): of programs that began at their start, without bound imports, that is
+//! the snapshot of the world up to its last event (`specs/Saving.antt`).
+//!
 //! Nothing is printed here: that is `world_hosting`'s matter.
 //!
 //! - `told_turns`, `told_notes`: worlds as a host meets them, by turns and by notes.
 //! - `teller`, `settling`, `turn_taking`: programs that tell events, what an event leads to, and `Turns` (`specs/Standing.antt`).
-//! - `hosted`, `host`, `laws`: programs of `pause_host` as such, `Host`, and its law.
+//! - `hosted`, `saving`, `host`, `laws`: programs of `pause_host` as such, what is saved of them, `Host`, and its law.
 #![tactic(auto)]
 
 mod host;
 mod hosted;
 mod laws;
+mod saving;
 mod settling;
 mod teller;
 mod told_notes;

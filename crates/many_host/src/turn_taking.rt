@@ -1,12 +1,14 @@
 //! `Turns`: programs that share a list of devices, told line by line.
 
-ghost use Rattle.std.specs.Prelude.{◌≡◌, ◌≤◌, ◌<◌, ◌+◌, ◌*◌, ◌^◌, ℕ, All, List, [], IfOk, IsErr, length, map, slice_get, MatchOption, Some};
+ghost use Rattle.std.specs.Prelude.{◌≡◌, ◌≤◌, ◌<◌, ◌+◌, ◌*◌, ◌^◌, ℕ, All, List, [], IfOk, IsErr, drop, length, map, slice_get, MatchOption, Some};
+ghost use Rattle.std.specs.Bool.{OnTrue, OnFalse};
 ghost use Rattle.wa_model.specs.Outside.{Line as WorldLine};
 ghost use Rattle.wa_model.specs.View.{line_of};
 ghost use Rattle.wa_model.specs.World.{Device, Program};
 ghost use Rattle.device_port.specs.Listed.{of_all};
 ghost use Rattle.host_laws.specs.Supplies.{IsLent, RisesAtMostOne};
 ghost use Rattle.event_order.specs.Dues.{HaveEnded};
+ghost use Rattle.event_order.specs.Looks.{looks_of};
 ghost use Rattle.many_host.specs.Calls.{BegunNext, left_at, AreLeft};
 ghost use Rattle.many_host.specs.Standing.{AllStart, InRange, IsDueBy, IsTelling, LooksOut, StandingFrom, TellsLineFrom, TellsNext, due_told, held_of, latest, most_due, most_ticks};
 
@@ -78,12 +80,51 @@ impl<T: Teller + Drop> Turns<T> {
         &self.programs[program]
     }
 
+    /// All of them.
+    pub fn programs(&self) -> &[T]
+        ensures { result.now ≡ self.now.programs.items }
+    {
+        self.programs.as_slice()
+    }
+
+    /// When each is due that hasn't ended.
+    pub fn dues(&self) -> &[Option<u64>]
+        ensures { result.now ≡ self.now.dues.items }
+    {
+        self.dues.as_slice()
+    }
+
     /// When a program is due; 0 where it has ended.
     pub fn due(&self, program: usize) -> u64
         requires { program < length self.now.dues.items }
         ensures { Some result ≡ due_told (slice_get self.now.dues.items program) }
     {
         self.dues[program].unwrap_or(0)
+    }
+
+    /// Whether the next line, where there is one, begins a turn.
+    pub fn is_between(&self) -> bool
+        requires { InRange self.now }
+        ensures yes { OnTrue result (LooksOut self.now.shows.items self.now.stage) }
+        ensures no { OnFalse result (LooksOut self.now.shows.items self.now.stage → ⊥) }
+    {
+        match self.stage {
+            Stage::Between => true,
+            Stage::Telling(_) => false,
+            Stage::Showing { turn, from } => self.are_out(turn, from),
+        }
+    }
+
+    // Whether no show of a turn's program is left from this place on.
+    fn are_out(&self, turn: Turn, from: usize) -> bool
+        requires { turn.program < 16 }
+        ensures yes { OnTrue result (looks_of turn.program (drop from self.now.shows.items) ≡ []) }
+        ensures no { OnFalse result (looks_of turn.program (drop from self.now.shows.items) ≡ [] → ⊥) }
+    {
+        match next_show(&self.shows, from, turn.program as u32) {
+            None => true,
+            Some(_) => false,
+        }
     }
 
     /// How many turns have begun.
@@ -93,7 +134,8 @@ impl<T: Teller + Drop> Turns<T> {
         self.begun
     }
 
-    /// The next line; None where all programs have ended and all shows are out. After want of memory it isn't called again.
+    /// The next line; None where all programs have ended and all shows are out, and all is then as it was. After want of memory it isn't
+    /// called again.
     pub fn next(&mut self, devices: &mut Devices<'_>) -> Result<Option<Line>, AllocError>
         requires lent { IsLent }
         requires range { InRange self.old }
@@ -109,6 +151,8 @@ impl<T: Teller + Drop> Turns<T> {
         ensures none { IfOk result (λ line. MatchOption line (HaveEnded self.old.dues.items × LooksOut self.old.shows.items self.old.stage)
             (λ l. HaveEnded self.old.dues.items → LooksOut self.old.shows.items self.old.stage → ⊥)) }
         ensures begun { IfOk result (λ line. BegunNext self.old.stage self.old.begun self.new.begun line) }
+        ensures goes_on { (LooksOut self.old.shows.items self.old.stage → ⊥) → self.new.begun ≡ self.old.begun }
+        ensures same { IfOk result (λ line. MatchOption line (self.new ≡ self.old) (λ l. Unit {0})) }
         ensures left { (begun : ℕ) (programs : List Program) (detaches : List Detach) (ds : List Device) (lines : List WorldLine)
             → StandingFrom begun T.follows T.has_ended T.memory programs detaches ds lines (held_of self.old) (of_all seen devices.old) self.old.stage
             → IsErr result → AreLeft self.old.begun detaches (of_all (λ d. record { device = seen d; faults = faults d }) devices.old)
@@ -136,6 +180,7 @@ impl<T: Teller + Drop> Turns<T> {
             (of_all (λ d. record { device = seen d; faults = faults d }) devices.new) self.new (of_all seen devices.new)) }
         ensures none { IfOk result (λ line. MatchOption line (HaveEnded self.old.dues.items) (λ l. HaveEnded self.old.dues.items → ⊥)) }
         ensures begun { IfOk result (λ line. BegunNext Stage.Between self.old.begun self.new.begun line) }
+        ensures same { IfOk result (λ line. MatchOption line (self.new ≡ self.old) (λ l. Unit {0})) }
         ensures left { (begun : ℕ) (programs : List Program) (detaches : List Detach) (ds : List Device) (lines : List WorldLine)
             → StandingFrom begun T.follows T.has_ended T.memory programs detaches ds lines (held_of self.old) (of_all seen devices.old) Stage.Between
             → IsErr result → AreLeft self.old.begun detaches (of_all (λ d. record { device = seen d; faults = faults d }) devices.old)
@@ -207,6 +252,8 @@ impl<T: Teller + Drop> Turns<T> {
         ensures none { IfOk result (λ line. MatchOption line (HaveEnded self.old.dues.items × LooksOut self.old.shows.items (Stage.Showing turn from))
             (λ l. HaveEnded self.old.dues.items → LooksOut self.old.shows.items (Stage.Showing turn from) → ⊥)) }
         ensures begun { IfOk result (λ line. BegunNext (Stage.Showing turn from) self.old.begun self.new.begun line) }
+        ensures goes_on { (LooksOut self.old.shows.items (Stage.Showing turn from) → ⊥) → self.new.begun ≡ self.old.begun }
+        ensures same { IfOk result (λ line. MatchOption line (self.new ≡ self.old) (λ l. Unit {0})) }
         ensures left { (begun : ℕ) (programs : List Program) (detaches : List Detach) (ds : List Device) (lines : List WorldLine)
             → StandingFrom begun T.follows T.has_ended T.memory programs detaches ds lines (held_of self.old) (of_all seen devices.old) (Stage.Showing turn from)
             → IsErr result → AreLeft self.old.begun detaches (of_all (λ d. record { device = seen d; faults = faults d }) devices.old)

@@ -10,7 +10,7 @@ use Rattle.wa_model.specs.declared.events.End.TheVariants as E
 use Rattle.wa_model.specs.declared.events.Event.{Event as EventValue}
 use Rattle.wa_model.specs.declared.events.Event.TheVariants as EV
 use Rattle.wa_model.specs.Outside.{Call, AnswerLine, Event, called, answered, paused, returned, ended, shown}
-use Rattle.wa_model.specs.View.{answer_of}
+use Rattle.wa_model.specs.View.{answer_of, event_of}
 use Rattle.wa_model.specs.Store.{Store}
 use Rattle.wa_model.specs.Plan.{Outcome, given, refused}
 use Rattle.run_theory.specs.Fitting.{types_of, global_types}
@@ -45,12 +45,12 @@ use Rattle.pause_host.specs.declared.stages.Stage.{Stage}
 use Rattle.pause_host.specs.declared.stages.Stage.TheVariants as S
 use Rattle.pause_host.specs.declared.stages.Task.{Task}
 use Rattle.pause_host.specs.declared.stages.Task.TheVariants as T
-use Rattle.pause_host.specs.Views.{exports_in, entry_of, with_asker, answering, giving, place_in, end_of}
+use Rattle.pause_host.specs.Views.{exports_in, entry_of, with_asker, answering, giving, is_pause, place_in, end_of}
 use Rattle.pause_host.proofs.Comings.{fits_on}
 use Rattle.pause_host.specs.declared.program.Program.{Program}
 use Rattle.pause_host.specs.declared.program.State.{State}
 use Rattle.pause_host.specs.declared.program.State.TheVariants.{Live}
-use Rattle.pause_host.specs.Programs.{place_of, store_of, memory_at, memory_in, end_at, end_in, ended_as, RunsCode, lines_left, FollowsAt, Follows, OnItsWay, IsOnItsWay, Advances, FollowsAlone, AdvancesAlone}
+use Rattle.pause_host.specs.Programs.{place_of, store_of, memory_at, memory_in, begins_paused, end_at, end_in, ended_as, ends_in_pause, is_at_pause, RunsCode, lines_left, FollowsAt, Follows, OnItsWay, IsOnItsWay, Advances, FollowsAlone, AdvancesAlone}
 
 no_end : (e : Event) → is_end e ≡ false → end_in e ≡ None
 no_end (called c) h = refl
@@ -59,6 +59,11 @@ no_end (paused ticks used) h = refl
 no_end (returned entry v) h = refl
 no_end (ended how) h = cc
 no_end (shown at bytes) h = refl
+
+-- the last note of all
+pause_told : (b : Bool) (notes : List Note) (x : Note) → ends_in_pause b (notes ++ x ∷ []) ≡ is_pause x.event
+pause_told b [] x = refl
+pause_told b (y ∷ ys) x = pause_told (is_pause y.event) ys x
 
 module _ (w : W.Program) where
   end_told : (ready : List Note) (h : Held) (os : List Outcome) (left : ℕ) (x : Note) (used : ℕ) (to : Place) → Lands w.source w.plan w.steps ready h os left x used to → end_at to ≡ end_in x.event
@@ -94,8 +99,9 @@ module _ (w : W.Program) where
   pub advanced : (notes : List Note) (os : List Outcome) (x x' : Program) (from to : Place) (event : EventValue) (s : Store) (used : ℕ) (old new : Supply) → FollowsAt w notes os x from
       → Moves w from x.steps_left old event s used new to
       → old.lines ≡ lines_left x → module_of x'.valid.now ≡ module_of x.valid.now → x'.setting ≡ x.setting → x'.globals ≡ x.globals → x'.given ≡ x.given → lines_left x' ≡ new.lines → x'.steps_left ≡ x.steps_left - used
-      → place_of x' x'.state ≡ to → store_of x'.state ≡ s → memory_in x' ≡ s.memory → RunsCode w.source x'.state → Advances w notes os event old new x'
-  advanced notes os x x' (stands ready h) to event s used old new f m old_lines same_code same_setting same_globals same_given same_lines same_steps same_place same_store same_memory code =
+      → place_of x' x'.state ≡ to → store_of x'.state ≡ s → memory_in x' ≡ s.memory → RunsCode w.source x'.state
+      → is_at_pause x'.state ≡ is_pause (event_of event) → Advances w notes os event old new x'
+  advanced notes os x x' (stands ready h) to event s used old new f m old_lines same_code same_setting same_globals same_given same_lines same_steps same_place same_store same_memory code pauses =
       let t = m.tells in
       let more = one_more_told w notes os x.steps_left (stands ready h) old m.note used new to f.told t in
       record {
@@ -109,6 +115,7 @@ module _ (w : W.Program) where
         follows = record {
           at = record {
             source = f.source ∙ sym same_code;
+            sizes = f.sizes;
             setting = subst (IsSetting w) (sym same_setting) f.setting;
             globals = subst (λ g. types_of g.items ≡ global_types (imported imported_global w.source)) (sym same_globals) f.globals;
             pokes = subst (All HasShortPokes) (sym same_lines) (pokes_then (call_in m.note.event) old t.outcomes new t.takes (subst (All HasShortPokes) (sym old_lines) f.pokes));
@@ -120,10 +127,11 @@ module _ (w : W.Program) where
                 (subst (λ n. IsAt w (notes ++ m.note ∷ []) (os ++ more.0) n to) (sym same_steps) more.2);
           };
           code = code;
+          paused = pauses ∙ ap is_pause (sym m.event_is) ∙ sym (pause_told (begins_paused w.origin) notes m.note);
         };
       }
-  advanced notes os x x' (has_ended how) to event s used old new f m old_lines same_code same_setting same_globals same_given same_lines same_steps same_place same_store same_memory code = absurd m.tells
-  advanced notes os x x' nowhere to event s used old new f m old_lines same_code same_setting same_globals same_given same_lines same_steps same_place same_store same_memory code = absurd m.tells
+  advanced notes os x x' (has_ended how) to event s used old new f m old_lines same_code same_setting same_globals same_given same_lines same_steps same_place same_store same_memory code pauses = absurd m.tells
+  advanced notes os x x' nowhere to event s used old new f m old_lines same_code same_setting same_globals same_given same_lines same_steps same_place same_store same_memory code pauses = absurd m.tells
 
 -- ---- for those above
 
@@ -249,7 +257,7 @@ memory_told w x instance stage is code = by_test (nat_lt 0 (length (all_memories
 
 -- the same of a program in another state
 pub in_state : (w : W.Program) (notes : List Note) (os : List Outcome) (x : Program) (st : State) (place : Place) → FollowsAt w notes os x place → FollowsAt w notes os (record x { state = st }) place
-in_state w notes os x st place f = record { source = f.source; setting = f.setting; globals = f.globals; pokes = f.pokes; given = f.given; fits = f.fits; holds = f.holds; few_steps = f.few_steps; told = f.told }
+in_state w notes os x st place f = record { source = f.source; sizes = f.sizes; setting = f.setting; globals = f.globals; pokes = f.pokes; given = f.given; fits = f.fits; holds = f.holds; few_steps = f.few_steps; told = f.told }
 
 -- who follows a program is on its way
 pub on_its_way_by : (w : W.Program) (notes : List Note) (os : List Outcome) (x : Program) → Follows w notes os x → IsOnItsWay x

@@ -12,6 +12,7 @@ use Rattle.wa_types.specs.declared.syntax.Limits.{Limits}
 use Rattle.wa_types.specs.Syntax.{FuncType, Module}
 use Rattle.wa_types.specs.Memory.{page_size}
 use Rattle.wa_types.specs.Modules.{imported, imported_func, imported_global, all_memories, func_sorts, or_empty, type_at, func_type_at}
+use Rattle.wa_types.specs.Sizes.{SizeRule}
 use Rattle.wa_types.specs.Validity.{Valid}
 use Rattle.wa_types.specs.View.{module_of}
 use Rattle.wa_model.specs.declared.answers.Area.{Area}
@@ -45,7 +46,7 @@ use Rattle.pause_host.specs.declared.plan.Plan.{Plan}
 use Rattle.pause_host.specs.declared.program.Program.{Program}
 use Rattle.pause_host.specs.declared.program.State.TheVariants.{Fresh}
 use Rattle.pause_host.specs.Settings.{calls_of, MakesSetting}
-use Rattle.pause_host.specs.Programs.{source_of, named_entries, IsPlan, BindsAs, world_program, before, place_of, RunsCode, FollowsAt, Follows}
+use Rattle.pause_host.specs.Programs.{source_of, named_entries, IsPlan, BindsAs, world_program, before, is_at_pause, place_of, RunsCode, FollowsAt, Follows}
 use Rattle.pause_host.proofs.Making.{SetUpFine, set_up_fine}
 
 both : (a b : Bool) → (a && b) ≡ true → (a ≡ true) × (b ≡ true)
@@ -144,13 +145,14 @@ module _ (x : Plan) (funcs : List ℕ) (looks : List Look) (binds : List (Option
       (begun_fits p v w.plan fine.exports (all_left w.plan []) (opening p x.globals.items) p.start 0 fine.entries (λ s o. openings_fit p x.globals.items s v plan.globals o)
       (λ f o. (start_takes_none p f v o, start_there p f p.start (valid_instance p v).start o))).1
 
-  pub follows : (program : Program) → module_of program.valid.now ≡ p → program.globals ≡ x.globals → MakesSetting p x.listed x.binds x.area x.steps program.setting
+  pub follows : SizeRule p → (program : Program) → module_of program.valid.now ≡ p → program.globals ≡ x.globals → MakesSetting p x.listed x.binds x.area x.steps program.setting
       → program.left.number ≡ 0 → map entry_of program.left.entries.items ≡ calls_of (named_entries x) funcs
       → program.left.answers.items ≡ x.answers.items → program.given ≡ length x.answers.items → program.steps_left ≡ x.steps → program.state ≡ Fresh → Follows w [] [] program
-  follows program code globals made number entries answers given steps fresh = record {
+  follows sizes program code globals made number entries answers given steps fresh = record {
     at = subst (λ st. FollowsAt w [] [] program (place_of program st)) (sym fresh) at;
     code =
         subst (RunsCode w.source) (sym fresh) tt;
+    paused = ap is_at_pause fresh;
   }
     where
       left : left_of program.left ≡ all_left w.plan []
@@ -172,6 +174,7 @@ module _ (x : Plan) (funcs : List ℕ) (looks : List Look) (binds : List (Option
       at : FollowsAt w [] [] program (place_of program Fresh)
       at = record {
         source = sym code;
+        sizes = sizes;
         setting = setting_is program.setting made;
         globals = subst (λ g. types_of g.items ≡ global_types (imported imported_global p)) (sym globals) plan.globals;
         pokes = subst (λ xs. All HasShortPokes (lines_in xs)) (sym answers) plan.pokes;

@@ -18,7 +18,7 @@ sets_up x plan (Ok program) ok err =
     let m = ok.2 in (
       ok.0,
       ok.1,
-      λ looks binds bound. follows x ok.0 looks binds bound plan m.valid ok.1 program m.source m.globals m.setting m.number m.entries m.answers m.given m.steps m.fresh,
+      λ looks binds bound. follows x ok.0 looks binds bound plan m.valid ok.1 m.sizes program m.source m.globals m.setting m.number m.entries m.answers m.given m.steps m.fresh,
       ap (map answer_line_of) m.answers,
     )
 sets_up x plan (Err fault) ok err = err

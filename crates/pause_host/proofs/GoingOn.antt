@@ -1,5 +1,5 @@
 -- A program that is put back at a pause goes on as the program of a world that begins there.
-use Rattle.std.proofs.Common.{arith, ◌≡◌, ◌≤◌, ◌<◌, ◌+◌, ◌-◌, ◌*◌, ℕ, suc, List, [], ◌∷◌, map, drop, length, length-drop, Option, Some, All, false, refl, sym, ap, ◌∙◌, subst}
+use Rattle.std.proofs.Common.{arith, ◌≡◌, ◌≤◌, ◌<◌, ◌+◌, ◌-◌, ◌*◌, ℕ, suc, List, [], ◌∷◌, map, drop, length, length-drop, Option, Some, All, true, false, refl, sym, ap, ◌∙◌, subst}
 use Rattle.std.specs.Prelude.{slice_get}
 use Rattle.std.proofs.lemmas.List.{length-map}
 use Rattle.std.proofs.lemmas.List.Elements.{All-drop}
@@ -8,6 +8,7 @@ use Rattle.wa_types.specs.declared.values.Value.TheVariants as V
 use Rattle.wa_types.specs.Memory.{page_size}
 use Rattle.wa_types.specs.Modules.{all_memories, func_imports, func_type_at, imported, imported_global}
 use Rattle.wa_types.specs.Syntax.{Module}
+use Rattle.wa_types.specs.Sizes.{SizeRule}
 use Rattle.wa_types.specs.Validity.{Valid}
 use Rattle.wa_model.specs.Blocking.{Left, bad_value}
 use Rattle.wa_model.specs.Instantiation.{least_of}
@@ -31,15 +32,32 @@ use Rattle.snapshot_store.specs.Snapshots.{PausedParts}
 use Rattle.pause_host.specs.declared.plan.Plan.{Plan}
 use Rattle.pause_host.specs.declared.program.Program.{Program}
 use Rattle.pause_host.specs.declared.stages.HostImport.{HostImport}
+use Rattle.pause_host.specs.declared.program.State.{State}
+use Rattle.pause_host.specs.declared.program.State.TheVariants.{Fresh, Live, Failed, Lost}
 use Rattle.pause_host.specs.declared.stages.Setting.{Setting}
+use Rattle.pause_host.specs.declared.stages.Stage.TheVariants.{Free, Answering, Giving, Pausing, Paused, Ending, Ended}
 use Rattle.pause_host.specs.Holding.{HeldHolds, PlaceHolds, PokesInside}
 use Rattle.pause_host.specs.Moves.{HasShortPokes, IsSetting, PlaceFits}
-use Rattle.pause_host.specs.Programs.{BindsAs, FollowsAt, IsPlan, named_entries, place_of, source_of, world_program}
+use Rattle.pause_host.specs.Parting.{parts_at}
+use Rattle.pause_host.specs.Programs.{BindsAs, FollowsAt, IsPlan, is_at_pause, named_entries, place_of, source_of, world_program}
 use Rattle.pause_host.specs.Settings.{calls_of}
 use Rattle.pause_host.specs.Thawing.{GoesOnFrom, PartsSuit, StandsThawed, halt_of, halted_program, lines_of, tested_plan}
 use Rattle.pause_host.proofs.Beginning.{calls_few, lawful_area, setting_is}
 use Rattle.pause_host.proofs.Making.{SetUpFine, set_up_fine}
 use Rattle.pause_host.proofs.Thawings.{all_at, inside}
+
+-- a program of which there are parts stands at a pause
+parts_paused : (x : Program) (state : State) (parts : PausedParts) → parts_at x state ≡ Some parts → is_at_pause state ≡ true
+parts_paused x (Live instance (Paused pause)) parts e = refl
+parts_paused x (Live instance Free) parts e = cc
+parts_paused x (Live instance (Answering task answer)) parts e = cc
+parts_paused x (Live instance (Giving task value)) parts e = cc
+parts_paused x (Live instance (Pausing pause)) parts e = cc
+parts_paused x (Live instance (Ending end)) parts e = cc
+parts_paused x (Live instance (Ended end)) parts e = cc
+parts_paused x Fresh parts e = cc
+parts_paused x (Failed how) parts e = cc
+parts_paused x Lost parts e = cc
 
 -- a setting doesn't say where the program begins
 from_here : (w : W.Program) (o : W.Origin) (x : Setting) → IsSetting w x → IsSetting (record w { origin = o }) x
@@ -59,7 +77,7 @@ from_here w o x is = record {
 }
 
 module _ (x : Plan) (parts : PausedParts) (memory : List ℕ) (suits : PartsSuit x parts) (program : Program) (there : StandsThawed x parts memory suits program) (plan : IsPlan x)
-    (v : Valid (source_of x)) (whole : length memory ≡ parts.pages * page_size) where
+    (v : Valid (source_of x)) (sizes : SizeRule (source_of x)) (whole : length memory ≡ parts.pages * page_size) where
   abbrev p : Module
   p = source_of x
 
@@ -143,6 +161,7 @@ module _ (x : Plan) (parts : PausedParts) (memory : List ℕ) (suits : PartsSuit
     at : FollowsAt w [] [] program (place_of program program.state)
     at = record {
       source = sym there.source;
+      sizes = sizes;
       setting = setting;
       globals = subst (λ g. types_of g.items ≡ global_types (imported imported_global p)) (sym there.globals) plan.globals;
       pokes = subst (All HasShortPokes) (sym there.lines) (All-drop HasShortPokes parts.answers (lines_of x) plan.pokes);
@@ -154,4 +173,4 @@ module _ (x : Plan) (parts : PausedParts) (memory : List ℕ) (suits : PartsSuit
     }
 
   pub goes_on : StoreFits p put_back → GoesOnFrom x parts memory suits there.funcs program
-  goes_on store = λ due looks binds bound. record { at = at store due looks binds bound; code = there.code }
+  goes_on store = λ due looks binds bound. record { at = at store due looks binds bound; code = there.code; paused = parts_paused program program.state parts there.parts_are }

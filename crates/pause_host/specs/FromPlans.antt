@@ -1,5 +1,6 @@
 -- A program as it is made of a plan.
 use Rattle.std.specs.Prelude.{◌≡◌, ℕ, List, length, map}
+use Rattle.wa_types.specs.Sizes.{SizeRule}
 use Rattle.wa_types.specs.Validity.{Valid}
 use Rattle.wa_types.specs.View.{module_of}
 use Rattle.pause_host.specs.declared.plan.Plan.{Plan}
@@ -12,6 +13,7 @@ use Rattle.pause_host.specs.Views.{entry_of}
 -- The program is made of the plan, whose entries are of these functions, and hasn't begun.
 pub record IsOfPlan (x : Plan) (funcs : List ℕ) (program : Program) : Type 0 where
   pub valid : Valid (source_of x)
+  pub sizes : SizeRule (source_of x)
   pub source : module_of program.valid.now ≡ source_of x
   pub setting : MakesSetting (source_of x) x.listed x.binds x.area x.steps program.setting
   pub globals : program.globals ≡ x.globals

@@ -38,7 +38,7 @@ use Rattle.pause_host.specs.declared.stages.Moved.{Moved}
 use Rattle.pause_host.specs.declared.stages.Setting.{Setting}
 use Rattle.pause_host.specs.declared.stages.Task.{Task}
 use Rattle.pause_host.specs.declared.stages.Task.TheVariants as T
-use Rattle.pause_host.specs.Views.{exports_in, entry_of, place_in}
+use Rattle.pause_host.specs.Views.{exports_in, entry_of, is_pause, is_paused, place_in}
 
 -- the setting is that of a program of a world, over a valid module with a memory and with the five exports
 pub record IsSetting (w : Program) (x : Setting) : Type 0 where
@@ -82,6 +82,10 @@ ComesFrom w from left used m supply supply' l s waits =
 -- The same from a state of the machine.
 abbrev pub Comes : Program → Held → (left used : ℕ) → Moved → (supply supply' : Supply) → B.Left → Store → Waits → Type 0
 Comes w h left used m supply supply' l s waits = ComesFrom w (stands [] h) left used m supply supply' l s waits
+
+-- The program is then paused exactly where the event is a pause.
+abbrev pub PausesSo : Moved → Type 0
+PausesSo m = is_paused m.stage ≡ is_pause (event_of m.event)
 
 -- ---- parts of the way to it
 

@@ -1,8 +1,9 @@
 -- A program as plain data, and what its calls do.
-use Rattle.std.specs.Prelude.{◌≡◌, ◌<◌, ◌≤◌, ◌^◌, ◌++◌, ℕ, List, [], ◌∷◌, length, map, Option, Some, None, All, Bool, Result, Ok, Err, slice_get}
+use Rattle.std.specs.Prelude.{◌≡◌, ◌<◌, ◌≤◌, ◌^◌, ◌++◌, ℕ, List, [], ◌∷◌, length, map, Option, Some, None, All, Bool, true, false, Result, Ok, Err, slice_get}
 use Rattle.std.specs.Option.{option_map, unwrap_or}
 use Rattle.wa_types.specs.Syntax.{Module}
 use Rattle.wa_types.specs.Modules.{imported, imported_global, func_imports}
+use Rattle.wa_types.specs.Sizes.{SizeRule}
 use Rattle.wa_types.specs.View.{module_of}
 use Rattle.wa_model.specs.declared.events.End.{End}
 use Rattle.wa_model.specs.declared.events.Event.{Event as EventValue}
@@ -15,7 +16,7 @@ use Rattle.wa_model.specs.Blocking.{Note, no_store}
 use Rattle.wa_model.specs.Plan.{Outcome}
 use Rattle.wa_model.specs.Protocol.{Held, held_begun}
 use Rattle.wa_model.specs.World as W
-use Rattle.wa_model.specs.World.{CallsMeet, Device, Look, answers_from, at_start, call_in, is_end}
+use Rattle.wa_model.specs.World.{CallsMeet, Device, Look, Origin, answers_from, at_pause, at_start, call_in, is_end}
 use Rattle.run_theory.specs.Fitting.{types_of, global_types}
 use Rattle.device_port.specs.declared.devices.Devices.{Devices}
 use Rattle.device_port.specs.Listed.{of_all}
@@ -27,7 +28,7 @@ use Rattle.host_setup.specs.Views.{Blames}
 use Rattle.host_laws.specs.Places.{Place, stands, has_ended, nowhere}
 use Rattle.host_laws.specs.Stories.{IsAt}
 use Rattle.host_laws.specs.Supplies.{Supply, Takes}
-use Rattle.pause_host.specs.Views.{exports_in, left_of, lines_in, place_in}
+use Rattle.pause_host.specs.Views.{exports_in, is_pause, is_paused, left_of, lines_in, place_in}
 use Rattle.pause_host.specs.Holding.{PlaceHolds}
 use Rattle.pause_host.specs.Moves.{IsSetting, PlaceFits, HasShortPokes}
 use Rattle.pause_host.specs.Settings.{calls_of}
@@ -115,6 +116,21 @@ end_in _ = None
 abbrev pub ended_as : Program → Option End
 ended_as x = end_at (place_of x x.state)
 
+-- a program stands at a pause
+abbrev pub is_at_pause : State → Bool
+is_at_pause (Live instance stage) = is_paused stage
+is_at_pause _ = false
+
+-- the last of these notes is a pause; where there is none, as told
+abbrev pub ends_in_pause : Bool → List Note → Bool
+ends_in_pause b [] = b
+ends_in_pause b (x ∷ xs) = ends_in_pause (is_pause x.event) xs
+
+-- a program of a world begins at a pause
+abbrev pub begins_paused : Origin → Bool
+begins_paused (at_pause x) = true
+begins_paused _ = false
+
 -- the instance is one of the program's module
 abbrev pub RunsCode : Module → State → Type 0
 RunsCode p (Live instance stage) = code_in instance ≡ p
@@ -135,6 +151,7 @@ supply_of seen faults x devices = supply_with x (of_all seen devices) (of_all fa
 -- The program has told these notes of a program of a world, its calls met these outcomes, and it stands here.
 pub record FollowsAt (w : W.Program) (notes : List Note) (os : List Outcome) (x : Program) (place : Place) : Type 0 where
   pub source : w.source ≡ module_of x.valid.now
+  pub sizes : SizeRule w.source
   pub setting : IsSetting w x.setting
   pub globals : types_of x.globals.items ≡ global_types (imported imported_global w.source)
   pub pokes : All HasShortPokes (lines_left x)
@@ -144,10 +161,12 @@ pub record FollowsAt (w : W.Program) (notes : List Note) (os : List Outcome) (x 
   pub few_steps : w.steps ≤ 1000000000
   pub told : IsAt w notes os x.steps_left place
 
--- It has told these notes, its calls met these outcomes, and it goes on.
+-- It has told these notes, its calls met these outcomes, and it goes on; it is paused exactly where the last of them is a pause, or it has told
+-- nothing since it was put back at one.
 pub record Follows (w : W.Program) (notes : List Note) (os : List Outcome) (x : Program) : Type 0 where
   pub at : FollowsAt w notes os x (place_of x x.state)
   pub code : RunsCode w.source x.state
+  pub paused : is_at_pause x.state ≡ ends_in_pause (begins_paused w.origin) notes
 
 -- A program is on its way at this place, in this state: it has told what some program of a world tells.
 pub record OnItsWay (x : Program) (place : Place) (state : State) : Type 0 where

@@ -11,7 +11,7 @@ use Rattle.wa_model.specs.declared.answers.Said.{Said}
 use Rattle.wa_model.specs.declared.answers.Said.TheVariants as SV
 use Rattle.wa_model.specs.declared.events.End.{End}
 use Rattle.wa_model.specs.declared.events.End.TheVariants as E
-use Rattle.wa_model.specs.Outside.{Answer, AnswerLine, answered, ended}
+use Rattle.wa_model.specs.Outside.{Answer, AnswerLine, Event, answered, paused, ended}
 use Rattle.wa_model.specs.View.{answer_of, answer_line_of}
 use Rattle.wa_model.specs.Store.{Store}
 use Rattle.wa_model.specs.Plan.{Entry}
@@ -120,6 +120,18 @@ place_in x area l s w (Ended end) = has_ended end
 abbrev pub end_of : Stage → Option End
 end_of (Ended end) = Some end
 end_of _ = None
+
+-- ---- pauses
+
+-- a pause was told, and nothing since
+abbrev pub is_paused : Stage → Bool
+is_paused (Paused pause) = true
+is_paused _ = false
+
+-- an event tells a pause
+abbrev pub is_pause : Event → Bool
+is_pause (paused ticks used) = true
+is_pause _ = false
 
 -- ---- the stage behind an answer that was told
 

@@ -1,6 +1,7 @@
 //! The end of a program, told as an event.
 
 ghost use Rattle.std.specs.Prelude.{◌≡◌, IfOk};
+ghost use Rattle.pause_host.specs.Moves.{PausesSo};
 
 use crate::stages::{Moved, Stage};
 use std::alloc::{AllocError, Global};
@@ -11,6 +12,7 @@ use wa_types::Name;
 pub fn ended(alloc: Global, end: End) -> Result<Moved, AllocError>
     ensures event { IfOk result (λ m. m.event ≡ Event.Ended end) }
     ensures stage { IfOk result (λ m. m.stage ≡ Stage.Ended end) }
+    ensures pauses { IfOk result PausesSo }
 {
     let told = copy_end(alloc, &end)?;
     Ok(Moved {

@@ -7,7 +7,7 @@ ghost use Rattle.interp.specs.Host.{code_in, store_in, waits_in};
 ghost use Rattle.device_port.specs.Listed.{of_all};
 ghost use Rattle.host_laws.specs.Supplies.{RisesAtMostOne};
 ghost use Rattle.pause_host.specs.Hosting.{HostsAt};
-ghost use Rattle.pause_host.specs.Moves.{ComesFrom, HasShortPokes, IsSetting, PlaceFits};
+ghost use Rattle.pause_host.specs.Moves.{ComesFrom, HasShortPokes, IsSetting, PausesSo, PlaceFits};
 ghost use Rattle.pause_host.specs.Views.{end_of, left_of, lines_in, place_in, supply_in};
 
 use crate::ends::ended;
@@ -35,6 +35,7 @@ pub fn next_event(
         → IfOk result (λ m. ComesFrom w (place_in (exports_of w.source) w.plan.area (left_of left.old) (store_in instance.old) (waits_in instance.old) stage) steps.old.left
         (steps.new.used - steps.old.used) m (supply_in seen faults left.old.answers.items devices.old) (supply_in seen faults left.new.answers.items devices.new) (left_of left.new)
         (store_in instance.new) (waits_in instance.new)) }
+    ensures pauses { IfOk result PausesSo }
     ensures code { code_in instance.new ≡ code_in instance.old }
     ensures sum { steps.new.left + steps.new.used ≡ steps.old.left + steps.old.used }
     ensures grows { steps.old.used ≤ steps.new.used }

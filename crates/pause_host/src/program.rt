@@ -1,7 +1,8 @@
 //! `Program`: a plan over a prepared module, advanced from event to event.
 
-ghost use Rattle.std.specs.Prelude.{◌≡◌, ◌<◌, ◌≤◌, ◌+◌, ◌++◌, ◌^◌, [], ◌∷◌, ℕ, List, IfOk, IsErr, IfErr, None, Ok, Some, length, map, min};
+ghost use Rattle.std.specs.Prelude.{◌≡◌, ◌<◌, ◌≤◌, ◌+◌, ◌*◌, ◌++◌, ◌^◌, [], ◌∷◌, ℕ, List, IfOk, IsErr, IfErr, IfSome, None, Ok, Some, length, map, min};
 ghost use Rattle.std.specs.Option.{option_copied, option_map};
+ghost use Rattle.wa_types.specs.Memory.{page_size};
 ghost use Rattle.wa_model.specs.World.{bytes_shown};
 
 use crate::ends::copy_end;
@@ -307,7 +308,8 @@ impl<'m> Program<'m> {
     /// What the program is at its pause, but for its memory. None exactly where it isn't paused: where the event told last isn't a
     /// pause.
     pub fn parts(&self, alloc: Global) -> Result<Option<PausedParts>, AllocError>
-        ensures { IfOk result (λ parts. option_map parts_of parts ≡ parts_in self.now) }
+        ensures parts { IfOk result (λ parts. option_map parts_of parts ≡ parts_in self.now) }
+        ensures whole { IfOk result (λ parts. IfSome parts (λ x. length (memory_in self.now) ≡ x.pages * page_size)) }
     {
         let State::Live { instance, stage } = &self.state else {
             return Ok(None);

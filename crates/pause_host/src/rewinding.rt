@@ -13,7 +13,7 @@ ghost use Rattle.interp.specs.Host.{code_in, store_in, waits_in};
 ghost use Rattle.interp.specs.Instance.{inside};
 ghost use Rattle.host_laws.specs.Supplies.{Supply};
 ghost use Rattle.pause_host.specs.Hosting.{HostsIn, HostsOver};
-ghost use Rattle.pause_host.specs.Moves.{Comes, IsSetting};
+ghost use Rattle.pause_host.specs.Moves.{Comes, IsSetting, PausesSo};
 ghost use Rattle.pause_host.specs.Views.{entry_of, rewinding};
 
 use crate::ends::ended;
@@ -39,6 +39,7 @@ pub fn rewind(
         → HeldFits w.source (calling (rewinding pause (store_in instance.old)) (store_in instance.old) (exports_of w.source).start_rewind (V.I32 w.plan.area.at ∷ []) call_again l)
         → IfOk result (λ m. Comes w (calling (rewinding pause (store_in instance.old)) (store_in instance.old) (exports_of w.source).start_rewind (V.I32 w.plan.area.at ∷ []) call_again l)
         steps.old.left (steps.new.used - steps.old.used) m supply supply l (store_in instance.new) (waits_in instance.new)) }
+    ensures pauses { IfOk result PausesSo }
     ensures code { code_in instance.new ≡ code_in instance.old }
     ensures sum { steps.new.left + steps.new.used ≡ steps.old.left + steps.old.used }
     ensures grows { steps.old.used ≤ steps.new.used }
@@ -64,6 +65,7 @@ fn call_again(
         → HeldFits w.source (entering (rewinding pause since) (entry_of pause.entry) (store_in instance.old) l)
         → IfOk result (λ m. Comes w (entering (rewinding pause since) (entry_of pause.entry) (store_in instance.old) l) steps.old.left (steps.new.used - steps.old.used) m supply supply l
         (store_in instance.new) (waits_in instance.new)) }
+    ensures pauses { IfOk result PausesSo }
     ensures code { code_in instance.new ≡ code_in instance.old }
     ensures sum { steps.new.left + steps.new.used ≡ steps.old.left + steps.old.used }
     ensures grows { steps.old.used ≤ steps.new.used }
@@ -97,6 +99,7 @@ fn test_rewound(
         → IfOk result (λ m. Comes w (calling (rewinding pause since) (store_in instance.old) (exports_of w.source).get_state []
         (test_rewound (record { store = at; here = here; under = under })) l) steps.old.left (steps.new.used - steps.old.used) m supply supply l (store_in instance.new)
         (waits_in instance.new)) }
+    ensures pauses { IfOk result PausesSo }
     ensures code { code_in instance.new ≡ code_in instance.old }
     ensures sum { steps.new.left + steps.new.used ≡ steps.old.left + steps.old.used }
     ensures grows { steps.old.used ≤ steps.new.used }
@@ -130,6 +133,7 @@ fn stop_rewind(
         → IfOk result (λ m. Comes w (calling (rewinding pause since) (store_in instance.old) (exports_of w.source).stop_rewind []
         (give_answer (record { store = at; here = here; under = under })) l) steps.old.left (steps.new.used - steps.old.used) m supply supply l (store_in instance.new)
         (waits_in instance.new)) }
+    ensures pauses { IfOk result PausesSo }
     ensures code { code_in instance.new ≡ code_in instance.old }
     ensures sum { steps.new.left + steps.new.used ≡ steps.old.left + steps.old.used }
     ensures grows { steps.old.used ≤ steps.new.used }

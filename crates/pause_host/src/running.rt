@@ -1,6 +1,6 @@
 //! What comes of each stage but the pauses: the start function, entries, and calls of imports with their answers.
 
-ghost use Rattle.std.specs.Prelude.{◌≡◌, ◌<◌, ◌≤◌, ◌+◌, ◌-◌, ◌^◌, ℕ, List, [], ◌∷◌, All, IfOk, IsErr, OnOk, None, map, slice_get, length};
+ghost use Rattle.std.specs.Prelude.{◌≡◌, ◌<◌, ◌≤◌, ◌+◌, ◌-◌, ◌^◌, ℕ, List, [], ◌∷◌, All, IfOk, IsErr, OnOk, None, false, map, slice_get, length};
 ghost use Rattle.std.specs.Option.{option_map, option_to_list};
 ghost use Rattle.wa_types.specs.Modules.{func_imports};
 ghost use Rattle.wa_model.specs.Store.{Store};
@@ -17,8 +17,8 @@ ghost use Rattle.host_laws.specs.Places.{stands};
 ghost use Rattle.host_laws.specs.Supplies.{RisesAtMostOne, Supply};
 ghost use Rattle.pause_host.specs.Holding.{HoldsArea, PokesInside};
 ghost use Rattle.pause_host.specs.Hosting.{AsksOnly, CallsOne, HasMemory, HostsAt, StartRan, StopsFirst};
-ghost use Rattle.pause_host.specs.Moves.{Asks, Comes, ComesFrom, HasShortPokes, IsAsking, IsSetting, IsTask, PlaceFits, TaskTurn};
-ghost use Rattle.pause_host.specs.Views.{entry_of, free_place, left_of, lines_in, place_in, stage_after, starts, supply_in};
+ghost use Rattle.pause_host.specs.Moves.{Asks, Comes, ComesFrom, HasShortPokes, IsAsking, IsSetting, IsTask, PausesSo, PlaceFits, TaskTurn};
+ghost use Rattle.pause_host.specs.Views.{entry_of, free_place, is_paused, left_of, lines_in, place_in, stage_after, starts, supply_in};
 
 use crate::asking::next_outcome;
 use crate::ends::ended;
@@ -49,6 +49,7 @@ pub fn start(
         → HeldFits w.source (starting func (store_in instance.old) (left_of left.old))
         → IfOk result (λ m. Comes w (starting func (store_in instance.old) (left_of left.old)) steps.old.left (steps.new.used - steps.old.used) m
         (supply_in seen faults left.old.answers.items devices.old) (supply_in seen faults left.new.answers.items devices.new) (left_of left.new) (store_in instance.new) (waits_in instance.new)) }
+    ensures pauses { IfOk result PausesSo }
     ensures code { code_in instance.new ≡ code_in instance.old }
     ensures sum { steps.new.left + steps.new.used ≡ steps.old.left + steps.old.used }
     ensures grows { steps.old.used ≤ steps.new.used }
@@ -79,6 +80,7 @@ fn start_asked(
         → Calls w.source s func [] left_then used turn (store_in instance.now) (waits_in instance.now)
         → IfOk result (λ m. Comes w (starting func s l) left_then used m (supply_in seen faults answers.old.items devices.old) (supply_in seen faults answers.new.items devices.new) l
         (store_in instance.now) (waits_in instance.now)) }
+    ensures pauses { IfOk result PausesSo }
     ensures kept { IsErr result → of_all seen devices.new ≡ of_all seen devices.old }
     ensures once { IsErr result → RisesAtMostOne (of_all faults devices.old) (of_all faults devices.new) }
     ensures same_list { devices.new.list.ghost_name ≡ devices.old.list.ghost_name }
@@ -115,6 +117,7 @@ fn start_ran(
         → TaskTurn w h (left_of left.old) the_start left_then used turn (store_in instance.old) (waits_in instance.old) → steps.old.left + used ≡ left_then → HeldFits w.source h
         → IfOk result (λ m. Comes w h left_then (used + (steps.new.used - steps.old.used)) m (supply_in seen faults left.old.answers.items devices.old)
         (supply_in seen faults left.new.answers.items devices.new) (left_of left.new) (store_in instance.new) (waits_in instance.new)) }
+    ensures pauses { IfOk result PausesSo }
     ensures code { code_in instance.new ≡ code_in instance.old }
     ensures sum { steps.new.left + steps.new.used ≡ steps.old.left + steps.old.used }
     ensures grows { steps.old.used ≤ steps.new.used }
@@ -149,6 +152,7 @@ pub(crate) fn call_next(
         → PlaceFits w (free_place (left_of left.old) (store_in instance.old)) → IfOk result
         (λ m. ComesFrom w (free_place (left_of left.old) (store_in instance.old)) steps.old.left (steps.new.used - steps.old.used) m (supply_in seen faults left.old.answers.items devices.old)
         (supply_in seen faults left.new.answers.items devices.new) (left_of left.new) (store_in instance.new) (waits_in instance.new)) }
+    ensures pauses { IfOk result PausesSo }
     ensures code { code_in instance.new ≡ code_in instance.old }
     ensures sum { steps.new.left + steps.new.used ≡ steps.old.left + steps.old.used }
     ensures grows { steps.old.used ≤ steps.new.used }
@@ -182,6 +186,7 @@ fn entry_ran(
         → TaskTurn w h (left_of left.old) (an_entry (entry_of entry)) left_then used turn (store_in instance.now) (waits_in instance.now)
         → IfOk result (λ m. Comes w h left_then used m (supply_in seen faults left.old.answers.items devices.old) (supply_in seen faults left.new.answers.items devices.new) (left_of left.new)
         (store_in instance.now) (waits_in instance.now)) }
+    ensures pauses { IfOk result PausesSo }
     ensures kept { IsErr result → of_all seen devices.new ≡ of_all seen devices.old }
     ensures once { IsErr result → RisesAtMostOne (of_all faults devices.old) (of_all faults devices.new) }
     ensures same_list { devices.new.list.ghost_name ≡ devices.old.list.ghost_name }
@@ -204,6 +209,7 @@ fn returned(left: &mut Left, value: Option<Value>) -> Moved
     requires { left.old.number + 1 < 2 ^ 32 }
     ensures event { result.event ≡ Event.Returned left.old.number value }
     ensures stage { result.stage ≡ Stage.Free }
+    ensures pauses { PausesSo result }
     ensures left { left_of left.new ≡ next_entry (left_of left.old) }
     ensures answers { left.new.answers ≡ left.old.answers }
 {
@@ -230,6 +236,7 @@ fn stopped(
         → (t : PlainTask) (h : Held) (l : PlainLeft) (left_then used : ℕ) → IsTask task t → TaskTurn w h l t left_then used turn (store_in instance.now) (waits_in instance.now)
         → IfOk result (λ m. Comes w h left_then used m (supply_in seen faults answers.old.items devices.old) (supply_in seen faults answers.new.items devices.new) l (store_in instance.now)
         (waits_in instance.now)) }
+    ensures pauses { IfOk result PausesSo }
     ensures kept { IsErr result → of_all seen devices.new ≡ of_all seen devices.old }
     ensures once { IsErr result → RisesAtMostOne (of_all faults devices.old) (of_all faults devices.new) }
     ensures same_list { devices.new.list.ghost_name ≡ devices.old.list.ghost_name }
@@ -259,6 +266,7 @@ fn called(
         → IsAsking task (waits_in instance.now) (store_in instance.now) who → IfOk result
         (λ m. Comes w h left_then used m (supply_in seen faults answers.old.items devices.old) (supply_in seen faults answers.new.items devices.new) l (store_in instance.now)
         (waits_in instance.now)) }
+    ensures pauses { IfOk result PausesSo }
     ensures kept { IsErr result → of_all seen devices.new ≡ of_all seen devices.old }
     ensures once { IsErr result → RisesAtMostOne (of_all faults devices.old) (of_all faults devices.new) }
     ensures same_list { devices.new.list.ghost_name ≡ devices.old.list.ghost_name }
@@ -291,8 +299,9 @@ pub(crate) fn answered(
     number: u32,
     answer: Answer,
 ) -> Stage
-    ensures { (w : Program) → IsSetting w setting.now → All IsShort (answer_of answer).pokes
+    ensures stage { (w : Program) → IsSetting w setting.now → All IsShort (answer_of answer).pokes
         → result ≡ stage_after (fault_of (option_to_list import.now.result) size w.plan (starts task) number (answer_of answer)) answer.ticks task number answer }
+    ensures apart { is_paused result ≡ false }
 {
     let call = AnsweredCall {
         import: number,
@@ -327,7 +336,8 @@ fn is_start(task: &Task) -> bool
 
 // An answer that passes its tests: a trap waits for its ticks as a value does.
 fn passed(task: Task, import: u32, answer: Answer) -> Stage
-    ensures { result ≡ stage_after None answer.ticks task import answer }
+    ensures stage { result ≡ stage_after None answer.ticks task import answer }
+    ensures apart { is_paused result ≡ false }
 {
     if answer.ticks == 0 {
         return Stage::Answering { task, answer };
@@ -350,6 +360,7 @@ pub(crate) fn tell_answer(instance: &mut Instance<'_>, task: Task, answer: Answe
         (place_in (exports_of w.source) w.plan.area l (store_in instance.old) (waits_in instance.old) (Stage.Answering task answer))
         → ComesFrom w (place_in (exports_of w.source) w.plan.area l (store_in instance.old) (waits_in instance.old) (Stage.Answering task answer)) left_then 0 result supply
         supply l (store_in instance.new) (waits_in instance.new) }
+    ensures pauses { PausesSo result }
     ensures code { code_in instance.new ≡ code_in instance.old }
 {
     write_pokes(instance, &answer.pokes);
@@ -375,6 +386,7 @@ pub(crate) fn give(
         → IfOk result (λ m. ComesFrom w (place_in (exports_of w.source) w.plan.area (left_of left.old) (store_in instance.old) (waits_in instance.old) (Stage.Giving given.task given.value))
         steps.old.left (steps.new.used - steps.old.used) m (supply_in seen faults left.old.answers.items devices.old) (supply_in seen faults left.new.answers.items devices.new) (left_of left.new)
         (store_in instance.new) (waits_in instance.new)) }
+    ensures pauses { IfOk result PausesSo }
     ensures code { code_in instance.new ≡ code_in instance.old }
     ensures sum { steps.new.left + steps.new.used ≡ steps.old.left + steps.old.used }
     ensures grows { steps.old.used ≤ steps.new.used }

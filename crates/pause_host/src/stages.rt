@@ -1,7 +1,7 @@
 //! Where a program with an instance stands between two events, and what stays of it on its way.
 
-ghost use Rattle.std.specs.Prelude.{◌≡◌};
-ghost use Rattle.pause_host.specs.Views.{stage_told};
+ghost use Rattle.std.specs.Prelude.{◌≡◌, false};
+ghost use Rattle.pause_host.specs.Views.{is_paused, stage_told};
 
 use std::alloc::Global;
 use std::collections::VecDeque;
@@ -107,7 +107,8 @@ pub struct Moved {
 /// Where a program stands behind an answer that was told: a trap ends it, and an import that is the start function waits for
 /// nothing.
 pub(crate) fn stage_told(task: Task, said: Said) -> Stage
-    ensures { result ≡ stage_told task said }
+    ensures stage { result ≡ stage_told task said }
+    ensures apart { is_paused result ≡ false }
 {
     match said {
         Said::Value(value) => match task {

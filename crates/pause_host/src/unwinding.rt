@@ -15,7 +15,7 @@ ghost use Rattle.interp.specs.Host.{code_in, store_in, waits_in};
 ghost use Rattle.interp.specs.Instance.{inside, nothing};
 ghost use Rattle.host_laws.specs.Supplies.{Supply};
 ghost use Rattle.pause_host.specs.Hosting.{HostsAt, HostsIn, HostsOver};
-ghost use Rattle.pause_host.specs.Moves.{Comes, ComesFrom, IsSetting, PlaceFits};
+ghost use Rattle.pause_host.specs.Moves.{Comes, ComesFrom, IsSetting, PausesSo, PlaceFits};
 ghost use Rattle.pause_host.specs.Views.{entry_of, pausing, unwinding};
 
 use crate::ends::ended;
@@ -42,6 +42,7 @@ pub fn unwind(
         → PlaceFits w (pausing (exports_of w.source) w.plan.area l (entry_of pause.entry) pause.import (answer_of pause.answer) (store_in instance.old) (waits_in instance.old))
         → IfOk result (λ m. ComesFrom w (pausing (exports_of w.source) w.plan.area l (entry_of pause.entry) pause.import (answer_of pause.answer) (store_in instance.old)
         (waits_in instance.old)) steps.old.left (steps.new.used - steps.old.used) m supply supply l (store_in instance.new) (waits_in instance.new)) }
+    ensures pauses { IfOk result PausesSo }
     ensures code { code_in instance.new ≡ code_in instance.old }
     ensures sum { steps.new.left + steps.new.used ≡ steps.old.left + steps.old.used }
     ensures grows { steps.old.used ≤ steps.new.used }
@@ -71,6 +72,7 @@ fn give_zero(
         (resumed (record { store = store_in instance.old; here = here; under = under }) (store_in instance.old) (zeros_of w.source pause.import)) l)
         → IfOk result (λ m. Comes w (busy (unwinding pause) (resumed (record { store = store_in instance.old; here = here; under = under }) (store_in instance.old)
         (zeros_of w.source pause.import)) l) steps.old.left (steps.new.used - steps.old.used) m supply supply l (store_in instance.new) (waits_in instance.new)) }
+    ensures pauses { IfOk result PausesSo }
     ensures code { code_in instance.new ≡ code_in instance.old }
     ensures sum { steps.new.left + steps.new.used ≡ steps.old.left + steps.old.used }
     ensures grows { steps.old.used ≤ steps.new.used }
@@ -128,6 +130,7 @@ fn test_unwound(
         → HeldFits w.source (calling (unwinding pause) (store_in instance.old) (exports_of w.source).get_state [] test_unwound l)
         → IfOk result (λ m. Comes w (calling (unwinding pause) (store_in instance.old) (exports_of w.source).get_state [] test_unwound l) steps.old.left
         (steps.new.used - steps.old.used) m supply supply l (store_in instance.new) (waits_in instance.new)) }
+    ensures pauses { IfOk result PausesSo }
     ensures code { code_in instance.new ≡ code_in instance.old }
     ensures sum { steps.new.left + steps.new.used ≡ steps.old.left + steps.old.used }
     ensures grows { steps.old.used ≤ steps.new.used }
@@ -158,6 +161,7 @@ fn stop_unwind(
         → HeldFits w.source (calling (unwinding pause) (store_in instance.old) (exports_of w.source).stop_unwind [] pause_there l)
         → IfOk result (λ m. Comes w (calling (unwinding pause) (store_in instance.old) (exports_of w.source).stop_unwind [] pause_there l) steps.old.left
         (steps.new.used - steps.old.used) m supply supply l (store_in instance.new) (waits_in instance.new)) }
+    ensures pauses { IfOk result PausesSo }
     ensures code { code_in instance.new ≡ code_in instance.old }
     ensures sum { steps.new.left + steps.new.used ≡ steps.old.left + steps.old.used }
     ensures grows { steps.old.used ≤ steps.new.used }

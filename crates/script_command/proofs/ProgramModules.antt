@@ -3,7 +3,7 @@ use Rattle.std.proofs.Common.{arith, ◌≡◌, ℕ, suc, ◌≤◌, List, Optio
 use Rattle.vault_port.specs.Files.{Files, bytes_of}
 use Rattle.wa_types.specs.declared.bounds.LimitKind.{LimitKind}
 use Rattle.wa_types.specs.declared.bounds.LimitKind.TheVariants.{File}
-use Rattle.wa_types.specs.Pausing.{Settings}
+use Rattle.wa_types.specs.Pausing.{Listed, Settings}
 use Rattle.wa_types.specs.Syntax.{Module}
 use Rattle.script_model.specs.Script.{ProgramText}
 use Rattle.script_model.specs.Transcript.{Refusal}
@@ -49,6 +49,11 @@ run_passes s bytes listed p c r u h =
 one_run : (s : Settings) (bytes : List ℕ) (l k : List Bool) (p q : Module) → RunsAs s bytes l p → RunsAs s bytes k q → outline p ≡ outline q
 one_run s bytes l k p q a b = V.one_written s bytes a.source b.source a.which b.which p q a.rewritable b.rewritable a.rewrites b.rewrites
 
+-- .. and one list of imports
+one_list : (s : Settings) (bytes : List ℕ) (l k : List Bool) (p q : Module) → RunsAs s bytes l p → RunsAs s bytes k q → l ≡ k
+one_list s bytes l k p q a b =
+    a.listed_is ∙ ap (λ (m : Module). Listed m s) (V.same_module bytes a.source b.source a.rewritable.accepted.unreserved.read b.rewritable.accepted.unreserved.read) ∙ sym b.listed_is
+
 -- ---- modules
 
 module _ (files : Files) (t : ProgramText) where
@@ -65,6 +70,15 @@ module _ (files : Files) (t : ProgramText) where
       one_run b.3.0 (bytes_of files t.path) a.1 b.1 p q
       (subst (λ (x : Settings). RunsAs x (bytes_of files t.path) a.1 p) s (own (λ (bs : List ℕ). RunsAs a.3.0 bs a.1 p) a.0 a.2 a.3.2))
       (own (λ (bs : List ℕ). RunsAs b.3.0 bs b.1 q) b.0 b.2 b.3.2)
+
+  -- and one list, which is told where they are run
+  pub one_listing : (p q : Module) (l k : Option (List Bool)) → IsModule Run (Some files) t p l → IsModule Run (Some files) t q k → l ≡ k
+  one_listing p q l k a b =
+      let s = one_settings t a.3.0 b.3.0 a.3.1 b.3.1 in
+      let list : a.1 ≡ b.1 = one_list b.3.0 (bytes_of files t.path) a.1 b.1 p q
+      (subst (λ (x : Settings). RunsAs x (bytes_of files t.path) a.1 p) s (own (λ (bs : List ℕ). RunsAs a.3.0 bs a.1 p) a.0 a.2 a.3.2))
+      (own (λ (bs : List ℕ). RunsAs b.3.0 bs b.1 q) b.0 b.2 b.3.2) in
+      a.4 ∙ ap (λ (x : List Bool). Some x) list ∙ sym b.4
 
   -- a module isn't refused
   pub not_bad : (way : Way) (p : Module) (l : Option (List Bool)) (r : Refusal) → IsModule way (Some files) t p l → IsBadModule way (Some files) t r → ⊥

@@ -25,7 +25,7 @@ module _ (p : Module) where
   sorts_same [] = refl
   sorts_same (f ∷ fs) = ap (λ ns. f.sort ∷ ns) (sorts_same fs)
 
-  type_same : (x : ℕ) → func_type_at p x ≡ func_type_at (outline p) x
+  pub type_same : (x : ℕ) → func_type_at p x ≡ func_type_at (outline p) x
   type_same x = ap (λ sorts. or_empty (slice_get (map (type_at p) (imported imported_func p ++ sorts)) x)) (sorts_same p.funcs)
 
   defined_same : (ty : FuncType) (o : Option ℕ) → is_defined_as p ty o ≡ is_defined_as (outline p) ty o

@@ -29,7 +29,7 @@ pub record GoesOn {A : Type 0} (n : ℕ) (xs : List A) (x : A) (rest : List A) :
   pub item : (d : A) → get_or xs n d ≡ x
   pub behind : drop (suc n) xs ≡ rest
 
-goes_on : {A : Type 0} (n : ℕ) (xs : List A) (x : A) (rest : List A) → x ∷ rest ≡ drop n xs → GoesOn n xs x rest
+pub goes_on : {A : Type 0} (n : ℕ) (xs : List A) (x : A) (rest : List A) → x ∷ rest ≡ drop n xs → GoesOn n xs x rest
 goes_on zero [] x rest e = cc
 goes_on (suc n) [] x rest e = cc
 goes_on zero (y ∷ ys) x rest e =
@@ -41,19 +41,19 @@ goes_on (suc n) (y ∷ ys) x rest e =
     let lt = g.within in
     record { within = omega (arith, lt); item = g.item; behind = g.behind }
 
-zip_more : {A B : Type 0} (R : A → B → Type 0) (xs : List A) (ys : List B) (x : A) (y : B) → AllZip R xs ys → R x y → AllZip R (xs ++ x ∷ []) (ys ++ y ∷ [])
+pub zip_more : {A B : Type 0} (R : A → B → Type 0) (xs : List A) (ys : List B) (x : A) (y : B) → AllZip R xs ys → R x y → AllZip R (xs ++ x ∷ []) (ys ++ y ∷ [])
 zip_more R [] [] x y h r = (r, tt)
 zip_more R [] (b ∷ ys) x y h r = absurd h
 zip_more R (a ∷ xs) [] x y h r = absurd h
 zip_more R (a ∷ xs) (b ∷ ys) x y h r = (h.0, zip_more R xs ys x y h.1 r)
 
-zip_long : {A B : Type 0} (R : A → B → Type 0) (xs : List A) (ys : List B) → AllZip R xs ys → length xs ≡ length ys
+pub zip_long : {A B : Type 0} (R : A → B → Type 0) (xs : List A) (ys : List B) → AllZip R xs ys → length xs ≡ length ys
 zip_long R [] [] h = refl
 zip_long R [] (b ∷ ys) h = absurd h
 zip_long R (a ∷ xs) [] h = absurd h
 zip_long R (a ∷ xs) (b ∷ ys) h = ap suc (zip_long R xs ys h.1)
 
-none_behind : {A : Type 0} (xs : List A) → xs ++ [] ≡ xs
+pub none_behind : {A : Type 0} (xs : List A) → xs ++ [] ≡ xs
 none_behind [] = refl
 none_behind (x ∷ xs) = ap (λ ys. x ∷ ys) (none_behind xs)
 
@@ -67,14 +67,15 @@ pub record NextProgram (modules : List Module) (n : ℕ) (p : Planned) : Type 0 
 pub item_at : (modules : List Module) (v : Module) (k n l : ℕ) → v ≡ get_or modules k v → k ≡ n → n ≡ l → v ≡ get_or modules l v
 item_at modules v k n l e a b = e ∙ ap (λ (i : ℕ). get_or modules i v) (a ∙ b)
 
+pub next_at : (modules : List Module) (n : ℕ) (p : Planned) (rest : List Planned) (left : List Module) → left ≡ drop n modules → AllZip CanStage left (p ∷ rest) → NextProgram modules n p
+next_at modules n p rest [] is each = absurd each
+next_at modules n p rest (w ∷ ms) is each =
+    let g = goes_on n modules w ms is in
+    record { within = g.within; can = λ v e. subst (λ (x : Module). CanStage x p) (sym (e ∙ g.item v)) each.0 }
+
 module _ (modules : List Module) (planned : List Planned) (p : Planned) (rest : List Planned) (staged : List Staged) where
   pub next : Staging modules planned (p ∷ rest) staged → NextProgram modules (length staged) p
-  next s = by s.left s.left_is s.each where
-    by : (left : List Module) → left ≡ drop (length staged) modules → AllZip CanStage left (p ∷ rest) → NextProgram modules (length staged) p
-    by [] is each = absurd each
-    by (w ∷ ms) is each =
-        let g = goes_on (length staged) modules w ms is in
-        record { within = g.within; can = λ v e. subst (λ (x : Module). CanStage x p) (sym (e ∙ g.item v)) each.0 }
+  next s = next_at modules (length staged) p rest s.left s.left_is s.each
 
   pub one_more : Staging modules planned (p ∷ rest) staged → (v : Module) → v ≡ get_or modules (length staged) v → (x : Staged) → IsStaged (part_of v p) x
       → Staging modules planned rest (staged ++ x ∷ [])

@@ -52,6 +52,11 @@ module _ (files : Files) (name : List ℕ) where
     ]
   ]
 
+-- A script that is there isn't refused as none.
+pub no_script_passes : (files : Files) (name : List ℕ) (whole : Script) (r : Refusal) → HasScript (Some files) name whole → IsRefused Run (Some files) name (bad_script r) → ⊥
+no_script_passes files name whole r has h =
+    script_passes files name whole r (is_here files name whole has) (subst (λ (bs : List ℕ). IsNoScript bs r) (own_bytes files name h.0 h.1) h.2)
+
 -- ---- files that are there
 
 abbrev pub IsThere : Files → List ℕ → Type 0

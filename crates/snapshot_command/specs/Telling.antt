@@ -77,10 +77,11 @@ pub record IsContinuedPart (fault : PutFault) (c : Call) (least : ℕ) (text : L
   pub told : AreBegunFrom fault snapshot.events (From snapshot (programs_of play)) play.run.parts (detaches_in play.run.whole) c.devices c.devices' least text
       ⊎ AreEndedFrom snapshot.events (From snapshot (programs_of play)) play.run.parts (detaches_in play.run.whole) c.devices c.devices' least text
 
--- The whole text; and then the snapshot's file, and no other, holds that of what was played, or no file has changed.
+-- The whole text; and then the snapshot's file alone has changed, and spells that of what was played, or no file has changed.
 abbrev pub IsDone : Deed → Call → (text : List ℕ) → Type 0
 IsDone (saves most) c text =
-    (s : Snapshot) × IsPlayed most c text s × (length (snapshot_bytes s) ≤ most_bytes) × Becomes c.files c.files' (ChangesOnly c.snap (snapshot_bytes s))
+    (s : Snapshot) × IsPlayed most c text s × SnapText (snapshot_bytes s) s × (length (snapshot_bytes s) ≤ most_bytes)
+    × Becomes c.files c.files' (ChangesOnly c.snap (snapshot_bytes s))
 IsDone continues c text = IsContinued c text × (c.files' ≡ c.files)
 
 -- first lines of it, up to a fault; no file has changed

@@ -14,6 +14,8 @@ use Rattle.transcript.specs.declared.refusals.RefusalKind.{RefusalKind}
 use Rattle.transcript.specs.declared.refusals.RefusalKind.TheVariants as K
 use Rattle.wasm_reader.specs.Held.{Holds}
 use Rattle.snapshot_store.specs.Snapshots.{ProgramRecord, Snapshot, SnapText, snapshot_bytes}
+use Rattle.pause_host.specs.declared.faults.ThawFault.{ThawFault}
+use Rattle.pause_host.specs.declared.faults.ThawFault.TheVariants as W
 use Rattle.script_command.specs.declared.opening.OpenFault.{OpenFault}
 use Rattle.script_command.specs.declared.opening.OpenFault.TheVariants.{Memory, Module, Read, Rule, Script}
 use Rattle.script_command.specs.declared.opening.Opened.{Opened}
@@ -25,7 +27,7 @@ use Rattle.world_hosting.specs.Worlds.{Part, PrintsPart, world_programs}
 use Rattle.world_hosting.specs.declared.resuming.Resumed.{Resumed}
 use Rattle.snapshot_command.specs.declared.stop.Stop.{Stop}
 use Rattle.snapshot_command.specs.declared.stop.Stop.TheVariants as T
-use Rattle.snapshot_command.specs.Calls.{Call, Deed, Output, saves}
+use Rattle.snapshot_command.specs.Calls.{Call, Deed, Output}
 use Rattle.snapshot_command.specs.Scripts.{IsRead, IsUnplayed, NamesDevice, Play, not_run}
 use Rattle.snapshot_command.specs.Telling.{Cause, HoldsMore, IsCause, IsDone, most_bytes, program_in, refusal_in}
 use Rattle.snapshot_command.specs.Ends.{IsLine, IsWhy, sink_fault}
@@ -102,19 +104,19 @@ IsUnwritten name T.Sink = ⊥
 IsUnwritten name (T.Refused r) = (r.program ≡ None) × (refusal_of r.kind ≡ write_fault name)
 
 -- Each program stands for its record, which suits it.
-pub record ResumesEach (parts : List Part) (records : List ProgramRecord) (resumed : List Resumed) : Type 0 where
+pub record StandForEach (parts : List Part) (records : List ProgramRecord) (resumed : List Resumed) : Type 0 where
   pub suit : AllZip RecordSuits (world_programs parts) records
   pub are : AreResumedAt parts records resumed
 
 -- The programs stand for a snapshot that fits them.
-pub record Resumes (parts : List Part) (s : Snapshot) (resumed : List Resumed) : Type 0 where
+pub record StandFor (parts : List Part) (s : Snapshot) (resumed : List Resumed) : Type 0 where
   pub suits : SnapshotSuits (world_programs parts) s
   pub are : AreResumedAt parts s.programs resumed
 
 -- What writing a snapshot leaves: its file, or that it is too long, or couldn't be written.
 abbrev pub Writes : Snapshot → (name : List ℕ) → (files files' : Option Files) → (faults faults' : ℕ) → Result (Unit {0}) Stop → Type 0
 Writes s name files files' faults faults' (Ok done) =
-    (length (snapshot_bytes s) ≤ most_bytes) × Becomes files files' (ChangesOnly name (snapshot_bytes s)) × (faults' ≡ faults)
+    SnapText (snapshot_bytes s) s × (length (snapshot_bytes s) ≤ most_bytes) × Becomes files files' (ChangesOnly name (snapshot_bytes s)) × (faults' ≡ faults)
 Writes s name files files' faults faults' (Err T.Memory) =
     (length (snapshot_bytes s) ≤ most_bytes) × Becomes files files' (HoldsFrontAtMost name (snapshot_bytes s)) × FailsAtMostOnce faults faults'
 Writes s name files files' faults faults' (Err T.Sink) = ⊥
@@ -142,6 +144,11 @@ stop_for (Rule line rule) = refused_for (K.Script line rule)
 abbrev pub stop_by : PutFault → Stop
 stop_by F.Fault = T.Sink
 stop_by F.Memory = T.Memory
+
+-- the stop of programs that weren't put back
+abbrev pub thaw_stop : ThawFault → Stop
+thaw_stop W.Memory = T.Memory
+thaw_stop W.Unfit = refused_for K.SnapshotRefused
 
 -- its status
 abbrev pub status_of_stop : Stop → ℕ
@@ -171,10 +178,6 @@ Stops deed c o T.Sink = IsWhy deed c o sink_fault
 Stops deed c o (T.Refused r) =
     (cause : Cause) × (text : List ℕ) × IsCause deed c cause text × (r.program ≡ program_in cause) × (refusal_of r.kind ≡ refusal_in c cause)
     × Becomes o.taken o.taken' (Appends text) × (o.faults' ≡ o.faults)
-
--- .. while lines of events are printed
-abbrev pub PlaysPart : (most : ℕ) → Call → Output → Stop → Type 0
-PlaysPart most c o stop = IsPutStop stop × Stops (saves most) c o stop
 
 -- it is done, or stops
 abbrev pub Does : Deed → Call → Output → Result (Unit {0}) Stop → Type 0

@@ -22,13 +22,11 @@ ghost use Rattle.snapshot_command.specs.Views.{Does, Holding, IsPutStop, IsToldS
 use crate::files::fetch_snapshot;
 use crate::resuming::resume_all;
 use crate::scripts::open_plain;
-use crate::stop::{Stop, refused, stop_by, stop_for, tell_stop};
+use crate::stop::{Stop, stop_by, stop_for, tell_stop, thaw_stop};
 use device_port::{Device, Devices};
-use pause_host::ThawFault;
 use script_command::{Opened, Programs};
 use snapshot_store::Snapshot;
 use std::alloc::Global;
-use transcript::RefusalKind;
 use vault_port::{Sink, Vault};
 use wa_model::Detach;
 use world_hosting::{Resumed, continue_programs};
@@ -107,15 +105,15 @@ fn continue_opened<V: Vault, S: Sink>(
 ) -> Result<(), Stop>
     requires lent { IsLent }
     requires plays { CanPlay opened }
-    ensures does { (name : List ℕ) (f : ℕ) → f ≡ V.fetch_faults vault.old → Opens (V.files vault.old) name opened
+    ensures does { (name : List ℕ) → Opens (V.files vault.old) name opened
         → Does continues (call name snap.now (V.files vault.old) (V.files vault.new)
-        f (V.fetch_faults vault.new) (V.save_faults vault.old) (V.save_faults vault.new)
+        (V.fetch_faults vault.old) (V.fetch_faults vault.new) (V.save_faults vault.old) (V.save_faults vault.new)
         (counted seen (λ d. (⟦<dyn Device as Device>⟧ d.0).faults d.1) devices.old)
         (counted seen (λ d. (⟦<dyn Device as Device>⟧ d.0).faults d.1) devices.new))
         (output (S.taken out.old) (S.taken out.new) (S.faults out.old) (S.faults out.new)) result }
     ensures told { IfErr result IsToldStop }
-    ensures counts { (f : ℕ) → f ≡ V.fetch_faults vault.old → CountsBy (status_by result) f (V.fetch_faults vault.new)
-        (V.save_faults vault.old) (V.save_faults vault.new) (S.faults out.old) (S.faults out.new) }
+    ensures counts { CountsBy (status_by result) (V.fetch_faults vault.old) (V.fetch_faults vault.new) (V.save_faults vault.old) (V.save_faults vault.new)
+        (S.faults out.old) (S.faults out.new) }
     ensures same_list { devices.new.list.ghost_name ≡ devices.old.list.ghost_name }
     ensures kept { V.files vault.new ≡ V.files vault.old }
     ensures fetch_faults { V.fetch_faults vault.old ≤ V.fetch_faults vault.new }
@@ -154,8 +152,7 @@ fn continue_from<S: Sink>(
     let events = snapshot.events;
     match resume_all(alloc, &modules, planned, snapshot) {
         Ok(resumed) => tell_rest(alloc, out, devices, resumed, events, detaches),
-        Err(ThawFault::Memory) => Err(Stop::Memory),
-        Err(ThawFault::Unfit) => Err(refused(RefusalKind::SnapshotRefused)),
+        Err(fault) => Err(thaw_stop(fault)),
     }
 }
 

@@ -2,6 +2,7 @@
 
 ghost use Rattle.std.specs.Prelude.{◌≡◌, ◌≤◌, All, IfOk, OnOk, length, map};
 ghost use Rattle.std.specs.Result.{IfErr};
+ghost use Rattle.vault_port.specs.Counts.{FailsAtMostOnce};
 ghost use Rattle.snapshot_store.specs.Parts.{CountsFit};
 ghost use Rattle.snapshot_store.specs.Views.{record_of, snapshot_of};
 ghost use Rattle.snapshot_command.specs.Views.{Holding, IsText, IsUnread, IsUnwritten, NoSnapshot, NoText, Writes};
@@ -28,6 +29,7 @@ pub(crate) fn fetch_snapshot<V: Vault>(
     ensures snapshot { IfOk result (λ s. Holding (V.files vault.old) name.now (snapshot_of s)) }
     ensures none { IfErr result (λ stop. NoSnapshot (V.files vault.old) (V.fetch_faults vault.old) (V.fetch_faults vault.new) name.now stop) }
     ensures kept { V.files vault.new ≡ V.files vault.old }
+    ensures once { FailsAtMostOnce (V.fetch_faults vault.old) (V.fetch_faults vault.new) }
     ensures stays { OnOk result (V.fetch_faults vault.new ≡ V.fetch_faults vault.old) }
     ensures faults { V.fetch_faults vault.old ≤ V.fetch_faults vault.new }
     ensures saves { V.save_faults vault.new ≡ V.save_faults vault.old }

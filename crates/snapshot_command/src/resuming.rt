@@ -1,6 +1,6 @@
 //! Programs that stand for their records of a snapshot.
 
-ghost use Rattle.std.specs.Prelude.{◌≡◌, All, Err, IfOk, length, map};
+ghost use Rattle.std.specs.Prelude.{◌≡◌, ◌++◌, [], ◌∷◌, All, Err, IfOk, OnOk, length, map};
 ghost use Rattle.std.specs.List.{AllZip};
 ghost use Rattle.pause_host.specs.declared.faults.ThawFault.TheVariants.{Unfit};
 ghost use Rattle.snapshot_store.specs.Views.{record_of, snapshot_of};
@@ -8,12 +8,12 @@ ghost use Rattle.script_command.specs.Views.{CanStage, parts_of};
 ghost use Rattle.world_hosting.specs.Continued.{IsWhole};
 ghost use Rattle.world_hosting.specs.Suiting.{RecordSuits, SnapshotSuits};
 ghost use Rattle.world_hosting.specs.Worlds.{world_programs};
-ghost use Rattle.snapshot_command.specs.Views.{Resumes, ResumesEach};
+ghost use Rattle.snapshot_command.specs.Views.{StandFor, StandForEach};
 
 use pause_host::ThawFault;
 use script_command::Planned;
 use snapshot_store::{ProgramRecord, Snapshot};
-use std::alloc::Global;
+use std::alloc::{AllocError, Global};
 use wasm_validate::Valid;
 use world_hosting::{Resumed, resume_program};
 
@@ -30,10 +30,13 @@ pub(crate) fn resume_all<'m>(
 ) -> Result<Vec<Resumed<'m>>, ThawFault>
     requires can { AllZip CanStage modules.now planned.items }
     requires whole { All IsWhole (map record_of snapshot.programs.items) }
-    ensures resumed { IfOk result (λ rs. Resumes (parts_of modules.now planned.items) (snapshot_of snapshot) rs.items) }
+    ensures resumed { IfOk result (λ rs. StandFor (parts_of modules.now planned.items) (snapshot_of snapshot) rs.items) }
     ensures unfit { result ≡ Err Unfit → SnapshotSuits (world_programs (parts_of modules.now planned.items)) (snapshot_of snapshot) → ⊥ }
 {
-    if snapshot.events >= EVENTS_BOUND || snapshot.programs.len() != planned.len() {
+    if snapshot.events >= EVENTS_BOUND {
+        return Err(ThawFault::Unfit);
+    }
+    if snapshot.programs.len() != planned.len() {
         return Err(ThawFault::Unfit);
     }
     resume_each(alloc, modules, planned, &snapshot.programs)
@@ -49,7 +52,7 @@ fn resume_each<'m>(
     requires can { AllZip CanStage modules.now planned.items }
     requires many { length records.now ≡ length planned.items }
     requires whole { All IsWhole (map record_of records.now) }
-    ensures resumed { IfOk result (λ rs. ResumesEach (parts_of modules.now planned.items) (map record_of records.now) rs.items) }
+    ensures resumed { IfOk result (λ rs. StandForEach (parts_of modules.now planned.items) (map record_of records.now) rs.items) }
     ensures unfit { result ≡ Err Unfit → AllZip RecordSuits (world_programs (parts_of modules.now planned.items)) (map record_of records.now) → ⊥ }
 {
     let mut resumed = Vec::new(alloc);
@@ -61,7 +64,18 @@ fn resume_each<'m>(
             Ok(program) => program,
             Err(fault) => return Err(fault),
         };
-        resumed.push(program)?;
+        put_program(&mut resumed, program)?;
     }
     Ok(resumed)
+}
+
+// Puts a program behind others.
+fn put_program<'m>(
+    resumed: &mut Vec<Resumed<'m>>,
+    program: Resumed<'m>,
+) -> Result<(), AllocError>
+    ensures { OnOk result (resumed.new.items ≡ resumed.old.items ++ program.entry ∷ []) }
+{
+    resumed.push(program)?;
+    Ok(())
 }

@@ -2,6 +2,7 @@
 
 ghost use Rattle.std.specs.Prelude.{◌≡◌, ◌≢◌, ◌≤◌, ℕ, All, IfOk, List, Option, length, map};
 ghost use Rattle.std.specs.Result.{IfErr};
+ghost use Rattle.vault_port.specs.Counts.{FailsAtMostOnce};
 ghost use Rattle.vault_port.specs.Files.{Files};
 ghost use Rattle.host_laws.specs.Supplies.{IsLent};
 ghost use Rattle.snapshot_store.specs.Parts.{CountsFit};
@@ -17,7 +18,7 @@ ghost use Rattle.snapshot_command.specs.Answers.{HasOneEnd};
 ghost use Rattle.snapshot_command.specs.Calls.{call, output, saves};
 ghost use Rattle.snapshot_command.specs.Ends.{IsStatus};
 ghost use Rattle.snapshot_command.specs.Scripts.{Play};
-ghost use Rattle.snapshot_command.specs.Views.{Does, IsToldStop, Opens, PlaysPart, Stops, status_by};
+ghost use Rattle.snapshot_command.specs.Views.{Does, IsPutStop, IsToldStop, Opens, Stops, status_by};
 
 use crate::files::write_snapshot;
 use crate::scripts::open_plain;
@@ -148,10 +149,12 @@ fn play_to<S: Sink>(
         (counted seen (λ d. (⟦<dyn Device as Device>⟧ d.0).faults d.1) devices.new)
         (S.taken out.old) (S.taken out.new) (snapshot_of s)) }
     ensures part { (files : Option Files) (name snap : List ℕ) (f f' s s' : ℕ) → Opens files name opened
-        → IfErr result (λ stop. PlaysPart most (call name snap files files f f' s s'
+        → IfErr result (Stops (saves most) (call name snap files files f f' s s'
         (counted seen (λ d. (⟦<dyn Device as Device>⟧ d.0).faults d.1) devices.old)
         (counted seen (λ d. (⟦<dyn Device as Device>⟧ d.0).faults d.1) devices.new))
-        (output (S.taken out.old) (S.taken out.new) (S.faults out.old) (S.faults out.new)) stop) }
+        (output (S.taken out.old) (S.taken out.new) (S.faults out.old) (S.faults out.new))) }
+    ensures put { IfErr result IsPutStop }
+    ensures once { FailsAtMostOnce (S.faults out.old) (S.faults out.new) }
     ensures few { IfOk result (λ s. length s.programs.items ≤ 16) }
     ensures each { IfOk result (λ s. All CountsFit (map record_of s.programs.items)) }
     ensures same_list { devices.new.list.ghost_name ≡ devices.old.list.ghost_name }
@@ -186,10 +189,12 @@ fn play_staged<S: Sink>(
         (S.taken out.old) (S.taken out.new) (snapshot_of s)) }
     ensures part { (files : Option Files) (name snap : List ℕ) (f f' s s' : ℕ) (play : Play files name)
         → AreStaged play.run.parts staged.entry.items → detaches_in play.run.whole ≡ detaches.items
-        → IfErr result (λ stop. PlaysPart most (call name snap files files f f' s s'
+        → IfErr result (Stops (saves most) (call name snap files files f f' s s'
         (counted seen (λ d. (⟦<dyn Device as Device>⟧ d.0).faults d.1) devices.old)
         (counted seen (λ d. (⟦<dyn Device as Device>⟧ d.0).faults d.1) devices.new))
-        (output (S.taken out.old) (S.taken out.new) (S.faults out.old) (S.faults out.new)) stop) }
+        (output (S.taken out.old) (S.taken out.new) (S.faults out.old) (S.faults out.new))) }
+    ensures put { IfErr result IsPutStop }
+    ensures once { FailsAtMostOnce (S.faults out.old) (S.faults out.new) }
     ensures few { IfOk result (λ s. length s.programs.items ≤ 16) }
     ensures each { IfOk result (λ s. All CountsFit (map record_of s.programs.items)) }
     ensures same_list { devices.new.list.ghost_name ≡ devices.old.list.ghost_name }

@@ -3,8 +3,9 @@
 ghost use Rattle.std.specs.Prelude.{◌≡◌, ◌≤◌};
 ghost use Rattle.vault_port.specs.Counts.{FailsAtMostOnce};
 ghost use Rattle.snapshot_command.specs.Calls.{output};
-ghost use Rattle.snapshot_command.specs.Views.{IsToldStop, Tells, refused_for, stop_by, stop_for};
+ghost use Rattle.snapshot_command.specs.Views.{IsToldStop, Tells, refused_for, stop_by, stop_for, thaw_stop};
 
+use pause_host::ThawFault;
 use script_command::OpenFault;
 use std::alloc::{AllocError, Global};
 use transcript::{Refusal, RefusalKind, out_of_memory, refuse_program};
@@ -68,6 +69,16 @@ pub(crate) fn stop_by(fault: PutFault) -> Stop
     match fault {
         PutFault::Fault => Stop::Sink,
         PutFault::Memory => Stop::Memory,
+    }
+}
+
+/// The stop of programs that weren't put back.
+pub(crate) fn thaw_stop(fault: ThawFault) -> Stop
+    ensures { result ≡ thaw_stop fault }
+{
+    match fault {
+        ThawFault::Memory => Stop::Memory,
+        ThawFault::Unfit => refused(RefusalKind::SnapshotRefused),
     }
 }
 

@@ -1,4 +1,5 @@
 pub mod Counted
+pub mod Fitting
 pub mod Nothing
 pub mod Splits
 pub mod Words

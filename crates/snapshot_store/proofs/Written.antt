@@ -5,6 +5,8 @@ use Rattle.std.proofs.lemmas.List.Elements.{All-get_or}
 use Rattle.std.proofs.lemmas.Grind.{flat_map-append}
 use Rattle.std.specs.List.{flat_map}
 use Rattle.wa_types.specs.Memory.{bytes_of}
+use Rattle.snapshot_store.specs.declared.snapshot.ProgramRecord.{ProgramRecord as RecordValue}
+use Rattle.snapshot_store.specs.Views.{record_of}
 use Rattle.snapshot_store.specs.Snapshots.{PausedParts, ProgramRecord, paused, global_bytes, parts_bytes, record_bytes, snapshot_bytes}
 
 -- one part more, in front of the same
@@ -39,6 +41,16 @@ record_put {X = X} view front o o' rs i r h is e e' =
     (ap (λ (xs : List ℕ). flat_map record_bytes (map view (take i rs)) ++ xs) (sym (append-nil (record_bytes (view r))))
     ∙ sym (flat_map-append record_bytes (map view (take i rs)) (view r ∷ []))
     ∙ ap (flat_map record_bytes) (sym (map-append view (take i rs) (r ∷ [])) ∙ ap (map view) (ap (λ (x : X). take i rs ++ x ∷ []) is ∙ sym (take_more rs i r h))))
+
+-- .. behind a beginning, the events and how many there are
+pub records_more : (events count o o' : List ℕ) (rs : List RecordValue) (i : ℕ) (r : RecordValue) → i < length rs → r ≡ get_or rs i r
+    → o ≡ codes "ASYNCS01" ++ (events ++ (count ++ flat_map record_bytes (map record_of (take i rs)))) → o' ≡ o ++ record_bytes (record_of r)
+    → o' ≡ codes "ASYNCS01" ++ (events ++ (count ++ flat_map record_bytes (map record_of (take (i + 1) rs))))
+records_more events count o o' rs i r h is e e' =
+    let front = codes "ASYNCS01" ++ (events ++ count) in
+    let near : (tail : List ℕ) → front ++ tail ≡ codes "ASYNCS01" ++ (events ++ (count ++ tail)) =
+    λ tail. append_assoc (codes "ASYNCS01") (events ++ count) tail ∙ ap (λ (bs : List ℕ). codes "ASYNCS01" ++ bs) (append_assoc events count tail) in
+    record_put record_of front o o' rs i r h is (e ∙ sym (near (flat_map record_bytes (map record_of (take i rs))))) e' ∙ near (flat_map record_bytes (map record_of (take (i + 1) rs)))
 
 -- each one of a list that is gone through fits
 pub each_fits : {X : Type 0} (Fits : ProgramRecord → Type 0) (view : X → ProgramRecord) (rs : List X) (i : ℕ) (r : X) → All Fits (map view rs) → i < length rs → r ≡ get_or rs i r → Fits (view r)

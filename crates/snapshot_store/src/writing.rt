@@ -2,8 +2,9 @@
 
 ghost use Rattle.std.specs.Prelude.{◌≡◌, ℕ, [], ◌∷◌, ◌*◌, ◌<◌, ◌^◌, ◌++◌, IfOk, OnOk, length, All, map};
 ghost use Rattle.std.specs.List.{flat_map};
-ghost use Rattle.wa_types.specs.Memory.{bytes_of};
-ghost use Rattle.snapshot_store.specs.Snapshots.{global_bytes, parts_bytes, record_bytes, snapshot_bytes};
+ghost use Rattle.wa_types.specs.Memory.{bytes_of, page_size};
+ghost use Rattle.wa_types.specs.Sizes.{value_fits};
+ghost use Rattle.snapshot_store.specs.Snapshots.{PartsFit, RecordFits, SnapText, global_bytes, parts_bytes, record_bytes};
 ghost use Rattle.snapshot_store.specs.Views.{parts_of, record_of, snapshot_of};
 ghost use Rattle.snapshot_store.specs.Parts.{CountsFit};
 
@@ -16,7 +17,7 @@ use wa_types::Value;
 pub fn write(alloc: Global, snap: &Snapshot) -> Result<Vec<u8>, AllocError>
     requires few { length snap.now.programs.items < 2 ^ 32 }
     requires each { All CountsFit (map record_of snap.now.programs.items) }
-    ensures { IfOk result (λ v. v.items ≡ snapshot_bytes (snapshot_of snap.now)) }
+    ensures { IfOk result (λ v. SnapText v.items (snapshot_of snap.now)) }
 {
     let mut out = Vec::with_capacity(alloc, length_of(snap))?;
     put_bytes(&mut out, b"ASYNCS01")?;
@@ -49,7 +50,8 @@ fn record_length(program: &ProgramRecord) -> usize {
 
 fn put_record(out: &mut Vec<u8>, program: &ProgramRecord) -> Result<(), AllocError>
     requires { CountsFit (record_of program.now) }
-    ensures { OnOk result (out.new.items ≡ out.old.items ++ record_bytes (record_of program.now)) }
+    ensures puts { OnOk result (out.new.items ≡ out.old.items ++ record_bytes (record_of program.now)) }
+    ensures fits { OnOk result (RecordFits (record_of program.now)) }
 {
     match program {
         ProgramRecord::Fresh => put_byte(out, 0),
@@ -63,8 +65,10 @@ fn put_record(out: &mut Vec<u8>, program: &ProgramRecord) -> Result<(), AllocErr
 }
 
 fn put_parts(out: &mut Vec<u8>, parts: &PausedParts, memory: &[u8]) -> Result<(), AllocError>
-    requires { length parts.now.globals.items < 2 ^ 32 }
-    ensures { OnOk result (out.new.items ≡ out.old.items ++ parts_bytes (parts_of parts.now) memory.now) }
+    requires few { length parts.now.globals.items < 2 ^ 32 }
+    requires whole { length memory.now ≡ parts.now.pages * page_size }
+    ensures puts { OnOk result (out.new.items ≡ out.old.items ++ parts_bytes (parts_of parts.now) memory.now) }
+    ensures fits { OnOk result (PartsFit (parts_of parts.now) memory.now) }
 {
     put_u64(out, parts.steps_used)?;
     put_u32(out, parts.entry)?;
@@ -77,7 +81,8 @@ fn put_parts(out: &mut Vec<u8>, parts: &PausedParts, memory: &[u8]) -> Result<()
 
 fn put_globals(out: &mut Vec<u8>, globals: &[Value]) -> Result<(), AllocError>
     requires { length globals.now < 2 ^ 32 }
-    ensures { OnOk result (out.new.items ≡ out.old.items ++ (bytes_of 4 (length globals.now) ++ flat_map global_bytes globals.now)) }
+    ensures puts { OnOk result (out.new.items ≡ out.old.items ++ (bytes_of 4 (length globals.now) ++ flat_map global_bytes globals.now)) }
+    ensures fits { OnOk result (All value_fits globals.now) }
 {
     put_u32(out, globals.len() as u32)?;
     for value in globals {
@@ -87,7 +92,8 @@ fn put_globals(out: &mut Vec<u8>, globals: &[Value]) -> Result<(), AllocError>
 }
 
 fn put_global(out: &mut Vec<u8>, value: Value) -> Result<(), AllocError>
-    ensures { OnOk result (out.new.items ≡ out.old.items ++ global_bytes value) }
+    ensures puts { OnOk result (out.new.items ≡ out.old.items ++ global_bytes value) }
+    ensures fits { OnOk result (value_fits value) }
 {
     match value {
         Value::I32(n) => {
@@ -109,19 +115,22 @@ fn put_byte(out: &mut Vec<u8>, byte: u8) -> Result<(), AllocError>
 }
 
 fn put_bytes(out: &mut Vec<u8>, bytes: &[u8]) -> Result<(), AllocError>
-    ensures { OnOk result (out.new.items ≡ out.old.items ++ bytes.now) }
+    ensures puts { OnOk result (out.new.items ≡ out.old.items ++ bytes.now) }
+    ensures fits { All (λ b. b < 2 ^ 8) bytes.now }
 {
     out.extend_from_slice(bytes)
 }
 
 fn put_u32(out: &mut Vec<u8>, n: u32) -> Result<(), AllocError>
-    ensures { OnOk result (out.new.items ≡ out.old.items ++ bytes_of 4 n) }
+    ensures puts { OnOk result (out.new.items ≡ out.old.items ++ bytes_of 4 n) }
+    ensures fits { n < 2 ^ 32 }
 {
     put_bytes(out, &n.to_le_bytes())
 }
 
 fn put_u64(out: &mut Vec<u8>, n: u64) -> Result<(), AllocError>
-    ensures { OnOk result (out.new.items ≡ out.old.items ++ bytes_of 8 n) }
+    ensures puts { OnOk result (out.new.items ≡ out.old.items ++ bytes_of 8 n) }
+    ensures fits { n < 2 ^ 64 }
 {
     put_bytes(out, &n.to_le_bytes())
 }

@@ -37,6 +37,7 @@ use Rattle.many_host.proofs.Worlds.{told_begins_met_from}
 use Rattle.transcript.specs.declared.events.Names.{Names}
 use Rattle.transcript.specs.Printing.{names_of}
 use Rattle.world_hosting.specs.Counts.{AreMet, IsBegunBy, Took, counted, met_by, turns_at}
+use Rattle.world_hosting.specs.Saved.{HasPrinted, HasTold, MetBy, SavesPartFrom}
 use Rattle.world_hosting.specs.Worlds.{AreBegunFrom, AreEndedFrom, AreToldFrom, IsLeft, Part, PrintsPart, TellsPartFrom, TellsWorldFrom, part_names, turn_count}
 use Rattle.world_hosting.proofs.TurnCounts.{begun_next, turns_begun}
 use Rattle.transcript.proofs.LineTexts.{becomes_by, becomes_same, line_more, then_less, then_printed}
@@ -96,11 +97,7 @@ met_more i (x ∷ lines) (ms ∷ met) l os long =
 met_more i [] (ms ∷ met) l os long = absurd (omega (arith, long))
 met_more i (x ∷ lines) [] l os long = absurd (omega (arith, long))
 
--- the tellers of a host have met what the lines tell
-abbrev MetBy : List Line → List (List Outcome) → List Teller → Type 0
-MetBy lines met tellers = (i : ℕ) (t : Teller) → slice_get tellers i ≡ Some t → t.met ≡ met_by i lines met
-
-zip_long : {X Y : Type 0} (R : X → Y → Type 0) (xs : List X) (ys : List Y) → AllZip R xs ys → length ys ≡ length xs
+pub zip_long : {X Y : Type 0} (R : X → Y → Type 0) (xs : List X) (ys : List Y) → AllZip R xs ys → length ys ≡ length xs
 zip_long R [] [] h = refl
 zip_long R [] (y ∷ ys) h = absurd h
 zip_long R (x ∷ xs) [] h = absurd h
@@ -189,59 +186,61 @@ module _ (earlier : ℕ) (programs : List Program) (parts : List Part) (detaches
     becomes_same (PrintsPart Memory 0 []) (λ x. (0, omega arith, sym (append-nil x))) o,
   )
 
-  -- The host has told some lines.
-  pub record Told (h : Host) (now : List Counted) : Type 0 where
-    pub lines : List Line
-    pub host : HostToldFrom earlier programs detaches ds lines h (devices_of now)
-    pub met : List (List Outcome)
-    pub took : Took programs detaches earlier earlier lines met cs h.turns.begun now
-    pub meets : MetBy lines met host.tellers
+  abbrev Told : (h : Host) (now : List Counted) → Type 0
+  Told h now = HasTold earlier programs detaches cs h now
 
-  -- They were printed.
-  pub record Telling (h : Host) (now : List Counted) (old new : Option (List ℕ)) : Type 0 where
-    pub told : Told h now
-    pub printed : Becomes old new (Appends (begun told.lines))
+  abbrev Telling : (h : Host) (now : List Counted) (old new : Option (List ℕ)) → Type 0
+  Telling h now old new = HasPrinted earlier programs parts detaches cs h now old new
 
   abbrev as_wide : (h : Host) (now : List Counted) (t : Told h now) (actors : List Actor) → AllZip StartsHeld programs actors → length actors ≡ length t.host.tellers
   as_wide h now t actors starts = zip_long StartsHeld programs actors starts ∙ sym t.host.wide
 
   -- the devices are those that the lines left, or that are left when the next event begins
   pub are_begun : (h : Host) (now : List Counted) (t : Told h now) (es : List Counted) (fault : PutFault) → IsLeft fault h.turns.begun detaches now es
-      → (before behind : List Line) → length behind ≤ 1 → t.lines ≡ before ++ behind → AreBegunFrom fault earlier programs parts detaches cs es (length (begun before)) (begun t.lines)
+      → (before behind : List Line) → length behind ≤ 1 → t.lines ≡ before ++ behind
+      → (told : AreBegunFrom fault earlier programs parts detaches cs es (length (begun before)) (begun t.lines)) × (told.begun ≡ h.turns.begun)
   are_begun h now t es fault left before behind one parted =
-      let b = told_begins_met_from earlier programs detaches ds (devices_of now) t.lines h t.host in
-      record {
-        lines = t.lines;
-        more = b.0;
-        met = t.met;
-        last = b.1;
-        world = b.2;
-        meets = are_met t.lines t.met t.host.tellers b.2.actors (as_wide h now t b.2.actors b.2.starts) t.meets b.3;
-        begun = h.turns.begun;
-        there = now;
-        took = t.took;
-        left = left;
-        text_is = refl;
-        before = before;
-        behind = behind;
-        one = one;
-        lines_are = parted;
-        least_is = refl;
-      }
+      let b = told_begins_met_from earlier programs detaches ds (devices_of now) t.lines h t.host in (
+        record {
+          lines = t.lines;
+          more = b.0;
+          met = t.met;
+          last = b.1;
+          world = b.2;
+          meets = are_met t.lines t.met t.host.tellers b.2.actors (as_wide h now t b.2.actors b.2.starts) t.meets b.3;
+          begun = h.turns.begun;
+          there = now;
+          took = t.took;
+          left = left;
+          text_is = refl;
+          before = before;
+          behind = behind;
+          one = one;
+          lines_are = parted;
+          least_is = refl;
+        },
+        refl,
+      )
 
   module _ (h : Host) (now : List Counted) (old mid : Option (List ℕ)) (t : Telling h now old mid) where
     abbrev lines : List Line
     lines = t.told.lines
 
     -- memory is wanting
-    pub told_so_far : (es : List Counted) → AreLeft h.turns.begun detaches now es → TellsPartFrom Memory earlier programs parts detaches cs es old mid
-    told_so_far es left = (
-      length (begun lines),
-      begun lines,
-      inl (are_begun h now t.told es Memory left lines [] (omega arith) (sym (append-nil lines))),
-      becomes_by (Appends (begun lines)) (PrintsPart Memory (length (begun lines)) (begun lines))
-          (λ x y p. (length (begun lines), omega arith, p ∙ ap (λ (s : List ℕ). x ++ s) (sym (take_all (length (begun lines)) (begun lines) (omega arith))))) old mid t.printed,
-    )
+    module _ (es : List Counted) (left : AreLeft h.turns.begun detaches now es) where
+      abbrev so_far : (told : AreBegunFrom Memory earlier programs parts detaches cs es (length (begun lines)) (begun lines)) × (told.begun ≡ h.turns.begun)
+      so_far = are_begun h now t.told es Memory left lines [] (omega arith) (sym (append-nil lines))
+
+      printed_so_far : Becomes old mid (PrintsPart Memory (length (begun lines)) (begun lines))
+      printed_so_far =
+          becomes_by (Appends (begun lines)) (PrintsPart Memory (length (begun lines)) (begun lines))
+          (λ x y p. (length (begun lines), omega arith, p ∙ ap (λ (s : List ℕ). x ++ s) (sym (take_all (length (begun lines)) (begun lines) (omega arith))))) old mid t.printed
+
+      pub told_so_far : TellsPartFrom Memory earlier programs parts detaches cs es old mid
+      told_so_far = (length (begun lines), begun lines, inl so_far.0, printed_so_far)
+
+      pub cut_so_far : (most : ℕ) → h.turns.begun ≤ most → SavesPartFrom Memory earlier programs parts detaches most cs es old mid
+      cut_so_far most few = (length (begun lines), begun lines, so_far.0, let e = so_far.1 in omega (arith, e, few), printed_so_far)
 
     -- one line more, or less of it
     module _ (next : Host) (es : List Counted) (own : List T.Names) (are : own ≡ names) (l : Line)
@@ -272,15 +271,21 @@ module _ (earlier : ℕ) (programs : List Program) (parts : List Part) (detaches
         length-append t.told.lines (l ∷ []),
       )
 
-      pub told_less : (fault : PutFault) (new : Option (List ℕ)) → Becomes mid new (AppendsLess (event_line (names_at own l.program) l)) → TellsPartFrom fault earlier programs parts detaches cs es old new
-      told_less fault new p = (
-        length (begun lines),
-        begun (lines ++ l ∷ []),
-        inl (are_begun next es one_more es fault (left_there fault next.turns.begun detaches es) lines (l ∷ []) (omega arith) refl),
-        becomes_by (AppendsPast (length (begun lines)) (begun (lines ++ l ∷ []))) (PrintsPart fault (length (begun lines)) (begun (lines ++ l ∷ [])))
+      module _ (fault : PutFault) (new : Option (List ℕ)) (p : Becomes mid new (AppendsLess (event_line (names_at own l.program) l))) where
+        abbrev less : (told : AreBegunFrom fault earlier programs parts detaches cs es (length (begun lines)) (begun (lines ++ l ∷ []))) × (told.begun ≡ next.turns.begun)
+        less = are_begun next es one_more es fault (left_there fault next.turns.begun detaches es) lines (l ∷ []) (omega arith) refl
+
+        printed_less : Becomes old new (PrintsPart fault (length (begun lines)) (begun (lines ++ l ∷ [])))
+        printed_less =
+            becomes_by (AppendsPast (length (begun lines)) (begun (lines ++ l ∷ []))) (PrintsPart fault (length (begun lines)) (begun (lines ++ l ∷ [])))
             (part_of fault (length (begun lines)) (begun (lines ++ l ∷ []))) old new
-            (subst (λ (s : List ℕ). Becomes old new (AppendsPast (length (begun lines)) s)) same_text (then_less (begun lines) (event_line (names_at own l.program) l) old mid new t.printed p)),
-      )
+            (subst (λ (s : List ℕ). Becomes old new (AppendsPast (length (begun lines)) s)) same_text (then_less (begun lines) (event_line (names_at own l.program) l) old mid new t.printed p))
+
+        pub told_less : TellsPartFrom fault earlier programs parts detaches cs es old new
+        told_less = (length (begun lines), begun (lines ++ l ∷ []), inl less.0, printed_less)
+
+        pub cut_less : (most : ℕ) → next.turns.begun ≤ most → SavesPartFrom fault earlier programs parts detaches most cs es old new
+        cut_less most few = (length (begun lines), begun (lines ++ l ∷ []), less.0, let e = less.1 in omega (arith, e, few), printed_less)
 
     -- the last line, or less of it
     module _ (es : List Counted) (own : List Names) (are : map names_of own ≡ names) (world : ProtocolWorldFrom earlier programs detaches ds t.told.lines (devices_of es))

@@ -40,7 +40,7 @@ returns-in-Returned-clause-comes c = λ w l lines since at here under is code wa
     let got = export_got w Rewinding s s' c.args.setting.now.exports.stop_rewind (exports_of w.source).stop_rewind ([]) ([]) left used c.in_ok-end.field-0 _ e refl c.in-Returned.is told in
     stopped_rewind w c.args.pause l s left used (option_to_list c.in-Returned.field-0) s' since at (store_in c.write_pokes.new.instance) here under (exports_of w.source).stop_rewind [] _ lines
     (waits_in c.write_pokes.new.instance) (c.write_pokes.ensures.store ∙ ap (λ ps. poked s' (map poke_of ps)) c.deref.ensures.value) (c.write_pokes.ensures.waits
-    ∙ c.call_export.ensures.waits ∙ waits) refl c.stage_told-stage.ensures got
+    ∙ c.call_export.ensures.waits ∙ waits) refl c.stage_told-stage.ensures.stage got
 
 pub call_export-requires-clause-may : goal.call_export-requires-clause-may
 call_export-requires-clause-may c =

@@ -50,7 +50,7 @@ returns-in-Given-clause-comes g c = λ w is code pokes who h l left used asks wi
     ∙ ap (λ n. fault_of rs n w.plan (starts c.args.task) i a) (sym size ∙ sym (ap (λ z. length z.memory) (asking_store c.args.task waits s who asking)))
     ∙ ap (λ b. fault_of rs (length (store_at who).memory) w.plan b i a) (sym (asking_start c.args.task waits s who asking)) in
     told_answer w h l left used c.args.call who c.args.task waits s asks within asking (told_area w x s is c.requires.area) m old new c.in-Given.answer refl meets
-    (c.answered-stage.ensures w is (short_answer w (call_of c.args.call) old new a meets pokes) ∙ ap (λ f. stage_after f c.in-Given.answer.ticks c.args.task i c.in-Given.answer) fault)
+    (c.answered-stage.ensures.stage w is (short_answer w (call_of c.args.call) old new a meets pokes) ∙ ap (λ f. stage_after f c.in-Given.answer.ticks c.args.task i c.in-Given.answer) fault)
 
 pub unreachable-requires : goal.unreachable-requires
 unreachable-requires g c = memory_shown (code_in c.args.instance.now) (store_in c.args.instance.now) c.requires.memory c.in_default.ensures

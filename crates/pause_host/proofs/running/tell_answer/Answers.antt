@@ -26,7 +26,7 @@ returns-clause-comes c = λ w l lines left f.
     subst (λ z. ComesFrom w from left 0 m lines lines l z (waits_in c.write_pokes.new.instance)) (sym written)
     (subst (λ ws. ComesFrom w from left 0 m lines lines l s' ws) (sym c.write_pokes.ensures.waits)
     (subst (λ b. ComesFrom w (cond b at nowhere) left 0 m lines lines l s' waits) (sym test)
-    (tell_comes w s c.args.task waits left m lines l c.args.answer.said s' (subst (λ b. PlaceFits w (cond b at nowhere)) test f) refl c.stage_told-stage.ensures)))
+    (tell_comes w s c.args.task waits left m lines l c.args.answer.said s' (subst (λ b. PlaceFits w (cond b at nowhere)) test f) refl c.stage_told-stage.ensures.stage)))
 
 pub write_pokes-requires-clause-inside : goal.write_pokes-requires-clause-inside
 write_pokes-requires-clause-inside c =

@@ -1,8 +1,10 @@
 -- The snapshot in a file that was read.
-use Rattle.std.proofs.Common.{List, subst, ℕ}
+use Rattle.std.proofs.Common.{Err, List, ap, subst, ℕ}
 use Rattle.std.proofs.lemmas.Result.{IfErr-weaker, IfOk-weaker}
 use Rattle.snapshot_store.specs.Views.{snapshot_of}
 use Rattle.snapshot_command.specs.Views.{IsText, NoText}
+use Rattle.vault_port.specs.declared.whole.FetchFault.{FetchFault}
+use Rattle.snapshot_command.proofs.Steps.{cannot_once}
 use Rattle.snapshot_command.proofs.SnapshotFiles.{none_held, snapshot_held}
 use Rattle.snapshot_command.proofs.files.fetch_snapshot.Goals as goal
 
@@ -17,3 +19,6 @@ returns-in-Ok-clause-none g c =
     IfErr-weaker c.snapshot_in.result _ _
     (λ stop h. none_held c.args.name.now c.in-Ok.bytes.items (g.V.Vault.files c.args.vault.now) _ _ stop (c.in-Ok.ensures.stays (λ e. cc)) c.in-Ok.ensures.whole c.in-Ok.ensures.there
     (subst (λ (b : List ℕ). NoText b stop) c.deref.ensures.value h)) c.snapshot_in.ensures.none
+
+pub returns-in-Err-Read-clause-once : goal.returns-in-Err-Read-clause-once
+returns-in-Err-Read-clause-once g c = cannot_once _ _ _ _ (c.in-Err-Read.ensures.read (ap (λ (x : FetchFault). Err x) c.in-Err-Read.field-0-is))

@@ -1,7 +1,7 @@
 use Rattle.std.proofs.lemmas.Result.{IfOk-weaker}
 use Rattle.many_host.proofs.FewTurns.{few_turns}
 use Rattle.many_host.specs.Standing.{held_of}
-use Rattle.many_host.proofs.Worlds.{host_next}
+use Rattle.many_host.proofs.Worlds.{host_next, same_host}
 use Rattle.many_host.proofs.host.Host.next.Goals as goal
 
 pub returns-clause-told : goal.returns-clause-told
@@ -20,3 +20,6 @@ next-requires-clause-tells g c = c.requires.tells
 
 pub next-requires-clause-turns : goal.next-requires-clause-turns
 next-requires-clause-turns g c = few_turns (held_of c.args.self.now.turns) _ c.args.self.now.turns.stage c.requires.tells c.requires.range.few
+
+pub returns-clause-same : goal.returns-clause-same
+returns-clause-same g c = IfOk-weaker c.next.result _ _ (λ r h. same_host c.next.new.self c.args.self.now.turns r h) c.next.ensures.same

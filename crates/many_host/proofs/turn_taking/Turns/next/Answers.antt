@@ -1,10 +1,10 @@
-use Rattle.std.proofs.Common.{inl, refl, subst, sym}
+use Rattle.std.proofs.Common.{◌≡◌, inl, refl, subst, sym}
 use Rattle.std.specs.Prelude.{IfOk}
 use Rattle.wa_model.specs.View.{line_of}
 use Rattle.many_host.proofs.Counts.{are_left, left_kept, line_from}
 use Rattle.many_host.specs.declared.turn_taking.Stage.{Stage}
 use Rattle.many_host.specs.Calls.{BegunBy, BegunNext}
-use Rattle.many_host.specs.Standing.{held_of}
+use Rattle.many_host.specs.Standing.{LooksOut, held_of}
 use Rattle.many_host.proofs.Beginning.{standing}
 use Rattle.many_host.proofs.turn_taking.Turns.next.Goals as goal
 
@@ -87,3 +87,10 @@ show-requires-clause-tells g c =
       lines = t.lines;
       stands = standing g.T.Teller.follows g.T.Teller.has_ended g.T.Teller.memory t.begun t.programs t.detaches t.devices t.lines (held_of c.args.self.now) _ c.args.self.now.stage _ c.in-Showing.is t.stands;
     }
+
+pub returns-in-Between-clause-goes_on : goal.returns-in-Between-clause-goes_on
+returns-in-Between-clause-goes_on g c = λ left. absurd (left (subst (λ (stage : Stage). LooksOut c.args.self.now.shows.items stage) (sym c.in-Between.is) tt))
+
+pub returns-in-Showing-clause-goes_on : goal.returns-in-Showing-clause-goes_on
+returns-in-Showing-clause-goes_on g c =
+    subst (λ (stage : Stage). (LooksOut c.args.self.now.shows.items stage → ⊥) → c.show.new.self.begun ≡ c.args.self.now.begun) (sym c.in-Showing.is) c.show.ensures.goes_on

@@ -71,3 +71,7 @@ begin-requires-clause-tells g c =
 pub returns-in_err-event-clause-left : goal.returns-in_err-event-clause-left
 returns-in_err-event-clause-left g c = λ begun programs detaches ds lines s e.
     are_left (λ z. (goal.Device-dyn g z).seen z.1) (λ z. (goal.Device-dyn g z).faults z.1) c.args.self.now.begun detaches _ c.args.devices.now c.args.devices.now (inl refl) refl (inl refl)
+
+pub returns-in_default-clause-goes_on : goal.returns-in_default-clause-goes_on
+returns-in_default-clause-goes_on g c = λ left.
+    absurd (left (ap (λ (l : List Show). looks_of c.args.turn.program (drop c.args.from l)) (sym c.deref.ensures.value) ∙ c.in_default.ensures))

@@ -37,7 +37,7 @@ returns-clause-next g c = λ w notes os code f.
     (advanced w notes os x x' from to c.in_ok-moved.moved.event (store_in i') used old new f moves refl refl refl refl refl refl
     (omega (arith, c.start.ensures.sum, c.start.ensures.grows, c.unused-steps.ensures.left))
     (same_place w x (left_of c.start.new.left) (store_in i') (waits_in i') stage is) refl
-    (memory_told w x i' stage is (c.start.ensures.code ∙ code)) (c.start.ensures.code ∙ code))
+    (memory_told w x i' stage is (c.start.ensures.code ∙ code)) (c.start.ensures.code ∙ code) c.in_ok-moved.ensures.pauses)
 
 pub start-requires-clause-there : goal.start-requires-clause-there
 start-requires-clause-there g c =

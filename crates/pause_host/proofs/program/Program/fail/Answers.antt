@@ -18,4 +18,4 @@ returns-clause-next c = λ w notes os ds counts f.
     let supply = supply_with x ds counts in
     subst (λ (z : Program). Advances w notes os event supply (supply_with z ds counts) z) (sym c.put_state.ensures)
     (advanced w notes os x x' (stands (note (ended c.args.end) no_store ∷ []) (over no_store)) (has_ended c.args.end) event no_store 0 supply supply f
-    (failed_moves w x.steps_left supply c.args.end c.in_ok-told.told c.in_ok-told.ensures) refl refl refl refl refl refl (omega arith) refl refl refl tt)
+    (failed_moves w x.steps_left supply c.args.end c.in_ok-told.told c.in_ok-told.ensures) refl refl refl refl refl refl (omega arith) refl refl refl tt refl)

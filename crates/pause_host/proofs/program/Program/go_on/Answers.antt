@@ -38,7 +38,7 @@ returns-clause-next g c = λ w notes os f code more.
     (advanced w notes os x x' from to c.in_ok-moved.moved.event (store_in i') used old new f' moves refl refl refl refl refl refl
     (omega (arith, c.next_event.ensures.sum, c.next_event.ensures.grows, c.unused-steps.ensures.left))
     (same_place w x (left_of c.next_event.new.left) (store_in i') (waits_in i') stage is) refl
-    (memory_told w x i' stage is (c.next_event.ensures.code ∙ code)) (c.next_event.ensures.code ∙ code))
+    (memory_told w x i' stage is (c.next_event.ensures.code ∙ code)) (c.next_event.ensures.code ∙ code) c.in_ok-moved.ensures.pauses)
 
 pub next_event-requires-clause-there : goal.next_event-requires-clause-there
 next_event-requires-clause-there g c =

@@ -1,5 +1,6 @@
 use Rattle.std.proofs.Common.{arith, ◌≡◌, ◌∙◌, ap, sym, refl, length, map, subst}
 use Rattle.std.proofs.lemmas.List.{length-map}
+use Rattle.wa_types.specs.Sizes.{SizeRule}
 use Rattle.wa_types.specs.Validity.{Valid}
 use Rattle.wa_types.specs.View.{module_of}
 use Rattle.host_setup.specs.SetUp.{set_up}
@@ -32,6 +33,7 @@ returns c =
         up,
         record {
           valid = v;
+          sizes = subst (λ m. SizeRule (module_of m)) c.module.ensures.same c.module.ensures.sizes;
           source = refl;
           setting = made;
           globals = refl;

@@ -59,4 +59,4 @@ returns c = λ x funcs plan up made numbers.
     let there : StandsThawed x parts memory suit c.stand.new.self =
     subst (λ (z : Program). StandsThawed x parts memory suit z) (sym is) (stands x parts memory funcs plan up self made numbers c.requires.few c.requires.whole new pause t instance code store) in
     let fits = store_fits x parts memory funcs plan up self made numbers c.requires.few c.requires.whole new pause t instance code store c.in_ok-instance.ensures.fits in
-    (suit, there, goes_on x parts memory suit c.stand.new.self there plan made.valid c.requires.whole fits)
+    (suit, there, goes_on x parts memory suit c.stand.new.self there plan made.valid made.sizes c.requires.whole fits)

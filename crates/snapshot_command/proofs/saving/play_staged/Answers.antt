@@ -1,0 +1,17 @@
+-- What the first events are told as.
+use Rattle.vault_port.proofs.Telling.{put_once}
+use Rattle.snapshot_command.proofs.Steps.{few_records, part_stops, put_stop}
+use Rattle.snapshot_command.proofs.saving.play_staged.Goals as goal
+
+pub returns-in-Ok-clause-few : goal.returns-in-Ok-clause-few
+returns-in-Ok-clause-few g c =
+    let told = c.in-Ok.ensures.told c.requires.staged.0 c.requires.staged.1 in
+    few_records c.requires.staged.0 c.args.staged.items c.in-Ok.snapshot.programs.items c.requires.staged.1 c.requires.few told.1.is.count
+
+pub returns-in-Err-clause-part : goal.returns-in-Err-clause-part
+returns-in-Err-clause-part g c = λ files name snap f f' s s' play staged taken_out.
+    part_stops c.args.most name snap files f f' s s' _ _ _ _ _ _ play c.args.detaches.items taken_out c.in-Err.fault c.stop_by.result c.stop_by.ensures c.in-Err.ensures.fault
+    c.in-Err.ensures.stays (c.in-Err.ensures.part play.run.parts staged)
+
+pub returns-in-Err-clause-put : goal.returns-in-Err-clause-put
+returns-in-Err-clause-put g c = put_stop c.in-Err.fault c.stop_by.result c.stop_by.ensures
