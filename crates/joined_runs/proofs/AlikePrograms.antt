@@ -51,7 +51,7 @@ one_original s bytes listed others p q r x =
       others_are = x.listed_is ∙ ap (λ (m : Module). Listed m s) same;
     }
 
-some_bytes : (a b : List ℕ) → ◌≡◌ {A = Option (List ℕ)} (Some a) (Some b) → a ≡ b
+pub some_bytes : (a b : List ℕ) → ◌≡◌ {A = Option (List ℕ)} (Some a) (Some b) → a ≡ b
 some_bytes a b e = cc
 
 ok_given : (a b : SetUp) → ◌≡◌ {A = Result SetUp ScriptFault} (Ok a) (Ok b) → a ≡ b

@@ -7,7 +7,7 @@ use Rattle.wa_model.specs.Outside.{Line}
 use Rattle.wa_model.specs.World.{Actor, Original}
 use Rattle.script_model.specs.Script.{Script}
 use Rattle.script_model.specs.Transcript.{Names, Transcript, event_lines}
-use Rattle.snapshot_store.specs.Snapshots.{Snapshot, SnapText}
+use Rattle.snapshot_store.specs.Snapshots.{Snapshot, SnapText, snapshot_bytes}
 use Rattle.snapshot_store.proofs.Splits.{one_snapshot}
 use Rattle.image_laws.proofs.Emitted.{image_goes_on, pauses_hold}
 use Rattle.image_laws.proofs.Joined.{whole_bound}
@@ -30,7 +30,7 @@ use Rattle.script_command.proofs.Runs.{as_many, in_range, same_imports, same_nam
 use Rattle.script_command.proofs.WholeScripts.{one_script}
 use Rattle.snapshot_command.specs.Calls.{Call}
 use Rattle.joined_runs.specs.JoinedRuns.{GoesOnWith, IsOneRun, JoinedRunsAreOfOriginals, StayOff}
-use Rattle.joined_runs.proofs.AlikePrograms.{AreAlike, HasAlike, all_alike, all_may_run, each_orderly, texts_of}
+use Rattle.joined_runs.proofs.AlikePrograms.{AreAlike, HasAlike, all_alike, all_may_run, each_orderly, some_bytes, texts_of}
 use Rattle.joined_runs.proofs.JoinedTexts.{names_by_texts, text_joined}
 use Rattle.joined_runs.proofs.OtherDevices.{WorldOver, world_over}
 use Rattle.joined_runs.proofs.PlayedTurns.{turns_played}
@@ -41,10 +41,10 @@ joined_law = joined_worlds_of_originals image_goes_on pauses_hold whole_bound co
 
 module _ (most : ℕ) (c c' : Call) (text text' : List ℕ) (h : GoesOnWith most c c' text text') where
   abbrev play : Play Run c.files c.script
-  play = h.saved.play.run
+  play = h.saved.1.play.run
 
   abbrev play' : Play Run c'.files c'.script
-  play' = h.continued.play.run
+  play' = h.continued.0.play.run
 
   abbrev xs : List Part
   xs = play.parts
@@ -84,33 +84,32 @@ module _ (most : ℕ) (c c' : Call) (text text' : List ℕ) (h : GoesOnWith most
   -- ---- one snapshot
 
   abbrev s : Snapshot
-  s = h.snapshot
+  s = h.saved.0
 
   abbrev s' : Snapshot
-  s' = h.continued.snapshot
+  s' = h.continued.0.snapshot
 
   same_snapshot : s ≡ s'
   same_snapshot =
-      let there : Holds (Some h.files') c'.snap h.continued.holds.bytes = subst (λ (f : Option Files). Holds f c'.snap h.continued.holds.bytes) h.second h.continued.holds.holds in
-      let both : ◌≡◌ {A = Option (List ℕ)} (Some h.continued.holds.bytes) (Some h.bytes) = sym there ∙ h.holds in
-      let same : h.continued.holds.bytes ≡ h.bytes = cc in
-      one_snapshot h.bytes s s' h.spells (subst (λ (bs : List ℕ). SnapText bs s') same h.continued.holds.spells)
+      let there : Holds (Some h.files') c'.snap h.continued.0.holds.bytes = subst (λ (f : Option Files). Holds f c'.snap h.continued.0.holds.bytes) h.second h.continued.0.holds.holds in
+      let same : h.continued.0.holds.bytes ≡ snapshot_bytes s = some_bytes h.continued.0.holds.bytes (snapshot_bytes s) (sym there ∙ h.snap) in
+      one_snapshot (snapshot_bytes s) s s' h.saved.2 (subst (λ (bs : List ℕ). SnapText bs s') same h.continued.0.holds.spells)
 
   -- ---- one world
 
   abbrev lines : List Line
-  lines = h.saved.told.lines
+  lines = h.saved.1.told.lines
 
   abbrev more : List Line
-  more = h.continued.told.lines
+  more = h.continued.0.told.lines
 
-  goes : WorldOver h.continued.told.world (detaches_in play.whole) (devices_of c.devices')
+  goes : WorldOver h.continued.0.told.world (detaches_in play.whole) (devices_of c.devices')
   goes =
-      world_over h.continued.told.world (detaches_in play.whole) (ap detaches_in one) (none_bound_in play'.whole ys s'.programs h.continued.play.none play'.stages.texts_are)
+      world_over h.continued.0.told.world (detaches_in play.whole) (ap detaches_in one) (none_bound_in play'.whole ys s'.programs h.continued.0.play.none play'.stages.texts_are)
       (devices_of c.devices')
 
-  calm : StayOff originals h.saved.told.world.actors h.saved.told.world.now h.continued.told.world.actors
-      → AreOrderly originals h.saved.told.world.actors h.saved.told.world.now goes.over.actors
+  calm : StayOff originals h.saved.1.told.world.actors h.saved.1.told.world.now h.continued.0.told.world.actors
+      → AreOrderly originals h.saved.1.told.world.actors h.saved.1.told.world.now goes.over.actors
   calm off i o x b d eo ex eb ed before split =
       each_orderly are.sources xs are.first i o eo (before ++ met d) (off i o x b d eo ex eb (subst (λ (acts : List Actor). slice_get acts i ≡ Some d) goes.actors ed) before split)
 
@@ -118,7 +117,7 @@ module _ (most : ℕ) (c c' : Call) (text text' : List ℕ) (h : GoesOnWith most
 
   turns : turn_count lines ≡ s.events
   turns =
-      let world = h.saved.told.world in
+      let world = h.saved.1.told.world in
       let count = world.count in
       let played = turns_played (world_programs xs) (detaches_in play.whole) world.count world.actors (devices_of c.devices) lines world.now (devices_of c.devices') world.starts world.played in
       let number = world.numbered in
@@ -141,8 +140,8 @@ module _ (most : ℕ) (c c' : Call) (text text' : List ℕ) (h : GoesOnWith most
   joined_text : text ++ text' ≡ Transcript (original_names are.sources xs) (length are.sources) (turn_count (lines ++ more)) (lines ++ more)
   joined_text =
       text_joined (original_names are.sources xs) (length are.sources) (turn_count (lines ++ more)) text text' lines more
-      (h.saved.told.text_is ∙ ap (λ (ns : List Names). event_lines ns lines) names)
-      (h.continued.told.text_is ∙ ap (λ (ns : List Names). Transcript ns (length ys) (behind s'.events (turn_count more)) more) names'
+      (h.saved.1.told.text_is ∙ ap (λ (ns : List Names). event_lines ns lines) names)
+      (h.continued.0.told.text_is ∙ ap (λ (ns : List Names). Transcript ns (length ys) (behind s'.events (turn_count more)) more) names'
       ∙ ap (λ (n : ℕ). Transcript (original_names are.sources xs) n (behind s'.events (turn_count more)) more) (as_many are.sources ys are.names)
       ∙ ap (λ (n : ℕ). Transcript (original_names are.sources xs) (length are.sources) n more) all_turns)
 
@@ -153,8 +152,8 @@ module _ (most : ℕ) (c c' : Call) (text text' : List ℕ) (h : GoesOnWith most
     one = λ off. (
       goes.end,
       joined_law originals (world_programs xs) (world_programs ys) (detaches_in play.whole) (devices_of c.devices) (devices_of c.devices') goes.end s.events lines more s' are.over
-          (all_may_run are.sources xs are.first) h.saved.told.world
-          (subst (λ (z : Snapshot). IsSnapshotOf (world_programs xs) h.saved.told.world.actors h.saved.told.world.now s.events z) same_snapshot h.saved.told.is) goes.over (calm off),
+          (all_may_run are.sources xs are.first) h.saved.1.told.world
+          (subst (λ (z : Snapshot). IsSnapshotOf (world_programs xs) h.saved.1.told.world.actors h.saved.1.told.world.now s.events z) same_snapshot h.saved.1.told.is) goes.over (calm off),
       λ same. goes.same (sym same),
       joined_text,
     );
