@@ -7,7 +7,7 @@ use Rattle.script_setup.specs.SetUpRules.{program_names}
 use Rattle.world_hosting.specs.OriginalRuns.{Source}
 use Rattle.world_hosting.specs.Worlds.{Part}
 use Rattle.script_command.specs.RunOriginals.{original_names}
-use Rattle.joined_runs.proofs.AlikePrograms.{texts_of}
+use Rattle.snapshot_command.proofs.GoingOver.{texts_of}
 
 lines_on : (names : List Names) (xs ys : List Line) → event_lines names (xs ++ ys) ≡ event_lines names xs ++ event_lines names ys
 lines_on names [] ys = refl

@@ -10,7 +10,7 @@ use Rattle.world_laws.specs.AloneLines.{Unbound}
 use Rattle.world_laws.specs.Snapshots.{from_record, from_records}
 use Rattle.world_hosting.specs.Worlds.{Part, world_program, world_programs}
 use Rattle.world_hosting.proofs.Alone.{unbound_without_lines}
-use Rattle.joined_runs.proofs.AlikePrograms.{texts_of}
+use Rattle.snapshot_command.proofs.GoingOver.{texts_of}
 
 no_line : (o : Option BindText) → option_map (λ (b : BindText). b.line) o ≡ None → o ≡ None
 no_line None e = refl

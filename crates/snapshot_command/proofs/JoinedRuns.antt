@@ -9,11 +9,8 @@ use Rattle.script_model.specs.Script.{Script}
 use Rattle.script_model.specs.Transcript.{Names, Transcript, event_lines}
 use Rattle.snapshot_store.specs.Snapshots.{Snapshot, SnapText, snapshot_bytes}
 use Rattle.snapshot_store.proofs.Splits.{one_snapshot}
-use Rattle.image_laws.proofs.Emitted.{image_goes_on, pauses_hold}
-use Rattle.image_laws.proofs.Joined.{whole_bound}
-use Rattle.live_laws.proofs.CodeAlone.{code_alone}
-use Rattle.joined_worlds.specs.JoinedOriginals.{AreOrderly, JoinedWorldsOfOriginals}
-use Rattle.joined_worlds.proofs.JoinedOriginals.{joined_worlds_of_originals}
+use Rattle.joined_worlds.specs.JoinedOriginals.{AreOrderly}
+use Rattle.joined_worlds.proofs.JoinedLaw.{joined_law}
 use Rattle.wasm_reader.specs.Held.{Holds}
 use Rattle.world_laws.specs.Originals.{met}
 use Rattle.world_laws.specs.Snapshots.{IsSnapshotOf}
@@ -26,18 +23,16 @@ use Rattle.world_hosting.proofs.TurnCounts.{turns_append}
 use Rattle.script_command.specs.Playing.{HasScript, IsStage, Play, detaches_in}
 use Rattle.script_command.specs.RunOriginals.{IsSource, original_names}
 use Rattle.script_command.specs.declared.way.Way.TheVariants.{Run}
+use Rattle.script_command.proofs.OneOriginal.{some_bytes}
 use Rattle.script_command.proofs.Runs.{as_many, in_range, same_imports, same_names}
 use Rattle.script_command.proofs.WholeScripts.{one_script}
 use Rattle.snapshot_command.specs.Calls.{Call}
-use Rattle.joined_runs.specs.JoinedRuns.{GoesOnWith, IsOneRun, JoinedRunsAreOfOriginals, StayOff}
-use Rattle.joined_runs.proofs.AlikePrograms.{AreAlike, HasAlike, all_alike, all_may_run, each_orderly, some_bytes, texts_of}
-use Rattle.joined_runs.proofs.JoinedTexts.{names_by_texts, text_joined}
-use Rattle.joined_runs.proofs.OtherDevices.{WorldOver, world_over}
-use Rattle.joined_runs.proofs.PlayedTurns.{turns_played}
-use Rattle.joined_runs.proofs.UnboundPrograms.{none_bound_in}
-
-joined_law : JoinedWorldsOfOriginals
-joined_law = joined_worlds_of_originals image_goes_on pauses_hold whole_bound code_alone
+use Rattle.snapshot_command.specs.JoinedRuns.{GoesOnWith, IsOneRun, JoinedRunsAreOfOriginals, StayOff}
+use Rattle.snapshot_command.proofs.GoingOver.{GoOver, HasAlike, all_may_run, each_orderly, go_over, texts_of}
+use Rattle.snapshot_command.proofs.JoinedTexts.{names_by_texts, text_joined}
+use Rattle.snapshot_command.proofs.OtherDevices.{WorldOver, world_over}
+use Rattle.snapshot_command.proofs.PlayedTurns.{turns_played}
+use Rattle.snapshot_command.proofs.UnboundPrograms.{none_bound_in}
 
 module _ (most : ℕ) (c c' : Call) (text text' : List ℕ) (h : GoesOnWith most c c' text text') where
   abbrev play : Play Run c.files c.script
@@ -73,9 +68,9 @@ module _ (most : ℕ) (c c' : Call) (text text' : List ℕ) (h : GoesOnWith most
   texts : texts_of ys ≡ texts_of xs
   texts = play'.stages.texts_are ∙ ap (λ (s : Script). s.programs) one ∙ sym play.stages.texts_are
 
-  are : AreAlike h.files xs ys
+  are : GoOver h.files xs ys
   are =
-      all_alike h.files h.files' xs ys texts (subst (All (HasAlike h.files h.files')) (sym play.stages.texts_are) h.alike.modules) (in_range c.files c.script play)
+      go_over h.files h.files' xs ys texts (subst (All (HasAlike h.files h.files')) (sym play.stages.texts_are) h.alike.modules) (in_range c.files c.script play)
       (subst (λ (f : Option Files). All (IsStage Run f) xs) h.first play.stages.each) (subst (λ (f : Option Files). All (IsStage Run f) ys) h.second play'.stages.each)
 
   abbrev originals : List Original
@@ -111,7 +106,7 @@ module _ (most : ℕ) (c c' : Call) (text text' : List ℕ) (h : GoesOnWith most
   calm : StayOff originals h.saved.1.told.world.actors h.saved.1.told.world.now h.continued.0.told.world.actors
       → AreOrderly originals h.saved.1.told.world.actors h.saved.1.told.world.now goes.over.actors
   calm off i o x b d eo ex eb ed before split =
-      each_orderly are.sources xs are.first i o eo (before ++ met d) (off i o x b d eo ex eb (subst (λ (acts : List Actor). slice_get acts i ≡ Some d) goes.actors ed) before split)
+      each_orderly are.sources xs are.rewritten i o eo (before ++ met d) (off i o x b d eo ex eb (subst (λ (acts : List Actor). slice_get acts i ≡ Some d) goes.actors ed) before split)
 
   -- ---- one text
 
@@ -132,7 +127,7 @@ module _ (most : ℕ) (c c' : Call) (text text' : List ℕ) (h : GoesOnWith most
       omega (arith, sum, events, first, parts)
 
   names : map part_names xs ≡ original_names are.sources xs
-  names = same_names are.sources xs (same_imports are.sources xs are.first)
+  names = same_names are.sources xs (same_imports are.sources xs are.rewritten)
 
   names' : map part_names ys ≡ original_names are.sources xs
   names' = same_names are.sources ys are.names ∙ names_by_texts are.sources xs ys texts
@@ -152,7 +147,7 @@ module _ (most : ℕ) (c c' : Call) (text text' : List ℕ) (h : GoesOnWith most
     one = λ off. (
       goes.end,
       joined_law originals (world_programs xs) (world_programs ys) (detaches_in play.whole) (devices_of c.devices) (devices_of c.devices') goes.end s.events lines more s' are.over
-          (all_may_run are.sources xs are.first) h.saved.1.told.world
+          (all_may_run are.sources xs are.rewritten) h.saved.1.told.world
           (subst (λ (z : Snapshot). IsSnapshotOf (world_programs xs) h.saved.1.told.world.actors h.saved.1.told.world.now s.events z) same_snapshot h.saved.1.told.is) goes.over (calm off),
       λ same. goes.same (sym same),
       joined_text,
