@@ -74,8 +74,8 @@ module _ (files files' : Files) (t : ProgramText) (there : files' t.path ≡ fil
     same_given : given ≡ given'
     same_given =
         let rules =
-            same_rules true p q t
-            (one_written s bytes runs.source runs'.source runs.which runs'.which p q runs.rewritable runs'.rewritable runs.rewrites runs'.rewrites) in
+        same_rules true p q t
+        (one_written s bytes runs.source runs'.source runs.which runs'.which p q runs.rewritable runs'.rewritable runs.rewrites runs'.rewrites) in
         ok_given given given' (sym is.set_up ∙ rules ∙ is'.set_up)
 
     abbrev of : Source

@@ -55,11 +55,11 @@ go_over files files' (x ∷ xs) (y ∷ ys) same there ranges st st' =
     let head : y.text ≡ x.text = cc in
     let tail : texts_of ys ≡ texts_of xs = cc in
     let one =
-        one_source files files' x y head (All-head (HasAlike files files') x.text (texts_of xs) there) (All-head HasRanges x.text (texts_of xs) ranges)
-        (All-head (IsStage Run (Some files)) x xs st) (All-head (IsStage Run (Some files')) y ys st') in
+    one_source files files' x y head (All-head (HasAlike files files') x.text (texts_of xs) there) (All-head HasRanges x.text (texts_of xs) ranges)
+    (All-head (IsStage Run (Some files)) x xs st) (All-head (IsStage Run (Some files')) y ys st') in
     let rest =
-        go_over files files' xs ys tail (All-tail (HasAlike files files') x.text (texts_of xs) there) (All-tail HasRanges x.text (texts_of xs) ranges) (All-tail (IsStage Run (Some files)) x xs st)
-        (All-tail (IsStage Run (Some files')) y ys st') in
+    go_over files files' xs ys tail (All-tail (HasAlike files files') x.text (texts_of xs) there) (All-tail HasRanges x.text (texts_of xs) ranges) (All-tail (IsStage Run (Some files)) x xs st)
+    (All-tail (IsStage Run (Some files')) y ys st') in
     record {
       sources = one.of ∷ rest.sources;
       are_sources = (one.is_source, rest.are_sources);
