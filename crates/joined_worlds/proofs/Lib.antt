@@ -1,5 +1,6 @@
 pub mod Arrivals
 pub mod FoundPauses
+pub mod JoinedLaw
 pub mod JoinedNotes
 pub mod JoinedOriginals
 pub mod JoinedRows

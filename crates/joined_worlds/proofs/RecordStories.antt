@@ -1,5 +1,5 @@
 -- What one program of an original has told, and another one tells from its record on, is a story of the original.
-use Rattle.std.proofs.Common.{arith, ◌≡◌, ◌≤◌, ◌<◌, ◌-◌, ℕ, zero, suc, List, [], ◌∷◌, ◌++◌, length, drop, Option, Some, Bool, All, refl, sym, ap, ◌∙◌, subst, append-nil}
+use Rattle.std.proofs.Common.{arith, ◌≡◌, ◌≤◌, ◌<◌, ◌-◌, ℕ, suc, List, [], ◌++◌, length, drop, Option, Some, Bool, All, sym, ap, ◌∙◌, subst, append-nil}
 use Rattle.std.specs.Prelude.{slice_get}
 use Rattle.wa_model.specs.Instantiation.{opening}
 use Rattle.wa_model.specs.Blocking.{Blocking, Note, all_left}

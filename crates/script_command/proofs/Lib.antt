@@ -4,6 +4,7 @@ pub mod Ending
 pub mod Endings
 mod Hosted
 pub mod OfOriginals
+pub mod OneOriginal
 pub mod OneRead
 pub mod Openings
 pub mod Originals

@@ -1,5 +1,5 @@
 -- Originals, rewritten to be run.
-use Rattle.std.proofs.Common.{◌≡◌, ℕ, List, Option, Some, None, Bool, length, refl, sym, ap, ◌∙◌, subst}
+use Rattle.std.proofs.Common.{◌≡◌, ℕ, List, Option, Some, Bool, length, refl, sym, ap, ◌∙◌, subst}
 use Rattle.std.specs.List.{filter_map}
 use Rattle.vault_port.specs.Files.{Files}
 use Rattle.wa_types.specs.declared.syntax.Import.{Import}

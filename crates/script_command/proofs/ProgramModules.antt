@@ -22,7 +22,7 @@ use Rattle.script_command.proofs.Sources.{one_bad_original}
 
 -- ---- originals
 
-one_settings : (t : ProgramText) (s r : Settings) → settings_for t ≡ Some s → settings_for t ≡ Some r → s ≡ r
+pub one_settings : (t : ProgramText) (s r : Settings) → settings_for t ≡ Some s → settings_for t ≡ Some r → s ≡ r
 one_settings t s r e f = let both : ◌≡◌ {A = Option Settings} (Some s) (Some r) = sym e ∙ f in cc
 
 limit_early : (what : LimitKind) → V.limit_stage what ≤ 6

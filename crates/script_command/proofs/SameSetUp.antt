@@ -13,6 +13,10 @@ use Rattle.host_setup.specs.SetUp.{NamedEntry, Fault, all_told, area_bad, are_ar
 use Rattle.script_setup.specs.SetUpRules.{named_entry, set_up_rules, told_funcs, with_lines}
 use Rattle.transform_command.proofs.Outlines.{outline}
 
+-- a module without the locals and the code of its functions, for crates above
+abbrev pub without_code : Module → Module
+without_code m = outline m
+
 abbrev sort_of : Func → ℕ
 sort_of f = f.sort
 

@@ -1,5 +1,5 @@
 -- What is answered, as plain data.
-use Rattle.std.specs.Prelude.{◌≡◌, ◌⊎◌, ◌≤◌, ◌++◌, ℕ, List, [], ◌∷◌, length, Option, Some, Bool, Result, Err}
+use Rattle.std.specs.Prelude.{◌≡◌, ◌≤◌, ◌++◌, ℕ, List, [], ◌∷◌, length, Option, Result, Err}
 use Rattle.std.specs.List.{AllZip}
 use Rattle.vault_port.specs.Counts.{FailsAtMostOnce}
 use Rattle.vault_port.specs.Files.{Files, CannotRead}

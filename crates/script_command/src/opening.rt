@@ -80,11 +80,7 @@ pub fn open_script<V: Vault>(
 }
 
 /// The script in a file, or why there is none. No file changes.
-pub fn read_whole<V: Vault>(
-    alloc: Global,
-    vault: &mut V,
-    script: &str,
-) -> Result<Script, OpenFault>
+pub fn read_whole<V: Vault>(alloc: Global, vault: &mut V, script: &str) -> Result<Script, OpenFault>
     ensures script { IfOk result (λ whole. HasScript (V.files vault.old) script.now (script_of whole)) }
     ensures refused { IfErr result (λ fault. BlamesScript (V.files vault.old) (V.fetch_faults vault.old) (V.fetch_faults vault.new) script.now fault) }
     ensures kept { V.files vault.new ≡ V.files vault.old }

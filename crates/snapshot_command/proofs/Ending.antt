@@ -69,8 +69,12 @@ module _ (deed : Deed) (c : Call) (old mid new : Option (List ℕ)) (p q p' stat
         | inl told ↦ record {
           which = refused s.0;
           by_status = told.0 ∙ ap status_of s.4;
-          why = (s.1, s.2, subst (λ (l : List ℕ). Becomes old new (PrintsBehind s.1 l p p')) line_is
-              (Becomes_then (Appends s.1) (Prints line q p') (PrintsBehind s.1 line p p') (line_then p q p' s.6 s.1 line) old mid new s.5 told.1));
+          why = (
+            s.1,
+            s.2,
+            subst (λ (l : List ℕ). Becomes old new (PrintsBehind s.1 l p p')) line_is
+                (Becomes_then (Appends s.1) (Prints line q p') (PrintsBehind s.1 line p p') (line_then p q p' s.6 s.1 line) old mid new s.5 told.1),
+          );
         }
         | inr wanting ↦ record {
           which = memory;
@@ -92,7 +96,7 @@ done_end deed c old new p p' d = record { which = done; by_status = refl; why = 
 
 by_stop : (status n : ℕ) (P : Type 0) (k : ℕ) → (status ≡ n) ⊎ (status ≡ 9) → (n ≡ 9) ⊎ (n ≡ k) ⊎ P → (status ≡ 9) ⊎ (status ≡ k) ⊎ P
 by_stop status n P k by h = elim by [
-  | inl is ↦ elim h [ | inl nine ↦ inl (is ∙ nine) | inr other ↦ elim other [ | inl at ↦ inr (inl (is ∙ at)) | inr none ↦ inr (inr none) ] ]
+  | inl is ↦ elim h [ inl nine ↦ inl (is ∙ nine) | inr other ↦ elim other [ inl at ↦ inr (inl (is ∙ at)) | inr none ↦ inr (inr none) ] ]
   | inr nine ↦ inl nine
 ]
 
@@ -114,6 +118,6 @@ module _ (status f f' s s' p q p' : ℕ) where
   told_counts deed call old mid new T.Sink st t c once =
       subst (λ (n : ℕ). CountsBy n f f' s s' p p') (sym t.0) (subst (λ (n : ℕ). CountsBy 12 f f' s s' p n) (sym t.2) c)
   told_counts deed call old mid new (T.Refused r) st t c once =
-      let by : (status ≡ status_of (refusal_of r.kind)) ⊎ (status ≡ 9) = elim t [ | inl told ↦ inl told.0 | inr wanting ↦ inr wanting.0 ] in
+      let by : (status ≡ status_of (refusal_of r.kind)) ⊎ (status ≡ 9) = elim t [ inl told ↦ inl told.0 | inr wanting ↦ inr wanting.0 ] in
       let still : FailsAtMostOnce p p' = subst (λ (k : ℕ). FailsAtMostOnce k p') st.6 once in
       line_counts (status_of (refusal_of r.kind)) by (refused_counts status f f s s p p' (refusal_of r.kind) refl refl by still).puts c st.6 once

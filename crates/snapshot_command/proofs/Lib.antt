@@ -1,8 +1,15 @@
 pub mod Answering
 pub mod Ending
+pub mod GoingOver
+pub mod JoinedRuns
+pub mod JoinedTexts
 pub mod Openings
+pub mod OtherDevices
+pub mod PlayedTurns
 pub mod PutBack
 pub mod SamePrograms
 pub mod SnapshotFiles
 pub mod Statuses
 pub mod Steps
+pub mod Unbinding
+pub mod UnboundPrograms

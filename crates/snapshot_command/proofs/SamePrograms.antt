@@ -11,15 +11,13 @@ use Rattle.wa_model.specs.Blocking.{fault_of}
 use Rattle.wa_model.specs.Instantiation.{Opening, all_values, least_of, opened_by, opening}
 use Rattle.wa_model.specs.World.{Program}
 use Rattle.wa_types.specs.Modules.{all_memories, all_tables}
-use Rattle.pause_host.specs.Thawing.{GlobalsSuit}
 use Rattle.script_model.specs.Script.{ProgramText, Script, ScriptFault}
 use Rattle.script_setup.specs.SetUpRules.{SetUp}
 use Rattle.snapshot_store.specs.Snapshots.{PausedParts, ProgramRecord, Snapshot, fresh, over, paused}
-use Rattle.transform_command.proofs.Outlines.{outline}
 use Rattle.script_command.specs.declared.way.Way.TheVariants.{Run}
 use Rattle.script_command.specs.Playing.{IsModule, IsStage}
 use Rattle.script_command.proofs.ProgramModules.{one_listing, one_module}
-use Rattle.script_command.proofs.SameSetUp.{same_rules, type_same}
+use Rattle.script_command.proofs.SameSetUp.{same_rules, type_same, without_code}
 use Rattle.script_command.proofs.WholeScripts.{one_script}
 use Rattle.world_hosting.specs.Suiting.{PauseSuits, RecordSuits, SnapshotSuits, WaitsForLast}
 use Rattle.world_hosting.specs.Worlds.{Part, part, world_program, world_programs}
@@ -30,14 +28,14 @@ use Rattle.snapshot_command.specs.Telling.{programs_of}
 
 -- the program over its module's outline
 abbrev outlined : Part → Part
-outlined x = part (outline x.source) x.listed x.text x.given
+outlined x = part (without_code x.source) x.listed x.text x.given
 
-opened_same : (m : Module) (globals : List Value) (pages entries : ℕ) (a b : Bool) → opened_by m globals pages entries a b ≡ opened_by (outline m) globals pages entries a b
+opened_same : (m : Module) (globals : List Value) (pages entries : ℕ) (a b : Bool) → opened_by m globals pages entries a b ≡ opened_by (without_code m) globals pages entries a b
 opened_same m globals pages entries true b = refl
 opened_same m globals pages entries false true = refl
 opened_same m globals pages entries false false = refl
 
-opening_same : (m : Module) (imports : List Value) → opening m imports ≡ opening (outline m) imports
+opening_same : (m : Module) (imports : List Value) → opening m imports ≡ opening (without_code m) imports
 opening_same m imports = opened_same m (all_values imports m) (least_of (all_memories m)) (least_of (all_tables m)) _ _
 
 module _ (x : Part) (parts : PausedParts) where
@@ -77,7 +75,7 @@ module _ (x : Part) (parts : PausedParts) where
 
 record IsAlike (x y : Part) : Type 0 where
   text : x.text ≡ y.text
-  outline : outline x.source ≡ outline y.source
+  outline : without_code x.source ≡ without_code y.source
   listed : x.listed ≡ y.listed
   given : x.given ≡ y.given
 
@@ -118,9 +116,10 @@ module _ (all : Files) where
   all_alike (x ∷ xs) [] e a b = cc
   all_alike (x ∷ xs) (y ∷ ys) e a b =
       let head : x.text ≡ y.text = cc in
-      let tail : map text_of xs ≡ map text_of ys = cc in
-      (alike x y head (All-head (IsStage Run (Some all)) x xs a) (All-head (IsStage Run (Some all)) y ys b),
-      all_alike xs ys tail (All-tail (IsStage Run (Some all)) x xs a) (All-tail (IsStage Run (Some all)) y ys b))
+      let tail : map text_of xs ≡ map text_of ys = cc in (
+        alike x y head (All-head (IsStage Run (Some all)) x xs a) (All-head (IsStage Run (Some all)) y ys b),
+        all_alike xs ys tail (All-tail (IsStage Run (Some all)) x xs a) (All-tail (IsStage Run (Some all)) y ys b),
+      )
 
   pub same_suits : (name : List ℕ) (p q : Play (Some all) name) (s : Snapshot) → SnapshotSuits (programs_of p) s → SnapshotSuits (programs_of q) s
   same_suits name p q s h =

@@ -3,7 +3,7 @@ use Rattle.std.proofs.Common.{◌≡◌, ◌≢◌, ◌≤◌, inl, inr, ℕ, su
 use Rattle.std.specs.Prelude.{All, IfOk, IsErrOf}
 use Rattle.std.specs.List.{AllZip}
 use Rattle.std.specs.Result.{IfErr}
-use Rattle.std.proofs.lemmas.List.{append-nil, take_all, length-map}
+use Rattle.std.proofs.lemmas.List.{append-nil, take_all}
 use Rattle.std.proofs.lemmas.List.Elements.{All-weaker}
 use Rattle.vault_port.specs.Counts.{FailsAtMostOnce, FailsOnce}
 use Rattle.vault_port.specs.Files.{CannotRead, Files}
@@ -20,9 +20,8 @@ use Rattle.transcript.specs.Refused.{CountsBy, status_of}
 use Rattle.transcript.proofs.Counts.{put_alone, refused_counts, unread_counts, unsaved_counts, wanting_counts}
 use Rattle.transcript.specs.declared.refusals.RefusalKind.TheVariants as K
 use Rattle.snapshot_store.specs.Snapshots.{ProgramRecord, RecordFits, Snapshot, SnapText, fresh, over, paused, snapshot_bytes}
-use Rattle.snapshot_store.specs.declared.snapshot.ProgramRecord.{ProgramRecord as RecordValue}
 use Rattle.snapshot_store.specs.declared.snapshot.Snapshot.{Snapshot as SnapshotValue}
-use Rattle.snapshot_store.specs.Views.{record_of, snapshot_of}
+use Rattle.snapshot_store.specs.Views.{snapshot_of}
 use Rattle.snapshot_store.proofs.Splits.{one_snapshot}
 use Rattle.script_command.specs.Views.{CanStage, CountsFor, parts_of}
 use Rattle.script_command.specs.declared.opening.Opened.{Opened}
@@ -32,11 +31,8 @@ use Rattle.script_command.specs.Playing.{bad_line, bad_module, bad_script, detac
 use Rattle.world_hosting.specs.Continued.{AreResumedAt, Continues, ContinuesPart, IsWhole}
 use Rattle.world_hosting.specs.Saved.{Saves, SavesPart}
 use Rattle.world_hosting.specs.Suiting.{SnapshotSuits}
-use Rattle.world_hosting.specs.Views.{AreStaged, IsStaged}
-use Rattle.world_hosting.specs.Worlds.{Part, PrintsPart, world_program, world_programs}
-use Rattle.world_hosting.specs.declared.staging.Staged.{Staged}
+use Rattle.world_hosting.specs.Worlds.{Part, PrintsPart, world_programs}
 use Rattle.script_command.specs.declared.programs.Planned.{Planned}
-use Rattle.script_command.proofs.StagedParts.{zip_long}
 use Rattle.world_hosting.specs.declared.resuming.Resumed.{Resumed}
 use Rattle.wa_types.specs.declared.syntax.Module.{Module}
 use Rattle.snapshot_command.proofs.PutBack.{parts_long}
@@ -127,15 +123,6 @@ module _ (most : ℕ) (name snap : List ℕ) (files : Option Files) (f f' s s' :
       by F.Fault failed stays h = (h.0, h.1, (record { play = play; told = h.2; few = h.3 }, refl), failed refl, h.4)
       by F.Memory failed stays h = (h.0, h.1, inr (inl (record { play = play; told = h.2; few = h.3 }, refl)), h.4, stays (λ e. cc))
 
--- so many are saved as were staged
-pub few_records : (parts : List Part) (staged : List Staged) (rs : List RecordValue) → AreStaged parts staged → length staged ≤ 16 → length (map record_of rs) ≡ length (world_programs parts)
-    → length rs ≤ 16
-few_records parts staged rs are few count =
-    let zipped = zip_long IsStaged parts staged are in
-    let programs = length-map parts world_program in
-    let records = length-map rs record_of in
-    omega (arith, few, count, zipped, programs, records)
-
 -- what was played is written, or not
 pub played_written : (most : ℕ) (name snap : List ℕ) (files files' : Option Files) (f f' s s' : ℕ) (ds ds' : List Counted) (taken taken' : Option (List ℕ)) (p p' : ℕ) (play : Play files name) (shot : Snapshot)
     → Saves play.run.parts (detaches_in play.run.whole) most ds ds' taken taken' shot → p' ≡ p → (r : Result (Unit {0}) Stop) → Writes shot snap files files' s s' r
@@ -175,9 +162,15 @@ module _ (name snap : List ℕ) (files : Option Files) (f f' s s' : ℕ) (taken 
       → Stops continues (call name snap files files f f' s s' ds ds) (output taken taken p p) (refused_for K.SnapshotRefused)
   unfit_stops ds shot held never =
       let none : (t : Snapshot) → SnapText held.bytes t → SnapshotSuits (programs_of play) t → ⊥ =
-      λ t text suits. never (subst (SnapshotSuits (programs_of play)) (one_snapshot held.bytes t shot text held.spells) suits) in
-      (unfit, [], ((play, record { bytes = held.bytes; holds = held.holds; few = held.few; none = none }), leaves continues name snap files files f f' s s' ds taken p refl), refl, refl,
-      no_text taken, refl)
+      λ t text suits. never (subst (SnapshotSuits (programs_of play)) (one_snapshot held.bytes t shot text held.spells) suits) in (
+        unfit,
+        [],
+        ((play, record { bytes = held.bytes; holds = held.holds; few = held.few; none = none }), leaves continues name snap files files f f' s s' ds taken p refl),
+        refl,
+        refl,
+        no_text taken,
+        refl,
+      )
 
   -- programs aren't put back
   pub thaw_stops : {T : Type 0} (fault : ThawFault) (stop : Stop) → stop ≡ thaw_stop fault → (ds : List Counted) (shot : Snapshot) → Holding files snap shot
@@ -332,7 +325,7 @@ does_kept deed name snap files files' f f' s s' ds ds' o r same h = subst (λ (x
 
 -- a file couldn't be read
 pub cannot_once : (files : Option Files) (name : List ℕ) (f f' : ℕ) → CannotRead files name f f' → FailsAtMostOnce f f'
-cannot_once files name f f' h = elim h [ | inl failed ↦ inr failed | inr missing ↦ inl missing.1 ]
+cannot_once files name f f' h = elim h [ inl failed ↦ inr failed | inr missing ↦ inl missing.1 ]
 
 -- ---- programs that stand for their records
 

@@ -11,14 +11,18 @@
 //! - `scripts`: scripts without devices, opened.
 //! - `saving`, `files`: the first events, and the snapshot's file.
 //! - `resuming`, `continuing`: programs that stand for their records, and what they tell from there.
+//! - `joining`: the law of both. Each rewrites the programs' modules on its own, and stands for the same originals; so the text of a save and
+//!   that of a continue from its snapshot are together the transcript of one run of the originals (`specs/JoinedRuns.antt`).
 #![tactic(auto)]
 
 mod continuing;
 mod files;
+mod joining;
 mod resuming;
 mod saving;
 mod scripts;
 mod stop;
 
 pub use continuing::continue_script;
+pub use joining::joined_runs_are_of_originals;
 pub use saving::{SaveRequest, save_script};

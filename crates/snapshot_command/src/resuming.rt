@@ -60,7 +60,14 @@ fn resume_each<'m>(
         let number = resumed.len();
         let valid = &modules[number];
         let record = &records[number];
-        let program = match resume_program(alloc, valid, plan.listed, plan.text, plan.given, record) {
+        let program = match resume_program(
+            alloc,
+            valid,
+            plan.listed,
+            plan.text,
+            plan.given,
+            record,
+        ) {
             Ok(program) => program,
             Err(fault) => return Err(fault),
         };
@@ -70,10 +77,7 @@ fn resume_each<'m>(
 }
 
 // Puts a program behind others.
-fn put_program<'m>(
-    resumed: &mut Vec<Resumed<'m>>,
-    program: Resumed<'m>,
-) -> Result<(), AllocError>
+fn put_program<'m>(resumed: &mut Vec<Resumed<'m>>, program: Resumed<'m>) -> Result<(), AllocError>
     ensures { OnOk result (resumed.new.items ≡ resumed.old.items ++ program.entry ∷ []) }
 {
     resumed.push(program)?;

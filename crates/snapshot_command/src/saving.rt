@@ -13,7 +13,8 @@ ghost use Rattle.script_command.specs.Views.{CanPlay};
 ghost use Rattle.world_hosting.specs.Counts.{counted};
 ghost use Rattle.world_hosting.specs.Saved.{Saves};
 ghost use Rattle.world_hosting.specs.Views.{AreStaged};
-ghost use Rattle.world_hosting.specs.Worlds.{Part};
+ghost use Rattle.world_hosting.specs.Worlds.{Part, world_programs};
+ghost use Rattle.world_laws.specs.AloneLines.{Unbound};
 ghost use Rattle.snapshot_command.specs.Answers.{HasOneEnd};
 ghost use Rattle.snapshot_command.specs.Calls.{call, output, saves};
 ghost use Rattle.snapshot_command.specs.Ends.{IsStatus};
@@ -182,7 +183,7 @@ fn play_staged<S: Sink>(
     requires some { 1 ≤ most }
     requires few { length staged.items ≤ 16 }
     requires staged { (parts : List Part) × AreStaged parts staged.items }
-    ensures played { (parts : List Part) → AreStaged parts staged.entry.items
+    ensures played { (parts : List Part) → AreStaged parts staged.entry.items → All Unbound (world_programs parts)
         → IfOk result (λ s. Saves parts detaches.items most
         (counted seen (λ d. (⟦<dyn Device as Device>⟧ d.0).faults d.1) devices.old)
         (counted seen (λ d. (⟦<dyn Device as Device>⟧ d.0).faults d.1) devices.new)

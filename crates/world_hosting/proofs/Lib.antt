@@ -11,6 +11,7 @@ pub mod Originals
 pub mod Printed
 pub mod PutBack
 pub mod PutBackAll
+pub mod UpToEvents
 pub mod ScriptPlans
 pub mod ScriptPrograms
 pub mod SetUp

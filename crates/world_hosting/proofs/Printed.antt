@@ -12,7 +12,7 @@ use Rattle.vault_port.specs.Taken.{Appends, AppendsLess, AppendsPast}
 use Rattle.vault_port.specs.Told.{Becomes}
 use Rattle.wa_model.specs.declared.answers.Detach.{Detach}
 use Rattle.wa_model.specs.declared.events.Line.{Line as LineValue}
-use Rattle.wa_model.specs.Outside.{Event, Line}
+use Rattle.wa_model.specs.Outside.{Line}
 use Rattle.wa_model.specs.Plan.{Outcome}
 use Rattle.wa_model.specs.View.{line_of}
 use Rattle.script_model.specs.Transcript as T
@@ -38,7 +38,7 @@ use Rattle.transcript.specs.declared.events.Names.{Names}
 use Rattle.transcript.specs.Printing.{names_of}
 use Rattle.world_hosting.specs.Counts.{AreMet, IsBegunBy, Took, counted, met_by, turns_at}
 use Rattle.world_hosting.specs.Saved.{HasPrinted, HasTold, MetBy, SavesPartFrom}
-use Rattle.world_hosting.specs.Worlds.{AreBegunFrom, AreEndedFrom, AreToldFrom, IsLeft, Part, PrintsPart, TellsPartFrom, TellsWorldFrom, part_names, turn_count}
+use Rattle.world_hosting.specs.Worlds.{AreBegunFrom, AreToldFrom, IsLeft, Part, PrintsPart, TellsPartFrom, TellsWorldFrom, part_names, turn_count}
 use Rattle.world_hosting.proofs.TurnCounts.{begun_next, turns_begun}
 use Rattle.transcript.proofs.LineTexts.{becomes_by, becomes_same, line_more, then_less, then_printed}
 
@@ -142,7 +142,7 @@ none_met earlier programs detaches ds h ds' told none i t et = by h.turns.stage 
 -- ---- lines that are being told
 
 -- nothing came behind them
-none_left_out : (begun : ℕ) (detaches : List Detach) (cs : List Counted) → AreLeft begun detaches cs cs
+pub none_left_out : (begun : ℕ) (detaches : List Detach) (cs : List Counted) → AreLeft begun detaches cs cs
 none_left_out begun detaches cs = record { there = cs; there_is = inl refl; devices = refl; counts = inl refl }
 
 left_there : (fault : PutFault) (begun : ℕ) (detaches : List Detach) (cs : List Counted) → IsLeft fault begun detaches cs cs
@@ -161,30 +161,38 @@ module _ (earlier : ℕ) (programs : List Program) (parts : List Part) (detaches
   begun lines = event_lines names lines
 
   -- nothing was printed
-  pub none_printed : BeginsWorldFrom earlier programs detaches ds [] → (o : Option (List ℕ)) → TellsPartFrom Memory earlier programs parts detaches cs cs o o
-  none_printed b o = (
-    0,
-    [],
-    inl (record {
-      lines = [];
-      more = b.0;
-      met = [];
-      last = b.1;
-      world = b.2;
-      meets = λ i a ea. (a.outcomes, refl);
-      begun = earlier;
-      there = cs;
-      took = (refl, refl);
-      left = none_left_out earlier detaches cs;
-      text_is = refl;
-      before = [];
-      behind = [];
-      one = omega arith;
-      lines_are = refl;
-      least_is = refl;
-    }),
-    becomes_same (PrintsPart Memory 0 []) (λ x. (0, omega arith, sym (append-nil x))) o,
-  )
+  module _ (b : BeginsWorldFrom earlier programs detaches ds []) (o : Option (List ℕ)) where
+    abbrev nothing : (told : AreBegunFrom Memory earlier programs parts detaches cs cs 0 []) × (told.begun ≡ earlier)
+    nothing = (
+      record {
+        lines = [];
+        more = b.0;
+        met = [];
+        last = b.1;
+        world = b.2;
+        meets = λ i a ea. (a.outcomes, refl);
+        begun = earlier;
+        there = cs;
+        took = (refl, refl);
+        left = none_left_out earlier detaches cs;
+        text_is = refl;
+        before = [];
+        behind = [];
+        one = omega arith;
+        lines_are = refl;
+        least_is = refl;
+      },
+      refl,
+    )
+
+    as_it_was : Becomes o o (PrintsPart Memory 0 [])
+    as_it_was = becomes_same (PrintsPart Memory 0 []) (λ x. (0, omega arith, sym (append-nil x))) o
+
+    pub none_printed : TellsPartFrom Memory earlier programs parts detaches cs cs o o
+    none_printed = (0, [], inl nothing.0, as_it_was)
+
+    pub none_cut : (most : ℕ) → earlier ≤ most → SavesPartFrom Memory earlier programs parts detaches most cs cs o o
+    none_cut most few = (0, [], nothing.0, few, as_it_was)
 
   abbrev Told : (h : Host) (now : List Counted) → Type 0
   Told h now = HasTold earlier programs detaches cs h now

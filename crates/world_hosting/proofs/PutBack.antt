@@ -1,7 +1,6 @@
 -- Programs that stand for records go on as the world's.
-use Rattle.std.proofs.Common.{◌≡◌, ◌-◌, ℕ, List, [], drop, map, Option, Some, Bool, true, false, Result, Ok, refl, sym, ap, ◌∙◌, subst}
+use Rattle.std.proofs.Common.{◌≡◌, ◌-◌, ℕ, List, [], map, Option, Some, Bool, false, Result, Ok, refl, sym, ap, ◌∙◌, subst}
 use Rattle.std.specs.Prelude.{MatchBool, is_none, slice_get}
-use Rattle.wa_model.specs.Instantiation.{opening}
 use Rattle.wa_model.specs.Outside.{Answer}
 use Rattle.wa_model.specs.Plan.{Entry}
 use Rattle.wa_model.specs.View.{answer_line_of}

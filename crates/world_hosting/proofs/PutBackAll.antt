@@ -1,22 +1,30 @@
 -- Programs that were put back by their records can be hosted.
-use Rattle.std.proofs.Common.{◌≡◌, ℕ, zero, suc, List, [], ◌∷◌, length, map, Some, Bool, slice_get, refl, sym, ap, ◌∙◌, subst}
+use Rattle.std.proofs.Common.{◌≡◌, ◌<◌, ◌^◌, All, ℕ, zero, suc, List, [], ◌∷◌, length, map, Some, Bool, slice_get, refl, sym, ap, ◌∙◌, subst}
 use Rattle.std.proofs.lemmas.List.{length-map}
+use Rattle.std.proofs.lemmas.List.Elements.{All-cons, All-head, All-nil, All-tail}
+use Rattle.std.proofs.lemmas.Option.{same_Some}
+use Rattle.wa_model.specs.declared.answers.Detach.{Detach}
 use Rattle.wa_model.specs.World as W
+use Rattle.wa_model.specs.World.{Device}
 use Rattle.event_order.specs.declared.shows.Show.{Show}
 use Rattle.event_order.specs.Looks.{looks_of}
+use Rattle.many_host.specs.declared.host.Host.{Host}
 use Rattle.many_host.specs.Hosts.{AreResumed, IsResumed}
+use Rattle.many_host.specs.ToldNotes.{BeginsWorldFrom}
 use Rattle.pause_host.specs.declared.program.Program.{Program}
 use Rattle.script_model.specs.Transcript as T
-use Rattle.snapshot_store.specs.Snapshots.{ProgramRecord}
+use Rattle.snapshot_store.specs.Snapshots.{ProgramRecord, Snapshot}
+use Rattle.transcript.specs.declared.events.Names.{Names}
 use Rattle.transcript.specs.Printing.{names_of}
-use Rattle.world_laws.specs.Snapshots.{from_record, from_records}
+use Rattle.world_laws.specs.Snapshots.{From, from_record, from_records}
 use Rattle.world_hosting.specs.declared.hosting.Timed.{Timed}
 use Rattle.world_hosting.specs.declared.parting.Parted.{Parted}
 use Rattle.world_hosting.specs.declared.resuming.Resumed.{Resumed}
 use Rattle.world_hosting.specs.declared.staging.Staged.{Staged}
-use Rattle.world_hosting.specs.Continued.{AreResumedAt, GoesOn, IsResumedAt}
-use Rattle.world_hosting.specs.Parted.{AreParted, AreTimed, shows_from}
+use Rattle.world_hosting.specs.Continued.{AreResumedAt, IsResumedAt}
+use Rattle.world_hosting.specs.Parted.{AreParted, AreTimed, Begins, shows_from}
 use Rattle.world_hosting.specs.Worlds.{Part, look_at, part_names, world_program, world_programs}
+use Rattle.world_hosting.proofs.Begun.{begins_resumed}
 use Rattle.world_hosting.proofs.SetUp.{own_at}
 
 abbrev staged_of : List Resumed → List Staged
@@ -52,7 +60,7 @@ resumed_at [] (r ∷ rs) zs h i w x due marked ew ex ed em = absurd h
 resumed_at (p ∷ ps) [] zs h i w x due marked ew ex ed em = absurd h
 resumed_at (p ∷ ps) (r ∷ rs) [] h i w x due marked ew ex ed em = absurd h
 resumed_at (p ∷ ps) (r ∷ rs) (z ∷ zs) h zero w x due marked ew ex ed em =
-    record { one = p; stands = r; resumed = z; there = refl; world = cc; program = cc; due_is = cc; mark_is = cc; is = h.0 }
+    record { one = p; stands = r; resumed = z; there = refl; world = same_Some _ w ew; program = same_Some _ x ex; due_is = same_Some _ due ed; mark_is = same_Some _ marked em; is = h.0 }
 resumed_at (p ∷ ps) (r ∷ rs) (z ∷ zs) h (suc i) w x due marked ew ex ed em =
     let at = resumed_at ps rs zs h.1 i w x due marked ew ex ed em in
     record {
@@ -111,7 +119,34 @@ are_resumed ps rs zs h = record {
       (subst (λ (y : Program). IsResumed (from_record (world_program at.one) at.stands) shows i y at.resumed.due at.resumed.ended) at.program (looks, is.goes))));
 }
 
+-- nothing that was told begins a run of the world
+pub begins_none : (earlier : ℕ) (ps : List Part) (rs : List ProgramRecord) (zs : List Resumed) (detaches : List Detach) (ds : List Device) → AreResumedAt ps rs zs
+    → BeginsWorldFrom earlier (from_records (world_programs ps) rs) detaches ds []
+begins_none earlier ps rs zs detaches ds h =
+    begins_resumed earlier (from_records (world_programs ps) rs) (shows_from 0 (staged_of zs)) (programs_of zs) (dues_of zs) (marks_of zs) detaches ds
+    (length-map zs (λ (z : Resumed). z.due) ∙ sym (many_programs zs)) (length-map zs (λ (z : Resumed). z.ended) ∙ sym (many_programs zs)) (are_resumed ps rs zs h)
+
+-- all of them are due early
+pub all_early : (ps : List Part) (rs : List ProgramRecord) (zs : List Resumed) → AreResumedAt ps rs zs → All (λ (z : Resumed). z.due < 2 ^ 62) zs
+all_early [] [] [] h = All-nil (λ (z : Resumed). z.due < 2 ^ 62)
+all_early [] [] (z ∷ zs) h = absurd h
+all_early [] (r ∷ rs) zs h = absurd h
+all_early (p ∷ ps) [] zs h = absurd h
+all_early (p ∷ ps) (r ∷ rs) [] h = absurd h
+all_early (p ∷ ps) (r ∷ rs) (z ∷ zs) h = All-cons (λ (x : Resumed). x.due < 2 ^ 62) z zs h.0.early (all_early ps rs zs h.1)
+
+-- by the events of a snapshot
+pub begins_at : (parts : List Part) (s : Snapshot) (events : ℕ) (detaches : List Detach) (h : Host) (names : List Names) → s.events ≡ events
+    → Begins events (from_records (world_programs parts) s.programs) parts detaches h names → Begins s.events (From s (world_programs parts)) parts detaches h names
+begins_at parts s events detaches h names e b = subst (λ (n : ℕ). Begins n (From s (world_programs parts)) parts detaches h names) (sym e) b
+
 -- ---- in parts
+
+pub early_dues : (zs : List Resumed) (t : Timed) → AreTimed zs t → All (λ (z : Resumed). z.due < 2 ^ 62) zs → All (λ (due : ℕ). due < 2 ^ 62) t.dues.items
+early_dues zs t timed early = subst (λ (l : List ℕ). All (λ (due : ℕ). due < 2 ^ 62) l) (sym timed.dues) (by zs early) where
+  by : (xs : List Resumed) → All (λ (z : Resumed). z.due < 2 ^ 62) xs → All (λ (due : ℕ). due < 2 ^ 62) (dues_of xs)
+  by [] h = All-nil (λ (due : ℕ). due < 2 ^ 62)
+  by (x ∷ xs) h = All-cons (λ (due : ℕ). due < 2 ^ 62) x.due (dues_of xs) (All-head (λ (z : Resumed). z.due < 2 ^ 62) x xs h) (by xs (All-tail (λ (z : Resumed). z.due < 2 ^ 62) x xs h))
 
 module _ (zs : List Resumed) (t : Timed) (x : Parted) (timed : AreTimed zs t) (parted : AreParted t.staged.items x) where
   programs_are : x.programs.items ≡ programs_of zs

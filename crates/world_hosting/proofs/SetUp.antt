@@ -1,9 +1,10 @@
 -- Programs that are set up can be hosted.
 use Rattle.std.proofs.Common.{◌≡◌, ℕ, zero, suc, ◌+◌, ◌<◌, List, [], ◌∷◌, ◌++◌, length, map, Option, Some, None, Bool, true, false, if◌then◌else◌, nat_eq, slice_get, get_or, take, append_assoc, refl, sym, ap, ◌∙◌, subst, arith}
-use Rattle.std.specs.List.{cons_option}
+use Rattle.std.specs.List.{AllZip, cons_option}
 use Rattle.std.proofs.lemmas.Bool.Decides.{nat_tests}
 use Rattle.std.proofs.lemmas.List.{append-nil, length-map, map_more}
 use Rattle.std.proofs.lemmas.List.Elements.{filter_map-append}
+use Rattle.std.proofs.lemmas.Option.{same_Some}
 use Rattle.wa_model.specs.World as W
 use Rattle.wa_model.specs.World.{Look, at_start}
 use Rattle.event_order.specs.declared.shows.Show.{Show}
@@ -76,7 +77,7 @@ own_of n (x ∷ ss) (suc i) s e =
     ∙ ap (λ (k : ℕ). looks_of k (shows_from (suc n) ss)) further
     ∙ own_of (suc n) ss i s e
 
-own_at : (ss : List Staged) (i : ℕ) (s : Staged) → slice_get ss i ≡ Some s → looks_of i (shows_from 0 ss) ≡ looks_in s.shows.items
+pub own_at : (ss : List Staged) (i : ℕ) (s : Staged) → slice_get ss i ≡ Some s → looks_of i (shows_from 0 ss) ≡ looks_in s.shows.items
 own_at ss i s e =
     let here : i ≡ 0 + i = omega arith in
     ap (λ (k : ℕ). looks_of k (shows_from 0 ss)) here ∙ own_of 0 ss i s e
@@ -86,23 +87,17 @@ own_at ss i s e =
 abbrev programs_of : List Staged → List Program
 programs_of ss = map (λ (s : Staged). s.program) ss
 
--- The part and the program of a place.
-record StagedAt (ss : List Staged) (i : ℕ) (w : W.Program) (x : Program) : Type 0 where
-  pub one : Part
-  pub staged : Staged
-  pub there : slice_get ss i ≡ Some staged
-  pub world : world_program one ≡ w
-  pub program : staged.program ≡ x
-  pub is : IsStaged one staged
+map_at : {X Y : Type 0} (f : X → Y) (i : ℕ) (xs : List X) (y : Y) → slice_get (map f xs) i ≡ Some y → (x : X) × (slice_get xs i ≡ Some x) × (f x ≡ y)
+map_at f i [] y e = cc
+map_at f zero (x ∷ xs) y e = (x, refl, same_Some (f x) y e)
+map_at f (suc i) (x ∷ xs) y e = map_at f i xs y e
 
-staged_at : (ps : List Part) (ss : List Staged) → AreStaged ps ss → (i : ℕ) (w : W.Program) (x : Program) → slice_get (world_programs ps) i ≡ Some w → slice_get (programs_of ss) i ≡ Some x
-    → StagedAt ss i w x
-staged_at [] ss h i w x ew ex = cc
-staged_at (p ∷ ps) [] h i w x ew ex = cc
-staged_at (p ∷ ps) (s ∷ ss) h zero w x ew ex = record { one = p; staged = s; there = refl; world = cc; program = cc; is = h.0 }
-staged_at (p ∷ ps) (s ∷ ss) h (suc i) w x ew ex =
-    let at = staged_at ps ss h.1 i w x ew ex in
-    record { one = at.one; staged = at.staged; there = at.there; world = at.world; program = at.program; is = at.is }
+zip_at : {X Y : Type 0} (R : X → Y → Type 0) (xs : List X) (ys : List Y) → AllZip R xs ys → (i : ℕ) (x : X) (y : Y) → slice_get xs i ≡ Some x → slice_get ys i ≡ Some y → R x y
+zip_at R [] [] h i x y ex ey = cc
+zip_at R [] (b ∷ ys) h i x y ex ey = absurd h
+zip_at R (a ∷ xs) [] h i x y ex ey = absurd h
+zip_at R (a ∷ xs) (b ∷ ys) h zero x y ex ey = subst (λ z. R z y) (same_Some a x ex) (subst (R a) (same_Some b y ey) h.0)
+zip_at R (a ∷ xs) (b ∷ ys) h (suc i) x y ex ey = zip_at R xs ys h.1 i x y ex ey
 
 same_length : (ps : List Part) (ss : List Staged) → AreStaged ps ss → length ss ≡ length ps
 same_length [] [] h = refl
@@ -123,11 +118,12 @@ pub are_set_up : (ps : List Part) (ss : List Staged) → AreStaged ps ss → Are
 are_set_up ps ss h = record {
   wide = length-map ss (λ (s : Staged). s.program) ∙ same_length ps ss h ∙ sym (length-map ps world_program);
   each = λ i w x ew ex.
-      let at = staged_at ps ss h i w x ew ex in
-      let is = at.is in
-      let looks : map look_at at.one.text.shows ≡ looks_of i (shows_from 0 ss) = ap (map look_at) (sym is.shows) ∙ sym (own_at ss i at.staged at.there) in
-      subst (λ (v : W.Program). StartsAs i (shows_from 0 ss) v x) at.world
-      (subst (λ (y : Program). StartsAs i (shows_from 0 ss) (world_program at.one) y) at.program (is.follows, is.answers, looks, refl));
+      let p = map_at world_program i ps w ew in
+      let s = map_at (λ (s : Staged). s.program) i ss x ex in
+      let is = zip_at IsStaged ps ss h i p.0 s.0 p.1 s.1 in
+      let looks : map look_at p.0.text.shows ≡ looks_of i (shows_from 0 ss) = ap (map look_at) (sym is.shows) ∙ sym (own_at ss i s.0 s.1) in
+      subst (λ (v : W.Program). StartsAs i (shows_from 0 ss) v x) p.2
+      (subst (λ (y : Program). StartsAs i (shows_from 0 ss) (world_program p.0) y) s.2 (is.follows, is.answers, looks, refl));
 }
 
 pub parted_set_up : (ps : List Part) (ss : List Staged) (x : Parted) → AreStaged ps ss → AreParted ss x → AreSetUp (world_programs ps) x.shows.items x.programs.items

@@ -96,7 +96,7 @@ module _ (x : Part) (z : ScriptPlan) (p : IsPlanned x z) where
   }
 
   -- the program of a world that its plan is
-  abbrev planned : W.Program
+  abbrev pub planned : W.Program
   planned = P.world_program z.plan x.given.funcs (map look_at x.text.shows) (bindings x.source x.text.binds)
 
   pub same_world : planned ≡ world_program x

@@ -1,8 +1,8 @@
 -- A record that suits a program of a script, as that suits its plan, and the program that is put back by it.
-use Rattle.std.proofs.Common.{◌≡◌, ◌≤◌, ◌<◌, ◌-◌, ◌*◌, ℕ, List, [], ◌∷◌, length, map, Option, Some, None, Bool, true, false, Result, Ok, Err, arith, refl, sym, ap, ◌∙◌, subst}
+use Rattle.std.proofs.Common.{◌≡◌, ◌<◌, ◌^◌, ℕ, suc, List, [], ◌∷◌, length, map, Option, Some, None, Bool, true, false, Ok, Err, arith, refl, sym, ap, ◌∙◌, subst}
 use Rattle.std.proofs.lemmas.List.{length-map}
 use Rattle.wa_model.specs.World as W
-use Rattle.host_setup.specs.SetUp.{NamedEntry, Fault, all_told, entry_funcs, first_fault, set_up, unless_fault}
+use Rattle.host_setup.specs.SetUp.{NamedEntry, Fault, all_told, entry_funcs, first_fault, unless_fault}
 use Rattle.host_setup.specs.Views.{entry_of}
 use Rattle.pause_host.specs.declared.faults.ThawFault.{ThawFault}
 use Rattle.pause_host.specs.declared.faults.ThawFault.TheVariants as T
@@ -16,8 +16,8 @@ use Rattle.world_laws.specs.Snapshots.{from_record}
 use Rattle.world_hosting.specs.declared.resuming.Resumed.{Resumed}
 use Rattle.world_hosting.specs.declared.staging.ScriptPlan.{ScriptPlan}
 use Rattle.world_hosting.specs.declared.staging.Staged.{Staged}
-use Rattle.world_hosting.specs.Continued.{GoesOn, IsResumedAt, Resumes, unpaused_record}
-use Rattle.world_hosting.specs.Suiting.{PauseSuits, RecordSuits}
+use Rattle.world_hosting.specs.Continued.{GoesOn, Resumes, unpaused_record}
+use Rattle.world_hosting.specs.Suiting.{PauseSuits}
 use Rattle.world_hosting.specs.Views.{IsPlanned, IsStaged}
 use Rattle.world_hosting.specs.Worlds.{Part, look_at, world_program}
 use Rattle.world_hosting.proofs.PutBack.{goes_on}
@@ -32,7 +32,7 @@ told_funcs (Some f) xs ys e = cc
 calls_many : (es : List NamedEntry) (fs : List ℕ) → length fs ≡ length es → length (calls_of es fs) ≡ length es
 calls_many [] fs e = refl
 calls_many (x ∷ es) [] e = e
-calls_many (x ∷ es) (f ∷ fs) e = ap (λ n. 1 + n) (calls_many es fs (omega (arith, e)))
+calls_many (x ∷ es) (f ∷ fs) e = ap suc (calls_many es fs (omega (arith, e)))
 
 module _ (x : Part) (z : ScriptPlan) (p : IsPlanned x z) where
   many_entries : length (calls_of (named_entries z.plan) x.given.funcs) ≡ length z.plan.entries.items

@@ -1,5 +1,5 @@
 -- Which records of a snapshot suit the programs of a world, which begin at their start.
-use Rattle.std.specs.Prelude.{◌≡◌, ◌≤◌, ◌<◌, ◌-◌, ◌*◌, ◌^◌, ℕ, List, length, false, None, Some, slice_get}
+use Rattle.std.specs.Prelude.{◌≡◌, ◌≤◌, ◌<◌, ◌-◌, ◌*◌, ◌^◌, List, length, false, None, Some, slice_get}
 use Rattle.std.specs.List.{AllZip}
 use Rattle.wa_types.specs.Memory.{page_size}
 use Rattle.wa_types.specs.Modules.{func_type_at}

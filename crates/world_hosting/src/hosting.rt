@@ -81,10 +81,7 @@ pub(crate) fn host_resumed<'m>(
 }
 
 // The programs in their order, with their times.
-fn time_programs<'m>(
-    alloc: Global,
-    resumed: Vec<Resumed<'m>>,
-) -> Result<Timed<'m>, AllocError>
+fn time_programs<'m>(alloc: Global, resumed: Vec<Resumed<'m>>) -> Result<Timed<'m>, AllocError>
     ensures { IfOk result (AreTimed resumed.entry.items) }
 {
     let mut timed = Timed {

@@ -5,6 +5,8 @@
 //! protocol world (`specs/Worlds.antt`), in which each import that a `device` line names asks the device of that line, and the devices
 //! are those that the run leaves. That each program of a script is one that can be staged is the law `scripts_fit`.
 //!
+//! `save_programs` tells programs up to an event and makes the snapshot that is held there (`specs/Saved.antt`).
+//!
 //! `resume_program` makes a program as its record of a snapshot has it, and `continue_programs` tells such programs from there to their
 //! ends (`specs/Continued.antt`).
 //!
@@ -23,6 +25,7 @@
 //!   their lines, a host of them, and `host_programs`.
 //! - `laws`: scripts can be staged.
 //! - `originals_told`, `told_alone`, `fault_counts`, `device_logs`: the laws above.
+//! - `saving`: programs told up to an event, and their snapshot.
 //! - `resuming`, `continuing`: programs that stand for the records of a snapshot, and what is told of them from there.
 #![tactic(auto)]
 
@@ -34,6 +37,7 @@ mod laws;
 mod originals_told;
 mod parting;
 mod resuming;
+mod saving;
 mod staging;
 mod telling;
 mod told_alone;
@@ -45,6 +49,7 @@ pub use laws::{scripts_fit, scripts_in_range};
 pub use originals_told::{told_of_originals, told_programs_end_as_originals};
 pub use pause_host::ThawFault;
 pub use resuming::{Resumed, records_are_resumed, resume_program};
+pub use saving::save_programs;
 pub use staging::{Staged, stage_program};
 pub use telling::host_programs;
 pub use told_alone::unbound_programs_are_told_alone;

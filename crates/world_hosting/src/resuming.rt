@@ -37,16 +37,16 @@ pub fn resume_program<'m>(
     listed: Option<Vec<bool>>,
     text: ProgramText,
     given: SetUp,
-    record: &ProgramRecord,
+    stored: &ProgramRecord,
 ) -> Result<Resumed<'m>, ThawFault>
     requires listed { IsListing (module_of valid.now) (listing listed) }
     requires fits { FitsPlan (program_of text) }
     requires suits { Suits (module_of valid.now) (program_of text) given }
-    requires whole { IsWhole (record_of record.now) }
-    ensures { Resumes (part (module_of valid.now) (listing listed) (program_of text) (set_up_of given)) (record_of record.now) result }
+    requires whole { IsWhole (record_of stored.now) }
+    ensures { Resumes (part (module_of valid.now) (listing listed) (program_of text) (set_up_of given)) (record_of stored.now) result }
 {
     match plan_program(alloc, valid, listed, text, given) {
-        Ok(planned) => resume_planned(alloc, planned, record),
+        Ok(planned) => resume_planned(alloc, planned, stored),
         Err(_) => Err(ThawFault::Memory),
     }
 }
@@ -55,13 +55,13 @@ pub fn resume_program<'m>(
 fn resume_planned<'m>(
     alloc: Global,
     planned: ScriptPlan<'m>,
-    record: &ProgramRecord,
+    stored: &ProgramRecord,
 ) -> Result<Resumed<'m>, ThawFault>
     requires planned { (x : Part) × IsPlanned x planned }
-    requires whole { IsWhole (record_of record.now) }
-    ensures { (x : Part) → IsPlanned x planned.entry → Resumes x (record_of record.now) result }
+    requires whole { IsWhole (record_of stored.now) }
+    ensures { (x : Part) → IsPlanned x planned.entry → Resumes x (record_of stored.now) result }
 {
-    match record {
+    match stored {
         ProgramRecord::Fresh => unpaused(alloc, planned, false),
         ProgramRecord::Over => unpaused(alloc, planned, true),
         ProgramRecord::Paused { due, parts, memory } => {

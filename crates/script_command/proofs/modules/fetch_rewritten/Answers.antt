@@ -2,7 +2,7 @@
 use Rattle.std.proofs.Common.{refl}
 use Rattle.call_graph.specs.Settings.{settings_of}
 use Rattle.script_reader.specs.Views.{program_of}
-use Rattle.script_command.proofs.Originals.{bad_rewritten, loads_rewritten, read_of_source}
+use Rattle.script_command.proofs.Originals.{bad_rewritten, loads_rewritten}
 use Rattle.script_command.proofs.modules.fetch_rewritten.Goals as goal
 
 pub returns-in-Ok-rewritten-clause-loaded : goal.returns-in-Ok-rewritten-clause-loaded

@@ -1,5 +1,5 @@
 -- The entries of a LIST.
-use Rattle.std.proofs.Common.{Err, ap, subst, sym, ◌∙◌}
+use Rattle.std.proofs.Common.{ap, subst, sym, ◌∙◌}
 use Rattle.wa_types.specs.Pausing.{list_of}
 use Rattle.call_graph.specs.Lists.{Blames}
 use Rattle.script_model.specs.Command.{listed_choice}

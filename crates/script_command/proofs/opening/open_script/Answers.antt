@@ -24,7 +24,7 @@ returns-in-Ok-clause-refused g c =
 
 pub returns-in-Ok-clause-counts : goal.returns-in-Ok-clause-counts
 returns-in-Ok-clause-counts g c =
-    IfErr-weaker c.open_whole.result _ _ (λ fault h. subst (λ (f : ℕ). CountsFor f _ fault) c.in-Ok.ensures.stays h) c.open_whole.ensures.counts
+    IfErr-weaker c.open_whole.result _ _ (λ fault h. subst (λ (f : ℕ). CountsFor f (g.V.Vault.fetch_faults c.open_whole.new.vault) fault) c.in-Ok.ensures.stays h) c.open_whole.ensures.counts
 
 pub returns-in-Err-clause-refused : goal.returns-in-Err-clause-refused
 returns-in-Err-clause-refused g c = no_script_blamed c.args.way _ _ _ _ c.in-Err.fault c.in-Err.ensures.refused

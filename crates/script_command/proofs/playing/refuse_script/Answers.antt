@@ -1,5 +1,5 @@
 -- The end that a fault is.
-use Rattle.std.proofs.Common.{inr, refl, subst}
+use Rattle.std.proofs.Common.{refl, subst}
 use Rattle.script_model.specs.Transcript.{script}
 use Rattle.transcript.specs.Printing.{refusal_of}
 use Rattle.transcript.proofs.Counts.{refused_counts, unread_counts, wanting_counts}

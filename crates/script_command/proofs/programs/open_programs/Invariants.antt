@@ -1,4 +1,4 @@
-use Rattle.std.proofs.Common.{◌≡◌, ◌≤◌, map}
+use Rattle.std.proofs.Common.{◌≡◌, map}
 use Rattle.script_reader.specs.Views.{program_of}
 use Rattle.script_command.proofs.Openings.{SoFar}
 use Rattle.script_command.proofs.programs.open_programs.Given as goal

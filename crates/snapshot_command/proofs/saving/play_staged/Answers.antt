@@ -1,12 +1,7 @@
 -- What the first events are told as.
 use Rattle.vault_port.proofs.Telling.{put_once}
-use Rattle.snapshot_command.proofs.Steps.{few_records, part_stops, put_stop}
+use Rattle.snapshot_command.proofs.Steps.{part_stops, put_stop}
 use Rattle.snapshot_command.proofs.saving.play_staged.Goals as goal
-
-pub returns-in-Ok-clause-few : goal.returns-in-Ok-clause-few
-returns-in-Ok-clause-few g c =
-    let told = c.in-Ok.ensures.told c.requires.staged.0 c.requires.staged.1 in
-    few_records c.requires.staged.0 c.args.staged.items c.in-Ok.snapshot.programs.items c.requires.staged.1 c.requires.few told.1.is.count
 
 pub returns-in-Err-clause-part : goal.returns-in-Err-clause-part
 returns-in-Err-clause-part g c = λ files name snap f f' s s' play staged taken_out.

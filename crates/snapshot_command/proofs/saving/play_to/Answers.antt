@@ -6,6 +6,7 @@ use Rattle.script_command.specs.Views.{CanStage, parts_of}
 use Rattle.script_command.proofs.StagedParts.{few_staged, staged_parts}
 use Rattle.snapshot_command.specs.Calls.{saves}
 use Rattle.snapshot_command.proofs.Steps.{nothing_told, saved_out}
+use Rattle.snapshot_command.proofs.Unbinding.{unbound_programs}
 use Rattle.snapshot_command.proofs.saving.play_to.Goals as goal
 
 pub stage_all-requires : goal.stage_all-requires
@@ -21,7 +22,8 @@ pub returns-in-Ok-clause-played : goal.returns-in-Ok-clause-played
 returns-in-Ok-clause-played g c = λ files name opens.
     saved_out c.play_staged.result opens.play.run.parts _ _ opens.detaches_are c.args.most _ _ _ _
     (c.play_staged.ensures.played opens.play.run.parts
-    (staged_parts c.args.opened.programs.planned.items c.deref.result.now c.args.opened.programs.modules.items opens.play.run.parts _ opens.parts_are c.deref.ensures.value c.in-Ok.ensures))
+    (staged_parts c.args.opened.programs.planned.items c.deref.result.now c.args.opened.programs.modules.items opens.play.run.parts _ opens.parts_are c.deref.ensures.value c.in-Ok.ensures)
+    (unbound_programs files name opens.play))
 
 pub returns-in-Ok-clause-part : goal.returns-in-Ok-clause-part
 returns-in-Ok-clause-part g c = λ files name snap f f' s s' opens.
