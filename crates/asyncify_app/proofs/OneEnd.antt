@@ -50,12 +50,13 @@ module _ (c : Call) (status : ℕ) (nine : status ≡ 9) (kept : c.files' ≡ c.
 
   no_event : Becomes c.taken c.taken' (PrintsMemoryPast 0 [] c.sink_faults c.sink_faults')
   no_event =
-      becomes_by (EndsInMemory c.sink_faults c.sink_faults') (PrintsMemoryPast 0 [] c.sink_faults c.sink_faults') (λ x y h. (0, h.0, h.1, omega arith, h.2)) c.taken c.taken' printed
+      becomes_by (PrintsMemory [] c.sink_faults c.sink_faults') (PrintsMemoryPast 0 [] c.sink_faults c.sink_faults') (λ x y h. (h.0, h.1, h.2, omega arith, h.3)) c.taken c.taken'
+      (memory_alone [] _ _ c.taken c.taken' printed)
 
   no_snapshot : (deed : S.Deed) (script snap : List ℕ) → N.HasOneEnd deed (snapshot_call c script snap) (output_of c) status
   no_snapshot deed script snap = record {
     end = record { which = memory; by_status = nine; why = (0, [], inl (record { none = refl; devices = same; files = kept }, refl), no_event) };
-    answer = record { refusals = λ all cause told refused. inr (inl refl); accepted = λ all told nothing. inr refl };
+    answer = record { refusals = λ all cause told refused. inr (inl refl); accepted = λ all told can nothing. inr (inl refl) };
   }
 
   by_memory : (o : Option Spelled) → EndsBy c o status

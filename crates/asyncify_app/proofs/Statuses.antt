@@ -16,6 +16,26 @@ IsOne n = (n ≡ 0) ⊎ (n ≡ 2) ⊎ IsRefusal n ⊎ (n ≡ 8) ⊎ (n ≡ 9) �
 refusal : (n : ℕ) → IsRefusal n → IsOne n
 refusal n h = inr (inr (inl h))
 
+-- of a module that is rewritten
+pub transform_status : (n : ℕ) → (n ≡ 0) ⊎ IsRefusal n ⊎ (n ≡ 9) ⊎ (n ≡ 10) ⊎ (n ≡ 11) ⊎ (n ≡ 12)
+    → (n ≡ 0) ⊎ (n ≡ 2) ⊎ IsRefusal n ⊎ (n ≡ 8) ⊎ (n ≡ 9) ⊎ (n ≡ 10) ⊎ (n ≡ 11) ⊎ (n ≡ 12) ⊎ (n ≡ 13)
+transform_status n h = elim h [
+  | inl zero ↦ inl zero
+  | inr a ↦ elim a [
+    | inl refused ↦ inr (inr (inl refused))
+    | inr b ↦ elim b [
+      | inl nine ↦ inr (inr (inr (inr (inl nine))))
+      | inr c ↦ elim c [
+        | inl ten ↦ inr (inr (inr (inr (inr (inl ten)))))
+        | inr d ↦ elim d [
+          | inl eleven ↦ inr (inr (inr (inr (inr (inr (inl eleven))))))
+          | inr twelve ↦ inr (inr (inr (inr (inr (inr (inr (inl twelve)))))))
+        ]
+      ]
+    ]
+  ]
+]
+
 -- of a script
 pub script_status : (way : Way) (n : ℕ) → IsStatus way n → (n ≡ 0) ⊎ (n ≡ 2) ⊎ IsRefusal n ⊎ (n ≡ 8) ⊎ (n ≡ 9) ⊎ (n ≡ 10) ⊎ (n ≡ 11) ⊎ (n ≡ 12) ⊎ (n ≡ 13)
 script_status way n h = elim h [

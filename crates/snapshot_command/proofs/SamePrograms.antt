@@ -1,5 +1,5 @@
 -- Which snapshots suit a script's programs doesn't depend on how its originals were rewritten.
-use Rattle.std.proofs.Common.{◌≡◌, ◌∙◌, ℕ, List, [], ◌∷◌, map, Option, Some, Bool, true, false, Ok, refl, sym, ap, subst}
+use Rattle.std.proofs.Common.{◌≡◌, ◌∙◌, ◌*◌, ℕ, List, [], ◌∷◌, map, Option, Some, Bool, true, false, Ok, refl, sym, ap, subst}
 use Rattle.std.specs.Prelude.{All, Result}
 use Rattle.std.specs.List.{AllZip}
 use Rattle.std.proofs.lemmas.List.Elements.{All-head, All-tail}

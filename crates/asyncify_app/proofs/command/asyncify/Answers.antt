@@ -13,7 +13,7 @@ use Rattle.command_words.specs.Words.{Reads, spelled_of}
 use Rattle.transcript.proofs.Printed.{memory_alone}
 use Rattle.transcript.proofs.Counts.{refused_counts}
 use Rattle.asyncify_app.proofs.OneEnd.{memory_ends, memory_unread_words, spelled_ends}
-use Rattle.asyncify_app.proofs.Statuses.{script_status, snapshot_status}
+use Rattle.asyncify_app.proofs.Statuses.{script_status, snapshot_status, transform_status}
 use Rattle.snapshot_command.specs.Calls.{continues, saves}
 use Rattle.script_command.specs.declared.way.Way.TheVariants.{Host, Run}
 use Rattle.transform_command.proofs.OneEnd.{transform_ends}
@@ -59,6 +59,9 @@ returns-in-Ok-Transform-clause-one_end g c =
     (c.in-Ok-Transform.ensures.command ∙ ap (λ (x : Command). Some (spelled_of x)) c.in-Ok-Transform.field-0-is)
     (transform_ends _ c.run_transform.result
     (record { statuses = e.status; done = e.done; read = e.read_fault; refused = e.refused; held = e.built; write = e.write_fault; sink = e.sink_fault }))
+
+pub returns-in-Ok-Transform-clause-status : goal.returns-in-Ok-Transform-clause-status
+returns-in-Ok-Transform-clause-status g c = transform_status c.run_transform.result c.run_transform.ensures.status
 
 pub returns-in-Ok-Host-clause-status : goal.returns-in-Ok-Host-clause-status
 returns-in-Ok-Host-clause-status g c = script_status Host c.play_with.result c.play_with.ensures.status
