@@ -5,6 +5,7 @@ pub mod GeneratedSetUp
 pub mod GeneratedSizes
 pub mod OneEnd
 pub mod OneStory
+pub mod Rewriting
 pub mod Rewritten
 pub mod Runs
 pub mod SmallStatuses

@@ -5,7 +5,7 @@ ghost use Rattle.std.specs.String.{string_bytes};
 ghost use Rattle.vault_port.specs.Counts.{FailsOnce};
 ghost use Rattle.vault_port.specs.Files.{bytes_of, CannotRead};
 ghost use Rattle.vault_port.specs.Told.{WhereTold, Becomes};
-ghost use Rattle.script_model.specs.Command.{OnTransform};
+ghost use Rattle.script_model.specs.Command.{OnTransform, command};
 ghost use Rattle.script_model.specs.Spelled.{rewriting, spelled};
 ghost use Rattle.script_model.specs.Transcript.{read_fault, refusal_line, usage, write_fault};
 ghost use Rattle.transcript.specs.Refused.{CountsBy, Prints, PrintsMemory};
@@ -76,7 +76,7 @@ pub fn asyncify<V: Vault, S: Sink>(
     ensures sink_fault { result ≡ 12 → FailsOnce (S.faults out.old) (S.faults out.new) }
 
     // The files.
-    ensures done { OnTransform (rewriting (spelled (map string_bytes words.now))) (λ settings input output.
+    ensures done { OnTransform (command (map string_bytes words.now)) (λ settings input output.
         (result ≡ 0) ⊎ (result ≡ 12) → Becomes (V.files vault.old) (V.files vault.new) (IsTransformed settings input output)) }
     ensures kept { (result ≡ 10) ⊎ IsRefusal result → V.files vault.new ≡ V.files vault.old }
     ensures cut { OnTransform (rewriting (spelled (map string_bytes words.now))) (λ settings input output.

@@ -13,6 +13,7 @@ use Rattle.command_words.specs.Words.{Reads, spelled_of}
 use Rattle.transcript.proofs.Printed.{memory_alone}
 use Rattle.transcript.proofs.Counts.{refused_counts}
 use Rattle.asyncify_app.proofs.OneEnd.{memory_ends, memory_unread_words, spelled_ends}
+use Rattle.asyncify_app.proofs.Rewriting.{no_command, on_command, unwritten}
 use Rattle.asyncify_app.proofs.Statuses.{script_status, snapshot_status, transform_status}
 use Rattle.snapshot_command.specs.Calls.{continues, saves}
 use Rattle.script_command.specs.declared.way.Way.TheVariants.{Host, Run}
@@ -26,10 +27,38 @@ on_spelled o how input output P e h = subst (λ (q : Option Spelled). OnTransfor
 
 pub returns-in-Ok-Transform-clause-done : goal.returns-in-Ok-Transform-clause-done
 returns-in-Ok-Transform-clause-done g c =
-    on_spelled (spelled (map string_bytes c.args.words.now)) (manner_of c.in-Ok-Transform.settings) c.in-Ok-Transform.input.now c.in-Ok-Transform.output.now
+    on_command (map string_bytes c.args.words.now) _ (on_spelled (spelled (map string_bytes c.args.words.now)) (manner_of c.in-Ok-Transform.settings) c.in-Ok-Transform.input.now c.in-Ok-Transform.output.now
     (λ how input output. (c.run_transform.result ≡ 0) ⊎ (c.run_transform.result ≡ 12)
     → Becomes (g.V.Vault.files c.args.vault.now) (g.V.Vault.files c.run_transform.new.vault) (IsTransformed how input output))
-    (c.in-Ok-Transform.ensures.command ∙ ap (λ (x : Command). Some (spelled_of x)) c.in-Ok-Transform.field-0-is) c.run_transform.ensures.done
+    (c.in-Ok-Transform.ensures.command ∙ ap (λ (x : Command). Some (spelled_of x)) c.in-Ok-Transform.field-0-is) c.run_transform.ensures.done)
+
+pub returns-in-Ok-Host-clause-done : goal.returns-in-Ok-Host-clause-done
+returns-in-Ok-Host-clause-done g c =
+    no_command (map string_bytes c.args.words.now) _ (ap rewriting (c.in-Ok-Host.ensures.command ∙ ap (λ (x : Command). Some (spelled_of x)) c.in-Ok-Host.field-0-is))
+
+pub returns-in-Ok-Run-clause-done : goal.returns-in-Ok-Run-clause-done
+returns-in-Ok-Run-clause-done g c =
+    no_command (map string_bytes c.args.words.now) _ (ap rewriting (c.in-Ok-Run.ensures.command ∙ ap (λ (x : Command). Some (spelled_of x)) c.in-Ok-Run.field-0-is))
+
+pub returns-in-Ok-Gen-clause-done : goal.returns-in-Ok-Gen-clause-done
+returns-in-Ok-Gen-clause-done g c =
+    no_command (map string_bytes c.args.words.now) _ (ap rewriting (c.in-Ok-Gen.ensures.command ∙ ap (λ (x : Command). Some (spelled_of x)) c.in-Ok-Gen.field-0-is))
+
+pub returns-in-Ok-Save-clause-done : goal.returns-in-Ok-Save-clause-done
+returns-in-Ok-Save-clause-done g c =
+    no_command (map string_bytes c.args.words.now) _ (ap rewriting (c.in-Ok-Save.ensures.command ∙ ap (λ (x : Command). Some (spelled_of x)) c.in-Ok-Save.field-0-is))
+
+pub returns-in-Ok-Continue-clause-done : goal.returns-in-Ok-Continue-clause-done
+returns-in-Ok-Continue-clause-done g c =
+    no_command (map string_bytes c.args.words.now) _ (ap rewriting (c.in-Ok-Continue.ensures.command ∙ ap (λ (x : Command). Some (spelled_of x)) c.in-Ok-Continue.field-0-is))
+
+pub returns-in-Err-Usage-clause-done : goal.returns-in-Err-Usage-clause-done
+returns-in-Err-Usage-clause-done g c =
+    no_command (map string_bytes c.args.words.now) _
+    (ap rewriting (subst (λ (f : WordsFault). Reads spelled_of (Err f) (spelled (map string_bytes c.args.words.now))) c.in-Err-Usage.field-0-is c.in-Err-Usage.ensures.command))
+
+pub returns-in-Err-Memory-clause-done : goal.returns-in-Err-Memory-clause-done
+returns-in-Err-Memory-clause-done g c = unwritten _ c.out_of_memory.result _ c.out_of_memory.ensures.status
 
 pub returns-in-Ok-Transform-clause-cut : goal.returns-in-Ok-Transform-clause-cut
 returns-in-Ok-Transform-clause-cut g c =

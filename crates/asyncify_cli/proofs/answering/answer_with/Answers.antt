@@ -1,4 +1,7 @@
 -- What the call of `asyncify` says is handed on.
+use Rattle.std.specs.Prelude.{map}
+use Rattle.std.specs.String.{string_bytes}
+use Rattle.asyncify_app.proofs.Rewriting.{from_command}
 use Rattle.asyncify_cli.specs.Answered.{Answers}
 use Rattle.asyncify_cli.proofs.answering.answer_with.Goals as goal
 
@@ -10,7 +13,7 @@ returns g c =
       record {
         one_end = e.one_end;
         counts = e.counts;
-        done = e.done;
+        done = from_command (map string_bytes c.args.words.now) _ e.done;
         cut = e.cut;
         kept = e.kept;
         scripts_kept = e.scripts_kept;
