@@ -178,10 +178,11 @@ pub record SameWhole (globals : ℕ) (s s' : Store) : Type 0 where
   pub globals_same : (x : ℕ) → x < globals → slice_get s.globals x ≡ slice_get s'.globals x
   pub memory : s.memory ≡ s'.memory
 
--- one event, and such stores
+-- One event, and such stores; where the module may be called the state, the global behind the original's, is 0.
 pub record SameAt (globals : ℕ) (x y : Note) : Type 0 where
   pub event : x.event ≡ y.event
   pub stores : SameWhole globals x.store y.store
+  pub state : AtCalls y.event (slice_get y.store.globals globals ≡ Some (V.I32 0))
 
 -- The rewritten module does what its original does with blocking imports, for one plan, outcomes and cost: fields as the first four of `BehavesOn`.
 pub record RunsAlike (m p : Module) (plan : Plan) (os : List Outcome) (n : ℕ) : Type 0 where
