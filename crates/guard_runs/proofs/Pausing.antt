@@ -370,6 +370,8 @@ module _ (g st adr : ℕ) (p : Module) (x : Exports) (plan : Plan) where
       ap (busy_step p x plan ph l) again.asks_there
       ∙ ap (λ b. if b then goes again.count [] (calling ph s6 x.get_state [] (test_rewound waits) l) else broken again.count 3 s6) (eq_self i) in
       let t5 = th_one g area p x plan again.count (busy ph again.at l) (calling ph s6 x.get_state [] (test_rewound waits) l) again.may asked in
+      let to_call = th_on g area p x plan (suc 1 + begin.cost + 1) _ _ _ _ t1
+      (th_on g area p x plan (suc (length e.args)) _ _ _ _ t2 (th_on g area p x plan w.goes.cost _ _ _ _ t3 t4)) in
       let told = tells g area p x.get_state st 2 run.state_sort s6 (state_started g st adr area s 2 r.apart r.state_there) run.tells in
       let tw = told.within in
       let t6 = past_return g area p x plan ph (test_rewound waits) l s6 s6 x.get_state 1 [] (V.I32 2 ∷ []) (runtime_func run.state_sort (state_code st))
@@ -389,11 +391,18 @@ module _ (g st adr : ℕ) (p : Module) (x : Exports) (plan : Plan) where
         within = omega arith;
         at = aside ph halt.end (give_answer waits) l;
         before = whole.by;
+        asking = again.at;
+        reach = suc 1 + begin.cost + 1 + (suc (length e.args) + (w.goes.cost + again.goes.cost));
+        to_call = to_call.by;
+        count = again.count;
+        args = again.args;
+        all_there = again.all_there;
         under = w.under;
         came_back = w.came_back;
         locals = w.locals;
         kept_same = w.kept_same;
         waits = waits;
+        asks_there = again.asks_there;
         waits_as = (refl, refl);
         store = s7;
         tells = ap (aside_step p x plan ph (give_answer waits) l) halt.returns_there;

@@ -18,7 +18,7 @@ use Rattle.wa_model.specs.Machine.{goes}
 use Rattle.wa_model.specs.Outside.{Answer, paused, ended}
 use Rattle.wa_model.specs.Plan.{Entry, Plan}
 use Rattle.wa_model.specs.Protocol.{Exports, unwinds, rewinds, give_zero, call_again, Held, busy, calling, over, with_words, held_resumed, protocol}
-use Rattle.wa_model.specs.Step.{traps, result_count, step}
+use Rattle.wa_model.specs.Step.{asks, traps, result_count, step}
 use Rattle.wa_model.specs.Store.{Store, value_at}
 use Rattle.wa_model.specs.declared.answers.Area.{Area}
 use Rattle.wa_model.specs.declared.events.End.TheVariants.{UnwindTrap}
@@ -147,18 +147,25 @@ pub record EntersEntry (p : Module) (st : ℕ) (e : Entry) (outer : Level) : Typ
   pub body : func.body ≡ function_code st outer.fn
   pub size : length e.args + length (declared_locals func.locals) ≡ length outer.locals
 
--- Without an event up to the one move that tells the answer; the stack has come back, the location is that of an empty stack, and
--- nothing else has changed since the pause.
+-- Without an event up to the one move that tells the answer; on the way the import is called, with all its arguments. The stack has come
+-- back, the location is that of an empty stack, and nothing else has changed since the pause.
 pub record AnswersAt (g st adr : ℕ) (p : Module) (x : Exports) (plan : Plan) (e : Entry) (i : ℕ) (a : Answer) (l : Left) (s : Store) (v : Level) (vs : List Level) : Type 0 where
   pub cost : ℕ
   pub within : cost ≤ 29 + length e.args + 2 * length v.site.slots + rewinding_all v vs
   pub at : Held
   pub before : GoesUnseen g plan.area p x plan (calling (rewinds e i a s) s x.start_rewind (V.I32 plan.area.at ∷ []) call_again l) cost at
+  pub asking : Configuration
+  pub reach : ℕ
+  pub to_call : GoesUnseen g plan.area p x plan (calling (rewinds e i a s) s x.start_rewind (V.I32 plan.area.at ∷ []) call_again l) reach (busy (rewinds e i a s) asking l)
+  pub count : ℕ
+  pub args : List Value
+  pub all_there : length args ≡ count
   pub under : List Activation
   pub came_back : AllCameBack vs under
   pub locals : List Value
   pub kept_same : SameKept v locals
   pub waits : Configuration
+  pub asks_there : step p asking ≡ asks count i args waits
   pub waits_as : (waits.here ≡ waiting v.func locals [] v.taken v.site.behind v.site.again) × (waits.under ≡ under)
   pub store : Store
   pub tells : protocol p x plan at ≡ held_resumed 0 e a.said s waits l (poked store a.pokes)

@@ -4,6 +4,7 @@ use Rattle.guard_runs.proofs.EachStretch.{answers_go_on}
 use Rattle.guard_runs.proofs.Stores.{together}
 use Rattle.guard_runs.specs.Alike.{Alike}
 use Rattle.guard_runs.specs.Beside.{Callers}
+use Rattle.headline.proofs.AllArgs.{all_args}
 use Rattle.headline.proofs.FlatStretches.{Sil, Sm, along, gl, pr, sides, then_asks, up_to, xp}
 use Rattle.headline.specs.StoreLaws.{StoreLaws}
 use Rattle.headline.proofs.Reductions.{Allowed, LeftFits, Link, Owes, Quiet, TopOf, allowed_on, last_move, nb, quiet_there, r_halts, r_runs, same_note, seen0, sh, tell_move}
@@ -13,7 +14,6 @@ use Rattle.run_laws.proofs.Keeping.{same_refl}
 use Rattle.std.proofs.Common.{All, Bool, List, None, Option, Some, [], ap, arith, false, length, refl, subst, suc, sym, true, zero, ℕ, ◌*◌, ◌+◌, ◌<◌, ◌∙◌, ◌∷◌, ◌≡◌, ◌≤◌}
 use Rattle.run_theory.proofs.QuietRuns.{at_calls}
 use Rattle.std.specs.Option.{option_to_list}
-use Rattle.std.specs.Prelude.{if◌then◌else◌}
 use Rattle.wa_model.specs.Blocking.{Left, Note, State, Task, asked, bad_pause, bad_poke, bad_value, by_step, call_note, ends_at_call, fault_of, go_on, halts, import_traps, inside, is_start, is_unlisted, note, or_else, pause_of, poked, resumed, runs, tested, with_outcomes}
 use Rattle.wa_model.specs.Configuration.{Configuration, stack_of}
 use Rattle.wa_model.specs.Machine.{Turn, goes}
@@ -89,6 +89,7 @@ module _ (w : World) (ft : WorldFits w) (sl : StoreLaws w) (L : (top spare : ℕ
     pub waits : W top i d flat_at
     pub at : Configuration
     pub asks_there : step w.written mid ≡ asks j i args at
+    pub all_there : length args ≡ j
     pub alike : Alike (setting w top) d.store at.store
     pub stack : Callers (sides w top) i (flat_at.here ∷ flat_at.under) (at.here ∷ at.under)
 
@@ -121,6 +122,7 @@ module _ (w : World) (ft : WorldFits w) (sl : StoreLaws w) (L : (top spare : ℕ
           waits = fs.waits;
           at = t.0;
           asks_there = t.1;
+          all_there = all_args (sides w top) fs.at fs.to fs.j i args fs.proper fs.asks_there;
           alike = subst (λ s. Alike (setting w top) s (t.0).store) (law.waits_store top i d fs.to fs.waits) ask.store;
           stack = ask.stack;
         }
@@ -160,7 +162,7 @@ module _ (w : World) (ft : WorldFits w) (sl : StoreLaws w) (L : (top spare : ℕ
       ends_there e mv =
           last_move w ft sl L W G law n spare k cd.j cd.cost a0 (halts d.store) b0 b1 (over (cd.at).store) (call_note i args d.store (stack_of (base w) d) None ∷ [])
           (call_note i args (cd.at).store (stack_of w.written cd.at) None ∷ note (ended e) (cd.at).store ∷ []) (note (ended e) d.store) cd.silent mv
-          (same_note w _ _ refl same_d tt refl quiet_d, (same_note w _ _ refl same_d tt refl (at_calls (ended e) (Quiet w (cd.at).store) quiet_d), tt)) same_d paid (λ enough. r_halts same_d)
+          (same_note w _ _ refl same_d tt refl quiet_d, (same_note w _ _ refl same_d tt refl (at_calls (ended e) (Quiet w (cd.at).store) quiet_d), tt)) same_d paid tt tt (λ enough. r_halts same_d)
 
       pub tested_now : (a : Answer) (os : List Outcome) (o : Option End) → l.outcomes ≡ given a ∷ os → fault a ≡ o
           → pr w b1 ≡ held_tested w.written (xp w) w.plan cd.j i args (inside task cd.at) (with_outcomes l os) a o (pause_of a.ticks)
@@ -219,7 +221,7 @@ module _ (w : World) (ft : WorldFits w) (sl : StoreLaws w) (L : (top spare : ℕ
           (busy (is_running task) (resumed cd.at (poked (cd.at).store a.pokes) (option_to_list v)) lo) (busy (is_running task) gv.to lo)
           (call_note i args d.store (stack_of (base w) d) None ∷ []) (call_note i args (cd.at).store (stack_of w.written cd.at) None ∷ note (answered (S.Value v)) (poked (cd.at).store a.pokes)
           ∷ []) (note (answered (S.Value v)) (poked d.store a.pokes)) cd.silent mv
-          (same_note w _ _ refl same_d tt refl quiet_d, (same_note w _ _ refl same2 tt refl quiet2, tt)) gv.silent cd.least (omega arith)
+          (same_note w _ _ refl same_d tt refl quiet_d, (same_note w _ _ refl same2 tt refl quiet2, tt)) gv.silent cd.least (omega arith) tt tt
           (λ enough. r_runs top gv.left (omega arith) is_top gv.link (left_fits a os eo) (allowed_on w n k _ a0 _ was2 al)) in
           subst (λ z. O (sh w (go_on k (call_note i args d.store (stack_of (base w) d) z) a.said (poked d.store a.pokes) lo (inside task d)))) (sym et)
           (subst (λ z. O (sh w (go_on k (call_note i args d.store (stack_of (base w) d) None) z (poked d.store a.pokes) lo (inside task d)))) (sym told) owes)
@@ -238,7 +240,7 @@ module _ (w : World) (ft : WorldFits w) (sl : StoreLaws w) (L : (top spare : ℕ
           last_move w ft sl L W G law n spare k cd.j cd.cost a0 (halts (poked d.store a.pokes)) b0 b1 (over (poked (cd.at).store a.pokes))
           (call_note i args d.store (stack_of (base w) d) None ∷ note (answered S.Trap) (poked d.store a.pokes) ∷ [])
           (call_note i args (cd.at).store (stack_of w.written cd.at) None ∷ import_traps (poked (cd.at).store a.pokes)) (note (ended (Trapped Import)) (poked d.store a.pokes)) cd.silent mv
-          (same_note w _ _ refl same_d tt refl quiet_d, (same_note w _ _ refl same2 tt refl quiet2, (same_note w _ _ refl same2 tt refl quiet2, tt))) same2 paid (λ enough. r_halts same2) in
+          (same_note w _ _ refl same_d tt refl quiet_d, (same_note w _ _ refl same2 tt refl quiet2, (same_note w _ _ refl same2 tt refl quiet2, tt))) same2 paid tt tt (λ enough. r_halts same2) in
           subst (λ z. O (sh w (go_on k (call_note i args d.store (stack_of (base w) d) z) a.said (poked d.store a.pokes) lo (inside task d)))) (sym et)
           (subst (λ z. O (sh w (go_on k (call_note i args d.store (stack_of (base w) d) None) z (poked d.store a.pokes) lo (inside task d)))) (sym told) owes)
 
@@ -264,7 +266,7 @@ module _ (w : World) (ft : WorldFits w) (sl : StoreLaws w) (L : (top spare : ℕ
               subst (λ z. O (sh w (asked (base w) w.plan k i args (inside task d) l z))) (sym eo)
               (last_move w ft sl L W G law n spare k cd.j cd.cost a0 (halts d.store) b0 b1 (over (cd.at).store) [] (call_note i args (cd.at).store (stack_of w.written cd.at) None ∷ [])
               (call_note i args d.store (stack_of (base w) d) None) cd.silent
-              (now ∙ ap (held_asked w.written (xp w) w.plan cd.j i args (inside task cd.at) l) eo) (same_note w _ _ refl same_d tt refl quiet_d, tt) same_d paid (λ enough. r_halts same_d))
+              (now ∙ ap (held_asked w.written (xp w) w.plan cd.j i args (inside task cd.at) l) eo) (same_note w _ _ refl same_d tt refl quiet_d, tt) same_d paid tt tt (λ enough. r_halts same_d))
           by_outcomes (refused e ∷ os) eo =
               subst (λ z. O (sh w (asked (base w) w.plan k i args (inside task d) l z))) (sym eo)
               (ends_there e (now ∙ ap (held_asked w.written (xp w) w.plan cd.j i args (inside task cd.at) l) eo))

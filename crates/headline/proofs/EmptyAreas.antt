@@ -163,7 +163,7 @@ module _ (m : Module) (s : Settings) (p : Module) (which : List Bool) (behaves :
       record {
         reaches = subst (λ ss. IsPrefix (events_of B) (events_of (protocol_notes p plan' os (Bound m n ss)))) (no_stacks B none) on.reaches;
         follows = fo;
-        notes = λ i y at. let w = on.notes i y at in let same = w.2 in (w.0, w.1, record { event = same.event; stores = whole (global_space m) (w.0).store y.store same.ends });
+        notes = λ i y at. let w = on.notes i y at in let same = w.2 in (w.0, w.1, record { event = same.event; stores = whole (global_space m) (w.0).store y.store same.ends; state = same.state });
         moments = (
           mo.0,
           mo.1,

@@ -5,18 +5,19 @@ use Rattle.std.proofs.lemmas.List.Sums.{sum_by-cons}
 use Rattle.std.specs.List.{cons_option, sum_by}
 use Rattle.std.specs.Prelude.{if◌then◌else◌, nat_lt}
 use Rattle.run_theory.proofs.Follow.{Alike, Begins, Follows, alike_on, back, begins_on, forth}
-use Rattle.run_theory.proofs.FromMoves.{begins_right, events_of_alike, prefix_of_begins, prefix_of_leads}
+use Rattle.run_theory.proofs.FromMoves.{begins_right, events_of_alike, events_on, prefix_of_begins, prefix_of_leads}
 use Rattle.run_theory.proofs.Moments.{Moment, at_event, at_state, moment}
+use Rattle.run_theory.proofs.Rewound.{last_on, rewinds_too}
 use Rattle.run_theory.proofs.ShownMoments.{Honest, Lawful, event_moment, state_moment}
 use Rattle.run_theory.proofs.ShownRuns.{Plain_notes, blocking_shown, shown_run}
 use Rattle.run_theory.proofs.TestedEnds.{OpeningIs}
-use Rattle.wa_model.specs.Behaves.{BehavesOn, IsMoment, SameNote, IsPrefix, is_pause_end, pause_stacks, protocol_notes, stack_if, unless_end, without_pauses}
+use Rattle.wa_model.specs.Behaves.{BehavesOn, IsMoment, RewindsTo, SameNote, IsPrefix, is_pause_end, last_called, pause_stacks, protocol_notes, stack_if, unless_end, without_pauses}
 use Rattle.wa_model.specs.Blocking.{Blocking, Left, Note, State, all_left, begun, blocking, done_notes, events_of, on_to, store_of}
 use Rattle.wa_model.specs.Expected.{SameEnd, pause_note, shown, shown_at, trap_note}
 use Rattle.wa_model.specs.Instantiation.{Opening, fails_as, opening, opens}
 use Rattle.run_theory.specs.Laws.{held_start_of, start_of}
-use Rattle.wa_model.specs.Machine.{Turn, run}
-use Rattle.wa_model.specs.Outside.{Event}
+use Rattle.wa_model.specs.Machine.{Ran, Turn, run}
+use Rattle.wa_model.specs.Outside.{Call, Event}
 use Rattle.wa_model.specs.Plan.{Entry, Outcome, OutcomeFits, Plan}
 use Rattle.wa_model.specs.Protocol.{Held, Protocol, exports_of, protocol, store_held}
 use Rattle.wa_model.specs.Store.{Store}
@@ -26,10 +27,6 @@ use Rattle.wa_types.specs.Frames.{Suspended}
 use Rattle.wa_types.specs.Pausing.{Settings}
 use Rattle.wa_types.specs.Runtime.{global_space}
 use Rattle.wa_types.specs.Syntax.{Module}
-
-pub events_on : (xs ys : List Note) → events_of (xs ++ ys) ≡ events_of xs ++ events_of ys
-events_on [] ys = refl
-events_on (x ∷ xs) ys = ap (λ es. x.event ∷ es) (events_on xs ys)
 
 zero_plus : (k : ℕ) → k ≡ 0 + k
 zero_plus k = omega arith
@@ -132,6 +129,19 @@ module _ (room fit : List Suspended → ℕ) (m : Module) (s : Settings) (which 
   abbrev pub Simulates : (R : (n spare : ℕ) → State → Held → Type 0) → Type 0
   Simulates R = Follows State Held Note Note na pr R Q (dear_of m) (Sees m s which p (exports_of p) plan) (Sees_at m s which p (exports_of p) plan)
 
+  -- at a moment a rewound entry calls the import that was told last, whatever was told before
+  pub moment_calls : (R : (n spare : ℕ) → State → Held → Type 0) (n : ℕ) (a : State) (r : Ran Held Note) (before : Option Call)
+      → Moment State Held Note Note (blocking_shown room fit plan.area.len (Base m) plan) (protocol p (exports_of p) plan) R (SameNote m s which plan.area) (dear_of m)
+      (Sees m s which p (exports_of p) plan) (Sees_at m s which p (exports_of p) plan) n a r
+      → RewindsTo p (last_called before (events_of r.events)) r.last
+  moment_calls R n a r before (at_state cost es at l le al sees) = rewinds_too p (last_called before (events_of r.events)) [] r.last sees.1
+  moment_calls R n a r before (at_event cost k es es1 es2 y at a' l e le al sees) =
+      let back : List Note = es1 ++ y ∷ [] in
+      let told : events_of (es ++ back) ≡ events_of r.events = events_of_alike Q (λ x y h. h.event) (es ++ back) r.events al in
+      let last : last_called (last_called before (events_of es)) (events_of back) ≡ last_called before (events_of r.events) =
+      sym (last_on before (events_of es) (events_of back)) ∙ ap (last_called before) (sym (events_on es back) ∙ told) in
+      subst (λ (c : Option Call). RewindsTo p c r.last) last (rewinds_too p (last_called before (events_of es)) (events_of back) r.last sees.1)
+
   -- both runs begin related
   pub record Begin (R : (n spare : ℕ) → State → Held → Type 0) (os : List Outcome) (n : ℕ) : Type 0 where
     pub alike : Alike Q (start_of m plan os).events (held_start_of p plan os).events
@@ -216,21 +226,31 @@ module _ (room fit : List Suspended → ℕ) (m : Module) (s : Settings) (which 
             × SameEnd (global_space m) plan.area at (store_held (Protocol p plan os n).last)
         by_moment (at_state cost es at l le al sees) =
             let o = opened in
-            (events_of e0 ++ without_pauses (events_of es), store_of at, state_moment room fit plan.area.len (Base m) plan e0 a0 at n cost es o.lawful l le, told es al, sees)
+            (events_of e0 ++ without_pauses (events_of es), store_of at, state_moment room fit plan.area.len (Base m) plan e0 a0 at n cost es o.lawful l le, told es al, sees.0)
         by_moment (at_event cost k es es1 es2 y at a' l e le al sees) =
             let o = opened in (
               events_of e0 ++ without_pauses (events_of (es ++ (es1 ++ y ∷ []))),
               y.store,
               event_moment room fit plan.area.len (Base m) plan e0 a0 at a' n cost k es es1 es2 y o.lawful l e le,
               told (es ++ (es1 ++ y ∷ [])) al,
-              sees,
+              sees.0,
             )
 
-    -- THE LAST STEP: a simulation that begins gives all four
+    -- a rewound entry calls the import that was told last
+    again : RewindsTo p (last_called None (events_of (protocol_notes p plan os n))) (Protocol p plan os n).last
+    again =
+        let last : last_called (last_called None (events_of h0)) (events_of made) ≡ last_called None (events_of (h0 ++ made)) =
+        sym (last_on None (events_of h0) (events_of made)) ∙ ap (last_called None) (sym (events_on h0 made)) in
+        subst (λ (c : Option Call). RewindsTo p c (run pr n b0).last) last
+        (moment_calls R n a0 (run pr n b0) (last_called None (events_of h0))
+        (moment State Held Note Note na pr R Q (dear_of m) (Sees m s which p (exports_of p) plan) (Sees_at m s which p (exports_of p) plan) sim n n 0 a0 b0 bg.rel (omega arith)))
+
+    -- THE LAST STEP: a simulation that begins gives all five
     pub behaves_on : BehavesOn m s p plan os n which (expected os n)
     behaves_on = record {
       reaches = reaches;
       follows = prefix_of_begins Q same_event (expected os n) (protocol_notes p plan os n) begins_expected;
       notes = begins_right Q (expected os n) (protocol_notes p plan os n) begins_expected;
       moments = moments;
+      again = again;
     }

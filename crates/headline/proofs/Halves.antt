@@ -15,20 +15,27 @@ use Rattle.headline.proofs.ToldMoves.{silent_quiet}
 use Rattle.headline.specs.FlatLaw.{FlatLaw}
 use Rattle.guard_runs.proofs.Pausing.{answers_law}
 use Rattle.guard_runs.specs.Pause.{AnswersAt, EntersEntry, SuspendedIn}
-use Rattle.std.proofs.Common.{List, None, [], ap, length, subst, suc, sym, ℕ, ◌*◌, ◌+◌, ◌<◌, ◌^◌, ◌∙◌, ◌∷◌, ◌≡◌, ◌≤◌}
-use Rattle.wa_model.specs.Behaves.{AreaKept}
+use Rattle.run_laws.proofs.CallArgs.{Took, one_args}
+use Rattle.run_laws.proofs.CallArgs.{took as call_took}
+use Rattle.run_theory.proofs.Rewound.{rewinds_once}
+use Rattle.guard_runs.proofs.UnseenMoves.{each_instant}
+use Rattle.std.proofs.Common.{List, None, Some, [], ap, length, subst, suc, sym, ℕ, ◌*◌, ◌+◌, ◌<◌, ◌^◌, ◌∙◌, ◌∷◌, ◌≡◌, ◌≤◌}
+use Rattle.wa_model.specs.Behaves.{AreaKept, RewindsTo}
 use Rattle.wa_model.specs.Blocking.{Left, an_entry, bad_poke, poked}
 use Rattle.wa_model.specs.Configuration.{Activation, Configuration}
 use Rattle.wa_model.specs.Outside.{Answer}
 use Rattle.wa_model.specs.Plan.{Entry}
-use Rattle.wa_model.specs.Protocol.{Held, call_again, calling, held_resumed, rewinds}
+use Rattle.wa_model.specs.Machine.{run}
+use Rattle.wa_model.specs.Step.{param_count}
+use Rattle.wa_model.specs.Protocol.{Held, busy, call_again, calling, held_resumed, rewinds}
 use Rattle.wa_model.specs.Store.{Store}
-use Rattle.wa_types.specs.Modules.{declared_locals, defined_at}
+use Rattle.wa_types.specs.Modules.{declared_locals, defined_at, func_type_at}
+use Rattle.wa_types.specs.declared.values.Value.{Value}
 use Rattle.wa_types.specs.declared.values.Value.TheVariants as V
 
 module _ (w : World) (ft : WorldFits w) (sl : StoreLaws w) (L : (top spare : ℕ) → Configuration → Configuration → Type 0) (W : ℕ → ℕ → Configuration → Configuration → Type 0)
     (G : Store → Type 0) (law : FlatLaw w (λ c d. c ≡ d) L W G) where
-  -- A call of the original waits, and its stack is one of frames.
+  -- A call of the original with these arguments waits, and its stack is one of frames.
   pub record Hangs (top i : ℕ) (e : Entry) (d : Configuration) : Type 0 where
     pub flat : Configuration
     pub waits : W top i d flat
@@ -43,15 +50,19 @@ module _ (w : World) (ft : WorldFits w) (sl : StoreLaws w) (L : (top spare : ℕ
     pub chain : Chain w.written (gl w) w.table v vs
     pub room : 8 + total_size (v ∷ vs) ≤ w.plan.area.len
     pub deep : length vs < 4096
+    pub args : List Value
+    pub took : Took (param_count (func_type_at w.written i)) args v.taken
     pub is_top : TopOf w (an_entry e) top
 
-  -- it came back to the import's call, over these stores, and is answered
+  -- it came back to the import's call, over these stores, and is answered; on the way the import is called, with the same arguments
   pub record Back (top i : ℕ) (e : Entry) (a : Answer) (lo : Left) (d : Configuration) (z : Hangs top i e d) (s s' : Store) : Type 0 where
     pub cost : ℕ
     pub at : Held
     pub config : Configuration
     pub store : Store
     pub silent : Sil w s (calling (rewinds e i a s') s' (xp w).start_rewind (V.I32 w.plan.area.at ∷ []) call_again lo) cost at
+    pub calls : (j : ℕ) → j ≤ cost → RewindsTo w.written (Some (record { import = i; args = z.args }))
+        (run (pr w) j (calling (rewinds e i a s') s' (xp w).start_rewind (V.I32 w.plan.area.at ∷ []) call_again lo)).last
     pub answers : pr w at ≡ held_resumed 0 e a.said s' config lo (poked store a.pokes)
     pub seen : Sm w (poked s a.pokes) (poked store a.pokes)
     pub like : Alike (setting w top) s store
@@ -87,6 +98,11 @@ module _ (w : World) (ft : WorldFits w) (sl : StoreLaws w) (L : (top spare : ℕ
       (subst (λ t. CallsTo w.written t z.v ic.params i) (sym tbl) ic.goes_to) (ft.import_undefined i kn.0) (subst (λ q. i < q) (sym ft.imports) kn.0) in
       let b4 : Held = calling (rewinds e i a s') s' (xp w).start_rewind (V.I32 ar.at ∷ []) call_again lo in
       let q2 = silent_quiet w.original w.settings w.which w.written (xp w) w.plan s b4 an.at an.cost an.before same in
+      let took : Took (param_count (func_type_at w.written i)) an.args (z.v).taken =
+      subst (Took (param_count (func_type_at w.written i)) an.args) (ap (λ (b : Activation). b.taken) (an.waits_as).0)
+      (call_took w.written an.asking an.waits an.count i an.args an.asks_there an.all_there) in
+      let same_args : an.args ≡ z.args = one_args (param_count (func_type_at w.written i)) an.args z.args (z.v).taken took z.took in
+      let to_call = (each_instant (gl w) ar w.written (xp w) w.plan b4 (busy (rewinds e i a s') an.asking lo) an.reach an.to_call).1 in
       let alike4 = sl.around top s s' an.store like an.around in
       let same4 = sl.same_end top s an.store alike4 in
       let alike5 = sl.poked_too top s an.store a alike4 no_bad in
@@ -106,6 +122,8 @@ module _ (w : World) (ft : WorldFits w) (sl : StoreLaws w) (L : (top spare : ℕ
         config = an.waits;
         store = an.store;
         silent = q2;
+        calls = λ j le. subst (λ (vs : List Value). RewindsTo w.written (Some (record { import = i; args = vs })) (run (pr w) j b4).last) same_args
+            (rewinds_once w.written (xp w) w.plan e i a s' an.asking an.waits lo an.count an.args an.asks_there b4 an.reach to_call j (q2.each j le).0);
         answers = an.tells;
         seen = same5;
         like = alike4;

@@ -1,3 +1,4 @@
+pub mod AllArgs
 pub mod Asks
 pub mod Behaving
 pub mod CallPoints

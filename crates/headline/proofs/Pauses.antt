@@ -21,10 +21,12 @@ use Rattle.headline.proofs.FromSimulation.{dear_cons}
 use Rattle.headline.proofs.Halves.{Back, Hangs, comes_back}
 use Rattle.headline.proofs.OuterLevels.{under_deep, weigh_all}
 use Rattle.headline.proofs.Reductions.{Allowed, LeftFits, Link, Owes, Quiet, R, TopOf, allowed_on, nb, nn, quiet_there, r_halts, r_runs, rests_before, same_note, sh}
-use Rattle.headline.proofs.ToldMoves.{Told, by_told, dear_of, no_more, silent_none, silent_quiet, told, told_leads}
+use Rattle.headline.proofs.ToldMoves.{Calls, Told, by_told, calls_none, calls_none_before, dear_of, no_more, silent_none, silent_quiet, told, told_leads}
 use Rattle.guard_runs.proofs.Pausing.{pauses_law}
 use Rattle.guard_runs.specs.Pause.{AreaReady, PausesAt, at_import}
 use Rattle.guard_runs.specs.UnseenMoves.{GoesUnseen}
+use Rattle.run_laws.proofs.CallArgs.{Took}
+use Rattle.run_laws.proofs.CallArgs.{took as call_took}
 use Rattle.run_laws.proofs.Keeping.{same_on}
 use Rattle.std.proofs.Common.{All, Bool, List, None, Option, Some, [], ap, arith, false, length, map, refl, subst, suc, sym, true, zero, ℕ, ◌*◌, ◌+◌, ◌<◌, ◌^◌, ◌∙◌, ◌∷◌, ◌≡◌, ◌≤◌, ◌++◌}
 use Rattle.std.proofs.lemmas.Bool.{ltb-false, ltb-true}
@@ -33,12 +35,12 @@ use Rattle.std.specs.List.{sum_by}
 use Rattle.std.specs.Option.{option_to_list}
 use Rattle.std.specs.Prelude.{if◌then◌else◌, nat_lt}
 use Rattle.run_theory.proofs.Runs.{leads_on, leads_run}
-use Rattle.wa_model.specs.Behaves.{AreaKept, SameNote, StandsNumbered}
+use Rattle.wa_model.specs.Behaves.{AreaKept, RewindsTo, SameNote, StandsNumbered}
 use Rattle.wa_model.specs.Blocking.{Left, Note, State, an_entry, call_note, go_on, halts, import_traps, inside, note, pause_of, poked, resumed, runs, tested, with_outcomes}
 use Rattle.wa_model.specs.Configuration.{Activation, Configuration, stack_of}
 use Rattle.wa_model.specs.Expected.{pause_note, trap_note}
 use Rattle.wa_model.specs.Machine.{Leads, Ran, goes, moves, run, stays}
-use Rattle.wa_model.specs.Outside.{Answer, answered, ended, paused}
+use Rattle.wa_model.specs.Outside.{Answer, Call, answered, ended, paused}
 use Rattle.wa_model.specs.Plan.{Entry, Outcome, given}
 use Rattle.wa_model.specs.Protocol.{Held, answer_note, busy, call_again, calling, give_zero, held_resumed, is_running, over, rewinds, store_held, unwinds, with_words}
 use Rattle.wa_model.specs.Step.{asks, param_count, step}
@@ -158,6 +160,10 @@ module _ (w : World) (ft : WorldFits w) (sl : StoreLaws w) (L : (top spare : ℕ
 
   abbrev y1 : Note
   y1 = call_note i args s1 (stack_of w.written cd.at) (Some ticks)
+
+  -- the call that y1 tells
+  abbrev told_call : Option Call
+  told_call = Some (record { import = i; args = args })
 
   abbrev b2 : Held
   b2 = calling (unwinds e i a) (with_words s1 w.plan.area) (xp w).start_unwind (V.I32 w.plan.area.at ∷ []) (give_zero cd.at) lo
@@ -287,7 +293,14 @@ module _ (w : World) (ft : WorldFits w) (sl : StoreLaws w) (L : (top spare : ℕ
       let w3 = hi.few in
       let dear : dear_of w.original (x1 ∷ x2 ∷ []) ≡ 256 + sum_by (activation_bound w.original) S + dear_of w.original (x2 ∷ []) = dear_cons w.original x1 (x2 ∷ []) in
       by_told w.original w.settings w.which w.written (xp w) w.plan (nn w) (R w ft sl L W G law) n spare k (cd.cost + suc cd.j + (ov.cost + 1 + 0)) 0 (x1 ∷ x2 ∷ []) (y1 ∷ y2 ∷ []) a0
-      (halts d.store) b0 (over ov.store) t1 (omega arith) (omega arith) (omega arith) (r_halts seen_end)
+      (halts d.store) b0 (over ov.store) t1 (omega arith) (
+        calls_none_before w.original w.settings w.which w.written (xp w) w.plan None c.store b0 b1 b2 cd.cost cd.j (y1 ∷ []) cd.silent mv tt,
+        (
+          calls_none_before w.original w.settings w.which w.written (xp w) w.plan told_call d.store b2 ov.at (over ov.store) ov.cost 0 (y2 ∷ []) q1 ov.tells tt,
+          calls_none w.original w.settings w.which w.written (xp w) w.plan told_call d.store (over ov.store) (over ov.store) 0
+              (silent_none w.original w.settings w.which w.written (xp w) w.plan d.store (over ov.store) seen_end) tt,
+        ),
+      ) (omega arith) (omega arith) (r_halts seen_end)
 
   -- ---- the frames fit: paused, and answered
 
@@ -312,6 +325,7 @@ module _ (w : World) (ft : WorldFits w) (sl : StoreLaws w) (L : (top spare : ℕ
     pauses : pr w p2 ≡ goes 0 (y2 ∷ []) b4
     same2 : Same x2 y2
     to_answer : Sil w d.store b4 ac p4
+    again : (j : ℕ) → j ≤ ac → RewindsTo w.written (Some (record { import = i; args = args })) (run (pr w) j b4).last
     answers : pr w p4 ≡ held_resumed 0 e a.said s3 wt lo (poked s5 a.pokes)
     kept : AreaKept w.plan.area s3 (poked s5 a.pokes)
     seen : Sm w (poked d.store a.pokes) (poked s5 a.pokes)
@@ -359,6 +373,9 @@ module _ (w : World) (ft : WorldFits w) (sl : StoreLaws w) (L : (top spare : ℕ
         chain = z.chain;
         room = in_room;
         deep = omega arith;
+        args = args;
+        took = subst (λ (b : Activation). Took (param_count (func_type_at w.written i)) args b.taken) z.here_is
+            (call_took w.written cd.mid cd.at cd.j i args cd.asks_there cd.all_there);
         is_top = is_top;
       } in
       let b4 : Held = calling (rewinds e i a pa.store) pa.store (xp w).start_rewind (V.I32 ar.at ∷ []) call_again lo in
@@ -386,6 +403,7 @@ module _ (w : World) (ft : WorldFits w) (sl : StoreLaws w) (L : (top spare : ℕ
         pauses = pa.tells;
         same2 = al2;
         to_answer = bk.silent;
+        again = bk.calls;
         answers = bk.answers;
         kept = bk.kept;
         seen = bk.seen;
@@ -415,6 +433,19 @@ module _ (w : World) (ft : WorldFits w) (sl : StoreLaws w) (L : (top spare : ℕ
     state = r.quiet;
   }
 
+  -- on the way a rewound entry calls the import as it was called
+  calls_three : (r : Returned) {Behind : Type 0} → Behind
+      → ((j : ℕ) → j ≤ cd.cost + cd.j → RewindsTo w.written None (run (pr w) j b0).last)
+      × (((j : ℕ) → j ≤ r.pc + 0 → RewindsTo w.written (Some (record { import = i; args = args })) (run (pr w) j b2).last)
+      × (((j : ℕ) → j ≤ r.ac + 0 → RewindsTo w.written (Some (record { import = i; args = args })) (run (pr w) j r.b4).last) × Behind))
+  calls_three r behind = (
+    calls_none_before w.original w.settings w.which w.written (xp w) w.plan None c.store b0 b1 b2 cd.cost cd.j (y1 ∷ []) cd.silent mv tt,
+    (
+      calls_none_before w.original w.settings w.which w.written (xp w) w.plan told_call d.store b2 r.p2 r.b4 r.pc 0 (r.y2 ∷ []) r.to_pause r.pauses tt,
+      (λ j le. r.again j (omega arith), behind),
+    ),
+  )
+
   -- ---- a value was said: the entry goes on
 
   module _ (value : Option Value) (said_is : a.said ≡ SV.Value value) where
@@ -442,6 +473,12 @@ module _ (w : World) (ft : WorldFits w) (sl : StoreLaws w) (L : (top spare : ℕ
         let t2 : Told w.original w.settings w.which w.written (xp w) w.plan d.store (x2 ∷ x3 ∷ []) b2 (r.pc + 1 + (r.ac + 1 + gc)) (r.y2 ∷ y3 r (SV.Value value) ∷ []) to =
         told [] x2 r.to_pause r.pauses (r.same2, tt) t3 refl refl refl in
         told [] x1 cd.silent mv (al1, tt) t2 refl refl refl
+
+    calls_so : (r : Returned) (to : Held) (gc : ℕ) (q3 : Sil w (poked d.store a.pokes) (back_at r.wt r.s5) gc to)
+        → Calls w.original w.settings w.which w.written (xp w) w.plan None (three r to gc q3)
+    unfolding three
+    calls_so r to gc q3 =
+        calls_three r (calls_none w.original w.settings w.which w.written (xp w) w.plan told_call (poked d.store a.pokes) (back_at r.wt r.s5) to gc q3 tt)
 
     -- where it came back its locals fit
     known_there : (r : Returned) → AllLocalsFit w.written ((r.wt).here ∷ (r.wt).under)
@@ -473,7 +510,7 @@ module _ (w : World) (ft : WorldFits w) (sl : StoreLaws w) (L : (top spare : ℕ
         let dear : dear_of w.original (x1 ∷ x2 ∷ x3 ∷ []) ≡ 256 + sum_by (activation_bound w.original) S + dear_of w.original (x2 ∷ x3 ∷ []) = dear_cons w.original x1 (x2 ∷ x3 ∷ []) in
         by_told w.original w.settings w.which w.written (xp w) w.plan (nn w) (R w ft sl L W G law) n spare k (cd.cost + suc cd.j + (r.pc + 1 + (r.ac + 1 + gv.cost))) (10 * gv.left)
         (x1 ∷ x2 ∷ x3 ∷ []) (y1 ∷ r.y2 ∷ y3 r (SV.Value value) ∷ []) a0 a3 b0 to
-        (three r to gv.cost gv.silent) cd.least (paid_enough (cd.cost + suc cd.j) k (r.pc + 1 + (r.ac + 1 + gv.cost)) cd.least)
+        (three r to gv.cost gv.silent) cd.least (calls_so r to gv.cost gv.silent) (paid_enough (cd.cost + suc cd.j) k (r.pc + 1 + (r.ac + 1 + gv.cost)) cd.least)
         (pause_bound (cd.cost + suc cd.j) k spare r.pc r.ac gv.cost gv.left r.un (length e.args) r.sl2 r.rw2 (sum_by (activation_bound w.original) S) (dear_of w.original (x1 ∷ x2 ∷ x3 ∷ []))
         (dear_of w.original (x2 ∷ x3 ∷ []))
         (param_count (func_type_at w.flat top)) cd.few r.unwound_in r.rewound_in gv.few r.weighs is_top.2 dear)
@@ -504,7 +541,10 @@ module _ (w : World) (ft : WorldFits w) (sl : StoreLaws w) (L : (top spare : ℕ
       let dear : dear_of w.original (x1 ∷ x2 ∷ x3 ∷ x4 ∷ []) ≡ 256 + sum_by (activation_bound w.original) S + dear_of w.original (x2 ∷ x3 ∷ x4 ∷ []) = dear_cons w.original x1 (x2 ∷ x3 ∷ x4 ∷ []) in
       by_told w.original w.settings w.which w.written (xp w) w.plan (nn w) (R w ft sl L W G law) n spare k (cd.cost + suc cd.j + (r.pc + 1 + (r.ac + 1 + 0))) 0
       (x1 ∷ x2 ∷ x3 ∷ x4 ∷ []) (y1 ∷ r.y2 ∷ y3 r SV.Trap ∷ y4 ∷ []) a0 (halts (poked d.store a.pokes)) b0 to
-      t1 cd.least (paid_enough (cd.cost + suc cd.j) k (r.pc + 1 + (r.ac + 1 + 0)) cd.least)
+      t1 cd.least
+      (calls_three r (calls_none w.original w.settings w.which w.written (xp w) w.plan told_call (poked d.store a.pokes) to to 0
+      (silent_none w.original w.settings w.which w.written (xp w) w.plan (poked d.store a.pokes) to r.seen) tt))
+      (paid_enough (cd.cost + suc cd.j) k (r.pc + 1 + (r.ac + 1 + 0)) cd.least)
       (pause_bound (cd.cost + suc cd.j) k spare r.pc r.ac 0 0 r.un (length e.args) r.sl2 r.rw2 (sum_by (activation_bound w.original) S) (dear_of w.original (x1 ∷ x2 ∷ x3 ∷ x4 ∷ []))
       (dear_of w.original (x2 ∷ x3 ∷ x4 ∷ []))
       (param_count (func_type_at w.flat top)) cd.few r.unwound_in r.rewound_in (omega arith) r.weighs is_top.2 dear)

@@ -3,6 +3,7 @@ use Rattle.std.proofs.Common.{◌≡◌, ℕ, zero, suc, ◌+◌, ◌-◌, ◌*�
 use Rattle.std.specs.Prelude.{slice_get}
 use Rattle.std.proofs.lemmas.Bool.{cases_lt}
 use Rattle.std.proofs.lemmas.List.{length-map}
+use Rattle.wa_types.specs.declared.values.Value.TheVariants as V
 use Rattle.wa_types.specs.Base.{Base}
 use Rattle.wa_types.specs.Bounds.{Bound}
 use Rattle.wa_types.specs.Runtime.{global_space}
@@ -15,8 +16,9 @@ use Rattle.wa_model.specs.Plan.{Plan, Outcome, given}
 use Rattle.wa_model.specs.Instantiation.{opening}
 use Rattle.wa_model.specs.Blocking.{Note, State, note, all_left, bad_poke, begun, blocking, events_of, store_of, Blocking}
 use Rattle.wa_model.specs.Protocol.{Held, Protocol, store_held}
-use Rattle.wa_model.specs.Behaves.{IsMoment, IsPrefix, RunsAlike, SameAt, SameWhole}
+use Rattle.wa_model.specs.Behaves.{AtCalls, IsMoment, IsPrefix, RunsAlike, SameAt, SameWhole}
 use Rattle.run_theory.proofs.GrownSteps.{front}
+use Rattle.run_theory.proofs.QuietRuns.{at_calls}
 use Rattle.run_theory.proofs.Runs.{prefix_of_longer, prefix_on}
 use Rattle.headline.proofs.EmptyAreas.{emptied}
 use Rattle.headline.proofs.SamePlans.{Calm}
@@ -366,7 +368,12 @@ module _ (m p : Module) (plan : Plan) (bad : Answer) (rest us os : List Outcome)
           let z : i ≡ suc (length f.before) = omega (arith, h.0, place) in (
             note (ended f.e) (f.x).store,
             ap (λ xs. slice_get xs i) f.first ∙ ap (slice_get (f.before ++ (f.x ∷ note (ended f.e) (f.x).store ∷ []))) z ∙ got_behind f.before f.x (note (ended f.e) (f.x).store) [],
-            subst (λ q. SameAt (global_space m) (note (ended f.e) (f.x).store) q) h.1 (record { event = ap (λ q. ended q) same; stores = call.stores }),
+            subst (λ q. SameAt (global_space m) (note (ended f.e) (f.x).store) q) h.1 (record {
+              event = ap (λ q. ended q) same;
+              stores = call.stores;
+              state = at_calls (ended g.e) (slice_get (g.x).store.globals (global_space m) ≡ Some (V.I32 0))
+                  (subst (λ e. AtCalls e (slice_get (g.x).store.globals (global_space m) ≡ Some (V.I32 0))) g.is call.state);
+            }),
           )
 
   -- ---- between events

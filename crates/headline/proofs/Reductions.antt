@@ -5,7 +5,7 @@ use Rattle.guard_runs.specs.Beside.{Near}
 use Rattle.headline.proofs.FlatStretches.{Along, Sil, Sm, NoneAbove, along, gl, other_top, pr, sides, then_returns, then_steps, then_traps, up_to, xp}
 use Rattle.headline.specs.StoreLaws.{StoreLaws}
 use Rattle.headline.proofs.FromSimulation.{na}
-use Rattle.headline.proofs.ToldMoves.{Silent, Told, by_silence, by_told, dear_of, no_more, silent_before, silent_none, silent_on, silent_one, told}
+use Rattle.headline.proofs.ToldMoves.{Silent, Told, by_silence, by_told, calls_none, calls_none_before, dear_of, no_more, silent_before, silent_none, silent_on, silent_one, told}
 use Rattle.headline.specs.Halts.{PausesKnown, room_in, used_in}
 use Rattle.headline.specs.FlatLaw.{FlatLaw, FlatReturns, FlatSteps, FlatTraps}
 use Rattle.std.proofs.Common.{All, List, None, Some, [], ap, append-nil, arith, length, refl, subst, suc, sym, ℕ, ⊎_elim, ◌*◌, ◌++◌, ◌+◌, ◌-◌, ◌<◌, ◌∙◌, ◌∷◌, ◌≡◌, ◌≤◌}
@@ -13,10 +13,11 @@ use Rattle.std.proofs.lemmas.Bool.{cases_lt}
 use Rattle.std.specs.Prelude.{slice_get}
 use Rattle.run_theory.proofs.Follow.{Alike as AllAlike}
 use Rattle.run_theory.proofs.QuietRuns.{first_behind}
+use Rattle.run_theory.proofs.Rewound.{Forwards}
 use Rattle.run_theory.proofs.Runs.{leads_run}
 use Rattle.run_theory.proofs.ShownRuns.{shown_move}
-use Rattle.wa_model.specs.Behaves.{SameNote, AtCalls, AtPaused}
-use Rattle.wa_model.specs.Blocking.{Left, Note, State, Task, an_entry, begins, between, blocking, by_step, done_notes, halts, next_entry, note, on_to, runs, store_of, task_back, the_start, value_of_results}
+use Rattle.wa_model.specs.Behaves.{SameNote, AtCalls, AtPaused, last_called}
+use Rattle.wa_model.specs.Blocking.{events_of, Left, Note, State, Task, an_entry, begins, between, blocking, by_step, done_notes, halts, next_entry, note, on_to, runs, store_of, task_back, the_start, value_of_results}
 use Rattle.wa_model.specs.Configuration.{Configuration}
 use Rattle.wa_model.specs.Machine.{Leads, Ran, Turn, goes, moves, run, stops}
 use Rattle.wa_model.specs.Outside.{ended, returned}
@@ -127,20 +128,25 @@ module _ (w : World) where
     -- a stretch, one move that tells notes, and a stretch behind it
     pub tell_move : (n spare k j c c2 left : ℕ) (a a' : State) (b b1 b2 to : Held) (es1 gs : List Note) (y : Note) → Sil w (store_of a) b c b1 → pr w b1 ≡ goes j gs b2
         → AllAlike (SameNote w.original w.settings w.which w.plan.area) (es1 ++ y ∷ []) gs
-        → Sil w y.store b2 c2 to → suc k ≤ c + suc j → c + suc j + c2 + left ≤ 256 * suc k + spare → (suc k ≤ n → R (n - suc k) left a' to) → Owes n spare a b (goes k (es1 ++ y ∷ []) a')
-    tell_move n spare k j c c2 left a a' b b1 b2 to es1 gs y q e al q2 least most r =
+        → Sil w y.store b2 c2 to → suc k ≤ c + suc j → c + suc j + c2 + left ≤ 256 * suc k + spare → Forwards b → Forwards b2 → (suc k ≤ n → R (n - suc k) left a' to)
+        → Owes n spare a b (goes k (es1 ++ y ∷ []) a')
+    tell_move n spare k j c c2 left a a' b b1 b2 to es1 gs y q e al q2 least most forwards forwards2 r =
         let t : Told w.original w.settings w.which w.written (xp w) w.plan (store_of a) (es1 ++ y ∷ []) b (c + suc j + c2) gs to = told es1 y q e al (no_more q2) refl refl (sym (append-nil gs)) in (
           λ i le. rests_before (store_of a) b b1 b2 c j gs q e i (omega arith),
-          λ enough. by_told w.original w.settings w.which w.written (xp w) w.plan nn R n spare k (c + suc j + c2) left (es1 ++ y ∷ []) gs a a' b to t (omega arith) (omega arith)
-              (omega arith) (r enough),
+          λ enough. by_told w.original w.settings w.which w.written (xp w) w.plan nn R n spare k (c + suc j + c2) left (es1 ++ y ∷ []) gs a a' b to t (omega arith) (
+            calls_none_before w.original w.settings w.which w.written (xp w) w.plan None (store_of a) b b1 b2 c j gs q e forwards,
+            calls_none w.original w.settings w.which w.written (xp w) w.plan (last_called None (events_of (es1 ++ y ∷ []))) y.store b2 to c2 q2 forwards2,
+          )
+              (omega arith) (omega arith) (r enough),
         )
 
     -- the same with nothing behind
     pub last_move : (n spare k j c : ℕ) (a a' : State) (b b1 to : Held) (es1 gs : List Note) (y : Note) → Sil w (store_of a) b c b1 → pr w b1 ≡ goes j gs to
         → AllAlike (SameNote w.original w.settings w.which w.plan.area) (es1 ++ y ∷ []) gs
-        → Sm w y.store (store_held to) → (suc k ≤ c + suc j) × (c + suc j ≤ 256 * suc k + spare) → (suc k ≤ n → R (n - suc k) 0 a' to) → Owes n spare a b (goes k (es1 ++ y ∷ []) a')
-    last_move n spare k j c a a' b b1 to es1 gs y q e al h most r =
-        tell_move n spare k j c 0 0 a a' b b1 to to es1 gs y q e al (silent_none w.original w.settings w.which w.written (xp w) w.plan y.store to h) most.0 (let two = most.1 in omega arith) r
+        → Sm w y.store (store_held to) → (suc k ≤ c + suc j) × (c + suc j ≤ 256 * suc k + spare) → Forwards b → Forwards to → (suc k ≤ n → R (n - suc k) 0 a' to)
+        → Owes n spare a b (goes k (es1 ++ y ∷ []) a')
+    last_move n spare k j c a a' b b1 to es1 gs y q e al h most forwards forwards2 r =
+        tell_move n spare k j c 0 0 a a' b b1 to to es1 gs y q e al (silent_none w.original w.settings w.which w.written (xp w) w.plan y.store to h) most.0 (let two = most.1 in omega arith) forwards forwards2 r
 
     -- ---- code that runs
 
@@ -168,7 +174,7 @@ module _ (w : World) where
             λ j le. rests_before c.store b0 (busy (is_running task) u2.mid l) (busy (is_running task) t.0 l) (u1.cost + u2.cost) fs.j [] q1 mv j (omega arith),
             λ enough.
                 by_silence w.original w.settings w.which w.written (xp w) w.plan nn R n spare k (u1.cost + u2.cost) fs.j u3.cost (10 * fs.left) a0 (runs task d l) b0
-                (busy (is_running task) u2.mid l) (busy (is_running task) t.0 l) (busy (is_running task) u3.to l) q1 mv u3.silent (omega arith) (omega arith)
+                (busy (is_running task) u2.mid l) (busy (is_running task) t.0 l) (busy (is_running task) u3.to l) q1 mv u3.silent (omega arith) (omega arith) tt
                 (r_runs top fs.left (omega arith) is_top (record { flat_at = fs.to; link = fs.link; near = u3.near }) lf
                 (allowed_on n k [] a0 (runs task d l) (ap (by_step (base w) w.plan task l) is) al)),
           )
@@ -183,7 +189,7 @@ module _ (w : World) where
           let h = sl.same_end top s r.0 r.2 in
           let a9 = u1.least in let a4 = fs.least in let a1 = u1.most in let a2 = u2.short in let a3 = fs.most in let a5 = within in
           last_move n spare k fs.j (u1.cost + u2.cost) a0 (halts s) b0 (busy (is_running task) u2.mid l) (over r.0) [] (note (ended (Trapped t)) r.0 ∷ []) (note (ended (Trapped t)) s) q1 mv
-          (same_note _ _ refl h tt refl (quiet_there top s r.0 r.2), tt) h (omega arith, omega arith) (λ enough. r_halts h)
+          (same_note _ _ refl h tt refl (quiet_there top s r.0 r.2), tt) h (omega arith, omega arith) tt tt (λ enough. r_halts h)
 
       -- what comes behind the start function or an entry
       pub goes_on : (k : ℕ) (vs : List Value) (s : Store) → step (base w) c ≡ returns k vs s → FlatReturns w (λ c d. c ≡ d) L W G top x k vs s lk.flat_at
@@ -228,7 +234,7 @@ module _ (w : World) where
           by_task : (tk : Task) → task ≡ tk → (es : List Entry) → l.entries ≡ es → Owes n spare a0 b0 (sh (task_back k task vs s l))
           by_task the_start et [] ee = subst (Owes n spare a0 b0) (sym (ap (sh) (ap (λ z. task_back k z vs s l) et ∙ ap (λ z. goes k (done_notes s z) (on_to s l z)) ee)))
               (last_move n spare k fs.j (u1.cost + u2.cost) a0 (halts s) b0 (busy (is_running task) u2.mid l) (over r.0) [] (note (ended Done) r.0 ∷ []) (note (ended Done) s) q1 (mv
-              ∙ ap (λ z. held_back fs.j z vs r.0 l) et ∙ ap (λ z. goes fs.j (done_notes r.0 z) (held_on r.0 l z)) ee) (same_note _ _ refl h tt refl q0, tt) h few (λ enough. r_halts h))
+              ∙ ap (λ z. held_back fs.j z vs r.0 l) et ∙ ap (λ z. goes fs.j (done_notes r.0 z) (held_on r.0 l z)) ee) (same_note _ _ refl h tt refl q0, tt) h few tt tt (λ enough. r_halts h))
           by_task the_start et (e1 ∷ es) ee = subst (Owes n spare a0 b0) (sym (ap (sh) (ap (λ z. task_back k z vs s l) et ∙ ap (λ z. goes k (done_notes s z) (on_to s l z)) ee)))
               (silent_last (mv ∙ ap (λ z. held_back fs.j z vs r.0 l) et ∙ ap (λ z. goes fs.j (done_notes r.0 z) (held_on r.0 l z)) ee)
               (next_r l refl refl [] (was ∙ ap (λ z. task_back k z vs s l) et ∙ ap (λ z. goes k (done_notes s z) (on_to s l z)) ee)))
@@ -238,7 +244,7 @@ module _ (w : World) where
                 λ j le. rests_before c.store b0 (busy (is_running task) u2.mid l) (free r.0 l) (u1.cost + u2.cost) fs.j [] q1 e j (let a1 = few.0 in omega arith),
                 λ enough. let a1 = few.0 in let a2 = few.1 in by_silence w.original w.settings w.which w.written (xp w) w.plan nn R n spare k (u1.cost + u2.cost) fs.j 0 0 a0
                     (between s l) b0 (busy (is_running task) u2.mid l) (free r.0 l) (free r.0 l) q1 e (silent_none w.original w.settings w.which w.written (xp w) w.plan s (free r.0 l) h)
-                    (omega arith) (omega arith) (rr enough),
+                    (omega arith) (omega arith) tt (rr enough),
               )
           by_task (an_entry e) et [] ee =
               subst (Owes n spare a0 b0) (sym (ap (sh) (ap (λ z. task_back k z vs s l) et
@@ -246,12 +252,12 @@ module _ (w : World) where
               (last_move n spare k fs.j (u1.cost + u2.cost) a0 (halts s) b0 (busy (is_running task) u2.mid l) (over r.0) (note (returned l.number (value_of_results vs)) s ∷ [])
               (note (returned l.number (value_of_results vs)) r.0 ∷ note (ended Done) r.0 ∷ []) (note (ended Done) s) q1
               (mv ∙ ap (λ z. held_back fs.j z vs r.0 l) et ∙ ap (λ z. goes fs.j (note (returned l.number (value_of_results vs)) r.0 ∷ done_notes r.0 z) (held_on r.0 (next_entry l) z)) ee)
-              (same_note _ _ refl h tt refl q0, (same_note _ _ refl h tt refl q0, tt)) h few (λ enough. r_halts h))
+              (same_note _ _ refl h tt refl q0, (same_note _ _ refl h tt refl q0, tt)) h few tt tt (λ enough. r_halts h))
           by_task (an_entry e) et (e1 ∷ es) ee =
               subst (Owes n spare a0 b0) (sym (ap (sh) (ap (λ z. task_back k z vs s l) et
               ∙ ap (λ z. goes k (note (returned l.number (value_of_results vs)) s ∷ done_notes s z) (on_to s (next_entry l) z)) ee)))
               (last_move n spare k fs.j (u1.cost + u2.cost) a0 (between s (next_entry l)) b0 (busy (is_running task) u2.mid l) (free r.0 (next_entry l)) []
               (note (returned l.number (value_of_results vs)) r.0 ∷ []) (note (returned l.number (value_of_results vs)) s) q1
               (mv ∙ ap (λ z. held_back fs.j z vs r.0 l) et ∙ ap (λ z. goes fs.j (note (returned l.number (value_of_results vs)) r.0 ∷ done_notes r.0 z) (held_on r.0 (next_entry l) z)) ee)
-              (same_note _ _ refl h tt refl q0, tt) h few (next_r (next_entry l) refl refl (note (returned l.number (value_of_results vs)) s ∷ [])
+              (same_note _ _ refl h tt refl q0, tt) h few tt tt (next_r (next_entry l) refl refl (note (returned l.number (value_of_results vs)) s ∷ [])
               (was ∙ ap (λ z. task_back k z vs s l) et ∙ ap (λ z. goes k (note (returned l.number (value_of_results vs)) s ∷ done_notes s z) (on_to s (next_entry l) z)) ee)))

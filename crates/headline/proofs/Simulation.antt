@@ -19,6 +19,7 @@ use Rattle.std.proofs.Common.{All, Bool, List, None, Option, Some, [], ap, arith
 use Rattle.std.proofs.lemmas.Bool.{cases_lt, ltb-true}
 use Rattle.std.specs.Prelude.{if◌then◌else◌, nat_lt}
 use Rattle.run_theory.proofs.QuietRuns.{at_calls}
+use Rattle.run_theory.proofs.Rewound.{Forwards, forwards_asks, silent_forwards}
 use Rattle.run_theory.proofs.Runs.{no_move}
 use Rattle.run_theory.proofs.Follow.{Match, On_way, all_made, not_yet, up_to}
 use Rattle.wa_model.specs.Behaves.{SameNote}
@@ -109,9 +110,9 @@ module _ (w : World) (ft : WorldFits w) (sl : StoreLaws w) (L : (top spare : ℕ
   host_calls : (n spare x : ℕ) (args : List Value) (task : Task) (f : Func) (s s' : Store) (a : State) (b : Held) (l : Left) → Sm w (store_of a) (store_held b) → store_of a ≡ s → G s
       → Alike (setting w 0) s s' → LeftFits w l
       → (fe : FlatEnters w (λ c d. c ≡ d) L W G x args f s) → TopOf w task x → nb w a ≡ goes (length args) [] (runs task (entered s [] args x f) l)
-      → pr w b ≡ goes (length args) [] (busy (is_running task) (entered s' [] args x fe.func') l) → Allowed w n a
+      → pr w b ≡ goes (length args) [] (busy (is_running task) (entered s' [] args x fe.func') l) → Allowed w n a → Forwards b
       → Ow n spare a b (goes (length args) [] (runs task (entered s [] args x f) l))
-  host_calls n spare x args task f s s' a b l seen at_s good like lf fe top mva mvb al =
+  host_calls n spare x args task f s s' a b l seen at_s good like lf fe top mva mvb al forwards =
       let like2 = other_top w 0 x s s' like in
       let nr = calls_begin (sides w x) s s' args fe.func fe.func' (together (setting w x) (ft.paired x)) fe.known fe.defined fe.defined' fe.count like2 in
       let on = fe.on in
@@ -122,7 +123,7 @@ module _ (w : World) (ft : WorldFits w) (sl : StoreLaws w) (L : (top spare : ℕ
         λ j le. rests_before w (store_of a) b b (busy (is_running task) (entered s' [] args x fe.func') l) 0 k [] q0 mvb j (omega arith),
         λ enough.
             by_silence w.original w.settings w.which w.written (xp w) w.plan (nn w) Rel n spare k 0 k u.cost (10 * on.left) a (runs task (entered s [] args x f) l) b b
-            (busy (is_running task) (entered s' [] args x fe.func') l) (busy (is_running task) u.to l) q0 mvb u.silent (omega arith) (omega arith)
+            (busy (is_running task) (entered s' [] args x fe.func') l) (busy (is_running task) u.to l) q0 mvb u.silent (omega arith) (omega arith) forwards
             (r_runs x on.left (omega arith) top (record { flat_at = on.to; link = on.link; near = u.near }) lf (allowed_on w n k [] a (runs task (entered s [] args x f) l) mva al)),
       )
 
@@ -155,7 +156,7 @@ module _ (w : World) (ft : WorldFits w) (sl : StoreLaws w) (L : (top spare : ℕ
           ∙ ap (busy_enters (is_running (an_entry e)) e s' l2) fe.defined' in
           subst (λ z. Ow n spare (between s l) (free s' l) (sh w (enter_next (base w) s l z))) (sym ee)
           (subst (λ z. Ow n spare (between s l) (free s' l) (sh w (enters e s l2 z))) (sym there)
-          (host_calls n spare e.func e.args (an_entry e) dfn.0 s s' (between s l) (free s' l) l2 seen refl good like fits2 fe (fits, refl, fe.count) mva mvb al))
+          (host_calls n spare e.func e.args (an_entry e) dfn.0 s s' (between s l) (free s' l) l2 seen refl good like fits2 fe (fits, refl, fe.count) mva mvb al tt))
 
   -- ---- the start function
 
@@ -187,7 +188,7 @@ module _ (w : World) (ft : WorldFits w) (sl : StoreLaws w) (L : (top spare : ℕ
           last_move w ft sl L W G law n spare 0 0 0 a0 (halts s) b0 b0 (over s') (call_note x [] s [] None ∷ []) (call_note x [] s' [] None ∷ note (ended e) s' ∷ []) (note (ended e) s)
           (silent_none w.original w.settings w.which w.written (xp w) w.plan s b0 seen) mv
           (same_note w _ _ refl seen tt refl quiet, (same_note w _ _ refl seen tt refl (at_calls (ended e) (Quiet w s') quiet), tt)) seen
-          (omega arith, omega arith) (λ enough. r_halts seen)
+          (omega arith, omega arith) tt tt (λ enough. r_halts seen)
 
       given_case : (a : Answer) (os : List Outcome) → l.outcomes ≡ given a ∷ os → (o : Option End) → fault a ≡ o
           → Ow n spare a0 b0 (sh w (tested (base w) 0 x [] (outermost s) (with_outcomes l os) a o))
@@ -251,7 +252,7 @@ module _ (w : World) (ft : WorldFits w) (sl : StoreLaws w) (L : (top spare : ℕ
               (silent_none w.original w.settings w.which w.written (xp w) w.plan s b0 seen)
               (mv ∙ ap (λ z. held_given 0 (call_note x [] s' [] None) z (poked s' a.pokes) (with_outcomes l os) (outermost s')) told)
               (same_note w _ _ refl seen tt refl quiet, (same_note w _ _ refl seen2 tt refl quiet2, (same_note w _ _ refl seen2 tt refl quiet2, tt))) seen2
-              (omega arith, omega arith) (λ enough. r_halts seen2)
+              (omega arith, omega arith) tt tt (λ enough. r_halts seen2)
 
           was_told : (v : Option Value) → a.said ≡ S.Value v → nb w a0 ≡ go_on 0 (call_note x [] s [] None) (S.Value v) (poked s a.pokes) (with_outcomes l os) (outermost s)
           was_told v told = was2 ∙ ap (λ z. go_on 0 (call_note x [] s [] None) z (poked s a.pokes) (with_outcomes l os) (outermost s)) told
@@ -266,7 +267,7 @@ module _ (w : World) (ft : WorldFits w) (sl : StoreLaws w) (L : (top spare : ℕ
               (silent_none w.original w.settings w.which w.written (xp w) w.plan s b0 seen)
               (mv_told v told ∙ ap (λ z. goes 0 (call_note x [] s' [] None ∷ note (answered (S.Value v)) (poked s' a.pokes) ∷ done_notes (poked s' a.pokes) z) (held_on (poked s' a.pokes) (with_outcomes l os) z)) ee)
               (same_note w _ _ refl seen tt refl quiet, (same_note w _ _ refl seen2 tt refl quiet2, (same_note w _ _ refl seen2 tt refl quiet2, tt))) seen2
-              (omega arith, omega arith) (λ enough. r_halts seen2))
+              (omega arith, omega arith) tt tt (λ enough. r_halts seen2))
           by_entries v told (e ∷ es) ee =
               subst (λ z. Ow n spare a0 b0 (goes 0 (call_note x [] s [] None ∷ note (answered (S.Value v)) (poked s a.pokes) ∷ done_notes (poked s a.pokes) z)
               (on_to (poked s a.pokes) (with_outcomes l os) z))) (sym ee)
@@ -274,7 +275,7 @@ module _ (w : World) (ft : WorldFits w) (sl : StoreLaws w) (L : (top spare : ℕ
               (call_note x [] s' [] None ∷ note (answered (S.Value v)) (poked s' a.pokes) ∷ []) (note (answered (S.Value v)) (poked s a.pokes))
               (silent_none w.original w.settings w.which w.written (xp w) w.plan s b0 seen)
               (mv_told v told ∙ ap (λ z. goes 0 (call_note x [] s' [] None ∷ note (answered (S.Value v)) (poked s' a.pokes) ∷ done_notes (poked s' a.pokes) z) (held_on (poked s' a.pokes) (with_outcomes l os) z)) ee)
-              (same_note w _ _ refl seen tt refl quiet, (same_note w _ _ refl seen2 tt refl quiet2, tt)) seen2 (omega arith, omega arith)
+              (same_note w _ _ refl seen tt refl quiet, (same_note w _ _ refl seen2 tt refl quiet2, tt)) seen2 (omega arith, omega arith) tt tt
               (λ enough. r_between good2 like2 fits2 (allowed_on w n 0 _ a0 _ (was_told v told ∙ ap
               (λ z. goes 0 (call_note x [] s [] None ∷ note (answered (S.Value v)) (poked s a.pokes) ∷ done_notes (poked s a.pokes) z) (on_to (poked s a.pokes) (with_outcomes l os) z)) ee)
               al)))
@@ -287,7 +288,7 @@ module _ (w : World) (ft : WorldFits w) (sl : StoreLaws w) (L : (top spare : ℕ
               subst (λ z. Ow n spare a0 b0 (sh w (asked (base w) w.plan 0 x [] (outermost s) l z))) (sym eo)
               (last_move w ft sl L W G law n spare 0 0 0 a0 (halts s) b0 b0 (over s') [] (call_note x [] s' [] None ∷ []) (call_note x [] s [] None)
               (silent_none w.original w.settings w.which w.written (xp w) w.plan s b0 seen)
-              (now ∙ ap (held_asked w.written (xp w) w.plan 0 x [] (outermost s') l) eo) (same_note w _ _ refl seen tt refl quiet, tt) seen (omega arith, omega arith) (λ enough. r_halts seen))
+              (now ∙ ap (held_asked w.written (xp w) w.plan 0 x [] (outermost s') l) eo) (same_note w _ _ refl seen tt refl quiet, tt) seen (omega arith, omega arith) tt tt (λ enough. r_halts seen))
           by_outcomes (refused e ∷ os) eo =
               subst (λ z. Ow n spare a0 b0 (sh w (asked (base w) w.plan 0 x [] (outermost s) l z))) (sym eo) (ends_there e (now ∙ ap (held_asked w.written (xp w) w.plan 0 x [] (outermost s') l) eo))
           by_outcomes (given a ∷ os) eo =
@@ -300,7 +301,7 @@ module _ (w : World) (ft : WorldFits w) (sl : StoreLaws w) (L : (top spare : ℕ
         by_defined (Some f) e =
             let fe = law.enters x [] f s lw.0 good e in
             subst (λ z. Ow n spare a0 b0 (sh w (start_called (base w) w.plan x s l z))) (sym e)
-            (host_calls n spare x [] the_start f s s' a0 b0 l seen refl good like lf fe tt (ap (start_called (base w) w.plan x s l) e) (ap (held_start w.written (xp w) w.plan x s' l) fe.defined') al)
+            (host_calls n spare x [] the_start f s s' a0 b0 l seen refl good like lf fe tt (ap (start_called (base w) w.plan x s l) e) (ap (held_start w.written (xp w) w.plan x s' l) fe.defined') al tt)
         by_defined None e = subst (λ z. Ow n spare a0 b0 (sh w (start_called (base w) w.plan x s l z))) (sym e) (by_import (nat_lt x (func_imports (base w))) refl)
           where
             now : pr w b0 ≡ (if nat_lt x (func_imports w.written) then held_asked w.written (xp w) w.plan 0 x [] (outermost s') l l.outcomes else stops)
@@ -328,6 +329,13 @@ module _ (w : World) (ft : WorldFits w) (sl : StoreLaws w) (L : (top spare : ℕ
   sees n spare _ _ (r_runs {c = c} {b = b} top x within is_top lk lf al) =
       subst (λ s. Sm w s b.store) (law.store top x c lk.flat_at lk.link) (Rattle.headline.proofs.FlatStretches.near_same w sl top lk.flat_at b lk.near)
   sees n spare _ _ (r_halts h) = h
+
+  -- no entry is being rewound
+  forwards : (n spare : ℕ) (a : State) (b : Held) → Rel n spare a b → Forwards b
+  forwards n spare _ _ (r_between good like lf al) = tt
+  forwards n spare _ _ (r_begins good like lf lw al) = tt
+  forwards n spare _ _ (r_runs top x within is_top lk lf al) = tt
+  forwards n spare _ _ (r_halts h) = tt
 
   owes : (n spare : ℕ) (a : State) (b : Held) → 0 < n → Rel n spare a b → Known b → Ow n spare a b (nn w a)
   owes n spare _ _ pos (r_between {s = s} {s' = s'} {l = l} good like lf al) kn = between_owes n spare s s' l good like lf al
@@ -357,12 +365,20 @@ module _ (w : World) (ft : WorldFits w) (sl : StoreLaws w) (L : (top spare : ℕ
   pub simulates : Simulates (room_in w) (used_in w) w.original w.settings w.which w.written w.plan Both
   simulates = record {
     less = λ n k spare a b r le. (rel_less n k spare a b r.0 le, r.1);
-    stop = λ n spare a b r e j le. ⊎_elim (λ pos. subst (Ow n spare a b) e (owes n spare a b pos r.0 r.1) j) (λ no_cost. at_once a b (sees n spare a b r.0) j (omega arith)) (cases_lt 0 n);
-    slow = λ n spare k es a' a b r e few j le. ⊎_elim (λ pos. (owed n spare k es a' a b (owes n spare a b pos r.0 r.1) e).0 j (omega arith))
-        (λ no_cost. at_once a b (sees n spare a b r.0) j (omega arith)) (cases_lt 0 n);
+    stop = λ n spare a b r e j le. waits n spare a b r.0 j
+        (⊎_elim (λ pos. subst (Ow n spare a b) e (owes n spare a b pos r.0 r.1) j) (λ no_cost. at_once a b (sees n spare a b r.0) j (omega arith)) (cases_lt 0 n));
+    slow = λ n spare k es a' a b r e few j le. waits n spare a b r.0 j
+        (⊎_elim (λ pos. (owed n spare k es a' a b (owes n spare a b pos r.0 r.1) e).0 j (omega arith))
+        (λ no_cost. at_once a b (sees n spare a b r.0) j (omega arith)) (cases_lt 0 n));
     move = λ n spare a b k es a' r e enough. with_known n spare k es a a' b r.1 ((owed n spare k es a' a b (owes n spare a b (omega arith) r.0 r.1) e).1 enough);
   }
     where
+      -- as long as nothing is told no rewound entry calls
+      waits : (n spare : ℕ) (a : State) (b : Held) → Rel n spare a b → (j : ℕ) → Rests w (store_of a) (run (pr w) j b)
+          → ((run (pr w) j b).events ≡ []) × Sees w.original w.settings w.which w.written (xp w) w.plan a (run (pr w) j b).last
+      waits n spare a b r j h =
+          (h.0, (h.1, forwards_asks w.written None (run (pr w) j b).last (silent_forwards w.written (xp w) w.plan j b (forwards n spare a b r) h.0)))
+
       owed : (n spare k : ℕ) (es : List Note) (a' a : State) (b : Held) → Ow n spare a b (nn w a) → nn w a ≡ goes k es a' → Ow n spare a b (goes k es a')
       owed n spare k es a' a b o e = subst (Ow n spare a b) e o
 

@@ -148,6 +148,7 @@ module _ (w : World) (ft : WorldFits w) (sl : StoreLaws w) (L : (top spare : ℕ
       gv = anew bk.new bk.config bk.store fit5 bk.same_flat bk.stopped bk.like
 
       pub comes : Comes w.original w.settings w.which w.written w.plan (Both w ft sl L W G law Known wl hl) n (128 + sum_by (rewind_bound w.original) (stack_of (base w) d)) d.store
+          (record { import = i; args = z.args })
           (note (answered (SV.Value v)) (poked d.store a.pokes) ∷ []) (runs (an_entry e) (resumed d (poked d.store a.pokes) (option_to_list v)) lo) (held_at_pause w.written w.plan e i a t lo)
       comes =
           let few = gv.few in let in29 = bk.within in
@@ -165,6 +166,8 @@ module _ (w : World) (ft : WorldFits w) (sl : StoreLaws w) (L : (top spare : ℕ
             to = busy (is_running (an_entry e)) gv.to lo;
             left = 10 * gv.left;
             silent = bk.silent;
+            calls = bk.calls;
+            forwards = tt;
             tells = answers;
             same = (same3 (SV.Value v), tt);
             behind = gv.silent;
@@ -176,10 +179,10 @@ module _ (w : World) (ft : WorldFits w) (sl : StoreLaws w) (L : (top spare : ℕ
           }
 
       -- A STACK THAT HANGS comes back, whatever the store is
-      pub hanging_goes_on : BehavesFrom w.original w.settings w.written w.plan w.which n d.store (stack_of (base w) d) (note (answered (SV.Value v)) (poked d.store a.pokes) ∷ [])
+      pub hanging_goes_on : BehavesFrom w.original w.settings w.written w.plan w.which n d.store (record { import = i; args = z.args }) (stack_of (base w) d) (note (answered (SV.Value v)) (poked d.store a.pokes) ∷ [])
           (runs (an_entry e) (resumed d (poked d.store a.pokes) (option_to_list v)) lo) (held_at_pause w.written w.plan e i a t lo)
       hanging_goes_on =
-          behaves_from w.original w.settings w.which w.written w.plan (Both w ft sl L W G law Known wl hl) plain_simulates n d.store (stack_of (base w) d) (x3 ∷ []) a2 b3
+          behaves_from w.original w.settings w.which w.written w.plan (Both w ft sl L W G law Known wl hl) plain_simulates n d.store (record { import = i; args = z.args }) (stack_of (base w) d) (x3 ∷ []) a2 b3
           lf.outcomes refl comes
 
     -- ---- the import traps
@@ -195,6 +198,7 @@ module _ (w : World) (ft : WorldFits w) (sl : StoreLaws w) (L : (top spare : ℕ
       trap_tells = bk.answers ∙ ap (λ q. held_resumed 0 e q t bk.config lo (poked bk.store a.pokes)) said_is
 
       trap_comes : Comes w.original w.settings w.which w.written w.plan (Both w ft sl L W G law Known wl hl) n (128 + sum_by (rewind_bound w.original) (stack_of (base w) d)) d.store
+          (record { import = i; args = z.args })
           (import_traps (poked d.store a.pokes)) (halts (poked d.store a.pokes)) (held_at_pause w.written w.plan e i a t lo)
       trap_comes =
           let in29 = bk.within in
@@ -211,6 +215,8 @@ module _ (w : World) (ft : WorldFits w) (sl : StoreLaws w) (L : (top spare : ℕ
             to = b6;
             left = 0;
             silent = bk.silent;
+            calls = bk.calls;
+            forwards = tt;
             tells = trap_tells;
             same = (same3 SV.Trap, (same_note w (note (ended (Trapped Import)) (poked d.store a.pokes)) y4 refl bk.seen tt refl quiet, tt));
             behind = silent_none w.original w.settings w.which w.written (xp w) w.plan (poked d.store a.pokes) b6 bk.seen;
@@ -219,8 +225,8 @@ module _ (w : World) (ft : WorldFits w) (sl : StoreLaws w) (L : (top spare : ℕ
           }
 
       -- IT COMES BACK, and the program ends
-      pub hanging_traps : BehavesFrom w.original w.settings w.written w.plan w.which n d.store (stack_of (base w) d) (import_traps (poked d.store a.pokes)) (halts (poked d.store a.pokes))
+      pub hanging_traps : BehavesFrom w.original w.settings w.written w.plan w.which n d.store (record { import = i; args = z.args }) (stack_of (base w) d) (import_traps (poked d.store a.pokes)) (halts (poked d.store a.pokes))
           (held_at_pause w.written w.plan e i a t lo)
       hanging_traps =
-          behaves_from w.original w.settings w.which w.written w.plan (Both w ft sl L W G law Known wl hl) plain_simulates n d.store (stack_of (base w) d) (import_traps (poked d.store a.pokes))
+          behaves_from w.original w.settings w.which w.written w.plan (Both w ft sl L W G law Known wl hl) plain_simulates n d.store (record { import = i; args = z.args }) (stack_of (base w) d) (import_traps (poked d.store a.pokes))
           (halts (poked d.store a.pokes)) b3 tt refl trap_comes

@@ -1,5 +1,5 @@
 -- Where the rewritten module is about to unwind: from any store that holds the pause it comes back.
-use Rattle.std.proofs.Common.{All, List, [], ap, arith, false, length, refl, subst, suc, ℕ, ◌+◌, ◌-◌, ◌∙◌, ◌∷◌, ◌≡◌, ◌≤◌}
+use Rattle.std.proofs.Common.{All, List, [], ap, arith, false, length, refl, subst, suc, sym, ℕ, ◌+◌, ◌-◌, ◌∙◌, ◌∷◌, ◌≡◌, ◌≤◌}
 use Rattle.std.proofs.lemmas.List.{length-map}
 use Rattle.std.specs.List.{sum_by}
 use Rattle.wa_types.specs.Frames.{HoldsBytes, HoldsFrames, Room, frame_of, word}
@@ -16,6 +16,8 @@ use Rattle.wa_model.specs.Plan.{Entry, Outcome}
 use Rattle.wa_model.specs.Protocol.{Held, with_words}
 use Rattle.wa_model.specs.Step.{param_count}
 use Rattle.wa_model.specs.Store.{Store}
+use Rattle.run_laws.proofs.CallArgs.{Took}
+use Rattle.run_laws.proofs.CallArgs.{took as call_took}
 use Rattle.run_laws.specs.Ranges.{byte_in}
 use Rattle.frame_laws.specs.Stack.{HoldsStack, activation_of, total_size}
 use Rattle.guard_runs.proofs.WaitingLevels.{stopped_are_levels}
@@ -40,15 +42,17 @@ use Rattle.image_laws.proofs.Apart.{ApartLaw, ApartSums}
 use Rattle.image_laws.proofs.AnyStore.{hanging_goes_on, hanging_traps}
 use Rattle.image_laws.proofs.KnownAgain.{KnownLaw}
 use Rattle.image_laws.proofs.SameStores.{alike_held}
+use Rattle.image_laws.proofs.TakenAgain.{stopped_taken}
 use Rattle.image_laws.proofs.Unwinding.{Unwinding}
 
--- A stack beside the same original of which memory holds the frames.
-pub record HeldThere (w : World) (W : ℕ → ℕ → Configuration → Configuration → Type 0) (top i : ℕ) (d : Configuration) (mem : List ℕ) (at : ℕ) : Type 0 where
+-- A stack beside the same original of which memory holds the frames, and whose call took the same operands.
+pub record HeldThere (w : World) (W : ℕ → ℕ → Configuration → Configuration → Type 0) (top i : ℕ) (d : Configuration) (taken : List Value) (mem : List ℕ) (at : ℕ) : Type 0 where
   pub flat : Configuration
   pub waits : W top i d flat
   pub here : Activation
   pub under : List Activation
   pub st : Stopped (setting w top) i (flat.here ∷ flat.under) (here ∷ under)
+  pub took : here.taken ≡ taken
   pub fit : AllLocalsFit w.written (here ∷ under)
   pub holds : HoldsStack mem at (levels_of (setting w top) w.lay st)
 
@@ -58,7 +62,7 @@ HoldsLaw w W =
     (top i : ℕ) (d f : Configuration) (us' : List Activation) → Stopped (setting w top) i (f.here ∷ f.under) us' → W top i d f
     → All (StandsNumbered w.original w.settings w.which) (stack_of (base w) d) → AllLocalsFit w.written us'
     → (mem : List ℕ) (at : ℕ) → All byte_in mem → at + sum_by (frame_of w.original w.settings.policy) (stack_of (base w) d) ≤ length mem
-    → HoldsFrames w.original w.settings w.which mem at (stack_of (base w) d) → HeldThere w W top i d mem at
+    → HoldsFrames w.original w.settings w.which mem at (stack_of (base w) d) → HeldThere w W top i d f.here.taken mem at
 
 module _ (w : World) (ft : WorldFits w) (sl : StoreLaws w) (L : (top spare : ℕ) → Configuration → Configuration → Type 0) (W : ℕ → ℕ → Configuration → Configuration → Type 0) (G : Store
     → Type 0) (law : FlatLaw w (λ c d. c ≡ d) L W G) (Known : Held → Type 0) (wl : WrittenLaw w Known) (hl : HaltLaw w W) (none : w.asserts ≡ false) (holds : HoldsLaw w W)
@@ -79,7 +83,7 @@ module _ (w : World) (ft : WorldFits w) (sl : StoreLaws w) (L : (top spare : ℕ
 
     -- ---- the stack
 
-    there : HeldThere w W top i d t.memory (w.plan.area.at + 8)
+    there : HeldThere w W top i d (u.called).flat_at.here.taken t.memory (w.plan.area.at + 8)
     there =
         let img = hp.image in let rg = hp.ranges in let mi = rg.memory in let z = inside_t in let cd = u.called in
         holds top i d cd.flat_at ((cd.at).here ∷ (cd.at).under) u.stopped cd.waits u.numbered u.locals t.memory (w.plan.area.at + 8) mi.each (omega arith) img.frames
@@ -97,6 +101,14 @@ module _ (w : World) (ft : WorldFits w) (sl : StoreLaws w) (L : (top spare : ℕ
     halves_there =
         subst (λ ws. ApartSums w.original (param_count (func_type_at w.flat top)) ws (stack_of (base w) d)) some.are
         (apart top i d there.flat (there.here ∷ there.under) there.st there.waits u.numbered there.fit)
+
+    -- the call takes what it took
+    took_there : Took (param_count (func_type_at w.written i)) args (some.v).taken
+    took_there =
+        let cd = u.called in
+        subst (Took (param_count (func_type_at w.written i)) args)
+        (stopped_taken (setting w top) i _ _ u.stopped (cd.flat_at).here (cd.at).here (cd.flat_at).under (cd.at).under refl refl ∙ sym there.took ∙ ap (λ (b : Activation). b.taken) some.here_is)
+        (call_took w.written cd.mid cd.at cd.j i args cd.asks_there cd.all_there)
 
     hangs : Hangs w ft sl L W G law top i e d
     hangs = record {
@@ -116,6 +128,8 @@ module _ (w : World) (ft : WorldFits w) (sl : StoreLaws w) (L : (top spare : ℕ
           let c = under_deep (sides w top) i _ _ (waits_law (setting w top) i _ _ there.st) (omega arith) in
           let l1 : length there.under ≡ length some.vs = ap length some.under_is ∙ length-map some.vs activation_of in
           omega arith;
+      args = args;
+      took = took_there;
       is_top = u.is_top;
     }
 
@@ -142,7 +156,7 @@ module _ (w : World) (ft : WorldFits w) (sl : StoreLaws w) (L : (top spare : ℕ
 
     abbrev Back : Said → Type 0
     Back said =
-        BehavesFrom w.original w.settings w.written w.plan w.which (n - suc k) d.store (stack_of (base w) d) (answer_notes said (poked d.store a.pokes))
+        BehavesFrom w.original w.settings w.written w.plan w.which (n - suc k) d.store (record { import = i; args = args }) (stack_of (base w) d) (answer_notes said (poked d.store a.pokes))
         (goes_on_told said e d (poked d.store a.pokes) (with_outcomes l os)) (held_at_pause w.written w.plan e i a t (with_outcomes l os))
 
     back_told : (said : Said) → a.said ≡ said → Back said

@@ -1,5 +1,5 @@
 -- From any related pair of a simulation, behind first notes, to all that a rewritten module owes the rest of a run.
-use Rattle.std.proofs.Common.{append-nil, Bool, ◌≡◌, ℕ, suc, ◌+◌, ◌-◌, ◌≤◌, ◌⊎◌, inl, inr, ⊎_elim, List, [], ◌∷◌, ◌++◌, refl, sym, ap, ◌∙◌, subst, arith}
+use Rattle.std.proofs.Common.{append-nil, Bool, ◌≡◌, ℕ, suc, ◌+◌, ◌-◌, ◌≤◌, ◌⊎◌, inl, inr, ⊎_elim, List, [], ◌∷◌, ◌++◌, Option, Some, refl, sym, ap, ◌∙◌, subst, arith}
 use Rattle.std.proofs.lemmas.Bool.{cases_lt}
 use Rattle.std.proofs.lemmas.List.Elements.{filter_map-append}
 use Rattle.std.specs.List.{sum_by}
@@ -10,20 +10,21 @@ use Rattle.wa_types.specs.Runtime.{global_space}
 use Rattle.wa_types.specs.Syntax.{Module}
 use Rattle.run_theory.proofs.Follow.{Begins, alike_on, back, begins_on, forth}
 use Rattle.run_theory.proofs.Follow as Fo
-use Rattle.run_theory.proofs.FromMoves.{begins_right, events_of_alike, prefix_of_begins, prefix_of_leads}
+use Rattle.run_theory.proofs.FromMoves.{begins_right, events_of_alike, events_on, prefix_of_begins, prefix_of_leads}
 use Rattle.run_theory.proofs.Moments.{Moment, at_event, at_state, moment}
+use Rattle.run_theory.proofs.Rewound.{Forwards, forwards_asks, last_on, silent_forwards}
 use Rattle.run_theory.proofs.Runs.{leads_on, leads_run, one_move}
 use Rattle.run_theory.proofs.ShownMoments.{Lawful, event_moment, state_moment}
 use Rattle.run_theory.proofs.ShownRuns.{shown_run}
-use Rattle.wa_model.specs.Behaves.{IsPrefix, SameNote, pause_stacks, unless_pause, without_pauses}
+use Rattle.wa_model.specs.Behaves.{IsPrefix, RewindsTo, SameNote, last_called, pause_stacks, unless_pause, without_pauses}
 use Rattle.wa_model.specs.Blocking.{Note, State, blocking, events_of, store_of}
 use Rattle.wa_model.specs.Expected.{SameEnd}
 use Rattle.wa_model.specs.Machine.{Leads, Ran, Turn, after, goes, moves, run}
-use Rattle.wa_model.specs.Outside.{Event}
+use Rattle.wa_model.specs.Outside.{Call, Event}
 use Rattle.wa_model.specs.Plan.{Plan}
 use Rattle.wa_model.specs.Protocol.{Held, exports_of, protocol, store_held}
 use Rattle.wa_model.specs.Store.{Store}
-use Rattle.headline.proofs.FromSimulation.{Simulates, dear_on, dear_shown, events_on, na}
+use Rattle.headline.proofs.FromSimulation.{Simulates, dear_on, dear_shown, moment_calls, na}
 use Rattle.headline.proofs.ToldMoves.{Sees, Sees_at, Silent, dear_of}
 use Rattle.image_laws.specs.Image.{BehavesFrom, IsMomentFrom, RestBound, expected_from, rewind_bound}
 
@@ -50,8 +51,8 @@ module _ (m : Module) (s : Settings) (which : List Bool) (p : Module) (plan : Pl
   Sil = Silent m s which p (exports_of p) plan
 
   module _ (R : (n spare : ℕ) → State → Held → Type 0) where
-    -- From b the protocol comes without an event to a move that tells notes beside xs, and from there to a related pair.
-    pub record Comes (n extra : ℕ) (before : Store) (xs : List Note) (a : State) (b : Held) : Type 0 where
+    -- From b the protocol comes without an event, by this call, to a move that tells notes beside xs, and from there to a related pair.
+    pub record Comes (n extra : ℕ) (before : Store) (call : Call) (xs : List Note) (a : State) (b : Held) : Type 0 where
       pub cost : ℕ
       pub at : Held
       pub notes_there : List Note
@@ -60,14 +61,16 @@ module _ (m : Module) (s : Settings) (which : List Bool) (p : Module) (plan : Pl
       pub to : Held
       pub left : ℕ
       pub silent : Silent m s which p (exports_of p) plan before b cost at
+      pub calls : (j : ℕ) → j ≤ cost → RewindsTo p (Some call) (run (protocol p (exports_of p) plan) j b).last
+      pub forwards : Forwards on
       pub tells : protocol p (exports_of p) plan at ≡ goes 0 notes_there on
       pub same : Fo.Alike (SameNote m s which plan.area) xs notes_there
       pub behind : Silent m s which p (exports_of p) plan (store_of a) on more to
       pub rel : R n left a to
       pub few : cost + 1 + more + left ≤ extra
 
-    module _ (sim : Simulates room fit m s which p plan R) (n : ℕ) (before : Store) (stack : List Suspended) (xs : List Note) (a : State) (b : Held) (lawful : Lawful a)
-        (honest : without_pauses (events_of xs) ≡ events_of xs) (cm : Comes n (128 + sum_by (rewind_bound m) stack) before xs a b) where
+    module _ (sim : Simulates room fit m s which p plan R) (n : ℕ) (before : Store) (call : Call) (stack : List Suspended) (xs : List Note) (a : State) (b : Held) (lawful : Lawful a)
+        (honest : without_pauses (events_of xs) ≡ events_of xs) (cm : Comes n (128 + sum_by (rewind_bound m) stack) before call xs a b) where
       -- the run behind the first notes
       run_on : (j : ℕ) → cm.cost + 1 ≤ j → run (protocol p (exports_of p) plan) j b ≡ after cm.notes_there (run (protocol p (exports_of p) plan) (j - (cm.cost + 1)) cm.on)
       run_on j le =
@@ -161,7 +164,7 @@ module _ (m : Module) (s : Settings) (which : List Bool) (p : Module) (plan : Pl
             store_of at,
             state_moment room fit plan.area.len (Base m) plan xs a at n cost es lawful l (omega arith),
             told es r.events al,
-            sees,
+            sees.0,
           )
       by_moment j le r (at_event cost k es es1 es2 y at a' l e within al sees) =
           inr (
@@ -169,7 +172,7 @@ module _ (m : Module) (s : Settings) (which : List Bool) (p : Module) (plan : Pl
             y.store,
             event_moment room fit plan.area.len (Base m) plan xs a at a' n cost k es es1 es2 y lawful l e (omega arith),
             told (es ++ (es1 ++ y ∷ [])) r.events al,
-            sees,
+            sees.0,
           )
 
       just_first : (r : Ran Held Note) → r.events ≡ [] → SameEnd (global_space m) plan.area (store_of a) (store_held r.last) → Says (after cm.notes_there r)
@@ -200,11 +203,49 @@ module _ (m : Module) (s : Settings) (which : List Bool) (p : Module) (plan : Pl
           (λ ge. subst (λ (r : Ran Held Note). Says r) (sym (run_on n ge)) (moment_on (n - (cm.cost + 1)) (omega arith)))
           (cases_lt n (cm.cost + 1))
 
+      -- ---- calls
+
+      -- a rewound entry calls the import that was told last
+      abbrev CallsTold : Ran Held Note → Type 0
+      CallsTold r = RewindsTo p (last_called (Some call) (events_of r.events)) r.last
+
+      calls_behind : (r : Ran Held Note) → RewindsTo p (last_called (last_called (Some call) (events_of cm.notes_there)) (events_of r.events)) r.last → CallsTold (after cm.notes_there r)
+      calls_behind r h =
+          let same : last_called (last_called (Some call) (events_of cm.notes_there)) (events_of r.events) ≡ last_called (Some call) (events_of (cm.notes_there ++ r.events)) =
+          sym (last_on (Some call) (events_of cm.notes_there) (events_of r.events)) ∙ ap (last_called (Some call)) (sym (events_on cm.notes_there r.events)) in
+          subst (λ (c : Option Call). RewindsTo p c r.last) same h
+
+      calls_on : (j : ℕ) → j ≤ n → CallsTold (after cm.notes_there (run (protocol p (exports_of p) plan) j cm.on))
+      calls_on j le =
+          calls_behind (run pr j cm.on)
+          (⊎_elim
+          (λ lt.
+          let q = cm.behind in
+          forwards_asks p (last_called (last_called (Some call) (events_of cm.notes_there)) (events_of (run pr j cm.on).events)) (run pr j cm.on).last
+          (silent_forwards p (exports_of p) plan j cm.on cm.forwards (q.each j (omega arith)).0))
+          (λ ge.
+          subst (λ (r : Ran Held Note). RewindsTo p (last_called (last_called (Some call) (events_of cm.notes_there)) (events_of r.events)) r.last) (sym (run_to j ge))
+          (moment_calls room fit m s which p plan R (j - cm.more) a (run pr (j - cm.more) cm.to) (last_called (Some call) (events_of cm.notes_there))
+          (moment State Held Note Note ne pr R Q (dear_of m) (Sees m s which p (exports_of p) plan) (Sees_at m s which p (exports_of p) plan) sim
+          (j - cm.more) (j - cm.more) cm.left a cm.to (sim.less n (j - cm.more) cm.left a cm.to cm.rel (omega arith)) (omega arith))))
+          (cases_lt j cm.more))
+
+      again : CallsTold (run (protocol p (exports_of p) plan) n b)
+      again =
+          ⊎_elim
+          (λ lt.
+          let q = cm.silent in
+          let none : events_of (run pr n b).events ≡ [] = ap events_of (q.each n (omega arith)).0 in
+          subst (λ es. RewindsTo p (last_called (Some call) es) (run pr n b).last) (sym none) (cm.calls n (omega arith)))
+          (λ ge. subst CallsTold (sym (run_on n ge)) (calls_on (n - (cm.cost + 1)) (omega arith)))
+          (cases_lt n (cm.cost + 1))
+
       -- FROM ANY RELATED PAIR
-      pub behaves_from : BehavesFrom m s p plan which n before stack xs a b
+      pub behaves_from : BehavesFrom m s p plan which n before call stack xs a b
       behaves_from = record {
         reaches = reaches;
         follows = prefix_of_begins Q same_event (expected_from m s plan xs a n) (run pr n b).events begins_expected;
         notes = begins_right Q (expected_from m s plan xs a n) (run pr n b).events begins_expected;
         moments = moments;
+        again = again;
       }

@@ -1,7 +1,7 @@
 -- Along a run that is compared: the way to a pause of the original, and from a store that holds it the rest of the run.
 use Rattle.std.proofs.Common.{List, Some, [], ap, arith, false, subst, suc, sym, ℕ, ◌*◌, ◌+◌, ◌++◌, ◌-◌, ◌≤◌, ◌∙◌, ◌∷◌, ◌≡◌, refl, length}
 use Rattle.wa_types.specs.Frames.{Fit, Room, Suspended}
-use Rattle.run_theory.proofs.FromMoves.{events_of_alike}
+use Rattle.run_theory.proofs.FromMoves.{events_of_alike, events_on}
 use Rattle.run_theory.proofs.Runs.{leads_on}
 use Rattle.wa_model.specs.Behaves.{PausesNumbered, SameNote}
 use Rattle.wa_model.specs.Blocking.{Blocking, Left, Note, State, Task, an_entry, call_note, events_of, runs}
@@ -20,7 +20,7 @@ use Rattle.headline.specs.World.{World, WorldFits, base}
 use Rattle.headline.specs.WrittenRuns.{WrittenLaw}
 use Rattle.headline.proofs.FlatStretches.{gl, pr, xp}
 use Rattle.headline.proofs.FromOpenings.{StartFits, begin_both}
-use Rattle.headline.proofs.FromSimulation.{Begin, dear_on, dear_shown, events_on, na}
+use Rattle.headline.proofs.FromSimulation.{Begin, dear_on, dear_shown, na}
 use Rattle.headline.proofs.Reductions.{Allowed, LeftFits, Link, R, TopOf, r_begins, r_between, r_halts, r_runs}
 use Rattle.headline.proofs.Simulation.{Both}
 use Rattle.headline.proofs.ToldMoves.{Sees, Sees_at, dear_of}
@@ -82,7 +82,7 @@ module _ (w : World) (ft : WorldFits w) (sl : StoreLaws w) (L : (top spare : ℕ
     abbrev SeesThere : State → Held → Type 0
     SeesThere = Sees w.original w.settings w.which w.written (xp w) w.plan
 
-    abbrev SeesNote : Note → Held → Type 0
+    abbrev SeesNote : List Note → Note → Held → Type 0
     SeesNote = Sees_at w.original w.settings w.which w.written (xp w) w.plan
 
     abbrev a0 : State

@@ -51,6 +51,7 @@ use Rattle.image_laws.specs.Image.{ComesThere, ComesToPause, GoesOnFrom, HoldsPa
 use Rattle.image_laws.proofs.Apart.{ApartLaw}
 use Rattle.image_laws.proofs.ApartLevels.{ApartCalls, apart_sums}
 use Rattle.image_laws.proofs.AtPause.{HeldThere, HoldsLaw}
+use Rattle.image_laws.proofs.TakenAgain.{stopped_taken}
 use Rattle.image_laws.proofs.ChosenStacks.{AllTyped, Chosen, choose, no_lay, waits_chosen}
 use Rattle.image_laws.proofs.GoesOn.{comes_to, goes_on}
 use Rattle.image_laws.proofs.KnownAgain.{FitsLaw, KnownLaw, fits_known, known_again}
@@ -143,7 +144,7 @@ module _ (m : Module) (s : Settings) (which : List Bool) (frames : (index : ℕ)
         → All (StandsNumbered m s which) (stack_of (Base m) c) → (cs ws : List Activation)
         → (st : Stopped (setting w top) i cs ws) → AllPairs (Base m) which (c.here ∷ c.under) cs → AllSameFlat no_lay (f.here ∷ f.under) cs
         → AllTyped (f.here ∷ f.under) cs → AllLocalsFit p ws → HoldsStack mem at (levels_of (setting w top) k.lay st)
-        → HeldThere w W1 top i d mem at
+        → HeldThere w W1 top i d f.here.taken mem at
     made top i d c f mem at live l nums [] ws st pairs same types fit holds = absurd same
     made top i d c f mem at live l nums (a ∷ cs) [] st pairs same types fit holds =
         let n = under_count (sides_of (setting w top)) i (a ∷ cs) [] (waits_law (setting w top) i (a ∷ cs) [] st) in
@@ -154,6 +155,7 @@ module _ (m : Module) (s : Settings) (which : List Bool) (frames : (index : ℕ)
       here = b;
       under = ws;
       st = st;
+      took = let h = same.0 in stopped_taken (setting w top) i _ _ st a b cs ws refl refl ∙ h.taken;
       fit = fit;
       holds = holds;
     }

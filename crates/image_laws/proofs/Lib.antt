@@ -20,5 +20,6 @@ pub mod LiveHeld
 pub mod Reached
 pub mod Restored
 pub mod SameStores
+pub mod TakenAgain
 pub mod ToPause
 pub mod Unwinding

@@ -26,7 +26,7 @@ use Rattle.run_laws.proofs.OwnEnds.{Own}
 use Rattle.world_laws.specs.Originals.{SameMoment, new_calls}
 use Rattle.world_laws.proofs.Counting.{Live, Tells, after_tells, behind_live, protocol_tells}
 use Rattle.world_laws.proofs.Stories.{IsStory, told_so}
-use Rattle.image_laws.specs.Image.{BehavesFrom, ComesThere, ComesToPause, GoesOnFrom, HoldsPause, IsMomentFrom, Pause, RestBound, UntilBound, answer_there, expected_from, goes_on_there, held_at_pause, held_rest, held_there, left_there, rest_of_cost, stack_there}
+use Rattle.image_laws.specs.Image.{BehavesFrom, ComesThere, ComesToPause, GoesOnFrom, HoldsPause, IsMomentFrom, Pause, RestBound, UntilBound, answer_there, call_there, expected_from, goes_on_there, held_at_pause, held_rest, held_there, left_there, rest_of_cost, stack_there}
 use Rattle.joined_worlds.proofs.FoundPauses.{In, in_two}
 use Rattle.joined_worlds.proofs.JoinedNotes.{bound_above, expected_before, expected_so, front, front_without, got_behind, got_first, moment_behind, moment_on, prefix_length, without_append}
 use Rattle.joined_worlds.proofs.Matches.{Matched, matched, runs_so}
@@ -121,7 +121,7 @@ module _ (o : Original) (p q : Module) (which : List Bool) (os : List Outcome) (
       ∙ ap (held_at_pause q plan e import a t) it.left_is
 
   abbrev Goes : ℕ → Held → Type 0
-  Goes n b = BehavesFrom m s q plan which n x.waits.store (stack_there m x) (answer_there x) (goes_on_there x) b
+  Goes n b = BehavesFrom m s q plan which n x.waits.store (call_there x) (stack_there m x) (answer_there x) (goes_on_there x) b
 
   goes_so : Goes (N - used) halt
   goes_so = subst (Goes (N - used)) there_is (subst (λ (n : ℕ). Goes n (held_there q plan x t)) rest_is (known.goes_on long long_most x it.there long_least t holds))

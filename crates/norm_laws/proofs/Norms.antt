@@ -1,5 +1,5 @@
 -- What the bytes of a module spell: the same runs, valid where the module is, and rewritten where the module is.
-use Rattle.std.proofs.Common.{◌≡◌, ℕ, zero, suc, ◌+◌, List, [], ◌∷◌, ◌++◌, length, map, drop, Some, Bool, refl, sym, ap, ◌∙◌, subst, arith}
+use Rattle.std.proofs.Common.{◌≡◌, ℕ, zero, suc, ◌+◌, List, [], ◌∷◌, ◌++◌, length, map, drop, Option, Some, None, Bool, refl, sym, ap, ◌∙◌, subst, arith}
 use Rattle.std.specs.Prelude.{slice_get}
 use Rattle.std.specs.List.{flat_map}
 use Rattle.std.proofs.Math.Seq.{drop-append_seam}
@@ -18,18 +18,20 @@ use Rattle.wa_types.specs.Validity.{all_below, exported, start_fits, Valid}
 use Rattle.run_theory.specs.FlatFits.{one_run}
 use Rattle.wa_model.specs.Machine.{Ran}
 use Rattle.wa_model.specs.Plan.{Plan, Outcome}
-use Rattle.wa_model.specs.Outside.{Event}
+use Rattle.wa_model.specs.Outside.{Call, Event}
 use Rattle.wa_model.specs.Store.{Store}
 use Rattle.wa_model.specs.Blocking.{Note, events_of, Blocking}
-use Rattle.wa_model.specs.Protocol.{Held, Protocol, store_held}
+use Rattle.wa_model.specs.Protocol.{Held, Protocol, aside, busy, calling, entering, free, is_running, over, rewinds, starting, store_held, unwinds}
+use Rattle.wa_model.specs.Step.{step}
+use Rattle.wa_model.specs.Configuration.{Configuration}
 use Rattle.wa_model.specs.Expected.{SameEnd}
-use Rattle.wa_model.specs.Behaves.{Behaves, IsPrefix, pause_stacks, expected_notes, without_pauses, IsMoment, BehavesOn, RunsAlike, SameWhole}
+use Rattle.wa_model.specs.Behaves.{Behaves, IsPrefix, pause_stacks, expected_notes, without_pauses, IsMoment, BehavesOn, MakesCall, RewindsTo, RunsAlike, SameWhole, last_called}
 use Rattle.wa_model.specs.Rewrites.{RewritesBy, RewritesButRuns, SameFunc, RewrittenFunc}
 use Rattle.norm_laws.specs.Bare.{one_by_one, bare}
 use Rattle.norm_laws.specs.NormLaws.{NormBlocking, NormProtocol, NormIsValid, NormIsRewritten}
 use Rattle.norm_laws.proofs.Locals.{merged_keeps, merged_once}
 use Rattle.norm_laws.proofs.Customs.{lowered_all, lowered_twice}
-use Rattle.norm_laws.proofs.BareRuns.{bare_blocking, bare_protocol}
+use Rattle.norm_laws.proofs.BareRuns.{bare_blocking, bare_protocol, bare_steps}
 
 abbrev pub merged_func : Func → Func
 merged_func f = record f { locals = merged f.locals }
@@ -53,6 +55,21 @@ norm_blocking m plan os n = sym (bare_blocking (Norm m) plan os n) ∙ ap (λ (q
 
 pub norm_protocol : NormProtocol
 norm_protocol p plan os n = sym (bare_protocol (Norm p) plan os n) ∙ ap (λ (q : Module). Protocol q plan os n) (bare_norm p) ∙ bare_protocol p plan os n
+
+norm_steps : (p : Module) (c : Configuration) → step (Norm p) c ≡ step p c
+norm_steps p c = sym (bare_steps (Norm p) c) ∙ ap (λ (q : Module). step q c) (bare_norm p) ∙ bare_steps p c
+
+-- a rewound entry calls the same import
+rewinds_same : (p : Module) (told : Option Call) (h : Held) → RewindsTo p told h → RewindsTo (Norm p) told h
+rewinds_same p told (free s l) r = tt
+rewinds_same p told (starting f s l) r = tt
+rewinds_same p told (busy (is_running task) c l) r = tt
+rewinds_same p told (busy (unwinds e i a) c l) r = tt
+rewinds_same p told (busy (rewinds e i a sp) c l) r = subst (MakesCall told) (sym (norm_steps p c)) r
+rewinds_same p told (calling ph s f args th l) r = tt
+rewinds_same p told (aside ph c th l) r = tt
+rewinds_same p told (entering ph e s l) r = tt
+rewinds_same p told (over s) r = tt
 
 -- ---- valid
 
@@ -155,6 +172,8 @@ module _ (m : Module) (s : Settings) (p : Module) where
         notes = λ i y e. r.notes i y (subst (λ (q : Ran Held Note). slice_get q.events i ≡ Some y) (norm_protocol p plan os n) e);
         moments = subst (λ (q : Ran Held Note). (events : List Event) × (at : Store) × IsMoment m plan os n events at
             × (events ≡ without_pauses (events_of q.events)) × SameEnd (global_space m) plan.area at (store_held q.last)) (sym (norm_protocol p plan os n)) r.moments;
+        again = subst (λ (q : Ran Held Note). RewindsTo (Norm p) (last_called None (events_of q.events)) q.last) (sym (norm_protocol p plan os n))
+            (rewinds_same p (last_called None (events_of (Protocol p plan os n).events)) (Protocol p plan os n).last r.again);
       }
 
   rewritten_kept : (which : List Bool) (f g : Func) → RewrittenFunc m s p which f g → RewrittenFunc m s (Norm p) which f (merged_func g)

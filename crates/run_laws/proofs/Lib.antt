@@ -2,6 +2,7 @@ pub mod Acts
 mod BlockingForks
 pub mod BlockingRuns
 pub mod Bytes
+pub mod CallArgs
 pub mod Counted
 pub mod Ending
 pub mod Exported

@@ -1,5 +1,5 @@
 -- A module that behaves like its original does so under a plan that tells no list.
-use Rattle.std.proofs.Common.{◌≡◌, ℕ, zero, suc, ◌+◌, ◌-◌, ◌≤◌, List, [], ◌∷◌, ◌++◌, length, take, Some, Bool, true, false, All, refl, sym, ap, ◌∙◌, subst, arith, append_assoc, inl, inr}
+use Rattle.std.proofs.Common.{None, ◌≡◌, ℕ, zero, suc, ◌+◌, ◌-◌, ◌≤◌, List, [], ◌∷◌, ◌++◌, length, take, Some, Bool, true, false, All, refl, sym, ap, ◌∙◌, subst, arith, append_assoc, inl, inr}
 use Rattle.std.specs.Prelude.{slice_get}
 use Rattle.std.proofs.lemmas.List.Elements.{All-head, All-tail}
 use Rattle.wa_types.specs.Base.{Base}
@@ -17,7 +17,7 @@ use Rattle.wa_model.specs.Blocking.{Note, State, events_of, is_unlisted, blockin
 use Rattle.wa_model.specs.Protocol.{Held, Protocol, store_held}
 use Rattle.wa_model.specs.Untouched.{IsCalm}
 use Rattle.wa_model.specs.Expected.{Expected, SameEnd}
-use Rattle.wa_model.specs.Behaves.{Behaves, BehavesOn, Compared, IsMoment, IsPrefix, PausesNumbered, SameNote, expected_notes, pause_stacks, protocol_notes, without_pauses}
+use Rattle.wa_model.specs.Behaves.{Behaves, BehavesOn, Compared, IsMoment, IsPrefix, PausesNumbered, RewindsTo, SameNote, expected_notes, last_called, pause_stacks, protocol_notes, without_pauses}
 use Rattle.run_theory.proofs.Runs.{prefix_of_longer}
 use Rattle.run_laws.proofs.StandingPauses.{pauses_at_numbers}
 use Rattle.run_laws.specs.ListedPauses.{BehavesUntold, BehavesWhereListed, ComparedUntold, PauseListed, PausesListed, told}
@@ -164,6 +164,7 @@ module _ (m : Module) (s : Settings) (p : Module) (which : List Bool) (plan : Pl
             mo.3 ∙ ap (λ (r : Ran Held Note). without_pauses (events_of r.events)) (sym same_made),
             subst (λ (r : Ran Held Note). SameEnd (global_space m) plan.area mo.1 (store_held r.last)) (sym same_made) mo.4,
           );
+          again = subst (λ (r : Ran Held Note). RewindsTo p (last_called None (events_of r.events)) r.last) (sym same_made) on.again;
         }
 
   expected_same : expected_notes m s plan' os n ≡ E

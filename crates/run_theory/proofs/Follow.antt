@@ -46,13 +46,13 @@ split_on [] ys x = refl
 split_on (y ∷ xs) ys x = ap (λ zs. y ∷ zs) (split_on xs ys x)
 
 module _ (SA SB EA EB : Type 0) (na : SA → Turn SA EA) (nb : SB → Turn SB EB) (R : (n spare : ℕ) → SA → SB → Type 0) (Q : EA → EB → Type 0) (dear : List EA → ℕ) (Sees : SA → SB → Type 0)
-    (Sees_at : EA → SB → Type 0) where
+    (Sees_at : List EA → EA → SB → Type 0) where
   -- Where B stands within a match: it has made the events of A before the move, or all of the move, or those up to one of its
-  -- events.
+  -- events. What is seen there may depend on those before it.
   pub data On_way (k : ℕ) (es : List EA) (a a' : SA) (m : ℕ) (r : Ran SB EB) : Type 0 where
     not_yet : r.events ≡ [] → Sees a r.last → On_way k es a a' m r
     all_made : suc k ≤ m → Alike Q es r.events → Sees a' r.last → On_way k es a a' m r
-    up_to : (es1 es2 : List EA) (x : EA) → suc k ≤ m → es ≡ es1 ++ x ∷ es2 → Alike Q (es1 ++ x ∷ []) r.events → Sees_at x r.last → On_way k es a a' m r
+    up_to : (es1 es2 : List EA) (x : EA) → suc k ≤ m → es ≡ es1 ++ x ∷ es2 → Alike Q (es1 ++ x ∷ []) r.events → Sees_at es1 x r.last → On_way k es a a' m r
 
   -- as long as nothing is made
   abbrev pub Waits : SA → SB → ℕ → Type 0

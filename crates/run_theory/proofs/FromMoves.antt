@@ -40,7 +40,7 @@ module _ (Q : Note → Note → Type 0) where
   events_of_alike same (x ∷ xs) [] h = absurd h
   events_of_alike same (x ∷ xs) (y ∷ ys) h = ap (λ e. e ∷ events_of xs) (same x y h.0) ∙ ap (λ es. y.event ∷ es) (events_of_alike same xs ys h.1)
 
-events_on : (xs ys : List Note) → events_of (xs ++ ys) ≡ events_of xs ++ events_of ys
+pub events_on : (xs ys : List Note) → events_of (xs ++ ys) ≡ events_of xs ++ events_of ys
 events_on [] ys = refl
 events_on (x ∷ xs) ys = ap (λ es. x.event ∷ es) (events_on xs ys)
 

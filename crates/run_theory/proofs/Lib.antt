@@ -23,6 +23,7 @@ pub mod QuietBehave
 pub mod QuietCases
 pub mod QuietRewritten
 pub mod QuietRuns
+pub mod Rewound
 pub mod Runs
 pub mod RuntimeValid
 pub mod ShownMoments

@@ -6,7 +6,7 @@ use Rattle.run_theory.proofs.Runs.{leads_run}
 use Rattle.run_theory.proofs.Follow.{Alike, alike_on, On_way, not_yet, all_made, up_to, Match, Follows}
 
 module _ (SA SB EA EB : Type 0) (na : SA → Turn SA EA) (nb : SB → Turn SB EB) (R : (n spare : ℕ) → SA → SB → Type 0) (Q : EA → EB → Type 0) (dear : List EA → ℕ) (Sees : SA → SB → Type 0)
-    (Sees_at : EA → SB → Type 0) where
+    (Sees_at : List EA → EA → SB → Type 0) where
   abbrev M : (n spare k : ℕ) → List EA → SA → SA → SB → Type 0
   M = Match SA SB EA EB na nb R Q dear Sees Sees_at
 
@@ -17,7 +17,7 @@ module _ (SA SB EA EB : Type 0) (na : SA → Turn SA EA) (nb : SB → Turn SB EB
   pub data Moment (n : ℕ) (a : SA) (r : Ran SB EB) : Type 0 where
     at_state : (cost : ℕ) (es : List EA) (at : SA) → Leads na a cost es at → cost ≤ n → Alike Q es r.events → Sees at r.last → Moment n a r
     at_event : (cost k : ℕ) (es es1 es2 : List EA) (x : EA) (at a' : SA) → Leads na a cost es at → na at ≡ goes k (es1 ++ x ∷ es2) a' → cost + suc k ≤ n
-        → Alike Q (es ++ (es1 ++ x ∷ [])) r.events → Sees_at x r.last → Moment n a r
+        → Alike Q (es ++ (es1 ++ x ∷ [])) r.events → Sees_at es1 x r.last → Moment n a r
 
   module _ (f : Follows SA SB EA EB na nb R Q dear Sees Sees_at) where
     alike_none : (es : List EB) → es ≡ [] → Alike Q [] es
@@ -32,7 +32,7 @@ module _ (SA SB EA EB : Type 0) (na : SA → Turn SA EA) (nb : SB → Turn SB EB
         at_event (suc k + cost) j (es ++ es1) es2 es3 x at b (moves e l refl refl) eb (omega arith)
         (subst (λ q. Alike Q ((es ++ es1) ++ (es2 ++ x ∷ [])) q.events) (sym er)
         (subst (λ xs. Alike Q xs (fs ++ s.events)) (sym (append_assoc es es1 (es2 ++ x ∷ []))) (alike_on Q es (es1 ++ (es2 ++ x ∷ [])) fs s.events al al1)))
-        (subst (λ q. Sees_at x q.last) (sym er) sees)
+        (subst (λ q. Sees_at es2 x q.last) (sym er) sees)
 
     on_the_way : (n k : ℕ) (es : List EA) (a a' : SA) (b : SB) → na a ≡ goes k es a' → suc k ≤ n → Way k es a a' n (run nb n b) → Moment n a (run nb n b)
     on_the_way n k es a a' b e enough (not_yet none sees) = at_state 0 [] a stays (omega arith) (alike_none (run nb n b).events none) sees

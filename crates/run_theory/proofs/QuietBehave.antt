@@ -18,13 +18,14 @@ use Rattle.wa_model.specs.Plan.{AreLawful, EntryFits, Plan, Outcome, OutcomeFits
 use Rattle.wa_model.specs.Blocking.{Note, events_of, Blocking, store_of}
 use Rattle.wa_model.specs.Protocol.{Held, exports_of, protocol, Protocol, store_held}
 use Rattle.wa_model.specs.Expected.{shown_at, shown, SameEnd}
-use Rattle.wa_model.specs.Behaves.{IsPrefix, pause_stacks, PausesNumbered, expected_notes, protocol_notes, AtPaused, AreaKept, SameNote, unless_pause, without_pauses, BehavesOn, Behaves}
+use Rattle.wa_model.specs.Behaves.{IsPrefix, pause_stacks, PausesNumbered, expected_notes, protocol_notes, AtPaused, AreaKept, SameNote, last_called, unless_pause, without_pauses, BehavesOn, Behaves}
 use Rattle.run_theory.specs.Laws.{held_start_of}
 use Rattle.run_theory.specs.Quiet.{NeverPauses}
 use Rattle.run_theory.proofs.Runs.{prefix_of_longer, prefix_on}
 use Rattle.run_theory.proofs.Follow.{Alike}
 use Rattle.run_theory.proofs.FromMoves.{events_of_alike}
 use Rattle.run_theory.proofs.QuietRuns.{StoreAgrees, NoteAgrees, agree}
+use Rattle.run_theory.proofs.Rewound.{NoPause, NonePaused, forwards_asks, protocol_forwards}
 
 -- ---- notes that agree
 
@@ -64,6 +65,20 @@ not_paused (answered v) T h = tt
 not_paused (returned i v) T h = tt
 not_paused (ended how) T h = tt
 not_paused (was_shown at bytes) T h = tt
+
+no_pause : (e : Event) → unless_pause e ≡ Some e → NoPause e
+no_pause (paused ticks used) h = cc
+no_pause (called c) h = tt
+no_pause (answered v) h = tt
+no_pause (returned i v) h = tt
+no_pause (ended how) h = tt
+no_pause (was_shown at bytes) h = tt
+
+none_paused : (g : ℕ) (xs ys : List Note) → Alike (NoteAgrees g) xs ys → NonePaused ys
+none_paused g [] [] h = tt
+none_paused g [] (y ∷ ys) h = absurd h
+none_paused g (x ∷ xs) [] h = absurd h
+none_paused g (x ∷ xs) (y ∷ ys) h = let q = h.0 in (no_pause y.event (subst (λ e. unless_pause e ≡ Some e) q.event q.plain), none_paused g xs ys h.1)
 
 same_end : (g : ℕ) (area : Area) (s s' : Store) → StoreAgrees g s s' → SameEnd g area s s'
 same_end g area s s' h = record {
@@ -147,6 +162,7 @@ module _ (m : Module) (s : Settings) (valid : Valid m) (never : NeverPauses m s)
       none_left_out g xs ys alike,
       same_end g plan.area (store_of (Blocking m plan os n).last) (store_held (Protocol p plan os n).last) (agree m s valid never which tells plan os n globals lawful outcomes pauses).1,
     );
+    again = forwards_asks p (last_called None (events_of ys)) (Protocol p plan os n).last (protocol_forwards p plan os n (none_paused g xs ys alike));
   }
 
 pub quiet_behaves : (m : Module) (s : Settings) → Valid m → NeverPauses m s → Behaves m s (with_runtime m)

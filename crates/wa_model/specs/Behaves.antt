@@ -1,5 +1,5 @@
 -- What a rewritten module owes its original: the headline's relation on runs.
-use Rattle.std.specs.Prelude.{◌≡◌, ℕ, suc, ◌+◌, ◌≤◌, ◌<◌, ◌⊎◌, ◌++◌, List, [], map, take, Option, Some, None, Bool, true, false, All, Contains, slice_get}
+use Rattle.std.specs.Prelude.{◌≡◌, ℕ, suc, ◌+◌, ◌≤◌, ◌<◌, ◌⊎◌, ◌++◌, List, [], ◌∷◌, map, take, Option, Some, None, Bool, true, false, All, Contains, slice_get}
 use Rattle.std.specs.List.{filter_map}
 use Rattle.wa_types.specs.declared.values.Value.TheVariants as V
 use Rattle.wa_types.specs.Syntax.{Func, Module}
@@ -13,12 +13,13 @@ use Rattle.wa_types.specs.Runtime.{global_space}
 use Rattle.wa_model.specs.declared.answers.Area.{Area}
 use Rattle.wa_model.specs.declared.events.End.{End}
 use Rattle.wa_model.specs.declared.events.End.TheVariants.{BytesOut, ElementsOut, HostLimit, UnwindTrap}
-use Rattle.wa_model.specs.Outside.{Event, paused, ended}
+use Rattle.wa_model.specs.Outside.{Call, Event, called, paused, ended}
 use Rattle.wa_model.specs.Store.{Store}
 use Rattle.wa_model.specs.Plan.{AreLawful, EntryFits, Plan, Outcome, given, refused, OutcomeFits, Fits}
 use Rattle.wa_model.specs.Blocking.{Note, events_of, Blocking, store_of}
 use Rattle.wa_model.specs.Untouched.{Untouched}
-use Rattle.wa_model.specs.Protocol.{Protocol, store_held}
+use Rattle.wa_model.specs.Protocol.{Held, Protocol, busy, rewinds, store_held}
+use Rattle.wa_model.specs.Step.{Next, asks, step}
 use Rattle.wa_model.specs.Expected.{Expected, SameEnd}
 
 -- the first list begins the second
@@ -117,6 +118,26 @@ IsMoment m plan os n events s =
     ((j : ℕ) × (j ≤ n) × (events ≡ events_of (Blocking m plan os j).events) × (s ≡ store_of (Blocking m plan os j).last))
     ⊎ ((i : ℕ) × (x : Note) × (slice_get (Blocking m plan os n).events i ≡ Some x) × (events ≡ events_of (take (suc i) (Blocking m plan os n).events)) × (s ≡ x.store))
 
+-- the call of an import that is told last behind this event
+abbrev pub then_called : Option Call → Event → Option Call
+then_called before (called c) = Some c
+then_called before _ = before
+
+-- the call of an import that these events tell last, else the one before them
+abbrev pub last_called : Option Call → List Event → Option Call
+last_called before [] = before
+last_called before (e ∷ events) = last_called (then_called before e) events
+
+-- a reduction that calls an import makes this call
+abbrev pub MakesCall : Option Call → Next → Type 0
+MakesCall told (asks k import args waits) = told ≡ Some (record { import = import; args = args })
+MakesCall told _ = Unit {0}
+
+-- where a rewound entry calls an import, it makes this call
+abbrev pub RewindsTo : Module → Option Call → Held → Type 0
+RewindsTo p told (busy (rewinds e i a at_pause) c l) = MakesCall told (step p c)
+RewindsTo p told _ = Unit {0}
+
 -- The rewritten p behaves like m, for one plan, outcomes and cost, where these notes are expected of m's run; `which` tells what may pause.
 pub record BehavesOn (m : Module) (s : Settings) (p : Module) (plan : Plan) (os : List Outcome) (n : ℕ) (which : List Bool) (expected : List Note) : Type 0 where
   -- it gets as far, within the bound
@@ -128,6 +149,8 @@ pub record BehavesOn (m : Module) (s : Settings) (p : Module) (plan : Plan) (os 
   -- between events too the store is one that the original has at a moment with the same events
   pub moments : (events : List Event) × (at : Store) × IsMoment m plan os n events at × (events ≡ without_pauses (events_of (protocol_notes p plan os n)))
       × SameEnd (global_space m) plan.area at (store_held (Protocol p plan os n).last)
+  -- a rewound entry comes back to the call of an import that was told last, with its arguments
+  pub again : RewindsTo p (last_called None (events_of (protocol_notes p plan os n))) (Protocol p plan os n).last
 
 -- For every plan, outcomes and cost at which each pause finds its activations at numbered calls, the rewritten module behaves like its
 -- original, whose numbers lie in the ranges of their types: else what passes through a frame comes back changed.
@@ -155,12 +178,13 @@ pub record SameWhole (globals : ℕ) (s s' : Store) : Type 0 where
   pub globals_same : (x : ℕ) → x < globals → slice_get s.globals x ≡ slice_get s'.globals x
   pub memory : s.memory ≡ s'.memory
 
--- one event, and such stores
+-- One event, and such stores; where the module may be called the state, the global behind the original's, is 0.
 pub record SameAt (globals : ℕ) (x y : Note) : Type 0 where
   pub event : x.event ≡ y.event
   pub stores : SameWhole globals x.store y.store
+  pub state : AtCalls y.event (slice_get y.store.globals globals ≡ Some (V.I32 0))
 
--- The rewritten module does what its original does with blocking imports, for one plan, outcomes and cost: fields as those of `BehavesOn`.
+-- The rewritten module does what its original does with blocking imports, for one plan, outcomes and cost: fields as the first four of `BehavesOn`.
 pub record RunsAlike (m p : Module) (plan : Plan) (os : List Outcome) (n : ℕ) : Type 0 where
   pub reaches : IsPrefix (events_of (Blocking m plan os n).events) (events_of (protocol_notes p plan os (Bound m n [])))
   pub follows : IsPrefix (events_of (protocol_notes p plan os n)) (events_of (Blocking m plan os n).events)
