@@ -35,7 +35,11 @@ pub(crate) fn fetch_snapshot<V: Vault>(
     ensures saves { V.save_faults vault.new ≡ V.save_faults vault.old }
 {
     match fetch_whole(alloc, vault, name, FETCH_LIMIT) {
-        Ok(bytes) => snapshot_in(alloc, &bytes),
+        Ok(mut bytes) => {
+            // Fetching leaves room for up to twice as many.
+            bytes.shrink_to_fit();
+            snapshot_in(alloc, &bytes)
+        }
         Err(FetchFault::Read) => Err(unread(alloc, name)),
         Err(FetchFault::Memory) => Err(Stop::Memory),
     }

@@ -1,5 +1,5 @@
 -- The snapshot in a file that was read.
-use Rattle.std.proofs.Common.{Err, List, ap, subst, ℕ}
+use Rattle.std.proofs.Common.{◌∙◌, Err, List, ap, subst, ℕ}
 use Rattle.std.proofs.lemmas.Result.{IfErr-weaker, IfOk-weaker}
 use Rattle.snapshot_store.specs.Views.{snapshot_of}
 use Rattle.script_command.specs.SnapshotViews.{IsText, NoText}
@@ -12,13 +12,13 @@ pub returns-in-Ok-clause-snapshot : goal.returns-in-Ok-clause-snapshot
 returns-in-Ok-clause-snapshot g c =
     IfOk-weaker c.snapshot_in.result _ _
     (λ s h. snapshot_held c.args.name.now c.in-Ok.bytes.items (g.V.Vault.files c.args.vault.now) (snapshot_of s) c.in-Ok.ensures.whole c.in-Ok.ensures.there
-    (subst (λ (b : List ℕ). IsText b (snapshot_of s)) c.deref.ensures.value h)) c.snapshot_in.ensures.snapshot
+    (subst (λ (b : List ℕ). IsText b (snapshot_of s)) (c.deref.ensures.value ∙ c.shrink_to_fit.ensures.items) h)) c.snapshot_in.ensures.snapshot
 
 pub returns-in-Ok-clause-none : goal.returns-in-Ok-clause-none
 returns-in-Ok-clause-none g c =
     IfErr-weaker c.snapshot_in.result _ _
     (λ stop h. none_held c.args.name.now c.in-Ok.bytes.items (g.V.Vault.files c.args.vault.now) _ _ stop (c.in-Ok.ensures.stays (λ e. cc)) c.in-Ok.ensures.whole c.in-Ok.ensures.there
-    (subst (λ (b : List ℕ). NoText b stop) c.deref.ensures.value h)) c.snapshot_in.ensures.none
+    (subst (λ (b : List ℕ). NoText b stop) (c.deref.ensures.value ∙ c.shrink_to_fit.ensures.items) h)) c.snapshot_in.ensures.none
 
 pub returns-in-Err-Read-clause-once : goal.returns-in-Err-Read-clause-once
 returns-in-Err-Read-clause-once g c = cannot_once _ _ _ _ (c.in-Err-Read.ensures.read (ap (λ (x : FetchFault). Err x) c.in-Err-Read.field-0-is))
