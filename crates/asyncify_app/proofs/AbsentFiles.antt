@@ -8,10 +8,10 @@ use Rattle.transcript.specs.Refused.{status_of}
 use Rattle.script_command.specs.declared.way.Way.TheVariants.{Host, Run}
 use Rattle.script_command.specs.Playing.{IsRead}
 use Rattle.script_command.specs.Ends as P
-use Rattle.snapshot_command.specs.Calls as D
-use Rattle.snapshot_command.specs.Ends as E
-use Rattle.snapshot_command.specs.Scripts as K
-use Rattle.snapshot_command.specs.Telling as W
+use Rattle.script_command.specs.SnapshotCalls as D
+use Rattle.script_command.specs.SnapshotEnds as E
+use Rattle.script_command.specs.PlainScripts as K
+use Rattle.script_command.specs.SnapshotTelling as W
 use Rattle.transform_command.specs.Ends as T
 use Rattle.transform_command.specs.Sources as S
 use Rattle.asyncify_app.specs.Ends.{Call, EndsBy, HasOneEnd, output_of, script_call, snapshot_call, transform_call}

@@ -1,5 +1,5 @@
 -- A call's end, from that of its command.
-use Rattle.std.proofs.Common.{◌≡◌, ◌⊎◌, ◌≤◌, inl, inr, ℕ, List, [], Option, Some, None, arith, refl, sym, subst}
+use Rattle.std.proofs.Common.{◌≡◌, ◌⊎◌, inl, inr, ℕ, List, [], Option, Some, None, arith, refl, sym, subst}
 use Rattle.vault_port.specs.Counts.{FailsOnce}
 use Rattle.vault_port.specs.Files.{Files, ChangesOnly, HoldsFrontAtMost}
 use Rattle.vault_port.specs.Told.{Becomes}
@@ -14,10 +14,9 @@ use Rattle.asyncify_app.specs.Printed as G
 use Rattle.script_command.specs.declared.way.Way.TheVariants.{Host, Run}
 use Rattle.script_command.proofs.Answering.{one_end}
 use Rattle.script_command.proofs.Ending.{out_of_memory_alone}
-use Rattle.snapshot_command.specs.Answers as N
-use Rattle.snapshot_command.specs.Calls as S
-use Rattle.snapshot_command.specs.Ends.{memory}
-use Rattle.transform_command.specs.Ends as T
+use Rattle.script_command.specs.SnapshotAnswers as N
+use Rattle.script_command.specs.SnapshotCalls as S
+use Rattle.script_command.specs.SnapshotEnds.{memory}
 use Rattle.transform_command.specs.Transforms.{RunsOutOfMemory}
 use Rattle.transform_command.proofs.OneEnd as TransformEnds
 use Rattle.transform_command.proofs.Printed.{memory_any}

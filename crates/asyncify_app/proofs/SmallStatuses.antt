@@ -9,8 +9,8 @@ use Rattle.script_command.specs.declared.way.Way.TheVariants.{Run}
 use Rattle.script_command.specs.Playing as P
 use Rattle.script_command.specs.Playing.{bad_line, bad_module, bad_script, refusal_of_cause}
 use Rattle.script_command.proofs.Statuses.{module_content, script_content}
-use Rattle.snapshot_command.specs.Scripts as K
-use Rattle.snapshot_command.specs.Scripts.{IsUnplayed, names_device, not_run, refusal_for}
+use Rattle.script_command.specs.PlainScripts as K
+use Rattle.script_command.specs.PlainScripts.{IsUnplayed, names_device, not_run, refusal_for}
 
 content_small : (r : Refusal) → IsOfContent r → status_of r ≤ 8
 content_small (malformed at) h = omega arith

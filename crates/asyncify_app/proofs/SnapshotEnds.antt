@@ -3,12 +3,12 @@ use Rattle.std.proofs.Common.{◌≡◌, ℕ, List, Option, arith, subst}
 use Rattle.vault_port.specs.Counts.{FailsOnce}
 use Rattle.vault_port.specs.Files.{Files}
 use Rattle.event_order.specs.Left.{Counted}
-use Rattle.snapshot_command.specs.Answers.{HasOneEnd}
-use Rattle.snapshot_command.specs.Calls.{Call, Deed, Output, call, continues, saves}
-use Rattle.snapshot_command.specs.Ends.{End, IsWhy, done, memory, refused, sink_fault, status_of_end}
-use Rattle.snapshot_command.specs.Scripts as K
-use Rattle.snapshot_command.specs.Scripts.{IsUnplayed}
-use Rattle.snapshot_command.specs.Telling.{Cause, IsCause, unplayed, unread, long, unwritten, unfit}
+use Rattle.script_command.specs.SnapshotAnswers.{HasOneEnd}
+use Rattle.script_command.specs.SnapshotCalls.{Call, Deed, Output, call, continues, saves}
+use Rattle.script_command.specs.SnapshotEnds.{End, IsWhy, done, memory, refused, sink_fault, status_of_end}
+use Rattle.script_command.specs.PlainScripts as K
+use Rattle.script_command.specs.PlainScripts.{IsUnplayed}
+use Rattle.script_command.specs.SnapshotTelling.{Cause, IsCause, unplayed, unread, long, unwritten, unfit}
 use Rattle.asyncify_app.proofs.SmallStatuses.{unplayed_small}
 
 pub unplayed_by : (deed : Deed) (c : Call) (cause : K.Cause) (text : List ℕ) → IsCause deed c (unplayed cause) text → IsUnplayed c.files c.script cause

@@ -15,9 +15,10 @@ use Rattle.script_command.specs.declared.way.Way.{Way}
 use Rattle.script_command.specs.declared.way.Way.TheVariants.{Host, Run}
 use Rattle.script_command.specs.Answers as A
 use Rattle.script_command.specs.Ends as P
-use Rattle.snapshot_command.specs.Answers as N
-use Rattle.snapshot_command.specs.Calls as S
+use Rattle.script_command.specs.SnapshotAnswers as N
+use Rattle.script_command.specs.SnapshotCalls as S
 use Rattle.transform_command.specs.Ends as T
+pub use Rattle.transform_command.specs.Ends.{IsRefusal}
 
 -- this holds where words play a script to its end
 abbrev pub OnScript : Option Spelled → Type 0 → Type 0

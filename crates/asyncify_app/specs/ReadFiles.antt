@@ -5,7 +5,7 @@ use Rattle.script_model.specs.Command.{transform}
 use Rattle.script_model.specs.Spelled.{Spelled, rewrites, hosts, runs, generates, saves, continues}
 use Rattle.script_command.specs.declared.way.Way.TheVariants.{Host, Run}
 use Rattle.script_command.specs.Playing.{IsRead}
-use Rattle.snapshot_command.specs.Scripts as S
+use Rattle.script_command.specs.PlainScripts as S
 
 -- the source, the script, the module of a program that is reached, or the snapshot to go on from
 abbrev pub IsReadBy : Option Spelled → Files → List ℕ → Type 0

@@ -1,9 +1,9 @@
 //! The program's one call: a command from its words to its status.
 //!
 //! `asyncify` runs the command that its words spell, over a vault of files, a sink for what it prints and devices that the caller lends:
-//! `transform`, which rewrites a module (`transform_command`); `host` and `run`, which play a script (`script_command`); `save` and
-//! `continue`, which keep one in a file and go on from there (`snapshot_command`); and `gen`, which writes a generated module (`gen_module`),
-//! has it rewritten and run through its one pause, and prints three lines on it (`specs/Printed.antt`).
+//! `transform`, which rewrites a module (`transform_command`); `host` and `run`, which play a script, and `save` and `continue`, which keep
+//! one in a file and go on from there (`script_command`); and `gen`, which writes a generated module (`gen_module`), has it rewritten and
+//! run through its one pause, and prints three lines on it (`specs/Printed.antt`).
 //!
 //! A caller may rely on this: a call has one end, by its status, with its reason, what it printed and what became of the files and the
 //! devices (`specs/Ends.antt`). What real files and a real terminal do with that stands in `asyncify_cli`.

@@ -5,12 +5,12 @@ ghost use Rattle.vault_port.specs.Counts.{FailsOnce};
 ghost use Rattle.host_laws.specs.Supplies.{IsLent};
 ghost use Rattle.transcript.specs.Refused.{CountsBy};
 ghost use Rattle.asyncify_app.specs.Devices.{counted_boxes};
-ghost use Rattle.snapshot_command.specs.Answers.{HasOneEnd};
-ghost use Rattle.snapshot_command.specs.Calls.{call, continues, output, saves};
-ghost use Rattle.snapshot_command.specs.Ends.{IsStatus};
+ghost use Rattle.script_command.specs.SnapshotAnswers.{HasOneEnd};
+ghost use Rattle.script_command.specs.SnapshotCalls.{call, continues, output, saves};
+ghost use Rattle.script_command.specs.SnapshotEnds.{IsStatus};
 
 use device_port::{Device, Devices};
-use snapshot_command::{SaveRequest, continue_script, save_script};
+use script_command::{SaveRequest, continue_script, save_script};
 use std::alloc::Global;
 use vault_port::{Sink, Vault};
 

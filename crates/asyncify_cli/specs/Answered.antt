@@ -7,9 +7,8 @@ use Rattle.script_model.specs.Spelled.{Spelled, rewriting}
 use Rattle.script_model.specs.Transcript.{read_fault, refusal_line, usage, write_fault}
 use Rattle.event_order.specs.Left.{Counted}
 use Rattle.transcript.specs.Refused.{CountsBy, Prints, PrintsMemory}
-use Rattle.transform_command.specs.Ends.{IsRefusal}
-use Rattle.transform_command.specs.Transforms.{IsCutShort, IsTransformed, PrintsRefusal, PrintsDone, PrintsLess, RunsOutOfMemory}
-use Rattle.asyncify_app.specs.Ends.{Call, HasOneEnd, OnScript}
+use Rattle.asyncify_app.specs.Transforms.{IsCutShort, IsTransformed, PrintsRefusal, PrintsDone, PrintsLess, RunsOutOfMemory}
+use Rattle.asyncify_app.specs.Ends.{Call, HasOneEnd, IsRefusal, OnScript}
 
 -- the program's devices, before they are asked
 abbrev pub own_devices : List Counted

@@ -3,10 +3,17 @@ pub mod Completeness
 pub mod Ends
 pub mod Faults
 pub mod HostedOriginals
+pub mod JoinedRuns
 pub mod Laws
 pub mod OfOriginals
+pub mod PlainScripts
 pub mod PlayedFaults
 pub mod Playing
 pub mod RunOriginals
+pub mod SnapshotAnswers
+pub mod SnapshotCalls
+pub mod SnapshotEnds
+pub mod SnapshotTelling
+pub mod SnapshotViews
 pub mod Transcripts
 pub mod Views

@@ -15,7 +15,7 @@ use Rattle.transcript.proofs.Counts.{refused_counts}
 use Rattle.asyncify_app.proofs.OneEnd.{memory_ends, memory_unread_words, spelled_ends}
 use Rattle.asyncify_app.proofs.Rewriting.{no_command, on_command, unwritten}
 use Rattle.asyncify_app.proofs.Statuses.{script_status, snapshot_status, transform_status}
-use Rattle.snapshot_command.specs.Calls.{continues, saves}
+use Rattle.script_command.specs.SnapshotCalls.{continues, saves}
 use Rattle.script_command.specs.declared.way.Way.TheVariants.{Host, Run}
 use Rattle.transform_command.proofs.OneEnd.{transform_ends}
 use Rattle.asyncify_app.proofs.command.asyncify.Goals as goal

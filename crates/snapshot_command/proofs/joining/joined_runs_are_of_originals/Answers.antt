@@ -1,5 +1,0 @@
-use Rattle.snapshot_command.proofs.JoinedRuns.{joined_runs}
-use Rattle.snapshot_command.proofs.joining.joined_runs_are_of_originals.Goals as goal
-
-pub returns : goal.returns
-returns c = joined_runs
