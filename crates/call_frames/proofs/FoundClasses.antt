@@ -62,11 +62,11 @@ has_within n [] gs h = absurd h
 has_within zero (c ∷ cs) gs h = omega arith
 has_within (suc n) (c ∷ cs) gs h = let ih = has_within n cs gs h in omega arith
 
-pub class_with : (cs : List CallClass) (i n : ℕ) (d x : CallClass) → i < length cs → x.calls.items ≡ (get_or cs i d).calls.items ++ n ∷ [] → x.fields ≡ (get_or cs i d).fields
+pub class_with : (cs : List CallClass) (i n : ℕ) (d x : CallClass) → i < length cs → x.calls ≡ (get_or cs i d).calls ++ n ∷ [] → x.fields ≡ (get_or cs i d).fields
     → class_parts (slice_set cs i x) ≡ with_call i n (class_parts cs)
 class_with [] i n d x lt ec ef = absurd (omega (arith, lt))
 class_with (c ∷ cs) zero n d x lt ec ef =
-    ap (λ ks. at_these ks (fields_of x.fields.items) ∷ class_parts cs) ec ∙ ap (λ fs. at_these (c.calls.items ++ n ∷ []) (fields_of fs.items) ∷ class_parts cs) ef
+    ap (λ ks. at_these ks (fields_of x.fields.items) ∷ class_parts cs) ec ∙ ap (λ fs. at_these (c.calls ++ n ∷ []) (fields_of fs.items) ∷ class_parts cs) ef
 class_with (c ∷ cs) (suc i) n d x lt ec ef = ap (λ ps. class_part c ∷ ps) (class_with cs i n d x (omega (arith, lt)) ec ef)
 
 -- ---- fields of a set

@@ -1,7 +1,6 @@
 -- Groups, parts and their sizes as the program makes them.
-use Rattle.std.proofs.Common.{◌≡◌, ◌∙◌, ℕ, zero, suc, ◌+◌, ◌-◌, ◌*◌, ◌<◌, ◌≤◌, List, [], ◌∷◌, ◌++◌, length, get_or, map, take, Bool, true, false, not, All, refl, sym, ap, arith}
-use Rattle.std.specs.Prelude.{◌==◌, if◌then◌else◌, slice_set, Vec}
-use Rattle.std.proofs.lemmas.Bool.{eqb-false}
+use Rattle.std.proofs.Common.{◌≡◌, ◌∙◌, ℕ, zero, suc, ◌+◌, ◌-◌, ◌*◌, ◌<◌, ◌≤◌, List, [], ◌∷◌, ◌++◌, length, get_or, map, take, Bool, true, false, nat_eq, All, refl, sym, ap, arith}
+use Rattle.std.specs.Prelude.{if◌then◌else◌, slice_set, Vec}
 use Rattle.std.specs.declared.alloc.Global.{Global}
 use Rattle.std.proofs.lemmas.List.{append-nil, append_assoc, map_more, map-append, take_all, take_more, length-map, length-take-le}
 use Rattle.std.proofs.lemmas.List.Elements.{All-head, All-tail}
@@ -73,25 +72,25 @@ pub first_group : (ks : List ℕ) (f : FrameField) (cs : List CallClass) → 1 �
 first_group ks f [] le e = some_calls ks f [] le
 first_group ks f (c ∷ cs) le e = absurd (omega (arith, e))
 
-field_apart : (ks : List ℕ) (f : FrameField) (cs : List CallClass) (i : ℕ) (d : CallClass) → i + 1 ≡ length cs → same_calls (get_or cs i d).calls.items ks ≡ false
+field_apart : (ks : List ℕ) (f : FrameField) (cs : List CallClass) (i : ℕ) (d : CallClass) → i + 1 ≡ length cs → same_calls (get_or cs i d).calls ks ≡ false
     → class_parts cs ++ at_these ks (f ∷ []) ∷ [] ≡ with_field ks f (class_parts cs)
 field_apart ks f [] i d e other = absurd (omega (arith, e))
-field_apart ks f (c ∷ []) zero d e other = ap (λ b. if b then at_these c.calls.items (fields_of c.fields.items ++ f ∷ []) ∷ [] else class_part c ∷ at_these ks (f ∷ []) ∷ []) (sym other)
+field_apart ks f (c ∷ []) zero d e other = ap (λ b. if b then at_these c.calls (fields_of c.fields.items ++ f ∷ []) ∷ [] else class_part c ∷ at_these ks (f ∷ []) ∷ []) (sym other)
 field_apart ks f (c ∷ []) (suc i) d e other = absurd (omega (arith, e))
 field_apart ks f (c ∷ b ∷ cs) zero d e other = absurd (omega (arith, e))
 field_apart ks f (c ∷ b ∷ cs) (suc i) d e other = ap (λ ps. class_part c ∷ ps) (field_apart ks f (b ∷ cs) i d (omega (arith, e)) other)
 
-pub next_group : (ks : List ℕ) (f : FrameField) (cs : List CallClass) (i : ℕ) (d : CallClass) → 1 ≤ length ks → i + 1 ≡ length cs → same_calls (get_or cs i d).calls.items ks ≡ false
+pub next_group : (ks : List ℕ) (f : FrameField) (cs : List CallClass) (i : ℕ) (d : CallClass) → 1 ≤ length ks → i + 1 ≡ length cs → same_calls (get_or cs i d).calls ks ≡ false
     → class_parts cs ++ at_these ks (f ∷ []) ∷ [] ≡ with_kept ks f (class_parts cs)
 next_group ks f cs i d le e other = field_apart ks f cs i d e other ∙ some_calls ks f (class_parts cs) le
 
-field_joins : (ks : List ℕ) (f : FrameField) (cs : List CallClass) (i : ℕ) (d x : CallClass) → i + 1 ≡ length cs → same_calls (get_or cs i d).calls.items ks ≡ true
+field_joins : (ks : List ℕ) (f : FrameField) (cs : List CallClass) (i : ℕ) (d x : CallClass) → i + 1 ≡ length cs → same_calls (get_or cs i d).calls ks ≡ true
     → x.calls ≡ (get_or cs i d).calls → fields_of x.fields.items ≡ fields_of (get_or cs i d).fields.items ++ f ∷ []
     → class_parts (slice_set cs i x) ≡ with_field ks f (class_parts cs)
 field_joins ks f [] i d x e same ec ef = absurd (omega (arith, e))
 field_joins ks f (c ∷ []) zero d x e same ec ef =
-    ap (λ (v : Vec ℕ Global). at_these v.items (fields_of x.fields.items) ∷ []) ec ∙ ap (λ fs. at_these c.calls.items fs ∷ []) ef
-    ∙ ap (λ b. if b then at_these c.calls.items (fields_of c.fields.items ++ f ∷ []) ∷ [] else class_part c ∷ at_these ks (f ∷ []) ∷ []) (sym same)
+    ap (λ ks. at_these ks (fields_of x.fields.items) ∷ []) ec ∙ ap (λ fs. at_these c.calls fs ∷ []) ef
+    ∙ ap (λ b. if b then at_these c.calls (fields_of c.fields.items ++ f ∷ []) ∷ [] else class_part c ∷ at_these ks (f ∷ []) ∷ []) (sym same)
 field_joins ks f (c ∷ []) (suc i) d x e same ec ef = absurd (omega (arith, e))
 field_joins ks f (c ∷ b ∷ cs) zero d x e same ec ef = absurd (omega (arith, e))
 field_joins ks f (c ∷ b ∷ []) (suc zero) d x e same ec ef = ap (λ ps. class_part c ∷ ps) (field_joins ks f (b ∷ []) zero d x refl same ec ef)
@@ -103,7 +102,7 @@ class_any [] i d e lt = absurd (omega (arith, lt))
 class_any (c ∷ cs) zero d e lt = refl
 class_any (c ∷ cs) (suc i) d e lt = class_any cs i d e (omega (arith, lt))
 
-pub same_group : (ks : List ℕ) (f : FrameField) (cs : List CallClass) (i : ℕ) (d x : CallClass) → 1 ≤ length ks → i + 1 ≡ length cs → same_calls (get_or cs i d).calls.items ks ≡ true
+pub same_group : (ks : List ℕ) (f : FrameField) (cs : List CallClass) (i : ℕ) (d x : CallClass) → 1 ≤ length ks → i + 1 ≡ length cs → same_calls (get_or cs i d).calls ks ≡ true
     → x.calls ≡ (get_or cs i d).calls → fields_of x.fields.items ≡ fields_of (get_or cs i d).fields.items ++ f ∷ []
     → class_parts (slice_set cs i x) ≡ with_kept ks f (class_parts cs)
 same_group ks f cs i d x le e same ec ef = field_joins ks f cs i d x e same ec ef ∙ some_calls ks f (class_parts cs) le
@@ -133,12 +132,9 @@ pub all_within : (types : List ValType) (x : ℕ) (sets : List (Vec Bool Global)
     → All (λ (set : Vec Bool Global). x < length set.items) sets
 all_within types x sets h lt k d l = let e = h k d l in omega (arith, e, lt)
 
-pub some_items : (v : Vec ℕ Global) (r : Bool) → r ≡ (v.len == 0) → r ≡ false → 1 ≤ length v.items
-some_items v r e f = by (length v.items) refl
-  where
-    by : (m : ℕ) → length v.items ≡ m → 1 ≤ length v.items
-    by zero q = absurd (eqb-false v.len 0 (sym e ∙ f) (v.ok.0 ∙ q))
-    by (suc m) q = omega (arith, q)
+pub some_calls_there : (ks : List ℕ) (r : Bool) → r ≡ nat_eq (length ks) 0 → r ≡ false → 1 ≤ length ks
+some_calls_there [] r e f = let bad : ⊥ = cc in absurd bad
+some_calls_there (k ∷ ks) r e f = omega arith
 
 pub last_place : (v : Vec CallClass Global) (n : ℕ) → n ≡ v.len → (n ≡ 0 → ⊥) → (n - 1) + 1 ≡ length v.items
 last_place v n e f = by n refl
@@ -146,21 +142,6 @@ last_place v n e f = by n refl
     by : (m : ℕ) → n ≡ m → (n - 1) + 1 ≡ length v.items
     by zero q = absurd (f q)
     by (suc m) q = let l = v.ok.0 in omega (arith, q, l, e)
-
--- the calls compared
-pub calls_where : (xs ys : List ℕ) (r : Bool) → r ≡ not (same_calls xs ys) → r ≡ false → same_calls xs ys ≡ true
-calls_where xs ys r e f = by (same_calls xs ys) (sym e ∙ f)
-  where
-    by : (b : Bool) → not b ≡ false → b ≡ true
-    by true h = refl
-    by false h = let bad : ⊥ = cc in absurd bad
-
-pub calls_other : (xs ys : List ℕ) (r : Bool) → r ≡ not (same_calls xs ys) → r ≡ true → same_calls xs ys ≡ false
-calls_other xs ys r e f = by (same_calls xs ys) (sym e ∙ f)
-  where
-    by : (b : Bool) → not b ≡ true → b ≡ false
-    by true h = let bad : ⊥ = cc in absurd bad
-    by false h = refl
 
 -- ---- parts made of a list that is walked
 
@@ -185,7 +166,7 @@ two_maps f g (c ∷ cs) = ap (λ ps. g (f c) ∷ ps) (two_maps f g cs)
 
 -- ---- sizes
 
-pub one_length : (c : CallClass) → parts_length (class_part c ∷ []) ≡ 3 * test_size c.calls.items + 13 + 6 * length c.fields.items
+pub one_length : (c : CallClass) → parts_length (class_part c ∷ []) ≡ 3 * test_size c.calls + 13 + 6 * length c.fields.items
 one_length c = let n = all_kept c.fields.items in omega (arith, n)
 
 length_join : (ps qs : List SavedPart) → parts_length (ps ++ qs) ≡ parts_length ps + parts_length qs

@@ -1,5 +1,5 @@
 -- What calls keep together, set by set.
-use Rattle.std.proofs.Common.{◌≡◌, ◌∙◌, ℕ, zero, suc, ◌+◌, ◌*◌, ◌<◌, ◌≤◌, List, [], ◌∷◌, length, drop, get_or, Bool, true, false, All, refl, sym, ap, arith, sum_by, cond}
+use Rattle.std.proofs.Common.{◌≡◌, ◌∙◌, ℕ, zero, suc, ◌+◌, ◌*◌, ◌<◌, ◌≤◌, List, [], ◌∷◌, length, drop, get_or, Bool, true, false, All, refl, ap, arith, cond}
 use Rattle.std.specs.Prelude.{Vec, count_by}
 use Rattle.std.specs.declared.alloc.Global.{Global}
 use Rattle.std.proofs.lemmas.List.{length-map}
@@ -7,7 +7,7 @@ use Rattle.std.proofs.lemmas.List.Elements.{All-head, All-tail}
 use Rattle.std.proofs.lemmas.List.Sums.{count_by-le-length, sum_by-cons}
 use Rattle.wa_types.specs.declared.values.ValType.{ValType}
 use Rattle.frame_laws.specs.Layout.{kept_count}
-use Rattle.call_frames.specs.Views.{fields_in, kept_total, kept_where, sets_of}
+use Rattle.call_frames.specs.Views.{fields_in, kept_total, sets_of}
 use Rattle.call_frames.proofs.ChoiceLemmas.{total_short}
 
 -- the fields of a set are as many as the locals that it has

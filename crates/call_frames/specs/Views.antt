@@ -20,7 +20,7 @@ fields_of ks = map kept_field ks
 
 -- a class of calls, as a part
 abbrev pub class_part : CallClass → SavedPart
-class_part c = at_these c.calls.items (fields_of c.fields.items)
+class_part c = at_these c.calls (fields_of c.fields.items)
 
 -- classes of calls, as parts
 abbrev pub class_parts : List CallClass → List SavedPart

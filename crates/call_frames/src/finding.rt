@@ -8,13 +8,14 @@ ghost use Rattle.call_frames.specs.Views.{class_part, class_parts, fields_of, se
 
 use crate::frames::{CallClass, KeptLocal};
 use crate::keeping::kept_locals;
+use crate::rows::Calls;
 use std::alloc::{AllocError, Global};
 use std::collections::BTreeMap;
 use wa_types::ValType;
 
 /// Notes one more call of a class.
 fn put_number(class: &mut CallClass, call: u32) -> Result<(), AllocError>
-    ensures calls { OnOk result (class.new.calls.items ≡ class.old.calls.items ++ call ∷ []) }
+    ensures calls { OnOk result (class.new.calls ≡ class.old.calls ++ call ∷ []) }
     ensures fields { class.new.fields ≡ class.old.fields }
 {
     class.calls.push(call)?;
@@ -31,7 +32,7 @@ fn put_class(
     ensures part { OnOk result (class_parts classes.new.items ≡ class_parts classes.old.items ++ at_these (call ∷ []) (fields_of fields.items) ∷ []) }
     ensures small { OnOk result (length fields.items ≤ 50000 → FewFields classes.old.items → FewFields classes.new.items) }
 {
-    let mut calls = Vec::new(alloc);
+    let mut calls = Calls::none(alloc);
     calls.push(call)?;
     classes.push(CallClass { calls, fields })?;
     Ok(())

@@ -1,5 +1,6 @@
 //! What frames keep, by parts.
 
+use crate::rows::Calls;
 use wa_types::ValType;
 
 /// A local that frames keep, and its type.
@@ -12,7 +13,7 @@ pub struct KeptLocal {
 /// What the calls with these numbers keep.
 #[derive(Drop)]
 pub struct CallClass {
-    pub calls: Vec<u32>,
+    pub calls: Calls,
     pub fields: Vec<KeptLocal>,
 }
 

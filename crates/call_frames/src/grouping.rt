@@ -8,12 +8,13 @@ ghost use Rattle.call_frames.specs.Classes.{set_keepers};
 ghost use Rattle.call_frames.specs.Views.{class_parts, kept_field, sets_of};
 
 use crate::frames::{CallClass, KeptLocal};
+use crate::rows::Calls;
 use std::alloc::{AllocError, Global};
 use wa_types::ValType;
 
 /// Puts a call, where told.
-fn put_keeper(out: &mut Vec<u32>, call: u32, told: bool) -> Result<(), AllocError>
-    ensures { OnOk result (out.new.items ≡ out.old.items ++ (if told then call ∷ [] else [])) }
+fn put_keeper(out: &mut Calls, call: u32, told: bool) -> Result<(), AllocError>
+    ensures { OnOk result (out.new ≡ out.old ++ (if told then call ∷ [] else [])) }
 {
     if told {
         out.push(call)?;
@@ -22,12 +23,12 @@ fn put_keeper(out: &mut Vec<u32>, call: u32, told: bool) -> Result<(), AllocErro
 }
 
 /// The calls whose sets have a local.
-fn keepers_of(alloc: Global, sets: &[Vec<bool>], local: usize) -> Result<Vec<u32>, AllocError>
+fn keepers_of(alloc: Global, sets: &[Vec<bool>], local: usize) -> Result<Calls, AllocError>
     requires sizes { All (λ (set : Vec Bool AGlobal). local < length set.items) sets.now }
     requires calls { length sets.now < 2 ^ 32 }
-    ensures { IfOk result (λ v. v.items ≡ set_keepers local 0 (sets_of sets.now)) }
+    ensures { IfOk result (λ v. v ≡ set_keepers local 0 (sets_of sets.now)) }
 {
-    let mut calls = Vec::new(alloc);
+    let mut calls = Calls::none(alloc);
     for call in 0..sets.len() {
         let set = &sets[call];
         put_keeper(&mut calls, call as u32, set[local])?;
@@ -48,10 +49,10 @@ fn put_field(group: &mut CallClass, field: KeptLocal) -> Result<(), AllocError>
 fn put_group(
     alloc: Global,
     groups: &mut Vec<CallClass>,
-    calls: Vec<u32>,
+    calls: Calls,
     field: KeptLocal,
 ) -> Result<(), AllocError>
-    ensures { OnOk result (class_parts groups.new.items ≡ class_parts groups.old.items ++ at_these calls.items (kept_field field ∷ []) ∷ []) }
+    ensures { OnOk result (class_parts groups.new.items ≡ class_parts groups.old.items ++ at_these calls (kept_field field ∷ []) ∷ []) }
 {
     let mut fields = Vec::new(alloc);
     fields.push(field)?;
@@ -63,10 +64,10 @@ fn put_group(
 fn put_local(
     alloc: Global,
     groups: &mut Vec<CallClass>,
-    calls: Vec<u32>,
+    calls: Calls,
     field: KeptLocal,
 ) -> Result<(), AllocError>
-    ensures { OnOk result (class_parts groups.new.items ≡ with_kept calls.items (kept_field field) (class_parts groups.old.items)) }
+    ensures { OnOk result (class_parts groups.new.items ≡ with_kept calls (kept_field field) (class_parts groups.old.items)) }
 {
     if calls.is_empty() {
         return Ok(());
@@ -75,7 +76,7 @@ fn put_local(
     if count == 0 {
         return put_group(alloc, groups, calls, field);
     }
-    if groups[count - 1].calls.as_slice() != calls.as_slice() {
+    if !groups[count - 1].calls.equal(&calls) {
         return put_group(alloc, groups, calls, field);
     }
     put_field(&mut groups[count - 1], field)

@@ -2,17 +2,17 @@
 
 ghost use Rattle.std.specs.Prelude.{◌≡◌, ◌≤◌, ◌<◌, ◌^◌, ◌∷◌, [], true};
 ghost use Rattle.call_frames.specs.CallTests.{row_size};
-ghost use Rattle.call_frames.specs.PlainFrames.{test_size};
+ghost use Rattle.call_frames.specs.PlainFrames.{rows_size, test_size};
 ghost use Rattle.call_frames.specs.PlainLaws.{tests_cost};
 ghost use Rattle.call_frames.specs.CallParts.{are_better, parts_length};
-ghost use Rattle.call_frames.specs.CallRows.{row_view};
+ghost use Rattle.call_frames.specs.CallRows.{row_view, row_views};
 ghost use Rattle.call_frames.specs.Views.{class_part, part_view, part_views};
 
 use crate::frames::{CallClass, KeptPart};
-use crate::rows::{RowAt, row_at};
+use crate::rows::{Calls, Row};
 
 /// How many instructions the test of a row has.
-pub fn row_size(row: RowAt) -> u64
+pub fn row_size(row: Row) -> u64
     ensures size { result ≡ row_size (row_view row) }
     ensures few { result ≤ 5 }
 {
@@ -25,22 +25,27 @@ pub fn row_size(row: RowAt) -> u64
     5
 }
 
-/// How many instructions the test of these calls has.
-fn test_size(calls: &[u32]) -> u64
-    requires { test_size calls.now < 2 ^ 62 }
-    ensures { result ≡ test_size calls.now }
+/// How many instructions the test of rows has.
+fn rows_size(rows: &[Row]) -> u64
+    requires { rows_size (row_views rows.now) < 2 ^ 62 }
+    ensures { result ≡ rows_size (row_views rows.now) }
 {
-    if calls.is_empty() {
+    if rows.is_empty() {
         return 1;
     }
     let mut size = 0;
-    let mut at = 0;
-    while at < calls.len() {
-        let row = row_at(calls, at);
-        size += row_size(row) + 1;
-        at = row.end;
+    for row in rows {
+        size += row_size(*row) + 1;
     }
     size - 1
+}
+
+/// How many instructions the test of these calls has.
+fn test_size(calls: &Calls) -> u64
+    requires { test_size calls.now < 2 ^ 62 }
+    ensures { result ≡ test_size calls.now }
+{
+    rows_size(calls.rows())
 }
 
 /// The length of a class in both codes.

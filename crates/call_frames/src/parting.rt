@@ -11,7 +11,7 @@ use std::alloc::{AllocError, Global};
 fn part_among(count: usize, group: CallClass) -> KeptPart
     ensures { part_view result ≡ shared_where count (class_part group) }
 {
-    if group.calls.len() == count {
+    if group.calls.are(count) {
         let CallClass { calls: _, fields } = group;
         return KeptPart::Every(fields);
     }

@@ -1,53 +1,145 @@
-//! Calls in rows.
+//! Calls, kept as rows.
 
-ghost use Rattle.std.specs.Prelude.{◌≡◌, ◌≤◌, ◌<◌, ◌∷◌, suc, drop, length, nat_eq};
+ghost use Rattle.std.specs.Prelude.{◌≡◌, ◌+◌, ◌++◌, ◌∷◌, [], suc, length, nat_eq, true, OnOk};
+ghost use Rattle.call_frames.specs.CallParts.{same_calls};
+ghost use Rattle.call_frames.specs.CallRows.{AreRows, RowsFit, numbers_in, row_views};
 ghost use Rattle.call_frames.specs.PlainFrames.{rows_of};
-ghost use Rattle.call_frames.specs.CallRows.{IsRow, row_view};
 
-/// Calls in a row: the first, how many follow it, and where the next row begins.
+use std::alloc::{AllocError, Global};
+use std::marker::Model;
+
+/// Calls in a row: the first, and how many follow it.
 #[derive(Clone, Copy)]
-pub struct RowAt {
+pub struct Row {
     pub first: u32,
     pub more: u32,
-    pub end: usize,
 }
 
-/// Whether a call follows another.
-fn follows(call: u32, before: u32) -> bool
-    ensures { result ≡ nat_eq call (suc before) }
+/// The numbers of calls, kept as rows. Contracts see the numbers.
+#[derive(Drop)]
+pub struct Calls {
+    rows: Vec<Row>,
+}
+
+impl Model for Calls {
+    ghost use Rattle.std.specs.Prelude.{List, ℕ};
+    ghost use Rattle.call_frames.specs.CallRows.{AreRows, numbers_in, row_views};
+
+    ghost Value = { List ℕ };
+
+    ghost view = { λ c. numbers_in (row_views c.rows.items) };
+
+    ghost invariant = { λ c. AreRows c.rows.items };
+}
+
+/// Whether a call follows a row.
+fn follows(call: u32, row: Row) -> bool
+    ensures { result ≡ nat_eq call (suc (row.first + row.more)) }
 {
-    if call <= before {
+    row.first as u64 + row.more as u64 + 1 == call as u64
+}
+
+/// Puts a call behind rows: it joins the last where it follows that.
+fn put_behind(rows: &mut Vec<Row>, call: u32) -> Result<(), AllocError>
+    ensures numbers { OnOk result (numbers_in (row_views rows.new.items) ≡ numbers_in (row_views rows.old.items) ++ call ∷ []) }
+    ensures rows { AreRows rows.old.items → AreRows rows.new.items }
+{
+    let count = rows.len();
+    if count > 0 {
+        let last = rows[count - 1];
+        if follows(call, last) {
+            rows[count - 1] = Row {
+                first: last.first,
+                more: last.more + 1,
+            };
+            return Ok(());
+        }
+    }
+    rows.push(Row {
+        first: call,
+        more: 0,
+    })?;
+    Ok(())
+}
+
+/// Whether these rows are the same as others.
+fn same_rows(rows: &[Row], others: &[Row]) -> bool
+    ensures same { result ≡ true → row_views rows.now ≡ row_views others.now }
+    ensures other { row_views rows.now ≡ row_views others.now → result ≡ true }
+{
+    if rows.len() != others.len() {
         return false;
     }
-    call - before == 1
-}
-
-/// Where the row ends that begins at a place.
-fn row_end(calls: &[u32], at: usize) -> usize
-    requires { at < length calls.now }
-    ensures { IsRow calls.now at result }
-{
-    let mut end = at + 1;
-    while end < calls.len() {
-        if !follows(calls[end], calls[end - 1]) {
-            return end;
+    for at in 0..rows.len() {
+        if rows[at].first != others[at].first {
+            return false;
         }
-        end += 1;
+        if rows[at].more != others[at].more {
+            return false;
+        }
     }
-    end
+    true
 }
 
-/// The row that begins at a place.
-pub fn row_at(calls: &[u32], at: usize) -> RowAt
-    requires { at < length calls.now }
-    ensures row { rows_of (drop at calls.now) ≡ row_view result ∷ rows_of (drop result.end calls.now) }
-    ensures later { at < result.end }
-    ensures within { result.end ≤ length calls.now }
+/// Whether rows stand for so many calls.
+fn stand_for(rows: &[Row], count: usize) -> bool
+    ensures { result ≡ nat_eq (length (numbers_in (row_views rows.now))) count }
 {
-    let end = row_end(calls, at);
-    RowAt {
-        first: calls[at],
-        more: calls[end - 1] - calls[at],
-        end,
+    let mut left = count;
+    for row in rows {
+        let size = row.more as usize + 1;
+        if left < size {
+            return false;
+        }
+        left -= size;
+    }
+    left == 0
+}
+
+impl Calls {
+    /// No calls.
+    pub fn none(alloc: Global) -> Calls
+        ensures { result ≡ [] }
+    {
+        Calls {
+            rows: Vec::new(alloc),
+        }
+    }
+
+    /// Puts a call behind the others.
+    pub fn push(&mut self, call: u32) -> Result<(), AllocError>
+        ensures { OnOk result (self.new ≡ self.old ++ call ∷ []) }
+    {
+        put_behind(&mut self.rows, call)
+    }
+
+    /// Whether there are none.
+    pub fn is_empty(&self) -> bool
+        ensures { result ≡ nat_eq (length self.now) 0 }
+    {
+        stand_for(&self.rows, 0)
+    }
+
+    /// Whether there are so many.
+    pub fn are(&self, count: usize) -> bool
+        ensures { result ≡ nat_eq (length self.now) count }
+    {
+        stand_for(&self.rows, count)
+    }
+
+    /// Whether others are the same calls, in the same order.
+    pub fn equal(&self, others: &Calls) -> bool
+        ensures { result ≡ same_calls self.now others.now }
+    {
+        same_rows(&self.rows, &others.rows)
+    }
+
+    /// The rows.
+    pub fn rows(&self) -> &[Row]
+        ensures rows { rows_of self.now ≡ row_views result.now }
+        ensures numbers { self.now ≡ numbers_in (row_views result.now) }
+        ensures fit { RowsFit result.now }
+    {
+        &self.rows
     }
 }

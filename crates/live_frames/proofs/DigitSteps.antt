@@ -3,12 +3,13 @@ use Rattle.std.proofs.Common.{◌≡◌, ℕ, zero, suc, ◌+◌, ◌-◌, ◌*�
 use Rattle.std.specs.Prelude.{◌||◌, replicate, if◌then◌else◌}
 use Rattle.std.specs.Int.{bit_at}
 use Rattle.std.proofs.lemmas.Bool.{eqb-false, ne_eqb}
-use Rattle.std.proofs.lemmas.List.{drop_more}
 use Rattle.std.proofs.lemmas.Nat.Bits.{bit_at_cat_low}
 use Rattle.std.proofs.Math.Nat.{div-add-mod', mod-eq_of_lt}
 use Rattle.call_frames.specs.PlainFrames.{by_digits, calls_with, digits_of, is_one_of, planes, test_size, WeighedCalls, weight_at, weights_end, weights_size, with_weight}
 use Rattle.call_frames.proofs.PlainBounds.{calls_less, test_few}
 use Rattle.live_frames.specs.declared.digits.OwnSize.{OwnSize}
+use Rattle.call_frames.specs.CallRows.{upto}
+use Rattle.live_frames.proofs.WordSteps.{row_front}
 use Rattle.live_frames.specs.Digits.{HoldSums, no_size, size_in, summed, Sums}
 
 -- ---- sums
@@ -108,12 +109,13 @@ holds_next sums bytes part named sizes call size d lt is h = record {
     within_at k true e = subst (λ (s : OwnSize). s.part ≤ part) (same k e) new.within
     within_at k false e = subst (λ (s : OwnSize). s.part ≤ part) (other k e) (h.within k)
 
--- the calls from a place on, and one more in front
-pub calls_front : (calls : List ℕ) (left d call : ℕ) → 0 < left → left ≤ length calls → call ≡ get_or calls (left - 1) d → drop (left - 1) calls ≡ call ∷ drop left calls
-calls_front calls left d call some le is =
-    let lt : left - 1 < length calls = omega (arith, some, le) in
-    let back : (left - 1) + 1 ≡ left = omega (arith, some) in
-    drop_more calls (left - 1) d lt ∙ ap (λ k. k ∷ drop (left - 1 + 1) calls) (sym is) ∙ ap (λ n. call ∷ drop n calls) back
+-- one more of a row's calls
+pub holds_front : (sums : ℕ → ℕ) (bytes part : ℕ) (k n left : ℕ) (others : List ℕ) (sizes : List OwnSize) (size d : OwnSize) → 0 < left → left ≤ n + 1 → k + (left - 1) < length sizes
+    → size ≡ summed bytes part (get_or sizes (k + (left - 1)) d) → HoldSums sums bytes part (drop left (upto k n) ++ others) sizes
+    → HoldSums sums bytes part (drop (left - 1) (upto k n) ++ others) (set sizes (k + (left - 1)) size)
+holds_front sums bytes part k n left others sizes size d some le lt is h =
+    subst (λ ks. HoldSums sums bytes part ks (set sizes (k + (left - 1)) size)) (row_front k n left others some le)
+    (holds_next sums bytes part (drop left (upto k n) ++ others) sizes (k + (left - 1)) size d lt is h)
 
 -- ---- the calls of a digit
 

@@ -1,6 +1,6 @@
 -- Tests that are put row by row.
-use Rattle.std.proofs.Common.{◌≡◌, ℕ, Bool, nat_eq, ◌≤◌, List, [], ◌∷◌, length, drop, refl, sym, ap, ◌∙◌, arith}
-use Rattle.std.proofs.lemmas.List.{drop_all}
+use Rattle.std.proofs.Common.{◌≡◌, ℕ, Bool, false, nat_eq, ◌+◌, ◌<◌, ◌≤◌, List, [], ◌∷◌, length, drop, get_or, refl, sym, ap, ◌∙◌, arith}
+use Rattle.std.proofs.lemmas.List.{drop_all, drop_more}
 use Rattle.wa_types.specs.declared.instrs.Instr.{Instr}
 use Rattle.wa_types.specs.declared.operators.NumOp.TheVariants.{I32Or}
 use Rattle.wa_types.specs.declared.values.Value.TheVariants as V
@@ -8,7 +8,9 @@ use Rattle.wa_types.specs.Syntax.{const, num, basic, Code, plain}
 use Rattle.wa_types.specs.View.{onto}
 use Rattle.local_spill.specs.Putting.{Puts}
 use Rattle.call_frames.specs.CallTests.{CallRow, at_either, at_row, row_test}
-use Rattle.call_frames.specs.PlainFrames.{or_rows, rows_of, at_rows}
+use Rattle.call_frames.specs.PlainFrames.{or_rows, at_rows}
+use Rattle.call_frames.specs.CallRows.{row_view, row_views}
+use Rattle.call_frames.specs.declared.rows.Row.{Row}
 use Rattle.live_frames.specs.Rows.{rows_joined}
 
 -- a test joined with those of more rows
@@ -23,25 +25,26 @@ row_put old new index r one from_0 e f h rest =
     h rest ∙ ap (λ b. onto old (row_test b from_0 index r.first r.more rest)) (sym e) ∙ ap (λ b. onto old (row_test (nat_eq r.more 0) b index r.first r.more rest)) (sym f)
 
 -- What is put, with the tests of the rows from a place on, is that of all rows.
-abbrev pub Owes : (old new : List Instr) → (index : ℕ) → (calls : List ℕ) → (at : ℕ) → Type 0
-Owes old new index calls at = (rest : Code) → onto new (rows_joined index (rows_of (drop at calls)) rest) ≡ onto old (at_rows index (rows_of calls) rest)
+abbrev pub Owes : (old new : List Instr) → (index : ℕ) → (rows : List Row) → (at : ℕ) → Type 0
+Owes old new index rows at = (rest : Code) → onto new (rows_joined index (row_views (drop at rows)) rest) ≡ onto old (at_rows index (row_views rows) rest)
 
-pub row_first : (old new : List Instr) (index : ℕ) (calls : List ℕ) (r : CallRow) (end : ℕ) → rows_of (drop 0 calls) ≡ r ∷ rows_of (drop end calls) → Puts old new (at_row index r)
-    → Owes old new index calls end
-row_first old new index calls r end is h rest =
-    h (rows_joined index (rows_of (drop end calls)) rest)
-    ∙ ap (onto old) (sym (joined_is index (rows_of (drop end calls)) (at_row index r) rest))
-    ∙ ap (λ rs. onto old (at_rows index rs rest)) (sym is)
+pub row_first : (old new : List Instr) (index : ℕ) (rows : List Row) (d : Row) → 0 < length rows → Puts old new (at_row index (row_view (get_or rows 0 d))) → Owes old new index rows 1
+row_first old new index [] d lt h rest = absurd (omega (arith, lt))
+row_first old new index (r ∷ rs) d lt h rest = h (rows_joined index (row_views rs) rest) ∙ ap (onto old) (sym (joined_is index (row_views rs) (at_row index (row_view r)) rest))
 
-pub row_next : (old mid mid2 new : List Instr) (index : ℕ) (calls : List ℕ) (at : ℕ) (r : CallRow) (end : ℕ) → rows_of (drop at calls) ≡ r ∷ rows_of (drop end calls)
-    → Puts mid mid2 (at_row index r) → Puts mid2 new (λ c. plain (basic (num I32Or)) c) → Owes old mid index calls at → Owes old new index calls end
-row_next old mid mid2 new index calls at r end is h o before rest =
-    let others : Code = rows_joined index (rows_of (drop end calls)) rest in
-    o others ∙ h (plain (basic (num I32Or)) others) ∙ ap (λ rs. onto mid (rows_joined index rs rest)) (sym is) ∙ before rest
+pub row_next : (old mid mid2 new : List Instr) (index : ℕ) (rows : List Row) (at : ℕ) (d : Row) → at < length rows → Puts mid mid2 (at_row index (row_view (get_or rows at d)))
+    → Puts mid2 new (λ c. plain (basic (num I32Or)) c) → Owes old mid index rows at → Owes old new index rows (at + 1)
+row_next old mid mid2 new index rows at d lt h o before rest =
+    let others : Code = rows_joined index (row_views (drop (at + 1) rows)) rest in
+    o others ∙ h (plain (basic (num I32Or)) others) ∙ ap (λ rs. onto mid (rows_joined index (row_views rs) rest)) (sym (drop_more rows at d lt)) ∙ before rest
 
-pub rows_end : (old new : List Instr) (index : ℕ) (calls : List ℕ) (at : ℕ) → length calls ≤ at → Owes old new index calls at → Puts old new (at_rows index (rows_of calls))
-rows_end old new index calls at le h rest = ap (λ js. onto new (rows_joined index (rows_of js) rest)) (sym (drop_all at calls le)) ∙ h rest
+pub rows_end : (old new : List Instr) (index : ℕ) (rows : List Row) (at : ℕ) → length rows ≤ at → Owes old new index rows at → Puts old new (at_rows index (row_views rows))
+rows_end old new index rows at le h rest = ap (λ rs. onto new (rows_joined index (row_views rs) rest)) (sym (drop_all at rows le)) ∙ h rest
 
-pub none_put : (old new : List Instr) (index : ℕ) (calls : List ℕ) → length calls ≡ 0 → Puts old new (λ c. plain (basic (const (V.I32 0))) c) → Puts old new (at_rows index (rows_of calls))
+pub some_rows : (rows : List Row) (r : Bool) → r ≡ nat_eq (length rows) 0 → r ≡ false → 0 < length rows
+some_rows [] r e f = let bad : ⊥ = cc in absurd bad
+some_rows (x ∷ xs) r e f = omega arith
+
+pub none_put : (old new : List Instr) (index : ℕ) (rows : List Row) → length rows ≡ 0 → Puts old new (λ c. plain (basic (const (V.I32 0))) c) → Puts old new (at_rows index (row_views rows))
 none_put old new index [] e h rest = h rest
-none_put old new index (k ∷ ks) e h rest = absurd (omega (arith, e))
+none_put old new index (r ∷ rs) e h rest = absurd (omega (arith, e))

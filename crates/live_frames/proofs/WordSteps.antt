@@ -1,5 +1,5 @@
 -- What tests by words are made of, loop by loop.
-use Rattle.std.proofs.Common.{◌≡◌, ℕ, zero, suc, ◌+◌, ◌-◌, ◌*◌, ◌^◌, ◌<◌, ◌≤◌, List, [], ◌∷◌, length, drop, get_or, set, Bool, true, false, nat_eq, ◌&&◌}
+use Rattle.std.proofs.Common.{◌≡◌, ℕ, zero, suc, ◌+◌, ◌-◌, ◌*◌, ◌^◌, ◌<◌, ◌≤◌, List, [], ◌∷◌, ◌++◌, length, drop, get_or, set, subst, Bool, true, false, nat_eq, ◌&&◌}
 use Rattle.std.proofs.Common.{refl, sym, ap, ◌∙◌, arith, eqb-true, leb-true, leb-false, le-leb, get_or-set_same, get_or-set_other, pow_mono}
 use Rattle.std.specs.Prelude.{◌||◌, nat_le, replicate, if◌then◌else◌}
 use Rattle.std.proofs.lemmas.Bool.{eqb-false, lt-leb}
@@ -11,7 +11,9 @@ use Rattle.wa_types.specs.declared.values.Value.TheVariants as V
 use Rattle.wa_types.specs.Syntax.{const, num, select, basic, local_get, Code, plain}
 use Rattle.wa_types.specs.View.{in_front, onto}
 use Rattle.local_spill.specs.Putting.{Puts}
-use Rattle.call_frames.specs.CallTests.{CallRow}
+use Rattle.call_frames.specs.CallRows.{numbers_in, row_views, upto}
+use Rattle.call_frames.specs.declared.rows.Row.{Row}
+use Rattle.live_frames.specs.Rows.{Tells}
 use Rattle.call_frames.specs.CallWords.{at_words, bit_taken, bits_from, word_of, words_chosen}
 use Rattle.call_frames.specs.PlainFrames.{at_calls, at_rows, by_words, calls_end, calls_test, is_one_of, rows_of, words_behind}
 use Rattle.call_frames.proofs.PlainBounds.{words_are_few}
@@ -40,84 +42,109 @@ few_words calls n e le =
 
 -- ---- the end of calls
 
-pub end_first : (calls : List ℕ) (n : ℕ) → n ≡ length calls → 0 ≡ calls_end (drop n calls)
-end_first calls n e = sym (ap calls_end (drop_all n calls (omega (arith, e))))
+pub end_first : (rows : List Row) (n : ℕ) → n ≡ length rows → 0 ≡ calls_end (numbers_in (row_views (drop n rows)))
+end_first rows n e = sym (ap (λ rs. calls_end (numbers_in (row_views rs))) (drop_all n rows (omega (arith, e))))
 
-pub end_next : (calls : List ℕ) (left end d call : ℕ) → 0 < left → left ≤ length calls → end ≡ calls_end (drop left calls) → call ≡ get_or calls (left - 1) d
-    → (if nat_le end call then suc call else end) ≡ calls_end (drop (left - 1) calls)
-end_next calls left end d call some le e is =
-    let lt : left - 1 < length calls = omega (arith, some, le) in
-    let back : left ≡ (left - 1) + 1 = omega (arith, some) in
-    let f : ℕ → ℕ → ℕ = λ x k. if nat_le x k then suc k else x in
-    ap (λ x. f x call) (e ∙ ap (λ n. calls_end (drop n calls)) back) ∙ ap (f (calls_end (drop (left - 1 + 1) calls))) is ∙ sym (ap calls_end (drop_more calls (left - 1) d lt))
-
-pub end_last : (calls : List ℕ) (n end : ℕ) → n ≡ 0 → end ≡ calls_end (drop n calls) → end ≡ calls_end calls
-end_last calls n end z e = e ∙ ap (λ k. calls_end (drop k calls)) z
-
-end_tail : (k : ℕ) (ks : List ℕ) → calls_end ks ≤ calls_end (k ∷ ks)
-end_tail k ks = by (nat_le (calls_end ks) k) refl
+-- a row in front of other calls
+row_end : (k n : ℕ) (ks : List ℕ) → calls_end (upto k n ++ ks) ≡ (if nat_le (calls_end ks) (k + n) then suc (k + n) else calls_end ks)
+row_end k zero ks = let z : k ≡ k + 0 = omega arith in ap (λ m. if nat_le (calls_end ks) m then suc m else calls_end ks) z
+row_end k (suc n) ks =
+    let z : suc k + n ≡ k + suc n = omega arith in
+    let e = calls_end (upto (suc k) n ++ ks) in
+    let ih = row_end (suc k) n ks in
+    let above = by (nat_le (calls_end ks) (suc k + n)) refl in
+    ap (λ b. if b then suc k else e) (lt-leb e k (omega (arith, ih, above))) ∙ ih ∙ ap (λ m. if nat_le (calls_end ks) m then suc m else calls_end ks) z
   where
-    by : (b : Bool) → nat_le (calls_end ks) k ≡ b → calls_end ks ≤ (if b then suc k else calls_end ks)
-    by true e = let le = leb-true (calls_end ks) k e in omega (arith, le)
-    by false e = omega arith
-
-end_head : (k : ℕ) (ks : List ℕ) → suc k ≤ calls_end (k ∷ ks)
-end_head k ks = by (nat_le (calls_end ks) k) refl
-  where
-    by : (b : Bool) → nat_le (calls_end ks) k ≡ b → suc k ≤ (if b then suc k else calls_end ks)
+    by : (b : Bool) → nat_le (calls_end ks) (suc k + n) ≡ b → k < (if b then suc (suc k + n) else calls_end ks)
     by true e = omega arith
-    by false e = let lt = leb-false (calls_end ks) k e in omega (arith, lt)
+    by false e = let lt = leb-false (calls_end ks) (suc k + n) e in omega (arith, lt)
 
-pub call_below : (calls : List ℕ) (i d : ℕ) → i < length calls → get_or calls i d < calls_end calls
-call_below [] i d lt = absurd (omega (arith, lt))
-call_below (k ∷ ks) zero d lt = let h = end_head k ks in omega (arith, h)
-call_below (k ∷ ks) (suc i) d lt = let ih = call_below ks i d (omega (arith, lt)) in let t = end_tail k ks in omega (arith, ih, t)
+pub end_next : (rows : List Row) (left end : ℕ) (d : Row) → 0 < left → left ≤ length rows → end ≡ calls_end (numbers_in (row_views (drop left rows)))
+    → (if nat_le end ((get_or rows (left - 1) d).first + (get_or rows (left - 1) d).more) then suc ((get_or rows (left - 1) d).first + (get_or rows (left - 1) d).more) else end)
+    ≡ calls_end (numbers_in (row_views (drop (left - 1) rows)))
+end_next rows left end d some le e =
+    let lt : left - 1 < length rows = omega (arith, some, le) in
+    let back : left ≡ (left - 1) + 1 = omega (arith, some) in
+    let r = get_or rows (left - 1) d in
+    let others = numbers_in (row_views (drop (left - 1 + 1) rows)) in
+    ap (λ x. if nat_le x (r.first + r.more) then suc (r.first + r.more) else x) (e ∙ ap (λ n. calls_end (numbers_in (row_views (drop n rows)))) back)
+    ∙ sym (row_end r.first r.more others) ∙ sym (ap (λ rs. calls_end (numbers_in (row_views rs))) (drop_more rows (left - 1) d lt))
 
--- ---- rows
+pub end_last : (rows : List Row) (n end : ℕ) → n ≡ 0 → end ≡ calls_end (numbers_in (row_views (drop n rows))) → end ≡ calls_end (numbers_in (row_views rows))
+end_last rows n end z e = e ∙ ap (λ k. calls_end (numbers_in (row_views (drop k rows)))) z
 
-pub rows_begin : (calls : List ℕ) (least : ℕ) → length (rows_of (drop 0 calls)) + least ≡ length (rows_of calls) + least
-rows_begin calls least = refl
+-- .. ends below all of them
+row_below : (k n : ℕ) (ks : List ℕ) → (k + n < calls_end (upto k n ++ ks)) × (calls_end ks ≤ calls_end (upto k n ++ ks))
+row_below k n ks = let e = row_end k n ks in let b = by (nat_le (calls_end ks) (k + n)) refl in (omega (arith, e, b.0), omega (arith, e, b.1))
+  where
+    by : (b : Bool) → nat_le (calls_end ks) (k + n) ≡ b → (k + n < (if b then suc (k + n) else calls_end ks)) × (calls_end ks ≤ (if b then suc (k + n) else calls_end ks))
+    by true e = let le = leb-true (calls_end ks) (k + n) e in (omega arith, omega (arith, le))
+    by false e = let lt = leb-false (calls_end ks) (k + n) e in (omega (arith, lt), omega arith)
 
-pub rows_more : (calls : List ℕ) (at end least left : ℕ) (r : CallRow) → 0 < left → rows_of (drop at calls) ≡ r ∷ rows_of (drop end calls)
-    → length (rows_of (drop at calls)) + least ≡ length (rows_of calls) + left → length (rows_of (drop end calls)) + least ≡ length (rows_of calls) + (left - 1)
-rows_more calls at end least left r some is e = let n = ap length is in omega (arith, some, n, e)
-
-pub rows_few : (calls : List ℕ) (at least left : ℕ) → 0 < left → length calls ≤ at → length (rows_of (drop at calls)) + least ≡ length (rows_of calls) + left
-    → false ≡ nat_le least (length (rows_of calls))
-rows_few calls at least left some le e =
-    let n = ap (λ ks. length (rows_of ks)) (drop_all at calls le) in
-    sym (lt-leb least (length (rows_of calls)) (omega (arith, some, n, e)))
-
-pub rows_enough : (calls : List ℕ) (at least left : ℕ) → left ≡ 0 → length (rows_of (drop at calls)) + least ≡ length (rows_of calls) + left → true ≡ nat_le least (length (rows_of calls))
-rows_enough calls at least left z e = sym (le-leb least (length (rows_of calls)) (omega (arith, z, e)))
+pub rows_below : (rows : List Row) (i : ℕ) (d : Row) → i < length rows → (get_or rows i d).first + (get_or rows i d).more < calls_end (numbers_in (row_views rows))
+rows_below [] i d lt = absurd (omega (arith, lt))
+rows_below (r ∷ rs) zero d lt = (row_below r.first r.more (numbers_in (row_views rs))).0
+rows_below (r ∷ rs) (suc i) d lt =
+    let ih = rows_below rs i d (omega (arith, lt)) in
+    let t = (row_below r.first r.more (numbers_in (row_views rs))).1 in omega (arith, ih, t)
 
 -- ---- which calls
-
-abbrev pub Tells : List Bool → List ℕ → Type 0
-Tells told calls = (j : ℕ) → get_or told j false ≡ is_one_of calls j
 
 none_told : (n j : ℕ) → get_or (replicate n false) j false ≡ false
 none_told zero j = refl
 none_told (suc n) zero = refl
 none_told (suc n) (suc j) = none_told n j
 
-pub tells_first : (told : List Bool) (calls : List ℕ) (count n : ℕ) → told ≡ replicate count false → n ≡ length calls → Tells told (drop n calls)
-tells_first told calls count n e m j = ap (λ t. get_or t j false) e ∙ none_told count j ∙ sym (ap (λ ks. is_one_of ks j) (drop_all n calls (omega (arith, m))))
+pub tells_first : (told : List Bool) (rows : List Row) (count n : ℕ) → told ≡ replicate count false → n ≡ length rows → Tells told (numbers_in (row_views (drop n rows)))
+tells_first told rows count n e m j =
+    ap (λ t. get_or t j false) e ∙ none_told count j ∙ sym (ap (λ rs. is_one_of (numbers_in (row_views rs)) j) (drop_all n rows (omega (arith, m))))
 
-pub tells_next : (told : List Bool) (calls : List ℕ) (left d call : ℕ) → 0 < left → left ≤ length calls → call ≡ get_or calls (left - 1) d → call < length told → Tells told (drop left calls)
-    → Tells (set told call true) (drop (left - 1) calls)
-tells_next told calls left d call some le is within h j =
-    let lt : left - 1 < length calls = omega (arith, some, le) in
-    let back : left ≡ (left - 1) + 1 = omega (arith, some) in
-    by (nat_eq j call) refl ∙ ap (λ k. nat_eq j k || is_one_of (drop left calls) j) is
-    ∙ ap (λ n. nat_eq j (get_or calls (left - 1) d) || is_one_of (drop n calls) j) back ∙ sym (ap (λ ks. is_one_of ks j) (drop_more calls (left - 1) d lt))
+tells_more : (told : List Bool) (call : ℕ) (calls : List ℕ) → call < length told → Tells told calls → Tells (set told call true) (call ∷ calls)
+tells_more told call calls within h j = by (nat_eq j call) refl
   where
-    by : (b : Bool) → nat_eq j call ≡ b → get_or (set told call true) j false ≡ (b || is_one_of (drop left calls) j)
+    by : (b : Bool) → nat_eq j call ≡ b → get_or (set told call true) j false ≡ (b || is_one_of calls j)
     by true e = ap (λ n. get_or (set told call true) n false) (eqb-true j call e) ∙ get_or-set_same told call true false within
     by false e = get_or-set_other told call j true false (eqb-false j call e) ∙ h j
 
-pub tells_last : (told : List Bool) (calls : List ℕ) (n : ℕ) → n ≡ 0 → Tells told (drop n calls) → Tells told calls
-tells_last told calls n z h j = h j ∙ ap (λ k. is_one_of (drop k calls) j) z
+-- the numbers of a row from a place on, and one more in front
+upto_front : (k n i : ℕ) → i ≤ n → drop i (upto k n) ≡ (k + i) ∷ drop (suc i) (upto k n)
+upto_front k zero zero le = let z : k ≡ k + 0 = omega arith in ap (λ j. j ∷ []) z
+upto_front k zero (suc i) le = absurd (omega (arith, le))
+upto_front k (suc n) zero le = let z : k ≡ k + 0 = omega arith in ap (λ j. j ∷ upto (suc k) n) z
+upto_front k (suc n) (suc i) le = let z : suc k + i ≡ k + suc i = omega arith in upto_front (suc k) n i (omega (arith, le)) ∙ ap (λ j. j ∷ drop (suc i) (upto (suc k) n)) z
+
+pub row_front : (k n left : ℕ) (others : List ℕ) → 0 < left → left ≤ n + 1 → (k + (left - 1)) ∷ (drop left (upto k n) ++ others) ≡ drop (left - 1) (upto k n) ++ others
+row_front k n left others some le =
+    let back : suc (left - 1) ≡ left = omega (arith, some) in
+    ap (λ i. (k + (left - 1)) ∷ (drop i (upto k n) ++ others)) (sym back) ∙ ap (λ js. js ++ others) (sym (upto_front k n (left - 1) (omega (arith, some, le))))
+
+upto_size : (k n : ℕ) → length (upto k n) ≡ suc n
+upto_size k zero = refl
+upto_size k (suc n) = ap suc (upto_size (suc k) n)
+
+-- nothing of a row, and all of it
+pub row_none : (k n : ℕ) (others : List ℕ) → others ≡ drop (n + 1) (upto k n) ++ others
+row_none k n others = let l = upto_size k n in ap (λ js. js ++ others) (sym (drop_all (n + 1) (upto k n) (omega (arith, l))))
+
+pub row_whole : (k n left : ℕ) (others : List ℕ) → left ≡ 0 → drop left (upto k n) ++ others ≡ upto k n ++ others
+row_whole k n left others z = ap (λ i. drop i (upto k n) ++ others) z
+
+pub tells_next : (told : List Bool) (k n left : ℕ) (others : List ℕ) → 0 < left → left ≤ n + 1 → k + (left - 1) < length told → Tells told (drop left (upto k n) ++ others)
+    → Tells (set told (k + (left - 1)) true) (drop (left - 1) (upto k n) ++ others)
+tells_next told k n left others some le within h =
+    subst (Tells (set told (k + (left - 1)) true)) (row_front k n left others some le) (tells_more told (k + (left - 1)) (drop left (upto k n) ++ others) within h)
+
+-- the rows from a place on, and one more in front
+pub rows_front : (rows : List Row) (left : ℕ) (d : Row) → 0 < left → left ≤ length rows
+    → upto (get_or rows (left - 1) d).first (get_or rows (left - 1) d).more ++ numbers_in (row_views (drop left rows)) ≡ numbers_in (row_views (drop (left - 1) rows))
+rows_front rows left d some le =
+    let lt : left - 1 < length rows = omega (arith, some, le) in
+    let back : left ≡ (left - 1) + 1 = omega (arith, some) in
+    let r = get_or rows (left - 1) d in
+    ap (λ n. upto r.first r.more ++ numbers_in (row_views (drop n rows))) back ∙ ap (λ rs. numbers_in (row_views rs)) (sym (drop_more rows (left - 1) d lt))
+
+pub rows_whole : (rows : List Row) (left : ℕ) → left ≡ 0 → numbers_in (row_views (drop left rows)) ≡ numbers_in (row_views rows)
+rows_whole rows left z = ap (λ n. numbers_in (row_views (drop n rows))) z
 
 -- ---- words
 

@@ -5,7 +5,7 @@ use Rattle.live_frames.specs.declared.digits.OwnSize.{OwnSize}
 use Rattle.live_frames.specs.declared.digits.Plane.{Plane}
 
 abbrev pub plane_view : Plane → WeighedCalls
-plane_view p = record { calls = p.calls.items; bytes = p.bytes }
+plane_view p = record { calls = p.calls; bytes = p.bytes }
 
 abbrev pub plane_views : List Plane → List WeighedCalls
 plane_views ps = map plane_view ps

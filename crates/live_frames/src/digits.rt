@@ -1,7 +1,8 @@
 //! The sizes of what not all calls keep, call by call, and their binary digits.
 
-ghost use Rattle.std.specs.Prelude.{◌≡◌, ◌≤◌, ◌<◌, ◌^◌, ◌+◌, ◌%◌, ◌++◌, ◌∷◌, [], ℕ, length, nat_eq, OnOk, IfOk, if◌then◌else◌};
+ghost use Rattle.std.specs.Prelude.{◌≡◌, ◌≤◌, ◌<◌, ◌^◌, ◌+◌, ◌%◌, ◌++◌, ◌∷◌, [], ℕ, List, length, nat_eq, OnOk, IfOk, if◌then◌else◌};
 ghost use Rattle.std.specs.Int.{bit_at};
+ghost use Rattle.call_frames.specs.CallRows.{numbers_in, row_views, upto};
 ghost use Rattle.call_frames.specs.PlainFrames.{calls_end, calls_with, digits_of, part_weights, planes, weight_at, weights_end, weights_size, with_weight};
 ghost use Rattle.call_frames.specs.Classes.{FewParts, part_fields};
 ghost use Rattle.call_frames.specs.Views.{part_view, part_views};
@@ -9,7 +10,7 @@ ghost use Rattle.live_frames.specs.Digits.{HoldSums, plane_views, size_in, Sums,
 
 use crate::fields::size_of;
 use crate::words::calls_end;
-use call_frames::KeptPart;
+use call_frames::{Calls, KeptPart, Row};
 use std::alloc::{AllocError, Global};
 
 /// The bytes of a call's frame so far, and the number of the part that was added last.
@@ -22,7 +23,7 @@ pub(crate) struct OwnSize {
 /// Calls, and how many bytes each of them adds.
 #[derive(Drop)]
 pub(crate) struct Plane {
-    pub(crate) calls: Vec<u32>,
+    pub(crate) calls: Calls,
     pub(crate) bytes: u32,
 }
 
@@ -62,17 +63,30 @@ fn with_part(size: OwnSize, part: usize, bytes: u32) -> OwnSize
     }
 }
 
-/// Adds the bytes of the part of this number to the sizes of its calls.
-fn add_bytes(sizes: &mut Vec<OwnSize>, part: usize, calls: &[u32], bytes: u32)
-    requires { calls_end calls.now ≤ length sizes.old.items }
+/// Adds the bytes of the part of this number to the sizes of a row's calls.
+fn add_row(sizes: &mut Vec<OwnSize>, part: usize, row: Row, bytes: u32)
+    requires { row.first + row.more < length sizes.old.items }
     ensures length { length sizes.new.items ≡ length sizes.old.items }
-    ensures sums { (sums : ℕ → ℕ) → HoldSums sums bytes part [] sizes.old.items → HoldSums sums bytes part calls.now sizes.new.items }
+    ensures sums { (sums : ℕ → ℕ) (named : List ℕ) → HoldSums sums bytes part named sizes.old.items → HoldSums sums bytes part (upto row.first row.more ++ named) sizes.new.items }
 {
-    let mut left = calls.len();
+    let mut left = row.more as usize + 1;
     while left > 0 {
         left -= 1;
-        let call = calls[left] as usize;
+        let call = row.first as usize + left;
         sizes[call] = with_part(sizes[call], part, bytes);
+    }
+}
+
+/// Adds the bytes of the part of this number to the sizes of the calls of its rows.
+fn add_bytes(sizes: &mut Vec<OwnSize>, part: usize, rows: &[Row], bytes: u32)
+    requires { calls_end (numbers_in (row_views rows.now)) ≤ length sizes.old.items }
+    ensures length { length sizes.new.items ≡ length sizes.old.items }
+    ensures sums { (sums : ℕ → ℕ) → HoldSums sums bytes part [] sizes.old.items → HoldSums sums bytes part (numbers_in (row_views rows.now)) sizes.new.items }
+{
+    let mut left = rows.len();
+    while left > 0 {
+        left -= 1;
+        add_row(sizes, part, rows[left], bytes);
     }
 }
 
@@ -85,7 +99,12 @@ fn add_part(sizes: &mut Vec<OwnSize>, number: usize, part: &KeptPart)
 {
     match part {
         KeptPart::Every(_) => {}
-        KeptPart::These(class) => add_bytes(sizes, number, &class.calls, size_of(&class.fields)),
+        KeptPart::These(class) => add_bytes(
+            sizes,
+            number,
+            class.calls.rows(),
+            size_of(&class.fields),
+        ),
     }
 }
 
@@ -112,8 +131,8 @@ fn has_digit(number: u32, digit: u32) -> bool
 }
 
 /// Puts a call, where told.
-fn put_call(calls: &mut Vec<u32>, call: u32, told: bool) -> Result<(), AllocError>
-    ensures { OnOk result (calls.new.items ≡ calls.old.items ++ (if told then call ∷ [] else [])) }
+fn put_call(calls: &mut Calls, call: u32, told: bool) -> Result<(), AllocError>
+    ensures { OnOk result (calls.new ≡ calls.old ++ (if told then call ∷ [] else [])) }
 {
     if told {
         calls.push(call)?;
@@ -122,12 +141,12 @@ fn put_call(calls: &mut Vec<u32>, call: u32, told: bool) -> Result<(), AllocErro
 }
 
 /// The calls whose sizes have a 1 at a binary digit.
-fn digit_calls(alloc: Global, sizes: &[OwnSize], digit: u32) -> Result<Vec<u32>, AllocError>
+fn digit_calls(alloc: Global, sizes: &[OwnSize], digit: u32) -> Result<Calls, AllocError>
     requires digit { digit < 32 }
     requires calls { length sizes.now ≤ 4294967296 }
-    ensures { IfOk result (λ v. v.items ≡ calls_with (size_in sizes.now) digit 0 (length sizes.now)) }
+    ensures { IfOk result (λ v. v ≡ calls_with (size_in sizes.now) digit 0 (length sizes.now)) }
 {
-    let mut calls = Vec::new(alloc);
+    let mut calls = Calls::none(alloc);
     for call in 0..sizes.len() {
         put_call(&mut calls, call as u32, has_digit(sizes[call].bytes, digit))?;
     }
@@ -135,8 +154,8 @@ fn digit_calls(alloc: Global, sizes: &[OwnSize], digit: u32) -> Result<Vec<u32>,
 }
 
 /// Puts calls that add so many bytes, if there are any.
-fn put_plane(planes: &mut Vec<Plane>, calls: Vec<u32>, bytes: u32) -> Result<(), AllocError>
-    ensures { OnOk result (plane_views planes.new.items ≡ plane_views planes.old.items ++ with_weight calls.items bytes []) }
+fn put_plane(planes: &mut Vec<Plane>, calls: Calls, bytes: u32) -> Result<(), AllocError>
+    ensures { OnOk result (plane_views planes.new.items ≡ plane_views planes.old.items ++ with_weight calls bytes []) }
 {
     if calls.is_empty() {
         return Ok(());

@@ -8,10 +8,10 @@ ghost use Rattle.live_frames.specs.Digits.{plane_views};
 
 use crate::counting::calls_size;
 use crate::digits::Plane;
-use call_frames::KeptPart;
+use call_frames::{Calls, KeptPart};
 
 /// How many instructions add what these calls add.
-fn weight_size(calls: &[u32]) -> u64
+fn weight_size(calls: &Calls) -> u64
     ensures { result ≡ saturated (calls_size calls.now + 3) }
 {
     calls_size(calls).saturating_add(3)

@@ -6,12 +6,12 @@ ghost use Rattle.wa_types.specs.declared.operators.NumOp.TheVariants.{I32Sub};
 ghost use Rattle.wa_types.specs.declared.values.Value.TheVariants.{I32 as value_32};
 ghost use Rattle.wa_types.specs.View.{code};
 ghost use Rattle.call_frames.specs.CallTests.{at_call, at_most, at_row};
-ghost use Rattle.call_frames.specs.PlainFrames.{at_calls, at_rows, rows_of};
+ghost use Rattle.call_frames.specs.PlainFrames.{at_calls, at_rows};
 ghost use Rattle.local_spill.specs.Putting.{Puts};
-ghost use Rattle.call_frames.specs.CallRows.{row_view};
+ghost use Rattle.call_frames.specs.CallRows.{row_view, row_views};
 
 use crate::words::{by_words, put_words};
-use call_frames::{RowAt, row_at};
+use call_frames::{Calls, Row};
 use local_spill::put_all;
 use std::alloc::{AllocError, Global};
 use wa_types::{Instr, NumOp, Value};
@@ -54,7 +54,7 @@ fn put_difference(out: &mut Vec<Instr>, index: u32, number: u32) -> Result<(), A
 }
 
 /// Puts the test of a row.
-fn put_row(out: &mut Vec<Instr>, index: u32, row: RowAt) -> Result<(), AllocError>
+fn put_row(out: &mut Vec<Instr>, index: u32, row: Row) -> Result<(), AllocError>
     ensures { OnOk result (Puts out.old.items out.new.items (at_row index (row_view row))) }
 {
     if row.more == 0 {
@@ -68,22 +68,20 @@ fn put_row(out: &mut Vec<Instr>, index: u32, row: RowAt) -> Result<(), AllocErro
     put_at_most(out, row.more)
 }
 
-/// Puts the test that is 1 at these calls and 0 at all others, row by row.
-fn put_rows(out: &mut Vec<Instr>, index: u32, calls: &[u32]) -> Result<(), AllocError>
-    ensures { OnOk result (Puts out.old.items out.new.items (at_rows index (rows_of calls.now))) }
+/// Puts the test that is 1 at the calls of these rows and 0 at all others, row by row.
+fn put_rows(out: &mut Vec<Instr>, index: u32, rows: &[Row]) -> Result<(), AllocError>
+    ensures { OnOk result (Puts out.old.items out.new.items (at_rows index (row_views rows.now))) }
 {
-    if calls.is_empty() {
+    if rows.is_empty() {
         out.push(Instr::Const(Value::I32(0)))?;
         return Ok(());
     }
-    let first = row_at(calls, 0);
-    put_row(out, index, first)?;
-    let mut at = first.end;
-    while at < calls.len() {
-        let row = row_at(calls, at);
-        put_row(out, index, row)?;
+    put_row(out, index, rows[0])?;
+    let mut at = 1;
+    while at < rows.len() {
+        put_row(out, index, rows[at])?;
         out.push(Instr::Num(NumOp::I32Or))?;
-        at = row.end;
+        at += 1;
     }
     Ok(())
 }
@@ -93,14 +91,14 @@ pub fn put_test(
     alloc: Global,
     out: &mut Vec<Instr>,
     index: u32,
-    calls: &[u32],
+    calls: &Calls,
 ) -> Result<(), AllocError>
     ensures { OnOk result (Puts out.old.items out.new.items (at_calls index calls.now)) }
 {
     if by_words(calls) {
         return put_words(alloc, out, index, calls);
     }
-    put_rows(out, index, calls)
+    put_rows(out, index, calls.rows())
 }
 
 /// Puts code that runs at these calls alone.
@@ -108,7 +106,7 @@ pub fn put_under_test(
     alloc: Global,
     out: &mut Vec<Instr>,
     index: u32,
-    calls: &[u32],
+    calls: &Calls,
     arm: Vec<Instr>,
 ) -> Result<(), AllocError>
     ensures { OnOk result (Puts out.old.items out.new.items (λ c. at_calls index calls.now (branch None (code arm.items) done c))) }

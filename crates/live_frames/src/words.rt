@@ -1,69 +1,73 @@
 //! Tests of the call index by words: numbers whose bits tell which of 64 calls are meant.
 
-ghost use Rattle.std.specs.Prelude.{◌≡◌, ◌≤◌, ℕ, suc, ◌+◌, ◌*◌, false, get_or, length, nat_le, IfOk, OnOk, if◌then◌else◌};
+ghost use Rattle.std.specs.Prelude.{◌≡◌, ◌≤◌, ◌<◌, ◌^◌, ◌++◌, ℕ, List, suc, ◌+◌, ◌*◌, false, get_or, length, nat_le, IfOk, OnOk, if◌then◌else◌};
 ghost use Rattle.wa_types.specs.Syntax.{basic, const, local_get, num, plain, select};
 ghost use Rattle.wa_types.specs.declared.operators.NumOp.TheVariants.{I32LtU};
 ghost use Rattle.wa_types.specs.declared.values.Value.TheVariants.{I32 as value_32, I64 as value_64};
+ghost use Rattle.call_frames.specs.CallRows.{RowsFit, numbers_in, row_views, upto};
 ghost use Rattle.call_frames.specs.CallWords.{at_words, bit_taken, word_of};
 ghost use Rattle.call_frames.specs.PlainFrames.{by_words, calls_end, is_one_of, rows_of, words_behind};
+ghost use Rattle.live_frames.specs.Rows.{Tells};
 ghost use Rattle.local_spill.specs.Putting.{Puts};
 
-use call_frames::row_at;
+use call_frames::{Calls, Row};
 use local_spill::put_all;
 use std::alloc::{AllocError, Global};
 use wa_types::{Instr, NumOp, Value};
 
-/// The least number above a call and all that are below this number.
-fn past(call: u32, end: u64) -> u64
-    requires { end ≤ 4294967296 }
-    ensures end { result ≡ (if nat_le end call then suc call else end) }
+/// The least number above a row and all that are below this number.
+fn past(row: Row, end: u64) -> u64
+    requires end { end ≤ 4294967296 }
+    requires row { row.first + row.more < 2 ^ 32 }
+    ensures end { result ≡ (if nat_le end (row.first + row.more) then suc (row.first + row.more) else end) }
     ensures small { result ≤ 4294967296 }
 {
-    if end <= call as u64 {
-        return call as u64 + 1;
+    let last = row.first as u64 + row.more as u64;
+    if end <= last {
+        return last + 1;
+    }
+    end
+}
+
+/// The least number above all calls of rows.
+fn rows_end(rows: &[Row]) -> u64
+    requires { RowsFit rows.now }
+    ensures end { result ≡ calls_end (numbers_in (row_views rows.now)) }
+    ensures small { result ≤ 4294967296 }
+{
+    let mut end = 0;
+    let mut left = rows.len();
+    while left > 0 {
+        left -= 1;
+        end = past(rows[left], end);
     }
     end
 }
 
 /// The least number above all of these.
-pub fn calls_end(calls: &[u32]) -> u64
+pub fn calls_end(calls: &Calls) -> u64
     ensures end { result ≡ calls_end calls.now }
     ensures small { result ≤ 4294967296 }
 {
-    let mut end = 0;
-    let mut left = calls.len();
-    while left > 0 {
-        left -= 1;
-        end = past(calls[left], end);
-    }
-    end
+    rows_end(calls.rows())
 }
 
 /// How many words there are behind the first.
-pub(crate) fn words_behind(calls: &[u32]) -> u64
+pub(crate) fn words_behind(calls: &Calls) -> u64
     ensures { result ≡ words_behind calls.now }
 {
     (calls_end(calls) + 63) / 64
 }
 
 /// Whether these calls have so many rows.
-fn have_rows(calls: &[u32], least: u64) -> bool
+fn have_rows(calls: &Calls, least: u64) -> bool
     ensures { result ≡ nat_le least (length (rows_of calls.now)) }
 {
-    let mut at = 0;
-    let mut left = least;
-    while left > 0 {
-        if at >= calls.len() {
-            return false;
-        }
-        at = row_at(calls, at).end;
-        left -= 1;
-    }
-    true
+    least <= calls.rows().len() as u64
 }
 
 /// Whether the test of these calls is by words.
-pub(crate) fn by_words(calls: &[u32]) -> bool
+pub(crate) fn by_words(calls: &Calls) -> bool
     ensures { result ≡ by_words calls.now }
 {
     let words = words_behind(calls);
@@ -73,17 +77,30 @@ pub(crate) fn by_words(calls: &[u32]) -> bool
     have_rows(calls, 2 * words + 2)
 }
 
-/// Which calls these are, among so many.
-fn told_calls(alloc: Global, calls: &[u32], count: usize) -> Result<Vec<bool>, AllocError>
-    requires { calls_end calls.now ≤ count }
-    ensures size { IfOk result (λ v. length v.items ≡ count) }
-    ensures calls { IfOk result (λ v. (j : ℕ) → get_or v.items j false ≡ is_one_of calls.now j) }
+/// Tells the calls of a row.
+fn tell_row(told: &mut Vec<bool>, row: Row)
+    requires { row.first + row.more < length told.old.items }
+    ensures size { length told.new.items ≡ length told.old.items }
+    ensures calls { (others : List ℕ) → Tells told.old.items others → Tells told.new.items (upto row.first row.more ++ others) }
 {
-    let mut told = vec![in alloc; false; count]?;
-    let mut left = calls.len();
+    let mut left = row.more as usize + 1;
     while left > 0 {
         left -= 1;
-        told[calls[left] as usize] = true;
+        told[row.first as usize + left] = true;
+    }
+}
+
+/// Which calls those of rows are, among so many.
+fn told_calls(alloc: Global, rows: &[Row], count: usize) -> Result<Vec<bool>, AllocError>
+    requires { calls_end (numbers_in (row_views rows.now)) ≤ count }
+    ensures size { IfOk result (λ v. length v.items ≡ count) }
+    ensures calls { IfOk result (λ v. Tells v.items (numbers_in (row_views rows.now))) }
+{
+    let mut told = vec![in alloc; false; count]?;
+    let mut left = rows.len();
+    while left > 0 {
+        left -= 1;
+        tell_row(&mut told, rows[left]);
     }
     Ok(told)
 }
@@ -148,13 +165,13 @@ pub(crate) fn put_words(
     alloc: Global,
     out: &mut Vec<Instr>,
     index: u32,
-    calls: &[u32],
+    calls: &Calls,
 ) -> Result<(), AllocError>
     requires { words_behind calls.now ≤ 1000 }
     ensures { OnOk result (Puts out.old.items out.new.items (at_words index (is_one_of calls.now) (words_behind calls.now))) }
 {
     let mut left = words_behind(calls) as u32;
-    let told = told_calls(alloc, calls, 64 * (left as usize + 1))?;
+    let told = told_calls(alloc, calls.rows(), 64 * (left as usize + 1))?;
     out.push(Instr::Const(Value::I64(word_from(&told, 0))))?;
     let mut word = 1;
     while left > 0 {

@@ -33,7 +33,7 @@ returns-in-Some-clause-more c =
     let lt = has_within n cs _ has in
     on_ok_weaker c.put_number.result
     (λ e.
-    let is = class_with cs n c.args.call _ new lt (e ∙ ap (λ (y : CallClass). y.calls.items ++ c.args.call ∷ []) c.index_mut.ensures.value)
+    let is = class_with cs n c.args.call _ new lt (e ∙ ap (λ (y : CallClass). y.calls ++ c.args.call ∷ []) c.index_mut.ensures.value)
     (c.put_number.ensures.fields ∙ ap (λ (y : CallClass). y.fields) c.index_mut.ensures.value) in
     record {
       index = subst (Finds types c.args.found.now) (sym is) (finds_with types c.args.found.now (class_parts cs) n c.args.call c.requires.index);

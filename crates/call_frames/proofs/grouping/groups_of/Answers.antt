@@ -13,7 +13,7 @@ loop-local-preserved c =
     let types = c.args.types.now in
     let sets = c.args.sets.now in
     let i = c.loop-local.local in
-    grouped_step types (kept_by_sets types (sets_of sets)) i _ c.in_ok-calls.calls.items _ (class_parts c.loop-local.groups.items) (class_parts c.put_local.new.groups.items) c.loop-local-test.true
+    grouped_step types (kept_by_sets types (sets_of sets)) i _ c.in_ok-calls.calls _ (class_parts c.loop-local.groups.items) (class_parts c.put_local.new.groups.items) c.loop-local-test.true
     (c.in_ok-calls.ensures ∙ sym (same_keepers types i 0 (sets_of sets) (sets_sized types sets c.requires.sizes) c.loop-local-test.true)) refl c.loop-local.invariant c.in_ok-put_local.ensures
 
 pub returns : goal.returns

@@ -1,5 +1,4 @@
-use Rattle.std.proofs.Common.{ap, arith, ◌∙◌}
-use Rattle.call_frames.specs.PlainFrames.{test_size}
+use Rattle.std.proofs.Common.{arith, ◌∙◌}
 use Rattle.call_frames.proofs.GroupSteps.{one_length}
 use Rattle.call_frames.proofs.measuring.class_length.Goals as goal
 
@@ -11,11 +10,11 @@ overflow_mul-result-2 c =
 pub overflow_add-result-2 : goal.overflow_add-result-2
 overflow_add-result-2 c =
     let e = one_length c.args.class.now in
-    let t = c.test_size.ensures ∙ ap test_size c.deref.ensures.value in
+    let t = c.test_size.ensures in
     let l = c.len.ensures ∙ c.args.class.now.fields.ok.0 in omega (arith, e, t, l, c.requires)
 
 pub returns : goal.returns
 returns c =
     let e = one_length c.args.class.now in
-    let t = c.test_size.ensures ∙ ap test_size c.deref.ensures.value in
+    let t = c.test_size.ensures in
     let l = c.len.ensures ∙ c.args.class.now.fields.ok.0 in omega (arith, e, t, l)

@@ -4,4 +4,4 @@ use Rattle.live_frames.specs.Digits.{size_in}
 use Rattle.live_frames.proofs.digits.digit_calls.Given as goal
 
 abbrev pub invariant-loop-call : goal.invariant-loop-call
-invariant-loop-call l = l.calls.items ≡ calls_with (size_in l.sizes) l.digit 0 l.call
+invariant-loop-call l = l.calls ≡ calls_with (size_in l.sizes) l.digit 0 l.call

@@ -7,5 +7,5 @@ pub loop-digit-preserved : goal.loop-digit-preserved
 loop-digit-preserved c =
     let digit = c.loop-digit.digit in
     let lt : digit < 32 = omega (arith, c.loop-digit-test.true, c.requires.digits) in
-    planes_step (size_in c.args.sizes.now) (length c.args.sizes.now) digit _ c.in_ok-calls.calls.items (plane_views c.loop-digit.planes.items) (plane_views c.put_plane.new.planes.items)
+    planes_step (size_in c.args.sizes.now) (length c.args.sizes.now) digit _ c.in_ok-calls.calls (plane_views c.loop-digit.planes.items) (plane_views c.put_plane.new.planes.items)
     c.in_ok-calls.ensures (power_of digit lt) c.loop-digit.invariant c.in_ok-put_plane.ensures

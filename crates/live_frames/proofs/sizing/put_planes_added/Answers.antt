@@ -1,4 +1,4 @@
-use Rattle.std.proofs.Common.{◌<◌, [], ◌∷◌, get_or, length, take, ap, arith}
+use Rattle.std.proofs.Common.{◌<◌, [], ◌∷◌, get_or, length, take, ap, arith, refl}
 use Rattle.std.proofs.lemmas.List.{take_all}
 use Rattle.local_spill.proofs.PutLemmas.{put_on}
 use Rattle.live_frames.specs.Digits.{plane_view, plane_views}
@@ -13,7 +13,7 @@ loop-plane-preserved c =
     let lt : i < length xs = omega (arith, c.loop-plane-test.true) in
     added_step c.args.out.now.items c.loop-plane.out.items _ c.args.index (plane_views (take i xs)) (plane_view (get_or xs i d) ∷ []) _ (planes_more xs i d lt) c.loop-plane.invariant
     (added_same _ _ c.args.index _ _ (ap (λ p. plane_view p ∷ []) c.plane-item.is)
-    (alone_put _ _ c.args.index c.deref.result.now (plane_view d) c.deref.ensures.value (put_on _ _ _ _ _ c.in_ok-put_test.ensures c.in_ok-put_weighed.ensures)))
+    (alone_put _ _ c.args.index d.calls (plane_view d) refl (put_on _ _ _ _ _ c.in_ok-put_test.ensures c.in_ok-put_weighed.ensures)))
 
 pub returns : goal.returns
 returns c =

@@ -3,7 +3,7 @@ use Rattle.live_frames.proofs.RowSteps.{Owes}
 use Rattle.live_frames.proofs.testing.put_rows.Given as goal
 
 abbrev pub invariant-loop-at : goal.invariant-loop-at
-invariant-loop-at l = (l.at ≤ length l.calls) × Owes l.fn.out.items l.out.items l.index l.calls l.at
+invariant-loop-at l = (l.at ≤ length l.rows) × Owes l.fn.out.items l.out.items l.index l.rows l.at
 
 abbrev pub decreases-loop-at : goal.decreases-loop-at
-decreases-loop-at l = length l.calls - l.at
+decreases-loop-at l = length l.rows - l.at

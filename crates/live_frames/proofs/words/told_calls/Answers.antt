@@ -1,19 +1,21 @@
-use Rattle.std.proofs.Common.{true, get_or, ◌-◌, ◌∙◌, arith, refl, length-set}
-use Rattle.live_frames.proofs.WordSteps.{call_below, tells_next}
+use Rattle.std.proofs.Common.{◌-◌, ◌∙◌, arith, subst}
+use Rattle.live_frames.specs.Rows.{Tells}
+use Rattle.live_frames.proofs.WordSteps.{rows_below, rows_front, rows_whole}
 use Rattle.live_frames.proofs.words.told_calls.Goals as goal
 
-pub index_mut-requires : goal.index_mut-requires
-index_mut-requires c =
-    let b = call_below c.args.calls.now (c.loop-left.left - 1) 0 (omega (arith, c.loop-left-test.true, c.loop-left.invariant.0)) in
-    omega (arith, b, c.requires, c.loop-left.invariant.1, c.loop-left.told.ok.0)
+pub tell_row-requires : goal.tell_row-requires
+tell_row-requires c =
+    let b = rows_below c.args.rows.now (c.loop-left.left - 1) (record { first = 0; more = 0 }) (omega (arith, c.loop-left-test.true, c.loop-left.invariant.0)) in
+    omega (arith, b, c.requires, c.loop-left.invariant.1)
 
 pub loop-left-preserved : goal.loop-left-preserved
 loop-left-preserved c =
-    let left = c.loop-left.left in
-    let calls = c.args.calls.now in
-    let b = call_below calls (left - 1) 0 (omega (arith, c.loop-left-test.true, c.loop-left.invariant.0)) in (
+    let left = c.loop-left.left in (
       omega (arith, c.loop-left.invariant.0),
-      length-set c.loop-left.told.items (get_or calls (left - 1) 0) true ∙ c.loop-left.invariant.1,
-      tells_next c.loop-left.told.items calls left 0 (get_or calls (left - 1) 0) (omega (arith, c.loop-left-test.true)) c.loop-left.invariant.0 refl
-          (omega (arith, b, c.requires, c.loop-left.invariant.1)) c.loop-left.invariant.2,
+      c.tell_row.ensures.size ∙ c.loop-left.invariant.1,
+      subst (Tells c.tell_row.new.told.items) (rows_front c.args.rows.now left (record { first = 0; more = 0 }) (omega (arith, c.loop-left-test.true)) c.loop-left.invariant.0)
+          (c.tell_row.ensures.calls _ c.loop-left.invariant.2),
     )
+
+pub returns-clause-calls : goal.returns-clause-calls
+returns-clause-calls c = subst (Tells c.loop-left.told.items) (rows_whole c.args.rows.now c.loop-left.left (omega (arith, c.loop-left-test.false))) c.loop-left.invariant.2
