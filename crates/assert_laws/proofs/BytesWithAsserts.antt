@@ -20,10 +20,10 @@ use Rattle.wasm_reader.specs.Answers.{IsAccepted}
 use Rattle.wasm_reader.specs.Locals.{func_locals}
 use Rattle.guard_form.specs.Asserts.{any_callee, asserted_reached, tested_behind}
 use Rattle.guard_form.proofs.Growing.{depths_grow}
-use Rattle.live_laws.proofs.BytesByPolicy.{few_as}
-use Rattle.live_laws.proofs.Levels.{Levels}
-use Rattle.live_laws.proofs.Numbers.{functions_of}
-use Rattle.live_laws.proofs.Prepared.{LowModule, emitted_low, low_prepared, merged_func, wider_levels}
+use Rattle.emitted_form.proofs.BytesByPolicy.{few_as}
+use Rattle.emitted_form.proofs.Levels.{Levels}
+use Rattle.emitted_form.proofs.Numbers.{functions_of}
+use Rattle.emitted_form.proofs.Prepared.{LowModule, emitted_low, low_prepared, merged_func, wider_levels}
 use Rattle.assert_laws.specs.AssertedModules.{AssertedHasFewLocals, AssertedIsPrepared, AssertedIsSpelled}
 use Rattle.assert_laws.specs.EmittedWithAsserts.{asserted_body, func_with_asserts, funcs_with_asserts, module_with_asserts}
 use Rattle.assert_laws.proofs.EmittedAsserts.{well_formed_law}

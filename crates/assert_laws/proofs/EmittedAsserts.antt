@@ -30,18 +30,18 @@ use Rattle.headline.proofs.LiveSteps.{equal_lives}
 use Rattle.headline.proofs.PauseCosts.{kept_framed}
 use Rattle.headline.proofs.StackAgain.{again_more, stacks_stand}
 use Rattle.headline.proofs.UnpausedRuns.{runs_unpaused}
-use Rattle.rewrite_form.proofs.Asyncified as All
-use Rattle.rewrite_form.proofs.EmittedFits as Fits
-use Rattle.rewrite_form.proofs.Spaces.{globals_counted}
-use Rattle.live_laws.specs.EmittedAs.{EmittedAs, EmittedUnder, IsAllAsyncified, IsLiveAsyncified}
-use Rattle.live_laws.specs.LiveModuleLaws.{LiveRewriting}
-use Rattle.live_laws.specs.PolicyLaws.{CanBeEmitted}
-use Rattle.live_laws.specs.SameLive.{SameLive, SameUnder, also, none}
-use Rattle.live_laws.proofs.LiveAgain as Again
-use Rattle.live_laws.proofs.LiveFramed.{live_framed}
-use Rattle.live_laws.proofs.LiveModules as Live
-use Rattle.live_laws.proofs.LiveRelation.{live_stands, stack_same}
-use Rattle.live_laws.proofs.PolicyCases.{live_rewriting, valid_as}
+use Rattle.emitted_form.proofs.Asyncified as All
+use Rattle.emitted_form.proofs.EmittedFits as Fits
+use Rattle.emitted_form.proofs.Spaces.{globals_counted}
+use Rattle.emitted_form.specs.EmittedAs.{EmittedAs, EmittedUnder, IsAllAsyncified, IsLiveAsyncified}
+use Rattle.emitted_form.specs.LiveModuleLaws.{LiveRewriting}
+use Rattle.emitted_form.specs.PolicyLaws.{CanBeEmitted}
+use Rattle.emitted_form.specs.SameLive.{SameLive, SameUnder, also, none}
+use Rattle.emitted_form.proofs.LiveAgain as Again
+use Rattle.emitted_form.proofs.LiveFramed.{live_framed}
+use Rattle.emitted_form.proofs.LiveModules as Live
+use Rattle.emitted_form.proofs.LiveRelation.{live_stands, stack_same}
+use Rattle.emitted_form.proofs.PolicyCases.{live_rewriting, valid_as}
 use Rattle.assert_laws.specs.AssertedModules.{AssertedBehavesGiven, AssertedIsValid, AssertedIsWellFormed, AssertedRewrites, AssertedRunsUnpaused, BehavesGivenWithAsserts}
 use Rattle.assert_laws.specs.EmittedWithAsserts.{EmittedWithAsserts, module_with_asserts}
 use Rattle.assert_laws.proofs.AssertedBehaving.{StacksOwed}

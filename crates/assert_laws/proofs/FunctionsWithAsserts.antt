@@ -5,8 +5,8 @@ use Rattle.wa_types.specs.Pausing.{Settings}
 use Rattle.wa_types.specs.Base.{added_memories}
 use Rattle.wa_types.specs.Runtime.{func_space, global_space, runtime_exports, runtime_funcs, runtime_globals, runtime_types, with_runtime}
 use Rattle.wa_types.specs.Syntax.{Func, Module}
-use Rattle.live_laws.specs.EmittedAs.{AreEmitted}
-use Rattle.live_laws.proofs.PolicyCases as Policies
+use Rattle.emitted_form.specs.EmittedAs.{AreEmitted}
+use Rattle.emitted_form.proofs.PolicyCases as Policies
 use Rattle.assert_laws.specs.EmittedWithAsserts.{AreEmittedWithAsserts, FunctionsHaveAsserts, func_with_asserts, funcs_with_asserts, module_with_asserts}
 use Rattle.assert_laws.proofs.ModuleWithAsserts.{runtime_stays, sorts_from}
 

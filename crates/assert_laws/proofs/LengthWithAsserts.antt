@@ -12,14 +12,14 @@ use Rattle.wa_types.proofs.SizeBounds.{weight_fits}
 use Rattle.leb_numbers.specs.Leb.{shortest}
 use Rattle.wasm_encode.proofs.AroundLemmas.{same_sort_bytes}
 use Rattle.guard_form.specs.Asserts.{asserted_reached}
-use Rattle.rewrite_form.specs.CodesHold.{AllCodesHold, AllCodesSmall, codes_size}
-use Rattle.rewrite_form.specs.EmittedBy.{FrameCode, asyncified_by, func_by, funcs_by, written_by}
-use Rattle.rewrite_form.proofs.EmittedBy.{defined_of, same_sorts}
-use Rattle.rewrite_form.proofs.FitsBy.{one_of_all}
-use Rattle.rewrite_form.proofs.Grown.{customs_total, enc_length, with_runtime_length}
-use Rattle.rewrite_form.proofs.LengthBy.{code_length, entry, written_entry}
-use Rattle.rewrite_form.proofs.Lengths.{entries_within, section_length, sized_length}
-use Rattle.live_laws.specs.PolicyLaws.{CanBeEmitted}
+use Rattle.emitted_form.specs.CodesHold.{AllCodesHold, AllCodesSmall, codes_size}
+use Rattle.emitted_form.specs.EmittedBy.{FrameCode, asyncified_by, func_by, funcs_by, written_by}
+use Rattle.emitted_form.proofs.EmittedBy.{defined_of, same_sorts}
+use Rattle.emitted_form.proofs.FitsBy.{one_of_all}
+use Rattle.emitted_form.proofs.Grown.{customs_total, enc_length, with_runtime_length}
+use Rattle.emitted_form.proofs.LengthBy.{code_length, entry, written_entry}
+use Rattle.emitted_form.proofs.Lengths.{entries_within, section_length, sized_length}
+use Rattle.emitted_form.specs.PolicyLaws.{CanBeEmitted}
 use Rattle.assert_laws.specs.AssertedModules.{AssertedIsShort}
 use Rattle.assert_laws.specs.EmittedWithAsserts.{func_with_asserts, funcs_with_asserts, module_with_asserts}
 use Rattle.assert_laws.proofs.FunctionsWithAsserts.{built_same}

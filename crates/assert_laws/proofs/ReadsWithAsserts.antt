@@ -10,13 +10,13 @@ use Rattle.wa_types.specs.Syntax.{Code, basic, branch, done, global_get, nest, p
 use Rattle.guard_form.specs.Asserts.{any_callee, assert_code, asserted, asserted_reached, tested_behind}
 use Rattle.guard_form.specs.Bounds.{plain_reads, reads}
 use Rattle.guard_form.proofs.AssertedCode.{last_calls_none}
-use Rattle.rewrite_form.specs.CodesHold.{AllCodesHold, AllCodesSmall}
-use Rattle.rewrite_form.specs.EmittedBy.{FrameCode, asyncified_by, written_by}
-use Rattle.rewrite_form.proofs.EmittedBy.{defined_of, emitted_at, told}
-use Rattle.rewrite_form.proofs.EmittedSizes.{calls_same}
-use Rattle.rewrite_form.proofs.StateReads.{own_unread}
-use Rattle.live_laws.specs.PolicyLaws.{CanBeEmitted, EachReadsFew}
-use Rattle.live_laws.proofs.PolicyReads.{emitted_reads}
+use Rattle.emitted_form.specs.CodesHold.{AllCodesHold, AllCodesSmall}
+use Rattle.emitted_form.specs.EmittedBy.{FrameCode, asyncified_by, written_by}
+use Rattle.emitted_form.proofs.EmittedBy.{defined_of, emitted_at, told}
+use Rattle.emitted_form.proofs.EmittedSizes.{calls_same}
+use Rattle.emitted_form.proofs.StateReads.{own_unread}
+use Rattle.emitted_form.specs.PolicyLaws.{CanBeEmitted, EachReadsFew}
+use Rattle.emitted_form.proofs.PolicyReads.{emitted_reads}
 use Rattle.assert_laws.specs.AssertedModules.{AssertedReadsFew, EachReadsFewWithAsserts, ReadsFewWithAsserts}
 use Rattle.assert_laws.specs.EmittedWithAsserts.{module_with_asserts}
 use Rattle.assert_laws.proofs.WrittenWithAsserts.{codes_of, found, is_true, told_with, untold_with}

@@ -21,12 +21,12 @@ use Rattle.run_theory.proofs.RuntimeValid.{behind}
 use Rattle.run_laws.proofs.Sizes.{one_more, params_more}
 use Rattle.guard_form.specs.Asserts.{any_callee, assert_code, asserted, asserted_reached, tested_behind}
 use Rattle.guard_form.proofs.AssertedCode.{calls_behind, calls_stay}
-use Rattle.rewrite_form.specs.CodesHold.{AllCodesHold, AllCodesSmall}
-use Rattle.rewrite_form.specs.EmittedBy.{FrameCode, asyncified_by, func_by, written_by}
-use Rattle.rewrite_form.proofs.EmittedBy.{defined_of, emitted_at, funcs_are, inner, not_told, runtime, same_length, told}
-use Rattle.rewrite_form.proofs.EmittedSizes.{emitted_sizes, func_written, params_are, params_by_calls, params_sum, same_params}
-use Rattle.rewrite_form.proofs.FitsBy.{one_of_all}
-use Rattle.live_laws.specs.PolicyLaws.{CanBeEmitted}
+use Rattle.emitted_form.specs.CodesHold.{AllCodesHold, AllCodesSmall}
+use Rattle.emitted_form.specs.EmittedBy.{FrameCode, asyncified_by, func_by, written_by}
+use Rattle.emitted_form.proofs.EmittedBy.{defined_of, emitted_at, funcs_are, inner, not_told, runtime, same_length, told}
+use Rattle.emitted_form.proofs.EmittedSizes.{emitted_sizes, func_written, params_are, params_by_calls, params_sum, same_params}
+use Rattle.emitted_form.proofs.FitsBy.{one_of_all}
+use Rattle.emitted_form.specs.PolicyLaws.{CanBeEmitted}
 use Rattle.assert_laws.specs.AssertedModules.{AssertedKeepsSizes}
 use Rattle.assert_laws.specs.EmittedWithAsserts.{asserted_body, func_with_asserts, funcs_with_asserts, module_with_asserts}
 use Rattle.assert_laws.proofs.ModuleWithAsserts.{sorts_from}

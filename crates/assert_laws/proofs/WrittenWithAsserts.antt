@@ -16,25 +16,25 @@ use Rattle.wa_model.specs.Rewrites.{RewritesButRuns, RewrittenFunc, instructions
 use Rattle.run_theory.specs.Quiet.{FreeOfNames}
 use Rattle.guard_form.specs.Asserts.{Asserted, asserted, asserted_reached}
 use Rattle.guard_form.proofs.Growing.{depths_grow, sizes_grow}
-use Rattle.rewrite_form.specs.CodesHold.{AllCodesHold, AllCodesSmall, codes_size}
-use Rattle.rewrite_form.specs.Emitted.{layout_codes}
-use Rattle.rewrite_form.specs.EmittedBy.{FrameCode, asyncified_by, func_by, written_by}
-use Rattle.rewrite_form.proofs.EmittedBy.{defined_of, defined_where, emitted_at, not_told, told}
-use Rattle.rewrite_form.proofs.EmittedRewritten.{rewritten_but_runs, sort_there}
-use Rattle.rewrite_form.proofs.EmittedSizes.{calls_same, layouts_small}
-use Rattle.rewrite_form.proofs.SizesBy.{code_weighs, written_depth, written_size}
-use Rattle.rewrite_form.proofs.WrittenBy.{written_length}
-use Rattle.rewrite_form.proofs.FitsBy.{one_of_all}
-use Rattle.rewrite_form.proofs.LengthBy.{entry}
-use Rattle.rewrite_form.proofs.WrittenSizes.{layout_size, layouts_hold}
-use Rattle.rewrite_form.proofs.WiderTypes.{state_there}
+use Rattle.emitted_form.specs.CodesHold.{AllCodesHold, AllCodesSmall, codes_size}
+use Rattle.emitted_form.specs.Emitted.{layout_codes}
+use Rattle.emitted_form.specs.EmittedBy.{FrameCode, asyncified_by, func_by, written_by}
+use Rattle.emitted_form.proofs.EmittedBy.{defined_of, defined_where, emitted_at, not_told, told}
+use Rattle.emitted_form.proofs.EmittedRewritten.{rewritten_but_runs, sort_there}
+use Rattle.emitted_form.proofs.EmittedSizes.{calls_same, layouts_small}
+use Rattle.emitted_form.proofs.SizesBy.{code_weighs, written_depth, written_size}
+use Rattle.emitted_form.proofs.WrittenBy.{written_length}
+use Rattle.emitted_form.proofs.FitsBy.{one_of_all}
+use Rattle.emitted_form.proofs.LengthBy.{entry}
+use Rattle.emitted_form.proofs.WrittenSizes.{layout_size, layouts_hold}
+use Rattle.emitted_form.proofs.WiderTypes.{state_there}
 use Rattle.slot_laws.proofs.Closed.{one_list}
-use Rattle.live_laws.specs.EmittedAs.{EmittedAs, EmittedUnder}
-use Rattle.live_laws.specs.LiveParts.{live_codes}
-use Rattle.live_laws.specs.PolicyLaws.{CanBeEmitted}
-use Rattle.live_laws.proofs.LiveLength.{numbers_take}
-use Rattle.live_laws.proofs.LiveModules as Live
-use Rattle.live_laws.proofs.PolicyCases.{live_rewriting}
+use Rattle.emitted_form.specs.EmittedAs.{EmittedAs, EmittedUnder}
+use Rattle.emitted_form.specs.LiveParts.{live_codes}
+use Rattle.emitted_form.specs.PolicyLaws.{CanBeEmitted}
+use Rattle.emitted_form.proofs.LiveLength.{numbers_take}
+use Rattle.emitted_form.proofs.LiveModules as Live
+use Rattle.emitted_form.proofs.PolicyCases.{live_rewriting}
 use Rattle.assert_laws.specs.EmittedWithAsserts.{asserted_body, func_with_asserts, module_with_asserts}
 use Rattle.assert_laws.proofs.ModuleWithAsserts.{found_from, same_parts}
 use Rattle.assert_laws.proofs.ValidWithAsserts.{globals_are, valid_too}

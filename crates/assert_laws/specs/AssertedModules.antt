@@ -20,7 +20,7 @@ use Rattle.flat_laws.specs.Flatten.{flattened}
 use Rattle.guard_form.specs.AssertedRuns.{ExpectedWithAsserts, RewritesWithAsserts}
 use Rattle.guard_form.specs.Bounds.{reads, reads_bound}
 use Rattle.headline.specs.Given.{ComparedGiven}
-use Rattle.live_laws.specs.PolicyLaws.{CanBeEmitted}
+use Rattle.emitted_form.specs.PolicyLaws.{CanBeEmitted}
 use Rattle.assert_laws.specs.EmittedWithAsserts.{EmittedWithAsserts}
 
 -- What is emitted with asserts of a module without a reserved name is valid,

@@ -5,7 +5,7 @@ use Rattle.wa_types.specs.Pausing.{Callee, Settings, has_number, is_told}
 use Rattle.wa_types.specs.Runtime.{global_space, with_runtime}
 use Rattle.wa_types.specs.Syntax.{Code, Func, Module}
 use Rattle.guard_form.specs.Asserts.{asserted, asserted_reached}
-use Rattle.live_laws.specs.EmittedAs.{EmittedAs, IsEmitted}
+use Rattle.emitted_form.specs.EmittedAs.{EmittedAs, IsEmitted}
 
 -- A body with asserts: of a function that is written behind the calls without a number, of one that stays behind each call that can be reached.
 abbrev pub asserted_body : (tests : Callee → Bool) → (state : ℕ) → (written : Bool) → Code → Code

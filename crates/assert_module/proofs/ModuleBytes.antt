@@ -20,8 +20,8 @@ use Rattle.wasm_encode.specs.declared.held.CodeEntries.{CodeEntries}
 use Rattle.wasm_encode.proofs.AroundLemmas.{entries_within}
 use Rattle.wasm_encode.specs.declared.EncodeFault.{EncodeFault}
 use Rattle.wasm_encode.specs.declared.EncodeFault.TheVariants.{Memory, TooLong}
-use Rattle.live_laws.proofs.BytesByPolicy.{few_as}
-use Rattle.live_laws.specs.PolicyLaws.{CanBeEmitted}
+use Rattle.emitted_form.proofs.BytesByPolicy.{few_as}
+use Rattle.emitted_form.specs.PolicyLaws.{CanBeEmitted}
 use Rattle.module_rewrite.proofs.FreeNames.{unreserved_is_free}
 use Rattle.module_rewrite.proofs.WholeLemmas.{few_written, which_long}
 use Rattle.module_rewrite.specs.ByteFaults.{of_encode}

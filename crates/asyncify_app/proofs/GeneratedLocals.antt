@@ -8,7 +8,7 @@ use Rattle.wa_types.specs.Modules.{locals_of}
 use Rattle.wa_types.specs.Pruned.{pruned}
 use Rattle.wa_types.specs.Syntax.{Func}
 use Rattle.slot_laws.proofs.Few.{slots_are_few}
-use Rattle.rewrite_form.proofs.FitsBy.{one_of_all}
+use Rattle.emitted_form.proofs.FitsBy.{one_of_all}
 use Rattle.local_spill.specs.Reserved.{reserved_at}
 use Rattle.gen_module.specs.Generated.{first_code, func_by, func_with, generated, generated_func, generated_funcs}
 use Rattle.gen_module.proofs.GeneratedModules.{is_valid}

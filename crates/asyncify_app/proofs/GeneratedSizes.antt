@@ -8,9 +8,9 @@ use Rattle.wa_types.specs.Encoding.{Enc, body_bytes, code_bytes, export_bytes, e
 use Rattle.wa_model.specs.Rewrites.{instructions_and_labels}
 use Rattle.wasm_encode.specs.Locals.{local_count}
 use Rattle.wasm_encode.specs.Modules.{FewLocals}
-use Rattle.rewrite_form.proofs.LengthBy.{code_length}
-use Rattle.rewrite_form.proofs.Grown.{enc_length}
-use Rattle.rewrite_form.proofs.Lengths.{entries_length, section_length, shortest_length, sized_length}
+use Rattle.emitted_form.proofs.LengthBy.{code_length}
+use Rattle.emitted_form.proofs.Grown.{enc_length}
+use Rattle.emitted_form.proofs.Lengths.{entries_length, section_length, shortest_length, sized_length}
 use Rattle.asyncify_app.proofs.GeneratedLocals.{each}
 use Rattle.gen_module.specs.Generated.{first_code, func_by, func_with, generated, generated_func, generated_funcs, one_local, one_to_one, run_export, sleep}
 

@@ -13,7 +13,7 @@ use Rattle.local_spill.specs.declared.frames.Place.{Place}
 use Rattle.frame_laws.specs.Chosen.{fields_where}
 use Rattle.frame_laws.specs.Layout.{kept, gap, fields_size, placed}
 use Rattle.frame_laws.proofs.ChosenPlaces.{chosen_law}
-use Rattle.rewrite_form.specs.Emitted.{field_where}
+use Rattle.emitted_form.specs.Emitted.{field_where}
 use Rattle.func_rewrite.specs.WrittenFrames.{numbered_places, IsFrame, FramesFrom}
 use Rattle.func_rewrite.specs.Frames.{IsFrameOf, FramesAt}
 

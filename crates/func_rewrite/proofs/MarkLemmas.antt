@@ -23,7 +23,7 @@ use Rattle.guard_form.specs.Pieces.{call_total}
 use Rattle.flow_rewrite.proofs.NumberingLemmas.{none_place}
 use Rattle.flow_rewrite.specs.Statements.{with_rest}
 use Rattle.flow_rewrite.proofs.StmtLemmas.{in_front_is, stmts_step, stmts_end, call_is}
-use Rattle.rewrite_form.specs.Emitted.{or_none, holds_operand}
+use Rattle.emitted_form.specs.Emitted.{or_none, holds_operand}
 use Rattle.func_rewrite.specs.Marking.{is_held, StacksFit, Markable, Marked}
 
 -- ---- booleans

@@ -24,8 +24,8 @@ use Rattle.live_locals.specs.LiveAt.{LiveAtCalls}
 use Rattle.call_frames.specs.declared.frames.FrameParts.{FrameParts}
 use Rattle.call_frames.specs.Classes.{KeepCheaply, NumbersBelow}
 use Rattle.call_frames.specs.Views.{parts_view, told_frames}
-use Rattle.live_laws.specs.EmittedAs.{IsLiveWritten, live_written}
-use Rattle.live_laws.specs.LiveParts.{LiveParts}
+use Rattle.emitted_form.specs.EmittedAs.{IsLiveWritten, live_written}
+use Rattle.emitted_form.specs.LiveParts.{LiveParts}
 use Rattle.func_rewrite.specs.Bodies.{IsSlimBody}
 use Rattle.func_rewrite.specs.Frames.{IsFlattened}
 use Rattle.func_rewrite.proofs.WrittenFuncs.{func_is, mk_func, runs_same}

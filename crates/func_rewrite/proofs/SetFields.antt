@@ -14,12 +14,12 @@ use Rattle.run_theory.specs.FlatView.{flat_func_of}
 use Rattle.flat_laws.specs.Flatten.{flattened}
 use Rattle.flatten.specs.declared.whole.Flattened.{Flattened}
 use Rattle.frame_laws.specs.Layout.{FrameField, kept, kept_count}
-use Rattle.live_laws.specs.LiveFrames.{fields_at}
+use Rattle.emitted_form.specs.LiveFrames.{fields_at}
 use Rattle.live_locals.specs.LiveAt.{KeepsAt, LiveAtCalls}
 use Rattle.live_locals.specs.Sets.{has}
 use Rattle.live_locals.proofs.SavedLive.{live_is_saved}
 use Rattle.call_frames.specs.Views.{fields_in, kept_total, kept_where}
-use Rattle.live_laws.specs.LiveParts.{saved_total}
+use Rattle.emitted_form.specs.LiveParts.{saved_total}
 use Rattle.func_rewrite.specs.Frames.{IsFlattened}
 
 abbrev kept_place : Place → FrameField

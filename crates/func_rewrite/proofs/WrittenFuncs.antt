@@ -31,7 +31,7 @@ use Rattle.frame_laws.specs.Layout.{FrameField, Layout as FrameLayout, fields_si
 use Rattle.guard_form.specs.Guarded.{guard_indices, guarded_body, function_body}
 use Rattle.guard_form.specs.Pieces.{call_total}
 use Rattle.flow_rewrite.specs.Numbering.{callees, gets_number}
-use Rattle.rewrite_form.specs.Emitted.{IsAllWritten, holds_operand, is_kept, field_where, frame_layout, written_func}
+use Rattle.emitted_form.specs.Emitted.{IsAllWritten, holds_operand, is_kept, field_where, frame_layout, written_func}
 use Rattle.slim_laws.specs.SlimModule.{Pieces, SlimPieces}
 use Rattle.func_rewrite.specs.WrittenFrames.{numbered_places, AllFrames}
 use Rattle.func_rewrite.specs.Marking.{StacksFit}

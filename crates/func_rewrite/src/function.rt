@@ -7,7 +7,7 @@ ghost use Rattle.wa_types.specs.Validity.{Valid as IsValid};
 ghost use Rattle.wa_types.specs.View.{func_of, module_of};
 ghost use Rattle.call_graph.specs.Settings.{settings_of};
 ghost use Rattle.local_spill.specs.Ids.{ids_behind};
-ghost use Rattle.rewrite_form.specs.Emitted.{IsAllWritten};
+ghost use Rattle.emitted_form.specs.Emitted.{IsAllWritten};
 ghost use Rattle.func_rewrite.specs.Frames.{IsFlattened, FramesUnder};
 
 use crate::body::written_body;

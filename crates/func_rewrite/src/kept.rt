@@ -7,7 +7,7 @@ ghost use Rattle.run_theory.specs.FlatView.{flat_func_of, stmts, stmt_in_front};
 ghost use Rattle.guard_form.specs.Grouping.{is_place};
 ghost use Rattle.guard_form.specs.Pieces.{call_total};
 ghost use Rattle.flow_rewrite.specs.Emitting.{Rises};
-ghost use Rattle.rewrite_form.specs.Emitted.{holds_operand};
+ghost use Rattle.emitted_form.specs.Emitted.{holds_operand};
 ghost use Rattle.func_rewrite.specs.Marking.{Markable, Marked, StacksFit};
 
 use std::alloc::{AllocError, Global};

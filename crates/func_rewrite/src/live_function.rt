@@ -16,7 +16,7 @@ ghost use Rattle.flow_rewrite.specs.Emitting.{Rises};
 ghost use Rattle.func_rewrite.specs.Bodies.{IsSlimBody};
 ghost use Rattle.func_rewrite.specs.Frames.{FramesUnder, IsFlattened};
 ghost use Rattle.guard_form.specs.Pieces.{call_total};
-ghost use Rattle.live_laws.specs.EmittedAs.{IsLiveWritten};
+ghost use Rattle.emitted_form.specs.EmittedAs.{IsLiveWritten};
 ghost use Rattle.call_frames.specs.Classes.{FewParts};
 ghost use Rattle.call_frames.specs.Views.{parts_view, told_frames};
 ghost use Rattle.func_rewrite.specs.Calls.{AreLiveCalls};

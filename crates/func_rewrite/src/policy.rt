@@ -8,7 +8,7 @@ ghost use Rattle.wa_types.specs.View.{func_of, module_of};
 ghost use Rattle.call_graph.specs.Settings.{settings_of};
 ghost use Rattle.local_spill.specs.Ids.{ids_behind};
 ghost use Rattle.func_rewrite.specs.Frames.{FramesOf, IsFlattened};
-ghost use Rattle.live_laws.specs.EmittedAs.{IsWritten};
+ghost use Rattle.emitted_form.specs.EmittedAs.{IsWritten};
 
 use crate::function::{func_frames, write_func};
 use crate::live_function::{live_func_frames, write_live_func};

@@ -44,7 +44,7 @@ use Rattle.headline.proofs.NumberedStacks.{AllAtNumbers, AtNumber, space_below}
 use Rattle.headline.proofs.PairedFlat.{base_defined, base_locals, core_fits}
 use Rattle.headline.proofs.PairedStacks.{AllPairs, PairAt, call_frame_is}
 use Rattle.headline.proofs.Standing.{the_guards}
-use Rattle.live_laws.proofs.PassingWeight.{passing_few}
+use Rattle.emitted_form.proofs.PassingWeight.{passing_few}
 use Rattle.image_laws.specs.Image.{rewind_bound, unwind_bound}
 use Rattle.image_laws.proofs.Apart.{ApartSums, rewound, unwound}
 

@@ -26,23 +26,23 @@ use Rattle.headline.proofs.PauseCosts.{kept_framed}
 use Rattle.headline.proofs.StackAgain.{stacks_stand}
 use Rattle.slim_laws.specs.SlimModule.{Pieces}
 use Rattle.call_frames.specs.PlainFrames.{SavedParts, frames_of}
-use Rattle.live_laws.specs.SameLive.{SameLive}
-use Rattle.live_laws.proofs.LiveRelation.{live_stands}
-use Rattle.live_laws.proofs.LiveAgain.{live_stacks_stand}
-use Rattle.live_laws.proofs.LiveFramed.{live_framed}
-use Rattle.live_laws.specs.ByCallFraming.{call_frame}
-use Rattle.rewrite_form.specs.CodesHold.{AllSlim}
-use Rattle.rewrite_form.specs.Emitted.{asyncified}
-use Rattle.rewrite_form.proofs.EmittedFits as AllFits
-use Rattle.rewrite_form.proofs.EmittedRewritten as AllRewritten
-use Rattle.rewrite_form.proofs.Asyncified as All
-use Rattle.rewrite_form.proofs.FitsBy.{emitted_fits}
-use Rattle.live_laws.specs.EmittedAs.{EmittedUnder}
-use Rattle.live_laws.specs.LiveModuleLaws.{LiveRewriting}
-use Rattle.live_laws.specs.LiveParts.{live_asyncified, live_codes}
-use Rattle.live_laws.specs.PolicyLaws.{CanBeEmitted}
-use Rattle.live_laws.proofs.LiveModules.{fit, framed, frames, frames_are, hold, live_emitted, live_valid}
-use Rattle.live_laws.proofs.PolicyCases.{live_rewriting}
+use Rattle.emitted_form.specs.SameLive.{SameLive}
+use Rattle.emitted_form.proofs.LiveRelation.{live_stands}
+use Rattle.emitted_form.proofs.LiveAgain.{live_stacks_stand}
+use Rattle.emitted_form.proofs.LiveFramed.{live_framed}
+use Rattle.emitted_form.specs.ByCallFraming.{call_frame}
+use Rattle.emitted_form.specs.CodesHold.{AllSlim}
+use Rattle.emitted_form.specs.Emitted.{asyncified}
+use Rattle.emitted_form.proofs.EmittedFits as AllFits
+use Rattle.emitted_form.proofs.EmittedRewritten as AllRewritten
+use Rattle.emitted_form.proofs.Asyncified as All
+use Rattle.emitted_form.proofs.FitsBy.{emitted_fits}
+use Rattle.emitted_form.specs.EmittedAs.{EmittedUnder}
+use Rattle.emitted_form.specs.LiveModuleLaws.{LiveRewriting}
+use Rattle.emitted_form.specs.LiveParts.{live_asyncified, live_codes}
+use Rattle.emitted_form.specs.PolicyLaws.{CanBeEmitted}
+use Rattle.emitted_form.proofs.LiveModules.{fit, framed, frames, frames_are, hold, live_emitted, live_valid}
+use Rattle.emitted_form.proofs.PolicyCases.{live_rewriting}
 use Rattle.image_laws.specs.Image.{ComesThere, ComesToPause, GoesOnFrom, HoldsPause, Pause, rest_of_cost, rewind_bound, unwind_bound}
 use Rattle.image_laws.specs.Laws.{ImageGoesOn, PausesHold}
 use Rattle.image_laws.proofs.ApartFrames.{all_apart}

@@ -11,7 +11,7 @@ use Rattle.wa_model.specs.Blocking.{blocking, events_of}
 use Rattle.wa_model.specs.Machine.{run}
 use Rattle.wa_model.specs.Outside.{Event, answered, ended, returned}
 use Rattle.wa_model.specs.Store.{Store}
-use Rattle.live_laws.specs.EmittedAs.{EmittedAs}
+use Rattle.emitted_form.specs.EmittedAs.{EmittedAs}
 use Rattle.image_laws.specs.Example.{ComesBack, HandWrittenComesBack, Holds, image_with, may_pause, outcomes_there, pause_there, plan_there, sample, saving, store_of}
 use Rattle.image_laws.specs.Image.{GoesOnFrom, RestBound, answer_there, expected_from, goes_on_there, held_rest, held_there, rest_of_cost, stack_there}
 use Rattle.image_laws.proofs.Emitted.{image_goes_on}

@@ -19,7 +19,7 @@ use Rattle.run_theory.proofs.GrownSteps.{front}
 use Rattle.wa_model.specs.Expected.{SameEnd}
 use Rattle.run_theory.specs.Fitting.{StoreFits}
 use Rattle.run_laws.specs.Ranges.{StoreIn, byte_in}
-use Rattle.live_laws.specs.EmittedAs.{EmittedAs}
+use Rattle.emitted_form.specs.EmittedAs.{EmittedAs}
 use Rattle.image_laws.specs.Example.{HandWrittenDont, HandWrittenHolds, fresh, image_with, may_pause, page_of, pause_there, plan_there, sample, saving, store_of}
 use Rattle.image_laws.specs.Image.{stack_there}
 use Rattle.image_laws.proofs.SameStores.{got_back}

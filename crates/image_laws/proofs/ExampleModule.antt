@@ -18,7 +18,7 @@ use Rattle.wa_types.specs.Syntax.{Func, GlobalDef}
 use Rattle.wa_types.specs.Typing.{Takes, Typed, Types, moves}
 use Rattle.wa_types.specs.Validity.{Valid}
 use Rattle.run_theory.specs.Quiet.{FreeOfNames}
-use Rattle.live_laws.specs.PolicyLaws.{CanBeEmitted}
+use Rattle.emitted_form.specs.PolicyLaws.{CanBeEmitted}
 use Rattle.image_laws.specs.Example.{adding, may_pause, sample, saving}
 
 -- ---- validity

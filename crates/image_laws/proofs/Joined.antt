@@ -16,8 +16,8 @@ use Rattle.run_theory.specs.Laws.{start_of}
 use Rattle.wa_model.specs.Machine.{Ran, goes, run}
 use Rattle.wa_model.specs.Plan.{Entry}
 use Rattle.wa_model.specs.Store.{Store}
-use Rattle.live_laws.proofs.CodeAlone.{code_alone}
-use Rattle.live_laws.specs.PolicyLaws.{without_code}
+use Rattle.emitted_form.proofs.CodeAlone.{code_alone}
+use Rattle.emitted_form.specs.PolicyLaws.{without_code}
 use Rattle.image_laws.specs.Image.{HoldsPause, answer_there, goes_on_there, left_there, rest_of_cost, stack_there}
 use Rattle.image_laws.specs.Laws.{OneSavesAnotherGoesOn, WholeBound}
 use Rattle.image_laws.proofs.Apart.{bounds_join}

@@ -16,7 +16,7 @@ use Rattle.wa_model.specs.Configuration.{running, waiting}
 use Rattle.wa_model.specs.Outside.{Answer, answered, ended, returned}
 use Rattle.wa_model.specs.Plan.{Entry, Outcome, Plan, given}
 use Rattle.wa_model.specs.Store.{Store}
-use Rattle.live_laws.specs.EmittedAs.{EmittedAs}
+use Rattle.emitted_form.specs.EmittedAs.{EmittedAs}
 use Rattle.image_laws.specs.Image.{GoesOnFrom, HoldsPause, Pause, RestBound, held_rest, held_there, stack_there}
 
 -- ---- a run that pauses

@@ -12,8 +12,8 @@ use Rattle.wa_model.specs.Blocking.{Blocking, blocking}
 use Rattle.wa_model.specs.Plan.{Outcome, Plan}
 use Rattle.run_theory.specs.Quiet.{FreeOfNames}
 use Rattle.wa_model.specs.Store.{Store}
-use Rattle.live_laws.specs.EmittedAs.{EmittedAs}
-use Rattle.live_laws.specs.PolicyLaws.{CanBeEmitted}
+use Rattle.emitted_form.specs.EmittedAs.{EmittedAs}
+use Rattle.emitted_form.specs.PolicyLaws.{CanBeEmitted}
 use Rattle.image_laws.specs.Image.{ComesThere, ComesToPause, GoesOnFrom, HoldsPause, Pause, RestBound, UntilBound, goes_on_there, rest_of_cost, stack_there}
 
 -- What is asked of an original and of a run of it: what the headline asks, for a run up to a cost of n.

@@ -1,7 +1,7 @@
 -- The law of joined worlds.
 use Rattle.image_laws.proofs.Emitted.{image_goes_on, pauses_hold}
 use Rattle.image_laws.proofs.Joined.{whole_bound}
-use Rattle.live_laws.proofs.CodeAlone.{code_alone}
+use Rattle.emitted_form.proofs.CodeAlone.{code_alone}
 use Rattle.joined_worlds.specs.JoinedOriginals.{JoinedWorldsOfOriginals}
 use Rattle.joined_worlds.proofs.JoinedOriginals.{joined_worlds_of_originals}
 

@@ -22,7 +22,7 @@ use Rattle.world_laws.specs.Snapshots.{IsRecordOf, StandsSo, from_record, from_r
 use Rattle.world_laws.proofs.Replaying.{Since, played_since}
 use Rattle.world_laws.proofs.Stories.{IsStory}
 use Rattle.image_laws.specs.Laws.{ImageGoesOn, PausesHold, RunCompared, WholeBound}
-use Rattle.live_laws.specs.PolicyLaws.{EmittedDifferInCode, without_code}
+use Rattle.emitted_form.specs.PolicyLaws.{EmittedDifferInCode, without_code}
 use Rattle.joined_worlds.specs.JoinedOriginals.{AllGoOver, AreOrderly, GoesOver, JoinedWorldsOfOriginals}
 use Rattle.joined_worlds.proofs.JoinedRows.{Heres, a_program, joined_world, no_program}
 use Rattle.joined_worlds.proofs.JoinedStories.{RunsKnown}

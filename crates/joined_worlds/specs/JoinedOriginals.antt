@@ -9,8 +9,8 @@ use Rattle.snapshot_store.specs.Snapshots.{Snapshot}
 use Rattle.world_laws.specs.Originals.{MayRun, Orderly, StandsIn, met}
 use Rattle.world_laws.specs.Played.{ProtocolWorldUpTo}
 use Rattle.world_laws.specs.Snapshots.{From, IsSnapshotOf}
-use Rattle.live_laws.specs.EmittedAs.{EmittedAs}
-use Rattle.live_laws.specs.PolicyLaws.{CanBeEmitted}
+use Rattle.emitted_form.specs.EmittedAs.{EmittedAs}
+use Rattle.emitted_form.specs.PolicyLaws.{CanBeEmitted}
 
 -- Two programs over modules that are emitted of one original, each in its place: the first is saved, the second goes on. Their modules
 -- needn't be the same.

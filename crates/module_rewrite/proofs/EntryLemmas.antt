@@ -12,9 +12,9 @@ use Rattle.wa_types.specs.Validity.{Valid}
 use Rattle.wasm_encode.specs.Locals.{local_count}
 use Rattle.wasm_encode.proofs.AroundLemmas.{entries_within}
 use Rattle.wasm_encode.specs.Around.{code_entry}
-use Rattle.rewrite_form.proofs.FitsBy.{one_of_all}
-use Rattle.live_laws.specs.PolicyBytes.{IsShortEntry}
-use Rattle.live_laws.proofs.BytesByPolicy.{written_short}
+use Rattle.emitted_form.proofs.FitsBy.{one_of_all}
+use Rattle.emitted_form.specs.PolicyBytes.{IsShortEntry}
+use Rattle.emitted_form.proofs.BytesByPolicy.{written_short}
 use Rattle.module_rewrite.specs.Taking.{CanTake}
 
 -- ---- entries are no longer than all the bytes

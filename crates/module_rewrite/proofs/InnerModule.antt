@@ -12,10 +12,10 @@ use Rattle.wa_model.specs.Rewrites.{Rewrites}
 use Rattle.local_spill.specs.Reserved.{reserved_at}
 use Rattle.local_spill.specs.declared.reserving.ReservedAt.{ReservedAt}
 use Rattle.flatten.specs.Whole.{NonePasses}
-use Rattle.live_laws.specs.EmittedAs.{AreEmitted, EmittedAs}
-use Rattle.live_laws.specs.PolicyLaws.{CanBeEmitted, EachReadsFew}
-use Rattle.live_laws.proofs.PolicyCases.{functions_law, rewrites_as, sizes_as, valid_as}
-use Rattle.live_laws.proofs.PolicyReads.{emitted_reads}
+use Rattle.emitted_form.specs.EmittedAs.{AreEmitted, EmittedAs}
+use Rattle.emitted_form.specs.PolicyLaws.{CanBeEmitted, EachReadsFew}
+use Rattle.emitted_form.proofs.PolicyCases.{functions_law, rewrites_as, sizes_as, valid_as}
+use Rattle.emitted_form.proofs.PolicyReads.{emitted_reads}
 use Rattle.module_rewrite.specs.Taking.{AllTaken}
 use Rattle.module_rewrite.proofs.FreeNames.{unreserved_is_free}
 use Rattle.module_rewrite.proofs.WholeLemmas.{few_written, globals_small, made_space, none_is}

@@ -17,9 +17,9 @@ use Rattle.wa_types.specs.View.{func_of, module_of}
 use Rattle.wa_types.specs.declared.syntax.Module.{Module as ModuleValue}
 use Rattle.wa_model.specs.Rewrites.{Rewrites}
 use Rattle.flatten.specs.Whole.{NonePasses}
-use Rattle.live_laws.proofs.BytesByPolicy.{short_as}
-use Rattle.live_laws.specs.EmittedAs.{AreEmitted, EmittedAs, IsEmittedWhere, IsWrittenUnder}
-use Rattle.live_laws.proofs.PolicyCases.{functions_law}
+use Rattle.emitted_form.proofs.BytesByPolicy.{short_as}
+use Rattle.emitted_form.specs.EmittedAs.{AreEmitted, EmittedAs, IsEmittedWhere, IsWrittenUnder}
+use Rattle.emitted_form.proofs.PolicyCases.{functions_law}
 use Rattle.wasm_encode.specs.Locals.{local_count}
 use Rattle.wasm_encode.specs.Around.{code_entry, code_entries, HoldsEntries, IsAround, IsUnwritten}
 use Rattle.wasm_encode.specs.declared.held.CodeEntries.{CodeEntries}
@@ -27,7 +27,7 @@ use Rattle.wasm_encode.proofs.AroundLemmas.{entries_within}
 use Rattle.wasm_encode.specs.Modules.{FewLocals}
 use Rattle.wasm_encode.specs.declared.EncodeFault.{EncodeFault}
 use Rattle.wasm_encode.specs.declared.EncodeFault.TheVariants.{Memory, TooLong}
-use Rattle.rewrite_form.proofs.GrownFits.{grown_locals}
+use Rattle.emitted_form.proofs.GrownFits.{grown_locals}
 use Rattle.module_rewrite.proofs.WholeLemmas.{few_written}
 use Rattle.module_rewrite.specs.Entries.{value_entries, PutsEntries}
 use Rattle.module_rewrite.specs.ByteFaults.{of_encode}

@@ -20,8 +20,8 @@ use Rattle.flatten.specs.declared.fault.FlatFault.TheVariants as F
 use Rattle.flatten.proofs.ToldLemmas.{Sofar, sofar_first, sofar_done, go_skip, go_put, go_stop}
 use Rattle.func_rewrite.specs.Frames.{IsFlattened}
 use Rattle.wasm_validate.proofs.FuncLemmas.{func_at}
-use Rattle.rewrite_form.proofs.EmittedBy.{defined_of}
-use Rattle.live_laws.specs.EmittedAs.{AreEmitted, IsEmitted, IsEmittedWhere, IsWritten}
+use Rattle.emitted_form.proofs.EmittedBy.{defined_of}
+use Rattle.emitted_form.specs.EmittedAs.{AreEmitted, IsEmitted, IsEmittedWhere, IsWritten}
 use Rattle.module_rewrite.specs.Taking.{AllTaken, CanTake, IsRefused}
 
 -- ---- one by one

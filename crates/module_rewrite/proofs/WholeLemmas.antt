@@ -11,9 +11,9 @@ use Rattle.wa_types.specs.Sizes.{StrictSizeRule}
 use Rattle.wa_types.specs.Syntax.{Func, Module}
 use Rattle.flat_laws.proofs.FlatModules.{dropped_at}
 use Rattle.flatten.specs.Whole.{NonePasses}
-use Rattle.rewrite_form.specs.Sizes.{FewWritten}
-use Rattle.rewrite_form.proofs.EmittedBy.{sort_of}
-use Rattle.live_laws.specs.EmittedAs.{AreEmitted}
+use Rattle.emitted_form.specs.Sizes.{FewWritten}
+use Rattle.emitted_form.proofs.EmittedBy.{sort_of}
+use Rattle.emitted_form.specs.EmittedAs.{AreEmitted}
 use Rattle.local_spill.specs.Reserved.{reserved_at}
 use Rattle.flatten.specs.declared.fault.FlatFault.{FlatFault}
 use Rattle.flatten.specs.declared.fault.FlatFault.TheVariants.{Memory, Locals}

@@ -7,7 +7,7 @@ use Rattle.wa_types.specs.Syntax.{Func, Module}
 use Rattle.flatten.specs.Whole.{NonePasses, FirstPasses}
 use Rattle.flatten.specs.declared.fault.FlatFault.{FlatFault}
 use Rattle.flatten.specs.declared.fault.FlatFault.TheVariants.{Memory, Locals}
-use Rattle.live_laws.specs.EmittedAs.{AreEmitted, IsWritten}
+use Rattle.emitted_form.specs.EmittedAs.{AreEmitted, IsWritten}
 
 -- Each function that stays, and each that is written, is one that a sink takes.
 pub record CanTake (m : Module) (s : Settings) (which : List Bool) (fits : Func → Type 0) : Type 0 where

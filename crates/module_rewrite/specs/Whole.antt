@@ -7,8 +7,8 @@ use Rattle.wa_types.specs.View.{module_of}
 use Rattle.wa_model.specs.Rewrites.{Rewrites}
 use Rattle.local_spill.specs.Reserved.{reserved_at}
 use Rattle.flatten.specs.Whole.{NonePasses, FirstPasses}
-use Rattle.live_laws.specs.EmittedAs.{EmittedAs}
-use Rattle.live_laws.specs.PolicyLaws.{EachReadsFew}
+use Rattle.emitted_form.specs.EmittedAs.{EmittedAs}
+use Rattle.emitted_form.specs.PolicyLaws.{EachReadsFew}
 use Rattle.module_rewrite.specs.Layouts.{LaidOut}
 use Rattle.module_rewrite.specs.declared.fault.RewriteFault.{RewriteFault}
 use Rattle.module_rewrite.specs.declared.fault.RewriteFault.TheVariants.{Memory, Locals, Reserved}

@@ -6,8 +6,8 @@ use Rattle.wa_types.specs.Pausing.{Settings, TellsMayPause}
 use Rattle.wa_types.specs.Syntax.{Module}
 use Rattle.wa_model.specs.Rewrites.{Rewrites}
 use Rattle.flatten.specs.Whole.{NonePasses}
-use Rattle.live_laws.specs.EmittedAs.{EmittedAs}
-use Rattle.live_laws.specs.PolicyLaws.{EachReadsFew}
+use Rattle.emitted_form.specs.EmittedAs.{EmittedAs}
+use Rattle.emitted_form.specs.PolicyLaws.{EachReadsFew}
 use Rattle.module_rewrite.specs.Whole.{FirstTooMany}
 use Rattle.module_rewrite.specs.declared.byte_fault.EmitFault.{EmitFault}
 use Rattle.module_rewrite.specs.declared.byte_fault.EmitFault.TheVariants.{Memory, Locals, TooLong}

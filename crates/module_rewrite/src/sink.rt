@@ -5,7 +5,7 @@ ghost use Rattle.std.specs.List.{flat_map};
 ghost use Rattle.wa_types.specs.Syntax.{Func as PlainFunc};
 ghost use Rattle.wa_types.specs.View.{func_of};
 ghost use Rattle.wasm_encode.specs.Around.{code_entry, HoldsEntries};
-ghost use Rattle.live_laws.specs.PolicyBytes.{IsShortEntry};
+ghost use Rattle.emitted_form.specs.PolicyBytes.{IsShortEntry};
 
 use std::alloc::{AllocError, Global};
 use wa_types::{Func, copy_func};

@@ -21,11 +21,11 @@ use Rattle.wasm_reader.specs.Answers.{IsAccepted, IsRefused}
 use Rattle.wasm_reader.proofs.Accepting.{accepted_spelled, accepted_strictly}
 use Rattle.wasm_reader.proofs.ShortFile.{written_short}
 use Rattle.flatten.specs.Whole.{NonePasses, FirstPasses}
-use Rattle.rewrite_form.specs.Sizes.{FewWritten}
-use Rattle.live_laws.proofs.BytesByPolicy.{prepared_as, spelled_as}
-use Rattle.live_laws.specs.EmittedAs.{EmittedAs}
-use Rattle.live_laws.specs.PolicyLaws.{CanBeEmitted}
-use Rattle.live_laws.proofs.Numbers.{functions_counted}
+use Rattle.emitted_form.specs.Sizes.{FewWritten}
+use Rattle.emitted_form.proofs.BytesByPolicy.{prepared_as, spelled_as}
+use Rattle.emitted_form.specs.EmittedAs.{EmittedAs}
+use Rattle.emitted_form.specs.PolicyLaws.{CanBeEmitted}
+use Rattle.emitted_form.proofs.Numbers.{functions_counted}
 use Rattle.local_spill.specs.Reserved.{reserved_at}
 use Rattle.module_rewrite.specs.declared.fault.RewriteFault.{RewriteFault}
 use Rattle.module_rewrite.specs.declared.fault.RewriteFault.TheVariants.{Memory as rewrite_memory, Locals as rewrite_locals, Reserved as rewrite_reserved}

@@ -5,8 +5,8 @@ use Rattle.wa_types.specs.Syntax.{Module}
 use Rattle.wa_model.specs.Rewrites.{Rewrites}
 use Rattle.run_theory.specs.Quiet.{FreeOfNames}
 use Rattle.slot_laws.proofs.Closed.{one_list}
-use Rattle.live_laws.specs.EmittedAs.{EmittedAs}
-use Rattle.live_laws.specs.PolicyLaws.{CanBeEmitted}
+use Rattle.emitted_form.specs.EmittedAs.{EmittedAs}
+use Rattle.emitted_form.specs.PolicyLaws.{CanBeEmitted}
 use Rattle.module_rewrite.proofs.FreeNames.{unreserved_is_free}
 use Rattle.transform_command.specs.Running.{RunsAs}
 use Rattle.transform_command.proofs.Accepted.{can}

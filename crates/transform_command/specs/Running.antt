@@ -4,7 +4,7 @@ use Rattle.wa_types.specs.Pausing.{Settings, Listed}
 use Rattle.wa_types.specs.Sizes.{WellFormed}
 use Rattle.wa_types.specs.Syntax.{Module}
 use Rattle.wa_model.specs.Rewrites.{Rewrites}
-use Rattle.live_laws.specs.EmittedAs.{EmittedAs}
+use Rattle.emitted_form.specs.EmittedAs.{EmittedAs}
 use Rattle.transform_command.specs.Sources.{IsRewritable}
 
 -- The bytes are a source that can be rewritten; these of its function imports are listed, and this is the module that is emitted of it:

@@ -10,7 +10,7 @@ use Rattle.call_graph.specs.Settings.{settings_of}
 use Rattle.flow_rewrite.specs.Numbering.{callees, gets_number}
 use Rattle.flow_rewrite.specs.Emitting.{Rises}
 use Rattle.local_spill.specs.declared.frames.Place.{Place}
-use Rattle.rewrite_form.specs.Emitted.{is_kept}
+use Rattle.emitted_form.specs.Emitted.{is_kept}
 use Rattle.func_rewrite.proofs.CallNumbers.{places_rise}
 use Rattle.func_rewrite.proofs.WrittenFuncs.{fits, few_calls, stacks, numbers, own_few, saved_few, places_few, row_fits, kept_is, slots_told, is_written}
 use Rattle.func_rewrite.proofs.function.write_func.Goals as goal

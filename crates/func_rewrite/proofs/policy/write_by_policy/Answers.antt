@@ -2,7 +2,7 @@ use Rattle.std.proofs.Common.{sym, subst}
 use Rattle.std.proofs.lemmas.Result.{IfOk-weaker}
 use Rattle.wa_types.specs.View.{func_of, module_of}
 use Rattle.call_graph.specs.Settings.{policy_of, settings_of}
-use Rattle.live_laws.specs.EmittedAs.{IsWrittenUnder}
+use Rattle.emitted_form.specs.EmittedAs.{IsWrittenUnder}
 use Rattle.func_rewrite.proofs.policy.write_by_policy.Goals as goal
 
 pub returns-in-All : goal.returns-in-All

@@ -9,9 +9,9 @@ use Rattle.wa_types.specs.Runtime.{func_space, global_space, with_runtime}
 use Rattle.wa_types.specs.Validity.{Valid}
 use Rattle.wa_types.specs.View.{func_of, module_of}
 use Rattle.call_graph.specs.Settings.{settings_of}
-use Rattle.live_laws.specs.PolicyLaws.{CanBeEmitted}
-use Rattle.live_laws.proofs.PolicyCases.{functions_law, rewrites_as}
-use Rattle.live_laws.proofs.PolicyReads.{emitted_reads}
+use Rattle.emitted_form.specs.PolicyLaws.{CanBeEmitted}
+use Rattle.emitted_form.proofs.PolicyCases.{functions_law, rewrites_as}
+use Rattle.emitted_form.proofs.PolicyReads.{emitted_reads}
 use Rattle.module_rewrite.proofs.BareLemmas.{bare_around}
 use Rattle.module_rewrite.proofs.FreeNames.{unreserved_is_free}
 use Rattle.module_rewrite.proofs.WholeLemmas.{bytes_fault, few_written, globals_small, space_small, which_long}

@@ -6,8 +6,8 @@ use Rattle.wa_types.specs.View.{func_of, module_of}
 use Rattle.wa_model.specs.Rewrites.{Rewrites}
 use Rattle.local_spill.specs.Reserved.{reserved_at}
 use Rattle.call_graph.specs.Settings.{settings_of}
-use Rattle.live_laws.specs.EmittedAs.{EmittedAs}
-use Rattle.live_laws.specs.PolicyLaws.{EachReadsFew}
+use Rattle.emitted_form.specs.EmittedAs.{EmittedAs}
+use Rattle.emitted_form.specs.PolicyLaws.{EachReadsFew}
 use Rattle.module_rewrite.specs.Taking.{IsRefused}
 use Rattle.module_rewrite.specs.Whole.{Instruments}
 use Rattle.module_rewrite.proofs.InnerModule.{Inner, taken_inner}

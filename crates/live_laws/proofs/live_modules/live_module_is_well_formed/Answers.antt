@@ -1,5 +1,0 @@
-use Rattle.live_laws.proofs.LiveModules.{well_formed_law}
-use Rattle.live_laws.proofs.live_modules.live_module_is_well_formed.Goals as goal
-
-pub returns : goal.returns
-returns c = well_formed_law

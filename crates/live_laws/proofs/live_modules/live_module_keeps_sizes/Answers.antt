@@ -1,5 +1,0 @@
-use Rattle.live_laws.proofs.LiveModules.{sizes_law}
-use Rattle.live_laws.proofs.live_modules.live_module_keeps_sizes.Goals as goal
-
-pub returns : goal.returns
-returns c = sizes_law

@@ -1,5 +1,0 @@
-use Rattle.live_laws.proofs.StacksAgain.{stacks_come_back}
-use Rattle.live_laws.proofs.stacks_again.live_stacks_come_back.Goals as goal
-
-pub returns : goal.returns
-returns c = stacks_come_back
