@@ -1,1 +1,3 @@
+pub mod Asserting
+pub mod Emitting
 pub mod Testing

@@ -13,7 +13,7 @@ use Rattle.call_graph.specs.declared.settings.Settings.{Settings as SettingsValu
 use Rattle.module_rewrite.specs.WholeBytes.{EmitsModule}
 use Rattle.module_rewrite.specs.declared.byte_fault.EmitFault.{EmitFault}
 use Rattle.module_rewrite.specs.declared.bytes_whole.Emitted.{Emitted}
-use Rattle.assert_module.specs.Emitting.{EmitsWithAsserts}
+use Rattle.assert_rewrite.specs.Emitting.{EmitsWithAsserts}
 
 -- settings of the program, with asserts or without
 abbrev pub manner_of : SettingsValue → Manner

@@ -18,7 +18,7 @@ ghost use Rattle.transform_command.specs.SourceRefusals.{IsFaultOf, IsOfEmit, Is
 ghost use Rattle.transform_command.specs.Sources.{HoldsValidSource, IsRewritten, IsValidSource, reserved_name};
 
 use crate::refusals::Refusal;
-use assert_module::emit_with_asserts;
+use assert_rewrite::emit_with_asserts;
 use bytes::BytesMut;
 use call_graph::Settings;
 use local_spill::{ReservedAt, reserved};

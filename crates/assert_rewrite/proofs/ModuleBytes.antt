@@ -32,10 +32,10 @@ use Rattle.assert_laws.proofs.EmittedAsserts.{rewrites_law}
 use Rattle.assert_laws.proofs.LengthWithAsserts.{short_law}
 use Rattle.assert_laws.proofs.ModuleWithAsserts.{sorts_from}
 use Rattle.assert_laws.specs.EmittedWithAsserts.{EmittedWithAsserts, module_with_asserts}
-use Rattle.assert_module.specs.Asserting.{are_short, entries_with}
-use Rattle.assert_module.specs.declared.asserting.Numbers.{Numbers}
-use Rattle.assert_module.specs.Emitting.{EmitsWithAsserts}
-use Rattle.assert_module.proofs.EntriesWith.{all_short, same_entries}
+use Rattle.assert_rewrite.specs.Asserting.{are_short, entries_with}
+use Rattle.assert_rewrite.specs.declared.asserting.Numbers.{Numbers}
+use Rattle.assert_rewrite.specs.Emitting.{EmitsWithAsserts}
+use Rattle.assert_rewrite.proofs.EntriesWith.{all_short, same_entries}
 
 -- ---- imports come first
 

@@ -6,7 +6,7 @@ ghost use Rattle.wa_types.specs.Sizes.{StrictSizeRule};
 ghost use Rattle.wa_types.specs.View.{module_of};
 ghost use Rattle.call_graph.specs.Settings.{settings_of};
 ghost use Rattle.local_spill.specs.Reserved.{reserved_at};
-ghost use Rattle.assert_module.specs.Emitting.{EmitsWithAsserts};
+ghost use Rattle.assert_rewrite.specs.Emitting.{EmitsWithAsserts};
 
 use crate::asserting::{Numbers, put_asserted};
 use call_graph::Settings;

@@ -10,9 +10,9 @@ use Rattle.local_spill.specs.declared.RuntimeIds.{RuntimeIds}
 use Rattle.module_rewrite.proofs.WholeLemmas.{globals_small, space_small}
 use Rattle.assert_laws.proofs.ReadsWithAsserts.{reads_law}
 use Rattle.assert_laws.specs.EmittedWithAsserts.{module_with_asserts}
-use Rattle.assert_module.specs.Emitting.{EmitsWithAsserts}
-use Rattle.assert_module.proofs.ModuleBytes.{can, emitted, emitting, rewrites, text_fault}
-use Rattle.assert_module.proofs.emitting.emit_with_asserts.Goals as goal
+use Rattle.assert_rewrite.specs.Emitting.{EmitsWithAsserts}
+use Rattle.assert_rewrite.proofs.ModuleBytes.{can, emitted, emitting, rewrites, text_fault}
+use Rattle.assert_rewrite.proofs.emitting.emit_with_asserts.Goals as goal
 
 pub ids_behind-requires-clause-funcs : goal.ids_behind-requires-clause-funcs
 ids_behind-requires-clause-funcs c =

@@ -2,8 +2,8 @@
 use Rattle.std.proofs.Common.{◌+◌, ◌∙◌, ap}
 use Rattle.std.specs.Prelude.{slice_get}
 use Rattle.wa_types.specs.Pausing.{is_told}
-use Rattle.assert_module.proofs.EntriesWith.{going_end, going_first, going_next, one_locals, one_short}
-use Rattle.assert_module.proofs.asserting.put_asserted.Goals as goal
+use Rattle.assert_rewrite.proofs.EntriesWith.{going_end, going_first, going_next, one_locals, one_short}
+use Rattle.assert_rewrite.proofs.asserting.put_asserted.Goals as goal
 
 pub loop-index-init : goal.loop-index-init
 loop-index-init c = going_first c.args.numbers.now c.args.first c.args.funcs.now c.args.out.now c.requires.short

@@ -6,7 +6,7 @@ use Rattle.wasm_encode.specs.Around.{code_entry}
 use Rattle.wasm_encode.specs.Locals.{local_count}
 use Rattle.assert_rewrite.specs.Testing.{without_number}
 use Rattle.assert_laws.specs.EmittedWithAsserts.{asserted_body}
-use Rattle.assert_module.specs.declared.asserting.Numbers.{Numbers}
+use Rattle.assert_rewrite.specs.declared.asserting.Numbers.{Numbers}
 
 -- a function that was written or stays, with asserts
 abbrev pub func_with : Numbers → (written : Bool) → Func → Func

@@ -6,9 +6,10 @@ ghost use Rattle.wa_types.specs.Syntax.{Func as PlainFunc};
 ghost use Rattle.wa_types.specs.View.{func_of};
 ghost use Rattle.wa_types.specs.declared.syntax.Func.{Func as FuncValue};
 ghost use Rattle.wasm_encode.specs.Around.{HoldsEntries};
-ghost use Rattle.assert_module.specs.Asserting.{are_short, entries_with, func_with};
+ghost use Rattle.assert_rewrite.specs.Asserting.{are_short, entries_with, func_with};
 
-use assert_rewrite::{assert_free, assert_plain};
+use crate::written::assert_free;
+use crate::reached::assert_plain;
 use std::alloc::{AllocError, Global};
 use wa_types::Func;
 use wasm_encode::CodeEntries;

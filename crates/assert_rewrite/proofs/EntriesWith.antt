@@ -14,8 +14,8 @@ use Rattle.wasm_encode.specs.Locals.{local_count}
 use Rattle.wasm_encode.specs.declared.held.CodeEntries.{CodeEntries}
 use Rattle.assert_rewrite.specs.Testing.{without_number}
 use Rattle.assert_laws.specs.EmittedWithAsserts.{asserted_body, func_with_asserts, funcs_with_asserts}
-use Rattle.assert_module.specs.Asserting.{are_short, entries_with, func_with}
-use Rattle.assert_module.specs.declared.asserting.Numbers.{Numbers}
+use Rattle.assert_rewrite.specs.Asserting.{are_short, entries_with, func_with}
+use Rattle.assert_rewrite.specs.declared.asserting.Numbers.{Numbers}
 
 -- ---- one by one
 

@@ -1,2 +1,0 @@
-mod EntriesWith
-mod ModuleBytes

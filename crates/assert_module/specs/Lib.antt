@@ -1,2 +1,0 @@
-pub mod Asserting
-pub mod Emitting
