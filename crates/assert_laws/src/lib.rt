@@ -8,7 +8,7 @@
 //! headline is owed of flat code with asserts too, which stands between slim flat code and written code (`specs/Links.antt`).
 //! Suspended stacks of activations with asserts stand as frames, come back, and an unwind that meets a test ends there.
 //!
-//! `specs/EmittedWithAsserts.antt` says what is emitted with asserts: what `live_laws` says is emitted, by either policy, each function with
+//! `specs/EmittedWithAsserts.antt` says what is emitted with asserts: what `emitted_form` says is emitted, by either policy, each function with
 //! its tests. A caller may rely on this: the emitted module of a valid one is valid, and is its original, rewritten with asserts: it
 //! behaves like it under every plan, whichever calls its activations stand at where it pauses.
 //!

@@ -8,8 +8,8 @@ ghost use Rattle.wa_types.specs.declared.syntax.Func.{Func as FuncValue};
 ghost use Rattle.wasm_encode.specs.Around.{HoldsEntries};
 ghost use Rattle.assert_rewrite.specs.Asserting.{are_short, entries_with, func_with};
 
-use crate::written::assert_free;
 use crate::reached::assert_plain;
+use crate::written::assert_free;
 use std::alloc::{AllocError, Global};
 use wa_types::Func;
 use wasm_encode::CodeEntries;

@@ -1,27 +1,21 @@
-//! `emitted_bytes`, `emitted_runs`, `emitted_module`: The module that rewriting emits under the policy `all`, as a definition with its laws; alone, as both policies build on it.
+//! The module that rewriting emits, by either policy, as a definition with its laws; alone, as writers and promises rest on it.
 //!
 //! Functions that may pause are flat, in some slim pieces, guarded and with frames, all others stay, and the runtime's parts stand
-//! behind (`specs/Emitted.antt`, and for any codes of frames `specs/EmittedBy.antt`). It meets what the headline asks: it is its original,
-//! rewritten, runs and pauses included. What is written of it: its numbers are in range, its functions declare few locals, and its
-//! bytes, which are not too many, spell its norm (`specs/Written.antt`). `module_rewrite` computes it.
+//! behind: under `all` (`specs/Emitted.antt`, and for any codes of frames `specs/EmittedBy.antt`), under `live` with frames that differ
+//! by call (`specs/LiveParts.antt`), and by the policy of the settings (`specs/EmittedAs.antt`). A caller may rely on this: the emitted
+//! module of a valid one is valid, is its original, rewritten, and behaves like it, whatever pauses; its numbers are in range, its
+//! functions declare few locals, and its bytes, which are not too many, spell its norm; and of a source it is a prepared module, which
+//! has no float and is within the wider bounds. `module_rewrite` writes that module; nothing is computed here, each law is the contract
+//! of a function that does nothing.
 //!
-//! - `laws`, `emitted_runs`: it is its original, rewritten, but for its runs, and then with them.
-//! - `emitted_bytes`: what is written of it.
+//! Under `live` what a local's value is doesn't matter where no path reads it before it is written (`specs/SameLive.antt`). So a stack
+//! that comes back from frames of that policy differs from the one that was suspended only in locals that no path reads first, with the
+//! same operands in their slots: that is the step in between that this policy puts between a run that was paused and one that wasn't.
 //!
-//! `live_suffices`, `live_bytes`, `live_emitted`, `live_modules`, `policies`, `policy_bytes`, `prepared_modules`, `stacks_again`: The module that rewriting emits by the policy of the settings, and the headline for `live`; alone, as writers and promises rest on it.
-//!
-//! What a local's value is doesn't matter where no path reads it before it is written (`specs/SameLive.antt`). So a stack that comes back
-//! from frames of the policy `live` differs from the one that was suspended only in locals that no path reads first, with the same
-//! operands in their slots: that is the step in between that this policy puts between a run that was paused and one that wasn't.
-//!
-//! `specs/EmittedAs.antt` says what is emitted: functions are written from some slim pieces, and under `live` with frames that differ by
-//! call (`specs/LiveParts.antt`), under `all` as `rewrite_form` says. A caller may rely on this: the emitted module of a valid one is
-//! valid, is its original, rewritten, and behaves like it, whatever pauses; its bytes spell it, and of a source it is a prepared module,
-//! which has no float and is within the wider bounds.
-//!
-//! `module_rewrite` writes that module; nothing is computed here, each law is the contract of a function that does nothing.
-//!
-//! - `laws`, `stacks_again`: live locals suffice; what comes back of a stack from frames of the policy `live` (`specs/LiveFrames.antt`).
+//! - `emitted_module`, `emitted_runs`, `emitted_bytes`: under `all` it is its original, rewritten, but for its runs, and then with them;
+//!   what is written of it (`specs/Written.antt`).
+//! - `live_suffices`, `stacks_again`: live locals suffice; what comes back of a stack from frames of the policy `live`
+//!   (`specs/LiveFrames.antt`).
 //! - `live_emitted`: the headline for the policy `live`. `specs/LiveFraming.antt` says what frames owe. `proofs/LiveFramed.antt` has that
 //!   they stand for suspended stacks as the laws on stacks want it, `proofs/ChosenStacks.antt` and `proofs/LiveAgain.antt` that what
 //!   came back stands beside such a stack.
@@ -46,9 +40,18 @@ pub use emitted_module::{emitted_module_is_rewritten, emitted_module_keeps_sizes
 pub use emitted_runs::emitted_module_behaves;
 pub use live_bytes::{live_modules_are_prepared, live_modules_are_short, live_modules_are_spelled};
 pub use live_emitted::{frames_by_call_are_live, live_emitted_behave};
-pub use live_modules::{live_module_is_rewritten, live_module_is_valid, live_module_is_well_formed, live_module_keeps_sizes, live_module_rewrites};
+pub use live_modules::{
+    live_module_is_rewritten, live_module_is_valid, live_module_is_well_formed,
+    live_module_keeps_sizes, live_module_rewrites,
+};
 pub use live_suffices::{live_locals_stand, live_locals_suffice};
-pub use policies::{emitted_behaves_given, emitted_differ_in_code, emitted_is_rewritten, emitted_is_valid, emitted_keeps_sizes, emitted_reads_few, emitted_rewrites, functions_are_emitted, written_reads_few};
-pub use policy_bytes::{emitted_is_prepared, emitted_is_short, emitted_is_spelled, written_functions_are_short};
+pub use policies::{
+    emitted_behaves_given, emitted_differ_in_code, emitted_is_rewritten, emitted_is_valid,
+    emitted_keeps_sizes, emitted_reads_few, emitted_rewrites, functions_are_emitted,
+    written_reads_few,
+};
+pub use policy_bytes::{
+    emitted_is_prepared, emitted_is_short, emitted_is_spelled, written_functions_are_short,
+};
 pub use prepared_modules::emitted_modules_are_prepared;
 pub use stacks_again::{live_comes_back, live_stacks_come_back};

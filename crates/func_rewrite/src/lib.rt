@@ -14,7 +14,7 @@
 //! (`chosen_frame`), and the code is that of `local_spill`. Under `live` the sets of locals that the numbered calls keep
 //! (`live_locals`) make the parts of the frames (`call_frames`), and these their code (`live_frames`).
 //!
-//! The law: the function is one that the definition of the emitted module asks for (`IsWritten` of `live_laws/specs/EmittedAs.antt`), or
+//! The law: the function is one that the definition of the emitted module asks for (`IsWritten` of `emitted_form/specs/EmittedAs.antt`), or
 //! memory is lacking. Which functions are written, and the module around them, are `module_rewrite`'s matter.
 //!
 //! - `pass`: what all functions of a module are written by.

@@ -17,7 +17,7 @@
 //! the numbered calls and with the code of its frames, every other one stays, and the runtime's parts stand behind. How frames are
 //! written is given for each function; `specs/Framed.antt` says what they owe, whatever the policy, and `specs/LiveLaw.antt` which step a
 //! policy may put in between. `proofs/Behaving.antt` has the headline for any such frames, `proofs/StackAgain.antt` and
-//! `proofs/PauseCosts.antt` what is left for the policy that saves all; that for `live` is in `live_laws`.
+//! `proofs/PauseCosts.antt` what is left for the policy that saves all; that for `live` is in `emitted_form`.
 //!
 //! - `laws`: how large rewritten functions are, how deep they nest, and what a pause in them costs, by the weight of the function; runs in
 //!   which nothing pauses, and modules of which nothing may: `proofs/EmptyAreas.antt` has these runs under a plan with an empty area, and

@@ -1,7 +1,7 @@
 //! The module that rewriting emits, and its bytes: here all passes are put together.
 //!
 //! Each function that may pause is written with guards and frames, every other stays, and the runtime's parts stand behind. The answer
-//! is what `EmittedAs` of `live_laws` says by the policy of the settings: under `all` that is `asyncified` of `rewrite_form`, from some
+//! is what `EmittedAs` of `emitted_form` says by the policy of the settings: under `all` that is `asyncified` of its `Emitted`, from some
 //! slim pieces. `asyncify_module` answers the module, or that a name is reserved, or the first function that would have more than 50,000
 //! parameters and locals.
 //!
