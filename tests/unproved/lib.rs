@@ -1,6 +1,7 @@
 //! The public calls that no command reaches, or not at this edge, with values from outside: each allocating call with
 //! ample memory, worked numbers and operators, flat and guarded functions, written modules driven as a host does, files and
-//! outputs that fail in the middle, and under every command each call of files, output and devices failing in turn.
+//! outputs that fail in the middle, many values in one mailbox, and under every command each call of files, output and devices
+//! failing in turn.
 //! `tests/run` runs it; nothing here is proved.
 #![tactic(auto)]
 
@@ -24,6 +25,8 @@ mod flattening;
 mod guarding;
 #[cfg(test)]
 mod limits;
+#[cfg(test)]
+mod mailing;
 #[cfg(test)]
 mod modules;
 #[cfg(test)]
