@@ -1,5 +1,5 @@
 -- What a call of the mailbox at a place does to all of them.
-use Rattle.std.proofs.Common.{Result, Ok, Err, OnErr, ◌≡◌, ℕ, ◌<◌, List, [], ◌∷◌, length, get_or, set, Option, Some, None, slice_get, refl, sym, ap, ◌∙◌, subst}
+use Rattle.std.proofs.Common.{Result, Ok, Err, OnErr, ◌≡◌, ℕ, ◌<◌, List, [], ◌∷◌, ◌++◌, length, get_or, set, Option, Some, None, slice_get, refl, sym, ap, ◌∙◌, subst}
 use Rattle.std.specs.Prelude.{OnOk, MatchOption}
 use Rattle.std.proofs.lemmas.List.{set-get_or}
 use Rattle.std.proofs.lemmas.Option.{slice_get-get_or}
@@ -7,13 +7,18 @@ use Rattle.std.proofs.lemmas.Result.{on_ok_weaker}
 use Rattle.device_port.specs.declared.device.Reply.{Reply}
 use Rattle.device_port.proofs.Places.{unchanged, some_is}
 use Rattle.mailbox_device.specs.declared.mailbox.Settled.{Settled}
-use Rattle.mailbox_device.specs.Mail.{Box, Mail, names_of, sent, sent_past, awaited, TakesFirst, IsEmptyAt, WaitsNowhere, waits_at_all, Receives, Awaits, IsOrderly}
+use Rattle.mailbox_device.specs.Mail.{Box, Mail, names_of, sent, sent_past, receiver, awaited, TakesFirst, IsEmptyAt, WaitsNowhere, waits_at_all, Sends, Receives, Awaits, IsOrderly}
 use Rattle.mailbox_device.proofs.Orderly.{orderly_sent, orderly_received, orderly_awaited}
 
 -- what holds of a change and of none holds behind a call that may want memory
 of_both : {T E X : Type 0} (r : Result T E) (P : X → Type 0) (old new changed : X) → OnOk r (new ≡ changed) → OnErr r (new ≡ old) → P changed → P old → P new
 of_both (Ok t) P old new changed ok err p q = subst P (sym ok) p
 of_both (Err e) P old new changed ok err p q = subst P (sym err) q
+
+-- what holds on Ok holds at once
+on_ok_both : {T E : Type 0} (P Q : Type 0) (r : Result T E) → OnOk r P → OnOk r Q → OnOk r (P × Q)
+on_ok_both P Q (Ok t) p q = (p, q)
+on_ok_both P Q (Err e) p q = tt
 
 name_past : (value : ℕ) (name values waits : List ℕ) → (sent_past value (record { name = name; values = values; waits = waits }) waits).name ≡ name
 name_past value name values [] = refl
@@ -82,6 +87,15 @@ module _ (boxes : List Box) (settled : List Settled) (old : Mail) (view_is : rec
     pub send_orderly : (value : ℕ) → OnOk r (new ≡ sent value box) → OnErr r (new ≡ box) → IsOrderly boxes → IsOrderly (set boxes place new)
     send_orderly value ok err orderly =
         of_both r (λ b. IsOrderly (set boxes place b)) box new (sent value box) ok err (orderly_sent boxes place box within is value orderly) (itself orderly)
+
+    pub sends : (value : ℕ) (behind : List Settled) → OnOk r (new ≡ sent value box) → OnOk r (behind ≡ settled ++ receiver value box.waits)
+        → OnOk r (Sends place value old (record { boxes = set boxes place new; settled = behind }))
+    sends value behind ok joined = on_ok_weaker r (λ so. of_old (λ m. Sends place value m (record { boxes = set boxes place new; settled = behind })) (record {
+      box = box;
+      there = there;
+      boxes = ap (set boxes place) so.0;
+      settled = so.1;
+    })) (on_ok_both _ _ r ok joined)
 
     pub wait_names : (program : ℕ) → OnOk r (new ≡ awaited program box) → OnErr r (new ≡ box) → names_of (set boxes place new) ≡ names_of old.boxes
     wait_names program ok err = same_names new (of_both r (λ b. b.name ≡ box.name) box new (awaited program box) ok err refl refl)

@@ -1,4 +1,4 @@
-use Rattle.mailbox_device.proofs.Changes.{send_names, send_orderly}
+use Rattle.mailbox_device.proofs.Changes.{send_names, send_orderly, sends}
 use Rattle.mailbox_device.proofs.mailboxes.Mailboxes.send.Goals as goal
 
 pub invariant_of-self : goal.invariant_of-self
@@ -11,3 +11,7 @@ returns-clause-orderly c = invariant_of-self c
 pub returns-clause-names : goal.returns-clause-names
 returns-clause-names c =
     send_names _ _ _ c.self.view_is _ _ c.requires c.index_mut-mailbox.ensures.value c.send.result _ _ c.send.ensures.sent c.send.ensures.kept
+
+pub returns-clause-sent : goal.returns-clause-sent
+returns-clause-sent c =
+    sends _ _ _ c.self.view_is _ _ c.requires c.index_mut-mailbox.ensures.value c.send.result _ _ _ c.send.ensures.sent c.send.ensures.settled
