@@ -1,8 +1,9 @@
 -- Groups, parts and their sizes as the program makes them.
-use Rattle.std.proofs.Common.{◌≡◌, ◌∙◌, ℕ, zero, suc, ◌+◌, ◌-◌, ◌*◌, ◌<◌, ◌≤◌, List, [], ◌∷◌, ◌++◌, length, get_or, map, take, Bool, true, false, nat_eq, All, refl, sym, ap, arith}
-use Rattle.std.specs.Prelude.{if◌then◌else◌, slice_set, Vec}
+use Rattle.std.proofs.Common.{◌≡◌, ◌∙◌, ℕ, zero, suc, ◌+◌, ◌-◌, ◌*◌, ◌<◌, ◌≤◌, List, [], ◌∷◌, ◌++◌, length, get_or, map, take, drop, Bool, true, false, nat_eq, All, refl, sym, ap, subst, arith, eqb-true, get_or-set_same, get_or-set_other, length-set}
+use Rattle.std.specs.Prelude.{if◌then◌else◌, replicate, slice_set, Vec}
 use Rattle.std.specs.declared.alloc.Global.{Global}
-use Rattle.std.proofs.lemmas.List.{append-nil, append_assoc, map_more, map-append, take_all, take_more, length-map, length-take-le}
+use Rattle.std.proofs.lemmas.Bool.{eqb-false}
+use Rattle.std.proofs.lemmas.List.{append-nil, append_assoc, drop_all, drop_more, map_more, map-append, take_all, length-map, length-replicate, length-take-le}
 use Rattle.std.proofs.lemmas.List.Elements.{All-head, All-tail}
 use Rattle.wa_types.specs.declared.values.ValType.{ValType}
 use Rattle.frame_laws.specs.Layout.{FrameField, kept}
@@ -10,12 +11,12 @@ use Rattle.call_frames.specs.PlainFrames.{SavedPart, at_every, at_these, test_si
 use Rattle.call_frames.specs.PlainLaws.{tests_cost}
 use Rattle.call_frames.specs.declared.frames.CallClass.{CallClass}
 use Rattle.call_frames.specs.declared.frames.KeptPart.{KeptPart}
-use Rattle.call_frames.specs.CallParts.{keeps, keepers, same_calls, with_field, with_kept, grouped, parts_length, kept_by_sets}
-use Rattle.call_frames.specs.Classes.{set_keepers}
+use Rattle.call_frames.specs.CallParts.{keeps, keepers, same_calls, with_field, with_kept, grouped, grouped_by, parts_length, kept_by_sets}
+use Rattle.call_frames.specs.Classes.{AreKeepers, KeepersMore, set_keepers}
 use Rattle.call_frames.specs.Views.{class_part, class_parts, fields_in, fields_of, part_view, part_views, sets_of}
 use Rattle.call_frames.proofs.FoundClasses.{all_kept}
 use Rattle.call_frames.proofs.GroupLemmas.{Rows, keeps_in}
-use Rattle.call_frames.proofs.SizedSets.{Sized}
+use Rattle.call_frames.proofs.SizedSets.{Sized, sets_sized}
 
 -- ---- the calls that keep a local
 
@@ -27,28 +28,69 @@ keepers_more x j (t ∷ sets) s =
     ap (λ ks. own ++ ks) (keepers_more x (suc j) sets s ∙ ap (λ n. set_keepers x (suc j) sets ++ (if get_or s x false then n ∷ [] else [])) z)
     ∙ sym (append_assoc own (set_keepers x (suc j) sets) (if get_or s x false then (j + suc (length sets)) ∷ [] else []))
 
-get_same : (xs : List Bool) (i : ℕ) (d e : Bool) → i < length xs → get_or xs i d ≡ get_or xs i e
-get_same [] i d e lt = absurd (omega (arith, lt))
-get_same (x ∷ xs) zero d e lt = refl
-get_same (x ∷ xs) (suc i) d e lt = get_same xs i d e (omega (arith, lt))
+-- before the first call
+pub no_keepers_are : (count : ℕ) (sets : List (Vec Bool Global)) (kss : List (List ℕ)) → kss ≡ replicate count [] → AreKeepers count (sets_of (take 0 sets)) kss
+no_keepers_are count sets kss e = record { size = ap length e ∙ length-replicate count []; each = λ x lt. ap (λ ls. get_or ls x []) e ∙ none count x }
+  where
+    none : (n x : ℕ) → get_or (replicate {A = List ℕ} n []) x [] ≡ []
+    none zero x = refl
+    none (suc n) zero = refl
+    none (suc n) (suc x) = none n x
 
-pub keepers_step : (x : ℕ) (sets : List (Vec Bool Global)) (i : ℕ) (d : Vec Bool Global) (e b : Bool) (old new : List ℕ) → i < length sets → x < length (get_or sets i d).items
-    → b ≡ get_or (get_or sets i d).items x e → old ≡ set_keepers x 0 (sets_of (take i sets)) → new ≡ old ++ (if b then i ∷ [] else []) → new ≡ set_keepers x 0 (sets_of (take (i + 1) sets))
-keepers_step x sets i d e b old new lt there is before more =
+pub keepers_step : (count : ℕ) (sets : List (Vec Bool Global)) (i : ℕ) (d : Vec Bool Global) (old new : List (List ℕ)) → i < length sets
+    → AreKeepers count (sets_of (take i sets)) old → KeepersMore i (get_or sets i d).items old new → AreKeepers count (sets_of (take (i + 1) sets)) new
+keepers_step count sets i d old new lt h more =
     let n : length (sets_of (take i sets)) ≡ i = length-map (take i sets) (λ (s : Vec Bool Global). s.items) ∙ length-take-le i sets (omega (arith, lt)) in
     let z : i ≡ 0 + length (sets_of (take i sets)) = omega (arith, n) in
-    let set = (get_or sets i d).items in
-    more ∙ ap (λ ks. ks ++ (if b then i ∷ [] else [])) before
-    ∙ ap (λ c. set_keepers x 0 (sets_of (take i sets)) ++ (if c then i ∷ [] else [])) (is ∙ get_same set x e false there)
-    ∙ ap (λ k. set_keepers x 0 (sets_of (take i sets)) ++ (if get_or set x false then k ∷ [] else [])) z
-    ∙ sym (keepers_more x 0 (sets_of (take i sets)) set)
-    ∙ ap (set_keepers x 0) (sym (map_more (λ (s : Vec Bool Global). s.items) sets i d lt))
+    let set = (get_or sets i d).items in record {
+      size = more.size ∙ h.size;
+      each = λ x within.
+          let there = h.size in
+          more.each x (omega (arith, within, there)) ∙ ap (λ ks. ks ++ (if get_or set x false then i ∷ [] else [])) (h.each x within)
+          ∙ ap (λ k. set_keepers x 0 (sets_of (take i sets)) ++ (if get_or set x false then k ∷ [] else [])) z
+          ∙ sym (keepers_more x 0 (sets_of (take i sets)) set)
+          ∙ ap (set_keepers x 0) (sym (map_more (λ (s : Vec Bool Global). s.items) sets i d lt));
+    }
 
-pub set_within : (x : ℕ) (sets : List (Vec Bool Global)) (i : ℕ) (d : Vec Bool Global) → All (λ (set : Vec Bool Global). x < length set.items) sets → i < length sets
-    → x < length (get_or sets i d).items
-set_within x [] i d h lt = absurd (omega (arith, lt))
-set_within x (s ∷ sets) zero d h lt = All-head (λ (set : Vec Bool Global). x < length set.items) s sets h
-set_within x (s ∷ sets) (suc i) d h lt = set_within x sets i d (All-tail (λ (set : Vec Bool Global). x < length set.items) s sets h) (omega (arith, lt))
+pub keepers_end : (count : ℕ) (sets : List (Vec Bool Global)) (i : ℕ) (kss : List (List ℕ)) → length sets ≤ i → AreKeepers count (sets_of (take i sets)) kss → AreKeepers count (sets_of sets) kss
+keepers_end count sets i kss le h = subst (λ ss. AreKeepers count (sets_of ss) kss) (take_all i sets le) h
+
+-- Of the locals below this one, those of a set have one call more.
+pub record KeepersBelow (call : ℕ) (set : List Bool) (old : List (List ℕ)) (local : ℕ) (new : List (List ℕ)) : Type 0 where
+  pub size : length new ≡ length old
+  pub done : (x : ℕ) → x < local → get_or new x [] ≡ get_or old x [] ++ (if get_or set x false then call ∷ [] else [])
+  pub left : (x : ℕ) → local ≤ x → get_or new x [] ≡ get_or old x []
+
+pub below_first : (call : ℕ) (set : List Bool) (old : List (List ℕ)) → KeepersBelow call set old 0 old
+below_first call set old = record { size = refl; done = λ x lt. absurd (omega (arith, lt)); left = λ x le. refl }
+
+list_any : (xs : List (List ℕ)) (i : ℕ) (d e : List ℕ) → i < length xs → get_or xs i d ≡ get_or xs i e
+list_any [] i d e lt = absurd (omega (arith, lt))
+list_any (x ∷ xs) zero d e lt = refl
+list_any (x ∷ xs) (suc i) d e lt = list_any xs i d e (omega (arith, lt))
+
+pub below_next : (call : ℕ) (set : List Bool) (old mid : List (List ℕ)) (local : ℕ) (b : Bool) (d ks : List ℕ) → length set ≡ length old → local < length set → b ≡ get_or set local false
+    → ks ≡ get_or mid local d ++ (if b then call ∷ [] else []) → KeepersBelow call set old local mid → KeepersBelow call set old (local + 1) (slice_set mid local ks)
+below_next call set old mid local b d ks n lt eb ek h = record {
+  size = length-set mid local ks ∙ h.size;
+  done = λ x le. at x le (nat_eq x local) refl;
+  left = λ x le. get_or-set_other mid local x ks [] (λ e. omega (arith, e, le)) ∙ h.left x (omega (arith, le));
+}
+  where
+    within : local < length mid
+    within = let m = h.size in omega (arith, n, lt, m)
+
+    at : (x : ℕ) → x < local + 1 → (c : Bool) → nat_eq x local ≡ c → get_or (slice_set mid local ks) x [] ≡ get_or old x [] ++ (if get_or set x false then call ∷ [] else [])
+    at x le true e =
+        let q = eqb-true x local e in
+        ap (λ y. get_or (slice_set mid local ks) y []) q ∙ get_or-set_same mid local ks [] within ∙ ek
+        ∙ ap (λ js. js ++ (if b then call ∷ [] else [])) (list_any mid local d [] within ∙ h.left local (omega arith))
+        ∙ ap (λ c. get_or old local [] ++ (if c then call ∷ [] else [])) eb
+        ∙ ap (λ y. get_or old y [] ++ (if get_or set y false then call ∷ [] else [])) (sym q)
+    at x le false e = let q = eqb-false x local e in get_or-set_other mid local x ks [] q ∙ h.done x (omega (arith, le, q))
+
+pub below_end : (call : ℕ) (set : List Bool) (old new : List (List ℕ)) (local : ℕ) → length set ≡ length old → length set ≤ local → KeepersBelow call set old local new → KeepersMore call set old new
+below_end call set old new local n le h = record { size = h.size; each = λ x lt. h.done x (omega (arith, n, le, lt)) }
 
 pub same_keepers : (types : List ValType) (x j : ℕ) (sets : List (List Bool)) → Sized types sets → x < length types → keepers x j (kept_by_sets types sets) ≡ set_keepers x j sets
 same_keepers types x j [] sized lt = refl
@@ -107,30 +149,47 @@ pub same_group : (ks : List ℕ) (f : FrameField) (cs : List CallClass) (i : ℕ
     → class_parts (slice_set cs i x) ≡ with_kept ks f (class_parts cs)
 same_group ks f cs i d x le e same ec ef = field_joins ks f cs i d x e same ec ef ∙ some_calls ks f (class_parts cs) le
 
-grouped_more : (x : ℕ) (ts : List ValType) (t : ValType) (rows : Rows) (ps : List SavedPart)
-    → grouped x (ts ++ t ∷ []) rows ps ≡ with_kept (keepers (x + length ts) 0 rows) (kept (x + length ts) t) (grouped x ts rows ps)
-grouped_more x [] t rows ps = let z : x ≡ x + 0 = omega arith in ap (λ y. with_kept (keepers y 0 rows) (kept y t) ps) z
-grouped_more x (u ∷ ts) t rows ps =
-    let z : suc x + length ts ≡ x + suc (length ts) = omega arith in
-    let next : List SavedPart = with_kept (keepers x 0 rows) (kept x u) ps in
-    grouped_more (suc x) ts t rows next ∙ ap (λ y. with_kept (keepers y 0 rows) (kept y t) (grouped (suc x) ts rows next)) z
+-- ---- groups, local by local
 
-pub grouped_step : (types : List ValType) (rows : Rows) (i : ℕ) (d : ValType) (ks : List ℕ) (f : FrameField) (old new : List SavedPart) → i < length types → ks ≡ keepers i 0 rows
-    → f ≡ kept i (get_or types i d) → old ≡ grouped 0 (take i types) rows [] → new ≡ with_kept ks f old → new ≡ grouped 0 (take (i + 1) types) rows []
-grouped_step types rows i d ks f old new lt ek ef before is =
-    let n : length (take i types) ≡ i = length-take-le i types (omega (arith, lt)) in
-    let z : i ≡ 0 + length (take i types) = omega (arith, n) in
-    let t = get_or types i d in
-    is ∙ ap (λ js. with_kept js f old) ek ∙ ap (λ g. with_kept (keepers i 0 rows) g old) ef ∙ ap (with_kept (keepers i 0 rows) (kept i t)) before
-    ∙ ap (λ y. with_kept (keepers y 0 rows) (kept y t) (grouped 0 (take i types) rows [])) z
-    ∙ sym (grouped_more 0 (take i types) t rows []) ∙ ap (λ ts. grouped 0 ts rows []) (sym (take_more types i d lt))
+-- the groups of these locals, and those of the locals to come
+abbrev pub GroupsTo : List ValType → (keepers : List (List ℕ)) → (local : ℕ) → (left : List (List ℕ)) → (groups : List SavedPart) → Type 0
+GroupsTo types kss local left ps = (length left + local ≡ length types) × (grouped_by local (drop local types) left ps ≡ grouped_by 0 types kss [])
 
-pub grouped_end : (types : List ValType) (rows : Rows) (i : ℕ) (ps : List SavedPart) → length types ≤ i → ps ≡ grouped 0 (take i types) rows [] → ps ≡ grouped 0 types rows []
-grouped_end types rows i ps le h = h ∙ ap (λ ts. grouped 0 ts rows []) (take_all i types le)
+pub groups_next : (types : List ValType) (kss : List (List ℕ)) (local : ℕ) (d : ValType) (ks : List ℕ) (left rest : List (List ℕ)) (f : FrameField) (old new : List SavedPart) → left ≡ ks ∷ rest
+    → f ≡ kept local (get_or types local d) → new ≡ with_kept ks f old → GroupsTo types kss local left old → GroupsTo types kss (local + 1) rest new
+groups_next types kss local d ks left rest f old new el ef en h =
+    let n = ap length el in
+    let size = h.0 in
+    let lt : local < length types = omega (arith, n, size) in
+    let next : suc local ≡ local + 1 = omega arith in (
+      omega (arith, n, size),
+      ap (grouped_by (local + 1) (drop (local + 1) types) rest) (en ∙ ap (λ g. with_kept ks g old) ef)
+          ∙ ap (λ x. grouped_by x (drop (local + 1) types) rest (with_kept ks (kept local (get_or types local d)) old)) (sym next)
+          ∙ ap (λ ts. grouped_by local ts (ks ∷ rest) old) (sym (drop_more types local d lt)) ∙ ap (λ ls. grouped_by local (drop local types) ls old) (sym el) ∙ h.1,
+    )
 
-pub all_within : (types : List ValType) (x : ℕ) (sets : List (Vec Bool Global)) → All (λ (set : Vec Bool Global). length set.items ≡ length types) sets → x < length types
-    → All (λ (set : Vec Bool Global). x < length set.items) sets
-all_within types x sets h lt k d l = let e = h k d l in omega (arith, e, lt)
+pub groups_end : (types : List ValType) (kss : List (List ℕ)) (local : ℕ) (left : List (List ℕ)) (ps : List SavedPart) → left ≡ [] → GroupsTo types kss local left ps → ps ≡ grouped_by 0 types kss []
+groups_end types kss local left ps e h =
+    let n = ap length e in
+    let size = h.0 in
+    sym (ap (λ ts. grouped_by local ts left ps) (drop_all local types (omega (arith, n, size)))) ∙ h.1
+
+-- groups by the calls of each local are those of the sets
+groups_by : (x : ℕ) (ts : List ValType) (rows : Rows) (kss : List (List ℕ)) (ps : List SavedPart) → length kss ≡ length ts
+    → ((y : ℕ) → y < length ts → get_or kss y [] ≡ keepers (x + y) 0 rows) → grouped_by x ts kss ps ≡ grouped x ts rows ps
+groups_by x [] rows kss ps n h = refl
+groups_by x (t ∷ ts) rows [] ps n h = absurd (omega (arith, n))
+groups_by x (t ∷ ts) rows (ks ∷ kss) ps n h =
+    let z : x + 0 ≡ x = omega arith in
+    groups_by (suc x) ts rows kss (with_kept ks (kept x t) ps) (omega (arith, n))
+    (λ y lt. h (suc y) (omega (arith, lt)) ∙ let w : x + suc y ≡ suc x + y = omega arith in ap (λ m. keepers m 0 rows) w)
+    ∙ ap (λ js. grouped (suc x) ts rows (with_kept js (kept x t) ps)) (h 0 (omega arith) ∙ ap (λ m. keepers m 0 rows) z)
+
+pub groups_same : (types : List ValType) (sets : List (Vec Bool Global)) (kss : List (List ℕ)) → All (λ (set : Vec Bool Global). length set.items ≡ length types) sets
+    → AreKeepers (length types) (sets_of sets) kss → grouped_by 0 types kss [] ≡ grouped 0 types (kept_by_sets types (sets_of sets)) []
+groups_same types sets kss sized h =
+    groups_by 0 types (kept_by_sets types (sets_of sets)) kss [] h.size
+    (λ y lt. h.each y lt ∙ sym (same_keepers types y 0 (sets_of sets) (sets_sized types sets sized) lt) ∙ (let w : y ≡ 0 + y = omega arith in ap (λ m. keepers m 0 (kept_by_sets types (sets_of sets))) w))
 
 pub some_calls_there : (ks : List ℕ) (r : Bool) → r ≡ nat_eq (length ks) 0 → r ≡ false → 1 ≤ length ks
 some_calls_there [] r e f = let bad : ⊥ = cc in absurd bad

@@ -44,6 +44,12 @@ abbrev pub grouped : (local : ℕ) → List ValType → (kept_by : List (List Fr
 grouped x [] rows ps = ps
 grouped x (t ∷ ts) rows ps = grouped (suc x) ts rows (with_kept (keepers x 0 rows) (kept x t) ps)
 
+-- the same, where the calls that keep each local are told
+abbrev pub grouped_by : (local : ℕ) → List ValType → (keepers : List (List ℕ)) → List SavedPart → List SavedPart
+grouped_by x [] kss ps = ps
+grouped_by x (t ∷ ts) [] ps = ps
+grouped_by x (t ∷ ts) (ks ∷ kss) ps = grouped_by (suc x) ts kss (with_kept ks (kept x t) ps)
+
 -- what all of so many calls keep has no test
 abbrev pub shared_where : (count : ℕ) → SavedPart → SavedPart
 shared_where n (at_every fs) = at_every fs

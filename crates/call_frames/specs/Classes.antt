@@ -67,6 +67,16 @@ abbrev pub set_keepers : (local call : ℕ) → List (List Bool) → List ℕ
 set_keepers x call [] = []
 set_keepers x call (set ∷ sets) = (if get_or set x false then call ∷ [] else []) ++ set_keepers x (suc call) sets
 
+-- For each of so many locals, the calls whose sets have it.
+pub record AreKeepers (count : ℕ) (sets : List (List Bool)) (keepers : List (List ℕ)) : Type 0 where
+  pub size : length keepers ≡ count
+  pub each : (x : ℕ) → x < count → get_or keepers x [] ≡ set_keepers x 0 sets
+
+-- One call more keeps the locals of its set.
+pub record KeepersMore (call : ℕ) (set : List Bool) (old new : List (List ℕ)) : Type 0 where
+  pub size : length new ≡ length old
+  pub each : (x : ℕ) → x < length old → get_or new x [] ≡ get_or old x [] ++ (if get_or set x false then call ∷ [] else [])
+
 -- The part of this number has these fields, and at least one.
 abbrev pub HasFields : ℕ → List SavedPart → List FrameField → Type 0
 HasFields n [] gs = ⊥

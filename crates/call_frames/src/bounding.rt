@@ -32,11 +32,13 @@ fn more_length(seen: &mut Vec<bool>, count: usize) -> u64
     22 + 6 * count as u64
 }
 
-/// A length that the classes of the calls of these sets don't fall below: sets of different sizes make different classes.
+/// A length that the classes of the calls of these sets don't fall below: sets of different sizes make different classes. No more sets are
+/// looked at once it is enough.
 pub(crate) fn least_length(
     alloc: Global,
     sets: &[Vec<bool>],
     types: &[ValType],
+    enough: u64,
 ) -> Result<u64, AllocError>
     requires sizes { All (λ (set : Vec Bool AGlobal). length set.items ≡ length types.now) sets.now }
     requires few { length types.now ≤ 50000 }
@@ -46,6 +48,9 @@ pub(crate) fn least_length(
     let mut seen = vec![in alloc; false; types.len() + 1]?;
     let mut least = 0;
     for index in 0..sets.len() {
+        if least >= enough {
+            return Ok(least);
+        }
         least += more_length(&mut seen, count_of(&sets[index]));
     }
     Ok(least)

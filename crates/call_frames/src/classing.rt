@@ -8,8 +8,8 @@ ghost use Rattle.call_frames.specs.Views.{parts_view, sets_of};
 use crate::bounding::least_length;
 use crate::finding::classes_of;
 use crate::frames::FrameParts;
-use crate::grouping::groups_of;
-use crate::measuring::{are_better, are_short};
+use crate::grouping::{groups_of, keepers_of};
+use crate::measuring::{are_better, are_short, length_of};
 use crate::parting::{parts_of_classes, parts_of_groups};
 use std::alloc::{AllocError, Global};
 use wa_types::ValType;
@@ -30,9 +30,10 @@ pub fn saved_parts(
     ensures alike { IfOk result (λ p. (set : List Bool) → 1 ≤ length sets.now → AllAre set (sets_of sets.now) → AllShared (parts_view p)) }
     ensures few { IfOk result (λ p. FewParts (parts_view p)) }
 {
-    let groups = parts_of_groups(alloc, sets.len(), groups_of(alloc, sets, types)?)?;
+    let keepers = keepers_of(alloc, sets, types.len())?;
+    let groups = parts_of_groups(alloc, sets.len(), groups_of(alloc, keepers, types)?)?;
     let most = 27 * (types.len() as u64 + sets.len() as u64);
-    let least = least_length(alloc, sets, types)?;
+    let least = least_length(alloc, sets, types, length_of(&groups))?;
     if are_short(&groups, least, most) {
         return Ok(FrameParts { parts: groups });
     }

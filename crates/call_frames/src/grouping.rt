@@ -1,10 +1,10 @@
 //! Groups of neighbours that the same calls keep.
 
-ghost use Rattle.std.specs.Prelude.{◌≡◌, ◌≤◌, ◌<◌, ◌^◌, ◌++◌, ◌∷◌, [], All, length, IfOk, OnOk, Vec, Bool, if◌then◌else◌};
+ghost use Rattle.std.specs.Prelude.{◌≡◌, ◌≤◌, ◌<◌, ◌^◌, ◌++◌, ◌∷◌, [], All, length, replicate, IfOk, OnOk, Vec, Bool, if◌then◌else◌};
 ghost use Rattle.std.specs.declared.alloc.Global.{Global as AGlobal};
 ghost use Rattle.call_frames.specs.PlainFrames.{at_these};
-ghost use Rattle.call_frames.specs.CallParts.{grouped, kept_by_sets, with_kept};
-ghost use Rattle.call_frames.specs.Classes.{set_keepers};
+ghost use Rattle.call_frames.specs.CallParts.{grouped_by, with_kept};
+ghost use Rattle.call_frames.specs.Classes.{AreKeepers, KeepersMore};
 ghost use Rattle.call_frames.specs.Views.{class_parts, kept_field, sets_of};
 
 use crate::frames::{CallClass, KeptLocal};
@@ -22,18 +22,43 @@ fn put_keeper(out: &mut Calls, call: u32, told: bool) -> Result<(), AllocError>
     Ok(())
 }
 
-/// The calls whose sets have a local.
-fn keepers_of(alloc: Global, sets: &[Vec<bool>], local: usize) -> Result<Calls, AllocError>
-    requires sizes { All (λ (set : Vec Bool AGlobal). local < length set.items) sets.now }
-    requires calls { length sets.now < 2 ^ 32 }
-    ensures { IfOk result (λ v. v ≡ set_keepers local 0 (sets_of sets.now)) }
+/// Puts a call to each local that its set has.
+fn put_keepers(keepers: &mut Vec<Calls>, call: u32, set: &[bool]) -> Result<(), AllocError>
+    requires { length set.now ≡ length keepers.old.items }
+    ensures { OnOk result (KeepersMore call set.now keepers.old.items keepers.new.items) }
 {
-    let mut calls = Calls::none(alloc);
-    for call in 0..sets.len() {
-        let set = &sets[call];
-        put_keeper(&mut calls, call as u32, set[local])?;
+    for local in 0..set.len() {
+        put_keeper(&mut keepers[local], call, set[local])?;
     }
-    Ok(calls)
+    Ok(())
+}
+
+/// Of so many locals, none of which a call keeps.
+fn no_keepers(alloc: Global, count: usize) -> Result<Vec<Calls>, AllocError>
+    ensures { IfOk result (λ v. v.items ≡ replicate count []) }
+{
+    let mut keepers = Vec::with_capacity(alloc, count)?;
+    for _local in 0..count {
+        keepers.push(Calls::none(alloc))?;
+    }
+    Ok(keepers)
+}
+
+/// For each of so many locals the calls whose sets have it.
+pub(crate) fn keepers_of(
+    alloc: Global,
+    sets: &[Vec<bool>],
+    count: usize,
+) -> Result<Vec<Calls>, AllocError>
+    requires sizes { All (λ (set : Vec Bool AGlobal). length set.items ≡ count) sets.now }
+    requires calls { length sets.now < 2 ^ 32 }
+    ensures { IfOk result (λ v. AreKeepers count (sets_of sets.now) v.items) }
+{
+    let mut keepers = no_keepers(alloc, count)?;
+    for call in 0..sets.len() {
+        put_keepers(&mut keepers, call as u32, &sets[call])?;
+    }
+    Ok(keepers)
 }
 
 /// Puts a field behind those of a group.
@@ -82,25 +107,25 @@ fn put_local(
     put_field(&mut groups[count - 1], field)
 }
 
-/// The groups of the locals that calls with these sets keep.
+/// The groups of locals that these calls keep.
 pub(crate) fn groups_of(
     alloc: Global,
-    sets: &[Vec<bool>],
+    keepers: Vec<Calls>,
     types: &[ValType],
 ) -> Result<Vec<CallClass>, AllocError>
-    requires sizes { All (λ (set : Vec Bool AGlobal). length set.items ≡ length types.now) sets.now }
+    requires size { length keepers.items ≡ length types.now }
     requires few { length types.now ≤ 50000 }
-    requires calls { length sets.now < 2 ^ 32 }
-    ensures { IfOk result (λ v. class_parts v.items ≡ grouped 0 types.now (kept_by_sets types.now (sets_of sets.now)) []) }
+    ensures { IfOk result (λ v. class_parts v.items ≡ grouped_by 0 types.now keepers.items []) }
 {
     let mut groups = Vec::new(alloc);
-    for local in 0..types.len() {
-        let calls = keepers_of(alloc, sets, local)?;
+    let mut local = 0;
+    for calls in keepers {
         let field = KeptLocal {
             local: local as u32,
             ty: types[local],
         };
         put_local(alloc, &mut groups, calls, field)?;
+        local += 1;
     }
     Ok(groups)
 }

@@ -68,7 +68,7 @@ fn part_length(part: &KeptPart) -> u64
 }
 
 /// The length of parts in both codes.
-fn length_of(parts: &[KeptPart]) -> u64
+pub(crate) fn length_of(parts: &[KeptPart]) -> u64
     requires { parts_length (part_views parts.now) < 2 ^ 62 }
     ensures { result ≡ parts_length (part_views parts.now) }
 {

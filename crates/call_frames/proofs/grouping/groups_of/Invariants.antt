@@ -1,7 +1,6 @@
-use Rattle.std.proofs.Common.{◌≡◌, take, []}
-use Rattle.call_frames.specs.CallParts.{grouped, kept_by_sets}
-use Rattle.call_frames.specs.Views.{class_parts, sets_of}
+use Rattle.call_frames.specs.Views.{class_parts}
+use Rattle.call_frames.proofs.GroupSteps.{GroupsTo}
 use Rattle.call_frames.proofs.grouping.groups_of.Given as goal
 
-abbrev pub invariant-loop-local : goal.invariant-loop-local
-invariant-loop-local l = class_parts l.groups.items ≡ grouped 0 (take l.local l.types) (kept_by_sets l.types (sets_of l.sets)) []
+abbrev pub invariant-loop-calls : goal.invariant-loop-calls
+invariant-loop-calls l = GroupsTo l.types l.fn.keepers.items l.local l.calls-iterator.rest.items (class_parts l.groups.items)
