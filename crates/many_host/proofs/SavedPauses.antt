@@ -196,6 +196,7 @@ module _ (w : W.Program) (at_first : w.origin ≡ at_start) (told : List Note) (
     within = omega (arith, steps_are);
     entry = slice_get_within w.plan.entries l.number e there.1.0.0;
     comes = comes now.due;
+    some_taken = omega arith;
     taken = omega (arith, lines_many);
     answers = answers ∙ sym (ap (drop taken) last.is ∙ behind_front last.before last.line (lines_left y));
     pages = whole;

@@ -88,13 +88,14 @@ pub record IsFresh (w : Program) (made : List Note) (met : List Outcome) (now : 
   pub due : now.due ≡ 0
   pub answers : now.answers ≡ w.answers
 
--- A program that has come to the pause of these parts, with this memory, of so many pages: in one of its entries, by steps that it has, and
--- with the answer lines left that it hasn't taken.
+-- A program that has come to the pause of these parts, with this memory, of so many pages: in one of its entries, by steps that it has,
+-- behind an answer line at least, and with those left that it hasn't taken.
 pub record IsPaused (w : Program) (made : List Note) (met : List Outcome) (now : Actor) (due : ℕ) (x : PausedParts) (memory : List ℕ) : Type 0 where
   pub is_due : now.due ≡ due
   pub within : x.steps_used ≤ w.steps
   pub entry : x.entry < length w.plan.entries
   pub comes : ComesTo w made met x.steps_used (halted w.source w.plan (halt_at w due x memory))
+  pub some_taken : 1 ≤ x.answers
   pub taken : x.answers ≤ length w.answers
   pub answers : now.answers ≡ drop x.answers w.answers
   pub pages : length memory ≡ x.pages * page_size
