@@ -65,13 +65,15 @@ async function call(name, ...args) {
   return result;
 }
 
-// Calls an export once. What it throws while the stack is unwound is that the stack doesn't fit (or, with --asserts, that a call
-// which isn't rewritten led to the pause).
+// Calls an export once. Where `unreachable` runs while the stack is unwound, the stack doesn't fit (or, with --asserts, a call which
+// isn't rewritten led to the pause); another trap then, or one on the way back, shows that the import isn't listed.
 function entered(name, args) {
   try {
     return program[name](...args);
   } catch (error) {
-    if (!(error instanceof WebAssembly.RuntimeError) || state() !== UNWINDING) throw error;
+    if (!(error instanceof WebAssembly.RuntimeError) || state() === NORMAL) throw error;
+    if (state() === REWINDING) throw unlisted(`the way back trapped (${error.message})`);
+    if (!error.message.includes("unreachable")) throw unlisted(`the program went on and trapped (${error.message})`);
     throw new Error(`the area of ${program.area_size()} bytes is too small: ${used()} are used, and one frame more doesn't fit`);
   }
 }
