@@ -99,10 +99,6 @@ rewriting_is_command (word ∷ words) = host (bytes_eq word (codes "host")) refl
 pub on_command : (words : List (List ℕ)) (P : Manner → List ℕ → List ℕ → Type 0) → OnTransform (rewriting (spelled words)) P → OnTransform (command words) P
 on_command words P h = subst (λ (o : Option Command). OnTransform o P) (rewriting_is_command words) h
 
--- and back
-pub from_command : (words : List (List ℕ)) (P : Manner → List ℕ → List ℕ → Type 0) → OnTransform (command words) P → OnTransform (rewriting (spelled words)) P
-from_command words P h = subst (λ (o : Option Command). OnTransform o P) (sym (rewriting_is_command words)) h
-
 -- words that spell none
 pub no_command : (words : List (List ℕ)) (P : Manner → List ℕ → List ℕ → Type 0) → rewriting (spelled words) ≡ None → OnTransform (command words) P
 no_command words P e = on_command words P (no_transform (spelled words) P e)

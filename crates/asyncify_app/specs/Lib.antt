@@ -6,3 +6,4 @@ pub mod Playing
 pub mod Printed
 pub mod ReadFiles
 pub mod Telling
+pub mod Words

@@ -8,7 +8,7 @@
 //! A caller may rely on this: a call has one end, by its status, with its reason, what it printed and what became of the files and the
 //! devices (`specs/Ends.antt`). What real files and a real terminal do with that stands in `asyncify_cli`.
 //!
-//! - `command`, `playing`, `snapshots`: the call, scripts, and their snapshots.
+//! - `command`, `playing`, `snapshots`: the call, scripts, and their snapshots; `words`: a law of the words of `transform`.
 //! - `generating`, `writing`, `program`, `generated_runs`: the command `gen`; the module written into a file; the program over it,
 //!   rewritten; and its run, event by event (`specs/Playing.antt`).
 #![tactic(auto)]
@@ -19,7 +19,9 @@ mod generating;
 mod playing;
 mod program;
 mod snapshots;
+mod words;
 mod writing;
 
 pub use command::asyncify;
 pub use generated_runs::Played;
+pub use words::transforms_are_spelled;

@@ -2,7 +2,6 @@
 
 ghost use Rattle.std.specs.Prelude.{◌≡◌, map, IfSome, IsNone};
 ghost use Rattle.std.specs.String.{string_bytes};
-ghost use Rattle.script_model.specs.Spelled.{spelled};
 ghost use Rattle.host_laws.specs.Supplies.{IsLent};
 ghost use Rattle.asyncify_app.specs.Devices.{counted_boxes};
 ghost use Rattle.system_vaults.specs.Kept.{disk_of, out_of};
@@ -26,7 +25,7 @@ pub(crate) fn answer_words<D: Disk + Drop, O: Out + Drop>(
     vault: &mut FileVault<D>,
     out: &mut OutSink<O>,
 ) -> Option<u8>
-    ensures answered { IfSome result (λ status. Answers (spelled (map string_bytes words.now))
+    ensures answered { IfSome result (λ status. Answers (map string_bytes words.now)
         (D.files (disk_of vault.old)) (D.files (disk_of vault.new))
         (D.read_faults (disk_of vault.old)) (D.read_faults (disk_of vault.new))
         (D.write_faults (disk_of vault.old)) (D.write_faults (disk_of vault.new))
@@ -53,7 +52,7 @@ fn answer_with<D: Disk + Drop, O: Out + Drop>(
     devices: &mut Vec<Box<dyn Device>>,
 ) -> u8
     requires lent { IsLent }
-    ensures { Answers (spelled (map string_bytes words.now))
+    ensures { Answers (map string_bytes words.now)
         (D.files (disk_of vault.old)) (D.files (disk_of vault.new))
         (D.read_faults (disk_of vault.old)) (D.read_faults (disk_of vault.new))
         (D.write_faults (disk_of vault.old)) (D.write_faults (disk_of vault.new))
