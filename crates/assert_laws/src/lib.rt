@@ -12,23 +12,23 @@
 //! its tests. A caller may rely on this: the emitted module of a valid one is valid, and is its original, rewritten with asserts: it
 //! behaves like it under every plan, whichever calls its activations stand at where it pauses.
 //!
-//! - `laws`: asserted pieces make the asserted code.
+//! - `asserted_code`: asserted pieces make the asserted code.
 //! - `tested_runs`: runs in state 0.
 //! - `tested_links`: what carries over to flat code with asserts.
 //! - `asserted_modules`: the emitted module with asserts, for both policies.
 #![tactic(auto)]
 
+mod asserted_code;
 mod asserted_modules;
-mod laws;
 mod tested_links;
 mod tested_runs;
 
+pub use asserted_code::guarded_code_is_asserted;
 pub use asserted_modules::{
     asserted_behaves_given, asserted_is_prepared, asserted_is_short, asserted_is_spelled,
     asserted_is_valid, asserted_is_well_formed, asserted_keeps_sizes, asserted_reads_few,
     asserted_rewrites, asserted_runs_unpaused, functions_have_asserts,
 };
-pub use laws::guarded_code_is_asserted;
 pub use tested_links::{stretches_are_followed, tests_are_met};
 pub use tested_runs::{
     answers_go_on, asserted_code_is_tested, calls_begin, steps_are_followed,

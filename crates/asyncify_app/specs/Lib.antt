@@ -1,3 +1,4 @@
+pub use Rattle.transform_command.specs.Sources
 pub use Rattle.transform_command.specs.Transforms
 pub mod Devices
 pub mod Ends

@@ -7,7 +7,8 @@ use Rattle.script_model.specs.Spelled.{spelled}
 use Rattle.script_model.specs.Transcript.{read_fault, refusal_line, usage, write_fault}
 use Rattle.event_order.specs.Left.{Counted}
 use Rattle.transcript.specs.Refused.{CountsBy, Prints, PrintsMemory}
-use Rattle.asyncify_app.specs.Transforms.{IsCutShort, IsTransformed, PrintsRefusal, PrintsDone, PrintsLess, RunsOutOfMemory}
+use Rattle.asyncify_app.specs.Sources.{IsTransformed}
+use Rattle.asyncify_app.specs.Transforms.{IsCutShort, PrintsRefusal, PrintsDone, PrintsLess, RunsOutOfMemory}
 use Rattle.asyncify_app.specs.Ends.{Call, HasOneEnd, IsRefusal, OnScript}
 
 -- the program's devices, before they are asked

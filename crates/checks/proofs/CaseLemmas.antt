@@ -1,7 +1,7 @@
 -- What is computed of a module is to be said of it.
 use Rattle.std.proofs.Common.{◌≡◌, List, [], ◌∷◌, map, subst}
 use Rattle.validate_bodies.specs.Running.{Answer, module_answer}
-use Rattle.validate_bodies.specs.Laws.{Says}
+use Rattle.validate_bodies.specs.BodyVerdicts.{Says}
 use Rattle.checks.specs.Faults.{Case, AllSay}
 use Rattle.validate_bodies.proofs.Decided.{module_decided}
 

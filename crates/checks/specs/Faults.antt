@@ -13,7 +13,7 @@ use Rattle.wa_types.specs.declared.syntax.Space.{Space}
 use Rattle.wa_types.specs.declared.syntax.Space.TheVariants.{Func as a_func, Table as a_table, Global as a_global}
 use Rattle.wa_types.specs.Syntax.{drop, select, const, num, global_get, global_set, load, store, memory_size, basic, local_get, br, br_if, br_table, unreachable, call, call_indirect, a_block, a_loop, Code, done, plain, nest, branch, FuncType, GlobalDef, Elem, Segment, Module}
 use Rattle.validate_bodies.specs.Running.{Answer, valid, invalid}
-use Rattle.validate_bodies.specs.Laws.{Says}
+use Rattle.validate_bodies.specs.BodyVerdicts.{Says}
 
 -- a function type
 abbrev pub type_of : List ValType → List ValType → FuncType

@@ -6,7 +6,7 @@
 ghost use Rattle.checks.specs.Analysis.{OnlySleeperPauses};
 ghost use Rattle.checks.specs.Beginnings.{EachFileDecided};
 ghost use Rattle.checks.specs.Files.{AllFound, FloatFound, beginnings, files};
-ghost use Rattle.validate_bodies.specs.Laws.{EachModuleDecided, VerdictIsTyping};
+ghost use Rattle.validate_bodies.specs.BodyVerdicts.{EachModuleDecided, VerdictIsTyping};
 ghost use Rattle.checks.specs.Faults.{AllSay, body_cases, module_cases, valid_cases};
 ghost use Rattle.checks.specs.Lists.{Listings, Lists};
 ghost use Rattle.checks.specs.Images.{Images, NoImages, OneCallImage};

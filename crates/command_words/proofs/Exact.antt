@@ -1,5 +1,5 @@
 -- What `clap` makes of the words of a command line is what they spell.
-use Rattle.std.proofs.Common.{◌≡◌, ◌∙◌, ℕ, suc, List, [], ◌∷◌, Option, Some, None, option_map, Bool, true, false, ◌||◌, refl, sym, ap, subst, codes, cond, bytes_eq, if◌then◌else◌, is_some, map, string_bytes, String, slice_get, chars, length}
+use Rattle.std.proofs.Common.{◌≡◌, ◌∙◌, ℕ, suc, List, [], ◌∷◌, Option, Some, None, option_map, option_and_then, Bool, true, false, ◌||◌, refl, sym, ap, subst, codes, cond, bytes_eq, if◌then◌else◌, is_some, map, string_bytes, String, slice_get, chars, length}
 use Rattle.std.proofs.lemmas.Str.{IsUtf8-string_bytes}
 use Rattle.std.specs.Option.{option_map_or}
 use Rattle.clap.specs.Lexer.{long_of, short_of}
@@ -10,7 +10,7 @@ use Rattle.clap.specs.Faults.{bundle_fault, bundle_step_fault, built_fault, chec
 use Rattle.clap.specs.declared.error.kind.ErrorKind.TheVariants as kind
 use Rattle.clap.proofs.FaultLemmas.{stopped_fault}
 use Rattle.clap.proofs.WalkLemmas.{walk_stopped}
-use Rattle.script_model.specs.Command.{nothing_said, said, transform_said}
+use Rattle.script_model.specs.Command.{Said, nothing_said, said, transform_at}
 use Rattle.script_model.specs.Spelled.{Spelled, spelled, rewrites, hosts, runs, files_alone, one_file, two_files, number_and_file, script_and_snap, script_events_snap}
 use Rattle.command_words.specs.Grammar.{Kind, transform_words, host_words, run_words, gen_words, save_words, continue_words, MatchesSpell, line, line_shape, name_of, rules, shape}
 use Rattle.command_words.proofs.Views.{View, is_end, is_list, is_save, is_imports, is_indirect, is_asserts, is_list_with, is_save_with, is_named, is_long, is_short, view, same_is, differ, clash}
@@ -131,7 +131,7 @@ spelled_by host run gen save continues transform words =
     else (if gen then files_alone (two_files number_and_file) (said (Some nothing_said) words)
     else (if save then files_alone script_events_snap (said (Some nothing_said) words)
     else (if continues then files_alone (two_files script_and_snap) (said (Some nothing_said) words)
-    else option_map rewrites (if transform then transform_said (said (Some nothing_said) words) else None)))))
+    else option_map rewrites (if transform then option_and_then (λ (s : Said). transform_at s.place s) (said (Some nothing_said) words) else None)))))
 
 other_spells : (word : Text) (words : List Text) → IsOther word → spelled (word ∷ words) ≡ None
 other_spells word words h =

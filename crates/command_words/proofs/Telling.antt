@@ -1,9 +1,9 @@
 -- What the words of a command tell one after another, as `clap` goes over them: an option of another command, or one more
 -- file than the command takes, tells nothing at once, and the value `-` may stand in a word of its own.
-use Rattle.std.proofs.Common.{◌≡◌, ◌∙◌, ℕ, List, [], ◌∷◌, Option, Some, None, IfSome, option_map, Bool, true, false, not, ◌&&◌, refl, sym, ap, codes, bytes_eq, if◌then◌else◌, is_some, true≢false, ◌||◌}
+use Rattle.std.proofs.Common.{◌≡◌, ◌∙◌, ℕ, List, [], ◌∷◌, Option, Some, None, IfSome, option_map, option_and_then, Bool, true, false, not, ◌&&◌, refl, sym, ap, codes, bytes_eq, if◌then◌else◌, is_some, true≢false, ◌||◌}
 use Rattle.std.proofs.lemmas.Slice.Eq.{bytes_eq-Decides}
 use Rattle.wa_types.specs.Pausing.{Choice}
-use Rattle.script_model.specs.Command.{Command, Said, Place, anywhere, behind_imports, behind_save, behind_options, Word, imports_word, save_word, ignore_imports_word, ignore_indirect_word, asserts_word, end_word, unknown_word, imports_with, save_with, name_word, word_of, is_hyphened, said, say_at, say_word, once, say_file, unless_third, transform_said, transform_at, with_files, choice_said, policy_said}
+use Rattle.script_model.specs.Command.{Command, Said, Place, anywhere, behind_imports, behind_save, behind_options, Word, imports_word, save_word, ignore_imports_word, ignore_indirect_word, asserts_word, end_word, unknown_word, imports_with, save_with, name_word, word_of, is_hyphened, said, say_at, say_word, once, say_file, unless_third, transform_at, with_files, choice_said, policy_said}
 use Rattle.script_model.specs.Spelled.{Spelled, rewrites, hosts, runs, files_alone, is_plain, one_file, two_files, number_and_file, script_and_snap, script_events_snap}
 use Rattle.command_words.specs.Grammar.{Kind, transform_words, host_words, run_words, gen_words, save_words, continue_words}
 
@@ -89,7 +89,7 @@ said_none (word ∷ words) = said_none words
 
 -- what the words of a command spell, by what they have said
 abbrev pub spells : Kind → Option Said → Option Spelled
-spells transform_words s = option_map rewrites (transform_said s)
+spells transform_words s = option_map rewrites (option_and_then (λ (x : Said). transform_at x.place x) s)
 spells host_words s = files_alone (two_files (one_file hosts)) s
 spells run_words s = files_alone (two_files (one_file runs)) s
 spells gen_words s = files_alone (two_files number_and_file) s

@@ -26,7 +26,7 @@ use Rattle.flat_laws.proofs.Whole.{counted, meets}
 use Rattle.guard_form.specs.Functions.{GuardedFunc, with_guards, written_code}
 use Rattle.guard_form.specs.Pieces.{first_piece, units}
 use Rattle.slim_laws.specs.Slim.{Terms}
-use Rattle.slim_laws.specs.Laws.{ToHeld}
+use Rattle.slim_laws.specs.SlimUnitLaws.{ToHeld}
 use Rattle.slim_laws.specs.SlimUnits.{SlimUnits}
 use Rattle.slim_laws.specs.SlimModule.{Pieces, SlimPieces, fixed_at, flat_terms, is_slot}
 use Rattle.headline.specs.EmittedModule.{Emitted, WrittenAs, guarded_of, Framing}

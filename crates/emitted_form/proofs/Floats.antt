@@ -1,7 +1,7 @@
 -- Sections that are a module hold no float.
 use Rattle.std.proofs.Common.{◌≡◌, ◌∙◌, ℕ, ◌+◌, ◌<◌, ◌≤◌, ◌⊎◌, inl, inr, List, [], ◌∷◌, ◌++◌, length, map, Bool, true, false, Option, Some, None, All, refl, sym, ap, arith}
 use Rattle.std.specs.Prelude.{nat_le, ◌||◌, not, IsTrue}
-use Rattle.std.specs.List.{flat_map}
+use Rattle.std.specs.List.{AllZip, flat_map}
 use Rattle.std.proofs.lemmas.Bool.{and_parts, leb-true, or_cases, or_left, or_right}
 use Rattle.std.proofs.lemmas.List.Elements.{All-nil, All-cons, All-head, All-tail}
 use Rattle.wa_types.specs.declared.operators.NumOp.{NumOp}
@@ -17,7 +17,7 @@ use Rattle.wa_types.specs.declared.syntax.Run.{Run}
 use Rattle.wa_types.specs.Marks.{place_if, float_type, code_floats, type_floats, kind_floats, body_floats, section_floats, floats}
 use Rattle.wa_types.specs.Opcodes.{within, is_float_type, is_float_op, is_load_op, is_store_op, plain_opcode}
 use Rattle.wa_types.specs.Operators.{opcode_of}
-use Rattle.wa_types.specs.Reading.{HasKind, IsPlain, IsCode, Each, IsValueType, IsFuncType, IsKind, IsImport, IsGlobal, IsElem, IsRun, IsBody, IsSegment, types_in, imports_in}
+use Rattle.wa_types.specs.Reading.{HasKind, IsPlain, IsCode, IsValueType, IsFuncType, IsKind, IsImport, IsGlobal, IsElem, IsRun, IsBody, IsSegment, types_in, imports_in}
 use Rattle.wa_types.specs.Reading.{globals_in, elements_in, segments_in, IsModule}
 use Rattle.wa_types.specs.Spells.{bodies_in}
 use Rattle.wa_types.specs.Syntax.{Basic, nop, drop, select, const, num, global_get, global_set, load, store, memory_size, memory_grow, memory_copy, memory_fill, Plain, basic, local_get, local_set, local_tee, br}
@@ -129,7 +129,7 @@ code_clear (branched op result arms rest) (plain p more) e h = absurd h
 code_clear (branched op result arms rest) (nest s r inner more) e h = absurd h
 
 -- parts that are each something are each clear
-pub each_all : {X Y : Type 0} (R : X → Y → Type 0) (P : X → Type 0) (Q : Y → Type 0) → ((x : X) (y : Y) → R x y → Q y → P x) → (xs : List X) (ys : List Y) → Each R xs ys → All Q ys → All P xs
+pub each_all : {X Y : Type 0} (R : X → Y → Type 0) (P : X → Type 0) (Q : Y → Type 0) → ((x : X) (y : Y) → R x y → Q y → P x) → (xs : List X) (ys : List Y) → AllZip R xs ys → All Q ys → All P xs
 each_all R P Q w [] [] h q = All-nil P
 each_all R P Q w [] (y ∷ ys) h q = absurd h
 each_all R P Q w (x ∷ xs) [] h q = absurd h
@@ -139,7 +139,7 @@ any_all : {Y : Type 0} (ys : List Y) → All (λ (y : Y). Unit {0}) ys
 any_all [] = All-nil (λ y. Unit {0})
 any_all (y ∷ ys) = All-cons (λ y. Unit {0}) y ys tt (any_all ys)
 
-pub each_are : {X Y : Type 0} (R : X → Y → Type 0) (P : X → Type 0) → ((x : X) (y : Y) → R x y → P x) → (xs : List X) (ys : List Y) → Each R xs ys → All P xs
+pub each_are : {X Y : Type 0} (R : X → Y → Type 0) (P : X → Type 0) → ((x : X) (y : Y) → R x y → P x) → (xs : List X) (ys : List Y) → AllZip R xs ys → All P xs
 each_are R P w xs ys h = each_all R P (λ y. Unit {0}) (λ x y r u. w x y r) xs ys h (any_all ys)
 
 -- what is clear part by part is clear
@@ -147,10 +147,10 @@ pub all_clear : {X : Type 0} (h : X → List ℕ) (xs : List X) → All (λ x. h
 all_clear h [] a = refl
 all_clear h (x ∷ xs) a = join_clear (h x) (flat_map h xs) (All-head (λ x. h x ≡ []) x xs a) (all_clear h xs (All-tail (λ x. h x ≡ []) x xs a))
 
-types_clear : (xs : List Placed) (ys : List ValType) → Each IsValueType xs ys → flat_map float_type xs ≡ []
+types_clear : (xs : List Placed) (ys : List ValType) → AllZip IsValueType xs ys → flat_map float_type xs ≡ []
 types_clear xs ys h = all_clear float_type xs (each_are IsValueType (λ x. float_type x ≡ []) type_clear xs ys h)
 
-runs_clear : (xs : List RawRun) (ys : List Run) → Each IsRun xs ys → flat_map (λ (r : RawRun). float_type r.ty) xs ≡ []
+runs_clear : (xs : List RawRun) (ys : List Run) → AllZip IsRun xs ys → flat_map (λ (r : RawRun). float_type r.ty) xs ≡ []
 runs_clear xs ys h = all_clear (λ (r : RawRun). float_type r.ty) xs (each_are IsRun (λ (x : RawRun). float_type x.ty ≡ []) (λ x y r. type_clear x.ty y.ty r.ty) xs ys h)
 
 kind_clear : (raw : RawKind) (k : ImportKind) → IsKind raw k → kind_floats raw ≡ []

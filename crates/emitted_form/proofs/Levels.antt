@@ -1,13 +1,13 @@
 -- How deep the constructs of sections nest, and of the module that they are.
 use Rattle.std.proofs.Common.{◌≡◌, ◌∙◌, ℕ, zero, suc, ◌+◌, ◌<◌, ◌≤◌, List, [], ◌∷◌, ◌++◌, Bool, true, false, All, refl, sym, ap, arith}
 use Rattle.std.specs.Prelude.{max, nat_le}
-use Rattle.std.specs.List.{flat_map}
+use Rattle.std.specs.List.{AllZip, flat_map}
 use Rattle.std.proofs.lemmas.Bool.{leb-false, lt-leb}
 use Rattle.std.proofs.lemmas.List.Elements.{All-nil, All-cons, All-head, All-tail, All-append}
 use Rattle.wa_types.specs.Binary.{RawCode, ended, otherwise, instr, nested, branched, RawGlobal, RawElem, RawBody, RawSegment, Section, custom, types, imports, functions, tables, memories, globals, exports, start, elements, bodies, segments}
 use Rattle.wa_types.specs.Counts.{depth_of}
 use Rattle.wa_types.specs.Marks.{place_if, code_opens, section_opens, opens}
-use Rattle.wa_types.specs.Reading.{IsCode, Each, IsGlobal, IsElem, IsBody, IsSegment, globals_in, elements_in, segments_in, IsModule}
+use Rattle.wa_types.specs.Reading.{IsCode, IsGlobal, IsElem, IsBody, IsSegment, globals_in, elements_in, segments_in, IsModule}
 use Rattle.wa_types.specs.Spells.{bodies_in}
 use Rattle.wa_types.specs.Syntax.{Code, done, plain, nest, branch, Func, GlobalDef, Elem, Segment, Module}
 use Rattle.wasm_reader.proofs.ModulesMade.{join_clear}
@@ -188,7 +188,7 @@ opens_none : (bound : ℕ) (ss : List Section) → Shallow bound ss → opens bo
 opens_none bound [] c = refl
 opens_none bound (s ∷ ss) c = join_clear (section_opens bound s) (opens bound ss) (section_shallow bound s ss c) (opens_none bound ss (rest_shallow bound s ss c))
 
-pub each_back : {X Y : Type 0} (R : X → Y → Type 0) (P : X → Type 0) (Q : Y → Type 0) → ((x : X) (y : Y) → R x y → P x → Q y) → (xs : List X) (ys : List Y) → Each R xs ys → All P xs → All Q ys
+pub each_back : {X Y : Type 0} (R : X → Y → Type 0) (P : X → Type 0) (Q : Y → Type 0) → ((x : X) (y : Y) → R x y → P x → Q y) → (xs : List X) (ys : List Y) → AllZip R xs ys → All P xs → All Q ys
 each_back R P Q w [] [] h p = All-nil Q
 each_back R P Q w [] (y ∷ ys) h p = absurd h
 each_back R P Q w (x ∷ xs) [] h p = absurd h

@@ -1,7 +1,7 @@
 -- The numbers that limits bound, of sections and of the module that they are.
 use Rattle.std.proofs.Common.{◌≡◌, ◌∙◌, ℕ, zero, suc, ◌+◌, ◌<◌, ◌≤◌, List, [], ◌∷◌, ◌++◌, length, map, Bool, true, false, Option, Some, None, All, refl, sym, ap, subst, arith, length-append}
 use Rattle.std.specs.Prelude.{nat_lt, if◌then◌else◌}
-use Rattle.std.specs.List.{flat_map}
+use Rattle.std.specs.List.{AllZip, flat_map}
 use Rattle.std.proofs.lemmas.Bool.{le-ltb}
 use Rattle.std.proofs.lemmas.List.{length-map}
 use Rattle.std.proofs.lemmas.List.Elements.{All-nil, All-cons, All-head, All-tail}
@@ -9,7 +9,7 @@ use Rattle.wa_types.specs.declared.syntax.Import.{Import}
 use Rattle.wa_types.specs.declared.syntax.ImportKind.{ImportKind}
 use Rattle.wa_types.specs.Binary.{RawType, RawKind, raw_func, raw_table, raw_memory, raw_global, RawImport, RawBody, Section}
 use Rattle.wa_types.specs.Marks.{kind_sorts, imported_sorts, function_count, parameter_counts, body_sizes, first_above}
-use Rattle.wa_types.specs.Reading.{Each, IsValueType, IsFuncType, IsKind, IsImport, types_in, imports_in, IsModule}
+use Rattle.wa_types.specs.Reading.{IsValueType, IsFuncType, IsKind, IsImport, types_in, imports_in, IsModule}
 use Rattle.wa_types.specs.Sizes as Sizes
 use Rattle.wa_types.specs.Spells.{BodyOf, SectionOf, Items, sorts_in, bodies_in, Spells}
 use Rattle.wa_types.specs.Syntax.{FuncType, Func, Module}
@@ -40,7 +40,7 @@ kinds_same (raw_table l) k h = sym (ap Sizes.kind_sorts h)
 kinds_same (raw_memory l) k h = sym (ap Sizes.kind_sorts h)
 kinds_same (raw_global t mutable) k h = sym (ap Sizes.kind_sorts h.1)
 
-imports_same : (xs : List RawImport) (ys : List Import) → Each IsImport xs ys → flat_map (λ (i : RawImport). kind_sorts i.kind) xs ≡ flat_map (λ (i : Import). Sizes.kind_sorts i.kind) ys
+imports_same : (xs : List RawImport) (ys : List Import) → AllZip IsImport xs ys → flat_map (λ (i : RawImport). kind_sorts i.kind) xs ≡ flat_map (λ (i : Import). Sizes.kind_sorts i.kind) ys
 imports_same [] [] h = refl
 imports_same [] (y ∷ ys) h = absurd h
 imports_same (x ∷ xs) [] h = absurd h

@@ -25,7 +25,7 @@ use Rattle.guard_form.specs.Functions.{GuardedFunc, indices_of}
 use Rattle.guard_form.specs.Guarded.{body_exit, guarded_body, function_body}
 use Rattle.guard_form.specs.Pieces.{Units, first_piece, flat_units, units}
 use Rattle.slim_laws.specs.SlimModule.{SlimPieces, flat_terms}
-use Rattle.slim_laws.specs.Laws.{SlimmerUnits}
+use Rattle.slim_laws.specs.SlimUnitLaws.{SlimmerUnits}
 use Rattle.slim_laws.proofs.UnitSizes.{slimmer_law}
 use Rattle.slim_laws.proofs.UnitsAlike.{units_alike}
 use Rattle.guard_form.proofs.Grouped.{joins_law}

@@ -1,5 +1,6 @@
 -- The bytes that entries of sections are written as spell them.
 use Rattle.std.proofs.Common.{ℕ, ◌+◌, ◌<◌, ◌^◌, List, [], ◌∷◌, ◌++◌, Option, Some, None, refl, arith, append_assoc, length, length-append, IsUtf8, All}
+use Rattle.std.specs.List.{AllZip}
 use Rattle.wa_types.specs.declared.values.ValType.{ValType}
 use Rattle.wa_types.specs.declared.syntax.Run.{Run}
 use Rattle.wa_types.specs.declared.syntax.Limits.{Limits}
@@ -12,7 +13,7 @@ use Rattle.wa_types.specs.Encoding.{vector, sized, type_byte, func_type_bytes, m
 use Rattle.wa_types.specs.Syntax.{FuncType, Func, GlobalDef, Elem, Segment}
 use Rattle.wa_types.specs.Binary.{raw_func, raw_table, raw_memory, raw_global}
 use Rattle.wa_types.specs.Spells.{Vector, Text, ValueType, FunctionType, Maximum, LimitsOf, TableType, ImportKindOf, ImportOf, GlobalOf, ExportOf, ElementOf, RunOf, BodyOf, SegmentOf}
-use Rattle.wa_types.specs.Reading.{Each, IsFuncType, IsKind, IsImport, IsGlobal, IsElem, IsRun, IsBody, IsSegment, IsValueType}
+use Rattle.wa_types.specs.Reading.{IsFuncType, IsKind, IsImport, IsGlobal, IsElem, IsRun, IsBody, IsSegment, IsValueType}
 use Rattle.wa_types.specs.Sizes.{CodeFits, MaxFits, LimitsFit, KindFits, ImportFits, ExportFits, ElemFits, SegmentFits}
 use Rattle.file_laws.proofs.NumberWriting.{shortest_spells}
 use Rattle.file_laws.proofs.CodeWriting.{Written, write_vector, write_numbers, number_some, write_type, write_expression, Itself}
@@ -23,7 +24,7 @@ type_some t = omega arith
 every : {Y : Type 0} (ys : List Y) → All (λ y. Unit {0}) ys
 every ys = λ k d h. tt
 
-write_types : (ts : List ValType) → length (vector (λ t. type_byte t ∷ []) ts) < 2 ^ 32 → (at : ℕ) → Written (Vector ValueType) (Each IsValueType) ts at (vector (λ t. type_byte t ∷ []) ts)
+write_types : (ts : List ValType) → length (vector (λ t. type_byte t ∷ []) ts) < 2 ^ 32 → (at : ℕ) → Written (Vector ValueType) (AllZip IsValueType) ts at (vector (λ t. type_byte t ∷ []) ts)
 write_types ts l at = write_vector ValueType IsValueType (λ t. Unit {0}) (λ t. type_byte t ∷ []) write_type type_some ts (every ts) l at
 
 pub write_func_type : (t : FuncType) → Unit {0} → length (func_type_bytes t) < 2 ^ 32 → (at : ℕ) → Written FunctionType IsFuncType t at (func_type_bytes t)

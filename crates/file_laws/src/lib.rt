@@ -8,19 +8,19 @@
 //! and `Marks` keeps what was shown so far. That all items together show what the sections hold (`MarksOf` of `specs/Found.antt`)
 //! is the law `items_show_the_sections`.
 //!
-//! - `laws`: spelling, reading and writing.
+//! - `spelling_laws`: spelling, reading and writing.
 //! - `floats`, `marks`, `mark_laws`: which bytes are floats, what was met along a file, and that nothing was missed.
 #![tactic(auto)]
 
 mod floats;
-mod laws;
 mod mark_laws;
 mod marks;
+mod spelling_laws;
 
 pub use floats::{is_float_op, is_float_type};
-pub use laws::{
+pub use mark_laws::items_show_the_sections;
+pub use marks::Marks;
+pub use spelling_laws::{
     beginnings_are_begun, cut_preambles_fail, faults_spell_nothing, one_file_is_spelled,
     one_module_is_spelled, spelled_is_well_formed, whole_is_spelled, written_is_spelled,
 };
-pub use mark_laws::items_show_the_sections;
-pub use marks::Marks;

@@ -7,15 +7,15 @@
 //! functions are flat is valid (`specs/FlatModule.antt`).
 //!
 //! - `module_laws`: of flat bodies and the flat module.
-//! - `laws`: what the calls that take a flat function ask of it (`specs/FlatMeets.antt`).
+//! - `flat_functions`: what the calls that take a flat function ask of it (`specs/FlatMeets.antt`).
 //! - `local_rules`: which locals flat code reads and writes: own locals where the original does, and of the slots those of operands that
 //!   stand on its stack (`specs/OwnUses.antt`, `specs/Behind.antt`).
 #![tactic(auto)]
 
-mod laws;
+mod flat_functions;
 mod local_rules;
 mod module_laws;
 
-pub use laws::flat_functions_fit;
+pub use flat_functions::flat_functions_fit;
 pub use local_rules::{own_locals_stay, stack_alone_is_read};
 pub use module_laws::{flat_bodies_are_typed, flat_code_is_small, valid_modules_are_flattened};

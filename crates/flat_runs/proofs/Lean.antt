@@ -7,7 +7,7 @@ use Rattle.wa_types.specs.Base.{Base}
 use Rattle.wa_model.specs.Machine.{Turn, stops, goes, CostsMore}
 use Rattle.wa_model.specs.Plan.{Plan, Outcome}
 use Rattle.wa_model.specs.Blocking.{Note, State, blocking}
-use Rattle.run_theory.specs.Laws.{start_of}
+use Rattle.run_theory.specs.DeterminedRuns.{start_of}
 use Rattle.run_laws.proofs.Seeing.{no_further}
 use Rattle.flat_runs.specs.Beside.{first_of}
 use Rattle.flat_runs.specs.FlatBlocking.{counts, turn_cost, cost_if, lean_next, LeanCost}

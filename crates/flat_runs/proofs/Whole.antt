@@ -12,7 +12,7 @@ use Rattle.wa_model.specs.Store.{Store}
 use Rattle.wa_model.specs.Plan.{Entry, Plan, Outcome, EntryFits, Fits}
 use Rattle.wa_model.specs.Instantiation.{Opening, fails_as, opens, opening}
 use Rattle.wa_model.specs.Blocking.{Note, State, Left, events_of, begun, started, all_left, blocking, on_to}
-use Rattle.run_theory.specs.Laws.{start_of}
+use Rattle.run_theory.specs.DeterminedRuns.{start_of}
 use Rattle.run_theory.specs.Touches.{trace, seen_at, seen_note}
 use Rattle.run_theory.specs.Fitting.{types_of, global_types, StoreFits}
 use Rattle.run_theory.proofs.BaseValid.{base_valid}

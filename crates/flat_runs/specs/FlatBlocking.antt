@@ -8,7 +8,7 @@ use Rattle.wa_types.specs.Validity.{Valid}
 use Rattle.wa_model.specs.Machine.{Turn, stops, goes}
 use Rattle.wa_model.specs.Plan.{Plan, Outcome, Fits}
 use Rattle.wa_model.specs.Blocking.{Note, State, runs, events_of, blocking, Blocking, store_of}
-use Rattle.run_theory.specs.Laws.{start_of}
+use Rattle.run_theory.specs.DeterminedRuns.{start_of}
 use Rattle.run_theory.specs.Touches.{trace, Touches}
 use Rattle.run_theory.specs.Flat.{body_of}
 use Rattle.flat_laws.specs.Flatten.{flattened}

@@ -20,7 +20,7 @@ use Rattle.wa_model.specs.Expected.{Expected, pause_note, trap_note}
 use Rattle.wa_model.specs.Behaves.{Compared, IsPrefix, PauseNumbered, PausesNumbered, StandsNumbered, expected_notes, pause_stacks}
 use Rattle.wa_model.specs.Protocol.{Held, Protocol, exports_of, protocol}
 use Rattle.wa_model.specs.Rewrites.{Rewrites}
-use Rattle.run_theory.specs.Laws.{held_start_of}
+use Rattle.run_theory.specs.DeterminedRuns.{held_start_of}
 use Rattle.run_theory.proofs.Runs.{leads_run, lt_false, prefix_of_longer, prefix_on}
 use Rattle.wa_model.specs.Store.{Store}
 use Rattle.wa_model.specs.Machine.{Ran, Turn, after, goes, run}

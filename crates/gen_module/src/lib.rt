@@ -5,11 +5,11 @@
 //! it returns (`specs/GeneratedRuns.antt`).
 #![tactic(auto)]
 
+mod generated;
 mod generating;
-mod laws;
 
-pub use generating::generate;
-pub use laws::{
+pub use generated::{
     few_functions_return, generated_modules_are_small, generated_modules_are_valid,
     generated_modules_pause_once,
 };
+pub use generating::generate;

@@ -12,9 +12,9 @@ use Rattle.wa_types.specs.Frames.{word, HoldsBytes}
 use Rattle.wa_ops.specs.Integers.{of_bool}
 use Rattle.wa_model.specs.declared.answers.Area.{Area}
 use Rattle.wa_model.specs.Machine.{goes}
-use Rattle.wa_model.specs.Store.{Store, value_at}
+use Rattle.wa_model.specs.Store.{choose, Store, value_at}
 use Rattle.wa_model.specs.Configuration.{block_label, Configuration, running}
-use Rattle.wa_model.specs.Step.{returns, step, choose, result_count, entered}
+use Rattle.wa_model.specs.Step.{returns, step, result_count, entered}
 use Rattle.wa_model.specs.Plan.{Plan}
 use Rattle.wa_model.specs.Blocking.{Left}
 use Rattle.wa_model.specs.Protocol.{Exports, Phase, Then, Held, calling, aside, aside_called, aside_step}

@@ -17,7 +17,8 @@ use Rattle.wa_model.specs.Blocking.{Note, State, between, begins, runs, halts, e
 use Rattle.wa_model.specs.Protocol.{Protocol, store_held}
 use Rattle.wa_model.specs.Untouched.{IsCalm, next_ranges}
 use Rattle.wa_model.proofs.StayingOff.{each_off}
-use Rattle.wa_model.specs.Expected.{SameEnd, shown, shown_at}
+use Rattle.wa_model.specs.Expected.{SameEnd}
+use Rattle.run_theory.specs.Shown.{shown_within as shown, shown_within_at as shown_at}
 use Rattle.wa_model.specs.Behaves.{BehavesOn, IsPrefix, PauseNumbered, expected_notes, pause_stacks, protocol_notes, stack_if, unless_pause, without_pauses, GivenUnpaused, RunsAlike, SameWhole}
 use Rattle.run_laws.specs.Standing.{PauseTold}
 use Rattle.run_laws.proofs.StandingPauses.{pauses_told}

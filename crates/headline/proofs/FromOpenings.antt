@@ -16,12 +16,12 @@ use Rattle.std.proofs.lemmas.List.Elements.{All-cons, All-head, All-tail}
 use Rattle.run_theory.proofs.Follow.{Alike as AllAlike}
 use Rattle.run_theory.proofs.QuietRuns.{FailsOutside, opening_fails}
 use Rattle.run_theory.proofs.Runs.{leads_run, one_move}
-use Rattle.wa_model.specs.Behaves.{BehavesOn, PauseNumbered, SameNote, is_pause_end}
-use Rattle.wa_model.specs.Expected.{shown}
+use Rattle.wa_model.specs.Behaves.{BehavesOn, PauseNumbered, SameNote, unless_pause}
+use Rattle.run_theory.specs.Shown.{shown_within as shown}
 use Rattle.wa_model.specs.Blocking.{Blocking, Note, State, all_left, begins, begun, between, done_notes, halts, no_store, note, on_to, started}
 use Rattle.wa_model.specs.Configuration.{Configuration}
 use Rattle.wa_model.specs.Instantiation.{Opening, fails_as, opening, opens}
-use Rattle.run_theory.specs.Laws.{held_start_of, start_of}
+use Rattle.run_theory.specs.DeterminedRuns.{held_start_of, start_of}
 use Rattle.wa_model.specs.Machine.{Ran, after, run}
 use Rattle.wa_model.specs.Outside.{ended}
 use Rattle.wa_model.specs.Plan.{AreLawful, Entry, Outcome}
@@ -33,7 +33,7 @@ use Rattle.wa_types.specs.Modules.{func_type_at}
 
 -- both openings fail with one end, or give stores that belong together
 abbrev pub OpensTogether : (w : World) (G : Store → Type 0) → Opening → Opening → Type 0
-OpensTogether w G (fails_as e) o' = (o' ≡ fails_as e) × (is_pause_end e ≡ false)
+OpensTogether w G (fails_as e) o' = (o' ≡ fails_as e) × (unless_pause (ended e) ≡ Some (ended e))
 OpensTogether w G (opens s) o' = (s' : Store) × (o' ≡ opens s') × G s × Alike (setting w 0) s s'
 
 -- What instantiation and the start function meet.

@@ -11,13 +11,14 @@ use Rattle.run_theory.proofs.Rewound.{last_on, rewinds_too}
 use Rattle.run_theory.proofs.ShownMoments.{Honest, Lawful, event_moment, state_moment}
 use Rattle.run_theory.proofs.ShownRuns.{Plain_notes, blocking_shown, shown_run}
 use Rattle.run_theory.proofs.TestedEnds.{OpeningIs}
-use Rattle.wa_model.specs.Behaves.{BehavesOn, IsMoment, RewindsTo, SameNote, IsPrefix, is_pause_end, last_called, pause_stacks, protocol_notes, stack_if, unless_end, without_pauses}
+use Rattle.wa_model.specs.Behaves.{BehavesOn, IsMoment, RewindsTo, SameNote, IsPrefix, last_called, pause_stacks, protocol_notes, stack_if, without_pauses, unless_pause}
 use Rattle.wa_model.specs.Blocking.{Blocking, Left, Note, State, all_left, begun, blocking, done_notes, events_of, on_to, store_of}
-use Rattle.wa_model.specs.Expected.{SameEnd, pause_note, shown, shown_at, trap_note}
+use Rattle.wa_model.specs.Expected.{SameEnd, pause_note, trap_note}
+use Rattle.run_theory.specs.Shown.{shown_within as shown, shown_within_at as shown_at}
 use Rattle.wa_model.specs.Instantiation.{Opening, fails_as, opening, opens}
-use Rattle.run_theory.specs.Laws.{held_start_of, start_of}
+use Rattle.run_theory.specs.DeterminedRuns.{held_start_of, start_of}
 use Rattle.wa_model.specs.Machine.{Ran, Turn, run}
-use Rattle.wa_model.specs.Outside.{Call, Event}
+use Rattle.wa_model.specs.Outside.{Call, Event, ended}
 use Rattle.wa_model.specs.Plan.{Entry, Outcome, OutcomeFits, Plan}
 use Rattle.wa_model.specs.Protocol.{Held, Protocol, exports_of, protocol, store_held}
 use Rattle.wa_model.specs.Store.{Store}
@@ -104,10 +105,10 @@ on_lawful s l (e ∷ es) h = h
 
 -- the ends of a failed instantiation are no ends of a pause
 abbrev pub OpensHonestly : Opening → Type 0
-OpensHonestly = OpeningIs (λ e. is_pause_end e ≡ false)
+OpensHonestly = OpeningIs (λ e. unless_pause (ended e) ≡ Some (ended e))
 
 begun_opens : (start : Option ℕ) (l : Left) (o : Opening) → OpensHonestly o → All OutcomeFits l.outcomes → Opens (begun start l o).events (begun start l o).last
-begun_opens start l (fails_as e) h os = record { plain = (refl, tt); honest = (ap (λ b. unless_end b (Rattle.wa_model.specs.Outside.ended e)) h, tt); lawful = tt }
+begun_opens start l (fails_as e) h os = record { plain = (refl, tt); honest = (h, tt); lawful = tt }
 begun_opens None l (opens s) h os = done_opens s l.entries (on_to s l l.entries) (on_lawful s l l.entries os)
 begun_opens (Some x) l (opens s) h os = record { plain = tt; honest = tt; lawful = os }
 

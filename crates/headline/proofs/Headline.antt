@@ -15,7 +15,7 @@ use Rattle.headline.specs.Halts.{HaltLaw, PausesKnown, room_by, used_by}
 use Rattle.headline.proofs.Halting.{plain_halts}
 use Rattle.headline.proofs.Rooms.{shown_is}
 use Rattle.guard_form.specs.AssertedRuns.{ExpectedWithAsserts}
-use Rattle.wa_model.specs.Expected.{shown}
+use Rattle.run_theory.specs.Shown.{shown_within as shown}
 use Rattle.std.proofs.Common.{Bool, List, false, refl, subst, sym, true, ℕ, ◌∙◌, ◌≡◌}
 use Rattle.wa_model.specs.Blocking.{Blocking}
 use Rattle.wa_model.specs.Behaves.{BehavesOn, PausesNumbered, expected_notes}
@@ -49,7 +49,7 @@ module _ (w : World) (whole : Whole w) (Known : Held → Type 0) (wl : WrittenLa
         lawful = whole.lawful;
       }
 
-  -- THE HEADLINE: all four fields, for one plan, outcomes and cost
+  -- THE HEADLINE: all five fields, for one plan, outcomes and cost
   pub headline : w.asserts ≡ false → (Live : Configuration → Configuration → Type 0) → LiveLaw w Live W → FlatLaw w Live L W G → (os : List Outcome) (n : ℕ) → Says os n
   headline none Live lv law os n cmp pauses =
       let ft = world_fits w whole.parts in

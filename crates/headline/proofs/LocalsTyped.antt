@@ -4,7 +4,7 @@ use Rattle.std.proofs.lemmas.List.Elements.{All-nil, All-cons}
 use Rattle.wa_types.specs.Syntax.{Module}
 use Rattle.wa_types.specs.Validity.{Valid}
 use Rattle.wa_model.specs.Blocking.{Note}
-use Rattle.run_theory.specs.Laws.{held_start_of}
+use Rattle.run_theory.specs.DeterminedRuns.{held_start_of}
 use Rattle.wa_model.specs.Machine.{Turn, stops, goes, run}
 use Rattle.wa_model.specs.Plan.{AreaFits, Outcome, OutcomeFits, Plan}
 use Rattle.wa_model.specs.Plan as L

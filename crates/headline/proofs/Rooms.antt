@@ -9,9 +9,10 @@ use Rattle.wa_types.specs.Pausing.{Settings}
 use Rattle.wa_types.specs.Syntax.{Module}
 use Rattle.wa_model.specs.Behaves.{StandsNumbered}
 use Rattle.wa_model.specs.Blocking.{Note}
-use Rattle.wa_model.specs.Expected.{pause_note, shown, shown_at, trap_note}
+use Rattle.wa_model.specs.Expected.{pause_note, shown as shown_by, shown_at as shown_at_by, trap_note}
+use Rattle.run_theory.specs.Shown.{shown_within as shown, shown_within_at as shown_at}
 use Rattle.wa_model.specs.declared.answers.Area.{Area}
-use Rattle.guard_form.specs.AssertedRuns.{ExpectedWithAsserts, is_stuck, numbered_front, Reach, shown_at_by, shown_by, stands_numbered}
+use Rattle.guard_form.specs.AssertedRuns.{ExpectedWithAsserts, is_stuck, numbered_front, Reach, stands_numbered}
 use Rattle.guard_form.proofs.Expecting.{stands_law}
 use Rattle.headline.specs.Halts.{room_by, StackKnown, used_by}
 

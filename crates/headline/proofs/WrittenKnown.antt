@@ -10,7 +10,7 @@ use Rattle.wa_model.specs.Blocking.{Left, Note, all_left}
 use Rattle.wa_model.specs.Configuration.{Activation, Configuration}
 use Rattle.run_theory.specs.Fitting.{CallersFit, Fits, global_types, results_of, types_of}
 use Rattle.wa_model.specs.Instantiation.{Opening, fails_as, opens, opening, least_of}
-use Rattle.run_theory.specs.Laws.{held_start_of}
+use Rattle.run_theory.specs.DeterminedRuns.{held_start_of}
 use Rattle.wa_model.specs.Outside.{Answer}
 use Rattle.wa_model.specs.Store.{Store}
 use Rattle.wa_types.specs.declared.values.Value.{Value}

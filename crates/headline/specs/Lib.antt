@@ -8,12 +8,12 @@ pub mod FlatLaw
 pub mod Framed
 pub mod Given
 pub mod Halts
-pub mod Laws
 pub mod Links
 pub mod LiveLaw
 pub mod Rewritten
 pub mod SlimBeside
 pub mod StoreLaws
+pub mod StoresTogether
 pub mod Told
 pub mod TypedLocals
 pub mod World

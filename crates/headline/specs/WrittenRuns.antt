@@ -2,7 +2,7 @@
 use Rattle.std.specs.Prelude.{◌≡◌, ℕ, List, ◌∷◌, All}
 use Rattle.wa_model.specs.Blocking.{Left, Note, Task}
 use Rattle.wa_model.specs.Configuration.{Configuration}
-use Rattle.run_theory.specs.Laws.{held_start_of}
+use Rattle.run_theory.specs.DeterminedRuns.{held_start_of}
 use Rattle.wa_model.specs.Machine.{goes}
 use Rattle.wa_model.specs.Plan.{Entry, Outcome, OutcomeFits}
 use Rattle.wa_model.specs.Protocol.{Held, busy, calling, exports_of, give_zero, is_running, protocol, unwinds}

@@ -7,7 +7,7 @@ use Rattle.wa_types.specs.Syntax.{Func, Module}
 use Rattle.wa_types.specs.declared.values.Value.{Value}
 use Rattle.wa_model.specs.Blocking.{Asker, Left, Note, State, Task, all_left, an_entry, asked, begins, begun, between, blocking, by_step, enter_next, enters, fault_of, go_on, halts, in_start, inside, next_entry, call_note, on_to, outermost, pause_of, poked, runs, stack_at, start_called, store_at, task_back, tested, the_start, with_outcomes}
 use Rattle.wa_model.specs.Instantiation.{Opening, fails_as, opening, opens}
-use Rattle.run_theory.specs.Laws.{start_of}
+use Rattle.run_theory.specs.DeterminedRuns.{start_of}
 use Rattle.wa_model.specs.Machine.{Leads, Turn, goes, moves, stays, stops}
 use Rattle.wa_model.specs.Outside.{Answer}
 use Rattle.wa_model.specs.Plan.{Entry, Outcome, Plan, given, refused}
@@ -16,7 +16,7 @@ use Rattle.wa_model.specs.Store.{Store}
 use Rattle.wa_model.specs.declared.answers.Said.{Said}
 use Rattle.wa_model.specs.declared.answers.Said.TheVariants as S
 use Rattle.wa_model.specs.declared.events.End.{End}
-use Rattle.image_laws.specs.Laws.{EntryIsNumbered}
+use Rattle.image_laws.specs.ComesBack.{EntryIsNumbered}
 
 module _ (m : Module) (plan : Plan) where
   abbrev Behind : Left → Type 0

@@ -18,7 +18,7 @@ use Rattle.wa_model.specs.declared.events.End.TheVariants.{Done}
 use Rattle.wa_model.specs.Behaves.{Compared, PauseNumbered, StandsNumbered}
 use Rattle.wa_model.specs.Blocking.{Blocking, Note, State, all_left, an_entry, between, blocking, call_note, halts, note, poked, runs}
 use Rattle.wa_model.specs.Configuration.{running}
-use Rattle.run_theory.specs.Laws.{start_of}
+use Rattle.run_theory.specs.DeterminedRuns.{start_of}
 use Rattle.wa_model.specs.Machine.{Leads, moves, stays}
 use Rattle.wa_model.specs.Outside.{answered, ended, returned}
 use Rattle.wa_model.specs.Plan.{AreLawful, EntryFits, Fits, OutcomeFits, PokeFits}
@@ -27,7 +27,7 @@ use Rattle.wa_model.proofs.StayingOff.{nothing_off}
 use Rattle.run_theory.proofs.Invariants.{RanKeeps, TurnKeeps, after_keeps}
 use Rattle.image_laws.specs.Example.{adding, at_call, behind_call, called_with_7, fresh, may_pause, outcomes_there, pause_there, plan_there, sample, saving}
 use Rattle.image_laws.specs.Image.{ComesThere, answer_there, left_there, stack_there}
-use Rattle.image_laws.specs.Laws.{PauseOf, RunCompared}
+use Rattle.image_laws.specs.ComesBack.{PauseOf, RunCompared}
 use Rattle.image_laws.proofs.ExampleModule.{can_there, formed_there, free_there, no_run}
 
 -- ---- where it stands

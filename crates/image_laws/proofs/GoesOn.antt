@@ -7,7 +7,7 @@ use Rattle.wa_model.specs.Behaves.{PausesNumbered, SameNote}
 use Rattle.wa_model.specs.Blocking.{Blocking, Left, Note, State, Task, an_entry, call_note, events_of, runs}
 use Rattle.wa_model.specs.Configuration.{Configuration}
 use Rattle.wa_model.specs.Expected.{Expected, pause_note}
-use Rattle.run_theory.specs.Laws.{held_start_of, start_of}
+use Rattle.run_theory.specs.DeterminedRuns.{held_start_of, start_of}
 use Rattle.wa_model.specs.Machine.{Leads, Turn}
 use Rattle.wa_model.specs.Plan.{Outcome}
 use Rattle.wa_model.specs.Protocol.{Held, busy, is_running}

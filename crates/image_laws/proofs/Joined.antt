@@ -12,14 +12,14 @@ use Rattle.wa_model.specs.Blocking.{Blocking, Left, Note, State, all_left, an_en
 use Rattle.run_theory.specs.Fitting.{StoreFits, global_types}
 use Rattle.run_theory.specs.Growth.{Each, EntryNamed}
 use Rattle.wa_model.specs.Instantiation.{Opening, fails_as, opening, opens}
-use Rattle.run_theory.specs.Laws.{start_of}
+use Rattle.run_theory.specs.DeterminedRuns.{start_of}
 use Rattle.wa_model.specs.Machine.{Ran, goes, run}
 use Rattle.wa_model.specs.Plan.{Entry}
 use Rattle.wa_model.specs.Store.{Store}
 use Rattle.emitted_form.proofs.CodeAlone.{code_alone}
 use Rattle.emitted_form.specs.PolicyLaws.{without_code}
 use Rattle.image_laws.specs.Image.{HoldsPause, answer_there, goes_on_there, left_there, rest_of_cost, stack_there}
-use Rattle.image_laws.specs.Laws.{OneSavesAnotherGoesOn, WholeBound}
+use Rattle.image_laws.specs.ComesBack.{OneSavesAnotherGoesOn, WholeBound}
 use Rattle.image_laws.proofs.Apart.{bounds_join}
 use Rattle.image_laws.proofs.Emitted.{image_goes_on, pauses_hold}
 use Rattle.image_laws.proofs.Reached.{stacks_on}

@@ -1,3 +1,3 @@
+pub mod ComesBack
 pub mod Example
 pub mod Image
-pub mod Laws

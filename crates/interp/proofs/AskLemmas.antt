@@ -6,9 +6,9 @@ use Rattle.wa_types.specs.declared.values.Value.TheVariants as V
 use Rattle.wa_types.specs.declared.values.Trap.TheVariants.{StackExhausted, TypeMismatch}
 use Rattle.wa_types.specs.Syntax.{basic, local_get, local_set, local_tee, br, br_if, br_table, return, unreachable, call, call_indirect, a_block, a_loop, Plain, Code, done, plain, nest, branch, Func, Module}
 use Rattle.wa_types.specs.Modules.{func_imports, func_type_at, type_at, defined_at}
-use Rattle.wa_model.specs.Store.{Store, Did, works, fails, lacks, takes, extra_cost, act}
+use Rattle.wa_model.specs.Store.{choose, Store, Did, works, fails, lacks, takes, extra_cost, act}
 use Rattle.wa_model.specs.Configuration.{Label, block_label, loop_label, Activation, Configuration, running, waiting}
-use Rattle.wa_model.specs.Step.{Next, steps, asks, returns, traps, stuck, result_count, leave, jump, finish, did, with_top, with_number, choose, entered, invoke, param_count, same_func_type, through, memory_max, step_plain, step_at, step}
+use Rattle.wa_model.specs.Step.{Next, steps, asks, returns, traps, stuck, result_count, leave, jump, finish, did, with_top, with_number, entered, invoke, param_count, same_func_type, through, memory_max, step_plain, step_at, step}
 use Rattle.run_theory.specs.Alone.{Finish, it_asks, FinishesAt, EndsAs, by_finish, by_steps}
 use Rattle.interp.specs.StackRooms.{TakesMemory, paid_for}
 use Rattle.interp.specs.Runs.{LacksAt}

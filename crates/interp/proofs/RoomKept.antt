@@ -11,10 +11,10 @@ use Rattle.wa_types.specs.declared.values.Trap.TheVariants.{StackExhausted}
 use Rattle.wa_types.specs.Syntax.{basic, memory_grow, Code, done, plain, branch, Func, Module}
 use Rattle.wa_types.specs.View.{code, in_front}
 use Rattle.wa_types.specs.Typing.{type_of}
-use Rattle.wa_model.specs.Store.{Store, Did, works, fails, lacks, act}
+use Rattle.wa_model.specs.Store.{choose, Store, Did, works, fails, lacks, act}
 use Rattle.wa_model.specs.Configuration.{Configuration, running, waiting, block_label}
 use Rattle.wa_model.specs.Configuration as C
-use Rattle.wa_model.specs.Step.{Next, steps, traps, leave, did, choose, entered, invoke, arity_of, memory_max, step_at}
+use Rattle.wa_model.specs.Step.{Next, steps, traps, leave, did, entered, invoke, arity_of, memory_max, step_at}
 use Rattle.run_theory.specs.Heights.{most_operands}
 use Rattle.run_theory.specs.Growth.{Each}
 use Rattle.run_theory.specs.Fitting.{types_of, Fits, NextFits}

@@ -13,12 +13,13 @@ use Rattle.wa_model.specs.declared.answers.Said.TheVariants as S
 use Rattle.wa_model.specs.Behaves.{IsMoment, IsPrefix, expected_notes, pause_stacks, stack_if, unless_pause, without_pauses}
 use Rattle.wa_model.specs.Blocking.{Blocking, Left, Note, State, an_entry, asked, blocking, by_step, call_note, events_of, go_on, inside, poked, runs, store_of, tested}
 use Rattle.wa_model.specs.Configuration.{Configuration}
-use Rattle.wa_model.specs.Expected.{Expected, pause_note, shown}
+use Rattle.wa_model.specs.Expected.{Expected, pause_note}
+use Rattle.run_theory.specs.Shown.{shown_within as shown}
 use Rattle.wa_model.specs.Machine.{Ran, Turn, after, goes, run}
 use Rattle.wa_model.specs.Outside.{Event}
 use Rattle.wa_model.specs.Plan.{Entry, Outcome, Plan}
 use Rattle.wa_model.specs.Store.{Store}
-use Rattle.run_theory.specs.Laws.{start_of}
+use Rattle.run_theory.specs.DeterminedRuns.{start_of}
 use Rattle.run_theory.proofs.Runs.{leads_run, one_move, too_dear}
 use Rattle.run_laws.proofs.Growing.{runs_grow}
 use Rattle.run_laws.proofs.OwnEnds.{Own}

@@ -11,7 +11,8 @@ use Rattle.wa_types.specs.Pausing.{Settings}
 use Rattle.wa_types.specs.Syntax.{Module}
 use Rattle.wa_model.specs.Behaves.{BehavesOn, expected_notes, pause_stacks}
 use Rattle.wa_model.specs.Blocking.{Blocking, Left, Note, State, all_left, begun, blocking, call_note, done_notes, halts, no_store, note, on_to}
-use Rattle.wa_model.specs.Expected.{Expected, pause_note, shown}
+use Rattle.wa_model.specs.Expected.{Expected, pause_note}
+use Rattle.run_theory.specs.Shown.{shown_within as shown}
 use Rattle.wa_model.specs.Instantiation.{Opening, fails_as, opening, opens}
 use Rattle.wa_model.specs.Machine.{IsRun, Leads, Ran, Turn, after, run, still}
 use Rattle.wa_model.specs.Outside.{Answer, ended, paused}
@@ -19,7 +20,7 @@ use Rattle.wa_model.specs.declared.events.End.TheVariants.{Done}
 use Rattle.wa_model.specs.Plan.{Entry, Outcome, Plan}
 use Rattle.wa_model.specs.Protocol.{Held, Protocol, call_again, calling, exports_of, held_begun, held_on, over, protocol, rewinds}
 use Rattle.wa_model.specs.Store.{Store}
-use Rattle.run_theory.specs.Laws.{held_start_of, start_of}
+use Rattle.run_theory.specs.DeterminedRuns.{held_start_of, start_of}
 use Rattle.run_theory.proofs.Runs.{leads_beyond, leads_on, leads_one, leads_run, leads_stopped, no_move, run_is_run}
 use Rattle.run_laws.proofs.OwnEnds.{Own}
 use Rattle.image_laws.specs.Image.{ComesThere, ComesToPause, Pause, held_at_pause, held_there, left_there, stack_there}

@@ -11,7 +11,7 @@ use Rattle.wa_model.specs.Protocol.{Held, exports_of, held_begun, held_continued
 use Rattle.wa_model.specs.Untouched.{Untouched}
 use Rattle.wa_model.specs.World.{Actor, Halt, Original, Program, StartsHeld, at_start, halted, halted_in, protocol_story, story_from, told_by}
 use Rattle.wa_types.specs.Pausing.{TellsMayPause}
-use Rattle.run_theory.specs.Laws.{held_start_of}
+use Rattle.run_theory.specs.DeterminedRuns.{held_start_of}
 use Rattle.snapshot_store.specs.Snapshots.{PausedParts, ProgramRecord, fresh, over, paused}
 use Rattle.world_laws.specs.Originals.{MayRun, Orderly, StandsIn, new_calls}
 use Rattle.world_laws.specs.Snapshots.{ComesTo, IsFresh, IsPaused, StandsSo, answer_in, begun_from, from_record, halt_at, table_made, used_from}

@@ -6,7 +6,8 @@ use Rattle.std.proofs.lemmas.List.Elements.{All-nil, All-cons, All-head, All-tai
 use Rattle.wa_types.specs.Frames.{Suspended}
 use Rattle.wa_model.specs.Behaves.{pause_stacks, stack_if, unless_pause, without_pauses}
 use Rattle.wa_model.specs.Blocking.{Note, events_of}
-use Rattle.wa_model.specs.Expected.{pause_note, shown, shown_at, trap_note}
+use Rattle.wa_model.specs.Expected.{pause_note, trap_note}
+use Rattle.run_theory.specs.Shown.{shown_within as shown, shown_within_at as shown_at}
 use Rattle.wa_model.specs.Outside.{Event, answered, called, ended, paused, returned, shown as shows}
 use Rattle.wa_model.specs.declared.events.End.{End}
 use Rattle.wa_model.specs.declared.events.End.TheVariants.{UnwindTrap}

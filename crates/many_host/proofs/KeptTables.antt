@@ -14,9 +14,9 @@ use Rattle.wa_types.specs.Syntax.{a_block, a_loop, Code, done, plain, nest, bran
 use Rattle.wa_types.specs.Modules.{func_imports, type_at, func_type_at, defined_at}
 use Rattle.wa_types.specs.Typing.{type_of}
 use Rattle.wa_ops.specs.Operate.{operate, number_of}
-use Rattle.wa_model.specs.Store.{Store, Did, works, fails, lacks, takes, extra_cost, act, computed, width_of, loaded, load_at, stored, store_at, grew}
+use Rattle.wa_model.specs.Store.{choose, Store, Did, works, fails, lacks, takes, extra_cost, act, computed, width_of, loaded, load_at, stored, store_at, grew}
 use Rattle.wa_model.specs.Configuration.{Label, block_label, loop_label, Activation, Configuration, running, waiting}
-use Rattle.wa_model.specs.Step.{Next, steps, asks, returns, traps, stuck, result_count, leave, jump, finish, did, choose, entered, invoke, param_count, same_func_type, through, memory_max, step_plain, step_at, step, arity_of}
+use Rattle.wa_model.specs.Step.{Next, steps, asks, returns, traps, stuck, result_count, leave, jump, finish, did, entered, invoke, param_count, same_func_type, through, memory_max, step_plain, step_at, step, arity_of}
 
 module _ (table : List (Option ℕ)) where
   -- ---- instructions

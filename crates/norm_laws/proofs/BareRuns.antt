@@ -20,7 +20,7 @@ use Rattle.wa_model.specs.Protocol.{Exports, exports_of, Phase, is_running, unwi
 use Rattle.wa_model.specs.Protocol.{starting, busy, calling, aside, entering, over, held_given, held_ends, held_pauses, held_tested, held_asked, busy_step, aside_back, aside_step}
 use Rattle.wa_model.specs.Protocol.{busy_enters, held_next, aside_called, held_start, protocol, held_begun, held_continued}
 use Rattle.norm_laws.specs.Bare.{one_by_one, bare}
-use Rattle.norm_laws.specs.NormLaws.{BareSteps, BareBlocking, BareProtocol}
+use Rattle.norm_laws.specs.Norms.{BareSteps, BareBlocking, BareProtocol}
 use Rattle.norm_laws.proofs.BareSteps.{entered_same, types_same, defined_same, stack_same, step_same}
 
 -- ---- machines with the same moves

@@ -3,12 +3,12 @@ use Rattle.std.proofs.Common.{◌≡◌, ℕ, zero, suc, ◌+◌, List, [], ◌�
 use Rattle.std.specs.Prelude.{slice_get}
 use Rattle.std.specs.List.{flat_map}
 use Rattle.std.proofs.Math.Seq.{drop-append_seam}
-use Rattle.std.specs.Option.{option_to_list}
+use Rattle.std.specs.Option.{is_some, option_to_list}
 use Rattle.wa_types.specs.declared.values.ValType.{ValType}
 use Rattle.wa_types.specs.declared.syntax.Space.TheVariants.{Func as a_func}
 use Rattle.wa_types.specs.Syntax.{Func, Elem, Module}
 use Rattle.wa_types.specs.Encoding.{merged}
-use Rattle.wa_types.specs.Norm.{has_some, has_start, written_flags, Norm}
+use Rattle.wa_types.specs.Norm.{has_some, written_flags, Norm}
 use Rattle.wa_types.specs.Typing.{Around, Typed}
 use Rattle.wa_types.specs.Modules.{imported, imported_func, func_sorts, type_at, declared_locals, around}
 use Rattle.wa_types.specs.Runtime.{runtime_funcs, global_space, with_runtime}
@@ -28,7 +28,7 @@ use Rattle.wa_model.specs.Expected.{SameEnd}
 use Rattle.wa_model.specs.Behaves.{Behaves, IsPrefix, pause_stacks, expected_notes, without_pauses, IsMoment, BehavesOn, MakesCall, RewindsTo, RunsAlike, SameWhole, last_called}
 use Rattle.wa_model.specs.Rewrites.{RewritesBy, RewritesButRuns, SameFunc, RewrittenFunc}
 use Rattle.norm_laws.specs.Bare.{one_by_one, bare}
-use Rattle.norm_laws.specs.NormLaws.{NormBlocking, NormProtocol, NormIsValid, NormIsRewritten}
+use Rattle.norm_laws.specs.Norms.{NormBlocking, NormProtocol, NormIsValid, NormIsRewritten}
 use Rattle.norm_laws.proofs.Locals.{merged_keeps, merged_once}
 use Rattle.norm_laws.proofs.Customs.{lowered_all, lowered_twice}
 use Rattle.norm_laws.proofs.BareRuns.{bare_blocking, bare_protocol, bare_steps}
@@ -136,7 +136,7 @@ flags_kept : (m : Module) → written_flags (Norm m) ≡ written_flags m
 unfolding Norm
 flags_kept m =
     ap (λ b. has_some m.types ∷ has_some m.imports ∷ b ∷ has_some m.tables ∷ has_some m.memories
-    ∷ has_some m.globals ∷ has_some m.exports ∷ has_start m.start ∷ has_some m.elems ∷ b ∷ has_some m.segments ∷ []) (some_kept m.funcs)
+    ∷ has_some m.globals ∷ has_some m.exports ∷ is_some m.start ∷ has_some m.elems ∷ b ∷ has_some m.segments ∷ []) (some_kept m.funcs)
 
 customs_kept : (m p : Module) → (Norm p).customs ≡ (Norm (record p { customs = m.customs })).customs → (Norm (Norm p)).customs ≡ (Norm (record (Norm p) { customs = m.customs })).customs
 unfolding Norm

@@ -18,9 +18,9 @@ use Rattle.wa_types.specs.Modules.{all_memories, all_tables, func_imports, type_
 use Rattle.wa_types.specs.Typing.{type_of}
 use Rattle.wa_model.specs.Machine.{Leads}
 use Rattle.wa_ops.specs.Operate.{operate, number_of}
-use Rattle.wa_model.specs.Store.{Store, Did, works, fails, lacks, takes, extra_cost, act, computed, width_of, loaded, load_at, stored, store_at, grew}
+use Rattle.wa_model.specs.Store.{choose, Store, Did, works, fails, lacks, takes, extra_cost, act, computed, width_of, loaded, load_at, stored, store_at, grew}
 use Rattle.wa_model.specs.Configuration.{Label, block_label, loop_label, Activation, Configuration, running, waiting}
-use Rattle.wa_model.specs.Step.{Next, steps, asks, returns, traps, stuck, result_count, leave, jump, finish, did, choose, entered, invoke, param_count, same_func_type, through, memory_max, step_plain, step_at, step, arity_of}
+use Rattle.wa_model.specs.Step.{Next, steps, asks, returns, traps, stuck, result_count, leave, jump, finish, did, entered, invoke, param_count, same_func_type, through, memory_max, step_plain, step_at, step, arity_of}
 use Rattle.wa_model.specs.Instantiation.{Opening, fails_as, opens, opening, opened_by, all_values, least_of, Piece, elem_piece, byte_piece, put_piece, put_pieces, first_out, bytes_checked, elems_checked, filled}
 use Rattle.wa_model.specs.Blocking.{Note}
 use Rattle.run_theory.specs.Alone.{alone, alone_next, Goes, Finish, it_returned, it_trapped, it_asks, it_spent, FinishesAt, EndsAs, by_finish, by_steps}

@@ -17,7 +17,7 @@ use Rattle.wa_types.specs.Syntax.{Basic, nop, drop, select, const, num, global_g
 use Rattle.wa_types.specs.Typing.{type_of}
 use Rattle.wa_model.specs.Integers.{extend_s}
 use Rattle.wa_model.specs.Operate.{operate, number_of}
-use Rattle.wa_model.specs.Store.{Store, value_at, Did, works, fails, lacks, chosen, act, computed, width_of, bits_of, extended, loaded, load_at, stored, store_at, grew}
+use Rattle.wa_model.specs.Store.{Store, value_at, Did, works, fails, lacks, choose, act, computed, width_of, bits_of, extended, loaded, load_at, stored, store_at, grew}
 use Rattle.run_laws.specs.Ranges.{GivenIn, ValuesIn, StoreIn}
 use Rattle.run_laws.proofs.Numbers.{extend_in}
 use Rattle.run_laws.proofs.Operators.{size, value_of_in, operate_in}
@@ -50,7 +50,7 @@ DidIn low (works s results) = StoreIn low s × ValuesIn results
 DidIn low (fails trap) = Unit {0}
 DidIn low lacks = Unit {0}
 
-chosen_in : (n : ℕ) (lower upper : Value) → value_fits lower → value_fits upper → value_fits (chosen n lower upper)
+chosen_in : (n : ℕ) (lower upper : Value) → value_fits lower → value_fits upper → value_fits (choose n lower upper)
 chosen_in zero lower upper h k = k
 chosen_in (suc n) lower upper h k = h
 

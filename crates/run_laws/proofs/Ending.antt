@@ -20,7 +20,8 @@ use Rattle.wa_model.specs.Plan.{Entry, Plan, Outcome, given, refused}
 use Rattle.wa_model.specs.Instantiation.{Opening, fails_as, opens, opening}
 use Rattle.wa_model.specs.Blocking.{Note, note, call_note, value_of_results, fault_of, pause_of, poked, done_notes, Task, the_start, an_entry, Left, with_outcomes, Asker, inside, outermost, store_at, stack_at, in_start, State, between, begins, runs, halts, on_to, next_entry, task_back, go_on, tested, asked, by_step, enters, enter_next, start_called, blocking, all_left, begun, Blocking}
 use Rattle.wa_model.specs.Protocol.{Exports, exports_of, Phase, is_running, unwinds, rewinds, Then, give_zero, test_unwound, pause_there, call_again, test_rewound, give_answer, Held, free, starting, busy, calling, aside, entering, over, held_on, held_back, held_given, held_pauses, held_resumed, held_tested, held_asked, busy_step, is_state, aside_back, aside_step, busy_enters, held_next, aside_called, held_start, protocol, held_begun, Protocol}
-use Rattle.wa_model.specs.Expected.{pause_note, trap_note, shown_at, shown}
+use Rattle.wa_model.specs.Expected.{pause_note, trap_note}
+use Rattle.run_theory.specs.Shown.{shown_within_at as shown_at, shown_within as shown}
 use Rattle.wa_model.specs.Behaves.{expected_notes}
 use Rattle.wa_model.specs.World.{is_end}
 use Rattle.run_laws.specs.Standing.{PauseTold}

@@ -19,9 +19,9 @@ use Rattle.wa_types.proofs.MemoryLemmas.{length-bytes_of, length-bytes_at, lengt
 use Rattle.wa_model.specs.Operate.{operate, number_of}
 use Rattle.wa_model.specs.declared.answers.Area.{Area}
 use Rattle.wa_model.specs.Machine.{Turn, goes, Ran, after, run, Leads, stays, moves}
-use Rattle.wa_model.specs.Store.{Store, Did, works, fails, lacks, takes, extra_cost, act, computed, load_at, loaded, store_at, stored, width_of, range_of}
+use Rattle.wa_model.specs.Store.{choose, Store, Did, works, fails, lacks, takes, extra_cost, act, computed, load_at, loaded, store_at, stored, width_of, range_of}
 use Rattle.wa_model.specs.Configuration.{Label, block_label, loop_label, Activation, Configuration, running, waiting}
-use Rattle.wa_model.specs.Step.{Next, steps, asks, returns, traps, stuck, result_count, leave, jump, finish, did, with_top, with_number, choose, arity_of, entered, invoke, param_count}
+use Rattle.wa_model.specs.Step.{Next, steps, asks, returns, traps, stuck, result_count, leave, jump, finish, did, with_top, with_number, arity_of, entered, invoke, param_count}
 use Rattle.wa_model.specs.Step.{same_func_type, through, memory_max, step_at, step}
 use Rattle.wa_model.specs.Plan.{Plan}
 use Rattle.wa_model.specs.Blocking.{Note, Left, State, runs, by_step, blocking, store_of}

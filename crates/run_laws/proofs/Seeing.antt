@@ -8,7 +8,7 @@ use Rattle.wa_types.specs.Base.{Base}
 use Rattle.wa_types.specs.Syntax.{Module}
 use Rattle.wa_model.specs.Machine.{Turn, stops, goes, after, still, pay, run_with, CostsMore}
 use Rattle.wa_model.specs.Plan.{Plan}
-use Rattle.run_theory.specs.Laws.{start_of}
+use Rattle.run_theory.specs.DeterminedRuns.{start_of}
 use Rattle.wa_model.specs.Blocking.{Note, State, events_of, blocking}
 use Rattle.wa_model.specs.Behaves.{IsPrefix}
 use Rattle.run_theory.specs.Touches.{trace_turn, trace_with, trace, Touch, touched, touch_of, seen_at, seen_note}

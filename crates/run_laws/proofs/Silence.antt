@@ -15,9 +15,9 @@ use Rattle.std.specs.Prelude.{Result, Ok, Err}
 use Rattle.wa_model.specs.Operate.{operate}
 use Rattle.wa_model.specs.declared.answers.Area.{Area}
 use Rattle.wa_model.specs.Machine.{goes, stays, moves}
-use Rattle.wa_model.specs.Store.{Store, Did, works, fails, lacks, takes, extra_cost, act, computed, Range}
+use Rattle.wa_model.specs.Store.{choose, Store, Did, works, fails, lacks, takes, extra_cost, act, computed, Range}
 use Rattle.wa_model.specs.Configuration.{Label, block_label, loop_label, Activation, Configuration, running}
-use Rattle.wa_model.specs.Step.{Next, steps, asks, returns, traps, stuck, result_count, leave, jump, finish, did, with_top, with_number, choose, arity_of, memory_max, step_at, step}
+use Rattle.wa_model.specs.Step.{Next, steps, asks, returns, traps, stuck, result_count, leave, jump, finish, did, with_top, with_number, arity_of, memory_max, step_at, step}
 use Rattle.run_theory.specs.Alone.{alone_next}
 use Rattle.wa_model.specs.Blocking.{Note, overlap}
 use Rattle.wa_model.specs.Untouched.{StaysOff, next_ranges}

@@ -15,9 +15,9 @@ use Rattle.wa_types.specs.Typing.{Around, leaves, lacks, listed, type_of, all_th
 use Rattle.wa_types.specs.Validity.{Valid}
 use Rattle.wa_types.specs.Modules.{func_imports, func_types, func_type_at, type_at, or_empty, declared_locals, locals_of, around, defined_at}
 use Rattle.wa_types.proofs.PlaceLemmas.{last_no_call}
-use Rattle.wa_model.specs.Store.{Store, value_at, Did, works, fails, lacks as lacking, takes, extra_cost, act}
+use Rattle.wa_model.specs.Store.{choose, Store, value_at, Did, works, fails, lacks as lacking, takes, extra_cost, act}
 use Rattle.wa_model.specs.Configuration.{Label, block_label, loop_label, Activation, Configuration, running, waiting}
-use Rattle.wa_model.specs.Step.{Next, steps, asks, returns, traps, stuck, keep, result_count, leave, jump, finish, did, with_top, with_number, choose, arity_of, zero_of, entered, invoke, param_count, same_func_type, through, memory_max, step_at, step}
+use Rattle.wa_model.specs.Step.{Next, steps, asks, returns, traps, stuck, keep, result_count, leave, jump, finish, did, with_top, with_number, arity_of, zero_of, entered, invoke, param_count, same_func_type, through, memory_max, step_at, step}
 use Rattle.run_theory.specs.Fitting.{types_of, results_of, StoreFits}
 use Rattle.run_theory.proofs.FittingNames.{split_types, carried_types, kept_types, reversed_types, value_typed, set_typed, zeros_typed, func_types_true, one_reversed, func_type_small, results_are, count_is, defined_type, func_found}
 use Rattle.run_theory.proofs.FittingActs.{DidFits, act_fits}

@@ -11,9 +11,9 @@ use Rattle.wa_types.specs.declared.values.Trap.TheVariants.{StackExhausted, Type
 use Rattle.wa_types.specs.Sizes.{value_fits, CodeFits, PlainFits}
 use Rattle.wa_types.specs.Syntax.{Plain, basic, local_get, local_set, local_tee, br, br_if, br_table, return, unreachable, call, call_indirect, a_block, a_loop, Code, done, plain, nest, branch, Func, Module}
 use Rattle.wa_types.specs.Modules.{func_imports, type_at, func_type_at, declared_locals, defined_at}
-use Rattle.wa_model.specs.Store.{Store, value_at, Did, works, fails, lacks, takes, extra_cost, act}
+use Rattle.wa_model.specs.Store.{choose, Store, value_at, Did, works, fails, lacks, takes, extra_cost, act}
 use Rattle.wa_model.specs.Configuration.{Label, block_label, loop_label, Activation, Configuration, running, waiting}
-use Rattle.wa_model.specs.Step.{Next, steps, asks, traps, stuck, keep, result_count, leave, jump, finish, did, choose, zero_of, entered, invoke, param_count, same_func_type, through, memory_max, step_plain, step_at, step, arity_of}
+use Rattle.wa_model.specs.Step.{Next, steps, asks, traps, stuck, keep, result_count, leave, jump, finish, did, zero_of, entered, invoke, param_count, same_func_type, through, memory_max, step_plain, step_at, step, arity_of}
 use Rattle.run_laws.specs.Ranges.{CodesIn, ValuesIn, StoreIn, LabelIn, ActivationIn, ConfigurationIn, NextIn}
 use Rattle.run_laws.proofs.Acts.{none_in, more_in, first_in, rest_in, value_at_in, set_in, DidIn, act_in}
 

@@ -16,7 +16,7 @@
 //!
 //! - `stretch_laws`, `cost_laws`, `touch_laws`: stretches that keep the store, runs at greater and lower costs, and events with touches of
 //!   the memory in one list (`specs/Seeing.antt`).
-//! - `laws`, `suspended_stacks`: ranges and memories; stacks at calls of imports.
+//! - `ranges`, `suspended_stacks`: ranges and memories; stacks at calls of imports.
 //! - `runtime_parts`: the host finds the runtime's functions by their exports, and the size rule is kept with them.
 //! - `listed_pauses`: a run all of whose pauses are at listed imports is the same whether its plan tells the list or not; so a prepared
 //!   module, whose plan tells none, behaves like its original (`specs/ListedPauses.antt`).
@@ -26,8 +26,8 @@
 
 mod by_hand;
 mod cost_laws;
-mod laws;
 mod listed_pauses;
+mod ranges;
 mod runtime_parts;
 mod stretch_laws;
 mod suspended_stacks;
@@ -40,13 +40,13 @@ pub use cost_laws::{
     compared_at_lower_costs, ends_are_last, expected_notes_grow, runs_stop_over,
     states_stay_fitting,
 };
-pub use laws::{
-    area_stays_inside, calls_in_range, memory_never_shrinks, openings_in_range, operators_in_range,
-    plans_in_range, reductions_in_range, runs_in_range,
-};
 pub use listed_pauses::{
     blocking_runs_are_as_told, modules_behave_untold, modules_behave_where_listed,
     protocol_runs_are_as_told,
+};
+pub use ranges::{
+    area_stays_inside, calls_in_range, memory_never_shrinks, openings_in_range, operators_in_range,
+    plans_in_range, reductions_in_range, runs_in_range,
 };
 pub use runtime_parts::{plans_fit_runtime_parts, runtime_is_exported, runtime_keeps_sizes};
 pub use stretch_laws::{calm_stays_off, silent_reductions_are_kept, stretches_are_kept};

@@ -19,7 +19,7 @@ use Rattle.wa_types.specs.Typing.{GlobalType, Around, type_of, moves, late, gets
 use Rattle.wa_types.specs.Modules.{all_globals}
 use Rattle.wa_ops.specs.Operate.{operate, value_of, number_of}
 use Rattle.wa_ops.proofs.OperateLemmas.{operate-typed, type_of-operate}
-use Rattle.wa_model.specs.Store.{Store, value_at, Did, works, fails, lacks, takes, chosen, act, computed, extended, loaded, load_at, stored, store_at, width_of, grew}
+use Rattle.wa_model.specs.Store.{Store, value_at, Did, works, fails, lacks, takes, choose, act, computed, extended, loaded, load_at, stored, store_at, width_of, grew}
 use Rattle.run_theory.specs.Fitting.{types_of, global_types, StoreFits}
 use Rattle.run_theory.proofs.FittingNames.{split_types, value_typed, set_typed}
 
@@ -36,7 +36,7 @@ value_of_typed I32 n = refl
 value_of_typed I64 n = refl
 
 -- select chooses one of two values of a type
-chosen_typed : (t : ValType) (n : ℕ) (lower upper : Value) → type_of lower ≡ t → type_of upper ≡ t → type_of (chosen n lower upper) ≡ t
+chosen_typed : (t : ValType) (n : ℕ) (lower upper : Value) → type_of lower ≡ t → type_of upper ≡ t → type_of (choose n lower upper) ≡ t
 chosen_typed t zero lower upper h k = k
 chosen_typed t (suc n) lower upper h k = h
 
@@ -111,7 +111,7 @@ module _ (m : Module) where
       let e2 = tail_is (type_of upper) t (type_of lower ∷ types_of ops) (t ∷ ts) e1 in
       let up = head_is (type_of upper) t (type_of lower ∷ types_of ops) (t ∷ ts) e1 in
       let low = head_is (type_of lower) t (types_of ops) ts e2 in
-      (ok, above t ts mids ops (chosen n lower upper) (chosen_typed t n lower upper low up) (tail_is (type_of lower) t (types_of ops) ts e2) f)
+      (ok, above t ts mids ops (choose n lower upper) (chosen_typed t n lower upper low up) (tail_is (type_of lower) t (types_of ops) ts e2) f)
 
   -- global.set takes a value of the global's type
   set_fits : (most : Option ℕ) (s : Store) (x : ℕ) (g : GlobalType) (ops : List Value) (ts mids : List ValType) → StoreFits m s → slice_get (all_globals m) x ≡ Some g

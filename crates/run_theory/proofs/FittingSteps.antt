@@ -18,9 +18,9 @@ use Rattle.wa_types.specs.Typing.{Around, Sig, moves, leaves, drops, selects, la
 use Rattle.wa_types.specs.Typing.{calls, calls_at, gets, sets, tees, basic_sig, sig, Takes, Types}
 use Rattle.wa_types.specs.Validity.{Valid}
 use Rattle.wa_types.specs.Modules.{func_imports, func_sorts, func_types, func_type_at, type_at, or_empty, declared_locals, locals_of, around, defined_at}
-use Rattle.wa_model.specs.Store.{Store, value_at, Did, works, fails, lacks as lacking, takes, extra_cost, act}
+use Rattle.wa_model.specs.Store.{choose, Store, value_at, Did, works, fails, lacks as lacking, takes, extra_cost, act}
 use Rattle.wa_model.specs.Configuration.{Label, block_label, loop_label, Activation, Configuration, running, waiting}
-use Rattle.wa_model.specs.Step.{Next, steps, asks, traps, stuck, keep, result_count, leave, jump, finish, did, with_top, with_number, choose, arity_of, zero_of, entered, invoke, param_count}
+use Rattle.wa_model.specs.Step.{Next, steps, asks, traps, stuck, keep, result_count, leave, jump, finish, did, with_top, with_number, arity_of, zero_of, entered, invoke, param_count}
 use Rattle.wa_model.specs.Step.{same_func_type, through, memory_max, step_at, step}
 use Rattle.run_theory.specs.Growth.{EntryNamed}
 use Rattle.run_theory.specs.Heights.{behind_plain, most_operands, Within}

@@ -17,7 +17,8 @@ use Rattle.wa_types.specs.Validity.{got_global}
 use Rattle.wa_ops.specs.Operate.{number_of, are_of}
 use Rattle.wa_model.specs.Instantiation.{constant_value, all_values, least_of, place_at, Piece, elem_piece, byte_piece, first_out, put_piece, put_pieces, Opening, fails_as, opens}
 use Rattle.wa_model.specs.Instantiation.{bytes_checked, elems_checked, filled, opened_by, opening}
-use Rattle.wa_model.specs.Behaves.{is_pause_end}
+use Rattle.wa_model.specs.Behaves.{unless_pause}
+use Rattle.wa_model.specs.Outside.{ended}
 use Rattle.run_theory.specs.Growth.{grown_module, Spaces, spaces_of, Each, EntryNamed, StoreNamed, grown_store, OpensGrown}
 use Rattle.run_theory.proofs.NamedModules.{InstanceNamed}
 
@@ -88,7 +89,7 @@ table_named f values table (e ∷ es) t h =
 
 -- an end that is none of a pause, or a store with more globals
 abbrev pub OpeningStays : List Value → Spaces → (o o' : Opening) → Type 0
-OpeningStays more n (fails_as e) o' = (o' ≡ fails_as e) × (is_pause_end e ≡ false)
+OpeningStays more n (fails_as e) o' = (o' ≡ fails_as e) × (unless_pause (ended e) ≡ Some (ended e))
 OpeningStays more n (opens s) o' = (o' ≡ opens (grown_store more s)) × StoreNamed n s
 
 filled_stays : (more : List Value) (n : Spaces) (globals : List Value) (memory : List ℕ) (table : List (Option ℕ)) (elems : List (Piece (Option ℕ))) (bytes : List (Piece ℕ))

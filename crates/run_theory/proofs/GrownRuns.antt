@@ -23,7 +23,7 @@ use Rattle.wa_model.specs.Blocking.{with_outcomes, Asker, inside, outermost, sto
 use Rattle.wa_model.specs.Blocking.{next_entry, task_back, go_on, ends_at_call, tested, asked, by_step, enters, enter_next, start_called, blocking}
 use Rattle.wa_model.specs.Protocol.{Exports, Held, free, starting, busy, over, is_running, held_on, held_back, held_given, held_tested, held_asked, busy_step, busy_enters, held_next}
 use Rattle.wa_model.specs.Protocol.{held_start, protocol}
-use Rattle.wa_model.specs.Behaves.{is_pause_end, unless_end, unless_pause}
+use Rattle.wa_model.specs.Behaves.{unless_pause}
 use Rattle.run_theory.specs.Growth.{grown_module, Spaces, spaces_of, Each, ActNamed, StoreNamed, ConfigNamed, grown_store, grown_config}
 use Rattle.run_theory.proofs.GrownSteps.{ModuleNamed, defined_stays, defined_below, func_type_stays, entered_named, step_stays, Stays}
 use Rattle.run_theory.proofs.GrownInstances.{each_append, each_split}
@@ -45,11 +45,11 @@ pub record IsPlainNote (count : ℕ) (x : Note) : Type 0 where
 -- ---- the ends of answers
 
 abbrev PlainFault : Option End → Type 0
-PlainFault = EndIs (λ e. is_pause_end e ≡ false)
+PlainFault = EndIs (λ e. unless_pause (ended e) ≡ Some (ended e))
 
 fault_plain : (results : List ValType) (size : ℕ) (plan : Plan) (start : Bool) (import : ℕ) (a : Answer) → PlainFault (fault_of results size plan start import a)
 fault_plain results size plan start import a =
-    fault_is (λ e. is_pause_end e ≡ false) (record { value = λ i v. refl; poke = λ at len. refl; start = λ i. refl }) results size plan start import a (λ h. refl)
+    fault_is (λ e. unless_pause (ended e) ≡ Some (ended e)) (record { value = λ i v. refl; poke = λ at len. refl; start = λ i. refl }) results size plan start import a (λ h. refl)
 
 second_none : (a b : Option End) → or_else a b ≡ None → b ≡ None
 second_none None b e = e
@@ -67,15 +67,15 @@ no_pause_in_start results size plan import a e =
     (second_none (bad_value results import a.said)
     (or_else (bad_poke size plan.area a.pokes) (bad_pause true (is_unlisted plan.listed import) import a.ticks)) e))
 
-refusal_plain : (e : End) → IsRefusal e → is_pause_end e ≡ false
+refusal_plain : (e : End) → IsRefusal e → unless_pause (ended e) ≡ Some (ended e)
 refusal_plain (NoAnswer i) h = refl
 refusal_plain (OtherImport c d) h = refl
 refusal_plain (DeviceFault i) h = refl
 refusal_plain (NoDevice i) h = refl
 refusal_plain _ h = absurd h
 
-pub end_plain : (e : End) → is_pause_end e ≡ false → unless_pause (ended e) ≡ Some (ended e)
-end_plain e h = ap (λ b. unless_end b (ended e)) h
+pub end_plain : (e : End) → unless_pause (ended e) ≡ Some (ended e) → unless_pause (ended e) ≡ Some (ended e)
+end_plain e h = h
 
 -- ---- states
 
@@ -179,7 +179,7 @@ module _ (m : Module) (ts : List FuncType) (fs : List Func) (gs : List GlobalDef
   plain_call : (import : ℕ) (args : List Value) (w : Asker) → AskerNamed m w → IsPlainNote n.globals (call_before import args w None)
   plain_call import args w h = let so = asker_store m w h in record { event = refl; pause = refl; since = refl; globals = so.globals }
 
-  plain_end : (e : End) (s : Store) → is_pause_end e ≡ false → StoreNamed n s → IsPlainNote n.globals (note (ended e) s)
+  plain_end : (e : End) (s : Store) → unless_pause (ended e) ≡ Some (ended e) → StoreNamed n s → IsPlainNote n.globals (note (ended e) s)
   plain_end e s h so = record { event = end_plain e h; pause = refl; since = refl; globals = so.globals }
 
   -- ---- what comes behind the last entry
@@ -220,7 +220,7 @@ module _ (m : Module) (ts : List FuncType) (fs : List Func) (gs : List GlobalDef
 
   -- ---- calls of imports
 
-  call_ends : (k import : ℕ) (args : List Value) (w : Asker) (e : End) → AskerNamed m w → is_pause_end e ≡ false
+  call_ends : (k import : ℕ) (args : List Value) (w : Asker) (e : End) → AskerNamed m w → unless_pause (ended e) ≡ Some (ended e)
       → InStep (ends_at_call k (call_before import args w None) e) (goes k (call_behind import args w None ∷ note (ended e) (call_behind import args w None).store ∷ [])
       (over (call_behind import args w None).store))
   call_ends k import args w e h plain = (

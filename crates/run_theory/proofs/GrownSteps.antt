@@ -19,9 +19,9 @@ use Rattle.wa_types.specs.Syntax.{Basic, nop, drop as a_drop, select, const, num
 use Rattle.wa_types.specs.Syntax.{br_if, br_table, return, unreachable, call, call_indirect, a_block, a_loop, Code, done, plain, nest, branch, FuncType, Func, GlobalDef, Module}
 use Rattle.wa_types.specs.Modules.{imported, imported_func, func_imports, func_sorts, func_type_at, type_at, or_empty, defined_at}
 use Rattle.wa_ops.specs.Operate.{operate, number_of}
-use Rattle.wa_model.specs.Store.{Store, value_at, Did, works, fails, lacks, takes, extra_cost, act, computed, load_at, loaded, store_at, stored, width_of, grew}
+use Rattle.wa_model.specs.Store.{choose, Store, value_at, Did, works, fails, lacks, takes, extra_cost, act, computed, load_at, loaded, store_at, stored, width_of, grew}
 use Rattle.wa_model.specs.Configuration.{Label, block_label, loop_label, Activation, Configuration, running, waiting}
-use Rattle.wa_model.specs.Step.{Next, steps, asks, traps, stuck, result_count, leave, jump, finish, did, with_top, with_number, choose, arity_of, entered, invoke, param_count}
+use Rattle.wa_model.specs.Step.{Next, steps, asks, traps, stuck, result_count, leave, jump, finish, did, with_top, with_number, arity_of, entered, invoke, param_count}
 use Rattle.wa_model.specs.Step.{same_func_type, through, memory_max, step_at, step}
 use Rattle.run_theory.specs.Growth.{grown_module, Spaces, spaces_of, Each, BasicNamed, CodeNamed, LabelNamed, ActNamed, EntryNamed, StoreNamed, ConfigNamed, NextNamed, grown_store}
 use Rattle.run_theory.specs.Growth.{grown_config, grown_next}

@@ -4,9 +4,9 @@ use Rattle.std.specs.Prelude.{◌%◌, Result, Ok, Err, ◌==◌, if◌then◌el
 use Rattle.std.specs.Ordering.{int_eq}
 use Rattle.std.specs.Option.{option_map}
 use Rattle.wa_model.specs.Configuration.{Activation, Configuration, Label, block_label, loop_label, running, waiting}
-use Rattle.wa_model.specs.Step.{Next, asks, choose, did, entered, finish, invoke, jump, leave, memory_max, param_count, result_count, same_func_type, step, step_at, steps, stuck, through}
+use Rattle.wa_model.specs.Step.{Next, asks, did, entered, finish, invoke, jump, leave, memory_max, param_count, result_count, same_func_type, step, step_at, steps, stuck, through}
 use Rattle.wa_model.specs.Step.{traps, with_number, with_top}
-use Rattle.wa_model.specs.Store.{Did, Store, act, computed, extra_cost, fails, grew, lacks, load_at, loaded, store_at, stored, takes, width_of, works}
+use Rattle.wa_model.specs.Store.{choose, Did, Store, act, computed, extra_cost, fails, grew, lacks, load_at, loaded, store_at, stored, takes, width_of, works}
 use Rattle.wa_ops.specs.Integers.{idiv_s, signed, unsigned}
 use Rattle.wa_ops.specs.Operate.{Meaning, applied, are_of, binary, comparison, conversion, meaning_of, number_of, operate, unary, valued}
 use Rattle.wa_types.specs.Accesses.{AccessRow, load_row, store_row}

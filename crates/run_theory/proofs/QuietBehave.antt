@@ -17,9 +17,10 @@ use Rattle.wa_model.specs.Store.{Store}
 use Rattle.wa_model.specs.Plan.{AreLawful, EntryFits, Plan, Outcome, OutcomeFits}
 use Rattle.wa_model.specs.Blocking.{Note, events_of, Blocking, store_of}
 use Rattle.wa_model.specs.Protocol.{Held, exports_of, protocol, Protocol, store_held}
-use Rattle.wa_model.specs.Expected.{shown_at, shown, SameEnd}
+use Rattle.wa_model.specs.Expected.{SameEnd}
+use Rattle.run_theory.specs.Shown.{shown_within_at as shown_at, shown_within as shown}
 use Rattle.wa_model.specs.Behaves.{IsPrefix, pause_stacks, PausesNumbered, expected_notes, protocol_notes, AtPaused, AreaKept, SameNote, last_called, unless_pause, without_pauses, BehavesOn, Behaves}
-use Rattle.run_theory.specs.Laws.{held_start_of}
+use Rattle.run_theory.specs.DeterminedRuns.{held_start_of}
 use Rattle.run_theory.specs.Quiet.{NeverPauses}
 use Rattle.run_theory.proofs.Runs.{prefix_of_longer, prefix_on}
 use Rattle.run_theory.proofs.Follow.{Alike}

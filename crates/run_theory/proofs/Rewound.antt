@@ -18,7 +18,7 @@ use Rattle.wa_model.specs.Plan.{Entry, Outcome, Plan, given, refused}
 use Rattle.wa_model.specs.Protocol.{Exports, Held, Phase, Protocol, Then, aside, aside_back, aside_called, aside_step, broken, busy, busy_enters, busy_step, call_again, calling, entering, exports_of, free, give_answer, give_zero, held_asked, held_back, held_begun, held_given, held_next, held_on, held_pauses, held_resumed, held_start, held_tested, is_running, is_state, over, pause_there, protocol, rewinds, starting, test_rewound, test_unwound, unwinds}
 use Rattle.wa_model.specs.Step.{Next, asks, returns, step, steps, stuck, traps}
 use Rattle.wa_model.specs.Store.{Store}
-use Rattle.run_theory.specs.Laws.{held_start_of}
+use Rattle.run_theory.specs.DeterminedRuns.{held_start_of}
 use Rattle.run_theory.proofs.Runs.{leads_beyond, leads_on, leads_one, run_is_run}
 
 -- ---- the call that is told last
@@ -28,7 +28,7 @@ last_on before [] ys = refl
 last_on before (e ∷ xs) ys = last_on (then_called before e) xs ys
 
 -- what is told doesn't depend on the call before
-pub told_anyway : (before : Option Call) (xs : List Event) (c : Call) → last_called None xs ≡ Some c → last_called before xs ≡ Some c
+told_anyway : (before : Option Call) (xs : List Event) (c : Call) → last_called None xs ≡ Some c → last_called before xs ≡ Some c
 told_anyway before [] c h = cc
 told_anyway before (called d ∷ xs) c h = h
 told_anyway before (answered v ∷ xs) c h = told_anyway before xs c h
@@ -58,7 +58,7 @@ rewinds_too p before xs (over s) r = tt
 
 -- ---- a run that doesn't rewind
 
-abbrev pub not_rewinding : Phase → Type 0
+abbrev not_rewinding : Phase → Type 0
 not_rewinding (rewinds e i a at_pause) = ⊥
 not_rewinding _ = Unit {0}
 
@@ -406,7 +406,7 @@ begun_forwards None l (opens s) = by_entries l.entries
     by_entries (e ∷ es) = tt
 begun_forwards (Some f) l (opens s) = tt
 
-pub start_forwards_all : (p : Module) (plan : Plan) (os : List Outcome) → Forwards (held_start_of p plan os).last
+start_forwards_all : (p : Module) (plan : Plan) (os : List Outcome) → Forwards (held_start_of p plan os).last
 start_forwards_all p plan os = begun_forwards p.start (Rattle.wa_model.specs.Blocking.all_left plan os) (opening p plan.globals)
 
 -- a run that tells no pause never rewinds

@@ -18,7 +18,7 @@ use Rattle.wa_model.specs.Plan.{Entry, Plan, Outcome, given, refused, OutcomeFit
 use Rattle.wa_model.specs.Blocking.{Note, note, events_of, fault_of, Task, the_start, an_entry, Left, with_outcomes, Asker}
 use Rattle.wa_model.specs.Blocking.{inside, outermost, store_at, in_start, State, between, begins, runs, halts, done_notes, on_to, next_entry, task_back, call_note, poked, pause_of}
 use Rattle.wa_model.specs.Blocking.{stack_at, go_on, tested, asked, by_step, enters, enter_next, start_called, blocking, store_of}
-use Rattle.wa_model.specs.Behaves.{is_pause_end, unless_end, unless_pause, without_pauses}
+use Rattle.wa_model.specs.Behaves.{unless_pause, without_pauses}
 use Rattle.wa_model.specs.Expected.{pause_note, trap_note}
 use Rattle.std.specs.List.{cons_option}
 use Rattle.run_theory.proofs.Runs.{leads_run, leads_stopped, one_move}
@@ -32,7 +32,7 @@ Honest [] = Unit {0}
 Honest (x ∷ xs) = (unless_pause x.event ≡ Some x.event) × Honest xs
 
 abbrev Honest_end : Option End → Type 0
-Honest_end = EndIs (λ e. is_pause_end e ≡ false)
+Honest_end = EndIs (λ e. unless_pause (ended e) ≡ Some (ended e))
 
 -- the outcomes left are in their ranges
 abbrev pub Lawful : State → Type 0
@@ -45,16 +45,16 @@ abbrev Honest_turn : Turn State Note → Type 0
 Honest_turn stops = Unit {0}
 Honest_turn (goes k es t) = Honest es × Lawful t
 
-refusal_honest : (e : End) → IsRefusal e → is_pause_end e ≡ false
+refusal_honest : (e : End) → IsRefusal e → unless_pause (ended e) ≡ Some (ended e)
 refusal_honest (UnwindTrap trap used len) h = absurd h
 refusal_honest _ h = refl
 
-end_honest : (e : End) (s : Store) → is_pause_end e ≡ false → Honest (note (ended e) s ∷ [])
-end_honest e s h = (ap (λ b. unless_end b (ended e)) h, tt)
+end_honest : (e : End) (s : Store) → unless_pause (ended e) ≡ Some (ended e) → Honest (note (ended e) s ∷ [])
+end_honest e s h = (h, tt)
 
 fault_honest : (results : List ValType) (size : ℕ) (plan : Plan) (start : Bool) (import : ℕ) (a : Answer) → Honest_end (fault_of results size plan start import a)
 fault_honest results size plan start import a =
-    fault_is (λ e. is_pause_end e ≡ false) (record { value = λ i v. refl; poke = λ at len. refl; start = λ i. refl }) results size plan start import a (λ h. refl)
+    fault_is (λ e. unless_pause (ended e) ≡ Some (ended e)) (record { value = λ i v. refl; poke = λ at len. refl; start = λ i. refl }) results size plan start import a (λ h. refl)
 
 done_honest : (s : Store) (es : List Entry) → Honest (done_notes s es)
 done_honest s [] = (refl, tt)

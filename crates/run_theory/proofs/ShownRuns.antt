@@ -16,7 +16,8 @@ use Rattle.wa_model.specs.Step.{Next, steps, asks, returns, traps, stuck, step}
 use Rattle.wa_model.specs.Plan.{Entry, Plan, Outcome, given, refused}
 use Rattle.wa_model.specs.Blocking.{Note, fault_of, Task, the_start, an_entry, Left, with_outcomes, Asker, inside, outermost, store_at, in_start, State, between, begins, runs, halts}
 use Rattle.wa_model.specs.Blocking.{done_notes, task_back, call_note, poked, pause_of, stack_at, go_on, tested, asked, by_step, enters, enter_next, start_called, blocking}
-use Rattle.wa_model.specs.Expected.{pause_note, trap_note, shown_at, shown}
+use Rattle.wa_model.specs.Expected.{pause_note, trap_note}
+use Rattle.run_theory.specs.Shown.{shown_within_at as shown_at, shown_within as shown}
 use Rattle.run_theory.proofs.Runs.{one_move, too_dear, no_move}
 
 module _ (room fit : List Suspended → ℕ) (len : ℕ) where

@@ -1,4 +1,5 @@
 pub mod Alone
+pub mod DeterminedRuns
 pub mod Fitting
 pub mod Flat
 pub mod FlatFits
@@ -8,7 +9,7 @@ pub mod Growth
 pub mod Heights
 pub mod Keeping
 pub mod LawfulStacks
-pub mod Laws
 pub mod Pruning
 pub mod Quiet
+pub mod Shown
 pub mod Touches

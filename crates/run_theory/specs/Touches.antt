@@ -9,7 +9,7 @@ use Rattle.wa_model.specs.Store.{takes}
 use Rattle.wa_model.specs.Configuration.{Configuration}
 use Rattle.wa_model.specs.Plan.{Plan, Outcome}
 use Rattle.wa_model.specs.Blocking.{Note, State, between, begins, runs, halts, blocking}
-use Rattle.run_theory.specs.Laws.{start_of}
+use Rattle.run_theory.specs.DeterminedRuns.{start_of}
 
 -- ---- what is seen along a run
 

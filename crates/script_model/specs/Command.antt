@@ -1,5 +1,6 @@
 -- The commands that words spell.
 use Rattle.std.specs.Prelude.{ℕ, List, [], ◌∷◌, Option, Some, None, is_some, Bool, true, false, not, ◌||◌, ◌==◌, if◌then◌else◌, Result, Ok, Err, codes}
+use Rattle.std.specs.Option.{option_and_then}
 use Rattle.std.specs.Str.{bytes_eq}
 use Rattle.wa_types.specs.Pausing.{Choice, every, nobody, of_list, Entry, ListError, list_of, Policy, save_all, save_live, Settings}
 
@@ -101,15 +102,10 @@ say_at behind_imports word s = if is_hyphened word then None else say_word (impo
 say_at behind_save word s = if is_hyphened word then None else say_word (save_with word) s
 say_at behind_options word s = say_file s.input s.output s.third word s
 
--- what is said with one word more
-abbrev pub say : List ℕ → Option Said → Option Said
-say word None = None
-say word (Some s) = say_at s.place word s
-
 -- the words from left to right
 abbrev pub said : Option Said → List (List ℕ) → Option Said
 said s [] = s
-said s (word ∷ words) = said (say word s) words
+said s (word ∷ words) = said (option_and_then (λ (x : Said). say_at x.place word x) s) words
 
 -- those of a LIST, where the text is one
 abbrev pub listed_choice : Result (List Entry) ListError → Option Choice
@@ -145,16 +141,11 @@ transform_at behind_imports s = None
 transform_at behind_save s = None
 transform_at _ s = unless_third s.third (with_files (choice_said s.imports s.ignore_imports) s.ignore_indirect s.asserts (policy_said s.save) s.input s.output)
 
--- what was said, if the words go well, is a `transform`
-abbrev pub transform_said : Option Said → Option Command
-transform_said None = None
-transform_said (Some s) = transform_at s.place s
-
 -- `transform [--imports LIST] [--ignore-imports] [--ignore-indirect] [--asserts] [--save all|live] IN OUT`: options stand
 -- before, between and behind the files, each at most once; a value is the next word or follows `=`; `--` ends the options.
 abbrev pub command : List (List ℕ) → Option Command
 command [] = None
-command (word ∷ words) = if bytes_eq word (codes "transform") then transform_said (said (Some nothing_said) words) else None
+command (word ∷ words) = if bytes_eq word (codes "transform") then option_and_then (λ (s : Said). transform_at s.place s) (said (Some nothing_said) words) else None
 
 -- what holds of the manner and the two files where the words are a `transform`
 abbrev pub OnTransform : Option Command → (Manner → List ℕ → List ℕ → Type 0) → Type 0

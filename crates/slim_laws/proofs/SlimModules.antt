@@ -28,7 +28,7 @@ use Rattle.slim_laws.proofs.KeptTypes.{bodies_are_typed}
 use Rattle.slim_laws.specs.Beside.{Sides, Twin, both_defined, both_import}
 use Rattle.slim_laws.proofs.UnitsSlim.{body_law}
 use Rattle.slim_laws.specs.SlimModule.{AllSlimPieces, Pieces, SlimPieces, body_of_func, body_with, flat_terms, module_terms, plain_terms, slim_module, terms_where, with_bodies, with_body}
-use Rattle.slim_laws.specs.Laws.{ToHeld}
+use Rattle.slim_laws.specs.SlimUnitLaws.{ToHeld}
 use Rattle.slim_laws.specs.SlimUnits.{untouched}
 use Rattle.slim_laws.specs.SlimModuleLaws.{PlainPiecesAreSlim, SlimModuleFits, SlimModulesFit}
 

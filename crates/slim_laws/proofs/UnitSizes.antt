@@ -10,7 +10,7 @@ use Rattle.slim_laws.specs.Slim as S
 use Rattle.slim_laws.specs.Slim.{Free, StackShape, more, kept, Terms, Slims, ends, does, keeps, uses, saves, narrows, forgets}
 use Rattle.slim_laws.proofs.KeptSizes.{deeper}
 use Rattle.slim_laws.proofs.Shapes.{plainly_none, taken_kept, more_kept, risen_kept}
-use Rattle.slim_laws.specs.Laws.{UnitsAreSlimmer}
+use Rattle.slim_laws.specs.SlimUnitLaws.{UnitsAreSlimmer}
 use Rattle.slim_laws.proofs.UnitsSlim.{units_law}
 
 -- no larger, with the labels of branch tables

@@ -11,7 +11,7 @@ use Rattle.guard_form.proofs.UnitLemmas.{any_is, any_some, Some_unit}
 use Rattle.slim_laws.specs.Slim as S
 use Rattle.slim_laws.specs.Slim.{Free, StackShape, Slims, Terms, more, ends, does, keeps, uses, saves, narrows, forgets}
 use Rattle.slim_laws.specs.SlimUnits.{SlimUnits, untouched, alone, before_call, before_block, before_loop, before_if, before_kept_if}
-use Rattle.slim_laws.specs.Laws.{AlikeUnits, PiecesCallAlike, UnitsAreAlike}
+use Rattle.slim_laws.specs.SlimUnitLaws.{AlikeUnits, PiecesCallAlike, UnitsAreAlike}
 
 -- ---- code
 

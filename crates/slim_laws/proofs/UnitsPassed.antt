@@ -5,7 +5,7 @@ use Rattle.guard_form.specs.Bounds.{over, passing}
 use Rattle.guard_form.specs.Pieces.{Units, no_unit, call_unit, nest_unit, if_unit}
 use Rattle.slim_laws.specs.Slim.{Free, StackShape, Slims, Terms, ends, forgets, narrows, saves}
 use Rattle.slim_laws.specs.SlimUnits.{SlimUnits, untouched, alone, before_call, before_block, before_loop, before_if, before_kept_if}
-use Rattle.slim_laws.specs.Laws.{PassingIsLess}
+use Rattle.slim_laws.specs.SlimUnitLaws.{PassingIsLess}
 
 over_few : (c : Code) → over c ≤ 3
 over_few done = omega arith

@@ -14,7 +14,7 @@ use Rattle.slim_laws.specs.Slim.{Free, Covers, Held, StackShape, Slims, Terms, d
 use Rattle.slim_laws.proofs.EmittedCode.{same_slim}
 use Rattle.slim_laws.proofs.SlimPieces.{then_slim}
 use Rattle.slim_laws.specs.SlimUnits.{OperandHeld, ResultSlim, has_none, is_set, is_kept, SlimUnits, untouched, alone, before_call, before_block, before_loop, before_if, before_kept_if}
-use Rattle.slim_laws.specs.Laws.{BodyIsSlim, ToHeld, UnitsAreSlim}
+use Rattle.slim_laws.specs.SlimUnitLaws.{BodyIsSlim, ToHeld, UnitsAreSlim}
 
 module _ (t : Terms) where
   -- behind a call, with its result

@@ -15,7 +15,7 @@ use Rattle.slim_laws.specs.Slim.{Free, StackShape, Terms}
 use Rattle.slim_laws.specs.Typed.{WovenTypes, types_same, types_kept}
 use Rattle.slim_laws.proofs.KeptTypes.{typed}
 use Rattle.slim_laws.specs.SlimUnits.{ResultSlim, has_none, is_set, is_kept, SlimUnits, untouched, alone, before_call, before_block, before_loop, before_if, before_kept_if}
-use Rattle.slim_laws.specs.Laws.{UnitsStayTyped}
+use Rattle.slim_laws.specs.SlimUnitLaws.{UnitsStayTyped}
 
 module _ (c : Around) (t : Terms) where
   -- What a call leaves on the slim side: its arguments and the call take nothing to it, and it is what that side has alone.

@@ -9,7 +9,7 @@ use Rattle.flat_laws.specs.Flatten.{Names, flattened, names}
 use Rattle.guard_form.specs.Grouping.{is_place}
 use Rattle.guard_form.specs.Pieces.{Units, first_piece, flat_units, units}
 use Rattle.slim_laws.specs.Slim.{Free, Terms}
-use Rattle.slim_laws.specs.Laws.{ToHeld}
+use Rattle.slim_laws.specs.SlimUnitLaws.{ToHeld}
 use Rattle.slim_laws.specs.SlimUnits.{SlimUnits}
 
 -- a function's first piece, and the units behind it; and whether runs leave its sequences by labels

@@ -22,22 +22,22 @@
 //!
 //! - `emit_laws`, `type_laws`, `size_laws`, `part_laws`: code that is written, its type and size, and functions in pieces and units.
 //! - `step_laws`: both sides as they run.
-//! - `laws`: units beside the same units with slim pieces (`specs/SlimUnits.antt`): slim as a whole, alike in calls and numbers, typed.
+//! - `slim_units`: units beside the same units with slim pieces (`specs/SlimUnits.antt`): slim as a whole, alike in calls and numbers, typed.
 //! - `slim_module`: the module in which flat code is slim.
 #![tactic(auto)]
 
 mod emit_laws;
-mod laws;
 mod part_laws;
 mod size_laws;
 mod slim_module;
+mod slim_units;
 mod step_laws;
 mod type_laws;
 
 pub use emit_laws::{code_is_slim_beside_itself, emitted_is_slim};
-pub use laws::{units_are_alike, units_are_slim, units_stay_typed};
 pub use part_laws::pieces_are_slim;
 pub use size_laws::sizes_are_kept;
 pub use slim_module::slim_modules_fit;
+pub use slim_units::{units_are_alike, units_are_slim, units_stay_typed};
 pub use step_laws::{answers_go_on, calls_begin, running_is_followed, stacks_wait};
 pub use type_laws::types_are_kept;

@@ -14,7 +14,7 @@ use Rattle.flat_laws.specs.FlatModule.{stacks_in}
 use Rattle.flat_laws.specs.Flatten.{flattened, names, place, result_of}
 use Rattle.slim_laws.specs.Emit.{free_by}
 use Rattle.slim_laws.specs.Slim.{Free, Terms}
-use Rattle.slim_laws.specs.Laws.{ToHeld}
+use Rattle.slim_laws.specs.SlimUnitLaws.{ToHeld}
 use Rattle.flow_rewrite.specs.declared.pieces.Pieces.{Pieces}
 use Rattle.slim_rewrite.specs.Functions.{is_between, AreSlim, SlimTold}
 use Rattle.slim_rewrite.specs.Inside.{first_code, units_in}

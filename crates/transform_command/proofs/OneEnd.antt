@@ -5,9 +5,9 @@ use Rattle.vault_port.specs.Counts.{FailsOnce}
 use Rattle.vault_port.specs.Files.{Files, bytes_of, CannotRead, IsMissing}
 use Rattle.vault_port.specs.Told.{WhereTold, Becomes}
 use Rattle.script_model.specs.Command.{Manner}
-use Rattle.transform_command.specs.Sources.{Cause, malformed, float, deep, limit, reserved, invalid, rewritten_locals, long_output, IsRefusedIn, refusal_for}
+use Rattle.transform_command.specs.Sources.{Cause, malformed, float, deep, limit, reserved, invalid, rewritten_locals, long_output, IsRefusedIn, refusal_for, IsTransformed}
 use Rattle.transcript.specs.Refused.{status_of}
-use Rattle.transform_command.specs.Transforms.{HasCause, HoldsRewritable, HoldsSource, IsTransformed}
+use Rattle.transform_command.specs.Transforms.{HasCause, HoldsRewritable, HoldsSource}
 use Rattle.transform_command.specs.Ends.{End, done, memory, read_fault, write_fault, sink_fault, refused, Call, CanBeLong, IsLong, IsWhy, ToldThat, NothingFails, HasOneEnd, status_of_end, IsRefusal}
 use Rattle.transform_command.proofs.Verdicts.{one_status, source_passes}
 

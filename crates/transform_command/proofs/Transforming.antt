@@ -7,9 +7,9 @@ use Rattle.vault_port.specs.Told.{WhereTold, Becomes}
 use Rattle.wa_types.specs.Syntax.{Module}
 use Rattle.wa_types.specs.Encoding.{Enc}
 use Rattle.script_model.specs.Command.{Manner}
-use Rattle.transform_command.specs.Sources.{IsSource, Cause, IsRefusedIn, IsRewritten}
+use Rattle.transform_command.specs.Sources.{IsSource, Cause, IsRefusedIn, IsRewritten, IsTransformed}
 use Rattle.wasm_reader.proofs.Held.{own_bytes}
-use Rattle.transform_command.specs.Transforms.{HoldsSource, IsTransformed, IsCutShort, IsCount}
+use Rattle.transform_command.specs.Transforms.{HoldsSource, IsCutShort, IsCount}
 
 -- what was read is of the file
 source_of : (how : Manner) (input bytes : List ℕ) (a : Files) (m : Module) (which : List Bool) (p : Module) → a input ≡ Some bytes → IsSource how bytes m which p

@@ -5,8 +5,8 @@ use Rattle.vault_port.specs.Files.{Files, bytes_of, CannotRead}
 use Rattle.vault_port.specs.Told.{WhereTold, Becomes}
 use Rattle.script_model.specs.Command.{Manner}
 use Rattle.transcript.specs.Refused.{status_of}
-use Rattle.transform_command.specs.Sources.{Cause, IsRefusedIn, long_output, refusal_for}
-use Rattle.transform_command.specs.Transforms.{HoldsRewritable, HoldsSource, IsTransformed}
+use Rattle.transform_command.specs.Sources.{Cause, IsRefusedIn, long_output, refusal_for, IsTransformed}
+use Rattle.transform_command.specs.Transforms.{HoldsRewritable, HoldsSource}
 
 -- How a call ends.
 pub data End : Type 0 where

@@ -1,6 +1,6 @@
--- Which source modules are accepted, and why others are refused.
+-- Which source modules are accepted, what OUT holds of one that is rewritten, and why others are refused.
 use Rattle.std.specs.Prelude.{◌≡◌, ◌<◌, ◌≤◌, ◌^◌, ℕ, List, All, [], ◌∷◌, ◌++◌, length, count_by, drop, slice_get, Option, Some, None, Bool, true, false}
-use Rattle.vault_port.specs.Files.{Files}
+use Rattle.vault_port.specs.Files.{Files, bytes_of, ChangesOnly}
 use Rattle.wa_types.specs.declared.bounds.LimitKind.{LimitKind}
 use Rattle.wa_types.specs.declared.bounds.LimitKind.TheVariants.{Locals, Output}
 use Rattle.wa_types.specs.declared.syntax.Import.{Import}
@@ -67,6 +67,17 @@ pub record IsSource (how : Manner) (bytes : List ℕ) (m : Module) (which : List
   pub well_formed : WellFormed m
   pub rewrites : RewritesAs how m p
   pub short : length (Enc p) ≤ 67108864
+
+-- OUT holds the bytes of a module that is that of IN, rewritten in this manner. They spell a valid module without a float, which passes
+-- no bound of a prepared module, and under the host's protocol behaves like the original. The other files are as before.
+pub record IsTransformed (how : Manner) (input output : List ℕ) (old new : Files) : Type 0 where
+  pub «module» : Module
+  pub which : List Bool
+  pub emitted : Module
+  pub source : IsSource how (bytes_of old input) «module» which emitted
+  pub written : ChangesOnly output (Enc emitted) old new
+  pub prepared : IsAccepted prepared_bounds (Enc emitted) (Norm emitted)
+  pub rewritten : RewritesAs how «module» (Norm emitted)
 
 -- the joined name of an import
 abbrev pub joined_name : Option Import → List ℕ

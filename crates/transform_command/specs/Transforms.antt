@@ -1,18 +1,15 @@
--- What `transform` does to the files and what it prints.
+-- What `transform` leaves of OUT where it doesn't end well, and what it prints.
 use Rattle.std.specs.Prelude.{◌≡◌, ◌⊎◌, ℕ, List, ◌++◌, length, take, count_by, Bool, Option, Some, None, codes}
 use Rattle.std.specs.Fmt.{decimal}
-use Rattle.vault_port.specs.Files.{Files, bytes_of, KeepsOthers, ChangesOnly}
+use Rattle.vault_port.specs.Files.{Files, bytes_of, KeepsOthers}
 use Rattle.vault_port.specs.Told.{WhereTold}
 use Rattle.vault_port.specs.Taken.{Appends, AppendsLess}
 use Rattle.wa_types.specs.Syntax.{Module}
 use Rattle.wa_types.specs.Encoding.{Enc}
 use Rattle.wa_types.specs.Norm.{Norm}
 use Rattle.script_model.specs.Command.{Manner}
-use Rattle.wa_types.specs.ModuleBounds.{prepared_bounds}
-use Rattle.wasm_reader.specs.Answers.{IsAccepted}
 use Rattle.script_model.specs.Transcript.{refusal_line, read_fault, write_fault, line_end}
 use Rattle.transcript.specs.Refused.{status_of, Prints, PrintsMemory}
-use Rattle.transform_command.specs.Manners.{RewritesAs}
 use Rattle.transform_command.specs.Sources.{IsRewritable, IsSource, Cause, IsRefusedIn, refusal_for}
 
 -- what `transform` prints: how many functions the module defines, how many of them are instrumented, and how
@@ -20,17 +17,6 @@ use Rattle.transform_command.specs.Sources.{IsRewritable, IsSource, Cause, IsRef
 unfoldable pub done_line : (functions instrumented bytes : ℕ) → List ℕ
 done_line functions instrumented bytes =
     codes "ok functions " ++ decimal functions ++ codes " instrumented " ++ decimal instrumented ++ codes " bytes " ++ decimal bytes ++ line_end
-
--- OUT holds the bytes of a module that is that of IN, rewritten in this manner. They spell a valid module without a float, which passes
--- no bound of a prepared module, and under the host's protocol behaves like the original. The other files are as before.
-pub record IsTransformed (how : Manner) (input output : List ℕ) (old new : Files) : Type 0 where
-  pub «module» : Module
-  pub which : List Bool
-  pub emitted : Module
-  pub source : IsSource how (bytes_of old input) «module» which emitted
-  pub written : ChangesOnly output (Enc emitted) old new
-  pub prepared : IsAccepted prepared_bounds (Enc emitted) (Norm emitted)
-  pub rewritten : RewritesAs how «module» (Norm emitted)
 
 -- OUT is as before, or holds some first bytes of what it would hold; the other files are as before.
 pub record IsCutShort (how : Manner) (input output : List ℕ) (old new : Files) : Type 0 where

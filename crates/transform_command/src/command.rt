@@ -8,7 +8,8 @@ ghost use Rattle.script_model.specs.Transcript.{read_fault, refusal_line, write_
 ghost use Rattle.transcript.specs.Refused.{CountsBy, Prints};
 ghost use Rattle.transform_command.specs.Ends.{IsRefusal};
 ghost use Rattle.transform_command.specs.Manners.{manner_of};
-ghost use Rattle.transform_command.specs.Transforms.{HasCause, HoldsSource, IsCutShort, IsTransformed, PrintsRefusal, PrintsDone, PrintsLess, RunsOutOfMemory};
+ghost use Rattle.transform_command.specs.Sources.{IsTransformed};
+ghost use Rattle.transform_command.specs.Transforms.{HasCause, HoldsSource, IsCutShort, PrintsRefusal, PrintsDone, PrintsLess, RunsOutOfMemory};
 
 use crate::refusals::refusal_kind;
 use crate::report::report;

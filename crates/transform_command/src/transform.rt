@@ -6,7 +6,8 @@ ghost use Rattle.vault_port.specs.Files.{bytes_of, CannotRead};
 ghost use Rattle.vault_port.specs.Told.{WhereTold, Becomes};
 ghost use Rattle.transform_command.specs.Refusals.{IsOfSource, IsToldRefusal};
 ghost use Rattle.transform_command.specs.Manners.{manner_of};
-ghost use Rattle.transform_command.specs.Transforms.{HoldsSource, IsCount, IsCutShort, IsTransformed};
+ghost use Rattle.transform_command.specs.Sources.{IsTransformed};
+ghost use Rattle.transform_command.specs.Transforms.{HoldsSource, IsCount, IsCutShort};
 ghost use Rattle.std.specs.Result.{IfErr};
 
 use crate::refusals::Refusal;

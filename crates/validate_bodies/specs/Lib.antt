@@ -1,5 +1,5 @@
+pub mod BodyVerdicts
 pub mod Judging
-pub mod Laws
 pub mod Running
 pub mod Spaces
 pub mod Stack

@@ -92,20 +92,10 @@ pub record SameNote (m : Module) (s : Settings) (which : List Bool) (area : Area
   pub kept : (at_pause : Store) → y.since ≡ Some at_pause → AreaKept area at_pause y.store
   pub state : AtCalls y.event (slice_get y.store.globals (global_space m) ≡ Some (V.I32 0))
 
--- the end is a trap of an unwind
-abbrev pub is_pause_end : End → Bool
-is_pause_end (UnwindTrap trap used len) = true
-is_pause_end _ = false
-
--- an event, and none where told
-abbrev pub unless_end : Bool → Event → Option Event
-unless_end true e = None
-unless_end false e = Some e
-
--- an event that is neither a pause nor such an end
+-- an event that is neither a pause nor the trap of an unwind
 abbrev pub unless_pause : Event → Option Event
 unless_pause (paused ticks used) = None
-unless_pause (ended how) = unless_end (is_pause_end how) (ended how)
+unless_pause (ended (UnwindTrap trap used len)) = None
 unless_pause e = Some e
 
 -- without Paused and UnwindTrap
@@ -118,7 +108,7 @@ IsMoment m plan os n events s =
     ((j : ℕ) × (j ≤ n) × (events ≡ events_of (Blocking m plan os j).events) × (s ≡ store_of (Blocking m plan os j).last))
     ⊎ ((i : ℕ) × (x : Note) × (slice_get (Blocking m plan os n).events i ≡ Some x) × (events ≡ events_of (take (suc i) (Blocking m plan os n).events)) × (s ≡ x.store))
 
--- the call of an import that is told last behind this event
+-- the call of an import that is told last, once this event is told too
 abbrev pub then_called : Option Call → Event → Option Call
 then_called before (called c) = Some c
 then_called before _ = before
@@ -140,8 +130,7 @@ RewindsTo p told _ = Unit {0}
 
 -- The rewritten p behaves like m, for one plan, outcomes and cost, where these notes are expected of m's run; `which` tells what may pause.
 pub record BehavesOn (m : Module) (s : Settings) (p : Module) (plan : Plan) (os : List Outcome) (n : ℕ) (which : List Bool) (expected : List Note) : Type 0 where
-  -- it gets as far, within the bound
-  pub reaches : IsPrefix (events_of expected) (events_of (protocol_notes p plan os (Bound m n (pause_stacks (Blocking m plan os n).events))))
+  pub reaches : IsPrefix (events_of expected) (events_of (protocol_notes p plan os (Bound m n (pause_stacks (Blocking m plan os n).events))))  -- it gets as far, within the bound
   -- it does nothing else, and is never the cheaper one: this follows from `notes`, and stands here for readers
   pub follows : IsPrefix (events_of (protocol_notes p plan os n)) (events_of expected)
   -- each of its notes has an expected one beside it: stores, images and what is kept of the area are right at each event
@@ -149,8 +138,7 @@ pub record BehavesOn (m : Module) (s : Settings) (p : Module) (plan : Plan) (os 
   -- between events too the store is one that the original has at a moment with the same events
   pub moments : (events : List Event) × (at : Store) × IsMoment m plan os n events at × (events ≡ without_pauses (events_of (protocol_notes p plan os n)))
       × SameEnd (global_space m) plan.area at (store_held (Protocol p plan os n).last)
-  -- a rewound entry comes back to the call of an import that was told last, with its arguments
-  pub again : RewindsTo p (last_called None (events_of (protocol_notes p plan os n))) (Protocol p plan os n).last
+  pub again : RewindsTo p (last_called None (events_of (protocol_notes p plan os n))) (Protocol p plan os n).last  -- where a rewound entry calls an import, it makes the call that was told last
 
 -- For every plan, outcomes and cost at which each pause finds its activations at numbered calls, the rewritten module behaves like its
 -- original, whose numbers lie in the ranges of their types: else what passes through a frame comes back changed.

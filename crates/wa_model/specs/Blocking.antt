@@ -206,8 +206,7 @@ tested m k import args w l a None = go_on k (call_note import args (store_at w) 
 abbrev pub asked : Module → Plan → ℕ → (import : ℕ) → List Value → Asker → Left → List Outcome → Turn State Note
 asked m plan k import args w l [] = goes k (call_note import args (store_at w) (stack_at m w) None ∷ []) (halts (store_at w))
 asked m plan k import args w l (refused e ∷ os) = ends_at_call k (call_note import args (store_at w) (stack_at m w) None) e
-asked m plan k import args w l (given a ∷ os) =
-    tested m k import args w (with_outcomes l os) a (fault_of (func_type_at m import).results (length (store_at w).memory) plan (in_start w) import a)
+asked m plan k import args w l (given a ∷ os) = tested m k import args w (with_outcomes l os) a (fault_of (func_type_at m import).results (length (store_at w).memory) plan (in_start w) import a)
 
 -- by the module's own reduction
 abbrev pub by_step : Module → Plan → Task → Left → Next → Turn State Note

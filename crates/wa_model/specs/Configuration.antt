@@ -10,11 +10,8 @@ use Rattle.wa_model.specs.Store.{Store}
 
 -- A label: what a branch to it goes on with, and what is left behind it (4.2.12). `height` counts the operands below the construct.
 pub data Label : Type 0 where
-  -- of a block or an if: a branch carries so many values and goes on behind the construct. `skipped` is the arm that
-  -- stands behind the one that runs.
-  block_label : (height arity : ℕ) → (rest skipped : Code) → Label
-  -- of a loop: a branch carries none and begins the body again
-  loop_label : (height : ℕ) → (body rest : Code) → Label
+  block_label : (height arity : ℕ) → (rest skipped : Code) → Label  -- of a block or an if: a branch carries so many values and goes on behind it; `skipped` is the arm behind the one that runs
+  loop_label : (height : ℕ) → (body rest : Code) → Label  -- of a loop: a branch carries none and begins the body again
 
 -- An activation of a defined function (4.2.12): its index, locals and operands, the topmost first, those that the call took at which it
 -- waits, the code that stands next, and the labels around it, the innermost first.
@@ -34,8 +31,7 @@ pub record Configuration : Type 0 where
 
 -- a configuration whose innermost activation runs
 abbrev pub running : Store → ℕ → List Activation → (locals operands : List Value) → Code → List Label → Configuration
-running s fn under ls ops code labels =
-    record { store = s; here = record { func = fn; locals = ls; operands = ops; taken = []; code = code; labels = labels }; under = under }
+running s fn under ls ops code labels = record { store = s; here = record { func = fn; locals = ls; operands = ops; taken = []; code = code; labels = labels }; under = under }
 
 -- an activation that waits at a call, which took operands from it
 abbrev pub waiting : ℕ → (locals operands taken : List Value) → Code → List Label → Activation

@@ -81,8 +81,7 @@ filled globals memory table elems bytes = elems_checked globals memory table ele
 abbrev pub opened_by : Module → (globals : List Value) → (pages entries : ℕ) → (pages_pass entries_pass : Bool) → Opening
 opened_by m globals pages entries true entries_pass = fails_as (HostLimit false pages)
 opened_by m globals pages entries false true = fails_as (HostLimit true entries)
-opened_by m globals pages entries false false =
-    filled globals (replicate (pages * page_size) 0) (replicate entries None) (map (elem_piece globals) m.elems) (map (byte_piece globals) m.segments)
+opened_by m globals pages entries false false = filled globals (replicate (pages * page_size) 0) (replicate entries None) (map (elem_piece globals) m.elems) (map (byte_piece globals) m.segments)
 
 -- The instance with these imported globals, before start runs (4.5.4): a zero memory and an uninitialised table of declared minimum, segments over them.
 abbrev pub opening : Module → List Value → Opening

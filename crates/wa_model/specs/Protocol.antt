@@ -62,18 +62,12 @@ pub data Phase : Type 0 where
 
 -- What the host does once an export has returned that it called.
 pub data Then : Type 0 where
-  -- after start_unwind the import's call is given a zero
-  give_zero : (waits : Configuration) → Then
-  -- after get_state, called once the entry has returned
-  test_unwound : Then
-  -- after stop_unwind the program is paused
-  pause_there : Then
-  -- after start_rewind the entry is called again
-  call_again : Then
-  -- after get_state, called at the suspended import
-  test_rewound : (waits : Configuration) → Then
-  -- after stop_rewind the answer is given
-  give_answer : (waits : Configuration) → Then
+  give_zero : (waits : Configuration) → Then  -- after start_unwind the import's call is given a zero
+  test_unwound : Then  -- after get_state, called once the entry has returned
+  pause_there : Then  -- after stop_unwind the program is paused
+  call_again : Then  -- after start_rewind the entry is called again
+  test_rewound : (waits : Configuration) → Then  -- after get_state, called at the suspended import
+  give_answer : (waits : Configuration) → Then  -- after stop_rewind the answer is given
 
 -- Where a run under the protocol stands: `free` to call an entry, `starting`, `busy` in a phase, `calling` an export that runs `aside`, `entering` again, or `over`.
 pub data Held : Type 0 where

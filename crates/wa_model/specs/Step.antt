@@ -12,20 +12,16 @@ use Rattle.wa_types.specs.Syntax.{Plain, basic, local_get, local_set, local_tee,
 use Rattle.wa_types.specs.Syntax.{branch, FuncType, Func, Module}
 use Rattle.wa_types.specs.Modules.{func_imports, all_memories, type_at, func_type_at, declared_locals, defined_at}
 use Rattle.wa_ops.specs.Operate.{value_of}
-use Rattle.wa_model.specs.Store.{Store, value_at, Did, works, fails, lacks, takes, extra_cost, act}
+use Rattle.wa_model.specs.Store.{Store, choose, value_at, Did, works, fails, lacks, takes, extra_cost, act}
 use Rattle.wa_model.specs.Configuration.{Label, block_label, loop_label, Activation, Configuration, running, waiting}
 
 -- What comes next (4.4). A cost k stands for suc k.
 pub data Next : Type 0 where
-  -- a reduction to this configuration
-  steps : (k : ℕ) → (to : Configuration) → Next
-  -- a call of the imported function of this index; the configuration waits for its results
-  asks : (k import : ℕ) → (args : List Value) → (waits : Configuration) → Next
-  -- the outermost activation returned
-  returns : (k : ℕ) → (values : List Value) → (store : Store) → Next
+  steps : (k : ℕ) → (to : Configuration) → Next  -- a reduction to this configuration
+  asks : (k import : ℕ) → (args : List Value) → (waits : Configuration) → Next  -- a call of the imported function of this index; the configuration waits for its results
+  returns : (k : ℕ) → (values : List Value) → (store : Store) → Next  -- the outermost activation returned
   traps : (k : ℕ) → (trap : Trap) → (store : Store) → Next
-  -- no reduction; no configuration of a valid module comes here
-  stuck : Next
+  stuck : Next  -- no reduction; no configuration of a valid module comes here
 
 -- the lowest h operands, those below a construct (4.4.5.6)
 abbrev pub keep : ℕ → List Value → List Value
@@ -69,11 +65,6 @@ abbrev pub with_number : List Value → (ℕ → List Value → Next) → Next
 with_number [] on = stuck
 with_number (V.I32 n ∷ ops) on = on n ops
 with_number (V.I64 n ∷ ops) on = stuck
-
--- the first where the number isn't 0
-abbrev pub choose : {A : Type 0} → ℕ → A → A → A
-choose zero first second = second
-choose (suc n) first second = first
 
 -- the number of a construct's results (2.4.5)
 abbrev pub arity_of : Option ValType → ℕ

@@ -81,10 +81,10 @@ computed s None = lacks
 computed s (Some (Ok v)) = works s (v ∷ [])
 computed s (Some (Err t)) = fails t
 
--- select (4.4.2.2): the lower value where the number isn't 0
-abbrev pub chosen : ℕ → Value → Value → Value
-chosen zero lower upper = upper
-chosen (suc n) lower upper = lower
+-- the first where the number isn't 0
+abbrev pub choose : {A : Type 0} → ℕ → A → A → A
+choose zero first second = second
+choose (suc n) first second = first
 
 -- the number of bytes of an access (4.4.4.1)
 abbrev pub width_of : AccessRow → ℕ
@@ -128,7 +128,7 @@ grew s (Some m) = works (with_memory s m.bytes) (V.I32 (pages_of s.memory) ∷ [
 abbrev pub act : Option ℕ → Basic → Store → List Value → Did
 act most nop s [] = works s []
 act most drop s (v ∷ []) = works s []
-act most select s (V.I32 n ∷ upper ∷ lower ∷ []) = works s (chosen n lower upper ∷ [])
+act most select s (V.I32 n ∷ upper ∷ lower ∷ []) = works s (choose n lower upper ∷ [])
 act most (const v) s [] = works s (v ∷ [])
 act most (num op) s ops = computed s (operate op ops)
 act most (global_get x) s [] = works s (value_at s.globals x ∷ [])

@@ -108,8 +108,7 @@ same_type _ _ = false
 -- a run in front of merged runs
 abbrev pub run_onto : Run → List Run → List Run
 run_onto r [] = r ∷ []
-run_onto r (s ∷ rest) =
-    if same_type r.ty s.ty then (record { count = r.count + s.count; ty = r.ty }) ∷ rest else r ∷ s ∷ rest
+run_onto r (s ∷ rest) = if same_type r.ty s.ty then (record { count = r.count + s.count; ty = r.ty }) ∷ rest else r ∷ s ∷ rest
 
 -- the runs with adjacent ones of a type merged, and empty ones left out
 abbrev pub merged : List Run → List Run

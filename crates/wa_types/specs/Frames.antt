@@ -104,8 +104,7 @@ slot_places keep x (p ∷ ps) = place_onto (keep p) x p.ty (slot_places keep (su
 
 -- the parameters, declared locals and slots that are kept
 abbrev pub places : Module → Func → (ℕ → Bool) → (Pair → Bool) → List Place
-places m f keep keep_slot =
-    named_places keep 0 (locals_of m f) ++ slot_places keep_slot (length (locals_of m f)) (SlotPairs m f)
+places m f keep keep_slot = named_places keep 0 (locals_of m f) ++ slot_places keep_slot (length (locals_of m f)) (SlotPairs m f)
 
 -- an operand of this pair stands on the stack that is told
 abbrev pub is_on_stack : Option (List ValType) → Pair → Bool
@@ -150,8 +149,7 @@ Room m policy stack = 8 + sum_by (frame_of m policy) stack
 -- the bytes in use with the frames of a stack, the innermost first, until the first that would pass the length
 abbrev pub fit_from : Module → Policy → ℕ → ℕ → List Suspended → ℕ
 fit_from m policy len used [] = used
-fit_from m policy len used (a ∷ rest) =
-    if nat_lt len (used + frame_of m policy a) then used else fit_from m policy len (used + frame_of m policy a) rest
+fit_from m policy len used (a ∷ rest) = if nat_lt len (used + frame_of m policy a) then used else fit_from m policy len (used + frame_of m policy a) rest
 
 -- The bytes of an area of this length that are in use when an unwind of this stack ends in it, the innermost activation first.
 abbrev pub Fit : Module → Policy → List Suspended → ℕ → ℕ
@@ -215,8 +213,7 @@ HoldsFrame m s which memory at a (Some f) =
 -- the frames of a stack stand in a row, the innermost first
 abbrev pub HoldsFrames : Module → Settings → List Bool → List ℕ → ℕ → List Suspended → Type 0
 HoldsFrames m s which memory at [] = Unit {0}
-HoldsFrames m s which memory at (a ∷ rest) =
-    HoldsFrame m s which memory at a (defined_at m a.func) × HoldsFrames m s which memory (at + frame_of m s.policy a) rest
+HoldsFrames m s which memory at (a ∷ rest) = HoldsFrame m s which memory at a (defined_at m a.func) × HoldsFrames m s which memory (at + frame_of m s.policy a) rest
 
 -- What memory holds of a suspended stack, the innermost activation first, in an area of so many bytes at this address: the location and the
 -- end, and behind them each frame, its saved locals in order and then the number of its call.

@@ -8,7 +8,6 @@ pub mod Counts
 pub mod Dropping
 pub mod Encoding
 pub mod FirstFault
-pub mod FrameLaws
 pub mod Frames
 pub mod Leaves
 pub mod Levels
@@ -26,6 +25,7 @@ pub mod Pruned
 pub mod Reading
 pub mod Rules
 pub mod Runtime
+pub mod SavedLocals
 pub mod Sizes
 pub mod Spells
 pub mod Syntax

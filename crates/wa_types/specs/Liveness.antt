@@ -94,8 +94,7 @@ unfoldable pub behind_calls : List Label → Code → List Position
 behind_calls ls done = []
 behind_calls ls (plain p rest) = if_call_here (callee p) (position rest ls) (behind_calls ls rest)
 behind_calls ls (nest s r body rest) = behind_calls (label_of s body rest ∷ ls) body ++ behind_calls ls rest
-behind_calls ls (branch r a b rest) =
-    behind_calls (goes_behind rest ∷ ls) a ++ (behind_calls (goes_behind rest ∷ ls) b ++ behind_calls ls rest)
+behind_calls ls (branch r a b rest) = behind_calls (goes_behind rest ∷ ls) a ++ (behind_calls (goes_behind rest ∷ ls) b ++ behind_calls ls rest)
 
 -- The parameter or declared local x is read before it is written on some path of the function's pruned body
 -- from just after the call at this place.
@@ -139,8 +138,7 @@ pub record Told : Type 0 where
 -- what is told under one label more
 abbrev pub label_told : ℕ → Label → Told → Told
 label_told x (goes_behind rest) t = let k = live x t.tos t.out rest in record { tos = k ∷ t.tos; out = k }
-label_told x (goes_again body rest) t =
-    let k = live x t.tos t.out rest in record { tos = live x (false ∷ t.tos) k body ∷ t.tos; out = k }
+label_told x (goes_again body rest) t = let k = live x t.tos t.out rest in record { tos = live x (false ∷ t.tos) k body ∷ t.tos; out = k }
 
 -- what is told under labels, the innermost first
 abbrev pub told : ℕ → List Label → Told

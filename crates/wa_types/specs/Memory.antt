@@ -39,8 +39,7 @@ bytes_at bytes at width = take width (drop at bytes)
 
 -- the number that the bytes at an address spell (4.4.4.1)
 abbrev pub number_at : List ℕ → ℕ → ℕ → Option ℕ
-number_at bytes at width =
-    if nat_le (at + width) (length bytes) then Some (number_of_bytes (bytes_at bytes at width)) else None
+number_at bytes at width = if nat_le (at + width) (length bytes) then Some (number_of_bytes (bytes_at bytes at width)) else None
 
 -- the bytes with a piece written over those at an address
 abbrev pub overwritten : List ℕ → ℕ → List ℕ → List ℕ

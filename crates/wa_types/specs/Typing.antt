@@ -29,18 +29,12 @@ pub record Around : Type 0 where
 
 -- What an instruction asks of the operands, the topmost first, and what it leaves (3.3).
 pub data Sig : Type 0 where
-  -- takes these operands off and puts those on (3.3.1 to 3.3.5)
-  moves : (ins outs : List ValType) → Sig
-  -- takes these operands, and control never goes on behind it: what it leaves is arbitrary (3.3.5)
-  leaves : (ins : List ValType) → Sig
-  -- takes one operand of any type (3.3.2.1)
-  drops : Sig
-  -- takes an i32 and two operands of one type, and puts one of this type on (3.3.2.2)
-  selects : Sig
-  -- whatever the operands, this rule fails, which is at most that on operands (`Rules`)
-  lacks : (rule : Rule) → Sig
-  -- asks for these operands, and then this rule fails, which is above that on operands
-  late : (rule : Rule) → (ins outs : List ValType) → Sig
+  moves : (ins outs : List ValType) → Sig  -- takes these operands off and puts those on (3.3.1 to 3.3.5)
+  leaves : (ins : List ValType) → Sig  -- takes these operands, and control never goes on behind it: what it leaves is arbitrary (3.3.5)
+  drops : Sig  -- takes one operand of any type (3.3.2.1)
+  selects : Sig  -- takes an i32 and two operands of one type, and puts one of this type on (3.3.2.2)
+  lacks : (rule : Rule) → Sig  -- whatever the operands, this rule fails, which is at most that on operands (`Rules`)
+  late : (rule : Rule) → (ins outs : List ValType) → Sig  -- asks for these operands, and then this rule fails, which is above that on operands
 
 -- a result type, as the list of its types (2.3.2)
 abbrev pub listed : Option ValType → List ValType
@@ -86,8 +80,7 @@ may_jump (Some r) = moves (I32 ∷ listed r) (listed r)
 -- br_table (3.3.5.8): all labels are there, and all take one result
 abbrev pub jumps : List (Option ValType) → List ℕ → Option (Option ValType) → Sig
 jumps ls labels None = lacks UnknownLabel
-jumps ls labels (Some r) =
-    if all_there ls labels then (if all_alike ls r labels then leaves (I32 ∷ listed r) else lacks StackTypes) else lacks UnknownLabel
+jumps ls labels (Some r) = if all_there ls labels then (if all_alike ls r labels then leaves (I32 ∷ listed r) else lacks StackTypes) else lacks UnknownLabel
 
 -- call (3.3.5.10)
 abbrev pub calls : Option FuncType → Sig
@@ -195,8 +188,7 @@ unfoldable pub Types : Around → List (Option ValType) → Code → (outs ins :
 Types c ls done outs ins = ins ≡ outs
 Types c ls (plain p rest) outs ins = (mids : List ValType) × Takes (sig c ls p) ins mids × Types c ls rest outs mids
 Types c ls (nest s r body rest) outs ins = Types c (label s r ∷ ls) body (listed r) [] × Types c ls rest outs (listed r ++ ins)
-Types c ls (branch r a b rest) outs ins =
-    (below : List ValType) × (ins ≡ I32 ∷ below) × Types c (r ∷ ls) a (listed r) [] × Types c (r ∷ ls) b (listed r) [] × Types c ls rest outs (listed r ++ below)
+Types c ls (branch r a b rest) outs ins = (below : List ValType) × (ins ≡ I32 ∷ below) × Types c (r ∷ ls) a (listed r) [] × Types c (r ∷ ls) b (listed r) [] × Types c ls rest outs (listed r ++ below)
 
 -- A body has its type (3.4.1).
 abbrev pub Typed : Around → Code → Type 0

@@ -46,8 +46,7 @@ types_there m = all_below (length m.types) (func_sorts m)
 
 -- The functions that element segments, exports and the start name are there (3.4.5, 3.4.7, 3.4.8).
 abbrev pub funcs_there : Module → Bool
-funcs_there m =
-    all_below (length (func_sorts m)) (exported a_func m ++ option_to_list m.start ++ flat_map (λ (e : Elem). e.funcs) m.elems)
+funcs_there m = all_below (length (func_sorts m)) (exported a_func m ++ option_to_list m.start ++ flat_map (λ (e : Elem). e.funcs) m.elems)
 
 -- The tables that element segments and exports name are there (3.4.5, 3.4.8).
 abbrev pub tables_there : Module → Bool

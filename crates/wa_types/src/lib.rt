@@ -22,14 +22,13 @@
 //! - `measures`, `weights`: how many instructions a body has, how deep it nests, and its weight; `pruning`: what can be reached.
 //! - `leaves`, `levels`, `bodies`, `parts`, `whole`: copies of instructions, bodies, sections and modules; `drops`: bodies dropped.
 //! - `bounds`, `rules`: which limit is passed, which rule of validity is broken.
-//! - `typing_laws`, `frame_laws`: laws of the typing relation and first faults, of slots and live locals.
+//! - `typing_laws`, `saved_locals`: laws of the typing relation and first faults, of slots and live locals.
 #![tactic(auto)]
 
 mod bodies;
 mod bounds;
 mod control;
 mod drops;
-mod frame_laws;
 mod instrs;
 mod leaves;
 mod levels;
@@ -39,6 +38,7 @@ mod operators;
 mod parts;
 mod pruning;
 mod rules;
+mod saved_locals;
 mod syntax;
 mod typing_laws;
 mod values;
@@ -48,7 +48,6 @@ mod whole;
 pub use bodies::{copy_body, copy_func};
 pub use bounds::{Bounds, LimitKind};
 pub use drops::drop_body;
-pub use frame_laws::slot_and_live_laws;
 pub use instrs::Instr;
 pub use leaves::copy_leaf;
 pub use leb_numbers::{
@@ -60,6 +59,7 @@ pub use names::Name;
 pub use operators::{LAST_NUMERIC, NumOp};
 pub use pruning::prune;
 pub use rules::Rule;
+pub use saved_locals::slot_and_live_laws;
 pub use syntax::{
     Custom, Elem, Export, Func, FuncType, GlobalDef, Import, ImportKind, Limits, Module, Run,
     Segment, Space,

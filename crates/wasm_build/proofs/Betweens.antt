@@ -1,9 +1,9 @@
 -- Parts of what a front spells, one behind another.
 use Rattle.std.proofs.Common.{◌≡◌, ℕ, suc, ◌+◌, ◌<◌, List, [], ◌∷◌, ◌++◌, map, Result, Ok, Err, refl, ap, sym, ◌∙◌, subst, arith, append_assoc, append-nil, length, length-append}
+use Rattle.std.specs.List.{AllZip}
 use Rattle.file_laws.proofs.Items.{same_cut}
 use Rattle.leb_numbers.specs.Leb.{IsUnsigned}
 use Rattle.wa_types.specs.Spells.{◌▸◌, Exactly, Number, Items, Vector}
-use Rattle.wa_types.specs.Reading.{Each}
 use Rattle.wasm_grammar.specs.declared.front.NotSpelled.{NotSpelled}
 use Rattle.wasm_build.specs.declared.build_types.BuildFault.{BuildFault}
 use Rattle.wasm_grammar.specs.Places.{Place, behind, with_more, ReadsNumber}
@@ -171,20 +171,20 @@ keeps_all view Spelled count old here got k whole more xs end b =
     ends_of view Spelled got (with_more here more) end xs g.rest g.whole g.between (whole ∙ g.counted)
 
 -- a vector of what the file spells is one of what is left of it
-as_items : {R X : Type 0} (Spelled : R → ℕ → List ℕ → Type 0) (Is : R → X → Type 0) (raws : List R) (xs : List X) (at : ℕ) (bytes : List ℕ) → Each Is raws xs → Items Spelled raws at bytes
+as_items : {R X : Type 0} (Spelled : R → ℕ → List ℕ → Type 0) (Is : R → X → Type 0) (raws : List R) (xs : List X) (at : ℕ) (bytes : List ℕ) → AllZip Is raws xs → Items Spelled raws at bytes
     → Items (SpelledAs Spelled Is) xs at bytes
 as_items Spelled Is [] [] at bytes h b = b
 as_items Spelled Is [] (x ∷ xs) at bytes h b = absurd h
 as_items Spelled Is (r ∷ raws) [] at bytes h b = absurd h
 as_items Spelled Is (r ∷ raws) (x ∷ xs) at bytes h b = (b.0, b.1, b.2, (r, h.0, b.3), as_items Spelled Is raws xs (at + length b.0) b.1 h.1 b.4)
 
-each_length : {R X : Type 0} (Is : R → X → Type 0) (raws : List R) (xs : List X) → Each Is raws xs → length raws ≡ length xs
+each_length : {R X : Type 0} (Is : R → X → Type 0) (raws : List R) (xs : List X) → AllZip Is raws xs → length raws ≡ length xs
 each_length Is [] [] h = refl
 each_length Is [] (x ∷ xs) h = absurd h
 each_length Is (r ∷ raws) [] h = absurd h
 each_length Is (r ∷ raws) (x ∷ xs) h = ap suc (each_length Is raws xs h.1)
 
-pub as_vector : {R X : Type 0} (Spelled : R → ℕ → List ℕ → Type 0) (Is : R → X → Type 0) (raws : List R) (xs : List X) (at : ℕ) (bytes : List ℕ) → Each Is raws xs
+pub as_vector : {R X : Type 0} (Spelled : R → ℕ → List ℕ → Type 0) (Is : R → X → Type 0) (raws : List R) (xs : List X) (at : ℕ) (bytes : List ℕ) → AllZip Is raws xs
     → Vector Spelled raws at bytes → Vector (SpelledAs Spelled Is) xs at bytes
 as_vector Spelled Is raws xs at bytes h b =
     (b.0, b.1, b.2, subst (IsUnsigned 32 b.0) (each_length Is raws xs h) b.3, as_items Spelled Is raws xs (at + length b.0) b.1 h b.4)

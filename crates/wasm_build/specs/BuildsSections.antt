@@ -1,11 +1,12 @@
 -- What the builder gives for bytes that spell entries of sections, and sections.
 use Rattle.std.specs.Prelude.{◌≡◌, ℕ, List}
+use Rattle.std.specs.List.{AllZip}
 use Rattle.wa_types.specs.declared.syntax.Run.{Run}
 use Rattle.wa_types.specs.Binary.{RawBody}
 use Rattle.wa_types.specs.Syntax.{Code, done, Func, Custom}
 use Rattle.wa_types.specs.View.{code}
 use Rattle.wa_types.specs.Spells.{◌▸◌, Exactly, Sized, Text, BodyOf}
-use Rattle.wa_types.specs.Reading.{Each, IsRun, IsCode, IsBody}
+use Rattle.wa_types.specs.Reading.{IsRun, IsCode, IsBody}
 use Rattle.wasm_build.specs.declared.entries.Body.{Body}
 use Rattle.wasm_build.specs.Builds.{SpelledAs}
 
@@ -20,7 +21,7 @@ body_of b = record { locals = b.locals.items; code = code b.code.items }
 
 -- it is what an entry of the code section holds (5.5.13)
 pub record IsPlainBody (raw : RawBody) (b : PlainBody) : Type 0 where
-  pub locals : Each IsRun raw.locals b.locals
+  pub locals : AllZip IsRun raw.locals b.locals
   pub code : IsCode raw.code b.code done
 
 -- an entry of the code section

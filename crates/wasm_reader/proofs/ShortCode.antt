@@ -1,5 +1,6 @@
 -- No spelling of code is shorter than the one that it is written in.
 use Rattle.std.proofs.Common.{◌≡◌, ℕ, suc, ◌+◌, ◌≤◌, List, [], ◌∷◌, ◌++◌, flat_map, length, refl, ap, sym, subst, arith, length-append, Bool, true, false, Some}
+use Rattle.std.specs.List.{AllZip}
 use Rattle.leb_numbers.proofs.SignedSpelling.{shortest_signed_least}
 use Rattle.wa_types.specs.declared.values.Value.TheVariants.{I32 as value_32, I64 as value_64}
 use Rattle.leb_numbers.specs.Leb.{shortest}
@@ -7,7 +8,7 @@ use Rattle.wa_types.specs.Encoding.{vector, sized, code_bytes, plain_bytes, else
 use Rattle.wa_types.specs.Syntax.{nop, drop, select, const, num, global_get, global_set, load, store, memory_size, memory_grow, memory_copy, memory_fill, Plain, basic, local_get, local_set, local_tee, br, br_if, br_table, return, unreachable, call, call_indirect, Code, done, plain, nest, branch}
 use Rattle.wa_types.specs.Binary.{RawCode, ended, otherwise, instr, nested, branched}
 use Rattle.wa_types.specs.Spells.{Number, Items, Vector, ImmediatesOf, CodeOf}
-use Rattle.wa_types.specs.Reading.{IsCode, Each}
+use Rattle.wa_types.specs.Reading.{IsCode}
 use Rattle.wa_types.specs.Opcodes.{plain_immediates}
 use Rattle.wasm_reader.proofs.ShortNumbers.{number_short, shortest_rises}
 use Rattle.wasm_reader.proofs.SpelledCodeSizes.{length_split}
@@ -15,7 +16,7 @@ use Rattle.wasm_reader.proofs.SpelledSizes.{each_length}
 
 -- items that are each no shorter
 pub items_short : {X Y : Type 0} (f : X → ℕ → List ℕ → Type 0) (entry : Y → List ℕ) (R : X → Y → Type 0) → ((x : X) (y : Y) (at : ℕ) (a : List ℕ) → f x at a → R x y → length (entry y) ≤ length a)
-    → (xs : List X) (ys : List Y) (at : ℕ) (a : List ℕ) → Items f xs at a → Each R xs ys → length (flat_map entry ys) ≤ length a
+    → (xs : List X) (ys : List Y) (at : ℕ) (a : List ℕ) → Items f xs at a → AllZip R xs ys → length (flat_map entry ys) ≤ length a
 items_short f entry R w [] [] at a h e = omega arith
 items_short f entry R w [] (y ∷ ys) at a h e = absurd e
 items_short f entry R w (x ∷ xs) [] at a h e = absurd e
@@ -23,7 +24,7 @@ items_short f entry R w (x ∷ xs) (y ∷ ys) at a h e =
     omega (arith, length_split a h.0 h.1 h.2, length-append (entry y) (flat_map entry ys), w x y at h.0 h.3 e.0, items_short f entry R w xs ys (at + length h.0) h.1 h.4 e.1)
 
 pub vector_short : {X Y : Type 0} (f : X → ℕ → List ℕ → Type 0) (entry : Y → List ℕ) (R : X → Y → Type 0) → ((x : X) (y : Y) (at : ℕ) (a : List ℕ) → f x at a → R x y → length (entry y) ≤ length a)
-    → (xs : List X) (ys : List Y) (at : ℕ) (a : List ℕ) → Vector f xs at a → Each R xs ys → length (vector entry ys) ≤ length a
+    → (xs : List X) (ys : List Y) (at : ℕ) (a : List ℕ) → Vector f xs at a → AllZip R xs ys → length (vector entry ys) ≤ length a
 vector_short f entry R w xs ys at a h e =
     omega (
       arith,
@@ -38,7 +39,7 @@ vector_short f entry R w xs ys at a h e =
 abbrev pub Same : {X : Type 0} → X → X → Type 0
 Same x y = y ≡ x
 
-pub each_same : {X : Type 0} (xs : List X) → Each Same xs xs
+pub each_same : {X : Type 0} (xs : List X) → AllZip Same xs xs
 each_same [] = tt
 each_same (x ∷ xs) = (refl, each_same xs)
 

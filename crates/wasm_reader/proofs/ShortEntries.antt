@@ -1,6 +1,7 @@
 -- No spelling of an entry is shorter than the one that it is written in.
 use Rattle.std.proofs.Common.{◌≡◌, ℕ, zero, suc, ◌+◌, ◌*◌, ◌/◌, ◌≤◌, inl, inr, List, [], ◌∷◌, ◌++◌, flat_map, length, Option, Some, None, refl, ap, sym, subst, arith, length-append, Bool, true, false, cond, nat_eq, nat_lt}
 use Rattle.std.proofs.lemmas.Bool.{ltb-true, ltb-false}
+use Rattle.std.specs.List.{AllZip}
 use Rattle.wa_types.specs.declared.values.ValType.{ValType}
 use Rattle.wa_types.specs.declared.syntax.Limits.{Limits}
 use Rattle.wa_types.specs.declared.syntax.ImportKind.{ImportKind}
@@ -12,7 +13,7 @@ use Rattle.wa_types.specs.Encoding.{vector, sized, type_byte, func_type_bytes, m
 use Rattle.wa_types.specs.Syntax.{FuncType, Func, GlobalDef, Elem, Segment}
 use Rattle.wa_types.specs.Binary.{Placed, RawType, RawKind, raw_func, raw_table, raw_memory, raw_global, RawImport, RawGlobal, RawElem, RawRun, RawBody, RawSegment}
 use Rattle.wa_types.specs.Spells.{Text, Vector, ValueType, FunctionType, Maximum, LimitsOf, TableType, ImportKindOf, ImportOf, GlobalOf, ExportOf, ElementOf, RunOf, BodyOf, SegmentOf}
-use Rattle.wa_types.specs.Reading.{Each, IsValueType, IsFuncType, IsKind, IsImport, IsGlobal, IsElem, IsRun, IsBody, IsSegment}
+use Rattle.wa_types.specs.Reading.{IsValueType, IsFuncType, IsKind, IsImport, IsGlobal, IsElem, IsRun, IsBody, IsSegment}
 use Rattle.wasm_reader.proofs.ShortNumbers.{by_test, number_short, shortest_rises, spelled_small, spelled_big, spelled_some}
 use Rattle.wasm_reader.proofs.ShortCode.{vector_short, items_short, Same, indices_short, sized_short, expression_short}
 use Rattle.wasm_reader.proofs.SpelledCodeSizes.{length_split}
@@ -207,7 +208,7 @@ run_short : (x : RawRun) (y : Run) (at : ℕ) (a : List ℕ) → RunOf x at a �
 run_short x y at a h i = omega (arith, length_split a h.0 h.1 h.2, run_length y, ap (λ n. length (shortest n)) i.count, number_short x.count h.0 h.3, ap length h.4.1.1)
 
 -- runs are merged, and then no longer
-locals_short : (xs : List RawRun) (ys : List Run) (at : ℕ) (a : List ℕ) → Vector RunOf xs at a → Each IsRun xs ys → length (vector run_bytes (merged ys)) ≤ length a
+locals_short : (xs : List RawRun) (ys : List Run) (at : ℕ) (a : List ℕ) → Vector RunOf xs at a → AllZip IsRun xs ys → length (vector run_bytes (merged ys)) ≤ length a
 unfolding runs_length
 locals_short xs ys at a h e =
     let m = merged_short ys in

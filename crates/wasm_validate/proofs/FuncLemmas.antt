@@ -20,7 +20,7 @@ use Rattle.wasm_validate.specs.declared.valid.ValidateFault.TheVariants.{Memory,
 use Rattle.validate_bodies.specs.Running.{Verdict, body_verdict, Answer, valid, invalid, func_answer, funcs_answer, outside_answer}
 use Rattle.wa_types.specs.Typing.{Around}
 use Rattle.wa_types.specs.Validity.{Valid, broken_outside}
-use Rattle.validate_bodies.specs.Laws.{Says}
+use Rattle.validate_bodies.specs.BodyVerdicts.{Says}
 use Rattle.wasm_validate.specs.Validated.{Tells, Answers, Validates}
 use Rattle.validate_bodies.proofs.Decided.{module_decided}
 

@@ -2,7 +2,8 @@
 use Rattle.std.proofs.Common.{◌≡◌, ◌∙◌, ◌⊎◌, ℕ, List, Err, None, Option, Some, ap, inr, map, refl, subst, sym}
 use Rattle.std.specs.String.{string_bytes}
 use Rattle.transform_command.specs.Manners.{manner_of}
-use Rattle.transform_command.specs.Transforms.{IsCutShort, IsTransformed}
+use Rattle.transform_command.specs.Sources.{IsTransformed}
+use Rattle.transform_command.specs.Transforms.{IsCutShort}
 use Rattle.vault_port.specs.Told.{Becomes}
 use Rattle.script_model.specs.Command.{Manner, OnTransform, transform}
 use Rattle.script_model.specs.Spelled.{Spelled, rewrites, rewriting, spelled}

@@ -4,7 +4,8 @@ use Rattle.wa_types.specs.Syntax.{br_if}
 use Rattle.wa_types.specs.View.{code, module_of}
 use Rattle.wa_model.specs.Configuration.{running}
 use Rattle.run_theory.specs.Fitting.{NextFits}
-use Rattle.wa_model.specs.Step.{steps, jump, choose, with_number}
+use Rattle.wa_model.specs.Store.{choose}
+use Rattle.wa_model.specs.Step.{steps, jump, with_number}
 use Rattle.interp.specs.Stacks.{plain_of}
 use Rattle.interp.specs.Told.{Tells}
 use Rattle.interp_state.specs.View.{label_of, waiting_of, running_of}

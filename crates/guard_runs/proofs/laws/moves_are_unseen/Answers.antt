@@ -1,5 +1,0 @@
-use Rattle.guard_runs.proofs.UnseenMoves.{each_instant}
-use Rattle.guard_runs.proofs.laws.moves_are_unseen.Goals as goal
-
-pub returns : goal.returns
-returns c = each_instant

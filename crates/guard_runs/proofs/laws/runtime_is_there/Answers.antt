@@ -1,5 +1,0 @@
-use Rattle.guard_runs.proofs.RuntimeStands.{runtime_stands}
-use Rattle.guard_runs.proofs.laws.runtime_is_there.Goals as goal
-
-pub returns : goal.returns
-returns c = runtime_stands

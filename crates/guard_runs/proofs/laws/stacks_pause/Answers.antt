@@ -1,5 +1,0 @@
-use Rattle.guard_runs.proofs.Pausing.{pauses_law}
-use Rattle.guard_runs.proofs.laws.stacks_pause.Goals as goal
-
-pub returns : goal.returns
-returns c = pauses_law

@@ -1,5 +1,0 @@
-use Rattle.run_theory.proofs.OwnTraps.{no_import_trap}
-use Rattle.run_theory.proofs.laws.reductions_trap_themselves.Goals as goal
-
-pub returns : goal.returns
-returns c = no_import_trap
