@@ -1,4 +1,4 @@
--- Code of a function that stays with asserts, instruction by instruction.
+-- Code with asserts of a function that stays, of which some can't be reached, instruction by instruction.
 use Rattle.std.proofs.Common.{◌≡◌, ◌∙◌, ℕ, ◌+◌, ◌<◌, ◌≤◌, ◌++◌, List, [], ◌∷◌, length, get_or, drop, Option, Bool, true, false, refl, sym, ap, subst}
 use Rattle.std.specs.Prelude.{if◌then◌else◌}
 use Rattle.std.specs.declared.vec.Vec.{Vec}

@@ -1,4 +1,4 @@
-//! Laws of what is written of an emitted module. Each is the contract of a function that does nothing.
+//! Laws of what is written of an emitted module under `all`, with the ranges of its numbers. Each is the contract of a function that does nothing.
 
 ghost use Rattle.emitted_form.specs.Written.{EmittedHasFewLocals, EmittedIsShort, EmittedIsSpelled, EmittedIsWellFormed};
 

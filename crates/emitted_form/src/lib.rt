@@ -20,7 +20,7 @@
 //!   they stand for suspended stacks as the laws on stacks want it, `proofs/ChosenStacks.antt` and `proofs/LiveAgain.antt` that what
 //!   came back stands beside such a stack.
 //! - `live_modules`, `policies`: the emitted module under `live`, and by the policy of the settings.
-//! - `prepared_modules`, `live_bytes`, `policy_bytes`: what is written of it.
+//! - `prepared_modules`, `live_bytes`, `policy_bytes`: what is written of it, under `live` and by either policy.
 #![tactic(auto)]
 
 mod emitted_bytes;

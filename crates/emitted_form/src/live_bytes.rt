@@ -1,4 +1,4 @@
-//! Laws of what is written of the emitted module. Each is the contract of a function that does nothing.
+//! Laws of what is written of the emitted module under `live`. Each is the contract of a function that does nothing.
 
 ghost use Rattle.emitted_form.specs.LiveBytes.{LiveHasFewLocals, LiveIsPrepared, LiveIsShort, LiveIsSpelled};
 

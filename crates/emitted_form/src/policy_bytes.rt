@@ -1,4 +1,4 @@
-//! Laws of what is written of what is emitted, for both policies. Each is the contract of a function that does nothing.
+//! Laws of what is written of what is emitted, by either policy. Each is the contract of a function that does nothing.
 
 ghost use Rattle.emitted_form.specs.PolicyBytes.{EmittedAsHasFewLocals, EmittedAsIsPrepared, EmittedAsIsShort, EmittedAsIsSpelled, WrittenIsShort};
 

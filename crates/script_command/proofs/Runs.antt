@@ -1,4 +1,4 @@
--- What is run are rewritten originals.
+-- What is run are rewritten originals, and what is printed tells a run of them (`runs_of_originals`).
 use Rattle.std.proofs.Common.{◌≡◌, ℕ, suc, List, [], ◌∷◌, length, map, Option, Some, None, Bool, false, All, refl, sym, ap, ◌∙◌, subst}
 use Rattle.std.specs.List.{AllZip, filter_map}
 use Rattle.std.specs.Option.{option_map}

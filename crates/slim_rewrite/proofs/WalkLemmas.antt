@@ -1,4 +1,4 @@
--- Along the statements of a sequence.
+-- Along the statements of a sequence, and into them: what is asked of each (`Ready`).
 use Rattle.std.proofs.Common.{◌≡◌, ℕ, suc, ◌+◌, ◌<◌, ◌≤◌, List, [], length, get_or, drop, None, false, sym, ap, ◌∙◌, subst, arith}
 use Rattle.wa_types.specs.Syntax.{Shape as Nesting, Code}
 use Rattle.wa_types.specs.View.{code, onto}

@@ -13,6 +13,7 @@ use Rattle.snapshot_store.specs.Snapshots.{PausedParts, ProgramRecord, paused, g
 onto : (old a b new : List ℕ) → new ≡ (old ++ a) ++ b → new ≡ old ++ (a ++ b)
 onto old a b new e = e ∙ append_assoc old a b
 
+-- the parts of a paused program, from its steps on, one behind another
 pub parts_put : (x : PausedParts) (memory o0 o1 o2 o3 o4 o5 o6 o7 : List ℕ) → o1 ≡ o0 ++ bytes_of 8 x.steps_used → o2 ≡ o1 ++ bytes_of 4 x.entry → o3 ≡ o2 ++ bytes_of 4 x.answers
     → o4 ≡ o3 ++ bytes_of 4 x.import → o5 ≡ o4 ++ (bytes_of 4 (length x.globals) ++ flat_map global_bytes x.globals) → o6 ≡ o5 ++ bytes_of 4 x.pages → o7 ≡ o6 ++ memory
     → o7 ≡ o0 ++ parts_bytes x memory
@@ -23,6 +24,7 @@ parts_put x memory o0 o1 o2 o3 o4 o5 o6 o7 e1 e2 e3 e4 e5 e6 e7 = seven (bytes_o
         → o7 ≡ o0 ++ (a ++ (b ++ (c ++ (d ++ (n ++ (g ++ (p ++ memory)))))))
     seven a b c d n g p e1 e2 e3 e4 e5 e6 e7 = simp (e7, e6, e5, e4, e3, e2, e1, append_assoc)
 
+-- the whole record of a paused program: its kind, its due tick, and its parts
 pub paused_put : (due : ℕ) (x : PausedParts) (memory o0 o1 o2 o3 : List ℕ) → o1 ≡ o0 ++ (1 ∷ []) → o2 ≡ o1 ++ bytes_of 8 due → o3 ≡ o2 ++ parts_bytes x memory
     → o3 ≡ o0 ++ record_bytes (paused due x memory)
 paused_put due x memory o0 o1 o2 o3 e1 e2 e3 = three (bytes_of 8 due) (parts_bytes x memory) e1 e2 e3

@@ -15,7 +15,7 @@
 //!
 //! - `numbers`, `entry`: numbers, sizes and names; how an entry of a vector is written, so that each vector is proved once.
 //! - `types`, `code`, `locals`: types, instructions and expressions, declared locals.
-//! - `entries`, `sections`, `held`: entries of the sections with code and data, sections, and entries that are put beforehand.
+//! - `entries`, `sections`, `held`: entries of the sections with code and data; sections, custom ones too; entries that are put beforehand.
 //! - `module`, `around`: whole modules.
 #![tactic(auto)]
 
