@@ -1,5 +1,5 @@
 use Rattle.norm_laws.proofs.BareRuns.{bare_steps, bare_blocking, bare_protocol}
-use Rattle.norm_laws.proofs.norms.bare_runs_are_the_same.Goals as goal
+use Rattle.norm_laws.proofs.norm_runs.bare_runs_are_the_same.Goals as goal
 
 pub returns-clause-steps : goal.returns-clause-steps
 returns-clause-steps c = bare_steps
