@@ -5,10 +5,10 @@
 //! it returns (`specs/GeneratedRuns.antt`).
 #![tactic(auto)]
 
-mod generated;
+mod generated_modules;
 mod generating;
 
-pub use generated::{
+pub use generated_modules::{
     few_functions_return, generated_modules_are_small, generated_modules_are_valid,
     generated_modules_pause_once,
 };

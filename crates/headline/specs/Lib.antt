@@ -13,7 +13,7 @@ pub mod LiveLaw
 pub mod Rewritten
 pub mod SlimBeside
 pub mod StoreLaws
-pub mod StoresTogether
+pub mod ThreeModules
 pub mod Told
 pub mod TypedLocals
 pub mod World

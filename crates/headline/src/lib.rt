@@ -19,7 +19,7 @@
 //! policy may put in between. `proofs/Behaving.antt` has the headline for any such frames, `proofs/StackAgain.antt` and
 //! `proofs/PauseCosts.antt` what is left for the policy that saves all; that for `live` is in `emitted_form`.
 //!
-//! - `rewritten_sizes`: how large rewritten functions are, how deep they nest, and what a pause in them costs, by the weight of the function; runs in
+//! - `rewritten_modules`: how large rewritten functions are, how deep they nest, and what a pause in them costs, by the weight of the function; runs in
 //!   which nothing pauses, and modules of which nothing may: `proofs/EmptyAreas.antt` has these runs under a plan with an empty area, and
 //!   `proofs/UnpausedRuns.antt` that any other area makes no difference.
 //! - `three_modules`: laws on the way to the headline that name no link.
@@ -31,13 +31,13 @@
 #![tactic(auto)]
 
 mod emitted_module;
-mod rewritten_sizes;
+mod rewritten_modules;
 mod slim_beside;
 mod three_modules;
 mod typed_locals;
 
 pub use emitted_module::{emitted_behave, staying_behave};
-pub use rewritten_sizes::{modules_run_unpaused, quiet_modules_are_rewritten, rewritten_is_small};
+pub use rewritten_modules::{modules_run_unpaused, quiet_modules_are_rewritten, rewritten_is_small};
 pub use slim_beside::slim_module_is_beside;
 pub use three_modules::{parts_fit, stores_stay_together, traps_keep_stores};
 pub use typed_locals::locals_stay_typed;

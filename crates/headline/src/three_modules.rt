@@ -1,6 +1,6 @@
 //! Laws of the three modules. Each is the contract of a function that does nothing.
 
-ghost use Rattle.headline.specs.StoresTogether.{PartsFit, StoresStayTogether, TrapsKeepStores};
+ghost use Rattle.headline.specs.ThreeModules.{PartsFit, StoresStayTogether, TrapsKeepStores};
 
 /// A reduction that traps leaves the store as it was.
 pub fn traps_keep_stores()

@@ -16,7 +16,7 @@ use Rattle.guard_runs.specs.Stopped.{Stopped}
 use Rattle.headline.specs.FlatLaw.{AllLocalsFit}
 use Rattle.headline.specs.World.{World, base, setting}
 use Rattle.image_laws.specs.Image.{rewind_bound, unwind_bound}
-use Rattle.image_laws.specs.ComesBack.{BoundsJoin}
+use Rattle.image_laws.specs.HeldPauses.{BoundsJoin}
 
 abbrev pub unwound : List Level → ℕ
 unwound [] = 0

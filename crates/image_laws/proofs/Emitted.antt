@@ -44,7 +44,7 @@ use Rattle.emitted_form.specs.PolicyLaws.{CanBeEmitted}
 use Rattle.emitted_form.proofs.LiveModules.{fit, framed, frames, frames_are, hold, live_emitted, live_valid}
 use Rattle.emitted_form.proofs.PolicyCases.{live_rewriting}
 use Rattle.image_laws.specs.Image.{ComesThere, ComesToPause, GoesOnFrom, HoldsPause, Pause, rest_of_cost, rewind_bound, unwind_bound}
-use Rattle.image_laws.specs.ComesBack.{ImageGoesOn, PausesHold}
+use Rattle.image_laws.specs.HeldPauses.{ImageGoesOn, PausesHold}
 use Rattle.image_laws.proofs.ApartFrames.{all_apart}
 use Rattle.image_laws.proofs.ApartLevels.{ApartCalls}
 use Rattle.image_laws.proofs.ImageRuns.{halves_with}

@@ -16,7 +16,7 @@ use Rattle.wa_model.specs.Store.{Store}
 use Rattle.wa_model.specs.declared.answers.Said.{Said}
 use Rattle.wa_model.specs.declared.answers.Said.TheVariants as S
 use Rattle.wa_model.specs.declared.events.End.{End}
-use Rattle.image_laws.specs.ComesBack.{EntryIsNumbered}
+use Rattle.image_laws.specs.HeldPauses.{EntryIsNumbered}
 
 module _ (m : Module) (plan : Plan) where
   abbrev Behind : Left → Type 0

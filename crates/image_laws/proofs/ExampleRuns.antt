@@ -27,7 +27,7 @@ use Rattle.wa_model.proofs.StayingOff.{nothing_off}
 use Rattle.run_theory.proofs.Invariants.{RanKeeps, TurnKeeps, after_keeps}
 use Rattle.image_laws.specs.Example.{adding, at_call, behind_call, called_with_7, fresh, may_pause, outcomes_there, pause_there, plan_there, sample, saving}
 use Rattle.image_laws.specs.Image.{ComesThere, answer_there, left_there, stack_there}
-use Rattle.image_laws.specs.ComesBack.{PauseOf, RunCompared}
+use Rattle.image_laws.specs.HeldPauses.{PauseOf, RunCompared}
 use Rattle.image_laws.proofs.ExampleModule.{can_there, formed_there, free_there, no_run}
 
 -- ---- where it stands

@@ -19,7 +19,7 @@ use Rattle.wa_model.specs.Store.{Store}
 use Rattle.emitted_form.proofs.CodeAlone.{code_alone}
 use Rattle.emitted_form.specs.PolicyLaws.{without_code}
 use Rattle.image_laws.specs.Image.{HoldsPause, answer_there, goes_on_there, left_there, rest_of_cost, stack_there}
-use Rattle.image_laws.specs.ComesBack.{OneSavesAnotherGoesOn, WholeBound}
+use Rattle.image_laws.specs.HeldPauses.{OneSavesAnotherGoesOn, WholeBound}
 use Rattle.image_laws.proofs.Apart.{bounds_join}
 use Rattle.image_laws.proofs.Emitted.{image_goes_on, pauses_hold}
 use Rattle.image_laws.proofs.Reached.{stacks_on}

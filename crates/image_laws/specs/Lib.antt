@@ -1,3 +1,3 @@
-pub mod ComesBack
 pub mod Example
+pub mod HeldPauses
 pub mod Image

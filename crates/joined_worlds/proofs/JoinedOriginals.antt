@@ -21,7 +21,7 @@ use Rattle.world_laws.specs.Originals.{MayRun, Orderly, new_calls}
 use Rattle.world_laws.specs.Snapshots.{IsRecordOf, StandsSo, from_record, from_records, table_made}
 use Rattle.world_laws.proofs.Replaying.{Since, played_since}
 use Rattle.world_laws.proofs.Stories.{IsStory}
-use Rattle.image_laws.specs.ComesBack.{ImageGoesOn, PausesHold, RunCompared, WholeBound}
+use Rattle.image_laws.specs.HeldPauses.{ImageGoesOn, PausesHold, RunCompared, WholeBound}
 use Rattle.emitted_form.specs.PolicyLaws.{EmittedDifferInCode, without_code}
 use Rattle.joined_worlds.specs.JoinedOriginals.{AllGoOver, AreOrderly, GoesOver, JoinedWorldsOfOriginals}
 use Rattle.joined_worlds.proofs.JoinedRows.{Heres, a_program, joined_world, no_program}

@@ -1,4 +1,4 @@
--- Notes with their pauses shown, where an unwind ends by its stack's room alone: where that passes the area's length.
+-- Notes with their pauses shown, where an unwind traps by its stack's room alone: where that passes the area's length.
 use Rattle.std.specs.Prelude.{ℕ, nat_lt, List, Option}
 use Rattle.wa_types.specs.Frames.{Suspended}
 use Rattle.wa_model.specs.Blocking.{Note}

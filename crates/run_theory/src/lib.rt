@@ -7,7 +7,7 @@
 //! (`specs/Fitting.antt`). Those of `quiet_laws` say the headline for modules of which nothing may pause.
 //!
 //! No definition of the headline needs this crate. Read in the order `Alone`, `Growth`, `Heights`, `Fitting`, `Keeping`,
-//! `LawfulStacks`, `DeterminedRuns`, `Quiet`, and of flat code `Flat`, `FlatView`, `FlatTyped`, `FlatFits`, `Touches`.
+//! `LawfulStacks`, `Pruning`, `DeterminedRuns`, `Shown`, `Quiet`, and of flat code `Flat`, `FlatView`, `FlatTyped`, `FlatFits`, `Touches`.
 #![tactic(auto)]
 
 mod determined_runs;

@@ -6,7 +6,6 @@ use Rattle.vault_port.specs.Told.{WhereTold}
 use Rattle.vault_port.specs.Taken.{Appends, AppendsLess}
 use Rattle.wa_types.specs.Syntax.{Module}
 use Rattle.wa_types.specs.Encoding.{Enc}
-use Rattle.wa_types.specs.Norm.{Norm}
 use Rattle.script_model.specs.Command.{Manner}
 use Rattle.script_model.specs.Transcript.{refusal_line, read_fault, write_fault, line_end}
 use Rattle.transcript.specs.Refused.{status_of, Prints, PrintsMemory}

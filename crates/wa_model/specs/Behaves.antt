@@ -1,5 +1,5 @@
 -- What a rewritten module owes its original: the headline's relation on runs.
-use Rattle.std.specs.Prelude.{◌≡◌, ℕ, suc, ◌+◌, ◌≤◌, ◌<◌, ◌⊎◌, ◌++◌, List, [], ◌∷◌, map, take, Option, Some, None, Bool, true, false, All, Contains, slice_get}
+use Rattle.std.specs.Prelude.{◌≡◌, ℕ, suc, ◌+◌, ◌≤◌, ◌<◌, ◌⊎◌, ◌++◌, List, [], ◌∷◌, map, take, Option, Some, None, Bool, true, All, Contains, slice_get}
 use Rattle.std.specs.List.{filter_map}
 use Rattle.wa_types.specs.declared.values.Value.TheVariants as V
 use Rattle.wa_types.specs.Syntax.{Func, Module}
@@ -11,7 +11,6 @@ use Rattle.wa_types.specs.Bounds.{Bound}
 use Rattle.wa_types.specs.Typing.{GlobalType}
 use Rattle.wa_types.specs.Runtime.{global_space}
 use Rattle.wa_model.specs.declared.answers.Area.{Area}
-use Rattle.wa_model.specs.declared.events.End.{End}
 use Rattle.wa_model.specs.declared.events.End.TheVariants.{BytesOut, ElementsOut, HostLimit, UnwindTrap}
 use Rattle.wa_model.specs.Outside.{Call, Event, called, paused, ended}
 use Rattle.wa_model.specs.Store.{Store}
@@ -130,7 +129,8 @@ RewindsTo p told _ = Unit {0}
 
 -- The rewritten p behaves like m, for one plan, outcomes and cost, where these notes are expected of m's run; `which` tells what may pause.
 pub record BehavesOn (m : Module) (s : Settings) (p : Module) (plan : Plan) (os : List Outcome) (n : ℕ) (which : List Bool) (expected : List Note) : Type 0 where
-  pub reaches : IsPrefix (events_of expected) (events_of (protocol_notes p plan os (Bound m n (pause_stacks (Blocking m plan os n).events))))  -- it gets as far, within the bound
+  -- it gets as far, within the bound
+  pub reaches : IsPrefix (events_of expected) (events_of (protocol_notes p plan os (Bound m n (pause_stacks (Blocking m plan os n).events))))
   -- it does nothing else, and is never the cheaper one: this follows from `notes`, and stands here for readers
   pub follows : IsPrefix (events_of (protocol_notes p plan os n)) (events_of expected)
   -- each of its notes has an expected one beside it: stores, images and what is kept of the area are right at each event
@@ -138,7 +138,8 @@ pub record BehavesOn (m : Module) (s : Settings) (p : Module) (plan : Plan) (os 
   -- between events too the store is one that the original has at a moment with the same events
   pub moments : (events : List Event) × (at : Store) × IsMoment m plan os n events at × (events ≡ without_pauses (events_of (protocol_notes p plan os n)))
       × SameEnd (global_space m) plan.area at (store_held (Protocol p plan os n).last)
-  pub again : RewindsTo p (last_called None (events_of (protocol_notes p plan os n))) (Protocol p plan os n).last  -- where a rewound entry calls an import, it makes the call that was told last
+  -- where a rewound entry calls an import, it makes the call that was told last
+  pub again : RewindsTo p (last_called None (events_of (protocol_notes p plan os n))) (Protocol p plan os n).last
 
 -- For every plan, outcomes and cost at which each pause finds its activations at numbered calls, the rewritten module behaves like its
 -- original, whose numbers lie in the ranges of their types: else what passes through a frame comes back changed.

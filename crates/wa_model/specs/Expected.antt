@@ -14,21 +14,21 @@ use Rattle.wa_model.specs.Blocking.{Note, note}
 abbrev pub pause_note : (ticks room : ℕ) → Store → List Suspended → Note
 pause_note ticks room s stack = record { event = paused ticks room; store = s; stack = stack; pause = None; since = None }
 
--- the end where the frames of a stack don't fit the area
+-- the trap of an unwind in an area of this length, of which so many bytes are in use then
 abbrev pub trap_note : (used len : ℕ) → Store → Note
 trap_note used len s = note (ended (UnwindTrap Unreachable used len)) s
 
--- a note with what stands behind it: where it is a call that pauses, the pause, or the trap where an unwind of its stack ends
-abbrev pub shown_at : (ends : List Suspended → Bool) → (room used : List Suspended → ℕ) → (len : ℕ) → Note → Option ℕ → (rest : List Note) → List Note
-shown_at ends room used len x None rest = x ∷ rest
-shown_at ends room used len x (Some ticks) rest = x ∷ (if ends x.stack then trap_note (used x.stack) len x.store ∷ [] else pause_note ticks (room x.stack) x.store x.stack ∷ rest)
+-- a note with what stands behind it: where it is a call that pauses, the pause, or the trap where the unwind of its stack traps
+abbrev pub shown_at : (traps : List Suspended → Bool) → (room used : List Suspended → ℕ) → (len : ℕ) → Note → Option ℕ → (rest : List Note) → List Note
+shown_at traps room used len x None rest = x ∷ rest
+shown_at traps room used len x (Some ticks) rest = x ∷ (if traps x.stack then trap_note (used x.stack) len x.store ∷ [] else pause_note ticks (room x.stack) x.store x.stack ∷ rest)
 
--- Between a call that pauses and its answer stands the pause; where an unwind of the stack ends in the area the trap, and nothing follows. Both find the store as at the call.
-abbrev pub shown : (ends : List Suspended → Bool) → (room used : List Suspended → ℕ) → (len : ℕ) → List Note → List Note
-shown ends room used len [] = []
-shown ends room used len (x ∷ xs) = shown_at ends room used len x x.pause (shown ends room used len xs)
+-- Between a call that pauses and its answer stands the pause; where the unwind of its stack traps, the trap, and nothing follows. Both find the store as at the call.
+abbrev pub shown : (traps : List Suspended → Bool) → (room used : List Suspended → ℕ) → (len : ℕ) → List Note → List Note
+shown traps room used len [] = []
+shown traps room used len (x ∷ xs) = shown_at traps room used len x x.pause (shown traps room used len xs)
 
--- the notes of a run with blocking imports, with its pauses: an unwind ends where the stack's room passes the area's length
+-- the notes of a run with blocking imports, with its pauses: an unwind traps where the stack's room passes the area's length
 abbrev pub Expected : Module → Policy → Area → List Note → List Note
 Expected m policy area notes = shown (λ stack. nat_lt area.len (Room m policy stack)) (Room m policy) (λ stack. Fit m policy stack area.len) area.len notes
 

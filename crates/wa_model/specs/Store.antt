@@ -81,7 +81,7 @@ computed s None = lacks
 computed s (Some (Ok v)) = works s (v ∷ [])
 computed s (Some (Err t)) = fails t
 
--- the first where the number isn't 0
+-- the first where the number isn't 0 (select, 4.4.2.2)
 abbrev pub choose : {A : Type 0} → ℕ → A → A → A
 choose zero first second = second
 choose (suc n) first second = first

@@ -1,5 +1,0 @@
-use Rattle.image_laws.proofs.Apart.{bounds_join}
-use Rattle.image_laws.proofs.images.bounds_join.Goals as goal
-
-pub returns : goal.returns
-returns c = bounds_join

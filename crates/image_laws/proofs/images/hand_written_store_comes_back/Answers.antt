@@ -1,5 +1,0 @@
-use Rattle.image_laws.proofs.ExampleBack.{hand_written_comes_back}
-use Rattle.image_laws.proofs.images.hand_written_store_comes_back.Goals as goal
-
-pub returns : goal.returns
-returns c = hand_written_comes_back

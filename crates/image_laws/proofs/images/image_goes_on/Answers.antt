@@ -1,5 +1,0 @@
-use Rattle.image_laws.proofs.Emitted.{image_goes_on}
-use Rattle.image_laws.proofs.images.image_goes_on.Goals as goal
-
-pub returns : goal.returns
-returns c = image_goes_on

@@ -1,5 +1,0 @@
-use Rattle.image_laws.proofs.Joined.{whole_bound}
-use Rattle.image_laws.proofs.images.whole_bound.Goals as goal
-
-pub returns : goal.returns
-returns c = whole_bound
