@@ -1,4 +1,4 @@
-//! The laws. Each is the contract of a function that does nothing.
+//! Laws of guarded and written code with asserts. Each is the contract of a function that does nothing.
 
 ghost use Rattle.assert_laws.specs.AssertedUnits.{FlatIsAsserted, GuardedIsAsserted, WrittenIsAsserted};
 
