@@ -15,6 +15,7 @@ use Rattle.world_laws.specs.Snapshots.{From, IsRecordOf, IsSnapshotOf, StandsSo,
 use Rattle.world_laws.proofs.Counting.{calls_on}
 use Rattle.world_laws.proofs.GoingOn.{then_events}
 use Rattle.world_laws.proofs.Meeting.{AnswersFit, EachMet, Met, SameCalls, events_met, meets_same}
+use Rattle.world_laws.proofs.Places.{zip_at}
 use Rattle.world_laws.proofs.Replaying.{Quads, Since, Swapped, Twice, played_again}
 use Rattle.world_laws.proofs.Rows.{Row, Rows, events_beside, over_beside}
 use Rattle.world_laws.proofs.Shows.{Prints, prints_by}
@@ -40,9 +41,6 @@ longer_split (x ∷ xs) ys (u ∷ us) rest e le =
     tail : x ∷ (xs ++ ys) ≡ u ∷ (us ++ rest) → xs ++ ys ≡ us ++ rest
     tail e = cc
 
-some_same : {X : Type 0} (x y : X) → Some x ≡ Some y → x ≡ y
-some_same x y e = cc
-
 -- ---- programs whose calls are the same
 
 -- what is asked of two programs for their lines and calls
@@ -60,17 +58,10 @@ calls_served v w same (x ∷ xs) os lines ds os' lines' ds' h = by_call (λ os l
     by_call on None g = on os lines ds g
     by_call on (Some c) g = (g.0, g.1, g.2, g.3, g.4, meets_same v w same c.import c.args lines ds g.0 g.2 g.3 g.5, on g.1 g.2 g.3 g.6)
 
-served_at : (vs ws : List Program) → AllZip Serves vs ws → (i : ℕ) (v : Program) → slice_get vs i ≡ Some v → (w : Program) × (slice_get ws i ≡ Some w) × Serves v w
-served_at [] [] h i v e = cc
-served_at (u ∷ vs) (w ∷ ws) h zero v e = (w, refl, subst (λ (z : Program). Serves z w) (some_same u v e) h.0)
-served_at (u ∷ vs) (w ∷ ws) h (suc i) v e = served_at vs ws h.1 i v e
-served_at [] (w ∷ ws) h i v e = absurd h
-served_at (u ∷ vs) [] h i v e = absurd h
-
 module _ (vs ws : List Program) (serves : AllZip Serves vs ws) (detaches : List Detach) where
   plays_served : (number : ℕ) (p p' : List Actor) (ds ds' : List Device) (lines : List Line) → Plays vs detaches number p ds lines p' ds' → Plays ws detaches number p ds lines p' ds'
   plays_served number p p' ds ds' lines play =
-      let f = served_at vs ws serves play.i play.w play.program in
+      let f = zip_at Serves vs ws serves play.i play.w play.program in
       let s = f.2 in
       record {
         i = play.i;

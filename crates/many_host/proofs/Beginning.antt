@@ -10,7 +10,7 @@ use Rattle.wa_model.specs.World.{Device, Program, detached}
 use Rattle.event_order.specs.declared.turns.Turn.{Turn}
 use Rattle.event_order.specs.Dues.{IsLeast}
 use Rattle.many_host.specs.Turns.{due_of, behind, since}
-use Rattle.many_host.proofs.Places.{item}
+use Rattle.world_laws.proofs.Places.{item}
 use Rattle.many_host.specs.Notes.{TellsOnFrom}
 use Rattle.many_host.proofs.Begun.{turn_begins}
 use Rattle.many_host.proofs.Numbers.{begun_next, next_since}

@@ -3,7 +3,7 @@ use Rattle.std.proofs.Common.{◌≡◌, ℕ, List, [], map, Option, Some, None,
 use Rattle.std.specs.Option.{option_map}
 use Rattle.std.proofs.lemmas.Option.{slice_get-map}
 use Rattle.many_host.specs.Turns.{Teller, unless, due_of}
-use Rattle.many_host.proofs.Places.{set_same}
+use Rattle.world_laws.proofs.Places.{set_same}
 use Rattle.many_host.specs.ToldNotes.{NothingTold, TurnBegins}
 use Rattle.many_host.proofs.Notes.{told_nothing}
 

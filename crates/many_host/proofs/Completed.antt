@@ -6,17 +6,10 @@ use Rattle.wa_model.specs.Plan.{Outcome}
 use Rattle.wa_model.specs.Blocking.{Note, events_of}
 use Rattle.wa_model.specs.World.{Device, Look, Program, CallsMeet, NoteMeets, behind_turn, call_in, ends_turn, events_with_looks, is_end, turn_of}
 use Rattle.world_laws.proofs.Counting.{Ends}
+use Rattle.world_laws.proofs.Turns.{end_turn}
 use Rattle.many_host.specs.Turns.{EndsOnce, IsRest, ends_program}
 use Rattle.many_host.specs.Notes.{GoesOn}
 use Rattle.many_host.proofs.Notes.{no_end, no_looks}
-
-end_turn : (e : Event) → is_end e ≡ true → ends_turn e ≡ true
-end_turn (called c) h = cc
-end_turn (answered v) h = cc
-end_turn (paused ticks used) h = cc
-end_turn (returned entry v) h = cc
-end_turn (ended how) h = refl
-end_turn (shown at bytes) h = cc
 
 -- ---- notes of a turn, and others behind them
 
@@ -69,39 +62,3 @@ turn_rest (x ∷ y ∷ ys) h = by (ends_turn x.event) (turn_rest (y ∷ ys) h.1)
   by : (b : Bool) → IsRest (ends_program (turn_of (y ∷ ys))) (behind_turn (y ∷ ys)) → IsRest (ends_program (if b then x ∷ [] else x ∷ turn_of (y ∷ ys))) (if b then y ∷ ys else behind_turn (y ∷ ys))
   by true on = going (is_end x.event) false (y ∷ ys) h.0 (omega arith)
   by false on = going (is_end x.event) (ends_program (turn_of (y ∷ ys))) (behind_turn (y ∷ ys)) h.0 on
-
--- the calls of the first notes
-pub record Front (w : Program) (xs : List Note) (os : List Outcome) (lines : List AnswerLine) (ds : List Device) : Type 0 where
-  pub first : List Outcome
-  pub more : List Outcome
-  pub answers : List AnswerLine
-  pub devices : List Device
-  pub all : os ≡ first ++ more
-  pub calls : CallsMeet w xs first lines ds [] answers devices
-
-pub calls_front : (w : Program) (xs ys : List Note) (os : List Outcome) (lines lines' : List AnswerLine) (ds ds' : List Device) → CallsMeet w (xs ++ ys) os lines ds [] lines' ds'
-    → Front w xs os lines ds
-calls_front w [] ys os lines lines' ds ds' h = record { first = []; more = os; answers = lines; devices = ds; all = refl; calls = (refl, refl, refl) }
-calls_front w (x ∷ xs) ys os lines lines' ds ds' h = by (call_in x.event) refl h (λ o l d m. calls_front w xs ys o l lines' d ds' m) where
-  by : (c : Option Call) → call_in x.event ≡ c → NoteMeets w c os lines ds (λ o l d. CallsMeet w (xs ++ ys) o l d [] lines' ds')
-      → ((o : List Outcome) (l : List AnswerLine) (d : List Device) → CallsMeet w (xs ++ ys) o l d [] lines' ds' → Front w xs o l d) → Front w (x ∷ xs) os lines ds
-  by None e m on =
-      let f = on os lines ds m in
-      record {
-        first = f.first;
-        more = f.more;
-        answers = f.answers;
-        devices = f.devices;
-        all = f.all;
-        calls = subst (λ (c : Option Call). NoteMeets w c f.first lines ds (λ o l d. CallsMeet w xs o l d [] f.answers f.devices)) (sym e) f.calls;
-      }
-  by (Some call) e m on =
-      let f = on m.1 m.2 m.3 m.6 in
-      record {
-        first = m.0 ∷ f.first;
-        more = f.more;
-        answers = f.answers;
-        devices = f.devices;
-        all = m.4 ∙ ap (λ (l : List Outcome). m.0 ∷ l) f.all;
-        calls = subst (λ (c : Option Call). NoteMeets w c (m.0 ∷ f.first) lines ds (λ o l d. CallsMeet w xs o l d [] f.answers f.devices)) (sym e) (m.0, f.first, m.2, m.3, refl, m.5, f.calls);
-      }

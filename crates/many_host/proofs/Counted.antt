@@ -11,7 +11,7 @@ use Rattle.wa_model.specs.World.{Device, Program, CallsMeet, NoteMeets, call_in}
 use Rattle.world_laws.specs.Originals.{one_if, new_calls}
 use Rattle.world_laws.proofs.Counting.{calls_on}
 use Rattle.many_host.specs.Turns.{Teller, starting, having_told, TellsFrom}
-use Rattle.many_host.proofs.Places.{set_here, set_there}
+use Rattle.world_laws.proofs.Places.{set_here, set_there}
 use Rattle.many_host.specs.Notes.{TellsOnFrom}
 
 calls_count : (w : Program) (xs : List Note) (os : List Outcome) (lines lines' : List AnswerLine) (ds ds' : List Device) → CallsMeet w xs os lines ds [] lines' ds' → new_calls xs ≡ length os

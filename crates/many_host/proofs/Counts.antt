@@ -13,7 +13,7 @@ use Rattle.device_port.specs.Listed.{of_all}
 use Rattle.event_order.specs.Left.{Counted, left_before}
 use Rattle.event_order.specs.declared.turns.Turn.{Turn}
 use Rattle.host_laws.specs.Supplies.{RisesAtMostOne}
-use Rattle.many_host.proofs.Places.{item}
+use Rattle.world_laws.proofs.Places.{item}
 use Rattle.many_host.specs.declared.turn_taking.Stage.{Stage}
 use Rattle.many_host.specs.declared.turn_taking.Stage.TheVariants.{Between, Showing}
 use Rattle.many_host.specs.Calls.{AreLeft, BegunNext, TakesCall, devices_of, faults_of, left_at}

@@ -15,8 +15,8 @@ use Rattle.many_host.specs.declared.hosted.Hosted.{Hosted}
 use Rattle.many_host.specs.declared.turn_taking.Stage.{Stage}
 use Rattle.many_host.specs.declared.turn_taking.Stage.TheVariants.{Between, Telling, Showing}
 use Rattle.many_host.proofs.Numbers.{sum_behind}
-use Rattle.many_host.proofs.Places.{item}
-use Rattle.many_host.proofs.StoryTurns.{begun_turns, one_if, turns_in, turns_on}
+use Rattle.world_laws.proofs.Places.{item}
+use Rattle.world_laws.proofs.StoryTurns.{begun_turns, one_if, turns_in, turns_on}
 
 -- how many turns the programs have told
 abbrev told_turns : List Teller → ℕ

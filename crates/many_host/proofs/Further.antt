@@ -9,10 +9,11 @@ use Rattle.wa_model.specs.Blocking.{Note, events_of}
 use Rattle.wa_model.specs.World.{Device, Program, detached, CallsMeet, ends_turn, line_at, looks_after, events_with_looks}
 use Rattle.event_order.specs.Dues.{IsLeast}
 use Rattle.many_host.specs.Turns.{Teller, due_of, having_told, behind, TellsFrom}
-use Rattle.many_host.proofs.Places.{set_here}
+use Rattle.world_laws.proofs.Places.{set_here}
 use Rattle.many_host.specs.Notes.{TellsOnFrom}
 use Rattle.many_host.specs.ToldNotes.{TurnGoesOn, TurnEnds}
-use Rattle.many_host.proofs.Notes.{goes_on_more, ends_once, looks_more, calls_more, told_more}
+use Rattle.world_laws.proofs.Rests.{calls_more}
+use Rattle.many_host.proofs.Notes.{goes_on_more, ends_once, looks_more, told_more}
 
 module _ (begun : ℕ) (programs : List Program) (detaches : List Detach) (ds ds' es : List Device) (number i due : ℕ) (lines : List Line) (tellers : List Teller)
     (w : Program) (t : Teller) (x : Note) (met : List Outcome) (answers : List AnswerLine)

@@ -13,7 +13,6 @@ pub mod Notes
 pub mod Numbers
 pub mod Origins
 pub mod PausePlaces
-pub mod Places
 pub mod SavedPauses
 pub mod SavedRecords
 pub mod SavedTurns
@@ -22,7 +21,6 @@ pub mod Showing
 pub mod Starting
 pub mod Stories
 pub mod StoryLines
-pub mod StoryTurns
 pub mod Telling
 pub mod Tellings
 pub mod TurnNotes

@@ -70,18 +70,6 @@ looks_more looks (y ∷ ys) x g =
     ap (λ (l : List Event). (y.event ∷ l) ++ events_with_looks looks (ys ++ x ∷ [])) (no_looks looks y y.event g.0)
     ∙ ap (λ (l : List Event). y.event ∷ l) (looks_more looks ys x g.1)
 
-pub calls_more : (w : Program) (xs ys : List Note) (os more : List Outcome) (lines lines1 lines2 : List AnswerLine) (ds ds1 ds2 : List Device) → CallsMeet w xs os lines ds [] lines1 ds1
-    → CallsMeet w ys more lines1 ds1 [] lines2 ds2 → CallsMeet w (xs ++ ys) (os ++ more) lines ds [] lines2 ds2
-calls_more w [] ys os more lines lines1 lines2 ds ds1 ds2 h k =
-    subst (λ (o : List Outcome). CallsMeet w ys (o ++ more) lines ds [] lines2 ds2) h.0
-    (subst (λ (l : List AnswerLine). CallsMeet w ys more l ds [] lines2 ds2) h.1 (subst (λ (d : List Device). CallsMeet w ys more lines1 d [] lines2 ds2) h.2 k))
-calls_more w (x ∷ xs) ys os more lines lines1 lines2 ds ds1 ds2 h k = by (call_in x.event) h (λ o l d m. calls_more w xs ys o more l lines1 lines2 d ds1 ds2 m k) where
-  by : (c : Option Call) → NoteMeets w c os lines ds (λ o l d. CallsMeet w xs o l d [] lines1 ds1)
-      → ((o : List Outcome) (l : List AnswerLine) (d : List Device) → CallsMeet w xs o l d [] lines1 ds1 → CallsMeet w (xs ++ ys) (o ++ more) l d [] lines2 ds2)
-      → NoteMeets w c (os ++ more) lines ds (λ o l d. CallsMeet w (xs ++ ys) o l d [] lines2 ds2)
-  by None m on = on os lines ds m
-  by (Some call) m on = (m.0, m.1 ++ more, m.2, m.3, ap (λ (l : List Outcome). l ++ more) m.4, m.5, on m.1 m.2 m.3 m.6)
-
 -- what a program has told, with one note more
 pub told_more : (t : Teller) (turn : List Note) (met more : List Outcome) (answers last : List AnswerLine) (x : Note) → GoesOn turn
     → having_told (having_told t turn met answers) (x ∷ []) more last ≡ having_told t (turn ++ x ∷ []) (met ++ more) last

@@ -12,7 +12,7 @@ use Rattle.world_laws.specs.AloneLines.{Unbound}
 use Rattle.pause_host.specs.Programs.{begins_paused, ends_in_pause}
 use Rattle.pause_host.specs.Views.{is_pause}
 use Rattle.many_host.specs.Turns.{EndsOnce, Teller, TellsFrom, ends_program, having_told, starting}
-use Rattle.many_host.proofs.Places.{set_here, set_there}
+use Rattle.world_laws.proofs.Places.{set_here, set_there}
 use Rattle.many_host.proofs.MetLines.{LinesMet, calls_met, met_on}
 
 -- ---- of each program

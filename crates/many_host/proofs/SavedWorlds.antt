@@ -52,7 +52,7 @@ use Rattle.many_host.specs.Saving.{CanBeSaved, HasItsPages, IsSaved, record_for,
 use Rattle.many_host.proofs.Counted.{Counted, counted}
 use Rattle.many_host.proofs.MetLines.{LinesMet}
 use Rattle.many_host.proofs.Origins.{some_story}
-use Rattle.many_host.proofs.Places.{item}
+use Rattle.world_laws.proofs.Places.{item}
 use Rattle.many_host.proofs.Stories.{ends_tail}
 use Rattle.many_host.proofs.Telling.{RestTo, Stood, StoodTo, Storied, told_is_world_stood}
 use Rattle.many_host.proofs.Worlds.{all_on}

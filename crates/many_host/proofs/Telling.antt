@@ -17,7 +17,7 @@ use Rattle.world_laws.proofs.Played.{as_events, one_more}
 use Rattle.many_host.specs.Turns.{HaveMet, Teller, starting, unless, due_of, having_told, behind, TellsTurn, TellsFrom, IsRest, HasStory}
 use Rattle.many_host.specs.ToldTurns.{ToldIsWorld, AllToldIsWorld}
 use Rattle.many_host.proofs.Numbers.{next_behind, sum_behind}
-use Rattle.many_host.proofs.Places.{item, set_here, set_there, set_same, zipped}
+use Rattle.world_laws.proofs.Places.{item, set_here, set_there, set_same, zipped}
 use Rattle.many_host.proofs.Turns.{turn_whole, behind_whole, some_note, calls_behind}
 
 -- all that a program tells, and all the outcomes that its calls meet

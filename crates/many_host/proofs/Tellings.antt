@@ -18,7 +18,7 @@ use Rattle.host_laws.specs.Supplies.{Takes}
 use Rattle.host_laws.proofs.Tellings.{place_begins, place_whole}
 use Rattle.event_order.specs.declared.shows.Show.{Show}
 use Rattle.event_order.specs.Looks.{looks_of}
-use Rattle.many_host.proofs.Places.{item}
+use Rattle.world_laws.proofs.Places.{item}
 use Rattle.many_host.specs.Turns.{Teller, due_of, ends_program, is_gone, is_over_at, starting, unless}
 use Rattle.many_host.proofs.Origins.{no_story}
 use Rattle.many_host.specs.Notes.{OnStory}

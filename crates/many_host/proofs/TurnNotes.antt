@@ -11,7 +11,7 @@ use Rattle.event_order.specs.declared.turns.Turn.{Turn}
 use Rattle.event_order.specs.Left.{Counted}
 use Rattle.event_order.specs.Looks.{looks_of}
 use Rattle.many_host.specs.Turns.{MeetMore, Teller, unless, due_of, having_told, since, TellsFrom}
-use Rattle.many_host.proofs.Places.{set_here, set_there}
+use Rattle.world_laws.proofs.Places.{set_here, set_there}
 use Rattle.many_host.specs.Notes.{TellsOnFrom}
 use Rattle.many_host.proofs.Notes.{ends_none, off_none}
 use Rattle.many_host.proofs.Further.{turn_goes_on, turn_ends}

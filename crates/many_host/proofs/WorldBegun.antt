@@ -3,7 +3,7 @@ use Rattle.std.proofs.Common.{arith, ◌≡◌, ◌<◌, ◌⊎◌, inl, inr, �
 use Rattle.std.specs.Prelude.{MatchBool}
 use Rattle.std.specs.List.{AllZip}
 use Rattle.std.proofs.lemmas.Bool.{cases_eq}
-use Rattle.std.proofs.lemmas.List.{map-append}
+use Rattle.std.proofs.lemmas.List.{append_cancel_right, map-append}
 use Rattle.std.proofs.lemmas.Option.{same_Some}
 use Rattle.wa_model.specs.declared.answers.Detach.{Detach}
 use Rattle.wa_model.specs.Outside.{Line}
@@ -12,19 +12,20 @@ use Rattle.wa_model.specs.Blocking.{Note, events_of}
 use Rattle.wa_model.specs.Behaves.{IsPrefix}
 use Rattle.wa_model.specs.World.{Actor, Device, Program, CallsMeet, ProtocolWorldFrom, behind_turn, detached, events_with_looks, line_at, protocol_story, turn_of}
 use Rattle.world_laws.proofs.Counting.{Ends}
-use Rattle.world_laws.proofs.GoingOn.{front_same, gone_on}
-use Rattle.world_laws.proofs.Replaying.{Quads, Twice, quad_of}
-use Rattle.world_laws.proofs.LineCalls.{turn_parts}
+use Rattle.world_laws.proofs.GoingOn.{gone_on}
+use Rattle.world_laws.proofs.Places.{set_here, set_there, zip_both}
+use Rattle.world_laws.proofs.Replaying.{Front, Quads, Twice, calls_front, quad_of}
+use Rattle.world_laws.proofs.Rests.{Further, calls_more, further}
+use Rattle.world_laws.proofs.Turns.{turn_parts}
 use Rattle.event_order.specs.Dues.{HaveEnded, IsLeast}
 use Rattle.many_host.specs.Turns.{HaveMet, Teller, due_of, ends_program, having_told, behind, TellsFrom, TellsTurn, IsRest, HasStory}
 use Rattle.many_host.proofs.Telling.{MetTo, all_told_met, told_is_world_met}
-use Rattle.many_host.proofs.Places.{set_here, set_there}
 use Rattle.many_host.specs.Notes.{OnStory, TellsOnFrom}
 use Rattle.many_host.specs.ToldNotes.{BeginsWorldFrom, BegunBegins, ToldBegins, ToldWhole}
-use Rattle.many_host.proofs.Notes.{calls_more, ends_none}
+use Rattle.many_host.proofs.Notes.{ends_none}
 use Rattle.many_host.proofs.Counted.{Counted, counted, counted_on}
-use Rattle.many_host.proofs.Completed.{Front, calls_front, ends_behind, looks_behind, once_behind, turn_once, turn_rest}
-use Rattle.many_host.proofs.Stories.{Further, further}
+use Rattle.many_host.proofs.Completed.{ends_behind, looks_behind, once_behind, turn_once, turn_rest}
+use Rattle.many_host.proofs.Stories.{rest_ends}
 
 -- ---- stories of programs that were told in part
 
@@ -42,8 +43,9 @@ had w t count on = by t.has_ended refl on.whole where
       record { rest = []; more = []; story = ap (protocol_story w) (append-nil t.met) ∙ sym whole ∙ sym (append-nil t.told); is_rest = is_rest t.has_ended true [] e refl }
   by false e live =
       let from = on.begins [] in
-      let f = further w t.met t.told [] [] count live (on.live e) [] from.0 from.1 in
-      record { rest = f.full; more = f.outcomes; story = f.story; is_rest = is_rest t.has_ended false f.full e (some_rest f.full f.ends) }
+      let f = further w t.met t.told [] [] count [] from.0 from.1 in
+      let ends = rest_ends w t.met t.told [] [] count live (on.live e) f in
+      record { rest = f.full; more = f.outcomes; story = f.story; is_rest = is_rest t.has_ended false f.full e (some_rest f.full ends) }
 
 all_had : (ws : List Program) (tellers : List Teller) → ((j : ℕ) (t : Teller) → slice_get tellers j ≡ Some t → Counted t) → AllZip OnStory ws tellers → AllZip HasStory ws tellers
 all_had [] [] c h = tt
@@ -62,7 +64,7 @@ met_again : (tellers : List Teller) (starts now again ahead : List Actor) → Me
 met_again tellers starts now again ahead met quads i t b et eb =
     let q = quad_of starts now again ahead quads i b eb in
     let twice : Twice q.0 q.1 b q.2 = q.5 in
-    let used : twice.since.used ≡ t.met = front_same twice.since.used t.met q.1.outcomes (sym twice.since.outcomes ∙ met i t q.0 q.1 et q.3 q.4) in
+    let used : twice.since.used ≡ t.met = append_cancel_right twice.since.used t.met q.1.outcomes (sym twice.since.outcomes ∙ met i t q.0 q.1 et q.3 q.4) in
     (q.2.outcomes, twice.outcomes ∙ ap (λ (os : List Outcome). os ++ q.2.outcomes) used)
 
 begins_by : (begun : ℕ) (programs : List Program) (detaches : List Detach) (ds ds' : List Device) (number : ℕ) (lines : List Line) (tellers : List Teller)
@@ -96,13 +98,6 @@ told_whole begun programs detaches ds ds' number lines tellers tells all ended =
 
 -- ---- a turn that has begun
 
-zip_at : (ws : List Program) (ts : List Teller) (i : ℕ) (w : Program) (t : Teller) → AllZip OnStory ws ts → slice_get ws i ≡ Some w → slice_get ts i ≡ Some t → OnStory w t
-zip_at [] [] i w t h ew et = cc
-zip_at [] (u ∷ ts) i w t h ew et = absurd h
-zip_at (v ∷ ws) [] i w t h ew et = absurd h
-zip_at (v ∷ ws) (u ∷ ts) zero w t h ew et = subst (λ (x : Program). OnStory x t) (same_Some v w ew) (subst (λ (x : Teller). OnStory v x) (same_Some u t et) h.0)
-zip_at (v ∷ ws) (u ∷ ts) (suc i) w t h ew et = zip_at ws ts i w t h.1 ew et
-
 zip_set : (ws : List Program) (ts : List Teller) (i : ℕ) (w : Program) (u v : Teller) → slice_get ws i ≡ Some w → AllZip HasStory ws (slice_set ts i u) → HasStory w v
     → AllZip HasStory ws (slice_set ts i v)
 zip_set [] [] i w u v ew h s = tt
@@ -128,17 +123,22 @@ module _ (begun : ℕ) (programs : List Program) (detaches : List Detach) (ds ds
   live_by false e h = h
 
   story : OnStory on.w now
-  story = zip_at programs tellers i on.w now all on.program there
+  story = zip_both OnStory programs tellers all i on.w now on.program there
 
   abbrev f : Further on.w now.met now.told on.answers ds'
-  f =
-      further on.w now.met now.told on.answers ds' (count i now there) (live_by now.has_ended (ends_none on.turn on.goes_on) story.whole) (story.live (ends_none on.turn on.goes_on)) []
-      (story.begins []).0 (story.begins []).1
+  f = further on.w now.met now.told on.answers ds' (count i now there) [] (story.begins []).0 (story.begins []).1
+
+  ends : Ends f.full
+  ends =
+      rest_ends on.w now.met now.told on.answers ds' (count i now there) (live_by now.has_ended (ends_none on.turn on.goes_on) story.whole) (story.live (ends_none on.turn on.goes_on)) f
 
   front : Front on.w (turn_of f.full) f.outcomes on.answers ds'
   front =
-      calls_front on.w (turn_of f.full) (behind_turn f.full) f.outcomes on.answers f.left ds' f.last
-      (subst (λ (l : List Note). CallsMeet on.w l f.outcomes on.answers ds' [] f.left f.last) (sym (turn_parts f.full)) f.meets)
+      calls_front on.w (turn_of f.full) (behind_turn f.full) f.outcomes on.answers ds' [] f.left ds'
+      (subst (λ (l : List Note). CallsMeet on.w l f.outcomes on.answers ds' [] f.left ds') (sym (turn_parts f.full)) f.meets)
+
+  first_calls : CallsMeet on.w (turn_of f.full) front.first on.answers ds' [] front.answers front.devices
+  first_calls = subst (λ (os : List Outcome). CallsMeet on.w (turn_of f.full) os on.answers ds' [] front.answers front.devices) (append-nil front.first) (front.calls [])
 
   abbrev turn : List Note
   turn = on.turn ++ turn_of f.full
@@ -158,7 +158,7 @@ module _ (begun : ℕ) (programs : List Program) (detaches : List Detach) (ds ds
             ∙ ap (λ (l : List Note). now.told ++ l) (sym (turn_parts f.full))
             ∙ sym (append_assoc now.told (turn_of f.full) (behind_turn f.full))
             ∙ (λ k. append_assoc on.t.told on.turn (turn_of f.full) k ++ behind_turn f.full);
-        is_rest = subst (λ (b : Bool). IsRest b (behind_turn f.full)) (sym (ends_behind on.turn (turn_of f.full) on.goes_on)) (turn_rest f.full f.ends);
+        is_rest = subst (λ (b : Bool). IsRest b (behind_turn f.full)) (sym (ends_behind on.turn (turn_of f.full) on.goes_on)) (turn_rest f.full ends);
       }
 
   abbrev rest_lines : List Line
@@ -175,10 +175,10 @@ module _ (begun : ℕ) (programs : List Program) (detaches : List Detach) (ds ds
         unfinished = on.unfinished;
         next = subst (λ (n : ℕ). IsLeast (map due_of on.mid) i n) (sym on.due_is) on.next;
         turn = turn;
-        whole = once_behind on.turn (turn_of f.full) on.goes_on (turn_once f.full f.ends);
+        whole = once_behind on.turn (turn_of f.full) on.goes_on (turn_once f.full ends);
         met = on.met ++ front.first;
         answers = front.answers;
-        calls = calls_more on.w on.turn (turn_of f.full) on.met front.first on.t.answers on.answers front.answers (detached (suc (behind begun number)) detaches on.es) ds' front.devices on.calls front.calls;
+        calls = calls_more on.w on.turn (turn_of f.full) on.met front.first on.t.answers on.answers front.answers (detached (suc (behind begun number)) detaches on.es) ds' front.devices on.calls first_calls;
         made =
             sym (map-append (line_at due i) (events_of on.turn) (events_with_looks on.w.looks (turn_of f.full)))
             ∙ ap (map (line_at due i)) (sym (looks_behind on.w.looks on.turn (turn_of f.full) on.goes_on))

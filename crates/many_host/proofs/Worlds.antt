@@ -10,7 +10,7 @@ use Rattle.wa_model.specs.World.{Device, Program, ProtocolWorldFrom}
 use Rattle.event_order.specs.Dues.{HaveEnded}
 use Rattle.event_order.specs.Left.{Counted}
 use Rattle.many_host.specs.Turns.{HaveMet, Teller, since}
-use Rattle.many_host.proofs.Places.{item, zipped}
+use Rattle.world_laws.proofs.Places.{item, zipped}
 use Rattle.many_host.specs.Notes.{OnStory}
 use Rattle.many_host.proofs.WorldBegun.{BeginsMet, begins_on, lines_begin, turns_begin, turns_whole}
 use Rattle.many_host.specs.declared.turn_taking.Turns.{Turns}

@@ -9,6 +9,7 @@ use Rattle.wa_model.specs.Outside.{AnswerLine, Call, Line}
 use Rattle.wa_model.specs.Plan.{Outcome}
 use Rattle.wa_model.specs.World.{Actor, CallsMeet, Device, Events, Meets, MeetsBound, NoteMeets, Plays, Program, ProtocolWorldFrom, an_event, call_in, detached, no_event, turn_of}
 use Rattle.world_laws.specs.AloneLines.{Unbound}
+use Rattle.world_laws.proofs.Places.{all_at}
 
 -- ---- calls
 
@@ -38,14 +39,6 @@ module _ (w : Program) (none : Unbound w) where
 
 -- ---- events
 
-unbound_at : (ws : List Program) → All Unbound ws → (i : ℕ) (w : Program) → slice_get ws i ≡ Some w → Unbound w
-unbound_at [] h i w e = cc
-unbound_at (v ∷ ws) h zero w e = subst Unbound (same v w e) (All-head Unbound v ws h)
-  where
-    same : (x y : Program) → Some x ≡ Some y → x ≡ y
-    same x y e = cc
-unbound_at (v ∷ ws) h (suc i) w e = unbound_at ws (All-tail Unbound v ws h) i w e
-
 module _ (programs : List Program) (none : All Unbound programs) (detaches : List Detach) where
   -- the same events over other devices, of which the same are left where they are the same
   record EventsOver (number : ℕ) (actors : List Actor) (ds : List Device) (lines : List Line) (last : List Actor) (ds' es : List Device) : Type 0 where
@@ -58,7 +51,7 @@ module _ (programs : List Program) (none : All Unbound programs) (detaches : Lis
   events_over number actors ds lines last ds' no_event es = record { end = es; events = no_event; same = λ e. e }
   events_over number actors ds lines last ds' (an_event {actors' = next} {ds' = mid} {lines = first} {more = more} play rest split) es =
       let calls =
-      calls_over play.w (unbound_at programs none play.i play.w play.program) (turn_of play.a.notes) play.a.outcomes play.a.answers (detached number detaches ds) play.outcomes play.answers mid
+      calls_over play.w (all_at Unbound programs play.i play.w none play.program) (turn_of play.a.notes) play.a.outcomes play.a.answers (detached number detaches ds) play.outcomes play.answers mid
       play.calls in
       let there : List Device = detached number detaches es in
       let on = events_over (suc number) next mid more last ds' rest there in

@@ -1,5 +1,5 @@
 -- The lines of so many events hold so many turns.
-use Rattle.std.proofs.Common.{arith, ◌≡◌, ◌⊎◌, inl, inr, ◌<◌, ◌+◌, ℕ, zero, suc, List, [], ◌∷◌, ◌++◌, length, map, Option, Some, None, Bool, true, false, refl, sym, ap, ◌∙◌, subst}
+use Rattle.std.proofs.Common.{arith, ◌≡◌, ◌⊎◌, inl, inr, ◌<◌, ◌+◌, ℕ, zero, suc, List, [], ◌∷◌, ◌++◌, length, map, Option, Some, None, Bool, true, false, refl, sym, ap, ◌∙◌, subst, length-append}
 use Rattle.std.specs.Prelude.{if◌then◌else◌, slice_get, slice_set}
 use Rattle.std.specs.List.{AllZip}
 use Rattle.std.proofs.lemmas.Bool.{cases_lt}
@@ -13,20 +13,14 @@ use Rattle.wa_model.specs.World.{Actor, CallsMeet, Device, Look, NoteMeets, Play
 use Rattle.world_laws.specs.Originals.{new_calls, one_if}
 use Rattle.world_laws.specs.Played.{Played}
 use Rattle.world_laws.proofs.Counting.{Ends, calls_on}
+use Rattle.world_laws.proofs.Meeting.{calls_take}
 use Rattle.world_laws.proofs.StoryParts.{story_ends}
+use Rattle.world_laws.proofs.Turns.{end_turn, turn_parts}
 use Rattle.world_hosting.specs.Counts.{turns_at}
 use Rattle.world_hosting.specs.Worlds.{turn_count}
 use Rattle.world_hosting.proofs.TurnCounts.{turns_append}
 
 -- ---- one turn
-
-end_turn : (e : Event) → is_end e ≡ true → ends_turn e ≡ true
-end_turn (called c) h = cc
-end_turn (answered v) h = cc
-end_turn (paused ticks used) h = cc
-end_turn (returned entry v) h = cc
-end_turn (ended how) h = refl
-end_turn (shown at bytes) h = cc
 
 -- no note ends a turn
 abbrev Unended : List Note → Type 0
@@ -78,14 +72,6 @@ module _ (due i : ℕ) (looks : List Look) where
 
 -- ---- the notes behind it
 
-parts : (xs : List Note) → turn_of xs ++ behind_turn xs ≡ xs
-parts [] = refl
-parts (x ∷ xs) = by (ends_turn x.event) (parts xs)
-  where
-    by : (b : Bool) → turn_of xs ++ behind_turn xs ≡ xs → (if b then x ∷ [] else x ∷ turn_of xs) ++ (if b then xs else behind_turn xs) ≡ x ∷ xs
-    by true on = refl
-    by false on = ap (λ (ys : List Note). x ∷ ys) on
-
 all_of_them : (xs : List Note) → Unended xs → turn_of xs ≡ xs
 all_of_them [] h = refl
 all_of_them (x ∷ xs) h = by (ends_turn x.event) h.0 (all_of_them xs h.1)
@@ -115,19 +101,6 @@ ends_behind (x ∷ y ∷ ys) h = by (ends_turn x.event) (ends_behind (y ∷ ys) 
     by true on = inr h.1
     by false on = on
 
-calls_long : (w : Program) (xs : List Note) (os : List Outcome) (lines : List AnswerLine) (ds : List Device) (os' : List Outcome) (lines' : List AnswerLine) (ds' : List Device)
-    → CallsMeet w xs os lines ds os' lines' ds' → length os ≡ new_calls xs + length os'
-calls_long w [] os lines ds os' lines' ds' h = let e = ap length h.0 in omega (arith, e)
-calls_long w (x ∷ xs) os lines ds os' lines' ds' h = by_call (λ os lines ds h. calls_long w xs os lines ds os' lines' ds' h) (call_in x.event) h
-  where
-    by_call : ((os : List Outcome) (lines : List AnswerLine) (ds : List Device) → CallsMeet w xs os lines ds os' lines' ds' → length os ≡ new_calls xs + length os')
-        → (c : Option Call) → NoteMeets w c os lines ds (λ o l d. CallsMeet w xs o l d os' lines' ds') → length os ≡ (one_if c + new_calls xs) + length os'
-    by_call on None g = let e = on os lines ds g in omega (arith, e)
-    by_call on (Some c) g =
-        let e = on g.1 g.2 g.3 g.6 in
-        let l = ap length g.4 in
-        omega (arith, e, l)
-
 -- ---- actors
 
 -- the notes come to an end, or there are more calls than outcomes
@@ -137,10 +110,10 @@ Fine os xs = (xs ≡ []) ⊎ (Ends xs ⊎ (length os < new_calls xs))
 module _ (due i : ℕ) (w : Program) (xs : List Note) (os : List Outcome) (lines : List AnswerLine) (ds : List Device) (os' : List Outcome) (lines' : List AnswerLine) (ds' : List Device)
     (some : 0 < length xs) (calls : CallsMeet w (turn_of xs) os lines ds os' lines' ds') where
   long : length os ≡ new_calls (turn_of xs) + length os'
-  long = calls_long w (turn_of xs) os lines ds os' lines' ds' calls
+  long = let t = calls_take w (turn_of xs) os lines ds os' lines' ds' calls in omega (arith, ap length t.1, length-append t.0 os', t.2)
 
   all_calls : new_calls xs ≡ new_calls (turn_of xs) + new_calls (behind_turn xs)
-  all_calls = ap new_calls (sym (parts xs)) ∙ calls_on (turn_of xs) (behind_turn xs)
+  all_calls = ap new_calls (sym (turn_parts xs)) ∙ calls_on (turn_of xs) (behind_turn xs)
 
   -- a turn that is made is one, and what stands behind it is as before
   fine_turn : Fine os xs → (turns_in due i w.looks (turn_of xs) ≡ 1) × Fine os' (behind_turn xs)

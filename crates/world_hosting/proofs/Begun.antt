@@ -8,7 +8,7 @@ use Rattle.wa_model.specs.World as W
 use Rattle.wa_model.specs.World.{Device}
 use Rattle.event_order.specs.declared.shows.Show.{Show}
 use Rattle.many_host.specs.Turns.{Teller, starting}
-use Rattle.many_host.proofs.Places.{item, zipped}
+use Rattle.world_laws.proofs.Places.{item, zipped}
 use Rattle.many_host.specs.ToldNotes.{BeginsWorld, BeginsWorldFrom}
 use Rattle.many_host.specs.Notes.{OnStory}
 use Rattle.many_host.proofs.WorldBegun.{told_begins}

@@ -12,6 +12,8 @@ use Rattle.wa_model.specs.World.{Actor, CallsMeet, Meets, Device, Events, Look, 
 use Rattle.world_laws.specs.Originals.{new_calls}
 use Rattle.world_laws.proofs.Counting.{Ends}
 use Rattle.world_laws.proofs.Meeting.{EachMet, Met, events_met}
+use Rattle.world_laws.proofs.Places.{each_at, each_set}
+use Rattle.run_theory.specs.Growth.{Each}
 use Rattle.world_laws.proofs.StoryParts.{story_ends}
 use Rattle.world_laws.proofs.Faults.{Fine, Inner, OpensIf, story_told}
 use Rattle.event_order.specs.Left.{Counted, left_before}
@@ -118,23 +120,6 @@ no_call programs l met old mid t none =
 
 abbrev Lawful : Actor → Type 0
 Lawful a = Goes a.outcomes a.notes
-
-abbrev EachLawful : List Actor → Type 0
-EachLawful [] = Unit {0}
-EachLawful (a ∷ acts) = Lawful a × EachLawful acts
-
-lawful_at : (acts : List Actor) (i : ℕ) (a : Actor) → EachLawful acts → slice_get acts i ≡ Some a → Lawful a
-lawful_at [] i a h e = absurd cc
-lawful_at (c ∷ acts) zero a h e = subst Lawful (same_actor c a e) h.0
-  where
-    same_actor : (x y : Actor) → Some x ≡ Some y → x ≡ y
-    same_actor x y e = cc
-lawful_at (c ∷ acts) (suc i) a h e = lawful_at acts i a h.1 e
-
-lawful_set : (acts : List Actor) (i : ℕ) (b : Actor) → EachLawful acts → Lawful b → EachLawful (slice_set acts i b)
-lawful_set [] i b h r = tt
-lawful_set (c ∷ acts) zero b h r = (r, h.1)
-lawful_set (c ∷ acts) (suc i) b h r = (h.0, lawful_set acts i b h.1 r)
 
 -- ---- lines of one event
 
@@ -331,14 +316,14 @@ module _ (programs : List Program) (detaches : List Detach) (count : ℕ) (new :
   unfinished zs (inr h) more = h
   unfinished zs (inl h) more = let none : length zs ≡ 0 = ap length h in absurd (omega (arith, none, more))
 
-  events_on : (number : ℕ) (acts last : List Actor) (ds ds' : List Device) (lines : List Line) → Events programs detaches number acts ds lines last ds' → (n : ℕ) → number ≡ suc n → EachLawful acts
+  events_on : (number : ℕ) (acts last : List Actor) (ds ds' : List Device) (lines : List Line) → Events programs detaches number acts ds lines last ds' → (n : ℕ) → number ≡ suc n → Each Lawful acts
       → (begun : ℕ) (was ms ls : List Counted) → Between detaches n begun was ms → Beside was ds ls → TookFrom begun n lines ms → Within n lines → devices_of new ≡ ds' → Counts n n lines ls
   events_on number acts last ds ds' lines no_event n is lawful begun was ms ls b beside took within end =
       let all = no_more begun n ms took in
       all_settled n begun was ms ls ds b beside all.0 all.1 within end
   events_on number acts last ds ds' lines (an_event {actors' = mid} {ds' = es} {lines = first} {more = more} play rest split) n is lawful begun was ms ls b beside took within end =
       let a : Actor = play.a in
-      let here = lawful_at acts play.i a lawful play.next.there in
+      let here = each_at Lawful acts play.i a lawful play.next.there in
       let moved : Actor = record { due = a.due + put_off (turn_of a.notes); notes = behind_turn a.notes; outcomes = play.outcomes; answers = play.answers } in
       let parts : lines ≡ map (line_at a.due play.i) (events_with_looks play.w.looks (turn_of a.notes)) ++ more = split ∙ ap (λ (ks : List Line). ks ++ more) play.made in
       let now : List Counted = left_before (suc n) detaches was in
@@ -350,7 +335,7 @@ module _ (programs : List Program) (detaches : List Detach) (count : ℕ) (new :
       (left_before (suc n) detaches ls) (unfinished a.notes here.1 play.next.unfinished) here.0.0 here.0.1 calls (begins detaches n begun was ms b) (inl (refl, refl)) beside'
       (subst (λ (ks : List Line). TookFrom begun n ks ms) parts took) (subst (λ (ks : List Line). Within n ks) parts within)
       (λ begun' was' ms' ls' b' beside'' goes took' within'.
-      let on : EachLawful mid = subst EachLawful (sym play.after) (lawful_set acts play.i moved lawful goes) in
+      let on : Each Lawful mid = subst (Each Lawful) (sym play.after) (each_set Lawful acts play.i moved lawful goes) in
       events_on (suc number) mid last es ds' more rest (suc n) (ap suc is) on begun' was' ms' ls' b' beside'' took' within' end))
 
 -- ---- worlds
@@ -365,7 +350,7 @@ starts_lawful w a held meets =
     few_calls : (calls all used left : ℕ) → calls ≡ used → all ≡ used + left → calls ≤ all
     few_calls calls all used left e f = omega (arith, e, f)
 
-all_lawful : (programs : List Program) (acts : List Actor) → AllZip StartsHeld programs acts → EachMet acts → EachLawful acts
+all_lawful : (programs : List Program) (acts : List Actor) → AllZip StartsHeld programs acts → EachMet acts → Each Lawful acts
 all_lawful [] [] held meets = tt
 all_lawful (w ∷ ws) (a ∷ acts) held meets = (starts_lawful w a held.0 meets.0, all_lawful ws acts held.1 meets.1)
 all_lawful [] (a ∷ acts) held meets = absurd held

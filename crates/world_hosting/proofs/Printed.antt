@@ -31,7 +31,7 @@ use Rattle.many_host.specs.Turns.{HaveMet, MeetMore, Teller, TellsFrom, behind, 
 use Rattle.many_host.proofs.Counts.{counted_devices}
 use Rattle.many_host.specs.declared.host.Host.{Host}
 use Rattle.many_host.specs.Hosts.{HostNextFrom, HostToldFrom, follows, has_ended, memory_of}
-use Rattle.many_host.proofs.Places.{item}
+use Rattle.world_laws.proofs.Places.{item}
 use Rattle.many_host.proofs.Numbers.{none_since}
 use Rattle.many_host.proofs.Worlds.{told_begins_met_from}
 use Rattle.transcript.specs.declared.events.Names.{Names}

@@ -4,7 +4,7 @@ use Rattle.std.specs.List.{AllZip, cons_option}
 use Rattle.std.proofs.lemmas.Bool.Decides.{nat_tests}
 use Rattle.std.proofs.lemmas.List.{append-nil, length-map, map_more}
 use Rattle.std.proofs.lemmas.List.Elements.{filter_map-append}
-use Rattle.std.proofs.lemmas.Option.{same_Some}
+use Rattle.world_laws.proofs.Places.{of_map, zip_both}
 use Rattle.wa_model.specs.World as W
 use Rattle.wa_model.specs.World.{Look, at_start}
 use Rattle.event_order.specs.declared.shows.Show.{Show}
@@ -87,18 +87,6 @@ own_at ss i s e =
 abbrev programs_of : List Staged → List Program
 programs_of ss = map (λ (s : Staged). s.program) ss
 
-map_at : {X Y : Type 0} (f : X → Y) (i : ℕ) (xs : List X) (y : Y) → slice_get (map f xs) i ≡ Some y → (x : X) × (slice_get xs i ≡ Some x) × (f x ≡ y)
-map_at f i [] y e = cc
-map_at f zero (x ∷ xs) y e = (x, refl, same_Some (f x) y e)
-map_at f (suc i) (x ∷ xs) y e = map_at f i xs y e
-
-zip_at : {X Y : Type 0} (R : X → Y → Type 0) (xs : List X) (ys : List Y) → AllZip R xs ys → (i : ℕ) (x : X) (y : Y) → slice_get xs i ≡ Some x → slice_get ys i ≡ Some y → R x y
-zip_at R [] [] h i x y ex ey = cc
-zip_at R [] (b ∷ ys) h i x y ex ey = absurd h
-zip_at R (a ∷ xs) [] h i x y ex ey = absurd h
-zip_at R (a ∷ xs) (b ∷ ys) h zero x y ex ey = subst (λ z. R z y) (same_Some a x ex) (subst (R a) (same_Some b y ey) h.0)
-zip_at R (a ∷ xs) (b ∷ ys) h (suc i) x y ex ey = zip_at R xs ys h.1 i x y ex ey
-
 same_length : (ps : List Part) (ss : List Staged) → AreStaged ps ss → length ss ≡ length ps
 same_length [] [] h = refl
 same_length [] (s ∷ ss) h = absurd h
@@ -118,9 +106,9 @@ pub are_set_up : (ps : List Part) (ss : List Staged) → AreStaged ps ss → Are
 are_set_up ps ss h = record {
   wide = length-map ss (λ (s : Staged). s.program) ∙ same_length ps ss h ∙ sym (length-map ps world_program);
   each = λ i w x ew ex.
-      let p = map_at world_program i ps w ew in
-      let s = map_at (λ (s : Staged). s.program) i ss x ex in
-      let is = zip_at IsStaged ps ss h i p.0 s.0 p.1 s.1 in
+      let p = of_map world_program ps i w ew in
+      let s = of_map (λ (s : Staged). s.program) ss i x ex in
+      let is = zip_both IsStaged ps ss h i p.0 s.0 p.1 s.1 in
       let looks : map look_at p.0.text.shows ≡ looks_of i (shows_from 0 ss) = ap (map look_at) (sym is.shows) ∙ sym (own_at ss i s.0 s.1) in
       subst (λ (v : W.Program). StartsAs i (shows_from 0 ss) v x) p.2
       (subst (λ (y : Program). StartsAs i (shows_from 0 ss) (world_program p.0) y) s.2 (is.follows, is.answers, looks, refl));

@@ -21,8 +21,8 @@ use Rattle.wa_model.specs.Behaves.{expected_notes}
 use Rattle.wa_model.specs.World.{Actor, BlockingStory, Device, Events, IsOver, Look, Original, Program, an_event, behind_turn, bytes_shown, events_with_looks, line_at, look_events, looks_after, no_event, put_off, spent, turn_of, whole}
 use Rattle.world_laws.specs.Bounded.{ends_astray, is_astray}
 use Rattle.world_laws.proofs.Bounded.{bounded_are_whole}
-use Rattle.world_laws.proofs.LineCalls.{turn_parts}
-use Rattle.many_host.proofs.Places.{set_here, set_there}
+use Rattle.world_laws.proofs.Places.{all_at, set_here, set_there}
+use Rattle.world_laws.proofs.Turns.{turn_parts}
 use Rattle.world_hosting.specs.Endings.{IsBounded, PassesArea, ends_spent, ends_unwound, is_spent, is_unwound, tells_any}
 use Rattle.run_laws.proofs.OwnEnds.{Own, blocking_own, ends_hosts, is_hosts}
 
@@ -75,18 +75,10 @@ module _ (test : Event → Bool) (plain : (at : ℕ) (bytes : Option (List ℕ))
   other_any i j due [] h = refl
   other_any i j due (e ∷ es) h = ap (λ (b : Bool). (b && test e) || tells_any i test (map (line_at due j) es)) h ∙ other_any i j due es h
 
-  over_at : (acts : List Actor) (i : ℕ) (a : Actor) → IsOver acts → slice_get acts i ≡ Some a → a.notes ≡ []
-  over_at [] i a h e = absurd cc
-  over_at (c ∷ acts) zero a h e = ap (λ (b : Actor). b.notes) (sym (same c a e)) ∙ All-head (λ (b : Actor). b.notes ≡ []) c acts h
-    where
-      same : (x y : Actor) → Some x ≡ Some y → x ≡ y
-      same x y e = cc
-  over_at (c ∷ acts) (suc i) a h e = over_at acts i a (All-tail (λ (b : Actor). b.notes ≡ []) c acts h) e
-
   module _ (programs : List Program) (detaches : List Detach) (i : ℕ) where
     pub events_any : (number : ℕ) (acts last : List Actor) (ds ds' : List Device) (lines : List Line) → Events programs detaches number acts ds lines last ds' → IsOver last → (a : Actor)
         → slice_get acts i ≡ Some a → tells_any i test lines ≡ any_note test a.notes
-    events_any number acts last ds ds' lines no_event over a at = sym (ap (any_note test) (over_at acts i a over at))
+    events_any number acts last ds ds' lines no_event over a at = sym (ap (any_note test) (all_at (λ (b : Actor). b.notes ≡ []) acts i a over at))
     events_any number acts last ds ds' lines (an_event {actors' = mid} {ds' = es} {lines = first} {more = more} play rest split) over a at =
         parts ∙ by (nat_eq play.i i) refl (λ b e. events_any (suc number) mid last es ds' more rest over b e)
       where

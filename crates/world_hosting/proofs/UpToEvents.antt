@@ -17,7 +17,7 @@ use Rattle.many_host.specs.declared.turn_taking.Stage.TheVariants.{Between, Show
 use Rattle.many_host.specs.Standing.{LooksOut}
 use Rattle.many_host.specs.Saving.{CanBeSaved, IsSaved}
 use Rattle.many_host.specs.declared.host.Host.{Host}
-use Rattle.many_host.proofs.Places.{item}
+use Rattle.world_laws.proofs.Places.{item}
 use Rattle.script_model.specs.Transcript.{event_lines}
 use Rattle.snapshot_store.specs.Snapshots.{Snapshot}
 use Rattle.world_laws.specs.AloneLines.{Unbound}

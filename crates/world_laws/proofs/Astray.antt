@@ -1,6 +1,6 @@
 -- No rewritten module that runs orderly breaks the protocol.
-use Rattle.std.proofs.Common.{arith, ◌≡◌, ◌≤◌, ◌+◌, ℕ, zero, suc, List, [], ◌∷◌, ◌++◌, length, take, map, Option, Some, None, Bool, true, false, All, refl, sym, ap, ◌∙◌, subst}
-use Rattle.std.specs.Prelude.{nat_lt, if◌then◌else◌, slice_get, slice_set}
+use Rattle.std.proofs.Common.{arith, ◌≡◌, ◌≤◌, ◌+◌, ℕ, suc, List, [], ◌∷◌, ◌++◌, length, take, map, Option, Some, None, Bool, true, false, All, refl, sym, ap, ◌∙◌, subst}
+use Rattle.std.specs.Prelude.{nat_lt, if◌then◌else◌}
 use Rattle.std.specs.List.{AllZip}
 use Rattle.std.proofs.lemmas.List.Elements.{All-nil, All-cons, All-head, All-tail, All-append, All-take, All-weaker}
 use Rattle.wa_types.specs.Syntax.{Module}
@@ -26,7 +26,9 @@ use Rattle.world_laws.proofs.Stories.{stories_of_originals}
 use Rattle.world_laws.proofs.Tails.{story_tailed}
 use Rattle.world_laws.proofs.Worlds.{take_first}
 use Rattle.world_laws.specs.Bounded.{is_astray, ends_astray, NoneAstray}
-use Rattle.world_laws.proofs.LineCalls.{turn_parts}
+use Rattle.world_laws.proofs.Places.{each_at, each_set}
+use Rattle.world_laws.proofs.Turns.{turn_parts}
+use Rattle.run_theory.specs.Growth.{Each}
 
 abbrev Right : Note → Type 0
 Right x = ends_astray x.event ≡ false
@@ -147,37 +149,23 @@ front_right (x ∷ xs) ys h =
     let r = front_right xs ys (All-tail Right x (xs ++ ys) h) in
     (All-cons Right x xs (All-head Right x (xs ++ ys) h) r.0, r.1)
 
-abbrev EachRight : List Actor → Type 0
-EachRight [] = Unit {0}
-EachRight (a ∷ acts) = All Right a.notes × EachRight acts
-
-right_at : (acts : List Actor) (i : ℕ) (a : Actor) → EachRight acts → slice_get acts i ≡ Some a → All Right a.notes
-right_at [] i a h e = cc
-right_at (c ∷ acts) zero a h e = subst (λ (z : Actor). All Right z.notes) (actor_same c a e) h.0
-  where
-    actor_same : (x y : Actor) → Some x ≡ Some y → x ≡ y
-    actor_same x y e = cc
-right_at (c ∷ acts) (suc i) a h e = right_at acts i a h.1 e
-
-right_set : (acts : List Actor) (i : ℕ) (b : Actor) → EachRight acts → All Right b.notes → EachRight (slice_set acts i b)
-right_set [] i b h r = tt
-right_set (c ∷ acts) zero b h r = (r, h.1)
-right_set (c ∷ acts) (suc i) b h r = (h.0, right_set acts i b h.1 r)
+abbrev RightActor : Actor → Type 0
+RightActor a = All Right a.notes
 
 run_right : (ws : List Program) (detaches : List Detach) (number : ℕ) (acts last : List Actor) (ds ds' : List Device) (lines : List Line) → Events ws detaches number acts ds lines last ds'
-    → EachRight acts → All RightLine lines
+    → Each RightActor acts → All RightLine lines
 run_right ws detaches number acts last ds ds' lines no_event h = All-nil RightLine
 run_right ws detaches number acts last ds ds' lines (an_event {actors' = mid} {ds' = es} {lines = first} {more = more} play rest e) h =
-    let here : All Right play.a.notes = right_at acts play.i play.a h play.next.there in
+    let here : All Right play.a.notes = each_at RightActor acts play.i play.a h play.next.there in
     let parts = front_right (turn_of play.a.notes) (behind_turn play.a.notes) (subst (All Right) (sym (turn_parts play.a.notes)) here) in
     let told : All RightLine first = subst (All RightLine) (sym play.made)
     (lines_right play.a.due play.i (events_with_looks play.w.looks (turn_of play.a.notes)) (events_right play.w.looks (turn_of play.a.notes) parts.0)) in
-    let on : EachRight mid = subst EachRight (sym play.after)
-    (right_set acts play.i (record { due = play.a.due + put_off (turn_of play.a.notes); notes = behind_turn play.a.notes; outcomes = play.outcomes; answers = play.answers }) h parts.1) in
+    let on : Each RightActor mid = subst (Each RightActor) (sym play.after)
+    (each_set RightActor acts play.i (record { due = play.a.due + put_off (turn_of play.a.notes); notes = behind_turn play.a.notes; outcomes = play.outcomes; answers = play.answers }) h parts.1) in
     subst (All RightLine) (sym e) (All-append RightLine first more told (run_right ws detaches (suc number) mid last es ds' more rest on))
 
 all_right : (os : List Original) (ws : List Program) (acts : List Actor) → AllZip StandsIn os ws → All MayRun os → AllZip StartsHeld ws acts → EachMet acts
-    → AllZip (λ (o : Original) (a : Actor). Orderly o (met a)) os acts → EachRight acts
+    → AllZip (λ (o : Original) (a : Actor). Orderly o (met a)) os acts → Each RightActor acts
 all_right [] [] [] st may held meets ord = tt
 all_right (o ∷ os) (w ∷ ws) (a ∷ acts) st may held meets ord =
     (actor_right o w a st.0 (All-head MayRun o os may) held.0 meets.0 ord.0, all_right os ws acts st.1 (All-tail MayRun o os may) held.1 meets.1 ord.1)

@@ -3,6 +3,7 @@ use Rattle.std.proofs.Common.{arith, ◌≡◌, ◌≤◌, ◌+◌, ◌⊎◌, i
 use Rattle.std.specs.Prelude.{MatchBool, slice_get}
 use Rattle.std.specs.List.{list_any}
 use Rattle.std.specs.Option.{unwrap_or}
+use Rattle.std.proofs.lemmas.List.{append_cancel_left}
 use Rattle.wa_model.specs.declared.events.End.{End}
 use Rattle.wa_model.specs.declared.events.End.TheVariants.{DeviceFault, NoDevice}
 use Rattle.wa_model.specs.Outside.{Answer, Call, AnswerLine, Event, called, ended}
@@ -22,17 +23,16 @@ use Rattle.world_laws.proofs.Faults.{Opens, Inner, opens_behind, story_fine}
 -- ---- lists
 
 pub front_same : (done xs ys : List Note) (x y : Note) → done ++ x ∷ xs ≡ done ++ y ∷ ys → (x ≡ y) × (xs ≡ ys)
-front_same [] xs ys x y e = (head e, tail e)
+front_same done xs ys x y e = (head behind, tail behind)
   where
+    behind : x ∷ xs ≡ y ∷ ys
+    behind = append_cancel_left done (x ∷ xs) (y ∷ ys) e
+
     head : x ∷ xs ≡ y ∷ ys → x ≡ y
     head e = cc
 
     tail : x ∷ xs ≡ y ∷ ys → xs ≡ ys
     tail e = cc
-front_same (d ∷ done) xs ys x y e = front_same done xs ys x y (rest e)
-  where
-    rest : d ∷ (done ++ x ∷ xs) ≡ d ∷ (done ++ y ∷ ys) → done ++ x ∷ xs ≡ done ++ y ∷ ys
-    rest e = cc
 
 one_more : (done : List Note) (x : Note) (c : Call) (more : List Note) → x.event ≡ called c → new_calls (done ++ x ∷ more) ≡ new_calls done + (1 + new_calls more)
 one_more done x c more e = calls_on done (x ∷ more) ∙ ap (λ (v : Event). new_calls done + (one_if (call_in v) + new_calls more)) e

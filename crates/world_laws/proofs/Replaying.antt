@@ -1,5 +1,5 @@
 -- A world that has been played up to an event, with other notes and outcomes to come.
-use Rattle.std.proofs.Common.{arith, ◌≡◌, ◌+◌, ◌≤◌, ◌<◌, ◌⊎◌, inl, inr, ℕ, zero, suc, List, [], ◌∷◌, ◌++◌, length, map, Option, Some, None, Bool, true, false, refl, sym, ap, ◌∙◌, subst, ⊎_elim, append_assoc, append-nil, length-append}
+use Rattle.std.proofs.Common.{arith, ◌≡◌, ◌+◌, ◌<◌, ℕ, zero, suc, List, [], ◌∷◌, ◌++◌, length, map, Option, Some, None, Bool, true, false, refl, sym, ap, ◌∙◌, subst, append_assoc, length-append}
 use Rattle.std.specs.Prelude.{if◌then◌else◌, slice_get, slice_set}
 use Rattle.std.specs.List.{AllZip}
 use Rattle.wa_model.specs.declared.answers.Detach.{Detach}
@@ -10,8 +10,10 @@ use Rattle.wa_model.specs.World.{Device, detached, Program, ends_turn, turn_of, 
 use Rattle.world_laws.specs.Originals.{one_if, new_calls}
 use Rattle.world_laws.specs.Played.{Played}
 use Rattle.world_laws.proofs.Counting.{calls_on}
-use Rattle.world_laws.proofs.LineCalls.{turn_parts}
-use Rattle.world_laws.proofs.Turns.{Inside, Unended, inside_or_not}
+use Rattle.world_laws.proofs.Turns.{turn_again, turn_parts}
+use Rattle.world_laws.proofs.Nexts.{next_beside}
+use Rattle.world_laws.proofs.Places.{put_back, set_here}
+use Rattle.std.proofs.lemmas.Option.{same_Some}
 
 -- ---- what has been met and made
 
@@ -61,20 +63,38 @@ calls_swap w (x ∷ xs) os lines ds os' lines' ds' h = by_call (λ os lines ds g
         let r = on g.1 g.2 g.3 g.6 in
         (g.0 ∷ r.0, g.4 ∙ ap (λ (xs : List Outcome). g.0 ∷ xs) r.1, omega (arith, r.2), λ t. (g.0, r.0 ++ t, g.2, g.3, refl, g.5, r.3 t))
 
--- ---- turns
+-- those of the first notes, and of those behind
+calls_split : (w : Program) (xs ys : List Note) (os : List Outcome) (lines : List AnswerLine) (ds : List Device) (os' : List Outcome) (lines' : List AnswerLine) (ds' : List Device)
+    → CallsMeet w (xs ++ ys) os lines ds os' lines' ds'
+    → (us : List Outcome) × (ls : List AnswerLine) × (es : List Device) × CallsMeet w xs os lines ds us ls es × CallsMeet w ys us ls es os' lines' ds'
+calls_split w [] ys os lines ds os' lines' ds' h = (os, lines, ds, (refl, refl, refl), h)
+calls_split w (x ∷ xs) ys os lines ds os' lines' ds' h = by (call_in x.event) h (λ o l d g. calls_split w xs ys o l d os' lines' ds' g) where
+  by : (c : Option Call) → NoteMeets w c os lines ds (λ o l d. CallsMeet w (xs ++ ys) o l d os' lines' ds')
+      → ((o : List Outcome) (l : List AnswerLine) (d : List Device) → CallsMeet w (xs ++ ys) o l d os' lines' ds'
+      → (us : List Outcome) × (ls : List AnswerLine) × (es : List Device) × CallsMeet w xs o l d us ls es × CallsMeet w ys us ls es os' lines' ds')
+      → (us : List Outcome) × (ls : List AnswerLine) × (es : List Device) × NoteMeets w c os lines ds (λ o l d. CallsMeet w xs o l d us ls es) × CallsMeet w ys us ls es os' lines' ds'
+  by None m on = on os lines ds m
+  by (Some call) m on = let r = on m.1 m.2 m.3 m.6 in (r.0, r.1, r.2, (m.0, m.1, m.2, m.3, m.4, m.5, r.3), r.4)
 
--- a turn, with other notes behind it where there are some
-pub turn_again : (xs zs : List Note) → (behind_turn xs ≡ [] → zs ≡ []) → (turn_of (turn_of xs ++ zs) ≡ turn_of xs) × (behind_turn (turn_of xs ++ zs) ≡ zs)
-turn_again xs zs h = by_turn (inside_or_not xs)
-  where
-    by_turn : Inside xs ⊎ Unended xs → (turn_of (turn_of xs ++ zs) ≡ turn_of xs) × (behind_turn (turn_of xs ++ zs) ≡ zs)
-    by_turn (inl i) = (i.whole.first zs, i.whole.rest zs)
-    by_turn (inr u) =
-        let all : turn_of xs ≡ xs = ap turn_of (sym (append-nil xs)) ∙ u.first [] ∙ append-nil xs in
-        let none : behind_turn xs ≡ [] = ap behind_turn (sym (append-nil xs)) ∙ u.rest [] in
-        let z : zs ≡ [] = h none in
-        let whole : turn_of xs ++ zs ≡ xs = ap (λ (ys : List Note). turn_of xs ++ ys) z ∙ append-nil (turn_of xs) ∙ all in
-        (ap turn_of whole, ap behind_turn whole ∙ none ∙ sym z)
+-- What the calls of notes take of outcomes, whatever stands behind these.
+pub record Front (w : Program) (xs : List Note) (os : List Outcome) (lines : List AnswerLine) (ds : List Device) : Type 0 where
+  pub first : List Outcome
+  pub more : List Outcome
+  pub answers : List AnswerLine
+  pub devices : List Device
+  pub all : os ≡ first ++ more
+  pub count : length first ≡ new_calls xs
+  pub calls : (t : List Outcome) → CallsMeet w xs (first ++ t) lines ds t answers devices
+
+-- the calls of the first notes
+pub calls_front : (w : Program) (xs ys : List Note) (os : List Outcome) (lines : List AnswerLine) (ds : List Device) (os' : List Outcome) (lines' : List AnswerLine) (ds' : List Device)
+    → CallsMeet w (xs ++ ys) os lines ds os' lines' ds' → Front w xs os lines ds
+calls_front w xs ys os lines ds os' lines' ds' h =
+    let parts = calls_split w xs ys os lines ds os' lines' ds' h in
+    let r = calls_swap w xs os lines ds parts.0 parts.1 parts.2 parts.3 in
+    record { first = r.0; more = parts.0; answers = parts.1; devices = parts.2; all = r.1; count = r.2; calls = r.3 }
+
+-- ---- turns
 
 none_by : (xs : List Note) → (0 < length xs → ⊥) → xs ≡ []
 none_by [] h = refl
@@ -93,26 +113,23 @@ some_turn (x ∷ xs) h = by_end (ends_turn x.event)
 
 -- ---- lists of actors
 
-actor_same : (x y : Actor) → Some x ≡ Some y → x ≡ y
-actor_same x y e = cc
-
 quad_at : (p now q new : List Actor) → Quads p now q new → (i : ℕ) (a : Actor) → slice_get p i ≡ Some a
     → (n : Actor) × (b : Actor) × (t : Actor) × (slice_get now i ≡ Some n) × (slice_get q i ≡ Some b) × (slice_get new i ≡ Some t) × Twice a n b t
 quad_at [] [] [] [] h i a e = cc
-quad_at (c ∷ p) (n ∷ now) (b ∷ q) (t ∷ new) h zero a e = (n, b, t, refl, refl, refl, subst (λ (z : Actor). Twice z n b t) (actor_same c a e) h.0)
+quad_at (c ∷ p) (n ∷ now) (b ∷ q) (t ∷ new) h zero a e = (n, b, t, refl, refl, refl, subst (λ (z : Actor). Twice z n b t) (same_Some c a e) h.0)
 quad_at (c ∷ p) (n ∷ now) (b ∷ q) (t ∷ new) h (suc i) a e = quad_at p now q new h.1 i a e
 quad_at _ _ _ _ h i a e = absurd h
 
 quad_back : (p now q new : List Actor) → Quads p now q new → (i : ℕ) (b : Actor) → slice_get q i ≡ Some b → (a : Actor) × (slice_get p i ≡ Some a) × Swapped a b
 quad_back [] [] [] [] h i b e = cc
-quad_back (a ∷ p) (n ∷ now) (c ∷ q) (t ∷ new) h zero b e = let w = h.0 in (a, refl, subst (Swapped a) (actor_same c b e) w.swapped)
+quad_back (a ∷ p) (n ∷ now) (c ∷ q) (t ∷ new) h zero b e = let w = h.0 in (a, refl, subst (Swapped a) (same_Some c b e) w.swapped)
 quad_back (a ∷ p) (n ∷ now) (c ∷ q) (t ∷ new) h (suc i) b e = quad_back p now q new h.1 i b e
 quad_back _ _ _ _ h i b e = absurd h
 
 pub quad_of : (p now q new : List Actor) → Quads p now q new → (i : ℕ) (b : Actor) → slice_get q i ≡ Some b
     → (a : Actor) × (n : Actor) × (t : Actor) × (slice_get p i ≡ Some a) × (slice_get now i ≡ Some n) × Twice a n b t
 quad_of [] [] [] [] h i b e = cc
-quad_of (a ∷ p) (n ∷ now) (c ∷ q) (t ∷ new) h zero b e = (a, n, t, refl, refl, subst (λ (z : Actor). Twice a n z t) (actor_same c b e) h.0)
+quad_of (a ∷ p) (n ∷ now) (c ∷ q) (t ∷ new) h zero b e = (a, n, t, refl, refl, subst (λ (z : Actor). Twice a n z t) (same_Some c b e) h.0)
 quad_of (a ∷ p) (n ∷ now) (c ∷ q) (t ∷ new) h (suc i) b e = quad_of p now q new h.1 i b e
 quad_of _ _ _ _ h i b e = absurd h
 
@@ -122,8 +139,8 @@ quad_before : (p now q new : List Actor) (i : ℕ) (a a' n b b' t : Actor) → s
     → Twice a n b t → Quads p now (slice_set q i b) new
 quad_before [] now q new i a a' n b b' t ep h en eq et w = cc
 quad_before (c ∷ p) (m ∷ now) (d ∷ q) (u ∷ new) zero a a' n b b' t ep h en eq et w = (
-  subst (λ (z : Actor). Twice z m b u) (sym (actor_same c a ep))
-      (subst (λ (z : Actor). Twice a z b u) (sym (actor_same m n en)) (subst (λ (z : Actor). Twice a n b z) (sym (actor_same u t et)) w)),
+  subst (λ (z : Actor). Twice z m b u) (sym (same_Some c a ep))
+      (subst (λ (z : Actor). Twice a z b u) (sym (same_Some m n en)) (subst (λ (z : Actor). Twice a n b z) (sym (same_Some u t et)) w)),
   h.1,
 )
 quad_before (c ∷ p) (m ∷ now) (d ∷ q) (u ∷ new) (suc i) a a' n b b' t ep h en eq et w = (h.0, quad_before p now q new i a a' n b b' t ep h.1 en eq et w)
@@ -134,25 +151,9 @@ quad_before (c ∷ p) (m ∷ now) [] new (suc i) a a' n b b' t ep h en eq et w =
 quad_before (c ∷ p) (m ∷ now) (d ∷ q) [] zero a a' n b b' t ep h en eq et w = absurd h
 quad_before (c ∷ p) (m ∷ now) (d ∷ q) [] (suc i) a a' n b b' t ep h en eq et w = absurd h
 
-set_there : (p : List Actor) (i : ℕ) (a b : Actor) → slice_get p i ≡ Some a → slice_get (slice_set p i b) i ≡ Some b
-set_there [] i a b e = cc
-set_there (c ∷ p) zero a b e = refl
-set_there (c ∷ p) (suc i) a b e = set_there p i a b e
-
-put_back : (p : List Actor) (i : ℕ) (a b : Actor) → slice_get p i ≡ Some b → p ≡ slice_set (slice_set p i a) i b
-put_back [] i a b e = refl
-put_back (c ∷ p) zero a b e = ap (λ (z : Actor). z ∷ p) (actor_same c b e)
-put_back (c ∷ p) (suc i) a b e = ap (λ (zs : List Actor). c ∷ zs) (put_back p i a b e)
-
 next_swapped : (p now q new : List Actor) (i : ℕ) (a b : Actor) → Quads p now q new → slice_get q i ≡ Some b → Swapped a b → IsNext p i a → IsNext q i b
-next_swapped p now q new i a b h there s n = record { there = there; unfinished = s.on n.unfinished; least = least }
-  where
-    least : (j : ℕ) (c : Actor) → slice_get q j ≡ Some c → HasNotes c → (b.due < c.due) ⊎ ((b.due ≡ c.due) × (i ≤ j))
-    least j c e has =
-        let r = quad_back p now q new h j c e in
-        let sd : b.due ≡ a.due = s.due in
-        let rd : c.due ≡ r.0.due = r.2.due in
-        ⊎_elim (λ lt. inl (omega (arith, lt, sd, rd))) (λ same. inr (sd ∙ same.0 ∙ sym rd, same.1)) (n.least j r.0 r.1 (r.2.back has))
+next_swapped p now q new i a b h there s n =
+    next_beside p q i a b there s.due (s.on n.unfinished) (λ j c e has. let r = quad_back p now q new h j c e in (r.0, r.1, sym r.2.due, r.2.back has)) n
 
 -- ---- events
 
@@ -174,7 +175,7 @@ module _ (ws : List Program) (detaches : List Detach) where
       let a : Actor = h.a in
       let a' : Actor = record { due = a.due + put_off (turn_of a.notes); notes = behind_turn a.notes; outcomes = h.outcomes; answers = h.answers } in
       let quads : Quads (slice_set p h.i a') now on.0 new = subst (λ (zs : List Actor). Quads zs now on.0 new) h.after on.2 in
-      let found = quad_at (slice_set p h.i a') now on.0 new quads h.i a' (set_there p h.i a a' h.next.there) in
+      let found = quad_at (slice_set p h.i a') now on.0 new quads h.i a' (set_here p h.i a' a h.next.there) in
       let n : Actor = found.0 in
       let b' : Actor = found.1 in
       let t : Actor = found.2 in
@@ -214,7 +215,7 @@ module _ (ws : List Program) (detaches : List Detach) where
         i = h.i;
         a = b;
         w = h.w;
-        next = next_swapped p now q new h.i a b before (set_there on.0 h.i b' b found.4) sw h.next;
+        next = next_swapped p now q new h.i a b before (set_here on.0 h.i b b' found.4) sw h.next;
         program = h.program;
         outcomes = b'.outcomes;
         answers = h.answers;

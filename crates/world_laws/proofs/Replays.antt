@@ -1,9 +1,8 @@
 -- Two runs of a world that end with the same journals and tell faults at the same places are one.
-use Rattle.std.proofs.Common.{All, false, arith, ◌≡◌, ◌≤◌, ◌<◌, ◌+◌, ◌⊎◌, inl, inr, ℕ, zero, suc, List, [], ◌∷◌, ◌++◌, length, map, Some, None, refl, sym, ap, ◌∙◌, subst, length-append}
+use Rattle.std.proofs.Common.{All, false, arith, ◌≡◌, ◌≤◌, ◌+◌, ℕ, zero, suc, List, [], ◌∷◌, ◌++◌, length, map, Some, None, refl, sym, ap, ◌∙◌, subst, length-append}
 use Rattle.std.specs.Prelude.{slice_get, slice_set}
 use Rattle.std.specs.List.{AllZip}
 use Rattle.std.specs.Option.{unwrap_or}
-use Rattle.std.proofs.lemmas.List.Elements.{All-cons, All-head, All-tail}
 use Rattle.wa_model.specs.declared.answers.Detach.{Detach}
 use Rattle.wa_model.specs.Outside.{AnswerLine, Event, Line}
 use Rattle.wa_model.specs.Plan.{Outcome}
@@ -12,7 +11,10 @@ use Rattle.wa_model.specs.World.{Device, detached, Program, turn_of, behind_turn
 use Rattle.world_laws.specs.Originals.{new_calls}
 use Rattle.world_laws.proofs.Shows.{turn_calls}
 use Rattle.world_laws.proofs.Meeting.{Met, EachMet, events_met, calls_take}
-use Rattle.world_laws.proofs.GoingOn.{none_to_come, some_to_come}
+use Rattle.world_laws.proofs.GoingOn.{some_to_come}
+use Rattle.world_laws.proofs.Nexts.{IsDueAt, none_due, one_next}
+use Rattle.world_laws.proofs.Places.{all_at}
+use Rattle.std.proofs.lemmas.Option.{same_Some}
 use Rattle.wa_types.specs.Validity.{same_name}
 use Rattle.world_laws.specs.AloneLines.{Unbound}
 use Rattle.world_laws.specs.Replays.{Lasting, SameFaults, JournalsFixLines, UnboundFixLines}
@@ -44,68 +46,35 @@ on_has w a b t h = some_to_come w t.pre a.outcomes b.outcomes t.done a.notes b.n
 back_has : (w : Program) (a b : Actor) → Parallel w a b → HasNotes b → HasNotes a
 back_has w a b t h = some_to_come w t.pre b.outcomes a.outcomes t.done b.notes a.notes t.count t.second t.first h
 
-actor_same : (x y : Actor) → Some x ≡ Some y → x ≡ y
-actor_same x y e = cc
-
-program_same : (x y : Program) → Some x ≡ Some y → x ≡ y
-program_same x y e = cc
-
 trio_at : (ws : List Program) (p q : List Actor) → Trios ws p q → (i : ℕ) (a : Actor) → slice_get p i ≡ Some a
     → (w : Program) × (b : Actor) × (slice_get ws i ≡ Some w) × (slice_get q i ≡ Some b) × Parallel w a b
 trio_at [] [] [] h i a e = cc
-trio_at (w ∷ ws) (c ∷ p) (d ∷ q) h zero a e = (w, d, refl, refl, subst (λ (z : Actor). Parallel w z d) (actor_same c a e) h.0)
+trio_at (w ∷ ws) (c ∷ p) (d ∷ q) h zero a e = (w, d, refl, refl, subst (λ (z : Actor). Parallel w z d) (same_Some c a e) h.0)
 trio_at (w ∷ ws) (c ∷ p) (d ∷ q) h (suc i) a e = trio_at ws p q h.1 i a e
 trio_at _ _ _ h i a e = absurd h
 
 trio_back : (ws : List Program) (p q : List Actor) → Trios ws p q → (i : ℕ) (b : Actor) → slice_get q i ≡ Some b → (w : Program) × (a : Actor) × (slice_get p i ≡ Some a) × Parallel w a b
 trio_back [] [] [] h i b e = cc
-trio_back (w ∷ ws) (c ∷ p) (d ∷ q) h zero b e = (w, c, refl, subst (λ (z : Actor). Parallel w c z) (actor_same d b e) h.0)
+trio_back (w ∷ ws) (c ∷ p) (d ∷ q) h zero b e = (w, c, refl, subst (λ (z : Actor). Parallel w c z) (same_Some d b e) h.0)
 trio_back (w ∷ ws) (c ∷ p) (d ∷ q) h (suc i) b e = trio_back ws p q h.1 i b e
 trio_back _ _ _ h i b e = absurd h
 
 trio_set : (ws : List Program) (p q : List Actor) → Trios ws p q → (i : ℕ) (w : Program) (a b : Actor) → slice_get ws i ≡ Some w → Parallel w a b → Trios ws (slice_set p i a) (slice_set q i b)
 trio_set [] [] [] h i w a b e t = tt
-trio_set (v ∷ ws) (c ∷ p) (d ∷ q) h zero w a b e t = (subst (λ (z : Program). Parallel z a b) (sym (program_same v w e)) t, h.1)
+trio_set (v ∷ ws) (c ∷ p) (d ∷ q) h zero w a b e t = (subst (λ (z : Program). Parallel z a b) (sym (same_Some v w e)) t, h.1)
 trio_set (v ∷ ws) (c ∷ p) (d ∷ q) h (suc i) w a b e t = (h.0, trio_set ws p q h.1 i w a b e t)
 trio_set _ _ _ h i w a b e t = absurd h
 
+left_has : (ws : List Program) (p q : List Actor) → Trios ws p q → (i : ℕ) (b : Actor) → slice_get q i ≡ Some b → HasNotes b → IsDueAt p i b.due
+left_has ws p q tw i b e has = let x = trio_back ws p q tw i b e in (x.1, x.2, x.3.due, back_has x.0 x.1 b x.3 has)
+
+right_has : (ws : List Program) (p q : List Actor) → Trios ws p q → (i : ℕ) (a : Actor) → slice_get p i ≡ Some a → HasNotes a → IsDueAt q i a.due
+right_has ws p q tw i a e has = let y = trio_at ws p q tw i a e in (y.1, y.3, sym y.4.due, on_has y.0 a y.1 y.4 has)
+
 next_one : (ws : List Program) (p q : List Actor) → Trios ws p q → (i j : ℕ) (a b : Actor) → IsNext p i a → IsNext q j b → i ≡ j
-next_one ws p q tw i j a b n k =
-    let x = trio_back ws p q tw j b k.there in
-    let y = trio_at ws p q tw i a n.there in
-    by_cases x.1.due y.1.due (n.least j x.1 x.2 (back_has x.0 x.1 b x.3 k.unfinished)) (k.least i y.1 y.3 (on_has y.0 a y.1 y.4 n.unfinished)) x.3.due y.4.due
-  where
-    by_cases : (xd yd : ℕ) → (a.due < xd) ⊎ ((a.due ≡ xd) × (i ≤ j)) → (b.due < yd) ⊎ ((b.due ≡ yd) × (j ≤ i)) → xd ≡ b.due → a.due ≡ yd → i ≡ j
-    by_cases xd yd (inl l) (inl m) e f = let no_way : ⊥ = omega arith in absurd no_way
-    by_cases xd yd (inl l) (inr m) e f = let z = m.0 in let no_way : ⊥ = omega arith in absurd no_way
-    by_cases xd yd (inr l) (inl m) e f = let z = l.0 in let no_way : ⊥ = omega arith in absurd no_way
-    by_cases xd yd (inr l) (inr m) e f = let u = l.1 in let v = m.1 in omega arith
+next_one ws p q tw i j a b n k = one_next p q i j a b n k (left_has ws p q tw j b k.there k.unfinished) (right_has ws p q tw i a n.there n.unfinished)
 
--- ---- ends
-
-over_none : (p : List Actor) → IsOver p → (i : ℕ) (a : Actor) → slice_get p i ≡ Some a → HasNotes a → ⊥
-over_none [] o i a e has = cc
-over_none (c ∷ p) o zero a e has =
-    let done : c.notes ≡ [] = All-head (λ (a : Actor). a.notes ≡ []) c p o in
-    let len : length a.notes ≡ 0 = ap (λ (z : Actor). length z.notes) (sym (actor_same c a e)) ∙ ap length done in
-    omega (arith, len, has)
-over_none (c ∷ p) o (suc i) a e has = over_none p (All-tail (λ (a : Actor). a.notes ≡ []) c p o) i a e has
-
-trios_over : (ws : List Program) (p q : List Actor) → Trios ws p q → IsOver p → IsOver q
-trios_over [] [] [] h o = o
-trios_over (w ∷ ws) (c ∷ p) (d ∷ q) h o =
-    let t = h.0 in
-    All-cons (λ (a : Actor). a.notes ≡ []) d q (none_to_come w t.pre c.outcomes d.outcomes t.done c.notes d.notes t.count t.first t.second (All-head (λ (a : Actor). a.notes ≡ []) c p o))
-    (trios_over ws p q h.1 (All-tail (λ (a : Actor). a.notes ≡ []) c p o))
-trios_over _ _ _ h o = absurd h
-
-trios_over_back : (ws : List Program) (p q : List Actor) → Trios ws p q → IsOver q → IsOver p
-trios_over_back [] [] [] h o = o
-trios_over_back (w ∷ ws) (c ∷ p) (d ∷ q) h o =
-    let t = h.0 in
-    All-cons (λ (a : Actor). a.notes ≡ []) c p (none_to_come w t.pre d.outcomes c.outcomes t.done d.notes c.notes t.count t.second t.first (All-head (λ (a : Actor). a.notes ≡ []) d q o))
-    (trios_over_back ws p q h.1 (All-tail (λ (a : Actor). a.notes ≡ []) d q o))
-trios_over_back _ _ _ h o = absurd h
+-- ---- events
 
 faults_behind : (ls xs ys : List Line) → SameFaults (ls ++ xs) (ls ++ ys) → SameFaults xs ys
 faults_behind [] xs ys h = h
@@ -136,10 +105,10 @@ module _ (ws : List Program) (detaches : List Detach) (ds' : List Device) (lasti
       let w : Program = h.w in
       let a : Actor = h.a in
       let y = trio_at ws p q tw h.i a h.next.there in
-      let w_y : y.0 ≡ w = program_same y.0 w (sym y.2 ∙ h.program) in
-      let w_g : g.w ≡ w = program_same g.w w (sym g.program ∙ ap (slice_get ws) (sym same_i) ∙ h.program) in
+      let w_y : y.0 ≡ w = same_Some y.0 w (sym y.2 ∙ h.program) in
+      let w_g : g.w ≡ w = same_Some g.w w (sym g.program ∙ ap (slice_get ws) (sym same_i) ∙ h.program) in
       let b : Actor = y.1 in
-      let b_g : g.a ≡ b = actor_same g.a b (sym g.next.there ∙ ap (slice_get q) (sym same_i) ∙ y.3) in
+      let b_g : g.a ≡ b = same_Some g.a b (sym g.next.there ∙ ap (slice_get q) (sym same_i) ∙ y.3) in
       let t : Parallel w a b = subst (λ (z : Program). Parallel z a b) w_y y.4 in
       let es : List Device = detached number detaches ds in
       let c2 : CallsMeet w (turn_of b.notes) b.outcomes a.answers es g.outcomes g.answers d2 =
@@ -191,9 +160,9 @@ module _ (ws : List Program) (detaches : List Detach) (ds' : List Device) (lasti
       → (lines1 ≡ lines2) × (e1 ≡ e2)
   events_same number p q last last' ds d e1 e2 lines1 lines2 tw same z no_event o no_event o' f = (refl, same)
   events_same number p q last last' ds d e1 e2 lines1 lines2 tw same z no_event o (an_event {actors' = q1} {ds' = x} {lines = l} play rest e) o' f =
-      absurd (over_none q (trios_over ws p q tw o) play.i play.a play.next.there play.next.unfinished)
+      absurd (none_due p o play.i play.a.due (left_has ws p q tw play.i play.a play.next.there play.next.unfinished))
   events_same number p q last last' ds d e1 e2 lines1 lines2 tw same z (an_event {actors' = p1} {ds' = x} {lines = l} play rest e) o no_event o' f =
-      absurd (over_none p (trios_over_back ws p q tw o') play.i play.a play.next.there play.next.unfinished)
+      absurd (none_due q o' play.i play.a.due (right_has ws p q tw play.i play.a play.next.there play.next.unfinished))
   events_same number p q last last' ds d e1 e2 lines1 lines2 tw same z
       (an_event {actors' = p1} {ds' = x1} {lines = f1} {more = m1} play1 rest1 s1) o (an_event {actors' = q1} {ds' = x2} {lines = f2} {more = m2} play2 rest2 s2) o' f =
       let play2' : Plays ws detaches number q ds f2 q1 x2 = subst (λ (z : List Device). Plays ws detaches number q z f2 q1 x2) (sym same) play2 in
@@ -253,14 +222,9 @@ pub journals_fix_lines : JournalsFixLines
 journals_fix_lines begun ws detaches ds ds' lines1 lines2 lasting one other faults =
     (both_same begun ws detaches ds ds' ds' ds' lines1 lines2 lasting one other (λ i import w name there bound. (refl, refl)) (λ i import w name there bound. faults)).0
 
-unbound_at : (ws : List Program) → All Unbound ws → (i : ℕ) (w : Program) → slice_get ws i ≡ Some w → Unbound w
-unbound_at [] h i w e = cc
-unbound_at (v ∷ ws) h zero w e = subst Unbound (program_same v w e) (All-head Unbound v ws h)
-unbound_at (v ∷ ws) h (suc i) w e = unbound_at ws (All-tail Unbound v ws h) i w e
-
 none_bound : (ws : List Program) (T : Type 0) → All Unbound ws → IfBound ws T
 none_bound ws T h i import w name there bound =
-    let none = unbound_at ws h i w there import in
+    let none = all_at Unbound ws i w h there import in
     absurd (apart none bound)
   where
     apart : unwrap_or (slice_get w.binds import) None ≡ None → unwrap_or (slice_get w.binds import) None ≡ Some name → ⊥

@@ -1,34 +1,27 @@
 -- A world that is played up to an event, and one that goes on from its snapshot, are one world.
-use Rattle.std.proofs.Common.{arith, ◌≡◌, ◌+◌, ◌-◌, ◌<◌, ◌≤◌, ◌⊎◌, inl, inr, ℕ, zero, suc, List, [], ◌∷◌, ◌++◌, length, drop, Option, Some, None, All, refl, sym, ap, ◌∙◌, subst, ⊎_elim, append_assoc, append-nil}
+use Rattle.std.proofs.Common.{arith, ◌≡◌, ◌+◌, ◌-◌, ◌⊎◌, inl, inr, ℕ, zero, suc, List, [], ◌∷◌, ◌++◌, length, Option, Some, None, refl, sym, ap, ◌∙◌, subst, append_assoc, append-nil}
 use Rattle.std.specs.Prelude.{slice_get, slice_set}
 use Rattle.std.specs.List.{AllZip}
 use Rattle.std.proofs.lemmas.List.Elements.{All-cons, All-head, All-tail}
 use Rattle.wa_model.specs.declared.answers.Detach.{Detach}
-use Rattle.wa_model.specs.Machine.{Ran, Turn, after, still, run, Leads}
+use Rattle.wa_model.specs.Machine.{Ran, Turn, after, run}
 use Rattle.wa_model.specs.Outside.{AnswerLine, Call, Line}
 use Rattle.wa_model.specs.Plan.{Outcome}
 use Rattle.wa_model.specs.Blocking.{Note, no_store}
 use Rattle.wa_model.specs.Protocol.{Held, exports_of, held_continued, protocol, Protocol}
-use Rattle.wa_model.specs.World.{Actor, CallsMeet, Device, Events, Halt, HasNotes, IsNext, IsOver, NoteMeets, Origin, Plays, Program, ProtocolWorldFrom, Starts, StartsHeld, an_event, answers_from, at_pause, at_start, behind_turn, call_in, detached, due_from, gone, halted, no_event, protocol_story, put_off, story_from, told_by, turn_lines, turn_of, unless_over}
+use Rattle.wa_model.specs.World.{Actor, CallsMeet, Device, Events, HasNotes, IsOver, NoteMeets, Origin, Plays, Program, Starts, StartsHeld, an_event, at_pause, at_start, behind_turn, call_in, detached, gone, halted, no_event, protocol_story, put_off, story_from, told_by, turn_lines, turn_of, unless_over}
 use Rattle.run_theory.proofs.Runs.{leads_run}
-use Rattle.snapshot_store.specs.Snapshots.{PausedParts, ProgramRecord, Snapshot, fresh, over, paused}
-use Rattle.world_laws.specs.Played.{Played, ProtocolWorldUpToFrom}
-use Rattle.world_laws.specs.Snapshots.{AreJoined, ComesTo, From, IsFresh, IsJoined, IsPaused, IsRecordOf, IsSnapshotOf, JoinedLinesAreOne, RecordsGoOn, StandsSo, WorldsJoin, begun_from, from_record, from_records, halt_at, used_from}
+use Rattle.snapshot_store.specs.Snapshots.{PausedParts, ProgramRecord, fresh, over, paused}
+use Rattle.world_laws.specs.Snapshots.{AreJoined, IsJoined, IsPaused, IsRecordOf, JoinedLinesAreOne, RecordsGoOn, StandsSo, WorldsJoin, begun_from, from_record, from_records, halt_at, used_from}
 use Rattle.world_laws.specs.Originals.{new_calls}
 use Rattle.world_laws.proofs.Counting.{over_still}
-use Rattle.world_laws.proofs.GoingOn.{front_same, some_to_come, then_events, whole_alone, whole_any}
-use Rattle.world_laws.proofs.Replaying.{Quads, Since, Swapped, Twice, played_again, played_since, quad_of}
+use Rattle.world_laws.proofs.GoingOn.{some_to_come, then_events, whole_alone, whole_any}
+use Rattle.world_laws.proofs.Replaying.{Quads, Since, Swapped, Twice, played_again, played_since}
 use Rattle.world_laws.proofs.Replays.{unbound_fix_lines}
+use Rattle.std.proofs.lemmas.List.{append_cancel_left, append_cancel_right}
+use Rattle.std.proofs.lemmas.Option.{same_Some}
 
 -- ---- one program
-
--- lists with one beginning have one rest
-behind_same : (xs ys zs : List Note) → xs ++ ys ≡ xs ++ zs → ys ≡ zs
-behind_same [] ys zs e = e
-behind_same (x ∷ xs) ys zs e = behind_same xs ys zs (rest e)
-  where
-    rest : x ∷ (xs ++ ys) ≡ x ∷ (xs ++ zs) → xs ++ ys ≡ xs ++ zs
-    rest e = cc
 
 -- a story is that of a run, by where the program begins
 story_runs : (w : Program) (os : List Outcome) (o : Origin) → story_from w os o ≡ told_by w.steps (held_continued w.source w.plan (w.steps - used_from o) (begun_from w os o))
@@ -87,7 +80,7 @@ records_go_on w was now r held h = (by r h.stands, stands_there w was now r h.ma
         from ∙ ap (λ (os : List Outcome). protocol_story w (os ++ now.outcomes)) s.none_met ∙ ap (story_from w now.outcomes) s.start in
         ap (λ (es : List Note). es ++ now.notes) (sym s.none_made) ∙ sym h.notes ∙ on
     by (paused due x memory) s =
-        behind_same h.made now.notes (protocol_story (from_record w (paused due x memory)) now.outcomes)
+        append_cancel_left h.made now.notes (protocol_story (from_record w (paused due x memory)) now.outcomes)
         (sym h.notes ∙ from ∙ paused_story w h.made h.met now due x memory s now.outcomes)
     by over s = s
 
@@ -105,15 +98,12 @@ calls_from w r (x ∷ xs) os lines ds os' lines' ds' h = by_call (λ os lines ds
     by_call on None g = on os lines ds g
     by_call on (Some c) g = (g.0, g.1, g.2, g.3, g.4, g.5, on g.1 g.2 g.3 g.6)
 
-same_of : {X : Type 0} (x y : X) → Some x ≡ Some y → x ≡ y
-same_of x y e = cc
-
 -- the program of which one goes on
 recorded : (ws : List Program) (rs : List ProgramRecord) (i : ℕ) (v : Program) → slice_get (from_records ws rs) i ≡ Some v
     → (w : Program) × (r : ProgramRecord) × (slice_get ws i ≡ Some w) × (v ≡ from_record w r)
 recorded [] rs i v e = cc
 recorded (w ∷ ws) [] i v e = cc
-recorded (w ∷ ws) (r ∷ rs) zero v e = (w, r, refl, sym (same_of (from_record w r) v e))
+recorded (w ∷ ws) (r ∷ rs) zero v e = (w, r, refl, sym (same_Some (from_record w r) v e))
 recorded (w ∷ ws) (r ∷ rs) (suc i) v e = recorded ws rs i v e
 
 -- ---- actors that are over
@@ -130,7 +120,7 @@ stays_at [] [] h i a e has = cc
 stays_at (c ∷ p) (d ∷ q) h zero a e has = by h.0
   where
     same : c ≡ a
-    same = same_of c a e
+    same = same_Some c a e
 
     by : Stays c d → Some d ≡ Some a
     by (inl s) = ap Some (s ∙ same)
@@ -144,7 +134,7 @@ stays_back [] [] h i b e has = cc
 stays_back (c ∷ p) (d ∷ q) h zero b e has = by h.0
   where
     same : d ≡ b
-    same = same_of d b e
+    same = same_Some d b e
 
     by : Stays c d → Some c ≡ Some b
     by (inl s) = ap Some (sym s ∙ same)
@@ -240,8 +230,8 @@ fitted_due w over made met now next h s = (refl, refl)
 -- the record, with what the actor has made and met since
 pub again_so : (w : Program) (was now : Actor) (r : ProgramRecord) → IsRecordOf w was now r → (s : Since was now) → StandsSo w s.made s.used now r
 again_so w was now r h s =
-    let made : h.made ≡ s.made = front_same h.made s.made now.notes (sym h.notes ∙ s.notes) in
-    let met : h.met ≡ s.used = front_same h.met s.used now.outcomes (sym h.outcomes ∙ s.outcomes) in
+    let made : h.made ≡ s.made = append_cancel_right h.made s.made now.notes (sym h.notes ∙ s.notes) in
+    let met : h.met ≡ s.used = append_cancel_right h.met s.used now.outcomes (sym h.outcomes ∙ s.outcomes) in
     subst (λ (es : List Note). StandsSo w es s.used now r) made (subst (λ (os : List Outcome). StandsSo w h.made os now r) met h.stands)
 
 -- what it tells, whatever its calls meet from here on
@@ -347,9 +337,9 @@ all_joined [] [] [] [] [] [] h q i a b c d ea eb ec ed = cc
 all_joined [] [] [] [] [] (z ∷ all) h q i a b c d ea eb ec ed = absurd q
 all_joined (w ∷ ws) (a ∷ was) (b ∷ now) (r ∷ rs) (c ∷ next) [] h q i a' b' c' d' ea eb ec ed = absurd q
 all_joined (w ∷ ws) (a ∷ was) (b ∷ now) (r ∷ rs) (c ∷ next) (d ∷ all) h q zero a' b' c' d' ea eb ec ed =
-    subst (λ (z : Actor). IsJoined z b' c' d') (same_of a a' ea)
-    (subst (λ (z : Actor). IsJoined a z c' d') (same_of b b' eb)
-    (subst (λ (z : Actor). IsJoined a b z d') (same_of c c' ec) (subst (λ (z : Actor). IsJoined a b c z) (same_of d d' ed) (joined_so w a b c d r h.0.2 q.0))))
+    subst (λ (z : Actor). IsJoined z b' c' d') (same_Some a a' ea)
+    (subst (λ (z : Actor). IsJoined a z c' d') (same_Some b b' eb)
+    (subst (λ (z : Actor). IsJoined a b z d') (same_Some c c' ec) (subst (λ (z : Actor). IsJoined a b c z) (same_Some d d' ed) (joined_so w a b c d r h.0.2 q.0))))
 all_joined (w ∷ ws) (a ∷ was) (b ∷ now) (r ∷ rs) (c ∷ next) (d ∷ all) h q (suc i) a' b' c' d' ea eb ec ed = all_joined ws was now rs next all h.1 q.1 i a' b' c' d' ea eb ec ed
 all_joined _ _ _ _ _ _ h q i a b c d ea eb ec ed = absurd h
 

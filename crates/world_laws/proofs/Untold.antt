@@ -1,5 +1,5 @@
 -- Stories and worlds of rewritten modules whose plans tell no list are those of their originals.
-use Rattle.std.proofs.Common.{◌≡◌, ◌≤◌, ◌∙◌, ℕ, List, length, Bool, ap, sym, subst, arith, refl}
+use Rattle.std.proofs.Common.{◌≡◌, ◌≤◌, ◌∙◌, ℕ, List, length, Bool, ap, sym, subst, arith}
 use Rattle.std.specs.List.{AllZip}
 use Rattle.wa_types.specs.Runtime.{global_space}
 use Rattle.wa_model.specs.Blocking.{Note}
