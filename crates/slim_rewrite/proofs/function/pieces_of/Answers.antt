@@ -23,7 +23,7 @@ returns c =
     let b = c.write_sequence.new.at in
     let w = c.in-Some.written.value in
     let ps = c.args.numbers.now in
-    subst (λ (v : Written). AreSlim ps c.args.low c.args.slots (flat_func_of c.args.func.now) v.pieces) (sym c.into_inner.ensures)
+    are_slim (subst (λ (v : Written). AreSlim ps c.args.low c.args.slots (flat_func_of c.args.func.now) v.pieces) (sym c.into_inner.ensures)
     (function_slim c.args.low c.args.slots a refl (sym c.in_ok-vec.field-0.ok.0 ∙ c.in_ok-vec.ensures.len) c.new.ensures.items refl refl ps (flat_func_of c.args.func.now) b w
     (subst (λ xs. IsWritten ps a 0 (stmts xs) b w) c.deref.ensures.value (subst (λ o. WrittenTold ps a 0 (stmts c.deref.result.now) b (unboxed o)) c.in-Some.is c.in_ok-written.ensures))))
 

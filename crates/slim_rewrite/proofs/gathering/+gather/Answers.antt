@@ -110,24 +110,24 @@ gather_stmt-returns-in-Call t c = on_ok c.gather_call.result _ _
     (λ k. call_is c.args.stmt.now c.in-Call.op c.in-Call.stack c.in-Call.args c.in-Call.to c.in-Call.is k
     ∙ ap (λ ys. calls (in_front c.in-Call.op done) ys c.in-Call.args c.in-Call.to k) (sym c.deref.ensures.value)) put) c.gather_call.ensures
 
-pub gather_stmt-returns-in-Block : goal.gather_stmt-returns-in-Block
-gather_stmt-returns-in-Block t c = on_ok c.put_block_apart.result _ _
+pub gather_stmt-returns-in_ok-inner-in-Block : goal.gather_stmt-returns-in_ok-inner-in-Block
+gather_stmt-returns-in_ok-inner-in-Block t c = on_ok c.put_block_apart.result _ _
     (λ put. gathered_as c.args.numbers.now c.args.at.now c.put_block_apart.new.at c.args.all.now c.put_block_apart.new.all (nests a_block (stmts c.deref-in-Block.result.now))
     (stmt_in_front c.args.stmt.now)
     (λ k. block_is c.args.stmt.now c.in-Block.body c.in-Block.is k ∙ ap (λ ys. nests a_block (stmts ys) k) (sym c.deref-in-Block.ensures.value))
     (nest_gathered c.args.numbers.now c.args.at.now c.gather_sequence.new.at c.put_block_apart.new.at c.args.all.now c.put_block_apart.new.all a_block (stmts c.deref-in-Block.result.now)
     c.in_ok-inner-in-Block.inner.value c.in_ok-inner-in-Block.ensures put)) c.put_block_apart.ensures
 
-pub gather_stmt-returns-in-Loop : goal.gather_stmt-returns-in-Loop
-gather_stmt-returns-in-Loop t c = on_ok c.put_loop_apart.result _ _
+pub gather_stmt-returns-in_ok-inner-in-Loop : goal.gather_stmt-returns-in_ok-inner-in-Loop
+gather_stmt-returns-in_ok-inner-in-Loop t c = on_ok c.put_loop_apart.result _ _
     (λ put. gathered_as c.args.numbers.now c.args.at.now c.put_loop_apart.new.at c.args.all.now c.put_loop_apart.new.all (nests a_loop (stmts c.deref-in-Loop.result.now))
     (stmt_in_front c.args.stmt.now)
     (λ k. loop_is c.args.stmt.now c.in-Loop.body c.in-Loop.is k ∙ ap (λ ys. nests a_loop (stmts ys) k) (sym c.deref-in-Loop.ensures.value))
     (nest_gathered c.args.numbers.now c.args.at.now c.gather_sequence-in-Loop.new.at c.put_loop_apart.new.at c.args.all.now c.put_loop_apart.new.all a_loop (stmts c.deref-in-Loop.result.now)
     c.in_ok-inner-in-Loop.inner.value c.in_ok-inner-in-Loop.ensures put)) c.put_loop_apart.ensures
 
-pub gather_stmt-returns-in-If : goal.gather_stmt-returns-in-If
-gather_stmt-returns-in-If t c = on_ok c.put_if_apart.result _ _
+pub gather_stmt-returns-in_ok-second-in-If : goal.gather_stmt-returns-in_ok-second-in-If
+gather_stmt-returns-in_ok-second-in-If t c = on_ok c.put_if_apart.result _ _
     (λ put. gathered_as c.args.numbers.now c.args.at.now c.put_if_apart.new.at c.args.all.now c.put_if_apart.new.all
     (decides c.in-If.cond (stmts c.deref-in-If.result.now) (stmts c.deref-in-If-3.result.now)) (stmt_in_front c.args.stmt.now)
     (λ k. if_is c.args.stmt.now c.in-If.cond c.in-If.then_arm c.in-If.else_arm c.in-If.is k
