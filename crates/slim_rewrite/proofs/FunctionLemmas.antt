@@ -8,7 +8,7 @@ use Rattle.slim_laws.specs.Slim.{Free, Covers, Reaches, Terms}
 use Rattle.slim_laws.proofs.EmittedCode as E
 use Rattle.slim_laws.specs.SlimUnits.{SlimUnits}
 use Rattle.slim_rewrite.specs.declared.stack.Walk.{Walk}
-use Rattle.slim_rewrite.specs.Walking.{free_at, shape_at, Among, Good}
+use Rattle.slim_rewrite.specs.Walking.{free_at, shape_at, Among}
 use Rattle.slim_rewrite.proofs.BranchLemmas.{bare_shape}
 use Rattle.slim_rewrite.specs.declared.sequence.Written.{Written}
 use Rattle.slim_rewrite.specs.Coming.{Around, Ready}

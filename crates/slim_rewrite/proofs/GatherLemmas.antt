@@ -1,6 +1,6 @@
 -- Plain pieces, statement by statement.
-use Rattle.std.proofs.Common.{◌≡◌, ℕ, suc, ◌+◌, ◌<◌, ◌≤◌, List, [], length, get_or, take, drop, Option, Some, None, Bool, true, false, refl, sym, ap, ◌∙◌, subst, arith}
-use Rattle.std.specs.Prelude.{◌||◌, if◌then◌else◌}
+use Rattle.std.proofs.Common.{◌≡◌, ℕ, suc, ◌+◌, ◌<◌, ◌≤◌, List, [], length, get_or, take, drop, Option, Some, None, true, false, refl, sym, ap, ◌∙◌, subst, arith}
+use Rattle.std.specs.Prelude.{◌||◌}
 use Rattle.std.specs.Option.{is_some}
 use Rattle.std.proofs.lemmas.List.{take_all}
 use Rattle.std.specs.declared.vec.Vec.{Vec}
@@ -17,7 +17,7 @@ use Rattle.run_theory.specs.Flat.{Stmts, no_more, computes, copies, calls, leaps
 use Rattle.run_theory.specs.FlatFits.{StmtsFit}
 use Rattle.run_theory.specs.FlatView.{stmt_in_front, stmts}
 use Rattle.guard_form.specs.Bounds.{unit_count}
-use Rattle.guard_form.specs.Pieces.{Units, no_unit, call_unit, nest_unit, if_unit, call_total, first_piece, flat_units, holds_call, numbered, piece_call, unit_call, units}
+use Rattle.guard_form.specs.Pieces.{no_unit, call_unit, nest_unit, if_unit, call_total, first_piece, flat_units, holds_call, numbered, piece_call, unit_call, units}
 use Rattle.guard_form.proofs.CodeLemmas.{then_done}
 use Rattle.guard_form.proofs.Grouped.{joins}
 use Rattle.flow_rewrite.specs.Putting.{Puts}
@@ -33,7 +33,7 @@ use Rattle.slim_rewrite.specs.declared.sequence.Sequence.{Sequence}
 use Rattle.slim_rewrite.specs.declared.sequence.Written.{Written}
 use Rattle.slim_rewrite.specs.Walking.{Good}
 use Rattle.slim_rewrite.specs.Coming.{Ready}
-use Rattle.slim_rewrite.specs.Inside.{first_code, units_in, in_piece, as_kept, as_unit, Begun, Completed, Decided, Entered, Finished, Left, Nested, Same}
+use Rattle.slim_rewrite.specs.Inside.{in_piece, as_kept, as_unit, Begun, Completed, Decided, Entered, Finished, Left, Nested, Same}
 use Rattle.slim_rewrite.specs.SequenceView.{first_where, first_with, head_in_front, open_where, units_onto, units_with}
 use Rattle.slim_rewrite.specs.Steps.{Opened}
 use Rattle.slim_rewrite.specs.Gathering.{first_at, units_at, Bare, Gathered, GatheredTo, IsGathered, IsSimple}
