@@ -37,7 +37,9 @@ mod three_modules;
 mod typed_locals;
 
 pub use emitted_module::{emitted_behave, staying_behave};
-pub use rewritten_modules::{modules_run_unpaused, quiet_modules_are_rewritten, rewritten_is_small};
+pub use rewritten_modules::{
+    modules_run_unpaused, quiet_modules_are_rewritten, rewritten_is_small,
+};
 pub use slim_beside::slim_module_is_beside;
 pub use three_modules::{parts_fit, stores_stay_together, traps_keep_stores};
 pub use typed_locals::locals_stay_typed;

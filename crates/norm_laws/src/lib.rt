@@ -8,4 +8,6 @@
 
 mod norm_runs;
 
-pub use norm_runs::{bare_runs_are_the_same, norm_is_rewritten, norm_is_valid, norm_runs_are_the_same};
+pub use norm_runs::{
+    bare_runs_are_the_same, norm_is_rewritten, norm_is_valid, norm_runs_are_the_same,
+};
