@@ -1,10 +1,10 @@
 -- What rows of calls add, told at their ends, loop by loop.
-use Rattle.std.proofs.Common.{◌≡◌, ℕ, zero, suc, ◌+◌, ◌-◌, ◌%◌, ◌^◌, ◌<◌, ◌≤◌, List, [], ◌∷◌, ◌++◌, length, take, drop, get_or, get_or-set_same, get_or-set_other, length-set, set, Bool, true, false, nat_eq, refl, sym, ap, ◌∙◌, subst, arith, eq-eqb, eqb-true, ne_eqb, leb-true, leb-false}
+use Rattle.std.proofs.Common.{◌≡◌, ℕ, zero, suc, ◌+◌, ◌-◌, ◌%◌, ◌^◌, ◌<◌, ◌≤◌, List, [], ◌∷◌, ◌++◌, length, drop, get_or, get_or-set_same, get_or-set_other, length-set, set, Bool, true, false, nat_eq, refl, sym, ap, ◌∙◌, subst, arith, eq-eqb, eqb-true, ne_eqb, leb-true, leb-false}
 use Rattle.std.specs.Prelude.{◌||◌, nat_le, replicate, if◌then◌else◌}
 use Rattle.std.proofs.lemmas.Bool.{eqb-false}
 use Rattle.std.proofs.lemmas.List.{drop_all, drop_more}
 use Rattle.call_frames.specs.CallTests.{CallRow}
-use Rattle.call_frames.specs.CallRows.{numbers_in, row_view, row_views, upto}
+use Rattle.call_frames.specs.CallRows.{numbers_in, row_views, upto}
 use Rattle.call_frames.specs.PlainFrames.{is_one_of}
 use Rattle.call_frames.specs.declared.rows.Row.{Row}
 use Rattle.live_frames.specs.declared.digits.OwnSize.{OwnSize}
@@ -58,11 +58,11 @@ row_high f (suc m) k lt = ap (λ b. b || is_one_of (upto (suc f) m) k) (ne_eqb k
 
 row_has : (f m k : ℕ) → f ≤ k → k ≤ f + m → is_one_of (upto f m) k ≡ true
 row_has f zero k low high = ap (λ b. b || false) (eq-eqb k f (omega (arith, low, high)))
-row_has f (suc m) k low high = by (nat_eq k f) refl
+row_has f (suc m) k low high = by (nat_eq k f) refl (λ le. row_has (suc f) m k le (omega (arith, high)))
   where
-    by : (b : Bool) → nat_eq k f ≡ b → (nat_eq k f || is_one_of (upto (suc f) m) k) ≡ true
-    by true e = ap (λ b. b || is_one_of (upto (suc f) m) k) e
-    by false e = ap (λ b. b || is_one_of (upto (suc f) m) k) e ∙ row_has (suc f) m k (let n = eqb-false k f e in omega (arith, low, n)) (omega (arith, high))
+    by : (b : Bool) → nat_eq k f ≡ b → (suc f ≤ k → is_one_of (upto (suc f) m) k ≡ true) → (nat_eq k f || is_one_of (upto (suc f) m) k) ≡ true
+    by true e ih = ap (λ b. b || is_one_of (upto (suc f) m) k) e
+    by false e ih = ap (λ b. b || is_one_of (upto (suc f) m) k) e ∙ ih (let n = eqb-false k f e in omega (arith, low, n))
 
 -- a row's calls have more
 pub row_added : (old mid new : List ℕ) (f m bytes less : ℕ) → bytes < 2 ^ 32 → less ≡ (4294967295 - bytes + 1) % 2 ^ 32

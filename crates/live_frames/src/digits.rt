@@ -1,15 +1,15 @@
 //! The sizes of what not all calls keep, call by call, and their binary digits.
 
-ghost use Rattle.std.specs.Prelude.{◌≡◌, ◌≤◌, ◌<◌, ◌^◌, ◌+◌, ◌%◌, ◌++◌, ◌∷◌, [], ℕ, List, length, nat_eq, OnOk, IfOk, if◌then◌else◌};
+ghost use Rattle.std.specs.Prelude.{◌≡◌, ◌≤◌, ◌<◌, ◌^◌, ◌+◌, ◌%◌, ◌++◌, ◌∷◌, [], ℕ, List, length, nat_eq, replicate, OnOk, IfOk, if◌then◌else◌};
 ghost use Rattle.std.specs.Int.{bit_at};
 ghost use Rattle.call_frames.specs.CallRows.{numbers_in, row_views, upto};
 ghost use Rattle.call_frames.specs.PlainFrames.{calls_end, calls_with, digits_of, is_one_of, part_weights, planes, weight_at, weights_end, weights_size, with_weight};
 ghost use Rattle.call_frames.specs.Classes.{FewParts, part_fields};
 ghost use Rattle.call_frames.specs.Views.{part_view, part_views};
-ghost use Rattle.live_frames.specs.Digits.{HoldSums, plane_views, size_in, summed};
+ghost use Rattle.live_frames.specs.Digits.{HoldSums, no_size, plane_views, size_in, summed};
 ghost use Rattle.live_frames.specs.Ends.{Added};
 
-use crate::ends::{add_ends, rise, sum_up};
+use crate::ends::{add_ends, no_ends, rise, sum_up};
 use crate::fields::size_of;
 use crate::words::calls_end;
 use call_frames::{Calls, KeptPart, Row};
@@ -130,6 +130,13 @@ fn add_part(sizes: &mut Vec<OwnSize>, ends: &mut Vec<u32>, number: usize, part: 
     }
 }
 
+/// The sizes of so many calls, of which nothing was added.
+fn no_sizes(alloc: Global, count: usize) -> Result<Vec<OwnSize>, AllocError>
+    ensures { IfOk result (λ v. v.items ≡ replicate count no_size) }
+{
+    vec![in alloc; OwnSize { bytes: 0, part: 0 }; count]
+}
+
 /// What the frames of the calls below an end have of parts that not all calls keep.
 fn own_sizes(alloc: Global, parts: &[KeptPart], end: usize) -> Result<Vec<OwnSize>, AllocError>
     requires few { FewParts (part_views parts.now) }
@@ -138,8 +145,8 @@ fn own_sizes(alloc: Global, parts: &[KeptPart], end: usize) -> Result<Vec<OwnSiz
     ensures length { IfOk result (λ v. length v.items ≡ end) }
     ensures sizes { IfOk result (λ v. (k : ℕ) → k < end → size_in v.items k ≡ weight_at k (part_weights (part_views parts.now)) % 2 ^ 32) }
 {
-    let mut sizes = vec![in alloc; OwnSize { bytes: 0, part: 0 }; end]?;
-    let mut ends = vec![in alloc; 0; end + 1]?;
+    let mut sizes = no_sizes(alloc, end)?;
+    let mut ends = no_ends(alloc, end + 1)?;
     for number in 0..parts.len() {
         add_part(&mut sizes, &mut ends, number + 1, &parts[number]);
     }

@@ -1,6 +1,6 @@
 //! What rows of calls add, told at their ends: each number is added to all calls from its place on.
 
-ghost use Rattle.std.specs.Prelude.{◌≡◌, ◌≤◌, ◌<◌, ◌^◌, ◌+◌, ◌%◌, ℕ, suc, length, true, if◌then◌else◌};
+ghost use Rattle.std.specs.Prelude.{◌≡◌, ◌≤◌, ◌<◌, ◌^◌, ◌+◌, ◌%◌, ℕ, suc, length, replicate, true, IfOk, if◌then◌else◌};
 ghost use Rattle.call_frames.specs.CallRows.{numbers_in, row_views, upto};
 ghost use Rattle.call_frames.specs.PlainFrames.{calls_end, is_one_of};
 ghost use Rattle.live_frames.specs.Digits.{size_in};
@@ -8,6 +8,7 @@ ghost use Rattle.live_frames.specs.Ends.{EndSums, Rising, up_to};
 
 use crate::digits::OwnSize;
 use call_frames::Row;
+use std::alloc::{AllocError, Global};
 
 /// The number behind a row.
 fn behind(row: Row) -> u64
@@ -29,6 +30,13 @@ pub(crate) fn rise(rows: &[Row]) -> bool
         end = behind(*row);
     }
     true
+}
+
+/// Nothing is told at so many ends.
+pub(crate) fn no_ends(alloc: Global, count: usize) -> Result<Vec<u32>, AllocError>
+    ensures { IfOk result (λ v. v.items ≡ replicate count 0) }
+{
+    vec![in alloc; 0; count]
 }
 
 /// Each call from this one on has so many bytes more.

@@ -1,4 +1,4 @@
-use Rattle.std.proofs.Common.{[], ◌∷◌, ◌+◌, ap, arith, ◌≡◌, ◌∙◌, sym, ℕ}
+use Rattle.std.proofs.Common.{List, [], ◌∷◌, ◌+◌, ap, arith, ◌≡◌, ◌∙◌, sym}
 use Rattle.std.specs.Prelude.{if◌then◌else◌}
 use Rattle.frame_laws.specs.Layout.{fields_size}
 use Rattle.call_frames.specs.CallRows.{numbers_in, row_views}

@@ -1,4 +1,4 @@
-use Rattle.std.proofs.Common.{◌≤◌, [], arith, ap, ◌∙◌}
+use Rattle.std.proofs.Common.{arith}
 use Rattle.std.specs.Prelude.{if◌then◌else◌}
 use Rattle.call_frames.specs.CallRows.{numbers_in, row_views}
 use Rattle.call_frames.specs.PlainFrames.{is_one_of}

@@ -4,6 +4,7 @@ use Rattle.call_frames.specs.PlainFrames.{weight_at, weights_end}
 use Rattle.call_frames.specs.declared.frames.KeptPart.{KeptPart}
 use Rattle.call_frames.specs.Classes.{part_fields}
 use Rattle.call_frames.specs.Views.{part_view}
+use Rattle.live_frames.specs.Digits.{no_size}
 use Rattle.live_frames.specs.Ends.{Added}
 use Rattle.live_frames.proofs.DigitSteps.{sums_begin}
 use Rattle.live_frames.proofs.EndSteps.{added_begin, added_end, added_same}
@@ -14,10 +15,10 @@ use Rattle.live_frames.proofs.digits.own_sizes.Goals as goal
 pub loop-number-init : goal.loop-number-init
 loop-number-init c =
     let none : ℕ → ℕ = λ k. weight_at k (weights_in (take 0 c.args.parts.now)) in (
-      ap length c.in_ok-sizes.ensures.items ∙ length-replicate c.args.end _,
-      ap length c.in_ok-ends.ensures.items ∙ length-replicate (c.args.end + 1) 0,
-      added_begin none c.in_ok-sizes.sizes.items c.in_ok-ends.ends.items (c.args.end + 1) c.in_ok-ends.ensures.items (λ k. refl)
-          (sums_begin none c.in_ok-sizes.sizes.items c.args.end c.in_ok-sizes.ensures.items (λ k. refl)),
+      ap length c.in_ok-sizes.ensures ∙ length-replicate c.args.end no_size,
+      ap length c.in_ok-ends.ensures ∙ length-replicate (c.args.end + 1) 0,
+      added_begin none c.in_ok-sizes.sizes.items c.in_ok-ends.ends.items (c.args.end + 1) c.in_ok-ends.ensures (λ k. refl)
+          (sums_begin none c.in_ok-sizes.sizes.items c.args.end c.in_ok-sizes.ensures (λ k. refl)),
     )
 
 pub add_part-requires-clause-few : goal.add_part-requires-clause-few

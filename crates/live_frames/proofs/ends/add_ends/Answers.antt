@@ -1,4 +1,4 @@
-use Rattle.std.proofs.Common.{◌-◌, ◌∙◌, ap, arith, length, refl}
+use Rattle.std.proofs.Common.{◌-◌, ◌∙◌, arith, length, refl}
 use Rattle.live_frames.proofs.EndSteps.{rows_first, rows_last, rows_next}
 use Rattle.live_frames.proofs.WordSteps.{rows_below}
 use Rattle.live_frames.proofs.ends.add_ends.Goals as goal

@@ -1,4 +1,4 @@
-use Rattle.std.proofs.Common.{ap, ◌+◌, ◌%◌, ◌^◌, ◌∙◌}
+use Rattle.std.proofs.Common.{ap, ◌+◌, ◌%◌, ◌^◌}
 use Rattle.live_frames.proofs.EndSteps.{before_place, behind_place}
 use Rattle.live_frames.proofs.ends.add_from.Goals as goal
 
@@ -7,4 +7,4 @@ returns-clause-before c = λ k lt. before_place c.args.ends.now.items c.args.cal
 
 pub returns-clause-behind : goal.returns-clause-behind
 returns-clause-behind c = λ k le.
-    behind_place c.args.ends.now.items c.args.call c.wrapping_add.result k _ c.args.bytes c.requires (c.wrapping_add.ensures ∙ ap (λ n. (n + c.args.bytes) % 2 ^ 32) c.index.ensures) le
+    behind_place c.args.ends.now.items c.args.call _ k _ c.args.bytes c.requires (ap (λ n. (n + c.args.bytes) % 2 ^ 32) c.index.ensures) le
