@@ -57,7 +57,7 @@ holds_part sums bytes part named sizes ws e h =
         let z : sums k + mine ≡ sums k + (mine + 0) = omega arith in
         z ∙ ap (λ (xs : List WeighedCalls). sums k + weight_at k xs) (sym e)
 
-got_same : (xs : List OwnSize) (i : ℕ) (d e : OwnSize) → i < length xs → get_or xs i d ≡ get_or xs i e
+pub got_same : (xs : List OwnSize) (i : ℕ) (d e : OwnSize) → i < length xs → get_or xs i d ≡ get_or xs i e
 got_same [] i d e lt = absurd (omega (arith, lt))
 got_same (x ∷ xs) zero d e lt = refl
 got_same (x ∷ xs) (suc i) d e lt = got_same xs i d e (omega (arith, lt))
@@ -174,28 +174,29 @@ power_of i lt =
 low_digit : (x i : ℕ) → i < 32 → bit_at (x % 2 ^ 32) i ≡ bit_at x i
 low_digit x i lt = sym (bit_at_cat_low (x / 2 ^ 32) 32 (x % 2 ^ 32) i lt) ∙ ap (λ y. bit_at y i) (div-add-mod' x (2 ^ 32))
 
-calls_same : (f g : ℕ → ℕ) (d k n : ℕ) → d < 32 → ((j : ℕ) → f j ≡ g j % 2 ^ 32) → calls_with f d k n ≡ calls_with g d k n
+calls_same : (f g : ℕ → ℕ) (d k n : ℕ) → d < 32 → ((j : ℕ) → j < k + n → f j ≡ g j % 2 ^ 32) → calls_with f d k n ≡ calls_with g d k n
 calls_same f g d k zero lt h = refl
 calls_same f g d k (suc n) lt h =
-    let bit : bit_at (f k) d ≡ bit_at (g k) d = ap (λ x. bit_at x d) (h k) ∙ low_digit (g k) d lt in
+    let bit : bit_at (f k) d ≡ bit_at (g k) d = ap (λ x. bit_at x d) (h k (omega arith)) ∙ low_digit (g k) d lt in
     ap (λ b. (if nat_eq b 1 then k ∷ [] else []) ++ calls_with f d (suc k) n) bit
-    ∙ ap (λ ks. (if nat_eq (bit_at (g k) d) 1 then k ∷ [] else []) ++ ks) (calls_same f g d (suc k) n lt h)
+    ∙ ap (λ ks. (if nat_eq (bit_at (g k) d) 1 then k ∷ [] else []) ++ ks) (calls_same f g d (suc k) n lt (λ j below. h j (omega (arith, below))))
 
-planes_same : (f g : ℕ → ℕ) (end d n : ℕ) → d + n ≤ 32 → ((j : ℕ) → f j ≡ g j % 2 ^ 32) → planes f end d n ≡ planes g end d n
+planes_same : (f g : ℕ → ℕ) (end d n : ℕ) → d + n ≤ 32 → ((j : ℕ) → j < end → f j ≡ g j % 2 ^ 32) → planes f end d n ≡ planes g end d n
 planes_same f g end d zero le h = refl
 planes_same f g end d (suc n) le h =
-    ap (λ ks. with_weight ks (2 ^ d) (planes f end (suc d) n)) (calls_same f g d 0 end (omega (arith, le)) h)
+    ap (λ ks. with_weight ks (2 ^ d) (planes f end (suc d) n)) (calls_same f g d 0 end (omega (arith, le)) (λ j below. h j (omega (arith, below))))
     ∙ ap (with_weight (calls_with g d 0 end) (2 ^ d)) (planes_same f g end (suc d) n (omega (arith, le)) h)
 
 -- all digits of the sums below 2 ^ 32 are those of the sums
-pub digits_same : (sizes : List OwnSize) (ws : List WeighedCalls) (end : ℕ) → end ≡ weights_end ws → ((k : ℕ) → size_in sizes k ≡ weight_at k ws % 2 ^ 32)
+pub digits_same : (sizes : List OwnSize) (ws : List WeighedCalls) (end : ℕ) → end ≡ weights_end ws → ((k : ℕ) → k < end → size_in sizes k ≡ weight_at k ws % 2 ^ 32)
     → planes (size_in sizes) end 0 32 ≡ digits_of ws
 unfolding by_digits
 digits_same sizes ws end e h = planes_same (size_in sizes) (λ k. weight_at k ws) end 0 32 (omega arith) h ∙ ap (λ n. planes (λ k. weight_at k ws) n 0 32) e
 
 pub digits_made : (got sizes : List OwnSize) (ws xs : List WeighedCalls) (end : ℕ) → got ≡ sizes → length sizes ≡ end → end ≡ weights_end ws
-    → ((k : ℕ) → size_in sizes k ≡ weight_at k ws % 2 ^ 32) → xs ≡ planes (size_in got) (length got) 0 32 → xs ≡ digits_of ws
-digits_made got sizes ws xs end e n m h is = is ∙ ap (λ (ys : List OwnSize). planes (size_in ys) (length ys) 0 32) e ∙ digits_same sizes ws (length sizes) (n ∙ m) h
+    → ((k : ℕ) → k < end → size_in sizes k ≡ weight_at k ws % 2 ^ 32) → xs ≡ planes (size_in got) (length got) 0 32 → xs ≡ digits_of ws
+digits_made got sizes ws xs end e n m h is =
+    is ∙ ap (λ (ys : List OwnSize). planes (size_in ys) (length ys) 0 32) e ∙ digits_same sizes ws (length sizes) (n ∙ m) (λ k lt. h k (omega (arith, lt, n)))
 
 -- ---- how many instructions they have
 

@@ -1,5 +1,6 @@
 pub mod CountSteps
 pub mod DigitSteps
+pub mod EndSteps
 pub mod FieldSteps
 pub mod MeasureSteps
 pub mod PieceLemmas

@@ -1,13 +1,15 @@
 //! The sizes of what not all calls keep, call by call, and their binary digits.
 
-ghost use Rattle.std.specs.Prelude.{◌≡◌, ◌≤◌, ◌<◌, ◌^◌, ◌+◌, ◌%◌, ◌++◌, ◌∷◌, [], ℕ, List, length, nat_eq, OnOk, IfOk, if◌then◌else◌};
+ghost use Rattle.std.specs.Prelude.{◌≡◌, ◌≤◌, ◌<◌, ◌^◌, ◌+◌, ◌%◌, ◌++◌, ◌∷◌, [], ℕ, List, length, nat_eq, replicate, OnOk, IfOk, if◌then◌else◌};
 ghost use Rattle.std.specs.Int.{bit_at};
 ghost use Rattle.call_frames.specs.CallRows.{numbers_in, row_views, upto};
-ghost use Rattle.call_frames.specs.PlainFrames.{calls_end, calls_with, digits_of, part_weights, planes, weight_at, weights_end, weights_size, with_weight};
+ghost use Rattle.call_frames.specs.PlainFrames.{calls_end, calls_with, digits_of, is_one_of, part_weights, planes, weight_at, weights_end, weights_size, with_weight};
 ghost use Rattle.call_frames.specs.Classes.{FewParts, part_fields};
 ghost use Rattle.call_frames.specs.Views.{part_view, part_views};
-ghost use Rattle.live_frames.specs.Digits.{HoldSums, plane_views, size_in, Sums, summed};
+ghost use Rattle.live_frames.specs.Digits.{HoldSums, no_size, plane_views, size_in, summed};
+ghost use Rattle.live_frames.specs.Ends.{Added};
 
+use crate::ends::{add_ends, no_ends, rise, sum_up};
 use crate::fields::size_of;
 use crate::words::calls_end;
 use call_frames::{Calls, KeptPart, Row};
@@ -90,17 +92,37 @@ fn add_bytes(sizes: &mut Vec<OwnSize>, part: usize, rows: &[Row], bytes: u32)
     }
 }
 
+/// Adds the bytes of the part of this number to the sizes of the calls of its rows: at the ends of rows that rise, else call by call.
+fn add_rows(sizes: &mut Vec<OwnSize>, ends: &mut Vec<u32>, part: usize, rows: &[Row], bytes: u32)
+    requires sizes { calls_end (numbers_in (row_views rows.now)) ≤ length sizes.old.items }
+    requires ends { calls_end (numbers_in (row_views rows.now)) < length ends.old.items }
+    ensures sizes { length sizes.new.items ≡ length sizes.old.items }
+    ensures ends { length ends.new.items ≡ length ends.old.items }
+    ensures added { (sums : ℕ → ℕ) (last : ℕ) → last < part → Added sums last sizes.old.items ends.old.items
+        → Added (λ k. sums k + (if is_one_of (numbers_in (row_views rows.now)) k then bytes else 0)) part sizes.new.items ends.new.items }
+{
+    if rise(rows) {
+        add_ends(ends, rows, bytes);
+        return;
+    }
+    add_bytes(sizes, part, rows, bytes);
+}
+
 /// Adds the size of the part of this number to those of its calls, if not all calls keep it.
-fn add_part(sizes: &mut Vec<OwnSize>, number: usize, part: &KeptPart)
+fn add_part(sizes: &mut Vec<OwnSize>, ends: &mut Vec<u32>, number: usize, part: &KeptPart)
     requires few { part_fields (part_view part.now) ≤ 50000 }
-    requires end { weights_end (part_weights (part_view part.now ∷ [])) ≤ length sizes.old.items }
-    ensures length { length sizes.new.items ≡ length sizes.old.items }
-    ensures sums { (sums : ℕ → ℕ) (last : ℕ) → last < number → Sums sums last sizes.old.items → Sums (λ k. sums k + weight_at k (part_weights (part_view part.now ∷ []))) number sizes.new.items }
+    requires sizes { weights_end (part_weights (part_view part.now ∷ [])) ≤ length sizes.old.items }
+    requires ends { weights_end (part_weights (part_view part.now ∷ [])) < length ends.old.items }
+    ensures sizes { length sizes.new.items ≡ length sizes.old.items }
+    ensures ends { length ends.new.items ≡ length ends.old.items }
+    ensures added { (sums : ℕ → ℕ) (last : ℕ) → last < number → Added sums last sizes.old.items ends.old.items
+        → Added (λ k. sums k + weight_at k (part_weights (part_view part.now ∷ []))) number sizes.new.items ends.new.items }
 {
     match part {
         KeptPart::Every(_) => {}
-        KeptPart::These(class) => add_bytes(
+        KeptPart::These(class) => add_rows(
             sizes,
+            ends,
             number,
             class.calls.rows(),
             size_of(&class.fields),
@@ -108,17 +130,27 @@ fn add_part(sizes: &mut Vec<OwnSize>, number: usize, part: &KeptPart)
     }
 }
 
+/// The sizes of so many calls, of which nothing was added.
+fn no_sizes(alloc: Global, count: usize) -> Result<Vec<OwnSize>, AllocError>
+    ensures { IfOk result (λ v. v.items ≡ replicate count no_size) }
+{
+    vec![in alloc; OwnSize { bytes: 0, part: 0 }; count]
+}
+
 /// What the frames of the calls below an end have of parts that not all calls keep.
 fn own_sizes(alloc: Global, parts: &[KeptPart], end: usize) -> Result<Vec<OwnSize>, AllocError>
     requires few { FewParts (part_views parts.now) }
     requires end { weights_end (part_weights (part_views parts.now)) ≤ end }
+    requires small { end ≤ 4294967296 }
     ensures length { IfOk result (λ v. length v.items ≡ end) }
-    ensures sizes { IfOk result (λ v. (k : ℕ) → size_in v.items k ≡ weight_at k (part_weights (part_views parts.now)) % 2 ^ 32) }
+    ensures sizes { IfOk result (λ v. (k : ℕ) → k < end → size_in v.items k ≡ weight_at k (part_weights (part_views parts.now)) % 2 ^ 32) }
 {
-    let mut sizes = vec![in alloc; OwnSize { bytes: 0, part: 0 }; end]?;
+    let mut sizes = no_sizes(alloc, end)?;
+    let mut ends = no_ends(alloc, end + 1)?;
     for number in 0..parts.len() {
-        add_part(&mut sizes, number + 1, &parts[number]);
+        add_part(&mut sizes, &mut ends, number + 1, &parts[number]);
     }
+    sum_up(&mut sizes, &ends);
     Ok(sizes)
 }
 

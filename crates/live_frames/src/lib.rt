@@ -9,13 +9,15 @@
 //! own parts, added up part by part, or by the binary digits of the calls' sizes where that isn't longer (`put_size`).
 //!
 //! - `counting`, `words`, `testing`: how many instructions a test has, tests by words, and code under a test.
-//! - `fields`, `digits`, `measuring`, `sizing`: sizes of fields, the digits of calls' sizes, and the code that tells a frame's size.
+//! - `fields`, `ends`, `digits`, `measuring`, `sizing`: sizes of fields, what rows of calls add, the digits of calls' sizes, and the code that tells
+//!   a frame's size.
 //! - `putting`, `locating`, `storing`, `loading`: the scratch local and the location moved, parts stored and loaded.
 //! - `spilling`: both codes.
 #![tactic(auto)]
 
 mod counting;
 mod digits;
+mod ends;
 mod fields;
 mod loading;
 mod locating;
