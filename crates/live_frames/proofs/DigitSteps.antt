@@ -26,10 +26,6 @@ sums_begin sums sizes n e none = record {
   within = λ k. let z = ap (λ (xs : List OwnSize). (get_or xs k no_size).part) e ∙ ap (λ (s : OwnSize). s.part) (none_at n k) in omega (arith, z);
 }
 
--- sums that are told otherwise
-pub sums_same : (sums sums2 : ℕ → ℕ) (last : ℕ) (sizes : List OwnSize) → ((k : ℕ) → sums k ≡ sums2 k) → Sums sums last sizes → Sums sums2 last sizes
-sums_same sums sums2 last sizes same h = record { size = λ k. h.size k ∙ ap (λ x. x % 2 ^ 32) (same k); within = h.within }
-
 pub sums_later : (sums : ℕ → ℕ) (last next : ℕ) (sizes : List OwnSize) → last ≤ next → Sums sums last sizes → Sums sums next sizes
 sums_later sums last next sizes le h = record { size = h.size; within = λ k. let w = h.within k in omega (arith, le, w) }
 
@@ -44,18 +40,6 @@ holds_begin sums bytes last part sizes lt h = record {
 pub holds_end : (sums : ℕ → ℕ) (bytes part : ℕ) (named : List ℕ) (sizes : List OwnSize) → HoldSums sums bytes part named sizes
     → Sums (λ k. sums k + (if is_one_of named k then bytes else 0)) part sizes
 holds_end sums bytes part named sizes h = record { size = h.size; within = h.within }
-
--- .. of what one part adds
-pub holds_part : (sums : ℕ → ℕ) (bytes part : ℕ) (named : List ℕ) (sizes : List OwnSize) (ws : List WeighedCalls) → ws ≡ record { calls = named; bytes = bytes } ∷ []
-    → HoldSums sums bytes part named sizes → Sums (λ k. sums k + weight_at k ws) part sizes
-holds_part sums bytes part named sizes ws e h =
-    sums_same (λ k. sums k + (if is_one_of named k then bytes else 0)) (λ k. sums k + weight_at k ws) part sizes same (holds_end sums bytes part named sizes h)
-  where
-    same : (k : ℕ) → sums k + (if is_one_of named k then bytes else 0) ≡ sums k + weight_at k ws
-    same k =
-        let mine = if is_one_of named k then bytes else 0 in
-        let z : sums k + mine ≡ sums k + (mine + 0) = omega arith in
-        z ∙ ap (λ (xs : List WeighedCalls). sums k + weight_at k xs) (sym e)
 
 pub got_same : (xs : List OwnSize) (i : ℕ) (d e : OwnSize) → i < length xs → get_or xs i d ≡ get_or xs i e
 got_same [] i d e lt = absurd (omega (arith, lt))

@@ -56,6 +56,7 @@ fn add_row_ends(ends: &mut Vec<u32>, row: Row, bytes: u32)
     ensures more { (k : ℕ) → up_to k ends.new.items % 2 ^ 32 ≡ (up_to k ends.old.items + (if is_one_of (upto row.first row.more) k then bytes else 0)) % 2 ^ 32 }
 {
     let first = row.first as usize;
+    // So many less, modulo 2^32.
     let less = (u32::MAX - bytes).wrapping_add(1);
     add_from(ends, first, bytes);
     add_from(ends, first + row.more as usize + 1, less);

@@ -1,4 +1,4 @@
--- A world that has been played up to an event goes on to an end: program by program, in order, with devices that fail from now on.
+-- A world that has been played up to an event goes on to an end, turn by turn: what the next program may still tell is chosen anew, with devices that fail from now on.
 use Rattle.std.proofs.Common.{arith, ◌≡◌, ◌+◌, ◌-◌, ◌*◌, ◌≤◌, ◌<◌, ◌⊎◌, inl, inr, ℕ, zero, suc, List, [], ◌∷◌, ◌++◌, length, map, Some, Bool, true, false, refl, sym, ap, ◌∙◌, subst, append_assoc, append-nil, length-append}
 use Rattle.std.specs.Prelude.{if◌then◌else◌, slice_get, slice_set}
 use Rattle.std.specs.List.{AllZip}

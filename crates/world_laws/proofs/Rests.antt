@@ -1,4 +1,4 @@
--- What a program may still tell whose story was told up to here: its calls meet its answer lines, and devices that fail from now on.
+-- What a program may still tell whose story was told up to here: its calls meet its answer lines, and devices that fail from now on; and that more calls meet outcomes behind those that have.
 use Rattle.std.proofs.Common.{arith, ◌≡◌, ◌+◌, ◌≤◌, ◌<◌, ◌^◌, ◌⊎◌, inl, inr, ℕ, List, [], ◌∷◌, ◌++◌, length, Option, Some, None, Bool, true, false, refl, sym, ap, ◌∙◌, subst, append_assoc, append-nil, length-append}
 use Rattle.std.specs.Prelude.{MatchBool, slice_get}
 use Rattle.std.specs.List.{list_any}
