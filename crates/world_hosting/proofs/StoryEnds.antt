@@ -15,8 +15,8 @@ use Rattle.wa_model.specs.Outside.{Event, called, answered, paused, returned, en
 use Rattle.wa_model.specs.Store.{Store}
 use Rattle.wa_model.specs.Plan.{Outcome, OutcomeFits}
 use Rattle.wa_model.specs.Blocking.{Note, note, Blocking}
-use Rattle.wa_model.specs.Expected.{pause_note, trap_note, shown as expected_of}
-use Rattle.run_theory.specs.Shown.{shown_within_at as shown_at}
+use Rattle.wa_model.specs.Expected.{pause_note, trap_note}
+use Rattle.run_theory.specs.Shown.{shown_within as expected_of, shown_within_at as shown_at}
 use Rattle.wa_model.specs.Behaves.{expected_notes}
 use Rattle.wa_model.specs.World.{Actor, BlockingStory, Device, Events, IsOver, Look, Original, Program, an_event, behind_turn, bytes_shown, events_with_looks, line_at, look_events, looks_after, no_event, put_off, spent, turn_of, whole}
 use Rattle.world_laws.specs.Bounded.{ends_astray, is_astray}
