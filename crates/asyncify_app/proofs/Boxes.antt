@@ -1,7 +1,7 @@
 -- Boxed devices that are lent.
 use Rattle.std.proofs.Common.{◌≡◌, ℕ, List, [], ◌∷◌, map, Option, refl, sym, ap, ◌∙◌, subst}
 use Rattle.vault_port.specs.Files.{Files}
-use Rattle.wa_model.specs.World.{Device}
+use Rattle.world_model.specs.World.{Device}
 use Rattle.event_order.specs.Left.{Counted}
 use Rattle.script_command.specs.declared.way.Way.{Way}
 use Rattle.script_command.specs.Answers.{HasOneEnd}

@@ -5,7 +5,7 @@ use Rattle.wa_model.specs.Outside.{AnswerLine, Call, Event, called}
 use Rattle.wa_model.specs.Plan.{Outcome}
 use Rattle.wa_model.specs.Blocking.{Note, events_of}
 use Rattle.wa_model.specs.Behaves.{IsPrefix}
-use Rattle.wa_model.specs.World.{CallsMeet, Device, Meets, NoteMeets, Program, answers_from, call_in, protocol_story}
+use Rattle.world_model.specs.World.{CallsMeet, Device, Meets, NoteMeets, Program, answers_from, call_in, protocol_story}
 use Rattle.world_laws.specs.Originals.{new_calls, one_if}
 use Rattle.world_laws.proofs.Heads.{next_same}
 use Rattle.world_laws.proofs.StoryParts.{begins_any}

@@ -28,8 +28,8 @@ use Rattle.wa_model.specs.declared.events.End.TheVariants.{Done}
 use Rattle.wa_model.specs.declared.answers.Said.{Said}
 use Rattle.wa_model.specs.Plan.{Outcome, given}
 use Rattle.wa_model.specs.Protocol.{Protocol}
-use Rattle.wa_model.specs.World as W
-use Rattle.wa_model.specs.World.{MeetsLine, at_start, import_names, name_at, name_if, protocol_story, unless_over}
+use Rattle.world_model.specs.World as W
+use Rattle.world_model.specs.World.{MeetsLine, at_start, import_names, name_at, name_if, protocol_story, unless_over}
 use Rattle.host_laws.specs.Answering.{IsShort}
 use Rattle.pause_host.specs.Moves.{HasShortPokes}
 use Rattle.host_setup.specs.Views.{Blames, entry_of}

@@ -4,8 +4,8 @@ use Rattle.wa_types.specs.Syntax.{Module}
 use Rattle.wa_model.specs.Outside.{AnswerLine}
 use Rattle.wa_model.specs.Blocking.{Note, events_of}
 use Rattle.wa_model.specs.Rewrites.{Rewrites}
-use Rattle.wa_model.specs.World as W
-use Rattle.wa_model.specs.World.{at_start}
+use Rattle.world_model.specs.World as W
+use Rattle.world_model.specs.World.{at_start}
 use Rattle.host_laws.specs.Stories.{IsStory}
 use Rattle.gen_module.specs.Generated.{generated}
 use Rattle.gen_module.specs.GeneratedRuns.{all_listed, pauses_once, run_plan, value_of_func, wakes}

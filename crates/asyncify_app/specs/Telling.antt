@@ -3,7 +3,7 @@ use Rattle.std.specs.Prelude.{◌≡◌, List, [], ◌∷◌, ◌++◌, None}
 use Rattle.wa_model.specs.Outside.{Event}
 use Rattle.wa_model.specs.Blocking.{Note, events_of}
 use Rattle.wa_model.specs.Behaves.{IsPrefix}
-use Rattle.wa_model.specs.World as W
+use Rattle.world_model.specs.World as W
 use Rattle.host_laws.specs.Stories.{BeginsStory}
 use Rattle.pause_host.specs.Programs.{FollowsAlone, ended_as, end_in}
 use Rattle.pause_host.specs.declared.program.Program.{Program}

@@ -4,7 +4,7 @@ ghost use Rattle.std.specs.Prelude.{◌≡◌, ◌≤◌, ◌∷◌, ◌+◌, �
 ghost use Rattle.wa_model.specs.Blocking.{Note};
 ghost use Rattle.wa_model.specs.Outside.{Call, answered, called, ended, paused, returned};
 ghost use Rattle.wa_model.specs.Rewrites.{Rewrites};
-ghost use Rattle.wa_model.specs.World.{Program as WorldProgram};
+ghost use Rattle.world_model.specs.World.{Program as WorldProgram};
 ghost use Rattle.wa_model.specs.declared.events.End.TheVariants.{Done};
 ghost use Rattle.wa_types.specs.View.{module_of};
 ghost use Rattle.wa_model.specs.declared.answers.Said.{Said};

@@ -2,7 +2,7 @@
 use Rattle.std.specs.Prelude.{ℕ, ◌%◌, ◌^◌, List, length, slice_get, Option, Some}
 use Rattle.wa_types.specs.declared.values.Value.{Value}
 use Rattle.wa_types.specs.declared.values.Value.TheVariants.{I32}
-use Rattle.wa_model.specs.World.{Asked}
+use Rattle.world_model.specs.World.{Asked}
 use Rattle.device_port.specs.declared.device.Reply.{Reply}
 
 -- a counter's: how many calls it has answered, modulo 2^32, with the ticks it was made with

@@ -1,6 +1,6 @@
 -- What is known of the devices in memory.
 use Rattle.std.specs.Prelude.{ℕ, List}
-use Rattle.wa_model.specs.World.{Device}
+use Rattle.world_model.specs.World.{Device}
 use Rattle.vault_port.specs.Counts.{one_more}
 use Rattle.device_port.specs.declared.counter.Counter.{Counter}
 use Rattle.device_port.specs.declared.echo.Echo.{Echo}

@@ -3,7 +3,7 @@ use Rattle.std.specs.Prelude.{ℕ, List, [], ◌∷◌, ◌++◌}
 use Rattle.wa_types.specs.declared.values.Value.{Value}
 use Rattle.wa_model.specs.declared.answers.Said.TheVariants as S
 use Rattle.wa_model.specs.Plan.{Outcome, given}
-use Rattle.wa_model.specs.World.{Device, Asked}
+use Rattle.world_model.specs.World.{Device, Asked}
 use Rattle.device_port.specs.declared.device.Reply.{Reply}
 
 -- a device as a world sees it: its name, and its journal, the calls that it has answered

@@ -1,5 +1,5 @@
 -- A journal's entry that a device in memory keeps.
-use Rattle.wa_model.specs.World as world
+use Rattle.world_model.specs.World as world
 use Rattle.device_port.specs.declared.journal.Asked.{Asked}
 use Rattle.device_port.specs.Journals.{entry}
 

@@ -4,7 +4,7 @@ ghost use Rattle.std.specs.Prelude.{◌≡◌, ◌≤◌, ◌<◌, ◌^◌, ℕ,
 ghost use Rattle.std.specs.List.{list_any, remove};
 ghost use Rattle.wa_model.specs.declared.events.End.TheVariants.{DeviceFault};
 ghost use Rattle.wa_model.specs.Plan.{refused, ValueFits};
-ghost use Rattle.wa_model.specs.World.{is_named, journaled, taken_out, MeetsDevice};
+ghost use Rattle.world_model.specs.World.{is_named, journaled, taken_out, MeetsDevice};
 ghost use Rattle.vault_port.specs.Counts.{HasRisen};
 ghost use Rattle.device_port.specs.Journals.{entry, with_entry, replied};
 ghost use Rattle.device_port.specs.Listed.{of_each, IsFirstOf, ChangesAt};

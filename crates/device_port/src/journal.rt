@@ -26,7 +26,7 @@ pub struct Journal {
 
 impl Model for Journal {
     ghost use Rattle.std.specs.Prelude.{List, map};
-    ghost use Rattle.wa_model.specs.World.{Asked};
+    ghost use Rattle.world_model.specs.World.{Asked};
     ghost use Rattle.device_port.specs.Kept.{asked_of};
 
     ghost Value = { List Asked };

@@ -2,7 +2,7 @@
 //!
 //! A caller knows of a device only what the trait `Device` says, in two meanings that exist in proofs alone:
 //!
-//! - `seen`: the device as the definition of a world has it (`wa_model/specs/World.antt`), its name and its journal, the calls that it has
+//! - `seen`: the device as the definition of a world has it (`world_model/specs/World.antt`), its name and its journal, the calls that it has
 //!   answered. An answer is one more entry; a refusal leaves the journal; nothing changes the name.
 //! - `faults`: how many calls have failed. It never falls, and `Fault` comes only where it rose (`HasRisen` of
 //!   `vault_port/specs/Counts.antt`), so a program can't make up a device's fault.

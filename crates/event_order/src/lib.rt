@@ -1,6 +1,6 @@
 //! The order of events among several programs that share a list of devices.
 //!
-//! It is that of the definition of a world (`wa_model/specs/World.antt`), over what is known of the programs: when each is due, and
+//! It is that of the definition of a world (`world_model/specs/World.antt`), over what is known of the programs: when each is due, and
 //! whether it has ended.
 //!
 //! - `next_turn`: the unfinished program with the least pair of due tick and number. That it is the one that goes on in a

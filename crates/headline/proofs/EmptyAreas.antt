@@ -10,7 +10,7 @@ use Rattle.wa_types.specs.Runtime.{global_space}
 use Rattle.wa_types.specs.Sizes.{WellFormed}
 use Rattle.wa_types.specs.Syntax.{Module}
 use Rattle.wa_model.specs.declared.answers.Area.{Area}
-use Rattle.wa_model.specs.Outside.{Event, called, answered, paused, returned, ended, shown as is_shown}
+use Rattle.wa_model.specs.Outside.{Event, called, answered, paused, parked, returned, ended, shown as is_shown}
 use Rattle.wa_model.specs.Store.{Store}
 use Rattle.wa_model.specs.Plan.{Plan, Outcome}
 use Rattle.wa_model.specs.Blocking.{Note, State, between, begins, runs, halts, events_of, overlap, Blocking}
@@ -76,6 +76,7 @@ unpaused_at plan l (answered v) (Some ticks) h = absurd h
 unpaused_at plan l (paused t u) (Some ticks) h = absurd h
 unpaused_at plan l (returned n v) (Some ticks) h = absurd h
 unpaused_at plan l (ended how) (Some ticks) h = absurd h
+unpaused_at plan l (parked used) (Some ticks) h = absurd h
 unpaused_at plan l (is_shown at bytes) (Some ticks) h = absurd h
 
 all_unpaused : (m : Module) (plan : Plan) (os : List Outcome) (n : ℕ) → All NoPause (Blocking m (emptied plan) os n).events

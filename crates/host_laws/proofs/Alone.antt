@@ -3,10 +3,10 @@ use Rattle.std.proofs.Common.{◌≡◌, ◌<◌, ◌≤◌, ℕ, zero, suc, ◌
 use Rattle.std.specs.Prelude.{slice_get}
 use Rattle.std.proofs.lemmas.List.{map-append}
 use Rattle.std.proofs.lemmas.List.Elements.{All-nil, All-cons}
-use Rattle.wa_model.specs.Outside.{Call, AnswerLine, Event, called, answered, paused, returned, ended, shown}
+use Rattle.wa_model.specs.Outside.{Call, AnswerLine, Event, called, answered, paused, parked, returned, ended, shown}
 use Rattle.wa_model.specs.Plan.{Outcome}
 use Rattle.wa_model.specs.Blocking.{Note}
-use Rattle.wa_model.specs.World.{Program, Device, Actor, ends_turn, turn_of, behind_turn, call_in, NoteMeets, CallsMeet, ticks_in, put_off, line_at, looks_after, events_with_looks, turn_lines, HasNotes, IsNext, Plays, Events, no_event, an_event, answers_from, due_from}
+use Rattle.world_model.specs.World.{Program, Device, Actor, ends_turn, turn_of, behind_turn, call_in, NoteMeets, CallsMeet, ticks_in, put_off, line_at, looks_after, events_with_looks, turn_lines, HasNotes, IsNext, Plays, Events, no_event, an_event, answers_from, due_from}
 use Rattle.host_laws.specs.Stories.{lines_from}
 use Rattle.host_laws.specs.Laws.{StoryIsWorld}
 
@@ -26,6 +26,7 @@ no_ticks (answered v) h = refl
 no_ticks (paused ticks used) h = cc
 no_ticks (returned entry v) h = refl
 no_ticks (ended how) h = cc
+no_ticks (parked used) h = refl
 no_ticks (shown at bytes) h = refl
 
 module _ (w : Program) where

@@ -10,7 +10,7 @@ use Rattle.wa_model.specs.declared.events.End.TheVariants.{NoAnswer, OtherImport
 use Rattle.wa_model.specs.Outside.{AnswerLine}
 use Rattle.wa_model.specs.Plan.{Outcome, given, refused}
 use Rattle.wa_model.specs.View.{answer_of, answer_line_of}
-use Rattle.wa_model.specs.World.{MeetsLine}
+use Rattle.world_model.specs.World.{MeetsLine}
 use Rattle.host_laws.specs.Answering.{line_fault}
 
 pub same_bytes : (xs ys : List ℕ) → same_name xs ys ≡ bytes_eq xs ys

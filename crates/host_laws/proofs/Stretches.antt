@@ -8,7 +8,7 @@ use Rattle.wa_model.specs.Plan.{Entry, Plan, Outcome}
 use Rattle.wa_model.specs.Instantiation.{Opening, fails_as, opens, opening}
 use Rattle.wa_model.specs.Blocking.{Note, Left, with_outcomes, all_left, no_store}
 use Rattle.wa_model.specs.Protocol.{Held, free, starting, busy, calling, aside, entering, over, held_on, exports_of, protocol, held_begun, store_held}
-use Rattle.wa_model.specs.World.{Halt, Origin, at_start, gone, at_pause, Program, halted_in, protocol_story, story_from, told_by}
+use Rattle.world_model.specs.World.{Halt, Origin, at_start, gone, at_pause, Program, halted_in, protocol_story, story_from, told_by}
 use Rattle.run_theory.proofs.Runs.{leads_on, leads_run, too_dear, no_move}
 use Rattle.host_laws.specs.Stretch.{meeting, Stretch, IsSpent}
 use Rattle.host_laws.specs.Stories.{opened, opened_at, opened_from, steps_from}

@@ -9,7 +9,7 @@ use Rattle.wa_model.specs.Plan.{Outcome}
 use Rattle.wa_model.specs.Blocking.{Note, note}
 use Rattle.wa_model.specs.Protocol.{Held, free, starting, busy, calling, aside, entering, over, exports_of, protocol, store_held}
 use Rattle.wa_model.specs.Behaves.{IsPrefix}
-use Rattle.wa_model.specs.World.{Program, Device, MeetsBound, call_in, NoteMeets, CallsMeet, answers_from, unless_over, protocol_story}
+use Rattle.world_model.specs.World.{Program, Device, MeetsBound, call_in, NoteMeets, CallsMeet, answers_from, unless_over, protocol_story}
 use Rattle.host_laws.specs.Stretch.{meeting, Stretch, is_over}
 use Rattle.host_laws.specs.Places.{Place, stands, has_ended, nowhere, Lands, goes_on, ends, spends}
 use Rattle.host_laws.specs.Supplies.{Supply, bound_to, Takes}

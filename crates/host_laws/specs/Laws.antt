@@ -7,7 +7,7 @@ use Rattle.wa_model.specs.Plan.{Plan, Outcome}
 use Rattle.wa_model.specs.Blocking.{Note}
 use Rattle.wa_model.specs.Protocol.{Held}
 use Rattle.wa_model.specs.Behaves.{IsPrefix}
-use Rattle.wa_model.specs.World.{Program, Device, call_in, CallsMeet, answers_from, due_from, protocol_story, ProtocolWorld}
+use Rattle.world_model.specs.World.{Program, Device, call_in, CallsMeet, answers_from, due_from, protocol_story, ProtocolWorld}
 use Rattle.host_laws.specs.Stretch.{Stretch}
 use Rattle.host_laws.specs.Supplies.{Supply, Takes}
 use Rattle.host_laws.specs.Places.{Place, stands, has_ended, TellsFrom}

@@ -8,7 +8,7 @@ use Rattle.wa_model.specs.Outside.{ended}
 use Rattle.wa_model.specs.Plan.{Plan, Outcome}
 use Rattle.wa_model.specs.Blocking.{Note, note}
 use Rattle.wa_model.specs.Protocol.{Held, over, store_held}
-use Rattle.wa_model.specs.World.{Program, call_in, is_end}
+use Rattle.world_model.specs.World.{Program, call_in, is_end}
 use Rattle.host_laws.specs.Stretch.{Stretch, IsSpent}
 use Rattle.host_laws.specs.Supplies.{Supply, Takes}
 

@@ -9,7 +9,7 @@ use Rattle.wa_model.specs.Instantiation.{opening}
 use Rattle.wa_model.specs.Blocking.{Note, all_left, no_store}
 use Rattle.wa_model.specs.Protocol.{Held, held_begun, over}
 use Rattle.wa_model.specs.Behaves.{IsPrefix}
-use Rattle.wa_model.specs.World.{Origin, at_start, gone, at_pause, Program, CallsMeet, answers_from, halted, protocol_story, looks_after, line_at, ticks_in}
+use Rattle.world_model.specs.World.{Origin, at_start, gone, at_pause, Program, CallsMeet, answers_from, halted, protocol_story, looks_after, line_at, ticks_in}
 use Rattle.host_laws.specs.Stretch.{Stretch}
 use Rattle.host_laws.specs.Places.{Place, stands, has_ended, nowhere}
 

@@ -4,7 +4,7 @@ use Rattle.std.specs.Option.{unwrap_or}
 use Rattle.wa_model.specs.declared.events.End.TheVariants.{DeviceFault}
 use Rattle.wa_model.specs.Outside.{Call, AnswerLine}
 use Rattle.wa_model.specs.Plan.{Outcome, refused}
-use Rattle.wa_model.specs.World.{Program, Device, Meets}
+use Rattle.world_model.specs.World.{Program, Device, Meets}
 use Rattle.vault_port.specs.Counts.{HasRisen}
 use Rattle.device_port.specs.Listed.{IsFirstOf, ChangesAt}
 

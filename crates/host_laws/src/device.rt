@@ -1,7 +1,7 @@
 //! What a device answers to a new call of an import that is bound to it.
 
 ghost use Rattle.std.specs.Prelude.{◌≡◌, [], ◌∷◌, IfOk, IsErr, Some};
-ghost use Rattle.wa_model.specs.World.{MeetsDevice};
+ghost use Rattle.world_model.specs.World.{MeetsDevice};
 ghost use Rattle.device_port.specs.Journals.{replied};
 ghost use Rattle.device_port.specs.Listed.{of_all};
 ghost use Rattle.host_laws.specs.Supplies.{Counts, IsLent, RisesAtMostOne};

@@ -2,7 +2,7 @@
 
 ghost use Rattle.std.specs.Prelude.{◌≡◌, IfOk, map};
 ghost use Rattle.wa_model.specs.View.{answer_line_of};
-ghost use Rattle.wa_model.specs.World.{MeetsLine};
+ghost use Rattle.world_model.specs.World.{MeetsLine};
 ghost use Rattle.host_laws.specs.Answering.{line_fault, outcome_of};
 
 use std::alloc::{AllocError, Global};

@@ -11,7 +11,7 @@ use Rattle.wa_model.specs.Blocking.{Blocking}
 use Rattle.wa_model.specs.Instantiation.{opening}
 use Rattle.wa_model.specs.Plan.{Outcome, OutcomeFits, Plan}
 use Rattle.wa_model.specs.Store.{Store}
-use Rattle.wa_model.specs.World.{Actor, Original, Program, StartsHeld, protocol_story}
+use Rattle.world_model.specs.World.{Actor, Original, Program, StartsHeld, protocol_story}
 use Rattle.run_theory.specs.Fitting.{StoreFits, global_types}
 use Rattle.run_theory.specs.Growth.{Each, EntryNamed}
 use Rattle.run_laws.proofs.Growing.{compared_lower, pauses_lower}

@@ -7,7 +7,7 @@ use Rattle.wa_model.specs.declared.answers.Detach.{Detach}
 use Rattle.wa_model.specs.Blocking.{Note}
 use Rattle.wa_model.specs.Outside.{AnswerLine, Call, Line}
 use Rattle.wa_model.specs.Plan.{Outcome, OutcomeFits}
-use Rattle.wa_model.specs.World.{Actor, BlockingWorld, CallsMeet, Device, Events, HasNotes, IsOver, Look, NoteMeets, Original, Plays, Program, ProtocolWorldFrom, StartsHeld, StartsOriginal, an_event, answers_from, call_in, detached, due_from, events_with_looks, line_at, no_event, protocol_story, turn_of}
+use Rattle.world_model.specs.World.{Actor, BlockingWorld, CallsMeet, Device, Events, HasNotes, IsOver, Look, NoteMeets, Original, Plays, Program, ProtocolWorldFrom, StartsHeld, StartsOriginal, an_event, answers_from, call_in, detached, due_from, events_with_looks, line_at, no_event, protocol_story, turn_of}
 use Rattle.snapshot_store.specs.Snapshots.{ProgramRecord, Snapshot, fresh, over, paused}
 use Rattle.world_laws.specs.Originals.{MayRun, Orderly, StandsIn, met, new_calls}
 use Rattle.world_laws.specs.Played.{ProtocolWorldUpTo}

@@ -17,7 +17,7 @@ use Rattle.wa_model.specs.Outside.{Answer, Event}
 use Rattle.wa_model.specs.Plan.{Entry, Outcome, Plan}
 use Rattle.wa_model.specs.Protocol.{Held, exports_of, protocol, store_held}
 use Rattle.wa_model.specs.Store.{Store}
-use Rattle.wa_model.specs.World.{Original, unless_over}
+use Rattle.world_model.specs.World.{Original, unless_over}
 use Rattle.run_theory.specs.DeterminedRuns.{held_start_of}
 use Rattle.run_theory.proofs.Runs.{prefix_of_longer}
 use Rattle.run_laws.proofs.Growing.{expected_grow}

@@ -9,7 +9,7 @@ use Rattle.wa_model.specs.Outside.{AnswerLine}
 use Rattle.wa_model.specs.Plan.{Entry, Outcome, OutcomeFits, Plan}
 use Rattle.wa_model.specs.Protocol.{Held, exports_of, held_begun, held_continued, protocol}
 use Rattle.wa_model.specs.Untouched.{Untouched}
-use Rattle.wa_model.specs.World.{Actor, Halt, Original, Program, StartsHeld, at_start, halted, halted_in, protocol_story, story_from, told_by}
+use Rattle.world_model.specs.World.{Actor, Halt, Original, Program, StartsHeld, at_start, halted, halted_in, protocol_story, story_from, told_by}
 use Rattle.wa_types.specs.Pausing.{TellsMayPause}
 use Rattle.run_theory.specs.DeterminedRuns.{held_start_of}
 use Rattle.snapshot_store.specs.Snapshots.{PausedParts, ProgramRecord, fresh, over, paused}

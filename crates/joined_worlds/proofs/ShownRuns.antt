@@ -8,7 +8,7 @@ use Rattle.wa_model.specs.Behaves.{pause_stacks, stack_if, unless_pause, without
 use Rattle.wa_model.specs.Blocking.{Note, events_of}
 use Rattle.wa_model.specs.Expected.{pause_note, trap_note}
 use Rattle.run_theory.specs.Shown.{shown_within as shown, shown_within_at as shown_at}
-use Rattle.wa_model.specs.Outside.{Event, answered, called, ended, paused, returned, shown as shows}
+use Rattle.wa_model.specs.Outside.{Event, answered, called, ended, paused, parked, returned, shown as shows}
 use Rattle.wa_model.specs.declared.events.End.{End}
 use Rattle.wa_model.specs.declared.events.End.TheVariants.{UnwindTrap}
 use Rattle.run_theory.proofs.Runs.{lt_false}
@@ -26,6 +26,7 @@ own_event (paused ticks used) h = cc
 own_event (called c) h = refl
 own_event (answered s) h = refl
 own_event (returned i v) h = refl
+own_event (parked used) h = refl
 own_event (shows a b) h = refl
 
 module _ (room fit : List Suspended → ℕ) (len : ℕ) where

@@ -5,7 +5,7 @@ use Rattle.wa_model.specs.Blocking.{Note}
 use Rattle.wa_model.specs.Machine.{Ran, still}
 use Rattle.wa_model.specs.Plan.{Entry, Outcome}
 use Rattle.wa_model.specs.Protocol.{Held, Protocol, aside, busy, calling, entering, exports_of, free, held_continued, over, starting}
-use Rattle.wa_model.specs.World.{Program, halted_in, protocol_story, told_by, unless_over}
+use Rattle.world_model.specs.World.{Program, halted_in, protocol_story, told_by, unless_over}
 use Rattle.snapshot_store.specs.Snapshots.{PausedParts, fresh, paused}
 use Rattle.world_laws.specs.Snapshots.{from_record, halt_at}
 use Rattle.world_laws.proofs.Counting.{Ends, Tells, after_tells, protocol_tells}

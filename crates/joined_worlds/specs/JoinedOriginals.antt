@@ -3,7 +3,7 @@ use Rattle.std.specs.Prelude.{◌≡◌, ℕ, List, [], ◌∷◌, ◌++◌, Som
 use Rattle.wa_model.specs.declared.answers.Detach.{Detach}
 use Rattle.wa_model.specs.Outside.{Line}
 use Rattle.wa_model.specs.Plan.{Outcome}
-use Rattle.wa_model.specs.World.{Actor, BlockingWorld, Device, Original, Program, ProtocolWorldFrom}
+use Rattle.world_model.specs.World.{Actor, BlockingWorld, Device, Original, Program, ProtocolWorldFrom}
 use Rattle.run_theory.specs.Quiet.{FreeOfNames}
 use Rattle.snapshot_store.specs.Snapshots.{Snapshot}
 use Rattle.world_laws.specs.Originals.{MayRun, Orderly, StandsIn, met}

@@ -4,7 +4,7 @@ use Rattle.std.specs.Prelude.{MatchBool}
 use Rattle.wa_model.specs.Outside.{AnswerLine, Call, Event, called, answered, paused, returned, ended, shown}
 use Rattle.wa_model.specs.Plan.{Outcome}
 use Rattle.wa_model.specs.Blocking.{Note, events_of}
-use Rattle.wa_model.specs.World.{Device, Look, Program, CallsMeet, NoteMeets, behind_turn, call_in, ends_turn, events_with_looks, is_end, turn_of}
+use Rattle.world_model.specs.World.{Device, Look, Program, CallsMeet, NoteMeets, behind_turn, call_in, ends_turn, events_with_looks, is_end, turn_of}
 use Rattle.world_laws.proofs.Counting.{Ends}
 use Rattle.world_laws.proofs.Turns.{end_turn}
 use Rattle.many_host.specs.Turns.{EndsOnce, IsRest, ends_program}

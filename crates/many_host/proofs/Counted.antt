@@ -7,7 +7,7 @@ use Rattle.wa_model.specs.declared.answers.Detach.{Detach}
 use Rattle.wa_model.specs.Outside.{AnswerLine, Call, Line}
 use Rattle.wa_model.specs.Plan.{Outcome}
 use Rattle.wa_model.specs.Blocking.{Note}
-use Rattle.wa_model.specs.World.{Device, Program, CallsMeet, NoteMeets, call_in}
+use Rattle.world_model.specs.World.{Device, Program, CallsMeet, NoteMeets, call_in}
 use Rattle.world_laws.specs.Originals.{one_if, new_calls}
 use Rattle.world_laws.proofs.Counting.{calls_on}
 use Rattle.many_host.specs.Turns.{Teller, starting, having_told, TellsFrom}

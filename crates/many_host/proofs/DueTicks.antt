@@ -3,7 +3,7 @@ use Rattle.std.proofs.Common.{arith, ◌≡◌, ◌≤◌, ◌<◌, ◌+◌, ℕ
 use Rattle.std.proofs.lemmas.List.{take_all}
 use Rattle.std.proofs.lemmas.Option.{slice_get-get_or}
 use Rattle.std.proofs.lemmas.List.Elements.{All-nil, All-cons, All-head, All-tail, All-weaker}
-use Rattle.wa_model.specs.Outside.{Event, called, answered, paused, returned, ended, shown}
+use Rattle.wa_model.specs.Outside.{Event, called, answered, paused, parked, returned, ended, shown}
 use Rattle.event_order.specs.declared.turns.Turn.{Turn}
 use Rattle.many_host.specs.Turns.{unless}
 use Rattle.many_host.specs.Standing.{IsDueBy, PlaceFits, TurnIsDue, latest, most_ticks, stage_behind}
@@ -71,6 +71,7 @@ place_behind count turn (ended how) h = h
 place_behind count turn (called c) h = h
 place_behind count turn (answered v) h = h
 place_behind count turn (returned entry v) h = h
+place_behind count turn (parked used) h = h
 place_behind count turn (shown at bytes) h = h
 
 pub due_behind_it : (earlier begun : ℕ) (turn : Turn) (e : Event) → turn.due + most_ticks ≤ latest earlier begun → TurnIsDue earlier begun (stage_behind turn e)
@@ -79,6 +80,7 @@ due_behind_it earlier begun turn (ended how) h = tt
 due_behind_it earlier begun turn (called c) h = h
 due_behind_it earlier begun turn (answered v) h = h
 due_behind_it earlier begun turn (returned entry v) h = h
+due_behind_it earlier begun turn (parked used) h = h
 due_behind_it earlier begun turn (shown at bytes) h = h
 
 -- the same of the stage where a host stands

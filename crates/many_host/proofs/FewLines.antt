@@ -8,7 +8,7 @@ use Rattle.std.proofs.lemmas.Option.{slice_get_within}
 use Rattle.wa_model.specs.declared.answers.Detach.{Detach}
 use Rattle.wa_model.specs.Outside.{Line}
 use Rattle.wa_model.specs.Blocking.{Note, events_of}
-use Rattle.wa_model.specs.World.{Device, Program, events_with_looks, line_at}
+use Rattle.world_model.specs.World.{Device, Program, events_with_looks, line_at}
 use Rattle.pause_host.proofs.Advancing.{begins_of_follows}
 use Rattle.event_order.specs.declared.shows.Show.{Show}
 use Rattle.event_order.specs.Looks.{look_of, looks_of}

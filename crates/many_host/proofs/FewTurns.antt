@@ -5,7 +5,7 @@ use Rattle.std.proofs.lemmas.Option.{slice_get_within}
 use Rattle.wa_model.specs.declared.answers.Detach.{Detach}
 use Rattle.wa_model.specs.Outside.{Line}
 use Rattle.wa_model.specs.Blocking.{Note}
-use Rattle.wa_model.specs.World.{Device, Program, ends_turn}
+use Rattle.world_model.specs.World.{Device, Program, ends_turn}
 use Rattle.pause_host.proofs.Advancing.{begins_of_follows}
 use Rattle.many_host.specs.Hosts.{follows, has_ended, memory_of}
 use Rattle.many_host.specs.Notes.{TellsOnFrom}

@@ -6,7 +6,7 @@ use Rattle.wa_model.specs.declared.answers.Detach.{Detach}
 use Rattle.wa_model.specs.Outside.{AnswerLine, Event, Line}
 use Rattle.wa_model.specs.Plan.{Outcome}
 use Rattle.wa_model.specs.Blocking.{Note, events_of}
-use Rattle.wa_model.specs.World.{Device, Program, detached, CallsMeet, ends_turn, line_at, looks_after, events_with_looks}
+use Rattle.world_model.specs.World.{Device, Program, detached, CallsMeet, ends_turn, line_at, looks_after, events_with_looks}
 use Rattle.event_order.specs.Dues.{IsLeast}
 use Rattle.many_host.specs.Turns.{Teller, due_of, having_told, behind, TellsFrom}
 use Rattle.world_laws.proofs.Places.{set_here}

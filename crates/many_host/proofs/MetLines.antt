@@ -6,7 +6,7 @@ use Rattle.wa_model.specs.declared.events.End.TheVariants.{OtherImport}
 use Rattle.wa_model.specs.Blocking.{Note}
 use Rattle.wa_model.specs.Outside.{Answer, AnswerLine, Call}
 use Rattle.wa_model.specs.Plan.{Outcome, given, refused}
-use Rattle.wa_model.specs.World.{CallsMeet, Device, Meets, MeetsBound, MeetsLine, NoteMeets, Program, call_in, import_names, name_at}
+use Rattle.world_model.specs.World.{CallsMeet, Device, Meets, MeetsBound, MeetsLine, NoteMeets, Program, call_in, import_names, name_at}
 use Rattle.world_laws.specs.AloneLines.{Unbound}
 
 -- Each answer is that of the next line, nothing else takes one, and these are left.

@@ -1,10 +1,10 @@
 -- Notes of a turn, with one more.
 use Rattle.std.proofs.Common.{arith, ◌≡◌, ◌+◌, List, [], ◌∷◌, ◌++◌, Option, Some, None, Bool, true, false, ◌||◌, refl, sym, ap, ◌∙◌, subst, append_assoc, append-nil}
 use Rattle.std.specs.Prelude.{MatchBool}
-use Rattle.wa_model.specs.Outside.{AnswerLine, Call, Event, called, answered, paused, returned, ended, shown}
+use Rattle.wa_model.specs.Outside.{AnswerLine, Call, Event, called, answered, paused, parked, returned, ended, shown}
 use Rattle.wa_model.specs.Plan.{Outcome}
 use Rattle.wa_model.specs.Blocking.{Note, events_of}
-use Rattle.wa_model.specs.World.{Device, Look, Program, CallsMeet, NoteMeets, call_in, ends_turn, is_end, put_off, ticks_in, looks_after, events_with_looks}
+use Rattle.world_model.specs.World.{Device, Look, Program, CallsMeet, NoteMeets, call_in, ends_turn, is_end, put_off, ticks_in, looks_after, events_with_looks}
 use Rattle.many_host.specs.Turns.{Teller, having_told, ends_program, EndsOnce}
 use Rattle.many_host.specs.Notes.{GoesOn}
 
@@ -14,6 +14,7 @@ no_ticks (answered v) h = refl
 no_ticks (paused ticks used) h = cc
 no_ticks (returned entry v) h = refl
 no_ticks (ended how) h = cc
+no_ticks (parked used) h = refl
 no_ticks (shown at bytes) h = refl
 
 pub no_end : (e : Event) → ends_turn e ≡ false → is_end e ≡ false
@@ -22,6 +23,7 @@ no_end (answered v) h = refl
 no_end (paused ticks used) h = cc
 no_end (returned entry v) h = refl
 no_end (ended how) h = cc
+no_end (parked used) h = refl
 no_end (shown at bytes) h = refl
 
 pub no_looks : (looks : List Look) (x : Note) (e : Event) → ends_turn e ≡ false → looks_after looks x e ≡ []
@@ -30,6 +32,7 @@ no_looks looks x (answered v) h = refl
 no_looks looks x (paused ticks used) h = cc
 no_looks looks x (returned entry v) h = refl
 no_looks looks x (ended how) h = cc
+no_looks looks x (parked used) h = refl
 no_looks looks x (shown at bytes) h = refl
 
 pub goes_on_more : (xs : List Note) (x : Note) → GoesOn xs → ends_turn x.event ≡ false → GoesOn (xs ++ x ∷ [])

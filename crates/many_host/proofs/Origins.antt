@@ -5,7 +5,7 @@ use Rattle.wa_model.specs.Machine.{Ran, after, still}
 use Rattle.wa_model.specs.Plan.{Entry, Outcome}
 use Rattle.wa_model.specs.Blocking.{Note}
 use Rattle.wa_model.specs.Protocol.{Held, free, starting, busy, calling, aside, entering, over, exports_of, held_continued, Protocol}
-use Rattle.wa_model.specs.World.{Halt, Origin, at_start, gone, at_pause, Program, halted_in, protocol_story, story_from, told_by, unless_over}
+use Rattle.world_model.specs.World.{Halt, Origin, at_start, gone, at_pause, Program, halted_in, protocol_story, story_from, told_by, unless_over}
 use Rattle.world_laws.proofs.Counting.{Tells, after_tells, protocol_tells}
 use Rattle.host_laws.proofs.Stretches.{over_still}
 use Rattle.many_host.specs.Turns.{is_gone, is_over_at}

@@ -14,8 +14,8 @@ use Rattle.wa_model.specs.Instantiation.{Opening, fails_as, opening, opens}
 use Rattle.wa_model.specs.Blocking.{Left, Note, all_left, with_outcomes}
 use Rattle.wa_model.specs.Protocol.{Held, call_again, calling, exports_of, held_begun, held_on, protocol, rewinds}
 use Rattle.wa_model.specs.View.{answer_line_of, answer_of}
-use Rattle.wa_model.specs.World as W
-use Rattle.wa_model.specs.World.{Actor, Halt, at_start, halted, halted_in}
+use Rattle.world_model.specs.World as W
+use Rattle.world_model.specs.World.{Actor, Halt, at_start, halted, halted_in}
 use Rattle.interp.specs.declared.instance.Instance.{Instance}
 use Rattle.interp.specs.Host.{code_in, store_in, waits_in}
 use Rattle.host_laws.specs.Stories.{IsAt, Made, opened, opened_at, opened_from, steps_from}

@@ -4,10 +4,10 @@ use Rattle.std.specs.Option.{option_map}
 use Rattle.std.proofs.lemmas.Bool.{cases_eq}
 use Rattle.std.proofs.lemmas.Option.{slice_get-map, same_Some}
 use Rattle.wa_model.specs.declared.answers.Detach.{Detach}
-use Rattle.wa_model.specs.Outside.{AnswerLine, Event, Line, answered, called, ended, paused, returned, shown}
+use Rattle.wa_model.specs.Outside.{AnswerLine, Event, Line, answered, called, ended, paused, parked, returned, shown}
 use Rattle.wa_model.specs.Plan.{Outcome}
 use Rattle.wa_model.specs.Blocking.{Note}
-use Rattle.wa_model.specs.World.{CallsMeet, Device, Program, answers_from, ends_turn, is_end}
+use Rattle.world_model.specs.World.{CallsMeet, Device, Program, answers_from, ends_turn, is_end}
 use Rattle.world_laws.specs.AloneLines.{Unbound}
 use Rattle.pause_host.specs.Programs.{begins_paused, ends_in_pause}
 use Rattle.pause_host.specs.Views.{is_pause}
@@ -54,6 +54,7 @@ pause_or_end (answered said) h = cc
 pause_or_end (paused ticks used) h = inl refl
 pause_or_end (returned entry v) h = cc
 pause_or_end (ended how) h = inr refl
+pause_or_end (parked used) h = cc
 pause_or_end (shown at bytes) h = cc
 
 or_true : (a b : Bool) → b ≡ true → (a || b) ≡ true

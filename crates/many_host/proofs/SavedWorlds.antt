@@ -19,8 +19,8 @@ use Rattle.wa_model.specs.declared.answers.Detach.{Detach}
 use Rattle.wa_model.specs.Blocking.{Note}
 use Rattle.wa_model.specs.Outside.{AnswerLine, Line}
 use Rattle.wa_model.specs.Plan.{Outcome}
-use Rattle.wa_model.specs.World as W
-use Rattle.wa_model.specs.World.{Actor, Device, IsOver, answers_from, at_start, due_from, line_at, protocol_story}
+use Rattle.world_model.specs.World as W
+use Rattle.world_model.specs.World.{Actor, Device, IsOver, answers_from, at_start, due_from, line_at, protocol_story}
 use Rattle.run_theory.specs.Fitting.{global_types, types_of}
 use Rattle.interp.specs.Host.{store_in}
 use Rattle.event_order.specs.Dues.{HaveEnded}

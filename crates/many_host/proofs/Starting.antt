@@ -6,7 +6,7 @@ use Rattle.std.proofs.lemmas.Option.{slice_get-map, same_Some}
 use Rattle.wa_model.specs.Outside.{AnswerLine}
 use Rattle.wa_model.specs.Plan.{Outcome}
 use Rattle.wa_model.specs.Blocking.{Note}
-use Rattle.wa_model.specs.World.{Device, Program}
+use Rattle.world_model.specs.World.{Device, Program}
 use Rattle.many_host.specs.Turns.{Teller, TellsFrom, behind, since, starting}
 use Rattle.many_host.specs.declared.turn_taking.Stage.TheVariants.{Between}
 use Rattle.many_host.specs.Standing.{AllStart, Held, Holds, StandingFrom}

@@ -3,7 +3,7 @@ use Rattle.std.proofs.Common.{◌≡◌, ◌⊎◌, inl, inr, List, [], ◌∷�
 use Rattle.wa_model.specs.Outside.{AnswerLine}
 use Rattle.wa_model.specs.Plan.{Outcome}
 use Rattle.wa_model.specs.Blocking.{Note}
-use Rattle.wa_model.specs.World.{Device, Program, is_end, protocol_story}
+use Rattle.world_model.specs.World.{Device, Program, is_end, protocol_story}
 use Rattle.world_laws.specs.Originals.{new_calls}
 use Rattle.world_laws.proofs.Counting.{Ends}
 use Rattle.world_laws.proofs.Rests.{Further, further_counts}

@@ -10,7 +10,7 @@ use Rattle.wa_model.specs.declared.answers.Said.{Said}
 use Rattle.wa_model.specs.declared.answers.Said.TheVariants as SV
 use Rattle.wa_model.specs.declared.events.End.{End}
 use Rattle.wa_model.specs.Machine.{Turn, stops, goes, Ran, after, still, pay, run_with, run}
-use Rattle.wa_model.specs.Outside.{Answer, Event, called, answered, paused, returned, ended, shown}
+use Rattle.wa_model.specs.Outside.{Answer, Event, called, answered, paused, parked, returned, ended, shown}
 use Rattle.wa_model.specs.Store.{Store}
 use Rattle.wa_model.specs.Configuration.{Configuration}
 use Rattle.wa_model.specs.Step.{Next, steps, asks, returns, traps, stuck, step}
@@ -19,7 +19,7 @@ use Rattle.wa_model.specs.Instantiation.{Opening, fails_as, opens, opening}
 use Rattle.wa_model.specs.Blocking.{Note, call_note, fault_of, pause_of, poked, done_notes, Task, the_start, an_entry, Left, with_outcomes, all_left, Asker, inside, outermost, store_at, stack_at, in_start, next_entry}
 use Rattle.wa_model.specs.Protocol.{Exports, exports_of, Phase, is_running, unwinds, rewinds, Then, give_zero, test_unwound, pause_there, call_again, test_rewound, give_answer, Held, free, starting, busy, calling, aside, entering, over, protocol, held_continued, broken, held_on, held_back, held_given, held_resumed, held_ends, held_pauses, held_tested, held_asked, busy_step, is_state, aside_back, aside_step, busy_enters, held_next, aside_called, held_start, held_begun}
 use Rattle.wa_model.specs.Behaves.{IsPrefix}
-use Rattle.wa_model.specs.World.{Halt, Origin, at_start, gone, at_pause, Look, Program, events_with_looks, halted, halted_in, is_end, looks_after, protocol_story, story_from, told_by, unless_over}
+use Rattle.world_model.specs.World.{Halt, Origin, at_start, gone, at_pause, Look, Program, events_with_looks, halted, halted_in, is_end, looks_after, protocol_story, story_from, told_by, unless_over}
 
 -- how many lines a note makes, with so many looks behind an end
 abbrev end_lines : (looks : ℕ) → Bool → ℕ
@@ -53,6 +53,7 @@ note_made looks y (answered v) = refl
 note_made looks y (paused ticks used) = refl
 note_made looks y (returned entry v) = refl
 note_made looks y (ended how) = ap suc (length-map looks _)
+note_made looks y (parked used) = refl
 note_made looks y (shown at bytes) = refl
 
 pub lines_made : (looks : List Look) (xs : List Note) → length (events_with_looks looks xs) ≡ lines_in (length looks) xs

@@ -10,7 +10,7 @@ use Rattle.wa_model.specs.declared.answers.Detach.{Detach}
 use Rattle.wa_model.specs.Outside.{Line}
 use Rattle.wa_model.specs.Plan.{Outcome}
 use Rattle.wa_model.specs.Blocking.{Note}
-use Rattle.wa_model.specs.World.{Device, Program, Actor, CallsMeet, Plays, IsNext, HasNotes, StartsHeld, IsOver, detached, turn_of, behind_turn, put_off, line_at, events_with_looks, protocol_story, ProtocolWorldFrom}
+use Rattle.world_model.specs.World.{Device, Program, Actor, CallsMeet, Plays, IsNext, HasNotes, StartsHeld, IsOver, detached, turn_of, behind_turn, put_off, line_at, events_with_looks, protocol_story, ProtocolWorldFrom}
 use Rattle.event_order.specs.Dues.{HaveEnded}
 use Rattle.world_laws.specs.Played.{ProtocolWorldUpToFrom}
 use Rattle.world_laws.proofs.Played.{as_events, one_more}

@@ -6,12 +6,12 @@ use Rattle.std.proofs.lemmas.List.{length-map}
 use Rattle.std.proofs.lemmas.Option.{slice_get-map, slice_get_within}
 use Rattle.wa_model.specs.declared.events.End.{End}
 use Rattle.wa_model.specs.declared.events.Event.{Event as EventValue}
-use Rattle.wa_model.specs.Outside.{AnswerLine, Event, called, answered, paused, returned, ended, shown}
+use Rattle.wa_model.specs.Outside.{AnswerLine, Event, called, answered, paused, parked, returned, ended, shown}
 use Rattle.wa_model.specs.Plan.{Outcome}
 use Rattle.wa_model.specs.View.{event_of}
 use Rattle.wa_model.specs.Blocking.{Note}
-use Rattle.wa_model.specs.World.{Device, call_in, is_end, protocol_story}
-use Rattle.wa_model.specs.World as W
+use Rattle.world_model.specs.World.{Device, call_in, is_end, protocol_story}
+use Rattle.world_model.specs.World as W
 use Rattle.host_laws.specs.Places.{Place, stands, has_ended as at_end, nowhere}
 use Rattle.host_laws.specs.Stories.{IsAt}
 use Rattle.host_laws.specs.Supplies.{Takes}
@@ -39,6 +39,7 @@ tells_end (answered value) = refl
 tells_end (paused ticks used) = refl
 tells_end (returned entry value) = refl
 tells_end (ended how) = refl
+tells_end (parked used) = refl
 tells_end (shown at bytes) = refl
 
 -- a note more

@@ -3,10 +3,10 @@ use Rattle.std.proofs.Common.{arith, ◌≡◌, ◌⊎◌, inl, inr, ℕ, suc, L
 use Rattle.std.proofs.lemmas.Bool.{cases_eq, eq-eqb, ne_eqb}
 use Rattle.std.proofs.lemmas.Option.{same_Some}
 use Rattle.wa_model.specs.declared.answers.Detach.{Detach}
-use Rattle.wa_model.specs.Outside.{AnswerLine, Event, called, answered, paused, returned, ended, shown, Line}
+use Rattle.wa_model.specs.Outside.{AnswerLine, Event, called, answered, paused, parked, returned, ended, shown, Line}
 use Rattle.wa_model.specs.Plan.{Outcome}
 use Rattle.wa_model.specs.Blocking.{Note}
-use Rattle.wa_model.specs.World.{Device, Program, CallsMeet, call_in, ends_turn, is_end, line_at, looks_after}
+use Rattle.world_model.specs.World.{Device, Program, CallsMeet, call_in, ends_turn, is_end, line_at, looks_after}
 use Rattle.event_order.specs.declared.turns.Turn.{Turn}
 use Rattle.event_order.specs.Left.{Counted}
 use Rattle.event_order.specs.Looks.{looks_of}
@@ -135,6 +135,7 @@ module _ {X : Type 0} (follows : X → Program → List Note → List Outcome �
     stands due (called c) is = (s.at.0, s.at.1, subst (λ (v : Event). TellsOnFrom begun programs detaches ds s.at.0 i turn.due (lines ++ line v ∷ []) after ds'') is (goes (ap ends_turn is)))
     stands due (answered v) is = (s.at.0, s.at.1, subst (λ (v : Event). TellsOnFrom begun programs detaches ds s.at.0 i turn.due (lines ++ line v ∷ []) after ds'') is (goes (ap ends_turn is)))
     stands due (returned entry v) is = (s.at.0, s.at.1, subst (λ (v : Event). TellsOnFrom begun programs detaches ds s.at.0 i turn.due (lines ++ line v ∷ []) after ds'') is (goes (ap ends_turn is)))
+    stands due (parked used) is = (s.at.0, s.at.1, subst (λ (v : Event). TellsOnFrom begun programs detaches ds s.at.0 i turn.due (lines ++ line v ∷ []) after ds'') is (goes (ap ends_turn is)))
     stands due (shown at bytes) is = (s.at.0, s.at.1, subst (λ (v : Event). TellsOnFrom begun programs detaches ds s.at.0 i turn.due (lines ++ line v ∷ []) after ds'') is (goes (ap ends_turn is)))
     stands due (paused ticks used) is = subst (λ (v : Event). Whole (lines ++ line v ∷ map line (looks_after on.w.looks n.note v))) is (ends (ap ends_turn is))
     stands due (ended how) is = (

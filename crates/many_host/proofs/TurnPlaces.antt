@@ -3,7 +3,7 @@ use Rattle.std.proofs.Common.{◌≡◌, ◌<◌, ℕ, List, [], ◌∷◌, ◌+
 use Rattle.std.proofs.lemmas.List.{map-set}
 use Rattle.std.proofs.lemmas.Option.{slice_get-get_or}
 use Rattle.wa_model.specs.Blocking.{Note}
-use Rattle.wa_model.specs.World.{is_end}
+use Rattle.world_model.specs.World.{is_end}
 use Rattle.many_host.specs.Turns.{Teller, due_of, ends_program}
 
 -- what is read at a place stands there

@@ -3,7 +3,7 @@ use Rattle.std.proofs.Common.{arith, ◌≡◌, ◌<◌, List, [], ◌∷◌, �
 use Rattle.wa_model.specs.Outside.{AnswerLine, Call}
 use Rattle.wa_model.specs.Plan.{Outcome}
 use Rattle.wa_model.specs.Blocking.{Note}
-use Rattle.wa_model.specs.World.{Device, Program, CallsMeet, NoteMeets, call_in, ends_turn, turn_of, behind_turn}
+use Rattle.world_model.specs.World.{Device, Program, CallsMeet, NoteMeets, call_in, ends_turn, turn_of, behind_turn}
 use Rattle.many_host.specs.Turns.{EndsOnce}
 
 pub turn_whole : (xs rest : List Note) → EndsOnce xs → turn_of (xs ++ rest) ≡ xs

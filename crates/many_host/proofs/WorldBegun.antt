@@ -10,7 +10,7 @@ use Rattle.wa_model.specs.Outside.{Line}
 use Rattle.wa_model.specs.Plan.{Outcome}
 use Rattle.wa_model.specs.Blocking.{Note, events_of}
 use Rattle.wa_model.specs.Behaves.{IsPrefix}
-use Rattle.wa_model.specs.World.{Actor, Device, Program, CallsMeet, ProtocolWorldFrom, behind_turn, detached, events_with_looks, line_at, protocol_story, turn_of}
+use Rattle.world_model.specs.World.{Actor, Device, Program, CallsMeet, ProtocolWorldFrom, behind_turn, detached, events_with_looks, line_at, protocol_story, turn_of}
 use Rattle.world_laws.proofs.Counting.{Ends}
 use Rattle.world_laws.proofs.GoingOn.{gone_on}
 use Rattle.world_laws.proofs.Places.{set_here, set_there, zip_both}

@@ -6,7 +6,7 @@ use Rattle.std.proofs.lemmas.Option.{slice_get_within}
 use Rattle.wa_model.specs.declared.answers.Detach.{Detach}
 use Rattle.wa_model.specs.declared.events.Line.{Line as LineValue}
 use Rattle.wa_model.specs.Outside.{Line}
-use Rattle.wa_model.specs.World.{Device, Program, ProtocolWorldFrom}
+use Rattle.world_model.specs.World.{Device, Program, ProtocolWorldFrom}
 use Rattle.event_order.specs.Dues.{HaveEnded}
 use Rattle.event_order.specs.Left.{Counted}
 use Rattle.many_host.specs.Turns.{HaveMet, Teller, since}

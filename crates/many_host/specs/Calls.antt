@@ -5,7 +5,7 @@ use Rattle.wa_model.specs.declared.events.Line.{Line as LineValue}
 use Rattle.wa_model.specs.Outside.{AnswerLine, Event, Line, shown}
 use Rattle.wa_model.specs.Plan.{Outcome}
 use Rattle.wa_model.specs.View.{line_of}
-use Rattle.wa_model.specs.World.{Device, Program, call_in}
+use Rattle.world_model.specs.World.{Device, Program, call_in}
 use Rattle.event_order.specs.Left.{Counted, left_before}
 use Rattle.host_laws.specs.Supplies.{RisesAtMostOne, Takes}
 use Rattle.many_host.specs.declared.turn_taking.Stage.{Stage}

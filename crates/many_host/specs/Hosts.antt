@@ -7,8 +7,8 @@ use Rattle.wa_model.specs.Outside.{AnswerLine, Line}
 use Rattle.wa_model.specs.Plan.{Outcome}
 use Rattle.wa_model.specs.Blocking.{Note}
 use Rattle.wa_model.specs.View.{line_of}
-use Rattle.wa_model.specs.World.{Device, ProtocolWorldFrom, answers_from, at_start, due_from, gone}
-use Rattle.wa_model.specs.World as W
+use Rattle.world_model.specs.World.{Device, ProtocolWorldFrom, answers_from, at_start, due_from, gone}
+use Rattle.world_model.specs.World as W
 use Rattle.event_order.specs.declared.shows.Show.{Show}
 use Rattle.event_order.specs.Looks.{looks_of}
 use Rattle.pause_host.specs.declared.program.Program.{Program}

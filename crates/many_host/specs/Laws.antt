@@ -2,7 +2,7 @@
 use Rattle.std.specs.Prelude.{ℕ, List}
 use Rattle.wa_model.specs.declared.answers.Detach.{Detach}
 use Rattle.wa_model.specs.Outside.{Line}
-use Rattle.wa_model.specs.World.{Device, Program}
+use Rattle.world_model.specs.World.{Device, Program}
 use Rattle.many_host.specs.ToldNotes.{BeginsWorldFrom}
 use Rattle.many_host.specs.declared.host.Host.{Host}
 use Rattle.many_host.specs.Hosts.{HostToldFrom}

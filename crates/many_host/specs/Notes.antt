@@ -5,7 +5,7 @@ use Rattle.wa_model.specs.Outside.{AnswerLine, Line}
 use Rattle.wa_model.specs.Plan.{Outcome}
 use Rattle.wa_model.specs.Blocking.{Note, events_of}
 use Rattle.wa_model.specs.Behaves.{IsPrefix}
-use Rattle.wa_model.specs.World.{Device, Program, detached, CallsMeet, ends_turn, line_at, protocol_story}
+use Rattle.world_model.specs.World.{Device, Program, detached, CallsMeet, ends_turn, line_at, protocol_story}
 use Rattle.event_order.specs.Dues.{IsLeast}
 use Rattle.many_host.specs.Turns.{Teller, due_of, ends_program, having_told, behind, is_gone, TellsFrom}
 

@@ -3,7 +3,7 @@ use Rattle.std.specs.Prelude.{◌≡◌, ◌*◌, ℕ, List, [], ◌∷◌, leng
 use Rattle.wa_types.specs.Memory.{page_size}
 use Rattle.wa_model.specs.declared.answers.Detach.{Detach}
 use Rattle.wa_model.specs.Outside.{Line}
-use Rattle.wa_model.specs.World.{Actor, Device, IsOver, Program, at_start}
+use Rattle.world_model.specs.World.{Actor, Device, IsOver, Program, at_start}
 use Rattle.event_order.specs.Dues.{HaveEnded}
 use Rattle.pause_host.specs.Parting.{parts_in}
 use Rattle.pause_host.specs.Programs.{memory_in}

@@ -6,7 +6,7 @@ use Rattle.wa_model.specs.Outside.{AnswerLine, Event, paused, ended, shown, Line
 use Rattle.wa_model.specs.Plan.{Outcome}
 use Rattle.wa_model.specs.View.{line_of}
 use Rattle.wa_model.specs.Blocking.{Note}
-use Rattle.wa_model.specs.World.{Device, Look, Program, bytes_shown, is_end, line_at, ticks_in}
+use Rattle.world_model.specs.World.{Device, Look, Program, bytes_shown, is_end, line_at, ticks_in}
 use Rattle.event_order.specs.declared.shows.Show.{Show}
 use Rattle.event_order.specs.declared.turns.Turn.{Turn}
 use Rattle.event_order.specs.Dues.{HaveEnded}

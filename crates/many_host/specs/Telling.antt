@@ -3,7 +3,7 @@ use Rattle.std.specs.Prelude.{◌≡◌, ℕ, List, [], ◌∷◌, ◌++◌, Boo
 use Rattle.wa_model.specs.Outside.{AnswerLine, Event}
 use Rattle.wa_model.specs.Plan.{Outcome}
 use Rattle.wa_model.specs.Blocking.{Note}
-use Rattle.wa_model.specs.World.{Device, Program, call_in, is_end}
+use Rattle.world_model.specs.World.{Device, Program, call_in, is_end}
 use Rattle.host_laws.specs.Supplies.{Supply, Takes}
 
 -- answer lines, devices and the devices' counts of faults

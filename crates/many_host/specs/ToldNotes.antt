@@ -5,7 +5,7 @@ use Rattle.wa_model.specs.declared.answers.Detach.{Detach}
 use Rattle.wa_model.specs.Outside.{AnswerLine, Line}
 use Rattle.wa_model.specs.Plan.{Outcome}
 use Rattle.wa_model.specs.Blocking.{Note}
-use Rattle.wa_model.specs.World.{Device, Program, ProtocolWorldFrom, detached, CallsMeet, ends_turn, line_at, looks_after}
+use Rattle.world_model.specs.World.{Device, Program, ProtocolWorldFrom, detached, CallsMeet, ends_turn, line_at, looks_after}
 use Rattle.event_order.specs.Dues.{HaveEnded, IsLeast}
 use Rattle.many_host.specs.Turns.{Teller, starting, due_of, having_told, behind, TellsFrom}
 use Rattle.many_host.specs.Notes.{OnStory, TellsOnFrom}

@@ -3,7 +3,7 @@ use Rattle.std.specs.Prelude.{ℕ, List, map}
 use Rattle.std.specs.List.{AllZip}
 use Rattle.wa_model.specs.declared.answers.Detach.{Detach}
 use Rattle.wa_model.specs.Outside.{Line}
-use Rattle.wa_model.specs.World.{Device, Program, ProtocolWorldFrom}
+use Rattle.world_model.specs.World.{Device, Program, ProtocolWorldFrom}
 use Rattle.world_laws.specs.Played.{ProtocolWorldUpToFrom}
 use Rattle.event_order.specs.Dues.{HaveEnded}
 use Rattle.many_host.specs.Turns.{Teller, due_of, behind, TellsFrom, HasStory}

@@ -5,7 +5,7 @@ use Rattle.wa_model.specs.Outside.{AnswerLine, Line}
 use Rattle.wa_model.specs.Plan.{Entry, Outcome}
 use Rattle.wa_model.specs.Blocking.{Note}
 use Rattle.wa_model.specs.Behaves.{IsPrefix}
-use Rattle.wa_model.specs.World.{Actor, Device, Origin, at_start, gone, at_pause, Program, answers_from, due_from, detached, CallsMeet, ends_turn, is_end, put_off, line_at, events_with_looks, protocol_story}
+use Rattle.world_model.specs.World.{Actor, Device, Origin, at_start, gone, at_pause, Program, answers_from, due_from, detached, CallsMeet, ends_turn, is_end, put_off, line_at, events_with_looks, protocol_story}
 use Rattle.event_order.specs.Dues.{IsLeast}
 
 -- What is known of a program: the tick at which it is due, whether it has ended, its answer lines left, the notes that it has

@@ -1,6 +1,6 @@
 //! A host of several programs on one thread, which share a list of devices and take turns.
 //!
-//! `Host` tells the lines of a run of the protocol world over its programs (`wa_model/specs/World.antt`), one after another: of the
+//! `Host` tells the lines of a run of the protocol world over its programs (`world_model/specs/World.antt`), one after another: of the
 //! unfinished programs the one with the least pair of due tick and number goes on, up to its next pause or its end; before an event the
 //! devices are taken out whose detaches have its number; behind a program's end comes what is shown of its memory.
 //!

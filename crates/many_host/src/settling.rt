@@ -33,6 +33,7 @@ pub(crate) fn settle(turn: Turn, event: &Event) -> Settled
         },
         Event::Called(_) => same_turn(turn),
         Event::Answered(_) => same_turn(turn),
+        Event::Parked { .. } => same_turn(turn),
         Event::Returned { .. } => same_turn(turn),
         Event::Shown { .. } => same_turn(turn),
     }

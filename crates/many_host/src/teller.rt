@@ -6,7 +6,7 @@ ghost use Rattle.wa_model.specs.Outside.{AnswerLine};
 ghost use Rattle.wa_model.specs.Plan.{Outcome};
 ghost use Rattle.wa_model.specs.Blocking.{Note};
 ghost use Rattle.wa_model.specs.View.{event_of};
-ghost use Rattle.wa_model.specs.World.{Program, bytes_shown};
+ghost use Rattle.world_model.specs.World.{Program, bytes_shown};
 ghost use Rattle.device_port.specs.Listed.{of_all};
 ghost use Rattle.host_laws.specs.Supplies.{IsLent, RisesAtMostOne};
 ghost use Rattle.many_host.specs.Telling.{TellsNote, supply};

@@ -9,7 +9,7 @@ use Rattle.wa_model.specs.declared.events.End.{End}
 use Rattle.wa_model.specs.declared.events.End.TheVariants as E
 use Rattle.wa_model.specs.declared.events.Event.{Event as EventValue}
 use Rattle.wa_model.specs.declared.events.Event.TheVariants as EV
-use Rattle.wa_model.specs.Outside.{Call, AnswerLine, Event, called, answered, paused, returned, ended, shown}
+use Rattle.wa_model.specs.Outside.{Call, AnswerLine, Event, called, answered, paused, parked, returned, ended, shown}
 use Rattle.wa_model.specs.View.{answer_of, event_of}
 use Rattle.wa_model.specs.Store.{Store}
 use Rattle.wa_model.specs.Plan.{Outcome, given, refused}
@@ -28,8 +28,8 @@ use Rattle.interp.specs.Host.{code_in, store_in}
 use Rattle.interp.specs.Instance as I
 use Rattle.interp.specs.Instance.{Waits}
 use Rattle.wa_model.specs.Protocol.{Held, exports_of, over, store_held}
-use Rattle.wa_model.specs.World as W
-use Rattle.wa_model.specs.World.{CallsMeet, MeetsBound, answers_from, MeetsLine, name_at, import_names, call_in, is_end, protocol_story}
+use Rattle.world_model.specs.World as W
+use Rattle.world_model.specs.World.{CallsMeet, MeetsBound, answers_from, MeetsLine, name_at, import_names, call_in, is_end, protocol_story}
 use Rattle.wa_model.specs.Behaves.{IsPrefix}
 use Rattle.run_laws.specs.FittingStates.{HeldFits, ExportsTyped}
 use Rattle.host_laws.specs.Places.{Place, stands, has_ended, nowhere, Lands, goes_on, ends, spends}
@@ -58,6 +58,7 @@ no_end (answered v) h = refl
 no_end (paused ticks used) h = refl
 no_end (returned entry v) h = refl
 no_end (ended how) h = cc
+no_end (parked used) h = refl
 no_end (shown at bytes) h = refl
 
 -- the last note of all

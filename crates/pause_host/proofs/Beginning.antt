@@ -22,8 +22,8 @@ use Rattle.wa_model.specs.Instantiation.{least_of, opening}
 use Rattle.run_theory.specs.Fitting.{types_of, global_types}
 use Rattle.wa_model.specs.Blocking.{Left, all_left}
 use Rattle.wa_model.specs.Protocol.{held_begun}
-use Rattle.wa_model.specs.World as W
-use Rattle.wa_model.specs.World.{Look}
+use Rattle.world_model.specs.World as W
+use Rattle.world_model.specs.World.{Look}
 use Rattle.run_theory.proofs.FittingNames.{type_small}
 use Rattle.run_theory.proofs.FittingOpenings.{openings_fit}
 use Rattle.run_theory.proofs.NamedModules.{valid_instance}

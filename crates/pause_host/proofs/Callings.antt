@@ -16,7 +16,7 @@ use Rattle.run_laws.specs.Ranges.{PokeInside}
 use Rattle.wa_model.specs.Store.{Store, with_memory}
 use Rattle.wa_model.specs.Blocking.{Left, poked}
 use Rattle.wa_model.specs.Protocol.{Exports, exports_of, Phase, Then, Held, calling, give_zero, with_words}
-use Rattle.wa_model.specs.World.{Program}
+use Rattle.world_model.specs.World.{Program}
 use Rattle.run_theory.specs.Fitting.{types_of}
 use Rattle.run_laws.specs.FittingStates.{Callable}
 use Rattle.interp.specs.Host.{memory_of, poked_in, Pokes, PokesTo}

@@ -11,7 +11,7 @@ use Rattle.wa_model.specs.Store.{Store}
 use Rattle.wa_model.specs.Plan.{Outcome, Plan}
 use Rattle.wa_model.specs.Blocking.{Note, note, Left}
 use Rattle.wa_model.specs.Protocol.{Held, free, starting, busy, calling, aside, entering, over, exports_of, store_held}
-use Rattle.wa_model.specs.World.{Program}
+use Rattle.world_model.specs.World.{Program}
 use Rattle.interp.specs.Instance.{Waits}
 use Rattle.run_laws.specs.FittingStates.{HeldFits, ExportsTyped}
 use Rattle.run_laws.proofs.ProtocolStopping.{protocol_states_stay}

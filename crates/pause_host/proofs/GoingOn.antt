@@ -17,8 +17,8 @@ use Rattle.wa_model.specs.Plan as P
 use Rattle.wa_model.specs.Protocol.{Held, calling, rewinds, call_again, exports_of}
 use Rattle.wa_model.specs.Store.{Store}
 use Rattle.wa_model.specs.View.{answer_line_of}
-use Rattle.wa_model.specs.World as W
-use Rattle.wa_model.specs.World.{Halt, Look, halted_in}
+use Rattle.world_model.specs.World as W
+use Rattle.world_model.specs.World.{Halt, Look, halted_in}
 use Rattle.run_theory.specs.Fitting.{StoreFits, types_of, global_types}
 use Rattle.run_theory.proofs.FittingNames.{results_are}
 use Rattle.run_laws.specs.FittingStates.{EntryTyped, HeldFits, SaidTyped}

@@ -21,7 +21,7 @@ use Rattle.wa_model.specs.Instantiation.{Opening, fails_as, opens, opening, leas
 use Rattle.wa_model.specs.Blocking.{Note, call_note, fault_of, pause_of, poked, poked_memory, Task, the_start, an_entry, Left, with_outcomes, Asker, inside, outermost, store_at, stack_at, in_start, next_entry}
 use Rattle.wa_types.specs.Memory.{overwritten, bytes_of}
 use Rattle.wa_model.specs.Protocol.{Exports, exports_of, Phase, is_running, unwinds, rewinds, Then, give_zero, test_unwound, pause_there, call_again, test_rewound, give_answer, Held, free, starting, busy, calling, aside, entering, over, put_word, with_words, protocol, broken, held_on, held_back, held_given, held_resumed, held_pauses, held_tested, held_asked, busy_step, is_state, aside_back, aside_step, busy_enters, held_next, aside_called, held_start, held_begun}
-use Rattle.wa_model.specs.World.{Program}
+use Rattle.world_model.specs.World.{Program}
 use Rattle.run_laws.specs.Ranges.{PokeInside}
 use Rattle.run_laws.proofs.Host.{fault_pokes}
 use Rattle.host_laws.specs.Stretch.{meeting, Stretch}

@@ -12,7 +12,7 @@ use Rattle.wa_model.specs.Step.{entered}
 use Rattle.wa_model.specs.Blocking.{Left}
 use Rattle.run_theory.specs.Fitting.{types_of}
 use Rattle.wa_model.specs.Protocol.{Phase, Then, calling, trap_end}
-use Rattle.wa_model.specs.World.{Program}
+use Rattle.world_model.specs.World.{Program}
 use Rattle.run_laws.specs.FittingStates.{Callable}
 use Rattle.interp.specs.declared.turns.Turn.{Turn}
 use Rattle.interp.specs.declared.turns.Turn.TheVariants.{Returned, Trapped, Waiting, StepsSpent}

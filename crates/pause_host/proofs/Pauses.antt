@@ -24,7 +24,7 @@ use Rattle.wa_model.specs.Step.{asks, returns, entered}
 use Rattle.wa_model.specs.Plan.{Entry, Outcome}
 use Rattle.wa_model.specs.Blocking.{Note, note, Left, with_outcomes, resumed, poked, an_entry}
 use Rattle.wa_model.specs.Protocol.{Exports, exports_of, Phase, is_running, give_zero, test_unwound, pause_there, call_again, test_rewound, give_answer, Held, busy, calling, entering, over, trap_end, is_state, zeros_of, used_of, answer_note, held_resumed, busy_step, busy_enters}
-use Rattle.wa_model.specs.World.{Program}
+use Rattle.world_model.specs.World.{Program}
 use Rattle.interp.specs.declared.turns.Turn.{Turn}
 use Rattle.interp.specs.declared.turns.Turn.TheVariants.{Returned, Trapped, Waiting, StepsSpent}
 use Rattle.interp.specs.Instance.{Waits, inside, Turns, Calls, CallsAs}

@@ -15,7 +15,7 @@ use Rattle.wa_model.specs.Configuration.{Configuration}
 use Rattle.wa_model.specs.Plan.{Entry}
 use Rattle.wa_model.specs.Blocking.{Note, note, Left, done_notes, Task, inside, the_start, an_entry}
 use Rattle.wa_model.specs.Protocol.{exports_of, Held, free, over, held_on}
-use Rattle.wa_model.specs.World.{Program}
+use Rattle.world_model.specs.World.{Program}
 use Rattle.interp.specs.Instance as I
 use Rattle.interp.specs.Instance.{Waits}
 use Rattle.host_laws.specs.Supplies.{Supply}

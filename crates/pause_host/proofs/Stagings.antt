@@ -16,7 +16,7 @@ use Rattle.wa_model.specs.Configuration.{Activation, Configuration}
 use Rattle.run_theory.specs.Fitting.{types_of, StoreFits}
 use Rattle.wa_model.specs.Blocking.{Note, note, Left, Task, resumed, the_start, an_entry, done_notes, import_traps}
 use Rattle.wa_model.specs.Protocol.{exports_of, is_running, Held, busy, calling, give_zero, over, held_on, with_words}
-use Rattle.wa_model.specs.World.{Program}
+use Rattle.world_model.specs.World.{Program}
 use Rattle.run_laws.specs.FittingStates.{HeldFits}
 use Rattle.interp.specs.declared.turns.Turn.{Turn}
 use Rattle.interp.specs.Instance as I

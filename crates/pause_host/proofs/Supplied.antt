@@ -12,7 +12,7 @@ use Rattle.wa_model.specs.declared.answers.Said.TheVariants as S
 use Rattle.wa_model.specs.declared.events.End.TheVariants.{DeviceFault, NoAnswer, NoDevice, OtherImport}
 use Rattle.wa_model.specs.Outside.{Answer, AnswerLine, Call}
 use Rattle.wa_model.specs.Plan.{Outcome, given, refused, ValueFits}
-use Rattle.wa_model.specs.World.{Program, Device, Reply, base_names, import_names, name_at, is_named, journaled, MeetsLine, MeetsDevice, MeetsBound}
+use Rattle.world_model.specs.World.{Program, Device, Reply, base_names, import_names, name_at, is_named, journaled, MeetsLine, MeetsDevice, MeetsBound}
 use Rattle.host_laws.specs.Answering.{IsShort}
 use Rattle.host_laws.specs.Supplies.{Supply, Counts, none_failed, bound_to, Answers}
 use Rattle.pause_host.specs.declared.stages.HostImport.{HostImport}

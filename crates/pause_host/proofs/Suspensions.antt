@@ -8,8 +8,8 @@ use Rattle.wa_model.specs.declared.answers.AnswerLine.{AnswerLine as LineValue}
 use Rattle.wa_model.specs.declared.events.End.{End}
 use Rattle.wa_model.specs.Blocking.{fault_of}
 use Rattle.wa_model.specs.View.{answer_of, answer_line_of}
-use Rattle.wa_model.specs.World as W
-use Rattle.wa_model.specs.World.{import_names}
+use Rattle.world_model.specs.World as W
+use Rattle.world_model.specs.World.{import_names}
 use Rattle.pause_host.specs.declared.stages.EntryCall.{EntryCall}
 use Rattle.pause_host.specs.declared.stages.HostImport.{HostImport}
 use Rattle.pause_host.specs.declared.stages.Pause.{Pause}

@@ -19,7 +19,7 @@ use Rattle.wa_model.specs.declared.events.End.TheVariants.{NoAnswer, OtherImport
 use Rattle.wa_model.specs.Plan.{given, refused}
 use Rattle.interp.specs.Host.{memory_of}
 use Rattle.host_laws.specs.Answering.{IsShort}
-use Rattle.wa_model.specs.World.{Program, import_names, name_at, MeetsLine}
+use Rattle.world_model.specs.World.{Program, import_names, name_at, MeetsLine}
 use Rattle.pause_host.specs.declared.stages.HostImport.{HostImport}
 use Rattle.pause_host.specs.declared.stages.Setting.{Setting}
 use Rattle.pause_host.specs.Moves.{IsSetting, HasShortPokes}

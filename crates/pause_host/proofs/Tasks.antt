@@ -19,7 +19,7 @@ use Rattle.wa_model.specs.Step.{returns, entered}
 use Rattle.wa_model.specs.Plan.{Entry, Outcome}
 use Rattle.wa_model.specs.Blocking.{Note, note, Left, with_outcomes, inside, outermost, Task, the_start, an_entry, done_notes, value_of_results, next_entry}
 use Rattle.wa_model.specs.Protocol.{Exports, exports_of, is_running, Held, free, starting, busy, over, held_on, held_asked, held_start, held_next, busy_enters, busy_step, protocol}
-use Rattle.wa_model.specs.World.{Program}
+use Rattle.world_model.specs.World.{Program}
 use Rattle.run_theory.proofs.Runs.{leads_on}
 use Rattle.run_theory.proofs.FittingNames.{not_defined}
 use Rattle.interp.specs.declared.turns.Turn.{Turn}

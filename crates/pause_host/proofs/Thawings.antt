@@ -15,7 +15,7 @@ use Rattle.wa_model.specs.Plan as P
 use Rattle.wa_model.specs.Protocol.{exports_of}
 use Rattle.wa_model.specs.Store.{Store}
 use Rattle.wa_model.specs.View.{answer_of, answer_line_of}
-use Rattle.wa_model.specs.World as W
+use Rattle.world_model.specs.World as W
 use Rattle.run_theory.specs.Fitting.{StoreFits}
 use Rattle.host_laws.specs.Answering.{IsShort}
 use Rattle.host_setup.specs.SetUp.{NamedEntry, set_up}

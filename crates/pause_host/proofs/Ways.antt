@@ -18,7 +18,7 @@ use Rattle.wa_model.specs.Plan.{Entry, Outcome, given, refused}
 use Rattle.run_theory.specs.Alone.{Goes, it_returned, it_trapped, it_asks, it_spent, FinishesAt, CostsAbove, EndsAs, by_finish, by_steps}
 use Rattle.wa_model.specs.Blocking.{Note, note, call_note, poked, store_at, stack_at, Left, with_outcomes, Asker, inside, outermost, the_start, an_entry}
 use Rattle.wa_model.specs.Protocol.{Exports, exports_of, Phase, is_running, unwinds, rewinds, Then, give_zero, test_unwound, pause_there, call_again, test_rewound, give_answer, Held, busy, calling, aside, over, trap_end, held_asked, held_given, held_resumed, held_tested, busy_step, is_state, aside_back, aside_step, aside_called, protocol}
-use Rattle.wa_model.specs.World.{Program}
+use Rattle.world_model.specs.World.{Program}
 use Rattle.run_theory.proofs.Runs.{leads_on}
 use Rattle.run_theory.proofs.Alone.{in_busy, in_aside}
 use Rattle.host_laws.specs.Stretch.{meeting, Stretch}

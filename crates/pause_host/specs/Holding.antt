@@ -6,7 +6,7 @@ use Rattle.wa_model.specs.Outside.{Poke}
 use Rattle.wa_model.specs.Store.{Store}
 use Rattle.wa_model.specs.Blocking.{Left, Task, the_start, an_entry}
 use Rattle.wa_model.specs.Protocol.{Phase, is_running, unwinds, rewinds, Held, free, starting, busy, calling, aside, entering, over}
-use Rattle.wa_model.specs.World.{Program}
+use Rattle.world_model.specs.World.{Program}
 use Rattle.run_laws.specs.Ranges.{PokeInside}
 use Rattle.host_laws.specs.Places.{Place, stands, has_ended, nowhere}
 

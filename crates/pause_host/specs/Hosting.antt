@@ -7,7 +7,7 @@ use Rattle.wa_model.specs.Store.{Store}
 use Rattle.wa_model.specs.Configuration.{Activation}
 use Rattle.wa_model.specs.Blocking as B
 use Rattle.wa_model.specs.Protocol.{Held}
-use Rattle.wa_model.specs.World.{Program}
+use Rattle.world_model.specs.World.{Program}
 use Rattle.run_theory.specs.Fitting.{StoreFits}
 use Rattle.run_laws.specs.FittingStates.{Callable, HeldFits}
 use Rattle.interp.specs.Instance.{Waits, inside}

@@ -19,7 +19,7 @@ use Rattle.run_theory.specs.Alone.{Goes}
 use Rattle.wa_model.specs.Blocking as B
 use Rattle.wa_model.specs.Blocking.{Note, note, Asker, inside, outermost, the_start, an_entry, with_outcomes}
 use Rattle.wa_model.specs.Protocol.{exports_of, protocol, Held, busy, calling, over, Phase, is_running, unwinds, rewinds, Then, held_asked, store_held}
-use Rattle.wa_model.specs.World.{Program, base_names, import_names}
+use Rattle.world_model.specs.World.{Program, base_names, import_names}
 use Rattle.run_laws.specs.FittingStates.{HeldFits, ExportsTyped}
 use Rattle.interp.specs.declared.turns.Turn.{Turn}
 use Rattle.interp.specs.declared.turns.Turn.TheVariants.{StepsSpent}

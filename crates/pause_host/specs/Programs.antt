@@ -15,8 +15,8 @@ use Rattle.wa_model.specs.Instantiation.{opening}
 use Rattle.wa_model.specs.Blocking.{Note, no_store}
 use Rattle.wa_model.specs.Plan.{Outcome}
 use Rattle.wa_model.specs.Protocol.{Held, held_begun}
-use Rattle.wa_model.specs.World as W
-use Rattle.wa_model.specs.World.{CallsMeet, Device, Look, Origin, answers_from, at_pause, at_start, call_in, is_end}
+use Rattle.world_model.specs.World as W
+use Rattle.world_model.specs.World.{CallsMeet, Device, Look, Origin, answers_from, at_pause, at_start, call_in, is_end}
 use Rattle.run_theory.specs.Fitting.{types_of, global_types}
 use Rattle.device_port.specs.declared.devices.Devices.{Devices}
 use Rattle.device_port.specs.Listed.{of_all}

@@ -6,7 +6,7 @@ use Rattle.wa_types.specs.Modules.{imported, imported_func, type_at}
 use Rattle.wa_model.specs.declared.answers.Area.{Area}
 use Rattle.wa_model.specs.Plan.{Entry}
 use Rattle.wa_model.specs.Protocol.{exports_of}
-use Rattle.wa_model.specs.World.{base_names, import_names}
+use Rattle.world_model.specs.World.{base_names, import_names}
 use Rattle.host_setup.specs.SetUp.{NamedEntry}
 use Rattle.pause_host.specs.declared.stages.HostImport.{HostImport}
 use Rattle.pause_host.specs.declared.stages.Setting.{Setting}

@@ -7,8 +7,8 @@ use Rattle.wa_model.specs.declared.answers.AnswerLine.{AnswerLine as LineValue}
 use Rattle.wa_model.specs.Blocking.{fault_of}
 use Rattle.wa_model.specs.Outside.{AnswerLine}
 use Rattle.wa_model.specs.View.{answer_line_of}
-use Rattle.wa_model.specs.World as W
-use Rattle.wa_model.specs.World.{import_names}
+use Rattle.world_model.specs.World as W
+use Rattle.world_model.specs.World.{import_names}
 use Rattle.interp.specs.Restoring.{PagesFit}
 use Rattle.snapshot_store.specs.Snapshots.{PausedParts}
 use Rattle.pause_host.specs.declared.program.Program.{Program}

@@ -14,8 +14,8 @@ use Rattle.wa_model.specs.Plan as P
 use Rattle.wa_model.specs.Protocol.{exports_of}
 use Rattle.wa_model.specs.Store.{Store}
 use Rattle.wa_model.specs.View.{answer_line_of}
-use Rattle.wa_model.specs.World as W
-use Rattle.wa_model.specs.World.{Halt, Look, at_pause, import_names}
+use Rattle.world_model.specs.World as W
+use Rattle.world_model.specs.World.{Halt, Look, at_pause, import_names}
 use Rattle.run_theory.specs.Fitting.{types_of, global_types}
 use Rattle.interp.specs.Restoring.{PagesFit}
 use Rattle.snapshot_store.specs.Snapshots.{PausedParts}

@@ -19,7 +19,7 @@ use Rattle.wa_model.specs.Blocking as B
 use Rattle.wa_model.specs.Blocking.{note, poked, resumed, the_start, an_entry, Asker, inside, outermost, done_notes, import_traps}
 use Rattle.wa_model.specs.Protocol as P
 use Rattle.wa_model.specs.Protocol.{Phase, is_running, unwinds, rewinds, give_zero, call_again, busy, calling, over, held_on, with_words}
-use Rattle.wa_model.specs.World.{Device}
+use Rattle.world_model.specs.World.{Device}
 use Rattle.device_port.specs.declared.devices.Devices.{Devices}
 use Rattle.device_port.specs.Listed.{of_all}
 use Rattle.interp.specs.Instance as I

@@ -3,7 +3,7 @@
 ghost use Rattle.std.specs.Prelude.{◌≡◌, IfOk, IsErr, None, Some, slice_get};
 ghost use Rattle.std.specs.Option.{option_map, unwrap_or};
 ghost use Rattle.wa_model.specs.View.{call_of};
-ghost use Rattle.wa_model.specs.World.{Program};
+ghost use Rattle.world_model.specs.World.{Program};
 ghost use Rattle.device_port.specs.Listed.{of_all};
 ghost use Rattle.host_laws.specs.Answering.{outcome_of};
 ghost use Rattle.host_laws.specs.Supplies.{Answers, RisesAtMostOne};

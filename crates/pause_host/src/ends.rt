@@ -57,6 +57,7 @@ pub fn copy_end(alloc: Global, end: &End) -> Result<End, AllocError>
         End::PauseInStart(import) => End::PauseInStart(*import),
         End::DeviceFault(import) => End::DeviceFault(*import),
         End::NoDevice(import) => End::NoDevice(*import),
+        End::Stalled(import) => End::Stalled(*import),
         End::StepsSpent(steps) => End::StepsSpent(*steps),
         End::Broken(rule) => End::Broken(*rule),
     };

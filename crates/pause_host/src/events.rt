@@ -2,7 +2,7 @@
 
 ghost use Rattle.std.specs.Prelude.{◌≡◌, ◌<◌, ◌≤◌, ◌+◌, ◌-◌, ◌^◌, All, IfOk, IsErr, None};
 ghost use Rattle.wa_model.specs.Protocol.{exports_of};
-ghost use Rattle.wa_model.specs.World.{Program};
+ghost use Rattle.world_model.specs.World.{Program};
 ghost use Rattle.interp.specs.Host.{code_in, store_in, waits_in};
 ghost use Rattle.device_port.specs.Listed.{of_all};
 ghost use Rattle.host_laws.specs.Supplies.{RisesAtMostOne};

@@ -4,7 +4,7 @@ ghost use Rattle.std.specs.Prelude.{◌≡◌, ◌<◌, ◌≤◌, ◌+◌, ◌-
 ghost use Rattle.std.specs.Option.{option_to_list};
 ghost use Rattle.run_theory.specs.Fitting.{StoreFits, types_of};
 ghost use Rattle.wa_model.specs.Protocol.{Phase, is_state, trap_end};
-ghost use Rattle.wa_model.specs.World.{Program};
+ghost use Rattle.world_model.specs.World.{Program};
 ghost use Rattle.run_laws.specs.FittingStates.{Callable};
 ghost use Rattle.interp.specs.Host.{code_in, store_in, waits_in};
 ghost use Rattle.pause_host.specs.Holding.{HoldsArea};

@@ -3,7 +3,7 @@
 ghost use Rattle.std.specs.Prelude.{◌≡◌, ◌<◌, ◌≤◌, ◌+◌, ◌*◌, ◌++◌, ◌^◌, [], ◌∷◌, ℕ, List, IfOk, IsErr, IfErr, IfSome, None, Ok, Some, length, map, min};
 ghost use Rattle.std.specs.Option.{option_copied, option_map};
 ghost use Rattle.wa_types.specs.Memory.{page_size};
-ghost use Rattle.wa_model.specs.World.{bytes_shown};
+ghost use Rattle.world_model.specs.World.{bytes_shown};
 
 use crate::ends::copy_end;
 use crate::entries::entry_calls;
@@ -53,7 +53,7 @@ impl<'m> Program<'m> {
     ghost use Rattle.wa_model.specs.Blocking.{Note, no_store, note};
     ghost use Rattle.wa_model.specs.Protocol.{over, starting};
     ghost use Rattle.wa_model.specs.Plan.{Outcome};
-    ghost use Rattle.wa_model.specs.World.{Device, Program as WorldProgram};
+    ghost use Rattle.world_model.specs.World.{Device, Program as WorldProgram};
     ghost use Rattle.wa_types.specs.View.{module_of};
     ghost use Rattle.wa_model.specs.Instantiation.{opening, opens};
     ghost use Rattle.interp_state.specs.Faults.{FailsAs};

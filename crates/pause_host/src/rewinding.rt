@@ -7,7 +7,7 @@ ghost use Rattle.wa_model.specs.Configuration.{Activation, Configuration};
 ghost use Rattle.wa_model.specs.Store.{Store};
 ghost use Rattle.wa_model.specs.Blocking.{Left as PlainLeft};
 ghost use Rattle.wa_model.specs.Protocol.{call_again, calling, entering, exports_of, give_answer, test_rewound};
-ghost use Rattle.wa_model.specs.World.{Program};
+ghost use Rattle.world_model.specs.World.{Program};
 ghost use Rattle.run_laws.specs.FittingStates.{HeldFits};
 ghost use Rattle.interp.specs.Host.{code_in, store_in, waits_in};
 ghost use Rattle.interp.specs.Instance.{inside};

@@ -7,7 +7,7 @@ ghost use Rattle.wa_model.specs.Store.{Store};
 ghost use Rattle.wa_model.specs.View.{answer_of};
 ghost use Rattle.wa_model.specs.Blocking.{Asker, Left as PlainLeft, Task as PlainTask, an_entry, fault_of, next_entry, the_start};
 ghost use Rattle.wa_model.specs.Protocol.{Held, exports_of, starting};
-ghost use Rattle.wa_model.specs.World.{Program};
+ghost use Rattle.world_model.specs.World.{Program};
 ghost use Rattle.run_laws.specs.FittingStates.{HeldFits};
 ghost use Rattle.interp.specs.Host.{code_in, store_in, waits_in};
 ghost use Rattle.interp.specs.Instance.{Calls};

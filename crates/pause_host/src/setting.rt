@@ -10,7 +10,7 @@ ghost use Rattle.wa_types.specs.Syntax.{Module as PlainModule};
 ghost use Rattle.wa_types.specs.Validity.{same_name};
 ghost use Rattle.wa_types.specs.View.{module_of};
 ghost use Rattle.wa_model.specs.Protocol.{exports_of, index_of};
-ghost use Rattle.wa_model.specs.World.{base_names, import_names, name_if};
+ghost use Rattle.world_model.specs.World.{base_names, import_names, name_if};
 ghost use Rattle.pause_host.specs.Views.{exports_in};
 ghost use Rattle.pause_host.specs.declared.stages.HostImport.{HostImport};
 ghost use Rattle.pause_host.specs.Settings.{MakesSetting};

@@ -6,7 +6,7 @@ ghost use Rattle.wa_types.specs.Memory.{page_size};
 ghost use Rattle.wa_types.specs.Modules.{imported, imported_global};
 ghost use Rattle.wa_types.specs.View.{module_of};
 ghost use Rattle.wa_model.specs.View.{answer_line_of, answer_of};
-ghost use Rattle.wa_model.specs.World.{Program as WorldProgram};
+ghost use Rattle.world_model.specs.World.{Program as WorldProgram};
 ghost use Rattle.run_theory.specs.Fitting.{types_of, global_types};
 ghost use Rattle.host_laws.specs.Answering.{IsShort};
 ghost use Rattle.snapshot_store.specs.Views.{parts_of};

@@ -9,7 +9,7 @@ ghost use Rattle.wa_model.specs.Blocking.{Left as PlainLeft, resumed};
 ghost use Rattle.wa_model.specs.Step.{zero_of};
 ghost use Rattle.wa_model.specs.Protocol.{busy, calling, exports_of, pause_there, test_unwound, zeros_of};
 ghost use Rattle.wa_model.specs.View.{answer_of};
-ghost use Rattle.wa_model.specs.World.{Program};
+ghost use Rattle.world_model.specs.World.{Program};
 ghost use Rattle.run_laws.specs.FittingStates.{HeldFits};
 ghost use Rattle.interp.specs.Host.{code_in, store_in, waits_in};
 ghost use Rattle.interp.specs.Instance.{inside, nothing};

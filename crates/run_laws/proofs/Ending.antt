@@ -11,7 +11,7 @@ use Rattle.wa_model.specs.declared.answers.Said.{Said}
 use Rattle.wa_model.specs.declared.answers.Said.TheVariants as SV
 use Rattle.wa_model.specs.declared.events.End.{End}
 use Rattle.wa_model.specs.declared.events.End.TheVariants.{Broken}
-use Rattle.wa_model.specs.Outside.{Answer, Event, called, answered, paused, returned, ended, shown as was_shown}
+use Rattle.wa_model.specs.Outside.{Answer, Event, called, answered, paused, parked, returned, ended, shown as was_shown}
 use Rattle.wa_model.specs.Machine.{Turn, stops, goes, Ran, after, still, pay, run_with, run}
 use Rattle.wa_model.specs.Store.{Store}
 use Rattle.wa_model.specs.Configuration.{Configuration}
@@ -23,7 +23,7 @@ use Rattle.wa_model.specs.Protocol.{Exports, exports_of, Phase, is_running, unwi
 use Rattle.wa_model.specs.Expected.{pause_note, trap_note}
 use Rattle.run_theory.specs.Shown.{shown_within_at as shown_at, shown_within as shown}
 use Rattle.wa_model.specs.Behaves.{expected_notes}
-use Rattle.wa_model.specs.World.{is_end}
+use Rattle.world_model.specs.World.{is_end}
 use Rattle.run_laws.specs.Standing.{PauseTold}
 use Rattle.run_laws.proofs.StandingPauses.{pauses_told}
 use Rattle.run_laws.specs.Growing.{EndIsLast, BlockingEndIsLast, ExpectedEndIsLast, ProtocolEndIsLast}
@@ -198,6 +198,7 @@ call_no_end plan (answered said) (Some t) ticks told z = absurd told
 call_no_end plan (paused t' used) (Some t) ticks told z = absurd told
 call_no_end plan (returned i value) (Some t) ticks told z = absurd told
 call_no_end plan (ended how) (Some t) ticks told z = absurd told
+call_no_end plan (parked used) (Some t) ticks told z = absurd told
 call_no_end plan (was_shown at bytes) (Some t) ticks told z = absurd told
 
 module _ (plan : Plan) (room fit : List Suspended → ℕ) (len : ℕ) where

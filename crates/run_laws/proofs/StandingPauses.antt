@@ -15,7 +15,7 @@ use Rattle.wa_types.specs.Modules.{func_imports, func_type_at, defined_at}
 use Rattle.wa_model.specs.declared.answers.Said.{Said}
 use Rattle.wa_model.specs.declared.answers.Said.TheVariants as S
 use Rattle.wa_model.specs.declared.events.End.{End}
-use Rattle.wa_model.specs.Outside.{Answer, Event, called, answered, paused, returned, ended, shown}
+use Rattle.wa_model.specs.Outside.{Answer, Event, called, answered, paused, parked, returned, ended, shown}
 use Rattle.wa_model.specs.Machine.{Turn, stops, Ran}
 use Rattle.wa_model.specs.Store.{Store}
 use Rattle.wa_model.specs.Configuration.{Activation, call_count, calls_behind, calls_outside, place_of, suspended}
@@ -403,6 +403,7 @@ whole_of m plan k (answered said) pause s stack h = tt
 whole_of m plan k (paused ticks used) pause s stack h = tt
 whole_of m plan k (returned entry value) pause s stack h = tt
 whole_of m plan k (ended how) pause s stack h = tt
+whole_of m plan k (parked used) pause s stack h = tt
 whole_of m plan k (shown at bytes) pause s stack h = tt
 
 whole_in : (m : Module) (plan : Plan) (os : List Outcome) (n : ℕ) → All (Whole m plan) (Blocking m plan os n).events
@@ -444,6 +445,7 @@ pauses_of_entries m plan os n i ticks x at pauses =
     entry_stack (paused ticks used) is (Some t) z k h told = absurd told
     entry_stack (returned entry value) is (Some t) z k h told = absurd told
     entry_stack (ended how) is (Some t) z k h told = absurd told
+    entry_stack (parked used) is (Some t) z k h told = absurd told
     entry_stack (shown at bytes) is (Some t) z k h told = absurd told
 
 module _ (m : Module) (s : Settings) (which : List Bool) (plan : Plan) (tells : TellsMayPause m s which) (counted : s.ignore_indirect ≡ false) where
@@ -453,6 +455,7 @@ module _ (m : Module) (s : Settings) (which : List Bool) (plan : Plan) (tells : 
   call_numbered (paused ticks used) at stack h = tt
   call_numbered (returned entry value) at stack h = tt
   call_numbered (ended how) at stack h = tt
+  call_numbered (parked used) at stack h = tt
   call_numbered (shown place bytes) at stack h = tt
 
   pause_numbered : plan.listed ≡ Some (Listed m s) → (e : Event) (stack : List Suspended) (pause : Option ℕ)
@@ -463,6 +466,7 @@ module _ (m : Module) (s : Settings) (which : List Bool) (plan : Plan) (tells : 
   pause_numbered l (paused t used) stack (Some ticks) h k = absurd k
   pause_numbered l (returned entry value) stack (Some ticks) h k = absurd k
   pause_numbered l (ended how) stack (Some ticks) h k = absurd k
+  pause_numbered l (parked used) stack (Some ticks) h k = absurd k
   pause_numbered l (shown at bytes) stack (Some ticks) h k = absurd k
 
 pub calls_at_numbers : CallsAtNumbers
@@ -519,6 +523,7 @@ module _ (m : Module) (s : Settings) (which : List Bool) (plan : Plan) (tells : 
   pause_heeded l (paused t used) at stack (Some ticks) h k d = absurd k
   pause_heeded l (returned entry value) at stack (Some ticks) h k d = absurd k
   pause_heeded l (ended how) at stack (Some ticks) h k d = absurd k
+  pause_heeded l (parked used) at stack (Some ticks) h k d = absurd k
   pause_heeded l (shown at' bytes) at stack (Some ticks) h k d = absurd k
 
 both_weaker : {X : Type 0} (P Q R : X → Type 0) → ((x : X) → P x → Q x → R x) → (xs : List X) → All P xs → All Q xs → All R xs

@@ -12,7 +12,7 @@ use Rattle.wa_types.specs.Bounds.{Bound, activation_bound}
 use Rattle.wa_types.specs.Runtime.{global_space, with_runtime}
 use Rattle.wa_types.specs.Validity.{Valid}
 use Rattle.wa_model.specs.declared.answers.Area.{Area}
-use Rattle.wa_model.specs.Outside.{Event, called, answered, paused, returned, ended, shown as was_shown}
+use Rattle.wa_model.specs.Outside.{Event, called, answered, paused, parked, returned, ended, shown as was_shown}
 use Rattle.wa_model.specs.Store.{Store}
 use Rattle.wa_model.specs.Plan.{AreLawful, EntryFits, Plan, Outcome, OutcomeFits}
 use Rattle.wa_model.specs.Blocking.{Note, events_of, Blocking, store_of}
@@ -65,6 +65,7 @@ not_paused (called c) T h = tt
 not_paused (answered v) T h = tt
 not_paused (returned i v) T h = tt
 not_paused (ended how) T h = tt
+not_paused (parked used) T h = tt
 not_paused (was_shown at bytes) T h = tt
 
 no_pause : (e : Event) → unless_pause e ≡ Some e → NoPause e
@@ -73,6 +74,7 @@ no_pause (called c) h = tt
 no_pause (answered v) h = tt
 no_pause (returned i v) h = tt
 no_pause (ended how) h = tt
+no_pause (parked used) h = tt
 no_pause (was_shown at bytes) h = tt
 
 none_paused : (g : ℕ) (xs ys : List Note) → Alike (NoteAgrees g) xs ys → NonePaused ys

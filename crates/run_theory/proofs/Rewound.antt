@@ -13,7 +13,7 @@ use Rattle.wa_model.specs.Blocking.{Asker, Left, Note, Task, an_entry, call_note
 use Rattle.wa_model.specs.Configuration.{Configuration}
 use Rattle.wa_model.specs.Instantiation.{Opening, fails_as, opens, opening}
 use Rattle.wa_model.specs.Machine.{Leads, Turn, goes, moves, run, stays, stops}
-use Rattle.wa_model.specs.Outside.{Answer, Call, Event, answered, called, ended, paused, returned, shown}
+use Rattle.wa_model.specs.Outside.{Answer, Call, Event, answered, called, ended, paused, parked, returned, shown}
 use Rattle.wa_model.specs.Plan.{Entry, Outcome, Plan, given, refused}
 use Rattle.wa_model.specs.Protocol.{Exports, Held, Phase, Protocol, Then, aside, aside_back, aside_called, aside_step, broken, busy, busy_enters, busy_step, call_again, calling, entering, exports_of, free, give_answer, give_zero, held_asked, held_back, held_begun, held_given, held_next, held_on, held_pauses, held_resumed, held_start, held_tested, is_running, is_state, over, pause_there, protocol, rewinds, starting, test_rewound, test_unwound, unwinds}
 use Rattle.wa_model.specs.Step.{Next, asks, returns, step, steps, stuck, traps}
@@ -35,6 +35,7 @@ told_anyway before (answered v ∷ xs) c h = told_anyway before xs c h
 told_anyway before (paused t u ∷ xs) c h = told_anyway before xs c h
 told_anyway before (returned i v ∷ xs) c h = told_anyway before xs c h
 told_anyway before (ended how ∷ xs) c h = told_anyway before xs c h
+told_anyway before (parked used ∷ xs) c h = told_anyway before xs c h
 told_anyway before (shown at bytes ∷ xs) c h = told_anyway before xs c h
 
 makes_too : (before : Option Call) (xs : List Event) (o : Next) → MakesCall (last_called None xs) o → MakesCall (last_called before xs) o

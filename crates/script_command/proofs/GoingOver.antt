@@ -6,7 +6,7 @@ use Rattle.std.proofs.lemmas.List.Elements.{All-nil, All-cons, All-head, All-tai
 use Rattle.vault_port.specs.Files.{Files}
 use Rattle.wa_model.specs.Plan.{Outcome}
 use Rattle.wa_model.specs.Untouched.{Untouched}
-use Rattle.wa_model.specs.World.{Original}
+use Rattle.world_model.specs.World.{Original}
 use Rattle.script_model.specs.Script.{ProgramText}
 use Rattle.world_laws.specs.Originals.{MayRun, Orderly}
 use Rattle.world_laws.proofs.Stories.{none_ignored}

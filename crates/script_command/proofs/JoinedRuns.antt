@@ -4,7 +4,7 @@ use Rattle.std.specs.Prelude.{slice_get}
 use Rattle.std.specs.List.{AllZip}
 use Rattle.vault_port.specs.Files.{Files}
 use Rattle.wa_model.specs.Outside.{Line}
-use Rattle.wa_model.specs.World.{Actor, Original}
+use Rattle.world_model.specs.World.{Actor, Original}
 use Rattle.script_model.specs.Script.{Script}
 use Rattle.script_model.specs.Transcript.{Names, Transcript, event_lines}
 use Rattle.snapshot_store.specs.Snapshots.{Snapshot, SnapText, snapshot_bytes}

@@ -4,7 +4,7 @@ use Rattle.vault_port.specs.Files.{Files}
 use Rattle.wa_types.specs.Pausing.{Listed, Settings}
 use Rattle.wa_types.specs.Syntax.{Module}
 use Rattle.wa_model.specs.Rewrites.{Rewrites}
-use Rattle.wa_model.specs.World.{Original}
+use Rattle.world_model.specs.World.{Original}
 use Rattle.script_model.specs.Command.{choice_said}
 use Rattle.script_model.specs.Script.{ProgramText, ScriptFault}
 use Rattle.script_setup.specs.SetUpRules.{SetUp, set_up_rules}

@@ -7,7 +7,7 @@ use Rattle.wa_model.specs.declared.answers.Detach.{Detach}
 use Rattle.wa_model.specs.Blocking.{Note}
 use Rattle.wa_model.specs.Outside.{AnswerLine, Call, Line}
 use Rattle.wa_model.specs.Plan.{Outcome}
-use Rattle.wa_model.specs.World.{Actor, CallsMeet, Device, Events, Meets, MeetsBound, NoteMeets, Plays, Program, ProtocolWorldFrom, an_event, call_in, detached, no_event, turn_of}
+use Rattle.world_model.specs.World.{Actor, CallsMeet, Device, Events, Meets, MeetsBound, NoteMeets, Plays, Program, ProtocolWorldFrom, an_event, call_in, detached, no_event, turn_of}
 use Rattle.world_laws.specs.AloneLines.{Unbound}
 use Rattle.world_laws.proofs.Places.{all_at}
 

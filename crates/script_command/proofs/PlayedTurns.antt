@@ -6,10 +6,10 @@ use Rattle.std.proofs.lemmas.Bool.{cases_lt}
 use Rattle.std.proofs.lemmas.List.{map-append}
 use Rattle.wa_model.specs.declared.answers.Detach.{Detach}
 use Rattle.wa_model.specs.Blocking.{Note}
-use Rattle.wa_model.specs.Outside.{AnswerLine, Call, Event, Line, answered, called, ended, paused, returned, shown}
+use Rattle.wa_model.specs.Outside.{AnswerLine, Call, Event, Line, answered, called, ended, paused, parked, returned, shown}
 use Rattle.wa_model.specs.Plan.{Outcome}
 use Rattle.wa_model.specs.Store.{Store}
-use Rattle.wa_model.specs.World.{Actor, CallsMeet, Device, Look, NoteMeets, Plays, Program, StartsHeld, behind_turn, call_in, ends_turn, events_with_looks, is_end, line_at, look_events, looks_after, protocol_story, turn_of}
+use Rattle.world_model.specs.World.{Actor, CallsMeet, Device, Look, NoteMeets, Plays, Program, StartsHeld, behind_turn, call_in, ends_turn, events_with_looks, is_end, line_at, look_events, looks_after, protocol_story, turn_of}
 use Rattle.world_laws.specs.Originals.{new_calls, one_if}
 use Rattle.world_laws.specs.Played.{Played}
 use Rattle.world_laws.proofs.Counting.{Ends, calls_on}
@@ -44,6 +44,7 @@ module _ (due i : ℕ) (looks : List Look) where
   looks_none x (paused ticks used) = refl
   looks_none x (returned entry value) = refl
   looks_none x (ended how) = shown_none x.store looks
+  looks_none x (parked used) = refl
   looks_none x (shown at bytes) = refl
 
   note_told : (x : Note) (xs : List Note) → turns_in (x ∷ xs) ≡ turns_at x.event + turns_in xs

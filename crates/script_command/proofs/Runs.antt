@@ -9,7 +9,7 @@ use Rattle.wa_types.specs.Modules.{imported_func}
 use Rattle.wa_types.specs.Pausing.{Choice, Policy, joined_name, Settings}
 use Rattle.script_model.specs.Command.{choice_said}
 use Rattle.wa_model.specs.Outside.{Line}
-use Rattle.wa_model.specs.World.{name_if}
+use Rattle.world_model.specs.World.{name_if}
 use Rattle.script_model.specs.Script.{EntryText, ProgramText}
 use Rattle.script_model.specs.Transcript.{Names, Transcript}
 use Rattle.script_setup.specs.SetUpRules.{program_names}

@@ -5,7 +5,7 @@ use Rattle.std.specs.List.{flat_map}
 use Rattle.std.specs.Option.{option_map}
 use Rattle.std.proofs.lemmas.List.Elements.{All-cons, All-head, All-nil, All-tail}
 use Rattle.vault_port.specs.Files.{Files}
-use Rattle.wa_model.specs.World.{Program}
+use Rattle.world_model.specs.World.{Program}
 use Rattle.script_model.specs.Script.{BindText, ProgramText, Script, device_line}
 use Rattle.snapshot_store.specs.Snapshots.{ProgramRecord}
 use Rattle.world_laws.specs.AloneLines.{Unbound}

@@ -2,7 +2,7 @@
 use Rattle.std.specs.Prelude.{◌≡◌, ℕ, List, Option, Some, slice_get}
 use Rattle.std.specs.List.{AllZip}
 use Rattle.vault_port.specs.Files.{Files}
-use Rattle.wa_model.specs.World.{Actor, Original}
+use Rattle.world_model.specs.World.{Actor, Original}
 use Rattle.world_laws.specs.Originals.{met}
 use Rattle.event_order.specs.Left.{Counted}
 use Rattle.script_command.specs.Playing.{Play, detaches_in}

@@ -4,7 +4,7 @@ use Rattle.std.specs.List.{AllZip}
 use Rattle.vault_port.specs.Files.{Files}
 use Rattle.script_model.specs.Transcript.{Transcript}
 use Rattle.wa_model.specs.Rewrites.{Rewrites}
-use Rattle.wa_model.specs.World.{Actor, BlockingWorld, Original}
+use Rattle.world_model.specs.World.{Actor, BlockingWorld, Original}
 use Rattle.world_laws.specs.Originals.{met}
 use Rattle.event_order.specs.Left.{Counted}
 use Rattle.many_host.specs.Calls.{devices_of}

@@ -5,7 +5,7 @@ use Rattle.vault_port.specs.Files.{Files}
 use Rattle.wa_model.specs.Outside.{Line}
 use Rattle.wa_model.specs.Plan.{Outcome}
 use Rattle.wa_model.specs.Untouched.{Untouched}
-use Rattle.wa_model.specs.World.{Actor, BlockingWorld, Device, Original}
+use Rattle.world_model.specs.World.{Actor, BlockingWorld, Device, Original}
 use Rattle.script_model.specs.Script.{ProgramText, Script}
 use Rattle.script_model.specs.Transcript.{Transcript}
 use Rattle.world_laws.specs.Originals.{met}

@@ -2,7 +2,7 @@
 use Rattle.std.specs.Prelude.{◌≡◌, ℕ, List, length, Option, Some, slice_get}
 use Rattle.std.specs.List.{AllZip}
 use Rattle.vault_port.specs.Files.{Files}
-use Rattle.wa_model.specs.World.{Actor, BlockingWorld, Original}
+use Rattle.world_model.specs.World.{Actor, BlockingWorld, Original}
 use Rattle.script_model.specs.Transcript.{Transcript}
 use Rattle.world_laws.specs.Originals.{met}
 use Rattle.event_order.specs.Left.{Counted}

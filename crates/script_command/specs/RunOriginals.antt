@@ -3,7 +3,7 @@ use Rattle.std.specs.Prelude.{◌≡◌, ℕ, List, [], ◌∷◌, length, Optio
 use Rattle.std.specs.List.{AllZip}
 use Rattle.vault_port.specs.Files.{Files}
 use Rattle.script_model.specs.Transcript.{Names, Transcript}
-use Rattle.wa_model.specs.World.{BlockingWorld}
+use Rattle.world_model.specs.World.{BlockingWorld}
 use Rattle.event_order.specs.Left.{Counted}
 use Rattle.many_host.specs.Calls.{devices_of}
 use Rattle.transform_command.specs.Sources.{IsValidSource}

@@ -7,7 +7,7 @@ use Rattle.vault_port.specs.declared.whole.PutFault.{PutFault}
 use Rattle.script_model.specs.Transcript.{Refusal, read_fault, refusal_line, snapshot_limit, snapshot_refused, write_fault}
 use Rattle.wasm_reader.specs.Held.{Holds}
 use Rattle.snapshot_store.specs.Snapshots.{Snapshot, SnapText, snapshot_bytes}
-use Rattle.wa_model.specs.World.{Program}
+use Rattle.world_model.specs.World.{Program}
 use Rattle.world_laws.specs.Snapshots.{From}
 use Rattle.script_command.specs.Playing.{detaches_in}
 use Rattle.world_hosting.specs.Continued.{AreContinued}

@@ -12,8 +12,8 @@ use Rattle.wa_model.specs.declared.answers.Said.{Said}
 use Rattle.wa_model.specs.declared.answers.Said.TheVariants as S
 use Rattle.wa_model.specs.declared.events.End.{End}
 use Rattle.wa_model.specs.declared.events.End.TheVariants.{Done, Trapped, UnwindTrap, RewindTrap, ElementsOut, BytesOut, HostLimit, NoAnswer, OtherImport, BadAnswer, BadPoke, UnlistedPause}
-use Rattle.wa_model.specs.declared.events.End.TheVariants.{PauseInStart, DeviceFault, NoDevice, StepsSpent, Broken}
-use Rattle.wa_model.specs.Outside.{Event, called, answered, paused, returned, ended, shown, Line}
+use Rattle.wa_model.specs.declared.events.End.TheVariants.{PauseInStart, DeviceFault, NoDevice, Stalled, StepsSpent, Broken}
+use Rattle.wa_model.specs.Outside.{Event, called, answered, paused, parked, returned, ended, shown, Line}
 
 -- ---- names, bytes and values
 
@@ -107,6 +107,7 @@ end_text names (UnlistedPause import) = codes "unlisted pause " ++ name_at names
 end_text names (PauseInStart import) = codes "pause in start " ++ name_at names.imports import
 end_text names (DeviceFault import) = codes "device fault " ++ name_at names.imports import
 end_text names (NoDevice import) = codes "no device " ++ name_at names.imports import
+end_text names (Stalled import) = codes "stalled " ++ name_at names.imports import
 end_text names (StepsSpent n) = codes "steps spent " ++ decimal n
 end_text names (Broken rule) = codes "protocol broken " ++ decimal rule
 
@@ -134,6 +135,7 @@ abbrev pub event_text : Names → (tick : ℕ) → Event → List ℕ
 event_text names tick (called call) = codes "call " ++ name_at names.imports call.import ++ behind_spaces call.args
 event_text names tick (answered said) = codes "answer " ++ said_text said
 event_text names tick (paused ticks used) = pause_text (tick + ticks) used names.len
+event_text names tick (parked used) = codes "park " ++ area_text used names.len
 event_text names tick (returned entry value) = codes "return " ++ name_at names.entries entry ++ returned_value value
 event_text names tick (ended how) = codes "end " ++ end_text names how
 event_text names tick (shown at bytes) = codes "memory " ++ decimal at ++ codes " " ++ shown_bytes bytes

@@ -17,7 +17,7 @@ use Rattle.script_model.specs.Script.{GlobalText, EntryText, ShowText, ProgramTe
 use Rattle.script_model.specs.ScriptLines.{or_else}
 use Rattle.wa_model.specs.Step.{zero_of}
 use Rattle.script_model.specs.Transcript.{Names}
-use Rattle.wa_model.specs.World.{import_names}
+use Rattle.world_model.specs.World.{import_names}
 use Rattle.host_setup.specs.SetUp.{NamedEntry, Fault, area_bad, no_export, entry_missing, entry_is_import, arg_types, set_up}
 
 -- ---- rules 9 to 13: area, exports, entries

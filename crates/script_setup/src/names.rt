@@ -7,7 +7,7 @@ ghost use Rattle.wa_types.specs.Modules.{imported_func};
 ghost use Rattle.wa_types.specs.Pausing.{joined_name};
 ghost use Rattle.wa_types.specs.View.{module_of};
 ghost use Rattle.script_model.specs.Script.{EntryText as PlainEntry};
-ghost use Rattle.wa_model.specs.World.{name_if};
+ghost use Rattle.world_model.specs.World.{name_if};
 ghost use Rattle.script_reader.specs.Views.{entry_of, program_of};
 ghost use Rattle.script_setup.specs.SetUpRules.{program_names};
 ghost use Rattle.std.specs.List.{filter_map};

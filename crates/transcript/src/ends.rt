@@ -50,6 +50,7 @@ pub fn put_end(
         End::PauseInStart(import) => put_import(text, "pause in start ", *import, imports),
         End::DeviceFault(import) => put_import(text, "device fault ", *import, imports),
         End::NoDevice(import) => put_import(text, "no device ", *import, imports),
+        End::Stalled(import) => put_import(text, "stalled ", *import, imports),
         End::StepsSpent(n) => put_with_number(alloc, text, "steps spent ", *n),
         End::Broken(rule) => put_with_number(alloc, text, "protocol broken ", u64::from(*rule)),
     }

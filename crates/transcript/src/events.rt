@@ -70,6 +70,10 @@ fn put_event(
             *used,
             names.len,
         ),
+        Event::Parked { used } => {
+            put(text, "park ")?;
+            put_area(alloc, text, *used, names.len)
+        }
         Event::Returned { entry, value } => {
             put_return(alloc, text, name_of(&names.entries, *entry), *value)
         }

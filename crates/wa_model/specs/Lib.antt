@@ -14,4 +14,3 @@ pub mod Step
 pub mod Store
 pub mod Untouched
 pub mod View
-pub mod World

@@ -30,6 +30,7 @@ pub data Event : Type 0 where
   called : (call : Call) → Event
   answered : (said : Said) → Event
   paused : (ticks used : ℕ) → Event
+  parked : (used : ℕ) → Event
   returned : (entry : ℕ) → (value : Option Value) → Event
   ended : (how : End) → Event
   shown : (at : ℕ) → (bytes : Option (List ℕ)) → Event

@@ -6,9 +6,9 @@ use Rattle.wa_model.specs.declared.answers.Answer.{Answer as AnswerValue}
 use Rattle.wa_model.specs.declared.answers.AnswerLine.{AnswerLine as AnswerLineValue}
 use Rattle.wa_model.specs.declared.events.Call.{Call as CallValue}
 use Rattle.wa_model.specs.declared.events.Event.{Event as EventValue}
-use Rattle.wa_model.specs.declared.events.Event.TheVariants.{Called, Answered, Paused, Returned, Ended, Shown}
+use Rattle.wa_model.specs.declared.events.Event.TheVariants.{Called, Answered, Paused, Parked, Returned, Ended, Shown}
 use Rattle.wa_model.specs.declared.events.Line.{Line as LineValue}
-use Rattle.wa_model.specs.Outside.{Poke, Answer, Call, AnswerLine, Event, called, answered, paused, returned, ended, shown, Line}
+use Rattle.wa_model.specs.Outside.{Poke, Answer, Call, AnswerLine, Event, called, answered, paused, parked, returned, ended, shown, Line}
 
 -- a poke
 abbrev pub poke_of : PokeValue → Poke
@@ -31,6 +31,7 @@ abbrev pub event_of : EventValue → Event
 event_of (Called c) = called (call_of c)
 event_of (Answered said) = answered said
 event_of (Paused ticks used) = paused ticks used
+event_of (Parked used) = parked used
 event_of (Returned entry v) = returned entry v
 event_of (Ended e) = ended e
 event_of (Shown at bytes) = shown at (option_map (λ b. b.items) bytes)

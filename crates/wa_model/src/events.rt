@@ -19,6 +19,8 @@ pub enum Event {
     Answered(Said),
     /// It paused for so many ticks, with so many bytes of its area used.
     Paused { ticks: u32, used: u32 },
+    /// It waits at a mailbox, with so many bytes of its area used.
+    Parked { used: u32 },
     /// The entry of this number, from 0, returned.
     Returned { entry: u32, value: Option<Value> },
     /// It ended.
@@ -68,6 +70,8 @@ pub enum End {
     DeviceFault(u32),
     /// The device of this import isn't there.
     NoDevice(u32),
+    /// It waits at this import, and no program is left that could send to it.
+    Stalled(u32),
     /// The next reduction would pass the program's number of steps.
     StepsSpent(u64),
     /// The module broke this rule of the host's protocol, from 1.

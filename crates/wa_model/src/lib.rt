@@ -6,12 +6,11 @@
 //! stack at each call (`specs/Blocking.antt`). `Protocol` runs a rewritten module as a host does, which unwinds
 //! the stack into a range of memory and rewinds it through five exports (`specs/Protocol.antt`). `Behaves` says
 //! what the second owes the first, and `Rewrites` what a rewritten module is (`specs/Behaves.antt`,
-//! `specs/Rewrites.antt`): the headline is a sentence over these. `World` has several programs with devices, told
-//! line by line.
+//! `specs/Rewrites.antt`): the headline is a sentence over these.
 //!
 //! Read in the order `Machine`, `Store`, `Configuration`, `Step`, `Outside`, `Instantiation`, `Plan`, `Blocking`, `Untouched`,
-//! `Protocol`, `Expected`, `Behaves`, `Rewrites`, then `World`. `proofs/Cases.antt` has small runs that these definitions compute.
-//! What holds of all runs stands in `run_theory`, what scripts and transcripts are in `script_model`.
+//! `Protocol`, `Expected`, `Behaves`, `Rewrites`. `proofs/Cases.antt` has small runs that these definitions compute. What holds of all
+//! runs stands in `run_theory`, several programs with devices in `world_model`, what scripts and transcripts are in `script_model`.
 #![tactic(auto)]
 
 mod answers;

@@ -9,7 +9,7 @@ use Rattle.wa_types.specs.declared.syntax.Import.{Import}
 use Rattle.wa_types.specs.Modules.{imported_func}
 use Rattle.wa_model.specs.Outside.{Line}
 use Rattle.script_model.specs.Script.{BindText}
-use Rattle.wa_model.specs.World.{Device, ProtocolWorld}
+use Rattle.world_model.specs.World.{Device, ProtocolWorld}
 use Rattle.world_laws.specs.AloneLines.{Unbound, own_lines}
 use Rattle.world_laws.proofs.AloneLines.{own_lines_alone}
 use Rattle.world_laws.proofs.Replays.{unbound_fix_lines}

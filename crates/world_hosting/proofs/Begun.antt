@@ -4,8 +4,8 @@ use Rattle.std.specs.Option.{option_map}
 use Rattle.std.proofs.lemmas.List.{length-map}
 use Rattle.std.proofs.lemmas.Option.{same_Some, slice_get-map, slice_get_within}
 use Rattle.wa_model.specs.declared.answers.Detach.{Detach}
-use Rattle.wa_model.specs.World as W
-use Rattle.wa_model.specs.World.{Device}
+use Rattle.world_model.specs.World as W
+use Rattle.world_model.specs.World.{Device}
 use Rattle.event_order.specs.declared.shows.Show.{Show}
 use Rattle.many_host.specs.Turns.{Teller, starting}
 use Rattle.world_laws.proofs.Places.{item, zipped}

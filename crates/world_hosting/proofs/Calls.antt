@@ -8,7 +8,7 @@ use Rattle.wa_model.specs.declared.events.End.TheVariants.{OtherImport, DeviceFa
 use Rattle.wa_model.specs.Outside.{Call, AnswerLine, Event, ended}
 use Rattle.wa_model.specs.Plan.{Outcome, given, refused}
 use Rattle.wa_model.specs.Blocking.{Note}
-use Rattle.wa_model.specs.World.{Asked, Device, Program, base_names, import_names, is_named, name_at, MeetsLine, MeetsBound, Meets}
+use Rattle.world_model.specs.World.{Asked, Device, Program, base_names, import_names, is_named, name_at, MeetsLine, MeetsBound, Meets}
 use Rattle.event_order.specs.Left.{Counted}
 use Rattle.host_laws.specs.Supplies.{Answers, Counts, bound_to}
 use Rattle.many_host.specs.Calls.{devices_of, faults_of}

@@ -4,11 +4,11 @@ use Rattle.std.specs.Prelude.{if◌then◌else◌, nat_eq, slice_get, slice_set}
 use Rattle.std.specs.List.{AllZip}
 use Rattle.std.proofs.lemmas.Bool.{ne_eqb}
 use Rattle.wa_model.specs.declared.answers.Detach.{Detach}
-use Rattle.wa_model.specs.Outside.{Call, AnswerLine, Event, called, answered, paused, returned, ended, shown, Line}
+use Rattle.wa_model.specs.Outside.{Call, AnswerLine, Event, called, answered, paused, parked, returned, ended, shown, Line}
 use Rattle.wa_model.specs.Store.{Store}
 use Rattle.wa_model.specs.Plan.{Outcome}
 use Rattle.wa_model.specs.Blocking.{Note}
-use Rattle.wa_model.specs.World.{Actor, CallsMeet, Meets, Device, Events, Look, Program, StartsHeld, an_event, behind_turn, bytes_shown, call_in, detached, ends_turn, events_with_looks, is_end, line_at, look_events, no_event, protocol_story, put_off, turn_of}
+use Rattle.world_model.specs.World.{Actor, CallsMeet, Meets, Device, Events, Look, Program, StartsHeld, an_event, behind_turn, bytes_shown, call_in, detached, ends_turn, events_with_looks, is_end, line_at, look_events, no_event, protocol_story, put_off, turn_of}
 use Rattle.world_laws.specs.Originals.{new_calls}
 use Rattle.world_laws.proofs.Counting.{Ends}
 use Rattle.world_laws.proofs.Meeting.{EachMet, Met, events_met}
@@ -76,6 +76,7 @@ module _ (detaches : List Detach) where
   told_stays n begun (called c) ls least h = inr (refl, sym (at_line n begun ls least h))
   told_stays n begun (answered v) ls least h = inr (refl, sym (at_line n begun ls least h))
   told_stays n begun (paused t u) ls least h = inr (refl, sym (at_line n begun ls least h))
+  told_stays n begun (parked u) ls least h = inr (refl, sym (at_line n begun ls least h))
   told_stays n begun (returned i v) ls least h = inr (refl, sym (at_line n begun ls least h))
   told_stays n begun (ended how) ls least h = inr (refl, sym (at_line n begun ls least h))
 
@@ -276,6 +277,10 @@ module _ (programs : List Program) (detaches : List Detach) (count : ℕ) (new :
       note_on x zs on (returned j v) = λ r os lines ds begun told ms now ls least ends behind inner calls b t beside took within go.
           quiet_line (returned j v) refl refl refl (lines_of zs) begun told ms now ls least b t took within
           (λ begun' told' ms' ls' b' t' took' within'. on None os lines ds begun' told' ms' now ls' least (ends_rest (with_event x (returned j v)) zs refl ends) inner.0 inner.1 calls
+          b' t' (untold w r now ds least beside) took' within' go)
+      note_on x zs on (parked used) = λ r os lines ds begun told ms now ls least ends behind inner calls b t beside took within go.
+          quiet_line (parked used) refl refl refl (lines_of zs) begun told ms now ls least b t took within
+          (λ begun' told' ms' ls' b' t' took' within'. on None os lines ds begun' told' ms' now ls' least (ends_rest (with_event x (parked used)) zs refl ends) inner.0 inner.1 calls
           b' t' (untold w r now ds least beside) took' within' go)
       note_on x zs on (shown at bytes) = λ r os lines ds begun told ms now ls least ends behind inner calls b t beside took within go.
           quiet_line (shown at bytes) refl refl refl (lines_of zs) begun told ms now ls least b t took within

@@ -7,9 +7,9 @@ use Rattle.wa_types.specs.Validity.{same_name}
 use Rattle.wa_model.specs.declared.answers.Detach.{Detach}
 use Rattle.wa_model.specs.declared.answers.Said.TheVariants as S
 use Rattle.wa_model.specs.declared.events.End.TheVariants.{DeviceFault, NoDevice}
-use Rattle.wa_model.specs.Outside.{AnswerLine, Call, Event, called, answered, paused, returned, ended, shown, Line}
+use Rattle.wa_model.specs.Outside.{AnswerLine, Call, Event, called, answered, paused, parked, returned, ended, shown, Line}
 use Rattle.wa_model.specs.Plan.{Outcome, ValueFits, given, refused}
-use Rattle.wa_model.specs.World.{Asked, Device, MeetsBound, Program, Reply, base_names, call_in, detached, detached_if, ends_turn, is_named, journaled, name_at, taken_out}
+use Rattle.world_model.specs.World.{Asked, Device, MeetsBound, Program, Reply, base_names, call_in, detached, detached_if, ends_turn, is_named, journaled, name_at, taken_out}
 use Rattle.event_order.specs.Left.{Counted, left_before, without, without_if}
 use Rattle.host_laws.specs.Supplies.{Takes, bound_to}
 use Rattle.many_host.specs.Calls.{IsShown, TakesCall, devices_of, faults_of, left_at}
@@ -322,6 +322,7 @@ no_call_shown (shown at bytes) h = refl
 no_call_shown (called c) h = absurd h
 no_call_shown (answered v) h = absurd h
 no_call_shown (paused t u) h = absurd h
+no_call_shown (parked used) h = absurd h
 no_call_shown (returned i v) h = absurd h
 no_call_shown (ended how) h = absurd h
 
@@ -330,6 +331,7 @@ no_turn_shown (shown at bytes) h = refl
 no_turn_shown (called c) h = absurd h
 no_turn_shown (answered v) h = absurd h
 no_turn_shown (paused t u) h = absurd h
+no_turn_shown (parked used) h = absurd h
 no_turn_shown (returned i v) h = absurd h
 no_turn_shown (ended how) h = absurd h
 

@@ -7,7 +7,7 @@ use Rattle.wa_model.specs.declared.answers.Area.{Area}
 use Rattle.wa_model.specs.Outside.{Event, shown}
 use Rattle.wa_model.specs.Plan.{Outcome, OutcomeFits}
 use Rattle.wa_model.specs.Blocking.{Note}
-use Rattle.wa_model.specs.World.{Actor, BlockingStory, Original, Program, StartsHeld, protocol_story}
+use Rattle.world_model.specs.World.{Actor, BlockingStory, Original, Program, StartsHeld, protocol_story}
 use Rattle.world_laws.specs.Originals.{Orderly, SameMoment, met, new_calls}
 use Rattle.world_laws.proofs.Meeting.{AnswersFit, EachMet, Met, events_met}
 use Rattle.world_laws.proofs.Stories.{stories_of_originals}

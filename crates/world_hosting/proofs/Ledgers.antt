@@ -6,7 +6,7 @@ use Rattle.wa_types.specs.Validity.{same_name}
 use Rattle.wa_model.specs.declared.answers.Detach.{Detach}
 use Rattle.wa_model.specs.declared.events.End.TheVariants.{DeviceFault}
 use Rattle.wa_model.specs.Plan.{Outcome, refused}
-use Rattle.wa_model.specs.World.{Asked, Device, is_named, taken_out, detached_if, detached, journaled}
+use Rattle.world_model.specs.World.{Asked, Device, is_named, taken_out, detached_if, detached, journaled}
 use Rattle.vault_port.specs.Counts.{HasRisen}
 use Rattle.device_port.specs.Listed.{ChangesAt, IsFirstOf}
 use Rattle.event_order.specs.Left.{Counted, without, without_if, left_before}

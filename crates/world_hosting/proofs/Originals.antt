@@ -10,7 +10,7 @@ use Rattle.wa_types.specs.Typing.{GlobalType}
 use Rattle.run_theory.specs.Fitting.{types_of, global_types}
 use Rattle.wa_model.specs.Plan.{EntryFits, Fits, Plan}
 use Rattle.script_model.specs.ScriptLines.{or_else}
-use Rattle.wa_model.specs.World.{Actor, Original}
+use Rattle.world_model.specs.World.{Actor, Original}
 use Rattle.world_laws.specs.Originals.{MayRun, Orderly, StandsIn, met}
 use Rattle.world_laws.proofs.Stories.{none_ignored}
 use Rattle.world_laws.proofs.Worlds.{worlds_of_originals}

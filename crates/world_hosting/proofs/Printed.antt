@@ -17,7 +17,7 @@ use Rattle.wa_model.specs.Plan.{Outcome}
 use Rattle.wa_model.specs.View.{line_of}
 use Rattle.script_model.specs.Transcript as T
 use Rattle.script_model.specs.Transcript.{event_line, event_lines, last_line, names_at}
-use Rattle.wa_model.specs.World.{Actor, Device, Program, ProtocolWorldFrom, StartsHeld}
+use Rattle.world_model.specs.World.{Actor, Device, Program, ProtocolWorldFrom, StartsHeld}
 use Rattle.device_port.specs.declared.devices.Devices.{Devices}
 use Rattle.device_port.specs.Listed.{of_all}
 use Rattle.event_order.specs.Dues.{HaveEnded}

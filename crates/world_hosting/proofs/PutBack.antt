@@ -4,8 +4,8 @@ use Rattle.std.specs.Prelude.{MatchBool, is_none, slice_get}
 use Rattle.wa_model.specs.Outside.{Answer}
 use Rattle.wa_model.specs.Plan.{Entry}
 use Rattle.wa_model.specs.View.{answer_line_of}
-use Rattle.wa_model.specs.World as W
-use Rattle.wa_model.specs.World.{Halt, Look, answers_from, due_from, gone}
+use Rattle.world_model.specs.World as W
+use Rattle.world_model.specs.World.{Halt, Look, answers_from, due_from, gone}
 use Rattle.event_order.specs.Looks.{looks_of}
 use Rattle.host_setup.specs.SetUp.{Fault, set_up}
 use Rattle.many_host.specs.Turns.{is_gone}

@@ -5,8 +5,8 @@ use Rattle.std.proofs.lemmas.Bool.Decides.{nat_tests}
 use Rattle.std.proofs.lemmas.List.{append-nil, length-map, map_more}
 use Rattle.std.proofs.lemmas.List.Elements.{filter_map-append}
 use Rattle.world_laws.proofs.Places.{of_map, zip_both}
-use Rattle.wa_model.specs.World as W
-use Rattle.wa_model.specs.World.{Look, at_start}
+use Rattle.world_model.specs.World as W
+use Rattle.world_model.specs.World.{Look, at_start}
 use Rattle.event_order.specs.declared.shows.Show.{Show}
 use Rattle.event_order.specs.Looks.{looks_of}
 use Rattle.event_order.specs.Looks as E

@@ -10,8 +10,8 @@ use Rattle.run_theory.specs.Fitting.{types_of}
 use Rattle.wa_model.specs.Outside.{AnswerLine}
 use Rattle.script_model.specs.Script.{ProgramText}
 use Rattle.wa_model.specs.View.{answer_line_of}
-use Rattle.wa_model.specs.World as W
-use Rattle.wa_model.specs.World.{at_start}
+use Rattle.world_model.specs.World as W
+use Rattle.world_model.specs.World.{at_start}
 use Rattle.host_setup.specs.SetUp.{NamedEntry, Fault, set_up}
 use Rattle.host_setup.specs.Views.{Blames, entry_of as named_entry_of}
 use Rattle.host_setup.specs.declared.faults.SetupFault.{SetupFault}

@@ -11,14 +11,14 @@ use Rattle.wa_model.specs.declared.answers.Detach.{Detach}
 use Rattle.wa_model.specs.declared.events.End.{End}
 use Rattle.wa_model.specs.declared.events.End.TheVariants.{UnwindTrap, RewindTrap, StepsSpent, Broken}
 use Rattle.wa_types.specs.declared.values.Trap.TheVariants.{Unreachable}
-use Rattle.wa_model.specs.Outside.{Event, called, answered, paused, returned, ended, shown, Line}
+use Rattle.wa_model.specs.Outside.{Event, called, answered, paused, parked, returned, ended, shown, Line}
 use Rattle.wa_model.specs.Store.{Store}
 use Rattle.wa_model.specs.Plan.{Outcome, OutcomeFits}
 use Rattle.wa_model.specs.Blocking.{Note, note, Blocking}
 use Rattle.wa_model.specs.Expected.{pause_note, trap_note}
 use Rattle.run_theory.specs.Shown.{shown_within as expected_of, shown_within_at as shown_at}
 use Rattle.wa_model.specs.Behaves.{expected_notes}
-use Rattle.wa_model.specs.World.{Actor, BlockingStory, Device, Events, IsOver, Look, Original, Program, an_event, behind_turn, bytes_shown, events_with_looks, line_at, look_events, looks_after, no_event, put_off, spent, turn_of, whole}
+use Rattle.world_model.specs.World.{Actor, BlockingStory, Device, Events, IsOver, Look, Original, Program, an_event, behind_turn, bytes_shown, events_with_looks, line_at, look_events, looks_after, no_event, put_off, spent, turn_of, whole}
 use Rattle.world_laws.specs.Bounded.{ends_astray, is_astray}
 use Rattle.world_laws.proofs.Bounded.{bounded_are_whole}
 use Rattle.world_laws.proofs.Places.{all_at, set_here, set_there}
@@ -57,6 +57,7 @@ module _ (test : Event → Bool) (plain : (at : ℕ) (bytes : Option (List ℕ))
   after_none looks x (paused t u) = refl
   after_none looks x (returned i v) = refl
   after_none looks x (ended how) = looks_none x.store looks
+  after_none looks x (parked used) = refl
   after_none looks x (shown at bytes) = refl
 
   notes_any : (looks : List Look) (xs : List Note) → list_any test (events_with_looks looks xs) ≡ any_note test xs

@@ -1,7 +1,7 @@
 -- A record that suits a program of a script, as that suits its plan, and the program that is put back by it.
 use Rattle.std.proofs.Common.{◌≡◌, ◌<◌, ◌^◌, ℕ, suc, List, [], ◌∷◌, length, map, Option, Some, None, Bool, true, false, Ok, Err, arith, refl, sym, ap, ◌∙◌, subst}
 use Rattle.std.proofs.lemmas.List.{length-map}
-use Rattle.wa_model.specs.World as W
+use Rattle.world_model.specs.World as W
 use Rattle.host_setup.specs.SetUp.{NamedEntry, Fault, all_told, entry_funcs, first_fault, unless_fault}
 use Rattle.host_setup.specs.Views.{entry_of}
 use Rattle.pause_host.specs.declared.faults.ThawFault.{ThawFault}

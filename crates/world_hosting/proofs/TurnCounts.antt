@@ -2,9 +2,9 @@
 use Rattle.std.proofs.Common.{◌≡◌, inl, inr, ℕ, zero, suc, ◌+◌, List, [], ◌∷◌, ◌++◌, map, drop, Bool, true, false, if◌then◌else◌, MatchBool, refl, sym, ap, ◌∙◌, arith, add_assoc}
 use Rattle.std.proofs.lemmas.List.{map-append}
 use Rattle.wa_model.specs.declared.answers.Detach.{Detach}
-use Rattle.wa_model.specs.Outside.{Event, called, answered, paused, returned, ended, shown, Line}
+use Rattle.wa_model.specs.Outside.{Event, called, answered, paused, parked, returned, ended, shown, Line}
 use Rattle.wa_model.specs.Blocking.{Note, events_of}
-use Rattle.wa_model.specs.World.{Device, Look, Program, ends_turn, events_with_looks, line_at, looks_after}
+use Rattle.world_model.specs.World.{Device, Look, Program, ends_turn, events_with_looks, line_at, looks_after}
 use Rattle.event_order.specs.Looks.{looks_of}
 use Rattle.many_host.specs.Notes.{GoesOn, TellsOnFrom}
 use Rattle.many_host.specs.Turns.{EndsOnce, Teller, TellsFrom, behind, since}
@@ -38,6 +38,7 @@ module _ (due i : ℕ) where
   looks_none looks x (paused ticks used) = refl
   looks_none looks x (returned entry value) = refl
   looks_none looks x (ended how) = memory_none x.store.memory looks
+  looks_none looks x (parked used) = refl
   looks_none looks x (shown at bytes) = refl
 
   turn_once : (looks : List Look) (turn : List Note) → EndsOnce turn → turn_count (lines_of (events_with_looks looks turn)) ≡ 1

@@ -6,7 +6,7 @@ use Rattle.std.proofs.lemmas.Option.{slice_get_within}
 use Rattle.wa_model.specs.declared.answers.Detach.{Detach}
 use Rattle.wa_model.specs.declared.events.Line.{Line as LineValue}
 use Rattle.wa_model.specs.Outside.{Event}
-use Rattle.wa_model.specs.World.{IsOver, Look, Program, StartsHeld}
+use Rattle.world_model.specs.World.{IsOver, Look, Program, StartsHeld}
 use Rattle.event_order.specs.declared.shows.Show.{Show}
 use Rattle.event_order.specs.Looks.{looks_of}
 use Rattle.event_order.specs.Dues.{HaveEnded}

@@ -2,8 +2,8 @@
 use Rattle.std.specs.Prelude.{◌≡◌, ◌<◌, ◌*◌, ◌^◌, ℕ, List, [], ◌∷◌, length, map, Option, Bool, true, false, MatchBool, Result, Ok, Err}
 use Rattle.wa_types.specs.Memory.{page_size}
 use Rattle.wa_model.specs.declared.answers.Detach.{Detach}
-use Rattle.wa_model.specs.World as W
-use Rattle.wa_model.specs.World.{answers_from, due_from, gone}
+use Rattle.world_model.specs.World as W
+use Rattle.world_model.specs.World.{answers_from, due_from, gone}
 use Rattle.event_order.specs.Left.{Counted}
 use Rattle.pause_host.specs.declared.faults.ThawFault.{ThawFault}
 use Rattle.pause_host.specs.declared.faults.ThawFault.TheVariants as T

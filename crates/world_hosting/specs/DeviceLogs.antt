@@ -8,7 +8,7 @@ use Rattle.wa_model.specs.declared.answers.Said.{Said}
 use Rattle.wa_model.specs.declared.answers.Said.TheVariants as S
 use Rattle.wa_model.specs.Outside.{Call, Line}
 use Rattle.wa_model.specs.Plan.{Outcome, given}
-use Rattle.wa_model.specs.World.{Asked, Device, Program, Reply, base_names, call_in, is_named, name_at}
+use Rattle.world_model.specs.World.{Asked, Device, Program, Reply, base_names, call_in, is_named, name_at}
 use Rattle.event_order.specs.Left.{Counted}
 use Rattle.host_laws.specs.Supplies.{bound_to}
 use Rattle.many_host.specs.Calls.{devices_of}

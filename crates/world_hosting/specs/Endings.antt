@@ -10,7 +10,7 @@ use Rattle.wa_model.specs.Outside.{Event, ended, Line}
 use Rattle.wa_model.specs.Plan.{Outcome}
 use Rattle.wa_model.specs.Blocking.{Note, Blocking}
 use Rattle.wa_model.specs.Behaves.{expected_notes, pause_stacks}
-use Rattle.wa_model.specs.World.{Actor, Device, Original, ProtocolWorld, is_end}
+use Rattle.world_model.specs.World.{Actor, Device, Original, ProtocolWorld, is_end}
 use Rattle.world_laws.specs.Originals.{met}
 use Rattle.world_laws.specs.Bounded.{ends_astray}
 use Rattle.world_hosting.specs.Worlds.{Part, world_programs}

@@ -5,7 +5,7 @@ use Rattle.wa_model.specs.declared.answers.Detach.{Detach}
 use Rattle.wa_model.specs.declared.events.End.{End}
 use Rattle.wa_model.specs.declared.events.End.TheVariants.{DeviceFault}
 use Rattle.wa_model.specs.Outside.{Event, ended, shown, Line}
-use Rattle.wa_model.specs.World.{Program, is_named}
+use Rattle.world_model.specs.World.{Program, is_named}
 use Rattle.event_order.specs.Left.{Counted}
 use Rattle.host_laws.specs.Supplies.{bound_to}
 use Rattle.many_host.specs.Calls.{left_at}

@@ -8,7 +8,7 @@ use Rattle.wa_model.specs.declared.answers.Detach.{Detach}
 use Rattle.wa_model.specs.Outside.{Line}
 use Rattle.wa_model.specs.Rewrites.{Rewrites}
 use Rattle.wa_model.specs.Untouched.{Untouched}
-use Rattle.wa_model.specs.World.{Actor, BlockingWorld, Device, Original, ProtocolWorld}
+use Rattle.world_model.specs.World.{Actor, BlockingWorld, Device, Original, ProtocolWorld}
 use Rattle.world_laws.specs.Originals.{met}
 use Rattle.script_setup.specs.SetUpRules.{set_up_rules}
 use Rattle.world_hosting.specs.Worlds.{HasRanges, Part, part, world_program, world_programs}

@@ -3,7 +3,7 @@ use Rattle.std.specs.Prelude.{◌≡◌, ℕ, suc, List, [], ◌∷◌, ◌++◌
 use Rattle.transcript.specs.Printing.{names_of}
 use Rattle.event_order.specs.declared.shows.Show.{Show}
 use Rattle.wa_model.specs.declared.answers.Detach.{Detach}
-use Rattle.wa_model.specs.World.{Device, Program}
+use Rattle.world_model.specs.World.{Device, Program}
 use Rattle.transcript.specs.declared.events.Names.{Names}
 use Rattle.many_host.specs.Hosts.{HostToldFrom}
 use Rattle.many_host.specs.declared.host.Host.{Host}

@@ -1,7 +1,7 @@
 -- Programs that stand for the records of a snapshot, as those of the world that goes on from it.
 use Rattle.std.specs.Prelude.{◌≡◌, ℕ, List, [], map, Option, Bool, true, false, Ok}
 use Rattle.wa_model.specs.View.{answer_line_of}
-use Rattle.wa_model.specs.World.{Look}
+use Rattle.world_model.specs.World.{Look}
 use Rattle.event_order.specs.declared.shows.Show.{Show}
 use Rattle.event_order.specs.Looks.{looks_of}
 use Rattle.host_setup.specs.SetUp.{set_up}

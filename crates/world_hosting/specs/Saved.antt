@@ -3,7 +3,7 @@ use Rattle.std.specs.Prelude.{◌≡◌, ◌⊎◌, ◌≤◌, ◌<◌, ℕ, Lis
 use Rattle.wa_model.specs.declared.answers.Detach.{Detach}
 use Rattle.wa_model.specs.Outside.{Line}
 use Rattle.wa_model.specs.Plan.{Outcome}
-use Rattle.wa_model.specs.World.{Actor, IsOver, Program}
+use Rattle.world_model.specs.World.{Actor, IsOver, Program}
 use Rattle.event_order.specs.Dues.{HaveEnded}
 use Rattle.event_order.specs.Left.{Counted}
 use Rattle.many_host.specs.Calls.{devices_of}

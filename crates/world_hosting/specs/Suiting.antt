@@ -5,7 +5,7 @@ use Rattle.wa_types.specs.Memory.{page_size}
 use Rattle.wa_types.specs.Modules.{func_type_at}
 use Rattle.wa_model.specs.Blocking.{fault_of}
 use Rattle.wa_model.specs.Outside.{AnswerLine}
-use Rattle.wa_model.specs.World.{Program, import_names}
+use Rattle.world_model.specs.World.{Program, import_names}
 use Rattle.interp.specs.Restoring.{PagesFit}
 use Rattle.pause_host.specs.Thawing.{GlobalsSuit}
 use Rattle.snapshot_store.specs.Snapshots.{PausedParts, ProgramRecord, Snapshot, fresh, over, paused}

@@ -3,7 +3,7 @@ use Rattle.std.specs.Prelude.{◌≡◌, ℕ, List, [], ◌∷◌, Some, slice_g
 use Rattle.wa_model.specs.declared.answers.Detach.{Detach}
 use Rattle.wa_model.specs.Outside.{Line}
 use Rattle.script_model.specs.Transcript.{Transcript}
-use Rattle.wa_model.specs.World.{ProtocolWorld}
+use Rattle.world_model.specs.World.{ProtocolWorld}
 use Rattle.event_order.specs.Left.{Counted}
 use Rattle.world_laws.specs.AloneLines.{Unbound, own_lines}
 use Rattle.world_hosting.specs.Worlds.{AreTold, Part, part_names, turn_count, world_program}

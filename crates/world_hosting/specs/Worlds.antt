@@ -8,7 +8,7 @@ use Rattle.wa_model.specs.Outside.{AnswerLine, Line}
 use Rattle.wa_model.specs.Plan.{AnswerFits, Outcome}
 use Rattle.script_model.specs.Script.{EntryText, GlobalText, ProgramText, ShowText}
 use Rattle.script_model.specs.Transcript.{Names, Transcript, event_lines}
-use Rattle.wa_model.specs.World.{Device, Look, Program, ProtocolWorldFrom, at_start}
+use Rattle.world_model.specs.World.{Device, Look, Program, ProtocolWorldFrom, at_start}
 use Rattle.event_order.specs.Left.{Counted}
 use Rattle.pause_host.specs.Moves.{HasShortPokes}
 use Rattle.pause_host.specs.Settings.{calls_of}

@@ -5,7 +5,7 @@ ghost use Rattle.std.specs.Result.{IfErr};
 ghost use Rattle.vault_port.specs.Counts.{FailsOnce};
 ghost use Rattle.std.specs.Bool.{OnFalse, OnTrue};
 ghost use Rattle.wa_model.specs.declared.answers.Detach.{Detach as DetachValue};
-ghost use Rattle.wa_model.specs.World.{Program as WorldProgram};
+ghost use Rattle.world_model.specs.World.{Program as WorldProgram};
 ghost use Rattle.world_laws.specs.AloneLines.{Unbound};
 ghost use Rattle.host_laws.specs.Supplies.{IsLent};
 ghost use Rattle.many_host.specs.Standing.{InRange, LooksOut};

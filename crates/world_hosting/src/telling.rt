@@ -4,7 +4,7 @@ ghost use Rattle.std.specs.Prelude.{◌≡◌, ◌≢◌, ◌≤◌, IsErrOf, Li
 ghost use Rattle.std.specs.Result.{IfErr};
 ghost use Rattle.vault_port.specs.Counts.{FailsOnce};
 ghost use Rattle.wa_model.specs.declared.answers.Detach.{Detach as DetachValue};
-ghost use Rattle.wa_model.specs.World.{Program as WorldProgram};
+ghost use Rattle.world_model.specs.World.{Program as WorldProgram};
 ghost use Rattle.host_laws.specs.Supplies.{IsLent};
 ghost use Rattle.many_host.specs.Standing.{InRange};
 ghost use Rattle.world_hosting.specs.Counts.{counted};

@@ -11,14 +11,14 @@ use Rattle.wa_model.specs.declared.answers.Area.{Area}
 use Rattle.wa_model.specs.declared.answers.Detach.{Detach}
 use Rattle.wa_model.specs.declared.events.End.{End}
 use Rattle.wa_model.specs.declared.events.End.TheVariants.{RewindTrap, Broken, StepsSpent}
-use Rattle.wa_model.specs.Outside.{Event, called, answered, paused, returned, ended, shown as was_shown, Line}
+use Rattle.wa_model.specs.Outside.{Event, called, answered, paused, parked, returned, ended, shown as was_shown, Line}
 use Rattle.wa_model.specs.Store.{Store}
 use Rattle.wa_model.specs.Plan.{Plan, Outcome, OutcomeFits}
 use Rattle.wa_model.specs.Blocking.{Note, note, Blocking}
 use Rattle.wa_model.specs.Expected.{pause_note, trap_note}
 use Rattle.run_theory.specs.Shown.{shown_within_at as shown_at, shown_within as shown}
 use Rattle.wa_model.specs.Behaves.{expected_notes}
-use Rattle.wa_model.specs.World.{Device, Look, Program, answers_from, bytes_shown, put_off, turn_of, behind_turn, protocol_story, BlockingStory, whole, spent, looks_after, look_events, events_with_looks, line_at, Actor, Events, no_event, an_event, StartsHeld, Original}
+use Rattle.world_model.specs.World.{Device, Look, Program, answers_from, bytes_shown, put_off, turn_of, behind_turn, protocol_story, BlockingStory, whole, spent, looks_after, look_events, events_with_looks, line_at, Actor, Events, no_event, an_event, StartsHeld, Original}
 use Rattle.run_laws.proofs.OwnEnds.{Own, blocking_own, ends_hosts, is_hosts}
 use Rattle.world_laws.specs.Originals.{StandsIn, MayRun, new_calls, met, Orderly, SameMoment}
 use Rattle.world_laws.proofs.Meeting.{AnswersFit, Met, EachMet, events_met}
@@ -131,6 +131,7 @@ after_right looks x (answered v) = All-nil RightEvent
 after_right looks x (paused t u) = All-nil RightEvent
 after_right looks x (returned i v) = All-nil RightEvent
 after_right looks x (ended how) = looks_right x.store looks
+after_right looks x (parked used) = All-nil RightEvent
 after_right looks x (was_shown at bytes) = All-nil RightEvent
 
 events_right : (looks : List Look) (xs : List Note) → All Right xs → All RightEvent (events_with_looks looks xs)

@@ -9,7 +9,7 @@ use Rattle.wa_types.specs.Frames.{Suspended}
 use Rattle.wa_types.specs.Bounds.{Bound, activation_bound}
 use Rattle.wa_model.specs.Blocking.{Note, Blocking}
 use Rattle.wa_model.specs.Behaves.{pause_stacks, expected_notes}
-use Rattle.wa_model.specs.World.{is_end, BlockingStory, whole, spent}
+use Rattle.world_model.specs.World.{is_end, BlockingStory, whole, spent}
 use Rattle.run_laws.proofs.Growing.{expected_grow}
 use Rattle.run_laws.proofs.Ending.{expected_end_last}
 use Rattle.world_laws.specs.Bounded.{BoundedAreWhole}

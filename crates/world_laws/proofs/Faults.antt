@@ -10,7 +10,7 @@ use Rattle.wa_model.specs.declared.answers.Area.{Area}
 use Rattle.wa_model.specs.declared.answers.Said.{Said}
 use Rattle.wa_model.specs.declared.answers.Said.TheVariants as S
 use Rattle.wa_model.specs.declared.events.End.{End}
-use Rattle.wa_model.specs.Outside.{Call, Answer, Event, called, answered, paused, returned, ended, shown}
+use Rattle.wa_model.specs.Outside.{Call, Answer, Event, called, answered, paused, parked, returned, ended, shown}
 use Rattle.wa_model.specs.Machine.{Turn, stops, goes, Ran, after, still, pay, run_with, run}
 use Rattle.wa_model.specs.Store.{Store}
 use Rattle.wa_model.specs.Configuration.{Configuration}
@@ -19,7 +19,7 @@ use Rattle.wa_model.specs.Plan.{Entry, Plan, Outcome, given, refused}
 use Rattle.wa_model.specs.Instantiation.{Opening, fails_as, opens, opening}
 use Rattle.wa_model.specs.Blocking.{Note, note, call_note, value_of_results, fault_of, pause_of, poked, done_notes, Task, the_start, an_entry, Left, with_outcomes, Asker, inside, outermost, store_at, stack_at, in_start, next_entry, all_left}
 use Rattle.wa_model.specs.Protocol.{Exports, exports_of, Phase, is_running, unwinds, rewinds, Then, give_zero, test_unwound, pause_there, call_again, test_rewound, give_answer, Held, free, starting, busy, calling, aside, entering, over, trap_end, broken, held_on, held_back, held_given, held_pauses, held_resumed, held_tested, held_asked, busy_step, is_state, aside_back, aside_step, busy_enters, held_next, aside_called, held_start, protocol, held_begun, held_continued}
-use Rattle.wa_model.specs.World.{Halt, Origin, Program, at_pause, at_start, call_in, gone, halted, halted_in, protocol_story, story_from, told_by, unless_over}
+use Rattle.world_model.specs.World.{Halt, Origin, Program, at_pause, at_start, call_in, gone, halted, halted_in, protocol_story, story_from, told_by, unless_over}
 use Rattle.world_laws.specs.Originals.{one_if, new_calls}
 use Rattle.world_laws.proofs.Counting.{over_still}
 use Rattle.world_laws.specs.Replays.{is_device_fault, is_fault}
@@ -68,6 +68,7 @@ no_fault_is e (called c) h = tt
 no_fault_is e (answered v) h = tt
 no_fault_is e (paused t u) h = tt
 no_fault_is e (returned i v) h = tt
+no_fault_is e (parked used) h = tt
 no_fault_is e (shown a b) h = tt
 
 opens_as : (e : End) (xs : List Note) → Opens xs → OpensAs e xs

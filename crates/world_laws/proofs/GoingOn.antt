@@ -8,7 +8,7 @@ use Rattle.wa_model.specs.declared.answers.Detach.{Detach}
 use Rattle.wa_model.specs.Outside.{AnswerLine, Call, Event, Line, called}
 use Rattle.wa_model.specs.Plan.{Outcome}
 use Rattle.wa_model.specs.Blocking.{Note}
-use Rattle.wa_model.specs.World.{Actor, CallsMeet, Device, Events, HasNotes, IsNext, IsOver, Plays, Program, ProtocolWorldFrom, StartsHeld, an_event, answers_from, behind_turn, call_in, detached, due_from, ends_turn, no_event, protocol_story, put_off, turn_lines, turn_of}
+use Rattle.world_model.specs.World.{Actor, CallsMeet, Device, Events, HasNotes, IsNext, IsOver, Plays, Program, ProtocolWorldFrom, StartsHeld, an_event, answers_from, behind_turn, call_in, detached, due_from, ends_turn, no_event, protocol_story, put_off, turn_lines, turn_of}
 use Rattle.world_laws.specs.Originals.{one_if, new_calls}
 use Rattle.world_laws.specs.Existing.{WorldsEnd}
 use Rattle.world_laws.specs.GoingOn.{WorldsGoOn, EachWorldEnds}

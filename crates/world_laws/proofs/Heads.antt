@@ -10,7 +10,7 @@ use Rattle.wa_model.specs.Outside.{Answer, Call, AnswerLine, Event, called, ende
 use Rattle.wa_model.specs.Store.{Store}
 use Rattle.wa_model.specs.Plan.{Outcome, given, refused}
 use Rattle.wa_model.specs.Blocking.{Note, note}
-use Rattle.wa_model.specs.World.{Reply, Device, is_named, journaled, Program, base_names, import_names, name_at, MeetsBound, Meets, call_in, protocol_story}
+use Rattle.world_model.specs.World.{Reply, Device, is_named, journaled, Program, base_names, import_names, name_at, MeetsBound, Meets, call_in, protocol_story}
 use Rattle.world_laws.specs.Originals.{one_if, new_calls}
 use Rattle.world_laws.proofs.Counting.{Ends, Stands, calls_on}
 use Rattle.world_laws.proofs.Tails.{StoryForks, story_forks, story_counts}

@@ -22,7 +22,7 @@ use Rattle.wa_model.specs.Plan.{Entry, Plan, Outcome, given, refused}
 use Rattle.wa_model.specs.Instantiation.{Opening, fails_as, opens, opening}
 use Rattle.wa_model.specs.Blocking.{Note, note, call_note, value_of_results, fault_of, pause_of, poked, done_notes, Task, the_start, an_entry, Left, with_outcomes, Asker, inside, outermost, store_at, stack_at, in_start, next_entry, all_left, no_store}
 use Rattle.wa_model.specs.Protocol.{Exports, exports_of, Phase, is_running, unwinds, rewinds, Then, give_zero, test_unwound, pause_there, call_again, test_rewound, give_answer, Held, free, starting, busy, calling, aside, entering, over, trap_end, broken, answer_note, held_on, held_back, held_given, held_pauses, held_resumed, held_tested, held_asked, busy_step, is_state, aside_back, aside_step, busy_enters, held_next, aside_called, held_start, protocol, held_begun, held_continued}
-use Rattle.wa_model.specs.World.{Halt, Origin, Program, at_pause, at_start, gone, halted, halted_in, protocol_story, story_from, told_by, unless_over}
+use Rattle.world_model.specs.World.{Halt, Origin, Program, at_pause, at_start, gone, halted, halted_in, protocol_story, story_from, told_by, unless_over}
 use Rattle.run_theory.proofs.OwnTraps.{no_import_trap}
 use Rattle.run_theory.proofs.TestedEnds.{EndIs, fault_is, OpeningIs, opening_is}
 use Rattle.world_laws.specs.ImportTraps.{RefusesOtherwise, TrapsEnd, TrapsAreAnswers}

@@ -12,8 +12,8 @@ use Rattle.wa_model.specs.declared.events.End.TheVariants.{DeviceFault, NoDevice
 use Rattle.wa_model.specs.Outside.{Call, AnswerLine, Line}
 use Rattle.wa_model.specs.Plan.{Outcome, given, refused, ValueFits}
 use Rattle.wa_model.specs.Blocking.{Note}
-use Rattle.wa_model.specs.World.{Reply, Asked, Device, is_named, taken_out, detached_if, detached, journaled, Program, base_names, name_at, MeetsBound, Meets, turn_of, call_in, NoteMeets}
-use Rattle.wa_model.specs.World.{CallsMeet, Actor, Events, no_event, an_event}
+use Rattle.world_model.specs.World.{Reply, Asked, Device, is_named, taken_out, detached_if, detached, journaled, Program, base_names, name_at, MeetsBound, Meets, turn_of, call_in, NoteMeets}
+use Rattle.world_model.specs.World.{CallsMeet, Actor, Events, no_event, an_event}
 
 -- ---- names
 

@@ -10,7 +10,7 @@ use Rattle.wa_model.specs.Outside.{Call, AnswerLine, Line}
 use Rattle.wa_model.specs.Plan.{Outcome, refused}
 use Rattle.wa_model.specs.Blocking.{Note}
 use Rattle.wa_model.specs.Behaves.{IsPrefix}
-use Rattle.wa_model.specs.World.{Asked, Device, is_named, taken_out, detached_if, detached, journaled, Program, base_names, name_at, MeetsBound, Meets, turn_of, call_in, NoteMeets, CallsMeet, Actor, Events, no_event, an_event, Original}
+use Rattle.world_model.specs.World.{Asked, Device, is_named, taken_out, detached_if, detached, journaled, Program, base_names, name_at, MeetsBound, Meets, turn_of, call_in, NoteMeets, CallsMeet, Actor, Events, no_event, an_event, Original}
 use Rattle.world_laws.specs.Kept.{Kept, no_device, taken_away, still_there, DevicesKept, DevicesKeptBlocking, NoneTakenOut}
 use Rattle.world_laws.proofs.Journals.{Replied}
 

@@ -2,11 +2,11 @@
 use Rattle.std.proofs.Common.{arith, ◌≡◌, ◌≤◌, ◌+◌, ℕ, suc, List, [], ◌∷◌, ◌++◌, length, map, Option, Some, None, Bool, true, false, refl, sym, ap, ◌∙◌, subst, append_assoc, length-append}
 use Rattle.std.specs.Prelude.{if◌then◌else◌, slice_get}
 use Rattle.std.specs.Option.{unwrap_or}
-use Rattle.wa_model.specs.Outside.{Call, AnswerLine, Event, called, answered, paused, returned, ended, shown, Line}
+use Rattle.wa_model.specs.Outside.{Call, AnswerLine, Event, called, answered, paused, parked, returned, ended, shown, Line}
 use Rattle.wa_model.specs.Store.{Store}
 use Rattle.wa_model.specs.Plan.{Outcome}
 use Rattle.wa_model.specs.Blocking.{Note}
-use Rattle.wa_model.specs.World.{Device, Look, Program, ends_turn, turn_of, behind_turn, ticks_in, put_off, call_in, NoteMeets, CallsMeet, line_at, look_events, looks_after, events_with_looks, protocol_story}
+use Rattle.world_model.specs.World.{Device, Look, Program, ends_turn, turn_of, behind_turn, ticks_in, put_off, call_in, NoteMeets, CallsMeet, line_at, look_events, looks_after, events_with_looks, protocol_story}
 use Rattle.world_laws.specs.Originals.{one_if, new_calls}
 use Rattle.world_laws.proofs.Counting.{calls_on}
 use Rattle.world_laws.proofs.StoryParts.{begins_any}
@@ -39,6 +39,7 @@ call_is (answered v) c h = cc
 call_is (paused t u) c h = cc
 call_is (returned i v) c h = cc
 call_is (ended how) c h = cc
+call_is (parked used) c h = cc
 call_is (shown at bytes) c h = cc
 
 -- an event that ends no turn shows nothing
@@ -48,6 +49,7 @@ shows_none looks x (answered v) h = refl
 shows_none looks x (paused t u) h = refl
 shows_none looks x (returned i v) h = refl
 shows_none looks x (ended how) h = cc
+shows_none looks x (parked used) h = refl
 shows_none looks x (shown at bytes) h = refl
 
 same_shown : (looks : List Look) (x y : Note) (e : Event) → x.store ≡ y.store → looks_after looks x e ≡ looks_after looks y e
@@ -56,6 +58,7 @@ same_shown looks x y (answered v) h = refl
 same_shown looks x y (paused t u) h = refl
 same_shown looks x y (returned i v) h = refl
 same_shown looks x y (ended how) h = ap (λ (s : Store). look_events s looks) h
+same_shown looks x y (parked used) h = refl
 same_shown looks x y (shown at bytes) h = refl
 
 none_met : (w : Program) (x : Note) (xs : List Note) (os : List Outcome) (lines : List AnswerLine) (ds : List Device) (os' : List Outcome) (lines' : List AnswerLine) (ds' : List Device)

@@ -4,7 +4,7 @@ use Rattle.std.proofs.lemmas.Bool.{cases_lt}
 use Rattle.std.proofs.lemmas.List.Elements.{All-nil, All-cons}
 use Rattle.std.proofs.lemmas.Option.{same_Some}
 use Rattle.wa_model.specs.Blocking.{Note}
-use Rattle.wa_model.specs.World.{Actor, HasNotes, IsNext, IsOver}
+use Rattle.world_model.specs.World.{Actor, HasNotes, IsNext, IsOver}
 use Rattle.world_laws.proofs.Places.{all_at}
 
 abbrev pub SomeNext : List Actor → Type 0

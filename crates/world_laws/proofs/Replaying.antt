@@ -6,7 +6,7 @@ use Rattle.wa_model.specs.declared.answers.Detach.{Detach}
 use Rattle.wa_model.specs.Outside.{Call, AnswerLine, Line}
 use Rattle.wa_model.specs.Plan.{Outcome}
 use Rattle.wa_model.specs.Blocking.{Note}
-use Rattle.wa_model.specs.World.{Device, detached, Program, ends_turn, turn_of, behind_turn, put_off, call_in, NoteMeets, CallsMeet, line_at, events_with_looks, Actor, HasNotes, IsNext, Plays}
+use Rattle.world_model.specs.World.{Device, detached, Program, ends_turn, turn_of, behind_turn, put_off, call_in, NoteMeets, CallsMeet, line_at, events_with_looks, Actor, HasNotes, IsNext, Plays}
 use Rattle.world_laws.specs.Originals.{one_if, new_calls}
 use Rattle.world_laws.specs.Played.{Played}
 use Rattle.world_laws.proofs.Counting.{calls_on}

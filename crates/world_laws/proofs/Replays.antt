@@ -7,7 +7,7 @@ use Rattle.wa_model.specs.declared.answers.Detach.{Detach}
 use Rattle.wa_model.specs.Outside.{AnswerLine, Event, Line}
 use Rattle.wa_model.specs.Plan.{Outcome}
 use Rattle.wa_model.specs.Blocking.{Note}
-use Rattle.wa_model.specs.World.{Device, detached, Program, turn_of, behind_turn, put_off, CallsMeet, line_at, events_with_looks, turn_lines, protocol_story, Actor, HasNotes, IsNext, Plays, Events, no_event, an_event, IsOver, StartsHeld, ProtocolWorldFrom}
+use Rattle.world_model.specs.World.{Device, detached, Program, turn_of, behind_turn, put_off, CallsMeet, line_at, events_with_looks, turn_lines, protocol_story, Actor, HasNotes, IsNext, Plays, Events, no_event, an_event, IsOver, StartsHeld, ProtocolWorldFrom}
 use Rattle.world_laws.specs.Originals.{new_calls}
 use Rattle.world_laws.proofs.Shows.{turn_calls}
 use Rattle.world_laws.proofs.Meeting.{Met, EachMet, events_met, calls_take}

@@ -10,7 +10,7 @@ use Rattle.wa_model.specs.declared.events.End.TheVariants.{DeviceFault, NoAnswer
 use Rattle.wa_model.specs.Outside.{AnswerLine, Call, Event, called}
 use Rattle.wa_model.specs.Plan.{Outcome, ValueFits, given, refused}
 use Rattle.wa_model.specs.Blocking.{Note}
-use Rattle.wa_model.specs.World.{CallsMeet, Device, Meets, MeetsBound, MeetsDevice, NoteMeets, Program, Reply, base_names, call_in, import_names, is_named, journaled, name_at, protocol_story}
+use Rattle.world_model.specs.World.{CallsMeet, Device, Meets, MeetsBound, MeetsDevice, NoteMeets, Program, Reply, base_names, call_in, import_names, is_named, journaled, name_at, protocol_story}
 use Rattle.world_laws.specs.Originals.{new_calls, one_if}
 use Rattle.world_laws.specs.Existing.{StoriesEnd}
 use Rattle.world_laws.proofs.Counting.{Ends, Stands, calls_on}

@@ -9,7 +9,7 @@ use Rattle.wa_model.specs.Outside.{AnswerLine, Call, Line}
 use Rattle.wa_model.specs.Plan.{Outcome}
 use Rattle.wa_model.specs.Blocking.{Note, no_store}
 use Rattle.wa_model.specs.Protocol.{Held, exports_of, held_continued, protocol, Protocol}
-use Rattle.wa_model.specs.World.{Actor, CallsMeet, Device, Events, HasNotes, IsOver, NoteMeets, Origin, Plays, Program, Starts, StartsHeld, an_event, at_pause, at_start, behind_turn, call_in, detached, gone, halted, no_event, protocol_story, put_off, story_from, told_by, turn_lines, turn_of, unless_over}
+use Rattle.world_model.specs.World.{Actor, CallsMeet, Device, Events, HasNotes, IsOver, NoteMeets, Origin, Plays, Program, Starts, StartsHeld, an_event, at_pause, at_start, behind_turn, call_in, detached, gone, halted, no_event, protocol_story, put_off, story_from, told_by, turn_lines, turn_of, unless_over}
 use Rattle.run_theory.proofs.Runs.{leads_run}
 use Rattle.snapshot_store.specs.Snapshots.{PausedParts, ProgramRecord, fresh, over, paused}
 use Rattle.world_laws.specs.Snapshots.{AreJoined, IsJoined, IsPaused, IsRecordOf, JoinedLinesAreOne, RecordsGoOn, StandsSo, WorldsJoin, begun_from, from_record, from_records, halt_at, used_from}

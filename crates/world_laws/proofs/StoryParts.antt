@@ -5,7 +5,7 @@ use Rattle.wa_model.specs.Plan.{Outcome}
 use Rattle.wa_model.specs.Blocking.{Note}
 use Rattle.wa_model.specs.Protocol.{Held, free, starting, busy, calling, aside, entering, over}
 use Rattle.wa_model.specs.Machine.{Ran}
-use Rattle.wa_model.specs.World.{Program, call_in, is_end, told_by, unless_over, protocol_story}
+use Rattle.world_model.specs.World.{Program, call_in, is_end, told_by, unless_over, protocol_story}
 use Rattle.world_laws.specs.Originals.{one_if, new_calls}
 use Rattle.world_laws.proofs.Counting.{Ends, ends_on, stands_calls, Tells, calls_on}
 use Rattle.world_laws.proofs.Tails.{Empty, StoryForks, Told, run_of, run_tells, story_forks, story_or}

@@ -18,7 +18,7 @@ use Rattle.wa_model.specs.Instantiation.{Opening, fails_as, opens, opening}
 use Rattle.wa_model.specs.Blocking.{Note, call_note, fault_of, pause_of, poked, done_notes, Task, the_start, an_entry, Left, with_outcomes, all_left, Asker, inside, outermost, store_at, stack_at, in_start, next_entry}
 use Rattle.wa_model.specs.Protocol.{Exports, exports_of, Phase, is_running, unwinds, rewinds, Then, give_zero, test_unwound, pause_there, call_again, test_rewound, give_answer, Held, free, starting, busy, calling, aside, entering, over, protocol, held_continued, broken, held_on, held_back, held_given, held_resumed, held_ends, held_pauses, held_tested, held_asked, busy_step, is_state, aside_back, aside_step, busy_enters, held_next, aside_called, held_start, held_begun}
 use Rattle.wa_model.specs.Behaves.{IsPrefix}
-use Rattle.wa_model.specs.World.{Halt, Origin, at_start, gone, at_pause, Program, ends_turn, halted, halted_in, protocol_story, story_from, told_by, unless_over}
+use Rattle.world_model.specs.World.{Halt, Origin, at_start, gone, at_pause, Program, ends_turn, halted, halted_in, protocol_story, story_from, told_by, unless_over}
 
 -- how many of the notes end a turn
 abbrev pub one_if : Bool → ℕ

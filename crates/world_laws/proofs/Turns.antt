@@ -1,8 +1,8 @@
 -- The first turn of notes, and what stands behind it.
 use Rattle.std.proofs.Common.{◌≡◌, List, [], ◌∷◌, ◌++◌, Bool, true, false, if◌then◌else◌, refl, sym, ap, ◌∙◌}
-use Rattle.wa_model.specs.Outside.{Event, called, answered, paused, returned, ended, shown}
+use Rattle.wa_model.specs.Outside.{Event, called, answered, paused, parked, returned, ended, shown}
 use Rattle.wa_model.specs.Blocking.{Note}
-use Rattle.wa_model.specs.World.{behind_turn, ends_turn, is_end, turn_of}
+use Rattle.world_model.specs.World.{behind_turn, ends_turn, is_end, turn_of}
 
 pub end_turn : (e : Event) → is_end e ≡ true → ends_turn e ≡ true
 end_turn (called c) h = cc
@@ -10,6 +10,7 @@ end_turn (answered v) h = cc
 end_turn (paused ticks used) h = cc
 end_turn (returned entry v) h = cc
 end_turn (ended how) h = refl
+end_turn (parked used) h = cc
 end_turn (shown at bytes) h = cc
 
 pub turn_parts : (xs : List Note) → turn_of xs ++ behind_turn xs ≡ xs

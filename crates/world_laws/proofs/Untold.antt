@@ -5,7 +5,7 @@ use Rattle.wa_types.specs.Runtime.{global_space}
 use Rattle.wa_model.specs.Blocking.{Note}
 use Rattle.wa_model.specs.Plan.{Plan}
 use Rattle.wa_model.specs.Protocol.{Protocol}
-use Rattle.wa_model.specs.World.{BlockingStory, Original, protocol_story}
+use Rattle.world_model.specs.World.{BlockingStory, Original, protocol_story}
 use Rattle.run_laws.specs.ListedPauses.{ComparedUntold}
 use Rattle.run_laws.proofs.UntoldRuns.{behaves_untold, compared_lower}
 use Rattle.world_laws.specs.Originals.{SameMoment, new_calls}

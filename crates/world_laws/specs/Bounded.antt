@@ -10,7 +10,7 @@ use Rattle.wa_model.specs.Outside.{Event, ended, Line}
 use Rattle.wa_model.specs.Plan.{Outcome}
 use Rattle.wa_model.specs.Blocking.{Note, Blocking}
 use Rattle.wa_model.specs.Behaves.{pause_stacks, expected_notes}
-use Rattle.wa_model.specs.World.{Device, Program, Actor, is_end, BlockingStory, ProtocolWorld, Original}
+use Rattle.world_model.specs.World.{Device, Program, Actor, is_end, BlockingStory, ProtocolWorld, Original}
 use Rattle.world_laws.specs.Originals.{StandsIn, MayRun, met, Orderly}
 
 -- Where an original comes to an end within a cost whose bound is at most the program's number of steps, its story is what is

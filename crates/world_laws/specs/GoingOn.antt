@@ -2,7 +2,7 @@
 use Rattle.std.specs.Prelude.{ℕ, List, ◌++◌}
 use Rattle.wa_model.specs.declared.answers.Detach.{Detach}
 use Rattle.wa_model.specs.Outside.{Line}
-use Rattle.wa_model.specs.World.{Device, Program, ProtocolWorldFrom}
+use Rattle.world_model.specs.World.{Device, Program, ProtocolWorldFrom}
 use Rattle.world_laws.specs.Played.{ProtocolWorldUpToFrom}
 
 -- Up to whatever event a world has been played, and whatever its devices have replied so far, it can be played on to an end.

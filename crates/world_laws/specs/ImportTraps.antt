@@ -6,7 +6,7 @@ use Rattle.wa_model.specs.declared.events.End.TheVariants.{Trapped}
 use Rattle.wa_model.specs.Outside.{answered, ended}
 use Rattle.wa_model.specs.Plan.{Outcome, given, refused}
 use Rattle.wa_model.specs.Blocking.{Note}
-use Rattle.wa_model.specs.World.{Program, protocol_story}
+use Rattle.world_model.specs.World.{Program, protocol_story}
 
 -- A call that is refused doesn't end as an import's trap does: neither devices nor answer lines refuse so.
 abbrev pub RefusesOtherwise : Outcome → Type 0

@@ -3,7 +3,7 @@ use Rattle.std.specs.Prelude.{◌≡◌, ℕ, List, [], ◌∷◌, length}
 use Rattle.wa_model.specs.declared.answers.Detach.{Detach}
 use Rattle.wa_model.specs.Outside.{Line}
 use Rattle.wa_model.specs.Behaves.{IsPrefix}
-use Rattle.wa_model.specs.World.{Device, Program, ProtocolWorldFrom, Original, BlockingWorld}
+use Rattle.world_model.specs.World.{Device, Program, ProtocolWorldFrom, Original, BlockingWorld}
 
 -- The second devices are the first in their order, some of which may have been taken out; each keeps its name and what its
 -- journal held.

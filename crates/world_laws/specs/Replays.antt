@@ -6,7 +6,7 @@ use Rattle.wa_model.specs.declared.answers.Detach.{Detach}
 use Rattle.wa_model.specs.declared.events.End.{End}
 use Rattle.wa_model.specs.declared.events.End.TheVariants.{DeviceFault}
 use Rattle.wa_model.specs.Outside.{Event, ended, Line}
-use Rattle.wa_model.specs.World.{Device, Program, ProtocolWorldFrom}
+use Rattle.world_model.specs.World.{Device, Program, ProtocolWorldFrom}
 use Rattle.world_laws.specs.AloneLines.{Unbound}
 
 -- an end by a device that failed

@@ -9,7 +9,7 @@ use Rattle.wa_model.specs.Plan.{Outcome}
 use Rattle.wa_model.specs.Instantiation.{Opening, fails_as, opens, opening}
 use Rattle.wa_model.specs.Blocking.{Note, all_left, no_store}
 use Rattle.wa_model.specs.Protocol.{Held, over as all_over, exports_of, held_begun, protocol}
-use Rattle.wa_model.specs.World.{Actor, Device, Halt, HasNotes, Origin, Program, ProtocolWorldFrom, Starts, StartsHeld, at_pause, at_start, gone, halted, protocol_story}
+use Rattle.world_model.specs.World.{Actor, Device, Halt, HasNotes, Origin, Program, ProtocolWorldFrom, Starts, StartsHeld, at_pause, at_start, gone, halted, protocol_story}
 use Rattle.snapshot_store.specs.Snapshots.{PausedParts, ProgramRecord, Snapshot, fresh, over, paused}
 use Rattle.world_laws.specs.AloneLines.{Unbound}
 use Rattle.world_laws.specs.Played.{ProtocolWorldUpToFrom}

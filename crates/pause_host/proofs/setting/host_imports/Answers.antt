@@ -6,7 +6,7 @@ use Rattle.wa_types.specs.declared.syntax.Import.{Import}
 use Rattle.wa_types.specs.Modules.{imported_func, type_at}
 use Rattle.wa_types.specs.Pausing.{joined_name}
 use Rattle.wa_types.specs.View.{module_of}
-use Rattle.wa_model.specs.World.{name_if}
+use Rattle.world_model.specs.World.{name_if}
 use Rattle.pause_host.specs.declared.stages.HostImport.{HostImport}
 use Rattle.pause_host.proofs.Parts.{one_more, mapped_more}
 use Rattle.pause_host.proofs.setting.host_imports.Goals as goal

@@ -1,6 +1,6 @@
 use Rattle.std.proofs.Common.{◌≡◌, ℕ, List, length}
 use Rattle.wa_model.specs.declared.answers.Detach.{Detach}
-use Rattle.wa_model.specs.World.{Program}
+use Rattle.world_model.specs.World.{Program}
 use Rattle.many_host.specs.Standing.{InRange}
 use Rattle.world_hosting.specs.Counts.{counted}
 use Rattle.world_hosting.specs.Parted.{Begins}
