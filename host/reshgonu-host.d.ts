@@ -15,8 +15,9 @@ export interface Area {
   length: number;
 }
 
-/** A pause: which import it is in, and how much of the area it takes. */
+/** A pause: which call of an export it is in, at which import, and how much of the area it takes. */
 export interface Pause {
+  entry: string;
   import: string;
   used: number;
   length: number;
@@ -25,13 +26,15 @@ export interface Pause {
 export interface Options {
   /** Where the suspended stack is kept; without it, what the module's exports `area` and `area_size` tell. */
   area?: Area;
+  /** As many calls may be paused at once: each keeps its stack in an area of its own. No two overlap. A function may find them in the instance. */
+  areas?: Area[] | ((instance: WebAssembly.Instance) => Area[]);
   /** Is called at each pause. */
   onpause?(pause: Pause): void;
   /** Ends a pause, and refuses further calls: the code is "aborted". */
   signal?: AbortSignal;
 }
 
-/** A call of an export: it resolves when the program has returned from it for good. */
+/** A call of an export: it resolves when the program has returned from it for good. While it is paused others may begin, one an area. */
 export type Entry = (...args: Value[]) => Promise<Value | undefined>;
 
 export interface Program {
@@ -43,15 +46,16 @@ export interface Program {
 
 /**
  * - "not-rewritten": the module lacks the five exports.
- * - "no-area": there is no area, or not one inside the memory at a multiple of 4.
+ * - "no-area": there is no area, or not one inside the memory at a multiple of 4, or two overlap.
  * - "area-too-small": the stack didn't fit: `wanted` tells how many bytes it takes at least. In a module with asserts also that a call which isn't
  *   rewritten led to the pause: the message says so.
  * - "unlisted-pause": the program wasn't rewritten for a pause at `import`.
  * - "pause-in-start": an import returned a promise in the module's start function.
  * - "no-entry": an import returned a promise in a call of `instance.exports`.
  * - "import-trap": `import` trapped, by an `ImportTrap`, which is the `cause`.
- * - "busy": another call is under way.
- * - "spent": an error has left the program in the middle; `cause` is that error.
+ * - "busy": another call runs, or as many are paused as there are areas.
+ * - "spent": an error has left the program in the middle; `cause` is that error. Calls that were paused go on, unless it came while the stack was
+ *   unwound or rewound.
  * - "aborted": by the signal; `cause` is its reason.
  */
 export type Code =

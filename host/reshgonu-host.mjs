@@ -1,5 +1,6 @@
 // Runs a module that Asyncify has rewritten: an import that returns a promise pauses the program, which goes on with the promise's
-// value. Works under Node and in browsers, with nothing else. README.md beside this file shows how; docs/HOSTING.md tells the protocol.
+// value. As many calls may be paused at once as there are areas. Works under Node and in browsers, with nothing else. README.md beside
+// this file shows how; docs/HOSTING.md tells the protocol.
 
 const FIVE_EXPORTS = [
   "asyncify_start_unwind",
@@ -82,29 +83,89 @@ const sameArguments = (some, others) => some.length === others.length && some.ev
 /** Lets a promise that nobody waits for any more fail unheard. */
 const abandon = (promise) => void Promise.resolve(promise).catch(() => {});
 
-/** One instance: where it is, and the call that it is paused in. */
+/** A range of the memory for the suspended stack of one call at a time. */
+class Area {
+  #words;
+
+  constructor({ at, length }) {
+    this.at = at;
+    this.length = length;
+  }
+
+  /** Fails where the area isn't one inside this memory. */
+  check(memory) {
+    const { at, length } = this;
+    const wrong = (why) => new AsyncifyError("no-area", `the area of ${length} bytes at ${at} ${why}`, { length });
+    if (!memory) throw new AsyncifyError("no-area", "the memory, in which the area is, is neither exported nor imported");
+    if (!Number.isInteger(at) || at < 0 || at % 4 !== 0) throw wrong("doesn't begin at a multiple of 4");
+    if (!Number.isInteger(length) || length < AREA_HEAD) throw wrong(`needs ${AREA_HEAD} bytes for its first two words`);
+    if (at + length > memory.buffer.byteLength) throw wrong(`reaches past the memory of ${memory.buffer.byteLength} bytes`);
+  }
+
+  meets(other) {
+    return this.at < other.at + other.length && other.at < this.at + this.length;
+  }
+
+  /** The two words at its beginning. When the memory has grown it has another buffer, and the one before has no bytes any more. */
+  #head(memory) {
+    if (!this.#words || this.#words.buffer.byteLength === 0) this.#words = new DataView(memory.buffer, this.at, AREA_HEAD);
+    return this.#words;
+  }
+
+  /** Makes it empty: frames go behind the two words, up to its end. */
+  clear(memory) {
+    const head = this.#head(memory);
+    head.setUint32(0, this.at + AREA_HEAD, true);
+    head.setUint32(4, this.at + this.length, true);
+  }
+
+  /** How much of it is in use, by its first word. */
+  used(memory) {
+    return this.#head(memory).getUint32(0, true) - this.at;
+  }
+}
+
+/** A call of an export that has begun and not ended. */
+class Call {
+  /** Whether it has called an import. */
+  called = false;
+  /** The import call that it is paused in: `import`, `args` and `promise`, and `answer`, which gives the answer in that call or throws. */
+  pause;
+  /** How far down the C stack is in use at the pause, where the module tells. */
+  stack;
+
+  constructor(entry, area) {
+    this.entry = entry;
+    this.area = area;
+  }
+}
+
+/** One instance: where it is, and the calls of it that are under way. */
 class Host {
-  /** "starting", "idle", "running", "unwinding", "paused", "rewinding" or "spent". */
+  /** "starting", "idle" (though calls may be paused), "running", "unwinding" or "rewinding". */
   #phase = "starting";
   #instance;
   #memory;
-  #area;
-  #head;
+  /** What the options say of areas, and the areas. */
+  #given;
+  #areas = [];
   #signal;
   #onpause;
-  /** The entry that is under way. */
-  #entry;
-  /** Whether the entry has called an import. */
-  #called = false;
+  /** The calls that are under way: the one that runs and those that are paused. */
+  #calls = new Set();
+  /** The one that runs. */
+  #call;
   /** The import whose own code is running. */
   #within;
-  /** The import call that pauses the program: `import`, `args` and `promise`, and `answer`, which gives the answer in that call or throws. */
-  #pause;
-  /** What spent the instance. */
-  #cause;
+  /** What spent the instance, its `cause`, and whether the `whole` of it is, so that paused calls can't go on either. */
+  #spent;
+  /** The C stack's pointer, where the module exports it. */
+  #stack;
+  /** Where that stood when no call was under way. */
+  #base;
 
-  constructor({ area, onpause, signal }) {
-    this.#area = area;
+  constructor({ area, areas = area && [area], onpause, signal }) {
+    this.#given = areas;
     this.#onpause = onpause;
     this.#signal = signal;
   }
@@ -120,13 +181,14 @@ class Host {
     return wrapped;
   }
 
-  /** Takes over the instance, and looks where its area is. */
+  /** Takes over the instance, and looks where its areas are. */
   attach(instance, memory) {
     this.#instance = instance.exports;
     this.#memory = memory;
-    const { area, area_size: size } = instance.exports;
-    if (this.#area) this.#checkArea(this.#area);
-    else if (typeof area === "function" && typeof size === "function") this.#checkArea({ at: area() >>> 0, length: size() >>> 0 });
+    this.#stack = stackPointerOf(instance);
+    const given = typeof this.#given === "function" ? this.#given(instance) : (this.#given ?? exportedAreas(instance));
+    this.#areas = given.map((it) => new Area(it));
+    this.#checkAreas(this.#areas);
     this.#phase = "idle";
   }
 
@@ -143,22 +205,24 @@ class Host {
     if (this.#signal?.aborted) throw aborted(this.#signal);
   }
 
-  #checkArea({ at, length }) {
-    const wrong = (why) => new AsyncifyError("no-area", `the area of ${length} bytes at ${at} ${why}`, { length });
-    if (!this.#memory) throw new AsyncifyError("no-area", "the memory, in which the area is, is neither exported nor imported");
-    if (!Number.isInteger(at) || at < 0 || at % 4 !== 0) throw wrong("doesn't begin at a multiple of 4");
-    if (!Number.isInteger(length) || length < AREA_HEAD) throw wrong(`needs ${AREA_HEAD} bytes for its first two words`);
-    if (at + length > this.#memory.buffer.byteLength) throw wrong(`reaches past the memory of ${this.#memory.buffer.byteLength} bytes`);
-    this.#area = { at, length };
+  #checkAreas(areas) {
+    areas.forEach((area, place) => {
+      area.check(this.#memory);
+      const met = areas.slice(0, place).find((it) => it.meets(area));
+      if (met) {
+        const message = `the areas of ${met.length} bytes at ${met.at} and of ${area.length} at ${area.at} overlap`;
+        throw new AsyncifyError("no-area", message, { length: area.length });
+      }
+    });
   }
 
   #wrapImport(name, start) {
     return (...args) => {
       if (this.#phase === "rewinding") return this.#replay(name, args);
-      if (this.#phase === "unwinding") throw this.#unlisted(`the program called ${name} when ${this.#pause.import} had paused it`);
+      if (this.#phase === "unwinding") throw this.#unlisted(`the program called ${name} when ${this.#call.pause.import} had paused it`);
       const caller = this.#within;
       this.#within = name;
-      this.#called = true;
+      if (this.#call) this.#call.called = true;
       let value;
       try {
         value = start(...args);
@@ -178,13 +242,11 @@ class Host {
       abandon(pause.promise);
       throw refusal;
     }
-    const { at, length } = this.#area;
-    const words = this.#words();
-    words.setUint32(0, at + AREA_HEAD, true);
-    words.setUint32(4, at + length, true);
-    this.#pause = pause;
+    const { area } = this.#call;
+    area.clear(this.#memory);
+    this.#call.pause = pause;
     this.#phase = "unwinding";
-    this.#instance.asyncify_start_unwind(at);
+    this.#instance.asyncify_start_unwind(area.at);
     return false; // isn't used, and serves an i32 as well as an i64
   }
 
@@ -200,7 +262,7 @@ class Host {
       const message = `${asked} in a call ${where}: only calls of the 'exports' that 'instantiate' gave can pause`;
       return new AsyncifyError("no-entry", message, { import: name });
     }
-    if (!this.#area || !this.#memory) {
+    if (!this.#call.area || !this.#memory) {
       const wanted = "export functions 'area' and 'area_size' (and the memory) from the module, or give the option 'area'";
       return new AsyncifyError("no-area", `${asked}, and there is no area to keep the stack in: ${wanted}`, { import: name });
     }
@@ -209,57 +271,76 @@ class Host {
 
   /** Gives the answer, in the call that the stack was rewound to. */
   #replay(name, args) {
-    const { import: paused, args: wanted, answer } = this.#pause;
+    const { area, pause } = this.#call;
+    const { import: paused, args: wanted, answer } = pause;
     if (name !== paused) throw this.#unlisted(`the program called ${name} where it should have come back to ${paused}`);
     if (!sameArguments(args, wanted)) {
       throw this.#unlisted(`the program came back to ${name} with other arguments (${args}) than it had (${wanted})`);
     }
-    if (this.#instance.asyncify_get_state() !== REWINDING || this.#used() !== AREA_HEAD) {
+    if (this.#instance.asyncify_get_state() !== REWINDING || area.used(this.#memory) !== AREA_HEAD) {
       throw this.#unlisted(`the program called ${name} before its stack was rewound`);
     }
     this.#instance.asyncify_stop_rewind();
     this.#phase = "running";
-    this.#pause = undefined;
+    this.#call.pause = undefined;
     return answer();
-  }
-
-  /** The two words of the area. When the memory has grown it has another buffer, and the one before has no bytes any more. */
-  #words() {
-    if (!this.#head || this.#head.buffer.byteLength === 0) this.#head = new DataView(this.#memory.buffer, this.#area.at, AREA_HEAD);
-    return this.#head;
-  }
-
-  /** How much of the area is in use, by its first word. */
-  #used() {
-    return this.#words().getUint32(0, true) - this.#area.at;
   }
 
   /** Calls an export until it has returned for good. */
   async #enter(name, entry, args) {
-    this.#checkIdle(name);
-    this.#phase = "running";
-    this.#entry = name;
-    this.#called = false;
+    const call = this.#begin(name);
     try {
       let result = entry(...args);
       while (this.#phase === "unwinding") {
-        this.#unwound();
-        this.#pause.answer = await this.#answer();
-        this.#phase = "rewinding";
-        this.#instance.asyncify_start_rewind(this.#area.at);
+        this.#unwound(call);
+        call.pause.answer = await this.#answer(call.pause);
+        this.#resume(call);
         result = entry(...args);
       }
-      this.#checkEnd();
-      this.#phase = "idle";
+      this.#checkEnd(call);
+      this.#end(call);
       return result;
     } catch (error) {
-      throw this.#failed(error);
+      throw this.#failed(call, error);
     }
   }
 
+  /** A new call, in the first area that no other has. */
+  #begin(name) {
+    this.#checkFree(name);
+    const call = new Call(name, this.#areas.find((area) => ![...this.#calls].some((it) => it.area === area)));
+    if (this.#calls.size > 0) this.#stackBelow(this.#calls, this.#stack?.value >>> 0);
+    else this.#base = this.#stack?.value;
+    this.#calls.add(call);
+    this.#call = call;
+    this.#phase = "running";
+    return call;
+  }
+
+  /** The call has returned, or hasn't begun: where it was the last, the C stack is as before them all. */
+  #end(call) {
+    this.#calls.delete(call);
+    this.#call = undefined;
+    this.#phase = "idle";
+    if (this.#stack && this.#calls.size === 0) this.#stack.value = this.#base;
+  }
+
+  /** Begins to rewind a paused call. */
+  #resume(call) {
+    if (this.#spent?.whole) throw this.#spentError(call.entry);
+    this.#call = call;
+    this.#phase = "rewinding";
+    this.#stackBelow(this.#calls);
+    this.#instance.asyncify_start_rewind(call.area.at);
+  }
+
+  /** Puts the C stack below what paused calls have there, which may be below what it was set to by a call that has ended since. */
+  #stackBelow(calls, low = Infinity) {
+    if (this.#stack) this.#stack.value = Math.min(low, ...[...calls].map((it) => it.stack));
+  }
+
   /** Waits for what the paused import comes to: a value that the call gives, or a trap that it makes. */
-  async #answer() {
-    const { import: name, promise } = this.#pause;
+  async #answer({ import: name, promise }) {
     try {
       const value = await unlessAborted(promise, this.#signal);
       return () => value;
@@ -271,67 +352,78 @@ class Host {
     }
   }
 
-  #checkIdle(name) {
-    if (this.#phase === "spent") {
-      const why = "an error has left the program in the middle, with its stack as it was: make a new instance";
-      throw new AsyncifyError("spent", `${name}: ${why}`, { cause: this.#cause });
-    }
-    if (this.#phase !== "idle") {
-      const where = this.#pause ? ` (paused in ${this.#pause.import})` : "";
-      const message = `${name} was called while ${this.#entry} is under way${where}: await that call first, or make another instance`;
-      throw new AsyncifyError("busy", message);
+  #spentError(name) {
+    const why = "an error has left the program in the middle, with its stack as it was: make a new instance";
+    return new AsyncifyError("spent", `${name}: ${why}`, { cause: this.#spent.cause });
+  }
+
+  /** Fails where no call can begin now. */
+  #checkFree(name) {
+    if (this.#spent) throw this.#spentError(name);
+    const [call = this.#call] = this.#phase === "idle" ? this.#calls : [];
+    if (call && (this.#phase !== "idle" || this.#calls.size >= this.#areas.length)) {
+      const where = call.pause ? ` (paused in ${call.pause.import})` : "";
+      const todo = "await that call first, give an area for each call that may wait, or make another instance";
+      throw new AsyncifyError("busy", `${name} was called while ${call.entry} is under way${where}: ${todo}`);
     }
     this.checkSignal();
   }
 
   /** Ends the unwinding, when the entry has come back. */
-  #unwound() {
-    const { import: name } = this.#pause;
+  #unwound(call) {
+    const { area, pause } = call;
+    const { import: name } = pause;
     if (this.#instance.asyncify_get_state() !== UNWINDING) throw this.#unlisted(`the program went on behind ${name}`);
     this.#instance.asyncify_stop_unwind();
-    const used = this.#used();
+    const used = area.used(this.#memory);
     if (used <= AREA_HEAD) throw this.#unlisted(`no function kept its place when ${name} paused: the program went on with a wrong answer`);
-    this.#phase = "paused";
-    this.#onpause?.({ import: name, used, length: this.#area.length });
+    call.stack = this.#stack?.value >>> 0;
+    this.#call = undefined;
+    this.#phase = "idle";
+    this.#onpause?.({ entry: call.entry, import: name, used, length: area.length });
   }
 
-  #checkEnd() {
-    if (this.#phase === "rewinding") throw this.#unlisted(`${this.#entry} ended without coming back to ${this.#pause.import}`);
+  #checkEnd({ entry, pause }) {
+    if (this.#phase === "rewinding") throw this.#unlisted(`${entry} ended without coming back to ${pause.import}`);
     const state = this.#instance.asyncify_get_state();
-    if (state !== 0) throw this.#unlisted(`${this.#entry} ended with the state ${state}`);
+    if (state !== 0) throw this.#unlisted(`${entry} ended with the state ${state}`);
   }
 
-  /** Takes note that an exception came out of the entry, and tells it in the words of who has to mend it. */
-  #failed(error) {
-    if (error instanceof TypeError && !this.#called) {
-      this.#phase = "idle"; // an argument of another type: the program hasn't begun
+  /** Takes note that an exception came out of a call, and tells it in the words of who has to mend it. */
+  #failed(call, error) {
+    if (error instanceof TypeError && !call.called) {
+      this.#end(call); // an argument of another type: the program hasn't begun
       return error;
     }
-    const told = this.#explained(error);
-    if (this.#pause) abandon(this.#pause.promise);
-    this.#phase = "spent";
-    this.#cause = told;
+    const told = this.#explained(call, error);
+    if (call.pause) abandon(call.pause.promise);
+    const midway = this.#phase === "unwinding" || this.#phase === "rewinding" || this.#instance.asyncify_get_state() !== 0;
+    this.#spent = { cause: this.#spent?.cause ?? told, whole: midway || this.#spent?.whole };
+    this.#calls.delete(call);
+    this.#call = undefined;
+    this.#phase = "idle";
     return told;
   }
 
-  /** What an exception out of the entry means. */
-  #explained(error) {
-    if (!(error instanceof WebAssembly.RuntimeError)) return error;
-    if (this.#phase === "rewinding") return this.#unlisted(`the program trapped on its way back to ${this.#pause.import}`, error);
+  /** What an exception out of a call means. */
+  #explained(call, error) {
+    if (!(error instanceof WebAssembly.RuntimeError) || !call.pause) return error;
+    const { import: name } = call.pause;
+    if (this.#phase === "rewinding") return this.#unlisted(`the program trapped on its way back to ${name}`, error);
     if (this.#phase !== "unwinding") return error;
-    if (!/unreachable/i.test(error.message)) return this.#unlisted(`the program trapped when ${this.#pause.import} had paused it`, error);
-    return this.#tooSmall(error);
+    if (!/unreachable/i.test(error.message)) return this.#unlisted(`the program trapped when ${name} had paused it`, error);
+    return this.#tooSmall(call, error);
   }
 
   /**
    * The area was too small: a frame didn't fit, or (as Binaryen's pass writes modules) was written behind it. A module with asserts traps in the
    * same way where a call that isn't rewritten led to the pause.
    */
-  #tooSmall(cause) {
-    const { length } = this.#area;
-    const used = this.#used();
+  #tooSmall({ area, pause }, cause) {
+    const { length } = area;
+    const used = area.used(this.#memory);
     const wanted = used > length ? used : used + 4 * (Math.floor((length - used) / 4) + 1);
-    const name = this.#pause.import;
+    const name = pause.import;
     const message =
       `the area of ${length} bytes is too small for the stack when ${name} pauses: it takes at least ${wanted}. Make the area larger; ` +
       `'-O2' of the compiler and '--save live' make less of it needed. Where it is ample, ${name} isn't among the rewriting's '--imports', or ` +
@@ -341,11 +433,28 @@ class Host {
 
   /** The program wasn't rewritten for a pause at this import. */
   #unlisted(found, cause) {
-    const name = this.#pause?.import;
+    const name = this.#call?.pause?.import;
     const todo =
       `Name ${name ?? "the import"} in '--imports' of 'asyncify transform' (without that option all are), ` +
       "and leave out '--ignore-indirect' where a call through a table leads to it; 'asyncify run' shows such pauses";
     return new AsyncifyError("unlisted-pause", `${found}. ${todo}`, { cause, import: name });
+  }
+}
+
+/** The area that a module tells by its exports, if it does. */
+function exportedAreas({ exports: { area, area_size: size } }) {
+  return typeof area === "function" && typeof size === "function" ? [{ at: area() >>> 0, length: size() >>> 0 }] : [];
+}
+
+/** The pointer of the C stack, where the module exports it so that it can be set. */
+function stackPointerOf(instance) {
+  const it = instance.exports.__stack_pointer;
+  if (!(it instanceof WebAssembly.Global)) return undefined;
+  try {
+    it.value = it.value;
+    return it;
+  } catch {
+    return undefined; // it isn't mutable
   }
 }
 

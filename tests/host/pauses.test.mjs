@@ -115,7 +115,7 @@ test("tells each pause, with the import and the bytes of stack", async () => {
   const { exports } = await start("ask", "all", () => ({ read: async () => 5 }), { onpause: (pause) => pauses.push(pause) });
   assert.equal(await exports.run(2), 10);
   // Two words, three parameters, locals and operands each of 4 bytes more, as README's transcript has it: area 36 of 1024.
-  assert.deepEqual(pauses, Array(2).fill({ import: "env.read", used: 36, length: 1024 }));
+  assert.deepEqual(pauses, Array(2).fill({ entry: "run", import: "env.read", used: 36, length: 1024 }));
 });
 
 test("keeps the stack in a memory that is imported, in an area that is told", async () => {

@@ -19,6 +19,7 @@ const originals = {
   calls: "tests/host/programs/calls.wasm",
   broken: "tests/host/programs/broken.wasm",
   newer: "tests/host/programs/newer.wasm",
+  strands: "tests/host/programs/strands.wasm",
   compiled: "tests/rows/compiled_program_pauses_often/given/compiled.wasm",
   start: "tests/rows/pauses_that_may_not_be/given/start_sleeps.wasm",
   countdown: "tests/rows/pauses_that_may_not_be/given/countdown.wasm",
@@ -31,6 +32,7 @@ const listed = {
   repl: "wasi_snapshot_preview1.fd_read,wasi_snapshot_preview1.poll_oneoff",
   calls: "env.read,env.wide,env.sleep,env.fill",
   newer: "env.read",
+  strands: "env.read",
   compiled: "env.sleep",
   start: "env.pause",
   countdown: "env.pause",
@@ -59,7 +61,7 @@ export function rewritten(name, by = "all", imports = listed[name]) {
 function rewrite(from, by, imports) {
   const to = join(folder, `${made.size}.wasm`);
   if (by === "binaryen") {
-    execFileSync("wasm-opt", ["--mvp-features", "--asyncify", `--pass-arg=asyncify-imports@${imports}`, from, "-o", to]);
+    execFileSync("wasm-opt", ["--mvp-features", "--enable-mutable-globals", "--asyncify", `--pass-arg=asyncify-imports@${imports}`, from, "-o", to]);
   } else {
     execFileSync(program, ["transform", "--imports", imports, "--save", by, from, to]);
   }

@@ -7,6 +7,8 @@ const options: Options = {
   onpause: ({ import: name, used, length }) => console.log(`${name}: ${used} of ${length}`),
   signal: new AbortController().signal,
 };
+const several: Options = { areas: [{ at: 1024, length: 64 }, { at: 2048, length: 64 }], onpause: ({ entry }) => console.log(entry) };
+const found: Options = { areas: ({ exports }) => [{ at: (exports.area as () => number)(), length: 64 }] };
 const env = {
   read: async (which: number) => 100 + which,
   wide: (value: bigint) => value + 1n,
@@ -36,4 +38,4 @@ instantiate(new Uint8Array(8), { env: { read: () => "text" } });
 const early: number = exports.run(1);
 // @ts-expect-error: there is no such code
 export const wrong = (error: AsyncifyError) => error.code === "too-small";
-export { early, memory, result, status };
+export { early, found, memory, result, several, status };

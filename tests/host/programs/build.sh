@@ -10,6 +10,8 @@ for program in calls broken; do
     clang --target=wasm32 -mcpu=mvp -O2 -c "$program.c" -o "$objects/$program.o"
     wasm-ld --no-entry --strip-all "$objects/$program.o" -o "$program.wasm"
 done
+clang --target=wasm32 -mcpu=mvp -mmutable-globals -O2 -c strands.c -o "$objects/strands.o"
+wasm-ld --no-entry --strip-all --export=__stack_pointer "$objects/strands.o" -o strands.wasm
 clang --target=wasm32 -mcpu=mvp -msign-ext -mbulk-memory -O2 -c newer.c -o "$objects/newer.o"
 wasm-ld --no-entry --strip-all "$objects/newer.o" -o newer.wasm
 clang --target=wasm32-wasi -mcpu=mvp -O2 -c ../../../examples/repl.c -o "$objects/repl.o"
