@@ -170,6 +170,7 @@ is_call (EV.Answered said) call e none = cc
 is_call (EV.Paused ticks used) call e none = cc
 is_call (EV.Returned entry v) call e none = cc
 is_call (EV.Ended how) call e none = cc
+is_call (EV.Parked u) call e none = cc
 is_call (EV.Shown at bytes) call e none = cc
 
 pub is_pause : (told : EventValue) (ticks used : ℕ) → event_of told ≡ paused ticks used → ((t u : ℕ) → told ≡ EV.Paused t u → ⊥) → ⊥
@@ -178,6 +179,7 @@ is_pause (EV.Answered said) ticks used e none = cc
 is_pause (EV.Paused t u) ticks used e none = none t u refl
 is_pause (EV.Returned entry v) ticks used e none = cc
 is_pause (EV.Ended how) ticks used e none = cc
+is_pause (EV.Parked u) ticks used e none = cc
 is_pause (EV.Shown at bytes) ticks used e none = cc
 
 pub is_answer : (told : EventValue) (said : Said) → event_of told ≡ answered said → ((x : Said) → told ≡ EV.Answered x → ⊥) → ⊥
@@ -186,6 +188,7 @@ is_answer (EV.Answered x) said e none = none x refl
 is_answer (EV.Paused ticks used) said e none = cc
 is_answer (EV.Returned entry v) said e none = cc
 is_answer (EV.Ended how) said e none = cc
+is_answer (EV.Parked u) said e none = cc
 is_answer (EV.Shown at bytes) said e none = cc
 
 pub is_return : (told : EventValue) (entry : ℕ) (value : Option Value) → event_of told ≡ returned entry value → ((i : ℕ) (v : Option Value) → told ≡ EV.Returned i v → ⊥) → ⊥
@@ -194,6 +197,7 @@ is_return (EV.Answered said) entry value e none = cc
 is_return (EV.Paused ticks used) entry value e none = cc
 is_return (EV.Returned i v) entry value e none = none i v refl
 is_return (EV.Ended how) entry value e none = cc
+is_return (EV.Parked u) entry value e none = cc
 is_return (EV.Shown at bytes) entry value e none = cc
 
 pub is_end : (told : EventValue) (how : End) → event_of told ≡ ended how → ((x : End) → told ≡ EV.Ended x → ⊥) → ⊥
@@ -202,6 +206,7 @@ is_end (EV.Answered said) how e none = cc
 is_end (EV.Paused ticks used) how e none = cc
 is_end (EV.Returned i v) how e none = cc
 is_end (EV.Ended x) how e none = none x refl
+is_end (EV.Parked u) how e none = cc
 is_end (EV.Shown at bytes) how e none = cc
 
 -- ---- the whole run
