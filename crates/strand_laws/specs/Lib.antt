@@ -1,0 +1,3 @@
+pub mod EmittedStrands
+pub mod Strands
+pub mod Woven
