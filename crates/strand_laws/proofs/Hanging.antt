@@ -21,9 +21,6 @@ pub record AreaSame (area : Area) (s s' : Store) : Type 0 where
   pub bytes : (a n : ℕ) → area.at ≤ a → a + n ≤ area.at + area.len → bytes_at s'.memory a n ≡ bytes_at s.memory a n
   pub grown : length s.memory ≤ length s'.memory
 
-pub area_on : (area : Area) (s t u : Store) → AreaSame area s t → AreaSame area t u → AreaSame area s u
-area_on area s t u h k = let h1 = h.grown in let h2 = k.grown in record { bytes = λ a n lo hi. k.bytes a n lo hi ∙ h.bytes a n lo hi; grown = omega arith }
-
 stack_on : (g : ℕ) (area : Area) (p : Module) (st adr : ℕ) (s s' : Store) (at : ℕ) (vs : List Level) → AreaSame area s s' → area.at ≤ at → at + total_size vs ≤ area.at + area.len
     → AllFit g area p st adr vs
     → HoldsStack s.memory at vs → HoldsStack s'.memory at vs

@@ -39,7 +39,6 @@ module _ {SA SB : Type 0} (A : Loom SA) (B : Loom SB) (Go : (strand spare : ℕ)
   pub record Final (i : ℕ) (a a' : SA) (b to : SB) (es fs : List Note) (cost : ℕ) (x : Note) : Type 0 where
     pub es1 : List Note
     pub es_are : es ≡ es1 ++ x ∷ []
-    pub none : NoEnds es1
     pub at_end : A.store a' ≡ x.store
     pub c1 : ℕ
     pub k1 : ℕ
@@ -96,7 +95,6 @@ module _ {SA SB : Type 0} (A : Loom SA) (B : Loom SB) (Go : (strand spare : ℕ)
   -- WHAT EACH STRAND OWES.
   pub record StrandLaw : Type 0 where
     pub same_event : (i : ℕ) (x y : Note) → Q i x y → x.event ≡ y.event
-    pub near_sees : (s s' : Store) → Near s s' → Sm s s'
     pub sees : (i g : ℕ) (a : SA) (b : SB) → Go i g a b → Sm (A.store a) (B.store b)
     pub stop : (i g : ℕ) (a : SA) (b : SB) → Go i g a b → Calm i a → A.next i a ≡ stops → (m : ℕ) → RestsS (A.store a) (run (B.next i) m b)
     pub slow : (i g k : ℕ) (es : List Note) (a a' : SA) (b : SB) → Go i g a b → Calm i a → A.next i a ≡ goes k es a' → (m : ℕ) → m ≤ k → RestsS (A.store a) (run (B.next i) m b)
@@ -369,9 +367,9 @@ module _ {SA SB : Type 0} (A : Loom SA) (B : Loom SB) (Go : (strand spare : ℕ)
           subst (PartW s all_a) (sym r) (so_far_w q.es1 q.es2 q.x q.split q.told q.sees)
 
   -- a note that both told at once stands before
-  pub woke_behind : (i : ℕ) (s c1 : ℕ) (x y : Note) (s0 s1 : Store) (c : ℕ) (ra : Ran (Woven SA) Told) (rb : Ran (Woven SB) Told) → Q i x y → s1 ≡ x.store → Woke s1 c ra rb
+  pub woke_behind : (i : ℕ) (x y : Note) (s0 s1 : Store) (c : ℕ) (ra : Ran (Woven SA) Told) (rb : Ran (Woven SB) Told) → Q i x y → s1 ≡ x.store → Woke s1 c ra rb
       → Woke s0 c (after (record { strand = i; note = x } ∷ []) ra) (after (record { strand = i; note = y } ∷ []) rb)
-  woke_behind i s c1 x y s0 s1 c ra rb q e wk = record {
+  woke_behind i x y s0 s1 c ra rb q e wk = record {
     es0 = record { strand = i; note = x } ∷ wk.es0;
     es1 = wk.es1;
     seen = wk.seen;

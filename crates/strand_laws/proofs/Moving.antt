@@ -341,7 +341,6 @@ module _ (family : Family) (laws : FamilyLaws family) where
         I.ends x how (record {
           es1 = es1;
           es_are = ee;
-          none = none;
           at_end = at;
           c1 = sp.c1;
           k1 = sp.k1;

@@ -308,7 +308,6 @@ module _ (family : Family) (laws : FamilyLaws family) where
             behind = I.pauses x2 ticks (Room m st.policy S) (record {
               es1 = x1 ∷ [];
               es_are = refl;
-              none = (refl, tt);
               at_end = refl;
               c1 = r.c1;
               k1 = 0;
@@ -422,7 +421,8 @@ module _ (family : Family) (laws : FamilyLaws family) where
                   subst (λ w. (MoveNow family laws) i spare k2
                   (call_note imp args d.store (stack_of (Base m) d) (Some ticks) ∷ pause_note ticks (Room m st.policy (stack_of (Base m) d)) d.store (stack_of (Base m) d) ∷ [])
                   (on (runs (an_entry en) c l)) (waits (an_entry en) d x (with_outcomes l os)) w) (sym rr.b_is)
-                  (pause_at i li spare k2 imp args en c d sm.c' sm.d' l x os ticks ps are is sm.asks_too eo ef et mid2 sm.here sm.under sm.chain cl ins calm2 ok1 rr.bc rr.top rr.x rr.within rr.is_top rr.lk rr.lf
+                  (pause_at i li spare k2 imp args en c d sm.c' sm.d' l x os ticks ps are is sm.asks_too eo ef et mid2 sm.here sm.under sm.chain cl ins calm2 ok1 rr.bc rr.top rr.x rr.within
+                  rr.is_top rr.lk rr.lf
                   (subst (λ w. (Rel family laws) i li 0 spare (runs (an_entry en) sm.c' l) w) rr.b_is rel2) (subst (Known i) rr.b_is kn)
                   (ltb-false (strand_at g i).area.len (Room m st.policy (stack_of (Base m) d)) eq2))
 
@@ -434,7 +434,6 @@ module _ (family : Family) (laws : FamilyLaws family) where
   pub strand_law : I.StrandLaw A B (Go family laws) (Hang family laws) (Near family laws) (Sm family laws) (Kept family laws) (Q family laws) (Calm family laws) (Ok family laws) (dear family laws)
   strand_law = record {
     same_event = λ i x y q. q.event;
-    near_sees = λ s s' n. n.same;
     sees = sees_now;
     stop = λ i spare a b go calm e q. (stops_now family laws) i spare a b go calm e q;
     slow = λ i spare k es a t b go calm e q le. (slow_now family laws) i spare k es a t b go calm e q le;

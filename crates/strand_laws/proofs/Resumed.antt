@@ -97,7 +97,6 @@ module _ (w : World) (ft : WorldFits w) (sl : StoreLaws w) (L : (top spare : ℕ
       pub few : cost + 10 * left ≤ c
       pub on : R w ft sl L W G law 0 (10 * left) (runs (an_entry e) (resumed d (poked t a.pokes) (option_to_list v)) lo) (busy (is_running (an_entry e)) to lo)
       pub known : Known (busy (is_running (an_entry e)) to lo)
-      pub since : y.since ≡ Some s'
       pub same_event : y.event ≡ answered (S.Value v)
 
     -- what is told of a trap behind the pause
@@ -273,6 +272,5 @@ module _ (w : World) (ft : WorldFits w) (sl : StoreLaws w) (L : (top spare : ℕ
               few = omega arith;
               on = r_runs top gv.left (omega arith) (sp.hangs).is_top gv.link sp.left_fits (nothing_allowed w (runs (an_entry e) (resumed d (poked t a.pokes) (option_to_list v)) lo));
               known = known_along w Known wl behind (busy (is_running (an_entry e)) gv.to lo) gv.cost [] known_behind (gv.silent).leads;
-              since = refl;
               same_event = refl;
             }

@@ -71,7 +71,7 @@ module _ {SA SB : Type 0} (A : Loom SA) (B : Loom SB) (Go : (strand spare : ℕ)
   wake_one most most' ih s s' c c1 c2 i due ra rb ts us same lt few rest less_a less_b (wakes_up x y how ea eb ex q at near keeps) =
       subst (λ z. Woke s c z (woven_by B (weave_on B most') false i due rb.events rb.last us (last_event rb.events))) (sym ma)
       (subst (λ z. Woke s c (after (record { strand = i; note = x } ∷ []) (chain (weave_on A most) (ends_strand false how) (A.store ra.last) (put i due None ts))) z) (sym mb)
-      (I.woke_behind A B Go Hang Near Sm Kept Q Calm Ok dear i 0 0 x y s (A.store ra.last) c (chain (weave_on A most) (ends_strand false how) (A.store ra.last) (put i due None ts))
+      (I.woke_behind A B Go Hang Near Sm Kept Q Calm Ok dear i x y s (A.store ra.last) c (chain (weave_on A most) (ends_strand false how) (A.store ra.last) (put i due None ts))
       (chain (weave_on B most') (ends_strand false how) (B.store rb.last) (put i due None us)) q at on))
     where
       ey : y.event ≡ ended how

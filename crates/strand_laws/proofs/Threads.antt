@@ -68,14 +68,6 @@ module _ {SA SB : Type 0} (Hang : (strand credit : ℕ) → SA → SB → Store 
   hang_put s i j c c1 d a b [] (u ∷ us) h g = absurd h
   hang_put s i j c c1 d a b (t ∷ ts) [] h g = absurd h
 
-  -- one has ended
-  pub hang_none : (s : Store) (i j c d : ℕ) (ts : List (Thread SA)) (us : List (Thread SB)) → AllHang s i c ts us → AllHang s i c (put j d None ts) (put j d None us)
-  hang_none s i j c d [] [] h = tt
-  hang_none s i zero c d (t ∷ ts) (u ∷ us) h = let le = h.3 in (refl, 0, h.2, omega arith, tt, h.5)
-  hang_none s i (suc j) c d (t ∷ ts) (u ∷ us) h = (h.0, h.1, h.2, h.3, h.4, hang_none s (suc i) j h.2 d ts us h.5)
-  hang_none s i j c d [] (u ∷ us) h = absurd h
-  hang_none s i j c d (t ∷ ts) [] h = absurd h
-
   -- they hang over another store that has kept their areas
   module _ (Kept : ℕ → Store → Store → Type 0) (hang_on : (i c : ℕ) (a : SA) (b : SB) (s s' : Store) → Hang i c a b s → Kept i s s' → Hang i c a b s') (s s' : Store) where
     pair_over : (i c : ℕ) (x : Option SA) (y : Option SB) → PairAt s i c x y → Kept i s s' → PairAt s' i c x y

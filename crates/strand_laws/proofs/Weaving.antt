@@ -1,7 +1,7 @@
 -- A stretch of the strand that goes on is one of the woven machine.
-use Rattle.std.proofs.Common.{arith, ◌≡◌, ◌<◌, ℕ, zero, suc, ◌+◌, List, [], ◌∷◌, ◌++◌, length, Option, Some, None, Bool, false, refl, ap, ◌∙◌}
+use Rattle.std.proofs.Common.{arith, ◌≡◌, ◌<◌, ℕ, zero, suc, List, [], ◌∷◌, ◌++◌, length, Option, Some, None, Bool, false, refl, ap, ◌∙◌}
 use Rattle.std.specs.Prelude.{slice_get, slice_set}
-use Rattle.wa_model.specs.Machine.{Turn, goes, Ran, Leads, stays, moves}
+use Rattle.wa_model.specs.Machine.{Turn, goes, Ran}
 use Rattle.wa_model.specs.Outside.{Event, called, answered, parked, paused, returned, ended, shown}
 use Rattle.wa_model.specs.Blocking.{Note}
 use Rattle.world_model.specs.World.{ends_turn}
@@ -43,17 +43,6 @@ module _ {S : Type 0} (loom : Loom S) where
       ∙ ap (λ (r : Ran (Woven S) Told). goes k r.events r.last) (stays_on (weave_on loom (suc (length (put i due (Some s) ts)))) (loom.starts s) i due es t (put i due (Some s) ts) (last_event es) g)
       ∙ ap (λ (us : List (Thread S)). goes k (told_by i es) (record { now = i; threads = us })) (twice i ts (record { due = due; at = Some s }) (record { due = due; at = Some t }))
 
-  -- no move of the stretch ends a turn
-  pub data Strides (i : ℕ) : S → ℕ → List Note → S → Type 0 where
-    rests : {s : S} → Strides i s 0 [] s
-    strides : {s t u : S} {k n m : ℕ} {es fs gs : List Note} → loom.next i s ≡ goes k es t → GoesOn (last_event es) → Strides i t n fs u → m ≡ suc k + n → gs ≡ es ++ fs → Strides i s m gs u
-
   pub told_both : (i : ℕ) (es fs : List Note) → told_by i (es ++ fs) ≡ told_by i es ++ told_by i fs
   told_both i [] fs = refl
   told_both i (x ∷ es) fs = ap (λ (z : List Told). record { strand = i; note = x } ∷ z) (told_both i es fs)
-
-  pub woven_stretch : (i due : ℕ) (s t : S) (ts : List (Thread S)) (n : ℕ) (es : List Note) → i < length ts → Strides i s n es t
-      → Leads (weave loom) (going i due s ts) n (told_by i es) (going i due t ts)
-  woven_stretch i due s _ ts _ _ lt rests = stays
-  woven_stretch i due s t ts n es lt (strides {t = v} {k = k} {n = m} {es = xs} {fs = ys} e g rest c q) =
-      moves (woven_move i due s v ts k xs lt e g) (woven_stretch i due v t ts m ys lt rest) c (ap (told_by i) q ∙ told_both i xs ys)
