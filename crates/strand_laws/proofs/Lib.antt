@@ -24,6 +24,7 @@ pub mod StrandModules
 pub mod StrandWorlds
 pub mod Switch
 pub mod Threads
+pub mod Turns
 pub mod Waking
 pub mod Weaving
 pub mod WholeRuns

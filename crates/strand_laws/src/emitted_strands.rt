@@ -1,6 +1,7 @@
 //! Laws of the strands of what is emitted. Each is the contract of a function that does nothing.
 
 ghost use Rattle.strand_laws.specs.EmittedStrands.{StrandPausesAtNumbers, StrandsOfEmitted};
+ghost use Rattle.strand_laws.specs.Example.{ThreeTakeTurns};
 
 /// Under both policies the strands of what is emitted behave like those of its original: the same events of the same strands, within
 /// the bound; at each the stores agree outside all areas, at a pause the strand's area holds the image of its stack, and between events
@@ -13,4 +14,10 @@ pub fn strands_of_emitted()
 /// numbered calls.
 pub fn strand_pauses_at_numbers()
     ensures { StrandPausesAtNumbers }
+{}
+
+/// Three strands of a small module, of which each pauses once and one then meets a trap, take turns as they are due, and those of
+/// whatever is emitted of it do too: what is asked of strands can be met.
+pub fn three_strands_take_turns()
+    ensures { ThreeTakeTurns }
 {}
