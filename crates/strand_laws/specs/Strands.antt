@@ -236,7 +236,7 @@ StrandsNumbered s which g oss n = All (λ (t : Told). PauseNumbered g.source s w
 abbrev pub AreApart : Area → Area → Type 0
 AreApart a b = overlap a.at a.len b.at b.len ≡ false
 
--- the pokes of an outcome keep off these areas, as a plan with them among its `others` will ask it
+-- the pokes of an outcome keep off these areas
 abbrev pub PokesOff : List Area → Outcome → Type 0
 PokesOff areas (given a) = All (λ (p : Poke). All (λ (x : Area). overlap p.at (length p.bytes) x.at x.len ≡ false) areas) a.pokes
 PokesOff areas _ = Unit {0}
