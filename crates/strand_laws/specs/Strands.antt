@@ -224,7 +224,7 @@ abbrev pub IsCalmNow : List Strand → Option (Ready Strung) → Type 0
 IsCalmNow ss None = Unit {0}
 IsCalmNow ss (Some r) = IsCalmAt ss r.at
 
--- Up to a cost of n no load or store of a strand, that doesn't trap, overlaps the area of any.
+-- Up to a cost of n no load, store, copy or fill of a strand, that doesn't trap, overlaps the area of any; a copy also not by its source.
 abbrev pub StrandsUntouched : Settings → StrandProgram → List (List Outcome) → ℕ → Type 0
 StrandsUntouched s g oss n = (j : ℕ) → j < n → IsCalmNow g.strands (standing_now (BlockingStrands s g oss j).last)
 
