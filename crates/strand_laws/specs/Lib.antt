@@ -1,0 +1,4 @@
+pub mod EmittedStrands
+pub mod Example
+pub mod Strands
+pub mod Woven
