@@ -1,3 +1,4 @@
+pub mod BareWorlds
 pub mod Beginnings
 pub mod CallsTold
 pub mod CalmLines

@@ -553,7 +553,7 @@ told_end (Some r) (parked u) h = absurd cc
 told_end (Some r) (returned i v) h = absurd cc
 told_end (Some r) (shown i v) h = absurd cc
 
-turn_ends : {X : Type 0} (looks : List Look) (d i : ℕ) (p : Option X) (turn : List Note) → ends_program turn ≡ true
+pub turn_ends : {X : Type 0} (looks : List Look) (d i : ℕ) (p : Option X) (turn : List Note) → ends_program turn ≡ true
     → tells_end i (map (λ (e : Event). line_at d i (told_pause p e)) (events_with_looks looks turn)) ≡ true
 turn_ends looks d i p [] h = absurd cc
 turn_ends {X} looks d i p (x ∷ xs) h = by (turn_ends looks d i p xs) (or_says (is_end x.event) (ends_program xs) h)
