@@ -1,5 +1,5 @@
 -- Runs of worlds without mailboxes are those of the world of `world_model`: there no story is cut.
-use Rattle.std.proofs.Common.{arith, ◌≡◌, ◌≤◌, ◌<◌, ◌+◌, ◌⊎◌, inl, inr, ℕ, suc, List, [], ◌∷◌, ◌++◌, length, map, Option, Some, None, Bool, true, false, All, refl, sym, ap, ◌∙◌, subst, slice_get, slice_set}
+use Rattle.std.proofs.Common.{arith, ◌≡◌, ◌≤◌, ◌<◌, ◌+◌, ◌⊎◌, inl, inr, ℕ, suc, List, [], ◌∷◌, ◌++◌, length, map, Some, None, Bool, true, false, All, refl, sym, ap, ◌∙◌, subst, slice_get, slice_set}
 use Rattle.std.proofs.Common.{append-nil, length-append}
 use Rattle.std.specs.Prelude.{◌||◌, ◌&&◌, nat_eq}
 use Rattle.std.specs.List.{AllZip}
@@ -11,7 +11,6 @@ use Rattle.std.proofs.lemmas.Option.{same_Some}
 use Rattle.wa_types.specs.declared.values.Value.TheVariants as V
 use Rattle.wa_model.specs.declared.answers.Detach.{Detach}
 use Rattle.wa_model.specs.Outside.{Line}
-use Rattle.wa_model.specs.Plan.{Outcome}
 use Rattle.wa_model.specs.Blocking.{Note}
 use Rattle.world_model.specs.World.{Actor as Unboxed, Events as UnboxedEvents, IsOver as UnboxedOver, Plays as UnboxedPlays, ProtocolWorldFrom as UnboxedWorld, StartsHeld as UnboxedStarts}
 use Rattle.world_model.specs.World.{an_event as then_unboxed, no_event as none_unboxed}
@@ -19,25 +18,20 @@ use Rattle.world_model.specs.World.{Device, Program, behind_turn, events_with_lo
 use Rattle.world_laws.specs.Originals.{new_calls}
 use Rattle.world_laws.specs.Played.{Played as UnboxedPlayed}
 use Rattle.world_laws.proofs.Counting.{Ends}
-use Rattle.world_laws.proofs.GoingOn.{none_to_come}
 use Rattle.world_laws.proofs.Places.{all_at, map_at, of_map, set_here, set_there, zip_at, zip_back, zipped}
 use Rattle.world_laws.proofs.Replaying.{Since, played_since}
 use Rattle.world_laws.proofs.Rests.{Further, further, further_counts}
 use Rattle.world_laws.proofs.StoryParts.{story_ends}
 use Rattle.world_laws.proofs.Turns.{turn_parts}
-use Rattle.host_laws.specs.Stretch.{meeting as with_more}
-use Rattle.host_laws.specs.Stories.{steps_from}
-use Rattle.mail_laws.specs.Mailboxes.{Receive, mailed}
+use Rattle.mail_laws.specs.Mailboxes.{Receive}
 use Rattle.mail_laws.specs.MailWorld.{Actor, HasEnded, HeldStory, IsOver, ProtocolWorldFrom, StartsHeld, begins_over, pauses, sharing, tells_end, to_end, to_wait}
-use Rattle.mail_laws.specs.Told.{Amid, ends_program, pending, starting}
+use Rattle.mail_laws.specs.Told.{ends_program}
 use Rattle.mail_laws.specs.WithoutBoxes.{IsAwake, WorldsWithoutBoxes, bare, boxed, unboxed}
-use Rattle.mail_laws.proofs.Beginnings.{over_notes, start_knows}
-use Rattle.mail_laws.proofs.CallsTold.{Posted}
+use Rattle.mail_laws.proofs.Beginnings.{none_empty, over_notes}
 use Rattle.mail_laws.proofs.CalmLines.{both_false, no_true, others_calm, turn_calm}
 use Rattle.mail_laws.proofs.Played.{starts_long}
 use Rattle.mail_laws.proofs.ToldAreWorlds.{ends_either, turn_ends}
-use Rattle.mail_laws.proofs.TurnsTold.{Behind, Turned, is_over, is_parked, is_paused, pause_ends, still_tells, turn_from}
-use Rattle.mail_laws.proofs.WholeTurns.{some_note}
+use Rattle.mail_laws.proofs.TurnsTold.{pause_ends}
 use Rattle.mail_laws.proofs.WithoutBoxes.{events_are_unboxed, unboxed_events_are}
 
 -- ---- ends among notes
@@ -180,43 +174,6 @@ module _ (ws : List Program) (detaches : List Detach) where
       by (inr b) on = inr (on b.0 b.1 b.2)
 
 -- ---- stories
-
--- an event that has begun, where there are no devices
-abbrev nothing_begun : Amid
-nothing_begun = record { devices = []; boxes = []; settled = []; receive = None }
-
--- a program that isn't over tells something
-some_story : (w : Program) → begins_over w ≡ false → (os : List Outcome) × (ys : List Note) × (protocol_story w os ≡ ys) × (0 < length ys)
-some_story w going = of_turn (turn_from w 0 (starting w) [] nothing_begun (steps_from w.steps w.origin) refl posted (start_knows w going))
-  where
-    posted : Posted [] nothing_begun
-    posted = record { once = λ j. omega arith; waits = λ j some. let never : ⊥ = omega (arith, some) in absurd never; small = tt }
-
-    of_turn : Turned w 0 (starting w) [] nothing_begun (steps_from w.steps w.origin)
-        → (os : List Outcome) × (ys : List Note) × (protocol_story w os ≡ ys) × (0 < length ys)
-    of_turn tu = by tu.after
-      where
-        by : Behind w 0 (starting w) [] nothing_begun (steps_from w.steps w.origin) tu.turn tu.met tu.behind.receive
-            → (os : List Outcome) × (ys : List Note) × (protocol_story w os ≡ ys) × (0 < length ys)
-        by (is_over e value small more story) =
-            (tu.met ++ pending value tu.behind.receive ++ more, tu.turn, story, subst (λ (l : List Note). 0 < length l) (append-nil tu.turn) (some_note tu.turn [] tu.whole))
-        by (is_paused e none size lt s) =
-            (tu.met ++ [], tu.turn ++ still_tells w size s.n (with_more [] s.h), s.story [], some_note tu.turn (still_tells w size s.n (with_more [] s.h)) tu.whole)
-        by (is_parked e r some size lt f) =
-            let s = f 0 in (
-              (tu.met ++ mailed (Some (V.I32 0)) 1 ∷ []) ++ [],
-              tu.turn ++ still_tells w size s.n (with_more [] s.h),
-              s.story [],
-              some_note tu.turn (still_tells w size s.n (with_more [] s.h)) tu.whole,
-            )
-
--- whatever its calls meet
-none_empty : (w : Program) (os : List Outcome) → begins_over w ≡ false → protocol_story w os ≡ [] → ⊥
-none_empty w os going none =
-    let s = some_story w going in
-    let z : length s.1 ≡ 0 = ap length (none_to_come w [] os s.0 [] [] s.1 refl none s.2 refl) in
-    let h = s.3 in
-    omega (arith, z, h)
 
 -- a story that is told to its end isn't cut
 module _ (w : Program) (a now : Unboxed) (since : Since a now) (all_made : now.notes ≡ []) where

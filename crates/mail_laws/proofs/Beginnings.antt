@@ -1,7 +1,8 @@
 -- What a program tells from where it begins.
-use Rattle.std.proofs.Common.{◌≡◌, ◌-◌, ℕ, suc, List, [], ◌∷◌, ◌++◌, length, map, Option, Some, None, Bool, true, false, refl, sym, ap, ◌∙◌, subst, append_assoc, slice_get}
+use Rattle.std.proofs.Common.{arith, ◌≡◌, ◌<◌, ◌-◌, ℕ, suc, List, [], ◌∷◌, ◌++◌, length, map, Option, Some, None, Bool, true, false, refl, sym, ap, ◌∙◌, subst, append_assoc, append-nil, slice_get}
 use Rattle.std.specs.Prelude.{is_none, nat_lt, ◌*◌, replicate}
 use Rattle.wa_types.specs.declared.values.Value.{Value}
+use Rattle.wa_types.specs.declared.values.Value.TheVariants as V
 use Rattle.wa_types.specs.Memory.{page_size}
 use Rattle.wa_types.specs.Syntax.{Module}
 use Rattle.wa_types.specs.Modules.{all_memories, all_tables}
@@ -15,13 +16,18 @@ use Rattle.wa_model.specs.Instantiation.{elem_piece, byte_piece, Piece, bytes_ch
 use Rattle.wa_model.specs.Blocking.{Note, note, all_left, no_store, done_notes}
 use Rattle.wa_model.specs.Protocol.{Held, free, starting as held_starting, over, protocol, exports_of, held_begun, held_continued, held_on}
 use Rattle.world_model.specs.World.{Halt, Origin, Program, at_pause, at_start, gone, halted, halted_in, protocol_story, story_from, told_by, unless_over}
+use Rattle.world_laws.proofs.GoingOn.{none_to_come}
 use Rattle.host_laws.specs.Stretch.{meeting as with_more}
 use Rattle.host_laws.specs.Stories.{steps_from}
 use Rattle.mail_laws.specs.Stalling.{is_stalled}
-use Rattle.mail_laws.specs.MailWorld.{HeldStory, begins_over, over_at, to_end, to_wait}
+use Rattle.mail_laws.specs.Mailboxes.{mailed}
+use Rattle.mail_laws.specs.MailWorld.{HeldStory, begins_over, over_at, pauses, to_end, to_wait}
+use Rattle.mail_laws.specs.Told.{Amid, pending, starting}
 use Rattle.mail_laws.proofs.OpenMoves.{IsTame, NotOver}
 use Rattle.mail_laws.proofs.Tales.{tale_over}
-use Rattle.mail_laws.proofs.TurnsTold.{Knows, it_stands, only_ends, still_tells}
+use Rattle.mail_laws.proofs.WholeTurns.{some_note}
+use Rattle.mail_laws.proofs.CallsTold.{Posted}
+use Rattle.mail_laws.proofs.TurnsTold.{Behind, Knows, Turned, is_over, is_parked, is_paused, it_stands, only_ends, still_tells, turn_from}
 
 opens_calm : Opening → Type 0
 opens_calm (fails_as e) = is_stalled e ≡ false
@@ -149,3 +155,45 @@ pub over_notes : (w : Program) (os : List Outcome) (notes : List Note) → HeldS
 over_notes w os notes (to_end e) done = e ∙ over_tells w done os
 over_notes w os [] (to_wait rest e p) done = refl
 over_notes w os (x ∷ notes) (to_wait rest e p) done = let no_way : [] ≡ x ∷ (notes ++ rest) = sym (over_tells w done os) ∙ e in cc
+
+-- an event that has begun, where there are no devices
+abbrev nothing_begun : Amid
+nothing_begun = record { devices = []; boxes = []; settled = []; receive = None }
+
+-- a program that isn't over tells something
+some_story : (w : Program) → begins_over w ≡ false → (os : List Outcome) × (ys : List Note) × (protocol_story w os ≡ ys) × (0 < length ys)
+some_story w going = of_turn (turn_from w 0 (starting w) [] nothing_begun (steps_from w.steps w.origin) refl posted (start_knows w going))
+  where
+    posted : Posted [] nothing_begun
+    posted = record { once = λ j. omega arith; waits = λ j some. let never : ⊥ = omega (arith, some) in absurd never; small = tt }
+
+    of_turn : Turned w 0 (starting w) [] nothing_begun (steps_from w.steps w.origin)
+        → (os : List Outcome) × (ys : List Note) × (protocol_story w os ≡ ys) × (0 < length ys)
+    of_turn tu = by tu.after
+      where
+        by : Behind w 0 (starting w) [] nothing_begun (steps_from w.steps w.origin) tu.turn tu.met tu.behind.receive
+            → (os : List Outcome) × (ys : List Note) × (protocol_story w os ≡ ys) × (0 < length ys)
+        by (is_over e value small more story) =
+            (tu.met ++ pending value tu.behind.receive ++ more, tu.turn, story, subst (λ (l : List Note). 0 < length l) (append-nil tu.turn) (some_note tu.turn [] tu.whole))
+        by (is_paused e none size lt s) =
+            (tu.met ++ [], tu.turn ++ still_tells w size s.n (with_more [] s.h), s.story [], some_note tu.turn (still_tells w size s.n (with_more [] s.h)) tu.whole)
+        by (is_parked e r some size lt f) =
+            let s = f 0 in (
+              (tu.met ++ mailed (Some (V.I32 0)) 1 ∷ []) ++ [],
+              tu.turn ++ still_tells w size s.n (with_more [] s.h),
+              s.story [],
+              some_note tu.turn (still_tells w size s.n (with_more [] s.h)) tu.whole,
+            )
+
+-- whatever its calls meet
+pub none_empty : (w : Program) (os : List Outcome) → begins_over w ≡ false → protocol_story w os ≡ [] → ⊥
+none_empty w os going none =
+    let s = some_story w going in
+    let z : length s.1 ≡ 0 = ap length (none_to_come w [] os s.0 [] [] s.1 refl none s.2 refl) in
+    let h = s.3 in
+    omega (arith, z, h)
+
+-- where a program that isn't over begins it has notes to come
+pub begins_some : (w : Program) (os : List Outcome) (notes : List Note) → HeldStory w os notes → begins_over w ≡ false → notes ≡ [] → ⊥
+begins_some w os notes (to_end e) going none = none_empty w os going (sym e ∙ none)
+begins_some w os notes (to_wait rest e p) going none = let no_way : false ≡ true = sym (ap pauses none) ∙ p in cc

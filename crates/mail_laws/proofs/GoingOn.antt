@@ -11,25 +11,24 @@ use Rattle.wa_types.specs.declared.values.Value.TheVariants as V
 use Rattle.wa_model.specs.declared.answers.Detach.{Detach}
 use Rattle.wa_model.specs.declared.events.End.TheVariants.{Stalled}
 use Rattle.wa_model.specs.Outside.{Line, Event, ended}
-use Rattle.wa_model.specs.Plan.{Outcome}
 use Rattle.wa_model.specs.Blocking.{Note}
 use Rattle.world_model.specs.World.{Device, Program, protocol_story, line_at, events_with_looks, look_events, detached}
 use Rattle.world_laws.proofs.Places.{item, map_at, set_here, set_there, zipped}
 use Rattle.host_laws.specs.Stretch.{meeting as with_more}
 use Rattle.host_laws.specs.Stories.{steps_from}
-use Rattle.mailbox_device.specs.Mail.{Box, is_box as has_name, empty_box as no_mail}
+use Rattle.mailbox_device.specs.Mail.{Box, empty_box as no_mail}
 use Rattle.mailbox_device.specs.declared.mailbox.Settled.{Settled}
 use Rattle.mail_laws.specs.Mailboxes.{mailed}
 use Rattle.mail_laws.specs.MailWorld.{to_end, to_wait, ProtocolWorldFrom, begins_over, pauses, parks, told_pause, store_behind}
 use Rattle.mail_laws.specs.Played.{EachWorldEnds}
-use Rattle.mail_laws.specs.Told.{Await, Common, Amid, Teller, pending, waits_at, due_of, unless_waiting, IsLeast, IsRest, NoneDue, EndsOnce, ends_program, having_told, having_got, no_teller, settle_all, NotAmong}
+use Rattle.mail_laws.specs.Told.{Await, Common, Teller, pending, waits_at, due_of, unless_waiting, IsLeast, IsRest, NoneDue, EndsOnce, ends_program, having_told, having_got, no_teller, settle_all, NotAmong}
 use Rattle.mail_laws.specs.Told.{IsWaiting, AreSent, waiting_in, parked_in, begun_amid, TellsTurn, TellsStall, TellsEvent, tells_turn, tells_stall, starting as teller_at, opening as told_opening}
-use Rattle.mail_laws.specs.Told.{Tells, HasStory, HaveEnded, StillWait, if_going}
+use Rattle.mail_laws.specs.Told.{Tells, HasStory, HaveEnded, if_going}
 use Rattle.mail_laws.proofs.WholeTurns.{parks_unless}
 use Rattle.mail_laws.proofs.Promises.{not_sent, still_sent}
 use Rattle.mail_laws.proofs.ToldAreWorlds.{all_told_is_world, set_back}
 use Rattle.mail_laws.proofs.CallsTold.{times, times_waiting, total, one_where, not_among, Posted, are_sent, still_wait}
-use Rattle.mail_laws.proofs.TurnsTold.{Stands, Knows, it_stands, only_ends, Behind, is_over, is_paused, is_parked, Turned, still_tells, turn_from}
+use Rattle.mail_laws.proofs.TurnsTold.{Stands, Knows, it_stands, Behind, is_over, is_paused, is_parked, Turned, still_tells, turn_from}
 use Rattle.mail_laws.proofs.Beginnings.{over_tells, start_knows, start_size}
 
 -- ---- lists

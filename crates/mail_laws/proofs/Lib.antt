@@ -7,6 +7,7 @@ pub mod NoneWaits
 pub mod OpenMoves
 pub mod Played
 pub mod PlayedAreTold
+pub mod PlayedParts
 pub mod Promises
 pub mod Stalling
 pub mod Tales

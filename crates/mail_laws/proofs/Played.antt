@@ -1,5 +1,5 @@
 -- Events counted.
-use Rattle.std.proofs.Common.{arith, ◌≡◌, ◌+◌, ℕ, zero, suc, List, [], ◌∷◌, ◌++◌, length, Some, true, false, refl, sym, ap, ◌∙◌, subst, append_assoc, append-nil, length-set, slice_get, slice_set}
+use Rattle.std.proofs.Common.{arith, ◌≡◌, ◌+◌, ℕ, zero, suc, List, [], ◌∷◌, ◌++◌, length, Some, None, true, false, refl, sym, ap, ◌∙◌, subst, append_assoc, append-nil, length-set, slice_get, slice_set}
 use Rattle.std.specs.List.{AllZip}
 use Rattle.std.specs.Option.{unwrap_or}
 use Rattle.std.proofs.lemmas.Option.{slice_get_within}
@@ -9,7 +9,7 @@ use Rattle.world_model.specs.World.{Program}
 use Rattle.world_laws.proofs.Places.{all_at, item}
 use Rattle.mail_laws.specs.Mailboxes.{Shared}
 use Rattle.mail_laws.specs.MailWorld.{Actor, Events, HasEnded, Plays, StartsHeld, a_stall, a_turn, an_event, begins_over, no_event, nobody, sharing, tells_end, wake, woken}
-use Rattle.mail_laws.specs.Played.{NextEvent, Played, PlayedIsWhole, WholeIsPlayed}
+use Rattle.mail_laws.specs.Played.{NextEvent, Played, PlayedIsWhole}
 
 module _ (ws : List Program) (detaches : List Detach) where
   pub one_more : (count number at : ℕ) (acts mid next : List Actor) (ds es fs : Shared) (lines more : List Line) → at ≡ number + count → Played ws detaches number count acts ds lines mid es
@@ -108,21 +108,3 @@ played_is_whole begun ws detaches boxes ds ds' number lines world all_over = rec
         let a = item world.now i (omega (arith, slice_get_within ws i w there, long)) in
         let h = all_at HasEnded world.now i a.0 all_over a.1 in
         world.ends i w a.0 there a.1 going h.no_notes h.awake
-
-pub whole_is_played : WholeIsPlayed
-whole_is_played begun ws detaches boxes ds ds' lines world =
-    let c = counted ws detaches (suc begun) world.actors world.runs.last (sharing boxes ds) world.runs.shared lines world.runs.events in (
-      begun + c.0,
-      record {
-        actors = world.actors;
-        now = world.runs.last;
-        shared = world.runs.shared;
-        starts = world.starts;
-        count = c.0;
-        numbered = refl;
-        played = c.1;
-        devices = world.runs.devices;
-        ends = λ i w a ew ea going none awake. world.ends i w ew going;
-      },
-      world.runs.over,
-    )

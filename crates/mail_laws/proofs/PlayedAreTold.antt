@@ -1,29 +1,29 @@
 -- A world that is played is told.
-use Rattle.std.proofs.Common.{arith, ◌≡◌, ◌<◌, ◌≤◌, ◌+◌, ◌^◌, ◌⊎◌, inl, inr, ℕ, zero, suc, List, [], ◌∷◌, ◌++◌, length, map, Option, Some, None, Bool, true, false, if◌then◌else◌, nat_eq, slice_get}
+use Rattle.std.proofs.Common.{arith, ◌≡◌, ◌<◌, ◌≤◌, ◌+◌, ◌^◌, ◌⊎◌, inl, inr, ℕ, zero, suc, List, [], ◌∷◌, ◌++◌, length, map, Option, Some, None, Bool, true, false, nat_eq, slice_get}
 use Rattle.std.proofs.Common.{slice_set, refl, sym, ap, ◌∙◌, subst, append_assoc, append-nil, length-set}
-use Rattle.std.specs.Prelude.{◌||◌, ◌&&◌}
-use Rattle.std.specs.List.{AllZip, list_any}
+use Rattle.std.specs.Prelude.{◌&&◌}
+use Rattle.std.specs.List.{list_any}
 use Rattle.std.specs.Option.{option_map, unwrap_or}
-use Rattle.std.proofs.lemmas.Bool.{cases_eq, ne_eqb}
+use Rattle.std.proofs.lemmas.Bool.{cases_eq}
 use Rattle.std.proofs.lemmas.List.{append_cancel_left, length-map}
 use Rattle.std.proofs.lemmas.List.Folds.{list_any-append}
-use Rattle.std.proofs.lemmas.Option.{slice_get-map, slice_get_within, same_Some}
+use Rattle.std.proofs.lemmas.Option.{slice_get_within, same_Some}
 use Rattle.wa_types.specs.declared.values.Value.TheVariants as V
 use Rattle.wa_model.specs.Store.{Store}
 use Rattle.wa_model.specs.declared.answers.Detach.{Detach}
-use Rattle.wa_model.specs.Outside.{AnswerLine, Event, called, answered, paused, parked, returned, ended, shown, Line}
+use Rattle.wa_model.specs.Outside.{AnswerLine, Event, parked, ended, Line}
 use Rattle.wa_model.specs.Plan.{Outcome}
 use Rattle.wa_model.specs.Blocking.{Note, no_store}
-use Rattle.world_model.specs.World.{Program, detached, turn_of, behind_turn, put_off, line_at, is_end, events_with_looks, ends_turn, protocol_story, Device, Look, looks_after, look_events}
+use Rattle.world_model.specs.World.{Program, detached, turn_of, behind_turn, put_off, line_at, is_end, events_with_looks, protocol_story, Device, look_events}
 use Rattle.world_laws.proofs.Places.{item, map_at, set_here, set_there, zip_both}
 use Rattle.world_laws.proofs.Turns.{turn_parts}
 use Rattle.mailbox_device.specs.Mail.{Box, empty_box as no_mail}
 use Rattle.mailbox_device.specs.declared.mailbox.Settled.{Settled}
-use Rattle.mail_laws.specs.MailWorld.{Actor, Parked, Plays, a_turn, a_stall, TakesTurn, Stalls, IsNext, IsReady, HeldStory, to_end, to_wait, pauses, begun_event, nobody, parked_at, parks, told_pause}
+use Rattle.mail_laws.specs.MailWorld.{Actor, Parked, Plays, a_turn, a_stall, TakesTurn, Stalls, IsReady, HeldStory, to_end, to_wait, pauses, begun_event, nobody, parked_at, parks, told_pause}
 use Rattle.mail_laws.specs.MailWorld.{store_behind, wake, woken, with_waiting, tells_end, StartsHeld, sharing, begins_over}
-use Rattle.mail_laws.specs.Mailboxes.{Receive, Mailbox, Shared, Midst, CallsMeet, mailed, empty_box}
-use Rattle.mail_laws.specs.Told.{Await, Common, Amid, Teller, promise, promised, receive_of, shared_by, number_of, midst_by, pending, KeepsPromises, waits_at, unless_waiting, due_of, IsLeast, NoneDue}
-use Rattle.mail_laws.specs.Told.{ends_program, having_told, having_got, no_teller, settle_all, NotAmong, IsWaiting, AreSent, parked_in, begun_amid, starting as teller_at, opening as told_opening}
+use Rattle.mail_laws.specs.Mailboxes.{Mailbox, Shared, Midst, CallsMeet, mailed, empty_box}
+use Rattle.mail_laws.specs.Told.{Await, Common, Teller, promise, promised, receive_of, shared_by, number_of, midst_by, pending, KeepsPromises, waits_at, unless_waiting, due_of, IsLeast, NoneDue}
+use Rattle.mail_laws.specs.Told.{having_told, having_got, no_teller, settle_all, NotAmong, AreSent, parked_in, begun_amid, starting as teller_at, opening as told_opening}
 use Rattle.mail_laws.specs.Told.{Tells, TellsTurn, TellsStall, TellsEvent, tells_turn, tells_stall, if_going, ToldGoesOn}
 use Rattle.mail_laws.proofs.WholeTurns.{parks_unless, store_last}
 use Rattle.mail_laws.proofs.Promises.{pick, keeps_other, still_sent, parked_boxes, parks_map, told_map}
@@ -31,8 +31,8 @@ use Rattle.mail_laws.specs.Played.{ProtocolWorldUpToFrom, Played, EndsAreTold, W
 use Rattle.mail_laws.specs.Stalling.{note_stalls, WorldsStallLast}
 use Rattle.mail_laws.proofs.Stalling.{stalls_last}
 use Rattle.mail_laws.proofs.Played.{starts_long}
-use Rattle.mail_laws.proofs.ToldAreWorlds.{Whole, dues_at, none_going, not_parked, parked_of, set_back, settle_keeps, told_is_world}
-use Rattle.mail_laws.proofs.CallsTold.{times, times_waiting, total, one_where, one_here}
+use Rattle.mail_laws.proofs.ToldAreWorlds.{Whole, dues_at, none_going, not_parked, parked_of, told_is_world}
+use Rattle.mail_laws.proofs.CallsTold.{times, times_waiting, one_where, one_here}
 use Rattle.mail_laws.proofs.TurnsTold.{Knows, it_stands, only_ends, still_tells, Turned}
 use Rattle.mail_laws.proofs.TurnsFollowed.{Cut, Followed, follow, f_end}
 use Rattle.mail_laws.proofs.GoingOn.{AllHold, Holds, has_told, goes_along, waits_on, Waits, posted, turn, turn_holds, told, now, c2, told_lines, new_sizes, sent, out, not_waiting, start_holds}

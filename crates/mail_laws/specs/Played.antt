@@ -1,5 +1,5 @@
 -- Worlds with mailboxes that are played up to an event, and those of them that go on.
-use Rattle.std.specs.Prelude.{◌≡◌, ℕ, zero, suc, ◌+◌, List, [], ◌++◌, Some, None, true, false, slice_get}
+use Rattle.std.specs.Prelude.{◌≡◌, ◌≤◌, ℕ, zero, suc, ◌+◌, List, [], ◌++◌, Some, None, true, false, slice_get}
 use Rattle.std.specs.List.{AllZip}
 use Rattle.wa_model.specs.declared.answers.Detach.{Detach}
 use Rattle.wa_model.specs.Outside.{Line}
@@ -39,7 +39,13 @@ ProtocolWorldUpTo = ProtocolWorldUpToFrom 0
 
 -- ---- laws
 
--- Each further event makes its lines behind the others.
+-- Before its first event nothing has been made,
+abbrev pub NoEvent : Type 0
+NoEvent =
+    (begun : ℕ) (programs : List Program) (detaches : List Detach) (boxes : List (List ℕ)) (ds : List Device) (actors : List Actor) → AllZip StartsHeld programs actors
+    → (world : ProtocolWorldUpToFrom begun programs detaches boxes ds begun [] ds) × (world.now ≡ actors)
+
+-- and each further event makes its lines behind the others.
 abbrev pub NextEvent : Type 0
 NextEvent =
     (begun : ℕ) (programs : List Program) (detaches : List Detach) (boxes : List (List ℕ)) (ds ds' : List Device) (number : ℕ) (lines more : List Line) (next : List Actor) (sh : Shared)
@@ -53,12 +59,14 @@ PlayedIsWhole =
     (begun : ℕ) (programs : List Program) (detaches : List Detach) (boxes : List (List ℕ)) (ds ds' : List Device) (number : ℕ) (lines : List Line)
     (world : ProtocolWorldUpToFrom begun programs detaches boxes ds number lines ds') → IsOver world.now → ProtocolWorldFrom begun programs detaches boxes ds lines ds'
 
--- A whole run is one up to its last event.
+-- A whole run has a last event; up to each event it is played, and its lines so far begin those of the whole.
 abbrev pub WholeIsPlayed : Type 0
 WholeIsPlayed =
     (begun : ℕ) (programs : List Program) (detaches : List Detach) (boxes : List (List ℕ)) (ds ds' : List Device) (lines : List Line)
     → ProtocolWorldFrom begun programs detaches boxes ds lines ds'
     → (last : ℕ) × (world : ProtocolWorldUpToFrom begun programs detaches boxes ds last lines ds') × IsOver world.now
+    × ((number : ℕ) → begun ≤ number → number ≤ last
+    → (first rest : List Line) × (es : List Device) × ProtocolWorldUpToFrom begun programs detaches boxes ds number first es × (lines ≡ first ++ rest))
 
 -- Up to whatever event a world has been played, and whatever its devices have replied so far, it can be played on to an end.
 abbrev pub WorldsGoOn : Type 0

@@ -8,7 +8,7 @@ use Rattle.wa_types.specs.Syntax.{FuncType, Module, basic, call, done, num, plai
 use Rattle.wa_types.specs.Pausing.{Settings, every, save_all}
 use Rattle.wa_model.specs.declared.events.End.TheVariants.{Stalled}
 use Rattle.wa_model.specs.Outside.{Event, Line, called, ended, parked}
-use Rattle.world_model.specs.World.{Original, Program, at_start}
+use Rattle.world_model.specs.World.{Program, at_start}
 use Rattle.mail_laws.specs.MailWorld.{BlockingWorld}
 
 -- [] -> [i32]
