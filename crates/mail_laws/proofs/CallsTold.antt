@@ -11,7 +11,7 @@ use Rattle.wa_model.specs.declared.events.End.TheVariants.{NoAnswer, OtherImport
 use Rattle.wa_model.specs.Outside.{Call, AnswerLine}
 use Rattle.wa_model.specs.Plan.{Outcome, given, refused}
 use Rattle.world_model.specs.World.{Program, Device, Reply, MeetsLine, is_named, name_at, base_names, import_names, journaled}
-use Rattle.mailbox_device.specs.Mail.{Box, is_box as has_name}
+use Rattle.mailbox_device.specs.Mail.{Box, at_box as at_told, is_box as has_name, received as told_received, sent as told_sent, sent_past as told_past}
 use Rattle.mailbox_device.specs.declared.mailbox.Settled.{Settled}
 use Rattle.mail_laws.specs.Mailboxes.{Mailbox, Midst, Meets, MeetsBound, MeetsNamed, MeetsBox, MeetsValues, in_range, IsAwaited, mailed, is_box, at_box, sent, sent_past, receiver, received}
 use Rattle.mail_laws.proofs.OpenMoves.{Tame}
@@ -96,23 +96,9 @@ keeps_last will (x ∷ xs) ys h = keeps_last will xs ys h.1
 
 -- ---- mailboxes
 
-abbrev pub at_told : (Box → Box) → List ℕ → List Box → List Box
-at_told f name [] = []
-at_told f name (b ∷ bs) = if has_name name b then f b ∷ bs else b ∷ at_told f name bs
-
-abbrev told_past : ℕ → Box → List ℕ → Box
-told_past v b [] = record b { values = b.values ++ v ∷ [] }
-told_past v b (j ∷ js) = record b { waits = js }
-
-abbrev told_sent : ℕ → Box → Box
-told_sent v b = told_past v b b.waits
-
 abbrev told_receiver : ℕ → List ℕ → List Settled
 told_receiver v [] = []
 told_receiver v (j ∷ js) = record { program = j; value = in_range v } ∷ []
-
-abbrev told_received : List ℕ → Box → Box
-told_received rest b = record b { values = rest }
 
 at_promised : (will : ℕ → ℕ) (g : Mailbox → Mailbox) (f : Box → Box) (name : List ℕ) (bs : List Box) → ((b : Box) → g (promised will b) ≡ promised will (f b))
     → at_box g name (map (promised will) bs) ≡ map (promised will) (at_told f name bs)

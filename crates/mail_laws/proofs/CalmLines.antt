@@ -61,7 +61,7 @@ woken_at due (i ∷ is) actors j a e = by (cases_eq j i) (λ acts c f. woken_at 
 
 module _ (programs : List Program) (detaches : List Detach) where
   -- it stays so, and its lines tell no end
-  abbrev Sleeps : ℕ → List Line → List Actor → Type 0
+  abbrev pub Sleeps : ℕ → List Line → List Actor → Type 0
   Sleeps j lines actors = (tells_end j lines ≡ false) × (b : Actor) × (slice_get actors j ≡ Some b) × (b.notes ≡ []) × (b.parked ≡ None)
 
   sleeps_event : (number : ℕ) (actors actors' : List Actor) (sh sh' : Shared) (lines : List Line) (j : ℕ) (a : Actor) → slice_get actors j ≡ Some a → a.notes ≡ [] → a.parked ≡ None
