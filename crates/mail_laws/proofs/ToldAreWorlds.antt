@@ -476,7 +476,6 @@ pub none_going : (b : Bool) → if_going b nowhere ≡ nowhere
 none_going true = refl
 none_going false = refl
 
-
 record Reached (begun : ℕ) (programs : List Program) (detaches : List Detach) (boxes : List (List ℕ)) (ds : List Device) (count : ℕ) (lines : List Line) (actors : List Actor) (sh : Shared) : Type 0 where
   pub start : List Actor
   pub starts : AllZip StartsHeld programs start

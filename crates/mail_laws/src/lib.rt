@@ -26,7 +26,9 @@ mod told_laws;
 mod waiting_laws;
 
 pub use answer_laws::answers_are_unread;
-pub use bare_laws::{bare_events_are_those_of_worlds, bare_worlds_are_worlds, none_waits_without_boxes};
+pub use bare_laws::{
+    bare_events_are_those_of_worlds, bare_worlds_are_worlds, none_waits_without_boxes,
+};
 pub use event_laws::runs_with_mail_are_played;
 pub use ongoing_laws::{each_world_with_mail_ends, worlds_with_mail_go_on};
 pub use stalled_laws::stalls_come_last;
