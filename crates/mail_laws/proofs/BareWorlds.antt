@@ -27,7 +27,8 @@ use Rattle.mail_laws.specs.MailWorld.{Actor, HasEnded, HeldStory, IsOver, Protoc
 use Rattle.mail_laws.specs.Told.{ends_program}
 use Rattle.mail_laws.specs.WithoutBoxes.{IsAwake, WorldsWithoutBoxes, bare, boxed, unboxed}
 use Rattle.mail_laws.proofs.Beginnings.{none_empty, over_notes}
-use Rattle.mail_laws.proofs.CalmLines.{both_false, no_true, others_calm, turn_calm}
+use Rattle.mail_laws.proofs.CalmLines.{no_true, others_calm, turn_calm}
+use Rattle.mail_laws.proofs.Stalling.{both_false}
 use Rattle.mail_laws.proofs.Played.{starts_long}
 use Rattle.mail_laws.proofs.ToldAreWorlds.{ends_either, turn_ends}
 use Rattle.mail_laws.proofs.TurnsTold.{pause_ends}

@@ -14,8 +14,8 @@ use Rattle.world_model.specs.World.{Program, Device, Reply, MeetsLine, is_named,
 use Rattle.mailbox_device.specs.Mail.{Box, at_box as at_told, is_box as has_name, received as told_received, sent as told_sent, sent_past as told_past}
 use Rattle.mailbox_device.specs.declared.mailbox.Settled.{Settled}
 use Rattle.mail_laws.specs.Mailboxes.{Mailbox, Midst, Meets, MeetsBound, MeetsNamed, MeetsBox, MeetsValues, in_range, IsAwaited, mailed, is_box, at_box, sent, sent_past, receiver, received}
-use Rattle.mail_laws.proofs.OpenMoves.{Tame}
 use Rattle.mail_laws.specs.Told.{Await, Amid, Teller, promise, promised, receive_of, number_of, midst_by, KeepsPromises, NotAmong, IsWaiting, AreSent, NoneAmong, StillWait}
+use Rattle.mail_laws.proofs.OpenMoves.{Tame}
 
 -- ---- how often a program waits, or was sent a value
 

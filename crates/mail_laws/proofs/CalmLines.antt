@@ -15,6 +15,7 @@ use Rattle.mail_laws.specs.Mailboxes.{Shared}
 use Rattle.mail_laws.specs.MailWorld.{Actor, Parked, Plays, a_stall, a_turn, begins_over, nobody, parks, store_behind, tells_end, told_pause, wake, woken}
 use Rattle.mail_laws.specs.Played.{Played}
 use Rattle.mail_laws.specs.Told.{Common, Teller, TellsEvent, due_of, ends_program, having_told, tells_stall, tells_turn}
+use Rattle.mail_laws.proofs.Stalling.{both_false}
 use Rattle.mail_laws.proofs.ToldAreWorlds.{dues_at, set_back, settle_keeps}
 use Rattle.mail_laws.proofs.GoingOn.{due_is}
 
@@ -30,10 +31,6 @@ and_false false b e = refl
 pub false_and : (a b : Bool) → a ≡ false → (a && b) ≡ false
 false_and true b e = absurd cc
 false_and false b e = refl
-
-pub both_false : (a b : Bool) → a ≡ false → b ≡ false → (a || b) ≡ false
-both_false true b e f = absurd cc
-both_false false b e f = f
 
 pub others_calm : (i j : ℕ) (g : Event → Line) → (i ≡ j → ⊥) → ((e : Event) → (g e).program ≡ i) → (es : List Event) → tells_end j (map g es) ≡ false
 others_calm i j g other is [] = refl

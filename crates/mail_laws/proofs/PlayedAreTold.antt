@@ -19,17 +19,17 @@ use Rattle.world_laws.proofs.Places.{item, map_at, set_here, set_there, zip_both
 use Rattle.world_laws.proofs.Turns.{turn_parts}
 use Rattle.mailbox_device.specs.Mail.{Box, empty_box as no_mail}
 use Rattle.mailbox_device.specs.declared.mailbox.Settled.{Settled}
-use Rattle.mail_laws.specs.MailWorld.{Actor, Parked, Plays, a_turn, a_stall, TakesTurn, Stalls, IsReady, HeldStory, to_end, to_wait, pauses, begun_event, nobody, parked_at, parks, told_pause}
+use Rattle.mail_laws.specs.MailWorld.{Actor, Parked, Plays, a_turn, a_stall, TakesTurn, Stalls, IsReady, HeldStory, to_end, to_wait, begun_event, nobody, parked_at, parks, told_pause}
 use Rattle.mail_laws.specs.MailWorld.{store_behind, wake, woken, with_waiting, tells_end, StartsHeld, sharing, begins_over}
 use Rattle.mail_laws.specs.Mailboxes.{Mailbox, Shared, Midst, CallsMeet, mailed, empty_box}
 use Rattle.mail_laws.specs.Told.{Await, Common, Teller, promise, promised, receive_of, shared_by, number_of, midst_by, pending, KeepsPromises, waits_at, unless_waiting, due_of, IsLeast, NoneDue}
 use Rattle.mail_laws.specs.Told.{having_told, having_got, no_teller, settle_all, NotAmong, AreSent, parked_in, begun_amid, starting as teller_at, opening as told_opening}
 use Rattle.mail_laws.specs.Told.{Tells, TellsTurn, TellsStall, TellsEvent, tells_turn, tells_stall, if_going, ToldGoesOn}
-use Rattle.mail_laws.proofs.WholeTurns.{parks_unless, store_last}
-use Rattle.mail_laws.proofs.Promises.{pick, keeps_other, still_sent, parked_boxes, parks_map, told_map}
 use Rattle.mail_laws.specs.Played.{ProtocolWorldUpToFrom, Played, EndsAreTold, WorldsGoOn}
 use Rattle.mail_laws.specs.Stalling.{note_stalls, WorldsStallLast}
-use Rattle.mail_laws.proofs.Stalling.{stalls_last}
+use Rattle.mail_laws.proofs.WholeTurns.{parks_unless, pauses_behind, store_last}
+use Rattle.mail_laws.proofs.Promises.{pick, keeps_other, still_sent, parked_boxes, parks_map, told_map}
+use Rattle.mail_laws.proofs.Stalling.{both_false, stalls_last}
 use Rattle.mail_laws.proofs.Played.{starts_long}
 use Rattle.mail_laws.proofs.ToldAreWorlds.{Whole, dues_at, none_going, not_parked, parked_of, told_is_world}
 use Rattle.mail_laws.proofs.CallsTold.{times, times_waiting, one_where, one_here}
@@ -38,7 +38,7 @@ use Rattle.mail_laws.proofs.TurnsFollowed.{Cut, Followed, follow, f_end}
 use Rattle.mail_laws.proofs.GoingOn.{AllHold, Holds, has_told, goes_along, waits_on, Waits, posted, turn, turn_holds, told, now, c2, told_lines, new_sizes, sent, out, not_waiting, start_holds}
 use Rattle.mail_laws.proofs.GoingOn.{told_from, stall, stall_keeps, over_now, program_there, stall_lines, stall_common, due_is, no_await}
 use Rattle.mail_laws.proofs.Beginnings.{over_notes, start_size}
-use Rattle.mail_laws.proofs.CalmLines.{Calm, Going, both_false, calm_event, going_event, no_true, sleeps_on}
+use Rattle.mail_laws.proofs.CalmLines.{Calm, Going, calm_event, going_event, no_true, sleeps_on}
 
 -- ---- promises with one of them changed
 
@@ -151,12 +151,6 @@ settle_beside wholes will due (s ∷ ss) tellers actors are keeps b =
 
 -- ---- lists
 
-pauses_past : (xs ys : List Note) → 0 < length ys → pauses (xs ++ ys) ≡ pauses ys
-pauses_past [] ys some = refl
-pauses_past xs [] some = let never : ⊥ = omega (arith, some) in absurd never
-pauses_past (x ∷ []) (y ∷ ys) some = refl
-pauses_past (x ∷ z ∷ xs) (y ∷ ys) some = pauses_past (z ∷ xs) (y ∷ ys) some
-
 -- what is to come of a story, up to where it may be cut
 record Coming (told ms : List Note) (tale : List Note) : Type 0 where
   pub rest : List Note
@@ -166,7 +160,7 @@ record Coming (told ms : List Note) (tale : List Note) : Type 0 where
 coming : (w : Program) (os : List Outcome) (told ms tale : List Note) → 0 < length ms → HeldStory w os (told ++ ms) → protocol_story w os ≡ told ++ tale → Coming told ms tale
 coming w os told ms tale some (to_end e) f = record { rest = []; is = append-nil ms ∙ append_cancel_left told ms tale (e ∙ f); cut = inl refl }
 coming w os told ms tale some (to_wait rest e p) f =
-    record { rest = rest; is = append_cancel_left told (ms ++ rest) tale (sym (append_assoc told ms rest) ∙ sym e ∙ f); cut = inr (sym (pauses_past told ms some) ∙ p) }
+    record { rest = rest; is = append_cancel_left told (ms ++ rest) tale (sym (append_assoc told ms rest) ∙ sym e ∙ f); cut = inr (sym (pauses_behind told ms some) ∙ p) }
 
 -- ---- one event
 

@@ -11,7 +11,7 @@ use Rattle.world_model.specs.World.{Look, turn_of, line_at, events_with_looks, l
 use Rattle.mail_laws.specs.MailWorld.{a_turn, a_stall, parks, told_pause}
 use Rattle.mail_laws.specs.Stalling.{stalls, tells_stalled, note_stalls, FirstStalls, StallsLast}
 
-both_false : (a b : Bool) → a ≡ false → b ≡ false → (a || b) ≡ false
+pub both_false : (a b : Bool) → a ≡ false → b ≡ false → (a || b) ≡ false
 both_false true b e f = absurd cc
 both_false false b e f = f
 

@@ -30,6 +30,7 @@ use Rattle.mail_laws.specs.MailWorld.{is_pause, pauses}
 use Rattle.mail_laws.specs.Mailboxes.{mailed}
 use Rattle.mail_laws.specs.Unread.{with_value, UnreadAnswers}
 use Rattle.mail_laws.specs.Stalling.{is_stalled}
+use Rattle.mail_laws.proofs.WholeTurns.{pauses_behind}
 use Rattle.mail_laws.proofs.OpenMoves.{Tame, Plain, Leaves, on_it_goes, it_pauses, it_ends, Fine, CallFine, Kind, kind, asked_with}
 use Rattle.mail_laws.proofs.Tales.{answer_of, Unwinding, unwound, Rewinding, re_code, re_call, re_export, re_entry, rewound, Unwinds, u_stops, u_on, u_ends, u_pauses, unwinding_moves, Receives, r_stops}
 use Rattle.mail_laws.proofs.Tales.{r_ends, r_unwinds, receives}
@@ -48,12 +49,6 @@ no_pause_last : (xs : List Note) → NoPause xs → pauses xs ≡ false
 no_pause_last [] h = refl
 no_pause_last (x ∷ []) h = h.0
 no_pause_last (x ∷ y ∷ ys) h = no_pause_last (y ∷ ys) h.1
-
-pauses_behind : (xs ys : List Note) → 0 < length ys → pauses (xs ++ ys) ≡ pauses ys
-pauses_behind [] ys some = refl
-pauses_behind xs [] some = let never : ⊥ = omega (arith, some) in absurd never
-pauses_behind (x ∷ []) (y ∷ ys) some = refl
-pauses_behind (x ∷ z ∷ xs) (y ∷ ys) some = pauses_behind (z ∷ xs) (y ∷ ys) some
 
 some_on : (xs ys : List Note) → 0 < length ys → 0 < length (xs ++ ys)
 some_on [] ys h = h

@@ -6,7 +6,7 @@ use Rattle.wa_model.specs.Plan.{Outcome}
 use Rattle.wa_model.specs.Blocking.{Note}
 use Rattle.world_model.specs.World.{Program, call_in, ends_turn, is_end, turn_of, behind_turn}
 use Rattle.mail_laws.specs.Mailboxes.{Midst, CallsMeet, NoteMeets}
-use Rattle.mail_laws.specs.MailWorld.{is_pause, parks, store_behind}
+use Rattle.mail_laws.specs.MailWorld.{is_pause, parks, pauses, store_behind}
 use Rattle.mail_laws.specs.Told.{EndsOnce, ends_program, if_going}
 
 pub turn_whole : (xs rest : List Note) → EndsOnce xs → turn_of (xs ++ rest) ≡ xs
@@ -74,3 +74,10 @@ store_last xs [] h = absurd h
 store_last [] (y ∷ ys) h = refl
 store_last (x ∷ []) (y ∷ ys) h = refl
 store_last (x ∷ z ∷ xs) (y ∷ ys) h = store_last (z ∷ xs) (y ∷ ys) h
+
+-- whether they pause is told by the last of them
+pub pauses_behind : (xs ys : List Note) → 0 < length ys → pauses (xs ++ ys) ≡ pauses ys
+pauses_behind [] ys some = refl
+pauses_behind xs [] some = let never : ⊥ = omega (arith, some) in absurd never
+pauses_behind (x ∷ []) (y ∷ ys) some = refl
+pauses_behind (x ∷ z ∷ xs) (y ∷ ys) some = pauses_behind (z ∷ xs) (y ∷ ys) some

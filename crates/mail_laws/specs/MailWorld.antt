@@ -11,8 +11,8 @@ use Rattle.wa_model.specs.Store.{Store}
 use Rattle.wa_model.specs.Plan.{Entry, Outcome}
 use Rattle.wa_model.specs.Blocking.{Note, no_store}
 use Rattle.wa_model.specs.Behaves.{expected_notes}
-use Rattle.world_model.specs.World.{BlockingStory, Device, Origin, Original, Program, answers_from, at_pause, at_start, behind_turn, detached, due_from, events_with_looks, gone, is_end, line_at, look_events}
-use Rattle.world_model.specs.World.{protocol_story, put_off, turn_of}
+use Rattle.world_model.specs.World.{BlockingStory, Device, Origin, Original, Program, answers_from, at_pause, at_start, behind_turn, detached, due_from, events_with_looks, gone}
+use Rattle.world_model.specs.World.{is_end, line_at, look_events, protocol_story, put_off, turn_of}
 use Rattle.mail_laws.specs.Mailboxes.{CallsMeet, Mailbox, Midst, Receive, Shared, at_box, awaited, empty_box}
 
 -- Where a program waits for a mailbox: its import, and the store.
