@@ -1,8 +1,12 @@
 pub mod BareWorlds
 pub mod Beginnings
+pub mod CallsInRange
 pub mod CallsTold
 pub mod CalmLines
+pub mod CutStories
 pub mod GoingOn
+pub mod MailOriginals
+pub mod MailRows
 pub mod NoneWaits
 pub mod OpenMoves
 pub mod Played

@@ -1,3 +1,4 @@
+pub mod MailOriginals
 pub mod MailWorld
 pub mod Mailboxes
 pub mod Played

@@ -9,11 +9,12 @@
 //!
 //! A host can't promise. So worlds are told forwards too, without values (`specs/Told.antt`), and turns that were told are a world. No world
 //! is stuck (`specs/Played.antt`). What a receive is answered isn't read before it is given (`specs/Unread.antt`). A line tells
-//! `Stalled` exactly where no program is ready (`specs/Stalling.antt`). Without mailboxes all is as in `world_model`
-//! (`specs/WithoutBoxes.antt`).
+//! `Stalled` exactly where no program is ready (`specs/Stalling.antt`). The world of rewritten modules is that of their originals
+//! (`specs/MailOriginals.antt`). Without mailboxes all is as in `world_model` (`specs/WithoutBoxes.antt`).
 //!
 //! - `event_laws`, `ongoing_laws`: worlds played up to an event, and that they go on.
 //! - `told_laws`, `stalled_laws`, `answer_laws`: worlds that are told, who stalls, answers that aren't read yet.
+//! - `original_laws`: worlds beside those of originals.
 //! - `bare_laws`, `waiting_laws`: worlds without mailboxes; the run of a program that waits for good.
 #![tactic(auto)]
 
@@ -21,6 +22,7 @@ mod answer_laws;
 mod bare_laws;
 mod event_laws;
 mod ongoing_laws;
+mod original_laws;
 mod stalled_laws;
 mod told_laws;
 mod waiting_laws;
@@ -31,6 +33,7 @@ pub use bare_laws::{
 };
 pub use event_laws::runs_with_mail_are_played;
 pub use ongoing_laws::{each_world_with_mail_ends, worlds_with_mail_go_on};
+pub use original_laws::{cut_stories_are_of_originals, worlds_with_mail_are_of_originals};
 pub use stalled_laws::stalls_come_last;
 pub use told_laws::{told_turns_are_worlds, told_worlds_go_on};
 pub use waiting_laws::one_waits_for_good;
