@@ -1,15 +1,18 @@
 -- A story under the protocol that is cut at a pause is what is expected of the original up to there.
-use Rattle.std.proofs.Common.{arith, ◌≡◌, ℕ, zero, suc, List, [], ◌∷◌, ◌++◌, length, take, drop, Some, None, true, false, slice_get, refl, sym, ap, ◌∙◌, subst}
+use Rattle.std.proofs.Common.{arith, ◌≡◌, ℕ, zero, suc, List, [], ◌∷◌, ◌++◌, length, take, drop, Some, None, Bool, true, false, slice_get, refl, sym, ap, ◌∙◌, subst}
 use Rattle.std.specs.List.{AllZip}
 use Rattle.wa_types.specs.Runtime.{global_space}
+use Rattle.wa_model.specs.Plan.{Outcome}
 use Rattle.wa_model.specs.Blocking.{Note}
 use Rattle.wa_model.specs.Protocol.{Held, Protocol, aside, busy, calling, entering, free, over, starting}
 use Rattle.wa_model.specs.Behaves.{BehavesOn, Compared, expected_notes}
-use Rattle.world_model.specs.World.{unless_over}
-use Rattle.world_laws.specs.Originals.{SameMoment}
+use Rattle.run_laws.specs.ListedPauses.{ComparedUntold}
+use Rattle.run_laws.proofs.UntoldRuns.{behaves_untold}
+use Rattle.world_model.specs.World.{Original, Program, protocol_story, unless_over}
+use Rattle.world_laws.specs.Originals.{SameMoment, StandsIn}
 use Rattle.world_laws.proofs.Stories.{story_stands}
-use Rattle.mail_laws.specs.MailWorld.{is_pause, pauses, waits}
-use Rattle.mail_laws.specs.MailOriginals.{CutStoriesOfOriginals}
+use Rattle.mail_laws.specs.MailWorld.{BlockedStory, is_pause, pauses, waits}
+use Rattle.mail_laws.specs.MailOriginals.{CutStoriesOfOriginals, CutStoriesUntold}
 
 -- ---- notes up to a pause
 
@@ -85,18 +88,20 @@ zip_of R (x ∷ xs) (y ∷ ys) h = (first (h 0 y refl), zip_of R xs ys (λ i z e
         same : (a b : Note) → Some a ≡ Some b → a ≡ b
         same a b e = cc
 
--- ---- the law
+-- ---- the laws
 
-pub cut_stories : CutStoriesOfOriginals
-cut_stories o w os notes rest st may fits ord e cut =
+-- a story of the original beside these notes
+abbrev pub Told : Original → List Outcome → List Note → Type 0
+Told o os notes = (expected : List Note) × BlockedStory o.settings o.program os expected × AllZip (SameMoment (global_space o.program.source) o.program.plan.area) expected notes
+
+cut_by : (o : Original) (w : Program) (os : List Outcome) (notes rest : List Note) → StandsIn o w → (which : List Bool)
+    → BehavesOn o.program.source o.settings w.source o.program.plan os o.program.steps which (expected_notes o.program.source o.settings o.program.plan os o.program.steps)
+    → protocol_story w os ≡ notes ++ rest → pauses notes ≡ true → Told o os notes
+cut_by o w os notes rest st which behaves e cut =
     let made : List Note = (Protocol w.source o.program.plan os o.program.steps).events in
     let last : Held = (Protocol w.source o.program.plan os o.program.steps).last in
     let expected : List Note = expected_notes o.program.source o.settings o.program.plan os o.program.steps in
     let split = before_end notes rest made (unless_over o.program.steps last) (sym e ∙ story_stands o w os st) (unless_none o.program.steps last) cut in
-    let compared : Compared o.program.source o.settings o.program.plan os o.program.steps =
-    record { fits = may.fits; listed = may.listed; outcomes = fits; untouched = ord.untouched } in
-    let behaves : BehavesOn o.program.source o.settings w.source o.program.plan os o.program.steps ord.which expected =
-    st.rewrites.behaves may.well_formed ord.which ord.tells o.program.plan os o.program.steps compared ord.numbered in
     let beside : AllZip (SameMoment (global_space o.program.source) o.program.plan.area) (take (length notes) expected) notes =
     zip_of (SameMoment (global_space o.program.source) o.program.plan.area) expected notes
     (λ i y there. let n = behaves.notes i y (ap (λ (l : List Note). slice_get l i) split.1 ∙ get_front notes split.0 i y there) in
@@ -106,3 +111,17 @@ cut_stories o w os notes rest st may fits ord e cut =
           (pauses_zip (SameMoment (global_space o.program.source) o.program.plan.area) (λ x y h. h.event) (take (length notes) expected) notes beside ∙ cut),
       beside,
     )
+
+pub cut_stories : CutStoriesOfOriginals
+cut_stories o w os notes rest st may fits ord e cut =
+    let compared : Compared o.program.source o.settings o.program.plan os o.program.steps =
+    record { fits = may.fits; listed = may.listed; outcomes = fits; untouched = ord.untouched } in
+    cut_by o w os notes rest st ord.which
+    (st.rewrites.behaves may.well_formed ord.which ord.tells o.program.plan os o.program.steps compared ord.numbered) e cut
+
+pub cut_untold : CutStoriesUntold
+cut_untold o w os notes rest st may fits ord e cut =
+    let compared : ComparedUntold o.program.source o.settings o.program.plan os o.program.steps =
+    record { fits = may.fits; allows = may.allows; outcomes = fits; untouched = ord.untouched; listed = ord.listed } in
+    cut_by o w os notes rest st ord.which
+    (behaves_untold o.program.source o.settings w.source st.rewrites.behaves may.well_formed ord.which ord.tells o.program.plan os o.program.steps compared ord.numbered) e cut

@@ -8,6 +8,7 @@ use Rattle.wa_model.specs.Plan.{Outcome, OutcomeFits}
 use Rattle.wa_model.specs.Blocking.{Note}
 use Rattle.world_model.specs.World.{Device, Original, Program, protocol_story}
 use Rattle.world_laws.specs.Originals.{MayRun, Orderly, SameMoment, StandsIn, new_calls}
+use Rattle.world_laws.specs.UntoldWorlds.{MayRunUntold, OrderlyUntold}
 use Rattle.mail_laws.specs.MailWorld.{Actor, BlockedStory, BlockingWorld, ProtocolWorld, pauses}
 
 -- the outcomes that an actor's calls will meet; what its list has behind them no call will meet
@@ -28,3 +29,17 @@ MailWorldsOfOriginals =
     (originals : List Original) (programs : List Program) (detaches : List Detach) (boxes : List (List ℕ)) (ds ds' : List Device) (lines : List Line)
     → AllZip StandsIn originals programs → All MayRun originals → (world : ProtocolWorld programs detaches boxes ds lines ds')
     → AllZip (λ (o : Original) (a : Actor). Orderly o (met a)) originals world.actors → BlockingWorld originals detaches boxes ds lines ds'
+
+-- So it is where plans tell no list of imports, as a host's do: a cut story is one of its original,
+abbrev pub CutStoriesUntold : Type 0
+CutStoriesUntold =
+    (o : Original) (w : Program) (os : List Outcome) (notes rest : List Note) → StandsIn o w → MayRunUntold o → All OutcomeFits os → OrderlyUntold o os → protocol_story w os ≡ notes ++ rest
+    → pauses notes ≡ true
+    → (expected : List Note) × BlockedStory o.settings o.program os expected × AllZip (SameMoment (global_space o.program.source) o.program.plan.area) expected notes
+
+-- and so are the lines and devices of a world.
+abbrev pub MailWorldsUntold : Type 0
+MailWorldsUntold =
+    (originals : List Original) (programs : List Program) (detaches : List Detach) (boxes : List (List ℕ)) (ds ds' : List Device) (lines : List Line)
+    → AllZip StandsIn originals programs → All MayRunUntold originals → (world : ProtocolWorld programs detaches boxes ds lines ds')
+    → AllZip (λ (o : Original) (a : Actor). OrderlyUntold o (met a)) originals world.actors → BlockingWorld originals detaches boxes ds lines ds'
