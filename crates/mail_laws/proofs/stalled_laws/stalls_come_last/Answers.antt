@@ -1,0 +1,9 @@
+use Rattle.mail_laws.proofs.PlayedAreTold.{worlds_stall_last}
+use Rattle.mail_laws.proofs.Stalling.{stalls_last}
+use Rattle.mail_laws.proofs.stalled_laws.stalls_come_last.Goals as goal
+
+pub returns-clause-event : goal.returns-clause-event
+returns-clause-event c = stalls_last
+
+pub returns-clause-world : goal.returns-clause-world
+returns-clause-world c = worlds_stall_last

@@ -1,0 +1,39 @@
+//! Laws of worlds with mailboxes, and what such worlds are; alone, as the hosts are to be restated over them.
+//!
+//! An import that is bound to a mailbox sends an i32 or receives one. A receive at an empty mailbox is a pause that waits: the program
+//! parks, and takes no turn until another sends it a value. One to which nobody sends ends there, `Stalled`.
+//!
+//! What a program will be sent is promised (`specs/Mailboxes.antt`): a receive at an empty mailbox takes some value, the mailbox keeps it
+//! beside the number of the program that waits, and a send asks that what it sends is what was promised. The story of a program that waits
+//! for good is cut at its pause, and the world ends it there (`specs/MailWorld.antt`).
+//!
+//! A host can't promise. So worlds are told forwards too, without values (`specs/Told.antt`), and turns that were told are a world. No world
+//! is stuck (`specs/Played.antt`). What a receive is answered isn't read before it is given (`specs/Unread.antt`). A line tells
+//! `Stalled` exactly where no program is ready (`specs/Stalling.antt`). The world of rewritten modules is that of their originals
+//! (`specs/MailOriginals.antt`). Without mailboxes all is as in `world_model` (`specs/WithoutBoxes.antt`).
+//!
+//! - `event_laws`, `ongoing_laws`: worlds played up to an event, and that they go on.
+//! - `told_laws`, `stalled_laws`, `answer_laws`: worlds that are told, who stalls, answers that aren't read yet.
+//! - `original_laws`: worlds beside those of originals.
+//! - `bare_laws`, `waiting_laws`: worlds without mailboxes; the run of a program that waits for good.
+#![tactic(auto)]
+
+mod answer_laws;
+mod bare_laws;
+mod event_laws;
+mod ongoing_laws;
+mod original_laws;
+mod stalled_laws;
+mod told_laws;
+mod waiting_laws;
+
+pub use answer_laws::answers_are_unread;
+pub use bare_laws::{
+    bare_events_are_those_of_worlds, bare_worlds_are_worlds, none_waits_without_boxes,
+};
+pub use event_laws::runs_with_mail_are_played;
+pub use ongoing_laws::{each_world_with_mail_ends, worlds_with_mail_go_on};
+pub use original_laws::{cut_stories_are_of_originals, worlds_with_mail_are_of_originals};
+pub use stalled_laws::stalls_come_last;
+pub use told_laws::{told_turns_are_worlds, told_worlds_go_on};
+pub use waiting_laws::one_waits_for_good;

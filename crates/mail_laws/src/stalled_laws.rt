@@ -1,0 +1,9 @@
+//! Laws of programs that stall.
+
+ghost use Rattle.mail_laws.specs.Stalling.{StallsLast, WorldsStallLast};
+
+/// A line tells `Stalled` exactly where no program is ready, and then of the first that waits.
+pub fn stalls_come_last()
+    ensures event { StallsLast }
+    ensures world { WorldsStallLast }
+{}
