@@ -1,7 +1,6 @@
 //! Modules, instructions and flat functions as texts, in the form of a derived `Debug`: tests alone print these types, so
 //! none is derived for them.
 
-use flow_rewrite::GuardedFunc;
 use std::alloc::{AllocError, Global};
 use std::fmt::Write;
 use wa_model::{FlatFunc, Operand, Stmt};
@@ -223,17 +222,6 @@ impl Show for FlatFunc {
         let (func, sort, locals, result) = (self.func, self.sort, &self.locals, self.result);
         write!(out,
             "FlatFunc {{ func: {func}, sort: {sort}, locals: {locals:?}, result: {result:?}, body: "
-        )?;
-        self.body.show(out)?;
-        out.push_str(" }")
-    }
-}
-
-impl Show for GuardedFunc {
-    fn show(&self, out: &mut String) -> Result<(), AllocError> {
-        let (func, sort, locals, result) = (self.func, self.sort, &self.locals, self.result);
-        write!(out,
-            "GuardedFunc {{ func: {func}, sort: {sort}, locals: {locals:?}, result: {result:?}, body: "
         )?;
         self.body.show(out)?;
         out.push_str(" }")

@@ -8,7 +8,7 @@ ghost use Rattle.guard_form.specs.Guarded.{call_front, call_guarded, noted, own_
 ghost use Rattle.guard_form.specs.Pieces.{call_to};
 ghost use Rattle.flow_rewrite.specs.Putting.{Puts};
 ghost use Rattle.flow_rewrite.specs.Raising.{Raisable};
-ghost use Rattle.flow_rewrite.specs.CallsEmitting.{indices};
+ghost use Rattle.flow_rewrite.specs.Emitting.{indices};
 ghost use Rattle.flow_rewrite.specs.Exits.{exit_of, LabelBelow};
 ghost use Rattle.flow_rewrite.specs.UnitView.{callee_of};
 

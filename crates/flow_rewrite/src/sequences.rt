@@ -6,7 +6,7 @@ ghost use Rattle.run_theory.specs.Flat.{followed_by};
 ghost use Rattle.guard_form.specs.Guarded.{guarded_body, last_piece};
 ghost use Rattle.guard_form.specs.Pieces.{flat_units, no_unit, numbers_in};
 ghost use Rattle.flow_rewrite.specs.Raising.{Raisable};
-ghost use Rattle.flow_rewrite.specs.CallsEmitting.{indices};
+ghost use Rattle.flow_rewrite.specs.Emitting.{indices};
 ghost use Rattle.flow_rewrite.specs.Exits.{exit_of};
 ghost use Rattle.flow_rewrite.specs.Fronts.{piece_behind, IsArm, IsFront, Ready, Stepped};
 ghost use Rattle.flow_rewrite.specs.UnitView.{unit_in_front, units_of};

@@ -2,7 +2,7 @@ use Rattle.std.proofs.Common.{refl, None, ◌+◌, arith}
 use Rattle.wa_types.specs.View.{code}
 use Rattle.wa_types.proofs.ViewLemmas.{in_block}
 use Rattle.flow_rewrite.proofs.PutLemmas.{put_one}
-use Rattle.flow_rewrite.specs.CallsEmitting.{indices}
+use Rattle.flow_rewrite.specs.Emitting.{indices}
 use Rattle.flow_rewrite.specs.UnitView.{callee_of}
 use Rattle.flow_rewrite.proofs.ExitLemmas.{called_alone, called_apart, called_labelled}
 use Rattle.flow_rewrite.proofs.calls.put_call.Goals as goal

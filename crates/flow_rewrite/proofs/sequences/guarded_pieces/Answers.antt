@@ -1,7 +1,7 @@
 use Rattle.std.proofs.Common.{true, ◌∙◌}
 use Rattle.wa_types.specs.View.{code}
 use Rattle.guard_form.specs.Guarded.{guarded_body}
-use Rattle.flow_rewrite.specs.CallsEmitting.{indices}
+use Rattle.flow_rewrite.specs.Emitting.{indices}
 use Rattle.flow_rewrite.specs.UnitView.{units_of}
 use Rattle.flow_rewrite.proofs.UnitLemmas.{whole_ready}
 use Rattle.flow_rewrite.proofs.sequences.guarded_pieces.Goals as goal

@@ -1,5 +1,5 @@
 use Rattle.wa_types.specs.View.{code}
-use Rattle.flow_rewrite.specs.CallsEmitting.{indices}
+use Rattle.flow_rewrite.specs.Emitting.{indices}
 use Rattle.flow_rewrite.proofs.ExitLemmas.{last_alone, last_guarded, last_labelled}
 use Rattle.flow_rewrite.proofs.sequences.put_last.Goals as goal
 
