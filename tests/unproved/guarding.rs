@@ -1,26 +1,28 @@
-//! Guarded functions, whole, against instructions written out by hand: each form of a piece and of a unit. No local is told
-//! as a slot, so that each operand stands in its local.
+//! Guarded functions, whole, against instructions written out by hand: each form of a piece and of a unit.
 
 use crate::flattening::{COUNTDOWN, SELECTOR, flattened};
 use crate::showing::shown;
-use slim_rewrite::guard_slim;
+use slim_rewrite::{guard, guard_slim};
 use std::alloc::{AllocError, Global};
 use std::test::Fail;
 use wa_model::{FlatFunc, Operand, Stmt};
 use wa_types::{Instr, ValType, Value};
 
-/// The countdown: a loop that holds an `if` whose other arm alone holds the call, the only one, which isn't noted. The state is
-/// global 0. The piece in front of the `if` stands under the test of its condition, the arm without a call as it is, and so do
-/// the pieces behind, which no run comes to that looks for the call.
-const COUNTDOWN_GUARDED: &str = "[\
+/// The countdown: a loop that holds an `if` whose other arm alone holds the call. The state is global 0, the call index
+/// local 6. The piece in front of the `if` stands under the test of its condition, and the arm without a call as it is.
+const COUNTDOWN_GUARDED: &str = "\
+    GuardedFunc { func: 1, sort: 0, locals: [I32, I32, I32, I32, I32, I32, I32, I32, I64], result: Some(4), body: [\
     Loop { result: None, body: [\
     GlobalGet(0), If { result: Some(I32), then_arm: [Const(I32(0))], else_arm: [\
     LocalGet(1), LocalSet(2), Const(I32(0)), LocalSet(3), LocalGet(3)] }, \
     If { result: None, then_arm: [\
     Const(I32(100)), LocalSet(3), LocalGet(3), LocalSet(5)], else_arm: [\
-    GlobalGet(0), If { result: None, then_arm: [], else_arm: [LocalGet(0), LocalSet(3)] }, \
-    LocalGet(3), Call(0), GlobalGet(0), BrIf(2), LocalSet(3), \
-    LocalGet(3), LocalSet(5)] }, \
+    Block { result: None, body: [\
+    GlobalGet(0), If { result: None, then_arm: [LocalGet(6), Const(I32(0)), Num(I32Ne), BrIf(1)], else_arm: [\
+    LocalGet(0), LocalSet(3)] }, \
+    LocalGet(3), Call(0), Const(I32(0)), LocalSet(6), GlobalGet(0), BrIf(3), LocalSet(3), \
+    LocalGet(3), LocalSet(5)] }] }, \
+    GlobalGet(0), If { result: None, then_arm: [], else_arm: [\
     LocalGet(5), LocalSet(3), \
     LocalGet(2), LocalGet(3), Num(I32Add), LocalSet(2), \
     LocalGet(2), LocalSet(1), \
@@ -28,12 +30,17 @@ const COUNTDOWN_GUARDED: &str = "[\
     Const(I32(1)), LocalSet(3), \
     LocalGet(2), LocalGet(3), Num(I32Sub), LocalSet(2), \
     LocalGet(2), LocalSet(0), \
-    LocalGet(2), BrIf(0)] }, \
-    LocalGet(1), LocalSet(2), LocalGet(2), LocalSet(4)]";
-
-/// The selector: the blocks are one piece with the move behind them, and its branches stay within it. The state is global 0.
-const SELECTOR_GUARDED: &str = "[\
+    LocalGet(2), BrIf(1)] }] }, \
     GlobalGet(0), If { result: None, then_arm: [], else_arm: [\
+    LocalGet(1), LocalSet(2), LocalGet(2), LocalSet(4)] }] }";
+
+/// The selector: the blocks are one piece with the move behind them, and its branches stay within it. The state is
+/// global 0, the call index local 7.
+const SELECTOR_GUARDED: &str = "\
+    GuardedFunc { func: 1, sort: 0, locals: [I32, I32, I32, I32, I32, I32, I32, I32, I32, I64], result: Some(4), \
+    body: [\
+    Block { result: None, body: [\
+    GlobalGet(0), If { result: None, then_arm: [LocalGet(7), Const(I32(0)), Num(I32Ne), BrIf(1)], else_arm: [\
     Block { result: None, body: [\
     Const(I32(5)), LocalSet(1), \
     Block { result: None, body: [\
@@ -46,15 +53,15 @@ const SELECTOR_GUARDED: &str = "[\
     LocalGet(1), LocalGet(2), Num(I32Add), LocalSet(1), \
     LocalGet(1), LocalSet(5)] }, \
     LocalGet(5), LocalSet(1)] }, \
-    LocalGet(1), Call(0), GlobalGet(0), BrIf(0), LocalSet(1), \
-    LocalGet(1), LocalSet(4)]";
+    LocalGet(1), Call(0), Const(I32(0)), LocalSet(7), GlobalGet(0), BrIf(1), LocalSet(1), \
+    LocalGet(1), LocalSet(4)] }] }";
 
 #[test]
 fn flat_functions_are_guarded(rt: HostRuntime) -> Result<(), Fail> {
     let alloc = rt.alloc();
     for (bytes, wanted) in [(COUNTDOWN, COUNTDOWN_GUARDED), (SELECTOR, SELECTOR_GUARDED)] {
-        let mut flat = flattened(alloc, bytes, &[false, true])?;
-        let guarded = guard_slim(alloc, &mut flat.funcs[0], &[0], 0, 0, 0)?;
+        let flat = flattened(alloc, bytes, &[false, true])?;
+        let guarded = guard(alloc, &flat.funcs[0], &[0], 0)?;
         assert_eq!(rt; shown(alloc, &guarded)?.as_str(), wanted);
     }
     Ok(())
@@ -140,9 +147,76 @@ fn four_calls(alloc: Global) -> Result<FlatFunc, AllocError> {
 }
 
 /// It with guards. The state is global 7, the call index local 4; the calls numbered 1 and 2 stand in the arms of an
-/// `if` that goes by the index, and leave by labels that stand around. A label that leaves its piece is higher by 2 in front
-/// of a call in a block of its own, else by 1.
-const FOUR_CALLS_GUARDED: &str = "[\
+/// `if` that goes by the index. A label that leaves its piece is higher by 2 in front of a call, else by 1.
+const FOUR_CALLS_GUARDED: &str = "\
+    GuardedFunc { func: 9, sort: 4, locals: [I32, I64, I32, I32, I32, I32, I64], result: None, body: [\
+    Block { result: None, body: [\
+    Block { result: None, body: [\
+    GlobalGet(7), If { result: None, then_arm: [LocalGet(4), Const(I32(0)), Num(I32Ne), BrIf(1)], else_arm: [\
+    LocalGet(0), If { result: None, then_arm: [Br(4)], else_arm: [\
+    LocalGet(0), BrTable { labels: [0, 3], last: 4 }] }] }, \
+    Call(0), Const(I32(0)), LocalSet(4), GlobalGet(7), BrIf(2), \
+    LocalGet(3), Call(1), LocalSet(3), \
+    LocalGet(3), BrIf(2)] }, \
+    GlobalGet(7), If { result: Some(I32), then_arm: [LocalGet(4), Const(I32(2)), Num(I32LtU)], else_arm: [\
+    Const(I32(1))] }, \
+    If { result: None, then_arm: [\
+    Block { result: None, body: [\
+    GlobalGet(7), If { result: None, then_arm: [LocalGet(4), Const(I32(1)), Num(I32Ne), BrIf(1)], else_arm: [] }, \
+    LocalGet(2), LocalGet(3), CallIndirect(1), Const(I32(1)), LocalSet(4), GlobalGet(7), BrIf(3), LocalSet(2)] }], \
+    else_arm: [\
+    Block { result: None, body: [\
+    GlobalGet(7), If { result: None, then_arm: [LocalGet(4), Const(I32(2)), Num(I32Ne), BrIf(1)], else_arm: [\
+    LocalGet(2), Load { op: 40, align: 2, offset: 8 }, LocalSet(3)] }, \
+    Call(0), Const(I32(2)), LocalSet(4), GlobalGet(7), BrIf(3)] }] }] }, \
+    GlobalGet(7), If { result: None, then_arm: [], else_arm: [Br(1)] }] }";
+
+#[test]
+fn an_if_goes_by_the_index_of_its_calls(rt: HostRuntime) -> Result<(), Fail> {
+    let alloc = rt.alloc();
+    let guarded = guard(alloc, &four_calls(alloc)?, &[0, 2, 3], 7)?;
+    assert_eq!(rt;
+        shown(alloc, &guarded)?.as_str(),
+        FOUR_CALLS_GUARDED
+    );
+    Ok(())
+}
+
+/// The same where only the call in the first arm is numbered: all in front of the `if` is one piece, which stands under
+/// the test of its condition, and the other arm stands as it is.
+const ONE_CALL_GUARDED: &str = "\
+    GuardedFunc { func: 9, sort: 4, locals: [I32, I64, I32, I32, I32, I32, I64], result: None, body: [\
+    Block { result: None, body: [\
+    GlobalGet(7), If { result: Some(I32), then_arm: [Const(I32(1))], else_arm: [\
+    LocalGet(0), If { result: None, then_arm: [Br(3)], else_arm: [\
+    LocalGet(0), BrTable { labels: [0, 2], last: 3 }] }, \
+    Call(0), \
+    LocalGet(3), Call(1), LocalSet(3), \
+    LocalGet(3), BrIf(2), \
+    Const(I32(1))] }, \
+    If { result: None, then_arm: [\
+    Block { result: None, body: [\
+    GlobalGet(7), If { result: None, then_arm: [LocalGet(4), Const(I32(0)), Num(I32Ne), BrIf(1)], else_arm: [] }, \
+    LocalGet(2), LocalGet(3), CallIndirect(1), Const(I32(0)), LocalSet(4), GlobalGet(7), BrIf(3), LocalSet(2)] }], \
+    else_arm: [\
+    LocalGet(2), Load { op: 40, align: 2, offset: 8 }, LocalSet(3), \
+    Call(0)] }] }, \
+    GlobalGet(7), If { result: None, then_arm: [], else_arm: [Br(1)] }] }";
+
+#[test]
+fn calls_without_a_number_stand_in_pieces(rt: HostRuntime) -> Result<(), Fail> {
+    let alloc = rt.alloc();
+    let guarded = guard(alloc, &four_calls(alloc)?, &[2], 7)?;
+    assert_eq!(rt;
+        shown(alloc, &guarded)?.as_str(),
+        ONE_CALL_GUARDED
+    );
+    Ok(())
+}
+
+/// It as `guard_slim` writes it where no local is told as a slot, so that each operand stands in its local: runs that
+/// have passed the calls leave by labels that stand around anyway. A call in a block of its own raises labels by 2.
+const FOUR_CALLS_LEFT_BY_LABELS: &str = "[\
     Block { result: None, body: [\
     Block { result: None, body: [\
     GlobalGet(7), If { result: None, then_arm: [LocalGet(4), Const(I32(0)), Num(I32Ne), BrIf(1)], else_arm: [\
@@ -161,20 +235,8 @@ const FOUR_CALLS_GUARDED: &str = "[\
     Call(0), Const(I32(2)), LocalSet(4), GlobalGet(7), BrIf(2)] }] }, \
     Br(0)]";
 
-#[test]
-fn an_if_goes_by_the_index_of_its_calls(rt: HostRuntime) -> Result<(), Fail> {
-    let alloc = rt.alloc();
-    let guarded = guard_slim(alloc, &mut four_calls(alloc)?, &[0, 2, 3], 7, 0, 0)?;
-    assert_eq!(rt;
-        shown(alloc, &guarded)?.as_str(),
-        FOUR_CALLS_GUARDED
-    );
-    Ok(())
-}
-
-/// The same where only the call in the first arm is numbered: all in front of the `if` is one piece, which stands under
-/// the test of its condition, and the other arm stands as it is.
-const ONE_CALL_GUARDED: &str = "[\
+/// So is it where only the call in the first arm is numbered, which isn't noted then.
+const ONE_CALL_LEFT_BY_LABELS: &str = "[\
     Block { result: None, body: [\
     GlobalGet(7), If { result: Some(I32), then_arm: [Const(I32(1))], else_arm: [\
     LocalGet(0), If { result: None, then_arm: [Br(3)], else_arm: [\
@@ -190,12 +252,17 @@ const ONE_CALL_GUARDED: &str = "[\
     Br(0)]";
 
 #[test]
-fn calls_without_a_number_stand_in_pieces(rt: HostRuntime) -> Result<(), Fail> {
+fn runs_leave_by_labels_where_operands_are_no_slots(rt: HostRuntime) -> Result<(), Fail> {
     let alloc = rt.alloc();
-    let guarded = guard_slim(alloc, &mut four_calls(alloc)?, &[2], 7, 0, 0)?;
+    let all = guard_slim(alloc, &mut four_calls(alloc)?, &[0, 2, 3], 7, 0, 0)?;
     assert_eq!(rt;
-        shown(alloc, &guarded)?.as_str(),
-        ONE_CALL_GUARDED
+        shown(alloc, &all)?.as_str(),
+        FOUR_CALLS_LEFT_BY_LABELS
+    );
+    let one = guard_slim(alloc, &mut four_calls(alloc)?, &[2], 7, 0, 0)?;
+    assert_eq!(rt;
+        shown(alloc, &one)?.as_str(),
+        ONE_CALL_LEFT_BY_LABELS
     );
     Ok(())
 }

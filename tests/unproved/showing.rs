@@ -1,6 +1,7 @@
 //! Modules, instructions and flat functions as texts, in the form of a derived `Debug`: tests alone print these types, so
 //! none is derived for them.
 
+use slim_rewrite::GuardedFunc;
 use std::alloc::{AllocError, Global};
 use std::fmt::Write;
 use wa_model::{FlatFunc, Operand, Stmt};
@@ -222,6 +223,17 @@ impl Show for FlatFunc {
         let (func, sort, locals, result) = (self.func, self.sort, &self.locals, self.result);
         write!(out,
             "FlatFunc {{ func: {func}, sort: {sort}, locals: {locals:?}, result: {result:?}, body: "
+        )?;
+        self.body.show(out)?;
+        out.push_str(" }")
+    }
+}
+
+impl Show for GuardedFunc {
+    fn show(&self, out: &mut String) -> Result<(), AllocError> {
+        let (func, sort, locals, result) = (self.func, self.sort, &self.locals, self.result);
+        write!(out,
+            "GuardedFunc {{ func: {func}, sort: {sort}, locals: {locals:?}, result: {result:?}, body: "
         )?;
         self.body.show(out)?;
         out.push_str(" }")

@@ -6,6 +6,7 @@ use Rattle.wa_types.specs.Counts.{depth_of}
 use Rattle.wa_types.specs.Syntax.{Code}
 use Rattle.run_theory.specs.Flat.{FlatFunc, Stmts, no_more, computes, copies, calls, leaps, leaps_if, leaps_by, nests, decides, halts, code_of, followed_by, last_of}
 use Rattle.run_theory.specs.FlatFits.{FlatFits}
+use Rattle.guard_form.specs.Guarded.{guarded_body, guarded_code}
 use Rattle.guard_form.specs.Pieces.{call_total, first_piece, flat_units, holds_call, if_unit, nest_unit, numbered, numbers_in, unit_call, units}
 use Rattle.guard_form.proofs.Grouped.{joins}
 use Rattle.flow_rewrite.specs.Raising.{LabelsBelow, Raisable}
@@ -18,7 +19,7 @@ use Rattle.slim_laws.proofs.UnitSizes.{slimmer_law}
 use Rattle.slim_laws.proofs.UnitsAlike.{alike_law}
 use Rattle.slim_laws.proofs.UnitsSlim.{units_law}
 use Rattle.flow_rewrite.specs.declared.pieces.Pieces.{Pieces}
-use Rattle.slim_rewrite.specs.Functions.{is_between, are_plain, are_slim, AreSlim, SlimOrPlain}
+use Rattle.slim_rewrite.specs.Functions.{is_between, are_plain, are_slim, AreSlim, ArePlain, SlimOrPlain}
 use Rattle.slim_rewrite.specs.Inside.{first_code, units_in}
 use Rattle.slim_rewrite.proofs.InsideLemmas.{nothing_fixed}
 
@@ -114,13 +115,25 @@ module _ (ps : List ℕ) (low count : ℕ) (g : FlatFunc) (p : Pieces) (fits : F
       let lt = numbers_few ps 0 g.body in
       let e = (alike_law t 0 (free_by t.slot [] ∷ []) (free_by t.slot []) (free_by t.slot []) [] (first_piece ps 0 g.body) (first_code p) (units ps 0 g.body) (units_in p) slim).numbers in omega (arith, lt, e, few)
 
+-- ---- plain pieces
+
+pub plain_raised : (ps : List ℕ) (g : FlatFunc) (p : Pieces) → FlatFits g → ArePlain ps g p → Raisable 0 2 (followed_by (first_code p) (flat_units (units_in p)))
+plain_raised ps g p fits h = subst (Raisable 0 2) (sym ((λ j. followed_by (h.first j) (flat_units (h.units j))) ∙ joins ps 0 g.body)) (flat_raised g fits)
+
+pub plain_few : (ps : List ℕ) (g : FlatFunc) (p : Pieces) → call_total g.body < 2 ^ 32 → ArePlain ps g p → numbers_in (units_in p) < 2 ^ 32
+plain_few ps g p few h = let lt = numbers_few ps 0 g.body in let e = ap numbers_in h.units in omega (arith, lt, e, few)
+
+pub plain_code : (ps : List ℕ) (state index : ℕ) (g : FlatFunc) (p : Pieces) (c : Code) → ArePlain ps g p → index ≡ length g.locals
+    → c ≡ guarded_body (record { state = state; index = index; one_call = false }) false (first_code p) (units_in p) → c ≡ guarded_code state ps g
+plain_code ps state index g p c h e is = is ∙ (λ j. guarded_body (record { state = state; index = e j; one_call = false }) false (h.first j) (h.units j))
+
 -- ---- either
 
 pub pieces_raised : (ps : List ℕ) (low count : ℕ) (g : FlatFunc) (p : Pieces) → FlatFits g → call_total g.body < 2 ^ 32 → SlimOrPlain ps low count g p
     → Raisable 0 2 (followed_by (first_code p) (flat_units (units_in p)))
 pieces_raised ps low count g p fits few (are_slim h) = slim_raised ps low count g p fits few h
-pieces_raised ps low count g p fits few (are_plain h) = subst (Raisable 0 2) (sym ((λ j. followed_by (h.first j) (flat_units (h.units j))) ∙ joins ps 0 g.body)) (flat_raised g fits)
+pieces_raised ps low count g p fits few (are_plain h) = plain_raised ps g p fits h
 
 pub pieces_few : (ps : List ℕ) (low count : ℕ) (g : FlatFunc) (p : Pieces) → FlatFits g → call_total g.body < 2 ^ 32 → SlimOrPlain ps low count g p → numbers_in (units_in p) < 2 ^ 32
 pieces_few ps low count g p fits few (are_slim h) = slim_few ps low count g p fits few h
-pieces_few ps low count g p fits few (are_plain h) = let lt = numbers_few ps 0 g.body in let e = ap numbers_in h.units in omega (arith, lt, e, few)
+pieces_few ps low count g p fits few (are_plain h) = plain_few ps g p few h

@@ -16,7 +16,11 @@ use std::alloc::{AllocError, Global};
 use wa_model::FlatFunc;
 
 /// A flat function in pieces and units as its statements are, where the calls at these places are numbered.
-fn plain_pieces(alloc: Global, func: &FlatFunc, numbers: &[u32]) -> Result<Pieces, AllocError>
+pub(crate) fn plain_pieces(
+    alloc: Global,
+    func: &FlatFunc,
+    numbers: &[u32],
+) -> Result<Pieces, AllocError>
     requires fits { FlatFits (flat_func_of func.now) }
     requires rises { Rises numbers.now }
     requires few { call_total (flat_func_of func.now).body < 2 ^ 32 }

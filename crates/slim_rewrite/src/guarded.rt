@@ -1,4 +1,4 @@
-//! Guarded code of a flat function.
+//! Guarded code of a flat function with slim pieces.
 
 ghost use Rattle.std.specs.Prelude.{◌<◌, ◌^◌, IfOk};
 ghost use Rattle.wa_types.specs.View.{code};
@@ -39,5 +39,5 @@ pub fn guard_slim(
         index,
         one_call: has_one_call(&pieces),
     };
-    guarded_pieces(&guards, &pieces)
+    guarded_pieces(&guards, true, &pieces)
 }
