@@ -1,6 +1,6 @@
 //! What guards are written by, and the guard of a piece.
 
-ghost use Rattle.std.specs.Prelude.{◌≡◌, OnOk};
+ghost use Rattle.std.specs.Prelude.{OnOk};
 ghost use Rattle.wa_types.specs.View.{code};
 ghost use Rattle.guard_form.specs.Guarded.{guarded};
 ghost use Rattle.flow_rewrite.specs.Putting.{Puts};

@@ -1,6 +1,6 @@
 //! A whole function.
 
-ghost use Rattle.std.specs.Prelude.{◌≡◌, ◌<◌, ◌^◌, IfOk};
+ghost use Rattle.std.specs.Prelude.{◌<◌, ◌^◌, IfOk};
 ghost use Rattle.run_theory.specs.FlatFits.{FlatFits};
 ghost use Rattle.run_theory.specs.FlatView.{flat_func_of};
 ghost use Rattle.guard_form.specs.Pieces.{call_total};
