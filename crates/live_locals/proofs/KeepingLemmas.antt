@@ -4,7 +4,7 @@ use Rattle.std.specs.Prelude.{if◌then◌else◌, nat_lt, replicate, slice_set,
 use Rattle.std.specs.List.{list_any}
 use Rattle.std.specs.declared.alloc.Global.{Global}
 use Rattle.std.proofs.lemmas.Bool.{cases_eq, eq-eqb, eqb-true, lt-ltb, ltb-true, ne_eqb}
-use Rattle.std.proofs.lemmas.List.{length-replicate, take_all}
+use Rattle.std.proofs.lemmas.List.{get_or_default, take_all}
 use Rattle.std.proofs.lemmas.List.Folds.{list_any_more}
 use Rattle.call_frames.specs.CallRows.{counted, upto}
 use Rattle.live_locals.specs.Keeping.{AllOpen, CallPut, Holds, IsSettled, Settles, Stands, calls_kept, kept_on}
@@ -50,12 +50,20 @@ told_some k s rows lt =
     let z : s - k - 1 ≡ s - suc k = omega arith in
     ap (λ ks. ks ++ rows) (upto_is k (s - k - 1) ∙ ap (λ n. k ∷ counted (suc k) n) z ∙ sym (counted_open k s (omega (arith, lt))))
 
+-- an entry that is there, at any default
+pub any_default : (xs : List (List ℕ)) (i : ℕ) (d e : List ℕ) → i < length xs → get_or xs i d ≡ get_or xs i e
+any_default xs i d e lt = get_or_default xs i d e lt
+
 -- ---- calls that are told
 
 pub kept_any : (st : Keeping) (a b : List Bool) (x : ℕ) → IsSettled st x → calls_kept st a x ≡ calls_kept st b x
 kept_any st a b x e =
     let rows = get_or st.rows.items x [] in
     let s = get_or st.since.items x 0 in kept_settled st.left s (has a x) rows e ∙ sym (kept_settled st.left s (has b x) rows e)
+
+-- they are all there are
+pub kept_told : (st : Keeping) (set : List Bool) (x : ℕ) → IsSettled st x → calls_kept st set x ≡ get_or st.rows.items x []
+kept_told st set x e = kept_settled st.left (get_or st.since.items x 0) (has set x) (get_or st.rows.items x []) e
 
 -- a set that has a local where another does
 pub kept_same : (st : Keeping) (a b : List Bool) (x : ℕ) → has a x ≡ has b x → calls_kept st a x ≡ calls_kept st b x

@@ -48,6 +48,11 @@ pub record Holds (set : List Bool) (test : ℕ → Bool) (old new : Keeping) : T
 abbrev pub AllOpen : (size : ℕ) → Keeping → Type 0
 AllOpen size st = (x : ℕ) → x < size → suc st.left ≤ get_or st.since.items x 0
 
+-- of one local more it is told
+abbrev pub HoldsMore : (set : List Bool) → (local : ℕ) → (old new : Keeping) → Type 0
+HoldsMore set y old new =
+    (test : ℕ → Bool) (start : Keeping) → AllOpen (length set) start → Holds set test start old → Holds set (λ x. test x || nat_eq x y) start new
+
 -- Where the call has a number it keeps the locals of a stack, and those of the set. Those of the stack are told.
 pub record CallPut (numbered : Bool) (set : List Bool) (stack : List ℕ) (old new : Keeping) : Type 0 where
   pub left : new.left + (if numbered then 1 else 0) ≡ old.left

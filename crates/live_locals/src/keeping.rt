@@ -3,7 +3,7 @@
 //! A local's calls are told in rows. What its set has is kept by each call that comes, so nothing is noted at a call; only before a set
 //! changes, the calls are told for which it was as it is.
 
-ghost use Rattle.std.specs.Prelude.{◌≡◌, ◌<◌, ◌≤◌, ◌+◌, ◌-◌, ◌||◌, ◌++◌, [], ℕ, suc, length, nat_eq, replicate, Bool, true, IfOk, OnOk, if◌then◌else◌};
+ghost use Rattle.std.specs.Prelude.{◌≡◌, ◌<◌, ◌≤◌, ◌+◌, ◌-◌, ◌++◌, [], suc, length, nat_eq, replicate, true, IfOk, OnOk, if◌then◌else◌};
 ghost use Rattle.std.specs.List.{list_any};
 ghost use Rattle.wa_types.specs.Syntax.{done};
 ghost use Rattle.wa_types.specs.View.{in_front};
@@ -13,7 +13,7 @@ ghost use Rattle.guard_form.specs.Grouping.{is_place};
 ghost use Rattle.flow_rewrite.specs.Emitting.{Rises};
 ghost use Rattle.call_frames.specs.CallRows.{counted};
 ghost use Rattle.live_locals.specs.Rows.{numbered_from};
-ghost use Rattle.live_locals.specs.Keeping.{AllOpen, CallPut, Holds, Settles, Stands, is_it, is_local, op_touches, touches};
+ghost use Rattle.live_locals.specs.Keeping.{AllOpen, CallPut, Holds, HoldsMore, Settles, Stands, is_it, is_local, op_touches, touches};
 
 use call_frames::{Calls, LaterCalls};
 use std::alloc::{AllocError, Global};
@@ -205,8 +205,7 @@ fn more_held(told: bool, next: u32, since: u32) -> u32
 /// Tells that the next call keeps a local, unless it is told.
 fn hold(keeping: &mut Keeping, set: &[bool], at: usize) -> Result<(), AllocError>
     requires { Stands (length set.now) keeping.old }
-    ensures { OnOk result ((test : ℕ → Bool) (start : Keeping) → AllOpen (length set.now) start → Holds set.now test start keeping.old
-        → Holds set.now (λ x. test x || nat_eq x at) start keeping.new) }
+    ensures { OnOk result (HoldsMore set.now at keeping.old keeping.new) }
 {
     if at >= set.len() {
         return Ok(());
@@ -228,7 +227,7 @@ fn hold_slots(
     slots: &[u32],
 ) -> Result<(), AllocError>
     requires stands { Stands (length set.now) keeping.old }
-    requires open { AllOpen (length set.now) keeping.old }
+    requires untold { AllOpen (length set.now) keeping.old }
     ensures { OnOk result (Holds set.now (λ x. list_any (nat_eq x) slots.now) keeping.old keeping.new) }
 {
     for at in 0..slots.len() {

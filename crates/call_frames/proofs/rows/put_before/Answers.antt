@@ -1,4 +1,4 @@
-use Rattle.std.proofs.Common.{◌+◌, ◌-◌, suc, nat_eq, reverse, ap, arith, refl, subst, sym, ◌∙◌}
+use Rattle.std.proofs.Common.{◌+◌, ◌-◌, suc, nat_eq, reverse, ap, arith, eqb-true, refl, subst, sym, ◌∙◌}
 use Rattle.call_frames.specs.CallRows.{AreRows, numbers_in, row_views}
 use Rattle.call_frames.specs.declared.rows.Row.{Row}
 use Rattle.call_frames.proofs.LaterRows.{NoneNext, apart_rows, last_fits, last_put, longer_numbers, longer_rows, none_at_all, none_next}
@@ -12,7 +12,8 @@ overflow_add c =
     let fits = last_fits c.args.rows.now.items (c.len-count.result - 1) c.args.first c.args.more c.index-next.result.now c.index-next.result.now (omega (arith, l, c.if-count-gt0.true)) c.requires.rows in
     let f = ap (λ (r : Row). r.first) is in
     let m = ap (λ (r : Row). r.more) is in
-    omega (arith, fits, f, m)
+    let q = eqb-true c.index-next.result.now.first (suc (c.args.first + c.args.more)) (sym c.follows.ensures ∙ c.if-follows.true) in
+    omega (arith, fits, f, m, q)
 
 pub returns-then-follows-clause-numbers : goal.returns-then-follows-clause-numbers
 returns-then-follows-clause-numbers c =

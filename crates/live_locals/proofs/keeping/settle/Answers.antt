@@ -1,12 +1,29 @@
-use Rattle.std.proofs.Common.{◌∙◌, [], ap, arith, length, sym}
-use Rattle.live_locals.proofs.KeepingLemmas.{settled_one, settles_past}
+use Rattle.std.proofs.Common.{◌-◌, ◌++◌, ◌∙◌, [], ap, arith, get_or, length, refl, sym}
+use Rattle.std.specs.Prelude.{if◌then◌else◌}
+use Rattle.call_frames.specs.CallRows.{counted}
+use Rattle.live_locals.specs.Keeping.{kept_on}
+use Rattle.live_locals.specs.Sets.{has}
+use Rattle.live_locals.proofs.KeepingLemmas.{any_default, settled_one, settles_past}
 use Rattle.live_locals.proofs.keeping.settle.Goals as goal
 
 pub returns-then-at-set : goal.returns-then-at-set
 returns-then-at-set c = settles_past c.args.set.now c.args.at c.args.keeping.now (omega (arith, c.if-at-set.true)) c.requires
 
+pub index-requires : goal.index-requires
+index-requires c = let n = c.requires.sinces in omega (arith, n, c.if-at-set.false, c.args.keeping.now.since.ok.0)
+
+pub index_mut-requires : goal.index_mut-requires
+index_mut-requires c = let n = c.requires.rows in omega (arith, n, c.if-at-set.false, c.args.keeping.now.rows.ok.0)
+
 pub put_told-requires : goal.put_told-requires
-put_told-requires c = ?
+put_told-requires c = let l = c.requires.later c.args.at (omega (arith, c.if-at-set.false)) in omega (arith, l, c.index-end.ensures)
 
 pub returns : goal.returns
-returns c = ?
+returns c =
+    let at = c.args.at in
+    let set = c.args.set.now in
+    let old = c.args.keeping.now in
+    let within = omega (arith, c.if-at-set.false) in
+    settled_one set at old _ c.put_told.new.rows within c.requires refl refl refl
+    (c.in_ok-put_told.ensures
+    ∙ (λ i. kept_on old.left (c.index-end.ensures i) (has set at) (any_default old.rows.items at c.index_mut.result.now [] (let n = c.requires.rows in omega (arith, n, within)) i)))
