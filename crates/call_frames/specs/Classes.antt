@@ -78,10 +78,10 @@ pub record AreKeepers (count : ℕ) (sets : List (List Bool)) (keepers : List (L
   pub each : (x : ℕ) → x < count → get_or keepers x [] ≡ set_keepers x 0 sets
 
 -- So many calls keep these sets of so many locals, and these calls each local.
-pub record AreKept (locals count : ℕ) (sets : List (List Bool)) (keepers : List (List ℕ)) : Type 0 where
+pub record AreKept (locals count : ℕ) (sets : List (List Bool)) (kept_by : List (List ℕ)) : Type 0 where
   pub many : length sets ≡ count
   pub sized : All (λ (set : List Bool). length set ≡ locals) sets
-  pub keepers : AreKeepers locals sets keepers
+  pub keepers : AreKeepers locals sets kept_by
 
 -- The first sets of the calls that keep each local.
 pub record MadeAgain (kept_by : List (List ℕ)) (count : ℕ) (made : List (Vec Bool Global)) : Type 0 where

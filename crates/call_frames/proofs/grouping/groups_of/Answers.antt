@@ -1,11 +1,12 @@
 use Rattle.std.proofs.Common.{◌∷◌, ◌+◌, ◌∙◌, ap, arith, drop, refl, sym}
 use Rattle.std.proofs.lemmas.List.{drop_all, drop_more}
+use Rattle.call_frames.specs.CallParts.{grouped_by}
 use Rattle.call_frames.specs.Views.{class_parts}
 use Rattle.call_frames.proofs.GroupSteps.{groups_end, groups_next}
 use Rattle.call_frames.proofs.grouping.groups_of.Goals as goal
 
 pub loop-local-init : goal.loop-local-init
-loop-local-init c = (let e = c.requires.size in omega (arith, e), refl)
+loop-local-init c = (let e = c.requires.size in omega (arith, e), ap (λ gs. grouped_by 0 c.args.types.now c.args.keepers.now (class_parts gs)) c.new-groups.ensures.items)
 
 pub loop-local-preserved : goal.loop-local-preserved
 loop-local-preserved c =

@@ -3,5 +3,5 @@ use Rattle.std.specs.Prelude.{Vec, replicate}
 use Rattle.std.specs.declared.alloc.Global.{Global}
 use Rattle.call_frames.proofs.noting.no_sets.Given as goal
 
-abbrev pub invariant-loop-_call : goal.invariant-loop-_call
-invariant-loop-_call l = (length l.sets.items ≡ l._call) × (l._call ≤ l.count) × All (λ (set : Vec Bool Global). set.items ≡ replicate l.locals false) l.sets.items
+abbrev pub invariant-loop-call : goal.invariant-loop-call
+invariant-loop-call l = (length l.sets.items ≡ l._call) × (l._call ≤ l.count) × All (λ (set : Vec Bool Global). set.items ≡ replicate l.locals false) l.sets.items

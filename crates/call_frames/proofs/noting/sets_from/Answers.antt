@@ -1,4 +1,4 @@
-use Rattle.std.proofs.Common.{◌≡◌, ◌∙◌, ap, arith, length, get_or, nat_eq, sym, subst, []}
+use Rattle.std.proofs.Common.{◌≡◌, ◌∙◌, ap, arith, length, get_or, nat_eq, refl, sym, subst, []}
 use Rattle.std.specs.List.{list_any}
 use Rattle.std.proofs.lemmas.List.{get_or_default}
 use Rattle.call_frames.specs.Classes.{Noted}
@@ -6,7 +6,7 @@ use Rattle.call_frames.proofs.NotedSets.{below_first, below_next, made_again}
 use Rattle.call_frames.proofs.noting.sets_from.Goals as goal
 
 pub loop-local-init : goal.loop-local-init
-loop-local-init c = below_first c.args.keepers.now c.args.count c.len.result c.in_ok-sets.sets.items c.len.ensures c.in_ok-sets.ensures.size c.in_ok-sets.ensures.each
+loop-local-init c = below_first c.args.keepers.now c.args.count (length c.args.keepers.now) c.in_ok-sets.sets.items refl c.in_ok-sets.ensures.size c.in_ok-sets.ensures.each
 
 pub note_rows-requires : goal.note_rows-requires
 note_rows-requires c = (length c.args.keepers.now, c.loop-local-test.true, c.loop-local.invariant.sized)

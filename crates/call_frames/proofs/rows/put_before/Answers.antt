@@ -5,8 +5,8 @@ use Rattle.call_frames.proofs.LaterRows.{NoneNext, apart_rows, last_fits, last_p
 use Rattle.call_frames.proofs.rows.put_before.Goals as goal
 use Rattle.call_frames.proofs.rows.put_before.Goals.{then-count-gt0+else-follows, else-count-gt0}
 
-pub overflow_add : goal.overflow_add
-overflow_add c =
+pub overflow_add-more-then-follows : goal.overflow_add-more-then-follows
+overflow_add-more-then-follows c =
     let l = c.len-count.ensures ∙ c.args.rows.now.ok.0 in
     let is = c.index-next.ensures in
     let fits = last_fits c.args.rows.now.items (c.len-count.result - 1) c.args.first c.args.more c.index-next.result.now c.index-next.result.now (omega (arith, l, c.if-count-gt0.true)) c.requires.rows in

@@ -1,4 +1,4 @@
-use Rattle.std.proofs.Common.{◌+◌, ◌-◌, ◌∙◌, ap, arith, refl, suc, sym}
+use Rattle.std.proofs.Common.{◌≡◌, ◌+◌, ◌-◌, ◌∙◌, ap, arith, refl, suc, sym}
 use Rattle.std.specs.Prelude.{if◌then◌else◌}
 use Rattle.std.proofs.lemmas.Result.{on_ok_weaker}
 use Rattle.guard_form.specs.Grouping.{is_place}
@@ -26,7 +26,7 @@ hold_slots-requires c =
     let start : Keeping = record { left = old.left - 1; since = old.since; rows = old.rows } in
     let e = one_before c.args.numbers.now c.args.place (suc c.args.place) (omega arith) in
     let t = ap (λ b. numbered_from c.args.numbers.now 0 c.args.place + (if b then 1 else 0)) (sym c.is_numbered.ensures ∙ c.if-not-is_numbered.false) in
-    let el = omega (arith, e, t, c.requires.left) in record {
+    let el : start.left + 1 ≡ old.left = omega (arith, e, t, c.requires.left) in record {
       stands = stands_after c.args.set.now c.args.stack.now old start start el refl refl c.requires.stands;
       untold = open_after c.args.set.now c.args.stack.now old start start el refl refl c.requires.stands;
     }
