@@ -198,11 +198,11 @@ module _ (n left : ℕ) (st : Keeping) (el : st.left ≡ left) (es : st.since.it
 
 -- the same of what the walk is given and answers
 pub rows_live : (f : FlatFunc) (ns : List ℕ) (v : Vec Bool Global) (none told behind before lent : List Bool) (s t : Stmts) (count first left n : ℕ) (tos : List (Vec Bool Global))
-    (start walked done : Keeping) (rows : List (List ℕ)) → StmtsFit (length f.locals) 1 f.body
+    (start walked ended : Keeping) (rows : List (List ℕ)) → StmtsFit (length f.locals) 1 f.body
     → Rises ns → All (λ n. n < call_total f.body) ns → none ≡ replicate (length f.locals) false → TellsAnywhere none told (result_got f.result) → behind ≡ told → v.items ≡ behind → tos ≡ v ∷ []
     → s ≡ f.body → t ≡ f.body → count ≡ 0 + call_total t → n ≡ length f.locals → start.left ≡ left → start.since.items ≡ replicate n left → start.rows.items ≡ replicate n []
-    → RowsPut ns tos behind before s count first start walked → length before ≡ length behind → lent ≡ before → Settles lent (λ x. true) walked done → rows ≡ done.rows.items → LiveRows f ns rows
-rows_live f ns v none told behind before lent s t count first left n tos start walked done rows fits rises range en read eb ev et es est ec size sl ss sr put long el settled er =
+    → RowsPut ns tos behind before s count first start walked → length before ≡ length behind → lent ≡ before → Settles lent (λ x. true) walked ended → rows ≡ ended.rows.items → LiveRows f ns rows
+rows_live f ns v none told behind before lent s t count first left n tos start walked ended rows fits rises range en read eb ev et es est ec same_size sl ss sr put long el settled er =
     let a : RowsPut ns (v ∷ []) behind before s count first start walked = subst (λ ts. RowsPut ns ts behind before s count first start walked) et put in
     let b : RowsPut ns (v ∷ []) behind before f.body count first start walked = subst (λ u. RowsPut ns (v ∷ []) behind before u count first start walked) es a in
     let k : count ≡ call_total f.body = let z = ap call_total est in omega (arith, ec, z) in
@@ -211,11 +211,11 @@ rows_live f ns v none told behind before lent s t count first left n tos start w
     subst (λ o. TellsAnywhere o behind (result_got f.result)) en (subst (λ n. TellsAnywhere none n (result_got f.result)) (sym eb) read) in
     let first_long : length behind ≡ length f.locals = (h (λ z. [])).size ∙ length-replicate (length f.locals) false in
     let last_long : length lent ≡ length f.locals = ap length el ∙ long ∙ first_long in
-    whole_rows f ns v behind before first start walked fits rises range ev h d (λ x lt. none_first n left start sl ss sr behind x (omega (arith, size, lt))) rows
+    whole_rows f ns v behind before first start walked fits rises range ev h d (λ x lt. none_first n left start sl ss sr behind x (omega (arith, same_size, lt))) rows
     (ap length er ∙ settled.stands.rows ∙ last_long)
     (λ x lt.
     let low : x < length lent = omega (arith, last_long, lt) in
-    ap (λ rs. get_or rs x []) er ∙ sym (kept_told done lent x (settled.told x low refl)) ∙ settled.same x low ∙ ap (λ z. calls_kept walked z x) el)
+    ap (λ rs. get_or rs x []) er ∙ sym (kept_told ended lent x (settled.told x low refl)) ∙ settled.same x low ∙ ap (λ z. calls_kept walked z x) el)
 
 -- ---- sets that are made again
 

@@ -1,4 +1,4 @@
-use Rattle.std.proofs.Common.{◌∙◌, ap, arith, length, subst, sym}
+use Rattle.std.proofs.Common.{◌∙◌, ap, arith, length, refl, subst, sym}
 use Rattle.std.proofs.lemmas.Result.{IfOk-weaker}
 use Rattle.run_theory.specs.FlatView.{flat_func_of}
 use Rattle.call_frames.specs.Classes.{MadeAgain}
@@ -8,6 +8,6 @@ use Rattle.live_locals.proofs.calls.live_at.Goals as goal
 pub returns : goal.returns
 returns c =
     IfOk-weaker c.sets_from.result _ _
-    (λ made m. sets_again (flat_func_of c.args.func.now) c.args.numbers.now c.in_ok-rows.rows.items made.items c.len.result c.len.ensures c.in_ok-rows.ensures
-    (subst (λ rs. MadeAgain rs c.len.result made.items) c.deref.ensures.value m))
+    (λ made m. sets_again (flat_func_of c.args.func.now) c.args.numbers.now c.in_ok-rows.rows.items made.items (length c.args.numbers.now) refl c.in_ok-rows.ensures
+    (subst (λ rs. MadeAgain rs (length c.args.numbers.now) made.items) c.deref.ensures.value m))
     c.sets_from.ensures

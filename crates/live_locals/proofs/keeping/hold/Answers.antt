@@ -31,7 +31,7 @@ returns c = λ test start all h.
     let n = c.requires.sinces in
     let m = c.requires.rows in
     let s = get_or_read old.since.items at _ (omega (arith, n, within)) c.index-end.ensures 0 in
-    let r = any_default old.rows.items at c.index_mut.result.now [] (omega (arith, m, within)) in
+    let r = c.index_mut.ensures.value ∙ any_default old.rows.items at c.index_mut.result.now [] (omega (arith, m, within)) in
     held_one set test start all at c.more_held-more.result old _ c.put.new.self within refl refl refl (omega (arith, c.if-end-keeping.false, s))
     (c.more_held-more.ensures ∙ ap (λ s. if has set at then s - suc old.left else 0) s)
     (c.in_ok-put.ensures ∙ ap (λ ks. upto old.left c.more_held-more.result ++ ks) r) h

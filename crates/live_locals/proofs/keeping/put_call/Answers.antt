@@ -14,8 +14,8 @@ returns-then-not-is_numbered c =
     (λ h. call_none c.args.set.now (is_place c.args.numbers.now c.args.place) c.args.stack.now c.args.keeping.now c.settle_slots.new.keeping
     (sym c.is_numbered.ensures ∙ c.if-not-is_numbered.true) h) c.settle_slots.ensures
 
-pub overflow_sub : goal.overflow_sub
-overflow_sub c =
+pub overflow_sub-keeping : goal.overflow_sub-keeping
+overflow_sub-keeping c =
     let e = one_before c.args.numbers.now c.args.place (suc c.args.place) (omega arith) in
     let t = ap (λ b. numbered_from c.args.numbers.now 0 c.args.place + (if b then 1 else 0)) (sym c.is_numbered.ensures ∙ c.if-not-is_numbered.false) in
     omega (arith, e, t, c.requires.left)

@@ -30,5 +30,5 @@ returns c =
     let n = c.requires.sinces in
     let m = c.requires.rows in
     let s = get_or_read old.since.items at _ (omega (arith, n, within)) c.index-end.ensures 0 in
-    let r = any_default old.rows.items at c.index_mut.result.now [] (omega (arith, m, within)) in
+    let r = c.index_mut.ensures.value ∙ any_default old.rows.items at c.index_mut.result.now [] (omega (arith, m, within)) in
     settled_one set at old _ c.put_told.new.rows within c.requires refl refl refl (c.in_ok-put_told.ensures ∙ (λ i. kept_on old.left (s i) (has set at) (r i)))

@@ -19,8 +19,8 @@ settle_operands-requires c = c.in_ok-settle_op-in-Plain.ensures.stands
 pub settle_operand-requires : goal.settle_operand-requires
 settle_operand-requires c = c.in_ok-settle-in-Move.ensures.stands
 
-pub returns-in-Plain : goal.returns-in-Plain
-returns-in-Plain c =
+pub returns-in_ok-settle_op-in-Plain : goal.returns-in_ok-settle_op-in-Plain
+returns-in_ok-settle_op-in-Plain c =
     let set = c.args.set.now in
     let old = c.args.keeping.now in
     on_ok_weaker c.settle_operands.result
@@ -34,8 +34,8 @@ returns-in-Plain c =
     c.in_ok-settle_told-in-Plain.ensures c.in_ok-settle_op-in-Plain.ensures) h))
     c.settle_operands.ensures
 
-pub returns-in-Move : goal.returns-in-Move
-returns-in-Move c =
+pub returns-in_ok-settle-in-Move : goal.returns-in_ok-settle-in-Move
+returns-in_ok-settle-in-Move c =
     let set = c.args.set.now in
     let old = c.args.keeping.now in
     on_ok_weaker c.settle_operand.result

@@ -32,11 +32,13 @@ put_body_rows-put_stmt_rows-requires t c = (
     countable_before c.args.calls.numbers.now c.args.walk.now.tos.items c.args.set.now c.loop-left.set c.args.body.now c.loop-left.left c.index-body-left.result c.args.calls.last c.loop-left.first
         c.args.keeping.now c.loop-left.keeping
         (omega (arith, c.loop-left-test.true)) c.loop-left.invariant.0 c.index-body-left.is c.requires.calls c.loop-left.invariant.2,
-    nest_stmt c.args.around.level c.args.around.reach.now c.args.walk.now.tos.items c.loop-left.walk.tos.items c.args.set.now c.loop-left.set c.args.body.now c.loop-left.left c.index-body-left.result
-        (omega (arith, c.loop-left-test.true)) c.loop-left.invariant.0 c.index-body-left.is c.loop-left.invariant.1 (reverse c.args.walk.now.heads.items) (reverse c.loop-left.walk.heads.items)
-        c.loop-left.invariant.3 c.requires.nest,
-    stands_before c.args.calls.numbers.now c.args.walk.now.tos.items c.loop-left.walk.tos.items c.args.set.now c.loop-left.set (stmts (drop c.loop-left.left c.args.body.now)) c.args.calls.last
-        c.loop-left.first c.args.keeping.now c.loop-left.keeping (code_of (stmts (drop c.loop-left.left c.args.body.now))) c.loop-left.invariant.1 c.loop-left.invariant.2,
+    (
+      nest_stmt c.args.around.level c.args.around.reach.now c.args.walk.now.tos.items c.loop-left.walk.tos.items c.args.set.now c.loop-left.set c.args.body.now c.loop-left.left c.index-body-left.result
+          (omega (arith, c.loop-left-test.true)) c.loop-left.invariant.0 c.index-body-left.is c.loop-left.invariant.1 (reverse c.args.walk.now.heads.items) (reverse c.loop-left.walk.heads.items)
+          c.loop-left.invariant.3 c.requires.nest,
+      stands_before c.args.calls.numbers.now c.args.walk.now.tos.items c.loop-left.walk.tos.items c.args.set.now c.loop-left.set (stmts (drop c.loop-left.left c.args.body.now)) c.args.calls.last
+          c.loop-left.first c.args.keeping.now c.loop-left.keeping (code_of (stmts (drop c.loop-left.left c.args.body.now))) c.loop-left.invariant.1 c.loop-left.invariant.2,
+    ),
   ),
 )
 
@@ -79,11 +81,13 @@ put_stmt_rows-put_body_rows-requires t c = (
   (
     nest_countable c.args.calls.numbers.now c.args.stmt.now c.args.walk.now.tos.items a_block (stmts c.deref-in-Block.result.now) c.args.calls.last
         (block_is c.args.stmt.now c.in-Block.body c.in-Block.is no_more ∙ ap (λ xs. nests a_block (stmts xs) no_more) (sym c.deref-in-Block.ensures.value)) c.requires.calls,
-    nest_block c.args.around.level c.args.around.reach.now c.args.stmt.now c.args.walk.now.tos.items c.in_ok-copied-in-Block.field-0 c.push.new.self.items c.args.set.now c.in_ok-copied-in-Block.ensures
-        c.in_ok-push-in-Block.ensures.items (stmts c.deref-in-Block.result.now)
-        (block_is c.args.stmt.now c.in-Block.body c.in-Block.is no_more ∙ ap (λ xs. nests a_block (stmts xs) no_more) (sym c.deref-in-Block.ensures.value))
-        (reverse c.args.walk.now.heads.items) c.requires.nest,
-    c.requires.there,
+    (
+      nest_block c.args.around.level c.args.around.reach.now c.args.stmt.now c.args.walk.now.tos.items c.in_ok-copied-in-Block.field-0 c.push.new.self.items c.args.set.now c.in_ok-copied-in-Block.ensures
+          c.in_ok-push-in-Block.ensures.items (stmts c.deref-in-Block.result.now)
+          (block_is c.args.stmt.now c.in-Block.body c.in-Block.is no_more ∙ ap (λ xs. nests a_block (stmts xs) no_more) (sym c.deref-in-Block.ensures.value))
+          (reverse c.args.walk.now.heads.items) c.requires.nest,
+      c.requires.there,
+    ),
   ),
 )
 
@@ -101,13 +105,15 @@ put_stmt_rows-put_body_rows-requires-in-Loop t c = (
   (
     nest_countable c.args.calls.numbers.now c.args.stmt.now c.args.walk.now.tos.items a_loop (stmts c.deref-in-Loop-3.result.now) c.args.calls.last
         (loop_is c.args.stmt.now c.in-Loop.body c.in-Loop.is no_more ∙ ap (λ xs. nests a_loop (stmts xs) no_more) (sym c.deref-in-Loop-3.ensures.value)) c.requires.calls,
-    subst (λ xs. Nest c.in_ok-inside-in-Loop.inside.level c.deref-in-Loop-2.result.now c.push-in-Loop.new.self.items c.deref_mut.result.now (reverse c.enter_loop.new.walk.heads.items) (stmts xs))
-        (c.deref-in-Loop.ensures.value ∙ sym c.deref-in-Loop-3.ensures.value)
-        (nest_as c.in_ok-inside-in-Loop.inside.level c.in_ok-inside-in-Loop.inside.reach.items c.deref-in-Loop-2.result.now (c.args.walk.now.tos.items ++ c.in_ok-head-in-Loop.head ∷ [])
-        c.push-in-Loop.new.self.items c.args.set.now c.deref_mut.result.now (reverse c.enter_loop.new.walk.heads.items) (stmts c.deref-in-Loop.result.now) c.deref-in-Loop-2.ensures.value
-        (c.in_ok-push-in-Loop.ensures.items ∙ ap (λ ts. ts ++ c.in_ok-head-in-Loop.head ∷ []) c.in_ok-inside-in-Loop.ensures.passed.labels) (c.deref_mut.ensures.value ∙ c.in_ok-inner-in-Loop.ensures)
-        (c.in_ok-inside-in-Loop.ensures.inside c.in_ok-head-in-Loop.head c.in_ok-head-in-Loop.ensures)),
-    subst (λ z. StandsAt c.args.calls.numbers.now c.args.calls.last (length z) c.args.keeping.now) (sym (c.deref_mut.ensures.value ∙ c.in_ok-inner-in-Loop.ensures)) c.requires.there,
+    (
+      subst (λ xs. Nest c.in_ok-inside-in-Loop.inside.level c.deref-in-Loop-2.result.now c.push-in-Loop.new.self.items c.deref_mut.result.now (reverse c.enter_loop.new.walk.heads.items) (stmts xs))
+          (c.deref-in-Loop.ensures.value ∙ sym c.deref-in-Loop-3.ensures.value)
+          (nest_as c.in_ok-inside-in-Loop.inside.level c.in_ok-inside-in-Loop.inside.reach.items c.deref-in-Loop-2.result.now (c.args.walk.now.tos.items ++ c.in_ok-head-in-Loop.head ∷ [])
+          c.push-in-Loop.new.self.items c.args.set.now c.deref_mut.result.now (reverse c.enter_loop.new.walk.heads.items) (stmts c.deref-in-Loop.result.now) c.deref-in-Loop-2.ensures.value
+          (c.in_ok-push-in-Loop.ensures.items ∙ ap (λ ts. ts ++ c.in_ok-head-in-Loop.head ∷ []) c.in_ok-inside-in-Loop.ensures.passed.labels) (c.deref_mut.ensures.value ∙ c.in_ok-inner-in-Loop.ensures)
+          (c.in_ok-inside-in-Loop.ensures.inside c.in_ok-head-in-Loop.head c.in_ok-head-in-Loop.ensures)),
+      subst (λ z. StandsAt c.args.calls.numbers.now c.args.calls.last (length z) c.args.keeping.now) (sym (c.deref_mut.ensures.value ∙ c.in_ok-inner-in-Loop.ensures)) c.requires.there,
+    ),
   ),
 )
 
@@ -118,11 +124,13 @@ put_stmt_rows-put_body_rows-requires-in-If t c = (
     else_countable c.args.calls.numbers.now c.args.stmt.now c.args.walk.now.tos.items c.in-If.cond (stmts c.in-If.then_arm.items) (stmts c.deref-in-If.result.now) c.args.calls.last
         (if_is c.args.stmt.now c.in-If.cond c.in-If.then_arm c.in-If.else_arm c.in-If.is no_more
         ∙ ap (λ xs. decides c.in-If.cond (stmts c.in-If.then_arm.items) (stmts xs) no_more) (sym c.deref-in-If.ensures.value)) c.requires.calls,
-    nest_else c.args.around.level c.args.around.reach.now c.args.stmt.now c.args.walk.now.tos.items c.in_ok-copied-in-If.field-0 c.push-in-If.new.self.items c.args.set.now c.in_ok-copied-in-If.ensures
-        c.in_ok-push-in-If.ensures.items c.in-If.cond (stmts c.in-If.then_arm.items) (stmts c.deref-in-If.result.now)
-        (if_is c.args.stmt.now c.in-If.cond c.in-If.then_arm c.in-If.else_arm c.in-If.is no_more
-        ∙ ap (λ xs. decides c.in-If.cond (stmts c.in-If.then_arm.items) (stmts xs) no_more) (sym c.deref-in-If.ensures.value)) (reverse c.args.walk.now.heads.items) c.requires.nest,
-    c.requires.there,
+    (
+      nest_else c.args.around.level c.args.around.reach.now c.args.stmt.now c.args.walk.now.tos.items c.in_ok-copied-in-If.field-0 c.push-in-If.new.self.items c.args.set.now c.in_ok-copied-in-If.ensures
+          c.in_ok-push-in-If.ensures.items c.in-If.cond (stmts c.in-If.then_arm.items) (stmts c.deref-in-If.result.now)
+          (if_is c.args.stmt.now c.in-If.cond c.in-If.then_arm c.in-If.else_arm c.in-If.is no_more
+          ∙ ap (λ xs. decides c.in-If.cond (stmts c.in-If.then_arm.items) (stmts xs) no_more) (sym c.deref-in-If.ensures.value)) (reverse c.args.walk.now.heads.items) c.requires.nest,
+      c.requires.there,
+    ),
   ),
 )
 
@@ -133,16 +141,18 @@ put_stmt_rows-put_body_rows-requires-in-If-2 t c = (
     then_countable c.args.calls.numbers.now c.args.stmt.now c.args.walk.now.tos.items c.in-If.cond (stmts c.deref-in-If-2.result.now) (stmts c.deref-in-If.result.now) c.args.calls.last c.in_ok-middle-in-If.middle
         (if_is c.args.stmt.now c.in-If.cond c.in-If.then_arm c.in-If.else_arm c.in-If.is no_more
         ∙ (λ j. decides c.in-If.cond (stmts (sym c.deref-in-If-2.ensures.value j)) (stmts (sym c.deref-in-If.ensures.value j)) no_more)) c.in_ok-middle-in-If.ensures.rows.told.places c.requires.calls,
-    nest_then c.args.around.level c.args.around.reach.now c.args.stmt.now c.args.walk.now.tos.items c.in_ok-copied-in-If.field-0 c.push-in-If.new.self.items c.args.set.now c.in_ok-copied-in-If.ensures
-        c.in_ok-push-in-If.ensures.items c.in-If.cond (stmts c.deref-in-If-2.result.now) (stmts c.deref-in-If.result.now)
-        (if_is c.args.stmt.now c.in-If.cond c.in-If.then_arm c.in-If.else_arm c.in-If.is no_more
-        ∙ (λ j. decides c.in-If.cond (stmts (sym c.deref-in-If-2.ensures.value j)) (stmts (sym c.deref-in-If.ensures.value j)) no_more))
-        (reverse c.args.walk.now.heads.items) c.requires.nest c.put_body_rows-in-If.new.walk.tos.items c.deref_mut-in-If.result.now (reverse c.put_body_rows-in-If.new.walk.heads.items)
-        c.in_ok-middle-in-If.ensures.passed.labels (c.deref_mut-in-If.ensures.value ∙ c.in_ok-other-in-If.ensures) c.in_ok-middle-in-If.ensures.heads,
-    subst (λ z. StandsAt c.args.calls.numbers.now c.in_ok-middle-in-If.middle (length z) c.settle_all-in-If.new.keeping) (sym (c.deref_mut-in-If.ensures.value ∙ c.in_ok-other-in-If.ensures))
-        (stands_settled c.args.calls.numbers.now c.in_ok-middle-in-If.middle (length c.args.set.now) (length c.args.set.now) c.put_body_rows-in-If.new.set (λ x. true)
-        c.put_body_rows-in-If.new.keeping c.settle_all-in-If.new.keeping c.in_ok-middle-in-If.ensures.passed.tells.size c.in_ok-middle-in-If.ensures.rows.there
-        c.in_ok-settle_all-in-If.ensures),
+    (
+      nest_then c.args.around.level c.args.around.reach.now c.args.stmt.now c.args.walk.now.tos.items c.in_ok-copied-in-If.field-0 c.push-in-If.new.self.items c.args.set.now c.in_ok-copied-in-If.ensures
+          c.in_ok-push-in-If.ensures.items c.in-If.cond (stmts c.deref-in-If-2.result.now) (stmts c.deref-in-If.result.now)
+          (if_is c.args.stmt.now c.in-If.cond c.in-If.then_arm c.in-If.else_arm c.in-If.is no_more
+          ∙ (λ j. decides c.in-If.cond (stmts (sym c.deref-in-If-2.ensures.value j)) (stmts (sym c.deref-in-If.ensures.value j)) no_more))
+          (reverse c.args.walk.now.heads.items) c.requires.nest c.put_body_rows-in-If.new.walk.tos.items c.deref_mut-in-If.result.now (reverse c.put_body_rows-in-If.new.walk.heads.items)
+          c.in_ok-middle-in-If.ensures.passed.labels (c.deref_mut-in-If.ensures.value ∙ c.in_ok-other-in-If.ensures) c.in_ok-middle-in-If.ensures.heads,
+      subst (λ z. StandsAt c.args.calls.numbers.now c.in_ok-middle-in-If.middle (length z) c.settle_all-in-If.new.keeping) (sym (c.deref_mut-in-If.ensures.value ∙ c.in_ok-other-in-If.ensures))
+          (stands_settled c.args.calls.numbers.now c.in_ok-middle-in-If.middle (length c.args.set.now) (length c.args.set.now) c.put_body_rows-in-If.new.set (λ x. true)
+          c.put_body_rows-in-If.new.keeping c.settle_all-in-If.new.keeping c.in_ok-middle-in-If.ensures.passed.tells.size c.in_ok-middle-in-If.ensures.rows.there
+          c.in_ok-settle_all-in-If.ensures),
+    ),
   ),
 )
 
