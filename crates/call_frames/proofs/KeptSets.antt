@@ -1,10 +1,9 @@
 -- Sets that the calls of each local tell: what is made of these calls is what it is of the sets.
-use Rattle.std.proofs.Common.{◌≡◌, ◌∙◌, ℕ, zero, suc, ◌+◌, ◌*◌, ◌^◌, ◌<◌, ◌≤◌, List, [], ◌∷◌, length, map, take, Bool, All, sym, ap, subst, arith}
+use Rattle.std.proofs.Common.{◌≡◌, ◌∙◌, ℕ, zero, suc, ◌*◌, ◌^◌, ◌<◌, ◌≤◌, List, [], ◌∷◌, length, map, take, Bool, All, sym, ap, subst, arith}
 use Rattle.std.specs.Prelude.{Vec}
 use Rattle.std.specs.declared.alloc.Global.{Global}
 use Rattle.std.proofs.lemmas.List.{take_all}
 use Rattle.wa_types.specs.declared.values.ValType.{ValType}
-use Rattle.call_frames.specs.PlainFrames.{SavedPart}
 use Rattle.call_frames.specs.declared.frames.CallClass.{CallClass}
 use Rattle.call_frames.specs.declared.frames.KeptPart.{KeptPart}
 use Rattle.call_frames.specs.CallParts.{grouped, grouped_by, groups, kept_by_sets, shared_where}

@@ -1,7 +1,7 @@
 -- Calls as rows: calls in a row before them, and rows of which the first stands last.
 use Rattle.std.proofs.Common.{◌≡◌, ◌∙◌, ℕ, zero, suc, ◌+◌, ◌<◌, ◌^◌, List, [], ◌∷◌, ◌++◌, length, reverse, take, get_or, Bool, true, false, nat_eq, refl, sym, ap, subst, arith, eq-eqb, eqb-true}
 use Rattle.std.specs.Prelude.{if◌then◌else◌, slice_set}
-use Rattle.std.proofs.lemmas.List.{append-nil, append_assoc, reverse-append}
+use Rattle.std.proofs.lemmas.List.{append_assoc, reverse-append}
 use Rattle.call_frames.specs.CallTests.{CallRow}
 use Rattle.call_frames.specs.PlainFrames.{onto_rows, rows_of}
 use Rattle.call_frames.specs.CallRows.{AreRows, RowsFit, numbers_in, row_view, row_views, upto}

@@ -1,14 +1,14 @@
 -- Sets of locals, made again from the calls that keep each local.
-use Rattle.std.proofs.Common.{◌≡◌, ◌∙◌, ℕ, zero, suc, ◌+◌, ◌-◌, ◌<◌, ◌≤◌, ◌⊎◌, inl, inr, List, [], ◌∷◌, ◌++◌, length, get_or, map, take, Bool, true, false, ◌&&◌, ◌||◌, nat_eq, All, refl, sym, ap, subst, arith, get_or-set_same, get_or-set_other, length-set}
+use Rattle.std.proofs.Common.{◌≡◌, ◌∙◌, ℕ, zero, suc, ◌+◌, ◌-◌, ◌<◌, ◌≤◌, ◌⊎◌, inl, inr, List, [], ◌∷◌, ◌++◌, length, get_or, take, Bool, true, false, ◌&&◌, ◌||◌, nat_eq, All, refl, sym, ap, subst, arith, get_or-set_same, get_or-set_other, length-set}
 use Rattle.std.specs.Prelude.{if◌then◌else◌, nat_lt, replicate, slice_set, Vec}
 use Rattle.std.specs.List.{list_any}
 use Rattle.std.specs.declared.alloc.Global.{Global}
 use Rattle.std.proofs.lemmas.Bool.{cases_eq, cases_lt, eq-eqb, ne_eqb, le-ltb, lt-ltb}
-use Rattle.std.proofs.lemmas.List.{append-nil, append_assoc, ext_get_or, get_or-map, get_or-replicate, get_or-take, get_or_past, length-map, length-replicate, length-take-le, map_more, take_all}
+use Rattle.std.proofs.lemmas.List.{append-nil, append_assoc, ext_get_or, get_or-map, get_or-take, length-map, length-replicate, length-take-le, map_more, take_all}
 use Rattle.std.proofs.lemmas.List.Folds.{list_any-append}
 use Rattle.call_frames.specs.CallTests.{CallRow}
 use Rattle.call_frames.specs.CallRows.{counted, numbers_in, row_view, row_views, upto}
-use Rattle.call_frames.specs.Classes.{AreKept, MadeAgain, Noted, SizedAbove, set_has, set_keepers}
+use Rattle.call_frames.specs.Classes.{MadeAgain, Noted, SizedAbove, set_has, set_keepers}
 use Rattle.call_frames.specs.Views.{sets_of}
 use Rattle.call_frames.specs.declared.rows.Row.{Row}
 
@@ -243,13 +243,13 @@ below_next kept_by count local ks old new e h j = record {
           (λ i. (le-ltb x local (omega (arith, q)) i && any_kept kept_by k x) || (any_kept kept_by k (sym q i) && eq-eqb x local q i)) ∙ at_it (any_kept kept_by k x)
           ∙ ap (λ b. b && any_kept kept_by k x) (sym (lt-ltb x (local + 1) (omega (arith, q))))
       | inr ne ↦ elim (cases_lt x local) [
-          | inl l ↦
-              (λ i. (lt-ltb x local l i && any_kept kept_by k x) || (any_kept kept_by k local && ne_eqb x local ne i)) ∙ below (any_kept kept_by k x) (any_kept kept_by k local)
-              ∙ ap (λ b. b && any_kept kept_by k x) (sym (lt-ltb x (local + 1) (omega (arith, l))))
-          | inr g ↦
-              (λ i. (le-ltb x local g i && any_kept kept_by k x) || (any_kept kept_by k local && ne_eqb x local ne i)) ∙ above (any_kept kept_by k x) (any_kept kept_by k local)
-              ∙ ap (λ b. b && any_kept kept_by k x) (sym (le-ltb x (local + 1) (omega (arith, g, ne))))
-        ]
+        | inl l ↦
+            (λ i. (lt-ltb x local l i && any_kept kept_by k x) || (any_kept kept_by k local && ne_eqb x local ne i)) ∙ below (any_kept kept_by k x) (any_kept kept_by k local)
+            ∙ ap (λ b. b && any_kept kept_by k x) (sym (lt-ltb x (local + 1) (omega (arith, l))))
+        | inr g ↦
+            (λ i. (le-ltb x local g i && any_kept kept_by k x) || (any_kept kept_by k local && ne_eqb x local ne i)) ∙ above (any_kept kept_by k x) (any_kept kept_by k local)
+            ∙ ap (λ b. b && any_kept kept_by k x) (sym (le-ltb x (local + 1) (omega (arith, g, ne))))
+      ]
     ]
 
 -- ---- they are the sets

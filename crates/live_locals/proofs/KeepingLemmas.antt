@@ -1,8 +1,7 @@
 -- The calls that keep each local, as they are told.
-use Rattle.std.proofs.Common.{◌≡◌, ◌∙◌, ℕ, zero, suc, ◌+◌, ◌-◌, ◌<◌, ◌≤◌, ◌⊎◌, inl, inr, List, [], ◌∷◌, ◌++◌, length, get_or, take, Option, Some, None, Bool, true, false, ◌&&◌, ◌||◌, not, nat_eq, refl, sym, ap, subst, arith, get_or-set_same, get_or-set_other, length-set}
-use Rattle.std.specs.Prelude.{if◌then◌else◌, nat_lt, replicate, slice_set, Vec}
+use Rattle.std.proofs.Common.{◌≡◌, ◌∙◌, ℕ, zero, suc, ◌+◌, ◌-◌, ◌<◌, ◌≤◌, inl, inr, List, [], ◌∷◌, ◌++◌, length, get_or, take, Bool, true, false, ◌&&◌, ◌||◌, nat_eq, refl, sym, ap, subst, arith, get_or-set_same, get_or-set_other, length-set}
+use Rattle.std.specs.Prelude.{if◌then◌else◌, nat_lt, slice_set}
 use Rattle.std.specs.List.{list_any}
-use Rattle.std.specs.declared.alloc.Global.{Global}
 use Rattle.std.proofs.lemmas.Bool.{cases_eq, eq-eqb, eqb-true, lt-ltb, ltb-true, ne_eqb}
 use Rattle.std.proofs.lemmas.List.{get_or_default, take_all}
 use Rattle.std.proofs.lemmas.List.Folds.{list_any_more}
@@ -211,11 +210,11 @@ module _ (set : List Bool) where
                 ∙ ap (λ y. start.left ∷ kept_on (suc start.left) (get_or start.since.items y 0) (has set y) (get_or start.rows.items y [])) (sym e),
           )
           | inr ne ↦ (
-            let own = h.held x lt (left_true (test x) (nat_eq x at) t (ne_eqb x at ne)) in (
-              settled_still at mid new ks within h.stands el es er x own.0,
-              rows_there at mid new ks within h.stands el es er x ne ∙ own.1,
-            )
-          )
+              let own = h.held x lt (left_true (test x) (nat_eq x at) t (ne_eqb x at ne)) in (
+                settled_still at mid new ks within h.stands el es er x own.0,
+                rows_there at mid new ks within h.stands el es er x ne ∙ own.1,
+              )
+              )
         ];
         rest = λ x lt t.
             let both = both_false (test x) (nat_eq x at) t in

@@ -1,5 +1,5 @@
 -- A statement leaves whether a local is read first as it was where it doesn't touch the local.
-use Rattle.std.proofs.Common.{◌≡◌, ◌∙◌, ℕ, suc, ◌<◌, List, [], ◌∷◌, length, Option, Some, None, Bool, true, false, ◌&&◌, ◌||◌, not, nat_eq, refl, sym, ap, subst, arith}
+use Rattle.std.proofs.Common.{◌≡◌, ◌∙◌, ℕ, ◌<◌, List, [], ◌∷◌, length, Option, Some, None, Bool, true, false, ◌&&◌, ◌||◌, not, nat_eq, refl, sym, ap}
 use Rattle.std.specs.Prelude.{Vec}
 use Rattle.std.specs.List.{list_any}
 use Rattle.std.specs.declared.alloc.Global.{Global}
@@ -12,13 +12,13 @@ use Rattle.wa_model.specs.declared.flat.Operand.{Operand}
 use Rattle.wa_model.specs.declared.flat.Operand.TheVariants.{Local, Const}
 use Rattle.wa_model.specs.declared.flat.Stmt.{Stmt, roll-Stmt, roll-out-Stmt}
 use Rattle.wa_model.specs.declared.flat.Stmt.TheVariants.{Plain as PlainStmt, Move, Call as CallStmt, Br as BrStmt, BrIf as BrIfStmt, BrTable as BrTableStmt, Block, Loop, If, Unreachable as UnreachableStmt, Block', Loop', If', rolls-Block, rolls-Loop, rolls-If, outs-Block', outs-Loop', outs-If'}
-use Rattle.run_theory.specs.Flat.{Stmts, no_more, followed_by, got, all_got, set_to, code_of}
+use Rattle.run_theory.specs.Flat.{no_more, followed_by, got, all_got, set_to, code_of}
 use Rattle.run_theory.specs.FlatView.{stmt_in_front}
 use Rattle.live_locals.specs.Ops.{IsComputation, OpsFit}
 use Rattle.live_locals.specs.Keeping.{Settles, calls_kept, is_it, is_local, op_touches, touches}
-use Rattle.live_locals.specs.Sets.{has, told_by, TellsBefore}
+use Rattle.live_locals.specs.Sets.{has, TellsBefore}
 use Rattle.live_locals.specs.declared.keeping.Keeping.{Keeping}
-use Rattle.live_locals.proofs.KeepingLemmas.{kept_any, kept_same, settles_then, settles_weaker}
+use Rattle.live_locals.proofs.KeepingLemmas.{kept_any, kept_same, settles_weaker}
 
 neither : (b c : Bool) → (b || c) ≡ false → (b ≡ false) × (c ≡ false)
 neither true c e = cc

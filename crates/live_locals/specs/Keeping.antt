@@ -1,5 +1,5 @@
 -- The calls that keep each local, as far as a walk from the last call on has come.
-use Rattle.std.specs.Prelude.{◌≡◌, ◌<◌, ◌≤◌, ◌+◌, ◌-◌, ◌||◌, ◌&&◌, ℕ, zero, suc, List, [], ◌∷◌, ◌++◌, length, get_or, nat_eq, Option, Some, None, Bool, true, false, if◌then◌else◌}
+use Rattle.std.specs.Prelude.{◌≡◌, ◌<◌, ◌≤◌, ◌+◌, ◌-◌, ◌||◌, ◌&&◌, ℕ, suc, List, [], ◌∷◌, ◌++◌, length, get_or, nat_eq, Option, Some, None, Bool, true, false, if◌then◌else◌}
 use Rattle.std.specs.List.{list_any}
 use Rattle.wa_types.specs.Syntax.{local_get, local_set, local_tee, Code, done, plain}
 use Rattle.wa_model.specs.declared.flat.Operand.{Operand}

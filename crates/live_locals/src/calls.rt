@@ -1,6 +1,6 @@
 //! The calls that keep each local of a function, and the sets of its numbered calls.
 
-ghost use Rattle.std.specs.Prelude.{◌≡◌, ◌<◌, ◌≤◌, ◌+◌, ◌^◌, All, List, map, Vec, Bool, IfOk};
+ghost use Rattle.std.specs.Prelude.{◌≡◌, ◌<◌, ◌+◌, ◌^◌, All, Vec, IfOk};
 ghost use Rattle.run_theory.specs.Flat.{no_more};
 ghost use Rattle.run_theory.specs.FlatView.{flat_func_of, stmt_in_front, stmts};
 ghost use Rattle.run_theory.specs.FlatFits.{FlatFits};
@@ -56,11 +56,7 @@ fn count_stmt_calls(stmt: &Stmt, before: u32) -> u32
 /// of the numbered calls among all calls; they rise. A statement is passed over a few times, and once more for each 63 loops around it and
 /// each time that one of these is at most half of what it stands in; each branch and construct takes time linear in the number of locals,
 /// and what stands between them in what it names.
-pub fn live_rows(
-    alloc: Global,
-    func: &FlatFunc,
-    numbers: &[u32],
-) -> Result<Vec<Calls>, AllocError>
+pub fn live_rows(alloc: Global, func: &FlatFunc, numbers: &[u32]) -> Result<Vec<Calls>, AllocError>
     requires fits { FlatFits (flat_func_of func.now) }
     requires rises { Rises numbers.now }
     requires calls { All (λ n. n < call_total (flat_func_of func.now).body) numbers.now }

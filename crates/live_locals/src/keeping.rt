@@ -29,11 +29,7 @@ pub(crate) struct Keeping {
 }
 
 /// So many calls are to come, and none keeps one of so many locals so far.
-pub(crate) fn nothing_kept(
-    alloc: Global,
-    left: u32,
-    count: usize,
-) -> Result<Keeping, AllocError>
+pub(crate) fn nothing_kept(alloc: Global, left: u32, count: usize) -> Result<Keeping, AllocError>
     ensures left { IfOk result (λ v. v.left ≡ left) }
     ensures since { IfOk result (λ v. v.since.items ≡ replicate count left) }
     ensures rows { IfOk result (λ v. v.rows.items ≡ replicate count []) }
@@ -47,12 +43,7 @@ pub(crate) fn nothing_kept(
 }
 
 /// Tells the calls from the first up to an end, where told.
-fn put_told(
-    rows: &mut LaterCalls,
-    told: bool,
-    first: u32,
-    end: u32,
-) -> Result<(), AllocError>
+fn put_told(rows: &mut LaterCalls, told: bool, first: u32, end: u32) -> Result<(), AllocError>
     requires { first ≤ end }
     ensures { OnOk result (rows.new ≡ (if told then counted first (end - first) else []) ++ rows.old) }
 {
@@ -66,11 +57,7 @@ fn put_told(
 }
 
 /// Tells the calls of a local.
-pub(crate) fn settle(
-    keeping: &mut Keeping,
-    set: &[bool],
-    at: usize,
-) -> Result<(), AllocError>
+pub(crate) fn settle(keeping: &mut Keeping, set: &[bool], at: usize) -> Result<(), AllocError>
     requires { Stands (length set.now) keeping.old }
     ensures { OnOk result (Settles set.now (λ x. nat_eq x at) keeping.old keeping.new) }
 {
@@ -99,11 +86,7 @@ pub(crate) fn settle_told(
 }
 
 /// Tells those of an operand.
-fn settle_operand(
-    keeping: &mut Keeping,
-    set: &[bool],
-    operand: Operand,
-) -> Result<(), AllocError>
+fn settle_operand(keeping: &mut Keeping, set: &[bool], operand: Operand) -> Result<(), AllocError>
     requires { Stands (length set.now) keeping.old }
     ensures { OnOk result (Settles set.now (λ x. is_local x operand) keeping.old keeping.new) }
 {
@@ -129,11 +112,7 @@ fn settle_operands(
 }
 
 /// Tells those of some locals.
-fn settle_slots(
-    keeping: &mut Keeping,
-    set: &[bool],
-    slots: &[u32],
-) -> Result<(), AllocError>
+fn settle_slots(keeping: &mut Keeping, set: &[bool], slots: &[u32]) -> Result<(), AllocError>
     requires { Stands (length set.now) keeping.old }
     ensures { OnOk result (Settles set.now (λ x. list_any (nat_eq x) slots.now) keeping.old keeping.new) }
 {
@@ -155,11 +134,7 @@ pub(crate) fn settle_all(keeping: &mut Keeping, set: &[bool]) -> Result<(), Allo
 }
 
 /// Tells those of the local of a computation.
-fn settle_op(
-    keeping: &mut Keeping,
-    set: &[bool],
-    op: &Instr,
-) -> Result<(), AllocError>
+fn settle_op(keeping: &mut Keeping, set: &[bool], op: &Instr) -> Result<(), AllocError>
     requires { Stands (length set.now) keeping.old }
     ensures { OnOk result (Settles set.now (λ x. op_touches x (in_front op.now done)) keeping.old keeping.new) }
 {
@@ -221,11 +196,7 @@ fn hold(keeping: &mut Keeping, set: &[bool], at: usize) -> Result<(), AllocError
 }
 
 /// Tells that it keeps some locals.
-fn hold_slots(
-    keeping: &mut Keeping,
-    set: &[bool],
-    slots: &[u32],
-) -> Result<(), AllocError>
+fn hold_slots(keeping: &mut Keeping, set: &[bool], slots: &[u32]) -> Result<(), AllocError>
     requires stands { Stands (length set.now) keeping.old }
     requires untold { AllOpen (length set.now) keeping.old }
     ensures { OnOk result (Holds set.now (λ x. list_any (nat_eq x) slots.now) keeping.old keeping.new) }

@@ -1,4 +1,4 @@
-use Rattle.std.proofs.Common.{◌≡◌, ◌∙◌, ap, arith, length, get_or, nat_eq, refl, sym, subst, []}
+use Rattle.std.proofs.Common.{◌∙◌, arith, length, nat_eq, refl, sym, subst, []}
 use Rattle.std.specs.List.{list_any}
 use Rattle.std.proofs.lemmas.List.{get_or_default}
 use Rattle.call_frames.specs.Classes.{Noted}

@@ -18,9 +18,11 @@ use Rattle.func_rewrite.proofs.live_function.live_func.Goals as goal
 pub saved_parts-requires-clause-kept : goal.saved_parts-requires-clause-kept
 saved_parts-requires-clause-kept c =
     let calls = c.args.calls.now in
-    let calls_are = c.requires.calls.rows in
-    (calls_are.sets, kept_lent c.args.flat.now.func.locals.items c.deref-2.result.now calls.numbers.items c.len-count.result calls_are.sets calls.rows.items c.deref.result.now c.deref-2.ensures.value
-    (c.len-count.ensures ∙ calls.numbers.ok.0) c.deref.ensures.value calls_are.kept)
+    let calls_are = c.requires.calls.rows in (
+      calls_are.sets,
+      kept_lent c.args.flat.now.func.locals.items c.deref-2.result.now calls.numbers.items c.len-count.result calls_are.sets calls.rows.items c.deref.result.now c.deref-2.ensures.value
+          (c.len-count.ensures ∙ calls.numbers.ok.0) c.deref.ensures.value calls_are.kept,
+    )
 
 pub saved_parts-requires-clause-few : goal.saved_parts-requires-clause-few
 saved_parts-requires-clause-few c =

@@ -1,4 +1,4 @@
-use Rattle.std.proofs.Common.{◌-◌, ◌<◌, ◌++◌, ◌∙◌, [], ap, arith, length, refl, suc, sym}
+use Rattle.std.proofs.Common.{◌-◌, ◌<◌, ◌++◌, ◌∙◌, [], ap, arith, length, refl, suc}
 use Rattle.std.specs.Prelude.{if◌then◌else◌}
 use Rattle.std.proofs.lemmas.List.{get_or_read}
 use Rattle.call_frames.specs.CallRows.{upto}

@@ -1,4 +1,4 @@
-use Rattle.std.proofs.Common.{◌-◌, ◌<◌, ◌++◌, ◌∙◌, ◌≡◌, [], ap, arith, get_or, length, refl, sym}
+use Rattle.std.proofs.Common.{◌-◌, ◌<◌, ◌∙◌, [], arith, length, refl}
 use Rattle.std.proofs.lemmas.List.{get_or_read}
 use Rattle.live_locals.specs.Keeping.{kept_on}
 use Rattle.live_locals.specs.Sets.{has}

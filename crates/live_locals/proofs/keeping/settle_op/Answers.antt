@@ -1,4 +1,4 @@
-use Rattle.std.proofs.Common.{◌≡◌, ◌∙◌, ap, false, nat_eq, sym, true}
+use Rattle.std.proofs.Common.{◌≡◌, ◌∙◌, false, nat_eq, sym, true}
 use Rattle.std.proofs.lemmas.Result.{on_ok_weaker}
 use Rattle.wa_types.specs.Syntax.{done}
 use Rattle.wa_types.specs.View.{in_front}

@@ -1,4 +1,4 @@
-use Rattle.std.proofs.Common.{◌∙◌, ap, ◌≡◌, false, nat_eq, refl, sym, true}
+use Rattle.std.proofs.Common.{◌∙◌, ap, ◌≡◌, false, nat_eq, sym, true}
 use Rattle.std.proofs.lemmas.Result.{on_ok_weaker}
 use Rattle.live_locals.specs.Keeping.{is_it}
 use Rattle.live_locals.proofs.KeepingLemmas.{settles_none}
