@@ -20,11 +20,14 @@ pub mod Resumed
 pub mod SameGood
 pub mod StartFirst
 pub mod Stores
+pub mod StrandLines
 pub mod StrandModules
 pub mod StrandWorlds
+pub mod Stretches
 pub mod Switch
 pub mod Threads
 pub mod Turns
+pub mod TwoActors
 pub mod Waking
 pub mod Weaving
 pub mod WholeRuns

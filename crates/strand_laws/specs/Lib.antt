@@ -2,5 +2,6 @@ pub mod EmittedStrands
 pub mod Example
 pub mod StrandWorld
 pub mod Strands
+pub mod Weaving
 pub mod WorldExample
 pub mod Woven

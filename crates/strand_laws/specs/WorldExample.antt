@@ -1,6 +1,5 @@
 -- Scripts of two strands, and the lines of their worlds.
 use Rattle.std.specs.Prelude.{◌≡◌, ℕ, List, [], ◌∷◌, Some, None, true, codes}
-use Rattle.wa_types.specs.declared.values.ValType.{ValType}
 use Rattle.wa_types.specs.declared.values.ValType.TheVariants.{I32, I64}
 use Rattle.wa_types.specs.declared.values.Value.{Value}
 use Rattle.wa_types.specs.declared.values.Value.TheVariants as V
@@ -17,7 +16,7 @@ use Rattle.wa_model.specs.Plan.{Outcome}
 use Rattle.image_laws.specs.Example.{saving}
 use Rattle.strand_laws.specs.Example.{of_strand, said_after}
 use Rattle.strand_laws.specs.Strands.{BlockingStrands, Strand, StrandEvent, StrandProgram, events_told}
-use Rattle.strand_laws.specs.StrandWorld.{BlockingStrandWorld, StrandLine, StrandOriginal, StrandsInWorld}
+use Rattle.strand_laws.specs.StrandWorld.{BlockingStrandWorld, StrandLine, StrandOriginal}
 
 -- ---- two modules
 

@@ -11,8 +11,16 @@
 //! `proofs/Paused.antt` has the first half of a pause, `proofs/Resumed.antt` the second over the store of the moment,
 //! `proofs/EndsThere.antt` where a strand ends alone; `proofs/StrandWorlds.antt` and the files above it put all strands side by side, and
 //! `proofs/StrandModules.antt` has that emitted modules meet what is asked.
+//!
+//! `specs/StrandWorld.antt` has worlds of strands: each strand is an actor, the strands of one program tell one woven run, and the world has the
+//! order of all. `specs/Weaving.antt` has laws of weaving, and `specs/WorldExample.antt` scripts of two strands with the lines of their worlds.
 #![tactic(auto)]
 
 mod emitted_strands;
+mod world_strands;
 
 pub use emitted_strands::{strand_pauses_at_numbers, strands_of_emitted, three_strands_take_turns};
+pub use world_strands::{
+    narrow_area_ends_the_program, strands_share_a_store, stretches_are_woven, trap_ends_its_strand,
+    wrong_readings_are_refused,
+};

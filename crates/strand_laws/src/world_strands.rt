@@ -1,0 +1,31 @@
+//! Worlds of strands. Each is the contract of a function that does nothing.
+
+ghost use Rattle.strand_laws.specs.Weaving.{AllStretchesAreWoven};
+ghost use Rattle.strand_laws.specs.WorldExample.{DividingTellsItsLines, NarrowTellsItsLines, StrandReadings, SummingTellsItsLines};
+
+/// A stretch of the strand that goes on, in which no turn ends, is one of the woven machine at its cost, under the protocol and with
+/// blocking imports; the other strands stay.
+pub fn stretches_are_woven()
+    ensures { AllStretchesAreWoven }
+{}
+
+/// Two strands over one store: the second is answered first, and the first one goes on over what that has left, with the lines of the
+/// world to the end, their ticks, and what is shown behind them.
+pub fn strands_share_a_store()
+    ensures { SummingTellsItsLines }
+{}
+
+/// A trap ends its strand alone, and the other goes on over the memory that both have grown.
+pub fn trap_ends_its_strand()
+    ensures { DividingTellsItsLines }
+{}
+
+/// An unwind that traps ends the program, and a strand that waits tells nothing more.
+pub fn narrow_area_ends_the_program()
+    ensures { NarrowTellsItsLines }
+{}
+
+/// A strand doesn't go on over the globals of its pause, and a trap isn't the program's end.
+pub fn wrong_readings_are_refused()
+    ensures { StrandReadings }
+{}
