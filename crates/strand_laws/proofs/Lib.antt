@@ -1,6 +1,8 @@
+pub mod AllByTurns
 pub mod Apart
 pub mod Beginnings
 pub mod Between
+pub mod ByTurns
 pub mod Clear
 pub mod Compared
 pub mod Emitted
@@ -26,6 +28,7 @@ pub mod StrandWorlds
 pub mod Stretches
 pub mod Switch
 pub mod Threads
+pub mod TurnEnds
 pub mod Turns
 pub mod TwoActors
 pub mod Waking

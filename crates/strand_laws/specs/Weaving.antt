@@ -1,11 +1,14 @@
 -- Laws of weaving.
-use Rattle.std.specs.Prelude.{◌≡◌, ℕ, ◌<◌, List, [], ◌∷◌, length, false}
+use Rattle.std.specs.Prelude.{◌≡◌, ℕ, ◌+◌, ◌<◌, ◌≤◌, ◌⊎◌, List, [], ◌∷◌, length, replicate, Option, Some, None, Bool, true, false, slice_get}
 use Rattle.wa_types.specs.Pausing.{Settings}
 use Rattle.wa_model.specs.Blocking.{Note}
 use Rattle.wa_model.specs.Machine.{Leads}
+use Rattle.wa_model.specs.Outside.{Event, ended, paused}
+use Rattle.wa_model.specs.Plan.{Outcome}
 use Rattle.world_model.specs.World.{ends_turn}
 use Rattle.strand_laws.specs.Strands.{StrandProgram, held_loom, strung_loom}
-use Rattle.strand_laws.specs.Woven.{Loom, Thread, going, told_by, weave}
+use Rattle.strand_laws.specs.StrandWorld.{HeldStrands, StrandsInWorld, StrungStrands}
+use Rattle.strand_laws.specs.Woven.{Loom, Thread, Told, going, put, told_by, weave}
 
 -- none of these notes ends a turn
 abbrev pub EndNoTurn : List Note → Type 0
@@ -25,3 +28,65 @@ pub record StrandStretches (s : Settings) (g : StrandProgram) : Type 0 where
 
 abbrev pub AllStretchesAreWoven : Type 0
 AllStretchesAreWoven = (s : Settings) (g : StrandProgram) → StrandStretches s g
+
+-- ---- turns
+
+-- Strands as a world knows them: when each is due, and whether it has ended.
+abbrev pub Dues : Type 0
+Dues = List (Thread (Unit {0}))
+
+-- when a strand is due
+abbrev pub due_in : {S : Type 0} → Option (Thread S) → ℕ
+due_in None = 0
+due_in (Some t) = t.due
+
+-- there is something
+abbrev pub is_there : {S : Type 0} → Option S → Bool
+is_there None = false
+is_there (Some s) = true
+
+-- a strand hasn't ended
+abbrev pub is_ready : {S : Type 0} → Option (Thread S) → Bool
+is_ready None = false
+is_ready (Some t) = is_there t.at
+
+-- the least pair of due tick and number among the strands that haven't ended
+pub record IsDueFirst (v : Dues) (i : ℕ) : Type 0 where
+  pub ready : is_ready (slice_get v i) ≡ true
+  pub least : (j : ℕ) → is_ready (slice_get v j) ≡ true → (due_in (slice_get v i) < due_in (slice_get v j)) ⊎ ((due_in (slice_get v i) ≡ due_in (slice_get v j)) × (i ≤ j))
+
+-- the strand that goes on behind an event, if its turn goes on
+abbrev pub now_behind : (strand : ℕ) → Event → Option ℕ
+now_behind i (paused ticks used) = None
+now_behind i (ended how) = None
+now_behind i _ = Some i
+
+-- behind a pause its strand is due so much later, and behind its end it is gone
+abbrev pub dues_behind : (strand : ℕ) → Event → Dues → Dues
+dues_behind i (paused ticks used) v = put i (due_in (slice_get v i) + ticks) (Some tt) v
+dues_behind i (ended how) v = put i (due_in (slice_get v i)) None v
+dues_behind i _ v = v
+
+-- it is this strand's turn: it goes on, or where none does it is due first
+abbrev pub HasTurn : Option ℕ → Dues → ℕ → Type 0
+HasTurn None v k = IsDueFirst v k
+HasTurn (Some i) v k = i ≡ k
+
+-- What strands told goes by turns, each of the strand that is due first then, up to its pause or its end.
+abbrev pub GoesByTurns : Option ℕ → Dues → List Told → Type 0
+GoesByTurns now v [] = Unit {0}
+GoesByTurns now v (t ∷ ts) = HasTurn now v t.strand × GoesByTurns (now_behind t.strand t.note.event) (dues_behind t.strand t.note.event v) ts
+
+-- so many strands, all due at 0
+abbrev pub all_due : ℕ → Dues
+all_due n = replicate n (record { due = 0; at = Some tt })
+
+-- What a program's strands tell in a world goes by turns from their start on.
+pub record StrandsGoByTurns (s : Settings) (g : StrandsInWorld) (oss : List (List Outcome)) (ts : List Told) : Type 0 where
+  pub held : HeldStrands g oss ts → GoesByTurns None (all_due (length g.program.strands)) ts
+  pub strung : StrungStrands s g oss ts → GoesByTurns None (all_due (length g.program.strands)) ts
+
+abbrev pub AllGoByTurns : Type 0
+AllGoByTurns =
+    (s : Settings) (g : StrandsInWorld) (oss : List (List Outcome)) (ts : List Told) → 0 < length g.program.strands → length oss ≡ length g.program.strands
+    → StrandsGoByTurns s g oss ts

@@ -1,12 +1,18 @@
 //! Worlds of strands. Each is the contract of a function that does nothing.
 
-ghost use Rattle.strand_laws.specs.Weaving.{AllStretchesAreWoven};
+ghost use Rattle.strand_laws.specs.Weaving.{AllGoByTurns, AllStretchesAreWoven};
 ghost use Rattle.strand_laws.specs.WorldExample.{DividingTellsItsLines, NarrowTellsItsLines, StrandReadings, SummingTellsItsLines};
 
 /// A stretch of the strand that goes on, in which no turn ends, is one of the woven machine at its cost, under the protocol and with
 /// blocking imports; the other strands stay.
 pub fn stretches_are_woven()
     ensures { AllStretchesAreWoven }
+{}
+
+/// What a program's strands tell in either world goes by turns, each of the strand that is due first among those that haven't ended, up to
+/// its pause or its end; also where their steps are spent.
+pub fn strands_go_by_turns()
+    ensures { AllGoByTurns }
 {}
 
 /// Two strands over one store: the second is answered first, and the first one goes on over what that has left, with the lines of the
