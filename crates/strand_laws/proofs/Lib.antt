@@ -30,8 +30,10 @@ pub mod Switch
 pub mod Threads
 pub mod TurnEnds
 pub mod Turns
+pub mod TurnsTold
 pub mod TwoActors
 pub mod Waking
 pub mod Weaving
 pub mod WholeRuns
+pub mod WorldTurns
 pub mod WovenRuns

@@ -1,13 +1,15 @@
 -- Laws of weaving.
-use Rattle.std.specs.Prelude.{◌≡◌, ℕ, ◌+◌, ◌<◌, ◌≤◌, ◌⊎◌, List, [], ◌∷◌, length, replicate, Option, Some, None, Bool, true, false, slice_get}
+use Rattle.std.specs.Prelude.{◌≡◌, ℕ, ◌+◌, ◌<◌, ◌≤◌, ◌⊎◌, nat_eq, if◌then◌else◌, List, [], ◌∷◌, ◌++◌, length, map, replicate, All, Option, Some, None, Bool, true, false, slice_get}
+use Rattle.std.specs.List.{filter_map}
 use Rattle.wa_types.specs.Pausing.{Settings}
+use Rattle.wa_model.specs.declared.answers.Detach.{Detach}
 use Rattle.wa_model.specs.Blocking.{Note}
 use Rattle.wa_model.specs.Machine.{Leads}
 use Rattle.wa_model.specs.Outside.{Event, ended, paused}
 use Rattle.wa_model.specs.Plan.{Outcome}
-use Rattle.world_model.specs.World.{ends_turn}
-use Rattle.strand_laws.specs.Strands.{StrandProgram, held_loom, strung_loom}
-use Rattle.strand_laws.specs.StrandWorld.{HeldStrands, StrandsInWorld, StrungStrands}
+use Rattle.world_model.specs.World.{Device, Look, ends_turn, looks_after}
+use Rattle.strand_laws.specs.Strands.{StrandEvent, StrandProgram, held_loom, strung_loom}
+use Rattle.strand_laws.specs.StrandWorld.{BlockingStrandWorld, HeldStrands, ProtocolStrandWorld, StrandLine, StrandOriginal, StrandsInWorld, StrungStrands, last_strand, looks_if, strand_in}
 use Rattle.strand_laws.specs.Woven.{Loom, Thread, Told, going, put, told_by, weave}
 
 -- none of these notes ends a turn
@@ -90,3 +92,46 @@ abbrev pub AllGoByTurns : Type 0
 AllGoByTurns =
     (s : Settings) (g : StrandsInWorld) (oss : List (List Outcome)) (ts : List Told) → 0 < length g.program.strands → length oss ≡ length g.program.strands
     → StrandsGoByTurns s g oss ts
+
+-- ---- the lines of one program
+
+-- the event of a line, where it is of this program
+abbrev pub event_if : (program : ℕ) → StrandLine → Option StrandEvent
+event_if p l = if nat_eq l.program p then Some (record { strand = l.strand; event = l.event }) else None
+
+-- the events of a program's lines, in order
+abbrev pub events_of_program : (program : ℕ) → List StrandLine → List StrandEvent
+events_of_program p lines = filter_map (event_if p) lines
+
+-- the events of a note: its own, and what is shown behind the end of the strand that tells the last note
+abbrev pub events_at : (last : ℕ) → List Look → Told → List StrandEvent
+events_at last looks t =
+    map (λ (e : Event). record { strand = strand_in t.strand e; event = e }) (t.note.event ∷ looks_after (looks_if (nat_eq last t.strand) looks) t.note t.note.event)
+
+-- the events of all
+abbrev pub events_shown : (last : ℕ) → List Look → List Told → List StrandEvent
+events_shown last looks [] = []
+events_shown last looks (t ∷ ts) = events_at last looks t ++ events_shown last looks ts
+
+-- The lines of a program, picked out of a world's in order, are one woven run of its strands.
+pub record TellsOneRun (story : StrandsInWorld → List (List Outcome) → List Told → Type 0) (g : StrandsInWorld) (program : ℕ) (lines : List StrandLine) : Type 0 where
+  pub outcomes : List (List Outcome)
+  pub told : List Told
+  pub tells : story g outcomes told
+  pub picked : events_of_program program lines ≡ events_shown (last_strand told) g.looks told
+
+-- each program of a world has a strand at least
+abbrev pub HaveStrands : List StrandsInWorld → Type 0
+HaveStrands gs = All (λ (g : StrandsInWorld). 0 < length g.program.strands) gs
+
+-- In the protocol world each program's lines do so.
+abbrev pub HeldProgramsTellOneRun : Type 0
+HeldProgramsTellOneRun =
+    (gs : List StrandsInWorld) (detaches : List Detach) (ds ds' : List Device) (lines : List StrandLine) → HaveStrands gs → ProtocolStrandWorld gs detaches ds lines ds'
+    → (p : ℕ) (g : StrandsInWorld) → slice_get gs p ≡ Some g → TellsOneRun HeldStrands g p lines
+
+-- So do they in the blocking one.
+abbrev pub StrungProgramsTellOneRun : Type 0
+StrungProgramsTellOneRun =
+    (os : List StrandOriginal) (detaches : List Detach) (ds ds' : List Device) (lines : List StrandLine) → HaveStrands (map (λ (o : StrandOriginal). o.program) os)
+    → BlockingStrandWorld os detaches ds lines ds' → (p : ℕ) (o : StrandOriginal) → slice_get os p ≡ Some o → TellsOneRun (StrungStrands o.settings) o.program p lines
