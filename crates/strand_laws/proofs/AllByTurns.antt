@@ -26,7 +26,7 @@ shadow_fresh : {S : Type 0} (ss : List S) → shadow (map (λ (s : S). record { 
 shadow_fresh [] = refl
 shadow_fresh (s ∷ ss) = ap (λ (v : Dues). record { due = 0; at = Some tt } ∷ v) (shadow_fresh ss)
 
-due_zero : (n j : ℕ) → due_in (slice_get (all_due n) j) ≡ 0
+pub due_zero : (n j : ℕ) → due_in (slice_get (all_due n) j) ≡ 0
 due_zero zero j = refl
 due_zero (suc n) zero = refl
 due_zero (suc n) (suc j) = due_zero n j

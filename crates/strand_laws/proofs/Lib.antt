@@ -16,6 +16,7 @@ pub mod MoveKinds
 pub mod Moving
 pub mod NextMoves
 pub mod Numbered
+pub mod OneRun
 pub mod Paused
 pub mod Pausing
 pub mod Resumed

@@ -1,6 +1,6 @@
 //! Worlds of strands. Each is the contract of a function that does nothing.
 
-ghost use Rattle.strand_laws.specs.Weaving.{AllGoByTurns, AllStretchesAreWoven};
+ghost use Rattle.strand_laws.specs.Weaving.{AllGoByTurns, AllStretchesAreWoven, HeldProgramsTellOneRun, StrungProgramsTellOneRun};
 ghost use Rattle.strand_laws.specs.WorldExample.{DividingTellsItsLines, NarrowTellsItsLines, StrandReadings, SummingTellsItsLines};
 
 /// A stretch of the strand that goes on, in which no turn ends, is one of the woven machine at its cost, under the protocol and with
@@ -13,6 +13,17 @@ pub fn stretches_are_woven()
 /// its pause or its end; also where their steps are spent.
 pub fn strands_go_by_turns()
     ensures { AllGoByTurns }
+{}
+
+/// The lines of a program, picked out of a protocol world's in their order, are one woven run of its strands, whatever the other programs do,
+/// with what is shown behind its last end.
+pub fn held_programs_tell_one_run()
+    ensures { HeldProgramsTellOneRun }
+{}
+
+/// So are those of an original, picked out of a blocking world's.
+pub fn strung_programs_tell_one_run()
+    ensures { StrungProgramsTellOneRun }
 {}
 
 /// Two strands over one store: the second is answered first, and the first one goes on over what that has left, with the lines of the
