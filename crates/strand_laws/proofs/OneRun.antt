@@ -1,18 +1,18 @@
 -- In a world of strands each program's lines are one woven run.
-use Rattle.std.proofs.Common.{arith, ◌≡◌, ◌<◌, ◌≤◌, ℕ, zero, suc, ◌+◌, ◌-◌, List, [], ◌∷◌, ◌++◌, length, All, Option, Some, None, true, refl, sym, ap, ◌∙◌, subst}
+use Rattle.std.proofs.Common.{arith, ◌≡◌, ◌<◌, ℕ, zero, suc, ◌+◌, List, [], ◌∷◌, ◌++◌, length, All, Some, None, refl, sym, ap, ◌∙◌, subst}
 use Rattle.std.specs.Prelude.{map, nat_eq, slice_get}
 use Rattle.std.specs.List.{AllZip}
 use Rattle.std.proofs.lemmas.List.Elements.{All-head, All-tail}
-use Rattle.wa_types.specs.Pausing.{Settings, every, save_all}
+use Rattle.wa_types.specs.Pausing.{save_all}
 use Rattle.wa_model.specs.declared.answers.Detach.{Detach}
 use Rattle.wa_model.specs.Plan.{Outcome}
-use Rattle.world_model.specs.World.{Actor, Device, Look, Program}
+use Rattle.world_model.specs.World.{Actor, Device, Program}
 use Rattle.image_laws.specs.Example.{saving}
 use Rattle.strand_laws.proofs.AllByTurns.{all_go_by_turns, due_zero}
 use Rattle.strand_laws.proofs.WorldTurns.{Stands, before, events_tell}
-use Rattle.strand_laws.specs.StrandWorld.{BlockingStrandWorld, HeldStrands, ProtocolStrandWorld, Staged, StartsStrands, StartsStrung, StrandLine, StrandOriginal, StrandRuns, StrandsInWorld, StrungStrands, joined, last_strand, looks_if, notes_of, strand_actors, strand_lines, strand_programs}
+use Rattle.strand_laws.specs.StrandWorld.{HeldStrands, Staged, StartsStrands, StartsStrung, StrandLine, StrandOriginal, StrandRuns, StrandsInWorld, StrungStrands, joined, last_strand, looks_if, notes_of, strand_actors, strand_programs}
 use Rattle.strand_laws.specs.Strands.{Strand, StrandProgram}
-use Rattle.strand_laws.specs.Weaving.{GoesByTurns, HaveStrands, HeldProgramsTellOneRun, StrungProgramsTellOneRun, TellsOneRun, all_due, events_of_program}
+use Rattle.strand_laws.specs.Weaving.{GoesByTurns, HeldProgramsTellOneRun, StrungProgramsTellOneRun, TellsOneRun, all_due, events_of_program}
 use Rattle.strand_laws.specs.Woven.{Told}
 
 -- ---- lists

@@ -1,13 +1,13 @@
 -- A turn of one strand, out of what all strands told.
-use Rattle.std.proofs.Common.{arith, ◌≡◌, ◌<◌, ◌≤◌, ◌⊎◌, inl, inr, ℕ, zero, suc, ◌+◌, List, [], ◌∷◌, ◌++◌, length, Option, Some, None, Bool, true, false, refl, sym, ap, ◌∙◌, subst, append_assoc, append-nil, eq-eqb, eqb-true, ne_eqb}
+use Rattle.std.proofs.Common.{arith, ◌≡◌, ◌<◌, ℕ, zero, suc, ◌+◌, List, [], ◌∷◌, ◌++◌, length, Option, Some, None, Bool, true, false, refl, sym, ap, ◌∙◌, subst, append_assoc, append-nil, eq-eqb, eqb-true, ne_eqb}
 use Rattle.std.specs.Prelude.{map, nat_eq, slice_get, if◌then◌else◌}
 use Rattle.wa_model.specs.Blocking.{Note}
 use Rattle.wa_model.specs.Outside.{Event, answered, called, ended, parked, paused, returned, shown}
 use Rattle.world_model.specs.World.{Look, behind_turn, ends_turn, events_with_looks, looks_after, put_off, ticks_in, turn_of}
-use Rattle.strand_laws.specs.StrandWorld.{looks_if, note_if, notes_of, strand_in}
+use Rattle.strand_laws.specs.StrandWorld.{looks_if, notes_of, strand_in}
 use Rattle.strand_laws.specs.Strands.{StrandEvent}
-use Rattle.strand_laws.specs.Weaving.{Dues, GoesByTurns, HasTurn, due_in, dues_behind, events_at, events_shown, is_ready, now_behind}
-use Rattle.strand_laws.specs.Woven.{Thread, Told, put}
+use Rattle.strand_laws.specs.Weaving.{Dues, GoesByTurns, HasTurn, due_in, dues_behind, events_shown, is_ready, now_behind}
+use Rattle.strand_laws.specs.Woven.{Told, put}
 
 pub other_get : (v : Dues) (i j d : ℕ) (o : Option (Unit {0})) → (j ≡ i → ⊥) → slice_get (put i d o v) j ≡ slice_get v j
 other_get [] i j d o ne = refl

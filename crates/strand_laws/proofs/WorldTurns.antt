@@ -1,12 +1,12 @@
 -- The lines of one program, picked out of a world's.
-use Rattle.std.proofs.Common.{arith, ◌≡◌, ◌<◌, ◌≤◌, ◌⊎◌, inl, inr, ℕ, zero, suc, ◌+◌, ◌-◌, List, [], ◌∷◌, ◌++◌, length, All, Option, Some, None, Bool, true, false, refl, sym, ap, ◌∙◌, subst, ⊎_elim, eq-eqb, eqb-true, ne_eqb, lt-ltb, le-ltb}
-use Rattle.std.specs.Prelude.{map, nat_eq, nat_lt, slice_get, slice_set, if◌then◌else◌}
+use Rattle.std.proofs.Common.{arith, ◌≡◌, ◌<◌, ◌≤◌, ◌⊎◌, inl, inr, ℕ, zero, suc, ◌+◌, ◌-◌, List, [], ◌∷◌, ◌++◌, length, All, Some, None, Bool, true, false, refl, sym, ap, ◌∙◌, subst, ⊎_elim, eq-eqb, eqb-true, ne_eqb, lt-ltb, le-ltb}
+use Rattle.std.specs.Prelude.{map, nat_eq, slice_get, slice_set}
 use Rattle.std.proofs.lemmas.Bool.{cases_lt}
 use Rattle.std.proofs.lemmas.List.Elements.{All-head, All-tail}
 use Rattle.wa_model.specs.declared.answers.Detach.{Detach}
 use Rattle.wa_model.specs.Blocking.{Note}
 use Rattle.wa_model.specs.Outside.{Event, Line}
-use Rattle.world_model.specs.World.{Actor, Device, Events, HasNotes, IsOver, Look, Plays, Program, an_event, behind_turn, events_with_looks, line_at, no_event, put_off, turn_lines, turn_of}
+use Rattle.world_model.specs.World.{Actor, Device, Events, IsOver, Look, Plays, Program, an_event, behind_turn, events_with_looks, line_at, no_event, put_off, turn_of}
 use Rattle.strand_laws.proofs.TurnsTold.{Split, by_strand, notes_mine, told_ready, turn_split}
 use Rattle.strand_laws.specs.StrandWorld.{StrandLine, looks_if, notes_of, strand_in, strand_line, strand_lines}
 use Rattle.strand_laws.specs.Strands.{StrandEvent, StrandProgram}

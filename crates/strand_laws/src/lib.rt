@@ -21,6 +21,7 @@ mod world_strands;
 
 pub use emitted_strands::{strand_pauses_at_numbers, strands_of_emitted, three_strands_take_turns};
 pub use world_strands::{
-    held_programs_tell_one_run, narrow_area_ends_the_program, strands_go_by_turns, strands_share_a_store, stretches_are_woven, strung_programs_tell_one_run,
-    trap_ends_its_strand, wrong_readings_are_refused,
+    held_programs_tell_one_run, narrow_area_ends_the_program, strands_go_by_turns,
+    strands_share_a_store, stretches_are_woven, strung_programs_tell_one_run, trap_ends_its_strand,
+    wrong_readings_are_refused,
 };
