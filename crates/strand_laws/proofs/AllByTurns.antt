@@ -13,7 +13,8 @@ use Rattle.wa_model.specs.declared.events.End.TheVariants.{StepsSpent}
 use Rattle.strand_laws.proofs.ByTurns.{At, AtOf, run_goes, shadow, standing_there, to_none}
 use Rattle.strand_laws.proofs.TurnEnds.{begun_chunk, held_begun_chunk, held_wakes_chunk, protocol_chunk, strung_chunk, strung_wakes_chunk}
 use Rattle.strand_laws.specs.StrandWorld.{HeldStrands, StrandsInWorld, StrungStrands, spent, strand_next, strand_unless_over, whole}
-use Rattle.strand_laws.specs.Strands.{BlockingStrands, ProtocolStrands, Strand, StrandProgram, Strung, beginnings, first_outcomes, held_loom, on, plan_of, space_of, strand_at, strung_from, strung_loom}
+use Rattle.strand_laws.specs.Strands.{BlockingStrands, ProtocolStrands, Strand, StrandProgram, Strung, beginnings, first_outcomes, held_loom, on, plan_of, space_of, strand_at, strung_from}
+use Rattle.strand_laws.specs.Strands.{strung_loom}
 use Rattle.strand_laws.specs.Weaving.{AllGoByTurns, Dues, GoesByTurns, HasTurn, IsDueFirst, all_due, due_in, dues_behind, now_behind}
 use Rattle.strand_laws.specs.Woven.{Ready, Thread, Told, Woven, standing_now}
 

@@ -1,5 +1,6 @@
 -- What woven strands tell goes by turns.
-use Rattle.std.proofs.Common.{arith, ◌≡◌, ◌<◌, ◌≤◌, ◌⊎◌, inl, inr, ℕ, zero, suc, ◌+◌, ◌-◌, List, [], ◌∷◌, ◌++◌, length, Option, Some, None, Bool, true, false, refl, sym, ap, ◌∙◌, subst, append_assoc, ltb-true, ltb-false}
+use Rattle.std.proofs.Common.{arith, ◌≡◌, ◌<◌, ◌≤◌, ◌⊎◌, inl, inr, ℕ, zero, suc, ◌+◌, ◌-◌, List, [], ◌∷◌, ◌++◌, length, Option, Some, None, Bool, true, false, refl, sym, ap, ◌∙◌, subst}
+use Rattle.std.proofs.Common.{append_assoc, ltb-true, ltb-false}
 use Rattle.std.specs.Prelude.{slice_get, nat_lt, if◌then◌else◌}
 use Rattle.wa_model.specs.Blocking.{Note}
 use Rattle.wa_model.specs.Machine.{Ran, Turn, after, goes, pay, run, run_with, still, stops}
@@ -10,7 +11,8 @@ use Rattle.world_model.specs.World.{ends_turn}
 use Rattle.strand_laws.proofs.TurnEnds.{Chunk, ChunkTurn}
 use Rattle.strand_laws.proofs.WovenRuns.{stands, stands_none}
 use Rattle.strand_laws.specs.Weaving.{Dues, GoesByTurns, IsDueFirst, due_in, dues_behind, is_ready, is_there, now_behind}
-use Rattle.strand_laws.specs.Woven.{Loom, Ready, Thread, Told, Woven, awake, ends_strand, finished, first_ready, going, last_event, move_of, moved, put, ready_if, sooner, standing, standing_now, told_by, weave, weave_on, woven, woven_by, woven_on}
+use Rattle.strand_laws.specs.Woven.{Loom, Ready, Thread, Told, Woven, awake, ends_strand, finished, first_ready, going, last_event, move_of, moved, put, ready_if, sooner, standing, standing_now}
+use Rattle.strand_laws.specs.Woven.{told_by, weave, weave_on, woven, woven_by, woven_on}
 
 -- ---- what a world knows of strands
 
@@ -264,7 +266,8 @@ module _ {S : Type 0} where
     weaves_on zero t ts tail h = nothing (shadow ts) ts tail h
     weaves_on (suc most) t ts tail h = awakes (weave_on loom most) (weaves_on most) t ts (first_ready 0 ts) refl tail h
 
-    pub woven_goes : (st : Bool) (i due : ℕ) (es : List Note) (s : S) (ts : List (Thread S)) → i < length ts → StandsAt (shadow ts) i due → Chunk es → Goal (Some i) (shadow ts) (woven loom st i due es s ts)
+    pub woven_goes : (st : Bool) (i due : ℕ) (es : List Note) (s : S) (ts : List (Thread S)) → i < length ts → StandsAt (shadow ts) i due → Chunk es
+        → Goal (Some i) (shadow ts) (woven loom st i due es s ts)
     woven_goes st i due es s ts lt at ch = by_event (weave_on loom (suc (length ts))) (weaves_on (suc (length ts))) st i due es s ts (last_event es) lt at ch refl
 
     abbrev RunGoal : Woven S → Ran (Woven S) Told → Type 0
@@ -275,7 +278,8 @@ module _ {S : Type 0} where
       Paid o = RunGoal w (pay (run_with (weave loom) most) n w o)
 
       by_cost : (r : Ready S) → standing_now w ≡ Some r → (k : ℕ) (es : List Note) (s : S) → Chunk es → (c : Bool)
-          → RunGoal w (if c then after (woven loom (loom.starts r.at) w.now r.due es s w.threads).events (run_with (weave loom) most (n - suc k) (woven loom (loom.starts r.at) w.now r.due es s w.threads).last) else still w)
+          → RunGoal w (if c then after (woven loom (loom.starts r.at) w.now r.due es s w.threads).events (run_with (weave loom) most (n - suc k) (woven loom
+          (loom.starts r.at) w.now r.due es s w.threads).last) else still w)
       by_cost r e k es s ch false tail h = h
       by_cost r e k es s ch true tail h =
           let x = woven loom (loom.starts r.at) w.now r.due es s w.threads in

@@ -10,7 +10,8 @@ use Rattle.world_model.specs.World.{Actor, Device, Program}
 use Rattle.image_laws.specs.Example.{saving}
 use Rattle.strand_laws.proofs.AllByTurns.{all_go_by_turns, due_zero}
 use Rattle.strand_laws.proofs.WorldTurns.{Stands, before, events_tell}
-use Rattle.strand_laws.specs.StrandWorld.{HeldStrands, Staged, StartsStrands, StartsStrung, StrandLine, StrandOriginal, StrandRuns, StrandsInWorld, StrungStrands, joined, last_strand, looks_if, notes_of, strand_actors, strand_programs}
+use Rattle.strand_laws.specs.StrandWorld.{HeldStrands, Staged, StartsStrands, StartsStrung, StrandLine, StrandOriginal, StrandRuns, StrandsInWorld, StrungStrands, joined, last_strand, looks_if}
+use Rattle.strand_laws.specs.StrandWorld.{notes_of, strand_actors, strand_programs}
 use Rattle.strand_laws.specs.Strands.{Strand, StrandProgram}
 use Rattle.strand_laws.specs.Weaving.{GoesByTurns, HeldProgramsTellOneRun, StrungProgramsTellOneRun, TellsOneRun, all_due, events_of_program}
 use Rattle.strand_laws.specs.Woven.{Told}
@@ -121,7 +122,8 @@ row_actors (g ∷ gs) (y ∷ xs) h (suc p) x e k lt =
     get_back y.actors (joined (map (λ (w : Staged). w.actors) xs)) ((length g.program.strands + before p (strands_of gs)) + k) (before p (strands_of gs) + k) (omega (arith, n))
     ∙ row_actors gs xs h.1 p x e k lt
 
-program_looks : (g : StrandsInWorld) (last i : ℕ) (ss : List Strand) (k j : ℕ) → j ≡ i + k → (w : Program) → slice_get (strand_programs g last i ss) k ≡ Some w → w.looks ≡ looks_if (nat_eq last j) g.looks
+program_looks : (g : StrandsInWorld) (last i : ℕ) (ss : List Strand) (k j : ℕ) → j ≡ i + k → (w : Program) → slice_get (strand_programs g last i ss) k ≡ Some w
+    → w.looks ≡ looks_if (nat_eq last j) g.looks
 program_looks g last i [] k j z w e = never w e
 program_looks g last i (s ∷ ss) zero j z w e =
     let y : i ≡ j = omega (arith, z) in
@@ -164,7 +166,8 @@ module _ (gs : List StrandsInWorld) (xs : List Staged) (zip : AllZip Laid gs xs)
     told = s.told;
     tells = s.tells;
     picked = ap (events_of_program p) runs.made
-        ∙ events_tell p (strands_of gs) g.program (get_mapped (λ (y : StrandsInWorld). y.program) gs p g at) (joined (map (λ (y : Staged). y.programs) xs)) detaches (last_strand s.told) g.looks looks_are 1
+        ∙ events_tell p (strands_of gs) g.program (get_mapped (λ (y : StrandsInWorld). y.program) gs p g at) (joined (map (λ (y : Staged). y.programs) xs)) detaches
+        (last_strand s.told) g.looks looks_are 1
         (joined (map (λ (y : Staged). y.actors) xs)) ds runs.flat runs.last ds' runs.events runs.over (all_due (length g.program.strands)) s.told (all_due_long (length g.program.strands)) stand goes;
   }
     where
@@ -194,6 +197,8 @@ strung_tell_one os detaches ds ds' lines some world p o at =
     let here = get_mapped (λ (y : StrandOriginal). y.program) os p o at in
     let b = zip_at StartsStrung os world.staged p o world.starts at in
     let s = b.related in
-    tells_one gs world.staged (zip_mapped (λ (y : StrandOriginal). y.program) StartsStrung Laid (λ y x h. laid (StrungStrands y.settings) y.program x h) os world.staged world.starts) p o.program b.other here
+    tells_one gs world.staged (zip_mapped (λ (y : StrandOriginal). y.program) StartsStrung Laid (λ y x h. laid
+    (StrungStrands y.settings) y.program x h) os world.staged world.starts) p o.program b.other here
     b.there (StrungStrands o.settings) s
-    ((all_go_by_turns o.settings o.program s.outcomes s.told (all_at (λ (y : StrandsInWorld). 0 < length y.program.strands) gs p o.program some here) s.wide).strung s.tells) detaches ds ds' lines world.runs
+    ((all_go_by_turns o.settings o.program s.outcomes s.told (all_at (λ
+    (y : StrandsInWorld). 0 < length y.program.strands) gs p o.program some here) s.wide).strung s.tells) detaches ds ds' lines world.runs

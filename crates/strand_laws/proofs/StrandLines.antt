@@ -16,7 +16,8 @@ use Rattle.world_model.specs.World.{Actor, IsOver, Program, an_event, at_start, 
 use Rattle.image_laws.specs.Example.{saving}
 use Rattle.strand_laws.specs.StrandWorld.{Staged, StrandOriginal, StrandsInWorld, answers_of, last_strand, looks_if, areas_but, PokesApart, notes_of, strand_actors, strand_programs, whole}
 use Rattle.strand_laws.specs.Strands.{BlockingStrands, PokesOff, Strand, StrandEvent, StrandProgram, plan_of, strand_at}
-use Rattle.strand_laws.specs.WorldExample.{DividingTellsItsLines, NarrowTellsItsLines, StrandReadings, SummingTellsItsLines, told_by_two, told_of_summing, alone_in_world, answers_with, dividing_strands, gives_number, narrow_strands, summing_strands}
+use Rattle.strand_laws.specs.WorldExample.{DividingTellsItsLines, NarrowTellsItsLines, StrandReadings, SummingTellsItsLines, told_by_two, told_of_summing, alone_in_world, answers_with}
+use Rattle.strand_laws.specs.WorldExample.{dividing_strands, gives_number, narrow_strands, summing_strands}
 use Rattle.strand_laws.specs.Woven.{Told}
 use Rattle.strand_laws.proofs.TwoActors.{first_next, gone_on, one_turn, second_next}
 
@@ -32,7 +33,15 @@ staged_of g one other ts = record { programs = strand_programs g (last_strand ts
 
 abbrev program_of : StrandsInWorld → List Told → ℕ → Strand → Program
 program_of g ts i s =
-    record { source = g.program.source; plan = plan_of g.program s; steps = g.steps; answers = answers_of g i; binds = g.binds; looks = looks_if (nat_eq (last_strand ts) i) g.looks; origin = at_start }
+    record {
+      source = g.program.source;
+      plan = plan_of g.program s;
+      steps = g.steps;
+      answers = answers_of g i;
+      binds = g.binds;
+      looks = looks_if (nat_eq (last_strand ts) i) g.looks;
+      origin = at_start;
+    }
 
 abbrev actor_of : StrandsInWorld → List Told → ℕ → List Outcome → Actor
 actor_of g ts i os = record { due = 0; notes = notes_of i ts; outcomes = os; answers = answers_of g i }
@@ -90,14 +99,29 @@ pub summing_tells : SummingTellsItsLines
 unfolding pruned calls_of points Base
 summing_tells = record {
   staged = summing_staged ∷ [];
-  starts = (record { outcomes = gives_number 10 2 ∷ gives_number 100 1 ∷ []; told = summing_told; wide = refl; pokes = no_pokes summing_strands.strands 10 2 100 1; tells = whole summing_told refl refl; programs_are = refl; actors_are = refl }, tt);
+  starts = (
+    record {
+      outcomes = gives_number 10 2 ∷ gives_number 100 1 ∷ [];
+      told = summing_told;
+      wide = refl;
+      pokes = no_pokes summing_strands.strands 10 2 100 1;
+      tells = whole summing_told refl refl;
+      programs_are = refl;
+      actors_are = refl;
+    },
+    tt,
+  );
   runs = record {
     flat = turn_lines 0 summing_first summing_a0 ++ (turn_lines 1 summing_second summing_b0 ++ (turn_lines 1 summing_second summing_b1 ++ (turn_lines 0 summing_first summing_a1 ++ ([]))));
     last = summing_a2 ∷ summing_b2 ∷ [];
-    events = an_event (one_turn summing_staged.programs 1 0 (summing_a0 ∷ summing_b0 ∷ []) summing_a0 summing_first [] [] (first_next summing_a0 summing_b0 (omega arith) (λ h. omega (arith, h))) refl (one_given 10 2, [], [], [], refl, ((refl, refl), refl), (refl, refl, refl)))
-        (an_event (one_turn summing_staged.programs 2 1 (summing_a1 ∷ summing_b0 ∷ []) summing_b0 summing_second [] [] (second_next summing_a1 summing_b0 (omega arith) (λ h. omega (arith, h))) refl (one_given 100 1, [], [], [], refl, ((refl, refl), refl), (refl, refl, refl)))
-        (an_event (one_turn summing_staged.programs 3 1 (summing_a1 ∷ summing_b1 ∷ []) summing_b1 summing_second [] [] (second_next summing_a1 summing_b1 (omega arith) (λ h. omega (arith, h))) refl (refl, refl, refl))
-        (an_event (one_turn summing_staged.programs 4 0 (summing_a1 ∷ summing_b2 ∷ []) summing_a1 summing_first [] [] (first_next summing_a1 summing_b2 (omega arith) (λ h. omega (arith, h))) refl (refl, refl, refl)) no_event refl) refl) refl) refl;
+    events = an_event (one_turn summing_staged.programs 1 0 (summing_a0 ∷ summing_b0 ∷ []) summing_a0 summing_first [] [] (first_next summing_a0 summing_b0 (omega arith) (λ h. omega
+        (arith, h))) refl (one_given 10 2, [], [], [], refl, ((refl, refl), refl), (refl, refl, refl)))
+        (an_event (one_turn summing_staged.programs 2 1 (summing_a1 ∷ summing_b0 ∷ []) summing_b0 summing_second [] [] (second_next summing_a1 summing_b0 (omega arith) (λ h. omega
+        (arith, h))) refl (one_given 100 1, [], [], [], refl, ((refl, refl), refl), (refl, refl, refl)))
+        (an_event (one_turn summing_staged.programs 3 1 (summing_a1 ∷ summing_b1 ∷ []) summing_b1 summing_second [] [] (second_next summing_a1 summing_b1 (omega arith) (λ h. omega
+        (arith, h))) refl (refl, refl, refl))
+        (an_event (one_turn summing_staged.programs 4 0 (summing_a1 ∷ summing_b2 ∷ []) summing_a1 summing_first [] [] (first_next summing_a1 summing_b2 (omega arith) (λ h. omega
+        (arith, h))) refl (refl, refl, refl)) no_event refl) refl) refl) refl;
     over = both_over summing_a2 summing_b2 refl refl;
     made = refl;
   };
@@ -142,14 +166,29 @@ pub dividing_tells : DividingTellsItsLines
 unfolding pruned calls_of points Base
 dividing_tells = record {
   staged = dividing_staged ∷ [];
-  starts = (record { outcomes = gives_number 0 1 ∷ gives_number 1000 2 ∷ []; told = dividing_told; wide = refl; pokes = no_pokes dividing_strands.strands 0 1 1000 2; tells = whole dividing_told refl refl; programs_are = refl; actors_are = refl }, tt);
+  starts = (
+    record {
+      outcomes = gives_number 0 1 ∷ gives_number 1000 2 ∷ [];
+      told = dividing_told;
+      wide = refl;
+      pokes = no_pokes dividing_strands.strands 0 1 1000 2;
+      tells = whole dividing_told refl refl;
+      programs_are = refl;
+      actors_are = refl;
+    },
+    tt,
+  );
   runs = record {
     flat = turn_lines 0 dividing_first dividing_a0 ++ (turn_lines 1 dividing_second dividing_b0 ++ (turn_lines 0 dividing_first dividing_a1 ++ (turn_lines 1 dividing_second dividing_b1 ++ ([]))));
     last = dividing_a2 ∷ dividing_b2 ∷ [];
-    events = an_event (one_turn dividing_staged.programs 1 0 (dividing_a0 ∷ dividing_b0 ∷ []) dividing_a0 dividing_first [] [] (first_next dividing_a0 dividing_b0 (omega arith) (λ h. omega (arith, h))) refl (one_given 0 1, [], [], [], refl, ((refl, refl), refl), (refl, refl, refl)))
-        (an_event (one_turn dividing_staged.programs 2 1 (dividing_a1 ∷ dividing_b0 ∷ []) dividing_b0 dividing_second [] [] (second_next dividing_a1 dividing_b0 (omega arith) (λ h. omega (arith, h))) refl (one_given 1000 2, [], [], [], refl, ((refl, refl), refl), (refl, refl, refl)))
-        (an_event (one_turn dividing_staged.programs 3 0 (dividing_a1 ∷ dividing_b1 ∷ []) dividing_a1 dividing_first [] [] (first_next dividing_a1 dividing_b1 (omega arith) (λ h. omega (arith, h))) refl (refl, refl, refl))
-        (an_event (one_turn dividing_staged.programs 4 1 (dividing_a2 ∷ dividing_b1 ∷ []) dividing_b1 dividing_second [] [] (second_next dividing_a2 dividing_b1 (omega arith) (λ h. omega (arith, h))) refl (refl, refl, refl)) no_event refl) refl) refl) refl;
+    events = an_event (one_turn dividing_staged.programs 1 0 (dividing_a0 ∷ dividing_b0 ∷ []) dividing_a0 dividing_first [] [] (first_next dividing_a0 dividing_b0 (omega arith)
+        (λ h. omega (arith, h))) refl (one_given 0 1, [], [], [], refl, ((refl, refl), refl), (refl, refl, refl)))
+        (an_event (one_turn dividing_staged.programs 2 1 (dividing_a1 ∷ dividing_b0 ∷ []) dividing_b0 dividing_second [] [] (second_next dividing_a1 dividing_b0 (omega arith) (λ h. omega
+        (arith, h))) refl (one_given 1000 2, [], [], [], refl, ((refl, refl), refl), (refl, refl, refl)))
+        (an_event (one_turn dividing_staged.programs 3 0 (dividing_a1 ∷ dividing_b1 ∷ []) dividing_a1 dividing_first [] [] (first_next dividing_a1 dividing_b1 (omega arith) (λ h. omega
+        (arith, h))) refl (refl, refl, refl))
+        (an_event (one_turn dividing_staged.programs 4 1 (dividing_a2 ∷ dividing_b1 ∷ []) dividing_b1 dividing_second [] [] (second_next dividing_a2 dividing_b1 (omega arith) (λ h. omega
+        (arith, h))) refl (refl, refl, refl)) no_event refl) refl) refl) refl;
     over = both_over dividing_a2 dividing_b2 refl refl;
     made = refl;
   };
@@ -188,12 +227,25 @@ pub narrow_tells : NarrowTellsItsLines
 unfolding pruned calls_of points Base
 narrow_tells = record {
   staged = narrow_staged ∷ [];
-  starts = (record { outcomes = gives_number 10 2 ∷ gives_number 100 1 ∷ []; told = narrow_told; wide = refl; pokes = no_pokes narrow_strands.strands 10 2 100 1; tells = whole narrow_told refl refl; programs_are = refl; actors_are = refl }, tt);
+  starts = (
+    record {
+      outcomes = gives_number 10 2 ∷ gives_number 100 1 ∷ [];
+      told = narrow_told;
+      wide = refl;
+      pokes = no_pokes narrow_strands.strands 10 2 100 1;
+      tells = whole narrow_told refl refl;
+      programs_are = refl;
+      actors_are = refl;
+    },
+    tt,
+  );
   runs = record {
     flat = turn_lines 0 narrow_first narrow_a0 ++ (turn_lines 1 narrow_second narrow_b0 ++ ([]));
     last = narrow_a1 ∷ narrow_b1 ∷ [];
-    events = an_event (one_turn narrow_staged.programs 1 0 (narrow_a0 ∷ narrow_b0 ∷ []) narrow_a0 narrow_first [] [] (first_next narrow_a0 narrow_b0 (omega arith) (λ h. omega (arith, h))) refl (one_given 10 2, [], [], [], refl, ((refl, refl), refl), (refl, refl, refl)))
-        (an_event (one_turn narrow_staged.programs 2 1 (narrow_a1 ∷ narrow_b0 ∷ []) narrow_b0 narrow_second [] [] (second_next narrow_a1 narrow_b0 (omega arith) (λ h. omega (arith, h))) refl (one_given 100 1, [], [], [], refl, ((refl, refl), refl), (refl, refl, refl))) no_event refl) refl;
+    events = an_event (one_turn narrow_staged.programs 1 0 (narrow_a0 ∷ narrow_b0 ∷ []) narrow_a0 narrow_first [] [] (first_next narrow_a0 narrow_b0 (omega arith) (λ h. omega
+        (arith, h))) refl (one_given 10 2, [], [], [], refl, ((refl, refl), refl), (refl, refl, refl)))
+        (an_event (one_turn narrow_staged.programs 2 1 (narrow_a1 ∷ narrow_b0 ∷ []) narrow_b0 narrow_second [] [] (second_next narrow_a1 narrow_b0 (omega arith) (λ h. omega
+        (arith, h))) refl (one_given 100 1, [], [], [], refl, ((refl, refl), refl), (refl, refl, refl))) no_event refl) refl;
     over = both_over narrow_a1 narrow_b1 refl refl;
     made = refl;
   };

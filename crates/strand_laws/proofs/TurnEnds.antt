@@ -8,13 +8,17 @@ use Rattle.wa_model.specs.declared.answers.Said.{Said}
 use Rattle.wa_model.specs.declared.answers.Said.TheVariants as S
 use Rattle.wa_model.specs.declared.events.End.{End}
 use Rattle.wa_model.specs.Outside.{Answer, answered, returned}
-use Rattle.wa_model.specs.Blocking.{Asker, Left, Note, State, Task, an_entry, asked, begins, between, blocking, by_step, call_note, done_notes, enter_next, enters, fault_of, go_on, halts, in_start, inside, is_start, note, outermost, pause_of, poked, runs, stack_at, start_called, store_at, task_back, tested, the_start, value_of_results, with_outcomes}
+use Rattle.wa_model.specs.Blocking.{Asker, Left, Note, State, Task, an_entry, asked, begins, between, blocking, by_step, call_note, done_notes, enter_next, enters, fault_of, go_on, halts}
+use Rattle.wa_model.specs.Blocking.{in_start, inside, is_start, note, outermost, pause_of, poked, runs, stack_at, start_called, store_at, task_back, tested, the_start, value_of_results}
+use Rattle.wa_model.specs.Blocking.{with_outcomes}
 use Rattle.wa_model.specs.Configuration.{Configuration}
 use Rattle.wa_model.specs.Expected.{pause_note, trap_note}
 use Rattle.wa_model.specs.Instantiation.{Opening, fails_as, opens}
 use Rattle.wa_model.specs.Machine.{Turn, goes, stops}
 use Rattle.wa_model.specs.Plan.{Entry, Outcome, Plan, given, refused}
-use Rattle.wa_model.specs.Protocol.{Exports, Held, Phase, Then, aside, aside_back, aside_called, aside_step, busy, busy_enters, busy_step, call_again, calling, entering, free, give_answer, give_zero, held_asked, held_back, held_begun, held_given, held_next, held_pauses, held_resumed, held_start, held_tested, is_running, is_state, over, pause_there, protocol, rewinds, starting, test_rewound, test_unwound, unwinds}
+use Rattle.wa_model.specs.Protocol.{Exports, Held, Phase, Then, aside, aside_back, aside_called, aside_step, busy, busy_enters, busy_step, call_again, calling, entering, free, give_answer}
+use Rattle.wa_model.specs.Protocol.{give_zero, held_asked, held_back, held_begun, held_given, held_next, held_pauses, held_resumed, held_start, held_tested, is_running, is_state, over}
+use Rattle.wa_model.specs.Protocol.{pause_there, protocol, rewinds, starting, test_rewound, test_unwound, unwinds}
 use Rattle.wa_model.specs.Step.{Next, asks, returns, step, steps, stuck, traps}
 use Rattle.wa_model.specs.Store.{Store}
 use Rattle.wa_model.specs.Blocking.{begun}

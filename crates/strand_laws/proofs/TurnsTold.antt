@@ -1,5 +1,6 @@
 -- A turn of one strand, out of what all strands told.
-use Rattle.std.proofs.Common.{arith, ◌≡◌, ◌<◌, ℕ, zero, suc, ◌+◌, List, [], ◌∷◌, ◌++◌, length, Option, Some, None, Bool, true, false, refl, sym, ap, ◌∙◌, subst, append_assoc, append-nil, eq-eqb, eqb-true, ne_eqb}
+use Rattle.std.proofs.Common.{arith, ◌≡◌, ◌<◌, ℕ, zero, suc, ◌+◌, List, [], ◌∷◌, ◌++◌, length, Option, Some, None, Bool, true, false, refl, sym, ap, ◌∙◌, subst, append_assoc, append-nil, eq-eqb}
+use Rattle.std.proofs.Common.{eqb-true, ne_eqb}
 use Rattle.std.specs.Prelude.{map, nat_eq, slice_get, if◌then◌else◌}
 use Rattle.wa_model.specs.Blocking.{Note}
 use Rattle.wa_model.specs.Outside.{Event, answered, called, ended, parked, paused, returned, shown}
@@ -99,9 +100,11 @@ module _ (last : ℕ) (looks : List Look) (k : ℕ) where
         then_due = s.then_due;
         goes = s.goes;
         events = ap (λ (ys : List StrandEvent). map (by_strand k) (x.event ∷ looks_after (looks_if (nat_eq last k) looks) x x.event) ++ ys) s.events
-            ∙ sym (append_assoc (map (by_strand k) (x.event ∷ looks_after (looks_if (nat_eq last k) looks) x x.event)) (map (by_strand k) (shows (turn_of (notes_of k ts)))) (events_shown last looks s.rest))
+            ∙ sym (append_assoc (map (by_strand k) (x.event ∷ looks_after (looks_if (nat_eq last k) looks) x x.event)) (map (by_strand k) (shows (turn_of (notes_of k ts))))
+            (events_shown last looks s.rest))
             ∙ ap (λ (ys : List StrandEvent). ys ++ events_shown last looks s.rest)
-            (sym (both_mapped k (x.event ∷ looks_after (looks_if (nat_eq last k) looks) x x.event) (shows (turn_of (notes_of k ts)))) ∙ ap (λ (ns : List Note). map (by_strand k) (shows ns)) (sym turn));
+            (sym (both_mapped k (x.event ∷ looks_after (looks_if (nat_eq last k) looks) x x.event) (shows (turn_of (notes_of k ts))))
+            ∙ ap (λ (ns : List Note). map (by_strand k) (shows ns)) (sym turn));
         behind = ap (λ (b : Bool). if b then notes_of k ts else behind_turn (notes_of k ts)) e ∙ s.behind;
         others = λ j ne. notes_other j k x ts (λ q. ne (sym q)) ∙ s.others j ne;
         due = s.due ∙ ap (λ u. due_in (slice_get v k) + u) same_off;
@@ -117,7 +120,17 @@ module _ (last : ℕ) (looks : List Look) (k : ℕ) where
 
   pub turn_split : (v : Dues) (ts : List Told) → k < length v → GoesByTurns (Some k) v ts → Split last looks k v ts (notes_of k ts)
   turn_split v [] lt g =
-      record { rest = []; then_due = v; goes = tt; events = refl; behind = refl; others = λ j ne. refl; due = (let z : due_in (slice_get v k) ≡ due_in (slice_get v k) + 0 = omega arith in z); due_others = λ j ne. refl; size = refl }
+      record {
+        rest = [];
+        then_due = v;
+        goes = tt;
+        events = refl;
+        behind = refl;
+        others = λ j ne. refl;
+        due = (let z : due_in (slice_get v k) ≡ due_in (slice_get v k) + 0 = omega arith in z);
+        due_others = λ j ne. refl;
+        size = refl;
+      }
   turn_split v (t ∷ ts) lt g =
       subst (λ z. Split last looks k v (record { strand = z; note = t.note } ∷ ts) (notes_of k (record { strand = z; note = t.note } ∷ ts))) g.0
       (subst (Split last looks k v (record { strand = k; note = t.note } ∷ ts)) (sym (notes_mine k t.note ts))

@@ -1,5 +1,6 @@
 -- The lines of one program, picked out of a world's.
-use Rattle.std.proofs.Common.{arith, ◌≡◌, ◌<◌, ◌≤◌, ◌⊎◌, inl, inr, ℕ, zero, suc, ◌+◌, ◌-◌, List, [], ◌∷◌, ◌++◌, length, All, Some, None, Bool, true, false, refl, sym, ap, ◌∙◌, subst, ⊎_elim, eq-eqb, eqb-true, ne_eqb, lt-ltb, le-ltb}
+use Rattle.std.proofs.Common.{arith, ◌≡◌, ◌<◌, ◌≤◌, ◌⊎◌, inl, inr, ℕ, zero, suc, ◌+◌, ◌-◌, List, [], ◌∷◌, ◌++◌, length, All, Some, None, Bool, true, false, refl, sym, ap, ◌∙◌, subst, ⊎_elim}
+use Rattle.std.proofs.Common.{eq-eqb, eqb-true, ne_eqb, lt-ltb, le-ltb}
 use Rattle.std.specs.Prelude.{map, nat_eq, slice_get, slice_set}
 use Rattle.std.proofs.lemmas.Bool.{cases_lt}
 use Rattle.std.proofs.lemmas.List.Elements.{All-head, All-tail}
@@ -143,7 +144,8 @@ module _ (p : ℕ) (qs : List StrandProgram) (q : StrandProgram) (is : slice_get
 
   head_there : (k : ℕ) (t : Told) (ts : List Told) → t.strand ≡ k → 0 < length (notes_of k (t ∷ ts))
   head_there k t ts e =
-      subst (λ j. 0 < length (notes_of j (t ∷ ts))) e (let z : length (notes_of t.strand (t ∷ ts)) ≡ suc (length (notes_of t.strand ts)) = ap length (notes_mine t.strand t.note ts) in omega (arith, z))
+      subst (λ j. 0 < length (notes_of j (t ∷ ts))) e (let z : length (notes_of t.strand (t ∷ ts)) ≡ suc (length (notes_of t.strand ts)) = ap length
+      (notes_mine t.strand t.note ts) in omega (arith, z))
 
   none_left : (acts : List Actor) (v : Dues) (ts : List Told) → IsOver acts → length v ≡ length q.strands → Stand acts v ts → GoesByTurns None v ts → [] ≡ events_shown last looks ts
   none_left acts v [] over size st g = refl
@@ -176,7 +178,8 @@ module _ (p : ℕ) (qs : List StrandProgram) (q : StrandProgram) (is : slice_get
         far k lt (inl a) e = omega (arith, lt, a, e)
         far k lt (inr a) e = omega (arith, lt, a, e)
 
-    module _ (v : Dues) (t : Told) (ts : List Told) (size : length v ≡ length q.strands) (st : Stand acts v (t ∷ ts)) (g : GoesByTurns None v (t ∷ ts)) (k : ℕ) (at : play.i ≡ before p qs + k) (lt : k < length q.strands) where
+    module _ (v : Dues) (t : Told) (ts : List Told) (size : length v ≡ length q.strands) (st : Stand acts v (t ∷ ts)) (g : GoesByTurns None v (t
+        ∷ ts)) (k : ℕ) (at : play.i ≡ before p qs + k) (lt : k < length q.strands) where
       is_actor : (st k lt).actor ≡ play.a
       is_actor = the_same (st k lt).actor play.a (sym (st k lt).there ∙ ap (slice_get acts) (sym at) ∙ play.next.there)
 
