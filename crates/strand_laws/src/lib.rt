@@ -14,6 +14,8 @@
 //!
 //! `specs/StrandWorld.antt` has worlds of strands: each strand is an actor, the strands of one program tell one woven run, and the world has the
 //! order of all. `specs/Weaving.antt` has laws of weaving, and `specs/WorldExample.antt` scripts of two strands with the lines of their worlds.
+//! `proofs/ByTurns.antt` has that woven strands tell by turns, `proofs/AllByTurns.antt` that those of a world do, and `proofs/OneRun.antt` that each
+//! program's lines in a world are one run, by `proofs/WorldTurns.antt`, event by event.
 #![tactic(auto)]
 
 mod emitted_strands;
