@@ -1,4 +1,7 @@
 pub mod EmittedStrands
 pub mod Example
+pub mod StrandWorld
 pub mod Strands
+pub mod Weaving
+pub mod WorldExample
 pub mod Woven

@@ -11,8 +11,19 @@
 //! `proofs/Paused.antt` has the first half of a pause, `proofs/Resumed.antt` the second over the store of the moment,
 //! `proofs/EndsThere.antt` where a strand ends alone; `proofs/StrandWorlds.antt` and the files above it put all strands side by side, and
 //! `proofs/StrandModules.antt` has that emitted modules meet what is asked.
+//!
+//! `specs/StrandWorld.antt` has worlds of strands: each strand is an actor, the strands of one program tell one woven run, and the world has the
+//! order of all. `specs/Weaving.antt` has laws of weaving, and `specs/WorldExample.antt` scripts of two strands with the lines of their worlds.
+//! `proofs/ByTurns.antt` has that woven strands tell by turns, `proofs/AllByTurns.antt` that those of a world do, and `proofs/OneRun.antt` that each
+//! program's lines in a world are one run, by `proofs/WorldTurns.antt`, event by event.
 #![tactic(auto)]
 
 mod emitted_strands;
+mod world_strands;
 
 pub use emitted_strands::{strand_pauses_at_numbers, strands_of_emitted, three_strands_take_turns};
+pub use world_strands::{
+    held_programs_tell_one_run, narrow_area_ends_the_program, strands_go_by_turns,
+    strands_share_a_store, stretches_are_woven, strung_programs_tell_one_run, trap_ends_its_strand,
+    wrong_readings_are_refused,
+};

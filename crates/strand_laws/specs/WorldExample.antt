@@ -1,0 +1,185 @@
+-- Scripts of two strands, and the lines of their worlds.
+use Rattle.std.specs.Prelude.{◌≡◌, ℕ, List, [], ◌∷◌, Some, None, true, codes}
+use Rattle.wa_types.specs.declared.values.ValType.TheVariants.{I32, I64}
+use Rattle.wa_types.specs.declared.values.Value.{Value}
+use Rattle.wa_types.specs.declared.values.Value.TheVariants as V
+use Rattle.wa_types.specs.declared.values.Trap.TheVariants.{DivideByZero, Unreachable}
+use Rattle.wa_types.specs.declared.operators.NumOp.TheVariants.{I32Add, I64DivU, I64ExtendI32U}
+use Rattle.wa_types.specs.declared.syntax.ImportKind.TheVariants as K
+use Rattle.wa_types.specs.declared.syntax.Space.TheVariants as Sp
+use Rattle.wa_types.specs.Syntax.{Basic, Code, Func, FuncType, Module, basic, call, const, done, drop, global_get, global_set, local_get, local_set, memory_grow, num, plain}
+use Rattle.wa_types.specs.Pausing.{save_all}
+use Rattle.wa_model.specs.declared.answers.Said.TheVariants as S
+use Rattle.wa_model.specs.declared.events.End.TheVariants.{Done, Trapped, UnwindTrap}
+use Rattle.wa_model.specs.Outside.{AnswerLine, Event, answered, called, ended, paused, returned, shown}
+use Rattle.wa_model.specs.Plan.{Outcome}
+use Rattle.image_laws.specs.Example.{saving}
+use Rattle.strand_laws.specs.Example.{of_strand, said_after}
+use Rattle.strand_laws.specs.Strands.{BlockingStrands, Strand, StrandEvent, StrandProgram, events_told}
+use Rattle.strand_laws.specs.StrandWorld.{BlockingStrandWorld, StrandLine, StrandOriginal}
+
+-- ---- two modules
+
+-- a basic instruction before the rest
+abbrev pub first_of : Basic → Code → Code
+first_of b rest = plain (basic b) rest
+
+-- the parameter, and what the import answers it
+abbrev pub asked_before : Code → Code
+asked_before rest = plain (local_get 0) (plain (call 0) rest)
+
+-- the import `env.pause`, a memory of one page, and a function, exported as `run`
+abbrev pub one_function : List FuncType → Func → Module
+one_function types f = record {
+  types = types;
+  imports = record { «module» = codes "env"; base = codes "pause"; kind = K.Func 0 } ∷ [];
+  funcs = f ∷ [];
+  tables = [];
+  memories = record { min = 1; max = None } ∷ [];
+  globals = [];
+  exports = record { name = codes "run"; space = Sp.Func; index = 1 } ∷ [];
+  start = None;
+  elems = [];
+  segments = [];
+  customs = [];
+}
+
+-- a number for a number
+abbrev pub one_to_one : FuncType
+one_to_one = record { params = I32 ∷ []; results = I32 ∷ [] }
+
+-- What the import answers is added to a global, which begins at 0, and the sum is returned.
+abbrev pub summing : Module
+summing = record (one_function (one_to_one ∷ []) (record {
+  sort = 0;
+  locals = [];
+  body = asked_before (first_of (global_get 0) (first_of (num I32Add) (first_of (global_set 0) (first_of (global_get 0) done))));
+})) { globals = record { ty = I32; mutable = true; init = first_of (const (V.I32 0)) done } ∷ [] }
+
+-- The memory grows by a page; then 5000000000 is divided by what the import answers.
+abbrev pub dividing : Module
+dividing = one_function (one_to_one ∷ record { params = []; results = I64 ∷ [] } ∷ []) (record {
+  sort = 1;
+  locals = record { count = 1; ty = I64 } ∷ [];
+  body = first_of (const (V.I32 1)) (first_of memory_grow (first_of drop (first_of (const (V.I64 5000000000)) (plain (local_set 0) (plain (local_get 0)
+      (first_of (const (V.I32 2)) (plain (call 0) (first_of (num I64ExtendI32U) (first_of (num I64DivU) done)))))))));
+})
+
+-- ---- programs
+
+-- the module's entry with these arguments, and so many bytes from here on as the area
+abbrev pub enters_with : (at len : ℕ) → List Value → Strand
+enters_with at len args = record { area = record { at = at; len = len }; entries = record { func = 1; args = args } ∷ [] }
+
+-- a module with two strands
+abbrev pub two_strands : Module → Strand → Strand → StrandProgram
+two_strands m one other = record { source = m; globals = []; listed = Some (true ∷ []); strands = one ∷ other ∷ [] }
+
+-- an answer line for the import
+abbrev pub answers_with : (number ticks : ℕ) → AnswerLine
+answers_with n ticks = record { import = codes "env.pause"; answer = record { said = S.Value (Some (V.I32 n)); pokes = []; ticks = ticks } }
+
+-- the outcome that it gives
+abbrev pub gives_number : (number ticks : ℕ) → List Outcome
+gives_number n ticks = said_after ticks (S.Value (Some (V.I32 n)))
+
+-- such a program, with an answer line for each strand, over no devices; a byte of its memory is shown
+abbrev pub alone_in_world : StrandProgram → AnswerLine → AnswerLine → StrandOriginal
+alone_in_world g one other = record {
+  program = record { program = g; steps = 100; answers = (one ∷ []) ∷ (other ∷ []) ∷ []; binds = None ∷ []; looks = record { at = 0; len = 1 } ∷ [] };
+  settings = saving save_all;
+}
+
+-- ---- lines
+
+-- a line of the only program
+abbrev pub line_of : (tick strand : ℕ) → Event → StrandLine
+line_of tick i e = record { tick = tick; program = 0; strand = i; event = e }
+
+-- the import is called
+abbrev pub asks_for : List Value → Event
+asks_for args = called (record { import = 0; args = args })
+
+-- it has answered this number
+abbrev pub answers_number : ℕ → Event
+answers_number n = answered (S.Value (Some (V.I32 n)))
+
+-- a byte of the memory is shown, which is 0
+abbrev pub shows_zero : Event
+shows_zero = shown 0 (Some (0 ∷ []))
+
+-- ---- a store that all strands share
+
+-- `run` is entered with 1 and with 2; the first is answered 10 after 2 ticks, the second 100 after 1.
+abbrev pub summing_strands : StrandProgram
+summing_strands = two_strands summing (enters_with 0 64 (V.I32 1 ∷ [])) (enters_with 64 64 (V.I32 2 ∷ []))
+
+-- The second strand's answer is due first, and the first one adds to what that has left. What is shown stands behind the last end.
+abbrev pub lines_of_summing : List StrandLine
+lines_of_summing =
+    line_of 0 0 (asks_for (V.I32 1 ∷ [])) ∷ line_of 0 0 (paused 2 24) ∷ line_of 0 1 (asks_for (V.I32 2 ∷ [])) ∷ line_of 0 1 (paused 1 24)
+    ∷ line_of 1 1 (answers_number 100) ∷ line_of 1 1 (returned 0 (Some (V.I32 100))) ∷ line_of 1 1 (ended Done)
+    ∷ line_of 2 0 (answers_number 10) ∷ line_of 2 0 (returned 0 (Some (V.I32 110))) ∷ line_of 2 0 (ended Done) ∷ line_of 2 0 shows_zero ∷ []
+
+-- its world has these lines
+abbrev pub SummingTellsItsLines : Type 0
+SummingTellsItsLines = BlockingStrandWorld (alone_in_world summing_strands (answers_with 10 2) (answers_with 100 1) ∷ []) [] [] lines_of_summing []
+
+-- ---- a trap ends its strand alone
+
+-- The first strand is answered 0 after a tick, the second 1000 after 2.
+abbrev pub dividing_strands : StrandProgram
+dividing_strands = two_strands dividing (enters_with 0 64 []) (enters_with 64 64 [])
+
+-- The first divides by zero, and the second goes on.
+abbrev pub lines_of_dividing : List StrandLine
+lines_of_dividing =
+    line_of 0 0 (asks_for (V.I32 2 ∷ [])) ∷ line_of 0 0 (paused 1 44) ∷ line_of 0 1 (asks_for (V.I32 2 ∷ [])) ∷ line_of 0 1 (paused 2 44)
+    ∷ line_of 1 0 (answers_number 0) ∷ line_of 1 0 (ended (Trapped DivideByZero))
+    ∷ line_of 2 1 (answers_number 1000) ∷ line_of 2 1 (returned 0 (Some (V.I64 5000000))) ∷ line_of 2 1 (ended Done) ∷ line_of 2 0 shows_zero ∷ []
+
+-- its world has these lines
+abbrev pub DividingTellsItsLines : Type 0
+DividingTellsItsLines = BlockingStrandWorld (alone_in_world dividing_strands (answers_with 0 1) (answers_with 1000 2) ∷ []) [] [] lines_of_dividing []
+
+-- ---- an unwind that traps ends the program
+
+-- the second strand's area has no room for its frame
+abbrev pub narrow_strands : StrandProgram
+narrow_strands = two_strands summing (enters_with 0 64 (V.I32 1 ∷ [])) (enters_with 64 20 (V.I32 2 ∷ []))
+
+-- The first strand, which waits, tells nothing more; the line of what is shown is its.
+abbrev pub lines_of_narrow : List StrandLine
+lines_of_narrow =
+    line_of 0 0 (asks_for (V.I32 1 ∷ [])) ∷ line_of 0 0 (paused 2 24) ∷ line_of 0 1 (asks_for (V.I32 2 ∷ [])) ∷ line_of 0 1 (ended (UnwindTrap Unreachable 8 20))
+    ∷ line_of 0 0 shows_zero ∷ []
+
+-- its world has these lines
+abbrev pub NarrowTellsItsLines : Type 0
+NarrowTellsItsLines = BlockingStrandWorld (alone_in_world narrow_strands (answers_with 10 2) (answers_with 100 1) ∷ []) [] [] lines_of_narrow []
+
+-- ---- wrong readings
+
+-- what the strands of such a program tell
+abbrev pub told_by_two : StrandProgram → (one other : List Outcome) → List StrandEvent
+told_by_two g one other = events_told (BlockingStrands (saving save_all) g (one ∷ other ∷ []) 100).events
+
+-- the first strand's answer comes behind the second's end, and it returns this
+abbrev pub told_of_summing : (sum : ℕ) → List StrandEvent
+told_of_summing sum =
+    of_strand 0 (asks_for (V.I32 1 ∷ [])) ∷ of_strand 0 (paused 2 24) ∷ of_strand 1 (asks_for (V.I32 2 ∷ [])) ∷ of_strand 1 (paused 1 24)
+    ∷ of_strand 1 (answers_number 100) ∷ of_strand 1 (returned 0 (Some (V.I32 100))) ∷ of_strand 1 (ended Done)
+    ∷ of_strand 0 (answers_number 10) ∷ of_strand 0 (returned 0 (Some (V.I32 sum))) ∷ of_strand 0 (ended Done) ∷ []
+
+-- both pause, and then the first strand divides by zero
+abbrev pub told_up_to_trap : List StrandEvent
+told_up_to_trap =
+    of_strand 0 (asks_for (V.I32 2 ∷ [])) ∷ of_strand 0 (paused 1 44) ∷ of_strand 1 (asks_for (V.I32 2 ∷ [])) ∷ of_strand 1 (paused 2 44)
+    ∷ of_strand 0 (answers_number 0) ∷ of_strand 0 (ended (Trapped DivideByZero)) ∷ []
+
+-- What the strands of these programs tell, and what they don't: a first strand that goes on over the globals of its pause; a trap that
+-- ends the program.
+pub record StrandReadings : Type 0 where
+  pub shared : told_by_two summing_strands (gives_number 10 2) (gives_number 100 1) ≡ told_of_summing 110
+  pub globals_of_pause : told_by_two summing_strands (gives_number 10 2) (gives_number 100 1) ≡ told_of_summing 10 → ⊥
+  pub trap_for_all : told_by_two dividing_strands (gives_number 0 1) (gives_number 1000 2) ≡ told_up_to_trap → ⊥
