@@ -30,7 +30,7 @@ use Rattle.strand_laws.proofs.Switch.{wake_all}
 use Rattle.strand_laws.proofs.Threads.{AllHang, hang_lengths, unfinished, unfinished_few}
 use Rattle.strand_laws.specs.Strands.{Strand, StrandProgram, StrandsBehaveOn, StrandsNumbered, StrandsUntouched, Strung, beginnings, first_outcomes, held_loom, no_strand, on, plan_of, strand_at, strung_loom, with_source}
 use Rattle.strand_laws.specs.Woven.{Loom, Thread, Told as ToldBy, Woven, ends_strand, put, told_by, weave, weave_on, woven}
-use Rattle.strand_laws.proofs.StrandWorlds.{Calm, Family, FamilyLaws, Go, Hang, Kept, Near, Ok, Q, Sm, both_stores, dear, fresh, going_on, near_behind, state_zero, to_both, world_at}
+use Rattle.strand_laws.proofs.EachWorld.{Calm, Family, FamilyLaws, Go, Hang, Kept, Near, Ok, Q, Sm, both_stores, dear, fresh, going_on, near_behind, state_zero, to_both, world_at}
 use Rattle.strand_laws.proofs.Waking.{nothing_allowed}
 use Rattle.strand_laws.proofs.Pausing.{strand_law}
 use Rattle.strand_laws.proofs.WholeRuns.{QTNow, behave_together}

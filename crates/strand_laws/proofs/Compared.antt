@@ -20,7 +20,7 @@ use Rattle.strand_laws.proofs.Between.{InsideAll}
 use Rattle.strand_laws.proofs.Clear.{ClearOut}
 use Rattle.strand_laws.specs.Strands.{PokesOff, Strand, StrandProgram, StrandsBehaveOn, StrandsCompared, StrandsNumbered, plan_of, with_source}
 use Rattle.strand_laws.specs.Woven.{ends_strand}
-use Rattle.strand_laws.proofs.StrandWorlds.{Family, FamilyLaws, world_at}
+use Rattle.strand_laws.proofs.EachWorld.{Family, FamilyLaws, world_at}
 use Rattle.strand_laws.proofs.Beginnings.{EachFit, EachOut, strands_behave_on}
 
 module _ (family : Family) (laws : FamilyLaws family) where

@@ -3,6 +3,7 @@ pub mod Beginnings
 pub mod Between
 pub mod Clear
 pub mod Compared
+pub mod EachWorld
 pub mod Emitted
 pub mod Endings
 pub mod EndsThere
@@ -22,7 +23,6 @@ pub mod StartFirst
 pub mod Stores
 pub mod StrandLines
 pub mod StrandModules
-pub mod StrandWorlds
 pub mod Stretches
 pub mod Switch
 pub mod Threads

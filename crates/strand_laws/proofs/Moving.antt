@@ -33,7 +33,7 @@ use Rattle.strand_laws.proofs.EndsThere.{CaseTurn, EndsThere, Stays, end_cases, 
 use Rattle.strand_laws.proofs.WovenRuns.{NoEnds, last_of}
 use Rattle.strand_laws.specs.Strands.{StrandProgram, Strung, held_loom, held_starts, on, plan_of, strand_at, strung_loom, strung_starts, with_source}
 use Rattle.strand_laws.specs.Woven.{Loom, ends_strand, last_event}
-use Rattle.strand_laws.proofs.StrandWorlds.{Calm, Family, FamilyLaws, Go, Hang, Kept, Near, NoteUp, Ok, Q, Rel, Sm, alike_up, dear, going_on, halt_law, inside_more, join_up, keeps_others, near_behind, see_up, split_up, world_at}
+use Rattle.strand_laws.proofs.EachWorld.{Calm, Family, FamilyLaws, Go, Hang, Kept, Near, NoteUp, Ok, Q, Rel, Sm, alike_up, dear, going_on, halt_law, inside_more, join_up, keeps_others, near_behind, see_up, split_up, world_at}
 use Rattle.strand_laws.proofs.Waking.{sees_rel}
 
 module _ (family : Family) (laws : FamilyLaws family) where

@@ -35,7 +35,7 @@ use Rattle.strand_laws.proofs.Middle.{Middle, moves_same, stops_same}
 use Rattle.strand_laws.proofs.MoveKinds.{Kind, PlainTurn, Shape, k_pauses, k_plain, k_traps, kind_of, FirstPlain}
 use Rattle.strand_laws.specs.Strands.{StrandProgram, Strung, held_loom, lifted, on, plan_of, space_of, strand_at, strung_asked, strung_loom, strung_next, strung_pauses, strung_tested, with_source}
 use Rattle.strand_laws.specs.Woven.{Loom}
-use Rattle.strand_laws.proofs.StrandWorlds.{Calm, Family, FamilyLaws, Go, Hang, Kept, Near, NoteUp, Ok, Q, Rel, Sm, dear, going_on, halt_law, see_up, world_at}
+use Rattle.strand_laws.proofs.EachWorld.{Calm, Family, FamilyLaws, Go, Hang, Kept, Near, NoteUp, Ok, Q, Rel, Sm, dear, going_on, halt_law, see_up, world_at}
 use Rattle.strand_laws.proofs.Waking.{sees_rel}
 use Rattle.strand_laws.proofs.Moving.{Ending, MoveNow, allowed_once, allowed_stop, an_end, no_end, notes_up, numbered_up, raise, simple_move}
 

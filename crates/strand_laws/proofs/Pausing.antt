@@ -45,7 +45,7 @@ use Rattle.strand_laws.proofs.Paused.{PausesThere, pauses_there}
 use Rattle.strand_laws.proofs.Resumed.{rewound_from}
 use Rattle.strand_laws.specs.Strands.{StrandProgram, Strung, held_loom, on, plan_of, strand_at, strung_loom, waits, with_source}
 use Rattle.strand_laws.specs.Woven.{Loom, Told as ToldBy, Woven, told_by, weave}
-use Rattle.strand_laws.proofs.StrandWorlds.{Calm, Family, FamilyLaws, Go, Hang, Kept, Near, NoteUp, Ok, Q, Rel, Sm, alike_up, dear, going_on, hangs_on, inside_more, join_up, keeps_others, near_behind, see_up, split_up, suspended, world_at}
+use Rattle.strand_laws.proofs.EachWorld.{Calm, Family, FamilyLaws, Go, Hang, Kept, Near, NoteUp, Ok, Q, Rel, Sm, alike_up, dear, going_on, hangs_on, inside_more, join_up, keeps_others, near_behind, see_up, split_up, suspended, world_at}
 use Rattle.strand_laws.proofs.Waking.{poked_size, sees_rel, wakes_now}
 use Rattle.strand_laws.proofs.Moving.{MoveNow, StaysEnd, allowed_once, an_end, dear_up, simple_move}
 use Rattle.strand_laws.proofs.NextMoves.{NextOf, PlainS, block_next, n_pauses, n_simple, next_of, pause_next, plain_move, slow_now, stops_now, unlift}

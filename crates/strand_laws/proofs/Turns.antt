@@ -184,4 +184,4 @@ three_take_turns policy q em =
     let b : StrandsBehaveOn (saving policy) may_pause three_strands q outcomes_of_three 40 =
     strands_of_emitted sample (saving policy) may_pause q (can_there policy) free_there em formed_there may_pause (can_there policy).tells three_strands refl outcomes_of_three 40
     (compared_there policy) (numbered_there policy) in
-    record { original = turns_there policy; emitted = subst (λ es. IsPrefix es (told_by_emitted policy q)) (turns_there policy) b.reaches }
+    record { compared = compared_there policy; numbered = numbered_there policy; original = turns_there policy; emitted = subst (λ es. IsPrefix es (told_by_emitted policy q)) (turns_there policy) b.reaches }

@@ -40,7 +40,7 @@ use Rattle.strand_laws.proofs.Resumed.{Suspends, Woken, WokenTraps, rewound_from
 use Rattle.strand_laws.proofs.StartFirst.{answers_later}
 use Rattle.strand_laws.specs.Strands.{StrandProgram, Strung, held_loom, held_starts, on, plan_of, strand_at, strung_loom, waits, with_source, told_on}
 use Rattle.strand_laws.specs.Woven.{Loom, ends_strand}
-use Rattle.strand_laws.proofs.StrandWorlds.{Calm, Family, FamilyLaws, Go, Hang, Kept, Near, NoteUp, Ok, Q, Rel, Sm, alike_up, both_stores, dear, fresh, going_on, inside_more, join_up, keeps_others, near_behind, see_up, split_up, state_zero, suspended, to_both, world_at}
+use Rattle.strand_laws.proofs.EachWorld.{Calm, Family, FamilyLaws, Go, Hang, Kept, Near, NoteUp, Ok, Q, Rel, Sm, alike_up, both_stores, dear, fresh, going_on, inside_more, join_up, keeps_others, near_behind, see_up, split_up, state_zero, suspended, to_both, world_at}
 
 module _ (family : Family) (laws : FamilyLaws family) where
   abbrev wd : ℕ → World

@@ -71,10 +71,10 @@ first_outcomes (os ∷ oss) = os
 
 -- ---- under the protocol
 
--- a strand's turn begins: it is rewound over the store, since which its area is kept, or its first entry is called
+-- a strand's turn begins: it is rewound over the store of the moment, from which on it keeps its area, or its first entry is called
 abbrev pub held_wakes : Store → Held → Ran Held Note
 held_wakes s (free old l) = record { events = done_notes s l.entries; last = held_on s l l.entries }
-held_wakes s (calling (rewinds e i a at_pause) old f args th l) = still (calling (rewinds e i a s) s f args th l)
+held_wakes s (calling (rewinds e i a since) old f args th l) = still (calling (rewinds e i a s) s f args th l)
 held_wakes s h = still h
 
 -- it is in the start function
@@ -209,7 +209,7 @@ pub record SameTold (s : Settings) (which : List Bool) (g : StrandProgram) (x y 
   pub event : x.note.event ≡ y.note.event
   pub ends : SameOff (global_space g.source) (areas_of g) x.note.store y.note.store
   pub image : AtPaused y.note.event (Image g.source s which x.note.stack (strand_at g x.strand).area.at (strand_at g x.strand).area.len y.note.store.memory)
-  pub kept : (at_pause : Store) → y.note.since ≡ Some at_pause → AreaKept (strand_at g x.strand).area at_pause y.note.store
+  pub kept : (turn_began : Store) → y.note.since ≡ Some turn_began → AreaKept (strand_at g x.strand).area turn_began y.note.store
   pub state : AtCalls y.note.event (slice_get y.note.store.globals (global_space g.source) ≡ Some (V.I32 0))
 
 -- ---- premises

@@ -9,7 +9,7 @@
 //! headline's laws of one plan: the original is run over a store with the other module's bytes in all areas, which makes no difference to
 //! it (`proofs/Apart.antt`, `proofs/Middle.antt`, `proofs/Between.antt`).
 //! `proofs/Paused.antt` has the first half of a pause, `proofs/Resumed.antt` the second over the store of the moment,
-//! `proofs/EndsThere.antt` where a strand ends alone; `proofs/StrandWorlds.antt` and the files above it put all strands side by side, and
+//! `proofs/EndsThere.antt` where a strand ends alone; `proofs/EachWorld.antt` and the files above it put all strands side by side, and
 //! `proofs/StrandModules.antt` has that emitted modules meet what is asked.
 //!
 //! `specs/StrandWorld.antt` has worlds of strands: each strand is an actor, the strands of one program tell one woven run, and the world has the

@@ -1,4 +1,4 @@
--- The strands of a program side by side: what belongs to one that goes on, to one that waits, and to the stores; what a stretch of one keeps of the others.
+-- The headline's world of each strand, side by side: what belongs to a strand that goes on, to one that waits, and to the stores; what a stretch of one keeps of the others.
 use Rattle.headline.specs.FlatLaw.{FlatLaw}
 use Rattle.image_laws.proofs.Restored.{over_store}
 use Rattle.headline.proofs.Halting.{plain_halts}
@@ -69,7 +69,7 @@ pub record SameOne (m : Module) (st : Settings) (which : List Bool) (g : StrandP
   pub event : x.event ≡ y.event
   pub ends : SameAll (global_space m) g.strands x.store y.store
   pub image : AtPaused y.event (Image m st which x.stack (strand_at g i).area.at (strand_at g i).area.len y.store.memory)
-  pub kept : (at_pause : Store) → y.since ≡ Some at_pause → AreaKept (strand_at g i).area at_pause y.store
+  pub kept : (turn_began : Store) → y.since ≡ Some turn_began → AreaKept (strand_at g i).area turn_began y.store
   pub state : AtCalls y.event (slice_get y.store.globals (global_space m) ≡ Some (V.I32 0))
 
 -- The strands of a program, of its original, the flat and the written module, with what all have in common: how configurations are
