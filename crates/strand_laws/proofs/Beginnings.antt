@@ -30,7 +30,7 @@ use Rattle.strand_laws.proofs.Switch.{wake_all}
 use Rattle.strand_laws.proofs.Threads.{AllHang, hang_lengths, unfinished, unfinished_few}
 use Rattle.strand_laws.specs.Strands.{Strand, StrandProgram, StrandsBehaveOn, StrandsNumbered, StrandsUntouched, Strung, beginnings, first_outcomes, held_loom, no_strand, on, plan_of, strand_at, strung_loom, with_source}
 use Rattle.strand_laws.specs.Woven.{Loom, Thread, Told as ToldBy, Woven, ends_strand, put, told_by, weave, weave_on, woven}
-use Rattle.strand_laws.proofs.StrandWorlds.{Calm, Family, FamilyLaws, Go, Hang, Kept, Near, Ok, Q, Sm, both_stores, dear, fresh, going_on, near_behind, state_zero, to_both, world_at}
+use Rattle.strand_laws.proofs.EachWorld.{Calm, Family, FamilyLaws, Go, Hang, Kept, Near, Ok, Q, Sm, both_stores, dear, fresh, going_on, near_behind, state_zero, to_both, world_at}
 use Rattle.strand_laws.proofs.Waking.{nothing_allowed}
 use Rattle.strand_laws.proofs.Pausing.{strand_law}
 use Rattle.strand_laws.proofs.WholeRuns.{QTNow, behave_together}
@@ -81,9 +81,10 @@ module _ (family : Family) (laws : FamilyLaws family) where
   EachFit [] = Unit {0}
   EachFit (s ∷ ss) = All (EntryFits m) s.entries × EachFit ss
 
-  abbrev pub EachOut : List (List Outcome) → Type 0
-  EachOut [] = Unit {0}
-  EachOut (os ∷ oss) = (All OutcomeFits os × ClearOut g.strands os) × EachOut oss
+  -- of the strands from this number on
+  abbrev pub EachOut : (strand : ℕ) → List (List Outcome) → Type 0
+  EachOut i [] = Unit {0}
+  EachOut i (os ∷ oss) = (All OutcomeFits os × ClearOut (strand_at g i).area g.strands os) × EachOut (suc i) oss
 
   none_fit : {X : Type 0} (P : X → Type 0) → All P []
   none_fit P = λ k d lt. let no_way : ⊥ = omega arith in absurd no_way
@@ -92,8 +93,8 @@ module _ (family : Family) (laws : FamilyLaws family) where
   fits_first [] h = none_fit (EntryFits m)
   fits_first (s ∷ ss) h = h.0
 
-  outs_first : (oss : List (List Outcome)) → EachOut oss → All OutcomeFits (first_outcomes oss) × ClearOut g.strands (first_outcomes oss)
-  outs_first [] h = (none_fit OutcomeFits, clear_none g.strands)
+  outs_first : (oss : List (List Outcome)) → EachOut 0 oss → All OutcomeFits (first_outcomes oss) × ClearOut (strand_at g 0).area g.strands (first_outcomes oss)
+  outs_first [] h = (none_fit OutcomeFits, clear_none (strand_at g 0).area g.strands)
   outs_first (os ∷ oss) h = h.0
 
   abbrev thread_a : Strung → Thread Strung
@@ -102,7 +103,7 @@ module _ (family : Family) (laws : FamilyLaws family) where
   abbrev thread_b : Held → Thread Held
   thread_b s = record { due = 0; at = Some s }
 
-  hang_others : (s' : Store) (i : ℕ) (ss : List Strand) (oss : List (List Outcome)) → i + length ss ≤ count → EachFit ss → EachOut oss
+  hang_others : (s' : Store) (i : ℕ) (ss : List Strand) (oss : List (List Outcome)) → i + length ss ≤ count → EachFit ss → EachOut i oss
       → AllHang (Hang family laws) s' i 0 (map thread_a (beginnings (λ l. on (between no_store l)) (with_source g m) ss oss))
       (map thread_b (beginnings (free no_store) (with_source g written) ss oss))
   hang_others s' i [] [] le fs os = tt
@@ -122,7 +123,7 @@ module _ (family : Family) (laws : FamilyLaws family) where
   others_fit [] h = tt
   others_fit (s ∷ ss) h = h.1
 
-  others_out : (oss : List (List Outcome)) → EachOut oss → EachOut (drop 1 oss)
+  others_out : (oss : List (List Outcome)) → EachOut 0 oss → EachOut 1 (drop 1 oss)
   others_out [] h = tt
   others_out (os ∷ oss) h = h.1
 
@@ -144,7 +145,7 @@ module _ (family : Family) (laws : FamilyLaws family) where
 
   module _ (some : 0 < count) (sf : StartFits (wd 0) G) (fails : (how : End) → opening (Base m) g.globals ≡ fails_as how → ends_strand true how ≡ false)
       (inside_start : (s : Store) → opening (Base m) g.globals ≡ opens s → InsideAll g.strands (length s.memory)) (entries_fit : EachFit g.strands) (oss : List (List Outcome))
-      (outs_fit : EachOut oss) where
+      (outs_fit : EachOut 0 oss) where
     abbrev left0 : Left
     left0 = all_left (plan_of g (strand_at g 0)) (first_outcomes oss)
 

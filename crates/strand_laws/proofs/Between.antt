@@ -208,16 +208,16 @@ out_by : (n : ℕ) (o : Outcome) → PokesOff (empty_at n) o
 out_by n (given a) = λ i q lt k d less. one_empty n _ _ k d less
 out_by n (refused e) = tt
 
-out_there : (n : ℕ) (a : State) → OutcomesOff (end_gap n) a
-out_there n (Rattle.wa_model.specs.Blocking.between s l) = λ i d lt. out_by n _
-out_there n (Rattle.wa_model.specs.Blocking.begins x s l) = λ i d lt. out_by n _
-out_there n (Rattle.wa_model.specs.Blocking.runs task c l) = λ i d lt. out_by n _
-out_there n (Rattle.wa_model.specs.Blocking.halts s) = tt
+out_there : (own : Area) (n : ℕ) (a : State) → OutcomesOff own (end_gap n) a
+out_there own n (Rattle.wa_model.specs.Blocking.between s l) = inr (λ i d lt. out_by n _)
+out_there own n (Rattle.wa_model.specs.Blocking.begins x s l) = inr (λ i d lt. out_by n _)
+out_there own n (Rattle.wa_model.specs.Blocking.runs task c l) = inr (λ i d lt. out_by n _)
+out_there own n (Rattle.wa_model.specs.Blocking.halts s) = tt
 
 pub memory_grows : (m : Module) (plan : Plan) (a t : State) (k : ℕ) (es : List Note) → blocking m plan a ≡ goes k es t → length (store_of a).memory ≤ length (store_of t).memory
 memory_grows m plan a t k es e =
     let n = length (store_of a).memory in
-    let g = apart_goes (end_gap n) (blocking m plan a) (blocking m plan a) k es t (blocks_apart (end_gap n) m plan a a (state_self a) (calm_there n a) (out_there n a)) e in
+    let g = apart_goes (end_gap n) (blocking m plan a) (blocking m plan a) k es t (blocks_apart (end_gap n) m plan a a (state_self a) (calm_there n a) (out_there plan.area n a)) e in
     let h = state_store (end_gap n) t g.1 g.4 in
     let l0 = h.low_size in
     let lm : length (store_of t).memory ≡ length h.low + length h.high = ap length h.memory ∙ length-append h.low h.high in

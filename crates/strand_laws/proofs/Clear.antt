@@ -1,5 +1,5 @@
--- Outcomes that keep off all areas, and moves that do.
-use Rattle.std.proofs.Common.{◌≡◌, ℕ, zero, suc, ◌<◌, List, [], ◌∷◌, length, All, Option, Some, None, Bool, true, false, refl, sym, ap, subst, arith}
+-- Outcomes that keep off the areas of the other strands, and moves that keep off all.
+use Rattle.std.proofs.Common.{◌≡◌, ℕ, zero, suc, ◌<◌, List, [], ◌∷◌, length, All, Option, Some, None, Bool, true, false, refl, sym, ap, subst, inl, inr, ⊎_elim, arith}
 use Rattle.std.specs.Option.{option_to_list}
 use Rattle.std.specs.Prelude.{if◌then◌else◌, nat_lt}
 use Rattle.wa_types.specs.declared.values.Value.{Value}
@@ -20,64 +20,68 @@ use Rattle.wa_model.specs.Store.{Store}
 use Rattle.wa_model.specs.Untouched.{IsCalm}
 use Rattle.strand_laws.proofs.Apart.{Gap}
 use Rattle.strand_laws.proofs.Between.{AreGaps, Chain, area_at}
-use Rattle.strand_laws.proofs.Middle.{AllOff, EveryOff, Middle, OutcomesOff, StateApart, calm_apart, pokes_apart, pokes_off, s_begins, s_between, s_halts, s_runs, size_apart}
-use Rattle.strand_laws.specs.Strands.{PokesOff, Strand}
+use Rattle.strand_laws.proofs.Middle.{AllOff, EveryOff, Middle, OffOther, OutcomesOff, StateApart, answer_off, calm_apart, pokes_apart, s_begins, s_between, s_halts, s_runs, size_apart}
+use Rattle.strand_laws.specs.Strands.{Strand}
 
 abbrev pub gap_of : Strand → Gap
 gap_of s = record { area = s.area; held = []; held' = [] }
 
--- these outcomes keep off all areas
-abbrev pub ClearOut : List Strand → List Outcome → Type 0
-ClearOut [] os = Unit {0}
-ClearOut (s ∷ ss) os = All (PokesOff (s.area ∷ [])) os × ClearOut ss os
+-- these outcomes keep off all areas but the strand's own
+abbrev pub ClearOut : (own : Area) → List Strand → List Outcome → Type 0
+ClearOut own [] os = Unit {0}
+ClearOut own (s ∷ ss) os = OffOther own s.area os × ClearOut own ss os
 
-abbrev pub ClearState : List Strand → State → Type 0
-ClearState ss (between s l) = ClearOut ss l.outcomes
-ClearState ss (begins x s l) = ClearOut ss l.outcomes
-ClearState ss (runs task c l) = ClearOut ss l.outcomes
-ClearState ss (halts s) = Unit {0}
+abbrev pub ClearState : (own : Area) → List Strand → State → Type 0
+ClearState own ss (between s l) = ClearOut own ss l.outcomes
+ClearState own ss (begins x s l) = ClearOut own ss l.outcomes
+ClearState own ss (runs task c l) = ClearOut own ss l.outcomes
+ClearState own ss (halts s) = Unit {0}
 
 abbrev pub CalmAll : List Strand → State → Type 0
 CalmAll [] a = Unit {0}
 CalmAll (s ∷ ss) a = IsCalm s.area a × CalmAll ss a
 
--- pokes that do
+-- these pokes keep off all areas
 abbrev pub ClearPokes : List Strand → List Poke → Type 0
 ClearPokes [] qs = Unit {0}
 ClearPokes (s ∷ ss) qs = EveryOff (gap_of s) qs × ClearPokes ss qs
 
-pub clear_tail : (ss : List Strand) (o : Outcome) (os : List Outcome) → ClearOut ss (o ∷ os) → ClearOut ss os
-clear_tail [] o os h = tt
-clear_tail (s ∷ ss) o os h = (λ k d lt. let more : suc k < length (o ∷ os) = omega arith in h.0 (suc k) d more, clear_tail ss o os h.1)
+tail_off : (own area : Area) (o : Outcome) (os : List Outcome) → OffOther own area (o ∷ os) → OffOther own area os
+tail_off own area o os h = ⊎_elim (λ same. inl same) (λ off_. inr (λ k d lt. let more : suc k < length (o ∷ os) = omega arith in off_ (suc k) d more)) h
 
-pub clear_pokes : (ss : List Strand) (a : Answer) (os : List Outcome) → ClearOut ss (given a ∷ os) → ClearPokes ss a.pokes
-clear_pokes [] a os h = tt
-clear_pokes (s ∷ ss) a os h = (pokes_off (gap_of s) a os h.0, clear_pokes ss a os h.1)
+pub clear_tail : (own : Area) (ss : List Strand) (o : Outcome) (os : List Outcome) → ClearOut own ss (o ∷ os) → ClearOut own ss os
+clear_tail own [] o os h = tt
+clear_tail own (s ∷ ss) o os h = (tail_off own s.area o os h.0, clear_tail own ss o os h.1)
 
-clear_one : (s : Strand) (ss : List Strand) (a : State) → ClearState (s ∷ ss) a → OutcomesOff (gap_of s) a
-clear_one s ss (between t l) h = h.0
-clear_one s ss (begins x t l) h = h.0
-clear_one s ss (runs task c l) h = h.0
-clear_one s ss (halts t) h = tt
+-- those of an answer that passes the tests
+pub clear_pokes : (own : Area) (ss : List Strand) (size : ℕ) (a : Answer) (os : List Outcome) → bad_poke size own a.pokes ≡ None → ClearOut own ss (given a ∷ os) → ClearPokes ss a.pokes
+clear_pokes own [] size a os e h = tt
+clear_pokes own (s ∷ ss) size a os e h = (answer_off (gap_of s) own size a os e h.0, clear_pokes own ss size a os e h.1)
 
-clear_more : (s : Strand) (ss : List Strand) (a : State) → ClearState (s ∷ ss) a → ClearState ss a
-clear_more s ss (between t l) h = h.1
-clear_more s ss (begins x t l) h = h.1
-clear_more s ss (runs task c l) h = h.1
-clear_more s ss (halts t) h = tt
+clear_one : (own : Area) (s : Strand) (ss : List Strand) (a : State) → ClearState own (s ∷ ss) a → OutcomesOff own (gap_of s) a
+clear_one own s ss (between t l) h = h.0
+clear_one own s ss (begins x t l) h = h.0
+clear_one own s ss (runs task c l) h = h.0
+clear_one own s ss (halts t) h = tt
 
-out_area : (p q : Gap) (a : State) → p.area ≡ q.area → OutcomesOff q a → OutcomesOff p a
-out_area p q (between t l) e h = subst (λ z. All (PokesOff (z ∷ [])) l.outcomes) (sym e) h
-out_area p q (begins x t l) e h = subst (λ z. All (PokesOff (z ∷ [])) l.outcomes) (sym e) h
-out_area p q (runs task c l) e h = subst (λ z. All (PokesOff (z ∷ [])) l.outcomes) (sym e) h
-out_area p q (halts t) e h = tt
+clear_more : (own : Area) (s : Strand) (ss : List Strand) (a : State) → ClearState own (s ∷ ss) a → ClearState own ss a
+clear_more own s ss (between t l) h = h.1
+clear_more own s ss (begins x t l) h = h.1
+clear_more own s ss (runs task c l) h = h.1
+clear_more own s ss (halts t) h = tt
 
-pub all_off : (ss : List Strand) (ps : List Gap) (a : State) → AreGaps ss ps → CalmAll ss a → ClearState ss a → AllOff ps a
-all_off [] [] a g c o = tt
-all_off [] (p ∷ ps) a g c o = absurd g
-all_off (s ∷ ss) [] a g c o = absurd g
-all_off (s ∷ ss) (p ∷ ps) a g c o =
-    ((subst (λ z. IsCalm z a) (sym g.0) c.0, out_area p (gap_of s) a g.0 (clear_one s ss a o)), all_off ss ps a g.1 c.1 (clear_more s ss a o))
+out_area : (own : Area) (p q : Gap) (a : State) → p.area ≡ q.area → OutcomesOff own q a → OutcomesOff own p a
+out_area own p q (between t l) e h = subst (λ z. OffOther own z l.outcomes) (sym e) h
+out_area own p q (begins x t l) e h = subst (λ z. OffOther own z l.outcomes) (sym e) h
+out_area own p q (runs task c l) e h = subst (λ z. OffOther own z l.outcomes) (sym e) h
+out_area own p q (halts t) e h = tt
+
+pub all_off : (own : Area) (ss : List Strand) (ps : List Gap) (a : State) → AreGaps ss ps → CalmAll ss a → ClearState own ss a → AllOff own ps a
+all_off own [] [] a g c o = tt
+all_off own [] (p ∷ ps) a g c o = absurd g
+all_off own (s ∷ ss) [] a g c o = absurd g
+all_off own (s ∷ ss) (p ∷ ps) a g c o =
+    ((subst (λ z. IsCalm z a) (sym g.0) c.0, out_area own p (gap_of s) a g.0 (clear_one own s ss a o)), all_off own ss ps a g.1 c.1 (clear_more own s ss a o))
 
 -- at one area
 pub calm_at : (ss : List Strand) (i : ℕ) (a : State) → i < length ss → CalmAll ss a → IsCalm (area_at ss i) a
@@ -93,7 +97,7 @@ calm_over area (p ∷ ps) a a' h c = calm_over area ps h.0 a' h.2 (once a h.0 h.
     once _ _ (s_between g) k = tt
     once _ _ (s_begins g) k = tt
     once _ _ (s_runs {c = c} {c' = c'} {l = l} {task = task} g) k =
-        (calm_apart p (record { area = area; held = []; held' = [] }) (runs task c (none l)) (runs task c' (none l)) (s_runs g) (k, λ i d lt. let no_way : ⊥ = omega arith in absurd no_way)).0
+        (calm_apart area p (record { area = area; held = []; held' = [] }) (runs task c (none l)) (runs task c' (none l)) (s_runs g) (k, inl refl)).0
       where
         none : Left → Left
         none q = record { number = 0; entries = []; outcomes = [] }
@@ -104,27 +108,27 @@ calm_over area (p ∷ ps) a a' h c = calm_over area ps h.0 a' h.2 (once a h.0 h.
 module _ (ss : List Strand) (m : Module) (plan : Plan) where
   abbrev TurnClear : Turn State Note → Type 0
   TurnClear stops = Unit {0}
-  TurnClear (goes k es t) = ClearState ss t
+  TurnClear (goes k es t) = ClearState plan.area ss t
 
-  on_clear : (s : Store) (l : Left) (es : List Entry) → ClearOut ss l.outcomes → ClearState ss (on_to s l es)
+  on_clear : (s : Store) (l : Left) (es : List Entry) → ClearOut plan.area ss l.outcomes → ClearState plan.area ss (on_to s l es)
   on_clear s l [] h = tt
   on_clear s l (e ∷ es) h = h
 
-  goes_clear : (k : ℕ) (x : Note) (said : Said) (s : Store) (l : Left) (v : Asker) → ClearOut ss l.outcomes → TurnClear (go_on k x said s l v)
+  goes_clear : (k : ℕ) (x : Note) (said : Said) (s : Store) (l : Left) (v : Asker) → ClearOut plan.area ss l.outcomes → TurnClear (go_on k x said s l v)
   goes_clear k x (S.Value v) s l (inside task d) h = h
   goes_clear k x (S.Value v) s l (outermost old) h = on_clear s l l.entries h
   goes_clear k x S.Trap s l v h = tt
 
-  asked_clear : (k i : ℕ) (args : List Value) (v : Asker) (l : Left) (os : List Outcome) → ClearOut ss os → TurnClear (asked m plan k i args v l os)
+  asked_clear : (k i : ℕ) (args : List Value) (v : Asker) (l : Left) (os : List Outcome) → ClearOut plan.area ss os → TurnClear (asked m plan k i args v l os)
   asked_clear k i args v l [] h = tt
   asked_clear k i args v l (refused e ∷ os) h = tt
   asked_clear k i args v l (given a ∷ os) h = by_fault (fault_of (func_type_at m i).results (length (store_at v).memory) plan (in_start v) i a)
     where
       by_fault : (o : Option End) → TurnClear (tested m k i args v (with_outcomes l os) a o)
       by_fault (Some e) = tt
-      by_fault None = goes_clear k _ a.said (poked (store_at v) a.pokes) (with_outcomes l os) v (clear_tail ss (given a) os h)
+      by_fault None = goes_clear k _ a.said (poked (store_at v) a.pokes) (with_outcomes l os) v (clear_tail plan.area ss (given a) os h)
 
-  step_clear : (task : Task) (l : Left) (o : Next) → ClearOut ss l.outcomes → TurnClear (by_step m plan task l o)
+  step_clear : (task : Task) (l : Left) (o : Next) → ClearOut plan.area ss l.outcomes → TurnClear (by_step m plan task l o)
   step_clear task l (steps k d) h = h
   step_clear task l (asks k i args d) h = asked_clear k i args (inside task d) l l.outcomes h
   step_clear the_start l (returns k vs s) h = on_clear s l l.entries h
@@ -132,7 +136,7 @@ module _ (ss : List Strand) (m : Module) (plan : Plan) where
   step_clear task l (traps k t s) h = tt
   step_clear task l stuck h = tt
 
-  turn_clear : (a : State) → ClearState ss a → TurnClear (blocking m plan a)
+  turn_clear : (a : State) → ClearState plan.area ss a → TurnClear (blocking m plan a)
   turn_clear (between s l) h = by_entries l.entries
     where
       by_func : (e : Entry) (es : List Entry) (f : Option Func) → TurnClear (enters e s (record { number = l.number; entries = es; outcomes = l.outcomes }) f)
@@ -154,7 +158,7 @@ module _ (ss : List Strand) (m : Module) (plan : Plan) where
   turn_clear (runs task c l) h = step_clear task l (step m c) h
   turn_clear (halts s) h = tt
 
-  pub clear_on : (a t : State) (k : ℕ) (es : List Note) → ClearState ss a → blocking m plan a ≡ goes k es t → ClearState ss t
+  pub clear_on : (a t : State) (k : ℕ) (es : List Note) → ClearState plan.area ss a → blocking m plan a ≡ goes k es t → ClearState plan.area ss t
   clear_on a t k es h e = subst TurnClear e (turn_clear a h)
 
 -- ---- an answer is poked into both, and given
@@ -190,6 +194,6 @@ pub chain_begins : (ps : List Gap) (s t : Store) (x : ℕ) (l : Left) → Chain 
 chain_begins [] s t x l h = ap (λ (z : Store). begins x z l) h
 chain_begins (p ∷ ps) s t x l h = (begins x h.0 l, s_begins h.1, chain_begins ps h.0 t x l h.2)
 
-pub clear_none : (ss : List Strand) → ClearOut ss []
-clear_none [] = tt
-clear_none (s ∷ ss) = (λ k d lt. let no_way : ⊥ = omega arith in absurd no_way, clear_none ss)
+pub clear_none : (own : Area) (ss : List Strand) → ClearOut own ss []
+clear_none own [] = tt
+clear_none own (s ∷ ss) = (inr (λ k d lt. let no_way : ⊥ = omega arith in absurd no_way), clear_none own ss)

@@ -12,16 +12,17 @@ use Rattle.wa_model.specs.Outside.{Answer, Event, Poke, answered, ended, paused}
 use Rattle.wa_model.specs.Blocking.{Asker, Left, Note, Task, an_entry, call_note, done_notes, fault_of}
 use Rattle.wa_model.specs.Blocking.{in_start, inside, next_entry, note, outermost, pause_of, poked, stack_at, store_at, the_start, value_of_results, with_outcomes}
 use Rattle.wa_model.specs.Configuration.{Configuration}
-use Rattle.wa_model.specs.Machine.{Leads, Turn, goes, moves, stays, stops}
+use Rattle.wa_model.specs.Machine.{Leads, Turn, goes, moves, stays, still, stops}
 use Rattle.wa_model.specs.Plan.{Entry, Outcome, Plan, given, refused}
 use Rattle.wa_model.specs.Protocol.{Exports, Held, Phase, Then, aside, aside_back, aside_called, aside_step, broken, busy, busy_enters, busy_step, call_again, calling, entering, free, give_answer, give_zero}
-use Rattle.wa_model.specs.Protocol.{held_asked, held_back, held_given, held_next, held_on, held_resumed, held_start, held_tested, is_running, is_state, over, pause_there, protocol, rewinds, starting, test_rewound, test_unwound, unwinds}
+use Rattle.wa_model.specs.Protocol.{held_asked, held_back, held_given, held_next, held_on, held_resumed, held_start, held_tested, is_running, is_state, over, pause_there, protocol, rewinds, starting, store_held, test_rewound, test_unwound, unwinds}
 use Rattle.wa_model.specs.Step.{Next, asks, returns, step, steps, stuck, traps}
 use Rattle.wa_model.specs.Store.{Store}
 use Rattle.strand_laws.proofs.WovenRuns.{NoEnds, last_of}
+use Rattle.strand_laws.specs.Strands.{held_wakes}
 use Rattle.strand_laws.specs.Woven.{last_event}
 
--- ---- under the protocol an end leads to where all is over
+-- ---- under the protocol an end leads to where all is over, and a pause to where the stack is rewound
 
 abbrev pub OverAt : Held → Type 0
 OverAt (over s) = Unit {0}
@@ -32,118 +33,134 @@ OverAt (calling ph s f args th l) = ⊥
 OverAt (aside ph c th l) = ⊥
 OverAt (entering ph e s l) = ⊥
 
+-- a move's last note, if it is an end, leads to where all is over; if it is a pause, to where nothing changes as a turn begins
+abbrev pub EndsSo : List Note → Held → Type 0
+EndsSo es t =
+    ((how : End) → last_event es ≡ Some (ended how) → OverAt t) × ((ticks used : ℕ) → last_event es ≡ Some (paused ticks used) → held_wakes (store_held t) t ≡ still t)
+
+abbrev pub TurnEnds : Turn Held Note → Type 0
+TurnEnds stops = Unit {0}
+TurnEnds (goes k es t) = EndsSo es t
+
 abbrev pub EndsOver : Turn Held Note → Type 0
 EndsOver stops = Unit {0}
 EndsOver (goes k es t) = (how : End) → last_event es ≡ Some (ended how) → OverAt t
 
 module _ (p : Module) (x : Exports) (plan : Plan) where
-  given_over : (k : ℕ) (q : Note) (said : Said) (s : Store) (l : Left) (v : Asker) → EndsOver (held_given k q said s l v)
-  given_over k q (S.Value x) s l (inside task c) = λ how e. cc
-  given_over k q (S.Value x) s l (outermost old) = by_entries l.entries
+  given_ends : (k : ℕ) (q : Note) (said : Said) (s : Store) (l : Left) (v : Asker) → TurnEnds (held_given k q said s l v)
+  given_ends k q (S.Value x) s l (inside task c) = (λ how e. cc, λ ticks used e. cc)
+  given_ends k q (S.Value x) s l (outermost old) = by_entries l.entries
     where
-      by_entries : (es : List Entry) → EndsOver (goes k (q ∷ note (answered (S.Value x)) s ∷ done_notes s es) (held_on s l es))
-      by_entries [] = λ how e. tt
-      by_entries (e1 ∷ es) = λ how e. cc
-  given_over k q S.Trap s l v = λ how e. tt
+      by_entries : (es : List Entry) → TurnEnds (goes k (q ∷ note (answered (S.Value x)) s ∷ done_notes s es) (held_on s l es))
+      by_entries [] = (λ how e. tt, λ ticks used e. cc)
+      by_entries (e1 ∷ es) = (λ how e. cc, λ ticks used e. cc)
+  given_ends k q S.Trap s l v = (λ how e. tt, λ ticks used e. cc)
 
-  resumed_over : (k : ℕ) (q : Entry) (said : Said) (sp : Store) (c : Configuration) (l : Left) (s : Store) → EndsOver (held_resumed k q said sp c l s)
-  resumed_over k q (S.Value x) sp c l s = λ how e. cc
-  resumed_over k q S.Trap sp c l s = λ how e. tt
+  resumed_ends : (k : ℕ) (q : Entry) (said : Said) (sp : Store) (c : Configuration) (l : Left) (s : Store) → TurnEnds (held_resumed k q said sp c l s)
+  resumed_ends k q (S.Value x) sp c l s = (λ how e. cc, λ ticks used e. cc)
+  resumed_ends k q S.Trap sp c l s = (λ how e. tt, λ ticks used e. cc)
 
-  tested_over : (k i : ℕ) (args : List Value) (v : Asker) (l : Left) (a : Answer) (o : Option End) (pause : Option ℕ) → EndsOver (held_tested p x plan k i args v l a o pause)
-  tested_over k i args v l a (Some e) pause = λ how q. tt
-  tested_over k i args v l a None None = given_over k (call_note i args (store_at v) (stack_at p v) None) a.said (poked (store_at v) a.pokes) l v
-  tested_over k i args (inside (an_entry e) c) l a None (Some ticks) = λ how q. cc
-  tested_over k i args (inside the_start c) l a None (Some ticks) = tt
-  tested_over k i args (outermost s) l a None (Some ticks) = tt
+  tested_ends : (k i : ℕ) (args : List Value) (v : Asker) (l : Left) (a : Answer) (o : Option End) (pause : Option ℕ) → TurnEnds (held_tested p x plan k i args v l a o pause)
+  tested_ends k i args v l a (Some e) pause = (λ how q. tt, λ ticks used q. cc)
+  tested_ends k i args v l a None None = given_ends k (call_note i args (store_at v) (stack_at p v) None) a.said (poked (store_at v) a.pokes) l v
+  tested_ends k i args (inside (an_entry e) c) l a None (Some ticks) = (λ how q. cc, λ ticks used q. cc)
+  tested_ends k i args (inside the_start c) l a None (Some ticks) = tt
+  tested_ends k i args (outermost s) l a None (Some ticks) = tt
 
-  asked_over : (k i : ℕ) (args : List Value) (v : Asker) (l : Left) (os : List Outcome) → EndsOver (held_asked p x plan k i args v l os)
-  asked_over k i args v l [] = λ how q. tt
-  asked_over k i args v l (refused e ∷ os) = λ how q. tt
-  asked_over k i args v l (given a ∷ os) =
-      tested_over k i args v (with_outcomes l os) a (fault_of (func_type_at p i).results (length (store_at v).memory) plan (in_start v) i a) (pause_of a.ticks)
+  asked_ends : (k i : ℕ) (args : List Value) (v : Asker) (l : Left) (os : List Outcome) → TurnEnds (held_asked p x plan k i args v l os)
+  asked_ends k i args v l [] = (λ how q. tt, λ ticks used q. cc)
+  asked_ends k i args v l (refused e ∷ os) = (λ how q. tt, λ ticks used q. cc)
+  asked_ends k i args v l (given a ∷ os) =
+      tested_ends k i args v (with_outcomes l os) a (fault_of (func_type_at p i).results (length (store_at v).memory) plan (in_start v) i a) (pause_of a.ticks)
 
-  back_over : (k : ℕ) (task : Task) (vs : List Value) (s : Store) (l : Left) → EndsOver (held_back k task vs s l)
-  back_over k the_start vs s l = by_entries l.entries
+  back_ends : (k : ℕ) (task : Task) (vs : List Value) (s : Store) (l : Left) → TurnEnds (held_back k task vs s l)
+  back_ends k the_start vs s l = by_entries l.entries
     where
-      by_entries : (es : List Entry) → EndsOver (goes k (done_notes s es) (held_on s l es))
-      by_entries [] = λ how e. tt
-      by_entries (e1 ∷ es) = λ how e. cc
-  back_over k (an_entry q) vs s l = by_entries l.entries
+      by_entries : (es : List Entry) → TurnEnds (goes k (done_notes s es) (held_on s l es))
+      by_entries [] = (λ how e. tt, λ ticks used e. cc)
+      by_entries (e1 ∷ es) = (λ how e. cc, λ ticks used e. cc)
+  back_ends k (an_entry q) vs s l = by_entries l.entries
     where
-      by_entries : (es : List Entry) → EndsOver (goes k (note (Rattle.wa_model.specs.Outside.returned l.number (value_of_results vs)) s ∷ done_notes s es) (held_on s (next_entry l) es))
-      by_entries [] = λ how e. tt
-      by_entries (e1 ∷ es) = λ how e. cc
+      by_entries : (es : List Entry) → TurnEnds (goes k (note (Rattle.wa_model.specs.Outside.returned l.number (value_of_results vs)) s ∷ done_notes s es) (held_on s (next_entry l) es))
+      by_entries [] = (λ how e. tt, λ ticks used e. cc)
+      by_entries (e1 ∷ es) = (λ how e. cc, λ ticks used e. cc)
 
-  busy_over : (ph : Phase) (l : Left) (o : Next) → EndsOver (busy_step p x plan ph l o)
-  busy_over ph l (steps k d) = λ how e. cc
-  busy_over (is_running task) l (asks k i args d) = asked_over k i args (inside task d) l l.outcomes
-  busy_over (unwinds q i a) l (asks k j args d) = λ how e. tt
-  busy_over (rewinds q i a sp) l (asks k j args d) = by_same (nat_eq j i)
+  busy_ends : (ph : Phase) (l : Left) (o : Next) → TurnEnds (busy_step p x plan ph l o)
+  busy_ends ph l (steps k d) = (λ how e. cc, λ ticks used e. cc)
+  busy_ends (is_running task) l (asks k i args d) = asked_ends k i args (inside task d) l l.outcomes
+  busy_ends (unwinds q i a) l (asks k j args d) = (λ how e. tt, λ ticks used e. cc)
+  busy_ends (rewinds q i a sp) l (asks k j args d) = by_same (nat_eq j i)
     where
-      by_same : (t : Bool) → EndsOver (if t then goes k [] (calling (rewinds q i a sp) d.store x.get_state [] (test_rewound d) l) else broken k 3 d.store)
-      by_same true = λ how e. cc
-      by_same false = λ how e. tt
-  busy_over (is_running task) l (returns k vs s) = back_over k task vs s l
-  busy_over (unwinds q i a) l (returns k vs s) = λ how e. cc
-  busy_over (rewinds q i a sp) l (returns k vs s) = λ how e. tt
-  busy_over ph l (traps k t s) = λ how e. tt
-  busy_over ph l stuck = tt
+      by_same : (t : Bool) → TurnEnds (if t then goes k [] (calling (rewinds q i a sp) d.store x.get_state [] (test_rewound d) l) else broken k 3 d.store)
+      by_same true = (λ how e. cc, λ ticks used e. cc)
+      by_same false = (λ how e. tt, λ ticks used e. cc)
+  busy_ends (is_running task) l (returns k vs s) = back_ends k task vs s l
+  busy_ends (unwinds q i a) l (returns k vs s) = (λ how e. cc, λ ticks used e. cc)
+  busy_ends (rewinds q i a sp) l (returns k vs s) = (λ how e. tt, λ ticks used e. cc)
+  busy_ends ph l (traps k t s) = (λ how e. tt, λ ticks used e. cc)
+  busy_ends ph l stuck = tt
 
-  if_over : (t : Bool) (o : Turn Held Note) (k rule : ℕ) (s : Store) → EndsOver o → EndsOver (if t then o else broken k rule s)
-  if_over true o k rule s h = h
-  if_over false o k rule s h = λ how e. tt
+  if_ends : (t : Bool) (o : Turn Held Note) (k rule : ℕ) (s : Store) → TurnEnds o → TurnEnds (if t then o else broken k rule s)
+  if_ends true o k rule s h = h
+  if_ends false o k rule s h = (λ how e. tt, λ ticks used e. cc)
 
-  aside_back_over : (k : ℕ) (ph : Phase) (th : Then) (l : Left) (vs : List Value) (s : Store) → EndsOver (aside_back p x plan k ph th l vs s)
-  aside_back_over k (unwinds q i a) (give_zero c) l vs s = λ how e. cc
-  aside_back_over k (unwinds q i a) test_unwound l vs s = if_over (is_state 1 vs) _ k 2 s (λ how e. cc)
-  aside_back_over k (unwinds q i a) pause_there l vs s = λ how e. cc
-  aside_back_over k (unwinds q i a) call_again l vs s = tt
-  aside_back_over k (unwinds q i a) (test_rewound c) l vs s = tt
-  aside_back_over k (unwinds q i a) (give_answer c) l vs s = tt
-  aside_back_over k (rewinds q i a sp) call_again l vs s = λ how e. cc
-  aside_back_over k (rewinds q i a sp) (test_rewound c) l vs s = if_over (is_state 2 vs) _ k 4 s (λ how e. cc)
-  aside_back_over k (rewinds q i a sp) (give_answer c) l vs s = resumed_over k q a.said sp c l (poked s a.pokes)
-  aside_back_over k (rewinds q i a sp) (give_zero c) l vs s = tt
-  aside_back_over k (rewinds q i a sp) test_unwound l vs s = tt
-  aside_back_over k (rewinds q i a sp) pause_there l vs s = tt
-  aside_back_over k (is_running task) th l vs s = tt
+  aside_back_ends : (k : ℕ) (ph : Phase) (th : Then) (l : Left) (vs : List Value) (s : Store) → TurnEnds (aside_back p x plan k ph th l vs s)
+  aside_back_ends k (unwinds q i a) (give_zero c) l vs s = (λ how e. cc, λ ticks used e. cc)
+  aside_back_ends k (unwinds q i a) test_unwound l vs s = if_ends (is_state 1 vs) _ k 2 s (λ how e. cc, λ ticks used e. cc)
+  aside_back_ends k (unwinds q i a) pause_there l vs s = (λ how e. cc, λ ticks used e. refl)
+  aside_back_ends k (unwinds q i a) call_again l vs s = tt
+  aside_back_ends k (unwinds q i a) (test_rewound c) l vs s = tt
+  aside_back_ends k (unwinds q i a) (give_answer c) l vs s = tt
+  aside_back_ends k (rewinds q i a sp) call_again l vs s = (λ how e. cc, λ ticks used e. cc)
+  aside_back_ends k (rewinds q i a sp) (test_rewound c) l vs s = if_ends (is_state 2 vs) _ k 4 s (λ how e. cc, λ ticks used e. cc)
+  aside_back_ends k (rewinds q i a sp) (give_answer c) l vs s = resumed_ends k q a.said sp c l (poked s a.pokes)
+  aside_back_ends k (rewinds q i a sp) (give_zero c) l vs s = tt
+  aside_back_ends k (rewinds q i a sp) test_unwound l vs s = tt
+  aside_back_ends k (rewinds q i a sp) pause_there l vs s = tt
+  aside_back_ends k (is_running task) th l vs s = tt
 
-  aside_over : (ph : Phase) (th : Then) (l : Left) (o : Next) → EndsOver (aside_step p x plan ph th l o)
-  aside_over ph th l (steps k d) = λ how e. cc
-  aside_over ph th l (asks k i args d) = λ how e. tt
-  aside_over ph th l (returns k vs s) = aside_back_over k ph th l vs s
-  aside_over ph th l (traps k t s) = λ how e. tt
-  aside_over ph th l stuck = tt
+  aside_ends : (ph : Phase) (th : Then) (l : Left) (o : Next) → TurnEnds (aside_step p x plan ph th l o)
+  aside_ends ph th l (steps k d) = (λ how e. cc, λ ticks used e. cc)
+  aside_ends ph th l (asks k i args d) = (λ how e. tt, λ ticks used e. cc)
+  aside_ends ph th l (returns k vs s) = aside_back_ends k ph th l vs s
+  aside_ends ph th l (traps k t s) = (λ how e. tt, λ ticks used e. cc)
+  aside_ends ph th l stuck = tt
 
-  enters_over : (ph : Phase) (e : Entry) (s : Store) (l : Left) (f : Option Func) → EndsOver (busy_enters ph e s l f)
-  enters_over ph e s l None = tt
-  enters_over ph e s l (Some f) = λ how q. cc
+  enters_ends : (ph : Phase) (e : Entry) (s : Store) (l : Left) (f : Option Func) → TurnEnds (busy_enters ph e s l f)
+  enters_ends ph e s l None = tt
+  enters_ends ph e s l (Some f) = (λ how q. cc, λ ticks used q. cc)
 
-  next_over : (s : Store) (l : Left) (es : List Entry) → EndsOver (held_next p s l es)
-  next_over s l [] = tt
-  next_over s l (e ∷ es) = enters_over (is_running (an_entry e)) e s (record { number = l.number; entries = es; outcomes = l.outcomes }) (defined_at p e.func)
+  next_ends : (s : Store) (l : Left) (es : List Entry) → TurnEnds (held_next p s l es)
+  next_ends s l [] = tt
+  next_ends s l (e ∷ es) = enters_ends (is_running (an_entry e)) e s (record { number = l.number; entries = es; outcomes = l.outcomes }) (defined_at p e.func)
 
-  called_over : (ph : Phase) (s : Store) (f : ℕ) (args : List Value) (th : Then) (l : Left) (o : Option Func) → EndsOver (aside_called ph s f args th l o)
-  called_over ph s f args th l None = tt
-  called_over ph s f args th l (Some g) = λ how e. cc
+  called_ends : (ph : Phase) (s : Store) (f : ℕ) (args : List Value) (th : Then) (l : Left) (o : Option Func) → TurnEnds (aside_called ph s f args th l o)
+  called_ends ph s f args th l None = tt
+  called_ends ph s f args th l (Some g) = (λ how e. cc, λ ticks used e. cc)
 
-  start_over : (f : ℕ) (s : Store) (l : Left) (o : Option Func) → EndsOver (held_start p x plan f s l o)
-  start_over f s l (Some g) = λ how e. cc
-  start_over f s l None = by_import (nat_lt f (func_imports p))
+  start_ends : (f : ℕ) (s : Store) (l : Left) (o : Option Func) → TurnEnds (held_start p x plan f s l o)
+  start_ends f s l (Some g) = (λ how e. cc, λ ticks used e. cc)
+  start_ends f s l None = by_import (nat_lt f (func_imports p))
     where
-      by_import : (t : Bool) → EndsOver (if t then held_asked p x plan 0 f [] (outermost s) l l.outcomes else stops)
-      by_import true = asked_over 0 f [] (outermost s) l l.outcomes
+      by_import : (t : Bool) → TurnEnds (if t then held_asked p x plan 0 f [] (outermost s) l l.outcomes else stops)
+      by_import true = asked_ends 0 f [] (outermost s) l l.outcomes
       by_import false = tt
 
+  pub turn_ends : (b : Held) → TurnEnds (protocol p x plan b)
+  turn_ends (free s l) = next_ends s l l.entries
+  turn_ends (starting f s l) = start_ends f s l (defined_at p f)
+  turn_ends (busy ph c l) = busy_ends ph l (step p c)
+  turn_ends (calling ph s f args th l) = called_ends ph s f args th l (defined_at p f)
+  turn_ends (aside ph c th l) = aside_ends ph th l (step p c)
+  turn_ends (entering ph e s l) = enters_ends ph e s l (defined_at p e.func)
+  turn_ends (over s) = tt
+
+  over_too : (o : Turn Held Note) → TurnEnds o → EndsOver o
+  over_too stops h = tt
+  over_too (goes k es t) h = h.0
+
   pub ends_over : (b : Held) → EndsOver (protocol p x plan b)
-  ends_over (free s l) = next_over s l l.entries
-  ends_over (starting f s l) = start_over f s l (defined_at p f)
-  ends_over (busy ph c l) = busy_over ph l (step p c)
-  ends_over (calling ph s f args th l) = called_over ph s f args th l (defined_at p f)
-  ends_over (aside ph c th l) = aside_over ph th l (step p c)
-  ends_over (entering ph e s l) = enters_over ph e s l (defined_at p e.func)
-  ends_over (over s) = tt
+  ends_over b = over_too (protocol p x plan b) (turn_ends b)
 
   abbrev pr : Held → Turn Held Note
   pr = protocol p x plan

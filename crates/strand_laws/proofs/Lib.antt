@@ -5,6 +5,7 @@ pub mod Between
 pub mod ByTurns
 pub mod Clear
 pub mod Compared
+pub mod EachWorld
 pub mod Emitted
 pub mod Endings
 pub mod EndsThere
@@ -17,6 +18,7 @@ pub mod Moving
 pub mod NextMoves
 pub mod Numbered
 pub mod OneRun
+pub mod OneStrand
 pub mod Paused
 pub mod Pausing
 pub mod Resumed
@@ -25,7 +27,6 @@ pub mod StartFirst
 pub mod Stores
 pub mod StrandLines
 pub mod StrandModules
-pub mod StrandWorlds
 pub mod Stretches
 pub mod Switch
 pub mod Threads

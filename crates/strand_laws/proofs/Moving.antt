@@ -33,7 +33,7 @@ use Rattle.strand_laws.proofs.EndsThere.{CaseTurn, EndsThere, Stays, end_cases, 
 use Rattle.strand_laws.proofs.WovenRuns.{NoEnds, last_of}
 use Rattle.strand_laws.specs.Strands.{StrandProgram, Strung, held_loom, held_starts, on, plan_of, strand_at, strung_loom, strung_starts, with_source}
 use Rattle.strand_laws.specs.Woven.{Loom, ends_strand, last_event}
-use Rattle.strand_laws.proofs.StrandWorlds.{Calm, Family, FamilyLaws, Go, Hang, Kept, Near, NoteUp, Ok, Q, Rel, Sm, alike_up, dear, going_on, halt_law, inside_more, join_up, keeps_others, near_behind, see_up, split_up, world_at}
+use Rattle.strand_laws.proofs.EachWorld.{Calm, Family, FamilyLaws, Go, Hang, Kept, Near, NoteUp, Ok, Q, Rel, Sm, alike_up, dear, going_on, halt_law, inside_more, join_up, keeps_others, near_behind, see_up, split_up, world_at}
 use Rattle.strand_laws.proofs.Waking.{sees_rel}
 
 module _ (family : Family) (laws : FamilyLaws family) where
@@ -275,7 +275,7 @@ module _ (family : Family) (laws : FamilyLaws family) where
       (rel : (Rel family laws) i li 0 spare a' b)
       (kn : Known i b) (ins : InsideAll g.strands (length (store_of a).memory)) (allowed : Allowed (wd i) (suc k) a') (moves_so : nn (wd i) a' ≡ goes k es' t')
       (up : AllAlike ((NoteUp family laws) ps) es es')
-      (on_to : Middle ps t t') (clear : ClearState g.strands t) (grown : length (store_of a).memory ≤ length (store_of t).memory)
+      (on_to : Middle ps t t') (clear : ClearState (strand_at g i).area g.strands t) (grown : length (store_of a).memory ≤ length (store_of t).memory)
       (plain : FirstPlain es' ⊎ ((how : End) → last_event es' ≡ Some (ended how) → StaysEnd how)) where
     mt : Match State Held Note Note (nn (wd i)) (pr (wd i)) (Both (wd i) (ft i li) (store_laws (wd i)) (L i) (W i) G (law i li) (Known i) (wl i li) ((halt_law family laws) i li))
         (SameNote m st which (strand_at g i).area) (dear_of m)

@@ -35,7 +35,7 @@ use Rattle.strand_laws.proofs.Middle.{Middle, moves_same, stops_same}
 use Rattle.strand_laws.proofs.MoveKinds.{Kind, PlainTurn, Shape, k_pauses, k_plain, k_traps, kind_of, FirstPlain}
 use Rattle.strand_laws.specs.Strands.{StrandProgram, Strung, held_loom, lifted, on, plan_of, space_of, strand_at, strung_asked, strung_loom, strung_next, strung_pauses, strung_tested, with_source}
 use Rattle.strand_laws.specs.Woven.{Loom}
-use Rattle.strand_laws.proofs.StrandWorlds.{Calm, Family, FamilyLaws, Go, Hang, Kept, Near, NoteUp, Ok, Q, Rel, Sm, dear, going_on, halt_law, see_up, world_at}
+use Rattle.strand_laws.proofs.EachWorld.{Calm, Family, FamilyLaws, Go, Hang, Kept, Near, NoteUp, Ok, Q, Rel, Sm, dear, going_on, halt_law, see_up, world_at}
 use Rattle.strand_laws.proofs.Waking.{sees_rel}
 use Rattle.strand_laws.proofs.Moving.{Ending, MoveNow, allowed_once, allowed_stop, an_end, no_end, notes_up, numbered_up, raise, simple_move}
 
@@ -186,12 +186,12 @@ module _ (family : Family) (laws : FamilyLaws family) where
       (run (B.next i) q b)
   stops_now i spare _ _ (going_on a a' b ps li are mid rel kn cl ins) calm e q = by_next a (next_of i a) mid calm cl e
     where
-      by_next : (a : State) → NextOf i a → Middle ps a a' → CalmAll g.strands a → ClearState g.strands a → A.next i (on a) ≡ stops
+      by_next : (a : State) → NextOf i a → Middle ps a a' → CalmAll g.strands a → ClearState (strand_at g i).area g.strands a → A.next i (on a) ≡ stops
           → I.RestsS A B (Go family laws) (Hang family laws) (Near family laws) (Sm family laws) (Kept family laws) (Q family laws) (Calm family laws) (Ok family laws) (dear family laws)
           (store_of a) (run (B.next i) q b)
       by_next a (n_simple eq pl) mid calm cl e =
           let e1 = unlift_stops (nb (wd i) a) (sym eq ∙ e) in
-          let e2 = stops_same ps (Base m) (plan_of g (strand_at g i)) a a' mid (all_off g.strands ps a are calm cl) e1 in
+          let e2 = stops_same ps (Base m) (plan_of g (strand_at g i)) a a' mid (all_off (strand_at g i).area g.strands ps a are calm cl) e1 in
           let w = (simulates (wd i) (ft i li) (store_laws (wd i)) (L i) (W i) G (law i li) (Known i) (wl i li) ((halt_law family laws) i li)).stop q spare a' b
           ((raise family laws) i li q spare a' b rel ((allowed_stop family laws) i q a' e2 (calm_over (strand_at g i).area ps a a' mid (calm_at g.strands i a li calm))), kn) (ap (sh (wd i)) e2) q
           (omega arith) in
@@ -201,12 +201,12 @@ module _ (family : Family) (laws : FamilyLaws family) where
           cc
 
   slow_at : (i spare k : ℕ) (li : i < count) (a a' t : State) (b : Held) (ps : List Gap) (es : List Note) → AreGaps g.strands ps → Middle ps a a' → (Rel family laws) i li 0 spare a' b → Known i b
-      → ClearState g.strands a → CalmAll g.strands a
+      → ClearState (strand_at g i).area g.strands a → CalmAll g.strands a
       → nb (wd i) a ≡ goes k es t → (q : ℕ) → q ≤ k
       → I.RestsS A B (Go family laws) (Hang family laws) (Near family laws) (Sm family laws) (Kept family laws) (Q family laws) (Calm family laws) (Ok family laws) (dear family laws) (store_of a)
       (run (B.next i) q b)
   slow_at i spare k li a a' t b ps es are mid rel kn cl calm e q le =
-      let ms = moves_same ps (Base m) (plan_of g (strand_at g i)) a a' t k es mid (all_off g.strands ps a are calm cl) e in
+      let ms = moves_same ps (Base m) (plan_of g (strand_at g i)) a a' t k es mid (all_off (strand_at g i).area g.strands ps a are calm cl) e in
       let sa = shown_any i k ms.events ms.to in
       ⊎_elim
       (λ pos.
@@ -233,7 +233,7 @@ module _ (family : Family) (laws : FamilyLaws family) where
       same_k : (k k2 : ℕ) (es es2 : List Note) (t t2 : Strung) → ◌≡◌ {A = Turn Strung Note} (goes k2 es2 t2) (goes k es t) → k2 ≡ k
       same_k k k2 es es2 t t2 q = cc
 
-      by_next : (a : State) → NextOf i a → Middle ps a a' → CalmAll g.strands a → ClearState g.strands a → A.next i (on a) ≡ goes k es t
+      by_next : (a : State) → NextOf i a → Middle ps a a' → CalmAll g.strands a → ClearState (strand_at g i).area g.strands a → A.next i (on a) ≡ goes k es t
           → I.RestsS A B (Go family laws) (Hang family laws) (Near family laws) (Sm family laws) (Kept family laws) (Q family laws) (Calm family laws) (Ok family laws) (dear family laws)
           (store_of a) (run (B.next i) q b)
       by_next a (n_simple eq pl) mid calm cl e =
@@ -245,12 +245,12 @@ module _ (family : Family) (laws : FamilyLaws family) where
 
   -- a move that is as the blocking machine has it
   pub plain_move : (i spare k : ℕ) (li : i < count) (a a' t : State) (b : Held) (ps : List Gap) (es : List Note) → AreGaps g.strands ps → Middle ps a a' → (Rel family laws) i li 0 spare a' b
-      → Known i b → ClearState g.strands a
+      → Known i b → ClearState (strand_at g i).area g.strands a
       → InsideAll g.strands (length (store_of a).memory) → CalmAll g.strands a → nb (wd i) a ≡ goes k es t → FirstPlain es → (Ending family laws) es t
       → I.Every A B (Go family laws) (Hang family laws) (Near family laws) (Sm family laws) (Kept family laws) (Q family laws) (Calm family laws) (Ok family laws) (dear family laws)
       (Rattle.strand_laws.specs.Woven.told_by i es) → (MoveNow family laws) i spare k es (on a) (on t) b
   plain_move i spare k li a a' t b ps es are mid rel kn cl ins calm e first en oks =
-      let ms = moves_same ps (Base m) (plan_of g (strand_at g i)) a a' t k es mid (all_off g.strands ps a are calm cl) e in
+      let ms = moves_same ps (Base m) (plan_of g (strand_at g i)) a a' t k es mid (all_off (strand_at g i).area g.strands ps a are calm cl) e in
       let up = (notes_up family laws) ps es ms.events ms.notes in
       (simple_move family laws) i li spare k a a' t ms.to b ps es ms.events are mid rel kn ins
       ((allowed_once family laws) i (suc k) k a' ms.to ms.events ms.goes_too (calm_over (strand_at g i).area ps a a' mid (calm_at g.strands i a li calm)) (omega arith)

@@ -27,6 +27,7 @@ use Rattle.wa_model.specs.Step.{Next, asks, step, steps}
 use Rattle.wa_model.specs.Store.{Store}
 use Rattle.wa_model.specs.Untouched.{IsCalm}
 use Rattle.wa_model.specs.declared.answers.Said.TheVariants as SV
+use Rattle.wa_model.specs.declared.answers.Area.{Area}
 use Rattle.wa_model.specs.declared.events.End.{End}
 use Rattle.wa_model.specs.declared.events.End.TheVariants.{Trapped, UnwindTrap}
 use Rattle.wa_types.specs.Base.{Base}
@@ -45,7 +46,7 @@ use Rattle.strand_laws.proofs.Paused.{PausesThere, pauses_there}
 use Rattle.strand_laws.proofs.Resumed.{rewound_from}
 use Rattle.strand_laws.specs.Strands.{StrandProgram, Strung, held_loom, on, plan_of, strand_at, strung_loom, waits, with_source}
 use Rattle.strand_laws.specs.Woven.{Loom, Told as ToldBy, Woven, told_by, weave}
-use Rattle.strand_laws.proofs.StrandWorlds.{Calm, Family, FamilyLaws, Go, Hang, Kept, Near, NoteUp, Ok, Q, Rel, Sm, alike_up, dear, going_on, hangs_on, inside_more, join_up, keeps_others, near_behind, see_up, split_up, suspended, world_at}
+use Rattle.strand_laws.proofs.EachWorld.{Calm, Family, FamilyLaws, Go, Hang, Kept, Near, NoteUp, Ok, Q, Rel, Sm, alike_up, dear, going_on, hangs_on, inside_more, join_up, keeps_others, near_behind, see_up, split_up, suspended, world_at}
 use Rattle.strand_laws.proofs.Waking.{poked_size, sees_rel, wakes_now}
 use Rattle.strand_laws.proofs.Moving.{MoveNow, StaysEnd, allowed_once, an_end, dear_up, simple_move}
 use Rattle.strand_laws.proofs.NextMoves.{NextOf, PlainS, block_next, n_pauses, n_simple, next_of, pause_next, plain_move, slow_now, stops_now, unlift}
@@ -150,14 +151,14 @@ module _ (family : Family) (laws : FamilyLaws family) where
   runs_apart p task c l _ _ (s_begins q) e = cc
   runs_apart p task c l _ _ (s_halts q) e = cc
 
-  asks_same : (ps : List Gap) (task : Task) (l : Left) (k imp : ℕ) (args : List Value) (c d : Configuration) (a' : State) → Middle ps (runs task c l) a' → AllOff ps (runs task c l)
+  asks_same : (own : Area) (ps : List Gap) (task : Task) (l : Left) (k imp : ℕ) (args : List Value) (c d : Configuration) (a' : State) → Middle ps (runs task c l) a' → AllOff own ps (runs task c l)
       → step (Base m) c ≡ asks k imp args d
       → AsksSame ps task l k imp args d a'
-  asks_same [] task l k imp args c d a' h off_ e = record { c' = c; d' = d; is_runs = sym h; asks_too = e; here = refl; under = refl; chain = refl }
-  asks_same (p ∷ ps) task l k imp args c d a' h off_ e =
+  asks_same own [] task l k imp args c d a' h off_ e = record { c' = c; d' = d; is_runs = sym h; asks_too = e; here = refl; under = refl; chain = refl }
+  asks_same own (p ∷ ps) task l k imp args c d a' h off_ e =
       let o = runs_apart p task c l (runs task c l) h.0 h.1 refl in
       let n = asks_apart p k imp args d (step (Base m) c) (step (Base m) o.0) (reduces_apart (Base m) p c o.0 o.2 off_.0.0) e in
-      let r = asks_same ps task l k imp args o.0 n.0 a' (subst (λ z. Middle ps z a') o.1 h.2) (subst (AllOff ps) o.1 (all_apart p ps (runs task c l) h.0 h.1 off_.1)) n.1 in
+      let r = asks_same own ps task l k imp args o.0 n.0 a' (subst (λ z. Middle ps z a') o.1 h.2) (subst (AllOff own ps) o.1 (all_apart own p ps (runs task c l) h.0 h.1 off_.1)) n.1 in
       let f = n.2 in
       record { c' = r.c'; d' = r.d'; is_runs = r.is_runs; asks_too = r.asks_too; here = r.here ∙ f.here; under = r.under ∙ f.under; chain = (n.0.store, f.store, r.chain) }
 
@@ -197,7 +198,7 @@ module _ (family : Family) (laws : FamilyLaws family) where
       (is : step (Base m) c ≡ asks k imp args d) (is' : step (Base m) c' ≡ asks k imp args d') (eo : l.outcomes ≡ given a ∷ os)
       (ef : fault_of (func_type_at (Base m) imp).results (length d.store.memory) (plan_of g (strand_at g i)) false imp a ≡ None) (et : pause_of a.ticks ≡ Some ticks)
       (mid : Middle ps (runs (an_entry e) c l) (runs (an_entry e) c' l)) (eh : d'.here ≡ d.here) (eu : d'.under ≡ d.under) (ch_d : Chain ps d.store d'.store)
-      (cl : ClearOut g.strands l.outcomes) (ins : InsideAll g.strands (length c.store.memory)) (calm' : IsCalm (strand_at g i).area (runs (an_entry e) c' l))
+      (cl : ClearOut (strand_at g i).area g.strands l.outcomes) (ins : InsideAll g.strands (length c.store.memory)) (calm' : IsCalm (strand_at g i).area (runs (an_entry e) c' l))
       (oks : PauseNumbered m st which (stack_of (Base m) d) (Some ticks)) where
     abbrev lo : Left
     lo = with_outcomes l os
@@ -324,8 +325,8 @@ module _ (family : Family) (laws : FamilyLaws family) where
             }) refl
                 ((near_behind family laws) i li top ps d.store d'.store r.s3 are ch_d r.like ((law i li).waits_good top imp d' (cd).flat_at (cd).waits)
                 (laws.known_store i _ r.s3 _ _ _ _ r.known) ins_d)
-                (suspended top imp e a lo d d' r.s3 r.s3 li r.suspends eh eu r.known (omega arith) (clear_tail g.strands (given a) os (subst (ClearOut g.strands) eo cl))
-                (clear_pokes g.strands a os (subst (ClearOut g.strands) eo cl)));
+                (suspended top imp e a lo d d' r.s3 r.s3 li r.suspends eh eu r.known (omega arith) (clear_tail (strand_at g i).area g.strands (given a) os (subst (ClearOut (strand_at g i).area g.strands) eo cl))
+                (clear_pokes (strand_at g i).area g.strands (length d.store.memory) a os bad (subst (ClearOut (strand_at g i).area g.strands) eo cl)));
           }
 
     -- they don't: the unwind's trap ends the program
@@ -366,7 +367,7 @@ module _ (family : Family) (laws : FamilyLaws family) where
       → (MoveNow family laws) i spare k es a t b
   moves_now i spare k es _ t _ (going_on a a' b ps li are mid rel kn cl ins) calm e oks = by_next a ((next_of family laws) i a) mid calm cl ins e
     where
-      by_next : (a : State) → (NextOf family laws) i a → Middle ps a a' → CalmAll g.strands a → ClearState g.strands a → InsideAll g.strands (length (store_of a).memory)
+      by_next : (a : State) → (NextOf family laws) i a → Middle ps a a' → CalmAll g.strands a → ClearState (strand_at g i).area g.strands a → InsideAll g.strands (length (store_of a).memory)
           → A.next i (on a) ≡ goes k es t → (MoveNow family laws) i spare k es (on a) t b
       by_next a (n_simple eq pl) mid calm cl ins e =
           let u = (unlift family laws) (nb (wd i) a) k es t (sym eq ∙ e) in
@@ -394,11 +395,11 @@ module _ (family : Family) (laws : FamilyLaws family) where
               ok1 : PauseNumbered m st which (stack_of (Base m) d) (Some ticks)
               ok1 = (subst (EveryTurn i) (sym z) oks).0
 
-              off_ : AllOff ps (runs (an_entry en) c l)
-              off_ = all_off g.strands ps (runs (an_entry en) c l) are calm cl
+              off_ : AllOff (strand_at g i).area ps (runs (an_entry en) c l)
+              off_ = all_off (strand_at g i).area g.strands ps (runs (an_entry en) c l) are calm cl
 
               sm : AsksSame ps (an_entry en) l k2 imp args d a'
-              sm = asks_same ps (an_entry en) l k2 imp args c d a' mid off_ is
+              sm = asks_same (strand_at g i).area ps (an_entry en) l k2 imp args c d a' mid off_ is
 
               mid2 : Middle ps (runs (an_entry en) c l) (runs (an_entry en) sm.c' l)
               mid2 = subst (λ w. Middle ps (runs (an_entry en) c l) w) sm.is_runs mid

@@ -45,7 +45,7 @@ use Rattle.strand_laws.proofs.Compared.{strands_behave_compared}
 use Rattle.strand_laws.proofs.KnownStores.{fits_wakes, good_over, range_wakes, store_known}
 use Rattle.strand_laws.proofs.SameGood.{same_law}
 use Rattle.strand_laws.proofs.Stores.{StoreKnown, leaves_known, opened_known}
-use Rattle.strand_laws.proofs.StrandWorlds.{Family, FamilyLaws}
+use Rattle.strand_laws.proofs.EachWorld.{Family, FamilyLaws}
 
 entry_typed : (p : Module) (y : Entry) → EntryFits p y → EntryTyped p y
 entry_typed p y h = (h.defined, listed_typed (func_type_at p y.func).params y.args h.args.typed)

@@ -13,9 +13,10 @@ use Rattle.wa_types.specs.Points.{call_points, points}
 use Rattle.wa_types.specs.Pruned.{pruned}
 use Rattle.wa_types.specs.Sizes.{value_fits}
 use Rattle.wa_model.specs.declared.answers.Area.{Area}
+use Rattle.wa_model.specs.declared.answers.Said.{Said}
 use Rattle.wa_model.specs.declared.answers.Said.TheVariants as S
 use Rattle.wa_model.specs.Behaves.{IsPrefix}
-use Rattle.wa_model.specs.Blocking.{State, begins, between, halts, runs}
+use Rattle.wa_model.specs.Blocking.{State, begins, between, halts, overlap, runs}
 use Rattle.wa_model.specs.Outside.{Poke}
 use Rattle.wa_model.specs.Plan.{AreaFits, EntryFits, Fits, Outcome, OutcomeFits, PokeFits, given}
 use Rattle.wa_model.specs.Store.{Range}
@@ -26,7 +27,7 @@ use Rattle.image_laws.proofs.ExampleModule.{can_there, formed_there, free_there,
 use Rattle.strand_laws.proofs.Emitted.{strands_of_emitted}
 use Rattle.strand_laws.proofs.Numbered.{pauses_at_numbers}
 use Rattle.strand_laws.specs.Example.{ThreeTakeTurns, notes_of_three, outcomes_of_three, said_after, strand_of, three_strands, told_by_emitted, told_of_three, used_by}
-use Rattle.strand_laws.specs.Strands.{AreApart, BlockingStrands, IsCalmAt, IsCalmNow, PokesOff, Strand, StrandsBehaveOn, StrandsCompared, StrandsNumbered, StrandsUntouched, Strung, areas_of, events_told, on, plan_of, strand_at, waits}
+use Rattle.strand_laws.specs.Strands.{AreApart, BlockingStrands, IsCalmAt, IsCalmNow, PokesOff, Strand, StrandsBehaveOn, StrandsCompared, StrandsNumbered, StrandsUntouched, Strung, events_told, on, outcomes_at, plan_of, strand_at, waits}
 use Rattle.strand_laws.specs.Woven.{Ready, standing_now}
 
 turns_there : (policy : Policy) → events_told (notes_of_three policy) ≡ told_of_three (used_by policy)
@@ -140,17 +141,20 @@ apart_there i (suc (suc (suc j))) li lj ne = let no_way : ⊥ = omega arith in a
 abbrev OutFits : List Outcome → Type 0
 OutFits os = All OutcomeFits os
 
-abbrev OutOff : List Outcome → Type 0
-OutOff os = All (PokesOff (areas_of three_strands)) os
-
 one_fits : (o : Outcome) → OutcomeFits o → OutFits (o ∷ [])
 one_fits o h = All-cons OutcomeFits o [] h (All-nil OutcomeFits)
 
-abbrev KeepsOff : Poke → Type 0
-KeepsOff p = All (λ (x : Area). Rattle.wa_model.specs.Blocking.overlap p.at (length p.bytes) x.at x.len ≡ false) (areas_of three_strands)
+-- an answer without pokes keeps off any area
+one_off : (x : Area) (said : Said) (ticks : ℕ) → All (PokesOff (x ∷ [])) (said_after ticks said)
+one_off x said ticks =
+    All-cons (PokesOff (x ∷ [])) (given (record { said = said; pokes = []; ticks = ticks })) []
+    (All-nil (λ (p : Poke). All (λ (y : Area). overlap p.at (length p.bytes) y.at y.len ≡ false) (x ∷ []))) (All-nil (PokesOff (x ∷ [])))
 
-one_off : (o : Outcome) → PokesOff (areas_of three_strands) o → OutOff (o ∷ [])
-one_off o h = All-cons (PokesOff (areas_of three_strands)) o [] h (All-nil (PokesOff (areas_of three_strands)))
+all_keep_off : (x : Area) (i : ℕ) → All (PokesOff (x ∷ [])) (outcomes_at outcomes_of_three i)
+all_keep_off x zero = one_off x (S.Value (Some (V.I32 42))) 5
+all_keep_off x (suc zero) = one_off x (S.Value (Some (V.I32 1))) 3
+all_keep_off x (suc (suc zero)) = one_off x S.Trap 4
+all_keep_off x (suc (suc (suc i))) = All-nil (PokesOff (x ∷ []))
 
 abbrev answered_42 : List Outcome
 answered_42 = said_after 5 (S.Value (Some (V.I32 42)))
@@ -171,8 +175,7 @@ compared_there policy = record {
   outcomes = All-cons OutFits answered_42 (answered_1 ∷ trapped ∷ []) (one_fits (given (record { said = S.Value (Some (V.I32 42)); pokes = []; ticks = 5 })) (record { said = omega arith; pokes = All-nil PokeFits; ticks = omega arith }))
       (All-cons OutFits answered_1 (trapped ∷ []) (one_fits (given (record { said = S.Value (Some (V.I32 1)); pokes = []; ticks = 3 })) (record { said = omega arith; pokes = All-nil PokeFits; ticks = omega arith }))
       (All-cons OutFits trapped [] (one_fits (given (record { said = S.Trap; pokes = []; ticks = 4 })) (record { said = tt; pokes = All-nil PokeFits; ticks = omega arith })) (All-nil OutFits)));
-  pokes = All-cons OutOff answered_42 (answered_1 ∷ trapped ∷ []) (one_off (given (record { said = S.Value (Some (V.I32 42)); pokes = []; ticks = 5 })) (All-nil KeepsOff))
-      (All-cons OutOff answered_1 (trapped ∷ []) (one_off (given (record { said = S.Value (Some (V.I32 1)); pokes = []; ticks = 3 })) (All-nil KeepsOff)) (All-cons OutOff trapped [] (one_off (given (record { said = S.Trap; pokes = []; ticks = 4 })) (All-nil KeepsOff)) (All-nil OutOff)));
+  pokes = λ i j li lj ne. all_keep_off (strand_at three_strands j).area i;
   untouched = untouched policy;
 }
 
@@ -184,4 +187,4 @@ three_take_turns policy q em =
     let b : StrandsBehaveOn (saving policy) may_pause three_strands q outcomes_of_three 40 =
     strands_of_emitted sample (saving policy) may_pause q (can_there policy) free_there em formed_there may_pause (can_there policy).tells three_strands refl outcomes_of_three 40
     (compared_there policy) (numbered_there policy) in
-    record { original = turns_there policy; emitted = subst (λ es. IsPrefix es (told_by_emitted policy q)) (turns_there policy) b.reaches }
+    record { compared = compared_there policy; numbered = numbered_there policy; original = turns_there policy; emitted = subst (λ es. IsPrefix es (told_by_emitted policy q)) (turns_there policy) b.reaches }

@@ -40,7 +40,7 @@ use Rattle.strand_laws.proofs.Resumed.{Suspends, Woken, WokenTraps, rewound_from
 use Rattle.strand_laws.proofs.StartFirst.{answers_later}
 use Rattle.strand_laws.specs.Strands.{StrandProgram, Strung, held_loom, held_starts, on, plan_of, strand_at, strung_loom, waits, with_source, told_on}
 use Rattle.strand_laws.specs.Woven.{Loom, ends_strand}
-use Rattle.strand_laws.proofs.StrandWorlds.{Calm, Family, FamilyLaws, Go, Hang, Kept, Near, NoteUp, Ok, Q, Rel, Sm, alike_up, both_stores, dear, fresh, going_on, inside_more, join_up, keeps_others, near_behind, see_up, split_up, state_zero, suspended, to_both, world_at}
+use Rattle.strand_laws.proofs.EachWorld.{Calm, Family, FamilyLaws, Go, Hang, Kept, Near, NoteUp, Ok, Q, Rel, Sm, alike_up, both_stores, dear, fresh, going_on, inside_more, join_up, keeps_others, near_behind, see_up, split_up, state_zero, suspended, to_both, world_at}
 
 module _ (family : Family) (laws : FamilyLaws family) where
   abbrev wd : ℕ → World
@@ -109,7 +109,7 @@ module _ (family : Family) (laws : FamilyLaws family) where
   inside_too : (s s' : Store) → (Near family laws) s s' → InsideAll g.strands (length s.memory)
   inside_too s s' nr = let sm = nr.same in let e = sm.size in inside_more g.strands (length s'.memory) (length s.memory) (omega arith) nr.inside
 
-  wakes_fresh : (i c : ℕ) (li : i < count) (s s' : Store) (l : Left) → LeftFits (wd i) l → ClearOut g.strands l.outcomes → (Near family laws) s s' → (es : List Entry) → l.entries ≡ es
+  wakes_fresh : (i c : ℕ) (li : i < count) (s s' : Store) (l : Left) → LeftFits (wd i) l → ClearOut (strand_at g i).area g.strands l.outcomes → (Near family laws) s s' → (es : List Entry) → l.entries ≡ es
       → WakesNow i c s s' (record { events = done_notes s es; last = on (on_to s l es) }) (record { events = done_notes s' es; last = held_on s' l es })
   wakes_fresh i c li s s' l lf cl nr [] ee =
       I.wakes_up (note (ended Done) s) (note (ended Done) s') Done refl refl refl
@@ -160,7 +160,7 @@ module _ (family : Family) (laws : FamilyLaws family) where
 
   wakes_suspended : (i c : ℕ) (s s' : Store) (top imp : ℕ) (e : Entry) (a : Answer) (lo : Left) (d d' : Configuration) (at : Store) (li : i < count)
       → Suspends (wd i) (ft i li) (store_laws (wd i)) (L i) (W i) G (law i li) top imp e a lo d' c s' → d'.here ≡ d.here → d'.under ≡ d.under
-      → Known i (rewound_from (wd i) e imp a lo at) → length at.memory ≤ length s'.memory → ClearOut g.strands lo.outcomes → ClearPokes g.strands a.pokes
+      → Known i (rewound_from (wd i) e imp a lo at) → length at.memory ≤ length s'.memory → ClearOut (strand_at g i).area g.strands lo.outcomes → ClearPokes g.strands a.pokes
       → (Near family laws) s s' → WakesNow i c s s' (A.wakes s (waits (an_entry e) d a lo)) (B.wakes s' (rewound_from (wd i) e imp a lo at))
   wakes_suspended i c s s' top imp e a lo d d' at li sp eh eu kn longer cl cp nr =
       by_said a.said

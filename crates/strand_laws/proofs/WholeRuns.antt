@@ -22,7 +22,7 @@ use Rattle.strand_laws.proofs.Clear.{CalmAll}
 use Rattle.strand_laws.proofs.InStep as I
 use Rattle.strand_laws.specs.Strands.{AgreesNow, BlockingStrands, IsCalmNow, ProtocolStrands, SameTold, Strand, StrandEvent, StrandMoment, at_cost, at_note, store_woven, strung_store, StrandProgram, StrandsBehaveOn, StrandsNumbered, StrandsUntouched, Strung, beginnings, events_told, first_outcomes, held_loom, on, plan_of, strand_at, strung_from, strung_loom, waits, with_source, told_on}
 use Rattle.strand_laws.specs.Woven.{Loom, Ready, Told as ToldBy, Woven, notes_told, standing_now, weave, woven}
-use Rattle.strand_laws.proofs.StrandWorlds.{Calm, Family, FamilyLaws, Go, Hang, Kept, Near, Ok, Q, Sm, dear}
+use Rattle.strand_laws.proofs.EachWorld.{Calm, Family, FamilyLaws, Go, Hang, Kept, Near, Ok, Q, Sm, dear}
 use Rattle.strand_laws.proofs.Pausing.{strands_in_step}
 
 module _ (family : Family) (laws : FamilyLaws family) where

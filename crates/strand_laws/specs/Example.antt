@@ -13,13 +13,14 @@ use Rattle.wa_model.specs.Outside.{Event, answered, called, ended, paused, retur
 use Rattle.wa_model.specs.Plan.{Outcome, given}
 use Rattle.emitted_form.specs.EmittedAs.{EmittedAs}
 use Rattle.image_laws.specs.Example.{may_pause, sample, saving}
-use Rattle.strand_laws.specs.Strands.{BlockingStrands, ProtocolStrands, Strand, StrandEvent, StrandProgram, events_told, with_source}
+use Rattle.strand_laws.specs.Strands.{BlockingStrands, ProtocolStrands, Strand, StrandEvent, StrandProgram, StrandsCompared, StrandsNumbered, events_told, with_source}
 use Rattle.strand_laws.specs.Woven.{Told, notes_told}
 
 -- the module's entry with this parameter, and 64 bytes from here on as the area
 abbrev pub strand_of : (parameter at : ℕ) → Strand
 strand_of parameter at = record { area = record { at = at; len = 64 }; entries = record { func = 1; args = V.I32 parameter ∷ [] } ∷ [] }
 
+-- three of them, whose areas lie one behind another
 abbrev pub three_strands : StrandProgram
 three_strands = record { source = sample; globals = []; listed = Some (true ∷ []); strands = strand_of 7 1024 ∷ strand_of 9 1088 ∷ strand_of 1 1152 ∷ [] }
 
@@ -61,8 +62,10 @@ abbrev pub told_by_emitted : Policy → Module → List StrandEvent
 told_by_emitted policy q =
     events_told (ProtocolStrands (with_source three_strands q) outcomes_of_three (Bound sample 40 (pause_stacks (notes_told (notes_of_three policy))))).events
 
--- They take turns so, and those of what is emitted do too.
+-- They meet what is asked of strands that are compared, take turns so, and those of what is emitted do too.
 pub record TakeTurns (policy : Policy) (q : Module) : Type 0 where
+  pub compared : StrandsCompared (saving policy) three_strands outcomes_of_three 40
+  pub numbered : StrandsNumbered (saving policy) may_pause three_strands outcomes_of_three 40
   pub original : events_told (notes_of_three policy) ≡ told_of_three (used_by policy)
   pub emitted : IsPrefix (told_of_three (used_by policy)) (told_by_emitted policy q)
 

@@ -1,5 +1,6 @@
 pub mod EmittedStrands
 pub mod Example
+pub mod OneStrand
 pub mod StrandWorld
 pub mod Strands
 pub mod Weaving

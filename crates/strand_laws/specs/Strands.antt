@@ -69,12 +69,16 @@ abbrev pub first_outcomes : List (List Outcome) → List Outcome
 first_outcomes [] = []
 first_outcomes (os ∷ oss) = os
 
+-- the outcomes of the strand of this number
+abbrev pub outcomes_at : List (List Outcome) → ℕ → List Outcome
+outcomes_at oss i = unwrap_or (slice_get oss i) []
+
 -- ---- under the protocol
 
--- a strand's turn begins: it is rewound over the store, since which its area is kept, or its first entry is called
+-- a strand's turn begins: it is rewound over the store of the moment, from which on it keeps its area, or its first entry is called
 abbrev pub held_wakes : Store → Held → Ran Held Note
 held_wakes s (free old l) = record { events = done_notes s l.entries; last = held_on s l l.entries }
-held_wakes s (calling (rewinds e i a at_pause) old f args th l) = still (calling (rewinds e i a s) s f args th l)
+held_wakes s (calling (rewinds e i a since) old f args th l) = still (calling (rewinds e i a s) s f args th l)
 held_wakes s h = still h
 
 -- it is in the start function
@@ -209,7 +213,7 @@ pub record SameTold (s : Settings) (which : List Bool) (g : StrandProgram) (x y 
   pub event : x.note.event ≡ y.note.event
   pub ends : SameOff (global_space g.source) (areas_of g) x.note.store y.note.store
   pub image : AtPaused y.note.event (Image g.source s which x.note.stack (strand_at g x.strand).area.at (strand_at g x.strand).area.len y.note.store.memory)
-  pub kept : (at_pause : Store) → y.note.since ≡ Some at_pause → AreaKept (strand_at g x.strand).area at_pause y.note.store
+  pub kept : (turn_began : Store) → y.note.since ≡ Some turn_began → AreaKept (strand_at g x.strand).area turn_began y.note.store
   pub state : AtCalls y.note.event (slice_get y.note.store.globals (global_space g.source) ≡ Some (V.I32 0))
 
 -- ---- premises
@@ -242,7 +246,8 @@ PokesOff areas (given a) = All (λ (p : Poke). All (λ (x : Area). overlap p.at 
 PokesOff areas _ = Unit {0}
 
 -- The runs that are compared: each strand's plan fits the original and tells the listed imports; areas share no byte; outcomes are in
--- range, one list for each strand, and their pokes keep off all areas; no run touches an area.
+-- range, one list for each strand, and their pokes keep off the areas of the other strands (at one into its own, which its plan has, a
+-- program ends by a bad poke); no run touches an area.
 pub record StrandsCompared (s : Settings) (g : StrandProgram) (oss : List (List Outcome)) (n : ℕ) : Type 0 where
   pub some : 0 < length g.strands
   pub fits : All (λ (x : Strand). Fits g.source (plan_of g x)) g.strands
@@ -250,7 +255,7 @@ pub record StrandsCompared (s : Settings) (g : StrandProgram) (oss : List (List 
   pub apart : (i j : ℕ) → i < length g.strands → j < length g.strands → (i ≡ j → ⊥) → AreApart (strand_at g i).area (strand_at g j).area
   pub wide : length oss ≡ length g.strands
   pub outcomes : All (λ (os : List Outcome). All OutcomeFits os) oss
-  pub pokes : All (λ (os : List Outcome). All (PokesOff (areas_of g)) os) oss
+  pub pokes : (i j : ℕ) → i < length g.strands → j < length g.strands → (i ≡ j → ⊥) → All (PokesOff ((strand_at g j).area ∷ [])) (outcomes_at oss i)
   pub untouched : StrandsUntouched s g oss n
 
 -- an event of a strand

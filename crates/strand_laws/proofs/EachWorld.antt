@@ -1,4 +1,4 @@
--- The strands of a program side by side: what belongs to one that goes on, to one that waits, and to the stores; what a stretch of one keeps of the others.
+-- The headline's world of each strand, side by side: what belongs to a strand that goes on, to one that waits, and to the stores; what a stretch of one keeps of the others.
 use Rattle.headline.specs.FlatLaw.{FlatLaw}
 use Rattle.image_laws.proofs.Restored.{over_store}
 use Rattle.headline.proofs.Halting.{plain_halts}
@@ -69,7 +69,7 @@ pub record SameOne (m : Module) (st : Settings) (which : List Bool) (g : StrandP
   pub event : x.event ≡ y.event
   pub ends : SameAll (global_space m) g.strands x.store y.store
   pub image : AtPaused y.event (Image m st which x.stack (strand_at g i).area.at (strand_at g i).area.len y.store.memory)
-  pub kept : (at_pause : Store) → y.since ≡ Some at_pause → AreaKept (strand_at g i).area at_pause y.store
+  pub kept : (turn_began : Store) → y.since ≡ Some turn_began → AreaKept (strand_at g i).area turn_began y.store
   pub state : AtCalls y.event (slice_get y.store.globals (global_space m) ≡ Some (V.I32 0))
 
 -- The strands of a program, of its original, the flat and the written module, with what all have in common: how configurations are
@@ -213,15 +213,15 @@ module _ (family : Family) (laws : FamilyLaws family) where
 
   -- A strand that goes on: its original over a store with the other one's bytes in all areas is in step.
   pub data Go (i spare : ℕ) : Strung → Held → Type 0 where
-    going_on : (a a' : State) (b : Held) (ps : List Gap) (li : i < count) → AreGaps g.strands ps → Middle ps a a' → Rel i li 0 spare a' b → Known i b → ClearState g.strands a
+    going_on : (a a' : State) (b : Held) (ps : List Gap) (li : i < count) → AreGaps g.strands ps → Middle ps a a' → Rel i li 0 spare a' b → Known i b → ClearState (strand_at g i).area g.strands a
         → InsideAll g.strands (length (store_of a).memory) → Go i spare (on a) b
 
   -- A strand that waits, over the store of the moment.
   pub data Hang (i c : ℕ) : Strung → Held → Store → Type 0 where
-    fresh : (old old' s' : Store) (l : Left) (li : i < count) → LeftFits (wd i) l → ClearOut g.strands l.outcomes → Hang i c (on (between old l)) (free old' l) s'
+    fresh : (old old' s' : Store) (l : Left) (li : i < count) → LeftFits (wd i) l → ClearOut (strand_at g i).area g.strands l.outcomes → Hang i c (on (between old l)) (free old' l) s'
     suspended : (top imp : ℕ) (e : Entry) (a : Answer) (lo : Left) (d d' : Configuration) (at s' : Store) (li : i < count)
         → Suspends (wd i) (ft i li) (store_laws (wd i)) (L i) (W i) G (law i li) top imp e a lo d' c s' → d'.here ≡ d.here → d'.under ≡ d.under
-        → Known i (rewound_from (wd i) e imp a lo at) → length at.memory ≤ length s'.memory → ClearOut g.strands lo.outcomes → ClearPokes g.strands a.pokes
+        → Known i (rewound_from (wd i) e imp a lo at) → length at.memory ≤ length s'.memory → ClearOut (strand_at g i).area g.strands lo.outcomes → ClearPokes g.strands a.pokes
         → Hang i c (waits (an_entry e) d a lo) (rewound_from (wd i) e imp a lo at) s'
 
   abbrev pub Q : ℕ → Note → Note → Type 0
