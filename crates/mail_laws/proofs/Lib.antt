@@ -1,3 +1,4 @@
+pub mod BareBlocking
 pub mod BareWorlds
 pub mod Beginnings
 pub mod CallsInRange

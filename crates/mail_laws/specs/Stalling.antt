@@ -58,7 +58,7 @@ StallsLast =
     → Plays programs detaches number actors sh lines actors' sh'
     → ((t : TakesTurn programs detaches number actors sh lines actors' sh') → list_any note_stalls (turn_of t.a.notes) ≡ false) → StallsThere actors sh.tick lines
 
--- So does each event of a world.
+-- So does each event of a protocol world, since no call there meets such an end.
 abbrev pub WorldsStallLast : Type 0
 WorldsStallLast =
     (begun : ℕ) (programs : List Program) (detaches : List Detach) (boxes : List (List ℕ)) (ds ds' : List Device) (number : ℕ) (lines more : List Line) (actors' : List Actor) (sh' : Shared)

@@ -8,9 +8,9 @@
 //! for good is cut at its pause, and the world ends it there (`specs/MailWorld.antt`).
 //!
 //! A host can't promise. So worlds are told forwards too, without values (`specs/Told.antt`), and turns that were told are a world. No world
-//! is stuck (`specs/Played.antt`). What a receive is answered isn't read before it is given (`specs/Unread.antt`). A line tells
+//! is stuck (`specs/Played.antt`). What a receive is answered isn't read before it is given (`specs/Unread.antt`). A line of a protocol world tells
 //! `Stalled` exactly where no program is ready (`specs/Stalling.antt`). The world of rewritten modules is that of their originals
-//! (`specs/MailOriginals.antt`). Without mailboxes all is as in `world_model` (`specs/WithoutBoxes.antt`).
+//! (`specs/MailOriginals.antt`). Without mailboxes the runs of both worlds are those of `world_model` (`specs/WithoutBoxes.antt`).
 //!
 //! - `event_laws`, `ongoing_laws`: worlds played up to an event, and that they go on.
 //! - `told_laws`, `stalled_laws`, `answer_laws`: worlds that are told, who stalls, answers that aren't read yet.

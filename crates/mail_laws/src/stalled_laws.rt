@@ -2,7 +2,8 @@
 
 ghost use Rattle.mail_laws.specs.Stalling.{StallsLast, WorldsStallLast};
 
-/// A line tells `Stalled` exactly where no program is ready, and then of the first that waits.
+/// A line tells `Stalled` exactly where no program is ready, and then of the first that waits: an event of any actors whose turn tells none,
+/// and each event of a protocol world.
 pub fn stalls_come_last()
     ensures event { StallsLast }
     ensures world { WorldsStallLast }
