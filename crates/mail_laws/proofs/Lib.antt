@@ -14,6 +14,7 @@ pub mod Played
 pub mod PlayedAreTold
 pub mod PlayedParts
 pub mod Promises
+pub mod SendingRun
 pub mod Stalling
 pub mod Tales
 pub mod ToldAreWorlds

@@ -15,7 +15,7 @@
 //! - `event_laws`, `ongoing_laws`: worlds played up to an event, and that they go on.
 //! - `told_laws`, `stalled_laws`, `answer_laws`: worlds that are told, who stalls, answers that aren't read yet.
 //! - `original_laws`: worlds beside those of originals.
-//! - `bare_laws`, `waiting_laws`: worlds without mailboxes; the run of a program that waits for good.
+//! - `bare_laws`, `waiting_laws`: worlds without mailboxes; the runs of a program that waits for good, and of one that is sent values.
 #![tactic(auto)]
 
 mod answer_laws;
@@ -36,4 +36,4 @@ pub use ongoing_laws::{each_world_with_mail_ends, worlds_with_mail_go_on};
 pub use original_laws::{cut_stories_are_of_originals, worlds_with_mail_are_of_originals};
 pub use stalled_laws::stalls_come_last;
 pub use told_laws::{told_turns_are_worlds, told_worlds_go_on};
-pub use waiting_laws::one_waits_for_good;
+pub use waiting_laws::{one_is_sent_values, one_waits_for_good};
