@@ -27,7 +27,7 @@ abbrev pub within : ℕ → Original → Original
 within n o = record o { program = with_steps n o.program }
 
 -- An original runs as is asked, with the outcomes that an actor of its rewritten module meets: within its steps, or, where that waits for
--- good, within any number of steps in which the rewritten module comes to its receive, what is done behind it being nothing to the world.
+-- good, within some number of steps in which the rewritten module comes to its receive. What the original would do later isn't asked.
 pub data RunsAsFar (Runs : Original → List Outcome → Type 0) (o : Original) (w : Program) (a : Actor) : Type 0 where
   to_its_end : Runs o (met a) → RunsAsFar Runs o w a
   to_its_receive : (n : ℕ) (rest : List Note) → n ≤ o.program.steps → protocol_story (with_steps n w) (met a) ≡ a.notes ++ rest → pauses a.notes ≡ true
