@@ -16,6 +16,7 @@ pub mod PlayedParts
 pub mod Promises
 pub mod SendingRun
 pub mod Stalling
+pub mod StallsMet
 pub mod Tales
 pub mod ToldAreWorlds
 pub mod TurnsFollowed

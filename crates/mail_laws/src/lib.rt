@@ -8,7 +8,7 @@
 //! for good is cut at its pause, and the world ends it there (`specs/MailWorld.antt`).
 //!
 //! A host can't promise. So worlds are told forwards too, without values (`specs/Told.antt`), and turns that were told are a world. No world
-//! is stuck (`specs/Played.antt`). What a receive is answered isn't read before it is given (`specs/Unread.antt`). A line of a protocol world tells
+//! is stuck (`specs/Played.antt`). What a receive is answered isn't read before it is given (`specs/Unread.antt`). A line tells
 //! `Stalled` exactly where no program is ready (`specs/Stalling.antt`). The world of rewritten modules is that of their originals
 //! (`specs/MailOriginals.antt`). Without mailboxes the runs of both worlds are those of `world_model` (`specs/WithoutBoxes.antt`).
 //!
