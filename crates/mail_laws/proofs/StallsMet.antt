@@ -170,7 +170,8 @@ module _ (traps_there : List Suspended → Bool) (room used : List Suspended →
       front : (zs : List Note) → ((o : List Outcome) → Refused xs o → Refused zs o) → Refused (x ∷ zs) os
       front zs f = on_takes (λ o. Refused xs o) (λ o. Refused zs o) f (call_in x.event) (stalls x.event) os h
 
-      by_pause : (p : Option ℕ) → ((o : List Outcome) → Refused xs o → Refused (shown traps_there room used len xs) o) → Refused (shown_at traps_there room used len x p (shown traps_there room used len xs)) os
+      by_pause : (p : Option ℕ) → ((o : List Outcome) → Refused xs o → Refused (shown traps_there room used len xs) o)
+          → Refused (shown_at traps_there room used len x p (shown traps_there room used len xs)) os
       by_pause None on = front (shown traps_there room used len xs) on
       by_pause (Some ticks) on = by_room (traps_there x.stack)
         where
