@@ -45,7 +45,7 @@ none_parts (x ∷ xs) ys e = by (is_end x.event) e (none_parts xs ys)
     by true f on = absurd cc
     by false f on = on f
 
-some_parts : (xs ys : List Note) → ends_program (xs ++ ys) ≡ true → (ends_program xs ≡ true) ⊎ (ends_program ys ≡ true)
+pub some_parts : (xs ys : List Note) → ends_program (xs ++ ys) ≡ true → (ends_program xs ≡ true) ⊎ (ends_program ys ≡ true)
 some_parts [] ys e = inr e
 some_parts (x ∷ xs) ys e = by (is_end x.event) e (some_parts xs ys)
   where
@@ -54,7 +54,7 @@ some_parts (x ∷ xs) ys e = by (is_end x.event) e (some_parts xs ys)
     by true f on = inl refl
     by false f on = on f
 
-first_ends : (b c : Bool) → b ≡ true → (b || c) ≡ true
+pub first_ends : (b c : Bool) → b ≡ true → (b || c) ≡ true
 first_ends true c e = refl
 first_ends false c e = absurd cc
 
@@ -152,7 +152,7 @@ module _ (ws : List Program) (detaches : List Detach) where
         by (inl same) = by_parts same (some_parts (turn_of p.a.notes) (behind_turn p.a.notes) (parts_of same ∙ some))
         by (inr other) = inr (a, kept other, some)
 
-  calm_events : (number : ℕ) (acts last : List Unboxed) (ds ds' : List Device) (lines : List Line) (i : ℕ) (a : Unboxed) → UnboxedEvents ws detaches number acts ds lines last ds'
+  pub calm_events : (number : ℕ) (acts last : List Unboxed) (ds ds' : List Device) (lines : List Line) (i : ℕ) (a : Unboxed) → UnboxedEvents ws detaches number acts ds lines last ds'
       → slice_get acts i ≡ Some a → ends_program a.notes ≡ false → tells_end i lines ≡ false
   calm_events number acts last ds ds' lines i a none_unboxed there none = refl
   calm_events number acts last ds ds' lines i a (then_unboxed {actors' = next} {ds' = es} {lines = first} {more = more} play rest e) there none =
@@ -161,7 +161,7 @@ module _ (ws : List Program) (detaches : List Detach) where
       ∙ list_any-append (λ (l : Line). nat_eq l.program i && is_end l.event) first more
       ∙ both_false (tells_end i first) (tells_end i more) one.0 (calm_events (suc number) next last es ds' more i one.1 rest one.2 one.3)
 
-  told_events : (number : ℕ) (acts last : List Unboxed) (ds ds' : List Device) (lines : List Line) (i : ℕ) (a : Unboxed) → UnboxedEvents ws detaches number acts ds lines last ds' → UnboxedOver last
+  pub told_events : (number : ℕ) (acts last : List Unboxed) (ds ds' : List Device) (lines : List Line) (i : ℕ) (a : Unboxed) → UnboxedEvents ws detaches number acts ds lines last ds' → UnboxedOver last
       → slice_get acts i ≡ Some a → ends_program a.notes ≡ true → tells_end i lines ≡ true
   told_events number acts last ds ds' lines i a none_unboxed over there some =
       absurd (no_true (sym (ap ends_program (all_at (λ (x : Unboxed). x.notes ≡ []) acts i a over there)) ∙ some))
@@ -214,15 +214,15 @@ boxed_starts (w ∷ ws) (a ∷ acts) z =
     let st = z.0 in
     (record { starts = record { due = st.starts.due; answers = st.starts.answers; parked = refl }; story = to_end st.story }, boxed_starts ws acts z.1)
 
-abbrev NoNotes : Unboxed → Type 0
+abbrev pub NoNotes : Unboxed → Type 0
 NoNotes a = a.notes ≡ []
 
-boxed_over : (acts : List Unboxed) → UnboxedOver acts → IsOver (map boxed acts)
+pub boxed_over : (acts : List Unboxed) → UnboxedOver acts → IsOver (map boxed acts)
 boxed_over [] h = All-nil HasEnded
 boxed_over (a ∷ acts) h =
     All-cons HasEnded (boxed a) (map boxed acts) (record { no_notes = All-head NoNotes a acts h; awake = refl }) (boxed_over acts (All-tail NoNotes a acts h))
 
-unboxed_over : (acts : List Actor) → IsOver acts → UnboxedOver (map unboxed acts)
+pub unboxed_over : (acts : List Actor) → IsOver acts → UnboxedOver (map unboxed acts)
 unboxed_over [] h = All-nil NoNotes
 unboxed_over (a ∷ acts) h =
     All-cons NoNotes (unboxed a) (map unboxed acts) (All-head HasEnded a acts h).no_notes (unboxed_over acts (All-tail HasEnded a acts h))

@@ -55,9 +55,9 @@ opening_calm m imports = by (nat_lt 1024 (least_of (all_memories m))) (nat_lt 10
         elements (all_values imports m) (replicate (least_of (all_memories m) * page_size) 0) (replicate (least_of (all_tables m)) None) (map (elem_piece (all_values imports m)) m.elems)
         (map (byte_piece (all_values imports m)) m.segments) (first_out (length (replicate (least_of (all_tables m)) none)) 0 (map (elem_piece (all_values imports m)) m.elems))
 
-fails_calm : (w : Program) (e : End) → opening w.source w.plan.globals ≡ fails_as e → is_stalled e ≡ false
+pub fails_calm : (m : Module) (imports : List Value) (e : End) → opening m imports ≡ fails_as e → is_stalled e ≡ false
 unfolding opens_calm
-fails_calm w e eo = subst opens_calm eo (opening_calm w.source w.plan.globals)
+fails_calm m imports e eo = subst opens_calm eo (opening_calm m imports)
 
 -- what a program tells whose run is told from such a beginning
 module _ (w : Program) (steps : ℕ) (begins : List Outcome → Ran Held Note) (told : (more : List Outcome) → protocol_story w more ≡ told_by w.steps (held_continued w.source w.plan steps (begins more))) where
@@ -96,7 +96,7 @@ start_at w eo = by_opening w.source.start (opening w.source w.plan.globals) refl
     stands_here = stands_at w w.steps (λ (more : List Outcome). held_begun w.source.start (all_left w.plan more) (opening w.source w.plan.globals)) told
 
     by_opening : (start : Option ℕ) (o : Opening) → w.source.start ≡ start → opening w.source w.plan.globals ≡ o → Knows w [] [] w.steps
-    by_opening start (fails_as e) es eo = ends_here (note (ended e) no_store) no_store (refl, fails_calm w e eo) (λ more. ap (held_begun w.source.start (all_left w.plan more)) eo)
+    by_opening start (fails_as e) es eo = ends_here (note (ended e) no_store) no_store (refl, fails_calm w.source w.plan.globals e eo) (λ more. ap (held_begun w.source.start (all_left w.plan more)) eo)
     by_opening (Some f) (opens s) es eo =
         stands_here (held_starting f s (all_left w.plan [])) tt (λ more k. held_begun (es k) (all_left w.plan more) (eo k))
     by_opening None (opens s) es eo = by_entries w.plan.entries refl

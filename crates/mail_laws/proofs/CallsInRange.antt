@@ -27,13 +27,13 @@ values_fit : (import : ℕ) (name : List ℕ) (vs : List ℕ) (z : Midst) (o : O
 values_fit import name [] z o z' h = subst OutcomeFits (sym h.2) (record { said = h.1; pokes = All-nil PokeFits; ticks = omega arith })
 values_fit import name (v ∷ vs) z o z' h = subst OutcomeFits (sym h.0) (record { said = mod_small v; pokes = All-nil PokeFits; ticks = omega arith })
 
-box_fits : (import : ℕ) (name : List ℕ) (args : List Value) (b : Mailbox) (z : Midst) (o : Outcome) (z' : Midst) → MeetsBox import name args b z o z' → OutcomeFits o
+pub box_fits : (import : ℕ) (name : List ℕ) (args : List Value) (b : Mailbox) (z : Midst) (o : Outcome) (z' : Midst) → MeetsBox import name args b z o z' → OutcomeFits o
 box_fits import name [] b z o z' h = values_fit import name b.values z o z' h
 box_fits import name (V.I32 v ∷ []) b z o z' h = subst OutcomeFits (sym h.1) (record { said = tt; pokes = All-nil PokeFits; ticks = omega arith })
 box_fits import name (V.I32 v ∷ y ∷ ys) b z o z' h = subst OutcomeFits (sym h.0) tt
 box_fits import name (V.I64 v ∷ ys) b z o z' h = subst OutcomeFits (sym h.0) tt
 
-unboxed_fits : (w : Program) (import : ℕ) (args : List Value) (lines : List AnswerLine) (ds : List Device) (o : Outcome) (lines' : List AnswerLine) (ds' : List Device)
+pub unboxed_fits : (w : Program) (import : ℕ) (args : List Value) (lines : List AnswerLine) (ds : List Device) (o : Outcome) (lines' : List AnswerLine) (ds' : List Device)
     → UnboxedMeets w import args lines ds o lines' ds' → AnswersFit lines → OutcomeFits o × AnswersFit lines'
 unboxed_fits w import args lines ds o lines' ds' h fit =
     let x : Note = note (called (record { import = import; args = args })) no_store in

@@ -1,5 +1,5 @@
 -- A story under the protocol that is cut at a pause is what is expected of the original up to there.
-use Rattle.std.proofs.Common.{arith, ◌≡◌, ℕ, zero, suc, List, [], ◌∷◌, ◌++◌, length, take, drop, Some, None, Bool, true, false, slice_get, refl, sym, ap, ◌∙◌, subst}
+use Rattle.std.proofs.Common.{◌≡◌, ◌≤◌, ℕ, zero, suc, List, [], ◌∷◌, ◌++◌, length, take, drop, Some, None, Bool, true, false, slice_get, refl, sym, ap, ◌∙◌, subst}
 use Rattle.std.specs.List.{AllZip}
 use Rattle.wa_types.specs.Runtime.{global_space}
 use Rattle.wa_model.specs.Plan.{Outcome}
@@ -11,8 +11,8 @@ use Rattle.run_laws.proofs.UntoldRuns.{behaves_untold}
 use Rattle.world_model.specs.World.{Original, Program, protocol_story, unless_over}
 use Rattle.world_laws.specs.Originals.{SameMoment, StandsIn}
 use Rattle.world_laws.proofs.Stories.{story_stands}
-use Rattle.mail_laws.specs.MailWorld.{BlockedStory, is_pause, pauses, waits}
-use Rattle.mail_laws.specs.MailOriginals.{CutStoriesOfOriginals, CutStoriesUntold}
+use Rattle.mail_laws.specs.MailWorld.{StoryOrCut, is_pause, pauses, waits}
+use Rattle.mail_laws.specs.MailOriginals.{CutStoriesOfOriginals, CutStoriesUntold, with_steps, within}
 
 -- ---- notes up to a pause
 
@@ -92,36 +92,49 @@ zip_of R (x ∷ xs) (y ∷ ys) h = (first (h 0 y refl), zip_of R xs ys (λ i z e
 
 -- a story of the original beside these notes
 abbrev pub Told : Original → List Outcome → List Note → Type 0
-Told o os notes = (expected : List Note) × BlockedStory o.settings o.program os expected × AllZip (SameMoment (global_space o.program.source) o.program.plan.area) expected notes
+Told o os notes = (expected : List Note) × StoryOrCut o.settings o.program os expected × AllZip (SameMoment (global_space o.program.source) o.program.plan.area) expected notes
 
-cut_by : (o : Original) (w : Program) (os : List Outcome) (notes rest : List Note) → StandsIn o w → (which : List Bool)
-    → BehavesOn o.program.source o.settings w.source o.program.plan os o.program.steps which (expected_notes o.program.source o.settings o.program.plan os o.program.steps)
-    → protocol_story w os ≡ notes ++ rest → pauses notes ≡ true → Told o os notes
-cut_by o w os notes rest st which behaves e cut =
-    let made : List Note = (Protocol w.source o.program.plan os o.program.steps).events in
-    let last : Held = (Protocol w.source o.program.plan os o.program.steps).last in
-    let expected : List Note = expected_notes o.program.source o.settings o.program.plan os o.program.steps in
-    let split = before_end notes rest made (unless_over o.program.steps last) (sym e ∙ story_stands o w os st) (unless_none o.program.steps last) cut in
+-- an original stands in for the same within fewer steps
+within_stands : (n : ℕ) (o : Original) (w : Program) → StandsIn o w → StandsIn (within n o) (with_steps n w)
+within_stands n o w st = record {
+  rewrites = st.rewrites;
+  plan = st.plan;
+  steps = refl;
+  answers = st.answers;
+  binds = st.binds;
+  looks = st.looks;
+  start = st.start;
+  original_start = st.original_start;
+}
+
+cut_by : (o : Original) (w : Program) (os : List Outcome) (notes rest : List Note) (n : ℕ) → n ≤ o.program.steps → StandsIn o w → (which : List Bool)
+    → BehavesOn o.program.source o.settings w.source o.program.plan os n which (expected_notes o.program.source o.settings o.program.plan os n)
+    → protocol_story (with_steps n w) os ≡ notes ++ rest → pauses notes ≡ true → Told o os notes
+cut_by o w os notes rest n le st which behaves e cut =
+    let made : List Note = (Protocol w.source o.program.plan os n).events in
+    let last : Held = (Protocol w.source o.program.plan os n).last in
+    let expected : List Note = expected_notes o.program.source o.settings o.program.plan os n in
+    let split = before_end notes rest made (unless_over n last) (sym e ∙ story_stands (within n o) (with_steps n w) os (within_stands n o w st)) (unless_none n last) cut in
     let beside : AllZip (SameMoment (global_space o.program.source) o.program.plan.area) (take (length notes) expected) notes =
     zip_of (SameMoment (global_space o.program.source) o.program.plan.area) expected notes
-    (λ i y there. let n = behaves.notes i y (ap (λ (l : List Note). slice_get l i) split.1 ∙ get_front notes split.0 i y there) in
-    (n.0, n.1, record { event = n.2.event; ends = n.2.ends })) in (
+    (λ i y there. let x = behaves.notes i y (ap (λ (l : List Note). slice_get l i) split.1 ∙ get_front notes split.0 i y there) in
+    (x.0, x.1, record { event = x.2.event; ends = x.2.ends })) in (
       take (length notes) expected,
-      waits o.program.steps (drop (length notes) expected) (omega arith) (split_at (length notes) expected)
+      waits n (drop (length notes) expected) le (split_at (length notes) expected)
           (pauses_zip (SameMoment (global_space o.program.source) o.program.plan.area) (λ x y h. h.event) (take (length notes) expected) notes beside ∙ cut),
       beside,
     )
 
 pub cut_stories : CutStoriesOfOriginals
-cut_stories o w os notes rest st may fits ord e cut =
-    let compared : Compared o.program.source o.settings o.program.plan os o.program.steps =
+cut_stories o w os notes rest n st may fits le ord e cut =
+    let compared : Compared o.program.source o.settings o.program.plan os n =
     record { fits = may.fits; listed = may.listed; outcomes = fits; untouched = ord.untouched } in
-    cut_by o w os notes rest st ord.which
-    (st.rewrites.behaves may.well_formed ord.which ord.tells o.program.plan os o.program.steps compared ord.numbered) e cut
+    cut_by o w os notes rest n le st ord.which
+    (st.rewrites.behaves may.well_formed ord.which ord.tells o.program.plan os n compared ord.numbered) e cut
 
 pub cut_untold : CutStoriesUntold
-cut_untold o w os notes rest st may fits ord e cut =
-    let compared : ComparedUntold o.program.source o.settings o.program.plan os o.program.steps =
+cut_untold o w os notes rest n st may fits le ord e cut =
+    let compared : ComparedUntold o.program.source o.settings o.program.plan os n =
     record { fits = may.fits; allows = may.allows; outcomes = fits; untouched = ord.untouched; listed = ord.listed } in
-    cut_by o w os notes rest st ord.which
-    (behaves_untold o.program.source o.settings w.source st.rewrites.behaves may.well_formed ord.which ord.tells o.program.plan os o.program.steps compared ord.numbered) e cut
+    cut_by o w os notes rest n le st ord.which
+    (behaves_untold o.program.source o.settings w.source st.rewrites.behaves may.well_formed ord.which ord.tells o.program.plan os n compared ord.numbered) e cut

@@ -1,3 +1,4 @@
+pub mod BareBlocking
 pub mod BareWorlds
 pub mod Beginnings
 pub mod CallsInRange
@@ -13,7 +14,9 @@ pub mod Played
 pub mod PlayedAreTold
 pub mod PlayedParts
 pub mod Promises
+pub mod SendingRun
 pub mod Stalling
+pub mod StallsMet
 pub mod Tales
 pub mod ToldAreWorlds
 pub mod TurnsFollowed

@@ -18,7 +18,7 @@ use Rattle.world_laws.proofs.Tails.{story_tailed}
 use Rattle.world_laws.proofs.Untold.{stories_untold}
 use Rattle.world_laws.proofs.Worlds.{Plain, take_first}
 use Rattle.mail_laws.specs.MailWorld.{Actor, BlockingWorld, HeldStory, ProtocolWorld, StartsHeld, StartsOriginal, begins_over, over_at, pauses, sharing, tells_end, to_end, to_wait, unblocked}
-use Rattle.mail_laws.specs.MailOriginals.{MailWorldsOfOriginals, MailWorldsUntold, met}
+use Rattle.mail_laws.specs.MailOriginals.{AllRunAsFar, MailWorldsOfOriginals, MailWorldsUntold, RunsAsFar, met, to_its_end, to_its_receive, with_steps, within}
 use Rattle.mail_laws.proofs.CallsInRange.{EachMet, Met, events_met}
 use Rattle.mail_laws.proofs.CutStories.{Told, cut_stories, cut_untold}
 use Rattle.mail_laws.proofs.MailRows.{AllSeen, Row, Rows, SameParked, events_beside, no_rows, one_more_row, over_beside, seen_by}
@@ -31,8 +31,8 @@ Starting o w a = (b : Actor) × StartsOriginal o b × Row o w a b
 module _ (May : Original → Type 0) (Ord : Original → List Outcome → Type 0) (plain : (o : Original) → May o → Plain o)
     (stories : (o : Original) (w : Program) (os : List Outcome) → StandsIn o w → May o → All OutcomeFits os → new_calls (protocol_story w os) ≤ length os → Ord o os
     → (notes : List Note) × BlockingStory o.settings o.program os notes × AllZip (SameMoment (global_space o.program.source) o.program.plan.area) notes (protocol_story w os))
-    (cuts : (o : Original) (w : Program) (os : List Outcome) (notes rest : List Note) → StandsIn o w → May o → All OutcomeFits os → Ord o os → protocol_story w os ≡ notes ++ rest
-    → pauses notes ≡ true → Told o os notes) where
+    (cuts : (o : Original) (w : Program) (os : List Outcome) (notes rest : List Note) (n : ℕ) → StandsIn o w → May o → All OutcomeFits os → n ≤ o.program.steps
+    → Ord (within n o) os → protocol_story (with_steps n w) os ≡ notes ++ rest → pauses notes ≡ true → Told o os notes) where
   story_told : (o : Original) (w : Program) (used rest : List Outcome) (notes : List Note) → StandsIn o w → May o → All OutcomeFits used → Ord o used → length used ≡ new_calls notes
       → HeldStory w (used ++ rest) notes → Told o used notes
   story_told o w used rest notes st may fits ord len (to_end whole) =
@@ -43,9 +43,16 @@ module _ (May : Original → Type 0) (Ord : Original → List Outcome → Type 0
       (r.0, unblocked r.1, subst (λ (xs : List Note). AllZip (SameMoment (global_space o.program.source) o.program.plan.area) r.0 xs) (sym story) r.2)
   story_told o w used rest notes st may fits ord len (to_wait more e cut) =
       let b = begins_any w used rest [] notes (sym len) (more, e) in
-      cuts o w used notes b.0 st may fits ord (ap (protocol_story w) (sym (append-nil used)) ∙ b.1) cut
+      let all_steps : protocol_story (with_steps o.program.steps w) used ≡ protocol_story w used = ap (λ (n : ℕ). protocol_story (with_steps n w) used) (sym st.steps) in
+      cuts o w used notes b.0 o.program.steps st may fits (omega arith) ord (all_steps ∙ ap (protocol_story w) (sym (append-nil used)) ∙ b.1) cut
 
-  starting : (o : Original) (w : Program) (a : Actor) → StandsIn o w → May o → StartsHeld w a → Met a → Ord o (met a) → Starting o w a
+  told_as_far : (o : Original) (w : Program) (a : Actor) (used rest : List Outcome) → StandsIn o w → May o → All OutcomeFits used → met a ≡ used → length used ≡ new_calls a.notes
+      → HeldStory w (used ++ rest) a.notes → RunsAsFar Ord o w a → Told o used a.notes
+  told_as_far o w a used rest st may fits is_met len held (to_its_end ord) = story_told o w used rest a.notes st may fits (subst (Ord o) is_met ord) len held
+  told_as_far o w a used rest st may fits is_met len held (to_its_receive n more le e cut ord) =
+      cuts o w used a.notes more n st may fits le (subst (Ord (within n o)) is_met ord) (ap (protocol_story (with_steps n w)) (sym is_met) ∙ e) cut
+
+  starting : (o : Original) (w : Program) (a : Actor) → StandsIn o w → May o → StartsHeld w a → Met a → RunsAsFar Ord o w a → Starting o w a
   starting o w a st may held meets ord =
       let same_answers : a.answers ≡ o.program.answers = held.starts.answers ∙ ap (answers_from w.answers) st.start ∙ st.answers in
       let fit : AnswersFit a.answers = subst AnswersFit (sym same_answers) (plain o may).answers in
@@ -56,7 +63,7 @@ module _ (May : Original → Type 0) (Ord : Original → List Outcome → Type 0
       let len : length used ≡ new_calls a.notes = t.2 in
       let in_range = t.3 fit in
       let is_met : met a ≡ used = ap (take (new_calls a.notes)) os ∙ take_first used rest (new_calls a.notes) len in
-      let r = story_told o w used rest a.notes st may in_range.0 (subst (Ord o) is_met ord) len (subst (λ (xs : List Outcome). HeldStory w xs a.notes) os held.story) in
+      let r = told_as_far o w a used rest st may in_range.0 is_met len (subst (λ (xs : List Outcome). HeldStory w xs a.notes) os held.story) ord in
       let least = (plain o may).least in
       let seen : AllSeen w.looks r.0 a.notes =
       subst (λ (ls : List Look). AllSeen ls r.0 a.notes) (sym st.looks)
@@ -82,11 +89,11 @@ module _ (May : Original → Type 0) (Ord : Original → List Outcome → Type 0
       )
 
   all_starting : (os : List Original) (ws : List Program) (acts : List Actor) → AllZip StandsIn os ws → All May os → AllZip StartsHeld ws acts → EachMet acts
-      → AllZip (λ (o : Original) (a : Actor). Ord o (met a)) os acts → (bs : List Actor) × AllZip StartsOriginal os bs × Rows os ws acts bs
+      → AllRunAsFar Ord os ws acts → (bs : List Actor) × AllZip StartsOriginal os bs × Rows os ws acts bs
   all_starting [] [] [] st may held meets ord = ([], tt, no_rows)
   all_starting (o ∷ os) (w ∷ ws) (a ∷ acts) st may held meets ord =
-      let one = starting o w a st.0 (All-head May o os may) held.0 (meets 0 a refl) ord.0 in
-      let on = all_starting os ws acts st.1 (All-tail May o os may) held.1 (λ i. meets (suc i)) ord.1 in
+      let one = starting o w a st.0 (All-head May o os may) held.0 (meets 0 a refl) (ord 0 o w a refl refl refl) in
+      let on = all_starting os ws acts st.1 (All-tail May o os may) held.1 (λ i. meets (suc i)) (λ i. ord (suc i)) in
       (one.0 ∷ on.0, (one.1, on.1), one_more_row o os w ws a acts one.0 on.0 one.2 on.2)
   all_starting [] (w ∷ ws) acts st may held meets ord = absurd st
   all_starting (o ∷ os) [] acts st may held meets ord = absurd st
@@ -95,7 +102,7 @@ module _ (May : Original → Type 0) (Ord : Original → List Outcome → Type 0
 
   pub worlds_by : (originals : List Original) (programs : List Program) (detaches : List Detach) (boxes : List (List ℕ)) (ds ds' : List Device) (lines : List Line)
       → AllZip StandsIn originals programs → All May originals → (world : ProtocolWorld programs detaches boxes ds lines ds')
-      → AllZip (λ (o : Original) (a : Actor). Ord o (met a)) originals world.actors → BlockingWorld originals detaches boxes ds lines ds'
+      → AllRunAsFar Ord originals programs world.actors → BlockingWorld originals detaches boxes ds lines ds'
   worlds_by os ws detaches boxes ds ds' lines st may world ord =
       let meets = events_met ws detaches 1 world.actors (sharing boxes ds) lines world.runs.last world.runs.shared world.runs.events world.runs.over in
       let s = all_starting os ws world.actors st may world.starts meets ord in

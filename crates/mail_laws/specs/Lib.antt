@@ -2,6 +2,7 @@ pub mod MailOriginals
 pub mod MailWorld
 pub mod Mailboxes
 pub mod Played
+pub mod SendingRun
 pub mod Stalling
 pub mod Told
 pub mod Unread

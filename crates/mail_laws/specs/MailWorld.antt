@@ -156,15 +156,17 @@ pub data Events (programs : List Program) (detaches : List Detach) : (number : �
 
 -- ---- what a program's notes are
 
--- In the protocol world a program makes the notes of its run, or those up to where it waits for good.
+-- In the protocol world a program makes the notes of its run, or those up to one of its pauses. That it waits there for good is asked of
+-- the world's lines (`EachEnds`, and `EndsAreTold` of a world up to an event).
 pub data HeldStory (w : Program) (os : List Outcome) (notes : List Note) : Type 0 where
   to_end : notes ≡ protocol_story w os → HeldStory w os notes
   to_wait : (rest : List Note) → protocol_story w os ≡ notes ++ rest → pauses notes ≡ true → HeldStory w os notes
 
--- In the blocking world it makes what it makes without mailboxes, or its expected notes up to where it waits for good.
-pub data BlockedStory (s : Settings) (w : Program) (os : List Outcome) (notes : List Note) : Type 0 where
-  unblocked : BlockingStory s w os notes → BlockedStory s w os notes
-  waits : (cost : ℕ) (rest : List Note) → cost ≤ w.steps → expected_notes w.source s w.plan os cost ≡ notes ++ rest → pauses notes ≡ true → BlockedStory s w os notes
+-- In the blocking world it makes what it makes without mailboxes, or its expected notes up to one of its pauses; `EachEnds` asks there too
+-- that it waits for good.
+pub data StoryOrCut (s : Settings) (w : Program) (os : List Outcome) (notes : List Note) : Type 0 where
+  unblocked : BlockingStory s w os notes → StoryOrCut s w os notes
+  waits : (cost : ℕ) (rest : List Note) → cost ≤ w.steps → expected_notes w.source s w.plan os cost ≡ notes ++ rest → pauses notes ≡ true → StoryOrCut s w os notes
 
 -- ---- worlds
 
@@ -183,7 +185,7 @@ pub record StartsHeld (w : Program) (a : Actor) : Type 0 where
 pub record StartsBlocking (s : Settings) (w : Program) (a : Actor) : Type 0 where
   pub origin : w.origin ≡ at_start
   pub starts : Starts w a
-  pub story : BlockedStory s w a.outcomes a.notes
+  pub story : StoryOrCut s w a.outcomes a.notes
 
 -- a program has ended
 pub record HasEnded (a : Actor) : Type 0 where

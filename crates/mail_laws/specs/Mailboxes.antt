@@ -101,7 +101,8 @@ MeetsValues import name [] sh o sh' =
     (value : ℕ) × (value < 2 ^ 32) × (o ≡ mailed (Some (V.I32 value)) 1) × (sh' ≡ record sh { receive = Some (record { import = import; box = name; value = value }) })
 MeetsValues import name (v ∷ vs) sh o sh' = (o ≡ mailed (Some (V.I32 (in_range v))) 0) × (sh' ≡ record sh { boxes = at_box (received vs) name sh.boxes })
 
--- an import bound to a mailbox: with one i32 it sends, without arguments it receives; no script binds another
+-- An import bound to a mailbox: called with one i32 it sends, without arguments it receives. With others it meets no device: the set-up of
+-- scripts with mailboxes, which is still to come, has to refuse such a binding by the import's type.
 abbrev pub MeetsBox : (import : ℕ) → (name : List ℕ) → List Value → Mailbox → Midst → Outcome → Midst → Type 0
 MeetsBox import name (V.I32 v ∷ []) b sh o sh' =
     IsAwaited v b.waits × (o ≡ mailed None 0) × (sh' ≡ record sh { boxes = at_box (sent v) name sh.boxes; settled = sh.settled ++ receiver b.waits })

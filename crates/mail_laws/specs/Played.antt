@@ -45,7 +45,7 @@ NoEvent =
     (begun : ℕ) (programs : List Program) (detaches : List Detach) (boxes : List (List ℕ)) (ds : List Device) (actors : List Actor) → AllZip StartsHeld programs actors
     → (world : ProtocolWorldUpToFrom begun programs detaches boxes ds begun [] ds) × (world.now ≡ actors)
 
--- and each further event makes its lines behind the others.
+-- and each further event makes its lines behind the others, where behind it each program without notes has told its end or waits.
 abbrev pub NextEvent : Type 0
 NextEvent =
     (begun : ℕ) (programs : List Program) (detaches : List Detach) (boxes : List (List ℕ)) (ds ds' : List Device) (number : ℕ) (lines more : List Line) (next : List Actor) (sh : Shared)

@@ -1,15 +1,15 @@
 -- When a line tells that a program stalled.
-use Rattle.std.specs.Prelude.{◌≡◌, ◌≤◌, ℕ, suc, List, [], ◌∷◌, Some, Bool, true, false, slice_get}
-use Rattle.std.specs.List.{list_any}
+use Rattle.std.specs.Prelude.{◌≡◌, ◌≤◌, ℕ, suc, List, [], ◌∷◌, map, Some, Bool, true, false, slice_get}
+use Rattle.std.specs.List.{AllZip, list_any}
 use Rattle.wa_model.specs.declared.answers.Detach.{Detach}
 use Rattle.wa_model.specs.declared.events.End.{End}
 use Rattle.wa_model.specs.declared.events.End.TheVariants.{Stalled}
 use Rattle.wa_model.specs.Outside.{Event, ended, Line}
 use Rattle.wa_model.specs.Blocking.{Note}
-use Rattle.world_model.specs.World.{Device, Program, line_at, turn_of}
+use Rattle.world_model.specs.World.{Device, Original, Program, line_at, turn_of}
 use Rattle.mail_laws.specs.Mailboxes.{Shared}
-use Rattle.mail_laws.specs.MailWorld.{Actor, IsReady, Parked, Plays, TakesTurn}
-use Rattle.mail_laws.specs.Played.{ProtocolWorldUpToFrom}
+use Rattle.mail_laws.specs.MailWorld.{Actor, IsReady, Parked, Plays, StartsOriginal, TakesTurn, sharing}
+use Rattle.mail_laws.specs.Played.{Played, ProtocolWorldUpToFrom}
 
 -- the end of a program that waits for good
 abbrev pub is_stalled : End → Bool
@@ -58,9 +58,16 @@ StallsLast =
     → Plays programs detaches number actors sh lines actors' sh'
     → ((t : TakesTurn programs detaches number actors sh lines actors' sh') → list_any note_stalls (turn_of t.a.notes) ≡ false) → StallsThere actors sh.tick lines
 
--- So does each event of a world.
+-- So does each event of a protocol world, since no call of a world meets such an end,
 abbrev pub WorldsStallLast : Type 0
 WorldsStallLast =
     (begun : ℕ) (programs : List Program) (detaches : List Detach) (boxes : List (List ℕ)) (ds ds' : List Device) (number : ℕ) (lines more : List Line) (actors' : List Actor) (sh' : Shared)
     → (world : ProtocolWorldUpToFrom begun programs detaches boxes ds number lines ds') → Plays programs detaches (suc number) world.now world.shared more actors' sh'
     → StallsThere world.now world.shared.tick more
+
+-- and each event of a blocking world.
+abbrev pub BlockingWorldsStallLast : Type 0
+BlockingWorldsStallLast =
+    (originals : List Original) (detaches : List Detach) (boxes : List (List ℕ)) (ds : List Device) (count : ℕ) (lines more : List Line) (actors now actors' : List Actor) (sh sh' : Shared)
+    → AllZip StartsOriginal originals actors → Played (map (λ (o : Original). o.program) originals) detaches 1 count actors (sharing boxes ds) lines now sh
+    → Plays (map (λ (o : Original). o.program) originals) detaches (suc count) now sh more actors' sh' → StallsThere now sh.tick more

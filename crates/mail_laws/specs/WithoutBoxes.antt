@@ -2,9 +2,9 @@
 use Rattle.std.specs.Prelude.{◌≡◌, ◌↔◌, ℕ, List, [], map, None, All}
 use Rattle.wa_model.specs.declared.answers.Detach.{Detach}
 use Rattle.wa_model.specs.Outside.{Line}
-use Rattle.world_model.specs.World.{Actor as Unboxed, Device, Events as UnboxedEvents, Program, ProtocolWorldFrom as UnboxedWorldFrom}
+use Rattle.world_model.specs.World.{Actor as Unboxed, BlockingWorld as UnboxedBlocking, Device, Events as UnboxedEvents, Original, Program, ProtocolWorldFrom as UnboxedWorldFrom}
 use Rattle.mail_laws.specs.Mailboxes.{Shared}
-use Rattle.mail_laws.specs.MailWorld.{Actor, Events, Plays, ProtocolWorldFrom, TakesTurn}
+use Rattle.mail_laws.specs.MailWorld.{Actor, BlockingWorld, Events, Plays, ProtocolWorldFrom, TakesTurn}
 
 -- a program doesn't wait
 abbrev pub IsAwake : Actor → Type 0
@@ -45,8 +45,14 @@ UnboxedEventsAre =
     → UnboxedEvents programs detaches number actors ds lines last ds'
     → (after : ℕ) × Events programs detaches number (map boxed actors) (bare tick ds) lines (map boxed last) (bare after ds')
 
--- And so are its runs.
+-- And so are its runs, of the protocol world
 abbrev pub WorldsWithoutBoxes : Type 0
 WorldsWithoutBoxes =
     (begun : ℕ) (programs : List Program) (detaches : List Detach) (ds ds' : List Device) (lines : List Line)
     → UnboxedWorldFrom begun programs detaches ds lines ds' ↔ ProtocolWorldFrom begun programs detaches [] ds lines ds'
+
+-- and of the blocking world.
+abbrev pub BlockingWithoutBoxes : Type 0
+BlockingWithoutBoxes =
+    (originals : List Original) (detaches : List Detach) (ds ds' : List Device) (lines : List Line)
+    → UnboxedBlocking originals detaches ds lines ds' ↔ BlockingWorld originals detaches [] ds lines ds'

@@ -1,6 +1,6 @@
 //! Laws of worlds without mailboxes.
 
-ghost use Rattle.mail_laws.specs.WithoutBoxes.{EventsAreUnboxed, NoneWaits, UnboxedEventsAre, WorldsWithoutBoxes};
+ghost use Rattle.mail_laws.specs.WithoutBoxes.{BlockingWithoutBoxes, EventsAreUnboxed, NoneWaits, UnboxedEventsAre, WorldsWithoutBoxes};
 
 /// Every event is a turn, and no program waits.
 pub fn none_waits_without_boxes()
@@ -13,7 +13,8 @@ pub fn bare_events_are_those_of_worlds()
     ensures back { UnboxedEventsAre }
 {}
 
-/// And so are the runs, both ways.
+/// And so are the runs, both ways, of the protocol world and of the blocking world.
 pub fn bare_worlds_are_worlds()
-    ensures { WorldsWithoutBoxes }
+    ensures protocol { WorldsWithoutBoxes }
+    ensures blocking { BlockingWithoutBoxes }
 {}

@@ -10,12 +10,12 @@
 //! A host can't promise. So worlds are told forwards too, without values (`specs/Told.antt`), and turns that were told are a world. No world
 //! is stuck (`specs/Played.antt`). What a receive is answered isn't read before it is given (`specs/Unread.antt`). A line tells
 //! `Stalled` exactly where no program is ready (`specs/Stalling.antt`). The world of rewritten modules is that of their originals
-//! (`specs/MailOriginals.antt`). Without mailboxes all is as in `world_model` (`specs/WithoutBoxes.antt`).
+//! (`specs/MailOriginals.antt`). Without mailboxes the runs of both worlds are those of `world_model` (`specs/WithoutBoxes.antt`).
 //!
 //! - `event_laws`, `ongoing_laws`: worlds played up to an event, and that they go on.
 //! - `told_laws`, `stalled_laws`, `answer_laws`: worlds that are told, who stalls, answers that aren't read yet.
 //! - `original_laws`: worlds beside those of originals.
-//! - `bare_laws`, `waiting_laws`: worlds without mailboxes; the run of a program that waits for good.
+//! - `bare_laws`, `waiting_laws`: worlds without mailboxes; the runs of a program that waits for good, and of one that is sent values.
 #![tactic(auto)]
 
 mod answer_laws;
@@ -36,4 +36,4 @@ pub use ongoing_laws::{each_world_with_mail_ends, worlds_with_mail_go_on};
 pub use original_laws::{cut_stories_are_of_originals, worlds_with_mail_are_of_originals};
 pub use stalled_laws::stalls_come_last;
 pub use told_laws::{told_turns_are_worlds, told_worlds_go_on};
-pub use waiting_laws::one_waits_for_good;
+pub use waiting_laws::{one_is_sent_values, one_waits_for_good};

@@ -2,7 +2,8 @@
 
 ghost use Rattle.mail_laws.specs.MailOriginals.{CutStoriesOfOriginals, CutStoriesUntold, MailWorldsOfOriginals, MailWorldsUntold};
 
-/// A story under the protocol that is cut where the program waits is one of its original with blocking imports.
+/// A story under the protocol that is cut where the program waits is one of its original with blocking imports, which has to run orderly
+/// only as far as that story goes.
 pub fn cut_stories_are_of_originals()
     ensures told { CutStoriesOfOriginals }
     ensures untold { CutStoriesUntold }
