@@ -14,8 +14,10 @@ use Rattle.wa_model.specs.Blocking.{in_start, inside, next_entry, note, outermos
 use Rattle.wa_model.specs.Configuration.{Configuration}
 use Rattle.wa_model.specs.Machine.{Leads, Turn, goes, moves, stays, still, stops}
 use Rattle.wa_model.specs.Plan.{Entry, Outcome, Plan, given, refused}
-use Rattle.wa_model.specs.Protocol.{Exports, Held, Phase, Then, aside, aside_back, aside_called, aside_step, broken, busy, busy_enters, busy_step, call_again, calling, entering, free, give_answer, give_zero}
-use Rattle.wa_model.specs.Protocol.{held_asked, held_back, held_given, held_next, held_on, held_resumed, held_start, held_tested, is_running, is_state, over, pause_there, protocol, rewinds, starting, store_held, test_rewound, test_unwound, unwinds}
+use Rattle.wa_model.specs.Protocol.{Exports, Held, Phase, Then, aside, aside_back, aside_called, aside_step, broken}
+use Rattle.wa_model.specs.Protocol.{busy, busy_enters, busy_step, call_again, calling, entering, free, give_answer, give_zero}
+use Rattle.wa_model.specs.Protocol.{held_asked, held_back, held_given, held_next, held_on, held_resumed, held_start, held_tested, is_running, is_state}
+use Rattle.wa_model.specs.Protocol.{over, pause_there, protocol, rewinds, starting, store_held, test_rewound, test_unwound, unwinds}
 use Rattle.wa_model.specs.Step.{Next, asks, returns, step, steps, stuck, traps}
 use Rattle.wa_model.specs.Store.{Store}
 use Rattle.strand_laws.proofs.WovenRuns.{NoEnds, last_of}

@@ -15,6 +15,7 @@ pub mod MoveKinds
 pub mod Moving
 pub mod NextMoves
 pub mod Numbered
+pub mod OneExpected
 pub mod OneStrand
 pub mod Paused
 pub mod Pausing
