@@ -1,5 +1,5 @@
 -- Which moves end a strand, on both sides.
-use Rattle.std.proofs.Common.{◌≡◌, ℕ, zero, suc, ◌+◌, ◌<◌, List, [], ◌∷◌, ◌++◌, length, All, Option, Some, None, Bool, true, false, refl, sym, ap, ◌∙◌, subst, arith, append-nil}
+use Rattle.std.proofs.Common.{◌≡◌, ℕ, suc, ◌+◌, List, [], ◌∷◌, ◌++◌, length, Option, Some, None, Bool, true, false, refl, sym, ap, ◌∙◌, subst, arith, append-nil}
 use Rattle.std.specs.Prelude.{if◌then◌else◌, nat_eq, nat_lt}
 use Rattle.wa_types.specs.declared.values.Value.{Value}
 use Rattle.wa_types.specs.Modules.{defined_at, func_imports, func_type_at}
@@ -8,7 +8,7 @@ use Rattle.run_theory.proofs.Runs.{leads_stopped}
 use Rattle.wa_model.specs.declared.answers.Said.{Said}
 use Rattle.wa_model.specs.declared.answers.Said.TheVariants as S
 use Rattle.wa_model.specs.declared.events.End.{End}
-use Rattle.wa_model.specs.Outside.{Answer, Event, Poke, answered, ended, paused}
+use Rattle.wa_model.specs.Outside.{Answer, answered, ended, paused}
 use Rattle.wa_model.specs.Blocking.{Asker, Left, Note, Task, an_entry, call_note, done_notes, fault_of}
 use Rattle.wa_model.specs.Blocking.{in_start, inside, next_entry, note, outermost, pause_of, poked, stack_at, store_at, the_start, value_of_results, with_outcomes}
 use Rattle.wa_model.specs.Configuration.{Configuration}

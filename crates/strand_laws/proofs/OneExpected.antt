@@ -9,7 +9,6 @@ use Rattle.wa_types.specs.Pausing.{Settings}
 use Rattle.wa_types.specs.Syntax.{Module}
 use Rattle.wa_model.specs.declared.answers.Said.{Said}
 use Rattle.wa_model.specs.declared.answers.Said.TheVariants as S
-use Rattle.wa_model.specs.declared.events.End.{End}
 use Rattle.wa_model.specs.declared.events.End.TheVariants.{Done, Trapped}
 use Rattle.wa_model.specs.Outside.{Answer, ended}
 use Rattle.wa_model.specs.Blocking.{Left, Note, State, all_left, an_entry, asked, begun, blocking, by_step, call_note, done_notes}
