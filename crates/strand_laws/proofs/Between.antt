@@ -1,6 +1,6 @@
 -- Stores that are the same outside some areas: from one to the other area by area; and what a move over one of them keeps.
-use Rattle.std.proofs.Common.{◌≡◌, ℕ, zero, suc, ◌+◌, ◌-◌, ◌≤◌, ◌<◌, ◌⊎◌, inl, inr, ⊎_elim, List, [], ◌∷◌, ◌++◌, length, take, drop, Option, Some, None, Bool, true, false, All, refl, sym, ap, ◌∙◌, subst, arith}
-use Rattle.std.proofs.Common.{length-append, length-drop, append_assoc}
+use Rattle.std.proofs.Common.{◌≡◌, ℕ, zero, suc, ◌+◌, ◌-◌, ◌≤◌, ◌<◌, ◌⊎◌, inl, inr, ⊎_elim, List, [], ◌∷◌, ◌++◌, length, take, drop, Some, None, Bool, true, false, refl, sym, ap, ◌∙◌, subst, arith}
+use Rattle.std.proofs.Common.{length-append, length-drop}
 use Rattle.std.proofs.lemmas.Bool.{cases_lt}
 use Rattle.std.proofs.lemmas.List.{length-take-le, take-append-drop}
 use Rattle.std.proofs.Math.Seq.{drop-append-add}
@@ -16,7 +16,7 @@ use Rattle.wa_model.specs.Store.{Store, with_memory}
 use Rattle.wa_model.specs.Untouched.{IsCalm, next_ranges}
 use Rattle.wa_model.proofs.StayingOff.{each_off}
 use Rattle.guard_runs.proofs.Stores.{long}
-use Rattle.strand_laws.proofs.Apart.{Apart, ApartAt, Gap}
+use Rattle.strand_laws.proofs.Apart.{Apart, Gap}
 use Rattle.strand_laws.proofs.Middle.{Middle, OutcomesOff, StateApart, apart_goes, blocks_apart, size_apart, state_store, s_begins, s_between, s_halts, s_runs}
 use Rattle.strand_laws.specs.Strands.{PokesOff, Strand, no_strand}
 

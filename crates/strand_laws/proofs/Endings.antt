@@ -1,5 +1,5 @@
 -- Which moves end a strand, on both sides.
-use Rattle.std.proofs.Common.{◌≡◌, ℕ, zero, suc, ◌+◌, ◌<◌, List, [], ◌∷◌, ◌++◌, length, All, Option, Some, None, Bool, true, false, refl, sym, ap, ◌∙◌, subst, arith, append-nil}
+use Rattle.std.proofs.Common.{◌≡◌, ℕ, suc, ◌+◌, List, [], ◌∷◌, ◌++◌, length, Option, Some, None, Bool, true, false, refl, sym, ap, ◌∙◌, subst, arith, append-nil}
 use Rattle.std.specs.Prelude.{if◌then◌else◌, nat_eq, nat_lt}
 use Rattle.wa_types.specs.declared.values.Value.{Value}
 use Rattle.wa_types.specs.Modules.{defined_at, func_imports, func_type_at}
@@ -8,14 +8,16 @@ use Rattle.run_theory.proofs.Runs.{leads_stopped}
 use Rattle.wa_model.specs.declared.answers.Said.{Said}
 use Rattle.wa_model.specs.declared.answers.Said.TheVariants as S
 use Rattle.wa_model.specs.declared.events.End.{End}
-use Rattle.wa_model.specs.Outside.{Answer, Event, Poke, answered, ended, paused}
+use Rattle.wa_model.specs.Outside.{Answer, answered, ended, paused}
 use Rattle.wa_model.specs.Blocking.{Asker, Left, Note, Task, an_entry, call_note, done_notes, fault_of}
 use Rattle.wa_model.specs.Blocking.{in_start, inside, next_entry, note, outermost, pause_of, poked, stack_at, store_at, the_start, value_of_results, with_outcomes}
 use Rattle.wa_model.specs.Configuration.{Configuration}
 use Rattle.wa_model.specs.Machine.{Leads, Turn, goes, moves, stays, still, stops}
 use Rattle.wa_model.specs.Plan.{Entry, Outcome, Plan, given, refused}
-use Rattle.wa_model.specs.Protocol.{Exports, Held, Phase, Then, aside, aside_back, aside_called, aside_step, broken, busy, busy_enters, busy_step, call_again, calling, entering, free, give_answer, give_zero}
-use Rattle.wa_model.specs.Protocol.{held_asked, held_back, held_given, held_next, held_on, held_resumed, held_start, held_tested, is_running, is_state, over, pause_there, protocol, rewinds, starting, store_held, test_rewound, test_unwound, unwinds}
+use Rattle.wa_model.specs.Protocol.{Exports, Held, Phase, Then, aside, aside_back, aside_called, aside_step, broken}
+use Rattle.wa_model.specs.Protocol.{busy, busy_enters, busy_step, call_again, calling, entering, free, give_answer, give_zero}
+use Rattle.wa_model.specs.Protocol.{held_asked, held_back, held_given, held_next, held_on, held_resumed, held_start, held_tested, is_running, is_state}
+use Rattle.wa_model.specs.Protocol.{over, pause_there, protocol, rewinds, starting, store_held, test_rewound, test_unwound, unwinds}
 use Rattle.wa_model.specs.Step.{Next, asks, returns, step, steps, stuck, traps}
 use Rattle.wa_model.specs.Store.{Store}
 use Rattle.strand_laws.proofs.WovenRuns.{NoEnds, last_of}

@@ -17,6 +17,7 @@ pub mod MoveKinds
 pub mod Moving
 pub mod NextMoves
 pub mod Numbered
+pub mod OneExpected
 pub mod OneRun
 pub mod OneStrand
 pub mod Paused

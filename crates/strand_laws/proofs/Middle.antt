@@ -361,7 +361,8 @@ apart_stops p _ _ both_stop e = refl
 apart_stops p _ _ (both_go ns st) e = cc
 
 -- A MOVE OVER ANY BYTES OF THESE AREAS
-pub moves_same : (ps : List Gap) (m : Module) (plan : Plan) (a a' t : State) (k : ℕ) (es : List Note) → Middle ps a a' → AllOff plan.area ps a → blocking m plan a ≡ goes k es t → MovesSame ps m plan k es t a'
+pub moves_same : (ps : List Gap) (m : Module) (plan : Plan) (a a' t : State) (k : ℕ) (es : List Note) → Middle ps a a' → AllOff plan.area ps a
+    → blocking m plan a ≡ goes k es t → MovesSame ps m plan k es t a'
 moves_same [] m plan a a' t k es h off_ e = record { events = es; to = t; goes_too = ap (blocking m plan) (sym h) ∙ e; notes = refl; on = refl }
 moves_same (p ∷ ps) m plan a a' t k es h off_ e =
     let g = apart_goes p (blocking m plan a) (blocking m plan h.0) k es t (blocks_apart p m plan a h.0 h.1 off_.0.0 off_.0.1) e in

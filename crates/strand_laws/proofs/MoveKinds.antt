@@ -11,8 +11,10 @@ use Rattle.wa_model.specs.declared.answers.Said.TheVariants as S
 use Rattle.wa_model.specs.declared.events.End.{End}
 use Rattle.wa_model.specs.declared.events.End.TheVariants.{Done, Trapped}
 use Rattle.wa_model.specs.Outside.{Answer, answered, ended, returned}
-use Rattle.wa_model.specs.Blocking.{Asker, Left, Note, State, Task, an_entry, asked, begins, between, blocking, by_step, call_note, done_notes, ends_at_call, enter_next, enters, fault_of, go_on, halts}
-use Rattle.wa_model.specs.Blocking.{inside, is_start, next_entry, note, on_to, outermost, pause_of, poked, runs, stack_at, start_called, store_at, store_of, task_back, tested, the_start, value_of_results, with_outcomes}
+use Rattle.wa_model.specs.Blocking.{Asker, Left, Note, State, Task, an_entry, asked, begins, between, blocking}
+use Rattle.wa_model.specs.Blocking.{by_step, call_note, done_notes, ends_at_call, enter_next, enters, fault_of, go_on, halts}
+use Rattle.wa_model.specs.Blocking.{inside, is_start, next_entry, note, on_to, outermost, pause_of, poked, runs}
+use Rattle.wa_model.specs.Blocking.{stack_at, start_called, store_at, task_back, tested, the_start, value_of_results, with_outcomes}
 use Rattle.wa_model.specs.Configuration.{Configuration}
 use Rattle.wa_model.specs.Machine.{Turn, goes, stops}
 use Rattle.wa_model.specs.Plan.{Entry, Outcome, Plan, given, refused}
@@ -24,7 +26,7 @@ use Rattle.strand_laws.specs.Strands.{Space, lifted, on, strung, strung_asked, s
 
 pub data Shape (es : List Note) (t : State) : Type 0 where
   quiet : NoEnds es → Shape es t
-  ends_with : (es1 : List Note) → (x : Note) → (how : End) → es ≡ es1 ++ x ∷ [] → NoEnds es1 → x.event ≡ ended how → store_of t ≡ x.store → Shape es t
+  ends_with : (es1 : List Note) → (x : Note) → (how : End) → es ≡ es1 ++ x ∷ [] → NoEnds es1 → x.event ≡ ended how → t ≡ halts x.store → Shape es t
 
 abbrev pub FirstPlain : List Note → Type 0
 FirstPlain [] = Unit {0}

@@ -94,7 +94,7 @@ module _ (family : Family) (laws : FamilyLaws family) where
     where
       by_shape : Shape es t → (Ending family laws) es t
       by_shape (Rattle.strand_laws.proofs.MoveKinds.quiet q) = no_end q
-      by_shape (Rattle.strand_laws.proofs.MoveKinds.ends_with es1 x how ee q ex at) = an_end es1 x how ee q ex at
+      by_shape (Rattle.strand_laws.proofs.MoveKinds.ends_with es1 x how ee q ex at) = an_end es1 x how ee q ex (ap store_of at)
 
   pub data NextOf (i : ℕ) : State → Type 0 where
     n_simple : {a : State} → A.next i (on a) ≡ lifted (nb (wd i) a) → PlainS (nb (wd i) a) → NextOf i a

@@ -325,7 +325,8 @@ module _ (family : Family) (laws : FamilyLaws family) where
             }) refl
                 ((near_behind family laws) i li top ps d.store d'.store r.s3 are ch_d r.like ((law i li).waits_good top imp d' (cd).flat_at (cd).waits)
                 (laws.known_store i _ r.s3 _ _ _ _ r.known) ins_d)
-                (suspended top imp e a lo d d' r.s3 r.s3 li r.suspends eh eu r.known (omega arith) (clear_tail (strand_at g i).area g.strands (given a) os (subst (ClearOut (strand_at g i).area g.strands) eo cl))
+                (suspended top imp e a lo d d' r.s3 r.s3 li r.suspends eh eu r.known (omega arith)
+                (clear_tail (strand_at g i).area g.strands (given a) os (subst (ClearOut (strand_at g i).area g.strands) eo cl))
                 (clear_pokes (strand_at g i).area g.strands (length d.store.memory) a os bad (subst (ClearOut (strand_at g i).area g.strands) eo cl)));
           }
 

@@ -27,7 +27,8 @@ use Rattle.image_laws.proofs.ExampleModule.{can_there, formed_there, free_there,
 use Rattle.strand_laws.proofs.Emitted.{strands_of_emitted}
 use Rattle.strand_laws.proofs.Numbered.{pauses_at_numbers}
 use Rattle.strand_laws.specs.Example.{ThreeTakeTurns, notes_of_three, outcomes_of_three, said_after, strand_of, three_strands, told_by_emitted, told_of_three, used_by}
-use Rattle.strand_laws.specs.Strands.{AreApart, BlockingStrands, IsCalmAt, IsCalmNow, PokesOff, Strand, StrandsBehaveOn, StrandsCompared, StrandsNumbered, StrandsUntouched, Strung, events_told, on, outcomes_at, plan_of, strand_at, waits}
+use Rattle.strand_laws.specs.Strands.{AreApart, BlockingStrands, IsCalmAt, IsCalmNow, PokesOff, Strand, StrandsBehaveOn, StrandsCompared, StrandsNumbered}
+use Rattle.strand_laws.specs.Strands.{StrandsUntouched, Strung, events_told, on, outcomes_at, plan_of, strand_at, waits}
 use Rattle.strand_laws.specs.Woven.{Ready, standing_now}
 
 turns_there : (policy : Policy) → events_told (notes_of_three policy) ≡ told_of_three (used_by policy)
@@ -187,4 +188,9 @@ three_take_turns policy q em =
     let b : StrandsBehaveOn (saving policy) may_pause three_strands q outcomes_of_three 40 =
     strands_of_emitted sample (saving policy) may_pause q (can_there policy) free_there em formed_there may_pause (can_there policy).tells three_strands refl outcomes_of_three 40
     (compared_there policy) (numbered_there policy) in
-    record { compared = compared_there policy; numbered = numbered_there policy; original = turns_there policy; emitted = subst (λ es. IsPrefix es (told_by_emitted policy q)) (turns_there policy) b.reaches }
+    record {
+      compared = compared_there policy;
+      numbered = numbered_there policy;
+      original = turns_there policy;
+      emitted = subst (λ es. IsPrefix es (told_by_emitted policy q)) (turns_there policy) b.reaches;
+    }

@@ -109,7 +109,8 @@ module _ (family : Family) (laws : FamilyLaws family) where
   inside_too : (s s' : Store) → (Near family laws) s s' → InsideAll g.strands (length s.memory)
   inside_too s s' nr = let sm = nr.same in let e = sm.size in inside_more g.strands (length s'.memory) (length s.memory) (omega arith) nr.inside
 
-  wakes_fresh : (i c : ℕ) (li : i < count) (s s' : Store) (l : Left) → LeftFits (wd i) l → ClearOut (strand_at g i).area g.strands l.outcomes → (Near family laws) s s' → (es : List Entry) → l.entries ≡ es
+  wakes_fresh : (i c : ℕ) (li : i < count) (s s' : Store) (l : Left) → LeftFits (wd i) l → ClearOut (strand_at g i).area g.strands l.outcomes → (Near family laws) s s'
+      → (es : List Entry) → l.entries ≡ es
       → WakesNow i c s s' (record { events = done_notes s es; last = on (on_to s l es) }) (record { events = done_notes s' es; last = held_on s' l es })
   wakes_fresh i c li s s' l lf cl nr [] ee =
       I.wakes_up (note (ended Done) s) (note (ended Done) s') Done refl refl refl

@@ -1,9 +1,11 @@
 -- A program with one strand runs as its plan does without strands.
 use Rattle.std.specs.Prelude.{◌≡◌, ℕ, List, [], ◌∷◌, Option, Some, None}
+use Rattle.wa_types.specs.Pausing.{Settings}
+use Rattle.wa_model.specs.Behaves.{expected_notes}
 use Rattle.wa_model.specs.Plan.{Outcome}
 use Rattle.wa_model.specs.Protocol.{Held, Protocol, over}
 use Rattle.wa_model.specs.Store.{Store}
-use Rattle.strand_laws.specs.Strands.{ProtocolStrands, Strand, StrandProgram, plan_of}
+use Rattle.strand_laws.specs.Strands.{BlockingStrands, ProtocolStrands, Strand, StrandProgram, plan_of}
 use Rattle.strand_laws.specs.Woven.{Ready, standing_now, told_by}
 
 -- the program with this strand alone
@@ -23,3 +25,9 @@ pub record RunsAsItsPlan (g : StrandProgram) (s : Strand) (os : List Outcome) (n
 -- Every program with one strand does, for all outcomes and costs.
 abbrev pub OneStrandRuns : Type 0
 OneStrandRuns = (g : StrandProgram) (s : Strand) (os : List Outcome) (n : ℕ) → RunsAsItsPlan g s os n
+
+-- With blocking imports the strand makes the notes that are expected of its plan's run, at the same costs.
+abbrev pub OneStrandIsExpected : Type 0
+OneStrandIsExpected =
+    (st : Settings) (g : StrandProgram) (s : Strand) (os : List Outcome) (n : ℕ)
+    → (BlockingStrands st (with_one g s) (os ∷ []) n).events ≡ told_by 0 (expected_notes g.source st (plan_of g s) os n)

@@ -3,7 +3,7 @@
 //! Each strand has an area of its own, and all have one store: where one pauses or ends, the one that is due first goes on.
 //! `specs/Woven.antt` says how machines of strands are woven into one, `specs/Strands.antt` what a program's strands do under the protocol
 //! and with blocking imports, and what a rewritten module's owe its original's; `specs/EmittedStrands.antt` has the laws, and
-//! `specs/Example.antt` three strands of a small module; `specs/OneStrand.antt` has that one strand alone runs as its plan does.
+//! `specs/Example.antt` three strands of a small module; `specs/OneStrand.antt` has that one strand runs as its plan does without strands.
 //! `proofs/InStep.antt` has that two woven machines are in step where each strand of the one follows the other's and keeps what those that
 //! wait stand on, and `proofs/Switch.antt` that the same strands begin their turns in both. What that asks of a strand comes from the
 //! headline's laws of one plan: the original is run over a store with the other module's bytes in all areas, which makes no difference to
@@ -23,7 +23,7 @@ mod one_strand;
 mod world_strands;
 
 pub use emitted_strands::{strand_pauses_at_numbers, strands_of_emitted, three_strands_take_turns};
-pub use one_strand::one_strand_runs_as_its_plan;
+pub use one_strand::{one_strand_is_expected, one_strand_runs_as_its_plan};
 pub use world_strands::{
     held_programs_tell_one_run, narrow_area_ends_the_program, strands_go_by_turns,
     strands_share_a_store, stretches_are_woven, strung_programs_tell_one_run, trap_ends_its_strand,
