@@ -10,8 +10,8 @@
 //! ```
 //!
 //! `live_rows` answers for each local the calls that keep it, in rows, and `live_at` a set for each call, exactly those of
-//! `specs/LiveAt.antt`; what they keep is what the policy saves in frames (`live_is_saved`). A statement is passed over a few times, and
-//! once more for each 63 loops around it and each time that one of these is at most half of what it stands in.
+//! `specs/LiveAt.antt`; what they keep is what the policy saves in frames (`live_is_saved`). A statement is passed over a few times, and once more for each 63 loops around it and each time that one of these
+//! is at most half of what it stands in.
 //!
 //! A body is passed over backwards with one set of locals: of each it tells whether it is read before it is written from some place on
 //! (`specs/Sets.antt`). Under a label a branch goes on with the set of its target. A path that comes to a loop's start again reads

@@ -78,8 +78,8 @@ are_better-requires-clause-groups c =
     let own = c.in_ok-classes_of.ensures in
     let m = c.in_ok-sets.ensures in
     let keep = subst (λ xs. KeepByClasses types (sets_of xs) (class_parts c.in_ok-classes_of.field-0.items)) c.deref-3.ensures.value own.keep in
-    let made = both_made types c.args.count c.args.keepers.now c.requires.kept.0 c.requires.kept.1 c.in_ok-sets.sets.items m gs cs c.in_ok-groups_of.field-0.items c.in_ok-classes_of.field-0.items
-    c.in_ok-groups.ensures c.in_ok-groups_of.ensures c.in_ok-classes.ensures keep own.few in
+    let made = both_made types c.args.count c.args.keepers.now c.requires.kept.0 c.requires.kept.1 c.in_ok-sets.sets.items m gs cs c.in_ok-groups_of.field-0.items c.in_ok-classes_of.field-0.items c.in_ok-groups.ensures c.in_ok-groups_of.ensures
+    c.in_ok-classes.ensures keep own.few in
     let few = few_sets types c.args.count c.args.keepers.now c.requires.kept.0 c.requires.kept.1 c.requires.calls in
     subst (λ ps. parts_length (part_views ps) < 2 ^ 60) (sym c.deref-4.ensures.value) (groups_fit types c.requires.kept.0 c.requires.kept.1.sized c.requires.few few gs cs made)
 
@@ -91,8 +91,8 @@ are_better-requires-clause-classes c =
     let own = c.in_ok-classes_of.ensures in
     let m = c.in_ok-sets.ensures in
     let keep = subst (λ xs. KeepByClasses types (sets_of xs) (class_parts c.in_ok-classes_of.field-0.items)) c.deref-3.ensures.value own.keep in
-    let made = both_made types c.args.count c.args.keepers.now c.requires.kept.0 c.requires.kept.1 c.in_ok-sets.sets.items m gs cs c.in_ok-groups_of.field-0.items c.in_ok-classes_of.field-0.items
-    c.in_ok-groups.ensures c.in_ok-groups_of.ensures c.in_ok-classes.ensures keep own.few in
+    let made = both_made types c.args.count c.args.keepers.now c.requires.kept.0 c.requires.kept.1 c.in_ok-sets.sets.items m gs cs c.in_ok-groups_of.field-0.items c.in_ok-classes_of.field-0.items c.in_ok-groups.ensures c.in_ok-groups_of.ensures
+    c.in_ok-classes.ensures keep own.few in
     let few = few_sets types c.args.count c.args.keepers.now c.requires.kept.0 c.requires.kept.1 c.requires.calls in
     subst (λ ps. parts_length (part_views ps) < 2 ^ 60) (sym c.deref-5.ensures.value) (classes_fit types c.requires.kept.0 c.requires.kept.1.sized c.requires.few few gs cs made)
 
@@ -104,8 +104,8 @@ returns-then-are_better-clause-keep c = λ sets kept.
     let own = c.in_ok-classes_of.ensures in
     let m = c.in_ok-sets.ensures in
     let keep = subst (λ xs. KeepByClasses types (sets_of xs) (class_parts c.in_ok-classes_of.field-0.items)) c.deref-3.ensures.value own.keep in
-    let made = both_made types c.args.count c.args.keepers.now sets kept c.in_ok-sets.sets.items m gs cs c.in_ok-groups_of.field-0.items c.in_ok-classes_of.field-0.items
-    c.in_ok-groups.ensures c.in_ok-groups_of.ensures c.in_ok-classes.ensures keep own.few in
+    let made = both_made types c.args.count c.args.keepers.now sets kept c.in_ok-sets.sets.items m gs cs c.in_ok-groups_of.field-0.items c.in_ok-classes_of.field-0.items c.in_ok-groups.ensures c.in_ok-groups_of.ensures
+    c.in_ok-classes.ensures keep own.few in
     let few = few_sets types c.args.count c.args.keepers.now sets kept c.requires.calls in
     let is = told_better (tests_most (length types) c.args.count) gs cs c.deref-4.result.now c.deref-5.result.now c.are_better.result true c.deref-4.ensures.value
     c.deref-5.ensures.value c.are_better.ensures c.if-are_better.true in
@@ -120,8 +120,8 @@ returns-then-are_better-clause-alike c = λ set sets kept some h.
     let own = c.in_ok-classes_of.ensures in
     let m = c.in_ok-sets.ensures in
     let keep = subst (λ xs. KeepByClasses types (sets_of xs) (class_parts c.in_ok-classes_of.field-0.items)) c.deref-3.ensures.value own.keep in
-    let made = both_made types c.args.count c.args.keepers.now sets kept c.in_ok-sets.sets.items m gs cs c.in_ok-groups_of.field-0.items c.in_ok-classes_of.field-0.items
-    c.in_ok-groups.ensures c.in_ok-groups_of.ensures c.in_ok-classes.ensures keep own.few in
+    let made = both_made types c.args.count c.args.keepers.now sets kept c.in_ok-sets.sets.items m gs cs c.in_ok-groups_of.field-0.items c.in_ok-classes_of.field-0.items c.in_ok-groups.ensures c.in_ok-groups_of.ensures
+    c.in_ok-classes.ensures keep own.few in
     let few = few_sets types c.args.count c.args.keepers.now sets kept c.requires.calls in
     let is = told_better (tests_most (length types) c.args.count) gs cs c.deref-4.result.now c.deref-5.result.now c.are_better.result true c.deref-4.ensures.value
     c.deref-5.ensures.value c.are_better.ensures c.if-are_better.true in
@@ -137,8 +137,8 @@ returns-then-are_better-clause-few c =
     let own = c.in_ok-classes_of.ensures in
     let m = c.in_ok-sets.ensures in
     let keep = subst (λ xs. KeepByClasses types (sets_of xs) (class_parts c.in_ok-classes_of.field-0.items)) c.deref-3.ensures.value own.keep in
-    let made = both_made types c.args.count c.args.keepers.now c.requires.kept.0 c.requires.kept.1 c.in_ok-sets.sets.items m gs cs c.in_ok-groups_of.field-0.items c.in_ok-classes_of.field-0.items
-    c.in_ok-groups.ensures c.in_ok-groups_of.ensures c.in_ok-classes.ensures keep own.few in
+    let made = both_made types c.args.count c.args.keepers.now c.requires.kept.0 c.requires.kept.1 c.in_ok-sets.sets.items m gs cs c.in_ok-groups_of.field-0.items c.in_ok-classes_of.field-0.items c.in_ok-groups.ensures c.in_ok-groups_of.ensures
+    c.in_ok-classes.ensures keep own.few in
     let few = few_sets types c.args.count c.args.keepers.now c.requires.kept.0 c.requires.kept.1 c.requires.calls in
     let is = told_better (tests_most (length types) c.args.count) gs cs c.deref-4.result.now c.deref-5.result.now c.are_better.result true c.deref-4.ensures.value
     c.deref-5.ensures.value c.are_better.ensures c.if-are_better.true in
@@ -153,8 +153,8 @@ returns-clause-keep c = λ sets kept.
     let own = c.in_ok-classes_of.ensures in
     let m = c.in_ok-sets.ensures in
     let keep = subst (λ xs. KeepByClasses types (sets_of xs) (class_parts c.in_ok-classes_of.field-0.items)) c.deref-3.ensures.value own.keep in
-    let made = both_made types c.args.count c.args.keepers.now sets kept c.in_ok-sets.sets.items m gs cs c.in_ok-groups_of.field-0.items c.in_ok-classes_of.field-0.items
-    c.in_ok-groups.ensures c.in_ok-groups_of.ensures c.in_ok-classes.ensures keep own.few in
+    let made = both_made types c.args.count c.args.keepers.now sets kept c.in_ok-sets.sets.items m gs cs c.in_ok-groups_of.field-0.items c.in_ok-classes_of.field-0.items c.in_ok-groups.ensures c.in_ok-groups_of.ensures
+    c.in_ok-classes.ensures keep own.few in
     let few = few_sets types c.args.count c.args.keepers.now sets kept c.requires.calls in
     let is = told_better (tests_most (length types) c.args.count) gs cs c.deref-4.result.now c.deref-5.result.now c.are_better.result false c.deref-4.ensures.value
     c.deref-5.ensures.value c.are_better.ensures c.if-are_better.false in
@@ -169,8 +169,8 @@ returns-clause-alike c = λ set sets kept some h.
     let own = c.in_ok-classes_of.ensures in
     let m = c.in_ok-sets.ensures in
     let keep = subst (λ xs. KeepByClasses types (sets_of xs) (class_parts c.in_ok-classes_of.field-0.items)) c.deref-3.ensures.value own.keep in
-    let made = both_made types c.args.count c.args.keepers.now sets kept c.in_ok-sets.sets.items m gs cs c.in_ok-groups_of.field-0.items c.in_ok-classes_of.field-0.items
-    c.in_ok-groups.ensures c.in_ok-groups_of.ensures c.in_ok-classes.ensures keep own.few in
+    let made = both_made types c.args.count c.args.keepers.now sets kept c.in_ok-sets.sets.items m gs cs c.in_ok-groups_of.field-0.items c.in_ok-classes_of.field-0.items c.in_ok-groups.ensures c.in_ok-groups_of.ensures
+    c.in_ok-classes.ensures keep own.few in
     let few = few_sets types c.args.count c.args.keepers.now sets kept c.requires.calls in
     let is = told_better (tests_most (length types) c.args.count) gs cs c.deref-4.result.now c.deref-5.result.now c.are_better.result false c.deref-4.ensures.value
     c.deref-5.ensures.value c.are_better.ensures c.if-are_better.false in
@@ -186,8 +186,8 @@ returns-clause-few c =
     let own = c.in_ok-classes_of.ensures in
     let m = c.in_ok-sets.ensures in
     let keep = subst (λ xs. KeepByClasses types (sets_of xs) (class_parts c.in_ok-classes_of.field-0.items)) c.deref-3.ensures.value own.keep in
-    let made = both_made types c.args.count c.args.keepers.now c.requires.kept.0 c.requires.kept.1 c.in_ok-sets.sets.items m gs cs c.in_ok-groups_of.field-0.items c.in_ok-classes_of.field-0.items
-    c.in_ok-groups.ensures c.in_ok-groups_of.ensures c.in_ok-classes.ensures keep own.few in
+    let made = both_made types c.args.count c.args.keepers.now c.requires.kept.0 c.requires.kept.1 c.in_ok-sets.sets.items m gs cs c.in_ok-groups_of.field-0.items c.in_ok-classes_of.field-0.items c.in_ok-groups.ensures c.in_ok-groups_of.ensures
+    c.in_ok-classes.ensures keep own.few in
     let few = few_sets types c.args.count c.args.keepers.now c.requires.kept.0 c.requires.kept.1 c.requires.calls in
     let is = told_better (tests_most (length types) c.args.count) gs cs c.deref-4.result.now c.deref-5.result.now c.are_better.result false c.deref-4.ensures.value
     c.deref-5.ensures.value c.are_better.ensures c.if-are_better.false in
