@@ -10,17 +10,16 @@ ghost use Rattle.func_rewrite.specs.Frames.{IsFlattened};
 ghost use Rattle.func_rewrite.specs.Calls.{AreLiveCalls};
 
 use crate::pass::Pass;
-use call_frames::Calls;
 use flatten::Flattened;
-use live_locals::{live_rows, number_calls};
+use live_locals::{live_at, number_calls};
 use std::alloc::{AllocError, Global};
 use wa_types::Func;
 
-/// The places of the numbered calls, and for each local those whose frames keep it.
+/// The places of the numbered calls, and for each which locals its frame keeps.
 #[derive(Drop)]
 pub(crate) struct LiveCalls {
     pub(crate) numbers: Vec<u32>,
-    pub(crate) rows: Vec<Calls>,
+    pub(crate) sets: Vec<Vec<bool>>,
 }
 
 /// The numbered calls of a function.
@@ -43,6 +42,6 @@ pub(crate) fn live_calls(
         pass.listed,
         pass.settings.ignore_indirect,
     )?;
-    let rows = live_rows(alloc, &flat.func, &numbers)?;
-    Ok(LiveCalls { numbers, rows })
+    let sets = live_at(alloc, &flat.func, &numbers)?;
+    Ok(LiveCalls { numbers, sets })
 }

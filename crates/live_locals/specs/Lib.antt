@@ -1,6 +1,5 @@
 pub mod Countdown
 pub mod Heads
-pub mod Keeping
 pub mod LiveAt
 pub mod LiveSaved
 pub mod Nests
