@@ -1,3 +1,4 @@
+pub mod CallsEmitting
 pub mod Emitting
 pub mod Exits
 pub mod Fronts
