@@ -5,6 +5,7 @@ A library comes only where its sources and all that is below it are as they were
 run it again as that gets farther. It is no gate, and uses the insides of the kit's `rt`."""
 
 import os
+import shutil
 import sys
 
 sys.path.insert(0, os.path.dirname(os.path.abspath(__file__)))
@@ -14,6 +15,8 @@ from libraries import KIT_RT, load, sum_once  # noqa: E402
 def hand(kept, crate):
     """Whether the crate's library stands in its out/, of what was kept if it wasn't there; a stamp tells `rt check` so."""
     if not crate.is_built():
+        # what stands there may be a link to what is kept, into which nothing may be written
+        shutil.rmtree(f"{crate.folder}/out/rlib", ignore_errors=True)
         if not kept.give(crate, False, kept.key(crate)):
             return False
         with open(f"{crate.folder}/out/rlib/stamp", "w", encoding="utf-8") as file:
