@@ -1,7 +1,7 @@
 //! Modules, instructions and flat functions as texts, in the form of a derived `Debug`: tests alone print these types, so
 //! none is derived for them.
 
-use flow_rewrite::GuardedFunc;
+use slim_rewrite::GuardedFunc;
 use std::alloc::{AllocError, Global};
 use std::fmt::Write;
 use wa_model::{FlatFunc, Operand, Stmt};

@@ -7,7 +7,7 @@ use Rattle.std.proofs.lemmas.Bool.{cases_lt, ne_eqb}
 use Rattle.std.proofs.lemmas.List.Sorted.{searched}
 use Rattle.std.proofs.lemmas.List.Folds.{list_any_at}
 use Rattle.guard_form.specs.Grouping.{is_place}
-use Rattle.flow_rewrite.specs.CallsEmitting.{Rises}
+use Rattle.flow_rewrite.specs.Emitting.{Rises}
 
 none_there : (xs : List ℕ) (x : ℕ) → ((k : ℕ) → k < length xs → get_or xs k 0 ≢ x) → is_place xs x ≡ false
 none_there [] x h = refl

@@ -1,13 +1,14 @@
 -- Pieces: what is put of a call, and of a condition.
-use Rattle.std.proofs.Common.{◌≡◌, ℕ, suc, ◌≤◌, ◌<◌, ◌^◌, ◌∷◌, List, [], Option, Some, None, refl, sym, ap, ◌∙◌, arith}
+use Rattle.std.proofs.Common.{◌≡◌, ℕ, suc, ◌≤◌, ◌<◌, ◌^◌, ◌∷◌, ◌++◌, List, [], Option, Some, None, refl, sym, ap, ◌∙◌, arith}
 use Rattle.wa_types.specs.declared.operators.NumOp.TheVariants.{I32Ne}
+use Rattle.wa_types.specs.declared.values.Value.TheVariants as V
 use Rattle.wa_types.specs.declared.instrs.Instr.{Instr}
-use Rattle.wa_types.specs.declared.instrs.Instr.TheVariants.{Call, CallIndirect}
-use Rattle.wa_types.specs.Syntax.{num, global_get, br_if, basic, call, call_indirect, Code, done, plain, nest, branch}
+use Rattle.wa_types.specs.declared.instrs.Instr.TheVariants.{BrIf, Call, CallIndirect}
+use Rattle.wa_types.specs.Syntax.{const, num, global_get, local_get, br_if, basic, call, call_indirect, Code, done, plain, nest, branch}
 use Rattle.wa_types.specs.Pausing.{Callee}
 use Rattle.wa_types.specs.Counts.{depth_of}
 use Rattle.wa_types.specs.View.{in_front, onto, code}
-use Rattle.wa_types.proofs.ViewLemmas.{is_block, is_loop, is_if, is_plain, instr_kind, in_block, in_loop, in_if, onto_done}
+use Rattle.wa_types.proofs.ViewLemmas.{is_block, is_loop, is_if, is_plain, instr_kind, in_block, in_loop, in_if, onto_done, onto_none}
 use Rattle.wa_model.specs.declared.flat.Operand.{Operand}
 use Rattle.wa_model.specs.declared.flat.Operand.TheVariants.{Local, Const}
 use Rattle.run_theory.specs.Flat.{followed_by, got, set_to, slots_got}
@@ -19,6 +20,7 @@ use Rattle.flow_rewrite.specs.Raising.{LabelsBelow, Raisable}
 use Rattle.flow_rewrite.specs.declared.pieces.Target.{Target}
 use Rattle.flow_rewrite.specs.declared.pieces.Target.TheVariants.{Direct, Indirect}
 use Rattle.flow_rewrite.specs.UnitView.{callee_of}
+use Rattle.flow_rewrite.proofs.PutLemmas.{br_if_is, put_one}
 
 -- ---- labels
 
@@ -50,6 +52,14 @@ target_direct x f e rest = direct_is f rest ∙ ap (λ y. plain (call_to (callee
 
 pub target_indirect : (x : Target) (t : ℕ) → x ≡ Indirect t → (rest : Code) → in_front (CallIndirect t) rest ≡ plain (call_to (callee_of x)) rest
 target_indirect x t e rest = indirect_is t rest ∙ ap (λ y. plain (call_to (callee_of y)) rest) (sym e)
+
+-- the test of the index in front of a call
+pub test_of : (i : GuardIndices) (k l : ℕ) (l0 l1 l2 : List Instr) → l0 ≡ []
+    → Puts l0 l1 (λ c. plain (local_get i.index) (plain (basic (const (V.I32 k))) (plain (basic (num I32Ne)) c))) → l2 ≡ l1 ++ BrIf l ∷ []
+    → code l2 ≡ index_with i (basic (num I32Ne)) k (plain (br_if l) done)
+test_of i k l l0 l1 l2 e puts f =
+    sym (onto_done l2) ∙ put_one l1 l2 (BrIf l) (plain (br_if l)) f (br_if_is l) done ∙ puts (plain (br_if l) done)
+    ∙ ap (λ xs. onto xs (index_with i (basic (num I32Ne)) k (plain (br_if l) done))) e ∙ onto_none _
 
 pub search_of : (i : GuardIndices) (l m k : ℕ) (first : Code) (old new other inside : List Instr) → code other ≡ index_with i (basic (num I32Ne)) k (plain (br_if l) done)
     → code inside ≡ raised 0 m first → Puts old new (λ c. plain (basic (global_get i.state)) (branch None (code other) (code inside) c)) → Puts old new (sought i l m k first)

@@ -22,9 +22,6 @@ put_one old new x f e is rest = ap (λ s. onto s rest) e ∙ onto_append old x r
 pub put_on : (old mid new : List Instr) (f g : Code → Code) → Puts old mid f → Puts mid new g → Puts old new (λ c. f (g c))
 put_on old mid new f g h k rest = k rest ∙ h (g rest)
 
-pub put_none : (old new : List Instr) → new ≡ old → Puts old new (λ c. c)
-put_none old new e rest = ap (λ s. onto s rest) e
-
 -- the index of the only call stands
 pub noted_alone : (one_call : Bool) (x k : ℕ) (old new : List Instr) (f : Code → Code) → one_call ≡ true → Puts old new f → Puts old new (λ c. index_noted one_call x k (f c))
 noted_alone one_call x k old new f e h = subst (λ b. Puts old new (λ c. index_noted b x k (f c))) (sym e) h

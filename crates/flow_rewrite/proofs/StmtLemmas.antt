@@ -72,22 +72,6 @@ stmts_end (y ∷ ys) (suc i) le = stmts_end ys i (omega arith)
 
 -- ---- one statement in front of others
 
-or_assoc : (a b c : Bool) → (a || b || c) ≡ (a || (b || c))
-or_assoc true b c = refl
-or_assoc false b c = refl
-
-pub holds_with : (ps : List ℕ) (n : ℕ) (u s : Stmts) → holds_call ps n (with_rest u s) ≡ (one_holds ps n u || holds_call ps (one_place n u) s)
-holds_with ps n no_more s = refl
-holds_with ps n (computes op args to rest) s = refl
-holds_with ps n (copies to from rest) s = refl
-holds_with ps n (calls op stack args to rest) s = refl
-holds_with ps n (leaps l rest) s = refl
-holds_with ps n (leaps_if c l rest) s = refl
-holds_with ps n (leaps_by o ls l rest) s = refl
-holds_with ps n (nests y body rest) s = refl
-holds_with ps n (decides c a b rest) s = refl
-holds_with ps n (halts rest) s = refl
-
 pub total_with : (n : ℕ) (u s : Stmts) → n + call_total (with_rest u s) ≡ one_place n u + call_total s
 total_with n no_more s = refl
 total_with n (computes op args to rest) s = refl

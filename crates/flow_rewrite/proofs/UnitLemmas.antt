@@ -14,7 +14,7 @@ use Rattle.wa_model.specs.declared.flat.Operand.{Operand}
 use Rattle.run_theory.specs.Flat.{followed_by, set_to}
 use Rattle.guard_form.specs.Pieces.{Units, no_unit, call_unit, nest_unit, if_unit, any_unit, call_to, got_any, flat_units, numbers_in}
 use Rattle.guard_form.specs.Bounds.{unit_count}
-use Rattle.guard_form.specs.Guarded.{Exit, each_end, its_end, by_label, nowhere, exit_behind, exit_inside}
+use Rattle.guard_form.specs.Guarded.{Exit, each_end, its_end, by_label, nowhere, body_exit, exit_behind, exit_inside}
 use Rattle.guard_form.proofs.UnitLemmas.{Some_unit}
 use Rattle.flow_rewrite.specs.Raising.{Raisable}
 use Rattle.flow_rewrite.specs.declared.pieces.Target.{Target}
@@ -22,7 +22,8 @@ use Rattle.flow_rewrite.specs.declared.pieces.Unit.{Unit, Row_of-Unit, end_of-Un
 use Rattle.flow_rewrite.specs.declared.pieces.Unit.TheBlock.{hidden-the_row-Unit-0}
 use Rattle.flow_rewrite.specs.declared.pieces.Unit.TheVariants.{Call, Block, Loop, If, Block', Loop', If'}
 use Rattle.flow_rewrite.specs.UnitView.{callee_of, unit_in_front, row_units, units_of}
-use Rattle.flow_rewrite.specs.Exits.{LabelBelow}
+use Rattle.flow_rewrite.specs.declared.exits.ExitTo.{ExitTo}
+use Rattle.flow_rewrite.specs.Exits.{exit_of, LabelBelow}
 use Rattle.flow_rewrite.specs.Fronts.{UnitsRaisable, Ready, piece_behind}
 use Rattle.flow_rewrite.proofs.PieceLemmas.{raisable_then, raisable_slots, raisable_to, raisable_got, raisable_done, shallow_of}
 
@@ -263,9 +264,18 @@ arms_ready e w more d k j piece v o fa a fb b behind is ew h =
       λ x. record { label = below; piece = subst (λ l. Raisable l 2 fb) z q.units.2; units = subst (λ l. UnitsRaisable l b) z q.units.3; numbers = omega arith },
     )
 
-pub whole_ready : (xs first : List Instr) (ys us : List Unit) → xs ≡ first → ys ≡ us → Raisable 0 2 (followed_by (code first) (flat_units (units_of us)))
-    → numbers_in (units_of us) < 2 ^ 32 → Ready nowhere 0 0 (code xs) (units_of ys)
-whole_ready xs first ys us e f h few =
+body_below : (exits : Bool) → LabelBelow 0 (body_exit exits)
+body_below true = tt
+body_below false = tt
+
+pub whole_ready : (x : ExitTo) (exits : Bool) (xs first : List Instr) (ys us : List Unit) → exit_of x ≡ body_exit exits → xs ≡ first → ys ≡ us
+    → Raisable 0 2 (followed_by (code first) (flat_units (units_of us))) → numbers_in (units_of us) < 2 ^ 32 → Ready (exit_of x) 0 0 (code xs) (units_of ys)
+whole_ready x exits xs first ys us ex e f h few =
     let q = raisable_then 0 2 (code first) (flat_units (units_of us)) h in
-    subst (λ z. Ready nowhere 0 0 (code z) (units_of ys)) (sym e)
-    (subst (λ z. Ready nowhere 0 0 (code first) (units_of z)) (sym f) (record { label = tt; piece = q.0; units = pieces_raisable 0 (units_of us) q.1; numbers = omega arith }))
+    subst (λ z. Ready (exit_of x) 0 0 (code z) (units_of ys)) (sym e)
+    (subst (λ z. Ready (exit_of x) 0 0 (code first) (units_of z)) (sym f) (record {
+      label = subst (LabelBelow 0) (sym ex) (body_below exits);
+      piece = q.0;
+      units = pieces_raisable 0 (units_of us) q.1;
+      numbers = omega arith;
+    }))

@@ -14,7 +14,7 @@ use Rattle.guard_form.specs.Bounds.{unit_count}
 use Rattle.guard_form.specs.Guarded.{GuardIndices, raised, guarded, choice, arm, Exit, each_end, its_end, by_label, nowhere, exit_inside, own_block, last_piece, call_guarded, call_front, front}
 use Rattle.flow_rewrite.specs.Putting.{Puts}
 use Rattle.flow_rewrite.specs.declared.guards.Guards.{Guards}
-use Rattle.flow_rewrite.specs.CallsEmitting.{indices}
+use Rattle.flow_rewrite.specs.Emitting.{indices}
 use Rattle.flow_rewrite.specs.declared.pieces.Target.{Target}
 use Rattle.flow_rewrite.specs.declared.pieces.Unit.{Unit}
 use Rattle.flow_rewrite.specs.UnitView.{callee_of, unit_in_front, units_of}

@@ -2,10 +2,11 @@
 use Rattle.std.specs.Prelude.{◌<◌, ℕ}
 use Rattle.guard_form.specs.Guarded.{Exit, each_end, its_end, by_label, nowhere}
 use Rattle.flow_rewrite.specs.declared.exits.ExitTo.{ExitTo}
-use Rattle.flow_rewrite.specs.declared.exits.ExitTo.TheVariants.{End, Label, Nowhere}
+use Rattle.flow_rewrite.specs.declared.exits.ExitTo.TheVariants.{EachEnd, End, Label, Nowhere}
 
 -- where a run leaves to
 abbrev pub exit_of : ExitTo → Exit
+exit_of EachEnd = each_end
 exit_of End = its_end
 exit_of (Label l) = by_label l
 exit_of Nowhere = nowhere

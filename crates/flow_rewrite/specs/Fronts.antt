@@ -11,7 +11,7 @@ use Rattle.guard_form.specs.Bounds.{unit_count}
 use Rattle.guard_form.specs.Guarded.{GuardIndices, raised, choice, arm, Exit, front}
 use Rattle.flow_rewrite.specs.Raising.{Raisable}
 use Rattle.flow_rewrite.specs.declared.guards.Guards.{Guards}
-use Rattle.flow_rewrite.specs.CallsEmitting.{indices}
+use Rattle.flow_rewrite.specs.Emitting.{indices}
 use Rattle.flow_rewrite.specs.declared.pieces.Unit.{Unit}
 use Rattle.flow_rewrite.specs.declared.pieces.Unit.TheVariants.{Call, Block', Loop', If'}
 use Rattle.flow_rewrite.specs.UnitView.{unit_in_front}

@@ -1,4 +1,3 @@
-pub mod CallsEmitting
 pub mod Emitting
 pub mod Exits
 pub mod Fronts

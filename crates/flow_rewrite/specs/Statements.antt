@@ -1,10 +1,8 @@
--- Single statements: the code of one, where the calls behind it stand, and what is asked of it.
-use Rattle.std.specs.Prelude.{◌≡◌, ◌<◌, ◌^◌, ◌+◌, ◌||◌, ℕ, suc, List, None, Bool, false}
+-- Single statements: the code of one, and where the calls behind it stand.
+use Rattle.std.specs.Prelude.{◌+◌, ◌||◌, ℕ, suc, List, None, Bool, false}
 use Rattle.std.specs.Option.{is_some}
-use Rattle.wa_types.specs.Syntax.{local_set, br, br_if, br_table, unreachable, Plain, Code, done, plain, nest, branch}
-use Rattle.wa_types.specs.Counts.{depth_of}
+use Rattle.wa_types.specs.Syntax.{local_set, br, br_if, br_table, unreachable, Code, plain, nest, branch}
 use Rattle.run_theory.specs.Flat.{Stmts, no_more, computes, copies, calls, leaps, leaps_if, leaps_by, nests, decides, halts, followed_by, got, all_got, set_to, slots_got, last_of, code_of}
-use Rattle.run_theory.specs.FlatFits.{StmtsFit}
 use Rattle.guard_form.specs.Pieces.{call_total, numbered, holds_call}
 
 -- the first statement, in front of others
@@ -46,18 +44,3 @@ one_holds ps n (calls op stack args to rest) = is_some (numbered ps n op)
 one_holds ps n (nests shape body rest) = holds_call ps n body
 one_holds ps n (decides o a b rest) = holds_call ps n a || holds_call ps (n + call_total a) b
 one_holds ps n _ = false
-
--- it is one instruction, and neither a call nor a construct
-abbrev pub IsSimple : Stmts → Type 0
-IsSimple (computes op args to rest) = (p : Plain) × (op ≡ plain p done)
-IsSimple (copies to from rest) = Unit {0}
-IsSimple (leaps l rest) = Unit {0}
-IsSimple (leaps_if o l rest) = Unit {0}
-IsSimple (leaps_by o labels last rest) = Unit {0}
-IsSimple (halts rest) = Unit {0}
-IsSimple _ = ⊥
-
--- Statements among so many locals, inside so many constructs.
-pub record Fits (locals d : ℕ) (s : Stmts) : Type 0 where
-  pub fit : StmtsFit locals (suc d) s
-  pub shallow : suc d + depth_of (code_of s) < 2 ^ 31

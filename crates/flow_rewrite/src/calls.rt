@@ -8,7 +8,7 @@ ghost use Rattle.guard_form.specs.Guarded.{call_front, call_guarded, noted, own_
 ghost use Rattle.guard_form.specs.Pieces.{call_to};
 ghost use Rattle.flow_rewrite.specs.Putting.{Puts};
 ghost use Rattle.flow_rewrite.specs.Raising.{Raisable};
-ghost use Rattle.flow_rewrite.specs.CallsEmitting.{indices};
+ghost use Rattle.flow_rewrite.specs.Emitting.{indices};
 ghost use Rattle.flow_rewrite.specs.Exits.{exit_of, LabelBelow};
 ghost use Rattle.flow_rewrite.specs.UnitView.{callee_of};
 
@@ -113,13 +113,6 @@ pub(crate) fn put_call(
         (code call.entry.behind.now)) next)) }
 {
     match exit {
-        ExitTo::End => {
-            let mut body = Vec::new(guards.alloc);
-            put_search(guards, &mut body, 1, 2, call.number, piece)?;
-            put_called(guards, &mut body, depth + 1, 1, call)?;
-            out.push(Instr::Block { result: None, body })?;
-            Ok(())
-        }
         ExitTo::Label(label) => {
             put_search(guards, out, label + 1, 1, call.number, piece)?;
             put_called(guards, out, depth, 0, call)?;
@@ -128,6 +121,13 @@ pub(crate) fn put_call(
         ExitTo::Nowhere => {
             put_guarded(guards, out, piece)?;
             put_called(guards, out, depth, 0, call)?;
+            Ok(())
+        }
+        _ => {
+            let mut body = Vec::new(guards.alloc);
+            put_search(guards, &mut body, 1, 2, call.number, piece)?;
+            put_called(guards, &mut body, depth + 1, 1, call)?;
+            out.push(Instr::Block { result: None, body })?;
             Ok(())
         }
     }

@@ -6,7 +6,7 @@ ghost use Rattle.guard_form.specs.Guarded.{choice};
 ghost use Rattle.guard_form.specs.Pieces.{got_any, numbers_in};
 ghost use Rattle.flow_rewrite.specs.Putting.{Puts};
 ghost use Rattle.flow_rewrite.specs.Raising.{Raisable};
-ghost use Rattle.flow_rewrite.specs.CallsEmitting.{indices};
+ghost use Rattle.flow_rewrite.specs.Emitting.{indices};
 ghost use Rattle.flow_rewrite.specs.Fronts.{condition_code};
 ghost use Rattle.flow_rewrite.specs.UnitView.{units_of};
 

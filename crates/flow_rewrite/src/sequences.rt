@@ -1,19 +1,19 @@
 //! The guarded code of pieces and units.
 
-ghost use Rattle.std.specs.Prelude.{◌≡◌, ◌<◌, ◌^◌, [], true, IfOk, OnOk};
+ghost use Rattle.std.specs.Prelude.{◌≡◌, ◌<◌, ◌^◌, [], IfOk, OnOk};
 ghost use Rattle.wa_types.specs.View.{code, onto};
 ghost use Rattle.run_theory.specs.Flat.{followed_by};
 ghost use Rattle.guard_form.specs.Guarded.{guarded_body, last_piece};
 ghost use Rattle.guard_form.specs.Pieces.{flat_units, no_unit, numbers_in};
 ghost use Rattle.flow_rewrite.specs.Raising.{Raisable};
-ghost use Rattle.flow_rewrite.specs.CallsEmitting.{indices};
+ghost use Rattle.flow_rewrite.specs.Emitting.{indices};
 ghost use Rattle.flow_rewrite.specs.Exits.{exit_of};
 ghost use Rattle.flow_rewrite.specs.Fronts.{piece_behind, IsArm, IsFront, Ready, Stepped};
 ghost use Rattle.flow_rewrite.specs.UnitView.{unit_in_front, units_of};
 
 use crate::calls::{NumberedCall, put_call};
 use crate::conditions::{Arms, put_condition};
-use crate::exits::{ExitTo, at_call, inside_block, inside_loop};
+use crate::exits::{ExitTo, at_call, inside_block, inside_loop, whole_exit};
 use crate::guards::{Guards, put_guarded};
 use crate::labels::put_raised;
 use crate::pieces::{Pieces, Unit};
@@ -54,16 +54,16 @@ fn put_last(
     ensures { OnOk result (code out.new.items ≡ onto out.old.items (last_piece (indices guards.now) (exit_of exit) (code piece.now))) }
 {
     match exit {
-        ExitTo::End => {
-            put_guarded(guards, out, piece)?;
-            Ok(())
-        }
         ExitTo::Label(_) => {
             put_raised(guards.alloc, out, 0, piece)?;
             Ok(())
         }
         ExitTo::Nowhere => {
             put_raised(guards.alloc, out, 0, piece)?;
+            Ok(())
+        }
+        _ => {
+            put_guarded(guards, out, piece)?;
             Ok(())
         }
     }
@@ -222,15 +222,20 @@ fn put_unit(
     }
 }
 
-/// The guarded code of a whole body. The labels of its flat code can be raised, and it has fewer than 2^32 numbered
-/// calls.
-pub fn guarded_pieces(guards: &Guards, pieces: &Pieces) -> Result<Vec<Instr>, AllocError>
+/// The guarded code of a whole body, of which runs leave by labels that stand around anyway, or each call has a block of its own. The
+/// labels of its flat code can be raised, and it has fewer than 2^32 numbered calls.
+pub fn guarded_pieces(
+    guards: &Guards,
+    exits: bool,
+    pieces: &Pieces,
+) -> Result<Vec<Instr>, AllocError>
     requires labels { Raisable 0 2 (followed_by (code pieces.now.first.items) (flat_units (units_of pieces.now.units.items))) }
     requires few { numbers_in (units_of pieces.now.units.items) < 2 ^ 32 }
-    ensures { IfOk result (λ v. code v.items ≡ guarded_body (indices guards.now) true (code pieces.now.first.items) (units_of pieces.now.units.items)) }
+    ensures { IfOk result (λ v. code v.items ≡ guarded_body (indices guards.now) exits (code pieces.now.first.items) (units_of pieces.now.units.items)) }
 {
+    let exit = whole_exit(exits);
     let spot = Spot {
-        exit: ExitTo::Nowhere,
+        exit,
         depth: 0,
         number: 0,
     };

@@ -1,7 +1,9 @@
 -- Sequences at their ends.
-use Rattle.std.proofs.Common.{◌≡◌, ℕ, ◌+◌, List, length, take, Bool, true, false, refl, sym, ap, ◌∙◌, subst}
+use Rattle.std.proofs.Common.{◌≡◌, ℕ, ◌+◌, List, length, take, Bool, true, false, refl, sym, ap, ◌∙◌, subst, arith}
+use Rattle.std.proofs.lemmas.List.{drop_all}
 use Rattle.wa_types.specs.Pausing.{calls_of}
 use Rattle.wa_types.specs.Syntax.{done}
+use Rattle.wa_types.specs.View.{code, onto}
 use Rattle.wa_types.proofs.ViewLemmas.{onto_done}
 use Rattle.run_theory.specs.Flat.{no_more}
 use Rattle.guard_form.specs.Pieces.{no_unit, flat_units}
@@ -9,7 +11,7 @@ use Rattle.slim_laws.specs.Emit.{free_by}
 use Rattle.slim_laws.specs.Slim.{Free, Covers, ends, plainly, Slims, Terms}
 use Rattle.slim_laws.specs.SlimUnits.{alone}
 use Rattle.slim_rewrite.specs.declared.stack.Walk.{Walk}
-use Rattle.slim_rewrite.specs.Walking.{free_at, Flushed, Good}
+use Rattle.slim_rewrite.specs.Walking.{free_at, unstacked, Flushed, Good}
 use Rattle.slim_rewrite.proofs.BranchLemmas.{bare_shape}
 use Rattle.slim_rewrite.proofs.StepLemmas.{alike_then}
 use Rattle.slim_rewrite.specs.declared.sequence.Sequence.{Sequence}
@@ -42,7 +44,13 @@ finished_ended a b p w is c = record {
     first_is = ap (first_with p) (onto_done a.piece.items) ∙ sym c.first;
     units_is = ap (λ z. units_with p z no_unit) (onto_done a.piece.items) ∙ sym c.units;
   };
+  plain = λ e. c;
 }
+
+-- where all slots are set nothing is put
+flushed_same : (a m : Walk) → a.set ≡ length a.stack.items → Flushed a m → code m.piece.items ≡ code a.piece.items
+flushed_same a m e fl =
+    sym (onto_done m.piece.items) ∙ fl.puts done ∙ ap (λ xs. onto a.piece.items (unstacked xs done)) (drop_all a.set a.stack.items (omega (arith, e))) ∙ onto_done a.piece.items
 
 pub finished_flushed : (a m b : Walk) (p : Sequence) (w : Written) → Good a → p.ended ≡ false → Flushed a m → Completed m p b w → Finished a p b w
 finished_flushed a m b p w good goes fl c = record {
@@ -66,4 +74,16 @@ finished_flushed a m b p w good goes fl c = record {
         first_is = ap (first_with p) (onto_done m.piece.items) ∙ sym c.first;
         units_is = ap (λ z. units_with p z no_unit) (onto_done m.piece.items) ∙ sym c.units;
       });
+  plain = λ e. record {
+    same = record {
+      good = c.same.good;
+      alike = alike_then a m b fl.alike c.same.alike;
+      stack = c.same.stack ∙ fl.stack;
+      set = c.same.set ∙ fl.set ∙ ap length fl.stack ∙ sym e;
+    };
+    place = c.place;
+    ended = c.ended;
+    first = c.first ∙ ap (first_with p) (flushed_same a m e fl);
+    units = c.units ∙ ap (λ z. units_with p z no_unit) (flushed_same a m e fl);
+  };
 }

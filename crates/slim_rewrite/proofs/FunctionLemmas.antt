@@ -8,7 +8,7 @@ use Rattle.slim_laws.specs.Slim.{Free, Covers, Reaches, Terms}
 use Rattle.slim_laws.proofs.EmittedCode as E
 use Rattle.slim_laws.specs.SlimUnits.{SlimUnits}
 use Rattle.slim_rewrite.specs.declared.stack.Walk.{Walk}
-use Rattle.slim_rewrite.specs.Walking.{free_at, shape_at, Among, Good}
+use Rattle.slim_rewrite.specs.Walking.{free_at, shape_at, Among}
 use Rattle.slim_rewrite.proofs.BranchLemmas.{bare_shape}
 use Rattle.slim_rewrite.specs.declared.sequence.Written.{Written}
 use Rattle.slim_rewrite.specs.Coming.{Around, Ready}
@@ -19,11 +19,6 @@ pub func_ready : (g : FlatFunc) → FlatFits g → call_total g.body < 2 ^ 32 �
 func_ready g h few = record { locals = length g.locals; labels = 1; fit = h.statements; room = omega (arith, few) }
 
 module _ (low count : ℕ) (a : Walk) (low_is : a.low ≡ low) (places : length a.places.items ≡ count) (stack : a.stack.items ≡ []) (set : a.set ≡ 0) (floor : a.floor ≡ 0) where
-  pub start_good : Good a
-  start_good =
-      let n = ap length stack in
-      record { slots = λ i lt. absurd (omega (arith, n, lt)); places = λ i lt. absurd (omega (arith, n, lt)); set = omega arith; floor = omega arith }
-
   pub function_slim : (ps : List ℕ) (g : FlatFunc) (b : Walk) (w : Written) → IsWritten ps a 0 g.body b w → AreSlim ps low count g w.pieces
   function_slim ps g b w h = λ t slots size fixed.
       let out : Free = free_by t.slot [] in

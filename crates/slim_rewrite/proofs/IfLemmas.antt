@@ -1,5 +1,5 @@
 -- Ifs in slim pieces.
-use Rattle.std.proofs.Common.{◌≡◌, ℕ, ◌+◌, ◌-◌, ◌<◌, List, [], ◌∷◌, length, take, drop, Some, None, Bool, true, false, refl, sym, ap, ◌∙◌, subst, arith, ◌⊎◌, inl, inr, length-drop}
+use Rattle.std.proofs.Common.{◌≡◌, ℕ, ◌+◌, ◌-◌, ◌<◌, List, [], ◌∷◌, length, take, drop, Some, None, Bool, true, false, refl, sym, ap, ◌∙◌, subst, arith, length-drop}
 use Rattle.std.specs.Prelude.{◌||◌}
 use Rattle.std.specs.declared.vec.Vec.{Vec}
 use Rattle.std.specs.declared.alloc.Global.{Global}
@@ -36,7 +36,7 @@ use Rattle.slim_rewrite.specs.Steps.{Opened, Put}
 use Rattle.slim_rewrite.proofs.ComingLemmas.{flush_comes, from_slim, piece_put}
 use Rattle.slim_rewrite.proofs.ConstructLemmas.{around_next, body_slim, full_free}
 use Rattle.slim_rewrite.proofs.InsideLemmas.{inside_count}
-use Rattle.slim_rewrite.proofs.PieceLemmas.{calls_left, free_by_count, held_by as held_by_count, joined_calls, left_done, none_held}
+use Rattle.slim_rewrite.proofs.PieceLemmas.{calls_left, free_by_count, joined_calls, left_done, or_none, some_held}
 use Rattle.slim_rewrite.proofs.UnitLemmas.{unit_comes, unit_comes_by}
 
 -- ---- the condition
@@ -102,7 +102,7 @@ module _ (a m : Walk) (x : ℕ) (direct : Bool) (good : Good a) (h : Conditioned
   abbrev set_again : Vec Instr Global → Walk
   set_again v = record a { set = length a.stack.items; piece = v }
 
-  pub flushed_again : (v : Vec Instr Global) → Puts m.piece.items v.items (condition_set direct x) → Flushed a (set_again v)
+  pub flushed_again : (v : Vec Instr Global) → Puts m.piece.items v.items (condition_set direct (Local x)) → Flushed a (set_again v)
   flushed_again v puts = record {
     good = good_by a (set_again v) (length a.stack.items) good refl refl (sym (take-length a.stack.items)) (omega arith) (omega arith) (let f = good.floor in let s = good.set in omega arith);
     alike = record { alloc = refl; low = refl; places = refl; floor = refl; below = refl };
@@ -111,7 +111,7 @@ module _ (a m : Walk) (x : ℕ) (direct : Bool) (good : Good a) (h : Conditioned
     puts = by direct refl puts;
   }
     where
-      by : (z : Bool) → direct ≡ z → Puts m.piece.items v.items (condition_set z x) → Puts a.piece.items v.items (unstacked (drop a.set a.stack.items))
+      by : (z : Bool) → direct ≡ z → Puts m.piece.items v.items (condition_set z (Local x)) → Puts a.piece.items v.items (unstacked (drop a.set a.stack.items))
       by true e p = λ c.
           let s = h.alone e in let s0 = s.0 in
           let z : length a.stack.items - 1 ≡ a.set = omega arith in
@@ -123,15 +123,6 @@ module _ (a m : Walk) (x : ℕ) (direct : Bool) (good : Good a) (h : Conditioned
 never : {P : Type 0} (z : Bool) → z ≡ true → z ≡ false → P
 never true e f = cc
 never false e f = cc
-
-or_none : (a b : Bool) → a ≡ false → b ≡ false → (a || b) ≡ false
-or_none true b e f = cc
-or_none false b e f = f
-
-or_some : (a b : Bool) → (a ≡ true) ⊎ (b ≡ true) → (a || b) ≡ true
-or_some true b e = refl
-or_some false b (inl e) = cc
-or_some false b (inr e) = e
 
 module _ (ps : List ℕ) (a m d1 d2 b : Walk) (p q : Sequence) (x : ℕ) (direct : Bool) (sa sb : Stmts) (v w : Written) (good : Good a) (goes : p.ended ≡ false) (c0 : Conditioned a m x direct)
     (i1 : IsInside ps m p.place sa false d1 v) (i2 : IsInside ps d1 v.place sb false d2 w) where
@@ -189,19 +180,19 @@ module _ (ps : List ℕ) (a m d1 d2 b : Walk) (p q : Sequence) (x : ℕ) (direct
   else_count : unit_count (units_in w.pieces) ≡ unit_count (units ps n1 sb)
   else_count = inside_count ps d1 n1 sb false d2 w second
 
-  puts_all : Puts d2.piece.items b.piece.items (λ c. condition_got direct x (branch None (first_code v.pieces) (first_code w.pieces) c))
+  puts_all : Puts d2.piece.items b.piece.items (λ c. condition_got direct (Local x) (branch None (first_code v.pieces) (first_code w.pieces) c))
       → Puts a.piece.items b.piece.items (λ c. condition_put direct a x (branch None (first_code v.pieces) (first_code w.pieces) c))
-  puts_all puts c = puts c ∙ ap (λ ys. onto ys (condition_got direct x (branch None (first_code v.pieces) (first_code w.pieces) c))) pieces_same ∙ by direct refl
+  puts_all puts c = puts c ∙ ap (λ ys. onto ys (condition_got direct (Local x) (branch None (first_code v.pieces) (first_code w.pieces) c))) pieces_same ∙ by direct refl
     where
       arm : Code
       arm = branch None (first_code v.pieces) (first_code w.pieces) c
 
-      by : (z : Bool) → direct ≡ z → onto m.piece.items (condition_got z x arm) ≡ onto a.piece.items (condition_put z a x arm)
+      by : (z : Bool) → direct ≡ z → onto m.piece.items (condition_got z (Local x) arm) ≡ onto a.piece.items (condition_put z a x arm)
       by true e = ap (λ ys. onto ys arm) (c0.alone e).1
       by false e = c0.flushed e (plain (local_get x) arm)
 
   free_put : units_in v.pieces ≡ no_unit → units_in w.pieces ≡ no_unit → Same d2 b
-      → Puts d2.piece.items b.piece.items (λ c. condition_got direct x (branch None (first_code v.pieces) (first_code w.pieces) c))
+      → Puts d2.piece.items b.piece.items (λ c. condition_got direct (Local x) (branch None (first_code v.pieces) (first_code w.pieces) c))
       → Put ps a p b (record p { place = w.place }) (decides (Local x) sa sb)
   free_put none1 none2 same puts =
       let h1 = free_by_count ps p.place sa (sym arms_count ∙ ap unit_count none1) in
@@ -222,19 +213,13 @@ module _ (ps : List ℕ) (a m d1 d2 b : Walk) (p q : Sequence) (x : ℕ) (direct
       (S.decides None top (plainly_held plainly) x1 x2 sl2))
 
   either : 0 < unit_count (units_in v.pieces) + unit_count (units_in w.pieces) → (holds_call ps p.place sa || holds_call ps n1 sb) ≡ true
-  either some = by (holds_call ps p.place sa) refl
-    where
-      by : (z : Bool) → holds_call ps p.place sa ≡ z → (holds_call ps p.place sa || holds_call ps n1 sb) ≡ true
-      by true e = or_some (holds_call ps p.place sa) (holds_call ps n1 sb) (inl e)
-      by false e =
-          let z = arms_count ∙ ap unit_count (none_held ps p.place sa e) in
-          or_some (holds_call ps p.place sa) (holds_call ps n1 sb) (inr (held_by_count ps n1 sb (let y = else_count in omega arith)))
+  either some = some_held ps p.place n1 sa sb (let y = arms_count in let z = else_count in omega (arith, y, z, some))
 
-  unit_put : (head : Head) → (piece : Vec Instr Global) → 0 < unit_count (units_in v.pieces) + unit_count (units_in w.pieces) → Puts d2.piece.items piece.items (condition_set direct x)
+  unit_put : (head : Head) → (piece : Vec Instr Global) → 0 < unit_count (units_in v.pieces) + unit_count (units_in w.pieces) → Puts d2.piece.items piece.items (condition_set direct (Local x))
       → ((c : Code) (us : Units) → head_in_front head c us ≡ if_unit (Some (Local x)) (first_code v.pieces) (units_in v.pieces) (first_code w.pieces) (units_in w.pieces) c us)
       → Opened (record d2 { piece = piece }) (record p { place = w.place }) b q head → Put ps a p b q (decides (Local x) sa sb)
   unit_put head piece some puts is opened =
-      let fl : Flushed a (set_again a m x direct good c0 piece) = flushed_again a m x direct good c0 piece (subst (λ ys. Puts ys piece.items (condition_set direct x)) pieces_same puts) in
+      let fl : Flushed a (set_again a m x direct good c0 piece) = flushed_again a m x direct good c0 piece (subst (λ ys. Puts ys piece.items (condition_set direct (Local x))) pieces_same puts) in
       let f = set_again a m x direct good c0 piece in
       let fa = first_piece ps p.place sa in
       let ua = units ps p.place sa in
@@ -315,7 +300,7 @@ module _ (ps : List ℕ) (a m d1 d2 b : Walk) (p q : Sequence) (x : ℕ) (direct
             (subst (λ i. SlimUnits t i (top ∷ ts) top top [] fb ub (first_code w.pieces) (units_in w.pieces)) behind (else_slim t among ts around (calls_in s + n) fixed.1)) sl0)) first us h1;
       }
 
-  pub if_put : Decided x direct d2 p b q v w → Put ps a p b q (decides (Local x) sa sb)
+  pub if_put : Decided (Local x) direct d2 p b q v w → Put ps a p b q (decides (Local x) sa sb)
   if_put (in_piece none1 none2 same q_is puts) = subst (λ z. Put ps a p b z (decides (Local x) sa sb)) (sym q_is) (free_put none1 none2 same puts)
   if_put (as_unit head piece some puts is opened) = unit_put head piece some puts is opened
   if_put (as_kept head alone free some is opened) = kept_put head alone free some is opened

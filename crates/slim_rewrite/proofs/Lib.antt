@@ -5,6 +5,7 @@ pub mod ConstructLemmas
 pub mod EndLemmas
 mod FixedLemmas
 pub mod FunctionLemmas
+pub mod GatherLemmas
 mod GuardLemmas
 pub mod IfLemmas
 pub mod InsideLemmas

@@ -1,12 +1,14 @@
 -- What constructs put.
-use Rattle.std.proofs.Common.{◌≡◌, ℕ, ◌+◌, ◌-◌, ◌<◌, ◌≤◌, List, [], ◌∷◌, length, take, Bool, true, false, Result, Ok, Err, OnOk, refl, sym, ap, ◌∙◌, arith}
+use Rattle.std.proofs.Common.{◌≡◌, ℕ, ◌+◌, ◌-◌, ◌<◌, ◌≤◌, List, [], ◌∷◌, length, take, Bool, true, false, Result, Ok, Err, OnOk, refl, sym, ap, ◌∙◌, subst, arith}
 use Rattle.std.specs.Prelude.{nat_eq, not, ◌&&◌}
 use Rattle.std.specs.declared.vec.Vec.{Vec}
 use Rattle.std.specs.declared.alloc.Global.{Global}
 use Rattle.std.proofs.lemmas.List.{length-take-le}
 use Rattle.wa_types.specs.declared.instrs.Instr.{Instr}
 use Rattle.wa_types.specs.Syntax.{local_set, plain}
-use Rattle.wa_model.specs.declared.flat.Operand.TheVariants.{Local}
+use Rattle.wa_types.specs.declared.values.Value.{Value}
+use Rattle.wa_model.specs.declared.flat.Operand.{Operand}
+use Rattle.wa_model.specs.declared.flat.Operand.TheVariants.{Local, Const}
 use Rattle.flow_rewrite.specs.Putting.{Puts}
 use Rattle.guard_form.specs.Bounds.{unit_count}
 use Rattle.guard_form.specs.Pieces.{no_unit}
@@ -61,13 +63,18 @@ both_told true true e = cc
 both_told true false e = (refl, refl)
 both_told false b e = cc
 
-pub set_none : (a : Walk) (x : ℕ) (direct : Bool) → direct ≡ false → SetAgain a a x direct
-set_none a x true e = cc
-set_none a x false e = record { is = refl; puts = λ c. refl }
+pub set_const : (a : Walk) (o : Operand) (v : Value) (direct : Bool) → o ≡ Const v → SetAgain a a o direct
+set_const a (Const w) v true e = record { is = refl; puts = λ c. refl }
+set_const a (Const w) v false e = record { is = refl; puts = λ c. refl }
+set_const a (Local x) v direct e = cc
 
-pub set_one : (a : Walk) (v : Vec Instr Global) (x : ℕ) (direct : Bool) → direct ≡ true → Puts a.piece.items v.items (plain (local_set x)) → SetAgain a (record a { piece = v }) x direct
-set_one a v x true e h = record { is = refl; puts = h }
-set_one a v x false e h = cc
+pub set_one : (a : Walk) (v : Vec Instr Global) (o : Operand) (x : ℕ) (direct : Bool) → o ≡ Local x → direct ≡ true → Puts a.piece.items v.items (plain (local_set x))
+    → SetAgain a (record a { piece = v }) o direct
+set_one a v o x direct is e h = subst (λ (z : Operand). SetAgain a (record a { piece = v }) z direct) (sym is) (by direct e)
+  where
+    by : (b : Bool) → b ≡ true → SetAgain a (record a { piece = v }) (Local x) b
+    by true q = record { is = refl; puts = h }
+    by false q = cc
 
 module _ (a : Walk) (v : Vec ℕ Global) (x left : ℕ) (good : Good a) (top : IsTop a.stack.items (Local x ∷ [])) (is : left ≡ length a.stack.items - 1) (above : a.floor ≤ left) where
   fits : left + 1 ≡ length a.stack.items

@@ -26,6 +26,10 @@ pub or_false : (x y : Bool) → (x || y) ≡ false → (x ≡ false) × (y ≡ f
 or_false true y e = cc
 or_false false y e = (refl, e)
 
+pub or_none : (x y : Bool) → x ≡ false → y ≡ false → (x || y) ≡ false
+or_none true y e f = cc
+or_none false y e f = f
+
 pub none_held : (ps : List ℕ) (n : ℕ) (s : Stmts) → holds_call ps n s ≡ false → units ps n s ≡ no_unit
 none_held ps n no_more h = refl
 none_held ps n (computes op args to rest) h = none_held ps n rest h
@@ -69,6 +73,13 @@ free_by_count ps n s z = by (holds_call ps n s) refl
     by : (b : Bool) → holds_call ps n s ≡ b → holds_call ps n s ≡ false
     by true e = let lt = counts (units ps n s) (has_unit ps n s e) in absurd (omega arith)
     by false e = e
+
+pub some_held : (ps : List ℕ) (n m : ℕ) (a b : Stmts) → 0 < unit_count (units ps n a) + unit_count (units ps m b) → (holds_call ps n a || holds_call ps m b) ≡ true
+some_held ps n m a b some = by (holds_call ps n a) refl
+  where
+    by : (z : Bool) → holds_call ps n a ≡ z → (holds_call ps n a || holds_call ps m b) ≡ true
+    by true e = ap (λ y. y || holds_call ps m b) e
+    by false e = let z = ap unit_count (none_held ps n a e) in ap (λ y. y || holds_call ps m b) e ∙ held_by ps m b (omega (arith, z, some))
 
 -- ---- calls
 

@@ -26,27 +26,27 @@ use Rattle.slim_rewrite.proofs.PieceLemmas.{goes_computes, goes_copies, goes_got
 pub put_as : (ps : List ℕ) (a b : Walk) (p q : Sequence) (x y : Stmts → Stmts) → ((s : Stmts) → y s ≡ x s) → Put ps a p b q x → Put ps a p b q y
 put_as ps a b p q x y e h = subst (Put ps a p b q) (λ j s. sym (e s) j) h
 
-plain_is : (x : Stmt) (op : Instr) (args : Vec Operand Global) (to : Option ℕ) → x ≡ Plain op args to → (s : Stmts) → stmt_in_front x s ≡ computes (in_front op done) args.items to s
+pub plain_is : (x : Stmt) (op : Instr) (args : Vec Operand Global) (to : Option ℕ) → x ≡ Plain op args to → (s : Stmts) → stmt_in_front x s ≡ computes (in_front op done) args.items to s
 unfolding stmt_in_front
 plain_is x op args to e s = ap (λ y. stmt_in_front y s) e
 
-move_is : (x : Stmt) (to : ℕ) (from : Operand) → x ≡ Move to from → (s : Stmts) → stmt_in_front x s ≡ copies to from s
+pub move_is : (x : Stmt) (to : ℕ) (from : Operand) → x ≡ Move to from → (s : Stmts) → stmt_in_front x s ≡ copies to from s
 unfolding stmt_in_front
 move_is x to from e s = ap (λ y. stmt_in_front y s) e
 
-br_is : (x : Stmt) (l : ℕ) → x ≡ Br l → (s : Stmts) → stmt_in_front x s ≡ leaps l s
+pub br_is : (x : Stmt) (l : ℕ) → x ≡ Br l → (s : Stmts) → stmt_in_front x s ≡ leaps l s
 unfolding stmt_in_front
 br_is x l e s = ap (λ y. stmt_in_front y s) e
 
-br_if_is : (x : Stmt) (o : Operand) (l : ℕ) → x ≡ BrIf o l → (s : Stmts) → stmt_in_front x s ≡ leaps_if o l s
+pub br_if_is : (x : Stmt) (o : Operand) (l : ℕ) → x ≡ BrIf o l → (s : Stmts) → stmt_in_front x s ≡ leaps_if o l s
 unfolding stmt_in_front
 br_if_is x o l e s = ap (λ y. stmt_in_front y s) e
 
-table_is : (x : Stmt) (o : Operand) (ls : Vec ℕ Global) (l : ℕ) → x ≡ BrTable o ls l → (s : Stmts) → stmt_in_front x s ≡ leaps_by o ls.items l s
+pub table_is : (x : Stmt) (o : Operand) (ls : Vec ℕ Global) (l : ℕ) → x ≡ BrTable o ls l → (s : Stmts) → stmt_in_front x s ≡ leaps_by o ls.items l s
 unfolding stmt_in_front
 table_is x o ls l e s = ap (λ y. stmt_in_front y s) e
 
-halt_is : (x : Stmt) → x ≡ Unreachable → (s : Stmts) → stmt_in_front x s ≡ halts s
+pub halt_is : (x : Stmt) → x ≡ Unreachable → (s : Stmts) → stmt_in_front x s ≡ halts s
 unfolding stmt_in_front
 halt_is x e s = ap (λ y. stmt_in_front y s) e
 

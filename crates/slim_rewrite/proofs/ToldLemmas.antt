@@ -1,5 +1,5 @@
 -- Slim pieces of a module's function.
-use Rattle.std.proofs.Common.{◌≡◌, ℕ, ◌+◌, ◌-◌, ◌<◌, ◌≤◌, List, [], ◌++◌, length, map, Option, Some, None, Bool, true, false, refl, sym, ap, ◌∙◌, subst, arith, length-append, ⊎_elim}
+use Rattle.std.proofs.Common.{◌≡◌, ℕ, ◌+◌, ◌-◌, ◌<◌, ◌≤◌, List, [], ◌∷◌, ◌++◌, length, map, Option, Some, None, Bool, true, false, refl, sym, ap, ◌∙◌, subst, arith, length-append, ⊎_elim}
 use Rattle.std.specs.Prelude.{nat_lt, not, slice_get, ◌&&◌}
 use Rattle.std.proofs.lemmas.Bool.{cases_lt, lt-ltb, le-ltb}
 use Rattle.std.proofs.lemmas.List.{length-map}
@@ -9,16 +9,18 @@ use Rattle.wa_types.specs.Modules.{around, locals_of}
 use Rattle.wa_types.specs.Syntax.{Code, Func, Module}
 use Rattle.run_theory.specs.Flat.{FlatFunc}
 use Rattle.run_theory.specs.FlatFits.{FlatFits}
-use Rattle.guard_form.specs.Guarded.{has_one_call, guarded_body, guarded_code}
+use Rattle.guard_form.specs.Guarded.{has_one_call, guarded_body}
+use Rattle.guard_form.specs.Pieces.{first_piece, units}
 use Rattle.flat_laws.specs.FlatModule.{stacks_in}
 use Rattle.flat_laws.specs.Flatten.{flattened, names, place, result_of}
 use Rattle.slim_laws.specs.Emit.{free_by}
 use Rattle.slim_laws.specs.Slim.{Free, Terms}
 use Rattle.slim_laws.specs.SlimUnitLaws.{ToHeld}
 use Rattle.flow_rewrite.specs.declared.pieces.Pieces.{Pieces}
-use Rattle.slim_rewrite.specs.Functions.{is_between, AreSlim, SlimTold}
+use Rattle.slim_rewrite.specs.Functions.{is_between, are_plain, are_slim, AreSlim, ArePlain, SlimOrPlain}
 use Rattle.slim_rewrite.specs.Inside.{first_code, units_in}
-use Rattle.slim_laws.specs.SlimModule.{SlimPieces, flat_terms, is_slot, plain_pieces}
+use Rattle.slim_laws.specs.SlimModule.{SlimPieces, flat_terms, is_slot}
+use Rattle.slim_laws.specs.SlimUnits.{SlimUnits}
 use Rattle.slim_laws.proofs.SlimModules.{plain_slim}
 use Rattle.slim_rewrite.specs.Told.{GuardedTold}
 use Rattle.slim_rewrite.proofs.FixedLemmas.{all_fixed, stacks_count}
@@ -53,15 +55,13 @@ result_held m f t is (Some ty) =
     held false e = refl
 
 -- Where this is the flat function of a function, and its slots are those, they are its slim pieces.
-abbrev pub PiecesTold : (places : List ℕ) → (low count : ℕ) → FlatFunc → Option Pieces → Type 0
-PiecesTold ps low count g None = Prim.Unit {0}
-PiecesTold ps low count g (Some p) =
+abbrev PiecesTold : (places : List ℕ) → (low count : ℕ) → FlatFunc → Pieces → Type 0
+PiecesTold ps low count g p =
     (m : Module) (x : ℕ) (f : Func) → g ≡ flattened m x f → low ≡ length (locals_of m f) → count ≡ length (SlotPairs m f)
     → SlimPieces m ps x f (record { exits = true; first = first_code p; units = units_in p })
 
-pub pieces_told : (ps : List ℕ) (low count : ℕ) (g : FlatFunc) (o : Option Pieces) → FlatFits g → SlimTold ps low count g o → PiecesTold ps low count g o
-pieces_told ps low count g None fits h = tt
-pieces_told ps low count g (Some p) fits h = λ m x f is low_is count_is.
+slim_told : (ps : List ℕ) (low count : ℕ) (g : FlatFunc) (p : Pieces) → FlatFits g → AreSlim ps low count g p → PiecesTold ps low count g p
+slim_told ps low count g p fits h = λ m x f is low_is count_is.
     let t = flat_terms m ps x f in
     let out : Free = free_by t.slot [] in
     let body = (flattened m x f).body in
@@ -78,19 +78,32 @@ pieces_told ps low count g (Some p) fits h = λ m x f is low_is count_is.
     let h1 : AreSlim ps low count (flattened m x f) p = subst (λ z. AreSlim ps low count z p) is h in
     record { out = out; here = out; slim = h1 t slots size fixed; result = result_held m f t (λ y. refl) (around m f).result }
 
+-- plain pieces are slim too
+plain_told : (ps : List ℕ) (low count : ℕ) (g : FlatFunc) (p : Pieces) → ArePlain ps g p → PiecesTold ps low count g p
+plain_told ps low count g p h = λ m x f is low_is count_is.
+    let b = plain_slim m ps x f in
+    let body : g.body ≡ (flattened m x f).body = ap (λ (z : FlatFunc). z.body) is in
+    let first : first_piece ps 0 (flattened m x f).body ≡ first_code p = sym (h.first ∙ ap (first_piece ps 0) body) in
+    let us : units ps 0 (flattened m x f).body ≡ units_in p = sym (h.units ∙ ap (units ps 0) body) in
+    record {
+      out = b.out;
+      here = b.here;
+      slim = subst (λ z. SlimUnits (flat_terms m ps x f) 0 (b.out ∷ []) b.out b.here [] (first_piece ps 0 (flattened m x f).body) (units ps 0 (flattened m x f).body) z (units_in p)) first
+          (subst (λ z. SlimUnits (flat_terms m ps x f) 0 (b.out ∷ []) b.out b.here [] (first_piece ps 0 (flattened m x f).body) (units ps 0 (flattened m x f).body)
+          (first_piece ps 0 (flattened m x f).body) z) us b.slim);
+      result = b.result;
+    }
+
+pieces_told : (ps : List ℕ) (low count : ℕ) (g : FlatFunc) (p : Pieces) → FlatFits g → SlimOrPlain ps low count g p → PiecesTold ps low count g p
+pieces_told ps low count g p fits (are_slim h) = slim_told ps low count g p fits h
+pieces_told ps low count g p fits (are_plain h) = plain_told ps low count g p h
+
 -- ---- guarded code
 
-pub guarded_slim : (ps : List ℕ) (low count state index : ℕ) (one_call : Bool) (g : FlatFunc) (p : Pieces) (c : Code) → PiecesTold ps low count g (Some p) → index ≡ length g.locals
+pub guarded_told : (ps : List ℕ) (low count state index : ℕ) (one_call : Bool) (g : FlatFunc) (p : Pieces) (c : Code) → FlatFits g → SlimOrPlain ps low count g p → index ≡ length g.locals
     → one_call ≡ has_one_call true (units_in p) → c ≡ guarded_body (record { state = state; index = index; one_call = one_call }) true (first_code p) (units_in p) → GuardedTold ps low count state g c
-guarded_slim ps low count state index one_call g p c h e one is = λ m x f same low_is count_is. record {
+guarded_told ps low count state index one_call g p c fits h e one is = λ m x f same low_is count_is. record {
   pieces = record { exits = true; first = first_code p; units = units_in p };
-  slim = h m x f same low_is count_is;
+  slim = pieces_told ps low count g p fits h m x f same low_is count_is;
   code = is ∙ (λ j. guarded_body (record { state = state; index = (e ∙ ap (λ (z : FlatFunc). length z.locals) same) j; one_call = one j }) true (first_code p) (units_in p));
-}
-
-pub guarded_plain : (ps : List ℕ) (low count state : ℕ) (g : FlatFunc) (c : Code) → c ≡ guarded_code state ps g → GuardedTold ps low count state g c
-guarded_plain ps low count state g c is = λ m x f same low_is count_is. record {
-  pieces = plain_pieces ps (flattened m x f);
-  slim = plain_slim m ps x f;
-  code = is ∙ ap (guarded_code state ps) same;
 }

@@ -29,7 +29,7 @@ use Rattle.std.specs.declared.alloc.AllocError.{AllocError}
 
 -- ---- what is asked
 
-total_front : (n : ℕ) (x : Stmt) (s : Stmts) → n + call_total (stmt_in_front x s) ≡ one_place n (stmt_in_front x no_more) + call_total s
+pub total_front : (n : ℕ) (x : Stmt) (s : Stmts) → n + call_total (stmt_in_front x s) ≡ one_place n (stmt_in_front x no_more) + call_total s
 total_front n x s = ap (λ z. n + call_total z) (in_front_is x s) ∙ total_with n (stmt_in_front x no_more) s
 
 pub ready_one : (n : ℕ) (x : Stmt) (s : Stmts) → Ready n (stmt_in_front x s) → Ready n (stmt_in_front x no_more)

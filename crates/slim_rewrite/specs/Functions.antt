@@ -1,5 +1,5 @@
 -- What is asked of the slim pieces of a function.
-use Rattle.std.specs.Prelude.{◌≡◌, ◌≤◌, ◌+◌, ◌-◌, ℕ, List, [], ◌∷◌, Option, Some, None, Bool, not, ◌&&◌, nat_lt}
+use Rattle.std.specs.Prelude.{◌≡◌, ◌≤◌, ◌+◌, ◌-◌, ℕ, List, [], ◌∷◌, Bool, not, ◌&&◌, nat_lt}
 use Rattle.run_theory.specs.Flat.{FlatFunc}
 use Rattle.guard_form.specs.Pieces.{first_piece, units}
 use Rattle.slim_laws.specs.Emit.{free_by}
@@ -19,7 +19,12 @@ AreSlim ps low count f p =
     (t : Terms) → ((x : ℕ) → t.slot x ≡ is_between low count x) → low + count ≤ t.size → CallsFixed t ps 0 0 f.body
     → SlimUnits t 0 (free_by t.slot [] ∷ []) (free_by t.slot []) (free_by t.slot []) [] (first_piece ps 0 f.body) (units ps 0 f.body) (first_code p) (units_in p)
 
--- Pieces that are there are slim.
-abbrev pub SlimTold : (places : List ℕ) → (low count : ℕ) → FlatFunc → Option Pieces → Type 0
-SlimTold ps low count f None = Prim.Unit {0}
-SlimTold ps low count f (Some p) = AreSlim ps low count f p
+-- These are the pieces and units of the statements, as they are.
+pub record ArePlain (ps : List ℕ) (f : FlatFunc) (p : Pieces) : Type 0 where
+  pub first : first_code p ≡ first_piece ps 0 f.body
+  pub units : units_in p ≡ units ps 0 f.body
+
+-- The pieces are slim, or the plain ones.
+pub data SlimOrPlain (ps : List ℕ) (low count : ℕ) (f : FlatFunc) (p : Pieces) : Type 0 where
+  are_slim : AreSlim ps low count f p → SlimOrPlain ps low count f p
+  are_plain : ArePlain ps f p → SlimOrPlain ps low count f p

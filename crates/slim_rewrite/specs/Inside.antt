@@ -3,10 +3,11 @@ use Rattle.std.specs.Prelude.{◌≡◌, ◌<◌, ◌+◌, ◌-◌, ℕ, List, [
 use Rattle.std.specs.declared.vec.Vec.{Vec}
 use Rattle.std.specs.declared.alloc.Global.{Global}
 use Rattle.wa_types.specs.declared.instrs.Instr.{Instr}
-use Rattle.wa_types.specs.Syntax.{local_get, local_set, Shape as Nesting, Code, plain, nest, branch}
+use Rattle.wa_types.specs.Syntax.{local_set, Shape as Nesting, Code, plain, nest, branch}
 use Rattle.wa_types.specs.View.{code}
-use Rattle.wa_model.specs.declared.flat.Operand.TheVariants.{Local}
-use Rattle.run_theory.specs.Flat.{Stmts, no_more}
+use Rattle.wa_model.specs.declared.flat.Operand.{Operand}
+use Rattle.wa_model.specs.declared.flat.Operand.TheVariants.{Local, Const}
+use Rattle.run_theory.specs.Flat.{Stmts, no_more, got}
 use Rattle.guard_form.specs.Bounds.{unit_count}
 use Rattle.guard_form.specs.Pieces.{Units, no_unit, nest_unit, if_unit, call_total, first_piece, units}
 use Rattle.flow_rewrite.specs.Putting.{Puts}
@@ -71,7 +72,7 @@ pub record Completed (a : Walk) (p : Sequence) (b : Walk) (w : Written) : Type 0
   pub first : first_code w.pieces ≡ first_with p (code a.piece.items)
   pub units : units_in w.pieces ≡ units_with p (code a.piece.items) no_unit
 
--- A sequence has come to its end.
+-- A sequence has come to its end; it only gets its last piece where all slots are set.
 pub record Finished (a : Walk) (p : Sequence) (b : Walk) (w : Written) : Type 0 where
   pub good : Good b
   pub alike : Alike a b
@@ -79,6 +80,7 @@ pub record Finished (a : Walk) (p : Sequence) (b : Walk) (w : Written) : Type 0 
   pub bare : w.ended ≡ false → b.set ≡ length b.stack.items
   pub comes : (t : Terms) → Among t a → (n : ℕ) (ts : List Free) (out : Free) (ps : List ℕ) → (w.ended ≡ false → Covers (free_at t b) out)
       → Comes t n ts out ps a p no_more (first_code w.pieces) (units_in w.pieces)
+  pub plain : a.set ≡ length a.stack.items → Completed a p b w
 
 -- ---- constructs
 
@@ -150,19 +152,20 @@ ConditionTold a b x None = Prim.Unit {0}
 ConditionTold a b x (Some direct) = Conditioned a b x direct
 
 -- what gets a condition
-abbrev pub condition_got : (direct : Bool) → ℕ → Code → Code
-condition_got true x c = c
-condition_got false x c = plain (local_get x) c
+abbrev pub condition_got : (direct : Bool) → Operand → Code → Code
+condition_got true o c = c
+condition_got false o c = got o c
 
 -- what sets its slot
-abbrev pub condition_set : (direct : Bool) → ℕ → Code → Code
-condition_set true x c = plain (local_set x) c
-condition_set false x c = c
+abbrev pub condition_set : (direct : Bool) → Operand → Code → Code
+condition_set true (Local x) c = plain (local_set x) c
+condition_set true (Const v) c = c
+condition_set false o c = c
 
 -- It was set where it stood on the operand stack.
-pub record SetAgain (a b : Walk) (x : ℕ) (direct : Bool) : Type 0 where
+pub record SetAgain (a b : Walk) (o : Operand) (direct : Bool) : Type 0 where
   pub is : b ≡ record a { piece = b.piece }
-  pub puts : Puts a.piece.items b.piece.items (condition_set direct x)
+  pub puts : Puts a.piece.items b.piece.items (condition_set direct o)
 
 -- whether neither of two sequences has units
 abbrev pub AreFree : (v w : Written) → Bool → Type 0
@@ -171,12 +174,12 @@ AreFree v w false = 0 < unit_count (units_in v.pieces) + unit_count (units_in w.
 
 -- An `if` was put: in the piece, where its arms have no units, or as a unit, for which its condition is set, or left where it stands
 -- alone and not behind a call.
-pub data Decided (x : ℕ) (direct : Bool) (a : Walk) (p : Sequence) (b : Walk) (q : Sequence) (v w : Written) : Type 0 where
+pub data Decided (o : Operand) (direct : Bool) (a : Walk) (p : Sequence) (b : Walk) (q : Sequence) (v w : Written) : Type 0 where
   in_piece : units_in v.pieces ≡ no_unit → units_in w.pieces ≡ no_unit → Same a b → q ≡ record p { place = w.place }
-      → Puts a.piece.items b.piece.items (λ c. condition_got direct x (branch None (first_code v.pieces) (first_code w.pieces) c)) → Decided x direct a p b q v w
-  as_unit : (head : Head) → (piece : Vec Instr Global) → 0 < unit_count (units_in v.pieces) + unit_count (units_in w.pieces) → Puts a.piece.items piece.items (condition_set direct x)
-      → ((c : Code) (us : Units) → head_in_front head c us ≡ if_unit (Some (Local x)) (first_code v.pieces) (units_in v.pieces) (first_code w.pieces) (units_in w.pieces) c us)
-      → Opened (record a { piece = piece }) (record p { place = w.place }) b q head → Decided x direct a p b q v w
+      → Puts a.piece.items b.piece.items (λ c. condition_got direct o (branch None (first_code v.pieces) (first_code w.pieces) c)) → Decided o direct a p b q v w
+  as_unit : (head : Head) → (piece : Vec Instr Global) → 0 < unit_count (units_in v.pieces) + unit_count (units_in w.pieces) → Puts a.piece.items piece.items (condition_set direct o)
+      → ((c : Code) (us : Units) → head_in_front head c us ≡ if_unit (Some o) (first_code v.pieces) (units_in v.pieces) (first_code w.pieces) (units_in w.pieces) c us)
+      → Opened (record a { piece = piece }) (record p { place = w.place }) b q head → Decided o direct a p b q v w
   as_kept : (head : Head) → direct ≡ true → call_open p.open ≡ false → 0 < unit_count (units_in v.pieces) + unit_count (units_in w.pieces)
       → ((c : Code) (us : Units) → head_in_front head c us ≡ if_unit None (first_code v.pieces) (units_in v.pieces) (first_code w.pieces) (units_in w.pieces) c us)
-      → Opened a (record p { place = w.place }) b q head → Decided x direct a p b q v w
+      → Opened a (record p { place = w.place }) b q head → Decided o direct a p b q v w

@@ -1,5 +1,6 @@
 pub mod Coming
 pub mod Functions
+pub mod Gathering
 pub mod Inside
 pub mod SequenceView
 pub mod Steps

@@ -1,14 +1,15 @@
 //! Calls, with a number and without.
 
 ghost use Rattle.std.specs.Prelude.{◌≡◌, ◌≤◌, ◌<◌, ◌+◌, ◌^◌, ℕ, List, length, true, false, IfOk};
+ghost use Rattle.std.specs.Option.{option_map};
 ghost use Rattle.wa_types.specs.Syntax.{done, plain};
 ghost use Rattle.wa_types.specs.View.{in_front};
 ghost use Rattle.run_theory.specs.Flat.{calls, no_more};
 ghost use Rattle.guard_form.specs.Grouping.{is_place};
-ghost use Rattle.flow_rewrite.specs.CallsEmitting.{Rises};
+ghost use Rattle.flow_rewrite.specs.Emitting.{Rises};
 ghost use Rattle.slim_rewrite.specs.Walking.{Good};
 ghost use Rattle.flow_rewrite.specs.UnitView.{callee_of};
-ghost use Rattle.guard_form.specs.Pieces.{call_to};
+ghost use Rattle.guard_form.specs.Pieces.{call_to, sole_callee};
 ghost use Rattle.slim_rewrite.specs.Coming.{Ready};
 ghost use Rattle.slim_rewrite.specs.Steps.{Calls, Put, PutNumbered};
 
@@ -16,12 +17,22 @@ use crate::branches::put_free_call;
 use crate::moves::keep_told;
 use crate::sequence::{Head, Sequence, open_unit};
 use crate::stack::{Walk, flush};
-use flow_rewrite::{FlatCall, Target};
+use flow_rewrite::Target;
 use std::alloc::AllocError;
 use wa_types::Instr;
 
+/// A call of a flat function: its instruction, the locals of the operand stack, how many of the last ones it takes, and
+/// the local of its result.
+#[derive(Clone, Copy)]
+pub struct FlatCall<'a> {
+    pub op: &'a Instr,
+    pub stack: &'a [u32],
+    pub args: u32,
+    pub to: Option<u32>,
+}
+
 /// Whether the call at this place is numbered.
-fn is_numbered(numbers: &[u32], place: u32) -> bool
+pub(crate) fn is_numbered(numbers: &[u32], place: u32) -> bool
     requires { Rises numbers.now }
     ensures { result ≡ is_place numbers.now place }
 {
@@ -29,8 +40,9 @@ fn is_numbered(numbers: &[u32], place: u32) -> bool
 }
 
 /// What a call goes to, where the instruction is one.
-fn target_of(op: &Instr) -> Option<Target>
-    ensures { Calls result (in_front op.now done) }
+pub(crate) fn target_of(op: &Instr) -> Option<Target>
+    ensures calls { Calls result (in_front op.now done) }
+    ensures sole { option_map callee_of result ≡ sole_callee (in_front op.now done) }
 {
     match op {
         Instr::Call(func) => Some(Target::Direct(*func)),

@@ -173,14 +173,14 @@ pub fn take_condition(at: &mut Walk, x: u32) -> Result<Option<bool>, AllocError>
 /// Puts an `if` without numbered calls.
 fn put_free_if(
     at: &mut Walk,
-    x: u32,
+    cond: Operand,
     direct: bool,
     then_arm: Vec<Instr>,
     else_arm: Vec<Instr>,
 ) -> Result<(), AllocError>
     requires { Good at.old }
     ensures same { OnOk result (Same at.old at.new) }
-    ensures puts { OnOk result (Puts at.old.piece.items at.new.piece.items (λ c. condition_got direct x (branch None (code then_arm.items) (code else_arm.items) c))) }
+    ensures puts { OnOk result (Puts at.old.piece.items at.new.piece.items (λ c. condition_got direct cond (branch None (code then_arm.items) (code else_arm.items) c))) }
 {
     let instr = Instr::If {
         result: None,
@@ -191,21 +191,26 @@ fn put_free_if(
         at.piece.push(instr)?;
         return Ok(());
     }
-    put_operand(&mut at.piece, Operand::Local(x))?;
+    put_operand(&mut at.piece, cond)?;
     at.piece.push(instr)?;
     Ok(())
 }
 
 /// Sets the slot of a condition that stands on the operand stack.
-fn set_condition(at: &mut Walk, x: u32, direct: bool) -> Result<(), AllocError>
+fn set_condition(at: &mut Walk, cond: Operand, direct: bool) -> Result<(), AllocError>
     requires { Good at.old }
-    ensures { OnOk result (SetAgain at.old at.new x direct) }
+    ensures { OnOk result (SetAgain at.old at.new cond direct) }
 {
     if !direct {
         return Ok(());
     }
-    at.piece.push(Instr::LocalSet(x))?;
-    Ok(())
+    match cond {
+        Operand::Local(x) => {
+            at.piece.push(Instr::LocalSet(x))?;
+            Ok(())
+        }
+        Operand::Const(_) => Ok(()),
+    }
 }
 
 /// Whether neither arm holds a numbered call.
@@ -248,18 +253,18 @@ fn may_stay(all: &Sequence, direct: bool) -> bool
 pub fn put_if_apart(
     at: &mut Walk,
     all: &mut Sequence,
-    x: u32,
+    cond: Operand,
     direct: bool,
     then_arm: Box<Written>,
     else_arm: Box<Written>,
 ) -> Result<(), AllocError>
     requires { Good at.old }
-    ensures { OnOk result (Decided x direct at.old all.old at.new all.new then_arm.value else_arm.value) }
+    ensures { OnOk result (Decided cond direct at.old all.old at.new all.new then_arm.value else_arm.value) }
 {
     put_if(
         at,
         all,
-        x,
+        cond,
         direct,
         Box::into_inner(then_arm),
         Box::into_inner(else_arm),
@@ -270,20 +275,20 @@ pub fn put_if_apart(
 fn put_if(
     at: &mut Walk,
     all: &mut Sequence,
-    x: u32,
+    cond: Operand,
     direct: bool,
     then_arm: Written,
     else_arm: Written,
 ) -> Result<(), AllocError>
     requires { Good at.old }
-    ensures { OnOk result (Decided x direct at.old all.old at.new all.new then_arm else_arm) }
+    ensures { OnOk result (Decided cond direct at.old all.old at.new all.new then_arm else_arm) }
 {
     all.place = else_arm.place;
     let free = are_free(&then_arm, &else_arm);
     let first = then_arm.pieces;
     let second = else_arm.pieces;
     if free {
-        return put_free_if(at, x, direct, first.first, second.first);
+        return put_free_if(at, cond, direct, first.first, second.first);
     }
     if may_stay(all, direct) {
         let head = Head::If {
@@ -293,9 +298,9 @@ fn put_if(
         };
         return open_unit(at, all, head);
     }
-    set_condition(at, x, direct)?;
+    set_condition(at, cond, direct)?;
     let head = Head::If {
-        cond: Some(Operand::Local(x)),
+        cond: Some(cond),
         then_arm: first,
         else_arm: second,
     };

@@ -1,15 +1,15 @@
-//! Guarded code from slim pieces.
+//! Guarded code of a flat function with slim pieces.
 
 ghost use Rattle.std.specs.Prelude.{◌<◌, ◌^◌, IfOk};
 ghost use Rattle.wa_types.specs.View.{code};
 ghost use Rattle.run_theory.specs.FlatFits.{FlatFits};
 ghost use Rattle.run_theory.specs.FlatView.{flat_func_of};
 ghost use Rattle.guard_form.specs.Pieces.{call_total};
-ghost use Rattle.flow_rewrite.specs.CallsEmitting.{Rises};
+ghost use Rattle.flow_rewrite.specs.Emitting.{Rises};
 ghost use Rattle.slim_rewrite.specs.Told.{GuardedTold};
 
-use crate::function::slim_pieces;
-use flow_rewrite::{Guards, guard, guarded_pieces, has_one_call};
+use crate::function::pieces_of;
+use flow_rewrite::{Guards, guarded_pieces, has_one_call};
 use std::alloc::{AllocError, Global};
 use wa_model::FlatFunc;
 use wa_types::Instr;
@@ -30,18 +30,14 @@ pub fn guard_slim(
     requires few { call_total (flat_func_of func.old).body < 2 ^ 32 }
     ensures { IfOk result (λ v. GuardedTold numbers.now low slots state (flat_func_of func.old) (code v.items)) }
 {
-    let Some(pieces) = slim_pieces(alloc, func, numbers, low, slots)? else {
-        let plain = guard(alloc, func, numbers, state)?;
-        return Ok(plain.body);
-    };
+    let pieces = pieces_of(alloc, func, numbers, low, slots)?;
     let index = func.locals.len() as u32;
     func.body = Vec::new(alloc);
     let guards = Guards {
         alloc,
-        numbers: Vec::new(alloc),
         state,
         index,
         one_call: has_one_call(&pieces),
     };
-    guarded_pieces(&guards, &pieces)
+    guarded_pieces(&guards, true, &pieces)
 }

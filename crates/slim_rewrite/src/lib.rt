@@ -1,7 +1,8 @@
 //! Writes slim code: the pieces of flat functions with operands left on the operand stack instead of in their slots, and guards around.
 //!
 //! `guard_slim` writes each flat function of a module with slim pieces; what is asked of these is `SlimPieces` of `slim_laws`
-//! (`specs/Functions.antt`). A function whose statements don't use slots as a stack keeps its plain pieces.
+//! (`specs/Functions.antt`). A function whose statements don't use slots as a stack keeps its plain pieces, in which each operand
+//! stands in its local. `guard` writes any flat function with plain pieces, each numbered call in a block of its own.
 //!
 //! The walk goes over the statements of a sequence once. Its state is a stack of the slots of all operands, the lowest first: up to a
 //! place they hold their operands, those behind it stand on the operand stack of the slim code. Whether a slot is on the stack is told
@@ -19,17 +20,20 @@
 //! - `stack`, `operators`, `moves`, `branches`: the walk's state, what instructions take, plain statements and moves, branches and calls
 //!   without number.
 //! - `sequence`, `single`, `calls`, `constructs`: a sequence so far, single statements, numbered calls, and constructs.
-//! - `walk`, `function`, `guarded`: the walk, a function in pieces and units, and guarded code from it.
+//! - `walk`, `gathering`, `function`: the walk, that to plain pieces, and a function in pieces and units.
+//! - `guarded`, `plain`: guarded code from slim pieces, and a guarded function from plain ones.
 #![tactic(auto)]
 
 mod branches;
 mod calls;
 mod constructs;
 mod function;
+mod gathering;
 mod guarded;
 mod guesses;
 mod moves;
 mod operators;
+mod plain;
 mod sequence;
 mod single;
 mod stack;
@@ -37,5 +41,6 @@ mod walk;
 
 pub use constructs::Outside;
 pub use guarded::guard_slim;
+pub use plain::{GuardedFunc, guard};
 pub use sequence::Head;
 pub use stack::{is_slot, take};

@@ -8,13 +8,13 @@ ghost use Rattle.wa_types.specs.Syntax.{a_block, a_loop};
 ghost use Rattle.wa_model.specs.declared.flat.Operand.TheVariants.{Local};
 ghost use Rattle.run_theory.specs.Flat.{decides, nests, no_more};
 ghost use Rattle.run_theory.specs.FlatView.{stmt_in_front, stmts};
-ghost use Rattle.flow_rewrite.specs.CallsEmitting.{Rises};
+ghost use Rattle.flow_rewrite.specs.Emitting.{Rises};
 ghost use Rattle.slim_rewrite.specs.Walking.{Good};
 ghost use Rattle.slim_rewrite.specs.Coming.{Ready};
 ghost use Rattle.slim_rewrite.specs.Inside.{InsideTold, unboxed, WrittenTold};
 ghost use Rattle.slim_rewrite.specs.Steps.{Put};
 
-use crate::calls::put_call;
+use crate::calls::{FlatCall, put_call};
 use crate::constructs::{
     claim, enter, leave, put_block_apart, put_if_apart, put_loop_apart, stays, take_condition,
     unreached,
@@ -23,7 +23,6 @@ use crate::guesses::{following, reads_again, taken_behind};
 use crate::sequence::{Sequence, Written, begin, finish_apart, give_up, goes_on};
 use crate::single::put_single;
 use crate::stack::{Walk, flush};
-use flow_rewrite::FlatCall;
 use std::alloc::AllocError;
 use wa_model::{Operand, Stmt};
 
@@ -218,6 +217,6 @@ fn write_if(
     let Some(second) = write_inside(numbers, at, else_arm, middle, false, None)? else {
         return Ok(false);
     };
-    put_if_apart(at, all, x, direct, first, second)?;
+    put_if_apart(at, all, Operand::Local(x), direct, first, second)?;
     Ok(true)
 }

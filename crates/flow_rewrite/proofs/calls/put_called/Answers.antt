@@ -1,6 +1,6 @@
 use Rattle.wa_types.specs.View.{code}
 use Rattle.guard_form.specs.Guarded.{raised}
-use Rattle.flow_rewrite.specs.CallsEmitting.{indices}
+use Rattle.flow_rewrite.specs.Emitting.{indices}
 use Rattle.flow_rewrite.specs.UnitView.{callee_of}
 use Rattle.flow_rewrite.proofs.PieceLemmas.{called_of}
 use Rattle.flow_rewrite.proofs.calls.put_called.Goals as goal

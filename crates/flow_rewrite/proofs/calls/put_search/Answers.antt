@@ -1,7 +1,6 @@
 use Rattle.wa_types.specs.View.{code}
-use Rattle.flow_rewrite.specs.CallsEmitting.{indices}
-use Rattle.flow_rewrite.proofs.UnitSteps.{test_of}
-use Rattle.flow_rewrite.proofs.PieceLemmas.{search_of}
+use Rattle.flow_rewrite.specs.Emitting.{indices}
+use Rattle.flow_rewrite.proofs.PieceLemmas.{search_of, test_of}
 use Rattle.flow_rewrite.proofs.calls.put_search.Goals as goal
 
 pub returns : goal.returns

@@ -7,8 +7,8 @@ use Rattle.guard_form.specs.Guarded.{choice, index_with}
 use Rattle.guard_form.specs.Pieces.{numbers_in}
 use Rattle.guard_form.proofs.UnitLemmas.{choice_is, choice_one, choice_two}
 use Rattle.flow_rewrite.proofs.PutLemmas.{one_const}
-use Rattle.flow_rewrite.specs.CallsEmitting.{indices}
-use Rattle.flow_rewrite.proofs.SequenceLemmas.{length_none, length_some}
+use Rattle.flow_rewrite.specs.Emitting.{indices}
+use Rattle.flow_rewrite.proofs.GuardLemmas.{length_none, length_some}
 use Rattle.flow_rewrite.specs.UnitView.{units_of}
 use Rattle.flow_rewrite.proofs.UnitLemmas.{units_empty, units_some}
 use Rattle.flow_rewrite.proofs.conditions.choose.Goals as goal

@@ -2,8 +2,9 @@ use Rattle.std.proofs.Common.{ap, sym, ◌∙◌, ◌≡◌}
 use Rattle.wa_types.specs.Syntax.{done}
 use Rattle.wa_types.specs.View.{onto, code}
 use Rattle.guard_form.specs.Guarded.{by_state}
-use Rattle.flow_rewrite.specs.CallsEmitting.{indices}
-use Rattle.flow_rewrite.proofs.SequenceLemmas.{length_none, length_some, guarded_none, guarded_some, code_none}
+use Rattle.flow_rewrite.specs.Emitting.{indices}
+use Rattle.wa_types.proofs.ViewLemmas.{code_none}
+use Rattle.flow_rewrite.proofs.GuardLemmas.{length_none, length_some, guarded_none, guarded_some}
 use Rattle.flow_rewrite.proofs.guards.put_guarded.Goals as goal
 
 pub returns-then-is_empty : goal.returns-then-is_empty

@@ -9,8 +9,8 @@ use Rattle.guard_form.specs.Pieces.{no_unit, call_unit, nest_unit, if_unit, numb
 use Rattle.guard_form.specs.Guarded.{arm, choice, front, raised}
 use Rattle.guard_form.proofs.UnitLemmas.{arm_is}
 use Rattle.flow_rewrite.specs.Raising.{Raisable}
-use Rattle.flow_rewrite.specs.CallsEmitting.{indices}
-use Rattle.flow_rewrite.proofs.SequenceLemmas.{length_none, length_some}
+use Rattle.flow_rewrite.specs.Emitting.{indices}
+use Rattle.flow_rewrite.proofs.GuardLemmas.{length_none, length_some}
 use Rattle.flow_rewrite.specs.UnitView.{callee_of, units_of}
 use Rattle.flow_rewrite.specs.Exits.{exit_of, LabelBelow}
 use Rattle.flow_rewrite.specs.Fronts.{piece_behind}

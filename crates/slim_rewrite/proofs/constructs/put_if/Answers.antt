@@ -1,5 +1,4 @@
 use Rattle.std.proofs.Common.{Some, None, refl, sym, subst, ◌∙◌}
-use Rattle.wa_model.specs.declared.flat.Operand.TheVariants.{Local}
 use Rattle.slim_rewrite.specs.declared.stack.Walk.{Walk}
 use Rattle.slim_rewrite.specs.declared.sequence.Head.TheVariants.{If}
 use Rattle.slim_rewrite.specs.Inside.{as_kept, as_unit}
@@ -17,7 +16,7 @@ returns-then-may_stay c =
 
 pub returns : goal.returns
 returns c =
-    let head = If (Some (Local c.args.x)) c.args.then_arm.pieces c.args.else_arm.pieces in
+    let head = If (Some c.args.cond) c.args.then_arm.pieces c.args.else_arm.pieces in
     on_ok c.open_unit-2.result _ _
     (λ opened. as_unit head c.set_condition.new.at.piece (held_if c.args.then_arm c.args.else_arm c.are_free-free.result c.if-free.false c.are_free-free.ensures)
     c.in_ok-set_condition.ensures.puts (λ k us. refl)

@@ -9,5 +9,5 @@ returns c =
     let p = c.args.all.now in
     let b = c.put_if.new.at in
     let q = c.put_if.new.all in
-    subst (λ (w : Written). OnOk c.put_if.result (Decided c.args.x c.args.direct a p b q c.args.then_arm.value w)) c.into_inner-2.ensures
-    (subst (λ (v : Written). OnOk c.put_if.result (Decided c.args.x c.args.direct a p b q v c.into_inner-2.result)) c.into_inner.ensures c.put_if.ensures)
+    subst (λ (w : Written). OnOk c.put_if.result (Decided c.args.cond c.args.direct a p b q c.args.then_arm.value w)) c.into_inner-2.ensures
+    (subst (λ (v : Written). OnOk c.put_if.result (Decided c.args.cond c.args.direct a p b q v c.into_inner-2.result)) c.into_inner.ensures c.put_if.ensures)
