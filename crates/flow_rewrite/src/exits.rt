@@ -26,6 +26,7 @@ pub(crate) fn whole_exit(exits: bool) -> ExitTo
 }
 
 /// The exit inside a block or an arm, with more units behind it or none.
+#[inline(never)]
 pub(crate) fn inside_block(exit: ExitTo, more: bool) -> ExitTo
     requires { LabelBelow (2 ^ 31) (exit_of exit) }
     ensures { exit_of result ≡ exit_inside (exit_of exit) a_block more }
@@ -49,6 +50,7 @@ pub(crate) fn inside_block(exit: ExitTo, more: bool) -> ExitTo
 }
 
 /// The exit inside a loop.
+#[inline(never)]
 pub(crate) fn inside_loop(exit: ExitTo, more: bool) -> ExitTo
     requires { LabelBelow (2 ^ 31) (exit_of exit) }
     ensures { exit_of result ≡ exit_inside (exit_of exit) a_loop more }
@@ -72,6 +74,7 @@ pub(crate) fn inside_loop(exit: ExitTo, more: bool) -> ExitTo
 }
 
 /// The exit at a call: with more units behind it, to the end of its own block.
+#[inline(never)]
 pub(crate) fn at_call(exit: ExitTo, more: bool) -> ExitTo
     ensures { exit_of result ≡ (if more then its_end else exit_of exit) }
 {
