@@ -24,3 +24,4 @@ pub mod Tables
 pub mod Tasks
 pub mod Thawings
 pub mod Ways
+pub mod WhatComes

@@ -49,24 +49,10 @@ module _ {F : Type 0} (w : Program) (h : Held) where
       comes_behind w h h1 ready (u1 - u0) l0 l1 (u2 - u1) (u2 - u0) m supply supply' l s waits stretch (omega arith) (omega arith) (omega arith) c
   behind_ok h1 ready l0 u0 l1 u1 u2 (Err d) supply supply' l s waits sum a b stretch c = tt
 
-  pub behind_sum : (h1 : Held) (ready : List Note) (left0 u left1 used1 : ℕ) (r : Result Moved F) (supply supply' : Supply) (l : Left) (s : Store) (waits : Waits) → left1 + u ≡ left0
-      → Stretch w.source w.plan h [] ready u h1 → IfOk r (λ m. ComesFrom w (stands ready h1) left1 used1 m supply supply' l s waits)
-      → IfOk r (λ m. Comes w h left0 (u + used1) m supply supply' l s waits)
-  behind_sum h1 ready left0 u left1 used1 (Ok m) supply supply' l s waits sum stretch c =
-      comes_behind w h h1 ready u left0 left1 used1 (u + used1) m supply supply' l s waits stretch (omega arith) (omega arith) refl c
-  behind_sum h1 ready left0 u left1 used1 (Err d) supply supply' l s waits sum stretch c = tt
-
 pub export_got : (w : Program) (work : Work) (s s' : Store) (func n : ℕ) (args args' : List Value) (left used : ℕ) (r r' : Exported) → func ≡ n → args ≡ args' → r ≡ r'
     → Exports w work s func args left used r s' → Exports w work s n args' left used r' s'
 export_got w work s s' func n args args' left used r r' e a i h =
     subst (λ z. Exports w work s n args' left used z s') i (subst (λ z. Exports w work s n z left used r s') a (subst (λ z. Exports w work s z args left used r s') e h))
-
--- the end behind the last entry
-pub done_ok : {F : Type 0} (w : Program) (l : Left) (s : Store) (left n : ℕ) (r : Result Moved F) (supply : Supply) (l' : Left) (waits : Waits) → l.entries ≡ [] → n ≡ 0
-    → IfOk r (λ m. m.event ≡ V.Ended E.Done) → IfOk r (λ m. m.stage ≡ S.Ended E.Done)
-    → IfOk r (λ m. ComesFrom w (free_place l s) left n m supply supply l' s waits)
-done_ok w l s left n (Ok m) supply l' waits none z e st = subst (λ k. ComesFrom w (free_place l s) left k m supply supply l' s waits) (sym z) (done_comes w l s left m supply l' waits none e st)
-done_ok w l s left n (Err d) supply l' waits none z e st = tt
 
 -- who asks for a task that waits
 pub task_asking : (task : TV.Task) (t : Task) (at : Configuration) (s : Store) (waits : Waits) → IsTask task t → at.store ≡ s → waits ≡ I.inside at.here at.under → IsAsking task waits s (inside t at)

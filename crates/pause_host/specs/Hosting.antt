@@ -14,6 +14,8 @@ use Rattle.interp.specs.Instance.{Waits, inside}
 use Rattle.interp.specs.declared.turns.Turn.{Turn}
 use Rattle.interp.specs.declared.turns.Turn.TheVariants.{Returned, Trapped, Waiting, StepsSpent}
 use Rattle.host_laws.specs.Places.{Place}
+use Rattle.pause_host.specs.declared.stages.Next.{Next}
+use Rattle.pause_host.specs.declared.stages.Next.TheVariants as N
 use Rattle.pause_host.specs.declared.stages.Setting.{Setting}
 use Rattle.pause_host.specs.Holding.{HeldHolds, HoldsArea, PlaceHolds}
 use Rattle.pause_host.specs.Views.{free_place}
@@ -86,3 +88,8 @@ StartRan x code l (Returned value) s = HostsAt x code (λ w. free_place l s)
 StartRan x code l (Trapped trap) s = Unit {0}
 StartRan x code l (Waiting call) s = call.import < length x.imports.items
 StartRan x code l StepsSpent s = Unit {0}
+
+-- a call that comes is of one of the imports, over a memory with the area
+abbrev pub MayAsk : Setting → Store → Next → Type 0
+MayAsk x s (N.Told m) = Unit {0}
+MayAsk x s (N.Calls task call) = (call.import < length x.imports.items) × HoldsArea x.area s

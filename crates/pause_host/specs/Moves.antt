@@ -7,7 +7,9 @@ use Rattle.wa_types.specs.Modules.{all_memories, defined_at, func_imports, func_
 use Rattle.wa_types.specs.Validity.{Valid}
 use Rattle.wa_model.specs.declared.events.End.{End}
 use Rattle.wa_model.specs.declared.events.End.TheVariants as E
+use Rattle.wa_model.specs.declared.events.Call.{Call}
 use Rattle.wa_model.specs.declared.events.Event.{Event as EventValue}
+use Rattle.wa_model.specs.declared.events.Event.TheVariants as EventV
 use Rattle.wa_model.specs.Outside.{AnswerLine, ended}
 use Rattle.wa_model.specs.View.{event_of}
 use Rattle.wa_model.specs.Machine.{goes, Leads}
@@ -35,7 +37,10 @@ use Rattle.pause_host.specs.declared.exports.Work.{Work}
 use Rattle.pause_host.specs.declared.exports.Work.TheVariants.{Unwinding, Rewinding}
 use Rattle.pause_host.specs.declared.stages.HostImport.{HostImport}
 use Rattle.pause_host.specs.declared.stages.Moved.{Moved}
+use Rattle.pause_host.specs.declared.stages.Next.{Next}
+use Rattle.pause_host.specs.declared.stages.Next.TheVariants as N
 use Rattle.pause_host.specs.declared.stages.Setting.{Setting}
+use Rattle.pause_host.specs.declared.stages.Stage.TheVariants as StageV
 use Rattle.pause_host.specs.declared.stages.Task.{Task}
 use Rattle.pause_host.specs.declared.stages.Task.TheVariants as T
 use Rattle.pause_host.specs.Views.{exports_in, entry_of, is_pause, is_paused, place_in}
@@ -143,3 +148,29 @@ pub data TaskTurn (w : Program) (h : Held) (l : B.Left) (t : B.Task) (left used 
   runs_on : (c : Configuration) (u more : ℕ) → Stretch w.source w.plan h [] [] u (busy (is_running t) c l) → u ≤ left → used ≡ u + more → I.Turns w.source c (left - u) more turn s waits
       → TaskTurn w h l t left used turn s waits
   too_dear : turn ≡ StepsSpent → EndsAt w h left used (E.StepsSpent w.steps) s → TaskTurn w h l t left used turn s waits
+
+-- ---- what comes of a stage
+
+-- A new call comes for this task: from where the machine stands, by steps that are there, an import is called whose outcome is asked for.
+pub record CallComes (w : Program) (from : Place) (left used : ℕ) (task : Task) (call : Call) (l : B.Left) (s : Store) (waits : Waits) : Type 0 where
+  pub held : Held
+  pub from_is : from ≡ stands [] held
+  pub who : Asker
+  pub asks : Asks w held used call.import call.args.items who l
+  pub within : used ≤ left
+  pub asking : IsAsking task waits s who
+
+-- An event comes, which takes nothing of what answers calls; or a new call does.
+abbrev pub NextFrom : Program → Place → (left used : ℕ) → Next → B.Left → Store → Waits → Type 0
+NextFrom w from left used (N.Told m) l s waits = (supply : Supply) → ComesFrom w from left used m supply supply l s waits
+NextFrom w from left used (N.Calls task call) l s waits = CallComes w from left used task call l s waits
+
+-- Where it is an event, the program is then paused exactly where that is a pause.
+abbrev pub NextPauses : Next → Type 0
+NextPauses (N.Told m) = PausesSo m
+NextPauses (N.Calls task call) = Unit {0}
+
+-- this end comes, and was told then
+abbrev pub TellsEnd : End → Next → Type 0
+TellsEnd how (N.Told m) = (m.event ≡ EventV.Ended how) × (m.stage ≡ StageV.Ended how)
+TellsEnd how (N.Calls task call) = ⊥

@@ -1,9 +1,12 @@
 //! The end of a program, told as an event.
 
 ghost use Rattle.std.specs.Prelude.{◌≡◌, IfOk};
-ghost use Rattle.pause_host.specs.Moves.{PausesSo};
+ghost use Rattle.wa_model.specs.Store.{Store};
+ghost use Rattle.pause_host.specs.declared.stages.Setting.{Setting};
+ghost use Rattle.pause_host.specs.Hosting.{MayAsk};
+ghost use Rattle.pause_host.specs.Moves.{NextPauses, PausesSo, TellsEnd};
 
-use crate::stages::{Moved, Stage};
+use crate::stages::{Moved, Next, Stage};
 use std::alloc::{AllocError, Global};
 use wa_model::{End, Event};
 use wa_types::Name;
@@ -19,6 +22,16 @@ pub fn ended(alloc: Global, end: End) -> Result<Moved, AllocError>
         event: Event::Ended(told),
         stage: Stage::Ended(end),
     })
+}
+
+/// The end is what comes next.
+pub fn ends(alloc: Global, end: End) -> Result<Next, AllocError>
+    ensures end { IfOk result (TellsEnd end) }
+    ensures pauses { IfOk result NextPauses }
+    ensures asks { (x : Setting) (s : Store) → IfOk result (MayAsk x s) }
+{
+    let moved = ended(alloc, end)?;
+    Ok(Next::Told(moved))
 }
 
 /// The same end.

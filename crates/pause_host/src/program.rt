@@ -9,7 +9,7 @@ use crate::ends::copy_end;
 use crate::entries::entry_calls;
 use crate::events::next_event;
 use crate::plan::Plan;
-use crate::running::start;
+use crate::running::{start, told};
 use crate::setting::setting_of;
 use crate::stages::{Left, Setting, Stage};
 use device_port::Devices;
@@ -254,14 +254,15 @@ impl<'m> Program<'m> {
         ensures same_list { devices.new.list.ghost_name ≡ devices.old.list.ghost_name }
     {
         let mut steps = unused(self.steps_left);
-        let moved = next_event(
+        let next = next_event(
             &self.setting,
             &mut instance,
             &mut self.left,
-            devices,
             &mut steps,
             stage,
         )?;
+        let answers = &mut self.left.answers;
+        let moved = told(&self.setting, &instance, answers, devices, next)?;
         self.steps_left = steps.left;
         let stage = moved.stage;
         self.put_state(State::Live { instance, stage });
@@ -284,14 +285,15 @@ impl<'m> Program<'m> {
         ensures same_list { devices.new.list.ghost_name ≡ devices.old.list.ghost_name }
     {
         let mut steps = unused(self.steps_left);
-        let moved = start(
+        let next = start(
             &self.setting,
             &mut instance,
             &mut self.left,
-            devices,
             &mut steps,
             func,
         )?;
+        let answers = &mut self.left.answers;
+        let moved = told(&self.setting, &instance, answers, devices, next)?;
         self.steps_left = steps.left;
         let stage = moved.stage;
         self.put_state(State::Live { instance, stage });

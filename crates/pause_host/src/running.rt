@@ -10,21 +10,21 @@ ghost use Rattle.wa_model.specs.Protocol.{Held, exports_of, starting};
 ghost use Rattle.world_model.specs.World.{Program};
 ghost use Rattle.run_laws.specs.FittingStates.{HeldFits};
 ghost use Rattle.interp.specs.Host.{code_in, store_in, waits_in};
-ghost use Rattle.interp.specs.Instance.{Calls};
+ghost use Rattle.interp.specs.Instance.{Calls, Waits};
 ghost use Rattle.device_port.specs.Listed.{of_all};
 ghost use Rattle.host_laws.specs.Answering.{IsShort, listed_of};
-ghost use Rattle.host_laws.specs.Places.{stands};
+ghost use Rattle.host_laws.specs.Places.{Place, stands};
 ghost use Rattle.host_laws.specs.Supplies.{RisesAtMostOne, Supply};
 ghost use Rattle.pause_host.specs.Holding.{HoldsArea, PokesInside};
-ghost use Rattle.pause_host.specs.Hosting.{AsksOnly, CallsOne, HasMemory, HostsAt, StartRan, StopsFirst};
-ghost use Rattle.pause_host.specs.Moves.{Asks, Comes, ComesFrom, HasShortPokes, IsAsking, IsSetting, IsTask, PausesSo, PlaceFits, TaskTurn};
+ghost use Rattle.pause_host.specs.Hosting.{AsksOnly, CallsOne, HasMemory, HostsAt, MayAsk, StartRan, StopsFirst};
+ghost use Rattle.pause_host.specs.Moves.{Asks, Comes, ComesFrom, HasShortPokes, IsAsking, IsSetting, IsTask, NextFrom, NextPauses, PausesSo, PlaceFits, TaskTurn};
 ghost use Rattle.pause_host.specs.Views.{entry_of, free_place, is_paused, left_of, lines_in, place_in, stage_after, starts, supply_in};
 
 use crate::asking::next_outcome;
-use crate::ends::ended;
+use crate::ends::ends;
 use crate::memory::write_pokes;
 use crate::stages::{
-    EntryCall, Given, HostImport, Left, Moved, Pause, Setting, Stage, Task, stage_told,
+    EntryCall, Given, HostImport, Left, Moved, Next, Pause, Setting, Stage, Task, stage_told,
 };
 use device_port::Devices;
 use host_laws::{AnsweredCall, Met, answer_fault};
@@ -39,64 +39,44 @@ pub fn start(
     setting: &Setting,
     instance: &mut Instance<'_>,
     left: &mut Left,
-    devices: &mut Devices<'_>,
     steps: &mut Steps,
     func: u32,
-) -> Result<Moved, AllocError>
+) -> Result<Next, AllocError>
     requires few { steps.old.left + steps.old.used < 2 ^ 64 }
     requires there { HostsAt setting.now (code_in instance.old) (λ w. stands [] (starting func (store_in instance.old) (left_of left.old))) }
-    ensures comes { (w : Program) → IsSetting w setting.now → code_in instance.old ≡ w.source → All HasShortPokes (lines_in left.old.answers.items)
-        → HeldFits w.source (starting func (store_in instance.old) (left_of left.old))
-        → IfOk result (λ m. Comes w (starting func (store_in instance.old) (left_of left.old)) steps.old.left (steps.new.used - steps.old.used) m
-        (supply_in seen faults left.old.answers.items devices.old) (supply_in seen faults left.new.answers.items devices.new) (left_of left.new) (store_in instance.new) (waits_in instance.new)) }
-    ensures pauses { IfOk result PausesSo }
+    ensures comes { (w : Program) → IsSetting w setting.now → code_in instance.old ≡ w.source → HeldFits w.source (starting func (store_in instance.old) (left_of left.old))
+        → IfOk result (λ n. NextFrom w (stands [] (starting func (store_in instance.old) (left_of left.old))) steps.old.left (steps.new.used - steps.old.used) n (left_of left.new)
+        (store_in instance.new) (waits_in instance.new)) }
+    ensures asks { IfOk result (MayAsk setting.now (store_in instance.new)) }
+    ensures pauses { IfOk result NextPauses }
+    ensures answers { left.new.answers ≡ left.old.answers }
     ensures code { code_in instance.new ≡ code_in instance.old }
     ensures sum { steps.new.left + steps.new.used ≡ steps.old.left + steps.old.used }
     ensures grows { steps.old.used ≤ steps.new.used }
-    ensures kept { IsErr result → of_all seen devices.new ≡ of_all seen devices.old }
-    ensures once { IsErr result → RisesAtMostOne (of_all faults devices.old) (of_all faults devices.new) }
-    ensures same_list { devices.new.list.ghost_name ≡ devices.old.list.ghost_name }
 {
     let turn = instance.begin(func, &[], steps)?;
     if (func as usize) < setting.imports.len() {
-        return start_asked(setting, instance, &mut left.answers, devices, turn);
+        return start_asked(setting, turn);
     }
-    start_ran(setting, instance, left, devices, steps, turn)
+    start_ran(setting, instance, left, steps, turn)
 }
 
 // The start function is an import.
-fn start_asked(
-    setting: &Setting,
-    instance: &Instance<'_>,
-    answers: &mut VecDeque<AnswerLine>,
-    devices: &mut Devices<'_>,
-    turn: Turn,
-) -> Result<Moved, AllocError>
+fn start_asked(setting: &Setting, turn: Turn) -> Result<Next, AllocError>
     requires turn { AsksOnly (length setting.now.imports.items) turn }
-    requires memory { HasMemory (code_in instance.now) }
-    requires area { HoldsArea setting.now.area (store_in instance.now) }
-    ensures comes { (w : Program) → IsSetting w setting.now → code_in instance.now ≡ w.source → All HasShortPokes (lines_in answers.old.items)
-        → (s : Store) (func : ℕ) (l : PlainLeft) (left_then used : ℕ) → func < func_imports w.source
-        → Calls w.source s func [] left_then used turn (store_in instance.now) (waits_in instance.now)
-        → IfOk result (λ m. Comes w (starting func s l) left_then used m (supply_in seen faults answers.old.items devices.old) (supply_in seen faults answers.new.items devices.new) l
-        (store_in instance.now) (waits_in instance.now)) }
-    ensures pauses { IfOk result PausesSo }
-    ensures kept { IsErr result → of_all seen devices.new ≡ of_all seen devices.old }
-    ensures once { IsErr result → RisesAtMostOne (of_all faults devices.old) (of_all faults devices.new) }
-    ensures same_list { devices.new.list.ghost_name ≡ devices.old.list.ghost_name }
+    ensures comes { (w : Program) → IsSetting w setting.now → (s s' : Store) (waits : Waits) (func : ℕ) (l : PlainLeft) (left_then used : ℕ) → func < func_imports w.source
+        → Calls w.source s func [] left_then used turn s' waits → IfOk result (λ n. NextFrom w (stands [] (starting func s l)) left_then used n l s' waits) }
+    ensures asks { (s : Store) → HoldsArea setting.now.area s → IfOk result (MayAsk setting.now s) }
+    ensures pauses { IfOk result NextPauses }
 {
     match turn {
         Turn::Returned(_) => unreachable!(),
         Turn::Trapped(_) => unreachable!(),
-        Turn::Waiting(call) => return called(
-            setting,
-            instance,
-            answers,
-            devices,
-            Task::Outermost,
-            call,
-        ),
-        Turn::StepsSpent => return ended(setting.alloc, End::StepsSpent(setting.steps)),
+        Turn::Waiting(call) => {
+            let task = Task::Outermost;
+            return Ok(Next::Calls { task, call });
+        }
+        Turn::StepsSpent => return ends(setting.alloc, End::StepsSpent(setting.steps)),
     }
 }
 
@@ -105,36 +85,25 @@ fn start_ran(
     setting: &Setting,
     instance: &mut Instance<'_>,
     left: &mut Left,
-    devices: &mut Devices<'_>,
     steps: &mut Steps,
     turn: Turn,
-) -> Result<Moved, AllocError>
+) -> Result<Next, AllocError>
     requires few { steps.old.left + steps.old.used < 2 ^ 64 }
-    requires memory { HasMemory (code_in instance.old) }
     requires area { HoldsArea setting.now.area (store_in instance.old) }
     requires turn { StartRan setting.now (code_in instance.old) (left_of left.old) turn (store_in instance.old) }
-    ensures comes { (w : Program) → IsSetting w setting.now → code_in instance.old ≡ w.source → All HasShortPokes (lines_in left.old.answers.items) → (h : Held) (left_then used : ℕ)
+    ensures comes { (w : Program) → IsSetting w setting.now → code_in instance.old ≡ w.source → (h : Held) (left_then used : ℕ)
         → TaskTurn w h (left_of left.old) the_start left_then used turn (store_in instance.old) (waits_in instance.old) → steps.old.left + used ≡ left_then → HeldFits w.source h
-        → IfOk result (λ m. Comes w h left_then (used + (steps.new.used - steps.old.used)) m (supply_in seen faults left.old.answers.items devices.old)
-        (supply_in seen faults left.new.answers.items devices.new) (left_of left.new) (store_in instance.new) (waits_in instance.new)) }
-    ensures pauses { IfOk result PausesSo }
+        → IfOk result (λ n. NextFrom w (stands [] h) left_then (used + (steps.new.used - steps.old.used)) n (left_of left.new) (store_in instance.new) (waits_in instance.new)) }
+    ensures asks { IfOk result (MayAsk setting.now (store_in instance.new)) }
+    ensures pauses { IfOk result NextPauses }
+    ensures answers { left.new.answers ≡ left.old.answers }
     ensures code { code_in instance.new ≡ code_in instance.old }
     ensures sum { steps.new.left + steps.new.used ≡ steps.old.left + steps.old.used }
     ensures grows { steps.old.used ≤ steps.new.used }
-    ensures kept { IsErr result → of_all seen devices.new ≡ of_all seen devices.old }
-    ensures once { IsErr result → RisesAtMostOne (of_all faults devices.old) (of_all faults devices.new) }
-    ensures same_list { devices.new.list.ghost_name ≡ devices.old.list.ghost_name }
 {
     match turn {
-        Turn::Returned(_) => call_next(setting, instance, left, devices, steps),
-        other => stopped(
-            setting,
-            instance,
-            &mut left.answers,
-            devices,
-            Task::Start,
-            other,
-        ),
+        Turn::Returned(_) => call_next(setting, instance, left, steps),
+        other => stopped(setting, Task::Start, other),
     }
 }
 
@@ -143,28 +112,25 @@ pub(crate) fn call_next(
     setting: &Setting,
     instance: &mut Instance<'_>,
     left: &mut Left,
-    devices: &mut Devices<'_>,
     steps: &mut Steps,
-) -> Result<Moved, AllocError>
+) -> Result<Next, AllocError>
     requires few { steps.old.left + steps.old.used < 2 ^ 64 }
     requires there { HostsAt setting.now (code_in instance.old) (λ w. free_place (left_of left.old) (store_in instance.old)) }
-    ensures comes { (w : Program) → IsSetting w setting.now → code_in instance.old ≡ w.source → All HasShortPokes (lines_in left.old.answers.items)
-        → PlaceFits w (free_place (left_of left.old) (store_in instance.old)) → IfOk result
-        (λ m. ComesFrom w (free_place (left_of left.old) (store_in instance.old)) steps.old.left (steps.new.used - steps.old.used) m (supply_in seen faults left.old.answers.items devices.old)
-        (supply_in seen faults left.new.answers.items devices.new) (left_of left.new) (store_in instance.new) (waits_in instance.new)) }
-    ensures pauses { IfOk result PausesSo }
+    ensures comes { (w : Program) → IsSetting w setting.now → code_in instance.old ≡ w.source → PlaceFits w (free_place (left_of left.old) (store_in instance.old))
+        → IfOk result (λ n. NextFrom w (free_place (left_of left.old) (store_in instance.old)) steps.old.left (steps.new.used - steps.old.used) n (left_of left.new)
+        (store_in instance.new) (waits_in instance.new)) }
+    ensures asks { IfOk result (MayAsk setting.now (store_in instance.new)) }
+    ensures pauses { IfOk result NextPauses }
+    ensures answers { left.new.answers ≡ left.old.answers }
     ensures code { code_in instance.new ≡ code_in instance.old }
     ensures sum { steps.new.left + steps.new.used ≡ steps.old.left + steps.old.used }
     ensures grows { steps.old.used ≤ steps.new.used }
-    ensures kept { IsErr result → of_all seen devices.new ≡ of_all seen devices.old }
-    ensures once { IsErr result → RisesAtMostOne (of_all faults devices.old) (of_all faults devices.new) }
-    ensures same_list { devices.new.list.ghost_name ≡ devices.old.list.ghost_name }
 {
     match left.entries.pop_front() {
-        None => ended(setting.alloc, End::Done),
+        None => ends(setting.alloc, End::Done),
         Some(entry) => {
             let turn = instance.begin(entry.func, &entry.args, steps)?;
-            entry_ran(setting, instance, left, devices, entry, turn)
+            entry_ran(setting, left, entry, turn)
         }
     }
 }
@@ -172,35 +138,21 @@ pub(crate) fn call_next(
 // An entry ran.
 fn entry_ran(
     setting: &Setting,
-    instance: &Instance<'_>,
     left: &mut Left,
-    devices: &mut Devices<'_>,
     entry: EntryCall,
     turn: Turn,
-) -> Result<Moved, AllocError>
-    requires memory { HasMemory (code_in instance.now) }
-    requires area { HoldsArea setting.now.area (store_in instance.now) }
+) -> Result<Next, AllocError>
     requires number { left.old.number + 1 < 2 ^ 32 }
     requires turn { CallsOne (length setting.now.imports.items) turn }
-    ensures comes { (w : Program) → IsSetting w setting.now → code_in instance.now ≡ w.source → All HasShortPokes (lines_in left.old.answers.items) → (h : Held) (left_then used : ℕ)
-        → TaskTurn w h (left_of left.old) (an_entry (entry_of entry)) left_then used turn (store_in instance.now) (waits_in instance.now)
-        → IfOk result (λ m. Comes w h left_then used m (supply_in seen faults left.old.answers.items devices.old) (supply_in seen faults left.new.answers.items devices.new) (left_of left.new)
-        (store_in instance.now) (waits_in instance.now)) }
-    ensures pauses { IfOk result PausesSo }
-    ensures kept { IsErr result → of_all seen devices.new ≡ of_all seen devices.old }
-    ensures once { IsErr result → RisesAtMostOne (of_all faults devices.old) (of_all faults devices.new) }
-    ensures same_list { devices.new.list.ghost_name ≡ devices.old.list.ghost_name }
+    ensures comes { (w : Program) → IsSetting w setting.now → (h : Held) (left_then used : ℕ) (s : Store) (waits : Waits)
+        → TaskTurn w h (left_of left.old) (an_entry (entry_of entry)) left_then used turn s waits → IfOk result (λ n. NextFrom w (stands [] h) left_then used n (left_of left.new) s waits) }
+    ensures asks { (s : Store) → HoldsArea setting.now.area s → IfOk result (MayAsk setting.now s) }
+    ensures pauses { IfOk result NextPauses }
+    ensures answers { left.new.answers ≡ left.old.answers }
 {
     match turn {
-        Turn::Returned(value) => Ok(returned(left, value)),
-        other => stopped(
-            setting,
-            instance,
-            &mut left.answers,
-            devices,
-            Task::Entry(entry),
-            other,
-        ),
+        Turn::Returned(value) => Ok(Next::Told(returned(left, value))),
+        other => stopped(setting, Task::Entry(entry), other),
     }
 }
 
@@ -221,31 +173,44 @@ fn returned(left: &mut Left, value: Option<Value>) -> Moved
 }
 
 // What runs for a task stopped before it returned.
-fn stopped(
+fn stopped(setting: &Setting, task: Task, turn: Turn) -> Result<Next, AllocError>
+    requires turn { StopsFirst (length setting.now.imports.items) turn }
+    ensures comes { (w : Program) → IsSetting w setting.now → (t : PlainTask) (h : Held) (l : PlainLeft) (left_then used : ℕ) (s : Store) (waits : Waits) → IsTask task t
+        → TaskTurn w h l t left_then used turn s waits → IfOk result (λ n. NextFrom w (stands [] h) left_then used n l s waits) }
+    ensures asks { (s : Store) → HoldsArea setting.now.area s → IfOk result (MayAsk setting.now s) }
+    ensures pauses { IfOk result NextPauses }
+{
+    match turn {
+        Turn::Returned(_) => unreachable!(),
+        Turn::Trapped(trap) => return ends(setting.alloc, End::Trapped(trap)),
+        Turn::Waiting(call) => return Ok(Next::Calls { task, call }),
+        Turn::StepsSpent => return ends(setting.alloc, End::StepsSpent(setting.steps)),
+    }
+}
+
+/// What is told: the event that comes, or the new call that does, with the outcome that it meets.
+pub(crate) fn told(
     setting: &Setting,
     instance: &Instance<'_>,
     answers: &mut VecDeque<AnswerLine>,
     devices: &mut Devices<'_>,
-    task: Task,
-    turn: Turn,
+    next: Next,
 ) -> Result<Moved, AllocError>
     requires memory { HasMemory (code_in instance.now) }
-    requires area { HoldsArea setting.now.area (store_in instance.now) }
-    requires turn { StopsFirst (length setting.now.imports.items) turn }
+    requires asks { MayAsk setting.now (store_in instance.now) next }
+    requires paused { NextPauses next }
     ensures comes { (w : Program) → IsSetting w setting.now → code_in instance.now ≡ w.source → All HasShortPokes (lines_in answers.old.items)
-        → (t : PlainTask) (h : Held) (l : PlainLeft) (left_then used : ℕ) → IsTask task t → TaskTurn w h l t left_then used turn (store_in instance.now) (waits_in instance.now)
-        → IfOk result (λ m. Comes w h left_then used m (supply_in seen faults answers.old.items devices.old) (supply_in seen faults answers.new.items devices.new) l (store_in instance.now)
-        (waits_in instance.now)) }
+        → (from : Place) (l : PlainLeft) (left_then used : ℕ) → NextFrom w from left_then used next l (store_in instance.now) (waits_in instance.now)
+        → IfOk result (λ m. ComesFrom w from left_then used m (supply_in seen faults answers.old.items devices.old) (supply_in seen faults answers.new.items devices.new) l
+        (store_in instance.now) (waits_in instance.now)) }
     ensures pauses { IfOk result PausesSo }
     ensures kept { IsErr result → of_all seen devices.new ≡ of_all seen devices.old }
     ensures once { IsErr result → RisesAtMostOne (of_all faults devices.old) (of_all faults devices.new) }
     ensures same_list { devices.new.list.ghost_name ≡ devices.old.list.ghost_name }
 {
-    match turn {
-        Turn::Returned(_) => unreachable!(),
-        Turn::Trapped(trap) => return ended(setting.alloc, End::Trapped(trap)),
-        Turn::Waiting(call) => return called(setting, instance, answers, devices, task, call),
-        Turn::StepsSpent => return ended(setting.alloc, End::StepsSpent(setting.steps)),
+    match next {
+        Next::Told(moved) => Ok(moved),
+        Next::Calls { task, call } => called(setting, instance, answers, devices, task, call),
     }
 }
 
@@ -375,30 +340,27 @@ pub(crate) fn give(
     setting: &Setting,
     instance: &mut Instance<'_>,
     left: &mut Left,
-    devices: &mut Devices<'_>,
     steps: &mut Steps,
     given: Given,
-) -> Result<Moved, AllocError>
+) -> Result<Next, AllocError>
     requires few { steps.old.left + steps.old.used < 2 ^ 64 }
     requires there { HostsAt setting.now (code_in instance.old) (λ w. place_in (exports_of w.source) w.plan.area (left_of left.old) (store_in instance.old) (waits_in instance.old) (Stage.Giving given.task given.value)) }
-    ensures comes { (w : Program) → IsSetting w setting.now → code_in instance.old ≡ w.source → All HasShortPokes (lines_in left.old.answers.items)
+    ensures comes { (w : Program) → IsSetting w setting.now → code_in instance.old ≡ w.source
         → PlaceFits w (place_in (exports_of w.source) w.plan.area (left_of left.old) (store_in instance.old) (waits_in instance.old) (Stage.Giving given.task given.value))
-        → IfOk result (λ m. ComesFrom w (place_in (exports_of w.source) w.plan.area (left_of left.old) (store_in instance.old) (waits_in instance.old) (Stage.Giving given.task given.value))
-        steps.old.left (steps.new.used - steps.old.used) m (supply_in seen faults left.old.answers.items devices.old) (supply_in seen faults left.new.answers.items devices.new) (left_of left.new)
-        (store_in instance.new) (waits_in instance.new)) }
-    ensures pauses { IfOk result PausesSo }
+        → IfOk result (λ n. NextFrom w (place_in (exports_of w.source) w.plan.area (left_of left.old) (store_in instance.old) (waits_in instance.old) (Stage.Giving given.task given.value))
+        steps.old.left (steps.new.used - steps.old.used) n (left_of left.new) (store_in instance.new) (waits_in instance.new)) }
+    ensures asks { IfOk result (MayAsk setting.now (store_in instance.new)) }
+    ensures pauses { IfOk result NextPauses }
+    ensures answers { left.new.answers ≡ left.old.answers }
     ensures code { code_in instance.new ≡ code_in instance.old }
     ensures sum { steps.new.left + steps.new.used ≡ steps.old.left + steps.old.used }
     ensures grows { steps.old.used ≤ steps.new.used }
-    ensures kept { IsErr result → of_all seen devices.new ≡ of_all seen devices.old }
-    ensures once { IsErr result → RisesAtMostOne (of_all faults devices.old) (of_all faults devices.new) }
-    ensures same_list { devices.new.list.ghost_name ≡ devices.old.list.ghost_name }
 {
     let Given { task, value } = given;
     let turn = instance.resume(value, steps)?;
     match task {
-        Task::Entry(entry) => entry_ran(setting, instance, left, devices, entry, turn),
-        Task::Start => start_ran(setting, instance, left, devices, steps, turn),
+        Task::Entry(entry) => entry_ran(setting, left, entry, turn),
+        Task::Start => start_ran(setting, instance, left, steps, turn),
         Task::Outermost => unreachable!(),
     }
 }

@@ -5,7 +5,7 @@ ghost use Rattle.pause_host.specs.Views.{is_paused, stage_told};
 
 use std::alloc::Global;
 use std::collections::VecDeque;
-use wa_model::{Answer, AnswerLine, Area, End, Event, Said};
+use wa_model::{Answer, AnswerLine, Area, Call, End, Event, Said};
 use wa_types::{Name, Trap, ValType, Value};
 
 /// The functions of the five exports through which a host unwinds and rewinds a stack.
@@ -102,6 +102,13 @@ pub enum Stage {
 pub struct Moved {
     pub event: Event,
     pub stage: Stage,
+}
+
+/// What comes of a stage: an event, or a new call of an import for a task, whose outcome is asked for next.
+#[derive(Drop)]
+pub enum Next {
+    Told(Moved),
+    Calls { task: Task, call: Call },
 }
 
 /// Where a program stands behind an answer that was told: a trap ends it, and an import that is the start function waits for

@@ -3,29 +3,27 @@ use Rattle.wa_types.specs.Modules.{func_sorts, func_type_at}
 use Rattle.run_theory.specs.Fitting.{types_of, results_of, StoreFits}
 use Rattle.interp.specs.Host.{code_in, store_in, waits_in}
 use Rattle.interp.specs.Instance.{Calls}
-use Rattle.pause_host.specs.Views.{entry_of, left_of, supply_in}
-use Rattle.pause_host.specs.Moves.{ComesFrom}
+use Rattle.pause_host.specs.Views.{entry_of, left_of}
+use Rattle.pause_host.specs.Moves.{NextFrom}
 use Rattle.pause_host.proofs.Callings.{area_told}
 use Rattle.pause_host.proofs.Holding.{area_longer, free_holds}
 use Rattle.pause_host.proofs.MemoryGrows.{calls_longer}
-use Rattle.pause_host.proofs.Hosting.{calls_one, defined_below, memory_kept, memory_there}
-use Rattle.pause_host.proofs.Results.{done_ok, free_is, free_fits, none_left}
+use Rattle.pause_host.proofs.Hosting.{calls_one, defined_below}
+use Rattle.pause_host.proofs.Results.{free_is, free_fits, none_left}
 use Rattle.pause_host.proofs.Tasks.{entry_turn}
+use Rattle.pause_host.proofs.WhatComes.{done_next}
 use Rattle.wa_model.specs.Protocol.{free}
 use Rattle.pause_host.proofs.running.call_next.Goals as goal
 
 pub returns-in-None-clause-comes : goal.returns-in-None-clause-comes
-returns-in-None-clause-comes g c = λ w is code pokes f.
-    let old = supply_in (λ z. (goal.Device-dyn g z).seen z.1) (λ z. (goal.Device-dyn g z).faults z.1) c.args.left.now.answers.items c.args.devices.now in
-    done_ok w (left_of c.args.left.now) (store_in c.args.instance.now) c.args.steps.now.left _ c.ended.result old _ (waits_in c.args.instance.now)
+returns-in-None-clause-comes c = λ w is code f.
+    done_next w (left_of c.args.left.now) (store_in c.args.instance.now) c.args.steps.now.left _ c.ends.result _ (waits_in c.args.instance.now)
     (none_left c.args.left.now.entries.items
     (let e : length c.args.left.now.entries.items ≡ length (drop 1 c.args.left.now.entries.items) = ap length (c.in-None.ensures.items ∙ c.in-None.ensures.rest) in
-    omega (arith, e, length-drop 1 c.args.left.now.entries.items))) (omega arith) c.ended.ensures.event c.ended.ensures.stage
+    omega (arith, e, length-drop 1 c.args.left.now.entries.items))) (omega arith) c.ends.ensures.end
 
 pub returns-in_ok-turn-in-Some-clause-comes : goal.returns-in_ok-turn-in-Some-clause-comes
-returns-in_ok-turn-in-Some-clause-comes g c = λ w is code pokes f.
-    let old = supply_in (λ z. (goal.Device-dyn g z).seen z.1) (λ z. (goal.Device-dyn g z).faults z.1) c.args.left.now.answers.items c.args.devices.now in
-    let new = supply_in (λ z. (goal.Device-dyn g z).seen z.1) (λ z. (goal.Device-dyn g z).faults z.1) c.entry_ran.new.left.answers.items c.entry_ran.new.devices in
+returns-in_ok-turn-in-Some-clause-comes c = λ w is code f.
     let s = store_in c.args.instance.now in
     let s' = store_in c.begin.new.self in
     let w' = waits_in c.begin.new.self in
@@ -42,16 +40,11 @@ returns-in_ok-turn-in-Some-clause-comes g c = λ w is code pokes f.
     let calls = subst (λ z. Calls z s e.func e.args left used c.in_ok-turn-in-Some.turn s' w') code
     (subst (λ vs. Calls m s e.func vs left used c.in_ok-turn-in-Some.turn s' w') c.deref.ensures.value told) in
     let ran = entry_turn w l (record { number = l.number; entries = rest; outcomes = [] }) e rest fits.1.0.0 s left used c.in_ok-turn-in-Some.turn s' w' entries refl refl fits.1.0.1 calls in
-    subst (λ z. IfOk c.entry_ran.result (λ m. ComesFrom w z left used m old new (left_of c.entry_ran.new.left) s' w')) (sym (free_is s l e rest entries))
-    (c.entry_ran.ensures.comes w is (c.begin.ensures.code ∙ code) pokes (free s l) left used ran)
-
-pub entry_ran-requires-clause-memory : goal.entry_ran-requires-clause-memory
-entry_ran-requires-clause-memory g c =
-    let there = c.requires.there in
-    memory_kept (code_in c.args.instance.now) (code_in c.begin.new.self) c.begin.ensures.code (memory_there there.program c.args.setting.now (code_in c.args.instance.now) there.setting there.code_is)
+    subst (λ z. IfOk c.entry_ran.result (λ n. NextFrom w z left used n (left_of c.entry_ran.new.left) s' w')) (sym (free_is s l e rest entries))
+    (c.entry_ran.ensures.comes w is (free s l) left used s' w' ran)
 
 pub entry_ran-requires-clause-turn : goal.entry_ran-requires-clause-turn
-entry_ran-requires-clause-turn g c =
+entry_ran-requires-clause-turn c =
     let there = c.requires.there in
     let w = there.program in
     let code = there.code_is in
@@ -67,8 +60,8 @@ entry_ran-requires-clause-turn g c =
     let again = c.in_ok-turn-in-Some.ensures.again below (subst (λ z. StoreFits z s) (sym code) fits.0) typed in
     calls_one w c.args.setting.now m (results_of m e.func) c.in_ok-turn-in-Some.turn (store_in c.begin.new.self) (waits_in c.begin.new.self) there.setting code again
 
-pub entry_ran-requires-clause-area : goal.entry_ran-requires-clause-area
-entry_ran-requires-clause-area g c =
+pub returns-in_ok-turn-in-Some-clause-asks : goal.returns-in_ok-turn-in-Some-clause-asks
+returns-in_ok-turn-in-Some-clause-asks c =
     let there = c.requires.there in
     let w = there.program in
     let code = there.code_is in
@@ -88,11 +81,11 @@ entry_ran-requires-clause-area g c =
     let told = c.in_ok-turn-in-Some.ensures.calls (subst (λ z. StoreFits z s) (sym code) fits.0) typed in
     let calls = subst (λ z. Calls z s e.func e.args left used c.in_ok-turn-in-Some.turn s' w') code
     (subst (λ vs. Calls m s e.func vs left used c.in_ok-turn-in-Some.turn s' w') c.deref.ensures.value told) in
-    area_longer x.area s s' (calls_longer w.source s e.func e.args left used c.in_ok-turn-in-Some.turn s' w' calls)
-    (area_told w x s there.setting (free_holds w s l e rest entries there.holds).0)
+    c.entry_ran.ensures.asks s' (area_longer x.area s s' (calls_longer w.source s e.func e.args left used c.in_ok-turn-in-Some.turn s' w' calls)
+    (area_told w x s there.setting (free_holds w s l e rest entries there.holds).0))
 
 pub entry_ran-requires-clause-number : goal.entry_ran-requires-clause-number
-entry_ran-requires-clause-number g c =
+entry_ran-requires-clause-number c =
     let there = c.requires.there in
     let l = left_of c.args.left.now in
     let e = entry_of c.in-Some.entry in
