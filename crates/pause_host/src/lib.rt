@@ -26,7 +26,8 @@
 //!   memory, and its end as an event.
 //! - `unwinding`, `rewinding`: both halves of a pause.
 //! - `plan`, `entries`, `bindings`, `setting`: what a program is given, and what the host has to know of its module all along.
-//! - `asking`, `running`, `events`, `program`: what answers a call, what comes of each stage, the next event, and `Program`.
+//! - `running`, `events`: what comes of each stage, which is an event or a new call of an import.
+//! - `asking`, `program`: what answers a call, and `Program`. Nothing else knows of answer lines and devices.
 //! - `globals`, `thawing`: which globals a program can be put back with, and a program that is put back.
 #![tactic(auto)]
 
