@@ -1,9 +1,8 @@
 -- Groups, parts and their sizes as the program makes them.
-use Rattle.std.proofs.Common.{◌≡◌, ◌∙◌, ℕ, zero, suc, ◌+◌, ◌-◌, ◌*◌, ◌<◌, ◌≤◌, List, [], ◌∷◌, ◌++◌, length, get_or, map, take, drop, Bool, true, false, nat_eq, All, refl, sym, ap, subst, arith, eqb-true, get_or-set_same, get_or-set_other, length-set}
-use Rattle.std.specs.Prelude.{if◌then◌else◌, replicate, slice_set, Vec}
+use Rattle.std.proofs.Common.{◌≡◌, ◌∙◌, ℕ, zero, suc, ◌+◌, ◌-◌, ◌*◌, ◌<◌, ◌≤◌, List, [], ◌∷◌, ◌++◌, length, get_or, map, take, drop, Bool, true, false, nat_eq, refl, sym, ap, arith}
+use Rattle.std.specs.Prelude.{if◌then◌else◌, slice_set, Vec}
 use Rattle.std.specs.declared.alloc.Global.{Global}
-use Rattle.std.proofs.lemmas.Bool.{eqb-false}
-use Rattle.std.proofs.lemmas.List.{append-nil, append_assoc, drop_all, drop_more, map_more, map-append, take_all, length-map, length-replicate, length-take-le}
+use Rattle.std.proofs.lemmas.List.{append-nil, append_assoc, drop_all, drop_more, map_more, map-append}
 use Rattle.std.proofs.lemmas.List.Elements.{All-head, All-tail}
 use Rattle.wa_types.specs.declared.values.ValType.{ValType}
 use Rattle.frame_laws.specs.Layout.{FrameField, kept}
@@ -12,85 +11,13 @@ use Rattle.call_frames.specs.PlainLaws.{tests_cost}
 use Rattle.call_frames.specs.declared.frames.CallClass.{CallClass}
 use Rattle.call_frames.specs.declared.frames.KeptPart.{KeptPart}
 use Rattle.call_frames.specs.CallParts.{keeps, keepers, same_calls, with_field, with_kept, grouped, grouped_by, parts_length, kept_by_sets}
-use Rattle.call_frames.specs.Classes.{AreKeepers, KeepersMore, set_keepers}
-use Rattle.call_frames.specs.Views.{class_part, class_parts, fields_in, fields_of, part_view, part_views, sets_of}
+use Rattle.call_frames.specs.Classes.{AreKeepers, set_keepers}
+use Rattle.call_frames.specs.Views.{class_part, class_parts, fields_in, fields_of, part_view, part_views}
 use Rattle.call_frames.proofs.FoundClasses.{all_kept}
 use Rattle.call_frames.proofs.GroupLemmas.{Rows, keeps_in}
-use Rattle.call_frames.proofs.SizedSets.{Sized, sets_sized}
+use Rattle.call_frames.proofs.SizedSets.{Sized}
 
 -- ---- the calls that keep a local
-
-keepers_more : (x j : ℕ) (sets : List (List Bool)) (s : List Bool) → set_keepers x j (sets ++ s ∷ []) ≡ set_keepers x j sets ++ (if get_or s x false then (j + length sets) ∷ [] else [])
-keepers_more x j [] s = let z : j ≡ j + 0 = omega arith in append-nil (if get_or s x false then j ∷ [] else []) ∙ ap (λ n. if get_or s x false then n ∷ [] else []) z
-keepers_more x j (t ∷ sets) s =
-    let own : List ℕ = if get_or t x false then j ∷ [] else [] in
-    let z : suc j + length sets ≡ j + suc (length sets) = omega arith in
-    ap (λ ks. own ++ ks) (keepers_more x (suc j) sets s ∙ ap (λ n. set_keepers x (suc j) sets ++ (if get_or s x false then n ∷ [] else [])) z)
-    ∙ sym (append_assoc own (set_keepers x (suc j) sets) (if get_or s x false then (j + suc (length sets)) ∷ [] else []))
-
--- before the first call
-pub no_keepers_are : (count : ℕ) (sets : List (Vec Bool Global)) (kss : List (List ℕ)) → kss ≡ replicate count [] → AreKeepers count (sets_of (take 0 sets)) kss
-no_keepers_are count sets kss e = record { size = ap length e ∙ length-replicate count []; each = λ x lt. ap (λ ls. get_or ls x []) e ∙ none count x }
-  where
-    none : (n x : ℕ) → get_or (replicate {A = List ℕ} n []) x [] ≡ []
-    none zero x = refl
-    none (suc n) zero = refl
-    none (suc n) (suc x) = none n x
-
-pub keepers_step : (count : ℕ) (sets : List (Vec Bool Global)) (i : ℕ) (d : Vec Bool Global) (old new : List (List ℕ)) → i < length sets
-    → AreKeepers count (sets_of (take i sets)) old → KeepersMore i (get_or sets i d).items old new → AreKeepers count (sets_of (take (i + 1) sets)) new
-keepers_step count sets i d old new lt h more =
-    let n : length (sets_of (take i sets)) ≡ i = length-map (take i sets) (λ (s : Vec Bool Global). s.items) ∙ length-take-le i sets (omega (arith, lt)) in
-    let z : i ≡ 0 + length (sets_of (take i sets)) = omega (arith, n) in
-    let set = (get_or sets i d).items in record {
-      size = more.size ∙ h.size;
-      each = λ x within.
-          let there = h.size in
-          more.each x (omega (arith, within, there)) ∙ ap (λ ks. ks ++ (if get_or set x false then i ∷ [] else [])) (h.each x within)
-          ∙ ap (λ k. set_keepers x 0 (sets_of (take i sets)) ++ (if get_or set x false then k ∷ [] else [])) z
-          ∙ sym (keepers_more x 0 (sets_of (take i sets)) set)
-          ∙ ap (set_keepers x 0) (sym (map_more (λ (s : Vec Bool Global). s.items) sets i d lt));
-    }
-
-pub keepers_end : (count : ℕ) (sets : List (Vec Bool Global)) (i : ℕ) (kss : List (List ℕ)) → length sets ≤ i → AreKeepers count (sets_of (take i sets)) kss → AreKeepers count (sets_of sets) kss
-keepers_end count sets i kss le h = subst (λ ss. AreKeepers count (sets_of ss) kss) (take_all i sets le) h
-
--- Of the locals below this one, those of a set have one call more.
-pub record KeepersBelow (call : ℕ) (set : List Bool) (old : List (List ℕ)) (local : ℕ) (new : List (List ℕ)) : Type 0 where
-  pub size : length new ≡ length old
-  pub done : (x : ℕ) → x < local → get_or new x [] ≡ get_or old x [] ++ (if get_or set x false then call ∷ [] else [])
-  pub left : (x : ℕ) → local ≤ x → get_or new x [] ≡ get_or old x []
-
-pub below_first : (call : ℕ) (set : List Bool) (old : List (List ℕ)) → KeepersBelow call set old 0 old
-below_first call set old = record { size = refl; done = λ x lt. absurd (omega (arith, lt)); left = λ x le. refl }
-
-list_any : (xs : List (List ℕ)) (i : ℕ) (d e : List ℕ) → i < length xs → get_or xs i d ≡ get_or xs i e
-list_any [] i d e lt = absurd (omega (arith, lt))
-list_any (x ∷ xs) zero d e lt = refl
-list_any (x ∷ xs) (suc i) d e lt = list_any xs i d e (omega (arith, lt))
-
-pub below_next : (call : ℕ) (set : List Bool) (old mid : List (List ℕ)) (local : ℕ) (b : Bool) (d ks : List ℕ) → length set ≡ length old → local < length set → b ≡ get_or set local false
-    → ks ≡ get_or mid local d ++ (if b then call ∷ [] else []) → KeepersBelow call set old local mid → KeepersBelow call set old (local + 1) (slice_set mid local ks)
-below_next call set old mid local b d ks n lt eb ek h = record {
-  size = length-set mid local ks ∙ h.size;
-  done = λ x le. at x le (nat_eq x local) refl;
-  left = λ x le. get_or-set_other mid local x ks [] (λ e. omega (arith, e, le)) ∙ h.left x (omega (arith, le));
-}
-  where
-    within : local < length mid
-    within = let m = h.size in omega (arith, n, lt, m)
-
-    at : (x : ℕ) → x < local + 1 → (c : Bool) → nat_eq x local ≡ c → get_or (slice_set mid local ks) x [] ≡ get_or old x [] ++ (if get_or set x false then call ∷ [] else [])
-    at x le true e =
-        let q = eqb-true x local e in
-        ap (λ y. get_or (slice_set mid local ks) y []) q ∙ get_or-set_same mid local ks [] within ∙ ek
-        ∙ ap (λ js. js ++ (if b then call ∷ [] else [])) (list_any mid local d [] within ∙ h.left local (omega arith))
-        ∙ ap (λ c. get_or old local [] ++ (if c then call ∷ [] else [])) eb
-        ∙ ap (λ y. get_or old y [] ++ (if get_or set y false then call ∷ [] else [])) (sym q)
-    at x le false e = let q = eqb-false x local e in get_or-set_other mid local x ks [] q ∙ h.done x (omega (arith, le, q))
-
-pub below_end : (call : ℕ) (set : List Bool) (old new : List (List ℕ)) (local : ℕ) → length set ≡ length old → length set ≤ local → KeepersBelow call set old local new → KeepersMore call set old new
-below_end call set old new local n le h = record { size = h.size; each = λ x lt. h.done x (omega (arith, n, le, lt)) }
 
 pub same_keepers : (types : List ValType) (x j : ℕ) (sets : List (List Bool)) → Sized types sets → x < length types → keepers x j (kept_by_sets types sets) ≡ set_keepers x j sets
 same_keepers types x j [] sized lt = refl
@@ -185,11 +112,11 @@ groups_by x (t ∷ ts) rows (ks ∷ kss) ps n h =
     (λ y lt. h (suc y) (omega (arith, lt)) ∙ let w : x + suc y ≡ suc x + y = omega arith in ap (λ m. keepers m 0 rows) w)
     ∙ ap (λ js. grouped (suc x) ts rows (with_kept js (kept x t) ps)) (h 0 (omega arith) ∙ ap (λ m. keepers m 0 rows) z)
 
-pub groups_same : (types : List ValType) (sets : List (Vec Bool Global)) (kss : List (List ℕ)) → All (λ (set : Vec Bool Global). length set.items ≡ length types) sets
-    → AreKeepers (length types) (sets_of sets) kss → grouped_by 0 types kss [] ≡ grouped 0 types (kept_by_sets types (sets_of sets)) []
+pub groups_same : (types : List ValType) (sets : List (List Bool)) (kss : List (List ℕ)) → Sized types sets
+    → AreKeepers (length types) sets kss → grouped_by 0 types kss [] ≡ grouped 0 types (kept_by_sets types sets) []
 groups_same types sets kss sized h =
-    groups_by 0 types (kept_by_sets types (sets_of sets)) kss [] h.size
-    (λ y lt. h.each y lt ∙ sym (same_keepers types y 0 (sets_of sets) (sets_sized types sets sized) lt) ∙ (let w : y ≡ 0 + y = omega arith in ap (λ m. keepers m 0 (kept_by_sets types (sets_of sets))) w))
+    groups_by 0 types (kept_by_sets types sets) kss [] h.size
+    (λ y lt. h.each y lt ∙ sym (same_keepers types y 0 sets sized lt) ∙ (let w : y ≡ 0 + y = omega arith in ap (λ m. keepers m 0 (kept_by_sets types sets)) w))
 
 pub some_calls_there : (ks : List ℕ) (r : Bool) → r ≡ nat_eq (length ks) 0 → r ≡ false → 1 ≤ length ks
 some_calls_there [] r e f = let bad : ⊥ = cc in absurd bad

@@ -17,6 +17,11 @@ abbrev pub upto : (first more : ℕ) → List ℕ
 upto k zero = k ∷ []
 upto k (suc n) = k ∷ upto (suc k) n
 
+-- so many numbers, from this one on
+abbrev pub counted : (first count : ℕ) → List ℕ
+counted k zero = []
+counted k (suc n) = k ∷ counted (suc k) n
+
 -- the numbers that rows stand for
 abbrev pub numbers_in : List CallRow → List ℕ
 numbers_in [] = []

@@ -1,6 +1,7 @@
 -- Classes of calls that keep the same locals.
-use Rattle.std.specs.Prelude.{◌≡◌, ◌≤◌, ◌<◌, ℕ, zero, suc, ◌+◌, ◌*◌, List, [], ◌∷◌, ◌++◌, length, get_or, Bool, false, if◌then◌else◌, Option, Some, All}
+use Rattle.std.specs.Prelude.{◌≡◌, ◌≤◌, ◌<◌, ◌&&◌, ◌||◌, ℕ, zero, suc, ◌+◌, ◌*◌, List, [], ◌∷◌, ◌++◌, length, get_or, nat_eq, take, Bool, false, if◌then◌else◌, Option, Some, All, Vec}
 use Rattle.std.specs.Borrow.{Bor}
+use Rattle.std.specs.declared.alloc.Global.{Global}
 use Rattle.std.specs.BTreeMap.{BTreeMap, get_by}
 use Rattle.std.specs.Cmp.Lexicographic.{slice_cmp}
 use Rattle.std.specs.Ordering.{bool_cmp}
@@ -10,7 +11,7 @@ use Rattle.call_frames.specs.PlainFrames.{SavedPart, at_every, at_these, call_fi
 use Rattle.call_frames.specs.PlainLaws.{NameCalls, named_calls, tests_cost}
 use Rattle.call_frames.specs.CallParts.{parts_length, tests_most}
 use Rattle.call_frames.specs.declared.frames.CallClass.{CallClass}
-use Rattle.call_frames.specs.Views.{fields_in, kept_total}
+use Rattle.call_frames.specs.Views.{fields_in, kept_total, sets_of}
 
 -- ---- what is made
 
@@ -67,15 +68,41 @@ abbrev pub set_keepers : (local call : ℕ) → List (List Bool) → List ℕ
 set_keepers x call [] = []
 set_keepers x call (set ∷ sets) = (if get_or set x false then call ∷ [] else []) ++ set_keepers x (suc call) sets
 
+-- a set has a local
+abbrev pub set_has : List (Vec Bool Global) → (call local : ℕ) → Bool
+set_has sets k x = get_or (get_or (sets_of sets) k []) x false
+
 -- For each of so many locals, the calls whose sets have it.
 pub record AreKeepers (count : ℕ) (sets : List (List Bool)) (keepers : List (List ℕ)) : Type 0 where
   pub size : length keepers ≡ count
   pub each : (x : ℕ) → x < count → get_or keepers x [] ≡ set_keepers x 0 sets
 
--- One call more keeps the locals of its set.
-pub record KeepersMore (call : ℕ) (set : List Bool) (old new : List (List ℕ)) : Type 0 where
+-- So many calls keep these sets of so many locals, and these calls each local.
+pub record AreKept (locals count : ℕ) (sets : List (List Bool)) (kept_by : List (List ℕ)) : Type 0 where
+  pub many : length sets ≡ count
+  pub sized : All (λ (set : List Bool). length set ≡ locals) sets
+  pub keepers : AreKeepers locals sets kept_by
+
+-- how many calls there are together
+abbrev pub calls_total : List (List ℕ) → ℕ
+calls_total [] = 0
+calls_total (ks ∷ kss) = length ks + calls_total kss
+
+-- The first sets of the calls that keep each local.
+pub record MadeAgain (kept_by : List (List ℕ)) (count : ℕ) (made : List (Vec Bool Global)) : Type 0 where
+  pub many : length made ≡ count
+  pub sized : All (λ (set : Vec Bool Global). length set.items ≡ length kept_by) made
+  pub same : (calls : ℕ) (sets : List (List Bool)) → AreKept (length kept_by) calls sets kept_by → count ≤ calls → sets_of made ≡ take count sets
+
+-- Sets are of one size, above this local.
+abbrev pub SizedAbove : (local : ℕ) → List (Vec Bool Global) → Type 0
+SizedAbove x sets = (n : ℕ) × (x < n) × All (λ (set : Vec Bool Global). length set.items ≡ n) sets
+
+-- Sets have a local more at the calls that the test tells.
+pub record Noted (calls : ℕ → Bool) (local : ℕ) (old new : List (Vec Bool Global)) : Type 0 where
   pub size : length new ≡ length old
-  pub each : (x : ℕ) → x < length old → get_or new x [] ≡ get_or old x [] ++ (if get_or set x false then call ∷ [] else [])
+  pub sized : (n : ℕ) → All (λ (set : Vec Bool Global). length set.items ≡ n) old → All (λ (set : Vec Bool Global). length set.items ≡ n) new
+  pub each : (k x : ℕ) → k < length old → set_has new k x ≡ (set_has old k x || (calls k && nat_eq x local))
 
 -- The part of this number has these fields, and at least one.
 abbrev pub HasFields : ℕ → List SavedPart → List FrameField → Type 0

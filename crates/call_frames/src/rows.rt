@@ -1,8 +1,8 @@
 //! Calls, kept as rows.
 
-ghost use Rattle.std.specs.Prelude.{◌≡◌, ◌+◌, ◌++◌, ◌∷◌, [], suc, length, nat_eq, true, OnOk};
+ghost use Rattle.std.specs.Prelude.{◌≡◌, ◌+◌, ◌++◌, ◌∷◌, ◌<◌, ◌^◌, [], suc, length, nat_eq, reverse, true, IfOk, OnOk};
 ghost use Rattle.call_frames.specs.CallParts.{same_calls};
-ghost use Rattle.call_frames.specs.CallRows.{AreRows, RowsFit, numbers_in, row_views};
+ghost use Rattle.call_frames.specs.CallRows.{AreRows, RowsFit, numbers_in, row_views, upto};
 ghost use Rattle.call_frames.specs.PlainFrames.{rows_of};
 
 use std::alloc::{AllocError, Global};
@@ -106,6 +106,14 @@ impl Calls {
         }
     }
 
+    /// The same calls once more.
+    pub(crate) fn copied(&self, alloc: Global) -> Result<Calls, AllocError>
+        ensures { IfOk result (λ v. v ≡ self.now) }
+    {
+        let rows = Vec::from_slice(alloc, &self.rows)?;
+        Ok(Calls { rows })
+    }
+
     /// Puts a call behind the others.
     pub fn push(&mut self, call: u32) -> Result<(), AllocError>
         ensures { OnOk result (self.new ≡ self.old ++ call ∷ []) }
@@ -141,5 +149,74 @@ impl Calls {
         ensures fit { RowsFit result.now }
     {
         &self.rows
+    }
+}
+
+/// Puts calls in a row before rows of which the first stands last: that one joins them where it follows them.
+fn put_before(rows: &mut Vec<Row>, first: u32, more: u32) -> Result<(), AllocError>
+    requires fit { first + more < 2 ^ 32 }
+    requires rows { AreRows (reverse rows.old.items) }
+    ensures numbers { OnOk result (numbers_in (row_views (reverse rows.new.items)) ≡ upto first more ++ numbers_in (row_views (reverse rows.old.items))) }
+    ensures rows { AreRows (reverse rows.new.items) }
+{
+    let row = Row { first, more };
+    let count = rows.len();
+    if count > 0 {
+        let next = rows[count - 1];
+        if follows(next.first, row) {
+            rows[count - 1] = Row {
+                first,
+                more: more + 1 + next.more,
+            };
+            return Ok(());
+        }
+    }
+    rows.push(row)?;
+    Ok(())
+}
+
+/// The numbers of calls that are told last first, kept as rows of which the first stands last. Contracts see the numbers in their order.
+#[derive(Drop)]
+pub struct LaterCalls {
+    rows: Vec<Row>,
+}
+
+impl Model for LaterCalls {
+    ghost use Rattle.std.specs.Prelude.{List, ℕ, reverse};
+    ghost use Rattle.call_frames.specs.CallRows.{AreRows, numbers_in, row_views};
+
+    ghost Value = { List ℕ };
+
+    ghost view = { λ c. numbers_in (row_views (reverse c.rows.items)) };
+
+    ghost invariant = { λ c. AreRows (reverse c.rows.items) };
+}
+
+impl LaterCalls {
+    /// No calls.
+    pub fn none(alloc: Global) -> LaterCalls
+        ensures { result ≡ [] }
+    {
+        LaterCalls {
+            rows: Vec::new(alloc),
+        }
+    }
+
+    /// Puts a call, and so many that follow it, before the others.
+    pub fn put(&mut self, first: u32, more: u32) -> Result<(), AllocError>
+        requires { first + more < 2 ^ 32 }
+        ensures { OnOk result (self.new ≡ upto first more ++ self.old) }
+    {
+        put_before(&mut self.rows, first, more)
+    }
+
+    /// The calls, once all are told.
+    pub fn all(self) -> Calls
+        ensures { result ≡ self }
+    {
+        let LaterCalls { rows } = self;
+        let mut in_order = rows;
+        in_order.reverse();
+        Calls { rows: in_order }
     }
 }

@@ -10,16 +10,17 @@ ghost use Rattle.func_rewrite.specs.Frames.{IsFlattened};
 ghost use Rattle.func_rewrite.specs.Calls.{AreLiveCalls};
 
 use crate::pass::Pass;
+use call_frames::Calls;
 use flatten::Flattened;
-use live_locals::{live_at, number_calls};
+use live_locals::{live_rows, number_calls};
 use std::alloc::{AllocError, Global};
 use wa_types::Func;
 
-/// The places of the numbered calls, and for each which locals its frame keeps.
+/// The places of the numbered calls, and for each local those whose frames keep it.
 #[derive(Drop)]
 pub(crate) struct LiveCalls {
     pub(crate) numbers: Vec<u32>,
-    pub(crate) sets: Vec<Vec<bool>>,
+    pub(crate) rows: Vec<Calls>,
 }
 
 /// The numbered calls of a function.
@@ -42,6 +43,6 @@ pub(crate) fn live_calls(
         pass.listed,
         pass.settings.ignore_indirect,
     )?;
-    let sets = live_at(alloc, &flat.func, &numbers)?;
-    Ok(LiveCalls { numbers, sets })
+    let rows = live_rows(alloc, &flat.func, &numbers)?;
+    Ok(LiveCalls { numbers, rows })
 }

@@ -26,7 +26,7 @@ use crate::calls::{LiveCalls, live_calls};
 use crate::layouts::set_layouts;
 use crate::locals::written_locals;
 use crate::pass::Pass;
-use call_frames::{FrameParts, saved_parts};
+use call_frames::{FrameParts, saved_parts, sets_from};
 use flatten::Flattened;
 use live_frames::{restoring, saving};
 use local_spill::{Layout, RuntimeIds};
@@ -73,7 +73,8 @@ fn live_func(
     requires calls { AreLiveCalls (module_of pass.now.valid.now) (settings_of pass.now.settings.now) pass.now.which.now (func_of source.now) flat.old calls.now }
     ensures { IfOk result (λ f. IsLiveWritten (module_of pass.now.valid.now) (settings_of pass.now.settings.now) pass.now.which.now flat.old.func.func (func_of source.now) (func_of f)) }
 {
-    let parts = saved_parts(alloc, &calls.sets, &flat.func.locals)?;
+    let count = calls.numbers.len();
+    let parts = saved_parts(alloc, &calls.rows, count, &flat.func.locals)?;
     let locals = written_locals(alloc, &source.locals, &flat.func.locals, flat.first_slot)?;
     let body = live_body(alloc, flat, &calls.numbers, &parts, pass.ids)?;
     Ok(Func {
@@ -97,7 +98,8 @@ fn live_layouts(
     requires calls { AreLiveCalls (module_of pass.now.valid.now) (settings_of pass.now.settings.now) pass.now.which.now (func_of _source.now) flat.now calls.now }
     ensures { IfOk result (λ ls. FramesUnder save_live (module_of pass.now.valid.now) (settings_of pass.now.settings.now) pass.now.which.now (func_of _source.now) ls.items) }
 {
-    let layouts = set_layouts(alloc, &calls.sets, &flat.func.locals)?;
+    let sets = sets_from(alloc, &calls.rows, calls.numbers.len())?;
+    let layouts = set_layouts(alloc, &sets, &flat.func.locals)?;
     Ok(layouts)
 }
 

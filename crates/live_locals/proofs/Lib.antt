@@ -2,6 +2,7 @@ pub mod CodeLemmas
 pub mod CountdownCase
 pub mod ExactLemmas
 pub mod HeadLemmas
+pub mod KeepingLemmas
 pub mod LevelLemmas
 pub mod NestLemmas
 pub mod PassLemmas
@@ -11,6 +12,7 @@ pub mod SetLemmas
 pub mod StackSlots
 pub mod StepLemmas
 pub mod StmtViews
+pub mod TouchLemmas
 pub mod UnionLemmas
 pub mod UsesLive
 pub mod WholeLemmas

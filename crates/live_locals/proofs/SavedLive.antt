@@ -1,18 +1,18 @@
 -- What a flat function's call keeps is what the policy `live` saves.
-use Rattle.std.proofs.Common.{◌≡◌, ◌∙◌, ℕ, zero, suc, ◌+◌, ◌<◌, ◌≤◌, ◌↔◌, ◌⊎◌, inl, inr, List, [], ◌∷◌, ◌++◌, length, map, reverse, get_or, Option, Some, None, Bool, true, false, ◌||◌, refl, sym, ap, subst, arith, length-append}
-use Rattle.std.specs.Prelude.{slice_get, nat_eq}
+use Rattle.std.proofs.Common.{◌≡◌, ◌∙◌, ℕ, zero, suc, ◌+◌, ◌<◌, ◌≤◌, ◌↔◌, inl, inr, List, [], ◌∷◌, ◌++◌, length, map, reverse, get_or, Option, Some, None, Bool, true, false, ◌||◌, refl, sym, ap, subst, arith, length-append}
+use Rattle.std.specs.Prelude.{slice_get}
 use Rattle.std.specs.Option.{option_map}
 use Rattle.std.proofs.lemmas.Bool.{ne_eqb}
-use Rattle.std.proofs.lemmas.List.{append-nil, append_assoc, length-map}
+use Rattle.std.proofs.lemmas.List.{append-nil, length-map}
 use Rattle.std.proofs.lemmas.Option.{slice_get-map, slice_get-get_or, slice_get_within}
 use Rattle.wa_types.specs.declared.values.ValType.{ValType}
 use Rattle.wa_types.specs.Syntax.{a_block, Code, nest, Func, Module}
 use Rattle.wa_types.specs.Pruned.{pruned}
-use Rattle.wa_types.specs.Typing.{Typed, type_of}
+use Rattle.wa_types.specs.Typing.{Typed}
 use Rattle.wa_types.specs.Modules.{around, defined_at, locals_of}
-use Rattle.wa_types.specs.Pausing.{calls_of, calls_in, is_told, save_live}
+use Rattle.wa_types.specs.Pausing.{calls_in, is_told, save_live}
 use Rattle.wa_types.specs.Points.{func_call_points}
-use Rattle.wa_types.specs.Liveness.{Position, ReadsFirst, LiveAfter, behind_calls, is_live_after, live, live_at, live_from, told_at}
+use Rattle.wa_types.specs.Liveness.{Position, ReadsFirst, behind_calls, is_live_after, live, live_at, live_from, told_at}
 use Rattle.wa_types.specs.Frames.{Pair, Place, SlotPairs, ResultPairs, Saved, is_on_stack, is_type, named_places, place_onto, slot_places, stands_at}
 use Rattle.wa_types.specs.Validity.{Valid}
 use Rattle.wa_types.proofs.LiveLemmas.{live_reads, reads_live}
@@ -20,18 +20,17 @@ use Rattle.wa_types.proofs.PlaceLemmas.{point_each}
 use Rattle.wa_types.proofs.SlotLemmas.{same_true, same_self}
 use Rattle.run_theory.proofs.FittingSteps.{body_typed}
 use Rattle.run_theory.specs.Flat.{FlatFunc, code_of, body_of, result_got}
-use Rattle.flat_laws.specs.Flatten.{Names, names, place, slot, slots, result_local, result_of, flattened}
-use Rattle.flat_laws.specs.FlatModule.{flat_func, stacks_in}
+use Rattle.flat_laws.specs.Flatten.{Names, names, place, slots, result_local, result_of, flattened}
+use Rattle.flat_laws.specs.FlatModule.{stacks_in}
 use Rattle.flat_laws.proofs.Sizes.{stacks_are_slots}
 use Rattle.flat_laws.specs.Behind.{Among}
-use Rattle.flat_laws.specs.OwnUses.{uses}
 use Rattle.flat_laws.proofs.OwnLemmas.{own_uses}
 use Rattle.flat_laws.proofs.PrunedFlat.{whole_flat, whole_result}
 use Rattle.flat_laws.proofs.StackReads.{stack_reads}
 use Rattle.frame_sizes.specs.Lives.{lives}
 use Rattle.frame_sizes.proofs.LiveLemmas.{told_calls}
 use Rattle.slot_laws.proofs.SavedOperands.{operands_saved, slots_once}
-use Rattle.live_locals.specs.LiveAt.{KeepsAt, OnStack, ReadBehind}
+use Rattle.live_locals.specs.LiveAt.{KeepsAt, OnStack}
 use Rattle.live_locals.specs.LiveSaved.{LiveIsSaved}
 use Rattle.live_locals.proofs.UsesLive.{uses_lives}
 use Rattle.live_locals.proofs.StackSlots.{pair_at, place_found, place_within, slot_among, among_slot, from_reversed}

@@ -1,9 +1,9 @@
 -- An own local is read first from the same calls on in code and in what is left of it by its accesses.
-use Rattle.std.proofs.Common.{◌≡◌, ◌∙◌, ℕ, zero, suc, ◌<◌, ◌≤◌, List, [], ◌∷◌, ◌++◌, length, Option, Some, None, Bool, true, false, not, ◌&&◌, ◌||◌, refl, sym, ap, arith}
-use Rattle.std.specs.Prelude.{nat_eq, nat_lt, slice_get}
+use Rattle.std.proofs.Common.{◌≡◌, ◌∙◌, ℕ, zero, suc, ◌<◌, List, [], ◌∷◌, ◌++◌, None, Bool, true, false, not, ◌&&◌, ◌||◌, refl, sym, ap, arith}
+use Rattle.std.specs.Prelude.{nat_eq, nat_lt}
 use Rattle.std.specs.List.{list_any}
 use Rattle.std.proofs.lemmas.Bool.{ne_eqb, ltb-false}
-use Rattle.wa_types.specs.Pausing.{Callee, callee, is_told}
+use Rattle.wa_types.specs.Pausing.{callee}
 use Rattle.wa_types.specs.Syntax.{Plain, basic, local_get, local_set, local_tee, br, br_if, br_table, return, unreachable, call, call_indirect, Shape, a_block, a_loop, Code, done, plain, nest, branch}
 use Rattle.wa_types.specs.Liveness.{live, live_plain, shape_live, told_at}
 use Rattle.frame_sizes.specs.Lives.{lives, label_live, if_called}

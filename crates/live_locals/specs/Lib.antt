@@ -1,5 +1,6 @@
 pub mod Countdown
 pub mod Heads
+pub mod Keeping
 pub mod LiveAt
 pub mod LiveSaved
 pub mod Nests

@@ -9,9 +9,9 @@
 //! return total + answer * n
 //! ```
 //!
-//! `live_at` answers a set for each call, exactly those of `specs/LiveAt.antt`; what they keep is what the policy saves in frames
-//! (`live_is_saved`). A statement is passed over a few times, and once more for each 63 loops around it and each time that one of these
-//! is at most half of what it stands in.
+//! `live_rows` answers for each local the calls that keep it, in rows, and `live_at` a set for each call, exactly those of
+//! `specs/LiveAt.antt`; what they keep is what the policy saves in frames (`live_is_saved`). A statement is passed over a few times, and
+//! once more for each 63 loops around it and each time that one of these is at most half of what it stands in.
 //!
 //! A body is passed over backwards with one set of locals: of each it tells whether it is read before it is written from some place on
 //! (`specs/Sets.antt`). Under a label a branch goes on with the set of its target. A path that comes to a loop's start again reads
@@ -26,11 +26,13 @@
 //!
 //! - `sets`, `steps`, `passes`: sets, and statements passed over backwards.
 //! - `sizes`, `levels`, `word_sets`, `word_steps`, `word_passes`: which loops get words, worlds by level, and passes in all worlds.
-//! - `nests`, `rows`, `calls`: what is known in a nest of loops, the sets of the calls of statements, and `live_at`.
+//! - `nests`, `keeping`, `rows`, `calls`: what is known in a nest of loops, the calls that keep each local, those of statements, and
+//!   `live_rows`.
 //! - `saved_locals`, `laws`: that what is kept is what the policy saves; an example.
 #![tactic(auto)]
 
 mod calls;
+mod keeping;
 mod laws;
 mod levels;
 mod nests;
@@ -44,7 +46,7 @@ mod word_passes;
 mod word_sets;
 mod word_steps;
 
-pub use calls::live_at;
+pub use calls::{live_at, live_rows};
 pub use flow_rewrite::number_calls;
 pub use laws::countdown_keeps;
 pub use saved_locals::live_is_saved;

@@ -1,49 +1,19 @@
-//! The sets of the numbered calls of statements.
+//! The numbered calls of statements, and the locals that they keep.
 
-ghost use Rattle.std.specs.Prelude.{◌≡◌, drop, reverse, IfOk, OnOk};
+ghost use Rattle.std.specs.Prelude.{◌≡◌, drop, length, reverse, IfOk, OnOk};
 ghost use Rattle.run_theory.specs.Flat.{code_of, no_more};
 ghost use Rattle.run_theory.specs.FlatView.{stmt_in_front, stmts};
-ghost use Rattle.guard_form.specs.Grouping.{is_place};
-ghost use Rattle.flow_rewrite.specs.Emitting.{Rises};
 ghost use Rattle.live_locals.specs.Heads.{loop_total};
 ghost use Rattle.live_locals.specs.Nests.{Nest};
-ghost use Rattle.live_locals.specs.Rows.{Countable, RowPut, RowsPut};
+ghost use Rattle.live_locals.specs.Rows.{Countable, RowsPut, StandsAt};
 ghost use Rattle.live_locals.specs.Sets.{Passed};
 
+use crate::keeping::{Keeping, put_call, settle_all, settle_told, settle_touched};
 use crate::nests::{Around, Walk, enter_loop};
-use crate::sets::{copied, join, read_operand, read_slots, write_told};
+use crate::sets::{copied, join, read_operand, write_told};
 use crate::steps::{pass_simple, read_taken};
-use std::alloc::{AllocError, Global};
+use std::alloc::AllocError;
 use wa_model::Stmt;
-
-/// Whether the call at this place is numbered.
-fn is_numbered(numbers: &[u32], place: u32) -> bool
-    requires { Rises numbers.now }
-    ensures { result ≡ is_place numbers.now place }
-{
-    numbers.binary_search(&place).is_ok()
-}
-
-/// Puts the set of the call at this place, where it is numbered: `set` tells what is read first from just after the call on.
-#[inline(never)]
-fn put_row(
-    alloc: Global,
-    rows: &mut Vec<Vec<bool>>,
-    numbers: &[u32],
-    place: u32,
-    set: &[bool],
-    stack: &[u32],
-) -> Result<(), AllocError>
-    requires { Rises numbers.now }
-    ensures { OnOk result (RowPut (is_place numbers.now place) set.now stack.now rows.old.items rows.new.items) }
-{
-    if is_numbered(numbers, place) {
-        let mut row = copied(alloc, set)?;
-        read_slots(&mut row, stack);
-        rows.push(row)?;
-    }
-    Ok(())
-}
 
 /// The calls that are still to come: the places of the numbered ones among all calls, and the place behind the last to come.
 #[derive(Clone, Copy)]
@@ -52,12 +22,13 @@ pub(crate) struct CallsLeft<'a> {
     pub(crate) last: u32,
 }
 
-/// Puts the sets of a body's numbered calls, the last call first, and passes over it backwards. The place of its first call is
-/// answered. The walk has entries for the loops in the body, the next last.
+/// Tells which locals a body's numbered calls keep, the last call first, and passes over it backwards. The place of its first call is
+/// answered. The walk has entries for the loops in the body, the next last. Between calls, branches and constructs only the locals that
+/// statements touch are looked at.
 #[cycle(rows)]
 pub(crate) fn put_body_rows(
     walk: &mut Walk,
-    rows: &mut Vec<Vec<bool>>,
+    keeping: &mut Keeping,
     calls: CallsLeft<'_>,
     around: Around<'_>,
     set: &mut [bool],
@@ -65,8 +36,9 @@ pub(crate) fn put_body_rows(
 ) -> Result<u32, AllocError>
     requires calls { Countable calls.numbers.now calls.last (stmts body.now) }
     requires nest { Nest around.level around.reach.now walk.old.tos.items set.old (reverse walk.old.heads.items) (stmts body.now) }
+    requires there { StandsAt calls.numbers.now calls.last (length set.old) keeping.old }
     ensures passed { OnOk result (Passed walk.old.tos.items walk.new.tos.items set.old set.new (code_of (stmts body.now))) }
-    ensures rows { IfOk result (λ first. RowsPut calls.entry.numbers.now walk.old.tos.items set.old (stmts body.now) calls.entry.last first rows.old.items rows.new.items) }
+    ensures rows { IfOk result (λ first. RowsPut calls.entry.numbers.now walk.old.tos.items set.old set.new (stmts body.now) calls.entry.last first keeping.old keeping.new) }
     ensures heads { OnOk result (reverse walk.new.heads.items ≡ drop (loop_total (stmts body.now)) (reverse walk.old.heads.items)) }
 {
     let mut first = calls.last;
@@ -77,7 +49,7 @@ pub(crate) fn put_body_rows(
             last: first,
             ..calls
         };
-        first = put_stmt_rows(walk, rows, before, around, set, &body[left])?;
+        first = put_stmt_rows(walk, keeping, before, around, set, &body[left])?;
     }
     Ok(first)
 }
@@ -86,7 +58,7 @@ pub(crate) fn put_body_rows(
 #[cycle(rows)]
 fn put_stmt_rows(
     walk: &mut Walk,
-    rows: &mut Vec<Vec<bool>>,
+    keeping: &mut Keeping,
     calls: CallsLeft<'_>,
     around: Around<'_>,
     set: &mut [bool],
@@ -94,8 +66,9 @@ fn put_stmt_rows(
 ) -> Result<u32, AllocError>
     requires calls { Countable calls.numbers.now calls.last (stmt_in_front stmt.now no_more) }
     requires nest { Nest around.level around.reach.now walk.old.tos.items set.old (reverse walk.old.heads.items) (stmt_in_front stmt.now no_more) }
+    requires there { StandsAt calls.numbers.now calls.last (length set.old) keeping.old }
     ensures passed { OnOk result (Passed walk.old.tos.items walk.new.tos.items set.old set.new (code_of (stmt_in_front stmt.now no_more))) }
-    ensures rows { IfOk result (λ first. RowsPut calls.entry.numbers.now walk.old.tos.items set.old (stmt_in_front stmt.now no_more) calls.entry.last first rows.old.items rows.new.items) }
+    ensures rows { IfOk result (λ first. RowsPut calls.entry.numbers.now walk.old.tos.items set.old set.new (stmt_in_front stmt.now no_more) calls.entry.last first keeping.old keeping.new) }
     ensures heads { OnOk result (reverse walk.new.heads.items ≡ drop (loop_total (stmt_in_front stmt.now no_more)) (reverse walk.old.heads.items)) }
 {
     match stmt {
@@ -106,14 +79,15 @@ fn put_stmt_rows(
             ..
         } => {
             let place = calls.last - 1;
+            settle_told(keeping, set, *to)?;
             write_told(set, *to);
-            put_row(walk.alloc, rows, calls.numbers, place, set, stack)?;
+            put_call(keeping, calls.numbers, place, set, stack, *args)?;
             read_taken(set, stack, *args);
             Ok(place)
         }
         Stmt::Block(body) => {
             walk.tos.push(copied(walk.alloc, set)?)?;
-            let first = put_body_rows(walk, rows, calls, around, set, body)?;
+            let first = put_body_rows(walk, keeping, calls, around, set, body)?;
             walk.tos.pop();
             Ok(first)
         }
@@ -126,8 +100,9 @@ fn put_stmt_rows(
                 level: inside.level,
                 reach: &inside.reach,
             };
-            let first = put_body_rows(walk, rows, calls, within, &mut inner, body)?;
+            let first = put_body_rows(walk, keeping, calls, within, &mut inner, body)?;
             walk.tos.pop();
+            settle_all(keeping, &inner)?;
             Ok(first)
         }
         Stmt::If {
@@ -137,18 +112,21 @@ fn put_stmt_rows(
         } => {
             let mut other = copied(walk.alloc, set)?;
             walk.tos.push(copied(walk.alloc, set)?)?;
-            let middle = put_body_rows(walk, rows, calls, around, set, else_arm)?;
+            let middle = put_body_rows(walk, keeping, calls, around, set, else_arm)?;
+            settle_all(keeping, set)?;
             let before = CallsLeft {
                 last: middle,
                 ..calls
             };
-            let first = put_body_rows(walk, rows, before, around, &mut other, then_arm)?;
+            let first = put_body_rows(walk, keeping, before, around, &mut other, then_arm)?;
             walk.tos.pop();
+            settle_all(keeping, &other)?;
             join(set, &other);
             read_operand(set, *cond);
             Ok(first)
         }
         _ => {
+            settle_touched(keeping, set, stmt)?;
             pass_simple(&walk.tos, set, stmt);
             Ok(calls.last)
         }

@@ -11,7 +11,7 @@ pub returns-then-not-equal : goal.returns-then-not-equal
 returns-then-not-equal c =
     let cs = c.args.groups.now.items in
     let i = c.len-count.result - 1 in
-    let ks = c.args.calls in
+    let ks = c.args.calls.now in
     let some = some_calls_there ks c.is_empty.result c.is_empty.ensures c.if-is_empty.false in
     let last = last_place c.args.groups.now c.len-count.result c.len-count.ensures c.if-count-eq0.false in
     on_ok_weaker c.put_group-then-not-equal.result
@@ -23,7 +23,7 @@ pub returns : goal.returns
 returns c =
     let cs = c.args.groups.now.items in
     let i = c.len-count.result - 1 in
-    let ks = c.args.calls in
+    let ks = c.args.calls.now in
     let some = some_calls_there ks c.is_empty.result c.is_empty.ensures c.if-is_empty.false in
     let last = last_place c.args.groups.now c.len-count.result c.len-count.ensures c.if-count-eq0.false in
     let first = c.index.ensures ∙ class_any cs i c.index.result.now c.index_mut.result.now (omega (arith, last)) in

@@ -10,32 +10,32 @@ use Rattle.flow_rewrite.specs.Emitting.{Rises}
 use Rattle.func_rewrite.specs.Bodies.{IsSlimBody}
 use Rattle.func_rewrite.proofs.WrittenFuncs.{few_calls, fits, slots_told}
 use Rattle.call_frames.specs.Classes.{KeepCheaply}
-use Rattle.call_frames.specs.Views.{parts_view, sets_of, told_frames}
-use Rattle.live_locals.specs.LiveAt.{lists_of}
-use Rattle.func_rewrite.proofs.CallFacts.{SetsSized, numbers_rise, set_sizes, sets_few, types_few}
+use Rattle.call_frames.specs.Views.{parts_view, told_frames}
+use Rattle.func_rewrite.proofs.CallFacts.{kept_lent, numbers_few, numbers_rise, types_few}
 use Rattle.func_rewrite.proofs.PartsOwed.{live_is}
 use Rattle.func_rewrite.proofs.live_function.live_func.Goals as goal
 
-pub saved_parts-requires-clause-sizes : goal.saved_parts-requires-clause-sizes
-saved_parts-requires-clause-sizes c =
+pub saved_parts-requires-clause-kept : goal.saved_parts-requires-clause-kept
+saved_parts-requires-clause-kept c =
     let calls = c.args.calls.now in
-    let all = set_sizes (module_of c.args.pass.now.valid.now) (settings_of c.args.pass.now.settings.now) c.args.pass.now.which.now (func_of c.args.source.now) c.args.flat.now
-    c.requires.valid c.requires.sizes c.requires.flat calls.numbers.items calls.sets.items c.requires.calls.numbers c.requires.calls.sets in
-    subst (λ ts. SetsSized (length ts) c.deref.result.now) (sym c.deref-2.ensures.value) (subst (SetsSized (length c.args.flat.now.func.locals.items)) (sym c.deref.ensures.value) all)
+    let calls_are = c.requires.calls.rows in (
+      calls_are.sets,
+      kept_lent c.args.flat.now.func.locals.items c.deref-2.result.now calls.numbers.items c.len-count.result calls_are.sets calls.rows.items c.deref.result.now c.deref-2.ensures.value
+          (c.len-count.ensures ∙ calls.numbers.ok.0) c.deref.ensures.value calls_are.kept,
+    )
 
 pub saved_parts-requires-clause-few : goal.saved_parts-requires-clause-few
 saved_parts-requires-clause-few c =
-    let calls = c.args.calls.now in
     let k = types_few (module_of c.args.pass.now.valid.now) (settings_of c.args.pass.now.settings.now) c.args.pass.now.which.now (func_of c.args.source.now) c.args.flat.now
-    c.requires.valid c.requires.sizes c.requires.flat calls.numbers.items calls.sets.items c.requires.calls.numbers c.requires.calls.sets in
+    c.requires.valid c.requires.sizes c.requires.flat in
     let e = ap length c.deref-2.ensures.value in omega (arith, k, e)
 
 pub saved_parts-requires-clause-calls : goal.saved_parts-requires-clause-calls
 saved_parts-requires-clause-calls c =
     let calls = c.args.calls.now in
-    let k = sets_few (module_of c.args.pass.now.valid.now) (settings_of c.args.pass.now.settings.now) c.args.pass.now.which.now (func_of c.args.source.now) c.args.flat.now
-    c.requires.valid c.requires.sizes c.requires.flat calls.numbers.items calls.sets.items c.requires.calls.numbers c.requires.calls.sets in
-    let e = ap length c.deref.ensures.value in omega (arith, k, e)
+    let k = numbers_few (module_of c.args.pass.now.valid.now) (settings_of c.args.pass.now.settings.now) c.args.pass.now.which.now (func_of c.args.source.now) c.args.flat.now
+    c.requires.valid c.requires.sizes c.requires.flat calls.numbers.items c.requires.calls.numbers in
+    let e = c.len-count.ensures ∙ calls.numbers.ok.0 in omega (arith, k, e)
 
 pub live_body-requires-clause-fits : goal.live_body-requires-clause-fits
 live_body-requires-clause-fits c =
@@ -46,7 +46,7 @@ live_body-requires-clause-rises c =
     let calls = c.args.calls.now in
     subst Rises (sym c.deref-5.ensures.value)
     (numbers_rise (module_of c.args.pass.now.valid.now) (settings_of c.args.pass.now.settings.now) c.args.pass.now.which.now (func_of c.args.source.now) c.args.flat.now
-    c.requires.valid c.requires.sizes c.requires.flat calls.numbers.items calls.sets.items c.requires.calls.numbers c.requires.calls.sets)
+    c.requires.valid c.requires.sizes c.requires.flat calls.numbers.items c.requires.calls.numbers)
 
 pub live_body-requires-clause-few : goal.live_body-requires-clause-few
 live_body-requires-clause-few c =
@@ -63,13 +63,15 @@ returns c =
     let ids = c.args.pass.now.ids.now in
     let parts = c.in_ok-parts.parts in
     let told = told_frames (length calls.numbers.items) (length v.func.locals.items) ids.address parts in
-    let cheap = subst (λ ts. KeepCheaply ts (sets_of calls.sets.items) (parts_view parts)) c.deref-2.ensures.value
-    (subst (λ ss. KeepCheaply c.deref-2.result.now (sets_of ss) (parts_view parts)) c.deref.ensures.value c.in_ok-parts.ensures.keep) in
+    let calls_are = c.requires.calls.rows in
+    let kept = kept_lent c.args.flat.now.func.locals.items c.deref-2.result.now calls.numbers.items c.len-count.result calls_are.sets calls.rows.items c.deref.result.now c.deref-2.ensures.value
+    (c.len-count.ensures ∙ calls.numbers.ok.0) c.deref.ensures.value calls_are.kept in
+    let cheap = subst (λ ts. KeepCheaply ts calls_are.sets (parts_view parts)) c.deref-2.ensures.value (c.in_ok-parts.ensures.keep calls_are.sets kept) in
     let body = subst (λ ns. IsSlimBody (module_of c.args.pass.now.valid.now) ns ids.state v.func.func (func_of c.args.source.now) (restoring_by_call (frames_of told) done)
     (saving_by_call (frames_of told) done) (code c.in_ok-body.body.items)) c.deref-5.ensures.value
     (c.in_ok-body.ensures (module_of c.args.pass.now.valid.now) (func_of c.args.source.now) (length calls.numbers.items) c.requires.flat) in
     let locals = c.in_ok-locals.ensures ∙ ap (λ rs. rs ++ map one_run (drop v.first_slot c.deref-4.result.now ++ I32 ∷ I32 ∷ I64 ∷ [])) c.deref-3.ensures.value
     ∙ ap (λ ls. c.args.source.now.locals.items ++ map one_run (drop v.first_slot ls ++ I32 ∷ I32 ∷ I64 ∷ [])) c.deref-4.ensures.value in
     live_is (module_of c.args.pass.now.valid.now) (settings_of c.args.pass.now.settings.now) c.args.pass.now.which.now (func_of c.args.source.now) v
-    c.requires.valid c.requires.sizes c.requires.flat calls.numbers.items (lists_of calls.sets.items) c.requires.calls.numbers c.requires.calls.sets ids c.requires.ids parts cheap
+    c.requires.valid c.requires.sizes c.requires.flat calls.numbers.items calls_are.sets c.requires.calls.numbers calls_are.live ids c.requires.ids parts cheap
     c.in_ok-locals.locals.items (code c.in_ok-body.body.items) locals body

@@ -9,7 +9,7 @@ use Rattle.live_locals.proofs.rows.+rows.Given as goal
 abbrev pub invariant-put_body_rows-loop-left : goal.invariant-put_body_rows-loop-left
 invariant-put_body_rows-loop-left l =
     (l.left ≤ length l.body) × Passed l.fn.walk.tos.items l.walk.tos.items l.fn.set l.set (code_of (stmts (drop l.left l.body)))
-    × RowsPut l.calls.numbers.now l.fn.walk.tos.items l.fn.set (stmts (drop l.left l.body)) l.calls.last l.first l.fn.rows.items l.rows.items
+    × RowsPut l.calls.numbers.now l.fn.walk.tos.items l.fn.set l.set (stmts (drop l.left l.body)) l.calls.last l.first l.fn.keeping l.keeping
     × (reverse l.walk.heads.items ≡ drop (loop_total (stmts (drop l.left l.body))) (reverse l.fn.walk.heads.items))
 
 abbrev pub decreases-put_body_rows-loop-left : goal.decreases-put_body_rows-loop-left
