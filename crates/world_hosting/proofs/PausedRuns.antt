@@ -73,23 +73,23 @@ abbrev pub nothing_told : Account
 nothing_told = record { last = None; ticks = 0 }
 
 -- with an event more
-abbrev pub with_event : Event → Account → Account
-with_event (called call) x = record { last = Some call; ticks = x.ticks }
-with_event (paused ticks used) x = record { last = x.last; ticks = x.ticks + ticks }
-with_event (answered said) x = x
-with_event (parked used) x = x
-with_event (returned entry value) x = x
-with_event (ended how) x = x
-with_event (shown at bytes) x = x
+abbrev pub one_told : Event → Account → Account
+one_told (called call) x = record { last = Some call; ticks = x.ticks }
+one_told (paused ticks used) x = record { last = x.last; ticks = x.ticks + ticks }
+one_told (answered said) x = x
+one_told (parked used) x = x
+one_told (returned entry value) x = x
+one_told (ended how) x = x
+one_told (shown at bytes) x = x
 
 -- with these notes more
 abbrev pub accounted : List Note → Account → Account
 accounted [] x = x
-accounted (y ∷ ys) x = accounted ys (with_event y.event x)
+accounted (y ∷ ys) x = accounted ys (one_told y.event x)
 
 pub accounted_on : (xs ys : List Note) (a : Account) → accounted (xs ++ ys) a ≡ accounted ys (accounted xs a)
 accounted_on [] ys a = refl
-accounted_on (x ∷ xs) ys a = accounted_on xs ys (with_event x.event a)
+accounted_on (x ∷ xs) ys a = accounted_on xs ys (one_told x.event a)
 
 -- the ticks of answers
 abbrev pub ticks_met : List Outcome → ℕ
@@ -106,14 +106,14 @@ ticks_on (refused e ∷ xs) ys = ticks_on xs ys
 
 module _ (p : Module) (plan : Plan) (opened : List Value) (all : List Outcome) where
   -- Of all outcomes these are left, no more were met than was paid, and pauses told no more ticks than answers had.
-  pub record Ran (n : ℕ) (told : Account) (left : List Outcome) : Type 0 where
+  pub record HasMet (n : ℕ) (told : Account) (left : List Outcome) : Type 0 where
     pub done : List Outcome
     pub is : all ≡ done ++ left
     pub few : length done ≤ n
     pub ticks : told.ticks ≤ ticks_met done
 
   -- The call of this import, told last, met this answer, which is a pause and passes its tests on so many bytes; of its ticks so many are told.
-  pub record Waits (size n : ℕ) (told : Account) (i : ℕ) (a : Answer) (ticks_told : ℕ) (left : List Outcome) : Type 0 where
+  pub record IsWaiting (size n : ℕ) (told : Account) (i : ℕ) (a : Answer) (ticks_told : ℕ) (left : List Outcome) : Type 0 where
     pub done : List Outcome
     pub is : all ≡ done ++ given a ∷ left
     pub few : suc (length done) ≤ n
@@ -124,13 +124,13 @@ module _ (p : Module) (plan : Plan) (opened : List Value) (all : List Outcome) w
     pub pauses : 1 ≤ a.ticks
 
   abbrev pub PhaseSo : (size n : ℕ) → Account → Phase → Left → Type 0
-  PhaseSo size n told (is_running task) l = Ran n told l.outcomes
-  PhaseSo size n told (unwinds e i a) l = Waits size n told i a 0 l.outcomes
-  PhaseSo size n told (rewinds e i a since) l = Waits size n told i a a.ticks l.outcomes
+  PhaseSo size n told (is_running task) l = HasMet n told l.outcomes
+  PhaseSo size n told (unwinds e i a) l = IsWaiting size n told i a 0 l.outcomes
+  PhaseSo size n told (rewinds e i a since) l = IsWaiting size n told i a a.ticks l.outcomes
 
   abbrev pub HeldSo : ℕ → Account → Held → Type 0
-  HeldSo n told (free s l) = IsKept p opened s × Ran n told l.outcomes
-  HeldSo n told (starting f s l) = IsKept p opened s × Ran n told l.outcomes
+  HeldSo n told (free s l) = IsKept p opened s × HasMet n told l.outcomes
+  HeldSo n told (starting f s l) = IsKept p opened s × HasMet n told l.outcomes
   HeldSo n told (busy ph c l) = IsKept p opened c.store × PhaseSo (length c.store.memory) n told ph l
   HeldSo n told (calling ph s f args th l) = IsKept p opened s × PhaseSo (length s.memory) n told ph l
   HeldSo n told (aside ph c th l) = IsKept p opened c.store × PhaseSo (length c.store.memory) n told ph l
@@ -143,10 +143,10 @@ module _ (p : Module) (plan : Plan) (opened : List Value) (all : List Outcome) w
 
   -- ---- once more is paid, on no less memory
 
-  ran_later : (n m : ℕ) (told : Account) (os : List Outcome) → n ≤ m → Ran n told os → Ran m told os
-  ran_later n m told os le h = record { done = h.done; is = h.is; few = let few = h.few in omega (arith, le, few); ticks = h.ticks }
+  met_later : (n m : ℕ) (told : Account) (os : List Outcome) → n ≤ m → HasMet n told os → HasMet m told os
+  met_later n m told os le h = record { done = h.done; is = h.is; few = let few = h.few in omega (arith, le, few); ticks = h.ticks }
 
-  waits_later : (size more n m : ℕ) (told : Account) (i : ℕ) (a : Answer) (ticks : ℕ) (os : List Outcome) → size ≤ more → n ≤ m → Waits size n told i a ticks os → Waits more m told i a ticks os
+  waits_later : (size more n m : ℕ) (told : Account) (i : ℕ) (a : Answer) (ticks : ℕ) (os : List Outcome) → size ≤ more → n ≤ m → IsWaiting size n told i a ticks os → IsWaiting more m told i a ticks os
   waits_later size more n m told i a ticks os le before h = record {
     done = h.done;
     is = h.is;
@@ -159,7 +159,7 @@ module _ (p : Module) (plan : Plan) (opened : List Value) (all : List Outcome) w
   }
 
   phase_later : (size more n m : ℕ) (told : Account) (ph : Phase) (l : Left) → size ≤ more → n ≤ m → PhaseSo size n told ph l → PhaseSo more m told ph l
-  phase_later size more n m told (is_running task) l le before h = ran_later n m told l.outcomes before h
+  phase_later size more n m told (is_running task) l le before h = met_later n m told l.outcomes before h
   phase_later size more n m told (unwinds e i a) l le before h = waits_later size more n m told i a 0 l.outcomes le before h
   phase_later size more n m told (rewinds e i a since) l le before h = waits_later size more n m told i a a.ticks l.outcomes le before h
 
@@ -173,7 +173,7 @@ module _ (p : Module) (plan : Plan) (opened : List Value) (all : List Outcome) w
   phase_paid size n k told ph l h = phase_later size size n (n + suc k) told ph l (same size) (paid n k) h
 
   -- the answer of a pause was met
-  waited : (size n k : ℕ) (told : Account) (i : ℕ) (a : Answer) (os : List Outcome) → Waits size n told i a a.ticks os → Ran (n + suc k) told os
+  waited : (size n k : ℕ) (told : Account) (i : ℕ) (a : Answer) (os : List Outcome) → IsWaiting size n told i a a.ticks os → HasMet (n + suc k) told os
   waited size n k told i a os h =
       let more = length-append h.done (given a ∷ []) in
       let sum = ticks_on h.done (given a ∷ []) in
@@ -195,28 +195,28 @@ module _ (p : Module) (plan : Plan) (opened : List Value) (all : List Outcome) w
     abbrev asker_kept : Asker → Type 0
     asker_kept w = IsKept p opened (store_at w)
 
-    on_so : (n : ℕ) (told : Account) (s : Store) (l : Left) (es : List Entry) → IsKept p opened s → Ran n told l.outcomes → HeldSo n (accounted (done_notes s es) told) (held_on s l es)
+    on_so : (n : ℕ) (told : Account) (s : Store) (l : Left) (es : List Entry) → IsKept p opened s → HasMet n told l.outcomes → HeldSo n (accounted (done_notes s es) told) (held_on s l es)
     on_so n told s l [] e t = tt
     on_so n told s l (y ∷ ys) e t = (e, t)
 
-    back_so : (n : ℕ) (told : Account) (k : ℕ) (task : Task) (vs : List Value) (s : Store) (l : Left) → IsKept p opened s → Ran n told l.outcomes → TurnSo n told (held_back k task vs s l)
-    back_so n told k the_start vs s l e t = on_so (n + suc k) told s l l.entries e (ran_later n (n + suc k) told l.outcomes (paid n k) t)
-    back_so n told k (an_entry y) vs s l e t = on_so (n + suc k) told s (next_entry l) l.entries e (ran_later n (n + suc k) told l.outcomes (paid n k) t)
+    back_so : (n : ℕ) (told : Account) (k : ℕ) (task : Task) (vs : List Value) (s : Store) (l : Left) → IsKept p opened s → HasMet n told l.outcomes → TurnSo n told (held_back k task vs s l)
+    back_so n told k the_start vs s l e t = on_so (n + suc k) told s l l.entries e (met_later n (n + suc k) told l.outcomes (paid n k) t)
+    back_so n told k (an_entry y) vs s l e t = on_so (n + suc k) told s (next_entry l) l.entries e (met_later n (n + suc k) told l.outcomes (paid n k) t)
 
-    given_so : (n : ℕ) (told : Account) (k : ℕ) (y : Note) (said : Said) (s : Store) (l : Left) (w : Asker) → IsKept p opened s → Ran (n + suc k) (with_event y.event told) l.outcomes
+    given_so : (n : ℕ) (told : Account) (k : ℕ) (y : Note) (said : Said) (s : Store) (l : Left) (w : Asker) → IsKept p opened s → HasMet (n + suc k) (one_told y.event told) l.outcomes
         → TurnSo n told (held_given k y said s l w)
     given_so n told k y (SV.Value v) s l (inside task c) e t = (e, t)
-    given_so n told k y (SV.Value v) s l (outermost old) e t = on_so (n + suc k) (with_event y.event told) s l l.entries e t
+    given_so n told k y (SV.Value v) s l (outermost old) e t = on_so (n + suc k) (one_told y.event told) s l l.entries e t
     given_so n told k y SV.Trap s l w e t = tt
 
-    resumed_so : (n : ℕ) (told : Account) (k : ℕ) (y : Entry) (said : Said) (since : Store) (c : Configuration) (l : Left) (s : Store) → IsKept p opened s → Ran (n + suc k) told l.outcomes
+    resumed_so : (n : ℕ) (told : Account) (k : ℕ) (y : Entry) (said : Said) (since : Store) (c : Configuration) (l : Left) (s : Store) → IsKept p opened s → HasMet (n + suc k) told l.outcomes
         → TurnSo n told (held_resumed k y said since c l s)
     resumed_so n told k y (SV.Value v) since c l s e t = (e, t)
     resumed_so n told k y SV.Trap since c l s e t = tt
 
     -- a call that pauses
     pauses_so : (n : ℕ) (told : Account) (k import : ℕ) (args : List Value) (ticks : Option ℕ) (a : Answer) (l : Left) (w : Asker) → asker_kept w
-        → (in_start w ≡ false → Waits (length (store_at w).memory) (n + suc k) (record { last = Some (record { import = import; args = args }); ticks = told.ticks }) import a 0 l.outcomes)
+        → (in_start w ≡ false → IsWaiting (length (store_at w).memory) (n + suc k) (record { last = Some (record { import = import; args = args }); ticks = told.ticks }) import a 0 l.outcomes)
         → TurnSo n told (held_pauses x plan k (call_note import args (store_at w) (stack_at p w) ticks) import a l w)
     pauses_so n told k import args ticks a l (inside (an_entry e) c) kept t =
         let in_area = area_in c.store kept in
@@ -255,7 +255,7 @@ module _ (p : Module) (plan : Plan) (opened : List Value) (all : List Outcome) w
           pauses = ticks_some a.ticks t is_pause;
         })
 
-    asked_so : (n : ℕ) (told : Account) (k import : ℕ) (args : List Value) (w : Asker) (l : Left) (os : List Outcome) → asker_kept w → Ran n told os
+    asked_so : (n : ℕ) (told : Account) (k import : ℕ) (args : List Value) (w : Asker) (l : Left) (os : List Outcome) → asker_kept w → HasMet n told os
         → TurnSo n told (held_asked p x plan k import args w l os)
     asked_so n told k import args w l [] kept t = tt
     asked_so n told k import args w l (refused e ∷ os) kept t = tt
@@ -279,8 +279,8 @@ module _ (p : Module) (plan : Plan) (opened : List Value) (all : List Outcome) w
     busy_so n told size ph l stuck h e = tt
 
     -- the pause is told
-    told_pause : (size n : ℕ) (told : Account) (i : ℕ) (a : Answer) (os : List Outcome) → Waits size n told i a 0 os
-        → Waits size n (record { last = told.last; ticks = told.ticks + a.ticks }) i a a.ticks os
+    told_pause : (size n : ℕ) (told : Account) (i : ℕ) (a : Answer) (os : List Outcome) → IsWaiting size n told i a 0 os
+        → IsWaiting size n (record { last = told.last; ticks = told.ticks + a.ticks }) i a a.ticks os
     told_pause size n told i a os h =
         let ticks = h.ticks in
         record { done = h.done; is = h.is; few = h.few; args = h.args; last = h.last; ticks = omega (arith, ticks); passes = h.passes; pauses = h.pauses }
@@ -319,7 +319,7 @@ module _ (p : Module) (plan : Plan) (opened : List Value) (all : List Outcome) w
     enters_so n told ph y s l None e h = tt
     enters_so n told ph y s l (Some f) e h = (e, phase_paid (length s.memory) n (length y.args) told ph l h)
 
-    next_so : (n : ℕ) (told : Account) (s : Store) (l : Left) (es : List Entry) → IsKept p opened s → Ran n told l.outcomes → TurnSo n told (held_next p s l es)
+    next_so : (n : ℕ) (told : Account) (s : Store) (l : Left) (es : List Entry) → IsKept p opened s → HasMet n told l.outcomes → TurnSo n told (held_next p s l es)
     next_so n told s l [] e t = tt
     next_so n told s l (y ∷ ys) e t = enters_so n told (is_running (an_entry y)) y s (record { number = l.number; entries = ys; outcomes = l.outcomes }) (defined_at p y.func) e t
 
@@ -328,8 +328,8 @@ module _ (p : Module) (plan : Plan) (opened : List Value) (all : List Outcome) w
     called_so n told ph s f args th l None e h = tt
     called_so n told ph s f args th l (Some g) e h = (e, phase_paid (length s.memory) n (length args) told ph l h)
 
-    start_so : (n : ℕ) (told : Account) (f : ℕ) (s : Store) (l : Left) (o : Option Func) → IsKept p opened s → Ran n told l.outcomes → TurnSo n told (held_start p x plan f s l o)
-    start_so n told f s l (Some g) e t = (e, ran_later n (n + suc 0) told l.outcomes (paid n 0) t)
+    start_so : (n : ℕ) (told : Account) (f : ℕ) (s : Store) (l : Left) (o : Option Func) → IsKept p opened s → HasMet n told l.outcomes → TurnSo n told (held_start p x plan f s l o)
+    start_so n told f s l (Some g) e t = (e, met_later n (n + suc 0) told l.outcomes (paid n 0) t)
     start_so n told f s l None e t = by_import (nat_lt f (func_imports p))
       where
         by_import : (b : Bool) → TurnSo n told (cond b (held_asked p x plan 0 f [] (outermost s) l l.outcomes) stops)

@@ -28,14 +28,14 @@ use Rattle.run_laws.proofs.SpotRuns.{start_takes_none}
 use Rattle.run_laws.proofs.Stopping.{start_there}
 use Rattle.many_host.specs.Saving.{CanBeSaved}
 use Rattle.snapshot_store.specs.Snapshots.{PausedParts, ProgramRecord, fresh, over, paused}
-use Rattle.world_laws.specs.Snapshots.{IsPaused, IsRecordOf, answer_in, begun_from, halt_at, used_from}
+use Rattle.world_laws.specs.Snapshots.{IsPaused, IsRecordOf, StandsSo, answer_in, begun_from, halt_at, used_from}
 use Rattle.world_laws.specs.Played.{Played}
 use Rattle.world_laws.proofs.Journals.{name_same}
 use Rattle.world_laws.proofs.Places.{all_at, item, zip_at, zipped}
 use Rattle.world_hosting.specs.SnapshotsSuit.{IsSetUp, SnapshotsSuit}
 use Rattle.world_hosting.specs.Suiting.{PauseSuits, RecordSuits}
 use Rattle.world_hosting.proofs.KeptStores.{IsKept, opened_kept}
-use Rattle.world_hosting.proofs.PausedRuns.{Account, HeldSo, Waits, accounted, accounted_on, begun_so, leads_so, nothing_told, ticks_on}
+use Rattle.world_hosting.proofs.PausedRuns.{Account, HeldSo, IsWaiting, accounted, accounted_on, begun_so, leads_so, nothing_told, ticks_met, ticks_on}
 use Rattle.world_hosting.proofs.ServedLines.{HasGone, LastLine, not_gone, played_gone}
 
 -- ---- names of imports
@@ -138,7 +138,7 @@ module _ (w : Program) (set : IsSetUp w) (can : CanBeSaved w) where
     abbrev a : Answer
     a = answer_in (slice_get w.answers (x.answers - 1))
 
-    abbrev waits : Waits w.source w.plan start.globals (met ++ []) (length memory) (0 + h.comes.cost) (accounted made nothing_told) x.import a a.ticks []
+    abbrev waits : IsWaiting w.source w.plan start.globals (met ++ []) (length memory) (0 + h.comes.cost) (accounted made nothing_told) x.import a a.ticks []
     waits = there.1.1
 
     ends_so : met ≡ waits.done ++ given a ∷ []
@@ -205,7 +205,7 @@ module _ (w : Program) (set : IsSetUp w) (can : CanBeSaved w) where
         let same = ap (λ (ns : List Note). (accounted ns nothing_told).ticks) same_made in
         let told = waits.ticks in
         let sum = ticks_on waits.done (given a ∷ []) in
-        let met_is = ap Rattle.world_hosting.proofs.PausedRuns.ticks_met (same_met ∙ ends_so) in
+        let met_is = ap ticks_met (same_met ∙ ends_so) in
         let most = gone.served.ticks in
         let many = ap length (same_met ∙ ends_so) ∙ length-append waits.done (given a ∷ []) in
         let few = waits.few in
@@ -219,7 +219,7 @@ module _ (w : Program) (set : IsSetUp w) (can : CanBeSaved w) where
   pub record_suits : (was now : Actor) (r : ProgramRecord) → StartsHeld w was → HasGone w set.answers can.1 was now → IsRecordOf w was now r → RecordSuits w r
   record_suits was now r starts gone is = by r is.stands
     where
-      by : (z : ProgramRecord) → Rattle.world_laws.specs.Snapshots.StandsSo w is.made is.met now z → RecordSuits w z
+      by : (z : ProgramRecord) → StandsSo w is.made is.met now z → RecordSuits w z
       by fresh h = tt
       by (paused due x memory) h =
           let first = starts.starts.due ∙ ap due_from can.0 in

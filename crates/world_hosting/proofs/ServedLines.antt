@@ -16,11 +16,11 @@ use Rattle.world_laws.specs.AloneLines.{Unbound}
 use Rattle.world_laws.specs.Played.{Played}
 use Rattle.world_laws.proofs.Places.{set_here, set_there}
 use Rattle.world_laws.proofs.Turns.{turn_parts}
-use Rattle.world_hosting.proofs.PausedRuns.{Account, accounted, accounted_on, nothing_told, ticks_met, ticks_on, with_event}
+use Rattle.world_hosting.proofs.PausedRuns.{Account, accounted, accounted_on, nothing_told, ticks_met, ticks_on, one_told}
 
 -- ---- due ticks
 
-event_ticks : (e : Event) (a : Account) → (with_event e a).ticks ≡ a.ticks + ticks_in e
+event_ticks : (e : Event) (a : Account) → (one_told e a).ticks ≡ a.ticks + ticks_in e
 event_ticks (called c) a = omega arith
 event_ticks (answered said) a = omega arith
 event_ticks (paused ticks used) a = refl
@@ -31,7 +31,7 @@ event_ticks (shown at bytes) a = omega arith
 
 pub ticks_told : (xs : List Note) (a : Account) → (accounted xs a).ticks ≡ a.ticks + put_off xs
 ticks_told [] a = omega arith
-ticks_told (x ∷ xs) a = let one = event_ticks x.event a in let rest = ticks_told xs (with_event x.event a) in omega (arith, one, rest)
+ticks_told (x ∷ xs) a = let one = event_ticks x.event a in let rest = ticks_told xs (one_told x.event a) in omega (arith, one, rest)
 
 -- ---- one program
 
@@ -65,7 +65,7 @@ module _ (w : Program) where
   none_served = record { taken = []; is = refl; ticks = omega arith; last = λ done a e. absurd (no_last done (given a) e) }
 
   -- what tells no call
-  event_served : (e : Event) (told : Account) (met : List Outcome) (left : List AnswerLine) → call_in e ≡ None → Served told met left → Served (with_event e told) met left
+  event_served : (e : Event) (told : Account) (met : List Outcome) (left : List AnswerLine) → call_in e ≡ None → Served told met left → Served (one_told e told) met left
   event_served (called c) told met left none h = cc
   event_served (answered said) told met left none h = h
   event_served (paused ticks used) told met left none h = record {
@@ -169,7 +169,7 @@ module _ (w : Program) where
           by_event : (e : Event) → NoteMeets w (call_in e) os lines ds (λ o l d. CallsMeet w xs o l d os' lines' ds')
               → ((told' : Account) (met' : List Outcome) (o : List Outcome) (l : List AnswerLine) (d : List Device) → CallsMeet w xs o l d os' lines' ds' → Served told' met' l
               → ServedOn (accounted xs told') met' o os' lines')
-              → ServedOn (accounted xs (with_event e told)) met os os' lines'
+              → ServedOn (accounted xs (one_told e told)) met os os' lines'
           by_event (called c) m on =
               let bound : MeetsBound w.source c.import c.args None lines ds m.0 m.2 m.3 =
               subst (λ (b : Option (List ℕ)). MeetsBound w.source c.import c.args b lines ds m.0 m.2 m.3) (unbound c.import) m.5 in
@@ -179,12 +179,12 @@ module _ (w : Program) where
                 is = m.4 ∙ ap (λ (z : List Outcome). m.0 ∷ z) r.is;
                 served = subst (λ (z : List Outcome). Served (accounted xs (record { last = Some c; ticks = told.ticks })) z lines') (append_assoc met (m.0 ∷ []) r.more) r.served;
               }
-          by_event (answered said) m on = on (with_event (answered said) told) met os lines ds m (event_served (answered said) told met lines refl s)
-          by_event (paused ticks used) m on = on (with_event (paused ticks used) told) met os lines ds m (event_served (paused ticks used) told met lines refl s)
-          by_event (parked used) m on = on (with_event (parked used) told) met os lines ds m (event_served (parked used) told met lines refl s)
-          by_event (returned entry value) m on = on (with_event (returned entry value) told) met os lines ds m (event_served (returned entry value) told met lines refl s)
-          by_event (ended how) m on = on (with_event (ended how) told) met os lines ds m (event_served (ended how) told met lines refl s)
-          by_event (shown at bytes) m on = on (with_event (shown at bytes) told) met os lines ds m (event_served (shown at bytes) told met lines refl s)
+          by_event (answered said) m on = on (one_told (answered said) told) met os lines ds m (event_served (answered said) told met lines refl s)
+          by_event (paused ticks used) m on = on (one_told (paused ticks used) told) met os lines ds m (event_served (paused ticks used) told met lines refl s)
+          by_event (parked used) m on = on (one_told (parked used) told) met os lines ds m (event_served (parked used) told met lines refl s)
+          by_event (returned entry value) m on = on (one_told (returned entry value) told) met os lines ds m (event_served (returned entry value) told met lines refl s)
+          by_event (ended how) m on = on (one_told (ended how) told) met os lines ds m (event_served (ended how) told met lines refl s)
+          by_event (shown at bytes) m on = on (one_told (shown at bytes) told) met os lines ds m (event_served (shown at bytes) told met lines refl s)
 
       -- ---- an actor of a world
 
