@@ -18,8 +18,8 @@ use Rattle.script_command.specs.declared.way.Way.TheVariants.{Run}
 use Rattle.script_command.specs.PlainScripts.{Play}
 use Rattle.script_command.specs.Playing.{HasScript, IsStage, detaches_in}
 use Rattle.script_command.specs.SavedSnapshots.{FindsSaved, SavedSnapshotsAreTaken, SavedSnapshotsSuit}
-use Rattle.script_command.specs.SnapshotCalls.{Call}
-use Rattle.script_command.specs.SnapshotTelling.{HoldsSnapshot, programs_of}
+use Rattle.script_command.specs.SnapshotCalls.{Call, continues}
+use Rattle.script_command.specs.SnapshotTelling.{Cause, HoldsSnapshot, IsCause, IsRefused, long, programs_of, unfit, unplayed, unread, unwritten}
 use Rattle.script_command.proofs.GoingOver.{HasAlike, texts_of}
 use Rattle.script_command.proofs.Runs.{in_range}
 use Rattle.script_command.proofs.SnapshotAnswering.{continue_passes}
@@ -111,10 +111,19 @@ module _ (most : ℕ) (c c' : Call) (text : List ℕ) (h : FindsSaved most c c' 
   holds : HoldsSnapshot (Some h.files') c'.snap (programs_of play') h.saved.0
   holds = record { bytes = snapshot_bytes h.saved.0; holds = h.snap; few = h.saved.3; spells = h.saved.2; suits = saved_suits most c text h.saved h.few }
 
+  never_refused : (cause : Cause) → IsRefused continues (Some h.files') c'.script c'.snap cause → ⊥
+  never_refused cause refused = continue_passes h.files' c'.script c'.snap cause play' h.saved.0 holds refused
+
+  never_for : (cause : Cause) → IsRefused continues c'.files c'.script c'.snap cause → ⊥
+  never_for cause refused = never_refused cause (subst (λ (f : Option Files). IsRefused continues f c'.script c'.snap cause) h.second refused)
+
+  unread_alone : (cause : Cause) (text' : List ℕ) → IsCause continues c' cause text' → (read : List ℕ) × (cause ≡ unread read)
+  unread_alone (unread read) text' is = (read, refl)
+  unread_alone (unplayed cause) text' is = absurd (never_for (unplayed cause) is.0)
+  unread_alone (long found) text' is = absurd (never_for (long found) is.0)
+  unread_alone unwritten text' is = absurd is.0
+  unread_alone unfit text' is = absurd (never_for unfit is.0)
+
 pub saved_are_taken : SavedSnapshotsAreTaken
 saved_are_taken most c c' text h =
-    let on = play' most c c' text h in
-    let held = holds most c c' text h in (
-      (on, h.saved.0, held),
-      λ cause refused. continue_passes h.files' c'.script c'.snap cause on h.saved.0 held refused,
-    )
+    ((play' most c c' text h, h.saved.0, holds most c c' text h), never_refused most c c' text h, unread_alone most c c' text h)

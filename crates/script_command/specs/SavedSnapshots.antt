@@ -6,7 +6,7 @@ use Rattle.world_hosting.specs.Suiting.{SnapshotSuits}
 use Rattle.script_command.specs.JoinedRuns.{HoldAlike}
 use Rattle.script_command.specs.SnapshotAnswers.{CanBeDone}
 use Rattle.script_command.specs.SnapshotCalls.{Call, continues, saves}
-use Rattle.script_command.specs.SnapshotTelling.{Cause, IsDone, IsRefused, programs_of}
+use Rattle.script_command.specs.SnapshotTelling.{Cause, IsCause, IsDone, IsRefused, programs_of, unread}
 
 -- A snapshot that was saved suits the programs of its script.
 abbrev pub SavedSnapshotsSuit : Type 0
@@ -26,8 +26,9 @@ pub record FindsSaved (most : ℕ) (c c' : Call) (text : List ℕ) : Type 0 wher
   pub snap : files' c'.snap ≡ Some (snapshot_bytes saved.0)
 
 -- Then the second call can go on, and there is no cause for which these files are refused: not as a script, nor as a snapshot that is too long or
--- doesn't fit. (A file of these that can't be read is no such cause.)
+-- doesn't fit. So where it is refused, a file wasn't read.
 abbrev pub SavedSnapshotsAreTaken : Type 0
 SavedSnapshotsAreTaken =
     (most : ℕ) (c c' : Call) (text : List ℕ) (h : FindsSaved most c c' text)
     → CanBeDone continues c' h.files' × ((cause : Cause) → IsRefused continues (Some h.files') c'.script c'.snap cause → ⊥)
+    × ((cause : Cause) (text' : List ℕ) → IsCause continues c' cause text' → (read : List ℕ) × (cause ≡ unread read))
