@@ -8,12 +8,12 @@ use Rattle.script_command.specs.SnapshotAnswers.{CanBeDone}
 use Rattle.script_command.specs.SnapshotCalls.{Call, continues, saves}
 use Rattle.script_command.specs.SnapshotTelling.{Cause, IsCause, IsDone, IsRefused, programs_of, unread}
 
--- A snapshot that was saved suits the programs of its script.
+-- A snapshot that was saved behind 1,000,000,000 events at most suits the programs of its script.
 abbrev pub SavedSnapshotsSuit : Type 0
 SavedSnapshotsSuit = (most : ℕ) (c : Call) (text : List ℕ) (saved : IsDone (saves most) c text) → most ≤ 1000000000 → SnapshotSuits (programs_of saved.1.play) saved.0
 
--- The first call was done, and has saved what stands behind its events; the second one's files hold those bytes as its snapshot, and the same
--- script and modules.
+-- The first call was done, and has saved what stands behind its events, of which it was asked for 1,000,000,000 at most; the second one's files
+-- hold those bytes as its snapshot, and the same script and modules.
 pub record FindsSaved (most : ℕ) (c c' : Call) (text : List ℕ) : Type 0 where
   pub saved : IsDone (saves most) c text
   pub few : most ≤ 1000000000
