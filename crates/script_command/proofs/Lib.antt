@@ -21,6 +21,7 @@ pub mod PutBack
 pub mod Runs
 pub mod SamePrograms
 pub mod SameSetUp
+pub mod SavedSnapshots
 pub mod Scripts
 pub mod SnapshotAnswering
 pub mod SnapshotEnding

@@ -1,16 +1,16 @@
 -- The lines of so many events hold so many turns.
-use Rattle.std.proofs.Common.{arith, ◌≡◌, ◌⊎◌, inl, inr, ◌<◌, ◌+◌, ℕ, zero, suc, List, [], ◌∷◌, ◌++◌, length, map, Option, Some, None, Bool, true, false, refl, sym, ap, ◌∙◌, subst, length-append}
+use Rattle.std.proofs.Common.{arith, ◌≡◌, ◌⊎◌, inl, inr, ◌<◌, ◌+◌, ℕ, zero, suc, List, [], ◌∷◌, length, map, Some, Bool, true, false, refl, sym, ap, ◌∙◌, subst, length-append}
 use Rattle.std.specs.Prelude.{if◌then◌else◌, slice_get, slice_set}
 use Rattle.std.specs.List.{AllZip}
 use Rattle.std.proofs.lemmas.Bool.{cases_lt}
 use Rattle.std.proofs.lemmas.List.{map-append}
 use Rattle.wa_model.specs.declared.answers.Detach.{Detach}
 use Rattle.wa_model.specs.Blocking.{Note}
-use Rattle.wa_model.specs.Outside.{AnswerLine, Call, Event, Line, answered, called, ended, paused, parked, returned, shown}
+use Rattle.wa_model.specs.Outside.{AnswerLine, Event, Line, answered, called, ended, paused, parked, returned, shown}
 use Rattle.wa_model.specs.Plan.{Outcome}
 use Rattle.wa_model.specs.Store.{Store}
-use Rattle.world_model.specs.World.{Actor, CallsMeet, Device, Look, NoteMeets, Plays, Program, StartsHeld, behind_turn, call_in, ends_turn, events_with_looks, is_end, line_at, look_events, looks_after, protocol_story, turn_of}
-use Rattle.world_laws.specs.Originals.{new_calls, one_if}
+use Rattle.world_model.specs.World.{Actor, CallsMeet, Device, Look, Plays, Program, StartsHeld, behind_turn, ends_turn, events_with_looks, line_at, look_events, looks_after, protocol_story, turn_of}
+use Rattle.world_laws.specs.Originals.{new_calls}
 use Rattle.world_laws.specs.Played.{Played}
 use Rattle.world_laws.proofs.Counting.{Ends, calls_on}
 use Rattle.world_laws.proofs.Meeting.{calls_take}

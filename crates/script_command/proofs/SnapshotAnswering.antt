@@ -84,6 +84,14 @@ module _ (all : Files) (name snap : List ℕ) where
   fits_passes p q s held none =
       none.none s (subst (λ (bs : List ℕ). SnapText bs s) (same_bytes held.bytes none.bytes held.holds none.holds) held.spells) (same_suits all name p q s held.suits)
 
+  -- so what can be gone on with isn't
+  pub continue_passes : (cause : Cause) (play : Play (Some all) name) (s : Snapshot) → HoldsSnapshot (Some all) snap (programs_of play) s → IsRefused continues (Some all) name snap cause → ⊥
+  continue_passes (unplayed cause) play s held h = played_passes all name cause play h
+  continue_passes (long found) play s held h = more_few held.bytes held.holds held.few h.1
+  continue_passes unfit play s held h = fits_passes play h.0 s held h.1
+  continue_passes (unread read) play s held h = h
+  continue_passes unwritten play s held h = h
+
   snap_there : (cause : Cause) → IsRefused continues (Some all) name snap cause → (Play (Some all) name → ⊥) ⊎ IsThere all snap
   snap_there (unplayed cause) h = inl (λ play. played_passes all name cause play h)
   snap_there (long found) h = inr (h.1.bytes, h.1.holds)
@@ -150,13 +158,6 @@ module _ (c : Call) (o : Output) (all : Files) where
   save_passes most (unread name) play h = h
   save_passes most unwritten play h = h
 
-  continue_passes : (cause : Cause) (play : Play (Some all) c.script) (s : Snapshot) → HoldsSnapshot (Some all) c.snap (programs_of play) s → IsRefused continues (Some all) c.script c.snap cause → ⊥
-  continue_passes (unplayed cause) play s held h = played_passes all c.script cause play h
-  continue_passes (long found) play s held h = more_few all c.script c.snap held.bytes held.holds held.few h.1
-  continue_passes unfit play s held h = fits_passes all c.script c.snap play h.0 s held h.1
-  continue_passes (unread name) play s held h = h
-  continue_passes unwritten play s held h = h
-
   -- a file that is read for what is refused is there
   read_there : (deed : Deed) (cause : Cause) (read : List ℕ) → IsRefused deed (Some all) c.script c.snap cause → IsReadBy deed here read → IsThere all read
   read_there (saves most) cause read h is = refused_there all c.script c.snap (saves most) cause read h is
@@ -184,9 +185,9 @@ module _ (c : Call) (o : Output) (all : Files) where
   refusals : (deed : Deed) (cause : Cause) (which : End) → IsWhy deed here o which → IsRefused deed (Some all) c.script c.snap cause → Refuses which cause
   refusals deed cause memory why h = inr (inl refl)
   refusals (saves most) cause done why h = absurd (save_passes most cause why.1.1.play h)
-  refusals continues cause done why h = absurd (continue_passes cause why.1.0.play why.1.0.snapshot why.1.0.holds h)
+  refusals continues cause done why h = absurd (continue_passes all c.script c.snap cause why.1.0.play why.1.0.snapshot why.1.0.holds h)
   refusals (saves most) cause sink_fault why h = absurd (save_passes most cause why.2.0.play h)
-  refusals continues cause sink_fault why h = absurd (continue_passes cause why.2.0.play why.2.0.snapshot why.2.0.holds h)
+  refusals continues cause sink_fault why h = absurd (continue_passes all c.script c.snap cause why.2.0.play why.2.0.snapshot why.2.0.holds h)
   refusals (saves most) cause (refused (unread name)) why h = cannot_read (saves most) cause name h why.1.0 why.1.1
   refusals continues cause (refused (unread name)) why h = cannot_read continues cause name h why.1.0 why.1.1
   refusals (saves most) cause (refused (unplayed d)) why h = same_cause (saves most) (unplayed d) cause why.1.0 h
@@ -219,11 +220,11 @@ module _ (c : Call) (o : Output) (all : Files) where
   accepted (saves most) (refused (unplayed d)) why can n = absurd (played_passes all c.script d can why.1.0)
   accepted continues (refused (unplayed d)) why can n = absurd (played_passes all c.script d can.0 why.1.0)
   accepted (saves most) (refused (long found)) why can n = inr (inr tt)
-  accepted continues (refused (long found)) why can n = absurd (continue_passes (long found) can.0 can.1 can.2 why.1.0)
+  accepted continues (refused (long found)) why can n = absurd (continue_passes all c.script c.snap (long found) can.0 can.1 can.2 why.1.0)
   accepted (saves most) (refused unwritten) why can n = absurd (n.saves why.1.1)
   accepted continues (refused unwritten) why can n = absurd why.1.0
   accepted (saves most) (refused unfit) why can n = absurd why.1.0
-  accepted continues (refused unfit) why can n = absurd (continue_passes unfit can.0 can.1 can.2 why.1.0)
+  accepted continues (refused unfit) why can n = absurd (continue_passes all c.script c.snap unfit can.0 can.1 can.2 why.1.0)
 
 -- the end, of the files that are told
 why_told : (deed : Deed) (c : Call) (o : Output) (all : Files) (which : End) → c.files ≡ Some all → IsWhy deed c o which → IsWhy deed (record c { files = Some all }) o which

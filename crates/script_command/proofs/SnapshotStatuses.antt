@@ -10,7 +10,7 @@ use Rattle.script_command.proofs.Statuses.{end_status}
 use Rattle.script_command.specs.SnapshotCalls.{Call, Deed, Output, continues, saves}
 use Rattle.script_command.specs.PlainScripts as S
 use Rattle.script_command.specs.PlainScripts.{IsUnplayed, names_device, not_run, refusal_for}
-use Rattle.script_command.specs.SnapshotTelling.{Cause, IsCause, long, unfit, unplayed, unread, unwritten}
+use Rattle.script_command.specs.SnapshotTelling.{IsCause, long, unfit, unplayed, unread, unwritten}
 use Rattle.script_command.specs.SnapshotEnds.{End, HasEnd, IsOwnStatus, IsStatus, IsWhy, done, memory, refused, sink_fault, status_of_end}
 
 -- what isn't run is refused under `run`

@@ -10,6 +10,7 @@ pub mod PlainScripts
 pub mod PlayedFaults
 pub mod Playing
 pub mod RunOriginals
+pub mod SavedSnapshots
 pub mod SnapshotAnswers
 pub mod SnapshotCalls
 pub mod SnapshotEnds

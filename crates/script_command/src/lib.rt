@@ -21,6 +21,8 @@
 //!   (`specs/HostedOriginals.antt`): a module that was transformed, and then is hosted.
 //! - The text of a save and that of a continue from its snapshot are together the transcript of one run of the originals: each rewrites the
 //!   programs' modules on its own, and stands for the same originals (`specs/JoinedRuns.antt`).
+//! - A snapshot that was saved suits its script's programs, and a continue over the same script and modules isn't refused
+//!   (`specs/SavedSnapshots.antt`).
 //! - Whatever is played, the devices count the faults that the lines tell (`specs/PlayedFaults.antt`).
 //! - A script that can be played isn't refused, and one that is refused is refused for one cause (`specs/Laws.antt`).
 //!
@@ -29,7 +31,7 @@
 //! - `plain_scripts`, `stop`: scripts without devices, opened; and why a call on a snapshot stops before it is done.
 //! - `saving`, `files`: the first events, and the snapshot's file.
 //! - `resuming`, `continuing`: programs that stand for their records, and what they tell from there.
-//! - `originals_run`, `laws`, `joining`, `verdicts`: the laws on `run`, on `host`, on both texts, and on refusals.
+//! - `originals_run`, `laws`, `joining`, `verdicts`: the laws on `run`, on `host`, on what is saved and gone on with, and on refusals.
 #![tactic(auto)]
 
 mod continuing;
@@ -50,7 +52,7 @@ mod verdicts;
 mod way;
 
 pub use continuing::continue_script;
-pub use joining::joined_runs_are_of_originals;
+pub use joining::{joined_runs_are_of_originals, saved_snapshots_are_taken, saved_snapshots_suit};
 pub use laws::hosts_are_of_originals;
 pub use originals_run::{
     bounded_programs_are_whole, played_faults_are_counted, runs_are_of_originals,

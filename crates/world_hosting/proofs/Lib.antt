@@ -20,3 +20,8 @@ pub mod StoryEnds
 pub mod Thawed
 pub mod TurnCounts
 pub mod Values
+pub mod KeptStores
+pub mod PausedRuns
+pub mod ReducedStores
+pub mod SavedPrograms
+pub mod ServedLines

@@ -8,6 +8,7 @@ pub mod OriginalRuns
 pub mod Parted
 pub mod Resuming
 pub mod Saved
+pub mod SnapshotsSuit
 pub mod Suiting
 pub mod ToldAlone
 pub mod Views

@@ -18,13 +18,14 @@
 //! - A program whose imports are bound to no device has the lines that it would have alone, its number aside (`specs/ToldAlone.antt`).
 //! - Each line `end device fault` stands for a fault that the asked device has counted (`specs/FaultCounts.antt`).
 //! - Each device that is left has behind its journal its log: the answered calls to it, in order (`specs/DeviceLogs.antt`).
+//! - A snapshot of programs that are set up suits them: each of its records is one that `resume_program` takes (`specs/SnapshotsSuit.antt`).
 //!
 //! Scripts aren't read here, and modules neither fetched nor rewritten: that is `script_command`.
 //!
 //! - `staging`, `parting`, `hosting`, `telling`: a program made over its module, the programs parted in what hosts them and what prints
 //!   their lines, a host of them, and `host_programs`.
 //! - `laws`: scripts can be staged.
-//! - `originals_told`, `told_alone`, `fault_counts`, `device_logs`: the laws above.
+//! - `originals_told`, `told_alone`, `fault_counts`, `device_logs`, `snapshot_laws`: the laws above.
 //! - `saving`: programs told up to an event, and their snapshot.
 //! - `resuming`, `continuing`: programs that stand for the records of a snapshot, and what is told of them from there.
 #![tactic(auto)]
@@ -38,6 +39,7 @@ mod originals_told;
 mod parting;
 mod resuming;
 mod saving;
+mod snapshot_laws;
 mod staging;
 mod telling;
 mod told_alone;
@@ -50,6 +52,7 @@ pub use originals_told::{told_of_originals, told_programs_end_as_originals};
 pub use pause_host::ThawFault;
 pub use resuming::{Resumed, records_are_resumed, resume_program};
 pub use saving::save_programs;
+pub use snapshot_laws::snapshots_suit;
 pub use staging::{Staged, stage_program};
 pub use telling::host_programs;
 pub use told_alone::unbound_programs_are_told_alone;
