@@ -26,8 +26,9 @@
 //!   memory, and its end as an event.
 //! - `unwinding`, `rewinding`: both halves of a pause.
 //! - `plan`, `entries`, `bindings`, `setting`: what a program is given, and what the host has to know of its module all along.
-//! - `running`, `events`: what comes of each stage, which is an event or a new call of an import.
-//! - `asking`, `program`: what answers a call, and `Program`. Nothing else knows of answer lines and devices.
+//! - `running`, `events`: what comes of each stage, which is an event or a new call of an import. Of these `told` alone, which comes last, is lent
+//!   devices: it asks for the call's outcome.
+//! - `asking`, `program`: what answers a call, and `Program`.
 //! - `globals`, `thawing`: which globals a program can be put back with, and a program that is put back.
 #![tactic(auto)]
 

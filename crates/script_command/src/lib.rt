@@ -21,7 +21,7 @@
 //!   (`specs/HostedOriginals.antt`): a module that was transformed, and then is hosted.
 //! - The text of a save and that of a continue from its snapshot are together the transcript of one run of the originals: each rewrites the
 //!   programs' modules on its own, and stands for the same originals (`specs/JoinedRuns.antt`).
-//! - A snapshot that was saved suits its script's programs, and a continue over the same script and modules isn't refused
+//! - A snapshot that was saved suits its script's programs, and a continue over the same script and modules is refused for nothing but reading
 //!   (`specs/SavedSnapshots.antt`).
 //! - Whatever is played, the devices count the faults that the lines tell (`specs/PlayedFaults.antt`).
 //! - A script that can be played isn't refused, and one that is refused is refused for one cause (`specs/Laws.antt`).
