@@ -6,6 +6,7 @@ pub mod CallsTold
 pub mod CalmLines
 pub mod CutStories
 pub mod GoingOn
+pub mod KeptDevices
 pub mod MailOriginals
 pub mod MailRows
 pub mod NoneWaits

@@ -21,6 +21,7 @@
 mod answer_laws;
 mod bare_laws;
 mod event_laws;
+mod kept_laws;
 mod ongoing_laws;
 mod original_laws;
 mod stalled_laws;
@@ -32,6 +33,7 @@ pub use bare_laws::{
     bare_events_are_those_of_worlds, bare_worlds_are_worlds, none_waits_without_boxes,
 };
 pub use event_laws::runs_with_mail_are_played;
+pub use kept_laws::devices_with_mail_are_kept;
 pub use ongoing_laws::{each_world_with_mail_ends, worlds_with_mail_go_on};
 pub use original_laws::{cut_stories_are_of_originals, worlds_with_mail_are_of_originals};
 pub use stalled_laws::stalls_come_last;
