@@ -1,3 +1,4 @@
+pub mod AloneLines
 pub mod BareBlocking
 pub mod BareWorlds
 pub mod Beginnings

@@ -1,3 +1,4 @@
+pub mod AloneLines
 pub mod Kept
 pub mod MailOriginals
 pub mod MailWorld

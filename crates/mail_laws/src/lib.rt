@@ -18,6 +18,7 @@
 //! - `bare_laws`, `waiting_laws`: worlds without mailboxes; the runs of a program that waits for good, and of one that is sent values.
 #![tactic(auto)]
 
+mod alone_laws;
 mod answer_laws;
 mod bare_laws;
 mod event_laws;
@@ -28,6 +29,7 @@ mod stalled_laws;
 mod told_laws;
 mod waiting_laws;
 
+pub use alone_laws::own_lines_with_mail_are_those_alone;
 pub use answer_laws::answers_are_unread;
 pub use bare_laws::{
     bare_events_are_those_of_worlds, bare_worlds_are_worlds, none_waits_without_boxes,
