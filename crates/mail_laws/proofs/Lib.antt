@@ -1,4 +1,5 @@
 pub mod AloneLines
+pub mod Astray
 pub mod BareBlocking
 pub mod BareWorlds
 pub mod Beginnings

@@ -1,4 +1,5 @@
 pub mod AloneLines
+pub mod Astray
 pub mod Kept
 pub mod MailOriginals
 pub mod MailWorld

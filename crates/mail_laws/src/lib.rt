@@ -20,6 +20,7 @@
 
 mod alone_laws;
 mod answer_laws;
+mod astray_laws;
 mod bare_laws;
 mod event_laws;
 mod kept_laws;
@@ -31,6 +32,7 @@ mod waiting_laws;
 
 pub use alone_laws::own_lines_with_mail_are_those_alone;
 pub use answer_laws::answers_are_unread;
+pub use astray_laws::none_with_mail_goes_astray;
 pub use bare_laws::{
     bare_events_are_those_of_worlds, bare_worlds_are_worlds, none_waits_without_boxes,
 };
