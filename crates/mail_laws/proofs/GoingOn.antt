@@ -364,19 +364,19 @@ module _ (programs : List Program) (detaches : List Detach) (number : ℕ) (tell
 
     -- what it stands at behind the turn
     pub new_size : (Behind w i t tellers (begun_amid number detaches c) size tu.turn tu.met tu.behind.receive) → ℕ
-    new_size (is_over e value small more story) = 0
+    new_size (is_over e value small more story any) = 0
     new_size (is_paused e none size2 lt st) = suc size2
     new_size (is_parked e r some size2 lt st) = suc size2
 
     smaller : (b : Behind w i t tellers (begun_amid number detaches c) size tu.turn tu.met tu.behind.receive) → new_size b < n
     unfolding new_size
-    smaller (is_over e value small more story) = omega (arith, n_is)
+    smaller (is_over e value small more story any) = omega (arith, n_is)
     smaller (is_paused e none size2 lt st) = omega (arith, n_is, lt)
     smaller (is_parked e r some size2 lt st) = omega (arith, n_is, lt)
 
     told_holds : (b : Behind w i t tellers (begun_amid number detaches c) size tu.turn tu.met tu.behind.receive) → Holds w told (new_size b)
     unfolding new_size
-    told_holds (is_over e value small more story) =
+    told_holds (is_over e value small more story any) =
         has_told e (record {
           value = value;
           small = small;

@@ -9,6 +9,7 @@ pub mod CalmLines
 pub mod CutStories
 pub mod GoingOn
 pub mod KeptDevices
+pub mod KnownCalls
 pub mod MailOriginals
 pub mod MailRows
 pub mod NoneWaits

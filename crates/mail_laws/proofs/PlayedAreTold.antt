@@ -273,11 +273,11 @@ module _ (programs : List Program) (detaches : List Detach) (number : ℕ) (whol
           let co = coming play.w (t.0.met ++ play.a.outcomes) t.0.told play.a.notes (still_tells play.w size s.n (Rattle.host_laws.specs.Stretch.meeting play.a.outcomes s.h)) play.next.ready.unfinished held
           (s.story play.a.outcomes) in
           follow play.w play.i t.0 tellers (begun_amid number detaches c) size will play.outcomes play.answers play.behind size s.n s.h s.not_over [] [] t.0.answers (begun_amid number detaches c)
-          (record { plain = tt; calls = λ w2 small2 keeps. (refl, refl, refl); none = refl; posted = post }) tt (omega arith) s.story play.a.outcomes play.a.notes co.rest co.is co.cut here
+          (record { plain = tt; calls = λ w2 small2 keeps. (refl, refl, refl); none = refl; known = (refl, refl, refl); posted = post }) tt (omega arith) s.story play.a.outcomes play.a.notes co.rest co.is co.cut here
       follows size (only_ends xs x pl e story) =
           let co = coming play.w (t.0.met ++ play.a.outcomes) t.0.told play.a.notes (xs ++ x ∷ []) play.next.ready.unfinished held (story play.a.outcomes) in
           f_end play.w play.i t.0 tellers (begun_amid number detaches c) size will play.outcomes play.answers play.behind [] [] t.0.answers (begun_amid number detaches c)
-          (record { plain = tt; calls = λ w2 small2 keeps. (refl, refl, refl); none = refl; posted = post }) tt xs x pl e play.a.outcomes (story play.a.outcomes) play.a.notes co.rest co.is co.cut here
+          (record { plain = tt; calls = λ w2 small2 keeps. (refl, refl, refl); none = refl; known = (refl, refl, refl); posted = post }) tt xs x pl e play.a.outcomes (story play.a.outcomes) play.a.notes co.rest co.is co.cut here
 
       module _ (n : ℕ) (sized : slice_get sizes play.i ≡ Some n) (size : ℕ) (n_is : n ≡ suc size)
           (f : Followed play.w play.i t.0 tellers (begun_amid number detaches c) size will play.outcomes play.answers play.behind [] [] play.a.notes play.a.outcomes) where

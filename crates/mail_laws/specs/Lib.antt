@@ -5,6 +5,7 @@ pub mod MailOriginals
 pub mod MailWorld
 pub mod Mailboxes
 pub mod Played
+pub mod Replays
 pub mod SendingRun
 pub mod Stalling
 pub mod Told
