@@ -79,6 +79,10 @@ abbrev pub CallFree : List Note → Type 0
 CallFree [] = Unit {0}
 CallFree (x ∷ xs) = (call_in x.event ≡ None) × CallFree xs
 
+-- one note that is no call
+abbrev pub OneQuiet : List Note → Type 0
+OneQuiet xs = (z : Note) × (xs ≡ z ∷ []) × (call_in z.event ≡ None)
+
 abbrev pub KnownNote : Program → (silent : Type 0) → Option Call → List Outcome → List AnswerLine → Amid → List Outcome → List AnswerLine → Amid
     → (List Outcome → List AnswerLine → Amid → Type 0) → Type 0
 KnownNote w silent None os lines m os' lines' m' rest = rest os lines m
@@ -89,12 +93,12 @@ KnownNote w silent (Some c) os lines m os' lines' m' rest =
 -- each call of these notes, of which one such receive may be the last
 abbrev pub KnownCalls : Program → List Note → List Outcome → List AnswerLine → Amid → List Outcome → List AnswerLine → Amid → Type 0
 KnownCalls w [] os lines m os' lines' m' = (os' ≡ os) × (lines' ≡ lines) × (m' ≡ m)
-KnownCalls w (x ∷ xs) os lines m os' lines' m' = KnownNote w (CallFree xs) (call_in x.event) os lines m os' lines' m' (λ o l z. KnownCalls w xs o l z os' lines' m')
+KnownCalls w (x ∷ xs) os lines m os' lines' m' = KnownNote w (OneQuiet xs) (call_in x.event) os lines m os' lines' m' (λ o l z. KnownCalls w xs o l z os' lines' m')
 
 pub known_free : (w : Program) (es : List Note) (lines : List AnswerLine) (m : Amid) → CallFree es → KnownCalls w es [] lines m [] lines m
 known_free w [] lines m free = (refl, refl, refl)
 known_free w (x ∷ es) lines m free =
-    subst (λ (q : Option Call). KnownNote w (CallFree es) q [] lines m [] lines m (λ o l z. KnownCalls w es o l z [] lines m)) (sym free.0) (known_free w es lines m free.1)
+    subst (λ (q : Option Call). KnownNote w (OneQuiet es) q [] lines m [] lines m (λ o l z. KnownCalls w es o l z [] lines m)) (sym free.0) (known_free w es lines m free.1)
 
 -- those of notes behind others, none of which is such a receive
 pub known_more : (w : Program) (xs ys : List Note) (os us : List Outcome) (lines l1 l2 : List AnswerLine) (m m1 m2 : Amid) → KnownCalls w xs os lines m [] l1 m1 → m1.receive ≡ None
@@ -107,9 +111,9 @@ known_more w (x ∷ xs) ys os us lines l1 l2 m m1 m2 h none k = by (call_in x.ev
     received : (r : Await) → m1 ≡ record m { receive = Some r } → ⊥
     received r e = let bad : None ≡ Some r = sym none ∙ ap (λ (z : Amid). z.receive) e in cc
 
-    by : (c : Option Call) → KnownNote w (CallFree xs) c os lines m [] l1 m1 (λ o l z. KnownCalls w xs o l z [] l1 m1)
+    by : (c : Option Call) → KnownNote w (OneQuiet xs) c os lines m [] l1 m1 (λ o l z. KnownCalls w xs o l z [] l1 m1)
         → ((o : List Outcome) (l : List AnswerLine) (z : Amid) → KnownCalls w xs o l z [] l1 m1 → KnownCalls w (xs ++ ys) (o ++ us) l z [] l2 m2)
-        → KnownNote w (CallFree (xs ++ ys)) c (os ++ us) lines m [] l2 m2 (λ o l z. KnownCalls w (xs ++ ys) o l z [] l2 m2)
+        → KnownNote w (OneQuiet (xs ++ ys)) c (os ++ us) lines m [] l2 m2 (λ o l z. KnownCalls w (xs ++ ys) o l z [] l2 m2)
     by None g on = on os lines m g
     by (Some c) (inl g) on = inl (g.0, g.1 ++ us, g.2, g.3, ap (λ (o : List Outcome). o ++ us) g.4, g.5, on g.1 g.2 g.3 g.6)
     by (Some c) (inr g) on = absurd (received g.0 g.5)

@@ -22,7 +22,7 @@ use Rattle.mail_laws.proofs.OpenMoves.{IsTame, NotOver, Plain, Leaves, on_it_goe
 use Rattle.mail_laws.proofs.Tales.{tale, tale_stops, tale_dear, tale_goes, tale_over, unwound, Unread, then_ends, then_pauses, unread, Receives, r_stops, r_ends, r_unwinds, receives}
 use Rattle.mail_laws.specs.Replays.{wrong_in}
 use Rattle.mail_laws.proofs.CallsTold.{Posted, Chosen, Awaits, choose}
-use Rattle.mail_laws.proofs.KnownCalls.{CallFree, KnownCalls, KnownNote, known_more, known_then_free}
+use Rattle.mail_laws.proofs.KnownCalls.{CallFree, KnownCalls, KnownNote, OneQuiet, known_more, known_then_free}
 
 -- ---- notes
 
@@ -320,7 +320,7 @@ module _ (w : Program) (i : ℕ) (t : Teller) (tellers : List Teller) (begin : A
             (ch.meets will keeps);
         none = ch.none ∙ so.none;
         known = known_more w part (y ∷ []) os (ch.o ∷ []) t.answers lines ch.lines' begin m ch.m' so.known so.none
-            (subst (λ (q : Option Call). KnownNote w (CallFree []) q (ch.o ∷ []) lines m [] ch.lines' ch.m' (λ us l z. KnownCalls w [] us l z [] ch.lines' ch.m')) (sym goes_on.1)
+            (subst (λ (q : Option Call). KnownNote w (OneQuiet []) q (ch.o ∷ []) lines m [] ch.lines' ch.m' (λ us l z. KnownCalls w [] us l z [] ch.lines' ch.m')) (sym goes_on.1)
             (inl (ch.o, [], ch.lines', ch.m', refl, ch.known, (refl, refl, refl))));
         posted = record {
           once = λ j. subst (λ (k : ℕ). k ≤ 1) (sym (ch.same j)) (so.posted.once j);
@@ -351,8 +351,8 @@ module _ (w : Program) (i : ℕ) (t : Teller) (tellers : List Teller) (begin : A
             subst (λ (us : List Outcome). KnownCalls w ((part ++ y ∷ []) ++ z ∷ []) us t.answers begin [] lines now) (append-nil os)
             (subst (λ (ns : List Note). KnownCalls w ns (os ++ []) t.answers begin [] lines now) (sym (append_assoc part (y ∷ []) (z ∷ [])))
             (known_more w part (y ∷ z ∷ []) os [] t.answers lines lines begin m now so.known so.none
-            (subst (λ (q : Option Call). KnownNote w (CallFree (z ∷ [])) q [] lines m [] lines now (λ us l u. KnownCalls w (z ∷ []) us l u [] lines now)) (sym goes_on.1)
-            (inr (aw.r, aw.known, (none, tt), refl, refl, refl)))));
+            (subst (λ (q : Option Call). KnownNote w (OneQuiet (z ∷ [])) q [] lines m [] lines now (λ us l u. KnownCalls w (z ∷ []) us l u [] lines now)) (sym goes_on.1)
+            (inr (aw.r, aw.known, (z, refl, none), refl, refl, refl)))));
         posted = record { once = so.posted.once; waits = so.posted.waits; small = so.posted.small };
         after = after;
       }

@@ -1,0 +1,8 @@
+//! Laws of worlds with mailboxes that are told again by what was kept of them.
+
+ghost use Rattle.mail_laws.specs.Replays.{JournalsFixLines};
+
+/// Two runs of one world that end with the same journals, and tell faults and values of a wrong type at the same places, have the same lines.
+pub fn journals_with_mail_fix_lines()
+    ensures { JournalsFixLines }
+{}
