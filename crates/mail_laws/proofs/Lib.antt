@@ -18,6 +18,7 @@ pub mod Played
 pub mod PlayedAreTold
 pub mod PlayedParts
 pub mod Promises
+pub mod SameTold
 pub mod SameTurns
 pub mod SendingRun
 pub mod Stalling

@@ -9,12 +9,14 @@ use Rattle.wa_types.specs.declared.values.Value.TheVariants as V
 use Rattle.wa_model.specs.declared.events.End.{End}
 use Rattle.wa_model.specs.Outside.{Answer, AnswerLine, Call, Event, Line, answered, called, ended, parked, paused, returned, shown}
 use Rattle.wa_model.specs.Plan.{Outcome, given, refused}
-use Rattle.wa_model.specs.Blocking.{Note}
+use Rattle.wa_model.specs.Blocking.{Note, note}
+use Rattle.wa_model.specs.Store.{Store}
 use Rattle.world_model.specs.World.{Device, Look, MeetsBound as UnboxedBound, MeetsDevice, Meets as UnboxedMeets, Program, base_names, call_in, ends_turn, events_with_looks, import_names, line_at, looks_after, name_at, protocol_story}
 use Rattle.world_laws.specs.Originals.{new_calls, one_if}
 use Rattle.world_laws.specs.Replays.{is_fault}
 use Rattle.world_laws.proofs.Counting.{calls_on}
 use Rattle.world_laws.proofs.Determined.{line_fixes}
+use Rattle.world_laws.proofs.Faults.{Opens}
 use Rattle.world_laws.proofs.Heads.{FirstSame, Like, Met, front_same, next_same, no_fault_behind, refusal_next, same_met}
 use Rattle.world_laws.proofs.Journals.{Grows, grows_on, grows_same, journal_of, meets_grow}
 use Rattle.world_laws.proofs.Locksteps.{call_is, shows_none}
@@ -67,15 +69,51 @@ calls_grow w name (x ∷ xs) os us lines left m m' h = by_call (λ o l z g. call
     by_call on (Some c) (inl g) = grows_on name m.devices g.3.devices m'.devices (known_grows w name c lines g.2 m g.3 g.0 g.5) (on g.1 g.2 g.3 g.6)
     by_call on (Some c) (inr g) = grows_same name m.devices m'.devices (ap (λ (z : Amid). journal_of name z.devices) g.5)
 
+-- they leave what isn't received yet
+known_receive : (w : Program) (c : Call) (lines left : List AnswerLine) (m m' : Amid) (o : Outcome) → Known w c lines m o left m' → m'.receive ≡ m.receive
+known_receive w c lines left m m' o h = by_bound (bound_to w c) h
+  where
+    by_values : (name vs : List ℕ) → KnownValues name vs m o m' → m'.receive ≡ m.receive
+    by_values name [] g = absurd g
+    by_values name (v ∷ vs) g = ap (λ (z : Amid). z.receive) g.1
+
+    by_args : (name : List ℕ) (b : Box) (args : List Value) → KnownBox c.import name args b m o m' → m'.receive ≡ m.receive
+    by_args name b [] g = by_values name b.values g
+    by_args name b (V.I32 v ∷ []) g = ap (λ (z : Amid). z.receive) g.1
+    by_args name b (V.I32 v ∷ y ∷ ys) g = ap (λ (z : Amid). z.receive) g.1
+    by_args name b (V.I64 v ∷ ys) g = ap (λ (z : Amid). z.receive) g.1
+
+    by_found : (name : List ℕ) (found : Option Box) → KnownNamed c.import (name_at (base_names w.source) c.import) name c.args found m o m' → m'.receive ≡ m.receive
+    by_found name None g = ap (λ (z : Amid). z.receive) g.2
+    by_found name (Some b) g = by_args name b c.args g
+
+    by_bound : (b : Option (List ℕ)) → KnownBound w.source c.import c.args b lines m o left m' → m'.receive ≡ m.receive
+    by_bound None g = ap (λ (z : Amid). z.receive) g.1
+    by_bound (Some name) g = by_found name (find (has_name name) m.boxes) g.0
+
 -- 1 for a receive that is open
 abbrev pub open_receive : Option Await → ℕ
 open_receive None = 0
 open_receive (Some r) = 1
 
 -- so many calls there are, of which one may be such a receive
-pub calls_count : (w : Program) (xs : List Note) (os us : List Outcome) (lines left : List AnswerLine) (m m' : Amid) → KnownCalls w xs os lines m us left m' → m.receive ≡ None → m'.receive ≡ None
-    → new_calls xs + length us ≡ length os
-calls_count w xs os us lines left m m' h none after = ?
+pub calls_count : (w : Program) (xs : List Note) (os us : List Outcome) (lines left : List AnswerLine) (m m' : Amid) → KnownCalls w xs os lines m us left m' → m.receive ≡ None
+    → new_calls xs + length us ≡ length os + open_receive m'.receive
+calls_count w [] os us lines left m m' h none =
+    let e = ap length h.0 in let z : open_receive m'.receive ≡ 0 = ap open_receive (ap (λ (z : Amid). z.receive) h.2 ∙ none) in omega (arith, e, z)
+calls_count w (x ∷ xs) os us lines left m m' h none = by_call (λ o l z g e. calls_count w xs o us l left z m' g e) (call_in x.event) h
+  where
+    by_call : ((o : List Outcome) (l : List AnswerLine) (z : Amid) → KnownCalls w xs o l z us left m' → z.receive ≡ None → new_calls xs + length us ≡ length o + open_receive m'.receive)
+        → (c : Option Call) → KnownNote w (OneQuiet xs) c os lines m us left m' (λ o l z. KnownCalls w xs o l z us left m')
+        → (one_if c + new_calls xs) + length us ≡ length os + open_receive m'.receive
+    by_call on None g = let h = on os lines m g none in omega (arith, h)
+    by_call on (Some c) (inl g) =
+        let h = on g.1 g.2 g.3 g.6 (known_receive w c lines g.2 m g.3 g.0 g.5 ∙ none) in let e = ap length g.4 in omega (arith, h, e)
+    by_call on (Some c) (inr g) =
+        let e = ap length g.3 in
+        let one : open_receive m'.receive ≡ 1 = ap (λ (z : Amid). open_receive z.receive) g.5 in
+        let quiet : new_calls xs ≡ 0 = ap new_calls g.2.1 ∙ ap (λ (c : Option Call). one_if c + 0) g.2.2 in
+        omega (arith, e, one, quiet)
 
 -- ---- one call in two runs
 
@@ -97,14 +135,14 @@ one_await w c m r q a b =
     a.is ∙ ap (λ (n : List ℕ). record { import = c.import; box = n }) e ∙ sym b.is
 
 -- what is told behind a call
-record Tells (w : Program) (c : Call) (ds' : List Device) (n : List Note) (o : Outcome) (m : Amid) : Type 0 where
+record Shows (w : Program) (c : Call) (ds' : List Device) (n : List Note) (o : Outcome) (m : Amid) : Type 0 where
   grows : (name : List ℕ) → bound_to w c ≡ Some name → Grows name m.devices ds'
-  opens : (a : Answer) → o ≡ given a → Rattle.world_laws.proofs.Faults.Opens n
-  fails : (e : End) → o ≡ refused e → (s : Rattle.wa_model.specs.Store.Store) × (zs : List Note) × (n ≡ Rattle.wa_model.specs.Blocking.note (ended e) s ∷ zs)
+  opens : (a : Answer) → o ≡ given a → Opens n
+  fails : (e : End) → o ≡ refused e → (s : Store) × (zs : List Note) × (n ≡ note (ended e) s ∷ zs)
   some : (z : Note) × (zs : List Note) × (n ≡ z ∷ zs)
 
 known_same : (w : Program) (c : Call) (lines : List AnswerLine) (ds' : List Device) (n1 n2 : List Note) (m m1 m2 : Amid) (o q : Outcome) (l1 l2 : List AnswerLine)
-    → Known w c lines m o l1 m1 → Known w c lines m q l2 m2 → Tells w c ds' n1 o m1 → Tells w c ds' n2 q m2 → FirstSame n1 n2 → (o ≡ q) × (l1 ≡ l2) × (m1 ≡ m2)
+    → Known w c lines m o l1 m1 → Known w c lines m q l2 m2 → Shows w c ds' n1 o m1 → Shows w c ds' n2 q m2 → FirstSame n1 n2 → (o ≡ q) × (l1 ≡ l2) × (m1 ≡ m2)
 known_same w c lines ds' n1 n2 m m1 m2 o q l1 l2 h k a b first = by_bound (bound_to w c) refl h k
   where
     by_values : (name vs : List ℕ) → KnownValues name vs m o m1 → KnownValues name vs m q m2 → (o ≡ q) × (m1 ≡ m2)
@@ -240,7 +278,7 @@ module _ (w : Program) (ds' : List Device) (due number : ℕ) (p q : Option Awai
       let st2 : protocol_story w (pre ++ h.0 ∷ (h.1 ++ t2)) ≡ done ++ y ∷ (n2 ++ r2) = ap (λ (vs : List Outcome). protocol_story w (pre ++ (vs ++ t2))) (sym h.4) ∙ s2 in
       let some1 = some_first n1 r1 once1 in
       let some2 = some_first n2 r2 once2 in
-      let a : Tells w c ds' (n1 ++ r1) g.0 g.3 = record {
+      let a : Shows w c ds' (n1 ++ r1) g.0 g.3 = record {
         grows = λ name bound. grows_on name g.3.devices m1.devices ds' (calls_grow w name n1 g.1 [] g.2 l1 g.3 m1 g.6) (grow1 c name bound);
         opens = λ v e. no_fault_behind w pre (g.1 ++ t1) done x c (n1 ++ r1) v count (ap (λ (o : Outcome). protocol_story w (pre ++ o ∷ (g.1 ++ t1))) (sym e) ∙ st1) is1;
         fails = λ f e.
@@ -249,7 +287,7 @@ module _ (w : Program) (ds' : List Device) (due number : ℕ) (p q : Option Awai
             (r.0, r.1, some1.2 ∙ r.2);
         some = some1;
       } in
-      let b : Tells w c ds' (n2 ++ r2) h.0 h.3 = record {
+      let b : Shows w c ds' (n2 ++ r2) h.0 h.3 = record {
         grows = λ name bound. grows_on name h.3.devices m2.devices ds' (calls_grow w name n2 h.1 [] h.2 l2 h.3 m2 h.6) (grow2 c name bound);
         opens = λ v e. no_fault_behind w pre (h.1 ++ t2) done y c (n2 ++ r2) v count (ap (λ (o : Outcome). protocol_story w (pre ++ o ∷ (h.1 ++ t2))) (sym e) ∙ st2) is2;
         fails = λ f e.
