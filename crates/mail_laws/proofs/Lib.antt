@@ -4,12 +4,14 @@ pub mod BareBlocking
 pub mod BareWorlds
 pub mod Beginnings
 pub mod CallsInRange
+pub mod CallsCounted
 pub mod CallsTold
 pub mod CalmLines
 pub mod CutStories
 pub mod GoingOn
 pub mod KeptDevices
 pub mod KnownCalls
+pub mod MailJournals
 pub mod MailOriginals
 pub mod MailRows
 pub mod NoneWaits
@@ -20,6 +22,7 @@ pub mod PlayedParts
 pub mod Promises
 pub mod SameTold
 pub mod SameTurns
+pub mod SameWorlds
 pub mod SendingRun
 pub mod Stalling
 pub mod StallsMet

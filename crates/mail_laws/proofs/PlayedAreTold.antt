@@ -164,7 +164,7 @@ coming w os told ms tale some (to_wait rest e p) f =
 
 -- ---- one event
 
-unready : (v : ℕ) (t : Teller) (h : Whole) (a : Actor) → Tied v t h a → IsReady a → (t.has_ended ≡ false) × (t.receive ≡ None)
+pub unready : (v : ℕ) (t : Teller) (h : Whole) (a : Actor) → Tied v t h a → IsReady a → (t.has_ended ≡ false) × (t.receive ≡ None)
 unready v t h a tie ready = by t.has_ended t.receive refl refl
   where
     by : (b : Bool) (o : Option Await) → t.has_ended ≡ b → t.receive ≡ o → (t.has_ended ≡ false) × (t.receive ≡ None)
@@ -572,10 +572,10 @@ module _ (begun : ℕ) (programs : List Program) (detaches : List Detach) (boxes
 
 -- ---- from where programs begin
 
-abbrev whole_from : Actor → Whole
+abbrev pub whole_from : Actor → Whole
 whole_from a = record { notes = a.notes; outcomes = a.outcomes }
 
-opens_so : (names : List (List ℕ)) → map empty_box names ≡ map (promised (λ (j : ℕ). 0)) (map no_mail names)
+pub opens_so : (names : List (List ℕ)) → map empty_box names ≡ map (promised (λ (j : ℕ). 0)) (map no_mail names)
 opens_so [] = refl
 opens_so (n ∷ names) = ap (λ (l : List Mailbox). empty_box n ∷ l) (opens_so names)
 

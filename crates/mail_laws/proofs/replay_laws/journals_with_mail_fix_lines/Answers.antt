@@ -1,5 +1,5 @@
-use Rattle.mail_laws.proofs.SameTold.{told_twice}
+use Rattle.mail_laws.proofs.SameWorlds.{journals_fix_lines}
 use Rattle.mail_laws.proofs.replay_laws.journals_with_mail_fix_lines.Goals as goal
 
 pub returns : goal.returns
-returns c = ?
+returns c = journals_fix_lines
