@@ -16,11 +16,11 @@ use Rattle.wa_model.specs.Plan.{Outcome}
 use Rattle.wa_model.specs.Blocking.{Note}
 use Rattle.world_model.specs.World.{Original, Program, base_names, behind_turn, call_in, events_with_looks, is_end, line_at, look_events, name_at, put_off, turn_of}
 use Rattle.run_theory.specs.Growth.{Each}
-use Rattle.world_laws.specs.AloneLines.{Unbound, own_line, own_lines}
-use Rattle.world_laws.proofs.AloneLines.{other_number, own_of_self, own_on, same_number}
+use Rattle.world_laws.specs.AloneLines.{Unbound, own_lines}
+use Rattle.world_laws.proofs.AloneLines.{other_number, own_of_self, own_on}
 use Rattle.world_laws.proofs.Places.{all_at, map_at, set_here, set_there, zip_at}
 use Rattle.mail_laws.specs.Mailboxes.{CallsMeet, Mailbox, Meets, MeetsBound, MeetsBox, MeetsNamed, MeetsValues, Midst, NoteMeets, Receive, Shared, Waiting, at_box, awaited, is_box, received, receiver, sent, sent_past}
-use Rattle.mail_laws.specs.MailWorld.{Actor, EachEnds, Events, HasEnded, Plays, Runs, StartsHeld, StartsOriginal, Stalls, TakesTurn, a_stall, a_turn, an_event, begins_over, begun_event, no_event, nobody, parked_at, parks, pauses, sharing, store_behind, tells_end, told_pause, turn_lines, wake, with_waiting, woken}
+use Rattle.mail_laws.specs.MailWorld.{Actor, EachEnds, Events, HasEnded, Plays, Runs, StartsHeld, StartsOriginal, Stalls, TakesTurn, a_stall, a_turn, an_event, begins_over, begun_event, no_event, nobody, parked_at, parks, pauses, sharing, store_behind, tells_end, told_pause, wake, with_waiting, woken}
 use Rattle.mail_laws.specs.WithoutBoxes.{bare}
 use Rattle.mail_laws.specs.AloneLines.{OwnLinesAlone, OwnLinesBlocking}
 use Rattle.mail_laws.proofs.BareBlocking.{blocking_without_boxes}

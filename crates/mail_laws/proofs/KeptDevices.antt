@@ -8,7 +8,7 @@ use Rattle.wa_model.specs.declared.answers.Detach.{Detach}
 use Rattle.wa_model.specs.Outside.{AnswerLine, Call, Line}
 use Rattle.wa_model.specs.Plan.{Outcome}
 use Rattle.wa_model.specs.Blocking.{Note}
-use Rattle.world_model.specs.World.{Device, MeetsBound as UnboxedBound, Original, Program, base_names, call_in, detached, name_at, turn_of}
+use Rattle.world_model.specs.World.{MeetsBound as UnboxedBound, Original, Program, base_names, call_in, detached, name_at, turn_of}
 use Rattle.world_laws.specs.Kept.{Kept}
 use Rattle.world_laws.proofs.KeptDevices.{Stay, all_kept, detached_kept, kept_on, meets_stay, stay_on, stay_same}
 use Rattle.mail_laws.specs.Mailboxes.{CallsMeet, Mailbox, Meets, MeetsBound, MeetsBox, MeetsNamed, MeetsValues, Midst, NoteMeets, Shared, is_box}

@@ -474,7 +474,7 @@ module _ (programs : List Program) (detaches : List Detach) (number : ℕ) (whol
       stall_shared = play.shared ∙ ap (λ (z : Shared). record z { devices = detached number detaches z.devices }) is_shared
 
       pub stalled_lines : lines ≡ stall_lines programs detaches number tellers c sizes all none_due at2
-      stalled_lines = 
+      stalled_lines =
           play.made
           ∙ (λ k. map (line_at (ap (λ (z : Shared). z.tick) is_shared k) play.i)
           (Rattle.wa_model.specs.Outside.ended (Rattle.wa_model.specs.declared.events.End.TheVariants.Stalled (waits2.at k).import)

@@ -1,5 +1,5 @@
 -- What a program tells in a turn is fixed by where it stands, and by what its devices do.
-use Rattle.std.proofs.Common.{◌≡◌, ◌<◌, ◌^◌, ◌⊎◌, inl, inr, ℕ, List, [], ◌∷◌, ◌++◌, length, Option, Some, None, Bool, true, false, MatchBool, refl, sym, ap, ◌∙◌, subst, append_assoc, append-nil}
+use Rattle.std.proofs.Common.{◌≡◌, ◌⊎◌, inl, inr, ℕ, List, [], ◌∷◌, ◌++◌, length, Option, Some, Bool, true, false, MatchBool, refl, sym, ap, ◌∙◌, subst, append_assoc, append-nil}
 use Rattle.std.proofs.lemmas.List.{append_cancel_left}
 use Rattle.wa_types.specs.declared.values.Value.TheVariants as V
 use Rattle.wa_model.specs.Outside.{Call, Line}
@@ -13,7 +13,7 @@ use Rattle.mail_laws.specs.Mailboxes.{mailed}
 use Rattle.mail_laws.specs.MailWorld.{parks}
 use Rattle.mail_laws.specs.Told.{Amid, Await, EndsOnce, Teller, pending}
 use Rattle.mail_laws.proofs.KnownCalls.{bound_to}
-use Rattle.mail_laws.proofs.SameTurns.{Agree, Lines, Same, SameNotes, turn_same}
+use Rattle.mail_laws.proofs.SameTurns.{Agree, Lines, turn_same}
 use Rattle.mail_laws.proofs.TurnsTold.{Behind, Stands, Turned, is_over, is_parked, is_paused, last_wrong, some_receive, still_tells}
 
 -- ---- turns at the front of notes

@@ -1,8 +1,6 @@
 -- A turn that one program tells in two runs, from where it stands in both.
-use Rattle.std.proofs.Common.{arith, ◌≡◌, ◌<◌, ◌≤◌, ◌+◌, ◌⊎◌, inl, inr, ℕ, suc, List, [], ◌∷◌, ◌++◌, length, map, Option, Some, None, Bool, true, false, MatchBool, slice_get, refl, sym, ap, ◌∙◌, subst, append_assoc, append-nil, length-append}
+use Rattle.std.proofs.Common.{arith, ◌≡◌, ◌+◌, ◌⊎◌, inl, inr, ℕ, suc, List, [], ◌∷◌, ◌++◌, length, map, Option, Some, None, Bool, true, false, MatchBool, slice_get, refl, sym, ap, ◌∙◌, subst, append_assoc, length-append}
 use Rattle.std.specs.List.{find}
-use Rattle.std.specs.Option.{unwrap_or}
-use Rattle.std.proofs.lemmas.List.{append_cancel_left}
 use Rattle.std.proofs.lemmas.Option.{same_Some}
 use Rattle.wa_types.specs.declared.values.Value.{Value}
 use Rattle.wa_types.specs.declared.values.Value.TheVariants as V
@@ -11,7 +9,7 @@ use Rattle.wa_model.specs.Outside.{Answer, AnswerLine, Call, Event, Line, answer
 use Rattle.wa_model.specs.Plan.{Outcome, given, refused}
 use Rattle.wa_model.specs.Blocking.{Note, note}
 use Rattle.wa_model.specs.Store.{Store}
-use Rattle.world_model.specs.World.{Device, Look, MeetsBound as UnboxedBound, MeetsDevice, Meets as UnboxedMeets, Program, base_names, call_in, ends_turn, events_with_looks, import_names, line_at, looks_after, name_at, protocol_story}
+use Rattle.world_model.specs.World.{Device, Look, MeetsBound as UnboxedBound, MeetsDevice, Meets as UnboxedMeets, Program, base_names, call_in, ends_turn, events_with_looks, import_names, line_at, name_at, protocol_story}
 use Rattle.world_laws.specs.Originals.{new_calls, one_if}
 use Rattle.world_laws.specs.Replays.{is_fault}
 use Rattle.world_laws.proofs.Counting.{calls_on}

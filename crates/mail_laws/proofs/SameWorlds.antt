@@ -12,22 +12,22 @@ use Rattle.world_laws.specs.Replays.{Lasting}
 use Rattle.world_laws.proofs.Journals.{Grows}
 use Rattle.world_laws.proofs.Places.{all_at, item}
 use Rattle.mail_laws.specs.Mailboxes.{CallsMeet, Midst, Shared}
-use Rattle.mail_laws.specs.MailWorld.{Actor, HasEnded, HeldStory, IsNext, IsOver, Parked, Plays, ProtocolWorldFrom, Stalls, TakesTurn, a_stall, a_turn, begun_event, parked_at, parks, sharing, store_behind, turn_lines, wake, with_waiting}
+use Rattle.mail_laws.specs.MailWorld.{Actor, HasEnded, HeldStory, IsNext, IsOver, Parked, Plays, Stalls, TakesTurn, a_stall, a_turn, begun_event, parked_at, parks, sharing, store_behind, turn_lines, wake, with_waiting}
 use Rattle.mail_laws.specs.Played.{EndsAreTold, Played, ProtocolWorldUpToFrom}
 use Rattle.mail_laws.specs.Replays.{JournalsFixLines}
-use Rattle.mail_laws.specs.Told.{Amid, Await, Common, IsLeast, KeepsPromises, NoneDue, Teller, begun_amid, due_of, ends_program, pending, promised, number_of, receive_of, shared_by, starting as teller_at, tells_stall, tells_turn, opening as told_opening, waits_at}
+use Rattle.mail_laws.specs.Told.{Amid, Common, IsLeast, KeepsPromises, Teller, begun_amid, due_of, ends_program, pending, promised, number_of, receive_of, shared_by, starting as teller_at, tells_stall, tells_turn, opening as told_opening}
 use Rattle.mail_laws.proofs.Beginnings.{start_size}
 use Rattle.mail_laws.proofs.CallsCounted.{Counted, set_counted, start_counted, turn_counted}
 use Rattle.mail_laws.proofs.CalmLines.{Calm, Going, calm_event, going_event}
 use Rattle.mail_laws.proofs.GoingOn.{AllHold, Holds, c2, goes_along, has_told, new_sizes, no_await, now, out, sent, stall, stall_keeps, start_holds, turn, turn_holds, waits_on}
 use Rattle.mail_laws.proofs.KnownCalls.{bound_to}
 use Rattle.mail_laws.proofs.MailJournals.{played_grows}
-use Rattle.mail_laws.proofs.PlayedAreTold.{Beside, Tied, awake_on, at2, beside, calm, follows, least, lines_are, none_due, opens_so, over2, small1, stall_beside, stall_shared, stalled_lines, start_going, stories, teller_there, tie2, turn_beside, turn_shared, unready, waits2, whole_at, whole_from, will1}
+use Rattle.mail_laws.proofs.PlayedAreTold.{Beside, awake_on, at2, beside, calm, follows, least, lines_are, none_due, opens_so, over2, small1, stall_beside, stall_shared, stalled_lines, start_going, stories, teller_there, tie2, turn_beside, turn_shared, unready, whole_at, whole_from, will1}
 use Rattle.mail_laws.proofs.PlayedParts.{whole_is_played}
 use Rattle.mail_laws.proofs.Promises.{still_sent}
 use Rattle.mail_laws.proofs.SameTold.{Twice, told_twice}
 use Rattle.mail_laws.proofs.SameTurns.{Agree, open_receive}
-use Rattle.mail_laws.proofs.ToldAreWorlds.{Whole, parked_of}
+use Rattle.mail_laws.proofs.ToldAreWorlds.{Whole}
 use Rattle.mail_laws.proofs.TurnsFollowed.{Followed}
 use Rattle.mail_laws.proofs.TurnsTold.{Knows, Turned}
 

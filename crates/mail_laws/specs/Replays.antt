@@ -1,12 +1,11 @@
 -- What a world's devices keep of it fixes its lines, with mailboxes too.
-use Rattle.std.specs.Prelude.{◌≡◌, ℕ, List, Option, Some, None, All, slice_get}
+use Rattle.std.specs.Prelude.{◌≡◌, ℕ, List, Option, Some, None, slice_get}
 use Rattle.wa_types.specs.declared.values.Value.{Value}
 use Rattle.wa_model.specs.declared.answers.Detach.{Detach}
 use Rattle.wa_model.specs.declared.events.End.{End}
 use Rattle.wa_model.specs.declared.events.End.TheVariants.{BadAnswer}
 use Rattle.wa_model.specs.Outside.{Event, Line, ended}
 use Rattle.world_model.specs.World.{Device, Program}
-use Rattle.world_laws.specs.AloneLines.{Unbound}
 use Rattle.world_laws.specs.Replays.{Lasting, SameFaults}
 use Rattle.mail_laws.specs.MailWorld.{ProtocolWorldFrom}
 
