@@ -1,6 +1,6 @@
 -- Two runs of a world with mailboxes that end with the same journals, and tell faults and values of a wrong type at the same places, are one.
 use Rattle.std.proofs.Common.{arith, ◌≡◌, ◌<◌, ◌≤◌, ◌+◌, ◌^◌, ◌⊎◌, inl, inr, ℕ, zero, suc, List, [], ◌∷◌, ◌++◌, length, map, Option, Some, None, true, false, slice_get, slice_set, refl, sym, ap, ◌∙◌, subst, append_assoc}
-use Rattle.std.specs.Option.{option_map}
+use Rattle.std.specs.Option.{option_map, unwrap_or}
 use Rattle.std.proofs.lemmas.Option.{same_Some, slice_get_within}
 use Rattle.wa_model.specs.declared.answers.Detach.{Detach}
 use Rattle.wa_model.specs.declared.events.End.TheVariants.{Stalled}
@@ -8,13 +8,15 @@ use Rattle.wa_model.specs.Outside.{AnswerLine, Call, Line, ended}
 use Rattle.wa_model.specs.Plan.{Outcome}
 use Rattle.wa_model.specs.Blocking.{Note}
 use Rattle.world_model.specs.World.{Device, Program, behind_turn, detached, line_at, look_events, put_off, turn_of}
-use Rattle.world_laws.specs.Replays.{Lasting}
+use Rattle.world_laws.specs.AloneLines.{Unbound}
+use Rattle.world_laws.specs.Replays.{SameFaults}
 use Rattle.world_laws.proofs.Journals.{Grows}
 use Rattle.world_laws.proofs.Places.{all_at, item}
+use Rattle.mailbox_device.specs.Mail.{empty_box as empty_mail, names_of}
 use Rattle.mail_laws.specs.Mailboxes.{CallsMeet, Midst, Shared}
-use Rattle.mail_laws.specs.MailWorld.{Actor, HasEnded, HeldStory, IsNext, IsOver, Parked, Plays, Stalls, TakesTurn, a_stall, a_turn, begun_event, parked_at, parks, sharing, store_behind, turn_lines, wake, with_waiting}
+use Rattle.mail_laws.specs.MailWorld.{Actor, HasEnded, HeldStory, IsNext, IsOver, Parked, Plays, ProtocolWorldFrom, Stalls, TakesTurn, a_stall, a_turn, begun_event, parked_at, parks, sharing, store_behind, turn_lines, wake, with_waiting}
 use Rattle.mail_laws.specs.Played.{EndsAreTold, Played, ProtocolWorldUpToFrom}
-use Rattle.mail_laws.specs.Replays.{JournalsFixLines}
+use Rattle.mail_laws.specs.Replays.{AsksDevice, IsNoBox, JournalsFixLines, LastingDevices, MailboxesFixLines, SameWrongs, UnboundFixLines}
 use Rattle.mail_laws.specs.Told.{Amid, Common, IsLeast, KeepsPromises, Teller, begun_amid, due_of, ends_program, pending, promised, number_of, receive_of, shared_by, starting as teller_at, tells_stall, tells_turn, opening as told_opening}
 use Rattle.mail_laws.proofs.Beginnings.{start_size}
 use Rattle.mail_laws.proofs.CallsCounted.{Counted, set_counted, start_counted, turn_counted}
@@ -26,7 +28,7 @@ use Rattle.mail_laws.proofs.PlayedAreTold.{Beside, awake_on, at2, beside, calm, 
 use Rattle.mail_laws.proofs.PlayedParts.{whole_is_played}
 use Rattle.mail_laws.proofs.Promises.{still_sent}
 use Rattle.mail_laws.proofs.SameTold.{Twice, told_twice}
-use Rattle.mail_laws.proofs.SameTurns.{Agree, open_receive}
+use Rattle.mail_laws.proofs.SameTurns.{Agree, calls_names, open_receive, parked_names}
 use Rattle.mail_laws.proofs.ToldAreWorlds.{Whole}
 use Rattle.mail_laws.proofs.TurnsFollowed.{Followed}
 use Rattle.mail_laws.proofs.TurnsTold.{Knows, Turned}
@@ -43,12 +45,12 @@ one_least dues i j d e n k = by (n.least j e k.there) (k.least i d n.there)
     by (inr l) (inl m) = let no_way : ⊥ = omega (arith, l.0, m) in absurd no_way
     by (inr l) (inr m) = omega (arith, l.1, m.1)
 
-agree_past : (ls xs ys : List Line) → Agree (ls ++ xs) (ls ++ ys) → Agree xs ys
+agree_past : {F W : Type 0} (ls xs ys : List Line) → Agree F W (ls ++ xs) (ls ++ ys) → Agree F W xs ys
 agree_past [] xs ys h = h
 agree_past (l ∷ ls) xs ys h = agree_past ls xs ys (λ i x y a b. h (suc i) x y a b)
 
-agree_as : {a b c d : List Line} → a ≡ c → b ≡ d → Agree a b → Agree c d
-agree_as {a} {b} {c} {d} e f h = subst (λ (ls : List Line). Agree ls d) e (subst (λ (ls : List Line). Agree a ls) f h)
+agree_as : {F W : Type 0} {a b c d : List Line} → a ≡ c → b ≡ d → Agree F W a b → Agree F W c d
+agree_as {F} {W} {a} {b} {c} {d} e f h = subst (λ (ls : List Line). Agree F W ls d) e (subst (λ (ls : List Line). Agree F W a ls) f h)
 
 no_parked : (p : Parked) → None ≡ Some p → ⊥
 no_parked p e = cc
@@ -119,14 +121,15 @@ module _ {w : Program} {i : ℕ} {t : Teller} {tellers : List Teller} {begin : A
 -- ---- where both stand
 
 -- what is known behind the same events of both
-record Known (programs : List Program) (tellers : List Teller) (c : Common) (sizes : List ℕ) (before : List Line) : Type 0 where
+record Known (programs : List Program) (boxes : List (List ℕ)) (tellers : List Teller) (c : Common) (sizes : List ℕ) (before : List Line) : Type 0 where
   holds : AllHold programs tellers c sizes
   counted : Counted tellers
+  named : names_of c.boxes ≡ boxes
   calm : Calm before tellers
   going : Going programs tellers
 
 -- a run that goes on from there to its end
-record Goes (programs : List Program) (detaches : List Detach) (ds' : List Device) (wholes : List Whole) (tellers : List Teller) (c : Common) (before : List Line) (number count : ℕ) (lines : List Line)
+record Goes (programs : List Program) (detaches : List Detach) (boxes : List (List ℕ)) (ds' : List Device) (wholes : List Whole) (tellers : List Teller) (c : Common) (before : List Line) (number count : ℕ) (lines : List Line)
     : Type 0 where
   will : ℕ → ℕ
   small : (j : ℕ) → will j < 2 ^ 32
@@ -139,15 +142,25 @@ record Goes (programs : List Program) (detaches : List Detach) (ds' : List Devic
   played : Played programs detaches number count actors sh lines last end
   ends : EndsAreTold programs (before ++ lines) last
   over : IsOver last
-  devices : end.devices ≡ ds'
+  devices : AsksDevice programs boxes → end.devices ≡ ds'
 
 abbrev Stories : List Program → List Whole → Type 0
 Stories programs wholes = (i : ℕ) (w : Program) (h : Whole) → slice_get programs i ≡ Some w → slice_get wholes i ≡ Some h → HeldStory w h.outcomes h.notes
 
-module _ (programs : List Program) (detaches : List Detach) (ds' : List Device) (lasting : Lasting programs detaches) where
+-- some import is bound
+abbrev SomeBound : List Program → Type 0
+SomeBound programs = (i : ℕ) × (w : Program) × (import : ℕ) × (name : List ℕ) × (slice_get programs i ≡ Some w) × (unwrap_or (slice_get w.binds import) None ≡ Some name)
+
+module _ (programs : List Program) (detaches : List Detach) (boxes : List (List ℕ)) (ds' : List Device) (lasting : LastingDevices programs detaches boxes) where
+  abbrev F : Type 0
+  F = AsksDevice programs boxes
+
+  abbrev W : Type 0
+  W = SomeBound programs
+
   -- where one is over, no event of the other is left
-  none_left : (number : ℕ) (tellers : List Teller) (c : Common) (sizes : List ℕ) (before lines1 lines2 : List Line) (wholes1 wholes2 : List Whole) (count : ℕ) → Known programs tellers c sizes before
-      → (one : Goes programs detaches ds' wholes1 tellers c before number zero lines1) (two : Goes programs detaches ds' wholes2 tellers c before number (suc count) lines2) → ⊥
+  none_left : (number : ℕ) (tellers : List Teller) (c : Common) (sizes : List ℕ) (before lines1 lines2 : List Line) (wholes1 wholes2 : List Whole) (count : ℕ) → Known programs boxes tellers c sizes before
+      → (one : Goes programs detaches boxes ds' wholes1 tellers c before number zero lines1) (two : Goes programs detaches boxes ds' wholes2 tellers c before number (suc count) lines2) → ⊥
   none_left number tellers c sizes before lines1 lines2 wholes1 wholes2 count s one two = by two.played.4
     where
       over1 : (i : ℕ) (a : Actor) → slice_get one.actors i ≡ Some a → HasEnded a
@@ -174,19 +187,23 @@ module _ (programs : List Program) (detaches : List Detach) (ds' : List Device) 
 
   module _ (wholes1 wholes2 : List Whole) (stories1 : Stories programs wholes1) (stories2 : Stories programs wholes2) where
     abbrev One : List Teller → Common → List Line → ℕ → ℕ → List Line → Type 0
-    One = Goes programs detaches ds' wholes1
+    One = Goes programs detaches boxes ds' wholes1
 
     abbrev Two : List Teller → Common → List Line → ℕ → ℕ → List Line → Type 0
-    Two = Goes programs detaches ds' wholes2
+    Two = Goes programs detaches boxes ds' wholes2
+
+    -- the same lines, and the same devices at the end
+    abbrev Ends : Shared → Shared → List Line → List Line → Type 0
+    Ends end1 end2 lines1 lines2 = (lines1 ≡ lines2) × (end1.devices ≡ end2.devices)
 
     -- what is left of both is one
     abbrev Rest : ℕ → ℕ → ℕ → Type 0
     Rest count1 count2 number =
-        (tellers : List Teller) (c : Common) (sizes : List ℕ) (before lines1 lines2 : List Line) → Known programs tellers c sizes before → One tellers c before number count1 lines1
-        → Two tellers c before number count2 lines2 → Agree lines1 lines2 → lines1 ≡ lines2
+        (tellers : List Teller) (c : Common) (sizes : List ℕ) (before lines1 lines2 : List Line) → Known programs boxes tellers c sizes before → (one : One tellers c before number count1 lines1)
+        → (two : Two tellers c before number count2 lines2) → Agree F W lines1 lines2 → Ends one.end two.end lines1 lines2
 
-    module _ (count1 count2 number : ℕ) (tellers : List Teller) (c : Common) (sizes : List ℕ) (before lines1 lines2 : List Line) (s : Known programs tellers c sizes before)
-        (one : One tellers c before number (suc count1) lines1) (two : Two tellers c before number (suc count2) lines2) (agree : Agree lines1 lines2) (on : Rest count1 count2 (suc number)) where
+    module _ (count1 count2 number : ℕ) (tellers : List Teller) (c : Common) (sizes : List ℕ) (before lines1 lines2 : List Line) (s : Known programs boxes tellers c sizes before)
+        (one : One tellers c before number (suc count1) lines1) (two : Two tellers c before number (suc count2) lines2) (agree : Agree F W lines1 lines2) (on : Rest count1 count2 (suc number)) where
       awake1 : (j : ℕ) (t : Teller) (a : Actor) → slice_get tellers j ≡ Some t → slice_get one.actors j ≡ Some a → t.has_ended ≡ false → t.receive ≡ None → 0 < length a.notes
       awake1 = awake_on programs detaches (suc count1) number wholes1 before lines1 tellers c sizes one.will one.actors one.last one.sh one.end s.holds one.beside s.calm s.going one.played one.ends
 
@@ -218,11 +235,11 @@ module _ (programs : List Program) (detaches : List Detach) (ds' : List Device) 
       z2 = two.played.3
 
       -- both have made one event
-      go_on : (tellers' : List Teller) (c' : Common) (sizes' : List ℕ) (will1' will2' : ℕ → ℕ) → f1 ≡ f2 → Known programs tellers' c' sizes' (before ++ f1) → ((j : ℕ) → will1' j < 2 ^ 32)
-          → ((j : ℕ) → will2' j < 2 ^ 32) → Beside will1' wholes1 tellers' acts1 → Beside will2' wholes2 tellers' acts2 → z1 ≡ shared_by will1' c' → z2 ≡ shared_by will2' c' → lines1 ≡ lines2
+      go_on : (tellers' : List Teller) (c' : Common) (sizes' : List ℕ) (will1' will2' : ℕ → ℕ) → f1 ≡ f2 → Known programs boxes tellers' c' sizes' (before ++ f1) → ((j : ℕ) → will1' j < 2 ^ 32)
+          → ((j : ℕ) → will2' j < 2 ^ 32) → Beside will1' wholes1 tellers' acts1 → Beside will2' wholes2 tellers' acts2 → z1 ≡ shared_by will1' c' → z2 ≡ shared_by will2' c' → Ends one.end two.end lines1 lines2
       go_on tellers' c' sizes' will1' will2' same known small1' small2' beside1' beside2' shared1' shared2' =
           let split2 : lines2 ≡ f1 ++ m2 = two.played.6 ∙ ap (λ (ls : List Line). ls ++ m2) (sym same) in
-          let a : Agree (f1 ++ m1) (f1 ++ m2) = subst (λ (ls : List Line). Agree (f1 ++ m1) ls) split2 (subst (λ (ls : List Line). Agree ls lines2) one.played.6 agree) in
+          let a : Agree F W (f1 ++ m1) (f1 ++ m2) = subst (λ (ls : List Line). Agree F W (f1 ++ m1) ls) split2 (subst (λ (ls : List Line). Agree F W ls lines2) one.played.6 agree) in
           let r = on tellers' c' sizes' (before ++ f1) m1 m2 known
           (record {
             will = will1';
@@ -253,7 +270,7 @@ module _ (programs : List Program) (detaches : List Detach) (ds' : List Device) 
             devices = two.devices;
           })
           (agree_past f1 m1 m2 a) in
-          one.played.6 ∙ ap (λ (ls : List Line). f1 ++ ls) r ∙ sym split2
+          (one.played.6 ∙ ap (λ (ls : List Line). f1 ++ ls) r.0 ∙ sym split2, r.1)
 
       -- a turn in both
       module _ (p1 : TakesTurn programs detaches number one.actors one.sh f1 acts1 z1) (u : (t : Teller) × (slice_get tellers p1.i ≡ Some t)) (h1 : (h : Whole) × (slice_get wholes1 p1.i ≡ Some h))
@@ -267,24 +284,28 @@ module _ (programs : List Program) (detaches : List Detach) (ds' : List Device) 
         least1 : IsLeast (map due_of tellers) p1.i u.0.due
         least1 = least programs detaches number wholes1 one.will tellers c sizes s.holds one.actors one.beside stories1 awake1 one.small one.sh one.shared f1 acts1 z1 p1 u h1
 
-        both_turn : (n : ℕ) (sized : slice_get sizes p1.i ≡ Some n) (size : ℕ) (n_is : n ≡ suc size) → Knows p1.w u.0.met u.0.told size → lines1 ≡ lines2
+        abbrev asked : (call : Call) (name : List ℕ) → bound_to p1.w call ≡ Some name → IsNoBox name boxes → F
+        asked call name bound no_box = record { i = p1.i; w = p1.w; import = call.import; name = name; program = p1.program; bound = bound; no_box = no_box }
+
+        both_turn : (n : ℕ) (sized : slice_get sizes p1.i ≡ Some n) (size : ℕ) (n_is : n ≡ suc size) → Knows p1.w u.0.met u.0.told size → Ends one.end two.end lines1 lines2
         both_turn n sized size n_is knows =
             let g1 = follows programs detaches number wholes1 one.will tellers c sizes s.holds one.actors one.beside stories1 awake1 one.small one.sh one.shared f1 acts1 z1 p1 u h1 size knows in
             let k2 = follows programs detaches number wholes2 two.will tellers c sizes s.holds two.actors two.beside stories2 awake2 two.small two.sh two.shared f2 acts2 z2 p2 u h2 size knows in
-            let grow1 : (call : Call) (name : List ℕ) → bound_to p1.w call ≡ Some name → Grows name g1.tu.behind.devices ds' =
-            λ call name bound.
+            let grow1 : F → (call : Call) (name : List ℕ) → bound_to p1.w call ≡ Some name → IsNoBox name boxes → Grows name g1.tu.behind.devices ds' =
+            λ asks call name bound no_box.
             subst (λ (ds : List Device). Grows name ds ds') (ap (λ (y : Shared). y.devices) (turn_shared programs detaches number wholes1 one.will tellers c sizes s.holds one.actors one.beside stories1 awake1 one.small one.sh one.shared f1 acts1 z1 p1 u h1 n sized size n_is g1))
-            (subst (λ (ds : List Device). Grows name z1.devices ds) one.devices
-            (played_grows programs detaches name (lasting p1.i call.import p1.w name p1.program bound) count1 (suc number) acts1 one.last z1 one.end m1 one.played.5)) in
-            let grow2 : (call : Call) (name : List ℕ) → bound_to p1.w call ≡ Some name → Grows name k2.tu.behind.devices ds' =
-            λ call name bound.
+            (subst (λ (ds : List Device). Grows name z1.devices ds) (one.devices asks)
+            (played_grows programs detaches name (lasting (asked call name bound no_box)) count1 (suc number) acts1 one.last z1 one.end m1 one.played.5)) in
+            let grow2 : F → (call : Call) (name : List ℕ) → bound_to p1.w call ≡ Some name → IsNoBox name boxes → Grows name k2.tu.behind.devices ds' =
+            λ asks call name bound no_box.
             subst (λ (ds : List Device). Grows name ds ds') (ap (λ (y : Shared). y.devices) (turn_shared programs detaches number wholes2 two.will tellers c sizes s.holds two.actors two.beside stories2 awake2 two.small two.sh two.shared f2 acts2 z2 p2 u h2 n sized size n_is k2))
-            (subst (λ (ds : List Device). Grows name z2.devices ds) two.devices
-            (played_grows programs detaches name (lasting p1.i call.import p1.w name p1.program bound) count2 (suc number) acts2 two.last z2 two.end m2 two.played.5)) in
+            (subst (λ (ds : List Device). Grows name z2.devices ds) (two.devices asks)
+            (played_grows programs detaches name (lasting (asked call name bound no_box)) count2 (suc number) acts2 two.last z2 two.end m2 two.played.5)) in
             let count = s.counted p1.i u.0 u.1 in
             let none : open_receive u.0.receive ≡ 0 = ap open_receive calm1.1 in
-            let twice : Twice p1.w p1.i u.0 tellers (begun_amid number detaches c) size g1.tu k2.tu ds' u.0.due m1 m2 =
-            told_twice p1.w p1.i u.0 tellers (begun_amid number detaches c) size g1.tu k2.tu ds' u.0.due m1 m2 (omega (arith, count, none)) grow1 grow2
+            let twice : Twice p1.w p1.i u.0 tellers (begun_amid number detaches c) size g1.tu k2.tu ds' u.0.due m1 m2 F W boxes =
+            told_twice p1.w p1.i u.0 tellers (begun_amid number detaches c) size g1.tu k2.tu ds' u.0.due m1 m2 F W boxes (omega (arith, count, none)) s.named asked
+            (λ call name bound. (p1.i, p1.w, call.import, name, p1.program, bound)) grow1 grow2
             (agree_as (one.played.6 ∙ ap (λ (ls : List Line). ls ++ m1) (lines_are programs detaches number wholes1 one.will tellers c sizes s.holds one.actors one.beside stories1 awake1 one.small one.sh one.shared f1 acts1 z1 p1 u h1 n sized size n_is g1))
             (two.played.6 ∙ ap (λ (ls : List Line). ls ++ m2) (lines_are programs detaches number wholes2 two.will tellers c sizes s.holds two.actors two.beside stories2 awake2 two.small two.sh two.shared f2 acts2 z2 p2 u h2 n sized size n_is k2)) agree) in
             let g2 = follows_as k2 g1.tu twice.turn twice.met twice.answers twice.behind in
@@ -295,6 +316,8 @@ module _ (programs : List Program) (detaches : List Detach) (ds' : List Device) 
               holds = turn_holds programs detaches number tellers c sizes s.holds p1.i p1.w u.0 n p1.program u.1 sized calm1.0 calm1.1 least1 size n_is g1.tu;
               counted = turn_counted (suc u.0.due) p1.i g1.tu.behind.settled tellers u.0 p1.w g1.tu.turn g1.tu.met g1.tu.answers (begun_amid number detaches c) g1.tu.behind
                   (still_sent tellers g1.tu.behind.settled p1.i _ (out programs detaches number tellers c sizes s.holds p1.i p1.w u.0 n p1.program u.1 sized calm1.0 calm1.1 least1 size n_is g1.tu) (sent programs detaches number tellers c sizes s.holds p1.i p1.w u.0 n p1.program u.1 sized calm1.0 calm1.1 least1 size n_is g1.tu)) s.counted count calm1.1 refl g1.tu.known;
+              named = parked_names p1.i (parks g1.tu.turn g1.tu.behind.receive) g1.tu.behind.boxes
+                  ∙ calls_names p1.w g1.tu.turn g1.tu.met [] u.0.answers g1.tu.answers (begun_amid number detaches c) g1.tu.behind g1.tu.known ∙ s.named;
               calm = subst (λ (ls : List Line). Calm (before ++ ls) (now programs detaches number tellers c sizes s.holds p1.i p1.w u.0 n p1.program u.1 sized calm1.0 calm1.1 least1 size n_is g1.tu)) (sym (lines_are programs detaches number wholes1 one.will tellers c sizes s.holds one.actors one.beside stories1 awake1 one.small one.sh one.shared f1 acts1 z1 p1 u h1 n sized size n_is g1))
                   (calm_event programs detaches number tellers c before _ s.calm (now programs detaches number tellers c sizes s.holds p1.i p1.w u.0 n p1.program u.1 sized calm1.0 calm1.1 least1 size n_is g1.tu) (c2 programs detaches number tellers c sizes s.holds p1.i p1.w u.0 n p1.program u.1 sized calm1.0 calm1.1 least1 size n_is g1.tu) told_event);
               going = going_event programs detaches number tellers c _ s.going (now programs detaches number tellers c sizes s.holds p1.i p1.w u.0 n p1.program u.1 sized calm1.0 calm1.1 least1 size n_is g1.tu) (c2 programs detaches number tellers c sizes s.holds p1.i p1.w u.0 n p1.program u.1 sized calm1.0 calm1.1 least1 size n_is g1.tu) told_event;
@@ -302,20 +325,20 @@ module _ (programs : List Program) (detaches : List Detach) (ds' : List Device) 
             (small1 programs detaches number wholes1 one.will tellers c sizes s.holds one.actors one.beside stories1 awake1 one.small one.sh one.shared f1 acts1 z1 p1 u h1 n sized size n_is g1) (small1 programs detaches number wholes2 two.will tellers c sizes s.holds two.actors two.beside stories2 awake2 two.small two.sh two.shared f2 acts2 z2 p2 u h2 n sized size n_is g2) (turn_beside programs detaches number wholes1 one.will tellers c sizes s.holds one.actors one.beside stories1 awake1 one.small one.sh one.shared f1 acts1 z1 p1 u h1 n sized size n_is g1) (turn_beside programs detaches number wholes2 two.will tellers c sizes s.holds two.actors two.beside stories2 awake2 two.small two.sh two.shared f2 acts2 z2 p2 u h2 n sized size n_is g2)
             (turn_shared programs detaches number wholes1 one.will tellers c sizes s.holds one.actors one.beside stories1 awake1 one.small one.sh one.shared f1 acts1 z1 p1 u h1 n sized size n_is g1) (turn_shared programs detaches number wholes2 two.will tellers c sizes s.holds two.actors two.beside stories2 awake2 two.small two.sh two.shared f2 acts2 z2 p2 u h2 n sized size n_is g2)
 
-        turns : lines1 ≡ lines2
+        turns : Ends one.end two.end lines1 lines2
         turns = at (item sizes p1.i (omega (arith, slice_get_within tellers p1.i u.0 u.1, s.holds.wide)))
           where
-            at : (n : ℕ) × (slice_get sizes p1.i ≡ Some n) → lines1 ≡ lines2
+            at : (n : ℕ) × (slice_get sizes p1.i ≡ Some n) → Ends one.end two.end lines1 lines2
             at n = by (s.holds.each p1.i p1.w u.0 n.0 p1.program u.1 n.1)
               where
-                by : Holds p1.w u.0 n.0 → lines1 ≡ lines2
+                by : Holds p1.w u.0 n.0 → Ends one.end two.end lines1 lines2
                 by (has_told e story) = absurd (not_both (sym e ∙ calm1.0))
                 by (goes_along e none size ns k) = both_turn n.0 n.1 size ns k
                 by (waits_on e r some size ns cut st) = absurd (no_await r (sym calm1.1 ∙ some))
 
       -- a stall in both
       stalls : (p1 : Stalls programs detaches number one.actors one.sh f1 acts1 z1) (u : (t : Teller) × (slice_get tellers p1.i ≡ Some t)) (h1 : (h : Whole) × (slice_get wholes1 p1.i ≡ Some h))
-          (h2 : (h : Whole) × (slice_get wholes2 p1.i ≡ Some h)) (q : Stalls programs detaches number two.actors two.sh f2 acts2 z2) → q.i ≡ p1.i → lines1 ≡ lines2
+          (h2 : (h : Whole) × (slice_get wholes2 p1.i ≡ Some h)) (q : Stalls programs detaches number two.actors two.sh f2 acts2 z2) → q.i ≡ p1.i → Ends one.end two.end lines1 lines2
       stalls p1 u h1 h2 q same_i =
           let p2 = stalled_as q p1.i same_i in
           let tie1 = tie2 programs detaches number wholes1 one.will tellers c sizes s.holds one.actors one.beside stories1 awake1 one.small one.sh one.shared f1 acts1 z1 p1 u h1 in
@@ -332,13 +355,14 @@ module _ (programs : List Program) (detaches : List Detach) (ds' : List Device) 
           (record {
             holds = stall_keeps programs detaches number tellers c sizes s.holds (none_due programs detaches number wholes1 one.will tellers c sizes s.holds one.actors one.beside stories1 awake1 one.small one.sh one.shared f1 acts1 z1 p1 u h1) (at2 programs detaches number wholes1 one.will tellers c sizes s.holds one.actors one.beside stories1 awake1 one.small one.sh one.shared f1 acts1 z1 p1 u h1);
             counted = set_counted tellers p1.i (over2 programs detaches number wholes1 one.will tellers c sizes s.holds one.actors one.beside stories1 awake1 one.small one.sh one.shared f1 acts1 z1 p1 u h1) s.counted (s.counted p1.i u.0 u.1);
+            named = s.named;
             calm = subst (λ (ls : List Line). Calm (before ++ ls) (slice_set tellers p1.i (over2 programs detaches number wholes1 one.will tellers c sizes s.holds one.actors one.beside stories1 awake1 one.small one.sh one.shared f1 acts1 z1 p1 u h1))) (sym (stalled_lines programs detaches number wholes1 one.will tellers c sizes s.holds one.actors one.beside stories1 awake1 one.small one.sh one.shared f1 acts1 z1 p1 u h1))
                 (calm_event programs detaches number tellers c before _ s.calm (slice_set tellers p1.i (over2 programs detaches number wholes1 one.will tellers c sizes s.holds one.actors one.beside stories1 awake1 one.small one.sh one.shared f1 acts1 z1 p1 u h1)) _ told_event);
             going = going_event programs detaches number tellers c _ s.going (slice_set tellers p1.i (over2 programs detaches number wholes1 one.will tellers c sizes s.holds one.actors one.beside stories1 awake1 one.small one.sh one.shared f1 acts1 z1 p1 u h1)) _ told_event;
           })
           one.small two.small (stall_beside programs detaches number wholes1 one.will tellers c sizes s.holds one.actors one.beside stories1 awake1 one.small one.sh one.shared f1 acts1 z1 p1 u h1) (stall_beside programs detaches number wholes2 two.will tellers c sizes s.holds two.actors two.beside stories2 awake2 two.small two.sh two.shared f2 acts2 z2 (stalled_as q p1.i same_i) u h2) (stall_shared programs detaches number wholes1 one.will tellers c sizes s.holds one.actors one.beside stories1 awake1 one.small one.sh one.shared f1 acts1 z1 p1 u h1) (stall_shared programs detaches number wholes2 two.will tellers c sizes s.holds two.actors two.beside stories2 awake2 two.small two.sh two.shared f2 acts2 z2 (stalled_as q p1.i same_i) u h2)
 
-      events : Plays programs detaches number one.actors one.sh f1 acts1 z1 → Plays programs detaches number two.actors two.sh f2 acts2 z2 → lines1 ≡ lines2
+      events : Plays programs detaches number one.actors one.sh f1 acts1 z1 → Plays programs detaches number two.actors two.sh f2 acts2 z2 → Ends one.end two.end lines1 lines2
       events (a_turn p1) (a_turn q) =
           let u = teller_there programs detaches number wholes1 one.will tellers c sizes s.holds one.actors one.beside stories1 awake1 one.small p1.i p1.a p1.next.there in
           let h1 = whole_at programs detaches number wholes1 one.will tellers c sizes s.holds one.actors one.beside stories1 awake1 one.small p1.i u.0 u.1 in
@@ -375,7 +399,10 @@ module _ (programs : List Program) (detaches : List Detach) (ds' : List Device) 
           stalls p1 u h1 h2 q (omega (arith, le1, le2))
 
     same_lines : (count1 count2 number : ℕ) → Rest count1 count2 number
-    same_lines zero zero number tellers c sizes before lines1 lines2 s one two agree = one.played.0 ∙ sym two.played.0
+    same_lines zero zero number tellers c sizes before lines1 lines2 s one two agree = (
+      one.played.0 ∙ sym two.played.0,
+      ap (λ (y : Shared). y.devices) (one.played.2 ∙ one.shared) ∙ sym (ap (λ (y : Shared). y.devices) (two.played.2 ∙ two.shared)),
+    )
     same_lines zero (suc count2) number tellers c sizes before lines1 lines2 s one two agree = absurd (none_left number tellers c sizes before lines1 lines2 wholes1 wholes2 count2 s one two)
     same_lines (suc count1) zero number tellers c sizes before lines1 lines2 s one two agree = absurd (none_left number tellers c sizes before lines2 lines1 wholes2 wholes1 count1 s two one)
     same_lines (suc count1) (suc count2) number tellers c sizes before lines1 lines2 s one two agree =
@@ -383,9 +410,13 @@ module _ (programs : List Program) (detaches : List Detach) (ds' : List Device) 
 
 -- ---- from where programs begin
 
-module _ (begun : ℕ) (programs : List Program) (detaches : List Detach) (boxes : List (List ℕ)) (ds ds' : List Device) (number : ℕ) (lines : List Line)
-    (world : ProtocolWorldUpToFrom begun programs detaches boxes ds number lines ds') (over : IsOver world.now) where
-  begins : Goes programs detaches ds' (map whole_from world.actors) (map teller_at programs) (told_opening boxes ds) [] (suc begun) world.count lines
+opening_names : (names : List (List ℕ)) → names_of (map empty_mail names) ≡ names
+opening_names [] = refl
+opening_names (n ∷ names) = ap (λ (ns : List (List ℕ)). n ∷ ns) (opening_names names)
+
+module _ (begun : ℕ) (programs : List Program) (detaches : List Detach) (boxes : List (List ℕ)) (ds ds' es : List Device) (number : ℕ) (lines : List Line)
+    (world : ProtocolWorldUpToFrom begun programs detaches boxes ds number lines es) (over : IsOver world.now) (same : AsksDevice programs boxes → es ≡ ds') where
+  abbrev begins : Goes programs detaches boxes ds' (map whole_from world.actors) (map teller_at programs) (told_opening boxes ds) [] (suc begun) world.count lines
   begins = record {
     will = λ j. 0;
     small = λ j. omega arith;
@@ -393,25 +424,48 @@ module _ (begun : ℕ) (programs : List Program) (detaches : List Detach) (boxes
     last = world.now;
     sh = sharing boxes ds;
     end = world.shared;
-    beside = beside begun programs detaches boxes ds ds' number lines world;
+    beside = beside begun programs detaches boxes ds es number lines world;
     shared = λ k. record { devices = ds; boxes = opens_so boxes k; tick = 0 };
     played = world.played;
     ends = world.ends;
     over = over;
-    devices = sym world.devices;
+    devices = λ asks. sym world.devices ∙ same asks;
   }
 
-pub journals_fix_lines : JournalsFixLines
-journals_fix_lines begun programs detaches boxes ds ds' lines1 lines2 lasting first second faults wrongs =
-    let a = whole_is_played begun programs detaches boxes ds ds' lines1 first in
-    let b = whole_is_played begun programs detaches boxes ds ds' lines2 second in
-    same_lines programs detaches ds' lasting (map whole_from a.1.actors) (map whole_from b.1.actors) (stories begun programs detaches boxes ds ds' a.0 lines1 a.1)
-    (stories begun programs detaches boxes ds ds' b.0 lines2 b.1) a.1.count b.1.count (suc begun) (map teller_at programs) (told_opening boxes ds) (map start_size programs) [] lines1 lines2
+runs_same : (begun : ℕ) (programs : List Program) (detaches : List Detach) (boxes : List (List ℕ)) (ds ds1 ds2 ds' : List Device) (lines1 lines2 : List Line) → LastingDevices programs detaches boxes
+    → ProtocolWorldFrom begun programs detaches boxes ds lines1 ds1 → ProtocolWorldFrom begun programs detaches boxes ds lines2 ds2 → (AsksDevice programs boxes → (ds1 ≡ ds') × (ds2 ≡ ds'))
+    → (AsksDevice programs boxes → SameFaults lines1 lines2) → (SomeBound programs → SameWrongs lines1 lines2) → (lines1 ≡ lines2) × (ds1 ≡ ds2)
+runs_same begun programs detaches boxes ds ds1 ds2 ds' lines1 lines2 lasting first second same faults wrongs =
+    let a = whole_is_played begun programs detaches boxes ds ds1 lines1 first in
+    let b = whole_is_played begun programs detaches boxes ds ds2 lines2 second in
+    let r = same_lines programs detaches boxes ds' lasting (map whole_from a.1.actors) (map whole_from b.1.actors) (stories begun programs detaches boxes ds ds1 a.0 lines1 a.1)
+    (stories begun programs detaches boxes ds ds2 b.0 lines2 b.1) a.1.count b.1.count (suc begun) (map teller_at programs) (told_opening boxes ds) (map start_size programs) [] lines1 lines2
     (record {
       holds = start_holds programs boxes ds;
       counted = start_counted programs;
+      named = opening_names boxes;
       calm = λ j t e f. refl;
-      going = start_going begun programs detaches boxes ds ds' a.0 lines1 a.1;
+      going = start_going begun programs detaches boxes ds ds1 a.0 lines1 a.1;
     })
-    (begins begun programs detaches boxes ds ds' a.0 lines1 a.1 a.2) (begins begun programs detaches boxes ds ds' b.0 lines2 b.1 b.2)
-    (λ i x y e f. (faults i x y e f, wrongs i x y e f))
+    (begins begun programs detaches boxes ds ds' ds1 a.0 lines1 a.1 a.2 (λ asks. (same asks).0)) (begins begun programs detaches boxes ds ds' ds2 b.0 lines2 b.1 b.2 (λ asks. (same asks).1))
+    (λ i x y e f. (λ asks. faults asks i x y e f, λ some. wrongs some i x y e f)) in
+    (r.0, a.1.devices ∙ r.1 ∙ sym b.1.devices)
+
+pub journals_fix_lines : JournalsFixLines
+journals_fix_lines begun programs detaches boxes ds ds' lines1 lines2 lasting first second faults wrongs =
+    (runs_same begun programs detaches boxes ds ds' ds' ds' lines1 lines2 lasting first second (λ asks. (refl, refl)) (λ asks. faults) (λ some. wrongs)).0
+
+pub mailboxes_fix_lines : MailboxesFixLines
+mailboxes_fix_lines begun programs detaches boxes ds ds1 ds2 lines1 lines2 none first second wrongs =
+    runs_same begun programs detaches boxes ds ds1 ds2 ds lines1 lines2 (λ asks. absurd (none asks)) first second (λ asks. absurd (none asks)) (λ asks. absurd (none asks)) (λ some. wrongs)
+
+pub unbound_fix_lines : UnboundFixLines
+unbound_fix_lines begun programs detaches boxes ds ds1 ds2 lines1 lines2 none first second =
+    runs_same begun programs detaches boxes ds ds1 ds2 ds lines1 lines2 (λ asks. absurd (free asks)) first second (λ asks. absurd (free asks)) (λ asks. absurd (free asks))
+    (λ some. absurd (unbound some.0 some.1 some.2 some.3 some.4 some.5))
+  where
+    unbound : (i : ℕ) (w : Program) (import : ℕ) (name : List ℕ) → slice_get programs i ≡ Some w → unwrap_or (slice_get w.binds import) None ≡ Some name → ⊥
+    unbound i w import name there bound = let free = all_at Unbound programs i w none there in let bad : None ≡ Some name = sym (free import) ∙ bound in cc
+
+    free : AsksDevice programs boxes → ⊥
+    free asks = unbound asks.i asks.w asks.import asks.name asks.program asks.bound
