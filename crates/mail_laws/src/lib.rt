@@ -10,11 +10,18 @@
 //! A host can't promise. So worlds are told forwards too, without values (`specs/Told.antt`), and turns that were told are a world. No world
 //! is stuck (`specs/Played.antt`). What a receive is answered isn't read before it is given (`specs/Unread.antt`). A line tells
 //! `Stalled` exactly where no program is ready (`specs/Stalling.antt`). The world of rewritten modules is that of their originals
-//! (`specs/MailOriginals.antt`). Without mailboxes the runs of both worlds are those of `world_model` (`specs/WithoutBoxes.antt`).
+//! (`specs/MailOriginals.antt`), and none of these goes astray (`specs/Astray.antt`). Without mailboxes the runs of both worlds are those of
+//! `world_model` (`specs/WithoutBoxes.antt`).
+//!
+//! The journals of the devices at a run's end, and the places at which its lines tell that a device failed or a value of a wrong type, fix all
+//! its lines; a world whose imports are bound to mailboxes alone has one run, but for such values (`specs/Replays.antt`). The devices at the
+//! end are those of the start, but for those that were taken out (`specs/Kept.antt`). A program without bound imports has the lines that it
+//! would have alone (`specs/AloneLines.antt`).
 //!
 //! - `event_laws`, `ongoing_laws`: worlds played up to an event, and that they go on.
 //! - `told_laws`, `stalled_laws`, `answer_laws`: worlds that are told, who stalls, answers that aren't read yet.
-//! - `original_laws`: worlds beside those of originals.
+//! - `original_laws`, `astray_laws`: worlds beside those of originals.
+//! - `replay_laws`, `kept_laws`, `alone_laws`: what fixes lines, the devices at the end, a program without bound imports.
 //! - `bare_laws`, `waiting_laws`: worlds without mailboxes; the runs of a program that waits for good, and of one that is sent values.
 #![tactic(auto)]
 
