@@ -8,6 +8,7 @@ pub mod CallsCounted
 pub mod CallsTold
 pub mod CalmLines
 pub mod CutStories
+pub mod FixedLines
 pub mod GoingOn
 pub mod KeptDevices
 pub mod KnownCalls
@@ -20,6 +21,7 @@ pub mod Played
 pub mod PlayedAreTold
 pub mod PlayedParts
 pub mod Promises
+pub mod RunsBeside
 pub mod SameTold
 pub mod SameTurns
 pub mod SameWorlds

@@ -250,7 +250,7 @@ module _ (programs : List Program) (detaches : List Detach) (number : ℕ) (whol
           (subst (λ (z : Midst). CallsMeet play.w (turn_of play.a.notes) play.a.outcomes play.a.answers z play.outcomes play.answers play.behind) begun_is play.calls)
 
       -- the story so far, for what its calls will meet
-      outcomes_are : t.0.met ++ play.a.outcomes ≡ h.0.outcomes
+      pub outcomes_are : t.0.met ++ play.a.outcomes ≡ h.0.outcomes
       outcomes_are =
           ap (λ (l : List Outcome). l ++ play.a.outcomes) (sym (append-nil t.0.met)) ∙ ap (λ (o : Option Await). t.0.met ++ pending (will play.i) o ++ play.a.outcomes) (sym calm.1) ∙ tie.outcomes
 

@@ -134,26 +134,27 @@ module _ (w : Program) (i : ℕ) (t : Teller) (tellers : List Teller) (begin : A
       ∙ story2) in
       sym (a.2 (ap last_wrong is_other ∙ sym wrong)) ∙ is_other
 
-  module _ (one two : Turned w i t tellers begin limit) (ds' : List Device) (due : ℕ) (more1 more2 : List Line) (F W : Type 0) (names : List (List ℕ)) where
+  module _ (one two : Turned w i t tellers begin limit) where
     pub record Twice : Type 0 where
       pub turn : one.turn ≡ two.turn
       pub met : one.met ≡ two.met
       pub answers : one.answers ≡ two.answers
       pub behind : one.behind ≡ two.behind
 
-    pub told_twice : new_calls t.told ≡ length t.met → names_of begin.boxes ≡ names → ((c : Call) (name : List ℕ) → bound_to w c ≡ Some name → IsNoBox name names → F)
-        → ((c : Call) (name : List ℕ) → bound_to w c ≡ Some name → W)
-        → (F → (c : Call) (name : List ℕ) → bound_to w c ≡ Some name → IsNoBox name names → Grows name one.behind.devices ds')
-        → (F → (c : Call) (name : List ℕ) → bound_to w c ≡ Some name → IsNoBox name names → Grows name two.behind.devices ds')
-        → Agree F W (Lines w.looks due i (parks one.turn one.behind.receive) one.turn more1) (Lines w.looks due i (parks two.turn two.behind.receive) two.turn more2) → Twice
-    told_twice count named device some grow1 grow2 agree =
-        let a = tail_of one.turn one.met one.behind.receive one.after in
-        let b = tail_of two.turn two.met two.behind.receive two.after in
-        let s = turn_same w ds' due i (parks one.turn one.behind.receive) (parks two.turn two.behind.receive) more1 more2 one.answers two.answers one.behind two.behind a.rest b.rest a.more b.more
-        F W names device some grow1 grow2 one.turn two.turn t.met t.told one.met two.met t.answers begin named count a.story b.story one.whole two.whole one.known two.known agree in
-        record { turn = by s.met s.behind s.notes; met = s.met; answers = s.answers; behind = s.behind }
-      where
-        by : one.met ≡ two.met → one.behind ≡ two.behind → (one.turn ≡ two.turn) ⊎ ((r : Await) × (one.behind.receive ≡ Some r) × (last_wrong one.turn ≡ last_wrong two.turn)) → one.turn ≡ two.turn
-        by met behind (inl e) = e
-        by met behind (inr h) =
-            open_same one.turn two.turn one.met two.met one.behind.receive two.behind.receive h.0 h.0 h.1 (ap (λ (m : Amid). m.receive) (sym behind) ∙ h.1) met one.whole two.whole h.2 one.after two.after
+    module _ (ds' : List Device) (due : ℕ) (more1 more2 : List Line) (F W : Type 0) (names : List (List ℕ)) where
+      pub told_twice : new_calls t.told ≡ length t.met → names_of begin.boxes ≡ names → ((c : Call) (name : List ℕ) → bound_to w c ≡ Some name → IsNoBox name names → F)
+          → ((c : Call) (name : List ℕ) → bound_to w c ≡ Some name → W)
+          → (F → (c : Call) (name : List ℕ) → bound_to w c ≡ Some name → IsNoBox name names → Grows name one.behind.devices ds')
+          → (F → (c : Call) (name : List ℕ) → bound_to w c ≡ Some name → IsNoBox name names → Grows name two.behind.devices ds')
+          → Agree F W (Lines w.looks due i (parks one.turn one.behind.receive) one.turn more1) (Lines w.looks due i (parks two.turn two.behind.receive) two.turn more2) → Twice
+      told_twice count named device some grow1 grow2 agree =
+          let a = tail_of one.turn one.met one.behind.receive one.after in
+          let b = tail_of two.turn two.met two.behind.receive two.after in
+          let s = turn_same w ds' due i (parks one.turn one.behind.receive) (parks two.turn two.behind.receive) more1 more2 one.answers two.answers one.behind two.behind a.rest b.rest a.more b.more
+          F W names device some grow1 grow2 one.turn two.turn t.met t.told one.met two.met t.answers begin named count a.story b.story one.whole two.whole one.known two.known agree in
+          record { turn = by s.met s.behind s.notes; met = s.met; answers = s.answers; behind = s.behind }
+        where
+          by : one.met ≡ two.met → one.behind ≡ two.behind → (one.turn ≡ two.turn) ⊎ ((r : Await) × (one.behind.receive ≡ Some r) × (last_wrong one.turn ≡ last_wrong two.turn)) → one.turn ≡ two.turn
+          by met behind (inl e) = e
+          by met behind (inr h) =
+              open_same one.turn two.turn one.met two.met one.behind.receive two.behind.receive h.0 h.0 h.1 (ap (λ (m : Amid). m.receive) (sym behind) ∙ h.1) met one.whole two.whole h.2 one.after two.after

@@ -1,4 +1,4 @@
-use Rattle.mail_laws.proofs.SameWorlds.{mailboxes_fix_lines, unbound_fix_lines}
+use Rattle.mail_laws.proofs.FixedLines.{mailboxes_fix_lines, unbound_fix_lines}
 use Rattle.mail_laws.proofs.replay_laws.mailboxes_fix_lines.Goals as goal
 
 pub returns-clause-mailboxes : goal.returns-clause-mailboxes
