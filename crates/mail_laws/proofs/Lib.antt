@@ -22,6 +22,7 @@ pub mod PlayedAreTold
 pub mod PlayedParts
 pub mod Promises
 pub mod RunsBeside
+pub mod SameOutcomes
 pub mod SameTold
 pub mod SameTurns
 pub mod SameWorlds

@@ -127,7 +127,7 @@ pub record Known (programs : List Program) (boxes : List (List ℕ)) (tellers : 
   pub going : Going programs tellers
 
 -- a run that goes on from there to its end
-pub record Goes (programs : List Program) (detaches : List Detach) (boxes : List (List ℕ)) (ds' : List Device) (wholes : List Whole) (tellers : List Teller) (c : Common) (before : List Line) (number count : ℕ) (lines : List Line)
+pub record Goes (programs : List Program) (detaches : List Detach) (F : Type 0) (ds' : List Device) (wholes : List Whole) (tellers : List Teller) (c : Common) (before : List Line) (number count : ℕ) (lines : List Line)
     : Type 0 where
   pub will : ℕ → ℕ
   pub small : (j : ℕ) → will j < 2 ^ 32
@@ -140,7 +140,7 @@ pub record Goes (programs : List Program) (detaches : List Detach) (boxes : List
   pub played : Played programs detaches number count actors sh lines last end
   pub ends : EndsAreTold programs (before ++ lines) last
   pub over : IsOver last
-  pub devices : AsksDevice programs boxes → end.devices ≡ ds'
+  pub devices : F → end.devices ≡ ds'
 
 abbrev pub Stories : List Program → List Whole → Type 0
 Stories programs wholes = (i : ℕ) (w : Program) (h : Whole) → slice_get programs i ≡ Some w → slice_get wholes i ≡ Some h → HeldStory w h.outcomes h.notes
@@ -161,9 +161,9 @@ pub record IsPart (wholes : List Whole) (i : ℕ) (told : List Note) (met : List
   pub notes : h.notes ≡ told ++ rest
   pub outcomes : h.outcomes ≡ met ++ more
 
-module _ (programs : List Program) (detaches : List Detach) (boxes : List (List ℕ)) (ds' : List Device) (wholes : List Whole) (stories : Stories programs wholes) (count number : ℕ)
+module _ (programs : List Program) (detaches : List Detach) (boxes : List (List ℕ)) (F : Type 0) (ds' : List Device) (wholes : List Whole) (stories : Stories programs wholes) (count number : ℕ)
     (tellers : List Teller) (c : Common) (sizes : List ℕ) (before lines : List Line) (s : Known programs boxes tellers c sizes before)
-    (run : Goes programs detaches boxes ds' wholes tellers c before number (suc count) lines) where
+    (run : Goes programs detaches F ds' wholes tellers c before number (suc count) lines) where
   abbrev first : List Line
   first = run.played.0
 
@@ -184,7 +184,7 @@ module _ (programs : List Program) (detaches : List Detach) (boxes : List (List 
 
   -- it goes on behind its event
   abbrev pub goes_on : (tellers' : List Teller) (c' : Common) (before' : List Line) → before ++ first ≡ before' → Moved wholes acts z tellers' c'
-      → Goes programs detaches boxes ds' wholes tellers' c' before' (suc number) count run.played.1
+      → Goes programs detaches F ds' wholes tellers' c' before' (suc number) count run.played.1
   goes_on tellers' c' before' same m = record {
     will = m.will;
     small = m.small;
@@ -251,7 +251,7 @@ module _ (programs : List Program) (detaches : List Detach) (boxes : List (List 
           )
 
       -- its devices keep their journals to the end
-      pub turn_grows : LastingDevices programs detaches boxes → AsksDevice programs boxes → (call : Call) (name : List ℕ) → bound_to p.w call ≡ Some name → IsNoBox name boxes
+      pub turn_grows : LastingDevices programs detaches boxes → F → (call : Call) (name : List ℕ) → bound_to p.w call ≡ Some name → IsNoBox name boxes
           → Grows name g.tu.behind.devices ds'
       turn_grows lasting asks call name bound no_box =
           let asked : AsksDevice programs boxes = record { i = p.i; w = p.w; import = call.import; name = name; program = p.program; bound = bound; no_box = no_box } in

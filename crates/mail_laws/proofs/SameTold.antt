@@ -20,7 +20,7 @@ use Rattle.mail_laws.proofs.TurnsTold.{Behind, Stands, Turned, is_over, is_parke
 
 -- ---- turns at the front of notes
 
-once_front : (xs ys a b : List Note) → EndsOnce xs → EndsOnce ys → xs ++ a ≡ ys ++ b → xs ≡ ys
+pub once_front : (xs ys a b : List Note) → EndsOnce xs → EndsOnce ys → xs ++ a ≡ ys ++ b → xs ≡ ys
 once_front [] ys a b h k e = absurd h
 once_front (x ∷ xs) [] a b h k e = absurd k
 once_front (x ∷ xs) (y ∷ ys) a b h k e = by (ends_turn x.event) refl (λ h2 k2. once_front xs ys a b h2 k2 tails)

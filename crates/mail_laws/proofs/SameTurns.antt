@@ -183,14 +183,14 @@ value_apart name [] m o m' e h = h
 value_apart name (v ∷ vs) m o m' e h = cc
 
 -- it isn't a receive at an empty mailbox too
-known_apart : (w : Program) (c : Call) (lines left : List AnswerLine) (m m' : Amid) (o : Outcome) (r : Await) → Known w c lines m o left m' → AtEmpty w c m r → ⊥
+pub known_apart : (w : Program) (c : Call) (lines left : List AnswerLine) (m m' : Amid) (o : Outcome) (r : Await) → Known w c lines m o left m' → AtEmpty w c m r → ⊥
 known_apart w c lines left m m' o r h a =
     let bound : KnownBound w.source c.import c.args (Some a.name) lines m o left m' = subst (λ (b : Option (List ℕ)). KnownBound w.source c.import c.args b lines m o left m') a.bound h in
     let found : KnownBox c.import a.name c.args a.box m o m' =
     subst (λ (f : Option Box). KnownNamed c.import (name_at (base_names w.source) c.import) a.name c.args f m o m') a.there bound.0 in
     value_apart a.name a.box.values m o m' a.empty (subst (λ (xs : List Value). KnownBox c.import a.name xs a.box m o m') a.args found)
 
-one_await : (w : Program) (c : Call) (m : Amid) (r q : Await) → AtEmpty w c m r → AtEmpty w c m q → r ≡ q
+pub one_await : (w : Program) (c : Call) (m : Amid) (r q : Await) → AtEmpty w c m r → AtEmpty w c m q → r ≡ q
 one_await w c m r q a b =
     let e : a.name ≡ b.name = same_Some a.name b.name (sym a.bound ∙ b.bound) in
     a.is ∙ ap (λ (n : List ℕ). record { import = c.import; box = n }) e ∙ sym b.is

@@ -62,7 +62,7 @@ not_both e = cc
 module _ (programs : List Program) (detaches : List Detach) (boxes : List (List ℕ)) (ds' : List Device) (F W : Type 0) where
   -- where one is over, no event of the other is left
   none_left : (number : ℕ) (tellers : List Teller) (c : Common) (sizes : List ℕ) (before lines1 lines2 : List Line) (wholes1 wholes2 : List Whole) (count : ℕ) → Known programs boxes tellers c sizes before
-      → (one : Goes programs detaches boxes ds' wholes1 tellers c before number zero lines1) (two : Goes programs detaches boxes ds' wholes2 tellers c before number (suc count) lines2) → ⊥
+      → (one : Goes programs detaches F ds' wholes1 tellers c before number zero lines1) (two : Goes programs detaches F ds' wholes2 tellers c before number (suc count) lines2) → ⊥
   none_left number tellers c sizes before lines1 lines2 wholes1 wholes2 count s one two = by two.played.4
     where
       over1 : (i : ℕ) (a : Actor) → slice_get one.actors i ≡ Some a → HasEnded a
@@ -93,15 +93,15 @@ module _ (programs : List Program) (detaches : List Detach) (boxes : List (List 
     Decides =
         (number : ℕ) (tellers : List Teller) (c : Common) (i : ℕ) (w : Program) (t : Teller) (size : ℕ) (a b : Turned w i t tellers (begun_amid number detaches c) size) (more1 more2 : List Line)
         → slice_get programs i ≡ Some w → IsCounted t → t.receive ≡ None → names_of c.boxes ≡ boxes
-        → (LastingDevices programs detaches boxes → AsksDevice programs boxes → (call : Call) (name : List ℕ) → bound_to w call ≡ Some name → IsNoBox name boxes → Grows name a.behind.devices ds')
-        → (LastingDevices programs detaches boxes → AsksDevice programs boxes → (call : Call) (name : List ℕ) → bound_to w call ≡ Some name → IsNoBox name boxes → Grows name b.behind.devices ds')
+        → (LastingDevices programs detaches boxes → F → (call : Call) (name : List ℕ) → bound_to w call ≡ Some name → IsNoBox name boxes → Grows name a.behind.devices ds')
+        → (LastingDevices programs detaches boxes → F → (call : Call) (name : List ℕ) → bound_to w call ≡ Some name → IsNoBox name boxes → Grows name b.behind.devices ds')
         → Agree F W (then_lines a ++ more1) (then_lines b ++ more2) → IsPart wholes1 i (t.told ++ a.turn) (t.met ++ a.met) → IsPart wholes2 i (t.told ++ b.turn) (t.met ++ b.met) → Twice w i t tellers (begun_amid number detaches c) size a b
 
     abbrev One : List Teller → Common → List Line → ℕ → ℕ → List Line → Type 0
-    One = Goes programs detaches boxes ds' wholes1
+    One = Goes programs detaches F ds' wholes1
 
     abbrev Two : List Teller → Common → List Line → ℕ → ℕ → List Line → Type 0
-    Two = Goes programs detaches boxes ds' wholes2
+    Two = Goes programs detaches F ds' wholes2
 
     -- the same lines, and the same devices at the end
     abbrev Ends : Shared → Shared → List Line → List Line → Type 0
@@ -139,8 +139,8 @@ module _ (programs : List Program) (detaches : List Detach) (boxes : List (List 
             → Moved wholes2 acts2 z2 tellers' c' → Ends one.end two.end lines1 lines2
         both_go tellers' c' sizes' same known moved1 moved2 =
             let split2 : lines2 ≡ f1 ++ two.played.1 = two.played.6 ∙ ap (λ (ls : List Line). ls ++ two.played.1) (sym same) in
-            let r = on tellers' c' sizes' (before ++ f1) one.played.1 two.played.1 known (goes_on programs detaches boxes ds' wholes1 stories1 count1 number tellers c sizes before lines1 s one tellers' c' (before ++ f1) refl moved1)
-            (goes_on programs detaches boxes ds' wholes2 stories2 count2 number tellers c sizes before lines2 s two tellers' c' (before ++ f1) (ap (λ (ls : List Line). before ++ ls) (sym same)) moved2)
+            let r = on tellers' c' sizes' (before ++ f1) one.played.1 two.played.1 known (goes_on programs detaches boxes F ds' wholes1 stories1 count1 number tellers c sizes before lines1 s one tellers' c' (before ++ f1) refl moved1)
+            (goes_on programs detaches boxes F ds' wholes2 stories2 count2 number tellers c sizes before lines2 s two tellers' c' (before ++ f1) (ap (λ (ls : List Line). before ++ ls) (sym same)) moved2)
             (agree_past f1 one.played.1 two.played.1 (agree_as one.played.6 split2 agree)) in
             (one.played.6 ∙ ap (λ (ls : List Line). f1 ++ ls) r.0 ∙ sym split2, r.1)
 
@@ -152,19 +152,19 @@ module _ (programs : List Program) (detaches : List Detach) (boxes : List (List 
 
           both_turn : (n : ℕ) (sized : slice_get sizes p1.i ≡ Some n) (size : ℕ) (n_is : n ≡ suc size) → Knows p1.w u.0.met u.0.told size → Ends one.end two.end lines1 lines2
           both_turn n sized size n_is knows =
-              let g = turn_follows programs detaches boxes ds' wholes1 stories1 count1 number tellers c sizes before lines1 s one p1 u h1 size knows in
-              let k = turn_follows programs detaches boxes ds' wholes2 stories2 count2 number tellers c sizes before lines2 s two p2 u h2 size knows in
-              let awake = (turn_calm programs detaches boxes ds' wholes1 stories1 count1 number tellers c sizes before lines1 s one p1 u h1).1 in
+              let g = turn_follows programs detaches boxes F ds' wholes1 stories1 count1 number tellers c sizes before lines1 s one p1 u h1 size knows in
+              let k = turn_follows programs detaches boxes F ds' wholes2 stories2 count2 number tellers c sizes before lines2 s two p2 u h2 size knows in
+              let awake = (turn_calm programs detaches boxes F ds' wholes1 stories1 count1 number tellers c sizes before lines1 s one p1 u h1).1 in
               let twice : Twice p1.w p1.i u.0 tellers (begun_amid number detaches c) size g.tu k.tu =
               decides number tellers c p1.i p1.w u.0 size g.tu k.tu one.played.1 two.played.1 p1.program (s.counted p1.i u.0 u.1) awake s.named
-              (turn_grows programs detaches boxes ds' wholes1 stories1 count1 number tellers c sizes before lines1 s one p1 u h1 n sized size n_is g) (turn_grows programs detaches boxes ds' wholes2 stories2 count2 number tellers c sizes before lines2 s two p2 u h2 n sized size n_is k)
-              (agree_as (one.played.6 ∙ ap (λ (ls : List Line). ls ++ one.played.1) (turn_lines_are programs detaches boxes ds' wholes1 stories1 count1 number tellers c sizes before lines1 s one p1 u h1 n sized size n_is g))
-              (two.played.6 ∙ ap (λ (ls : List Line). ls ++ two.played.1) (turn_lines_are programs detaches boxes ds' wholes2 stories2 count2 number tellers c sizes before lines2 s two p2 u h2 n sized size n_is k)) agree)
-              (turn_part programs detaches boxes ds' wholes1 stories1 count1 number tellers c sizes before lines1 s one p1 u h1 n sized size n_is g) (turn_part programs detaches boxes ds' wholes2 stories2 count2 number tellers c sizes before lines2 s two p2 u h2 n sized size n_is k) in
+              (turn_grows programs detaches boxes F ds' wholes1 stories1 count1 number tellers c sizes before lines1 s one p1 u h1 n sized size n_is g) (turn_grows programs detaches boxes F ds' wholes2 stories2 count2 number tellers c sizes before lines2 s two p2 u h2 n sized size n_is k)
+              (agree_as (one.played.6 ∙ ap (λ (ls : List Line). ls ++ one.played.1) (turn_lines_are programs detaches boxes F ds' wholes1 stories1 count1 number tellers c sizes before lines1 s one p1 u h1 n sized size n_is g))
+              (two.played.6 ∙ ap (λ (ls : List Line). ls ++ two.played.1) (turn_lines_are programs detaches boxes F ds' wholes2 stories2 count2 number tellers c sizes before lines2 s two p2 u h2 n sized size n_is k)) agree)
+              (turn_part programs detaches boxes F ds' wholes1 stories1 count1 number tellers c sizes before lines1 s one p1 u h1 n sized size n_is g) (turn_part programs detaches boxes F ds' wholes2 stories2 count2 number tellers c sizes before lines2 s two p2 u h2 n sized size n_is k) in
               let k2 = follows_as k g.tu twice.turn twice.met twice.answers twice.behind in
-              let known = turn_known programs detaches boxes ds' wholes1 stories1 count1 number tellers c sizes before lines1 s one p1 u h1 n sized size n_is g in
-              both_go (then_tellers g.tu) (then_common g.tu) known.0 (turn_lines_are programs detaches boxes ds' wholes1 stories1 count1 number tellers c sizes before lines1 s one p1 u h1 n sized size n_is g ∙ sym (turn_lines_are programs detaches boxes ds' wholes2 stories2 count2 number tellers c sizes before lines2 s two p2 u h2 n sized size n_is k2)) known.1
-              (turn_moved programs detaches boxes ds' wholes1 stories1 count1 number tellers c sizes before lines1 s one p1 u h1 n sized size n_is g) (turn_moved programs detaches boxes ds' wholes2 stories2 count2 number tellers c sizes before lines2 s two p2 u h2 n sized size n_is k2)
+              let known = turn_known programs detaches boxes F ds' wholes1 stories1 count1 number tellers c sizes before lines1 s one p1 u h1 n sized size n_is g in
+              both_go (then_tellers g.tu) (then_common g.tu) known.0 (turn_lines_are programs detaches boxes F ds' wholes1 stories1 count1 number tellers c sizes before lines1 s one p1 u h1 n sized size n_is g ∙ sym (turn_lines_are programs detaches boxes F ds' wholes2 stories2 count2 number tellers c sizes before lines2 s two p2 u h2 n sized size n_is k2)) known.1
+              (turn_moved programs detaches boxes F ds' wholes1 stories1 count1 number tellers c sizes before lines1 s one p1 u h1 n sized size n_is g) (turn_moved programs detaches boxes F ds' wholes2 stories2 count2 number tellers c sizes before lines2 s two p2 u h2 n sized size n_is k2)
 
           turns : Ends one.end two.end lines1 lines2
           turns = at (item sizes p1.i (omega (arith, slice_get_within tellers p1.i u.0 u.1, s.holds.wide)))
@@ -173,52 +173,52 @@ module _ (programs : List Program) (detaches : List Detach) (boxes : List (List 
               at n = by (s.holds.each p1.i p1.w u.0 n.0 p1.program u.1 n.1)
                 where
                   by : Holds p1.w u.0 n.0 → Ends one.end two.end lines1 lines2
-                  by (has_told e story) = absurd (not_both (sym e ∙ (turn_calm programs detaches boxes ds' wholes1 stories1 count1 number tellers c sizes before lines1 s one p1 u h1).0))
+                  by (has_told e story) = absurd (not_both (sym e ∙ (turn_calm programs detaches boxes F ds' wholes1 stories1 count1 number tellers c sizes before lines1 s one p1 u h1).0))
                   by (goes_along e none size ns k) = both_turn n.0 n.1 size ns k
-                  by (waits_on e r some size ns cut st) = absurd (no_await r (sym (turn_calm programs detaches boxes ds' wholes1 stories1 count1 number tellers c sizes before lines1 s one p1 u h1).1 ∙ some))
+                  by (waits_on e r some size ns cut st) = absurd (no_await r (sym (turn_calm programs detaches boxes F ds' wholes1 stories1 count1 number tellers c sizes before lines1 s one p1 u h1).1 ∙ some))
 
         -- a stall in both
         stalls : (p1 : Stalls programs detaches number one.actors one.sh f1 acts1 z1) (u : (t : Teller) × (slice_get tellers p1.i ≡ Some t)) (h1 : (h : Whole) × (slice_get wholes1 p1.i ≡ Some h))
             (h2 : (h : Whole) × (slice_get wholes2 p1.i ≡ Some h)) (q : Stalls programs detaches number two.actors two.sh f2 acts2 z2) → q.i ≡ p1.i → Ends one.end two.end lines1 lines2
         stalls p1 u h1 h2 q same_i =
-            let at_is : p1.at ≡ q.at = same_Some p1.at q.at (sym (stall_at programs detaches boxes ds' wholes1 stories1 count1 number tellers c sizes before lines1 s one p1 u h1) ∙ stall_at programs detaches boxes ds' wholes2 stories2 count2 number tellers c sizes before lines2 s two (stalled_as q p1.i same_i) u h2) in
+            let at_is : p1.at ≡ q.at = same_Some p1.at q.at (sym (stall_at programs detaches boxes F ds' wholes1 stories1 count1 number tellers c sizes before lines1 s one p1 u h1) ∙ stall_at programs detaches boxes F ds' wholes2 stories2 count2 number tellers c sizes before lines2 s two (stalled_as q p1.i same_i) u h2) in
             let w_is : p1.w ≡ q.w = same_Some p1.w q.w (sym p1.program ∙ ap (slice_get programs) (sym same_i) ∙ q.program) in
             let tick : one.sh.tick ≡ two.sh.tick = ap (λ (y : Shared). y.tick) one.shared ∙ sym (ap (λ (y : Shared). y.tick) two.shared) in
-            let known = stall_known programs detaches boxes ds' wholes1 stories1 count1 number tellers c sizes before lines1 s one p1 u h1 in
+            let known = stall_known programs detaches boxes F ds' wholes1 stories1 count1 number tellers c sizes before lines1 s one p1 u h1 in
             both_go (slice_set tellers p1.i (stalled_teller u.0)) (stalled_common number detaches c) known.0
             (p1.made ∙ (λ k. map (line_at (tick k) (sym same_i k)) (ended (Stalled (at_is k).import) ∷ look_events (at_is k).store (w_is k).looks)) ∙ sym q.made) known.1
-            (stall_moved programs detaches boxes ds' wholes1 stories1 count1 number tellers c sizes before lines1 s one p1 u h1) (stall_moved programs detaches boxes ds' wholes2 stories2 count2 number tellers c sizes before lines2 s two (stalled_as q p1.i same_i) u h2)
+            (stall_moved programs detaches boxes F ds' wholes1 stories1 count1 number tellers c sizes before lines1 s one p1 u h1) (stall_moved programs detaches boxes F ds' wholes2 stories2 count2 number tellers c sizes before lines2 s two (stalled_as q p1.i same_i) u h2)
 
         events : Plays programs detaches number one.actors one.sh f1 acts1 z1 → Plays programs detaches number two.actors two.sh f2 acts2 z2 → Ends one.end two.end lines1 lines2
         events (a_turn p1) (a_turn q) =
-            let u = its_teller programs detaches boxes ds' wholes1 stories1 count1 number tellers c sizes before lines1 s one p1.i p1.a p1.next.there in
-            let h1 = its_whole programs detaches boxes ds' wholes1 stories1 count1 number tellers c sizes before lines1 s one p1.i u.0 u.1 in
-            let h2 = its_whole programs detaches boxes ds' wholes2 stories2 count2 number tellers c sizes before lines2 s two p1.i u.0 u.1 in
-            let v = its_teller programs detaches boxes ds' wholes2 stories2 count2 number tellers c sizes before lines2 s two q.i q.a q.next.there in
-            let g = its_whole programs detaches boxes ds' wholes2 stories2 count2 number tellers c sizes before lines2 s two q.i v.0 v.1 in
-            let same_i : q.i ≡ p1.i = one_least (map due_of tellers) q.i p1.i v.0.due u.0.due (turn_least programs detaches boxes ds' wholes2 stories2 count2 number tellers c sizes before lines2 s two q v g) (turn_least programs detaches boxes ds' wholes1 stories1 count1 number tellers c sizes before lines1 s one p1 u h1) in
+            let u = its_teller programs detaches boxes F ds' wholes1 stories1 count1 number tellers c sizes before lines1 s one p1.i p1.a p1.next.there in
+            let h1 = its_whole programs detaches boxes F ds' wholes1 stories1 count1 number tellers c sizes before lines1 s one p1.i u.0 u.1 in
+            let h2 = its_whole programs detaches boxes F ds' wholes2 stories2 count2 number tellers c sizes before lines2 s two p1.i u.0 u.1 in
+            let v = its_teller programs detaches boxes F ds' wholes2 stories2 count2 number tellers c sizes before lines2 s two q.i q.a q.next.there in
+            let g = its_whole programs detaches boxes F ds' wholes2 stories2 count2 number tellers c sizes before lines2 s two q.i v.0 v.1 in
+            let same_i : q.i ≡ p1.i = one_least (map due_of tellers) q.i p1.i v.0.due u.0.due (turn_least programs detaches boxes F ds' wholes2 stories2 count2 number tellers c sizes before lines2 s two q v g) (turn_least programs detaches boxes F ds' wholes1 stories1 count1 number tellers c sizes before lines1 s one p1 u h1) in
             turns p1 u h1 h2 q same_i (same_Some q.w p1.w (sym q.program ∙ ap (slice_get programs) same_i ∙ p1.program))
         events (a_turn p1) (a_stall q) =
-            let u = its_teller programs detaches boxes ds' wholes1 stories1 count1 number tellers c sizes before lines1 s one p1.i p1.a p1.next.there in
-            let v = its_teller programs detaches boxes ds' wholes2 stories2 count2 number tellers c sizes before lines2 s two q.i q.a q.there in
-            let l = turn_least programs detaches boxes ds' wholes1 stories1 count1 number tellers c sizes before lines1 s one p1 u (its_whole programs detaches boxes ds' wholes1 stories1 count1 number tellers c sizes before lines1 s one p1.i u.0 u.1) in
-            absurd (stall_none programs detaches boxes ds' wholes2 stories2 count2 number tellers c sizes before lines2 s two q v (its_whole programs detaches boxes ds' wholes2 stories2 count2 number tellers c sizes before lines2 s two q.i v.0 v.1) p1.i u.0.due l.there)
+            let u = its_teller programs detaches boxes F ds' wholes1 stories1 count1 number tellers c sizes before lines1 s one p1.i p1.a p1.next.there in
+            let v = its_teller programs detaches boxes F ds' wholes2 stories2 count2 number tellers c sizes before lines2 s two q.i q.a q.there in
+            let l = turn_least programs detaches boxes F ds' wholes1 stories1 count1 number tellers c sizes before lines1 s one p1 u (its_whole programs detaches boxes F ds' wholes1 stories1 count1 number tellers c sizes before lines1 s one p1.i u.0 u.1) in
+            absurd (stall_none programs detaches boxes F ds' wholes2 stories2 count2 number tellers c sizes before lines2 s two q v (its_whole programs detaches boxes F ds' wholes2 stories2 count2 number tellers c sizes before lines2 s two q.i v.0 v.1) p1.i u.0.due l.there)
         events (a_stall p1) (a_turn q) =
-            let u = its_teller programs detaches boxes ds' wholes1 stories1 count1 number tellers c sizes before lines1 s one p1.i p1.a p1.there in
-            let v = its_teller programs detaches boxes ds' wholes2 stories2 count2 number tellers c sizes before lines2 s two q.i q.a q.next.there in
-            let l = turn_least programs detaches boxes ds' wholes2 stories2 count2 number tellers c sizes before lines2 s two q v (its_whole programs detaches boxes ds' wholes2 stories2 count2 number tellers c sizes before lines2 s two q.i v.0 v.1) in
-            absurd (stall_none programs detaches boxes ds' wholes1 stories1 count1 number tellers c sizes before lines1 s one p1 u (its_whole programs detaches boxes ds' wholes1 stories1 count1 number tellers c sizes before lines1 s one p1.i u.0 u.1) q.i v.0.due l.there)
+            let u = its_teller programs detaches boxes F ds' wholes1 stories1 count1 number tellers c sizes before lines1 s one p1.i p1.a p1.there in
+            let v = its_teller programs detaches boxes F ds' wholes2 stories2 count2 number tellers c sizes before lines2 s two q.i q.a q.next.there in
+            let l = turn_least programs detaches boxes F ds' wholes2 stories2 count2 number tellers c sizes before lines2 s two q v (its_whole programs detaches boxes F ds' wholes2 stories2 count2 number tellers c sizes before lines2 s two q.i v.0 v.1) in
+            absurd (stall_none programs detaches boxes F ds' wholes1 stories1 count1 number tellers c sizes before lines1 s one p1 u (its_whole programs detaches boxes F ds' wholes1 stories1 count1 number tellers c sizes before lines1 s one p1.i u.0 u.1) q.i v.0.due l.there)
         events (a_stall p1) (a_stall q) =
-            let u = its_teller programs detaches boxes ds' wholes1 stories1 count1 number tellers c sizes before lines1 s one p1.i p1.a p1.there in
-            let h1 = its_whole programs detaches boxes ds' wholes1 stories1 count1 number tellers c sizes before lines1 s one p1.i u.0 u.1 in
-            let h2 = its_whole programs detaches boxes ds' wholes2 stories2 count2 number tellers c sizes before lines2 s two p1.i u.0 u.1 in
-            let v = its_teller programs detaches boxes ds' wholes2 stories2 count2 number tellers c sizes before lines2 s two q.i q.a q.there in
-            let g1 = its_whole programs detaches boxes ds' wholes1 stories1 count1 number tellers c sizes before lines1 s one q.i v.0 v.1 in
-            let g2 = its_whole programs detaches boxes ds' wholes2 stories2 count2 number tellers c sizes before lines2 s two q.i v.0 v.1 in
+            let u = its_teller programs detaches boxes F ds' wholes1 stories1 count1 number tellers c sizes before lines1 s one p1.i p1.a p1.there in
+            let h1 = its_whole programs detaches boxes F ds' wholes1 stories1 count1 number tellers c sizes before lines1 s one p1.i u.0 u.1 in
+            let h2 = its_whole programs detaches boxes F ds' wholes2 stories2 count2 number tellers c sizes before lines2 s two p1.i u.0 u.1 in
+            let v = its_teller programs detaches boxes F ds' wholes2 stories2 count2 number tellers c sizes before lines2 s two q.i q.a q.there in
+            let g1 = its_whole programs detaches boxes F ds' wholes1 stories1 count1 number tellers c sizes before lines1 s one q.i v.0 v.1 in
+            let g2 = its_whole programs detaches boxes F ds' wholes2 stories2 count2 number tellers c sizes before lines2 s two q.i v.0 v.1 in
             let a = item one.actors q.i (omega (arith, slice_get_within tellers q.i v.0 v.1, one.beside.long)) in
             let b = item two.actors p1.i (omega (arith, slice_get_within tellers p1.i u.0 u.1, two.beside.long)) in
-            let le1 = p1.first q.i a.0 q.at a.1 ((one.beside.each q.i v.0 g1.0 a.0 v.1 g1.1 a.1).parked ∙ stall_at programs detaches boxes ds' wholes2 stories2 count2 number tellers c sizes before lines2 s two q v g2) in
-            let le2 = q.first p1.i b.0 p1.at b.1 ((two.beside.each p1.i u.0 h2.0 b.0 u.1 h2.1 b.1).parked ∙ stall_at programs detaches boxes ds' wholes1 stories1 count1 number tellers c sizes before lines1 s one p1 u h1) in
+            let le1 = p1.first q.i a.0 q.at a.1 ((one.beside.each q.i v.0 g1.0 a.0 v.1 g1.1 a.1).parked ∙ stall_at programs detaches boxes F ds' wholes2 stories2 count2 number tellers c sizes before lines2 s two q v g2) in
+            let le2 = q.first p1.i b.0 p1.at b.1 ((two.beside.each p1.i u.0 h2.0 b.0 u.1 h2.1 b.1).parked ∙ stall_at programs detaches boxes F ds' wholes1 stories1 count1 number tellers c sizes before lines1 s one p1 u h1) in
             stalls p1 u h1 h2 q (omega (arith, le1, le2))
 
       pub same_lines : (count1 count2 number : ℕ) → Rest count1 count2 number
@@ -257,8 +257,8 @@ up_to begun programs detaches boxes ds ds' lines world =
 
 module _ (begun : ℕ) (programs : List Program) (detaches : List Detach) (boxes : List (List ℕ)) (ds ds1 ds2 ds' : List Device) (lines1 lines2 : List Line) (F W : Type 0)
     (first : ProtocolWorldFrom begun programs detaches boxes ds lines1 ds1) (second : ProtocolWorldFrom begun programs detaches boxes ds lines2 ds2) where
-  begins : (es : List Device) (number : ℕ) (lines : List Line) (world : ProtocolWorldUpToFrom begun programs detaches boxes ds number lines es) → IsOver world.now → (AsksDevice programs boxes → es ≡ ds')
-      → (g : Goes programs detaches boxes ds' (map whole_from world.actors) (map teller_at programs) (told_opening boxes ds) [] (suc begun) world.count lines) × (g.end.devices ≡ es)
+  begins : (es : List Device) (number : ℕ) (lines : List Line) (world : ProtocolWorldUpToFrom begun programs detaches boxes ds number lines es) → IsOver world.now → (F → es ≡ ds')
+      → (g : Goes programs detaches F ds' (map whole_from world.actors) (map teller_at programs) (told_opening boxes ds) [] (suc begun) world.count lines) × (g.end.devices ≡ es)
   begins es number lines world over same = (
     record {
       will = λ j. 0;
@@ -277,7 +277,7 @@ module _ (begun : ℕ) (programs : List Program) (detaches : List Detach) (boxes
     sym world.devices,
   )
 
-  pub runs_same : Decides programs detaches boxes ds' F W (map whole_from first.actors) (map whole_from second.actors) → (AsksDevice programs boxes → (ds1 ≡ ds') × (ds2 ≡ ds')) → Agree F W lines1 lines2
+  pub runs_same : Decides programs detaches boxes ds' F W (map whole_from first.actors) (map whole_from second.actors) → (F → (ds1 ≡ ds') × (ds2 ≡ ds')) → Agree F W lines1 lines2
       → (lines1 ≡ lines2) × (ds1 ≡ ds2)
   runs_same decides same agree =
       let a = up_to begun programs detaches boxes ds ds1 lines1 first in

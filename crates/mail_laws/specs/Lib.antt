@@ -1,5 +1,6 @@
 pub mod AloneLines
 pub mod Astray
+pub mod Determined
 pub mod Kept
 pub mod MailOriginals
 pub mod MailWorld

@@ -48,7 +48,9 @@ pub use event_laws::runs_with_mail_are_played;
 pub use kept_laws::devices_with_mail_are_kept;
 pub use ongoing_laws::{each_world_with_mail_ends, worlds_with_mail_go_on};
 pub use original_laws::{cut_stories_are_of_originals, worlds_with_mail_are_of_originals};
-pub use replay_laws::{journals_with_mail_fix_lines, mailboxes_fix_lines};
+pub use replay_laws::{
+    journals_with_mail_fix_lines, mailboxes_fix_lines, met_outcomes_with_mail_fix_lines,
+};
 pub use stalled_laws::stalls_come_last;
 pub use told_laws::{told_turns_are_worlds, told_worlds_go_on};
 pub use waiting_laws::{one_is_sent_values, one_waits_for_good};
