@@ -1,16 +1,15 @@
 -- What fixes the lines of worlds with mailboxes: journals and told faults, or that nothing is bound to a device.
-use Rattle.std.proofs.Common.{arith, ◌≡◌, ◌+◌, ℕ, List, [], ◌∷◌, ◌++◌, length, map, Some, None, slice_get, refl, sym, ap, ◌∙◌, subst}
+use Rattle.std.proofs.Common.{arith, ◌≡◌, ℕ, List, map, Some, None, slice_get, refl, sym, ap, ◌∙◌}
 use Rattle.std.specs.Option.{unwrap_or}
 use Rattle.wa_model.specs.declared.answers.Detach.{Detach}
-use Rattle.wa_model.specs.Outside.{Call, Line}
+use Rattle.wa_model.specs.Outside.{Line}
 use Rattle.world_model.specs.World.{Device, Program}
 use Rattle.world_laws.specs.AloneLines.{Unbound}
 use Rattle.world_laws.specs.Replays.{SameFaults}
 use Rattle.world_laws.proofs.Places.{all_at}
 use Rattle.mail_laws.specs.MailWorld.{ProtocolWorldFrom}
-use Rattle.mail_laws.specs.Replays.{AsksDevice, IsNoBox, JournalsFixLines, LastingDevices, MailboxesFixLines, SameWrongs, UnboundFixLines}
+use Rattle.mail_laws.specs.Replays.{AsksDevice, JournalsFixLines, LastingDevices, MailboxesFixLines, SameWrongs, UnboundFixLines}
 use Rattle.mail_laws.specs.Told.{begun_amid}
-use Rattle.mail_laws.proofs.KnownCalls.{bound_to}
 use Rattle.mail_laws.proofs.PlayedAreTold.{whole_from}
 use Rattle.mail_laws.proofs.SameTold.{told_twice}
 use Rattle.mail_laws.proofs.SameTurns.{open_receive}

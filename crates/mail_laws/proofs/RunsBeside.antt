@@ -1,35 +1,28 @@
 -- A run of a world with mailboxes, event by event, beside what is known of it.
-use Rattle.std.proofs.Common.{arith, ◌≡◌, ◌<◌, ◌≤◌, ◌+◌, ◌^◌, ◌⊎◌, inl, inr, ℕ, zero, suc, List, [], ◌∷◌, ◌++◌, length, map, Option, Some, None, true, false, slice_get, slice_set, refl, sym, ap, ◌∙◌, subst, append_assoc}
-use Rattle.std.specs.Option.{option_map, unwrap_or}
-use Rattle.std.proofs.lemmas.Option.{same_Some, slice_get_within}
+use Rattle.std.proofs.Common.{◌≡◌, ◌<◌, ◌≤◌, ◌+◌, ◌^◌, ℕ, suc, List, [], ◌∷◌, ◌++◌, length, map, Some, None, true, false, slice_get, slice_set, refl, sym, ap, ◌∙◌, subst, append_assoc}
+use Rattle.std.specs.Option.{option_map}
 use Rattle.wa_model.specs.declared.answers.Detach.{Detach}
 use Rattle.wa_model.specs.declared.events.End.TheVariants.{Stalled}
 use Rattle.wa_model.specs.Outside.{AnswerLine, Call, Event, Line, ended}
 use Rattle.wa_model.specs.Plan.{Outcome}
 use Rattle.wa_model.specs.Blocking.{Note}
 use Rattle.world_model.specs.World.{events_with_looks, Device, Program, behind_turn, detached, line_at, look_events, put_off, turn_of}
-use Rattle.world_laws.specs.AloneLines.{Unbound}
-use Rattle.world_laws.specs.Replays.{SameFaults}
 use Rattle.world_laws.proofs.Journals.{Grows}
 use Rattle.world_laws.proofs.Turns.{turn_parts}
-use Rattle.world_laws.proofs.Places.{all_at, item}
-use Rattle.mailbox_device.specs.Mail.{empty_box as empty_mail, names_of}
+use Rattle.mailbox_device.specs.Mail.{names_of}
 use Rattle.mail_laws.specs.Mailboxes.{CallsMeet, Midst, Shared}
-use Rattle.mail_laws.specs.MailWorld.{told_pause, Actor, HasEnded, HeldStory, IsNext, IsOver, Parked, Plays, ProtocolWorldFrom, Stalls, TakesTurn, a_stall, a_turn, begun_event, parked_at, parks, sharing, store_behind, turn_lines, wake, with_waiting}
-use Rattle.mail_laws.specs.Played.{EndsAreTold, Played, ProtocolWorldUpToFrom}
-use Rattle.mail_laws.specs.Replays.{AsksDevice, IsNoBox, JournalsFixLines, LastingDevices, MailboxesFixLines, SameWrongs, UnboundFixLines}
-use Rattle.mail_laws.specs.Told.{NoneDue, waits_at, parked_in, having_told, settle_all, Amid, Common, IsLeast, KeepsPromises, Teller, begun_amid, due_of, ends_program, pending, promised, number_of, receive_of, shared_by, starting as teller_at, tells_stall, tells_turn, opening as told_opening}
-use Rattle.mail_laws.proofs.Beginnings.{start_size}
-use Rattle.mail_laws.proofs.CallsCounted.{Counted, set_counted, start_counted, turn_counted}
+use Rattle.mail_laws.specs.MailWorld.{told_pause, Actor, HeldStory, IsNext, IsOver, Parked, Stalls, TakesTurn, begun_event, parked_at, parks, store_behind, turn_lines, wake, with_waiting}
+use Rattle.mail_laws.specs.Played.{EndsAreTold, Played}
+use Rattle.mail_laws.specs.Replays.{AsksDevice, IsNoBox, LastingDevices}
+use Rattle.mail_laws.specs.Told.{NoneDue, waits_at, parked_in, having_told, settle_all, Amid, Common, IsLeast, KeepsPromises, Teller, begun_amid, due_of, ends_program, pending, promised, number_of, receive_of, shared_by, tells_stall, tells_turn}
+use Rattle.mail_laws.proofs.CallsCounted.{Counted, set_counted, turn_counted}
 use Rattle.mail_laws.proofs.CalmLines.{Calm, Going, calm_event, going_event}
-use Rattle.mail_laws.proofs.GoingOn.{stall_lines, AllHold, Holds, c2, goes_along, has_told, new_sizes, no_await, now, out, sent, stall, stall_keeps, start_holds, turn, turn_holds, waits_on}
+use Rattle.mail_laws.proofs.GoingOn.{stall_lines, AllHold, new_sizes, out, sent, stall, stall_keeps, turn, turn_holds}
 use Rattle.mail_laws.proofs.KnownCalls.{bound_to}
 use Rattle.mail_laws.proofs.MailJournals.{played_grows}
-use Rattle.mail_laws.proofs.PlayedAreTold.{outcomes_are, tie, Beside, awake_on, at2, beside, calm, follows, least, lines_are, none_due, opens_so, over2, small1, stall_beside, stall_shared, stalled_lines, start_going, stories, teller_there, tie2, turn_beside, turn_shared, unready, whole_at, whole_from, will1}
-use Rattle.mail_laws.proofs.PlayedParts.{whole_is_played}
+use Rattle.mail_laws.proofs.PlayedAreTold.{outcomes_are, tie, Beside, awake_on, at2, calm, follows, least, lines_are, none_due, small1, stall_beside, stall_shared, stalled_lines, teller_there, tie2, turn_beside, turn_shared, whole_at, will1}
 use Rattle.mail_laws.proofs.Promises.{still_sent}
-use Rattle.mail_laws.proofs.SameTold.{Twice, told_twice}
-use Rattle.mail_laws.proofs.SameTurns.{Agree, calls_names, open_receive, parked_names}
+use Rattle.mail_laws.proofs.SameTurns.{calls_names, parked_names}
 use Rattle.mail_laws.proofs.ToldAreWorlds.{Whole, parked_of}
 use Rattle.mail_laws.proofs.TurnsFollowed.{Followed}
 use Rattle.mail_laws.proofs.TurnsTold.{Knows, Turned}

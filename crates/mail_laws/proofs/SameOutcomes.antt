@@ -1,11 +1,11 @@
 -- Two runs of a world with mailboxes in which the programs' calls meet the same outcomes are one.
-use Rattle.std.proofs.Common.{arith, ◌≡◌, ◌+◌, ◌≤◌, ◌⊎◌, inl, inr, ℕ, suc, List, [], ◌∷◌, ◌++◌, length, map, take, Option, Some, None, slice_get, refl, sym, ap, ◌∙◌, subst, append_assoc, append-nil, length-append}
-use Rattle.std.specs.List.{AllZip, find}
+use Rattle.std.proofs.Common.{arith, ◌≡◌, ◌≤◌, inl, inr, ℕ, suc, List, [], ◌∷◌, ◌++◌, length, map, take, Option, Some, None, slice_get, refl, sym, ap, ◌∙◌, subst, append_assoc, append-nil, length-append}
+use Rattle.std.specs.List.{find}
 use Rattle.std.proofs.lemmas.List.{append_cancel_left}
 use Rattle.wa_types.specs.declared.values.Value.{Value}
 use Rattle.wa_types.specs.declared.values.Value.TheVariants as V
 use Rattle.wa_model.specs.declared.answers.Detach.{Detach}
-use Rattle.wa_model.specs.Outside.{AnswerLine, Call, Line}
+use Rattle.wa_model.specs.Outside.{AnswerLine, Call}
 use Rattle.wa_model.specs.Plan.{Outcome}
 use Rattle.wa_model.specs.Blocking.{Note}
 use Rattle.world_model.specs.World.{Device, Program, base_names, call_in, import_names, name_at, protocol_story}
@@ -18,10 +18,10 @@ use Rattle.world_laws.proofs.Worlds.{take_first}
 use Rattle.mailbox_device.specs.Mail.{Box, is_box as has_name}
 use Rattle.mail_laws.specs.Determined.{MetFixLines}
 use Rattle.mail_laws.specs.MailOriginals.{met}
-use Rattle.mail_laws.specs.MailWorld.{Actor, HeldStory, ProtocolWorldFrom, StartsHeld, sharing, to_end, to_wait}
+use Rattle.mail_laws.specs.MailWorld.{Actor, HeldStory, StartsHeld, sharing, to_end, to_wait}
 use Rattle.mail_laws.specs.Told.{Amid, Await, begun_amid}
 use Rattle.mail_laws.proofs.CallsInRange.{EachMet, Met, events_met}
-use Rattle.mail_laws.proofs.KnownCalls.{AtEmpty, Known, KnownBound, KnownBox, KnownCalls, KnownNamed, KnownNote, KnownValues, OneQuiet, bound_to}
+use Rattle.mail_laws.proofs.KnownCalls.{Known, KnownBound, KnownBox, KnownCalls, KnownNamed, KnownNote, KnownValues, OneQuiet, bound_to}
 use Rattle.mail_laws.proofs.PlayedAreTold.{whole_from}
 use Rattle.mail_laws.proofs.SameTold.{once_front}
 use Rattle.mail_laws.proofs.SameTurns.{calls_count, known_apart, one_await, open_receive}

@@ -14,9 +14,9 @@
 //! `world_model` (`specs/WithoutBoxes.antt`).
 //!
 //! The journals of the devices at a run's end, and the places at which its lines tell that a device failed or a value of a wrong type, fix all
-//! its lines; a world whose imports are bound to mailboxes alone has one run, but for such values (`specs/Replays.antt`). The devices at the
-//! end are those of the start, but for those that were taken out (`specs/Kept.antt`). A program without bound imports has the lines that it
-//! would have alone (`specs/AloneLines.antt`).
+//! its lines; a world whose imports are bound to mailboxes alone has one run, but for such values (`specs/Replays.antt`). The outcomes of
+//! calls fix them always (`specs/Determined.antt`). The devices at the end are those of the start, but for those that were taken out
+//! (`specs/Kept.antt`). A program without bound imports has the lines that it would have alone (`specs/AloneLines.antt`).
 //!
 //! - `event_laws`, `ongoing_laws`: worlds played up to an event, and that they go on.
 //! - `told_laws`, `stalled_laws`, `answer_laws`: worlds that are told, who stalls, answers that aren't read yet.
