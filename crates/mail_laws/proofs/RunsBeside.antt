@@ -213,7 +213,12 @@ module _ (programs : List Program) (detaches : List Detach) (boxes : List (List 
       turn_lines_are = lines_are programs detaches number wholes run.will tellers c sizes s.holds run.actors run.beside stories awake run.small run.sh run.shared first acts z p u h n sized size n_is g
 
       pub turn_moved : Moved wholes acts z (then_tellers g.tu) (then_common g.tu)
-      turn_moved = record { will = will1 programs detaches number wholes run.will tellers c sizes s.holds run.actors run.beside stories awake run.small run.sh run.shared first acts z p u h n sized size n_is g; small = small1 programs detaches number wholes run.will tellers c sizes s.holds run.actors run.beside stories awake run.small run.sh run.shared first acts z p u h n sized size n_is g; beside = turn_beside programs detaches number wholes run.will tellers c sizes s.holds run.actors run.beside stories awake run.small run.sh run.shared first acts z p u h n sized size n_is g; shared = turn_shared programs detaches number wholes run.will tellers c sizes s.holds run.actors run.beside stories awake run.small run.sh run.shared first acts z p u h n sized size n_is g }
+      turn_moved = record {
+        will = will1 programs detaches number wholes run.will tellers c sizes s.holds run.actors run.beside stories awake run.small run.sh run.shared first acts z p u h n sized size n_is g;
+        small = small1 programs detaches number wholes run.will tellers c sizes s.holds run.actors run.beside stories awake run.small run.sh run.shared first acts z p u h n sized size n_is g;
+        beside = turn_beside programs detaches number wholes run.will tellers c sizes s.holds run.actors run.beside stories awake run.small run.sh run.shared first acts z p u h n sized size n_is g;
+        shared = turn_shared programs detaches number wholes run.will tellers c sizes s.holds run.actors run.beside stories awake run.small run.sh run.shared first acts z p u h n sized size n_is g;
+      }
 
       pub turn_part : IsPart wholes p.i (u.0.told ++ g.tu.turn) (u.0.met ++ g.tu.met)
       turn_part = record {
@@ -224,7 +229,8 @@ module _ (programs : List Program) (detaches : List Detach) (boxes : List (List 
         notes = sym (append_assoc u.0.told g.tu.turn (behind_turn p.a.notes) ∙ ap (λ (ns : List Note). u.0.told ++ (ns ++ behind_turn p.a.notes)) g.turn_is
             ∙ ap (λ (ns : List Note). u.0.told ++ ns) (turn_parts p.a.notes) ∙ (tie programs detaches number wholes run.will tellers c sizes s.holds run.actors run.beside stories awake run.small run.sh run.shared first acts z p u h).notes);
         outcomes = sym (append_assoc u.0.met g.tu.met (pending g.value g.tu.behind.receive ++ p.outcomes)
-            ∙ ap (λ (os : List Outcome). u.0.met ++ os) (sym (append_assoc g.tu.met (pending g.value g.tu.behind.receive) p.outcomes) ∙ sym g.met_is) ∙ outcomes_are programs detaches number wholes run.will tellers c sizes s.holds run.actors run.beside stories awake run.small run.sh run.shared first acts z p u h);
+            ∙ ap (λ (os : List Outcome). u.0.met ++ os) (sym (append_assoc g.tu.met (pending g.value g.tu.behind.receive) p.outcomes) ∙ sym g.met_is)
+            ∙ outcomes_are programs detaches number wholes run.will tellers c sizes s.holds run.actors run.beside stories awake run.small run.sh run.shared first acts z p u h);
       }
 
       pub turn_known : (sizes' : List ℕ) × Known programs boxes (then_tellers g.tu) (then_common g.tu) sizes' (before ++ first)
@@ -234,7 +240,9 @@ module _ (programs : List Program) (detaches : List Detach) (boxes : List (List 
             record {
               holds = turn_holds programs detaches number tellers c sizes s.holds p.i p.w u.0 n p.program u.1 sized turn_calm.0 turn_calm.1 turn_least size n_is g.tu;
               counted = turn_counted (suc u.0.due) p.i g.tu.behind.settled tellers u.0 p.w g.tu.turn g.tu.met g.tu.answers (begun_amid number detaches c) g.tu.behind
-                  (still_sent tellers g.tu.behind.settled p.i _ (out programs detaches number tellers c sizes s.holds p.i p.w u.0 n p.program u.1 sized turn_calm.0 turn_calm.1 turn_least size n_is g.tu) (sent programs detaches number tellers c sizes s.holds p.i p.w u.0 n p.program u.1 sized turn_calm.0 turn_calm.1 turn_least size n_is g.tu)) s.counted (s.counted p.i u.0 u.1) turn_calm.1 refl g.tu.known;
+                  (still_sent tellers g.tu.behind.settled p.i _
+                  (out programs detaches number tellers c sizes s.holds p.i p.w u.0 n p.program u.1 sized turn_calm.0 turn_calm.1 turn_least size n_is g.tu)
+                  (sent programs detaches number tellers c sizes s.holds p.i p.w u.0 n p.program u.1 sized turn_calm.0 turn_calm.1 turn_least size n_is g.tu)) s.counted (s.counted p.i u.0 u.1) turn_calm.1 refl g.tu.known;
               named = parked_names p.i (parks g.tu.turn g.tu.behind.receive) g.tu.behind.boxes
                   ∙ calls_names p.w g.tu.turn g.tu.met [] u.0.answers g.tu.answers (begun_amid number detaches c) g.tu.behind g.tu.known ∙ s.named;
               calm = subst (λ (ls : List Line). Calm (before ++ ls) (then_tellers g.tu)) (sym turn_lines_are)
@@ -261,12 +269,18 @@ module _ (programs : List Program) (detaches : List Detach) (boxes : List (List 
     stall_at = sym (tie2 programs detaches number wholes run.will tellers c sizes s.holds run.actors run.beside stories awake run.small run.sh run.shared first acts z p u h).parked ∙ p.waits
 
     pub stall_moved : Moved wholes acts z (slice_set tellers p.i (stalled_teller u.0)) (stalled_common number detaches c)
-    stall_moved = record { will = run.will; small = run.small; beside = stall_beside programs detaches number wholes run.will tellers c sizes s.holds run.actors run.beside stories awake run.small run.sh run.shared first acts z p u h; shared = stall_shared programs detaches number wholes run.will tellers c sizes s.holds run.actors run.beside stories awake run.small run.sh run.shared first acts z p u h }
+    stall_moved = record {
+      will = run.will;
+      small = run.small;
+      beside = stall_beside programs detaches number wholes run.will tellers c sizes s.holds run.actors run.beside stories awake run.small run.sh run.shared first acts z p u h;
+      shared = stall_shared programs detaches number wholes run.will tellers c sizes s.holds run.actors run.beside stories awake run.small run.sh run.shared first acts z p u h;
+    }
 
     pub stall_known : (sizes' : List ℕ) × Known programs boxes (slice_set tellers p.i (stalled_teller u.0)) (stalled_common number detaches c) sizes' (before ++ first)
     stall_known =
         let event = tells_stall (stall programs detaches number tellers c sizes s.holds stall_none (at2 programs detaches number wholes run.will tellers c sizes s.holds run.actors run.beside stories awake run.small run.sh run.shared first acts z p u h)) in
-        let made : first ≡ stall_lines programs detaches number tellers c sizes s.holds stall_none (at2 programs detaches number wholes run.will tellers c sizes s.holds run.actors run.beside stories awake run.small run.sh run.shared first acts z p u h) = stalled_lines programs detaches number wholes run.will tellers c sizes s.holds run.actors run.beside stories awake run.small run.sh run.shared first acts z p u h in (
+        let made : first ≡ stall_lines programs detaches number tellers c sizes s.holds stall_none (at2 programs detaches number wholes run.will tellers c sizes s.holds run.actors run.beside stories awake run.small run.sh run.shared first acts z p u h) =
+        stalled_lines programs detaches number wholes run.will tellers c sizes s.holds run.actors run.beside stories awake run.small run.sh run.shared first acts z p u h in (
           slice_set sizes p.i 0,
           record {
             holds = stall_keeps programs detaches number tellers c sizes s.holds stall_none (at2 programs detaches number wholes run.will tellers c sizes s.holds run.actors run.beside stories awake run.small run.sh run.shared first acts z p u h);

@@ -19,7 +19,8 @@ use Rattle.mail_laws.proofs.GoingOn.{Holds, goes_along, has_told, no_await, star
 use Rattle.mail_laws.proofs.KnownCalls.{bound_to}
 use Rattle.mail_laws.proofs.PlayedAreTold.{awake_on, beside, opens_so, start_going, stories, unready, whole_from}
 use Rattle.mail_laws.proofs.Played.{counted}
-use Rattle.mail_laws.proofs.RunsBeside.{Goes, IsPart, Known, Moved, Stories, follows_as, goes_on, its_teller, its_whole, no_parked, renumbered, stall_at, stall_known, stall_moved, stall_none, stalled_as, stalled_common, stalled_teller, then_common, then_lines, then_tellers, turn_calm, turn_follows, turn_grows, turn_known, turn_least, turn_lines_are, turn_moved, turn_part}
+use Rattle.mail_laws.proofs.RunsBeside.{Goes, IsPart, Known, Moved, Stories, follows_as, goes_on, its_teller, its_whole, no_parked, renumbered, stall_at, stall_known, stall_moved, stall_none, stalled_as}
+use Rattle.mail_laws.proofs.RunsBeside.{stalled_common, stalled_teller, then_common, then_lines, then_tellers, turn_calm, turn_follows, turn_grows, turn_known, turn_least, turn_lines_are, turn_moved, turn_part}
 use Rattle.mail_laws.proofs.SameTold.{Twice}
 use Rattle.mail_laws.proofs.SameTurns.{Agree}
 use Rattle.mail_laws.proofs.ToldAreWorlds.{Whole}
@@ -153,7 +154,10 @@ module _ (programs : List Program) (detaches : List Detach) (boxes : List (List 
               (turn_part programs detaches boxes F ds' wholes1 stories1 count1 number tellers c sizes before lines1 s one p1 u h1 n sized size n_is g) (turn_part programs detaches boxes F ds' wholes2 stories2 count2 number tellers c sizes before lines2 s two p2 u h2 n sized size n_is k) in
               let k2 = follows_as k g.tu twice.turn twice.met twice.answers twice.behind in
               let known = turn_known programs detaches boxes F ds' wholes1 stories1 count1 number tellers c sizes before lines1 s one p1 u h1 n sized size n_is g in
-              both_go (then_tellers g.tu) (then_common g.tu) known.0 (turn_lines_are programs detaches boxes F ds' wholes1 stories1 count1 number tellers c sizes before lines1 s one p1 u h1 n sized size n_is g ∙ sym (turn_lines_are programs detaches boxes F ds' wholes2 stories2 count2 number tellers c sizes before lines2 s two p2 u h2 n sized size n_is k2)) known.1
+              both_go (then_tellers g.tu) (then_common g.tu) known.0
+              (turn_lines_are programs detaches boxes F ds' wholes1 stories1 count1 number tellers c sizes before lines1 s one p1 u h1 n sized size n_is g
+              ∙ sym (turn_lines_are programs detaches boxes F ds' wholes2 stories2 count2 number tellers c sizes before lines2 s two p2 u h2 n sized size n_is k2))
+              known.1
               (turn_moved programs detaches boxes F ds' wholes1 stories1 count1 number tellers c sizes before lines1 s one p1 u h1 n sized size n_is g) (turn_moved programs detaches boxes F ds' wholes2 stories2 count2 number tellers c sizes before lines2 s two p2 u h2 n sized size n_is k2)
 
           turns : Ends one.end two.end lines1 lines2
@@ -171,7 +175,10 @@ module _ (programs : List Program) (detaches : List Detach) (boxes : List (List 
         stalls : (p1 : Stalls programs detaches number one.actors one.sh f1 acts1 z1) (u : (t : Teller) × (slice_get tellers p1.i ≡ Some t)) (h1 : (h : Whole) × (slice_get wholes1 p1.i ≡ Some h))
             (h2 : (h : Whole) × (slice_get wholes2 p1.i ≡ Some h)) (q : Stalls programs detaches number two.actors two.sh f2 acts2 z2) → q.i ≡ p1.i → Ends one.end two.end lines1 lines2
         stalls p1 u h1 h2 q same_i =
-            let at_is : p1.at ≡ q.at = same_Some p1.at q.at (sym (stall_at programs detaches boxes F ds' wholes1 stories1 count1 number tellers c sizes before lines1 s one p1 u h1) ∙ stall_at programs detaches boxes F ds' wholes2 stories2 count2 number tellers c sizes before lines2 s two (stalled_as q p1.i same_i) u h2) in
+            let at_is : p1.at ≡ q.at =
+            same_Some p1.at q.at
+            (sym (stall_at programs detaches boxes F ds' wholes1 stories1 count1 number tellers c sizes before lines1 s one p1 u h1)
+            ∙ stall_at programs detaches boxes F ds' wholes2 stories2 count2 number tellers c sizes before lines2 s two (stalled_as q p1.i same_i) u h2) in
             let w_is : p1.w ≡ q.w = same_Some p1.w q.w (sym p1.program ∙ ap (slice_get programs) (sym same_i) ∙ q.program) in
             let tick : one.sh.tick ≡ two.sh.tick = ap (λ (y : Shared). y.tick) one.shared ∙ sym (ap (λ (y : Shared). y.tick) two.shared) in
             let known = stall_known programs detaches boxes F ds' wholes1 stories1 count1 number tellers c sizes before lines1 s one p1 u h1 in
@@ -186,7 +193,9 @@ module _ (programs : List Program) (detaches : List Detach) (boxes : List (List 
             let h2 = its_whole programs detaches boxes F ds' wholes2 stories2 count2 number tellers c sizes before lines2 s two p1.i u.0 u.1 in
             let v = its_teller programs detaches boxes F ds' wholes2 stories2 count2 number tellers c sizes before lines2 s two q.i q.a q.next.there in
             let g = its_whole programs detaches boxes F ds' wholes2 stories2 count2 number tellers c sizes before lines2 s two q.i v.0 v.1 in
-            let same_i : q.i ≡ p1.i = one_least (map due_of tellers) q.i p1.i v.0.due u.0.due (turn_least programs detaches boxes F ds' wholes2 stories2 count2 number tellers c sizes before lines2 s two q v g) (turn_least programs detaches boxes F ds' wholes1 stories1 count1 number tellers c sizes before lines1 s one p1 u h1) in
+            let same_i : q.i ≡ p1.i = one_least (map due_of tellers) q.i p1.i v.0.due u.0.due
+            (turn_least programs detaches boxes F ds' wholes2 stories2 count2 number tellers c sizes before lines2 s two q v g)
+            (turn_least programs detaches boxes F ds' wholes1 stories1 count1 number tellers c sizes before lines1 s one p1 u h1) in
             turns p1 u h1 h2 q same_i (same_Some q.w p1.w (sym q.program ∙ ap (slice_get programs) same_i ∙ p1.program))
         events (a_turn p1) (a_stall q) =
             let u = its_teller programs detaches boxes F ds' wholes1 stories1 count1 number tellers c sizes before lines1 s one p1.i p1.a p1.next.there in
